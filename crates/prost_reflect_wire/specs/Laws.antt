@@ -1,0 +1,230 @@
+-- Laws of the definitions.
+use Rattle.std.specs.Prelude.{◌≡◌, ◌≢◌, ℕ, suc, ◌≤◌, ◌<◌, ◌^◌, ◌↔◌, true, false, List, [], ◌∷◌, ◌++◌, length, map, flat_map, ⊤, Some, IsTrue}
+use Rattle.prost_reflect_wire.specs.Varint.{AreBytes, ◌>>=◌}
+use Rattle.prost_reflect_wire.specs.Record.{Records, Record, Payload, Flat, Spells, read, body_of, valid, payload_valid, short_body}
+use Rattle.prost_reflect_wire.specs.Scalar.{Scalar, ScalarKind, elem, written, scalar_valid, is_undeclared}
+use Rattle.prost_reflect_wire.specs.Schema.{Schema, Field, Kind, ScalarOf, Single, Singular, Repeated, MapFrom, is_packable, known, field_of, is_sibling, schema_valid}
+use Rattle.prost_reflect_wire.specs.Content.{Content, ContentOf, Entries, NoEntries, Stored, Unknown, Value, ScalarValue, MessageValue, ListValue, MapValue, Values, NoValues, Item, Pairs, NoPairs, Pair, schema_of, type_of, ordered, entries_ordered, value_ordered, pairs_ordered}
+use Rattle.prost_reflect_wire.specs.Grammar.{LEVEL_LIMIT, Accepts, accepts, allows, expanded, is_stray, is_stray_entry, records_in, taken, unknown_of}
+use Rattle.prost_reflect_wire.specs.Meaning.{Below, element, entry_key, entry_value, field_value, meaning, decoded, steps}
+use Rattle.prost_reflect_wire.specs.Writing.{is_default_of, value_payload, pair_payload, record_at, field_payloads, records, encoded, merged}
+use Rattle.prost_reflect_wire.specs.Levels.{levels}
+use Rattle.prost_reflect_wire.specs.Typing.{WellTyped, is_of_type, is_whole_stray, has_value_of, elements_fit, fits_field, holds_message, message_of}
+use Rattle.prost_reflect_wire.specs.Reduction.{Reduced}
+use Rattle.prost_reflect_wire.specs.Edit.{set_at, edited}
+use Rattle.prost_reflect_wire.specs.Fault.{StandsInMessage}
+use Rattle.prost_reflect_wire.specs.declared.error.DecodeError.{DecodeError}
+use Rattle.prost_reflect_wire.specs.declared.error.DecodeError.TheVariants as errors
+
+-- READING
+
+-- Bytes spell at most one list of records.
+abbrev pub OneReading : Type 0
+OneReading = (bytes : List ℕ) (rs qs : Records) → Spells rs bytes → Spells qs bytes → rs ≡ qs
+
+-- What is read spells, and what spells is read.
+abbrev pub ReadIsSpells : Type 0
+ReadIsSpells = (bytes : List ℕ) (rs : Records) → AreBytes bytes → (read bytes ≡ Some rs) ↔ Spells rs bytes
+
+-- The spelling of records spells them.
+abbrev pub WrittenSpells : Type 0
+WrittenSpells = (rs : Records) → valid rs ≡ true → Spells rs (short_body rs)
+
+-- The relation and the test say the same.
+abbrev pub AcceptsIsTest : Type 0
+AcceptsIsTest = (schema : Schema) (T : ℕ) (bytes : List ℕ) → AreBytes bytes → Accepts schema T bytes ↔ IsTrue (accepts schema T bytes)
+
+-- MEANING
+
+-- The numbers differ and share no oneof.
+pub record Apart (fields : List Field) (n m : ℕ) : Type 0 where
+  pub differ : n ≢ m
+  pub left : (f : Field) → field_of fields n ≡ Some f → is_sibling fields f m ≡ false
+  pub right : (f : Field) → field_of fields m ≡ Some f → is_sibling fields f n ≡ false
+
+-- Records of different numbers that share no oneof commute.
+abbrev pub Commute : Type 0
+Commute = (schema : Schema) (k T : ℕ) (front behind : List Record) (r s : Record) → Apart (known schema T) r.number s.number →
+    meaning schema k T (front ++ (r ∷ s ∷ behind)) ≡ meaning schema k T (front ++ (s ∷ r ∷ behind))
+
+-- Records may be read one behind another.
+abbrev pub MeaningBySteps : Type 0
+MeaningBySteps = (schema : Schema) (k T : ℕ) (front behind : List Record) → meaning schema k T (front ++ behind) ≡ steps k (meaning schema k T front) behind
+
+-- Records of one meaning may stand for one another in front of others.
+abbrev pub SameBehind : Type 0
+SameBehind = (schema : Schema) (k T : ℕ) (front other behind : List Record) → meaning schema k T front ≡ meaning schema k T other → meaning schema k T (front ++ behind) ≡ meaning schema k T (other ++ behind)
+
+-- More levels change no meaning of records that are allowed.
+abbrev pub LevelsFree : Type 0
+LevelsFree = (schema : Schema) (k T : ℕ) (rs : List Record) → allows schema k T rs ≡ true → meaning schema k T rs ≡ meaning schema (suc k) T rs
+
+-- More levels refuse no records that are allowed.
+abbrev pub AllowedFurther : Type 0
+AllowedFurther = (schema : Schema) (k T : ℕ) (rs : List Record) → allows schema k T rs ≡ true → allows schema (suc k) T rs ≡ true
+
+-- Numbers and keys ascend in what is read.
+abbrev pub MeaningOrdered : Type 0
+MeaningOrdered = (schema : Schema) (k T : ℕ) (rs : List Record) → ordered (meaning schema k T rs) ≡ true
+
+-- What is read is well-typed.
+abbrev pub MeaningTyped : Type 0
+MeaningTyped = (schema : Schema) (k T : ℕ) (rs : List Record) → schema_valid schema ≡ true → valid (body_of rs) ≡ true → allows schema k T rs ≡ true → WellTyped (meaning schema k T rs)
+
+-- WRITING
+
+-- What is written of a value of a kind is read as that value.
+abbrev pub WrittenIsRead : Type 0
+WrittenIsRead = (kind : ScalarKind) (v : Scalar) → scalar_valid kind v ≡ true → elem kind (Flat (written kind v)) ≡ Some v
+
+-- A content whose bytes have a length.
+pub record Writable (c : Content) : Type 0 where
+  pub checked : schema_valid (schema_of c) ≡ true
+  pub typed : WellTyped c
+  pub length : length (encoded c) < 2 ^ 64
+
+-- Records of one number.
+abbrev pub block : ℕ → List Payload → List Record
+block n ps = map (λ p. record { number = n; payload = p }) ps
+
+-- The records of one stored value are read as it.
+pub record ValueBack (inner : Below) (fields : List Field) (n : ℕ) (f : Field) (v : Value) : Type 0 where
+  pub sources : List Payload
+  pub read : flat_map (taken fields) (map (record_at n) (field_payloads (Some f) v)) ≡ block n sources
+  pub strays : flat_map (unknown_of fields) (map (record_at n) (field_payloads (Some f) v)) ≡ []
+  pub value : field_value inner f.cardinality f.single sources ≡ Some v
+
+pub record UnknownBack (fields : List Field) (n : ℕ) (p : Payload) : Type 0 where
+  pub read : taken fields (record_at n p) ≡ []
+  pub stays : unknown_of fields (record_at n p) ≡ p ∷ []
+
+-- So is each of the entries, and no two members of a oneof are among them.
+abbrev pub EntriesBack : Below → List Field → Entries → Type 0
+EntriesBack inner fields NoEntries = ⊤
+EntriesBack inner fields (Stored n v es) = (f : Field) × (field_of fields n ≡ Some f) × ValueBack inner fields n f v × (has_value_of (is_sibling fields f) es ≡ false) × EntriesBack inner fields es
+EntriesBack inner fields (Unknown n p es) = UnknownBack fields n p × EntriesBack inner fields es
+
+-- The record of one element is read as it.
+pub record ElementBack (inner : Below) (kind : Kind) (v : Value) : Type 0 where
+  pub single : expanded kind (value_payload kind v) ≡ value_payload kind v ∷ []
+  pub fits : is_stray kind (value_payload kind v) ≡ false
+  pub value : element inner kind (value_payload kind v) ≡ v ∷ []
+
+abbrev pub ElementsBack : Below → Kind → Values → Type 0
+ElementsBack inner kind NoValues = ⊤
+ElementsBack inner kind (Item v vs) = ElementBack inner kind v × ElementsBack inner kind vs
+
+-- A list that is not packed is read back where its elements are.
+abbrev pub ListBack : Type 0
+ListBack = (inner : Below) (fields : List Field) (n : ℕ) (f : Field) (v : Value) (vs : Values) → field_of fields n ≡ Some f → f.cardinality ≡ Repeated false →
+    ElementsBack inner f.single.kind (Item v vs) → ValueBack inner fields n f (ListValue (Item v vs))
+
+-- Scalars in one packed record are.
+abbrev pub PackedBack : Type 0
+PackedBack = (inner : Below) (fields : List Field) (n : ℕ) (f : Field) (kind : ScalarKind) (v : Value) (vs : Values) → field_of fields n ≡ Some f → f.cardinality ≡ Repeated true → f.single.kind ≡ ScalarOf kind →
+    is_packable kind ≡ true → elements_fit (ScalarOf kind) (Item v vs) ≡ true → ValueBack inner fields n f (ListValue (Item v vs))
+
+-- The record of one entry is read as it.
+pub record PairBack (inner : Below) (key single : Single) (k : Scalar) (v : Value) : Type 0 where
+  pub stays : is_stray_entry single (pair_payload key single k v) ≡ false
+  pub key_read : entry_key key (records_in (pair_payload key single k v)) ≡ k
+  pub value_read : entry_value inner single single.kind (records_in (pair_payload key single k v)) ≡ v
+
+abbrev pub PairsBack : Below → Single → Single → Pairs → Type 0
+PairsBack inner key single NoPairs = ⊤
+PairsBack inner key single (Pair k v ps) = PairBack inner key single k v × PairsBack inner key single ps
+
+-- A map in ascending keys is read back where its entries are.
+abbrev pub MapBack : Type 0
+MapBack = (inner : Below) (fields : List Field) (n : ℕ) (f : Field) (key : Single) (k : Scalar) (v : Value) (ps : Pairs) → field_of fields n ≡ Some f → f.cardinality ≡ MapFrom key →
+    PairsBack inner key f.single (Pair k v ps) → pairs_ordered (Pair k v ps) ≡ true → ValueBack inner fields n f (MapValue (Pair k v ps))
+
+-- A scalar's, a message's and a stray's are.
+abbrev pub ScalarBack : Type 0
+ScalarBack = (inner : Below) (fields : List Field) (n : ℕ) (f : Field) (kind : ScalarKind) (v : Scalar) → field_of fields n ≡ Some f → f.cardinality ≡ Singular → f.single.kind ≡ ScalarOf kind →
+    scalar_valid kind v ≡ true → is_default_of f.single (ScalarValue v) ≡ false → ValueBack inner fields n f (ScalarValue v)
+
+abbrev pub MessageBack : Type 0
+MessageBack = (inner : Below) (fields : List Field) (n : ℕ) (f : Field) (c : Content) → field_of fields n ≡ Some f → f.cardinality ≡ Singular → is_of_type f.single.kind (type_of c) ≡ true →
+    valid (body_of (records c)) ≡ true → inner (type_of c) (records c) ≡ c → ValueBack inner fields n f (MessageValue c)
+
+abbrev pub StrayBack : Type 0
+StrayBack = (fields : List Field) (n : ℕ) (f : Field) (p : Payload) → field_of fields n ≡ Some f → is_whole_stray f.cardinality f.single p ≡ true → UnknownBack fields n p
+
+-- Where the records of each value are read as it, those of the content mean it.
+abbrev pub EntriesMean : Type 0
+EntriesMean = (schema : Schema) (k T : ℕ) (es : Entries) → EntriesBack (meaning schema k) (known schema T) es → entries_ordered es ≡ true →
+    meaning schema (suc k) T (records (ContentOf schema T es)) ≡ ContentOf schema T es
+
+-- The records of a content mean it.
+abbrev pub RecordsMean : Type 0
+RecordsMean = (k : ℕ) (c : Content) → Writable c → levels c ≤ k → meaning (schema_of c) k (type_of c) (records c) ≡ c
+
+-- They are allowed exactly within its levels.
+abbrev pub RecordsAllowed : Type 0
+RecordsAllowed = (k : ℕ) (c : Content) → Writable c → (allows (schema_of c) k (type_of c) (records c) ≡ true) ↔ (levels c ≤ k)
+
+-- The bytes of a content spell its records.
+abbrev pub EncodedSpells : Type 0
+EncodedSpells = (c : Content) → Writable c → Spells (body_of (records c)) (encoded c)
+
+-- Bytes that were written are accepted exactly within the limit, and mean what was written.
+abbrev pub RoundTrip : Type 0
+RoundTrip = (c : Content) → Writable c →
+    (Accepts (schema_of c) (type_of c) (encoded c) ↔ (levels c ≤ LEVEL_LIMIT)) × (levels c ≤ LEVEL_LIMIT → decoded (schema_of c) (type_of c) (encoded c) ≡ Some c)
+
+-- Decoding, encoding, decoding and encoding gives the bytes of the first encoding.
+abbrev pub NormalForm : Type 0
+NormalForm = (schema : Schema) (T : ℕ) (bytes : List ℕ) (c : Content) → schema_valid schema ≡ true → decoded schema T bytes ≡ Some c → length (encoded c) < 2 ^ 64 → decoded schema T (encoded c) ≡ Some c
+
+-- Records merged into a content are read behind it.
+abbrev pub MergedSteps : Type 0
+MergedSteps = (m : ℕ) (c : Content) (behind : List Record) → Writable c → levels c ≤ m → merged m c behind ≡ steps m c behind
+
+-- Pieces of one message join, where what the first mean can be written.
+abbrev pub PiecesJoin : Type 0
+PiecesJoin = (schema : Schema) (k m T : ℕ) (front behind : List Record) → Writable (meaning schema k T front) → levels (meaning schema k T front) ≤ k → allows schema k T front ≡ true → k ≤ m →
+    merged m (meaning schema k T front) behind ≡ meaning schema m T (front ++ behind)
+
+-- What is read of a payload that has a spelling, and is no stray, is a value of the kind.
+abbrev pub ReadIsValid : Type 0
+ReadIsValid = (kind : ScalarKind) (p : Payload) (v : Scalar) → payload_valid p ≡ true → is_undeclared kind p ≡ false → elem kind p ≡ Some v → scalar_valid kind v ≡ true
+
+-- Pieces: records may be joined with the content of what was read before.
+abbrev pub Pieces : Type 0
+Pieces = (schema : Schema) (k l T : ℕ) (front behind : List Record) → schema_valid schema ≡ true → valid (body_of front) ≡ true → allows schema k T front ≡ true → allows schema l T behind ≡ true →
+    length (encoded (meaning schema k T front)) < 2 ^ 64 → (m : ℕ) → k ≤ m → l ≤ m → merged m (meaning schema k T front) behind ≡ meaning schema m T (front ++ behind)
+
+-- Contents of one type are written equally only if they are equal.
+abbrev pub Canonicity : Type 0
+Canonicity = (c d : Content) → Writable c → Writable d → schema_of c ≡ schema_of d → type_of c ≡ type_of d → encoded c ≡ encoded d → c ≡ d
+
+-- REDUCTION
+
+-- What the newer type accepts the older one accepts.
+abbrev pub OlderAccepts : Type 0
+OlderAccepts = (older newer : Schema) (A B : ℕ) (bytes : List ℕ) → schema_valid older ≡ true → schema_valid newer ≡ true → Reduced older A newer B → Accepts newer B bytes → Accepts older A bytes
+
+-- What the older type reads and writes again means the same to the newer one.
+abbrev pub Passage : Type 0
+Passage = (older newer : Schema) (A B : ℕ) (bytes : List ℕ) (c : Content) → schema_valid older ≡ true → schema_valid newer ≡ true → AreBytes bytes → Reduced older A newer B → Accepts newer B bytes →
+    decoded older A bytes ≡ Some c → length (encoded c) < 2 ^ 64 → decoded newer B (encoded c) ≡ decoded newer B bytes
+
+-- A path of singular messages to a field, whose value fits it and holds no message.
+abbrev pub PathTo : Schema → ℕ → List ℕ → Value → Type 0
+PathTo schema T [] v = ⊥
+PathTo schema T (n ∷ []) v = (f : Field) × (field_of (known schema T) n ≡ Some f) × (fits_field f v ≡ true) × (holds_message v ≡ false) × (value_ordered v ≡ true)
+PathTo schema T (n ∷ m ∷ path) v = (f : Field) × (field_of (known schema T) n ≡ Some f) × (f.cardinality ≡ Singular)
+    × ((U : ℕ) × (message_of f.single.kind ≡ Some U) × PathTo schema U (m ∷ path) v)
+
+-- A value set through the older type is set in what the newer one reads.
+abbrev pub EditPassage : Type 0
+EditPassage = (older newer : Schema) (A B : ℕ) (bytes : List ℕ) (path : List ℕ) (v : Value) (again : List ℕ) → schema_valid older ≡ true → schema_valid newer ≡ true → AreBytes bytes → Reduced older A newer B →
+    length path ≤ suc LEVEL_LIMIT → PathTo older A path v → Accepts newer B bytes → edited older A bytes path v ≡ Some again → length again < 2 ^ 64 →
+    Accepts newer B again × (decoded newer B again ≡ (decoded newer B bytes >>= λ d. Some (set_at path v d)))
+
+-- FAULTS
+
+-- Bytes are accepted unless a fault stands in them.
+abbrev pub AcceptedUnlessFault : Type 0
+AcceptedUnlessFault = (schema : Schema) (T : ℕ) (bytes : List ℕ) → AreBytes bytes → (accepts schema T bytes ≡ false) ↔ ((e : DecodeError) × StandsInMessage schema T LEVEL_LIMIT e bytes)

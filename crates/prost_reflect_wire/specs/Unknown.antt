@@ -1,0 +1,37 @@
+-- What an unknown field is, without where it lies in memory.
+use Rattle.std.specs.Prelude.{ℕ, List}
+use Rattle.prost_reflect_wire.specs.declared.unknown.UnknownField.{UnknownField}
+use Rattle.prost_reflect_wire.specs.declared.unknown.UnknownFieldSet.{UnknownFieldSet}
+use Rattle.prost_reflect_wire.specs.declared.unknown.UnknownFieldValue.{UnknownFieldValue}
+use Rattle.prost_reflect_wire.specs.declared.unknown.UnknownFieldValue.TheOpen.{UnknownFieldValue-F, UnknownField-F, UnknownFieldSet-F, Varint, SixtyFourBit, LengthDelimited, Group, ThirtyTwoBit}
+use Rattle.prost_reflect_wire.specs.declared.unknown.UnknownFieldValue.TheFolds.{fold-UnknownFieldValue, fold-UnknownField, fold-UnknownFieldSet}
+use Rattle.prost_reflect_wire.specs.declared.unknown.UnknownFieldValue.TheViews.{out-UnknownFieldSet}
+use Rattle.prost_reflect_wire.specs.Record.{Payload, Flat, Record, Var, Fix64, Len, Fix32, body_of}
+use Rattle.prost_reflect_wire.specs.Record as model
+
+-- One step of each type, over what its parts are.
+abbrev pub value_step : UnknownFieldValue-F Payload Record (List Record) → Payload
+value_step (Varint value) = Flat (Var value)
+value_step (SixtyFourBit bytes) = Flat (Fix64 bytes)
+value_step (LengthDelimited bytes) = Flat (Len bytes.items)
+value_step (Group records) = model.Group (body_of records)
+value_step (ThirtyTwoBit bytes) = Flat (Fix32 bytes)
+
+abbrev pub field_step : UnknownField-F Payload Record (List Record) → Record
+field_step field = record { number = field.number.value; payload = field.value }
+
+abbrev pub set_step : UnknownFieldSet-F Payload Record (List Record) → List Record
+set_step set = set.fields.items
+
+abbrev pub payload_of : UnknownFieldValue → Payload
+payload_of = fold-UnknownFieldValue Payload Record (List Record) value_step field_step set_step
+
+abbrev pub record_of : UnknownField → Record
+record_of = fold-UnknownField Payload Record (List Record) value_step field_step set_step
+
+abbrev pub records_of : UnknownFieldSet → List Record
+records_of = fold-UnknownFieldSet Payload Record (List Record) value_step field_step set_step
+
+-- The fields of a set in their order.
+abbrev pub fields_of : UnknownFieldSet → List UnknownField
+fields_of set = (out-UnknownFieldSet set).fields.items
