@@ -8,10 +8,12 @@ ghost use Rattle.prost_reflect_wire.specs.Laws.{OneReading, ReadIsSpells, Writte
 mod error;
 mod key;
 mod unknown;
+mod varint;
 
 pub use error::{DecodeError, EncodeError};
 pub use key::{FieldNumber, WireType};
 pub use unknown::{UnknownField, UnknownFieldSet, UnknownFieldValue};
+pub use varint::decode_varint;
 
 
 /// Bytes spell at most one list of records.
