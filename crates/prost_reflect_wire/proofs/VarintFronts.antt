@@ -1,11 +1,11 @@
 -- A front of the bytes spells at most one varint, and none where a fault stands.
-use Rattle.std.proofs.Common.{◌≡◌, ℕ, zero, suc, ◌+◌, ◌*◌, ◌%◌, ◌^◌, ◌<◌, ◌≤◌, List, [], ◌∷◌, ◌++◌, length, Option, Some, None, refl, sym, ap, ◌∙◌, arith, inl, inr, Result, Ok, Err, IfOk, IfErr, IsOkAnd, Bor}
+use Rattle.std.proofs.Common.{◌≡◌, ℕ, zero, suc, ◌+◌, ◌*◌, ◌%◌, ◌^◌, ◌<◌, ◌≤◌, List, [], ◌∷◌, ◌++◌, length, Option, Some, sym, ap, ◌∙◌, arith, inl, inr, Result, Ok, Err, IfOk, IfErr, IsOkAnd, Bor}
 use Rattle.std.proofs.Math.Nat.{pow-suc}
 use Rattle.std.proofs.lemmas.Bool.{cases_lt, le-ltb, lt-ltb}
 use Rattle.prost_reflect_wire.specs.declared.error.DecodeError.{DecodeError}
 use Rattle.prost_reflect_wire.specs.declared.error.DecodeError.TheVariants as errors
-use Rattle.prost_reflect_wire.specs.Varint.{digits_value, Varint, digits_at, varint_at, ◌>>=◌}
-use Rattle.prost_reflect_wire.specs.Front.{VarintFront, AreOpen, VarintEnds, VarintPasses, VarintFault}
+use Rattle.prost_reflect_wire.specs.Varint.{digits_at}
+use Rattle.prost_reflect_wire.specs.Front.{VarintFront, AreOpen, VarintFault}
 use Rattle.prost_reflect_wire.proofs.Reading.{digits_read}
 use Rattle.prost_reflect_wire.proofs.Sound.{bind_ok}
 

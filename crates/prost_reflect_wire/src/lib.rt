@@ -11,7 +11,7 @@ mod unknown;
 mod varint;
 
 pub use error::{DecodeError, EncodeError};
-pub use key::{FieldNumber, WireType};
+pub use key::{FieldNumber, WireType, decode_key};
 pub use unknown::{UnknownField, UnknownFieldSet, UnknownFieldValue};
 pub use varint::decode_varint;
 

@@ -1,4 +1,4 @@
-use Rattle.std.proofs.Common.{◌≡◌, ◌<◌, ◌≤◌, ◌%◌, ◌⊎◌, ℕ, get_or, arith, inl, inr, ◌∙◌, Fits, w64}
+use Rattle.std.proofs.Common.{◌≡◌, ◌<◌, ◌≤◌, ◌%◌, ◌⊎◌, ℕ, get_or, arith, inl, inr, ◌∙◌}
 use Rattle.std.proofs.lemmas.Nat.{and_mask}
 use Rattle.prost_reflect_wire.proofs.VarintDigits.{digits_more, digits_last, digits_pass, value_fits, scale_more}
 use Rattle.prost_reflect_wire.proofs.varint.decode_digits.Goals as goal

@@ -1,5 +1,3 @@
-use Rattle.std.proofs.Common.{rules, ◌∙◌, sym}
-use Rattle.prost_reflect_wire.specs.Front.{VarintFront}
 use Rattle.prost_reflect_wire.proofs.VarintFronts.{varint_only, varint_once, one_byte}
 use Rattle.prost_reflect_wire.proofs.varint.decode_varint.Goals as goal
 
