@@ -9,6 +9,9 @@ mod buffer;
 mod error;
 mod key;
 mod payload;
+mod error;
+mod key;
+pub mod laws;
 mod unknown;
 mod varint;
 
