@@ -109,7 +109,7 @@ levels_first r rs = go r.payload
     go (Flat p) = omega arith
     go (Group inside) = refl
 
-pub levels_last : (rs : List Record) (r : Record) (levels : ℕ) → raw_levels (body_of rs) ≤ levels → payload_levels r.payload ≤ levels → raw_levels (body_of (rs ++ r ∷ [])) ≤ levels
+pub levels_last : (rs : List Record) (r : Record) (levels : ℕ) → raw_levels (body_of rs) < levels → payload_levels r.payload < levels → raw_levels (body_of (rs ++ r ∷ [])) < levels
 levels_last [] r levels h g = omega (arith, levels_first r NoRecords)
 levels_last (q ∷ rs) r levels h g =
     let first = levels_first q (body_of rs) in
