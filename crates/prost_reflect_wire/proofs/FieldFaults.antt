@@ -183,7 +183,18 @@ field_no_fault e r levels bytes rest f within s = go (record_parts r.number r.pa
         group_no_fault e r.number r.payload levels parts.mid rest parts.payload within (sym wire ∙ g.behind.0)
         (subst (λ (i : ℕ). InsideGroup e i levels parts.mid) number (subst (λ (l : List ℕ). InsideGroup e g.number levels l) behind g.behind.1))
 
-pub value_no_fault : (e : DecodeError) (n : ℕ) (w : WireType) (levels : ℕ) (p : Payload) (bytes rest : List ℕ) → Key n w (short_key n w) → ValueFront n w levels p bytes rest → StandsInValue levels n w e bytes → ⊥
-value_no_fault e n w levels p bytes rest key v s =
-    let k : KeyFront n (payload_wire p) (short_key n w ++ bytes) bytes = record { front = short_key n w; key = subst (λ x. Key n x (short_key n w)) (sym v.wire) key; parts = refl } in
-    field_no_fault e (record_at n p) levels (short_key n w ++ bytes) rest (record_front n p (short_key n w ++ bytes) bytes rest k v.front) v.within s
+pub value_no_fault : (e : DecodeError) (n : ℕ) (w : WireType) (levels : ℕ) (p : Payload) (bytes rest : List ℕ) → KeyFront n w (short_key n w ++ bytes) bytes → ValueFront n w levels p bytes rest → StandsInValue levels n w e bytes → ⊥
+value_no_fault e n w levels p bytes rest k v s =
+    let key = subst (λ x. KeyFront n x (short_key n w ++ bytes) bytes) (sym v.wire) k in
+    field_no_fault e (record_at n p) levels (short_key n w ++ bytes) rest (record_front n p (short_key n w ++ bytes) bytes rest key v.front) v.within s
+
+-- A refusal that no fault explains is one of memory.
+pub only_memory : (e : DecodeError) → (e ≢ errors.OutOfMemory → ⊥) → e ≡ errors.OutOfMemory
+only_memory errors.OutOfMemory h = refl
+only_memory errors.Truncated h = absurd (h (λ is. cc))
+only_memory errors.Varint h = absurd (h (λ is. cc))
+only_memory errors.Key h = absurd (h (λ is. cc))
+only_memory errors.WireType h = absurd (h (λ is. cc))
+only_memory errors.EndGroup h = absurd (h (λ is. cc))
+only_memory errors.Utf8 h = absurd (h (λ is. cc))
+only_memory errors.Depth h = absurd (h (λ is. cc))

@@ -135,5 +135,5 @@ pub value_stands_in_field : (e : DecodeError) (levels n : ℕ) (w : WireType) (b
 value_stands_in_field e levels n w bytes rest k (inl f) = inl (value_comes [] (FieldPlace levels bytes) e n w rest refl k (λ _. some_none) f)
 value_stands_in_field e levels n w bytes rest k (inr f) = inr (inr (record { number = n; wire = w; rest = rest; key = k; behind = f }))
 
-pub value_stands_in_value : (e : DecodeError) (levels n : ℕ) (w : WireType) (bytes : List ℕ) → Key n w (short_key n w) → ValueFault e n w levels bytes → StandsInValue levels n w e bytes
-value_stands_in_value e levels n w bytes key f = value_stands_in_field e levels n w (short_key n w ++ bytes) bytes (record { front = short_key n w; key = key; parts = refl }) f
+pub value_stands_in_value : (e : DecodeError) (levels n : ℕ) (w : WireType) (bytes : List ℕ) → KeyFront n w (short_key n w ++ bytes) bytes → ValueFault e n w levels bytes → StandsInValue levels n w e bytes
+value_stands_in_value e levels n w bytes k f = value_stands_in_field e levels n w (short_key n w ++ bytes) bytes k f

@@ -4,7 +4,7 @@ use Rattle.prost_reflect_wire.specs.declared.key.WireType.{WireType}
 use Rattle.prost_reflect_wire.specs.declared.key.WireType.TheVariants as wires
 use Rattle.prost_reflect_wire.specs.Varint.{AreDigits}
 use Rattle.prost_reflect_wire.specs.Record.{Plain, Var, Fix64, Len, Fix32, Records, NoRecords, PlainRecord, GroupRecord, Record, Payload, Flat, Group, before, body_of, Key, Spells, SpellsPlain, plain_wire, payload_wire, raw_levels, payload_levels, body_at}
-use Rattle.prost_reflect_wire.specs.Front.{KeyFront, PlainFront, RecordsFront, RecordFront, GroupFront, PayloadFront}
+use Rattle.prost_reflect_wire.specs.Front.{KeyFront, PlainFront, RecordsFront, RecordFront, GroupFront, PayloadFront, ValueFront, FieldFront}
 use Rattle.prost_reflect_wire.proofs.Reading.{some_key, closes_group, body_read}
 use Rattle.prost_reflect_wire.proofs.KeyFronts.{key_once}
 use Rattle.prost_reflect_wire.proofs.PlainFronts.{plain_once}
@@ -165,3 +165,17 @@ record_once n m p q bytes rest end f g =
     let moved : PayloadFront n q a.mid end = subst (λ (l : List ℕ). PayloadFront n q l end) (sym mid) (subst (λ (i : ℕ). PayloadFront i q b.mid end) (sym number) b.payload) in
     let (payload, behind) = payload_once n p q a.mid rest end wire a.payload moved in
     (number, payload, behind)
+
+-- WITHIN LEVELS
+
+pub field_front : (n : ℕ) (w : WireType) (levels : ℕ) (p : Payload) (bytes mid rest : List ℕ) → KeyFront n w bytes mid → ValueFront n w levels p mid rest → FieldFront levels (record_at n p) bytes rest
+field_front n w levels p bytes mid rest k v =
+    record { front = record_front n p bytes mid rest (subst (λ x. KeyFront n x bytes mid) (sym v.wire) k) v.front; within = v.within }
+
+pub field_once : (levels : ℕ) (r s : Record) (bytes rest end : List ℕ) → FieldFront levels r bytes rest → FieldFront levels s bytes end → (r ≡ s) × (rest ≡ end)
+field_once levels r s bytes rest end f g =
+    let (number, payload, behind) = record_once r.number s.number r.payload s.payload bytes rest end f.front g.front in
+    (ap (λ (n : ℕ). record_at n r.payload) number ∙ ap (record_at s.number) payload, behind)
+
+pub value_once : (n : ℕ) (w : WireType) (levels : ℕ) (p q : Payload) (bytes rest end : List ℕ) → ValueFront n w levels p bytes rest → ValueFront n w levels q bytes end → (p ≡ q) × (rest ≡ end)
+value_once n w levels p q bytes rest end f g = payload_once n p q bytes rest end (f.wire ∙ sym g.wire) f.front g.front
