@@ -167,6 +167,11 @@ short_body NoRecords = []
 short_body (PlainRecord n p rest) = short_key n (plain_wire p) ++ (short_plain p ++ short_body rest)
 short_body (GroupRecord n inside rest) = short_key n wires.StartGroup ++ (short_body inside ++ (short_key n wires.EndGroup ++ short_body rest))
 
+-- Behind the key of a number.
+abbrev pub short_payload : ℕ → Payload → List ℕ
+short_payload n (Flat p) = short_plain p
+short_payload n (Group inside) = short_body inside ++ short_key n wires.EndGroup
+
 abbrev pub spelled : List Record → List ℕ
 spelled rs = short_body (body_of rs)
 

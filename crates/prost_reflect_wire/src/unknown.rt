@@ -12,8 +12,10 @@ use std::slice::Iter;
 use std::vec::IntoIter;
 
 mod reading;
+mod writing;
 
 pub use reading::{RECURSION_LIMIT, value_at};
+pub use writing::{prepend_field, prepend_fields, prepend_fields_at};
 
 /// A field that its message does not know.
 #[derive(Debug, Drop, PartialEq)]

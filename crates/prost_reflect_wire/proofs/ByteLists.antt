@@ -1,0 +1,9 @@
+-- Elements of a list of bytes.
+use Rattle.std.proofs.Common.{◌≡◌, ◌<◌, ℕ, zero, suc, true, List, [], ◌∷◌, get_or, refl, arith, Fits, w8}
+use Rattle.std.proofs.lemmas.Bool.{lt-ltb}
+use Rattle.prost_reflect_wire.specs.Varint.{are_bytes}
+use Rattle.prost_reflect_wire.proofs.Deeper.{both_true}
+
+pub bytes_by_index : (bytes : List ℕ) → ((i : ℕ) → Fits w8 (get_or bytes i 0)) → are_bytes bytes ≡ true
+bytes_by_index [] h = refl
+bytes_by_index (b ∷ bytes) h = both_true (lt-ltb b 256 (let first = h 0 in first.fits)) (bytes_by_index bytes (λ i. h (suc i)))
