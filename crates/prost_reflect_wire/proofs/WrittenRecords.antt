@@ -1,15 +1,13 @@
 -- Records are written one in front of another.
-use Rattle.std.proofs.Common.{◌≡◌, ◌<◌, ◌≤◌, ℕ, zero, suc, ◌+◌, ◌-◌, ◌^◌, Bool, true, false, ◌&&◌, List, [], ◌∷◌, ◌++◌, length, get_or, drop, map, Result, Ok, Err, refl, sym, ap, subst, ◌∙◌, arith, append_assoc, append-nil, length-append, drop-cons, OnOk}
+use Rattle.std.proofs.Common.{◌≡◌, ◌<◌, ◌≤◌, ℕ, zero, suc, ◌+◌, ◌-◌, ◌^◌, true, List, [], ◌∷◌, ◌++◌, length, get_or, drop, map, Result, Ok, Err, refl, sym, ap, ◌∙◌, arith, append_assoc, append-nil, length-append, drop-cons, OnOk}
 use Rattle.std.proofs.lemmas.Bool.{eq-eqb, lt-ltb}
 use Rattle.prost_reflect_wire.specs.Varint.{are_bytes}
 use Rattle.prost_reflect_wire.specs.declared.error.EncodeError.{EncodeError}
-use Rattle.prost_reflect_wire.specs.declared.error.EncodeError.TheVariants.{TooLong}
 use Rattle.prost_reflect_wire.specs.Buffer.{Prepended}
-use Rattle.prost_reflect_wire.specs.Record.{Record, Payload, Fix64, Len, Fix32, Flat, Group, body_of, before, payload_wire, short_key, short_payload, short_body, spelled, valid, number_valid, payload_valid}
+use Rattle.prost_reflect_wire.specs.Record.{record_at, Record, Payload, Fix64, Len, Fix32, Flat, Group, body_of, payload_wire, short_key, short_payload, spelled, valid, number_valid, payload_valid}
 use Rattle.prost_reflect_wire.specs.Front.{RecordFront}
 use Rattle.prost_reflect_wire.proofs.Shortest.{short_spells}
 use Rattle.prost_reflect_wire.proofs.Deeper.{and_both, both_true}
-use Rattle.prost_reflect_wire.proofs.RecordFronts.{record_at}
 
 -- A FRONT BEFORE ANOTHER
 
@@ -19,7 +17,6 @@ Answer = Result (Unit {0}) EncodeError
 pub prepended_after : (r : Answer) (old mid new a b : List ℕ) → mid ≡ a ++ old → Prepended r mid new b → Prepended r old new (b ++ a)
 prepended_after (Ok u) old mid new a b e p = p ∙ ap (λ (l : List ℕ). b ++ l) e ∙ sym (append_assoc b a old)
 prepended_after (Err d) old mid new a b e p = λ is. omega (arith, p is, ap length e, length-append a old, length-append b a)
-
 
 -- RECORDS
 

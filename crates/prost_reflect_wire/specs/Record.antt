@@ -25,10 +25,13 @@ pub record Record : Type 0 where
   pub number : ℕ
   pub payload : Payload
 
+abbrev pub record_at : ℕ → Payload → Record
+record_at n p = record { number = n; payload = p }
+
 abbrev pub items : Records → List Record
 items NoRecords = []
-items (PlainRecord n p rest) = record { number = n; payload = Flat p } ∷ items rest
-items (GroupRecord n inside rest) = record { number = n; payload = Group inside } ∷ items rest
+items (PlainRecord n p rest) = record_at n (Flat p) ∷ items rest
+items (GroupRecord n inside rest) = record_at n (Group inside) ∷ items rest
 
 abbrev pub before : Record → Records → Records
 before r rest = elim r.payload [ Flat p ↦ PlainRecord r.number p rest | Group inside ↦ GroupRecord r.number inside rest ]

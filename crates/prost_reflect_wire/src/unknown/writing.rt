@@ -1,7 +1,7 @@
 //! Writing fields that no descriptor knows, the last byte first (the encoding guide, "Message Structure" and "Groups").
 
 ghost use Rattle.std.specs.Prelude.{◌≡◌, ◌+◌, ◌≤◌, ◌^◌, ◌++◌, ◌∷◌, [], ℕ, List, true, length, map, OnOk, OnErr, IfErr};
-ghost use Rattle.prost_reflect_wire.specs.Record.{Record, body_of, Spells, spelled, short_payload, valid, payload_valid};
+ghost use Rattle.prost_reflect_wire.specs.Record.{record_at, body_of, Spells, spelled, short_payload, valid, payload_valid};
 ghost use Rattle.prost_reflect_wire.specs.Front.{RecordFront};
 ghost use Rattle.prost_reflect_wire.specs.Buffer.{bytes_of, Prepended};
 ghost use Rattle.prost_reflect_wire.specs.Unknown.{payload_of, record_of, records_of, renumbered};
@@ -32,8 +32,8 @@ fn prepend_record(
     value: &UnknownFieldValue,
     out: &mut BackBuffer,
 ) -> Result<(), EncodeError>
-    ensures ok { let r = record { number = number.value; payload = payload_of value.now } in Prepended result (bytes_of out.old) (bytes_of out.new) (spelled (r ∷ [])) }
-    ensures valid { let r = record { number = number.value; payload = payload_of value.now } in OnOk result (valid (body_of (r ∷ [])) ≡ true) }
+    ensures ok { Prepended result (bytes_of out.old) (bytes_of out.new) (spelled (record_at number.value (payload_of value.now) ∷ [])) }
+    ensures valid { OnOk result (valid (body_of (record_at number.value (payload_of value.now) ∷ [])) ≡ true) }
 {
     prepend_value(number, value, out)?;
     out.prepend_key(number, value.wire_type())

@@ -1,9 +1,9 @@
-use Rattle.std.proofs.Common.{rules, ◌≡◌, ◌<◌, ◌^◌, ◌++◌, ◌-◌, List, ℕ, true, drop, length, map, append_assoc, sym, ap, subst, ◌∙◌, arith}
+use Rattle.std.proofs.Common.{rules, ◌≡◌, ◌++◌, List, ℕ, length, ap, ◌∙◌, arith}
 use Rattle.std.proofs.lemmas.Result.{err_from_is_err_and}
-use Rattle.prost_reflect_wire.specs.Buffer.{bytes_of, Prepended}
+use Rattle.prost_reflect_wire.specs.Buffer.{bytes_of}
 use Rattle.prost_reflect_wire.specs.Varint.{short}
-use Rattle.prost_reflect_wire.specs.Record.{short_key, short_body, short_payload, body_of, spelled, payload_valid}
-use Rattle.prost_reflect_wire.specs.Unknown.{payload_of, record_of, records_of, fields_of}
+use Rattle.prost_reflect_wire.specs.Record.{short_key, spelled}
+use Rattle.prost_reflect_wire.specs.Unknown.{record_of, records_of, fields_of}
 use Rattle.prost_reflect_wire.specs.declared.unknown.UnknownFieldValue.TheViews.{out-UnknownFieldSet}
 use Rattle.prost_reflect_wire.specs.declared.key.WireType.TheVariants as wires
 use Rattle.prost_reflect_wire.proofs.UnknownViews.{records_of_out, payload_of_LengthDelimited, payload_of_Group, payload_of_SixtyFourBit, payload_of_ThirtyTwoBit}

@@ -1,7 +1,7 @@
 use Rattle.std.proofs.Common.{◌≡◌, ◌++◌, true, drop, map}
 use Rattle.prost_reflect_wire.specs.Buffer.{bytes_of}
 use Rattle.prost_reflect_wire.specs.Record.{spelled, body_of, valid}
-use Rattle.prost_reflect_wire.specs.Unknown.{record_of, fields_of}
+use Rattle.prost_reflect_wire.specs.Unknown.{fields_of}
 use Rattle.prost_reflect_wire.proofs.UnknownViews.{numbered_as}
 use Rattle.prost_reflect_wire.proofs.unknown.writing.prepend_fields_at.Given as goal
 
