@@ -1,5 +1,5 @@
 -- Elements of a list of bytes.
-use Rattle.std.proofs.Common.{◌≡◌, ◌<◌, ℕ, zero, suc, true, List, [], ◌∷◌, get_or, refl, arith, Fits, w8}
+use Rattle.std.proofs.Common.{◌≡◌, ℕ, suc, true, List, [], ◌∷◌, get_or, refl, Fits, w8}
 use Rattle.std.proofs.lemmas.Bool.{lt-ltb}
 use Rattle.prost_reflect_wire.specs.Varint.{are_bytes}
 use Rattle.prost_reflect_wire.proofs.Deeper.{both_true}
