@@ -7,6 +7,9 @@ use Rattle.prost_reflect_wire.specs.declared.error.DecodeError.TheVariants as er
 use Rattle.prost_reflect_wire.specs.declared.key.WireType.{WireType}
 use Rattle.prost_reflect_wire.specs.declared.key.WireType.TheVariants as wires
 use Rattle.prost_reflect_wire.specs.Varint.{AreBytes, Varint}
+use Rattle.prost_reflect_wire.specs.FieldLaws.{HasField, HasValue}
+use Rattle.prost_reflect_wire.proofs.ByteLists.{bytes_behind}
+use Rattle.prost_reflect_wire.proofs.KeyFronts.{short_key_front}
 use Rattle.prost_reflect_wire.proofs.Reading.{wire_small}
 use Rattle.prost_reflect_wire.specs.Record.{Plain, Var, Fix64, Len, Fix32, Records, NoRecords, Record, record_at, Payload, Flat, Group, before, plain_wire, payload_wire, wire_code, raw_levels, payload_levels, short_key}
 use Rattle.prost_reflect_wire.specs.Front.{VarintFront, VarintFault, KeyFront, KeyFault, NoKey, PlainFront, DelimitedFront, PlainFault, RecordFront, GroupFront, PayloadFront, ValueFront, FieldFront}
@@ -139,10 +142,6 @@ pub data GroupRead (levels n : ℕ) (bytes : List ℕ) : Type 0 where
   GroupHere : (inside : Records) (rest : List ℕ) → GroupFront n inside bytes rest → raw_levels inside ≤ levels → GroupRead levels n bytes
   NoGroup : (e : DecodeError) → Stands [] e (record { bytes = bytes; inside = OfNothing; levels = levels; open_group = Some n }) → GroupRead levels n bytes
 
-bytes_behind : (front rest : List ℕ) → AreBytes (front ++ rest) → AreBytes rest
-bytes_behind [] rest h = h
-bytes_behind (b ∷ front) rest h = bytes_behind front rest h.1
-
 payload_behind : (n : ℕ) (p : Payload) (bytes rest : List ℕ) → PayloadFront n p bytes rest → AreBytes bytes → AreBytes rest
 payload_behind n (Flat p) bytes rest f small = bytes_behind f.front rest (subst AreBytes f.parts small)
 payload_behind n (Group inside) bytes rest f small =
@@ -198,17 +197,20 @@ value_or_fault (suc levels) n wires.StartGroup bytes small = group_value levels 
 
 -- FIELDS
 
-pub data FieldRead (levels : ℕ) (bytes : List ℕ) : Type 0 where
-  FieldHere : (r : Record) (rest : List ℕ) → FieldFront levels r bytes rest → FieldRead levels bytes
-  NoField : (e : DecodeError) → StandsInField levels e bytes → FieldRead levels bytes
-
-pub field_or_fault : (levels : ℕ) (bytes : List ℕ) → AreBytes bytes → FieldRead levels bytes
+pub field_or_fault : (levels : ℕ) (bytes : List ℕ) → AreBytes bytes → HasField levels bytes ⊎ ((e : DecodeError) × StandsInField levels e bytes)
 field_or_fault levels bytes small = go (key_or_fault bytes small)
   where
-    at_value : (n : ℕ) (w : WireType) (rest : List ℕ) → KeyFront n w bytes rest → ValueRead levels n w rest → FieldRead levels bytes
-    at_value n w rest k (ValueHere p after v) = FieldHere (record_at n p) after (field_front n w levels p bytes rest after k v)
-    at_value n w rest k (NoValue e f) = NoField e (value_stands_in_field e levels n w bytes rest k f)
+    at_value : (n : ℕ) (w : WireType) (rest : List ℕ) → KeyFront n w bytes rest → ValueRead levels n w rest → HasField levels bytes ⊎ ((e : DecodeError) × StandsInField levels e bytes)
+    at_value n w rest k (ValueHere p after v) = inl (record_at n p, (after, field_front n w levels p bytes rest after k v))
+    at_value n w rest k (NoValue e f) = inr (e, value_stands_in_field e levels n w bytes rest k f)
 
-    go : KeyRead bytes → FieldRead levels bytes
-    go (NoKeyHere e f) = NoField e (key_stands_in_field e levels bytes f)
+    go : KeyRead bytes → HasField levels bytes ⊎ ((e : DecodeError) × StandsInField levels e bytes)
+    go (NoKeyHere e f) = inr (e, key_stands_in_field e levels bytes f)
     go (KeyHere n w rest k) = at_value n w rest k (value_or_fault levels n w rest (bytes_behind k.front rest (subst AreBytes k.parts small)))
+
+pub value_front_or_fault : (levels n : ℕ) (w : WireType) (bytes : List ℕ) → 1 ≤ n → n < 2 ^ 29 → AreBytes bytes → HasValue levels n w bytes ⊎ ((e : DecodeError) × StandsInValue levels n w e bytes)
+value_front_or_fault levels n w bytes some below small = go (value_or_fault levels n w bytes small)
+  where
+    go : ValueRead levels n w bytes → HasValue levels n w bytes ⊎ ((e : DecodeError) × StandsInValue levels n w e bytes)
+    go (ValueHere p rest v) = inl (p, (rest, v))
+    go (NoValue e f) = inr (e, value_stands_in_value e levels n w bytes (short_key_front n w bytes some below) f)

@@ -3,6 +3,7 @@
 
 mod buffer;
 mod error;
+pub mod field_laws;
 mod key;
 pub mod laws;
 mod payload;
