@@ -11,9 +11,12 @@ use std::alloc::{AllocError, Global};
 use std::slice::Iter;
 use std::vec::IntoIter;
 
+mod copy;
+mod length;
 mod reading;
 mod writing;
 
+pub use length::{field_len, fields_len};
 pub use reading::{RECURSION_LIMIT, value_at};
 pub use writing::{prepend_field, prepend_fields, prepend_fields_at};
 
