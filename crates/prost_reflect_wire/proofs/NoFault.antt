@@ -1,5 +1,6 @@
 -- Where a body stands, no fault stands.
-use Rattle.std.proofs.Common.{◌≡◌, ◌≢◌, ℕ, zero, suc, ◌≤◌, Bool, true, false, not, ◌&&◌, ◌||◌, inl, inr, List, [], ◌∷◌, ◌++◌, length, nat_eq, nat_le, Option, Some, None, refl, sym, ap, subst, ◌∙◌, arith, length-append}
+use Rattle.std.proofs.Common.{◌≡◌, ◌≢◌, ℕ, zero, suc, ◌<◌, ◌≤◌, Bool, true, false, not, ◌&&◌, ◌||◌, inl, inr, List, [], ◌∷◌, ◌++◌, length, nat_eq, nat_le, Option, Some, None, refl, sym, ap, subst, ◌∙◌, arith, length-append, true≢false}
+use Rattle.std.proofs.lemmas.Bool.{leb-true}
 use Rattle.std.specs.Option.{is_some}
 use Rattle.prost_reflect_wire.specs.declared.error.DecodeError.{DecodeError}
 use Rattle.prost_reflect_wire.specs.declared.error.DecodeError.TheVariants as errors
@@ -17,7 +18,7 @@ use Rattle.prost_reflect_wire.proofs.Sound.{bind_ok, plain_sound}
 use Rattle.prost_reflect_wire.proofs.Reading.{plain_read}
 use Rattle.prost_reflect_wire.proofs.KeyFronts.{key_once, key_no_fault}
 use Rattle.prost_reflect_wire.proofs.PlainFronts.{plain_once, plain_no_fault, delimited_once, plain_delimited}
-use Rattle.prost_reflect_wire.proofs.RecordFronts.{bytes_rest, payload_no_end, key_not_empty}
+use Rattle.prost_reflect_wire.proofs.RecordFronts.{bytes_front, bytes_rest, payload_no_end, key_not_empty}
 use Rattle.prost_reflect_wire.proofs.Places.{inner, payload_allowed, NextRecord, EndNext, AtEnd, AtStop}
 use Rattle.prost_reflect_wire.proofs.KindsTaken.{not_both, len_payload, group_payload, one_or_packed, allowed_one, text_allowed, unpacked_allowed, map_allowed, message_allowed, group_allowed, field_taken}
 
@@ -168,3 +169,125 @@ end_no_fault schema place errors.Utf8 x f = let (n, rest, o, (_, _, h)) = next_a
 end_no_fault schema place errors.Depth x f =
     let (n, rest, o, h) = next_at_end place (λ n w rest. opens_level (field_at schema place.inside n) w ≡ true) x f.1 in not_both h (end_opens_none (field_at schema place.inside n))
 end_no_fault schema place e x f = absurd f
+
+-- WHERE A RECORD COMES
+
+known_allowed : (schema : Schema) (place : Place) (behind : List ℕ) (r : NextRecord schema place behind) (f : Field) → field_at schema place.inside r.number ≡ Some f →
+    field_allowed place.levels (inner schema place.levels) f.form f.value_type r.payload ≡ true
+known_allowed schema place behind r f found =
+    sym (ap (λ o. elim o [ None ↦ nat_le (payload_levels r.payload) place.levels | Some g ↦ field_allowed place.levels (inner schema place.levels) g.form g.value_type r.payload ]) found) ∙ r.allowed
+
+unknown_allowed : (schema : Schema) (place : Place) (behind : List ℕ) (r : NextRecord schema place behind) → field_at schema place.inside r.number ≡ None → payload_levels r.payload ≤ place.levels
+unknown_allowed schema place behind r found =
+    leb-true (payload_levels r.payload) place.levels
+    (sym (ap (λ o. elim o [ None ↦ nat_le (payload_levels r.payload) place.levels | Some g ↦ field_allowed place.levels (inner schema place.levels) g.form g.value_type r.payload ]) found) ∙ r.allowed)
+
+payload_no_fault : (e : DecodeError) (n : ℕ) (p : Payload) (bytes rest : List ℕ) → PayloadFront n p bytes rest → PlainFault e (payload_wire p) bytes → ⊥
+payload_no_fault e n (Flat p) bytes rest f h = plain_no_fault e p bytes rest f h
+payload_no_fault errors.Truncated n (Group inside) bytes rest f h = h
+payload_no_fault errors.Varint n (Group inside) bytes rest f h = h
+payload_no_fault e n (Group inside) bytes rest f h = absurd h
+
+-- a delimited payload comes next
+len_front : (n : ℕ) (p : Payload) (bytes rest body after : List ℕ) → payload_wire p ≡ wires.LengthDelimited → PayloadFront n p bytes rest → DelimitedFront body bytes after → (p ≡ Flat (Len body)) × (rest ≡ after)
+len_front n (Flat (Len b)) bytes rest body after e f d = let (same, behind) = delimited_once b body bytes rest after (plain_delimited b bytes rest f) d in (ap (λ b. Flat (Len b)) same, behind)
+len_front n (Flat (Var v)) bytes rest body after e f d = let (b, is) = len_payload (Flat (Var v)) e in absurd cc
+len_front n (Flat (Fix64 v)) bytes rest body after e f d = let (b, is) = len_payload (Flat (Fix64 v)) e in absurd cc
+len_front n (Flat (Fix32 v)) bytes rest body after e f d = let (b, is) = len_payload (Flat (Fix32 v)) e in absurd cc
+len_front n (Group inside) bytes rest body after e f d = let (b, is) = len_payload (Group inside) e in absurd cc
+
+small_behind : (schema : Schema) (place : Place) (behind : List ℕ) → AreBytes place.bytes → (r : NextRecord schema place behind) → AreBytes r.behind_key
+small_behind schema place behind small r = bytes_rest r.key.front r.behind_key (subst AreBytes r.key.parts small)
+
+-- one value or a packed record of the kind
+kind_allowed : (k : ℕ) (inner : AllowsInside) (f : Field) (kind : Kind) (p : Payload) → is_map f.form ≡ false → f.value_type.kind ≡ kind → field_allowed k inner f.form f.value_type p ≡ true → one_or_packed inner kind p ≡ true
+kind_allowed k inner f kind p m is h = ap (λ c. one_or_packed inner c p) (sym is) ∙ allowed_one k inner f.form f.value_type p m h
+
+text_no_fault : (k : ℕ) (inner : AllowsInside) (f : Field) (n : ℕ) (p : Payload) (bytes rest : List ℕ) → PayloadFront n p bytes rest → field_allowed k inner f.form f.value_type p ≡ true → TextNext f (payload_wire p) bytes → ⊥
+text_no_fault k inner f n p bytes rest front allowed (w, m, is, (body, after, d, bad)) =
+    let (same, _) = len_front n p bytes rest body after w front d in
+    let h : one_or_packed inner (ScalarOf StringKind) (Flat (Len body)) ≡ true = ap (one_or_packed inner (ScalarOf StringKind)) (sym same) ∙ kind_allowed k inner f (ScalarOf StringKind) p m is allowed in
+    not_both (text_allowed inner body h) bad
+
+packed_no_fault : (e : DecodeError) (k : ℕ) (inner : AllowsInside) (f : Field) (n : ℕ) (p : Payload) (bytes rest : List ℕ) → AreBytes bytes → PayloadFront n p bytes rest → field_allowed k inner f.form f.value_type p ≡ true →
+    PackedNext e f (payload_wire p) bytes → ⊥
+unfolding unpacked
+packed_no_fault e k inner f n p bytes rest small front allowed (w, (packed, form), (kind, is, packable, (body, after, d, stands))) =
+    let (same, _) = len_front n p bytes rest body after w front d in
+    let h : one_or_packed inner (ScalarOf kind) (Flat (Len body)) ≡ true = ap (one_or_packed inner (ScalarOf kind)) (sym same) ∙ kind_allowed k inner f (ScalarOf kind) p (ap is_map form) is allowed in
+    go (unpacked kind body) refl (unpacked_allowed inner kind body packable h)
+  where
+    small_body : AreBytes body
+    small_body = let (len, _, whole) = d.spelled in bytes_rest len body (subst AreBytes whole (bytes_front d.front after (subst AreBytes d.parts small)))
+
+    go : (o : Option (List Plain)) → unpacked kind body ≡ o → is_some o ≡ true → ⊥
+    go None e h = true≢false (sym h)
+    go (Some ps) e h = elements_no_fault (kind_wire kind) stands (suc (length body)) ps small_body e
+
+nothing_passes : (o : Option (List Record)) (T : ℕ) → passes o (nothing_inside T) ≡ false
+nothing_passes None T = refl
+nothing_passes (Some rs) T = refl
+
+deep_one : (kind : Kind) (p : Payload) → is_message kind ≡ true → one_or_packed nothing_inside kind p ≡ true → ⊥
+deep_one (ScalarOf kind) p m h = true≢false (sym m)
+deep_one (MessageOf T) p m h = not_both (message_allowed nothing_inside T p h).1 (nothing_passes (body p) T)
+deep_one (GroupOf T) p m h = not_both (group_allowed nothing_inside T p h).1 (nothing_passes (body p) T)
+
+deep_entry : (kind : Kind) → is_message kind ≡ true → has_level 0 kind ≡ true → ⊥
+deep_entry (ScalarOf kind) m h = true≢false (sym m)
+deep_entry (MessageOf T) m h = true≢false (sym h)
+deep_entry (GroupOf T) m h = true≢false (sym h)
+
+message_needs : (kind : Kind) (w : WireType) → needs_level Singular kind w ≡ true → is_message kind ≡ true
+message_needs (ScalarOf kind) w h = h
+message_needs (MessageOf T) w h = refl
+message_needs (GroupOf T) w h = refl
+
+repeated_needs : (packed : Bool) (kind : Kind) (w : WireType) → needs_level (Repeated packed) kind w ≡ true → is_message kind ≡ true
+repeated_needs packed (ScalarOf kind) w h = h
+repeated_needs packed (MessageOf T) w h = refl
+repeated_needs packed (GroupOf T) w h = refl
+
+deep_field : (form : FieldForm) (value_type : ValueType) (p : Payload) → field_allowed 0 nothing_inside form value_type p ≡ true → needs_level form value_type.kind (payload_wire p) ≡ true → ⊥
+deep_field Singular value_type p h needs = deep_one value_type.kind p (message_needs value_type.kind (payload_wire p) needs) (allowed_one 0 nothing_inside Singular value_type p refl h)
+deep_field (Repeated packed) value_type p h needs = deep_one value_type.kind p (repeated_needs packed value_type.kind (payload_wire p) needs) h
+deep_field (MapFrom key) value_type p h needs =
+    deep_entry value_type.kind (and_both (is_message value_type.kind) (same_wire (payload_wire p) wires.LengthDelimited) needs).0 (map_allowed 0 nothing_inside key value_type p h).1
+
+start_code : (p : Payload) → same_wire (payload_wire p) wires.StartGroup ≡ true → 0 < payload_levels p
+start_code (Group inside) h = omega arith
+start_code (Flat (Var v)) h = absurd (true≢false (sym h))
+start_code (Flat (Fix64 v)) h = absurd (true≢false (sym h))
+start_code (Flat (Len v)) h = absurd (true≢false (sym h))
+start_code (Flat (Fix32 v)) h = absurd (true≢false (sym h))
+
+deep_no_fault : (schema : Schema) (k : ℕ) (o : Option Field) (p : Payload) → k ≡ 0 → elim o [ None ↦ nat_le (payload_levels p) k | Some f ↦ field_allowed k (inner schema k) f.form f.value_type p ] ≡ true → opens_level o (payload_wire p) ≡ true → ⊥
+deep_no_fault schema zero None p is h opens = let le : payload_levels p ≤ 0 = leb-true (payload_levels p) 0 h in omega (arith, start_code p opens)
+deep_no_fault schema zero (Some f) p is h opens = deep_field f.form f.value_type p h opens
+deep_no_fault schema (suc k) o p is h opens = omega arith
+
+pub record_no_fault : (schema : Schema) (place : Place) (e : DecodeError) (behind : List ℕ) → AreBytes place.bytes → NextRecord schema place behind → Comes schema e place → ⊥
+record_no_fault schema place errors.Truncated behind small r (inl (some, f)) = key_no_fault errors.Truncated r.number (payload_wire r.payload) place.bytes r.behind_key r.key f
+record_no_fault schema place errors.Truncated behind small r (inr (inl (empty, opened))) = key_not_empty r.number (payload_wire r.payload) r.behind_key (subst (λ b. KeyFront r.number (payload_wire r.payload) b r.behind_key) empty r.key)
+record_no_fault schema place errors.Truncated behind small r (inr (inr (inl f))) =
+    payload_no_fault errors.Truncated r.number r.payload r.behind_key behind r.front (next_at_record schema place behind (λ n w rest. PayloadEnds w rest) r f)
+record_no_fault schema place errors.Truncated behind small r (inr (inr (inr f))) =
+    let (field, found, h) = next_at_record schema place behind (FieldThen schema place (PackedNext errors.Truncated)) r (field_next schema place (PackedNext errors.Truncated) f) in
+    packed_no_fault errors.Truncated place.levels (inner schema place.levels) field r.number r.payload r.behind_key behind (small_behind schema place behind small r) r.front (known_allowed schema place behind r field found) h
+record_no_fault schema place errors.Varint behind small r (inl f) = key_no_fault errors.Varint r.number (payload_wire r.payload) place.bytes r.behind_key r.key f
+record_no_fault schema place errors.Varint behind small r (inr (inl f)) =
+    payload_no_fault errors.Varint r.number r.payload r.behind_key behind r.front (next_at_record schema place behind (λ n w rest. PayloadPasses w rest) r f)
+record_no_fault schema place errors.Varint behind small r (inr (inr f)) =
+    let (field, found, h) = next_at_record schema place behind (FieldThen schema place (PackedNext errors.Varint)) r (field_next schema place (PackedNext errors.Varint) f) in
+    packed_no_fault errors.Varint place.levels (inner schema place.levels) field r.number r.payload r.behind_key behind (small_behind schema place behind small r) r.front (known_allowed schema place behind r field found) h
+record_no_fault schema place errors.Key behind small r f = key_no_fault errors.Key r.number (payload_wire r.payload) place.bytes r.behind_key r.key f
+record_no_fault schema place errors.WireType behind small r f =
+    let (field, found, h) = next_at_record schema place behind (FieldThen schema place (λ f w rest. (w ≢ wires.EndGroup) × (takes f.form f.value_type.kind w ≡ false))) r (field_next schema place (λ f w rest. (w ≢ wires.EndGroup) × (takes f.form f.value_type.kind w ≡ false)) f) in
+    not_both (field_taken place.levels (inner schema place.levels) field.form field.value_type r.payload (known_allowed schema place behind r field found)) h.1
+record_no_fault schema place errors.EndGroup behind small r f = payload_no_end r.payload (next_at_record schema place behind (λ n w rest. (w ≡ wires.EndGroup) × (place.open_group ≢ Some n)) r f).0
+record_no_fault schema place errors.Utf8 behind small r f =
+    let (field, found, h) = next_at_record schema place behind (FieldThen schema place TextNext) r (field_next schema place TextNext f) in
+    text_no_fault place.levels (inner schema place.levels) field r.number r.payload r.behind_key behind r.front (known_allowed schema place behind r field found) h
+record_no_fault schema place errors.Depth behind small r f =
+    deep_no_fault schema place.levels (field_at schema place.inside r.number) r.payload f.0 r.allowed (next_at_record schema place behind (λ n w rest. opens_level (field_at schema place.inside n) w ≡ true) r f.1)
+record_no_fault schema place e behind small r f = absurd f
