@@ -172,15 +172,15 @@ end_no_fault schema place e x f = absurd f
 
 -- WHERE A RECORD COMES
 
-known_allowed : (schema : Schema) (place : Place) (behind : List ℕ) (r : NextRecord schema place behind) (f : Field) → field_at schema place.inside r.number ≡ Some f →
-    field_allowed place.levels (inner schema place.levels) f.form f.value_type r.payload ≡ true
-known_allowed schema place behind r f found =
-    sym (ap (λ o. elim o [ None ↦ nat_le (payload_levels r.payload) place.levels | Some g ↦ field_allowed place.levels (inner schema place.levels) g.form g.value_type r.payload ]) found) ∙ r.allowed
+pub known_allowed : (schema : Schema) (place : Place) (n : ℕ) (p : Payload) (f : Field) → payload_allowed schema place n p ≡ true → field_at schema place.inside n ≡ Some f →
+    field_allowed place.levels (inner schema place.levels) f.form f.value_type p ≡ true
+known_allowed schema place n p f allowed found =
+    sym (ap (λ o. elim o [ None ↦ nat_le (payload_levels p) place.levels | Some g ↦ field_allowed place.levels (inner schema place.levels) g.form g.value_type p ]) found) ∙ allowed
 
-unknown_allowed : (schema : Schema) (place : Place) (behind : List ℕ) (r : NextRecord schema place behind) → field_at schema place.inside r.number ≡ None → payload_levels r.payload ≤ place.levels
-unknown_allowed schema place behind r found =
-    leb-true (payload_levels r.payload) place.levels
-    (sym (ap (λ o. elim o [ None ↦ nat_le (payload_levels r.payload) place.levels | Some g ↦ field_allowed place.levels (inner schema place.levels) g.form g.value_type r.payload ]) found) ∙ r.allowed)
+pub unknown_allowed : (schema : Schema) (place : Place) (n : ℕ) (p : Payload) → payload_allowed schema place n p ≡ true → field_at schema place.inside n ≡ None → payload_levels p ≤ place.levels
+unknown_allowed schema place n p allowed found =
+    leb-true (payload_levels p) place.levels
+    (sym (ap (λ o. elim o [ None ↦ nat_le (payload_levels p) place.levels | Some g ↦ field_allowed place.levels (inner schema place.levels) g.form g.value_type p ]) found) ∙ allowed)
 
 payload_no_fault : (e : DecodeError) (n : ℕ) (p : Payload) (bytes rest : List ℕ) → PayloadFront n p bytes rest → PlainFault e (payload_wire p) bytes → ⊥
 payload_no_fault e n (Flat p) bytes rest f h = plain_no_fault e p bytes rest f h
@@ -189,7 +189,7 @@ payload_no_fault errors.Varint n (Group inside) bytes rest f h = h
 payload_no_fault e n (Group inside) bytes rest f h = absurd h
 
 -- a delimited payload comes next
-len_front : (n : ℕ) (p : Payload) (bytes rest body after : List ℕ) → payload_wire p ≡ wires.LengthDelimited → PayloadFront n p bytes rest → DelimitedFront body bytes after → (p ≡ Flat (Len body)) × (rest ≡ after)
+pub len_front : (n : ℕ) (p : Payload) (bytes rest body after : List ℕ) → payload_wire p ≡ wires.LengthDelimited → PayloadFront n p bytes rest → DelimitedFront body bytes after → (p ≡ Flat (Len body)) × (rest ≡ after)
 len_front n (Flat (Len b)) bytes rest body after e f d = let (same, behind) = delimited_once b body bytes rest after (plain_delimited b bytes rest f) d in (ap (λ b. Flat (Len b)) same, behind)
 len_front n (Flat (Var v)) bytes rest body after e f d = let (b, is) = len_payload (Flat (Var v)) e in absurd cc
 len_front n (Flat (Fix64 v)) bytes rest body after e f d = let (b, is) = len_payload (Flat (Fix64 v)) e in absurd cc
@@ -200,7 +200,7 @@ small_behind : (schema : Schema) (place : Place) (behind : List ℕ) → AreByte
 small_behind schema place behind small r = bytes_rest r.key.front r.behind_key (subst AreBytes r.key.parts small)
 
 -- one value or a packed record of the kind
-kind_allowed : (k : ℕ) (inner : AllowsInside) (f : Field) (kind : Kind) (p : Payload) → is_map f.form ≡ false → f.value_type.kind ≡ kind → field_allowed k inner f.form f.value_type p ≡ true → one_or_packed inner kind p ≡ true
+pub kind_allowed : (k : ℕ) (inner : AllowsInside) (f : Field) (kind : Kind) (p : Payload) → is_map f.form ≡ false → f.value_type.kind ≡ kind → field_allowed k inner f.form f.value_type p ≡ true → one_or_packed inner kind p ≡ true
 kind_allowed k inner f kind p m is h = ap (λ c. one_or_packed inner c p) (sym is) ∙ allowed_one k inner f.form f.value_type p m h
 
 text_no_fault : (k : ℕ) (inner : AllowsInside) (f : Field) (n : ℕ) (p : Payload) (bytes rest : List ℕ) → PayloadFront n p bytes rest → field_allowed k inner f.form f.value_type p ≡ true → TextNext f (payload_wire p) bytes → ⊥
@@ -273,21 +273,21 @@ record_no_fault schema place errors.Truncated behind small r (inr (inr (inl f)))
     payload_no_fault errors.Truncated r.number r.payload r.behind_key behind r.front (next_at_record schema place behind (λ n w rest. PayloadEnds w rest) r f)
 record_no_fault schema place errors.Truncated behind small r (inr (inr (inr f))) =
     let (field, found, h) = next_at_record schema place behind (FieldThen schema place (PackedNext errors.Truncated)) r (field_next schema place (PackedNext errors.Truncated) f) in
-    packed_no_fault errors.Truncated place.levels (inner schema place.levels) field r.number r.payload r.behind_key behind (small_behind schema place behind small r) r.front (known_allowed schema place behind r field found) h
+    packed_no_fault errors.Truncated place.levels (inner schema place.levels) field r.number r.payload r.behind_key behind (small_behind schema place behind small r) r.front (known_allowed schema place r.number r.payload field r.allowed found) h
 record_no_fault schema place errors.Varint behind small r (inl f) = key_no_fault errors.Varint r.number (payload_wire r.payload) place.bytes r.behind_key r.key f
 record_no_fault schema place errors.Varint behind small r (inr (inl f)) =
     payload_no_fault errors.Varint r.number r.payload r.behind_key behind r.front (next_at_record schema place behind (λ n w rest. PayloadPasses w rest) r f)
 record_no_fault schema place errors.Varint behind small r (inr (inr f)) =
     let (field, found, h) = next_at_record schema place behind (FieldThen schema place (PackedNext errors.Varint)) r (field_next schema place (PackedNext errors.Varint) f) in
-    packed_no_fault errors.Varint place.levels (inner schema place.levels) field r.number r.payload r.behind_key behind (small_behind schema place behind small r) r.front (known_allowed schema place behind r field found) h
+    packed_no_fault errors.Varint place.levels (inner schema place.levels) field r.number r.payload r.behind_key behind (small_behind schema place behind small r) r.front (known_allowed schema place r.number r.payload field r.allowed found) h
 record_no_fault schema place errors.Key behind small r f = key_no_fault errors.Key r.number (payload_wire r.payload) place.bytes r.behind_key r.key f
 record_no_fault schema place errors.WireType behind small r f =
     let (field, found, h) = next_at_record schema place behind (FieldThen schema place (λ f w rest. (w ≢ wires.EndGroup) × (takes f.form f.value_type.kind w ≡ false))) r (field_next schema place (λ f w rest. (w ≢ wires.EndGroup) × (takes f.form f.value_type.kind w ≡ false)) f) in
-    not_both (field_taken place.levels (inner schema place.levels) field.form field.value_type r.payload (known_allowed schema place behind r field found)) h.1
+    not_both (field_taken place.levels (inner schema place.levels) field.form field.value_type r.payload (known_allowed schema place r.number r.payload field r.allowed found)) h.1
 record_no_fault schema place errors.EndGroup behind small r f = payload_no_end r.payload (next_at_record schema place behind (λ n w rest. (w ≡ wires.EndGroup) × (place.open_group ≢ Some n)) r f).0
 record_no_fault schema place errors.Utf8 behind small r f =
     let (field, found, h) = next_at_record schema place behind (FieldThen schema place TextNext) r (field_next schema place TextNext f) in
-    text_no_fault place.levels (inner schema place.levels) field r.number r.payload r.behind_key behind r.front (known_allowed schema place behind r field found) h
+    text_no_fault place.levels (inner schema place.levels) field r.number r.payload r.behind_key behind r.front (known_allowed schema place r.number r.payload field r.allowed found) h
 record_no_fault schema place errors.Depth behind small r f =
     deep_no_fault schema place.levels (field_at schema place.inside r.number) r.payload f.0 r.allowed (next_at_record schema place behind (λ n w rest. opens_level (field_at schema place.inside n) w ≡ true) r f.1)
 record_no_fault schema place e behind small r f = absurd f

@@ -149,3 +149,24 @@ payload_once n (Flat p) (Flat q) bytes rest end same f g = let (e, behind) = pla
 payload_once n (Group a) (Group b) bytes rest end same f g = let (e, behind) = group_once n a b bytes rest end f g in (ap Group e, behind)
 payload_once n (Flat p) (Group b) bytes rest end same f g = absurd (plain_no_start p same)
 payload_once n (Group a) (Flat q) bytes rest end same f g = absurd (plain_no_start q (sym same))
+
+-- ONE RECORD
+
+pub record RecordParts (n : ℕ) (p : Payload) (bytes rest : List ℕ) : Type 0 where
+  pub behind_key : List ℕ
+  pub key : KeyFront n (payload_wire p) bytes behind_key
+  pub payload : PayloadFront n p behind_key rest
+
+pub record_parts : (n : ℕ) (p : Payload) (bytes rest : List ℕ) → RecordFront (record { number = n; payload = p }) bytes rest → RecordParts n p bytes rest
+record_parts n (Flat p) bytes rest f =
+    let x : PlainFirst n p NoRecords bytes rest = plain_first n p NoRecords bytes rest (record { front = f.front; spelled = f.spelled; parts = f.parts }) in
+    record { behind_key = x.behind_key; key = x.key; payload = subst (PlainFront p x.behind_key) (none_first x.behind rest x.records) x.payload }
+record_parts n (Group inside) bytes rest f =
+    let x : GroupFirst n inside NoRecords bytes rest = group_first n inside NoRecords bytes rest (record { front = f.front; spelled = f.spelled; parts = f.parts }) in
+    record { behind_key = x.behind_key; key = x.key; payload = subst (GroupFront n inside x.behind_key) (none_first x.behind rest x.records) x.payload }
+
+pub record_front : (n : ℕ) (p : Payload) (bytes behind_key rest : List ℕ) → KeyFront n (payload_wire p) bytes behind_key → PayloadFront n p behind_key rest → RecordFront (record { number = n; payload = p }) bytes rest
+record_front n (Flat p) bytes behind_key rest k f =
+    let x = plain_front n p NoRecords bytes behind_key rest rest k f (none_front rest) in record { front = x.front; spelled = x.spelled; parts = x.parts }
+record_front n (Group inside) bytes behind_key rest k f =
+    let x = group_front n inside NoRecords bytes behind_key rest rest k f (none_front rest) in record { front = x.front; spelled = x.spelled; parts = x.parts }
