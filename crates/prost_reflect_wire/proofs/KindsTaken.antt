@@ -13,7 +13,7 @@ use Rattle.prost_reflect_wire.specs.Schema.{Kind, ScalarOf, MessageOf, GroupOf, 
 use Rattle.prost_reflect_wire.specs.Grammar.{AllowsInside, fits, body, is_len, is_group_payload, one_allowed, packed_allowed, has_level, in_entry_allowed, field_allowed, unpacked}
 use Rattle.prost_reflect_wire.specs.Fault.{same_wire, one_takes, packed_takes, takes, is_map}
 use Rattle.prost_reflect_wire.proofs.Deeper.{and_both}
-use Rattle.prost_reflect_wire.proofs.RecordFronts.{plain_no_start}
+use Rattle.prost_reflect_wire.proofs.RecordFronts.{plain_no_group}
 
 -- PAYLOADS BY THEIR WIRE TYPES
 
@@ -40,7 +40,7 @@ len_payload (Group inside) e = absurd (wires_apart wires.StartGroup wires.Length
 
 pub group_payload : (p : Payload) → payload_wire p ≡ wires.StartGroup → (inside : Records) × (p ≡ Group inside)
 group_payload (Group inside) e = (inside, refl)
-group_payload (Flat p) e = absurd (plain_no_start p e)
+group_payload (Flat p) e = absurd (plain_no_group p e)
 
 -- A payload that a kind takes has the kind's wire type.
 fits_wire : (kind : ScalarKind) (p : Payload) → fits kind p ≡ true → same_wire (payload_wire p) (kind_wire kind) ≡ true

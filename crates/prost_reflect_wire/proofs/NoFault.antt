@@ -18,7 +18,7 @@ use Rattle.prost_reflect_wire.proofs.Sound.{bind_ok, plain_sound}
 use Rattle.prost_reflect_wire.proofs.Reading.{plain_read}
 use Rattle.prost_reflect_wire.proofs.KeyFronts.{key_once, key_no_fault}
 use Rattle.prost_reflect_wire.proofs.PlainFronts.{plain_once, plain_no_fault, delimited_once, plain_delimited}
-use Rattle.prost_reflect_wire.proofs.RecordFronts.{bytes_front, bytes_rest, payload_no_end, key_not_empty}
+use Rattle.prost_reflect_wire.proofs.BodyFronts.{payload_no_end, key_not_empty, key_bytes, plain_bytes, body_bytes}
 use Rattle.prost_reflect_wire.proofs.Places.{inner, payload_allowed, NextRecord, EndNext, AtEnd, AtStop}
 use Rattle.prost_reflect_wire.proofs.KindsTaken.{not_both, len_payload, group_payload, one_or_packed, allowed_one, text_allowed, unpacked_allowed, map_allowed, message_allowed, group_allowed, field_taken}
 
@@ -85,7 +85,7 @@ elements_no_fault w (BehindElement {bytes} p rest front is stands) (suc fuel) ps
     go (b ∷ bytes) front small h more =
         let x : PlainsFirst fuel w (b ∷ bytes) = plains_first fuel w b bytes ps small h in
         let (same, behind) = plain_once x.plain p (b ∷ bytes) x.rest rest (x.wire ∙ sym is) x.front front in
-        more x.plains (bytes_rest front.front rest (subst AreBytes front.parts small)) (ap (plains_within fuel w) (sym behind) ∙ x.behind)
+        more x.plains (plain_bytes p (b ∷ bytes) rest small front) (ap (plains_within fuel w) (sym behind) ∙ x.behind)
 
 -- WHAT COMES NEXT
 
@@ -196,9 +196,6 @@ len_front n (Flat (Fix64 v)) bytes rest body after e f d = let (b, is) = len_pay
 len_front n (Flat (Fix32 v)) bytes rest body after e f d = let (b, is) = len_payload (Flat (Fix32 v)) e in absurd cc
 len_front n (Group inside) bytes rest body after e f d = let (b, is) = len_payload (Group inside) e in absurd cc
 
-small_behind : (schema : Schema) (place : Place) (behind : List ℕ) → AreBytes place.bytes → (r : NextRecord schema place behind) → AreBytes r.behind_key
-small_behind schema place behind small r = bytes_rest r.key.front r.behind_key (subst AreBytes r.key.parts small)
-
 -- one value or a packed record of the kind
 pub kind_allowed : (k : ℕ) (inner : AllowsInside) (f : Field) (kind : Kind) (p : Payload) → is_map f.form ≡ false → f.value_type.kind ≡ kind → field_allowed k inner f.form f.value_type p ≡ true → one_or_packed inner kind p ≡ true
 kind_allowed k inner f kind p m is h = ap (λ c. one_or_packed inner c p) (sym is) ∙ allowed_one k inner f.form f.value_type p m h
@@ -217,12 +214,9 @@ packed_no_fault e k inner f n p bytes rest small front allowed (w, (packed, form
     let h : one_or_packed inner (ScalarOf kind) (Flat (Len body)) ≡ true = ap (one_or_packed inner (ScalarOf kind)) (sym same) ∙ kind_allowed k inner f (ScalarOf kind) p (ap is_map form) is allowed in
     go (unpacked kind body) refl (unpacked_allowed inner kind body packable h)
   where
-    small_body : AreBytes body
-    small_body = let (len, _, whole) = d.spelled in bytes_rest len body (subst AreBytes whole (bytes_front d.front after (subst AreBytes d.parts small)))
-
     go : (o : Option (List Plain)) → unpacked kind body ≡ o → is_some o ≡ true → ⊥
     go None e h = true≢false (sym h)
-    go (Some ps) e h = elements_no_fault (kind_wire kind) stands (suc (length body)) ps small_body e
+    go (Some ps) e h = elements_no_fault (kind_wire kind) stands (suc (length body)) ps (body_bytes body bytes after small d) e
 
 nothing_passes : (o : Option (List Record)) (T : ℕ) → passes o (nothing_inside T) ≡ false
 nothing_passes None T = refl
@@ -273,13 +267,13 @@ record_no_fault schema place errors.Truncated behind small r (inr (inr (inl f)))
     payload_no_fault errors.Truncated r.number r.payload r.behind_key behind r.front (next_at_record schema place behind (λ n w rest. PayloadEnds w rest) r f)
 record_no_fault schema place errors.Truncated behind small r (inr (inr (inr f))) =
     let (field, found, h) = next_at_record schema place behind (FieldThen schema place (PackedNext errors.Truncated)) r (field_next schema place (PackedNext errors.Truncated) f) in
-    packed_no_fault errors.Truncated place.levels (inner schema place.levels) field r.number r.payload r.behind_key behind (small_behind schema place behind small r) r.front (known_allowed schema place r.number r.payload field r.allowed found) h
+    packed_no_fault errors.Truncated place.levels (inner schema place.levels) field r.number r.payload r.behind_key behind (key_bytes r.number (payload_wire r.payload) place.bytes r.behind_key small r.key) r.front (known_allowed schema place r.number r.payload field r.allowed found) h
 record_no_fault schema place errors.Varint behind small r (inl f) = key_no_fault errors.Varint r.number (payload_wire r.payload) place.bytes r.behind_key r.key f
 record_no_fault schema place errors.Varint behind small r (inr (inl f)) =
     payload_no_fault errors.Varint r.number r.payload r.behind_key behind r.front (next_at_record schema place behind (λ n w rest. PayloadPasses w rest) r f)
 record_no_fault schema place errors.Varint behind small r (inr (inr f)) =
     let (field, found, h) = next_at_record schema place behind (FieldThen schema place (PackedNext errors.Varint)) r (field_next schema place (PackedNext errors.Varint) f) in
-    packed_no_fault errors.Varint place.levels (inner schema place.levels) field r.number r.payload r.behind_key behind (small_behind schema place behind small r) r.front (known_allowed schema place r.number r.payload field r.allowed found) h
+    packed_no_fault errors.Varint place.levels (inner schema place.levels) field r.number r.payload r.behind_key behind (key_bytes r.number (payload_wire r.payload) place.bytes r.behind_key small r.key) r.front (known_allowed schema place r.number r.payload field r.allowed found) h
 record_no_fault schema place errors.Key behind small r f = key_no_fault errors.Key r.number (payload_wire r.payload) place.bytes r.behind_key r.key f
 record_no_fault schema place errors.WireType behind small r f =
     let (field, found, h) = next_at_record schema place behind (FieldThen schema place (λ f w rest. (w ≢ wires.EndGroup) × (takes f.form f.value_type.kind w ≡ false))) r (field_next schema place (λ f w rest. (w ≢ wires.EndGroup) × (takes f.form f.value_type.kind w ≡ false)) f) in

@@ -11,7 +11,8 @@ use Rattle.prost_reflect_wire.specs.Grammar.{AllowsInside, body, has_level, in_e
 use Rattle.prost_reflect_wire.specs.Front.{KeyFront, DelimitedFront, RecordFront, PayloadFront}
 use Rattle.prost_reflect_wire.specs.Fault.{Place, OfType, OfEntry, OfNothing, field_at, is_map, Comes, Stands, Here, Behind, InMessage, InGroup, InUnknown, InEntry}
 use Rattle.prost_reflect_wire.proofs.KeyFronts.{key_once}
-use Rattle.prost_reflect_wire.proofs.RecordFronts.{bytes_front, bytes_rest, key_not_empty, payload_no_end, payload_once, record_parts, RecordParts}
+use Rattle.prost_reflect_wire.proofs.RecordFronts.{payload_once, record_parts, RecordParts}
+use Rattle.prost_reflect_wire.proofs.BodyFronts.{payload_no_end, key_not_empty, key_bytes, body_bytes}
 use Rattle.prost_reflect_wire.proofs.Places.{inner, payload_allowed, allowed_at, allows_at, Ended, Body, NextRecord, EndNext, AtEnd, AtStop, FirstOf, first_of, read_body, Passed, body_passes, levels_inside, entry_same}
 use Rattle.prost_reflect_wire.proofs.KindsTaken.{message_allowed, group_allowed, map_allowed, group_payload}
 use Rattle.prost_reflect_wire.proofs.NoFault.{known_allowed, unknown_allowed, len_front, kind_allowed, end_no_fault, record_no_fault}
@@ -56,12 +57,6 @@ keyed schema place n w behind_key rest rs k other b = elim (first_of schema plac
   | inr f ↦ first_keyed schema place n w behind_key rest k f
 ]
 
-small_behind : (schema : Schema) (place : Place) (n : ℕ) (w : WireType) (behind_key rest : List ℕ) (rs : Records) → KeyFront n w place.bytes behind_key → Body schema place rs rest → AreBytes behind_key
-small_behind schema place n w behind_key rest rs k b = bytes_rest k.front behind_key (subst AreBytes k.parts b.small)
-
-small_body : (body bytes after : List ℕ) → AreBytes bytes → DelimitedFront body bytes after → AreBytes body
-small_body body bytes after small d = let (len, _, whole) = d.spelled in bytes_rest len body (subst AreBytes whole (bytes_front d.front after (subst AreBytes d.parts small)))
-
 -- AT EACH PLACE
 
 here_none : (schema : Schema) (e : DecodeError) (place : Place) → Comes schema e place → NoBody schema place
@@ -73,8 +68,8 @@ here_none schema e place c rs rest b = elim (first_of schema place rs rest b) [
 behind_none : (schema : Schema) (place : Place) (r : Record) (behind : List ℕ) → RecordFront r place.bytes behind → NoBody schema (record place { bytes = behind }) → NoBody schema place
 behind_none schema place r behind front none rs rest b =
     let x : RecordParts r.number r.payload place.bytes behind = record_parts r.number r.payload place.bytes behind front in
-    let y : Keyed schema place r.number (payload_wire r.payload) x.behind_key rest = keyed schema place r.number (payload_wire r.payload) x.behind_key rest rs x.key (payload_no_end r.payload) b in
-    let same = payload_once r.number y.payload r.payload x.behind_key y.behind behind y.wire y.front x.payload in
+    let y : Keyed schema place r.number (payload_wire r.payload) x.mid rest = keyed schema place r.number (payload_wire r.payload) x.mid rest rs x.key (payload_no_end r.payload) b in
+    let same = payload_once r.number y.payload r.payload x.mid y.behind behind y.wire y.front x.payload in
     none y.records rest (subst (λ l. Body schema (record place { bytes = l }) y.records rest) same.1 y.body)
 
 len_no_end : wires.LengthDelimited ≢ wires.EndGroup
@@ -96,7 +91,7 @@ message_none schema place n T k f bytes rest after found m is left key d none rs
     let p : Passed bytes (inner schema place.levels T) = body_passes bytes (inner schema place.levels T)
         (ap (λ p. passes (body p) (inner schema place.levels T)) (sym same) ∙ (message_allowed (inner schema place.levels) T y.payload h).1) in
     let there : Place = record { bytes = bytes; inside = OfType T; levels = k; open_group = None } in
-    let small : AreBytes bytes = small_body bytes rest after (small_behind schema place n wires.LengthDelimited rest end rs key b) d in
+    let small : AreBytes bytes = body_bytes bytes rest after (key_bytes n wires.LengthDelimited place.bytes rest b.small key) d in
     none p.records [] (read_body schema there p.records small refl p.found (sym (allows_at schema there T (items p.records) refl) ∙ inside_allowed schema place.levels k T (items p.records) left p.holds))
 
 -- a group whose records are allowed inside
@@ -118,7 +113,7 @@ group_none schema place n T k f rest found m is left key none rs end b =
     let h = kind_allowed place.levels (inner schema place.levels) f (GroupOf T) y.payload m is (known_allowed schema place n y.payload f y.allowed found) in
     let holds : inner schema place.levels T (items inside) ≡ true = ap (λ p. passes (body p) (inner schema place.levels T)) (sym same) ∙ (group_allowed (inner schema place.levels) T y.payload h).1 in
     let there : Place = record { bytes = rest; inside = OfType T; levels = k; open_group = Some n } in
-    none inside y.behind (group_body schema there n inside y.behind (small_behind schema place n wires.StartGroup rest end rs key b) refl (subst (λ p. PayloadFront n p rest y.behind) same y.front)
+    none inside y.behind (group_body schema there n inside y.behind (key_bytes n wires.StartGroup place.bytes rest b.small key) refl (subst (λ p. PayloadFront n p rest y.behind) same y.front)
     (sym (allows_at schema there T (items inside) refl) ∙ inside_allowed schema place.levels k T (items inside) left holds))
 
 unknown_none : (schema : Schema) (place : Place) (n k : ℕ) (rest : List ℕ) → field_at schema place.inside n ≡ None → place.levels ≡ suc k
@@ -128,7 +123,7 @@ unknown_none schema place n k rest found left key none rs end b =
     let (inside, same) = group_payload y.payload y.wire in
     let fits : raw_levels inside ≤ k = omega (arith, unknown_allowed schema place n y.payload y.allowed found, ap payload_levels same, left) in
     let there : Place = record { bytes = rest; inside = OfNothing; levels = k; open_group = Some n } in
-    none inside y.behind (group_body schema there n inside y.behind (small_behind schema place n wires.StartGroup rest end rs key b) refl (subst (λ p. PayloadFront n p rest y.behind) same y.front) (levels_inside k inside fits))
+    none inside y.behind (group_body schema there n inside y.behind (key_bytes n wires.StartGroup place.bytes rest b.small key) refl (subst (λ p. PayloadFront n p rest y.behind) same y.front) (levels_inside k inside fits))
 
 entry_none : (schema : Schema) (place : Place) (n : ℕ) (f : Field) (key_type : ValueType) (body rest after : List ℕ) → field_at schema place.inside n ≡ Some f → f.form ≡ MapFrom key_type
     → KeyFront n wires.LengthDelimited place.bytes rest → DelimitedFront body rest after → NoBody schema (record { bytes = body; inside = OfEntry key_type f.value_type; levels = place.levels; open_group = None }) → NoBody schema place
@@ -140,7 +135,7 @@ entry_none schema place n f key_type bytes rest after found form key d none rs e
     ap (λ c. field_allowed place.levels (inner schema place.levels) c f.value_type y.payload) (sym form) ∙ known_allowed schema place n y.payload f y.allowed found in
     let p : Passed bytes test = body_passes bytes test (ap (λ p. passes (body p) test) (sym same) ∙ (map_allowed place.levels (inner schema place.levels) key_type f.value_type y.payload h).2) in
     let there : Place = record { bytes = bytes; inside = OfEntry key_type f.value_type; levels = place.levels; open_group = None } in
-    let small : AreBytes bytes = small_body bytes rest after (small_behind schema place n wires.LengthDelimited rest end rs key b) d in
+    let small : AreBytes bytes = body_bytes bytes rest after (key_bytes n wires.LengthDelimited place.bytes rest b.small key) d in
     none p.records [] (read_body schema there p.records small refl p.found (sym (entry_same schema there key_type f.value_type (items p.records) refl) ∙ p.holds))
 
 -- A body and a fault cannot both stand at a place.

@@ -6,14 +6,15 @@ use Rattle.std.proofs.lemmas.Bool.{leb-true, le-leb}
 use Rattle.prost_reflect_wire.specs.declared.key.WireType.{WireType}
 use Rattle.prost_reflect_wire.specs.declared.key.WireType.TheVariants as wires
 use Rattle.prost_reflect_wire.specs.Varint.{AreBytes, ◌>>=◌}
-use Rattle.prost_reflect_wire.specs.Record.{Plain, Len, Records, NoRecords, PlainRecord, GroupRecord, Record, Payload, Flat, Group, items, raw_levels, payload_levels, payload_wire, Spells, read}
+use Rattle.prost_reflect_wire.specs.Record.{Plain, Len, Records, NoRecords, PlainRecord, GroupRecord, Record, Payload, Flat, Group, before, items, raw_levels, payload_levels, payload_wire, Spells, read}
 use Rattle.prost_reflect_wire.specs.Schema.{Schema, Field, ValueType, known, passes}
 use Rattle.prost_reflect_wire.specs.Grammar.{body, AllowsInside, nothing_inside, one_allowed, in_entry_allowed, field_allowed, record_allowed, allows}
 use Rattle.prost_reflect_wire.specs.Front.{KeyFront, RecordsFront, PayloadFront}
 use Rattle.prost_reflect_wire.specs.Fault.{Place, Inside, OfType, OfEntry, OfNothing, entry_field, field_at}
 use Rattle.prost_reflect_wire.proofs.Deeper.{and_both}
 use Rattle.prost_reflect_wire.proofs.Sound.{read_spells}
-use Rattle.prost_reflect_wire.proofs.RecordFronts.{bytes_rest, none_first, plain_first, group_first, PlainFirst, GroupFirst}
+use Rattle.prost_reflect_wire.proofs.RecordFronts.{record_at, record_parts, RecordParts, first_parts, FrontParts}
+use Rattle.prost_reflect_wire.proofs.BodyFronts.{none_first, key_bytes, payload_bytes}
 
 -- WHAT IS ALLOWED AT A PLACE
 
@@ -68,6 +69,10 @@ pub data EndNext (place : Place) : Type 0 where
   AtEnd : place.bytes ≡ [] → place.open_group ≡ None → EndNext place
   AtStop : (n : ℕ) (rest : List ℕ) → place.open_group ≡ Some n → KeyFront n wires.EndGroup place.bytes rest → EndNext place
 
+pub items_first : (n : ℕ) (p : Payload) (rs : Records) → items (before (record_at n p) rs) ≡ record_at n p ∷ items rs
+items_first n (Flat p) rs = refl
+items_first n (Group inside) rs = refl
+
 pub record FirstOf (schema : Schema) (place : Place) (rest : List ℕ) : Type 0 where
   pub behind : List ℕ
   pub next : NextRecord schema place behind
@@ -78,29 +83,23 @@ end_next : (place : Place) (end rest : List ℕ) (opened : Option ℕ) → place
 end_next place end rest None is at e = AtEnd (at ∙ e.0) is
 end_next place end rest (Some n) is at e = AtStop n rest is (subst (λ b. KeyFront n wires.EndGroup b rest) (sym at) e)
 
+first_behind : (schema : Schema) (place : Place) (n : ℕ) (p : Payload) (rs : Records) (rest : List ℕ) → Body schema place (before (record_at n p) rs) rest → FirstOf schema place rest
+first_behind schema place n p rs rest b =
+    let f : FrontParts (record_at n p) rs place.bytes b.end = first_parts (record_at n p) rs place.bytes b.end b.records in
+    let r : RecordParts n p place.bytes f.mid = record_parts n p place.bytes f.mid f.first in
+    let allowed = and_both (payload_allowed schema place n p) (list_all (allowed_at schema place) (items rs)) (ap (list_all (allowed_at schema place)) (sym (items_first n p rs)) ∙ b.allowed) in
+    record {
+      behind = f.mid;
+      next = record { number = n; payload = p; behind_key = r.mid; key = r.key; front = r.payload; allowed = allowed.0 };
+      records = rs;
+      body = record { small = payload_bytes n p r.mid f.mid (key_bytes n (payload_wire p) place.bytes r.mid b.small r.key) r.payload; end = b.end; records = f.others; ends = b.ends; allowed = allowed.1 };
+    }
+
 -- What comes next where a body stands.
 pub first_of : (schema : Schema) (place : Place) (rs : Records) (rest : List ℕ) → Body schema place rs rest → EndNext place ⊎ FirstOf schema place rest
 first_of schema place NoRecords rest b = inl (end_next place b.end rest place.open_group refl (none_first place.bytes b.end b.records) b.ends)
-first_of schema place (PlainRecord n p rs) rest b =
-    let f : PlainFirst n p rs place.bytes b.end = plain_first n p rs place.bytes b.end b.records in
-    let both = and_both (payload_allowed schema place n (Flat p)) (list_all (allowed_at schema place) (items rs)) b.allowed in
-    inr (record {
-      behind = f.behind;
-      next = record { number = n; payload = Flat p; behind_key = f.behind_key; key = f.key; front = f.payload; allowed = both.0 };
-      records = rs;
-      body = record { small = bytes_rest f.payload.front f.behind (subst AreBytes f.payload.parts (bytes_rest f.key.front f.behind_key (subst AreBytes f.key.parts b.small))); end = b.end; records = f.records; ends = b.ends; allowed = both.1 };
-    })
-first_of schema place (GroupRecord n inside rs) rest b =
-    let f : GroupFirst n inside rs place.bytes b.end = group_first n inside rs place.bytes b.end b.records in
-    let both = and_both (payload_allowed schema place n (Group inside)) (list_all (allowed_at schema place) (items rs)) b.allowed in
-    let small : AreBytes f.behind_key = bytes_rest f.key.front f.behind_key (subst AreBytes f.key.parts b.small) in
-    let stop : AreBytes f.payload.end = bytes_rest f.payload.records.front f.payload.end (subst AreBytes f.payload.records.parts small) in
-    inr (record {
-      behind = f.behind;
-      next = record { number = n; payload = Group inside; behind_key = f.behind_key; key = f.key; front = f.payload; allowed = both.0 };
-      records = rs;
-      body = record { small = bytes_rest f.payload.stop.front f.behind (subst AreBytes f.payload.stop.parts stop); end = b.end; records = f.records; ends = b.ends; allowed = both.1 };
-    })
+first_of schema place (PlainRecord n p rs) rest b = inr (first_behind schema place n (Flat p) rs rest b)
+first_of schema place (GroupRecord n inside rs) rest b = inr (first_behind schema place n (Group inside) rs rest b)
 
 -- BODIES INSIDE
 
