@@ -89,7 +89,7 @@ message_none schema place n T k f bytes rest after found m is left key d none rs
     let same : y.payload ≡ Flat (Len bytes) = (len_front n y.payload rest y.behind bytes after y.wire y.front d).0 in
     let h = kind_allowed place.levels (inner schema place.levels) f (MessageOf T) y.payload m is (known_allowed schema place n y.payload f y.allowed found) in
     let p : Passed bytes (inner schema place.levels T) = body_passes bytes (inner schema place.levels T)
-        (ap (λ p. passes (body p) (inner schema place.levels T)) (sym same) ∙ (message_allowed (inner schema place.levels) T y.payload h).1) in
+    (ap (λ p. passes (body p) (inner schema place.levels T)) (sym same) ∙ (message_allowed (inner schema place.levels) T y.payload h).1) in
     let there : Place = record { bytes = bytes; inside = OfType T; levels = k; open_group = None } in
     let small : AreBytes bytes = body_bytes bytes rest after (key_bytes n wires.LengthDelimited place.bytes rest b.small key) d in
     none p.records [] (read_body schema there p.records small refl p.found (sym (allows_at schema there T (items p.records) refl) ∙ inside_allowed schema place.levels k T (items p.records) left p.holds))

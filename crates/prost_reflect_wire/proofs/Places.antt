@@ -161,8 +161,8 @@ entry_same schema place key value_type rs is = all rs ∙ ap (λ i. list_all (al
     one : (p : Payload) (first second : Bool) →
         (if first then one_allowed (inner schema place.levels) key.kind p else if second then one_allowed (inner schema place.levels) value_type.kind p else nat_le (payload_levels p) place.levels)
         ≡ elim (if first then Some (entry_field 1 key) else if second then Some (entry_field 2 value_type) else None) [
-        | None ↦ nat_le (payload_levels p) place.levels
-        | Some f ↦ field_allowed place.levels (inner schema place.levels) f.form f.value_type p
+          | None ↦ nat_le (payload_levels p) place.levels
+          | Some f ↦ field_allowed place.levels (inner schema place.levels) f.form f.value_type p
         ]
     one p true second = refl
     one p false true = refl

@@ -68,10 +68,18 @@ record FirstParts (n : ℕ) (p : Payload) (rs : Records) (bytes : List ℕ) : Ty
 
 spells_parts : (n : ℕ) (p : Payload) (rs : Records) (bytes : List ℕ) → Spells (before (record_at n p) rs) bytes → FirstParts n p rs bytes
 spells_parts n (Flat p) rs bytes (key, body, after, k, b, s, whole) = record {
-  one = key ++ body; after = after; first = (key, body, [], k, b, refl, simp append-nil); others = s; parts = whole ∙ sym (append_assoc key body after);
+  one = key ++ body;
+  after = after;
+  first = (key, body, [], k, b, refl, simp append-nil);
+  others = s;
+  parts = whole ∙ sym (append_assoc key body after);
 }
 spells_parts n (Group inside) rs bytes (key, body, stop, after, k, b, t, s, whole) = record {
-  one = key ++ (body ++ stop); after = after; first = (key, body, stop, [], k, b, t, refl, simp append-nil); others = s; parts = rw whole (simp append_assoc);
+  one = key ++ (body ++ stop);
+  after = after;
+  first = (key, body, stop, [], k, b, t, refl, simp append-nil);
+  others = s;
+  parts = rw whole (simp append_assoc);
 }
 
 pub first_front : (r : Record) (rs : Records) (bytes mid rest : List ℕ) → RecordFront r bytes mid → RecordsFront rs mid rest → RecordsFront (before r rs) bytes rest

@@ -15,6 +15,7 @@ pub mod Reduction
 pub mod Edit
 pub mod Fault
 pub mod Laws
+pub mod LawsOfFaults
 pub mod ExampleSchemas
 pub mod ExampleRows
 pub mod ExampleFaults

@@ -4,6 +4,8 @@ ghost use Rattle.prost_reflect_wire.specs.ExampleRows.{WorkedRows};
 ghost use Rattle.prost_reflect_wire.specs.ExampleFaults.{WorkedFaults};
 ghost use Rattle.prost_reflect_wire.specs.Laws.{OneReading, ReadIsSpells, WrittenSpells, AcceptsIsTest, MeaningBySteps, Commute, SameBehind, LevelsFree, AllowedFurther, WrittenIsRead, EntriesMean, ScalarBack, MessageBack, ListBack, PackedBack, MapBack, RecordsMean, EncodedSpells, Canonicity, RecordsAllowed, RoundTrip, MergedMeans, PiecesJoin, ReadIsValid, MeaningOrdered, StrayBack, KeptWell, KeptContent, SetWell};
 
+pub mod faults;
+
 /// Bytes spell at most one list of records.
 pub fn one_reading()
     ensures { OneReading }

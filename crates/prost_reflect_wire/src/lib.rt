@@ -12,6 +12,9 @@ mod varint;
 pub use buffer::BackBuffer;
 pub use error::{DecodeError, EncodeError};
 pub use key::{FieldNumber, WireType, decode_key};
-pub use payload::{delimited_at, fixed32_at, fixed64_at, low_i32, low_u32, sign_extended, unzigzag32, unzigzag64, zigzag32, zigzag64};
+pub use payload::{
+    delimited_at, fixed32_at, fixed64_at, low_i32, low_u32, sign_extended, unzigzag32, unzigzag64,
+    zigzag32, zigzag64,
+};
 pub use unknown::{RECURSION_LIMIT, UnknownField, UnknownFieldSet, UnknownFieldValue, value_at};
 pub use varint::decode_varint;
