@@ -327,3 +327,78 @@ module _ (schema : Schema) (place : Place) (small : AreBytes place.bytes) (limit
       go : (o : Option Field) → field_at schema place.inside n ≡ o → Outcome w
       go None none = unknown none (same_wire w wires.StartGroup) refl
       go (Some f) found = known f found (takes f.form f.value_type.kind w) refl
+
+-- AT A PLACE
+
+first_body : (schema : Schema) (place : Place) (n : ℕ) (p : Payload) (mid behind : List ℕ) → AreBytes place.bytes → KeyFront n (payload_wire p) place.bytes mid → PayloadFront n p mid behind → payload_allowed schema place n p ≡ true
+    → SomeBody schema (record place { bytes = behind }) → SomeBody schema place
+first_body schema place n p mid behind small key front allowed x = record {
+  records = before (record_at n p) x.records;
+  rest = x.rest;
+  body = record {
+    small = small;
+    end = x.body.end;
+    records = first_front (record_at n p) x.records place.bytes behind x.body.end (record_front n p place.bytes mid behind key front) x.body.records;
+    ends = x.body.ends;
+    allowed = ap (list_all (allowed_at schema place)) (items_first n p x.records) ∙ ap₂ ◌&&◌ allowed x.body.allowed;
+  };
+}
+
+module _ (schema : Schema) (place : Place) (small : AreBytes place.bytes) (limit : ℕ) (finds : Finds schema limit) (within : length place.bytes ≤ limit) where
+  -- nothing is left, and no group is open
+  at_end : place.bytes ≡ [] → place.open_group ≡ None → SomeBody schema place
+  at_end empty closed = record {
+    records = NoRecords;
+    rest = [];
+    body = record { small = small; end = place.bytes; records = none_front place.bytes; ends = subst (λ o. Ended o place.bytes []) (sym closed) (empty, refl); allowed = refl };
+  }
+
+  at_stop : (n : ℕ) (rest : List ℕ) → place.open_group ≡ Some n → KeyFront n wires.EndGroup place.bytes rest → SomeBody schema place
+  at_stop n rest opened key = record {
+    records = NoRecords;
+    rest = rest;
+    body = record { small = small; end = place.bytes; records = none_front place.bytes; ends = subst (λ o. Ended o place.bytes rest) (sym opened) key; allowed = refl };
+  }
+
+  no_key : (bytes : List ℕ) → place.bytes ≡ bytes → (o : Option ℕ) → place.open_group ≡ o → SomeFault (λ e. KeyFault e place.bytes) → SomeBody schema place ⊎ Faulty schema place
+  no_key [] empty None closed f = inl (at_end empty closed)
+  no_key [] empty (Some n) opened f = inr (record { error = f.error; fault = key_stands schema place f.error f.fault (λ _ none. absurd (some_none (sym opened ∙ none))) })
+    where
+      some_none : ◌≡◌ {A = Option ℕ} (Some n) None → ⊥
+      some_none e = cc
+  no_key (b ∷ bytes) is o opened f = inr (record { error = f.error; fault = key_stands schema place f.error f.fault (λ empty. absurd (let both : ◌≡◌ {A = List ℕ} (b ∷ bytes) [] = sym is ∙ empty in cc)) })
+
+  end_key : (n : ℕ) (rest : List ℕ) → KeyFront n wires.EndGroup place.bytes rest → (o : Option ℕ) → place.open_group ≡ o → SomeBody schema place ⊎ Faulty schema place
+  end_key n rest key None closed = inr (record { error = errors.EndGroup; fault = end_stands schema place n rest key (λ opened. absurd (let both : ◌≡◌ {A = Option ℕ} None (Some n) = sym closed ∙ opened in cc)) })
+  end_key n rest key (Some m) opened = go (nat_eq n m) refl
+    where
+      go : (b : Bool) → nat_eq n m ≡ b → SomeBody schema place ⊎ Faulty schema place
+      go true e = inl (at_stop m rest opened (subst (λ (x : ℕ). KeyFront x wires.EndGroup place.bytes rest) (eqb-true n m e) key))
+      go false e = inr (record { error = errors.EndGroup; fault = end_stands schema place n rest key (λ other. eqb-false n m e (inside (sym other ∙ opened))) })
+        where
+          inside : ◌≡◌ {A = Option ℕ} (Some n) (Some m) → n ≡ m
+          inside e = cc
+
+  with_payload : (n : ℕ) (w : WireType) (rest : List ℕ) → KeyFront n w place.bytes rest → SomePayload schema place n w rest → SomeBody schema place ⊎ Faulty schema place
+  with_payload n w rest key x =
+      let k : KeyFront n (payload_wire x.payload) place.bytes rest = subst (λ v. KeyFront n v place.bytes rest) (sym x.wire) key in
+      let less : length x.behind < limit = omega (arith, key_shorter n w place.bytes rest key, payload_no_longer n x.payload rest x.behind x.front, within) in
+      let bytes : AreBytes x.behind = payload_bytes n x.payload rest x.behind (key_bytes n w place.bytes rest small key) x.front in
+      elim (finds (record place { bytes = x.behind }) less bytes) [
+        | inl more ↦ inl (first_body schema place n x.payload rest x.behind small k x.front x.allowed more)
+        | inr f ↦ inr (record { error = f.error; fault = Behind (record_at n x.payload) x.behind (record_front n x.payload place.bytes rest x.behind k x.front) f.fault })
+      ]
+
+  with_key : (x : SomeKey place.bytes) → (b : Bool) → same_wire x.wire wires.EndGroup ≡ b → SomeBody schema place ⊎ Faulty schema place
+  with_key x true e = end_key x.number x.rest (subst (λ w. KeyFront x.number w place.bytes x.rest) (same_is x.wire wires.EndGroup e) x.front) place.open_group refl
+  with_key x false e =
+      either (with_payload x.number x.wire x.rest x.front) inr
+      (payload_or schema place small limit finds within x.number x.rest x.wire (λ is. true≢false (sym (ap (λ v. same_wire v wires.EndGroup) is) ∙ e)) x.front)
+
+  step : SomeBody schema place ⊎ Faulty schema place
+  step = either (λ x. with_key x (same_wire x.wire wires.EndGroup) refl) (no_key place.bytes refl place.open_group refl) (key_or place.bytes small)
+
+-- At each place there is a body, or a fault stands there.
+pub body_or_fault : (schema : Schema) (limit : ℕ) → Finds schema limit
+body_or_fault schema zero place less small = absurd (omega arith)
+body_or_fault schema (suc limit) place less small = step schema place small limit (body_or_fault schema limit) (omega arith)
