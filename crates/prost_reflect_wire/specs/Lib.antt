@@ -19,3 +19,4 @@ pub mod LawsOfFaults
 pub mod ExampleSchemas
 pub mod ExampleRows
 pub mod ExampleFaults
+pub mod Examples
