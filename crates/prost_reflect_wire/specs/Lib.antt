@@ -14,6 +14,7 @@ pub mod Typing
 pub mod Reduction
 pub mod Edit
 pub mod Fault
+pub mod FieldLaws
 pub mod Laws
 pub mod LawsOfFaults
 pub mod ExampleSchemas
