@@ -8,7 +8,7 @@ use Rattle.prost_reflect_wire.specs.declared.error.DecodeError.TheVariants as er
 use Rattle.prost_reflect_wire.specs.declared.key.WireType.{WireType}
 use Rattle.prost_reflect_wire.specs.declared.key.WireType.TheVariants as wires
 use Rattle.prost_reflect_wire.specs.Varint.{AreBytes, ◌>>=◌}
-use Rattle.prost_reflect_wire.specs.Record.{Plain, Len, Records, NoRecords, Record, Payload, Flat, Group, before, items, raw_levels, payload_levels, plain_wire, payload_wire, Spells, read}
+use Rattle.prost_reflect_wire.specs.Record.{Plain, Len, Records, NoRecords, Record, record_at, Payload, Flat, Group, before, items, raw_levels, payload_levels, plain_wire, payload_wire, Spells, read}
 use Rattle.prost_reflect_wire.specs.Scalar.{ScalarKind, StringKind, kind_wire}
 use Rattle.prost_reflect_wire.specs.Schema.{Kind, ScalarOf, MessageOf, GroupOf, ValueType, FieldForm, Singular, Repeated, MapFrom, Field, Schema, is_packable, is_message, passes}
 use Rattle.prost_reflect_wire.specs.Grammar.{AllowsInside, body, one_allowed, packed_allowed, has_level, in_entry_allowed, field_allowed, allows, plains_within, unpacked}
@@ -17,7 +17,7 @@ use Rattle.prost_reflect_wire.specs.Fault.{Place, Inside, OfType, OfEntry, OfNot
 use Rattle.prost_reflect_wire.proofs.Deeper.{and_both}
 use Rattle.prost_reflect_wire.proofs.Reading.{spelled_read}
 use Rattle.prost_reflect_wire.proofs.PlainFronts.{plain_delimited, delimited_plain}
-use Rattle.prost_reflect_wire.proofs.RecordFronts.{record_at, record_front, first_front, none_front, key_shorter, payload_no_longer}
+use Rattle.prost_reflect_wire.proofs.RecordFronts.{record_front, first_front, none_front, key_shorter, payload_no_longer}
 use Rattle.prost_reflect_wire.proofs.BodyFronts.{key_bytes, payload_bytes, body_bytes}
 use Rattle.prost_reflect_wire.proofs.PlaceFaults.{key_stands, end_stands, plain_stands}
 use Rattle.prost_reflect_wire.proofs.Places.{inner, payload_allowed, allowed_at, allows_at, Ended, Body, items_first, body_spells, passes_body, levels_outside, entry_same}

@@ -6,14 +6,14 @@ use Rattle.std.proofs.lemmas.Bool.{leb-true, le-leb}
 use Rattle.prost_reflect_wire.specs.declared.key.WireType.{WireType}
 use Rattle.prost_reflect_wire.specs.declared.key.WireType.TheVariants as wires
 use Rattle.prost_reflect_wire.specs.Varint.{AreBytes, ◌>>=◌}
-use Rattle.prost_reflect_wire.specs.Record.{Plain, Len, Records, NoRecords, PlainRecord, GroupRecord, Record, Payload, Flat, Group, before, items, raw_levels, payload_levels, payload_wire, Spells, read}
+use Rattle.prost_reflect_wire.specs.Record.{Plain, Len, Records, NoRecords, PlainRecord, GroupRecord, Record, record_at, Payload, Flat, Group, before, items, raw_levels, payload_levels, payload_wire, Spells, read}
 use Rattle.prost_reflect_wire.specs.Schema.{Schema, Field, ValueType, known, passes}
 use Rattle.prost_reflect_wire.specs.Grammar.{body, AllowsInside, nothing_inside, one_allowed, in_entry_allowed, field_allowed, record_allowed, allows}
 use Rattle.prost_reflect_wire.specs.Front.{KeyFront, RecordsFront, PayloadFront}
 use Rattle.prost_reflect_wire.specs.Fault.{Place, Inside, OfType, OfEntry, OfNothing, entry_field, field_at}
 use Rattle.prost_reflect_wire.proofs.Deeper.{and_both}
 use Rattle.prost_reflect_wire.proofs.Sound.{read_spells}
-use Rattle.prost_reflect_wire.proofs.RecordFronts.{record_at, record_parts, RecordParts, first_parts, FrontParts}
+use Rattle.prost_reflect_wire.proofs.RecordFronts.{record_parts, RecordParts, first_parts, FrontParts}
 use Rattle.prost_reflect_wire.proofs.BodyFronts.{none_first, key_bytes, payload_bytes}
 
 -- WHAT IS ALLOWED AT A PLACE

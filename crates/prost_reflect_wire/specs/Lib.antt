@@ -17,7 +17,4 @@ pub mod Fault
 pub mod FieldLaws
 pub mod Laws
 pub mod LawsOfFaults
-pub mod ExampleSchemas
-pub mod ExampleRows
-pub mod ExampleFaults
 pub mod Examples
