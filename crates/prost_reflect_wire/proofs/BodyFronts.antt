@@ -5,6 +5,7 @@ use Rattle.prost_reflect_wire.specs.declared.key.WireType.TheVariants as wires
 use Rattle.prost_reflect_wire.specs.Varint.{AreBytes}
 use Rattle.prost_reflect_wire.specs.Record.{Plain, Var, Fix64, Len, Fix32, NoRecords, Payload, Flat, Group, Key, payload_wire}
 use Rattle.prost_reflect_wire.specs.Front.{KeyFront, PlainFront, DelimitedFront, RecordsFront, PayloadFront}
+use Rattle.prost_reflect_wire.proofs.ByteLists.{bytes_front, bytes_behind}
 
 -- No payload stands behind an end key.
 pub payload_no_end : (p : Payload) → payload_wire p ≢ wires.EndGroup
@@ -24,25 +25,17 @@ key_not_empty n w rest k = go k.front k.key k.parts
 pub none_first : (bytes rest : List ℕ) → RecordsFront NoRecords bytes rest → bytes ≡ rest
 none_first bytes rest f = f.parts ∙ ap (λ l. l ++ rest) f.spelled
 
--- BYTES OF BYTES
-
-pub bytes_front : (front rest : List ℕ) → AreBytes (front ++ rest) → AreBytes front
-bytes_front [] rest h = tt
-bytes_front (b ∷ front) rest h = (h.0, bytes_front front rest h.1)
-
-pub bytes_rest : (front rest : List ℕ) → AreBytes (front ++ rest) → AreBytes rest
-bytes_rest [] rest h = h
-bytes_rest (b ∷ front) rest h = bytes_rest front rest h.1
+-- BYTES BELOW 256
 
 pub key_bytes : (n : ℕ) (w : WireType) (bytes rest : List ℕ) → AreBytes bytes → KeyFront n w bytes rest → AreBytes rest
-key_bytes n w bytes rest small k = bytes_rest k.front rest (subst AreBytes k.parts small)
+key_bytes n w bytes rest small k = bytes_behind k.front rest (subst AreBytes k.parts small)
 
 pub plain_bytes : (p : Plain) (bytes rest : List ℕ) → AreBytes bytes → PlainFront p bytes rest → AreBytes rest
-plain_bytes p bytes rest small f = bytes_rest f.front rest (subst AreBytes f.parts small)
+plain_bytes p bytes rest small f = bytes_behind f.front rest (subst AreBytes f.parts small)
 
 pub payload_bytes : (n : ℕ) (p : Payload) (bytes rest : List ℕ) → AreBytes bytes → PayloadFront n p bytes rest → AreBytes rest
 payload_bytes n (Flat p) bytes rest small f = plain_bytes p bytes rest small f
-payload_bytes n (Group inside) bytes rest small f = key_bytes n wires.EndGroup f.end rest (bytes_rest f.records.front f.end (subst AreBytes f.records.parts small)) f.stop
+payload_bytes n (Group inside) bytes rest small f = key_bytes n wires.EndGroup f.end rest (bytes_behind f.records.front f.end (subst AreBytes f.records.parts small)) f.stop
 
 pub body_bytes : (body bytes rest : List ℕ) → AreBytes bytes → DelimitedFront body bytes rest → AreBytes body
-body_bytes body bytes rest small d = let (len, _, whole) = d.spelled in bytes_rest len body (subst AreBytes whole (bytes_front d.front rest (subst AreBytes d.parts small)))
+body_bytes body bytes rest small d = let (len, _, whole) = d.spelled in bytes_behind len body (subst AreBytes whole (bytes_front d.front rest (subst AreBytes d.parts small)))
