@@ -16,4 +16,5 @@ pub mod Edit
 pub mod Fault
 pub mod FieldLaws
 pub mod Laws
+pub mod LawsOfFaults
 pub mod Examples
