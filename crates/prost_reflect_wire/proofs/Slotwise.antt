@@ -1,12 +1,11 @@
 -- Entries said number by number: what stands at each number decides them.
 use Rattle.std.proofs.Common.{◌≡◌, ℕ, zero, suc, ◌<◌, ◌≤◌, ◌+◌, Bool, true, false, cond, ◌&&◌, List, [], ◌∷◌, length, nat_eq, nat_lt, nat_le, Option, Some, None, refl, ap, ap₂, sym, ◌∙◌, arith}
-use Rattle.std.proofs.lemmas.Bool.{ltb-true, leb-true, lt-ltb, le-leb, eqb-true}
+use Rattle.std.proofs.lemmas.Bool.{ltb-true, leb-true, lt-ltb, le-leb, eqb-true, eq-eqb}
 use Rattle.prost_reflect_wire.specs.Varint.{◌>>=◌}
-use Rattle.prost_reflect_wire.specs.Schema.{Field, known}
-use Rattle.prost_reflect_wire.specs.Schema as schema_words
+use Rattle.prost_reflect_wire.specs.Scalar.{Scalar}
+use Rattle.prost_reflect_wire.specs.Schema.{Field, field_of, known}
 use Rattle.prost_reflect_wire.specs.Content.{Content, ContentOf, Entries, NoEntries, Stored, Unknown, Value, ScalarValue, MessageValue, ListValue, MapValue, Values, NoValues, Item, Pairs, NoPairs, Pair, Slot, value_at, unknowns_at, slot_at, then_value, table, insert_number, numbers_in, changed, comes_before, ordered, entries_ordered, value_ordered, values_ordered, pairs_ordered, key_before}
-use Rattle.prost_reflect_wire.specs.Schema.{field_of}
-use Rattle.prost_reflect_wire.specs.Typing.{kept, kept_entries, kept_value, kept_inside, kept_values, kept_pairs}
+use Rattle.prost_reflect_wire.specs.Typing.{kept, kept_entries, kept_value, kept_inside, kept_values, kept_pairs, is_field_default}
 use Rattle.prost_reflect_wire.proofs.Deeper.{and_both, both_true}
 use Rattle.prost_reflect_wire.proofs.Survivors.{or_false}
 use Rattle.prost_reflect_wire.proofs.Numbers.{empty_slot, is_in, in_insert, eqb-sym, insert_ascending, Covers, table_covers, table_same, slot_table, slots_same, entries_ascending, slot_outside}
@@ -38,11 +37,11 @@ kept_slot fields n slot = record { value = slot.value >>= λ v. kept_value (fiel
 
 unknowns_kept : (fields : List Field) (n : ℕ) (es : Entries) → unknowns_at n (kept_entries fields es) ≡ unknowns_at n es
 unknowns_kept fields n NoEntries = refl
-unknowns_kept fields n (Stored m v es) = go (kept_value (field_of fields m) (kept_inside v))
+unknowns_kept fields n (Stored m v es) = go (kept_value (field_of fields m) (kept_inside v)) ∙ unknowns_kept fields n es
   where
-    go : (o : Option Value) → unknowns_at n (then_value m o (kept_entries fields es)) ≡ unknowns_at n es
-    go None = unknowns_kept fields n es
-    go (Some w) = unknowns_kept fields n es
+    go : (o : Option Value) → unknowns_at n (then_value m o (kept_entries fields es)) ≡ unknowns_at n (kept_entries fields es)
+    go None = refl
+    go (Some w) = refl
 unknowns_kept fields n (Unknown m p es) = ap (λ ps. cond (nat_eq m n) (p ∷ ps) ps) (unknowns_kept fields n es)
 
 value_kept : (fields : List Field) (n : ℕ) (es : Entries) → entries_ordered es ≡ true → value_at n (kept_entries fields es) ≡ (value_at n es >>= λ v. kept_value (field_of fields n) (kept_inside v))
@@ -53,7 +52,7 @@ value_kept fields n (Stored m v es) o =
   where
     here : (k : ℕ) → m ≡ k → (o : Option Value) → value_at k (kept_entries fields es) ≡ None → value_at k (then_value m o (kept_entries fields es)) ≡ o
     here k e None h = h
-    here k e (Some w) h = ap (λ b. cond b (Some w) (value_at k (kept_entries fields es))) (Rattle.std.proofs.lemmas.Bool.eq-eqb m k e)
+    here k e (Some w) h = ap (λ b. cond b (Some w) (value_at k (kept_entries fields es))) (eq-eqb m k e)
 
     other : (o : Option Value) → nat_eq m n ≡ false → value_at n (then_value m o (kept_entries fields es)) ≡ value_at n (kept_entries fields es)
     other None e = refl
@@ -91,7 +90,7 @@ kept_before fields n (Stored m v es) o c =
     go (Some w) more = c
 kept_before fields n (Unknown m p es) o c = c
 
-key_kept : (k : Rattle.prost_reflect_wire.specs.Scalar.Scalar) (ps : Pairs) → key_before k ps ≡ true → key_before k (kept_pairs ps) ≡ true
+key_kept : (k : Scalar) (ps : Pairs) → key_before k ps ≡ true → key_before k (kept_pairs ps) ≡ true
 key_kept k NoPairs h = refl
 key_kept k (Pair l v ps) h = h
 
@@ -101,7 +100,43 @@ then_ordered n (Some v) es h c o = both_true (both_true c (h v refl)) o
 
 kept_is : (o : Option Field) (v w : Value) → kept_value o v ≡ Some w → v ≡ w
 kept_is None v w e = cc
-kept_is (Some f) v w e = go (schema_words.Field.form f) e
+kept_is (Some f) v w e = go (is_field_default f.form f.value_type v) e
   where
-    go : schema_words.FieldForm → kept_value (Some f) v ≡ Some w → v ≡ w
-    go form e = ?
+    go : (b : Bool) → cond b None (Some v) ≡ Some w → v ≡ w
+    go true e = cc
+    go false e = cc
+
+mutual
+  -- what is kept is ordered as it was
+  pub kept_ordered : (c : Content) → ordered c ≡ true → ordered (kept c) ≡ true
+  kept_ordered (ContentOf schema T es) o = entries_kept_ordered (known schema T) es o
+
+  pub entries_kept_ordered : (fields : List Field) (es : Entries) → entries_ordered es ≡ true → entries_ordered (kept_entries fields es) ≡ true
+  entries_kept_ordered fields NoEntries o = refl
+  entries_kept_ordered fields (Stored n v es) o =
+      let (a, rest) = and_both (comes_before n es && value_ordered v) (entries_ordered es) o in
+      let (c, w) = and_both (comes_before n es) (value_ordered v) a in
+      let inside : value_ordered (kept_inside v) ≡ true = inside_kept_ordered v w in
+      then_ordered n (kept_value (field_of fields n) (kept_inside v)) (kept_entries fields es)
+      (λ u e. ap value_ordered (sym (kept_is (field_of fields n) (kept_inside v) u e)) ∙ inside)
+      (kept_before fields n es rest c) (entries_kept_ordered fields es rest)
+  entries_kept_ordered fields (Unknown n p es) o =
+      let (c, rest) = and_both (comes_before n es) (entries_ordered es) o in
+      both_true (kept_before fields n es rest c) (entries_kept_ordered fields es rest)
+
+  pub inside_kept_ordered : (v : Value) → value_ordered v ≡ true → value_ordered (kept_inside v) ≡ true
+  inside_kept_ordered (ScalarValue v) o = refl
+  inside_kept_ordered (MessageValue c) o = kept_ordered c o
+  inside_kept_ordered (ListValue vs) o = values_kept_ordered vs o
+  inside_kept_ordered (MapValue ps) o = pairs_kept_ordered ps o
+
+  values_kept_ordered : (vs : Values) → values_ordered vs ≡ true → values_ordered (kept_values vs) ≡ true
+  values_kept_ordered NoValues o = refl
+  values_kept_ordered (Item v vs) o = let (a, rest) = and_both (value_ordered v) (values_ordered vs) o in both_true (inside_kept_ordered v a) (values_kept_ordered vs rest)
+
+  pairs_kept_ordered : (ps : Pairs) → pairs_ordered ps ≡ true → pairs_ordered (kept_pairs ps) ≡ true
+  pairs_kept_ordered NoPairs o = refl
+  pairs_kept_ordered (Pair k v ps) o =
+      let (a, rest) = and_both (key_before k ps && value_ordered v) (pairs_ordered ps) o in
+      let (b, w) = and_both (key_before k ps) (value_ordered v) a in
+      both_true (both_true (key_kept k ps b) (inside_kept_ordered v w)) (pairs_kept_ordered ps rest)
