@@ -11,6 +11,7 @@ pub mod Levels
 pub mod Typing
 pub mod Reduction
 pub mod Edit
+pub mod Storing
 pub mod Fault
 pub mod Laws
 pub mod ExampleSchemas
