@@ -1,5 +1,6 @@
 pub mod Varint
 pub mod Record
+pub mod Front
 pub mod Unknown
 pub mod Scalar
 pub mod Schema
