@@ -1,0 +1,79 @@
+-- Records read one behind another from bytes.
+use Rattle.std.proofs.Common.{◌≡◌, ℕ, zero, suc, Bool, true, false, cond, List, [], ◌∷◌, ◌++◌, Option, Some, None, refl, ap, ap₂, sym, ◌∙◌, append-nil, append_assoc, subst}
+use Rattle.std.specs.List.{list_all}
+use Rattle.prost_reflect_wire.specs.Varint.{AreBytes, guard, ◌>>=◌}
+use Rattle.prost_reflect_wire.specs.Record.{Record, Records, NoRecords, Payload, Flat, Group, items, before, body_of, Spells, read}
+use Rattle.prost_reflect_wire.specs.Front.{RecordsFront, RecordFront}
+use Rattle.prost_reflect_wire.specs.Schema.{Schema, known}
+use Rattle.prost_reflect_wire.specs.Content.{Content, ContentOf, empty, schema_of, type_of}
+use Rattle.prost_reflect_wire.specs.Grammar.{allows, record_allowed}
+use Rattle.prost_reflect_wire.specs.Meaning.{MeansInside, JoinsInside, meaning, decoded, step_by, steps_by, steps}
+use Rattle.prost_reflect_wire.specs.Typing.{kept}
+use Rattle.prost_reflect_wire.specs.Progress.{ReadTo}
+use Rattle.prost_reflect_wire.proofs.Deeper.{both_true, allows_append}
+use Rattle.prost_reflect_wire.proofs.Allowed.{inside, allows_inside}
+use Rattle.prost_reflect_wire.proofs.Means.{below, further}
+use Rattle.prost_reflect_wire.proofs.Steps.{meaning_steps, meaning_empty}
+use Rattle.prost_reflect_wire.proofs.Reading.{spelled_read}
+use Rattle.prost_reflect_wire.proofs.Values.{items_body}
+
+-- STEPS
+
+pub steps_level : (k : ℕ) (c : Content) (rs : List Record) → steps k c rs ≡ steps_by (below (schema_of c) k) (further k) c rs
+unfolding steps below further
+steps_level zero c rs = refl
+steps_level (suc k) c rs = refl
+
+steps_append : (inner : MeansInside) (join : JoinsInside) (c : Content) (rs qs : List Record) → steps_by inner join c (rs ++ qs) ≡ steps_by inner join (steps_by inner join c rs) qs
+steps_append inner join c [] qs = refl
+steps_append inner join c (r ∷ rs) qs = steps_append inner join (step_by inner join c r) rs qs
+
+-- one more record makes one more step
+pub steps_one : (k : ℕ) (c : Content) (rs : List Record) (r : Record) → steps k c (rs ++ (r ∷ [])) ≡ step_by (below (schema_of c) k) (further k) (steps k c rs) r
+steps_one k c rs r =
+    steps_level k c (rs ++ (r ∷ [])) ∙ steps_append (below (schema_of c) k) (further k) c rs (r ∷ [])
+    ∙ ap (λ d. step_by (below (schema_of c) k) (further k) d r) (sym (steps_level k c rs))
+
+pub kept_schema : (c : Content) → schema_of (kept c) ≡ schema_of c
+kept_schema (ContentOf schema T es) = refl
+
+-- FRONTS
+
+spells_append : (rs qs : List Record) (a b : List ℕ) → Spells (body_of rs) a → Spells (body_of qs) b → Spells (body_of (rs ++ qs)) (a ++ b)
+spells_append [] qs a b s t = subst (Spells (body_of qs)) (ap (λ l. l ++ b) (sym s)) t
+spells_append (r ∷ rs) qs a b s t = go r.payload s (λ after u. spells_append rs qs after b u t)
+  where
+    go : (p : Payload) → Spells (before (record { number = r.number; payload = p }) (body_of rs)) a → ((after : List ℕ) → Spells (body_of rs) after → Spells (body_of (rs ++ qs)) (after ++ b)) →
+        Spells (before (record { number = r.number; payload = p }) (body_of (rs ++ qs))) (a ++ b)
+    go (Flat p) (key, body, after, k, u, v, e) more =
+        (key, body, after ++ b, k, u, more after v, ap (λ l. l ++ b) e ∙ append_assoc key (body ++ after) b ∙ ap (λ l. key ++ l) (append_assoc body after b))
+    go (Group rs') (key, body, stop, after, k, u, l, v, e) more =
+        (key, body, stop, after ++ b, k, u, l, more after v,
+        ap (λ l. l ++ b) e ∙ append_assoc key (body ++ (stop ++ after)) b ∙ ap (λ l. key ++ l) (append_assoc body (stop ++ after) b ∙ ap (λ l. body ++ l) (append_assoc stop after b)))
+
+pub front_more : (rs : List Record) (r : Record) (bytes mid rest : List ℕ) → RecordsFront (body_of rs) bytes mid → RecordFront r mid rest → RecordsFront (body_of (rs ++ (r ∷ []))) bytes rest
+front_more rs r bytes mid rest f g = record {
+  front = f.front ++ g.front;
+  spelled = spells_append rs (r ∷ []) f.front g.front f.spelled g.spelled;
+  parts = f.parts ∙ ap (λ l. f.front ++ l) g.parts ∙ sym (append_assoc f.front g.front rest);
+}
+
+-- PROGRESS
+
+pub read_nothing : (k : ℕ) (c : Content) (bytes : List ℕ) → ReadTo k c c bytes bytes
+read_nothing k c bytes = record {
+  records = [];
+  front = record { front = []; spelled = refl; parts = refl };
+  allowed = allows_inside (schema_of c) k (type_of c) [];
+  means = sym (steps_level k (kept c) []);
+}
+pub read_more : (k : ℕ) (old mid new : Content) (r : Record) (bytes rest end : List ℕ) → ReadTo k old mid bytes rest → RecordFront r rest end →
+    record_allowed k (inside (schema_of old) k) (known (schema_of old) (type_of old)) r ≡ true → step_by (below (schema_of old) k) (further k) (kept mid) r ≡ kept new → ReadTo k old new bytes end
+read_more k old mid new r bytes rest end done front allowed step = record {
+  records = done.records ++ (r ∷ []);
+  front = front_more done.records r bytes rest end done.front front;
+  allowed = allows_append (schema_of old) k (type_of old) done.records (r ∷ []) done.allowed (allows_inside (schema_of old) k (type_of old) (r ∷ []) ∙ both_true allowed refl);
+  means = sym step ∙ ap (λ c. step_by (below (schema_of old) k) (further k) c r) done.means
+      ∙ ap (λ s. step_by (below s k) (further k) (steps k (kept old) done.records) r) (sym (kept_schema old)) ∙ sym (steps_one k (kept old) done.records r);
+}
+
