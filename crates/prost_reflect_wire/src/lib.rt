@@ -5,7 +5,9 @@ mod error;
 mod key;
 pub mod laws;
 mod unknown;
+mod varint;
 
 pub use error::{DecodeError, EncodeError};
-pub use key::{FieldNumber, WireType};
+pub use key::{FieldNumber, WireType, decode_key};
 pub use unknown::{UnknownField, UnknownFieldSet, UnknownFieldValue};
+pub use varint::decode_varint;
