@@ -1,0 +1,7 @@
+//! Protocol Buffers messages whose types are known only at run time.
+#![tactic(auto)]
+
+mod descriptor;
+
+pub use descriptor::{DescriptorPool, EnumDescriptor, FieldDescriptor, Kind, MessageDescriptor};
+pub use prost_reflect_tables::Cardinality;
