@@ -1,4 +1,8 @@
-//! Messages of Protocol Buffers whose types are known only at run time.
+//! Protocol Buffers messages whose types are known only at run time.
 #![tactic(auto)]
 
+mod descriptor;
 mod fields;
+
+pub use descriptor::{DescriptorPool, EnumDescriptor, FieldDescriptor, Kind, MessageDescriptor};
+pub use prost_reflect_tables::Cardinality;

@@ -7,8 +7,8 @@ use Rattle.prost_reflect_wire.specs.Record.{Plain, Var, Fix64, Len, Fix32, Paylo
 use Rattle.prost_reflect_wire.specs.Scalar.{Scalar, F64, F32, I64, U64, I32, U32, Boolean, Text, Bytes, EnumNumber, ScalarKind, Double, Float, Int64, Uint64, Int32, Fixed64, Fixed32, BoolKind, StringKind, BytesKind, Uint32, Sfixed32, Sfixed64, Sint32, Sint64, Enum, kind_wire, written, scalar_valid}
 use Rattle.prost_reflect_wire.specs.Schema.{Kind, ScalarOf, Repeated, Field, field_of, is_packable}
 use Rattle.prost_reflect_wire.specs.Content.{Value, ScalarValue, MessageValue, ListValue, MapValue, Values, NoValues, Item, values_from}
-use Rattle.prost_reflect_wire.specs.Grammar.{or_none, plains_within, unpacked, expanded, is_stray, taken, taken_as, strays_as, unknown_of}
-use Rattle.prost_reflect_wire.specs.Meaning.{Below, element, scalar_values, shown_list, field_value}
+use Rattle.prost_reflect_wire.specs.Grammar.{or_none, plains_within, unpacked, element_payloads_in, is_stray, value_records, value_payloads, stray_payloads, unknown_payloads}
+use Rattle.prost_reflect_wire.specs.Meaning.{MeansInside, element, scalar_values, present_list, field_value}
 use Rattle.prost_reflect_wire.specs.Writing.{record_at, end_to_end, list_payloads, value_payload, element_payloads}
 use Rattle.prost_reflect_wire.specs.Typing.{one_fits, elements_fit}
 use Rattle.prost_reflect_wire.specs.Laws.{block, ValueBack, ElementBack, ElementsBack}
@@ -16,7 +16,7 @@ use Rattle.prost_reflect_wire.proofs.Reading.{plain_read}
 use Rattle.prost_reflect_wire.proofs.Shortest.{short_plain_ok, short_varint}
 use Rattle.prost_reflect_wire.proofs.Table.{read_back, written_declared}
 use Rattle.prost_reflect_wire.proofs.Deeper.{and_both}
-use Rattle.prost_reflect_wire.proofs.Values.{taken_known, unknown_known}
+use Rattle.prost_reflect_wire.proofs.Values.{value_records_known, unknown_known}
 use Rattle.prost_reflect_wire.proofs.Lists.{all_elements}
 use Rattle.prost_reflect_wire.proofs.Spelt.{written_valid}
 use Rattle.prost_reflect_wire.specs.declared.key.WireType.{WireType}
@@ -24,29 +24,29 @@ use Rattle.prost_reflect_wire.specs.declared.key.WireType.TheVariants as wires
 
 -- ONE ELEMENT
 
-not_expanded : (kind : ScalarKind) (v : Scalar) → scalar_valid kind v ≡ true → expanded (ScalarOf kind) (Flat (written kind v)) ≡ Flat (written kind v) ∷ []
-not_expanded Double (F64 n) h = refl
-not_expanded Float (F32 n) h = refl
-not_expanded Int64 (I64 z) h = refl
-not_expanded Uint64 (U64 n) h = refl
-not_expanded Int32 (I32 z) h = refl
-not_expanded Fixed64 (U64 n) h = refl
-not_expanded Fixed32 (U32 n) h = refl
-not_expanded BoolKind (Boolean b) h = refl
-not_expanded StringKind (Text x) h = refl
-not_expanded BytesKind (Bytes x) h = refl
-not_expanded Uint32 (U32 n) h = refl
-not_expanded (Enum first numbers) (EnumNumber z) h = refl
-not_expanded Sfixed32 (I32 z) h = refl
-not_expanded Sfixed64 (I64 z) h = refl
-not_expanded Sint32 (I32 z) h = refl
-not_expanded Sint64 (I64 z) h = refl
-not_expanded _ v h = absurd (true≢false (sym h))
+written_alone : (kind : ScalarKind) (v : Scalar) → scalar_valid kind v ≡ true → element_payloads_in (ScalarOf kind) (Flat (written kind v)) ≡ Flat (written kind v) ∷ []
+written_alone Double (F64 n) h = refl
+written_alone Float (F32 n) h = refl
+written_alone Int64 (I64 z) h = refl
+written_alone Uint64 (U64 n) h = refl
+written_alone Int32 (I32 z) h = refl
+written_alone Fixed64 (U64 n) h = refl
+written_alone Fixed32 (U32 n) h = refl
+written_alone BoolKind (Boolean b) h = refl
+written_alone StringKind (Text x) h = refl
+written_alone BytesKind (Bytes x) h = refl
+written_alone Uint32 (U32 n) h = refl
+written_alone (Enum first numbers) (EnumNumber z) h = refl
+written_alone Sfixed32 (I32 z) h = refl
+written_alone Sfixed64 (I64 z) h = refl
+written_alone Sint32 (I32 z) h = refl
+written_alone Sint64 (I64 z) h = refl
+written_alone _ v h = absurd (true≢false (sym h))
 
-pub scalar_element : (inner : Below) (kind : ScalarKind) (v : Scalar) → scalar_valid kind v ≡ true → ElementBack inner (ScalarOf kind) (ScalarValue v)
-scalar_element inner kind v h = record { single = not_expanded kind v h; fits = written_declared kind v h; value = ap scalar_values (read_back kind v h) }
+pub scalar_element : (inner : MeansInside) (kind : ScalarKind) (v : Scalar) → scalar_valid kind v ≡ true → ElementBack inner (ScalarOf kind) (ScalarValue v)
+scalar_element inner kind v h = record { one = written_alone kind v h; fits = written_declared kind v h; value = ap scalar_values (read_back kind v h) }
 
-pub scalars_back : (inner : Below) (kind : ScalarKind) (vs : Values) → elements_fit (ScalarOf kind) vs ≡ true → ElementsBack inner (ScalarOf kind) vs
+pub scalars_back : (inner : MeansInside) (kind : ScalarKind) (vs : Values) → elements_fit (ScalarOf kind) vs ≡ true → ElementsBack inner (ScalarOf kind) vs
 scalars_back inner kind NoValues h = tt
 scalars_back inner kind (Item v vs) h =
     let (one, more) = and_both (one_fits (ScalarOf kind) v) (elements_fit (ScalarOf kind) vs) h in
@@ -144,33 +144,33 @@ unpacked_back kind vs p h =
     let (same, all) = plains_same kind vs p h in
     (ap (λ ps. plains_within (suc (length (end_to_end ps))) (kind_wire kind) (end_to_end ps)) same ∙ plains_read (kind_wire kind) (plains_of kind vs) (suc (length (end_to_end (map Flat (plains_of kind vs))))) all (omega arith), sym same)
 
-expanded_back : (kind : ScalarKind) (vs : Values) → is_packable kind ≡ true → elements_fit (ScalarOf kind) vs ≡ true →
-    expanded (ScalarOf kind) (Flat (Len (end_to_end (element_payloads (ScalarOf kind) vs)))) ≡ element_payloads (ScalarOf kind) vs
-expanded_back kind vs p h =
+elements_in_back : (kind : ScalarKind) (vs : Values) → is_packable kind ≡ true → elements_fit (ScalarOf kind) vs ≡ true →
+    element_payloads_in (ScalarOf kind) (Flat (Len (end_to_end (element_payloads (ScalarOf kind) vs)))) ≡ element_payloads (ScalarOf kind) vs
+elements_in_back kind vs p h =
     let (found, same) = unpacked_back kind vs p h in
     let bytes : List ℕ = end_to_end (element_payloads (ScalarOf kind) vs) in
     ap (λ b. cond b (map Flat (or_none (unpacked kind bytes))) (Flat (Len bytes) ∷ [])) p ∙ ap (λ o. map Flat (or_none o)) found ∙ same
 
-kept_all : (inner : Below) (kind : Kind) (vs : Values) → ElementsBack inner kind vs → filter (λ q. not (is_stray kind q)) (element_payloads kind vs) ≡ element_payloads kind vs
+kept_all : (inner : MeansInside) (kind : Kind) (vs : Values) → ElementsBack inner kind vs → filter (λ q. not (is_stray kind q)) (element_payloads kind vs) ≡ element_payloads kind vs
 kept_all inner kind NoValues h = refl
 kept_all inner kind (Item v vs) (one, more) =
     ap (λ b. cond (not b) (value_payload kind v ∷ filter (λ q. not (is_stray kind q)) (element_payloads kind vs)) (filter (λ q. not (is_stray kind q)) (element_payloads kind vs))) one.fits
     ∙ ap (λ l. value_payload kind v ∷ l) (kept_all inner kind vs more)
 
-no_strays : (inner : Below) (kind : Kind) (vs : Values) → ElementsBack inner kind vs → filter (is_stray kind) (element_payloads kind vs) ≡ []
+no_strays : (inner : MeansInside) (kind : Kind) (vs : Values) → ElementsBack inner kind vs → filter (is_stray kind) (element_payloads kind vs) ≡ []
 no_strays inner kind NoValues h = refl
 no_strays inner kind (Item v vs) (one, more) =
     ap (λ b. cond b (value_payload kind v ∷ filter (is_stray kind) (element_payloads kind vs)) (filter (is_stray kind) (element_payloads kind vs))) one.fits ∙ no_strays inner kind vs more
 
-pub packed_back : (inner : Below) (fields : List Field) (n : ℕ) (f : Field) (kind : ScalarKind) (v : Value) (vs : Values) → field_of fields n ≡ Some f → f.cardinality ≡ Repeated true → f.single.kind ≡ ScalarOf kind →
+pub packed_back : (inner : MeansInside) (fields : List Field) (n : ℕ) (f : Field) (kind : ScalarKind) (v : Value) (vs : Values) → field_of fields n ≡ Some f → f.form ≡ Repeated true → f.value_type.kind ≡ ScalarOf kind →
     is_packable kind ≡ true → elements_fit (ScalarOf kind) (Item v vs) ≡ true → ValueBack inner fields n f (ListValue (Item v vs))
 packed_back inner fields n f kind v vs found c k p h = record {
   sources = ps;
-  read = ap (λ l. flat_map (taken fields) (map (record_at n) l)) whole ∙ append-nil (taken fields (record_at n body)) ∙ taken_known fields n f body found
-      ∙ ap (block n) (ap (λ c. taken_as c f.single body) c ∙ ap (λ k. filter (λ q. not (is_stray k q)) (expanded k body)) k ∙ ap (filter (λ q. not (is_stray (ScalarOf kind) q))) (expanded_back kind (Item v vs) p h) ∙ kept_all inner (ScalarOf kind) (Item v vs) back);
-  strays = ap (λ l. flat_map (unknown_of fields) (map (record_at n) l)) whole ∙ append-nil (unknown_of fields (record_at n body)) ∙ unknown_known fields n f body found
-      ∙ ap (λ c. strays_as c f.single body) c ∙ ap (λ k. filter (is_stray k) (expanded k body)) k ∙ ap (filter (is_stray (ScalarOf kind))) (expanded_back kind (Item v vs) p h) ∙ no_strays inner (ScalarOf kind) (Item v vs) back;
-  value = ap (λ c. field_value inner c f.single ps) c ∙ ap (λ k. shown_list (values_from (flat_map (element inner k) ps))) k ∙ ap shown_list (all_elements inner (ScalarOf kind) (Item v vs) back);
+  read = ap (λ l. flat_map (value_records fields) (map (record_at n) l)) whole ∙ append-nil (value_records fields (record_at n body)) ∙ value_records_known fields n f body found
+      ∙ ap (block n) (ap (λ c. value_payloads c f.value_type body) c ∙ ap (λ k. filter (λ q. not (is_stray k q)) (element_payloads_in k body)) k ∙ ap (filter (λ q. not (is_stray (ScalarOf kind) q))) (elements_in_back kind (Item v vs) p h) ∙ kept_all inner (ScalarOf kind) (Item v vs) back);
+  strays = ap (λ l. flat_map (unknown_payloads fields) (map (record_at n) l)) whole ∙ append-nil (unknown_payloads fields (record_at n body)) ∙ unknown_known fields n f body found
+      ∙ ap (λ c. stray_payloads c f.value_type body) c ∙ ap (λ k. filter (is_stray k) (element_payloads_in k body)) k ∙ ap (filter (is_stray (ScalarOf kind))) (elements_in_back kind (Item v vs) p h) ∙ no_strays inner (ScalarOf kind) (Item v vs) back;
+  value = ap (λ c. field_value inner c f.value_type ps) c ∙ ap (λ k. present_list (values_from (flat_map (element inner k) ps))) k ∙ ap present_list (all_elements inner (ScalarOf kind) (Item v vs) back);
 }
   where
     ps : List Payload
@@ -182,5 +182,5 @@ packed_back inner fields n f kind v vs found c k p h = record {
     back : ElementsBack inner (ScalarOf kind) (Item v vs)
     back = scalars_back inner kind (Item v vs) h
 
-    whole : list_payloads f.cardinality (element_payloads f.single.kind (Item v vs)) ≡ Flat (Len (end_to_end (element_payloads (ScalarOf kind) (Item v vs)))) ∷ []
+    whole : list_payloads f.form (element_payloads f.value_type.kind (Item v vs)) ≡ Flat (Len (end_to_end (element_payloads (ScalarOf kind) (Item v vs)))) ∷ []
     whole = ap₂ (λ c k. list_payloads c (element_payloads k (Item v vs))) c k

@@ -5,7 +5,7 @@ use Rattle.std.specs.Str.{is_utf8}
 use Rattle.prost_reflect_wire.specs.Varint.{Varint}
 use Rattle.prost_reflect_wire.specs.Record.{Plain, Len, NoRecords, Record, before, Key, Spells, SpellsPlain, wire_code, plain_wire, short_key}
 use Rattle.prost_reflect_wire.specs.Scalar.{ScalarKind, StringKind, kind_wire}
-use Rattle.prost_reflect_wire.specs.Schema.{Kind, ScalarOf, MessageOf, GroupOf, Single, Cardinality, Singular, Repeated, MapFrom, Field, Schema, known, field_of, is_packable, is_message}
+use Rattle.prost_reflect_wire.specs.Schema.{Kind, ScalarOf, MessageOf, GroupOf, ValueType, FieldForm, Singular, Repeated, MapFrom, Field, Schema, known, field_of, is_packable, is_message}
 use Rattle.prost_reflect_wire.specs.Grammar.{has_level}
 use Rattle.prost_reflect_wire.specs.declared.key.WireType.{WireType}
 use Rattle.prost_reflect_wire.specs.declared.key.WireType.TheVariants as wires
@@ -15,7 +15,7 @@ use Rattle.prost_reflect_wire.specs.declared.error.DecodeError.TheVariants as er
 -- What is known in a body: a type's numbers, an entry's key and value, or nothing.
 pub data Inside : Type 0 where
   OfType : ℕ → Inside
-  OfEntry : (key single : Single) → Inside
+  OfEntry : (key value_type : ValueType) → Inside
   OfNothing : Inside
 
 -- A body with what is known there, the levels left, and the number of the open group, if it is one.
@@ -25,12 +25,12 @@ pub record Place : Type 0 where
   pub levels : ℕ
   pub open_group : Option ℕ
 
-abbrev pub entry_field : ℕ → Single → Field
-entry_field n single = record { number = n; is_extension = false; cardinality = Singular; single = single; oneof = None }
+abbrev pub entry_field : ℕ → ValueType → Field
+entry_field n value_type = record { number = n; is_extension = false; form = Singular; value_type = value_type; oneof = None }
 
 abbrev pub field_at : Schema → Inside → ℕ → Option Field
 field_at schema (OfType T) n = field_of (known schema T) n
-field_at schema (OfEntry key single) n = if nat_eq n 1 then Some (entry_field 1 key) else if nat_eq n 2 then Some (entry_field 2 single) else None
+field_at schema (OfEntry key value_type) n = if nat_eq n 1 then Some (entry_field 1 key) else if nat_eq n 2 then Some (entry_field 2 value_type) else None
 field_at schema OfNothing n = None
 
 -- WIRE TYPES
@@ -47,24 +47,24 @@ abbrev pub packed_takes : Kind → WireType → Bool
 packed_takes (ScalarOf kind) w = is_packable kind && same_wire w wires.LengthDelimited
 packed_takes kind w = false
 
-abbrev pub takes : Cardinality → Kind → WireType → Bool
+abbrev pub takes : FieldForm → Kind → WireType → Bool
 takes Singular kind w = one_takes kind w
 takes (Repeated packed) kind w = one_takes kind w || packed_takes kind w
 takes (MapFrom key) kind w = same_wire w wires.LengthDelimited
 
-abbrev pub is_map : Cardinality → Bool
+abbrev pub is_map : FieldForm → Bool
 is_map (MapFrom key) = true
 is_map c = false
 
 -- A message or a group comes next, or a map record with message values.
-abbrev pub needs_level : Cardinality → Kind → WireType → Bool
+abbrev pub needs_level : FieldForm → Kind → WireType → Bool
 needs_level (MapFrom key) kind w = is_message kind && same_wire w wires.LengthDelimited
 needs_level c (ScalarOf kind) w = false
 needs_level c kind w = one_takes kind w
 
 abbrev pub opens_level : Option Field → WireType → Bool
 opens_level None w = same_wire w wires.StartGroup
-opens_level (Some f) w = needs_level f.cardinality f.single.kind w
+opens_level (Some f) w = needs_level f.form f.value_type.kind w
 
 -- BYTES THAT END OR PASS
 
@@ -166,11 +166,11 @@ pub data ElementFault (w : WireType) : DecodeError → List ℕ → Type 0 where
 -- AT A PLACE
 
 abbrev pub TextNext : Field → WireType → List ℕ → Type 0
-TextNext f w rest = (w ≡ wires.LengthDelimited) × (is_map f.cardinality ≡ false) × (f.single.kind ≡ ScalarOf StringKind) × ((body after : List ℕ) × DelimitedFront body rest after × (is_utf8 body ≡ false))
+TextNext f w rest = (w ≡ wires.LengthDelimited) × (is_map f.form ≡ false) × (f.value_type.kind ≡ ScalarOf StringKind) × ((body after : List ℕ) × DelimitedFront body rest after × (is_utf8 body ≡ false))
 
 abbrev pub PackedNext : DecodeError → Field → WireType → List ℕ → Type 0
-PackedNext e f w rest = (w ≡ wires.LengthDelimited) × ((packed : Bool) × (f.cardinality ≡ Repeated packed))
-    × ((kind : ScalarKind) × (f.single.kind ≡ ScalarOf kind) × (is_packable kind ≡ true) × ((body after : List ℕ) × DelimitedFront body rest after × ElementFault (kind_wire kind) e body))
+PackedNext e f w rest = (w ≡ wires.LengthDelimited) × ((packed : Bool) × (f.form ≡ Repeated packed))
+    × ((kind : ScalarKind) × (f.value_type.kind ≡ ScalarOf kind) × (is_packable kind ≡ true) × ((body after : List ℕ) × DelimitedFront body rest after × ElementFault (kind_wire kind) e body))
 
 -- A varint that is no key.
 pub record NoKey (bytes : List ℕ) : Type 0 where
@@ -183,7 +183,7 @@ abbrev pub Comes : Schema → DecodeError → Place → Type 0
 Comes schema errors.Truncated place = ((place.bytes ≢ []) × VarintEnds place.bytes) ⊎ (((place.bytes ≡ []) × (place.open_group ≢ None)) ⊎ (Next place (λ n w rest. PayloadEnds w rest) ⊎ NextField schema place (PackedNext errors.Truncated)))
 Comes schema errors.Varint place = VarintPasses place.bytes ⊎ (Next place (λ n w rest. PayloadPasses w rest) ⊎ NextField schema place (PackedNext errors.Varint))
 Comes schema errors.Key place = NoKey place.bytes
-Comes schema errors.WireType place = NextField schema place (λ f w rest. (w ≢ wires.EndGroup) × (takes f.cardinality f.single.kind w ≡ false))
+Comes schema errors.WireType place = NextField schema place (λ f w rest. (w ≢ wires.EndGroup) × (takes f.form f.value_type.kind w ≡ false))
 Comes schema errors.EndGroup place = Next place (λ n w rest. (w ≡ wires.EndGroup) × (place.open_group ≢ Some n))
 Comes schema errors.Utf8 place = NextField schema place TextNext
 Comes schema errors.OutOfMemory place = ⊥
@@ -197,12 +197,12 @@ pub data Stands (schema : Schema) : DecodeError → Place → Type 0 where
       → Stands schema e (record place { bytes = rest }) → Stands schema e place
   -- in a known message, one level fewer;
   InMessage : {e : DecodeError} {place : Place} (n T k : ℕ) (f : Field) (body rest after : List ℕ)
-      → field_at schema place.inside n ≡ Some f → is_map f.cardinality ≡ false → f.single.kind ≡ MessageOf T → place.levels ≡ suc k
+      → field_at schema place.inside n ≡ Some f → is_map f.form ≡ false → f.value_type.kind ≡ MessageOf T → place.levels ≡ suc k
       → KeyFront n wires.LengthDelimited place.bytes rest → DelimitedFront body rest after
       → Stands schema e (record { bytes = body; inside = OfType T; levels = k; open_group = None }) → Stands schema e place
   -- in a known group, likewise;
   InGroup : {e : DecodeError} {place : Place} (n T k : ℕ) (f : Field) (rest : List ℕ)
-      → field_at schema place.inside n ≡ Some f → is_map f.cardinality ≡ false → f.single.kind ≡ GroupOf T → place.levels ≡ suc k
+      → field_at schema place.inside n ≡ Some f → is_map f.form ≡ false → f.value_type.kind ≡ GroupOf T → place.levels ≡ suc k
       → KeyFront n wires.StartGroup place.bytes rest
       → Stands schema e (record { bytes = rest; inside = OfType T; levels = k; open_group = Some n }) → Stands schema e place
   -- in an unknown group, where no number is known;
@@ -211,10 +211,10 @@ pub data Stands (schema : Schema) : DecodeError → Place → Type 0 where
       → KeyFront n wires.StartGroup place.bytes rest
       → Stands schema e (record { bytes = rest; inside = OfNothing; levels = k; open_group = Some n }) → Stands schema e place
   -- in a map's entry, with the same levels.
-  InEntry : {e : DecodeError} {place : Place} (n : ℕ) (f : Field) (key : Single) (body rest after : List ℕ)
-      → field_at schema place.inside n ≡ Some f → f.cardinality ≡ MapFrom key → has_level place.levels f.single.kind ≡ true
+  InEntry : {e : DecodeError} {place : Place} (n : ℕ) (f : Field) (key : ValueType) (body rest after : List ℕ)
+      → field_at schema place.inside n ≡ Some f → f.form ≡ MapFrom key → has_level place.levels f.value_type.kind ≡ true
       → KeyFront n wires.LengthDelimited place.bytes rest → DelimitedFront body rest after
-      → Stands schema e (record { bytes = body; inside = OfEntry key f.single; levels = place.levels; open_group = None }) → Stands schema e place
+      → Stands schema e (record { bytes = body; inside = OfEntry key f.value_type; levels = place.levels; open_group = None }) → Stands schema e place
 
 -- Where a message of a type is read.
 abbrev pub StandsInMessage : Schema → ℕ → ℕ → DecodeError → List ℕ → Type 0

@@ -1,10 +1,11 @@
 -- Which records a message type takes, and which bytes it accepts (the encoding guide, "Packed Repeated Fields", "Submessages", "Groups" and "Maps"; the page "Enum Behavior" for closed enums).
 use Rattle.std.specs.Prelude.{ℕ, zero, suc, Bool, true, false, not, ◌&&◌, ◌||◌, List, [], ◌∷◌, length, map, filter, Option, Some, None, nat_eq, nat_lt, nat_le, if◌then◌else◌, IsTrue}
 use Rattle.std.specs.List.{list_all}
+use Rattle.std.specs.Option.{is_some}
 use Rattle.prost_reflect_wire.specs.Varint.{◌>>=◌}
 use Rattle.prost_reflect_wire.specs.Record.{Plain, Len, Records, Payload, Flat, Group, Record, items, payload_levels, Spells, plain_at, read}
 use Rattle.prost_reflect_wire.specs.Scalar.{ScalarKind, elem, kind_wire, is_undeclared}
-use Rattle.prost_reflect_wire.specs.Schema.{Kind, ScalarOf, MessageOf, GroupOf, Single, Cardinality, Singular, Repeated, MapFrom, Field, Schema, known, field_of, is_packable, is_message, passes}
+use Rattle.prost_reflect_wire.specs.Schema.{Kind, ScalarOf, MessageOf, GroupOf, ValueType, FieldForm, Singular, Repeated, MapFrom, Field, Schema, known, field_of, is_packable, is_message, passes}
 use Rattle.prost_reflect_wire.specs.declared.key.WireType.{WireType}
 use Rattle.prost_reflect_wire.specs.declared.key.WireType.TheVariants as wires
 
@@ -16,10 +17,6 @@ LEVEL_LIMIT = 100
 abbrev pub or_none : {A : Type 0} → Option (List A) → List A
 or_none None = []
 or_none (Some xs) = xs
-
-abbrev pub is_some : {A : Type 0} → Option A → Bool
-is_some None = false
-is_some (Some x) = true
 
 abbrev pub fits : ScalarKind → Payload → Bool
 fits kind p = is_some (elem kind p)
@@ -64,9 +61,9 @@ records_in p = or_none (body p)
 -- WHAT IS TAKEN OF A RECORD
 
 -- The payloads of single elements: those of a packed record, else the one that stands there.
-abbrev pub expanded : Kind → Payload → List Payload
-expanded (ScalarOf kind) (Flat (Len bytes)) = if is_packable kind then map Flat (or_none (unpacked kind bytes)) else Flat (Len bytes) ∷ []
-expanded kind p = p ∷ []
+abbrev pub element_payloads_in : Kind → Payload → List Payload
+element_payloads_in (ScalarOf kind) (Flat (Len bytes)) = if is_packable kind then map Flat (or_none (unpacked kind bytes)) else Flat (Len bytes) ∷ []
+element_payloads_in kind p = p ∷ []
 
 -- An undeclared number of a closed enum.
 abbrev pub is_stray : Kind → Payload → Bool
@@ -74,34 +71,34 @@ is_stray (ScalarOf kind) p = is_undeclared kind p
 is_stray kind p = false
 
 -- An entry's last value is an undeclared number.
-abbrev pub is_stray_entry : Single → Payload → Bool
-is_stray_entry single p = elim (last (numbered 2 (records_in p))) [ None ↦ false | Some q ↦ is_stray single.kind q ]
+abbrev pub is_stray_entry : ValueType → Payload → Bool
+is_stray_entry value_type p = elim (last (numbered 2 (records_in p))) [ None ↦ false | Some q ↦ is_stray value_type.kind q ]
 
 -- The payloads of a field's record that are read as values.
-abbrev pub taken_as : Cardinality → Single → Payload → List Payload
-taken_as Singular single p = filter (λ q. not (is_stray single.kind q)) (p ∷ [])
-taken_as (Repeated packed) single p = filter (λ q. not (is_stray single.kind q)) (expanded single.kind p)
-taken_as (MapFrom key) single p = filter (λ q. not (is_stray_entry single q)) (p ∷ [])
+abbrev pub value_payloads : FieldForm → ValueType → Payload → List Payload
+value_payloads Singular value_type p = filter (λ q. not (is_stray value_type.kind q)) (p ∷ [])
+value_payloads (Repeated packed) value_type p = filter (λ q. not (is_stray value_type.kind q)) (element_payloads_in value_type.kind p)
+value_payloads (MapFrom key) value_type p = filter (λ q. not (is_stray_entry value_type q)) (p ∷ [])
 
 -- The others, its strays: they stay as unknown records.
-abbrev pub strays_as : Cardinality → Single → Payload → List Payload
-strays_as Singular single p = filter (is_stray single.kind) (p ∷ [])
-strays_as (Repeated packed) single p = filter (is_stray single.kind) (expanded single.kind p)
-strays_as (MapFrom key) single p = filter (is_stray_entry single) (p ∷ [])
+abbrev pub stray_payloads : FieldForm → ValueType → Payload → List Payload
+stray_payloads Singular value_type p = filter (is_stray value_type.kind) (p ∷ [])
+stray_payloads (Repeated packed) value_type p = filter (is_stray value_type.kind) (element_payloads_in value_type.kind p)
+stray_payloads (MapFrom key) value_type p = filter (is_stray_entry value_type) (p ∷ [])
 
 -- The records of known numbers, without their strays.
-abbrev pub taken : List Field → Record → List Record
-taken fields r = elim (field_of fields r.number) [ None ↦ [] | Some f ↦ map (λ p. record { number = r.number; payload = p }) (taken_as f.cardinality f.single r.payload) ]
+abbrev pub value_records : List Field → Record → List Record
+value_records fields r = elim (field_of fields r.number) [ None ↦ [] | Some f ↦ map (λ p. record { number = r.number; payload = p }) (value_payloads f.form f.value_type r.payload) ]
 
 -- What stays unknown of a record.
-abbrev pub unknown_of : List Field → Record → List Payload
-unknown_of fields r = elim (field_of fields r.number) [ None ↦ r.payload ∷ [] | Some f ↦ strays_as f.cardinality f.single r.payload ]
+abbrev pub unknown_payloads : List Field → Record → List Payload
+unknown_payloads fields r = elim (field_of fields r.number) [ None ↦ r.payload ∷ [] | Some f ↦ stray_payloads f.form f.value_type r.payload ]
 
 -- WHAT IS ALLOWED
 
 -- Whether a type takes records, one level further down.
-abbrev pub Inner : Type 0
-Inner = ℕ → List Record → Bool
+abbrev pub AllowsInside : Type 0
+AllowsInside = ℕ → List Record → Bool
 
 abbrev pub is_len : Payload → Bool
 is_len (Flat (Len bytes)) = true
@@ -112,7 +109,7 @@ is_group_payload (Group inside) = true
 is_group_payload p = false
 
 -- The payload of one value.
-abbrev pub one_allowed : Inner → Kind → Payload → Bool
+abbrev pub one_allowed : AllowsInside → Kind → Payload → Bool
 one_allowed inner (ScalarOf kind) p = fits kind p
 one_allowed inner (MessageOf T) p = is_len p && passes (body p) (inner T)
 one_allowed inner (GroupOf T) p = is_group_payload p && passes (body p) (inner T)
@@ -122,31 +119,31 @@ packed_allowed (ScalarOf kind) (Flat (Len bytes)) = is_packable kind && is_some 
 packed_allowed kind p = false
 
 -- A record of a map's entry; a record of another number is skipped.
-abbrev pub in_entry_allowed : ℕ → Inner → Single → Single → Record → Bool
-in_entry_allowed levels inner key single r = if nat_eq r.number 1 then one_allowed inner key.kind r.payload
-    else if nat_eq r.number 2 then one_allowed inner single.kind r.payload
+abbrev pub in_entry_allowed : ℕ → AllowsInside → ValueType → ValueType → Record → Bool
+in_entry_allowed levels inner key value_type r = if nat_eq r.number 1 then one_allowed inner key.kind r.payload
+    else if nat_eq r.number 2 then one_allowed inner value_type.kind r.payload
     else nat_le (payload_levels r.payload) levels
 
 -- There is a level for a message value, written or not.
 abbrev pub has_level : ℕ → Kind → Bool
 has_level levels kind = not (is_message kind) || nat_lt 0 levels
 
-abbrev pub field_allowed : ℕ → Inner → Cardinality → Single → Payload → Bool
-field_allowed levels inner Singular single p = one_allowed inner single.kind p
-field_allowed levels inner (Repeated packed) single p = one_allowed inner single.kind p || packed_allowed single.kind p
-field_allowed levels inner (MapFrom key) single p = is_len p && has_level levels single.kind && passes (body p) (list_all (in_entry_allowed levels inner key single))
+abbrev pub field_allowed : ℕ → AllowsInside → FieldForm → ValueType → Payload → Bool
+field_allowed levels inner Singular value_type p = one_allowed inner value_type.kind p
+field_allowed levels inner (Repeated packed) value_type p = one_allowed inner value_type.kind p || packed_allowed value_type.kind p
+field_allowed levels inner (MapFrom key) value_type p = is_len p && has_level levels value_type.kind && passes (body p) (list_all (in_entry_allowed levels inner key value_type))
 
-abbrev pub record_allowed : ℕ → Inner → List Field → Record → Bool
+abbrev pub record_allowed : ℕ → AllowsInside → List Field → Record → Bool
 record_allowed levels inner fields r = elim (field_of fields r.number) [
   | None ↦ nat_le (payload_levels r.payload) levels
-  | Some f ↦ field_allowed levels inner f.cardinality f.single r.payload
+  | Some f ↦ field_allowed levels inner f.form f.value_type r.payload
 ]
 
-abbrev pub nothing_inside : Inner
+abbrev pub nothing_inside : AllowsInside
 nothing_inside T rs = false
 
 -- Whether the type takes the records, with so many levels left.
-unfoldable pub allows : Schema → ℕ → Inner
+unfoldable pub allows : Schema → ℕ → AllowsInside
 allows schema zero T rs = list_all (record_allowed 0 nothing_inside (known schema T)) rs
 allows schema (suc levels) T rs = list_all (record_allowed (suc levels) (allows schema levels) (known schema T)) rs
 

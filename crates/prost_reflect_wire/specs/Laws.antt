@@ -3,10 +3,10 @@ use Rattle.std.specs.Prelude.{◌≡◌, ◌≢◌, ℕ, suc, ◌≤◌, ◌<◌
 use Rattle.prost_reflect_wire.specs.Varint.{AreBytes, ◌>>=◌}
 use Rattle.prost_reflect_wire.specs.Record.{Records, Record, Payload, Flat, Spells, read, body_of, valid, payload_valid, short_body}
 use Rattle.prost_reflect_wire.specs.Scalar.{Scalar, ScalarKind, elem, written, scalar_valid, is_undeclared}
-use Rattle.prost_reflect_wire.specs.Schema.{Schema, Field, Kind, ScalarOf, Single, Singular, Repeated, MapFrom, is_packable, known, field_of, is_sibling, schema_valid}
+use Rattle.prost_reflect_wire.specs.Schema.{Schema, Field, Kind, ScalarOf, ValueType, Singular, Repeated, MapFrom, is_packable, known, field_of, is_sibling, schema_valid}
 use Rattle.prost_reflect_wire.specs.Content.{Content, ContentOf, Entries, NoEntries, Stored, Unknown, Value, ScalarValue, MessageValue, ListValue, MapValue, Values, NoValues, Item, Pairs, NoPairs, Pair, schema_of, type_of, ordered, entries_ordered, value_ordered, pairs_ordered}
-use Rattle.prost_reflect_wire.specs.Grammar.{LEVEL_LIMIT, Accepts, accepts, allows, expanded, is_stray, is_stray_entry, records_in, taken, unknown_of}
-use Rattle.prost_reflect_wire.specs.Meaning.{Below, element, entry_key, entry_value, field_value, meaning, decoded, steps}
+use Rattle.prost_reflect_wire.specs.Grammar.{LEVEL_LIMIT, Accepts, accepts, allows, element_payloads_in, is_stray, is_stray_entry, records_in, value_records, unknown_payloads}
+use Rattle.prost_reflect_wire.specs.Meaning.{MeansInside, element, entry_key, entry_value, field_value, meaning, decoded, steps}
 use Rattle.prost_reflect_wire.specs.Writing.{is_default_of, value_payload, pair_payload, record_at, field_payloads, records, encoded, merged}
 use Rattle.prost_reflect_wire.specs.Levels.{levels}
 use Rattle.prost_reflect_wire.specs.Typing.{WellTyped, is_of_type, is_whole_stray, has_value_of, elements_fit, fits_field, holds_message, message_of}
@@ -88,68 +88,68 @@ abbrev pub block : ℕ → List Payload → List Record
 block n ps = map (λ p. record { number = n; payload = p }) ps
 
 -- The records of one stored value are read as it.
-pub record ValueBack (inner : Below) (fields : List Field) (n : ℕ) (f : Field) (v : Value) : Type 0 where
+pub record ValueBack (inner : MeansInside) (fields : List Field) (n : ℕ) (f : Field) (v : Value) : Type 0 where
   pub sources : List Payload
-  pub read : flat_map (taken fields) (map (record_at n) (field_payloads (Some f) v)) ≡ block n sources
-  pub strays : flat_map (unknown_of fields) (map (record_at n) (field_payloads (Some f) v)) ≡ []
-  pub value : field_value inner f.cardinality f.single sources ≡ Some v
+  pub read : flat_map (value_records fields) (map (record_at n) (field_payloads (Some f) v)) ≡ block n sources
+  pub strays : flat_map (unknown_payloads fields) (map (record_at n) (field_payloads (Some f) v)) ≡ []
+  pub value : field_value inner f.form f.value_type sources ≡ Some v
 
 pub record UnknownBack (fields : List Field) (n : ℕ) (p : Payload) : Type 0 where
-  pub read : taken fields (record_at n p) ≡ []
-  pub stays : unknown_of fields (record_at n p) ≡ p ∷ []
+  pub read : value_records fields (record_at n p) ≡ []
+  pub stays : unknown_payloads fields (record_at n p) ≡ p ∷ []
 
 -- So is each of the entries, and no two members of a oneof are among them.
-abbrev pub EntriesBack : Below → List Field → Entries → Type 0
+abbrev pub EntriesBack : MeansInside → List Field → Entries → Type 0
 EntriesBack inner fields NoEntries = ⊤
 EntriesBack inner fields (Stored n v es) = (f : Field) × (field_of fields n ≡ Some f) × ValueBack inner fields n f v × (has_value_of (is_sibling fields f) es ≡ false) × EntriesBack inner fields es
 EntriesBack inner fields (Unknown n p es) = UnknownBack fields n p × EntriesBack inner fields es
 
 -- The record of one element is read as it.
-pub record ElementBack (inner : Below) (kind : Kind) (v : Value) : Type 0 where
-  pub single : expanded kind (value_payload kind v) ≡ value_payload kind v ∷ []
+pub record ElementBack (inner : MeansInside) (kind : Kind) (v : Value) : Type 0 where
+  pub one : element_payloads_in kind (value_payload kind v) ≡ value_payload kind v ∷ []
   pub fits : is_stray kind (value_payload kind v) ≡ false
   pub value : element inner kind (value_payload kind v) ≡ v ∷ []
 
-abbrev pub ElementsBack : Below → Kind → Values → Type 0
+abbrev pub ElementsBack : MeansInside → Kind → Values → Type 0
 ElementsBack inner kind NoValues = ⊤
 ElementsBack inner kind (Item v vs) = ElementBack inner kind v × ElementsBack inner kind vs
 
 -- A list that is not packed is read back where its elements are.
 abbrev pub ListBack : Type 0
-ListBack = (inner : Below) (fields : List Field) (n : ℕ) (f : Field) (v : Value) (vs : Values) → field_of fields n ≡ Some f → f.cardinality ≡ Repeated false →
-    ElementsBack inner f.single.kind (Item v vs) → ValueBack inner fields n f (ListValue (Item v vs))
+ListBack = (inner : MeansInside) (fields : List Field) (n : ℕ) (f : Field) (v : Value) (vs : Values) → field_of fields n ≡ Some f → f.form ≡ Repeated false →
+    ElementsBack inner f.value_type.kind (Item v vs) → ValueBack inner fields n f (ListValue (Item v vs))
 
 -- Scalars in one packed record are.
 abbrev pub PackedBack : Type 0
-PackedBack = (inner : Below) (fields : List Field) (n : ℕ) (f : Field) (kind : ScalarKind) (v : Value) (vs : Values) → field_of fields n ≡ Some f → f.cardinality ≡ Repeated true → f.single.kind ≡ ScalarOf kind →
+PackedBack = (inner : MeansInside) (fields : List Field) (n : ℕ) (f : Field) (kind : ScalarKind) (v : Value) (vs : Values) → field_of fields n ≡ Some f → f.form ≡ Repeated true → f.value_type.kind ≡ ScalarOf kind →
     is_packable kind ≡ true → elements_fit (ScalarOf kind) (Item v vs) ≡ true → ValueBack inner fields n f (ListValue (Item v vs))
 
 -- The record of one entry is read as it.
-pub record PairBack (inner : Below) (key single : Single) (k : Scalar) (v : Value) : Type 0 where
-  pub stays : is_stray_entry single (pair_payload key single k v) ≡ false
-  pub key_read : entry_key key (records_in (pair_payload key single k v)) ≡ k
-  pub value_read : entry_value inner single single.kind (records_in (pair_payload key single k v)) ≡ v
+pub record PairBack (inner : MeansInside) (key value_type : ValueType) (k : Scalar) (v : Value) : Type 0 where
+  pub stays : is_stray_entry value_type (pair_payload key value_type k v) ≡ false
+  pub key_read : entry_key key (records_in (pair_payload key value_type k v)) ≡ k
+  pub value_read : entry_value inner value_type value_type.kind (records_in (pair_payload key value_type k v)) ≡ v
 
-abbrev pub PairsBack : Below → Single → Single → Pairs → Type 0
-PairsBack inner key single NoPairs = ⊤
-PairsBack inner key single (Pair k v ps) = PairBack inner key single k v × PairsBack inner key single ps
+abbrev pub PairsBack : MeansInside → ValueType → ValueType → Pairs → Type 0
+PairsBack inner key value_type NoPairs = ⊤
+PairsBack inner key value_type (Pair k v ps) = PairBack inner key value_type k v × PairsBack inner key value_type ps
 
 -- A map in ascending keys is read back where its entries are.
 abbrev pub MapBack : Type 0
-MapBack = (inner : Below) (fields : List Field) (n : ℕ) (f : Field) (key : Single) (k : Scalar) (v : Value) (ps : Pairs) → field_of fields n ≡ Some f → f.cardinality ≡ MapFrom key →
-    PairsBack inner key f.single (Pair k v ps) → pairs_ordered (Pair k v ps) ≡ true → ValueBack inner fields n f (MapValue (Pair k v ps))
+MapBack = (inner : MeansInside) (fields : List Field) (n : ℕ) (f : Field) (key : ValueType) (k : Scalar) (v : Value) (ps : Pairs) → field_of fields n ≡ Some f → f.form ≡ MapFrom key →
+    PairsBack inner key f.value_type (Pair k v ps) → pairs_ordered (Pair k v ps) ≡ true → ValueBack inner fields n f (MapValue (Pair k v ps))
 
 -- A scalar's, a message's and a stray's are.
 abbrev pub ScalarBack : Type 0
-ScalarBack = (inner : Below) (fields : List Field) (n : ℕ) (f : Field) (kind : ScalarKind) (v : Scalar) → field_of fields n ≡ Some f → f.cardinality ≡ Singular → f.single.kind ≡ ScalarOf kind →
-    scalar_valid kind v ≡ true → is_default_of f.single (ScalarValue v) ≡ false → ValueBack inner fields n f (ScalarValue v)
+ScalarBack = (inner : MeansInside) (fields : List Field) (n : ℕ) (f : Field) (kind : ScalarKind) (v : Scalar) → field_of fields n ≡ Some f → f.form ≡ Singular → f.value_type.kind ≡ ScalarOf kind →
+    scalar_valid kind v ≡ true → is_default_of f.value_type (ScalarValue v) ≡ false → ValueBack inner fields n f (ScalarValue v)
 
 abbrev pub MessageBack : Type 0
-MessageBack = (inner : Below) (fields : List Field) (n : ℕ) (f : Field) (c : Content) → field_of fields n ≡ Some f → f.cardinality ≡ Singular → is_of_type f.single.kind (type_of c) ≡ true →
+MessageBack = (inner : MeansInside) (fields : List Field) (n : ℕ) (f : Field) (c : Content) → field_of fields n ≡ Some f → f.form ≡ Singular → is_of_type f.value_type.kind (type_of c) ≡ true →
     valid (body_of (records c)) ≡ true → inner (type_of c) (records c) ≡ c → ValueBack inner fields n f (MessageValue c)
 
 abbrev pub StrayBack : Type 0
-StrayBack = (fields : List Field) (n : ℕ) (f : Field) (p : Payload) → field_of fields n ≡ Some f → is_whole_stray f.cardinality f.single p ≡ true → UnknownBack fields n p
+StrayBack = (fields : List Field) (n : ℕ) (f : Field) (p : Payload) → field_of fields n ≡ Some f → is_whole_stray f.form f.value_type p ≡ true → UnknownBack fields n p
 
 -- Where the records of each value are read as it, those of the content mean it.
 abbrev pub EntriesMean : Type 0
@@ -214,8 +214,8 @@ Passage = (older newer : Schema) (A B : ℕ) (bytes : List ℕ) (c : Content) �
 abbrev pub PathTo : Schema → ℕ → List ℕ → Value → Type 0
 PathTo schema T [] v = ⊥
 PathTo schema T (n ∷ []) v = (f : Field) × (field_of (known schema T) n ≡ Some f) × (fits_field f v ≡ true) × (holds_message v ≡ false) × (value_ordered v ≡ true)
-PathTo schema T (n ∷ m ∷ path) v = (f : Field) × (field_of (known schema T) n ≡ Some f) × (f.cardinality ≡ Singular)
-    × ((U : ℕ) × (message_of f.single.kind ≡ Some U) × PathTo schema U (m ∷ path) v)
+PathTo schema T (n ∷ m ∷ path) v = (f : Field) × (field_of (known schema T) n ≡ Some f) × (f.form ≡ Singular)
+    × ((U : ℕ) × (message_of f.value_type.kind ≡ Some U) × PathTo schema U (m ∷ path) v)
 
 -- A value set through the older type is set in what the newer one reads.
 abbrev pub EditPassage : Type 0

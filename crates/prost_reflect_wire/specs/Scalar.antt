@@ -2,7 +2,7 @@
 use Rattle.std.specs.Prelude.{ℕ, ◌+◌, ◌*◌, ◌/◌, ◌%◌, ◌^◌, nat_eq, nat_lt, if◌then◌else◌, Bool, true, false, not, ◌&&◌, ℤ, pos, negsuc, List, [], Option, Some, None}
 use Rattle.std.specs.declared.cmp.Ordering.{Ordering}
 use Rattle.std.specs.declared.cmp.Ordering.TheVariants.{Less}
-use Rattle.std.specs.Ordering.{nat_cmp, int_cmp, bool_cmp, is_eq}
+use Rattle.std.specs.Ordering.{nat_cmp, int_cmp, bool_cmp, int_eq, is_eq}
 use Rattle.std.specs.Cmp.Lexicographic.{slice_cmp}
 use Rattle.std.specs.Int.{w32, w64, from_le_bytes, to_le_bytes, cast_signed, cast_unsigned}
 use Rattle.std.specs.List.{list_any}
@@ -36,9 +36,6 @@ pub data ScalarKind : Type 0 where
   Enum : (first : ℤ) (numbers : EnumNumbers) → ScalarKind
 
 -- COMPARISON
-
-abbrev pub int_eq : ℤ → ℤ → Bool
-int_eq a b = is_eq (int_cmp a b)
 
 -- The place of a variant in the order of values.
 abbrev pub variant_rank : Scalar → ℕ
