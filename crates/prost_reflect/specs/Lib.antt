@@ -1,2 +1,4 @@
 pub mod Pools
 pub mod Descriptors
+pub mod Items
+pub mod formers

@@ -2,6 +2,7 @@
 #![tactic(auto)]
 
 mod descriptor;
+mod fields;
 
 pub use descriptor::{DescriptorPool, EnumDescriptor, FieldDescriptor, Kind, MessageDescriptor};
 pub use prost_reflect_tables::Cardinality;

@@ -1,0 +1,4 @@
+//! The fields of a message by number, over any type of values.
+
+pub mod number_map;
+pub mod sorted;
