@@ -4,10 +4,12 @@
 mod error;
 mod key;
 pub mod laws;
+mod payload;
 mod unknown;
 mod varint;
 
 pub use error::{DecodeError, EncodeError};
 pub use key::{FieldNumber, WireType, decode_key};
+pub use payload::{delimited_at, fixed32_at, fixed64_at, low_i32, low_u32, sign_extended, unzigzag32, unzigzag64, zigzag32, zigzag64};
 pub use unknown::{UnknownField, UnknownFieldSet, UnknownFieldValue};
 pub use varint::decode_varint;
