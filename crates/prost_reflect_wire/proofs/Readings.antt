@@ -9,7 +9,7 @@ use Rattle.prost_reflect_wire.specs.Content.{Content, ContentOf, empty, schema_o
 use Rattle.prost_reflect_wire.specs.Grammar.{allows, record_allowed}
 use Rattle.prost_reflect_wire.specs.Meaning.{MeansInside, JoinsInside, meaning, decoded, step_by, steps_by, steps}
 use Rattle.prost_reflect_wire.specs.Typing.{kept}
-use Rattle.prost_reflect_wire.specs.Progress.{ReadTo}
+use Rattle.prost_reflect_wire.specs.Decoding.{ReadTo}
 use Rattle.prost_reflect_wire.proofs.Deeper.{both_true, allows_append}
 use Rattle.prost_reflect_wire.proofs.Allowed.{inside, allows_inside}
 use Rattle.prost_reflect_wire.proofs.Means.{below, further}

@@ -13,7 +13,7 @@ pub mod Typing
 pub mod Reduction
 pub mod Edit
 pub mod Storing
-pub mod Progress
+pub mod Decoding
 pub mod Fault
 pub mod Laws
 pub mod ExampleSchemas
