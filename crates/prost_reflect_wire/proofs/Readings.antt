@@ -3,17 +3,20 @@ use Rattle.std.proofs.Common.{◌≡◌, ℕ, zero, suc, Bool, true, false, cond
 use Rattle.std.specs.List.{list_all}
 use Rattle.prost_reflect_wire.specs.Varint.{AreBytes, guard, ◌>>=◌}
 use Rattle.prost_reflect_wire.specs.Record.{Record, Records, NoRecords, Payload, Flat, Group, items, before, body_of, Spells, read}
-use Rattle.prost_reflect_wire.specs.Front.{RecordsFront, RecordFront}
+use Rattle.prost_reflect_wire.specs.declared.key.WireType.{WireType}
+use Rattle.prost_reflect_wire.specs.Front.{KeyFront, ValueFront, RecordsFront, RecordFront}
 use Rattle.prost_reflect_wire.specs.Schema.{Schema, known}
 use Rattle.prost_reflect_wire.specs.Content.{Content, ContentOf, empty, schema_of, type_of}
 use Rattle.prost_reflect_wire.specs.Grammar.{allows, record_allowed}
 use Rattle.prost_reflect_wire.specs.Meaning.{MeansInside, JoinsInside, meaning, decoded, step_by, steps_by, steps}
+use Rattle.prost_reflect_wire.specs.Writing.{record_at}
 use Rattle.prost_reflect_wire.specs.Typing.{kept}
-use Rattle.prost_reflect_wire.specs.Decoding.{ReadTo}
+use Rattle.prost_reflect_wire.specs.Decoding.{ReadTo, RecordRead}
 use Rattle.prost_reflect_wire.proofs.Deeper.{both_true, allows_append}
 use Rattle.prost_reflect_wire.proofs.Allowed.{inside, allows_inside}
 use Rattle.prost_reflect_wire.proofs.Means.{below, further}
 use Rattle.prost_reflect_wire.proofs.Steps.{meaning_steps, meaning_empty}
+use Rattle.prost_reflect_wire.proofs.MessageFaults.{record_front}
 use Rattle.prost_reflect_wire.proofs.Reading.{spelled_read}
 use Rattle.prost_reflect_wire.proofs.Values.{items_body}
 
@@ -67,13 +70,25 @@ read_nothing k c bytes = record {
   allowed = allows_inside (schema_of c) k (type_of c) [];
   means = sym (steps_level k (kept c) []);
 }
-pub read_more : (k : ℕ) (old mid new : Content) (r : Record) (bytes rest end : List ℕ) → ReadTo k old mid bytes rest → RecordFront r rest end →
-    record_allowed k (inside (schema_of old) k) (known (schema_of old) (type_of old)) r ≡ true → step_by (below (schema_of old) k) (further k) (kept mid) r ≡ kept new → ReadTo k old new bytes end
-read_more k old mid new r bytes rest end done front allowed step = record {
-  records = done.records ++ (r ∷ []);
-  front = front_more done.records r bytes rest end done.front front;
-  allowed = allows_append (schema_of old) k (type_of old) done.records (r ∷ []) done.allowed (allows_inside (schema_of old) k (type_of old) (r ∷ []) ∙ both_true allowed refl);
-  means = sym step ∙ ap (λ c. step_by (below (schema_of old) k) (further k) c r) done.means
-      ∙ ap (λ s. step_by (below s k) (further k) (steps k (kept old) done.records) r) (sym (kept_schema old)) ∙ sym (steps_one k (kept old) done.records r);
-}
+-- one step behind another
+pub steps_behind : (k : ℕ) (c d : Content) (rs : List Record) (r : Record) → d ≡ steps k c rs → schema_of d ≡ schema_of c → steps k c (rs ++ (r ∷ [])) ≡ steps k d (r ∷ [])
+steps_behind k c d rs r is same =
+    steps_one k c rs r ∙ ap₂ (λ schema x. step_by (below schema k) (further k) x r) (sym same) (sym is) ∙ sym (steps_level k d (r ∷ []))
 
+-- one record more
+pub read_record : (k n : ℕ) (w : WireType) (old mid new : Content) (bytes rest after end : List ℕ) → ReadTo k old mid bytes rest → KeyFront n w rest after → RecordRead k n w mid new after end →
+    schema_of mid ≡ schema_of old → type_of mid ≡ type_of old → ReadTo k old new bytes end
+read_record k n w old mid new bytes rest after end done key next schema type = record {
+  records = done.records ++ (r ∷ []);
+  front = front_more done.records r bytes rest end done.front
+      (record_front n next.payload rest after end (subst (λ v. KeyFront n v rest after) (sym value.wire) key) value.front);
+  allowed = allows_append (schema_of old) k (type_of old) done.records (r ∷ []) done.allowed
+      (ap₂ (λ s T. allows s k T (r ∷ [])) (sym schema) (sym type) ∙ next.allowed);
+  means = next.means ∙ sym (steps_behind k (kept old) (kept mid) done.records r done.means (kept_schema mid ∙ schema ∙ sym (kept_schema old)));
+}
+  where
+    r : Record
+    r = record_at n next.payload
+
+    value : ValueFront n w k next.payload after end
+    value = next.value
