@@ -1,6 +1,7 @@
 pub mod Varint
 pub mod Record
 pub mod Front
+pub mod Buffer
 pub mod Unknown
 pub mod Scalar
 pub mod Schema

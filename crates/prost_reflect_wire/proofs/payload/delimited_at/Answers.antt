@@ -1,6 +1,4 @@
 use Rattle.std.proofs.Common.{rules, arith, inr}
-use Rattle.std.proofs.lemmas.Result.{err_from_is_err_and}
-use Rattle.prost_reflect_wire.specs.Front.{DelimitedFront}
 use Rattle.prost_reflect_wire.specs.declared.error.DecodeError.TheVariants as errors
 use Rattle.prost_reflect_wire.proofs.PlainFronts.{delimited_once, delimited_cut, delimited_no_fault}
 use Rattle.prost_reflect_wire.proofs.payload.delimited_at.Goals as goal
