@@ -1,11 +1,11 @@
--- A fault behind whole records stands in front of them, and what a key or a scalar is refused for stands where it is read.
-use Rattle.std.proofs.Common.{◌≡◌, ◌≢◌, ◌⊎◌, ℕ, Bool, true, false, cond, List, [], ◌∷◌, ◌++◌, Option, Some, None, refl, ap, sym, ◌∙◌, append-nil, append_assoc, subst, inl, inr}
+-- A fault behind whole records stands in front of them, and what a scalar is refused for stands where it is read.
+use Rattle.std.proofs.Common.{◌≡◌, ◌≢◌, ℕ, Bool, true, false, cond, List, [], ◌∷◌, ◌++◌, Option, Some, None, refl, ap, sym, ◌∙◌, append-nil, append_assoc, subst, inl, inr}
 use Rattle.prost_reflect_wire.specs.declared.key.WireType.{WireType}
 use Rattle.prost_reflect_wire.specs.declared.key.WireType.TheVariants as wires
 use Rattle.prost_reflect_wire.specs.declared.error.DecodeError.{DecodeError}
 use Rattle.prost_reflect_wire.specs.declared.error.DecodeError.TheVariants as errors
 use Rattle.prost_reflect_wire.specs.Record.{Record, NoRecords, Payload, Flat, Group, before, body_of, Spells, payload_wire}
-use Rattle.prost_reflect_wire.specs.Front.{KeyFront, PlainFront, GroupFront, PayloadFront, RecordsFront, RecordFront, KeyFault}
+use Rattle.prost_reflect_wire.specs.Front.{KeyFront, PlainFront, GroupFront, PayloadFront, RecordsFront, RecordFront}
 use Rattle.prost_reflect_wire.specs.Scalar.{ScalarKind, kind_wire}
 use Rattle.prost_reflect_wire.specs.Schema.{Kind, ScalarOf, FieldForm, Singular, Field, Schema}
 use Rattle.prost_reflect_wire.specs.Writing.{record_at}
@@ -62,12 +62,6 @@ stands_behind schema e inside k o [] bytes rest f s = subst (λ b. Stands schema
 stands_behind schema e inside k o (r ∷ rs) bytes rest f s =
     let (mid, g, h) = first_record r rs bytes rest f in
     Behind r mid g (stands_behind schema e inside k o rs mid rest h s)
-
-pub key_stands : (schema : Schema) (e : DecodeError) (place : Place) → place.bytes ≢ [] → KeyFault e place.bytes → Stands schema e place
-key_stands schema errors.Truncated place some f = Here (inl (some, f))
-key_stands schema errors.Varint place some f = Here (inl f)
-key_stands schema errors.Key place some f = Here f
-key_stands schema _ place some f = absurd f
 
 -- a singular scalar's
 pub scalar_stands : (schema : Schema) (e : DecodeError) (place : Place) (n : ℕ) (w : WireType) (rest : List ℕ) (f : Field) (kind : ScalarKind) → KeyFront n w place.bytes rest → field_at schema place.inside n ≡ Some f →

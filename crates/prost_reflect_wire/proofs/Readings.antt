@@ -92,3 +92,13 @@ read_record k n w old mid new bytes rest after end done key next schema type = r
 
     value : ValueFront n w k next.payload after end
     value = next.value
+-- a whole message, read into nothing
+pub read_decoded : (schema : Schema) (k T : ℕ) (new : Content) (bytes : List ℕ) → ReadTo k (empty schema T) new bytes [] → decoded schema k T bytes ≡ Some (kept new)
+read_decoded schema k T new bytes done =
+    ap (λ (o : Option Records). o >>= λ rs. guard (allows schema k T (items rs)) (meaning schema k T (items rs))) (spelled_read (body_of done.records) bytes whole)
+    ∙ ap (λ rs. guard (allows schema k T rs) (meaning schema k T rs)) (items_body done.records)
+    ∙ ap (λ b. guard b (meaning schema k T done.records)) done.allowed
+    ∙ ap Some (meaning_steps schema k T [] done.records ∙ ap (λ c. steps k c done.records) (meaning_empty schema k T) ∙ sym done.means)
+  where
+    whole : Spells (body_of done.records) bytes
+    whole = let f : RecordsFront (body_of done.records) bytes [] = done.front in subst (Spells (body_of done.records)) (sym (f.parts ∙ append-nil f.front)) f.spelled

@@ -12,7 +12,7 @@ use Rattle.prost_reflect_wire.specs.Content.{Content, ContentOf, Entries, Value,
 use Rattle.prost_reflect_wire.specs.Grammar.{allows, record_allowed, field_allowed, one_allowed, fits}
 use Rattle.prost_reflect_wire.specs.Meaning.{step_by, steps}
 use Rattle.prost_reflect_wire.specs.Writing.{record_at}
-use Rattle.prost_reflect_wire.specs.Typing.{kept, entries_fit, value_fits, unknown_fits, kind_takes}
+use Rattle.prost_reflect_wire.specs.Typing.{kept, entries_pass, fit_test, unknown_fits, kind_takes}
 use Rattle.prost_reflect_wire.specs.Edit.{with_value}
 use Rattle.prost_reflect_wire.specs.Storing.{with_stored, with_unknown}
 use Rattle.prost_reflect_wire.specs.Decoding.{RecordRead, ScalarRead}
@@ -103,11 +103,11 @@ scalar_read_fits kind w v bytes rest read whole h = let f = read.front in
     read_valid kind (Flat read.plain) v (plain_spelled read.plain f.front f.spelled (bytes_apart f.front rest (ap are_bytes (sym f.parts) ∙ h)).0) (whole.declared (Flat read.plain)) read.value
 
 pub scalar_stored_fits : (fields : List Field) (es ds : Entries) (f : Field) (kind : ScalarKind) (v : Scalar) → field_of fields f.number ≡ Some f → f.form ≡ Singular → f.value_type.kind ≡ ScalarOf kind → scalar_valid kind v ≡ true →
-    entries_ordered ds ≡ true → Changed fields f (ScalarValue v) es ds → entries_fit fields es ≡ true → entries_fit fields ds ≡ true
+    entries_ordered ds ≡ true → Changed fields f (ScalarValue v) es ds → entries_pass fit_test fields es ≡ true → entries_pass fit_test fields ds ≡ true
 scalar_stored_fits fields es ds f kind v found form is fits o slots h = slots_fit fields ds o
-    (λ m. subst (SlotFits fields m) (sym (slots m)) (stored_fits fields f (ScalarValue v) m (slot_at es m) found (both_true (ap is_singular form) (ap (λ k. kind_takes k v) is ∙ fits)) (fits_slots fields es m h)))
+    (λ m. subst (SlotFits fields m) (sym (slots m)) (stored_fits fields f (ScalarValue v) m (slot_at es m) found (both_true (both_true (ap is_singular form) (ap (λ k. kind_takes k v) is ∙ fits)) refl) (fits_slots fields es m h)))
 
 pub unknown_stored_fits : (fields : List Field) (es ds : Entries) (n : ℕ) (p : Payload) → field_of fields n ≡ None → number_valid n ≡ true → payload_valid p ≡ true →
-    entries_ordered ds ≡ true → ((m : ℕ) → slot_at ds m ≡ with_unknown n p m (slot_at es m)) → entries_fit fields es ≡ true → entries_fit fields ds ≡ true
+    entries_ordered ds ≡ true → ((m : ℕ) → slot_at ds m ≡ with_unknown n p m (slot_at es m)) → entries_pass fit_test fields es ≡ true → entries_pass fit_test fields ds ≡ true
 unknown_stored_fits fields es ds n p none number fits o slots h = slots_fit fields ds o
     (λ m. subst (SlotFits fields m) (sym (slots m)) (unknown_kept_fits fields n p m (slot_at es m) (ap (λ o. unknown_fits o n p) none ∙ both_true number fits) (fits_slots fields es m h)))

@@ -100,7 +100,7 @@ then_ordered n (Some v) es h c o = both_true (both_true c (h v refl)) o
 
 kept_is : (o : Option Field) (v w : Value) → kept_value o v ≡ Some w → v ≡ w
 kept_is None v w e = cc
-kept_is (Some f) v w e = go (is_field_default f.form f.value_type v) e
+kept_is (Some f) v w e = go (is_field_default f v) e
   where
     go : (b : Bool) → cond b None (Some v) ≡ Some w → v ≡ w
     go true e = cc

@@ -4,13 +4,17 @@ use Rattle.std.specs.Bool.{⊤}
 use Rattle.std.specs.List.{list_all}
 use Rattle.std.proofs.lemmas.Bool.{eqb-true, eq-eqb}
 use Rattle.prost_reflect_wire.specs.Record.{Payload}
-use Rattle.prost_reflect_wire.specs.Schema.{Kind, Field, Schema, field_of, is_sibling}
+use Rattle.prost_reflect_wire.specs.Schema.{Field, field_of, is_sibling, passes}
 use Rattle.prost_reflect_wire.specs.Content.{Entries, NoEntries, Stored, Unknown, Value, Slot, value_at, unknowns_at, slot_at, comes_before, entries_ordered, value_ordered}
-use Rattle.prost_reflect_wire.specs.Typing.{entries_fit, value_fits, unknown_fits, EntriesTyped, ValueTyped, kind_at}
+use Rattle.prost_reflect_wire.specs.Typing.{entries_pass, value_passes, fit_test, value_valid, unknown_fits}
 use Rattle.prost_reflect_wire.specs.Edit.{with_value}
 use Rattle.prost_reflect_wire.specs.Storing.{with_stored, with_unknown}
 use Rattle.prost_reflect_wire.proofs.Deeper.{and_both, both_true, all_append}
 use Rattle.prost_reflect_wire.proofs.Rebuilt.{no_value_below}
+
+-- a value fits its number, and so does all that is in it
+abbrev pub value_fits : Option Field → Value → Bool
+value_fits o v = passes o (λ f. value_valid f v) && value_passes fit_test v
 
 abbrev pub OptionFits : Option Field → Option Value → Type 0
 OptionFits o None = ⊤
@@ -21,10 +25,10 @@ pub record SlotFits (fields : List Field) (n : ℕ) (slot : Slot) : Type 0 where
   pub value : OptionFits (field_of fields n) slot.value
   pub unknowns : list_all (unknown_fits (field_of fields n) n) slot.unknowns ≡ true
 
-pub fits_slots : (fields : List Field) (es : Entries) (n : ℕ) → entries_fit fields es ≡ true → SlotFits fields n (slot_at es n)
+pub fits_slots : (fields : List Field) (es : Entries) (n : ℕ) → entries_pass fit_test fields es ≡ true → SlotFits fields n (slot_at es n)
 fits_slots fields NoEntries n h = record { value = tt; unknowns = refl }
 fits_slots fields (Stored m v es) n h =
-    let (a, rest) = and_both (value_fits (field_of fields m) v) (entries_fit fields es) h in
+    let (a, rest) = and_both (value_fits (field_of fields m) v) (entries_pass fit_test fields es) h in
     let more : SlotFits fields n (slot_at es n) = fits_slots fields es n rest in
     record { value = go (nat_eq m n) refl a more.value; unknowns = more.unknowns }
   where
@@ -32,7 +36,7 @@ fits_slots fields (Stored m v es) n h =
     go true e a more = ap (λ k. value_fits (field_of fields k) v) (sym (eqb-true m n e)) ∙ a
     go false e a more = more
 fits_slots fields (Unknown m p es) n h =
-    let (a, rest) = and_both (unknown_fits (field_of fields m) m p) (entries_fit fields es) h in
+    let (a, rest) = and_both (unknown_fits (field_of fields m) m p) (entries_pass fit_test fields es) h in
     let more : SlotFits fields n (slot_at es n) = fits_slots fields es n rest in
     record { value = more.value; unknowns = go (nat_eq m n) refl a more.unknowns }
   where
@@ -40,7 +44,7 @@ fits_slots fields (Unknown m p es) n h =
     go true e a more = both_true (ap (λ k. unknown_fits (field_of fields k) k p) (sym (eqb-true m n e)) ∙ a) more
     go false e a more = more
 
-pub slots_fit : (fields : List Field) (es : Entries) → entries_ordered es ≡ true → ((n : ℕ) → SlotFits fields n (slot_at es n)) → entries_fit fields es ≡ true
+pub slots_fit : (fields : List Field) (es : Entries) → entries_ordered es ≡ true → ((n : ℕ) → SlotFits fields n (slot_at es n)) → entries_pass fit_test fields es ≡ true
 slots_fit fields NoEntries o h = refl
 slots_fit fields (Stored m v es) o h =
     let (a, rest) = and_both (comes_before m es && value_ordered v) (entries_ordered es) o in

@@ -4,12 +4,12 @@ use Rattle.std.proofs.lemmas.Bool.{eqb-true, eqb-false, eq-eqb, ne_eqb}
 use Rattle.prost_reflect_wire.specs.Varint.{◌>>=◌}
 use Rattle.prost_reflect_wire.specs.Record.{Record, Payload}
 use Rattle.prost_reflect_wire.specs.Scalar.{Scalar, ScalarKind, elem, scalar_eq, is_undeclared}
-use Rattle.prost_reflect_wire.specs.Schema.{Kind, ScalarOf, ValueType, FieldForm, Singular, Field, Schema, known, field_of, is_sibling}
+use Rattle.prost_reflect_wire.specs.Schema.{Kind, ScalarOf, ValueType, FieldForm, Singular, Field, Schema, known, field_of, is_sibling, is_singular}
 use Rattle.prost_reflect_wire.specs.Content.{Content, ContentOf, Entries, NoEntries, Stored, Unknown, Value, ScalarValue, Slot, value_at, unknowns_at, slot_at, changed, insert_number, numbers_in, comes_before, ordered, entries_ordered, value_ordered}
 use Rattle.prost_reflect_wire.specs.Grammar.{value_records, unknown_payloads, is_stray}
 use Rattle.prost_reflect_wire.specs.Meaning.{MeansInside, JoinsInside, present, one_joined, value_joined, value_step, value_behind, slot_step, step_by}
-use Rattle.prost_reflect_wire.specs.Writing.{record_at}
-use Rattle.prost_reflect_wire.specs.Typing.{kept, kept_entries, kept_value, kept_inside, is_field_default}
+use Rattle.prost_reflect_wire.specs.Writing.{record_at, is_default_of}
+use Rattle.prost_reflect_wire.specs.Typing.{kept, kept_entries, kept_value, kept_inside, is_empty_of}
 use Rattle.prost_reflect_wire.specs.Edit.{with_value}
 use Rattle.prost_reflect_wire.specs.Laws.{UnknownBack}
 use Rattle.prost_reflect_wire.specs.Storing.{with_stored, with_unknown}
@@ -65,7 +65,7 @@ module _ (inner : MeansInside) (further : JoinsInside) (fields : List Field) whe
       ap (λ form. value_joined inner further form f.value_type old p) r.form
       ∙ ap (λ k. one_joined inner further f.value_type k old p) r.kind_is
       ∙ ap (λ (o : Option Scalar). o >>= present f.value_type) r.read
-      ∙ sym (ap (λ form. cond (is_field_default form f.value_type (ScalarValue v)) None (Some (ScalarValue v))) r.form)
+      ∙ sym (ap (λ form. cond (is_empty_of form (ScalarValue v) || (is_singular form && is_default_of f.value_type (ScalarValue v))) None (Some (ScalarValue v))) r.form)
 
   -- what is kept of a slot whose value goes, or stays
   kept_cleared : (o : Option Field) (b : Bool) (slot : Slot) →

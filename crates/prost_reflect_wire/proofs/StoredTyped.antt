@@ -6,7 +6,7 @@ use Rattle.prost_reflect_wire.specs.Record.{Payload}
 use Rattle.prost_reflect_wire.specs.Scalar.{Scalar}
 use Rattle.prost_reflect_wire.specs.Schema.{Kind, Field, Schema, field_of, is_sibling}
 use Rattle.prost_reflect_wire.specs.Content.{Entries, NoEntries, Stored, Unknown, Value, ScalarValue, Slot, value_at, unknowns_at, slot_at, comes_before, entries_ordered, value_ordered}
-use Rattle.prost_reflect_wire.specs.Typing.{EntriesTyped, ValueTyped, kind_at}
+use Rattle.prost_reflect_wire.specs.Typing.{EntriesTyped, ValueTyped, kind_for}
 use Rattle.prost_reflect_wire.specs.Edit.{with_value}
 use Rattle.prost_reflect_wire.specs.Storing.{with_stored, with_unknown}
 use Rattle.prost_reflect_wire.proofs.Deeper.{and_both}
@@ -14,7 +14,7 @@ use Rattle.prost_reflect_wire.proofs.Rebuilt.{no_value_below}
 
 abbrev pub OptionTyped : Schema → List Field → ℕ → Option Value → Type 0
 OptionTyped schema fields n None = ⊤
-OptionTyped schema fields n (Some v) = ValueTyped schema (kind_at (field_of fields n)) v
+OptionTyped schema fields n (Some v) = ValueTyped schema (kind_for (field_of fields n) v) v
 
 module _ (schema : Schema) (fields : List Field) where
   pub typed_values : (es : Entries) (n : ℕ) → EntriesTyped schema fields es → OptionTyped schema fields n (value_at n es)
@@ -22,7 +22,7 @@ module _ (schema : Schema) (fields : List Field) where
   typed_values (Stored m v es) n (h, rest) = go (nat_eq m n) refl (typed_values es n rest)
     where
       go : (b : Bool) → nat_eq m n ≡ b → OptionTyped schema fields n (value_at n es) → OptionTyped schema fields n (cond b (Some v) (value_at n es))
-      go true e more = subst (λ k. ValueTyped schema (kind_at (field_of fields k)) v) (eqb-true m n e) h
+      go true e more = subst (λ k. ValueTyped schema (kind_for (field_of fields k) v) v) (eqb-true m n e) h
       go false e more = more
   typed_values (Unknown m p es) n h = typed_values es n h
 
@@ -33,7 +33,7 @@ module _ (schema : Schema) (fields : List Field) where
       let none : value_at m es ≡ None = no_value_below m m es (and_both (comes_before m es) (value_ordered v) a).0 rest (omega arith) in
       (here (nat_eq m m) (eq-eqb m m refl) (h m), values_typed es rest (λ n. other n (nat_eq m n) refl none (h n)))
     where
-      here : (b : Bool) → b ≡ true → OptionTyped schema fields m (cond b (Some v) (value_at m es)) → ValueTyped schema (kind_at (field_of fields m)) v
+      here : (b : Bool) → b ≡ true → OptionTyped schema fields m (cond b (Some v) (value_at m es)) → ValueTyped schema (kind_for (field_of fields m) v) v
       here true e s = s
       here false e s = absurd (true≢false (sym e))
 

@@ -1,14 +1,7 @@
 //! The wire format of Protocol Buffers: definitions, laws over them, readers and writers.
 #![tactic(auto)]
 
-ghost use Rattle.prost_reflect_wire.specs.ExampleRows.{WorkedRows};
-ghost use Rattle.prost_reflect_wire.specs.ExampleFaults.{WorkedFaults};
-ghost use Rattle.prost_reflect_wire.specs.Laws.{OneReading, ReadIsSpells, WrittenSpells, AcceptsIsTest, MeaningBySteps, Commute, SameBehind, LevelsFree, AllowedFurther, WrittenIsRead, EntriesMean, ScalarBack, MessageBack, ListBack, PackedBack, MapBack, RecordsMean, EncodedSpells, Canonicity, RecordsAllowed, RoundTrip, MergedSteps, PiecesJoin, ReadIsValid, MeaningOrdered, StrayBack};
-
 mod buffer;
-mod error;
-mod key;
-mod payload;
 mod error;
 mod key;
 pub mod laws;
