@@ -1,2 +1,5 @@
 pub mod Pools
 pub mod Descriptors
+pub mod Fields
+pub mod Kinds
+pub mod Enums
