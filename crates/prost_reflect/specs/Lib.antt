@@ -1,4 +1,11 @@
 pub mod Pools
 pub mod Descriptors
+pub mod Schemas
 pub mod Items
+pub mod Entries
+pub mod Known
+pub mod Sound
+pub mod Codes
+pub mod Same
+pub mod SameLaws
 pub mod formers

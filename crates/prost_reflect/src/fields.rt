@@ -1,4 +1,5 @@
 //! The fields of a message by number, over any type of values.
 
+pub mod entry;
 pub mod number_map;
 pub mod sorted;
