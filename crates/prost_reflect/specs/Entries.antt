@@ -1,15 +1,11 @@
 -- What is stored at each number.
-use Rattle.std.specs.Prelude.{◌≡◌, ◌≢◌, ℕ, Bool, List, [], ◌∷◌, ◌++◌, Option, None, Some, option_and_then, is_some}
+use Rattle.std.specs.Prelude.{◌≡◌, ◌≢◌, ℕ, Bool, List, [], ◌∷◌, ◌++◌, Option, None, Some, option_and_then, option_map, unwrap_or, is_some}
 use Rattle.prost_reflect_wire.specs.Record.{Record}
 use Rattle.prost_reflect_wire.specs.Unknown.{records_of}
 use Rattle.prost_reflect_wire.specs.declared.unknown.UnknownFieldSet.{UnknownFieldSet}
 use Rattle.prost_reflect.specs.Items.{item_at, with_item, put_item, without_item}
 use Rattle.prost_reflect.specs.declared.fields.entry.Entry.{Entry}
 use Rattle.prost_reflect.specs.declared.fields.entry.Entry.TheVariants.{Value, Unknown, Both}
-
-abbrev pub records_in : Option UnknownFieldSet → List Record
-records_in None = []
-records_in (Some u) = records_of u
 
 module _ {V : Type 0} where
   abbrev pub value_in : Entry V → Option V
@@ -22,17 +18,15 @@ module _ {V : Type 0} where
   unknown_in (Unknown u) = Some u
   unknown_in (Both v u) = Some u
 
+  -- The unknown records, if there are some.
+  abbrev pub records_in : Entry V → Option (List Record)
+  records_in e = option_map records_of (unknown_in e)
+
   -- An entry with v as its value.
   abbrev pub with_value_in : Entry V → V → Entry V
   with_value_in (Value v) w = Value w
   with_value_in (Unknown u) w = Both w u
   with_value_in (Both v u) w = Both w u
-
-  -- An entry with u as its unknown fields.
-  abbrev pub with_unknown_in : Entry V → UnknownFieldSet → Entry V
-  with_unknown_in (Value v) t = Both v t
-  with_unknown_in (Unknown u) t = Unknown t
-  with_unknown_in (Both v u) t = Both v t
 
   -- An entry with w for the value that it has.
   abbrev pub revalued : Entry V → V → Entry V
@@ -46,8 +40,8 @@ module _ {V : Type 0} where
   abbrev pub unknown_at : List (ℕ × Entry V) → ℕ → Option UnknownFieldSet
   unknown_at es n = option_and_then unknown_in (item_at es n)
 
-  abbrev pub records_at : List (ℕ × Entry V) → ℕ → List Record
-  records_at es n = records_in (unknown_at es n)
+  abbrev pub records_at : List (ℕ × Entry V) → ℕ → Option (List Record)
+  records_at es n = option_and_then records_in (item_at es n)
 
   abbrev pub has_value : List (ℕ × Entry V) → ℕ → Bool
   has_value es n = is_some (value_at es n)
@@ -71,14 +65,6 @@ module _ {V : Type 0} where
   abbrev pub put_value : List (ℕ × Entry V) → ℕ → V → List (ℕ × Entry V)
   put_value es n v = put_entry es n v (item_at es n)
 
-  abbrev pub put_unknown_entry : List (ℕ × Entry V) → ℕ → UnknownFieldSet → Option (Entry V) → List (ℕ × Entry V)
-  put_unknown_entry es n u None = put_item es n (Unknown u)
-  put_unknown_entry es n u (Some e) = with_item es n (with_unknown_in e u)
-
-  -- u as the unknown fields at n, where the value stays.
-  abbrev pub put_unknown : List (ℕ × Entry V) → ℕ → UnknownFieldSet → List (ℕ × Entry V)
-  put_unknown es n u = put_unknown_entry es n u (item_at es n)
-
   abbrev pub clear_entry : List (ℕ × Entry V) → ℕ → Option (Entry V) → List (ℕ × Entry V)
   clear_entry es n None = es
   clear_entry es n (Some (Value v)) = without_item es n
@@ -100,12 +86,12 @@ module _ {V : Type 0} where
   -- An entry with an unknown record behind those that it has.
   pub record AddedIn (e d : Entry V) (r : Record) : Type 0 where
     pub value : value_in d ≡ value_in e
-    pub records : records_in (unknown_in d) ≡ records_in (unknown_in e) ++ r ∷ []
+    pub records : records_in d ≡ Some (unwrap_or (records_in e) [] ++ r ∷ [])
 
   -- An entry of the same value and the same unknown records.
   pub record SameIn (e d : Entry V) : Type 0 where
     pub value : value_in d ≡ value_in e
-    pub records : records_in (unknown_in d) ≡ records_in (unknown_in e)
+    pub records : records_in d ≡ records_in e
 
   -- The same values and the same unknown records at each number.
   pub record SameStored (es ds : List (ℕ × Entry V)) : Type 0 where
@@ -115,5 +101,5 @@ module _ {V : Type 0} where
   -- An unknown record behind those of its number.
   pub record UnknownAdded (es ds : List (ℕ × Entry V)) (r : Record) : Type 0 where
     pub values : (k : ℕ) → value_at ds k ≡ value_at es k
-    pub here : records_at ds r.number ≡ records_at es r.number ++ r ∷ []
+    pub here : records_at ds r.number ≡ Some (unwrap_or (records_at es r.number) [] ++ r ∷ [])
     pub elsewhere : (k : ℕ) → k ≢ r.number → records_at ds k ≡ records_at es k

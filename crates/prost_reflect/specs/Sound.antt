@@ -1,26 +1,25 @@
 -- What a message's entries keep at their own level.
 use Rattle.std.specs.Prelude.{◌≡◌, ℕ, Bool, true, false, ◌&&◌, List, [], ◌∷◌, Option, None, Some, cond}
-use Rattle.prost_reflect_wire.specs.Unknown.{records_of}
+use Rattle.prost_reflect_wire.specs.Record.{Record}
 use Rattle.prost_reflect_wire.specs.Schema.{Field, same_oneof}
-use Rattle.prost_reflect_wire.specs.declared.unknown.UnknownFieldSet.{UnknownFieldSet}
 use Rattle.prost_reflect.specs.Known.{is_known, oneof_of, are_siblings, keeps_unknown, are_records_of}
-use Rattle.prost_reflect.specs.Entries.{has_value, unknown_at, put_value, clear_value}
+use Rattle.prost_reflect.specs.Entries.{has_value, records_at, put_value, clear_value}
 use Rattle.prost_reflect.specs.Schemas.{fields_of}
 use Rattle.prost_reflect.specs.declared.descriptor.message.MessageDescriptor.{MessageDescriptor}
 use Rattle.prost_reflect.specs.declared.fields.entry.Entry.{Entry}
 use Rattle.std.specs.Prelude.{not, nat_eq}
 
 -- Unknown fields where they may stand, each at its own number.
-abbrev pub unknown_kept : List Field → ℕ → Option UnknownFieldSet → Bool
+abbrev pub unknown_kept : List Field → ℕ → Option (List Record) → Bool
 unknown_kept fields n None = true
-unknown_kept fields n (Some u) = keeps_unknown fields n && are_records_of n (records_of u)
+unknown_kept fields n (Some rs) = keeps_unknown fields n && are_records_of n rs
 
 module _ {V : Type 0} where
   abbrev pub ValuesKnown : List Field → List (ℕ × Entry V) → Type 0
   ValuesKnown fields es = (n : ℕ) → has_value es n ≡ true → is_known fields n ≡ true
 
   abbrev pub UnknownKept : List Field → List (ℕ × Entry V) → Type 0
-  UnknownKept fields es = (n : ℕ) → unknown_kept fields n (unknown_at es n) ≡ true
+  UnknownKept fields es = (n : ℕ) → unknown_kept fields n (records_at es n) ≡ true
 
   -- At most one member of each oneof.
   abbrev pub OneofsSingle : List Field → List (ℕ × Entry V) → Type 0

@@ -3,3 +3,4 @@
 pub mod entry;
 pub mod number_map;
 pub mod sorted;
+pub mod stored;

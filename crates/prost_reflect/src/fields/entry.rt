@@ -5,7 +5,7 @@ ghost use Rattle.std.specs.Borrow.{LendsIf, sem};
 ghost use Rattle.std.specs.Option.{option_copied, option_copied_mut};
 ghost use Rattle.prost_reflect_wire.specs.Unknown.{record_of};
 ghost use Rattle.prost_reflect.specs.contracts.fields.entry.Entry.{the_row};
-ghost use Rattle.prost_reflect.specs.Entries.{value_in, unknown_in, records_in, with_value_in, revalued, value_beside, without_value_beside, AddedIn, SameIn};
+ghost use Rattle.prost_reflect.specs.Entries.{value_in, unknown_in, with_value_in, revalued, value_beside, without_value_beside, AddedIn, SameIn};
 
 use prost_reflect_wire::{UnknownField, UnknownFieldSet};
 use std::alloc::{AllocError, Global};
