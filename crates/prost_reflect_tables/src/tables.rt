@@ -3,6 +3,7 @@
 //! A type is named by its place in the list of its sort, so that types may name one another in any order.
 
 ghost use Rattle.std.specs.Prelude.{IsTrue};
+ghost use Rattle.prost_reflect_tables.specs.Rows.{rows_from};
 ghost use Rattle.prost_reflect_tables.specs.Linked.{is_linked};
 
 /// How many values a field has, as its label says (the proto2 guide, "Field Labels").
@@ -145,5 +146,5 @@ pub struct Tables {
     pub messages: Vec<MessageTable>,
     /// The enums, nested ones too.
     pub enums: Vec<EnumTable>,
-    pub ghost linked: { IsTrue (is_linked messages.items enums.items) },
+    pub ghost linked: { IsTrue (is_linked (rows_from messages.items enums.items)) },
 }

@@ -1,7 +1,7 @@
 //! Enums as places of a pool.
 
 ghost use Rattle.std.specs.Prelude.{◌≡◌, ◌<◌, length};
-ghost use Rattle.prost_reflect.specs.Pools.{tables_of, enums_of};
+ghost use Rattle.prost_reflect.specs.Pools.{pool_rows};
 
 use crate::descriptor::DescriptorPool;
 
@@ -10,5 +10,5 @@ use crate::descriptor::DescriptorPool;
 pub struct EnumDescriptor {
     pool: DescriptorPool,
     index: usize,
-    pub ghost in_range: { index < length (enums_of pool) },
+    pub ghost in_range: { index < length (pool_rows pool).enums },
 }

@@ -1,7 +1,7 @@
 //! Fields as places of a message type.
 
 ghost use Rattle.std.specs.Prelude.{◌≡◌, IsTrue};
-ghost use Rattle.prost_reflect.specs.Descriptors.{field_tables_of, is_declared_at};
+ghost use Rattle.prost_reflect.specs.Descriptors.{fields_of, is_declared_at};
 
 use crate::descriptor::MessageDescriptor;
 
@@ -10,7 +10,7 @@ use crate::descriptor::MessageDescriptor;
 pub struct FieldDescriptor {
     message: MessageDescriptor,
     index: usize,
-    pub ghost declared: { IsTrue (is_declared_at (field_tables_of message) index) },
+    pub ghost declared: { IsTrue (is_declared_at (fields_of message) index) },
 }
 
 impl FieldDescriptor {
@@ -18,7 +18,7 @@ impl FieldDescriptor {
 
     /// The field at a place of a message type.
     pub(crate) fn new(message: MessageDescriptor, index: usize) -> FieldDescriptor
-        requires { IsTrue (is_declared_at (field_tables_of message) index) }
+        requires { IsTrue (is_declared_at (fields_of message) index) }
         ensures message { SameMessage message result.message }
         ensures index { result.index ≡ index }
     {

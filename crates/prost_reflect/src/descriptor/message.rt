@@ -1,7 +1,7 @@
 //! Message types as places of a pool.
 
 ghost use Rattle.std.specs.Prelude.{◌≡◌, ◌<◌, length};
-ghost use Rattle.prost_reflect.specs.Pools.{tables_of, messages_of};
+ghost use Rattle.prost_reflect.specs.Pools.{pool_rows};
 
 use crate::descriptor::{DescriptorPool, FieldDescriptor};
 use prost_reflect_tables::FieldTable;
@@ -12,11 +12,13 @@ use std::alloc::AllocError;
 pub struct MessageDescriptor {
     pool: DescriptorPool,
     index: usize,
-    pub ghost in_range: { index < length (messages_of pool) },
+    pub ghost in_range: { index < length (pool_rows pool).messages },
 }
 
 impl Clone for MessageDescriptor {
-    ghost is_clone = { λ message copy. (tables_of copy.pool ≡ tables_of message.pool) × (copy.index ≡ message.index) };
+    ghost use Rattle.prost_reflect.specs.Descriptors.{SameMessage};
+
+    ghost is_clone = { SameMessage };
 
     fn clone(&self) -> Result<MessageDescriptor, AllocError> {
         Ok(MessageDescriptor {
@@ -27,40 +29,55 @@ impl Clone for MessageDescriptor {
 }
 
 impl MessageDescriptor {
-    ghost use Rattle.std.specs.Prelude.{IfOk, IfSome, option_map};
-    ghost use Rattle.prost_reflect.specs.Descriptors.{field_tables_of, field_place, declared_place, SameMessage};
+    ghost use Rattle.std.specs.Prelude.{IfOk, IfSome, option_map, map};
+    ghost use Rattle.prost_reflect_wire.specs.Schema.{known, field_of};
+    ghost use Rattle.prost_reflect_tables.specs.Rows.{field_row};
+    ghost use Rattle.prost_reflect_tables.specs.Places.{place_of, row_of};
+    ghost use Rattle.prost_reflect_tables.specs.Shown.{schema_field};
+    ghost use Rattle.prost_reflect.specs.Descriptors.{schema_at, type_at, fields_of, declared_place, is_declared_at, SameMessage};
 
     /// The message type at a place of a pool.
     pub(crate) fn new(pool: DescriptorPool, index: usize) -> MessageDescriptor
-        requires { index < length (messages_of pool) }
-        ensures pool { tables_of result.pool ≡ tables_of pool }
+        requires { index < length (pool_rows pool).messages }
+        ensures pool { pool_rows result.pool ≡ pool_rows pool }
         ensures index { result.index ≡ index }
     {
         MessageDescriptor { pool, index }
     }
 
-    /// The rows of the fields and extensions, in ascending order of their numbers.
-    pub(crate) fn field_tables(&self) -> &[FieldTable]
-        ensures { result.now ≡ field_tables_of self.now }
-    {
-        &self.pool.tables().messages[self.index].fields
-    }
-
-    /// The field of a number, or none where no field has it; an extension's number finds none.
+    /// The field of a number, or none where no field has it; the number of an extension finds none.
     pub fn get_field(&self, number: u32) -> Result<Option<FieldDescriptor>, AllocError>
-        ensures found { IfOk result (λ found. option_map (λ field. field.index) found ≡ declared_place number (field_tables_of self.now)) }
+        ensures found { IfOk result (λ found. option_map (λ field. field.index) found ≡ declared_place (fields_of self.now) number) }
         ensures message { IfOk result (λ found. IfSome found (λ field. SameMessage self.now field.message)) }
     {
         match self.field_place(number) {
-            Some(index) if !self.field_tables()[index].is_extension => Ok(Some(FieldDescriptor::new(self.clone()?, index))),
+            Some(index) if !self.field_tables()[index].is_extension => Ok(Some(FieldDescriptor::new(
+                self.clone()?,
+                index,
+            ))),
             _ => Ok(None),
         }
     }
 
-    /// The place of the row of a number, a field's or an extension's.
-    pub(crate) fn field_place(&self, number: u32) -> Option<usize>
-        ensures { result ≡ field_place number (field_tables_of self.now) }
+    /// The rows of the fields and extensions, in ascending order of their numbers.
+    pub(crate) fn field_tables(&self) -> &[FieldTable]
+        ensures { map field_row result.now ≡ fields_of self.now }
     {
-        self.field_tables().iter().position(|field| field.number == number)
+        self.pool.tables().field_tables(self.index)
+    }
+
+    /// The place of the field or extension of a number.
+    pub(crate) fn field_place(&self, number: u32) -> Option<usize>
+        ensures { result ≡ place_of (fields_of self.now) number }
+    {
+        self.pool.tables().field_place(self.index, number)
+    }
+
+    /// The row of the field or extension of a number.
+    pub(crate) fn field_table(&self, number: u32) -> Option<&FieldTable>
+        ensures row { option_map (λ field. field_row field.now) result ≡ row_of (fields_of self.now) number }
+        ensures field { option_map (λ field. schema_field (pool_rows self.now.pool) (field_row field.now)) result ≡ field_of (known (schema_at self.now) (type_at self.now)) number }
+    {
+        self.pool.tables().field_table(self.index, number)
     }
 }

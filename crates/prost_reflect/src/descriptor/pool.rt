@@ -18,9 +18,9 @@ pub struct DescriptorPool {
 
 impl Clone for DescriptorPool {
     ghost use Rattle.std.specs.Prelude.{◌≡◌};
-    ghost use Rattle.prost_reflect.specs.Pools.{tables_of};
+    ghost use Rattle.prost_reflect.specs.Pools.{pool_rows};
 
-    ghost is_clone = { λ pool copy. tables_of copy ≡ tables_of pool };
+    ghost is_clone = { λ pool copy. pool_rows copy ≡ pool_rows pool };
 
     fn clone(&self) -> Result<DescriptorPool, AllocError> {
         Ok(DescriptorPool {
@@ -31,11 +31,12 @@ impl Clone for DescriptorPool {
 
 impl DescriptorPool {
     ghost use Rattle.std.specs.Prelude.{◌≡◌};
-    ghost use Rattle.prost_reflect.specs.Pools.{tables_of};
+    ghost use Rattle.prost_reflect_tables.specs.Schema.{rows_of};
+    ghost use Rattle.prost_reflect.specs.Pools.{pool_rows};
 
     /// The linked tables.
     pub(crate) fn tables(&self) -> &Tables
-        ensures { result.now ≡ tables_of self.now }
+        ensures { rows_of result.now ≡ pool_rows self.now }
     {
         &self.inner.tables
     }

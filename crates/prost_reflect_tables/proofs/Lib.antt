@@ -1,0 +1,3 @@
+mod Ascending
+pub mod Keeping
+pub mod Fields
