@@ -1,2 +1,4 @@
 pub mod Places
 pub mod Walks
+pub mod ItemChanges
+pub mod EntryChanges

@@ -1,6 +1,13 @@
 pub mod Pools
 pub mod Descriptors
+pub mod Schemas
 pub mod Items
+pub mod Entries
+pub mod Known
+pub mod Sound
+pub mod Codes
+pub mod Same
+pub mod SameLaws
 pub mod formers
 pub mod Fields
 pub mod Kinds
