@@ -2,3 +2,4 @@ pub mod Places
 pub mod Walks
 pub mod ItemChanges
 pub mod EntryChanges
+pub mod ScalarReads

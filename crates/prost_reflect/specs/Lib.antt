@@ -12,3 +12,5 @@ pub mod formers
 pub mod Fields
 pub mod Kinds
 pub mod Enums
+pub mod Values
+pub mod Scalars

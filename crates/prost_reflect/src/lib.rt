@@ -3,6 +3,8 @@
 
 mod descriptor;
 mod fields;
+mod message;
+mod value;
 
 pub use descriptor::{DescriptorPool, EnumDescriptor, FieldDescriptor, Kind, MessageDescriptor};
 pub use prost_reflect_tables::Cardinality;
