@@ -1,11 +1,14 @@
 -- Scalar kinds of the tables, their payloads and values.
-use Rattle.std.specs.Prelude.{◌≡◌, ◌≢◌, ℕ, List, Option, Some, None, option_map, option_and_then, IsSomeAnd}
+use Rattle.std.specs.Prelude.{◌≡◌, ℕ, true, List, [], Option, Some, None, option_map, option_and_then, IsSomeAnd}
 use Rattle.prost_reflect_wire.specs.declared.key.WireType.{WireType}
 use Rattle.prost_reflect_wire.specs.declared.error.DecodeError.{DecodeError}
-use Rattle.prost_reflect_wire.specs.Record.{Payload}
+use Rattle.prost_reflect_wire.specs.Record.{Payload, short_plain}
 use Rattle.prost_reflect_wire.specs.Scalar as scalars
-use Rattle.prost_reflect_wire.specs.Scalar.{Scalar, ScalarKind, elem, kind_wire}
+use Rattle.prost_reflect_wire.specs.Scalar.{Scalar, ScalarKind, elem, kind_wire, written}
 use Rattle.prost_reflect_wire.specs.Content.{ScalarValue}
+use Rattle.prost_reflect_wire.specs.Content as content
+use Rattle.prost_reflect_wire.specs.Schema.{ScalarOf}
+use Rattle.prost_reflect_wire.specs.Typing.{element_valid}
 use Rattle.prost_reflect_wire.specs.Decoding.{ScalarRead, ScalarFault}
 use Rattle.prost_reflect_tables.specs.declared.tables.TableKind.{TableKind}
 use Rattle.prost_reflect_tables.specs.declared.tables.TableKind.TheVariants.{Double, Float, Int32, Int64, Uint32, Uint64, Sint32, Sint64, Fixed32, Fixed64, Sfixed32, Sfixed64, Bool, String, Bytes, Message, Enum}
@@ -53,3 +56,12 @@ pub record RefusesScalar (kind : TableKind) (w : WireType) (e : DecodeError) (by
   pub scalar_kind : ScalarKind
   pub plain : plain_kind kind ≡ Some scalar_kind
   pub fault : ScalarFault scalar_kind w e bytes
+
+-- The value is one of the kind.
+abbrev pub TakesScalar : TableKind → content.Value → Type 0
+TakesScalar kind v = IsSomeAnd (plain_kind kind) (λ k. element_valid (ScalarOf k) v ≡ true)
+
+-- The bytes of the value's payload; nothing is meant of other values.
+abbrev pub scalar_bytes : Option ScalarKind → content.Value → List ℕ
+scalar_bytes (Some k) (ScalarValue v) = short_plain (written k v)
+scalar_bytes o v = []

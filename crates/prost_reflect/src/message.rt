@@ -1,3 +1,4 @@
 //! Messages.
 
 mod scalar;
+mod write;
