@@ -4,15 +4,15 @@ use Rattle.std.proofs.lemmas.Bool.{le-leb, eq-eqb}
 use Rattle.std.specs.Prelude.{is_some}
 use Rattle.prost_reflect_wire.specs.declared.key.WireType.{WireType}
 use Rattle.prost_reflect_wire.specs.Varint.{◌>>=◌, are_bytes}
-use Rattle.prost_reflect_wire.specs.Record.{Record, Payload, Flat, Plain, payload_levels, payload_valid, number_valid}
+use Rattle.prost_reflect_wire.specs.Record.{Record, Payload, Flat, payload_levels}
 use Rattle.prost_reflect_wire.specs.Front.{PlainFront, ValueFront}
 use Rattle.prost_reflect_wire.specs.Scalar.{Scalar, ScalarKind, elem, is_undeclared, scalar_valid}
-use Rattle.prost_reflect_wire.specs.Schema.{Kind, ScalarOf, Singular, Field, Schema, known, field_of, is_sibling, is_singular}
+use Rattle.prost_reflect_wire.specs.Schema.{Kind, ScalarOf, Singular, Field, Schema, known, field_of, is_sibling}
 use Rattle.prost_reflect_wire.specs.Content.{Content, ContentOf, Entries, Value, ScalarValue, Slot, slot_at, entries_ordered}
 use Rattle.prost_reflect_wire.specs.Grammar.{allows, record_allowed, field_allowed, one_allowed, fits}
 use Rattle.prost_reflect_wire.specs.Meaning.{step_by, steps}
 use Rattle.prost_reflect_wire.specs.Writing.{record_at}
-use Rattle.prost_reflect_wire.specs.Typing.{kept, entries_pass, fit_test, unknown_fits, kind_takes}
+use Rattle.prost_reflect_wire.specs.Typing.{kept}
 use Rattle.prost_reflect_wire.specs.Edit.{with_value}
 use Rattle.prost_reflect_wire.specs.Storing.{with_stored, with_unknown}
 use Rattle.prost_reflect_wire.specs.Decoding.{RecordRead, ScalarRead}
@@ -25,7 +25,6 @@ use Rattle.prost_reflect_wire.proofs.Values.{unknown_back}
 use Rattle.prost_reflect_wire.proofs.Declared.{read_valid}
 use Rattle.prost_reflect_wire.proofs.SpelledValid.{bytes_apart, plain_spelled}
 use Rattle.prost_reflect_wire.proofs.StoredSteps.{ScalarRecord, Mutual, Known, scalar_step, unknown_step, kept_step}
-use Rattle.prost_reflect_wire.proofs.StoredFits.{SlotFits, slots_fit, fits_slots, stored_fits, unknown_kept_fits}
 use Rattle.prost_reflect_wire.proofs.Readings.{steps_level, steps_one}
 
 -- one record alone
@@ -101,13 +100,3 @@ unknown_record schema k T es ds n w p bytes rest front none values o q slots = r
 pub scalar_read_fits : (kind : ScalarKind) (w : WireType) (v : Scalar) (bytes rest : List ℕ) → ScalarRead kind w v bytes rest → IsOpen kind → are_bytes bytes ≡ true → scalar_valid kind v ≡ true
 scalar_read_fits kind w v bytes rest read whole h = let f = read.front in
     read_valid kind (Flat read.plain) v (plain_spelled read.plain f.front f.spelled (bytes_apart f.front rest (ap are_bytes (sym f.parts) ∙ h)).0) (whole.declared (Flat read.plain)) read.value
-
-pub scalar_stored_fits : (fields : List Field) (es ds : Entries) (f : Field) (kind : ScalarKind) (v : Scalar) → field_of fields f.number ≡ Some f → f.form ≡ Singular → f.value_type.kind ≡ ScalarOf kind → scalar_valid kind v ≡ true →
-    entries_ordered ds ≡ true → Changed fields f (ScalarValue v) es ds → entries_pass fit_test fields es ≡ true → entries_pass fit_test fields ds ≡ true
-scalar_stored_fits fields es ds f kind v found form is fits o slots h = slots_fit fields ds o
-    (λ m. subst (SlotFits fields m) (sym (slots m)) (stored_fits fields f (ScalarValue v) m (slot_at es m) found (both_true (both_true (ap is_singular form) (ap (λ k. kind_takes k v) is ∙ fits)) refl) (fits_slots fields es m h)))
-
-pub unknown_stored_fits : (fields : List Field) (es ds : Entries) (n : ℕ) (p : Payload) → field_of fields n ≡ None → number_valid n ≡ true → payload_valid p ≡ true →
-    entries_ordered ds ≡ true → ((m : ℕ) → slot_at ds m ≡ with_unknown n p m (slot_at es m)) → entries_pass fit_test fields es ≡ true → entries_pass fit_test fields ds ≡ true
-unknown_stored_fits fields es ds n p none number fits o slots h = slots_fit fields ds o
-    (λ m. subst (SlotFits fields m) (sym (slots m)) (unknown_kept_fits fields n p m (slot_at es m) (ap (λ o. unknown_fits o n p) none ∙ both_true number fits) (fits_slots fields es m h)))
