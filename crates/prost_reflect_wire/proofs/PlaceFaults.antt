@@ -1,13 +1,14 @@
 -- What the readers of the wire refuse stands at the place where they read.
-use Rattle.std.proofs.Common.{◌≡◌, ◌≢◌, ℕ, suc, List, [], ◌∷◌, ◌++◌, Option, Some, None, Bool, true, refl, sym, ap, subst, ◌∙◌, inl, inr, ◌⊎◌}
+use Rattle.std.proofs.Common.{◌≡◌, ◌≢◌, ℕ, suc, List, [], ◌∷◌, ◌++◌, Option, Some, None, Bool, true, refl, sym, ap, subst, ◌∙◌, inl, inr, ◌⊎◌, ◌<◌, ◌-◌, arith}
 use Rattle.prost_reflect_wire.specs.declared.error.DecodeError.{DecodeError}
 use Rattle.prost_reflect_wire.specs.declared.error.DecodeError.TheVariants as errors
 use Rattle.prost_reflect_wire.specs.declared.key.WireType.{WireType}
 use Rattle.prost_reflect_wire.specs.declared.key.WireType.TheVariants as wires
-use Rattle.prost_reflect_wire.specs.Record.{Key, short_key}
+use Rattle.prost_reflect_wire.specs.Record.{Records, NoRecords, PlainRecord, GroupRecord, Flat, Group, Key, short_key}
 use Rattle.prost_reflect_wire.specs.Schema.{Schema, Field}
-use Rattle.prost_reflect_wire.specs.Front.{KeyFront, RecordFront, KeyFault, PlainFault}
+use Rattle.prost_reflect_wire.specs.Front.{KeyFront, RecordsFront, KeyFault, PlainFault}
 use Rattle.prost_reflect_wire.specs.Fault.{Place, Inside, OfNothing, field_at, opens_level, Next, NextField, Comes, Stands, Here, Behind, InMessage, InGroup, InUnknown, InEntry, InsideGroup, FieldPlace, StandsInField, StandsInValue, ValueComes, ValueFault}
+use Rattle.prost_reflect_wire.proofs.RecordFronts.{record_at, first_parts}
 
 -- AT A KEY
 
@@ -90,6 +91,34 @@ module _ (schema : Schema) (place : Place) where
   value_stands e n w rest unknown k closed (inr (group, f)) =
       InUnknown n f.inner rest unknown f.left (subst (λ v. KeyFront n v place.bytes rest) group k) (stands_further [] schema refl f.stands)
 
+-- BEHIND RECORDS
+
+-- what stands behind records of a body stands in the body
+pub stands_behind : (schema : Schema) (e : DecodeError) (place : Place) (rs : Records) (rest : List ℕ) → RecordsFront rs place.bytes rest → Stands schema e (record place { bytes = rest }) → Stands schema e place
+stands_behind schema e place NoRecords rest f s = subst (λ (l : List ℕ). Stands schema e (record place { bytes = l })) (sym (f.parts ∙ ap (λ (l : List ℕ). l ++ rest) f.spelled)) s
+stands_behind schema e place (PlainRecord n p rs) rest f s =
+    let h = first_parts (record_at n (Flat p)) rs place.bytes rest f in Behind (record_at n (Flat p)) h.mid h.first (stands_behind schema e (record place { bytes = h.mid }) rs rest h.others s)
+stands_behind schema e place (GroupRecord n q rs) rest f s =
+    let h = first_parts (record_at n (Group q)) rs place.bytes rest f in Behind (record_at n (Group q)) h.mid h.first (stands_behind schema e (record place { bytes = h.mid }) rs rest h.others s)
+
+-- IN AN UNKNOWN GROUP
+
+module _ (e : DecodeError) (n levels : ℕ) (rs : Records) (bytes rest : List ℕ) (some : 0 < levels) (f : RecordsFront rs bytes rest) where
+  abbrev Inner : Place
+  Inner = record { bytes = bytes; inside = OfNothing; levels = levels - 1; open_group = Some n }
+
+  in_group : Stands [] e (record Inner { bytes = rest }) → ValueFault e n wires.StartGroup levels bytes
+  in_group s = inr (refl, record { inner = levels - 1; left = omega arith; stands = stands_behind [] e Inner rs rest f s })
+
+  -- behind records of the group a key is refused,
+  pub key_in_group : KeyFault e rest → ValueFault e n wires.StartGroup levels bytes
+  key_in_group g = in_group (key_stands [] (record Inner { bytes = rest }) e g (λ _ none. cc))
+
+  -- or the value behind a key
+  pub value_in_group : (m : ℕ) (w : WireType) (after : List ℕ) → KeyFront m w rest after → (w ≡ wires.EndGroup → m ≢ n) → ValueFault e m w (levels - 1) after → ValueFault e n wires.StartGroup levels bytes
+  value_in_group m w after k other g =
+      in_group (value_stands [] (record Inner { bytes = rest }) e m w after refl k (λ is same. other is (let number : n ≡ m = cc in sym number)) g)
+
 -- WHERE ONE FIELD IS READ
 
 some_none : {n : ℕ} → ◌≡◌ {A = Option ℕ} None (Some n) → ⊥
@@ -106,5 +135,5 @@ pub value_stands_in_field : (e : DecodeError) (levels n : ℕ) (w : WireType) (b
 value_stands_in_field e levels n w bytes rest k (inl f) = inl (value_comes [] (FieldPlace levels bytes) e n w rest refl k (λ _. some_none) f)
 value_stands_in_field e levels n w bytes rest k (inr f) = inr (inr (record { number = n; wire = w; rest = rest; key = k; behind = f }))
 
-pub value_stands_in_value : (e : DecodeError) (levels n : ℕ) (w : WireType) (bytes : List ℕ) → Key n w (short_key n w) → ValueFault e n w levels bytes → StandsInValue levels n w e bytes
-value_stands_in_value e levels n w bytes key f = value_stands_in_field e levels n w (short_key n w ++ bytes) bytes (record { front = short_key n w; key = key; parts = refl }) f
+pub value_stands_in_value : (e : DecodeError) (levels n : ℕ) (w : WireType) (bytes : List ℕ) → KeyFront n w (short_key n w ++ bytes) bytes → ValueFault e n w levels bytes → StandsInValue levels n w e bytes
+value_stands_in_value e levels n w bytes k f = value_stands_in_field e levels n w (short_key n w ++ bytes) bytes k f

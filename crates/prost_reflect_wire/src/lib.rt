@@ -13,5 +13,5 @@ pub use buffer::BackBuffer;
 pub use error::{DecodeError, EncodeError};
 pub use key::{FieldNumber, WireType, decode_key};
 pub use payload::{delimited_at, fixed32_at, fixed64_at, low_i32, low_u32, sign_extended, unzigzag32, unzigzag64, zigzag32, zigzag64};
-pub use unknown::{UnknownField, UnknownFieldSet, UnknownFieldValue};
+pub use unknown::{RECURSION_LIMIT, UnknownField, UnknownFieldSet, UnknownFieldValue, value_at};
 pub use varint::decode_varint;

@@ -1,0 +1,44 @@
+-- What the parts of an unknown field are, step by step.
+use Rattle.std.proofs.Common.{◌≡◌, ℕ, List, [], ◌∷◌, ◌++◌, map, refl, ap}
+use Rattle.std.specs.Global.{Vec}
+use denote.Hole.Carrier as Carrier
+use Rattle.prost_reflect_wire.specs.declared.unknown.UnknownFieldValue.{Varint, SixtyFourBit, ThirtyTwoBit, LengthDelimited, Group}
+use Rattle.prost_reflect_wire.specs.declared.unknown.UnknownField.{UnknownField}
+use Rattle.prost_reflect_wire.specs.declared.unknown.UnknownFieldSet.{UnknownFieldSet}
+use Rattle.prost_reflect_wire.specs.declared.unknown.UnknownFieldValue.{UnknownFieldValue}
+use Rattle.prost_reflect_wire.specs.declared.unknown.UnknownFieldValue.TheOpen.{UnknownFieldValue-F, UnknownFieldSet-F}
+use Rattle.prost_reflect_wire.specs.declared.unknown.UnknownFieldValue.TheViews.{out-UnknownFieldValue, roll-UnknownFieldSet, out-UnknownFieldSet, roll-UnknownFieldValue}
+use Rattle.prost_reflect_wire.specs.declared.unknown.UnknownFieldValue.TheFolds.{map-UnknownFieldValue, fold-roll-UnknownFieldSet, fold_out-UnknownFieldSet, fold_out-UnknownField, fold-roll-UnknownFieldValue, fold_out-UnknownFieldValue}
+use Rattle.prost_reflect_wire.specs.Record.{Record, Payload, Flat, Var, Fix64, Len, Fix32, body_of}
+use Rattle.prost_reflect_wire.specs.Record as model
+use Rattle.prost_reflect_wire.specs.Unknown.{value_step, field_step, set_step, payload_of, record_of, records_of}
+use Rattle.prost_reflect_wire.proofs.RecordFronts.{record_at}
+
+pub records_of_roll : (x : UnknownFieldSet-F UnknownFieldValue UnknownField UnknownFieldSet) → records_of (roll-UnknownFieldSet x) ≡ map record_of x.fields.items
+records_of_roll = fold-roll-UnknownFieldSet Payload Record (List Record) value_step field_step set_step
+
+pub records_of_out : (s : UnknownFieldSet) → records_of s ≡ map record_of (out-UnknownFieldSet s).fields.items
+records_of_out = fold_out-UnknownFieldSet Payload Record (List Record) value_step field_step set_step
+
+pub record_of_field : (f : UnknownField) → record_of f ≡ record_at f.number.value (payload_of f.value)
+record_of_field = fold_out-UnknownField Payload Record (List Record) value_step field_step set_step
+
+pub payload_of_Varint : (v : ℕ) → payload_of (Varint v) ≡ Flat (Var v)
+unfolding out-UnknownFieldValue Carrier.out
+payload_of_Varint v = fold_out-UnknownFieldValue Payload Record (List Record) value_step field_step set_step (Varint v)
+
+pub payload_of_SixtyFourBit : (p : List ℕ) → payload_of (SixtyFourBit p) ≡ Flat (Fix64 p)
+unfolding out-UnknownFieldValue Carrier.out
+payload_of_SixtyFourBit p = fold_out-UnknownFieldValue Payload Record (List Record) value_step field_step set_step (SixtyFourBit p)
+
+pub payload_of_LengthDelimited : (v : Vec ℕ) → payload_of (LengthDelimited v) ≡ Flat (Len v.items)
+unfolding out-UnknownFieldValue Carrier.out
+payload_of_LengthDelimited v = fold_out-UnknownFieldValue Payload Record (List Record) value_step field_step set_step (LengthDelimited v)
+
+pub payload_of_Group : (s : UnknownFieldSet) → payload_of (Group s) ≡ model.Group (body_of (records_of s))
+unfolding out-UnknownFieldValue Carrier.out
+payload_of_Group s = fold_out-UnknownFieldValue Payload Record (List Record) value_step field_step set_step (Group s)
+
+pub payload_of_ThirtyTwoBit : (p : List ℕ) → payload_of (ThirtyTwoBit p) ≡ Flat (Fix32 p)
+unfolding out-UnknownFieldValue Carrier.out
+payload_of_ThirtyTwoBit p = fold_out-UnknownFieldValue Payload Record (List Record) value_step field_step set_step (ThirtyTwoBit p)
