@@ -3,5 +3,7 @@
 
 mod descriptor;
 
-pub use descriptor::{DescriptorPool, EnumDescriptor, FieldDescriptor, Kind, MessageDescriptor};
+pub use descriptor::{
+    DescriptorPool, EnumDescriptor, FieldDescriptor, Kind, MessageDescriptor, builtin_pool,
+};
 pub use prost_reflect_tables::Cardinality;
