@@ -3,3 +3,5 @@ pub mod Walks
 pub mod ItemChanges
 pub mod EntryChanges
 pub mod ScalarReads
+pub mod Covering
+mod BuiltinFacts

@@ -14,3 +14,6 @@ pub mod Kinds
 pub mod Enums
 pub mod Values
 pub mod Scalars
+pub mod Covered
+pub mod Builtin
+pub mod BuiltinRows

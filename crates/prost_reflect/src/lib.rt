@@ -6,5 +6,7 @@ mod fields;
 mod message;
 mod value;
 
-pub use descriptor::{DescriptorPool, EnumDescriptor, FieldDescriptor, Kind, MessageDescriptor};
+pub use descriptor::{
+    DescriptorPool, EnumDescriptor, FieldDescriptor, Kind, MessageDescriptor, builtin_pool,
+};
 pub use prost_reflect_tables::Cardinality;
