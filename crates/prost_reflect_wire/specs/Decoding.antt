@@ -12,7 +12,7 @@ use Rattle.prost_reflect_wire.specs.Content.{Content, schema_of, type_of}
 use Rattle.prost_reflect_wire.specs.Grammar.{allows}
 use Rattle.prost_reflect_wire.specs.Meaning.{steps}
 use Rattle.prost_reflect_wire.specs.Writing.{record_at}
-use Rattle.prost_reflect_wire.specs.Typing.{kept}
+use Rattle.prost_reflect_wire.specs.Typing.{kept, WellStored}
 use Rattle.prost_reflect_wire.specs.Fault.{StandsInMessage, same_wire}
 
 -- The bytes before the rest are records that the old content's type takes, and the new content is what they make of the old one.
@@ -28,6 +28,24 @@ pub record RecordRead (levels n : ℕ) (w : WireType) (old new : Content) (bytes
   pub value : ValueFront n w levels payload bytes rest
   pub allowed : allows (schema_of old) levels (type_of old) (record_at n payload ∷ []) ≡ true
   pub means : kept new ≡ steps levels (kept old) (record_at n payload ∷ [])
+
+-- READING INTO A MESSAGE
+
+-- The new content is of the old one's type, and well-stored.
+pub record Holds (old new : Content) : Type 0 where
+  pub schema : schema_of new ≡ schema_of old
+  pub type : type_of new ≡ type_of old
+  pub sound : WellStored new
+
+-- So far the message was read, and still holds.
+pub record Progress (levels : ℕ) (old new : Content) (bytes rest : List ℕ) : Type 0 where
+  pub read : ReadTo levels old new bytes rest
+  pub holds : Holds old new
+
+-- One record more was read, and the message still holds.
+pub record Step (levels n : ℕ) (w : WireType) (old new : Content) (bytes rest : List ℕ) : Type 0 where
+  pub read : RecordRead levels n w old new bytes rest
+  pub holds : Holds old new
 
 -- Wherever such a key stands in front of the bytes, the fault stands in the message there.
 abbrev pub StandsBehindKey : Content → ℕ → ℕ → WireType → DecodeError → List ℕ → Type 0
