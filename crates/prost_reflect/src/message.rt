@@ -1,4 +1,0 @@
-//! Messages.
-
-mod scalar;
-mod write;
