@@ -1,6 +1,5 @@
 pub mod Pools
 pub mod Descriptors
-pub mod Schemas
 pub mod Items
 pub mod Entries
 pub mod Known

@@ -46,8 +46,18 @@ schema_default (Some v) kind = v
 schema_default None (ScalarOf kind) = kind_default kind
 schema_default None kind = scalars.I32 (pos 0)
 
+abbrev pub is_required : Cardinality → Bool
+is_required Required = true
+is_required c = false
+
+-- The type of a row's own values.
 abbrev pub own_type : List EnumRow → FieldRow → ValueType
-own_type enums f = let kind = schema_kind enums f.kind f.is_group in record { kind = kind; presence = f.supports_presence; default = schema_default f.default kind }
+own_type enums f = let kind = schema_kind enums f.kind f.is_group in record {
+  kind = kind;
+  presence = f.supports_presence;
+  required = is_required f.cardinality;
+  default = schema_default f.default kind
+}
 
 -- MAPS
 
