@@ -214,12 +214,12 @@ module _ {V : Type 0} where
 
   -- WRITING WHAT WAS LENT
 
-  value_kept : (e : Entry V) (w : V) → is_some (value_in (revalued e w)) ≡ is_some (value_in e)
+  pub value_kept : (e : Entry V) (w : V) → is_some (value_in (revalued e w)) ≡ is_some (value_in e)
   value_kept (Value v) w = refl
   value_kept (Unknown u) w = refl
   value_kept (Both v u) w = refl
 
-  records_kept : (e : Entry V) (w : V) → records_in (revalued e w) ≡ records_in e
+  pub records_kept : (e : Entry V) (w : V) → records_in (revalued e w) ≡ records_in e
   records_kept (Value v) w = refl
   records_kept (Unknown u) w = refl
   records_kept (Both v u) w = refl

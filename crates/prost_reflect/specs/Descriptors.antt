@@ -1,7 +1,7 @@
 -- What descriptors name.
 use Rattle.std.specs.Prelude.{◌≡◌, ℕ, Bool, true, false, not, if◌then◌else◌, List, Option, Some, None, option_and_then, slice_get}
 use Rattle.prost_reflect_wire.specs.Schema.{Schema}
-use Rattle.prost_reflect_tables.specs.Rows.{FieldRow}
+use Rattle.prost_reflect_tables.specs.Rows.{FieldRow, MessageRow}
 use Rattle.prost_reflect_tables.specs.Places.{fields_at, place_of}
 use Rattle.prost_reflect_tables.specs.Shown.{schema_from}
 use Rattle.prost_reflect.specs.Pools.{pool_rows}
@@ -13,6 +13,9 @@ schema_at message = schema_from (pool_rows message.pool)
 
 abbrev pub type_at : MessageDescriptor → ℕ
 type_at message = message.index
+
+abbrev pub message_row_at : MessageDescriptor → Option MessageRow
+message_row_at message = slice_get (pool_rows message.pool).messages message.index
 
 -- The rows of the message type's fields and extensions.
 abbrev pub fields_of : MessageDescriptor → List FieldRow

@@ -8,3 +8,6 @@ pub mod Codes
 pub mod Same
 pub mod SameLaws
 pub mod formers
+pub mod Fields
+pub mod Kinds
+pub mod Enums

@@ -35,3 +35,14 @@ fields_ascend rows T linked = of (slice_get rows.messages T) refl
     of : (o : Option MessageRow) → slice_get rows.messages T ≡ o → ascending_from 0 (fields_or_none o) ≡ true
     of None at = refl
     of (Some m) at = and_left _ _ (and_left _ _ (and_left _ _ (message_keeps rows T m linked at)))
+
+message_of_field : (rows : TableRows) (T i : ℕ) (f : FieldRow) (o : Option MessageRow) → slice_get rows.messages T ≡ o → slice_get (fields_or_none o) i ≡ Some f → (m : MessageRow) × ((slice_get rows.messages T ≡ Some m) × (slice_get m.fields i ≡ Some f))
+message_of_field rows T i f None at e = cc
+message_of_field rows T i f (Some m) at e = (m, (at, e))
+
+pub field_keeps : (rows : TableRows) (T i : ℕ) (f : FieldRow) → is_linked rows ≡ true → slice_get (fields_at rows T) i ≡ Some f → kind_in_range (length rows.messages) (length rows.enums) f.kind ≡ true
+field_keeps rows T i f linked e =
+    let found = message_of_field rows T i f (slice_get rows.messages T) refl e in
+    let keeps = message_keeps rows T found.0 linked found.1.0 in
+    let field = passes_at (field_linked (length rows.messages) (length rows.enums) (length found.0.oneofs)) found.0.fields i f (and_right _ _ (and_left _ _ (and_left _ _ keeps))) found.1.1 in
+    and_left _ _ field

@@ -1,5 +1,6 @@
 -- What stands at a place of the rows.
 use Rattle.std.specs.Prelude.{ℕ, ◌==◌, List, [], ◌∷◌, Option, Some, None, find, position, slice_get}
+use Rattle.std.specs.Str.{bytes_eq}
 use Rattle.prost_reflect_tables.specs.Rows.{FieldRow, MessageRow, TableRows}
 
 abbrev pub fields_or_none : Option MessageRow → List FieldRow
@@ -16,3 +17,7 @@ row_of fields n = find (λ f. f.number == n) fields
 
 abbrev pub place_of : List FieldRow → ℕ → Option ℕ
 place_of fields n = position (λ f. f.number == n) fields
+
+-- The place of the first message type of a full name.
+abbrev pub message_place : TableRows → List ℕ → Option ℕ
+message_place rows full_name = position (λ m. bytes_eq m.full_name full_name) rows.messages

@@ -56,7 +56,7 @@ own_type enums f = let kind = schema_kind enums f.kind f.is_group in record {
   kind = kind;
   presence = f.supports_presence;
   required = is_required f.cardinality;
-  default = schema_default f.default kind
+  default = schema_default f.default kind;
 }
 
 -- MAPS

@@ -4,7 +4,7 @@ ghost use Rattle.std.specs.Prelude.{◌≡◌, ◌<◌, length};
 ghost use Rattle.prost_reflect.specs.Pools.{pool_rows};
 
 use crate::descriptor::{DescriptorPool, FieldDescriptor};
-use prost_reflect_tables::FieldTable;
+use prost_reflect_tables::{FieldTable, MessageTable};
 use std::alloc::AllocError;
 
 /// A message type of a pool.
@@ -31,10 +31,10 @@ impl Clone for MessageDescriptor {
 impl MessageDescriptor {
     ghost use Rattle.std.specs.Prelude.{IfOk, IfSome, option_map, map};
     ghost use Rattle.prost_reflect_wire.specs.Schema.{known, field_of};
-    ghost use Rattle.prost_reflect_tables.specs.Rows.{field_row};
+    ghost use Rattle.prost_reflect_tables.specs.Rows.{field_row, message_row};
     ghost use Rattle.prost_reflect_tables.specs.Places.{place_of, row_of};
     ghost use Rattle.prost_reflect_tables.specs.Shown.{schema_field};
-    ghost use Rattle.prost_reflect.specs.Descriptors.{schema_at, type_at, fields_of, declared_place, is_declared_at, SameMessage};
+    ghost use Rattle.prost_reflect.specs.Descriptors.{schema_at, type_at, message_row_at, fields_of, declared_place, is_declared_at, SameMessage};
 
     /// The message type at a place of a pool.
     pub(crate) fn new(pool: DescriptorPool, index: usize) -> MessageDescriptor
@@ -43,6 +43,34 @@ impl MessageDescriptor {
         ensures index { result.index ≡ index }
     {
         MessageDescriptor { pool, index }
+    }
+
+    /// The pool that the message type is of.
+    pub fn parent_pool(&self) -> &DescriptorPool
+        ensures { pool_rows result.now ≡ pool_rows self.now.pool }
+    {
+        &self.pool
+    }
+
+    /// The package, the enclosing message types and the name, joined by dots.
+    pub fn full_name(&self) -> &str
+        ensures { option_map (λ message. message.full_name) (message_row_at self.now) ≡ Some result.now }
+    {
+        self.table().full_name.as_str()
+    }
+
+    /// Whether the type is that of a map's entries.
+    pub fn is_map_entry(&self) -> bool
+        ensures { option_map (λ message. message.is_map_entry) (message_row_at self.now) ≡ Some result }
+    {
+        self.table().is_map_entry
+    }
+
+    /// The message type's table.
+    fn table(&self) -> &MessageTable
+        ensures { message_row_at self.now ≡ Some (message_row result.now) }
+    {
+        &self.pool.tables().messages[self.index]
     }
 
     /// The field of a number, or none where no field has it; the number of an extension finds none.

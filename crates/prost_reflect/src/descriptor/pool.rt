@@ -1,5 +1,6 @@
 //! Pools.
 
+use crate::descriptor::MessageDescriptor;
 use prost_reflect_tables::Tables;
 use std::alloc::AllocError;
 use std::rc::Rc;
@@ -30,9 +31,22 @@ impl Clone for DescriptorPool {
 }
 
 impl DescriptorPool {
-    ghost use Rattle.std.specs.Prelude.{◌≡◌};
+    ghost use Rattle.std.specs.Prelude.{◌≡◌, IfOk, IfSome, option_map};
+    ghost use Rattle.prost_reflect_tables.specs.Places.{message_place};
     ghost use Rattle.prost_reflect_tables.specs.Schema.{rows_of};
     ghost use Rattle.prost_reflect.specs.Pools.{pool_rows};
+    ghost use Rattle.prost_reflect.specs.Descriptors.{type_at};
+
+    /// The message type of a full name, as `my.package.MyMessage`, or none where no message type has it.
+    pub fn get_message_by_name(&self, name: &str) -> Result<Option<MessageDescriptor>, AllocError>
+        ensures found { IfOk result (λ found. option_map type_at found ≡ message_place (pool_rows self.now) name.now) }
+        ensures pool { IfOk result (λ found. IfSome found (λ message. pool_rows message.pool ≡ pool_rows self.now)) }
+    {
+        match self.tables().message_place(name) {
+            Some(index) => Ok(Some(MessageDescriptor::new(self.clone()?, index))),
+            None => Ok(None),
+        }
+    }
 
     /// The linked tables.
     pub(crate) fn tables(&self) -> &Tables
