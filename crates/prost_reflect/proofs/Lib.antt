@@ -2,3 +2,6 @@ pub mod Places
 pub mod Walks
 pub mod ItemChanges
 pub mod EntryChanges
+pub mod Siblings
+pub mod SoundChanges
+pub mod MembersCleared

@@ -37,7 +37,7 @@ none_numbered n p (f ∷ fields) h =
 -- where numbers differ, a field that passes is the one of its number
 found_passes : (k : ℕ) (p : Field → Bool) (fields : List Field) → numbers_differ fields ≡ true → list_any (numbered k p) fields ≡ true → passes (field_of fields k) p ≡ true
 found_passes k p [] d h = cc
-found_passes k p (f ∷ fields) d h = cases (nat_eq f.number k) refl h
+found_passes k p (f ∷ fields) d h = cases (nat_eq f.number k) refl h (found_passes k p fields (and_both (not (list_any (λ g. nat_eq g.number f.number) fields)) (numbers_differ fields) d).1)
   where
     alone : not (list_any (λ g. nat_eq g.number f.number) fields) ≡ true
     alone = (and_both (not (list_any (λ g. nat_eq g.number f.number) fields)) (numbers_differ fields) d).0
@@ -50,20 +50,20 @@ found_passes k p (f ∷ fields) d h = cases (nat_eq f.number k) refl h
     without true c h e = refl
     without false c h e = absurd (true≢false (sym h ∙ e))
 
-    cases : (b : Bool) → nat_eq f.number k ≡ b → (b && p f) || list_any (numbered k p) fields ≡ true → passes (cond b (Some f) (field_of fields k)) p ≡ true
-    cases true at h = without (p f) (list_any (numbered k p) fields) h (none_numbered k p fields (ap (λ n. list_any (λ g. nat_eq g.number n) fields) (sym (eqb-true f.number k at)) ∙ not_true (list_any (λ g. nat_eq g.number f.number) fields) alone))
-    cases false at h = found_passes k p fields (and_both (not (list_any (λ g. nat_eq g.number f.number) fields)) (numbers_differ fields) d).1 h
+    cases : (b : Bool) → nat_eq f.number k ≡ b → (b && p f) || list_any (numbered k p) fields ≡ true → (list_any (numbered k p) fields ≡ true → passes (field_of fields k) p ≡ true) → passes (cond b (Some f) (field_of fields k)) p ≡ true
+    cases true at h rest = without (p f) (list_any (numbered k p) fields) h (none_numbered k p fields (ap (λ n. list_any (λ g. nat_eq g.number n) fields) (sym (eqb-true f.number k at)) ∙ not_true (list_any (λ g. nat_eq g.number f.number) fields) alone))
+    cases false at h rest = rest h
 
 passes_found : (k : ℕ) (p : Field → Bool) (fields : List Field) (g : Field) → field_of fields k ≡ Some g → p g ≡ true → list_any (numbered k p) fields ≡ true
 passes_found k p [] g e h = cc
-passes_found k p (f ∷ fields) g e h = cases (nat_eq f.number k) refl e
+passes_found k p (f ∷ fields) g e h = cases (nat_eq f.number k) refl e (λ e. passes_found k p fields g e h)
   where
     one : (x y : Field) → Some x ≡ Some y → x ≡ y
     one x y e = cc
 
-    cases : (b : Bool) → nat_eq f.number k ≡ b → cond b (Some f) (field_of fields k) ≡ Some g → (nat_eq f.number k && p f) || list_any (numbered k p) fields ≡ true
-    cases true at e = ap (λ b. (b && p f) || list_any (numbered k p) fields) at ∙ ap (λ b. b || list_any (numbered k p) fields) (ap p (one f g e) ∙ h)
-    cases false at e = ap (λ b. (b && p f) || list_any (numbered k p) fields) at ∙ passes_found k p fields g e h
+    cases : (b : Bool) → nat_eq f.number k ≡ b → cond b (Some f) (field_of fields k) ≡ Some g → (field_of fields k ≡ Some g → list_any (numbered k p) fields ≡ true) → (nat_eq f.number k && p f) || list_any (numbered k p) fields ≡ true
+    cases true at e rest = ap (λ b. (b && p f) || list_any (numbered k p) fields) at ∙ ap (λ b. b || list_any (numbered k p) fields) (ap p (one f g e) ∙ h)
+    cases false at e rest = ap (λ b. (b && p f) || list_any (numbered k p) fields) at ∙ rest e
 
 same_back : (a b : Option ℕ) → same_oneof a b ≡ true → same_oneof b a ≡ true
 same_back None b h = cc

@@ -27,6 +27,20 @@ not_both : {P : Type 0} (b : Bool) → b ≡ true → b ≡ false → P
 not_both true t f = cc
 not_both false t f = cc
 
+added_kept : (fields : List Field) (n : ℕ) (r : Record) (o : Option (List Record)) → r.number ≡ n → keeps_unknown fields n ≡ true → unknown_kept fields n o ≡ true → unknown_kept fields n (Some (unwrap_or o [] ++ r ∷ [])) ≡ true
+added_kept fields n r o own keeps h = both_true keeps (cases o h)
+  where
+    one : list_all (λ (r : Record). nat_eq r.number n) (r ∷ []) ≡ true
+    one = both_true (eq-eqb r.number n own) refl
+
+    all : (rs : List Record) → are_records_of n rs ≡ true → are_records_of n (rs ++ r ∷ []) ≡ true
+    all [] h = cc
+    all (q ∷ rs) h = all_append (λ (r : Record). nat_eq r.number n) (q ∷ rs) (r ∷ []) h one
+
+    cases : (o : Option (List Record)) → unknown_kept fields n o ≡ true → are_records_of n (unwrap_or o [] ++ r ∷ []) ≡ true
+    cases None h = one
+    cases (Some rs) h = all rs (and_both (keeps_unknown fields n) (are_records_of n rs) h).1
+
 module _ {V : Type 0} where
   -- values at no more numbers, and the same unknown records
   pub record Fewer (ds es : List (ℕ × Entry V)) : Type 0 where
@@ -127,20 +141,6 @@ module _ {V : Type 0} where
 
   pub sound_stored : (fields : List Field) (es ds : List (ℕ × Entry V)) → SameStored es ds → Sound fields es → Sound fields ds
   sound_stored fields es ds same = sound_less fields ds es (record { values = λ k h. ap is_some (sym (same.values k)) ∙ h; records = same.records })
-
-  added_kept : (fields : List Field) (n : ℕ) (r : Record) (o : Option (List Record)) → r.number ≡ n → keeps_unknown fields n ≡ true → unknown_kept fields n o ≡ true → unknown_kept fields n (Some (unwrap_or o [] ++ r ∷ [])) ≡ true
-  added_kept fields n r o own keeps h = both_true keeps (cases o h)
-    where
-      one : list_all (λ (r : Record). nat_eq r.number n) (r ∷ []) ≡ true
-      one = both_true (eq-eqb r.number n own) refl
-
-      all : (rs : List Record) → are_records_of n rs ≡ true → are_records_of n (rs ++ r ∷ []) ≡ true
-      all [] h = cc
-      all (q ∷ rs) h = all_append (λ (r : Record). nat_eq r.number n) (q ∷ rs) (r ∷ []) h one
-
-      cases : (o : Option (List Record)) → unknown_kept fields n o ≡ true → are_records_of n (unwrap_or o [] ++ r ∷ []) ≡ true
-      cases None h = one
-      cases (Some rs) h = all rs (and_both (keeps_unknown fields n) (are_records_of n rs) h).1
 
   pub sound_added : (fields : List Field) (es ds : List (ℕ × Entry V)) (r : Record) → UnknownAdded es ds r → keeps_unknown fields r.number ≡ true → Sound fields es → Sound fields ds
   sound_added fields es ds r added keeps sound = (

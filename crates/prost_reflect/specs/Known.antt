@@ -1,5 +1,5 @@
 -- What a message type says of a number.
-use Rattle.std.specs.Prelude.{ℕ, Bool, true, false, nat_eq, List, [], ◌∷◌, Option, Some, None, is_some}
+use Rattle.std.specs.Prelude.{ℕ, Bool, true, false, nat_eq, List, [], ◌∷◌, Option, Some, None, is_some, option_and_then}
 use Rattle.std.specs.List.{list_all}
 use Rattle.prost_reflect_wire.specs.Record.{Record}
 use Rattle.prost_reflect_wire.specs.Scalar.{Enum, Closed}
@@ -13,6 +13,9 @@ known_of d = known (schema_at d) (type_at d)
 
 abbrev pub is_known : List Field → ℕ → Bool
 is_known fields n = is_some (field_of fields n)
+
+abbrev pub oneof_of : List Field → ℕ → Option ℕ
+oneof_of fields n = option_and_then (λ f. f.oneof) (field_of fields n)
 
 -- Another member of the oneof of a number's field.
 abbrev pub are_siblings : List Field → ℕ → ℕ → Bool
