@@ -5,3 +5,5 @@ pub mod EntryChanges
 pub mod Siblings
 pub mod SoundChanges
 pub mod MembersCleared
+pub mod Covering
+mod BuiltinFacts

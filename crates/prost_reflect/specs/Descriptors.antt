@@ -1,5 +1,5 @@
 -- What descriptors name.
-use Rattle.std.specs.Prelude.{◌≡◌, ℕ, Bool, true, false, not, if◌then◌else◌, List, Option, Some, None, option_and_then, slice_get}
+use Rattle.std.specs.Prelude.{◌≡◌, ℕ, Bool, false, not, if◌then◌else◌, List, Option, Some, None, option_and_then, slice_get}
 use Rattle.prost_reflect_wire.specs.Schema.{Schema}
 use Rattle.prost_reflect_tables.specs.Rows.{FieldRow, MessageRow}
 use Rattle.prost_reflect_tables.specs.Places.{fields_at, place_of}

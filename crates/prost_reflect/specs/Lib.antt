@@ -12,3 +12,6 @@ pub mod Codes
 pub mod Same
 pub mod SameLaws
 pub mod formers
+pub mod Covered
+pub mod Builtin
+pub mod BuiltinRows

@@ -1,5 +1,4 @@
 -- What a pool holds.
-use Rattle.std.specs.Prelude.{List}
 use Rattle.prost_reflect_tables.specs.Rows.{TableRows}
 use Rattle.prost_reflect_tables.specs.Schema.{rows_of}
 use Rattle.prost_reflect.specs.declared.descriptor.pool.DescriptorPool.{DescriptorPool}

@@ -4,5 +4,7 @@
 mod descriptor;
 mod fields;
 
-pub use descriptor::{DescriptorPool, EnumDescriptor, FieldDescriptor, Kind, MessageDescriptor};
+pub use descriptor::{
+    DescriptorPool, EnumDescriptor, FieldDescriptor, Kind, MessageDescriptor, builtin_pool,
+};
 pub use prost_reflect_tables::Cardinality;

@@ -1,14 +1,12 @@
 -- What linked rows keep, place by place.
-use Rattle.std.proofs.Common.{◌≡◌, ℕ, zero, suc, ◌<◌, Bool, true, false, ◌&&◌, List, [], ◌∷◌, length, Option, Some, None, refl, arith}
+use Rattle.std.proofs.Common.{◌≡◌, ℕ, zero, suc, Bool, true, false, ◌&&◌, List, [], ◌∷◌, length, Option, Some, None, refl, arith}
 use Rattle.std.specs.Prelude.{slice_get}
 use Rattle.std.specs.List.{list_all}
-use Rattle.std.proofs.lemmas.Bool.{ltb-true}
 use Rattle.prost_reflect_wire.specs.Schema.{schema_valid}
-use Rattle.prost_reflect_tables.specs.declared.tables.TableKind.TheVariants.{Message, Enum}
-use Rattle.prost_reflect_tables.specs.Rows.{FieldRow, MessageRow, EnumRow, TableRows}
+use Rattle.prost_reflect_tables.specs.Rows.{FieldRow, MessageRow, TableRows}
 use Rattle.prost_reflect_tables.specs.Places.{fields_at, fields_or_none}
 use Rattle.prost_reflect_tables.specs.Shown.{schema_from}
-use Rattle.prost_reflect_tables.specs.Linked.{is_linked, message_linked, field_linked, enum_linked, oneof_linked, has_entry_numbers, ascending_from, kind_in_range}
+use Rattle.prost_reflect_tables.specs.Linked.{is_linked, message_linked, field_linked, ascending_from, kind_in_range}
 
 and_left : (a b : Bool) → a && b ≡ true → a ≡ true
 and_left true b h = refl

@@ -1,5 +1,5 @@
 -- What stands at a place of the rows.
-use Rattle.std.specs.Prelude.{ℕ, ◌==◌, List, [], ◌∷◌, Option, Some, None, find, position, slice_get}
+use Rattle.std.specs.Prelude.{ℕ, ◌==◌, List, [], Option, Some, None, find, position, slice_get}
 use Rattle.std.specs.Str.{bytes_eq}
 use Rattle.prost_reflect_tables.specs.Rows.{FieldRow, MessageRow, TableRows}
 

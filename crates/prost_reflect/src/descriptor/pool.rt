@@ -2,7 +2,7 @@
 
 use crate::descriptor::MessageDescriptor;
 use prost_reflect_tables::Tables;
-use std::alloc::AllocError;
+use std::alloc::{AllocError, Global};
 use std::rc::Rc;
 
 /// What the clones of a pool share.
@@ -36,6 +36,15 @@ impl DescriptorPool {
     ghost use Rattle.prost_reflect_tables.specs.Schema.{rows_of};
     ghost use Rattle.prost_reflect.specs.Pools.{pool_rows};
     ghost use Rattle.prost_reflect.specs.Descriptors.{type_at};
+
+    /// A pool of linked tables.
+    pub(crate) fn new(alloc: Global, tables: Tables) -> Result<DescriptorPool, AllocError>
+        ensures { IfOk result (λ pool. pool_rows pool ≡ rows_of tables) }
+    {
+        Ok(DescriptorPool {
+            inner: Rc::new(alloc, PoolInner { tables })?,
+        })
+    }
 
     /// The message type of a full name, as `my.package.MyMessage`, or none where no message type has it.
     pub fn get_message_by_name(&self, name: &str) -> Result<Option<MessageDescriptor>, AllocError>

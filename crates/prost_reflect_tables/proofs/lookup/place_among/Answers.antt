@@ -1,4 +1,4 @@
-use Rattle.std.proofs.Common.{◌≡◌, ◌<◌, ℕ, ◌+◌, ◌-◌, ◌/◌, length, arith, Some, sym}
+use Rattle.std.proofs.Common.{◌+◌, ◌-◌, ◌/◌, arith, sym}
 use Rattle.std.proofs.lemmas.Option.{slice_get-get_or}
 use Rattle.prost_reflect_tables.proofs.Ascending.{upper_half, lower_half, nothing_between, place_found}
 use Rattle.prost_reflect_tables.proofs.lookup.place_among.Goals as goal
