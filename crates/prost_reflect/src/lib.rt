@@ -3,6 +3,8 @@
 
 mod descriptor;
 mod fields;
+mod message;
+mod value;
 
 pub use descriptor::{
     DescriptorPool, EnumDescriptor, FieldDescriptor, Kind, MessageDescriptor, builtin_pool,
