@@ -2,7 +2,7 @@
 
 ghost use Rattle.prost_reflect_wire.specs.ExampleRows.{WorkedRows};
 ghost use Rattle.prost_reflect_wire.specs.ExampleFaults.{WorkedFaults};
-ghost use Rattle.prost_reflect_wire.specs.Laws.{OneReading, ReadIsSpells, WrittenSpells, AcceptsIsTest, MeaningBySteps, Commute, SameBehind, LevelsFree, AllowedFurther, WrittenIsRead, EntriesMean, ScalarBack, MessageBack, ListBack, PackedBack, MapBack, RecordsMean, EncodedSpells, Canonicity, RecordsAllowed, RoundTrip, MergedMeans, PiecesJoin, ReadIsValid, MeaningOrdered, StrayBack};
+ghost use Rattle.prost_reflect_wire.specs.Laws.{OneReading, ReadIsSpells, WrittenSpells, AcceptsIsTest, MeaningBySteps, Commute, SameBehind, LevelsFree, AllowedFurther, WrittenIsRead, EntriesMean, ScalarBack, MessageBack, ListBack, PackedBack, MapBack, RecordsMean, EncodedSpells, Canonicity, RecordsAllowed, RoundTrip, MergedMeans, PiecesJoin, ReadIsValid, MeaningOrdered, StrayBack, KeptWell, KeptContent, SetWell};
 
 /// Bytes spell at most one list of records.
 pub fn one_reading()
@@ -142,4 +142,19 @@ pub fn read_valid()
 /// Numbers and keys ascend in what is read.
 pub fn meaning_ordered()
     ensures { MeaningOrdered }
+{}
+
+/// What is kept of what a well-typed message stores is well-typed.
+pub fn kept_well()
+    ensures { KeptWell }
+{}
+
+/// Of a well-typed content all is kept.
+pub fn kept_content()
+    ensures { KeptContent }
+{}
+
+/// A set at a path keeps a content well-typed.
+pub fn set_well()
+    ensures { SetWell }
 {}
