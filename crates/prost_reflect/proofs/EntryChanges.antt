@@ -1,14 +1,20 @@
 -- The values and the unknown fields at each number after a change.
-use Rattle.std.proofs.Common.{◌≡◌, ◌≢◌, ◌++◌, unwrap_or, Bool, true, false, cond, ℕ, List, [], ◌∷◌, Option, None, Some, ap, sym, ◌∙◌, subst, refl}
+use Rattle.std.proofs.Common.{◌≡◌, ◌≢◌, ◌++◌, ◌||◌, unwrap_or, Bool, true, false, cond, ℕ, nat_eq, List, [], ◌∷◌, Option, None, Some, ap, sym, ◌∙◌, subst, refl, true≢false}
+use Rattle.std.proofs.lemmas.Bool.{eq-eqb, ne_eqb}
 use Rattle.std.specs.Option.{option_and_then, is_some}
+use Rattle.std.specs.Ordering.{nat_cmp, is_eq}
+use Rattle.std.specs.declared.cmp.Ordering.TheVariants.{Less}
+use Rattle.std.specs.List.{AllByRecursion}
+use Rattle.std.specs.List.Sorted.{IsStrictlySortedBy}
+use Rattle.std.specs.Map.{keys_of}
 use Rattle.prost_reflect_wire.specs.Record.{Record}
 use Rattle.prost_reflect_wire.specs.Unknown.{records_of}
 use Rattle.prost_reflect_wire.specs.declared.unknown.UnknownFieldSet.{UnknownFieldSet}
 use Rattle.prost_reflect.specs.declared.fields.entry.Entry.{Entry}
 use Rattle.prost_reflect.specs.declared.fields.entry.Entry.TheVariants.{Value, Unknown, Both}
 use Rattle.prost_reflect.specs.Items.{IsAscending, item_at, with_item, put_item, without_item}
-use Rattle.prost_reflect.specs.Entries.{value_in, records_in, value_at, records_at, has_value, with_value_in, without_value_beside, revalued, put_entry, put_value, clear_entry, clear_value, with_entry, with_value, AddedIn, SameIn, SameStored, UnknownAdded}
-use Rattle.prost_reflect.proofs.ItemChanges.{Apart, by_number, at_each, apart_of, apart_back, put_same, put_apart, without_same, without_apart, with_same, with_apart, ascending_without, ascending_with, ascending_put_item}
+use Rattle.prost_reflect.specs.Entries.{value_in, records_in, value_at, records_at, has_value, with_value_in, without_value_beside, revalued, put_entry, put_value, left_in, then_entry, without_values, clear_value, with_entry, with_value, AddedIn, SameIn, SameStored, UnknownAdded}
+use Rattle.prost_reflect.proofs.ItemChanges.{Apart, by_number, at_each, apart_of, apart_back, itself, none_above, same_items, put_same, put_apart, without_same, without_apart, with_same, with_apart, ascending_without, ascending_with, ascending_put_item}
 
 module _ {V : Type 0} where
   -- what one lookup says of another
@@ -20,66 +26,146 @@ module _ {V : Type 0} where
 
   -- CLEARING
 
-  -- where a value is taken, the unknown fields are left
-  abbrev left_of : Option (Entry V) → Option (Entry V)
-  left_of None = None
-  left_of (Some (Value v)) = None
-  left_of (Some (Unknown u)) = Some (Unknown u)
-  left_of (Some (Both v u)) = Some (Unknown u)
-
-  no_value_left : (o : Option (Entry V)) → option_and_then value_in (left_of o) ≡ None
+  no_value_left : (o : Option (Entry V)) → option_and_then value_in (option_and_then left_in o) ≡ None
   no_value_left None = refl
   no_value_left (Some (Value v)) = refl
   no_value_left (Some (Unknown u)) = refl
   no_value_left (Some (Both v u)) = refl
 
-  records_left : (o : Option (Entry V)) → option_and_then records_in (left_of o) ≡ option_and_then records_in o
+  records_left : (o : Option (Entry V)) → option_and_then records_in (option_and_then left_in o) ≡ option_and_then records_in o
   records_left None = refl
   records_left (Some (Value v)) = refl
   records_left (Some (Unknown u)) = refl
   records_left (Some (Both v u)) = refl
 
-  clear_same : (es : List (ℕ × Entry V)) (n : ℕ) → IsAscending es → item_at (clear_value es n) n ≡ left_of (item_at es n)
-  clear_same es n s = cases (item_at es n) refl
+  all_without : (P : ℕ → Type 0) (test : ℕ → Bool) (es : List (ℕ × Entry V)) → AllByRecursion P (keys_of es) → AllByRecursion P (keys_of (without_values test es))
+  all_without P test [] a = a
+  all_without P test (e ∷ es) a = cases (cond (test e.0) (left_in e.1) (Some e.1)) (all_without P test es a.1)
     where
-      cases : (o : Option (Entry V)) → item_at es n ≡ o → item_at (clear_entry es n o) n ≡ left_of o
-      cases None h = h
-      cases (Some (Value v)) h = without_same es n s
-      cases (Some (Unknown u)) h = h
-      cases (Some (Both v u)) h = with_same es n (Unknown u) (Both v u) h
+      cases : (o : Option (Entry V)) → AllByRecursion P (keys_of (without_values test es)) → AllByRecursion P (keys_of (then_entry e.0 o (without_values test es)))
+      cases None rest = rest
+      cases (Some d) rest = (a.0, rest)
 
-  clear_apart : (es : List (ℕ × Entry V)) (n k : ℕ) → Apart n k → item_at (clear_value es n) k ≡ item_at es k
-  clear_apart es n k a = cases (item_at es n)
+  pub ascending_without_values : (test : ℕ → Bool) (es : List (ℕ × Entry V)) → IsAscending es → IsAscending (without_values test es)
+  unfolding IsStrictlySortedBy
+  ascending_without_values test [] s = s
+  ascending_without_values test (e ∷ es) s = cases (cond (test e.0) (left_in e.1) (Some e.1)) (ascending_without_values test es s.1)
     where
-      cases : (o : Option (Entry V)) → item_at (clear_entry es n o) k ≡ item_at es k
-      cases None = refl
-      cases (Some (Value v)) = without_apart es n k a
-      cases (Some (Unknown u)) = refl
-      cases (Some (Both v u)) = with_apart es n k (Unknown u) a
+      cases : (o : Option (Entry V)) → IsAscending (without_values test es) → IsAscending (then_entry e.0 o (without_values test es))
+      cases None rest = rest
+      cases (Some d) rest = (all_without (λ y. nat_cmp e.0 y ≡ Less) test es s.0, rest)
 
-  pub ascending_clear : (es : List (ℕ × Entry V)) (n : ℕ) → IsAscending es → IsAscending (clear_value es n)
-  ascending_clear es n s = cases (item_at es n)
+  nothing_left : (b : Bool) (es : List (ℕ × Entry V)) → es ≡ [] → None ≡ cond b (option_and_then left_in (item_at es 0)) (item_at es 0)
+  nothing_left true [] e = refl
+  nothing_left false [] e = refl
+  nothing_left b (x ∷ es) e = cc
+
+  pub item_without : (test : ℕ → Bool) (es : List (ℕ × Entry V)) (k : ℕ) → IsAscending es
+      → item_at (without_values test es) k ≡ cond (test k) (option_and_then left_in (item_at es k)) (item_at es k)
+  unfolding IsStrictlySortedBy
+  item_without test [] k s = nothing_left (test k) [] refl
+  item_without test (e ∷ es) k s = by_number k e.0
+      (λ is. here is (test k) refl)
+      (λ apart. there (cond (test e.0) (left_in e.1) (Some e.1)) apart ∙ item_without test es k s.1 ∙ ap (λ b. cond (test k) (option_and_then left_in (cond b (Some e.1) (item_at es k))) (cond b (Some e.1) (item_at es k))) (sym apart))
     where
-      cases : (o : Option (Entry V)) → IsAscending (clear_entry es n o)
-      cases None = s
-      cases (Some (Value v)) = ascending_without es n s
-      cases (Some (Unknown u)) = s
-      cases (Some (Both v u)) = ascending_with es n (Unknown u) s
+      rest : List (ℕ × Entry V)
+      rest = without_values test es
 
-  pub value_cleared : (es : List (ℕ × Entry V)) (n : ℕ) → IsAscending es → value_at (clear_value es n) n ≡ None
-  value_cleared es n s = ap (option_and_then value_in) (clear_same es n s) ∙ no_value_left (item_at es n)
+      there : (o : Option (Entry V)) → Apart k e.0 → item_at (then_entry e.0 o (without_values test es)) k ≡ item_at (without_values test es) k
+      there None apart = refl
+      there (Some d) apart = ap (λ b. cond b (Some d) (item_at (without_values test es) k)) apart
 
-  pub value_clear_apart : (es : List (ℕ × Entry V)) (n k : ℕ) → Apart n k → value_at (clear_value es n) k ≡ value_at es k
-  value_clear_apart es n k a = same_values es (clear_value es n) k (clear_apart es n k a)
+      none_behind : k ≡ e.0 → item_at (without_values test es) k ≡ None
+      none_behind is = none_above k (without_values test es) (subst (λ z. AllByRecursion (λ y. nat_cmp z y ≡ Less) (keys_of (without_values test es))) (sym is) (all_without (λ y. nat_cmp e.0 y ≡ Less) test es s.0))
 
-  pub records_clear : (es : List (ℕ × Entry V)) (n : ℕ) → IsAscending es → (k : ℕ) → records_at (clear_value es n) k ≡ records_at es k
-  records_clear es n s = at_each (λ k. records_at (clear_value es n) k ≡ records_at es k) n (ap (option_and_then records_in) (clear_same es n s) ∙ records_left (item_at es n))
-      (λ k a. same_records es (clear_value es n) k (clear_apart es n k a))
+      now : (o : Option (Entry V)) → k ≡ e.0 → item_at (then_entry e.0 o (without_values test es)) k ≡ o
+      now None is = none_behind is
+      now (Some d) is = ap (λ b. cond b (Some d) (item_at (without_values test es) k)) (ap is_eq (ap (nat_cmp k) (sym is) ∙ itself k))
 
-  pub take_found : (es : List (ℕ × Entry V)) (n : ℕ) (e b : Entry V) (v : V) (u : UnknownFieldSet) → Some b ≡ item_at es n → b ≡ Both v u → Some e ≡ item_at es n → with_item es n (without_value_beside e) ≡ clear_value es n
-  take_found es n e b v u p q r =
+      found : k ≡ e.0 → item_at (e ∷ es) k ≡ Some e.1
+      found is = ap (λ b. cond b (Some e.1) (item_at es k)) (ap is_eq (ap (nat_cmp k) (sym is) ∙ itself k))
+
+      here : k ≡ e.0 → (b : Bool) → test k ≡ b → item_at (without_values test (e ∷ es)) k ≡ cond (test k) (option_and_then left_in (item_at (e ∷ es) k)) (item_at (e ∷ es) k)
+      here is b t = now (cond (test e.0) (left_in e.1) (Some e.1)) is
+          ∙ ap (λ z. cond (test z) (left_in e.1) (Some e.1)) (sym is)
+          ∙ sym (ap (λ o. cond (test k) (option_and_then left_in o) o) (found is))
+
+  pub value_without : (test : ℕ → Bool) (es : List (ℕ × Entry V)) (k : ℕ) → IsAscending es → value_at (without_values test es) k ≡ cond (test k) None (value_at es k)
+  value_without test es k s = ap (option_and_then value_in) (item_without test es k s) ∙ cases (test k)
+    where
+      cases : (b : Bool) → option_and_then value_in (cond b (option_and_then left_in (item_at es k)) (item_at es k)) ≡ cond b None (value_at es k)
+      cases true = no_value_left (item_at es k)
+      cases false = refl
+
+  pub records_without : (test : ℕ → Bool) (es : List (ℕ × Entry V)) (k : ℕ) → IsAscending es → records_at (without_values test es) k ≡ records_at es k
+  records_without test es k s = ap (option_and_then records_in) (item_without test es k s) ∙ cases (test k)
+    where
+      cases : (b : Bool) → option_and_then records_in (cond b (option_and_then left_in (item_at es k)) (item_at es k)) ≡ records_at es k
+      cases true = records_left (item_at es k)
+      cases false = refl
+
+  nothing_passes : (es : List (ℕ × Entry V)) → without_values (λ k. false) es ≡ es
+  nothing_passes [] = refl
+  nothing_passes (e ∷ es) = ap (λ ds. e ∷ ds) (nothing_passes es)
+
+  left_twice : (o : Option (Entry V)) → option_and_then left_in (option_and_then left_in o) ≡ option_and_then left_in o
+  left_twice None = refl
+  left_twice (Some (Value v)) = refl
+  left_twice (Some (Unknown u)) = refl
+  left_twice (Some (Both v u)) = refl
+
+  -- two clearings are one
+  pub without_both : (p q r : ℕ → Bool) (es : List (ℕ × Entry V)) → IsAscending es → ((k : ℕ) → r k ≡ (q k || p k)) → without_values p (without_values q es) ≡ without_values r es
+  without_both p q r es s h = same_items (without_values p (without_values q es)) (without_values r es) (ascending_without_values p (without_values q es) between) (ascending_without_values r es s)
+      (λ k. item_without p (without_values q es) k between ∙ ap (λ o. cond (p k) (option_and_then left_in o) o) (item_without q es k s) ∙ cases (item_at es k) (p k) (q k)
+        ∙ ap (λ b. cond b (option_and_then left_in (item_at es k)) (item_at es k)) (sym (h k)) ∙ sym (item_without r es k s))
+    where
+      between : IsAscending (without_values q es)
+      between = ascending_without_values q es s
+
+      cases : (o : Option (Entry V)) (a b : Bool) → cond a (option_and_then left_in (cond b (option_and_then left_in o) o)) (cond b (option_and_then left_in o) o) ≡ cond (b || a) (option_and_then left_in o) o
+      cases o true true = left_twice o
+      cases o true false = refl
+      cases o false true = refl
+      cases o false false = refl
+
+  pub without_none : (test : ℕ → Bool) (es : List (ℕ × Entry V)) → ((k : ℕ) → test k ≡ false) → without_values test es ≡ es
+  without_none test es h = (λ i. without_values (λ k. h k i) es) ∙ nothing_passes es
+
+  pub without_same_test : (p q : ℕ → Bool) (es : List (ℕ × Entry V)) → ((k : ℕ) → p k ≡ q k) → without_values p es ≡ without_values q es
+  without_same_test p q es h = λ i. without_values (λ k. h k i) es
+
+  -- what clears one number
+  cleared_by : (es ds : List (ℕ × Entry V)) (n : ℕ) → IsAscending es → IsAscending ds → item_at ds n ≡ option_and_then left_in (item_at es n)
+      → ((k : ℕ) → Apart n k → item_at ds k ≡ item_at es k) → ds ≡ clear_value es n
+  cleared_by es ds n s r here apart = same_items ds (clear_value es n) r (ascending_without_values (nat_eq n) es s)
+      (λ k. at_each (λ k. item_at ds k ≡ cond (nat_eq n k) (option_and_then left_in (item_at es k)) (item_at es k)) n
+        (here ∙ ap (λ b. cond b (option_and_then left_in (item_at es n)) (item_at es n)) (sym (eq-eqb n n refl)))
+        (λ k a. apart k a ∙ ap (λ b. cond b (option_and_then left_in (item_at es k)) (item_at es k)) (sym (ne_eqb n k (λ e. differs n k e a)))) k ∙ sym (item_without (nat_eq n) es k s))
+    where
+      differs : (n k : ℕ) → n ≡ k → Apart n k → ⊥
+      differs n k e a = absurd (true≢false (sym (ap is_eq (ap (nat_cmp n) (sym e) ∙ itself n)) ∙ a))
+
+  -- taking a value: an entry removed, one kept as it is, and one left with unknown fields alone
+  pub take_removed : (es : List (ℕ × Entry V)) (n : ℕ) (v : V) → IsAscending es → item_at es n ≡ Some (Value v) → without_item es n ≡ clear_value es n
+  take_removed es n v s h = cleared_by es (without_item es n) n s (ascending_without es n s) (without_same es n s ∙ ap (option_and_then left_in) (sym h)) (λ k a. without_apart es n k a)
+
+  pub take_missing : (es : List (ℕ × Entry V)) (n : ℕ) → IsAscending es → value_at es n ≡ None → es ≡ clear_value es n
+  take_missing es n s h = cleared_by es es n s s (cases (item_at es n) h) (λ k a. refl)
+    where
+      cases : (o : Option (Entry V)) → option_and_then value_in o ≡ None → o ≡ option_and_then left_in o
+      cases None h = refl
+      cases (Some (Value v)) h = cc
+      cases (Some (Unknown u)) h = refl
+      cases (Some (Both v u)) h = cc
+
+  pub take_found : (es : List (ℕ × Entry V)) (n : ℕ) (e b : Entry V) (v : V) (u : UnknownFieldSet) → IsAscending es → Some b ≡ item_at es n → b ≡ Both v u → Some e ≡ item_at es n
+      → with_item es n (without_value_beside e) ≡ clear_value es n
+  take_found es n e b v u s p q r =
       let same : e ≡ Both v u = ap (λ o. unwrap_or o e) (r ∙ sym p) ∙ q in
-      ap (λ x. with_item es n (without_value_beside x)) same ∙ sym (ap (clear_entry es n) (sym p ∙ ap Some q))
+      let left : option_and_then left_in (item_at es n) ≡ Some (Unknown u) = ap (option_and_then left_in) (sym r ∙ ap Some same) in
+      ap (λ x. with_item es n (without_value_beside x)) same
+      ∙ cleared_by es (with_item es n (Unknown u)) n s (ascending_with es n (Unknown u) s) (with_same es n (Unknown u) e (sym r) ∙ sym left) (λ k a. with_apart es n k (Unknown u) a)
 
   -- SETTING
 
@@ -128,12 +214,12 @@ module _ {V : Type 0} where
 
   -- WRITING WHAT WAS LENT
 
-  value_kept : (e : Entry V) (w : V) → is_some (value_in (revalued e w)) ≡ is_some (value_in e)
+  pub value_kept : (e : Entry V) (w : V) → is_some (value_in (revalued e w)) ≡ is_some (value_in e)
   value_kept (Value v) w = refl
   value_kept (Unknown u) w = refl
   value_kept (Both v u) w = refl
 
-  records_kept : (e : Entry V) (w : V) → records_in (revalued e w) ≡ records_in e
+  pub records_kept : (e : Entry V) (w : V) → records_in (revalued e w) ≡ records_in e
   records_kept (Value v) w = refl
   records_kept (Unknown u) w = refl
   records_kept (Both v u) w = refl

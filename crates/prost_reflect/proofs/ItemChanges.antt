@@ -143,3 +143,45 @@ module _ {T : Type 0} where
       cases Less at rest = ((at, all_later n e.0 (keys_of es) at s.0), s)
       cases Equal at rest = s
       cases Greater at rest = (all_put (λ y. nat_cmp e.0 y ≡ Less) es n t (nat_cmp_total.antisymm e.0 n ∙ ap ordering_reverse at) s.0, rest)
+
+-- lists whose numbers ascend are known by what stands at each number
+module _ {T : Type 0} where
+  front : (e : ℕ × T) (es : List (ℕ × T)) → item_at (e ∷ es) e.0 ≡ Some e.1
+  front e es = ap (λ o. cond (is_eq o) (Some e.1) (item_at es e.0)) (itself e.0)
+
+  not_some : {P : Type 0} (o : Option T) (t : T) → o ≡ None → o ≡ Some t → P
+  not_some None t h e = cc
+  not_some (Some x) t h e = cc
+
+  -- nothing stands in front of the first
+  none_first : (n : ℕ) (d : ℕ × T) (ds : List (ℕ × T)) → IsAscending (d ∷ ds) → nat_cmp n d.0 ≡ Less → item_at (d ∷ ds) n ≡ None
+  unfolding IsStrictlySortedBy
+  none_first n d ds s less = none_above n (d ∷ ds) (less, all_later n d.0 (keys_of ds) less s.0)
+
+  behind_same : (e d : ℕ × T) (es ds : List (ℕ × T)) → IsAscending (e ∷ es) → IsAscending (d ∷ ds) → e.0 ≡ d.0
+      → ((k : ℕ) → item_at (e ∷ es) k ≡ item_at (d ∷ ds) k) → (k : ℕ) → item_at es k ≡ item_at ds k
+  unfolding IsStrictlySortedBy
+  behind_same e d es ds s r same h k = by_number k e.0
+      (λ is. subst (λ z. item_at es z ≡ None) (sym is) (none_above e.0 es s.0) ∙ sym (subst (λ z. item_at ds z ≡ None) (sym (is ∙ same)) (none_above d.0 ds r.0)))
+      (λ apart.
+        let first : item_at (e ∷ es) k ≡ item_at es k = ap (λ b. cond b (Some e.1) (item_at es k)) apart in
+        let second : item_at (d ∷ ds) k ≡ item_at ds k = ap (λ b. cond b (Some d.1) (item_at ds k)) (subst (λ z. is_eq (nat_cmp k z) ≡ false) same apart) in
+        sym first ∙ h k ∙ second)
+
+  pub same_items : (es ds : List (ℕ × T)) → IsAscending es → IsAscending ds → ((k : ℕ) → item_at es k ≡ item_at ds k) → es ≡ ds
+  unfolding IsStrictlySortedBy
+  same_items [] [] s r h = refl
+  same_items [] (d ∷ ds) s r h = not_some (item_at (d ∷ ds) d.0) d.1 (sym (h d.0)) (front d ds)
+  same_items (e ∷ es) [] s r h = not_some (item_at (e ∷ es) e.0) e.1 (h e.0) (front e es)
+  same_items (e ∷ es) (d ∷ ds) s r h = cases (nat_cmp e.0 d.0) refl (λ same. same_items es ds s.1 r.1 (behind_same e d es ds s r same h))
+    where
+      value : (o q : Option T) (t u : T) → o ≡ q → o ≡ Some t → q ≡ Some u → t ≡ u
+      value o q t u e f g = cc
+
+      cases : (o : Ordering) → nat_cmp e.0 d.0 ≡ o → (e.0 ≡ d.0 → es ≡ ds) → e ∷ es ≡ d ∷ ds
+      cases Less at rest = not_some (item_at (d ∷ ds) e.0) e.1 (none_first e.0 d ds r at) (sym (h e.0) ∙ front e es)
+      cases Equal at rest =
+          let same : e.0 ≡ d.0 = exact_unsigned e.0 d.0 at in
+          let equal : e.1 ≡ d.1 = value (item_at (e ∷ es) e.0) (item_at (d ∷ ds) e.0) e.1 d.1 (h e.0) (front e es) (subst (λ z. item_at (d ∷ ds) z ≡ Some d.1) (sym same) (front d ds)) in
+          λ i. (same i, equal i) ∷ rest same i
+      cases Greater at rest = not_some (item_at (e ∷ es) d.0) d.1 (none_first d.0 e es s (nat_cmp_total.antisymm d.0 e.0 ∙ ap ordering_reverse at)) (h d.0 ∙ front d ds)

@@ -3,5 +3,8 @@ pub mod Walks
 pub mod ItemChanges
 pub mod EntryChanges
 pub mod ScalarReads
+pub mod Siblings
+pub mod SoundChanges
+pub mod MembersCleared
 pub mod Covering
 mod BuiltinFacts

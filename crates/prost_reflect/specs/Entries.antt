@@ -1,5 +1,5 @@
 -- What is stored at each number.
-use Rattle.std.specs.Prelude.{◌≡◌, ◌≢◌, ℕ, Bool, List, [], ◌∷◌, ◌++◌, Option, None, Some, option_and_then, option_map, unwrap_or, is_some}
+use Rattle.std.specs.Prelude.{◌≡◌, ◌≢◌, ℕ, Bool, List, [], ◌∷◌, ◌++◌, Option, None, Some, option_and_then, option_map, unwrap_or, is_some, nat_eq, if◌then◌else◌, cond}
 use Rattle.prost_reflect_wire.specs.Record.{Record}
 use Rattle.prost_reflect_wire.specs.Unknown.{records_of}
 use Rattle.prost_reflect_wire.specs.declared.unknown.UnknownFieldSet.{UnknownFieldSet}
@@ -65,15 +65,23 @@ module _ {V : Type 0} where
   abbrev pub put_value : List (ℕ × Entry V) → ℕ → V → List (ℕ × Entry V)
   put_value es n v = put_entry es n v (item_at es n)
 
-  abbrev pub clear_entry : List (ℕ × Entry V) → ℕ → Option (Entry V) → List (ℕ × Entry V)
-  clear_entry es n None = es
-  clear_entry es n (Some (Value v)) = without_item es n
-  clear_entry es n (Some (Unknown u)) = es
-  clear_entry es n (Some (Both v u)) = with_item es n (Unknown u)
+  -- What is left of an entry without its value.
+  abbrev pub left_in : Entry V → Option (Entry V)
+  left_in (Value v) = None
+  left_in (Unknown u) = Some (Unknown u)
+  left_in (Both v u) = Some (Unknown u)
 
-  -- No value at n, where the unknown fields stay.
+  abbrev pub then_entry : ℕ → Option (Entry V) → List (ℕ × Entry V) → List (ℕ × Entry V)
+  then_entry n None es = es
+  then_entry n (Some e) es = (n, e) ∷ es
+
+  -- No values at the numbers that pass, where the unknown fields stay.
+  abbrev pub without_values : (ℕ → Bool) → List (ℕ × Entry V) → List (ℕ × Entry V)
+  without_values test [] = []
+  without_values test (e ∷ es) = then_entry e.0 (if test e.0 then left_in e.1 else Some e.1) (without_values test es)
+
   abbrev pub clear_value : List (ℕ × Entry V) → ℕ → List (ℕ × Entry V)
-  clear_value es n = clear_entry es n (item_at es n)
+  clear_value es n = without_values (nat_eq n) es
 
   abbrev pub with_entry : List (ℕ × Entry V) → ℕ → V → Option (Entry V) → List (ℕ × Entry V)
   with_entry es n v None = es

@@ -1,9 +1,15 @@
 -- What a message type says of a number.
-use Rattle.std.specs.Prelude.{ℕ, Bool, true, false, not, ◌&&◌, nat_eq, List, [], ◌∷◌, Option, Some, None, is_some, option_and_then}
+use Rattle.std.specs.Prelude.{ℕ, Bool, true, false, nat_eq, List, [], ◌∷◌, Option, Some, None, is_some, option_and_then}
 use Rattle.std.specs.List.{list_all}
 use Rattle.prost_reflect_wire.specs.Record.{Record}
 use Rattle.prost_reflect_wire.specs.Scalar.{Enum, Closed}
-use Rattle.prost_reflect_wire.specs.Schema.{Kind, ScalarOf, Field, field_of, same_oneof}
+use Rattle.prost_reflect_wire.specs.Schema.{Kind, ScalarOf, Field, known, field_of, is_sibling, passes}
+use Rattle.prost_reflect.specs.Descriptors.{schema_at, type_at}
+use Rattle.prost_reflect.specs.declared.descriptor.message.MessageDescriptor.{MessageDescriptor}
+
+-- The fields and extensions of a message type.
+abbrev pub known_of : MessageDescriptor → List Field
+known_of d = known (schema_at d) (type_at d)
 
 abbrev pub is_known : List Field → ℕ → Bool
 is_known fields n = is_some (field_of fields n)
@@ -11,9 +17,9 @@ is_known fields n = is_some (field_of fields n)
 abbrev pub oneof_of : List Field → ℕ → Option ℕ
 oneof_of fields n = option_and_then (λ f. f.oneof) (field_of fields n)
 
--- Two numbers of fields of one oneof.
+-- Another member of the oneof of a number's field.
 abbrev pub are_siblings : List Field → ℕ → ℕ → Bool
-are_siblings fields m n = not (nat_eq m n) && same_oneof (oneof_of fields m) (oneof_of fields n)
+are_siblings fields n k = passes (field_of fields n) (λ f. is_sibling fields f k)
 
 abbrev pub is_closed_enum : Kind → Bool
 is_closed_enum (ScalarOf (Enum first (Closed numbers))) = true

@@ -1,10 +1,13 @@
 pub mod Pools
 pub mod Descriptors
-pub mod Schemas
+pub mod Fields
+pub mod Kinds
+pub mod Enums
 pub mod Items
 pub mod Entries
 pub mod Known
 pub mod Sound
+pub mod Members
 pub mod Codes
 pub mod Same
 pub mod SameLaws

@@ -1,13 +1,11 @@
 -- What a message's entries keep at their own level.
-use Rattle.std.specs.Prelude.{◌≡◌, ℕ, Bool, true, false, ◌&&◌, List, [], ◌∷◌, Option, None, Some, cond}
+use Rattle.std.specs.Prelude.{◌≡◌, ℕ, Bool, true, false, ◌&&◌, List, [], ◌∷◌, Option, None, Some, if◌then◌else◌}
 use Rattle.prost_reflect_wire.specs.Record.{Record}
-use Rattle.prost_reflect_wire.specs.Schema.{Field, same_oneof}
-use Rattle.prost_reflect.specs.Known.{is_known, oneof_of, are_siblings, keeps_unknown, are_records_of}
-use Rattle.prost_reflect.specs.Entries.{has_value, records_at, put_value, clear_value}
-use Rattle.prost_reflect.specs.Schemas.{fields_of}
+use Rattle.prost_reflect_wire.specs.Schema.{Field}
+use Rattle.prost_reflect.specs.Known.{known_of, is_known, are_siblings, keeps_unknown, are_records_of}
+use Rattle.prost_reflect.specs.Entries.{has_value, records_at, put_value, without_values}
 use Rattle.prost_reflect.specs.declared.descriptor.message.MessageDescriptor.{MessageDescriptor}
 use Rattle.prost_reflect.specs.declared.fields.entry.Entry.{Entry}
-use Rattle.std.specs.Prelude.{not, nat_eq}
 
 -- Unknown fields where they may stand, each at its own number.
 abbrev pub unknown_kept : List Field → ℕ → Option (List Record) → Bool
@@ -29,20 +27,12 @@ module _ {V : Type 0} where
   Sound fields es = ValuesKnown fields es × UnknownKept fields es × OneofsSingle fields es
 
   abbrev pub IsSound : MessageDescriptor → List (ℕ × Entry V) → Type 0
-  IsSound d es = Sound (fields_of d) es
-
--- Another member of the oneof.
-abbrev pub is_other_member : Option ℕ → ℕ → Field → Bool
-is_other_member o n f = not (nat_eq f.number n) && same_oneof f.oneof o
-
-abbrev pub clear_members : {V : Type 0} → List Field → Option ℕ → ℕ → List (ℕ × Entry V) → List (ℕ × Entry V)
-clear_members [] o n es = es
-clear_members (f ∷ fields) o n es = clear_members fields o n (cond (is_other_member o n f) (clear_value es f.number) es)
+  IsSound d es = Sound (known_of d) es
 
 -- v as the value at n, and no value at the other members of its oneof.
 abbrev pub set_value_at : {V : Type 0} → List Field → List (ℕ × Entry V) → ℕ → V → List (ℕ × Entry V)
-set_value_at fields es n v = clear_members fields (oneof_of fields n) n (put_value es n v)
+set_value_at fields es n v = without_values (are_siblings fields n) (put_value es n v)
 
 -- The entries, with a value at n in any case.
 abbrev pub prepared : {V : Type 0} → List Field → List (ℕ × Entry V) → ℕ → V → List (ℕ × Entry V)
-prepared fields es n v = cond (has_value es n) es (set_value_at fields es n v)
+prepared fields es n v = if has_value es n then es else set_value_at fields es n v

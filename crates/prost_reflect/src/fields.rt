@@ -2,5 +2,6 @@
 
 pub mod entry;
 pub mod number_map;
+pub mod slots;
 pub mod sorted;
 pub mod stored;

@@ -40,6 +40,12 @@ impl<T> Sorted<T> {
         }
     }
 
+    /// What the items are stored with.
+    pub fn allocator(&self) -> Global {
+        *self.items.allocator()
+    }
+
+    /// How many numbers have an item.
     pub fn len(&self) -> usize
         ensures len { result ≡ length self.now }
         ensures ascending { IsAscending self.now }

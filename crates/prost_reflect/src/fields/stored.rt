@@ -75,7 +75,8 @@ pub fn take_value<V: Drop, S: NumberMap<Entry<V>>>(
             Some(entry) => entry.take_beside(alloc),
             None => None,
         },
-        _ => None,
+        Some(Entry::Unknown(_)) => None,
+        None => None,
     }
 }
 
