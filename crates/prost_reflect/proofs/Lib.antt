@@ -8,3 +8,4 @@ pub mod SoundChanges
 pub mod MembersCleared
 pub mod Covering
 mod BuiltinFacts
+pub mod PlainKinds

@@ -14,7 +14,7 @@ use Rattle.prost_reflect_wire.specs.Content as content
 use Rattle.prost_reflect_tables.specs.declared.tables.TableKind.{TableKind}
 use Rattle.prost_reflect_tables.specs.declared.tables.TableKind.TheVariants as kinds
 use Rattle.prost_reflect.specs.declared.value.Value.{Value}
-use Rattle.prost_reflect.specs.Values.{value_of}
+use Rattle.prost_reflect.specs.View.{value_of}
 use Rattle.prost_reflect.specs.Scalars.{plain_kind, IsElement, ReadsScalar}
 
 pub reads_element : (kind : TableKind) (w : WireType) (v : Value) (plain : Plain) (bytes rest : List ℕ) → IsElement kind (Flat plain) v → plain_wire plain ≡ w → PlainFront plain bytes rest → ReadsScalar kind w v bytes rest

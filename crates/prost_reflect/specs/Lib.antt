@@ -12,11 +12,8 @@ pub mod Codes
 pub mod Same
 pub mod SameLaws
 pub mod formers
-pub mod Fields
-pub mod Kinds
-pub mod Enums
-pub mod Values
 pub mod Scalars
 pub mod Covered
 pub mod Builtin
 pub mod BuiltinRows
+pub mod View

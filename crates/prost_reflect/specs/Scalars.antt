@@ -13,7 +13,7 @@ use Rattle.prost_reflect_wire.specs.Decoding.{ScalarRead, ScalarFault}
 use Rattle.prost_reflect_tables.specs.declared.tables.TableKind.{TableKind}
 use Rattle.prost_reflect_tables.specs.declared.tables.TableKind.TheVariants.{Double, Float, Int32, Int64, Uint32, Uint64, Sint32, Sint64, Fixed32, Fixed64, Sfixed32, Sfixed64, Bool, String, Bytes, Message, Enum}
 use Rattle.prost_reflect.specs.declared.value.Value.{Value}
-use Rattle.prost_reflect.specs.Values.{value_of}
+use Rattle.prost_reflect.specs.View.{value_of}
 
 -- The scalar kinds, enums aside.
 abbrev pub plain_kind : TableKind → Option ScalarKind

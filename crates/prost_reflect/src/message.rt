@@ -1,5 +1,8 @@
 //! Messages whose types are known only at run time.
 
+mod scalar;
+mod write;
+
 use crate::fields::slots::Slots;
 use crate::value::Value;
 

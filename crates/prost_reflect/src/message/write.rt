@@ -2,7 +2,7 @@
 
 ghost use Rattle.prost_reflect_wire.specs.Record.{Len, short_plain};
 ghost use Rattle.prost_reflect_wire.specs.Buffer.{bytes_of, Prepended};
-ghost use Rattle.prost_reflect.specs.Values.{value_of};
+ghost use Rattle.prost_reflect.specs.View.{value_of};
 ghost use Rattle.prost_reflect.specs.Scalars.{plain_kind, TakesScalar, scalar_bytes};
 
 use crate::value::Value;
