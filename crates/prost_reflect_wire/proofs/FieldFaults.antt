@@ -1,16 +1,16 @@
 -- Where a front of the bytes is a field within the levels, no fault stands in the field.
-use Rattle.std.proofs.Common.{◌≡◌, ◌≢◌, ℕ, zero, suc, ◌<◌, ◌≤◌, max, List, [], ◌∷◌, ◌++◌, length, Option, Some, None, Bool, true, false, refl, sym, ap, subst, ◌∙◌, arith, inl, inr, ◌⊎◌}
+use Rattle.std.proofs.Common.{◌≡◌, ◌≢◌, ℕ, suc, ◌≤◌, List, [], ◌++◌, length, Option, Some, None, true, refl, sym, ap, subst, ◌∙◌, arith, inl, inr, ◌⊎◌}
 use Rattle.prost_reflect_wire.specs.declared.error.DecodeError.{DecodeError}
 use Rattle.prost_reflect_wire.specs.declared.error.DecodeError.TheVariants as errors
 use Rattle.prost_reflect_wire.specs.declared.key.WireType.{WireType}
 use Rattle.prost_reflect_wire.specs.declared.key.WireType.TheVariants as wires
-use Rattle.prost_reflect_wire.specs.Record.{Plain, Var, Fix64, Len, Fix32, Records, NoRecords, PlainRecord, GroupRecord, Record, Payload, Flat, Group, before, Key, plain_wire, payload_wire, wire_code, short_key, raw_levels, payload_levels}
+use Rattle.prost_reflect_wire.specs.Record.{record_at, Var, Fix64, Len, Fix32, Records, NoRecords, PlainRecord, GroupRecord, Record, Payload, Flat, Group, before, payload_wire, short_key, raw_levels, payload_levels}
 use Rattle.prost_reflect_wire.specs.Schema.{Field}
-use Rattle.prost_reflect_wire.specs.Front.{KeyFront, RecordsFront, RecordFront, GroupFront, PayloadFront, ValueFront, KeyFault, PlainFault}
-use Rattle.prost_reflect_wire.specs.Fault.{Place, Inside, OfNothing, field_at, same_wire, opens_level, Next, NextField, Comes, Stands, Here, Behind, InMessage, InGroup, InUnknown, InEntry, InsideGroup, FieldPlace, StandsInField, StandsInValue, ValueComes, ValueFault}
+use Rattle.prost_reflect_wire.specs.Front.{KeyFront, RecordFront, GroupFront, PayloadFront, ValueFront, PlainFault}
+use Rattle.prost_reflect_wire.specs.Fault.{Place, OfNothing, field_at, same_wire, Next, NextField, Comes, Stands, Here, Behind, InMessage, InGroup, InUnknown, InEntry, InsideGroup, StandsInField, StandsInValue}
 use Rattle.prost_reflect_wire.proofs.KeyFronts.{key_once, key_no_fault}
 use Rattle.prost_reflect_wire.proofs.PlainFronts.{plain_no_fault}
-use Rattle.prost_reflect_wire.proofs.RecordFronts.{record_at, record_front, record_parts, RecordParts, first_parts, levels_first, key_shorter, payload_once, record_once, plain_no_group}
+use Rattle.prost_reflect_wire.proofs.RecordFronts.{record_front, record_parts, RecordParts, first_parts, levels_first, key_shorter, record_once, plain_no_group}
 
 -- BEHIND A KEY
 

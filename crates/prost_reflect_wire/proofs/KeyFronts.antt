@@ -1,5 +1,5 @@
 -- A front of the bytes is at most one key, and none where a fault stands.
-use Rattle.std.proofs.Common.{◌≡◌, ◌≤◌, ◌<◌, ◌^◌, ℕ, ◌+◌, ◌*◌, List, ◌++◌, Option, Some, refl, sym, ap, ◌∙◌, Result, arith}
+use Rattle.std.proofs.Common.{◌≡◌, ◌≤◌, ◌<◌, ◌^◌, ℕ, ◌+◌, ◌*◌, List, ◌++◌, Option, Some, refl, sym, ap, ◌∙◌, arith}
 use Rattle.prost_reflect_wire.specs.declared.error.DecodeError.{DecodeError}
 use Rattle.prost_reflect_wire.specs.declared.error.DecodeError.TheVariants as errors
 use Rattle.prost_reflect_wire.specs.declared.key.WireType.{WireType}

@@ -1,16 +1,12 @@
 -- Records at the front of bytes, one behind another.
-use Rattle.std.proofs.Common.{◌≡◌, ℕ, suc, ◌+◌, ◌<◌, ◌≤◌, max, List, [], ◌∷◌, ◌++◌, length, refl, sym, ap, subst, ◌∙◌, arith, append_assoc, append-nil, length-append, Option, Some}
+use Rattle.std.proofs.Common.{◌≡◌, ℕ, suc, ◌<◌, ◌≤◌, max, List, [], ◌∷◌, ◌++◌, length, refl, sym, ap, subst, ◌∙◌, arith, append_assoc, append-nil, length-append, Option, Some}
 use Rattle.prost_reflect_wire.specs.declared.key.WireType.{WireType}
 use Rattle.prost_reflect_wire.specs.declared.key.WireType.TheVariants as wires
-use Rattle.prost_reflect_wire.specs.Varint.{AreDigits}
-use Rattle.prost_reflect_wire.specs.Record.{Plain, Var, Fix64, Len, Fix32, Records, NoRecords, PlainRecord, GroupRecord, Record, Payload, Flat, Group, before, body_of, Key, Spells, SpellsPlain, plain_wire, payload_wire, raw_levels, payload_levels, body_at}
-use Rattle.prost_reflect_wire.specs.Front.{KeyFront, PlainFront, RecordsFront, RecordFront, GroupFront, PayloadFront, ValueFront, FieldFront}
+use Rattle.prost_reflect_wire.specs.Record.{Plain, Var, Fix64, Len, Fix32, Records, NoRecords, Record, record_at, Payload, Flat, Group, before, body_of, Spells, plain_wire, payload_wire, raw_levels, payload_levels, body_at}
+use Rattle.prost_reflect_wire.specs.Front.{KeyFront, RecordsFront, RecordFront, GroupFront, PayloadFront, ValueFront, FieldFront}
 use Rattle.prost_reflect_wire.proofs.Reading.{some_key, closes_group, body_read}
 use Rattle.prost_reflect_wire.proofs.KeyFronts.{key_once}
 use Rattle.prost_reflect_wire.proofs.PlainFronts.{plain_once}
-
-abbrev pub record_at : ℕ → Payload → Record
-record_at n p = record { number = n; payload = p }
 
 -- ONE RECORD
 
@@ -68,10 +64,18 @@ record FirstParts (n : ℕ) (p : Payload) (rs : Records) (bytes : List ℕ) : Ty
 
 spells_parts : (n : ℕ) (p : Payload) (rs : Records) (bytes : List ℕ) → Spells (before (record_at n p) rs) bytes → FirstParts n p rs bytes
 spells_parts n (Flat p) rs bytes (key, body, after, k, b, s, whole) = record {
-  one = key ++ body; after = after; first = (key, body, [], k, b, refl, simp append-nil); others = s; parts = whole ∙ sym (append_assoc key body after);
+  one = key ++ body;
+  after = after;
+  first = (key, body, [], k, b, refl, simp append-nil);
+  others = s;
+  parts = whole ∙ sym (append_assoc key body after);
 }
 spells_parts n (Group inside) rs bytes (key, body, stop, after, k, b, t, s, whole) = record {
-  one = key ++ (body ++ stop); after = after; first = (key, body, stop, [], k, b, t, refl, simp append-nil); others = s; parts = rw whole (simp append_assoc);
+  one = key ++ (body ++ stop);
+  after = after;
+  first = (key, body, stop, [], k, b, t, refl, simp append-nil);
+  others = s;
+  parts = rw whole (simp append_assoc);
 }
 
 pub first_front : (r : Record) (rs : Records) (bytes mid rest : List ℕ) → RecordFront r bytes mid → RecordsFront rs mid rest → RecordsFront (before r rs) bytes rest

@@ -3,7 +3,7 @@ use Rattle.std.proofs.Common.{◌≡◌, ℕ, ◌≤◌, Bool, true, false, cond
 use Rattle.std.proofs.lemmas.Bool.{le-leb, eq-eqb}
 use Rattle.std.specs.Prelude.{is_some}
 use Rattle.prost_reflect_wire.specs.declared.key.WireType.{WireType}
-use Rattle.prost_reflect_wire.specs.Varint.{◌>>=◌, are_bytes}
+use Rattle.prost_reflect_wire.specs.Varint.{AreBytes}
 use Rattle.prost_reflect_wire.specs.Record.{Record, Payload, Flat, payload_levels}
 use Rattle.prost_reflect_wire.specs.Front.{PlainFront, ValueFront}
 use Rattle.prost_reflect_wire.specs.Scalar.{Scalar, ScalarKind, elem, is_undeclared, scalar_valid}
@@ -23,7 +23,8 @@ use Rattle.prost_reflect_wire.proofs.Allowed.{inside, allows_inside}
 use Rattle.prost_reflect_wire.proofs.Means.{below, further}
 use Rattle.prost_reflect_wire.proofs.Values.{unknown_back}
 use Rattle.prost_reflect_wire.proofs.Declared.{read_valid}
-use Rattle.prost_reflect_wire.proofs.SpelledValid.{bytes_apart, plain_spelled}
+use Rattle.prost_reflect_wire.proofs.SpelledValid.{spelled_plain_valid}
+use Rattle.prost_reflect_wire.proofs.ByteLists.{bytes_front}
 use Rattle.prost_reflect_wire.proofs.StoredSteps.{ScalarRecord, Mutual, Known, scalar_step, unknown_step, kept_step}
 use Rattle.prost_reflect_wire.proofs.Readings.{steps_level, steps_one}
 
@@ -97,6 +98,6 @@ unknown_record schema k T es ds n w p bytes rest front none values o q slots = r
 
 -- WHAT IS STORED FITS
 
-pub scalar_read_fits : (kind : ScalarKind) (w : WireType) (v : Scalar) (bytes rest : List ℕ) → ScalarRead kind w v bytes rest → IsOpen kind → are_bytes bytes ≡ true → scalar_valid kind v ≡ true
+pub scalar_read_fits : (kind : ScalarKind) (w : WireType) (v : Scalar) (bytes rest : List ℕ) → ScalarRead kind w v bytes rest → IsOpen kind → AreBytes bytes → scalar_valid kind v ≡ true
 scalar_read_fits kind w v bytes rest read whole h = let f = read.front in
-    read_valid kind (Flat read.plain) v (plain_spelled read.plain f.front f.spelled (bytes_apart f.front rest (ap are_bytes (sym f.parts) ∙ h)).0) (whole.declared (Flat read.plain)) read.value
+    read_valid kind (Flat read.plain) v (spelled_plain_valid read.plain f.front (bytes_front f.front rest (subst AreBytes f.parts h)) f.spelled) (whole.declared (Flat read.plain)) read.value

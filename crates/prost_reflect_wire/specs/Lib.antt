@@ -16,6 +16,7 @@ pub mod Edit
 pub mod Storing
 pub mod Decoding
 pub mod Fault
+pub mod FieldLaws
 pub mod Laws
 pub mod ExampleSchemas
 pub mod ExampleRows

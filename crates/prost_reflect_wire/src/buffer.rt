@@ -15,8 +15,8 @@ pub struct BackBuffer {
 }
 
 impl BackBuffer {
-    ghost use Rattle.std.specs.Prelude.{◌≡◌, ◌+◌, ◌*◌, ◌<◌, ◌^◌, ◌++◌, [], OnOk, OnErr, IfErr};
-    ghost use Rattle.prost_reflect_wire.specs.Varint.{short};
+    ghost use Rattle.std.specs.Prelude.{◌≡◌, ◌+◌, ◌*◌, ◌<◌, ◌^◌, ◌++◌, [], true, OnOk, OnErr, IfErr};
+    ghost use Rattle.prost_reflect_wire.specs.Varint.{are_bytes, short};
     ghost use Rattle.prost_reflect_wire.specs.Record.{short_key};
     ghost use Rattle.prost_reflect_wire.specs.Buffer.{bytes_of, Prepended};
 
@@ -74,6 +74,7 @@ impl BackBuffer {
     /// `TooLong` if the whole passes the greatest `usize`, `OutOfMemory` if a growth is refused; the buffer stays.
     pub fn prepend(&mut self, front: &[u8]) -> Result<(), EncodeError>
         ensures ok { Prepended result (bytes_of self.old) (bytes_of self.new) front.now }
+        ensures bytes { are_bytes front.now ≡ true }
         ensures err { OnErr result (bytes_of self.new ≡ bytes_of self.old) }
     {
         self.reserve(front.len())?;

@@ -11,9 +11,14 @@ use std::alloc::{AllocError, Global};
 use std::slice::Iter;
 use std::vec::IntoIter;
 
+mod copy;
+mod length;
 mod reading;
+mod writing;
 
+pub use length::{field_len, fields_len};
 pub use reading::{RECURSION_LIMIT, value_at};
+pub use writing::{prepend_field, prepend_fields, prepend_fields_at};
 
 /// A field that its message does not know.
 #[derive(Debug, Drop, PartialEq)]

@@ -1,10 +1,7 @@
-use Rattle.std.proofs.Common.{rules, ◌≡◌, ap, sym, subst, ◌∙◌}
 use Rattle.std.proofs.lemmas.Result.{err_from_is_err_and}
-use Rattle.prost_reflect_wire.specs.Front.{KeyFront, FieldFront}
-use Rattle.prost_reflect_wire.specs.Unknown.{record_of}
 use Rattle.prost_reflect_wire.proofs.FieldFaults.{field_no_fault, only_memory}
 use Rattle.prost_reflect_wire.proofs.PlaceFaults.{key_stands_in_field, value_stands_in_field}
-use Rattle.prost_reflect_wire.proofs.RecordFronts.{record_at, field_front, field_once}
+use Rattle.prost_reflect_wire.proofs.RecordFronts.{field_front, field_once}
 use Rattle.prost_reflect_wire.proofs.UnknownViews.{record_of_field}
 use Rattle.prost_reflect_wire.proofs.unknown.UnknownField.decode.Goals as goal
 

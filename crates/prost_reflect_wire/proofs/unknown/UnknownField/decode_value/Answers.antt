@@ -1,7 +1,7 @@
-use Rattle.std.proofs.Common.{◌≡◌, ℕ, ap, sym, subst, ◌∙◌}
+use Rattle.std.proofs.Common.{ℕ, subst}
 use Rattle.std.proofs.lemmas.Result.{err_from_is_err_and}
 use Rattle.prost_reflect_wire.specs.Front.{ValueFront}
-use Rattle.prost_reflect_wire.specs.Fault.{ValueFault, StandsInValue}
+use Rattle.prost_reflect_wire.specs.Fault.{ValueFault}
 use Rattle.prost_reflect_wire.specs.Unknown.{payload_of}
 use Rattle.prost_reflect_wire.proofs.KeyFronts.{short_key_front}
 use Rattle.prost_reflect_wire.proofs.FieldFaults.{value_no_fault, only_memory}
