@@ -7,3 +7,5 @@ pub mod SoundChanges
 pub mod MembersCleared
 pub mod Covering
 mod BuiltinFacts
+pub mod Views
+pub mod Slots
