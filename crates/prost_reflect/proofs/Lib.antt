@@ -9,3 +9,5 @@ pub mod MembersCleared
 pub mod Covering
 mod BuiltinFacts
 pub mod PlainKinds
+pub mod Views
+pub mod Slots

@@ -9,6 +9,8 @@ pub mod Known
 pub mod Sound
 pub mod Members
 pub mod Codes
+pub mod View
+pub mod Contents
 pub mod Same
 pub mod SameLaws
 pub mod formers
@@ -16,4 +18,3 @@ pub mod Scalars
 pub mod Covered
 pub mod Builtin
 pub mod BuiltinRows
-pub mod View

@@ -81,16 +81,49 @@ impl DynamicMessage {
             None => None,
         };
         match kind {
-            Some(kind) => {
-                let (value, rest) = scalar_at(alloc, kind, wire_type, bytes)?;
-                self.slots.set(number.get(), value)?;
-                Ok(rest)
-            }
-            None => {
-                let (value, rest) = value_at(alloc, number, wire_type, bytes, levels)?;
-                self.slots.add_unknown(number.get(), UnknownField::new(number, value))?;
-                Ok(rest)
-            }
+            Some(kind) => self.merge_scalar(alloc, number, kind, wire_type, bytes, levels),
+            None => self.merge_unknown(alloc, number, wire_type, bytes, levels),
         }
+    }
+
+    /// Reads a scalar behind its field's key, which replaces the value that is there.
+    fn merge_scalar<'a>(
+        &mut self,
+        alloc: Global,
+        number: FieldNumber,
+        kind: TableKind,
+        wire_type: WireType,
+        bytes: &'a [u8],
+        levels: u32,
+    ) -> Result<&'a [u8], DecodeError>
+        requires plain { covered (schema_of (content_of self.old)) (type_of (content_of self.old)) ≡ true }
+        requires sound { WellStored (content_of self.old) }
+        requires field { IsSomeAnd (field_of (known_in (content_of self.old)) number.value) (λ f. PlainKind kind f.value_type.kind) }
+        ensures ok { IfOk result (λ rest. Step levels number.value wire_type (content_of self.old) (content_of self.new) bytes.now rest.now) }
+        ensures fault { IfErr result (λ e. e ≢ DecodeError.OutOfMemory → StandsBehindKey (content_of self.old) levels number.value wire_type e bytes.now) }
+    {
+        let (value, rest) = scalar_at(alloc, kind, wire_type, bytes)?;
+        self.slots.set(number.get(), value)?;
+        Ok(rest)
+    }
+
+    /// Reads an unknown field behind its key, and adds it behind those of its number.
+    fn merge_unknown<'a>(
+        &mut self,
+        alloc: Global,
+        number: FieldNumber,
+        wire_type: WireType,
+        bytes: &'a [u8],
+        levels: u32,
+    ) -> Result<&'a [u8], DecodeError>
+        requires plain { covered (schema_of (content_of self.old)) (type_of (content_of self.old)) ≡ true }
+        requires sound { WellStored (content_of self.old) }
+        requires unknown { field_of (known_in (content_of self.old)) number.value ≡ None }
+        ensures ok { IfOk result (λ rest. Step levels number.value wire_type (content_of self.old) (content_of self.new) bytes.now rest.now) }
+        ensures fault { IfErr result (λ e. e ≢ DecodeError.OutOfMemory → StandsBehindKey (content_of self.old) levels number.value wire_type e bytes.now) }
+    {
+        let (value, rest) = value_at(alloc, number, wire_type, bytes, levels)?;
+        self.slots.add_unknown(number.get(), UnknownField::new(number, value))?;
+        Ok(rest)
     }
 }
