@@ -13,6 +13,8 @@ pub mod Levels
 pub mod Typing
 pub mod Reduction
 pub mod Edit
+pub mod Storing
+pub mod Decoding
 pub mod Fault
 pub mod FieldLaws
 pub mod Laws

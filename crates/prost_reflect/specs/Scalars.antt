@@ -1,0 +1,67 @@
+-- Scalar kinds of the tables, their payloads and values.
+use Rattle.std.specs.Prelude.{◌≡◌, ℕ, true, List, [], Option, Some, None, option_map, option_and_then, IsSomeAnd}
+use Rattle.prost_reflect_wire.specs.declared.key.WireType.{WireType}
+use Rattle.prost_reflect_wire.specs.declared.error.DecodeError.{DecodeError}
+use Rattle.prost_reflect_wire.specs.Record.{Payload, short_plain}
+use Rattle.prost_reflect_wire.specs.Scalar as scalars
+use Rattle.prost_reflect_wire.specs.Scalar.{Scalar, ScalarKind, elem, kind_wire, written}
+use Rattle.prost_reflect_wire.specs.Content.{ScalarValue}
+use Rattle.prost_reflect_wire.specs.Content as content
+use Rattle.prost_reflect_wire.specs.Schema.{ScalarOf}
+use Rattle.prost_reflect_wire.specs.Typing.{element_valid}
+use Rattle.prost_reflect_wire.specs.Decoding.{ScalarRead, ScalarFault}
+use Rattle.prost_reflect_tables.specs.declared.tables.TableKind.{TableKind}
+use Rattle.prost_reflect_tables.specs.declared.tables.TableKind.TheVariants.{Double, Float, Int32, Int64, Uint32, Uint64, Sint32, Sint64, Fixed32, Fixed64, Sfixed32, Sfixed64, Bool, String, Bytes, Message, Enum}
+use Rattle.prost_reflect.specs.declared.value.Value.{Value}
+use Rattle.prost_reflect.specs.View.{value_of}
+
+-- The scalar kinds, enums aside.
+abbrev pub plain_kind : TableKind → Option ScalarKind
+plain_kind Double = Some scalars.Double
+plain_kind Float = Some scalars.Float
+plain_kind Int32 = Some scalars.Int32
+plain_kind Int64 = Some scalars.Int64
+plain_kind Uint32 = Some scalars.Uint32
+plain_kind Uint64 = Some scalars.Uint64
+plain_kind Sint32 = Some scalars.Sint32
+plain_kind Sint64 = Some scalars.Sint64
+plain_kind Fixed32 = Some scalars.Fixed32
+plain_kind Fixed64 = Some scalars.Fixed64
+plain_kind Sfixed32 = Some scalars.Sfixed32
+plain_kind Sfixed64 = Some scalars.Sfixed64
+plain_kind Bool = Some scalars.BoolKind
+plain_kind String = Some scalars.StringKind
+plain_kind Bytes = Some scalars.BytesKind
+plain_kind (Message T) = None
+plain_kind (Enum E) = None
+
+-- The kind is a scalar kind of this wire type.
+abbrev pub HasWire : TableKind → WireType → Type 0
+HasWire kind w = IsSomeAnd (plain_kind kind) (λ k. kind_wire k ≡ w)
+
+-- The value is that of the payload, by the kind.
+abbrev pub IsElement : TableKind → Payload → Value → Type 0
+IsElement kind p v = option_and_then (λ k. option_map ScalarValue (elem k p)) (plain_kind kind) ≡ Some (value_of v)
+
+-- Behind a key of the wire type, the payload of the value.
+pub record ReadsScalar (kind : TableKind) (w : WireType) (v : Value) (bytes rest : List ℕ) : Type 0 where
+  pub scalar_kind : ScalarKind
+  pub scalar : Scalar
+  pub plain : plain_kind kind ≡ Some scalar_kind
+  pub value : value_of v ≡ ScalarValue scalar
+  pub read : ScalarRead scalar_kind w scalar bytes rest
+
+-- Why there is none.
+pub record RefusesScalar (kind : TableKind) (w : WireType) (e : DecodeError) (bytes : List ℕ) : Type 0 where
+  pub scalar_kind : ScalarKind
+  pub plain : plain_kind kind ≡ Some scalar_kind
+  pub fault : ScalarFault scalar_kind w e bytes
+
+-- The value is one of the kind.
+abbrev pub TakesScalar : TableKind → content.Value → Type 0
+TakesScalar kind v = IsSomeAnd (plain_kind kind) (λ k. element_valid (ScalarOf k) v ≡ true)
+
+-- The bytes of the value's payload; nothing is meant of other values.
+abbrev pub scalar_bytes : Option ScalarKind → content.Value → List ℕ
+scalar_bytes (Some k) (ScalarValue v) = short_plain (written k v)
+scalar_bytes o v = []

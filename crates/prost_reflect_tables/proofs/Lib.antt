@@ -1,0 +1,4 @@
+mod Ascending
+mod Positions
+pub mod Keeping
+pub mod Fields

@@ -1,0 +1,5 @@
+pub mod Rows
+pub mod Places
+pub mod Shown
+pub mod Linked
+pub mod Schema
