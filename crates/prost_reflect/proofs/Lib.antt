@@ -9,3 +9,4 @@ pub mod Covering
 mod BuiltinFacts
 pub mod Views
 pub mod Slots
+pub mod Stored
