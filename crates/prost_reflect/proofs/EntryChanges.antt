@@ -236,6 +236,7 @@ module _ {V : Type 0} where
             (λ k a. same_values es (with_item es n d) k (with_apart es n k d a));
         here = subst (λ z. records_at (with_item es n d) z ≡ Some (unwrap_or (records_at es z) [] ++ r ∷ [])) (sym own) here;
         elsewhere = λ k other. same_records es (with_item es n d) k (with_apart es n k d (apart_of n k (λ e. other (e ∙ sym own))));
+        order = ascending_with es n d;
       }
 
   pub added_first : (es : List (ℕ × Entry V)) (n : ℕ) (u : UnknownFieldSet) (r : Record) → item_at es n ≡ None → r.number ≡ n → records_of u ≡ r ∷ [] → UnknownAdded es (put_item es n (Unknown u)) r
@@ -248,6 +249,7 @@ module _ {V : Type 0} where
             (λ k a. same_values es (put_item es n (Unknown u)) k (put_apart es n k (Unknown u) (apart_back n k a)));
         here = subst (λ z. records_at (put_item es n (Unknown u)) z ≡ Some (unwrap_or (records_at es z) [] ++ r ∷ [])) (sym own) here;
         elsewhere = λ k other. same_records es (put_item es n (Unknown u)) k (put_apart es n k (Unknown u) (apart_back n k (apart_of n k (λ e. other (e ∙ sym own)))));
+        order = ascending_put_item es n (Unknown u);
       }
 
   pub same_beside : (es : List (ℕ × Entry V)) (n : ℕ) (e d : Entry V) → item_at es n ≡ Some e → SameIn e d → SameStored es (with_item es n d)
@@ -258,7 +260,8 @@ module _ {V : Type 0} where
             (λ k a. same_values es (with_item es n d) k (with_apart es n k d a));
         records = at_each (λ k. records_at (with_item es n d) k ≡ records_at es k) n (ap (option_and_then records_in) there ∙ same.records ∙ ap (option_and_then records_in) (sym h))
             (λ k a. same_records es (with_item es n d) k (with_apart es n k d a));
+        order = ascending_with es n d;
       }
 
   pub same_unchanged : (es ds : List (ℕ × Entry V)) → ds ≡ es → SameStored es ds
-  same_unchanged es ds h = record { values = λ k. ap (λ ls. value_at ls k) h; records = λ k. ap (λ ls. records_at ls k) h }
+  same_unchanged es ds h = record { values = λ k. ap (λ ls. value_at ls k) h; records = λ k. ap (λ ls. records_at ls k) h; order = λ s. subst IsAscending (sym h) s }

@@ -11,3 +11,4 @@ mod BuiltinFacts
 pub mod PlainKinds
 pub mod Views
 pub mod Slots
+pub mod Stored

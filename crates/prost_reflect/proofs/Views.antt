@@ -48,6 +48,9 @@ all_over (e ∷ es) = λ i. (e.0, over_same e.1 i) ∷ all_over es i
 pub content_of_message : (m : DynamicMessage) → content_of m ≡ ContentOf (schema_at m.slots.0) (type_at m.slots.0) (entries_from (shown m.slots.1))
 content_of_message m = fold_out-DynamicMessage contents.Value Content value_step message_step m ∙ ap (λ es. ContentOf (schema_at m.slots.0) (type_at m.slots.0) (entries_from es)) (all_over m.slots.1)
 
+pub content_of_roll : (m : DynamicMessage-F Value DynamicMessage) → content_of (roll-DynamicMessage m) ≡ ContentOf (schema_at m.slots.0) (type_at m.slots.0) (entries_from (shown m.slots.1))
+content_of_roll m = fold-roll-DynamicMessage contents.Value Content value_step message_step m ∙ ap (λ es. ContentOf (schema_at m.slots.0) (type_at m.slots.0) (entries_from es)) (all_over m.slots.1)
+
 -- VALUES
 
 pub value_of_bool : (b : Bool) → value_of (values.Bool b) ≡ ScalarValue (scalars.Boolean b)

@@ -3,7 +3,7 @@ use Rattle.std.specs.Prelude.{◌≡◌, ◌≢◌, ℕ, Bool, List, [], ◌∷�
 use Rattle.prost_reflect_wire.specs.Record.{Record}
 use Rattle.prost_reflect_wire.specs.Unknown.{records_of}
 use Rattle.prost_reflect_wire.specs.declared.unknown.UnknownFieldSet.{UnknownFieldSet}
-use Rattle.prost_reflect.specs.Items.{item_at, with_item, put_item, without_item}
+use Rattle.prost_reflect.specs.Items.{IsAscending, item_at, with_item, put_item, without_item}
 use Rattle.prost_reflect.specs.declared.fields.entry.Entry.{Entry}
 use Rattle.prost_reflect.specs.declared.fields.entry.Entry.TheVariants.{Value, Unknown, Both}
 
@@ -105,9 +105,11 @@ module _ {V : Type 0} where
   pub record SameStored (es ds : List (ℕ × Entry V)) : Type 0 where
     pub values : (k : ℕ) → value_at ds k ≡ value_at es k
     pub records : (k : ℕ) → records_at ds k ≡ records_at es k
+    pub order : IsAscending es → IsAscending ds
 
   -- An unknown record behind those of its number.
   pub record UnknownAdded (es ds : List (ℕ × Entry V)) (r : Record) : Type 0 where
     pub values : (k : ℕ) → value_at ds k ≡ value_at es k
     pub here : records_at ds r.number ≡ Some (unwrap_or (records_at es r.number) [] ++ r ∷ [])
     pub elsewhere : (k : ℕ) → k ≢ r.number → records_at ds k ≡ records_at es k
+    pub order : IsAscending es → IsAscending ds

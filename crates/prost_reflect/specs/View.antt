@@ -6,7 +6,10 @@ use Rattle.prost_reflect_wire.specs.Scalar.{Scalar}
 use Rattle.prost_reflect_wire.specs.Content as contents
 use Rattle.prost_reflect_wire.specs.Content.{Content, ContentOf, Entries, NoEntries, Values, Pairs, NoPairs, Pair, Slot, ScalarValue, MessageValue, ListValue, MapValue, values_from, store}
 use Rattle.prost_reflect.specs.Descriptors.{schema_at, type_at}
-use Rattle.prost_reflect.specs.Entries.{value_in, records_in}
+use Rattle.prost_reflect.specs.Known.{known_of}
+use Rattle.prost_reflect.specs.Sound.{prepared}
+use Rattle.prost_reflect.specs.Entries.{value_in, records_in, with_value}
+use Rattle.prost_reflect.specs.declared.descriptor.message.MessageDescriptor.{MessageDescriptor}
 use Rattle.prost_reflect.specs.declared.fields.entry.Entry.{Entry}
 use Rattle.prost_reflect.specs.declared.value.MapKey.{MapKey}
 use Rattle.prost_reflect.specs.declared.value.MapKey.TheVariants as keys
@@ -63,3 +66,14 @@ value_of = fold-Value contents.Value Content value_step message_step
 -- The content of a message.
 abbrev pub content_of : DynamicMessage → Content
 content_of = fold-DynamicMessage contents.Value Content value_step message_step
+
+abbrev pub descriptor_of : DynamicMessage → MessageDescriptor
+descriptor_of m = m.slots.0
+
+-- What a message keeps at each of its numbers.
+abbrev pub stored_in : DynamicMessage → List (ℕ × Entry Value)
+stored_in m = m.slots.1
+
+-- A message whose value at a number, which is the default where there was none, was written over.
+abbrev pub written_at : DynamicMessage → ℕ → Value → Value → DynamicMessage
+written_at m n default v = record { slots = (m.slots.0, with_value (prepared (known_of m.slots.0) m.slots.1 n default) n v) }

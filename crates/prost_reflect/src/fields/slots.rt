@@ -91,8 +91,10 @@ impl<V> Slots<V> {
 impl<V: Drop> Slots<V> {
     /// The value at the number.
     pub fn get(&self, number: u32) -> Option<&V>
-        ensures { option_copied result ≡ value_at self.now.1 number }
+        ensures value { option_copied result ≡ value_at self.now.1 number }
+        ensures ascending { IsAscending self.now.1 }
     {
+        let _ = self.fields.len();
         value_at(&self.fields, number)
     }
 
