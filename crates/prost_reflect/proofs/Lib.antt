@@ -12,3 +12,4 @@ pub mod PlainKinds
 pub mod Views
 pub mod Slots
 pub mod Stored
+pub mod Merging

@@ -7,7 +7,7 @@ use Rattle.prost_reflect_wire.specs.Scalar as scalars
 use Rattle.prost_reflect_wire.specs.Scalar.{Scalar, ScalarKind, elem, kind_wire, written}
 use Rattle.prost_reflect_wire.specs.Content.{ScalarValue}
 use Rattle.prost_reflect_wire.specs.Content as content
-use Rattle.prost_reflect_wire.specs.Schema.{ScalarOf}
+use Rattle.prost_reflect_wire.specs.Schema.{ScalarOf, Singular, Field, field_of}
 use Rattle.prost_reflect_wire.specs.Typing.{element_valid}
 use Rattle.prost_reflect_wire.specs.Decoding.{ScalarRead, ScalarFault}
 use Rattle.prost_reflect_tables.specs.declared.tables.TableKind.{TableKind}
@@ -65,3 +65,13 @@ TakesScalar kind v = IsSomeAnd (plain_kind kind) (λ k. element_valid (ScalarOf 
 abbrev pub scalar_bytes : Option ScalarKind → content.Value → List ℕ
 scalar_bytes (Some k) (ScalarValue v) = short_plain (written k v)
 scalar_bytes o v = []
+
+-- The number is that of a field of one plain scalar, which the tables call by this kind.
+pub record PlainField (fields : List Field) (n : ℕ) (kind : TableKind) : Type 0 where
+  pub field : Field
+  pub scalar_kind : ScalarKind
+  pub found : field_of fields n ≡ Some field
+  pub plain : plain_kind kind ≡ Some scalar_kind
+  pub form : field.form ≡ Singular
+  pub kind_is : field.value_type.kind ≡ ScalarOf scalar_kind
+  pub alone : field.oneof ≡ None

@@ -1,6 +1,7 @@
 //! Reading messages (the encoding guide, "Message Structure", "Last One Wins" and "Unknown Fields").
 
-ghost use Rattle.std.specs.Prelude.{◌≡◌, ◌≢◌, Some, true, IfOk, IfErr};
+ghost use Rattle.std.specs.Prelude.{◌≡◌, ◌≢◌, [], Some, None, true, IfOk, IfErr};
+ghost use Rattle.prost_reflect_wire.specs.Schema.{field_of};
 ghost use Rattle.prost_reflect_wire.specs.Content.{schema_of, type_of};
 ghost use Rattle.prost_reflect_wire.specs.Grammar.{LEVEL_LIMIT};
 ghost use Rattle.prost_reflect_wire.specs.Meaning.{decoded};
@@ -9,11 +10,14 @@ ghost use Rattle.prost_reflect_wire.specs.Fault.{StandsInMessage};
 ghost use Rattle.prost_reflect_wire.specs.Decoding.{Progress, Step, StandsBehindKey};
 ghost use Rattle.prost_reflect.specs.Covered.{covered};
 ghost use Rattle.prost_reflect.specs.Descriptors.{schema_at, type_at};
-ghost use Rattle.prost_reflect.specs.View.{content_of};
+ghost use Rattle.prost_reflect.specs.Known.{known_of};
+ghost use Rattle.prost_reflect.specs.Scalars.{PlainField};
+ghost use Rattle.prost_reflect.specs.View.{content_of, descriptor_of};
 
 use crate::descriptor::MessageDescriptor;
 use crate::message::DynamicMessage;
 use crate::message::scalar::scalar_at;
+use prost_reflect_tables::TableKind;
 use prost_reflect_wire::{
     DecodeError, FieldNumber, RECURSION_LIMIT, UnknownField, WireType, decode_key, value_at,
 };
@@ -48,7 +52,7 @@ impl DynamicMessage {
         bytes: &[u8],
         levels: u32,
     ) -> Result<(), DecodeError>
-        requires plain { covered (schema_of (content_of self.old)) (type_of (content_of self.old)) ≡ true }
+        requires plain { covered (schema_at (descriptor_of self.old)) (type_at (descriptor_of self.old)) ≡ true }
         requires sound { WellStored (content_of self.old) }
         ensures ok { IfOk result (λ _. Progress levels (content_of self.old) (content_of self.new) bytes.now []) }
         ensures fault { IfErr result (λ e. e ≢ DecodeError.OutOfMemory → StandsInMessage (schema_of (content_of self.old)) (type_of (content_of self.old)) levels e bytes.now) }
@@ -71,12 +75,13 @@ impl DynamicMessage {
         bytes: &'a [u8],
         levels: u32,
     ) -> Result<&'a [u8], DecodeError>
-        requires plain { covered (schema_of (content_of self.old)) (type_of (content_of self.old)) ≡ true }
+        requires plain { covered (schema_at (descriptor_of self.old)) (type_at (descriptor_of self.old)) ≡ true }
         requires sound { WellStored (content_of self.old) }
         ensures ok { IfOk result (λ rest. Step levels number.value wire_type (content_of self.old) (content_of self.new) bytes.now rest.now) }
+        ensures descriptor { descriptor_of self.new ≡ descriptor_of self.old }
         ensures fault { IfErr result (λ e. e ≢ DecodeError.OutOfMemory → StandsBehindKey (content_of self.old) levels number.value wire_type e bytes.now) }
     {
-        let kind = match self.slots.descriptor().field_table(number.get()) {
+        let kind = match self.descriptor().field_table(number.get()) {
             Some(field) => Some(field.kind),
             None => None,
         };
@@ -96,14 +101,15 @@ impl DynamicMessage {
         bytes: &'a [u8],
         levels: u32,
     ) -> Result<&'a [u8], DecodeError>
-        requires plain { covered (schema_of (content_of self.old)) (type_of (content_of self.old)) ≡ true }
+        requires plain { covered (schema_at (descriptor_of self.old)) (type_at (descriptor_of self.old)) ≡ true }
         requires sound { WellStored (content_of self.old) }
-        requires field { IsSomeAnd (field_of (known_in (content_of self.old)) number.value) (λ f. PlainKind kind f.value_type.kind) }
+        requires field { PlainField (known_of (descriptor_of self.old)) number.value kind }
         ensures ok { IfOk result (λ rest. Step levels number.value wire_type (content_of self.old) (content_of self.new) bytes.now rest.now) }
+        ensures descriptor { descriptor_of self.new ≡ descriptor_of self.old }
         ensures fault { IfErr result (λ e. e ≢ DecodeError.OutOfMemory → StandsBehindKey (content_of self.old) levels number.value wire_type e bytes.now) }
     {
         let (value, rest) = scalar_at(alloc, kind, wire_type, bytes)?;
-        self.slots.set(number.get(), value)?;
+        self.set_value(number.get(), value)?;
         Ok(rest)
     }
 
@@ -116,14 +122,15 @@ impl DynamicMessage {
         bytes: &'a [u8],
         levels: u32,
     ) -> Result<&'a [u8], DecodeError>
-        requires plain { covered (schema_of (content_of self.old)) (type_of (content_of self.old)) ≡ true }
+        requires plain { covered (schema_at (descriptor_of self.old)) (type_at (descriptor_of self.old)) ≡ true }
         requires sound { WellStored (content_of self.old) }
-        requires unknown { field_of (known_in (content_of self.old)) number.value ≡ None }
+        requires unknown { field_of (known_of (descriptor_of self.old)) number.value ≡ None }
         ensures ok { IfOk result (λ rest. Step levels number.value wire_type (content_of self.old) (content_of self.new) bytes.now rest.now) }
+        ensures descriptor { descriptor_of self.new ≡ descriptor_of self.old }
         ensures fault { IfErr result (λ e. e ≢ DecodeError.OutOfMemory → StandsBehindKey (content_of self.old) levels number.value wire_type e bytes.now) }
     {
         let (value, rest) = value_at(alloc, number, wire_type, bytes, levels)?;
-        self.slots.add_unknown(number.get(), UnknownField::new(number, value))?;
+        self.add_unknown(number.get(), UnknownField::new(number, value))?;
         Ok(rest)
     }
 }
