@@ -1,2 +1,3 @@
 pub mod Covering
 mod BuiltinFacts
+pub mod Described
