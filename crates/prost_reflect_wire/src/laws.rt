@@ -2,7 +2,7 @@
 
 ghost use Rattle.prost_reflect_wire.specs.Examples.Numbers.{Varints, Zigzag, Kinds, KindRanges, PlainFields};
 ghost use Rattle.prost_reflect_wire.specs.Examples.Records.{Records, Unreadable, RawLevels};
-ghost use Rattle.prost_reflect_wire.specs.Examples.Fields.{Scalars, Messages, Oneofs, Extensions};
+ghost use Rattle.prost_reflect_wire.specs.Examples.Fields.{Scalars, Texts, Messages, Oneofs, Extensions};
 ghost use Rattle.prost_reflect_wire.specs.Examples.Lists.{Lists};
 ghost use Rattle.prost_reflect_wire.specs.Examples.Maps.{Maps};
 ghost use Rattle.prost_reflect_wire.specs.Examples.Levels.{Levels, ContentLevels};
@@ -178,6 +178,7 @@ pub fn worked_records()
 /// The worked examples of fields of one value hold.
 pub fn worked_fields()
     ensures scalars { Scalars }
+    ensures texts { Texts }
     ensures messages { Messages }
     ensures oneofs { Oneofs }
     ensures extensions { Extensions }

@@ -8,7 +8,7 @@ use Rattle.prost_reflect_wire.specs.Grammar.{unpacked, allows}
 use Rattle.prost_reflect_wire.specs.Meaning.{meaning, steps}
 use Rattle.prost_reflect_wire.specs.Examples.Numbers.{Varints, Zigzag, Kinds, KindRanges, PlainFields}
 use Rattle.prost_reflect_wire.specs.Examples.Records.{Records, Unreadable, RawLevels}
-use Rattle.prost_reflect_wire.specs.Examples.Fields.{Scalars, Messages, Oneofs, Extensions}
+use Rattle.prost_reflect_wire.specs.Examples.Fields.{Scalars, Texts, Messages, Oneofs, Extensions}
 use Rattle.prost_reflect_wire.specs.Examples.Lists.{Lists}
 
 pub varints : Varints
@@ -92,10 +92,8 @@ kind_ranges = record {
 pub plain_fields : PlainFields
 unfolding short read unpacked allows meaning steps is_utf8 chars encode_utf8
 plain_fields = record {
-  negative_zero = refl;
-  negative_zero_back = refl;
-  float_zero = refl;
-  float_zero_back = refl;
+  negative_zero = (refl, refl);
+  float_zero = (refl, refl);
   widths = refl;
 }
 
@@ -147,47 +145,47 @@ raw_levels = record {
 pub scalars : Scalars
 unfolding short read unpacked allows meaning steps is_utf8 chars encode_utf8
 scalars = record {
-  number = refl;
-  number_back = refl;
-  nothing = refl;
-  nothing_back = refl;
-  last_wins = refl;
-  last_wins_back = refl;
+  number = (refl, refl);
+  nothing = (refl, refl);
+  last_wins = (refl, refl);
   last_default_wins = refl;
-  presence = refl;
-  presence_back = refl;
+  presence = (refl, refl);
   own_default = refl;
   own_default_zero = refl;
-  negative = refl;
-  negative_back = refl;
+  negative = (refl, refl);
   overlong = refl;
   cut = refl;
   wire_type = refl;
 }
 
+pub texts : Texts
+unfolding short read unpacked allows meaning steps is_utf8 chars encode_utf8
+texts = record {
+  text = (refl, refl);
+  bad_text = refl;
+  text_cut = refl;
+  empty_text = (refl, refl);
+}
+
 pub messages : Messages
 unfolding short read unpacked allows meaning steps is_utf8 chars encode_utf8
 messages = record {
-  merge = refl;
-  merge_back = refl;
-  later_default = refl;
-  later_default_back = refl;
+  merge = (refl, refl);
+  later_default = (refl, refl);
   empty_message = refl;
   deep_merge = refl;
   body_cut = refl;
   message_as_varint = refl;
   message_as_group = refl;
   group_as_message = refl;
-  group = refl;
-  group_back = refl;
+  group = (refl, refl);
   group_other_end = refl;
 }
 
 pub oneofs : Oneofs
 unfolding short read unpacked allows meaning steps is_utf8 chars encode_utf8
 oneofs = record {
-  cleared = refl;
-  cleared_back = refl;
+  cleared = (refl, refl);
   last_stays = refl;
   last_stays_too = refl;
   apart = refl;
@@ -198,31 +196,24 @@ oneofs = record {
 pub extensions : Extensions
 unfolding short read unpacked allows meaning steps is_utf8 chars encode_utf8
 extensions = record {
-  known = refl;
-  known_back = refl;
-  unknown = refl;
-  unknown_back = refl;
+  known = (refl, refl);
+  unknown = (refl, refl);
   wire_type = refl;
 }
 
 pub lists : Lists
 unfolding short read unpacked allows meaning steps is_utf8 chars encode_utf8
 lists = record {
-  packed_read = refl;
-  packed_read_back = refl;
+  packed_read = (refl, refl);
   single_read = refl;
-  mixed = refl;
-  mixed_back = refl;
-  empty = refl;
-  empty_back = refl;
+  mixed = (refl, refl);
+  empty = (refl, refl);
   defaults_stay = refl;
   negative = refl;
   packed_signed = refl;
-  packed_fixed = refl;
-  packed_fixed_back = refl;
+  packed_fixed = (refl, refl);
   needless_digits = refl;
-  messages_apart = refl;
-  messages_apart_back = refl;
+  messages_apart = (refl, refl);
   texts = refl;
   element_cut = refl;
   fixed_cut = refl;

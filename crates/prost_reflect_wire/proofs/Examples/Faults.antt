@@ -76,8 +76,21 @@ faults = record {
     rest = 0x02 ∷ 0x01 ∷ 0x80 ∷ [];
     key = key 1 wires.LengthDelimited (0x02 ∷ 0x01 ∷ 0x80 ∷ []) (lit< tt) (lit< tt);
     found = refl;
-    behind = (refl, (true, refl), (Int32, refl, refl, (0x01 ∷ 0x80 ∷ [], [], delimited 2 0x01 0x80,
-      BehindElement (Var 1) (0x80 ∷ []) (record { front = 0x01 ∷ []; spelled = one_byte 1 (lit< tt); parts = refl }) refl (ElementEnds (record { few = lit< tt; unended = (lit≤ tt, tt) })))));
+    behind = (
+      refl,
+      (true, refl),
+      (
+        Int32,
+        refl,
+        refl,
+        (
+          0x01 ∷ 0x80 ∷ [],
+          [],
+          delimited 2 0x01 0x80,
+          BehindElement (Var 1) (0x80 ∷ []) (record { front = 0x01 ∷ []; spelled = one_byte 1 (lit< tt); parts = refl }) refl (ElementEnds (record { few = lit< tt; unended = (lit≤ tt, tt) })),
+        ),
+      ),
+    );
   }))));
   varint_passes = Here (inr (inl (record {
     number = 1;

@@ -78,6 +78,10 @@ Means T bytes es = decoded examples LEVEL_LIMIT T (hex bytes) ≡ Some (content 
 abbrev pub Becomes : ℕ → String → String → Type 0
 Becomes T bytes again = relayed examples LEVEL_LIMIT T (hex bytes) ≡ Some (hex again)
 
+-- Both: what the bytes mean, and what is written of it.
+abbrev pub Reads : ℕ → String → Entries → String → Type 0
+Reads T bytes es again = Means T bytes es × Becomes T bytes again
+
 -- The type does not accept the bytes.
 abbrev pub Refused : ℕ → String → Type 0
 Refused T bytes = accepts examples LEVEL_LIMIT T (hex bytes) ≡ false
