@@ -13,3 +13,4 @@ pub mod Views
 pub mod Slots
 pub mod Stored
 pub mod Merging
+pub mod Described
