@@ -35,11 +35,11 @@ pub delimited_front : (body bytes rest : List ℕ) → DelimitedFront body bytes
 delimited_front body bytes rest f = record { front = f.front; spelled = f.spelled; parts = f.parts }
 
 -- a text
-pub text_element : (kind : TableKind) (bytes text : List ℕ) → kind ≡ kinds.String → IsUtf8 bytes → text ≡ bytes → option_and_then (λ k. option_map ScalarValue (elem k (Flat (Len bytes)))) (plain_kind kind) ≡ Some (ScalarValue (Text text))
-text_element kind bytes text is utf8 same =
+pub text_element : (kind : TableKind) (v : Value) (bytes text : List ℕ) → kind ≡ kinds.String → IsUtf8 bytes → text ≡ bytes → value_of v ≡ ScalarValue (Text text) → IsElement kind (Flat (Len bytes)) v
+text_element kind v bytes text is utf8 same value =
     ap (λ kind. option_and_then (λ k. option_map ScalarValue (elem k (Flat (Len bytes)))) (plain_kind kind)) is
     ∙ ap (λ b. option_map ScalarValue (cond b (Some (Text bytes)) None)) (is_utf8-from_IsUtf8 bytes utf8)
-    ∙ ap (λ x. Some (ScalarValue (Text x))) (sym same)
+    ∙ ap (λ x. Some (ScalarValue (Text x))) (sym same) ∙ ap Some (sym value)
 
 pub no_text : (bytes : List ℕ) → ¬ (IsUtf8 bytes) → is_utf8 bytes ≡ false
 no_text bytes none = false_from_ne_true _ (λ e. none (IsUtf8-from_is_utf8 bytes e))

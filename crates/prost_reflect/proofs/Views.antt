@@ -56,3 +56,7 @@ content_of_roll m = fold-roll-DynamicMessage contents.Value Content value_step m
 pub value_of_bool : (b : Bool) → value_of (values.Bool b) ≡ ScalarValue (scalars.Boolean b)
 unfolding roll-Value Carrier.roll
 value_of_bool b = fold-roll-Value contents.Value Content value_step message_step (Value-F.Bool b)
+
+pub value_of_string : (text : Text Global) → value_of (values.String text) ≡ ScalarValue (scalars.Text (string_bytes text))
+unfolding roll-Value Carrier.roll
+value_of_string text = fold-roll-Value contents.Value Content value_step message_step (Value-F.String text)

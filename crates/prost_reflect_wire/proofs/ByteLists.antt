@@ -8,6 +8,10 @@ pub bytes_by_index : (bytes : List ℕ) → ((i : ℕ) → Fits w8 (get_or bytes
 bytes_by_index [] h = refl
 bytes_by_index (b ∷ bytes) h = both_true (lt-ltb b 256 (let first = h 0 in first.fits)) (bytes_by_index bytes (λ i. h (suc i)))
 
+pub bytes_below : (bytes : List ℕ) → ((i : ℕ) → Fits w8 (get_or bytes i 0)) → AreBytes bytes
+bytes_below [] h = tt
+bytes_below (b ∷ bytes) h = ((let first = h 0 in first.fits), bytes_below bytes (λ i. h (suc i)))
+
 pub bytes_test : (bytes : List ℕ) → AreBytes bytes → are_bytes bytes ≡ true
 bytes_test [] h = refl
 bytes_test (b ∷ bytes) h = both_true (lt-ltb b 256 h.0) (bytes_test bytes h.1)

@@ -1,6 +1,6 @@
 //! Reading messages (the encoding guide, "Message Structure", "Last One Wins" and "Unknown Fields").
 
-ghost use Rattle.std.specs.Prelude.{◌≡◌, ◌≢◌, [], Some, None, true, IfOk, IfErr};
+ghost use Rattle.std.specs.Prelude.{◌≡◌, ◌≢◌, [], Some, None, true, IfSome, IfNone, IfOk, IfErr};
 ghost use Rattle.prost_reflect_wire.specs.Schema.{field_of};
 ghost use Rattle.prost_reflect_wire.specs.Content.{schema_of, type_of};
 ghost use Rattle.prost_reflect_wire.specs.Grammar.{LEVEL_LIMIT};
@@ -81,11 +81,7 @@ impl DynamicMessage {
         ensures descriptor { descriptor_of self.new ≡ descriptor_of self.old }
         ensures fault { IfErr result (λ e. e ≢ DecodeError.OutOfMemory → StandsBehindKey (content_of self.old) levels number.value wire_type e bytes.now) }
     {
-        let kind = match self.descriptor().field_table(number.get()) {
-            Some(field) => Some(field.kind),
-            None => None,
-        };
-        match kind {
+        match plain_kind_at(self.descriptor(), number.get()) {
             Some(kind) => self.merge_scalar(alloc, number, kind, wire_type, bytes, levels),
             None => self.merge_unknown(alloc, number, wire_type, bytes, levels),
         }
@@ -132,5 +128,17 @@ impl DynamicMessage {
         let (value, rest) = value_at(alloc, number, wire_type, bytes, levels)?;
         self.add_unknown(number.get(), UnknownField::new(number, value))?;
         Ok(rest)
+    }
+}
+
+/// The kind of the field or extension of a number, in a covered message type.
+fn plain_kind_at(descriptor: &MessageDescriptor, number: u32) -> Option<TableKind>
+    requires { covered (schema_at descriptor.now) (type_at descriptor.now) ≡ true }
+    ensures known { IfSome result (λ kind. PlainField (known_of descriptor.now) number kind) }
+    ensures unknown { IfNone result (field_of (known_of descriptor.now) number ≡ None) }
+{
+    match descriptor.field_table(number) {
+        Some(field) => Some(field.kind),
+        None => None,
     }
 }
