@@ -1,5 +1,5 @@
 -- At a place there is a body, or a fault stands there.
-use Rattle.std.proofs.Common.{◌≡◌, ◌≢◌, ℕ, zero, suc, ◌<◌, ◌≤◌, Bool, true, false, not, ◌&&◌, ◌||◌, ◌⊎◌, inl, inr, List, [], ◌∷◌, ◌++◌, length, nat_eq, nat_lt, nat_le, Option, Some, None, refl, sym, ap, ap₂, subst, ◌∙◌, arith, length-append, true≢false}
+use Rattle.std.proofs.Common.{◌≡◌, ◌≢◌, ℕ, zero, suc, ◌<◌, ◌≤◌, Bool, true, false, ◌&&◌, ◌||◌, ◌⊎◌, inl, inr, List, [], ◌∷◌, length, nat_eq, nat_le, Option, Some, None, refl, sym, ap, ap₂, subst, ◌∙◌, arith, length-append, true≢false}
 use Rattle.std.specs.Option.{is_some}
 use Rattle.std.specs.List.{list_all}
 use Rattle.std.proofs.lemmas.Bool.{le-leb, eqb-true, eqb-false, ltb-false}
@@ -7,13 +7,13 @@ use Rattle.prost_reflect_wire.specs.declared.error.DecodeError.{DecodeError}
 use Rattle.prost_reflect_wire.specs.declared.error.DecodeError.TheVariants as errors
 use Rattle.prost_reflect_wire.specs.declared.key.WireType.{WireType}
 use Rattle.prost_reflect_wire.specs.declared.key.WireType.TheVariants as wires
-use Rattle.prost_reflect_wire.specs.Varint.{AreBytes, ◌>>=◌}
-use Rattle.prost_reflect_wire.specs.Record.{Plain, Len, Records, NoRecords, Record, record_at, Payload, Flat, Group, before, items, raw_levels, payload_levels, plain_wire, payload_wire, Spells, read}
-use Rattle.prost_reflect_wire.specs.Scalar.{ScalarKind, StringKind, kind_wire}
+use Rattle.prost_reflect_wire.specs.Varint.{AreBytes}
+use Rattle.prost_reflect_wire.specs.Record.{Plain, Len, Records, NoRecords, record_at, Payload, Flat, Group, before, items, payload_levels, plain_wire, payload_wire, read}
+use Rattle.prost_reflect_wire.specs.Scalar.{ScalarKind, kind_wire}
 use Rattle.prost_reflect_wire.specs.Schema.{Kind, ScalarOf, MessageOf, GroupOf, ValueType, FieldForm, Singular, Repeated, MapFrom, Field, Schema, is_packable, is_message, passes}
-use Rattle.prost_reflect_wire.specs.Grammar.{AllowsInside, body, one_allowed, packed_allowed, has_level, in_entry_allowed, field_allowed, allows, plains_within, unpacked}
-use Rattle.prost_reflect_wire.specs.Front.{KeyFront, PlainFront, DelimitedFront, RecordsFront, GroupFront, PayloadFront, KeyFault, PlainFault}
-use Rattle.prost_reflect_wire.specs.Fault.{Place, Inside, OfType, OfEntry, OfNothing, field_at, Next, NextField, ElementFault, TextNext, PackedNext, same_wire, one_takes, packed_takes, takes, needs_level, opens_level, is_map, Comes, Stands, Here, Behind, InMessage, InGroup, InUnknown, InEntry}
+use Rattle.prost_reflect_wire.specs.Grammar.{AllowsInside, body, one_allowed, packed_allowed, has_level, in_entry_allowed, field_allowed, unpacked}
+use Rattle.prost_reflect_wire.specs.Front.{KeyFront, PlainFront, DelimitedFront, PayloadFront, KeyFault, PlainFault}
+use Rattle.prost_reflect_wire.specs.Fault.{Place, OfType, OfEntry, OfNothing, field_at, TextNext, PackedNext, same_wire, one_takes, packed_takes, takes, needs_level, opens_level, is_map, Stands, Here, Behind, InMessage, InGroup, InUnknown, InEntry}
 use Rattle.prost_reflect_wire.proofs.Deeper.{and_both}
 use Rattle.prost_reflect_wire.proofs.Reading.{spelled_read}
 use Rattle.prost_reflect_wire.proofs.PlainFronts.{plain_delimited, delimited_plain}
@@ -21,9 +21,8 @@ use Rattle.prost_reflect_wire.proofs.RecordFronts.{record_front, first_front, no
 use Rattle.prost_reflect_wire.proofs.BodyFronts.{key_bytes, payload_bytes, body_bytes}
 use Rattle.prost_reflect_wire.proofs.PlaceFaults.{key_stands, end_stands, plain_stands}
 use Rattle.prost_reflect_wire.proofs.Places.{inner, payload_allowed, allowed_at, allows_at, Ended, Body, items_first, body_spells, passes_body, levels_outside, entry_same}
-use Rattle.prost_reflect_wire.proofs.KindsTaken.{len_payload}
 use Rattle.prost_reflect_wire.proofs.FrontOrFault.{SomeFault, SomeKey, key_or, SomePlain, plain_or}
-use Rattle.prost_reflect_wire.proofs.KindsAllowed.{same_is, kind_no_start, kind_no_end, BadText, wire_fits, one_field, packed_field, SomePlains, elements_or, element_name}
+use Rattle.prost_reflect_wire.proofs.KindsAllowed.{same_is, kind_no_start, kind_no_end, BadText, wire_fits, one_field, packed_field, elements_or, element_name}
 
 pub record SomeBody (schema : Schema) (place : Place) : Type 0 where
   pub records : Records
@@ -107,9 +106,6 @@ module _ (schema : Schema) (place : Place) (n : ℕ) (w : WireType) (rest : List
 either : {A B C : Type 0} → (A → C) → (B → C) → A ⊎ B → C
 either f g (inl a) = f a
 either f g (inr b) = g b
-
-plain_shorter : (p : Plain) (bytes rest : List ℕ) → PlainFront p bytes rest → length rest ≤ length bytes
-plain_shorter p bytes rest f = payload_no_longer 1 (Flat p) bytes rest f
 
 body_shorter : (body bytes rest : List ℕ) → DelimitedFront body bytes rest → length body ≤ length bytes
 body_shorter body bytes rest d =

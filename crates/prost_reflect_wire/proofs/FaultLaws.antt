@@ -1,13 +1,15 @@
 -- Bytes are accepted unless a fault stands in them.
-use Rattle.std.proofs.Common.{◌≡◌, ◌↔◌, ℕ, suc, ◌<◌, Bool, true, false, inl, inr, List, [], length, Option, Some, None, refl, sym, ◌∙◌, arith, append-nil, true≢false}
+use Rattle.std.proofs.Common.{◌≡◌, ◌≢◌, ◌↔◌, ℕ, suc, Bool, true, false, inl, inr, List, [], length, None, refl, sym, subst, ◌∙◌, arith, append-nil, true≢false}
 use Rattle.prost_reflect_wire.specs.Varint.{AreBytes}
-use Rattle.prost_reflect_wire.specs.Record.{Records, items}
+use Rattle.prost_reflect_wire.specs.Record.{items}
 use Rattle.prost_reflect_wire.specs.Schema.{Schema}
 use Rattle.prost_reflect_wire.specs.Grammar.{Accepts, accepts}
-use Rattle.prost_reflect_wire.specs.Fault.{Place, OfType, StandsInMessage}
+use Rattle.prost_reflect_wire.specs.Fault.{Place, OfType, Comes, Stands, Here, Behind, InMessage, InGroup, InUnknown, InEntry, StandsInMessage}
 use Rattle.prost_reflect_wire.specs.declared.error.DecodeError.{DecodeError}
+use Rattle.prost_reflect_wire.specs.declared.error.DecodeError.TheVariants as errors
 use Rattle.prost_reflect_wire.proofs.Places.{Body, allows_at, body_spells}
 use Rattle.prost_reflect_wire.proofs.Accepted.{accepts_is_test}
+use Rattle.prost_reflect_wire.proofs.FieldFaults.{only_memory}
 use Rattle.prost_reflect_wire.proofs.NoFaultInside.{body_no_fault}
 use Rattle.prost_reflect_wire.proofs.BodyOrFault.{SomeBody, body_or_fault}
 
@@ -26,6 +28,19 @@ accepted_body schema levels T bytes small a = record {
 
 pub accepted_has_no_fault : (schema : Schema) (levels T : ℕ) (bytes : List ℕ) → AreBytes bytes → Accepts schema levels T bytes → (e : DecodeError) → StandsInMessage schema T levels e bytes → ⊥
 accepted_has_no_fault schema levels T bytes small a e stands = body_no_fault schema stands a.records [] (accepted_body schema levels T bytes small a)
+
+-- Want of memory stands in no bytes.
+pub memory_never_stands : (schema : Schema) {e : DecodeError} {place : Place} → Stands schema e place → e ≡ errors.OutOfMemory → ⊥
+memory_never_stands schema (Here {place} c) is = subst (λ x. Comes schema x place) is c
+memory_never_stands schema (Behind r rest front more) is = memory_never_stands schema more is
+memory_never_stands schema (InMessage n T k f body rest after found m kind left key d more) is = memory_never_stands schema more is
+memory_never_stands schema (InGroup n T k f rest found m kind left key more) is = memory_never_stands schema more is
+memory_never_stands schema (InUnknown n k rest found left key more) is = memory_never_stands schema more is
+memory_never_stands schema (InEntry n f key_type body rest after found form level key d more) is = memory_never_stands schema more is
+
+-- Accepted bytes are refused for want of memory alone, where each other refusal is a fault that stands.
+pub accepted_only_memory : (schema : Schema) (levels T : ℕ) (bytes : List ℕ) → AreBytes bytes → Accepts schema levels T bytes → (e : DecodeError) → (e ≢ errors.OutOfMemory → StandsInMessage schema T levels e bytes) → e ≡ errors.OutOfMemory
+accepted_only_memory schema levels T bytes small a e stands = only_memory e (λ other. accepted_has_no_fault schema levels T bytes small a e (stands other))
 
 -- COMPLETENESS
 

@@ -7,7 +7,7 @@ use Rattle.prost_reflect_wire.specs.declared.key.WireType.TheVariants as wires
 use Rattle.prost_reflect_wire.specs.Varint.{AreBytes}
 use Rattle.prost_reflect_wire.specs.Record.{Plain, Payload, Flat, Group, plain_wire, payload_wire}
 use Rattle.prost_reflect_wire.specs.Front.{KeyFront, PlainFront, PayloadFront, KeyFault, PlainFault}
-use Rattle.prost_reflect_wire.specs.Fault.{ValueFault, ValueComes}
+use Rattle.prost_reflect_wire.specs.Fault.{ValueComes}
 use Rattle.prost_reflect_wire.proofs.FieldOrFault.{KeyRead, KeyHere, NoKeyHere, key_or_fault, ValueRead, ValueHere, NoValue, value_or_fault}
 
 -- A fault of some name.

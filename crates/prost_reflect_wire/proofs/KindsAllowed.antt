@@ -1,5 +1,5 @@
 -- Payloads of a wire type that a field takes are allowed, but for what is inside them.
-use Rattle.std.proofs.Common.{◌≡◌, ◌≢◌, ℕ, zero, suc, ◌<◌, ◌≤◌, Bool, true, false, ◌&&◌, ◌||◌, ◌⊎◌, inl, inr, List, [], ◌∷◌, length, Option, Some, None, refl, sym, ap, subst, ◌∙◌, arith, length-append, true≢false}
+use Rattle.std.proofs.Common.{◌≡◌, ◌≢◌, ℕ, zero, suc, ◌<◌, Bool, true, false, ◌||◌, ◌⊎◌, inl, inr, List, [], ◌∷◌, length, Option, Some, None, refl, sym, ap, ◌∙◌, arith, length-append, true≢false}
 use Rattle.std.specs.Option.{is_some}
 use Rattle.std.specs.Prelude.{if◌then◌else◌}
 use Rattle.std.specs.Str.{is_utf8}
@@ -9,15 +9,16 @@ use Rattle.prost_reflect_wire.specs.declared.error.DecodeError.TheVariants as er
 use Rattle.prost_reflect_wire.specs.declared.key.WireType.{WireType}
 use Rattle.prost_reflect_wire.specs.declared.key.WireType.TheVariants as wires
 use Rattle.prost_reflect_wire.specs.Varint.{AreBytes, Varint, ◌>>=◌}
-use Rattle.prost_reflect_wire.specs.Record.{Plain, Var, Fix64, Len, Fix32, Payload, Flat, Group, SpellsPlain, wire_code, wire_of, plain_wire, payload_wire, plain_at}
+use Rattle.prost_reflect_wire.specs.Record.{Plain, Var, Fix64, Len, Fix32, Payload, Flat, SpellsPlain, wire_code, wire_of, plain_wire, plain_at}
 use Rattle.prost_reflect_wire.specs.Scalar.{ScalarKind, Double, Float, Int64, Uint64, Int32, Fixed64, Fixed32, BoolKind, StringKind, BytesKind, Uint32, Enum, Sfixed32, Sfixed64, Sint32, Sint64, kind_wire}
 use Rattle.prost_reflect_wire.specs.Scalar as scalars
-use Rattle.prost_reflect_wire.specs.Schema.{Kind, ScalarOf, MessageOf, GroupOf, ValueType, FieldForm, Singular, Repeated, MapFrom, is_packable}
-use Rattle.prost_reflect_wire.specs.Grammar.{AllowsInside, fits, one_allowed, packed_allowed, field_allowed, plains_within, unpacked}
+use Rattle.prost_reflect_wire.specs.Schema.{ValueType, FieldForm, Singular, Repeated, MapFrom}
+use Rattle.prost_reflect_wire.specs.Grammar.{AllowsInside, fits, one_allowed, packed_allowed, field_allowed, plains_within}
 use Rattle.prost_reflect_wire.specs.Front.{PlainFront, PlainFault}
 use Rattle.prost_reflect_wire.specs.Fault.{ElementFault, ElementEnds, ElementPasses, BehindElement, same_wire, is_map}
 use Rattle.prost_reflect_wire.proofs.Reading.{wire_known, plain_read}
 use Rattle.prost_reflect_wire.proofs.BodyFronts.{plain_bytes}
+use Rattle.prost_reflect_wire.proofs.KindsTaken.{or_first, or_second}
 use Rattle.prost_reflect_wire.proofs.FrontOrFault.{SomeFault, SomePlain, plain_or}
 
 -- WIRE TYPES
@@ -86,14 +87,6 @@ wire_fits Sint64 (Var v) h = inl refl
 wire_fits kind p h = absurd cc
 
 -- FIELDS
-
-or_first : (a b : Bool) → a ≡ true → (a || b) ≡ true
-or_first true b e = refl
-or_first false b e = absurd (true≢false (sym e))
-
-or_second : (a b : Bool) → b ≡ true → (a || b) ≡ true
-or_second true b e = refl
-or_second false b e = e
 
 pub one_field : (k : ℕ) (inner : AllowsInside) (form : FieldForm) (value_type : ValueType) (p : Payload) → is_map form ≡ false → one_allowed inner value_type.kind p ≡ true → field_allowed k inner form value_type p ≡ true
 one_field k inner Singular value_type p m h = h

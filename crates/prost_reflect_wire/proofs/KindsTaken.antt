@@ -1,5 +1,5 @@
 -- Which payloads a field takes, by their wire types.
-use Rattle.std.proofs.Common.{◌≡◌, ℕ, Bool, true, false, ◌&&◌, ◌||◌, List, Option, Some, None, refl, sym, ap, ◌∙◌, true≢false}
+use Rattle.std.proofs.Common.{◌≡◌, ℕ, Bool, true, false, ◌&&◌, ◌||◌, List, Some, None, refl, sym, ap, ◌∙◌, true≢false}
 use Rattle.std.specs.Option.{is_some}
 use Rattle.std.specs.Prelude.{if◌then◌else◌}
 use Rattle.std.specs.List.{list_all}
@@ -19,24 +19,6 @@ use Rattle.prost_reflect_wire.proofs.RecordFronts.{plain_no_group}
 
 pub not_both : {b : Bool} → b ≡ true → b ≡ false → ⊥
 not_both e f = true≢false (sym e ∙ f)
-
-wires_apart : (v w : WireType) → same_wire v w ≡ false → v ≡ w → ⊥
-wires_apart v w d e = not_both (ap (λ x. same_wire x w) e ∙ wire_self w) d
-  where
-    wire_self : (w : WireType) → same_wire w w ≡ true
-    wire_self wires.Varint = refl
-    wire_self wires.SixtyFourBit = refl
-    wire_self wires.LengthDelimited = refl
-    wire_self wires.StartGroup = refl
-    wire_self wires.EndGroup = refl
-    wire_self wires.ThirtyTwoBit = refl
-
-pub len_payload : (p : Payload) → payload_wire p ≡ wires.LengthDelimited → (bytes : List ℕ) × (p ≡ Flat (Len bytes))
-len_payload (Flat (Len bytes)) e = (bytes, refl)
-len_payload (Flat (Var v)) e = absurd (wires_apart wires.Varint wires.LengthDelimited refl e)
-len_payload (Flat (Fix64 b)) e = absurd (wires_apart wires.SixtyFourBit wires.LengthDelimited refl e)
-len_payload (Flat (Fix32 b)) e = absurd (wires_apart wires.ThirtyTwoBit wires.LengthDelimited refl e)
-len_payload (Group inside) e = absurd (wires_apart wires.StartGroup wires.LengthDelimited refl e)
 
 pub group_payload : (p : Payload) → payload_wire p ≡ wires.StartGroup → (inside : Records) × (p ≡ Group inside)
 group_payload (Group inside) e = (inside, refl)
@@ -72,9 +54,13 @@ packable_no_len kind bytes h = refl
 abbrev pub one_or_packed : AllowsInside → Kind → Payload → Bool
 one_or_packed inner kind p = one_allowed inner kind p || packed_allowed kind p
 
-or_first : (a b : Bool) → a ≡ true → (a || b) ≡ true
+pub or_first : (a b : Bool) → a ≡ true → (a || b) ≡ true
 or_first true b e = refl
 or_first false b e = absurd (true≢false (sym e))
+
+pub or_second : (a b : Bool) → b ≡ true → (a || b) ≡ true
+or_second true b e = refl
+or_second false b e = e
 
 or_nothing : (a : Bool) → (a || false) ≡ true → a ≡ true
 or_nothing true e = refl
@@ -137,11 +123,7 @@ either_taken inner kind p h = go (one_allowed inner kind p) refl
   where
     go : (b : Bool) → one_allowed inner kind p ≡ b → (one_takes kind (payload_wire p) || packed_takes kind (payload_wire p)) ≡ true
     go true e = or_first (one_takes kind (payload_wire p)) (packed_takes kind (payload_wire p)) (one_taken inner kind p e)
-    go false e = second (one_takes kind (payload_wire p)) (packed_taken kind p (or_other (one_allowed inner kind p) (packed_allowed kind p) e h))
-      where
-        second : (b : Bool) {c : Bool} → c ≡ true → (b || c) ≡ true
-        second true f = refl
-        second false f = f
+    go false e = or_second (one_takes kind (payload_wire p)) (packed_takes kind (payload_wire p)) (packed_taken kind p (or_other (one_allowed inner kind p) (packed_allowed kind p) e h))
 
 -- What a field allows has a wire type that it takes.
 pub field_taken : (k : ℕ) (inner : AllowsInside) (form : FieldForm) (value_type : ValueType) (p : Payload) → field_allowed k inner form value_type p ≡ true → takes form value_type.kind (payload_wire p) ≡ true

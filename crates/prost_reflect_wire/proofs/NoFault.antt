@@ -1,5 +1,5 @@
 -- Where a body stands, no fault stands.
-use Rattle.std.proofs.Common.{◌≡◌, ◌≢◌, ℕ, zero, suc, ◌<◌, ◌≤◌, Bool, true, false, not, ◌&&◌, ◌||◌, inl, inr, List, [], ◌∷◌, ◌++◌, length, nat_eq, nat_le, Option, Some, None, refl, sym, ap, subst, ◌∙◌, arith, length-append, true≢false}
+use Rattle.std.proofs.Common.{◌≡◌, ◌≢◌, ℕ, zero, suc, ◌<◌, ◌≤◌, Bool, true, false, inl, inr, List, [], ◌∷◌, ◌++◌, length, nat_le, Option, Some, None, refl, sym, ap, subst, ◌∙◌, arith, length-append, true≢false}
 use Rattle.std.proofs.lemmas.Bool.{leb-true}
 use Rattle.std.specs.Option.{is_some}
 use Rattle.prost_reflect_wire.specs.declared.error.DecodeError.{DecodeError}
@@ -7,12 +7,12 @@ use Rattle.prost_reflect_wire.specs.declared.error.DecodeError.TheVariants as er
 use Rattle.prost_reflect_wire.specs.declared.key.WireType.{WireType}
 use Rattle.prost_reflect_wire.specs.declared.key.WireType.TheVariants as wires
 use Rattle.prost_reflect_wire.specs.Varint.{AreBytes, Varint, ◌>>=◌}
-use Rattle.prost_reflect_wire.specs.Record.{Plain, Var, Fix64, Len, Fix32, Records, Record, Payload, Flat, Group, payload_levels, wire_code, plain_wire, payload_wire, plain_at}
-use Rattle.prost_reflect_wire.specs.Scalar.{ScalarKind, StringKind, kind_wire}
-use Rattle.prost_reflect_wire.specs.Schema.{Kind, ScalarOf, MessageOf, GroupOf, ValueType, FieldForm, Singular, Repeated, MapFrom, Field, Schema, is_packable, is_message, passes}
-use Rattle.prost_reflect_wire.specs.Grammar.{AllowsInside, body, is_len, has_level, field_allowed, nothing_inside, plains_within, unpacked}
+use Rattle.prost_reflect_wire.specs.Record.{Plain, Var, Fix64, Len, Fix32, Record, Payload, Flat, Group, payload_levels, wire_code, plain_wire, payload_wire, plain_at}
+use Rattle.prost_reflect_wire.specs.Scalar.{StringKind, kind_wire}
+use Rattle.prost_reflect_wire.specs.Schema.{Kind, ScalarOf, MessageOf, GroupOf, ValueType, FieldForm, Singular, Repeated, MapFrom, Field, Schema, is_message, passes}
+use Rattle.prost_reflect_wire.specs.Grammar.{AllowsInside, body, has_level, field_allowed, nothing_inside, plains_within, unpacked}
 use Rattle.prost_reflect_wire.specs.Front.{KeyFront, PlainFront, DelimitedFront, PayloadFront, PayloadEnds, PayloadPasses, PlainFault, KeyFault, VarintPasses, NoKey}
-use Rattle.prost_reflect_wire.specs.Fault.{Place, field_at, Next, NextField, ElementFault, ElementEnds, ElementPasses, BehindElement, TextNext, PackedNext, same_wire, one_takes, takes, needs_level, opens_level, is_map, Comes}
+use Rattle.prost_reflect_wire.specs.Fault.{Place, field_at, Next, NextField, ElementFault, ElementEnds, ElementPasses, BehindElement, TextNext, PackedNext, same_wire, takes, needs_level, opens_level, is_map, Comes}
 use Rattle.prost_reflect_wire.proofs.Deeper.{and_both}
 use Rattle.prost_reflect_wire.proofs.Sound.{bind_ok, plain_sound}
 use Rattle.prost_reflect_wire.proofs.Reading.{plain_read}
@@ -20,12 +20,9 @@ use Rattle.prost_reflect_wire.proofs.KeyFronts.{key_once, key_no_fault}
 use Rattle.prost_reflect_wire.proofs.PlainFronts.{plain_once, plain_no_fault, delimited_once, plain_delimited}
 use Rattle.prost_reflect_wire.proofs.BodyFronts.{payload_no_end, key_not_empty, key_bytes, plain_bytes, body_bytes}
 use Rattle.prost_reflect_wire.proofs.Places.{inner, payload_allowed, NextRecord, EndNext, AtEnd, AtStop}
-use Rattle.prost_reflect_wire.proofs.KindsTaken.{not_both, len_payload, group_payload, one_or_packed, allowed_one, text_allowed, unpacked_allowed, map_allowed, message_allowed, group_allowed, field_taken}
+use Rattle.prost_reflect_wire.proofs.KindsTaken.{not_both, one_or_packed, allowed_one, text_allowed, unpacked_allowed, map_allowed, message_allowed, group_allowed, field_taken}
 
 -- AMONG ELEMENTS
-
-plain_again : (w : WireType) (p : Plain) (bytes rest : List ℕ) → PlainFront p bytes rest → plain_wire p ≡ w → plain_at w bytes ≡ Some (p, rest)
-plain_again w p bytes rest f is = ap (λ v. plain_at v bytes) (sym is) ∙ ap (plain_at (plain_wire p)) f.parts ∙ plain_read p f.front rest f.spelled
 
 plain_found : (w : WireType) (bytes : List ℕ) (p : Plain) (rest : List ℕ) → AreBytes bytes → plain_at w bytes ≡ Some (p, rest) → PlainFront p bytes rest × (plain_wire p ≡ w)
 plain_found w bytes p rest small e = let f = plain_sound w bytes p rest small e in (record { front = f.front; spelled = f.spells; parts = f.whole }, sym f.wired)
@@ -191,10 +188,10 @@ payload_no_fault e n (Group inside) bytes rest f h = absurd h
 -- a delimited payload comes next
 pub len_front : (n : ℕ) (p : Payload) (bytes rest body after : List ℕ) → payload_wire p ≡ wires.LengthDelimited → PayloadFront n p bytes rest → DelimitedFront body bytes after → (p ≡ Flat (Len body)) × (rest ≡ after)
 len_front n (Flat (Len b)) bytes rest body after e f d = let (same, behind) = delimited_once b body bytes rest after (plain_delimited b bytes rest f) d in (ap (λ b. Flat (Len b)) same, behind)
-len_front n (Flat (Var v)) bytes rest body after e f d = let (b, is) = len_payload (Flat (Var v)) e in absurd cc
-len_front n (Flat (Fix64 v)) bytes rest body after e f d = let (b, is) = len_payload (Flat (Fix64 v)) e in absurd cc
-len_front n (Flat (Fix32 v)) bytes rest body after e f d = let (b, is) = len_payload (Flat (Fix32 v)) e in absurd cc
-len_front n (Group inside) bytes rest body after e f d = let (b, is) = len_payload (Group inside) e in absurd cc
+len_front n (Flat (Var v)) bytes rest body after e f d = absurd cc
+len_front n (Flat (Fix64 v)) bytes rest body after e f d = absurd cc
+len_front n (Flat (Fix32 v)) bytes rest body after e f d = absurd cc
+len_front n (Group inside) bytes rest body after e f d = absurd cc
 
 -- one value or a packed record of the kind
 pub kind_allowed : (k : ℕ) (inner : AllowsInside) (f : Field) (kind : Kind) (p : Payload) → is_map f.form ≡ false → f.value_type.kind ≡ kind → field_allowed k inner f.form f.value_type p ≡ true → one_or_packed inner kind p ≡ true

@@ -1,13 +1,13 @@
 -- Where a body stands, no fault stands at any further place.
-use Rattle.std.proofs.Common.{◌≡◌, ◌≢◌, ℕ, suc, ◌+◌, ◌≤◌, Bool, true, false, inl, inr, List, [], ◌++◌, Option, Some, None, refl, sym, ap, subst, ◌∙◌, arith}
+use Rattle.std.proofs.Common.{◌≡◌, ◌≢◌, ℕ, suc, ◌≤◌, Bool, true, false, inl, inr, List, [], Some, None, refl, sym, ap, subst, ◌∙◌, arith}
 use Rattle.std.specs.List.{list_all}
 use Rattle.prost_reflect_wire.specs.declared.error.DecodeError.{DecodeError}
 use Rattle.prost_reflect_wire.specs.declared.key.WireType.{WireType}
 use Rattle.prost_reflect_wire.specs.declared.key.WireType.TheVariants as wires
 use Rattle.prost_reflect_wire.specs.Varint.{AreBytes}
 use Rattle.prost_reflect_wire.specs.Record.{Len, Records, Record, Payload, Flat, Group, items, raw_levels, payload_levels, wire_code, payload_wire}
-use Rattle.prost_reflect_wire.specs.Schema.{MessageOf, GroupOf, ValueType, FieldForm, MapFrom, Field, Schema, passes}
-use Rattle.prost_reflect_wire.specs.Grammar.{AllowsInside, body, has_level, in_entry_allowed, field_allowed, allows}
+use Rattle.prost_reflect_wire.specs.Schema.{MessageOf, GroupOf, ValueType, MapFrom, Field, Schema, passes}
+use Rattle.prost_reflect_wire.specs.Grammar.{body, in_entry_allowed, field_allowed, allows}
 use Rattle.prost_reflect_wire.specs.Front.{KeyFront, DelimitedFront, RecordFront, PayloadFront}
 use Rattle.prost_reflect_wire.specs.Fault.{Place, OfType, OfEntry, OfNothing, field_at, is_map, Comes, Stands, Here, Behind, InMessage, InGroup, InUnknown, InEntry}
 use Rattle.prost_reflect_wire.proofs.KeyFronts.{key_once}

@@ -3,6 +3,7 @@ pub mod Record
 pub mod Front
 pub mod Buffer
 pub mod Unknown
+pub mod Equality
 pub mod Scalar
 pub mod Schema
 pub mod Content

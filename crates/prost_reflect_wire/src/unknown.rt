@@ -12,6 +12,7 @@ use std::slice::Iter;
 use std::vec::IntoIter;
 
 mod copy;
+mod equality;
 mod length;
 mod reading;
 mod writing;
@@ -21,7 +22,7 @@ pub use reading::{RECURSION_LIMIT, value_at};
 pub use writing::{prepend_field, prepend_fields, prepend_fields_at};
 
 /// A field that its message does not know.
-#[derive(Debug, Drop, PartialEq)]
+#[derive(Debug, Drop)]
 #[cycle(unknown)]
 pub struct UnknownField {
     pub(crate) number: FieldNumber,
@@ -29,7 +30,7 @@ pub struct UnknownField {
 }
 
 /// What such a field contains.
-#[derive(Debug, Drop, PartialEq)]
+#[derive(Debug, Drop)]
 #[cycle(unknown)]
 pub enum UnknownFieldValue {
     /// A varint's value; its spelling is not kept.
@@ -45,7 +46,7 @@ pub enum UnknownFieldValue {
 }
 
 /// Such fields in order.
-#[derive(Debug, Drop, PartialEq)]
+#[derive(Debug, Drop)]
 #[cycle(unknown)]
 pub struct UnknownFieldSet {
     pub(crate) fields: Vec<UnknownField>,
