@@ -1,6 +1,6 @@
 //! Messages whose types are known only at run time.
 
-ghost use Rattle.std.specs.Prelude.{◌≡◌, true, OnOk, OnErr, IfOk, option_map, Some};
+ghost use Rattle.std.specs.Prelude.{◌≡◌, true, OnOk, OnErr, IfOk, option_map, unwrap_or};
 ghost use Rattle.std.specs.Borrow.{LendsIfOk, sem};
 ghost use Rattle.std.specs.Option.{option_copied};
 ghost use Rattle.prost_reflect_wire.specs.Unknown.{record_of, records_of};
@@ -112,5 +112,19 @@ impl DynamicMessage {
         ensures err { OnErr result (content_of self.new ≡ content_of self.old) }
     {
         self.slots.add_unknown(number, field)
+    }
+
+    /// The value at the number of a field or an extension, for writing. Where there is none it is first set to `default`.
+    /// A refused growth changes nothing.
+    pub(crate) fn value_mut_or(
+        &mut self,
+        number: u32,
+        default: Value,
+    ) -> Result<&mut Value, AllocError>
+        requires { is_known (known_of (descriptor_of self.old)) number ≡ true }
+        ensures* writes_back { sem 𝓛 (LendsIfOk the_row value.the_row self.entry result (written_at self.old number default) self.old) }
+        ensures value { IfOk result (λ lent. value_of lent.now ≡ unwrap_or (value_at number (entries_of (content_of self.old))) (value_of default)) }
+    {
+        self.slots.get_mut_or(number, default)
     }
 }

@@ -168,6 +168,7 @@ impl<V: Drop> Slots<V> {
         requires { is_known (known_of self.old.0) number ≡ true }
         ensures* writes_back { sem 𝓛 (LendsIfOk (the_row V.row) V.row self.entry result (λ w. (self.old.0, with_value (prepared (known_of self.old.0) self.old.1 number default) number w)) self.old) }
         ensures value { IfOk result (λ v. value_at (prepared (known_of self.old.0) self.old.1 number default) number ≡ Some v.now) }
+        ensures ascending { IsAscending self.old.1 }
     {
         if self.get(number).is_none() {
             self.set(number, default)?;
