@@ -12,6 +12,7 @@ ghost use Rattle.prost_reflect.specs.Items.{IsAscending};
 ghost use Rattle.prost_reflect.specs.Known.{known_of, is_known, keeps_unknown};
 ghost use Rattle.prost_reflect.specs.Entries.{records_at};
 ghost use Rattle.prost_reflect.specs.Sound.{IsSound};
+ghost use Rattle.prost_reflect.specs.declared.value.Value.{Value};
 ghost use Rattle.prost_reflect.specs.View.{content_of, value_of, descriptor_of, stored_in, written_at};
 ghost use Rattle.prost_reflect.specs.Contents.{value_set, value_cleared, unknown_added};
 
@@ -124,6 +125,7 @@ impl DynamicMessage {
         requires { is_known (known_of (descriptor_of self.old)) number ≡ true }
         ensures* writes_back { sem 𝓛 (LendsIfOk the_row value.the_row self.entry result (written_at self.old number default) self.old) }
         ensures value { IfOk result (λ lent. value_of lent.now ≡ unwrap_or (value_at number (entries_of (content_of self.old))) (value_of default)) }
+        ensures content { (v : Value) → content_of (written_at self.old number default v) ≡ value_set number (value_of v) (content_of self.old) }
     {
         self.slots.get_mut_or(number, default)
     }
