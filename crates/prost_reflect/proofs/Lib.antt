@@ -10,3 +10,4 @@ mod BuiltinFacts
 pub mod Views
 pub mod Slots
 pub mod Stored
+pub mod ContentChanges
