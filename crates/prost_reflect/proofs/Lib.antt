@@ -11,3 +11,4 @@ pub mod Views
 pub mod Slots
 pub mod Stored
 pub mod ContentChanges
+pub mod Described

@@ -11,6 +11,9 @@ use Rattle.prost_reflect_wire.specs.Schema.{Field, known, field_of}
 use Rattle.prost_reflect_tables.specs.declared.tables.FieldTable.{FieldTable}
 use Rattle.prost_reflect_tables.specs.Rows.{field_row, FieldRow, MessageRow, TableRows}
 use Rattle.prost_reflect_tables.specs.Places.{fields_at, fields_or_none, row_of, place_of}
+use Rattle.prost_reflect_tables.specs.Linked.{is_linked, ascending_from}
+use Rattle.prost_reflect_tables.proofs.Ascending.{place_found}
+use Rattle.prost_reflect_tables.proofs.Keeping.{fields_ascend}
 use Rattle.prost_reflect_tables.specs.Shown.{schema_from, schema_message, schema_field}
 
 known_among : (rows : TableRows) (messages : List MessageRow) (T : ℕ) → known (map (schema_message rows) messages) T ≡ map (schema_field rows) (fields_or_none (slice_get messages T))
@@ -61,6 +64,14 @@ no_row fields n e =
     let test : FieldRow → Bool = λ (f : FieldRow). f.number == n in
     let place = refused (nat_lt (position_or_len test fields) (length fields)) (position_or_len test fields) e in
     find_at test fields ∙ slice_get_past fields (position_or_len test fields) (ltb-false _ _ place)
+
+-- The row at a place is the row of its number, where numbers ascend.
+pub row_at_number : (fields : List FieldRow) (i : ℕ) (f : FieldRow) → ascending_from 0 fields ≡ true → slice_get fields i ≡ Some f → row_of fields f.number ≡ Some f
+row_at_number fields i f ascend at = sym (row_at_place fields f.number i (place_found f.number fields i f ascend at refl)) ∙ at
+
+-- What is known under the number of a row is that row, shown.
+pub known_row : (rows : TableRows) (T i : ℕ) (f : FieldRow) → is_linked rows ≡ true → slice_get (fields_at rows T) i ≡ Some f → field_of (known (schema_from rows) T) f.number ≡ Some (schema_field rows f)
+known_row rows T i f linked at = field_of_number rows T f.number ∙ ap (option_map (schema_field rows)) (row_at_number (fields_at rows T) i f (fields_ascend rows T linked) at)
 
 -- AT THE TABLES
 

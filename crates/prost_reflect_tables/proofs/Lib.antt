@@ -2,3 +2,4 @@ mod Ascending
 mod Positions
 pub mod Keeping
 pub mod Fields
+mod Worked

@@ -3,3 +3,4 @@ pub mod Places
 pub mod Shown
 pub mod Linked
 pub mod Schema
+pub mod Examples

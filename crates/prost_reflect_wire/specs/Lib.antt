@@ -13,6 +13,4 @@ pub mod Reduction
 pub mod Edit
 pub mod Fault
 pub mod Laws
-pub mod ExampleSchemas
-pub mod ExampleRows
-pub mod ExampleFaults
+pub mod Examples
