@@ -1,7 +1,7 @@
 -- The values and the unknown fields at each number after a change.
 use Rattle.std.proofs.Common.{◌≡◌, ◌≢◌, ◌++◌, ◌||◌, unwrap_or, Bool, true, false, cond, ℕ, nat_eq, List, [], ◌∷◌, Option, None, Some, ap, sym, ◌∙◌, subst, refl, true≢false}
 use Rattle.std.proofs.lemmas.Bool.{eq-eqb, ne_eqb}
-use Rattle.std.specs.Option.{option_and_then, is_some}
+use Rattle.std.specs.Option.{option_and_then, option_map, is_some}
 use Rattle.std.specs.Ordering.{nat_cmp, is_eq}
 use Rattle.std.specs.declared.cmp.Ordering.TheVariants.{Less}
 use Rattle.std.specs.List.{AllByRecursion}
@@ -223,6 +223,41 @@ module _ {V : Type 0} where
   records_kept (Value v) w = refl
   records_kept (Unknown u) w = refl
   records_kept (Both v u) w = refl
+
+  pub ascending_with_value : (es : List (ℕ × Entry V)) (n : ℕ) (w : V) → IsAscending es → IsAscending (with_value es n w)
+  ascending_with_value es n w s = cases (item_at es n)
+    where
+      cases : (o : Option (Entry V)) → IsAscending (with_entry es n w o)
+      cases None = s
+      cases (Some e) = ascending_with es n (revalued e w) s
+
+  written_here : (es : List (ℕ × Entry V)) (n : ℕ) (w : V) → (value_at (with_value es n w) n ≡ option_map (λ _. w) (value_at es n)) × (records_at (with_value es n w) n ≡ records_at es n)
+  written_here es n w = cases (item_at es n) refl
+    where
+      value : (e : Entry V) → value_in (revalued e w) ≡ option_map (λ _. w) (value_in e)
+      value (Value v) = refl
+      value (Unknown u) = refl
+      value (Both v u) = refl
+
+      cases : (o : Option (Entry V)) → item_at es n ≡ o → (value_at (with_entry es n w o) n ≡ option_map (λ _. w) (option_and_then value_in o)) × (records_at (with_entry es n w o) n ≡ option_and_then records_in o)
+      cases None h = (ap (option_and_then value_in) h, ap (option_and_then records_in) h)
+      cases (Some e) h = (ap (option_and_then value_in) (with_same es n (revalued e w) e h) ∙ value e, ap (option_and_then records_in) (with_same es n (revalued e w) e h) ∙ records_kept e w)
+
+  written_apart : (es : List (ℕ × Entry V)) (n k : ℕ) (w : V) → Apart n k → item_at (with_value es n w) k ≡ item_at es k
+  written_apart es n k w a = cases (item_at es n)
+    where
+      cases : (o : Option (Entry V)) → item_at (with_entry es n w o) k ≡ item_at es k
+      cases None = refl
+      cases (Some e) = with_apart es n k (revalued e w) a
+
+  pub value_written : (es : List (ℕ × Entry V)) (n : ℕ) (w : V) → value_at (with_value es n w) n ≡ option_map (λ _. w) (value_at es n)
+  value_written es n w = (written_here es n w).0
+
+  pub value_written_apart : (es : List (ℕ × Entry V)) (n k : ℕ) (w : V) → Apart n k → value_at (with_value es n w) k ≡ value_at es k
+  value_written_apart es n k w a = same_values es (with_value es n w) k (written_apart es n k w a)
+
+  pub records_written : (es : List (ℕ × Entry V)) (n : ℕ) (w : V) (k : ℕ) → records_at (with_value es n w) k ≡ records_at es k
+  records_written es n w = at_each (λ k. records_at (with_value es n w) k ≡ records_at es k) n (written_here es n w).1 (λ k a. same_records es (with_value es n w) k (written_apart es n k w a))
 
   -- UNKNOWN RECORDS
 

@@ -13,4 +13,5 @@ pub mod Views
 pub mod Slots
 pub mod Stored
 pub mod Merging
+pub mod ContentChanges
 pub mod Described

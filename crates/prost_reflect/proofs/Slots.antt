@@ -79,6 +79,10 @@ from_table (e ∷ es) s =
     ∙ table_from (slot_at (entries_from es)) (slot_at (entries_from (e ∷ es))) (suc e.0) (keys_of es) (ascending_above e.0 (keys_of es) s.0 s.1)
     (λ n more. sym (store_apart e.0 n (slot_of e.1) (entries_from es) (ne_eqb e.0 n (λ same. omega (arith, same, more))))))
 
+-- what holds of the table of the slots holds of the entries
+pub from_keys : (P : Entries → Type 0) (es : List (ℕ × Entry Value)) → IsAscending es → ((ns : List ℕ) → Ascending 0 ns → P (table (slot_at (entries_from es)) ns)) → P (entries_from es)
+from_keys P es s h = subst P (sym (from_table es s)) (h (keys_of es) (keys_ascending es s))
+
 covered : (es : List (ℕ × Entry Value)) → IsAscending es → Covers (slot_at (entries_from es)) 0 (keys_of es)
 covered es s k low out = slot_from es k s ∙ ap slot_in (not_among es k out)
 

@@ -1,7 +1,7 @@
 -- What a change keeps of what a message's entries keep.
 use Rattle.std.proofs.Common.{◌≡◌, ◌≢◌, ◌++◌, ◌&&◌, ◌||◌, unwrap_or, Bool, true, false, cond, ℕ, nat_eq, List, [], ◌∷◌, Option, None, Some, ap, sym, ◌∙◌, subst, refl, true≢false}
 use Rattle.std.proofs.lemmas.Bool.{eq-eqb, ne_eqb, eqb-true, eqb-false}
-use Rattle.std.specs.Option.{option_and_then, is_some}
+use Rattle.std.specs.Option.{option_and_then, option_map, is_some}
 use Rattle.std.specs.List.{list_all}
 use Rattle.prost_reflect_wire.specs.Record.{Record}
 use Rattle.prost_reflect_wire.specs.Schema.{Field, field_of, numbers_differ}
@@ -10,10 +10,10 @@ use Rattle.prost_reflect.specs.declared.fields.entry.Entry.{Entry}
 use Rattle.prost_reflect.specs.declared.fields.entry.Entry.TheVariants.{Value, Unknown, Both}
 use Rattle.prost_reflect.specs.Items.{IsAscending, item_at, with_item}
 use Rattle.prost_reflect.specs.Known.{is_known, are_siblings, keeps_unknown, are_records_of}
-use Rattle.prost_reflect.specs.Entries.{value_in, records_in, value_at, records_at, has_value, revalued, put_value, without_values, clear_value, SameStored, UnknownAdded}
-use Rattle.prost_reflect.specs.Sound.{Sound, unknown_kept, set_value_at}
+use Rattle.prost_reflect.specs.Entries.{value_in, records_in, value_at, records_at, has_value, revalued, put_value, without_values, clear_value, with_value, SameStored, UnknownAdded}
+use Rattle.prost_reflect.specs.Sound.{Sound, unknown_kept, set_value_at, prepared}
 use Rattle.prost_reflect.proofs.ItemChanges.{Apart, by_number, at_each, apart_of, with_same, with_apart}
-use Rattle.prost_reflect.proofs.EntryChanges.{value_without, records_without, ascending_put, value_put, value_put_apart, records_put, same_values, same_records, value_kept, records_kept}
+use Rattle.prost_reflect.proofs.EntryChanges.{value_without, records_without, ascending_put, value_put, value_put_apart, records_put, same_values, same_records, value_kept, records_kept, ascending_without_values, ascending_with_value, value_written, value_written_apart, records_written}
 use Rattle.prost_reflect.proofs.Siblings.{siblings_back, siblings_self}
 use Rattle.std.proofs.lemmas.Map.Steps.{set_value_same}
 use Rattle.std.specs.BTreeMap.{is_at}
@@ -103,6 +103,9 @@ module _ {V : Type 0} where
   pub records_set_at : (fields : List Field) (es : List (ℕ × Entry V)) (n : ℕ) (v : V) (k : ℕ) → IsAscending es → records_at (set_value_at fields es n v) k ≡ records_at es k
   records_set_at fields es n v k s = records_without (are_siblings fields n) (put_value es n v) k (ascending_put es n v s) ∙ records_put es n v k
 
+  pub ascending_set_at : (fields : List Field) (es : List (ℕ × Entry V)) (n : ℕ) (v : V) → IsAscending es → IsAscending (set_value_at fields es n v)
+  ascending_set_at fields es n v s = ascending_without_values (are_siblings fields n) (put_value es n v) (ascending_put es n v s)
+
   pub value_set : (fields : List Field) (es : List (ℕ × Entry V)) (n : ℕ) (v : V) → IsAscending es → value_at (set_value_at fields es n v) n ≡ Some v
   value_set fields es n v s = value_set_at fields es n v n s ∙ ap (λ b. cond b (Some v) (cond (are_siblings fields n n) None (value_at es n))) (eq-eqb n n refl)
 
@@ -136,6 +139,52 @@ module _ {V : Type 0} where
           absurd (true≢false (sym back ∙ (not_cleared (are_siblings fields n m) (value_at es m) h).0))
       single m k false false at to h siblings =
           cleared (are_siblings fields n k) (value_at es k) (sound.2 m k (not_cleared (are_siblings fields n m) (value_at es m) h).1 siblings)
+
+  -- WRITING ACCESS
+
+  -- a value that was there is written over as it is set, since no sibling has one
+  over_value : (fields : List Field) (es : List (ℕ × Entry V)) (n : ℕ) (w : V) (k : ℕ) → Sound fields es → has_value es n ≡ true → value_at (with_value es n w) k ≡ cond (nat_eq k n) (Some w) (cond (are_siblings fields n k) None (value_at es k))
+  over_value fields es n w k sound here = cases (nat_eq k n) refl
+    where
+      there : (o : Option V) → is_some o ≡ true → option_map (λ _. w) o ≡ Some w
+      there None h = cc
+      there (Some v) h = refl
+
+      absent : (o : Option V) → is_some o ≡ false → o ≡ None
+      absent None h = refl
+      absent (Some v) h = cc
+
+      sibling : (b : Bool) → are_siblings fields n k ≡ b → value_at es k ≡ cond b None (value_at es k)
+      sibling true at = absent (value_at es k) (sound.2 n k here at)
+      sibling false at = refl
+
+      cases : (b : Bool) → nat_eq k n ≡ b → value_at (with_value es n w) k ≡ cond b (Some w) (cond (are_siblings fields n k) None (value_at es k))
+      cases true at = ap (value_at (with_value es n w)) (eqb-true k n at) ∙ value_written es n w ∙ there (value_at es n) here
+      cases false at = value_written_apart es n k w (apart_of n k (eqb-false k n at)) ∙ sibling (are_siblings fields n k) refl
+
+  -- one that was just set is written over as if the other had been set
+  over_set : (fields : List Field) (es : List (ℕ × Entry V)) (n : ℕ) (v w : V) (k : ℕ) → IsAscending es → value_at (with_value (set_value_at fields es n v) n w) k ≡ cond (nat_eq k n) (Some w) (cond (are_siblings fields n k) None (value_at es k))
+  over_set fields es n v w k s = cases (nat_eq k n) refl
+    where
+      cases : (b : Bool) → nat_eq k n ≡ b → value_at (with_value (set_value_at fields es n v) n w) k ≡ cond b (Some w) (cond (are_siblings fields n k) None (value_at es k))
+      cases true at = ap (value_at (with_value (set_value_at fields es n v) n w)) (eqb-true k n at) ∙ value_written (set_value_at fields es n v) n w ∙ ap (option_map (λ _. w)) (value_set fields es n v s)
+      cases false at = value_written_apart (set_value_at fields es n v) n k w (apart_of n k (eqb-false k n at)) ∙ value_set_at fields es n v k s ∙ ap (λ b. cond b (Some v) (cond (are_siblings fields n k) None (value_at es k))) at
+
+  -- writing access leaves what a set leaves
+  pub written_is_set : (fields : List Field) (es : List (ℕ × Entry V)) (n : ℕ) (v w : V) → IsAscending es → Sound fields es → SameStored (set_value_at fields es n w) (with_value (prepared fields es n v) n w)
+  written_is_set fields es n v w s sound = cases (has_value es n) refl
+    where
+      cases : (b : Bool) → has_value es n ≡ b → SameStored (set_value_at fields es n w) (with_value (cond b es (set_value_at fields es n v)) n w)
+      cases true at = record {
+        values = λ k. over_value fields es n w k sound at ∙ sym (value_set_at fields es n w k s);
+        records = λ k. records_written es n w k ∙ sym (records_set_at fields es n w k s);
+        order = λ _. ascending_with_value es n w s;
+      }
+      cases false at = record {
+        values = λ k. over_set fields es n v w k s ∙ sym (value_set_at fields es n w k s);
+        records = λ k. records_written (set_value_at fields es n v) n w k ∙ records_set_at fields es n v k s ∙ sym (records_set_at fields es n w k s);
+        order = λ _. ascending_with_value (set_value_at fields es n v) n w (ascending_set_at fields es n v s);
+      }
 
   -- UNKNOWN RECORDS
 

@@ -22,12 +22,12 @@ use Rattle.prost_reflect.specs.declared.value.Value.TheViews.{roll-DynamicMessag
 use Rattle.prost_reflect.specs.Descriptors.{schema_at, type_at}
 use Rattle.prost_reflect.specs.Items.{IsAscending, item_at}
 use Rattle.prost_reflect.specs.Known.{known_of, is_known, are_siblings}
-use Rattle.prost_reflect.specs.Entries.{value_in, records_in, value_at, records_at, put_value, clear_value, without_values, SameStored, UnknownAdded}
-use Rattle.prost_reflect.specs.Sound.{set_value_at}
-use Rattle.prost_reflect.specs.View.{value_of, content_of, entries_from, payloads_of}
+use Rattle.prost_reflect.specs.Entries.{value_in, records_in, value_at, records_at, put_value, clear_value, without_values, with_value as with_value_at, SameStored, UnknownAdded}
+use Rattle.prost_reflect.specs.Sound.{Sound, set_value_at, prepared}
+use Rattle.prost_reflect.specs.View.{value_of, content_of, entries_from, payloads_of, written_at}
 use Rattle.prost_reflect.specs.Contents.{in_entries, value_set, value_cleared, with_unknown, unknown_added}
 use Rattle.prost_reflect.proofs.EntryChanges.{value_without, records_without, ascending_without_values, ascending_put}
-use Rattle.prost_reflect.proofs.SoundChanges.{value_set_at, records_set_at}
+use Rattle.prost_reflect.proofs.SoundChanges.{value_set_at, records_set_at, ascending_set_at, written_is_set, value_set as value_set_here}
 use Rattle.prost_reflect.proofs.Views.{shown, shown_entry, content_of_message, content_of_roll}
 use Rattle.prost_reflect.proofs.Slots.{slot_in, slot_from, same_slots_same, changed_from}
 
@@ -190,3 +190,34 @@ module _ (m : DynamicMessage) (p : Kept) where
 
   pub message_same : IsAscending m.slots.1 → p.0 ≡ m.slots.0 → SameStored m.slots.1 p.1 → content_of (roll-DynamicMessage (record { slots = p })) ≡ content_of m
   message_same s d same = rolled p ∙ ap (λ d. content_from d p.1) d ∙ content_same m.slots.0 m.slots.1 p.1 s same ∙ sym (content_of_message m)
+
+-- WRITING ACCESS
+
+prepared_value : (fields : List Field) (es : List (ℕ × Entry Value)) (n : ℕ) (default v : Value) → IsAscending es → value_at (prepared fields es n default) n ≡ Some v → v ≡ unwrap_or (value_at es n) default
+prepared_value fields es n default v s h = cases (value_at es n) refl h
+  where
+    one : (x y : Value) → Some x ≡ Some y → y ≡ x
+    one x y e = cc
+
+    cases : (o : Option Value) → value_at es n ≡ o → value_at (cond (is_some o) es (set_value_at fields es n default)) n ≡ Some v → v ≡ unwrap_or o default
+    cases None at h = one default v (sym (value_set_here fields es n default s) ∙ h)
+    cases (Some w) at h = one w v (sym at ∙ h)
+
+unwrapped : (o : Option Value) (default : Value) → value_of (unwrap_or o default) ≡ unwrap_or (option_map value_of o) (value_of default)
+unwrapped None default = refl
+unwrapped (Some v) default = refl
+
+-- the value that is lent
+pub value_lent : (m : DynamicMessage) (n : ℕ) (default v : Value) → IsAscending m.slots.1 → value_at (prepared (known_of m.slots.0) m.slots.1 n default) n ≡ Some v
+    → value_of v ≡ unwrap_or (contents.value_at n (entries_of (content_of m))) (value_of default)
+value_lent m n default v s h =
+    ap value_of (prepared_value (known_of m.slots.0) m.slots.1 n default v s h) ∙ unwrapped (value_at m.slots.1 n) default
+    ∙ ap (λ o. unwrap_or o (value_of default)) (value_of_message m n s)
+
+-- what is left where the lent value was written over
+pub content_written : (m : DynamicMessage) (n : ℕ) (default v : Value) → IsAscending m.slots.1 → Sound (known_of m.slots.0) m.slots.1 → is_known (known_of m.slots.0) n ≡ true → content_of (written_at m n default v) ≡ value_set n (value_of v) (content_of m)
+content_written m n default v s sound known =
+    let fields = known_of m.slots.0 in
+    content_of_message (written_at m n default v)
+    ∙ content_same m.slots.0 (set_value_at fields m.slots.1 n v) (with_value_at (prepared fields m.slots.1 n default) n v) (ascending_set_at fields m.slots.1 n v s) (written_is_set fields m.slots.1 n default v s sound)
+    ∙ content_set m.slots.0 m.slots.1 n v s known ∙ ap (value_set n (value_of v)) (sym (content_of_message m))

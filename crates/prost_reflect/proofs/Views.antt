@@ -2,8 +2,8 @@
 use Rattle.std.proofs.Common.{◌≡◌, ℕ, ℤ, Bool, List, [], ◌∷◌, map, Option, Some, None, refl, ap, sym, ◌∙◌, string_bytes, unwrap_or}
 use Rattle.std.specs.Option.{option_map}
 use Rattle.std.specs.declared.alloc.Global.{Global}
-use Rattle.std.specs.declared.string.String.{String as Text}
-use Rattle.std.specs.declared.vec.Vec.{Vec}
+use Rattle.std.specs.Prelude.{Vec, String as Text}
+use Rattle.std.specs.BTreeMap.{BTreeMap}
 use mathlib.Core.Former.{this}
 use denote.Hole.Carrier as Carrier
 use Rattle.prost_reflect_wire.specs.Scalar as scalars
@@ -20,6 +20,7 @@ use Rattle.prost_reflect.specs.declared.value.Value.TheViews.{out-Value, roll-Va
 use Rattle.prost_reflect.specs.declared.value.Value.TheFolds.{fold-roll-Value, fold-roll-DynamicMessage, fold_out-Value, fold_out-DynamicMessage}
 use Rattle.prost_reflect.specs.declared.message.DynamicMessage.{DynamicMessage}
 use Rattle.prost_reflect.specs.formers.fields.slots.Slots.{entry_former}
+use Rattle.prost_reflect.specs.ContentLaws.{ValueViews}
 use Rattle.prost_reflect.specs.View.{value_step, message_step, value_of, content_of, entries_from, slot_of, pairs_from}
 
 -- A MESSAGE
@@ -57,6 +58,67 @@ pub value_of_bool : (b : Bool) → value_of (values.Bool b) ≡ ScalarValue (sca
 unfolding roll-Value Carrier.roll
 value_of_bool b = fold-roll-Value contents.Value Content value_step message_step (Value-F.Bool b)
 
+pub value_of_i32 : (z : ℤ) → value_of (values.I32 z) ≡ ScalarValue (scalars.I32 z)
+unfolding roll-Value Carrier.roll
+value_of_i32 z = fold-roll-Value contents.Value Content value_step message_step (Value-F.I32 z)
+
+pub value_of_i64 : (z : ℤ) → value_of (values.I64 z) ≡ ScalarValue (scalars.I64 z)
+unfolding roll-Value Carrier.roll
+value_of_i64 z = fold-roll-Value contents.Value Content value_step message_step (Value-F.I64 z)
+
+pub value_of_u32 : (n : ℕ) → value_of (values.U32 n) ≡ ScalarValue (scalars.U32 n)
+unfolding roll-Value Carrier.roll
+value_of_u32 n = fold-roll-Value contents.Value Content value_step message_step (Value-F.U32 n)
+
+pub value_of_u64 : (n : ℕ) → value_of (values.U64 n) ≡ ScalarValue (scalars.U64 n)
+unfolding roll-Value Carrier.roll
+value_of_u64 n = fold-roll-Value contents.Value Content value_step message_step (Value-F.U64 n)
+
+pub value_of_f32 : (n : ℕ) → value_of (values.F32 n) ≡ ScalarValue (scalars.F32 n)
+unfolding roll-Value Carrier.roll
+value_of_f32 n = fold-roll-Value contents.Value Content value_step message_step (Value-F.F32 n)
+
+pub value_of_f64 : (n : ℕ) → value_of (values.F64 n) ≡ ScalarValue (scalars.F64 n)
+unfolding roll-Value Carrier.roll
+value_of_f64 n = fold-roll-Value contents.Value Content value_step message_step (Value-F.F64 n)
+
+pub value_of_enum_number : (z : ℤ) → value_of (values.EnumNumber z) ≡ ScalarValue (scalars.EnumNumber z)
+unfolding roll-Value Carrier.roll
+value_of_enum_number z = fold-roll-Value contents.Value Content value_step message_step (Value-F.EnumNumber z)
+
 pub value_of_string : (text : Text Global) → value_of (values.String text) ≡ ScalarValue (scalars.Text (string_bytes text))
 unfolding roll-Value Carrier.roll
 value_of_string text = fold-roll-Value contents.Value Content value_step message_step (Value-F.String text)
+
+pub value_of_bytes : (bytes : Vec ℕ Global) → value_of (values.Bytes bytes) ≡ ScalarValue (scalars.Bytes bytes.items)
+unfolding roll-Value Carrier.roll
+value_of_bytes bytes = fold-roll-Value contents.Value Content value_step message_step (Value-F.Bytes bytes)
+
+pub value_of_message : (m : DynamicMessage) → value_of (values.Message m) ≡ MessageValue (content_of m)
+unfolding roll-Value Carrier.roll
+value_of_message m = fold-roll-Value contents.Value Content value_step message_step (Value-F.Message m)
+
+pub value_of_list : (vs : Vec Value Global) → value_of (values.List vs) ≡ ListValue (values_from (map value_of vs.items))
+unfolding roll-Value Carrier.roll
+value_of_list vs = fold-roll-Value contents.Value Content value_step message_step (Value-F.List vs)
+
+pub value_of_map : (m : BTreeMap MapKey Value) → value_of (values.Map m) ≡ MapValue (pairs_from (map (λ (e : MapKey × Value). (e.0, value_of e.1)) m.entries))
+unfolding roll-Value Carrier.roll
+value_of_map m = fold-roll-Value contents.Value Content value_step message_step (Value-F.Map m)
+
+pub value_views : ValueViews
+value_views = record {
+  bool = value_of_bool;
+  i32 = value_of_i32;
+  i64 = value_of_i64;
+  u32 = value_of_u32;
+  u64 = value_of_u64;
+  f32 = value_of_f32;
+  f64 = value_of_f64;
+  text = value_of_string;
+  bytes = value_of_bytes;
+  enum_number = value_of_enum_number;
+  message = value_of_message;
+  list = value_of_list;
+  pairs = value_of_map;
+}

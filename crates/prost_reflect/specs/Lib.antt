@@ -11,6 +11,7 @@ pub mod Members
 pub mod Codes
 pub mod View
 pub mod Contents
+pub mod ContentLaws
 pub mod Same
 pub mod SameLaws
 pub mod formers

@@ -4,7 +4,7 @@ use Rattle.std.specs.Cmp.Lexicographic.{pointwise}
 use Rattle.prost_reflect.specs.declared.descriptor.message.MessageDescriptor.{MessageDescriptor}
 use Rattle.prost_reflect.specs.contracts.descriptor.message.MessageDescriptorPartialEq.TheImpl as descriptor_eq
 use Rattle.prost_reflect_wire.specs.declared.unknown.UnknownFieldSet.{UnknownFieldSet}
-use Rattle.prost_reflect_wire.specs.contracts.unknown.UnknownFieldSetPartialEq.TheImpl as unknown_eq
+use Rattle.prost_reflect_wire.specs.contracts.unknown.equality.UnknownFieldSetPartialEq.TheImpl as unknown_eq
 use Rattle.prost_reflect.specs.declared.fields.entry.Entry.{Entry}
 use Rattle.prost_reflect.specs.declared.fields.entry.Entry.TheVariants.{Value, Unknown, Both}
 

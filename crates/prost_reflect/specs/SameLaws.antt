@@ -6,7 +6,7 @@ use mathlib.Core.Path.{refl}
 use Rattle.prost_reflect.specs.declared.descriptor.message.MessageDescriptor.{MessageDescriptor}
 use Rattle.prost_reflect.specs.contracts.descriptor.message.MessageDescriptorPartialEq.TheImpl.Laws as descriptor_laws
 use Rattle.prost_reflect_wire.specs.declared.unknown.UnknownFieldSet.{UnknownFieldSet}
-use Rattle.prost_reflect_wire.specs.contracts.unknown.UnknownFieldSetPartialEq.TheImpl.Laws as unknown_laws
+use Rattle.prost_reflect_wire.specs.contracts.unknown.equality.UnknownFieldSetPartialEq.TheImpl.Laws as unknown_laws
 use Rattle.prost_reflect.specs.declared.fields.entry.Entry.{Entry}
 use Rattle.prost_reflect.specs.declared.fields.entry.Entry.TheVariants.{Value, Unknown, Both}
 use Rattle.prost_reflect.specs.Same.{same_unknown, same_descriptor, same_entry, same_item, same_slots}

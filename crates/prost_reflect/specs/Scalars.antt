@@ -1,10 +1,10 @@
 -- Scalar kinds of the tables, their payloads and values.
-use Rattle.std.specs.Prelude.{◌≡◌, ℕ, true, List, [], Option, Some, None, option_map, option_and_then, IsSomeAnd}
+use Rattle.std.specs.Prelude.{◌≡◌, ℕ, pos, true, false, List, [], Option, Some, None, option_map, option_and_then, IsSomeAnd}
 use Rattle.prost_reflect_wire.specs.declared.key.WireType.{WireType}
 use Rattle.prost_reflect_wire.specs.declared.error.DecodeError.{DecodeError}
 use Rattle.prost_reflect_wire.specs.Record.{Payload, short_plain}
 use Rattle.prost_reflect_wire.specs.Scalar as scalars
-use Rattle.prost_reflect_wire.specs.Scalar.{Scalar, ScalarKind, elem, kind_wire, written}
+use Rattle.prost_reflect_wire.specs.Scalar.{Scalar, ScalarKind, elem, kind_wire, scalar_eq, written}
 use Rattle.prost_reflect_wire.specs.Content.{ScalarValue}
 use Rattle.prost_reflect_wire.specs.Content as content
 use Rattle.prost_reflect_wire.specs.Schema.{ScalarOf, Singular, Field, field_of}
@@ -75,3 +75,31 @@ pub record PlainField (fields : List Field) (n : ℕ) (kind : TableKind) : Type 
   pub form : field.form ≡ Singular
   pub kind_is : field.value_type.kind ≡ ScalarOf scalar_kind
   pub alone : field.oneof ≡ None
+
+-- DEFAULTS
+
+-- Zero, false or empty, of the value's own variant.
+abbrev pub zero_like : Scalar → Scalar
+zero_like (scalars.Boolean b) = scalars.Boolean false
+zero_like (scalars.I32 z) = scalars.I32 (pos 0)
+zero_like (scalars.I64 z) = scalars.I64 (pos 0)
+zero_like (scalars.U32 n) = scalars.U32 0
+zero_like (scalars.U64 n) = scalars.U64 0
+zero_like (scalars.F32 n) = scalars.F32 0
+zero_like (scalars.F64 n) = scalars.F64 0
+zero_like (scalars.Text x) = scalars.Text []
+zero_like (scalars.Bytes x) = scalars.Bytes []
+zero_like (scalars.EnumNumber z) = scalars.EnumNumber (pos 0)
+
+abbrev pub equals : content.Value → Scalar → Bool
+equals (ScalarValue v) w = scalar_eq v w
+equals v w = false
+
+abbrev pub is_zero : content.Value → Bool
+is_zero (ScalarValue v) = scalar_eq v (zero_like v)
+is_zero v = false
+
+-- The value is the default that is written, else zero, false or empty.
+abbrev pub is_default : Option Scalar → content.Value → Bool
+is_default (Some w) v = equals v w
+is_default None v = is_zero v

@@ -5,3 +5,6 @@ pub mod number_map;
 pub mod slots;
 pub mod sorted;
 pub mod stored;
+
+#[cfg(test)]
+mod tests;

@@ -3,6 +3,7 @@
 
 mod descriptor;
 mod fields;
+mod laws;
 mod message;
 mod value;
 

@@ -1,6 +1,6 @@
 //! Messages whose types are known only at run time.
 
-ghost use Rattle.std.specs.Prelude.{◌≡◌, true, OnOk, OnErr, IfOk, option_map, Some};
+ghost use Rattle.std.specs.Prelude.{◌≡◌, true, OnOk, OnErr, IfOk, option_map, unwrap_or};
 ghost use Rattle.std.specs.Borrow.{LendsIfOk, sem};
 ghost use Rattle.std.specs.Option.{option_copied};
 ghost use Rattle.prost_reflect_wire.specs.Unknown.{record_of, records_of};
@@ -12,12 +12,13 @@ ghost use Rattle.prost_reflect.specs.Items.{IsAscending};
 ghost use Rattle.prost_reflect.specs.Known.{known_of, is_known, keeps_unknown};
 ghost use Rattle.prost_reflect.specs.Entries.{records_at};
 ghost use Rattle.prost_reflect.specs.Sound.{IsSound};
+ghost use Rattle.prost_reflect.specs.declared.value.Value.{Value};
 ghost use Rattle.prost_reflect.specs.View.{content_of, value_of, descriptor_of, stored_in, written_at};
 ghost use Rattle.prost_reflect.specs.Contents.{value_set, value_cleared, unknown_added};
 
 mod decode;
+mod encode;
 mod scalar;
-mod write;
 
 use crate::descriptor::MessageDescriptor;
 use crate::fields::entry::Entry;
@@ -116,5 +117,20 @@ impl DynamicMessage {
         ensures err { OnErr result (content_of self.new ≡ content_of self.old) }
     {
         self.slots.add_unknown(number, field)
+    }
+
+    /// The value at the number of a field or an extension, for writing. Where there is none it is first set to `default`.
+    /// A refused growth changes nothing.
+    pub(crate) fn value_mut_or(
+        &mut self,
+        number: u32,
+        default: Value,
+    ) -> Result<&mut Value, AllocError>
+        requires { is_known (known_of (descriptor_of self.old)) number ≡ true }
+        ensures* writes_back { sem 𝓛 (LendsIfOk the_row value.the_row self.entry result (written_at self.old number default) self.old) }
+        ensures value { IfOk result (λ lent. value_of lent.now ≡ unwrap_or (value_at number (entries_of (content_of self.old))) (value_of default)) }
+        ensures content { (v : Value) → content_of (written_at self.old number default v) ≡ value_set number (value_of v) (content_of self.old) }
+    {
+        self.slots.get_mut_or(number, default)
     }
 }

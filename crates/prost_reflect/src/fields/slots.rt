@@ -93,6 +93,7 @@ impl<V: Drop> Slots<V> {
     pub fn get(&self, number: u32) -> Option<&V>
         ensures value { option_copied result ≡ value_at self.now.1 number }
         ensures ascending { IsAscending self.now.1 }
+        ensures sound { IsSound self.now.0 self.now.1 }
     {
         let _ = self.fields.len();
         value_at(&self.fields, number)
@@ -168,6 +169,8 @@ impl<V: Drop> Slots<V> {
         requires { is_known (known_of self.old.0) number ≡ true }
         ensures* writes_back { sem 𝓛 (LendsIfOk (the_row V.row) V.row self.entry result (λ w. (self.old.0, with_value (prepared (known_of self.old.0) self.old.1 number default) number w)) self.old) }
         ensures value { IfOk result (λ v. value_at (prepared (known_of self.old.0) self.old.1 number default) number ≡ Some v.now) }
+        ensures ascending { IsAscending self.old.1 }
+        ensures sound { IsSound self.old.0 self.old.1 }
     {
         if self.get(number).is_none() {
             self.set(number, default)?;

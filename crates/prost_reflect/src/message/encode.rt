@@ -1,9 +1,11 @@
 //! Writing messages, the last byte first, so that a length is written once what it counts is there.
 
+ghost use Rattle.std.specs.Prelude.{◌≡◌};
+
 ghost use Rattle.prost_reflect_wire.specs.Record.{Len, short_plain};
 ghost use Rattle.prost_reflect_wire.specs.Buffer.{bytes_of, Prepended};
 ghost use Rattle.prost_reflect.specs.View.{value_of};
-ghost use Rattle.prost_reflect.specs.Scalars.{plain_kind, TakesScalar, scalar_bytes};
+ghost use Rattle.prost_reflect.specs.Scalars.{plain_kind, TakesScalar, scalar_bytes, is_zero};
 
 use crate::value::Value;
 use prost_reflect_tables::TableKind;
@@ -40,4 +42,20 @@ fn prepend_delimited(buffer: &mut BackBuffer, body: &[u8]) -> Result<(), EncodeE
 {
     buffer.prepend(body)?;
     buffer.prepend_varint(body.len() as u64)
+}
+
+/// Whether a scalar is zero, false or empty.
+fn is_zero(value: &Value) -> bool
+    ensures { result ≡ is_zero (value_of value.now) }
+{
+    match value {
+        Value::Bool(value) => !*value,
+        Value::I32(value) | Value::EnumNumber(value) => *value == 0,
+        Value::I64(value) => *value == 0,
+        Value::U32(value) | Value::F32(value) => *value == 0,
+        Value::U64(value) | Value::F64(value) => *value == 0,
+        Value::String(value) => value.is_empty(),
+        Value::Bytes(value) => value.is_empty(),
+        Value::Message(_) | Value::List(_) | Value::Map(_) => false,
+    }
 }
