@@ -15,3 +15,4 @@ pub mod Stored
 pub mod Merging
 pub mod ContentChanges
 pub mod Described
+pub mod Zeros

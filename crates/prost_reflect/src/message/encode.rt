@@ -1,14 +1,14 @@
 //! Writing messages, the last byte first, so that a length is written once what it counts is there.
 
 ghost use Rattle.std.specs.Prelude.{◌≡◌};
-
 ghost use Rattle.prost_reflect_wire.specs.Record.{Len, short_plain};
 ghost use Rattle.prost_reflect_wire.specs.Buffer.{bytes_of, Prepended};
+ghost use Rattle.prost_reflect_tables.specs.Rows.{written_scalar};
 ghost use Rattle.prost_reflect.specs.View.{value_of};
-ghost use Rattle.prost_reflect.specs.Scalars.{plain_kind, TakesScalar, scalar_bytes, is_zero};
+ghost use Rattle.prost_reflect.specs.Scalars.{plain_kind, TakesScalar, scalar_bytes, is_zero, equals};
 
 use crate::value::Value;
-use prost_reflect_tables::TableKind;
+use prost_reflect_tables::{TableKind, WrittenDefault};
 use prost_reflect_wire::{BackBuffer, EncodeError, sign_extended, zigzag32, zigzag64};
 
 /// Adds the payload of a scalar in front.
@@ -57,5 +57,24 @@ fn is_zero(value: &Value) -> bool
         Value::String(value) => value.is_empty(),
         Value::Bytes(value) => value.is_empty(),
         Value::Message(_) | Value::List(_) | Value::Map(_) => false,
+    }
+}
+
+/// Whether a scalar is the default that a field's definition writes.
+fn equals_written(value: &Value, default: &WrittenDefault) -> bool
+    ensures { result ≡ equals (value_of value.now) (written_scalar default.now) }
+{
+    match (value, default) {
+        (Value::Bool(value), WrittenDefault::Bool(default)) => value == default,
+        (Value::I32(value), WrittenDefault::I32(default)) => value == default,
+        (Value::I64(value), WrittenDefault::I64(default)) => value == default,
+        (Value::U32(value), WrittenDefault::U32(default)) => value == default,
+        (Value::U64(value), WrittenDefault::U64(default)) => value == default,
+        (Value::F32(value), WrittenDefault::F32(default)) => value == default,
+        (Value::F64(value), WrittenDefault::F64(default)) => value == default,
+        (Value::String(value), WrittenDefault::String(default)) => value == default,
+        (Value::Bytes(value), WrittenDefault::Bytes(default)) => value == default,
+        (Value::EnumNumber(value), WrittenDefault::EnumNumber(default)) => value == default,
+        _ => false,
     }
 }
