@@ -16,3 +16,4 @@ pub mod Merging
 pub mod ContentChanges
 pub mod Described
 pub mod Zeros
+pub mod WrittenValues
