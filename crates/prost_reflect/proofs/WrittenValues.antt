@@ -3,7 +3,7 @@ use Rattle.std.proofs.Common.{◌≡◌, ℕ, Bool, true, false, cond, not, ◌&
 use Rattle.prost_reflect_wire.specs.Record.{short_key, short_plain}
 use Rattle.prost_reflect_wire.specs.Scalar as scalars
 use Rattle.prost_reflect_wire.specs.Scalar.{Scalar, ScalarKind, kind_wire, kind_default, scalar_eq, scalar_valid, written}
-use Rattle.prost_reflect_wire.specs.Schema.{Kind, ScalarOf, ValueType, FieldForm, Singular, Field, field_of, is_message}
+use Rattle.prost_reflect_wire.specs.Schema.{Kind, ScalarOf, ValueType, FieldForm, Singular, Field, field_of, is_message, passes}
 use Rattle.prost_reflect_wire.specs.Content.{ScalarValue, MessageValue, ListValue, MapValue, Pairs}
 use Rattle.prost_reflect_wire.specs.Content as contents
 use Rattle.prost_reflect_wire.specs.Typing.{value_valid, kind_takes, is_repeated, pairs_valid}
@@ -21,7 +21,7 @@ use Rattle.prost_reflect.specs.Pools.{pool_rows}
 use Rattle.prost_reflect.specs.Descriptors.{schema_at, type_at}
 use Rattle.prost_reflect.specs.Known.{known_of}
 use Rattle.prost_reflect.specs.Covered.{covered, is_plain}
-use Rattle.prost_reflect.specs.Scalars.{plain_kind, TakesScalar, scalar_bytes, zero_like, is_default}
+use Rattle.prost_reflect.specs.Scalars.{plain_kind, TakesScalar, scalar_record_bytes, zero_like, is_default}
 use Rattle.prost_reflect.proofs.Covering.{OnePlain, covered_field, covered_parts}
 use Rattle.prost_reflect.proofs.PlainKinds.{PlainKind, plain_row}
 
@@ -76,21 +76,17 @@ default_is kind s None p h = ap (scalar_eq s) (sym (zero_of kind s p h))
 
 -- what the writer of a value needs to know, and what it has to write
 pub record PlainWritten (fields : List Field) (n : ℕ) (row : FieldRow) (v : contents.Value) : Type 0 where
-  pub scalar_kind : ScalarKind
-  pub plain : plain_kind row.kind ≡ Some scalar_kind
   pub takes : TakesScalar row.kind v
-  pub bytes : value_bytes fields n v ≡ cond (not row.supports_presence && is_default row.default v) [] (short_key n (kind_wire scalar_kind) ++ scalar_bytes (plain_kind row.kind) v)
+  pub bytes : value_bytes fields n v ≡ cond (not row.supports_presence && is_default row.default v) [] (scalar_record_bytes n (plain_kind row.kind) v)
 
 written_by : (fields : List Field) (n : ℕ) (rows : TableRows) (row : FieldRow) (v : contents.Value) → OnePlain (schema_field rows row) → field_of fields n ≡ Some (schema_field rows row) → value_valid (schema_field rows row) v ≡ true → PlainWritten fields n row v
 written_by fields n rows row v one found valid = record {
-  scalar_kind = kind.scalar;
-  plain = kind.named;
   takes = rw (kind.named, value.is) value.fits;
   bytes = ap (value_bytes fields n) value.is
       ∙ scalar_written fields n (schema_field rows row) kind.scalar value.scalar found one.single kind.is value.fits
       ∙ ap (λ b. cond b [] (short_key n (kind_wire kind.scalar) ++ short_plain (written kind.scalar value.scalar))) same
-      ∙ ap (λ o. cond (not row.supports_presence && is_default row.default (ScalarValue value.scalar)) [] (short_key n (kind_wire kind.scalar) ++ scalar_bytes o (ScalarValue value.scalar))) (sym kind.named)
-      ∙ ap (λ v. cond (not row.supports_presence && is_default row.default v) [] (short_key n (kind_wire kind.scalar) ++ scalar_bytes (plain_kind row.kind) v)) (sym value.is);
+      ∙ ap (λ o. cond (not row.supports_presence && is_default row.default (ScalarValue value.scalar)) [] (scalar_record_bytes n o (ScalarValue value.scalar))) (sym kind.named)
+      ∙ ap (λ v. cond (not row.supports_presence && is_default row.default v) [] (scalar_record_bytes n (plain_kind row.kind) v)) (sym value.is);
 }
   where
     kind : PlainKind row.kind (schema_field rows row).value_type.kind
@@ -112,3 +108,18 @@ written_by fields n rows row v one found valid = record {
 pub value_written : (d : MessageDescriptor) (n : ℕ) (row : FieldRow) (v : contents.Value) → covered (schema_at d) (type_at d) ≡ true → field_of (known_of d) n ≡ Some (schema_field (pool_rows d.pool) row) → value_valid (schema_field (pool_rows d.pool) row) v ≡ true →
     PlainWritten (known_of d) n row v
 value_written d n row v h found valid = written_by (known_of d) n (pool_rows d.pool) row v (covered_parts (schema_field (pool_rows d.pool) row) (covered_field (schema_at d) (type_at d) n (schema_field (pool_rows d.pool) row) h found)) found valid
+
+-- nothing, or the record
+pub left_out : (fields : List Field) (n : ℕ) (row : FieldRow) (v : contents.Value) → PlainWritten fields n row v → (not row.supports_presence && is_default row.default v) ≡ true → value_bytes fields n v ≡ []
+left_out fields n row v w h = w.bytes ∙ ap (λ b. cond b [] (scalar_record_bytes n (plain_kind row.kind) v)) h
+
+pub put_in : (fields : List Field) (n : ℕ) (row : FieldRow) (v : contents.Value) → PlainWritten fields n row v → (not row.supports_presence && is_default row.default v) ≡ false → value_bytes fields n v ≡ scalar_record_bytes n (plain_kind row.kind) v
+put_in fields n row v w h = w.bytes ∙ ap (λ b. cond b [] (scalar_record_bytes n (plain_kind row.kind) v)) h
+
+-- the valid value of a number is that of its field
+pub passing : {A : Type 0} (o : Option A) (x : A) (test : A → Bool) → o ≡ Some x → passes o test ≡ true → test x ≡ true
+passing o x test e h = ap (λ o. passes o test) (sym e) ∙ h
+
+pub row_written : (d : MessageDescriptor) (n : ℕ) (row : FieldRow) (v : contents.Value) → covered (schema_at d) (type_at d) ≡ true → Some (schema_field (pool_rows d.pool) row) ≡ field_of (known_of d) n → passes (field_of (known_of d) n) (λ f. value_valid f v) ≡ true →
+    PlainWritten (known_of d) n row v
+row_written d n row v h found valid = value_written d n row v h (sym found) (passing (field_of (known_of d) n) (schema_field (pool_rows d.pool) row) (λ f. value_valid f v) (sym found) valid)

@@ -1,8 +1,8 @@
 -- Scalar kinds of the tables, their payloads and values.
-use Rattle.std.specs.Prelude.{◌≡◌, ℕ, Bool, pos, true, false, List, [], Option, Some, None, option_map, option_and_then, IsSomeAnd}
+use Rattle.std.specs.Prelude.{◌≡◌, ℕ, Bool, pos, true, false, List, [], ◌++◌, Option, Some, None, option_map, option_and_then, IsSomeAnd}
 use Rattle.prost_reflect_wire.specs.declared.key.WireType.{WireType}
 use Rattle.prost_reflect_wire.specs.declared.error.DecodeError.{DecodeError}
-use Rattle.prost_reflect_wire.specs.Record.{Payload, short_plain}
+use Rattle.prost_reflect_wire.specs.Record.{Payload, short_key, short_plain}
 use Rattle.prost_reflect_wire.specs.Scalar as scalars
 use Rattle.prost_reflect_wire.specs.Scalar.{Scalar, ScalarKind, elem, kind_wire, scalar_eq, written}
 use Rattle.prost_reflect_wire.specs.Content.{ScalarValue}
@@ -65,6 +65,11 @@ TakesScalar kind v = IsSomeAnd (plain_kind kind) (λ k. element_valid (ScalarOf 
 abbrev pub scalar_bytes : Option ScalarKind → content.Value → List ℕ
 scalar_bytes (Some k) (ScalarValue v) = short_plain (written k v)
 scalar_bytes o v = []
+
+-- The bytes of the value's record.
+abbrev pub scalar_record_bytes : ℕ → Option ScalarKind → content.Value → List ℕ
+scalar_record_bytes n (Some k) v = short_key n (kind_wire k) ++ scalar_bytes (Some k) v
+scalar_record_bytes n None v = []
 
 -- The number is that of a field of one plain scalar, which the tables call by this kind.
 pub record PlainField (fields : List Field) (n : ℕ) (kind : TableKind) : Type 0 where
