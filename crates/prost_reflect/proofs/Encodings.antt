@@ -1,5 +1,6 @@
 -- The entries of a message that is encodable can be written, and their bytes are the encoding of its content.
-use Rattle.std.proofs.Common.{◌≡◌, ℕ, Bool, true, false, cond, ◌&&◌, List, [], ◌∷◌, ◌++◌, map, nat_eq, Option, Some, None, refl, sym, ap, ap₂, ◌∙◌, subst, true≢false, unwrap_or}
+use Rattle.std.proofs.Common.{◌≡◌, ℕ, Bool, true, false, cond, ◌&&◌, List, [], ◌∷◌, ◌++◌, map, nat_eq, Option, Some, None, refl, sym, ap, ap₂, ◌∙◌, subst, unwrap_or, append-nil, zero, suc, ◌+◌, ◌-◌, ◌^◌, ◌≤◌, ◌<◌, length, drop, get_or, arith}
+use Rattle.std.proofs.lemmas.List.{length-append}
 use Rattle.std.proofs.lemmas.Bool.{eqb-true}
 use Rattle.std.specs.List.{list_all}
 use Rattle.std.specs.List.Sorted.{IsStrictlySortedBy}
@@ -11,7 +12,9 @@ use Rattle.prost_reflect_wire.specs.Content as contents
 use Rattle.prost_reflect_wire.specs.Content.{Entries, Slot, Stored, Unknown, then_unknowns, then_value, store}
 use Rattle.prost_reflect_wire.specs.Writing.{encoded, entries_records}
 use Rattle.prost_reflect_wire.specs.Typing.{EntryTest, fit_test, value_valid, entries_pass, encodable, kept, kept_entries}
-use Rattle.prost_reflect_wire.specs.Storing.{slot_bytes, stored_bytes}
+use Rattle.prost_reflect_wire.specs.Storing.{slot_bytes, value_bytes}
+use Rattle.prost_reflect_wire.specs.Unknown.{records_of}
+use Rattle.prost_reflect_wire.specs.declared.unknown.UnknownFieldSet.{UnknownFieldSet}
 use Rattle.prost_reflect_wire.proofs.Deeper.{and_both}
 use Rattle.prost_reflect_wire.proofs.WrittenEntries.{written_store}
 use Rattle.prost_reflect.specs.declared.fields.entry.Entry.{Entry}
@@ -103,3 +106,44 @@ writable_entries fields (e ∷ es) h own = (
 
 pub writable_message : (m : DynamicMessage) → encodable (content_of m) ≡ true → IsAscending (stored_in m) → IsSound (descriptor_of m) (stored_in m) → AreWritable (known_of (descriptor_of m)) (stored_in m)
 writable_message m h s sound = writable_entries (known_of (descriptor_of m)) (stored_in m) (ap encodable (sym (content_of_message m)) ∙ h) (own_in (known_of (descriptor_of m)) (stored_in m) s sound.1)
+
+-- ONE ENTRY
+
+pub value_slot : (fields : List Field) (n : ℕ) (e : Entry Value) (v : Value) → e ≡ entries.Value v → slot_bytes fields n (entry_slot e) ≡ value_bytes fields n (value_of v)
+value_slot fields n e v is = ap (λ e. slot_bytes fields n (entry_slot e)) is ∙ append-nil (value_bytes fields n (value_of v))
+
+pub unknown_slot : (fields : List Field) (n : ℕ) (e : Entry Value) (u : UnknownFieldSet) → e ≡ entries.Unknown u → IsWritable fields n e → slot_bytes fields n (entry_slot e) ≡ spelled (records_of u)
+unknown_slot fields n e u is w = ap (λ e. slot_bytes fields n (entry_slot e)) is ∙ ap spelled (own_all n (records_of u) (w.own (records_of u) (ap records_in is)))
+
+pub both_slot : (fields : List Field) (n : ℕ) (e : Entry Value) (v : Value) (u : UnknownFieldSet) → e ≡ entries.Both v u → IsWritable fields n e → slot_bytes fields n (entry_slot e) ≡ value_bytes fields n (value_of v) ++ spelled (records_of u)
+both_slot fields n e v u is w =
+    ap (λ e. slot_bytes fields n (entry_slot e)) is ∙ ap (λ rs. value_bytes fields n (value_of v) ++ spelled rs) (own_all n (records_of u) (w.own (records_of u) (ap records_in is)))
+
+-- ENTRIES FROM THE BACK
+
+pub bytes_cons : (fields : List Field) (items rest : List (ℕ × Entry Value)) (e : ℕ × Entry Value) → items ≡ e ∷ rest → entries_bytes fields items ≡ slot_bytes fields e.0 (entry_slot e.1) ++ entries_bytes fields rest
+bytes_cons fields items rest e is = ap (entries_bytes fields) is
+
+bytes_drop : (fields : List Field) (i : ℕ) (items : List (ℕ × Entry Value)) → length (entries_bytes fields (drop i items)) ≤ length (entries_bytes fields items)
+bytes_drop fields zero items = omega arith
+bytes_drop fields (suc i) [] = omega arith
+bytes_drop fields (suc i) (e ∷ items) = omega (arith, bytes_drop fields i items, length-append (slot_bytes fields e.0 (entry_slot e.1)) (entries_bytes fields items))
+
+-- a length that is too great before the whole is written
+pub too_long_from : (fields : List Field) (items : List (ℕ × Entry Value)) (i : ℕ) (e : ℕ × Entry Value) (old mid : List ℕ) → drop (i - 1) items ≡ e ∷ drop i items → mid ≡ entries_bytes fields (drop i items) ++ old →
+    2 ^ 64 ≤ length (slot_bytes fields e.0 (entry_slot e.1)) + length mid → 2 ^ 64 ≤ length (entries_bytes fields items) + length old
+too_long_from fields items i e old mid cut is h =
+    omega (
+      arith,
+      h,
+      ap length is,
+      length-append (entries_bytes fields (drop i items)) old,
+      ap length (bytes_cons fields (drop (i - 1) items) (drop i items) e cut),
+      length-append (slot_bytes fields e.0 (entry_slot e.1)) (entries_bytes fields (drop i items)),
+      bytes_drop fields (i - 1) items,
+    )
+
+pub writable_at : (fields : List Field) (items : List (ℕ × Entry Value)) (i : ℕ) (e : ℕ × Entry Value) → i < length items → e ≡ get_or items i e → AreWritable fields items → IsWritable fields e.0 e.1
+writable_at fields [] i e l is h = absurd (omega arith)
+writable_at fields (x ∷ items) zero e l is h = subst (λ (x : ℕ × Entry Value). IsWritable fields x.0 x.1) (sym is) h.0
+writable_at fields (x ∷ items) (suc i) e l is h = writable_at fields items i e (omega arith) is h.1
