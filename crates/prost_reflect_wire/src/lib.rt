@@ -7,6 +7,8 @@ pub mod field_laws;
 mod key;
 pub mod laws;
 mod payload;
+#[cfg(test)]
+mod tests;
 mod unknown;
 mod varint;
 
