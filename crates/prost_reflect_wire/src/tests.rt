@@ -4,8 +4,8 @@ use crate::unknown::{UnknownField, UnknownFieldSet, UnknownFieldValue};
 use crate::{
     BackBuffer, DecodeError, EncodeError, FieldNumber, RECURSION_LIMIT, WireType, decode_key,
     decode_varint, delimited_at, field_len, fields_len, fixed32_at, fixed64_at, key_len, low_i32,
-    low_u32, prepend_field, prepend_fields, prepend_fields_at, sign_extended, unzigzag32,
-    unzigzag64, value_at, varint_len, zigzag32, zigzag64,
+    low_u32, prepend_field, prepend_fields, prepend_fields_at, sign_extended, skip_value,
+    unzigzag32, unzigzag64, value_at, varint_len, zigzag32, zigzag64,
 };
 use std::test::Fail;
 
@@ -166,6 +166,8 @@ fn values_behind_a_key(rt: HostRuntime) -> Result<(), Fail> {
     let (value, rest) = value_at(rt.alloc(), FieldNumber::new(5), WireType::Varint, &input, 0)?;
     assert!(rt; value == *field.value());
     assert_eq!(rt; rest, [0x7f].as_slice());
+    let rest = skip_value(FieldNumber::new(3), WireType::StartGroup, &GROUP[1..], 1)?;
+    assert!(rt; rest.is_empty());
     let mut cursor = input.as_slice();
     match UnknownField::decode_value(rt.alloc(), 5, WireType::EndGroup, &mut cursor, 100) {
         Ok(_) => panic!(rt; "an end key has no value"),
