@@ -63,6 +63,14 @@ AllowedFurther = (schema : Schema) (k T : ℕ) (rs : List Record) → allows sch
 abbrev pub MeaningOrdered : Type 0
 MeaningOrdered = (schema : Schema) (k T : ℕ) (rs : List Record) → ordered (meaning schema k T rs) ≡ true
 
+-- What is read is well-typed.
+abbrev pub MeaningTyped : Type 0
+MeaningTyped = (schema : Schema) (k T : ℕ) (rs : List Record) → schema_valid schema ≡ true → valid (body_of rs) ≡ true → allows schema k T rs ≡ true → WellTyped (meaning schema k T rs)
+
+-- What is allowed within so many levels means a content of at most as many.
+abbrev pub MeaningLevels : Type 0
+MeaningLevels = (schema : Schema) (k T : ℕ) (rs : List Record) → schema_valid schema ≡ true → valid (body_of rs) ≡ true → allows schema k T rs ≡ true → levels (meaning schema k T rs) ≤ k
+
 -- CONTENTS OF WHAT IS STORED
 
 -- What is kept of what a well-typed message stores is well-typed.
