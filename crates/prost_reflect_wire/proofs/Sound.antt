@@ -17,7 +17,7 @@ pub bind_ok : {A B : Type 0} (f : A → Option B) (m : Option A) (y : B) → (m 
 bind_ok f None y e = absurd (none_some e)
 bind_ok f (Some x) y e = (x, refl, e)
 
-guard_ok : {A : Type 0} (b : Bool) (x y : A) → guard b x ≡ Some y → (b ≡ true) × (x ≡ y)
+pub guard_ok : {A : Type 0} (b : Bool) (x y : A) → guard b x ≡ Some y → (b ≡ true) × (x ≡ y)
 guard_ok true x y e = (refl, some_inside e)
 guard_ok false x y e = absurd (none_some e)
 

@@ -71,6 +71,21 @@ MeaningTyped = (schema : Schema) (k T : ℕ) (rs : List Record) → schema_valid
 abbrev pub MeaningLevels : Type 0
 MeaningLevels = (schema : Schema) (k T : ℕ) (rs : List Record) → schema_valid schema ≡ true → valid (body_of rs) ≡ true → allows schema k T rs ≡ true → levels (meaning schema k T rs) ≤ k
 
+-- A content behind more records: of the same type, well-typed, and of at most so many levels.
+pub record StaysWell (k : ℕ) (c d : Content) : Type 0 where
+  pub schema_same : schema_of d ≡ schema_of c
+  pub type_same : type_of d ≡ type_of c
+  pub typed : WellTyped d
+  pub low : levels d ≤ k
+
+-- Records that are allowed keep a content so, read behind it
+abbrev pub StepsWell : Type 0
+StepsWell = (k : ℕ) (c : Content) (rs : List Record) → schema_valid (schema_of c) ≡ true → WellTyped c → levels c ≤ k → valid (body_of rs) ≡ true → allows (schema_of c) k (type_of c) rs ≡ true → StaysWell k c (steps k c rs)
+
+-- or merged into it.
+abbrev pub MergedWell : Type 0
+MergedWell = (c : Content) (rs : List Record) → schema_valid (schema_of c) ≡ true → WellTyped c → valid (body_of rs) ≡ true → allows (schema_of c) LEVEL_LIMIT (type_of c) rs ≡ true → StaysWell (max (levels c) LEVEL_LIMIT) c (merged c rs)
+
 -- CONTENTS OF WHAT IS STORED
 
 -- What is kept of what a well-typed message stores is well-typed.
@@ -186,6 +201,10 @@ EncodedSpells = (c : Content) → Writable c → Spells (body_of (records c)) (e
 abbrev pub RoundTrip : Type 0
 RoundTrip = (k : ℕ) (c : Content) → Writable c →
     (Accepts (schema_of c) k (type_of c) (encoded c) ↔ (levels c ≤ k)) × (levels c ≤ k → decoded (schema_of c) k (type_of c) (encoded c) ≡ Some c)
+
+-- Decoding, encoding, decoding and encoding gives the bytes of the first encoding.
+abbrev pub NormalForm : Type 0
+NormalForm = (schema : Schema) (k T : ℕ) (bytes : List ℕ) (c : Content) → AreBytes bytes → schema_valid schema ≡ true → decoded schema k T bytes ≡ Some c → length (encoded c) < 2 ^ 64 → decoded schema k T (encoded c) ≡ Some c
 
 -- Records merged into a content mean what they mean behind its own.
 abbrev pub MergedMeans : Type 0

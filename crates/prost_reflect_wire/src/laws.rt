@@ -12,7 +12,7 @@ ghost use Rattle.prost_reflect_wire.specs.Examples.Contents.{Schemas, Validity, 
 ghost use Rattle.prost_reflect_wire.specs.Examples.Editing.{Merging, OneNumber, Access, Paths};
 ghost use Rattle.prost_reflect_wire.specs.Examples.Reductions.{Reductions, NoReductions, Passing};
 ghost use Rattle.prost_reflect_wire.specs.Examples.Faults.{Faults};
-ghost use Rattle.prost_reflect_wire.specs.Laws.{OneReading, ReadIsSpells, WrittenSpells, AcceptsIsTest, MeaningBySteps, Commute, SameBehind, LevelsFree, AllowedFurther, WrittenIsRead, EntriesMean, ScalarBack, MessageBack, ListBack, PackedBack, MapBack, RecordsMean, EncodedSpells, Canonicity, RecordsAllowed, RoundTrip, MergedMeans, PiecesJoin, ReadIsValid, MeaningOrdered, StrayBack, KeptWell, KeptContent, SetWell, MeaningTyped, MeaningLevels};
+ghost use Rattle.prost_reflect_wire.specs.Laws.{OneReading, ReadIsSpells, WrittenSpells, AcceptsIsTest, MeaningBySteps, Commute, SameBehind, LevelsFree, AllowedFurther, WrittenIsRead, EntriesMean, ScalarBack, MessageBack, ListBack, PackedBack, MapBack, RecordsMean, EncodedSpells, Canonicity, RecordsAllowed, RoundTrip, MergedMeans, PiecesJoin, ReadIsValid, MeaningOrdered, StrayBack, KeptWell, KeptContent, SetWell, MeaningTyped, MeaningLevels, NormalForm};
 
 /// Bytes spell at most one list of records.
 pub fn one_reading()
@@ -248,4 +248,9 @@ pub fn meaning_typed()
 /// What is allowed within so many levels means a content of at most as many.
 pub fn meaning_levels()
     ensures { MeaningLevels }
+{}
+
+/// What was read is written so that it is read as the same.
+pub fn normal_form()
+    ensures { NormalForm }
 {}
