@@ -12,7 +12,7 @@ ghost use Rattle.prost_reflect_wire.specs.Examples.Contents.{Schemas, Validity, 
 ghost use Rattle.prost_reflect_wire.specs.Examples.Editing.{Merging, OneNumber, Access, Paths};
 ghost use Rattle.prost_reflect_wire.specs.Examples.Reductions.{Reductions, NoReductions, Passing};
 ghost use Rattle.prost_reflect_wire.specs.Examples.Faults.{Faults};
-ghost use Rattle.prost_reflect_wire.specs.Laws.{OneReading, ReadIsSpells, WrittenSpells, AcceptsIsTest, MeaningBySteps, Commute, SameBehind, LevelsFree, AllowedFurther, WrittenIsRead, EntriesMean, ScalarBack, MessageBack, ListBack, PackedBack, MapBack, RecordsMean, EncodedSpells, Canonicity, RecordsAllowed, RoundTrip, MergedMeans, PiecesJoin, ReadIsValid, MeaningOrdered, StrayBack, KeptWell, KeptContent, SetWell, MeaningTyped, MeaningLevels, NormalForm};
+ghost use Rattle.prost_reflect_wire.specs.Laws.{OneReading, ReadIsSpells, WrittenSpells, AcceptsIsTest, MeaningBySteps, Commute, SameBehind, LevelsFree, AllowedFurther, WrittenIsRead, EntriesMean, ScalarBack, MessageBack, ListBack, PackedBack, MapBack, RecordsMean, EncodedSpells, Canonicity, RecordsAllowed, RoundTrip, MergedMeans, PiecesJoin, ReadIsValid, MeaningOrdered, StrayBack, KeptWell, KeptContent, SetWell, MeaningTyped, MeaningLevels, NormalForm, StepsWell, MergedWell};
 
 /// Bytes spell at most one list of records.
 pub fn one_reading()
@@ -253,4 +253,14 @@ pub fn meaning_levels()
 /// What was read is written so that it is read as the same.
 pub fn normal_form()
     ensures { NormalForm }
+{}
+
+/// Records that are allowed keep a content well-typed, and of the levels that are left.
+pub fn steps_well()
+    ensures { StepsWell }
+{}
+
+/// What is merged stays well-typed.
+pub fn merged_well()
+    ensures { MergedWell }
 {}
