@@ -42,11 +42,11 @@ known_alone schema fields k at n g e = go (at n).value refl
 
 module _ (schema : Schema) (k : ℕ) (allow : AllowsInside) (inner : MeansInside) (further : JoinsInside) (fields : List Field) (good : GoodInside schema k allow inner further) (all : list_all (field_valid schema) fields ≡ true) (differ : numbers_differ fields ≡ true) where
   -- a payload that is read as a value of the field
-  abbrev source_good : FieldForm → ValueType → Payload → Bool
+  abbrev pub source_good : FieldForm → ValueType → Payload → Bool
   source_good c value_type p = (payload_valid p && source_allowed k allow c value_type p) && NoStray c value_type p
 
   -- the slots behind one record of values
-  abbrev slots_behind : (ℕ → Slot) → List Record → ℕ → Slot
+  abbrev pub slots_behind : (ℕ → Slot) → List Record → ℕ → Slot
   slots_behind at rs n = record { value = value_behind inner further fields n (at n).value rs; unknowns = (at n).unknowns }
 
   none_behind : (at : ℕ → Slot) → GoodSlots schema fields k at → GoodSlots schema fields k (slots_behind at [])
@@ -57,7 +57,7 @@ module _ (schema : Schema) (k : ℕ) (allow : AllowsInside) (inner : MeansInside
       go n (Some f) e = refl
 
   -- what is known of a field that is found
-  given : (at : ℕ → Slot) (n : ℕ) (f : Field) → GoodSlots schema fields k at → field_of fields n ≡ Some f → FieldGiven schema k f (at n).value
+  pub given : (at : ℕ → Slot) (n : ℕ) (f : Field) → GoodSlots schema fields k at → field_of fields n ≡ Some f → FieldGiven schema k f (at n).value
   given at n f g found =
       let checked = checked_field schema f (found_valid schema fields n f all found) in
       record {
@@ -66,7 +66,7 @@ module _ (schema : Schema) (k : ℕ) (allow : AllowsInside) (inner : MeansInside
         old_good = λ v e. subst (λ (o : Option Field). GoodValue schema o k v) found (g.value n v e);
       }
 
-  one_behind : (at : ℕ → Slot) (m : ℕ) (f : Field) (p : Payload) → GoodSlots schema fields k at → field_of fields m ≡ Some f → source_good f.form f.value_type p ≡ true → GoodSlots schema fields k (slots_behind at (record { number = m; payload = p } ∷ []))
+  pub one_behind : (at : ℕ → Slot) (m : ℕ) (f : Field) (p : Payload) → GoodSlots schema fields k at → field_of fields m ≡ Some f → source_good f.form f.value_type p ≡ true → GoodSlots schema fields k (slots_behind at (record { number = m; payload = p } ∷ []))
   one_behind at m f p g found s = record {
     value = λ n v e. value n (field_of fields n) refl v e;
     unknown = g.unknown;
@@ -144,7 +144,7 @@ module _ (schema : Schema) (k : ℕ) (allow : AllowsInside) (inner : MeansInside
       let (c, d) = and_both (u p) (list_all u ps) i in
       both_true (both_true a c) (all_and t u ps b d)
 
-  sources_good : (c : FieldForm) (value_type : ValueType) (p : Payload) → payload_valid p ≡ true → field_allowed k allow c value_type p ≡ true → list_all (source_good c value_type) (value_payloads c value_type p) ≡ true
+  pub sources_good : (c : FieldForm) (value_type : ValueType) (p : Payload) → payload_valid p ≡ true → field_allowed k allow c value_type p ≡ true → list_all (source_good c value_type) (value_payloads c value_type p) ≡ true
   sources_good Singular value_type p v a =
       all_filtered (source_good Singular value_type) (λ q. not (is_stray value_type.kind q)) (λ q. payload_valid q && source_allowed k allow Singular value_type q) (p ∷ []) (λ q s w. both_true w s) (both_true (both_true v a) refl)
   sources_good (Repeated packed) value_type p v a =
@@ -175,7 +175,7 @@ module _ (schema : Schema) (k : ℕ) (allow : AllowsInside) (inner : MeansInside
       new n false e = refl
       new n true e = ap (λ (m : ℕ). list_all (unknown_good (field_of fields m) k m) (unknown_payloads fields r)) (sym (eqb-true r.number n e)) ∙ unknown_stays schema k allow fields r all number v a
 
-  entries_step : (es : Entries) (r : Record) → GoodEntries schema fields k es → number_valid r.number ≡ true → payload_valid r.payload ≡ true → record_allowed k allow fields r ≡ true → GoodEntries schema fields k (changed r.number (slot_step inner further fields r) es)
+  pub entries_step : (es : Entries) (r : Record) → GoodEntries schema fields k es → number_valid r.number ≡ true → payload_valid r.payload ≡ true → record_allowed k allow fields r ≡ true → GoodEntries schema fields k (changed r.number (slot_step inner further fields r) es)
   entries_step es r g number v a =
       table_good schema fields k (λ n. slot_step inner further fields r n (slot_at es n)) (insert_number r.number (numbers_in es)) (insert_ascending r.number 0 (numbers_in es) (entries_ascending es) (omega arith))
       (slots_step (slot_at es) r (slots_good schema fields k es differ g) number v a)
@@ -207,7 +207,7 @@ by_records schema k T allow inner further es (r ∷ rs) good h g v a =
 empty_good : (schema : Schema) (T k : ℕ) → GoodContent k (empty schema T)
 empty_good schema T k = record { deep = refl; types = tt; order = refl; low = omega arith }
 
-no_level : (schema : Schema) → GoodInside schema 0 nothing_inside (empty_inside schema) joins_nothing
+pub no_level : (schema : Schema) → GoodInside schema 0 nothing_inside (empty_inside schema) joins_nothing
 no_level schema = record {
   read = λ T rs v a. absurd (true≢false (sym a));
   join = λ T c rs i v a. absurd (true≢false (sym a));
@@ -225,7 +225,7 @@ nothing_allowed schema (suc k) T = refl
 meaning_by_nothing : (schema : Schema) (k T : ℕ) (rs : List Record) → meaning schema k T rs ≡ steps k (empty schema T) rs
 meaning_by_nothing schema k T rs = meaning_steps schema k T [] rs ∙ ap (λ c. steps k c rs) (meaning_empty schema k T)
 
-one_level : (schema : Schema) (k : ℕ) → schema_valid schema ≡ true → StepsGood k → GoodInside schema (suc k) (allows schema k) (meaning schema k) (steps k)
+pub one_level : (schema : Schema) (k : ℕ) → schema_valid schema ≡ true → StepsGood k → GoodInside schema (suc k) (allows schema k) (meaning schema k) (steps k)
 one_level schema k h step = record {
   read = λ T rs v a. below T (steps k (empty schema T) rs) (meaning schema k T rs) (empty schema T) refl refl (meaning_by_nothing schema k T rs) (step (empty schema T) rs h (empty_good schema T k) v a);
   join = λ T c rs i v a. below T (steps k c rs) (steps k c rs) c i.schema_same i.type_same refl

@@ -289,7 +289,7 @@ single_good schema k f (ListValue vs) s g d = absurd (true≢false (sym g.valid)
 single_good schema k f (MapValue ps) s g d = absurd (true≢false (sym g.valid))
 
 -- the message that is there, or an empty one
-content_good : (schema : Schema) (k T : ℕ) (allow : AllowsInside) (inner : MeansInside) (further : JoinsInside) (f : Field) (old : Option Value) (rs : List Record) → GoodInside schema k allow inner further → f.form ≡ Singular → is_message f.value_type.kind ≡ true →
+pub content_good : (schema : Schema) (k T : ℕ) (allow : AllowsInside) (inner : MeansInside) (further : JoinsInside) (f : Field) (old : Option Value) (rs : List Record) → GoodInside schema k allow inner further → f.form ≡ Singular → is_message f.value_type.kind ≡ true →
     ((U : ℕ) → is_of_type f.value_type.kind U ≡ true → U ≡ T) → ((v : Value) → old ≡ Some v → GoodValue schema (Some f) k v) → allow T rs ≡ true → Inside schema k T (content_in inner T old)
 content_good schema k T allow inner further f None rs g s m t old a = g.read T [] refl (g.none T rs a)
 content_good schema k T allow inner further f (Some (ScalarValue v)) rs g s m t old a = g.read T [] refl (g.none T rs a)

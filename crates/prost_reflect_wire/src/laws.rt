@@ -12,7 +12,7 @@ ghost use Rattle.prost_reflect_wire.specs.Examples.Contents.{Schemas, Validity, 
 ghost use Rattle.prost_reflect_wire.specs.Examples.Editing.{Merging, OneNumber, Access, Paths};
 ghost use Rattle.prost_reflect_wire.specs.Examples.Reductions.{Reductions, NoReductions, Passing};
 ghost use Rattle.prost_reflect_wire.specs.Examples.Faults.{Faults};
-ghost use Rattle.prost_reflect_wire.specs.Laws.{OneReading, ReadIsSpells, WrittenSpells, AcceptsIsTest, MeaningBySteps, Commute, SameBehind, LevelsFree, AllowedFurther, WrittenIsRead, EntriesMean, ScalarBack, MessageBack, ListBack, PackedBack, MapBack, RecordsMean, EncodedSpells, Canonicity, RecordsAllowed, RoundTrip, MergedMeans, PiecesJoin, ReadIsValid, MeaningOrdered, StrayBack, KeptWell, KeptContent, SetWell, MeaningTyped, MeaningLevels, NormalForm, StepsWell, MergedWell};
+ghost use Rattle.prost_reflect_wire.specs.Laws.{OneReading, ReadIsSpells, WrittenSpells, AcceptsIsTest, MeaningBySteps, Commute, SameBehind, LevelsFree, AllowedFurther, WrittenIsRead, EntriesMean, ScalarBack, MessageBack, ListBack, PackedBack, MapBack, RecordsMean, EncodedSpells, Canonicity, RecordsAllowed, RoundTrip, MergedMeans, PiecesJoin, ReadIsValid, MeaningOrdered, StrayBack, KeptWell, KeptContent, SetWell, MeaningTyped, MeaningLevels, NormalForm, StepsWell, MergedWell, StepsFree, Pieces};
 
 /// Bytes spell at most one list of records.
 pub fn one_reading()
@@ -263,4 +263,14 @@ pub fn steps_well()
 /// What is merged stays well-typed.
 pub fn merged_well()
     ensures { MergedWell }
+{}
+
+/// More levels change nothing of what allowed records make of a content.
+pub fn steps_free()
+    ensures { StepsFree }
+{}
+
+/// Records merged into what others mean are read behind them, at any depth.
+pub fn pieces()
+    ensures { Pieces }
 {}
