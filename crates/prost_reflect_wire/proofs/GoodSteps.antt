@@ -1,13 +1,13 @@
 -- Records that are allowed keep a content well-typed and within the levels that are left.
-use Rattle.std.proofs.Common.{◌≡◌, ℕ, zero, suc, ◌≤◌, ◌<◌, Bool, true, false, cond, not, ◌&&◌, List, [], ◌∷◌, ◌++◌, map, filter, nat_eq, nat_le, Option, Some, None, refl, ap, ap₂, sym, ◌∙◌, subst, arith, true≢false}
+use Rattle.std.proofs.Common.{◌≡◌, ℕ, zero, suc, ◌≤◌, Bool, true, false, cond, not, ◌&&◌, List, [], ◌∷◌, map, nat_eq, nat_le, Option, Some, None, refl, ap, ap₂, sym, ◌∙◌, subst, arith, true≢false}
 use Rattle.std.specs.List.{list_all}
-use Rattle.std.proofs.lemmas.Bool.{eqb-true, eq-eqb, lt-ltb}
+use Rattle.std.proofs.lemmas.Bool.{eqb-true}
 use Rattle.prost_reflect_wire.specs.Varint.{◌>>=◌}
 use Rattle.prost_reflect_wire.specs.Record.{Payload, Record, body_of, number_valid, valid, payload_valid, payload_levels}
-use Rattle.prost_reflect_wire.specs.Schema.{Kind, ValueType, FieldForm, Singular, Repeated, MapFrom, Field, Schema, known, field_of, is_sibling, numbers_differ, field_valid, schema_valid, passes}
-use Rattle.prost_reflect_wire.specs.Content.{Content, ContentOf, Entries, NoEntries, Value, Slot, schema_of, type_of, empty, slot_at, changed, insert_number, numbers_in}
+use Rattle.prost_reflect_wire.specs.Schema.{ValueType, FieldForm, Singular, Repeated, MapFrom, Field, Schema, known, field_of, is_sibling, numbers_differ, field_valid, schema_valid, passes}
+use Rattle.prost_reflect_wire.specs.Content.{Content, ContentOf, Entries, Value, Slot, schema_of, type_of, empty, slot_at, changed, insert_number, numbers_in}
 use Rattle.prost_reflect_wire.specs.Grammar.{AllowsInside, field_allowed, record_allowed, nothing_inside, allows, element_payloads_in, is_stray, is_stray_entry, value_payloads, value_records, unknown_payloads}
-use Rattle.prost_reflect_wire.specs.Meaning.{MeansInside, JoinsInside, value_step, value_steps, value_behind, value_joined, slot_step, step_by, steps_by, empty_inside, joins_nothing, meaning, steps}
+use Rattle.prost_reflect_wire.specs.Meaning.{MeansInside, JoinsInside, value_step, value_steps, value_behind, value_joined, slot_step, steps_by, empty_inside, joins_nothing, meaning, steps}
 use Rattle.prost_reflect_wire.specs.Levels.{levels}
 use Rattle.prost_reflect_wire.specs.Typing.{value_valid, WellTyped}
 use Rattle.prost_reflect_wire.specs.Laws.{block}

@@ -1,7 +1,7 @@
 -- What was read and is written is read as the same; what is merged stays well-typed.
-use Rattle.std.proofs.Common.{◌≡◌, ℕ, zero, suc, ◌≤◌, ◌<◌, ◌^◌, true, Bool, List, length, Option, Some, None, refl, ap, ap₂, sym, ◌∙◌, subst, arith}
+use Rattle.std.proofs.Common.{◌≡◌, ℕ, zero, suc, ◌≤◌, ◌<◌, ◌^◌, true, List, length, Some, refl, ap, ap₂, sym, ◌∙◌, subst, arith}
 use Rattle.std.specs.Prelude.{max}
-use Rattle.prost_reflect_wire.specs.Varint.{AreBytes, guard, ◌>>=◌}
+use Rattle.prost_reflect_wire.specs.Varint.{AreBytes, guard}
 use Rattle.prost_reflect_wire.specs.Record.{Records, Record, items, body_of, read, valid}
 use Rattle.prost_reflect_wire.specs.Schema.{Schema, schema_valid}
 use Rattle.prost_reflect_wire.specs.Content.{Content, schema_of, type_of}
@@ -11,12 +11,12 @@ use Rattle.prost_reflect_wire.specs.Writing.{encoded}
 use Rattle.prost_reflect_wire.specs.Levels.{levels}
 use Rattle.prost_reflect_wire.specs.Typing.{WellTyped}
 use Rattle.prost_reflect_wire.specs.Edit.{merged}
-use Rattle.prost_reflect_wire.specs.Laws.{Writable, StaysWell}
+use Rattle.prost_reflect_wire.specs.Laws.{StaysWell}
 use Rattle.prost_reflect_wire.proofs.Sound.{bind_ok, guard_ok, read_spells}
 use Rattle.prost_reflect_wire.proofs.Pieces.{allowed_within}
 use Rattle.prost_reflect_wire.proofs.Readable.{spelled_valid, body_items}
 use Rattle.prost_reflect_wire.proofs.RoundTrip.{written_decoded}
-use Rattle.prost_reflect_wire.proofs.Slots.{GoodContent, well_good, good_well}
+use Rattle.prost_reflect_wire.proofs.Slots.{well_good, good_well}
 use Rattle.prost_reflect_wire.proofs.GoodSteps.{Stepped, steps_good, meaning_typed, meaning_levels}
 
 -- the records behind what was decoded

@@ -1,15 +1,14 @@
 -- Records that are read of bytes have a spelling, and so have those in a payload that has one.
-use Rattle.std.proofs.Common.{◌≡◌, ℕ, zero, suc, ◌^◌, ◌<◌, Bool, true, false, not, cond, ◌&&◌, List, [], ◌∷◌, ◌++◌, map, filter, length, nat_eq, nat_lt, Option, Some, None, refl, ap, sym, ◌∙◌, subst, arith, true≢false}
+use Rattle.std.proofs.Common.{◌≡◌, ℕ, zero, suc, ◌^◌, Bool, true, false, cond, ◌&&◌, List, [], ◌∷◌, ◌++◌, map, filter, length, nat_eq, nat_lt, Option, Some, None, refl, ap, sym, ◌∙◌, subst}
 use Rattle.std.specs.List.{list_all}
 use Rattle.std.proofs.lemmas.Bool.{lt-ltb, ltb-true, eq-eqb}
 use Rattle.prost_reflect_wire.specs.Varint.{AreBytes, are_bytes, ◌>>=◌}
 use Rattle.prost_reflect_wire.specs.Record.{Plain, Var, Fix64, Len, Fix32, Records, NoRecords, PlainRecord, GroupRecord, Payload, Flat, Group, Record, items, before, body_of, Key, SpellsPlain, Spells, plain_at, read, number_valid, plain_valid, valid, payload_valid}
-use Rattle.prost_reflect_wire.specs.Scalar.{ScalarKind, kind_wire}
-use Rattle.prost_reflect_wire.specs.Schema.{Kind, ScalarOf, MessageOf, GroupOf, ValueType, FieldForm, Singular, Repeated, MapFrom, is_packable}
-use Rattle.prost_reflect_wire.specs.Grammar.{or_none, plains_within, unpacked, body, records_in, element_payloads_in, numbered, has_number, payloads, value_payloads, stray_payloads, is_stray, is_stray_entry}
+use Rattle.prost_reflect_wire.specs.Scalar.{kind_wire}
+use Rattle.prost_reflect_wire.specs.Schema.{Kind, ScalarOf, MessageOf, GroupOf, is_packable}
+use Rattle.prost_reflect_wire.specs.Grammar.{or_none, plains_within, unpacked, body, records_in, element_payloads_in, numbered, has_number, payloads}
 use Rattle.prost_reflect_wire.specs.declared.key.WireType.{WireType}
-use Rattle.prost_reflect_wire.specs.declared.key.WireType.TheVariants as wires
-use Rattle.prost_reflect_wire.proofs.Deeper.{and_both, both_true, all_filter}
+use Rattle.prost_reflect_wire.proofs.Deeper.{and_both, both_true}
 use Rattle.prost_reflect_wire.proofs.Sound.{Front, plain_sound, bytes_after, bind_ok, some_inside, none_some, read_spells}
 use Rattle.prost_reflect_wire.proofs.Means.{first_valid}
 

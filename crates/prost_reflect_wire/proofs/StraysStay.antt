@@ -1,8 +1,7 @@
 -- What stays unknown of records that are allowed stays so where it is read again, with no more levels.
 use Rattle.std.proofs.Common.{◌≡◌, ℕ, ◌≤◌, Bool, true, false, cond, ◌&&◌, List, [], ◌∷◌, filter, nat_eq, nat_le, Option, Some, None, refl, ap, sym, ◌∙◌, arith, true≢false}
 use Rattle.std.specs.List.{list_all}
-use Rattle.std.specs.Prelude.{max}
-use Rattle.std.proofs.lemmas.Bool.{le-leb, leb-true}
+use Rattle.std.proofs.lemmas.Bool.{le-leb}
 use Rattle.prost_reflect_wire.specs.Record.{Payload, Record, payload_levels, number_valid, payload_valid}
 use Rattle.prost_reflect_wire.specs.Scalar.{ScalarKind}
 use Rattle.prost_reflect_wire.specs.Schema.{Kind, ScalarOf, MessageOf, GroupOf, ValueType, FieldForm, Singular, Repeated, MapFrom, Field, Schema, field_of, is_key_kind, field_valid, passes}
