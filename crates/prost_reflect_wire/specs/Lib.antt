@@ -17,6 +17,4 @@ pub mod Edit
 pub mod Fault
 pub mod FieldLaws
 pub mod Laws
-pub mod ExampleSchemas
-pub mod ExampleRows
-pub mod ExampleFaults
+pub mod Examples
