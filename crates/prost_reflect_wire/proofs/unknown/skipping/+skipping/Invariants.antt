@@ -1,4 +1,4 @@
-use Rattle.std.proofs.Common.{◌+◌, ◌*◌, ◌<◌, length}
+use Rattle.std.proofs.Common.{◌+◌, ◌*◌, length}
 use Rattle.prost_reflect_wire.proofs.SkippedValues.{Skipped}
 use Rattle.prost_reflect_wire.proofs.unknown.skipping.+skipping.Given as goal
 
