@@ -13,7 +13,7 @@ some_inside {x} e = ap (λ o. elim o [ None ↦ x | Some z ↦ z ]) e
 none_some : {A : Type 0} {y : A} → None ≡ Some y → ⊥
 none_some e = true≢false (ap (λ o. elim o [ None ↦ true | Some z ↦ false ]) e)
 
-bind_ok : {A B : Type 0} (f : A → Option B) (m : Option A) (y : B) → (m >>= f) ≡ Some y → (x : A) × (m ≡ Some x) × (f x ≡ Some y)
+pub bind_ok : {A B : Type 0} (f : A → Option B) (m : Option A) (y : B) → (m >>= f) ≡ Some y → (x : A) × (m ≡ Some x) × (f x ≡ Some y)
 bind_ok f None y e = absurd (none_some e)
 bind_ok f (Some x) y e = (x, refl, e)
 

@@ -1,9 +1,7 @@
 -- Which faults stand in bytes, at which places (what the encoding guide's rules on varints, keys, payloads, groups and text leave no reading for).
-use Rattle.std.specs.Prelude.{◌≡◌, ◌≢◌, ℕ, suc, ◌+◌, ◌*◌, ◌^◌, ◌<◌, ◌≤◌, ◌⊎◌, Bool, true, false, ◌&&◌, ◌||◌, nat_eq, List, [], ◌∷◌, ◌++◌, length, Option, Some, None, if◌then◌else◌}
-use Rattle.std.specs.List.{AllByRecursion}
+use Rattle.std.specs.Prelude.{◌≡◌, ◌≢◌, ℕ, suc, ◌⊎◌, Bool, true, false, ◌&&◌, ◌||◌, nat_eq, List, [], ◌∷◌, ◌++◌, Option, Some, None, if◌then◌else◌}
 use Rattle.std.specs.Str.{is_utf8}
-use Rattle.prost_reflect_wire.specs.Varint.{Varint}
-use Rattle.prost_reflect_wire.specs.Record.{Plain, Len, NoRecords, Record, before, Key, Spells, SpellsPlain, wire_code, plain_wire, short_key}
+use Rattle.prost_reflect_wire.specs.Record.{Plain, Record, wire_code, plain_wire, short_key}
 use Rattle.prost_reflect_wire.specs.Scalar.{ScalarKind, StringKind, kind_wire}
 use Rattle.prost_reflect_wire.specs.Schema.{Kind, ScalarOf, MessageOf, GroupOf, ValueType, FieldForm, Singular, Repeated, MapFrom, Field, Schema, known, field_of, is_packable, is_message}
 use Rattle.prost_reflect_wire.specs.Grammar.{has_level}
@@ -11,6 +9,7 @@ use Rattle.prost_reflect_wire.specs.declared.key.WireType.{WireType}
 use Rattle.prost_reflect_wire.specs.declared.key.WireType.TheVariants as wires
 use Rattle.prost_reflect_wire.specs.declared.error.DecodeError.{DecodeError}
 use Rattle.prost_reflect_wire.specs.declared.error.DecodeError.TheVariants as errors
+pub use Rattle.prost_reflect_wire.specs.Front.{KeyFront, PlainFront, DelimitedFront, RecordFront, VarintEnds, VarintPasses, NoKey, PayloadEnds, PayloadPasses, PlainFault}
 
 -- What is known in a body: a type's numbers, an entry's key and value, or nothing.
 pub data Inside : Type 0 where
@@ -66,76 +65,7 @@ abbrev pub opens_level : Option Field → WireType → Bool
 opens_level None w = same_wire w wires.StartGroup
 opens_level (Some f) w = needs_level f.form f.value_type.kind w
 
--- BYTES THAT END OR PASS
-
-abbrev pub AreOpen : List ℕ → Type 0
-AreOpen bytes = AllByRecursion (λ b. 128 ≤ b) bytes
-
--- The bytes end inside a varint.
-pub record VarintEnds (bytes : List ℕ) : Type 0 where
-  pub few : length bytes < 10
-  pub unended : AreOpen bytes
-
--- Nine bytes with the top bit set, and a tenth above 1.
-pub record VarintPasses (bytes : List ℕ) : Type 0 where
-  pub nine : List ℕ
-  pub tenth : ℕ
-  pub rest : List ℕ
-  pub parts : bytes ≡ nine ++ (tenth ∷ rest)
-  pub count : length nine ≡ 9
-  pub unended : AreOpen nine
-  pub above : 1 < tenth
-
--- A varint at the front, and what follows it.
-pub record VarintFront (value : ℕ) (bytes rest : List ℕ) : Type 0 where
-  pub front : List ℕ
-  pub varint : Varint value front
-  pub parts : bytes ≡ front ++ rest
-
--- A key at the front.
-pub record KeyFront (n : ℕ) (w : WireType) (bytes rest : List ℕ) : Type 0 where
-  pub front : List ℕ
-  pub key : Key n w front
-  pub parts : bytes ≡ front ++ rest
-
--- A delimited payload at the front.
-pub record DelimitedFront (body bytes rest : List ℕ) : Type 0 where
-  pub front : List ℕ
-  pub spelled : SpellsPlain (Len body) front
-  pub parts : bytes ≡ front ++ rest
-
--- One record at the front.
-pub record RecordFront (r : Record) (bytes rest : List ℕ) : Type 0 where
-  pub front : List ℕ
-  pub spelled : Spells (before r NoRecords) front
-  pub parts : bytes ≡ front ++ rest
-
--- A plain payload at the front.
-pub record PlainFront (p : Plain) (bytes rest : List ℕ) : Type 0 where
-  pub front : List ℕ
-  pub spelled : SpellsPlain p front
-  pub parts : bytes ≡ front ++ rest
-
--- A length that passes the end.
-pub record LengthPasses (bytes : List ℕ) : Type 0 where
-  pub size : ℕ
-  pub rest : List ℕ
-  pub front : VarintFront size bytes rest
-  pub short : length rest < size
-
--- The bytes end inside a payload of the wire type, or its length passes their end; a group's inside is a place of its own.
-abbrev pub PayloadEnds : WireType → List ℕ → Type 0
-PayloadEnds wires.Varint bytes = VarintEnds bytes
-PayloadEnds wires.SixtyFourBit bytes = length bytes < 8
-PayloadEnds wires.LengthDelimited bytes = VarintEnds bytes ⊎ LengthPasses bytes
-PayloadEnds wires.StartGroup bytes = ⊥
-PayloadEnds wires.EndGroup bytes = ⊥
-PayloadEnds wires.ThirtyTwoBit bytes = length bytes < 4
-
-abbrev pub PayloadPasses : WireType → List ℕ → Type 0
-PayloadPasses wires.Varint bytes = VarintPasses bytes
-PayloadPasses wires.LengthDelimited bytes = VarintPasses bytes
-PayloadPasses w bytes = ⊥
+-- WHAT COMES NEXT
 
 -- A key comes next, and then this.
 pub record Next (place : Place) (Then : ℕ → WireType → List ℕ → Type 0) : Type 0 where
@@ -171,13 +101,6 @@ TextNext f w rest = (w ≡ wires.LengthDelimited) × (is_map f.form ≡ false) �
 abbrev pub PackedNext : DecodeError → Field → WireType → List ℕ → Type 0
 PackedNext e f w rest = (w ≡ wires.LengthDelimited) × ((packed : Bool) × (f.form ≡ Repeated packed))
     × ((kind : ScalarKind) × (f.value_type.kind ≡ ScalarOf kind) × (is_packable kind ≡ true) × ((body after : List ℕ) × DelimitedFront body rest after × ElementFault (kind_wire kind) e body))
-
--- A varint that is no key.
-pub record NoKey (bytes : List ℕ) : Type 0 where
-  pub value : ℕ
-  pub rest : List ℕ
-  pub front : VarintFront value bytes rest
-  pub none : (n : ℕ) (w : WireType) → 0 < n → n < 2 ^ 29 → value ≢ 8 * n + wire_code w
 
 abbrev pub Comes : Schema → DecodeError → Place → Type 0
 Comes schema errors.Truncated place = ((place.bytes ≢ []) × VarintEnds place.bytes) ⊎ (((place.bytes ≡ []) × (place.open_group ≢ None)) ⊎ (Next place (λ n w rest. PayloadEnds w rest) ⊎ NextField schema place (PackedNext errors.Truncated)))
@@ -220,21 +143,29 @@ pub data Stands (schema : Schema) : DecodeError → Place → Type 0 where
 abbrev pub StandsInMessage : Schema → ℕ → ℕ → DecodeError → List ℕ → Type 0
 StandsInMessage schema T k e bytes = Stands schema e (record { bytes = bytes; inside = OfType T; levels = k; open_group = None })
 
+-- In the unknown group that a start key of the number opens, with so many levels left before it.
+pub record InsideGroup (e : DecodeError) (n levels : ℕ) (bytes : List ℕ) : Type 0 where
+  pub inner : ℕ
+  pub left : levels ≡ suc inner
+  pub stands : Stands [] e (record { bytes = bytes; inside = OfNothing; levels = inner; open_group = Some n })
+
 -- Where one unknown field is read: no place is behind it, and without a byte the field is cut short.
 abbrev pub FieldPlace : ℕ → List ℕ → Place
-FieldPlace k bytes = record { bytes = bytes; inside = OfNothing; levels = k; open_group = None }
-
-pub record GroupFault (e : DecodeError) (k : ℕ) (bytes : List ℕ) : Type 0 where
-  pub number : ℕ
-  pub inner : ℕ
-  pub rest : List ℕ
-  pub key : KeyFront number wires.StartGroup bytes rest
-  pub left : k ≡ suc inner
-  pub stands : Stands [] e (record { bytes = rest; inside = OfNothing; levels = inner; open_group = Some number })
+FieldPlace levels bytes = record { bytes = bytes; inside = OfNothing; levels = levels; open_group = None }
 
 abbrev pub StandsInField : ℕ → DecodeError → List ℕ → Type 0
-StandsInField k e bytes = Comes [] e (FieldPlace k bytes) ⊎ (((e ≡ errors.Truncated) × (bytes ≡ [])) ⊎ GroupFault e k bytes)
+StandsInField levels e bytes = Comes [] e (FieldPlace levels bytes)
+    ⊎ (((e ≡ errors.Truncated) × (bytes ≡ [])) ⊎ Next (FieldPlace levels bytes) (λ n w rest. (w ≡ wires.StartGroup) × InsideGroup e n levels rest))
 
 -- Where the value behind a key is read: as if the key stood first.
 abbrev pub StandsInValue : ℕ → ℕ → WireType → DecodeError → List ℕ → Type 0
-StandsInValue k n w e bytes = StandsInField k e (short_key n w ++ bytes)
+StandsInValue levels n w e bytes = StandsInField levels e (short_key n w ++ bytes)
+
+-- The same by what comes next behind the key, whichever place the key stands at.
+abbrev pub ValueComes : DecodeError → WireType → ℕ → List ℕ → Type 0
+ValueComes errors.EndGroup w levels bytes = w ≡ wires.EndGroup
+ValueComes errors.Depth w levels bytes = (w ≡ wires.StartGroup) × (levels ≡ 0)
+ValueComes e w levels bytes = PlainFault e w bytes
+
+abbrev pub ValueFault : DecodeError → ℕ → WireType → ℕ → List ℕ → Type 0
+ValueFault e n w levels bytes = ValueComes e w levels bytes ⊎ ((w ≡ wires.StartGroup) × InsideGroup e n levels bytes)

@@ -1,6 +1,9 @@
 pub mod Varint
 pub mod Record
+pub mod Front
+pub mod Buffer
 pub mod Unknown
+pub mod Equality
 pub mod Scalar
 pub mod Schema
 pub mod Content
@@ -12,5 +15,6 @@ pub mod Typing
 pub mod Reduction
 pub mod Edit
 pub mod Fault
+pub mod FieldLaws
 pub mod Laws
 pub mod Examples
