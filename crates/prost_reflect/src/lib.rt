@@ -10,4 +10,10 @@ mod value;
 pub use descriptor::{
     DescriptorPool, EnumDescriptor, FieldDescriptor, Kind, MessageDescriptor, builtin_pool,
 };
+pub use message::DynamicMessage;
 pub use prost_reflect_tables::Cardinality;
+pub use prost_reflect_wire::{
+    DecodeError, EncodeError, RECURSION_LIMIT, UnknownField, UnknownFieldSet, UnknownFieldValue,
+    WireType,
+};
+pub use value::{MapKey, Value};

@@ -6,11 +6,12 @@ use Rattle.prost_reflect_wire.specs.Record.{body_of}
 use Rattle.prost_reflect_wire.specs.Front.{KeyFront, KeyFault, RecordsFront}
 use Rattle.prost_reflect_wire.specs.Schema.{Schema}
 use Rattle.prost_reflect_wire.specs.Content.{Content, empty, schema_of, type_of}
+use Rattle.prost_reflect_wire.specs.Grammar.{Accepts}
 use Rattle.prost_reflect_wire.specs.Meaning.{decoded}
 use Rattle.prost_reflect_wire.specs.Typing.{kept, WellStored}
 use Rattle.prost_reflect_wire.specs.Fault.{OfType, StandsInMessage}
 use Rattle.prost_reflect_wire.specs.Decoding.{ReadTo, Holds, Progress, Step, StandsBehindKey}
-use Rattle.prost_reflect_wire.proofs.Readings.{read_nothing, read_record, read_decoded}
+use Rattle.prost_reflect_wire.proofs.Readings.{read_nothing, read_record, read_decoded, read_accepts}
 use Rattle.prost_reflect_wire.proofs.MessageFaults.{stands_behind}
 use Rattle.prost_reflect_wire.proofs.PlaceFaults.{key_stands}
 
@@ -43,3 +44,6 @@ progress_no_record levels n w old mid e bytes rest after done key f =
 -- all was read into an empty message
 pub progress_decoded : (schema : Schema) (levels T : ℕ) (new : Content) (bytes : List ℕ) → Progress levels (empty schema T) new bytes [] → decoded schema levels T bytes ≡ Some (kept new)
 progress_decoded schema levels T new bytes done = read_decoded schema levels T new bytes done.read
+
+pub progress_accepts : (schema : Schema) (levels T : ℕ) (new : Content) (bytes : List ℕ) → Progress levels (empty schema T) new bytes [] → Accepts schema levels T bytes
+progress_accepts schema levels T new bytes done = read_accepts schema levels T new bytes done.read

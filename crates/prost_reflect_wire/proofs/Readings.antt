@@ -7,7 +7,7 @@ use Rattle.prost_reflect_wire.specs.declared.key.WireType.{WireType}
 use Rattle.prost_reflect_wire.specs.Front.{KeyFront, ValueFront, RecordsFront, RecordFront}
 use Rattle.prost_reflect_wire.specs.Schema.{Schema, known}
 use Rattle.prost_reflect_wire.specs.Content.{Content, ContentOf, empty, schema_of, type_of}
-use Rattle.prost_reflect_wire.specs.Grammar.{allows, record_allowed}
+use Rattle.prost_reflect_wire.specs.Grammar.{Accepts, allows, record_allowed}
 use Rattle.prost_reflect_wire.specs.Meaning.{MeansInside, JoinsInside, meaning, decoded, step_by, steps_by, steps}
 use Rattle.prost_reflect_wire.specs.Writing.{record_at}
 use Rattle.prost_reflect_wire.specs.Typing.{kept}
@@ -92,13 +92,21 @@ read_record k n w old mid new bytes rest after end done key next schema type = r
 
     value : ValueFront n w k next.payload after end
     value = next.value
+-- all bytes are spelled by the records that were read
+whole_spelled : (levels : ℕ) (old new : Content) (bytes : List ℕ) → (done : ReadTo levels old new bytes []) → Spells (body_of done.records) bytes
+whole_spelled levels old new bytes done = let f : RecordsFront (body_of done.records) bytes [] = done.front in subst (Spells (body_of done.records)) (sym (f.parts ∙ append-nil f.front)) f.spelled
+
 -- a whole message, read into nothing
 pub read_decoded : (schema : Schema) (k T : ℕ) (new : Content) (bytes : List ℕ) → ReadTo k (empty schema T) new bytes [] → decoded schema k T bytes ≡ Some (kept new)
 read_decoded schema k T new bytes done =
-    ap (λ (o : Option Records). o >>= λ rs. guard (allows schema k T (items rs)) (meaning schema k T (items rs))) (spelled_read (body_of done.records) bytes whole)
+    ap (λ (o : Option Records). o >>= λ rs. guard (allows schema k T (items rs)) (meaning schema k T (items rs))) (spelled_read (body_of done.records) bytes (whole_spelled k (empty schema T) new bytes done))
     ∙ ap (λ rs. guard (allows schema k T rs) (meaning schema k T rs)) (items_body done.records)
     ∙ ap (λ b. guard b (meaning schema k T done.records)) done.allowed
     ∙ ap Some (meaning_steps schema k T [] done.records ∙ ap (λ c. steps k c done.records) (meaning_empty schema k T) ∙ sym done.means)
-  where
-    whole : Spells (body_of done.records) bytes
-    whole = let f : RecordsFront (body_of done.records) bytes [] = done.front in subst (Spells (body_of done.records)) (sym (f.parts ∙ append-nil f.front)) f.spelled
+
+pub read_accepts : (schema : Schema) (k T : ℕ) (new : Content) (bytes : List ℕ) → ReadTo k (empty schema T) new bytes [] → Accepts schema k T bytes
+read_accepts schema k T new bytes done = record {
+  records = body_of done.records;
+  spelled = whole_spelled k (empty schema T) new bytes done;
+  allowed = ap (allows schema k T) (items_body done.records) ∙ done.allowed;
+}

@@ -3,7 +3,7 @@
 ghost use Rattle.std.specs.Prelude.{◌≡◌, ◌≢◌, [], Some, None, true, IfSome, IfNone, IfOk, IfErr};
 ghost use Rattle.prost_reflect_wire.specs.Schema.{field_of};
 ghost use Rattle.prost_reflect_wire.specs.Content.{schema_of, type_of};
-ghost use Rattle.prost_reflect_wire.specs.Grammar.{LEVEL_LIMIT};
+ghost use Rattle.prost_reflect_wire.specs.Grammar.{LEVEL_LIMIT, Accepts};
 ghost use Rattle.prost_reflect_wire.specs.Meaning.{decoded};
 ghost use Rattle.prost_reflect_wire.specs.Typing.{kept, WellStored};
 ghost use Rattle.prost_reflect_wire.specs.Fault.{StandsInMessage};
@@ -38,7 +38,9 @@ impl DynamicMessage {
         requires { covered (schema_at descriptor) (type_at descriptor) ≡ true }
         ensures means { IfOk result (λ message. decoded (schema_at descriptor) LEVEL_LIMIT (type_at descriptor) bytes.now ≡ Some (kept (content_of message))) }
         ensures sound { IfOk result (λ message. WellStored (content_of message)) }
+        ensures accepts { IfOk result (λ _. Accepts (schema_at descriptor) LEVEL_LIMIT (type_at descriptor) bytes.now) }
         ensures fault { IfErr result (λ e. e ≢ DecodeError.OutOfMemory → StandsInMessage (schema_at descriptor) (type_at descriptor) LEVEL_LIMIT e bytes.now) }
+        ensures accepted { IfErr result (λ e. Accepts (schema_at descriptor) LEVEL_LIMIT (type_at descriptor) bytes.now → e ≡ DecodeError.OutOfMemory) }
     {
         let mut message = DynamicMessage::new(alloc, descriptor);
         message.merge_records(alloc, bytes, RECURSION_LIMIT)?;
