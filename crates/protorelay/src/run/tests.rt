@@ -16,15 +16,27 @@ struct Answer {
     err: Vec<u8>,
 }
 
-fn answer_to(alloc: Global, texts: &[&str]) -> Result<Answer, AllocError> {
-    let words: Vec<String> = texts
-        .iter()
-        .map(|text| text.to_string(alloc))
-        .try_collect(alloc)?;
+/// The words between single spaces; none, if there is no text.
+fn words(alloc: Global, text: &str) -> Result<Vec<String>, AllocError> {
+    if text.is_empty() {
+        return Ok(Vec::new(alloc));
+    }
+    text.split(' ')
+        .map(|word| word.to_string(alloc))
+        .try_collect(alloc)
+}
+
+fn answer_to(alloc: Global, text: &str) -> Result<Answer, AllocError> {
+    let words = words(alloc, text)?;
     let mut out = Vec::new(alloc);
     let mut err = Vec::new(alloc);
     let status = run(words.as_slice(), &mut out, &mut err);
     Ok(Answer { status, out, err })
+}
+
+fn relay_of(alloc: Global, name: &str, digits: &str) -> Result<Answer, AllocError> {
+    let text = format!(in alloc; "relay - {name} {digits}")?;
+    answer_to(alloc, text.as_str())
 }
 
 fn line(alloc: Global, text: &str) -> Result<String, AllocError> {
@@ -69,7 +81,7 @@ fn prints_what_is_written_again(rt: HostRuntime) -> Result<(), Fail> {
         (PLAIN, "", ""),
     ];
     for (name, digits, written) in rows {
-        let answer = answer_to(rt.alloc(), ["relay", "-", name, digits].as_slice())?;
+        let answer = relay_of(rt.alloc(), name, digits)?;
         assert_eq!(rt; answer.err.as_slice(), b"".as_slice(), "{name} {digits}");
         assert_eq!(rt;
             answer.out.as_slice(),
@@ -102,7 +114,7 @@ fn names_the_first_refusal(rt: HostRuntime) -> Result<(), Fail> {
         ("", "", "refused name"),
     ];
     for (name, digits, refusal) in rows {
-        let answer = answer_to(rt.alloc(), ["relay", "-", name, digits].as_slice())?;
+        let answer = relay_of(rt.alloc(), name, digits)?;
         assert_eq!(rt; answer.out.as_slice(), b"".as_slice(), "{name} {digits}");
         assert_eq!(rt;
             answer.err.as_slice(),
@@ -117,18 +129,18 @@ fn names_the_first_refusal(rt: HostRuntime) -> Result<(), Fail> {
 #[test]
 fn prints_the_usage_for_any_other_command_line(rt: HostRuntime) -> Result<(), Fail> {
     let rows = [
-        [].as_slice(),
-        ["relay"].as_slice(),
-        ["relay", "-", PLAIN].as_slice(),
-        ["relay", "-", PLAIN, "2800", ""].as_slice(),
-        ["Relay", "-", PLAIN, "2800"].as_slice(),
+        "",
+        "relay",
+        "relay - builtin.Plain",
+        "relay - builtin.Plain 2800 ",
+        "Relay - builtin.Plain 2800",
         // A descriptor set is not taken so far, and there is no `show`.
-        ["relay", "", PLAIN, "2800"].as_slice(),
-        ["show", "-", PLAIN, "2800"].as_slice(),
+        "relay  builtin.Plain 2800",
+        "show - builtin.Plain 2800",
     ];
-    for words in rows {
-        let answer = answer_to(rt.alloc(), words)?;
-        assert_eq!(rt; answer.out.as_slice(), b"".as_slice());
+    for text in rows {
+        let answer = answer_to(rt.alloc(), text)?;
+        assert_eq!(rt; answer.out.as_slice(), b"".as_slice(), "{text}");
         assert_eq!(rt;
             answer.err.as_slice(),
             b"usage: protorelay relay|show SET NAME HEX\n".as_slice()
@@ -188,32 +200,37 @@ impl Write for Room {
 fn answers_1_where_a_write_fails(rt: HostRuntime) -> Result<(), Fail> {
     // So many bytes are printed, the last of them a line feed.
     let rows = [
-        (["relay", "-", PLAIN, "4001"].as_slice(), 5, 0),
-        (["relay", "-", "none", "4001"].as_slice(), 13, 1),
-        ([].as_slice(), 42, 2),
+        ("relay - builtin.Plain 4001", 5, 0),
+        ("relay - none 4001", 13, 1),
+        ("", 42, 2),
     ];
-    for (texts, length, status) in rows {
-        let words: Vec<String> = texts
-            .iter()
-            .map(|text| text.to_string(rt.alloc()))
-            .try_collect(rt.alloc())?;
+    for (text, length, status) in rows {
+        let words = words(rt.alloc(), text)?;
         for bytes in 0..=length {
-            let flushes = true;
-            let mut out = Room { bytes, flushes };
-            let mut err = Room { bytes, flushes };
+            let mut out = Room {
+                bytes,
+                flushes: true,
+            };
+            let mut err = Room {
+                bytes,
+                flushes: true,
+            };
             let want = if bytes == length { status } else { 1 };
-            assert_eq!(rt; run(words.as_slice(), &mut out, &mut err), want, "{bytes}");
+            assert_eq!(rt;
+                run(words.as_slice(), &mut out, &mut err),
+                want,
+                "{text} {bytes}"
+            );
         }
-        let flushes = false;
         let mut out = Room {
             bytes: length,
-            flushes,
+            flushes: false,
         };
         let mut err = Room {
             bytes: length,
-            flushes,
+            flushes: false,
         };
-        assert_eq!(rt; run(words.as_slice(), &mut out, &mut err), 1);
+        assert_eq!(rt; run(words.as_slice(), &mut out, &mut err), 1, "{text}");
     }
     Ok(())
 }
