@@ -54,7 +54,7 @@ digits_sound (suc k) (b ∷ bytes) v rest small e = go (nat_lt b 128) refl (digi
         let found : ◌≡◌ {A = ℕ × List ℕ} (b % 128 + 128 * x.0, x.1) (v, rest) = some_inside f in
         record { digits = b ∷ d.digits; whole = ap (λ l. b ∷ l) d.whole ∙ ap (λ (p : ℕ × List ℕ). b ∷ (d.digits ++ p.1)) found; are = digits_cons b d.digits high small.0 d.are; few = omega (arith, d.few); means = ap (λ (x : ℕ). b % 128 + 128 * x) d.means ∙ ap (λ (p : ℕ × List ℕ). p.0) found }
 
-varint_sound : (bytes : List ℕ) (v : ℕ) (rest : List ℕ) → AreBytes bytes → varint_at bytes ≡ Some (v, rest) → (front : List ℕ) × (bytes ≡ front ++ rest) × Varint v front
+pub varint_sound : (bytes : List ℕ) (v : ℕ) (rest : List ℕ) → AreBytes bytes → varint_at bytes ≡ Some (v, rest) → (front : List ℕ) × (bytes ≡ front ++ rest) × Varint v front
 varint_sound bytes v rest small e =
     let (x, m, f) = bind_ok (λ found. guard (nat_lt found.0 (2 ^ 64)) found) (digits_at 10 bytes) (v, rest) e in
     let (b, same) = guard_ok (nat_lt x.0 (2 ^ 64)) x (v, rest) f in
@@ -99,17 +99,17 @@ front_sound n bytes front rest e =
     (sym (take-append-drop n bytes) ∙ ap₂ ◌++◌ one two, sym (ap length one) ∙ omega (arith, length-take n bytes, fits))
 
 -- a payload at the front, of this wire type
-record Front (wire : WireType) (bytes : List ℕ) (p : Plain) (rest : List ℕ) : Type 0 where
-  front : List ℕ
-  whole : bytes ≡ front ++ rest
-  spells : SpellsPlain p front
-  wired : wire ≡ plain_wire p
+pub record Front (wire : WireType) (bytes : List ℕ) (p : Plain) (rest : List ℕ) : Type 0 where
+  pub front : List ℕ
+  pub whole : bytes ≡ front ++ rest
+  pub spells : SpellsPlain p front
+  pub wired : wire ≡ plain_wire p
 
 -- what was found of one kind
 moved : {wire : WireType} {bytes : List ℕ} {p q : Plain} {rest more : List ℕ} → ◌≡◌ {A = Plain × List ℕ} (p, rest) (q, more) → Front wire bytes p rest → Front wire bytes q more
 moved {wire} {bytes} e h = subst (λ (x : Plain × List ℕ). Front wire bytes x.0 x.1) e h
 
-plain_sound : (wire : WireType) (bytes : List ℕ) (p : Plain) (rest : List ℕ) → AreBytes bytes → plain_at wire bytes ≡ Some (p, rest) → Front wire bytes p rest
+pub plain_sound : (wire : WireType) (bytes : List ℕ) (p : Plain) (rest : List ℕ) → AreBytes bytes → plain_at wire bytes ≡ Some (p, rest) → Front wire bytes p rest
 plain_sound wires.Varint bytes p rest small e =
     let (v, m, f) = bind_ok (λ v. Some (Var v.0, v.1)) (varint_at bytes) (p, rest) e in
     let (front, whole, r) = varint_sound bytes v.0 v.1 small m in

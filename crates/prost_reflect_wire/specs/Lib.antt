@@ -1,7 +1,9 @@
 pub mod Varint
 pub mod Record
 pub mod Front
+pub mod Buffer
 pub mod Unknown
+pub mod Equality
 pub mod Scalar
 pub mod Schema
 pub mod Content
@@ -12,8 +14,10 @@ pub mod Levels
 pub mod Typing
 pub mod Reduction
 pub mod Edit
+pub mod Storing
+pub mod Decoding
 pub mod Fault
+pub mod FieldLaws
 pub mod Laws
-pub mod ExampleSchemas
-pub mod ExampleRows
-pub mod ExampleFaults
+pub mod LawsOfFaults
+pub mod Examples

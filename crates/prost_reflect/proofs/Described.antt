@@ -1,0 +1,36 @@
+-- The known fields of a descriptor's message type, and its schema.
+use Rattle.std.proofs.Common.{◌≡◌, ℕ, ◌<◌, true, length, map, Some, ap}
+use Rattle.std.specs.Prelude.{slice_get, option_map}
+use Rattle.std.proofs.lemmas.List.{length-map}
+use Rattle.prost_reflect_wire.specs.Schema.{known, field_of, schema_valid}
+use Rattle.prost_reflect_tables.specs.Rows.{FieldRow}
+use Rattle.prost_reflect_tables.specs.Places.{row_of}
+use Rattle.prost_reflect_tables.specs.Shown.{schema_from, schema_field}
+use Rattle.prost_reflect_tables.proofs.Keeping.{schema_is_valid}
+use Rattle.prost_reflect_tables.proofs.Fields.{known_rows, field_of_number, known_row}
+use Rattle.prost_reflect.specs.Pools.{pool_rows}
+use Rattle.prost_reflect.specs.Descriptors.{schema_at, type_at, fields_of, SameMessage}
+use Rattle.prost_reflect.specs.declared.descriptor.message.MessageDescriptor.{MessageDescriptor}
+
+-- The schema is one of a checked pool, and has the type.
+pub schema_at_valid : (m : MessageDescriptor) → schema_valid (schema_at m) ≡ true
+schema_at_valid m = schema_is_valid (pool_rows m.pool) m.pool.inner.value.tables.linked
+
+pub type_in_schema : (m : MessageDescriptor) → type_at m < length (schema_at m)
+unfolding schema_from
+type_in_schema m = rw length-map m.in_range
+
+-- The known fields are the rows, shown.
+pub known_at : (m : MessageDescriptor) → known (schema_at m) (type_at m) ≡ map (schema_field (pool_rows m.pool)) (fields_of m)
+known_at m = known_rows (pool_rows m.pool) m.index
+
+pub field_at_number : (m : MessageDescriptor) (n : ℕ) → field_of (known (schema_at m) (type_at m)) n ≡ option_map (schema_field (pool_rows m.pool)) (row_of (fields_of m) n)
+field_at_number m n = field_of_number (pool_rows m.pool) m.index n
+
+-- Under the number of a row that row is known, shown.
+pub known_of_row : (m : MessageDescriptor) (i : ℕ) (f : FieldRow) → slice_get (fields_of m) i ≡ Some f → field_of (known (schema_at m) (type_at m)) f.number ≡ Some (schema_field (pool_rows m.pool) f)
+known_of_row m i f at = known_row (pool_rows m.pool) m.index i f m.pool.inner.value.tables.linked at
+
+-- Descriptors of one message type have one schema.
+pub same_schema : (a b : MessageDescriptor) → SameMessage a b → schema_at b ≡ schema_at a
+same_schema a b same = ap schema_from same.0

@@ -1,0 +1,17 @@
+pub mod Places
+pub mod Walks
+pub mod ItemChanges
+pub mod EntryChanges
+pub mod ScalarReads
+pub mod Siblings
+pub mod SoundChanges
+pub mod MembersCleared
+pub mod Covering
+mod BuiltinFacts
+pub mod PlainKinds
+pub mod Views
+pub mod Slots
+pub mod Stored
+pub mod Merging
+pub mod ContentChanges
+pub mod Described

@@ -1,0 +1,5 @@
+use Rattle.prost_reflect.proofs.ContentChanges.{message_order}
+use Rattle.prost_reflect.proofs.laws.message_order.Goals as goal
+
+pub returns : goal.returns
+returns c = message_order

@@ -1,0 +1,5 @@
+use Rattle.prost_reflect.proofs.ContentChanges.{slots_after_set}
+use Rattle.prost_reflect.proofs.laws.slots_after_set.Goals as goal
+
+pub returns : goal.returns
+returns c = slots_after_set

@@ -1,0 +1,5 @@
+use Rattle.prost_reflect.proofs.ContentChanges.{slots_determine}
+use Rattle.prost_reflect.proofs.laws.slots_determine.Goals as goal
+
+pub returns : goal.returns
+returns c = slots_determine

@@ -1,0 +1,5 @@
+use Rattle.prost_reflect.proofs.Views.{value_views}
+use Rattle.prost_reflect.proofs.laws.value_views.Goals as goal
+
+pub returns : goal.returns
+returns c = value_views

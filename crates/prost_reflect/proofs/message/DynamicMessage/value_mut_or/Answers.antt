@@ -1,0 +1,15 @@
+use Rattle.std.proofs.Common.{◌≡◌, refl}
+use Rattle.std.proofs.lemmas.Result.{IfOk-weaker}
+use Rattle.prost_reflect.proofs.Stored.{value_lent, content_written}
+use Rattle.prost_reflect.proofs.message.DynamicMessage.value_mut_or.Goals as goal
+
+pub returns : goal.returns
+returns c =
+    let lent = c.get_mut_or.ensures in (
+      refl,
+      record {
+        writes_back = tt;
+        value = IfOk-weaker c.get_mut_or.result _ _ (λ v. value_lent c.args.self.now c.args.number c.args.default v.now lent.ascending) lent.value;
+        content = λ v. content_written c.args.self.now c.args.number c.args.default v lent.ascending lent.sound c.requires;
+      },
+    )

@@ -1,0 +1,105 @@
+-- Scalar kinds of the tables, their payloads and values.
+use Rattle.std.specs.Prelude.{◌≡◌, ℕ, pos, true, false, List, [], Option, Some, None, option_map, option_and_then, IsSomeAnd}
+use Rattle.prost_reflect_wire.specs.declared.key.WireType.{WireType}
+use Rattle.prost_reflect_wire.specs.declared.error.DecodeError.{DecodeError}
+use Rattle.prost_reflect_wire.specs.Record.{Payload, short_plain}
+use Rattle.prost_reflect_wire.specs.Scalar as scalars
+use Rattle.prost_reflect_wire.specs.Scalar.{Scalar, ScalarKind, elem, kind_wire, scalar_eq, written}
+use Rattle.prost_reflect_wire.specs.Content.{ScalarValue}
+use Rattle.prost_reflect_wire.specs.Content as content
+use Rattle.prost_reflect_wire.specs.Schema.{ScalarOf, Singular, Field, field_of}
+use Rattle.prost_reflect_wire.specs.Typing.{element_valid}
+use Rattle.prost_reflect_wire.specs.Decoding.{ScalarRead, ScalarFault}
+use Rattle.prost_reflect_tables.specs.declared.tables.TableKind.{TableKind}
+use Rattle.prost_reflect_tables.specs.declared.tables.TableKind.TheVariants.{Double, Float, Int32, Int64, Uint32, Uint64, Sint32, Sint64, Fixed32, Fixed64, Sfixed32, Sfixed64, Bool, String, Bytes, Message, Enum}
+use Rattle.prost_reflect.specs.declared.value.Value.{Value}
+use Rattle.prost_reflect.specs.View.{value_of}
+
+-- The scalar kinds, enums aside.
+abbrev pub plain_kind : TableKind → Option ScalarKind
+plain_kind Double = Some scalars.Double
+plain_kind Float = Some scalars.Float
+plain_kind Int32 = Some scalars.Int32
+plain_kind Int64 = Some scalars.Int64
+plain_kind Uint32 = Some scalars.Uint32
+plain_kind Uint64 = Some scalars.Uint64
+plain_kind Sint32 = Some scalars.Sint32
+plain_kind Sint64 = Some scalars.Sint64
+plain_kind Fixed32 = Some scalars.Fixed32
+plain_kind Fixed64 = Some scalars.Fixed64
+plain_kind Sfixed32 = Some scalars.Sfixed32
+plain_kind Sfixed64 = Some scalars.Sfixed64
+plain_kind Bool = Some scalars.BoolKind
+plain_kind String = Some scalars.StringKind
+plain_kind Bytes = Some scalars.BytesKind
+plain_kind (Message T) = None
+plain_kind (Enum E) = None
+
+-- The kind is a scalar kind of this wire type.
+abbrev pub HasWire : TableKind → WireType → Type 0
+HasWire kind w = IsSomeAnd (plain_kind kind) (λ k. kind_wire k ≡ w)
+
+-- The value is that of the payload, by the kind.
+abbrev pub IsElement : TableKind → Payload → Value → Type 0
+IsElement kind p v = option_and_then (λ k. option_map ScalarValue (elem k p)) (plain_kind kind) ≡ Some (value_of v)
+
+-- Behind a key of the wire type, the payload of the value.
+pub record ReadsScalar (kind : TableKind) (w : WireType) (v : Value) (bytes rest : List ℕ) : Type 0 where
+  pub scalar_kind : ScalarKind
+  pub scalar : Scalar
+  pub plain : plain_kind kind ≡ Some scalar_kind
+  pub value : value_of v ≡ ScalarValue scalar
+  pub read : ScalarRead scalar_kind w scalar bytes rest
+
+-- Why there is none.
+pub record RefusesScalar (kind : TableKind) (w : WireType) (e : DecodeError) (bytes : List ℕ) : Type 0 where
+  pub scalar_kind : ScalarKind
+  pub plain : plain_kind kind ≡ Some scalar_kind
+  pub fault : ScalarFault scalar_kind w e bytes
+
+-- The value is one of the kind.
+abbrev pub TakesScalar : TableKind → content.Value → Type 0
+TakesScalar kind v = IsSomeAnd (plain_kind kind) (λ k. element_valid (ScalarOf k) v ≡ true)
+
+-- The bytes of the value's payload; nothing is meant of other values.
+abbrev pub scalar_bytes : Option ScalarKind → content.Value → List ℕ
+scalar_bytes (Some k) (ScalarValue v) = short_plain (written k v)
+scalar_bytes o v = []
+
+-- The number is that of a field of one plain scalar, which the tables call by this kind.
+pub record PlainField (fields : List Field) (n : ℕ) (kind : TableKind) : Type 0 where
+  pub field : Field
+  pub scalar_kind : ScalarKind
+  pub found : field_of fields n ≡ Some field
+  pub plain : plain_kind kind ≡ Some scalar_kind
+  pub form : field.form ≡ Singular
+  pub kind_is : field.value_type.kind ≡ ScalarOf scalar_kind
+  pub alone : field.oneof ≡ None
+
+-- DEFAULTS
+
+-- Zero, false or empty, of the value's own variant.
+abbrev pub zero_like : Scalar → Scalar
+zero_like (scalars.Boolean b) = scalars.Boolean false
+zero_like (scalars.I32 z) = scalars.I32 (pos 0)
+zero_like (scalars.I64 z) = scalars.I64 (pos 0)
+zero_like (scalars.U32 n) = scalars.U32 0
+zero_like (scalars.U64 n) = scalars.U64 0
+zero_like (scalars.F32 n) = scalars.F32 0
+zero_like (scalars.F64 n) = scalars.F64 0
+zero_like (scalars.Text x) = scalars.Text []
+zero_like (scalars.Bytes x) = scalars.Bytes []
+zero_like (scalars.EnumNumber z) = scalars.EnumNumber (pos 0)
+
+abbrev pub equals : content.Value → Scalar → Bool
+equals (ScalarValue v) w = scalar_eq v w
+equals v w = false
+
+abbrev pub is_zero : content.Value → Bool
+is_zero (ScalarValue v) = scalar_eq v (zero_like v)
+is_zero v = false
+
+-- The value is the default that is written, else zero, false or empty.
+abbrev pub is_default : Option Scalar → content.Value → Bool
+is_default (Some w) v = equals v w
+is_default None v = is_zero v

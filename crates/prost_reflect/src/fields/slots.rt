@@ -1,0 +1,246 @@
+//! The fields of one message.
+
+ghost use Rattle.std.specs.Prelude.{◌≡◌, [], true, OnOk, OnErr, IfOk, IsSome, Some};
+ghost use Rattle.std.specs.Borrow.{Lends, LendsIf, LendsIfOk, sem};
+ghost use Rattle.std.specs.Option.{option_copied, option_copied_mut};
+ghost use Rattle.prost_reflect_wire.specs.Unknown.{record_of};
+ghost use Rattle.prost_reflect_wire.specs.Schema.{same_oneof};
+ghost use Rattle.prost_reflect.specs.contracts.fields.slots.Slots.{the_row};
+ghost use Rattle.prost_reflect.specs.Items.{IsAscending};
+ghost use Rattle.prost_reflect.specs.Known.{known_of, is_known, oneof_of, are_siblings, keeps_unknown};
+ghost use Rattle.prost_reflect.specs.Entries.{value_at, unknown_at, clear_value, with_value, without_values, UnknownAdded, SameStored};
+ghost use Rattle.prost_reflect.specs.Sound.{IsSound, set_value_at, prepared};
+ghost use Rattle.prost_reflect.specs.Members.{is_member};
+
+use crate::descriptor::MessageDescriptor;
+use crate::fields::entry::Entry;
+use crate::fields::sorted::Sorted;
+use crate::fields::stored::{add_unknown, put_value, take_value, unknown_at, value_at};
+use prost_reflect_tables::FieldTable;
+use prost_reflect_wire::{UnknownField, UnknownFieldSet};
+use std::alloc::{AllocError, Global};
+use std::marker::Model;
+
+/// The values of a message's fields and its unknown fields, by number.
+///
+/// Values stand at the numbers of fields and extensions alone, and at most one member of a oneof has one.
+/// Unknown fields stand at their own numbers: those that no field has, and those of fields whose values are numbers of a closed enum.
+#[derive(Debug, Drop)]
+pub struct Slots<V> {
+    descriptor: MessageDescriptor,
+    fields: Sorted<Entry<V>>,
+}
+
+impl<V> Model for Slots<V> {
+    ghost use Rattle.std.specs.Prelude.{ℕ, List, ◌≡◌, true};
+    ghost use Rattle.prost_reflect.specs.declared.descriptor.message.MessageDescriptor.{MessageDescriptor};
+    ghost use Rattle.prost_reflect.specs.declared.fields.entry.Entry.{Entry};
+
+    ghost Value = { MessageDescriptor × List (ℕ × Entry V) };
+
+    ghost use Rattle.prost_reflect.specs.Codes.{slots_code};
+
+    ghost coded = { slots_code V.code };
+
+    ghost use Rattle.prost_reflect.specs.Sound.{IsSound};
+
+    ghost view = { λ a. (a.descriptor, a.fields) };
+
+    ghost invariant = { λ a. IsSound a.descriptor a.fields };
+}
+
+impl<V> Slots<V> {
+    /// No values and no unknown fields.
+    pub fn new(alloc: Global, descriptor: MessageDescriptor) -> Slots<V>
+        ensures { result ≡ (descriptor, []) }
+    {
+        Slots {
+            descriptor,
+            fields: Sorted::new(alloc),
+        }
+    }
+
+    /// The message type.
+    pub fn descriptor(&self) -> &MessageDescriptor
+        ensures { result.now ≡ self.now.0 }
+    {
+        &self.descriptor
+    }
+
+    /// What stands at each number, in ascending order of the numbers.
+    pub fn entries(&self) -> &[(u32, Entry<V>)]
+        ensures entries { result.now ≡ self.now.1 }
+        ensures ascending { IsAscending self.now.1 }
+        ensures sound { IsSound self.now.0 self.now.1 }
+    {
+        self.fields.as_slice()
+    }
+
+    /// The value at the number, for writing.
+    pub fn get_mut(&mut self, number: u32) -> Option<&mut V>
+        ensures* writes_back { sem 𝓛 (LendsIf (the_row V.row) V.row self.entry result (λ w. (self.old.0, with_value self.old.1 number w)) self.old) }
+        ensures value { option_copied_mut result ≡ value_at self.old.1 number }
+    {
+        match self.fields.get_mut(number) {
+            Some(entry) => entry.value_mut(),
+            None => None,
+        }
+    }
+}
+
+impl<V: Drop> Slots<V> {
+    /// The value at the number.
+    pub fn get(&self, number: u32) -> Option<&V>
+        ensures value { option_copied result ≡ value_at self.now.1 number }
+        ensures ascending { IsAscending self.now.1 }
+        ensures sound { IsSound self.now.0 self.now.1 }
+    {
+        let _ = self.fields.len();
+        value_at(&self.fields, number)
+    }
+
+    /// The unknown fields at the number.
+    pub fn unknown(&self, number: u32) -> Option<&UnknownFieldSet>
+        ensures { option_copied result ≡ unknown_at self.now.1 number }
+    {
+        unknown_at(&self.fields, number)
+    }
+
+    /// Takes the value at the number. The unknown fields stay.
+    pub fn take(&mut self, number: u32) -> Option<V>
+        ensures value { result ≡ value_at self.old.1 number }
+        ensures left { self.new ≡ (self.old.0, clear_value self.old.1 number) }
+        ensures ascending { IsAscending self.old.1 }
+    {
+        let alloc = self.fields.allocator();
+        take_value(&mut self.fields, alloc, number)
+    }
+
+    /// Removes the value at the number. The unknown fields stay.
+    pub fn clear(&mut self, number: u32)
+        ensures left { self.new ≡ (self.old.0, clear_value self.old.1 number) }
+        ensures ascending { IsAscending self.old.1 }
+    {
+        drop(self.take(number));
+    }
+
+    /// Sets the value at the number of a field or an extension, and removes those of the other members of its oneof.
+    /// The unknown fields stay. A refused growth changes nothing.
+    pub fn set(&mut self, number: u32, value: V) -> Result<(), AllocError>
+        requires { is_known (known_of self.old.0) number ≡ true }
+        ensures ok { OnOk result (self.new ≡ (self.old.0, set_value_at (known_of self.old.0) self.old.1 number value)) }
+        ensures err { OnErr result (self.new ≡ self.old) }
+        ensures ascending { IsAscending self.old.1 }
+    {
+        let alloc = self.fields.allocator();
+        put_value(&mut self.fields, alloc, number, value)?;
+        clear_siblings(&mut self.fields, alloc, &self.descriptor, number);
+        Ok(())
+    }
+
+    /// Adds an unknown field behind those of its number, which is that of no field, or of one whose values are numbers of a closed enum.
+    /// A refused growth changes no value and no unknown field.
+    pub fn add_unknown(&mut self, number: u32, field: UnknownField) -> Result<(), AllocError>
+        requires own { (record_of field).number ≡ number }
+        requires kept { keeps_unknown (known_of self.old.0) number ≡ true }
+        ensures descriptor { self.new.0 ≡ self.old.0 }
+        ensures ok { OnOk result (UnknownAdded self.old.1 self.new.1 (record_of field)) }
+        ensures err { OnErr result (SameStored self.old.1 self.new.1) }
+        ensures ascending { IsAscending self.old.1 }
+    {
+        let alloc = self.fields.allocator();
+        add_unknown(&mut self.fields, alloc, number, field)
+    }
+
+    fn stored_mut(&mut self, number: u32) -> &mut V
+        requires { IsSome (value_at self.old.1 number) }
+        ensures* writes_back { sem 𝓛 (Lends (the_row V.row) V.row self.entry result (λ w. (self.old.0, with_value self.old.1 number w))) }
+        ensures value { value_at self.old.1 number ≡ Some result.now }
+    {
+        match self.get_mut(number) {
+            Some(value) => value,
+            None => unreachable!(),
+        }
+    }
+
+    /// The value at the number of a field or an extension, for writing. Where there is none it is first set to `default`.
+    /// A refused growth changes nothing.
+    pub fn get_mut_or(&mut self, number: u32, default: V) -> Result<&mut V, AllocError>
+        requires { is_known (known_of self.old.0) number ≡ true }
+        ensures* writes_back { sem 𝓛 (LendsIfOk (the_row V.row) V.row self.entry result (λ w. (self.old.0, with_value (prepared (known_of self.old.0) self.old.1 number default) number w)) self.old) }
+        ensures value { IfOk result (λ v. value_at (prepared (known_of self.old.0) self.old.1 number default) number ≡ Some v.now) }
+        ensures ascending { IsAscending self.old.1 }
+        ensures sound { IsSound self.old.0 self.old.1 }
+    {
+        if self.get(number).is_none() {
+            self.set(number, default)?;
+        }
+        Ok(self.stored_mut(number))
+    }
+}
+
+/// The oneof of the number's field.
+fn oneof_of(descriptor: &MessageDescriptor, number: u32) -> Option<usize>
+    ensures { result ≡ oneof_of (known_of descriptor.now) number }
+{
+    match descriptor.field_table(number) {
+        Some(field) => field.oneof,
+        None => None,
+    }
+}
+
+/// Removes the values of the other members of the oneof of the number's field.
+fn clear_siblings<V: Drop>(
+    fields: &mut Sorted<Entry<V>>,
+    alloc: Global,
+    descriptor: &MessageDescriptor,
+    number: u32,
+)
+    ensures cleared { fields.new ≡ without_values (are_siblings (known_of descriptor.now) number) fields.old }
+    ensures ascending { IsAscending fields.old }
+{
+    let oneof = oneof_of(descriptor, number);
+    clear_members(fields, alloc, descriptor.field_tables(), oneof, number);
+}
+
+/// Whether two fields are members of one oneof.
+fn is_same_oneof(left: Option<usize>, right: Option<usize>) -> bool
+    ensures { result ≡ same_oneof left right }
+{
+    match (left, right) {
+        (Some(left), Some(right)) => left == right,
+        _ => false,
+    }
+}
+
+/// Removes the values of the members of the oneof, but that of the number.
+fn clear_members<V: Drop>(
+    fields: &mut Sorted<Entry<V>>,
+    alloc: Global,
+    table: &[FieldTable],
+    oneof: Option<usize>,
+    number: u32,
+)
+    ensures cleared { fields.new ≡ without_values (is_member table.now oneof number) fields.old }
+    ensures ascending { IsAscending fields.old }
+{
+    let _ = fields.len();
+    for field in table {
+        if field.number != number && is_same_oneof(field.oneof, oneof) {
+            drop(take_value(fields, alloc, field.number));
+        }
+    }
+}
+
+impl<V: PartialEq> PartialEq for Slots<V> {
+    ghost use Rattle.prost_reflect.specs.Same.{same_slots};
+    ghost use Rattle.prost_reflect.specs.SameLaws.{slots_per};
+
+    ghost eq = { same_slots V.eq };
+
+    ghost laws = { slots_per V.laws };
+
+    fn eq(&self, other: &Slots<V>) -> bool {
+        self.descriptor == other.descriptor && self.fields == other.fields
+    }
+}

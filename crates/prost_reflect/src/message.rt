@@ -1,0 +1,136 @@
+//! Messages whose types are known only at run time.
+
+ghost use Rattle.std.specs.Prelude.{◌≡◌, true, OnOk, OnErr, IfOk, option_map, unwrap_or};
+ghost use Rattle.std.specs.Borrow.{LendsIfOk, sem};
+ghost use Rattle.std.specs.Option.{option_copied};
+ghost use Rattle.prost_reflect_wire.specs.Unknown.{record_of, records_of};
+ghost use Rattle.prost_reflect_wire.specs.Content.{empty, entries_of, value_at, slot_at};
+ghost use Rattle.prost_reflect.specs.contracts.message.DynamicMessage.{the_row};
+ghost use Rattle.prost_reflect.specs.contracts.value.Value as value;
+ghost use Rattle.prost_reflect.specs.Descriptors.{schema_at, type_at};
+ghost use Rattle.prost_reflect.specs.Items.{IsAscending};
+ghost use Rattle.prost_reflect.specs.Known.{known_of, is_known, keeps_unknown};
+ghost use Rattle.prost_reflect.specs.Entries.{records_at};
+ghost use Rattle.prost_reflect.specs.Sound.{IsSound};
+ghost use Rattle.prost_reflect.specs.declared.value.Value.{Value};
+ghost use Rattle.prost_reflect.specs.View.{content_of, value_of, descriptor_of, stored_in, written_at};
+ghost use Rattle.prost_reflect.specs.Contents.{value_set, value_cleared, unknown_added};
+
+mod decode;
+mod encode;
+mod scalar;
+
+use crate::descriptor::MessageDescriptor;
+use crate::fields::entry::Entry;
+use crate::fields::slots::Slots;
+use crate::value::Value;
+use prost_reflect_wire::{UnknownField, UnknownFieldSet};
+use std::alloc::{AllocError, Global};
+
+/// A message of a type that is known only at run time: the values of its fields and extensions, and its unknown fields.
+#[cycle(value)]
+#[derive(Debug, PartialEq, Drop)]
+pub struct DynamicMessage {
+    slots: Slots<Value>,
+}
+
+impl DynamicMessage {
+    /// The empty message of the type.
+    pub fn new(alloc: Global, descriptor: MessageDescriptor) -> DynamicMessage
+        ensures descriptor { descriptor_of result ≡ descriptor }
+        ensures content { content_of result ≡ empty (schema_at descriptor) (type_at descriptor) }
+    {
+        DynamicMessage {
+            slots: Slots::new(alloc, descriptor),
+        }
+    }
+
+    /// The message type.
+    pub fn descriptor(&self) -> &MessageDescriptor
+        ensures { result.now ≡ descriptor_of self.now }
+    {
+        self.slots.descriptor()
+    }
+
+    /// What the message keeps at each number, in ascending order of the numbers.
+    pub(crate) fn entries(&self) -> &[(u32, Entry<Value>)]
+        ensures entries { result.now ≡ stored_in self.now }
+        ensures ascending { IsAscending (stored_in self.now) }
+        ensures sound { IsSound (descriptor_of self.now) (stored_in self.now) }
+    {
+        self.slots.entries()
+    }
+
+    /// The value that is stored at the number.
+    pub(crate) fn stored_value(&self, number: u32) -> Option<&Value>
+        ensures { option_map value_of (option_copied result) ≡ value_at number (entries_of (content_of self.now)) }
+    {
+        self.slots.get(number)
+    }
+
+    /// The unknown fields at the number.
+    pub(crate) fn stored_unknown(&self, number: u32) -> Option<&UnknownFieldSet>
+        ensures { option_map records_of (option_copied result) ≡ records_at (stored_in self.now) number }
+    {
+        self.slots.unknown(number)
+    }
+
+    /// Stores the value at the number of a field or an extension, and removes those of the other members of its oneof.
+    /// A refused growth changes nothing.
+    pub(crate) fn set_value(&mut self, number: u32, value: Value) -> Result<(), AllocError>
+        requires { is_known (known_of (descriptor_of self.old)) number ≡ true }
+        ensures descriptor { descriptor_of self.new ≡ descriptor_of self.old }
+        ensures content { OnOk result (content_of self.new ≡ value_set number (value_of value) (content_of self.old)) }
+        ensures err { OnErr result (self.new ≡ self.old) }
+    {
+        self.slots.set(number, value)
+    }
+
+    /// Takes the value at the number. The unknown fields stay.
+    pub(crate) fn take_value(&mut self, number: u32) -> Option<Value>
+        ensures descriptor { descriptor_of self.new ≡ descriptor_of self.old }
+        ensures value { option_map value_of result ≡ value_at number (entries_of (content_of self.old)) }
+        ensures content { content_of self.new ≡ value_cleared number (content_of self.old) }
+    {
+        self.slots.take(number)
+    }
+
+    /// Removes the value at the number. The unknown fields stay.
+    pub(crate) fn clear_value(&mut self, number: u32)
+        ensures descriptor { descriptor_of self.new ≡ descriptor_of self.old }
+        ensures content { content_of self.new ≡ value_cleared number (content_of self.old) }
+    {
+        self.slots.clear(number);
+    }
+
+    /// Adds an unknown field behind those of its number, which is that of no field, or of one whose values are numbers of a closed enum.
+    /// A refused growth changes no value and no unknown field.
+    pub(crate) fn add_unknown(
+        &mut self,
+        number: u32,
+        field: UnknownField,
+    ) -> Result<(), AllocError>
+        requires own { (record_of field).number ≡ number }
+        requires kept { keeps_unknown (known_of (descriptor_of self.old)) number ≡ true }
+        ensures descriptor { descriptor_of self.new ≡ descriptor_of self.old }
+        ensures content { OnOk result (content_of self.new ≡ unknown_added (record_of field) (content_of self.old)) }
+        ensures err { OnErr result (content_of self.new ≡ content_of self.old) }
+    {
+        self.slots.add_unknown(number, field)
+    }
+
+    /// The value at the number of a field or an extension, for writing. Where there is none it is first set to `default`.
+    /// A refused growth changes nothing.
+    pub(crate) fn value_mut_or(
+        &mut self,
+        number: u32,
+        default: Value,
+    ) -> Result<&mut Value, AllocError>
+        requires { is_known (known_of (descriptor_of self.old)) number ≡ true }
+        ensures* writes_back { sem 𝓛 (LendsIfOk the_row value.the_row self.entry result (written_at self.old number default) self.old) }
+        ensures value { IfOk result (λ lent. value_of lent.now ≡ unwrap_or (value_at number (entries_of (content_of self.old))) (value_of default)) }
+        ensures content { (v : Value) → content_of (written_at self.old number default v) ≡ value_set number (value_of v) (content_of self.old) }
+    {
+        self.slots.get_mut_or(number, default)
+    }
+}

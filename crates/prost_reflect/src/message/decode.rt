@@ -1,0 +1,144 @@
+//! Reading messages (the encoding guide, "Message Structure", "Last One Wins" and "Unknown Fields").
+
+ghost use Rattle.std.specs.Prelude.{◌≡◌, ◌≢◌, [], Some, None, true, IfSome, IfNone, IfOk, IfErr};
+ghost use Rattle.prost_reflect_wire.specs.Schema.{field_of};
+ghost use Rattle.prost_reflect_wire.specs.Content.{schema_of, type_of};
+ghost use Rattle.prost_reflect_wire.specs.Grammar.{LEVEL_LIMIT};
+ghost use Rattle.prost_reflect_wire.specs.Meaning.{decoded};
+ghost use Rattle.prost_reflect_wire.specs.Typing.{kept, WellStored};
+ghost use Rattle.prost_reflect_wire.specs.Fault.{StandsInMessage};
+ghost use Rattle.prost_reflect_wire.specs.Decoding.{Progress, Step, StandsBehindKey};
+ghost use Rattle.prost_reflect.specs.Covered.{covered};
+ghost use Rattle.prost_reflect.specs.Descriptors.{schema_at, type_at};
+ghost use Rattle.prost_reflect.specs.Known.{known_of};
+ghost use Rattle.prost_reflect.specs.Scalars.{PlainField};
+ghost use Rattle.prost_reflect.specs.View.{content_of, descriptor_of};
+
+use crate::descriptor::MessageDescriptor;
+use crate::message::DynamicMessage;
+use crate::message::scalar::scalar_at;
+use prost_reflect_tables::TableKind;
+use prost_reflect_wire::{
+    DecodeError, FieldNumber, RECURSION_LIMIT, UnknownField, WireType, decode_key, value_at,
+};
+use std::alloc::Global;
+
+impl DynamicMessage {
+    /// Reads a message of the type from the bytes.
+    ///
+    /// # Errors
+    ///
+    /// `Truncated`, `Varint`, `Key`, `WireType`, `EndGroup`, `Utf8` or `Depth` where that fault stands in the bytes;
+    /// `OutOfMemory` if a growth is refused.
+    pub fn decode(
+        alloc: Global,
+        descriptor: MessageDescriptor,
+        bytes: &[u8],
+    ) -> Result<DynamicMessage, DecodeError>
+        requires { covered (schema_at descriptor) (type_at descriptor) ≡ true }
+        ensures means { IfOk result (λ message. decoded (schema_at descriptor) LEVEL_LIMIT (type_at descriptor) bytes.now ≡ Some (kept (content_of message))) }
+        ensures sound { IfOk result (λ message. WellStored (content_of message)) }
+        ensures fault { IfErr result (λ e. e ≢ DecodeError.OutOfMemory → StandsInMessage (schema_at descriptor) (type_at descriptor) LEVEL_LIMIT e bytes.now) }
+    {
+        let mut message = DynamicMessage::new(alloc, descriptor);
+        message.merge_records(alloc, bytes, RECURSION_LIMIT)?;
+        Ok(message)
+    }
+
+    /// Reads the records of the bytes into the message. A refusal leaves a part of them read.
+    fn merge_records(
+        &mut self,
+        alloc: Global,
+        bytes: &[u8],
+        levels: u32,
+    ) -> Result<(), DecodeError>
+        requires plain { covered (schema_at (descriptor_of self.old)) (type_at (descriptor_of self.old)) ≡ true }
+        requires sound { WellStored (content_of self.old) }
+        ensures ok { IfOk result (λ _. Progress levels (content_of self.old) (content_of self.new) bytes.now []) }
+        ensures fault { IfErr result (λ e. e ≢ DecodeError.OutOfMemory → StandsInMessage (schema_of (content_of self.old)) (type_of (content_of self.old)) levels e bytes.now) }
+    {
+        let mut rest = bytes;
+        while !rest.is_empty() {
+            let (number, wire_type, after) = decode_key(rest)?;
+            rest = self.merge_record(alloc, number, wire_type, after, levels)?;
+        }
+        Ok(())
+    }
+
+    /// Reads the record behind a key into the message, and gives the bytes behind it. A refusal changes no value and
+    /// no unknown field.
+    fn merge_record<'a>(
+        &mut self,
+        alloc: Global,
+        number: FieldNumber,
+        wire_type: WireType,
+        bytes: &'a [u8],
+        levels: u32,
+    ) -> Result<&'a [u8], DecodeError>
+        requires plain { covered (schema_at (descriptor_of self.old)) (type_at (descriptor_of self.old)) ≡ true }
+        requires sound { WellStored (content_of self.old) }
+        ensures ok { IfOk result (λ rest. Step levels number.value wire_type (content_of self.old) (content_of self.new) bytes.now rest.now) }
+        ensures descriptor { descriptor_of self.new ≡ descriptor_of self.old }
+        ensures fault { IfErr result (λ e. e ≢ DecodeError.OutOfMemory → StandsBehindKey (content_of self.old) levels number.value wire_type e bytes.now) }
+    {
+        match plain_kind_at(self.descriptor(), number.get()) {
+            Some(kind) => self.merge_scalar(alloc, number, kind, wire_type, bytes, levels),
+            None => self.merge_unknown(alloc, number, wire_type, bytes, levels),
+        }
+    }
+
+    /// Reads a scalar behind its field's key, which replaces the value that is there.
+    fn merge_scalar<'a>(
+        &mut self,
+        alloc: Global,
+        number: FieldNumber,
+        kind: TableKind,
+        wire_type: WireType,
+        bytes: &'a [u8],
+        levels: u32,
+    ) -> Result<&'a [u8], DecodeError>
+        requires plain { covered (schema_at (descriptor_of self.old)) (type_at (descriptor_of self.old)) ≡ true }
+        requires sound { WellStored (content_of self.old) }
+        requires field { PlainField (known_of (descriptor_of self.old)) number.value kind }
+        ensures ok { IfOk result (λ rest. Step levels number.value wire_type (content_of self.old) (content_of self.new) bytes.now rest.now) }
+        ensures descriptor { descriptor_of self.new ≡ descriptor_of self.old }
+        ensures fault { IfErr result (λ e. e ≢ DecodeError.OutOfMemory → StandsBehindKey (content_of self.old) levels number.value wire_type e bytes.now) }
+    {
+        let (value, rest) = scalar_at(alloc, kind, wire_type, bytes)?;
+        self.set_value(number.get(), value)?;
+        Ok(rest)
+    }
+
+    /// Reads an unknown field behind its key, and adds it behind those of its number.
+    fn merge_unknown<'a>(
+        &mut self,
+        alloc: Global,
+        number: FieldNumber,
+        wire_type: WireType,
+        bytes: &'a [u8],
+        levels: u32,
+    ) -> Result<&'a [u8], DecodeError>
+        requires plain { covered (schema_at (descriptor_of self.old)) (type_at (descriptor_of self.old)) ≡ true }
+        requires sound { WellStored (content_of self.old) }
+        requires unknown { field_of (known_of (descriptor_of self.old)) number.value ≡ None }
+        ensures ok { IfOk result (λ rest. Step levels number.value wire_type (content_of self.old) (content_of self.new) bytes.now rest.now) }
+        ensures descriptor { descriptor_of self.new ≡ descriptor_of self.old }
+        ensures fault { IfErr result (λ e. e ≢ DecodeError.OutOfMemory → StandsBehindKey (content_of self.old) levels number.value wire_type e bytes.now) }
+    {
+        let (value, rest) = value_at(alloc, number, wire_type, bytes, levels)?;
+        self.add_unknown(number.get(), UnknownField::new(number, value))?;
+        Ok(rest)
+    }
+}
+
+/// The kind of the field or extension of a number, in a covered message type.
+fn plain_kind_at(descriptor: &MessageDescriptor, number: u32) -> Option<TableKind>
+    requires { covered (schema_at descriptor.now) (type_at descriptor.now) ≡ true }
+    ensures known { IfSome result (λ kind. PlainField (known_of descriptor.now) number kind) }
+    ensures unknown { IfNone result (field_of (known_of descriptor.now) number ≡ None) }
+{
+    match descriptor.field_table(number) {
+        Some(field) => Some(field.kind),
+        None => None,
+    }
+}

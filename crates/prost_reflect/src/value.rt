@@ -1,0 +1,53 @@
+//! Values of fields, and keys of maps.
+
+use crate::message::DynamicMessage;
+use std::collections::BTreeMap;
+
+/// The key of a map's entry (the language guide, "Maps"). Keys are ordered by their variants, and then by their values; texts by their bytes.
+#[derive(Debug, PartialEq, Eq, PartialOrd, Ord, Hash, Drop)]
+pub enum MapKey {
+    /// Of a bool field.
+    Bool(bool),
+    /// Of an int32, sint32 or sfixed32 field.
+    I32(i32),
+    /// Of an int64, sint64 or sfixed64 field.
+    I64(i64),
+    /// Of a uint32 or fixed32 field.
+    U32(u32),
+    /// Of a uint64 or fixed64 field.
+    U64(u64),
+    /// Of a string field.
+    String(String),
+}
+
+/// The value of a field or an extension, or of an element of one (the language guide, "Scalar Value Types").
+#[cycle(value)]
+#[derive(Debug, PartialEq, Drop)]
+pub enum Value {
+    /// Of a bool field.
+    Bool(bool),
+    /// Of an int32, sint32 or sfixed32 field.
+    I32(i32),
+    /// Of an int64, sint64 or sfixed64 field.
+    I64(i64),
+    /// Of a uint32 or fixed32 field.
+    U32(u32),
+    /// Of a uint64 or fixed64 field.
+    U64(u64),
+    /// The bits of a float field.
+    F32(u32),
+    /// The bits of a double field.
+    F64(u64),
+    /// Of a string field.
+    String(String),
+    /// Of a bytes field.
+    Bytes(Vec<u8>),
+    /// The number of an enum field's value.
+    EnumNumber(i32),
+    /// Of a message field, also one that is written as a group.
+    Message(DynamicMessage),
+    /// Of a repeated field.
+    List(Vec<Value>),
+    /// Of a map field.
+    Map(BTreeMap<MapKey, Value>),
+}

@@ -1,0 +1,46 @@
+-- What linked rows keep, place by place.
+use Rattle.std.proofs.Common.{◌≡◌, ℕ, zero, suc, Bool, true, false, ◌&&◌, List, [], ◌∷◌, length, Option, Some, None, refl, arith}
+use Rattle.std.specs.Prelude.{slice_get}
+use Rattle.std.specs.List.{list_all}
+use Rattle.prost_reflect_wire.specs.Schema.{schema_valid}
+use Rattle.prost_reflect_tables.specs.Rows.{FieldRow, MessageRow, TableRows}
+use Rattle.prost_reflect_tables.specs.Places.{fields_at, fields_or_none}
+use Rattle.prost_reflect_tables.specs.Shown.{schema_from}
+use Rattle.prost_reflect_tables.specs.Linked.{is_linked, message_linked, field_linked, ascending_from, kind_in_range}
+
+and_left : (a b : Bool) → a && b ≡ true → a ≡ true
+and_left true b h = refl
+and_left false b h = h
+
+and_right : (a b : Bool) → a && b ≡ true → b ≡ true
+and_right true b h = h
+and_right false b h = cc
+
+passes_at : {X : Type 0} (p : X → Bool) (xs : List X) (i : ℕ) (x : X) → list_all p xs ≡ true → slice_get xs i ≡ Some x → p x ≡ true
+passes_at p [] i x h e = cc
+passes_at p (y ∷ ys) zero x h e = grind (arith, and_left (p y) (list_all p ys) h)
+passes_at p (y ∷ ys) (suc i) x h e = passes_at p ys i x (and_right (p y) (list_all p ys) h) e
+
+pub schema_is_valid : (rows : TableRows) → is_linked rows ≡ true → schema_valid (schema_from rows) ≡ true
+schema_is_valid rows linked = and_right _ _ linked
+
+message_keeps : (rows : TableRows) (T : ℕ) (m : MessageRow) → is_linked rows ≡ true → slice_get rows.messages T ≡ Some m → message_linked (length rows.messages) (length rows.enums) m ≡ true
+message_keeps rows T m linked at = passes_at _ rows.messages T m (and_left _ _ (and_left _ _ linked)) at
+
+pub fields_ascend : (rows : TableRows) (T : ℕ) → is_linked rows ≡ true → ascending_from 0 (fields_at rows T) ≡ true
+fields_ascend rows T linked = of (slice_get rows.messages T) refl
+  where
+    of : (o : Option MessageRow) → slice_get rows.messages T ≡ o → ascending_from 0 (fields_or_none o) ≡ true
+    of None at = refl
+    of (Some m) at = and_left _ _ (and_left _ _ (and_left _ _ (message_keeps rows T m linked at)))
+
+message_of_field : (rows : TableRows) (T i : ℕ) (f : FieldRow) (o : Option MessageRow) → slice_get rows.messages T ≡ o → slice_get (fields_or_none o) i ≡ Some f → (m : MessageRow) × ((slice_get rows.messages T ≡ Some m) × (slice_get m.fields i ≡ Some f))
+message_of_field rows T i f None at e = cc
+message_of_field rows T i f (Some m) at e = (m, (at, e))
+
+pub field_keeps : (rows : TableRows) (T i : ℕ) (f : FieldRow) → is_linked rows ≡ true → slice_get (fields_at rows T) i ≡ Some f → kind_in_range (length rows.messages) (length rows.enums) f.kind ≡ true
+field_keeps rows T i f linked e =
+    let found = message_of_field rows T i f (slice_get rows.messages T) refl e in
+    let keeps = message_keeps rows T found.0 linked found.1.0 in
+    let field = passes_at (field_linked (length rows.messages) (length rows.enums) (length found.0.oneofs)) found.0.fields i f (and_right _ _ (and_left _ _ (and_left _ _ keeps))) found.1.1 in
+    and_left _ _ field

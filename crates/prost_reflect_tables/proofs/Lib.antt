@@ -1,0 +1,5 @@
+mod Ascending
+mod Positions
+pub mod Keeping
+pub mod Fields
+mod Worked

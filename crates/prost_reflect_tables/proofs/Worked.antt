@@ -1,0 +1,27 @@
+-- The worked examples, by computing.
+use Rattle.std.proofs.Common.{refl}
+use Rattle.std.specs.Char.{encode_utf8}
+use Rattle.std.specs.Str.{is_utf8, chars}
+use Rattle.prost_reflect_tables.specs.Shown.{schema_from}
+use Rattle.prost_reflect_tables.specs.Examples.{Tables, NotLinked}
+
+pub tables : Tables
+unfolding schema_from is_utf8 chars encode_utf8
+tables = record { shown = refl; linked = refl }
+
+pub not_linked : NotLinked
+unfolding schema_from is_utf8 chars encode_utf8
+not_linked = record {
+  no_message = refl;
+  no_enum = refl;
+  no_oneof = refl;
+  number_zero = refl;
+  greatest_number = refl;
+  number_too_great = refl;
+  one_number_twice = refl;
+  descending = refl;
+  lone_entry = refl;
+  entry_without_value = refl;
+  list_with_presence = refl;
+  packed_texts = refl;
+}

@@ -1,0 +1,6 @@
+pub mod Rows
+pub mod Places
+pub mod Shown
+pub mod Linked
+pub mod Schema
+pub mod Examples

@@ -1,0 +1,81 @@
+-- The rows of the tables: what they say, and not where it lies in memory.
+use Rattle.std.specs.Prelude.{ℕ, ℤ, Bool, List, map, Option, option_map, string_bytes}
+use Rattle.prost_reflect_wire.specs.Scalar as scalars
+use Rattle.prost_reflect_wire.specs.Scalar.{Scalar}
+use Rattle.prost_reflect_tables.specs.declared.tables.Cardinality.{Cardinality}
+use Rattle.prost_reflect_tables.specs.declared.tables.TableKind.{TableKind}
+use Rattle.prost_reflect_tables.specs.declared.tables.WrittenDefault.{WrittenDefault}
+use Rattle.prost_reflect_tables.specs.declared.tables.WrittenDefault.TheVariants.{Bool as BoolDefault, I32, I64, U32, U64, F32, F64, String, Bytes, EnumNumber}
+use Rattle.prost_reflect_tables.specs.declared.tables.FieldTable.{FieldTable}
+use Rattle.prost_reflect_tables.specs.declared.tables.OneofTable.{OneofTable}
+use Rattle.prost_reflect_tables.specs.declared.tables.MessageTable.{MessageTable}
+use Rattle.prost_reflect_tables.specs.declared.tables.EnumTable.{EnumTable}
+
+pub record FieldRow : Type 0 where
+  pub number : ℕ
+  pub name : List ℕ
+  pub is_extension : Bool
+  pub kind : TableKind
+  pub is_group : Bool
+  pub cardinality : Cardinality
+  pub is_packed : Bool
+  pub supports_presence : Bool
+  pub default : Option Scalar
+  pub oneof : Option ℕ
+
+pub record OneofRow : Type 0 where
+  pub name : List ℕ
+  pub fields : List ℕ
+
+pub record MessageRow : Type 0 where
+  pub full_name : List ℕ
+  pub is_map_entry : Bool
+  pub fields : List FieldRow
+  pub oneofs : List OneofRow
+
+pub record EnumRow : Type 0 where
+  pub full_name : List ℕ
+  pub numbers : List ℤ
+  pub is_closed : Bool
+
+pub record TableRows : Type 0 where
+  pub messages : List MessageRow
+  pub enums : List EnumRow
+
+abbrev pub written_scalar : WrittenDefault → Scalar
+written_scalar (BoolDefault b) = scalars.Boolean b
+written_scalar (I32 z) = scalars.I32 z
+written_scalar (I64 z) = scalars.I64 z
+written_scalar (U32 n) = scalars.U32 n
+written_scalar (U64 n) = scalars.U64 n
+written_scalar (F32 n) = scalars.F32 n
+written_scalar (F64 n) = scalars.F64 n
+written_scalar (String s) = scalars.Text (string_bytes s)
+written_scalar (Bytes v) = scalars.Bytes v.items
+written_scalar (EnumNumber z) = scalars.EnumNumber z
+
+abbrev pub field_row : FieldTable → FieldRow
+field_row f = record {
+  number = f.number;
+  name = string_bytes f.name;
+  is_extension = f.is_extension;
+  kind = f.kind;
+  is_group = f.is_group;
+  cardinality = f.cardinality;
+  is_packed = f.is_packed;
+  supports_presence = f.supports_presence;
+  default = option_map written_scalar f.default;
+  oneof = f.oneof;
+}
+
+abbrev pub oneof_row : OneofTable → OneofRow
+oneof_row o = record { name = string_bytes o.name; fields = o.fields.items }
+
+abbrev pub message_row : MessageTable → MessageRow
+message_row m = record { full_name = string_bytes m.full_name; is_map_entry = m.is_map_entry; fields = map field_row m.fields.items; oneofs = map oneof_row m.oneofs.items }
+
+abbrev pub enum_row : EnumTable → EnumRow
+enum_row e = record { full_name = string_bytes e.full_name; numbers = e.numbers.items; is_closed = e.is_closed }
+
+abbrev pub rows_from : List MessageTable → List EnumTable → TableRows
+rows_from messages enums = record { messages = map message_row messages; enums = map enum_row enums }

@@ -1,0 +1,150 @@
+//! Message types, fields and enums as plain data.
+//!
+//! A type is named by its place in the list of its sort, so that types may name one another in any order.
+
+ghost use Rattle.std.specs.Prelude.{IsTrue};
+ghost use Rattle.prost_reflect_tables.specs.Rows.{rows_from};
+ghost use Rattle.prost_reflect_tables.specs.Linked.{is_linked};
+
+/// How many values a field has, as its label says (the proto2 guide, "Field Labels").
+#[derive(Clone, Copy, PartialEq, Eq, Debug)]
+pub enum Cardinality {
+    /// At most one value.
+    Optional,
+    /// One value.
+    Required,
+    /// A list of values, or a map.
+    Repeated,
+}
+
+/// The type of a field's values (the language guide, "Scalar Value Types"). Messages and enums are named by their places.
+#[derive(Clone, Copy, PartialEq, Eq, Debug)]
+pub enum TableKind {
+    /// 64 bits of a floating-point number.
+    Double,
+    /// 32 bits of a floating-point number.
+    Float,
+    /// 32 bits with a sign, as a varint.
+    Int32,
+    /// 64 bits with a sign, as a varint.
+    Int64,
+    /// 32 bits, as a varint.
+    Uint32,
+    /// 64 bits, as a varint.
+    Uint64,
+    /// 32 bits with a sign, as a zigzag varint.
+    Sint32,
+    /// 64 bits with a sign, as a zigzag varint.
+    Sint64,
+    /// 32 bits, in four bytes.
+    Fixed32,
+    /// 64 bits, in eight bytes.
+    Fixed64,
+    /// 32 bits with a sign, in four bytes.
+    Sfixed32,
+    /// 64 bits with a sign, in eight bytes.
+    Sfixed64,
+    /// True or false.
+    Bool,
+    /// UTF-8 text.
+    String,
+    /// Any bytes.
+    Bytes,
+    /// The message type of this place in the tables' list.
+    Message(usize),
+    /// The enum of this place in the tables' list.
+    Enum(usize),
+}
+
+/// A default that a field's definition writes (the proto2 guide, "Default Field Values"). Floating-point numbers are bits.
+#[derive(PartialEq, Eq, Debug, Drop)]
+pub enum WrittenDefault {
+    /// Of a bool field.
+    Bool(bool),
+    /// Of an int32, sint32 or sfixed32 field.
+    I32(i32),
+    /// Of an int64, sint64 or sfixed64 field.
+    I64(i64),
+    /// Of a uint32 or fixed32 field.
+    U32(u32),
+    /// Of a uint64 or fixed64 field.
+    U64(u64),
+    /// Of a float field.
+    F32(u32),
+    /// Of a double field.
+    F64(u64),
+    /// Of a string field.
+    String(String),
+    /// Of a bytes field.
+    Bytes(Vec<u8>),
+    /// Of an enum field.
+    EnumNumber(i32),
+}
+
+/// A field or an extension of a message type.
+#[derive(PartialEq, Eq, Debug, Drop)]
+pub struct FieldTable {
+    /// The field number, from 1 to 536870911.
+    pub number: u32,
+    /// The field's own name, without its scope.
+    pub name: String,
+    /// Whether the field is declared outside its message type, by `extend`.
+    pub is_extension: bool,
+    /// The type of one value.
+    pub kind: TableKind,
+    /// Whether a message value is written as a group.
+    pub is_group: bool,
+    /// The label.
+    pub cardinality: Cardinality,
+    /// Whether a list is written as one record.
+    pub is_packed: bool,
+    /// Whether a value that was never set differs from the default.
+    pub supports_presence: bool,
+    /// The default that the definition writes, if it writes one.
+    pub default: Option<WrittenDefault>,
+    /// The oneof that the field is a member of, as a place in its message type's list.
+    pub oneof: Option<usize>,
+}
+
+/// A oneof of a message type.
+#[derive(PartialEq, Eq, Debug, Drop)]
+pub struct OneofTable {
+    /// The oneof's own name, without its scope.
+    pub name: String,
+    /// The members in the order of their declaration, as places in the message type's list of fields.
+    pub fields: Vec<usize>,
+}
+
+/// A message type.
+#[derive(PartialEq, Eq, Debug, Drop)]
+pub struct MessageTable {
+    /// The package, the enclosing message types and the name, joined by dots.
+    pub full_name: String,
+    /// Whether the type is that of a map's entries.
+    pub is_map_entry: bool,
+    /// The fields and extensions, in ascending order of their numbers.
+    pub fields: Vec<FieldTable>,
+    /// The oneofs, in the order of their declaration.
+    pub oneofs: Vec<OneofTable>,
+}
+
+/// An enum.
+#[derive(PartialEq, Eq, Debug, Drop)]
+pub struct EnumTable {
+    /// The package, the enclosing message types and the name, joined by dots.
+    pub full_name: String,
+    /// The numbers of the values in the order of their declaration; the first is the default.
+    pub numbers: Vec<i32>,
+    /// Whether a number that no value has is kept as an unknown field.
+    pub is_closed: bool,
+}
+
+/// The message types and enums of a pool, linked: every place that they name is there.
+#[derive(PartialEq, Eq, Debug, Drop)]
+pub struct Tables {
+    /// The message types, nested ones too.
+    pub messages: Vec<MessageTable>,
+    /// The enums, nested ones too.
+    pub enums: Vec<EnumTable>,
+    pub ghost linked: { IsTrue (is_linked (rows_from messages.items enums.items)) },
+}

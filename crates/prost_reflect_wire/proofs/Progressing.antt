@@ -1,0 +1,45 @@
+-- A message that is read record by record.
+use Rattle.std.proofs.Common.{◌≡◌, ◌≢◌, ℕ, List, [], ◌++◌, Option, Some, None, refl, sym, ap, ap₂, subst, ◌∙◌, append-nil}
+use Rattle.prost_reflect_wire.specs.declared.key.WireType.{WireType}
+use Rattle.prost_reflect_wire.specs.declared.error.DecodeError.{DecodeError}
+use Rattle.prost_reflect_wire.specs.Record.{body_of}
+use Rattle.prost_reflect_wire.specs.Front.{KeyFront, KeyFault, RecordsFront}
+use Rattle.prost_reflect_wire.specs.Schema.{Schema}
+use Rattle.prost_reflect_wire.specs.Content.{Content, empty, schema_of, type_of}
+use Rattle.prost_reflect_wire.specs.Meaning.{decoded}
+use Rattle.prost_reflect_wire.specs.Typing.{kept, WellStored}
+use Rattle.prost_reflect_wire.specs.Fault.{OfType, StandsInMessage}
+use Rattle.prost_reflect_wire.specs.Decoding.{ReadTo, Holds, Progress, Step, StandsBehindKey}
+use Rattle.prost_reflect_wire.proofs.Readings.{read_nothing, read_record, read_decoded}
+use Rattle.prost_reflect_wire.proofs.MessageFaults.{stands_behind}
+use Rattle.prost_reflect_wire.proofs.PlaceFaults.{key_stands}
+
+pub progress_start : (levels : ℕ) (c : Content) (bytes : List ℕ) → WellStored c → Progress levels c c bytes bytes
+progress_start levels c bytes w = record { read = read_nothing levels c bytes; holds = record { schema = refl; type = refl; sound = w } }
+
+pub progress_step : (levels n : ℕ) (w : WireType) (old mid new : Content) (bytes rest after end : List ℕ) → Progress levels old mid bytes rest → KeyFront n w rest after → Step levels n w mid new after end → Progress levels old new bytes end
+progress_step levels n w old mid new bytes rest after end done key step =
+    let h = done.holds in let k = step.holds in record {
+      read = read_record levels n w old mid new bytes rest after end done.read key step.read h.schema h.type;
+      holds = record { schema = k.schema ∙ h.schema; type = k.type ∙ h.type; sound = k.sound };
+    }
+
+-- a fault that stands where the reading has come to
+stands_here : (levels : ℕ) (old mid : Content) (e : DecodeError) (bytes rest : List ℕ) → Progress levels old mid bytes rest → StandsInMessage (schema_of old) (type_of old) levels e rest → StandsInMessage (schema_of old) (type_of old) levels e bytes
+stands_here levels old mid e bytes rest done s = let r = done.read in stands_behind (schema_of old) e (OfType (type_of old)) levels None r.records bytes rest r.front s
+
+-- no key is there
+pub progress_no_key : (levels : ℕ) (old mid : Content) (e : DecodeError) (bytes rest : List ℕ) → Progress levels old mid bytes rest → rest ≢ [] → KeyFault e rest → StandsInMessage (schema_of old) (type_of old) levels e bytes
+progress_no_key levels old mid e bytes rest done some f =
+    stands_here levels old mid e bytes rest done (key_stands (schema_of old) (record { bytes = rest; inside = OfType (type_of old); levels = levels; open_group = None }) e f (λ none. absurd (some none)))
+
+-- the record behind the key is refused
+pub progress_no_record : (levels n : ℕ) (w : WireType) (old mid : Content) (e : DecodeError) (bytes rest after : List ℕ) → Progress levels old mid bytes rest → KeyFront n w rest after → StandsBehindKey mid levels n w e after →
+    StandsInMessage (schema_of old) (type_of old) levels e bytes
+progress_no_record levels n w old mid e bytes rest after done key f =
+    let h = done.holds in
+    stands_here levels old mid e bytes rest done (subst (λ T. StandsInMessage (schema_of old) T levels e rest) h.type (subst (λ s. StandsInMessage s (type_of mid) levels e rest) h.schema (f rest key)))
+
+-- all was read into an empty message
+pub progress_decoded : (schema : Schema) (levels T : ℕ) (new : Content) (bytes : List ℕ) → Progress levels (empty schema T) new bytes [] → decoded schema levels T bytes ≡ Some (kept new)
+progress_decoded schema levels T new bytes done = read_decoded schema levels T new bytes done.read

@@ -1,0 +1,104 @@
+-- Records read one behind another from bytes.
+use Rattle.std.proofs.Common.{◌≡◌, ℕ, zero, suc, Bool, true, false, cond, List, [], ◌∷◌, ◌++◌, Option, Some, None, refl, ap, ap₂, sym, ◌∙◌, append-nil, append_assoc, subst}
+use Rattle.std.specs.List.{list_all}
+use Rattle.prost_reflect_wire.specs.Varint.{AreBytes, guard, ◌>>=◌}
+use Rattle.prost_reflect_wire.specs.Record.{Record, Records, NoRecords, Payload, Flat, Group, items, before, body_of, Spells, read}
+use Rattle.prost_reflect_wire.specs.declared.key.WireType.{WireType}
+use Rattle.prost_reflect_wire.specs.Front.{KeyFront, ValueFront, RecordsFront, RecordFront}
+use Rattle.prost_reflect_wire.specs.Schema.{Schema, known}
+use Rattle.prost_reflect_wire.specs.Content.{Content, ContentOf, empty, schema_of, type_of}
+use Rattle.prost_reflect_wire.specs.Grammar.{allows, record_allowed}
+use Rattle.prost_reflect_wire.specs.Meaning.{MeansInside, JoinsInside, meaning, decoded, step_by, steps_by, steps}
+use Rattle.prost_reflect_wire.specs.Writing.{record_at}
+use Rattle.prost_reflect_wire.specs.Typing.{kept}
+use Rattle.prost_reflect_wire.specs.Decoding.{ReadTo, RecordRead}
+use Rattle.prost_reflect_wire.proofs.Deeper.{both_true, allows_append}
+use Rattle.prost_reflect_wire.proofs.Allowed.{inside, allows_inside}
+use Rattle.prost_reflect_wire.proofs.Means.{below, further}
+use Rattle.prost_reflect_wire.proofs.Steps.{meaning_steps, meaning_empty}
+use Rattle.prost_reflect_wire.proofs.MessageFaults.{record_front}
+use Rattle.prost_reflect_wire.proofs.Reading.{spelled_read}
+use Rattle.prost_reflect_wire.proofs.Values.{items_body}
+
+-- STEPS
+
+pub steps_level : (k : ℕ) (c : Content) (rs : List Record) → steps k c rs ≡ steps_by (below (schema_of c) k) (further k) c rs
+unfolding steps below further
+steps_level zero c rs = refl
+steps_level (suc k) c rs = refl
+
+steps_append : (inner : MeansInside) (join : JoinsInside) (c : Content) (rs qs : List Record) → steps_by inner join c (rs ++ qs) ≡ steps_by inner join (steps_by inner join c rs) qs
+steps_append inner join c [] qs = refl
+steps_append inner join c (r ∷ rs) qs = steps_append inner join (step_by inner join c r) rs qs
+
+-- one more record makes one more step
+pub steps_one : (k : ℕ) (c : Content) (rs : List Record) (r : Record) → steps k c (rs ++ (r ∷ [])) ≡ step_by (below (schema_of c) k) (further k) (steps k c rs) r
+steps_one k c rs r =
+    steps_level k c (rs ++ (r ∷ [])) ∙ steps_append (below (schema_of c) k) (further k) c rs (r ∷ [])
+    ∙ ap (λ d. step_by (below (schema_of c) k) (further k) d r) (sym (steps_level k c rs))
+
+pub kept_schema : (c : Content) → schema_of (kept c) ≡ schema_of c
+kept_schema (ContentOf schema T es) = refl
+
+-- FRONTS
+
+spells_append : (rs qs : List Record) (a b : List ℕ) → Spells (body_of rs) a → Spells (body_of qs) b → Spells (body_of (rs ++ qs)) (a ++ b)
+spells_append [] qs a b s t = subst (Spells (body_of qs)) (ap (λ l. l ++ b) (sym s)) t
+spells_append (r ∷ rs) qs a b s t = go r.payload s (λ after u. spells_append rs qs after b u t)
+  where
+    go : (p : Payload) → Spells (before (record { number = r.number; payload = p }) (body_of rs)) a → ((after : List ℕ) → Spells (body_of rs) after → Spells (body_of (rs ++ qs)) (after ++ b)) →
+        Spells (before (record { number = r.number; payload = p }) (body_of (rs ++ qs))) (a ++ b)
+    go (Flat p) (key, body, after, k, u, v, e) more =
+        (key, body, after ++ b, k, u, more after v, ap (λ l. l ++ b) e ∙ append_assoc key (body ++ after) b ∙ ap (λ l. key ++ l) (append_assoc body after b))
+    go (Group rs') (key, body, stop, after, k, u, l, v, e) more =
+        (key, body, stop, after ++ b, k, u, l, more after v,
+        ap (λ l. l ++ b) e ∙ append_assoc key (body ++ (stop ++ after)) b ∙ ap (λ l. key ++ l) (append_assoc body (stop ++ after) b ∙ ap (λ l. body ++ l) (append_assoc stop after b)))
+
+pub front_more : (rs : List Record) (r : Record) (bytes mid rest : List ℕ) → RecordsFront (body_of rs) bytes mid → RecordFront r mid rest → RecordsFront (body_of (rs ++ (r ∷ []))) bytes rest
+front_more rs r bytes mid rest f g = record {
+  front = f.front ++ g.front;
+  spelled = spells_append rs (r ∷ []) f.front g.front f.spelled g.spelled;
+  parts = f.parts ∙ ap (λ l. f.front ++ l) g.parts ∙ sym (append_assoc f.front g.front rest);
+}
+
+-- PROGRESS
+
+pub read_nothing : (k : ℕ) (c : Content) (bytes : List ℕ) → ReadTo k c c bytes bytes
+read_nothing k c bytes = record {
+  records = [];
+  front = record { front = []; spelled = refl; parts = refl };
+  allowed = allows_inside (schema_of c) k (type_of c) [];
+  means = sym (steps_level k (kept c) []);
+}
+-- one step behind another
+pub steps_behind : (k : ℕ) (c d : Content) (rs : List Record) (r : Record) → d ≡ steps k c rs → schema_of d ≡ schema_of c → steps k c (rs ++ (r ∷ [])) ≡ steps k d (r ∷ [])
+steps_behind k c d rs r is same =
+    steps_one k c rs r ∙ ap₂ (λ schema x. step_by (below schema k) (further k) x r) (sym same) (sym is) ∙ sym (steps_level k d (r ∷ []))
+
+-- one record more
+pub read_record : (k n : ℕ) (w : WireType) (old mid new : Content) (bytes rest after end : List ℕ) → ReadTo k old mid bytes rest → KeyFront n w rest after → RecordRead k n w mid new after end →
+    schema_of mid ≡ schema_of old → type_of mid ≡ type_of old → ReadTo k old new bytes end
+read_record k n w old mid new bytes rest after end done key next schema type = record {
+  records = done.records ++ (r ∷ []);
+  front = front_more done.records r bytes rest end done.front
+      (record_front n next.payload rest after end (subst (λ v. KeyFront n v rest after) (sym value.wire) key) value.front);
+  allowed = allows_append (schema_of old) k (type_of old) done.records (r ∷ []) done.allowed
+      (ap₂ (λ s T. allows s k T (r ∷ [])) (sym schema) (sym type) ∙ next.allowed);
+  means = next.means ∙ sym (steps_behind k (kept old) (kept mid) done.records r done.means (kept_schema mid ∙ schema ∙ sym (kept_schema old)));
+}
+  where
+    r : Record
+    r = record_at n next.payload
+
+    value : ValueFront n w k next.payload after end
+    value = next.value
+-- a whole message, read into nothing
+pub read_decoded : (schema : Schema) (k T : ℕ) (new : Content) (bytes : List ℕ) → ReadTo k (empty schema T) new bytes [] → decoded schema k T bytes ≡ Some (kept new)
+read_decoded schema k T new bytes done =
+    ap (λ (o : Option Records). o >>= λ rs. guard (allows schema k T (items rs)) (meaning schema k T (items rs))) (spelled_read (body_of done.records) bytes whole)
+    ∙ ap (λ rs. guard (allows schema k T rs) (meaning schema k T rs)) (items_body done.records)
+    ∙ ap (λ b. guard b (meaning schema k T done.records)) done.allowed
+    ∙ ap Some (meaning_steps schema k T [] done.records ∙ ap (λ c. steps k c done.records) (meaning_empty schema k T) ∙ sym done.means)
+  where
+    whole : Spells (body_of done.records) bytes
+    whole = let f : RecordsFront (body_of done.records) bytes [] = done.front in subst (Spells (body_of done.records)) (sym (f.parts ∙ append-nil f.front)) f.spelled

@@ -1,0 +1,70 @@
+-- What the steps of reading a message have read, and what they refuse.
+use Rattle.std.specs.Prelude.{◌≡◌, ◌≢◌, ℕ, Bool, true, false, List, [], ◌∷◌, Some}
+use Rattle.std.specs.Str.{is_utf8}
+use Rattle.prost_reflect_wire.specs.declared.key.WireType.{WireType}
+use Rattle.prost_reflect_wire.specs.declared.key.WireType.TheVariants as wires
+use Rattle.prost_reflect_wire.specs.declared.error.DecodeError.{DecodeError}
+use Rattle.prost_reflect_wire.specs.declared.error.DecodeError.TheVariants as errors
+use Rattle.prost_reflect_wire.specs.Record.{Plain, Payload, Flat, Record, body_of, plain_wire}
+use Rattle.prost_reflect_wire.specs.Front.{KeyFront, PlainFront, DelimitedFront, ValueFront, RecordsFront, PayloadEnds, PayloadPasses}
+use Rattle.prost_reflect_wire.specs.Scalar.{Scalar, ScalarKind, StringKind, kind_wire, elem}
+use Rattle.prost_reflect_wire.specs.Content.{Content, schema_of, type_of}
+use Rattle.prost_reflect_wire.specs.Grammar.{allows}
+use Rattle.prost_reflect_wire.specs.Meaning.{steps}
+use Rattle.prost_reflect_wire.specs.Writing.{record_at}
+use Rattle.prost_reflect_wire.specs.Typing.{kept, WellStored}
+use Rattle.prost_reflect_wire.specs.Fault.{StandsInMessage, same_wire}
+
+-- The bytes before the rest are records that the old content's type takes, and the new content is what they make of the old one.
+pub record ReadTo (levels : ℕ) (old new : Content) (bytes rest : List ℕ) : Type 0 where
+  pub records : List Record
+  pub front : RecordsFront (body_of records) bytes rest
+  pub allowed : allows (schema_of old) levels (type_of old) records ≡ true
+  pub means : kept new ≡ steps levels (kept old) records
+
+-- Behind a key, a payload is read, and its record makes the new content of the old one.
+pub record RecordRead (levels n : ℕ) (w : WireType) (old new : Content) (bytes rest : List ℕ) : Type 0 where
+  pub payload : Payload
+  pub value : ValueFront n w levels payload bytes rest
+  pub allowed : allows (schema_of old) levels (type_of old) (record_at n payload ∷ []) ≡ true
+  pub means : kept new ≡ steps levels (kept old) (record_at n payload ∷ [])
+
+-- READING INTO A MESSAGE
+
+-- The new content is of the old one's type, and well-stored.
+pub record Holds (old new : Content) : Type 0 where
+  pub schema : schema_of new ≡ schema_of old
+  pub type : type_of new ≡ type_of old
+  pub sound : WellStored new
+
+-- So far the message was read, and still holds.
+pub record Progress (levels : ℕ) (old new : Content) (bytes rest : List ℕ) : Type 0 where
+  pub read : ReadTo levels old new bytes rest
+  pub holds : Holds old new
+
+-- One record more was read, and the message still holds.
+pub record Step (levels n : ℕ) (w : WireType) (old new : Content) (bytes rest : List ℕ) : Type 0 where
+  pub read : RecordRead levels n w old new bytes rest
+  pub holds : Holds old new
+
+-- Wherever such a key stands in front of the bytes, the fault stands in the message there.
+abbrev pub StandsBehindKey : Content → ℕ → ℕ → WireType → DecodeError → List ℕ → Type 0
+StandsBehindKey c levels n w e rest = (bytes : List ℕ) → KeyFront n w bytes rest → StandsInMessage (schema_of c) (type_of c) levels e bytes
+
+-- SCALARS
+
+-- Behind a key, the payload of a value of the kind.
+pub record ScalarRead (kind : ScalarKind) (w : WireType) (v : Scalar) (bytes rest : List ℕ) : Type 0 where
+  pub plain : Plain
+  pub wire : plain_wire plain ≡ w
+  pub front : PlainFront plain bytes rest
+  pub value : elem kind (Flat plain) ≡ Some v
+
+-- Why there is none.
+abbrev pub ScalarFault : ScalarKind → WireType → DecodeError → List ℕ → Type 0
+ScalarFault kind w errors.Truncated bytes = PayloadEnds w bytes
+ScalarFault kind w errors.Varint bytes = PayloadPasses w bytes
+ScalarFault kind w errors.WireType bytes = (w ≢ wires.EndGroup) × (same_wire w (kind_wire kind) ≡ false)
+ScalarFault kind w errors.EndGroup bytes = w ≡ wires.EndGroup
+ScalarFault kind w errors.Utf8 bytes = (w ≡ wires.LengthDelimited) × (kind ≡ StringKind) × ((body rest : List ℕ) × DelimitedFront body bytes rest × (is_utf8 body ≡ false))
+ScalarFault kind w e bytes = ⊥
