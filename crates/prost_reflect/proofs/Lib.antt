@@ -15,3 +15,5 @@ pub mod Stored
 pub mod Merging
 pub mod ContentChanges
 pub mod Described
+pub mod Zeros
+pub mod WrittenValues

@@ -1,8 +1,8 @@
 -- Scalar kinds of the tables, their payloads and values.
-use Rattle.std.specs.Prelude.{◌≡◌, ℕ, pos, true, false, List, [], Option, Some, None, option_map, option_and_then, IsSomeAnd}
+use Rattle.std.specs.Prelude.{◌≡◌, ℕ, Bool, pos, true, false, List, [], ◌++◌, Option, Some, None, option_map, option_and_then, IsSomeAnd}
 use Rattle.prost_reflect_wire.specs.declared.key.WireType.{WireType}
 use Rattle.prost_reflect_wire.specs.declared.error.DecodeError.{DecodeError}
-use Rattle.prost_reflect_wire.specs.Record.{Payload, short_plain}
+use Rattle.prost_reflect_wire.specs.Record.{Payload, short_key, short_plain}
 use Rattle.prost_reflect_wire.specs.Scalar as scalars
 use Rattle.prost_reflect_wire.specs.Scalar.{Scalar, ScalarKind, elem, kind_wire, scalar_eq, written}
 use Rattle.prost_reflect_wire.specs.Content.{ScalarValue}
@@ -11,7 +11,7 @@ use Rattle.prost_reflect_wire.specs.Schema.{ScalarOf, Singular, Field, field_of}
 use Rattle.prost_reflect_wire.specs.Typing.{element_valid}
 use Rattle.prost_reflect_wire.specs.Decoding.{ScalarRead, ScalarFault}
 use Rattle.prost_reflect_tables.specs.declared.tables.TableKind.{TableKind}
-use Rattle.prost_reflect_tables.specs.declared.tables.TableKind.TheVariants.{Double, Float, Int32, Int64, Uint32, Uint64, Sint32, Sint64, Fixed32, Fixed64, Sfixed32, Sfixed64, Bool, String, Bytes, Message, Enum}
+use Rattle.prost_reflect_tables.specs.declared.tables.TableKind.TheVariants.{Double, Float, Int32, Int64, Uint32, Uint64, Sint32, Sint64, Fixed32, Fixed64, Sfixed32, Sfixed64, Bool as BoolKind, String, Bytes, Message, Enum}
 use Rattle.prost_reflect.specs.declared.value.Value.{Value}
 use Rattle.prost_reflect.specs.View.{value_of}
 
@@ -29,7 +29,7 @@ plain_kind Fixed32 = Some scalars.Fixed32
 plain_kind Fixed64 = Some scalars.Fixed64
 plain_kind Sfixed32 = Some scalars.Sfixed32
 plain_kind Sfixed64 = Some scalars.Sfixed64
-plain_kind Bool = Some scalars.BoolKind
+plain_kind BoolKind = Some scalars.BoolKind
 plain_kind String = Some scalars.StringKind
 plain_kind Bytes = Some scalars.BytesKind
 plain_kind (Message T) = None
@@ -65,6 +65,11 @@ TakesScalar kind v = IsSomeAnd (plain_kind kind) (λ k. element_valid (ScalarOf 
 abbrev pub scalar_bytes : Option ScalarKind → content.Value → List ℕ
 scalar_bytes (Some k) (ScalarValue v) = short_plain (written k v)
 scalar_bytes o v = []
+
+-- The bytes of the value's record.
+abbrev pub scalar_record_bytes : ℕ → Option ScalarKind → content.Value → List ℕ
+scalar_record_bytes n (Some k) v = short_key n (kind_wire k) ++ scalar_bytes (Some k) v
+scalar_record_bytes n None v = []
 
 -- The number is that of a field of one plain scalar, which the tables call by this kind.
 pub record PlainField (fields : List Field) (n : ℕ) (kind : TableKind) : Type 0 where

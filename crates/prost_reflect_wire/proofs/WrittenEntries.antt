@@ -7,6 +7,7 @@ use Rattle.prost_reflect_wire.specs.Scalar.{Scalar, F64, F32, I64, U64, I32, U32
 use Rattle.prost_reflect_wire.specs.Schema.{ScalarOf, Singular, ValueType, Field, field_of, is_singular}
 use Rattle.prost_reflect_wire.specs.Content.{Entries, Unknown, Value, ScalarValue, Slot, then_unknowns, then_value, store}
 use Rattle.prost_reflect_wire.specs.Writing.{record_at, is_default_of, field_payloads, entries_records, scalar_payload}
+use Rattle.prost_reflect_wire.specs.Storing.{kept_records, value_bytes, stored_bytes, slot_bytes}
 use Rattle.prost_reflect_wire.specs.Typing.{kept_value, kept_inside, kept_entries, is_empty_of}
 
 pub spelled_append : (rs qs : List Record) → spelled (rs ++ qs) ≡ spelled rs ++ spelled qs
@@ -31,11 +32,6 @@ spelled_append (r ∷ rs) qs = go r.payload (spelled_append rs qs)
         stop = short_key r.number wires.EndGroup
 
 -- ONE NUMBER
-
--- the records of the value that is kept at a number
-abbrev pub kept_records : List Field → ℕ → Option Value → List Record
-kept_records fields n None = []
-kept_records fields n (Some v) = map (record_at n) (field_payloads (field_of fields n) v)
 
 unknown_records : (fields : List Field) (n : ℕ) (ps : List Payload) (es : Entries) → entries_records fields (then_unknowns n ps es) ≡ map (record_at n) ps ++ entries_records fields es
 unknown_records fields n [] es = refl
@@ -73,6 +69,18 @@ written_slot fields n slot es = go slot.value
     go None = valued None
     go (Some v) = valued (kept_value (field_of fields n) (kept_inside v))
 
+-- the same with the bytes of the slot in front
+pub written_store : (fields : List Field) (n : ℕ) (slot : Slot) (es : Entries) →
+    spelled (entries_records fields (kept_entries fields (store n slot es))) ≡ slot_bytes fields n slot ++ spelled (entries_records fields (kept_entries fields es))
+written_store fields n slot es =
+    written_slot fields n slot es
+    ∙ ap (λ l. l ++ (spelled (map (record_at n) slot.unknowns) ++ spelled (entries_records fields (kept_entries fields es)))) (go slot.value)
+    ∙ sym (append_assoc (stored_bytes fields n slot.value) (spelled (map (record_at n) slot.unknowns)) (spelled (entries_records fields (kept_entries fields es))))
+  where
+    go : (o : Option Value) → spelled (kept_records fields n (o >>= λ v. kept_value (field_of fields n) (kept_inside v))) ≡ stored_bytes fields n o
+    go None = refl
+    go (Some v) = refl
+
 -- SCALARS
 
 -- a scalar that fits is written with its kind's wire type
@@ -97,7 +105,7 @@ written_wire kind v h = absurd (true≢false (sym h))
 
 -- what is written of a singular scalar
 pub scalar_written : (fields : List Field) (n : ℕ) (f : Field) (kind : ScalarKind) (v : Scalar) → field_of fields n ≡ Some f → f.form ≡ Singular → f.value_type.kind ≡ ScalarOf kind → scalar_valid kind v ≡ true →
-    spelled (kept_records fields n (kept_value (field_of fields n) (ScalarValue v)))
+    value_bytes fields n (ScalarValue v)
     ≡ cond (not f.value_type.presence && scalar_eq v f.value_type.default) [] (short_key n (kind_wire kind) ++ short_plain (written kind v))
 scalar_written fields n f kind v found form is fits =
     ap (λ o. spelled (kept_records fields n (kept_value o (ScalarValue v)))) found

@@ -1,14 +1,23 @@
 //! Writing messages, the last byte first, so that a length is written once what it counts is there.
 
-ghost use Rattle.std.specs.Prelude.{◌≡◌};
-
+ghost use Rattle.std.specs.Prelude.{◌≡◌, ◌&&◌, not, ◌≤◌, ◌^◌, ◌++◌, true, length, option_map, IsSome, IfOk, IfErr, OnOk, OnErr};
 ghost use Rattle.prost_reflect_wire.specs.Record.{Len, short_plain};
+ghost use Rattle.prost_reflect_wire.specs.Schema.{field_of, passes};
+ghost use Rattle.prost_reflect_wire.specs.Writing.{encoded};
+ghost use Rattle.prost_reflect_wire.specs.Typing.{kept, encodable, value_valid};
+ghost use Rattle.prost_reflect_wire.specs.Storing.{value_bytes, slot_bytes};
 ghost use Rattle.prost_reflect_wire.specs.Buffer.{bytes_of, Prepended};
-ghost use Rattle.prost_reflect.specs.View.{value_of};
-ghost use Rattle.prost_reflect.specs.Scalars.{plain_kind, TakesScalar, scalar_bytes, is_zero};
+ghost use Rattle.prost_reflect_tables.specs.Rows.{field_row, written_scalar};
+ghost use Rattle.prost_reflect.specs.Covered.{covered};
+ghost use Rattle.prost_reflect.specs.Descriptors.{schema_at, type_at};
+ghost use Rattle.prost_reflect.specs.Known.{known_of};
+ghost use Rattle.prost_reflect.specs.View.{value_of, content_of, descriptor_of};
+ghost use Rattle.prost_reflect.specs.Scalars.{plain_kind, TakesScalar, scalar_bytes, scalar_record_bytes, is_zero, equals, is_default};
 
+use crate::descriptor::MessageDescriptor;
+use crate::message::scalar::wire_type_of;
 use crate::value::Value;
-use prost_reflect_tables::TableKind;
+use prost_reflect_tables::{FieldTable, TableKind, WrittenDefault};
 use prost_reflect_wire::{BackBuffer, EncodeError, sign_extended, zigzag32, zigzag64};
 
 /// Adds the payload of a scalar in front.
@@ -57,5 +66,74 @@ fn is_zero(value: &Value) -> bool
         Value::String(value) => value.is_empty(),
         Value::Bytes(value) => value.is_empty(),
         Value::Message(_) | Value::List(_) | Value::Map(_) => false,
+    }
+}
+
+/// Whether a scalar is the default that a field's definition writes.
+fn equals_written(value: &Value, default: &WrittenDefault) -> bool
+    ensures { result ≡ equals (value_of value.now) (written_scalar default.now) }
+{
+    match (value, default) {
+        (Value::Bool(value), WrittenDefault::Bool(default)) => value == default,
+        (Value::I32(value), WrittenDefault::I32(default)) => value == default,
+        (Value::I64(value), WrittenDefault::I64(default)) => value == default,
+        (Value::U32(value), WrittenDefault::U32(default)) => value == default,
+        (Value::U64(value), WrittenDefault::U64(default)) => value == default,
+        (Value::F32(value), WrittenDefault::F32(default)) => value == default,
+        (Value::F64(value), WrittenDefault::F64(default)) => value == default,
+        (Value::String(value), WrittenDefault::String(default)) => value == default,
+        (Value::Bytes(value), WrittenDefault::Bytes(default)) => value == default,
+        (Value::EnumNumber(value), WrittenDefault::EnumNumber(default)) => value == default,
+        _ => false,
+    }
+}
+
+/// Whether a scalar is its field's default: the one that the definition writes, else zero, false or empty.
+fn is_default(value: &Value, default: &Option<WrittenDefault>) -> bool
+    ensures { result ≡ is_default (option_map written_scalar default.now) (value_of value.now) }
+{
+    match default {
+        Some(default) => equals_written(value, default),
+        None => is_zero(value),
+    }
+}
+
+/// Whether nothing is written of a scalar: the default of a field without presence.
+fn is_left_out(value: &Value, field: &FieldTable) -> bool
+    ensures { result ≡ (not (field_row field.now).supports_presence && is_default (field_row field.now).default (value_of value.now)) }
+{
+    !field.supports_presence && is_default(value, &field.default)
+}
+
+/// Adds the record of a scalar in front.
+fn prepend_scalar_record(
+    buffer: &mut BackBuffer,
+    number: u32,
+    kind: TableKind,
+    value: &Value,
+) -> Result<(), EncodeError>
+    requires { TakesScalar kind (value_of value.now) }
+    ensures { Prepended result (bytes_of buffer.old) (bytes_of buffer.new) (scalar_record_bytes number (plain_kind kind) (value_of value.now)) }
+{
+    prepend_scalar(buffer, kind, value)?;
+    let wire_type = wire_type_of(kind);
+    buffer.prepend_varint(8 * u64::from(number) + u64::from(wire_type.code()))
+}
+
+/// Adds what is kept of a field's value in front.
+fn prepend_value(
+    buffer: &mut BackBuffer,
+    descriptor: &MessageDescriptor,
+    number: u32,
+    value: &Value,
+) -> Result<(), EncodeError>
+    requires plain { covered (schema_at descriptor.now) (type_at descriptor.now) ≡ true }
+    requires valid { passes (field_of (known_of descriptor.now) number) (λ f. value_valid f (value_of value.now)) ≡ true }
+    ensures { Prepended result (bytes_of buffer.old) (bytes_of buffer.new) (value_bytes (known_of descriptor.now) number (value_of value.now)) }
+{
+    match descriptor.field_table(number) {
+        Some(field) if is_left_out(value, field) => Ok(()),
+        Some(field) => prepend_scalar_record(buffer, number, field.kind, value),
+        None => unreachable!(),
     }
 }

@@ -15,7 +15,7 @@ use prost_reflect_wire::{
 use std::alloc::Global;
 
 /// The wire type of a scalar kind's payloads.
-fn wire_type_of(kind: TableKind) -> WireType
+pub(crate) fn wire_type_of(kind: TableKind) -> WireType
     requires { IsSome (plain_kind kind) }
     ensures { HasWire kind result }
 {
