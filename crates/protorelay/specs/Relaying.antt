@@ -40,7 +40,7 @@ pub record PassesLength (schema : Schema) (T : ℕ) (bytes : List ℕ) : Type 0 
   pub relayed : relayed schema LEVEL_LIMIT T bytes ≡ Some written
   pub passes : 2 ^ 64 ≤ length written
 
--- Why the bytes are refused: a fault stands in them, or they are too long again. Want of memory may come anywhere.
+-- Why the bytes are refused: a fault stands in them, or what is written again is too long. Want of memory may come anywhere.
 abbrev pub RefusesBytes : Schema → ℕ → List ℕ → Refusal → Type 0
 RefusesBytes schema T bytes Name = ⊥
 RefusesBytes schema T bytes Hex = ⊥
