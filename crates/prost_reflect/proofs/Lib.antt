@@ -17,3 +17,4 @@ pub mod ContentChanges
 pub mod Described
 pub mod Zeros
 pub mod WrittenValues
+pub mod Encodings

@@ -19,3 +19,4 @@ pub mod Scalars
 pub mod Covered
 pub mod Builtin
 pub mod BuiltinRows
+pub mod Encoding

@@ -4,12 +4,9 @@ use Rattle.std.specs.Cmp.Lexicographic.{pointwise}
 use Rattle.prost_reflect.specs.declared.descriptor.message.MessageDescriptor.{MessageDescriptor}
 use Rattle.prost_reflect.specs.contracts.descriptor.message.MessageDescriptorPartialEq.TheImpl as descriptor_eq
 use Rattle.prost_reflect_wire.specs.declared.unknown.UnknownFieldSet.{UnknownFieldSet}
-use Rattle.prost_reflect_wire.specs.contracts.unknown.equality.UnknownFieldSetPartialEq.TheImpl as unknown_eq
+use Rattle.prost_reflect_wire.specs.Equality.{set_eq}
 use Rattle.prost_reflect.specs.declared.fields.entry.Entry.{Entry}
 use Rattle.prost_reflect.specs.declared.fields.entry.Entry.TheVariants.{Value, Unknown, Both}
-
-abbrev pub same_unknown : UnknownFieldSet → UnknownFieldSet → Bool
-same_unknown = (unknown_eq.ghosts).eq
 
 abbrev pub same_descriptor : MessageDescriptor → MessageDescriptor → Bool
 same_descriptor = (descriptor_eq.ghosts).eq
@@ -20,11 +17,11 @@ module _ {V : Type 0} (same : V → V → Bool) where
   same_entry (Value v) (Unknown u) = false
   same_entry (Value v) (Both w u) = false
   same_entry (Unknown u) (Value v) = false
-  same_entry (Unknown u) (Unknown t) = same_unknown u t
+  same_entry (Unknown u) (Unknown t) = set_eq u t
   same_entry (Unknown u) (Both w t) = false
   same_entry (Both v u) (Value w) = false
   same_entry (Both v u) (Unknown t) = false
-  same_entry (Both v u) (Both w t) = same v w && same_unknown u t
+  same_entry (Both v u) (Both w t) = same v w && set_eq u t
 
   abbrev pub same_item : ℕ × Entry V → ℕ × Entry V → Bool
   same_item p q = (p.0 == q.0) && same_entry p.1 q.1

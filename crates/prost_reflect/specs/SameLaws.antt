@@ -6,27 +6,24 @@ use mathlib.Core.Path.{refl}
 use Rattle.prost_reflect.specs.declared.descriptor.message.MessageDescriptor.{MessageDescriptor}
 use Rattle.prost_reflect.specs.contracts.descriptor.message.MessageDescriptorPartialEq.TheImpl.Laws as descriptor_laws
 use Rattle.prost_reflect_wire.specs.declared.unknown.UnknownFieldSet.{UnknownFieldSet}
-use Rattle.prost_reflect_wire.specs.contracts.unknown.equality.UnknownFieldSetPartialEq.TheImpl.Laws as unknown_laws
+use Rattle.prost_reflect_wire.specs.Equality.{set_eq, set_eq_laws}
 use Rattle.prost_reflect.specs.declared.fields.entry.Entry.{Entry}
 use Rattle.prost_reflect.specs.declared.fields.entry.Entry.TheVariants.{Value, Unknown, Both}
-use Rattle.prost_reflect.specs.Same.{same_unknown, same_descriptor, same_entry, same_item, same_slots}
-
-pub unknown_per : IsPartialEquivalence same_unknown
-unknown_per = unknown_laws.laws-law
+use Rattle.prost_reflect.specs.Same.{same_descriptor, same_entry, same_item, same_slots}
 
 pub descriptor_per : IsPartialEquivalence same_descriptor
 descriptor_per = descriptor_laws.laws-law
 
 module _ {V : Type 0} {same : V → V → Bool} (p : IsPartialEquivalence same) where
-  abbrev both_per : IsPartialEquivalence (λ (a b : V × UnknownFieldSet). same a.0 b.0 && same_unknown a.1 b.1)
-  both_per = and_per (on_per (λ a. a.0) p) (on_per (λ a. a.1) unknown_per)
+  abbrev both_per : IsPartialEquivalence (λ (a b : V × UnknownFieldSet). same a.0 b.0 && set_eq a.1 b.1)
+  both_per = and_per (on_per (λ a. a.0) p) (on_per (λ a. a.1) set_eq_laws)
 
   symm : (a b : Entry V) → same_entry same a b ≡ same_entry same b a
   symm (Value v) (Value w) = p.symm v w
   symm (Value v) (Unknown u) = refl
   symm (Value v) (Both w u) = refl
   symm (Unknown u) (Value v) = refl
-  symm (Unknown u) (Unknown t) = unknown_per.symm u t
+  symm (Unknown u) (Unknown t) = set_eq_laws.symm u t
   symm (Unknown u) (Both w t) = refl
   symm (Both v u) (Value w) = refl
   symm (Both v u) (Unknown t) = refl
@@ -40,7 +37,7 @@ module _ {V : Type 0} {same : V → V → Bool} (p : IsPartialEquivalence same) 
   trans (Value v) (Both w u) c h k = cc
   trans (Unknown u) (Value v) c h k = cc
   trans (Unknown u) (Unknown t) (Value x) h k = k
-  trans (Unknown u) (Unknown t) (Unknown s) h k = unknown_per.trans u t s h k
+  trans (Unknown u) (Unknown t) (Unknown s) h k = set_eq_laws.trans u t s h k
   trans (Unknown u) (Unknown t) (Both x s) h k = k
   trans (Unknown u) (Both w t) c h k = cc
   trans (Both v u) (Value w) c h k = cc

@@ -7,21 +7,21 @@ use Rattle.prost_reflect_wire.specs.Record.{Key, key_at, wire_code, plain_wire, 
 use Rattle.prost_reflect_wire.specs.declared.key.WireType.{WireType}
 use Rattle.prost_reflect_wire.specs.declared.key.WireType.TheVariants as wires
 
-some_inside : {A : Type 0} {x y : A} → Some x ≡ Some y → x ≡ y
+pub some_inside : {A : Type 0} {x y : A} → Some x ≡ Some y → x ≡ y
 some_inside {x} e = ap (λ o. elim o [ None ↦ x | Some z ↦ z ]) e
 
-none_some : {A : Type 0} {y : A} → None ≡ Some y → ⊥
+pub none_some : {A : Type 0} {y : A} → None ≡ Some y → ⊥
 none_some e = true≢false (ap (λ o. elim o [ None ↦ true | Some z ↦ false ]) e)
 
 pub bind_ok : {A B : Type 0} (f : A → Option B) (m : Option A) (y : B) → (m >>= f) ≡ Some y → (x : A) × (m ≡ Some x) × (f x ≡ Some y)
 bind_ok f None y e = absurd (none_some e)
 bind_ok f (Some x) y e = (x, refl, e)
 
-guard_ok : {A : Type 0} (b : Bool) (x y : A) → guard b x ≡ Some y → (b ≡ true) × (x ≡ y)
+pub guard_ok : {A : Type 0} (b : Bool) (x y : A) → guard b x ≡ Some y → (b ≡ true) × (x ≡ y)
 guard_ok true x y e = (refl, some_inside e)
 guard_ok false x y e = absurd (none_some e)
 
-bytes_after : (front rest : List ℕ) → AreBytes (front ++ rest) → AreBytes rest
+pub bytes_after : (front rest : List ℕ) → AreBytes (front ++ rest) → AreBytes rest
 bytes_after [] rest h = h
 bytes_after (b ∷ front) rest h = bytes_after front rest h.1
 

@@ -7,6 +7,8 @@ pub mod field_laws;
 mod key;
 pub mod laws;
 mod payload;
+#[cfg(test)]
+mod tests;
 mod unknown;
 mod varint;
 
@@ -19,6 +21,6 @@ pub use payload::{
 };
 pub use unknown::{
     RECURSION_LIMIT, UnknownField, UnknownFieldSet, UnknownFieldValue, field_len, fields_len,
-    prepend_field, prepend_fields, prepend_fields_at, value_at,
+    prepend_field, prepend_fields, prepend_fields_at, skip_value, value_at,
 };
 pub use varint::{decode_varint, varint_len};

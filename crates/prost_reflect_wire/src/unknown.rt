@@ -15,10 +15,12 @@ mod copy;
 mod equality;
 mod length;
 mod reading;
+mod skipping;
 mod writing;
 
 pub use length::{field_len, fields_len};
 pub use reading::{RECURSION_LIMIT, value_at};
+pub use skipping::skip_value;
 pub use writing::{prepend_field, prepend_fields, prepend_fields_at};
 
 /// A field that its message does not know.

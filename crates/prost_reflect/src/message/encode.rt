@@ -10,15 +10,19 @@ ghost use Rattle.prost_reflect_wire.specs.Buffer.{bytes_of, Prepended};
 ghost use Rattle.prost_reflect_tables.specs.Rows.{field_row, written_scalar};
 ghost use Rattle.prost_reflect.specs.Covered.{covered};
 ghost use Rattle.prost_reflect.specs.Descriptors.{schema_at, type_at};
+ghost use Rattle.prost_reflect.specs.Encoding.{entry_slot, entries_bytes, IsWritable, AreWritable};
 ghost use Rattle.prost_reflect.specs.Known.{known_of};
 ghost use Rattle.prost_reflect.specs.View.{value_of, content_of, descriptor_of};
 ghost use Rattle.prost_reflect.specs.Scalars.{plain_kind, TakesScalar, scalar_bytes, scalar_record_bytes, is_zero, equals, is_default};
 
 use crate::descriptor::MessageDescriptor;
+use crate::fields::entry::Entry;
+use crate::message::DynamicMessage;
 use crate::message::scalar::wire_type_of;
 use crate::value::Value;
 use prost_reflect_tables::{FieldTable, TableKind, WrittenDefault};
-use prost_reflect_wire::{BackBuffer, EncodeError, sign_extended, zigzag32, zigzag64};
+use prost_reflect_wire::{BackBuffer, EncodeError, prepend_fields, sign_extended, zigzag32, zigzag64};
+use std::alloc::Global;
 
 /// Adds the payload of a scalar in front.
 fn prepend_scalar(buffer: &mut BackBuffer, kind: TableKind, value: &Value) -> Result<(), EncodeError>
@@ -135,5 +139,80 @@ fn prepend_value(
         Some(field) if is_left_out(value, field) => Ok(()),
         Some(field) => prepend_scalar_record(buffer, number, field.kind, value),
         None => unreachable!(),
+    }
+}
+
+/// Adds in front what is written at a number: what is kept of the value, and then the unknown fields.
+fn prepend_entry(
+    buffer: &mut BackBuffer,
+    descriptor: &MessageDescriptor,
+    number: u32,
+    entry: &Entry<Value>,
+) -> Result<(), EncodeError>
+    requires plain { covered (schema_at descriptor.now) (type_at descriptor.now) ≡ true }
+    requires writable { IsWritable (known_of descriptor.now) number entry.now }
+    ensures { Prepended result (bytes_of buffer.old) (bytes_of buffer.new) (slot_bytes (known_of descriptor.now) number (entry_slot entry.now)) }
+{
+    match entry {
+        Entry::Value(value) => prepend_value(buffer, descriptor, number, value),
+        Entry::Unknown(unknown) => prepend_fields(unknown, buffer),
+        Entry::Both(value, unknown) => {
+            prepend_fields(unknown, buffer)?;
+            prepend_value(buffer, descriptor, number, value)
+        }
+    }
+}
+
+/// Adds in front what is written of entries, in their order.
+fn prepend_entries(
+    buffer: &mut BackBuffer,
+    descriptor: &MessageDescriptor,
+    entries: &[(u32, Entry<Value>)],
+) -> Result<(), EncodeError>
+    requires plain { covered (schema_at descriptor.now) (type_at descriptor.now) ≡ true }
+    requires writable { AreWritable (known_of descriptor.now) entries.now }
+    ensures { Prepended result (bytes_of buffer.old) (bytes_of buffer.new) (entries_bytes (known_of descriptor.now) entries.now) }
+{
+    for index in (0..entries.len()).rev() {
+        let entry = &entries[index];
+        prepend_entry(buffer, descriptor, entry.0, &entry.1)?;
+    }
+    Ok(())
+}
+
+impl DynamicMessage {
+    /// Appends the encoding of the message: fields and unknown fields in ascending order of their numbers, without the
+    /// defaults of fields that have no presence.
+    ///
+    /// # Errors
+    ///
+    /// `TooLong` if the encoding passes the greatest `usize`, `OutOfMemory` if a growth is refused; the output stays.
+    pub fn encode(&self, out: &mut Vec<u8>) -> Result<(), EncodeError>
+        requires plain { covered (schema_at (descriptor_of self.now)) (type_at (descriptor_of self.now)) ≡ true }
+        requires encodable { encodable (content_of self.now) ≡ true }
+        ensures ok { OnOk result (out.new.items ≡ out.old.items ++ encoded (kept (content_of self.now))) }
+        ensures err { OnErr result (out.new.items ≡ out.old.items) }
+        ensures too_long { IfErr result (λ e. e ≡ EncodeError.TooLong → 2 ^ 64 ≤ length (encoded (kept (content_of self.now)))) }
+    {
+        let mut buffer = BackBuffer::new(*out.allocator());
+        prepend_entries(&mut buffer, self.descriptor(), self.entries())?;
+        buffer.append_to(out)?;
+        Ok(())
+    }
+
+    /// The encoding of the message, as `encode` appends it.
+    ///
+    /// # Errors
+    ///
+    /// As `encode`.
+    pub fn encode_to_vec(&self, alloc: Global) -> Result<Vec<u8>, EncodeError>
+        requires plain { covered (schema_at (descriptor_of self.now)) (type_at (descriptor_of self.now)) ≡ true }
+        requires encodable { encodable (content_of self.now) ≡ true }
+        ensures ok { IfOk result (λ out. out.items ≡ encoded (kept (content_of self.now))) }
+        ensures too_long { IfErr result (λ e. e ≡ EncodeError.TooLong → 2 ^ 64 ≤ length (encoded (kept (content_of self.now)))) }
+    {
+        let mut out = Vec::new(alloc);
+        self.encode(&mut out)?;
+        Ok(out)
     }
 }

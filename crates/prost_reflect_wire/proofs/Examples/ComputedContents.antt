@@ -78,6 +78,8 @@ well_typed_contents = record {
   keys_descend = refl;
   key_twice = refl;
   two_members = refl;
+  two_members_fit = record { fits = refl; types = (tt, (((refl, refl), tt), tt)); order = refl; nonempty = refl };
+  stored_default_fits = record { fits = refl; types = (tt, tt); order = refl; nonempty = refl };
   empty_list = refl;
   empty_map = refl;
   stored_default = refl;

@@ -14,7 +14,7 @@ absent (Some r) x e h = cc
 pub returns-then-is_none-clause-ok : goal.returns-then-is_none-clause-ok
 returns-then-is_none-clause-ok g c =
     let es = g.S.NumberMap.entries c.args.fields.now in
-    let free : item_at es c.args.number ≡ None = absent c.get.result _ c.get.ensures c.if-is_none.ensures in
+    let free : item_at es c.args.number ≡ None = absent c.get.result (item_at es c.args.number) c.get.ensures c.if-is_none.ensures in
     on_ok_weaker c.insert-then-is_none.result
         (λ is. subst (λ ds. UnknownAdded es ds (record_of c.args.field)) (sym is) (added_first es c.args.number c.insert.new.self (record_of c.args.field) free c.requires (c.in_ok-insert.ensures.records ∙ ap (λ rs. rs ++ record_of c.args.field ∷ []) c.new-unknown.ensures.records)))
         c.insert-then-is_none.ensures.ok

@@ -1,0 +1,149 @@
+-- The entries of a message that is encodable can be written, and their bytes are the encoding of its content.
+use Rattle.std.proofs.Common.{◌≡◌, ℕ, Bool, true, false, cond, ◌&&◌, List, [], ◌∷◌, ◌++◌, map, nat_eq, Option, Some, None, refl, sym, ap, ap₂, ◌∙◌, subst, unwrap_or, append-nil, zero, suc, ◌+◌, ◌-◌, ◌^◌, ◌≤◌, ◌<◌, length, drop, get_or, arith}
+use Rattle.std.proofs.lemmas.List.{length-append}
+use Rattle.std.proofs.lemmas.Bool.{eqb-true}
+use Rattle.std.specs.List.{list_all}
+use Rattle.std.specs.List.Sorted.{IsStrictlySortedBy}
+use Rattle.std.specs.Option.{option_map, option_and_then}
+use Rattle.std.specs.Ordering.{nat_cmp, is_eq}
+use Rattle.prost_reflect_wire.specs.Record.{Record, Payload, record_at, spelled}
+use Rattle.prost_reflect_wire.specs.Schema.{Field, Schema, field_of, known, passes}
+use Rattle.prost_reflect_wire.specs.Content as contents
+use Rattle.prost_reflect_wire.specs.Content.{Entries, Slot, Stored, Unknown, then_unknowns, then_value, store}
+use Rattle.prost_reflect_wire.specs.Writing.{encoded, entries_records}
+use Rattle.prost_reflect_wire.specs.Typing.{EntryTest, fit_test, value_valid, entries_pass, encodable, kept, kept_entries}
+use Rattle.prost_reflect_wire.specs.Storing.{slot_bytes, value_bytes}
+use Rattle.prost_reflect_wire.specs.Unknown.{records_of}
+use Rattle.prost_reflect_wire.specs.declared.unknown.UnknownFieldSet.{UnknownFieldSet}
+use Rattle.prost_reflect_wire.proofs.Deeper.{and_both}
+use Rattle.prost_reflect_wire.proofs.WrittenEntries.{written_store}
+use Rattle.prost_reflect.specs.declared.fields.entry.Entry.{Entry}
+use Rattle.prost_reflect.specs.declared.fields.entry.Entry.TheVariants as entries
+use Rattle.prost_reflect.specs.declared.message.DynamicMessage.{DynamicMessage}
+use Rattle.prost_reflect.specs.declared.value.Value.{Value}
+use Rattle.prost_reflect.specs.Items.{IsAscending, item_at}
+use Rattle.prost_reflect.specs.Known.{known_of, are_records_of, keeps_unknown}
+use Rattle.prost_reflect.specs.Entries.{value_in, records_in, records_at}
+use Rattle.prost_reflect.specs.Sound.{IsSound, UnknownKept, unknown_kept}
+use Rattle.prost_reflect.specs.View.{value_of, content_of, descriptor_of, stored_in, slot_of, entries_from, payloads_of}
+use Rattle.prost_reflect.specs.Encoding.{entry_slot, entries_bytes, IsWritable, AreWritable}
+use Rattle.prost_reflect.proofs.ItemChanges.{Apart, by_number, none_above, itself}
+use Rattle.prost_reflect.proofs.Views.{shown, shown_entry, content_of_message}
+
+-- BYTES
+
+slot_shown : (e : Entry Value) → slot_of (shown_entry e) ≡ entry_slot e
+slot_shown (entries.Value v) = refl
+slot_shown (entries.Unknown u) = refl
+slot_shown (entries.Both v u) = refl
+
+pub written_entries : (fields : List Field) (es : List (ℕ × Entry Value)) → spelled (entries_records fields (kept_entries fields (entries_from (shown es)))) ≡ entries_bytes fields es
+written_entries fields [] = refl
+written_entries fields (e ∷ es) =
+    written_store fields e.0 (slot_of (shown_entry e.1)) (entries_from (shown es))
+    ∙ ap₂ (λ slot more. slot_bytes fields e.0 slot ++ more) (slot_shown e.1) (written_entries fields es)
+
+pub encoded_entries : (m : DynamicMessage) → encoded (kept (content_of m)) ≡ entries_bytes (known_of (descriptor_of m)) (stored_in m)
+encoded_entries m = ap (λ c. encoded (kept c)) (content_of_message m) ∙ written_entries (known_of (descriptor_of m)) (stored_in m)
+
+-- the records of a number under that number are themselves
+pub own_records : (n : ℕ) (rs : List Record) → list_all (λ r. nat_eq r.number n) rs ≡ true → map (record_at n) (payloads_of rs) ≡ rs
+own_records n [] h = refl
+own_records n (r ∷ rs) h =
+    let (same, more) = and_both (nat_eq r.number n) (list_all (λ r. nat_eq r.number n) rs) h in
+    ap₂ (λ k l. record_at k r.payload ∷ l) (sym (eqb-true r.number n same)) (own_records n rs more)
+
+pub own_all : (n : ℕ) (rs : List Record) → are_records_of n rs ≡ true → map (record_at n) (payloads_of rs) ≡ rs
+own_all n [] h = refl
+own_all n (r ∷ rs) h = own_records n (r ∷ rs) h
+
+-- WHAT CAN BE WRITTEN
+
+behind_unknowns : (test : EntryTest) (fields : List Field) (n : ℕ) (ps : List Payload) (es : Entries) → entries_pass test fields (then_unknowns n ps es) ≡ true → entries_pass test fields es ≡ true
+behind_unknowns test fields n [] es h = h
+behind_unknowns test fields n (p ∷ ps) es h = behind_unknowns test fields n ps es (and_both (test.unknown fields n p) _ h).1
+
+first_value : (fields : List Field) (n : ℕ) (o : Option contents.Value) (es : Entries) → entries_pass fit_test fields (then_value n o es) ≡ true → (v : contents.Value) → o ≡ Some v → passes (field_of fields n) (λ f. value_valid f v) ≡ true
+first_value fields n None es h v e = cc
+first_value fields n (Some w) es h v e =
+    let same : w ≡ v = cc in
+    subst (λ v. passes (field_of fields n) (λ f. value_valid f v) ≡ true) same (and_both (passes (field_of fields n) (λ f. value_valid f w)) _ (and_both _ (entries_pass fit_test fields es) h).0).0
+
+behind_value : (test : EntryTest) (fields : List Field) (n : ℕ) (o : Option contents.Value) (es : Entries) → entries_pass test fields (then_value n o es) ≡ true → entries_pass test fields es ≡ true
+behind_value test fields n None es h = h
+behind_value test fields n (Some w) es h = (and_both _ (entries_pass test fields es) h).1
+
+-- each entry has unknown records of its own number
+abbrev OwnRecords : List (ℕ × Entry Value) → Type 0
+OwnRecords [] = Unit {0}
+OwnRecords (e ∷ es) = ((rs : List Record) → records_in e.1 ≡ Some rs → are_records_of e.0 rs ≡ true) × OwnRecords es
+
+own_in : (fields : List Field) (es : List (ℕ × Entry Value)) → IsAscending es → UnknownKept fields es → OwnRecords es
+unfolding IsStrictlySortedBy
+own_in fields [] s kept = tt
+own_in fields (e ∷ es) s kept = (
+  λ rs is.
+      let here : records_at (e ∷ es) e.0 ≡ Some rs = ap (λ o. option_and_then records_in (cond (is_eq o) (Some e.1) (item_at es e.0))) (itself e.0) ∙ is in
+      (and_both (keeps_unknown fields e.0) (are_records_of e.0 rs) (ap (unknown_kept fields e.0) (sym here) ∙ kept e.0)).1,
+  own_in fields es s.1 (λ n. by_number n e.0 (λ same. behind n same) (λ apart. ap (λ b. unknown_kept fields n (option_and_then records_in (cond b (Some e.1) (item_at es n)))) (sym apart) ∙ kept n)),
+)
+  where
+    behind : (n : ℕ) → n ≡ e.0 → unknown_kept fields n (records_at es n) ≡ true
+    behind n same = ap (λ o. unknown_kept fields n (option_and_then records_in o)) (subst (λ k. item_at es k ≡ None) (sym same) (none_above e.0 es s.0))
+
+shown_value : (e : Entry Value) (v : Value) → value_in e ≡ Some v → (slot_of (shown_entry e)).value ≡ Some (value_of v)
+shown_value e v is = ap (λ (slot : Slot). slot.value) (slot_shown e) ∙ ap (option_map value_of) is
+
+writable_entries : (fields : List Field) (es : List (ℕ × Entry Value)) → entries_pass fit_test fields (entries_from (shown es)) ≡ true → OwnRecords es → AreWritable fields es
+writable_entries fields [] h own = tt
+writable_entries fields (e ∷ es) h own = (
+  record {
+    valid = λ v is. first_value fields e.0 (slot_of (shown_entry e.1)).value (then_unknowns e.0 (slot_of (shown_entry e.1)).unknowns (entries_from (shown es))) h (value_of v) (shown_value e.1 v is);
+    own = own.0;
+  },
+  writable_entries fields es (behind_unknowns fit_test fields e.0 (slot_of (shown_entry e.1)).unknowns (entries_from (shown es)) (behind_value fit_test fields e.0 (slot_of (shown_entry e.1)).value _ h)) own.1,
+)
+
+pub writable_message : (m : DynamicMessage) → encodable (content_of m) ≡ true → IsAscending (stored_in m) → IsSound (descriptor_of m) (stored_in m) → AreWritable (known_of (descriptor_of m)) (stored_in m)
+writable_message m h s sound = writable_entries (known_of (descriptor_of m)) (stored_in m) (ap encodable (sym (content_of_message m)) ∙ h) (own_in (known_of (descriptor_of m)) (stored_in m) s sound.1)
+
+-- ONE ENTRY
+
+pub value_slot : (fields : List Field) (n : ℕ) (e : Entry Value) (v : Value) → e ≡ entries.Value v → slot_bytes fields n (entry_slot e) ≡ value_bytes fields n (value_of v)
+value_slot fields n e v is = ap (λ e. slot_bytes fields n (entry_slot e)) is ∙ append-nil (value_bytes fields n (value_of v))
+
+pub unknown_slot : (fields : List Field) (n : ℕ) (e : Entry Value) (u : UnknownFieldSet) → e ≡ entries.Unknown u → IsWritable fields n e → slot_bytes fields n (entry_slot e) ≡ spelled (records_of u)
+unknown_slot fields n e u is w = ap (λ e. slot_bytes fields n (entry_slot e)) is ∙ ap spelled (own_all n (records_of u) (w.own (records_of u) (ap records_in is)))
+
+pub both_slot : (fields : List Field) (n : ℕ) (e : Entry Value) (v : Value) (u : UnknownFieldSet) → e ≡ entries.Both v u → IsWritable fields n e → slot_bytes fields n (entry_slot e) ≡ value_bytes fields n (value_of v) ++ spelled (records_of u)
+both_slot fields n e v u is w =
+    ap (λ e. slot_bytes fields n (entry_slot e)) is ∙ ap (λ rs. value_bytes fields n (value_of v) ++ spelled rs) (own_all n (records_of u) (w.own (records_of u) (ap records_in is)))
+
+-- ENTRIES FROM THE BACK
+
+pub bytes_cons : (fields : List Field) (items rest : List (ℕ × Entry Value)) (e : ℕ × Entry Value) → items ≡ e ∷ rest → entries_bytes fields items ≡ slot_bytes fields e.0 (entry_slot e.1) ++ entries_bytes fields rest
+bytes_cons fields items rest e is = ap (entries_bytes fields) is
+
+bytes_drop : (fields : List Field) (i : ℕ) (items : List (ℕ × Entry Value)) → length (entries_bytes fields (drop i items)) ≤ length (entries_bytes fields items)
+bytes_drop fields zero items = omega arith
+bytes_drop fields (suc i) [] = omega arith
+bytes_drop fields (suc i) (e ∷ items) = omega (arith, bytes_drop fields i items, length-append (slot_bytes fields e.0 (entry_slot e.1)) (entries_bytes fields items))
+
+-- a length that is too great before the whole is written
+pub too_long_from : (fields : List Field) (items : List (ℕ × Entry Value)) (i : ℕ) (e : ℕ × Entry Value) (old mid : List ℕ) → drop (i - 1) items ≡ e ∷ drop i items → mid ≡ entries_bytes fields (drop i items) ++ old →
+    2 ^ 64 ≤ length (slot_bytes fields e.0 (entry_slot e.1)) + length mid → 2 ^ 64 ≤ length (entries_bytes fields items) + length old
+too_long_from fields items i e old mid cut is h =
+    omega (
+      arith,
+      h,
+      ap length is,
+      length-append (entries_bytes fields (drop i items)) old,
+      ap length (bytes_cons fields (drop (i - 1) items) (drop i items) e cut),
+      length-append (slot_bytes fields e.0 (entry_slot e.1)) (entries_bytes fields (drop i items)),
+      bytes_drop fields (i - 1) items,
+    )
+
+pub writable_at : (fields : List Field) (items : List (ℕ × Entry Value)) (i : ℕ) (e : ℕ × Entry Value) → i < length items → e ≡ get_or items i e → AreWritable fields items → IsWritable fields e.0 e.1
+writable_at fields [] i e l is h = absurd (omega arith)
+writable_at fields (x ∷ items) zero e l is h = subst (λ (x : ℕ × Entry Value). IsWritable fields x.0 x.1) (sym is) h.0
+writable_at fields (x ∷ items) (suc i) e l is h = writable_at fields items i e (omega arith) is h.1
