@@ -1,0 +1,4 @@
+pub mod CommandLine
+pub mod Types
+pub mod Relaying
+pub mod Printing

@@ -1,0 +1,25 @@
+//! Reads a message by the name of its type and writes it again: `protorelay relay - NAME HEX`.
+#![tactic(auto)]
+
+mod command;
+mod relay;
+pub mod run;
+
+use std::env::Env;
+use std::process::ExitCode;
+use std::{env, io};
+
+/// The words of the command line, without the program's name.
+fn words<R: Env + AllocGlobal>(rt: &R) -> io::Result<Vec<String>> {
+    let mut words = env::args(rt)?;
+    let _program = words.next();
+    Ok(words.collect(rt.alloc())?)
+}
+
+fn main(rt: HostRuntime) -> ExitCode {
+    let status = match words(&rt) {
+        Ok(words) => run::run(words.as_slice(), &mut rt.stdout(), &mut rt.stderr()),
+        Err(error) => run::refuse_words(&error, &mut rt.stderr()),
+    };
+    ExitCode::from(status)
+}

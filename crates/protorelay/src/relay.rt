@@ -1,0 +1,139 @@
+//! Relaying a message: its bytes are read by its type, and the message is written again.
+
+ghost use Rattle.std.specs.Prelude.{◌≡◌, ◌⊎◌, Some, None, true, IfOk, IfErr, string_bytes};
+ghost use Rattle.prost_reflect_wire.specs.Grammar.{LEVEL_LIMIT};
+ghost use Rattle.prost_reflect_wire.specs.Writing.{relayed};
+ghost use Rattle.prost_reflect_tables.specs.Shown.{schema_from};
+ghost use Rattle.prost_reflect.specs.Pools.{pool_rows};
+ghost use Rattle.prost_reflect.specs.Descriptors.{schema_at, type_at};
+ghost use Rattle.prost_reflect.specs.Covered.{covered};
+ghost use Rattle.prost_reflect.specs.Builtin.{builtin_schema};
+ghost use Rattle.protorelay.specs.Types.{covered_type, builtin_type};
+ghost use Rattle.protorelay.specs.Relaying.{IsRelayed, RefusesBytes, Refuses, hex_refusal, decode_refusal, encode_refusal};
+ghost use Rattle.protorelay.specs.declared.relay.Refusal.TheVariants as refusals;
+
+use hex::FromHexError;
+use prost_reflect::{
+    DecodeError, DescriptorPool, DynamicMessage, EncodeError, MessageDescriptor, builtin_pool,
+};
+use std::alloc::{AllocError, Global};
+use thiserror::Error;
+
+/// Why a message is not relayed. The text is the line that the program prints.
+#[derive(Clone, Copy, Debug, PartialEq, Eq, Error)]
+pub enum Refusal {
+    /// No message type has the name.
+    #[error("refused name")]
+    Name,
+    /// The digits are not pairs of hex digits.
+    #[error("refused hex")]
+    Hex,
+    /// The type does not accept the bytes. Want of memory is `Memory`.
+    #[error("refused decode {0:?}")]
+    Decode(DecodeError),
+    /// The message is not written. Want of memory is `Memory`.
+    #[error("refused encode {0:?}")]
+    Encode(EncodeError),
+    /// A growth was refused.
+    #[error("refused memory")]
+    Memory,
+}
+
+impl From<AllocError> for Refusal {
+    ghost from_gives = { λ _ refusal. refusal ≡ refusals.Memory };
+
+    fn from(_error: AllocError) -> Refusal {
+        Refusal::Memory
+    }
+}
+
+impl From<FromHexError> for Refusal {
+    ghost from_gives = { λ error refusal. refusal ≡ hex_refusal error };
+
+    fn from(error: FromHexError) -> Refusal {
+        match error {
+            FromHexError::OutOfMemory => Refusal::Memory,
+            _ => Refusal::Hex,
+        }
+    }
+}
+
+impl From<DecodeError> for Refusal {
+    ghost from_gives = { λ error refusal. refusal ≡ decode_refusal error };
+
+    fn from(error: DecodeError) -> Refusal {
+        match error {
+            DecodeError::OutOfMemory => Refusal::Memory,
+            fault => Refusal::Decode(fault),
+        }
+    }
+}
+
+impl From<EncodeError> for Refusal {
+    ghost from_gives = { λ error refusal. refusal ≡ encode_refusal error };
+
+    fn from(error: EncodeError) -> Refusal {
+        match error {
+            EncodeError::OutOfMemory => Refusal::Memory,
+            EncodeError::TooLong => Refusal::Encode(EncodeError::TooLong),
+        }
+    }
+}
+
+/// The message that the hex digits spell, read by the built-in message type of the name and written again, in lower-case hex digits.
+///
+/// # Errors
+///
+/// The first step that fails: `Name`, `Hex`, `Decode`, `Encode`; or `Memory`, wherever a growth is refused.
+pub fn relay(alloc: Global, name: &str, digits: &str) -> Result<String, Refusal>
+    ensures relayed { IfOk result (λ text. IsRelayed name.now digits.now (string_bytes text)) }
+    ensures refused { IfErr result (Refuses name.now digits.now) }
+{
+    let descriptor = builtin_type(alloc, name)?;
+    let bytes = hex::decode(alloc, digits)?;
+    let written = relay_bytes(alloc, descriptor, bytes.as_slice())?;
+    Ok(hex::encode(alloc, written.as_slice())?)
+}
+
+/// The built-in message type of the name.
+fn builtin_type(alloc: Global, name: &str) -> Result<MessageDescriptor, Refusal>
+    ensures found { IfOk result (λ message. builtin_type name.now ≡ Some (type_at message)) }
+    ensures schema { IfOk result (λ message. schema_at message ≡ builtin_schema) }
+    ensures covered { IfOk result (λ message. covered (schema_at message) (type_at message) ≡ true) }
+    ensures refused { IfErr result (λ refusal.
+        ((refusal ≡ refusals.Name) × (builtin_type name.now ≡ None)) ⊎ (refusal ≡ refusals.Memory)) }
+{
+    let pool = builtin_pool(alloc)?;
+    message_type(&pool, name)
+}
+
+/// The message type of the name in the pool, if it can be read and written so far.
+fn message_type(pool: &DescriptorPool, name: &str) -> Result<MessageDescriptor, Refusal>
+    ensures found { IfOk result (λ message.
+        covered_type (pool_rows pool.now) name.now ≡ Some (type_at message)) }
+    ensures schema { IfOk result (λ message. schema_at message ≡ schema_from (pool_rows pool.now)) }
+    ensures covered { IfOk result (λ message. covered (schema_at message) (type_at message) ≡ true) }
+    ensures refused { IfErr result (λ refusal.
+        ((refusal ≡ refusals.Name) × (covered_type (pool_rows pool.now) name.now ≡ None))
+        ⊎ (refusal ≡ refusals.Memory)) }
+{
+    match pool.get_message_by_name(name)? {
+        Some(descriptor) if descriptor.is_covered() => Ok(descriptor),
+        _ => Err(Refusal::Name),
+    }
+}
+
+/// The bytes of a message, read by its type and written again.
+fn relay_bytes(
+    alloc: Global,
+    descriptor: MessageDescriptor,
+    bytes: &[u8],
+) -> Result<Vec<u8>, Refusal>
+    requires { covered (schema_at descriptor) (type_at descriptor) ≡ true }
+    ensures relayed { IfOk result (λ written.
+        relayed (schema_at descriptor) LEVEL_LIMIT (type_at descriptor) bytes.now ≡ Some written.items) }
+    ensures refused { IfErr result (RefusesBytes (schema_at descriptor) (type_at descriptor) bytes.now) }
+{
+    let message = DynamicMessage::decode(alloc, descriptor, bytes)?;
+    Ok(message.encode_to_vec(alloc)?)
+}

@@ -1,0 +1,236 @@
+//! What the program prints, and its statuses.
+
+use super::*;
+use std::alloc::{AllocError, Global};
+use std::test::Fail;
+
+const PLAIN: &str = "builtin.Plain";
+
+const KEPT: &str = "builtin.Kept";
+
+/// What a command line printed on both streams, and its status.
+#[derive(Drop)]
+struct Answer {
+    status: u8,
+    out: Vec<u8>,
+    err: Vec<u8>,
+}
+
+/// The words between single spaces; none, if there is no text.
+fn words(alloc: Global, text: &str) -> Result<Vec<String>, AllocError> {
+    if text.is_empty() {
+        return Ok(Vec::new(alloc));
+    }
+    text.split(' ')
+        .map(|word| word.to_string(alloc))
+        .try_collect(alloc)
+}
+
+fn answer_to(alloc: Global, text: &str) -> Result<Answer, AllocError> {
+    let words = words(alloc, text)?;
+    let mut out = Vec::new(alloc);
+    let mut err = Vec::new(alloc);
+    let status = run(words.as_slice(), &mut out, &mut err);
+    Ok(Answer { status, out, err })
+}
+
+fn relay_of(alloc: Global, name: &str, digits: &str) -> Result<Answer, AllocError> {
+    let text = format!(in alloc; "relay - {name} {digits}")?;
+    answer_to(alloc, text.as_str())
+}
+
+fn line(alloc: Global, text: &str) -> Result<String, AllocError> {
+    format!(in alloc; "{text}\n")
+}
+
+/// So many times 0x53, which opens a group of number 10, and as often 0x54, which ends it.
+fn groups(alloc: Global, levels: usize) -> Result<String, AllocError> {
+    let mut digits = String::new(alloc);
+    for _ in 0..levels {
+        digits.push_str("53")?;
+    }
+    for _ in 0..levels {
+        digits.push_str("54")?;
+    }
+    Ok(digits)
+}
+
+#[test]
+fn prints_what_is_written_again(rt: HostRuntime) -> Result<(), Fail> {
+    let deep = groups(rt.alloc(), 100)?;
+    let rows = [
+        // An unknown varint keeps its value and loses its needless zero digits, and numbers ascend.
+        (PLAIN, "508300289601", "2896015003"),
+        // A bool is 1 for any value but 0.
+        (PLAIN, "4005", "4001"),
+        // The zigzag of -1.
+        (PLAIN, "880101", "880101"),
+        // A default without presence is dropped; -0.0 is no default, and presence keeps each value.
+        (PLAIN, "1500000000", ""),
+        (KEPT, "1500000000", "1500000000"),
+        (PLAIN, "1500000080", "1500000080"),
+        (PLAIN, "2800", ""),
+        (KEPT, "2800", "2800"),
+        // A negative int32 is written in ten bytes.
+        (PLAIN, "28ffffffff0f", "28ffffffffffffffffff01"),
+        // Unknown groups stay.
+        (PLAIN, "5354", "5354"),
+        (PLAIN, deep.as_str(), deep.as_str()),
+        // Digits in either case, and none.
+        (PLAIN, "4A024869", "4a024869"),
+        (PLAIN, "", ""),
+    ];
+    for (name, digits, written) in rows {
+        let answer = relay_of(rt.alloc(), name, digits)?;
+        assert_eq!(rt; answer.err.as_slice(), b"".as_slice(), "{name} {digits}");
+        assert_eq!(rt;
+            answer.out.as_slice(),
+            line(rt.alloc(), written)?.as_bytes(),
+            "{name} {digits}"
+        );
+        assert_eq!(rt; answer.status, 0, "{name} {digits}");
+    }
+    Ok(())
+}
+
+#[test]
+fn names_the_first_refusal(rt: HostRuntime) -> Result<(), Fail> {
+    let deep = groups(rt.alloc(), 101)?;
+    let rows = [
+        (PLAIN, deep.as_str(), "refused decode Depth"),
+        (PLAIN, "0801", "refused decode WireType"),
+        (PLAIN, "4a01ff", "refused decode Utf8"),
+        (PLAIN, "54", "refused decode EndGroup"),
+        (PLAIN, "28", "refused decode Truncated"),
+        (PLAIN, "00", "refused decode Key"),
+        (PLAIN, "28ffffffffffffffffff02", "refused decode Varint"),
+        // An odd number of digits, and no digit.
+        (PLAIN, "280", "refused hex"),
+        (PLAIN, "2x00", "refused hex"),
+        // The name comes before the digits.
+        ("builtin.None", "2800", "refused name"),
+        ("builtin", "2x", "refused name"),
+        (".builtin.Plain", "2800", "refused name"),
+        ("", "", "refused name"),
+    ];
+    for (name, digits, refusal) in rows {
+        let answer = relay_of(rt.alloc(), name, digits)?;
+        assert_eq!(rt; answer.out.as_slice(), b"".as_slice(), "{name} {digits}");
+        assert_eq!(rt;
+            answer.err.as_slice(),
+            line(rt.alloc(), refusal)?.as_bytes(),
+            "{name} {digits}"
+        );
+        assert_eq!(rt; answer.status, 1, "{name} {digits}");
+    }
+    Ok(())
+}
+
+#[test]
+fn prints_the_usage_for_any_other_command_line(rt: HostRuntime) -> Result<(), Fail> {
+    let rows = [
+        "",
+        "relay",
+        "relay - builtin.Plain",
+        "relay - builtin.Plain 2800 ",
+        "Relay - builtin.Plain 2800",
+        // A descriptor set is not taken so far, and there is no `show`.
+        "relay  builtin.Plain 2800",
+        "show - builtin.Plain 2800",
+    ];
+    for text in rows {
+        let answer = answer_to(rt.alloc(), text)?;
+        assert_eq!(rt; answer.out.as_slice(), b"".as_slice(), "{text}");
+        assert_eq!(rt;
+            answer.err.as_slice(),
+            b"usage: protorelay relay|show SET NAME HEX\n".as_slice()
+        );
+        assert_eq!(rt; answer.status, 2);
+    }
+    Ok(())
+}
+
+#[test]
+fn names_why_the_words_cannot_be_had(rt: HostRuntime) -> Result<(), Fail> {
+    let mut err = Vec::new(rt.alloc());
+    assert_eq!(rt;
+        refuse_words(&io::Error::from(ErrorKind::OutOfMemory), &mut err),
+        1
+    );
+    assert_eq!(rt; err.as_slice(), b"refused memory\n".as_slice());
+    err.clear();
+    assert_eq!(rt;
+        refuse_words(&io::Error::from(ErrorKind::InvalidData), &mut err),
+        2
+    );
+    assert_eq!(rt;
+        err.as_slice(),
+        b"usage: protorelay relay|show SET NAME HEX\n".as_slice()
+    );
+    Ok(())
+}
+
+/// A writer with room for so many bytes, which refuses the next and, if it is to, a flush.
+#[derive(Drop)]
+struct Room {
+    bytes: usize,
+    flushes: bool,
+}
+
+impl Write for Room {
+    fn write(&mut self, buf: &[u8]) -> io::Result<usize> {
+        if self.bytes == 0 {
+            return Err(io::Error::from(ErrorKind::StorageFull));
+        }
+        let taken = buf.len().min(self.bytes);
+        self.bytes -= taken;
+        Ok(taken)
+    }
+
+    fn flush(&mut self) -> io::Result<()> {
+        if self.flushes {
+            Ok(())
+        } else {
+            Err(io::Error::from(ErrorKind::StorageFull))
+        }
+    }
+}
+
+#[test]
+fn answers_1_where_a_write_fails(rt: HostRuntime) -> Result<(), Fail> {
+    // So many bytes are printed, the last of them a line feed.
+    let rows = [
+        ("relay - builtin.Plain 4001", 5, 0),
+        ("relay - none 4001", 13, 1),
+        ("", 42, 2),
+    ];
+    for (text, length, status) in rows {
+        let words = words(rt.alloc(), text)?;
+        for bytes in 0..=length {
+            let mut out = Room {
+                bytes,
+                flushes: true,
+            };
+            let mut err = Room {
+                bytes,
+                flushes: true,
+            };
+            let want = if bytes == length { status } else { 1 };
+            assert_eq!(rt;
+                run(words.as_slice(), &mut out, &mut err),
+                want,
+                "{text} {bytes}"
+            );
+        }
+        let mut out = Room {
+            bytes: length,
+            flushes: false,
+        };
+        let mut err = Room {
+            bytes: length,
+            flushes: false,
+        };
+        assert_eq!(rt; run(words.as_slice(), &mut out, &mut err), 1, "{text}");
+    }
+    Ok(())
+}
