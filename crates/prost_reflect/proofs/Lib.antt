@@ -12,3 +12,4 @@ pub mod Slots
 pub mod Stored
 pub mod ContentChanges
 pub mod Described
+pub mod Keys
