@@ -18,3 +18,4 @@ pub mod Described
 pub mod Zeros
 pub mod WrittenValues
 pub mod Encodings
+pub mod Keys

@@ -1,13 +1,16 @@
 -- Laws of the views, and of what the operations of the field set make of a content at each number.
-use Rattle.std.specs.Prelude.{◌≡◌, ℕ, ℤ, Bool, true, false, nat_eq, if◌then◌else◌, List, [], map, Option, Some, None, Vec, String, string_bytes, option_map, unwrap_or}
-use Rattle.std.specs.BTreeMap.{BTreeMap}
+use Rattle.std.specs.Prelude.{◌≡◌, ℕ, ℤ, Bool, true, false, nat_eq, if◌then◌else◌, List, [], ◌∷◌, map, Option, Some, None, Vec, String, string_bytes, option_map, unwrap_or}
+use Rattle.std.specs.BTreeMap.{BTreeMap, insert_entry}
+use Rattle.std.specs.declared.cmp.Ordering.{Ordering}
 use Rattle.std.specs.declared.alloc.Global.{Global}
 use Rattle.prost_reflect_wire.specs.Record.{Record}
 use Rattle.prost_reflect_wire.specs.Scalar as scalars
 use Rattle.prost_reflect_wire.specs.Schema.{Field, known, field_of, is_sibling}
 use Rattle.prost_reflect_wire.specs.Content as contents
-use Rattle.prost_reflect_wire.specs.Content.{Content, Slot, ScalarValue, MessageValue, ListValue, MapValue, schema_of, type_of, entries_of, values_from, slot_at, comes_before, entries_ordered, value_ordered}
+use Rattle.prost_reflect_wire.specs.Content.{Content, Slot, Pairs, ScalarValue, MessageValue, ListValue, MapValue, schema_of, type_of, entries_of, values_from, slot_at, comes_before, entries_ordered, value_ordered}
 use Rattle.prost_reflect_wire.specs.Edit.{with_value}
+use Rattle.prost_reflect_wire.specs.Meaning.{put}
+use Rattle.prost_reflect.specs.contracts.value.MapKeyOrd.TheImpl as key_order
 use Rattle.prost_reflect.specs.Items.{IsAscending}
 use Rattle.prost_reflect.specs.Entries.{value_at, records_at}
 use Rattle.prost_reflect.specs.View.{value_of, content_of, key_of, payloads_of, pairs_from, stored_in}
@@ -58,3 +61,14 @@ SlotsAfterUnknown = (c : Content) (r : Record) (k : ℕ) → slot_at (entries_of
 abbrev pub SlotsDetermine : Type 0
 SlotsDetermine = (a b : DynamicMessage) → IsAscending (stored_in a) → IsAscending (stored_in b) → schema_of (content_of a) ≡ schema_of (content_of b) → type_of (content_of a) ≡ type_of (content_of b)
     → ((k : ℕ) → slot_at (entries_of (content_of a)) k ≡ slot_at (entries_of (content_of b)) k) → content_of a ≡ content_of b
+
+-- The pairs that a map's entries are.
+abbrev pub pairs_shown : List (MapKey × Value) → Pairs
+pairs_shown es = pairs_from (map (λ (e : MapKey × Value). (e.0, value_of e.1)) es)
+
+abbrev pub compare_keys : MapKey → MapKey → Ordering
+compare_keys = (key_order.ghosts).cmp
+
+-- An entry put into a map is put among its pairs.
+abbrev pub MapInsert : Type 0
+MapInsert = (es : List (MapKey × Value)) (k : MapKey) (v : Value) → pairs_shown (insert_entry compare_keys es k v) ≡ put (key_of k) (value_of v) (pairs_shown es)

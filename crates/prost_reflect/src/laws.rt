@@ -1,6 +1,12 @@
 //! What is proved of the views of messages: each function has no body, and its contract is a law.
 
-ghost use Rattle.prost_reflect.specs.ContentLaws.{ValueViews, MessageSlots, MessageOrder, SlotsAfterSet, SlotsAfterClear, SlotsAfterUnknown, SlotsDetermine};
+ghost use Rattle.prost_reflect.specs.ContentLaws.{ValueViews, MessageSlots, MessageOrder, SlotsAfterSet, SlotsAfterClear, SlotsAfterUnknown, SlotsDetermine, MapInsert};
+ghost use Rattle.std.specs.Prelude.{◌≡◌};
+ghost use Rattle.prost_reflect_wire.specs.Scalar.{scalar_cmp, scalar_eq};
+ghost use Rattle.prost_reflect.specs.View.{key_of};
+ghost use Rattle.prost_reflect.specs.declared.value.MapKey.{MapKey};
+
+use crate::value::MapKey;
 
 /// What each variant of a value is in the definitions.
 pub fn value_views()
@@ -35,4 +41,15 @@ pub fn slots_after_unknown()
 /// Equal slots at every number are equal contents.
 pub fn slots_determine()
     ensures { SlotsDetermine }
+{}
+
+/// Keys are ordered and equal as the scalars that they are.
+pub fn key_order()
+    ensures order { (a : MapKey) (b : MapKey) → ⟦<MapKey as Ord>⟧.cmp a b ≡ scalar_cmp (key_of a) (key_of b) }
+    ensures equality { (a : MapKey) (b : MapKey) → ⟦<MapKey as PartialEq>⟧.eq a b ≡ scalar_eq (key_of a) (key_of b) }
+{}
+
+/// An entry put into a map is put among its pairs.
+pub fn map_insert()
+    ensures { MapInsert }
 {}

@@ -1,0 +1,5 @@
+use Rattle.prost_reflect.proofs.Keys.{map_insert}
+use Rattle.prost_reflect.proofs.laws.map_insert.Goals as goal
+
+pub returns : goal.returns
+returns c = map_insert
