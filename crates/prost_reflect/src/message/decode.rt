@@ -36,6 +36,7 @@ impl DynamicMessage {
         bytes: &[u8],
     ) -> Result<DynamicMessage, DecodeError>
         requires { covered (schema_at descriptor) (type_at descriptor) ≡ true }
+        ensures descriptor { IfOk result (λ message. descriptor_of message ≡ descriptor) }
         ensures means { IfOk result (λ message. decoded (schema_at descriptor) LEVEL_LIMIT (type_at descriptor) bytes.now ≡ Some (kept (content_of message))) }
         ensures sound { IfOk result (λ message. WellStored (content_of message)) }
         ensures accepts { IfOk result (λ _. Accepts (schema_at descriptor) LEVEL_LIMIT (type_at descriptor) bytes.now) }
@@ -57,6 +58,7 @@ impl DynamicMessage {
         requires plain { covered (schema_at (descriptor_of self.old)) (type_at (descriptor_of self.old)) ≡ true }
         requires sound { WellStored (content_of self.old) }
         ensures ok { IfOk result (λ _. Progress levels (content_of self.old) (content_of self.new) bytes.now []) }
+        ensures descriptor { descriptor_of self.new ≡ descriptor_of self.old }
         ensures fault { IfErr result (λ e. e ≢ DecodeError.OutOfMemory → StandsInMessage (schema_of (content_of self.old)) (type_of (content_of self.old)) levels e bytes.now) }
     {
         let mut rest = bytes;
