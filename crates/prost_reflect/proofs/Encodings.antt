@@ -1,13 +1,13 @@
 -- The entries of a message that is encodable can be written, and their bytes are the encoding of its content.
-use Rattle.std.proofs.Common.{◌≡◌, ℕ, Bool, true, false, cond, ◌&&◌, List, [], ◌∷◌, ◌++◌, map, nat_eq, Option, Some, None, refl, sym, ap, ap₂, ◌∙◌, subst, unwrap_or, append-nil, zero, suc, ◌+◌, ◌-◌, ◌^◌, ◌≤◌, ◌<◌, length, drop, get_or, arith}
+use Rattle.std.proofs.Common.{◌≡◌, ℕ, true, cond, List, [], ◌∷◌, ◌++◌, map, nat_eq, Option, Some, None, refl, sym, ap, ap₂, ◌∙◌, subst, append-nil, zero, suc, ◌+◌, ◌-◌, ◌^◌, ◌≤◌, ◌<◌, length, drop, get_or, arith}
 use Rattle.std.proofs.lemmas.List.{length-append}
 use Rattle.std.proofs.lemmas.Bool.{eqb-true}
 use Rattle.std.specs.List.{list_all}
 use Rattle.std.specs.List.Sorted.{IsStrictlySortedBy}
 use Rattle.std.specs.Option.{option_map, option_and_then}
-use Rattle.std.specs.Ordering.{nat_cmp, is_eq}
+use Rattle.std.specs.Ordering.{is_eq}
 use Rattle.prost_reflect_wire.specs.Record.{Record, Payload, record_at, spelled}
-use Rattle.prost_reflect_wire.specs.Schema.{Field, Schema, field_of, known, passes}
+use Rattle.prost_reflect_wire.specs.Schema.{Field, field_of, passes}
 use Rattle.prost_reflect_wire.specs.Content as contents
 use Rattle.prost_reflect_wire.specs.Content.{Entries, Slot, Stored, Unknown, then_unknowns, then_value, store}
 use Rattle.prost_reflect_wire.specs.Writing.{encoded, entries_records}
@@ -27,7 +27,7 @@ use Rattle.prost_reflect.specs.Entries.{value_in, records_in, records_at}
 use Rattle.prost_reflect.specs.Sound.{IsSound, UnknownKept, unknown_kept}
 use Rattle.prost_reflect.specs.View.{value_of, content_of, descriptor_of, stored_in, slot_of, entries_from, payloads_of}
 use Rattle.prost_reflect.specs.Encoding.{entry_slot, entries_bytes, IsWritable, AreWritable}
-use Rattle.prost_reflect.proofs.ItemChanges.{Apart, by_number, none_above, itself}
+use Rattle.prost_reflect.proofs.ItemChanges.{by_number, none_above, itself}
 use Rattle.prost_reflect.proofs.Views.{shown, shown_entry, content_of_message}
 
 -- BYTES

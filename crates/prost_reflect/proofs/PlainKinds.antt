@@ -1,17 +1,16 @@
 -- The kind of a field that is covered so far, as the tables name it and as the definitions do.
-use Rattle.std.proofs.Common.{◌≡◌, ℕ, Bool, true, false, List, Option, Some, None, refl, sym, ap, ◌∙◌, true≢false}
+use Rattle.std.proofs.Common.{◌≡◌, Bool, true, false, List, Option, Some, None, refl, sym, true≢false}
 use Rattle.std.specs.Prelude.{slice_get}
-use Rattle.prost_reflect_wire.specs.Record.{Payload}
 use Rattle.prost_reflect_wire.specs.Scalar as scalars
 use Rattle.prost_reflect_wire.specs.Scalar.{ScalarKind, is_undeclared}
-use Rattle.prost_reflect_wire.specs.Schema.{Kind, ScalarOf, FieldForm, Singular, Repeated, MapFrom, Field}
+use Rattle.prost_reflect_wire.specs.Schema.{Kind, ScalarOf, Singular}
 use Rattle.prost_reflect_wire.proofs.RecordReads.{IsOpen}
 use Rattle.prost_reflect_tables.specs.declared.tables.Cardinality.{Cardinality}
 use Rattle.prost_reflect_tables.specs.declared.tables.Cardinality.TheVariants.{Optional, Required, Repeated as RepeatedLabel}
 use Rattle.prost_reflect_tables.specs.declared.tables.TableKind.{TableKind}
 use Rattle.prost_reflect_tables.specs.declared.tables.TableKind.TheVariants as kinds
 use Rattle.prost_reflect_tables.specs.Rows.{FieldRow, MessageRow, EnumRow, TableRows}
-use Rattle.prost_reflect_tables.specs.Shown.{schema_kind, enum_kind, own_type, map_entry, value_type_of, form_of, schema_field}
+use Rattle.prost_reflect_tables.specs.Shown.{schema_kind, enum_kind, map_entry, value_type_of, form_of, schema_field}
 use Rattle.prost_reflect.specs.Covered.{is_plain}
 use Rattle.prost_reflect.specs.Scalars.{plain_kind}
 

@@ -1,16 +1,14 @@
 -- A payload of a scalar kind, read as a value.
-use Rattle.std.proofs.Common.{◌≡◌, ℕ, Bool, true, false, cond, List, Option, Some, None, refl, sym, ap, ◌∙◌}
+use Rattle.std.proofs.Common.{◌≡◌, ℕ, false, cond, List, Option, Some, None, refl, sym, ap, ◌∙◌}
 use Rattle.std.specs.Str.{is_utf8, IsUtf8}
 use Rattle.std.proofs.lemmas.Str.{IsUtf8-from_is_utf8, is_utf8-from_IsUtf8}
 use Rattle.std.proofs.lemmas.Bool.{false_from_ne_true}
 use Rattle.std.specs.Prelude.{option_map, option_and_then}
 use Rattle.prost_reflect_wire.specs.declared.key.WireType.{WireType}
-use Rattle.prost_reflect_wire.specs.declared.key.WireType.TheVariants as wires
 use Rattle.prost_reflect_wire.specs.Record.{Plain, Var, Len, Flat, plain_wire}
 use Rattle.prost_reflect_wire.specs.Front.{VarintFront, PlainFront, DelimitedFront}
 use Rattle.prost_reflect_wire.specs.Scalar.{Scalar, Text, ScalarKind, elem}
 use Rattle.prost_reflect_wire.specs.Content.{ScalarValue}
-use Rattle.prost_reflect_wire.specs.Content as content
 use Rattle.prost_reflect_tables.specs.declared.tables.TableKind.{TableKind}
 use Rattle.prost_reflect_tables.specs.declared.tables.TableKind.TheVariants as kinds
 use Rattle.prost_reflect.specs.declared.value.Value.{Value}

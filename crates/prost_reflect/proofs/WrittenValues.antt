@@ -1,9 +1,9 @@
 -- What is written of a plain scalar field's value.
-use Rattle.std.proofs.Common.{◌≡◌, ℕ, Bool, true, false, cond, not, ◌&&◌, List, [], ◌∷◌, ◌++◌, Option, Some, None, refl, sym, ap, ap₂, ◌∙◌, subst, true≢false}
+use Rattle.std.proofs.Common.{◌≡◌, ℕ, Bool, true, false, cond, not, ◌&&◌, List, [], ◌++◌, Option, Some, None, refl, sym, ap, ap₂, ◌∙◌, true≢false}
 use Rattle.prost_reflect_wire.specs.Record.{short_key, short_plain}
 use Rattle.prost_reflect_wire.specs.Scalar as scalars
 use Rattle.prost_reflect_wire.specs.Scalar.{Scalar, ScalarKind, kind_wire, kind_default, scalar_eq, scalar_valid, written}
-use Rattle.prost_reflect_wire.specs.Schema.{Kind, ScalarOf, ValueType, FieldForm, Singular, Field, field_of, is_message, passes}
+use Rattle.prost_reflect_wire.specs.Schema.{ScalarOf, ValueType, Singular, Field, field_of, is_message, passes}
 use Rattle.prost_reflect_wire.specs.Content.{ScalarValue, MessageValue, ListValue, MapValue, Pairs}
 use Rattle.prost_reflect_wire.specs.Content as contents
 use Rattle.prost_reflect_wire.specs.Typing.{value_valid, kind_takes, is_repeated, pairs_valid}
@@ -12,8 +12,6 @@ use Rattle.prost_reflect_wire.proofs.Deeper.{and_both}
 use Rattle.prost_reflect_wire.proofs.WrittenEntries.{scalar_written}
 use Rattle.prost_reflect_tables.specs.declared.tables.Cardinality.{Cardinality}
 use Rattle.prost_reflect_tables.specs.declared.tables.Cardinality.TheVariants.{Optional, Required, Repeated as RepeatedLabel}
-use Rattle.prost_reflect_tables.specs.declared.tables.TableKind.{TableKind}
-use Rattle.prost_reflect_tables.specs.declared.tables.TableKind.TheVariants as kinds
 use Rattle.prost_reflect_tables.specs.Rows.{FieldRow, MessageRow, TableRows}
 use Rattle.prost_reflect_tables.specs.Shown.{schema_default, own_type, map_entry, value_type_of, form_of, schema_field}
 use Rattle.prost_reflect.specs.declared.descriptor.message.MessageDescriptor.{MessageDescriptor}

@@ -6,7 +6,7 @@ use Rattle.prost_reflect_wire.specs.Record.{Payload, Flat, Group, payload_valid}
 use Rattle.prost_reflect_wire.specs.Front.{ValueFront, PayloadFront}
 use Rattle.prost_reflect_wire.specs.Scalar.{Scalar, ScalarKind}
 use Rattle.prost_reflect_wire.specs.Schema.{ScalarOf, Singular, Field, Schema, known, field_of, is_sibling, passes}
-use Rattle.prost_reflect_wire.specs.Content.{Content, ContentOf, Entries, Value, ScalarValue, Slot, value_at, unknowns_at, slot_at, insert_number, numbers_in, changed, entries_ordered}
+use Rattle.prost_reflect_wire.specs.Content.{ContentOf, Entries, Value, ScalarValue, Slot, value_at, unknowns_at, slot_at, insert_number, numbers_in, changed, entries_ordered}
 use Rattle.prost_reflect_wire.specs.Typing.{fit_test, value_valid, value_passes, entries_pass, WellStored}
 use Rattle.prost_reflect_wire.specs.Edit.{with_value}
 use Rattle.prost_reflect_wire.specs.Storing.{with_stored, with_unknown}
@@ -19,7 +19,7 @@ use Rattle.prost_reflect_wire.proofs.Survivors.{field_number}
 use Rattle.prost_reflect_wire.proofs.Numbers.{empty_slot, eqb-sym, insert_ascending, entries_ascending}
 use Rattle.prost_reflect_wire.proofs.Arranged.{OrderedOption, table_ordered}
 use Rattle.prost_reflect_wire.proofs.Slotwise.{slot_changed}
-use Rattle.prost_reflect_wire.proofs.StoredSteps.{Known, Mutual, value_in_order}
+use Rattle.prost_reflect_wire.proofs.StoredSteps.{Known, value_in_order}
 use Rattle.prost_reflect_wire.proofs.StoredPasses.{OptionPasses, SlotPasses, passes_slots}
 use Rattle.prost_reflect_wire.proofs.RecordReads.{IsOpen, scalar_record, unknown_record, scalar_read_fits}
 use Rattle.prost_reflect_wire.proofs.PlainTypes.{NoOneofs, mutual_none, scalar_sound, unknown_sound}

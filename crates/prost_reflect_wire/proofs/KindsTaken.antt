@@ -4,7 +4,6 @@ use Rattle.std.specs.Option.{is_some}
 use Rattle.std.specs.Prelude.{if◌then◌else◌}
 use Rattle.std.specs.List.{list_all}
 use Rattle.std.specs.Str.{is_utf8}
-use Rattle.prost_reflect_wire.specs.declared.key.WireType.{WireType}
 use Rattle.prost_reflect_wire.specs.declared.key.WireType.TheVariants as wires
 use Rattle.prost_reflect_wire.specs.Record.{Var, Fix64, Len, Fix32, Records, Payload, Flat, Group, payload_wire}
 use Rattle.prost_reflect_wire.specs.Scalar.{ScalarKind, Double, Float, Int64, Uint64, Int32, Fixed64, Fixed32, BoolKind, StringKind, BytesKind, Uint32, Enum, Sfixed32, Sfixed64, Sint32, Sint64, kind_wire}

@@ -1,15 +1,15 @@
 -- A fault behind whole records stands in front of them, and what a scalar is refused for stands where it is read.
-use Rattle.std.proofs.Common.{◌≡◌, ◌≢◌, ℕ, Bool, true, false, cond, List, [], ◌∷◌, ◌++◌, Option, Some, None, refl, ap, sym, ◌∙◌, append-nil, append_assoc, subst, inl, inr}
+use Rattle.std.proofs.Common.{◌≡◌, ◌≢◌, ℕ, List, [], ◌∷◌, ◌++◌, Option, Some, refl, ap, sym, ◌∙◌, append-nil, append_assoc, subst, inl, inr}
 use Rattle.prost_reflect_wire.specs.declared.key.WireType.{WireType}
 use Rattle.prost_reflect_wire.specs.declared.key.WireType.TheVariants as wires
 use Rattle.prost_reflect_wire.specs.declared.error.DecodeError.{DecodeError}
 use Rattle.prost_reflect_wire.specs.declared.error.DecodeError.TheVariants as errors
-use Rattle.prost_reflect_wire.specs.Record.{Record, NoRecords, Payload, Flat, Group, before, body_of, Spells, payload_wire}
-use Rattle.prost_reflect_wire.specs.Front.{KeyFront, PlainFront, GroupFront, PayloadFront, RecordsFront, RecordFront}
-use Rattle.prost_reflect_wire.specs.Scalar.{ScalarKind, kind_wire}
-use Rattle.prost_reflect_wire.specs.Schema.{Kind, ScalarOf, FieldForm, Singular, Field, Schema}
+use Rattle.prost_reflect_wire.specs.Record.{Record, Payload, Flat, Group, before, body_of, Spells, payload_wire}
+use Rattle.prost_reflect_wire.specs.Front.{KeyFront, PayloadFront, RecordsFront, RecordFront}
+use Rattle.prost_reflect_wire.specs.Scalar.{ScalarKind}
+use Rattle.prost_reflect_wire.specs.Schema.{ScalarOf, Singular, Field, Schema}
 use Rattle.prost_reflect_wire.specs.Writing.{record_at}
-use Rattle.prost_reflect_wire.specs.Fault.{Place, Inside, Stands, Here, Behind, Comes, Next, NextField, field_at, takes, same_wire, is_map}
+use Rattle.prost_reflect_wire.specs.Fault.{Place, Inside, Stands, Here, Behind, field_at, takes, is_map}
 use Rattle.prost_reflect_wire.specs.Decoding.{ScalarFault}
 
 -- RECORDS AT THE FRONT
@@ -69,12 +69,22 @@ pub scalar_stands : (schema : Schema) (e : DecodeError) (place : Place) (n : ℕ
 scalar_stands schema errors.Truncated place n w rest f kind k found form is closes fault = Here (inr (inr (inl (record { number = n; wire = w; rest = rest; key = k; behind = fault }))))
 scalar_stands schema errors.Varint place n w rest f kind k found form is closes fault = Here (inr (inl (record { number = n; wire = w; rest = rest; key = k; behind = fault })))
 scalar_stands schema errors.WireType place n w rest f kind k found form is closes (unended, other) = Here (record {
-  number = n; wire = w; field = f; rest = rest; key = k; found = found;
+  number = n;
+  wire = w;
+  field = f;
+  rest = rest;
+  key = k;
+  found = found;
   behind = (unended, ap (λ form. takes form f.value_type.kind w) form ∙ ap (λ k. takes Singular k w) is ∙ other);
 })
 scalar_stands schema errors.EndGroup place n w rest f kind k found form is closes fault = Here (record { number = n; wire = w; rest = rest; key = k; behind = (fault, closes fault) })
 scalar_stands schema errors.Utf8 place n w rest f kind k found form is closes (delimited, text, body) = Here (record {
-  number = n; wire = w; field = f; rest = rest; key = k; found = found;
+  number = n;
+  wire = w;
+  field = f;
+  rest = rest;
+  key = k;
+  found = found;
   behind = (delimited, ap is_map form, is ∙ ap ScalarOf text, body);
 })
 scalar_stands schema _ place n w rest f kind k found form is closes fault = absurd fault

@@ -15,7 +15,6 @@ use Rattle.prost_reflect_wire.specs.Front.{KeyFront, PlainFront, DelimitedFront,
 use Rattle.prost_reflect_wire.specs.Fault.{Place, field_at, Next, NextField, ElementFault, ElementEnds, ElementPasses, BehindElement, TextNext, PackedNext, same_wire, takes, needs_level, opens_level, is_map, Comes}
 use Rattle.prost_reflect_wire.proofs.Deeper.{and_both}
 use Rattle.prost_reflect_wire.proofs.Sound.{bind_ok, plain_sound}
-use Rattle.prost_reflect_wire.proofs.Reading.{plain_read}
 use Rattle.prost_reflect_wire.proofs.KeyFronts.{key_once, key_no_fault}
 use Rattle.prost_reflect_wire.proofs.PlainFronts.{plain_once, plain_no_fault, delimited_once, plain_delimited}
 use Rattle.prost_reflect_wire.proofs.BodyFronts.{payload_no_end, key_not_empty, key_bytes, plain_bytes, body_bytes}

@@ -4,7 +4,7 @@ use Rattle.std.specs.List.{list_any}
 use Rattle.prost_reflect_wire.specs.Record.{Payload, payload_valid, number_valid}
 use Rattle.prost_reflect_wire.specs.Scalar.{Scalar, ScalarKind, scalar_valid}
 use Rattle.prost_reflect_wire.specs.Schema.{ScalarOf, Singular, Field, Schema, known, field_of, same_oneof, is_sibling, is_singular, passes}
-use Rattle.prost_reflect_wire.specs.Content.{ContentOf, Entries, NoEntries, Stored, Unknown, Value, ScalarValue, slot_at, entries_ordered}
+use Rattle.prost_reflect_wire.specs.Content.{ContentOf, Entries, NoEntries, Stored, Unknown, ScalarValue, slot_at, entries_ordered}
 use Rattle.prost_reflect_wire.specs.Typing.{fit_test, alone_test, value_valid, unknown_fits, kind_takes, has_value_of, is_alone, WellStored}
 use Rattle.prost_reflect_wire.specs.Storing.{with_stored, with_unknown}
 use Rattle.prost_reflect_wire.proofs.Deeper.{both_true}

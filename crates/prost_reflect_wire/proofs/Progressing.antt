@@ -1,16 +1,15 @@
 -- A message that is read record by record.
-use Rattle.std.proofs.Common.{◌≡◌, ◌≢◌, ℕ, List, [], ◌++◌, Option, Some, None, refl, sym, ap, ap₂, subst, ◌∙◌, append-nil}
+use Rattle.std.proofs.Common.{◌≡◌, ◌≢◌, ℕ, List, [], Some, None, refl, subst, ◌∙◌}
 use Rattle.prost_reflect_wire.specs.declared.key.WireType.{WireType}
 use Rattle.prost_reflect_wire.specs.declared.error.DecodeError.{DecodeError}
-use Rattle.prost_reflect_wire.specs.Record.{body_of}
-use Rattle.prost_reflect_wire.specs.Front.{KeyFront, KeyFault, RecordsFront}
+use Rattle.prost_reflect_wire.specs.Front.{KeyFront, KeyFault}
 use Rattle.prost_reflect_wire.specs.Schema.{Schema}
 use Rattle.prost_reflect_wire.specs.Content.{Content, empty, schema_of, type_of}
 use Rattle.prost_reflect_wire.specs.Grammar.{Accepts}
 use Rattle.prost_reflect_wire.specs.Meaning.{decoded}
 use Rattle.prost_reflect_wire.specs.Typing.{kept, WellStored}
 use Rattle.prost_reflect_wire.specs.Fault.{OfType, StandsInMessage}
-use Rattle.prost_reflect_wire.specs.Decoding.{ReadTo, Holds, Progress, Step, StandsBehindKey}
+use Rattle.prost_reflect_wire.specs.Decoding.{Progress, Step, StandsBehindKey}
 use Rattle.prost_reflect_wire.proofs.Readings.{read_nothing, read_record, read_decoded, read_accepts}
 use Rattle.prost_reflect_wire.proofs.MessageFaults.{stands_behind}
 use Rattle.prost_reflect_wire.proofs.PlaceFaults.{key_stands}

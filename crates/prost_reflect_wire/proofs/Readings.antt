@@ -1,19 +1,18 @@
 -- Records read one behind another from bytes.
-use Rattle.std.proofs.Common.{◌≡◌, ℕ, zero, suc, Bool, true, false, cond, List, [], ◌∷◌, ◌++◌, Option, Some, None, refl, ap, ap₂, sym, ◌∙◌, append-nil, append_assoc, subst}
-use Rattle.std.specs.List.{list_all}
-use Rattle.prost_reflect_wire.specs.Varint.{AreBytes, guard, ◌>>=◌}
-use Rattle.prost_reflect_wire.specs.Record.{Record, Records, NoRecords, Payload, Flat, Group, items, before, body_of, Spells, read}
+use Rattle.std.proofs.Common.{◌≡◌, ℕ, zero, suc, List, [], ◌∷◌, ◌++◌, Option, Some, refl, ap, ap₂, sym, ◌∙◌, append-nil, append_assoc, subst}
+use Rattle.prost_reflect_wire.specs.Varint.{guard, ◌>>=◌}
+use Rattle.prost_reflect_wire.specs.Record.{Record, Records, Payload, Flat, Group, items, before, body_of, Spells}
 use Rattle.prost_reflect_wire.specs.declared.key.WireType.{WireType}
 use Rattle.prost_reflect_wire.specs.Front.{KeyFront, ValueFront, RecordsFront, RecordFront}
-use Rattle.prost_reflect_wire.specs.Schema.{Schema, known}
+use Rattle.prost_reflect_wire.specs.Schema.{Schema}
 use Rattle.prost_reflect_wire.specs.Content.{Content, ContentOf, empty, schema_of, type_of}
-use Rattle.prost_reflect_wire.specs.Grammar.{Accepts, allows, record_allowed}
+use Rattle.prost_reflect_wire.specs.Grammar.{Accepts, allows}
 use Rattle.prost_reflect_wire.specs.Meaning.{MeansInside, JoinsInside, meaning, decoded, step_by, steps_by, steps}
 use Rattle.prost_reflect_wire.specs.Writing.{record_at}
 use Rattle.prost_reflect_wire.specs.Typing.{kept}
 use Rattle.prost_reflect_wire.specs.Decoding.{ReadTo, RecordRead}
-use Rattle.prost_reflect_wire.proofs.Deeper.{both_true, allows_append}
-use Rattle.prost_reflect_wire.proofs.Allowed.{inside, allows_inside}
+use Rattle.prost_reflect_wire.proofs.Deeper.{allows_append}
+use Rattle.prost_reflect_wire.proofs.Allowed.{allows_inside}
 use Rattle.prost_reflect_wire.proofs.Means.{below, further}
 use Rattle.prost_reflect_wire.proofs.Steps.{meaning_steps, meaning_empty}
 use Rattle.prost_reflect_wire.proofs.MessageFaults.{record_front}
@@ -50,9 +49,17 @@ spells_append (r ∷ rs) qs a b s t = go r.payload s (λ after u. spells_append 
         Spells (before (record { number = r.number; payload = p }) (body_of (rs ++ qs))) (a ++ b)
     go (Flat p) (key, body, after, k, u, v, e) more =
         (key, body, after ++ b, k, u, more after v, ap (λ l. l ++ b) e ∙ append_assoc key (body ++ after) b ∙ ap (λ l. key ++ l) (append_assoc body after b))
-    go (Group rs') (key, body, stop, after, k, u, l, v, e) more =
-        (key, body, stop, after ++ b, k, u, l, more after v,
-        ap (λ l. l ++ b) e ∙ append_assoc key (body ++ (stop ++ after)) b ∙ ap (λ l. key ++ l) (append_assoc body (stop ++ after) b ∙ ap (λ l. body ++ l) (append_assoc stop after b)))
+    go (Group rs') (key, body, stop, after, k, u, l, v, e) more = (
+      key,
+      body,
+      stop,
+      after ++ b,
+      k,
+      u,
+      l,
+      more after v,
+      ap (λ l. l ++ b) e ∙ append_assoc key (body ++ (stop ++ after)) b ∙ ap (λ l. key ++ l) (append_assoc body (stop ++ after) b ∙ ap (λ l. body ++ l) (append_assoc stop after b)),
+    )
 
 pub front_more : (rs : List Record) (r : Record) (bytes mid rest : List ℕ) → RecordsFront (body_of rs) bytes mid → RecordFront r mid rest → RecordsFront (body_of (rs ++ (r ∷ []))) bytes rest
 front_more rs r bytes mid rest f g = record {
@@ -70,6 +77,7 @@ read_nothing k c bytes = record {
   allowed = allows_inside (schema_of c) k (type_of c) [];
   means = sym (steps_level k (kept c) []);
 }
+
 -- one step behind another
 pub steps_behind : (k : ℕ) (c d : Content) (rs : List Record) (r : Record) → d ≡ steps k c rs → schema_of d ≡ schema_of c → steps k c (rs ++ (r ∷ [])) ≡ steps k d (r ∷ [])
 steps_behind k c d rs r is same =
@@ -92,6 +100,7 @@ read_record k n w old mid new bytes rest after end done key next schema type = r
 
     value : ValueFront n w k next.payload after end
     value = next.value
+
 -- all bytes are spelled by the records that were read
 whole_spelled : (levels : ℕ) (old new : Content) (bytes : List ℕ) → (done : ReadTo levels old new bytes []) → Spells (body_of done.records) bytes
 whole_spelled levels old new bytes done = let f : RecordsFront (body_of done.records) bytes [] = done.front in subst (Spells (body_of done.records)) (sym (f.parts ∙ append-nil f.front)) f.spelled

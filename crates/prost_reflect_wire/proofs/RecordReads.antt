@@ -1,15 +1,15 @@
 -- A scalar's record and an unknown one, read into what a message stores.
-use Rattle.std.proofs.Common.{◌≡◌, ℕ, ◌≤◌, Bool, true, false, cond, ◌&&◌, List, [], ◌∷◌, nat_eq, nat_le, Option, Some, None, refl, ap, sym, ◌∙◌, subst, arith, true≢false, ◌++◌}
-use Rattle.std.proofs.lemmas.Bool.{le-leb, eq-eqb}
+use Rattle.std.proofs.Common.{◌≡◌, ℕ, Bool, true, false, cond, List, [], ◌∷◌, nat_eq, nat_le, Some, None, refl, ap, sym, ◌∙◌, subst, arith, true≢false, ◌++◌}
+use Rattle.std.proofs.lemmas.Bool.{le-leb}
 use Rattle.std.specs.Prelude.{is_some}
 use Rattle.prost_reflect_wire.specs.declared.key.WireType.{WireType}
 use Rattle.prost_reflect_wire.specs.Varint.{AreBytes}
 use Rattle.prost_reflect_wire.specs.Record.{Record, Payload, Flat, payload_levels}
-use Rattle.prost_reflect_wire.specs.Front.{PlainFront, ValueFront}
-use Rattle.prost_reflect_wire.specs.Scalar.{Scalar, ScalarKind, elem, is_undeclared, scalar_valid}
-use Rattle.prost_reflect_wire.specs.Schema.{Kind, ScalarOf, Singular, Field, Schema, known, field_of, is_sibling}
-use Rattle.prost_reflect_wire.specs.Content.{Content, ContentOf, Entries, Value, ScalarValue, Slot, slot_at, entries_ordered}
-use Rattle.prost_reflect_wire.specs.Grammar.{allows, record_allowed, field_allowed, one_allowed, fits}
+use Rattle.prost_reflect_wire.specs.Front.{ValueFront}
+use Rattle.prost_reflect_wire.specs.Scalar.{Scalar, ScalarKind, is_undeclared, scalar_valid}
+use Rattle.prost_reflect_wire.specs.Schema.{ScalarOf, Singular, Field, Schema, known, field_of, is_sibling}
+use Rattle.prost_reflect_wire.specs.Content.{ContentOf, Entries, Value, ScalarValue, slot_at, entries_ordered}
+use Rattle.prost_reflect_wire.specs.Grammar.{allows, record_allowed, field_allowed, one_allowed}
 use Rattle.prost_reflect_wire.specs.Meaning.{step_by, steps}
 use Rattle.prost_reflect_wire.specs.Writing.{record_at}
 use Rattle.prost_reflect_wire.specs.Typing.{kept}
@@ -25,7 +25,7 @@ use Rattle.prost_reflect_wire.proofs.Values.{unknown_back}
 use Rattle.prost_reflect_wire.proofs.Declared.{read_valid}
 use Rattle.prost_reflect_wire.proofs.SpelledValid.{spelled_plain_valid}
 use Rattle.prost_reflect_wire.proofs.ByteLists.{bytes_front}
-use Rattle.prost_reflect_wire.proofs.StoredSteps.{ScalarRecord, Mutual, Known, scalar_step, unknown_step, kept_step}
+use Rattle.prost_reflect_wire.proofs.StoredSteps.{Mutual, Known, scalar_step, unknown_step, kept_step}
 use Rattle.prost_reflect_wire.proofs.Readings.{steps_level, steps_one}
 
 -- one record alone

@@ -1,11 +1,11 @@
 -- What a record of a scalar field, or an unknown record, makes of what is kept: the step of the meaning.
-use Rattle.std.proofs.Common.{◌≡◌, ℕ, zero, suc, Bool, true, false, cond, not, ◌&&◌, ◌||◌, List, [], ◌∷◌, ◌++◌, nat_eq, Option, Some, None, refl, ap, ap₂, sym, ◌∙◌, arith, true≢false, append-nil, map, subst}
-use Rattle.std.proofs.lemmas.Bool.{eqb-true, eqb-false, eq-eqb, ne_eqb}
+use Rattle.std.proofs.Common.{◌≡◌, ℕ, Bool, true, false, cond, ◌&&◌, ◌||◌, List, [], ◌∷◌, ◌++◌, nat_eq, Option, Some, None, refl, ap, sym, ◌∙◌, arith, append-nil, map, subst}
+use Rattle.std.proofs.lemmas.Bool.{eqb-true, eq-eqb}
 use Rattle.prost_reflect_wire.specs.Varint.{◌>>=◌}
 use Rattle.prost_reflect_wire.specs.Record.{Record, Payload}
-use Rattle.prost_reflect_wire.specs.Scalar.{Scalar, ScalarKind, elem, scalar_eq, is_undeclared}
-use Rattle.prost_reflect_wire.specs.Schema.{Kind, ScalarOf, ValueType, FieldForm, Singular, Field, Schema, known, field_of, is_sibling, is_singular}
-use Rattle.prost_reflect_wire.specs.Content.{Content, ContentOf, Entries, NoEntries, Stored, Unknown, Value, ScalarValue, Slot, value_at, unknowns_at, slot_at, changed, insert_number, numbers_in, comes_before, ordered, entries_ordered, value_ordered}
+use Rattle.prost_reflect_wire.specs.Scalar.{Scalar, ScalarKind, elem, is_undeclared}
+use Rattle.prost_reflect_wire.specs.Schema.{ScalarOf, Singular, Field, Schema, known, field_of, is_sibling, is_singular}
+use Rattle.prost_reflect_wire.specs.Content.{ContentOf, Entries, NoEntries, Stored, Unknown, Value, ScalarValue, Slot, value_at, slot_at, changed, insert_number, numbers_in, comes_before, entries_ordered, value_ordered}
 use Rattle.prost_reflect_wire.specs.Grammar.{value_records, unknown_payloads, is_stray}
 use Rattle.prost_reflect_wire.specs.Meaning.{MeansInside, JoinsInside, present, one_joined, value_joined, value_step, value_behind, slot_step, step_by}
 use Rattle.prost_reflect_wire.specs.Writing.{record_at, is_default_of}

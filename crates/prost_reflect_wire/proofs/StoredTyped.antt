@@ -4,7 +4,7 @@ use Rattle.std.specs.Bool.{⊤}
 use Rattle.std.proofs.lemmas.Bool.{eqb-true, eq-eqb}
 use Rattle.prost_reflect_wire.specs.Record.{Payload}
 use Rattle.prost_reflect_wire.specs.Scalar.{Scalar}
-use Rattle.prost_reflect_wire.specs.Schema.{Kind, Field, Schema, field_of, is_sibling}
+use Rattle.prost_reflect_wire.specs.Schema.{Field, Schema, field_of, is_sibling}
 use Rattle.prost_reflect_wire.specs.Content.{Entries, NoEntries, Stored, Unknown, Value, ScalarValue, Slot, value_at, unknowns_at, slot_at, comes_before, entries_ordered, value_ordered}
 use Rattle.prost_reflect_wire.specs.Typing.{EntriesTyped, ValueTyped, kind_for}
 use Rattle.prost_reflect_wire.specs.Edit.{with_value}

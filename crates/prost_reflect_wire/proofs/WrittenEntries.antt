@@ -2,9 +2,9 @@
 use Rattle.std.proofs.Common.{◌≡◌, ℕ, Bool, true, false, cond, not, ◌&&◌, ◌||◌, List, [], ◌∷◌, ◌++◌, map, Option, Some, None, refl, ap, sym, ◌∙◌, append_assoc, append-nil, true≢false}
 use Rattle.prost_reflect_wire.specs.declared.key.WireType.TheVariants as wires
 use Rattle.prost_reflect_wire.specs.Varint.{◌>>=◌}
-use Rattle.prost_reflect_wire.specs.Record.{Record, Records, NoRecords, Plain, Payload, Flat, Group, before, body_of, plain_wire, short_key, short_plain, short_body, spelled}
+use Rattle.prost_reflect_wire.specs.Record.{Record, Payload, Flat, Group, before, body_of, plain_wire, short_key, short_plain, short_body, spelled}
 use Rattle.prost_reflect_wire.specs.Scalar.{Scalar, F64, F32, I64, U64, I32, U32, Boolean, Text, Bytes, EnumNumber, ScalarKind, Double, Float, Int64, Uint64, Int32, Fixed64, Fixed32, BoolKind, StringKind, BytesKind, Uint32, Sfixed32, Sfixed64, Sint32, Sint64, Enum, kind_wire, scalar_eq, scalar_valid, written}
-use Rattle.prost_reflect_wire.specs.Schema.{ScalarOf, Singular, ValueType, Field, field_of, is_singular}
+use Rattle.prost_reflect_wire.specs.Schema.{ScalarOf, Singular, Field, field_of, is_singular}
 use Rattle.prost_reflect_wire.specs.Content.{Entries, Unknown, Value, ScalarValue, Slot, then_unknowns, then_value, store}
 use Rattle.prost_reflect_wire.specs.Writing.{record_at, is_default_of, field_payloads, entries_records, scalar_payload}
 use Rattle.prost_reflect_wire.specs.Storing.{kept_records, value_bytes, stored_bytes, slot_bytes}

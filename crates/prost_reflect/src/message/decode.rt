@@ -49,12 +49,7 @@ impl DynamicMessage {
     }
 
     /// Reads the records of the bytes into the message. A refusal leaves a part of them read.
-    fn merge_records(
-        &mut self,
-        alloc: Global,
-        bytes: &[u8],
-        levels: u32,
-    ) -> Result<(), DecodeError>
+    fn merge_records(&mut self, alloc: Global, bytes: &[u8], levels: u32) -> Result<(), DecodeError>
         requires plain { covered (schema_at (descriptor_of self.old)) (type_at (descriptor_of self.old)) ≡ true }
         requires sound { WellStored (content_of self.old) }
         ensures ok { IfOk result (λ _. Progress levels (content_of self.old) (content_of self.new) bytes.now []) }

@@ -21,11 +21,17 @@ use crate::message::DynamicMessage;
 use crate::message::scalar::wire_type_of;
 use crate::value::Value;
 use prost_reflect_tables::{FieldTable, TableKind, WrittenDefault};
-use prost_reflect_wire::{BackBuffer, EncodeError, prepend_fields, sign_extended, zigzag32, zigzag64};
+use prost_reflect_wire::{
+    BackBuffer, EncodeError, prepend_fields, sign_extended, zigzag32, zigzag64,
+};
 use std::alloc::Global;
 
 /// Adds the payload of a scalar in front.
-fn prepend_scalar(buffer: &mut BackBuffer, kind: TableKind, value: &Value) -> Result<(), EncodeError>
+fn prepend_scalar(
+    buffer: &mut BackBuffer,
+    kind: TableKind,
+    value: &Value,
+) -> Result<(), EncodeError>
     requires { TakesScalar kind (value_of value.now) }
     ensures { Prepended result (bytes_of buffer.old) (bytes_of buffer.new) (scalar_bytes (plain_kind kind) (value_of value.now)) }
 {
@@ -34,7 +40,9 @@ fn prepend_scalar(buffer: &mut BackBuffer, kind: TableKind, value: &Value) -> Re
         (TableKind::Int64, Value::I64(value)) => buffer.prepend_varint(value.cast_unsigned()),
         (TableKind::Uint32, Value::U32(value)) => buffer.prepend_varint(u64::from(*value)),
         (TableKind::Uint64, Value::U64(value)) => buffer.prepend_varint(*value),
-        (TableKind::Sint32, Value::I32(value)) => buffer.prepend_varint(u64::from(zigzag32(*value))),
+        (TableKind::Sint32, Value::I32(value)) => buffer.prepend_varint(u64::from(zigzag32(
+            *value,
+        ))),
         (TableKind::Sint64, Value::I64(value)) => buffer.prepend_varint(zigzag64(*value)),
         (TableKind::Bool, Value::Bool(value)) => buffer.prepend_varint(u64::from(*value)),
         (TableKind::Double, Value::F64(value)) => buffer.prepend(&value.to_le_bytes()),

@@ -10,7 +10,8 @@ ghost use Rattle.prost_reflect.specs.Scalars.{plain_kind, HasWire, IsElement, Re
 use crate::value::Value;
 use prost_reflect_tables::TableKind;
 use prost_reflect_wire::{
-    DecodeError, WireType, decode_varint, delimited_at, fixed32_at, fixed64_at, low_i32, low_u32, unzigzag32, unzigzag64,
+    DecodeError, WireType, decode_varint, delimited_at, fixed32_at, fixed64_at, low_i32, low_u32,
+    unzigzag32, unzigzag64,
 };
 use std::alloc::Global;
 

@@ -1,4 +1,4 @@
-use Rattle.std.proofs.Common.{◌≡◌, ℕ, length}
+use Rattle.std.proofs.Common.{◌≡◌, length}
 use Rattle.prost_reflect_wire.specs.Decoding.{Progress}
 use Rattle.prost_reflect.specs.View.{content_of, descriptor_of}
 use Rattle.prost_reflect.proofs.message.DynamicMessage.merge_records.Given as goal
