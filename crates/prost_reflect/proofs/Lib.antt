@@ -13,3 +13,4 @@ pub mod Stored
 pub mod ContentChanges
 pub mod Described
 pub mod Keys
+pub mod Copied
