@@ -1,26 +1,21 @@
 -- Contents at each number after the operations of the field set.
-use Rattle.std.proofs.Common.{◌≡◌, ℕ, Bool, true, false, cond, ◌++◌, nat_eq, List, [], ◌∷◌, Option, Some, None, refl, ap, sym, ◌∙◌, subst, arith, unwrap_or}
+use Rattle.std.proofs.Common.{◌≡◌, ℕ, Bool, true, false, cond, nat_eq, Option, Some, None, refl, ap, sym, ◌∙◌, subst, arith}
 use Rattle.std.specs.Option.{option_map}
-use Rattle.prost_reflect_wire.specs.Record.{Record}
-use Rattle.prost_reflect_wire.specs.Schema.{Schema, Field, known, field_of, is_sibling}
-use Rattle.prost_reflect_wire.specs.Content.{Content, ContentOf, Entries, Slot, slot_at, changed, insert_number, numbers_in, entries_of, schema_of, type_of, entries_ordered, value_ordered}
-use Rattle.prost_reflect_wire.specs.Content as contents
+use Rattle.prost_reflect_wire.specs.Schema.{Schema, Field, known, is_sibling}
+use Rattle.prost_reflect_wire.specs.Content.{ContentOf, Entries, Slot, slot_at, changed, insert_number, numbers_in, entries_of, schema_of, type_of, entries_ordered, value_ordered}
 use Rattle.prost_reflect_wire.specs.Edit.{with_value, with_field_value}
 use Rattle.prost_reflect_wire.proofs.Numbers.{is_in, Covers, empty_slot, insert_ascending, entries_ascending, in_insert, slot_outside, slot_table}
 use Rattle.prost_reflect_wire.proofs.Survivors.{or_false, field_number}
 use Rattle.prost_reflect_wire.proofs.Arranged.{OrderedOption, table_ordered}
-use Rattle.prost_reflect.specs.declared.fields.entry.Entry.{Entry}
-use Rattle.prost_reflect.specs.declared.message.DynamicMessage.{DynamicMessage}
 use Rattle.prost_reflect.specs.declared.value.Value.{Value}
 use Rattle.prost_reflect.specs.Descriptors.{schema_at, type_at}
-use Rattle.prost_reflect.specs.Items.{IsAscending}
-use Rattle.prost_reflect.specs.Entries.{value_at, records_at}
-use Rattle.prost_reflect.specs.View.{value_of, content_of, entries_from, payloads_of}
-use Rattle.prost_reflect.specs.Contents.{value_set, value_cleared, unknown_added, with_unknown}
+use Rattle.prost_reflect.specs.Entries.{value_at}
+use Rattle.prost_reflect.specs.View.{value_of, entries_from}
+use Rattle.prost_reflect.specs.Contents.{with_unknown}
 use Rattle.prost_reflect.specs.ContentLaws.{MessageSlots, MessageOrder, SlotsAfterSet, SlotsAfterClear, SlotsAfterUnknown, SlotsDetermine}
 use Rattle.prost_reflect.proofs.Views.{shown, content_of_message}
 use Rattle.prost_reflect.proofs.Slots.{same_slots_same, from_keys}
-use Rattle.prost_reflect.proofs.Stored.{ascending_shown, slot_stored, slot_of_message, stored_slot}
+use Rattle.prost_reflect.proofs.Stored.{ascending_shown, slot_stored, slot_of_message}
 
 -- the slots of entries that were changed
 pub slot_changed : (n : ℕ) (change : ℕ → Slot → Slot) (es : Entries) → ((k : ℕ) → nat_eq k n ≡ false → change k empty_slot ≡ empty_slot) → (k : ℕ) → slot_at (changed n change es) k ≡ change k (slot_at es k)

@@ -1,9 +1,9 @@
 -- What copies store.
 use Rattle.std.proofs.Common.{◌≡◌, ℕ, zero, suc, ◌+◌, ◌<◌, ◌≤◌, Bool, true, false, cond, List, [], ◌∷◌, ◌++◌, map, length, take, drop, get_or, Option, None, Some, refl, ap, ap₂, sym, ◌∙◌, subst, arith, unwrap_or}
 use Rattle.std.specs.Option.{option_map, option_and_then, is_some}
-use Rattle.std.specs.Ordering.{nat_cmp, is_eq, ordering_reverse, match_ordering}
+use Rattle.std.specs.Ordering.{nat_cmp, ordering_reverse, match_ordering}
 use Rattle.std.specs.declared.cmp.Ordering.{Ordering}
-use Rattle.std.specs.declared.cmp.Ordering.TheVariants.{Less, Equal, Greater}
+use Rattle.std.specs.declared.cmp.Ordering.TheVariants.{Less, Greater}
 use Rattle.std.specs.Cmp.{IsTotalOrder, nat_cmp_total}
 use Rattle.std.specs.BTreeMap.{is_at, insert_entry}
 use Rattle.std.specs.List.{AllByRecursion}
@@ -21,12 +21,11 @@ use Rattle.prost_reflect.specs.declared.descriptor.message.MessageDescriptor.{Me
 use Rattle.prost_reflect.specs.declared.message.DynamicMessage.{DynamicMessage}
 use Rattle.prost_reflect.specs.declared.value.Value.{Value}
 use Rattle.prost_reflect.specs.declared.value.Value.TheViews.{roll-DynamicMessage}
-use Rattle.prost_reflect.specs.Descriptors.{schema_at, type_at, SameMessage}
-use Rattle.prost_reflect.specs.Pools.{pool_rows}
+use Rattle.prost_reflect.specs.Descriptors.{SameMessage}
 use Rattle.prost_reflect_tables.specs.Shown.{schema_from}
 use Rattle.prost_reflect.specs.Items.{IsAscending, item_at, put_item}
 use Rattle.prost_reflect.specs.Known.{known_of}
-use Rattle.prost_reflect.specs.Entries.{value_in, records_in, value_at, records_at, has_value}
+use Rattle.prost_reflect.specs.Entries.{value_in, records_in, records_at, has_value}
 use Rattle.prost_reflect.specs.Sound.{Sound, unknown_kept}
 use Rattle.prost_reflect.specs.View.{value_of, content_of, entries_from, payloads_of, entry_parts}
 use Rattle.prost_reflect.proofs.Views.{shown, shown_entry, content_of_message, content_of_roll}
@@ -91,7 +90,7 @@ pub copied_next : (fields items : List (ℕ × Entry Value)) (i n : ℕ) (e d : 
 copied_next fields items i n e d s l at done same =
     let keys : keys_of fields ≡ keys_of (take i items) = sym (keys_of_parts fields) ∙ ap keys_of done ∙ keys_of_parts (take i items) in
     let whole : keys_of items ≡ keys_of fields ++ n ∷ keys_of (drop (i + 1) items) =
-        ap keys_of (taken_and_rest items i (n, e) l at) ∙ keys_appended (take i items) ((n, e) ∷ drop (i + 1) items) ∙ ap (λ ks. ks ++ n ∷ keys_of (drop (i + 1) items)) (sym keys) in
+    ap keys_of (taken_and_rest items i (n, e) l at) ∙ keys_appended (take i items) ((n, e) ∷ drop (i + 1) items) ∙ ap (λ ks. ks ++ n ∷ keys_of (drop (i + 1) items)) (sym keys) in
     ap parts_of (insert_last nat_cmp nat_cmp_total fields n d (keys_of (drop (i + 1) items)) (subst (IsStrictlySortedBy nat_cmp) whole s))
     ∙ parts_appended fields ((n, d) ∷ []) ∙ ap₂ (λ ps (q : Parts). ps ++ (n, q) ∷ []) done same
     ∙ sym (parts_appended (take i items) ((n, e) ∷ [])) ∙ ap parts_of (sym (take_next items i (n, e) l at))

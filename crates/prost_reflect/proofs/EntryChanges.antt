@@ -1,5 +1,5 @@
 -- The values and the unknown fields at each number after a change.
-use Rattle.std.proofs.Common.{◌≡◌, ◌≢◌, ◌++◌, ◌||◌, unwrap_or, Bool, true, false, cond, ℕ, nat_eq, List, [], ◌∷◌, Option, None, Some, ap, sym, ◌∙◌, subst, refl, true≢false}
+use Rattle.std.proofs.Common.{◌≡◌, ◌++◌, ◌||◌, unwrap_or, Bool, true, false, cond, ℕ, nat_eq, List, [], ◌∷◌, Option, None, Some, ap, sym, ◌∙◌, subst, refl, true≢false}
 use Rattle.std.proofs.lemmas.Bool.{eq-eqb, ne_eqb}
 use Rattle.std.specs.Option.{option_and_then, option_map, is_some}
 use Rattle.std.specs.Ordering.{nat_cmp, is_eq}
@@ -13,7 +13,7 @@ use Rattle.prost_reflect_wire.specs.declared.unknown.UnknownFieldSet.{UnknownFie
 use Rattle.prost_reflect.specs.declared.fields.entry.Entry.{Entry}
 use Rattle.prost_reflect.specs.declared.fields.entry.Entry.TheVariants.{Value, Unknown, Both}
 use Rattle.prost_reflect.specs.Items.{IsAscending, item_at, with_item, put_item, without_item}
-use Rattle.prost_reflect.specs.Entries.{value_in, records_in, value_at, records_at, has_value, with_value_in, without_value_beside, revalued, put_entry, put_value, left_in, then_entry, without_values, clear_value, with_entry, with_value, AddedIn, SameIn, SameStored, UnknownAdded}
+use Rattle.prost_reflect.specs.Entries.{value_in, records_in, value_at, records_at, with_value_in, without_value_beside, revalued, put_entry, put_value, left_in, then_entry, without_values, clear_value, with_entry, with_value, AddedIn, SameIn, SameStored, UnknownAdded}
 use Rattle.prost_reflect.proofs.ItemChanges.{Apart, by_number, at_each, apart_of, apart_back, itself, none_above, same_items, put_same, put_apart, without_same, without_apart, with_same, with_apart, ascending_without, ascending_with, ascending_put_item}
 
 module _ {V : Type 0} where
@@ -118,7 +118,7 @@ module _ {V : Type 0} where
   pub without_both : (p q r : ℕ → Bool) (es : List (ℕ × Entry V)) → IsAscending es → ((k : ℕ) → r k ≡ (q k || p k)) → without_values p (without_values q es) ≡ without_values r es
   without_both p q r es s h = same_items (without_values p (without_values q es)) (without_values r es) (ascending_without_values p (without_values q es) between) (ascending_without_values r es s)
       (λ k. item_without p (without_values q es) k between ∙ ap (λ o. cond (p k) (option_and_then left_in o) o) (item_without q es k s) ∙ cases (item_at es k) (p k) (q k)
-        ∙ ap (λ b. cond b (option_and_then left_in (item_at es k)) (item_at es k)) (sym (h k)) ∙ sym (item_without r es k s))
+      ∙ ap (λ b. cond b (option_and_then left_in (item_at es k)) (item_at es k)) (sym (h k)) ∙ sym (item_without r es k s))
     where
       between : IsAscending (without_values q es)
       between = ascending_without_values q es s
@@ -140,8 +140,8 @@ module _ {V : Type 0} where
       → ((k : ℕ) → Apart n k → item_at ds k ≡ item_at es k) → ds ≡ clear_value es n
   cleared_by es ds n s r here apart = same_items ds (clear_value es n) r (ascending_without_values (nat_eq n) es s)
       (λ k. at_each (λ k. item_at ds k ≡ cond (nat_eq n k) (option_and_then left_in (item_at es k)) (item_at es k)) n
-        (here ∙ ap (λ b. cond b (option_and_then left_in (item_at es n)) (item_at es n)) (sym (eq-eqb n n refl)))
-        (λ k a. apart k a ∙ ap (λ b. cond b (option_and_then left_in (item_at es k)) (item_at es k)) (sym (ne_eqb n k (λ e. differs n k e a)))) k ∙ sym (item_without (nat_eq n) es k s))
+      (here ∙ ap (λ b. cond b (option_and_then left_in (item_at es n)) (item_at es n)) (sym (eq-eqb n n refl)))
+      (λ k a. apart k a ∙ ap (λ b. cond b (option_and_then left_in (item_at es k)) (item_at es k)) (sym (ne_eqb n k (λ e. differs n k e a)))) k ∙ sym (item_without (nat_eq n) es k s))
     where
       differs : (n k : ℕ) → n ≡ k → Apart n k → ⊥
       differs n k e a = absurd (true≢false (sym (ap is_eq (ap (nat_cmp n) (sym e) ∙ itself n)) ∙ a))
@@ -265,7 +265,7 @@ module _ {V : Type 0} where
   added_beside es n e d r h own added =
       let there : item_at (with_item es n d) n ≡ Some d = with_same es n d e h in
       let here : records_at (with_item es n d) n ≡ Some (unwrap_or (records_at es n) [] ++ r ∷ []) =
-          ap (option_and_then records_in) there ∙ added.records ∙ ap (λ o. Some (unwrap_or (option_and_then records_in o) [] ++ r ∷ [])) (sym h) in
+      ap (option_and_then records_in) there ∙ added.records ∙ ap (λ o. Some (unwrap_or (option_and_then records_in o) [] ++ r ∷ [])) (sym h) in
       record {
         values = at_each (λ k. value_at (with_item es n d) k ≡ value_at es k) n (ap (option_and_then value_in) there ∙ added.value ∙ ap (option_and_then value_in) (sym h))
             (λ k a. same_values es (with_item es n d) k (with_apart es n k d a));
@@ -278,7 +278,7 @@ module _ {V : Type 0} where
   added_first es n u r h own is =
       let there : item_at (put_item es n (Unknown u)) n ≡ Some (Unknown u) = put_same es n (Unknown u) in
       let here : records_at (put_item es n (Unknown u)) n ≡ Some (unwrap_or (records_at es n) [] ++ r ∷ []) =
-          ap (option_and_then records_in) there ∙ ap Some is ∙ ap (λ o. Some (unwrap_or (option_and_then records_in o) [] ++ r ∷ [])) (sym h) in
+      ap (option_and_then records_in) there ∙ ap Some is ∙ ap (λ o. Some (unwrap_or (option_and_then records_in o) [] ++ r ∷ [])) (sym h) in
       record {
         values = at_each (λ k. value_at (put_item es n (Unknown u)) k ≡ value_at es k) n (ap (option_and_then value_in) there ∙ ap (option_and_then value_in) (sym h))
             (λ k a. same_values es (put_item es n (Unknown u)) k (put_apart es n k (Unknown u) (apart_back n k a)));

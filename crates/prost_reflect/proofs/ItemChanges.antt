@@ -1,5 +1,5 @@
 -- What a change at one number of a map leaves at each number.
-use Rattle.std.proofs.Common.{◌≡◌, ◌≢◌, true, false, Bool, cond, ℕ, List, [], ◌∷◌, Option, None, Some, ap, sym, ◌∙◌, subst, refl, arith}
+use Rattle.std.proofs.Common.{◌≡◌, ◌≢◌, true, false, Bool, cond, ℕ, List, [], ◌∷◌, Option, None, Some, ap, sym, ◌∙◌, subst, refl}
 use Rattle.std.proofs.lemmas.Map.Lookups.{exact_unsigned}
 use Rattle.std.specs.Cmp.{nat_cmp_total}
 use Rattle.std.specs.Ordering.{nat_cmp, is_eq, ordering_reverse, match_ordering}
@@ -164,9 +164,9 @@ module _ {T : Type 0} where
   behind_same e d es ds s r same h k = by_number k e.0
       (λ is. subst (λ z. item_at es z ≡ None) (sym is) (none_above e.0 es s.0) ∙ sym (subst (λ z. item_at ds z ≡ None) (sym (is ∙ same)) (none_above d.0 ds r.0)))
       (λ apart.
-        let first : item_at (e ∷ es) k ≡ item_at es k = ap (λ b. cond b (Some e.1) (item_at es k)) apart in
-        let second : item_at (d ∷ ds) k ≡ item_at ds k = ap (λ b. cond b (Some d.1) (item_at ds k)) (subst (λ z. is_eq (nat_cmp k z) ≡ false) same apart) in
-        sym first ∙ h k ∙ second)
+      let first : item_at (e ∷ es) k ≡ item_at es k = ap (λ b. cond b (Some e.1) (item_at es k)) apart in
+      let second : item_at (d ∷ ds) k ≡ item_at ds k = ap (λ b. cond b (Some d.1) (item_at ds k)) (subst (λ z. is_eq (nat_cmp k z) ≡ false) same apart) in
+      sym first ∙ h k ∙ second)
 
   pub same_items : (es ds : List (ℕ × T)) → IsAscending es → IsAscending ds → ((k : ℕ) → item_at es k ≡ item_at ds k) → es ≡ ds
   unfolding IsStrictlySortedBy

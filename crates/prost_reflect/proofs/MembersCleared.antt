@@ -1,12 +1,12 @@
 -- Clearing the members of a oneof one after another.
-use Rattle.std.proofs.Common.{◌≡◌, ℕ, suc, ◌+◌, ◌<◌, length, drop, drop-cons, get_or, arith, Bool, true, false, cond, not, ◌&&◌, ◌||◌, nat_eq, List, [], ◌∷◌, map, Option, Some, None, refl, ap, sym, ◌∙◌}
-use Rattle.std.proofs.lemmas.Bool.{eq-eqb, ne_eqb, eqb-true, eqb-false}
+use Rattle.std.proofs.Common.{◌≡◌, ℕ, suc, ◌+◌, ◌<◌, length, drop, drop-cons, get_or, arith, Bool, true, false, not, ◌&&◌, ◌||◌, nat_eq, List, [], ◌∷◌, map, Option, Some, None, refl, ap, sym, ◌∙◌}
+use Rattle.std.proofs.lemmas.Bool.{ne_eqb, eqb-true, eqb-false}
 use Rattle.std.specs.List.{list_any}
 use Rattle.std.specs.Option.{option_and_then}
-use Rattle.prost_reflect_wire.specs.Schema.{Field, known, field_of, is_sibling, same_oneof, passes}
+use Rattle.prost_reflect_wire.specs.Schema.{Field, field_of, is_sibling, same_oneof, passes}
 use Rattle.prost_reflect_wire.proofs.Survivors.{field_number}
 use Rattle.prost_reflect_tables.specs.declared.tables.FieldTable.{FieldTable}
-use Rattle.prost_reflect_tables.specs.Rows.{FieldRow, field_row, TableRows}
+use Rattle.prost_reflect_tables.specs.Rows.{field_row, TableRows}
 use Rattle.prost_reflect_tables.specs.Shown.{schema_field}
 use Rattle.prost_reflect_tables.proofs.Fields.{known_rows}
 use Rattle.prost_reflect.specs.declared.fields.entry.Entry.{Entry}

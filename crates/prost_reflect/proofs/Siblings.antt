@@ -1,8 +1,8 @@
 -- The members of one oneof.
-use Rattle.std.proofs.Common.{◌≡◌, ℕ, zero, suc, Bool, true, false, cond, not, ◌&&◌, ◌||◌, nat_eq, List, [], ◌∷◌, Option, Some, None, refl, ap, sym, ◌∙◌, subst, true≢false}
+use Rattle.std.proofs.Common.{◌≡◌, ℕ, zero, suc, Bool, true, false, cond, not, ◌&&◌, ◌||◌, nat_eq, List, [], ◌∷◌, Option, Some, None, refl, ap, sym, ◌∙◌, true≢false}
 use Rattle.std.proofs.lemmas.Bool.{eq-eqb, ne_eqb, eqb-true, eqb-false}
 use Rattle.std.specs.List.{list_any, list_all}
-use Rattle.prost_reflect_wire.specs.Schema.{Field, MessageType, Schema, known, field_of, is_sibling, same_oneof, passes, numbers_differ, field_valid, schema_valid}
+use Rattle.prost_reflect_wire.specs.Schema.{Field, MessageType, Schema, known, field_of, is_sibling, same_oneof, passes, numbers_differ, field_valid}
 use Rattle.prost_reflect_wire.proofs.Deeper.{and_both, both_true}
 use Rattle.prost_reflect_wire.proofs.Survivors.{field_number, or_false}
 use Rattle.prost_reflect_tables.proofs.Keeping.{schema_is_valid}

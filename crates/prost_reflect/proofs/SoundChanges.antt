@@ -1,18 +1,17 @@
 -- What a change keeps of what a message's entries keep.
-use Rattle.std.proofs.Common.{◌≡◌, ◌≢◌, ◌++◌, ◌&&◌, ◌||◌, unwrap_or, Bool, true, false, cond, ℕ, nat_eq, List, [], ◌∷◌, Option, None, Some, ap, sym, ◌∙◌, subst, refl, true≢false}
-use Rattle.std.proofs.lemmas.Bool.{eq-eqb, ne_eqb, eqb-true, eqb-false}
+use Rattle.std.proofs.Common.{◌≡◌, ◌++◌, unwrap_or, Bool, true, false, cond, ℕ, nat_eq, List, [], ◌∷◌, Option, None, Some, ap, sym, ◌∙◌, subst, refl, true≢false}
+use Rattle.std.proofs.lemmas.Bool.{eq-eqb, eqb-true, eqb-false}
 use Rattle.std.specs.Option.{option_and_then, option_map, is_some}
 use Rattle.std.specs.List.{list_all}
 use Rattle.prost_reflect_wire.specs.Record.{Record}
-use Rattle.prost_reflect_wire.specs.Schema.{Field, field_of, numbers_differ}
+use Rattle.prost_reflect_wire.specs.Schema.{Field, numbers_differ}
 use Rattle.prost_reflect_wire.proofs.Deeper.{and_both, both_true, all_append}
 use Rattle.prost_reflect.specs.declared.fields.entry.Entry.{Entry}
-use Rattle.prost_reflect.specs.declared.fields.entry.Entry.TheVariants.{Value, Unknown, Both}
 use Rattle.prost_reflect.specs.Items.{IsAscending, item_at, with_item}
 use Rattle.prost_reflect.specs.Known.{is_known, are_siblings, keeps_unknown, are_records_of}
-use Rattle.prost_reflect.specs.Entries.{value_in, records_in, value_at, records_at, has_value, revalued, put_value, without_values, clear_value, with_value, SameStored, UnknownAdded}
+use Rattle.prost_reflect.specs.Entries.{value_in, records_in, value_at, records_at, has_value, revalued, put_value, without_values, with_value, SameStored, UnknownAdded}
 use Rattle.prost_reflect.specs.Sound.{Sound, unknown_kept, set_value_at, prepared}
-use Rattle.prost_reflect.proofs.ItemChanges.{Apart, by_number, at_each, apart_of, with_same, with_apart}
+use Rattle.prost_reflect.proofs.ItemChanges.{at_each, apart_of, with_same, with_apart}
 use Rattle.prost_reflect.proofs.EntryChanges.{value_without, records_without, ascending_put, value_put, value_put_apart, records_put, same_values, same_records, value_kept, records_kept, ascending_without_values, ascending_with_value, value_written, value_written_apart, records_written}
 use Rattle.prost_reflect.proofs.Siblings.{siblings_back, siblings_self}
 use Rattle.std.proofs.lemmas.Map.Steps.{set_value_same}

@@ -1,16 +1,16 @@
 -- The content of what is stored, and what each change makes of it.
-use Rattle.std.proofs.Common.{◌≡◌, ◌≢◌, ℕ, Bool, true, false, cond, ◌++◌, nat_eq, List, [], ◌∷◌, map, Option, Some, None, refl, ap, ap₂, sym, ◌∙◌, subst, unwrap_or, true≢false}
-use Rattle.std.proofs.lemmas.Bool.{eq-eqb, ne_eqb, eqb-true, eqb-false}
+use Rattle.std.proofs.Common.{◌≡◌, ℕ, Bool, true, false, cond, ◌++◌, nat_eq, List, [], ◌∷◌, Option, Some, None, refl, ap, sym, ◌∙◌, subst, unwrap_or}
+use Rattle.std.proofs.lemmas.Bool.{eqb-true, eqb-false}
 use Rattle.std.specs.Option.{option_map, option_and_then, is_some}
 use Rattle.std.specs.Ordering.{nat_cmp}
 use Rattle.std.specs.BTreeMap.{is_at}
 use Rattle.std.specs.List.Sorted.{IsStrictlySortedBy}
 use Rattle.std.specs.Map.{keys_of}
-use Rattle.prost_reflect_wire.specs.Record.{Record, Payload}
-use Rattle.prost_reflect_wire.specs.Schema.{Field, Schema, known, field_of, is_sibling, passes}
+use Rattle.prost_reflect_wire.specs.Record.{Record}
+use Rattle.prost_reflect_wire.specs.Schema.{Field, known, field_of, is_sibling, passes}
 use Rattle.prost_reflect_wire.specs.Content as contents
 use Rattle.prost_reflect_wire.specs.Content.{Content, ContentOf, Entries, Slot, slot_at, changed, entries_of}
-use Rattle.prost_reflect_wire.specs.Edit.{with_value, with_field_value, clear_field}
+use Rattle.prost_reflect_wire.specs.Edit.{with_value, with_field_value}
 use Rattle.prost_reflect_wire.proofs.Numbers.{empty_slot, slots_same, eqb-sym}
 use Rattle.prost_reflect_wire.proofs.Survivors.{field_number}
 use Rattle.prost_reflect.specs.declared.fields.entry.Entry.{Entry}
@@ -22,10 +22,10 @@ use Rattle.prost_reflect.specs.declared.value.Value.TheViews.{roll-DynamicMessag
 use Rattle.prost_reflect.specs.Descriptors.{schema_at, type_at}
 use Rattle.prost_reflect.specs.Items.{IsAscending, item_at}
 use Rattle.prost_reflect.specs.Known.{known_of, is_known, are_siblings}
-use Rattle.prost_reflect.specs.Entries.{value_in, records_in, value_at, records_at, put_value, clear_value, without_values, with_value as with_value_at, SameStored, UnknownAdded}
+use Rattle.prost_reflect.specs.Entries.{value_in, records_in, value_at, records_at, put_value, clear_value, with_value as with_value_at, SameStored, UnknownAdded}
 use Rattle.prost_reflect.specs.Sound.{Sound, set_value_at, prepared}
 use Rattle.prost_reflect.specs.View.{value_of, content_of, entries_from, payloads_of, written_at}
-use Rattle.prost_reflect.specs.Contents.{in_entries, value_set, value_cleared, with_unknown, unknown_added}
+use Rattle.prost_reflect.specs.Contents.{value_set, value_cleared, with_unknown, unknown_added}
 use Rattle.prost_reflect.proofs.EntryChanges.{value_without, records_without, ascending_without_values, ascending_put}
 use Rattle.prost_reflect.proofs.SoundChanges.{value_set_at, records_set_at, ascending_set_at, written_is_set, value_set as value_set_here}
 use Rattle.prost_reflect.proofs.Views.{shown, shown_entry, content_of_message, content_of_roll}

@@ -1,6 +1,5 @@
 -- The equations of the views, one for each variant.
-use Rattle.std.proofs.Common.{◌≡◌, ℕ, ℤ, Bool, List, [], ◌∷◌, map, Option, Some, None, refl, ap, sym, ◌∙◌, string_bytes, unwrap_or}
-use Rattle.std.specs.Option.{option_map}
+use Rattle.std.proofs.Common.{◌≡◌, ℕ, ℤ, Bool, List, [], ◌∷◌, map, refl, ap, ◌∙◌, string_bytes}
 use Rattle.std.specs.declared.alloc.Global.{Global}
 use Rattle.std.specs.Prelude.{Vec, String as Text}
 use Rattle.std.specs.BTreeMap.{BTreeMap}
@@ -16,12 +15,12 @@ use Rattle.prost_reflect.specs.declared.value.MapKey.{MapKey}
 use Rattle.prost_reflect.specs.declared.value.Value.{Value}
 use Rattle.prost_reflect.specs.declared.value.Value as values
 use Rattle.prost_reflect.specs.declared.value.Value.TheOpen.{Value-F, DynamicMessage-F}
-use Rattle.prost_reflect.specs.declared.value.Value.TheViews.{out-Value, roll-Value, roll-DynamicMessage, out-DynamicMessage}
-use Rattle.prost_reflect.specs.declared.value.Value.TheFolds.{fold-roll-Value, fold-roll-DynamicMessage, fold_out-Value, fold_out-DynamicMessage}
+use Rattle.prost_reflect.specs.declared.value.Value.TheViews.{roll-Value, roll-DynamicMessage}
+use Rattle.prost_reflect.specs.declared.value.Value.TheFolds.{fold-roll-Value, fold-roll-DynamicMessage, fold_out-DynamicMessage}
 use Rattle.prost_reflect.specs.declared.message.DynamicMessage.{DynamicMessage}
 use Rattle.prost_reflect.specs.formers.fields.slots.Slots.{entry_former}
 use Rattle.prost_reflect.specs.ContentLaws.{ValueViews}
-use Rattle.prost_reflect.specs.View.{value_step, message_step, value_of, content_of, entries_from, slot_of, pairs_from}
+use Rattle.prost_reflect.specs.View.{value_step, message_step, value_of, content_of, entries_from, pairs_from}
 
 -- A MESSAGE
 

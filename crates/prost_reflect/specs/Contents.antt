@@ -1,7 +1,6 @@
 -- What the operations of the field set make of a message's content.
-use Rattle.std.specs.Prelude.{ℕ, nat_eq, if◌then◌else◌, List, [], ◌∷◌, ◌++◌, Option, Some, None}
+use Rattle.std.specs.Prelude.{ℕ, nat_eq, if◌then◌else◌, [], ◌∷◌, ◌++◌, Some}
 use Rattle.prost_reflect_wire.specs.Record.{Payload, Record}
-use Rattle.prost_reflect_wire.specs.Schema.{Schema, Field}
 use Rattle.prost_reflect_wire.specs.Content.{Content, ContentOf, Entries, Value, Slot, changed}
 use Rattle.prost_reflect_wire.specs.Edit.{with_field_value, clear_field, in_field}
 

@@ -1,9 +1,9 @@
 -- What is stored at each number.
-use Rattle.std.specs.Prelude.{◌≡◌, ◌≢◌, ℕ, Bool, List, [], ◌∷◌, ◌++◌, Option, None, Some, option_and_then, option_map, unwrap_or, is_some, nat_eq, if◌then◌else◌, cond}
+use Rattle.std.specs.Prelude.{◌≡◌, ◌≢◌, ℕ, Bool, List, [], ◌∷◌, ◌++◌, Option, None, Some, option_and_then, option_map, unwrap_or, is_some, nat_eq, if◌then◌else◌}
 use Rattle.prost_reflect_wire.specs.Record.{Record}
 use Rattle.prost_reflect_wire.specs.Unknown.{records_of}
 use Rattle.prost_reflect_wire.specs.declared.unknown.UnknownFieldSet.{UnknownFieldSet}
-use Rattle.prost_reflect.specs.Items.{IsAscending, item_at, with_item, put_item, without_item}
+use Rattle.prost_reflect.specs.Items.{IsAscending, item_at, with_item, put_item}
 use Rattle.prost_reflect.specs.declared.fields.entry.Entry.{Entry}
 use Rattle.prost_reflect.specs.declared.fields.entry.Entry.TheVariants.{Value, Unknown, Both}
 

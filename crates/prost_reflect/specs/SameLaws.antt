@@ -1,15 +1,14 @@
 -- The laws of what is the same.
-use Rattle.std.specs.Prelude.{◌≡◌, ℕ, Bool, true, false, ◌&&◌, List}
+use Rattle.std.specs.Prelude.{◌≡◌, Bool, true, ◌&&◌}
 use Rattle.std.specs.Cmp.{IsPartialEquivalence, and_per, on_per, partial_equiv_from_equiv, nat_eq_equiv}
 use Rattle.std.specs.Cmp.Lexicographic.{lists_per}
 use mathlib.Core.Path.{refl}
-use Rattle.prost_reflect.specs.declared.descriptor.message.MessageDescriptor.{MessageDescriptor}
 use Rattle.prost_reflect.specs.contracts.descriptor.message.MessageDescriptorPartialEq.TheImpl.Laws as descriptor_laws
 use Rattle.prost_reflect_wire.specs.declared.unknown.UnknownFieldSet.{UnknownFieldSet}
 use Rattle.prost_reflect_wire.specs.Equality.{set_eq, set_eq_laws}
 use Rattle.prost_reflect.specs.declared.fields.entry.Entry.{Entry}
 use Rattle.prost_reflect.specs.declared.fields.entry.Entry.TheVariants.{Value, Unknown, Both}
-use Rattle.prost_reflect.specs.Same.{same_descriptor, same_entry, same_item, same_slots}
+use Rattle.prost_reflect.specs.Same.{same_descriptor, same_entry, same_slots}
 
 pub descriptor_per : IsPartialEquivalence same_descriptor
 descriptor_per = descriptor_laws.laws-law

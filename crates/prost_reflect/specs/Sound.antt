@@ -1,5 +1,5 @@
 -- What a message's entries keep at their own level.
-use Rattle.std.specs.Prelude.{◌≡◌, ℕ, Bool, true, false, ◌&&◌, List, [], ◌∷◌, Option, None, Some, if◌then◌else◌}
+use Rattle.std.specs.Prelude.{◌≡◌, ℕ, Bool, true, false, ◌&&◌, List, Option, None, Some, if◌then◌else◌}
 use Rattle.prost_reflect_wire.specs.Record.{Record}
 use Rattle.prost_reflect_wire.specs.Schema.{Field}
 use Rattle.prost_reflect.specs.Known.{known_of, is_known, are_siblings, keeps_unknown, are_records_of}

@@ -5,6 +5,5 @@ pub mod number_map;
 pub mod slots;
 pub mod sorted;
 pub mod stored;
-
 #[cfg(test)]
 mod tests;

@@ -103,11 +103,7 @@ impl DynamicMessage {
 
     /// Adds an unknown field behind those of its number, which is that of no field, or of one whose values are numbers of a closed enum.
     /// A refused growth changes no value and no unknown field.
-    pub(crate) fn add_unknown(
-        &mut self,
-        number: u32,
-        field: UnknownField,
-    ) -> Result<(), AllocError>
+    pub(crate) fn add_unknown(&mut self, number: u32, field: UnknownField) -> Result<(), AllocError>
         requires own { (record_of field).number ≡ number }
         requires kept { keeps_unknown (known_of (descriptor_of self.old)) number ≡ true }
         ensures descriptor { descriptor_of self.new ≡ descriptor_of self.old }

@@ -20,7 +20,9 @@ fn calls(alloc: Global) -> Result<Vec<Call>, AllocError> {
     let mut calls = Vec::new(alloc);
     let mut state: u64 = 20_251_122;
     for step in 0..500_u32 {
-        state = state.wrapping_mul(6_364_136_223_846_793_005).wrapping_add(1_442_695_040_888_963_407);
+        state = state
+            .wrapping_mul(6_364_136_223_846_793_005)
+            .wrapping_add(1_442_695_040_888_963_407);
         let number = ((state >> 33) % 16) as u32 + 1;
         let call = match (state >> 40) % 4 {
             0 => Call::Take(number),
@@ -83,7 +85,10 @@ fn walk_back<S: NumberMap<Entry<u32>>>(
 }
 
 /// What a table of values by number has, from the lowest number up.
-fn listed(values: &[Option<u32>; 17], alloc: Global) -> Result<Vec<(u32, Option<u32>)>, AllocError> {
+fn listed(
+    values: &[Option<u32>; 17],
+    alloc: Global,
+) -> Result<Vec<(u32, Option<u32>)>, AllocError> {
     let mut seen = Vec::new(alloc);
     for number in 0..17_u32 {
         let value = values[number as usize];

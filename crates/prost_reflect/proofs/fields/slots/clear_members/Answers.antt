@@ -1,4 +1,4 @@
-use Rattle.std.proofs.Common.{◌≡◌, ◌+◌, sym, ◌∙◌, ap, drop, drop_of_length-le}
+use Rattle.std.proofs.Common.{◌+◌, sym, ◌∙◌, ap, drop, drop_of_length-le}
 use Rattle.std.proofs.lemmas.Bool.{eq-eqb, ne_eqb}
 use Rattle.prost_reflect.specs.Entries.{without_values}
 use Rattle.prost_reflect.specs.Members.{is_member}
@@ -18,13 +18,13 @@ loop-field-preserved g c =
     let whole = ap (λ fs. without_values (is_member fs oneof number) before) (sym rows) ∙ c.loop-field.invariant in
     elim c.if-field-number.branch [
       | then-field-number+then-is_same_oneof w ↦
-        ap (without_values (is_member rest oneof number)) (w.fields-is ∙ w.take_value.ensures.entries)
-        ∙ first_cleared field rest oneof number before w.take_value.ensures.ascending (ne_eqb field.number number w.if-field-number.true) (sym w.is_same_oneof.ensures ∙ w.if-is_same_oneof.true) ∙ whole
+          ap (without_values (is_member rest oneof number)) (w.fields-is ∙ w.take_value.ensures.entries)
+          ∙ first_cleared field rest oneof number before w.take_value.ensures.ascending (ne_eqb field.number number w.if-field-number.true) (sym w.is_same_oneof.ensures ∙ w.if-is_same_oneof.true) ∙ whole
       | else-field-number w ↦
-        ap (without_values (is_member rest oneof number)) w.fields-is ∙ elim w.else-field-number.branch [
-          | else-field-number-via-then-field-number+else-is_same_oneof u ↦ first_apart field rest oneof number before (sym u.is_same_oneof.ensures ∙ u.if-is_same_oneof.false) ∙ whole
-          | else-field-number-via-else-field-number u ↦ first_own field rest oneof number before (eq-eqb field.number number u.if-field-number.false) ∙ whole
-        ]
+          ap (without_values (is_member rest oneof number)) w.fields-is ∙ elim w.else-field-number.branch [
+            | else-field-number-via-then-field-number+else-is_same_oneof u ↦ first_apart field rest oneof number before (sym u.is_same_oneof.ensures ∙ u.if-is_same_oneof.false) ∙ whole
+            | else-field-number-via-else-field-number u ↦ first_own field rest oneof number before (eq-eqb field.number number u.if-field-number.false) ∙ whole
+          ]
     ]
 
 pub returns-clause-cleared : goal.returns-clause-cleared

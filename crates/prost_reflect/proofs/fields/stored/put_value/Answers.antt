@@ -1,4 +1,4 @@
-use Rattle.std.proofs.Common.{◌≡◌, ap, sym, ◌∙◌}
+use Rattle.std.proofs.Common.{ap, ◌∙◌}
 use Rattle.prost_reflect.specs.Entries.{put_entry}
 use Rattle.prost_reflect.specs.Items.{with_item}
 use Rattle.prost_reflect.proofs.fields.stored.put_value.Goals as goal

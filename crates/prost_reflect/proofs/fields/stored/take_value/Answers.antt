@@ -1,4 +1,4 @@
-use Rattle.std.proofs.Common.{rules, ◌≡◌, Some, None, ap, sym, ◌∙◌}
+use Rattle.std.proofs.Common.{rules, Some, ap, sym, ◌∙◌}
 use Rattle.std.specs.Option.{option_and_then}
 use Rattle.prost_reflect.specs.Entries.{value_in}
 use Rattle.prost_reflect.specs.Items.{with_item}

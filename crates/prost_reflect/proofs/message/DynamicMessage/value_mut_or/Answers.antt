@@ -1,4 +1,4 @@
-use Rattle.std.proofs.Common.{◌≡◌, refl}
+use Rattle.std.proofs.Common.{refl}
 use Rattle.std.proofs.lemmas.Result.{IfOk-weaker}
 use Rattle.prost_reflect.proofs.Stored.{value_lent, content_written}
 use Rattle.prost_reflect.proofs.message.DynamicMessage.value_mut_or.Goals as goal

@@ -1,6 +1,5 @@
-use Rattle.std.proofs.Common.{rules, ◌≡◌, ℕ, List, [], ◌∷◌, ◌++◌, take, Some, sym, ap, ap₂, ◌∙◌, subst, append_assoc}
+use Rattle.std.proofs.Common.{rules, ◌≡◌, ℕ, List, [], ◌∷◌, ◌++◌, sym, ap, ap₂, ◌∙◌, subst, append_assoc}
 use Rattle.std.proofs.lemmas.List.Elements.{same_from_all_zip}
-use Rattle.std.specs.Option.{option_map}
 use Rattle.std.specs.List.Sorted.{IsStrictlySortedBy}
 use Rattle.std.specs.Map.{keys_of}
 use Rattle.prost_reflect_wire.specs.Scalar.{Bytes}
@@ -8,7 +7,6 @@ use Rattle.prost_reflect_wire.specs.Content.{ScalarValue}
 use Rattle.prost_reflect_wire.specs.Meaning.{put}
 use Rattle.prost_reflect.specs.Descriptors.{SameMessage}
 use Rattle.prost_reflect.specs.Items.{IsAscending}
-use Rattle.prost_reflect.specs.Pools.{pool_rows}
 use Rattle.prost_reflect.specs.declared.descriptor.message.MessageDescriptor.{MessageDescriptor}
 use Rattle.prost_reflect.specs.declared.fields.entry.Entry.{Entry}
 use Rattle.prost_reflect.specs.declared.value.MapKey.{MapKey}
@@ -30,9 +28,9 @@ copy_message-from_entries-requires t c =
     let entries = c.entries-number-items in
     let copied = c.in_ok-descriptor.descriptor in
     sound_copied message.slots.0 copied message.slots.1 c.loop-number.fields
-        (of_same message.slots.0 c.descriptor.result.now copied c.descriptor.ensures c.in_ok-descriptor.ensures.cases)
-        (all_copied c.loop-number.fields entries.result.now message.slots.1 c.loop-number.number-index entries.ensures.entries c.loop-number-test.false c.loop-number.invariant)
-        entries.ensures.sound
+    (of_same message.slots.0 c.descriptor.result.now copied c.descriptor.ensures c.in_ok-descriptor.ensures.cases)
+    (all_copied c.loop-number.fields entries.result.now message.slots.1 c.loop-number.number-index entries.ensures.entries c.loop-number-test.false c.loop-number.invariant)
+    entries.ensures.sound
 
 pub copy_message-returns : goal.copy_message-returns
 copy_message-returns t c =
@@ -52,13 +50,13 @@ copy_message-loop-number-preserved t c =
     let ascending = subst IsAscending (sym entries.ensures.entries) entries.ensures.ascending in
     let parts : entry_parts c.match-entry.copied ≡ entry_parts item.1 = elim c.match-entry.branch [
       | copy_message-in-Value+in_ok-copy_value-in-Value w ↦
-        ap entry_parts w.copied-is ∙ value_copied w.in_ok-copy_value-in-Value.field-0 w.in-Value.value w.in_ok-copy_value-in-Value.ensures ∙ ap entry_parts (sym w.in-Value.is)
+          ap entry_parts w.copied-is ∙ value_copied w.in_ok-copy_value-in-Value.field-0 w.in-Value.value w.in_ok-copy_value-in-Value.ensures ∙ ap entry_parts (sym w.in-Value.is)
       | copy_message-in-Unknown+in_ok-clone-in-Unknown w ↦
-        ap entry_parts w.copied-is ∙ unknown_copied w.in_ok-clone-in-Unknown.field-0 w.in-Unknown.unknown w.in_ok-clone-in-Unknown.ensures.cases ∙ ap entry_parts (sym w.in-Unknown.is)
+          ap entry_parts w.copied-is ∙ unknown_copied w.in_ok-clone-in-Unknown.field-0 w.in-Unknown.unknown w.in_ok-clone-in-Unknown.ensures.cases ∙ ap entry_parts (sym w.in-Unknown.is)
       | copy_message-in-Both+in_ok-value-in-Both+in_ok-clone-in-Both w ↦
-        ap entry_parts w.copied-is
-        ∙ both_copied w.in_ok-value-in-Both.value w.in-Both.value w.in_ok-clone-in-Both.field-0 w.in-Both.unknown w.in_ok-value-in-Both.ensures w.in_ok-clone-in-Both.ensures.cases
-        ∙ ap entry_parts (sym w.in-Both.is)
+          ap entry_parts w.copied-is
+          ∙ both_copied w.in_ok-value-in-Both.value w.in-Both.value w.in_ok-clone-in-Both.field-0 w.in-Both.unknown w.in_ok-value-in-Both.ensures w.in_ok-clone-in-Both.ensures.cases
+          ∙ ap entry_parts (sym w.in-Both.is)
     ] in
     ap parts_of c.in_ok-insert.ensures.ok ∙ copied_next c.loop-number.fields entries.result.now c.loop-number.number-index item.0 item.1 c.match-entry.copied ascending c.loop-number-test.true c.loop-number-item.is c.loop-number.invariant parts
 
@@ -74,8 +72,8 @@ copy_pairs-loop-key-preserved t c =
       done ++ e ∷ [],
       all ∙ sym (append_assoc done (e ∷ []) left),
       ap pairs_shown c.in_ok-insert.ensures.entries ∙ map_insert l.copied.entries c.in_ok-clone.field-0 c.in_ok-value.value
-        ∙ ap₂ (λ k v. put k v (pairs_shown l.copied.entries)) c.in_ok-clone.ensures.cases c.in_ok-value.ensures
-        ∙ ap (put (key_of e.0) (value_of e.1)) l.invariant.2 ∙ pairs_last done e.0 e.1 (keys_of left) sorted,
+          ∙ ap₂ (λ k v. put k v (pairs_shown l.copied.entries)) c.in_ok-clone.ensures.cases c.in_ok-value.ensures
+          ∙ ap (put (key_of e.0) (value_of e.1)) l.invariant.2 ∙ pairs_last done e.0 e.1 (keys_of left) sorted,
     )
 
 pub copy_value-returns-in_ok-clone-in-Bytes : goal.copy_value-returns-in_ok-clone-in-Bytes

@@ -1,25 +1,22 @@
 -- `Slots` as a type that may hold the type that holds it.
 use Rattle.std.specs.Prelude.{◌≡◌, ℕ, Bool, true, false, ◌&&◌, ◌==◌, List, [], ◌∷◌, map, cond, is_some, Option, None, Some, option_map, option_and_then}
-use mathlib.Core.Path.{refl, sym, ap, subst, ◌∙◌}
-use mathlib.Core.HLevel.{×_prop}
+use mathlib.Core.Path.{refl, sym, ap, ◌∙◌}
 use mathlib.Core.Bool.{Bool-set}
-use mathlib.Core.Logic.{◌⊎◌, inl, inr}
-use mathlib.Core.Former.{Former, this, const, pair, or, list, via}
+use mathlib.Core.Former.{Former, this, const, pair, or, via}
 use base.Stored.{gcons, gnum, code_map, Gv}
 use denote.RattleType.{RattleType}
 use denote.HoleLaws.{Alike}
-use denote.HolePlaces.{Recodes, struct_places, enum_places, eachs, laid, stays}
+use denote.HolePlaces.{Recodes, struct_places, enum_places, eachs, laid}
 use denote.Hole.Fix.{over}
-use denote.Param.Weighed.{Weighed, w_const, w_pair, w_or, w_via, w_list}
+use denote.Param.Weighed.{Weighed, w_const, w_pair, w_or, w_via}
 use denote.Model.Placed.{view_places}
-use Rattle.std.specs.Map.{lookup}
 use Rattle.std.specs.Ordering.{nat_cmp}
 use Rattle.std.specs.BTreeMap.{is_at}
 use Rattle.prost_reflect_wire.specs.Schema.{Field}
 use Rattle.prost_reflect.specs.declared.descriptor.message.MessageDescriptor.{MessageDescriptor}
 use Rattle.prost_reflect.specs.Items.{item_at}
 use Rattle.prost_reflect.specs.Entries.{value_in, records_in, records_at, has_value}
-use Rattle.prost_reflect.specs.Sound.{Sound, IsSound, unknown_kept}
+use Rattle.prost_reflect.specs.Sound.{Sound, unknown_kept}
 use Rattle.prost_reflect_wire.specs.declared.unknown.UnknownFieldSet.{UnknownFieldSet}
 use Rattle.prost_reflect.specs.declared.fields.entry.Entry.{Entry}
 use Rattle.prost_reflect.specs.declared.fields.entry.Entry.TheVariants.{Value, Unknown, Both}

@@ -1,6 +1,6 @@
 -- `Sorted` as a type that may hold the type that holds it.
-use Rattle.std.specs.Prelude.{◌≡◌, ℕ, List, [], ◌∷◌, map, Bool, ◌&&◌, ◌==◌}
-use mathlib.Core.Path.{refl, sym, ap, subst, ◌∙◌}
+use Rattle.std.specs.Prelude.{◌≡◌, ℕ, List, [], ◌∷◌, map, ◌&&◌, ◌==◌}
+use mathlib.Core.Path.{refl, sym, ap, subst}
 use mathlib.Core.Former.{Former, this, const, pair, list, via}
 use base.Stored.{gcons, gnum, code_map, Gv}
 use denote.RattleType.{RattleType}

@@ -14,7 +14,7 @@ pub stored_mut-requires : goal.stored_mut-requires
 stored_mut-requires g c =
     elim c.if-is_none.branch [
       | then-is_none+in_ok-set w ↦
-        ap (λ m. is_some (value_at m.1 c.args.number)) (w.self-is ∙ w.in_ok-set.ensures.ok)
-        ∙ ap is_some (value_set (known_of c.args.self.now.0) c.args.self.now.1 c.args.number c.args.default c.get.ensures.ascending)
+          ap (λ m. is_some (value_at m.1 c.args.number)) (w.self-is ∙ w.in_ok-set.ensures.ok)
+          ∙ ap is_some (value_set (known_of c.args.self.now.0) c.args.self.now.1 c.args.number c.args.default c.get.ensures.ascending)
       | else-is_none w ↦ rw w.self-is (found c.get.result _ c.get.ensures.value w.if-is_none.ensures)
     ]

@@ -1,4 +1,4 @@
-use Rattle.std.proofs.Common.{◌≡◌, nat_eq, sym, subst}
+use Rattle.std.proofs.Common.{nat_eq, sym, subst}
 use Rattle.prost_reflect.specs.Known.{known_of}
 use Rattle.prost_reflect.specs.Sound.{Sound}
 use Rattle.prost_reflect.proofs.SoundChanges.{sound_without}

@@ -1,6 +1,5 @@
-use Rattle.std.proofs.Common.{◌≡◌, ap, sym, ◌∙◌, slice_get, ℕ, List}
+use Rattle.std.proofs.Common.{sym, ◌∙◌, slice_get}
 use Rattle.prost_reflect.proofs.Places.{first_is, slice_got, slice_past}
-use Rattle.prost_reflect.specs.Items.{first_from}
 use Rattle.prost_reflect.proofs.fields.sorted.Sorted.first_from.Goals as goal
 
 pub returns-in-Some : goal.returns-in-Some

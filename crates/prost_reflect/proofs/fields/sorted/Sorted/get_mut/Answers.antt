@@ -1,5 +1,5 @@
-use Rattle.std.proofs.Common.{◌≡◌, ap, sym, ◌∙◌, refl}
-use mathlib.Core.Logic.{inl, inr}
+use Rattle.std.proofs.Common.{sym, ◌∙◌, refl}
+use mathlib.Core.Logic.{inl}
 use Rattle.prost_reflect.proofs.Places.{seek_within, item_found, item_absent, with_found}
 use Rattle.prost_reflect.proofs.fields.sorted.Sorted.get_mut.Goals as goal
 

@@ -1,4 +1,4 @@
-use Rattle.std.proofs.Common.{arith, length, ◌≡◌, ap, sym, ◌∙◌}
+use Rattle.std.proofs.Common.{arith, length, ap, ◌∙◌}
 use Rattle.prost_reflect.proofs.Places.{seek_within, gap_within, set_same, ascending_set_same, ascending_inserted, put_absent}
 use Rattle.prost_reflect.proofs.fields.sorted.Sorted.insert.Goals as goal
 

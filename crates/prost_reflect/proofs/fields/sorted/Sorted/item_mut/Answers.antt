@@ -1,4 +1,4 @@
-use Rattle.std.proofs.Common.{◌≡◌, ap, sym, ◌∙◌, refl, ℕ, List, Some, slice_get, slice_index_or, subst}
+use Rattle.std.proofs.Common.{ap, sym, ◌∙◌, refl, slice_get}
 use Rattle.std.specs.Map.{values_of}
 use Rattle.std_collections.specs.Layout.Columns.{set_value_at}
 use Rattle.prost_reflect.proofs.Places.{ascending_set, set_is, value_got, number_kept}

@@ -1,4 +1,4 @@
-use Rattle.std.proofs.Common.{◌≡◌, sym, ◌∙◌, ap, slice_get, ◌-◌}
+use Rattle.std.proofs.Common.{sym, ◌∙◌, ap, slice_get, ◌-◌}
 use Rattle.prost_reflect.proofs.Places.{slice_got, slice_past}
 use Rattle.prost_reflect.proofs.Walks.{last_at, before_place, before_some}
 use Rattle.prost_reflect.proofs.fields.sorted.Sorted.last_below.Goals as goal

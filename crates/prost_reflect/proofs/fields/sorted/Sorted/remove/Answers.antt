@@ -1,4 +1,4 @@
-use Rattle.std.proofs.Common.{arith, length, ◌≡◌, ap, sym, ◌∙◌}
+use Rattle.std.proofs.Common.{arith, length, ap, sym, ◌∙◌}
 use Rattle.prost_reflect.proofs.Places.{seek_within, item_found, item_absent, without_absent, without_found, ascending_removed, value_got}
 use Rattle.prost_reflect.proofs.fields.sorted.Sorted.remove.Goals as goal
 
