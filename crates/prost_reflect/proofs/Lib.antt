@@ -19,3 +19,4 @@ pub mod Zeros
 pub mod WrittenValues
 pub mod Encodings
 pub mod Keys
+pub mod Copied

@@ -12,6 +12,7 @@ pub mod Codes
 pub mod View
 pub mod Contents
 pub mod ContentLaws
+pub mod Copies
 pub mod Same
 pub mod SameLaws
 pub mod formers

@@ -1,6 +1,7 @@
 //! Values of fields, and keys of maps.
 
 use crate::message::DynamicMessage;
+use std::alloc::AllocError;
 use std::collections::BTreeMap;
 
 /// The key of a map's entry (the language guide, "Maps"). Keys are ordered by their variants, and then by their values; texts by their bytes.
@@ -18,6 +19,24 @@ pub enum MapKey {
     U64(u64),
     /// Of a string field.
     String(String),
+}
+
+impl Clone for MapKey {
+    ghost use Rattle.std.specs.Prelude.{◌≡◌};
+    ghost use Rattle.prost_reflect.specs.View.{key_of};
+
+    ghost is_clone = { λ key copied. key_of copied ≡ key_of key };
+
+    fn clone(&self) -> Result<MapKey, AllocError> {
+        match self {
+            MapKey::Bool(value) => Ok(MapKey::Bool(*value)),
+            MapKey::I32(value) => Ok(MapKey::I32(*value)),
+            MapKey::I64(value) => Ok(MapKey::I64(*value)),
+            MapKey::U32(value) => Ok(MapKey::U32(*value)),
+            MapKey::U64(value) => Ok(MapKey::U64(*value)),
+            MapKey::String(value) => Ok(MapKey::String(value.clone()?)),
+        }
+    }
 }
 
 /// The value of a field or an extension, or of an element of one (the language guide, "Scalar Value Types").

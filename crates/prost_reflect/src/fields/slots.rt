@@ -60,6 +60,19 @@ impl<V> Slots<V> {
         }
     }
 
+    /// These values and unknown fields under a descriptor.
+    pub fn from_entries(descriptor: MessageDescriptor, fields: Sorted<Entry<V>>) -> Slots<V>
+        requires { IsSound descriptor fields }
+        ensures { result ≡ (descriptor, fields) }
+    {
+        Slots { descriptor, fields }
+    }
+
+    /// What the values and unknown fields are stored with.
+    pub fn allocator(&self) -> Global {
+        self.fields.allocator()
+    }
+
     /// The message type.
     pub fn descriptor(&self) -> &MessageDescriptor
         ensures { result.now ≡ self.now.0 }

@@ -1,0 +1,183 @@
+-- What copies store.
+use Rattle.std.proofs.Common.{◌≡◌, ℕ, zero, suc, ◌+◌, ◌<◌, ◌≤◌, Bool, true, false, cond, List, [], ◌∷◌, ◌++◌, map, length, take, drop, get_or, Option, None, Some, refl, ap, ap₂, sym, ◌∙◌, subst, arith, unwrap_or}
+use Rattle.std.specs.Option.{option_map, option_and_then, is_some}
+use Rattle.std.specs.Ordering.{nat_cmp, ordering_reverse, match_ordering}
+use Rattle.std.specs.declared.cmp.Ordering.{Ordering}
+use Rattle.std.specs.declared.cmp.Ordering.TheVariants.{Less, Greater}
+use Rattle.std.specs.Cmp.{IsTotalOrder, nat_cmp_total}
+use Rattle.std.specs.BTreeMap.{is_at, insert_entry}
+use Rattle.std.specs.List.{AllByRecursion}
+use Rattle.std.specs.List.Sorted.{IsStrictlySortedBy}
+use Rattle.std.specs.Map.{keys_of}
+use Rattle.prost_reflect_wire.specs.Record.{Record}
+use Rattle.prost_reflect_wire.specs.Unknown.{records_of}
+use Rattle.prost_reflect_wire.specs.declared.unknown.UnknownFieldSet.{UnknownFieldSet}
+use Rattle.prost_reflect_wire.specs.Schema.{Field, known}
+use Rattle.prost_reflect_wire.specs.Content as contents
+use Rattle.prost_reflect_wire.specs.Content.{Content, ContentOf, Entries, NoEntries, Slot, store}
+use Rattle.prost_reflect.specs.declared.fields.entry.Entry.{Entry}
+use Rattle.prost_reflect.specs.declared.fields.entry.Entry.TheVariants as entries
+use Rattle.prost_reflect.specs.declared.descriptor.message.MessageDescriptor.{MessageDescriptor}
+use Rattle.prost_reflect.specs.declared.message.DynamicMessage.{DynamicMessage}
+use Rattle.prost_reflect.specs.declared.value.Value.{Value}
+use Rattle.prost_reflect.specs.declared.value.Value.TheViews.{roll-DynamicMessage}
+use Rattle.prost_reflect.specs.Descriptors.{SameMessage}
+use Rattle.prost_reflect_tables.specs.Shown.{schema_from}
+use Rattle.prost_reflect.specs.Items.{IsAscending, item_at, put_item}
+use Rattle.prost_reflect.specs.Known.{known_of}
+use Rattle.prost_reflect.specs.Entries.{value_in, records_in, records_at, has_value}
+use Rattle.prost_reflect.specs.Sound.{Sound, unknown_kept}
+use Rattle.prost_reflect.specs.View.{value_of, content_of, entries_from, payloads_of, entry_parts}
+use Rattle.prost_reflect.proofs.Views.{shown, shown_entry, content_of_message, content_of_roll}
+use Rattle.prost_reflect.proofs.Stored.{content_from}
+
+abbrev Parts : Type 0
+Parts = Option contents.Value × Option (List Record)
+
+-- what is stored at each number
+abbrev pub parts_of : List (ℕ × Entry Value) → List (ℕ × Parts)
+parts_of es = map (λ e. (e.0, entry_parts e.1)) es
+
+-- LISTS
+
+pub take_next : {A : Type 0} (xs : List A) (i : ℕ) (x : A) → i < length xs → x ≡ get_or xs i x → take (i + 1) xs ≡ take i xs ++ x ∷ []
+take_next [] i x l h = absurd (omega arith)
+take_next (y ∷ ys) zero x l h = ap (λ z. z ∷ []) (sym h)
+take_next (y ∷ ys) (suc i) x l h = ap (λ j. take j (y ∷ ys)) (plus i) ∙ ap (λ zs. y ∷ zs) (take_next ys i x (omega arith) h)
+  where
+    plus : (i : ℕ) → suc i + 1 ≡ suc (i + 1)
+    plus i = omega arith
+
+pub taken_and_rest : {A : Type 0} (xs : List A) (i : ℕ) (x : A) → i < length xs → x ≡ get_or xs i x → xs ≡ take i xs ++ x ∷ drop (i + 1) xs
+taken_and_rest [] i x l h = absurd (omega arith)
+taken_and_rest (y ∷ ys) zero x l h = ap (λ z. z ∷ ys) (sym h)
+taken_and_rest (y ∷ ys) (suc i) x l h = ap (λ zs. y ∷ zs) (taken_and_rest ys i x (omega arith) h) ∙ ap (λ j. y ∷ (take i ys ++ x ∷ drop j (y ∷ ys))) (plus i)
+  where
+    plus : (i : ℕ) → suc (i + 1) ≡ suc i + 1
+    plus i = omega arith
+
+parts_appended : (es ds : List (ℕ × Entry Value)) → parts_of (es ++ ds) ≡ parts_of es ++ parts_of ds
+parts_appended [] ds = refl
+parts_appended (e ∷ es) ds = ap (λ ps. (e.0, entry_parts e.1) ∷ ps) (parts_appended es ds)
+
+pub keys_appended : {K T : Type 0} (es ds : List (K × T)) → keys_of (es ++ ds) ≡ keys_of es ++ keys_of ds
+keys_appended [] ds = refl
+keys_appended (e ∷ es) ds = ap (λ ks. e.0 ∷ ks) (keys_appended es ds)
+
+keys_of_parts : (es : List (ℕ × Entry Value)) → keys_of (parts_of es) ≡ keys_of es
+keys_of_parts [] = refl
+keys_of_parts (e ∷ es) = ap (λ ks. e.0 ∷ ks) (keys_of_parts es)
+
+-- AT THE END
+
+-- the number behind all of these
+among : {K : Type 0} (P : K → Type 0) (ks : List K) (k : K) (rest : List K) → AllByRecursion P (ks ++ k ∷ rest) → P k
+among P [] k rest a = a.0
+among P (j ∷ ks) k rest a = among P ks k rest a.1
+
+-- an entry whose key is behind all others is put last
+pub insert_last : {K T : Type 0} (R : K → K → Ordering) → IsTotalOrder R → (es : List (K × T)) (k : K) (t : T) (rest : List K) → IsStrictlySortedBy R (keys_of es ++ k ∷ rest) → insert_entry R es k t ≡ es ++ (k, t) ∷ []
+unfolding IsStrictlySortedBy
+insert_last R total [] k t rest s = refl
+insert_last R total (e ∷ es) k t rest s =
+    let below : R e.0 k ≡ Less = among (λ y. R e.0 y ≡ Less) (keys_of es) k rest s.0 in
+    let above : R k e.0 ≡ Greater = total.antisymm k e.0 ∙ ap ordering_reverse below in
+    ap (λ o. match_ordering o ((k, t) ∷ e ∷ es) ((e.0, t) ∷ es) (e ∷ insert_entry R es k t)) above ∙ ap (λ ds. e ∷ ds) (insert_last R total es k t rest s.1)
+
+-- one more entry copied
+pub copied_next : (fields items : List (ℕ × Entry Value)) (i n : ℕ) (e d : Entry Value) → IsAscending items → i < length items → (n, e) ≡ get_or items i (n, e)
+    → parts_of fields ≡ parts_of (take i items) → entry_parts d ≡ entry_parts e → parts_of (put_item fields n d) ≡ parts_of (take (i + 1) items)
+copied_next fields items i n e d s l at done same =
+    let keys : keys_of fields ≡ keys_of (take i items) = sym (keys_of_parts fields) ∙ ap keys_of done ∙ keys_of_parts (take i items) in
+    let whole : keys_of items ≡ keys_of fields ++ n ∷ keys_of (drop (i + 1) items) =
+    ap keys_of (taken_and_rest items i (n, e) l at) ∙ keys_appended (take i items) ((n, e) ∷ drop (i + 1) items) ∙ ap (λ ks. ks ++ n ∷ keys_of (drop (i + 1) items)) (sym keys) in
+    ap parts_of (insert_last nat_cmp nat_cmp_total fields n d (keys_of (drop (i + 1) items)) (subst (IsStrictlySortedBy nat_cmp) whole s))
+    ∙ parts_appended fields ((n, d) ∷ []) ∙ ap₂ (λ ps (q : Parts). ps ++ (n, q) ∷ []) done same
+    ∙ sym (parts_appended (take i items) ((n, e) ∷ [])) ∙ ap parts_of (sym (take_next items i (n, e) l at))
+
+-- ENTRIES
+
+abbrev parts : Option contents.Value → Option (List Record) → Parts
+parts o rs = (o, rs)
+
+pub value_copied : (v w : Value) → value_of v ≡ value_of w → entry_parts (entries.Value v) ≡ entry_parts (entries.Value w)
+value_copied v w h = ap (λ x. parts (Some x) None) h
+
+pub unknown_copied : (u t : UnknownFieldSet) → records_of u ≡ records_of t → entry_parts (entries.Unknown u) ≡ entry_parts (entries.Unknown t)
+unknown_copied u t h = ap (λ rs. parts None (Some rs)) h
+
+pub both_copied : (v w : Value) (u t : UnknownFieldSet) → value_of v ≡ value_of w → records_of u ≡ records_of t → entry_parts (entries.Both v u) ≡ entry_parts (entries.Both w t)
+both_copied v w u t h k = ap₂ (λ x rs. parts (Some x) (Some rs)) h k
+
+-- THE SAME PARTS
+
+part_at : (es : List (ℕ × Entry Value)) (k : ℕ) → item_at (parts_of es) k ≡ option_map entry_parts (item_at es k)
+part_at [] k = refl
+part_at (e ∷ es) k = cases (is_at (nat_cmp k) e.0) (part_at es k)
+  where
+    cases : (b : Bool) → item_at (parts_of es) k ≡ option_map entry_parts (item_at es k) → cond b (Some (entry_parts e.1)) (item_at (parts_of es) k) ≡ option_map entry_parts (cond b (Some e.1) (item_at es k))
+    cases true rest = refl
+    cases false rest = rest
+
+has_from : (o : Option (Entry Value)) → is_some (option_and_then value_in o) ≡ is_some (option_and_then (λ (p : Parts). p.0) (option_map entry_parts o))
+has_from None = refl
+has_from (Some (entries.Value v)) = refl
+has_from (Some (entries.Unknown u)) = refl
+has_from (Some (entries.Both v u)) = refl
+
+records_from : (o : Option (Entry Value)) → option_and_then records_in o ≡ option_and_then (λ (p : Parts). p.1) (option_map entry_parts o)
+records_from None = refl
+records_from (Some e) = refl
+
+has_same : (es ds : List (ℕ × Entry Value)) (k : ℕ) → parts_of ds ≡ parts_of es → has_value ds k ≡ has_value es k
+has_same es ds k h = has_from (item_at ds k) ∙ ap (λ o. is_some (option_and_then (λ (p : Parts). p.0) o)) (sym (part_at ds k) ∙ ap (λ ps. item_at ps k) h ∙ part_at es k) ∙ sym (has_from (item_at es k))
+
+records_same : (es ds : List (ℕ × Entry Value)) (k : ℕ) → parts_of ds ≡ parts_of es → records_at ds k ≡ records_at es k
+records_same es ds k h = records_from (item_at ds k) ∙ ap (option_and_then (λ (p : Parts). p.1)) (sym (part_at ds k) ∙ ap (λ ps. item_at ps k) h ∙ part_at es k) ∙ sym (records_from (item_at es k))
+
+sound_same : (fields : List Field) (es ds : List (ℕ × Entry Value)) → parts_of ds ≡ parts_of es → Sound fields es → Sound fields ds
+sound_same fields es ds h s = (
+  λ n v. s.0 n (sym (has_same es ds n h) ∙ v),
+  λ n. ap (unknown_kept fields n) (records_same es ds n h) ∙ s.1 n,
+  λ m n v siblings. has_same es ds n h ∙ s.2 m n (sym (has_same es ds m h) ∙ v) siblings,
+)
+
+known_same : (a b : MessageDescriptor) → SameMessage a b → known_of b ≡ known_of a
+known_same a b h = λ i. known (schema_from (h.0 i)) (h.1 i)
+
+-- what a copied descriptor and the copied entries keep
+pub sound_copied : (a b : MessageDescriptor) (es ds : List (ℕ × Entry Value)) → SameMessage a b → parts_of ds ≡ parts_of es → Sound (known_of a) es → Sound (known_of b) ds
+sound_copied a b es ds d h s = subst (λ fields. Sound fields ds) (sym (known_same a b d)) (sound_same (known_of a) es ds h s)
+
+abbrev slot_of_parts : Parts → Slot
+slot_of_parts p = record { value = p.0; unknowns = payloads_of (unwrap_or p.1 []) }
+
+entries_of_parts : List (ℕ × Parts) → Entries
+entries_of_parts [] = NoEntries
+entries_of_parts (p ∷ ps) = store p.0 (slot_of_parts p.1) (entries_of_parts ps)
+
+from_parts : (es : List (ℕ × Entry Value)) → entries_from (shown es) ≡ entries_of_parts (parts_of es)
+unfolding entries_of_parts
+from_parts [] = refl
+from_parts (e ∷ es) = cases e.1 (from_parts es)
+  where
+    cases : (d : Entry Value) → entries_from (shown es) ≡ entries_of_parts (parts_of es) → entries_from ((e.0, shown_entry d) ∷ shown es) ≡ entries_of_parts ((e.0, entry_parts d) ∷ parts_of es)
+    cases (entries.Value v) rest = ap (store e.0 (slot_of_parts (entry_parts (entries.Value v)))) rest
+    cases (entries.Unknown u) rest = ap (store e.0 (slot_of_parts (entry_parts (entries.Unknown u)))) rest
+    cases (entries.Both v u) rest = ap (store e.0 (slot_of_parts (entry_parts (entries.Both v u)))) rest
+
+pub content_copied : (a b : MessageDescriptor) (es ds : List (ℕ × Entry Value)) → SameMessage a b → parts_of ds ≡ parts_of es → content_from b ds ≡ content_from a es
+content_copied a b es ds d h = λ i. ContentOf (schema_from (d.0 i)) (d.1 i) ((from_parts ds ∙ ap entries_of_parts h ∙ sym (from_parts es)) i)
+
+pub message_copied : (m : DynamicMessage) (p : MessageDescriptor × List (ℕ × Entry Value)) → SameMessage m.slots.0 p.0 → parts_of p.1 ≡ parts_of m.slots.1 → content_of (roll-DynamicMessage (record { slots = p })) ≡ content_of m
+message_copied m p d h = content_of_roll (record { slots = p }) ∙ content_copied m.slots.0 p.0 m.slots.1 p.1 d h ∙ sym (content_of_message m)
+
+-- all entries are copied
+pub all_copied : (fields items es : List (ℕ × Entry Value)) (i : ℕ) → items ≡ es → length items ≤ i → parts_of fields ≡ parts_of (take i items) → parts_of fields ≡ parts_of es
+all_copied fields items es i same past done = done ∙ ap parts_of (take_all items i past) ∙ ap parts_of same
+  where
+    take_all : {A : Type 0} (xs : List A) (i : ℕ) → length xs ≤ i → take i xs ≡ xs
+    take_all [] zero l = refl
+    take_all [] (suc i) l = refl
+    take_all (x ∷ xs) zero l = absurd (omega arith)
+    take_all (x ∷ xs) (suc i) l = ap (λ ys. x ∷ ys) (take_all xs i (omega arith))

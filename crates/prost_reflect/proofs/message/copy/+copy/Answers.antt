@@ -1,0 +1,82 @@
+use Rattle.std.proofs.Common.{rules, ◌≡◌, ℕ, List, [], ◌∷◌, ◌++◌, sym, ap, ap₂, ◌∙◌, subst, append_assoc}
+use Rattle.std.proofs.lemmas.List.Elements.{same_from_all_zip}
+use Rattle.std.specs.List.Sorted.{IsStrictlySortedBy}
+use Rattle.std.specs.Map.{keys_of}
+use Rattle.prost_reflect_wire.specs.Scalar.{Bytes}
+use Rattle.prost_reflect_wire.specs.Content.{ScalarValue}
+use Rattle.prost_reflect_wire.specs.Meaning.{put}
+use Rattle.prost_reflect.specs.Descriptors.{SameMessage}
+use Rattle.prost_reflect.specs.Items.{IsAscending}
+use Rattle.prost_reflect.specs.declared.descriptor.message.MessageDescriptor.{MessageDescriptor}
+use Rattle.prost_reflect.specs.declared.fields.entry.Entry.{Entry}
+use Rattle.prost_reflect.specs.declared.value.MapKey.{MapKey}
+use Rattle.prost_reflect.specs.declared.value.Value.{Value}
+use Rattle.prost_reflect.specs.ContentLaws.{pairs_shown, compare_keys}
+use Rattle.prost_reflect.specs.View.{value_of, key_of, entry_parts}
+use Rattle.prost_reflect.proofs.Views.{value_of_bytes}
+use Rattle.prost_reflect.proofs.Copied.{parts_of, copied_next, all_copied, sound_copied, message_copied, keys_appended, value_copied, unknown_copied, both_copied}
+use Rattle.prost_reflect.proofs.Keys.{map_insert, pairs_last}
+use Rattle.prost_reflect.proofs.message.copy.+copy.Goals as goal
+use Rattle.prost_reflect.proofs.message.copy.+copy.Goals.{copy_message-in-Value+in_ok-copy_value-in-Value, copy_message-in-Unknown+in_ok-clone-in-Unknown, copy_message-in-Both+in_ok-value-in-Both+in_ok-clone-in-Both}
+
+of_same : (a b c : MessageDescriptor) → b ≡ a → SameMessage b c → SameMessage a c
+of_same a b c e h = subst (λ d. SameMessage d c) e h
+
+pub copy_message-from_entries-requires : goal.copy_message-from_entries-requires
+copy_message-from_entries-requires t c =
+    let message = c.args.message.now in
+    let entries = c.entries-number-items in
+    let copied = c.in_ok-descriptor.descriptor in
+    sound_copied message.slots.0 copied message.slots.1 c.loop-number.fields
+    (of_same message.slots.0 c.descriptor.result.now copied c.descriptor.ensures c.in_ok-descriptor.ensures.cases)
+    (all_copied c.loop-number.fields entries.result.now message.slots.1 c.loop-number.number-index entries.ensures.entries c.loop-number-test.false c.loop-number.invariant)
+    entries.ensures.sound
+
+pub copy_message-returns : goal.copy_message-returns
+copy_message-returns t c =
+    let message = c.args.message.now in
+    let entries = c.entries-number-items in
+    let copied = c.in_ok-descriptor.descriptor in
+    let same = of_same message.slots.0 c.descriptor.result.now copied c.descriptor.ensures c.in_ok-descriptor.ensures.cases in
+    let all = all_copied c.loop-number.fields entries.result.now message.slots.1 c.loop-number.number-index entries.ensures.entries c.loop-number-test.false c.loop-number.invariant in
+    let is = c.from_entries.ensures in
+    let kept = subst (λ (p : MessageDescriptor × List (ℕ × Entry Value)). SameMessage message.slots.0 p.0) (sym is) same in
+    (kept, message_copied message c.from_entries.result kept (ap (λ (p : MessageDescriptor × List (ℕ × Entry Value)). parts_of p.1) is ∙ all))
+
+pub copy_message-loop-number-preserved : goal.copy_message-loop-number-preserved
+copy_message-loop-number-preserved t c =
+    let entries = c.entries-number-items in
+    let item = c.loop-number-item.result in
+    let ascending = subst IsAscending (sym entries.ensures.entries) entries.ensures.ascending in
+    let parts : entry_parts c.match-entry.copied ≡ entry_parts item.1 = elim c.match-entry.branch [
+      | copy_message-in-Value+in_ok-copy_value-in-Value w ↦
+          ap entry_parts w.copied-is ∙ value_copied w.in_ok-copy_value-in-Value.field-0 w.in-Value.value w.in_ok-copy_value-in-Value.ensures ∙ ap entry_parts (sym w.in-Value.is)
+      | copy_message-in-Unknown+in_ok-clone-in-Unknown w ↦
+          ap entry_parts w.copied-is ∙ unknown_copied w.in_ok-clone-in-Unknown.field-0 w.in-Unknown.unknown w.in_ok-clone-in-Unknown.ensures.cases ∙ ap entry_parts (sym w.in-Unknown.is)
+      | copy_message-in-Both+in_ok-value-in-Both+in_ok-clone-in-Both w ↦
+          ap entry_parts w.copied-is
+          ∙ both_copied w.in_ok-value-in-Both.value w.in-Both.value w.in_ok-clone-in-Both.field-0 w.in-Both.unknown w.in_ok-value-in-Both.ensures w.in_ok-clone-in-Both.ensures.cases
+          ∙ ap entry_parts (sym w.in-Both.is)
+    ] in
+    ap parts_of c.in_ok-insert.ensures.ok ∙ copied_next c.loop-number.fields entries.result.now c.loop-number.number-index item.0 item.1 c.match-entry.copied ascending c.loop-number-test.true c.loop-number-item.is c.loop-number.invariant parts
+
+pub copy_pairs-loop-key-preserved : goal.copy_pairs-loop-key-preserved
+copy_pairs-loop-key-preserved t c =
+    let l = c.loop-key in
+    let done = l.invariant.0 in
+    let e : MapKey × Value = (c.in-Some.key.now, c.in-Some.value.now) in
+    let left = c.next.new.self in
+    let all : c.args.pairs.now.entries ≡ done ++ e ∷ left = l.invariant.1 ∙ ap (λ es. done ++ es) c.in-Some.ensures.steps in
+    let keys = ap keys_of all ∙ keys_appended done (e ∷ left) in
+    let sorted = subst (IsStrictlySortedBy compare_keys) keys c.iter-key-items.ensures.ordered in (
+      done ++ e ∷ [],
+      all ∙ sym (append_assoc done (e ∷ []) left),
+      ap pairs_shown c.in_ok-insert.ensures.entries ∙ map_insert l.copied.entries c.in_ok-clone.field-0 c.in_ok-value.value
+          ∙ ap₂ (λ k v. put k v (pairs_shown l.copied.entries)) c.in_ok-clone.ensures.cases c.in_ok-value.ensures
+          ∙ ap (put (key_of e.0) (value_of e.1)) l.invariant.2 ∙ pairs_last done e.0 e.1 (keys_of left) sorted,
+    )
+
+pub copy_value-returns-in_ok-clone-in-Bytes : goal.copy_value-returns-in_ok-clone-in-Bytes
+copy_value-returns-in_ok-clone-in-Bytes t c =
+    let same : c.in_ok-clone-in-Bytes.field-0.items ≡ c.in-Bytes.value.items = search (rules, same_from_all_zip) in
+    rw (c.in-Bytes.is, value_of_bytes c.in_ok-clone-in-Bytes.field-0, value_of_bytes c.in-Bytes.value) (ap (λ (l : List ℕ). ScalarValue (Bytes l)) same)

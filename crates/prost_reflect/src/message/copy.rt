@@ -1,0 +1,98 @@
+//! Copies of values and messages.
+
+ghost use Rattle.std.specs.Prelude.{◌≡◌, IfOk, map};
+ghost use Rattle.prost_reflect.specs.Descriptors.{SameMessage};
+ghost use Rattle.prost_reflect.specs.Copies.{SameStoring};
+ghost use Rattle.prost_reflect.specs.ContentLaws.{pairs_shown};
+ghost use Rattle.prost_reflect.specs.View.{content_of, value_of, descriptor_of};
+
+use crate::fields::entry::Entry;
+use crate::fields::slots::Slots;
+use crate::fields::sorted::Sorted;
+use crate::message::DynamicMessage;
+use crate::value::{MapKey, Value};
+use std::alloc::AllocError;
+use std::collections::BTreeMap;
+use std::default::Emptied;
+
+impl Clone for Value {
+    ghost is_clone = { λ value copied. value_of copied ≡ value_of value };
+
+    fn clone(&self) -> Result<Value, AllocError> {
+        copy_value(self)
+    }
+}
+
+impl Clone for DynamicMessage {
+    ghost is_clone = { SameStoring };
+
+    fn clone(&self) -> Result<DynamicMessage, AllocError> {
+        copy_message(self)
+    }
+}
+
+#[cycle(copy)]
+fn copy_value(value: &Value) -> Result<Value, AllocError>
+    ensures { IfOk result (λ copied. value_of copied ≡ value_of value.now) }
+{
+    match value {
+        Value::Bool(value) => Ok(Value::Bool(*value)),
+        Value::I32(value) => Ok(Value::I32(*value)),
+        Value::I64(value) => Ok(Value::I64(*value)),
+        Value::U32(value) => Ok(Value::U32(*value)),
+        Value::U64(value) => Ok(Value::U64(*value)),
+        Value::F32(value) => Ok(Value::F32(*value)),
+        Value::F64(value) => Ok(Value::F64(*value)),
+        Value::String(value) => Ok(Value::String(value.clone()?)),
+        Value::Bytes(value) => Ok(Value::Bytes(value.clone()?)),
+        Value::EnumNumber(value) => Ok(Value::EnumNumber(*value)),
+        Value::Message(message) => Ok(Value::Message(copy_message(message)?)),
+        Value::List(values) => Ok(Value::List(copy_values(values)?)),
+        Value::Map(pairs) => Ok(Value::Map(copy_pairs(pairs)?)),
+    }
+}
+
+#[cycle(copy)]
+fn copy_values(values: &Vec<Value>) -> Result<Vec<Value>, AllocError>
+    ensures { IfOk result (λ copied. map value_of copied.items ≡ map value_of values.now.items) }
+{
+    let mut copied = Vec::with_capacity(*values.allocator(), values.len())?;
+    for value in values {
+        copied.push(copy_value(value)?)?;
+    }
+    Ok(copied)
+}
+
+#[cycle(copy)]
+fn copy_pairs(pairs: &BTreeMap<MapKey, Value>) -> Result<BTreeMap<MapKey, Value>, AllocError>
+    ensures { IfOk result (λ copied. pairs_shown copied.entries ≡ pairs_shown pairs.now.entries) }
+{
+    let mut copied = BTreeMap::emptied(pairs)?;
+    for (key, value) in pairs.iter() {
+        let value = copy_value(value)?;
+        drop(copied.insert(key.clone()?, value)?);
+    }
+    Ok(copied)
+}
+
+#[cycle(copy)]
+fn copy_message(message: &DynamicMessage) -> Result<DynamicMessage, AllocError>
+    ensures { IfOk result (SameStoring message.now) }
+{
+    let mut fields = Sorted::new(message.slots.allocator());
+    for (number, entry) in message.slots.entries() {
+        let copied = match entry {
+            Entry::Value(value) => Entry::Value(copy_value(value)?),
+            Entry::Unknown(unknown) => Entry::Unknown(unknown.clone()?),
+            Entry::Both(value, unknown) => {
+                let value = copy_value(value)?;
+                Entry::Both(value, unknown.clone()?)
+            }
+        };
+        fields.insert(*number, copied)?;
+    }
+    let descriptor = message.slots.descriptor().clone()?;
+    Ok(DynamicMessage {
+        slots: Slots::from_entries(descriptor, fields),
+    })
+}
