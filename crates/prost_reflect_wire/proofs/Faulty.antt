@@ -7,7 +7,7 @@ use Rattle.prost_reflect_wire.specs.Record.{Var, Flat, wire_code}
 use Rattle.prost_reflect_wire.specs.Scalar.{Int32}
 use Rattle.prost_reflect_wire.specs.Schema.{MessageOf, GroupOf, Singular, Repeated}
 use Rattle.prost_reflect_wire.specs.Fault.{Here, Behind, InMessage, InGroup, InUnknown, KeyFront, DelimitedFront, RecordFront, ElementEnds}
-use Rattle.prost_reflect_wire.specs.ExampleSchemas.{field, int32, text, message_value_type}
+use Rattle.prost_reflect_wire.specs.ExampleSchemas.{field, list, int32, text, message_value_type}
 use Rattle.prost_reflect_wire.specs.ExampleFaults.{WorkedFaults}
 use Rattle.prost_reflect_wire.specs.declared.key.WireType.{WireType}
 use Rattle.prost_reflect_wire.specs.declared.key.WireType.TheVariants as wires
@@ -75,7 +75,7 @@ worked_faults = record {
   behind_a_record = Behind (record { number = 1; payload = Flat (Var 1) }) (0x18 ∷ 0x00 ∷ []) (first_one (0x18 ∷ 0x00 ∷ []))
       (Here (record { number = 3; wire = wires.Varint; field = field 3 Singular (message_value_type (MessageOf 0)); rest = 0x00 ∷ []; key = key 3 wires.Varint (0x00 ∷ []) (lit< tt) (lit< tt); found = refl; behind = (no_end, refl) }));
   end_alone = Here (record { number = 1; wire = wires.EndGroup; rest = []; key = key 1 wires.EndGroup [] (lit< tt) (lit< tt); behind = (refl, none_some) });
-  other_end = InGroup 1 6 99 (field 1 (Repeated false) (message_value_type (GroupOf 6))) (0x08 ∷ 0x01 ∷ 0x14 ∷ []) refl refl refl refl (key 1 wires.StartGroup (0x08 ∷ 0x01 ∷ 0x14 ∷ []) (lit< tt) (lit< tt))
+  other_end = InGroup 1 6 99 (list 1 false (message_value_type (GroupOf 6))) (0x08 ∷ 0x01 ∷ 0x14 ∷ []) refl refl refl refl (key 1 wires.StartGroup (0x08 ∷ 0x01 ∷ 0x14 ∷ []) (lit< tt) (lit< tt))
       (Behind (record { number = 1; payload = Flat (Var 1) }) (0x14 ∷ []) (first_one (0x14 ∷ []))
       (Here (record { number = 2; wire = wires.EndGroup; rest = []; key = key 2 wires.EndGroup [] (lit< tt) (lit< tt); behind = (refl, one_two) })));
   group_unended = InUnknown 5 99 [] refl refl (key 5 wires.StartGroup [] (lit< tt) (lit< tt)) (Here (inr (inl (refl, some_none))));

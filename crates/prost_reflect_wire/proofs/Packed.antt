@@ -10,7 +10,7 @@ use Rattle.prost_reflect_wire.specs.Content.{Value, ScalarValue, MessageValue, L
 use Rattle.prost_reflect_wire.specs.Grammar.{or_none, plains_within, unpacked, element_payloads_in, is_stray, value_records, value_payloads, stray_payloads, unknown_payloads}
 use Rattle.prost_reflect_wire.specs.Meaning.{MeansInside, element, scalar_values, present_list, field_value}
 use Rattle.prost_reflect_wire.specs.Writing.{record_at, end_to_end, list_payloads, value_payload, element_payloads}
-use Rattle.prost_reflect_wire.specs.Typing.{one_fits, elements_fit}
+use Rattle.prost_reflect_wire.specs.Typing.{element_valid, elements_valid}
 use Rattle.prost_reflect_wire.specs.Laws.{block, ValueBack, ElementBack, ElementsBack}
 use Rattle.prost_reflect_wire.proofs.Reading.{plain_read}
 use Rattle.prost_reflect_wire.proofs.Shortest.{short_plain_ok, short_varint}
@@ -46,13 +46,13 @@ written_alone _ v h = absurd (true≢false (sym h))
 pub scalar_element : (inner : MeansInside) (kind : ScalarKind) (v : Scalar) → scalar_valid kind v ≡ true → ElementBack inner (ScalarOf kind) (ScalarValue v)
 scalar_element inner kind v h = record { one = written_alone kind v h; fits = written_declared kind v h; value = ap scalar_values (read_back kind v h) }
 
-pub scalars_back : (inner : MeansInside) (kind : ScalarKind) (vs : Values) → elements_fit (ScalarOf kind) vs ≡ true → ElementsBack inner (ScalarOf kind) vs
+pub scalars_back : (inner : MeansInside) (kind : ScalarKind) (vs : Values) → elements_valid (ScalarOf kind) vs ≡ true → ElementsBack inner (ScalarOf kind) vs
 scalars_back inner kind NoValues h = tt
 scalars_back inner kind (Item v vs) h =
-    let (one, more) = and_both (one_fits (ScalarOf kind) v) (elements_fit (ScalarOf kind) vs) h in
+    let (one, more) = and_both (element_valid (ScalarOf kind) v) (elements_valid (ScalarOf kind) vs) h in
     (go v one, scalars_back inner kind vs more)
   where
-    go : (v : Value) → one_fits (ScalarOf kind) v ≡ true → ElementBack inner (ScalarOf kind) v
+    go : (v : Value) → element_valid (ScalarOf kind) v ≡ true → ElementBack inner (ScalarOf kind) v
     go (ScalarValue v) h = scalar_element inner kind v h
     go (MessageValue c) h = absurd (true≢false (sym h))
     go (ListValue vs) h = absurd (true≢false (sym h))
@@ -125,11 +125,11 @@ plains_of kind NoValues = []
 plains_of kind (Item (ScalarValue v) vs) = written kind v ∷ plains_of kind vs
 plains_of kind (Item _ vs) = plains_of kind vs
 
-plains_same : (kind : ScalarKind) (vs : Values) → is_packable kind ≡ true → elements_fit (ScalarOf kind) vs ≡ true → (element_payloads (ScalarOf kind) vs ≡ map Flat (plains_of kind vs)) × AllPackable (kind_wire kind) (plains_of kind vs)
+plains_same : (kind : ScalarKind) (vs : Values) → is_packable kind ≡ true → elements_valid (ScalarOf kind) vs ≡ true → (element_payloads (ScalarOf kind) vs ≡ map Flat (plains_of kind vs)) × AllPackable (kind_wire kind) (plains_of kind vs)
 unfolding plains_of AllPackable
 plains_same kind NoValues p h = (refl, tt)
 plains_same kind (Item (ScalarValue v) vs) p h =
-    let (one, more) = and_both (scalar_valid kind v) (elements_fit (ScalarOf kind) vs) h in
+    let (one, more) = and_both (scalar_valid kind v) (elements_valid (ScalarOf kind) vs) h in
     let (same, all) = plains_same kind vs p more in
     (ap (λ l. Flat (written kind v) ∷ l) same, (packable kind v p one, all))
 plains_same kind (Item (MessageValue c) vs) p h = absurd (true≢false (sym h))
@@ -137,14 +137,14 @@ plains_same kind (Item (ListValue ws) vs) p h = absurd (true≢false (sym h))
 plains_same kind (Item (MapValue ps) vs) p h = absurd (true≢false (sym h))
 
 -- packed elements are read as they would be one by one
-pub unpacked_back : (kind : ScalarKind) (vs : Values) → is_packable kind ≡ true → elements_fit (ScalarOf kind) vs ≡ true →
+pub unpacked_back : (kind : ScalarKind) (vs : Values) → is_packable kind ≡ true → elements_valid (ScalarOf kind) vs ≡ true →
     (unpacked kind (end_to_end (element_payloads (ScalarOf kind) vs)) ≡ Some (plains_of kind vs)) × (map Flat (plains_of kind vs) ≡ element_payloads (ScalarOf kind) vs)
 unfolding unpacked
 unpacked_back kind vs p h =
     let (same, all) = plains_same kind vs p h in
     (ap (λ ps. plains_within (suc (length (end_to_end ps))) (kind_wire kind) (end_to_end ps)) same ∙ plains_read (kind_wire kind) (plains_of kind vs) (suc (length (end_to_end (map Flat (plains_of kind vs))))) all (omega arith), sym same)
 
-elements_in_back : (kind : ScalarKind) (vs : Values) → is_packable kind ≡ true → elements_fit (ScalarOf kind) vs ≡ true →
+elements_in_back : (kind : ScalarKind) (vs : Values) → is_packable kind ≡ true → elements_valid (ScalarOf kind) vs ≡ true →
     element_payloads_in (ScalarOf kind) (Flat (Len (end_to_end (element_payloads (ScalarOf kind) vs)))) ≡ element_payloads (ScalarOf kind) vs
 elements_in_back kind vs p h =
     let (found, same) = unpacked_back kind vs p h in
@@ -163,7 +163,7 @@ no_strays inner kind (Item v vs) (one, more) =
     ap (λ b. cond b (value_payload kind v ∷ filter (is_stray kind) (element_payloads kind vs)) (filter (is_stray kind) (element_payloads kind vs))) one.fits ∙ no_strays inner kind vs more
 
 pub packed_back : (inner : MeansInside) (fields : List Field) (n : ℕ) (f : Field) (kind : ScalarKind) (v : Value) (vs : Values) → field_of fields n ≡ Some f → f.form ≡ Repeated true → f.value_type.kind ≡ ScalarOf kind →
-    is_packable kind ≡ true → elements_fit (ScalarOf kind) (Item v vs) ≡ true → ValueBack inner fields n f (ListValue (Item v vs))
+    is_packable kind ≡ true → elements_valid (ScalarOf kind) (Item v vs) ≡ true → ValueBack inner fields n f (ListValue (Item v vs))
 packed_back inner fields n f kind v vs found c k p h = record {
   sources = ps;
   read = ap (λ l. flat_map (value_records fields) (map (record_at n) l)) whole ∙ append-nil (value_records fields (record_at n body)) ∙ value_records_known fields n f body found

@@ -9,6 +9,7 @@ use Rattle.prost_reflect_wire.specs.Schema.{Kind, ScalarOf, MessageOf, GroupOf, 
 use Rattle.prost_reflect_wire.specs.declared.key.WireType.{WireType}
 use Rattle.prost_reflect_wire.specs.declared.key.WireType.TheVariants as wires
 
+-- The levels that a parser takes.
 abbrev pub LEVEL_LIMIT : ℕ
 LEVEL_LIMIT = 100
 
@@ -49,7 +50,7 @@ last [] = None
 last (x ∷ []) = Some x
 last (x ∷ y ∷ xs) = last (y ∷ xs)
 
--- The records of a message's payload.
+-- The records of a message's payload; no other payload has any.
 abbrev pub body : Payload → Option (List Record)
 body (Group inside) = Some (items inside)
 body (Flat (Len bytes)) = read bytes >>= λ rs. Some (items rs)
@@ -147,12 +148,12 @@ unfoldable pub allows : Schema → ℕ → AllowsInside
 allows schema zero T rs = list_all (record_allowed 0 nothing_inside (known schema T)) rs
 allows schema (suc levels) T rs = list_all (record_allowed (suc levels) (allows schema levels) (known schema T)) rs
 
--- Some records spell the bytes, and are allowed within the limit.
-pub record Accepts (schema : Schema) (T : ℕ) (bytes : List ℕ) : Type 0 where
+-- Some records spell the bytes, and are allowed with so many levels left.
+pub record Accepts (schema : Schema) (levels T : ℕ) (bytes : List ℕ) : Type 0 where
   pub records : Records
   pub spelled : Spells records bytes
-  pub allowed : IsTrue (allows schema LEVEL_LIMIT T (items records))
+  pub allowed : IsTrue (allows schema levels T (items records))
 
--- The same as a test.
-abbrev pub accepts : Schema → ℕ → List ℕ → Bool
-accepts schema T bytes = passes (read bytes) (λ rs. allows schema LEVEL_LIMIT T (items rs))
+-- The same as a test, of bytes below 256.
+abbrev pub accepts : Schema → ℕ → ℕ → List ℕ → Bool
+accepts schema levels T bytes = passes (read bytes) (λ rs. allows schema levels T (items rs))

@@ -1,5 +1,5 @@
 -- Laws of the definitions.
-use Rattle.std.specs.Prelude.{◌≡◌, ◌≢◌, ℕ, suc, ◌≤◌, ◌<◌, ◌^◌, ◌↔◌, true, false, List, [], ◌∷◌, ◌++◌, length, map, flat_map, ⊤, Some, IsTrue}
+use Rattle.std.specs.Prelude.{◌≡◌, ◌≢◌, ℕ, suc, ◌≤◌, ◌<◌, ◌^◌, ◌↔◌, true, false, List, [], ◌∷◌, ◌++◌, length, map, flat_map, ⊤, max, Some, IsTrue}
 use Rattle.prost_reflect_wire.specs.Varint.{AreBytes, ◌>>=◌}
 use Rattle.prost_reflect_wire.specs.Record.{Records, Record, Payload, Flat, Spells, read, body_of, valid, payload_valid, short_body}
 use Rattle.prost_reflect_wire.specs.Scalar.{Scalar, ScalarKind, elem, written, scalar_valid, is_undeclared}
@@ -7,14 +7,10 @@ use Rattle.prost_reflect_wire.specs.Schema.{Schema, Field, Kind, ScalarOf, Value
 use Rattle.prost_reflect_wire.specs.Content.{Content, ContentOf, Entries, NoEntries, Stored, Unknown, Value, ScalarValue, MessageValue, ListValue, MapValue, Values, NoValues, Item, Pairs, NoPairs, Pair, schema_of, type_of, ordered, entries_ordered, value_ordered, pairs_ordered}
 use Rattle.prost_reflect_wire.specs.Grammar.{LEVEL_LIMIT, Accepts, accepts, allows, element_payloads_in, is_stray, is_stray_entry, records_in, value_records, unknown_payloads}
 use Rattle.prost_reflect_wire.specs.Meaning.{MeansInside, element, entry_key, entry_value, field_value, meaning, decoded, steps}
-use Rattle.prost_reflect_wire.specs.Writing.{is_default_of, value_payload, pair_payload, record_at, field_payloads, records, encoded, merged}
+use Rattle.prost_reflect_wire.specs.Writing.{is_default_of, value_payload, pair_payload, record_at, field_payloads, records, encoded}
 use Rattle.prost_reflect_wire.specs.Levels.{levels}
-use Rattle.prost_reflect_wire.specs.Typing.{WellTyped, is_of_type, is_whole_stray, has_value_of, elements_fit, fits_field, holds_message, message_of}
-use Rattle.prost_reflect_wire.specs.Reduction.{Reduced}
-use Rattle.prost_reflect_wire.specs.Edit.{set_at, edited}
-use Rattle.prost_reflect_wire.specs.Fault.{StandsInMessage}
-use Rattle.prost_reflect_wire.specs.declared.error.DecodeError.{DecodeError}
-use Rattle.prost_reflect_wire.specs.declared.error.DecodeError.TheVariants as errors
+use Rattle.prost_reflect_wire.specs.Typing.{WellTyped, is_of_type, is_whole_stray, has_value_of, elements_valid}
+use Rattle.prost_reflect_wire.specs.Edit.{merged}
 
 -- READING
 
@@ -32,7 +28,7 @@ WrittenSpells = (rs : Records) → valid rs ≡ true → Spells rs (short_body r
 
 -- The relation and the test say the same.
 abbrev pub AcceptsIsTest : Type 0
-AcceptsIsTest = (schema : Schema) (T : ℕ) (bytes : List ℕ) → AreBytes bytes → Accepts schema T bytes ↔ IsTrue (accepts schema T bytes)
+AcceptsIsTest = (schema : Schema) (k T : ℕ) (bytes : List ℕ) → AreBytes bytes → Accepts schema k T bytes ↔ IsTrue (accepts schema k T bytes)
 
 -- MEANING
 
@@ -66,10 +62,6 @@ AllowedFurther = (schema : Schema) (k T : ℕ) (rs : List Record) → allows sch
 -- Numbers and keys ascend in what is read.
 abbrev pub MeaningOrdered : Type 0
 MeaningOrdered = (schema : Schema) (k T : ℕ) (rs : List Record) → ordered (meaning schema k T rs) ≡ true
-
--- What is read is well-typed.
-abbrev pub MeaningTyped : Type 0
-MeaningTyped = (schema : Schema) (k T : ℕ) (rs : List Record) → schema_valid schema ≡ true → valid (body_of rs) ≡ true → allows schema k T rs ≡ true → WellTyped (meaning schema k T rs)
 
 -- WRITING
 
@@ -122,7 +114,7 @@ ListBack = (inner : MeansInside) (fields : List Field) (n : ℕ) (f : Field) (v 
 -- Scalars in one packed record are.
 abbrev pub PackedBack : Type 0
 PackedBack = (inner : MeansInside) (fields : List Field) (n : ℕ) (f : Field) (kind : ScalarKind) (v : Value) (vs : Values) → field_of fields n ≡ Some f → f.form ≡ Repeated true → f.value_type.kind ≡ ScalarOf kind →
-    is_packable kind ≡ true → elements_fit (ScalarOf kind) (Item v vs) ≡ true → ValueBack inner fields n f (ListValue (Item v vs))
+    is_packable kind ≡ true → elements_valid (ScalarOf kind) (Item v vs) ≡ true → ValueBack inner fields n f (ListValue (Item v vs))
 
 -- The record of one entry is read as it.
 pub record PairBack (inner : MeansInside) (key value_type : ValueType) (k : Scalar) (v : Value) : Type 0 where
@@ -168,63 +160,23 @@ RecordsAllowed = (k : ℕ) (c : Content) → Writable c → (allows (schema_of c
 abbrev pub EncodedSpells : Type 0
 EncodedSpells = (c : Content) → Writable c → Spells (body_of (records c)) (encoded c)
 
--- Bytes that were written are accepted exactly within the limit, and mean what was written.
+-- Bytes that were written are accepted exactly within so many levels, and mean what was written.
 abbrev pub RoundTrip : Type 0
-RoundTrip = (c : Content) → Writable c →
-    (Accepts (schema_of c) (type_of c) (encoded c) ↔ (levels c ≤ LEVEL_LIMIT)) × (levels c ≤ LEVEL_LIMIT → decoded (schema_of c) (type_of c) (encoded c) ≡ Some c)
+RoundTrip = (k : ℕ) (c : Content) → Writable c →
+    (Accepts (schema_of c) k (type_of c) (encoded c) ↔ (levels c ≤ k)) × (levels c ≤ k → decoded (schema_of c) k (type_of c) (encoded c) ≡ Some c)
 
--- Decoding, encoding, decoding and encoding gives the bytes of the first encoding.
-abbrev pub NormalForm : Type 0
-NormalForm = (schema : Schema) (T : ℕ) (bytes : List ℕ) (c : Content) → schema_valid schema ≡ true → decoded schema T bytes ≡ Some c → length (encoded c) < 2 ^ 64 → decoded schema T (encoded c) ≡ Some c
+-- Records merged into a content mean what they mean behind its own.
+abbrev pub MergedMeans : Type 0
+MergedMeans = (c : Content) (behind : List Record) → Writable c → merged c behind ≡ meaning (schema_of c) (max (levels c) LEVEL_LIMIT) (type_of c) (records c ++ behind)
 
--- Records merged into a content are read behind it.
-abbrev pub MergedSteps : Type 0
-MergedSteps = (m : ℕ) (c : Content) (behind : List Record) → Writable c → levels c ≤ m → merged m c behind ≡ steps m c behind
-
--- Pieces of one message join, where what the first mean can be written.
+-- Pieces of one message join, where the first are allowed with as many levels.
 abbrev pub PiecesJoin : Type 0
-PiecesJoin = (schema : Schema) (k m T : ℕ) (front behind : List Record) → Writable (meaning schema k T front) → levels (meaning schema k T front) ≤ k → allows schema k T front ≡ true → k ≤ m →
-    merged m (meaning schema k T front) behind ≡ meaning schema m T (front ++ behind)
+PiecesJoin = (schema : Schema) (k m T : ℕ) (front behind : List Record) → allows schema k T front ≡ true → k ≤ m → steps m (meaning schema k T front) behind ≡ meaning schema m T (front ++ behind)
 
 -- What is read of a payload that has a spelling, and is no stray, is a value of the kind.
 abbrev pub ReadIsValid : Type 0
 ReadIsValid = (kind : ScalarKind) (p : Payload) (v : Scalar) → payload_valid p ≡ true → is_undeclared kind p ≡ false → elem kind p ≡ Some v → scalar_valid kind v ≡ true
 
--- Pieces: records may be joined with the content of what was read before.
-abbrev pub Pieces : Type 0
-Pieces = (schema : Schema) (k l T : ℕ) (front behind : List Record) → schema_valid schema ≡ true → valid (body_of front) ≡ true → allows schema k T front ≡ true → allows schema l T behind ≡ true →
-    length (encoded (meaning schema k T front)) < 2 ^ 64 → (m : ℕ) → k ≤ m → l ≤ m → merged m (meaning schema k T front) behind ≡ meaning schema m T (front ++ behind)
-
 -- Contents of one type are written equally only if they are equal.
 abbrev pub Canonicity : Type 0
 Canonicity = (c d : Content) → Writable c → Writable d → schema_of c ≡ schema_of d → type_of c ≡ type_of d → encoded c ≡ encoded d → c ≡ d
-
--- REDUCTION
-
--- What the newer type accepts the older one accepts.
-abbrev pub OlderAccepts : Type 0
-OlderAccepts = (older newer : Schema) (A B : ℕ) (bytes : List ℕ) → schema_valid older ≡ true → schema_valid newer ≡ true → Reduced older A newer B → Accepts newer B bytes → Accepts older A bytes
-
--- What the older type reads and writes again means the same to the newer one.
-abbrev pub Passage : Type 0
-Passage = (older newer : Schema) (A B : ℕ) (bytes : List ℕ) (c : Content) → schema_valid older ≡ true → schema_valid newer ≡ true → AreBytes bytes → Reduced older A newer B → Accepts newer B bytes →
-    decoded older A bytes ≡ Some c → length (encoded c) < 2 ^ 64 → decoded newer B (encoded c) ≡ decoded newer B bytes
-
--- A path of singular messages to a field, whose value fits it and holds no message.
-abbrev pub PathTo : Schema → ℕ → List ℕ → Value → Type 0
-PathTo schema T [] v = ⊥
-PathTo schema T (n ∷ []) v = (f : Field) × (field_of (known schema T) n ≡ Some f) × (fits_field f v ≡ true) × (holds_message v ≡ false) × (value_ordered v ≡ true)
-PathTo schema T (n ∷ m ∷ path) v = (f : Field) × (field_of (known schema T) n ≡ Some f) × (f.form ≡ Singular)
-    × ((U : ℕ) × (message_of f.value_type.kind ≡ Some U) × PathTo schema U (m ∷ path) v)
-
--- A value set through the older type is set in what the newer one reads.
-abbrev pub EditPassage : Type 0
-EditPassage = (older newer : Schema) (A B : ℕ) (bytes : List ℕ) (path : List ℕ) (v : Value) (again : List ℕ) → schema_valid older ≡ true → schema_valid newer ≡ true → AreBytes bytes → Reduced older A newer B →
-    length path ≤ suc LEVEL_LIMIT → PathTo older A path v → Accepts newer B bytes → edited older A bytes path v ≡ Some again → length again < 2 ^ 64 →
-    Accepts newer B again × (decoded newer B again ≡ (decoded newer B bytes >>= λ d. Some (set_at path v d)))
-
--- FAULTS
-
--- Bytes are accepted unless a fault stands in them.
-abbrev pub AcceptedUnlessFault : Type 0
-AcceptedUnlessFault = (schema : Schema) (T : ℕ) (bytes : List ℕ) → AreBytes bytes → (accepts schema T bytes ≡ false) ↔ ((e : DecodeError) × StandsInMessage schema T LEVEL_LIMIT e bytes)

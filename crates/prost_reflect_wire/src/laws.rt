@@ -2,7 +2,7 @@
 
 ghost use Rattle.prost_reflect_wire.specs.ExampleRows.{WorkedRows};
 ghost use Rattle.prost_reflect_wire.specs.ExampleFaults.{WorkedFaults};
-ghost use Rattle.prost_reflect_wire.specs.Laws.{OneReading, ReadIsSpells, WrittenSpells, AcceptsIsTest, MeaningBySteps, Commute, SameBehind, LevelsFree, AllowedFurther, WrittenIsRead, EntriesMean, ScalarBack, MessageBack, ListBack, PackedBack, MapBack, RecordsMean, EncodedSpells, Canonicity, RecordsAllowed, RoundTrip, MergedSteps, PiecesJoin, ReadIsValid, MeaningOrdered, StrayBack};
+ghost use Rattle.prost_reflect_wire.specs.Laws.{OneReading, ReadIsSpells, WrittenSpells, AcceptsIsTest, MeaningBySteps, Commute, SameBehind, LevelsFree, AllowedFurther, WrittenIsRead, EntriesMean, ScalarBack, MessageBack, ListBack, PackedBack, MapBack, RecordsMean, EncodedSpells, Canonicity, RecordsAllowed, RoundTrip, MergedMeans, PiecesJoin, ReadIsValid, MeaningOrdered, StrayBack};
 
 /// Bytes spell at most one list of records.
 pub fn one_reading()
@@ -119,17 +119,17 @@ pub fn records_allowed()
     ensures { RecordsAllowed }
 {}
 
-/// Bytes that were written are accepted exactly within the limit, and mean what was written.
+/// Bytes that were written are accepted exactly within so many levels, and mean what was written.
 pub fn round_trip()
     ensures { RoundTrip }
 {}
 
-/// Records merged into a content are read behind it.
-pub fn merged_steps()
-    ensures { MergedSteps }
+/// Records merged into a content mean what they mean behind its own.
+pub fn merged_means()
+    ensures { MergedMeans }
 {}
 
-/// Pieces of one message join, where what the first mean can be written.
+/// Pieces of one message join.
 pub fn pieces_join()
     ensures { PiecesJoin }
 {}

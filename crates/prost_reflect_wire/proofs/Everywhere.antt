@@ -1,0 +1,58 @@
+-- Tests of every entry at every depth.
+use Rattle.std.proofs.Common.{◌≡◌, ℕ, Bool, true, false, ◌&&◌, List, refl}
+use Rattle.prost_reflect_wire.specs.Record.{Payload}
+use Rattle.prost_reflect_wire.specs.Schema.{Field, Schema, known}
+use Rattle.prost_reflect_wire.specs.Content.{Content, ContentOf, Entries, NoEntries, Stored, Unknown, Value, ScalarValue, MessageValue, ListValue, MapValue, Values, NoValues, Item, Pairs, NoPairs, Pair}
+use Rattle.prost_reflect_wire.specs.Typing.{EntryTest, everywhere, entries_pass, value_passes, values_pass, pairs_pass}
+use Rattle.prost_reflect_wire.proofs.Deeper.{and_both, both_true}
+
+-- what a test says of a value and what stands behind it
+pub record StoredPasses (test : EntryTest) (fields : List Field) (n : ℕ) (v : Value) (es : Entries) : Type 0 where
+  pub here : test.stored fields n v es ≡ true
+  pub inside : value_passes test v ≡ true
+  pub behind : entries_pass test fields es ≡ true
+
+pub stored_passes : (test : EntryTest) (fields : List Field) (n : ℕ) (v : Value) (es : Entries) → entries_pass test fields (Stored n v es) ≡ true → StoredPasses test fields n v es
+stored_passes test fields n v es h =
+    let (ab, c) = and_both (test.stored fields n v es && value_passes test v) (entries_pass test fields es) h in
+    let (a, b) = and_both (test.stored fields n v es) (value_passes test v) ab in
+    record { here = a; inside = b; behind = c }
+
+-- both of two tests
+abbrev pub both_tests : EntryTest → EntryTest → EntryTest
+both_tests a b = record { stored = λ fields n v es. a.stored fields n v es && b.stored fields n v es; unknown = λ fields n p. a.unknown fields n p && b.unknown fields n p }
+
+mutual
+  pub both_pass : (a b : EntryTest) (c : Content) → everywhere a c ≡ true → everywhere b c ≡ true → everywhere (both_tests a b) c ≡ true
+  both_pass a b (ContentOf schema T es) h k = entries_both a b (known schema T) es h k
+
+  pub entries_both : (a b : EntryTest) (fields : List Field) (es : Entries) → entries_pass a fields es ≡ true → entries_pass b fields es ≡ true → entries_pass (both_tests a b) fields es ≡ true
+  entries_both a b fields NoEntries h k = refl
+  entries_both a b fields (Stored n v es) h k =
+      let x = stored_passes a fields n v es h in
+      let y = stored_passes b fields n v es k in
+      both_true (both_true (both_true x.here y.here) (value_both a b v x.inside y.inside)) (entries_both a b fields es x.behind y.behind)
+  entries_both a b fields (Unknown n p es) h k =
+      let (x, x') = and_both (a.unknown fields n p) (entries_pass a fields es) h in
+      let (y, y') = and_both (b.unknown fields n p) (entries_pass b fields es) k in
+      both_true (both_true x y) (entries_both a b fields es x' y')
+
+  pub value_both : (a b : EntryTest) (v : Value) → value_passes a v ≡ true → value_passes b v ≡ true → value_passes (both_tests a b) v ≡ true
+  value_both a b (ScalarValue v) h k = refl
+  value_both a b (MessageValue c) h k = both_pass a b c h k
+  value_both a b (ListValue vs) h k = values_both a b vs h k
+  value_both a b (MapValue ps) h k = pairs_both a b ps h k
+
+  values_both : (a b : EntryTest) (vs : Values) → values_pass a vs ≡ true → values_pass b vs ≡ true → values_pass (both_tests a b) vs ≡ true
+  values_both a b NoValues h k = refl
+  values_both a b (Item v vs) h k =
+      let (x, x') = and_both (value_passes a v) (values_pass a vs) h in
+      let (y, y') = and_both (value_passes b v) (values_pass b vs) k in
+      both_true (value_both a b v x y) (values_both a b vs x' y')
+
+  pairs_both : (a b : EntryTest) (ps : Pairs) → pairs_pass a ps ≡ true → pairs_pass b ps ≡ true → pairs_pass (both_tests a b) ps ≡ true
+  pairs_both a b NoPairs h k = refl
+  pairs_both a b (Pair x v ps) h k =
+      let (l, l') = and_both (value_passes a v) (pairs_pass a ps) h in
+      let (m, m') = and_both (value_passes b v) (pairs_pass b ps) k in
+      both_true (value_both a b v l m) (pairs_both a b ps l' m')
