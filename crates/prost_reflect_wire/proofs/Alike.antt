@@ -117,7 +117,7 @@ same_type pairs s t h =
     record { kind = a; presence = booleans_same s.presence t.presence c; default = d }
 
 -- kinds that match have the same strays, and the same elements in a packed record
-unpacked_alike : (k l : ScalarKind) (bytes : List ℕ) → kind_wire l ≡ kind_wire k → unpacked l bytes ≡ unpacked k bytes
+pub unpacked_alike : (k l : ScalarKind) (bytes : List ℕ) → kind_wire l ≡ kind_wire k → unpacked l bytes ≡ unpacked k bytes
 unfolding unpacked
 unpacked_alike k l bytes e = ap (λ w. plains_within (suc (length bytes)) w bytes) e
 

@@ -14,6 +14,7 @@ pub mod Reduction
 pub mod Edit
 pub mod Fault
 pub mod Laws
+pub mod Passage
 pub mod ExampleSchemas
 pub mod ExampleRows
 pub mod ExampleFaults

@@ -4,6 +4,7 @@
 mod error;
 mod key;
 pub mod laws;
+pub mod passage;
 mod unknown;
 mod varint;
 
