@@ -1,0 +1,108 @@
+-- What an older type writes of one value, a newer one of a reduction reads as what it read before.
+use Rattle.std.proofs.Common.{◌≡◌, ℕ, nat_lt, Bool, true, false, cond, not, ◌&&◌, List, [], ◌∷◌, ◌++◌, Option, Some, None, refl, ap, ap₂, sym, ◌∙◌, true≢false, append-nil, ◌⊎◌, inl, inr}
+use Rattle.std.specs.Option.{is_some}
+use Rattle.std.specs.List.{list_all}
+use Rattle.prost_reflect_wire.specs.Varint.{◌>>=◌}
+use Rattle.prost_reflect_wire.specs.Record.{Records, Record, Len, Payload, Flat, Group, items, read, body_of, short_body, spelled, payload_valid, valid}
+use Rattle.prost_reflect_wire.specs.Scalar.{Scalar, ScalarKind, elem, scalar_valid, is_undeclared}
+use Rattle.prost_reflect_wire.specs.Schema.{Kind, ScalarOf, MessageOf, GroupOf, passes}
+use Rattle.prost_reflect_wire.specs.Content.{Value, ScalarValue, MessageValue}
+use Rattle.prost_reflect_wire.specs.Grammar.{AllowsInside, body, records_in, is_stray, element_payloads_in, one_allowed}
+use Rattle.prost_reflect_wire.specs.Meaning.{MeansInside, element, scalar_values}
+use Rattle.prost_reflect_wire.specs.Writing.{records, value_payload}
+use Rattle.prost_reflect_wire.specs.Reduction.{TypePairs, holds, same_kind}
+use Rattle.prost_reflect_wire.specs.Laws.{ElementBack}
+use Rattle.prost_reflect_wire.proofs.Deeper.{and_both, both_true}
+use Rattle.prost_reflect_wire.proofs.Reading.{spelled_read}
+use Rattle.prost_reflect_wire.proofs.Shortest.{short_spells}
+use Rattle.prost_reflect_wire.proofs.Table.{read_back}
+use Rattle.prost_reflect_wire.proofs.Declared.{read_valid}
+use Rattle.prost_reflect_wire.proofs.Values.{items_body, payload_back}
+use Rattle.prost_reflect_wire.proofs.Packed.{scalar_element}
+use Rattle.prost_reflect_wire.proofs.Spelt.{Sound, SoundPayload}
+use Rattle.prost_reflect_wire.proofs.Valid.{scalar_sound, inside_sound}
+use Rattle.prost_reflect_wire.proofs.Means.{inside_valid}
+use Rattle.prost_reflect_wire.proofs.Alike.{Alike, alike, stray_alike, elements_alike}
+use Rattle.prost_reflect_wire.proofs.Inside.{Joinable, inside_valid_records, message_inside}
+
+-- One level down: what the records of an older type mean is written so that the newer one, which allows them, allows it and means the same by it.
+pub record Carries (pairs : TypePairs) (k : ℕ) (i : MeansInside) (a : AllowsInside) (j : MeansInside) : Type 0 where
+  pub sound : (A B : ℕ) (rs : List Record) → holds pairs A B ≡ true → valid (body_of rs) ≡ true → a B rs ≡ true → Sound (records (i A rs))
+  pub allowed : (A B : ℕ) (rs : List Record) → holds pairs A B ≡ true → valid (body_of rs) ≡ true → a B rs ≡ true → valid (body_of (records (i A rs))) ≡ true → a B (records (i A rs)) ≡ true
+  pub same : (A B : ℕ) (rs : List Record) → holds pairs A B ≡ true → valid (body_of rs) ≡ true → a B rs ≡ true → valid (body_of (records (i A rs))) ≡ true → j B (records (i A rs)) ≡ j B rs
+  pub join : Joinable a
+  pub nothing : (B : ℕ) → nat_lt 0 k ≡ true → a B [] ≡ true
+
+-- ONE VALUE
+
+-- the payload of v by the kind of the older type is read as w by that of the newer one
+pub record ReadAs (a : AllowsInside) (j : MeansInside) (kA kB : Kind) (v w : Value) : Type 0 where
+  pub alone : element_payloads_in kB (value_payload kA v) ≡ value_payload kA v ∷ []
+  pub stays : is_stray kB (value_payload kA v) ≡ false
+  pub allowed : one_allowed a kB (value_payload kA v) ≡ true
+  pub means : element j kB (value_payload kA v) ≡ w ∷ []
+
+-- if it has a spelling; and it has one if it is short
+pub record Again (a : AllowsInside) (j : MeansInside) (kA kB : Kind) (v w : Value) : Type 0 where
+  pub sound : SoundPayload (value_payload kA v)
+  pub read : payload_valid (value_payload kA v) ≡ true → ReadAs a j kA kB v w
+
+pub scalar_reads : (pairs : TypePairs) (a : AllowsInside) (j : MeansInside) (kA kB : ScalarKind) (v : Scalar) → same_kind pairs (ScalarOf kA) (ScalarOf kB) ≡ true → scalar_valid kA v ≡ true →
+    ReadAs a j (ScalarOf kA) (ScalarOf kB) (ScalarValue v) (ScalarValue v)
+scalar_reads pairs a j kA kB v h ok =
+    let p : Payload = value_payload (ScalarOf kA) (ScalarValue v) in
+    let back : ElementBack j (ScalarOf kA) (ScalarValue v) = scalar_element j kA v ok in
+    let found : elem kB p ≡ Some v = (alike kA kB h).reads p ∙ read_back kA v ok in
+    record {
+      alone = elements_alike pairs (ScalarOf kA) (ScalarOf kB) p h ∙ back.one;
+      stays = stray_alike pairs (ScalarOf kA) (ScalarOf kB) p h ∙ back.fits;
+      allowed = ap is_some found;
+      means = ap scalar_values found;
+    }
+
+pub scalar_again : (pairs : TypePairs) (a : AllowsInside) (j : MeansInside) (kA kB : ScalarKind) (v : Scalar) → same_kind pairs (ScalarOf kA) (ScalarOf kB) ≡ true → scalar_valid kA v ≡ true →
+    Again a j (ScalarOf kA) (ScalarOf kB) (ScalarValue v) (ScalarValue v)
+scalar_again pairs a j kA kB v h ok = record { sound = scalar_sound (ScalarOf kA) v ok; read = λ spelt. scalar_reads pairs a j kA kB v h ok }
+
+body_back : (rs : List Record) → valid (body_of rs) ≡ true → body (Flat (Len (spelled rs))) ≡ Some rs
+body_back rs h = ap (λ (o : Option Records). o >>= λ rs. Some (items rs)) (spelled_read (body_of rs) (short_body (body_of rs)) (short_spells (body_of rs) h)) ∙ ap Some (items_body rs)
+
+pub message_again : (pairs : TypePairs) (k : ℕ) (i : MeansInside) (a : AllowsInside) (j : MeansInside) (A B : ℕ) (rs : List Record) → Carries pairs k i a j → holds pairs A B ≡ true → valid (body_of rs) ≡ true → a B rs ≡ true →
+    Again a j (MessageOf A) (MessageOf B) (MessageValue (i A rs)) (MessageValue (j B rs))
+message_again pairs k i a j A B rs c h v e =
+    let s : Sound (records (i A rs)) = c.sound A B rs h v e in
+    record {
+      sound = inside_sound (MessageOf A) (records (i A rs)) s;
+      read = λ spelt.
+          let ok : valid (body_of (records (i A rs))) ≡ true = inside_valid (MessageOf A) (records (i A rs)) s spelt in
+          record {
+            alone = refl; stays = refl;
+            allowed = ap (λ o. passes o (a B)) (body_back (records (i A rs)) ok) ∙ c.allowed A B rs h v e ok;
+            means = ap (λ rs. MessageValue (j B rs) ∷ []) (payload_back (MessageOf A) (records (i A rs)) ok) ∙ ap (λ c. MessageValue c ∷ []) (c.same A B rs h v e ok);
+          };
+    }
+
+pub group_again : (pairs : TypePairs) (k : ℕ) (i : MeansInside) (a : AllowsInside) (j : MeansInside) (A B : ℕ) (rs : List Record) → Carries pairs k i a j → holds pairs A B ≡ true → valid (body_of rs) ≡ true → a B rs ≡ true →
+    Again a j (GroupOf A) (GroupOf B) (MessageValue (i A rs)) (MessageValue (j B rs))
+group_again pairs k i a j A B rs c h v e =
+    let s : Sound (records (i A rs)) = c.sound A B rs h v e in
+    record {
+      sound = inside_sound (GroupOf A) (records (i A rs)) s;
+      read = λ ok. record {
+        alone = refl; stays = refl;
+        allowed = ap (a B) (items_body (records (i A rs))) ∙ c.allowed A B rs h v e ok;
+        means = ap (λ rs. MessageValue (j B rs) ∷ []) (payload_back (GroupOf A) (records (i A rs)) ok) ∙ ap (λ c. MessageValue c ∷ []) (c.same A B rs h v e ok);
+      };
+    }
+
+-- ONE PAYLOAD
+
+-- a payload that a value is read of
+pub record Source (a : AllowsInside) (kB : Kind) (p : Payload) : Type 0 where
+  pub valid : payload_valid p ≡ true
+  pub stays : is_stray kB p ≡ false
+  pub allowed : one_allowed a kB p ≡ true
+
+-- the scalar of a payload that is no stray
+pub read_scalar_valid : (pairs : TypePairs) (kA kB : ScalarKind) (p : Payload) (v : Scalar) → same_kind pairs (ScalarOf kA) (ScalarOf kB) ≡ true → payload_valid p ≡ true → is_stray (ScalarOf kB) p ≡ false → elem kA p ≡ Some v → scalar_valid kA v ≡ true
+read_scalar_valid pairs kA kB p v h ok stays e = read_valid kA p v ok (sym (stray_alike pairs (ScalarOf kA) (ScalarOf kB) p h) ∙ stays) e

@@ -1,0 +1,75 @@
+-- The records in payloads that have a spelling: they have one too, and joined they are allowed where each is.
+use Rattle.std.proofs.Common.{◌≡◌, ℕ, ◌<◌, Bool, true, false, ◌&&◌, List, [], ◌∷◌, ◌++◌, length, nat_lt, Option, Some, None, refl, ap, ap₂, sym, ◌∙◌, true≢false, append-nil}
+use Rattle.std.specs.List.{list_all}
+use Rattle.std.proofs.lemmas.Bool.{ltb-true, eqb-true}
+use Rattle.std.proofs.lemmas.List.Folds.{list_all-append}
+use Rattle.prost_reflect_wire.specs.Varint.{AreBytes, are_bytes, ◌>>=◌}
+use Rattle.prost_reflect_wire.specs.Record.{Var, Fix64, Len, Fix32, Records, NoRecords, PlainRecord, GroupRecord, Record, Payload, Flat, Group, items, body_of, read, payload_valid, valid}
+use Rattle.prost_reflect_wire.specs.Schema.{Kind, ScalarOf, MessageOf, GroupOf, passes}
+use Rattle.prost_reflect_wire.specs.Grammar.{AllowsInside, or_none, body, records_in, one_allowed, is_len, is_group_payload}
+use Rattle.prost_reflect_wire.specs.Meaning.{joined}
+use Rattle.prost_reflect_wire.specs.Typing.{is_of_type}
+use Rattle.prost_reflect_wire.proofs.Deeper.{and_both, both_true}
+use Rattle.prost_reflect_wire.proofs.Sound.{read_spells}
+use Rattle.prost_reflect_wire.proofs.SpelledValid.{spelled_valid}
+use Rattle.prost_reflect_wire.proofs.ByNumber.{record_valid, valid_all}
+
+pub bytes_are : (bytes : List ℕ) → are_bytes bytes ≡ true → AreBytes bytes
+bytes_are [] h = tt
+bytes_are (b ∷ bytes) h = let (one, more) = and_both (nat_lt b 256) (are_bytes bytes) h in (ltb-true b 256 one, bytes_are bytes more)
+
+pub body_items : (rs : Records) → body_of (items rs) ≡ rs
+body_items NoRecords = refl
+body_items (PlainRecord n p rest) = ap (PlainRecord n p) (body_items rest)
+body_items (GroupRecord n inside rest) = ap (GroupRecord n inside) (body_items rest)
+
+-- VALID
+
+pub inside_valid_records : (p : Payload) → payload_valid p ≡ true → valid (body_of (records_in p)) ≡ true
+inside_valid_records (Group inside) h = ap valid (body_items inside) ∙ h
+inside_valid_records (Flat (Var v)) h = refl
+inside_valid_records (Flat (Fix64 bytes)) h = refl
+inside_valid_records (Flat (Fix32 bytes)) h = refl
+inside_valid_records (Flat (Len bytes)) h = go (read bytes) refl
+  where
+    small : are_bytes bytes ≡ true
+    small = (and_both _ (are_bytes bytes) h).1
+
+    go : (o : Option Records) → read bytes ≡ o → valid (body_of (or_none (o >>= λ rs. Some (items rs)))) ≡ true
+    go None e = refl
+    go (Some rs) e = ap valid (body_items rs) ∙ spelled_valid rs bytes (read_spells bytes rs (bytes_are bytes small) e) small
+
+pub append_valid : (xs ys : List Record) → valid (body_of xs) ≡ true → valid (body_of ys) ≡ true → valid (body_of (xs ++ ys)) ≡ true
+append_valid xs ys h k =
+    valid_all (xs ++ ys) ∙ list_all-append record_valid xs ys ∙ both_true (sym (valid_all xs) ∙ h) (sym (valid_all ys) ∙ k)
+
+pub joined_valid : (ps : List Payload) → list_all payload_valid ps ≡ true → valid (body_of (joined ps)) ≡ true
+joined_valid [] h = refl
+joined_valid (p ∷ ps) h =
+    let (one, more) = and_both (payload_valid p) (list_all payload_valid ps) h in
+    append_valid (records_in p) (joined ps) (inside_valid_records p one) (joined_valid ps more)
+
+-- ALLOWED
+
+-- records that are allowed are allowed joined
+abbrev pub Joinable : AllowsInside → Type 0
+Joinable inner = (T : ℕ) (xs ys : List Record) → inner T xs ≡ true → inner T ys ≡ true → inner T (xs ++ ys) ≡ true
+
+pub passes_inside : (p : Payload) (test : List Record → Bool) → passes (body p) test ≡ true → test (records_in p) ≡ true
+passes_inside p test = go (body p)
+  where
+    go : (o : Option (List Record)) → passes o test ≡ true → test (or_none o) ≡ true
+    go None h = absurd (true≢false (sym h))
+    go (Some rs) h = h
+
+pub message_inside : (inner : AllowsInside) (kind : Kind) (T : ℕ) (p : Payload) → is_of_type kind T ≡ true → one_allowed inner kind p ≡ true → inner T (records_in p) ≡ true
+message_inside inner (ScalarOf kind) T p n h = absurd (true≢false (sym n))
+message_inside inner (MessageOf U) T p n h = ap (λ (t : ℕ). inner t (records_in p)) (eqb-true T U n) ∙ passes_inside p (inner U) (and_both (is_len p) (passes (body p) (inner U)) h).1
+message_inside inner (GroupOf U) T p n h = ap (λ (t : ℕ). inner t (records_in p)) (eqb-true T U n) ∙ passes_inside p (inner U) (and_both (is_group_payload p) (passes (body p) (inner U)) h).1
+
+pub joined_allowed : (inner : AllowsInside) (kind : Kind) (T : ℕ) (p : Payload) (ps : List Payload) → Joinable inner → is_of_type kind T ≡ true → list_all (one_allowed inner kind) (p ∷ ps) ≡ true → inner T (joined (p ∷ ps)) ≡ true
+joined_allowed inner kind T p [] j n h =
+    ap (inner T) (append-nil (records_in p)) ∙ message_inside inner kind T p n (and_both (one_allowed inner kind p) true h).0
+joined_allowed inner kind T p (q ∷ ps) j n h =
+    let (one, more) = and_both (one_allowed inner kind p) (list_all (one_allowed inner kind) (q ∷ ps)) h in
+    j T (records_in p) (joined (q ∷ ps)) (message_inside inner kind T p n one) (joined_allowed inner kind T q ps j n more)
