@@ -1,25 +1,26 @@
 -- What an older type writes of one value, a newer one of a reduction reads as what it read before.
-use Rattle.std.proofs.Common.{◌≡◌, ℕ, nat_lt, Bool, true, false, cond, not, ◌&&◌, List, [], ◌∷◌, ◌++◌, Option, Some, None, refl, ap, ap₂, sym, ◌∙◌, true≢false, append-nil, ◌⊎◌, inl, inr}
+use Rattle.std.proofs.Common.{◌≡◌, ℕ, nat_lt, Bool, true, false, cond, not, ◌&&◌, List, [], ◌∷◌, ◌++◌, flat_map, Option, Some, None, refl, ap, ap₂, sym, ◌∙◌, true≢false, append-nil, ◌⊎◌, inl, inr}
 use Rattle.std.specs.Option.{is_some}
 use Rattle.std.specs.List.{list_all}
 use Rattle.prost_reflect_wire.specs.Varint.{◌>>=◌}
 use Rattle.prost_reflect_wire.specs.Record.{Records, Record, Len, Payload, Flat, Group, items, read, body_of, short_body, spelled, payload_valid, valid}
 use Rattle.prost_reflect_wire.specs.Scalar.{Scalar, ScalarKind, elem, scalar_valid, is_undeclared}
-use Rattle.prost_reflect_wire.specs.Schema.{Kind, ScalarOf, MessageOf, GroupOf, passes}
+use Rattle.prost_reflect_wire.specs.Schema.{Kind, ScalarOf, MessageOf, GroupOf, ValueType, FieldForm, passes}
 use Rattle.prost_reflect_wire.specs.Content.{Value, ScalarValue, MessageValue}
-use Rattle.prost_reflect_wire.specs.Grammar.{AllowsInside, body, records_in, is_stray, element_payloads_in, one_allowed}
-use Rattle.prost_reflect_wire.specs.Meaning.{MeansInside, element, scalar_values}
+use Rattle.prost_reflect_wire.specs.Grammar.{AllowsInside, body, records_in, is_stray, element_payloads_in, value_payloads, stray_payloads, one_allowed, field_allowed}
+use Rattle.prost_reflect_wire.specs.Meaning.{MeansInside, element, scalar_values, field_value}
 use Rattle.prost_reflect_wire.specs.Writing.{records, value_payload}
 use Rattle.prost_reflect_wire.specs.Reduction.{TypePairs, holds, same_kind}
 use Rattle.prost_reflect_wire.specs.Laws.{ElementBack}
 use Rattle.prost_reflect_wire.proofs.Deeper.{and_both, both_true}
 use Rattle.prost_reflect_wire.proofs.Reading.{spelled_read}
 use Rattle.prost_reflect_wire.proofs.Shortest.{short_spells}
+use Rattle.prost_reflect_wire.proofs.Steps.{field_nothing}
 use Rattle.prost_reflect_wire.proofs.Table.{read_back}
 use Rattle.prost_reflect_wire.proofs.Declared.{read_valid}
 use Rattle.prost_reflect_wire.proofs.Values.{items_body, payload_back}
 use Rattle.prost_reflect_wire.proofs.Packed.{scalar_element}
-use Rattle.prost_reflect_wire.proofs.Spelt.{Sound, SoundPayload}
+use Rattle.prost_reflect_wire.proofs.Spelt.{Sound, SoundPayload, SoundPayloads}
 use Rattle.prost_reflect_wire.proofs.Valid.{scalar_sound, inside_sound}
 use Rattle.prost_reflect_wire.proofs.Means.{inside_valid}
 use Rattle.prost_reflect_wire.proofs.Alike.{Alike, alike, stray_alike, elements_alike}
@@ -106,3 +107,20 @@ pub record Source (a : AllowsInside) (kB : Kind) (p : Payload) : Type 0 where
 -- the scalar of a payload that is no stray
 pub read_scalar_valid : (pairs : TypePairs) (kA kB : ScalarKind) (p : Payload) (v : Scalar) → same_kind pairs (ScalarOf kA) (ScalarOf kB) ≡ true → payload_valid p ≡ true → is_stray (ScalarOf kB) p ≡ false → elem kA p ≡ Some v → scalar_valid kA v ≡ true
 read_scalar_valid pairs kA kB p v h ok stays e = read_valid kA p v ok (sym (stray_alike pairs (ScalarOf kA) (ScalarOf kB) p h) ∙ stays) e
+
+-- ONE FIELD
+
+-- payloads of a field are allowed, leave no stray, and are read as others
+pub record FieldReads (k : ℕ) (a : AllowsInside) (j : MeansInside) (c : FieldForm) (t : ValueType) (ps qs : List Payload) : Type 0 where
+  pub strays : flat_map (stray_payloads c t) ps ≡ []
+  pub value : field_value j c t (flat_map (value_payloads c t) ps) ≡ field_value j c t qs
+  pub allowed : list_all (field_allowed k a c t) ps ≡ true
+
+-- if they have a spelling; and they have one if they are short
+pub record FieldAgain (k : ℕ) (a : AllowsInside) (j : MeansInside) (c : FieldForm) (t : ValueType) (ps qs : List Payload) : Type 0 where
+  pub sound : SoundPayloads ps
+  pub read : list_all payload_valid ps ≡ true → FieldReads k a j c t ps qs
+
+-- no payloads, where nothing was read
+pub nothing_again : (k : ℕ) (a : AllowsInside) (j : MeansInside) (c : FieldForm) (t : ValueType) (qs : List Payload) → field_value j c t qs ≡ None → FieldAgain k a j c t [] qs
+nothing_again k a j c t qs e = record { sound = tt; read = λ spelt. record { strays = refl; value = field_nothing j c t ∙ sym e; allowed = refl } }
