@@ -65,7 +65,7 @@ pub scalar_again : (pairs : TypePairs) (a : AllowsInside) (j : MeansInside) (kA 
     Again a j (ScalarOf kA) (ScalarOf kB) (ScalarValue v) (ScalarValue v)
 scalar_again pairs a j kA kB v h ok = record { sound = scalar_sound (ScalarOf kA) v ok; read = λ spelt. scalar_reads pairs a j kA kB v h ok }
 
-body_back : (rs : List Record) → valid (body_of rs) ≡ true → body (Flat (Len (spelled rs))) ≡ Some rs
+pub body_back : (rs : List Record) → valid (body_of rs) ≡ true → body (Flat (Len (spelled rs))) ≡ Some rs
 body_back rs h = ap (λ (o : Option Records). o >>= λ rs. Some (items rs)) (spelled_read (body_of rs) (short_body (body_of rs)) (short_spells (body_of rs) h)) ∙ ap Some (items_body rs)
 
 pub message_again : (pairs : TypePairs) (k : ℕ) (i : MeansInside) (a : AllowsInside) (j : MeansInside) (A B : ℕ) (rs : List Record) → Carries pairs k i a j → holds pairs A B ≡ true → valid (body_of rs) ≡ true → a B rs ≡ true →
