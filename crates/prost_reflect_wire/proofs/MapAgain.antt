@@ -1,144 +1,119 @@
 -- A map, carried through a reduction.
-use Rattle.std.proofs.Common.{◌≡◌, ℕ, suc, zero, nat_eq, nat_lt, nat_le, eq-eqb, Bool, true, false, cond, not, ◌&&◌, ◌||◌, List, [], ◌∷◌, ◌++◌, map, filter, flat_map, Option, Some, None, refl, ap, ap₂, sym, subst, ◌∙◌, arith, true≢false, append-nil}
+use Rattle.std.proofs.Common.{◌≡◌, ℕ, Bool, true, false, cond, not, ◌&&◌, List, [], ◌∷◌, ◌++◌, filter, flat_map, Option, Some, None, refl, ap, ap₂, sym, subst, ◌∙◌, true≢false}
 use Rattle.std.specs.Bool.{⊤}
-use Rattle.std.specs.Option.{is_some}
 use Rattle.std.specs.List.{list_all}
-use Rattle.std.specs.Str.{is_utf8, chars}
-use Rattle.std.proofs.lemmas.Bool.{eqb-true, ne_eqb}
-use Rattle.std.proofs.lemmas.List.Folds.{list_all-append}
-use Rattle.prost_reflect_wire.specs.Varint.{◌>>=◌}
-use Rattle.prost_reflect_wire.specs.Record.{Len, Var, Fix64, Fix32, Payload, Flat, Group, Record, body_of, spelled, payload_levels, payload_valid, valid}
-use Rattle.prost_reflect_wire.specs.Scalar.{Scalar, ScalarKind, Double, Float, Int64, Uint64, Int32, Fixed64, Fixed32, BoolKind, StringKind, BytesKind, Uint32, Sfixed32, Sfixed64, Sint32, Sint64, Enum, elem, scalar_valid, scalar_eq, kind_default, is_undeclared}
-use Rattle.prost_reflect_wire.specs.Schema.{Kind, ScalarOf, MessageOf, GroupOf, ValueType, FieldForm, MapFrom, Field, is_key_kind, has_kind_default, default_valid, passes}
-use Rattle.prost_reflect_wire.specs.Content.{Content, Value, ScalarValue, MessageValue, ListValue, MapValue, Pairs, NoPairs, Pair}
-use Rattle.prost_reflect_wire.specs.Grammar.{AllowsInside, has_number, numbered, payloads, last, body, records_in, is_stray, is_stray_entry, is_len, one_allowed, in_entry_allowed, has_level, field_allowed, value_payloads, stray_payloads}
-use Rattle.prost_reflect_wire.specs.Meaning.{MeansInside, joined, element, scalar_values, last_or, entry_key, entry_value, put, put_entry, put_entries, present_map, field_value}
-use Rattle.prost_reflect_wire.specs.Writing.{record_at, scalar_payload, is_default_of, entry_record, value_payload, pair_payload, pair_payloads, key_of, field_payloads}
-use Rattle.prost_reflect_wire.specs.Typing.{kind_takes}
-use Rattle.prost_reflect_wire.specs.Reduction.{TypePairs, same_kind, same_default}
+use Rattle.prost_reflect_wire.specs.Record.{Payload, Record, payload_valid}
+use Rattle.prost_reflect_wire.specs.Scalar.{Scalar, scalar_lt, scalar_eq}
+use Rattle.prost_reflect_wire.specs.Schema.{Kind, ValueType, FieldForm, MapFrom, Field, is_key_kind, has_kind_default, default_valid}
+use Rattle.prost_reflect_wire.specs.Content.{Value, MapValue, Pairs, NoPairs, Pair}
+use Rattle.prost_reflect_wire.specs.Grammar.{AllowsInside, records_in, is_stray_entry, has_level, field_allowed, value_payloads, stray_payloads}
+use Rattle.prost_reflect_wire.specs.Meaning.{MeansInside, entry_key, entry_value, put, put_entry, put_entries, present_map, field_value}
+use Rattle.prost_reflect_wire.specs.Writing.{pair_payload, pair_payloads, key_of, field_payloads}
+use Rattle.prost_reflect_wire.specs.Reduction.{TypePairs, same_kind}
 use Rattle.prost_reflect_wire.proofs.Deeper.{and_both, both_true}
-use Rattle.prost_reflect_wire.proofs.Order.{scalars_equal}
-use Rattle.prost_reflect_wire.proofs.Table.{read_back}
-use Rattle.prost_reflect_wire.proofs.Declared.{read_valid}
-use Rattle.prost_reflect_wire.proofs.Values.{records_back}
-use Rattle.prost_reflect_wire.proofs.Spelt.{Sound, SoundPayload, SoundPayloads, sound_append, message_sound}
-use Rattle.prost_reflect_wire.proofs.Valid.{scalar_sound, entry_sound}
-use Rattle.prost_reflect_wire.proofs.Means.{first_valid, behind_valid, body_valid}
-use Rattle.prost_reflect_wire.proofs.Alike.{Alike, alike, SameType, stray_alike}
-use Rattle.prost_reflect_wire.proofs.ByNumber.{record_valid, valid_all, stored_payloads}
-use Rattle.prost_reflect_wire.proofs.Inside.{inside_valid_records, passes_inside, joined_valid, joined_allowed}
-use Rattle.prost_reflect_wire.proofs.Again.{Carries, ReadAs, Again, body_back, scalar_again, message_again, group_again, read_scalar_valid, FieldReads, FieldAgain, nothing_again}
+use Rattle.prost_reflect_wire.proofs.Spelt.{SoundPayloads}
+use Rattle.prost_reflect_wire.proofs.Alike.{SameType}
+use Rattle.prost_reflect_wire.proofs.ByNumber.{stored_payloads}
+use Rattle.prost_reflect_wire.proofs.Again.{Carries, FieldReads, FieldAgain}
+use Rattle.prost_reflect_wire.proofs.EntryAgain.{map_source, Entry, entry_of, key_takes, key_same, value_again, PairReads, PairAgain, pair_again}
 use Rattle.prost_reflect_wire.proofs.Putting.{Rising, put_rising, put_all, put_all_rising}
 
--- PAYLOADS IN AN ENTRY
+-- EACH PAIR
 
--- what each record of an entry passes, the payloads of each number pass
-payloads_pass : (n : ℕ) (test : Record → Bool) (of : Payload → Bool) (rs : List Record) → ((r : Record) → nat_eq r.number n ≡ true → test r ≡ true → of r.payload ≡ true) → list_all test rs ≡ true → list_all of (numbered n rs) ≡ true
-payloads_pass n test of [] h all = refl
-payloads_pass n test of (r ∷ rs) h all =
-    let (one, more) = and_both (test r) (list_all test rs) all in
-    go (nat_eq r.number n) refl one (payloads_pass n test of rs h more)
+-- pairs of the same keys, whose values the older type writes so that the newer one reads them
+abbrev PairsAgain : ℕ → AllowsInside → MeansInside → ValueType → ValueType → ValueType → ValueType → Pairs → Pairs → Type 0
+PairsAgain k a j keyA tA keyB tB NoPairs NoPairs = ⊤
+PairsAgain k a j keyA tA keyB tB (Pair x v ps) (Pair y w qs) = (y ≡ x) × PairAgain k a j keyA tA keyB tB x v w × PairsAgain k a j keyA tA keyB tB ps qs
+PairsAgain k a j keyA tA keyB tB NoPairs (Pair y w qs) = ⊥
+PairsAgain k a j keyA tA keyB tB (Pair x v ps) NoPairs = ⊥
+
+put_again : (k : ℕ) (a : AllowsInside) (j : MeansInside) (keyA tA keyB tB : ValueType) (x : Scalar) (v w : Value) (ps qs : Pairs) → PairAgain k a j keyA tA keyB tB x v w → PairsAgain k a j keyA tA keyB tB ps qs → PairsAgain k a j keyA tA keyB tB (put x v ps) (put x w qs)
+put_again k a j keyA tA keyB tB x v w NoPairs NoPairs one h = (refl, one, tt)
+put_again k a j keyA tA keyB tB x v w NoPairs (Pair m y qs) one h = absurd h
+put_again k a j keyA tA keyB tB x v w (Pair l u ps) NoPairs one h = absurd h
+put_again k a j keyA tA keyB tB x v w (Pair l u ps) (Pair m y qs) one (e, here, rest) =
+    subst (λ m. PairsAgain k a j keyA tA keyB tB (put x v (Pair l u ps)) (put x w (Pair m y qs))) (sym e) (go (scalar_lt x l) (scalar_eq x l) (put_again k a j keyA tA keyB tB x v w ps qs one rest))
   where
-    go : (b : Bool) → nat_eq r.number n ≡ b → test r ≡ true → list_all of (numbered n rs) ≡ true → list_all of (payloads (cond b (r ∷ filter (has_number n) rs) (filter (has_number n) rs))) ≡ true
-    go true e one more = both_true (h r e one) more
-    go false e one more = more
+    go : (b c : Bool) → PairsAgain k a j keyA tA keyB tB (put x v ps) (put x w qs) →
+        PairsAgain k a j keyA tA keyB tB (cond b (Pair x v (Pair l u ps)) (cond c (Pair x v ps) (Pair l u (put x v ps)))) (cond b (Pair x w (Pair l y qs)) (cond c (Pair x w qs) (Pair l y (put x w qs))))
+    go true c more = (refl, one, (refl, here, rest))
+    go false true more = (refl, one, rest)
+    go false false more = (refl, here, more)
 
-key_allowed : (k : ℕ) (a : AllowsInside) (key t : ValueType) (r : Record) → nat_eq r.number 1 ≡ true → in_entry_allowed k a key t r ≡ true → one_allowed a key.kind r.payload ≡ true
-key_allowed k a key t r e h = sym (ap (λ b. cond b (one_allowed a key.kind r.payload) (cond (nat_eq r.number 2) (one_allowed a t.kind r.payload) (nat_le (payload_levels r.payload) k))) e) ∙ h
+-- what is known of a map's types
+pub record MapTypes (pairs : TypePairs) (keyA tA keyB tB : ValueType) : Type 0 where
+  pub key : SameType pairs keyA keyB
+  pub value : SameType pairs tA tB
+  pub keyed : is_key_kind keyA.kind ≡ true
+  pub key_default : has_kind_default keyA ≡ true
+  pub default : default_valid tA.kind tA.default ≡ true
 
-value_allowed : (k : ℕ) (a : AllowsInside) (key t : ValueType) (r : Record) → nat_eq r.number 2 ≡ true → in_entry_allowed k a key t r ≡ true → one_allowed a t.kind r.payload ≡ true
-value_allowed k a key t r e h =
-    sym (ap₂ (λ b c. cond b (one_allowed a key.kind r.payload) (cond c (one_allowed a t.kind r.payload) (nat_le (payload_levels r.payload) k))) (ne_eqb r.number 1 (λ d. two (sym (eqb-true r.number 2 e) ∙ d))) e) ∙ h
-  where
-    two : ◌≡◌ {A = ℕ} 2 1 → ⊥
-    two d = omega (arith, d)
+entries_again : (pairs : TypePairs) (k : ℕ) (i : MeansInside) (a : AllowsInside) (j : MeansInside) (keyA tA keyB tB : ValueType) (qs : List Payload) (ps rs : Pairs) → Carries pairs k i a j → MapTypes pairs keyA tA keyB tB → list_all (map_source k a keyB tB) qs ≡ true →
+    PairsAgain k a j keyA tA keyB tB ps rs → PairsAgain k a j keyA tA keyB tB (put_entries i keyA tA qs ps) (put_entries j keyB tB qs rs)
+entries_again pairs k i a j keyA tA keyB tB [] ps rs c t all h = h
+entries_again pairs k i a j keyA tA keyB tB (q ∷ qs) ps rs c t all h =
+    let (one, more) = and_both (map_source k a keyB tB q) (list_all (map_source k a keyB tB) qs) all in
+    let e : Entry k a keyB tB (records_in q) = entry_of k a keyB tB q one in
+    let v : Value = entry_value i tA tA.kind (records_in q) in
+    let w : Value = entry_value j tB tB.kind (records_in q) in
+    let pair : PairAgain k a j keyA tA keyB tB (entry_key keyA (records_in q)) (entry_value i tA tA.kind (records_in q)) (entry_value j tB tB.kind (records_in q)) =
+        pair_again pairs k a j keyA tA keyB tB (entry_key keyA (records_in q)) v w t.key t.keyed t.key_default (key_takes keyA (records_in q) t.keyed e.keys_valid) e.level
+        (value_again pairs k i a j tA tB tA.kind tB.kind (records_in q) c t.value.kind t.value.default t.default e.values_valid e.values_allowed e.stays e.level) in
+    entries_again pairs k i a j keyA tA keyB tB qs (put_entry i keyA tA q ps) (put_entry j keyB tB q rs) c t more
+    (subst (λ (x : Scalar). PairsAgain k a j keyA tA keyB tB (put_entry i keyA tA q ps) (put x w rs)) (sym (key_same pairs keyA keyB (records_in q) t.key t.keyed))
+    (put_again k a j keyA tA keyB tB (entry_key keyA (records_in q)) v w ps rs pair h))
 
-last_passes : {A : Type 0} (test : A → Bool) (x : A) (xs : List A) → list_all test xs ≡ true → last xs ≡ Some x → test x ≡ true
-last_passes test x [] h e = cc
-last_passes test x (y ∷ []) h e = ap test (ap (λ o. elim o [ None ↦ x | Some z ↦ z ]) (sym e)) ∙ (and_both (test y) true h).0
-last_passes test x (y ∷ z ∷ xs) h e = last_passes test x (z ∷ xs) (and_both (test y) (list_all test (z ∷ xs)) h).1 e
+entries_rising : (inner : MeansInside) (key t : ValueType) (qs : List Payload) (ps : Pairs) → Rising ps → Rising (put_entries inner key t qs ps)
+entries_rising inner key t [] ps r = r
+entries_rising inner key t (q ∷ qs) ps r = entries_rising inner key t qs (put_entry inner key t q ps) (put_rising (entry_key key (records_in q)) (entry_value inner t t.kind (records_in q)) ps r)
 
--- an entry's payload
-abbrev pub map_source : ℕ → AllowsInside → ValueType → ValueType → Payload → Bool
-map_source k a key t q = payload_valid q && (field_allowed k a (MapFrom key) t q && not (is_stray_entry t q))
+-- WHAT IS WRITTEN OF THEM
 
--- what is known of the records of an entry
-record Entry (k : ℕ) (a : AllowsInside) (key t : ValueType) (rs : List Record) : Type 0 where
-  keys_valid : list_all payload_valid (numbered 1 rs) ≡ true
-  values_valid : list_all payload_valid (numbered 2 rs) ≡ true
-  values_allowed : list_all (one_allowed a t.kind) (numbered 2 rs) ≡ true
-  stays : (elim (last (numbered 2 rs)) [ None ↦ false | Some q ↦ is_stray t.kind q ]) ≡ false
-  level : has_level k t.kind ≡ true
+pairs_sound : (k : ℕ) (a : AllowsInside) (j : MeansInside) (keyA tA keyB tB : ValueType) (ps qs : Pairs) → PairsAgain k a j keyA tA keyB tB ps qs → SoundPayloads (pair_payloads keyA tA ps)
+pairs_sound k a j keyA tA keyB tB NoPairs qs h = tt
+pairs_sound k a j keyA tA keyB tB (Pair x v ps) (Pair y w qs) (e, one, more) = (one.sound, pairs_sound k a j keyA tA keyB tB ps qs more)
+pairs_sound k a j keyA tA keyB tB (Pair x v ps) NoPairs h = absurd h
 
-not_true : (b : Bool) → not b ≡ true → b ≡ false
-not_true false h = refl
-not_true true h = absurd (true≢false (sym h))
+record PairsRead (k : ℕ) (a : AllowsInside) (j : MeansInside) (key t : ValueType) (ps : List Payload) (qs : Pairs) : Type 0 where
+  strays : flat_map (stray_payloads (MapFrom key) t) ps ≡ []
+  values : flat_map (value_payloads (MapFrom key) t) ps ≡ ps
+  puts : (front : Pairs) → put_entries j key t ps front ≡ put_all qs front
+  allowed : list_all (field_allowed k a (MapFrom key) t) ps ≡ true
 
-entry_of : (k : ℕ) (a : AllowsInside) (key t : ValueType) (q : Payload) → map_source k a key t q ≡ true → Entry k a key t (records_in q)
-entry_of k a key t q h =
-    let (ok, rest) = and_both (payload_valid q) (field_allowed k a (MapFrom key) t q && not (is_stray_entry t q)) h in
-    let (allowed, stays) = and_both (field_allowed k a (MapFrom key) t q) (not (is_stray_entry t q)) rest in
-    let (shape, inside) = and_both (is_len q && has_level k t.kind) (passes (body q) (list_all (in_entry_allowed k a key t))) allowed in
-    let each : list_all (in_entry_allowed k a key t) (records_in q) ≡ true = passes_inside q (list_all (in_entry_allowed k a key t)) inside in
-    let spelt : list_all record_valid (records_in q) ≡ true = sym (valid_all (records_in q)) ∙ inside_valid_records q ok in
+pairs_read : (k : ℕ) (a : AllowsInside) (j : MeansInside) (keyA tA keyB tB : ValueType) (ps qs : Pairs) → PairsAgain k a j keyA tA keyB tB ps qs → list_all payload_valid (pair_payloads keyA tA ps) ≡ true → PairsRead k a j keyB tB (pair_payloads keyA tA ps) qs
+pairs_read k a j keyA tA keyB tB NoPairs NoPairs h spelt = record { strays = refl; values = refl; puts = λ front. refl; allowed = refl }
+pairs_read k a j keyA tA keyB tB NoPairs (Pair y w qs) h spelt = absurd h
+pairs_read k a j keyA tA keyB tB (Pair x v ps) NoPairs h spelt = absurd h
+pairs_read k a j keyA tA keyB tB (Pair x v ps) (Pair y w qs) (e, one, more) spelt =
+    let p : Payload = pair_payload keyA tA x v in
+    let (here, behind) = and_both (payload_valid (pair_payload keyA tA x v)) (list_all payload_valid (pair_payloads keyA tA ps)) spelt in
+    let r : PairReads k a j keyB tB (pair_payload keyA tA x v) x w = one.read here in
+    let rest : PairsRead k a j keyB tB (pair_payloads keyA tA ps) qs = pairs_read k a j keyA tA keyB tB ps qs more behind in
     record {
-      keys_valid = payloads_pass 1 record_valid payload_valid (records_in q) (λ r e v. (and_both _ (payload_valid r.payload) v).1) spelt;
-      values_valid = payloads_pass 2 record_valid payload_valid (records_in q) (λ r e v. (and_both _ (payload_valid r.payload) v).1) spelt;
-      values_allowed = payloads_pass 2 (in_entry_allowed k a key t) (one_allowed a t.kind) (records_in q) (value_allowed k a key t) each;
-      stays = not_true (is_stray_entry t q) stays;
-      level = (and_both (is_len q) (has_level k t.kind) shape).1;
+      strays = ap₂ ◌++◌ (ap (λ b. cond b (p ∷ []) []) r.stays) rest.strays;
+      values = ap₂ ◌++◌ (ap (λ b. cond (not b) (p ∷ []) []) r.stays) rest.values;
+      puts = λ front. ap (put_entries j keyB tB (pair_payloads keyA tA ps)) (ap₂ (λ l u. put l u front) (r.key_read ∙ sym e) r.value_read) ∙ rest.puts (put y w front);
+      allowed = both_true r.allowed rest.allowed;
     }
 
--- KEYS
+map_stored : (f : Field) (key : ValueType) (ps : Pairs) → f.form ≡ MapFrom key → stored_payloads (Some f) (present_map ps) ≡ pair_payloads key f.value_type ps
+map_stored f key NoPairs e = refl
+map_stored f key (Pair x v ps) e = ap (λ c. pair_payloads (key_of c f.value_type) f.value_type (Pair x v ps)) e
 
--- kinds of keys have valid defaults, and no strays
-default_valid_key : (kind : ScalarKind) → is_key_kind (ScalarOf kind) ≡ true → scalar_valid kind (kind_default kind) ≡ true
-unfolding is_utf8 chars
-default_valid_key Double h = absurd (true≢false (sym h))
-default_valid_key Float h = absurd (true≢false (sym h))
-default_valid_key BytesKind h = absurd (true≢false (sym h))
-default_valid_key (Enum first numbers) h = absurd (true≢false (sym h))
-default_valid_key StringKind h = refl
-default_valid_key _ h = refl
-
-key_stays : (kind : ScalarKind) (p : Payload) → is_key_kind (ScalarOf kind) ≡ true → is_undeclared kind p ≡ false
-key_stays (Enum first numbers) p h = absurd (true≢false (sym h))
-key_stays _ p h = refl
-
-last_or_valid : (kind : ScalarKind) (v : Scalar) (ps : List Payload) → scalar_valid kind v ≡ true → list_all payload_valid ps ≡ true → ((p : Payload) → last ps ≡ Some p → is_undeclared kind p ≡ false) → scalar_valid kind (last_or kind v ps) ≡ true
-last_or_valid kind v ps ok spelt stays = go (last ps) refl
-  where
-    by : (p : Payload) → last ps ≡ Some p → (o : Option Scalar) → elem kind p ≡ o → scalar_valid kind (elim o [ None ↦ v | Some w ↦ w ]) ≡ true
-    by p e None d = ok
-    by p e (Some w) d = read_valid kind p w (last_passes payload_valid p ps spelt e) (stays p e) d
-
-    go : (o : Option Payload) → last ps ≡ o → scalar_valid kind (elim (o >>= elem kind) [ None ↦ v | Some w ↦ w ]) ≡ true
-    go None e = ok
-    go (Some p) e = by p e (elem kind p) refl
-
-last_or_same : (pairs : TypePairs) (kA kB : ScalarKind) (v w : Scalar) (ps : List Payload) → same_kind pairs (ScalarOf kA) (ScalarOf kB) ≡ true → w ≡ v → last_or kB w ps ≡ last_or kA v ps
-last_or_same pairs kA kB v w ps h e = go (last ps)
-  where
-    go : (o : Option Payload) → ◌≡◌ {A = Scalar} (elim (o >>= elem kB) [ None ↦ w | Some x ↦ x ]) (elim (o >>= elem kA) [ None ↦ v | Some x ↦ x ])
-    go None = e
-    go (Some p) = ap₂ (λ (o : Option Scalar) d. elim o [ None ↦ d | Some x ↦ x ]) ((alike kA kB h).reads p) e
-
--- the key that both types read of records
-key_takes : (key : ValueType) (rs : List Record) → is_key_kind key.kind ≡ true → list_all payload_valid (numbered 1 rs) ≡ true → kind_takes key.kind (entry_key key rs) ≡ true
-key_takes key rs h spelt = go key.kind h
-  where
-    go : (kind : Kind) → is_key_kind kind ≡ true → kind_takes kind (elim kind [ ScalarOf kind ↦ last_or kind (kind_default kind) (numbered 1 rs) | _ ↦ key.default ]) ≡ true
-    go (ScalarOf kind) h = last_or_valid kind (kind_default kind) (numbered 1 rs) (default_valid_key kind h) spelt (λ p e. key_stays kind p h)
-    go (MessageOf T) h = absurd (true≢false (sym h))
-    go (GroupOf T) h = absurd (true≢false (sym h))
-
-key_same : (pairs : TypePairs) (keyA keyB : ValueType) (rs : List Record) → SameType pairs keyA keyB → is_key_kind keyA.kind ≡ true → entry_key keyB rs ≡ entry_key keyA rs
-key_same pairs keyA keyB rs same h = go keyA.kind keyB.kind same.kind h
-  where
-    go : (kA kB : Kind) → same_kind pairs kA kB ≡ true → is_key_kind kA ≡ true →
-        ◌≡◌ {A = Scalar} (elim kB [ ScalarOf kind ↦ last_or kind (kind_default kind) (numbered 1 rs) | _ ↦ keyB.default ]) (elim kA [ ScalarOf kind ↦ last_or kind (kind_default kind) (numbered 1 rs) | _ ↦ keyA.default ])
-    go (ScalarOf kA) (ScalarOf kB) e h = last_or_same pairs kA kB (kind_default kA) (kind_default kB) (numbered 1 rs) e (alike kA kB e).default
-    go (ScalarOf kA) (MessageOf B) e h = absurd (true≢false (sym e))
-    go (ScalarOf kA) (GroupOf B) e h = absurd (true≢false (sym e))
-    go (MessageOf A) kB e h = absurd (true≢false (sym h))
-    go (GroupOf A) kB e h = absurd (true≢false (sym h))
+-- the map field
+pub map_again : (pairs : TypePairs) (k : ℕ) (i : MeansInside) (a : AllowsInside) (j : MeansInside) (f : Field) (keyA keyB tB : ValueType) (qs : List Payload) → Carries pairs k i a j → f.form ≡ MapFrom keyA → MapTypes pairs keyA f.value_type keyB tB →
+    list_all (map_source k a keyB tB) qs ≡ true → FieldAgain k a j (MapFrom keyB) tB (stored_payloads (Some f) (present_map (put_entries i keyA f.value_type qs NoPairs))) qs
+map_again pairs k i a j f keyA keyB tB qs c form t all =
+    let ps : Pairs = put_entries i keyA f.value_type qs NoPairs in
+    let rs : Pairs = put_entries j keyB tB qs NoPairs in
+    let h : PairsAgain k a j keyA f.value_type keyB tB (put_entries i keyA f.value_type qs NoPairs) (put_entries j keyB tB qs NoPairs) = entries_again pairs k i a j keyA f.value_type keyB tB qs NoPairs NoPairs c t all tt in
+    subst (λ (l : List Payload). FieldAgain k a j (MapFrom keyB) tB l qs) (sym (map_stored f keyA ps form)) (record {
+      sound = pairs_sound k a j keyA f.value_type keyB tB ps rs h;
+      read = λ spelt.
+          let r : PairsRead k a j keyB tB (pair_payloads keyA f.value_type (put_entries i keyA f.value_type qs NoPairs)) (put_entries j keyB tB qs NoPairs) = pairs_read k a j keyA f.value_type keyB tB ps rs h spelt in
+          record {
+            strays = r.strays;
+            value = ap (λ l. present_map (put_entries j keyB tB l NoPairs)) r.values ∙ ap present_map (r.puts NoPairs ∙ put_all_rising rs (entries_rising j keyB tB qs NoPairs tt));
+            allowed = r.allowed;
+          };
+    })
