@@ -15,6 +15,14 @@ known_valid schema T h = go schema T h
     go (m ∷ types) zero h = (and_both (numbers_differ m.known) (list_all (field_valid schema) m.known) (and_both (numbers_differ m.known && list_all (field_valid schema) m.known) (list_all (λ (m : MessageType). numbers_differ m.known && list_all (field_valid schema) m.known) types) h).0).1
     go (m ∷ types) (suc T) h = go types T (and_both (numbers_differ m.known && list_all (field_valid schema) m.known) (list_all (λ (m : MessageType). numbers_differ m.known && list_all (field_valid schema) m.known) types) h).1
 
+pub known_differ : (schema : Schema) (T : ℕ) → schema_valid schema ≡ true → numbers_differ (known schema T) ≡ true
+known_differ schema T h = go schema T h
+  where
+    go : (types : List MessageType) (T : ℕ) → list_all (λ (m : MessageType). numbers_differ m.known && list_all (field_valid schema) m.known) types ≡ true → numbers_differ (known types T) ≡ true
+    go [] T h = refl
+    go (m ∷ types) zero h = (and_both (numbers_differ m.known) (list_all (field_valid schema) m.known) (and_both (numbers_differ m.known && list_all (field_valid schema) m.known) (list_all (λ (m : MessageType). numbers_differ m.known && list_all (field_valid schema) m.known) types) h).0).0
+    go (m ∷ types) (suc T) h = go types T (and_both (numbers_differ m.known && list_all (field_valid schema) m.known) (list_all (λ (m : MessageType). numbers_differ m.known && list_all (field_valid schema) m.known) types) h).1
+
 pub found_valid : (schema : Schema) (fields : List Field) (n : ℕ) (f : Field) → list_all (field_valid schema) fields ≡ true → field_of fields n ≡ Some f → field_valid schema f ≡ true
 found_valid schema [] n f h e = cc
 found_valid schema (g ∷ fields) n f h e = go (nat_eq g.number n) (and_both (field_valid schema g) (list_all (field_valid schema) fields) h) e (found_valid schema fields n f)

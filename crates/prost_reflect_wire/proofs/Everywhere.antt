@@ -56,3 +56,44 @@ mutual
       let (l, l') = and_both (value_passes a v) (pairs_pass a ps) h in
       let (m, m') = and_both (value_passes b v) (pairs_pass b ps) k in
       both_true (value_both a b v l m) (pairs_both a b ps l' m')
+
+-- and each of them
+mutual
+  pub both_parts : (a b : EntryTest) (c : Content) → everywhere (both_tests a b) c ≡ true → (everywhere a c ≡ true) × (everywhere b c ≡ true)
+  both_parts a b (ContentOf schema T es) h = entries_parts a b (known schema T) es h
+
+  entries_parts : (a b : EntryTest) (fields : List Field) (es : Entries) → entries_pass (both_tests a b) fields es ≡ true → (entries_pass a fields es ≡ true) × (entries_pass b fields es ≡ true)
+  entries_parts a b fields NoEntries h = (refl, refl)
+  entries_parts a b fields (Stored n v es) h =
+      let x = stored_passes (both_tests a b) fields n v es h in
+      let (here, here') = and_both (a.stored fields n v es) (b.stored fields n v es) x.here in
+      let (inside, inside') = value_parts a b v x.inside in
+      let (behind, behind') = entries_parts a b fields es x.behind in
+      (both_true (both_true here inside) behind, both_true (both_true here' inside') behind')
+  entries_parts a b fields (Unknown n p es) h =
+      let (here, behind) = and_both (a.unknown fields n p && b.unknown fields n p) (entries_pass (both_tests a b) fields es) h in
+      let (one, two) = and_both (a.unknown fields n p) (b.unknown fields n p) here in
+      let (rest, rest') = entries_parts a b fields es behind in
+      (both_true one rest, both_true two rest')
+
+  pub value_parts : (a b : EntryTest) (v : Value) → value_passes (both_tests a b) v ≡ true → (value_passes a v ≡ true) × (value_passes b v ≡ true)
+  value_parts a b (ScalarValue v) h = (refl, refl)
+  value_parts a b (MessageValue c) h = both_parts a b c h
+  value_parts a b (ListValue vs) h = values_parts a b vs h
+  value_parts a b (MapValue ps) h = pairs_parts a b ps h
+
+  values_parts : (a b : EntryTest) (vs : Values) → values_pass (both_tests a b) vs ≡ true → (values_pass a vs ≡ true) × (values_pass b vs ≡ true)
+  values_parts a b NoValues h = (refl, refl)
+  values_parts a b (Item v vs) h =
+      let (one, more) = and_both (value_passes (both_tests a b) v) (values_pass (both_tests a b) vs) h in
+      let (x, y) = value_parts a b v one in
+      let (x', y') = values_parts a b vs more in
+      (both_true x x', both_true y y')
+
+  pairs_parts : (a b : EntryTest) (ps : Pairs) → pairs_pass (both_tests a b) ps ≡ true → (pairs_pass a ps ≡ true) × (pairs_pass b ps ≡ true)
+  pairs_parts a b NoPairs h = (refl, refl)
+  pairs_parts a b (Pair k v ps) h =
+      let (one, more) = and_both (value_passes (both_tests a b) v) (pairs_pass (both_tests a b) ps) h in
+      let (x, y) = value_parts a b v one in
+      let (x', y') = pairs_parts a b ps more in
+      (both_true x x', both_true y y')

@@ -195,6 +195,8 @@ valid_if (r ∷ rs) (one, more) l = go r.payload one.payload.sound (valid_if rs 
 
 -- a message's payload
 pub message_sound : (rs : List Record) → Sound rs → SoundPayload (Flat (Len (spelled rs)))
-message_sound rs s = record { sound = λ l.
-    let small : length (spelled rs) < 2 ^ 64 = shorter (spelled rs) l in
-    both_true (lt-ltb (length (spelled rs)) (2 ^ 64) small) (body_bytes (body_of rs) (valid_if rs s small)) }
+message_sound rs s = record {
+  sound = λ l.
+      let small : length (spelled rs) < 2 ^ 64 = shorter (spelled rs) l in
+      both_true (lt-ltb (length (spelled rs)) (2 ^ 64) small) (body_bytes (body_of rs) (valid_if rs s small));
+}

@@ -9,8 +9,8 @@ use Rattle.prost_reflect_wire.specs.Grammar.{LEVEL_LIMIT, Accepts, accepts, allo
 use Rattle.prost_reflect_wire.specs.Meaning.{MeansInside, element, entry_key, entry_value, field_value, meaning, decoded, steps}
 use Rattle.prost_reflect_wire.specs.Writing.{is_default_of, value_payload, pair_payload, record_at, field_payloads, records, encoded}
 use Rattle.prost_reflect_wire.specs.Levels.{levels}
-use Rattle.prost_reflect_wire.specs.Typing.{WellTyped, is_of_type, is_whole_stray, has_value_of, elements_valid}
-use Rattle.prost_reflect_wire.specs.Edit.{merged}
+use Rattle.prost_reflect_wire.specs.Typing.{kept, WellStored, WellTyped, is_of_type, is_whole_stray, has_value_of, elements_valid}
+use Rattle.prost_reflect_wire.specs.Edit.{merged, set_at, PathTo}
 
 -- READING
 
@@ -62,6 +62,20 @@ AllowedFurther = (schema : Schema) (k T : ℕ) (rs : List Record) → allows sch
 -- Numbers and keys ascend in what is read.
 abbrev pub MeaningOrdered : Type 0
 MeaningOrdered = (schema : Schema) (k T : ℕ) (rs : List Record) → ordered (meaning schema k T rs) ≡ true
+
+-- CONTENTS OF WHAT IS STORED
+
+-- What is kept of what a well-typed message stores is well-typed.
+abbrev pub KeptWell : Type 0
+KeptWell = (c : Content) → WellStored c → WellTyped (kept c)
+
+-- Of a well-typed content all is kept.
+abbrev pub KeptContent : Type 0
+KeptContent = (c : Content) → WellTyped c → kept c ≡ c
+
+-- A set at a path keeps a content well-typed.
+abbrev pub SetWell : Type 0
+SetWell = (path : List ℕ) (v : Value) (c : Content) → schema_valid (schema_of c) ≡ true → WellTyped c → PathTo (schema_of c) (type_of c) path v → WellTyped (set_at path v c)
 
 -- WRITING
 
@@ -177,6 +191,6 @@ PiecesJoin = (schema : Schema) (k m T : ℕ) (front behind : List Record) → al
 abbrev pub ReadIsValid : Type 0
 ReadIsValid = (kind : ScalarKind) (p : Payload) (v : Scalar) → payload_valid p ≡ true → is_undeclared kind p ≡ false → elem kind p ≡ Some v → scalar_valid kind v ≡ true
 
--- Contents of one type are written equally only if they are equal.
+-- Contents of one type are written equally only if they are equal. This is said of well-typed contents of a checked schema whose bytes have a length: at most one member of a oneof, and no default that says nothing.
 abbrev pub Canonicity : Type 0
 Canonicity = (c d : Content) → Writable c → Writable d → schema_of c ≡ schema_of d → type_of c ≡ type_of d → encoded c ≡ encoded d → c ≡ d

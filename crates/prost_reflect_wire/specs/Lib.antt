@@ -18,3 +18,4 @@ pub mod Passage
 pub mod ExampleSchemas
 pub mod ExampleRows
 pub mod ExampleFaults
+pub mod Examples

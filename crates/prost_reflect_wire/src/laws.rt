@@ -1,8 +1,18 @@
 //! What is proved of the definitions: each function has no body, and its contract is a law.
 
-ghost use Rattle.prost_reflect_wire.specs.ExampleRows.{WorkedRows};
-ghost use Rattle.prost_reflect_wire.specs.ExampleFaults.{WorkedFaults};
-ghost use Rattle.prost_reflect_wire.specs.Laws.{OneReading, ReadIsSpells, WrittenSpells, AcceptsIsTest, MeaningBySteps, Commute, SameBehind, LevelsFree, AllowedFurther, WrittenIsRead, EntriesMean, ScalarBack, MessageBack, ListBack, PackedBack, MapBack, RecordsMean, EncodedSpells, Canonicity, RecordsAllowed, RoundTrip, MergedMeans, PiecesJoin, ReadIsValid, MeaningOrdered, StrayBack};
+ghost use Rattle.prost_reflect_wire.specs.Examples.Numbers.{Varints, Zigzag, Kinds, KindRanges, PlainFields};
+ghost use Rattle.prost_reflect_wire.specs.Examples.Records.{Records, Unreadable, RawLevels};
+ghost use Rattle.prost_reflect_wire.specs.Examples.Fields.{Scalars, Texts, Messages, Oneofs, Extensions};
+ghost use Rattle.prost_reflect_wire.specs.Examples.Lists.{Lists};
+ghost use Rattle.prost_reflect_wire.specs.Examples.Maps.{Maps};
+ghost use Rattle.prost_reflect_wire.specs.Examples.Levels.{Levels, ContentLevels};
+ghost use Rattle.prost_reflect_wire.specs.Examples.Unknown.{UnknownRecords};
+ghost use Rattle.prost_reflect_wire.specs.Examples.ClosedEnums.{Strays, StrayContents};
+ghost use Rattle.prost_reflect_wire.specs.Examples.Contents.{Schemas, Validity, Encodable, WellTypedContents, Kept};
+ghost use Rattle.prost_reflect_wire.specs.Examples.Editing.{Merging, OneNumber, Access, Paths};
+ghost use Rattle.prost_reflect_wire.specs.Examples.Reductions.{Reductions, NoReductions, Passing};
+ghost use Rattle.prost_reflect_wire.specs.Examples.Faults.{Faults};
+ghost use Rattle.prost_reflect_wire.specs.Laws.{OneReading, ReadIsSpells, WrittenSpells, AcceptsIsTest, MeaningBySteps, Commute, SameBehind, LevelsFree, AllowedFurther, WrittenIsRead, EntriesMean, ScalarBack, MessageBack, ListBack, PackedBack, MapBack, RecordsMean, EncodedSpells, Canonicity, RecordsAllowed, RoundTrip, MergedMeans, PiecesJoin, ReadIsValid, MeaningOrdered, StrayBack, KeptWell, KeptContent, SetWell};
 
 /// Bytes spell at most one list of records.
 pub fn one_reading()
@@ -22,11 +32,6 @@ pub fn written_spells()
 /// Acceptance, as a relation and as a test.
 pub fn accepts_is_test()
     ensures { AcceptsIsTest }
-{}
-
-/// The worked examples hold.
-pub fn worked_rows()
-    ensures { WorkedRows }
 {}
 
 /// Records may be read one behind another.
@@ -57,11 +62,6 @@ pub fn written_is_read()
 /// Where the records of each value are read as it, those of the content mean it.
 pub fn entries_mean()
     ensures { EntriesMean }
-{}
-
-/// The worked examples of faults hold.
-pub fn worked_faults()
-    ensures { WorkedFaults }
 {}
 
 /// The record of a scalar is read as it.
@@ -142,4 +142,100 @@ pub fn read_valid()
 /// Numbers and keys ascend in what is read.
 pub fn meaning_ordered()
     ensures { MeaningOrdered }
+{}
+
+/// What is kept of what a well-typed message stores is well-typed.
+pub fn kept_well()
+    ensures { KeptWell }
+{}
+
+/// Of a well-typed content all is kept.
+pub fn kept_content()
+    ensures { KeptContent }
+{}
+
+/// A set at a path keeps a content well-typed.
+pub fn set_well()
+    ensures { SetWell }
+{}
+
+/// The worked examples of varints, zigzag and the payloads of kinds hold.
+pub fn worked_numbers()
+    ensures varints { Varints }
+    ensures zigzag { Zigzag }
+    ensures kinds { Kinds }
+    ensures kind_ranges { KindRanges }
+    ensures plain_fields { PlainFields }
+{}
+
+/// The worked examples of records without a type hold.
+pub fn worked_records()
+    ensures records { Records }
+    ensures unreadable { Unreadable }
+    ensures raw_levels { RawLevels }
+{}
+
+/// The worked examples of fields of one value hold.
+pub fn worked_fields()
+    ensures scalars { Scalars }
+    ensures texts { Texts }
+    ensures messages { Messages }
+    ensures oneofs { Oneofs }
+    ensures extensions { Extensions }
+{}
+
+/// The worked examples of lists hold.
+pub fn worked_lists()
+    ensures { Lists }
+{}
+
+/// The worked examples of maps hold.
+pub fn worked_maps()
+    ensures { Maps }
+{}
+
+/// The worked examples of levels hold.
+pub fn worked_levels()
+    ensures levels { Levels }
+    ensures content_levels { ContentLevels }
+{}
+
+/// The worked examples of unknown records hold.
+pub fn worked_unknown()
+    ensures { UnknownRecords }
+{}
+
+/// The worked examples of closed enums hold.
+pub fn worked_closed_enums()
+    ensures strays { Strays }
+    ensures stray_contents { StrayContents }
+{}
+
+/// The worked examples of contents that fit and that do not hold.
+pub fn worked_contents()
+    ensures schemas { Schemas }
+    ensures validity { Validity }
+    ensures encodable { Encodable }
+    ensures well_typed_contents { WellTypedContents }
+    ensures kept { Kept }
+{}
+
+/// The worked examples of merging, setting and clearing hold.
+pub fn worked_editing()
+    ensures merging { Merging }
+    ensures one_number { OneNumber }
+    ensures access { Access }
+    ensures paths { Paths }
+{}
+
+/// The worked examples of reductions, and of what passes through them hold.
+pub fn worked_reductions()
+    ensures reductions { Reductions }
+    ensures no_reductions { NoReductions }
+    ensures passing { Passing }
+{}
+
+/// The worked examples of faults hold.
+pub fn worked_faults()
+    ensures { Faults }
 {}

@@ -1,0 +1,7 @@
+-- The worked examples hold.
+pub mod Computed
+pub mod ComputedDeeper
+pub mod ComputedContents
+pub mod ComputedReductions
+pub mod NotReduced
+pub mod Faults
