@@ -37,7 +37,7 @@ inside_valid_records (Flat (Len bytes)) h = go (read bytes) refl
 
     go : (o : Option Records) → read bytes ≡ o → valid (body_of (or_none (o >>= λ rs. Some (items rs)))) ≡ true
     go None e = refl
-    go (Some rs) e = ap valid (body_items rs) ∙ spelled_valid rs bytes (read_spells bytes rs (bytes_are bytes small) e) small
+    go (Some rs) e = ap valid (body_items rs) ∙ spelled_valid rs bytes (bytes_are bytes small) (read_spells bytes rs (bytes_are bytes small) e)
 
 pub append_valid : (xs ys : List Record) → valid (body_of xs) ≡ true → valid (body_of ys) ≡ true → valid (body_of (xs ++ ys)) ≡ true
 append_valid xs ys h k =

@@ -1,11 +1,12 @@
 -- A front of the bytes is at most one key, and none where a fault stands.
-use Rattle.std.proofs.Common.{◌≡◌, ℕ, ◌+◌, ◌*◌, List, Option, Some, sym, ap, ◌∙◌}
+use Rattle.std.proofs.Common.{◌≡◌, ◌≤◌, ◌<◌, ◌^◌, ℕ, ◌+◌, ◌*◌, List, ◌++◌, Option, Some, refl, sym, ap, ◌∙◌, arith}
 use Rattle.prost_reflect_wire.specs.declared.error.DecodeError.{DecodeError}
 use Rattle.prost_reflect_wire.specs.declared.error.DecodeError.TheVariants as errors
 use Rattle.prost_reflect_wire.specs.declared.key.WireType.{WireType}
-use Rattle.prost_reflect_wire.specs.Record.{key_at, wire_code}
+use Rattle.prost_reflect_wire.specs.Record.{key_at, wire_code, short_key}
 use Rattle.prost_reflect_wire.specs.Front.{VarintFront, KeyFront, KeyFault}
-use Rattle.prost_reflect_wire.proofs.Reading.{key_read}
+use Rattle.prost_reflect_wire.proofs.Reading.{key_read, wire_small}
+use Rattle.prost_reflect_wire.proofs.Shortest.{short_varint}
 use Rattle.prost_reflect_wire.proofs.VarintFronts.{varint_once, varint_no_fault}
 
 abbrev Found : Type 0
@@ -29,3 +30,11 @@ key_no_fault errors.Varint n w bytes rest k f = varint_no_fault errors.Varint (8
 key_no_fault errors.Key n w bytes rest k f =
     f.none n w k.key.from_one k.key.below (varint_once f.value (8 * n + wire_code w) bytes f.rest rest f.front (key_varint n w bytes rest k)).0
 key_no_fault e n w bytes rest k f = absurd f
+
+-- The shortest key is a key.
+pub short_key_front : (n : ℕ) (w : WireType) (bytes : List ℕ) → 1 ≤ n → n < 2 ^ 29 → KeyFront n w (short_key n w ++ bytes) bytes
+short_key_front n w bytes some below = record {
+  front = short_key n w;
+  key = record { from_one = omega arith; below = below; varint = short_varint (8 * n + wire_code w) (omega (arith, wire_small w)) };
+  parts = refl;
+}

@@ -8,7 +8,6 @@ use Rattle.prost_reflect_wire.specs.Reduction.{TypePairs, holds, same_form, valu
 use Rattle.prost_reflect_wire.proofs.Deeper.{and_both}
 use Rattle.prost_reflect_wire.proofs.Numbers.{eqb-sym}
 use Rattle.prost_reflect_wire.proofs.Survivors.{field_number, or_false}
-use Rattle.prost_reflect_wire.proofs.NotReduced.{pair_matches}
 use Rattle.prost_reflect_wire.proofs.Alike.{SameType, same_type}
 
 -- FIELDS OF A LIST
@@ -91,6 +90,19 @@ sibling_back fields n m f g ef eg h d =
     same n = eq-eqb n n refl
 
 -- TYPES OF A PAIR
+
+-- two types that are a pair of the set match
+pair_matches : (pairs ps : TypePairs) (older newer : Schema) (A B : ℕ) → holds ps A B ≡ true → list_all (λ p. types_match pairs (message_type older p.0) (message_type newer p.1)) ps ≡ true → types_match pairs (message_type older A) (message_type newer B) ≡ true
+pair_matches pairs [] older newer A B h all = absurd (true≢false (sym h))
+pair_matches pairs (p ∷ ps) older newer A B h all =
+    let (one, more) = and_both (types_match pairs (message_type older p.0) (message_type newer p.1)) (list_all (λ p. types_match pairs (message_type older p.0) (message_type newer p.1)) ps) all in
+    go (nat_eq p.0 A) (nat_eq p.1 B) refl refl h one (λ e. pair_matches pairs ps older newer A B e more)
+  where
+    go : (b c : Bool) → nat_eq p.0 A ≡ b → nat_eq p.1 B ≡ c → ((b && c) || holds ps A B) ≡ true → types_match pairs (message_type older p.0) (message_type newer p.1) ≡ true →
+        (holds ps A B ≡ true → types_match pairs (message_type older A) (message_type newer B) ≡ true) → types_match pairs (message_type older A) (message_type newer B) ≡ true
+    go true true d e h one more = sym (ap₂ (λ a b. types_match pairs (message_type older a) (message_type newer b)) (eqb-true p.0 A d) (eqb-true p.1 B e)) ∙ one
+    go true false d e h one more = more h
+    go false c d e h one more = more h
 
 pub record TypesMatch (pairs : TypePairs) (older newer : List Field) : Type 0 where
   pub each : list_all (has_match pairs older newer) older ≡ true

@@ -84,7 +84,7 @@ step f opened n wire [] tail r = elim r.varint.digits [ ]
 step f opened n wire (b ∷ key) tail r =
     bind_some (λ key. after_key (body_at f) opened key.0 key.1 key.2) (key_read n wire (b ∷ key) tail r)
 
-some_key : {n : ℕ} {w : WireType} (key : List ℕ) → Key n w key → 0 < length key
+pub some_key : {n : ℕ} {w : WireType} (key : List ℕ) → Key n w key → 0 < length key
 some_key [] r = elim r.varint.digits [ ]
 some_key (b ∷ key) r = omega arith
 
@@ -102,7 +102,7 @@ close_same : (n : ℕ) (rest : List ℕ) → close (Some n) n rest ≡ Some (NoR
 close_same n rest = guard_true (NoRecords, rest) (eq-eqb n n refl)
 
 -- the end key of an open group
-closes_group : (n : ℕ) (stop rest : List ℕ) → Key n wires.EndGroup stop → Closes (Some n) (stop ++ rest) rest
+pub closes_group : (n : ℕ) (stop rest : List ℕ) → Key n wires.EndGroup stop → Closes (Some n) (stop ++ rest) rest
 closes_group n stop rest key zero h = absurd (omega arith)
 closes_group n stop rest key (suc f) h = step f (Some n) n wires.EndGroup stop rest key ∙ close_same n rest
 

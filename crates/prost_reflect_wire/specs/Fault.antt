@@ -9,7 +9,7 @@ use Rattle.prost_reflect_wire.specs.declared.key.WireType.{WireType}
 use Rattle.prost_reflect_wire.specs.declared.key.WireType.TheVariants as wires
 use Rattle.prost_reflect_wire.specs.declared.error.DecodeError.{DecodeError}
 use Rattle.prost_reflect_wire.specs.declared.error.DecodeError.TheVariants as errors
-pub use Rattle.prost_reflect_wire.specs.Front.{KeyFront, PlainFront, DelimitedFront, RecordFront, VarintEnds, VarintPasses, NoKey, PayloadEnds, PayloadPasses}
+pub use Rattle.prost_reflect_wire.specs.Front.{KeyFront, PlainFront, DelimitedFront, RecordFront, VarintEnds, VarintPasses, NoKey, PayloadEnds, PayloadPasses, PlainFault}
 
 -- What is known in a body: a type's numbers, an entry's key and value, or nothing.
 pub data Inside : Type 0 where
@@ -143,21 +143,29 @@ pub data Stands (schema : Schema) : DecodeError → Place → Type 0 where
 abbrev pub StandsInMessage : Schema → ℕ → ℕ → DecodeError → List ℕ → Type 0
 StandsInMessage schema T k e bytes = Stands schema e (record { bytes = bytes; inside = OfType T; levels = k; open_group = None })
 
+-- In the unknown group that a start key of the number opens, with so many levels left before it.
+pub record InsideGroup (e : DecodeError) (n levels : ℕ) (bytes : List ℕ) : Type 0 where
+  pub inner : ℕ
+  pub left : levels ≡ suc inner
+  pub stands : Stands [] e (record { bytes = bytes; inside = OfNothing; levels = inner; open_group = Some n })
+
 -- Where one unknown field is read: no place is behind it, and without a byte the field is cut short.
 abbrev pub FieldPlace : ℕ → List ℕ → Place
-FieldPlace k bytes = record { bytes = bytes; inside = OfNothing; levels = k; open_group = None }
-
-pub record GroupFault (e : DecodeError) (k : ℕ) (bytes : List ℕ) : Type 0 where
-  pub number : ℕ
-  pub inner : ℕ
-  pub rest : List ℕ
-  pub key : KeyFront number wires.StartGroup bytes rest
-  pub left : k ≡ suc inner
-  pub stands : Stands [] e (record { bytes = rest; inside = OfNothing; levels = inner; open_group = Some number })
+FieldPlace levels bytes = record { bytes = bytes; inside = OfNothing; levels = levels; open_group = None }
 
 abbrev pub StandsInField : ℕ → DecodeError → List ℕ → Type 0
-StandsInField k e bytes = Comes [] e (FieldPlace k bytes) ⊎ (((e ≡ errors.Truncated) × (bytes ≡ [])) ⊎ GroupFault e k bytes)
+StandsInField levels e bytes = Comes [] e (FieldPlace levels bytes)
+    ⊎ (((e ≡ errors.Truncated) × (bytes ≡ [])) ⊎ Next (FieldPlace levels bytes) (λ n w rest. (w ≡ wires.StartGroup) × InsideGroup e n levels rest))
 
 -- Where the value behind a key is read: as if the key stood first.
 abbrev pub StandsInValue : ℕ → ℕ → WireType → DecodeError → List ℕ → Type 0
-StandsInValue k n w e bytes = StandsInField k e (short_key n w ++ bytes)
+StandsInValue levels n w e bytes = StandsInField levels e (short_key n w ++ bytes)
+
+-- The same by what comes next behind the key, whichever place the key stands at.
+abbrev pub ValueComes : DecodeError → WireType → ℕ → List ℕ → Type 0
+ValueComes errors.EndGroup w levels bytes = w ≡ wires.EndGroup
+ValueComes errors.Depth w levels bytes = (w ≡ wires.StartGroup) × (levels ≡ 0)
+ValueComes e w levels bytes = PlainFault e w bytes
+
+abbrev pub ValueFault : DecodeError → ℕ → WireType → ℕ → List ℕ → Type 0
+ValueFault e n w levels bytes = ValueComes e w levels bytes ⊎ ((w ≡ wires.StartGroup) × InsideGroup e n levels bytes)

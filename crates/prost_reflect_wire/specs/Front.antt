@@ -63,6 +63,11 @@ pub record ValueFront (n : ℕ) (w : WireType) (levels : ℕ) (p : Payload) (byt
   pub front : PayloadFront n p bytes rest
   pub within : payload_levels p ≤ levels
 
+-- One record of so many levels at most.
+pub record FieldFront (levels : ℕ) (r : Record) (bytes rest : List ℕ) : Type 0 where
+  pub front : RecordFront r bytes rest
+  pub within : payload_levels r.payload ≤ levels
+
 -- BYTES THAT END OR PASS
 
 abbrev pub AreOpen : List ℕ → Type 0

@@ -1,6 +1,7 @@
 pub mod Varint
 pub mod Record
 pub mod Front
+pub mod Buffer
 pub mod Unknown
 pub mod Scalar
 pub mod Schema
@@ -13,9 +14,7 @@ pub mod Typing
 pub mod Reduction
 pub mod Edit
 pub mod Fault
+pub mod FieldLaws
 pub mod Laws
 pub mod Passage
-pub mod ExampleSchemas
-pub mod ExampleRows
-pub mod ExampleFaults
 pub mod Examples

@@ -25,10 +25,13 @@ pub record Record : Type 0 where
   pub number : ℕ
   pub payload : Payload
 
+abbrev pub record_at : ℕ → Payload → Record
+record_at n p = record { number = n; payload = p }
+
 abbrev pub items : Records → List Record
 items NoRecords = []
-items (PlainRecord n p rest) = record { number = n; payload = Flat p } ∷ items rest
-items (GroupRecord n inside rest) = record { number = n; payload = Group inside } ∷ items rest
+items (PlainRecord n p rest) = record_at n (Flat p) ∷ items rest
+items (GroupRecord n inside rest) = record_at n (Group inside) ∷ items rest
 
 abbrev pub before : Record → Records → Records
 before r rest = elim r.payload [ Flat p ↦ PlainRecord r.number p rest | Group inside ↦ GroupRecord r.number inside rest ]
@@ -166,6 +169,11 @@ abbrev pub short_body : Records → List ℕ
 short_body NoRecords = []
 short_body (PlainRecord n p rest) = short_key n (plain_wire p) ++ (short_plain p ++ short_body rest)
 short_body (GroupRecord n inside rest) = short_key n wires.StartGroup ++ (short_body inside ++ (short_key n wires.EndGroup ++ short_body rest))
+
+-- Behind the key of a number.
+abbrev pub short_payload : ℕ → Payload → List ℕ
+short_payload n (Flat p) = short_plain p
+short_payload n (Group inside) = short_body inside ++ short_key n wires.EndGroup
 
 abbrev pub spelled : List Record → List ℕ
 spelled rs = short_body (body_of rs)

@@ -1,12 +1,13 @@
 -- What an unknown field is, without where it lies in memory.
-use Rattle.std.specs.Prelude.{ℕ, List}
+use Rattle.std.specs.Prelude.{ℕ, List, ◌<◌, map}
 use Rattle.prost_reflect_wire.specs.declared.unknown.UnknownField.{UnknownField}
 use Rattle.prost_reflect_wire.specs.declared.unknown.UnknownFieldSet.{UnknownFieldSet}
 use Rattle.prost_reflect_wire.specs.declared.unknown.UnknownFieldValue.{UnknownFieldValue}
 use Rattle.prost_reflect_wire.specs.declared.unknown.UnknownFieldValue.TheOpen.{UnknownFieldValue-F, UnknownField-F, UnknownFieldSet-F, Varint, SixtyFourBit, LengthDelimited, Group, ThirtyTwoBit}
 use Rattle.prost_reflect_wire.specs.declared.unknown.UnknownFieldValue.TheFolds.{fold-UnknownFieldValue, fold-UnknownField, fold-UnknownFieldSet}
 use Rattle.prost_reflect_wire.specs.declared.unknown.UnknownFieldValue.TheViews.{out-UnknownFieldSet}
-use Rattle.prost_reflect_wire.specs.Record.{Payload, Flat, Record, Var, Fix64, Len, Fix32, body_of}
+use Rattle.prost_reflect_wire.specs.Record.{Payload, Flat, Record, record_at, Var, Fix64, Len, Fix32, body_of, raw_levels}
+use Rattle.prost_reflect_wire.specs.Front.{GroupFront}
 use Rattle.prost_reflect_wire.specs.Record as model
 
 -- One step of each type, over what its parts are.
@@ -18,7 +19,7 @@ value_step (Group records) = model.Group (body_of records)
 value_step (ThirtyTwoBit bytes) = Flat (Fix32 bytes)
 
 abbrev pub field_step : UnknownField-F Payload Record (List Record) → Record
-field_step field = record { number = field.number.value; payload = field.value }
+field_step field = record_at field.number.value field.value
 
 abbrev pub set_step : UnknownFieldSet-F Payload Record (List Record) → List Record
 set_step set = set.fields.items
@@ -35,3 +36,12 @@ records_of = fold-UnknownFieldSet Payload Record (List Record) value_step field_
 -- The fields of a set in their order.
 abbrev pub fields_of : UnknownFieldSet → List UnknownField
 fields_of set = (out-UnknownFieldSet set).fields.items
+
+-- The same payloads under one number.
+abbrev pub renumbered : ℕ → List Record → List Record
+renumbered n rs = map (λ r. record_at n r.payload) rs
+
+-- Behind the start key of a group of the number: the records, of fewer levels, and the end key.
+pub record ReadsGroup (n levels : ℕ) (rs : List Record) (bytes rest : List ℕ) : Type 0 where
+  pub front : GroupFront n (body_of rs) bytes rest
+  pub within : raw_levels (body_of rs) < levels

@@ -1,12 +1,12 @@
 //! Keys: field numbers and wire types (the encoding guide, "Message Structure").
 
-ghost use Rattle.std.specs.Prelude.{◌≡◌, ◌≤◌, ◌<◌, ◌^◌, ℕ, List, IfOk, IfErr, IsOkAnd};
-ghost use Rattle.prost_reflect_wire.specs.Record.{wire_code};
+ghost use Rattle.std.specs.Prelude.{◌≡◌, ◌≤◌, ◌<◌, ◌^◌, ℕ, List, length, IfOk, IfErr, IsOkAnd};
+ghost use Rattle.prost_reflect_wire.specs.Record.{wire_code, short_key};
 ghost use Rattle.prost_reflect_wire.specs.Front.{KeyFront, KeyFault};
 ghost use Rattle.prost_reflect_wire.specs.declared.key.WireType.{WireType as Wire};
 
 use crate::error::DecodeError;
-use crate::varint::decode_varint;
+use crate::varint::{decode_varint, varint_len};
 
 /// What kind of payload stands behind a key (the encoding guide, "Message Structure").
 #[derive(Clone, Copy, Debug, PartialEq, Eq)]
@@ -102,4 +102,12 @@ pub fn decode_key(bytes: &[u8]) -> Result<(FieldNumber, WireType, &[u8]), Decode
         return Err(DecodeError::Key);
     }
     Ok((FieldNumber::new(number), wire_type, rest))
+}
+
+/// How many bytes the shortest key of the number and the wire type takes.
+pub fn key_len(number: FieldNumber, wire_type: WireType) -> usize
+    ensures len { result ≡ length (short_key number.value wire_type) }
+    ensures few { result ≤ 10 }
+{
+    varint_len(8 * u64::from(number.get()) + u64::from(wire_type.code()))
 }

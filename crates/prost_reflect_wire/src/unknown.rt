@@ -1,10 +1,24 @@
 //! The fields that no descriptor knows.
 
-ghost use Rattle.std.specs.Prelude.{◌≡◌, ◌++◌, ◌∷◌, [], OnOk, OnErr};
-ghost use Rattle.prost_reflect_wire.specs.Unknown.{record_of, records_of, fields_of};
+ghost use Rattle.std.specs.Prelude.{◌≡◌, ◌≤◌, ◌<◌, ◌^◌, ◌==◌, ◌++◌, ◌∷◌, [], length, map, OnOk, OnErr};
+ghost use Rattle.std.specs.Slice.Iter.{iter_rest, iter_steps};
+ghost use Rattle.std.specs.Vec.Iter.{into_iter_items, into_iter_len, into_iter_steps};
+ghost use Rattle.prost_reflect_wire.specs.Record.{payload_wire};
+ghost use Rattle.prost_reflect_wire.specs.Unknown.{payload_of, record_of, records_of, fields_of};
 
-use crate::key::FieldNumber;
+use crate::key::{FieldNumber, WireType};
 use std::alloc::{AllocError, Global};
+use std::slice::Iter;
+use std::vec::IntoIter;
+
+mod copy;
+mod length;
+mod reading;
+mod writing;
+
+pub use length::{field_len, fields_len};
+pub use reading::{RECURSION_LIMIT, value_at};
+pub use writing::{prepend_field, prepend_fields, prepend_fields_at};
 
 /// A field that its message does not know.
 #[derive(Debug, Drop, PartialEq)]
@@ -18,10 +32,15 @@ pub struct UnknownField {
 #[derive(Debug, Drop, PartialEq)]
 #[cycle(unknown)]
 pub enum UnknownFieldValue {
+    /// A varint's value; its spelling is not kept.
     Varint(u64),
+    /// Eight bytes.
     SixtyFourBit([u8; 8]),
+    /// Bytes that a length counts.
     LengthDelimited(Vec<u8>),
+    /// The records of a group.
     Group(UnknownFieldSet),
+    /// Four bytes.
     ThirtyTwoBit([u8; 4]),
 }
 
@@ -30,6 +49,54 @@ pub enum UnknownFieldValue {
 #[cycle(unknown)]
 pub struct UnknownFieldSet {
     pub(crate) fields: Vec<UnknownField>,
+}
+
+impl UnknownField {
+    /// A field of the number with the value.
+    pub fn new(number: FieldNumber, value: UnknownFieldValue) -> UnknownField
+        ensures number { result.number ≡ number }
+        ensures value { result.value ≡ value }
+    {
+        UnknownField { number, value }
+    }
+
+    /// The number of the field, from 1 to 536870911.
+    pub fn number(&self) -> u32
+        ensures value { result ≡ (record_of self.now).number }
+        ensures some { 1 ≤ result }
+        ensures below { result < 2 ^ 29 }
+    {
+        self.number.get()
+    }
+
+    /// The wire type of the field's key: `StartGroup` for a group.
+    pub fn wire_type(&self) -> WireType
+        ensures { result ≡ payload_wire (record_of self.now).payload }
+    {
+        self.value.wire_type()
+    }
+
+    /// What the field contains.
+    pub fn value(&self) -> &UnknownFieldValue
+        ensures value { result.now ≡ self.now.value }
+        ensures payload { payload_of result.now ≡ (record_of self.now).payload }
+    {
+        &self.value
+    }
+}
+
+impl UnknownFieldValue {
+    pub(crate) fn wire_type(&self) -> WireType
+        ensures { result ≡ payload_wire (payload_of self.now) }
+    {
+        match self {
+            UnknownFieldValue::Varint(_) => WireType::Varint,
+            UnknownFieldValue::SixtyFourBit(_) => WireType::SixtyFourBit,
+            UnknownFieldValue::LengthDelimited(_) => WireType::LengthDelimited,
+            UnknownFieldValue::Group(_) => WireType::StartGroup,
+            UnknownFieldValue::ThirtyTwoBit(_) => WireType::ThirtyTwoBit,
+        }
+    }
 }
 
 impl UnknownFieldSet {
@@ -43,7 +110,33 @@ impl UnknownFieldSet {
         }
     }
 
-    /// Adds a field at the end. A refused growth changes nothing.
+    /// These fields in their order.
+    pub fn from_fields(fields: Vec<UnknownField>) -> UnknownFieldSet
+        ensures fields { fields_of result ≡ fields.items }
+        ensures records { records_of result ≡ map record_of fields.items }
+    {
+        UnknownFieldSet { fields }
+    }
+
+    /// How many fields there are.
+    pub fn len(&self) -> usize
+        ensures { result ≡ length (records_of self.now) }
+    {
+        self.fields.len()
+    }
+
+    /// Whether there are none.
+    pub fn is_empty(&self) -> bool
+        ensures { result ≡ (length (records_of self.now) == 0) }
+    {
+        self.fields.is_empty()
+    }
+
+    /// Adds a field at the end.
+    ///
+    /// # Errors
+    ///
+    /// `AllocError` if the growth is refused; the set stays.
     pub fn insert(&mut self, field: UnknownField) -> Result<(), AllocError>
         ensures fields { OnOk result (fields_of self.new ≡ fields_of self.old ++ field ∷ []) }
         ensures records { OnOk result (records_of self.new ≡ records_of self.old ++ record_of field ∷ []) }
@@ -51,5 +144,24 @@ impl UnknownFieldSet {
     {
         self.fields.push(field)?;
         Ok(())
+    }
+
+    /// The fields in their order.
+    pub fn iter(&self) -> Iter<'_, UnknownField>
+        ensures rest { iter_rest result ≡ fields_of self.now }
+    {
+        self.fields.iter()
+    }
+}
+
+impl IntoIterator for UnknownFieldSet {
+    type Item = UnknownField;
+
+    type IntoIter = IntoIter<UnknownField, Global>;
+
+    ghost into_iter_gives = { λ set fields. into_iter_items fields ≡ fields_of set };
+
+    fn into_iter(self) -> IntoIter<UnknownField, Global> {
+        self.fields.into_iter()
     }
 }

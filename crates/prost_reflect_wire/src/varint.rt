@@ -1,6 +1,7 @@
 //! Varints: numbers below 2^64 in base 128, least digit first (the encoding guide, "Base 128 Varints").
 
-ghost use Rattle.std.specs.Prelude.{◌≡◌, ℕ, List, IfOk, IfErr, IsOkAnd};
+ghost use Rattle.std.specs.Prelude.{◌≡◌, ◌≤◌, ℕ, List, length, IfOk, IfErr, IsOkAnd};
+ghost use Rattle.prost_reflect_wire.specs.Varint.{short};
 ghost use Rattle.prost_reflect_wire.specs.Front.{VarintFront, VarintFault};
 
 use crate::error::DecodeError;
@@ -43,4 +44,18 @@ fn decode_digits(bytes: &[u8]) -> Result<(u64, &[u8]), DecodeError>
         scale *= 0x80;
     }
     Err(DecodeError::Truncated)
+}
+
+/// How many bytes the shortest varint of the value takes, from 1 to 10.
+pub fn varint_len(value: u64) -> usize
+    ensures len { result ≡ length (short value) }
+    ensures few { result ≤ 10 }
+{
+    let mut rest = value;
+    let mut len = 1;
+    while rest >= 0x80 {
+        rest /= 0x80;
+        len += 1;
+    }
+    len
 }

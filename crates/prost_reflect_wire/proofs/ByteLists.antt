@@ -1,0 +1,21 @@
+-- Elements of a list of bytes.
+use Rattle.std.proofs.Common.{◌≡◌, ℕ, suc, true, List, [], ◌∷◌, ◌++◌, get_or, refl, Fits, w8}
+use Rattle.std.proofs.lemmas.Bool.{lt-ltb}
+use Rattle.prost_reflect_wire.specs.Varint.{AreBytes, are_bytes}
+use Rattle.prost_reflect_wire.proofs.Deeper.{both_true}
+
+pub bytes_by_index : (bytes : List ℕ) → ((i : ℕ) → Fits w8 (get_or bytes i 0)) → are_bytes bytes ≡ true
+bytes_by_index [] h = refl
+bytes_by_index (b ∷ bytes) h = both_true (lt-ltb b 256 (let first = h 0 in first.fits)) (bytes_by_index bytes (λ i. h (suc i)))
+
+pub bytes_test : (bytes : List ℕ) → AreBytes bytes → are_bytes bytes ≡ true
+bytes_test [] h = refl
+bytes_test (b ∷ bytes) h = both_true (lt-ltb b 256 h.0) (bytes_test bytes h.1)
+
+pub bytes_front : (front rest : List ℕ) → AreBytes (front ++ rest) → AreBytes front
+bytes_front [] rest h = tt
+bytes_front (b ∷ front) rest h = (h.0, bytes_front front rest h.1)
+
+pub bytes_behind : (front rest : List ℕ) → AreBytes (front ++ rest) → AreBytes rest
+bytes_behind [] rest h = h
+bytes_behind (b ∷ front) rest h = bytes_behind front rest h.1

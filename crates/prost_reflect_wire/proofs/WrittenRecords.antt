@@ -1,0 +1,88 @@
+-- Records are written one in front of another.
+use Rattle.std.proofs.Common.{◌≡◌, ◌<◌, ◌≤◌, ℕ, zero, suc, ◌+◌, ◌-◌, ◌^◌, true, List, [], ◌∷◌, ◌++◌, length, get_or, drop, map, Result, Ok, Err, refl, sym, ap, ◌∙◌, arith, append_assoc, append-nil, length-append, drop-cons, OnOk}
+use Rattle.std.proofs.lemmas.Bool.{eq-eqb, lt-ltb}
+use Rattle.prost_reflect_wire.specs.Varint.{are_bytes}
+use Rattle.prost_reflect_wire.specs.declared.error.EncodeError.{EncodeError}
+use Rattle.prost_reflect_wire.specs.Buffer.{Prepended}
+use Rattle.prost_reflect_wire.specs.Record.{record_at, Record, Payload, Fix64, Len, Fix32, Flat, Group, body_of, payload_wire, short_key, short_payload, spelled, valid, number_valid, payload_valid}
+use Rattle.prost_reflect_wire.specs.Front.{RecordFront}
+use Rattle.prost_reflect_wire.proofs.Shortest.{short_spells}
+use Rattle.prost_reflect_wire.proofs.Deeper.{and_both, both_true}
+
+-- A FRONT BEFORE ANOTHER
+
+abbrev Answer : Type 0
+Answer = Result (Unit {0}) EncodeError
+
+pub prepended_after : (r : Answer) (old mid new a b : List ℕ) → mid ≡ a ++ old → Prepended r mid new b → Prepended r old new (b ++ a)
+prepended_after (Ok u) old mid new a b e p = p ∙ ap (λ (l : List ℕ). b ++ l) e ∙ sym (append_assoc b a old)
+prepended_after (Err d) old mid new a b e p = λ is. omega (arith, p is, ap length e, length-append a old, length-append b a)
+
+-- RECORDS
+
+pub spelled_first : (n : ℕ) (p : Payload) (rs : List Record) → spelled (record_at n p ∷ rs) ≡ (short_key n (payload_wire p) ++ short_payload n p) ++ spelled rs
+spelled_first n (Flat p) rs = sym (append_assoc (short_key n (payload_wire (Flat p))) (short_payload n (Flat p)) (spelled rs))
+spelled_first n (Group inside) rs = simp append_assoc
+
+pub spelled_more : (r : Record) (rs : List Record) → spelled (r ∷ rs) ≡ spelled (r ∷ []) ++ spelled rs
+spelled_more r rs = spelled_first r.number r.payload rs ∙ ap (λ (l : List ℕ). l ++ spelled rs) (sym (spelled_first r.number r.payload [] ∙ append-nil (short_key r.number (payload_wire r.payload) ++ short_payload r.number r.payload)))
+
+pub valid_first : (n : ℕ) (p : Payload) (rs : List Record) → number_valid n ≡ true → payload_valid p ≡ true → valid (body_of rs) ≡ true → valid (body_of (record_at n p ∷ rs)) ≡ true
+valid_first n (Flat p) rs h g k = both_true h (both_true g k)
+valid_first n (Group inside) rs h g k = both_true h (both_true g k)
+
+pub valid_more : (r : Record) (rs : List Record) → valid (body_of (r ∷ [])) ≡ true → valid (body_of rs) ≡ true → valid (body_of (r ∷ rs)) ≡ true
+valid_more r rs h k = go r.payload h
+  where
+    go : (p : Payload) → valid (body_of (record_at r.number p ∷ [])) ≡ true → valid (body_of (record_at r.number p ∷ rs)) ≡ true
+    go (Flat p) h = let (a, b) = and_both _ _ h in both_true a (both_true (and_both _ _ b).0 k)
+    go (Group inside) h = let (a, b) = and_both _ _ h in both_true a (both_true (and_both _ _ b).0 k)
+
+pub fixed64_valid : (bytes : List ℕ) → length bytes ≡ 8 → are_bytes bytes ≡ true → payload_valid (Flat (Fix64 bytes)) ≡ true
+fixed64_valid bytes len small = both_true (eq-eqb (length bytes) 8 len) small
+
+pub fixed32_valid : (bytes : List ℕ) → length bytes ≡ 4 → are_bytes bytes ≡ true → payload_valid (Flat (Fix32 bytes)) ≡ true
+fixed32_valid bytes len small = both_true (eq-eqb (length bytes) 4 len) small
+
+pub delimited_valid : (bytes : List ℕ) → length bytes < 2 ^ 64 → are_bytes bytes ≡ true → payload_valid (Flat (Len bytes)) ≡ true
+delimited_valid bytes fits small = both_true (lt-ltb (length bytes) (2 ^ 64) fits) small
+
+pub on_ok : {P : Type 0} (r : Answer) → P → OnOk r P
+on_ok (Ok u) p = p
+on_ok (Err d) p = tt
+
+-- the shortest spelling is read as its record
+pub spelled_front : (r : Record) (tail : List ℕ) → valid (body_of (r ∷ [])) ≡ true → RecordFront r (spelled (r ∷ []) ++ tail) tail
+spelled_front r tail h = record { front = spelled (r ∷ []); spelled = short_spells (body_of (r ∷ [])) h; parts = refl }
+
+-- from an index on, the item before it first
+pub cut_before : {A : Type 0} (items : List A) (i : ℕ) (item : A) → 0 < i → i ≤ length items → item ≡ get_or items (i - 1) item → drop (i - 1) items ≡ item ∷ drop i items
+cut_before items zero item some le is = absurd (omega arith)
+cut_before {A} items (suc i) item some le is =
+    let e : suc i - 1 ≡ i = omega arith in
+    let lt : i < length items = omega arith in
+    ap (λ (n : ℕ). drop n items) e ∙ drop-cons items i item lt ∙ ap (λ (x : A). x ∷ drop (suc i) items) (ap (λ (n : ℕ). get_or items n item) (sym e) ∙ sym is)
+
+-- ITEMS THAT ARE RECORDS, FROM THE LAST ON
+
+module _ {A : Type 0} (f : A → Record) where
+  -- no fewer bytes than those of the last items
+  spelled_drop : (n : ℕ) (items : List A) → length (spelled (map f (drop n items))) ≤ length (spelled (map f items))
+  spelled_drop zero items = omega arith
+  spelled_drop (suc n) [] = omega arith
+  spelled_drop (suc n) (x ∷ items) = omega (arith, spelled_drop n items, ap length (spelled_more (f x) (map f items)), length-append (spelled (f x ∷ [])) (spelled (map f items)))
+
+  -- an item is refused before those behind it
+  pub too_long_before : (items : List A) (i : ℕ) (item : A) (old mid : List ℕ) → drop (i - 1) items ≡ item ∷ drop i items → mid ≡ spelled (map f (drop i items)) ++ old
+      → 2 ^ 64 ≤ length (spelled (f item ∷ [])) + length mid → 2 ^ 64 ≤ length (spelled (map f items)) + length old
+  too_long_before items i item old mid cut e h =
+      omega (
+        arith,
+        h,
+        ap length e,
+        length-append (spelled (map f (drop i items))) old,
+        ap length (spelled_more (f item) (map f (drop i items))),
+        length-append (spelled (f item ∷ [])) (spelled (map f (drop i items))),
+        spelled_drop (i - 1) items,
+        ap (λ (l : List A). length (spelled (map f l))) cut,
+      )

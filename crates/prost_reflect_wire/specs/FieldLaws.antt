@@ -1,0 +1,35 @@
+-- Laws of reading one unknown field.
+use Rattle.std.specs.Prelude.{◌≡◌, ℕ, ◌^◌, ◌<◌, ◌≤◌, ◌⊎◌, List, [], ◌∷◌, ◌++◌}
+use Rattle.prost_reflect_wire.specs.Varint.{AreBytes}
+use Rattle.prost_reflect_wire.specs.Record.{Record, Payload, spelled}
+use Rattle.prost_reflect_wire.specs.Front.{FieldFront, ValueFront}
+use Rattle.prost_reflect_wire.specs.Fault.{StandsInField, StandsInValue}
+use Rattle.prost_reflect_wire.specs.declared.key.WireType.{WireType}
+use Rattle.prost_reflect_wire.specs.declared.error.DecodeError.{DecodeError}
+
+-- One of the two holds, and not both.
+abbrev pub ExactlyUnless : Type 0 → Type 0 → Type 0
+ExactlyUnless P Q = (P ⊎ Q) × (P → Q → ⊥)
+
+abbrev pub HasField : ℕ → List ℕ → Type 0
+HasField levels bytes = (r : Record) × ((rest : List ℕ) × FieldFront levels r bytes rest)
+
+abbrev pub HasValue : ℕ → ℕ → WireType → List ℕ → Type 0
+HasValue levels n w bytes = (p : Payload) × ((rest : List ℕ) × ValueFront n w levels p bytes rest)
+
+-- A front of the bytes is a field of at most so many levels exactly unless a fault stands in the field.
+abbrev pub FieldUnlessFault : Type 0
+FieldUnlessFault = (levels : ℕ) (bytes : List ℕ) → AreBytes bytes → ExactlyUnless (HasField levels bytes) ((e : DecodeError) × StandsInField levels e bytes)
+
+-- So it is behind a given key.
+abbrev pub ValueUnlessFault : Type 0
+ValueUnlessFault = (levels n : ℕ) (w : WireType) (bytes : List ℕ) → 1 ≤ n → n < 2 ^ 29 → AreBytes bytes →
+    ExactlyUnless (HasValue levels n w bytes) ((e : DecodeError) × StandsInValue levels n w e bytes)
+
+-- Bytes begin with at most one field, which ends in one place.
+abbrev pub OneField : Type 0
+OneField = (levels : ℕ) (r s : Record) (bytes rest end : List ℕ) → FieldFront levels r bytes rest → FieldFront levels s bytes end → (r ≡ s) × (rest ≡ end)
+
+-- What was read and is written again is read again, whatever follows it.
+abbrev pub FieldAgain : Type 0
+FieldAgain = (levels : ℕ) (r : Record) (bytes rest : List ℕ) → AreBytes bytes → FieldFront levels r bytes rest → (tail : List ℕ) → FieldFront levels r (spelled (r ∷ []) ++ tail) tail

@@ -1,0 +1,135 @@
+//! A buffer that is filled from its back, so that a length is written once what it counts is there.
+
+ghost use Rattle.std.specs.Prelude.{◌≤◌, length};
+
+use crate::error::EncodeError;
+use crate::key::{FieldNumber, WireType};
+use std::alloc::{AllocError, Global};
+
+/// Bytes to which more are added in front.
+#[derive(Drop)]
+pub struct BackBuffer {
+    bytes: Vec<u8>,
+    start: usize,
+    ghost within: { start ≤ length bytes.items },
+}
+
+impl BackBuffer {
+    ghost use Rattle.std.specs.Prelude.{◌≡◌, ◌+◌, ◌*◌, ◌<◌, ◌^◌, ◌++◌, [], true, OnOk, OnErr, IfErr};
+    ghost use Rattle.prost_reflect_wire.specs.Varint.{are_bytes, short};
+    ghost use Rattle.prost_reflect_wire.specs.Record.{short_key};
+    ghost use Rattle.prost_reflect_wire.specs.Buffer.{bytes_of, Prepended};
+
+    /// No bytes, and no memory taken.
+    pub fn new(alloc: Global) -> BackBuffer
+        ensures { bytes_of result ≡ [] }
+    {
+        BackBuffer {
+            bytes: Vec::new(alloc),
+            start: 0,
+        }
+    }
+
+    /// The bytes, those added last first.
+    pub fn as_slice(&self) -> &[u8]
+        ensures { result.now ≡ bytes_of self.now }
+    {
+        &self.bytes[self.start..]
+    }
+
+    /// How many bytes were added.
+    pub fn len(&self) -> usize
+        ensures { result ≡ length (bytes_of self.now) }
+    {
+        self.bytes.len() - self.start
+    }
+
+    /// Makes room for so many bytes in front, at least doubling what is there.
+    fn reserve(&mut self, additional: usize) -> Result<(), EncodeError>
+        ensures same { bytes_of self.new ≡ bytes_of self.old }
+        ensures ok { OnOk result (additional ≤ self.new.start) }
+        ensures too_long { IfErr result (λ e. e ≡ EncodeError.TooLong → 2 ^ 64 ≤ additional + length (bytes_of self.old)) }
+    {
+        if additional <= self.start {
+            return Ok(());
+        }
+        let used = self.bytes.len() - self.start;
+        let Some(needed) = used.checked_add(additional) else {
+            return Err(EncodeError::TooLong);
+        };
+        let doubled = 2 * self.bytes.len();
+        let size = if needed < doubled { doubled } else { needed };
+        let mut grown = Vec::from_elem(*self.bytes.allocator(), 0, size)?;
+        let start = size - used;
+        grown[start..].copy_from_slice(&self.bytes[self.start..]);
+        self.bytes = grown;
+        self.start = start;
+        Ok(())
+    }
+
+    /// Adds the bytes in front.
+    ///
+    /// # Errors
+    ///
+    /// `TooLong` if the whole passes the greatest `usize`, `OutOfMemory` if a growth is refused; the buffer stays.
+    pub fn prepend(&mut self, front: &[u8]) -> Result<(), EncodeError>
+        ensures ok { Prepended result (bytes_of self.old) (bytes_of self.new) front.now }
+        ensures bytes { are_bytes front.now ≡ true }
+        ensures err { OnErr result (bytes_of self.new ≡ bytes_of self.old) }
+    {
+        self.reserve(front.len())?;
+        let start = self.start - front.len();
+        self.bytes[start..self.start].copy_from_slice(front);
+        self.start = start;
+        Ok(())
+    }
+
+    /// Adds the shortest varint of the value in front.
+    ///
+    /// # Errors
+    ///
+    /// As `prepend`.
+    pub fn prepend_varint(&mut self, value: u64) -> Result<(), EncodeError>
+        ensures ok { Prepended result (bytes_of self.old) (bytes_of self.new) (short value) }
+        ensures err { OnErr result (bytes_of self.new ≡ bytes_of self.old) }
+    {
+        let mut digits = [0u8; 10];
+        let mut len = 0;
+        let mut rest = value;
+        while rest >= 0x80 {
+            digits[len] = (0x80 + rest % 0x80) as u8;
+            rest /= 0x80;
+            len += 1;
+        }
+        digits[len] = rest as u8;
+        self.prepend(&digits[..=len])
+    }
+
+    /// Adds a key in front.
+    ///
+    /// # Errors
+    ///
+    /// As `prepend`.
+    pub fn prepend_key(
+        &mut self,
+        number: FieldNumber,
+        wire_type: WireType,
+    ) -> Result<(), EncodeError>
+        ensures ok { Prepended result (bytes_of self.old) (bytes_of self.new) (short_key number.value wire_type) }
+        ensures err { OnErr result (bytes_of self.new ≡ bytes_of self.old) }
+    {
+        self.prepend_varint(8 * u64::from(number.get()) + u64::from(wire_type.code()))
+    }
+
+    /// Appends the bytes to the output, in one growth.
+    ///
+    /// # Errors
+    ///
+    /// `AllocError` if the growth is refused; the output stays.
+    pub fn append_to(&self, out: &mut Vec<u8>) -> Result<(), AllocError>
+        ensures ok { OnOk result (out.new.items ≡ out.old.items ++ bytes_of self.now) }
+        ensures err { OnErr result (out.new.items ≡ out.old.items) }
+    {
+        out.extend_from_slice(self.as_slice())
+    }
+}

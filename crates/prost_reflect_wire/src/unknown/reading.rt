@@ -1,0 +1,142 @@
+//! Reading a field that no descriptor knows (the encoding guide, "Message Structure" and "Groups").
+
+ghost use Rattle.std.specs.Prelude.{◌≡◌, ◌≢◌, ◌≤◌, ◌<◌, ◌^◌, ℕ, List, IfOk, IfErr, OnErr, MatchResult};
+ghost use Rattle.prost_reflect_wire.specs.Record.{Record, Payload};
+ghost use Rattle.prost_reflect_wire.specs.Grammar.{LEVEL_LIMIT};
+ghost use Rattle.prost_reflect_wire.specs.Front.{ValueFront, FieldFront};
+ghost use Rattle.prost_reflect_wire.specs.Fault.{ValueFault, StandsInField, StandsInValue};
+ghost use Rattle.prost_reflect_wire.specs.Unknown.{payload_of, record_of, records_of, ReadsGroup};
+ghost use Rattle.prost_reflect_wire.specs.declared.key.WireType.TheVariants as wires;
+
+use crate::error::DecodeError;
+use crate::key::{FieldNumber, WireType, decode_key};
+use crate::payload::{delimited_at, fixed32_at, fixed64_at};
+use crate::unknown::{UnknownField, UnknownFieldSet, UnknownFieldValue};
+use crate::varint::decode_varint;
+use std::alloc::Global;
+
+/// How many levels of messages and groups are read below the top.
+pub const RECURSION_LIMIT: u32 = 100;
+
+/// Reads what stands behind the key of a field, with at most `depth` groups open at once.
+#[cycle(reading)]
+pub fn value_at(
+    alloc: Global,
+    number: FieldNumber,
+    wire_type: WireType,
+    bytes: &[u8],
+    depth: u32,
+) -> Result<(UnknownFieldValue, &[u8]), DecodeError>
+    ensures ok { IfOk result (λ x. ValueFront number.value wire_type depth (payload_of x.0) bytes.now x.1.now) }
+    ensures fault { IfErr result (λ e. e ≢ DecodeError.OutOfMemory → ValueFault e number.value wire_type depth bytes.now) }
+{
+    match wire_type {
+        WireType::Varint => {
+            let (value, rest) = decode_varint(bytes)?;
+            Ok((UnknownFieldValue::Varint(value), rest))
+        }
+        WireType::SixtyFourBit => {
+            let (payload, rest) = fixed64_at(bytes)?;
+            Ok((UnknownFieldValue::SixtyFourBit(payload), rest))
+        }
+        WireType::LengthDelimited => {
+            let (payload, rest) = delimited_at(bytes)?;
+            let payload = Vec::from_slice(alloc, payload)?;
+            Ok((UnknownFieldValue::LengthDelimited(payload), rest))
+        }
+        WireType::StartGroup => {
+            let (fields, rest) = group_at(alloc, number, bytes, depth)?;
+            Ok((UnknownFieldValue::Group(fields), rest))
+        }
+        WireType::EndGroup => Err(DecodeError::EndGroup),
+        WireType::ThirtyTwoBit => {
+            let (payload, rest) = fixed32_at(bytes)?;
+            Ok((UnknownFieldValue::ThirtyTwoBit(payload), rest))
+        }
+    }
+}
+
+/// Reads the records of a group, and its end key.
+#[cycle(reading)]
+fn group_at(
+    alloc: Global,
+    number: FieldNumber,
+    bytes: &[u8],
+    depth: u32,
+) -> Result<(UnknownFieldSet, &[u8]), DecodeError>
+    ensures ok { IfOk result (λ x. ReadsGroup number.value depth (records_of x.0) bytes.now x.1.now) }
+    ensures fault { IfErr result (λ e. e ≢ DecodeError.OutOfMemory → ValueFault e number.value wires.StartGroup depth bytes.now) }
+{
+    if depth == 0 {
+        return Err(DecodeError::Depth);
+    }
+    let mut fields = UnknownFieldSet::new(alloc);
+    let mut rest = bytes;
+    loop {
+        let (key, wire_type, after) = decode_key(rest)?;
+        match wire_type {
+            WireType::EndGroup if key.get() == number.get() => return Ok((fields, after)),
+            WireType::EndGroup => return Err(DecodeError::EndGroup),
+            _ => {}
+        }
+        let (value, after) = value_at(alloc, key, wire_type, after, depth - 1)?;
+        fields.insert(UnknownField::new(key, value))?;
+        rest = after;
+    }
+}
+
+impl UnknownField {
+    /// Reads the field at the cursor, with at most `depth` groups open at once, and moves the cursor past it.
+    ///
+    /// # Errors
+    ///
+    /// `Truncated`, `Varint` or `Key` where the field is cut short, a varint is too long, or a key is none; `EndGroup`
+    /// where an end key closes no open group; `Depth` where more groups would be open; `OutOfMemory` if a growth is
+    /// refused. The cursor stays.
+    pub fn decode(
+        alloc: Global,
+        cursor: &mut &[u8],
+        depth: u32,
+    ) -> Result<UnknownField, DecodeError>
+        requires { depth ≤ LEVEL_LIMIT }
+        ensures ok { IfOk result (λ f. FieldFront depth (record_of f) cursor.old.now cursor.new.now) }
+        ensures only { (r : Record) (rest : List ℕ) → FieldFront depth r cursor.old.now rest →
+            MatchResult result (λ f. (record_of f ≡ r) × (cursor.new.now ≡ rest)) (λ e. e ≡ DecodeError.OutOfMemory) }
+        ensures fault { IfErr result (λ e. e ≢ DecodeError.OutOfMemory → StandsInField depth e cursor.old.now) }
+        ensures err { OnErr result (cursor.new.now ≡ cursor.old.now) }
+    {
+        let (number, wire_type, rest) = decode_key(cursor)?;
+        let (value, rest) = value_at(alloc, number, wire_type, rest, depth)?;
+        *cursor = rest;
+        Ok(UnknownField::new(number, value))
+    }
+
+    /// Reads what stands at the cursor behind the key of a field, as `decode` reads it behind that key, and moves the
+    /// cursor past it.
+    ///
+    /// # Errors
+    ///
+    /// As `decode`, and `EndGroup` for the wire type `EndGroup`. The cursor stays.
+    pub fn decode_value(
+        alloc: Global,
+        number: u32,
+        wire_type: WireType,
+        cursor: &mut &[u8],
+        depth: u32,
+    ) -> Result<UnknownField, DecodeError>
+        requires some { 1 ≤ number }
+        requires below { number < 2 ^ 29 }
+        requires levels { depth ≤ LEVEL_LIMIT }
+        ensures number { IfOk result (λ f. (record_of f).number ≡ number) }
+        ensures ok { IfOk result (λ f. ValueFront number wire_type depth (record_of f).payload cursor.old.now cursor.new.now) }
+        ensures only { (p : Payload) (rest : List ℕ) → ValueFront number wire_type depth p cursor.old.now rest →
+            MatchResult result (λ f. ((record_of f).payload ≡ p) × (cursor.new.now ≡ rest)) (λ e. e ≡ DecodeError.OutOfMemory) }
+        ensures fault { IfErr result (λ e. e ≢ DecodeError.OutOfMemory → StandsInValue depth number wire_type e cursor.old.now) }
+        ensures err { OnErr result (cursor.new.now ≡ cursor.old.now) }
+    {
+        let number = FieldNumber::new(number);
+        let (value, rest) = value_at(alloc, number, wire_type, cursor, depth)?;
+        *cursor = rest;
+        Ok(UnknownField::new(number, value))
+    }
+}
