@@ -110,6 +110,17 @@ all_at_number test n (r ∷ rs) = go (nat_eq r.number n) (all_at_number test n r
     go true more = ap (λ b. test r.payload && b) more
     go false more = more
 
+-- what each record passes, the payloads of each number pass
+pub payloads_pass : (n : ℕ) (test : Record → Bool) (of : Payload → Bool) (rs : List Record) → ((r : Record) → nat_eq r.number n ≡ true → test r ≡ true → of r.payload ≡ true) → list_all test rs ≡ true → list_all of (numbered n rs) ≡ true
+payloads_pass n test of [] h all = refl
+payloads_pass n test of (r ∷ rs) h all =
+    let (one, more) = and_both (test r) (list_all test rs) all in
+    go (nat_eq r.number n) refl one (payloads_pass n test of rs h more)
+  where
+    go : (b : Bool) → nat_eq r.number n ≡ b → test r ≡ true → list_all of (numbered n rs) ≡ true → list_all of (payloads (cond b (r ∷ filter (has_number n) rs) (filter (has_number n) rs))) ≡ true
+    go true e one more = both_true (h r e one) more
+    go false e one more = more
+
 -- what all payloads of a number pass, those that survive pass
 pub surviving_pass : (test : Payload → Bool) (fields : List Field) (n : ℕ) (f : Field) (rs : List Record) → field_of fields n ≡ Some f → list_all test (flat_map (value_payloads f.form f.value_type) (numbered n rs)) ≡ true →
     list_all test (payloads (survive fields f (flat_map (value_records fields) rs))) ≡ true

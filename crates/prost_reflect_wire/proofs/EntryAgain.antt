@@ -25,23 +25,12 @@ use Rattle.prost_reflect_wire.proofs.Spelt.{Sound, SoundPayload, SoundPayloads, 
 use Rattle.prost_reflect_wire.proofs.Valid.{scalar_sound, entry_sound}
 use Rattle.prost_reflect_wire.proofs.Means.{first_valid, behind_valid, body_valid}
 use Rattle.prost_reflect_wire.proofs.Alike.{Alike, alike, SameType, stray_alike}
-use Rattle.prost_reflect_wire.proofs.ByNumber.{record_valid, valid_all, stored_payloads}
+use Rattle.prost_reflect_wire.proofs.ByNumber.{payloads_pass, record_valid, valid_all}
 use Rattle.prost_reflect_wire.proofs.Inside.{Joinable, inside_valid_records, passes_inside, joined_valid, joined_allowed}
 use Rattle.prost_reflect_wire.proofs.Again.{Carries, ReadAs, Again, body_back, scalar_again, message_again, group_again, read_scalar_valid, FieldReads, FieldAgain, nothing_again}
 use Rattle.prost_reflect_wire.proofs.Putting.{Rising, put_rising, put_all, put_all_rising}
 
 -- PAYLOADS IN AN ENTRY
-
--- what each record of an entry passes, the payloads of each number pass
-payloads_pass : (n : ℕ) (test : Record → Bool) (of : Payload → Bool) (rs : List Record) → ((r : Record) → nat_eq r.number n ≡ true → test r ≡ true → of r.payload ≡ true) → list_all test rs ≡ true → list_all of (numbered n rs) ≡ true
-payloads_pass n test of [] h all = refl
-payloads_pass n test of (r ∷ rs) h all =
-    let (one, more) = and_both (test r) (list_all test rs) all in
-    go (nat_eq r.number n) refl one (payloads_pass n test of rs h more)
-  where
-    go : (b : Bool) → nat_eq r.number n ≡ b → test r ≡ true → list_all of (numbered n rs) ≡ true → list_all of (payloads (cond b (r ∷ filter (has_number n) rs) (filter (has_number n) rs))) ≡ true
-    go true e one more = both_true (h r e one) more
-    go false e one more = more
 
 key_allowed : (k : ℕ) (a : AllowsInside) (key t : ValueType) (r : Record) → nat_eq r.number 1 ≡ true → in_entry_allowed k a key t r ≡ true → one_allowed a key.kind r.payload ≡ true
 key_allowed k a key t r e h = sym (ap (λ b. cond b (one_allowed a key.kind r.payload) (cond (nat_eq r.number 2) (one_allowed a t.kind r.payload) (nat_le (payload_levels r.payload) k))) e) ∙ h

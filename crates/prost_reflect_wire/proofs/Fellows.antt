@@ -4,7 +4,7 @@ use Rattle.std.proofs.lemmas.Bool.{eqb-true, eq-eqb}
 use Rattle.std.specs.Bool.{beq}
 use Rattle.std.specs.List.{list_any, list_all}
 use Rattle.prost_reflect_wire.specs.Record.{Record}
-use Rattle.prost_reflect_wire.specs.Schema.{Field, field_of, same_oneof, is_sibling, passes}
+use Rattle.prost_reflect_wire.specs.Schema.{Field, field_of, same_oneof, is_sibling, passes, numbers_differ}
 use Rattle.prost_reflect_wire.specs.Meaning.{after_last}
 use Rattle.prost_reflect_wire.specs.Reduction.{TypePairs, is_known, has_no_fellow}
 use Rattle.prost_reflect_wire.proofs.Deeper.{and_both}
@@ -19,6 +19,14 @@ not_known (g ∷ fields) n oneof e = go (nat_eq g.number n) e (not_known fields 
     go : (b : Bool) → cond b (Some g) (field_of fields n) ≡ None → (field_of fields n ≡ None → list_any (member_at n oneof) fields ≡ false) → ((b && same_oneof g.oneof oneof) || list_any (member_at n oneof) fields) ≡ false
     go true e more = cc
     go false e more = more e
+
+-- a number that is not known is no sibling's
+pub unknown_no_sibling : (fields : List Field) (f : Field) (n : ℕ) → field_of fields n ≡ None → is_sibling fields f n ≡ false
+unknown_no_sibling fields f n e = ap (λ b. not (nat_eq n f.number) && b) (not_known fields n f.oneof e) ∙ nothing (not (nat_eq n f.number))
+  where
+    nothing : (b : Bool) → (b && false) ≡ false
+    nothing true = refl
+    nothing false = refl
 
 none_known : (fields : List Field) (n : ℕ) → field_of fields n ≡ None → is_known fields n ≡ false
 none_known fields n e = ap (λ (o : Option Field). passes o (λ f. true)) e
@@ -55,13 +63,6 @@ beq_same false true h = absurd (true≢false (sym h))
 pub fellows : (pairs : TypePairs) (older newer : List Field) (f g : Field) (m : ℕ) → TypesMatch pairs older newer → Like pairs older newer f g → is_sibling newer g m ≡ is_sibling older f m
 fellows pairs older newer f g m t l = go (field_of older m) refl
   where
-    older_none : field_of older m ≡ None → is_sibling older f m ≡ false
-    older_none e = ap (λ b. not (nat_eq m f.number) && b) (not_known older m f.oneof e) ∙ nothing (not (nat_eq m f.number))
-      where
-        nothing : (b : Bool) → (b && false) ≡ false
-        nothing true = refl
-        nothing false = refl
-
     newer_none : field_of older m ≡ None → (b : Bool) → is_sibling newer g m ≡ b → is_sibling newer g m ≡ false
     newer_none lacking false e = e
     newer_none lacking true e =
@@ -88,7 +89,7 @@ fellows pairs older newer f g m t l = go (field_of older m) refl
             swap a b = same_oneof_sym b a
 
     go : (o : Option Field) → field_of older m ≡ o → is_sibling newer g m ≡ is_sibling older f m
-    go None e = newer_none e (is_sibling newer g m) refl ∙ sym (older_none e)
+    go None e = newer_none e (is_sibling newer g m) refl ∙ sym (unknown_no_sibling older f m e)
     go (Some h) e =
         let number : h.number ≡ m = field_number older m h e in
         let same : is_sibling newer g h.number ≡ is_sibling older f h.number = beq_same (is_sibling older f h.number) (is_sibling newer g h.number)
@@ -97,15 +98,25 @@ fellows pairs older newer f g m t l = go (field_of older m) refl
 
 -- VALUES OF ONE ONEOF
 
--- the number of a sibling, and the sibling of its number
-pub sibling_number : (fields : List Field) (f : Field) (m : ℕ) → is_sibling fields f m ≡ true → (nat_eq m f.number ≡ false) × Passing (member_at m f.oneof) fields
-sibling_number fields f m h =
-    let (other, some) = and_both (not (nat_eq m f.number)) (list_any (member_at m f.oneof) fields) h in
-    (flip (nat_eq m f.number) other, some_field (member_at m f.oneof) fields some)
+-- where numbers differ, the member of a number is the field of that number
+pub member_found : (fields : List Field) (m : ℕ) (oneof : Option ℕ) → numbers_differ fields ≡ true → list_any (member_at m oneof) fields ≡ true → (f : Field) × (field_of fields m ≡ Some f) × (same_oneof f.oneof oneof ≡ true)
+member_found [] m oneof d h = absurd (true≢false (sym h))
+member_found (g ∷ fields) m oneof d h =
+    let (one, more) = and_both (not (list_any (λ f. nat_eq f.number g.number) fields)) (numbers_differ fields) d in
+    go (nat_eq g.number m) refl (same_oneof g.oneof oneof) refl h (flip (list_any (λ f. nat_eq f.number g.number) fields) one) (member_found fields m oneof more)
   where
     flip : (b : Bool) → not b ≡ true → b ≡ false
     flip false h = refl
     flip true h = absurd (true≢false (sym h))
+
+    go : (b : Bool) → nat_eq g.number m ≡ b → (c : Bool) → same_oneof g.oneof oneof ≡ c → ((b && c) || list_any (member_at m oneof) fields) ≡ true → list_any (λ f. nat_eq f.number g.number) fields ≡ false →
+        (list_any (member_at m oneof) fields ≡ true → (f : Field) × (field_of fields m ≡ Some f) × (same_oneof f.oneof oneof ≡ true)) → (f : Field) × (cond b (Some g) (field_of fields m) ≡ Some f) × (same_oneof f.oneof oneof ≡ true)
+    go true e true s h one more = (g, refl, s)
+    go true e false s h one more =
+        let p : Passing (member_at m oneof) fields = some_field (member_at m oneof) fields h in
+        let at : nat_eq p.field.number m ≡ true = (and_both (nat_eq p.field.number m) (same_oneof p.field.oneof oneof) p.passes).0 in
+        absurd (true≢false (sym at ∙ ap (nat_eq p.field.number) (sym (eqb-true g.number m e)) ∙ p.none (λ f. nat_eq f.number g.number) one))
+    go false e c s h one more = more h
 
 implied_none : (t u : Record → Bool) (rs : List Record) → ((r : Record) → t r ≡ true → u r ≡ true) → list_any u rs ≡ false → list_any t rs ≡ false
 implied_none t u [] h e = refl
