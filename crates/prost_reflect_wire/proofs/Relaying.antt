@@ -1,5 +1,5 @@
 -- What an older type of a reduction reads and writes again, the newer one allows, and it means the same to it.
-use Rattle.std.proofs.Common.{◌≡◌, ℕ, zero, suc, ◌^◌, ◌<◌, nat_eq, nat_lt, nat_le, Bool, true, false, cond, not, ◌&&◌, List, [], ◌∷◌, ◌++◌, map, filter, flat_map, length, Option, Some, None, refl, ap, ap₂, sym, subst, ◌∙◌, true≢false, append-nil}
+use Rattle.std.proofs.Common.{◌≡◌, ℕ, zero, suc, ◌^◌, ◌<◌, nat_eq, nat_lt, nat_le, Bool, true, false, cond, not, ◌&&◌, ◌||◌, List, [], ◌∷◌, ◌++◌, map, filter, flat_map, length, Option, Some, None, refl, ap, ap₂, sym, subst, ◌∙◌, true≢false, append-nil}
 use Rattle.std.specs.Bool.{⊤}
 use Rattle.std.specs.List.{list_any, list_all}
 use Rattle.std.proofs.lemmas.Bool.{eqb-true}
@@ -13,7 +13,7 @@ use Rattle.prost_reflect_wire.specs.Meaning.{MeansInside, survive, field_value, 
 use Rattle.prost_reflect_wire.specs.Writing.{record_at, records}
 use Rattle.prost_reflect_wire.specs.Reduction.{TypePairs, holds, all_match}
 use Rattle.prost_reflect_wire.specs.Laws.{block}
-use Rattle.prost_reflect_wire.proofs.Numbers.{slots_same}
+use Rattle.prost_reflect_wire.proofs.Numbers.{eqb-sym, slots_same}
 use Rattle.prost_reflect_wire.proofs.Survivors.{field_number, filter_none, survive_none}
 use Rattle.prost_reflect_wire.proofs.Steps.{flat_append, field_nothing, surviving_value, meaning_same}
 use Rattle.prost_reflect_wire.proofs.Deeper.{and_both, both_true, all_filter, allows_append}
@@ -193,3 +193,142 @@ slot_unknowns pairs k i a j older newer A B rs n s ok = ap (flat_map (unknown_pa
         let b : Known k a i j (known older A) (known newer B) rs n f g = known_again pairs k i a j older newer A B rs n f g s e l in
         let t : Taken k a i j (known older A) (known newer B) rs n f g = taken k a i j (known older A) (known newer B) rs n f g b ok in
         strays_of_block (known newer B) n g (written_at i (known older A) rs n (Some f)) b.found ∙ t.strays
+
+-- THE VALUE OF A NUMBER
+
+none_filtered : {A : Type 0} (test : A → Bool) (xs : List A) → filter test xs ≡ [] → list_any test xs ≡ false
+none_filtered test [] e = refl
+none_filtered test (x ∷ xs) e = go (test x) e (none_filtered test xs)
+  where
+    go : (b : Bool) → cond b (x ∷ filter test xs) (filter test xs) ≡ [] → (filter test xs ≡ [] → list_any test xs ≡ false) → (b || list_any test xs) ≡ false
+    go true e more = cc
+    go false e more = more e
+
+never_any : {A : Type 0} (test : A → Bool) (xs : List A) → ((x : A) → test x ≡ false) → list_any test xs ≡ false
+never_any test [] h = refl
+never_any test (x ∷ xs) h = ap (λ b. b || list_any test xs) (h x) ∙ never_any test xs h
+
+-- all that is written has a spelling
+abbrev AllSpelt : MeansInside → List Field → List Record → Type 0
+AllSpelt i fields rs = (n : ℕ) → list_all payload_valid (written_at i fields rs n (field_of fields n)) ≡ true
+
+-- what the newer type takes of what is written at a known number
+known_taken : (k : ℕ) (a : AllowsInside) (i j : MeansInside) (older : Schema) (A : ℕ) (newer : List Field) (rs : List Record) (n : ℕ) (f g : Field) → Known k a i j (known older A) newer rs n f g → field_of (known older A) n ≡ Some f →
+    filter (has_number n) (flat_map (value_records newer) (records (meaning_by i older A rs))) ≡ block n (flat_map (value_payloads g.form g.value_type) (written_at i (known older A) rs n (Some f)))
+known_taken k a i j older A newer rs n f g b found =
+    filter_values newer n (records (meaning_by i older A rs)) ∙ ap (flat_map (value_records newer)) (meaning_records i older A rs n)
+    ∙ ap (λ o. flat_map (value_records newer) (map (record_at n) (written_at i (known older A) rs n o))) found ∙ values_of_block newer n g (written_at i (known older A) rs n (Some f)) b.found
+
+-- a sibling of a field that has a value has none
+sibling_none : (i : MeansInside) (fields : List Field) (rs : List Record) (n m : ℕ) (f h : Field) (v : Value) → field_of fields n ≡ Some f → field_of fields m ≡ Some h → is_sibling fields f m ≡ true → is_sibling fields h n ≡ true →
+    surviving_value i fields f rs ≡ Some v → surviving_value i fields h rs ≡ None
+sibling_none i fields rs n m f h v found found' fm hn some =
+    ap (λ l. field_value i h.form h.value_type (payloads l)) (one_survives (has_number f.number) (has_number h.number) (λ r. is_sibling fields f r.number) (λ r. is_sibling fields h r.number) rs
+    (λ r e. ap (is_sibling fields h) (eqb-true r.number f.number e ∙ field_number fields n f found) ∙ hn)
+    (λ r e. ap (is_sibling fields f) (eqb-true r.number h.number e ∙ field_number fields m h found') ∙ fm)
+    (λ e. some_none (sym some ∙ ap (λ l. field_value i f.form f.value_type (payloads l)) e ∙ field_nothing i f.form f.value_type)))
+    ∙ field_nothing i h.form h.value_type
+  where
+    some_none : {A : Type 0} {x : A} → Some x ≡ None → ⊥
+    some_none e = cc
+
+-- so nothing is taken of what is written at its number
+no_sibling : (pairs : TypePairs) (k : ℕ) (i : MeansInside) (a : AllowsInside) (j : MeansInside) (older newer : Schema) (A B : ℕ) (rs : List Record) (n m : ℕ) (f g : Field) (v : Value) → Step pairs k i a j older newer A B rs → AllSpelt i (known older A) rs →
+    field_of (known older A) n ≡ Some f → Like pairs (known older A) (known newer B) f g → surviving_value i (known older A) f (flat_map (value_records (known older A)) rs) ≡ Some v → is_sibling (known newer B) g m ≡ true →
+    filter (has_number m) (flat_map (value_records (known newer B)) (records (meaning_by i older A rs))) ≡ []
+no_sibling pairs k i a j older newer A B rs n m f g v s spelt found l some h =
+    let fm : is_sibling (known older A) f m ≡ true = sym (fellows pairs (known older A) (known newer B) f g m s.match l) ∙ h in
+    let (other, any) = and_both (not (nat_eq m f.number)) (list_any (member_at m f.oneof) (known older A)) fm in
+    let (x, at, same) = member_found (known older A) m f.oneof s.differ any in
+    let apart : nat_eq n m ≡ false = eqb-sym n m ∙ ap (nat_eq m) (sym (field_number (known older A) n f found)) ∙ flip (nat_eq m f.number) other in
+    let (y, l') = like pairs (known older A) (known newer B) m x s.match at in
+    let b : Known k a i j (known older A) (known newer B) rs m x y = known_again pairs k i a j older newer A B rs m x y s at l' in
+    let t : Taken k a i j (known older A) (known newer B) rs m x y = taken k a i j (known older A) (known newer B) rs m x y b (ap (λ o. list_all payload_valid (written_at i (known older A) rs m o)) (sym at) ∙ spelt m) in
+    let none : surviving_value i (known older A) x (flat_map (value_records (known older A)) rs) ≡ None =
+        sibling_none i (known older A) (flat_map (value_records (known older A)) rs) n m f x v found at fm (sibling_back (known older A) n m f x found at same apart) some in
+    known_taken k a i j older A (known newer B) rs m x y b at ∙ ap (block m) (t.values ∙ ap (λ o. flat_map (value_payloads y.form y.value_type) (stored_payloads (Some x) o)) none)
+  where
+    flip : (b : Bool) → not b ≡ true → b ≡ false
+    flip false h = refl
+    flip true h = absurd (true≢false (sym h))
+
+-- a known number
+known_value : (pairs : TypePairs) (k : ℕ) (i : MeansInside) (a : AllowsInside) (j : MeansInside) (older newer : Schema) (A B : ℕ) (rs : List Record) (n : ℕ) (f g : Field) → Step pairs k i a j older newer A B rs → AllSpelt i (known older A) rs →
+    field_of (known older A) n ≡ Some f → Like pairs (known older A) (known newer B) f g →
+    surviving_value j (known newer B) g (flat_map (value_records (known newer B)) (records (meaning_by i older A rs))) ≡ surviving_value j (known newer B) g (flat_map (value_records (known newer B)) rs)
+known_value pairs k i a j older newer A B rs n f g s spelt found l =
+    let b : Known k a i j (known older A) (known newer B) rs n f g = known_again pairs k i a j older newer A B rs n f g s found l in
+    let t : Taken k a i j (known older A) (known newer B) rs n f g = taken k a i j (known older A) (known newer B) rs n f g b (ap (λ o. list_all payload_valid (written_at i (known older A) rs n o)) (sym found) ∙ spelt n) in
+    let mine : filter (has_number n) (flat_map (value_records (known newer B)) (records (meaning_by i older A rs))) ≡ block n (flat_map (value_payloads g.form g.value_type) (stored_payloads (Some f) (surviving_value i (known older A) f (flat_map (value_records (known older A)) rs)))) =
+        known_taken k a i j older A (known newer B) rs n f g b found ∙ ap (block n) t.values in
+    ap (λ l. field_value j g.form g.value_type (payloads l)) (go (field_number (known newer B) n g b.found) (surviving_value i (known older A) f (flat_map (value_records (known older A)) rs)) refl mine)
+    ∙ ap (field_value j g.form g.value_type) (block_payloads n (flat_map (value_payloads g.form g.value_type) (stored_payloads (Some f) (surviving_value i (known older A) f (flat_map (value_records (known older A)) rs))))) ∙ t.means
+  where
+    written : List Record
+    written = flat_map (value_records (known newer B)) (records (meaning_by i older A rs))
+
+    sibling : Record → Bool
+    sibling r = is_sibling (known newer B) g r.number
+
+    go : g.number ≡ n → (o : Option Value) → surviving_value i (known older A) f (flat_map (value_records (known older A)) rs) ≡ o →
+        filter (has_number n) (flat_map (value_records (known newer B)) (records (meaning_by i older A rs))) ≡ block n (flat_map (value_payloads g.form g.value_type) (stored_payloads (Some f) o)) →
+        survive (known newer B) g (flat_map (value_records (known newer B)) (records (meaning_by i older A rs))) ≡ block n (flat_map (value_payloads g.form g.value_type) (stored_payloads (Some f) o))
+    go number None e mine = survive_none sibling (has_number g.number) written (ap (λ (k : ℕ). list_any (has_number k) written) number ∙ none_filtered (has_number n) written mine)
+    go number (Some v) e mine =
+        ap (filter (has_number g.number)) (after_none sibling written (none_by_number (is_sibling (known newer B) g) written (λ m. no_sibling pairs k i a j older newer A B rs n m f g v s spelt found l e)))
+        ∙ ap (λ (k : ℕ). filter (has_number k) written) number ∙ mine
+
+-- a number that the older type does not know
+lacking_value : (pairs : TypePairs) (k : ℕ) (i : MeansInside) (a : AllowsInside) (j : MeansInside) (older newer : Schema) (A B : ℕ) (rs : List Record) (n : ℕ) (g : Field) → Step pairs k i a j older newer A B rs → field_of (known older A) n ≡ None → field_of (known newer B) n ≡ Some g →
+    surviving_value j (known newer B) g (flat_map (value_records (known newer B)) (records (meaning_by i older A rs))) ≡ surviving_value j (known newer B) g (flat_map (value_records (known newer B)) rs)
+lacking_value pairs k i a j older newer A B rs n g s e found = ap (λ l. field_value j g.form g.value_type (payloads l)) (all (records (meaning_by i older A rs)) ∙ same ∙ sym (all rs))
+  where
+    all : (xs : List Record) → survive (known newer B) g (flat_map (value_records (known newer B)) xs) ≡ flat_map (value_records (known newer B)) (filter (has_number n) xs)
+    all xs =
+        ap (filter (has_number g.number)) (after_none (λ r. is_sibling (known newer B) g r.number) (flat_map (value_records (known newer B)) xs) (never_any (λ (r : Record). is_sibling (known newer B) g r.number) (flat_map (value_records (known newer B)) xs) (λ r. lone pairs (known older A) (known newer B) n r.number g s.match e found)))
+        ∙ ap (λ (k : ℕ). filter (has_number k) (flat_map (value_records (known newer B)) xs)) (field_number (known newer B) n g found) ∙ filter_values (known newer B) n xs
+
+    same : flat_map (value_records (known newer B)) (filter (has_number n) (records (meaning_by i older A rs))) ≡ flat_map (value_records (known newer B)) (filter (has_number n) rs)
+    same = ap (flat_map (value_records (known newer B))) (meaning_records i older A rs n ∙ ap (λ o. map (record_at n) (written_at i (known older A) rs n o)) e ∙ lacking_records i (known older A) rs n e)
+
+slot_value : (pairs : TypePairs) (k : ℕ) (i : MeansInside) (a : AllowsInside) (j : MeansInside) (older newer : Schema) (A B : ℕ) (rs : List Record) (n : ℕ) → Step pairs k i a j older newer A B rs → AllSpelt i (known older A) rs →
+    value_meaning j (known newer B) (records (meaning_by i older A rs)) n ≡ value_meaning j (known newer B) rs n
+slot_value pairs k i a j older newer A B rs n s spelt = go (field_of (known older A) n) refl
+  where
+    ws : List Record
+    ws = records (meaning_by i older A rs)
+
+    value : Option Field → List Record → Option Value
+    value o xs = o >>= λ g. surviving_value j (known newer B) g (flat_map (value_records (known newer B)) xs)
+
+    lacking : field_of (known older A) n ≡ None → (o : Option Field) → field_of (known newer B) n ≡ o → value o ws ≡ value o rs
+    lacking e None d = refl
+    lacking e (Some g) d = lacking_value pairs k i a j older newer A B rs n g s e d
+
+    go : (o : Option Field) → field_of (known older A) n ≡ o → value (field_of (known newer B) n) ws ≡ value (field_of (known newer B) n) rs
+    go None e = lacking e (field_of (known newer B) n) refl
+    go (Some f) e =
+        let (g, l) = like pairs (known older A) (known newer B) n f s.match e in
+        let found : field_of (known newer B) n ≡ Some g = ap (field_of (known newer B)) (sym (field_number (known older A) n f e)) ∙ l.found in
+        ap (λ o. value o ws) found ∙ known_value pairs k i a j older newer A B rs n f g s spelt e l ∙ sym (ap (λ o. value o rs) found)
+
+-- ALL NUMBERS
+
+-- what is written has a spelling at each number, if it has one
+all_spelt : (i : MeansInside) (older : Schema) (A : ℕ) (rs : List Record) → valid (body_of (records (meaning_by i older A rs))) ≡ true → AllSpelt i (known older A) rs
+all_spelt i older A rs h n =
+    ap (list_all payload_valid) (sym (ap payloads (meaning_records i older A rs n) ∙ block_payloads n (written_at i (known older A) rs n (field_of (known older A) n)))) ∙ payloads_valid (records (meaning_by i older A rs)) n h
+
+step_sound : (pairs : TypePairs) (k : ℕ) (i : MeansInside) (a : AllowsInside) (j : MeansInside) (older newer : Schema) (A B : ℕ) (rs : List Record) → Step pairs k i a j older newer A B rs → Sound (records (meaning_by i older A rs))
+step_sound pairs k i a j older newer A B rs s = meaning_sound i older A rs (λ n. slot_sound pairs k i a j older newer A B rs n s)
+
+step_allowed : (pairs : TypePairs) (k : ℕ) (i : MeansInside) (a : AllowsInside) (j : MeansInside) (older newer : Schema) (A B : ℕ) (rs : List Record) → Step pairs k i a j older newer A B rs → valid (body_of (records (meaning_by i older A rs))) ≡ true →
+    list_all (record_allowed k a (known newer B)) (records (meaning_by i older A rs)) ≡ true
+step_allowed pairs k i a j older newer A B rs s h = meaning_all (record_allowed k a (known newer B)) i older A rs (λ n. slot_allowed pairs k i a j older newer A B rs n s (all_spelt i older A rs h n))
+
+step_same : (pairs : TypePairs) (k : ℕ) (i : MeansInside) (a : AllowsInside) (j : MeansInside) (older newer : Schema) (A B : ℕ) (rs : List Record) → Step pairs k i a j older newer A B rs → valid (body_of (records (meaning_by i older A rs))) ≡ true →
+    meaning_by j newer B (records (meaning_by i older A rs)) ≡ meaning_by j newer B rs
+step_same pairs k i a j older newer A B rs s h =
+    let ws : List Record = records (meaning_by i older A rs) in
+    meaning_same j newer B ws rs (λ n. slots_same (meaning_at j (known newer B) ws n) (meaning_at j (known newer B) rs n)
+    (slot_value pairs k i a j older newer A B rs n s (all_spelt i older A rs h)) (slot_unknowns pairs k i a j older newer A B rs n s (all_spelt i older A rs h n)))
