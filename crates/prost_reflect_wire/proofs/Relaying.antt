@@ -60,13 +60,13 @@ block_allowed k a fields n g (p ∷ ps) e =
 -- ONE LEVEL
 
 -- records that the newer type of a pair allows
-record Step (pairs : TypePairs) (k : ℕ) (i : MeansInside) (a : AllowsInside) (j : MeansInside) (older newer : Schema) (A B : ℕ) (rs : List Record) : Type 0 where
-  carries : Carries pairs k i a j
-  match : TypesMatch pairs (known older A) (known newer B)
-  checked : list_all (field_valid older) (known older A) ≡ true
-  differ : numbers_differ (known older A) ≡ true
-  spelt : valid (body_of rs) ≡ true
-  allowed : list_all (record_allowed k a (known newer B)) rs ≡ true
+pub record Step (pairs : TypePairs) (k : ℕ) (i : MeansInside) (a : AllowsInside) (j : MeansInside) (older newer : Schema) (A B : ℕ) (rs : List Record) : Type 0 where
+  pub carries : Carries pairs k i a j
+  pub match : TypesMatch pairs (known older A) (known newer B)
+  pub checked : list_all (field_valid older) (known older A) ≡ true
+  pub differ : numbers_differ (known older A) ≡ true
+  pub spelt : valid (body_of rs) ≡ true
+  pub allowed : list_all (record_allowed k a (known newer B)) rs ≡ true
 
 -- the payloads that the older type writes at a number
 abbrev written_at : MeansInside → List Field → List Record → ℕ → Option Field → List Payload
@@ -319,14 +319,14 @@ all_spelt : (i : MeansInside) (older : Schema) (A : ℕ) (rs : List Record) → 
 all_spelt i older A rs h n =
     ap (list_all payload_valid) (sym (ap payloads (meaning_records i older A rs n) ∙ block_payloads n (written_at i (known older A) rs n (field_of (known older A) n)))) ∙ payloads_valid (records (meaning_by i older A rs)) n h
 
-step_sound : (pairs : TypePairs) (k : ℕ) (i : MeansInside) (a : AllowsInside) (j : MeansInside) (older newer : Schema) (A B : ℕ) (rs : List Record) → Step pairs k i a j older newer A B rs → Sound (records (meaning_by i older A rs))
+pub step_sound : (pairs : TypePairs) (k : ℕ) (i : MeansInside) (a : AllowsInside) (j : MeansInside) (older newer : Schema) (A B : ℕ) (rs : List Record) → Step pairs k i a j older newer A B rs → Sound (records (meaning_by i older A rs))
 step_sound pairs k i a j older newer A B rs s = meaning_sound i older A rs (λ n. slot_sound pairs k i a j older newer A B rs n s)
 
-step_allowed : (pairs : TypePairs) (k : ℕ) (i : MeansInside) (a : AllowsInside) (j : MeansInside) (older newer : Schema) (A B : ℕ) (rs : List Record) → Step pairs k i a j older newer A B rs → valid (body_of (records (meaning_by i older A rs))) ≡ true →
+pub step_allowed : (pairs : TypePairs) (k : ℕ) (i : MeansInside) (a : AllowsInside) (j : MeansInside) (older newer : Schema) (A B : ℕ) (rs : List Record) → Step pairs k i a j older newer A B rs → valid (body_of (records (meaning_by i older A rs))) ≡ true →
     list_all (record_allowed k a (known newer B)) (records (meaning_by i older A rs)) ≡ true
 step_allowed pairs k i a j older newer A B rs s h = meaning_all (record_allowed k a (known newer B)) i older A rs (λ n. slot_allowed pairs k i a j older newer A B rs n s (all_spelt i older A rs h n))
 
-step_same : (pairs : TypePairs) (k : ℕ) (i : MeansInside) (a : AllowsInside) (j : MeansInside) (older newer : Schema) (A B : ℕ) (rs : List Record) → Step pairs k i a j older newer A B rs → valid (body_of (records (meaning_by i older A rs))) ≡ true →
+pub step_same : (pairs : TypePairs) (k : ℕ) (i : MeansInside) (a : AllowsInside) (j : MeansInside) (older newer : Schema) (A B : ℕ) (rs : List Record) → Step pairs k i a j older newer A B rs → valid (body_of (records (meaning_by i older A rs))) ≡ true →
     meaning_by j newer B (records (meaning_by i older A rs)) ≡ meaning_by j newer B rs
 step_same pairs k i a j older newer A B rs s h =
     let ws : List Record = records (meaning_by i older A rs) in

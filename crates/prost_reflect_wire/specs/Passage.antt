@@ -14,5 +14,5 @@ OlderAccepts = (older newer : Schema) (k A B : ℕ) (bytes : List ℕ) → Reduc
 
 -- What the older type reads and writes again the newer one accepts, and it means the same to it.
 abbrev pub Passage : Type 0
-Passage = (older newer : Schema) (k A B : ℕ) (bytes : List ℕ) (c : Content) → schema_valid older ≡ true → schema_valid newer ≡ true → AreBytes bytes → Reduced older A newer B → Accepts newer k B bytes →
+Passage = (older newer : Schema) (k A B : ℕ) (bytes : List ℕ) (c : Content) → schema_valid older ≡ true → AreBytes bytes → Reduced older A newer B → Accepts newer k B bytes →
     decoded older k A bytes ≡ Some c → length (encoded c) < 2 ^ 64 → Accepts newer k B (encoded c) × (decoded newer k B (encoded c) ≡ decoded newer k B bytes)

@@ -1,8 +1,14 @@
 //! What is proved of reduction: each function has no body, and its contract is a law.
 
-ghost use Rattle.prost_reflect_wire.specs.Passage.{OlderAccepts};
+ghost use Rattle.prost_reflect_wire.specs.Passage.{OlderAccepts, Passage};
 
 /// What a newer message type accepts, a compatible reduction of it accepts.
 pub fn older_accepts()
     ensures { OlderAccepts }
+{}
+
+/// What the bytes of a newer type mean to a reduction of it is written as bytes that mean the same to
+/// the newer one.
+pub fn passage()
+    ensures { Passage }
 {}

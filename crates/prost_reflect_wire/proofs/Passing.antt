@@ -1,0 +1,104 @@
+-- Passage through a reduction, at all levels.
+use Rattle.std.proofs.Common.{◌≡◌, ℕ, zero, suc, ◌^◌, ◌<◌, Bool, true, false, ◌&&◌, List, [], ◌∷◌, length, nat_lt, Option, Some, None, refl, ap, ap₂, sym, subst, ◌∙◌, true≢false}
+use Rattle.std.specs.List.{list_all}
+use Rattle.prost_reflect_wire.specs.Varint.{AreBytes, guard, ◌>>=◌}
+use Rattle.prost_reflect_wire.specs.Record.{Record, Records, Spells, items, read, body_of, valid}
+use Rattle.prost_reflect_wire.specs.Schema.{MessageType, Schema, known, field_valid, numbers_differ, schema_valid}
+use Rattle.prost_reflect_wire.specs.Content.{Content}
+use Rattle.prost_reflect_wire.specs.Grammar.{AllowsInside, record_allowed, nothing_inside, allows, Accepts}
+use Rattle.prost_reflect_wire.specs.Meaning.{MeansInside, meaning_by, empty_inside, meaning, decoded}
+use Rattle.prost_reflect_wire.specs.Writing.{records, encoded}
+use Rattle.prost_reflect_wire.specs.Reduction.{TypePairs, holds, all_match, Reduced}
+use Rattle.prost_reflect_wire.proofs.Deeper.{and_both, all_append}
+use Rattle.prost_reflect_wire.proofs.ByteLists.{bytes_test}
+use Rattle.prost_reflect_wire.proofs.Reading.{spelled_read}
+use Rattle.prost_reflect_wire.proofs.Shortest.{short_spells}
+use Rattle.prost_reflect_wire.proofs.SpelledValid.{spelled_valid}
+use Rattle.prost_reflect_wire.proofs.Checked.{known_valid}
+use Rattle.prost_reflect_wire.proofs.Values.{items_body}
+use Rattle.prost_reflect_wire.proofs.Spelt.{Sound, valid_if}
+use Rattle.prost_reflect_wire.proofs.Matches.{matching}
+use Rattle.prost_reflect_wire.proofs.Inside.{body_items}
+use Rattle.prost_reflect_wire.proofs.Again.{Carries}
+use Rattle.prost_reflect_wire.proofs.Relaying.{Step, step_sound, step_allowed, step_same}
+
+known_differ : (schema : Schema) (T : ℕ) → schema_valid schema ≡ true → numbers_differ (known schema T) ≡ true
+known_differ schema T h = go schema T h
+  where
+    checked : MessageType → Bool
+    checked m = numbers_differ m.known && list_all (field_valid schema) m.known
+
+    go : (types : List MessageType) (T : ℕ) → list_all (λ (m : MessageType). numbers_differ m.known && list_all (field_valid schema) m.known) types ≡ true → numbers_differ (known types T) ≡ true
+    go [] T h = refl
+    go (m ∷ types) zero h = (and_both (numbers_differ m.known) (list_all (field_valid schema) m.known) (and_both (checked m) (list_all checked types) h).0).0
+    go (m ∷ types) (suc T) h = go types T (and_both (checked m) (list_all checked types) h).1
+
+-- records that the newer type of a pair allows, one level above what carries
+step_of : (pairs : TypePairs) (k : ℕ) (i : MeansInside) (a : AllowsInside) (j : MeansInside) (older newer : Schema) (A B : ℕ) (rs : List Record) → schema_valid older ≡ true → all_match pairs older newer ≡ true → Carries pairs k i a j → holds pairs A B ≡ true → valid (body_of rs) ≡ true →
+    list_all (record_allowed k a (known newer B)) rs ≡ true → Step pairs k i a j older newer A B rs
+step_of pairs k i a j older newer A B rs checked all c h ok e = record {
+  carries = c;
+  match = matching pairs older newer A B h all;
+  checked = known_valid older A checked;
+  differ = known_differ older A checked;
+  spelt = ok;
+  allowed = e;
+}
+
+next_level : (pairs : TypePairs) (k : ℕ) (i : MeansInside) (a : AllowsInside) (j : MeansInside) (older newer : Schema) → schema_valid older ≡ true → all_match pairs older newer ≡ true → Carries pairs k i a j →
+    Carries pairs (suc k) (meaning_by i older) (λ B rs. list_all (record_allowed k a (known newer B)) rs) (meaning_by j newer)
+next_level pairs k i a j older newer checked all c = record {
+  sound = λ A B rs h ok e. step_sound pairs k i a j older newer A B rs (step_of pairs k i a j older newer A B rs checked all c h ok e);
+  allowed = λ A B rs h ok e spelt. step_allowed pairs k i a j older newer A B rs (step_of pairs k i a j older newer A B rs checked all c h ok e) spelt;
+  same = λ A B rs h ok e spelt. step_same pairs k i a j older newer A B rs (step_of pairs k i a j older newer A B rs checked all c h ok e) spelt;
+  join = λ B xs ys h e. all_append (record_allowed k a (known newer B)) xs ys h e;
+  nothing = λ B h. refl;
+}
+
+-- below the last level nothing is allowed
+no_level : (pairs : TypePairs) (i j : MeansInside) → Carries pairs 0 i nothing_inside j
+no_level pairs i j = record {
+  sound = λ A B rs h ok e. absurd (true≢false (sym e));
+  allowed = λ A B rs h ok e spelt. absurd (true≢false (sym e));
+  same = λ A B rs h ok e spelt. absurd (true≢false (sym e));
+  join = λ B xs ys h e. absurd (true≢false (sym h));
+  nothing = λ B h. absurd (true≢false (sym h));
+}
+
+pub carried : (pairs : TypePairs) (older newer : Schema) (k : ℕ) → schema_valid older ≡ true → all_match pairs older newer ≡ true → Carries pairs (suc k) (meaning older k) (allows newer k) (meaning newer k)
+unfolding meaning allows
+carried pairs older newer zero checked all = next_level pairs 0 (empty_inside older) nothing_inside (empty_inside newer) older newer checked all (no_level pairs (empty_inside older) (empty_inside newer))
+carried pairs older newer (suc k) checked all = next_level pairs (suc k) (meaning older k) (allows newer k) (meaning newer k) older newer checked all (carried pairs older newer k checked all)
+
+-- BYTES
+
+decoded_spelled : (schema : Schema) (k T : ℕ) (rs : Records) (bytes : List ℕ) → Spells rs bytes → decoded schema k T bytes ≡ guard (allows schema k T (items rs)) (meaning schema k T (items rs))
+decoded_spelled schema k T rs bytes s = ap (λ (o : Option Records). o >>= λ rs. guard (allows schema k T (items rs)) (meaning schema k T (items rs))) (spelled_read rs bytes s)
+
+guarded : {A : Type 0} (b : Bool) (x y : A) → guard b x ≡ Some y → y ≡ x
+guarded true x y e = ap (λ o. elim o [ None ↦ x | Some z ↦ z ]) (sym e)
+guarded false x y e = absurd (true≢false (ap (λ o. elim o [ None ↦ true | Some z ↦ false ]) e))
+
+-- what the older type writes, the newer one accepts, and it means the same
+relayed_meaning : (older newer : Schema) (k A B : ℕ) (bytes : List ℕ) → schema_valid older ≡ true → AreBytes bytes → Reduced older A newer B → (a : Accepts newer k B bytes) → length (encoded (meaning older k A (items a.records))) < 2 ^ 64 →
+    Accepts newer k B (encoded (meaning older k A (items a.records))) × (decoded newer k B (encoded (meaning older k A (items a.records))) ≡ decoded newer k B bytes)
+relayed_meaning older newer k A B bytes checked small r a short =
+    let rs : List Record = items a.records in
+    let c : Content = meaning older k A (items a.records) in
+    let car : Carries r.pairs (suc k) (meaning older k) (allows newer k) (meaning newer k) = carried r.pairs older newer k checked r.each in
+    let ok : valid (body_of (items a.records)) ≡ true = ap valid (body_items a.records) ∙ spelled_valid a.records bytes small a.spelled in
+    let spelt : valid (body_of (records (meaning older k A (items a.records)))) ≡ true = valid_if (records c) (car.sound A B rs r.first ok a.allowed) short in
+    let allowed : allows newer k B (records (meaning older k A (items a.records))) ≡ true = car.allowed A B rs r.first ok a.allowed spelt in
+    let spells : Spells (body_of (records (meaning older k A (items a.records)))) (encoded (meaning older k A (items a.records))) = short_spells (body_of (records c)) spelt in
+    (record { records = body_of (records c); spelled = spells; allowed = ap (allows newer k B) (items_body (records c)) ∙ allowed },
+    decoded_spelled newer k B (body_of (records c)) (encoded c) spells
+    ∙ ap (λ rs. guard (allows newer k B rs) (meaning newer k B rs)) (items_body (records c))
+    ∙ ap₂ (λ b (m : Content). guard b m) (allowed ∙ sym a.allowed) (car.same A B rs r.first ok a.allowed spelt)
+    ∙ sym (decoded_spelled newer k B a.records bytes a.spelled))
+
+pub passage : (older newer : Schema) (k A B : ℕ) (bytes : List ℕ) (c : Content) → schema_valid older ≡ true → AreBytes bytes → Reduced older A newer B → Accepts newer k B bytes →
+    decoded older k A bytes ≡ Some c → length (encoded c) < 2 ^ 64 → Accepts newer k B (encoded c) × (decoded newer k B (encoded c) ≡ decoded newer k B bytes)
+passage older newer k A B bytes c checked small r a e short =
+    let same : c ≡ meaning older k A (items a.records) = guarded (allows older k A (items a.records)) (meaning older k A (items a.records)) c (sym (decoded_spelled older k A a.records bytes a.spelled) ∙ e) in
+    subst (λ c. Accepts newer k B (encoded c) × (decoded newer k B (encoded c) ≡ decoded newer k B bytes)) (sym same)
+    (relayed_meaning older newer k A B bytes checked small r a (subst (λ c. length (encoded c) < 2 ^ 64) same short))
