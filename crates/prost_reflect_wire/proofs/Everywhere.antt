@@ -1,7 +1,6 @@
 -- Tests of every entry at every depth.
-use Rattle.std.proofs.Common.{◌≡◌, ℕ, Bool, true, false, ◌&&◌, List, refl}
-use Rattle.prost_reflect_wire.specs.Record.{Payload}
-use Rattle.prost_reflect_wire.specs.Schema.{Field, Schema, known}
+use Rattle.std.proofs.Common.{◌≡◌, ℕ, true, ◌&&◌, List, refl}
+use Rattle.prost_reflect_wire.specs.Schema.{Field, known}
 use Rattle.prost_reflect_wire.specs.Content.{Content, ContentOf, Entries, NoEntries, Stored, Unknown, Value, ScalarValue, MessageValue, ListValue, MapValue, Values, NoValues, Item, Pairs, NoPairs, Pair}
 use Rattle.prost_reflect_wire.specs.Typing.{EntryTest, everywhere, entries_pass, value_passes, values_pass, pairs_pass}
 use Rattle.prost_reflect_wire.proofs.Deeper.{and_both, both_true}

@@ -1,7 +1,7 @@
 -- What is known of a field from a value that fits it.
-use Rattle.std.proofs.Common.{◌≡◌, ℕ, Bool, true, false, ◌&&◌, Option, Some, None, refl, sym, subst, true≢false}
-use Rattle.prost_reflect_wire.specs.Schema.{Kind, ValueType, FieldForm, Singular, Repeated, MapFrom, Field, Schema, is_message, is_singular, passes}
-use Rattle.prost_reflect_wire.specs.Content.{Content, Value, ScalarValue, MessageValue, ListValue, MapValue}
+use Rattle.std.proofs.Common.{◌≡◌, Bool, true, Option, Some, None, refl, sym, subst, true≢false}
+use Rattle.prost_reflect_wire.specs.Schema.{Kind, FieldForm, Singular, Repeated, MapFrom, Field, Schema, is_message, is_singular, passes}
+use Rattle.prost_reflect_wire.specs.Content.{Value, ScalarValue, MessageValue, ListValue, MapValue}
 use Rattle.prost_reflect_wire.specs.Typing.{is_repeated, elements_valid, value_valid, own_kind, kind_for, ValueTyped}
 use Rattle.prost_reflect_wire.proofs.Deeper.{and_both}
 

@@ -20,7 +20,6 @@ use Rattle.prost_reflect_wire.proofs.Values.{value_records_known, unknown_known}
 use Rattle.prost_reflect_wire.proofs.Lists.{all_elements}
 use Rattle.prost_reflect_wire.proofs.Spelt.{written_valid}
 use Rattle.prost_reflect_wire.specs.declared.key.WireType.{WireType}
-use Rattle.prost_reflect_wire.specs.declared.key.WireType.TheVariants as wires
 
 -- ONE ELEMENT
 

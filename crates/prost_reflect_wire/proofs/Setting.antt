@@ -1,14 +1,14 @@
 -- A set keeps a content well-typed.
-use Rattle.std.proofs.Common.{◌≡◌, ℕ, zero, suc, ◌≤◌, ◌⊎◌, inl, inr, Bool, true, false, cond, not, ◌&&◌, List, [], ◌∷◌, nat_eq, Option, Some, None, refl, ap, sym, ◌∙◌, subst, arith, true≢false}
+use Rattle.std.proofs.Common.{◌≡◌, ℕ, ◌≤◌, ◌⊎◌, inl, inr, Bool, true, false, cond, List, [], ◌∷◌, nat_eq, Option, Some, None, refl, ap, sym, ◌∙◌, subst, arith, true≢false}
 use Rattle.std.specs.Prelude.{max}
 use Rattle.std.specs.List.{list_all}
 use Rattle.std.proofs.lemmas.Bool.{eqb-true, eq-eqb}
 use Rattle.prost_reflect_wire.specs.Record.{Payload}
 use Rattle.prost_reflect_wire.specs.Scalar.{Scalar}
-use Rattle.prost_reflect_wire.specs.Schema.{Kind, ScalarOf, MessageOf, GroupOf, ValueType, FieldForm, Singular, Field, MessageType, Schema, known, field_of, is_sibling, is_singular, is_message, numbers_differ, field_valid, schema_valid, passes}
-use Rattle.prost_reflect_wire.specs.Content.{Content, ContentOf, Entries, NoEntries, Value, ScalarValue, MessageValue, ListValue, MapValue, Slot, value_at, slot_at, changed, insert_number, numbers_in, empty, schema_of, type_of}
-use Rattle.prost_reflect_wire.specs.Levels.{levels, entries_levels, value_levels}
-use Rattle.prost_reflect_wire.specs.Typing.{kind_takes, is_repeated, elements_valid, element_valid, pairs_valid, value_valid, value_passes, everywhere, fit_test, alone_test, filled_test, default_test, is_of_type, kind_for, own_kind, IsOf, ValueTyped, kept_value, kept_inside, ValueStored, WellStored, WellTyped}
+use Rattle.prost_reflect_wire.specs.Schema.{Kind, ScalarOf, MessageOf, GroupOf, ValueType, Singular, Field, Schema, known, field_of, is_sibling, is_singular, is_message, numbers_differ, schema_valid}
+use Rattle.prost_reflect_wire.specs.Content.{Content, ContentOf, Entries, Value, ScalarValue, MessageValue, ListValue, MapValue, Slot, value_at, slot_at, insert_number, numbers_in, empty, schema_of, type_of}
+use Rattle.prost_reflect_wire.specs.Levels.{levels, value_levels}
+use Rattle.prost_reflect_wire.specs.Typing.{kind_takes, is_repeated, elements_valid, pairs_valid, value_valid, fit_test, alone_test, filled_test, default_test, is_of_type, kind_for, ValueTyped, kept_value, kept_inside, ValueStored, WellTyped}
 use Rattle.prost_reflect_wire.specs.Edit.{with_value, with_field_value, set_field, default_of, default_value, value_or_default, in_message, in_field, set_at, message_of, PathTo}
 use Rattle.prost_reflect_wire.proofs.Deeper.{and_both, both_true}
 use Rattle.prost_reflect_wire.proofs.Everywhere.{both_tests, value_both}
@@ -17,7 +17,7 @@ use Rattle.prost_reflect_wire.proofs.Survivors.{field_number}
 use Rattle.prost_reflect_wire.proofs.Kept.{kept_cases, value_kept, valid_kept, fits_kept, members_kept, filled_kept, default_kept, kind_kept, value_typed, value_in_order, said}
 use Rattle.prost_reflect_wire.proofs.FieldTypes.{field_typed, typed_field}
 use Rattle.prost_reflect_wire.proofs.Checked.{known_differ}
-use Rattle.prost_reflect_wire.proofs.Slots.{deep_test, GoodContent, GoodEntries, GoodValue, GoodSlots, slots_good, table_good, well_good, good_well, unknown_good, alone_changed, not_own}
+use Rattle.prost_reflect_wire.proofs.Slots.{GoodContent, GoodEntries, GoodValue, GoodSlots, slots_good, table_good, well_good, good_well, unknown_good, alone_changed, not_own}
 
 -- ONE NUMBER
 

@@ -1,17 +1,17 @@
 -- Contents that are well-typed and of so many levels, number by number.
-use Rattle.std.proofs.Common.{◌≡◌, ◌≢◌, ℕ, zero, suc, ◌≤◌, Bool, true, false, cond, not, ◌&&◌, ◌||◌, List, [], ◌∷◌, nat_eq, nat_le, Option, Some, None, refl, ap, ap₂, sym, ◌∙◌, subst, arith, true≢false}
+use Rattle.std.proofs.Common.{◌≡◌, ℕ, ◌≤◌, Bool, true, false, cond, not, ◌&&◌, ◌||◌, List, [], ◌∷◌, nat_eq, nat_le, Option, Some, None, refl, ap, sym, ◌∙◌, subst, arith, true≢false}
 use Rattle.std.specs.Prelude.{max}
 use Rattle.std.specs.List.{list_any, list_all}
 use Rattle.std.proofs.lemmas.Bool.{eqb-true, eq-eqb, leb-true, le-leb}
 use Rattle.prost_reflect_wire.specs.Record.{Payload}
-use Rattle.prost_reflect_wire.specs.Schema.{Kind, FieldForm, Field, Schema, known, field_of, same_oneof, is_sibling, numbers_differ, passes}
-use Rattle.prost_reflect_wire.specs.Content.{Content, ContentOf, Entries, NoEntries, Stored, Unknown, Value, Slot, value_at, unknowns_at, slot_at, then_unknowns, then_value, store, table, ordered, comes_before, entries_ordered, value_ordered}
+use Rattle.prost_reflect_wire.specs.Schema.{Field, Schema, known, field_of, same_oneof, is_sibling, numbers_differ, passes}
+use Rattle.prost_reflect_wire.specs.Content.{Content, Entries, NoEntries, Stored, Unknown, Value, Slot, value_at, unknowns_at, slot_at, then_unknowns, then_value, table, ordered, comes_before, entries_ordered, value_ordered}
 use Rattle.prost_reflect_wire.specs.Levels.{unknown_levels, levels, entries_levels, value_levels}
 use Rattle.prost_reflect_wire.specs.Typing.{value_valid, unknown_fits, EntryTest, everywhere, entries_pass, value_passes, fit_test, has_value_of, is_alone, alone_test, is_empty_of, is_stored_default, filled_test, default_test, kind_for, Typed, EntriesTyped, ValueTyped, WellTyped}
 use Rattle.prost_reflect_wire.proofs.Deeper.{and_both, both_true}
 use Rattle.prost_reflect_wire.proofs.Everywhere.{stored_passes, both_tests, both_pass, both_parts}
 use Rattle.prost_reflect_wire.proofs.Numbers.{Ascending, eqb-sym}
-use Rattle.prost_reflect_wire.proofs.Survivors.{or_false, field_number}
+use Rattle.prost_reflect_wire.proofs.Survivors.{field_number}
 use Rattle.prost_reflect_wire.proofs.Arranged.{OrderedOption, table_ordered}
 
 -- WHAT IS ASKED

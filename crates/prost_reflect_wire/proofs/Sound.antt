@@ -7,21 +7,21 @@ use Rattle.prost_reflect_wire.specs.Record.{Key, key_at, wire_code, plain_wire, 
 use Rattle.prost_reflect_wire.specs.declared.key.WireType.{WireType}
 use Rattle.prost_reflect_wire.specs.declared.key.WireType.TheVariants as wires
 
-some_inside : {A : Type 0} {x y : A} → Some x ≡ Some y → x ≡ y
+pub some_inside : {A : Type 0} {x y : A} → Some x ≡ Some y → x ≡ y
 some_inside {x} e = ap (λ o. elim o [ None ↦ x | Some z ↦ z ]) e
 
-none_some : {A : Type 0} {y : A} → None ≡ Some y → ⊥
+pub none_some : {A : Type 0} {y : A} → None ≡ Some y → ⊥
 none_some e = true≢false (ap (λ o. elim o [ None ↦ true | Some z ↦ false ]) e)
 
 pub bind_ok : {A B : Type 0} (f : A → Option B) (m : Option A) (y : B) → (m >>= f) ≡ Some y → (x : A) × (m ≡ Some x) × (f x ≡ Some y)
 bind_ok f None y e = absurd (none_some e)
 bind_ok f (Some x) y e = (x, refl, e)
 
-guard_ok : {A : Type 0} (b : Bool) (x y : A) → guard b x ≡ Some y → (b ≡ true) × (x ≡ y)
+pub guard_ok : {A : Type 0} (b : Bool) (x y : A) → guard b x ≡ Some y → (b ≡ true) × (x ≡ y)
 guard_ok true x y e = (refl, some_inside e)
 guard_ok false x y e = absurd (none_some e)
 
-bytes_after : (front rest : List ℕ) → AreBytes (front ++ rest) → AreBytes rest
+pub bytes_after : (front rest : List ℕ) → AreBytes (front ++ rest) → AreBytes rest
 bytes_after [] rest h = h
 bytes_after (b ∷ front) rest h = bytes_after front rest h.1
 
@@ -99,17 +99,17 @@ front_sound n bytes front rest e =
     (sym (take-append-drop n bytes) ∙ ap₂ ◌++◌ one two, sym (ap length one) ∙ omega (arith, length-take n bytes, fits))
 
 -- a payload at the front, of this wire type
-record Front (wire : WireType) (bytes : List ℕ) (p : Plain) (rest : List ℕ) : Type 0 where
-  front : List ℕ
-  whole : bytes ≡ front ++ rest
-  spells : SpellsPlain p front
-  wired : wire ≡ plain_wire p
+pub record Front (wire : WireType) (bytes : List ℕ) (p : Plain) (rest : List ℕ) : Type 0 where
+  pub front : List ℕ
+  pub whole : bytes ≡ front ++ rest
+  pub spells : SpellsPlain p front
+  pub wired : wire ≡ plain_wire p
 
 -- what was found of one kind
 moved : {wire : WireType} {bytes : List ℕ} {p q : Plain} {rest more : List ℕ} → ◌≡◌ {A = Plain × List ℕ} (p, rest) (q, more) → Front wire bytes p rest → Front wire bytes q more
 moved {wire} {bytes} e h = subst (λ (x : Plain × List ℕ). Front wire bytes x.0 x.1) e h
 
-plain_sound : (wire : WireType) (bytes : List ℕ) (p : Plain) (rest : List ℕ) → AreBytes bytes → plain_at wire bytes ≡ Some (p, rest) → Front wire bytes p rest
+pub plain_sound : (wire : WireType) (bytes : List ℕ) (p : Plain) (rest : List ℕ) → AreBytes bytes → plain_at wire bytes ≡ Some (p, rest) → Front wire bytes p rest
 plain_sound wires.Varint bytes p rest small e =
     let (v, m, f) = bind_ok (λ v. Some (Var v.0, v.1)) (varint_at bytes) (p, rest) e in
     let (front, whole, r) = varint_sound bytes v.0 v.1 small m in

@@ -7,7 +7,6 @@ use Rattle.prost_reflect_wire.specs.Record.{Plain, Len, Records, Payload, Flat, 
 use Rattle.prost_reflect_wire.specs.Scalar.{ScalarKind, elem, kind_wire, is_undeclared}
 use Rattle.prost_reflect_wire.specs.Schema.{Kind, ScalarOf, MessageOf, GroupOf, ValueType, FieldForm, Singular, Repeated, MapFrom, Field, Schema, known, field_of, is_packable, is_message, passes}
 use Rattle.prost_reflect_wire.specs.declared.key.WireType.{WireType}
-use Rattle.prost_reflect_wire.specs.declared.key.WireType.TheVariants as wires
 
 -- The levels that a parser takes.
 abbrev pub LEVEL_LIMIT : ℕ

@@ -1,10 +1,10 @@
 -- Laws of the definitions.
 use Rattle.std.specs.Prelude.{◌≡◌, ◌≢◌, ℕ, suc, ◌≤◌, ◌<◌, ◌^◌, ◌↔◌, true, false, List, [], ◌∷◌, ◌++◌, length, map, flat_map, ⊤, max, Some, IsTrue}
-use Rattle.prost_reflect_wire.specs.Varint.{AreBytes, ◌>>=◌}
+use Rattle.prost_reflect_wire.specs.Varint.{AreBytes}
 use Rattle.prost_reflect_wire.specs.Record.{Records, Record, Payload, Flat, Spells, read, body_of, valid, payload_valid, short_body}
 use Rattle.prost_reflect_wire.specs.Scalar.{Scalar, ScalarKind, elem, written, scalar_valid, is_undeclared}
 use Rattle.prost_reflect_wire.specs.Schema.{Schema, Field, Kind, ScalarOf, ValueType, Singular, Repeated, MapFrom, is_packable, known, field_of, is_sibling, schema_valid}
-use Rattle.prost_reflect_wire.specs.Content.{Content, ContentOf, Entries, NoEntries, Stored, Unknown, Value, ScalarValue, MessageValue, ListValue, MapValue, Values, NoValues, Item, Pairs, NoPairs, Pair, schema_of, type_of, ordered, entries_ordered, value_ordered, pairs_ordered}
+use Rattle.prost_reflect_wire.specs.Content.{Content, ContentOf, Entries, NoEntries, Stored, Unknown, Value, ScalarValue, MessageValue, ListValue, MapValue, Values, NoValues, Item, Pairs, NoPairs, Pair, schema_of, type_of, ordered, entries_ordered, pairs_ordered}
 use Rattle.prost_reflect_wire.specs.Grammar.{LEVEL_LIMIT, Accepts, accepts, allows, element_payloads_in, is_stray, is_stray_entry, records_in, value_records, unknown_payloads}
 use Rattle.prost_reflect_wire.specs.Meaning.{MeansInside, element, entry_key, entry_value, field_value, meaning, decoded, steps}
 use Rattle.prost_reflect_wire.specs.Writing.{is_default_of, value_payload, pair_payload, record_at, field_payloads, records, encoded}
@@ -62,6 +62,38 @@ AllowedFurther = (schema : Schema) (k T : ℕ) (rs : List Record) → allows sch
 -- Numbers and keys ascend in what is read.
 abbrev pub MeaningOrdered : Type 0
 MeaningOrdered = (schema : Schema) (k T : ℕ) (rs : List Record) → ordered (meaning schema k T rs) ≡ true
+
+-- What is read is well-typed.
+abbrev pub MeaningTyped : Type 0
+MeaningTyped = (schema : Schema) (k T : ℕ) (rs : List Record) → schema_valid schema ≡ true → valid (body_of rs) ≡ true → allows schema k T rs ≡ true → WellTyped (meaning schema k T rs)
+
+-- What is allowed within so many levels means a content of at most as many.
+abbrev pub MeaningLevels : Type 0
+MeaningLevels = (schema : Schema) (k T : ℕ) (rs : List Record) → schema_valid schema ≡ true → valid (body_of rs) ≡ true → allows schema k T rs ≡ true → levels (meaning schema k T rs) ≤ k
+
+-- A content behind more records: of the same type, well-typed, and of at most so many levels.
+pub record StaysWell (k : ℕ) (c d : Content) : Type 0 where
+  pub schema_same : schema_of d ≡ schema_of c
+  pub type_same : type_of d ≡ type_of c
+  pub typed : WellTyped d
+  pub low : levels d ≤ k
+
+-- Records that are allowed keep a content so, read behind it
+abbrev pub StepsWell : Type 0
+StepsWell = (k : ℕ) (c : Content) (rs : List Record) → schema_valid (schema_of c) ≡ true → WellTyped c → levels c ≤ k → valid (body_of rs) ≡ true → allows (schema_of c) k (type_of c) rs ≡ true → StaysWell k c (steps k c rs)
+
+-- or merged into it.
+abbrev pub MergedWell : Type 0
+MergedWell = (c : Content) (rs : List Record) → schema_valid (schema_of c) ≡ true → WellTyped c → valid (body_of rs) ≡ true → allows (schema_of c) LEVEL_LIMIT (type_of c) rs ≡ true → StaysWell (max (levels c) LEVEL_LIMIT) c (merged c rs)
+
+-- More levels change nothing of what allowed records make of a content.
+abbrev pub StepsFree : Type 0
+StepsFree = (k m : ℕ) (c : Content) (rs : List Record) → schema_valid (schema_of c) ≡ true → WellTyped c → levels c ≤ k → valid (body_of rs) ≡ true → allows (schema_of c) k (type_of c) rs ≡ true → k ≤ m → steps k c rs ≡ steps m c rs
+
+-- Pieces, at any depth: records that the limit allows, merged into what any allowed records mean, mean what all of them mean.
+abbrev pub Pieces : Type 0
+Pieces = (schema : Schema) (k m T : ℕ) (front behind : List Record) → schema_valid schema ≡ true → valid (body_of front) ≡ true → allows schema k T front ≡ true → valid (body_of behind) ≡ true → allows schema LEVEL_LIMIT T behind ≡ true → k ≤ m → LEVEL_LIMIT ≤ m →
+    merged (meaning schema k T front) behind ≡ meaning schema m T (front ++ behind)
 
 -- CONTENTS OF WHAT IS STORED
 
@@ -178,6 +210,10 @@ EncodedSpells = (c : Content) → Writable c → Spells (body_of (records c)) (e
 abbrev pub RoundTrip : Type 0
 RoundTrip = (k : ℕ) (c : Content) → Writable c →
     (Accepts (schema_of c) k (type_of c) (encoded c) ↔ (levels c ≤ k)) × (levels c ≤ k → decoded (schema_of c) k (type_of c) (encoded c) ≡ Some c)
+
+-- Decoding, encoding, decoding and encoding gives the bytes of the first encoding.
+abbrev pub NormalForm : Type 0
+NormalForm = (schema : Schema) (k T : ℕ) (bytes : List ℕ) (c : Content) → AreBytes bytes → schema_valid schema ≡ true → decoded schema k T bytes ≡ Some c → length (encoded c) < 2 ^ 64 → decoded schema k T (encoded c) ≡ Some c
 
 -- Records merged into a content mean what they mean behind its own.
 abbrev pub MergedMeans : Type 0

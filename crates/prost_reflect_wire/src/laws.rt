@@ -12,7 +12,7 @@ ghost use Rattle.prost_reflect_wire.specs.Examples.Contents.{Schemas, Validity, 
 ghost use Rattle.prost_reflect_wire.specs.Examples.Editing.{Merging, OneNumber, Access, Paths};
 ghost use Rattle.prost_reflect_wire.specs.Examples.Reductions.{Reductions, NoReductions, Passing};
 ghost use Rattle.prost_reflect_wire.specs.Examples.Faults.{Faults};
-ghost use Rattle.prost_reflect_wire.specs.Laws.{OneReading, ReadIsSpells, WrittenSpells, AcceptsIsTest, MeaningBySteps, Commute, SameBehind, LevelsFree, AllowedFurther, WrittenIsRead, EntriesMean, ScalarBack, MessageBack, ListBack, PackedBack, MapBack, RecordsMean, EncodedSpells, Canonicity, RecordsAllowed, RoundTrip, MergedMeans, PiecesJoin, ReadIsValid, MeaningOrdered, StrayBack, KeptWell, KeptContent, SetWell};
+ghost use Rattle.prost_reflect_wire.specs.Laws.{OneReading, ReadIsSpells, WrittenSpells, AcceptsIsTest, MeaningBySteps, Commute, SameBehind, LevelsFree, AllowedFurther, WrittenIsRead, EntriesMean, ScalarBack, MessageBack, ListBack, PackedBack, MapBack, RecordsMean, EncodedSpells, Canonicity, RecordsAllowed, RoundTrip, MergedMeans, PiecesJoin, ReadIsValid, MeaningOrdered, StrayBack, KeptWell, KeptContent, SetWell, MeaningTyped, MeaningLevels, NormalForm, StepsWell, MergedWell, StepsFree, Pieces};
 
 /// Bytes spell at most one list of records.
 pub fn one_reading()
@@ -238,4 +238,39 @@ pub fn worked_reductions()
 /// The worked examples of faults hold.
 pub fn worked_faults()
     ensures { Faults }
+{}
+
+/// What is read is well-typed.
+pub fn meaning_typed()
+    ensures { MeaningTyped }
+{}
+
+/// What is allowed within so many levels means a content of at most as many.
+pub fn meaning_levels()
+    ensures { MeaningLevels }
+{}
+
+/// What was read is written so that it is read as the same.
+pub fn normal_form()
+    ensures { NormalForm }
+{}
+
+/// Records that are allowed keep a content well-typed, and of the levels that are left.
+pub fn steps_well()
+    ensures { StepsWell }
+{}
+
+/// What is merged stays well-typed.
+pub fn merged_well()
+    ensures { MergedWell }
+{}
+
+/// More levels change nothing of what allowed records make of a content.
+pub fn steps_free()
+    ensures { StepsFree }
+{}
+
+/// Records merged into what others mean are read behind them, at any depth.
+pub fn pieces()
+    ensures { Pieces }
 {}

@@ -1,5 +1,5 @@
 -- The worked examples of contents and of what changes them.
-use Rattle.std.proofs.Common.{List, [], ◌∷◌, length, refl, ap, sym, true≢false, arith}
+use Rattle.std.proofs.Common.{length, refl, ap, sym, true≢false, arith}
 use Rattle.std.specs.Str.{is_utf8, chars}
 use Rattle.std.specs.Char.{encode_utf8}
 use Rattle.prost_reflect_wire.specs.Varint.{short}

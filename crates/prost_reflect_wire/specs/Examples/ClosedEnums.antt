@@ -1,6 +1,5 @@
 -- Undeclared numbers of closed enums (the page "Enum Behavior" of the Protocol Buffers documentation).
 use Rattle.std.specs.Prelude.{◌≡◌, true, false, [], ◌∷◌}
-use Rattle.prost_reflect_wire.specs.Record.{Flat, Var}
 use Rattle.prost_reflect_wire.specs.Content.{NoEntries, Stored, Unknown, MapValue, NoPairs, Pair}
 use Rattle.prost_reflect_wire.specs.Grammar.{accepts}
 use Rattle.prost_reflect_wire.specs.Levels.{levels}

@@ -1,10 +1,9 @@
 -- Faults that stand in bytes: each of the named errors, and each way to a further place.
-use Rattle.std.specs.Prelude.{[], ◌∷◌}
+use Rattle.std.specs.Prelude.{[]}
 use Rattle.prost_reflect_wire.specs.Grammar.{LEVEL_LIMIT}
 use Rattle.prost_reflect_wire.specs.Fault.{StandsInMessage, StandsInField}
 use Rattle.prost_reflect_wire.specs.Examples.Schemas.{examples, my_message, packed_list, maps, groups, text_at_one}
 use Rattle.prost_reflect_wire.specs.Examples.Words.{hex}
-use Rattle.prost_reflect_wire.specs.declared.error.DecodeError.{DecodeError}
 use Rattle.prost_reflect_wire.specs.declared.error.DecodeError.TheVariants as errors
 
 pub record Faults : Type 0 where

@@ -1,8 +1,8 @@
 -- Fields of one value: presence, the last one wins, messages merge, oneofs and extensions (the encoding guide, "Last One Wins", "Optional and Repeated Elements", "Oneofs", "Submessages"; the guide on field presence).
-use Rattle.std.specs.Prelude.{◌≡◌, pos, [], ◌∷◌}
+use Rattle.std.specs.Prelude.{[], ◌∷◌}
 use Rattle.prost_reflect_wire.specs.Record.{Flat, Var}
 use Rattle.prost_reflect_wire.specs.Content.{NoEntries, Stored, Unknown, ScalarValue}
-use Rattle.prost_reflect_wire.specs.Examples.Schemas.{my_message, one_message, plain_a, optional_a, seven_a, choice, two_choices, groups, item, extended, no_fields, text_at_one}
+use Rattle.prost_reflect_wire.specs.Examples.Schemas.{my_message, plain_a, seven_a, choice, two_choices, groups, item, extended, no_fields, text_at_one}
 use Rattle.prost_reflect_wire.specs.Examples.Words.{int, minus_one, ascii, inner, list_of, Means, Reads, Refused}
 
 pub record Scalars : Type 0 where

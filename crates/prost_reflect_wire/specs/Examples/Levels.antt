@@ -1,5 +1,5 @@
 -- How deep messages and groups may nest (the encoding guide, "Submessages" and "Groups"; the limit on levels is a parser's, and what is said of entries is this library's).
-use Rattle.std.specs.Prelude.{◌≡◌, true, false, pos, [], ◌∷◌, length, Some}
+use Rattle.std.specs.Prelude.{◌≡◌, true, false, pos, [], length, Some}
 use Rattle.prost_reflect_wire.specs.Record.{NoRecords, GroupRecord, Group}
 use Rattle.prost_reflect_wire.specs.Content.{NoEntries, Stored, Unknown, MapValue, NoPairs, Pair}
 use Rattle.prost_reflect_wire.specs.Scalar.{I32}

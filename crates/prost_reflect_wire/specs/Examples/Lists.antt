@@ -1,5 +1,5 @@
 -- Lists, packed and not (the encoding guide, "Packed Repeated Fields").
-use Rattle.std.specs.Prelude.{◌≡◌, pos, negsuc, [], ◌∷◌}
+use Rattle.std.specs.Prelude.{negsuc, [], ◌∷◌}
 use Rattle.prost_reflect_wire.specs.Scalar.{I64, U32}
 use Rattle.prost_reflect_wire.specs.Content.{NoEntries, Stored, ScalarValue}
 use Rattle.prost_reflect_wire.specs.Examples.Schemas.{my_message, unpacked_list, packed_list, message_list, lists}

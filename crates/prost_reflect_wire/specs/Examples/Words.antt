@@ -1,6 +1,6 @@
 -- The words that the worked examples are written in.
 use Prim.Native.String.{String}
-use Rattle.std.specs.Prelude.{◌≡◌, ℕ, zero, suc, ◌+◌, ◌-◌, ◌*◌, Bool, true, false, not, ℤ, pos, negsuc, List, [], ◌∷◌, ◌++◌, length, filter, codes, nat_eq, nat_lt, if◌then◌else◌, Some}
+use Rattle.std.specs.Prelude.{◌≡◌, ℕ, zero, suc, ◌+◌, ◌-◌, ◌*◌, false, not, pos, negsuc, List, [], ◌∷◌, ◌++◌, length, filter, codes, nat_eq, nat_lt, if◌then◌else◌, Some}
 use Rattle.prost_reflect_wire.specs.Varint.{short}
 use Rattle.prost_reflect_wire.specs.Record.{Var, Len, Payload, Flat}
 use Rattle.prost_reflect_wire.specs.Scalar.{Scalar, I32, Text, EnumNumber}
