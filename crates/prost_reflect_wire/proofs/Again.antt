@@ -24,7 +24,7 @@ use Rattle.prost_reflect_wire.proofs.Spelt.{Sound, SoundPayload, SoundPayloads}
 use Rattle.prost_reflect_wire.proofs.Valid.{scalar_sound, inside_sound}
 use Rattle.prost_reflect_wire.proofs.Means.{inside_valid}
 use Rattle.prost_reflect_wire.proofs.Alike.{Alike, alike, stray_alike, elements_alike}
-use Rattle.prost_reflect_wire.proofs.Inside.{Joinable, inside_valid_records, message_inside}
+use Rattle.prost_reflect_wire.proofs.Inside.{Joinable}
 
 -- One level down: what the records of an older type mean is written so that the newer one, which allows them, allows it and means the same by it.
 pub record Carries (pairs : TypePairs) (k : ℕ) (i : MeansInside) (a : AllowsInside) (j : MeansInside) : Type 0 where

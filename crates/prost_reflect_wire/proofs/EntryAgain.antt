@@ -26,7 +26,8 @@ use Rattle.prost_reflect_wire.proofs.Valid.{scalar_sound, entry_sound}
 use Rattle.prost_reflect_wire.proofs.Means.{first_valid, behind_valid, body_valid}
 use Rattle.prost_reflect_wire.proofs.Alike.{Alike, alike, SameType, stray_alike}
 use Rattle.prost_reflect_wire.proofs.ByNumber.{payloads_pass, record_valid, valid_all}
-use Rattle.prost_reflect_wire.proofs.Inside.{Joinable, inside_valid_records, passes_inside, joined_valid, joined_allowed}
+use Rattle.prost_reflect_wire.proofs.Readable.{inside_spelled}
+use Rattle.prost_reflect_wire.proofs.Inside.{Joinable, passes_inside, joined_valid, joined_allowed}
 use Rattle.prost_reflect_wire.proofs.Again.{Carries, ReadAs, Again, body_back, scalar_again, message_again, group_again, read_scalar_valid, FieldReads, FieldAgain, nothing_again}
 use Rattle.prost_reflect_wire.proofs.Putting.{Rising, put_rising, put_all, put_all_rising}
 
@@ -69,7 +70,7 @@ entry_of k a key t q h =
     let (allowed, stays) = and_both (field_allowed k a (MapFrom key) t q) (not (is_stray_entry t q)) rest in
     let (shape, inside) = and_both (is_len q && has_level k t.kind) (passes (body q) (list_all (in_entry_allowed k a key t))) allowed in
     let each : list_all (in_entry_allowed k a key t) (records_in q) ≡ true = passes_inside q (list_all (in_entry_allowed k a key t)) inside in
-    let spelt : list_all record_valid (records_in q) ≡ true = sym (valid_all (records_in q)) ∙ inside_valid_records q ok in
+    let spelt : list_all record_valid (records_in q) ≡ true = sym (valid_all (records_in q)) ∙ inside_spelled q ok in
     record {
       keys_valid = payloads_pass 1 record_valid payload_valid (records_in q) (λ r e v. (and_both _ (payload_valid r.payload) v).1) spelt;
       values_valid = payloads_pass 2 record_valid payload_valid (records_in q) (λ r e v. (and_both _ (payload_valid r.payload) v).1) spelt;

@@ -10,7 +10,7 @@ use Rattle.prost_reflect_wire.specs.Reduction.{TypePairs, is_known, has_no_fello
 use Rattle.prost_reflect_wire.proofs.Deeper.{and_both}
 use Rattle.prost_reflect_wire.proofs.Numbers.{eqb-sym}
 use Rattle.prost_reflect_wire.proofs.Survivors.{field_number, or_false, filter_none, survive_none, after_cons, not_kept}
-use Rattle.prost_reflect_wire.proofs.Matches.{found_passes, any_found, some_field, Passing, found_any, member_at, sibling_back, same_oneof_sym, TypesMatch, Like}
+use Rattle.prost_reflect_wire.proofs.Matches.{found_passes, any_found, some_field, Passing, found_any, member_at, same_oneof_sym, TypesMatch, Like}
 
 not_known : (fields : List Field) (n : ℕ) (oneof : Option ℕ) → field_of fields n ≡ None → list_any (member_at n oneof) fields ≡ false
 not_known [] n oneof e = refl
@@ -97,26 +97,6 @@ fellows pairs older newer f g m t l = go (field_of older m) refl
         ap (is_sibling newer g) (sym number) ∙ same ∙ ap (is_sibling older f) number
 
 -- VALUES OF ONE ONEOF
-
--- where numbers differ, the member of a number is the field of that number
-pub member_found : (fields : List Field) (m : ℕ) (oneof : Option ℕ) → numbers_differ fields ≡ true → list_any (member_at m oneof) fields ≡ true → (f : Field) × (field_of fields m ≡ Some f) × (same_oneof f.oneof oneof ≡ true)
-member_found [] m oneof d h = absurd (true≢false (sym h))
-member_found (g ∷ fields) m oneof d h =
-    let (one, more) = and_both (not (list_any (λ f. nat_eq f.number g.number) fields)) (numbers_differ fields) d in
-    go (nat_eq g.number m) refl (same_oneof g.oneof oneof) refl h (flip (list_any (λ f. nat_eq f.number g.number) fields) one) (member_found fields m oneof more)
-  where
-    flip : (b : Bool) → not b ≡ true → b ≡ false
-    flip false h = refl
-    flip true h = absurd (true≢false (sym h))
-
-    go : (b : Bool) → nat_eq g.number m ≡ b → (c : Bool) → same_oneof g.oneof oneof ≡ c → ((b && c) || list_any (member_at m oneof) fields) ≡ true → list_any (λ f. nat_eq f.number g.number) fields ≡ false →
-        (list_any (member_at m oneof) fields ≡ true → (f : Field) × (field_of fields m ≡ Some f) × (same_oneof f.oneof oneof ≡ true)) → (f : Field) × (cond b (Some g) (field_of fields m) ≡ Some f) × (same_oneof f.oneof oneof ≡ true)
-    go true e true s h one more = (g, refl, s)
-    go true e false s h one more =
-        let p : Passing (member_at m oneof) fields = some_field (member_at m oneof) fields h in
-        let at : nat_eq p.field.number m ≡ true = (and_both (nat_eq p.field.number m) (same_oneof p.field.oneof oneof) p.passes).0 in
-        absurd (true≢false (sym at ∙ ap (nat_eq p.field.number) (sym (eqb-true g.number m e)) ∙ p.none (λ f. nat_eq f.number g.number) one))
-    go false e c s h one more = more h
 
 implied_none : (t u : Record → Bool) (rs : List Record) → ((r : Record) → t r ≡ true → u r ≡ true) → list_any u rs ≡ false → list_any t rs ≡ false
 implied_none t u [] h e = refl

@@ -12,7 +12,7 @@ use Rattle.prost_reflect_wire.proofs.Deeper.{and_both, both_true, all_filter, so
 use Rattle.prost_reflect_wire.proofs.Checked.{CheckedField, CheckedList, checked_list, CheckedMap, checked_map}
 use Rattle.prost_reflect_wire.proofs.Alike.{SameType, same_type}
 use Rattle.prost_reflect_wire.proofs.ByNumber.{stored_payloads}
-use Rattle.prost_reflect_wire.proofs.PackedValid.{elements_in_valid}
+use Rattle.prost_reflect_wire.proofs.Readable.{elements_in_valid}
 use Rattle.prost_reflect_wire.proofs.Again.{Carries, FieldAgain}
 use Rattle.prost_reflect_wire.proofs.SingleAgain.{single_source, single_again}
 use Rattle.prost_reflect_wire.proofs.ListAgain.{list_source, list_again}

@@ -10,44 +10,15 @@ use Rattle.prost_reflect_wire.specs.Grammar.{AllowsInside, or_none, body, record
 use Rattle.prost_reflect_wire.specs.Meaning.{joined}
 use Rattle.prost_reflect_wire.specs.Typing.{is_of_type}
 use Rattle.prost_reflect_wire.proofs.Deeper.{and_both, both_true}
-use Rattle.prost_reflect_wire.proofs.Sound.{read_spells}
-use Rattle.prost_reflect_wire.proofs.SpelledValid.{spelled_valid}
-use Rattle.prost_reflect_wire.proofs.ByNumber.{record_valid, valid_all}
-
-pub bytes_are : (bytes : List ℕ) → are_bytes bytes ≡ true → AreBytes bytes
-bytes_are [] h = tt
-bytes_are (b ∷ bytes) h = let (one, more) = and_both (nat_lt b 256) (are_bytes bytes) h in (ltb-true b 256 one, bytes_are bytes more)
-
-pub body_items : (rs : Records) → body_of (items rs) ≡ rs
-body_items NoRecords = refl
-body_items (PlainRecord n p rest) = ap (PlainRecord n p) (body_items rest)
-body_items (GroupRecord n inside rest) = ap (GroupRecord n inside) (body_items rest)
+use Rattle.prost_reflect_wire.proofs.Readable.{inside_spelled, append_valid}
 
 -- VALID
-
-pub inside_valid_records : (p : Payload) → payload_valid p ≡ true → valid (body_of (records_in p)) ≡ true
-inside_valid_records (Group inside) h = ap valid (body_items inside) ∙ h
-inside_valid_records (Flat (Var v)) h = refl
-inside_valid_records (Flat (Fix64 bytes)) h = refl
-inside_valid_records (Flat (Fix32 bytes)) h = refl
-inside_valid_records (Flat (Len bytes)) h = go (read bytes) refl
-  where
-    small : are_bytes bytes ≡ true
-    small = (and_both _ (are_bytes bytes) h).1
-
-    go : (o : Option Records) → read bytes ≡ o → valid (body_of (or_none (o >>= λ rs. Some (items rs)))) ≡ true
-    go None e = refl
-    go (Some rs) e = ap valid (body_items rs) ∙ spelled_valid rs bytes (bytes_are bytes small) (read_spells bytes rs (bytes_are bytes small) e)
-
-pub append_valid : (xs ys : List Record) → valid (body_of xs) ≡ true → valid (body_of ys) ≡ true → valid (body_of (xs ++ ys)) ≡ true
-append_valid xs ys h k =
-    valid_all (xs ++ ys) ∙ list_all-append record_valid xs ys ∙ both_true (sym (valid_all xs) ∙ h) (sym (valid_all ys) ∙ k)
 
 pub joined_valid : (ps : List Payload) → list_all payload_valid ps ≡ true → valid (body_of (joined ps)) ≡ true
 joined_valid [] h = refl
 joined_valid (p ∷ ps) h =
     let (one, more) = and_both (payload_valid p) (list_all payload_valid ps) h in
-    append_valid (records_in p) (joined ps) (inside_valid_records p one) (joined_valid ps more)
+    append_valid (records_in p) (joined ps) (inside_spelled p one) (joined_valid ps more)
 
 -- ALLOWED
 

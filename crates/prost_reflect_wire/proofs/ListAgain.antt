@@ -20,7 +20,8 @@ use Rattle.prost_reflect_wire.proofs.Spelt.{plain_bytes, payload_size, SoundPayl
 use Rattle.prost_reflect_wire.proofs.Valid.{scalar_sound}
 use Rattle.prost_reflect_wire.proofs.Alike.{Alike, alike, elements_alike, unpacked_alike}
 use Rattle.prost_reflect_wire.proofs.ByNumber.{stored_payloads}
-use Rattle.prost_reflect_wire.proofs.Inside.{inside_valid_records, message_inside}
+use Rattle.prost_reflect_wire.proofs.Readable.{inside_spelled}
+use Rattle.prost_reflect_wire.proofs.Inside.{message_inside}
 use Rattle.prost_reflect_wire.proofs.Again.{Carries, ReadAs, Again, scalar_reads, scalar_again, message_again, group_again, read_scalar_valid, FieldReads, FieldAgain, nothing_again}
 
 -- EACH ELEMENT
@@ -121,11 +122,11 @@ elements_again pairs k i a j (ScalarOf kA) (ScalarOf kB) (p ∷ ps) c h all =
 elements_again pairs k i a j (MessageOf A) (MessageOf B) (p ∷ ps) c h all =
     let (one, more) = and_both (list_source a (MessageOf B) p) (list_all (list_source a (MessageOf B)) ps) all in
     let s : Sources a (MessageOf B) p = source_parts a (MessageOf B) p one in
-    (message_again pairs k i a j A B (records_in p) c h (inside_valid_records p s.valid) (message_inside a (MessageOf B) B p (same_number B) s.allowed), elements_again pairs k i a j (MessageOf A) (MessageOf B) ps c h more)
+    (message_again pairs k i a j A B (records_in p) c h (inside_spelled p s.valid) (message_inside a (MessageOf B) B p (same_number B) s.allowed), elements_again pairs k i a j (MessageOf A) (MessageOf B) ps c h more)
 elements_again pairs k i a j (GroupOf A) (GroupOf B) (p ∷ ps) c h all =
     let (one, more) = and_both (list_source a (GroupOf B) p) (list_all (list_source a (GroupOf B)) ps) all in
     let s : Sources a (GroupOf B) p = source_parts a (GroupOf B) p one in
-    (group_again pairs k i a j A B (records_in p) c h (inside_valid_records p s.valid) (message_inside a (GroupOf B) B p (same_number B) s.allowed), elements_again pairs k i a j (GroupOf A) (GroupOf B) ps c h more)
+    (group_again pairs k i a j A B (records_in p) c h (inside_spelled p s.valid) (message_inside a (GroupOf B) B p (same_number B) s.allowed), elements_again pairs k i a j (GroupOf A) (GroupOf B) ps c h more)
 elements_again pairs k i a j _ _ (p ∷ ps) c h all = absurd (true≢false (sym h))
 
 -- SCALARS END TO END

@@ -70,25 +70,6 @@ same_oneof_sym None None = refl
 abbrev pub member_at : ℕ → Option ℕ → Field → Bool
 member_at n oneof g = nat_eq g.number n && same_oneof g.oneof oneof
 
-both_of : {a b : Bool} → a ≡ true → b ≡ true → (a && b) ≡ true
-both_of {b} e f = ap (λ c. c && b) e ∙ f
-
-not_of : {b : Bool} → b ≡ false → not b ≡ true
-not_of e = ap not e
-
-not_false : (b : Bool) → not b ≡ true → b ≡ false
-not_false false h = refl
-not_false true h = absurd (true≢false (sym h))
-
--- where g is a sibling of f, so is f of g
-pub sibling_back : (fields : List Field) (n m : ℕ) (f g : Field) → field_of fields n ≡ Some f → field_of fields m ≡ Some g → same_oneof g.oneof f.oneof ≡ true → nat_eq n m ≡ false → is_sibling fields g n ≡ true
-sibling_back fields n m f g ef eg h d =
-    both_of (not_of (ap (nat_eq n) (field_number fields m g eg) ∙ d))
-    (found_any (member_at n g.oneof) fields n f ef (both_of (ap (λ k. nat_eq k n) (field_number fields n f ef) ∙ same n) (same_oneof_sym f.oneof g.oneof ∙ h)))
-  where
-    same : (n : ℕ) → nat_eq n n ≡ true
-    same n = eq-eqb n n refl
-
 -- TYPES OF A PAIR
 
 -- two types that are a pair of the set match

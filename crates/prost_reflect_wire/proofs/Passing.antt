@@ -14,24 +14,13 @@ use Rattle.prost_reflect_wire.proofs.ByteLists.{bytes_test}
 use Rattle.prost_reflect_wire.proofs.Reading.{spelled_read}
 use Rattle.prost_reflect_wire.proofs.Shortest.{short_spells}
 use Rattle.prost_reflect_wire.proofs.SpelledValid.{spelled_valid}
-use Rattle.prost_reflect_wire.proofs.Checked.{known_valid}
+use Rattle.prost_reflect_wire.proofs.Checked.{known_valid, known_differ}
 use Rattle.prost_reflect_wire.proofs.Values.{items_body}
 use Rattle.prost_reflect_wire.proofs.Spelt.{Sound, valid_if}
 use Rattle.prost_reflect_wire.proofs.Matches.{matching}
-use Rattle.prost_reflect_wire.proofs.Inside.{body_items}
+use Rattle.prost_reflect_wire.proofs.Readable.{body_items}
 use Rattle.prost_reflect_wire.proofs.Again.{Carries}
 use Rattle.prost_reflect_wire.proofs.Relaying.{Step, step_sound, step_allowed, step_same}
-
-known_differ : (schema : Schema) (T : ℕ) → schema_valid schema ≡ true → numbers_differ (known schema T) ≡ true
-known_differ schema T h = go schema T h
-  where
-    checked : MessageType → Bool
-    checked m = numbers_differ m.known && list_all (field_valid schema) m.known
-
-    go : (types : List MessageType) (T : ℕ) → list_all (λ (m : MessageType). numbers_differ m.known && list_all (field_valid schema) m.known) types ≡ true → numbers_differ (known types T) ≡ true
-    go [] T h = refl
-    go (m ∷ types) zero h = (and_both (numbers_differ m.known) (list_all (field_valid schema) m.known) (and_both (checked m) (list_all checked types) h).0).0
-    go (m ∷ types) (suc T) h = go types T (and_both (checked m) (list_all checked types) h).1
 
 -- records that the newer type of a pair allows, one level above what carries
 step_of : (pairs : TypePairs) (k : ℕ) (i : MeansInside) (a : AllowsInside) (j : MeansInside) (older newer : Schema) (A B : ℕ) (rs : List Record) → schema_valid older ≡ true → all_match pairs older newer ≡ true → Carries pairs k i a j → holds pairs A B ≡ true → valid (body_of rs) ≡ true →

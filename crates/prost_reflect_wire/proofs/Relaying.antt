@@ -13,15 +13,17 @@ use Rattle.prost_reflect_wire.specs.Meaning.{MeansInside, survive, field_value, 
 use Rattle.prost_reflect_wire.specs.Writing.{record_at, records}
 use Rattle.prost_reflect_wire.specs.Reduction.{TypePairs, holds, all_match}
 use Rattle.prost_reflect_wire.specs.Laws.{block}
-use Rattle.prost_reflect_wire.proofs.Numbers.{eqb-sym, slots_same}
+use Rattle.prost_reflect_wire.proofs.Numbers.{slots_same}
 use Rattle.prost_reflect_wire.proofs.Survivors.{field_number, filter_none, survive_none}
 use Rattle.prost_reflect_wire.proofs.Steps.{flat_append, field_nothing, surviving_value, meaning_same}
 use Rattle.prost_reflect_wire.proofs.Deeper.{and_both, both_true, all_filter, allows_append}
 use Rattle.prost_reflect_wire.proofs.Checked.{checked_field, found_valid, known_number}
 use Rattle.prost_reflect_wire.proofs.Spelt.{SoundPayloads, Sound}
+use Rattle.prost_reflect_wire.proofs.Readable.{numbered_valid}
+use Rattle.prost_reflect_wire.proofs.Slots.{sibling_back}
 use Rattle.prost_reflect_wire.proofs.Alike.{strays_alike}
-use Rattle.prost_reflect_wire.proofs.Matches.{member_at, sibling_back, TypesMatch, Like, like}
-use Rattle.prost_reflect_wire.proofs.Fellows.{lone, fellows, member_found, one_survives}
+use Rattle.prost_reflect_wire.proofs.Matches.{TypesMatch, Like, like}
+use Rattle.prost_reflect_wire.proofs.Fellows.{lone, fellows, one_survives}
 use Rattle.prost_reflect_wire.proofs.ByNumber.{block_payloads, numbered_records, values_of_block, strays_of_block, unknowns_of_block, filter_values, none_by_number, after_none, payloads_pass, surviving_pass, record_valid, valid_all, stored_payloads, slot_payloads, meaning_records, meaning_all, meaning_sound}
 use Rattle.prost_reflect_wire.proofs.Again.{Carries, FieldReads, FieldAgain}
 use Rattle.prost_reflect_wire.proofs.FieldAgain.{source, all_sources, strays_stay, Strays, all_strays, field_again}
@@ -79,9 +81,6 @@ record Known (k : ℕ) (a : AllowsInside) (i j : MeansInside) (older newer : Lis
   strays : Strays k a g.form g.value_type (unknowns_meaning older rs n)
   same_strays : unknowns_meaning older rs n ≡ unknowns_meaning newer rs n
 
-payloads_valid : (rs : List Record) (n : ℕ) → valid (body_of rs) ≡ true → list_all payload_valid (numbered n rs) ≡ true
-payloads_valid rs n h = payloads_pass n record_valid payload_valid rs (λ r e v. (and_both (number_valid r.number) (payload_valid r.payload) v).1) (sym (valid_all rs) ∙ h)
-
 strays_at : (fields : List Field) (rs : List Record) (n : ℕ) (f : Field) → field_of fields n ≡ Some f → unknowns_meaning fields rs n ≡ flat_map (stray_payloads f.form f.value_type) (numbered n rs)
 strays_at fields rs n f e = ap (flat_map (unknown_payloads fields)) (numbered_records n rs) ∙ strays_of_block fields n f (numbered n rs) e
 
@@ -111,7 +110,7 @@ known_again pairs k i a j older newer A B rs n f g s found l = record {
     foundB = ap (field_of (known newer B)) (sym (field_number (known older A) n f found)) ∙ l.found
 
     ok : list_all payload_valid (numbered n rs) ≡ true
-    ok = payloads_valid rs n s.spelt
+    ok = numbered_valid n rs s.spelt
 
     fits : list_all (field_allowed k a g.form g.value_type) (numbered n rs) ≡ true
     fits = payloads_pass n (record_allowed k a fieldsB) (field_allowed k a g.form g.value_type) rs
@@ -238,19 +237,13 @@ no_sibling : (pairs : TypePairs) (k : ℕ) (i : MeansInside) (a : AllowsInside) 
     filter (has_number m) (flat_map (value_records (known newer B)) (records (meaning_by i older A rs))) ≡ []
 no_sibling pairs k i a j older newer A B rs n m f g v s spelt found l some h =
     let fm : is_sibling (known older A) f m ≡ true = sym (fellows pairs (known older A) (known newer B) f g m s.match l) ∙ h in
-    let (other, any) = and_both (not (nat_eq m f.number)) (list_any (member_at m f.oneof) (known older A)) fm in
-    let (x, at, same) = member_found (known older A) m f.oneof s.differ any in
-    let apart : nat_eq n m ≡ false = eqb-sym n m ∙ ap (nat_eq m) (sym (field_number (known older A) n f found)) ∙ flip (nat_eq m f.number) other in
+    let (x, at, back) = sibling_back (known older A) n m f s.differ found fm in
     let (y, l') = like pairs (known older A) (known newer B) m x s.match at in
     let b : Known k a i j (known older A) (known newer B) rs m x y = known_again pairs k i a j older newer A B rs m x y s at l' in
     let t : Taken k a i j (known older A) (known newer B) rs m x y = taken k a i j (known older A) (known newer B) rs m x y b (ap (λ o. list_all payload_valid (written_at i (known older A) rs m o)) (sym at) ∙ spelt m) in
     let none : surviving_value i (known older A) x (flat_map (value_records (known older A)) rs) ≡ None =
-        sibling_none i (known older A) (flat_map (value_records (known older A)) rs) n m f x v found at fm (sibling_back (known older A) n m f x found at same apart) some in
+        sibling_none i (known older A) (flat_map (value_records (known older A)) rs) n m f x v found at fm back some in
     known_taken k a i j older A (known newer B) rs m x y b at ∙ ap (block m) (t.values ∙ ap (λ o. flat_map (value_payloads y.form y.value_type) (stored_payloads (Some x) o)) none)
-  where
-    flip : (b : Bool) → not b ≡ true → b ≡ false
-    flip false h = refl
-    flip true h = absurd (true≢false (sym h))
 
 -- a known number
 known_value : (pairs : TypePairs) (k : ℕ) (i : MeansInside) (a : AllowsInside) (j : MeansInside) (older newer : Schema) (A B : ℕ) (rs : List Record) (n : ℕ) (f g : Field) → Step pairs k i a j older newer A B rs → AllSpelt i (known older A) rs →
@@ -317,7 +310,7 @@ slot_value pairs k i a j older newer A B rs n s spelt = go (field_of (known olde
 -- what is written has a spelling at each number, if it has one
 all_spelt : (i : MeansInside) (older : Schema) (A : ℕ) (rs : List Record) → valid (body_of (records (meaning_by i older A rs))) ≡ true → AllSpelt i (known older A) rs
 all_spelt i older A rs h n =
-    ap (list_all payload_valid) (sym (ap payloads (meaning_records i older A rs n) ∙ block_payloads n (written_at i (known older A) rs n (field_of (known older A) n)))) ∙ payloads_valid (records (meaning_by i older A rs)) n h
+    ap (list_all payload_valid) (sym (ap payloads (meaning_records i older A rs n) ∙ block_payloads n (written_at i (known older A) rs n (field_of (known older A) n)))) ∙ numbered_valid n (records (meaning_by i older A rs)) h
 
 pub step_sound : (pairs : TypePairs) (k : ℕ) (i : MeansInside) (a : AllowsInside) (j : MeansInside) (older newer : Schema) (A B : ℕ) (rs : List Record) → Step pairs k i a j older newer A B rs → Sound (records (meaning_by i older A rs))
 step_sound pairs k i a j older newer A B rs s = meaning_sound i older A rs (λ n. slot_sound pairs k i a j older newer A B rs n s)
