@@ -110,17 +110,17 @@ read_scalar_valid pairs kA kB p v h ok stays e = read_valid kA p v ok (sym (stra
 
 -- ONE FIELD
 
--- payloads of a field are allowed, leave no stray, and are read as others
-pub record FieldReads (k : ℕ) (a : AllowsInside) (j : MeansInside) (c : FieldForm) (t : ValueType) (ps qs : List Payload) : Type 0 where
+-- payloads of a field are allowed, leave no stray, and are read as this value or none
+pub record FieldReads (k : ℕ) (a : AllowsInside) (j : MeansInside) (c : FieldForm) (t : ValueType) (ps : List Payload) (o : Option Value) : Type 0 where
   pub strays : flat_map (stray_payloads c t) ps ≡ []
-  pub value : field_value j c t (flat_map (value_payloads c t) ps) ≡ field_value j c t qs
+  pub value : field_value j c t (flat_map (value_payloads c t) ps) ≡ o
   pub allowed : list_all (field_allowed k a c t) ps ≡ true
 
 -- if they have a spelling; and they have one if they are short
-pub record FieldAgain (k : ℕ) (a : AllowsInside) (j : MeansInside) (c : FieldForm) (t : ValueType) (ps qs : List Payload) : Type 0 where
+pub record FieldAgain (k : ℕ) (a : AllowsInside) (j : MeansInside) (c : FieldForm) (t : ValueType) (ps : List Payload) (o : Option Value) : Type 0 where
   pub sound : SoundPayloads ps
-  pub read : list_all payload_valid ps ≡ true → FieldReads k a j c t ps qs
+  pub read : list_all payload_valid ps ≡ true → FieldReads k a j c t ps o
 
--- no payloads, where nothing was read
-pub nothing_again : (k : ℕ) (a : AllowsInside) (j : MeansInside) (c : FieldForm) (t : ValueType) (qs : List Payload) → field_value j c t qs ≡ None → FieldAgain k a j c t [] qs
-nothing_again k a j c t qs e = record { sound = tt; read = λ spelt. record { strays = refl; value = field_nothing j c t ∙ sym e; allowed = refl } }
+-- no payloads and no value
+pub nothing_again : (k : ℕ) (a : AllowsInside) (j : MeansInside) (c : FieldForm) (t : ValueType) → FieldAgain k a j c t [] None
+nothing_again k a j c t = record { sound = tt; read = λ spelt. record { strays = refl; value = field_nothing j c t; allowed = refl } }

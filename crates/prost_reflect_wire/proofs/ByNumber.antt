@@ -193,35 +193,21 @@ table_at fields at n low (m ∷ ms) (l, a) =
         ap₂ (λ x y. cond x (mine m) [] ++ cond y (mine n) []) (eqb-sym m n ∙ e) (not_in n (suc m) ms a (omega (arith, same))) ∙ append-nil (mine m) ∙ ap mine (sym same)
     go false e = ap (λ x. cond x (mine m) [] ++ cond (is_in n ms) (mine n) []) (eqb-sym m n ∙ e)
 
--- the records of a number in what is written of a meaning
-pub meaning_records : (inner : MeansInside) (schema : Schema) (T : ℕ) (rs : List Record) (n : ℕ) →
-    filter (has_number n) (records (meaning_by inner schema T rs)) ≡ map (record_at n) (slot_payloads (field_of (known schema T) n) (meaning_at inner (known schema T) rs n))
-meaning_records inner schema T rs n = table_at fields at n 0 (numbers_of rs) (numbers_ascending rs) ∙ go (is_in n (numbers_of rs)) refl
+-- the records of a number in what is written of slots
+pub table_records : (fields : List Field) (at : ℕ → Slot) (ns : List ℕ) (n : ℕ) → Ascending 0 ns → Covers at 0 ns → filter (has_number n) (entries_records fields (table at ns)) ≡ map (record_at n) (slot_payloads (field_of fields n) (at n))
+table_records fields at ns n a covers = table_at fields at n 0 ns a ∙ go (is_in n ns) refl
   where
-    fields : List Field
-    fields = known schema T
-
-    at : ℕ → Slot
-    at = meaning_at inner (known schema T) rs
-
-    go : (b : Bool) → is_in n (numbers_of rs) ≡ b → cond b (map (record_at n) (slot_payloads (field_of (known schema T) n) (meaning_at inner (known schema T) rs n))) [] ≡ map (record_at n) (slot_payloads (field_of (known schema T) n) (meaning_at inner (known schema T) rs n))
+    go : (b : Bool) → is_in n ns ≡ b → cond b (map (record_at n) (slot_payloads (field_of fields n) (at n))) [] ≡ map (record_at n) (slot_payloads (field_of fields n) (at n))
     go true e = refl
-    go false e = ap (λ slot. map (record_at n) (slot_payloads (field_of (known schema T) n) slot)) (sym (meaning_covers inner (known schema T) rs n (omega arith) e))
+    go false e = ap (λ slot. map (record_at n) (slot_payloads (field_of fields n) slot)) (sym (covers n (omega arith) e))
 
 -- what the records of each number pass, all of them pass
-table_all : (test : Record → Bool) (fields : List Field) (at : ℕ → Slot) (ns : List ℕ) → ((n : ℕ) → list_all test (map (record_at n) (slot_payloads (field_of fields n) (at n))) ≡ true) → list_all test (entries_records fields (table at ns)) ≡ true
+pub table_all : (test : Record → Bool) (fields : List Field) (at : ℕ → Slot) (ns : List ℕ) → ((n : ℕ) → list_all test (map (record_at n) (slot_payloads (field_of fields n) (at n))) ≡ true) → list_all test (entries_records fields (table at ns)) ≡ true
 table_all test fields at [] h = refl
 table_all test fields at (n ∷ ns) h =
     ap (list_all test) (slot_first fields n (at n) (table at ns)) ∙ list_all-append test (map (record_at n) (slot_payloads (field_of fields n) (at n))) (entries_records fields (table at ns)) ∙ both_true (h n) (table_all test fields at ns h)
 
-pub meaning_all : (test : Record → Bool) (inner : MeansInside) (schema : Schema) (T : ℕ) (rs : List Record) → ((n : ℕ) → list_all test (map (record_at n) (slot_payloads (field_of (known schema T) n) (meaning_at inner (known schema T) rs n))) ≡ true) →
-    list_all test (records (meaning_by inner schema T rs)) ≡ true
-meaning_all test inner schema T rs h = table_all test (known schema T) (meaning_at inner (known schema T) rs) (numbers_of rs) h
-
-table_sound : (fields : List Field) (at : ℕ → Slot) (ns : List ℕ) → ((n : ℕ) → Sound (map (record_at n) (slot_payloads (field_of fields n) (at n)))) → Sound (entries_records fields (table at ns))
+pub table_sound : (fields : List Field) (at : ℕ → Slot) (ns : List ℕ) → ((n : ℕ) → Sound (map (record_at n) (slot_payloads (field_of fields n) (at n)))) → Sound (entries_records fields (table at ns))
 table_sound fields at [] h = tt
 table_sound fields at (n ∷ ns) h =
     subst Sound (sym (slot_first fields n (at n) (table at ns))) (sound_append (map (record_at n) (slot_payloads (field_of fields n) (at n))) (entries_records fields (table at ns)) (h n) (table_sound fields at ns h))
-
-pub meaning_sound : (inner : MeansInside) (schema : Schema) (T : ℕ) (rs : List Record) → ((n : ℕ) → Sound (map (record_at n) (slot_payloads (field_of (known schema T) n) (meaning_at inner (known schema T) rs n)))) → Sound (records (meaning_by inner schema T rs))
-meaning_sound inner schema T rs h = table_sound (known schema T) (meaning_at inner (known schema T) rs) (numbers_of rs) h

@@ -147,13 +147,13 @@ all_strays k a c t (p ∷ ps) ok h =
 -- THE FIELD
 
 pub field_again : (pairs : TypePairs) (k : ℕ) (i : MeansInside) (a : AllowsInside) (j : MeansInside) (older : Schema) (f g : Field) (qs : List Payload) → Carries pairs k i a j → CheckedField older f → same_form pairs f.form g.form ≡ true → SameType pairs f.value_type g.value_type →
-    list_all (source k a g.form g.value_type) qs ≡ true → FieldAgain k a j g.form g.value_type (stored_payloads (Some f) (field_value i f.form f.value_type qs)) qs
+    list_all (source k a g.form g.value_type) qs ≡ true → FieldAgain k a j g.form g.value_type (stored_payloads (Some f) (field_value i f.form f.value_type qs)) (field_value j g.form g.value_type qs)
 field_again pairs k i a j older f g qs c checked form type sources = go f.form g.form refl form sources
   where
     tB : ValueType
     tB = g.value_type
 
-    go : (cA cB : FieldForm) → f.form ≡ cA → same_form pairs cA cB ≡ true → list_all (source k a cB g.value_type) qs ≡ true → FieldAgain k a j cB g.value_type (stored_payloads (Some f) (field_value i cA f.value_type qs)) qs
+    go : (cA cB : FieldForm) → f.form ≡ cA → same_form pairs cA cB ≡ true → list_all (source k a cB g.value_type) qs ≡ true → FieldAgain k a j cB g.value_type (stored_payloads (Some f) (field_value i cA f.value_type qs)) (field_value j cB g.value_type qs)
     go Singular Singular e s all = single_again pairs k i a j f tB qs c type all
     go Singular (Repeated y) e s all = absurd (true≢false (sym s))
     go Singular (MapFrom keyB) e s all = absurd (true≢false (sym s))

@@ -263,11 +263,11 @@ list_stored f packed (Item v vs) e = ap (λ c. list_payloads c (element_payloads
 
 -- the list field
 pub list_again : (pairs : TypePairs) (k : ℕ) (i : MeansInside) (a : AllowsInside) (j : MeansInside) (f : Field) (x y : Bool) (tB : ValueType) (ps : List Payload) → Carries pairs k i a j → f.form ≡ Repeated x → same_kind pairs f.value_type.kind tB.kind ≡ true → (not x || is_packable_kind f.value_type.kind) ≡ true →
-    list_all (list_source a tB.kind) ps ≡ true → FieldAgain k a j (Repeated y) tB (stored_payloads (Some f) (present_list (values_from (flat_map (element i f.value_type.kind) ps)))) ps
+    list_all (list_source a tB.kind) ps ≡ true → FieldAgain k a j (Repeated y) tB (stored_payloads (Some f) (present_list (values_from (flat_map (element i f.value_type.kind) ps)))) (present_list (values_from (flat_map (element j tB.kind) ps)))
 list_again pairs k i a j f x y tB ps c form h p all =
     let vs : Values = values_from (flat_map (element i f.value_type.kind) ps) in
     let w : Written a j tB.kind (list_payloads (Repeated x) (element_payloads f.value_type.kind (values_from (flat_map (element i f.value_type.kind) ps)))) (values_from (flat_map (element j tB.kind) ps)) = list_written pairs k i a j x f.value_type.kind tB.kind ps c h p all in
-    subst (λ (l : List Payload). FieldAgain k a j (Repeated y) tB l ps) (sym (list_stored f x vs form)) (record {
+    subst (λ (l : List Payload). FieldAgain k a j (Repeated y) tB l (present_list (values_from (flat_map (element j tB.kind) ps)))) (sym (list_stored f x vs form)) (record {
       sound = w.sound;
       read = λ spelt.
           let r : WrittenReads a j tB.kind (list_payloads (Repeated x) (element_payloads f.value_type.kind (values_from (flat_map (element i f.value_type.kind) ps)))) (values_from (flat_map (element j tB.kind) ps)) = w.read spelt in

@@ -102,12 +102,12 @@ map_stored f key (Pair x v ps) e = ap (λ c. pair_payloads (key_of c f.value_typ
 
 -- the map field
 pub map_again : (pairs : TypePairs) (k : ℕ) (i : MeansInside) (a : AllowsInside) (j : MeansInside) (f : Field) (keyA keyB tB : ValueType) (qs : List Payload) → Carries pairs k i a j → f.form ≡ MapFrom keyA → MapTypes pairs keyA f.value_type keyB tB →
-    list_all (map_source k a keyB tB) qs ≡ true → FieldAgain k a j (MapFrom keyB) tB (stored_payloads (Some f) (present_map (put_entries i keyA f.value_type qs NoPairs))) qs
+    list_all (map_source k a keyB tB) qs ≡ true → FieldAgain k a j (MapFrom keyB) tB (stored_payloads (Some f) (present_map (put_entries i keyA f.value_type qs NoPairs))) (present_map (put_entries j keyB tB qs NoPairs))
 map_again pairs k i a j f keyA keyB tB qs c form t all =
     let ps : Pairs = put_entries i keyA f.value_type qs NoPairs in
     let rs : Pairs = put_entries j keyB tB qs NoPairs in
     let h : PairsAgain k a j keyA f.value_type keyB tB (put_entries i keyA f.value_type qs NoPairs) (put_entries j keyB tB qs NoPairs) = entries_again pairs k i a j keyA f.value_type keyB tB qs NoPairs NoPairs c t all tt in
-    subst (λ (l : List Payload). FieldAgain k a j (MapFrom keyB) tB l qs) (sym (map_stored f keyA ps form)) (record {
+    subst (λ (l : List Payload). FieldAgain k a j (MapFrom keyB) tB l (present_map (put_entries j keyB tB qs NoPairs))) (sym (map_stored f keyA ps form)) (record {
       sound = pairs_sound k a j keyA f.value_type keyB tB ps rs h;
       read = λ spelt.
           let r : PairsRead k a j keyB tB (pair_payloads keyA f.value_type (put_entries i keyA f.value_type qs NoPairs)) (put_entries j keyB tB qs NoPairs) = pairs_read k a j keyA f.value_type keyB tB ps rs h spelt in

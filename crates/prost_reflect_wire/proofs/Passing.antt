@@ -6,9 +6,11 @@ use Rattle.prost_reflect_wire.specs.Record.{Record, Records, Spells, items, read
 use Rattle.prost_reflect_wire.specs.Schema.{MessageType, Schema, known, field_valid, numbers_differ, schema_valid}
 use Rattle.prost_reflect_wire.specs.Content.{Content}
 use Rattle.prost_reflect_wire.specs.Grammar.{AllowsInside, record_allowed, nothing_inside, allows, Accepts}
-use Rattle.prost_reflect_wire.specs.Meaning.{MeansInside, meaning_by, empty_inside, meaning, decoded}
+use Rattle.prost_reflect_wire.specs.Meaning.{MeansInside, numbers_of, meaning_at, meaning_by, empty_inside, meaning, decoded}
 use Rattle.prost_reflect_wire.specs.Writing.{records, encoded}
 use Rattle.prost_reflect_wire.specs.Reduction.{TypePairs, holds, all_match, Reduced}
+use Rattle.prost_reflect_wire.proofs.Numbers.{numbers_ascending}
+use Rattle.prost_reflect_wire.proofs.Steps.{meaning_covers}
 use Rattle.prost_reflect_wire.proofs.Deeper.{and_both, all_append}
 use Rattle.prost_reflect_wire.proofs.ByteLists.{bytes_test}
 use Rattle.prost_reflect_wire.proofs.Reading.{spelled_read}
@@ -20,9 +22,9 @@ use Rattle.prost_reflect_wire.proofs.Spelt.{Sound, valid_if}
 use Rattle.prost_reflect_wire.proofs.Matches.{matching}
 use Rattle.prost_reflect_wire.proofs.Readable.{body_items}
 use Rattle.prost_reflect_wire.proofs.Again.{Carries}
-use Rattle.prost_reflect_wire.proofs.Relaying.{Step, step_sound, step_allowed, step_same}
+use Rattle.prost_reflect_wire.proofs.WrittenSlots.{BothSlots, Numbered, table_numbered, both_sound, both_allowed, both_read}
+use Rattle.prost_reflect_wire.proofs.Relaying.{Step, meaning_slots}
 
--- records that the newer type of a pair allows, one level above what carries
 step_of : (pairs : TypePairs) (k : ℕ) (i : MeansInside) (a : AllowsInside) (j : MeansInside) (older newer : Schema) (A B : ℕ) (rs : List Record) → schema_valid older ≡ true → all_match pairs older newer ≡ true → Carries pairs k i a j → holds pairs A B ≡ true → valid (body_of rs) ≡ true →
     list_all (record_allowed k a (known newer B)) rs ≡ true → Step pairs k i a j older newer A B rs
 step_of pairs k i a j older newer A B rs checked all c h ok e = record {
@@ -37,12 +39,19 @@ step_of pairs k i a j older newer A B rs checked all c h ok e = record {
 next_level : (pairs : TypePairs) (k : ℕ) (i : MeansInside) (a : AllowsInside) (j : MeansInside) (older newer : Schema) → schema_valid older ≡ true → all_match pairs older newer ≡ true → Carries pairs k i a j →
     Carries pairs (suc k) (meaning_by i older) (λ B rs. list_all (record_allowed k a (known newer B)) rs) (meaning_by j newer)
 next_level pairs k i a j older newer checked all c = record {
-  sound = λ A B rs h ok e. step_sound pairs k i a j older newer A B rs (step_of pairs k i a j older newer A B rs checked all c h ok e);
-  allowed = λ A B rs h ok e spelt. step_allowed pairs k i a j older newer A B rs (step_of pairs k i a j older newer A B rs checked all c h ok e) spelt;
-  same = λ A B rs h ok e spelt. step_same pairs k i a j older newer A B rs (step_of pairs k i a j older newer A B rs checked all c h ok e) spelt;
+  sound = λ A B rs h ok e. both_sound pairs k a j (known older A) (known newer B) (meaning_at i (known older A) rs) (meaning_at j (known newer B) rs) (numbers_of rs) (both A B rs h ok e);
+  allowed = λ A B rs h ok e spelt. both_allowed pairs k a j (known older A) (known newer B) (meaning_at i (known older A) rs) (meaning_at j (known newer B) rs) (numbers_of rs) (both A B rs h ok e) (written A rs spelt);
+  same = λ A B rs h ok e spelt. both_read pairs k a j (known older A) newer B (meaning_at i (known older A) rs) (meaning_at j (known newer B) rs) (records (meaning_by i older A rs)) (numbers_of rs) (both A B rs h ok e) (written A rs spelt)
+      (numbers_ascending rs) (meaning_covers j (known newer B) rs);
   join = λ B xs ys h e. all_append (record_allowed k a (known newer B)) xs ys h e;
   nothing = λ B h. refl;
 }
+  where
+    both : (A B : ℕ) (rs : List Record) → holds pairs A B ≡ true → valid (body_of rs) ≡ true → list_all (record_allowed k a (known newer B)) rs ≡ true → BothSlots pairs k a j (known older A) (known newer B) (meaning_at i (known older A) rs) (meaning_at j (known newer B) rs)
+    both A B rs h ok e = meaning_slots pairs k i a j older newer A B rs (step_of pairs k i a j older newer A B rs checked all c h ok e)
+
+    written : (A : ℕ) (rs : List Record) → valid (body_of (records (meaning_by i older A rs))) ≡ true → Numbered (known older A) (meaning_at i (known older A) rs) (records (meaning_by i older A rs))
+    written A rs spelt = table_numbered (known older A) (meaning_at i (known older A) rs) (numbers_of rs) (numbers_ascending rs) (meaning_covers i (known older A) rs) spelt
 
 -- below the last level nothing is allowed
 no_level : (pairs : TypePairs) (i j : MeansInside) → Carries pairs 0 i nothing_inside j

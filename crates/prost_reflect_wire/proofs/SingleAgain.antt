@@ -130,26 +130,33 @@ single_payload f (MessageValue c) s = refl
 single_payload f (ListValue vs) s = absurd s
 single_payload f (MapValue ps) s = absurd s
 
+-- one value that is carried
+pub value_again : (k : ℕ) (a : AllowsInside) (j : MeansInside) (f : Field) (tB : ValueType) (v w : Value) → IsSingle v → Again a j f.value_type.kind tB.kind v w → FieldAgain k a j Singular tB (field_payloads (Some f) v) (shown tB w)
+value_again k a j f tB v w single again =
+    let q : Payload = value_payload f.value_type.kind v in
+    subst (λ (l : List Payload). FieldAgain k a j Singular tB l (shown tB w)) (sym (single_payload f v single)) (record {
+      sound = (again.sound, tt);
+      read = λ spelt.
+          let r : ReadAs a j f.value_type.kind tB.kind v w = again.read (and_both (payload_valid q) true spelt).0 in
+          record {
+            strays = ap (λ b. cond b (q ∷ []) [] ++ []) r.stays;
+            value = ap (λ b. one_value j tB tB.kind (cond (not b) (q ∷ []) [] ++ [])) r.stays ∙ alone_read j tB tB.kind q w r.means;
+            allowed = both_true r.allowed refl;
+          };
+    })
+
 -- the field of one value
 pub single_again : (pairs : TypePairs) (k : ℕ) (i : MeansInside) (a : AllowsInside) (j : MeansInside) (f : Field) (tB : ValueType) (ps : List Payload) → Carries pairs k i a j → SameType pairs f.value_type tB →
-    list_all (single_source a tB.kind) ps ≡ true → FieldAgain k a j Singular tB (stored_payloads (Some f) (one_value i f.value_type f.value_type.kind ps)) ps
+    list_all (single_source a tB.kind) ps ≡ true → FieldAgain k a j Singular tB (stored_payloads (Some f) (one_value i f.value_type f.value_type.kind ps)) (one_value j tB tB.kind ps)
 single_again pairs k i a j f tB ps c same sources = go (single_read pairs k i a j tA tB tA.kind tB.kind ps c same.kind same.presence same.default sources)
   where
     tA : ValueType
     tA = f.value_type
 
-    go : SingleRead a j tB f.value_type.kind tB.kind (one_value i f.value_type f.value_type.kind ps) (one_value j tB tB.kind ps) → FieldAgain k a j Singular tB (stored_payloads (Some f) (one_value i f.value_type f.value_type.kind ps)) ps
-    go (inl (none, none')) = subst (λ o. FieldAgain k a j Singular tB (stored_payloads (Some f) o) ps) (sym none) (nothing_again k a j Singular tB ps none')
+    go : SingleRead a j tB f.value_type.kind tB.kind (one_value i f.value_type f.value_type.kind ps) (one_value j tB tB.kind ps) → FieldAgain k a j Singular tB (stored_payloads (Some f) (one_value i f.value_type f.value_type.kind ps)) (one_value j tB tB.kind ps)
+    go (inl (none, none')) =
+        subst (λ (o : Option Value). FieldAgain k a j Singular tB (stored_payloads (Some f) o) (one_value j tB tB.kind ps)) (sym none)
+        (subst (λ (o : Option Value). FieldAgain k a j Singular tB [] o) (sym none') (nothing_again k a j Singular tB))
     go (inr both) =
-        let q : Payload = value_payload tA.kind both.v in
-        subst (λ (o : Option Value). FieldAgain k a j Singular tB (stored_payloads (Some f) o) ps) (sym both.older)
-        (subst (λ (l : List Payload). FieldAgain k a j Singular tB l ps) (sym (single_payload f both.v both.single)) (record {
-          sound = (both.again.sound, tt);
-          read = λ spelt.
-              let r : ReadAs a j f.value_type.kind tB.kind both.v both.w = both.again.read (and_both (payload_valid q) true spelt).0 in
-              record {
-                strays = ap (λ b. cond b (q ∷ []) [] ++ []) r.stays;
-                value = ap (λ b. one_value j tB tB.kind (cond (not b) (q ∷ []) [] ++ [])) r.stays ∙ alone_read j tB tB.kind q both.w r.means ∙ sym both.newer;
-                allowed = both_true r.allowed refl;
-              };
-        }))
+        subst (λ (o : Option Value). FieldAgain k a j Singular tB (stored_payloads (Some f) o) (one_value j tB tB.kind ps)) (sym both.older)
+        (subst (λ (o : Option Value). FieldAgain k a j Singular tB (stored_payloads (Some f) (Some both.v)) o) (sym both.newer) (value_again k a j f tB both.v both.w both.single both.again))
