@@ -1,15 +1,17 @@
 -- What an older type writes of one value, a newer one of a reduction reads as what it read before.
-use Rattle.std.proofs.Common.{◌≡◌, ℕ, nat_lt, Bool, true, false, cond, not, ◌&&◌, List, [], ◌∷◌, ◌++◌, flat_map, Option, Some, None, refl, ap, ap₂, sym, ◌∙◌, true≢false, append-nil, ◌⊎◌, inl, inr}
+use Rattle.std.proofs.Common.{◌≡◌, ℕ, nat_lt, eq-eqb, Bool, true, false, cond, not, ◌&&◌, List, [], ◌∷◌, ◌++◌, flat_map, Option, Some, None, refl, ap, ap₂, sym, ◌∙◌, true≢false, append-nil, ◌⊎◌, inl, inr}
 use Rattle.std.specs.Option.{is_some}
 use Rattle.std.specs.List.{list_all}
+use Rattle.std.proofs.lemmas.Bool.{eqb-true}
 use Rattle.prost_reflect_wire.specs.Varint.{◌>>=◌}
 use Rattle.prost_reflect_wire.specs.Record.{Records, Record, Len, Payload, Flat, Group, items, read, body_of, short_body, spelled, payload_valid, valid}
 use Rattle.prost_reflect_wire.specs.Scalar.{Scalar, ScalarKind, elem, scalar_valid, is_undeclared}
 use Rattle.prost_reflect_wire.specs.Schema.{Kind, ScalarOf, MessageOf, GroupOf, ValueType, FieldForm, passes}
-use Rattle.prost_reflect_wire.specs.Content.{Value, ScalarValue, MessageValue}
+use Rattle.prost_reflect_wire.specs.Content.{Content, Value, ScalarValue, MessageValue}
 use Rattle.prost_reflect_wire.specs.Grammar.{AllowsInside, body, records_in, is_stray, element_payloads_in, value_payloads, stray_payloads, one_allowed, field_allowed}
 use Rattle.prost_reflect_wire.specs.Meaning.{MeansInside, element, scalar_values, field_value}
 use Rattle.prost_reflect_wire.specs.Writing.{records, value_payload}
+use Rattle.prost_reflect_wire.specs.Typing.{is_of_type}
 use Rattle.prost_reflect_wire.specs.Reduction.{TypePairs, holds, same_kind}
 use Rattle.prost_reflect_wire.specs.Laws.{ElementBack}
 use Rattle.prost_reflect_wire.proofs.Deeper.{and_both, both_true}
@@ -68,41 +70,39 @@ scalar_again pairs a j kA kB v h ok = record { sound = scalar_sound (ScalarOf kA
 pub body_back : (rs : List Record) → valid (body_of rs) ≡ true → body (Flat (Len (spelled rs))) ≡ Some rs
 body_back rs h = ap (λ (o : Option Records). o >>= λ rs. Some (items rs)) (spelled_read (body_of rs) (short_body (body_of rs)) (short_spells (body_of rs) h)) ∙ ap Some (items_body rs)
 
+-- a message of the older type, and what the newer one reads of its records
+pub written_again : (pairs : TypePairs) (a : AllowsInside) (j : MeansInside) (kA kB : Kind) (B : ℕ) (c d : Content) → same_kind pairs kA kB ≡ true → is_of_type kB B ≡ true → Sound (records c) →
+    (valid (body_of (records c)) ≡ true → a B (records c) ≡ true) → (valid (body_of (records c)) ≡ true → j B (records c) ≡ d) → Again a j kA kB (MessageValue c) (MessageValue d)
+written_again pairs a j (MessageOf A) (MessageOf U) B c d h t s allowed same = record {
+  sound = inside_sound (MessageOf A) (records c) s;
+  read = λ spelt.
+      let ok : valid (body_of (records c)) ≡ true = inside_valid (MessageOf A) (records c) s spelt in
+      record {
+        alone = refl; stays = refl;
+        allowed = ap (λ o. passes o (a U)) (body_back (records c) ok) ∙ ap (λ (n : ℕ). a n (records c)) (sym (eqb-true B U t)) ∙ allowed ok;
+        means = ap (λ rs. MessageValue (j U rs) ∷ []) (payload_back (MessageOf A) (records c) ok) ∙ ap (λ (n : ℕ). MessageValue (j n (records c)) ∷ []) (sym (eqb-true B U t)) ∙ ap (λ c. MessageValue c ∷ []) (same ok);
+      };
+}
+written_again pairs a j (GroupOf A) (GroupOf U) B c d h t s allowed same = record {
+  sound = inside_sound (GroupOf A) (records c) s;
+  read = λ ok. record {
+    alone = refl; stays = refl;
+    allowed = ap (a U) (items_body (records c)) ∙ ap (λ (n : ℕ). a n (records c)) (sym (eqb-true B U t)) ∙ allowed ok;
+    means = ap (λ rs. MessageValue (j U rs) ∷ []) (payload_back (GroupOf A) (records c) ok) ∙ ap (λ (n : ℕ). MessageValue (j n (records c)) ∷ []) (sym (eqb-true B U t)) ∙ ap (λ c. MessageValue c ∷ []) (same ok);
+  };
+}
+written_again pairs a j kA (ScalarOf kB) B c d h t s allowed same = absurd (true≢false (sym t))
+written_again pairs a j _ _ B c d h t s allowed same = absurd (true≢false (sym h))
+
 pub message_again : (pairs : TypePairs) (k : ℕ) (i : MeansInside) (a : AllowsInside) (j : MeansInside) (A B : ℕ) (rs : List Record) → Carries pairs k i a j → holds pairs A B ≡ true → valid (body_of rs) ≡ true → a B rs ≡ true →
     Again a j (MessageOf A) (MessageOf B) (MessageValue (i A rs)) (MessageValue (j B rs))
-message_again pairs k i a j A B rs c h v e =
-    let s : Sound (records (i A rs)) = c.sound A B rs h v e in
-    record {
-      sound = inside_sound (MessageOf A) (records (i A rs)) s;
-      read = λ spelt.
-          let ok : valid (body_of (records (i A rs))) ≡ true = inside_valid (MessageOf A) (records (i A rs)) s spelt in
-          record {
-            alone = refl; stays = refl;
-            allowed = ap (λ o. passes o (a B)) (body_back (records (i A rs)) ok) ∙ c.allowed A B rs h v e ok;
-            means = ap (λ rs. MessageValue (j B rs) ∷ []) (payload_back (MessageOf A) (records (i A rs)) ok) ∙ ap (λ c. MessageValue c ∷ []) (c.same A B rs h v e ok);
-          };
-    }
+message_again pairs k i a j A B rs c h v e = written_again pairs a j (MessageOf A) (MessageOf B) B (i A rs) (j B rs) h (eq-eqb B B refl) (c.sound A B rs h v e) (c.allowed A B rs h v e) (c.same A B rs h v e)
 
 pub group_again : (pairs : TypePairs) (k : ℕ) (i : MeansInside) (a : AllowsInside) (j : MeansInside) (A B : ℕ) (rs : List Record) → Carries pairs k i a j → holds pairs A B ≡ true → valid (body_of rs) ≡ true → a B rs ≡ true →
     Again a j (GroupOf A) (GroupOf B) (MessageValue (i A rs)) (MessageValue (j B rs))
-group_again pairs k i a j A B rs c h v e =
-    let s : Sound (records (i A rs)) = c.sound A B rs h v e in
-    record {
-      sound = inside_sound (GroupOf A) (records (i A rs)) s;
-      read = λ ok. record {
-        alone = refl; stays = refl;
-        allowed = ap (a B) (items_body (records (i A rs))) ∙ c.allowed A B rs h v e ok;
-        means = ap (λ rs. MessageValue (j B rs) ∷ []) (payload_back (GroupOf A) (records (i A rs)) ok) ∙ ap (λ c. MessageValue c ∷ []) (c.same A B rs h v e ok);
-      };
-    }
+group_again pairs k i a j A B rs c h v e = written_again pairs a j (GroupOf A) (GroupOf B) B (i A rs) (j B rs) h (eq-eqb B B refl) (c.sound A B rs h v e) (c.allowed A B rs h v e) (c.same A B rs h v e)
 
 -- ONE PAYLOAD
-
--- a payload that a value is read of
-pub record Source (a : AllowsInside) (kB : Kind) (p : Payload) : Type 0 where
-  pub valid : payload_valid p ≡ true
-  pub stays : is_stray kB p ≡ false
-  pub allowed : one_allowed a kB p ≡ true
 
 -- the scalar of a payload that is no stray
 pub read_scalar_valid : (pairs : TypePairs) (kA kB : ScalarKind) (p : Payload) (v : Scalar) → same_kind pairs (ScalarOf kA) (ScalarOf kB) ≡ true → payload_valid p ≡ true → is_stray (ScalarOf kB) p ≡ false → elem kA p ≡ Some v → scalar_valid kA v ≡ true

@@ -261,19 +261,39 @@ list_stored : (f : Field) (packed : Bool) (vs : Values) → f.form ≡ Repeated 
 list_stored f packed NoValues e = refl
 list_stored f packed (Item v vs) e = ap (λ c. list_payloads c (element_payloads f.value_type.kind (Item v vs))) e
 
--- the list field
+-- a list that is carried
+list_field : (k : ℕ) (a : AllowsInside) (j : MeansInside) (f : Field) (x y : Bool) (tB : ValueType) (vs ws : Values) → f.form ≡ Repeated x → Written a j tB.kind (list_payloads (Repeated x) (element_payloads f.value_type.kind vs)) ws →
+    FieldAgain k a j (Repeated y) tB (stored_payloads (Some f) (present_list vs)) (present_list ws)
+list_field k a j f x y tB vs ws form w =
+    subst (λ (l : List Payload). FieldAgain k a j (Repeated y) tB l (present_list ws)) (sym (list_stored f x vs form)) (record {
+      sound = w.sound;
+      read = λ spelt.
+          let r : WrittenReads a j tB.kind (list_payloads (Repeated x) (element_payloads f.value_type.kind vs)) ws = w.read spelt in
+          record { strays = r.strays; value = ap (λ l. present_list (values_from (flat_map (element j tB.kind) l))) r.values ∙ ap present_list r.means; allowed = r.allowed };
+    })
+
+-- the list that both types read of payloads
 pub list_again : (pairs : TypePairs) (k : ℕ) (i : MeansInside) (a : AllowsInside) (j : MeansInside) (f : Field) (x y : Bool) (tB : ValueType) (ps : List Payload) → Carries pairs k i a j → f.form ≡ Repeated x → same_kind pairs f.value_type.kind tB.kind ≡ true → (not x || is_packable_kind f.value_type.kind) ≡ true →
     list_all (list_source a tB.kind) ps ≡ true → FieldAgain k a j (Repeated y) tB (stored_payloads (Some f) (present_list (values_from (flat_map (element i f.value_type.kind) ps)))) (present_list (values_from (flat_map (element j tB.kind) ps)))
 list_again pairs k i a j f x y tB ps c form h p all =
-    let vs : Values = values_from (flat_map (element i f.value_type.kind) ps) in
-    let w : Written a j tB.kind (list_payloads (Repeated x) (element_payloads f.value_type.kind (values_from (flat_map (element i f.value_type.kind) ps)))) (values_from (flat_map (element j tB.kind) ps)) = list_written pairs k i a j x f.value_type.kind tB.kind ps c h p all in
-    subst (λ (l : List Payload). FieldAgain k a j (Repeated y) tB l (present_list (values_from (flat_map (element j tB.kind) ps)))) (sym (list_stored f x vs form)) (record {
-      sound = w.sound;
-      read = λ spelt.
-          let r : WrittenReads a j tB.kind (list_payloads (Repeated x) (element_payloads f.value_type.kind (values_from (flat_map (element i f.value_type.kind) ps)))) (values_from (flat_map (element j tB.kind) ps)) = w.read spelt in
-          record {
-            strays = r.strays;
-            value = ap (λ l. present_list (values_from (flat_map (element j tB.kind) l))) r.values ∙ ap present_list r.means;
-            allowed = r.allowed;
-          };
-    })
+    list_field k a j f x y tB (values_from (flat_map (element i f.value_type.kind) ps)) (values_from (flat_map (element j tB.kind) ps)) form (list_written pairs k i a j x f.value_type.kind tB.kind ps c h p all)
+
+-- a list of scalars that is there
+scalars_each : (pairs : TypePairs) (a : AllowsInside) (j : MeansInside) (kA kB : ScalarKind) (vs : Values) → same_kind pairs (ScalarOf kA) (ScalarOf kB) ≡ true → elements_valid (ScalarOf kA) vs ≡ true → EachAgain a j (ScalarOf kA) (ScalarOf kB) vs vs
+scalars_each pairs a j kA kB NoValues h ok = tt
+scalars_each pairs a j kA kB (Item (ScalarValue v) vs) h ok =
+    let (one, more) = and_both (scalar_valid kA v) (elements_valid (ScalarOf kA) vs) ok in
+    (scalar_again pairs a j kA kB v h one, scalars_each pairs a j kA kB vs h more)
+scalars_each pairs a j kA kB (Item (MessageValue c) vs) h ok = absurd (true≢false (sym ok))
+scalars_each pairs a j kA kB (Item (ListValue ws) vs) h ok = absurd (true≢false (sym ok))
+scalars_each pairs a j kA kB (Item (MapValue ps) vs) h ok = absurd (true≢false (sym ok))
+
+pub scalar_list_again : (pairs : TypePairs) (k : ℕ) (a : AllowsInside) (j : MeansInside) (f : Field) (x y : Bool) (tB : ValueType) (kA kB : ScalarKind) (vs : Values) → f.form ≡ Repeated x → f.value_type.kind ≡ ScalarOf kA → tB.kind ≡ ScalarOf kB →
+    same_kind pairs (ScalarOf kA) (ScalarOf kB) ≡ true → (not x || is_packable kA) ≡ true → elements_valid (ScalarOf kA) vs ≡ true → FieldAgain k a j (Repeated y) tB (stored_payloads (Some f) (present_list vs)) (present_list vs)
+scalar_list_again pairs k a j f x y tB kA kB vs form eA eB h p ok =
+    list_field k a j f x y tB vs vs form (subst (λ kd. Written a j kd (list_payloads (Repeated x) (element_payloads f.value_type.kind vs)) vs) (sym eB)
+    (subst (λ kd. Written a j (ScalarOf kB) (list_payloads (Repeated x) (element_payloads kd vs)) vs) (sym eA) (go x p)))
+  where
+    go : (x : Bool) → (not x || is_packable kA) ≡ true → Written a j (ScalarOf kB) (list_payloads (Repeated x) (element_payloads (ScalarOf kA) vs)) vs
+    go true p = packed_again pairs a j kA kB vs h p ok
+    go false p = subst (λ (l : List Payload). Written a j (ScalarOf kB) l vs) (sym (unpacked_list (element_payloads (ScalarOf kA) vs))) (one_by_one a j (ScalarOf kA) (ScalarOf kB) vs vs (scalars_each pairs a j kA kB vs h ok))

@@ -3,19 +3,21 @@ use Rattle.std.proofs.Common.{◌≡◌, ℕ, Bool, true, false, cond, not, ◌&
 use Rattle.std.specs.Bool.{⊤}
 use Rattle.std.specs.List.{list_all}
 use Rattle.prost_reflect_wire.specs.Record.{Payload, Record, payload_valid}
-use Rattle.prost_reflect_wire.specs.Scalar.{Scalar, scalar_lt, scalar_eq}
-use Rattle.prost_reflect_wire.specs.Schema.{Kind, ValueType, FieldForm, MapFrom, Field, is_key_kind, has_kind_default, default_valid}
-use Rattle.prost_reflect_wire.specs.Content.{Value, MapValue, Pairs, NoPairs, Pair}
+use Rattle.prost_reflect_wire.specs.Scalar.{Scalar, ScalarKind, scalar_lt, scalar_eq}
+use Rattle.prost_reflect_wire.specs.Schema.{Kind, ScalarOf, ValueType, FieldForm, MapFrom, Field, is_key_kind, has_kind_default, default_valid}
+use Rattle.prost_reflect_wire.specs.Content.{Value, ScalarValue, MessageValue, ListValue, MapValue, Pairs, NoPairs, Pair, key_before, value_ordered, pairs_ordered}
 use Rattle.prost_reflect_wire.specs.Grammar.{AllowsInside, records_in, is_stray_entry, has_level, field_allowed, value_payloads, stray_payloads}
 use Rattle.prost_reflect_wire.specs.Meaning.{MeansInside, entry_key, entry_value, put, put_entry, put_entries, present_map, field_value}
 use Rattle.prost_reflect_wire.specs.Writing.{pair_payload, pair_payloads, key_of, field_payloads}
+use Rattle.prost_reflect_wire.specs.Typing.{kind_takes, element_valid, pairs_valid}
 use Rattle.prost_reflect_wire.specs.Reduction.{TypePairs, same_kind}
 use Rattle.prost_reflect_wire.proofs.Deeper.{and_both, both_true}
 use Rattle.prost_reflect_wire.proofs.Spelt.{SoundPayloads}
-use Rattle.prost_reflect_wire.proofs.Alike.{SameType}
+use Rattle.prost_reflect_wire.proofs.Order.{scalars_equal}
+use Rattle.prost_reflect_wire.proofs.Alike.{SameType, default_alike}
 use Rattle.prost_reflect_wire.proofs.ByNumber.{stored_payloads}
-use Rattle.prost_reflect_wire.proofs.Again.{Carries, FieldReads, FieldAgain}
-use Rattle.prost_reflect_wire.proofs.EntryAgain.{map_source, Entry, entry_of, key_takes, key_same, value_again, PairReads, PairAgain, pair_again}
+use Rattle.prost_reflect_wire.proofs.Again.{Carries, scalar_again, FieldReads, FieldAgain}
+use Rattle.prost_reflect_wire.proofs.EntryAgain.{map_source, Entry, entry_of, key_takes, key_same, ValueAgain, value_again, PairReads, PairAgain, pair_again}
 use Rattle.prost_reflect_wire.proofs.Putting.{Rising, put_rising, put_all, put_all_rising}
 
 -- EACH PAIR
@@ -100,20 +102,47 @@ map_stored : (f : Field) (key : ValueType) (ps : Pairs) → f.form ≡ MapFrom k
 map_stored f key NoPairs e = refl
 map_stored f key (Pair x v ps) e = ap (λ c. pair_payloads (key_of c f.value_type) f.value_type (Pair x v ps)) e
 
--- the map field
+-- a map that is carried
+map_field : (k : ℕ) (a : AllowsInside) (j : MeansInside) (f : Field) (keyA keyB tB : ValueType) (ps rs : Pairs) → f.form ≡ MapFrom keyA → PairsAgain k a j keyA f.value_type keyB tB ps rs → Rising rs →
+    FieldAgain k a j (MapFrom keyB) tB (stored_payloads (Some f) (present_map ps)) (present_map rs)
+map_field k a j f keyA keyB tB ps rs form h rising =
+    subst (λ (l : List Payload). FieldAgain k a j (MapFrom keyB) tB l (present_map rs)) (sym (map_stored f keyA ps form)) (record {
+      sound = pairs_sound k a j keyA f.value_type keyB tB ps rs h;
+      read = λ spelt.
+          let r : PairsRead k a j keyB tB (pair_payloads keyA f.value_type ps) rs = pairs_read k a j keyA f.value_type keyB tB ps rs h spelt in
+          record { strays = r.strays; value = ap (λ l. present_map (put_entries j keyB tB l NoPairs)) r.values ∙ ap present_map (r.puts NoPairs ∙ put_all_rising rs rising); allowed = r.allowed };
+    })
+
+-- the map that both types read of payloads
 pub map_again : (pairs : TypePairs) (k : ℕ) (i : MeansInside) (a : AllowsInside) (j : MeansInside) (f : Field) (keyA keyB tB : ValueType) (qs : List Payload) → Carries pairs k i a j → f.form ≡ MapFrom keyA → MapTypes pairs keyA f.value_type keyB tB →
     list_all (map_source k a keyB tB) qs ≡ true → FieldAgain k a j (MapFrom keyB) tB (stored_payloads (Some f) (present_map (put_entries i keyA f.value_type qs NoPairs))) (present_map (put_entries j keyB tB qs NoPairs))
 map_again pairs k i a j f keyA keyB tB qs c form t all =
-    let ps : Pairs = put_entries i keyA f.value_type qs NoPairs in
-    let rs : Pairs = put_entries j keyB tB qs NoPairs in
-    let h : PairsAgain k a j keyA f.value_type keyB tB (put_entries i keyA f.value_type qs NoPairs) (put_entries j keyB tB qs NoPairs) = entries_again pairs k i a j keyA f.value_type keyB tB qs NoPairs NoPairs c t all tt in
-    subst (λ (l : List Payload). FieldAgain k a j (MapFrom keyB) tB l (present_map (put_entries j keyB tB qs NoPairs))) (sym (map_stored f keyA ps form)) (record {
-      sound = pairs_sound k a j keyA f.value_type keyB tB ps rs h;
-      read = λ spelt.
-          let r : PairsRead k a j keyB tB (pair_payloads keyA f.value_type (put_entries i keyA f.value_type qs NoPairs)) (put_entries j keyB tB qs NoPairs) = pairs_read k a j keyA f.value_type keyB tB ps rs h spelt in
-          record {
-            strays = r.strays;
-            value = ap (λ l. present_map (put_entries j keyB tB l NoPairs)) r.values ∙ ap present_map (r.puts NoPairs ∙ put_all_rising rs (entries_rising j keyB tB qs NoPairs tt));
-            allowed = r.allowed;
-          };
-    })
+    map_field k a j f keyA keyB tB (put_entries i keyA f.value_type qs NoPairs) (put_entries j keyB tB qs NoPairs) form (entries_again pairs k i a j keyA f.value_type keyB tB qs NoPairs NoPairs c t all tt) (entries_rising j keyB tB qs NoPairs tt)
+
+-- a map to scalars that is there
+scalars_each : (pairs : TypePairs) (k : ℕ) (a : AllowsInside) (j : MeansInside) (keyA tA keyB tB : ValueType) (kA kB : ScalarKind) (ps : Pairs) → MapTypes pairs keyA tA keyB tB → tA.kind ≡ ScalarOf kA → tB.kind ≡ ScalarOf kB → same_kind pairs (ScalarOf kA) (ScalarOf kB) ≡ true →
+    pairs_valid (MapFrom keyA) (ScalarOf kA) ps ≡ true → PairsAgain k a j keyA tA keyB tB ps ps
+scalars_each pairs k a j keyA tA keyB tB kA kB NoPairs t eA eB h ok = tt
+scalars_each pairs k a j keyA tA keyB tB kA kB (Pair x v ps) t eA eB h ok =
+    let (here, behind) = and_both (kind_takes keyA.kind x && element_valid (ScalarOf kA) v) (pairs_valid (MapFrom keyA) (ScalarOf kA) ps) ok in
+    let (takes, fits) = and_both (kind_takes keyA.kind x) (element_valid (ScalarOf kA) v) here in
+    (refl, pair_again pairs k a j keyA tA keyB tB x v v t.key t.keyed t.key_default takes (ap (has_level k) eB) (go v fits), scalars_each pairs k a j keyA tA keyB tB kA kB ps t eA eB h behind)
+  where
+    go : (v : Value) → element_valid (ScalarOf kA) v ≡ true → ValueAgain a j tA tB tA.kind tB.kind v v
+    go (ScalarValue s) fits =
+        subst (λ kd. ValueAgain a j tA tB kd tB.kind (ScalarValue s) (ScalarValue s)) (sym eA) (subst (λ kd. ValueAgain a j tA tB (ScalarOf kA) kd (ScalarValue s) (ScalarValue s)) (sym eB)
+        (record { again = scalar_again pairs a j kA kB s h fits; absent = λ d. ap ScalarValue (default_alike pairs tA tB kA eA t.value ∙ sym (scalars_equal s tA.default (and_both (not tA.presence) (scalar_eq s tA.default) d).1)) }))
+    go (MessageValue c) fits = absurd (true≢false (sym fits))
+    go (ListValue vs) fits = absurd (true≢false (sym fits))
+    go (MapValue qs) fits = absurd (true≢false (sym fits))
+
+pairs_rising : (ps : Pairs) → pairs_ordered ps ≡ true → Rising ps
+pairs_rising NoPairs h = tt
+pairs_rising (Pair x v ps) h =
+    let (ab, rest) = and_both (key_before x ps && value_ordered v) (pairs_ordered ps) h in
+    ((and_both (key_before x ps) (value_ordered v) ab).0, pairs_rising ps rest)
+
+pub scalar_map_again : (pairs : TypePairs) (k : ℕ) (a : AllowsInside) (j : MeansInside) (f : Field) (keyA keyB tB : ValueType) (kA kB : ScalarKind) (ps : Pairs) → f.form ≡ MapFrom keyA → MapTypes pairs keyA f.value_type keyB tB → f.value_type.kind ≡ ScalarOf kA → tB.kind ≡ ScalarOf kB →
+    same_kind pairs (ScalarOf kA) (ScalarOf kB) ≡ true → pairs_valid (MapFrom keyA) (ScalarOf kA) ps ≡ true → pairs_ordered ps ≡ true → FieldAgain k a j (MapFrom keyB) tB (stored_payloads (Some f) (present_map ps)) (present_map ps)
+scalar_map_again pairs k a j f keyA keyB tB kA kB ps form t eA eB h ok order =
+    map_field k a j f keyA keyB tB ps ps form (scalars_each pairs k a j keyA f.value_type keyB tB kA kB ps t eA eB h ok) (pairs_rising ps order)
