@@ -7,7 +7,7 @@ use Rattle.std.specs.declared.cmp.Ordering.{Ordering}
 use Rattle.std.specs.declared.cmp.Ordering.TheVariants.{Less, Equal, Greater}
 use Rattle.std.proofs.lemmas.Map.Lookups.{exact_signed}
 use Rattle.prost_reflect_wire.specs.Record.{Plain, Var, Fix64, Len, Fix32, Payload, Flat, Group}
-use Rattle.prost_reflect_wire.specs.Scalar.{Scalar, ScalarKind, Double, Float, Int64, Uint64, Int32, Fixed64, Fixed32, BoolKind, StringKind, BytesKind, Uint32, Sfixed32, Sfixed64, Sint32, Sint64, Enum, EnumNumbers, Open, Closed, EnumNumber, elem, is_declared, is_undeclared, kind_default, kind_wire, scalar_eq, low_i32}
+use Rattle.prost_reflect_wire.specs.Scalar.{Scalar, ScalarKind, Double, Float, Int64, Uint64, Int32, Fixed64, Fixed32, BoolKind, StringKind, BytesKind, Uint32, Sfixed32, Sfixed64, Sint32, Sint64, Enum, EnumNumbers, Open, Closed, EnumNumber, elem, is_declared, is_undeclared, kind_default, kind_wire, scalar_eq, scalar_valid, in_i32, low_i32}
 use Rattle.prost_reflect_wire.specs.Schema.{Kind, ScalarOf, MessageOf, GroupOf, ValueType, FieldForm, Singular, Repeated, MapFrom, is_packable}
 use Rattle.prost_reflect_wire.specs.Content.{ScalarValue}
 use Rattle.prost_reflect_wire.specs.Grammar.{or_none, plains_within, unpacked, numbered, last, records_in, element_payloads_in, is_stray, is_stray_entry, value_payloads, stray_payloads}
@@ -24,9 +24,10 @@ pub record Alike (k l : ScalarKind) : Type 0 where
   pub default : kind_default l ≡ kind_default k
   pub packable : is_packable l ≡ is_packable k
   pub wire : kind_wire l ≡ kind_wire k
+  pub takes : (v : Scalar) → scalar_valid l v ≡ scalar_valid k v
 
 itself : (k : ScalarKind) → Alike k k
-itself k = record { reads = λ p. refl; strays = λ p. refl; default = refl; packable = refl; wire = refl }
+itself k = record { reads = λ p. refl; strays = λ p. refl; default = refl; packable = refl; wire = refl; takes = λ v. refl }
 
 ints_equal : (x y : ℤ) → int_eq x y ≡ true → x ≡ y
 ints_equal x y h = go (int_cmp x y) refl h
@@ -59,8 +60,12 @@ declared_alike (Closed xs) (Closed ys) z h =
 declared_alike _ _ z h = absurd (true≢false (sym h))
 
 enums_alike : (first first' : ℤ) (e f : EnumNumbers) → first ≡ first' → same_numbers e f ≡ true → Alike (Enum first e) (Enum first' f)
-enums_alike first first' e f same h = record { reads = reads; strays = strays; default = ap EnumNumber (sym same); packable = refl; wire = refl }
+enums_alike first first' e f same h = record { reads = reads; strays = strays; default = ap EnumNumber (sym same); packable = refl; wire = refl; takes = takes }
   where
+    takes : (v : Scalar) → scalar_valid (Enum first' f) v ≡ scalar_valid (Enum first e) v
+    takes (EnumNumber z) = ap (λ b. in_i32 z && b) (declared_alike e f z h)
+    takes _ = refl
+
     reads : (p : Payload) → elem (Enum first' f) p ≡ elem (Enum first e) p
     reads (Flat (Var v)) = refl
     reads (Flat (Fix64 bytes)) = refl

@@ -143,7 +143,7 @@ pub record ValueAgain (a : AllowsInside) (j : MeansInside) (tA tB : ValueType) (
 undeclared_last : (pairs : TypePairs) (kA kB : ScalarKind) (ps : List Payload) (p : Payload) → same_kind pairs (ScalarOf kA) (ScalarOf kB) ≡ true → (elim (last ps) [ None ↦ false | Some q ↦ is_undeclared kB q ]) ≡ false → last ps ≡ Some p → is_undeclared kA p ≡ false
 undeclared_last pairs kA kB ps p h stays e = sym (stray_alike pairs (ScalarOf kA) (ScalarOf kB) p h) ∙ sym (ap (λ (o : Option Payload). elim o [ None ↦ false | Some q ↦ is_undeclared kB q ]) e) ∙ stays
 
-message_records : (k : ℕ) (a : AllowsInside) (kB : Kind) (B : ℕ) (ps : List Payload) → Joinable a → ((B : ℕ) → nat_lt 0 k ≡ true → a B [] ≡ true) → nat_lt 0 k ≡ true → is_of_type kB B ≡ true → list_all (one_allowed a kB) ps ≡ true → a B (joined ps) ≡ true
+pub message_records : (k : ℕ) (a : AllowsInside) (kB : Kind) (B : ℕ) (ps : List Payload) → Joinable a → ((B : ℕ) → nat_lt 0 k ≡ true → a B [] ≡ true) → nat_lt 0 k ≡ true → is_of_type kB B ≡ true → list_all (one_allowed a kB) ps ≡ true → a B (joined ps) ≡ true
 message_records k a kB B [] join nothing level t h = nothing B level
 message_records k a kB B (p ∷ ps) join nothing level t h = joined_allowed a kB B p ps join t h
 

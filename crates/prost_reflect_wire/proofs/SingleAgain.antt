@@ -85,7 +85,7 @@ scalar_single pairs i a j tA tB kA kB ps h presence default sources = by_last (l
     by_last (Some p) e = by_elem p (last_passes (single_source a (ScalarOf kB)) p ps sources e) (elem kA p) refl
 
 -- the parts of the tests
-sources_valid : (a : AllowsInside) (kB : Kind) (ps : List Payload) → list_all (single_source a kB) ps ≡ true → (list_all payload_valid ps ≡ true) × (list_all (one_allowed a kB) ps ≡ true)
+pub sources_valid : (a : AllowsInside) (kB : Kind) (ps : List Payload) → list_all (single_source a kB) ps ≡ true → (list_all payload_valid ps ≡ true) × (list_all (one_allowed a kB) ps ≡ true)
 sources_valid a kB [] h = (refl, refl)
 sources_valid a kB (p ∷ ps) h =
     let (one, more) = and_both (single_source a kB p) (list_all (single_source a kB) ps) h in

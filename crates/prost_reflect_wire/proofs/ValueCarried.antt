@@ -42,7 +42,7 @@ mutual
 
 -- FORMS
 
-single_like : (pairs : TypePairs) (c d : FieldForm) → c ≡ Singular → same_form pairs c d ≡ true → d ≡ Singular
+pub single_like : (pairs : TypePairs) (c d : FieldForm) → c ≡ Singular → same_form pairs c d ≡ true → d ≡ Singular
 single_like pairs c d e h = go c d e h
   where
     go : (c d : FieldForm) → c ≡ Singular → same_form pairs c d ≡ true → d ≡ Singular
@@ -52,14 +52,14 @@ single_like pairs c d e h = go c d e h
     go (Repeated x) d e h = cc
     go (MapFrom key) d e h = cc
 
-list_like : (pairs : TypePairs) (c d : FieldForm) (x : Bool) → c ≡ Repeated x → same_form pairs c d ≡ true → (y : Bool) × (d ≡ Repeated y)
+pub list_like : (pairs : TypePairs) (c d : FieldForm) (x : Bool) → c ≡ Repeated x → same_form pairs c d ≡ true → (y : Bool) × (d ≡ Repeated y)
 list_like pairs (Repeated x) (Repeated y) z e h = (y, refl)
 list_like pairs (Repeated x) Singular z e h = absurd (true≢false (sym h))
 list_like pairs (Repeated x) (MapFrom key) z e h = absurd (true≢false (sym h))
 list_like pairs Singular d z e h = cc
 list_like pairs (MapFrom key) d z e h = cc
 
-map_like : (pairs : TypePairs) (c d : FieldForm) (keyA : ValueType) → c ≡ MapFrom keyA → same_form pairs c d ≡ true → (keyB : ValueType) × (d ≡ MapFrom keyB) × SameType pairs keyA keyB
+pub map_like : (pairs : TypePairs) (c d : FieldForm) (keyA : ValueType) → c ≡ MapFrom keyA → same_form pairs c d ≡ true → (keyB : ValueType) × (d ≡ MapFrom keyB) × SameType pairs keyA keyB
 map_like pairs c d keyA e h = go d (ap (λ c. same_form pairs c d) (sym e) ∙ h)
   where
     go : (d : FieldForm) → same_form pairs (MapFrom keyA) d ≡ true → (keyB : ValueType) × (d ≡ MapFrom keyB) × SameType pairs keyA keyB
@@ -67,7 +67,7 @@ map_like pairs c d keyA e h = go d (ap (λ c. same_form pairs c d) (sym e) ∙ h
     go Singular h = absurd (true≢false (sym h))
     go (Repeated y) h = absurd (true≢false (sym h))
 
-of_map : (c : FieldForm) (kind : Kind) (ps : Pairs) → pairs_valid c kind ps ≡ true → (key : ValueType) × (c ≡ MapFrom key)
+pub of_map : (c : FieldForm) (kind : Kind) (ps : Pairs) → pairs_valid c kind ps ≡ true → (key : ValueType) × (c ≡ MapFrom key)
 of_map (MapFrom key) kind ps h = (key, refl)
 of_map Singular kind ps h = absurd (true≢false (sym h))
 of_map (Repeated packed) kind ps h = absurd (true≢false (sym h))
@@ -97,7 +97,7 @@ element_kinds pairs k l (MapValue ps) h t none = absurd (true≢false (sym t))
 
 -- WHAT IS KEPT
 
-kept_by : (f : Field) (c : FieldForm) (v : Value) → f.form ≡ c → kept_value (Some f) v ≡ cond (is_empty_of c v || (is_singular c && is_default_of f.value_type v)) None (Some v)
+pub kept_by : (f : Field) (c : FieldForm) (v : Value) → f.form ≡ c → kept_value (Some f) v ≡ cond (is_empty_of c v || (is_singular c && is_default_of f.value_type v)) None (Some v)
 kept_by f c v e = ap (λ c. cond (is_empty_of c v || (is_singular c && is_default_of f.value_type v)) None (Some v)) e
 
 kept_list : (f : Field) (x : Bool) (vs : Values) → f.form ≡ Repeated x → kept_value (Some f) (ListValue vs) ≡ present_list vs
