@@ -33,7 +33,7 @@ use Rattle.prost_reflect_wire.proofs.FieldAgain.{source}
 use Rattle.prost_reflect_wire.proofs.SameSurvivors.{same_survivors}
 use Rattle.prost_reflect_wire.proofs.WrittenSlots.{BothSlots, Numbered, table_numbered, both_sound, both_allowed, both_read}
 use Rattle.prost_reflect_wire.proofs.Relaying.{Step, survivors_source, meaning_slots}
-use Rattle.prost_reflect_wire.proofs.Passing.{step_zero, step_next}
+use Rattle.prost_reflect_wire.proofs.Passing.{step_zero, step_next, accepted_decoded, older_decoded, accepted_valid, written_read}
 use Rattle.prost_reflect_wire.proofs.SetSlots.{set_slot, set_numbers, set_table, set_ascending, set_covers, set_both}
 use Rattle.prost_reflect_wire.proofs.ValueCarried.{all_kept, kept_by, single_like, value_carried}
 use Rattle.prost_reflect_wire.proofs.PathLike.{message_like, path_like}
@@ -260,3 +260,18 @@ edited_at pairs older newer (suc k) (n ∷ m ∷ path) v A B rs cA cB all short 
       kept_newer = λ A B rs h ok e to. set_kept newer k B rs (m ∷ path) v cB ok e (path_like pairs older newer A B (m ∷ path) v all h none to);
     })
     found form is rest
+
+-- BYTES
+
+-- what was edited through the older type, the newer one accepts, with the value set
+pub edit_passage : (older newer : Schema) (k A B : ℕ) (bytes : List ℕ) (path : List ℕ) (v : Value) (again : List ℕ) → schema_valid older ≡ true → schema_valid newer ≡ true → AreBytes bytes → Reduced older A newer B → length path ≤ suc k → PathTo older A path v → holds_message v ≡ false →
+    Accepts newer k B bytes → edited older k A bytes path v ≡ Some again → length again < 2 ^ 64 → Accepts newer k B again × (decoded newer k B again ≡ (decoded newer k B bytes >>= λ d. Some (set_at path v d)))
+edit_passage older newer k A B bytes path v again cA cB small r short to none acc e fits =
+    let ok : valid (body_of (items acc.records)) ≡ true = accepted_valid newer k B bytes acc small in
+    let here : Edited (allows newer k) (meaning newer k) B (set_at path v (meaning older k A (items acc.records))) (set_at path v (meaning newer k B (items acc.records))) =
+        edited_at r.pairs older newer k path v A B (items acc.records) cA cB r.each short none r.first ok acc.allowed to in
+    let same : encoded (set_at path v (meaning older k A (items acc.records))) ≡ again =
+        ap (λ (o : Option (List ℕ)). elim o [ None ↦ again | Some x ↦ x ]) (sym (ap (λ (o : Option Content). o >>= λ c. Some (encoded (set_at path v c))) (older_decoded older newer k A B bytes r acc)) ∙ e) in
+    let (accepts, read) = written_read newer k B (set_at path v (meaning older k A (items acc.records))) (set_at path v (meaning newer k B (items acc.records))) here.sound here.allowed here.same (subst (λ (x : List ℕ). length x < 2 ^ 64) (sym same) fits) in
+    subst (λ (x : List ℕ). Accepts newer k B x × (decoded newer k B x ≡ (decoded newer k B bytes >>= λ d. Some (set_at path v d)))) same
+    (accepts, read ∙ sym (ap (λ (o : Option Content). o >>= λ d. Some (set_at path v d)) (accepted_decoded newer k B bytes acc)))

@@ -19,6 +19,7 @@ use Rattle.prost_reflect_wire.proofs.SpelledValid.{spelled_valid}
 use Rattle.prost_reflect_wire.proofs.Checked.{known_valid, known_differ}
 use Rattle.prost_reflect_wire.proofs.Values.{items_body}
 use Rattle.prost_reflect_wire.proofs.Spelt.{Sound, valid_if}
+use Rattle.prost_reflect_wire.proofs.Older.{allows_smaller}
 use Rattle.prost_reflect_wire.proofs.Matches.{matching}
 use Rattle.prost_reflect_wire.proofs.Readable.{body_items}
 use Rattle.prost_reflect_wire.proofs.Again.{Carries}
@@ -81,33 +82,45 @@ step_next pairs older newer k A B rs checked all h ok e = step_of pairs (suc k) 
 
 -- BYTES
 
-decoded_spelled : (schema : Schema) (k T : ℕ) (rs : Records) (bytes : List ℕ) → Spells rs bytes → decoded schema k T bytes ≡ guard (allows schema k T (items rs)) (meaning schema k T (items rs))
+pub decoded_spelled : (schema : Schema) (k T : ℕ) (rs : Records) (bytes : List ℕ) → Spells rs bytes → decoded schema k T bytes ≡ guard (allows schema k T (items rs)) (meaning schema k T (items rs))
 decoded_spelled schema k T rs bytes s = ap (λ (o : Option Records). o >>= λ rs. guard (allows schema k T (items rs)) (meaning schema k T (items rs))) (spelled_read rs bytes s)
 
-guarded : {A : Type 0} (b : Bool) (x y : A) → guard b x ≡ Some y → y ≡ x
-guarded true x y e = ap (λ o. elim o [ None ↦ x | Some z ↦ z ]) (sym e)
-guarded false x y e = absurd (true≢false (ap (λ o. elim o [ None ↦ true | Some z ↦ false ]) e))
+pub accepted_decoded : (schema : Schema) (k T : ℕ) (bytes : List ℕ) (a : Accepts schema k T bytes) → decoded schema k T bytes ≡ Some (meaning schema k T (items a.records))
+accepted_decoded schema k T bytes a = decoded_spelled schema k T a.records bytes a.spelled ∙ ap (λ b. guard b (meaning schema k T (items a.records))) a.allowed
 
--- what the older type writes, the newer one accepts, and it means the same
-relayed_meaning : (older newer : Schema) (k A B : ℕ) (bytes : List ℕ) → schema_valid older ≡ true → AreBytes bytes → Reduced older A newer B → (a : Accepts newer k B bytes) → length (encoded (meaning older k A (items a.records))) < 2 ^ 64 →
-    Accepts newer k B (encoded (meaning older k A (items a.records))) × (decoded newer k B (encoded (meaning older k A (items a.records))) ≡ decoded newer k B bytes)
-relayed_meaning older newer k A B bytes checked small r a short =
-    let rs : List Record = items a.records in
-    let c : Content = meaning older k A (items a.records) in
-    let car : Carries r.pairs (suc k) (meaning older k) (allows newer k) (meaning newer k) = carried r.pairs older newer k checked r.each in
-    let ok : valid (body_of (items a.records)) ≡ true = ap valid (body_items a.records) ∙ spelled_valid a.records bytes small a.spelled in
-    let spelt : valid (body_of (records (meaning older k A (items a.records)))) ≡ true = valid_if (records c) (car.sound A B rs r.first ok a.allowed) short in
-    let allowed : allows newer k B (records (meaning older k A (items a.records))) ≡ true = car.allowed A B rs r.first ok a.allowed spelt in
-    let spells : Spells (body_of (records (meaning older k A (items a.records)))) (encoded (meaning older k A (items a.records))) = short_spells (body_of (records c)) spelt in
-    (record { records = body_of (records c); spelled = spells; allowed = ap (allows newer k B) (items_body (records c)) ∙ allowed },
-    decoded_spelled newer k B (body_of (records c)) (encoded c) spells
-    ∙ ap (λ rs. guard (allows newer k B rs) (meaning newer k B rs)) (items_body (records c))
-    ∙ ap₂ (λ b (m : Content). guard b m) (allowed ∙ sym a.allowed) (car.same A B rs r.first ok a.allowed spelt)
-    ∙ sym (decoded_spelled newer k B a.records bytes a.spelled))
+-- what the older type decodes of them
+pub older_decoded : (older newer : Schema) (k A B : ℕ) (bytes : List ℕ) (r : Reduced older A newer B) (a : Accepts newer k B bytes) → decoded older k A bytes ≡ Some (meaning older k A (items a.records))
+older_decoded older newer k A B bytes r a =
+    decoded_spelled older k A a.records bytes a.spelled ∙ ap (λ b. guard b (meaning older k A (items a.records))) (allows_smaller r.pairs older newer k A B (items a.records) r.each r.first a.allowed)
+
+pub accepted_valid : (schema : Schema) (k T : ℕ) (bytes : List ℕ) (a : Accepts schema k T bytes) → AreBytes bytes → valid (body_of (items a.records)) ≡ true
+accepted_valid schema k T bytes a small = ap valid (body_items a.records) ∙ spelled_valid a.records bytes small a.spelled
+
+-- what is written is read, if it is short
+pub written_read : (schema : Schema) (k T : ℕ) (c d : Content) → Sound (records c) → (valid (body_of (records c)) ≡ true → allows schema k T (records c) ≡ true) → (valid (body_of (records c)) ≡ true → meaning schema k T (records c) ≡ d) → length (encoded c) < 2 ^ 64 →
+    Accepts schema k T (encoded c) × (decoded schema k T (encoded c) ≡ Some d)
+written_read schema k T c d sound allowed same short =
+    let spelt : valid (body_of (records c)) ≡ true = valid_if (records c) sound short in
+    let spells : Spells (body_of (records c)) (encoded c) = short_spells (body_of (records c)) spelt in
+    let a : Accepts schema k T (encoded c) = record { records = body_of (records c); spelled = spells; allowed = ap (allows schema k T) (items_body (records c)) ∙ allowed spelt } in
+    (a, accepted_decoded schema k T (encoded c) a ∙ ap (λ rs. Some (meaning schema k T rs)) (items_body (records c)) ∙ ap Some (same spelt))
+
+some_same : {A : Type 0} {x y : A} → Some x ≡ Some y → x ≡ y
+some_same {A} {x} e = ap (λ (o : Option A). elim o [ None ↦ x | Some z ↦ z ]) e
 
 pub passage : (older newer : Schema) (k A B : ℕ) (bytes : List ℕ) (c : Content) → schema_valid older ≡ true → AreBytes bytes → Reduced older A newer B → Accepts newer k B bytes →
     decoded older k A bytes ≡ Some c → length (encoded c) < 2 ^ 64 → Accepts newer k B (encoded c) × (decoded newer k B (encoded c) ≡ decoded newer k B bytes)
 passage older newer k A B bytes c checked small r a e short =
-    let same : c ≡ meaning older k A (items a.records) = guarded (allows older k A (items a.records)) (meaning older k A (items a.records)) c (sym (decoded_spelled older k A a.records bytes a.spelled) ∙ e) in
-    subst (λ c. Accepts newer k B (encoded c) × (decoded newer k B (encoded c) ≡ decoded newer k B bytes)) (sym same)
-    (relayed_meaning older newer k A B bytes checked small r a (subst (λ c. length (encoded c) < 2 ^ 64) same short))
+    let same : meaning older k A (items a.records) ≡ c = some_same (sym (older_decoded older newer k A B bytes r a) ∙ e) in
+    subst (λ (c : Content). Accepts newer k B (encoded c) × (decoded newer k B (encoded c) ≡ decoded newer k B bytes)) same (relayed (subst (λ (c : Content). length (encoded c) < 2 ^ 64) (sym same) short))
+  where
+    carries : Carries r.pairs (suc k) (meaning older k) (allows newer k) (meaning newer k)
+    carries = carried r.pairs older newer k checked r.each
+
+    ok : valid (body_of (items a.records)) ≡ true
+    ok = accepted_valid newer k B bytes a small
+
+    relayed : length (encoded (meaning older k A (items a.records))) < 2 ^ 64 → Accepts newer k B (encoded (meaning older k A (items a.records))) × (decoded newer k B (encoded (meaning older k A (items a.records))) ≡ decoded newer k B bytes)
+    relayed short =
+        let (again, read) = written_read newer k B (meaning older k A (items a.records)) (meaning newer k B (items a.records)) (carries.sound A B (items a.records) r.first ok a.allowed) (carries.allowed A B (items a.records) r.first ok a.allowed) (carries.same A B (items a.records) r.first ok a.allowed) short in
+        (again, read ∙ sym (accepted_decoded newer k B bytes a))

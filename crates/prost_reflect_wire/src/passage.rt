@@ -1,6 +1,6 @@
 //! What is proved of reduction: each function has no body, and its contract is a law.
 
-ghost use Rattle.prost_reflect_wire.specs.Passage.{OlderAccepts, Passage};
+ghost use Rattle.prost_reflect_wire.specs.Passage.{OlderAccepts, Passage, EditPassage};
 
 /// What a newer message type accepts, a compatible reduction of it accepts.
 pub fn older_accepts()
@@ -11,4 +11,9 @@ pub fn older_accepts()
 /// the newer one.
 pub fn passage()
     ensures { Passage }
+{}
+
+/// A value that is set at a path through a reduction is set there in what the newer type reads.
+pub fn edit_passage()
+    ensures { EditPassage }
 {}
