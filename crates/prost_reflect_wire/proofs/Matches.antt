@@ -73,7 +73,7 @@ member_at n oneof g = nat_eq g.number n && same_oneof g.oneof oneof
 -- TYPES OF A PAIR
 
 -- two types that are a pair of the set match
-pair_matches : (pairs ps : TypePairs) (older newer : Schema) (A B : ℕ) → holds ps A B ≡ true → list_all (λ p. types_match pairs (message_type older p.0) (message_type newer p.1)) ps ≡ true → types_match pairs (message_type older A) (message_type newer B) ≡ true
+pub pair_matches : (pairs ps : TypePairs) (older newer : Schema) (A B : ℕ) → holds ps A B ≡ true → list_all (λ p. types_match pairs (message_type older p.0) (message_type newer p.1)) ps ≡ true → types_match pairs (message_type older A) (message_type newer B) ≡ true
 pair_matches pairs [] older newer A B h all = absurd (true≢false (sym h))
 pair_matches pairs (p ∷ ps) older newer A B h all =
     let (one, more) = and_both (types_match pairs (message_type older p.0) (message_type newer p.1)) (list_all (λ p. types_match pairs (message_type older p.0) (message_type newer p.1)) ps) all in

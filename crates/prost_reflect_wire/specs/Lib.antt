@@ -17,4 +17,5 @@ pub mod Fault
 pub mod FieldLaws
 pub mod Laws
 pub mod Passage
+pub mod Reducing
 pub mod Examples

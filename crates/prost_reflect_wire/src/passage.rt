@@ -1,6 +1,7 @@
 //! What is proved of reduction: each function has no body, and its contract is a law.
 
 ghost use Rattle.prost_reflect_wire.specs.Passage.{OlderAccepts, Passage, EditPassage};
+ghost use Rattle.prost_reflect_wire.specs.Reducing.{ReducedIsTest};
 
 /// What a newer message type accepts, a compatible reduction of it accepts.
 pub fn older_accepts()
@@ -16,4 +17,9 @@ pub fn passage()
 /// A value that is set at a path through a reduction is set there in what the newer type reads.
 pub fn edit_passage()
     ensures { EditPassage }
+{}
+
+/// Whether a type is a reduction of another, as a relation and as a test.
+pub fn reduced_is_test()
+    ensures { ReducedIsTest }
 {}
