@@ -14,6 +14,7 @@ use Rattle.prost_reflect_wire.specs.Grammar.{or_none, plains_within, unpacked, n
 use Rattle.prost_reflect_wire.specs.Writing.{is_default_of}
 use Rattle.prost_reflect_wire.specs.Reduction.{TypePairs, all_among, same_numbers, same_scalar_kind, same_kind, same_default, value_types_match, same_form}
 use Rattle.prost_reflect_wire.proofs.Deeper.{and_both}
+use Rattle.prost_reflect_wire.proofs.ListTests.{beq_same}
 use Rattle.prost_reflect_wire.proofs.Order.{scalars_equal}
 
 -- SCALAR KINDS
@@ -108,18 +109,12 @@ pub record SameType (pairs : TypePairs) (s t : ValueType) : Type 0 where
   pub presence : t.presence ≡ s.presence
   pub default : same_default s.kind s.default t.default ≡ true
 
-booleans_same : (a b : Bool) → beq a b ≡ true → b ≡ a
-booleans_same true true h = refl
-booleans_same false false h = refl
-booleans_same true false h = absurd (true≢false (sym h))
-booleans_same false true h = absurd (true≢false (sym h))
-
 pub same_type : (pairs : TypePairs) (s t : ValueType) → value_types_match pairs s t ≡ true → SameType pairs s t
 same_type pairs s t h =
     let (abc, d) = and_both (same_kind pairs s.kind t.kind && beq s.required t.required && beq s.presence t.presence) (same_default s.kind s.default t.default) h in
     let (ab, c) = and_both (same_kind pairs s.kind t.kind && beq s.required t.required) (beq s.presence t.presence) abc in
     let (a, b) = and_both (same_kind pairs s.kind t.kind) (beq s.required t.required) ab in
-    record { kind = a; presence = booleans_same s.presence t.presence c; default = d }
+    record { kind = a; presence = beq_same s.presence t.presence c; default = d }
 
 -- kinds that match have the same strays, and the same elements in a packed record
 pub unpacked_alike : (k l : ScalarKind) (bytes : List ℕ) → kind_wire l ≡ kind_wire k → unpacked l bytes ≡ unpacked k bytes

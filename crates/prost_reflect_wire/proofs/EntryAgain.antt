@@ -17,6 +17,7 @@ use Rattle.prost_reflect_wire.specs.Writing.{record_at, scalar_payload, is_defau
 use Rattle.prost_reflect_wire.specs.Typing.{kind_takes, is_of_type}
 use Rattle.prost_reflect_wire.specs.Reduction.{TypePairs, same_kind, same_default}
 use Rattle.prost_reflect_wire.proofs.Deeper.{and_both, both_true}
+use Rattle.prost_reflect_wire.proofs.ListTests.{not_true, last_passes}
 use Rattle.prost_reflect_wire.proofs.Order.{scalars_equal}
 use Rattle.prost_reflect_wire.proofs.Table.{read_back}
 use Rattle.prost_reflect_wire.proofs.Declared.{read_valid}
@@ -43,11 +44,6 @@ value_allowed k a key t r e h =
     two : ◌≡◌ {A = ℕ} 2 1 → ⊥
     two d = omega (arith, d)
 
-last_passes : {A : Type 0} (test : A → Bool) (x : A) (xs : List A) → list_all test xs ≡ true → last xs ≡ Some x → test x ≡ true
-last_passes test x [] h e = cc
-last_passes test x (y ∷ []) h e = ap test (ap (λ o. elim o [ None ↦ x | Some z ↦ z ]) (sym e)) ∙ (and_both (test y) true h).0
-last_passes test x (y ∷ z ∷ xs) h e = last_passes test x (z ∷ xs) (and_both (test y) (list_all test (z ∷ xs)) h).1 e
-
 -- an entry's payload
 abbrev pub map_source : ℕ → AllowsInside → ValueType → ValueType → Payload → Bool
 map_source k a key t q = payload_valid q && (field_allowed k a (MapFrom key) t q && not (is_stray_entry t q))
@@ -59,10 +55,6 @@ pub record Entry (k : ℕ) (a : AllowsInside) (key t : ValueType) (rs : List Rec
   pub values_allowed : list_all (one_allowed a t.kind) (numbered 2 rs) ≡ true
   pub stays : (elim (last (numbered 2 rs)) [ None ↦ false | Some q ↦ is_stray t.kind q ]) ≡ false
   pub level : has_level k t.kind ≡ true
-
-not_true : (b : Bool) → not b ≡ true → b ≡ false
-not_true false h = refl
-not_true true h = absurd (true≢false (sym h))
 
 pub entry_of : (k : ℕ) (a : AllowsInside) (key t : ValueType) (q : Payload) → map_source k a key t q ≡ true → Entry k a key t (records_in q)
 entry_of k a key t q h =

@@ -8,6 +8,7 @@ use Rattle.prost_reflect_wire.specs.Schema.{Field, field_of, same_oneof, is_sibl
 use Rattle.prost_reflect_wire.specs.Meaning.{after_last}
 use Rattle.prost_reflect_wire.specs.Reduction.{TypePairs, is_known, has_no_fellow}
 use Rattle.prost_reflect_wire.proofs.Deeper.{and_both}
+use Rattle.prost_reflect_wire.proofs.ListTests.{not_true, beq_same}
 use Rattle.prost_reflect_wire.proofs.Numbers.{eqb-sym}
 use Rattle.prost_reflect_wire.proofs.Survivors.{field_number, or_false, filter_none, survive_none, after_cons, not_kept}
 use Rattle.prost_reflect_wire.proofs.Matches.{found_passes, any_found, some_field, Passing, found_any, member_at, same_oneof_sym, TypesMatch, Like}
@@ -53,12 +54,6 @@ lone pairs older newer n m g t lacking found = go (is_sibling newer g m) refl
         let number : p.field.number ≡ m = eqb-true p.field.number m (and_both (nat_eq p.field.number m) (same_oneof p.field.oneof g.oneof) p.passes).0 in
         ap (is_sibling newer g) (sym number) ∙ p.none (λ h. is_sibling newer g h.number) no_fellow
 
-beq_same : (a b : Bool) → beq a b ≡ true → b ≡ a
-beq_same true true h = refl
-beq_same false false h = refl
-beq_same true false h = absurd (true≢false (sym h))
-beq_same false true h = absurd (true≢false (sym h))
-
 -- a field and its like have the same siblings
 pub fellows : (pairs : TypePairs) (older newer : List Field) (f g : Field) (m : ℕ) → TypesMatch pairs older newer → Like pairs older newer f g → is_sibling newer g m ≡ is_sibling older f m
 fellows pairs older newer f g m t l = go (field_of older m) refl
@@ -75,18 +70,8 @@ fellows pairs older newer f g m t l = go (field_of older m) refl
         absurd (true≢false (sym (back p.field number same other) ∙ any_found (λ h. is_sibling newer p.field h.number) newer f.number g no_fellow l.found))
       where
         back : (h : Field) → h.number ≡ m → same_oneof h.oneof g.oneof ≡ true → not (nat_eq m g.number) ≡ true → is_sibling newer h g.number ≡ true
-        back h number same other = ap (λ k. not k && list_any (member_at g.number h.oneof) newer) (ap (nat_eq g.number) number ∙ eqb-sym g.number m ∙ flip (nat_eq m g.number) other)
-            ∙ found_any (member_at g.number h.oneof) newer f.number g l.found (ap (λ b. b && same_oneof g.oneof h.oneof) (refl_eq g.number) ∙ swap h.oneof g.oneof ∙ same)
-          where
-            flip : (b : Bool) → not b ≡ true → b ≡ false
-            flip false h = refl
-            flip true h = absurd (true≢false (sym h))
-
-            refl_eq : (k : ℕ) → nat_eq k k ≡ true
-            refl_eq k = eq-eqb k k refl
-
-            swap : (a b : Option ℕ) → same_oneof b a ≡ same_oneof a b
-            swap a b = same_oneof_sym b a
+        back h number same other = ap (λ k. not k && list_any (member_at g.number h.oneof) newer) (ap (nat_eq g.number) number ∙ eqb-sym g.number m ∙ not_true (nat_eq m g.number) other)
+            ∙ found_any (member_at g.number h.oneof) newer f.number g l.found (ap (λ b. b && same_oneof g.oneof h.oneof) (eq-eqb g.number g.number refl) ∙ same_oneof_sym g.oneof h.oneof ∙ same)
 
     go : (o : Option Field) → field_of older m ≡ o → is_sibling newer g m ≡ is_sibling older f m
     go None e = newer_none e (is_sibling newer g m) refl ∙ sym (unknown_no_sibling older f m e)

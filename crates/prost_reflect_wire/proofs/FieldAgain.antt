@@ -8,7 +8,8 @@ use Rattle.prost_reflect_wire.specs.Schema.{Kind, ScalarOf, MessageOf, GroupOf, 
 use Rattle.prost_reflect_wire.specs.Grammar.{AllowsInside, fits, is_stray, is_stray_entry, element_payloads_in, value_payloads, stray_payloads, one_allowed, packed_allowed, field_allowed}
 use Rattle.prost_reflect_wire.specs.Meaning.{MeansInside, field_value}
 use Rattle.prost_reflect_wire.specs.Reduction.{TypePairs, same_form}
-use Rattle.prost_reflect_wire.proofs.Deeper.{and_both, both_true, all_filter, source_allowed, value_records_allowed}
+use Rattle.prost_reflect_wire.proofs.Deeper.{and_both, both_true, all_filter, all_implied, source_allowed, value_records_allowed}
+use Rattle.prost_reflect_wire.proofs.ListTests.{filter_passes}
 use Rattle.prost_reflect_wire.proofs.Checked.{CheckedField, CheckedList, checked_list, CheckedMap, checked_map}
 use Rattle.prost_reflect_wire.proofs.Alike.{SameType, same_type}
 use Rattle.prost_reflect_wire.proofs.ByNumber.{stored_payloads}
@@ -32,14 +33,6 @@ abbrev pub strays_of : FieldForm → ValueType → Payload → Bool
 strays_of Singular t p = is_stray t.kind p
 strays_of (Repeated packed) t p = is_stray t.kind p
 strays_of (MapFrom key) t p = is_stray_entry t p
-
-filter_passes : {A : Type 0} (test : A → Bool) (xs : List A) → list_all test (filter test xs) ≡ true
-filter_passes test [] = refl
-filter_passes test (x ∷ xs) = go (test x) refl (filter_passes test xs)
-  where
-    go : (b : Bool) → test x ≡ b → list_all test (filter test xs) ≡ true → list_all test (cond b (x ∷ filter test xs) (filter test xs)) ≡ true
-    go true e more = both_true e more
-    go false e more = more
 
 all_three : {A : Type 0} (t u v : A → Bool) (xs : List A) → list_all t xs ≡ true → list_all u xs ≡ true → list_all v xs ≡ true → list_all (λ x. t x && (u x && v x)) xs ≡ true
 all_three t u v [] a b c = refl
@@ -78,16 +71,10 @@ stray_allowed a (ScalarOf kind) p h = ap (λ b. b || packed_allowed (ScalarOf ki
 stray_allowed a (MessageOf T) p h = absurd (true≢false (sym h))
 stray_allowed a (GroupOf T) p h = absurd (true≢false (sym h))
 
-all_of : {A : Type 0} (t u : A → Bool) (xs : List A) → ((x : A) → t x ≡ true → u x ≡ true) → list_all t xs ≡ true → list_all u xs ≡ true
-all_of t u [] h e = refl
-all_of t u (x ∷ xs) h e =
-    let (one, more) = and_both (t x) (list_all t xs) e in
-    both_true (h x one) (all_of t u xs h more)
-
 -- what stays unknown of a payload that is allowed is allowed
 strays_allowed : (k : ℕ) (a : AllowsInside) (c : FieldForm) (t : ValueType) (p : Payload) → field_allowed k a c t p ≡ true → list_all (field_allowed k a c t) (stray_payloads c t p) ≡ true
 strays_allowed k a Singular t p h = all_filter (field_allowed k a Singular t) (is_stray t.kind) (p ∷ []) (both_true h refl)
-strays_allowed k a (Repeated packed) t p h = all_of (is_stray t.kind) (field_allowed k a (Repeated packed) t) (stray_payloads (Repeated packed) t p) (stray_allowed a t.kind) (filter_passes (is_stray t.kind) (element_payloads_in t.kind p))
+strays_allowed k a (Repeated packed) t p h = all_implied (is_stray t.kind) (field_allowed k a (Repeated packed) t) (stray_payloads (Repeated packed) t p) (stray_allowed a t.kind) (filter_passes (is_stray t.kind) (element_payloads_in t.kind p))
 strays_allowed k a (MapFrom key) t p h = all_filter (field_allowed k a (MapFrom key) t) (is_stray_entry t) (p ∷ []) (both_true h refl)
 
 strays_valid : (c : FieldForm) (t : ValueType) (p : Payload) → payload_valid p ≡ true → list_all payload_valid (stray_payloads c t p) ≡ true

@@ -15,6 +15,7 @@ use Rattle.prost_reflect_wire.specs.Writing.{payload_bytes, end_to_end, list_pay
 use Rattle.prost_reflect_wire.specs.Typing.{element_valid, elements_valid}
 use Rattle.prost_reflect_wire.specs.Reduction.{TypePairs, same_kind}
 use Rattle.prost_reflect_wire.proofs.Deeper.{and_both, both_true, all_append, element_allowed}
+use Rattle.prost_reflect_wire.proofs.ListTests.{not_true}
 use Rattle.prost_reflect_wire.proofs.Packed.{plains_of, unpacked_back}
 use Rattle.prost_reflect_wire.proofs.Spelt.{plain_bytes, payload_size, SoundPayload, SoundPayloads}
 use Rattle.prost_reflect_wire.proofs.Valid.{scalar_sound}
@@ -82,10 +83,6 @@ list_reads a j kA kB (Item v vs) (Item w ws) (one, more) =
 abbrev pub list_source : AllowsInside → Kind → Payload → Bool
 list_source a kB p = payload_valid p && (element_allowed a kB p && not (is_stray kB p))
 
-not_true : (b : Bool) → not b ≡ true → b ≡ false
-not_true false h = refl
-not_true true h = absurd (true≢false (sym h))
-
 record Sources (a : AllowsInside) (kB : Kind) (p : Payload) : Type 0 where
   valid : payload_valid p ≡ true
   allowed : element_allowed a kB p ≡ true
@@ -96,9 +93,6 @@ source_parts a kB p h =
     let (ok, rest) = and_both (payload_valid p) (element_allowed a kB p && not (is_stray kB p)) h in
     let (allowed, stays) = and_both (element_allowed a kB p) (not (is_stray kB p)) rest in
     record { valid = ok; allowed = allowed; stays = not_true (is_stray kB p) stays }
-
-same_number : (n : ℕ) → nat_eq n n ≡ true
-same_number n = eq-eqb n n refl
 
 elements_again : (pairs : TypePairs) (k : ℕ) (i : MeansInside) (a : AllowsInside) (j : MeansInside) (kA kB : Kind) (ps : List Payload) → Carries pairs k i a j → same_kind pairs kA kB ≡ true → list_all (list_source a kB) ps ≡ true →
     EachAgain a j kA kB (values_from (flat_map (element i kA) ps)) (values_from (flat_map (element j kB) ps))
@@ -122,11 +116,11 @@ elements_again pairs k i a j (ScalarOf kA) (ScalarOf kB) (p ∷ ps) c h all =
 elements_again pairs k i a j (MessageOf A) (MessageOf B) (p ∷ ps) c h all =
     let (one, more) = and_both (list_source a (MessageOf B) p) (list_all (list_source a (MessageOf B)) ps) all in
     let s : Sources a (MessageOf B) p = source_parts a (MessageOf B) p one in
-    (message_again pairs k i a j A B (records_in p) c h (inside_spelled p s.valid) (message_inside a (MessageOf B) B p (same_number B) s.allowed), elements_again pairs k i a j (MessageOf A) (MessageOf B) ps c h more)
+    (message_again pairs k i a j A B (records_in p) c h (inside_spelled p s.valid) (message_inside a (MessageOf B) B p (eq-eqb B B refl) s.allowed), elements_again pairs k i a j (MessageOf A) (MessageOf B) ps c h more)
 elements_again pairs k i a j (GroupOf A) (GroupOf B) (p ∷ ps) c h all =
     let (one, more) = and_both (list_source a (GroupOf B) p) (list_all (list_source a (GroupOf B)) ps) all in
     let s : Sources a (GroupOf B) p = source_parts a (GroupOf B) p one in
-    (group_again pairs k i a j A B (records_in p) c h (inside_spelled p s.valid) (message_inside a (GroupOf B) B p (same_number B) s.allowed), elements_again pairs k i a j (GroupOf A) (GroupOf B) ps c h more)
+    (group_again pairs k i a j A B (records_in p) c h (inside_spelled p s.valid) (message_inside a (GroupOf B) B p (eq-eqb B B refl) s.allowed), elements_again pairs k i a j (GroupOf A) (GroupOf B) ps c h more)
 elements_again pairs k i a j _ _ (p ∷ ps) c h all = absurd (true≢false (sym h))
 
 -- SCALARS END TO END

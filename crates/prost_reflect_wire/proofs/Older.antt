@@ -11,6 +11,7 @@ use Rattle.prost_reflect_wire.specs.Grammar.{AllowsInside, body, fits, unpacked,
 use Rattle.prost_reflect_wire.specs.Levels.{greatest_level}
 use Rattle.prost_reflect_wire.specs.Reduction.{TypePairs, holds, same_kind, same_form, all_match, Reduced}
 use Rattle.prost_reflect_wire.proofs.Deeper.{and_both, both_true, all_implied}
+use Rattle.prost_reflect_wire.proofs.ListTests.{passes_more}
 use Rattle.prost_reflect_wire.proofs.Survivors.{field_number}
 use Rattle.prost_reflect_wire.proofs.Alike.{Alike, alike, SameType, same_type, unpacked_alike}
 use Rattle.prost_reflect_wire.proofs.Matches.{TypesMatch, matching, Like, like}
@@ -89,10 +90,6 @@ allowed_levels schema (suc k) T rs h = all_shallow (suc k) (allows schema k) (kn
 pub record Smaller (pairs : TypePairs) (k : ℕ) (outer inner : AllowsInside) : Type 0 where
   pub each : (A B : ℕ) (rs : List Record) → holds pairs A B ≡ true → inner B rs ≡ true → outer A rs ≡ true
   pub shallow : Shallow k inner
-
-passes_more : {A : Type 0} (o : Option A) (t u : A → Bool) → ((x : A) → t x ≡ true → u x ≡ true) → passes o t ≡ true → passes o u ≡ true
-passes_more None t u h e = e
-passes_more (Some x) t u h e = h x e
 
 message_smaller : (shape : Bool) (o : Option (List Record)) (t u : List Record → Bool) → ((rs : List Record) → t rs ≡ true → u rs ≡ true) → (shape && passes o t) ≡ true → (shape && passes o u) ≡ true
 message_smaller shape o t u h e =

@@ -9,6 +9,7 @@ use Rattle.prost_reflect_wire.specs.Schema.{Kind, ScalarOf, MessageOf, GroupOf, 
 use Rattle.prost_reflect_wire.specs.Reduction.{TypePairs, holds, same_scalar_kind, same_kind, same_default, value_types_match, same_form, fields_match, same_siblings, has_match, has_no_fellow, entries_whole, types_match, all_match, Reduced}
 use Rattle.prost_reflect_wire.specs.Reducing.{numbers_below, all_pairs, refined, refined_times, greatest_reduction, is_reduced}
 use Rattle.prost_reflect_wire.proofs.Deeper.{and_both, both_true}
+use Rattle.prost_reflect_wire.proofs.ListTests.{filter_passes}
 use Rattle.prost_reflect_wire.proofs.Checked.{known_valid, found_valid, CheckedField, checked_field, CheckedMap, checked_map}
 use Rattle.prost_reflect_wire.proofs.Matches.{pair_matches}
 
@@ -23,14 +24,6 @@ fewer test (x ∷ xs) = go (test x) (fewer test xs)
     go true (inr e) = inr (ap (λ l. x ∷ l) e)
     go false (inl l) = inl (omega arith)
     go false (inr e) = inl (omega (arith, ap length e))
-
-filter_all : {A : Type 0} (test : A → Bool) (xs : List A) → list_all test (filter test xs) ≡ true
-filter_all test [] = refl
-filter_all test (x ∷ xs) = go (test x) refl (filter_all test xs)
-  where
-    go : (b : Bool) → test x ≡ b → list_all test (filter test xs) ≡ true → list_all test (cond b (x ∷ filter test xs) (filter test xs)) ≡ true
-    go true e more = both_true e more
-    go false e more = more
 
 -- what no longer changes stays
 settled : (n : ℕ) (older newer : Schema) (pairs : TypePairs) → refined older newer pairs ≡ pairs → refined_times n older newer pairs ≡ pairs
@@ -54,7 +47,7 @@ greatest_matches : (older newer : Schema) → all_match (greatest_reduction olde
 greatest_matches older newer =
     let pairs : TypePairs = greatest_reduction older newer in
     ap (list_all (λ p. types_match pairs (message_type older p.0) (message_type newer p.1))) (sym (settles (length (all_pairs older newer)) older newer (all_pairs older newer) (omega arith)))
-    ∙ filter_all (λ p. types_match pairs (message_type older p.0) (message_type newer p.1)) pairs
+    ∙ filter_passes (λ p. types_match pairs (message_type older p.0) (message_type newer p.1)) pairs
 
 -- MORE PAIRS MATCH NO LESS
 

@@ -11,6 +11,7 @@ use Rattle.prost_reflect_wire.specs.Meaning.{MeansInside, present, joined, messa
 use Rattle.prost_reflect_wire.specs.Writing.{value_payload, field_payloads}
 use Rattle.prost_reflect_wire.specs.Reduction.{TypePairs, same_kind, same_default}
 use Rattle.prost_reflect_wire.proofs.Deeper.{and_both, both_true}
+use Rattle.prost_reflect_wire.proofs.ListTests.{not_true, last_passes}
 use Rattle.prost_reflect_wire.proofs.Order.{scalars_equal}
 use Rattle.prost_reflect_wire.proofs.Alike.{Alike, alike, SameType}
 use Rattle.prost_reflect_wire.proofs.ByNumber.{stored_payloads}
@@ -44,15 +45,6 @@ SingleRead a j tB kA kB o o' = ((o ≡ None) × (o' ≡ None)) ⊎ BothRead a j 
 -- the tests of what a single value is read of
 abbrev pub single_source : AllowsInside → Kind → Payload → Bool
 single_source a kB p = payload_valid p && (one_allowed a kB p && not (is_stray kB p))
-
-last_passes : {A : Type 0} (test : A → Bool) (x : A) (xs : List A) → list_all test xs ≡ true → last xs ≡ Some x → test x ≡ true
-last_passes test x [] h e = cc
-last_passes test x (y ∷ []) h e = ap test (ap (λ o. elim o [ None ↦ x | Some z ↦ z ]) (sym e)) ∙ (and_both (test y) true h).0
-last_passes test x (y ∷ z ∷ xs) h e = last_passes test x (z ∷ xs) (and_both (test y) (list_all test (z ∷ xs)) h).1 e
-
-not_true : (b : Bool) → not b ≡ true → b ≡ false
-not_true false h = refl
-not_true true h = absurd (true≢false (sym h))
 
 scalar_single : (pairs : TypePairs) (i : MeansInside) (a : AllowsInside) (j : MeansInside) (tA tB : ValueType) (kA kB : ScalarKind) (ps : List Payload) → same_kind pairs (ScalarOf kA) (ScalarOf kB) ≡ true → tB.presence ≡ tA.presence → scalar_eq tA.default tB.default ≡ true →
     list_all (single_source a (ScalarOf kB)) ps ≡ true → SingleRead a j tB (ScalarOf kA) (ScalarOf kB) (one_value i tA (ScalarOf kA) ps) (one_value j tB (ScalarOf kB) ps)
@@ -100,18 +92,12 @@ single_read pairs k i a j tA tB (MessageOf A) (MessageOf B) [] c h presence defa
 single_read pairs k i a j tA tB (MessageOf A) (MessageOf B) (p ∷ ps) c h presence default sources =
     let (ok, allowed) = sources_valid a (MessageOf B) (p ∷ ps) sources in
     inr (record { v = MessageValue (i A (joined (p ∷ ps))); w = MessageValue (j B (joined (p ∷ ps))); older = refl; single = tt; newer = refl;
-      again = message_again pairs k i a j A B (joined (p ∷ ps)) c h (joined_valid (p ∷ ps) ok) (joined_allowed a (MessageOf B) B p ps c.join (same B) allowed) })
-  where
-    same : (n : ℕ) → nat_eq n n ≡ true
-    same n = eq-eqb n n refl
+      again = message_again pairs k i a j A B (joined (p ∷ ps)) c h (joined_valid (p ∷ ps) ok) (joined_allowed a (MessageOf B) B p ps c.join (eq-eqb B B refl) allowed) })
 single_read pairs k i a j tA tB (GroupOf A) (GroupOf B) [] c h presence default sources = inl (refl, refl)
 single_read pairs k i a j tA tB (GroupOf A) (GroupOf B) (p ∷ ps) c h presence default sources =
     let (ok, allowed) = sources_valid a (GroupOf B) (p ∷ ps) sources in
     inr (record { v = MessageValue (i A (joined (p ∷ ps))); w = MessageValue (j B (joined (p ∷ ps))); older = refl; single = tt; newer = refl;
-      again = group_again pairs k i a j A B (joined (p ∷ ps)) c h (joined_valid (p ∷ ps) ok) (joined_allowed a (GroupOf B) B p ps c.join (same B) allowed) })
-  where
-    same : (n : ℕ) → nat_eq n n ≡ true
-    same n = eq-eqb n n refl
+      again = group_again pairs k i a j A B (joined (p ∷ ps)) c h (joined_valid (p ∷ ps) ok) (joined_allowed a (GroupOf B) B p ps c.join (eq-eqb B B refl) allowed) })
 single_read pairs k i a j tA tB _ _ ps c h presence default sources = absurd (true≢false (sym h))
 
 -- what is read of one payload alone
