@@ -1,20 +1,19 @@
 -- What an older type writes of one value, a newer one of a reduction reads as what it read before.
-use Rattle.std.proofs.Common.{◌≡◌, ℕ, nat_lt, eq-eqb, Bool, true, false, cond, not, ◌&&◌, List, [], ◌∷◌, ◌++◌, flat_map, Option, Some, None, refl, ap, ap₂, sym, ◌∙◌, true≢false, append-nil, ◌⊎◌, inl, inr}
+use Rattle.std.proofs.Common.{◌≡◌, ℕ, nat_lt, eq-eqb, true, false, List, [], ◌∷◌, flat_map, Option, Some, None, refl, ap, sym, ◌∙◌, true≢false}
 use Rattle.std.specs.Option.{is_some}
 use Rattle.std.specs.List.{list_all}
 use Rattle.std.proofs.lemmas.Bool.{eqb-true}
 use Rattle.prost_reflect_wire.specs.Varint.{◌>>=◌}
-use Rattle.prost_reflect_wire.specs.Record.{Records, Record, Len, Payload, Flat, Group, items, read, body_of, short_body, spelled, payload_valid, valid}
-use Rattle.prost_reflect_wire.specs.Scalar.{Scalar, ScalarKind, elem, scalar_valid, is_undeclared}
+use Rattle.prost_reflect_wire.specs.Record.{Records, Record, Len, Payload, Flat, items, body_of, short_body, spelled, payload_valid, valid}
+use Rattle.prost_reflect_wire.specs.Scalar.{Scalar, ScalarKind, elem, scalar_valid}
 use Rattle.prost_reflect_wire.specs.Schema.{Kind, ScalarOf, MessageOf, GroupOf, ValueType, FieldForm, passes}
 use Rattle.prost_reflect_wire.specs.Content.{Content, Value, ScalarValue, MessageValue}
-use Rattle.prost_reflect_wire.specs.Grammar.{AllowsInside, body, records_in, is_stray, element_payloads_in, value_payloads, stray_payloads, one_allowed, field_allowed}
+use Rattle.prost_reflect_wire.specs.Grammar.{AllowsInside, body, is_stray, element_payloads_in, value_payloads, stray_payloads, one_allowed, field_allowed}
 use Rattle.prost_reflect_wire.specs.Meaning.{MeansInside, element, scalar_values, field_value}
 use Rattle.prost_reflect_wire.specs.Writing.{records, value_payload}
 use Rattle.prost_reflect_wire.specs.Typing.{is_of_type}
 use Rattle.prost_reflect_wire.specs.Reduction.{TypePairs, holds, same_kind}
 use Rattle.prost_reflect_wire.specs.Laws.{ElementBack}
-use Rattle.prost_reflect_wire.proofs.Deeper.{and_both, both_true}
 use Rattle.prost_reflect_wire.proofs.Reading.{spelled_read}
 use Rattle.prost_reflect_wire.proofs.Shortest.{short_spells}
 use Rattle.prost_reflect_wire.proofs.Steps.{field_nothing}
@@ -25,7 +24,7 @@ use Rattle.prost_reflect_wire.proofs.Packed.{scalar_element}
 use Rattle.prost_reflect_wire.proofs.Spelt.{Sound, SoundPayload, SoundPayloads}
 use Rattle.prost_reflect_wire.proofs.Valid.{scalar_sound, inside_sound}
 use Rattle.prost_reflect_wire.proofs.Means.{inside_valid}
-use Rattle.prost_reflect_wire.proofs.Alike.{Alike, alike, stray_alike, elements_alike}
+use Rattle.prost_reflect_wire.proofs.Alike.{alike, stray_alike, elements_alike}
 use Rattle.prost_reflect_wire.proofs.Inside.{Joinable}
 
 -- One level down: what the records of an older type mean is written so that the newer one, which allows them, allows it and means the same by it.
@@ -78,7 +77,8 @@ written_again pairs a j (MessageOf A) (MessageOf U) B c d h t s allowed same = r
   read = λ spelt.
       let ok : valid (body_of (records c)) ≡ true = inside_valid (MessageOf A) (records c) s spelt in
       record {
-        alone = refl; stays = refl;
+        alone = refl;
+        stays = refl;
         allowed = ap (λ o. passes o (a U)) (body_back (records c) ok) ∙ ap (λ (n : ℕ). a n (records c)) (sym (eqb-true B U t)) ∙ allowed ok;
         means = ap (λ rs. MessageValue (j U rs) ∷ []) (payload_back (MessageOf A) (records c) ok) ∙ ap (λ (n : ℕ). MessageValue (j n (records c)) ∷ []) (sym (eqb-true B U t)) ∙ ap (λ c. MessageValue c ∷ []) (same ok);
       };
@@ -86,7 +86,8 @@ written_again pairs a j (MessageOf A) (MessageOf U) B c d h t s allowed same = r
 written_again pairs a j (GroupOf A) (GroupOf U) B c d h t s allowed same = record {
   sound = inside_sound (GroupOf A) (records c) s;
   read = λ ok. record {
-    alone = refl; stays = refl;
+    alone = refl;
+    stays = refl;
     allowed = ap (a U) (items_body (records c)) ∙ ap (λ (n : ℕ). a n (records c)) (sym (eqb-true B U t)) ∙ allowed ok;
     means = ap (λ rs. MessageValue (j U rs) ∷ []) (payload_back (GroupOf A) (records c) ok) ∙ ap (λ (n : ℕ). MessageValue (j n (records c)) ∷ []) (sym (eqb-true B U t)) ∙ ap (λ c. MessageValue c ∷ []) (same ok);
   };

@@ -1,18 +1,18 @@
 -- The records of one number, in records and in what is written of a meaning.
-use Rattle.std.proofs.Common.{◌≡◌, ℕ, zero, suc, ◌≤◌, Bool, true, false, cond, not, ◌&&◌, ◌||◌, List, [], ◌∷◌, ◌++◌, map, filter, flat_map, nat_eq, Option, Some, None, refl, ap, ap₂, sym, subst, ◌∙◌, arith, true≢false, append-nil, append_assoc}
-use Rattle.std.proofs.lemmas.Bool.{eqb-true, eq-eqb, ne_eqb}
+use Rattle.std.proofs.Common.{◌≡◌, ℕ, suc, Bool, true, false, cond, not, ◌&&◌, ◌||◌, List, [], ◌∷◌, ◌++◌, map, filter, flat_map, nat_eq, Option, Some, None, refl, ap, ap₂, sym, subst, ◌∙◌, arith, append-nil, append_assoc}
+use Rattle.std.proofs.lemmas.Bool.{eqb-true, eq-eqb}
 use Rattle.std.specs.List.{list_any, list_all}
-use Rattle.std.proofs.lemmas.List.Folds.{list_all-append, list_any-append}
-use Rattle.prost_reflect_wire.specs.Record.{Record, Records, Payload, Flat, Group, before, body_of, number_valid, payload_valid, plain_valid, valid}
-use Rattle.prost_reflect_wire.specs.Schema.{Field, Schema, known, field_of, is_sibling}
-use Rattle.prost_reflect_wire.specs.Content.{ContentOf, Entries, Value, ScalarValue, MessageValue, ListValue, MapValue, Slot, then_unknowns, then_value, store, table}
+use Rattle.std.proofs.lemmas.List.Folds.{list_all-append}
+use Rattle.prost_reflect_wire.specs.Record.{Record, Payload, Flat, Group, before, body_of, number_valid, payload_valid, plain_valid, valid}
+use Rattle.prost_reflect_wire.specs.Schema.{Field, field_of, is_sibling}
+use Rattle.prost_reflect_wire.specs.Content.{Entries, Value, Slot, then_unknowns, then_value, store, table}
 use Rattle.prost_reflect_wire.specs.Grammar.{payloads, has_number, numbered, value_records, value_payloads, stray_payloads, unknown_payloads}
-use Rattle.prost_reflect_wire.specs.Meaning.{numbers_of, after_last, survive, MeansInside, unknowns_meaning, meaning_at, meaning_by}
-use Rattle.prost_reflect_wire.specs.Writing.{record_at, records, entries_records, field_payloads}
+use Rattle.prost_reflect_wire.specs.Meaning.{after_last, survive}
+use Rattle.prost_reflect_wire.specs.Writing.{record_at, entries_records, field_payloads}
 use Rattle.prost_reflect_wire.specs.Laws.{block}
-use Rattle.prost_reflect_wire.proofs.Numbers.{Ascending, is_in, not_in, numbers_ascending, Covers, eqb-sym, empty_slot}
+use Rattle.prost_reflect_wire.proofs.Numbers.{Ascending, is_in, not_in, Covers, eqb-sym}
 use Rattle.prost_reflect_wire.proofs.Survivors.{field_number, filter_append, or_false}
-use Rattle.prost_reflect_wire.proofs.Steps.{map_append, flat_append, meaning_covers}
+use Rattle.prost_reflect_wire.proofs.Steps.{map_append}
 use Rattle.prost_reflect_wire.proofs.Commuting.{value_records_block}
 use Rattle.prost_reflect_wire.proofs.Deeper.{and_both, both_true, all_after}
 use Rattle.prost_reflect_wire.proofs.Values.{value_records_known, unknown_known}
@@ -85,7 +85,7 @@ none_by_number test (r ∷ rs) h = go (test r.number) refl (none_by_number test 
     go : (b : Bool) → test r.number ≡ b → (((m : ℕ) → test m ≡ true → filter (has_number m) rs ≡ []) → list_any (λ r. test r.number) rs ≡ false) → (b || list_any (λ r. test r.number) rs) ≡ false
     go true e more =
         let gone : cond true (r ∷ filter (has_number r.number) rs) (filter (has_number r.number) rs) ≡ [] =
-            ap (λ b. cond b (r ∷ filter (has_number r.number) rs) (filter (has_number r.number) rs)) (sym (eq-eqb r.number r.number refl)) ∙ h r.number e in
+        ap (λ b. cond b (r ∷ filter (has_number r.number) rs) (filter (has_number r.number) rs)) (sym (eq-eqb r.number r.number refl)) ∙ h r.number e in
         absurd (some_none gone)
       where
         some_none : {A : Type 0} {x : A} {xs : List A} → (x ∷ xs) ≡ [] → ⊥

@@ -1,23 +1,22 @@
 -- A value set at a path through an older type of a reduction is set there in what the newer one reads.
-use Rattle.std.proofs.Common.{◌≡◌, ℕ, zero, suc, ◌≤◌, ◌<◌, ◌^◌, nat_lt, Bool, true, false, cond, ◌&&◌, ◌||◌, List, [], ◌∷◌, flat_map, length, Option, Some, None, refl, ap, ap₂, sym, subst, ◌∙◌, arith, true≢false}
+use Rattle.std.proofs.Common.{◌≡◌, ℕ, zero, suc, ◌≤◌, ◌<◌, ◌^◌, nat_lt, true, false, List, [], ◌∷◌, flat_map, length, Option, Some, None, refl, ap, sym, subst, ◌∙◌, arith}
 use Rattle.std.specs.List.{list_all}
 use Rattle.std.proofs.lemmas.Bool.{lt-ltb, eq-eqb}
-use Rattle.prost_reflect_wire.specs.Varint.{AreBytes, guard, ◌>>=◌}
-use Rattle.prost_reflect_wire.specs.Record.{Payload, Record, Spells, items, body_of, valid}
-use Rattle.prost_reflect_wire.specs.Schema.{Kind, ScalarOf, MessageOf, GroupOf, ValueType, Singular, Field, Schema, known, field_of, schema_valid}
-use Rattle.prost_reflect_wire.specs.Content.{Content, ContentOf, Entries, Value, MessageValue, Slot, value_at, slot_at, table, schema_of, type_of, empty}
-use Rattle.prost_reflect_wire.specs.Grammar.{AllowsInside, payloads, value_records, one_allowed, record_allowed, nothing_inside, allows, Accepts}
-use Rattle.prost_reflect_wire.specs.Meaning.{MeansInside, joined, message_value, one_value, numbers_of, survive, field_value, value_meaning, meaning_at, meaning_by, empty_inside, meaning, decoded}
+use Rattle.prost_reflect_wire.specs.Varint.{AreBytes, ◌>>=◌}
+use Rattle.prost_reflect_wire.specs.Record.{Payload, Record, items, body_of, valid}
+use Rattle.prost_reflect_wire.specs.Schema.{Kind, ScalarOf, MessageOf, GroupOf, Singular, Field, Schema, known, field_of, schema_valid}
+use Rattle.prost_reflect_wire.specs.Content.{Content, ContentOf, Entries, Value, MessageValue, Slot, value_at, table, schema_of, type_of, empty}
+use Rattle.prost_reflect_wire.specs.Grammar.{AllowsInside, payloads, value_records, record_allowed, nothing_inside, allows, Accepts}
+use Rattle.prost_reflect_wire.specs.Meaning.{MeansInside, joined, message_value, one_value, numbers_of, survive, field_value, meaning_at, meaning_by, empty_inside, meaning, decoded}
 use Rattle.prost_reflect_wire.specs.Writing.{records, entries_records, encoded}
-use Rattle.prost_reflect_wire.specs.Typing.{WellTyped, is_of_type, kept, kept_value, kept_inside, ValueStored}
+use Rattle.prost_reflect_wire.specs.Typing.{is_of_type, kept, kept_value, kept_inside, ValueStored}
 use Rattle.prost_reflect_wire.specs.Edit.{with_field_value, set_field, default_of, default_value, value_or_default, in_message, in_field, set_at, message_of, PathTo, holds_message, edited}
-use Rattle.prost_reflect_wire.specs.Reduction.{TypePairs, holds, same_kind, all_match, Reduced}
+use Rattle.prost_reflect_wire.specs.Reduction.{TypePairs, holds, all_match, Reduced}
 use Rattle.prost_reflect_wire.proofs.Numbers.{Ascending, Covers, numbers_ascending, slot_table}
 use Rattle.prost_reflect_wire.proofs.Survivors.{field_number}
 use Rattle.prost_reflect_wire.proofs.Steps.{surviving_value, meaning_covers, meaning_empty}
-use Rattle.prost_reflect_wire.proofs.Deeper.{and_both, both_true}
 use Rattle.prost_reflect_wire.proofs.Checked.{checked_field, found_valid}
-use Rattle.prost_reflect_wire.proofs.Spelt.{Sound, valid_if}
+use Rattle.prost_reflect_wire.proofs.Spelt.{Sound}
 use Rattle.prost_reflect_wire.proofs.Setting.{set_well}
 use Rattle.prost_reflect_wire.proofs.Kept.{kept_content}
 use Rattle.prost_reflect_wire.proofs.GoodSteps.{meaning_typed}
@@ -26,7 +25,7 @@ use Rattle.prost_reflect_wire.proofs.Older.{allows_smaller}
 use Rattle.prost_reflect_wire.proofs.Matches.{Like, like}
 use Rattle.prost_reflect_wire.proofs.ByNumber.{stored_payloads}
 use Rattle.prost_reflect_wire.proofs.Inside.{joined_valid}
-use Rattle.prost_reflect_wire.proofs.Again.{Carries, Again, written_again, FieldAgain}
+use Rattle.prost_reflect_wire.proofs.Again.{written_again, FieldAgain}
 use Rattle.prost_reflect_wire.proofs.SingleAgain.{single_source, sources_valid, value_again}
 use Rattle.prost_reflect_wire.proofs.EntryAgain.{message_records}
 use Rattle.prost_reflect_wire.proofs.FieldAgain.{source}
@@ -115,8 +114,8 @@ leaf_edited pairs k i a j older newer A B rs n f v s found stored none =
     let l : Like pairs (known older A) (known newer B) f b.field = b.like in
     let same : kept_inside v ≡ v = all_kept v none in
     let again : FieldAgain k a j b.field.form b.field.value_type (stored_payloads (Some f) (kept_value (Some f) (kept_inside v))) (kept_value (Some b.field) (kept_inside v)) =
-        subst (λ w. FieldAgain k a j g.form g.value_type (stored_payloads (Some f) (kept_value (Some f) w)) (kept_value (Some g) w)) (sym same)
-        (value_carried pairs k a j older f g v l.form l.type (checked_field older f (found_valid older (known older A) n f s.checked found)) stored.valid stored.order none) in
+    subst (λ w. FieldAgain k a j g.form g.value_type (stored_payloads (Some f) (kept_value (Some f) w)) (kept_value (Some g) w)) (sym same)
+    (value_carried pairs k a j older f g v l.form l.type (checked_field older f (found_valid older (known older A) n f s.checked found)) stored.valid stored.order none) in
     subst (λ c. Edited (λ B rs. list_all (record_allowed k a (known newer B)) rs) (meaning_by j newer) B c (set_at (n ∷ []) v (meaning_by j newer B rs))) (sym (in_known older A n (table (meaning_at i (known older A) rs) (numbers_of rs)) f (λ schema fields f es. set_field fields f v es) found))
     (subst (λ d. Edited (λ B rs. list_all (record_allowed k a (known newer B)) rs) (meaning_by j newer) B (ContentOf older A (set_field (known older A) f v (table (meaning_at i (known older A) rs) (numbers_of rs)))) d)
     (sym (in_known newer B n (table (meaning_at j (known newer B) rs) (numbers_of rs)) g (λ schema fields f es. set_field fields f v es) b.found))
@@ -269,9 +268,9 @@ pub edit_passage : (older newer : Schema) (k A B : ℕ) (bytes : List ℕ) (path
 edit_passage older newer k A B bytes path v again cA cB small r short to none acc e fits =
     let ok : valid (body_of (items acc.records)) ≡ true = accepted_valid newer k B bytes acc small in
     let here : Edited (allows newer k) (meaning newer k) B (set_at path v (meaning older k A (items acc.records))) (set_at path v (meaning newer k B (items acc.records))) =
-        edited_at r.pairs older newer k path v A B (items acc.records) cA cB r.each short none r.first ok acc.allowed to in
+    edited_at r.pairs older newer k path v A B (items acc.records) cA cB r.each short none r.first ok acc.allowed to in
     let same : encoded (set_at path v (meaning older k A (items acc.records))) ≡ again =
-        ap (λ (o : Option (List ℕ)). elim o [ None ↦ again | Some x ↦ x ]) (sym (ap (λ (o : Option Content). o >>= λ c. Some (encoded (set_at path v c))) (older_decoded older newer k A B bytes r acc)) ∙ e) in
+    ap (λ (o : Option (List ℕ)). elim o [ None ↦ again | Some x ↦ x ]) (sym (ap (λ (o : Option Content). o >>= λ c. Some (encoded (set_at path v c))) (older_decoded older newer k A B bytes r acc)) ∙ e) in
     let (accepts, read) = written_read newer k B (set_at path v (meaning older k A (items acc.records))) (set_at path v (meaning newer k B (items acc.records))) here.sound here.allowed here.same (subst (λ (x : List ℕ). length x < 2 ^ 64) (sym same) fits) in
     subst (λ (x : List ℕ). Accepts newer k B x × (decoded newer k B x ≡ (decoded newer k B bytes >>= λ d. Some (set_at path v d)))) same
     (accepts, read ∙ sym (ap (λ (o : Option Content). o >>= λ d. Some (set_at path v d)) (accepted_decoded newer k B bytes acc)))

@@ -1,19 +1,18 @@
 -- An entry of a map, carried through a reduction.
-use Rattle.std.proofs.Common.{◌≡◌, ℕ, suc, zero, nat_eq, nat_lt, nat_le, eq-eqb, Bool, true, false, cond, not, ◌&&◌, ◌||◌, List, [], ◌∷◌, ◌++◌, map, filter, flat_map, Option, Some, None, refl, ap, ap₂, sym, subst, ◌∙◌, arith, true≢false, append-nil}
-use Rattle.std.specs.Bool.{⊤}
+use Rattle.std.proofs.Common.{◌≡◌, ℕ, nat_eq, nat_lt, nat_le, eq-eqb, Bool, true, false, cond, not, ◌&&◌, List, [], ◌∷◌, ◌++◌, Option, Some, None, refl, ap, ap₂, sym, subst, ◌∙◌, arith, true≢false, append-nil}
 use Rattle.std.specs.Option.{is_some}
 use Rattle.std.specs.List.{list_all}
 use Rattle.std.specs.Str.{is_utf8, chars}
 use Rattle.std.proofs.lemmas.Bool.{eqb-true, ne_eqb}
 use Rattle.std.proofs.lemmas.List.Folds.{list_all-append}
 use Rattle.prost_reflect_wire.specs.Varint.{◌>>=◌}
-use Rattle.prost_reflect_wire.specs.Record.{Len, Var, Fix64, Fix32, Payload, Flat, Group, Record, body_of, spelled, payload_levels, payload_valid, valid}
-use Rattle.prost_reflect_wire.specs.Scalar.{Scalar, ScalarKind, Double, Float, Int64, Uint64, Int32, Fixed64, Fixed32, BoolKind, StringKind, BytesKind, Uint32, Sfixed32, Sfixed64, Sint32, Sint64, Enum, elem, scalar_valid, scalar_eq, kind_default, is_undeclared}
-use Rattle.prost_reflect_wire.specs.Schema.{Kind, ScalarOf, MessageOf, GroupOf, ValueType, FieldForm, MapFrom, Field, is_key_kind, has_kind_default, default_valid, passes}
-use Rattle.prost_reflect_wire.specs.Content.{Content, Value, ScalarValue, MessageValue, ListValue, MapValue, Pairs, NoPairs, Pair}
-use Rattle.prost_reflect_wire.specs.Grammar.{AllowsInside, has_number, numbered, payloads, last, body, records_in, is_stray, is_stray_entry, is_len, one_allowed, in_entry_allowed, has_level, field_allowed, value_payloads, stray_payloads}
-use Rattle.prost_reflect_wire.specs.Meaning.{MeansInside, joined, element, scalar_values, last_or, entry_key, entry_value, put, put_entry, put_entries, present_map, field_value}
-use Rattle.prost_reflect_wire.specs.Writing.{record_at, scalar_payload, is_default_of, entry_record, value_payload, pair_payload, pair_payloads, key_of, field_payloads}
+use Rattle.prost_reflect_wire.specs.Record.{Payload, Record, body_of, payload_levels, payload_valid, valid}
+use Rattle.prost_reflect_wire.specs.Scalar.{Scalar, ScalarKind, Double, Float, StringKind, BytesKind, Enum, elem, scalar_valid, scalar_eq, kind_default, is_undeclared}
+use Rattle.prost_reflect_wire.specs.Schema.{Kind, ScalarOf, MessageOf, GroupOf, ValueType, MapFrom, is_key_kind, has_kind_default, default_valid, passes}
+use Rattle.prost_reflect_wire.specs.Content.{Value, ScalarValue, MessageValue}
+use Rattle.prost_reflect_wire.specs.Grammar.{AllowsInside, numbered, last, body, records_in, is_stray, is_stray_entry, is_len, one_allowed, in_entry_allowed, has_level, field_allowed}
+use Rattle.prost_reflect_wire.specs.Meaning.{MeansInside, joined, element, scalar_values, last_or, entry_key, entry_value}
+use Rattle.prost_reflect_wire.specs.Writing.{record_at, scalar_payload, is_default_of, entry_record, value_payload, pair_payload}
 use Rattle.prost_reflect_wire.specs.Typing.{kind_takes, is_of_type}
 use Rattle.prost_reflect_wire.specs.Reduction.{TypePairs, same_kind, same_default}
 use Rattle.prost_reflect_wire.proofs.Deeper.{and_both, both_true}
@@ -22,15 +21,14 @@ use Rattle.prost_reflect_wire.proofs.Order.{scalars_equal}
 use Rattle.prost_reflect_wire.proofs.Table.{read_back}
 use Rattle.prost_reflect_wire.proofs.Declared.{read_valid}
 use Rattle.prost_reflect_wire.proofs.Values.{records_back}
-use Rattle.prost_reflect_wire.proofs.Spelt.{Sound, SoundPayload, SoundPayloads, sound_append, message_sound}
+use Rattle.prost_reflect_wire.proofs.Spelt.{Sound, SoundPayload, sound_append, message_sound}
 use Rattle.prost_reflect_wire.proofs.Valid.{scalar_sound, entry_sound}
 use Rattle.prost_reflect_wire.proofs.Means.{first_valid, behind_valid, body_valid}
-use Rattle.prost_reflect_wire.proofs.Alike.{Alike, alike, SameType, stray_alike}
+use Rattle.prost_reflect_wire.proofs.Alike.{alike, SameType, stray_alike}
 use Rattle.prost_reflect_wire.proofs.ByNumber.{payloads_pass, record_valid, valid_all}
 use Rattle.prost_reflect_wire.proofs.Readable.{inside_spelled}
 use Rattle.prost_reflect_wire.proofs.Inside.{Joinable, passes_inside, joined_valid, joined_allowed}
-use Rattle.prost_reflect_wire.proofs.Again.{Carries, ReadAs, Again, body_back, scalar_again, message_again, group_again, read_scalar_valid, FieldReads, FieldAgain, nothing_again}
-use Rattle.prost_reflect_wire.proofs.Putting.{Rising, put_rising, put_all, put_all_rising}
+use Rattle.prost_reflect_wire.proofs.Again.{Carries, ReadAs, Again, body_back, scalar_again, message_again, group_again}
 
 -- PAYLOADS IN AN ENTRY
 

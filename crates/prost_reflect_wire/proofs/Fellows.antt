@@ -2,15 +2,15 @@
 use Rattle.std.proofs.Common.{◌≡◌, ℕ, Bool, true, false, cond, not, ◌&&◌, ◌||◌, List, [], ◌∷◌, filter, nat_eq, Option, Some, None, refl, ap, ap₂, sym, ◌∙◌, true≢false}
 use Rattle.std.proofs.lemmas.Bool.{eqb-true, eq-eqb}
 use Rattle.std.specs.Bool.{beq}
-use Rattle.std.specs.List.{list_any, list_all}
+use Rattle.std.specs.List.{list_any}
 use Rattle.prost_reflect_wire.specs.Record.{Record}
-use Rattle.prost_reflect_wire.specs.Schema.{Field, field_of, same_oneof, is_sibling, passes, numbers_differ}
+use Rattle.prost_reflect_wire.specs.Schema.{Field, field_of, same_oneof, is_sibling, passes}
 use Rattle.prost_reflect_wire.specs.Meaning.{after_last}
 use Rattle.prost_reflect_wire.specs.Reduction.{TypePairs, is_known, has_no_fellow}
 use Rattle.prost_reflect_wire.proofs.Deeper.{and_both}
 use Rattle.prost_reflect_wire.proofs.ListTests.{not_true, beq_same}
 use Rattle.prost_reflect_wire.proofs.Numbers.{eqb-sym}
-use Rattle.prost_reflect_wire.proofs.Survivors.{field_number, or_false, filter_none, survive_none, after_cons, not_kept}
+use Rattle.prost_reflect_wire.proofs.Survivors.{field_number, or_false, filter_none, survive_none, after_cons}
 use Rattle.prost_reflect_wire.proofs.Matches.{found_passes, any_found, some_field, Passing, found_any, member_at, same_oneof_sym, TypesMatch, Like}
 
 not_known : (fields : List Field) (n : ℕ) (oneof : Option ℕ) → field_of fields n ≡ None → list_any (member_at n oneof) fields ≡ false
@@ -66,7 +66,7 @@ fellows pairs older newer f g m t l = go (field_of older m) refl
         let (at, same) = and_both (nat_eq p.field.number m) (same_oneof p.field.oneof g.oneof) p.passes in
         let number : p.field.number ≡ m = eqb-true p.field.number m at in
         let no_fellow : list_any (λ h. is_sibling newer p.field h.number) newer ≡ false =
-            alone older newer p.field (p.all (has_no_fellow older newer) t.lacking) (ap (field_of older) number ∙ lacking) in
+        alone older newer p.field (p.all (has_no_fellow older newer) t.lacking) (ap (field_of older) number ∙ lacking) in
         absurd (true≢false (sym (back p.field number same other) ∙ any_found (λ h. is_sibling newer p.field h.number) newer f.number g no_fellow l.found))
       where
         back : (h : Field) → h.number ≡ m → same_oneof h.oneof g.oneof ≡ true → not (nat_eq m g.number) ≡ true → is_sibling newer h g.number ≡ true
@@ -78,7 +78,7 @@ fellows pairs older newer f g m t l = go (field_of older m) refl
     go (Some h) e =
         let number : h.number ≡ m = field_number older m h e in
         let same : is_sibling newer g h.number ≡ is_sibling older f h.number = beq_same (is_sibling older f h.number) (is_sibling newer g h.number)
-            (found_passes (λ h. beq (is_sibling older f h.number) (is_sibling newer g h.number)) older m h l.siblings e) in
+        (found_passes (λ h. beq (is_sibling older f h.number) (is_sibling newer g h.number)) older m h l.siblings e) in
         ap (is_sibling newer g) (sym number) ∙ same ∙ ap (is_sibling older f) number
 
 -- VALUES OF ONE ONEOF

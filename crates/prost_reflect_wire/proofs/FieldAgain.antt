@@ -1,10 +1,10 @@
 -- A field, carried through a reduction: its value by its form, and its strays.
-use Rattle.std.proofs.Common.{◌≡◌, ℕ, Bool, true, false, cond, not, ◌&&◌, ◌||◌, List, [], ◌∷◌, ◌++◌, filter, flat_map, Option, Some, None, refl, ap, ap₂, sym, ◌∙◌, true≢false}
+use Rattle.std.proofs.Common.{◌≡◌, ℕ, Bool, true, false, cond, not, ◌&&◌, ◌||◌, List, [], ◌∷◌, ◌++◌, filter, flat_map, Some, refl, ap, ap₂, sym, ◌∙◌, true≢false}
 use Rattle.std.specs.List.{list_all}
 use Rattle.std.proofs.lemmas.List.Folds.{list_all-append}
-use Rattle.prost_reflect_wire.specs.Record.{Var, Fix64, Len, Fix32, Payload, Flat, Group, payload_valid}
+use Rattle.prost_reflect_wire.specs.Record.{Var, Len, Payload, Flat, payload_valid}
 use Rattle.prost_reflect_wire.specs.Scalar.{ScalarKind, Enum, is_undeclared}
-use Rattle.prost_reflect_wire.specs.Schema.{Kind, ScalarOf, MessageOf, GroupOf, ValueType, FieldForm, Singular, Repeated, MapFrom, Field, Schema, is_packable_kind}
+use Rattle.prost_reflect_wire.specs.Schema.{Kind, ScalarOf, MessageOf, GroupOf, ValueType, FieldForm, Singular, Repeated, MapFrom, Field, Schema}
 use Rattle.prost_reflect_wire.specs.Grammar.{AllowsInside, fits, is_stray, is_stray_entry, element_payloads_in, value_payloads, stray_payloads, one_allowed, packed_allowed, field_allowed}
 use Rattle.prost_reflect_wire.specs.Meaning.{MeansInside, field_value}
 use Rattle.prost_reflect_wire.specs.Reduction.{TypePairs, same_form}
@@ -18,7 +18,7 @@ use Rattle.prost_reflect_wire.proofs.Again.{Carries, FieldAgain}
 use Rattle.prost_reflect_wire.proofs.SingleAgain.{single_source, single_again}
 use Rattle.prost_reflect_wire.proofs.ListAgain.{list_source, list_again}
 use Rattle.prost_reflect_wire.proofs.EntryAgain.{map_source}
-use Rattle.prost_reflect_wire.proofs.MapAgain.{MapTypes, map_again}
+use Rattle.prost_reflect_wire.proofs.MapAgain.{map_again}
 
 -- SOURCES
 

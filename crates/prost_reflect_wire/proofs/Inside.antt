@@ -1,15 +1,13 @@
 -- The records in payloads that have a spelling: they have one too, and joined they are allowed where each is.
-use Rattle.std.proofs.Common.{◌≡◌, ℕ, ◌<◌, Bool, true, false, ◌&&◌, List, [], ◌∷◌, ◌++◌, length, nat_lt, Option, Some, None, refl, ap, ap₂, sym, ◌∙◌, true≢false, append-nil}
+use Rattle.std.proofs.Common.{◌≡◌, ℕ, Bool, true, List, [], ◌∷◌, ◌++◌, Option, Some, None, refl, ap, sym, ◌∙◌, true≢false, append-nil}
 use Rattle.std.specs.List.{list_all}
-use Rattle.std.proofs.lemmas.Bool.{ltb-true, eqb-true}
-use Rattle.std.proofs.lemmas.List.Folds.{list_all-append}
-use Rattle.prost_reflect_wire.specs.Varint.{AreBytes, are_bytes, ◌>>=◌}
-use Rattle.prost_reflect_wire.specs.Record.{Var, Fix64, Len, Fix32, Records, NoRecords, PlainRecord, GroupRecord, Record, Payload, Flat, Group, items, body_of, read, payload_valid, valid}
+use Rattle.std.proofs.lemmas.Bool.{eqb-true}
+use Rattle.prost_reflect_wire.specs.Record.{Record, Payload, body_of, payload_valid, valid}
 use Rattle.prost_reflect_wire.specs.Schema.{Kind, ScalarOf, MessageOf, GroupOf, passes}
 use Rattle.prost_reflect_wire.specs.Grammar.{AllowsInside, or_none, body, records_in, one_allowed, is_len, is_group_payload}
 use Rattle.prost_reflect_wire.specs.Meaning.{joined}
 use Rattle.prost_reflect_wire.specs.Typing.{is_of_type}
-use Rattle.prost_reflect_wire.proofs.Deeper.{and_both, both_true}
+use Rattle.prost_reflect_wire.proofs.Deeper.{and_both}
 use Rattle.prost_reflect_wire.proofs.Readable.{inside_spelled, append_valid}
 
 -- VALID

@@ -1,29 +1,29 @@
 -- A list, carried through a reduction: packing may differ.
-use Rattle.std.proofs.Common.{◌≡◌, ℕ, ◌+◌, ◌<◌, ◌^◌, Bool, true, false, cond, not, ◌&&◌, ◌||◌, List, [], ◌∷◌, ◌++◌, map, filter, flat_map, length, length-append, nat_lt, nat_eq, eq-eqb, Option, Some, None, refl, ap, ap₂, sym, subst, ◌∙◌, arith, true≢false, append-nil}
+use Rattle.std.proofs.Common.{◌≡◌, ℕ, ◌+◌, ◌<◌, ◌^◌, Bool, true, false, cond, not, ◌&&◌, ◌||◌, List, [], ◌∷◌, ◌++◌, map, filter, flat_map, length, length-append, nat_lt, eq-eqb, Option, Some, None, refl, ap, ap₂, sym, subst, ◌∙◌, arith, true≢false, append-nil}
 use Rattle.std.specs.Bool.{⊤}
 use Rattle.std.specs.Option.{is_some}
 use Rattle.std.specs.List.{list_all}
 use Rattle.std.proofs.lemmas.Bool.{lt-ltb}
 use Rattle.prost_reflect_wire.specs.Varint.{are_bytes, short}
-use Rattle.prost_reflect_wire.specs.Record.{Plain, Len, Payload, Flat, Group, payload_valid, short_plain}
+use Rattle.prost_reflect_wire.specs.Record.{Plain, Len, Payload, Flat, Group, payload_valid}
 use Rattle.prost_reflect_wire.specs.Scalar.{Scalar, ScalarKind, elem, scalar_valid}
-use Rattle.prost_reflect_wire.specs.Schema.{Kind, ScalarOf, MessageOf, GroupOf, ValueType, FieldForm, Singular, Repeated, MapFrom, Field, is_packable, is_packable_kind}
+use Rattle.prost_reflect_wire.specs.Schema.{Kind, ScalarOf, MessageOf, GroupOf, ValueType, Repeated, Field, is_packable, is_packable_kind}
 use Rattle.prost_reflect_wire.specs.Content.{Value, ScalarValue, MessageValue, ListValue, MapValue, Values, NoValues, Item, values_from}
 use Rattle.prost_reflect_wire.specs.Grammar.{AllowsInside, or_none, unpacked, records_in, is_stray, element_payloads_in, one_allowed, packed_allowed}
-use Rattle.prost_reflect_wire.specs.Meaning.{MeansInside, element, scalar_values, present_list, field_value}
-use Rattle.prost_reflect_wire.specs.Writing.{payload_bytes, end_to_end, list_payloads, value_payload, element_payloads, field_payloads}
-use Rattle.prost_reflect_wire.specs.Typing.{element_valid, elements_valid}
+use Rattle.prost_reflect_wire.specs.Meaning.{MeansInside, element, scalar_values, present_list}
+use Rattle.prost_reflect_wire.specs.Writing.{payload_bytes, end_to_end, list_payloads, value_payload, element_payloads}
+use Rattle.prost_reflect_wire.specs.Typing.{elements_valid}
 use Rattle.prost_reflect_wire.specs.Reduction.{TypePairs, same_kind}
 use Rattle.prost_reflect_wire.proofs.Deeper.{and_both, both_true, all_append, element_allowed}
 use Rattle.prost_reflect_wire.proofs.ListTests.{not_true}
-use Rattle.prost_reflect_wire.proofs.Packed.{plains_of, unpacked_back}
+use Rattle.prost_reflect_wire.proofs.Packed.{unpacked_back}
 use Rattle.prost_reflect_wire.proofs.Spelt.{plain_bytes, payload_size, SoundPayload, SoundPayloads}
 use Rattle.prost_reflect_wire.proofs.Valid.{scalar_sound}
 use Rattle.prost_reflect_wire.proofs.Alike.{Alike, alike, elements_alike, unpacked_alike}
 use Rattle.prost_reflect_wire.proofs.ByNumber.{stored_payloads}
 use Rattle.prost_reflect_wire.proofs.Readable.{inside_spelled}
 use Rattle.prost_reflect_wire.proofs.Inside.{message_inside}
-use Rattle.prost_reflect_wire.proofs.Again.{Carries, ReadAs, Again, scalar_reads, scalar_again, message_again, group_again, read_scalar_valid, FieldReads, FieldAgain, nothing_again}
+use Rattle.prost_reflect_wire.proofs.Again.{Carries, ReadAs, Again, scalar_reads, scalar_again, message_again, group_again, read_scalar_valid, FieldAgain}
 
 -- EACH ELEMENT
 
@@ -161,9 +161,11 @@ end_bytes (p ∷ ps) (one, more) l =
     go (Group inside) h l = refl
 
 end_sound : (ps : List Payload) → SoundPayloads ps → SoundPayload (Flat (Len (end_to_end ps)))
-end_sound ps s = record { sound = λ l.
-    let small : length (end_to_end ps) < 2 ^ 64 = omega (arith, l, length-append (short (length (end_to_end ps))) (end_to_end ps)) in
-    both_true (lt-ltb (length (end_to_end ps)) (2 ^ 64) small) (end_bytes ps s small) }
+end_sound ps s = record {
+  sound = λ l.
+      let small : length (end_to_end ps) < 2 ^ 64 = omega (arith, l, length-append (short (length (end_to_end ps))) (end_to_end ps)) in
+      both_true (lt-ltb (length (end_to_end ps)) (2 ^ 64) small) (end_bytes ps s small);
+}
 
 packed_elements : (pairs : TypePairs) (kA kB : ScalarKind) (vs : Values) → same_kind pairs (ScalarOf kA) (ScalarOf kB) ≡ true → is_packable kA ≡ true → elements_valid (ScalarOf kA) vs ≡ true →
     element_payloads_in (ScalarOf kB) (Flat (Len (end_to_end (element_payloads (ScalarOf kA) vs)))) ≡ element_payloads (ScalarOf kA) vs

@@ -1,14 +1,14 @@
 -- A map, carried through a reduction.
-use Rattle.std.proofs.Common.{◌≡◌, ℕ, Bool, true, false, cond, not, ◌&&◌, List, [], ◌∷◌, ◌++◌, filter, flat_map, Option, Some, None, refl, ap, ap₂, sym, subst, ◌∙◌, true≢false}
+use Rattle.std.proofs.Common.{◌≡◌, ℕ, Bool, true, false, cond, not, ◌&&◌, List, [], ◌∷◌, ◌++◌, flat_map, Some, refl, ap, ap₂, sym, subst, ◌∙◌, true≢false}
 use Rattle.std.specs.Bool.{⊤}
 use Rattle.std.specs.List.{list_all}
-use Rattle.prost_reflect_wire.specs.Record.{Payload, Record, payload_valid}
+use Rattle.prost_reflect_wire.specs.Record.{Payload, payload_valid}
 use Rattle.prost_reflect_wire.specs.Scalar.{Scalar, ScalarKind, scalar_lt, scalar_eq}
-use Rattle.prost_reflect_wire.specs.Schema.{Kind, ScalarOf, ValueType, FieldForm, MapFrom, Field, is_key_kind, has_kind_default, default_valid}
+use Rattle.prost_reflect_wire.specs.Schema.{ScalarOf, ValueType, MapFrom, Field, is_key_kind, has_kind_default, default_valid}
 use Rattle.prost_reflect_wire.specs.Content.{Value, ScalarValue, MessageValue, ListValue, MapValue, Pairs, NoPairs, Pair, key_before, value_ordered, pairs_ordered}
-use Rattle.prost_reflect_wire.specs.Grammar.{AllowsInside, records_in, is_stray_entry, has_level, field_allowed, value_payloads, stray_payloads}
-use Rattle.prost_reflect_wire.specs.Meaning.{MeansInside, entry_key, entry_value, put, put_entry, put_entries, present_map, field_value}
-use Rattle.prost_reflect_wire.specs.Writing.{pair_payload, pair_payloads, key_of, field_payloads}
+use Rattle.prost_reflect_wire.specs.Grammar.{AllowsInside, records_in, has_level, field_allowed, value_payloads, stray_payloads}
+use Rattle.prost_reflect_wire.specs.Meaning.{MeansInside, entry_key, entry_value, put, put_entry, put_entries, present_map}
+use Rattle.prost_reflect_wire.specs.Writing.{pair_payload, pair_payloads, key_of}
 use Rattle.prost_reflect_wire.specs.Typing.{kind_takes, element_valid, pairs_valid}
 use Rattle.prost_reflect_wire.specs.Reduction.{TypePairs, same_kind}
 use Rattle.prost_reflect_wire.proofs.Deeper.{and_both, both_true}
@@ -16,7 +16,7 @@ use Rattle.prost_reflect_wire.proofs.Spelt.{SoundPayloads}
 use Rattle.prost_reflect_wire.proofs.Order.{scalars_equal}
 use Rattle.prost_reflect_wire.proofs.Alike.{SameType, default_alike}
 use Rattle.prost_reflect_wire.proofs.ByNumber.{stored_payloads}
-use Rattle.prost_reflect_wire.proofs.Again.{Carries, scalar_again, FieldReads, FieldAgain}
+use Rattle.prost_reflect_wire.proofs.Again.{Carries, scalar_again, FieldAgain}
 use Rattle.prost_reflect_wire.proofs.EntryAgain.{map_source, Entry, entry_of, key_takes, key_same, ValueAgain, value_again, PairReads, PairAgain, pair_again}
 use Rattle.prost_reflect_wire.proofs.Putting.{Rising, put_rising, put_all, put_all_rising}
 
@@ -59,8 +59,8 @@ entries_again pairs k i a j keyA tA keyB tB (q ∷ qs) ps rs c t all h =
     let v : Value = entry_value i tA tA.kind (records_in q) in
     let w : Value = entry_value j tB tB.kind (records_in q) in
     let pair : PairAgain k a j keyA tA keyB tB (entry_key keyA (records_in q)) (entry_value i tA tA.kind (records_in q)) (entry_value j tB tB.kind (records_in q)) =
-        pair_again pairs k a j keyA tA keyB tB (entry_key keyA (records_in q)) v w t.key t.keyed t.key_default (key_takes keyA (records_in q) t.keyed e.keys_valid) e.level
-        (value_again pairs k i a j tA tB tA.kind tB.kind (records_in q) c t.value.kind t.value.default t.default e.values_valid e.values_allowed e.stays e.level) in
+    pair_again pairs k a j keyA tA keyB tB (entry_key keyA (records_in q)) v w t.key t.keyed t.key_default (key_takes keyA (records_in q) t.keyed e.keys_valid) e.level
+    (value_again pairs k i a j tA tB tA.kind tB.kind (records_in q) c t.value.kind t.value.default t.default e.values_valid e.values_allowed e.stays e.level) in
     entries_again pairs k i a j keyA tA keyB tB qs (put_entry i keyA tA q ps) (put_entry j keyB tB q rs) c t more
     (subst (λ (x : Scalar). PairsAgain k a j keyA tA keyB tB (put_entry i keyA tA q ps) (put x w rs)) (sym (key_same pairs keyA keyB (records_in q) t.key t.keyed))
     (put_again k a j keyA tA keyB tB (entry_key keyA (records_in q)) v w ps rs pair h))

@@ -1,13 +1,13 @@
 -- What the fields of two message types of a reduction have in common.
-use Rattle.std.proofs.Common.{◌≡◌, ℕ, Bool, true, false, cond, not, ◌&&◌, ◌||◌, List, [], ◌∷◌, nat_eq, Option, Some, None, refl, ap, ap₂, sym, ◌∙◌, true≢false}
-use Rattle.std.proofs.lemmas.Bool.{eqb-true, eq-eqb}
+use Rattle.std.proofs.Common.{◌≡◌, ℕ, Bool, true, false, cond, ◌&&◌, ◌||◌, List, [], ◌∷◌, nat_eq, Option, Some, None, refl, ap, ap₂, sym, ◌∙◌, true≢false}
+use Rattle.std.proofs.lemmas.Bool.{eqb-true}
 use Rattle.std.specs.Bool.{beq}
 use Rattle.std.specs.List.{list_any, list_all}
-use Rattle.prost_reflect_wire.specs.Schema.{Field, Schema, message_type, known, field_of, same_oneof, is_sibling, passes}
-use Rattle.prost_reflect_wire.specs.Reduction.{TypePairs, holds, same_form, value_types_match, fields_match, same_siblings, has_match, is_known, has_no_fellow, entries_whole, types_match, all_match}
+use Rattle.prost_reflect_wire.specs.Schema.{Field, Schema, message_type, known, field_of, same_oneof, passes}
+use Rattle.prost_reflect_wire.specs.Reduction.{TypePairs, holds, same_form, value_types_match, fields_match, same_siblings, has_match, has_no_fellow, entries_whole, types_match, all_match}
 use Rattle.prost_reflect_wire.proofs.Deeper.{and_both}
 use Rattle.prost_reflect_wire.proofs.Numbers.{eqb-sym}
-use Rattle.prost_reflect_wire.proofs.Survivors.{field_number, or_false}
+use Rattle.prost_reflect_wire.proofs.Survivors.{or_false}
 use Rattle.prost_reflect_wire.proofs.Alike.{SameType, same_type}
 
 -- FIELDS OF A LIST

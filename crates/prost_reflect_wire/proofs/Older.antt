@@ -1,20 +1,20 @@
 -- What the newer of two types of a reduction allows, the older one allows.
-use Rattle.std.proofs.Common.{◌≡◌, ℕ, zero, suc, ◌≤◌, nat_le, nat_lt, nat_eq, Bool, true, false, cond, not, ◌&&◌, ◌||◌, List, [], ◌∷◌, Option, Some, None, refl, ap, ap₂, sym, ◌∙◌, arith, true≢false}
+use Rattle.std.proofs.Common.{◌≡◌, ℕ, zero, suc, ◌≤◌, nat_le, nat_eq, Bool, true, false, cond, ◌&&◌, ◌||◌, List, [], ◌∷◌, Option, Some, None, refl, ap, ap₂, sym, ◌∙◌, arith, true≢false}
 use Rattle.std.specs.Prelude.{max}
 use Rattle.std.specs.Option.{is_some}
 use Rattle.std.specs.List.{list_all}
 use Rattle.std.proofs.lemmas.Bool.{leb-true, le-leb}
 use Rattle.prost_reflect_wire.specs.Record.{Plain, Len, Records, NoRecords, PlainRecord, GroupRecord, Record, Payload, Flat, Group, items, raw_levels, payload_levels}
-use Rattle.prost_reflect_wire.specs.Scalar.{ScalarKind, Enum, elem}
-use Rattle.prost_reflect_wire.specs.Schema.{Kind, ScalarOf, MessageOf, GroupOf, ValueType, FieldForm, Singular, Repeated, MapFrom, Field, Schema, known, field_of, is_packable, passes}
-use Rattle.prost_reflect_wire.specs.Grammar.{AllowsInside, body, fits, unpacked, is_len, is_group_payload, one_allowed, packed_allowed, in_entry_allowed, has_level, field_allowed, record_allowed, nothing_inside, allows, Accepts}
+use Rattle.prost_reflect_wire.specs.Scalar.{ScalarKind, Enum}
+use Rattle.prost_reflect_wire.specs.Schema.{Kind, ScalarOf, MessageOf, GroupOf, ValueType, FieldForm, Singular, Repeated, MapFrom, Field, Schema, known, field_of, passes}
+use Rattle.prost_reflect_wire.specs.Grammar.{AllowsInside, body, fits, is_len, is_group_payload, one_allowed, packed_allowed, in_entry_allowed, has_level, field_allowed, record_allowed, nothing_inside, allows, Accepts}
 use Rattle.prost_reflect_wire.specs.Levels.{greatest_level}
 use Rattle.prost_reflect_wire.specs.Reduction.{TypePairs, holds, same_kind, same_form, all_match, Reduced}
 use Rattle.prost_reflect_wire.proofs.Deeper.{and_both, both_true, all_implied}
 use Rattle.prost_reflect_wire.proofs.ListTests.{passes_more}
 use Rattle.prost_reflect_wire.proofs.Survivors.{field_number}
 use Rattle.prost_reflect_wire.proofs.Alike.{Alike, alike, SameType, same_type, unpacked_alike}
-use Rattle.prost_reflect_wire.proofs.Matches.{TypesMatch, matching, Like, like}
+use Rattle.prost_reflect_wire.proofs.Matches.{TypesMatch, matching, like}
 
 -- LEVELS OF WHAT IS ALLOWED
 

@@ -1,9 +1,9 @@
 -- Passage through a reduction, at all levels.
-use Rattle.std.proofs.Common.{◌≡◌, ℕ, zero, suc, ◌^◌, ◌<◌, Bool, true, false, ◌&&◌, List, [], ◌∷◌, length, nat_lt, Option, Some, None, refl, ap, ap₂, sym, subst, ◌∙◌, true≢false}
+use Rattle.std.proofs.Common.{◌≡◌, ℕ, zero, suc, ◌^◌, ◌<◌, true, List, length, Option, Some, None, refl, ap, sym, subst, ◌∙◌, true≢false}
 use Rattle.std.specs.List.{list_all}
 use Rattle.prost_reflect_wire.specs.Varint.{AreBytes, guard, ◌>>=◌}
 use Rattle.prost_reflect_wire.specs.Record.{Record, Records, Spells, items, read, body_of, valid}
-use Rattle.prost_reflect_wire.specs.Schema.{MessageType, Schema, known, field_valid, numbers_differ, schema_valid}
+use Rattle.prost_reflect_wire.specs.Schema.{Schema, known, schema_valid}
 use Rattle.prost_reflect_wire.specs.Content.{Content}
 use Rattle.prost_reflect_wire.specs.Grammar.{AllowsInside, record_allowed, nothing_inside, allows, Accepts}
 use Rattle.prost_reflect_wire.specs.Meaning.{MeansInside, numbers_of, meaning_at, meaning_by, empty_inside, meaning, decoded}
@@ -11,8 +11,7 @@ use Rattle.prost_reflect_wire.specs.Writing.{records, encoded}
 use Rattle.prost_reflect_wire.specs.Reduction.{TypePairs, holds, all_match, Reduced}
 use Rattle.prost_reflect_wire.proofs.Numbers.{numbers_ascending}
 use Rattle.prost_reflect_wire.proofs.Steps.{meaning_covers}
-use Rattle.prost_reflect_wire.proofs.Deeper.{and_both, all_append}
-use Rattle.prost_reflect_wire.proofs.ByteLists.{bytes_test}
+use Rattle.prost_reflect_wire.proofs.Deeper.{all_append}
 use Rattle.prost_reflect_wire.proofs.Reading.{spelled_read}
 use Rattle.prost_reflect_wire.proofs.Shortest.{short_spells}
 use Rattle.prost_reflect_wire.proofs.SpelledValid.{spelled_valid}

@@ -1,8 +1,7 @@
 -- A path to a field that takes a value leads there through a newer type of a reduction too.
-use Rattle.std.proofs.Common.{◌≡◌, ℕ, Bool, true, false, ◌&&◌, List, [], ◌∷◌, Option, Some, None, refl, ap, sym, ◌∙◌, true≢false}
-use Rattle.std.specs.Bool.{⊤}
+use Rattle.std.proofs.Common.{◌≡◌, ℕ, true, false, ◌&&◌, List, [], ◌∷◌, Option, Some, None, refl, ap, sym, ◌∙◌, true≢false}
 use Rattle.prost_reflect_wire.specs.Scalar.{Scalar}
-use Rattle.prost_reflect_wire.specs.Schema.{Kind, ScalarOf, MessageOf, GroupOf, ValueType, Singular, MapFrom, Field, Schema, known, field_of, is_singular}
+use Rattle.prost_reflect_wire.specs.Schema.{Kind, ScalarOf, MessageOf, GroupOf, ValueType, MapFrom, Field, Schema, known, field_of, is_singular}
 use Rattle.prost_reflect_wire.specs.Content.{Value, ScalarValue, MessageValue, ListValue, MapValue, Values, NoValues, Item, Pairs, NoPairs, Pair}
 use Rattle.prost_reflect_wire.specs.Typing.{kind_takes, is_repeated, element_valid, elements_valid, pairs_valid, value_valid, kind_for, ValueTyped, ValuesTyped, PairsTyped, ValueStored}
 use Rattle.prost_reflect_wire.specs.Edit.{message_of, PathTo, holds_message, values_hold_message, pairs_hold_message}
@@ -11,7 +10,7 @@ use Rattle.prost_reflect_wire.proofs.Survivors.{field_number, or_false}
 use Rattle.prost_reflect_wire.proofs.Deeper.{and_both, both_true}
 use Rattle.prost_reflect_wire.proofs.FieldTypes.{singular, repeated}
 use Rattle.prost_reflect_wire.proofs.Alike.{alike, SameType}
-use Rattle.prost_reflect_wire.proofs.Matches.{matching, Like, like}
+use Rattle.prost_reflect_wire.proofs.Matches.{matching, like}
 use Rattle.prost_reflect_wire.proofs.ValueCarried.{single_like, list_like, map_like, of_map}
 
 -- VALUES

@@ -1,12 +1,12 @@
 -- The test of reduction answers yes exactly for a reduction.
-use Rattle.std.proofs.Common.{◌≡◌, ℕ, zero, suc, ◌≤◌, ◌<◌, ◌↔◌, ◌⊎◌, inl, inr, nat_eq, nat_lt, eq-eqb, Bool, true, false, cond, not, ◌&&◌, ◌||◌, List, [], ◌∷◌, ◌++◌, length, map, filter, flat_map, Option, Some, None, refl, ap, ap₂, sym, subst, ◌∙◌, arith, true≢false}
+use Rattle.std.proofs.Common.{◌≡◌, ℕ, zero, suc, ◌≤◌, ◌<◌, ◌↔◌, ◌⊎◌, inl, inr, nat_eq, nat_lt, eq-eqb, Bool, true, false, cond, ◌&&◌, ◌||◌, List, [], ◌∷◌, length, map, filter, flat_map, Option, Some, None, refl, ap, ap₂, sym, ◌∙◌, arith, true≢false}
 use Rattle.std.specs.Prelude.{IsTrue}
 use Rattle.std.specs.Bool.{beq}
-use Rattle.std.specs.List.{list_any, list_all}
+use Rattle.std.specs.List.{list_all}
 use Rattle.std.proofs.lemmas.Bool.{eqb-true, eqb-false, ltb-true}
 use Rattle.std.proofs.lemmas.List.Folds.{list_any-append}
-use Rattle.prost_reflect_wire.specs.Schema.{Kind, ScalarOf, MessageOf, GroupOf, ValueType, FieldForm, Singular, Repeated, MapFrom, Field, MessageType, Schema, message_type, known, field_of, is_key_kind, kind_valid, field_valid, schema_valid, passes}
-use Rattle.prost_reflect_wire.specs.Reduction.{TypePairs, holds, same_scalar_kind, same_kind, same_default, value_types_match, same_form, fields_match, same_siblings, has_match, has_no_fellow, entries_whole, types_match, all_match, Reduced}
+use Rattle.prost_reflect_wire.specs.Schema.{Kind, ScalarOf, MessageOf, GroupOf, ValueType, FieldForm, Singular, Repeated, MapFrom, Field, Schema, message_type, known, field_of, is_key_kind, kind_valid, field_valid, schema_valid, passes}
+use Rattle.prost_reflect_wire.specs.Reduction.{TypePairs, holds, same_kind, same_default, value_types_match, same_form, fields_match, same_siblings, has_match, has_no_fellow, entries_whole, types_match, all_match, Reduced}
 use Rattle.prost_reflect_wire.specs.Reducing.{numbers_below, all_pairs, refined, refined_times, greatest_reduction, is_reduced}
 use Rattle.prost_reflect_wire.proofs.Deeper.{and_both, both_true}
 use Rattle.prost_reflect_wire.proofs.ListTests.{filter_passes}
@@ -129,8 +129,10 @@ held_filtered test (p ∷ pairs) A B t h = go (nat_eq p.0 A) refl (nat_eq p.1 B)
     go false d y e false k h more = more h
 
 refined_within : (older newer : Schema) (pairs more : TypePairs) → schema_valid older ≡ true → schema_valid newer ≡ true → all_match pairs older newer ≡ true → Within older newer pairs more → Within older newer pairs (refined older newer more)
-refined_within older newer pairs more okA okB all w = record { each = λ A B a b h.
-    held_filtered (λ p. types_match more (message_type older p.0) (message_type newer p.1)) more A B (types_more older newer pairs more A B w okA okB (pair_matches pairs pairs older newer A B h all)) (w.each A B a b h) }
+refined_within older newer pairs more okA okB all w = record {
+  each = λ A B a b h.
+      held_filtered (λ p. types_match more (message_type older p.0) (message_type newer p.1)) more A B (types_more older newer pairs more A B w okA okB (pair_matches pairs pairs older newer A B h all)) (w.each A B a b h);
+}
 
 times_within : (n : ℕ) (older newer : Schema) (pairs more : TypePairs) → schema_valid older ≡ true → schema_valid newer ≡ true → all_match pairs older newer ≡ true → Within older newer pairs more → Within older newer pairs (refined_times n older newer more)
 unfolding refined_times

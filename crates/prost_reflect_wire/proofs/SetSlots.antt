@@ -1,17 +1,16 @@
 -- A value set at a number of an older type, and the same set at the number of its like.
-use Rattle.std.proofs.Common.{◌≡◌, ℕ, Bool, true, false, cond, ◌||◌, List, [], ◌∷◌, ◌++◌, nat_eq, eq-eqb, Option, Some, None, refl, ap, ap₂, sym, subst, ◌∙◌, arith, true≢false}
+use Rattle.std.proofs.Common.{◌≡◌, ℕ, Bool, true, false, cond, List, nat_eq, Option, Some, None, refl, ap, ap₂, sym, subst, ◌∙◌, arith, true≢false}
 use Rattle.std.proofs.lemmas.Bool.{eqb-true}
-use Rattle.prost_reflect_wire.specs.Record.{Payload}
 use Rattle.prost_reflect_wire.specs.Schema.{Field, field_of, is_sibling, numbers_differ}
-use Rattle.prost_reflect_wire.specs.Content.{Entries, Value, Slot, slot_at, table, insert_number, numbers_in}
+use Rattle.prost_reflect_wire.specs.Content.{Value, Slot, slot_at, table, insert_number, numbers_in}
 use Rattle.prost_reflect_wire.specs.Grammar.{AllowsInside}
 use Rattle.prost_reflect_wire.specs.Meaning.{MeansInside}
 use Rattle.prost_reflect_wire.specs.Edit.{with_value, with_field_value}
 use Rattle.prost_reflect_wire.specs.Reduction.{TypePairs}
-use Rattle.prost_reflect_wire.proofs.Numbers.{Ascending, is_in, insert_ascending, in_insert, Covers, empty_slot, table_same, slot_table, entries_ascending, slot_outside, slots_same, eqb-sym}
+use Rattle.prost_reflect_wire.proofs.Numbers.{Ascending, is_in, insert_ascending, in_insert, Covers, empty_slot, table_same, slot_table, entries_ascending, slot_outside}
 use Rattle.prost_reflect_wire.proofs.Survivors.{field_number, or_false}
 use Rattle.prost_reflect_wire.proofs.Slots.{sibling_back, not_own}
-use Rattle.prost_reflect_wire.proofs.Matches.{TypesMatch, Like, like}
+use Rattle.prost_reflect_wire.proofs.Matches.{Like}
 use Rattle.prost_reflect_wire.proofs.Fellows.{fellows, unknown_no_sibling}
 use Rattle.prost_reflect_wire.proofs.ByNumber.{stored_payloads}
 use Rattle.prost_reflect_wire.proofs.Again.{FieldAgain, nothing_again}

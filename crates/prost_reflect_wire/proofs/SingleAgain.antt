@@ -1,22 +1,22 @@
 -- A field of one value, carried through a reduction.
-use Rattle.std.proofs.Common.{◌≡◌, ℕ, Bool, true, false, cond, not, ◌&&◌, List, [], ◌∷◌, ◌++◌, filter, flat_map, nat_eq, eq-eqb, subst, Option, Some, None, refl, ap, ap₂, sym, ◌∙◌, true≢false, append-nil, ◌⊎◌, inl, inr}
+use Rattle.std.proofs.Common.{◌≡◌, ℕ, Bool, true, false, cond, not, ◌&&◌, List, [], ◌∷◌, ◌++◌, eq-eqb, subst, Option, Some, None, refl, ap, ap₂, sym, ◌∙◌, true≢false, append-nil, ◌⊎◌, inl, inr}
 use Rattle.std.specs.List.{list_all}
 use Rattle.prost_reflect_wire.specs.Varint.{◌>>=◌}
-use Rattle.prost_reflect_wire.specs.Record.{Payload, Record, payload_valid, body_of, valid}
+use Rattle.prost_reflect_wire.specs.Record.{Payload, payload_valid}
 use Rattle.prost_reflect_wire.specs.Scalar.{Scalar, ScalarKind, elem, scalar_valid, scalar_eq}
 use Rattle.prost_reflect_wire.specs.Schema.{Kind, ScalarOf, MessageOf, GroupOf, ValueType, Singular, Field}
-use Rattle.prost_reflect_wire.specs.Content.{Content, Value, ScalarValue, MessageValue, ListValue, MapValue}
+use Rattle.prost_reflect_wire.specs.Content.{Value, ScalarValue, MessageValue, ListValue, MapValue}
 use Rattle.prost_reflect_wire.specs.Grammar.{AllowsInside, last, is_stray, records_in, one_allowed}
-use Rattle.prost_reflect_wire.specs.Meaning.{MeansInside, present, joined, message_value, one_value, element, scalar_values, field_value}
+use Rattle.prost_reflect_wire.specs.Meaning.{MeansInside, present, joined, one_value, element, scalar_values}
 use Rattle.prost_reflect_wire.specs.Writing.{value_payload, field_payloads}
 use Rattle.prost_reflect_wire.specs.Reduction.{TypePairs, same_kind, same_default}
 use Rattle.prost_reflect_wire.proofs.Deeper.{and_both, both_true}
 use Rattle.prost_reflect_wire.proofs.ListTests.{not_true, last_passes}
 use Rattle.prost_reflect_wire.proofs.Order.{scalars_equal}
-use Rattle.prost_reflect_wire.proofs.Alike.{Alike, alike, SameType}
+use Rattle.prost_reflect_wire.proofs.Alike.{alike, SameType}
 use Rattle.prost_reflect_wire.proofs.ByNumber.{stored_payloads}
 use Rattle.prost_reflect_wire.proofs.Inside.{joined_valid, joined_allowed}
-use Rattle.prost_reflect_wire.proofs.Again.{Carries, ReadAs, Again, scalar_again, message_again, group_again, read_scalar_valid, FieldReads, FieldAgain, nothing_again}
+use Rattle.prost_reflect_wire.proofs.Again.{Carries, ReadAs, Again, scalar_again, message_again, group_again, read_scalar_valid, FieldAgain, nothing_again}
 
 -- what a single field shows of a value that was read
 abbrev pub shown : ValueType → Value → Option Value
@@ -91,13 +91,25 @@ single_read pairs k i a j tA tB (ScalarOf kA) (ScalarOf kB) ps c h presence defa
 single_read pairs k i a j tA tB (MessageOf A) (MessageOf B) [] c h presence default sources = inl (refl, refl)
 single_read pairs k i a j tA tB (MessageOf A) (MessageOf B) (p ∷ ps) c h presence default sources =
     let (ok, allowed) = sources_valid a (MessageOf B) (p ∷ ps) sources in
-    inr (record { v = MessageValue (i A (joined (p ∷ ps))); w = MessageValue (j B (joined (p ∷ ps))); older = refl; single = tt; newer = refl;
-      again = message_again pairs k i a j A B (joined (p ∷ ps)) c h (joined_valid (p ∷ ps) ok) (joined_allowed a (MessageOf B) B p ps c.join (eq-eqb B B refl) allowed) })
+    inr (record {
+      v = MessageValue (i A (joined (p ∷ ps)));
+      w = MessageValue (j B (joined (p ∷ ps)));
+      older = refl;
+      single = tt;
+      newer = refl;
+      again = message_again pairs k i a j A B (joined (p ∷ ps)) c h (joined_valid (p ∷ ps) ok) (joined_allowed a (MessageOf B) B p ps c.join (eq-eqb B B refl) allowed);
+    })
 single_read pairs k i a j tA tB (GroupOf A) (GroupOf B) [] c h presence default sources = inl (refl, refl)
 single_read pairs k i a j tA tB (GroupOf A) (GroupOf B) (p ∷ ps) c h presence default sources =
     let (ok, allowed) = sources_valid a (GroupOf B) (p ∷ ps) sources in
-    inr (record { v = MessageValue (i A (joined (p ∷ ps))); w = MessageValue (j B (joined (p ∷ ps))); older = refl; single = tt; newer = refl;
-      again = group_again pairs k i a j A B (joined (p ∷ ps)) c h (joined_valid (p ∷ ps) ok) (joined_allowed a (GroupOf B) B p ps c.join (eq-eqb B B refl) allowed) })
+    inr (record {
+      v = MessageValue (i A (joined (p ∷ ps)));
+      w = MessageValue (j B (joined (p ∷ ps)));
+      older = refl;
+      single = tt;
+      newer = refl;
+      again = group_again pairs k i a j A B (joined (p ∷ ps)) c h (joined_valid (p ∷ ps) ok) (joined_allowed a (GroupOf B) B p ps c.join (eq-eqb B B refl) allowed);
+    })
 single_read pairs k i a j tA tB _ _ ps c h presence default sources = absurd (true≢false (sym h))
 
 -- what is read of one payload alone

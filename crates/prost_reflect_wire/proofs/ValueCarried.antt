@@ -1,8 +1,8 @@
 -- A value without messages that is set through an older type of a reduction.
-use Rattle.std.proofs.Common.{◌≡◌, ℕ, Bool, true, false, cond, not, ◌&&◌, ◌||◌, List, [], ◌∷◌, Option, Some, None, refl, ap, ap₂, sym, subst, ◌∙◌, true≢false}
-use Rattle.prost_reflect_wire.specs.Scalar.{Scalar, ScalarKind, scalar_eq}
-use Rattle.prost_reflect_wire.specs.Schema.{Kind, ScalarOf, MessageOf, GroupOf, ValueType, FieldForm, Singular, Repeated, MapFrom, Field, Schema, is_singular, is_packable, is_packable_kind}
-use Rattle.prost_reflect_wire.specs.Content.{Content, Value, ScalarValue, MessageValue, ListValue, MapValue, Values, NoValues, Item, Pairs, NoPairs, Pair, value_ordered, pairs_ordered}
+use Rattle.std.proofs.Common.{◌≡◌, ℕ, Bool, true, false, cond, not, ◌&&◌, ◌||◌, Option, Some, None, refl, ap, ap₂, sym, subst, ◌∙◌, true≢false}
+use Rattle.prost_reflect_wire.specs.Scalar.{Scalar, ScalarKind}
+use Rattle.prost_reflect_wire.specs.Schema.{Kind, ScalarOf, MessageOf, GroupOf, ValueType, FieldForm, Singular, Repeated, MapFrom, Field, Schema, is_singular, is_packable_kind}
+use Rattle.prost_reflect_wire.specs.Content.{Value, ScalarValue, MessageValue, ListValue, MapValue, Values, NoValues, Item, Pairs, NoPairs, Pair, value_ordered, pairs_ordered}
 use Rattle.prost_reflect_wire.specs.Grammar.{AllowsInside}
 use Rattle.prost_reflect_wire.specs.Meaning.{MeansInside, present, present_list, present_map}
 use Rattle.prost_reflect_wire.specs.Writing.{is_default_of}
@@ -18,7 +18,7 @@ use Rattle.prost_reflect_wire.proofs.ByNumber.{stored_payloads}
 use Rattle.prost_reflect_wire.proofs.Again.{Again, scalar_again, FieldAgain, nothing_again}
 use Rattle.prost_reflect_wire.proofs.SingleAgain.{value_again}
 use Rattle.prost_reflect_wire.proofs.ListAgain.{scalar_list_again}
-use Rattle.prost_reflect_wire.proofs.MapAgain.{MapTypes, scalar_map_again}
+use Rattle.prost_reflect_wire.proofs.MapAgain.{scalar_map_again}
 
 -- nothing is dropped from a value without messages
 mutual
@@ -135,7 +135,7 @@ list_carried : (pairs : TypePairs) (k : ℕ) (a : AllowsInside) (j : MeansInside
 list_carried pairs k a j older f g x y NoValues type checked form ok none = nothing_again k a j (Repeated y) g.value_type
 list_carried pairs k a j older f g x y (Item v vs) type checked form ok none =
     let kinds : ScalarKinds pairs f.value_type.kind g.value_type.kind =
-        element_kinds pairs f.value_type.kind g.value_type.kind v type.kind (and_both (element_valid f.value_type.kind v) (elements_valid f.value_type.kind vs) ok).0 (or_false (holds_message v) (values_hold_message vs) none).0 in
+    element_kinds pairs f.value_type.kind g.value_type.kind v type.kind (and_both (element_valid f.value_type.kind v) (elements_valid f.value_type.kind vs) ok).0 (or_false (holds_message v) (values_hold_message vs) none).0 in
     let l : CheckedList f x = checked_list older f x checked form in
     scalar_list_again pairs k a j f x y g.value_type kinds.older kinds.newer (Item v vs) form kinds.older_is kinds.newer_is kinds.same
     (ap (λ kd. not x || is_packable_kind kd) (sym kinds.older_is) ∙ l.packable) (ap (λ kd. elements_valid kd (Item v vs)) (sym kinds.older_is) ∙ ok)
@@ -146,7 +146,7 @@ map_carried pairs k a j older f g keyA keyB NoPairs type key checked form ok non
 map_carried pairs k a j older f g keyA keyB (Pair x v ps) type key checked form ok none order =
     let here : (kind_takes keyA.kind x && element_valid f.value_type.kind v) ≡ true = (and_both (kind_takes keyA.kind x && element_valid f.value_type.kind v) (pairs_valid (MapFrom keyA) f.value_type.kind ps) ok).0 in
     let kinds : ScalarKinds pairs f.value_type.kind g.value_type.kind =
-        element_kinds pairs f.value_type.kind g.value_type.kind v type.kind (and_both (kind_takes keyA.kind x) (element_valid f.value_type.kind v) here).1 (or_false (holds_message v) (pairs_hold_message ps) none).0 in
+    element_kinds pairs f.value_type.kind g.value_type.kind v type.kind (and_both (kind_takes keyA.kind x) (element_valid f.value_type.kind v) here).1 (or_false (holds_message v) (pairs_hold_message ps) none).0 in
     let m : CheckedMap f keyA = checked_map older f keyA checked form in
     scalar_map_again pairs k a j f keyA keyB g.value_type kinds.older kinds.newer (Pair x v ps) form (record { key = key; value = type; keyed = m.keyed; key_default = m.key_default; default = checked.default }) kinds.older_is kinds.newer_is kinds.same
     (ap (λ kd. pairs_valid (MapFrom keyA) kd (Pair x v ps)) (sym kinds.older_is) ∙ ok) order

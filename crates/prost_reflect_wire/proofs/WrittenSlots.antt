@@ -1,19 +1,19 @@
 -- What an older type of a reduction writes number by number, the newer one reads number by number.
-use Rattle.std.proofs.Common.{◌≡◌, ℕ, suc, ◌+◌, Bool, true, false, cond, not, ◌&&◌, ◌||◌, List, [], ◌∷◌, ◌++◌, map, filter, flat_map, length, nat_le, Option, Some, None, refl, ap, ap₂, sym, subst, ◌∙◌, arith, true≢false, append-nil}
+use Rattle.std.proofs.Common.{◌≡◌, ℕ, ◌+◌, Bool, true, false, cond, ◌&&◌, ◌||◌, List, [], ◌∷◌, ◌++◌, map, filter, flat_map, length, nat_le, Option, Some, None, refl, ap, ap₂, sym, subst, ◌∙◌, arith, true≢false, append-nil}
 use Rattle.std.specs.List.{list_any, list_all}
 use Rattle.std.proofs.lemmas.List.Folds.{list_all-append}
 use Rattle.prost_reflect_wire.specs.Varint.{◌>>=◌}
 use Rattle.prost_reflect_wire.specs.Record.{Payload, Record, payload_levels, body_of, number_valid, payload_valid, valid}
 use Rattle.prost_reflect_wire.specs.Schema.{Field, Schema, known, field_of, is_sibling}
 use Rattle.prost_reflect_wire.specs.Content.{ContentOf, Value, Slot, table}
-use Rattle.prost_reflect_wire.specs.Grammar.{AllowsInside, has_number, numbered, payloads, value_records, value_payloads, stray_payloads, unknown_payloads, field_allowed, record_allowed}
+use Rattle.prost_reflect_wire.specs.Grammar.{AllowsInside, has_number, payloads, value_records, value_payloads, stray_payloads, unknown_payloads, field_allowed, record_allowed}
 use Rattle.prost_reflect_wire.specs.Meaning.{MeansInside, numbers_of, survive, field_value, value_meaning, unknowns_meaning, meaning_at, meaning_by}
-use Rattle.prost_reflect_wire.specs.Writing.{record_at, records, entries_records}
+use Rattle.prost_reflect_wire.specs.Writing.{record_at, entries_records}
 use Rattle.prost_reflect_wire.specs.Reduction.{TypePairs}
 use Rattle.prost_reflect_wire.specs.Laws.{block}
 use Rattle.prost_reflect_wire.proofs.Numbers.{Ascending, Covers, numbers_ascending, table_same, table_covers, slots_same}
 use Rattle.prost_reflect_wire.proofs.Survivors.{field_number, survive_none}
-use Rattle.prost_reflect_wire.proofs.Steps.{flat_append, field_nothing, surviving_value, meaning_covers}
+use Rattle.prost_reflect_wire.proofs.Steps.{flat_append, surviving_value, meaning_covers}
 use Rattle.prost_reflect_wire.proofs.Deeper.{and_both, both_true}
 use Rattle.prost_reflect_wire.proofs.Spelt.{SoundPayloads, Sound}
 use Rattle.prost_reflect_wire.proofs.Readable.{numbered_valid}
@@ -146,9 +146,11 @@ table_numbered older at ns a covers ok = record {
 known_taken : (k : ℕ) (a : AllowsInside) (j : MeansInside) (older newer : List Field) (at : ℕ → Slot) (ws : List Record) (n : ℕ) (f g : Field) (t : Slot) → Numbered older at ws → field_of older n ≡ Some f → KnownSlot k a j newer n f g (at n) t →
     (filter (has_number n) (flat_map (value_records newer) ws) ≡ block n (flat_map (value_payloads g.form g.value_type) (stored_payloads (Some f) (at n).value))) × Taken j f g (at n) t
 known_taken k a j older newer at ws n f g t w found s =
-    let t : Taken j f g (at n) t = taken k a j newer n f g (at n) t s (ap (λ o. list_all payload_valid (slot_payloads o (at n))) (sym found) ∙ w.spelt n) in
-    (filter_values newer n ws ∙ ap (flat_map (value_records newer)) (w.each n) ∙ ap (λ o. flat_map (value_records newer) (map (record_at n) (slot_payloads o (at n)))) found
-    ∙ values_of_block newer n g (slot_payloads (Some f) (at n)) s.found ∙ ap (block n) t.values, t)
+    let t : Taken j f g (at n) t = taken k a j newer n f g (at n) t s (ap (λ o. list_all payload_valid (slot_payloads o (at n))) (sym found) ∙ w.spelt n) in (
+      filter_values newer n ws ∙ ap (flat_map (value_records newer)) (w.each n) ∙ ap (λ o. flat_map (value_records newer) (map (record_at n) (slot_payloads o (at n)))) found
+          ∙ values_of_block newer n g (slot_payloads (Some f) (at n)) s.found ∙ ap (block n) t.values,
+      t,
+    )
 
 -- where a member has a value, nothing is taken of what is written of a sibling
 no_sibling : (pairs : TypePairs) (k : ℕ) (a : AllowsInside) (j : MeansInside) (older newer : List Field) (at by : ℕ → Slot) (ws : List Record) (n m : ℕ) (f g : Field) (v : Value) → BothSlots pairs k a j older newer at by → Numbered older at ws →

@@ -19,7 +19,7 @@ pub use payload::{
     zigzag32, zigzag64,
 };
 pub use unknown::{
-    RECURSION_LIMIT, UnknownField, UnknownFieldSet, UnknownFieldValue, field_len, fields_len, prepend_field,
-    prepend_fields, prepend_fields_at, value_at,
+    RECURSION_LIMIT, UnknownField, UnknownFieldSet, UnknownFieldValue, field_len, fields_len,
+    prepend_field, prepend_fields, prepend_fields_at, value_at,
 };
 pub use varint::{decode_varint, varint_len};
