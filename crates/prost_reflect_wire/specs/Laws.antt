@@ -9,7 +9,7 @@ use Rattle.prost_reflect_wire.specs.Grammar.{LEVEL_LIMIT, Accepts, accepts, allo
 use Rattle.prost_reflect_wire.specs.Meaning.{MeansInside, element, entry_key, entry_value, field_value, meaning, decoded, steps}
 use Rattle.prost_reflect_wire.specs.Writing.{is_default_of, value_payload, pair_payload, record_at, field_payloads, records, encoded}
 use Rattle.prost_reflect_wire.specs.Levels.{levels}
-use Rattle.prost_reflect_wire.specs.Typing.{kept, WellStored, WellTyped, is_of_type, is_whole_stray, has_value_of, elements_valid}
+use Rattle.prost_reflect_wire.specs.Typing.{kept, WellStored, Fitting, WellTyped, is_of_type, is_whole_stray, has_value_of, elements_valid}
 use Rattle.prost_reflect_wire.specs.Edit.{merged, set_at, PathTo}
 
 -- READING
@@ -227,6 +227,12 @@ PiecesJoin = (schema : Schema) (k m T : ℕ) (front behind : List Record) → al
 abbrev pub ReadIsValid : Type 0
 ReadIsValid = (kind : ScalarKind) (p : Payload) (v : Scalar) → payload_valid p ≡ true → is_undeclared kind p ≡ false → elem kind p ≡ Some v → scalar_valid kind v ≡ true
 
--- Contents of one type are written equally only if they are equal. This is said of well-typed contents of a checked schema whose bytes have a length: at most one member of a oneof, and no default that says nothing.
+-- A content that fits, whose bytes have a length.
+pub record Spellable (c : Content) : Type 0 where
+  pub checked : schema_valid (schema_of c) ≡ true
+  pub fitting : Fitting c
+  pub length : length (encoded c) < 2 ^ 64
+
+-- Contents of one type are written equally only if they are equal. They need only fit their type: several members of a oneof, and defaults of fields without presence, may stand in them.
 abbrev pub Canonicity : Type 0
-Canonicity = (c d : Content) → Writable c → Writable d → schema_of c ≡ schema_of d → type_of c ≡ type_of d → encoded c ≡ encoded d → c ≡ d
+Canonicity = (c d : Content) → Spellable c → Spellable d → schema_of c ≡ schema_of d → type_of c ≡ type_of d → encoded c ≡ encoded d → c ≡ d

@@ -152,6 +152,7 @@ scalars = record {
   presence = (refl, refl);
   own_default = refl;
   own_default_zero = refl;
+  required_missing = (refl, refl);
   negative = (refl, refl);
   overlong = refl;
   cut = refl;
@@ -179,6 +180,7 @@ messages = record {
   message_as_group = refl;
   group_as_message = refl;
   group = (refl, refl);
+  groups_merge = (refl, refl);
   group_other_end = refl;
 }
 

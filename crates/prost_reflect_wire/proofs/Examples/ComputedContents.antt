@@ -1,5 +1,5 @@
 -- The worked examples of contents and of what changes them.
-use Rattle.std.proofs.Common.{length, refl, ap, sym, true≢false, arith}
+use Rattle.std.proofs.Common.{List, [], ◌∷◌, length, refl, ap, sym, true≢false, arith}
 use Rattle.std.specs.Str.{is_utf8, chars}
 use Rattle.std.specs.Char.{encode_utf8}
 use Rattle.prost_reflect_wire.specs.Varint.{short}
@@ -78,6 +78,8 @@ well_typed_contents = record {
   keys_descend = refl;
   key_twice = refl;
   two_members = refl;
+  two_members_fit = record { fits = refl; types = (tt, (((refl, refl), tt), tt)); order = refl; nonempty = refl };
+  stored_default_fits = record { fits = refl; types = (tt, tt); order = refl; nonempty = refl };
   empty_list = refl;
   empty_map = refl;
   stored_default = refl;

@@ -95,6 +95,7 @@ strays = record {
   entry = (refl, refl);
   entry_last_declared = refl;
   entry_last_undeclared = refl;
+  entry_default = (refl, refl);
   entry_checked = refl;
   clears_none = (refl, refl);
   keeps_bits = (refl, refl);

@@ -22,6 +22,8 @@ pub record Strays : Type 0 where
   pub entry_last_declared : Means closed "1a0410071001" (Stored 3 (MapValue (Pair (ascii "") (enum 1) NoPairs)) NoEntries)
   -- and 1 then 7 is a stray.
   pub entry_last_undeclared : Means closed "1a0410011007" (Unknown 3 (delimited "10011007") NoEntries)
+  -- A missing value is the first of the enum.
+  pub entry_default : Reads closed "1a00" (Stored 3 (MapValue (Pair (ascii "") (enum 0) NoPairs)) NoEntries) "1a040a001000"
   -- A stray entry is checked as an entry.
   pub entry_checked : Refused closed "1a0408011007"
   -- A stray clears no other member of its oneof.

@@ -3,7 +3,7 @@ use Rattle.std.specs.Prelude.{◌≡◌, true, false, pos, [], ◌∷◌}
 use Rattle.prost_reflect_wire.specs.Scalar.{I32, Int32}
 use Rattle.prost_reflect_wire.specs.Schema.{ScalarOf, MessageOf, Singular, Repeated, MapFrom, schema_valid, field_valid}
 use Rattle.prost_reflect_wire.specs.Content.{ContentOf, NoEntries, Stored, Unknown, ScalarValue, MessageValue, MapValue, NoPairs, Pair, ordered}
-use Rattle.prost_reflect_wire.specs.Typing.{element_valid, value_valid, encodable, exclusive, filled, without_defaults, kept, Typed, WellTyped}
+use Rattle.prost_reflect_wire.specs.Typing.{element_valid, value_valid, encodable, exclusive, filled, without_defaults, kept, Typed, Fitting, WellTyped}
 use Rattle.prost_reflect_wire.specs.Laws.{Writable}
 use Rattle.prost_reflect_wire.specs.Examples.Schemas.{examples, other_examples, foreign_list, field, list, member, int32, text, required_int32, message_value_type, my_message, unpacked_list, packed_list, maps, choice}
 use Rattle.prost_reflect_wire.specs.Examples.Words.{content, int, ascii, inner, list_of, varint, Writes}
@@ -101,6 +101,10 @@ pub record WellTypedContents : Type 0 where
   pub key_twice : ordered (content maps (Stored 1 (MapValue (Pair (ascii "a") (int 1) (Pair (ascii "a") (int 1) NoPairs))) NoEntries)) ≡ false
   -- Two members of a oneof have values.
   pub two_members : exclusive (content choice (Stored 1 (int 1) (Stored 2 (inner my_message NoEntries) NoEntries))) ≡ false
+  -- Such a content fits its type all the same,
+  pub two_members_fit : Fitting (content choice (Stored 1 (int 1) (Stored 2 (inner my_message NoEntries) NoEntries)))
+  -- and so does one with a stored default.
+  pub stored_default_fits : Fitting (content my_message (Stored 1 (int 0) NoEntries))
   -- An empty list is stored.
   pub empty_list : filled (content packed_list (Stored 1 (list_of []) NoEntries)) ≡ false
   -- Nor an empty map.

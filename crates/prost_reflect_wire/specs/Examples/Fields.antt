@@ -2,8 +2,8 @@
 use Rattle.std.specs.Prelude.{[], ◌∷◌}
 use Rattle.prost_reflect_wire.specs.Record.{Flat, Var}
 use Rattle.prost_reflect_wire.specs.Content.{NoEntries, Stored, Unknown, ScalarValue}
-use Rattle.prost_reflect_wire.specs.Examples.Schemas.{my_message, plain_a, seven_a, choice, two_choices, groups, item, extended, no_fields, text_at_one}
-use Rattle.prost_reflect_wire.specs.Examples.Words.{int, minus_one, ascii, inner, list_of, Means, Reads, Refused}
+use Rattle.prost_reflect_wire.specs.Examples.Schemas.{my_message, plain_a, seven_a, choice, two_choices, groups, item, extended, no_fields, text_at_one, required_a, nested_group}
+use Rattle.prost_reflect_wire.specs.Examples.Words.{int, minus_one, ascii, inner, list_of, varint, Means, Reads, Refused}
 
 pub record Scalars : Type 0 where
   -- 150 in two bytes.
@@ -20,6 +20,8 @@ pub record Scalars : Type 0 where
   pub own_default : Means seven_a "0807" (Stored 1 (int 7) NoEntries)
   -- 0, which is not this default.
   pub own_default_zero : Means seven_a "0800" (Stored 1 (int 0) NoEntries)
+  -- A required field may be missing.
+  pub required_missing : Reads required_a "" NoEntries ""
   -- A negative number in five bytes is read, and written in ten.
   pub negative : Reads my_message "08ffffffff0f" (Stored 1 minus_one NoEntries) "08ffffffffffffffffff01"
   -- A varint past 64 bits.
@@ -58,6 +60,8 @@ pub record Messages : Type 0 where
   pub group_as_message : Refused groups "0a020801"
   -- A group is its records between its keys.
   pub group : Reads groups "0b08010c" (Stored 1 (list_of (inner item (Stored 1 (int 1) NoEntries) ∷ [])) NoEntries) "0b08010c"
+  -- The records of a group join, as those of a message do.
+  pub groups_merge : Reads nested_group "0b28010c 0b28020c" (Stored 1 (inner nested_group (Unknown 5 (varint 1) (Unknown 5 (varint 2) NoEntries))) NoEntries) "0b280128020c"
   -- A group that another number ends.
   pub group_other_end : Refused groups "0b080114"
 

@@ -1,5 +1,5 @@
-use Rattle.prost_reflect_wire.proofs.Canonical.{canonicity}
+use Rattle.prost_reflect_wire.proofs.Eased.{fitting_canonicity}
 use Rattle.prost_reflect_wire.proofs.laws.canonicity.Goals as goal
 
 pub returns : goal.returns
-returns c = canonicity
+returns c = fitting_canonicity
