@@ -1,7 +1,7 @@
 -- Either a field within the levels is at the front of the bytes, or a fault stands in it.
-use Rattle.std.proofs.Common.{◌≡◌, ◌≢◌, ℕ, zero, suc, ◌+◌, ◌-◌, ◌*◌, ◌/◌, ◌%◌, ◌^◌, ◌<◌, ◌≤◌, max, List, [], ◌∷◌, ◌++◌, length, get_or, take, drop, Option, Some, None, refl, sym, ap, subst, ◌∙◌, arith, inl, inr, ◌⊎◌}
+use Rattle.std.proofs.Common.{◌≡◌, ℕ, zero, suc, ◌+◌, ◌*◌, ◌/◌, ◌%◌, ◌^◌, ◌<◌, ◌≤◌, List, [], ◌∷◌, length, get_or, take, drop, Some, refl, sym, subst, arith, inl, inr, ◌⊎◌}
 use Rattle.std.proofs.lemmas.Bool.{cases_lt, cases_eq}
-use Rattle.std.proofs.lemmas.List.{length-take, length-drop, take-append-drop, take_all}
+use Rattle.std.proofs.lemmas.List.{length-take, take-append-drop}
 use Rattle.prost_reflect_wire.specs.declared.error.DecodeError.{DecodeError}
 use Rattle.prost_reflect_wire.specs.declared.error.DecodeError.TheVariants as errors
 use Rattle.prost_reflect_wire.specs.declared.key.WireType.{WireType}
@@ -11,8 +11,8 @@ use Rattle.prost_reflect_wire.specs.FieldLaws.{HasField, HasValue}
 use Rattle.prost_reflect_wire.proofs.ByteLists.{bytes_behind}
 use Rattle.prost_reflect_wire.proofs.KeyFronts.{short_key_front}
 use Rattle.prost_reflect_wire.proofs.Reading.{wire_small}
-use Rattle.prost_reflect_wire.specs.Record.{Plain, Var, Fix64, Len, Fix32, Records, NoRecords, Record, record_at, Payload, Flat, Group, before, plain_wire, payload_wire, wire_code, raw_levels, payload_levels, short_key}
-use Rattle.prost_reflect_wire.specs.Front.{VarintFront, VarintFault, KeyFront, KeyFault, NoKey, PlainFront, DelimitedFront, PlainFault, RecordFront, GroupFront, PayloadFront, ValueFront, FieldFront}
+use Rattle.prost_reflect_wire.specs.Record.{Plain, Var, Fix64, Len, Fix32, Records, NoRecords, record_at, Payload, Flat, Group, before, plain_wire, payload_wire, wire_code, raw_levels, payload_levels}
+use Rattle.prost_reflect_wire.specs.Front.{VarintFront, VarintFault, KeyFront, KeyFault, PlainFront, GroupFront, PayloadFront, ValueFront}
 use Rattle.prost_reflect_wire.specs.Fault.{OfNothing, Stands, Behind, StandsInField, StandsInValue, ValueFault}
 use Rattle.prost_reflect_wire.proofs.VarintDigits.{Digits, digits_none, digits_more, digits_last, digits_pass, digits_stop, value_fits}
 use Rattle.prost_reflect_wire.proofs.PlainFronts.{delimited_cut, delimited_plain}

@@ -33,6 +33,9 @@ fix32_once a b bytes rest end f g = let (same, behind) = plain_once (Fix32 a) (F
 pub delimited_plain : (body bytes rest : List ℕ) → DelimitedFront body bytes rest → PlainFront (Len body) bytes rest
 delimited_plain body bytes rest f = record { front = f.front; spelled = f.spelled; parts = f.parts }
 
+pub varint_plain : (v : ℕ) (bytes rest : List ℕ) → VarintFront v bytes rest → PlainFront (Var v) bytes rest
+varint_plain v bytes rest f = record { front = f.front; spelled = f.varint; parts = f.parts }
+
 pub plain_delimited : (body bytes rest : List ℕ) → PlainFront (Len body) bytes rest → DelimitedFront body bytes rest
 plain_delimited body bytes rest f = record { front = f.front; spelled = f.spelled; parts = f.parts }
 

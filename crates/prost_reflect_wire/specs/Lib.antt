@@ -3,6 +3,7 @@ pub mod Record
 pub mod Front
 pub mod Buffer
 pub mod Unknown
+pub mod Equality
 pub mod Scalar
 pub mod Schema
 pub mod Content
@@ -19,3 +20,4 @@ pub mod Laws
 pub mod Passage
 pub mod Reducing
 pub mod Examples
+pub mod ReducingExamples

@@ -7,7 +7,8 @@ use Rattle.prost_reflect_wire.specs.declared.unknown.UnknownFieldValue.TheOpen.{
 use Rattle.prost_reflect_wire.specs.declared.unknown.UnknownFieldValue.TheFolds.{fold-UnknownFieldValue, fold-UnknownField, fold-UnknownFieldSet}
 use Rattle.prost_reflect_wire.specs.declared.unknown.UnknownFieldValue.TheViews.{out-UnknownFieldSet}
 use Rattle.prost_reflect_wire.specs.Record.{Payload, Flat, Record, record_at, Var, Fix64, Len, Fix32, body_of, raw_levels}
-use Rattle.prost_reflect_wire.specs.Front.{GroupFront}
+use Rattle.prost_reflect_wire.specs.Front.{GroupFront, ValueFront}
+use Rattle.prost_reflect_wire.specs.declared.key.WireType.{WireType}
 use Rattle.prost_reflect_wire.specs.Record as model
 
 -- One step of each type, over what its parts are.
@@ -45,3 +46,10 @@ renumbered n rs = map (λ r. record_at n r.payload) rs
 pub record ReadsGroup (n levels : ℕ) (rs : List Record) (bytes rest : List ℕ) : Type 0 where
   pub front : GroupFront n (body_of rs) bytes rest
   pub within : raw_levels (body_of rs) < levels
+
+-- The same of some records, or of some value behind a key.
+abbrev pub SkipsGroup : ℕ → ℕ → List ℕ → List ℕ → Type 0
+SkipsGroup n levels bytes rest = (rs : List Record) × ReadsGroup n levels rs bytes rest
+
+abbrev pub SkipsValue : ℕ → WireType → ℕ → List ℕ → List ℕ → Type 0
+SkipsValue n w levels bytes rest = (p : Payload) × ValueFront n w levels p bytes rest

@@ -93,6 +93,17 @@ impl BackBuffer {
         ensures ok { Prepended result (bytes_of self.old) (bytes_of self.new) (short value) }
         ensures err { OnErr result (bytes_of self.new ≡ bytes_of self.old) }
     {
+        if value < 0x80 {
+            return self.prepend(&[value as u8]);
+        }
+        self.prepend_digits(value)
+    }
+
+    /// The same digit by digit.
+    fn prepend_digits(&mut self, value: u64) -> Result<(), EncodeError>
+        ensures ok { Prepended result (bytes_of self.old) (bytes_of self.new) (short value) }
+        ensures err { OnErr result (bytes_of self.new ≡ bytes_of self.old) }
+    {
         let mut digits = [0u8; 10];
         let mut len = 0;
         let mut rest = value;

@@ -8,6 +8,8 @@ mod key;
 pub mod laws;
 pub mod passage;
 mod payload;
+#[cfg(test)]
+mod tests;
 mod unknown;
 mod varint;
 
@@ -20,6 +22,6 @@ pub use payload::{
 };
 pub use unknown::{
     RECURSION_LIMIT, UnknownField, UnknownFieldSet, UnknownFieldValue, field_len, fields_len,
-    prepend_field, prepend_fields, prepend_fields_at, value_at,
+    prepend_field, prepend_fields, prepend_fields_at, skip_value, value_at,
 };
 pub use varint::{decode_varint, varint_len};

@@ -2,6 +2,7 @@
 
 ghost use Rattle.prost_reflect_wire.specs.Passage.{OlderAccepts, Passage, EditPassage};
 ghost use Rattle.prost_reflect_wire.specs.Reducing.{ReducedIsTest};
+ghost use Rattle.prost_reflect_wire.specs.ReducingExamples.{WorkedReductions};
 
 /// What a newer message type accepts, a compatible reduction of it accepts.
 pub fn older_accepts()
@@ -22,4 +23,9 @@ pub fn edit_passage()
 /// Whether a type is a reduction of another, as a relation and as a test.
 pub fn reduced_is_test()
     ensures { ReducedIsTest }
+{}
+
+/// The worked examples of the test hold.
+pub fn worked_reductions()
+    ensures { WorkedReductions }
 {}

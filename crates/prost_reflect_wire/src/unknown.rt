@@ -12,16 +12,19 @@ use std::slice::Iter;
 use std::vec::IntoIter;
 
 mod copy;
+mod equality;
 mod length;
 mod reading;
+mod skipping;
 mod writing;
 
 pub use length::{field_len, fields_len};
 pub use reading::{RECURSION_LIMIT, value_at};
+pub use skipping::skip_value;
 pub use writing::{prepend_field, prepend_fields, prepend_fields_at};
 
 /// A field that its message does not know.
-#[derive(Debug, Drop, PartialEq)]
+#[derive(Debug, Drop)]
 #[cycle(unknown)]
 pub struct UnknownField {
     pub(crate) number: FieldNumber,
@@ -29,7 +32,7 @@ pub struct UnknownField {
 }
 
 /// What such a field contains.
-#[derive(Debug, Drop, PartialEq)]
+#[derive(Debug, Drop)]
 #[cycle(unknown)]
 pub enum UnknownFieldValue {
     /// A varint's value; its spelling is not kept.
@@ -45,7 +48,7 @@ pub enum UnknownFieldValue {
 }
 
 /// Such fields in order.
-#[derive(Debug, Drop, PartialEq)]
+#[derive(Debug, Drop)]
 #[cycle(unknown)]
 pub struct UnknownFieldSet {
     pub(crate) fields: Vec<UnknownField>,
