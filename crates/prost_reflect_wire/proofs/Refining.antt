@@ -31,7 +31,7 @@ unfolding refined_times
 settled zero older newer pairs e = refl
 settled (suc n) older newer pairs e = ap (refined_times n older newer) e ∙ settled n older newer pairs e
 
-settles : (n : ℕ) (older newer : Schema) (pairs : TypePairs) → length pairs ≤ n → refined older newer (refined_times n older newer pairs) ≡ refined_times n older newer pairs
+pub settles : (n : ℕ) (older newer : Schema) (pairs : TypePairs) → length pairs ≤ n → refined older newer (refined_times n older newer pairs) ≡ refined_times n older newer pairs
 unfolding refined_times
 settles zero older newer [] l = refl
 settles zero older newer (p ∷ pairs) l = absurd (omega arith)
@@ -43,7 +43,7 @@ settles (suc n) older newer pairs l = go (fewer (λ p. types_match pairs (messag
         let stays : refined_times n older newer (refined older newer pairs) ≡ pairs = ap (refined_times n older newer) e ∙ settled n older newer pairs e in
         ap (refined older newer) stays ∙ e ∙ sym stays
 
-greatest_matches : (older newer : Schema) → all_match (greatest_reduction older newer) older newer ≡ true
+pub greatest_matches : (older newer : Schema) → all_match (greatest_reduction older newer) older newer ≡ true
 greatest_matches older newer =
     let pairs : TypePairs = greatest_reduction older newer in
     ap (list_all (λ p. types_match pairs (message_type older p.0) (message_type newer p.1))) (sym (settles (length (all_pairs older newer)) older newer (all_pairs older newer) (omega arith)))
@@ -52,8 +52,8 @@ greatest_matches older newer =
 -- MORE PAIRS MATCH NO LESS
 
 -- of the types of both schemas, what is a pair of these is one of those
-record Within (older newer : Schema) (pairs more : TypePairs) : Type 0 where
-  each : (A B : ℕ) → A < length older → B < length newer → holds pairs A B ≡ true → holds more A B ≡ true
+pub record Within (older newer : Schema) (pairs more : TypePairs) : Type 0 where
+  pub each : (A B : ℕ) → A < length older → B < length newer → holds pairs A B ≡ true → holds more A B ≡ true
 
 kind_more : (older newer : Schema) (pairs more : TypePairs) (k l : Kind) → Within older newer pairs more → kind_valid older k ≡ true → kind_valid newer l ≡ true → same_kind pairs k l ≡ true → same_kind more k l ≡ true
 kind_more older newer pairs more (ScalarOf k) (ScalarOf l) w a b h = h
@@ -107,7 +107,7 @@ all_more valid test more (x ∷ xs) h a b =
     let (b', b'') = and_both (test x) (list_all test xs) b in
     both_true (h x a' b') (all_more valid test more xs h a'' b'')
 
-types_more : (older newer : Schema) (pairs more : TypePairs) (A B : ℕ) → Within older newer pairs more → schema_valid older ≡ true → schema_valid newer ≡ true → types_match pairs (message_type older A) (message_type newer B) ≡ true → types_match more (message_type older A) (message_type newer B) ≡ true
+pub types_more : (older newer : Schema) (pairs more : TypePairs) (A B : ℕ) → Within older newer pairs more → schema_valid older ≡ true → schema_valid newer ≡ true → types_match pairs (message_type older A) (message_type newer B) ≡ true → types_match more (message_type older A) (message_type newer B) ≡ true
 types_more older newer pairs more A B w okA okB h =
     let (ab, c) = and_both (entries_whole (message_type older A) (message_type newer B) && list_all (has_match pairs (known older A) (known newer B)) (known older A)) (list_all (has_no_fellow (known older A) (known newer B)) (known newer B)) h in
     let (a, b) = and_both (entries_whole (message_type older A) (message_type newer B)) (list_all (has_match pairs (known older A) (known newer B)) (known older A)) ab in
@@ -116,7 +116,7 @@ types_more older newer pairs more A B w okA okB h =
 
 -- WHAT REDUCES STAYS
 
-held_filtered : (test : ℕ × ℕ → Bool) (pairs : TypePairs) (A B : ℕ) → test (A, B) ≡ true → holds pairs A B ≡ true → holds (filter test pairs) A B ≡ true
+pub held_filtered : (test : ℕ × ℕ → Bool) (pairs : TypePairs) (A B : ℕ) → test (A, B) ≡ true → holds pairs A B ≡ true → holds (filter test pairs) A B ≡ true
 held_filtered test [] A B t h = h
 held_filtered test (p ∷ pairs) A B t h = go (nat_eq p.0 A) refl (nat_eq p.1 B) refl (test p) refl h (held_filtered test pairs A B t)
   where
@@ -128,7 +128,7 @@ held_filtered test (p ∷ pairs) A B t h = go (nat_eq p.0 A) refl (nat_eq p.1 B)
     go false d y e true k h more = ap (λ x. (x && nat_eq p.1 B) || holds (filter test pairs) A B) d ∙ more h
     go false d y e false k h more = more h
 
-refined_within : (older newer : Schema) (pairs more : TypePairs) → schema_valid older ≡ true → schema_valid newer ≡ true → all_match pairs older newer ≡ true → Within older newer pairs more → Within older newer pairs (refined older newer more)
+pub refined_within : (older newer : Schema) (pairs more : TypePairs) → schema_valid older ≡ true → schema_valid newer ≡ true → all_match pairs older newer ≡ true → Within older newer pairs more → Within older newer pairs (refined older newer more)
 refined_within older newer pairs more okA okB all w = record {
   each = λ A B a b h.
       held_filtered (λ p. types_match more (message_type older p.0) (message_type newer p.1)) more A B (types_more older newer pairs more A B w okA okB (pair_matches pairs pairs older newer A B h all)) (w.each A B a b h);
@@ -168,14 +168,11 @@ rows_hold A B (suc n) m a b = list_any-append (λ p. nat_eq p.0 A && nat_eq p.1 
 
 -- THE TEST
 
-pub reduced_is_test : (older newer : Schema) (A B : ℕ) → schema_valid older ≡ true → schema_valid newer ≡ true → A < length older → B < length newer → Reduced older A newer B ↔ IsTrue (is_reduced older A newer B)
-reduced_is_test older newer A B okA okB a b = (there, back)
-  where
-    there : Reduced older A newer B → IsTrue (is_reduced older A newer B)
-    there r =
-        let all : Within older newer r.pairs (all_pairs older newer) = record { each = λ A B a b h. rows_hold A B (length older) (length newer) a b } in
-        let w : Within older newer r.pairs (greatest_reduction older newer) = times_within (length (all_pairs older newer)) older newer r.pairs (all_pairs older newer) okA okB r.each all in
-        w.each A B a b r.first
+-- a set of pairs that match, which holds every such set, holds what reduces
+pub greatest_reduces : (older newer : Schema) (pairs : TypePairs) (A B : ℕ) → all_match pairs older newer ≡ true → ((others : TypePairs) → all_match others older newer ≡ true → Within older newer others pairs) → A < length older → B < length newer →
+    Reduced older A newer B ↔ IsTrue (holds pairs A B)
+greatest_reduces older newer pairs A B all greatest a b = (λ r. (greatest r.pairs r.each).each A B a b r.first, λ h. record { pairs = pairs; first = h; each = all })
 
-    back : IsTrue (is_reduced older A newer B) → Reduced older A newer B
-    back h = record { pairs = greatest_reduction older newer; first = h; each = greatest_matches older newer }
+pub reduced_is_test : (older newer : Schema) (A B : ℕ) → schema_valid older ≡ true → schema_valid newer ≡ true → A < length older → B < length newer → Reduced older A newer B ↔ IsTrue (is_reduced older A newer B)
+reduced_is_test older newer A B okA okB = greatest_reduces older newer (greatest_reduction older newer) A B (greatest_matches older newer)
+    (λ others all. times_within (length (all_pairs older newer)) older newer others (all_pairs older newer) okA okB all (record { each = λ A B a b h. rows_hold A B (length older) (length newer) a b }))
