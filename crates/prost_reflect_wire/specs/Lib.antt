@@ -20,4 +20,7 @@ pub mod Fault
 pub mod FieldLaws
 pub mod Laws
 pub mod LawsOfFaults
+pub mod Passage
+pub mod Reducing
 pub mod Examples
+pub mod ReducingExamples

@@ -6,6 +6,7 @@ mod error;
 pub mod field_laws;
 mod key;
 pub mod laws;
+pub mod passage;
 mod payload;
 #[cfg(test)]
 mod tests;

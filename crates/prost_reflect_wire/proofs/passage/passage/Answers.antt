@@ -1,0 +1,5 @@
+use Rattle.prost_reflect_wire.proofs.Passing.{passage}
+use Rattle.prost_reflect_wire.proofs.passage.passage.Goals as goal
+
+pub returns : goal.returns
+returns c = passage

@@ -1,0 +1,31 @@
+//! What is proved of reduction: each function has no body, and its contract is a law.
+
+ghost use Rattle.prost_reflect_wire.specs.Passage.{OlderAccepts, Passage, EditPassage};
+ghost use Rattle.prost_reflect_wire.specs.Reducing.{ReducedIsTest};
+ghost use Rattle.prost_reflect_wire.specs.ReducingExamples.{WorkedReductions};
+
+/// What a newer message type accepts, a compatible reduction of it accepts.
+pub fn older_accepts()
+    ensures { OlderAccepts }
+{}
+
+/// What the bytes of a newer type mean to a reduction of it is written as bytes that mean the same to
+/// the newer one.
+pub fn passage()
+    ensures { Passage }
+{}
+
+/// A value that is set at a path through a reduction is set there in what the newer type reads.
+pub fn edit_passage()
+    ensures { EditPassage }
+{}
+
+/// Whether a type is a reduction of another, as a relation and as a test.
+pub fn reduced_is_test()
+    ensures { ReducedIsTest }
+{}
+
+/// The worked examples of the test hold.
+pub fn worked_reductions()
+    ensures { WorkedReductions }
+{}
