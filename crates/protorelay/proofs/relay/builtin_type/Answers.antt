@@ -1,5 +1,5 @@
-use Rattle.std.proofs.Common.{◌≡◌, sym, ap, ◌∙◌}
-use Rattle.protorelay.specs.Types.{builtin_type, covered_type}
+use Rattle.std.proofs.Common.{ap, ◌∙◌}
+use Rattle.protorelay.specs.Types.{covered_type}
 use Rattle.protorelay.proofs.BuiltinTypes.{covered_type-builtin}
 use Rattle.protorelay.proofs.relay.builtin_type.Goals as goal
 
