@@ -53,7 +53,7 @@ impl BackBuffer {
         if additional <= self.start {
             return Ok(());
         }
-        let used = self.bytes.len() - self.start;
+        let used = self.len();
         let Some(needed) = used.checked_add(additional) else {
             return Err(EncodeError::TooLong);
         };
@@ -61,7 +61,7 @@ impl BackBuffer {
         let size = if needed < doubled { doubled } else { needed };
         let mut grown = Vec::from_elem(*self.bytes.allocator(), 0, size)?;
         let start = size - used;
-        grown[start..].copy_from_slice(&self.bytes[self.start..]);
+        grown[start..].copy_from_slice(self.as_slice());
         self.bytes = grown;
         self.start = start;
         Ok(())
