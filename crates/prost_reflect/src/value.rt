@@ -1,5 +1,7 @@
 //! Values of fields, and keys of maps.
 
+mod access;
+
 use crate::message::DynamicMessage;
 use std::alloc::AllocError;
 use std::collections::BTreeMap;
