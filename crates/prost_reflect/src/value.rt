@@ -1,6 +1,7 @@
 //! Values of fields, and keys of maps.
 
 mod access;
+mod access_mut;
 
 use crate::message::DynamicMessage;
 use std::alloc::AllocError;
