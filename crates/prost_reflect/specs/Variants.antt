@@ -1,5 +1,7 @@
 -- What a value holds, if it is of one variant.
 use Rattle.std.specs.Prelude.{ℕ, ℤ, Bool, List, Option, Some, None, string_bytes}
+use Rattle.prost_reflect_wire.specs.Scalar as scalars
+use Rattle.prost_reflect_wire.specs.Content as contents
 use Rattle.prost_reflect.specs.declared.value.MapKey.{MapKey}
 use Rattle.prost_reflect.specs.declared.value.Value.{Value}
 use Rattle.prost_reflect.specs.declared.value.Value.TheOpen.{Value-F}
@@ -59,3 +61,19 @@ list_in _ = None
 abbrev pub pairs_in : Held → Option (List (MapKey × Value))
 pairs_in (Value-F.Map m) = Some m.entries
 pairs_in _ = None
+
+-- The scalar that is a key of a map, if the value is one.
+abbrev pub key_among : scalars.Scalar → Option scalars.Scalar
+key_among (scalars.Boolean b) = Some (scalars.Boolean b)
+key_among (scalars.I32 z) = Some (scalars.I32 z)
+key_among (scalars.I64 z) = Some (scalars.I64 z)
+key_among (scalars.U32 n) = Some (scalars.U32 n)
+key_among (scalars.U64 n) = Some (scalars.U64 n)
+key_among (scalars.Text x) = Some (scalars.Text x)
+key_among v = None
+
+abbrev pub key_in : contents.Value → Option scalars.Scalar
+key_in (contents.ScalarValue v) = key_among v
+key_in (contents.MessageValue c) = None
+key_in (contents.ListValue vs) = None
+key_in (contents.MapValue ps) = None

@@ -2,6 +2,7 @@
 
 mod access;
 mod access_mut;
+mod keys;
 
 use crate::message::DynamicMessage;
 use std::alloc::AllocError;
