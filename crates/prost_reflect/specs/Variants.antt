@@ -3,6 +3,7 @@ use Rattle.std.specs.Prelude.{ℕ, ℤ, Bool, List, Option, Some, None, string_b
 use Rattle.prost_reflect_wire.specs.Scalar as scalars
 use Rattle.prost_reflect_wire.specs.Content as contents
 use Rattle.prost_reflect.specs.declared.value.MapKey.{MapKey}
+use Rattle.prost_reflect.specs.declared.value.MapKey.TheVariants as keys
 use Rattle.prost_reflect.specs.declared.value.Value.{Value}
 use Rattle.prost_reflect.specs.declared.value.Value.TheOpen.{Value-F}
 use Rattle.prost_reflect.specs.declared.message.DynamicMessage.{DynamicMessage}
@@ -77,3 +78,29 @@ key_in (contents.ScalarValue v) = key_among v
 key_in (contents.MessageValue c) = None
 key_in (contents.ListValue vs) = None
 key_in (contents.MapValue ps) = None
+
+-- KEYS
+
+abbrev pub bool_of_key : MapKey → Option Bool
+bool_of_key (keys.Bool b) = Some b
+bool_of_key _ = None
+
+abbrev pub i32_of_key : MapKey → Option ℤ
+i32_of_key (keys.I32 z) = Some z
+i32_of_key _ = None
+
+abbrev pub i64_of_key : MapKey → Option ℤ
+i64_of_key (keys.I64 z) = Some z
+i64_of_key _ = None
+
+abbrev pub u32_of_key : MapKey → Option ℕ
+u32_of_key (keys.U32 n) = Some n
+u32_of_key _ = None
+
+abbrev pub u64_of_key : MapKey → Option ℕ
+u64_of_key (keys.U64 n) = Some n
+u64_of_key _ = None
+
+abbrev pub text_of_key : MapKey → Option (List ℕ)
+text_of_key (keys.String s) = Some (string_bytes s)
+text_of_key _ = None

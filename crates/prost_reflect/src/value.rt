@@ -2,6 +2,7 @@
 
 mod access;
 mod access_mut;
+mod key_access;
 mod keys;
 
 use crate::message::DynamicMessage;
