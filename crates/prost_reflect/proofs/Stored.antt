@@ -10,7 +10,7 @@ use Rattle.prost_reflect_wire.specs.Record.{Record}
 use Rattle.prost_reflect_wire.specs.Schema.{Field, known, field_of, is_sibling, passes}
 use Rattle.prost_reflect_wire.specs.Content as contents
 use Rattle.prost_reflect_wire.specs.Content.{Content, ContentOf, Entries, Slot, slot_at, changed, entries_of}
-use Rattle.prost_reflect_wire.specs.Edit.{with_value, with_field_value}
+use Rattle.prost_reflect_wire.specs.Edit.{with_value, with_field_value, cleared}
 use Rattle.prost_reflect_wire.proofs.Numbers.{empty_slot, slots_same, eqb-sym}
 use Rattle.prost_reflect_wire.proofs.Survivors.{field_number}
 use Rattle.prost_reflect.specs.declared.fields.entry.Entry.{Entry}
@@ -184,6 +184,9 @@ module _ (m : DynamicMessage) (p : Kept) where
 
   pub message_cleared : (n : ℕ) → IsAscending m.slots.1 → p ≡ (m.slots.0, clear_value m.slots.1 n) → content_of (roll-DynamicMessage (record { slots = p })) ≡ value_cleared n (content_of m)
   message_cleared n s h = kept_as (clear_value m.slots.1 n) h ∙ content_cleared m.slots.0 m.slots.1 n s ∙ ap (value_cleared n) (sym (content_of_message m))
+
+  pub message_emptied : p ≡ (m.slots.0, []) → content_of (roll-DynamicMessage (record { slots = p })) ≡ cleared (content_of m)
+  message_emptied h = kept_as [] h ∙ ap cleared (sym (content_of_message m))
 
   pub message_added : (r : Record) → IsAscending m.slots.1 → p.0 ≡ m.slots.0 → UnknownAdded m.slots.1 p.1 r → content_of (roll-DynamicMessage (record { slots = p })) ≡ unknown_added r (content_of m)
   message_added r s d added = rolled p ∙ ap (λ d. content_from d p.1) d ∙ content_added m.slots.0 m.slots.1 p.1 r s added ∙ ap (unknown_added r) (sym (content_of_message m))

@@ -13,6 +13,8 @@ pub mod View
 pub mod Contents
 pub mod ContentLaws
 pub mod Copies
+pub mod Variants
+pub mod Lent
 pub mod Same
 pub mod SameLaws
 pub mod formers

@@ -5,6 +5,7 @@ ghost use Rattle.std.specs.Borrow.{LendsIfOk, sem};
 ghost use Rattle.std.specs.Option.{option_copied};
 ghost use Rattle.prost_reflect_wire.specs.Unknown.{record_of, records_of};
 ghost use Rattle.prost_reflect_wire.specs.Content.{empty, entries_of, value_at, slot_at};
+ghost use Rattle.prost_reflect_wire.specs.Edit.{cleared};
 ghost use Rattle.prost_reflect.specs.contracts.message.DynamicMessage.{the_row};
 ghost use Rattle.prost_reflect.specs.contracts.value.Value as value;
 ghost use Rattle.prost_reflect.specs.Descriptors.{schema_at, type_at};
@@ -51,6 +52,14 @@ impl DynamicMessage {
         ensures { result.now ≡ descriptor_of self.now }
     {
         self.slots.descriptor()
+    }
+
+    /// Removes all values and all unknown fields. The type stays.
+    pub fn clear(&mut self)
+        ensures descriptor { descriptor_of self.new ≡ descriptor_of self.old }
+        ensures content { content_of self.new ≡ cleared (content_of self.old) }
+    {
+        self.slots.clear_all();
     }
 
     /// What the message keeps at each number, in ascending order of the numbers.

@@ -1,5 +1,10 @@
 //! Values of fields, and keys of maps.
 
+mod access;
+mod access_mut;
+mod key_access;
+mod keys;
+
 use crate::message::DynamicMessage;
 use std::alloc::AllocError;
 use std::collections::BTreeMap;

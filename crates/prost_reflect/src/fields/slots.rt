@@ -137,6 +137,14 @@ impl<V: Drop> Slots<V> {
         drop(self.take(number));
     }
 
+    /// Removes all values and all unknown fields.
+    pub fn clear_all(&mut self)
+        ensures { self.new ≡ (self.old.0, []) }
+    {
+        let alloc = self.fields.allocator();
+        self.fields = Sorted::new(alloc);
+    }
+
     /// Sets the value at the number of a field or an extension, and removes those of the other members of its oneof.
     /// The unknown fields stay. A refused growth changes nothing.
     pub fn set(&mut self, number: u32, value: V) -> Result<(), AllocError>
