@@ -21,6 +21,8 @@ mod copy;
 mod decode;
 mod encode;
 mod scalar;
+#[cfg(test)]
+mod tests;
 
 use crate::descriptor::MessageDescriptor;
 use crate::fields::entry::Entry;

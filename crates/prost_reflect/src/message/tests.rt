@@ -1,0 +1,48 @@
+//! Each call once, on messages of the built-in types.
+
+use crate::descriptor::{MessageDescriptor, builtin_pool};
+use crate::message::DynamicMessage;
+use prost_reflect_wire::DecodeError;
+use std::alloc::Global;
+use std::test::Fail;
+
+fn kept(alloc: Global) -> Result<MessageDescriptor, Fail> {
+    let pool = builtin_pool(alloc)?;
+    let found = pool.get_message_by_name("builtin.Kept")?;
+    Ok(found.ok_or("no builtin.Kept")?)
+}
+
+#[test]
+fn a_message_is_read_copied_and_written(rt: HostRuntime) -> Result<(), Fail> {
+    let descriptor = kept(rt.alloc())?;
+    if !descriptor.is_covered() {
+        return Err(Fail::from("builtin.Kept is not covered"));
+    }
+    let bytes = [0x50, 3, 0x28, 0x96, 1];
+    let message = DynamicMessage::decode(rt.alloc(), descriptor.clone()?, &bytes)?;
+    assert!(rt; *message.descriptor() == descriptor);
+    let written = message.encode_to_vec(rt.alloc())?;
+    assert!(rt; written.as_slice() == [0x28, 0x96, 1, 0x50, 3].as_slice());
+    let mut out = Vec::from_slice(rt.alloc(), &[7])?;
+    message.encode(&mut out)?;
+    assert!(rt; out.as_slice() == [7, 0x28, 0x96, 1, 0x50, 3].as_slice());
+    let mut copied = message.clone()?;
+    assert!(rt; copied == message);
+    copied.clear();
+    assert!(rt; copied == DynamicMessage::new(rt.alloc(), descriptor));
+    assert!(rt; copied != message);
+    Ok(())
+}
+
+#[test]
+fn a_fault_is_named(rt: HostRuntime) -> Result<(), Fail> {
+    let descriptor = kept(rt.alloc())?;
+    if !descriptor.is_covered() {
+        return Err(Fail::from("builtin.Kept is not covered"));
+    }
+    match DynamicMessage::decode(rt.alloc(), descriptor, &[0x28]) {
+        Ok(_) => return Err(Fail::from("a key without a value is read")),
+        Err(fault) => assert_eq!(rt; fault, DecodeError::Truncated),
+    }
+    Ok(())
+}
