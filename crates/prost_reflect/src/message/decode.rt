@@ -24,12 +24,16 @@ use prost_reflect_wire::{
 use std::alloc::Global;
 
 impl DynamicMessage {
-    /// Reads a message of the type from the bytes.
+    /// Reads a message of the type from the bytes, in at most 100 levels of messages and groups. The type has to be
+    /// covered (`MessageDescriptor::is_covered`).
+    ///
+    /// A later record of a field replaces an earlier one, and records of numbers that the type lacks become unknown fields,
+    /// in their order (the encoding guide, "Last One Wins"; the language guide, "Unknown Fields").
     ///
     /// # Errors
     ///
-    /// `Truncated`, `Varint`, `Key`, `WireType`, `EndGroup`, `Utf8` or `Depth` where that fault stands in the bytes;
-    /// `OutOfMemory` if a growth is refused.
+    /// `Truncated`, `Varint`, `Key`, `WireType`, `EndGroup`, `Utf8` or `Depth` where that fault stands in the bytes, and
+    /// only where the type does not accept them; `OutOfMemory` if a growth is refused.
     pub fn decode(
         alloc: Global,
         descriptor: MessageDescriptor,

@@ -190,11 +190,14 @@ fn prepend_entries(
 
 impl DynamicMessage {
     /// Appends the encoding of the message: fields and unknown fields in ascending order of their numbers, without the
-    /// defaults of fields that have no presence.
+    /// defaults of fields that have no presence (the encoding guide, "Message Structure"). The type has to be covered
+    /// (`MessageDescriptor::is_covered`), and each stored value has to fit its field, as in every message that `decode`
+    /// gives.
     ///
     /// # Errors
     ///
-    /// `TooLong` if the encoding passes the greatest `usize`, `OutOfMemory` if a growth is refused; the output stays.
+    /// `TooLong` if the encoding passes the greatest `usize`, `OutOfMemory` if a growth is refused; the output stays as it
+    /// was.
     pub fn encode(&self, out: &mut Vec<u8>) -> Result<(), EncodeError>
         requires plain { covered (schema_at (descriptor_of self.now)) (type_at (descriptor_of self.now)) ≡ true }
         requires encodable { encodable (content_of self.now) ≡ true }
