@@ -16,7 +16,7 @@ use Rattle.prost_reflect_wire.specs.Decoding.{Step, ScalarRead, ScalarFault, Sta
 use Rattle.prost_reflect_wire.proofs.RecordReads.{IsOpen}
 use Rattle.prost_reflect_wire.proofs.PlainTypes.{NoOneofs}
 use Rattle.prost_reflect_wire.proofs.Holding.{scalar_holds, unknown_holds}
-use Rattle.prost_reflect_wire.proofs.MessageFaults.{scalar_stands}
+use Rattle.prost_reflect_wire.proofs.ScalarFaults.{scalar_stands}
 use Rattle.prost_reflect_wire.proofs.PlaceFaults.{value_stands}
 use Rattle.prost_reflect_wire.specs.Scalar as scalars
 use Rattle.prost_reflect_tables.specs.declared.tables.TableKind.{TableKind}

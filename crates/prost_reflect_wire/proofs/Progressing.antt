@@ -2,6 +2,7 @@
 use Rattle.std.proofs.Common.{◌≡◌, ◌≢◌, ℕ, List, [], Some, None, refl, subst, ◌∙◌}
 use Rattle.prost_reflect_wire.specs.declared.key.WireType.{WireType}
 use Rattle.prost_reflect_wire.specs.declared.error.DecodeError.{DecodeError}
+use Rattle.prost_reflect_wire.specs.Record.{body_of}
 use Rattle.prost_reflect_wire.specs.Front.{KeyFront, KeyFault}
 use Rattle.prost_reflect_wire.specs.Schema.{Schema}
 use Rattle.prost_reflect_wire.specs.Content.{Content, empty, schema_of, type_of}
@@ -11,8 +12,7 @@ use Rattle.prost_reflect_wire.specs.Typing.{kept, WellStored}
 use Rattle.prost_reflect_wire.specs.Fault.{OfType, StandsInMessage}
 use Rattle.prost_reflect_wire.specs.Decoding.{Progress, Step, StandsBehindKey}
 use Rattle.prost_reflect_wire.proofs.Readings.{read_nothing, read_record, read_decoded, read_accepts}
-use Rattle.prost_reflect_wire.proofs.MessageFaults.{stands_behind}
-use Rattle.prost_reflect_wire.proofs.PlaceFaults.{key_stands}
+use Rattle.prost_reflect_wire.proofs.PlaceFaults.{key_stands, stands_behind}
 
 pub progress_start : (levels : ℕ) (c : Content) (bytes : List ℕ) → WellStored c → Progress levels c c bytes bytes
 progress_start levels c bytes w = record { read = read_nothing levels c bytes; holds = record { schema = refl; type = refl; sound = w } }
@@ -26,7 +26,7 @@ progress_step levels n w old mid new bytes rest after end done key step =
 
 -- a fault that stands where the reading has come to
 stands_here : (levels : ℕ) (old mid : Content) (e : DecodeError) (bytes rest : List ℕ) → Progress levels old mid bytes rest → StandsInMessage (schema_of old) (type_of old) levels e rest → StandsInMessage (schema_of old) (type_of old) levels e bytes
-stands_here levels old mid e bytes rest done s = let r = done.read in stands_behind (schema_of old) e (OfType (type_of old)) levels None r.records bytes rest r.front s
+stands_here levels old mid e bytes rest done s = let r = done.read in stands_behind (schema_of old) e (record { bytes = bytes; inside = OfType (type_of old); levels = levels; open_group = None }) (body_of r.records) rest r.front s
 
 -- no key is there
 pub progress_no_key : (levels : ℕ) (old mid : Content) (e : DecodeError) (bytes rest : List ℕ) → Progress levels old mid bytes rest → rest ≢ [] → KeyFault e rest → StandsInMessage (schema_of old) (type_of old) levels e bytes

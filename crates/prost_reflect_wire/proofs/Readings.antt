@@ -1,9 +1,9 @@
 -- Records read one behind another from bytes.
-use Rattle.std.proofs.Common.{◌≡◌, ℕ, zero, suc, List, [], ◌∷◌, ◌++◌, Option, Some, refl, ap, ap₂, sym, ◌∙◌, append-nil, append_assoc, subst}
+use Rattle.std.proofs.Common.{◌≡◌, ℕ, zero, suc, List, [], ◌∷◌, ◌++◌, Option, Some, refl, ap, ap₂, sym, ◌∙◌, append-nil, subst}
 use Rattle.prost_reflect_wire.specs.Varint.{guard, ◌>>=◌}
-use Rattle.prost_reflect_wire.specs.Record.{Record, Records, Payload, Flat, Group, items, before, body_of, Spells}
+use Rattle.prost_reflect_wire.specs.Record.{Record, Records, items, body_of, Spells}
 use Rattle.prost_reflect_wire.specs.declared.key.WireType.{WireType}
-use Rattle.prost_reflect_wire.specs.Front.{KeyFront, ValueFront, RecordsFront, RecordFront}
+use Rattle.prost_reflect_wire.specs.Front.{KeyFront, ValueFront, RecordsFront}
 use Rattle.prost_reflect_wire.specs.Schema.{Schema}
 use Rattle.prost_reflect_wire.specs.Content.{Content, ContentOf, empty, schema_of, type_of}
 use Rattle.prost_reflect_wire.specs.Grammar.{Accepts, allows}
@@ -15,7 +15,7 @@ use Rattle.prost_reflect_wire.proofs.Deeper.{allows_append}
 use Rattle.prost_reflect_wire.proofs.Allowed.{allows_inside}
 use Rattle.prost_reflect_wire.proofs.Means.{below, further}
 use Rattle.prost_reflect_wire.proofs.Steps.{meaning_steps, meaning_empty}
-use Rattle.prost_reflect_wire.proofs.MessageFaults.{record_front}
+use Rattle.prost_reflect_wire.proofs.RecordFronts.{record_front, last_front}
 use Rattle.prost_reflect_wire.proofs.Reading.{spelled_read}
 use Rattle.prost_reflect_wire.proofs.Values.{items_body}
 
@@ -39,35 +39,6 @@ steps_one k c rs r =
 pub kept_schema : (c : Content) → schema_of (kept c) ≡ schema_of c
 kept_schema (ContentOf schema T es) = refl
 
--- FRONTS
-
-spells_append : (rs qs : List Record) (a b : List ℕ) → Spells (body_of rs) a → Spells (body_of qs) b → Spells (body_of (rs ++ qs)) (a ++ b)
-spells_append [] qs a b s t = subst (Spells (body_of qs)) (ap (λ l. l ++ b) (sym s)) t
-spells_append (r ∷ rs) qs a b s t = go r.payload s (λ after u. spells_append rs qs after b u t)
-  where
-    go : (p : Payload) → Spells (before (record { number = r.number; payload = p }) (body_of rs)) a → ((after : List ℕ) → Spells (body_of rs) after → Spells (body_of (rs ++ qs)) (after ++ b)) →
-        Spells (before (record { number = r.number; payload = p }) (body_of (rs ++ qs))) (a ++ b)
-    go (Flat p) (key, body, after, k, u, v, e) more =
-        (key, body, after ++ b, k, u, more after v, ap (λ l. l ++ b) e ∙ append_assoc key (body ++ after) b ∙ ap (λ l. key ++ l) (append_assoc body after b))
-    go (Group rs') (key, body, stop, after, k, u, l, v, e) more = (
-      key,
-      body,
-      stop,
-      after ++ b,
-      k,
-      u,
-      l,
-      more after v,
-      ap (λ l. l ++ b) e ∙ append_assoc key (body ++ (stop ++ after)) b ∙ ap (λ l. key ++ l) (append_assoc body (stop ++ after) b ∙ ap (λ l. body ++ l) (append_assoc stop after b)),
-    )
-
-pub front_more : (rs : List Record) (r : Record) (bytes mid rest : List ℕ) → RecordsFront (body_of rs) bytes mid → RecordFront r mid rest → RecordsFront (body_of (rs ++ (r ∷ []))) bytes rest
-front_more rs r bytes mid rest f g = record {
-  front = f.front ++ g.front;
-  spelled = spells_append rs (r ∷ []) f.front g.front f.spelled g.spelled;
-  parts = f.parts ∙ ap (λ l. f.front ++ l) g.parts ∙ sym (append_assoc f.front g.front rest);
-}
-
 -- PROGRESS
 
 pub read_nothing : (k : ℕ) (c : Content) (bytes : List ℕ) → ReadTo k c c bytes bytes
@@ -88,7 +59,7 @@ pub read_record : (k n : ℕ) (w : WireType) (old mid new : Content) (bytes rest
     schema_of mid ≡ schema_of old → type_of mid ≡ type_of old → ReadTo k old new bytes end
 read_record k n w old mid new bytes rest after end done key next schema type = record {
   records = done.records ++ (r ∷ []);
-  front = front_more done.records r bytes rest end done.front
+  front = last_front done.records r bytes rest end done.front
       (record_front n next.payload rest after end (subst (λ v. KeyFront n v rest after) (sym value.wire) key) value.front);
   allowed = allows_append (schema_of old) k (type_of old) done.records (r ∷ []) done.allowed
       (ap₂ (λ s T. allows s k T (r ∷ [])) (sym schema) (sym type) ∙ next.allowed);
