@@ -14,7 +14,8 @@ use Rattle.prost_reflect_wire.specs.Edit.{merged}
 use Rattle.prost_reflect_wire.specs.Laws.{StaysWell}
 use Rattle.prost_reflect_wire.proofs.Sound.{bind_ok, guard_ok, read_spells}
 use Rattle.prost_reflect_wire.proofs.Pieces.{allowed_within}
-use Rattle.prost_reflect_wire.proofs.Readable.{spelled_valid, body_items}
+use Rattle.prost_reflect_wire.proofs.Readable.{body_items}
+use Rattle.prost_reflect_wire.proofs.SpelledValid.{spelled_valid}
 use Rattle.prost_reflect_wire.proofs.RoundTrip.{written_decoded}
 use Rattle.prost_reflect_wire.proofs.Slots.{well_good, good_well}
 use Rattle.prost_reflect_wire.proofs.GoodSteps.{Stepped, steps_good, meaning_typed, meaning_levels}

@@ -1,53 +1,24 @@
 -- Records that are read of bytes have a spelling, and so have those in a payload that has one.
 use Rattle.std.proofs.Common.{◌≡◌, ℕ, zero, suc, ◌^◌, Bool, true, false, cond, ◌&&◌, List, [], ◌∷◌, ◌++◌, map, filter, length, nat_eq, nat_lt, Option, Some, None, refl, ap, sym, ◌∙◌, subst}
 use Rattle.std.specs.List.{list_all}
-use Rattle.std.proofs.lemmas.Bool.{lt-ltb, ltb-true, eq-eqb}
+use Rattle.std.proofs.lemmas.Bool.{ltb-true}
 use Rattle.prost_reflect_wire.specs.Varint.{AreBytes, are_bytes, ◌>>=◌}
-use Rattle.prost_reflect_wire.specs.Record.{Plain, Var, Fix64, Len, Fix32, Records, NoRecords, PlainRecord, GroupRecord, Payload, Flat, Group, Record, items, before, body_of, Key, SpellsPlain, Spells, plain_at, read, number_valid, plain_valid, valid, payload_valid}
+use Rattle.prost_reflect_wire.specs.Record.{Plain, Var, Fix64, Len, Fix32, Records, NoRecords, PlainRecord, GroupRecord, Payload, Flat, Group, Record, items, before, body_of, plain_at, read, number_valid, plain_valid, valid, payload_valid}
 use Rattle.prost_reflect_wire.specs.Scalar.{kind_wire}
 use Rattle.prost_reflect_wire.specs.Schema.{Kind, ScalarOf, MessageOf, GroupOf, is_packable}
-use Rattle.prost_reflect_wire.specs.Grammar.{or_none, plains_within, unpacked, body, records_in, element_payloads_in, numbered, has_number, payloads}
+use Rattle.prost_reflect_wire.specs.Grammar.{or_none, plains_within, unpacked, records_in, element_payloads_in, numbered, has_number, payloads}
 use Rattle.prost_reflect_wire.specs.declared.key.WireType.{WireType}
 use Rattle.prost_reflect_wire.proofs.Deeper.{and_both, both_true}
 use Rattle.prost_reflect_wire.proofs.Sound.{Front, plain_sound, bytes_after, bind_ok, some_inside, none_some, read_spells}
 use Rattle.prost_reflect_wire.proofs.Means.{first_valid}
+use Rattle.prost_reflect_wire.proofs.ByteLists.{bytes_front}
+use Rattle.prost_reflect_wire.proofs.SpelledValid.{spelled_plain_valid, spelled_valid}
 
 -- BYTES
-
-tested : (bytes : List ℕ) → AreBytes bytes → are_bytes bytes ≡ true
-tested [] h = refl
-tested (b ∷ bytes) h = both_true (lt-ltb b 256 h.0) (tested bytes h.1)
 
 small : (bytes : List ℕ) → are_bytes bytes ≡ true → AreBytes bytes
 small [] h = tt
 small (b ∷ bytes) h = let (one, more) = and_both (nat_lt b 256) (are_bytes bytes) h in (ltb-true b 256 one, small bytes more)
-
-bytes_before : (front rest : List ℕ) → AreBytes (front ++ rest) → AreBytes front
-bytes_before [] rest h = tt
-bytes_before (b ∷ front) rest h = (h.0, bytes_before front rest h.1)
-
--- SPELLINGS
-
-plain_spelled : (p : Plain) (bytes : List ℕ) → AreBytes bytes → SpellsPlain p bytes → plain_valid p ≡ true
-plain_spelled (Var v) bytes h s = lt-ltb v (2 ^ 64) s.below
-plain_spelled (Fix64 eight) bytes h (n, e) = both_true (eq-eqb (length eight) 8 n) (tested eight (subst AreBytes e h))
-plain_spelled (Len inside) bytes h (len, v, e) = both_true (lt-ltb (length inside) (2 ^ 64) v.below) (tested inside (bytes_after len inside (subst AreBytes e h)))
-plain_spelled (Fix32 four) bytes h (n, e) = both_true (eq-eqb (length four) 4 n) (tested four (subst AreBytes e h))
-
-key_number : {n : ℕ} {w : WireType} {bytes : List ℕ} → Key n w bytes → number_valid n ≡ true
-key_number {n} k = both_true (lt-ltb 0 n k.from_one) (lt-ltb n (2 ^ 29) k.below)
-
-pub spelled_valid : (rs : Records) (bytes : List ℕ) → AreBytes bytes → Spells rs bytes → valid rs ≡ true
-spelled_valid NoRecords bytes h s = refl
-spelled_valid (PlainRecord n p rest) bytes h (key, body, after, k, q, s, e) =
-    let all : AreBytes (key ++ (body ++ after)) = subst AreBytes e h in
-    let behind : AreBytes (body ++ after) = bytes_after key (body ++ after) all in
-    both_true (key_number k) (both_true (plain_spelled p body (bytes_before body after behind) q) (spelled_valid rest after (bytes_after body after behind) s))
-spelled_valid (GroupRecord n inside rest) bytes h (key, body, stop, after, k, i, l, s, e) =
-    let all : AreBytes (key ++ (body ++ (stop ++ after))) = subst AreBytes e h in
-    let behind : AreBytes (body ++ (stop ++ after)) = bytes_after key (body ++ (stop ++ after)) all in
-    let more : AreBytes (stop ++ after) = bytes_after body (stop ++ after) behind in
-    both_true (key_number k) (both_true (spelled_valid inside body (bytes_before body (stop ++ after) behind) i) (spelled_valid rest after (bytes_after stop after more) s))
 
 -- INSIDE A PAYLOAD
 
@@ -112,7 +83,7 @@ plains_valid (suc fuel) wire (b ∷ bytes) ps h e =
     let s : Front wire (b ∷ bytes) p.0 p.1 = plain_sound wire (b ∷ bytes) p.0 p.1 h m in
     let all : AreBytes (s.front ++ p.1) = subst AreBytes s.whole h in
     ap (λ ps. list_all payload_valid (map Flat ps)) (sym (some_inside g))
-    ∙ both_true (plain_spelled p.0 s.front (bytes_before s.front p.1 all) s.spells) (plains_valid fuel wire p.1 rest (bytes_after s.front p.1 all) k)
+    ∙ both_true (spelled_plain_valid p.0 s.front (bytes_front s.front p.1 all) s.spells) (plains_valid fuel wire p.1 rest (bytes_after s.front p.1 all) k)
 
 pub elements_in_valid : (kind : Kind) (p : Payload) → payload_valid p ≡ true → list_all payload_valid (element_payloads_in kind p) ≡ true
 unfolding unpacked
