@@ -137,7 +137,7 @@ pub fn pieces_join()
 {}
 
 /// What is read of a payload, and is no stray, is a value of the kind.
-pub fn read_valid()
+pub fn read_is_valid()
     ensures { ReadIsValid }
 {}
 
