@@ -1,5 +1,5 @@
-use Rattle.prost_reflect_wire.proofs.Declared.{read_is_valid}
+use Rattle.prost_reflect_wire.proofs.Declared.{read_valid}
 use Rattle.prost_reflect_wire.proofs.laws.read_is_valid.Goals as goal
 
 pub returns : goal.returns
-returns c = read_is_valid
+returns c = read_valid
