@@ -83,7 +83,7 @@ pub record EditPassages : Type 0 where
   -- In a message that is absent.
   pub made : PassesEdit older_message my_message "0805" (3 ∷ 2 ∷ []) (int 7) "08051a021007"
 
--- The test of reduction is no other thing than the relation.
+-- What the test of reduction says of two pairs of types, said by the relation.
 pub record Tested : Type 0 where
   pub reduced : Reduced less 0 whole 0
   pub unreduced : Reduced other 0 whole 0 → ⊥
