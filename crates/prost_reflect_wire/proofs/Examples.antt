@@ -5,3 +5,4 @@ pub mod ComputedContents
 pub mod ComputedReductions
 pub mod NotReduced
 pub mod Faults
+pub mod Passages

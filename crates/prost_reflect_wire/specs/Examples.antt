@@ -13,3 +13,4 @@ pub mod Contents
 pub mod Editing
 pub mod Reductions
 pub mod Faults
+pub mod Passages

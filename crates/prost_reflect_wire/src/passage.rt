@@ -3,6 +3,7 @@
 ghost use Rattle.prost_reflect_wire.specs.Passage.{OlderAccepts, Passage, EditPassage};
 ghost use Rattle.prost_reflect_wire.specs.Reducing.{ReducedIsTest};
 ghost use Rattle.prost_reflect_wire.specs.ReducingExamples.{WorkedReductions};
+ghost use Rattle.prost_reflect_wire.specs.Examples.Passages.{Passages, EditPassages, Tested, FailedPassages, ExtensionAgainstField};
 
 /// What a newer message type accepts, a compatible reduction of it accepts.
 pub fn older_accepts()
@@ -28,4 +29,13 @@ pub fn reduced_is_test()
 /// The worked examples of the test hold.
 pub fn worked_reductions()
     ensures { WorkedReductions }
+{}
+
+/// The worked examples of what passes through a reduction, and of what does not without one, hold.
+pub fn worked_passages()
+    ensures passages { Passages }
+    ensures edit_passages { EditPassages }
+    ensures tested { Tested }
+    ensures failed_passages { FailedPassages }
+    ensures extension_against_field { ExtensionAgainstField }
 {}
