@@ -5,3 +5,5 @@ pub mod ComputedContents
 pub mod ComputedReductions
 pub mod NotReduced
 pub mod Faults
+pub mod Instances
+pub mod NearbyFalse

@@ -13,3 +13,5 @@ pub mod Contents
 pub mod Editing
 pub mod Reductions
 pub mod Faults
+pub mod Instances
+pub mod NearbyFalse

@@ -1,0 +1,20 @@
+//! The laws are not empty, and their neighbours do not hold.
+
+ghost use Rattle.prost_reflect_wire.specs.Examples.Instances.{OfReading, OfMeaning, OfContents, OfWriting, OfFaults};
+ghost use Rattle.prost_reflect_wire.specs.Examples.NearbyFalse.{NotOfReading, NotOfMeaning, NotOfWriting};
+
+/// The premises of each law hold at a worked example.
+pub fn worked_instances()
+    ensures reading { OfReading }
+    ensures meaning { OfMeaning }
+    ensures contents { OfContents }
+    ensures writing { OfWriting }
+    ensures faults { OfFaults }
+{}
+
+/// Statements near the laws are refuted by worked examples.
+pub fn nearby_false()
+    ensures reading { NotOfReading }
+    ensures meaning { NotOfMeaning }
+    ensures writing { NotOfWriting }
+{}
