@@ -6,4 +6,6 @@ pub mod ComputedReductions
 pub mod NotReduced
 pub mod Faults
 pub mod Instances
+pub mod ReadBack
+pub mod Passages
 pub mod NearbyFalse

@@ -14,4 +14,6 @@ pub mod Editing
 pub mod Reductions
 pub mod Faults
 pub mod Instances
+pub mod ReadBack
+pub mod Passages
 pub mod NearbyFalse
