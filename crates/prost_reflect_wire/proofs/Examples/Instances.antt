@@ -1,21 +1,19 @@
 -- The premises of the laws at worked examples, and what the laws then say.
-use Rattle.std.proofs.Common.{◌≡◌, ℕ, ◌≤◌, ◌<◌, true, false, List, [], ◌∷◌, length, Option, Some, None, refl, sym, ap, arith, lit<, lit≤, true≢false}
+use Rattle.std.proofs.Common.{◌≤◌, ◌<◌, false, [], ◌∷◌, length, Some, None, refl, sym, ap, arith, lit<, lit≤}
 use Rattle.std.specs.Str.{is_utf8, chars}
 use Rattle.std.specs.Char.{encode_utf8}
-use Rattle.prost_reflect_wire.specs.Varint.{AreBytes, Varint, short}
-use Rattle.prost_reflect_wire.specs.Record.{Record, read, Spells, body_of}
-use Rattle.prost_reflect_wire.specs.Schema.{Field, known, is_sibling}
-use Rattle.prost_reflect_wire.specs.Grammar.{LEVEL_LIMIT, Accepts, unpacked, allows}
+use Rattle.prost_reflect_wire.specs.Varint.{AreBytes, short}
+use Rattle.prost_reflect_wire.specs.Record.{read}
+use Rattle.prost_reflect_wire.specs.Schema.{known, is_sibling}
+use Rattle.prost_reflect_wire.specs.Grammar.{LEVEL_LIMIT, unpacked, allows}
 use Rattle.prost_reflect_wire.specs.Meaning.{meaning, steps}
-use Rattle.prost_reflect_wire.specs.Writing.{records, encoded}
-use Rattle.prost_reflect_wire.specs.Typing.{WellTyped, WellStored, Fitting}
+use Rattle.prost_reflect_wire.specs.Typing.{WellTyped, WellStored}
 use Rattle.prost_reflect_wire.specs.Edit.{PathTo}
-use Rattle.prost_reflect_wire.specs.Laws.{Apart, Writable, Spellable}
+use Rattle.prost_reflect_wire.specs.Laws.{Apart, Writable}
 use Rattle.prost_reflect_wire.specs.Examples.Schemas.{examples, my_message, two_choices}
 use Rattle.prost_reflect_wire.specs.Examples.Words.{hex, int}
-use Rattle.prost_reflect_wire.specs.Examples.Instances.{sample, front, behind, one, needless, stores_defaults, two_members, Taken, Low, OfReading, OfMeaning, OfContents, OfWriting, OfFaults}
+use Rattle.prost_reflect_wire.specs.Examples.Instances.{sample, front, behind, one, needless, stores_defaults, Taken, Low, OfReading, OfMeaning, OfContents, OfWriting, OfFaults}
 use Rattle.prost_reflect_wire.proofs.Sound.{read_spells}
-use Rattle.prost_reflect_wire.proofs.Reading.{spelled_read}
 use Rattle.prost_reflect_wire.proofs.Accepted.{accepts_is_test}
 use Rattle.prost_reflect_wire.proofs.GoodSteps.{meaning_typed, meaning_levels}
 use Rattle.prost_reflect_wire.proofs.NormalForms.{steps_well, merged_well, normal_form}
@@ -133,6 +131,7 @@ pub of_faults : OfFaults
 unfolding short read unpacked allows meaning steps is_utf8 chars encode_utf8
 of_faults = record {
   accepted = (whole, (accepts_is_test examples 0 my_message (hex "0801") whole).1 refl);
+  accepted_only_memory = λ other. absurd (other refl);
   accepted_unless_fault = ((lit< tt, (lit< tt, tt)), refl);
   fault = faults.varint_ends;
 }

@@ -1,5 +1,5 @@
 -- The premises of the laws on reductions and on single fields at worked examples.
-use Rattle.std.proofs.Common.{ℕ, ◌<◌, false, [], ◌∷◌, refl, arith, lit<, lit≤}
+use Rattle.std.proofs.Common.{ℕ, ◌<◌, [], ◌∷◌, refl, arith, lit<, lit≤}
 use Rattle.std.specs.Str.{is_utf8, chars}
 use Rattle.std.specs.Char.{encode_utf8}
 use Rattle.prost_reflect_wire.specs.Varint.{AreBytes, Varint, short}
@@ -62,4 +62,5 @@ pub of_fields : OfFields
 of_fields = record {
   one_field = ((lit< tt, (lit< tt, (lit< tt, tt))), front);
   field_again = field_again 0 first_field (hex "080142") (hex "42") (lit< tt, (lit< tt, (lit< tt, tt))) front (hex "ff");
+  value_unless_fault = (lit≤ tt, lit< tt, (lit< tt, tt));
 }

@@ -31,9 +31,15 @@ pairs_back = (record { stays = refl; key_read = refl; value_read = refl }, (reco
 entries_back : EntriesBack (meaning examples 1) (known examples my_message) (entries_of sample)
 unfolding short read unpacked allows meaning steps is_utf8 chars encode_utf8
 entries_back = (
-  _, refl, record { sources = varint 5 ∷ []; read = refl; strays = refl; value = refl }, refl,
+  _,
+  refl,
+  record { sources = varint 5 ∷ []; read = refl; strays = refl; value = refl },
+  refl,
   (
-    _, refl, record { sources = varint 66 ∷ []; read = refl; strays = refl; value = refl }, refl,
+    _,
+    refl,
+    record { sources = varint 66 ∷ []; read = refl; strays = refl; value = refl },
+    refl,
     (_, refl, record { sources = delimited "0801" ∷ []; read = refl; strays = refl; value = refl }, refl, (record { read = refl; stays = refl }, tt)),
   ),
 )

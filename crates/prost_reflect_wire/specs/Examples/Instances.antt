@@ -1,20 +1,20 @@
 -- For each law that has premises, a worked example at which all of them hold at once, so that no law is empty. Where the conclusion is a new one, it stands behind.
-use Rattle.std.specs.Prelude.{◌≡◌, ℕ, ◌≤◌, ◌<◌, ◌^◌, true, false, pos, negsuc, List, [], ◌∷◌, ◌++◌, length, Some}
+use Rattle.std.specs.Prelude.{◌≡◌, ◌≢◌, ℕ, ◌≤◌, ◌<◌, ◌^◌, true, false, pos, negsuc, List, [], ◌∷◌, ◌++◌, length, Some}
 use Rattle.prost_reflect_wire.specs.Varint.{AreBytes}
-use Rattle.prost_reflect_wire.specs.Record.{Var, Records, NoRecords, PlainRecord, Payload, Record, Spells, record_at, body_of, valid, payload_valid, short_body, read}
-use Rattle.prost_reflect_wire.specs.Scalar.{I32, EnumNumber, Int32, Sint64, ScalarKind, Enum, Closed, scalar_valid, elem, is_undeclared}
-use Rattle.prost_reflect_wire.specs.Schema.{MessageOf, Repeated, MapFrom, known, field_of, is_packable, schema_valid}
-use Rattle.prost_reflect_wire.specs.Content.{Content, NoEntries, Stored, Unknown, NoValues, Item, MapValue, NoPairs, Pair, pairs_ordered, entries_ordered, entries_of}
+use Rattle.prost_reflect_wire.specs.Record.{Var, Records, NoRecords, PlainRecord, Record, Spells, record_at, body_of, valid, payload_valid, short_body, read}
+use Rattle.prost_reflect_wire.specs.Scalar.{I32, EnumNumber, Int32, ScalarKind, Enum, Closed, scalar_valid, elem, is_undeclared}
+use Rattle.prost_reflect_wire.specs.Schema.{known, schema_valid}
+use Rattle.prost_reflect_wire.specs.Content.{Content, NoEntries, Stored, Unknown}
 use Rattle.prost_reflect_wire.specs.Grammar.{LEVEL_LIMIT, Accepts, accepts, allows}
 use Rattle.prost_reflect_wire.specs.Meaning.{meaning, decoded, steps}
 use Rattle.prost_reflect_wire.specs.Writing.{records, encoded}
 use Rattle.prost_reflect_wire.specs.Levels.{levels}
-use Rattle.prost_reflect_wire.specs.Typing.{WellStored, WellTyped, kept, elements_valid, is_whole_stray}
+use Rattle.prost_reflect_wire.specs.Typing.{WellStored, WellTyped, kept}
 use Rattle.prost_reflect_wire.specs.Edit.{merged, set_at, PathTo}
 use Rattle.prost_reflect_wire.specs.Fault.{StandsInMessage}
 use Rattle.prost_reflect_wire.specs.Laws.{Apart, Writable, Spellable, StaysWell}
-use Rattle.prost_reflect_wire.specs.Examples.Schemas.{examples, my_message, unpacked_list, maps, choice, two_choices}
-use Rattle.prost_reflect_wire.specs.Examples.Words.{hex, content, int, inner, list_of, varint, delimited}
+use Rattle.prost_reflect_wire.specs.Examples.Schemas.{examples, my_message, choice, two_choices}
+use Rattle.prost_reflect_wire.specs.Examples.Words.{hex, content, int, inner, varint, delimited}
 use Rattle.prost_reflect_wire.specs.declared.error.DecodeError.TheVariants as errors
 
 -- A MyMessage that has a value at each number, in a message inside too, and an unknown record.
@@ -143,8 +143,10 @@ pub record OfWriting : Type 0 where
   pub canonicity_defaults : Spellable stores_defaults
 
 pub record OfFaults : Type 0 where
-  -- Bytes that are accepted, in which so no fault stands, and which are refused for want of memory alone.
+  -- Bytes that are accepted: no fault stands in them, and they are refused for want of memory alone.
   pub accepted : AreBytes (hex "0801") × Accepts examples 0 my_message (hex "0801")
+  -- Where each other refusal is a fault that stands: of want of memory itself nothing is asked.
+  pub accepted_only_memory : errors.OutOfMemory ≢ errors.OutOfMemory → StandsInMessage examples my_message 0 errors.OutOfMemory (hex "0801")
   -- Bytes that are not accepted,
   pub accepted_unless_fault : AreBytes (hex "0896") × (accepts examples 0 my_message (hex "0896") ≡ false)
   -- and the fault that stands in them.

@@ -1,5 +1,5 @@
 -- Statements near the laws that do not hold, each refuted by a worked example: a law without one of its premises, its converse, or its neighbour.
-use Rattle.std.specs.Prelude.{◌≡◌, ℕ, zero, suc, ◌<◌, true, false, List, [], ◌∷◌, ◌++◌, Some}
+use Rattle.std.specs.Prelude.{◌≡◌, ℕ, zero, suc, false, List, [], ◌∷◌, Some}
 use Rattle.prost_reflect_wire.specs.Record.{Record, record_at, read}
 use Rattle.prost_reflect_wire.specs.Schema.{known}
 use Rattle.prost_reflect_wire.specs.Content.{Content, Entries, NoEntries, Stored, MapValue, NoPairs, Pair}
@@ -9,10 +9,10 @@ use Rattle.prost_reflect_wire.specs.Writing.{encoded}
 use Rattle.prost_reflect_wire.specs.Levels.{levels}
 use Rattle.prost_reflect_wire.specs.Typing.{kept}
 use Rattle.prost_reflect_wire.specs.Edit.{merged}
-use Rattle.prost_reflect_wire.specs.Laws.{Apart}
+use Rattle.prost_reflect_wire.specs.Laws.{Apart, Writable}
 use Rattle.prost_reflect_wire.specs.Examples.Schemas.{examples, my_message, packed_list, maps, choice, plain_a}
 use Rattle.prost_reflect_wire.specs.Examples.Words.{hex, content, int, ascii, inner, list_of, varint, delimited}
-use Rattle.prost_reflect_wire.specs.Examples.Instances.{front, behind, two_members, one, needless}
+use Rattle.prost_reflect_wire.specs.Examples.Instances.{front, behind, two_members, needless}
 
 -- MyMessage in itself, so many times.
 abbrev pub deep : ℕ → Entries
@@ -88,7 +88,9 @@ pub record NotOfWriting : Type 0 where
   pub type_written : encoded (content my_message (Stored 1 (int 1) NoEntries)) ≡ encoded (content plain_a (Stored 1 (int 1) NoEntries))
   -- They differ.
   pub types_differ : content my_message (Stored 1 (int 1) NoEntries) ≡ content plain_a (Stored 1 (int 1) NoEntries) → ⊥
-  -- A content may nest deeper than the limit,
+  -- A content that may be written may nest deeper than the limit
+  pub deep_writable : Writable (content my_message (deep 101))
+  -- by a level,
   pub deep_levels : levels (content my_message (deep 101)) ≡ 101
   -- and is then not accepted.
   pub deep_refused : accepts examples LEVEL_LIMIT my_message (encoded (content my_message (deep 101))) ≡ false

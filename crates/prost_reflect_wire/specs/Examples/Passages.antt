@@ -1,5 +1,5 @@
 -- Worked examples at which the premises of the laws on reductions and on single fields hold.
-use Rattle.std.specs.Prelude.{◌≡◌, ℕ, suc, ◌≤◌, ◌<◌, ◌^◌, true, false, List, [], ◌∷◌, ◌++◌, length, Some}
+use Rattle.std.specs.Prelude.{◌≡◌, ℕ, ◌≤◌, ◌<◌, ◌^◌, true, false, List, [], ◌∷◌, ◌++◌, length, Some}
 use Rattle.prost_reflect_wire.specs.Varint.{AreBytes}
 use Rattle.prost_reflect_wire.specs.Record.{Record, record_at, spelled}
 use Rattle.prost_reflect_wire.specs.Schema.{schema_valid}
@@ -53,3 +53,5 @@ pub record OfFields : Type 0 where
   pub one_field : AreBytes (hex "080142") × FieldFront 0 first_field (hex "080142") (hex "42")
   -- It is written again in front of others.
   pub field_again : FieldFront 0 first_field (spelled (first_field ∷ []) ++ hex "ff") (hex "ff")
+  -- Bytes behind a key of number 1.
+  pub value_unless_fault : (1 ≤ 1) × (1 < 2 ^ 29) × AreBytes (hex "01")

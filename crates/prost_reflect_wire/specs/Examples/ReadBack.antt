@@ -1,8 +1,8 @@
 -- Worked examples at which the premises of the laws on reading back hold: what is written of one value is read as it.
-use Rattle.std.specs.Prelude.{◌≡◌, ℕ, true, false, pos, [], ◌∷◌, Some}
-use Rattle.prost_reflect_wire.specs.Record.{record_at, body_of, valid}
+use Rattle.std.specs.Prelude.{◌≡◌, ℕ, true, false, pos, Some}
+use Rattle.prost_reflect_wire.specs.Record.{body_of, valid}
 use Rattle.prost_reflect_wire.specs.Scalar.{I32, Int32, scalar_valid}
-use Rattle.prost_reflect_wire.specs.Schema.{Field, ScalarOf, MessageOf, Singular, Repeated, MapFrom, Schema, known, field_of, is_packable}
+use Rattle.prost_reflect_wire.specs.Schema.{Field, ScalarOf, MessageOf, Singular, MapFrom, known, field_of, is_packable}
 use Rattle.prost_reflect_wire.specs.Content.{Content, NoEntries, Stored, Value, Values, NoValues, Item, ListValue, MapValue, Pairs, NoPairs, Pair, MessageValue, entries_of, entries_ordered, pairs_ordered}
 use Rattle.prost_reflect_wire.specs.Meaning.{meaning}
 use Rattle.prost_reflect_wire.specs.Writing.{is_default_of, records}
