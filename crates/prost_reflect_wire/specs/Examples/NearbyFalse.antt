@@ -14,7 +14,7 @@ use Rattle.prost_reflect_wire.specs.Examples.Schemas.{examples, my_message, pack
 use Rattle.prost_reflect_wire.specs.Examples.Words.{hex, content, int, ascii, inner, list_of, varint, delimited}
 use Rattle.prost_reflect_wire.specs.Examples.Instances.{front, behind, two_members, needless}
 
--- MyMessage in itself, so many times.
+-- A MyMessage in a MyMessage, so many times.
 abbrev pub deep : ℕ → Entries
 deep zero = NoEntries
 deep (suc k) = Stored 3 (inner my_message (deep k)) NoEntries
@@ -22,18 +22,19 @@ deep (suc k) = Stored 3 (inner my_message (deep k)) NoEntries
 abbrev pub stored_default : Content
 stored_default = content my_message (Stored 1 (int 0) NoEntries)
 
+-- A record of each member of a choice.
 abbrev pub a_record : Record
 a_record = record_at 1 (varint 1)
 
 abbrev pub b_record : Record
 b_record = record_at 2 (delimited "1042")
 
--- Of a choice: a record of each member.
-abbrev pub OfChoice : List Record → Content
-OfChoice rs = meaning examples 1 choice rs
+-- What records mean to a choice, and to a MyMessage where no level is left.
+abbrev pub choice_meaning : List Record → Content
+choice_meaning rs = meaning examples 1 choice rs
 
-abbrev pub Numbers : List Record → Content
-Numbers rs = meaning examples 0 my_message rs
+abbrev pub message_meaning : List Record → Content
+message_meaning rs = meaning examples 0 my_message rs
 
 pub record NotOfReading : Type 0 where
   -- One list of records has more spellings than one.
@@ -49,15 +50,15 @@ pub record NotOfReading : Type 0 where
 
 pub record NotOfMeaning : Type 0 where
   -- Records of members of one oneof do not commute,
-  pub members_commute : OfChoice (a_record ∷ b_record ∷ []) ≡ OfChoice (b_record ∷ a_record ∷ []) → ⊥
+  pub members_commute : choice_meaning (a_record ∷ b_record ∷ []) ≡ choice_meaning (b_record ∷ a_record ∷ []) → ⊥
   -- for they are not apart.
   pub members_apart : Apart (known examples choice) 1 2 → ⊥
   -- Nor do records of one number.
-  pub number_commutes : Numbers (a_record ∷ record_at 1 (varint 2) ∷ []) ≡ Numbers (record_at 1 (varint 2) ∷ a_record ∷ []) → ⊥
+  pub number_commutes : message_meaning (a_record ∷ record_at 1 (varint 2) ∷ []) ≡ message_meaning (record_at 1 (varint 2) ∷ a_record ∷ []) → ⊥
   -- Records of one meaning may not stand for one another behind others: no record, and a default.
-  pub same_alone : Numbers [] ≡ Numbers (record_at 1 (varint 0) ∷ [])
+  pub same_alone : message_meaning [] ≡ message_meaning (record_at 1 (varint 0) ∷ [])
   -- Behind a number the default clears it.
-  pub same_in_front : Numbers (a_record ∷ []) ≡ Numbers (a_record ∷ record_at 1 (varint 0) ∷ []) → ⊥
+  pub same_in_front : message_meaning (a_record ∷ []) ≡ message_meaning (a_record ∷ record_at 1 (varint 0) ∷ []) → ⊥
   -- Levels change the meaning of records that are not allowed:
   pub not_allowed : allows examples 0 my_message front ≡ false
   -- a message where no level is left is read as empty.
@@ -65,7 +66,7 @@ pub record NotOfMeaning : Type 0 where
   -- Pieces do not join in the other order, as the last one wins.
   pub pieces_swapped : merged (meaning examples 1 my_message front) behind ≡ merged (meaning examples 1 my_message behind) front → ⊥
   -- What the last piece means does not do for it: its default is lost.
-  pub piece_read : merged (Numbers (a_record ∷ [])) (record_at 1 (varint 0) ∷ []) ≡ merged (Numbers (a_record ∷ [])) [] → ⊥
+  pub piece_read : merged (message_meaning (a_record ∷ [])) (record_at 1 (varint 0) ∷ []) ≡ merged (message_meaning (a_record ∷ [])) [] → ⊥
 
 pub record NotOfWriting : Type 0 where
   -- Messages that differ in a stored default are written equally,
