@@ -7,5 +7,5 @@ pub mod NotReduced
 pub mod Faults
 pub mod Instances
 pub mod ReadBack
-pub mod Passages
+pub mod PremisesOfPassage
 pub mod NearbyFalse

@@ -15,5 +15,5 @@ pub mod Reductions
 pub mod Faults
 pub mod Instances
 pub mod ReadBack
-pub mod Passages
+pub mod PremisesOfPassage
 pub mod NearbyFalse

@@ -2,7 +2,7 @@
 
 ghost use Rattle.prost_reflect_wire.specs.Examples.Instances.{OfReading, OfMeaning, OfContents, OfWriting, OfFaults};
 ghost use Rattle.prost_reflect_wire.specs.Examples.ReadBack.{OfReadingBack};
-ghost use Rattle.prost_reflect_wire.specs.Examples.Passages.{OfPassages, OfFields};
+ghost use Rattle.prost_reflect_wire.specs.Examples.PremisesOfPassage.{OfPassages, OfFields};
 ghost use Rattle.prost_reflect_wire.specs.Examples.NearbyFalse.{NotOfReading, NotOfMeaning, NotOfWriting};
 
 /// The premises of each law hold at a worked example.

@@ -1,6 +1,6 @@
 use Rattle.prost_reflect_wire.proofs.Examples.Instances.{of_reading, of_meaning, of_contents, of_writing, of_faults}
 use Rattle.prost_reflect_wire.proofs.Examples.ReadBack.{of_reading_back}
-use Rattle.prost_reflect_wire.proofs.Examples.Passages.{of_passages, of_fields}
+use Rattle.prost_reflect_wire.proofs.Examples.PremisesOfPassage.{of_passages, of_fields}
 use Rattle.prost_reflect_wire.proofs.laws.instances.worked_instances.Goals as goal
 
 pub returns : goal.returns

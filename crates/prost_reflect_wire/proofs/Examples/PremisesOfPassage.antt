@@ -12,7 +12,7 @@ use Rattle.prost_reflect_wire.specs.Front.{FieldFront}
 use Rattle.prost_reflect_wire.specs.ReducingExamples.{whole, less}
 use Rattle.prost_reflect_wire.specs.Examples.Schemas.{examples, my_message, older_message}
 use Rattle.prost_reflect_wire.specs.Examples.Words.{hex, int}
-use Rattle.prost_reflect_wire.specs.Examples.Passages.{OfPassages, OfFields, relayed_bytes, older_content, to_bar, first_field}
+use Rattle.prost_reflect_wire.specs.Examples.PremisesOfPassage.{OfPassages, OfFields, relayed_bytes, older_content, to_bar, first_field}
 use Rattle.prost_reflect_wire.proofs.Accepted.{accepts_is_test}
 use Rattle.prost_reflect_wire.proofs.Older.{older_accepts}
 use Rattle.prost_reflect_wire.proofs.Passing.{passage}
