@@ -6,3 +6,7 @@ pub mod ComputedReductions
 pub mod NotReduced
 pub mod Faults
 pub mod Passages
+pub mod Instances
+pub mod ReadBack
+pub mod PremisesOfPassage
+pub mod NearbyFalse

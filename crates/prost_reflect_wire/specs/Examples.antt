@@ -14,3 +14,7 @@ pub mod Editing
 pub mod Reductions
 pub mod Faults
 pub mod Passages
+pub mod Instances
+pub mod ReadBack
+pub mod PremisesOfPassage
+pub mod NearbyFalse

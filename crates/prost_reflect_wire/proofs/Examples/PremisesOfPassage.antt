@@ -1,0 +1,66 @@
+-- The premises of the laws on reductions and on single fields at worked examples.
+use Rattle.std.proofs.Common.{ℕ, ◌<◌, [], ◌∷◌, refl, arith, lit<, lit≤}
+use Rattle.std.specs.Str.{is_utf8, chars}
+use Rattle.std.specs.Char.{encode_utf8}
+use Rattle.prost_reflect_wire.specs.Varint.{AreBytes, Varint, short}
+use Rattle.prost_reflect_wire.specs.Record.{read}
+use Rattle.prost_reflect_wire.specs.Grammar.{Accepts, unpacked, allows}
+use Rattle.prost_reflect_wire.specs.Meaning.{meaning, steps}
+use Rattle.prost_reflect_wire.specs.Edit.{PathTo}
+use Rattle.prost_reflect_wire.specs.Reducing.{refined_times}
+use Rattle.prost_reflect_wire.specs.Front.{FieldFront}
+use Rattle.prost_reflect_wire.specs.ReducingExamples.{whole, less}
+use Rattle.prost_reflect_wire.specs.Examples.Schemas.{examples, my_message, older_message}
+use Rattle.prost_reflect_wire.specs.Examples.Words.{hex, int}
+use Rattle.prost_reflect_wire.specs.Examples.PremisesOfPassage.{OfPassages, OfFields, relayed_bytes, older_content, to_bar, first_field}
+use Rattle.prost_reflect_wire.proofs.Accepted.{accepts_is_test}
+use Rattle.prost_reflect_wire.proofs.Older.{older_accepts}
+use Rattle.prost_reflect_wire.proofs.Passing.{passage}
+use Rattle.prost_reflect_wire.proofs.Editing.{edit_passage}
+use Rattle.prost_reflect_wire.proofs.Refining.{reduced_is_test}
+use Rattle.prost_reflect_wire.proofs.SpelledValid.{field_again}
+use Rattle.prost_reflect_wire.proofs.Examples.ComputedReductions.{reductions}
+
+bytes : AreBytes relayed_bytes
+bytes = (lit< tt, (lit< tt, (lit< tt, (lit< tt, (lit< tt, (lit< tt, tt))))))
+
+accepted : Accepts examples 1 my_message relayed_bytes
+unfolding short read unpacked allows meaning steps is_utf8 chars encode_utf8
+accepted = (accepts_is_test examples 1 my_message relayed_bytes bytes).1 refl
+
+to_seven : PathTo examples older_message to_bar (int 7)
+to_seven = (_, refl, refl, (older_message, refl, (_, refl, record { valid = refl; fits = refl; types = tt; order = refl; members = refl })))
+
+pub of_passages : OfPassages
+unfolding short read unpacked allows meaning steps is_utf8 chars encode_utf8 refined_times
+of_passages = record {
+  older_accepts = (reductions.without_field, accepted);
+  older_accepted = older_accepts examples examples 1 older_message my_message relayed_bytes reductions.without_field accepted;
+  passage = (refl, bytes, refl, lit< tt);
+  passed = (passage examples examples 1 older_message my_message relayed_bytes older_content refl bytes reductions.without_field accepted refl (lit< tt)).1;
+  edit_passage = (lit≤ tt, to_seven, refl);
+  edit_written = (refl, lit< tt);
+  edit_accepted = (edit_passage examples examples 1 older_message my_message relayed_bytes to_bar (int 7) (hex "1a0408051007") refl refl bytes reductions.without_field (lit≤ tt) to_seven refl accepted refl (lit< tt)).0;
+  reduced_is_test = (refl, refl, lit< tt, lit< tt);
+  reduced = (reduced_is_test less whole 0 0 refl refl (lit< tt) (lit< tt)).1 refl;
+}
+
+one_byte : (v : ℕ) → v < 128 → Varint v (v ∷ [])
+one_byte v h = record { below = omega (arith, h); digits = h; few = omega arith; means = omega (arith, h) }
+
+front : FieldFront 0 first_field (hex "080142") (hex "42")
+front = record {
+  front = record {
+    front = hex "0801";
+    spelled = (0x08 ∷ [], 0x01 ∷ [], [], record { from_one = lit< tt; below = lit< tt; varint = one_byte 8 (lit< tt) }, one_byte 1 (lit< tt), refl, refl);
+    parts = refl;
+  };
+  within = lit≤ tt;
+}
+
+pub of_fields : OfFields
+of_fields = record {
+  one_field = ((lit< tt, (lit< tt, (lit< tt, tt))), front);
+  field_again = field_again 0 first_field (hex "080142") (hex "42") (lit< tt, (lit< tt, (lit< tt, tt))) front (hex "ff");
+  value_unless_fault = (lit≤ tt, lit< tt, (lit< tt, tt));
+}

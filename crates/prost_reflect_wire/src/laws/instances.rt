@@ -1,0 +1,25 @@
+//! The laws are not empty, and their neighbours do not hold.
+
+ghost use Rattle.prost_reflect_wire.specs.Examples.Instances.{OfReading, OfMeaning, OfContents, OfWriting, OfFaults};
+ghost use Rattle.prost_reflect_wire.specs.Examples.ReadBack.{OfReadingBack};
+ghost use Rattle.prost_reflect_wire.specs.Examples.PremisesOfPassage.{OfPassages, OfFields};
+ghost use Rattle.prost_reflect_wire.specs.Examples.NearbyFalse.{NotOfReading, NotOfMeaning, NotOfWriting};
+
+/// The premises of each law hold at a worked example.
+pub fn worked_instances()
+    ensures reading { OfReading }
+    ensures meaning { OfMeaning }
+    ensures contents { OfContents }
+    ensures writing { OfWriting }
+    ensures faults { OfFaults }
+    ensures reading_back { OfReadingBack }
+    ensures passages { OfPassages }
+    ensures fields { OfFields }
+{}
+
+/// Statements near the laws are refuted by worked examples.
+pub fn nearby_false()
+    ensures reading { NotOfReading }
+    ensures meaning { NotOfMeaning }
+    ensures writing { NotOfWriting }
+{}
