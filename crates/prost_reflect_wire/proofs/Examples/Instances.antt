@@ -1,5 +1,5 @@
 -- The premises of the laws at worked examples, and what the laws then say.
-use Rattle.std.proofs.Common.{◌≤◌, ◌<◌, false, [], ◌∷◌, length, Some, None, refl, sym, ap, arith, lit<, lit≤}
+use Rattle.std.proofs.Common.{false, [], ◌∷◌, Some, None, refl, sym, ap, arith, lit<, lit≤}
 use Rattle.std.specs.Str.{is_utf8, chars}
 use Rattle.std.specs.Char.{encode_utf8}
 use Rattle.prost_reflect_wire.specs.Varint.{AreBytes, short}

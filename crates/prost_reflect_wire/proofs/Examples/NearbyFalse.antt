@@ -1,5 +1,5 @@
 -- The statements near the laws are refuted.
-use Rattle.std.proofs.Common.{ℕ, zero, suc, lit<, true, false, List, ◌∷◌, length, refl, sym, ap, arith, true≢false}
+use Rattle.std.proofs.Common.{ℕ, zero, suc, lit<, List, ◌∷◌, length, refl, sym, ap, arith, true≢false}
 use Rattle.std.specs.Str.{is_utf8, chars}
 use Rattle.std.specs.Char.{encode_utf8}
 use Rattle.std.specs.Option.{is_some}
