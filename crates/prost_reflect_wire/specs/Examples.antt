@@ -18,3 +18,6 @@ pub mod Instances
 pub mod ReadBack
 pub mod PremisesOfPassage
 pub mod NearbyFalse
+pub mod NearbyReading
+pub mod NearbyTyping
+pub mod NearbyBack

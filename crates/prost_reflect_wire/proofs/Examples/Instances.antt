@@ -28,11 +28,11 @@ use Rattle.prost_reflect_wire.proofs.Examples.Faults.{faults}
 needless_bytes : AreBytes needless
 needless_bytes = (lit< tt, (lit< tt, (lit< tt, tt)))
 
-sample_typed : WellTyped sample
+pub sample_typed : WellTyped sample
 unfolding short read unpacked allows meaning steps is_utf8 chars encode_utf8
 sample_typed = record { fitting = record { fits = refl; types = (tt, (tt, (((refl, refl), (tt, tt)), tt))); order = refl; nonempty = refl }; members = refl; without_stored_defaults = refl }
 
-sample_low : Low 1 sample
+pub sample_low : Low 1 sample
 sample_low = record { typed = sample_typed; low = lit≤ tt }
 
 sample_writable : Writable sample
@@ -43,7 +43,7 @@ front_taken : Taken 1 front
 unfolding short read unpacked allows meaning steps is_utf8 chars encode_utf8
 front_taken = record { checked = refl; valid = refl; allowed = refl }
 
-behind_taken : Taken 1 behind
+pub behind_taken : Taken 1 behind
 unfolding short read unpacked allows meaning steps is_utf8 chars encode_utf8
 behind_taken = record { checked = refl; valid = refl; allowed = refl }
 
@@ -58,7 +58,7 @@ apart = record {
   right = λ f e. sym (ap (λ o. elim o [ None ↦ false | Some g ↦ is_sibling (known examples two_choices) g 1 ]) e);
 }
 
-stored_well : WellStored stores_defaults
+pub stored_well : WellStored stores_defaults
 unfolding short read unpacked allows meaning steps is_utf8 chars encode_utf8
 stored_well = record { fits = refl; types = (tt, (((refl, refl), (tt, tt)), tt)); order = refl; members = refl }
 

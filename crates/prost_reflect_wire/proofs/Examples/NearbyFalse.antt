@@ -13,17 +13,7 @@ use Rattle.prost_reflect_wire.specs.Typing.{Typed}
 use Rattle.prost_reflect_wire.specs.Laws.{Writable}
 use Rattle.prost_reflect_wire.specs.Examples.Schemas.{my_message}
 use Rattle.prost_reflect_wire.specs.Examples.Words.{content}
-use Rattle.prost_reflect_wire.specs.Examples.NearbyFalse.{deep, NotOfReading, NotOfMeaning, NotOfWriting}
-
-pub not_of_reading : NotOfReading
-unfolding short read unpacked allows meaning steps is_utf8 chars encode_utf8
-not_of_reading = record {
-  one_spelling = refl;
-  others = λ e. absurd (omega (arith, ap length e));
-  levels_of_bytes = refl;
-  levels_meant = refl;
-  levels_needed = refl;
-}
+use Rattle.prost_reflect_wire.specs.Examples.NearbyFalse.{deep, NotOfMeaning, NotOfWriting}
 
 pub not_of_meaning : NotOfMeaning
 unfolding short read unpacked allows meaning steps is_utf8 chars encode_utf8
@@ -48,7 +38,7 @@ deep_typed : (k : ℕ) → Typed (content my_message (deep k))
 deep_typed zero = tt
 deep_typed (suc k) = (((refl, refl), deep_typed k), tt)
 
-deep_writable : Writable (content my_message (deep 101))
+pub deep_writable : Writable (content my_message (deep 101))
 unfolding short read unpacked allows meaning steps is_utf8 chars encode_utf8
 deep_writable = record { checked = refl; typed = record { fitting = record { fits = refl; types = deep_typed 101; order = refl; nonempty = refl }; members = refl; without_stored_defaults = refl }; length = lit< tt }
 
@@ -61,6 +51,11 @@ not_of_writing = record {
   member_lost = refl;
   list_written = refl;
   list_stored = λ e. true≢false (ap (λ c. is_some (value_at 1 (entries_of c))) e);
+  zero_spelled = (refl, record { fitting = record { fits = refl; types = (tt, tt); order = refl; nonempty = refl }; members = refl; without_stored_defaults = refl }, λ s. absurd (omega (arith, (s.3).from_one)));
+  zero_refused = (refl, refl);
+  text_refused = (refl, refl);
+  member_merged = λ e. true≢false (ap (λ c. is_some (value_at 1 (entries_of c))) e);
+  bytes_again = (refl, λ e. absurd (omega (arith, ap length e)));
   value_written = refl;
   value_stored = λ e. true≢false (ap (λ c. is_some (value_at 9 (entries_of c))) e);
   type_written = refl;

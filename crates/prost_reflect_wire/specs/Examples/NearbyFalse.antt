@@ -1,16 +1,16 @@
--- Statements near the laws that do not hold, each refuted by a worked example: a law without one of its premises, its converse, or its neighbour.
-use Rattle.std.specs.Prelude.{◌≡◌, ℕ, zero, suc, false, List, [], ◌∷◌, Some}
-use Rattle.prost_reflect_wire.specs.Record.{Record, record_at, read}
-use Rattle.prost_reflect_wire.specs.Schema.{known}
-use Rattle.prost_reflect_wire.specs.Content.{Content, Entries, NoEntries, Stored, MapValue, NoPairs, Pair}
+-- Statements near the laws on meaning and on writing that do not hold, each refuted by a worked example: a law without one of its premises, its converse, or its neighbour.
+use Rattle.std.specs.Prelude.{◌≡◌, ℕ, zero, suc, true, false, List, [], ◌∷◌, ◌++◌, Some}
+use Rattle.prost_reflect_wire.specs.Record.{Record, record_at, body_of, Spells}
+use Rattle.prost_reflect_wire.specs.Schema.{Schema, Singular, known, schema_valid}
+use Rattle.prost_reflect_wire.specs.Content.{Content, ContentOf, Entries, NoEntries, Stored, ScalarValue}
 use Rattle.prost_reflect_wire.specs.Grammar.{LEVEL_LIMIT, accepts, allows}
 use Rattle.prost_reflect_wire.specs.Meaning.{meaning, decoded}
-use Rattle.prost_reflect_wire.specs.Writing.{encoded}
+use Rattle.prost_reflect_wire.specs.Writing.{records, encoded}
 use Rattle.prost_reflect_wire.specs.Levels.{levels}
-use Rattle.prost_reflect_wire.specs.Typing.{kept}
+use Rattle.prost_reflect_wire.specs.Typing.{WellTyped, kept}
 use Rattle.prost_reflect_wire.specs.Edit.{merged}
 use Rattle.prost_reflect_wire.specs.Laws.{Apart, Writable}
-use Rattle.prost_reflect_wire.specs.Examples.Schemas.{examples, my_message, packed_list, maps, choice, plain_a}
+use Rattle.prost_reflect_wire.specs.Examples.Schemas.{examples, message, field, int32, my_message, packed_list, choice, plain_a}
 use Rattle.prost_reflect_wire.specs.Examples.Words.{hex, content, int, ascii, inner, list_of, varint, delimited}
 use Rattle.prost_reflect_wire.specs.Examples.Instances.{front, behind, two_members, needless}
 
@@ -36,17 +36,18 @@ choice_meaning rs = meaning examples 1 choice rs
 abbrev pub message_meaning : List Record → Content
 message_meaning rs = meaning examples 0 my_message rs
 
-pub record NotOfReading : Type 0 where
-  -- One list of records has more spellings than one.
-  pub one_spelling : read needless ≡ read (hex "0801")
-  -- These are others.
-  pub others : needless ≡ hex "0801" → ⊥
-  -- What bytes mean may have fewer levels than the bytes need: a group is skipped in an entry.
-  pub levels_of_bytes : decoded examples 1 maps (hex "0a025354") ≡ Some (content maps (Stored 1 (MapValue (Pair (ascii "") (int 0) NoPairs)) NoEntries))
-  -- Of no level,
-  pub levels_meant : levels (content maps (Stored 1 (MapValue (Pair (ascii "") (int 0) NoPairs)) NoEntries)) ≡ 0
-  -- and still refused without one.
-  pub levels_needed : accepts examples 0 maps (hex "0a025354") ≡ false
+-- A type with a field of number 0, which no check passes, and a content of it.
+abbrev pub zero_field : Schema
+zero_field = message (field 0 Singular (int32 true) ∷ []) ∷ []
+
+abbrev pub zero_content : Content
+zero_content = ContentOf zero_field 0 (Stored 0 (int 1) NoEntries)
+
+abbrev pub text_in_number : Content
+text_in_number = content my_message (Stored 1 (ScalarValue (ascii "5")) NoEntries)
+
+abbrev pub one_content : Content
+one_content = content my_message (Stored 1 (int 1) NoEntries)
 
 pub record NotOfMeaning : Type 0 where
   -- Records of members of one oneof do not commute,
@@ -81,6 +82,16 @@ pub record NotOfWriting : Type 0 where
   pub list_written : encoded (content packed_list (Stored 1 (list_of []) NoEntries)) ≡ encoded (content packed_list NoEntries)
   -- and is another content.
   pub list_stored : content packed_list (Stored 1 (list_of []) NoEntries) ≡ content packed_list NoEntries → ⊥
+  -- Of a type that no check passes the bytes of a well-typed content do not spell its records,
+  pub zero_spelled : (schema_valid zero_field ≡ false) × WellTyped zero_content × (Spells (body_of (records zero_content)) (encoded zero_content) → ⊥)
+  -- and are not accepted within its levels.
+  pub zero_refused : (levels zero_content ≡ 0) × (accepts zero_field 0 0 (encoded zero_content) ≡ false)
+  -- The records of a content that does not fit are not allowed within its levels.
+  pub text_refused : (levels text_in_number ≡ 0) × (allows examples 0 my_message (records text_in_number) ≡ false)
+  -- Records merged into two members of a oneof do not mean what they mean behind the records of the two.
+  pub member_merged : merged two_members [] ≡ meaning examples LEVEL_LIMIT choice (records two_members ++ []) → ⊥
+  -- What is written of what was read is not always what was read; only what is written of that is.
+  pub bytes_again : (decoded examples 0 my_message needless ≡ Some one_content) × (encoded one_content ≡ needless → ⊥)
   -- A value at a number that is not known is not written.
   pub value_written : encoded (content my_message (Stored 9 (int 1) NoEntries)) ≡ encoded (content my_message NoEntries)
   -- It is another content.

@@ -3,7 +3,10 @@
 ghost use Rattle.prost_reflect_wire.specs.Examples.Instances.{OfReading, OfMeaning, OfContents, OfWriting, OfFaults};
 ghost use Rattle.prost_reflect_wire.specs.Examples.ReadBack.{OfReadingBack};
 ghost use Rattle.prost_reflect_wire.specs.Examples.PremisesOfPassage.{OfPassages, OfFields};
-ghost use Rattle.prost_reflect_wire.specs.Examples.NearbyFalse.{NotOfReading, NotOfMeaning, NotOfWriting};
+ghost use Rattle.prost_reflect_wire.specs.Examples.NearbyFalse.{NotOfMeaning, NotOfWriting};
+ghost use Rattle.prost_reflect_wire.specs.Examples.NearbyReading.{NotOfRecords, NotOfScalars};
+ghost use Rattle.prost_reflect_wire.specs.Examples.NearbyTyping.{NotOfTyping, NotOfContents};
+ghost use Rattle.prost_reflect_wire.specs.Examples.NearbyBack.{NotOfReadingBack};
 
 /// The premises of each law hold at a worked example.
 pub fn worked_instances()
@@ -19,7 +22,11 @@ pub fn worked_instances()
 
 /// Statements near the laws are refuted by worked examples.
 pub fn nearby_false()
-    ensures reading { NotOfReading }
+    ensures records { NotOfRecords }
+    ensures scalars { NotOfScalars }
     ensures meaning { NotOfMeaning }
+    ensures typing { NotOfTyping }
+    ensures contents { NotOfContents }
     ensures writing { NotOfWriting }
+    ensures reading_back { NotOfReadingBack }
 {}
