@@ -13,3 +13,5 @@ pub mod NearbyFalse
 pub mod NearbyReading
 pub mod NearbyTyping
 pub mod NearbyBack
+pub mod NearbyFaults
+pub mod NearbyPassage

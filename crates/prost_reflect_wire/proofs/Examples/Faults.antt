@@ -15,10 +15,10 @@ use Rattle.prost_reflect_wire.specs.declared.error.DecodeError.TheVariants as er
 use Rattle.prost_reflect_wire.specs.declared.key.WireType.{WireType}
 use Rattle.prost_reflect_wire.specs.declared.key.WireType.TheVariants as wires
 
-one_byte : (v : ℕ) → v < 128 → Varint v (v ∷ [])
+pub one_byte : (v : ℕ) → v < 128 → Varint v (v ∷ [])
 one_byte v h = record { below = omega (arith, h); digits = h; few = omega arith; means = omega (arith, h) }
 
-key : (n : ℕ) (w : WireType) (rest : List ℕ) → 0 < n → 8 * n + wire_code w < 128 → KeyFront n w ((8 * n + wire_code w) ∷ rest) rest
+pub key : (n : ℕ) (w : WireType) (rest : List ℕ) → 0 < n → 8 * n + wire_code w < 128 → KeyFront n w ((8 * n + wire_code w) ∷ rest) rest
 key n w rest from h = record { front = (8 * n + wire_code w) ∷ []; key = record { from_one = from; below = omega (arith, h); varint = one_byte (8 * n + wire_code w) h }; parts = refl }
 
 none_some : {n : ℕ} → ◌≡◌ {A = Option ℕ} None (Some n) → ⊥
@@ -27,7 +27,7 @@ none_some e = true≢false (ap (λ o. elim o [ None ↦ true | Some x ↦ false 
 one_two : ◌≡◌ {A = Option ℕ} (Some 1) (Some 2) → ⊥
 one_two e = let k : ◌≡◌ {A = ℕ} 1 2 = ap (λ (o : Option ℕ). elim o [ None ↦ 1 | Some x ↦ x ]) e in omega (arith, k)
 
-no_zero : (n : ℕ) (w : WireType) → 0 < n → n < 2 ^ 29 → 0 ≢ 8 * n + wire_code w
+pub no_zero : (n : ℕ) (w : WireType) → 0 < n → n < 2 ^ 29 → 0 ≢ 8 * n + wire_code w
 no_zero n w a b e = omega (arith, a, e)
 
 no_six : (n : ℕ) (w : WireType) → 0 < n → n < 2 ^ 29 → 14 ≢ 8 * n + wire_code w
@@ -39,7 +39,7 @@ no_six n wires.EndGroup a b e = omega (arith, e)
 no_six n wires.ThirtyTwoBit a b e = omega (arith, e)
 
 -- the record of number 1 with the varint 1
-first_one : (rest : List ℕ) → RecordFront (record { number = 1; payload = Flat (Var 1) }) (0x08 ∷ 0x01 ∷ rest) rest
+pub first_one : (rest : List ℕ) → RecordFront (record { number = 1; payload = Flat (Var 1) }) (0x08 ∷ 0x01 ∷ rest) rest
 first_one rest = record {
   front = 0x08 ∷ 0x01 ∷ [];
   spelled = (0x08 ∷ [], 0x01 ∷ [], [], record { from_one = lit< tt; below = lit< tt; varint = one_byte 8 (lit< tt) }, one_byte 1 (lit< tt), refl, refl);

@@ -17,7 +17,7 @@ use Rattle.prost_reflect_wire.specs.Typing.{ValueStored}
 use Rattle.prost_reflect_wire.specs.Reducing.{refined_times}
 use Rattle.prost_reflect_wire.specs.Reduction.{TypePairs, types_match, Reduced}
 use Rattle.prost_reflect_wire.specs.ReducingExamples.{whole, less, other}
-use Rattle.prost_reflect_wire.specs.Examples.Schemas.{examples, field, member, int32, message_value_type, my_message, older_message, maps, maps_without_m, extended, field_at_hundred, no_fields, closed, closed_alone, open_alone}
+use Rattle.prost_reflect_wire.specs.Examples.Schemas.{examples, field, member, int32, message_value_type, my_message, older_message, maps, maps_without_m, choice, extended, extended_choice, field_at_hundred, no_fields, closed, closed_alone, open_alone}
 use Rattle.prost_reflect_wire.specs.Examples.Words.{int, hex, content, Means, Writes, Sets}
 use Rattle.prost_reflect_wire.specs.Examples.Passages.{AcceptedBy, Relays, Passes, Fails, PassesEdit, Passages, EditPassages, Tested, FailedPassages, ExtensionAgainstField}
 use Rattle.prost_reflect_wire.proofs.Accepted.{accepts_is_test}
@@ -38,7 +38,7 @@ bytes_from (b ∷ bytes) h = let both : (nat_lt b 256 ≡ true) × (are_bytes by
 
 -- BY THE LAWS
 
-accepted_by : (T : ℕ) (bytes : String) → IsTrue (are_bytes (hex bytes)) → IsTrue (accepts examples LEVEL_LIMIT T (hex bytes)) → AcceptedBy T bytes
+pub accepted_by : (T : ℕ) (bytes : String) → IsTrue (are_bytes (hex bytes)) → IsTrue (accepts examples LEVEL_LIMIT T (hex bytes)) → AcceptedBy T bytes
 accepted_by T bytes small h = (accepts_is_test examples LEVEL_LIMIT T (hex bytes) (bytes_from (hex bytes) small)).1 h
 
 relays : (A B : ℕ) (bytes : String) (es : Entries) (again : String) → IsTrue (are_bytes (hex bytes)) → IsTrue (accepts examples LEVEL_LIMIT B (hex bytes)) → Means A bytes es → Writes A es again → length (hex again) < 2 ^ 64 → Relays A B bytes es again
@@ -80,7 +80,7 @@ passes_edit A B bytes path v again small reduced level to plain h sets short =
 
 -- AGAINST THE LAWS
 
-unmatched : (A B : ℕ) → ((pairs : TypePairs) → types_match pairs (message_type examples A) (message_type examples B) ≡ false) → Reduced examples A examples B → ⊥
+pub unmatched : (A B : ℕ) → ((pairs : TypePairs) → types_match pairs (message_type examples A) (message_type examples B) ≡ false) → Reduced examples A examples B → ⊥
 unmatched A B h r = true≢false (sym (pair_matches r.pairs r.pairs examples examples A B r.first r.each) ∙ h r.pairs)
 
 -- whether the value at number 1 is this one
@@ -135,7 +135,7 @@ stored_seven = record { valid = refl; fits = refl; types = tt; order = refl; mem
 path_top : PathTo examples older_message (2 ∷ []) (int 7)
 path_top = (member 2 (int32 true), refl, stored_seven)
 
-path_inside : PathTo examples older_message (3 ∷ 2 ∷ []) (int 7)
+pub path_inside : PathTo examples older_message (3 ∷ 2 ∷ []) (int 7)
 path_inside = (field 3 Singular (message_value_type (MessageOf older_message)), refl, refl, (older_message, refl, path_top))
 
 pub edit_passages : EditPassages
@@ -158,6 +158,7 @@ unfolding short read unpacked allows meaning steps is_utf8 chars encode_utf8
 failed_passages = record {
   members = fails _ _ _ _ _ _ _ (I32 (pos 1)) (relays _ _ _ _ _ refl refl refl refl (lit< tt)) no_reductions.added_members refl refl refl refl;
   member = fails _ _ _ _ _ _ _ (I32 (pos 6)) (relays _ _ _ _ _ refl refl refl refl (lit< tt)) no_reductions.member_left_out refl refl refl refl;
+  extensions = fails _ _ _ _ _ _ _ (I32 (pos 1)) (relays _ _ _ _ _ refl refl refl refl (lit< tt)) (unmatched extended_choice choice (λ pairs. refl)) refl refl refl refl;
   numbers = fails _ _ _ _ _ _ _ (EnumNumber (pos 0)) (relays _ _ _ _ _ refl refl refl refl (lit< tt)) no_reductions.enum_numbers refl refl refl refl;
   closed_to_newer = fails _ _ _ _ _ _ _ (EnumNumber (pos 1)) (relays _ _ _ _ _ refl refl refl refl (lit< tt)) no_reductions.enum_open refl refl refl refl;
   closed_to_older = fails _ _ _ _ _ _ _ (EnumNumber (pos 1)) (relays _ _ _ _ _ refl refl refl refl (lit< tt)) (unmatched closed_alone open_alone (λ pairs. refl)) refl refl refl refl;
@@ -169,4 +170,6 @@ extension_against_field = record {
   unreduced = unmatched extended field_at_hundred (λ pairs. refl);
   relays = relays _ _ _ _ _ refl refl refl refl (lit< tt);
   passes_on = (accepted_by field_at_hundred "a00605" refl refl, refl);
+  sets = ((_, refl, record { valid = refl; fits = refl; types = tt; order = refl; members = refl }), refl);
+  set_behind = (accepted_by field_at_hundred "a00607" refl refl, refl);
 }

@@ -25,7 +25,7 @@ pub record NotOfFaults : Type 0 where
   -- More than one fault may stand: a wire type, and behind it number 0.
   pub one_fault : StandsInMessage examples my_message 0 errors.WireType (hex "180000") × StandsInMessage examples my_message 0 errors.Key (hex "180000")
   -- Each error but want of memory stands in some bytes.
-  pub never_stands : (e : DecodeError) → e ≢ errors.OutOfMemory → (T : ℕ) × ((bytes : List ℕ) × StandsInMessage examples T 100 e bytes)
+  pub never_stands : (e : DecodeError) → e ≢ errors.OutOfMemory → (T : ℕ) × ((k : ℕ) × ((bytes : List ℕ) × StandsInMessage examples T k e bytes))
   -- Bytes that are not accepted are refused for what stands in them, too.
   pub only_memory : (errors.Truncated ≢ errors.OutOfMemory → StandsInMessage examples my_message 100 errors.Truncated (hex "0896")) × (errors.Truncated ≢ errors.OutOfMemory)
 

@@ -11,7 +11,7 @@ use Rattle.prost_reflect_wire.specs.Writing.{encoded}
 use Rattle.prost_reflect_wire.specs.Edit.{set_at, PathTo, holds_message}
 use Rattle.prost_reflect_wire.specs.Reduction.{Reduced}
 use Rattle.prost_reflect_wire.specs.ReducingExamples.{whole, less, other}
-use Rattle.prost_reflect_wire.specs.Examples.Schemas.{examples, my_message, older_message, unpacked_list, packed_list, maps, maps_without_m, choice, extended, field_at_hundred, no_fields, closed, older_closed, closed_alone, open_alone, two_choices, choices_without_a}
+use Rattle.prost_reflect_wire.specs.Examples.Schemas.{examples, my_message, older_message, unpacked_list, packed_list, maps, maps_without_m, choice, extended, extended_choice, field_at_hundred, no_fields, closed, older_closed, closed_alone, open_alone, two_choices, choices_without_a}
 use Rattle.prost_reflect_wire.specs.Examples.Words.{content, int, enum, inner, list_of, varint, delimited, hex, Means, Writes, Sets}
 
 -- WHAT THE LAWS ASK AND SAY
@@ -94,6 +94,8 @@ pub record FailedPassages : Type 0 where
   pub members : Fails no_fields choice "1200 0801" (Unknown 1 (varint 1) (Unknown 2 (delimited "") NoEntries)) "08011200" (Stored 1 (int 1) NoEntries) (Stored 2 (inner my_message NoEntries) NoEntries)
   -- One member is added to a oneof: the last one was a, and is b.
   pub member : Fails choices_without_a two_choices "1005 0806" (Unknown 1 (varint 6) (Stored 2 (int 5) NoEntries)) "08061005" (Stored 1 (int 6) NoEntries) (Stored 2 (int 5) NoEntries)
+  -- The members of a oneof are extensions to the older type, and extensions are in no oneof: the last one was a, and is b.
+  pub extensions : Fails extended_choice choice "1200 0801" (Stored 1 (int 1) (Stored 2 (inner my_message NoEntries) NoEntries)) "08011200" (Stored 1 (int 1) NoEntries) (Stored 2 (inner my_message NoEntries) NoEntries)
   -- An enum declares fewer numbers to the older type: the last one was A, and is B.
   pub numbers : Fails older_closed closed "0801 0800" (Stored 1 (enum 0) (Unknown 1 (varint 1) NoEntries)) "08000801" (Stored 1 (enum 0) NoEntries) (Stored 1 (enum 1) NoEntries)
   -- An enum is closed to the newer type alone: B is lost.
@@ -101,8 +103,15 @@ pub record FailedPassages : Type 0 where
   -- An enum is closed to the older type alone: the last one was B, and is 7.
   pub closed_to_older : Fails closed_alone open_alone "0807 0801" (Stored 1 (enum 1) (Unknown 1 (varint 7) NoEntries)) "08010807" (Stored 1 (enum 1) NoEntries) (Stored 1 (enum 7) NoEntries)
 
--- A field of the newer type that is an extension to the older one: their bytes are the same, so that they pass on, and it is the types that are not each other's.
+abbrev pub to_hundred : List ℕ
+to_hundred = 100 ∷ []
+
+-- A field in no oneof that is an extension to the older type. Reading, writing and setting make no difference between the two, so that bytes pass on; it is the types that are not each other's.
 pub record ExtensionAgainstField : Type 0 where
   pub unreduced : Reduced examples extended examples field_at_hundred → ⊥
   pub relays : Relays extended field_at_hundred "a00601 a00605" (Stored 100 (int 5) NoEntries) "a00605"
   pub passes_on : PassesOn field_at_hundred "a00601 a00605" "a00605"
+  -- A value is set through the older type,
+  pub sets : PathTo examples extended to_hundred (int 7) × Sets extended "a00601 a00605" to_hundred (int 7) "a00607"
+  -- and there in what the newer one reads.
+  pub set_behind : AcceptedBy field_at_hundred "a00607" × (decoded examples LEVEL_LIMIT field_at_hundred (hex "a00607") ≡ (decoded examples LEVEL_LIMIT field_at_hundred (hex "a00601 a00605") >>= λ d. Some (set_at to_hundred (int 7) d)))

@@ -180,6 +180,10 @@ message_list = 34
 abbrev pub lists : ℕ
 lists = 35
 
+-- proto2: { extensions 1 to 2; } with extend { optional int32 a = 1; optional MyMessage b = 2; }
+abbrev pub extended_choice : ℕ
+extended_choice = 36
+
 abbrev closed_fields : ValueType → List Field
 closed_fields e =
     field 1 Singular e ∷ list 2 true e ∷ field 3 (MapFrom (text true)) e ∷ member 4 e ∷ member 5 (int32 true)
@@ -226,6 +230,7 @@ examples =
     ∷ message (field 1 Singular (message_value_type (MessageOf my_message)) ∷ [])
     ∷ message (list 1 false (message_value_type (MessageOf my_message)) ∷ [])
     ∷ message (list 1 false (text false) ∷ list 2 true (scalar_value_type Sint64 false) ∷ list 3 true (scalar_value_type Fixed32 false) ∷ [])
+    ∷ message (extension 1 Singular (int32 true) ∷ extension 2 Singular (message_value_type (MessageOf my_message)) ∷ [])
     ∷ []
 
 -- { repeated int32 values = 1; } of another schema, at the place that MyMessage has in the first.

@@ -7,6 +7,8 @@ ghost use Rattle.prost_reflect_wire.specs.Examples.NearbyFalse.{NotOfMeaning, No
 ghost use Rattle.prost_reflect_wire.specs.Examples.NearbyReading.{NotOfRecords, NotOfScalars};
 ghost use Rattle.prost_reflect_wire.specs.Examples.NearbyTyping.{NotOfTyping, NotOfContents};
 ghost use Rattle.prost_reflect_wire.specs.Examples.NearbyBack.{NotOfReadingBack};
+ghost use Rattle.prost_reflect_wire.specs.Examples.NearbyFaults.{NotOfFaults, NotOfFields};
+ghost use Rattle.prost_reflect_wire.specs.Examples.NearbyPassage.{NotOfPassages};
 
 /// The premises of each law hold at a worked example.
 pub fn worked_instances()
@@ -29,4 +31,7 @@ pub fn nearby_false()
     ensures contents { NotOfContents }
     ensures writing { NotOfWriting }
     ensures reading_back { NotOfReadingBack }
+    ensures faults { NotOfFaults }
+    ensures fields { NotOfFields }
+    ensures passages { NotOfPassages }
 {}
