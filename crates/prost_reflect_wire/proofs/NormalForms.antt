@@ -45,13 +45,17 @@ unfolding meaning
 meaning_type schema zero T rs = refl
 meaning_type schema (suc k) T rs = refl
 
+pub decoded_well : (schema : Schema) (k T : ℕ) (bytes : List ℕ) (c : Content) → AreBytes bytes → schema_valid schema ≡ true → decoded schema k T bytes ≡ Some c → WellTyped c × (levels c ≤ k)
+decoded_well schema k T bytes c small h e =
+    let d : DecodedFrom schema k T bytes c = decoded_from schema k T bytes c small e in
+    (subst WellTyped d.means (meaning_typed schema k T (items d.records) h d.spelled d.allowed), subst (λ (x : Content). levels x ≤ k) d.means (meaning_levels schema k T (items d.records) h d.spelled d.allowed))
+
 pub normal_form : (schema : Schema) (k T : ℕ) (bytes : List ℕ) (c : Content) → AreBytes bytes → schema_valid schema ≡ true → decoded schema k T bytes ≡ Some c → length (encoded c) < 2 ^ 64 → decoded schema k T (encoded c) ≡ Some c
 normal_form schema k T bytes c small h e l =
     let d : DecodedFrom schema k T bytes c = decoded_from schema k T bytes c small e in
     let same : schema_of c ≡ schema = ap schema_of (sym d.means) ∙ meaning_schema schema k T (items d.records) in
     let type : type_of c ≡ T = ap type_of (sym d.means) ∙ meaning_type schema k T (items d.records) in
-    let typed : WellTyped c = subst WellTyped d.means (meaning_typed schema k T (items d.records) h d.spelled d.allowed) in
-    let low : levels c ≤ k = subst (λ (x : Content). levels x ≤ k) d.means (meaning_levels schema k T (items d.records) h d.spelled d.allowed) in
+    let (typed, low) = decoded_well schema k T bytes c small h e in
     ap₂ (λ s t. decoded s k t (encoded c)) (sym same) (sym type)
     ∙ written_decoded k c (record { checked = ap schema_valid same ∙ h; typed = typed; length = l }) low
 

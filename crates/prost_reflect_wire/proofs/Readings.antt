@@ -49,10 +49,11 @@ read_nothing k c bytes = record {
   means = sym (steps_level k (kept c) []);
 }
 
--- one step behind another
-pub steps_behind : (k : ℕ) (c d : Content) (rs : List Record) (r : Record) → d ≡ steps k c rs → schema_of d ≡ schema_of c → steps k c (rs ++ (r ∷ [])) ≡ steps k d (r ∷ [])
-steps_behind k c d rs r is same =
-    steps_one k c rs r ∙ ap₂ (λ schema x. step_by (below schema k) (further k) x r) (sym same) (sym is) ∙ sym (steps_level k d (r ∷ []))
+-- steps behind others
+pub steps_behind : (k : ℕ) (c d : Content) (rs qs : List Record) → d ≡ steps k c rs → schema_of d ≡ schema_of c → steps k c (rs ++ qs) ≡ steps k d qs
+steps_behind k c d rs qs is same =
+    steps_level k c (rs ++ qs) ∙ steps_append (below (schema_of c) k) (further k) c rs qs
+    ∙ ap₂ (λ schema x. steps_by (below schema k) (further k) x qs) (sym same) (sym (is ∙ steps_level k c rs)) ∙ sym (steps_level k d qs)
 
 -- one record more
 pub read_record : (k n : ℕ) (w : WireType) (old mid new : Content) (bytes rest after end : List ℕ) → ReadTo k old mid bytes rest → KeyFront n w rest after → RecordRead k n w mid new after end →
@@ -63,7 +64,7 @@ read_record k n w old mid new bytes rest after end done key next schema type = r
       (record_front n next.payload rest after end (subst (λ v. KeyFront n v rest after) (sym value.wire) key) value.front);
   allowed = allows_append (schema_of old) k (type_of old) done.records (r ∷ []) done.allowed
       (ap₂ (λ s T. allows s k T (r ∷ [])) (sym schema) (sym type) ∙ next.allowed);
-  means = next.means ∙ sym (steps_behind k (kept old) (kept mid) done.records r done.means (kept_schema mid ∙ schema ∙ sym (kept_schema old)));
+  means = next.means ∙ sym (steps_behind k (kept old) (kept mid) done.records (r ∷ []) done.means (kept_schema mid ∙ schema ∙ sym (kept_schema old)));
 }
   where
     r : Record

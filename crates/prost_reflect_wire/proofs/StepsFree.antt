@@ -11,7 +11,7 @@ use Rattle.prost_reflect_wire.specs.Grammar.{LEVEL_LIMIT, AllowsInside, body, re
 use Rattle.prost_reflect_wire.specs.Meaning.{MeansInside, JoinsInside, present_list, present_map, put, entry_key, content_in, values_in, pairs_in, one_joined, value_joined, value_step, value_steps, value_behind, slot_step, steps_by, empty_inside, joins_nothing, meaning, steps}
 use Rattle.prost_reflect_wire.specs.Levels.{levels}
 use Rattle.prost_reflect_wire.specs.Edit.{merged}
-use Rattle.prost_reflect_wire.specs.Laws.{block}
+use Rattle.prost_reflect_wire.specs.Laws.{block, StaysWell}
 use Rattle.prost_reflect_wire.specs.Typing.{is_of_type, WellTyped}
 use Rattle.prost_reflect_wire.proofs.Deeper.{and_both, passes_in, message_in, numbered_two, Agrees, element_agree, value_agree, source_allowed, allows_append, levels_free}
 use Rattle.prost_reflect_wire.proofs.Checked.{known_valid, known_differ}
@@ -24,7 +24,8 @@ use Rattle.prost_reflect_wire.proofs.Readable.{number_spelled, inside_spelled}
 use Rattle.prost_reflect_wire.proofs.Slots.{well_good, GoodContent, GoodEntries, GoodSlots, slots_good}
 use Rattle.prost_reflect_wire.proofs.GoodValues.{Inside, GoodInside, FieldGiven, NoStray, content_good}
 use Rattle.prost_reflect_wire.proofs.GoodSteps.{source_good, given, one_behind, sources_good, entries_step, no_level, one_level, steps_good, meaning_good}
-use Rattle.prost_reflect_wire.proofs.NormalForms.{meaning_schema, meaning_type}
+use Rattle.prost_reflect_wire.proofs.NormalForms.{meaning_schema, meaning_type, merged_well}
+use Rattle.prost_reflect_wire.proofs.Readings.{steps_behind}
 
 -- what is read and joined one level down is the same for two
 pub record SameInside (schema : Schema) (k : ℕ) (allow : AllowsInside) (inner : MeansInside) (further : JoinsInside) (outer : MeansInside) (beyond : JoinsInside) : Type 0 where
@@ -184,3 +185,14 @@ pieces schema k m T front behind h v a v' a' l l' =
     steps_within j m (meaning schema k T front) behind (ap schema_valid (meaning_schema schema k T front) ∙ h) (record { deep = g.deep; types = g.types; order = g.order; low = omega arith }) v'
     (ap₂ (λ s t. allows s j t behind) (meaning_schema schema k T front) (meaning_type schema k T front) ∙ allowed_within schema LEVEL_LIMIT j T behind a' (omega arith)) (omega arith)
     ∙ pieces_join schema k m T front behind a l
+
+pub merges_join : (c : Content) (front behind : List Record) → schema_valid (schema_of c) ≡ true → WellTyped c → valid (body_of front) ≡ true → allows (schema_of c) LEVEL_LIMIT (type_of c) front ≡ true →
+    valid (body_of behind) ≡ true → allows (schema_of c) LEVEL_LIMIT (type_of c) behind ≡ true → merged (merged c front) behind ≡ merged c (front ++ behind)
+merges_join c front behind h w v a v' a' =
+    let d : Content = merged c front in
+    let s : StaysWell (max (levels c) LEVEL_LIMIT) c (merged c front) = merged_well c front h w v a in
+    let low : levels (merged c front) ≤ max (levels c) LEVEL_LIMIT = s.low in
+    let j : ℕ = max (levels (merged c front)) LEVEL_LIMIT in
+    steps_levels j (max (levels c) LEVEL_LIMIT) (merged c front) behind (ap schema_valid s.schema_same ∙ h) s.typed (omega arith) v'
+    (ap₂ (λ s t. allows s j t behind) s.schema_same s.type_same ∙ allowed_within (schema_of c) LEVEL_LIMIT j (type_of c) behind a' (omega arith)) (omega arith)
+    ∙ sym (steps_behind (max (levels c) LEVEL_LIMIT) c (merged c front) front behind refl s.schema_same)

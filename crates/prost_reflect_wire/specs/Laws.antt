@@ -53,11 +53,11 @@ SameBehind = (schema : Schema) (k T : ℕ) (front other behind : List Record) �
 
 -- More levels change no meaning of records that are allowed.
 abbrev pub LevelsFree : Type 0
-LevelsFree = (schema : Schema) (k T : ℕ) (rs : List Record) → allows schema k T rs ≡ true → meaning schema k T rs ≡ meaning schema (suc k) T rs
+LevelsFree = (schema : Schema) (k m T : ℕ) (rs : List Record) → allows schema k T rs ≡ true → k ≤ m → meaning schema k T rs ≡ meaning schema m T rs
 
 -- More levels refuse no records that are allowed.
 abbrev pub AllowedFurther : Type 0
-AllowedFurther = (schema : Schema) (k T : ℕ) (rs : List Record) → allows schema k T rs ≡ true → allows schema (suc k) T rs ≡ true
+AllowedFurther = (schema : Schema) (k m T : ℕ) (rs : List Record) → allows schema k T rs ≡ true → k ≤ m → allows schema m T rs ≡ true
 
 -- Numbers and keys ascend in what is read.
 abbrev pub MeaningOrdered : Type 0
@@ -94,6 +94,15 @@ StepsFree = (k m : ℕ) (c : Content) (rs : List Record) → schema_valid (schem
 abbrev pub Pieces : Type 0
 Pieces = (schema : Schema) (k m T : ℕ) (front behind : List Record) → schema_valid schema ≡ true → valid (body_of front) ≡ true → allows schema k T front ≡ true → valid (body_of behind) ≡ true → allows schema LEVEL_LIMIT T behind ≡ true → k ≤ m → LEVEL_LIMIT ≤ m →
     merged (meaning schema k T front) behind ≡ meaning schema m T (front ++ behind)
+
+-- Pieces merged one behind the other are merged as one.
+abbrev pub MergesJoin : Type 0
+MergesJoin = (c : Content) (front behind : List Record) → schema_valid (schema_of c) ≡ true → WellTyped c → valid (body_of front) ≡ true → allows (schema_of c) LEVEL_LIMIT (type_of c) front ≡ true →
+    valid (body_of behind) ≡ true → allows (schema_of c) LEVEL_LIMIT (type_of c) behind ≡ true → merged (merged c front) behind ≡ merged c (front ++ behind)
+
+-- What is decoded is well-typed, and nests no deeper than it was allowed to.
+abbrev pub DecodedWell : Type 0
+DecodedWell = (schema : Schema) (k T : ℕ) (bytes : List ℕ) (c : Content) → AreBytes bytes → schema_valid schema ≡ true → decoded schema k T bytes ≡ Some c → WellTyped c × (levels c ≤ k)
 
 -- CONTENTS OF WHAT IS STORED
 

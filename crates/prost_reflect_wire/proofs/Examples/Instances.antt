@@ -11,13 +11,14 @@ use Rattle.prost_reflect_wire.specs.Typing.{WellTyped, WellStored}
 use Rattle.prost_reflect_wire.specs.Edit.{PathTo}
 use Rattle.prost_reflect_wire.specs.Laws.{Apart, Writable}
 use Rattle.prost_reflect_wire.specs.Examples.Schemas.{examples, my_message, two_choices}
-use Rattle.prost_reflect_wire.specs.Examples.Words.{hex, int}
+use Rattle.prost_reflect_wire.specs.Content.{NoEntries, Stored}
+use Rattle.prost_reflect_wire.specs.Examples.Words.{hex, content, int}
 use Rattle.prost_reflect_wire.specs.Examples.Instances.{sample, front, behind, one, needless, stores_defaults, Taken, Low, OfReading, OfMeaning, OfContents, OfWriting, OfFaults}
 use Rattle.prost_reflect_wire.proofs.Sound.{read_spells}
 use Rattle.prost_reflect_wire.proofs.Accepted.{accepts_is_test}
 use Rattle.prost_reflect_wire.proofs.GoodSteps.{meaning_typed, meaning_levels}
-use Rattle.prost_reflect_wire.proofs.NormalForms.{steps_well, merged_well, normal_form}
-use Rattle.prost_reflect_wire.proofs.StepsFree.{steps_levels, pieces}
+use Rattle.prost_reflect_wire.proofs.NormalForms.{steps_well, merged_well, normal_form, decoded_well}
+use Rattle.prost_reflect_wire.proofs.StepsFree.{steps_levels, pieces, merges_join}
 use Rattle.prost_reflect_wire.proofs.Pieces.{pieces_join, merged_means}
 use Rattle.prost_reflect_wire.proofs.Kept.{kept_well}
 use Rattle.prost_reflect_wire.proofs.Setting.{set_well}
@@ -50,6 +51,10 @@ behind_taken = record { checked = refl; valid = refl; allowed = refl }
 behind_limit : Taken LEVEL_LIMIT behind
 unfolding short read unpacked allows meaning steps is_utf8 chars encode_utf8
 behind_limit = record { checked = refl; valid = refl; allowed = refl }
+
+front_limit : Taken LEVEL_LIMIT front
+unfolding short read unpacked allows meaning steps is_utf8 chars encode_utf8
+front_limit = record { checked = refl; valid = refl; allowed = refl }
 
 apart : Apart (known examples two_choices) 1 3
 apart = record {
@@ -93,6 +98,8 @@ of_meaning = record {
   pieces = (front_taken, behind_limit, lit≤ tt, lit≤ tt);
   pieces_merged = pieces examples 1 LEVEL_LIMIT my_message front behind refl refl refl refl refl (lit≤ tt) (lit≤ tt);
   pieces_join = pieces_join examples 1 LEVEL_LIMIT my_message front behind refl (lit≤ tt);
+  merges_join = (sample_low, behind_limit, front_limit);
+  merges_joined = merges_join sample behind front refl sample_typed refl refl refl refl;
 }
 
 pub of_contents : OfContents
@@ -121,6 +128,7 @@ of_writing = record {
   encoded_spells = encoded_spells sample sample_writable;
   merged_means = merged_means sample behind sample_writable;
   normal_form = (needless_bytes, refl, refl);
+  decoded_well = let w = decoded_well examples 0 my_message needless (content my_message (Stored 1 (int 1) NoEntries)) needless_bytes refl refl in record { typed = w.0; low = w.1 };
   normal_length = lit< tt;
   normal_again = normal_form examples 0 my_message needless _ needless_bytes refl refl (lit< tt);
   canonicity = record { checked = refl; fitting = record { fits = refl; types = (tt, (((refl, refl), tt), tt)); order = refl; nonempty = refl }; length = lit< tt };

@@ -23,6 +23,7 @@ not_of_typing = record {
   meaning_ordered = λ e. absurd (omega (arith, ap first_number e));
   meaning_typed = (refl, refl, refl);
   meaning_spelled = (refl, refl, refl);
+  decoded_well = (refl, refl, refl);
   meaning_levels = (refl, refl);
   levels_of_bytes = (refl, refl, refl);
   allowed_further = (refl, refl);
@@ -32,7 +33,13 @@ not_of_typing = record {
   merged_levels = (deep_writable.typed, refl);
   pieces_levels = (refl, λ e. absurd (omega (arith, ap (λ c. length (encoded c)) e)));
   pieces_allowed = (refl, refl, λ e. absurd (omega (arith, ap (λ c. length (encoded c)) e)));
+  merges_join = λ e. absurd (omega (arith, ap (λ c. code (encoded c)) e));
 }
+  where
+    -- the second byte
+    code : List ℕ → ℕ
+    code (b ∷ c ∷ bytes) = c
+    code bytes = 0
 
 pub not_of_contents : NotOfContents
 unfolding short read unpacked allows meaning steps is_utf8 chars encode_utf8

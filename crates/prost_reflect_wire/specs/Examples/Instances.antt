@@ -99,6 +99,10 @@ pub record OfMeaning : Type 0 where
   pub pieces_merged : merged (meaning examples 1 my_message front) behind ≡ meaning examples LEVEL_LIMIT my_message (front ++ behind)
   -- and record by record.
   pub pieces_join : steps LEVEL_LIMIT (meaning examples 1 my_message front) behind ≡ meaning examples LEVEL_LIMIT my_message (front ++ behind)
+  -- Pieces that the limit allows, merged into a content one behind the other.
+  pub merges_join : Low 1 sample × Taken LEVEL_LIMIT behind × Taken LEVEL_LIMIT front
+  -- They are merged as one.
+  pub merges_joined : merged (merged sample behind) front ≡ merged sample (behind ++ front)
 
 pub record OfContents : Type 0 where
   -- A stored message may hold defaults, at each depth.
@@ -133,7 +137,9 @@ pub record OfWriting : Type 0 where
   pub merged_means : merged sample behind ≡ meaning examples 100 my_message (records sample ++ behind)
   -- Bytes with a needless digit,
   pub normal_form : AreBytes needless × (schema_valid examples ≡ true) × (decoded examples 0 my_message needless ≡ Some (content my_message (Stored 1 (int 1) NoEntries)))
-  -- of a content whose bytes have a length.
+  -- which are decoded as a well-typed content
+  pub decoded_well : Low 0 (content my_message (Stored 1 (int 1) NoEntries))
+  -- whose bytes have a length.
   pub normal_length : length (encoded (content my_message (Stored 1 (int 1) NoEntries))) < 2 ^ 64
   -- These are others, and mean the same.
   pub normal_again : decoded examples 0 my_message (hex "0801") ≡ Some (content my_message (Stored 1 (int 1) NoEntries))

@@ -1,14 +1,16 @@
 -- Statements near the laws on what is read, merged, kept and set that do not hold, each refuted by a worked example.
-use Rattle.std.specs.Prelude.{◌≡◌, ℕ, true, false, List, [], ◌∷◌, ◌++◌, Some}
+use Rattle.std.specs.Prelude.{◌≡◌, ℕ, true, false, pos, List, [], ◌∷◌, ◌++◌, Some}
 use Rattle.prost_reflect_wire.specs.Record.{NoRecords, Group, Record, record_at, body_of, valid}
-use Rattle.prost_reflect_wire.specs.Content.{Content, NoEntries, Stored, Value, ScalarValue, MapValue, NoPairs, Pair}
+use Rattle.prost_reflect_wire.specs.Scalar.{I32}
+use Rattle.prost_reflect_wire.specs.Schema.{Schema, MapFrom, schema_valid}
+use Rattle.prost_reflect_wire.specs.Content.{Content, ContentOf, NoEntries, Stored, Value, ScalarValue, MapValue, NoPairs, Pair}
 use Rattle.prost_reflect_wire.specs.Grammar.{LEVEL_LIMIT, accepts, allows}
 use Rattle.prost_reflect_wire.specs.Meaning.{meaning, decoded, steps}
 use Rattle.prost_reflect_wire.specs.Writing.{records}
 use Rattle.prost_reflect_wire.specs.Levels.{levels}
 use Rattle.prost_reflect_wire.specs.Typing.{WellStored, WellTyped, Typed, kept, encodable, exclusive}
 use Rattle.prost_reflect_wire.specs.Edit.{merged, set_at}
-use Rattle.prost_reflect_wire.specs.Examples.Schemas.{examples, my_message, maps, choice, closed}
+use Rattle.prost_reflect_wire.specs.Examples.Schemas.{examples, message, field, int32, my_message, maps, closed}
 use Rattle.prost_reflect_wire.specs.Examples.Words.{hex, content, int, ascii, inner, varint, delimited}
 use Rattle.prost_reflect_wire.specs.Examples.Instances.{sample, front, behind, stores_defaults, two_members, Low, Taken}
 use Rattle.prost_reflect_wire.specs.Examples.NearbyFalse.{deep}
@@ -31,6 +33,13 @@ unknown_group = record_at 5 (Group NoRecords) ∷ []
 abbrev pub one_entry : Content
 one_entry = content maps (Stored 1 (MapValue (Pair (ascii "") (int 0) NoPairs)) NoEntries)
 
+-- { map<int32, int32> m = 1; }, where the default of a value is a text, which no check passes.
+abbrev pub text_default : Schema
+text_default = message (field 1 (MapFrom (int32 false)) (record (int32 false) { default = ascii "" }) ∷ []) ∷ []
+
+abbrev pub text_entry : Content
+text_entry = ContentOf text_default 0 (Stored 1 (MapValue (Pair (I32 (pos 0)) (ScalarValue (ascii "")) NoPairs)) NoEntries)
+
 abbrev pub number_as_text : Value
 number_as_text = ScalarValue (ascii "5")
 
@@ -41,6 +50,8 @@ pub record NotOfTyping : Type 0 where
   pub meaning_typed : (valid (body_of bad_entry) ≡ true) × (allows examples 1 closed bad_entry ≡ false) × (encodable (meaning examples 1 closed bad_entry) ≡ false)
   -- and what records mean that have no spelling.
   pub meaning_spelled : (valid (body_of numbered_zero) ≡ false) × (allows examples 0 my_message numbered_zero ≡ true) × (encodable (meaning examples 0 my_message numbered_zero) ≡ false)
+  -- Of a type that no check passes, what is decoded may fit no type.
+  pub decoded_well : (schema_valid text_default ≡ false) × (decoded text_default 0 0 (hex "0a00") ≡ Some text_entry) × (encodable text_entry ≡ false)
   -- Records that are not allowed may mean a content of more levels.
   pub meaning_levels : (allows examples 0 my_message unknown_group ≡ false) × (levels (meaning examples 0 my_message unknown_group) ≡ 1)
   -- What bytes mean may have fewer levels than the bytes need: a group is skipped in an entry.
@@ -59,6 +70,8 @@ pub record NotOfTyping : Type 0 where
   pub pieces_levels : (allows examples 1 my_message front ≡ true) × (steps 0 (meaning examples 1 my_message front) [] ≡ meaning examples 0 my_message (front ++ []) → ⊥)
   -- nor where the first is not allowed.
   pub pieces_allowed : (allows examples 0 my_message front ≡ false) × (allows examples LEVEL_LIMIT my_message behind ≡ true) × (merged (meaning examples 0 my_message front) behind ≡ meaning examples LEVEL_LIMIT my_message (front ++ behind) → ⊥)
+  -- Pieces are not merged in any order.
+  pub merges_join : merged (merged sample behind) front ≡ merged sample (front ++ behind) → ⊥
 
 pub record NotOfContents : Type 0 where
   -- What is kept is not all that a message stores.

@@ -1,5 +1,5 @@
-use Rattle.prost_reflect_wire.proofs.Deeper.{allowed_further}
+use Rattle.prost_reflect_wire.proofs.Pieces.{allowed_within}
 use Rattle.prost_reflect_wire.proofs.laws.allowed_further.Goals as goal
 
 pub returns : goal.returns
-returns c = allowed_further
+returns c = allowed_within

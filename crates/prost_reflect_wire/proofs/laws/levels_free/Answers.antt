@@ -1,5 +1,5 @@
-use Rattle.prost_reflect_wire.proofs.Deeper.{levels_free}
+use Rattle.prost_reflect_wire.proofs.Pieces.{levels_within}
 use Rattle.prost_reflect_wire.proofs.laws.levels_free.Goals as goal
 
 pub returns : goal.returns
-returns c = levels_free
+returns c = levels_within
