@@ -11,7 +11,7 @@ use Rattle.prost_reflect_wire.specs.Meaning.{MeansInside, joined, message_value,
 use Rattle.prost_reflect_wire.specs.Writing.{records, entries_records, encoded}
 use Rattle.prost_reflect_wire.specs.Typing.{is_of_type, kept, kept_value, kept_inside, ValueStored}
 use Rattle.prost_reflect_wire.specs.Edit.{with_field_value, set_field, default_of, default_value, value_or_default, in_message, in_field, set_at, message_of, PathTo, holds_message, edited}
-use Rattle.prost_reflect_wire.specs.Reduction.{TypePairs, holds, all_match, Reduced}
+use Rattle.prost_reflect_wire.specs.Reduction.{TypePairs, holds}
 use Rattle.prost_reflect_wire.proofs.Numbers.{Ascending, Covers, numbers_ascending, slot_table}
 use Rattle.prost_reflect_wire.proofs.Survivors.{field_number}
 use Rattle.prost_reflect_wire.proofs.Steps.{surviving_value, meaning_covers, meaning_empty}
@@ -22,7 +22,7 @@ use Rattle.prost_reflect_wire.proofs.Kept.{kept_content}
 use Rattle.prost_reflect_wire.proofs.GoodSteps.{meaning_typed}
 use Rattle.prost_reflect_wire.proofs.NormalForms.{meaning_schema, meaning_type}
 use Rattle.prost_reflect_wire.proofs.Older.{allows_smaller}
-use Rattle.prost_reflect_wire.proofs.Matches.{Like, like}
+use Rattle.prost_reflect_wire.proofs.Matches.{AllMatch, Relates, Like, like}
 use Rattle.prost_reflect_wire.proofs.ByNumber.{stored_payloads}
 use Rattle.prost_reflect_wire.proofs.Inside.{joined_valid}
 use Rattle.prost_reflect_wire.proofs.Again.{written_again, FieldAgain}
@@ -241,7 +241,7 @@ set_kept schema k T rs path v checked ok allowed to =
     kept_content (set_at path v c) (set_well path v c (ap schema_valid schema_same ∙ checked) (meaning_typed schema k T rs checked ok allowed)
     (subst (λ (s : Schema). PathTo s (type_of c) path v) (sym schema_same) (subst (λ (n : ℕ). PathTo schema n path v) (sym type_same) to)))
 
-pub edited_at : (pairs : TypePairs) (older newer : Schema) (k : ℕ) (path : List ℕ) (v : Value) (A B : ℕ) (rs : List Record) → schema_valid older ≡ true → schema_valid newer ≡ true → all_match pairs older newer ≡ true → length path ≤ suc k → holds_message v ≡ false →
+pub edited_at : (pairs : TypePairs) (older newer : Schema) (k : ℕ) (path : List ℕ) (v : Value) (A B : ℕ) (rs : List Record) → schema_valid older ≡ true → schema_valid newer ≡ true → AllMatch pairs older newer → length path ≤ suc k → holds_message v ≡ false →
     holds pairs A B ≡ true → valid (body_of rs) ≡ true → allows newer k B rs ≡ true → PathTo older A path v → Edited (allows newer k) (meaning newer k) B (set_at path v (meaning older k A rs)) (set_at path v (meaning newer k B rs))
 unfolding meaning allows
 edited_at pairs older newer k [] v A B rs cA cB all short none h ok e to = absurd to
@@ -263,12 +263,12 @@ edited_at pairs older newer (suc k) (n ∷ m ∷ path) v A B rs cA cB all short 
 -- BYTES
 
 -- what was edited through the older type, the newer one accepts, with the value set
-pub edit_passage : (older newer : Schema) (k A B : ℕ) (bytes : List ℕ) (path : List ℕ) (v : Value) (again : List ℕ) → schema_valid older ≡ true → schema_valid newer ≡ true → AreBytes bytes → Reduced older A newer B → length path ≤ suc k → PathTo older A path v → holds_message v ≡ false →
+pub edit_related : (older newer : Schema) (k A B : ℕ) (bytes : List ℕ) (path : List ℕ) (v : Value) (again : List ℕ) → schema_valid older ≡ true → schema_valid newer ≡ true → AreBytes bytes → Relates older A newer B → length path ≤ suc k → PathTo older A path v → holds_message v ≡ false →
     Accepts newer k B bytes → edited older k A bytes path v ≡ Some again → length again < 2 ^ 64 → Accepts newer k B again × (decoded newer k B again ≡ (decoded newer k B bytes >>= λ d. Some (set_at path v d)))
-edit_passage older newer k A B bytes path v again cA cB small r short to none acc e fits =
+edit_related older newer k A B bytes path v again cA cB small r short to none acc e fits =
     let ok : valid (body_of (items acc.records)) ≡ true = accepted_valid newer k B bytes acc small in
     let here : Edited (allows newer k) (meaning newer k) B (set_at path v (meaning older k A (items acc.records))) (set_at path v (meaning newer k B (items acc.records))) =
-    edited_at r.pairs older newer k path v A B (items acc.records) cA cB r.each short none r.first ok acc.allowed to in
+    edited_at r.pairs older newer k path v A B (items acc.records) cA cB r.all short none r.first ok acc.allowed to in
     let same : encoded (set_at path v (meaning older k A (items acc.records))) ≡ again =
     ap (λ (o : Option (List ℕ)). elim o [ None ↦ again | Some x ↦ x ]) (sym (ap (λ (o : Option Content). o >>= λ c. Some (encoded (set_at path v c))) (older_decoded older newer k A B bytes r acc)) ∙ e) in
     let (accepts, read) = written_read newer k B (set_at path v (meaning older k A (items acc.records))) (set_at path v (meaning newer k B (items acc.records))) here.sound here.allowed here.same (subst (λ (x : List ℕ). length x < 2 ^ 64) (sym same) fits) in

@@ -4,8 +4,8 @@ use Rattle.std.proofs.lemmas.Bool.{eqb-true}
 use Rattle.std.specs.Bool.{beq}
 use Rattle.std.specs.List.{list_any, list_all}
 use Rattle.prost_reflect_wire.specs.Schema.{Field, Schema, message_type, known, field_of, same_oneof, passes}
-use Rattle.prost_reflect_wire.specs.Reduction.{TypePairs, holds, same_form, value_types_match, fields_match, same_siblings, has_match, has_no_fellow, entries_whole, types_match, all_match}
-use Rattle.prost_reflect_wire.proofs.Deeper.{and_both}
+use Rattle.prost_reflect_wire.specs.Reduction.{TypePairs, holds, same_form, value_types_match, fields_match, same_siblings, has_match, has_no_fellow, entries_whole, types_match, all_match, Reduced}
+use Rattle.prost_reflect_wire.proofs.Deeper.{and_both, both_true, all_implied}
 use Rattle.prost_reflect_wire.proofs.Numbers.{eqb-sym}
 use Rattle.prost_reflect_wire.proofs.Survivors.{or_false}
 use Rattle.prost_reflect_wire.proofs.Alike.{SameType, same_type}
@@ -85,15 +85,44 @@ pair_matches pairs (p ∷ ps) older newer A B h all =
     go true false d e h one more = more h
     go false c d e h one more = more h
 
+-- whether a field has its like, a field or an extension
+abbrev pub has_like : TypePairs → List Field → List Field → Field → Bool
+has_like pairs older newer f = passes (field_of newer f.number) (λ g. same_form pairs f.form g.form && value_types_match pairs f.value_type g.value_type && same_siblings older newer f g)
+
 pub record TypesMatch (pairs : TypePairs) (older newer : List Field) : Type 0 where
-  pub each : list_all (has_match pairs older newer) older ≡ true
+  pub each : list_all (has_like pairs older newer) older ≡ true
   pub lacking : list_all (has_no_fellow older newer) newer ≡ true
 
-pub matching : (pairs : TypePairs) (older newer : Schema) (A B : ℕ) → holds pairs A B ≡ true → all_match pairs older newer ≡ true → TypesMatch pairs (known older A) (known newer B)
-matching pairs older newer A B h all =
+-- the types of each pair
+abbrev pub AllMatch : TypePairs → Schema → Schema → Type 0
+AllMatch pairs older newer = (A B : ℕ) → holds pairs A B ≡ true → TypesMatch pairs (known older A) (known newer B)
+
+-- a match is a like
+like_of_match : (pairs : TypePairs) (older newer : List Field) (f : Field) → has_match pairs older newer f ≡ true → has_like pairs older newer f ≡ true
+like_of_match pairs older newer f h = go (field_of newer f.number) h
+  where
+    go : (o : Option Field) → passes o (λ g. fields_match pairs f g && same_siblings older newer f g) ≡ true → passes o (λ g. same_form pairs f.form g.form && value_types_match pairs f.value_type g.value_type && same_siblings older newer f g) ≡ true
+    go None h = h
+    go (Some g) h =
+        let (abc, d) = and_both (fields_match pairs f g) (same_siblings older newer f g) h in
+        let (ab, c) = and_both (beq f.is_extension g.is_extension && same_form pairs f.form g.form) (value_types_match pairs f.value_type g.value_type) abc in
+        both_true (both_true (and_both (beq f.is_extension g.is_extension) (same_form pairs f.form g.form) ab).1 c) d
+
+pub matching : (pairs : TypePairs) (older newer : Schema) → all_match pairs older newer ≡ true → AllMatch pairs older newer
+matching pairs older newer all A B h =
     let m : types_match pairs (message_type older A) (message_type newer B) ≡ true = pair_matches pairs pairs older newer A B h all in
     let (ab, c) = and_both (entries_whole (message_type older A) (message_type newer B) && list_all (has_match pairs (known older A) (known newer B)) (known older A)) (list_all (has_no_fellow (known older A) (known newer B)) (known newer B)) m in
-    record { each = (and_both (entries_whole (message_type older A) (message_type newer B)) (list_all (has_match pairs (known older A) (known newer B)) (known older A)) ab).1; lacking = c }
+    let each : list_all (has_match pairs (known older A) (known newer B)) (known older A) ≡ true = (and_both (entries_whole (message_type older A) (message_type newer B)) (list_all (has_match pairs (known older A) (known newer B)) (known older A)) ab).1 in
+    record { each = all_implied (has_match pairs (known older A) (known newer B)) (has_like pairs (known older A) (known newer B)) (known older A) (like_of_match pairs (known older A) (known newer B)) each; lacking = c }
+
+-- an older and a newer type whose likes may be extensions
+pub record Relates (older : Schema) (A : ℕ) (newer : Schema) (B : ℕ) : Type 0 where
+  pub pairs : TypePairs
+  pub first : holds pairs A B ≡ true
+  pub all : AllMatch pairs older newer
+
+pub relates : (older : Schema) (A : ℕ) (newer : Schema) (B : ℕ) → Reduced older A newer B → Relates older A newer B
+relates older A newer B r = record { pairs = r.pairs; first = r.first; all = matching r.pairs older newer r.each }
 
 -- a field and its like
 pub record Like (pairs : TypePairs) (older newer : List Field) (f g : Field) : Type 0 where
@@ -103,11 +132,11 @@ pub record Like (pairs : TypePairs) (older newer : List Field) (f g : Field) : T
   pub siblings : same_siblings older newer f g ≡ true
 
 pub like : (pairs : TypePairs) (older newer : List Field) (n : ℕ) (f : Field) → TypesMatch pairs older newer → field_of older n ≡ Some f → (g : Field) × Like pairs older newer f g
-like pairs older newer n f m e = go (field_of newer f.number) refl (found_passes (has_match pairs older newer) older n f m.each e)
+like pairs older newer n f m e = go (field_of newer f.number) refl (found_passes (has_like pairs older newer) older n f m.each e)
   where
-    go : (o : Option Field) → field_of newer f.number ≡ o → passes o (λ g. fields_match pairs f g && same_siblings older newer f g) ≡ true → (g : Field) × Like pairs older newer f g
+    go : (o : Option Field) → field_of newer f.number ≡ o → passes o (λ g. same_form pairs f.form g.form && value_types_match pairs f.value_type g.value_type && same_siblings older newer f g) ≡ true → (g : Field) × Like pairs older newer f g
     go None found h = absurd (true≢false (sym h))
     go (Some g) found h =
-        let (abc, d) = and_both (fields_match pairs f g) (same_siblings older newer f g) h in
-        let (ab, c) = and_both (beq f.is_extension g.is_extension && same_form pairs f.form g.form) (value_types_match pairs f.value_type g.value_type) abc in
-        (g, record { found = found; form = (and_both (beq f.is_extension g.is_extension) (same_form pairs f.form g.form) ab).1; type = same_type pairs f.value_type g.value_type c; siblings = d })
+        let (ab, d) = and_both (same_form pairs f.form g.form && value_types_match pairs f.value_type g.value_type) (same_siblings older newer f g) h in
+        let (form, c) = and_both (same_form pairs f.form g.form) (value_types_match pairs f.value_type g.value_type) ab in
+        (g, record { found = found; form = form; type = same_type pairs f.value_type g.value_type c; siblings = d })

@@ -9,12 +9,12 @@ use Rattle.prost_reflect_wire.specs.Scalar.{ScalarKind, Enum}
 use Rattle.prost_reflect_wire.specs.Schema.{Kind, ScalarOf, MessageOf, GroupOf, ValueType, FieldForm, Singular, Repeated, MapFrom, Field, Schema, known, field_of, passes}
 use Rattle.prost_reflect_wire.specs.Grammar.{AllowsInside, body, fits, is_len, is_group_payload, one_allowed, packed_allowed, in_entry_allowed, has_level, field_allowed, record_allowed, nothing_inside, allows, Accepts}
 use Rattle.prost_reflect_wire.specs.Levels.{greatest_level}
-use Rattle.prost_reflect_wire.specs.Reduction.{TypePairs, holds, same_kind, same_form, all_match, Reduced}
+use Rattle.prost_reflect_wire.specs.Reduction.{TypePairs, holds, same_kind, same_form}
 use Rattle.prost_reflect_wire.proofs.Deeper.{and_both, both_true, all_implied}
 use Rattle.prost_reflect_wire.proofs.ListTests.{passes_more}
 use Rattle.prost_reflect_wire.proofs.Survivors.{field_number}
 use Rattle.prost_reflect_wire.proofs.Alike.{Alike, alike, SameType, same_type, unpacked_alike}
-use Rattle.prost_reflect_wire.proofs.Matches.{TypesMatch, matching, like}
+use Rattle.prost_reflect_wire.proofs.Matches.{TypesMatch, AllMatch, Relates, like}
 
 -- LEVELS OF WHAT IS ALLOWED
 
@@ -156,15 +156,15 @@ record_smaller pairs k outer inner older newer r s m e = go (field_of older r.nu
         field_smaller pairs k outer inner f.form g.form f.value_type g.value_type r.payload s l.form l.type.kind
         (sym (ap (λ (o : Option Field). elim o [ None ↦ nat_le (payload_levels r.payload) k | Some f ↦ field_allowed k inner f.form f.value_type r.payload ]) (ap (field_of newer) (sym (field_number older r.number f found)) ∙ l.found)) ∙ e)
 
-pub allows_smaller : (pairs : TypePairs) (older newer : Schema) (k A B : ℕ) (rs : List Record) → all_match pairs older newer ≡ true → holds pairs A B ≡ true → allows newer k B rs ≡ true → allows older k A rs ≡ true
+pub allows_smaller : (pairs : TypePairs) (older newer : Schema) (k A B : ℕ) (rs : List Record) → AllMatch pairs older newer → holds pairs A B ≡ true → allows newer k B rs ≡ true → allows older k A rs ≡ true
 unfolding allows
 allows_smaller pairs older newer zero A B rs all h e =
     all_implied (record_allowed 0 nothing_inside (known newer B)) (record_allowed 0 nothing_inside (known older A)) rs
-    (λ r. record_smaller pairs 0 nothing_inside nothing_inside (known older A) (known newer B) r (record { each = λ A B rs h e. e; shallow = λ T rs e. absurd (true≢false (sym e)) }) (matching pairs older newer A B h all)) e
+    (λ r. record_smaller pairs 0 nothing_inside nothing_inside (known older A) (known newer B) r (record { each = λ A B rs h e. e; shallow = λ T rs e. absurd (true≢false (sym e)) }) (all A B h)) e
 allows_smaller pairs older newer (suc k) A B rs all h e =
     all_implied (record_allowed (suc k) (allows newer k) (known newer B)) (record_allowed (suc k) (allows older k) (known older A)) rs
     (λ r. record_smaller pairs (suc k) (allows older k) (allows newer k) (known older A) (known newer B) r
-    (record { each = λ A B rs. allows_smaller pairs older newer k A B rs all; shallow = λ T rs e. let l : greatest_level rs ≤ k = allowed_levels newer k T rs e in omega arith }) (matching pairs older newer A B h all)) e
+    (record { each = λ A B rs. allows_smaller pairs older newer k A B rs all; shallow = λ T rs e. let l : greatest_level rs ≤ k = allowed_levels newer k T rs e in omega arith }) (all A B h)) e
 
-pub older_accepts : (older newer : Schema) (k A B : ℕ) (bytes : List ℕ) → Reduced older A newer B → Accepts newer k B bytes → Accepts older k A bytes
-older_accepts older newer k A B bytes r a = record { records = a.records; spelled = a.spelled; allowed = allows_smaller r.pairs older newer k A B (items a.records) r.each r.first a.allowed }
+pub accepts_related : (older newer : Schema) (k A B : ℕ) (bytes : List ℕ) → Relates older A newer B → Accepts newer k B bytes → Accepts older k A bytes
+accepts_related older newer k A B bytes r a = record { records = a.records; spelled = a.spelled; allowed = allows_smaller r.pairs older newer k A B (items a.records) r.all r.first a.allowed }

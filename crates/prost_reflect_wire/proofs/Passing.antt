@@ -8,7 +8,7 @@ use Rattle.prost_reflect_wire.specs.Content.{Content}
 use Rattle.prost_reflect_wire.specs.Grammar.{AllowsInside, record_allowed, nothing_inside, allows, Accepts}
 use Rattle.prost_reflect_wire.specs.Meaning.{MeansInside, numbers_of, meaning_at, meaning_by, empty_inside, meaning, decoded}
 use Rattle.prost_reflect_wire.specs.Writing.{records, encoded}
-use Rattle.prost_reflect_wire.specs.Reduction.{TypePairs, holds, all_match, Reduced}
+use Rattle.prost_reflect_wire.specs.Reduction.{TypePairs, holds}
 use Rattle.prost_reflect_wire.proofs.Numbers.{numbers_ascending}
 use Rattle.prost_reflect_wire.proofs.Steps.{meaning_covers}
 use Rattle.prost_reflect_wire.proofs.Deeper.{all_append}
@@ -19,24 +19,24 @@ use Rattle.prost_reflect_wire.proofs.Checked.{known_valid, known_differ}
 use Rattle.prost_reflect_wire.proofs.Values.{items_body}
 use Rattle.prost_reflect_wire.proofs.Spelt.{Sound, valid_if}
 use Rattle.prost_reflect_wire.proofs.Older.{allows_smaller}
-use Rattle.prost_reflect_wire.proofs.Matches.{matching}
+use Rattle.prost_reflect_wire.proofs.Matches.{AllMatch, Relates}
 use Rattle.prost_reflect_wire.proofs.Readable.{body_items}
 use Rattle.prost_reflect_wire.proofs.Again.{Carries}
 use Rattle.prost_reflect_wire.proofs.WrittenSlots.{BothSlots, Numbered, table_numbered, both_sound, both_allowed, both_read}
 use Rattle.prost_reflect_wire.proofs.Relaying.{Step, meaning_slots}
 
-step_of : (pairs : TypePairs) (k : ℕ) (i : MeansInside) (a : AllowsInside) (j : MeansInside) (older newer : Schema) (A B : ℕ) (rs : List Record) → schema_valid older ≡ true → all_match pairs older newer ≡ true → Carries pairs k i a j → holds pairs A B ≡ true → valid (body_of rs) ≡ true →
+step_of : (pairs : TypePairs) (k : ℕ) (i : MeansInside) (a : AllowsInside) (j : MeansInside) (older newer : Schema) (A B : ℕ) (rs : List Record) → schema_valid older ≡ true → AllMatch pairs older newer → Carries pairs k i a j → holds pairs A B ≡ true → valid (body_of rs) ≡ true →
     list_all (record_allowed k a (known newer B)) rs ≡ true → Step pairs k i a j older newer A B rs
 step_of pairs k i a j older newer A B rs checked all c h ok e = record {
   carries = c;
-  match = matching pairs older newer A B h all;
+  match = all A B h;
   checked = known_valid older A checked;
   differ = known_differ older A checked;
   spelt = ok;
   allowed = e;
 }
 
-next_level : (pairs : TypePairs) (k : ℕ) (i : MeansInside) (a : AllowsInside) (j : MeansInside) (older newer : Schema) → schema_valid older ≡ true → all_match pairs older newer ≡ true → Carries pairs k i a j →
+next_level : (pairs : TypePairs) (k : ℕ) (i : MeansInside) (a : AllowsInside) (j : MeansInside) (older newer : Schema) → schema_valid older ≡ true → AllMatch pairs older newer → Carries pairs k i a j →
     Carries pairs (suc k) (meaning_by i older) (λ B rs. list_all (record_allowed k a (known newer B)) rs) (meaning_by j newer)
 next_level pairs k i a j older newer checked all c = record {
   sound = λ A B rs h ok e. both_sound pairs k a j (known older A) (known newer B) (meaning_at i (known older A) rs) (meaning_at j (known newer B) rs) (numbers_of rs) (both A B rs h ok e);
@@ -63,18 +63,18 @@ no_level pairs i j = record {
   nothing = λ B h. absurd (true≢false (sym h));
 }
 
-pub carried : (pairs : TypePairs) (older newer : Schema) (k : ℕ) → schema_valid older ≡ true → all_match pairs older newer ≡ true → Carries pairs (suc k) (meaning older k) (allows newer k) (meaning newer k)
+pub carried : (pairs : TypePairs) (older newer : Schema) (k : ℕ) → schema_valid older ≡ true → AllMatch pairs older newer → Carries pairs (suc k) (meaning older k) (allows newer k) (meaning newer k)
 unfolding meaning allows
 carried pairs older newer zero checked all = next_level pairs 0 (empty_inside older) nothing_inside (empty_inside newer) older newer checked all (no_level pairs (empty_inside older) (empty_inside newer))
 carried pairs older newer (suc k) checked all = next_level pairs (suc k) (meaning older k) (allows newer k) (meaning newer k) older newer checked all (carried pairs older newer k checked all)
 
 -- records that are allowed at the last level, and above it
-pub step_zero : (pairs : TypePairs) (older newer : Schema) (A B : ℕ) (rs : List Record) → schema_valid older ≡ true → all_match pairs older newer ≡ true → holds pairs A B ≡ true → valid (body_of rs) ≡ true → allows newer 0 B rs ≡ true →
+pub step_zero : (pairs : TypePairs) (older newer : Schema) (A B : ℕ) (rs : List Record) → schema_valid older ≡ true → AllMatch pairs older newer → holds pairs A B ≡ true → valid (body_of rs) ≡ true → allows newer 0 B rs ≡ true →
     Step pairs 0 (empty_inside older) nothing_inside (empty_inside newer) older newer A B rs
 unfolding allows
 step_zero pairs older newer A B rs checked all h ok e = step_of pairs 0 (empty_inside older) nothing_inside (empty_inside newer) older newer A B rs checked all (no_level pairs (empty_inside older) (empty_inside newer)) h ok e
 
-pub step_next : (pairs : TypePairs) (older newer : Schema) (k A B : ℕ) (rs : List Record) → schema_valid older ≡ true → all_match pairs older newer ≡ true → holds pairs A B ≡ true → valid (body_of rs) ≡ true → allows newer (suc k) B rs ≡ true →
+pub step_next : (pairs : TypePairs) (older newer : Schema) (k A B : ℕ) (rs : List Record) → schema_valid older ≡ true → AllMatch pairs older newer → holds pairs A B ≡ true → valid (body_of rs) ≡ true → allows newer (suc k) B rs ≡ true →
     Step pairs (suc k) (meaning older k) (allows newer k) (meaning newer k) older newer A B rs
 unfolding allows
 step_next pairs older newer k A B rs checked all h ok e = step_of pairs (suc k) (meaning older k) (allows newer k) (meaning newer k) older newer A B rs checked all (carried pairs older newer k checked all) h ok e
@@ -88,9 +88,9 @@ pub accepted_decoded : (schema : Schema) (k T : ℕ) (bytes : List ℕ) (a : Acc
 accepted_decoded schema k T bytes a = decoded_spelled schema k T a.records bytes a.spelled ∙ ap (λ b. guard b (meaning schema k T (items a.records))) a.allowed
 
 -- what the older type decodes of them
-pub older_decoded : (older newer : Schema) (k A B : ℕ) (bytes : List ℕ) (r : Reduced older A newer B) (a : Accepts newer k B bytes) → decoded older k A bytes ≡ Some (meaning older k A (items a.records))
+pub older_decoded : (older newer : Schema) (k A B : ℕ) (bytes : List ℕ) (r : Relates older A newer B) (a : Accepts newer k B bytes) → decoded older k A bytes ≡ Some (meaning older k A (items a.records))
 older_decoded older newer k A B bytes r a =
-    decoded_spelled older k A a.records bytes a.spelled ∙ ap (λ b. guard b (meaning older k A (items a.records))) (allows_smaller r.pairs older newer k A B (items a.records) r.each r.first a.allowed)
+    decoded_spelled older k A a.records bytes a.spelled ∙ ap (λ b. guard b (meaning older k A (items a.records))) (allows_smaller r.pairs older newer k A B (items a.records) r.all r.first a.allowed)
 
 pub accepted_valid : (schema : Schema) (k T : ℕ) (bytes : List ℕ) (a : Accepts schema k T bytes) → AreBytes bytes → valid (body_of (items a.records)) ≡ true
 accepted_valid schema k T bytes a small = ap valid (body_items a.records) ∙ spelled_valid a.records bytes small a.spelled
@@ -107,14 +107,14 @@ written_read schema k T c d sound allowed same short =
 some_same : {A : Type 0} {x y : A} → Some x ≡ Some y → x ≡ y
 some_same {A} {x} e = ap (λ (o : Option A). elim o [ None ↦ x | Some z ↦ z ]) e
 
-pub passage : (older newer : Schema) (k A B : ℕ) (bytes : List ℕ) (c : Content) → schema_valid older ≡ true → AreBytes bytes → Reduced older A newer B → Accepts newer k B bytes →
+pub passage_related : (older newer : Schema) (k A B : ℕ) (bytes : List ℕ) (c : Content) → schema_valid older ≡ true → AreBytes bytes → Relates older A newer B → Accepts newer k B bytes →
     decoded older k A bytes ≡ Some c → length (encoded c) < 2 ^ 64 → Accepts newer k B (encoded c) × (decoded newer k B (encoded c) ≡ decoded newer k B bytes)
-passage older newer k A B bytes c checked small r a e short =
+passage_related older newer k A B bytes c checked small r a e short =
     let same : meaning older k A (items a.records) ≡ c = some_same (sym (older_decoded older newer k A B bytes r a) ∙ e) in
     subst (λ (c : Content). Accepts newer k B (encoded c) × (decoded newer k B (encoded c) ≡ decoded newer k B bytes)) same (relayed (subst (λ (c : Content). length (encoded c) < 2 ^ 64) (sym same) short))
   where
     carries : Carries r.pairs (suc k) (meaning older k) (allows newer k) (meaning newer k)
-    carries = carried r.pairs older newer k checked r.each
+    carries = carried r.pairs older newer k checked r.all
 
     ok : valid (body_of (items a.records)) ≡ true
     ok = accepted_valid newer k B bytes a small

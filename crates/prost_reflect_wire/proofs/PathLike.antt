@@ -5,12 +5,12 @@ use Rattle.prost_reflect_wire.specs.Schema.{Kind, ScalarOf, MessageOf, GroupOf, 
 use Rattle.prost_reflect_wire.specs.Content.{Value, ScalarValue, MessageValue, ListValue, MapValue, Values, NoValues, Item, Pairs, NoPairs, Pair}
 use Rattle.prost_reflect_wire.specs.Typing.{kind_takes, is_repeated, element_valid, elements_valid, pairs_valid, value_valid, kind_for, ValueTyped, ValuesTyped, PairsTyped, ValueStored}
 use Rattle.prost_reflect_wire.specs.Edit.{message_of, PathTo, holds_message, values_hold_message, pairs_hold_message}
-use Rattle.prost_reflect_wire.specs.Reduction.{TypePairs, holds, same_kind, same_form, all_match}
+use Rattle.prost_reflect_wire.specs.Reduction.{TypePairs, holds, same_kind, same_form}
 use Rattle.prost_reflect_wire.proofs.Survivors.{field_number, or_false}
 use Rattle.prost_reflect_wire.proofs.Deeper.{and_both, both_true}
 use Rattle.prost_reflect_wire.proofs.FieldTypes.{singular, repeated}
 use Rattle.prost_reflect_wire.proofs.Alike.{alike, SameType}
-use Rattle.prost_reflect_wire.proofs.Matches.{matching, like}
+use Rattle.prost_reflect_wire.proofs.Matches.{AllMatch, like}
 use Rattle.prost_reflect_wire.proofs.ValueCarried.{single_like, list_like, map_like, of_map}
 
 -- VALUES
@@ -95,12 +95,12 @@ message_like pairs (MessageOf A) (GroupOf B) U h e = absurd (true≢false (sym h
 message_like pairs (GroupOf A) (ScalarOf l) U h e = absurd (true≢false (sym h))
 message_like pairs (GroupOf A) (MessageOf B) U h e = absurd (true≢false (sym h))
 
-pub path_like : (pairs : TypePairs) (older newer : Schema) (A B : ℕ) (path : List ℕ) (v : Value) → all_match pairs older newer ≡ true → holds pairs A B ≡ true → holds_message v ≡ false → PathTo older A path v → PathTo newer B path v
+pub path_like : (pairs : TypePairs) (older newer : Schema) (A B : ℕ) (path : List ℕ) (v : Value) → AllMatch pairs older newer → holds pairs A B ≡ true → holds_message v ≡ false → PathTo older A path v → PathTo newer B path v
 path_like pairs older newer A B [] v all h none p = p
 path_like pairs older newer A B (n ∷ []) v all h none (f, found, s) =
-    let (g, l) = like pairs (known older A) (known newer B) n f (matching pairs older newer A B h all) found in
+    let (g, l) = like pairs (known older A) (known newer B) n f (all A B h) found in
     (g, ap (field_of (known newer B)) (sym (field_number (known older A) n f found)) ∙ l.found, stored_like pairs older newer f g v l.form l.type none s)
 path_like pairs older newer A B (n ∷ m ∷ path) v all h none (f, found, form, (U, e, rest)) =
-    let (g, l) = like pairs (known older A) (known newer B) n f (matching pairs older newer A B h all) found in
+    let (g, l) = like pairs (known older A) (known newer B) n f (all A B h) found in
     let (V, e', h') = message_like pairs f.value_type.kind g.value_type.kind U l.type.kind e in
     (g, ap (field_of (known newer B)) (sym (field_number (known older A) n f found)) ∙ l.found, single_like pairs f.form g.form form l.form, (V, e', path_like pairs older newer U V (m ∷ path) v all h' none rest))

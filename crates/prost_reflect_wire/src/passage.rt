@@ -1,6 +1,6 @@
 //! What is proved of reduction: each function has no body, and its contract is a law.
 
-ghost use Rattle.prost_reflect_wire.specs.Passage.{OlderAccepts, Passage, EditPassage};
+ghost use Rattle.prost_reflect_wire.specs.Passage.{OlderAccepts, Passage, EditPassage, AcrossExtensions};
 ghost use Rattle.prost_reflect_wire.specs.Reducing.{ReducedIsTest};
 ghost use Rattle.prost_reflect_wire.specs.ReducingExamples.{WorkedReductions};
 ghost use Rattle.prost_reflect_wire.specs.Examples.Passages.{Passages, EditPassages, Tested, FailedPassages, ExtensionAgainstField};
@@ -19,6 +19,12 @@ pub fn passage()
 /// A value that is set at a path through a reduction is set there in what the newer type reads.
 pub fn edit_passage()
     ensures { EditPassage }
+{}
+
+/// All three hold also where what is a field to one type is an extension to the other, but for that a
+/// reduction.
+pub fn across_extensions()
+    ensures { AcrossExtensions }
 {}
 
 /// Whether a type is a reduction of another, as a relation and as a test.

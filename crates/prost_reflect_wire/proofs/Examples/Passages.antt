@@ -7,7 +7,7 @@ use Rattle.std.specs.Str.{is_utf8, chars}
 use Rattle.std.specs.Char.{encode_utf8}
 use Rattle.prost_reflect_wire.specs.Varint.{AreBytes, short, are_bytes}
 use Rattle.prost_reflect_wire.specs.Record.{read}
-use Rattle.prost_reflect_wire.specs.Schema.{MessageOf, Singular, message_type}
+use Rattle.prost_reflect_wire.specs.Schema.{Schema, MessageOf, Singular, message_type}
 use Rattle.prost_reflect_wire.specs.Content.{Content, ContentOf, Entries, NoEntries, Value, ScalarValue, MessageValue, ListValue, MapValue, value_at}
 use Rattle.prost_reflect_wire.specs.Scalar.{Scalar, I32, EnumNumber, scalar_eq}
 use Rattle.prost_reflect_wire.specs.Grammar.{LEVEL_LIMIT, Accepts, accepts, unpacked, allows}
@@ -16,15 +16,14 @@ use Rattle.prost_reflect_wire.specs.Edit.{PathTo, holds_message}
 use Rattle.prost_reflect_wire.specs.Typing.{ValueStored}
 use Rattle.prost_reflect_wire.specs.Reducing.{refined_times}
 use Rattle.prost_reflect_wire.specs.Reduction.{TypePairs, types_match, Reduced}
+use Rattle.prost_reflect_wire.specs.Passage.{as_fields}
 use Rattle.prost_reflect_wire.specs.ReducingExamples.{whole, less, other}
 use Rattle.prost_reflect_wire.specs.Examples.Schemas.{examples, field, member, int32, message_value_type, my_message, older_message, maps, maps_without_m, choice, extended, extended_choice, field_at_hundred, no_fields, closed, closed_alone, open_alone}
 use Rattle.prost_reflect_wire.specs.Examples.Words.{int, hex, content, Means, Writes, Sets}
 use Rattle.prost_reflect_wire.specs.Examples.Passages.{AcceptedBy, Relays, Passes, Fails, PassesEdit, Passages, EditPassages, Tested, FailedPassages, ExtensionAgainstField}
 use Rattle.prost_reflect_wire.proofs.Accepted.{accepts_is_test}
 use Rattle.prost_reflect_wire.proofs.Deeper.{and_both}
-use Rattle.prost_reflect_wire.proofs.Older.{older_accepts}
-use Rattle.prost_reflect_wire.proofs.Passing.{passage}
-use Rattle.prost_reflect_wire.proofs.Editing.{edit_passage}
+use Rattle.prost_reflect_wire.proofs.PassageLaws.{older_accepts, passage, edit_passage}
 use Rattle.prost_reflect_wire.proofs.Refining.{reduced_is_test}
 use Rattle.prost_reflect_wire.proofs.Examples.ComputedContents.{schemas}
 use Rattle.prost_reflect_wire.proofs.Examples.ComputedReductions.{reductions}
@@ -80,8 +79,11 @@ passes_edit A B bytes path v again small reduced level to plain h sets short =
 
 -- AGAINST THE LAWS
 
+unmatched_in : (schema : Schema) (A B : ℕ) → ((pairs : TypePairs) → types_match pairs (message_type schema A) (message_type schema B) ≡ false) → Reduced schema A schema B → ⊥
+unmatched_in schema A B h r = true≢false (sym (pair_matches r.pairs r.pairs schema schema A B r.first r.each) ∙ h r.pairs)
+
 pub unmatched : (A B : ℕ) → ((pairs : TypePairs) → types_match pairs (message_type examples A) (message_type examples B) ≡ false) → Reduced examples A examples B → ⊥
-unmatched A B h r = true≢false (sym (pair_matches r.pairs r.pairs examples examples A B r.first r.each) ∙ h r.pairs)
+unmatched = unmatched_in examples
 
 -- whether the value at number 1 is this one
 abbrev is_scalar : Scalar → Value → Bool
@@ -168,8 +170,10 @@ pub extension_against_field : ExtensionAgainstField
 unfolding short read unpacked allows meaning steps is_utf8 chars encode_utf8
 extension_against_field = record {
   unreduced = unmatched extended field_at_hundred (λ pairs. refl);
+  reduced_as_fields = record { pairs = (extended, field_at_hundred) ∷ []; first = refl; each = refl };
   relays = relays _ _ _ _ _ refl refl refl refl (lit< tt);
   passes_on = (accepted_by field_at_hundred "a00605" refl refl, refl);
   sets = ((_, refl, record { valid = refl; fits = refl; types = tt; order = refl; members = refl }), refl);
   set_behind = (accepted_by field_at_hundred "a00607" refl refl, refl);
+  members = unmatched_in (as_fields examples) extended_choice choice (λ pairs. refl);
 }

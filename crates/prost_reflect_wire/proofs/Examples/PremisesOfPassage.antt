@@ -14,9 +14,7 @@ use Rattle.prost_reflect_wire.specs.Examples.Schemas.{examples, my_message, olde
 use Rattle.prost_reflect_wire.specs.Examples.Words.{hex, int}
 use Rattle.prost_reflect_wire.specs.Examples.PremisesOfPassage.{OfPassages, OfFields, relayed_bytes, older_content, to_bar, first_field}
 use Rattle.prost_reflect_wire.proofs.Accepted.{accepts_is_test}
-use Rattle.prost_reflect_wire.proofs.Older.{older_accepts}
-use Rattle.prost_reflect_wire.proofs.Passing.{passage}
-use Rattle.prost_reflect_wire.proofs.Editing.{edit_passage}
+use Rattle.prost_reflect_wire.proofs.PassageLaws.{older_accepts, passage, edit_passage}
 use Rattle.prost_reflect_wire.proofs.Refining.{reduced_is_test}
 use Rattle.prost_reflect_wire.proofs.SpelledValid.{field_again}
 use Rattle.prost_reflect_wire.proofs.Examples.ComputedReductions.{reductions}

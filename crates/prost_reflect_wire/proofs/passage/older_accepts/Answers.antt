@@ -1,4 +1,4 @@
-use Rattle.prost_reflect_wire.proofs.Older.{older_accepts}
+use Rattle.prost_reflect_wire.proofs.PassageLaws.{older_accepts}
 use Rattle.prost_reflect_wire.proofs.passage.older_accepts.Goals as goal
 
 pub returns : goal.returns

@@ -1,4 +1,4 @@
-use Rattle.prost_reflect_wire.proofs.Passing.{passage}
+use Rattle.prost_reflect_wire.proofs.PassageLaws.{passage}
 use Rattle.prost_reflect_wire.proofs.passage.passage.Goals as goal
 
 pub returns : goal.returns
