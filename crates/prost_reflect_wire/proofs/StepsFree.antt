@@ -1,5 +1,5 @@
 -- More levels than are left change nothing of what records make of a content.
-use Rattle.std.proofs.Common.{◌≡◌, ℕ, zero, suc, ◌+◌, ◌-◌, ◌≤◌, Bool, true, false, cond, ◌&&◌, List, [], ◌∷◌, ◌++◌, map, nat_eq, nat_le, Option, Some, None, refl, ap, ap₂, sym, ◌∙◌, arith, true≢false}
+use Rattle.std.proofs.Common.{◌≡◌, ℕ, zero, suc, ◌+◌, ◌-◌, ◌≤◌, ◌<◌, ◌^◌, Bool, true, false, cond, ◌&&◌, List, [], ◌∷◌, ◌++◌, length, map, nat_eq, nat_le, Option, Some, None, refl, ap, ap₂, sym, ◌∙◌, arith, true≢false}
 use Rattle.std.specs.Prelude.{max}
 use Rattle.std.specs.List.{list_all}
 use Rattle.std.proofs.lemmas.Bool.{eqb-true}
@@ -11,19 +11,21 @@ use Rattle.prost_reflect_wire.specs.Grammar.{LEVEL_LIMIT, AllowsInside, body, re
 use Rattle.prost_reflect_wire.specs.Meaning.{MeansInside, JoinsInside, present_list, present_map, put, entry_key, content_in, values_in, pairs_in, one_joined, value_joined, value_step, value_steps, value_behind, slot_step, steps_by, empty_inside, joins_nothing, meaning, steps}
 use Rattle.prost_reflect_wire.specs.Levels.{levels}
 use Rattle.prost_reflect_wire.specs.Edit.{merged}
-use Rattle.prost_reflect_wire.specs.Laws.{block, StaysWell}
+use Rattle.prost_reflect_wire.specs.Writing.{records, encoded}
+use Rattle.prost_reflect_wire.specs.Laws.{block, StaysWell, Writable}
 use Rattle.prost_reflect_wire.specs.Typing.{is_of_type, WellTyped}
 use Rattle.prost_reflect_wire.proofs.Deeper.{and_both, passes_in, message_in, numbered_two, Agrees, element_agree, value_agree, source_allowed, allows_append, levels_free}
 use Rattle.prost_reflect_wire.proofs.Checked.{known_valid, known_differ}
 use Rattle.prost_reflect_wire.proofs.Means.{first_valid}
 use Rattle.prost_reflect_wire.proofs.Numbers.{table_same}
 use Rattle.prost_reflect_wire.proofs.Survivors.{field_number}
-use Rattle.prost_reflect_wire.proofs.Steps.{meaning_empty}
-use Rattle.prost_reflect_wire.proofs.Pieces.{pieces_join, allowed_within}
+use Rattle.prost_reflect_wire.proofs.Steps.{meaning_empty, same_behind}
+use Rattle.prost_reflect_wire.proofs.Means.{records_mean}
+use Rattle.prost_reflect_wire.proofs.Pieces.{pieces_join, allowed_within, levels_within}
 use Rattle.prost_reflect_wire.proofs.Readable.{number_spelled, inside_spelled}
 use Rattle.prost_reflect_wire.proofs.Slots.{well_good, GoodContent, GoodEntries, GoodSlots, slots_good}
 use Rattle.prost_reflect_wire.proofs.GoodValues.{Inside, GoodInside, FieldGiven, NoStray, content_good}
-use Rattle.prost_reflect_wire.proofs.GoodSteps.{source_good, given, one_behind, sources_good, entries_step, no_level, one_level, steps_good, meaning_good}
+use Rattle.prost_reflect_wire.proofs.GoodSteps.{source_good, given, one_behind, sources_good, entries_step, no_level, one_level, steps_good, meaning_good, meaning_typed}
 use Rattle.prost_reflect_wire.proofs.NormalForms.{meaning_schema, meaning_type, merged_well}
 use Rattle.prost_reflect_wire.proofs.Readings.{steps_behind}
 
@@ -196,3 +198,14 @@ merges_join c front behind h w v a v' a' =
     steps_levels j (max (levels c) LEVEL_LIMIT) (merged c front) behind (ap schema_valid s.schema_same ∙ h) s.typed (omega arith) v'
     (ap₂ (λ s t. allows s j t behind) s.schema_same s.type_same ∙ allowed_within (schema_of c) LEVEL_LIMIT j (type_of c) behind a' (omega arith)) (omega arith)
     ∙ sym (steps_behind (max (levels c) LEVEL_LIMIT) c (merged c front) front behind refl s.schema_same)
+
+pub written_pieces : (schema : Schema) (k m T : ℕ) (front behind : List Record) → schema_valid schema ≡ true → valid (body_of front) ≡ true → allows schema k T front ≡ true → length (encoded (meaning schema k T front)) < 2 ^ 64 → k ≤ m →
+    meaning schema m T (records (meaning schema k T front) ++ behind) ≡ meaning schema m T (front ++ behind)
+written_pieces schema k m T front behind h v a short l =
+    let c : Content = meaning schema k T front in
+    let g : GoodContent k (meaning schema k T front) = meaning_good schema k T front h v a in
+    let low : levels (meaning schema k T front) ≤ k = g.low in
+    let same : schema_of (meaning schema k T front) ≡ schema = meaning_schema schema k T front in
+    let type : type_of (meaning schema k T front) ≡ T = meaning_type schema k T front in
+    let writable : Writable (meaning schema k T front) = record { checked = ap schema_valid same ∙ h; typed = meaning_typed schema k T front h v a; length = short } in
+    same_behind schema m T (records c) front behind (ap₂ (λ s t. meaning s m t (records c)) (sym same) (sym type) ∙ records_mean m c writable (omega arith) ∙ levels_within schema k m T front a l)

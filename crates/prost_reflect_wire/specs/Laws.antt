@@ -232,6 +232,11 @@ MergedMeans = (c : Content) (behind : List Record) → Writable c → merged c b
 abbrev pub PiecesJoin : Type 0
 PiecesJoin = (schema : Schema) (k m T : ℕ) (front behind : List Record) → allows schema k T front ≡ true → k ≤ m → steps m (meaning schema k T front) behind ≡ meaning schema m T (front ++ behind)
 
+-- The records of what pieces mean may stand for the pieces in front of others.
+abbrev pub WrittenPieces : Type 0
+WrittenPieces = (schema : Schema) (k m T : ℕ) (front behind : List Record) → schema_valid schema ≡ true → valid (body_of front) ≡ true → allows schema k T front ≡ true → length (encoded (meaning schema k T front)) < 2 ^ 64 → k ≤ m →
+    meaning schema m T (records (meaning schema k T front) ++ behind) ≡ meaning schema m T (front ++ behind)
+
 -- What is read of a payload that has a spelling, and is no stray, is a value of the kind.
 abbrev pub ReadIsValid : Type 0
 ReadIsValid = (kind : ScalarKind) (p : Payload) (v : Scalar) → payload_valid p ≡ true → is_undeclared kind p ≡ false → elem kind p ≡ Some v → scalar_valid kind v ≡ true

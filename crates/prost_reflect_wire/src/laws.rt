@@ -12,7 +12,7 @@ ghost use Rattle.prost_reflect_wire.specs.Examples.Contents.{Schemas, Validity, 
 ghost use Rattle.prost_reflect_wire.specs.Examples.Editing.{Merging, OneNumber, Access, Paths};
 ghost use Rattle.prost_reflect_wire.specs.Examples.Reductions.{Reductions, NoReductions, Passing};
 ghost use Rattle.prost_reflect_wire.specs.Examples.Faults.{Faults};
-ghost use Rattle.prost_reflect_wire.specs.Laws.{OneReading, ReadIsSpells, WrittenSpells, AcceptsIsTest, MeaningBySteps, Commute, SameBehind, LevelsFree, AllowedFurther, WrittenIsRead, EntriesMean, ScalarBack, MessageBack, ListBack, PackedBack, MapBack, RecordsMean, EncodedSpells, Canonicity, RecordsAllowed, RoundTrip, MergedMeans, PiecesJoin, ReadIsValid, MeaningOrdered, StrayBack, KeptWell, KeptContent, SetWell, MeaningTyped, MeaningLevels, NormalForm, StepsWell, MergedWell, StepsFree, Pieces, MergesJoin, DecodedWell};
+ghost use Rattle.prost_reflect_wire.specs.Laws.{OneReading, ReadIsSpells, WrittenSpells, AcceptsIsTest, MeaningBySteps, Commute, SameBehind, LevelsFree, AllowedFurther, WrittenIsRead, EntriesMean, ScalarBack, MessageBack, ListBack, PackedBack, MapBack, RecordsMean, EncodedSpells, Canonicity, RecordsAllowed, RoundTrip, MergedMeans, PiecesJoin, ReadIsValid, MeaningOrdered, StrayBack, KeptWell, KeptContent, SetWell, MeaningTyped, MeaningLevels, NormalForm, StepsWell, MergedWell, StepsFree, Pieces, MergesJoin, WrittenPieces, DecodedWell};
 
 pub mod faults;
 pub mod instances;
@@ -281,6 +281,11 @@ pub fn pieces()
 /// Pieces merged one behind the other are merged as one.
 pub fn merges_join()
     ensures { MergesJoin }
+{}
+
+/// The records of what pieces mean may stand for the pieces in front of others.
+pub fn written_pieces()
+    ensures { WrittenPieces }
 {}
 
 /// What is decoded is well-typed, and nests no deeper than it was allowed to.

@@ -18,7 +18,7 @@ use Rattle.prost_reflect_wire.proofs.Sound.{read_spells}
 use Rattle.prost_reflect_wire.proofs.Accepted.{accepts_is_test}
 use Rattle.prost_reflect_wire.proofs.GoodSteps.{meaning_typed, meaning_levels}
 use Rattle.prost_reflect_wire.proofs.NormalForms.{steps_well, merged_well, normal_form, decoded_well}
-use Rattle.prost_reflect_wire.proofs.StepsFree.{steps_levels, pieces, merges_join}
+use Rattle.prost_reflect_wire.proofs.StepsFree.{steps_levels, pieces, merges_join, written_pieces}
 use Rattle.prost_reflect_wire.proofs.Pieces.{pieces_join, merged_means}
 use Rattle.prost_reflect_wire.proofs.Kept.{kept_well}
 use Rattle.prost_reflect_wire.proofs.Setting.{set_well}
@@ -98,6 +98,8 @@ of_meaning = record {
   pieces = (front_taken, behind_limit, lit≤ tt, lit≤ tt);
   pieces_merged = pieces examples 1 LEVEL_LIMIT my_message front behind refl refl refl refl refl (lit≤ tt) (lit≤ tt);
   pieces_join = pieces_join examples 1 LEVEL_LIMIT my_message front behind refl (lit≤ tt);
+  written_pieces = (front_taken, lit< tt, lit≤ tt);
+  pieces_written = written_pieces examples 1 LEVEL_LIMIT my_message front behind refl refl refl (lit< tt) (lit≤ tt);
   merges_join = (sample_low, behind_limit, front_limit);
   merges_joined = merges_join sample behind front refl sample_typed refl refl refl refl;
 }

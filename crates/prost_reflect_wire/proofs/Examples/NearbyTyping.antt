@@ -33,6 +33,7 @@ not_of_typing = record {
   merged_levels = (deep_writable.typed, refl);
   pieces_levels = (refl, λ e. absurd (omega (arith, ap (λ c. length (encoded c)) e)));
   pieces_allowed = (refl, refl, λ e. absurd (omega (arith, ap (λ c. length (encoded c)) e)));
+  written_pieces = (refl, λ e. absurd (omega (arith, ap (λ c. length (encoded c)) e)));
   merges_join = λ e. absurd (omega (arith, ap (λ c. code (encoded c)) e));
 }
   where

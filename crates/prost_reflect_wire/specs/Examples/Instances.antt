@@ -99,6 +99,10 @@ pub record OfMeaning : Type 0 where
   pub pieces_merged : merged (meaning examples 1 my_message front) behind ≡ meaning examples LEVEL_LIMIT my_message (front ++ behind)
   -- and record by record.
   pub pieces_join : steps LEVEL_LIMIT (meaning examples 1 my_message front) behind ≡ meaning examples LEVEL_LIMIT my_message (front ++ behind)
+  -- A piece that means a content whose bytes have a length, and others behind it.
+  pub written_pieces : Taken 1 front × (length (encoded (meaning examples 1 my_message front)) < 2 ^ 64) × (1 ≤ LEVEL_LIMIT)
+  -- Its content's records may stand for it.
+  pub pieces_written : meaning examples LEVEL_LIMIT my_message (records (meaning examples 1 my_message front) ++ behind) ≡ meaning examples LEVEL_LIMIT my_message (front ++ behind)
   -- Pieces that the limit allows, merged into a content one behind the other.
   pub merges_join : Low 1 sample × Taken LEVEL_LIMIT behind × Taken LEVEL_LIMIT front
   -- They are merged as one.

@@ -70,6 +70,8 @@ pub record NotOfTyping : Type 0 where
   pub pieces_levels : (allows examples 1 my_message front ≡ true) × (steps 0 (meaning examples 1 my_message front) [] ≡ meaning examples 0 my_message (front ++ []) → ⊥)
   -- nor where the first is not allowed.
   pub pieces_allowed : (allows examples 0 my_message front ≡ false) × (allows examples LEVEL_LIMIT my_message behind ≡ true) × (merged (meaning examples 0 my_message front) behind ≡ meaning examples LEVEL_LIMIT my_message (front ++ behind) → ⊥)
+  -- The records of what pieces mean that are not allowed do not stand for them.
+  pub written_pieces : (allows examples 0 my_message front ≡ false) × (meaning examples 1 my_message (records (meaning examples 0 my_message front) ++ []) ≡ meaning examples 1 my_message (front ++ []) → ⊥)
   -- Pieces are not merged in any order.
   pub merges_join : merged (merged sample behind) front ≡ merged sample (front ++ behind) → ⊥
 
