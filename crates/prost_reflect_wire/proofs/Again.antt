@@ -26,6 +26,7 @@ use Rattle.prost_reflect_wire.proofs.Valid.{scalar_sound, inside_sound}
 use Rattle.prost_reflect_wire.proofs.Means.{inside_valid}
 use Rattle.prost_reflect_wire.proofs.Alike.{alike, stray_alike, elements_alike}
 use Rattle.prost_reflect_wire.proofs.Inside.{Joinable}
+use Rattle.prost_reflect_wire.proofs.Allowed.{len_body}
 
 -- One level down: what the records of an older type mean is written so that the newer one, which allows them, allows it and means the same by it.
 pub record Carries (pairs : TypePairs) (k : ℕ) (i : MeansInside) (a : AllowsInside) (j : MeansInside) : Type 0 where
@@ -66,9 +67,6 @@ pub scalar_again : (pairs : TypePairs) (a : AllowsInside) (j : MeansInside) (kA 
     Again a j (ScalarOf kA) (ScalarOf kB) (ScalarValue v) (ScalarValue v)
 scalar_again pairs a j kA kB v h ok = record { sound = scalar_sound (ScalarOf kA) v ok; read = λ spelt. scalar_reads pairs a j kA kB v h ok }
 
-pub body_back : (rs : List Record) → valid (body_of rs) ≡ true → body (Flat (Len (spelled rs))) ≡ Some rs
-body_back rs h = ap (λ (o : Option Records). o >>= λ rs. Some (items rs)) (spelled_read (body_of rs) (short_body (body_of rs)) (short_spells (body_of rs) h)) ∙ ap Some (items_body rs)
-
 -- a message of the older type, and what the newer one reads of its records
 pub written_again : (pairs : TypePairs) (a : AllowsInside) (j : MeansInside) (kA kB : Kind) (B : ℕ) (c d : Content) → same_kind pairs kA kB ≡ true → is_of_type kB B ≡ true → Sound (records c) →
     (valid (body_of (records c)) ≡ true → a B (records c) ≡ true) → (valid (body_of (records c)) ≡ true → j B (records c) ≡ d) → Again a j kA kB (MessageValue c) (MessageValue d)
@@ -79,7 +77,7 @@ written_again pairs a j (MessageOf A) (MessageOf U) B c d h t s allowed same = r
       record {
         alone = refl;
         stays = refl;
-        allowed = ap (λ o. passes o (a U)) (body_back (records c) ok) ∙ ap (λ (n : ℕ). a n (records c)) (sym (eqb-true B U t)) ∙ allowed ok;
+        allowed = ap (λ o. passes o (a U)) (len_body (records c) ok) ∙ ap (λ (n : ℕ). a n (records c)) (sym (eqb-true B U t)) ∙ allowed ok;
         means = ap (λ rs. MessageValue (j U rs) ∷ []) (payload_back (MessageOf A) (records c) ok) ∙ ap (λ (n : ℕ). MessageValue (j n (records c)) ∷ []) (sym (eqb-true B U t)) ∙ ap (λ c. MessageValue c ∷ []) (same ok);
       };
 }

@@ -17,17 +17,9 @@ use Rattle.prost_reflect_wire.proofs.Commuting.{value_records_block}
 use Rattle.prost_reflect_wire.proofs.Deeper.{and_both, both_true, all_after}
 use Rattle.prost_reflect_wire.proofs.Values.{value_records_known, unknown_known}
 use Rattle.prost_reflect_wire.proofs.Spelt.{Sound, sound_append}
+use Rattle.prost_reflect_wire.proofs.Back.{filter_block}
 
 -- RECORDS OF A NUMBER
-
-pub filter_block : (n m : ℕ) (ps : List Payload) → filter (has_number m) (map (record_at n) ps) ≡ cond (nat_eq n m) (map (record_at n) ps) []
-filter_block n m ps = go (nat_eq n m) refl ps
-  where
-    go : (b : Bool) → nat_eq n m ≡ b → (ps : List Payload) → filter (has_number m) (map (record_at n) ps) ≡ cond b (map (record_at n) ps) []
-    go true e [] = refl
-    go false e [] = refl
-    go true e (p ∷ ps) = ap (λ b. cond b (record_at n p ∷ filter (has_number m) (map (record_at n) ps)) (filter (has_number m) (map (record_at n) ps))) e ∙ ap (λ l. record_at n p ∷ l) (go true e ps)
-    go false e (p ∷ ps) = ap (λ b. cond b (record_at n p ∷ filter (has_number m) (map (record_at n) ps)) (filter (has_number m) (map (record_at n) ps))) e ∙ go false e ps
 
 pub block_payloads : (n : ℕ) (ps : List Payload) → payloads (map (record_at n) ps) ≡ ps
 block_payloads n [] = refl

@@ -17,7 +17,7 @@ use Rattle.prost_reflect_wire.proofs.Survivors.{field_number}
 use Rattle.prost_reflect_wire.proofs.Steps.{surviving_value, meaning_covers, meaning_empty}
 use Rattle.prost_reflect_wire.proofs.Checked.{checked_field, found_valid}
 use Rattle.prost_reflect_wire.proofs.Spelt.{Sound}
-use Rattle.prost_reflect_wire.proofs.Setting.{set_well}
+use Rattle.prost_reflect_wire.proofs.Setting.{set_well, in_found}
 use Rattle.prost_reflect_wire.proofs.Kept.{kept_content}
 use Rattle.prost_reflect_wire.proofs.GoodSteps.{meaning_typed}
 use Rattle.prost_reflect_wire.proofs.NormalForms.{meaning_schema, meaning_type}
@@ -101,10 +101,6 @@ both_know pairs k i a j older newer A B rs n f s found =
     let (g, l) = like pairs (known older A) (known newer B) n f s.match found in
     record { field = g; like = l; found = ap (field_of (known newer B)) (sym (field_number (known older A) n f found)) ∙ l.found }
 
-in_known : (schema : Schema) (T n : ℕ) (es : Entries) (f : Field) (change : Schema → List Field → Field → Entries → Entries) → field_of (known schema T) n ≡ Some f →
-    in_field n change (ContentOf schema T es) ≡ ContentOf schema T (change schema (known schema T) f es)
-in_known schema T n es f change e = ap (λ (o : Option Field). ContentOf schema T (elim o [ None ↦ es | Some f ↦ change schema (known schema T) f es ])) e
-
 -- a value without messages
 leaf_edited : (pairs : TypePairs) (k : ℕ) (i : MeansInside) (a : AllowsInside) (j : MeansInside) (older newer : Schema) (A B : ℕ) (rs : List Record) (n : ℕ) (f : Field) (v : Value) → Step pairs k i a j older newer A B rs → field_of (known older A) n ≡ Some f → ValueStored older f v → holds_message v ≡ false →
     Edited (λ B rs. list_all (record_allowed k a (known newer B)) rs) (meaning_by j newer) B (set_at (n ∷ []) v (meaning_by i older A rs)) (set_at (n ∷ []) v (meaning_by j newer B rs))
@@ -116,9 +112,9 @@ leaf_edited pairs k i a j older newer A B rs n f v s found stored none =
     let again : FieldAgain k a j b.field.form b.field.value_type (stored_payloads (Some f) (kept_value (Some f) (kept_inside v))) (kept_value (Some b.field) (kept_inside v)) =
     subst (λ w. FieldAgain k a j g.form g.value_type (stored_payloads (Some f) (kept_value (Some f) w)) (kept_value (Some g) w)) (sym same)
     (value_carried pairs k a j older f g v l.form l.type (checked_field older f (found_valid older (known older A) n f s.checked found)) stored.valid stored.order none) in
-    subst (λ c. Edited (λ B rs. list_all (record_allowed k a (known newer B)) rs) (meaning_by j newer) B c (set_at (n ∷ []) v (meaning_by j newer B rs))) (sym (in_known older A n (table (meaning_at i (known older A) rs) (numbers_of rs)) f (λ schema fields f es. set_field fields f v es) found))
+    subst (λ c. Edited (λ B rs. list_all (record_allowed k a (known newer B)) rs) (meaning_by j newer) B c (set_at (n ∷ []) v (meaning_by j newer B rs))) (sym (in_found older A n (table (meaning_at i (known older A) rs) (numbers_of rs)) f (λ schema fields f es. set_field fields f v es) found))
     (subst (λ d. Edited (λ B rs. list_all (record_allowed k a (known newer B)) rs) (meaning_by j newer) B (ContentOf older A (set_field (known older A) f v (table (meaning_at i (known older A) rs) (numbers_of rs)))) d)
-    (sym (in_known newer B n (table (meaning_at j (known newer B) rs) (numbers_of rs)) g (λ schema fields f es. set_field fields f v es) b.found))
+    (sym (in_found newer B n (table (meaning_at j (known newer B) rs) (numbers_of rs)) g (λ schema fields f es. set_field fields f v es) b.found))
     (set_edited pairs k i a j older newer A B rs n f g (kept_value (Some f) (kept_inside v)) (kept_value (Some g) (kept_inside v)) s found l again))
 
 -- A MESSAGE
@@ -175,7 +171,7 @@ message_set : (inner : MeansInside) (schema : Schema) (T : ℕ) (rs : List Recor
     set_at (n ∷ m ∷ path) v (meaning_by inner schema T rs) ≡ ContentOf schema T (with_field_value (known schema T) f (Some (MessageValue (set_at (m ∷ path) v (inner U (joined ps))))) (table (meaning_at inner (known schema T) rs) (numbers_of rs)))
 message_set inner schema T rs n m U path v f ps found form e nothing same stays =
     let es : Entries = table (meaning_at inner (known schema T) rs) (numbers_of rs) in
-    in_known schema T n es f (λ schema fields f es. set_field fields f (in_message (value_or_default schema f es) (set_at (m ∷ path) v)) es) found
+    in_found schema T n es f (λ schema fields f es. set_field fields f (in_message (value_or_default schema f es) (set_at (m ∷ path) v)) es) found
     ∙ ap (λ w. ContentOf schema T (set_field (known schema T) f (in_message w (set_at (m ∷ path) v)) es))
     (lent_message inner schema (known schema T) rs n U f found form e nothing ∙ ap (λ ps. MessageValue (inner U (joined ps))) same)
     ∙ ap (λ o. ContentOf schema T (with_field_value (known schema T) f o es)) (kept_message f (set_at (m ∷ path) v (inner U (joined ps))) form stays)

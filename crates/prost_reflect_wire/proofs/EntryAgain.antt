@@ -28,7 +28,10 @@ use Rattle.prost_reflect_wire.proofs.Alike.{alike, SameType, stray_alike}
 use Rattle.prost_reflect_wire.proofs.ByNumber.{payloads_pass, record_valid, valid_all}
 use Rattle.prost_reflect_wire.proofs.Readable.{inside_spelled}
 use Rattle.prost_reflect_wire.proofs.Inside.{Joinable, passes_inside, joined_valid, joined_allowed}
-use Rattle.prost_reflect_wire.proofs.Again.{Carries, ReadAs, Again, body_back, scalar_again, message_again, group_again}
+use Rattle.prost_reflect_wire.proofs.Again.{Carries, ReadAs, Again, scalar_again, message_again, group_again}
+use Rattle.prost_reflect_wire.proofs.Allowed.{len_body}
+use Rattle.prost_reflect_wire.proofs.Maps.{first_of, second_of, key_back, value_present}
+use Rattle.prost_reflect_wire.proofs.EntryDefaults.{default_valid_key, key_stays, last_or_valid}
 
 -- PAYLOADS IN AN ENTRY
 
@@ -70,31 +73,6 @@ entry_of k a key t q h =
     }
 
 -- KEYS
-
--- kinds of keys have valid defaults, and no strays
-default_valid_key : (kind : ScalarKind) → is_key_kind (ScalarOf kind) ≡ true → scalar_valid kind (kind_default kind) ≡ true
-unfolding is_utf8 chars
-default_valid_key Double h = absurd (true≢false (sym h))
-default_valid_key Float h = absurd (true≢false (sym h))
-default_valid_key BytesKind h = absurd (true≢false (sym h))
-default_valid_key (Enum first numbers) h = absurd (true≢false (sym h))
-default_valid_key StringKind h = refl
-default_valid_key _ h = refl
-
-key_stays : (kind : ScalarKind) (p : Payload) → is_key_kind (ScalarOf kind) ≡ true → is_undeclared kind p ≡ false
-key_stays (Enum first numbers) p h = absurd (true≢false (sym h))
-key_stays _ p h = refl
-
-last_or_valid : (kind : ScalarKind) (v : Scalar) (ps : List Payload) → scalar_valid kind v ≡ true → list_all payload_valid ps ≡ true → ((p : Payload) → last ps ≡ Some p → is_undeclared kind p ≡ false) → scalar_valid kind (last_or kind v ps) ≡ true
-last_or_valid kind v ps ok spelt stays = go (last ps) refl
-  where
-    by : (p : Payload) → last ps ≡ Some p → (o : Option Scalar) → elem kind p ≡ o → scalar_valid kind (elim o [ None ↦ v | Some w ↦ w ]) ≡ true
-    by p e None d = ok
-    by p e (Some w) d = read_valid kind p w (last_passes payload_valid p ps spelt e) (stays p e) d
-
-    go : (o : Option Payload) → last ps ≡ o → scalar_valid kind (elim (o >>= elem kind) [ None ↦ v | Some w ↦ w ]) ≡ true
-    go None e = ok
-    go (Some p) e = by p e (elem kind p) refl
 
 last_or_same : (pairs : TypePairs) (kA kB : ScalarKind) (v w : Scalar) (ps : List Payload) → same_kind pairs (ScalarOf kA) (ScalarOf kB) ≡ true → w ≡ v → last_or kB w ps ≡ last_or kA v ps
 last_or_same pairs kA kB v w ps h e = go (last ps)
@@ -172,32 +150,6 @@ pub record PairAgain (k : ℕ) (a : AllowsInside) (j : MeansInside) (keyA tA key
   pub sound : SoundPayload (pair_payload keyA tA x v)
   pub read : payload_valid (pair_payload keyA tA x v) ≡ true → PairReads k a j keyB tB (pair_payload keyA tA x v) x w
 
-first_of : (b c : Bool) (p q : Payload) → numbered 1 (cond b [] (record_at 1 p ∷ []) ++ cond c [] (record_at 2 q ∷ [])) ≡ cond b [] (p ∷ [])
-first_of true true p q = refl
-first_of true false p q = refl
-first_of false true p q = refl
-first_of false false p q = refl
-
-second_of : (b c : Bool) (p q : Payload) → numbered 2 (cond b [] (record_at 1 p ∷ []) ++ cond c [] (record_at 2 q ∷ [])) ≡ cond c [] (q ∷ [])
-second_of true true p q = refl
-second_of true false p q = refl
-second_of false true p q = refl
-second_of false false p q = refl
-
--- the key of the older type is read again
-key_back : (key : ValueType) (x : Scalar) (rs : List Record) → kind_takes key.kind x ≡ true → has_kind_default key ≡ true → numbered 1 rs ≡ cond (is_default_of key (ScalarValue x)) [] (scalar_payload key.kind x ∷ []) → entry_key key rs ≡ x
-key_back key x rs takes h e = go key.kind takes h e
-  where
-    go : (kind : Kind) → kind_takes kind x ≡ true → (elim kind [ ScalarOf kind ↦ scalar_eq key.default (kind_default kind) | _ ↦ true ]) ≡ true → numbered 1 rs ≡ cond (is_default_of key (ScalarValue x)) [] (scalar_payload kind x ∷ []) →
-        (elim kind [ ScalarOf kind ↦ last_or kind (kind_default kind) (numbered 1 rs) | _ ↦ key.default ]) ≡ x
-    go (MessageOf T) takes h e = absurd (true≢false (sym takes))
-    go (GroupOf T) takes h e = absurd (true≢false (sym takes))
-    go (ScalarOf kind) takes h e = ap (last_or kind (kind_default kind)) e ∙ by (is_default_of key (ScalarValue x)) refl
-      where
-        by : (b : Bool) → is_default_of key (ScalarValue x) ≡ b → last_or kind (kind_default kind) (cond b [] (scalar_payload (ScalarOf kind) x ∷ [])) ≡ x
-        by true d = sym (scalars_equal x key.default (and_both (not key.presence) (scalar_eq x key.default) d).1 ∙ scalars_equal key.default (kind_default kind) h)
-        by false d = ap (λ (o : Option Scalar). elim o [ None ↦ kind_default kind | Some w ↦ w ]) (read_back kind x takes)
-
 key_fits : (pairs : TypePairs) (a : AllowsInside) (kA kB : Kind) (x : Scalar) → same_kind pairs kA kB ≡ true → kind_takes kA x ≡ true → one_allowed a kB (scalar_payload kA x) ≡ true
 key_fits pairs a (ScalarOf kA) (ScalarOf kB) x h takes = ap is_some ((alike kA kB h).reads (scalar_payload (ScalarOf kA) x) ∙ read_back kA x takes)
 key_fits pairs a (ScalarOf kA) (MessageOf B) x h takes = absurd (true≢false (sym h))
@@ -211,15 +163,6 @@ by_payloads j t (ScalarOf kind) rs qs e = ap (λ ps. ScalarValue (last_or kind t
 by_payloads j t (MessageOf T) rs qs e = ap (λ ps. MessageValue (j T (joined ps))) e
 by_payloads j t (GroupOf T) rs qs e = ap (λ ps. MessageValue (j T (joined ps))) e
 
-value_present : (j : MeansInside) (t : ValueType) (kind : Kind) (q : Payload) (w : Value) (rs : List Record) → element j kind q ≡ w ∷ [] → numbered 2 rs ≡ q ∷ [] → entry_value j t kind rs ≡ w
-value_present j t (ScalarOf kind) q w rs h e = ap (λ ps. ScalarValue (last_or kind t.default ps)) e ∙ go (elem kind q) h
-  where
-    go : (o : Option Scalar) → scalar_values o ≡ w ∷ [] → ScalarValue (elim o [ None ↦ t.default | Some u ↦ u ]) ≡ w
-    go None h = cc
-    go (Some u) h = cc
-value_present j t (MessageOf T) q w rs h e = ap (λ ps. MessageValue (j T (joined ps))) e ∙ ap (λ l. MessageValue (j T l)) (append-nil (records_in q)) ∙ cc
-value_present j t (GroupOf T) q w rs h e = ap (λ ps. MessageValue (j T (joined ps))) e ∙ ap (λ l. MessageValue (j T l)) (append-nil (records_in q)) ∙ cc
-
 -- the record of the value, or none for a default
 record SecondReads (k : ℕ) (a : AllowsInside) (j : MeansInside) (keyB tB : ValueType) (b : Bool) (q : Payload) (w : Value) : Type 0 where
   stays : (elim (last (cond b [] (q ∷ []))) [ None ↦ false | Some p ↦ is_stray tB.kind p ]) ≡ false
@@ -232,7 +175,7 @@ second_reads k a j tA keyB tB v w front true d u spelt = record { stays = refl; 
 second_reads k a j tA keyB tB v w front false d u spelt =
     let q : Payload = value_payload tA.kind v in
     let r : ReadAs a j tA.kind tB.kind v w = u.again.read (first_valid (record_at 2 q) [] (behind_valid front (record_at 2 q ∷ []) spelt)).0 in
-    record { stays = r.stays; value = λ rs e. value_present j tB tB.kind q w rs r.means e; allowed = both_true r.allowed refl }
+    record { stays = r.stays; value = λ rs e. value_present j tB tB.kind w q rs r.means e; allowed = both_true r.allowed refl }
 
 first_allowed : (pairs : TypePairs) (k : ℕ) (a : AllowsInside) (keyA keyB tB : ValueType) (x : Scalar) (b : Bool) → same_kind pairs keyA.kind keyB.kind ≡ true → kind_takes keyA.kind x ≡ true → list_all (in_entry_allowed k a keyB tB) (cond b [] (record_at 1 (scalar_payload keyA.kind x) ∷ [])) ≡ true
 first_allowed pairs k a keyA keyB tB x true h takes = refl
@@ -271,6 +214,6 @@ pair_again pairs k a j keyA tA keyB tB x v w same keyed default takes level u = 
           stays = ap (λ rs. stray (numbered 2 rs)) back ∙ ap stray two ∙ r.stays;
           key_read = ap (entry_key keyB) back ∙ key_same pairs keyA keyB (first ++ second) same keyed ∙ key_back keyA x (first ++ second) takes default one;
           value_read = ap (entry_value j tB tB.kind) back ∙ r.value (first ++ second) two;
-          allowed = both_true level (ap (λ o. passes o (list_all (in_entry_allowed k a keyB tB))) (body_back (first ++ second) ok)
+          allowed = both_true level (ap (λ o. passes o (list_all (in_entry_allowed k a keyB tB))) (len_body (first ++ second) ok)
               ∙ list_all-append (in_entry_allowed k a keyB tB) first second ∙ both_true (first_allowed pairs k a keyA keyB tB x (is_default_of keyA (ScalarValue x)) same.kind takes) r.allowed);
         }

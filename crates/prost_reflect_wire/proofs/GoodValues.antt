@@ -20,6 +20,8 @@ use Rattle.prost_reflect_wire.proofs.Declared.{read_valid}
 use Rattle.prost_reflect_wire.proofs.FieldTypes.{field_typed, typed_field}
 use Rattle.prost_reflect_wire.proofs.Readable.{inside_spelled, append_valid, numbered_valid}
 use Rattle.prost_reflect_wire.proofs.Slots.{deep_test, GoodValue}
+use Rattle.prost_reflect_wire.proofs.ListTests.{not_true, last_passes}
+use Rattle.prost_reflect_wire.proofs.EntryDefaults.{default_valid_key, key_stays, last_or_valid}
 
 -- ONE LEVEL DOWN
 
@@ -171,43 +173,11 @@ put_good schema key kind k x v ps t g h =
     let p : PairParts schema key kind k (put x v ps) = put_parts schema key kind k x v ps t g (record { valid = h.valid; deep = h.deep; types = h.types; low = h.low }) in
     record { valid = p.valid; deep = p.deep; types = p.types; order = put_ordered x v ps g.order h.order; low = p.low }
 
--- the last payload of a number, or a default
-last_passes : (test : Payload → Bool) (ps : List Payload) (p : Payload) → list_all test ps ≡ true → last ps ≡ Some p → test p ≡ true
-last_passes test [] p h e = cc
-last_passes test (q ∷ []) p h e =
-    let same : q ≡ p = ap (λ (o : Option Payload). elim o [ None ↦ q | Some x ↦ x ]) e in
-    ap test (sym same) ∙ (and_both (test q) true h).0
-last_passes test (q ∷ r ∷ ps) p h e = last_passes test (r ∷ ps) p (and_both (test q) (list_all test (r ∷ ps)) h).1 e
-
-last_good : (kind : ScalarKind) (d : Scalar) (ps : List Payload) → scalar_valid kind d ≡ true → list_all payload_valid ps ≡ true → ((p : Payload) → last ps ≡ Some p → is_undeclared kind p ≡ false) → scalar_valid kind (last_or kind d ps) ≡ true
-last_good kind d ps h v s = go (last ps) refl
-  where
-    read : (p : Payload) → last ps ≡ Some p → (o : Option Scalar) → elem kind p ≡ o → scalar_valid kind (elim o [ None ↦ d | Some w ↦ w ]) ≡ true
-    read p e None f = h
-    read p e (Some w) f = read_valid kind p w (last_passes payload_valid ps p v e) (s p e) f
-
-    go : (o : Option Payload) → last ps ≡ o → scalar_valid kind (elim (o >>= elem kind) [ None ↦ d | Some w ↦ w ]) ≡ true
-    go None e = h
-    go (Some p) e = read p e (elem kind p) refl
-
--- no key is of an enum
-key_declared : (kind : ScalarKind) (p : Payload) → is_key_kind (ScalarOf kind) ≡ true → is_undeclared kind p ≡ false
-key_declared (Enum first numbers) p h = absurd (true≢false (sym h))
-key_declared _ p h = refl
-
-key_default_valid : (kind : ScalarKind) → is_key_kind (ScalarOf kind) ≡ true → scalar_valid kind (kind_default kind) ≡ true
-unfolding is_utf8 chars
-key_default_valid Double h = absurd (true≢false (sym h))
-key_default_valid Float h = absurd (true≢false (sym h))
-key_default_valid BytesKind h = absurd (true≢false (sym h))
-key_default_valid (Enum first numbers) h = absurd (true≢false (sym h))
-key_default_valid _ h = refl
-
 key_good : (key : ValueType) (rs : List Record) → is_key_kind key.kind ≡ true → valid (body_of rs) ≡ true → kind_takes key.kind (entry_key key rs) ≡ true
 key_good key rs h v = go key.kind h
   where
     go : (kind : Kind) → is_key_kind kind ≡ true → kind_takes kind (elim kind [ ScalarOf kind ↦ last_or kind (kind_default kind) (numbered 1 rs) | _ ↦ key.default ]) ≡ true
-    go (ScalarOf kind) h = last_good kind (kind_default kind) (numbered 1 rs) (key_default_valid kind h) (numbered_valid 1 rs v) (λ p e. key_declared kind p h)
+    go (ScalarOf kind) h = last_or_valid kind (kind_default kind) (numbered 1 rs) (default_valid_key kind h) (numbered_valid 1 rs v) (λ p e. key_stays kind p h)
     go (MessageOf T) h = absurd (true≢false (sym h))
     go (GroupOf T) h = absurd (true≢false (sym h))
 
@@ -229,7 +199,7 @@ entry_value_good : (schema : Schema) (k : ℕ) (allow : AllowsInside) (inner : M
     default_valid kind value_type.default ≡ true → has_level k kind ≡ true → valid (body_of rs) ≡ true → list_all (one_allowed allow kind) (numbered 2 rs) ≡ true → (elim (last (numbered 2 rs)) [ None ↦ false | Some q ↦ is_stray kind q ]) ≡ false →
     GoodElement schema kind k (entry_value inner value_type kind rs)
 entry_value_good schema k allow inner further value_type (ScalarOf kind) rs g d l v a s =
-    scalar_good schema kind k (last_or kind value_type.default (numbered 2 rs)) (last_good kind value_type.default (numbered 2 rs) d (numbered_valid 2 rs v) (λ p e. sym (ap (λ (o : Option Payload). elim o [ None ↦ false | Some q ↦ is_undeclared kind q ]) e) ∙ s))
+    scalar_good schema kind k (last_or kind value_type.default (numbered 2 rs)) (last_or_valid kind value_type.default (numbered 2 rs) d (numbered_valid 2 rs v) (λ p e. sym (ap (λ (o : Option Payload). elim o [ None ↦ false | Some q ↦ is_undeclared kind q ]) e) ∙ s))
 entry_value_good schema k allow inner further value_type (MessageOf T) rs g d l v a s =
     message_good schema (MessageOf T) k T (inner T (joined (numbered 2 rs))) refl (own T)
     (g.read T (joined (numbered 2 rs)) (joined_valid (numbered 2 rs) (numbered_valid 2 rs v)) (joined_allowed schema k T allow inner further is_len (numbered 2 rs) g (g.level T (ltb-true 0 k l)) a))
@@ -386,10 +356,6 @@ abbrev pub NoStray : FieldForm → ValueType → Payload → Bool
 NoStray Singular value_type p = not (is_stray value_type.kind p)
 NoStray (Repeated packed) value_type p = not (is_stray value_type.kind p)
 NoStray (MapFrom key) value_type p = not (is_stray_entry value_type p)
-
-not_true : (b : Bool) → not b ≡ true → b ≡ false
-not_true true h = absurd (true≢false (sym h))
-not_true false h = refl
 
 pub joined_good : (schema : Schema) (k : ℕ) (allow : AllowsInside) (inner : MeansInside) (further : JoinsInside) (f : Field) (old : Option Value) (p : Payload) (v : Value) → GoodInside schema k allow inner further → FieldGiven schema k f old →
     payload_valid p ≡ true → source_allowed k allow f.form f.value_type p ≡ true → NoStray f.form f.value_type p ≡ true → value_joined inner further f.form f.value_type old p ≡ Some v → GoodValue schema (Some f) k v

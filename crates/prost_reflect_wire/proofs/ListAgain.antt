@@ -18,7 +18,7 @@ use Rattle.prost_reflect_wire.proofs.Deeper.{and_both, both_true, all_append, el
 use Rattle.prost_reflect_wire.proofs.ListTests.{not_true}
 use Rattle.prost_reflect_wire.proofs.Packed.{unpacked_back}
 use Rattle.prost_reflect_wire.proofs.Spelt.{plain_bytes, payload_size, SoundPayload, SoundPayloads}
-use Rattle.prost_reflect_wire.proofs.Valid.{scalar_sound}
+use Rattle.prost_reflect_wire.proofs.Valid.{scalar_sound, end_bytes, packed_sound}
 use Rattle.prost_reflect_wire.proofs.Alike.{Alike, alike, elements_alike, unpacked_alike}
 use Rattle.prost_reflect_wire.proofs.ByNumber.{stored_payloads}
 use Rattle.prost_reflect_wire.proofs.Readable.{inside_spelled}
@@ -149,24 +149,6 @@ scalars_read pairs a j kA kB (Item (MessageValue c) vs) h ok = absurd (true≢fa
 scalars_read pairs a j kA kB (Item (ListValue ws) vs) h ok = absurd (true≢false (sym ok))
 scalars_read pairs a j kA kB (Item (MapValue ps) vs) h ok = absurd (true≢false (sym ok))
 
--- the payloads of packed elements have a spelling, if they are short
-end_bytes : (ps : List Payload) → SoundPayloads ps → length (end_to_end ps) < 2 ^ 64 → are_bytes (end_to_end ps) ≡ true
-end_bytes [] h l = refl
-end_bytes (p ∷ ps) (one, more) l =
-    let e : length (payload_bytes p ++ end_to_end ps) ≡ length (payload_bytes p) + length (end_to_end ps) = length-append (payload_bytes p) (end_to_end ps) in
-    all_append (λ b. nat_lt b 256) (payload_bytes p) (end_to_end ps) (go p one.sound (omega arith)) (end_bytes ps more (omega arith))
-  where
-    go : (p : Payload) → (payload_size p < 2 ^ 64 → payload_valid p ≡ true) → length (payload_bytes p) < 2 ^ 64 → are_bytes (payload_bytes p) ≡ true
-    go (Flat p) h l = plain_bytes p (h l)
-    go (Group inside) h l = refl
-
-end_sound : (ps : List Payload) → SoundPayloads ps → SoundPayload (Flat (Len (end_to_end ps)))
-end_sound ps s = record {
-  sound = λ l.
-      let small : length (end_to_end ps) < 2 ^ 64 = omega (arith, l, length-append (short (length (end_to_end ps))) (end_to_end ps)) in
-      both_true (lt-ltb (length (end_to_end ps)) (2 ^ 64) small) (end_bytes ps s small);
-}
-
 packed_elements : (pairs : TypePairs) (kA kB : ScalarKind) (vs : Values) → same_kind pairs (ScalarOf kA) (ScalarOf kB) ≡ true → is_packable kA ≡ true → elements_valid (ScalarOf kA) vs ≡ true →
     element_payloads_in (ScalarOf kB) (Flat (Len (end_to_end (element_payloads (ScalarOf kA) vs)))) ≡ element_payloads (ScalarOf kA) vs
 packed_elements pairs kA kB vs h p ok =
@@ -226,7 +208,7 @@ packed_again pairs a j kA kB (Item v vs) h p ok =
     let r : ListReads a j (ScalarOf kB) (element_payloads (ScalarOf kA) (Item v vs)) (Item v vs) = list_reads a j (ScalarOf kA) (ScalarOf kB) (Item v vs) (Item v vs) (scalars_read pairs a j kA kB (Item v vs) h ok) in
     let inside : element_payloads_in (ScalarOf kB) (Flat (Len (end_to_end (element_payloads (ScalarOf kA) (Item v vs))))) ≡ element_payloads (ScalarOf kA) (Item v vs) = packed_elements pairs kA kB (Item v vs) h p ok in
     record {
-      sound = (end_sound ps (scalars_sound kA (Item v vs) ok), tt);
+      sound = (packed_sound (end_to_end ps) (end_bytes ps (scalars_sound kA (Item v vs) ok)), tt);
       read = λ spelt. record {
         sources = ps;
         strays = append-nil (filter (is_stray (ScalarOf kB)) (element_payloads_in (ScalarOf kB) (Flat (Len (end_to_end ps))))) ∙ ap (filter (is_stray (ScalarOf kB))) inside ∙ r.none;

@@ -18,7 +18,7 @@ use Rattle.prost_reflect_wire.proofs.Alike.{SameType, default_alike}
 use Rattle.prost_reflect_wire.proofs.ByNumber.{stored_payloads}
 use Rattle.prost_reflect_wire.proofs.Again.{Carries, scalar_again, FieldAgain}
 use Rattle.prost_reflect_wire.proofs.EntryAgain.{map_source, Entry, entry_of, key_takes, key_same, ValueAgain, value_again, PairReads, PairAgain, pair_again}
-use Rattle.prost_reflect_wire.proofs.Putting.{Rising, put_rising, put_all, put_all_rising}
+use Rattle.prost_reflect_wire.proofs.Putting.{Rising, put_rising, put_all, put_all_rising, pairs_rising}
 
 -- EACH PAIR
 
@@ -135,12 +135,6 @@ scalars_each pairs k a j keyA tA keyB tB kA kB (Pair x v ps) t eA eB h ok =
     go (MessageValue c) fits = absurd (true≢false (sym fits))
     go (ListValue vs) fits = absurd (true≢false (sym fits))
     go (MapValue qs) fits = absurd (true≢false (sym fits))
-
-pairs_rising : (ps : Pairs) → pairs_ordered ps ≡ true → Rising ps
-pairs_rising NoPairs h = tt
-pairs_rising (Pair x v ps) h =
-    let (ab, rest) = and_both (key_before x ps && value_ordered v) (pairs_ordered ps) h in
-    ((and_both (key_before x ps) (value_ordered v) ab).0, pairs_rising ps rest)
 
 pub scalar_map_again : (pairs : TypePairs) (k : ℕ) (a : AllowsInside) (j : MeansInside) (f : Field) (keyA keyB tB : ValueType) (kA kB : ScalarKind) (ps : Pairs) → f.form ≡ MapFrom keyA → MapTypes pairs keyA f.value_type keyB tB → f.value_type.kind ≡ ScalarOf kA → tB.kind ≡ ScalarOf kB →
     same_kind pairs (ScalarOf kA) (ScalarOf kB) ≡ true → pairs_valid (MapFrom keyA) (ScalarOf kA) ps ≡ true → pairs_ordered ps ≡ true → FieldAgain k a j (MapFrom keyB) tB (stored_payloads (Some f) (present_map ps)) (present_map ps)

@@ -1,13 +1,14 @@
 -- Pairs put into a map one after another: keys stay in order, and a map in order is what its pairs make.
-use Rattle.std.proofs.Common.{◌≡◌, Bool, true, false, cond, refl, ap, ◌∙◌, true≢false}
+use Rattle.std.proofs.Common.{◌≡◌, Bool, true, false, cond, ◌&&◌, refl, ap, ◌∙◌, true≢false}
 use Rattle.std.specs.Bool.{⊤}
 use Rattle.std.specs.declared.cmp.Ordering.{Ordering}
 use Rattle.std.specs.declared.cmp.Ordering.TheVariants.{Less, Equal, Greater}
 use Rattle.std.specs.Ordering.{is_eq, ordering_reverse}
 use Rattle.prost_reflect_wire.specs.Scalar.{Scalar, scalar_cmp, scalar_lt, scalar_eq, is_less}
-use Rattle.prost_reflect_wire.specs.Content.{Value, Pairs, NoPairs, Pair, key_before}
+use Rattle.prost_reflect_wire.specs.Content.{Value, Pairs, NoPairs, Pair, key_before, value_ordered, pairs_ordered}
 use Rattle.prost_reflect_wire.specs.Meaning.{put}
 use Rattle.prost_reflect_wire.proofs.Order.{scalar_total, scalars_equal, less_less, not_below, not_same}
+use Rattle.prost_reflect_wire.proofs.Deeper.{and_both}
 
 -- KEYS IN ORDER
 
@@ -15,7 +16,13 @@ abbrev pub Rising : Pairs → Type 0
 Rising NoPairs = ⊤
 Rising (Pair k v ps) = (key_before k ps ≡ true) × Rising ps
 
-otherwise : (k l : Scalar) → scalar_lt k l ≡ false → scalar_eq k l ≡ false → scalar_lt l k ≡ true
+pub pairs_rising : (ps : Pairs) → pairs_ordered ps ≡ true → Rising ps
+pairs_rising NoPairs h = tt
+pairs_rising (Pair x v ps) h =
+    let (ab, rest) = and_both (key_before x ps && value_ordered v) (pairs_ordered ps) h in
+    ((and_both (key_before x ps) (value_ordered v) ab).0, pairs_rising ps rest)
+
+pub otherwise : (k l : Scalar) → scalar_lt k l ≡ false → scalar_eq k l ≡ false → scalar_lt l k ≡ true
 otherwise k l h e = ap is_less (scalar_total.antisymm l k) ∙ go (scalar_cmp k l) h e
   where
     go : (o : Ordering) → is_less o ≡ false → is_eq o ≡ false → is_less (ordering_reverse o) ≡ true
@@ -23,7 +30,7 @@ otherwise k l h e = ap is_less (scalar_total.antisymm l k) ∙ go (scalar_cmp k 
     go Equal h e = absurd (true≢false e)
     go Greater h e = refl
 
-before_put : (l k : Scalar) (v : Value) (ps : Pairs) → scalar_lt l k ≡ true → key_before l ps ≡ true → key_before l (put k v ps) ≡ true
+pub before_put : (l k : Scalar) (v : Value) (ps : Pairs) → scalar_lt l k ≡ true → key_before l ps ≡ true → key_before l (put k v ps) ≡ true
 before_put l k v NoPairs h b = h
 before_put l k v (Pair m w ps) h b = go (scalar_lt k m) (scalar_eq k m)
   where

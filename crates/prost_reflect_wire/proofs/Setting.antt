@@ -101,7 +101,7 @@ field_set schema T n es f v h w found s =
     (content_good schema T k (set_field (known schema T) f v es)
     (set_good schema (known schema T) k f v es (known_differ schema T h) (ap (field_of (known schema T)) (field_number (known schema T) n f found) ∙ found) s (omega arith) g))
 
-in_found : (schema : Schema) (T n : ℕ) (es : Entries) (f : Field) (change : Schema → List Field → Field → Entries → Entries) → field_of (known schema T) n ≡ Some f →
+pub in_found : (schema : Schema) (T n : ℕ) (es : Entries) (f : Field) (change : Schema → List Field → Field → Entries → Entries) → field_of (known schema T) n ≡ Some f →
     in_field n change (ContentOf schema T es) ≡ ContentOf schema T (change schema (known schema T) f es)
 in_found schema T n es f change e = ap (λ (o : Option Field). ContentOf schema T (elim o [ None ↦ es | Some f ↦ change schema (known schema T) f es ])) e
 

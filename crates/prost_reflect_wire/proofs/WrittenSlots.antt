@@ -22,6 +22,8 @@ use Rattle.prost_reflect_wire.proofs.Fellows.{lone, fellows, unknown_no_sibling}
 use Rattle.prost_reflect_wire.proofs.ByNumber.{block_payloads, values_of_block, strays_of_block, filter_values, none_by_number, after_none, stored_payloads, slot_payloads, table_records, table_all, table_sound}
 use Rattle.prost_reflect_wire.proofs.Again.{FieldReads, FieldAgain}
 use Rattle.prost_reflect_wire.proofs.FieldAgain.{strays_stay, Strays}
+use Rattle.prost_reflect_wire.proofs.Valid.{block_sound}
+use Rattle.prost_reflect_wire.proofs.Allowed.{block_allowed}
 
 -- LISTS
 
@@ -32,15 +34,6 @@ payloads_append (p ∷ ps) qs (one, more) k = (one, payloads_append ps qs more k
 valid_sound : (ps : List Payload) → list_all payload_valid ps ≡ true → SoundPayloads ps
 valid_sound [] h = tt
 valid_sound (p ∷ ps) h = let (one, more) = and_both (payload_valid p) (list_all payload_valid ps) h in (record { sound = λ l. one }, valid_sound ps more)
-
-block_sound : (n : ℕ) (ps : List Payload) → number_valid n ≡ true → SoundPayloads ps → Sound (map (record_at n) ps)
-block_sound n [] h s = tt
-block_sound n (p ∷ ps) h (one, more) = (record { number = h; payload = one }, block_sound n ps h more)
-
-block_allowed : (k : ℕ) (a : AllowsInside) (fields : List Field) (n : ℕ) (g : Field) (ps : List Payload) → field_of fields n ≡ Some g → list_all (record_allowed k a fields) (map (record_at n) ps) ≡ list_all (field_allowed k a g.form g.value_type) ps
-block_allowed k a fields n g [] e = refl
-block_allowed k a fields n g (p ∷ ps) e =
-    ap₂ ◌&&◌ (ap (λ (o : Option Field). elim o [ None ↦ nat_le (payload_levels p) k | Some f ↦ field_allowed k a f.form f.value_type p ]) e) (block_allowed k a fields n g ps e)
 
 none_filtered : {A : Type 0} (test : A → Bool) (xs : List A) → filter test xs ≡ [] → list_any test xs ≡ false
 none_filtered test [] e = refl

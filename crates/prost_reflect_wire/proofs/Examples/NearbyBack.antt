@@ -15,15 +15,12 @@ use Rattle.prost_reflect_wire.specs.Laws.{ValueBack, UnknownBack, EntriesBack, P
 use Rattle.prost_reflect_wire.specs.Examples.Schemas.{examples, text, int32, my_message, closed}
 use Rattle.prost_reflect_wire.specs.Examples.Words.{content, varint, delimited}
 use Rattle.prost_reflect_wire.specs.Examples.NearbyBack.{descending_pairs, descending_entries, NotOfReadingBack}
-
-payloads_of_block : (n : ℕ) (ps : List Payload) → payloads (block n ps) ≡ ps
-payloads_of_block n [] = refl
-payloads_of_block n (p ∷ ps) = ap (λ qs. p ∷ qs) (payloads_of_block n ps)
+use Rattle.prost_reflect_wire.proofs.ByNumber.{block_payloads}
 
 -- the records of a value that is read back mean it
 means_it : (inner : MeansInside) (fields : List Field) (n : ℕ) (f : Field) (v : Value) → ValueBack inner fields n f v →
     field_value inner f.form f.value_type (payloads (flat_map (value_records fields) (map (record_at n) (field_payloads (Some f) v)))) ≡ Some v
-means_it inner fields n f v b = ap (λ rs. field_value inner f.form f.value_type (payloads rs)) b.read ∙ ap (field_value inner f.form f.value_type) (payloads_of_block n b.sources) ∙ b.value
+means_it inner fields n f v b = ap (λ rs. field_value inner f.form f.value_type (payloads rs)) b.read ∙ ap (field_value inner f.form f.value_type) (block_payloads n b.sources) ∙ b.value
 
 -- what tells values apart
 abbrev number_of_stored : Option Value → ℕ

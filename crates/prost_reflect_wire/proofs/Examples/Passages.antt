@@ -27,7 +27,8 @@ use Rattle.prost_reflect_wire.proofs.PassageLaws.{older_accepts, passage, edit_p
 use Rattle.prost_reflect_wire.proofs.Refining.{reduced_is_test}
 use Rattle.prost_reflect_wire.proofs.Examples.ComputedContents.{schemas}
 use Rattle.prost_reflect_wire.proofs.Examples.ComputedReductions.{reductions}
-use Rattle.prost_reflect_wire.proofs.Examples.NotReduced.{pair_matches, no_reductions}
+use Rattle.prost_reflect_wire.proofs.Examples.NotReduced.{no_reductions}
+use Rattle.prost_reflect_wire.proofs.Matches.{pair_matches}
 
 -- BYTES
 
