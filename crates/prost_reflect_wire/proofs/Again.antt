@@ -3,19 +3,16 @@ use Rattle.std.proofs.Common.{◌≡◌, ℕ, nat_lt, eq-eqb, true, false, List,
 use Rattle.std.specs.Option.{is_some}
 use Rattle.std.specs.List.{list_all}
 use Rattle.std.proofs.lemmas.Bool.{eqb-true}
-use Rattle.prost_reflect_wire.specs.Varint.{◌>>=◌}
-use Rattle.prost_reflect_wire.specs.Record.{Records, Record, Len, Payload, Flat, items, body_of, short_body, spelled, payload_valid, valid}
+use Rattle.prost_reflect_wire.specs.Record.{Record, Payload, body_of, payload_valid, valid}
 use Rattle.prost_reflect_wire.specs.Scalar.{Scalar, ScalarKind, elem, scalar_valid}
 use Rattle.prost_reflect_wire.specs.Schema.{Kind, ScalarOf, MessageOf, GroupOf, ValueType, FieldForm, passes}
 use Rattle.prost_reflect_wire.specs.Content.{Content, Value, ScalarValue, MessageValue}
-use Rattle.prost_reflect_wire.specs.Grammar.{AllowsInside, body, is_stray, element_payloads_in, value_payloads, stray_payloads, one_allowed, field_allowed}
+use Rattle.prost_reflect_wire.specs.Grammar.{AllowsInside, is_stray, element_payloads_in, value_payloads, stray_payloads, one_allowed, field_allowed}
 use Rattle.prost_reflect_wire.specs.Meaning.{MeansInside, element, scalar_values, field_value}
 use Rattle.prost_reflect_wire.specs.Writing.{records, value_payload}
 use Rattle.prost_reflect_wire.specs.Typing.{is_of_type}
 use Rattle.prost_reflect_wire.specs.Reduction.{TypePairs, holds, same_kind}
 use Rattle.prost_reflect_wire.specs.Laws.{ElementBack}
-use Rattle.prost_reflect_wire.proofs.Reading.{spelled_read}
-use Rattle.prost_reflect_wire.proofs.Shortest.{short_spells}
 use Rattle.prost_reflect_wire.proofs.Steps.{field_nothing}
 use Rattle.prost_reflect_wire.proofs.Table.{read_back}
 use Rattle.prost_reflect_wire.proofs.Declared.{read_valid}

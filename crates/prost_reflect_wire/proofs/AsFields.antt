@@ -3,10 +3,10 @@ use Rattle.std.proofs.Common.{◌≡◌, ℕ, zero, suc, Bool, true, false, cond
 use Rattle.std.specs.Bool.{beq}
 use Rattle.std.specs.List.{list_any, list_all}
 use Rattle.prost_reflect_wire.specs.Schema.{Field, MessageType, Schema, message_type, known, field_of, same_oneof, is_sibling, passes}
-use Rattle.prost_reflect_wire.specs.Reduction.{TypePairs, holds, same_form, value_types_match, same_siblings, is_known, has_no_fellow}
+use Rattle.prost_reflect_wire.specs.Reduction.{TypePairs, same_form, value_types_match, same_siblings, is_known, has_no_fellow}
 use Rattle.prost_reflect_wire.specs.Passage.{as_field, with_fields, as_fields, ReducedAsFields}
 use Rattle.prost_reflect_wire.proofs.Deeper.{and_both, both_true}
-use Rattle.prost_reflect_wire.proofs.Matches.{TypesMatch, AllMatch, Relates, matching, has_like}
+use Rattle.prost_reflect_wire.proofs.Matches.{TypesMatch, Relates, matching, has_like}
 
 -- LISTS
 

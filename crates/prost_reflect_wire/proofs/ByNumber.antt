@@ -154,7 +154,7 @@ stored_payloads o (Some v) = field_payloads o v
 abbrev pub slot_payloads : Option Field → Slot → List Payload
 slot_payloads o slot = stored_payloads o slot.value ++ slot.unknowns
 
-unknowns_first : (fields : List Field) (n : ℕ) (ps : List Payload) (es : Entries) → entries_records fields (then_unknowns n ps es) ≡ map (record_at n) ps ++ entries_records fields es
+pub unknowns_first : (fields : List Field) (n : ℕ) (ps : List Payload) (es : Entries) → entries_records fields (then_unknowns n ps es) ≡ map (record_at n) ps ++ entries_records fields es
 unknowns_first fields n [] es = refl
 unknowns_first fields n (p ∷ ps) es = ap (λ l. record_at n p ∷ l) (unknowns_first fields n ps es)
 

@@ -10,7 +10,7 @@ use Rattle.prost_reflect_wire.specs.Grammar.{AllowsInside, payloads, value_recor
 use Rattle.prost_reflect_wire.specs.Meaning.{MeansInside, joined, message_value, one_value, numbers_of, survive, field_value, meaning_at, meaning_by, empty_inside, meaning, decoded}
 use Rattle.prost_reflect_wire.specs.Writing.{records, entries_records, encoded}
 use Rattle.prost_reflect_wire.specs.Typing.{is_of_type, kept, kept_value, kept_inside, ValueStored}
-use Rattle.prost_reflect_wire.specs.Edit.{with_field_value, set_field, default_of, default_value, value_or_default, in_message, in_field, set_at, message_of, PathTo, holds_message, edited}
+use Rattle.prost_reflect_wire.specs.Edit.{with_field_value, set_field, default_of, default_value, value_or_default, in_message, set_at, message_of, PathTo, holds_message, edited}
 use Rattle.prost_reflect_wire.specs.Reduction.{TypePairs, holds}
 use Rattle.prost_reflect_wire.proofs.Numbers.{Ascending, Covers, numbers_ascending, slot_table}
 use Rattle.prost_reflect_wire.proofs.Survivors.{field_number}

@@ -1,25 +1,23 @@
 -- An entry of a map, carried through a reduction.
-use Rattle.std.proofs.Common.{◌≡◌, ℕ, nat_eq, nat_lt, nat_le, eq-eqb, Bool, true, false, cond, not, ◌&&◌, List, [], ◌∷◌, ◌++◌, Option, Some, None, refl, ap, ap₂, sym, subst, ◌∙◌, arith, true≢false, append-nil}
+use Rattle.std.proofs.Common.{◌≡◌, ℕ, nat_eq, nat_lt, nat_le, eq-eqb, Bool, true, false, cond, not, ◌&&◌, List, [], ◌∷◌, ◌++◌, Option, Some, None, refl, ap, ap₂, sym, subst, ◌∙◌, arith, true≢false}
 use Rattle.std.specs.Option.{is_some}
 use Rattle.std.specs.List.{list_all}
-use Rattle.std.specs.Str.{is_utf8, chars}
 use Rattle.std.proofs.lemmas.Bool.{eqb-true, ne_eqb}
 use Rattle.std.proofs.lemmas.List.Folds.{list_all-append}
 use Rattle.prost_reflect_wire.specs.Varint.{◌>>=◌}
 use Rattle.prost_reflect_wire.specs.Record.{Payload, Record, body_of, payload_levels, payload_valid, valid}
-use Rattle.prost_reflect_wire.specs.Scalar.{Scalar, ScalarKind, Double, Float, StringKind, BytesKind, Enum, elem, scalar_valid, scalar_eq, kind_default, is_undeclared}
+use Rattle.prost_reflect_wire.specs.Scalar.{Scalar, ScalarKind, elem, scalar_valid, scalar_eq, kind_default, is_undeclared}
 use Rattle.prost_reflect_wire.specs.Schema.{Kind, ScalarOf, MessageOf, GroupOf, ValueType, MapFrom, is_key_kind, has_kind_default, default_valid, passes}
 use Rattle.prost_reflect_wire.specs.Content.{Value, ScalarValue, MessageValue}
 use Rattle.prost_reflect_wire.specs.Grammar.{AllowsInside, numbered, last, body, records_in, is_stray, is_stray_entry, is_len, one_allowed, in_entry_allowed, has_level, field_allowed}
-use Rattle.prost_reflect_wire.specs.Meaning.{MeansInside, joined, element, scalar_values, last_or, entry_key, entry_value}
+use Rattle.prost_reflect_wire.specs.Meaning.{MeansInside, joined, last_or, entry_key, entry_value}
 use Rattle.prost_reflect_wire.specs.Writing.{record_at, scalar_payload, is_default_of, entry_record, value_payload, pair_payload}
 use Rattle.prost_reflect_wire.specs.Typing.{kind_takes, is_of_type}
 use Rattle.prost_reflect_wire.specs.Reduction.{TypePairs, same_kind, same_default}
-use Rattle.prost_reflect_wire.proofs.Deeper.{and_both, both_true}
-use Rattle.prost_reflect_wire.proofs.ListTests.{not_true, last_passes}
+use Rattle.prost_reflect_wire.proofs.Deeper.{and_both, both_true, passes_in}
+use Rattle.prost_reflect_wire.proofs.ListTests.{not_true}
 use Rattle.prost_reflect_wire.proofs.Order.{scalars_equal}
 use Rattle.prost_reflect_wire.proofs.Table.{read_back}
-use Rattle.prost_reflect_wire.proofs.Declared.{read_valid}
 use Rattle.prost_reflect_wire.proofs.Values.{records_back}
 use Rattle.prost_reflect_wire.proofs.Spelt.{Sound, SoundPayload, sound_append, message_sound}
 use Rattle.prost_reflect_wire.proofs.Valid.{scalar_sound, entry_sound}
@@ -27,7 +25,7 @@ use Rattle.prost_reflect_wire.proofs.Means.{first_valid, behind_valid, body_vali
 use Rattle.prost_reflect_wire.proofs.Alike.{alike, SameType, stray_alike}
 use Rattle.prost_reflect_wire.proofs.ByNumber.{payloads_pass, record_valid, valid_all}
 use Rattle.prost_reflect_wire.proofs.Readable.{inside_spelled}
-use Rattle.prost_reflect_wire.proofs.Inside.{Joinable, passes_inside, joined_valid, joined_allowed}
+use Rattle.prost_reflect_wire.proofs.Inside.{Joinable, joined_valid, joined_allowed}
 use Rattle.prost_reflect_wire.proofs.Again.{Carries, ReadAs, Again, scalar_again, message_again, group_again}
 use Rattle.prost_reflect_wire.proofs.Allowed.{len_body}
 use Rattle.prost_reflect_wire.proofs.Maps.{first_of, second_of, key_back, value_present}
@@ -62,7 +60,7 @@ entry_of k a key t q h =
     let (ok, rest) = and_both (payload_valid q) (field_allowed k a (MapFrom key) t q && not (is_stray_entry t q)) h in
     let (allowed, stays) = and_both (field_allowed k a (MapFrom key) t q) (not (is_stray_entry t q)) rest in
     let (shape, inside) = and_both (is_len q && has_level k t.kind) (passes (body q) (list_all (in_entry_allowed k a key t))) allowed in
-    let each : list_all (in_entry_allowed k a key t) (records_in q) ≡ true = passes_inside q (list_all (in_entry_allowed k a key t)) inside in
+    let each : list_all (in_entry_allowed k a key t) (records_in q) ≡ true = passes_in q (list_all (in_entry_allowed k a key t)) inside in
     let spelt : list_all record_valid (records_in q) ≡ true = sym (valid_all (records_in q)) ∙ inside_spelled q ok in
     record {
       keys_valid = payloads_pass 1 record_valid payload_valid (records_in q) (λ r e v. (and_both _ (payload_valid r.payload) v).1) spelt;

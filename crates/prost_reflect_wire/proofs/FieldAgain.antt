@@ -1,8 +1,8 @@
 -- A field, carried through a reduction: its value by its form, and its strays.
-use Rattle.std.proofs.Common.{◌≡◌, ℕ, Bool, true, false, cond, not, ◌&&◌, ◌||◌, List, [], ◌∷◌, ◌++◌, filter, flat_map, Some, refl, ap, ap₂, sym, ◌∙◌, true≢false}
+use Rattle.std.proofs.Common.{◌≡◌, ℕ, Bool, true, cond, not, ◌&&◌, ◌||◌, List, [], ◌∷◌, ◌++◌, filter, flat_map, Some, refl, ap, ap₂, sym, ◌∙◌, true≢false}
 use Rattle.std.specs.List.{list_all}
 use Rattle.std.proofs.lemmas.List.Folds.{list_all-append}
-use Rattle.prost_reflect_wire.specs.Record.{Var, Len, Payload, Flat, payload_valid}
+use Rattle.prost_reflect_wire.specs.Record.{Var, Payload, Flat, payload_valid}
 use Rattle.prost_reflect_wire.specs.Scalar.{ScalarKind, Enum, is_undeclared}
 use Rattle.prost_reflect_wire.specs.Schema.{Kind, ScalarOf, MessageOf, GroupOf, ValueType, FieldForm, Singular, Repeated, MapFrom, Field, Schema}
 use Rattle.prost_reflect_wire.specs.Grammar.{AllowsInside, fits, is_stray, is_stray_entry, element_payloads_in, value_payloads, stray_payloads, one_allowed, packed_allowed, field_allowed}
@@ -19,6 +19,7 @@ use Rattle.prost_reflect_wire.proofs.SingleAgain.{single_source, single_again}
 use Rattle.prost_reflect_wire.proofs.ListAgain.{list_source, list_again}
 use Rattle.prost_reflect_wire.proofs.EntryAgain.{map_source}
 use Rattle.prost_reflect_wire.proofs.MapAgain.{map_again}
+use Rattle.prost_reflect_wire.proofs.Values.{elements_in_stray}
 
 -- SOURCES
 
@@ -87,21 +88,11 @@ strays_are Singular t p = filter_passes (is_stray t.kind) (p ∷ [])
 strays_are (Repeated packed) t p = filter_passes (is_stray t.kind) (element_payloads_in t.kind p)
 strays_are (MapFrom key) t p = filter_passes (is_stray_entry t) (p ∷ [])
 
-stray_alone : (kind : Kind) (p : Payload) → is_stray kind p ≡ true → element_payloads_in kind p ≡ p ∷ []
-stray_alone (ScalarOf kind) (Flat (Len bytes)) h = absurd (true≢false (sym h ∙ no_text kind))
-  where
-    no_text : (kind : ScalarKind) → is_undeclared kind (Flat (Len bytes)) ≡ false
-    no_text (Enum first numbers) = refl
-    no_text _ = refl
-stray_alone (ScalarOf kind) p h = refl
-stray_alone (MessageOf T) p h = refl
-stray_alone (GroupOf T) p h = refl
-
 -- a stray is read as one
 stray_stays : (c : FieldForm) (t : ValueType) (p : Payload) → strays_of c t p ≡ true → (stray_payloads c t p ≡ p ∷ []) × (value_payloads c t p ≡ [])
 stray_stays Singular t p h = (ap (λ b. cond b (p ∷ []) []) h, ap (λ b. cond (not b) (p ∷ []) []) h)
 stray_stays (Repeated packed) t p h =
-    let e : element_payloads_in t.kind p ≡ p ∷ [] = stray_alone t.kind p h in
+    let e : element_payloads_in t.kind p ≡ p ∷ [] = elements_in_stray t.kind p h in
     (ap (filter (is_stray t.kind)) e ∙ ap (λ b. cond b (p ∷ []) []) h, ap (filter (λ q. not (is_stray t.kind q))) e ∙ ap (λ b. cond (not b) (p ∷ []) []) h)
 stray_stays (MapFrom key) t p h = (ap (λ b. cond b (p ∷ []) []) h, ap (λ b. cond (not b) (p ∷ []) []) h)
 

@@ -2,11 +2,10 @@
 use Rattle.std.proofs.Common.{◌≡◌, ℕ, suc, ◌≤◌, ◌<◌, Bool, true, false, cond, not, ◌&&◌, List, [], ◌∷◌, ◌++◌, Option, Some, None, refl, ap, sym, ◌∙◌, subst, arith, true≢false}
 use Rattle.std.specs.Prelude.{max}
 use Rattle.std.specs.List.{list_all}
-use Rattle.std.specs.Str.{is_utf8, chars}
 use Rattle.std.proofs.lemmas.Bool.{eq-eqb, eqb-true, ltb-true}
 use Rattle.prost_reflect_wire.specs.Varint.{◌>>=◌}
 use Rattle.prost_reflect_wire.specs.Record.{Payload, Record, body_of, valid, payload_valid}
-use Rattle.prost_reflect_wire.specs.Scalar.{Scalar, ScalarKind, Double, Float, BytesKind, Enum, elem, scalar_lt, scalar_eq, scalar_valid, kind_default, is_undeclared}
+use Rattle.prost_reflect_wire.specs.Scalar.{Scalar, ScalarKind, elem, scalar_lt, scalar_eq, scalar_valid, kind_default, is_undeclared}
 use Rattle.prost_reflect_wire.specs.Schema.{Kind, ScalarOf, MessageOf, GroupOf, ValueType, FieldForm, Singular, Repeated, MapFrom, Field, Schema, is_message, is_singular, is_key_kind, default_valid, passes}
 use Rattle.prost_reflect_wire.specs.Content.{Content, Value, ScalarValue, MessageValue, ListValue, MapValue, Values, NoValues, Item, Pairs, NoPairs, Pair, schema_of, type_of, values_from, ◌and_then◌, ordered, value_ordered, values_ordered, pairs_ordered}
 use Rattle.prost_reflect_wire.specs.Grammar.{AllowsInside, body, records_in, numbered, last, is_len, is_group_payload, one_allowed, has_level, in_entry_allowed, field_allowed, is_stray, is_stray_entry}
@@ -18,10 +17,11 @@ use Rattle.prost_reflect_wire.proofs.Deeper.{and_both, both_true, passes_in, mes
 use Rattle.prost_reflect_wire.proofs.Arranged.{put_ordered}
 use Rattle.prost_reflect_wire.proofs.Declared.{read_valid}
 use Rattle.prost_reflect_wire.proofs.FieldTypes.{field_typed, typed_field}
-use Rattle.prost_reflect_wire.proofs.Readable.{inside_spelled, append_valid, numbered_valid}
+use Rattle.prost_reflect_wire.proofs.Readable.{inside_spelled, numbered_valid}
 use Rattle.prost_reflect_wire.proofs.Slots.{deep_test, GoodValue}
-use Rattle.prost_reflect_wire.proofs.ListTests.{not_true, last_passes}
+use Rattle.prost_reflect_wire.proofs.ListTests.{not_true}
 use Rattle.prost_reflect_wire.proofs.EntryDefaults.{default_valid_key, key_stays, last_or_valid}
+use Rattle.prost_reflect_wire.proofs.Inside.{joined_valid}
 
 -- ONE LEVEL DOWN
 
@@ -180,13 +180,6 @@ key_good key rs h v = go key.kind h
     go (ScalarOf kind) h = last_or_valid kind (kind_default kind) (numbered 1 rs) (default_valid_key kind h) (numbered_valid 1 rs v) (λ p e. key_stays kind p h)
     go (MessageOf T) h = absurd (true≢false (sym h))
     go (GroupOf T) h = absurd (true≢false (sym h))
-
--- messages joined
-joined_valid : (ps : List Payload) → list_all payload_valid ps ≡ true → valid (body_of (joined ps)) ≡ true
-joined_valid [] h = refl
-joined_valid (p ∷ ps) h =
-    let (one, more) = and_both (payload_valid p) (list_all payload_valid ps) h in
-    append_valid (records_in p) (joined ps) (inside_spelled p one) (joined_valid ps more)
 
 joined_allowed : (schema : Schema) (k T : ℕ) (allow : AllowsInside) (inner : MeansInside) (further : JoinsInside) (shape : Payload → Bool) (ps : List Payload) → GoodInside schema k allow inner further → allow T [] ≡ true →
     list_all (λ p. shape p && passes (body p) (allow T)) ps ≡ true → allow T (joined ps) ≡ true

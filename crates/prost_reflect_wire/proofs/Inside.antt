@@ -1,13 +1,13 @@
 -- The records in payloads that have a spelling: they have one too, and joined they are allowed where each is.
-use Rattle.std.proofs.Common.{◌≡◌, ℕ, Bool, true, List, [], ◌∷◌, ◌++◌, Option, Some, None, refl, ap, sym, ◌∙◌, true≢false, append-nil}
+use Rattle.std.proofs.Common.{◌≡◌, ℕ, true, List, [], ◌∷◌, ◌++◌, refl, ap, sym, ◌∙◌, true≢false, append-nil}
 use Rattle.std.specs.List.{list_all}
 use Rattle.std.proofs.lemmas.Bool.{eqb-true}
 use Rattle.prost_reflect_wire.specs.Record.{Record, Payload, body_of, payload_valid, valid}
 use Rattle.prost_reflect_wire.specs.Schema.{Kind, ScalarOf, MessageOf, GroupOf, passes}
-use Rattle.prost_reflect_wire.specs.Grammar.{AllowsInside, or_none, body, records_in, one_allowed, is_len, is_group_payload}
+use Rattle.prost_reflect_wire.specs.Grammar.{AllowsInside, body, records_in, one_allowed, is_len, is_group_payload}
 use Rattle.prost_reflect_wire.specs.Meaning.{joined}
 use Rattle.prost_reflect_wire.specs.Typing.{is_of_type}
-use Rattle.prost_reflect_wire.proofs.Deeper.{and_both}
+use Rattle.prost_reflect_wire.proofs.Deeper.{and_both, passes_in}
 use Rattle.prost_reflect_wire.proofs.Readable.{inside_spelled, append_valid}
 
 -- VALID
@@ -24,17 +24,10 @@ joined_valid (p ∷ ps) h =
 abbrev pub Joinable : AllowsInside → Type 0
 Joinable inner = (T : ℕ) (xs ys : List Record) → inner T xs ≡ true → inner T ys ≡ true → inner T (xs ++ ys) ≡ true
 
-pub passes_inside : (p : Payload) (test : List Record → Bool) → passes (body p) test ≡ true → test (records_in p) ≡ true
-passes_inside p test = go (body p)
-  where
-    go : (o : Option (List Record)) → passes o test ≡ true → test (or_none o) ≡ true
-    go None h = absurd (true≢false (sym h))
-    go (Some rs) h = h
-
 pub message_inside : (inner : AllowsInside) (kind : Kind) (T : ℕ) (p : Payload) → is_of_type kind T ≡ true → one_allowed inner kind p ≡ true → inner T (records_in p) ≡ true
 message_inside inner (ScalarOf kind) T p n h = absurd (true≢false (sym n))
-message_inside inner (MessageOf U) T p n h = ap (λ (t : ℕ). inner t (records_in p)) (eqb-true T U n) ∙ passes_inside p (inner U) (and_both (is_len p) (passes (body p) (inner U)) h).1
-message_inside inner (GroupOf U) T p n h = ap (λ (t : ℕ). inner t (records_in p)) (eqb-true T U n) ∙ passes_inside p (inner U) (and_both (is_group_payload p) (passes (body p) (inner U)) h).1
+message_inside inner (MessageOf U) T p n h = ap (λ (t : ℕ). inner t (records_in p)) (eqb-true T U n) ∙ passes_in p (inner U) (and_both (is_len p) (passes (body p) (inner U)) h).1
+message_inside inner (GroupOf U) T p n h = ap (λ (t : ℕ). inner t (records_in p)) (eqb-true T U n) ∙ passes_in p (inner U) (and_both (is_group_payload p) (passes (body p) (inner U)) h).1
 
 pub joined_allowed : (inner : AllowsInside) (kind : Kind) (T : ℕ) (p : Payload) (ps : List Payload) → Joinable inner → is_of_type kind T ≡ true → list_all (one_allowed inner kind) (p ∷ ps) ≡ true → inner T (joined (p ∷ ps)) ≡ true
 joined_allowed inner kind T p [] j n h =

@@ -8,7 +8,7 @@ use Rattle.prost_reflect_wire.specs.declared.error.DecodeError.{DecodeError}
 use Rattle.prost_reflect_wire.specs.declared.error.DecodeError.TheVariants as errors
 use Rattle.prost_reflect_wire.specs.declared.key.WireType.{WireType}
 use Rattle.prost_reflect_wire.specs.declared.key.WireType.TheVariants as wires
-use Rattle.prost_reflect_wire.specs.Varint.{AreBytes, Varint, ◌>>=◌}
+use Rattle.prost_reflect_wire.specs.Varint.{AreBytes, ◌>>=◌}
 use Rattle.prost_reflect_wire.specs.Record.{Plain, Var, Fix64, Len, Fix32, Payload, Flat, SpellsPlain, wire_code, wire_of, plain_wire, plain_at}
 use Rattle.prost_reflect_wire.specs.Scalar.{ScalarKind, Double, Float, Int64, Uint64, Int32, Fixed64, Fixed32, BoolKind, StringKind, BytesKind, Uint32, Enum, Sfixed32, Sfixed64, Sint32, Sint64, kind_wire}
 use Rattle.prost_reflect_wire.specs.Scalar as scalars
@@ -16,7 +16,7 @@ use Rattle.prost_reflect_wire.specs.Schema.{ValueType, FieldForm, Singular, Repe
 use Rattle.prost_reflect_wire.specs.Grammar.{AllowsInside, fits, one_allowed, packed_allowed, field_allowed, plains_within}
 use Rattle.prost_reflect_wire.specs.Front.{PlainFront, PlainFault}
 use Rattle.prost_reflect_wire.specs.Fault.{ElementFault, ElementEnds, ElementPasses, BehindElement, same_wire, is_map}
-use Rattle.prost_reflect_wire.proofs.Reading.{wire_known, plain_read}
+use Rattle.prost_reflect_wire.proofs.Reading.{wire_known, plain_read, varint_some}
 use Rattle.prost_reflect_wire.proofs.BodyFronts.{plain_bytes}
 use Rattle.prost_reflect_wire.proofs.KindsTaken.{or_first, or_second}
 use Rattle.prost_reflect_wire.proofs.FrontOrFault.{SomeFault, SomePlain, plain_or}
@@ -97,10 +97,6 @@ pub packed_field : (k : ℕ) (inner : AllowsInside) (packed : Bool) (value_type 
 packed_field k inner packed value_type p h = or_second (one_allowed inner value_type.kind p) (packed_allowed value_type.kind p) h
 
 -- PACKED RECORDS
-
-varint_some : (v : ℕ) (front : List ℕ) → Varint v front → 0 < length front
-varint_some v [] s = elim s.digits [ ]
-varint_some v (b ∷ front) s = omega arith
 
 plain_some : (p : Plain) (front : List ℕ) → SpellsPlain p front → 0 < length front
 plain_some (Var v) front s = varint_some v front s

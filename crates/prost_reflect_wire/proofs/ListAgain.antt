@@ -1,29 +1,28 @@
 -- A list, carried through a reduction: packing may differ.
-use Rattle.std.proofs.Common.{◌≡◌, ℕ, ◌+◌, ◌<◌, ◌^◌, Bool, true, false, cond, not, ◌&&◌, ◌||◌, List, [], ◌∷◌, ◌++◌, map, filter, flat_map, length, length-append, nat_lt, eq-eqb, Option, Some, None, refl, ap, ap₂, sym, subst, ◌∙◌, arith, true≢false, append-nil}
+use Rattle.std.proofs.Common.{◌≡◌, ℕ, Bool, true, false, cond, not, ◌&&◌, ◌||◌, List, [], ◌∷◌, ◌++◌, map, filter, flat_map, eq-eqb, Option, Some, None, refl, ap, ap₂, sym, subst, ◌∙◌, true≢false, append-nil}
 use Rattle.std.specs.Bool.{⊤}
 use Rattle.std.specs.Option.{is_some}
 use Rattle.std.specs.List.{list_all}
-use Rattle.std.proofs.lemmas.Bool.{lt-ltb}
-use Rattle.prost_reflect_wire.specs.Varint.{are_bytes, short}
-use Rattle.prost_reflect_wire.specs.Record.{Plain, Len, Payload, Flat, Group, payload_valid}
+use Rattle.prost_reflect_wire.specs.Record.{Plain, Len, Payload, Flat, payload_valid}
 use Rattle.prost_reflect_wire.specs.Scalar.{Scalar, ScalarKind, elem, scalar_valid}
 use Rattle.prost_reflect_wire.specs.Schema.{Kind, ScalarOf, MessageOf, GroupOf, ValueType, Repeated, Field, is_packable, is_packable_kind}
 use Rattle.prost_reflect_wire.specs.Content.{Value, ScalarValue, MessageValue, ListValue, MapValue, Values, NoValues, Item, values_from}
 use Rattle.prost_reflect_wire.specs.Grammar.{AllowsInside, or_none, unpacked, records_in, is_stray, element_payloads_in, one_allowed, packed_allowed}
 use Rattle.prost_reflect_wire.specs.Meaning.{MeansInside, element, scalar_values, present_list}
-use Rattle.prost_reflect_wire.specs.Writing.{payload_bytes, end_to_end, list_payloads, value_payload, element_payloads}
+use Rattle.prost_reflect_wire.specs.Writing.{end_to_end, list_payloads, value_payload, element_payloads}
 use Rattle.prost_reflect_wire.specs.Typing.{elements_valid}
 use Rattle.prost_reflect_wire.specs.Reduction.{TypePairs, same_kind}
-use Rattle.prost_reflect_wire.proofs.Deeper.{and_both, both_true, all_append, element_allowed}
+use Rattle.prost_reflect_wire.proofs.Deeper.{and_both, both_true, element_allowed}
 use Rattle.prost_reflect_wire.proofs.ListTests.{not_true}
 use Rattle.prost_reflect_wire.proofs.Packed.{unpacked_back}
-use Rattle.prost_reflect_wire.proofs.Spelt.{plain_bytes, payload_size, SoundPayload, SoundPayloads}
+use Rattle.prost_reflect_wire.proofs.Spelt.{SoundPayloads}
 use Rattle.prost_reflect_wire.proofs.Valid.{scalar_sound, end_bytes, packed_sound}
 use Rattle.prost_reflect_wire.proofs.Alike.{Alike, alike, elements_alike, unpacked_alike}
 use Rattle.prost_reflect_wire.proofs.ByNumber.{stored_payloads}
 use Rattle.prost_reflect_wire.proofs.Readable.{inside_spelled}
 use Rattle.prost_reflect_wire.proofs.Inside.{message_inside}
 use Rattle.prost_reflect_wire.proofs.Again.{Carries, ReadAs, Again, scalar_reads, scalar_again, message_again, group_again, read_scalar_valid, FieldAgain}
+use Rattle.prost_reflect_wire.proofs.Lists.{unpacked_written}
 
 -- EACH ELEMENT
 
@@ -218,14 +217,10 @@ packed_again pairs a j kA kB (Item v vs) h p ok =
       };
     }
 
-unpacked_list : (ps : List Payload) → list_payloads (Repeated false) ps ≡ ps
-unpacked_list [] = refl
-unpacked_list (p ∷ ps) = refl
-
 list_written : (pairs : TypePairs) (k : ℕ) (i : MeansInside) (a : AllowsInside) (j : MeansInside) (packed : Bool) (kA kB : Kind) (ps : List Payload) → Carries pairs k i a j → same_kind pairs kA kB ≡ true → (not packed || is_packable_kind kA) ≡ true → list_all (list_source a kB) ps ≡ true →
     Written a j kB (list_payloads (Repeated packed) (element_payloads kA (values_from (flat_map (element i kA) ps)))) (values_from (flat_map (element j kB) ps))
 list_written pairs k i a j false kA kB ps c h p all =
-    subst (λ (l : List Payload). Written a j kB l (values_from (flat_map (element j kB) ps))) (sym (unpacked_list (element_payloads kA (values_from (flat_map (element i kA) ps)))))
+    subst (λ (l : List Payload). Written a j kB l (values_from (flat_map (element j kB) ps))) (sym (unpacked_written (element_payloads kA (values_from (flat_map (element i kA) ps)))))
     (one_by_one a j kA kB (values_from (flat_map (element i kA) ps)) (values_from (flat_map (element j kB) ps)) (elements_again pairs k i a j kA kB ps c h all))
 list_written pairs k i a j true (ScalarOf kA) (ScalarOf kB) ps c h p all =
     let vs : Values = values_from (flat_map (element i (ScalarOf kA)) ps) in
@@ -274,4 +269,4 @@ scalar_list_again pairs k a j f x y tB kA kB vs form eA eB h p ok =
   where
     go : (x : Bool) → (not x || is_packable kA) ≡ true → Written a j (ScalarOf kB) (list_payloads (Repeated x) (element_payloads (ScalarOf kA) vs)) vs
     go true p = packed_again pairs a j kA kB vs h p ok
-    go false p = subst (λ (l : List Payload). Written a j (ScalarOf kB) l vs) (sym (unpacked_list (element_payloads (ScalarOf kA) vs))) (one_by_one a j (ScalarOf kA) (ScalarOf kB) vs vs (scalars_each pairs a j kA kB vs h ok))
+    go false p = subst (λ (l : List Payload). Written a j (ScalarOf kB) l vs) (sym (unpacked_written (element_payloads (ScalarOf kA) vs))) (one_by_one a j (ScalarOf kA) (ScalarOf kB) vs vs (scalars_each pairs a j kA kB vs h ok))

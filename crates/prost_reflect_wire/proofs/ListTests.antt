@@ -1,10 +1,21 @@
 -- Tests, and what they say of the elements of lists.
-use Rattle.std.proofs.Common.{◌≡◌, Bool, true, false, cond, not, List, [], ◌∷◌, filter, Option, Some, None, refl, ap, sym, ◌∙◌, true≢false}
+use Rattle.std.proofs.Common.{◌≡◌, Bool, true, false, cond, not, ◌&&◌, ◌||◌, List, [], ◌∷◌, ◌++◌, filter, Option, Some, None, refl, ap, sym, ◌∙◌, true≢false}
 use Rattle.std.specs.Bool.{beq}
 use Rattle.std.specs.List.{list_all}
 use Rattle.prost_reflect_wire.specs.Schema.{passes}
 use Rattle.prost_reflect_wire.specs.Grammar.{last}
-use Rattle.prost_reflect_wire.proofs.Deeper.{and_both, both_true}
+
+pub and_both : (a b : Bool) → (a && b) ≡ true → (a ≡ true) × (b ≡ true)
+and_both true b h = (refl, h)
+and_both false b h = absurd (true≢false (sym h))
+
+pub both_true : {a b : Bool} → a ≡ true → b ≡ true → (a && b) ≡ true
+both_true {b} e f = ap (λ c. c && b) e ∙ f
+
+pub or_case : (a b c d : Bool) → (a ≡ true → c ≡ true) → (b ≡ true → d ≡ true) → (a || b) ≡ true → (c || d) ≡ true
+or_case true b c d h k e = ap (λ x. x || d) (h refl)
+or_case false b true d h k e = refl
+or_case false b false d h k e = k e
 
 pub not_true : (b : Bool) → not b ≡ true → b ≡ false
 not_true false h = refl
@@ -19,6 +30,28 @@ beq_same false true h = absurd (true≢false (sym h))
 pub passes_more : {A : Type 0} (o : Option A) (t u : A → Bool) → ((x : A) → t x ≡ true → u x ≡ true) → passes o t ≡ true → passes o u ≡ true
 passes_more None t u h e = e
 passes_more (Some x) t u h e = h x e
+
+pub all_append : {A : Type 0} (t : A → Bool) (xs ys : List A) → list_all t xs ≡ true → list_all t ys ≡ true → list_all t (xs ++ ys) ≡ true
+all_append t [] ys h k = k
+all_append t (x ∷ xs) ys h k =
+    let (one, more) = and_both (t x) (list_all t xs) h in
+    both_true one (all_append t xs ys more k)
+
+pub all_filter : {A : Type 0} (t u : A → Bool) (xs : List A) → list_all t xs ≡ true → list_all t (filter u xs) ≡ true
+all_filter t u [] h = refl
+all_filter t u (x ∷ xs) h =
+    let (one, more) = and_both (t x) (list_all t xs) h in
+    go (u x) one (all_filter t u xs more)
+  where
+    go : (b : Bool) → t x ≡ true → list_all t (filter u xs) ≡ true → list_all t (cond b (x ∷ filter u xs) (filter u xs)) ≡ true
+    go true one more = both_true one more
+    go false one more = more
+
+pub all_implied : {A : Type 0} (t u : A → Bool) (xs : List A) → ((x : A) → t x ≡ true → u x ≡ true) → list_all t xs ≡ true → list_all u xs ≡ true
+all_implied t u [] h k = refl
+all_implied t u (x ∷ xs) h k =
+    let (one, more) = and_both (t x) (list_all t xs) k in
+    both_true (h x one) (all_implied t u xs h more)
 
 -- what is left by a test passes it
 pub filter_passes : {A : Type 0} (test : A → Bool) (xs : List A) → list_all test (filter test xs) ≡ true

@@ -5,7 +5,7 @@ use Rattle.std.specs.List.{list_all}
 use Rattle.prost_reflect_wire.specs.Record.{Payload, payload_valid}
 use Rattle.prost_reflect_wire.specs.Scalar.{Scalar, ScalarKind, scalar_lt, scalar_eq}
 use Rattle.prost_reflect_wire.specs.Schema.{ScalarOf, ValueType, MapFrom, Field, is_key_kind, has_kind_default, default_valid}
-use Rattle.prost_reflect_wire.specs.Content.{Value, ScalarValue, MessageValue, ListValue, MapValue, Pairs, NoPairs, Pair, key_before, value_ordered, pairs_ordered}
+use Rattle.prost_reflect_wire.specs.Content.{Value, ScalarValue, MessageValue, ListValue, MapValue, Pairs, NoPairs, Pair, pairs_ordered}
 use Rattle.prost_reflect_wire.specs.Grammar.{AllowsInside, records_in, has_level, field_allowed, value_payloads, stray_payloads}
 use Rattle.prost_reflect_wire.specs.Meaning.{MeansInside, entry_key, entry_value, put, put_entry, put_entries, present_map}
 use Rattle.prost_reflect_wire.specs.Writing.{pair_payload, pair_payloads, key_of}

@@ -14,7 +14,7 @@ use Rattle.prost_reflect_wire.specs.Grammar.{AllowsInside, body, has_level, fiel
 use Rattle.prost_reflect_wire.specs.Front.{KeyFront, PlainFront, DelimitedFront, PayloadFront, PayloadEnds, PayloadPasses, PlainFault, KeyFault, VarintPasses, NoKey}
 use Rattle.prost_reflect_wire.specs.Fault.{Place, field_at, Next, NextField, ElementFault, ElementEnds, ElementPasses, BehindElement, TextNext, PackedNext, same_wire, takes, needs_level, opens_level, is_map, Comes}
 use Rattle.prost_reflect_wire.proofs.Deeper.{and_both}
-use Rattle.prost_reflect_wire.proofs.Sound.{bind_ok, plain_sound}
+use Rattle.prost_reflect_wire.proofs.Sound.{bind_ok, plain_sound, none_some}
 use Rattle.prost_reflect_wire.proofs.KeyFronts.{key_once, key_no_fault}
 use Rattle.prost_reflect_wire.proofs.PlainFronts.{plain_once, plain_no_fault, delimited_once, plain_delimited}
 use Rattle.prost_reflect_wire.proofs.BodyFronts.{payload_no_end, key_not_empty, key_bytes, plain_bytes, body_bytes}
@@ -47,9 +47,6 @@ plains_first fuel w b bytes ps small h =
 
 past_end : VarintPasses [] → ⊥
 past_end h = omega (arith, ap length h.parts, length-append h.nine (h.tenth ∷ h.rest))
-
-none_some : {A : Type 0} {y : A} → None ≡ Some y → ⊥
-none_some e = absurd cc
 
 ends_empty : (p : Plain) → PayloadEnds (plain_wire p) []
 ends_empty (Var v) = record { few = omega arith; unended = tt }

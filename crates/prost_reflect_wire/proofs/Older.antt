@@ -5,13 +5,12 @@ use Rattle.std.specs.Option.{is_some}
 use Rattle.std.specs.List.{list_all}
 use Rattle.std.proofs.lemmas.Bool.{leb-true, le-leb}
 use Rattle.prost_reflect_wire.specs.Record.{Plain, Len, Records, NoRecords, PlainRecord, GroupRecord, Record, Payload, Flat, Group, items, raw_levels, payload_levels}
-use Rattle.prost_reflect_wire.specs.Scalar.{ScalarKind, Enum}
 use Rattle.prost_reflect_wire.specs.Schema.{Kind, ScalarOf, MessageOf, GroupOf, ValueType, FieldForm, Singular, Repeated, MapFrom, Field, Schema, known, field_of, passes}
-use Rattle.prost_reflect_wire.specs.Grammar.{AllowsInside, body, fits, is_len, is_group_payload, one_allowed, packed_allowed, in_entry_allowed, has_level, field_allowed, record_allowed, nothing_inside, allows, Accepts}
+use Rattle.prost_reflect_wire.specs.Grammar.{AllowsInside, body, is_len, is_group_payload, one_allowed, packed_allowed, in_entry_allowed, has_level, field_allowed, record_allowed, nothing_inside, allows, Accepts}
 use Rattle.prost_reflect_wire.specs.Levels.{greatest_level}
 use Rattle.prost_reflect_wire.specs.Reduction.{TypePairs, holds, same_kind, same_form}
-use Rattle.prost_reflect_wire.proofs.Deeper.{and_both, both_true, all_implied}
-use Rattle.prost_reflect_wire.proofs.ListTests.{passes_more}
+use Rattle.prost_reflect_wire.proofs.Deeper.{and_both, both_true, all_implied, flat_fits}
+use Rattle.prost_reflect_wire.proofs.ListTests.{passes_more, or_case}
 use Rattle.prost_reflect_wire.proofs.Survivors.{field_number}
 use Rattle.prost_reflect_wire.proofs.Alike.{Alike, alike, SameType, same_type, unpacked_alike}
 use Rattle.prost_reflect_wire.proofs.Matches.{TypesMatch, AllMatch, Relates, like}
@@ -27,20 +26,12 @@ items_level (GroupRecord n inside rest) = ap (max (suc (raw_levels inside))) (it
 abbrev pub Shallow : ℕ → AllowsInside → Type 0
 Shallow k inner = (T : ℕ) (rs : List Record) → inner T rs ≡ true → suc (greatest_level rs) ≤ k
 
-flat_only : (kind : ScalarKind) (p : Payload) → fits kind p ≡ true → payload_levels p ≡ 0
-flat_only kind (Flat p) h = refl
-flat_only kind (Group rs) h = absurd (true≢false (sym h ∙ none kind))
-  where
-    none : (kind : ScalarKind) → fits kind (Group rs) ≡ false
-    none (Enum first numbers) = refl
-    none _ = refl
-
 len_flat : (p : Payload) → is_len p ≡ true → payload_levels p ≡ 0
 len_flat (Flat p) h = refl
 len_flat (Group rs) h = absurd (true≢false (sym h))
 
 one_shallow : (k : ℕ) (inner : AllowsInside) (kind : Kind) (p : Payload) → Shallow k inner → one_allowed inner kind p ≡ true → payload_levels p ≤ k
-one_shallow k inner (ScalarOf kind) p s h = omega (arith, flat_only kind p h)
+one_shallow k inner (ScalarOf kind) p s h = omega (arith, flat_fits kind p h)
 one_shallow k inner (MessageOf T) p s h = omega (arith, len_flat p (and_both (is_len p) (passes (body p) (inner T)) h).0)
 one_shallow k inner (GroupOf T) (Flat p) s h = absurd (true≢false (sym h))
 one_shallow k inner (GroupOf T) (Group rs) s h =
@@ -127,16 +118,11 @@ entry_smaller pairs k outer inner keyA tA keyB tB r s h t = go (nat_eq r.number 
     go false true e = one_smaller pairs k outer inner tA.kind tB.kind r.payload s t e
     go false false e = e
 
-or_more : (a b c d : Bool) → (a ≡ true → c ≡ true) → (b ≡ true → d ≡ true) → (a || b) ≡ true → (c || d) ≡ true
-or_more true b c d h k e = ap (λ x. x || d) (h refl)
-or_more false b true d h k e = refl
-or_more false b false d h k e = k e
-
 field_smaller : (pairs : TypePairs) (k : ℕ) (outer inner : AllowsInside) (cA cB : FieldForm) (tA tB : ValueType) (p : Payload) → Smaller pairs k outer inner → same_form pairs cA cB ≡ true → same_kind pairs tA.kind tB.kind ≡ true →
     field_allowed k inner cB tB p ≡ true → field_allowed k outer cA tA p ≡ true
 field_smaller pairs k outer inner Singular Singular tA tB p s c t e = one_smaller pairs k outer inner tA.kind tB.kind p s t e
 field_smaller pairs k outer inner (Repeated x) (Repeated y) tA tB p s c t e =
-    or_more (one_allowed inner tB.kind p) (packed_allowed tB.kind p) (one_allowed outer tA.kind p) (packed_allowed tA.kind p) (one_smaller pairs k outer inner tA.kind tB.kind p s t) (packed_smaller pairs tA.kind tB.kind p t) e
+    or_case (one_allowed inner tB.kind p) (packed_allowed tB.kind p) (one_allowed outer tA.kind p) (packed_allowed tA.kind p) (one_smaller pairs k outer inner tA.kind tB.kind p s t) (packed_smaller pairs tA.kind tB.kind p t) e
 field_smaller pairs k outer inner (MapFrom keyA) (MapFrom keyB) tA tB p s c t e =
     let (ab, inside) = and_both (is_len p && has_level k tB.kind) (passes (body p) (list_all (in_entry_allowed k inner keyB tB))) e in
     let (shape, level) = and_both (is_len p) (has_level k tB.kind) ab in

@@ -2,7 +2,7 @@
 use Rattle.std.proofs.Common.{◌≡◌, ℕ, zero, suc, ◌+◌, ◌^◌, ◌<◌, true, cond, not, List, [], ◌∷◌, ◌++◌, map, filter, flat_map, length, nat_eq, Option, Some, refl, ap, ap₂, sym, ◌∙◌, arith, true≢false, length-append, append-nil}
 use Rattle.std.specs.Bool.{⊤}
 use Rattle.std.proofs.lemmas.Bool.{ltb-true, eqb-true}
-use Rattle.prost_reflect_wire.specs.Varint.{Varint, are_bytes, short, ◌>>=◌}
+use Rattle.prost_reflect_wire.specs.Varint.{are_bytes, short, ◌>>=◌}
 use Rattle.prost_reflect_wire.specs.Record.{Plain, Var, Fix64, Len, Fix32, Payload, Flat, plain_wire, plain_at, SpellsPlain, short_plain, plain_valid}
 use Rattle.prost_reflect_wire.specs.Scalar.{Scalar, F64, F32, I64, U64, I32, U32, Boolean, Text, Bytes, EnumNumber, ScalarKind, Double, Float, Int64, Uint64, Int32, Fixed64, Fixed32, BoolKind, StringKind, BytesKind, Uint32, Sfixed32, Sfixed64, Sint32, Sint64, Enum, kind_wire, written, scalar_valid}
 use Rattle.prost_reflect_wire.specs.Schema.{Kind, ScalarOf, Repeated, Field, field_of, is_packable}
@@ -12,7 +12,7 @@ use Rattle.prost_reflect_wire.specs.Meaning.{MeansInside, element, scalar_values
 use Rattle.prost_reflect_wire.specs.Writing.{record_at, end_to_end, list_payloads, value_payload, element_payloads}
 use Rattle.prost_reflect_wire.specs.Typing.{element_valid, elements_valid}
 use Rattle.prost_reflect_wire.specs.Laws.{block, ValueBack, ElementBack, ElementsBack}
-use Rattle.prost_reflect_wire.proofs.Reading.{plain_read}
+use Rattle.prost_reflect_wire.proofs.Reading.{plain_read, varint_some}
 use Rattle.prost_reflect_wire.proofs.Shortest.{short_plain_ok, short_varint}
 use Rattle.prost_reflect_wire.proofs.Table.{read_back, written_declared}
 use Rattle.prost_reflect_wire.proofs.Deeper.{and_both}
@@ -86,10 +86,6 @@ packable _ v p h = absurd (true≢false (sym h))
 AllPackable : WireType → List Plain → Type 0
 AllPackable w [] = ⊤
 AllPackable w (p ∷ ps) = Packable w p × AllPackable w ps
-
-varint_some : (v : ℕ) (bytes : List ℕ) → Varint v bytes → 0 < length bytes
-varint_some v [] r = elim r.digits [ ]
-varint_some v (b ∷ bytes) r = omega arith
 
 some_bytes : (p : Plain) → plain_valid p ≡ true → 0 < length (short_plain p)
 some_bytes (Var v) h = varint_some v (short v) (short_varint v (ltb-true v (2 ^ 64) h))

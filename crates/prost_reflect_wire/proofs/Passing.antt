@@ -1,5 +1,5 @@
 -- Passage through a reduction, at all levels.
-use Rattle.std.proofs.Common.{◌≡◌, ℕ, zero, suc, ◌^◌, ◌<◌, true, List, length, Option, Some, None, refl, ap, sym, subst, ◌∙◌, true≢false}
+use Rattle.std.proofs.Common.{◌≡◌, ℕ, zero, suc, ◌^◌, ◌<◌, true, List, length, Option, Some, refl, ap, sym, subst, ◌∙◌, true≢false}
 use Rattle.std.specs.List.{list_all}
 use Rattle.prost_reflect_wire.specs.Varint.{AreBytes, guard, ◌>>=◌}
 use Rattle.prost_reflect_wire.specs.Record.{Record, Records, Spells, items, read, body_of, valid}
@@ -24,6 +24,7 @@ use Rattle.prost_reflect_wire.proofs.Readable.{body_items}
 use Rattle.prost_reflect_wire.proofs.Again.{Carries}
 use Rattle.prost_reflect_wire.proofs.WrittenSlots.{BothSlots, Numbered, table_numbered, both_sound, both_allowed, both_read}
 use Rattle.prost_reflect_wire.proofs.Relaying.{Step, meaning_slots}
+use Rattle.prost_reflect_wire.proofs.Sound.{some_inside}
 
 step_of : (pairs : TypePairs) (k : ℕ) (i : MeansInside) (a : AllowsInside) (j : MeansInside) (older newer : Schema) (A B : ℕ) (rs : List Record) → schema_valid older ≡ true → AllMatch pairs older newer → Carries pairs k i a j → holds pairs A B ≡ true → valid (body_of rs) ≡ true →
     list_all (record_allowed k a (known newer B)) rs ≡ true → Step pairs k i a j older newer A B rs
@@ -104,13 +105,10 @@ written_read schema k T c d sound allowed same short =
     let a : Accepts schema k T (encoded c) = record { records = body_of (records c); spelled = spells; allowed = ap (allows schema k T) (items_body (records c)) ∙ allowed spelt } in
     (a, accepted_decoded schema k T (encoded c) a ∙ ap (λ rs. Some (meaning schema k T rs)) (items_body (records c)) ∙ ap Some (same spelt))
 
-some_same : {A : Type 0} {x y : A} → Some x ≡ Some y → x ≡ y
-some_same {A} {x} e = ap (λ (o : Option A). elim o [ None ↦ x | Some z ↦ z ]) e
-
 pub passage_related : (older newer : Schema) (k A B : ℕ) (bytes : List ℕ) (c : Content) → schema_valid older ≡ true → AreBytes bytes → Relates older A newer B → Accepts newer k B bytes →
     decoded older k A bytes ≡ Some c → length (encoded c) < 2 ^ 64 → Accepts newer k B (encoded c) × (decoded newer k B (encoded c) ≡ decoded newer k B bytes)
 passage_related older newer k A B bytes c checked small r a e short =
-    let same : meaning older k A (items a.records) ≡ c = some_same (sym (older_decoded older newer k A B bytes r a) ∙ e) in
+    let same : meaning older k A (items a.records) ≡ c = some_inside (sym (older_decoded older newer k A B bytes r a) ∙ e) in
     subst (λ (c : Content). Accepts newer k B (encoded c) × (decoded newer k B (encoded c) ≡ decoded newer k B bytes)) same (relayed (subst (λ (c : Content). length (encoded c) < 2 ^ 64) (sym same) short))
   where
     carries : Carries r.pairs (suc k) (meaning older k) (allows newer k) (meaning newer k)

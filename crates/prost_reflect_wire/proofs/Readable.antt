@@ -1,7 +1,6 @@
 -- Records that are read of bytes have a spelling, and so have those in a payload that has one.
 use Rattle.std.proofs.Common.{◌≡◌, ℕ, zero, suc, ◌^◌, Bool, true, false, cond, ◌&&◌, List, [], ◌∷◌, ◌++◌, map, filter, length, nat_eq, nat_lt, Option, Some, None, refl, ap, sym, ◌∙◌, subst}
 use Rattle.std.specs.List.{list_all}
-use Rattle.std.proofs.lemmas.Bool.{ltb-true}
 use Rattle.prost_reflect_wire.specs.Varint.{AreBytes, are_bytes, ◌>>=◌}
 use Rattle.prost_reflect_wire.specs.Record.{Plain, Var, Fix64, Len, Fix32, Records, NoRecords, PlainRecord, GroupRecord, Payload, Flat, Group, Record, items, before, body_of, plain_at, read, number_valid, plain_valid, valid, payload_valid}
 use Rattle.prost_reflect_wire.specs.Scalar.{kind_wire}
@@ -9,16 +8,10 @@ use Rattle.prost_reflect_wire.specs.Schema.{Kind, ScalarOf, MessageOf, GroupOf, 
 use Rattle.prost_reflect_wire.specs.Grammar.{or_none, plains_within, unpacked, records_in, element_payloads_in, numbered, has_number, payloads}
 use Rattle.prost_reflect_wire.specs.declared.key.WireType.{WireType}
 use Rattle.prost_reflect_wire.proofs.Deeper.{and_both, both_true}
-use Rattle.prost_reflect_wire.proofs.Sound.{Front, plain_sound, bytes_after, bind_ok, some_inside, none_some, read_spells}
+use Rattle.prost_reflect_wire.proofs.Sound.{Front, plain_sound, bind_ok, some_inside, none_some, read_spells}
 use Rattle.prost_reflect_wire.proofs.Means.{first_valid}
-use Rattle.prost_reflect_wire.proofs.ByteLists.{bytes_front}
+use Rattle.prost_reflect_wire.proofs.ByteLists.{bytes_front, bytes_behind, test_bytes}
 use Rattle.prost_reflect_wire.proofs.SpelledValid.{spelled_plain_valid, spelled_valid}
-
--- BYTES
-
-small : (bytes : List ℕ) → are_bytes bytes ≡ true → AreBytes bytes
-small [] h = tt
-small (b ∷ bytes) h = let (one, more) = and_both (nat_lt b 256) (are_bytes bytes) h in (ltb-true b 256 one, small bytes more)
 
 -- INSIDE A PAYLOAD
 
@@ -37,7 +30,7 @@ inside_spelled (Flat (Len bytes)) h = go (read bytes) refl
     go : (o : Option Records) → read bytes ≡ o → valid (body_of (or_none (o >>= λ rs. Some (items rs)))) ≡ true
     go None e = refl
     go (Some rs) e =
-        let bytes_small : AreBytes bytes = small bytes (and_both (nat_lt (length bytes) (2 ^ 64)) (are_bytes bytes) h).1 in
+        let bytes_small : AreBytes bytes = test_bytes bytes (and_both (nat_lt (length bytes) (2 ^ 64)) (are_bytes bytes) h).1 in
         ap valid (body_items rs) ∙ spelled_valid rs bytes bytes_small (read_spells bytes rs bytes_small e)
 
 pub append_valid : (rs qs : List Record) → valid (body_of rs) ≡ true → valid (body_of qs) ≡ true → valid (body_of (rs ++ qs)) ≡ true
@@ -83,7 +76,7 @@ plains_valid (suc fuel) wire (b ∷ bytes) ps h e =
     let s : Front wire (b ∷ bytes) p.0 p.1 = plain_sound wire (b ∷ bytes) p.0 p.1 h m in
     let all : AreBytes (s.front ++ p.1) = subst AreBytes s.whole h in
     ap (λ ps. list_all payload_valid (map Flat ps)) (sym (some_inside g))
-    ∙ both_true (spelled_plain_valid p.0 s.front (bytes_front s.front p.1 all) s.spells) (plains_valid fuel wire p.1 rest (bytes_after s.front p.1 all) k)
+    ∙ both_true (spelled_plain_valid p.0 s.front (bytes_front s.front p.1 all) s.spells) (plains_valid fuel wire p.1 rest (bytes_behind s.front p.1 all) k)
 
 pub elements_in_valid : (kind : Kind) (p : Payload) → payload_valid p ≡ true → list_all payload_valid (element_payloads_in kind p) ≡ true
 unfolding unpacked
@@ -92,7 +85,7 @@ elements_in_valid (ScalarOf kind) (Flat (Len bytes)) h = go (is_packable kind) (
     go : (b : Bool) (o : Option (List Plain)) → plains_within (suc (length bytes)) (kind_wire kind) bytes ≡ o → list_all payload_valid (cond b (map Flat (or_none o)) (Flat (Len bytes) ∷ [])) ≡ true
     go false o e = both_true h refl
     go true None e = refl
-    go true (Some ps) e = plains_valid (suc (length bytes)) (kind_wire kind) bytes ps (small bytes (and_both (nat_lt (length bytes) (2 ^ 64)) (are_bytes bytes) h).1) e
+    go true (Some ps) e = plains_valid (suc (length bytes)) (kind_wire kind) bytes ps (test_bytes bytes (and_both (nat_lt (length bytes) (2 ^ 64)) (are_bytes bytes) h).1) e
 elements_in_valid (ScalarOf kind) (Flat (Var v)) h = both_true h refl
 elements_in_valid (ScalarOf kind) (Flat (Fix64 eight)) h = both_true h refl
 elements_in_valid (ScalarOf kind) (Flat (Fix32 four)) h = both_true h refl

@@ -6,6 +6,7 @@ use Rattle.prost_reflect_wire.specs.Varint.{AreDigits, digits_value, Varint, dig
 use Rattle.prost_reflect_wire.specs.Record.{Key, key_at, wire_code, plain_wire, wire_of, plain_at, Plain, Var, Fix64, Len, Fix32, SpellsPlain, Records, NoRecords, PlainRecord, GroupRecord, Spells, Body, body_at, after_key, close, read}
 use Rattle.prost_reflect_wire.specs.declared.key.WireType.{WireType}
 use Rattle.prost_reflect_wire.specs.declared.key.WireType.TheVariants as wires
+use Rattle.prost_reflect_wire.proofs.ListTests.{both_true}
 
 bind_some : {A B : Type 0} (f : A → Option B) {m : Option A} {x : A} → m ≡ Some x → (m >>= f) ≡ f x
 bind_some f e = ap (λ o. o >>= f) e
@@ -25,9 +26,6 @@ pub varint_read : (v : ℕ) (bytes tail : List ℕ) → Varint v bytes → varin
 varint_read v bytes tail r =
     bind_some (λ found. guard (nat_lt found.0 (2 ^ 64)) found) (digits_read 10 bytes tail r.digits r.few ∙ ap (λ (n : ℕ). Some (n, tail)) r.means)
     ∙ guard_true (v, tail) (lt-ltb v (2 ^ 64) r.below)
-
-both_true : {a b : Bool} → a ≡ true → b ≡ true → (a && b) ≡ true
-both_true {b} e f = ap (λ c. c && b) e ∙ f
 
 pub wire_small : (w : WireType) → wire_code w < 6
 wire_small wires.Varint = omega arith
@@ -83,6 +81,14 @@ step : (f : ℕ) (opened : Option ℕ) (n : ℕ) (wire : WireType) (key tail : L
 step f opened n wire [] tail r = elim r.varint.digits [ ]
 step f opened n wire (b ∷ key) tail r =
     bind_some (λ key. after_key (body_at f) opened key.0 key.1 key.2) (key_read n wire (b ∷ key) tail r)
+
+pub digits_cons : (b : ℕ) (bytes : List ℕ) → 128 ≤ b → b < 256 → AreDigits bytes → AreDigits (b ∷ bytes)
+digits_cons b [] h k d = elim d [ ]
+digits_cons b (c ∷ bytes) h k d = (h, k, d)
+
+pub varint_some : (v : ℕ) (bytes : List ℕ) → Varint v bytes → 0 < length bytes
+varint_some v [] r = elim r.digits [ ]
+varint_some v (b ∷ bytes) r = omega arith
 
 pub some_key : {n : ℕ} {w : WireType} (key : List ℕ) → Key n w key → 0 < length key
 some_key [] r = elim r.varint.digits [ ]

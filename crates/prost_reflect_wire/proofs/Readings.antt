@@ -5,7 +5,7 @@ use Rattle.prost_reflect_wire.specs.Record.{Record, Records, items, body_of, Spe
 use Rattle.prost_reflect_wire.specs.declared.key.WireType.{WireType}
 use Rattle.prost_reflect_wire.specs.Front.{KeyFront, ValueFront, RecordsFront}
 use Rattle.prost_reflect_wire.specs.Schema.{Schema}
-use Rattle.prost_reflect_wire.specs.Content.{Content, ContentOf, empty, schema_of, type_of}
+use Rattle.prost_reflect_wire.specs.Content.{Content, empty, schema_of, type_of}
 use Rattle.prost_reflect_wire.specs.Grammar.{Accepts, allows}
 use Rattle.prost_reflect_wire.specs.Meaning.{MeansInside, JoinsInside, meaning, decoded, step_by, steps_by, steps}
 use Rattle.prost_reflect_wire.specs.Writing.{record_at}
@@ -18,6 +18,7 @@ use Rattle.prost_reflect_wire.proofs.Steps.{meaning_steps, meaning_empty}
 use Rattle.prost_reflect_wire.proofs.RecordFronts.{record_front, last_front}
 use Rattle.prost_reflect_wire.proofs.Reading.{spelled_read}
 use Rattle.prost_reflect_wire.proofs.Values.{items_body}
+use Rattle.prost_reflect_wire.proofs.Kept.{kept_schema}
 
 -- STEPS
 
@@ -35,9 +36,6 @@ pub steps_one : (k : ℕ) (c : Content) (rs : List Record) (r : Record) → step
 steps_one k c rs r =
     steps_level k c (rs ++ (r ∷ [])) ∙ steps_append (below (schema_of c) k) (further k) c rs (r ∷ [])
     ∙ ap (λ d. step_by (below (schema_of c) k) (further k) d r) (sym (steps_level k c rs))
-
-pub kept_schema : (c : Content) → schema_of (kept c) ≡ schema_of c
-kept_schema (ContentOf schema T es) = refl
 
 -- PROGRESS
 

@@ -1,15 +1,12 @@
 -- The short spelling spells.
-use Rattle.std.proofs.Common.{◌≡◌, ℕ, zero, suc, ◌+◌, ◌*◌, ◌/◌, ◌%◌, ◌^◌, ◌<◌, ◌≤◌, Bool, true, false, List, [], ◌∷◌, length, nat_lt, nat_eq, refl, sym, arith, pow-suc, div-lt_iff_lt-mul, lit≤, lt_of_lt_of_le, true≢false, ◌&&◌}
+use Rattle.std.proofs.Common.{◌≡◌, ℕ, zero, suc, ◌+◌, ◌*◌, ◌/◌, ◌%◌, ◌^◌, ◌<◌, ◌≤◌, Bool, true, false, List, length, nat_lt, nat_eq, refl, arith, pow-suc, div-lt_iff_lt-mul, lit≤, lt_of_lt_of_le, ◌&&◌}
 use Rattle.std.proofs.lemmas.Bool.{ltb-true, ltb-false, eqb-true}
 use Rattle.prost_reflect_wire.specs.Varint.{are_bytes, AreDigits, digits_value, Varint, short, short_within}
 use Rattle.prost_reflect_wire.specs.Record.{Key, wire_code, plain_wire, short_key, short_plain, short_body, Plain, Var, Fix64, Len, Fix32, SpellsPlain, Records, NoRecords, PlainRecord, GroupRecord, Spells, number_valid, plain_valid, valid}
-use Rattle.prost_reflect_wire.proofs.Reading.{wire_small}
+use Rattle.prost_reflect_wire.proofs.Reading.{wire_small, digits_cons}
 use Rattle.prost_reflect_wire.specs.declared.key.WireType.{WireType}
 use Rattle.prost_reflect_wire.specs.declared.key.WireType.TheVariants as wires
-
-digits_cons : (b : ℕ) (bytes : List ℕ) → 128 ≤ b → b < 256 → AreDigits bytes → AreDigits (b ∷ bytes)
-digits_cons b [] h k d = elim d [ ]
-digits_cons b (c ∷ bytes) h k d = (h, k, d)
+use Rattle.prost_reflect_wire.proofs.ListTests.{and_both}
 
 record Short (more value : ℕ) (bytes : List ℕ) : Type 0 where
   digits : AreDigits bytes
@@ -35,10 +32,6 @@ short_varint v h =
     let small : v < 128 ^ 10 = lt_of_lt_of_le h (lit≤ tt) in
     let r : Short 9 v (short v) = short_ok 9 v small in
     record { below = h; digits = r.digits; few = r.few; means = r.means }
-
-and_both : (a b : Bool) → (a && b) ≡ true → (a ≡ true) × (b ≡ true)
-and_both true b h = (refl, h)
-and_both false b h = absurd (true≢false (sym h))
 
 pub short_key_ok : (n : ℕ) (w : WireType) → number_valid n ≡ true → Key n w (short_key n w)
 short_key_ok n w h =

@@ -1,6 +1,5 @@
 -- Contents that are well-typed and of so many levels, number by number.
 use Rattle.std.proofs.Common.{◌≡◌, ℕ, ◌≤◌, Bool, true, false, cond, not, ◌&&◌, ◌||◌, List, [], ◌∷◌, nat_eq, nat_le, Option, Some, None, refl, ap, sym, ◌∙◌, subst, arith, true≢false}
-use Rattle.std.specs.Prelude.{max}
 use Rattle.std.specs.List.{list_any, list_all}
 use Rattle.std.proofs.lemmas.Bool.{eqb-true, eq-eqb, leb-true, le-leb}
 use Rattle.prost_reflect_wire.specs.Record.{Payload}
@@ -10,7 +9,7 @@ use Rattle.prost_reflect_wire.specs.Levels.{unknown_levels, levels, entries_leve
 use Rattle.prost_reflect_wire.specs.Typing.{value_valid, unknown_fits, EntryTest, everywhere, entries_pass, value_passes, fit_test, has_value_of, is_alone, alone_test, is_empty_of, is_stored_default, filled_test, default_test, kind_for, Typed, EntriesTyped, ValueTyped, WellTyped}
 use Rattle.prost_reflect_wire.proofs.Deeper.{and_both, both_true}
 use Rattle.prost_reflect_wire.proofs.Everywhere.{stored_passes, both_tests, both_pass, both_parts}
-use Rattle.prost_reflect_wire.proofs.Numbers.{Ascending, eqb-sym}
+use Rattle.prost_reflect_wire.proofs.Numbers.{Ascending, eqb-sym, both_max}
 use Rattle.prost_reflect_wire.proofs.Survivors.{field_number}
 use Rattle.prost_reflect_wire.proofs.Arranged.{OrderedOption, table_ordered}
 
@@ -118,9 +117,6 @@ not_own fields f m h = go (nat_eq m f.number) (and_both (not (nat_eq m f.number)
     go false h = refl
 
 -- FROM ENTRIES TO SLOTS
-
-both_max : (a b k : ℕ) → max a b ≤ k → (a ≤ k) × (b ≤ k)
-both_max a b k h = (omega arith, omega arith)
 
 -- what the tests say of a stored value
 pub record DeepParts (fields : List Field) (n : ℕ) (v : Value) (es : Entries) : Type 0 where

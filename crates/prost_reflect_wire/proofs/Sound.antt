@@ -6,6 +6,9 @@ use Rattle.prost_reflect_wire.specs.Varint.{AreBytes, AreDigits, digits_value, V
 use Rattle.prost_reflect_wire.specs.Record.{Key, key_at, wire_code, plain_wire, wire_of, plain_at, Plain, Var, Fix64, Len, Fix32, SpellsPlain, Records, NoRecords, PlainRecord, GroupRecord, Spells, Body, body_at, after_key, read}
 use Rattle.prost_reflect_wire.specs.declared.key.WireType.{WireType}
 use Rattle.prost_reflect_wire.specs.declared.key.WireType.TheVariants as wires
+use Rattle.prost_reflect_wire.proofs.Reading.{digits_cons}
+use Rattle.prost_reflect_wire.proofs.ListTests.{and_both}
+use Rattle.prost_reflect_wire.proofs.ByteLists.{bytes_behind}
 
 pub some_inside : {A : Type 0} {x y : A} → Some x ≡ Some y → x ≡ y
 some_inside {x} e = ap (λ o. elim o [ None ↦ x | Some z ↦ z ]) e
@@ -21,10 +24,6 @@ pub guard_ok : {A : Type 0} (b : Bool) (x y : A) → guard b x ≡ Some y → (b
 guard_ok true x y e = (refl, some_inside e)
 guard_ok false x y e = absurd (none_some e)
 
-pub bytes_after : (front rest : List ℕ) → AreBytes (front ++ rest) → AreBytes rest
-bytes_after [] rest h = h
-bytes_after (b ∷ front) rest h = bytes_after front rest h.1
-
 -- digits at the front
 record Digits (k : ℕ) (bytes : List ℕ) (v : ℕ) (rest : List ℕ) : Type 0 where
   digits : List ℕ
@@ -32,10 +31,6 @@ record Digits (k : ℕ) (bytes : List ℕ) (v : ℕ) (rest : List ℕ) : Type 0 
   are : AreDigits digits
   few : length digits ≤ k
   means : digits_value digits ≡ v
-
-digits_cons : (b : ℕ) (bytes : List ℕ) → 128 ≤ b → b < 256 → AreDigits bytes → AreDigits (b ∷ bytes)
-digits_cons b [] h k d = elim d [ ]
-digits_cons b (c ∷ bytes) h k d = (h, k, d)
 
 digits_sound : (k : ℕ) (bytes : List ℕ) (v : ℕ) (rest : List ℕ) → AreBytes bytes → digits_at k bytes ≡ Some (v, rest) → Digits k bytes v rest
 digits_sound zero bytes v rest small e = absurd (none_some e)
@@ -69,10 +64,6 @@ code_of (suc (suc (suc zero))) wire e = ap wire_code (some_inside e)
 code_of (suc (suc (suc (suc zero)))) wire e = ap wire_code (some_inside e)
 code_of (suc (suc (suc (suc (suc zero))))) wire e = ap wire_code (some_inside e)
 code_of (suc (suc (suc (suc (suc (suc w)))))) wire e = absurd (none_some e)
-
-and_both : (a b : Bool) → (a && b) ≡ true → (a ≡ true) × (b ≡ true)
-and_both true b h = (refl, h)
-and_both false b h = absurd (true≢false (sym h))
 
 key_sound : (bytes : List ℕ) (n : ℕ) (wire : WireType) (rest : List ℕ) → AreBytes bytes → key_at bytes ≡ Some (n, wire, rest) → (front : List ℕ) × (bytes ≡ front ++ rest) × Key n wire front
 key_sound bytes n wire rest small e =
@@ -159,9 +150,9 @@ plain_first : (body : Body) (opened : Option ℕ) (n : ℕ) (wire : WireType) (b
 plain_first body opened n wire bytes key tail rs rest small whole k e more =
     let (p, m, f) = bind_ok (λ q. body opened q.1 >>= λ rest. Some (PlainRecord n q.0 rest.0, rest.1)) (plain_at wire tail) (rs, rest) e in
     let (after, j, g) = bind_ok (λ rest. Some (PlainRecord n p.0 rest.0, rest.1)) (body opened p.1) (rs, rest) f in
-    let small' : AreBytes tail = bytes_after key tail (subst AreBytes whole small) in
+    let small' : AreBytes tail = bytes_behind key tail (subst AreBytes whole small) in
     let h : Front wire tail p.0 p.1 = plain_sound wire tail p.0 p.1 small' m in
-    let w : Whole opened p.1 after.0 after.1 = more p.1 after.0 after.1 (bytes_after h.front p.1 (subst AreBytes h.whole small')) j in
+    let w : Whole opened p.1 after.0 after.1 = more p.1 after.0 after.1 (bytes_behind h.front p.1 (subst AreBytes h.whole small')) j in
     moved_all (some_inside g) (record {
       front = key ++ (h.front ++ w.front);
       stop = w.stop;
@@ -187,9 +178,9 @@ step_sound body (Some g) n wires.EndGroup bytes key tail rs rest small whole k e
 step_sound body opened n wires.StartGroup bytes key tail rs rest small whole k e more =
     let (inside, m, f) = bind_ok (λ inside. body opened inside.1 >>= λ rest. Some (GroupRecord n inside.0 rest.0, rest.1)) (body (Some n) tail) (rs, rest) e in
     let (after, j, g) = bind_ok (λ rest. Some (GroupRecord n inside.0 rest.0, rest.1)) (body opened inside.1) (rs, rest) f in
-    let small' : AreBytes tail = bytes_after key tail (subst AreBytes whole small) in
+    let small' : AreBytes tail = bytes_behind key tail (subst AreBytes whole small) in
     let i : Whole (Some n) tail inside.0 inside.1 = more (Some n) tail inside.0 inside.1 small' m in
-    let small'' : AreBytes inside.1 = bytes_after i.stop inside.1 (bytes_after i.front (i.stop ++ inside.1) (subst AreBytes i.whole small')) in
+    let small'' : AreBytes inside.1 = bytes_behind i.stop inside.1 (bytes_behind i.front (i.stop ++ inside.1) (subst AreBytes i.whole small')) in
     let w : Whole opened inside.1 after.0 after.1 = more opened inside.1 after.0 after.1 small'' j in
     moved_all (some_inside g) (record {
       front = key ++ (i.front ++ (i.stop ++ w.front));

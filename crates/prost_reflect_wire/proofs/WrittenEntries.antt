@@ -9,6 +9,7 @@ use Rattle.prost_reflect_wire.specs.Content.{Entries, Unknown, Value, ScalarValu
 use Rattle.prost_reflect_wire.specs.Writing.{record_at, is_default_of, field_payloads, entries_records, scalar_payload}
 use Rattle.prost_reflect_wire.specs.Storing.{kept_records, value_bytes, stored_bytes, slot_bytes}
 use Rattle.prost_reflect_wire.specs.Typing.{kept_value, kept_inside, kept_entries, is_empty_of}
+use Rattle.prost_reflect_wire.proofs.ByNumber.{unknowns_first}
 
 pub spelled_append : (rs qs : List Record) → spelled (rs ++ qs) ≡ spelled rs ++ spelled qs
 spelled_append [] qs = refl
@@ -33,10 +34,6 @@ spelled_append (r ∷ rs) qs = go r.payload (spelled_append rs qs)
 
 -- ONE NUMBER
 
-unknown_records : (fields : List Field) (n : ℕ) (ps : List Payload) (es : Entries) → entries_records fields (then_unknowns n ps es) ≡ map (record_at n) ps ++ entries_records fields es
-unknown_records fields n [] es = refl
-unknown_records fields n (p ∷ ps) es = ap (λ l. record_at n p ∷ l) (unknown_records fields n ps es)
-
 kept_unknowns : (fields : List Field) (n : ℕ) (ps : List Payload) (es : Entries) → kept_entries fields (then_unknowns n ps es) ≡ then_unknowns n ps (kept_entries fields es)
 kept_unknowns fields n [] es = refl
 kept_unknowns fields n (p ∷ ps) es = ap (Unknown n p) (kept_unknowns fields n ps es)
@@ -51,7 +48,7 @@ written_slot fields n slot es = go slot.value
     behind = map (record_at n) slot.unknowns ++ entries_records fields (kept_entries fields es)
 
     unknowns : entries_records fields (kept_entries fields (then_unknowns n slot.unknowns es)) ≡ map (record_at n) slot.unknowns ++ entries_records fields (kept_entries fields es)
-    unknowns = ap (entries_records fields) (kept_unknowns fields n slot.unknowns es) ∙ unknown_records fields n slot.unknowns (kept_entries fields es)
+    unknowns = ap (entries_records fields) (kept_unknowns fields n slot.unknowns es) ∙ unknowns_first fields n slot.unknowns (kept_entries fields es)
 
     split : spelled (map (record_at n) slot.unknowns ++ entries_records fields (kept_entries fields es)) ≡ spelled (map (record_at n) slot.unknowns) ++ spelled (entries_records fields (kept_entries fields es))
     split = spelled_append (map (record_at n) slot.unknowns) (entries_records fields (kept_entries fields es))

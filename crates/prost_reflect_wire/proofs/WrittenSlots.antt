@@ -1,9 +1,9 @@
 -- What an older type of a reduction writes number by number, the newer one reads number by number.
-use Rattle.std.proofs.Common.{◌≡◌, ℕ, ◌+◌, Bool, true, false, cond, ◌&&◌, ◌||◌, List, [], ◌∷◌, ◌++◌, map, filter, flat_map, length, nat_le, Option, Some, None, refl, ap, ap₂, sym, subst, ◌∙◌, arith, true≢false, append-nil}
+use Rattle.std.proofs.Common.{◌≡◌, ℕ, ◌+◌, Bool, true, false, cond, ◌||◌, List, [], ◌∷◌, ◌++◌, map, filter, flat_map, length, Option, Some, None, refl, ap, ap₂, sym, subst, ◌∙◌, arith, true≢false, append-nil}
 use Rattle.std.specs.List.{list_any, list_all}
 use Rattle.std.proofs.lemmas.List.Folds.{list_all-append}
 use Rattle.prost_reflect_wire.specs.Varint.{◌>>=◌}
-use Rattle.prost_reflect_wire.specs.Record.{Payload, Record, payload_levels, body_of, number_valid, payload_valid, valid}
+use Rattle.prost_reflect_wire.specs.Record.{Payload, Record, body_of, number_valid, payload_valid, valid}
 use Rattle.prost_reflect_wire.specs.Schema.{Field, Schema, known, field_of, is_sibling}
 use Rattle.prost_reflect_wire.specs.Content.{ContentOf, Value, Slot, table}
 use Rattle.prost_reflect_wire.specs.Grammar.{AllowsInside, has_number, payloads, value_records, value_payloads, stray_payloads, unknown_payloads, field_allowed, record_allowed}

@@ -14,15 +14,13 @@ use Rattle.prost_reflect_wire.specs.declared.error.DecodeError.{DecodeError}
 use Rattle.prost_reflect_wire.specs.declared.error.DecodeError.TheVariants as errors
 use Rattle.prost_reflect_wire.specs.declared.key.WireType.{WireType}
 use Rattle.prost_reflect_wire.specs.declared.key.WireType.TheVariants as wires
+use Rattle.prost_reflect_wire.proofs.Sound.{none_some}
 
 pub one_byte : (v : ℕ) → v < 128 → Varint v (v ∷ [])
 one_byte v h = record { below = omega (arith, h); digits = h; few = omega arith; means = omega (arith, h) }
 
 pub key : (n : ℕ) (w : WireType) (rest : List ℕ) → 0 < n → 8 * n + wire_code w < 128 → KeyFront n w ((8 * n + wire_code w) ∷ rest) rest
 key n w rest from h = record { front = (8 * n + wire_code w) ∷ []; key = record { from_one = from; below = omega (arith, h); varint = one_byte (8 * n + wire_code w) h }; parts = refl }
-
-none_some : {n : ℕ} → ◌≡◌ {A = Option ℕ} None (Some n) → ⊥
-none_some e = true≢false (ap (λ o. elim o [ None ↦ true | Some x ↦ false ]) e)
 
 one_two : ◌≡◌ {A = Option ℕ} (Some 1) (Some 2) → ⊥
 one_two e = let k : ◌≡◌ {A = ℕ} 1 2 = ap (λ (o : Option ℕ). elim o [ None ↦ 1 | Some x ↦ x ]) e in omega (arith, k)

@@ -1,20 +1,19 @@
 -- The statements near the laws on reading back are refuted.
-use Rattle.std.proofs.Common.{◌≡◌, ℕ, zero, suc, Bool, true, false, List, [], ◌∷◌, ◌++◌, map, flat_map, length, Option, Some, None, refl, sym, ap, ap₂, ◌∙◌, arith, true≢false}
+use Rattle.std.proofs.Common.{◌≡◌, ℕ, true, List, [], ◌∷◌, map, flat_map, length, Option, Some, refl, sym, ap, ◌∙◌, arith, true≢false}
 use Rattle.std.specs.Str.{is_utf8, chars}
 use Rattle.std.specs.Char.{encode_utf8}
 use Rattle.std.specs.Option.{is_some}
 use Rattle.prost_reflect_wire.specs.Varint.{short}
-use Rattle.prost_reflect_wire.specs.Record.{Payload, Record, record_at, read}
-use Rattle.prost_reflect_wire.specs.Schema.{Field, known}
-use Rattle.prost_reflect_wire.specs.Content.{Content, Entries, NoEntries, Stored, Unknown, Value, ScalarValue, MessageValue, ListValue, MapValue, Pairs, NoPairs, Pair, Values, NoValues, Item, entries_of, value_at}
-use Rattle.prost_reflect_wire.specs.Scalar.{Scalar, Text}
+use Rattle.prost_reflect_wire.specs.Record.{record_at, read}
+use Rattle.prost_reflect_wire.specs.Schema.{Field}
+use Rattle.prost_reflect_wire.specs.Content.{Entries, NoEntries, Stored, Unknown, Value, ScalarValue, MessageValue, ListValue, MapValue, Pair, Item, entries_of, value_at}
+use Rattle.prost_reflect_wire.specs.Scalar.{Text}
 use Rattle.prost_reflect_wire.specs.Grammar.{payloads, value_records, is_len, unpacked, allows}
 use Rattle.prost_reflect_wire.specs.Meaning.{MeansInside, field_value, meaning, steps}
 use Rattle.prost_reflect_wire.specs.Writing.{field_payloads, encoded}
-use Rattle.prost_reflect_wire.specs.Laws.{ValueBack, UnknownBack, EntriesBack, PairsBack, block}
-use Rattle.prost_reflect_wire.specs.Examples.Schemas.{examples, text, int32, my_message, closed}
-use Rattle.prost_reflect_wire.specs.Examples.Words.{content, varint, delimited}
-use Rattle.prost_reflect_wire.specs.Examples.NearbyBack.{descending_pairs, descending_entries, NotOfReadingBack}
+use Rattle.prost_reflect_wire.specs.Laws.{ValueBack}
+use Rattle.prost_reflect_wire.specs.Examples.Words.{varint}
+use Rattle.prost_reflect_wire.specs.Examples.NearbyBack.{NotOfReadingBack}
 use Rattle.prost_reflect_wire.proofs.ByNumber.{block_payloads}
 
 -- the records of a value that is read back mean it

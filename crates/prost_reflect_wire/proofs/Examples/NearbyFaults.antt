@@ -1,15 +1,15 @@
 -- The statements near the laws on faults and on single fields are refuted.
-use Rattle.std.proofs.Common.{◌≡◌, ◌≢◌, ℕ, List, [], ◌∷◌, length, refl, inl, inr, ap, arith, lit<, lit≤, true, false, true≢false}
+use Rattle.std.proofs.Common.{◌≡◌, ◌≢◌, ℕ, List, [], ◌∷◌, length, refl, inl, ap, arith, lit<, lit≤, true, false, true≢false}
 use Rattle.std.specs.Str.{is_utf8, chars}
 use Rattle.std.specs.Char.{encode_utf8}
-use Rattle.prost_reflect_wire.specs.Varint.{AreBytes, short}
+use Rattle.prost_reflect_wire.specs.Varint.{short}
 use Rattle.prost_reflect_wire.specs.Record.{Var, Flat, read, wire_code}
 use Rattle.prost_reflect_wire.specs.Schema.{MessageOf, Singular}
 use Rattle.prost_reflect_wire.specs.Front.{FieldFront, RecordFront, NoKey}
 use Rattle.prost_reflect_wire.specs.Grammar.{Accepts, unpacked, allows}
 use Rattle.prost_reflect_wire.specs.Meaning.{meaning, steps}
 use Rattle.prost_reflect_wire.specs.Fault.{StandsInMessage, Here, Behind}
-use Rattle.prost_reflect_wire.specs.Examples.Schemas.{examples, my_message, packed_list, maps, no_fields, text_at_one, field, message_value_type}
+use Rattle.prost_reflect_wire.specs.Examples.Schemas.{examples, my_message, text_at_one, field, message_value_type}
 use Rattle.prost_reflect_wire.specs.Examples.Words.{hex}
 use Rattle.prost_reflect_wire.specs.Examples.PremisesOfPassage.{first_field}
 use Rattle.prost_reflect_wire.specs.Examples.Instances.{needless}

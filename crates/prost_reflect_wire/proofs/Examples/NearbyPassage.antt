@@ -1,11 +1,11 @@
 -- The statements near the laws of reduction are refuted.
-use Rattle.std.proofs.Common.{◌≡◌, ℕ, true, false, List, [], ◌∷◌, length, Option, Some, None, refl, sym, ap, arith, lit<, true≢false}
+use Rattle.std.proofs.Common.{ℕ, false, List, [], ◌∷◌, Option, Some, None, refl, sym, ap, arith, lit<, true≢false}
 use Rattle.std.specs.Str.{is_utf8, chars}
 use Rattle.std.specs.Char.{encode_utf8}
 use Rattle.std.specs.Option.{is_some}
-use Rattle.prost_reflect_wire.specs.Varint.{AreBytes, short}
+use Rattle.prost_reflect_wire.specs.Varint.{short}
 use Rattle.prost_reflect_wire.specs.Record.{read}
-use Rattle.prost_reflect_wire.specs.Content.{Content, Entries, entries_of, Value, MessageValue, value_at, type_of}
+use Rattle.prost_reflect_wire.specs.Content.{Content, entries_of, MessageValue, value_at, type_of}
 use Rattle.prost_reflect_wire.specs.Grammar.{LEVEL_LIMIT, Accepts, unpacked, allows}
 use Rattle.prost_reflect_wire.specs.Meaning.{meaning, steps}
 use Rattle.prost_reflect_wire.specs.Edit.{PathTo}
@@ -15,8 +15,8 @@ use Rattle.prost_reflect_wire.specs.Examples.Schemas.{examples, my_message, olde
 use Rattle.prost_reflect_wire.specs.Examples.Words.{hex, int}
 use Rattle.prost_reflect_wire.specs.Examples.NearbyPassage.{older_value, to_message, to_x, NotOfPassages}
 use Rattle.prost_reflect_wire.proofs.Accepted.{accepts_is_test}
-use Rattle.prost_reflect_wire.proofs.Examples.NotReduced.{no_reductions}
-use Rattle.prost_reflect_wire.proofs.Examples.Passages.{accepted_by, unmatched, path_inside}
+use Rattle.prost_reflect_wire.proofs.Examples.NotReduced.{differ, no_reductions}
+use Rattle.prost_reflect_wire.proofs.Examples.Passages.{accepted_by, path_inside}
 
 no_fields_reduced : Reduced examples no_fields examples text_at_one
 no_fields_reduced = record { pairs = (no_fields, text_at_one) ∷ []; first = refl; each = refl }
@@ -44,7 +44,7 @@ pub not_of_passages : NotOfPassages
 unfolding short read unpacked allows meaning steps is_utf8 chars encode_utf8 refined_times
 not_of_passages = record {
   older_accepts = (no_fields_reduced, accepted_by no_fields "0801" refl refl, number_no_text);
-  older_unreduced = (unmatched text_at_one optional_a (λ pairs. refl), accepted_by optional_a "0801" refl refl, number_no_text);
+  older_unreduced = (differ text_at_one optional_a (λ pairs. refl), accepted_by optional_a "0801" refl refl, number_no_text);
   passage = (accepted_by my_message "1a0410420805" refl refl, refl, λ e. absurd (omega (arith, ap fourth e)));
   edit_levels = (lit< tt, (accepts_is_test examples 0 my_message [] tt).1 refl, path_inside, refl, no_level);
   edit_message = (refl, accepted_by my_message "" refl refl, path_message, refl, λ e. absurd (omega (arith, ap type_inside e)));

@@ -4,11 +4,10 @@ use Rattle.std.specs.Str.{is_utf8, chars}
 use Rattle.std.specs.Char.{encode_utf8}
 use Rattle.prost_reflect_wire.specs.Varint.{AreDigits, short}
 use Rattle.prost_reflect_wire.specs.Record.{Records, Spells, read}
-use Rattle.prost_reflect_wire.specs.Grammar.{Accepts, unpacked, allows}
+use Rattle.prost_reflect_wire.specs.Grammar.{unpacked, allows}
 use Rattle.prost_reflect_wire.specs.Meaning.{meaning, steps}
-use Rattle.prost_reflect_wire.specs.Examples.Schemas.{examples, my_message}
-use Rattle.prost_reflect_wire.specs.Examples.Instances.{one, needless}
-use Rattle.prost_reflect_wire.specs.Examples.NearbyReading.{no_bytes, number_zero, NotOfRecords, NotOfScalars}
+use Rattle.prost_reflect_wire.specs.Examples.Instances.{one}
+use Rattle.prost_reflect_wire.specs.Examples.NearbyReading.{no_bytes, NotOfRecords, NotOfScalars}
 use Rattle.prost_reflect_wire.proofs.Reading.{spelled_read}
 use Rattle.prost_reflect_wire.proofs.Sound.{some_inside}
 

@@ -1,5 +1,5 @@
 -- The statements near the laws on what is read, merged, kept and set are refuted.
-use Rattle.std.proofs.Common.{ℕ, true, false, List, [], ◌∷◌, length, refl, sym, ap, arith, lit≤, true≢false}
+use Rattle.std.proofs.Common.{ℕ, List, [], ◌∷◌, length, refl, sym, ap, arith, true≢false}
 use Rattle.std.specs.Str.{is_utf8, chars}
 use Rattle.std.specs.Char.{encode_utf8}
 use Rattle.std.specs.Option.{is_some}

@@ -1,13 +1,12 @@
 -- The worked examples of the laws of reduction: what they ask is computed, and what they say is theirs.
 use Prim.Native.String.{String}
-use Rattle.std.specs.Prelude.{◌≡◌, ℕ, suc, nat_lt, ◌<◌, ◌≤◌, ◌^◌, Bool, true, false, pos, List, [], ◌∷◌, length, Option, Some, None, IsTrue}
+use Rattle.std.specs.Prelude.{◌≡◌, ℕ, suc, ◌<◌, ◌≤◌, ◌^◌, Bool, true, false, pos, List, [], ◌∷◌, length, Option, Some, None, IsTrue}
 use Rattle.std.proofs.Common.{refl, ap, sym, ◌∙◌, subst, true≢false, lit<, lit≤}
-use Rattle.std.proofs.lemmas.Bool.{ltb-true}
 use Rattle.std.specs.Str.{is_utf8, chars}
 use Rattle.std.specs.Char.{encode_utf8}
-use Rattle.prost_reflect_wire.specs.Varint.{AreBytes, short, are_bytes}
+use Rattle.prost_reflect_wire.specs.Varint.{short, are_bytes}
 use Rattle.prost_reflect_wire.specs.Record.{read}
-use Rattle.prost_reflect_wire.specs.Schema.{Schema, MessageOf, Singular, message_type}
+use Rattle.prost_reflect_wire.specs.Schema.{MessageOf, Singular}
 use Rattle.prost_reflect_wire.specs.Content.{Content, ContentOf, Entries, NoEntries, Value, ScalarValue, MessageValue, ListValue, MapValue, value_at}
 use Rattle.prost_reflect_wire.specs.Scalar.{Scalar, I32, EnumNumber, scalar_eq}
 use Rattle.prost_reflect_wire.specs.Grammar.{LEVEL_LIMIT, Accepts, accepts, unpacked, allows}
@@ -15,36 +14,29 @@ use Rattle.prost_reflect_wire.specs.Meaning.{decoded, meaning, steps}
 use Rattle.prost_reflect_wire.specs.Edit.{PathTo, holds_message}
 use Rattle.prost_reflect_wire.specs.Typing.{ValueStored}
 use Rattle.prost_reflect_wire.specs.Reducing.{refined_times}
-use Rattle.prost_reflect_wire.specs.Reduction.{TypePairs, types_match, Reduced}
+use Rattle.prost_reflect_wire.specs.Reduction.{Reduced}
 use Rattle.prost_reflect_wire.specs.Passage.{as_fields}
 use Rattle.prost_reflect_wire.specs.ReducingExamples.{whole, less, other}
 use Rattle.prost_reflect_wire.specs.Examples.Schemas.{examples, field, member, int32, message_value_type, my_message, older_message, maps, maps_without_m, choice, extended, extended_choice, field_at_hundred, no_fields, closed, closed_alone, open_alone}
 use Rattle.prost_reflect_wire.specs.Examples.Words.{int, hex, content, Means, Writes, Sets}
 use Rattle.prost_reflect_wire.specs.Examples.Passages.{AcceptedBy, Relays, Passes, Fails, PassesEdit, Passages, EditPassages, Tested, FailedPassages, ExtensionAgainstField}
 use Rattle.prost_reflect_wire.proofs.Accepted.{accepts_is_test}
-use Rattle.prost_reflect_wire.proofs.Deeper.{and_both}
 use Rattle.prost_reflect_wire.proofs.PassageLaws.{older_accepts, passage, edit_passage}
 use Rattle.prost_reflect_wire.proofs.Refining.{reduced_is_test}
 use Rattle.prost_reflect_wire.proofs.Examples.ComputedContents.{schemas}
 use Rattle.prost_reflect_wire.proofs.Examples.ComputedReductions.{reductions}
-use Rattle.prost_reflect_wire.proofs.Examples.NotReduced.{no_reductions}
-use Rattle.prost_reflect_wire.proofs.Matches.{pair_matches}
-
--- BYTES
-
-bytes_from : (bytes : List ℕ) → are_bytes bytes ≡ true → AreBytes bytes
-bytes_from [] h = tt
-bytes_from (b ∷ bytes) h = let both : (nat_lt b 256 ≡ true) × (are_bytes bytes ≡ true) = and_both (nat_lt b 256) (are_bytes bytes) h in (ltb-true b 256 both.0, bytes_from bytes both.1)
+use Rattle.prost_reflect_wire.proofs.Examples.NotReduced.{no_reductions, differ, differ_in}
+use Rattle.prost_reflect_wire.proofs.ByteLists.{test_bytes}
 
 -- BY THE LAWS
 
 pub accepted_by : (T : ℕ) (bytes : String) → IsTrue (are_bytes (hex bytes)) → IsTrue (accepts examples LEVEL_LIMIT T (hex bytes)) → AcceptedBy T bytes
-accepted_by T bytes small h = (accepts_is_test examples LEVEL_LIMIT T (hex bytes) (bytes_from (hex bytes) small)).1 h
+accepted_by T bytes small h = (accepts_is_test examples LEVEL_LIMIT T (hex bytes) (test_bytes (hex bytes) small)).1 h
 
 relays : (A B : ℕ) (bytes : String) (es : Entries) (again : String) → IsTrue (are_bytes (hex bytes)) → IsTrue (accepts examples LEVEL_LIMIT B (hex bytes)) → Means A bytes es → Writes A es again → length (hex again) < 2 ^ 64 → Relays A B bytes es again
 relays A B bytes es again small h read written short = record {
   checked = schemas.examples_valid;
-  small = bytes_from (hex bytes) small;
+  small = test_bytes (hex bytes) small;
   accepted = accepted_by B bytes small h;
   read = read;
   written = written;
@@ -63,10 +55,10 @@ passes_edit : (A B : ℕ) (bytes : String) (path : List ℕ) (v : Value) (again 
     IsTrue (accepts examples LEVEL_LIMIT B (hex bytes)) → Sets A bytes path v again → length (hex again) < 2 ^ 64 → PassesEdit A B bytes path v again
 passes_edit A B bytes path v again small reduced level to plain h sets short =
     let acc : AcceptedBy B bytes = accepted_by B bytes small h in
-    let (accepted_again, set_behind) = edit_passage examples examples LEVEL_LIMIT A B (hex bytes) path v (hex again) schemas.examples_valid schemas.examples_valid (bytes_from (hex bytes) small) reduced level to plain acc sets short in
+    let (accepted_again, set_behind) = edit_passage examples examples LEVEL_LIMIT A B (hex bytes) path v (hex again) schemas.examples_valid schemas.examples_valid (test_bytes (hex bytes) small) reduced level to plain acc sets short in
     record {
       checked = schemas.examples_valid;
-      small = bytes_from (hex bytes) small;
+      small = test_bytes (hex bytes) small;
       reduced = reduced;
       level = level;
       to = to;
@@ -79,12 +71,6 @@ passes_edit A B bytes path v again small reduced level to plain h sets short =
     }
 
 -- AGAINST THE LAWS
-
-unmatched_in : (schema : Schema) (A B : ℕ) → ((pairs : TypePairs) → types_match pairs (message_type schema A) (message_type schema B) ≡ false) → Reduced schema A schema B → ⊥
-unmatched_in schema A B h r = true≢false (sym (pair_matches r.pairs r.pairs schema schema A B r.first r.each) ∙ h r.pairs)
-
-pub unmatched : (A B : ℕ) → ((pairs : TypePairs) → types_match pairs (message_type examples A) (message_type examples B) ≡ false) → Reduced examples A examples B → ⊥
-unmatched = unmatched_in examples
 
 -- whether the value at number 1 is this one
 abbrev is_scalar : Scalar → Value → Bool
@@ -161,20 +147,20 @@ unfolding short read unpacked allows meaning steps is_utf8 chars encode_utf8
 failed_passages = record {
   members = fails _ _ _ _ _ _ _ (I32 (pos 1)) (relays _ _ _ _ _ refl refl refl refl (lit< tt)) no_reductions.added_members refl refl refl refl;
   member = fails _ _ _ _ _ _ _ (I32 (pos 6)) (relays _ _ _ _ _ refl refl refl refl (lit< tt)) no_reductions.member_left_out refl refl refl refl;
-  extensions = fails _ _ _ _ _ _ _ (I32 (pos 1)) (relays _ _ _ _ _ refl refl refl refl (lit< tt)) (unmatched extended_choice choice (λ pairs. refl)) refl refl refl refl;
+  extensions = fails _ _ _ _ _ _ _ (I32 (pos 1)) (relays _ _ _ _ _ refl refl refl refl (lit< tt)) (differ extended_choice choice (λ pairs. refl)) refl refl refl refl;
   numbers = fails _ _ _ _ _ _ _ (EnumNumber (pos 0)) (relays _ _ _ _ _ refl refl refl refl (lit< tt)) no_reductions.enum_numbers refl refl refl refl;
   closed_to_newer = fails _ _ _ _ _ _ _ (EnumNumber (pos 1)) (relays _ _ _ _ _ refl refl refl refl (lit< tt)) no_reductions.enum_open refl refl refl refl;
-  closed_to_older = fails _ _ _ _ _ _ _ (EnumNumber (pos 1)) (relays _ _ _ _ _ refl refl refl refl (lit< tt)) (unmatched closed_alone open_alone (λ pairs. refl)) refl refl refl refl;
+  closed_to_older = fails _ _ _ _ _ _ _ (EnumNumber (pos 1)) (relays _ _ _ _ _ refl refl refl refl (lit< tt)) (differ closed_alone open_alone (λ pairs. refl)) refl refl refl refl;
 }
 
 pub extension_against_field : ExtensionAgainstField
 unfolding short read unpacked allows meaning steps is_utf8 chars encode_utf8
 extension_against_field = record {
-  unreduced = unmatched extended field_at_hundred (λ pairs. refl);
+  unreduced = differ extended field_at_hundred (λ pairs. refl);
   reduced_as_fields = record { pairs = (extended, field_at_hundred) ∷ []; first = refl; each = refl };
   relays = relays _ _ _ _ _ refl refl refl refl (lit< tt);
   passes_on = (accepted_by field_at_hundred "a00605" refl refl, refl);
   sets = ((_, refl, record { valid = refl; fits = refl; types = tt; order = refl; members = refl }), refl);
   set_behind = (accepted_by field_at_hundred "a00607" refl refl, refl);
-  members = unmatched_in (as_fields examples) extended_choice choice (λ pairs. refl);
+  members = differ_in (as_fields examples) extended_choice choice (λ pairs. refl);
 }

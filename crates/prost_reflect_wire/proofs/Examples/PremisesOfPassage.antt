@@ -1,8 +1,8 @@
 -- The premises of the laws on reductions and on single fields at worked examples.
-use Rattle.std.proofs.Common.{ℕ, ◌<◌, [], ◌∷◌, refl, arith, lit<, lit≤}
+use Rattle.std.proofs.Common.{[], ◌∷◌, refl, lit<, lit≤}
 use Rattle.std.specs.Str.{is_utf8, chars}
 use Rattle.std.specs.Char.{encode_utf8}
-use Rattle.prost_reflect_wire.specs.Varint.{AreBytes, Varint, short}
+use Rattle.prost_reflect_wire.specs.Varint.{AreBytes, short}
 use Rattle.prost_reflect_wire.specs.Record.{read}
 use Rattle.prost_reflect_wire.specs.Grammar.{Accepts, unpacked, allows}
 use Rattle.prost_reflect_wire.specs.Meaning.{meaning, steps}
@@ -18,6 +18,7 @@ use Rattle.prost_reflect_wire.proofs.PassageLaws.{older_accepts, passage, edit_p
 use Rattle.prost_reflect_wire.proofs.Refining.{reduced_is_test}
 use Rattle.prost_reflect_wire.proofs.SpelledValid.{field_again}
 use Rattle.prost_reflect_wire.proofs.Examples.ComputedReductions.{reductions}
+use Rattle.prost_reflect_wire.proofs.Examples.Faults.{first_one}
 
 bytes : AreBytes relayed_bytes
 bytes = (lit< tt, (lit< tt, (lit< tt, (lit< tt, (lit< tt, (lit< tt, tt))))))
@@ -43,18 +44,8 @@ of_passages = record {
   reduced = (reduced_is_test less whole 0 0 refl refl (lit< tt) (lit< tt)).1 refl;
 }
 
-one_byte : (v : ℕ) → v < 128 → Varint v (v ∷ [])
-one_byte v h = record { below = omega (arith, h); digits = h; few = omega arith; means = omega (arith, h) }
-
 front : FieldFront 0 first_field (hex "080142") (hex "42")
-front = record {
-  front = record {
-    front = hex "0801";
-    spelled = (0x08 ∷ [], 0x01 ∷ [], [], record { from_one = lit< tt; below = lit< tt; varint = one_byte 8 (lit< tt) }, one_byte 1 (lit< tt), refl, refl);
-    parts = refl;
-  };
-  within = lit≤ tt;
-}
+front = record { front = first_one (0x42 ∷ []); within = lit≤ tt }
 
 pub of_fields : OfFields
 of_fields = record {

@@ -1,7 +1,7 @@
 -- Statements near the laws on reading back that do not hold, each refuted by a worked example.
 use Rattle.std.specs.Prelude.{◌≡◌, true, false, [], ◌∷◌}
 use Rattle.prost_reflect_wire.specs.Schema.{Field, known}
-use Rattle.prost_reflect_wire.specs.Content.{Content, Entries, NoEntries, Stored, Value, ScalarValue, ListValue, MapValue, NoValues, Item, Pairs, NoPairs, Pair, MessageValue, entries_ordered, pairs_ordered}
+use Rattle.prost_reflect_wire.specs.Content.{Content, Entries, NoEntries, Stored, ScalarValue, ListValue, MapValue, NoValues, Pairs, NoPairs, Pair, MessageValue, entries_ordered, pairs_ordered}
 use Rattle.prost_reflect_wire.specs.Meaning.{meaning}
 use Rattle.prost_reflect_wire.specs.Writing.{is_default_of, records}
 use Rattle.prost_reflect_wire.specs.Typing.{is_whole_stray}

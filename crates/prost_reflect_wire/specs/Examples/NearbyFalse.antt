@@ -11,7 +11,7 @@ use Rattle.prost_reflect_wire.specs.Typing.{WellTyped, kept}
 use Rattle.prost_reflect_wire.specs.Edit.{merged}
 use Rattle.prost_reflect_wire.specs.Laws.{Apart, Writable}
 use Rattle.prost_reflect_wire.specs.Examples.Schemas.{examples, message, field, int32, my_message, packed_list, choice, plain_a}
-use Rattle.prost_reflect_wire.specs.Examples.Words.{hex, content, int, ascii, inner, list_of, varint, delimited}
+use Rattle.prost_reflect_wire.specs.Examples.Words.{content, int, ascii, inner, list_of, varint, delimited}
 use Rattle.prost_reflect_wire.specs.Examples.Instances.{front, behind, two_members, needless}
 
 -- A MyMessage in a MyMessage, so many times.

@@ -8,7 +8,7 @@ use Rattle.prost_reflect_wire.specs.Edit.{set_at, PathTo, holds_message, edited}
 use Rattle.prost_reflect_wire.specs.Reduction.{Reduced}
 use Rattle.prost_reflect_wire.specs.Reducing.{is_reduced}
 use Rattle.prost_reflect_wire.specs.Examples.Schemas.{examples, my_message, older_message, no_fields, text_at_one, optional_a, two_choices, choices_without_a}
-use Rattle.prost_reflect_wire.specs.Examples.Words.{hex, content, int, inner, Becomes, Sets}
+use Rattle.prost_reflect_wire.specs.Examples.Words.{hex, int, inner, Becomes, Sets}
 use Rattle.prost_reflect_wire.specs.Examples.Passages.{AcceptedBy}
 use Rattle.prost_reflect_wire.specs.Examples.PremisesOfPassage.{to_bar}
 

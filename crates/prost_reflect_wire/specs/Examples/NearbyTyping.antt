@@ -1,5 +1,5 @@
 -- Statements near the laws on what is read, merged, kept and set that do not hold, each refuted by a worked example.
-use Rattle.std.specs.Prelude.{◌≡◌, ℕ, true, false, pos, List, [], ◌∷◌, ◌++◌, Some}
+use Rattle.std.specs.Prelude.{◌≡◌, true, false, pos, List, [], ◌∷◌, ◌++◌, Some}
 use Rattle.prost_reflect_wire.specs.Record.{NoRecords, Group, Record, record_at, body_of, valid}
 use Rattle.prost_reflect_wire.specs.Scalar.{I32}
 use Rattle.prost_reflect_wire.specs.Schema.{Schema, MapFrom, schema_valid}
