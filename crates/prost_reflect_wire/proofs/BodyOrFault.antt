@@ -20,7 +20,7 @@ use Rattle.prost_reflect_wire.proofs.PlainFronts.{plain_delimited, delimited_pla
 use Rattle.prost_reflect_wire.proofs.RecordFronts.{record_front, first_front, none_front, key_shorter, payload_no_longer}
 use Rattle.prost_reflect_wire.proofs.BodyFronts.{key_bytes, payload_bytes, body_bytes}
 use Rattle.prost_reflect_wire.proofs.PlaceFaults.{key_stands, end_stands, plain_stands}
-use Rattle.prost_reflect_wire.proofs.Places.{inner, payload_allowed, allowed_at, allows_at, Ended, Body, items_first, body_spells, passes_body, levels_outside, entry_same}
+use Rattle.prost_reflect_wire.proofs.Places.{inner, payload_allowed, allowed_at, allows_at, Ended, Body, items_first, body_spells, passes_body, levels_outside, entry_same, len_no_end}
 use Rattle.prost_reflect_wire.proofs.FrontOrFault.{SomeFault, SomeKey, key_or, SomePlain, plain_or}
 use Rattle.prost_reflect_wire.proofs.KindsAllowed.{same_is, kind_no_start, kind_no_end, BadText, wire_fits, one_field, packed_field, elements_or, element_name}
 
@@ -126,9 +126,6 @@ delimited_of bytes x = go x.plain x.wire x.front
 
 len_no_start : wires.LengthDelimited ≢ wires.StartGroup
 len_no_start e = cc
-
-len_no_end : wires.LengthDelimited ≢ wires.EndGroup
-len_no_end e = cc
 
 delimited_or : (bytes : List ℕ) → AreBytes bytes → SomeDelimited bytes ⊎ SomeFault (λ e. PlainFault e wires.LengthDelimited bytes)
 delimited_or bytes small = either (λ x. inl (delimited_of bytes x)) inr (plain_or wires.LengthDelimited bytes len_no_start len_no_end small)

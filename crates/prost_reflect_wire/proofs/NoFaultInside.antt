@@ -13,7 +13,7 @@ use Rattle.prost_reflect_wire.specs.Fault.{Place, OfType, OfEntry, OfNothing, fi
 use Rattle.prost_reflect_wire.proofs.KeyFronts.{key_once}
 use Rattle.prost_reflect_wire.proofs.RecordFronts.{payload_once, record_parts, RecordParts}
 use Rattle.prost_reflect_wire.proofs.BodyFronts.{payload_no_end, key_not_empty, key_bytes, body_bytes}
-use Rattle.prost_reflect_wire.proofs.Places.{inner, payload_allowed, allowed_at, allows_at, Ended, Body, NextRecord, EndNext, AtEnd, AtStop, FirstOf, first_of, read_body, Passed, body_passes, levels_inside, entry_same}
+use Rattle.prost_reflect_wire.proofs.Places.{inner, payload_allowed, allowed_at, allows_at, Ended, Body, NextRecord, EndNext, AtEnd, AtStop, FirstOf, first_of, read_body, Passed, body_passes, levels_inside, entry_same, len_no_end}
 use Rattle.prost_reflect_wire.proofs.KindsTaken.{message_allowed, group_allowed, map_allowed, group_payload}
 use Rattle.prost_reflect_wire.proofs.NoFault.{known_allowed, unknown_allowed, len_front, kind_allowed, end_no_fault, record_no_fault}
 
@@ -71,9 +71,6 @@ behind_none schema place r behind front none rs rest b =
     let y : Keyed schema place r.number (payload_wire r.payload) x.mid rest = keyed schema place r.number (payload_wire r.payload) x.mid rest rs x.key (payload_no_end r.payload) b in
     let same = payload_once r.number y.payload r.payload x.mid y.behind behind y.wire y.front x.payload in
     none y.records rest (subst (λ l. Body schema (record place { bytes = l }) y.records rest) same.1 y.body)
-
-len_no_end : wires.LengthDelimited ≢ wires.EndGroup
-len_no_end e = let c : ◌≡◌ {A = ℕ} 2 4 = ap wire_code e in omega (arith, c)
 
 start_no_end : wires.StartGroup ≢ wires.EndGroup
 start_no_end e = let c : ◌≡◌ {A = ℕ} 3 4 = ap wire_code e in omega (arith, c)

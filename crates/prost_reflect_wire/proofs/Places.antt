@@ -1,11 +1,11 @@
 -- Bodies at their places: records that spell the bytes and are allowed there.
-use Rattle.std.proofs.Common.{◌≡◌, ℕ, zero, suc, ◌≤◌, Bool, true, false, ◌&&◌, ◌⊎◌, inl, inr, List, [], ◌∷◌, ◌++◌, nat_eq, nat_le, Option, Some, None, refl, sym, ap, ap₂, subst, ◌∙◌, arith, append-nil, true≢false}
+use Rattle.std.proofs.Common.{◌≡◌, ℕ, zero, suc, ◌≤◌, Bool, true, false, ◌&&◌, ◌⊎◌, inl, inr, List, [], ◌∷◌, ◌++◌, nat_eq, nat_le, Option, Some, None, refl, sym, ap, ap₂, subst, ◌∙◌, arith, append-nil, true≢false, ◌≢◌}
 use Rattle.std.specs.Prelude.{if◌then◌else◌}
 use Rattle.std.specs.List.{list_all}
 use Rattle.std.proofs.lemmas.Bool.{leb-true, le-leb}
 use Rattle.prost_reflect_wire.specs.declared.key.WireType.TheVariants as wires
 use Rattle.prost_reflect_wire.specs.Varint.{AreBytes, ◌>>=◌}
-use Rattle.prost_reflect_wire.specs.Record.{Len, Records, NoRecords, PlainRecord, GroupRecord, Record, record_at, Payload, Flat, Group, before, items, raw_levels, payload_levels, payload_wire, Spells, read}
+use Rattle.prost_reflect_wire.specs.Record.{Len, Records, NoRecords, PlainRecord, GroupRecord, Record, record_at, Payload, Flat, Group, before, items, raw_levels, payload_levels, payload_wire, Spells, read, wire_code}
 use Rattle.prost_reflect_wire.specs.Schema.{Schema, ValueType, known, passes}
 use Rattle.prost_reflect_wire.specs.Grammar.{body, AllowsInside, nothing_inside, one_allowed, in_entry_allowed, field_allowed, record_allowed, allows}
 use Rattle.prost_reflect_wire.specs.Front.{KeyFront, RecordsFront, PayloadFront}
@@ -14,6 +14,9 @@ use Rattle.prost_reflect_wire.proofs.Deeper.{and_both}
 use Rattle.prost_reflect_wire.proofs.Sound.{read_spells}
 use Rattle.prost_reflect_wire.proofs.RecordFronts.{record_parts, RecordParts, first_parts, FrontParts}
 use Rattle.prost_reflect_wire.proofs.BodyFronts.{none_first, key_bytes, payload_bytes}
+
+pub len_no_end : wires.LengthDelimited ≢ wires.EndGroup
+len_no_end e = let c : ◌≡◌ {A = ℕ} 2 4 = ap wire_code e in omega (arith, c)
 
 -- WHAT IS ALLOWED AT A PLACE
 

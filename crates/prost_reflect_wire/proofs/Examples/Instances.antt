@@ -87,7 +87,7 @@ of_meaning = record {
   commute = apart;
   same_behind = refl;
   taken = front_taken;
-  levels_free = refl;
+  levels_free = (lit≤ tt, refl);
   allowed_further = refl;
   meaning_typed = record { typed = meaning_typed examples 1 my_message front refl refl refl; low = meaning_levels examples 1 my_message front refl refl refl };
   steps_well = (sample_low, behind_taken);

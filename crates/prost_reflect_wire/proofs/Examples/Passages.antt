@@ -160,7 +160,7 @@ extension_against_field = record {
   reduced_as_fields = record { pairs = (extended, field_at_hundred) ∷ []; first = refl; each = refl };
   relays = relays _ _ _ _ _ refl refl refl refl (lit< tt);
   passes_on = (accepted_by field_at_hundred "a00605" refl refl, refl);
-  sets = ((_, refl, record { valid = refl; fits = refl; types = tt; order = refl; members = refl }), refl);
+  sets = (lit≤ tt, (_, refl, record { valid = refl; fits = refl; types = tt; order = refl; members = refl }), refl, refl);
   set_behind = (accepted_by field_at_hundred "a00607" refl refl, refl);
   members = differ_in (as_fields examples) extended_choice choice (λ pairs. refl);
 }

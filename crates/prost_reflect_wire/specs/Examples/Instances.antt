@@ -78,7 +78,7 @@ pub record OfMeaning : Type 0 where
   -- Records that are allowed with one level left. The laws on levels and on what is read cite them.
   pub taken : Taken 1 front
   -- What they mean with another level
-  pub levels_free : meaning examples 1 my_message front ≡ meaning examples 2 my_message front
+  pub levels_free : (1 ≤ 2) × (meaning examples 1 my_message front ≡ meaning examples 2 my_message front)
   -- is allowed there.
   pub allowed_further : allows examples 2 my_message front ≡ true
   -- What they mean is well-typed, of one level.

@@ -33,9 +33,9 @@ unknown_group = record_at 5 (Group NoRecords) ∷ []
 abbrev pub one_entry : Content
 one_entry = content maps (Stored 1 (MapValue (Pair (ascii "") (int 0) NoPairs)) NoEntries)
 
--- { map<int32, int32> m = 1; }, where the default of a value is a text, which no check passes.
+-- { map<int32, int32> m = 1; }, where a value has presence, and a text for its default, which no check passes.
 abbrev pub text_default : Schema
-text_default = message (field 1 (MapFrom (int32 false)) (record (int32 false) { default = ascii "" }) ∷ []) ∷ []
+text_default = message (field 1 (MapFrom (int32 false)) (record (int32 true) { default = ascii "" }) ∷ []) ∷ []
 
 abbrev pub text_entry : Content
 text_entry = ContentOf text_default 0 (Stored 1 (MapValue (Pair (I32 (pos 0)) (ScalarValue (ascii "")) NoPairs)) NoEntries)

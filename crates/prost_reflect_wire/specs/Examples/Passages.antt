@@ -114,7 +114,7 @@ pub record ExtensionAgainstField : Type 0 where
   pub relays : Relays extended field_at_hundred "a00601 a00605" (Stored 100 (int 5) NoEntries) "a00605"
   pub passes_on : PassesOn field_at_hundred "a00601 a00605" "a00605"
   -- A value is set through the older type,
-  pub sets : PathTo examples extended to_hundred (int 7) × Sets extended "a00601 a00605" to_hundred (int 7) "a00607"
+  pub sets : (length to_hundred ≤ suc LEVEL_LIMIT) × PathTo examples extended to_hundred (int 7) × (holds_message (int 7) ≡ false) × Sets extended "a00601 a00605" to_hundred (int 7) "a00607"
   -- and there in what the newer one reads.
   pub set_behind : AcceptedBy field_at_hundred "a00607" × (decoded examples LEVEL_LIMIT field_at_hundred (hex "a00607") ≡ (decoded examples LEVEL_LIMIT field_at_hundred (hex "a00601 a00605") >>= λ d. Some (set_at to_hundred (int 7) d)))
   -- Members of a oneof that are extensions to the older type are not in it there, as fields too.
