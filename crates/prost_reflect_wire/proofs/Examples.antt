@@ -9,8 +9,8 @@ pub mod Passages
 pub mod Instances
 pub mod ReadBack
 pub mod PremisesOfPassage
-pub mod NearbyFalse
 pub mod NearbyReading
+pub mod NearbyMeaning
 pub mod NearbyTyping
 pub mod NearbyBack
 pub mod NearbyFaults

@@ -1,25 +1,28 @@
 -- The statements near the laws on faults and on single fields are refuted.
-use Rattle.std.proofs.Common.{◌≡◌, ◌≢◌, ℕ, List, [], ◌∷◌, length, refl, inl, ap, arith, lit<, lit≤, true, false, true≢false}
+use Rattle.std.proofs.Common.{◌≡◌, ◌≢◌, ℕ, List, [], ◌∷◌, length, refl, inl, inr, ap, arith, lit<, lit≤, true, false, true≢false, ◌<◌, ◌++◌, subst, sym, length-append}
 use Rattle.std.specs.Str.{is_utf8, chars}
 use Rattle.std.specs.Char.{encode_utf8}
 use Rattle.prost_reflect_wire.specs.Varint.{short}
-use Rattle.prost_reflect_wire.specs.Record.{Var, Flat, read, wire_code}
-use Rattle.prost_reflect_wire.specs.Schema.{MessageOf, Singular}
-use Rattle.prost_reflect_wire.specs.Front.{FieldFront, RecordFront, NoKey}
-use Rattle.prost_reflect_wire.specs.Grammar.{Accepts, unpacked, allows}
+use Rattle.prost_reflect_wire.specs.Record.{Record, Var, Flat, read, wire_code}
+use Rattle.prost_reflect_wire.specs.Schema.{Schema, MessageOf, Singular}
+use Rattle.prost_reflect_wire.specs.Front.{AreOpen, FieldFront, KeyFront, RecordFront, VarintEnds, VarintPasses, NoKey}
+use Rattle.prost_reflect_wire.specs.Grammar.{Accepts, accepts, unpacked, allows}
 use Rattle.prost_reflect_wire.specs.Meaning.{meaning, steps}
-use Rattle.prost_reflect_wire.specs.Fault.{StandsInMessage, Here, Behind}
+use Rattle.prost_reflect_wire.specs.Fault.{Place, Comes, Stands, StandsInMessage, Here, Behind, InMessage, InGroup, InUnknown, InEntry}
 use Rattle.prost_reflect_wire.specs.Examples.Schemas.{examples, my_message, text_at_one, field, message_value_type}
 use Rattle.prost_reflect_wire.specs.Examples.Words.{hex}
 use Rattle.prost_reflect_wire.specs.Examples.PremisesOfPassage.{first_field}
 use Rattle.prost_reflect_wire.specs.Examples.Instances.{needless}
-use Rattle.prost_reflect_wire.specs.Examples.NearbyFaults.{group_bytes, NotOfFaults, NotOfFields}
+use Rattle.prost_reflect_wire.specs.Examples.NearbyFaults.{group_bytes, no_value, NotOfFaults, NotOfFields}
 use Rattle.prost_reflect_wire.specs.declared.error.DecodeError.{DecodeError}
 use Rattle.prost_reflect_wire.specs.declared.error.DecodeError.TheVariants as errors
+use Rattle.prost_reflect_wire.specs.declared.key.WireType.{WireType}
 use Rattle.prost_reflect_wire.specs.declared.key.WireType.TheVariants as wires
 use Rattle.prost_reflect_wire.proofs.Accepted.{accepts_is_test}
 use Rattle.prost_reflect_wire.proofs.FaultLaws.{accepted_has_no_fault}
 use Rattle.prost_reflect_wire.proofs.Examples.Faults.{faults, one_byte, key, no_zero, first_one}
+use Rattle.prost_reflect_wire.proofs.Examples.NearbyReading.{first, first_digit}
+use Rattle.prost_reflect_wire.proofs.RecordFronts.{record_parts}
 
 group_accepted : Accepts examples 1 my_message group_bytes
 unfolding short read unpacked allows meaning steps is_utf8 chars encode_utf8
@@ -53,6 +56,51 @@ each_stands errors.Utf8 other = (text_at_one, (100, (hex "0a01ff", faults.bad_te
 each_stands errors.OutOfMemory other = absurd (other refl)
 each_stands errors.Depth other = (my_message, (0, (hex "2b2c", faults.past_last_level)))
 
+-- what begins with a key begins with a byte
+key_byte : {n : ℕ} {w : WireType} (bytes rest : List ℕ) → KeyFront n w bytes rest → first bytes < 256
+key_byte bytes rest k = subst (λ x. first x < 256) (sym k.parts) (first_digit k.front rest k.key.varint.digits)
+
+no_key_at : {n : ℕ} {w : WireType} (bytes rest : List ℕ) → bytes ≡ no_value → KeyFront n w bytes rest → ⊥
+no_key_at bytes rest is k = absurd (omega (arith, key_byte bytes rest k, ap first is))
+
+no_record_at : (r : Record) (bytes rest : List ℕ) → bytes ≡ no_value → RecordFront r bytes rest → ⊥
+no_record_at r bytes rest is f = let parts = record_parts r.number r.payload bytes rest f in no_key_at bytes parts.mid is parts.key
+
+no_varint_ends : (bytes : List ℕ) → bytes ≡ no_value → VarintEnds bytes → ⊥
+no_varint_ends bytes is v = let open_bytes : AreOpen no_value = subst AreOpen is v.unended in absurd (omega (arith, open_bytes.1.0))
+
+no_varint_passes : (bytes : List ℕ) → bytes ≡ no_value → VarintPasses bytes → ⊥
+no_varint_passes bytes is v = absurd (omega (arith, ap length is, ap length v.parts, length-append v.nine (v.tenth ∷ v.rest), v.count))
+
+nothing_comes : (schema : Schema) (e : DecodeError) (place : Place) → place.bytes ≡ no_value → Comes schema e place → ⊥
+nothing_comes schema errors.Truncated place is (inl (some, ends)) = no_varint_ends place.bytes is ends
+nothing_comes schema errors.Truncated place is (inr (inl (none, opened))) = absurd (omega (arith, ap length is, ap length none))
+nothing_comes schema errors.Truncated place is (inr (inr (inl next))) = no_key_at place.bytes next.rest is next.key
+nothing_comes schema errors.Truncated place is (inr (inr (inr next))) = no_key_at place.bytes next.rest is next.key
+nothing_comes schema errors.Varint place is (inl passes) = no_varint_passes place.bytes is passes
+nothing_comes schema errors.Varint place is (inr (inl next)) = no_key_at place.bytes next.rest is next.key
+nothing_comes schema errors.Varint place is (inr (inr next)) = no_key_at place.bytes next.rest is next.key
+nothing_comes schema errors.Key place is none =
+    let small : first (none.front.front ++ none.rest) < 256 = first_digit none.front.front none.rest none.front.varint.digits in
+    absurd (omega (arith, small, ap first none.front.parts, ap first is))
+nothing_comes schema errors.WireType place is next = no_key_at place.bytes next.rest is next.key
+nothing_comes schema errors.EndGroup place is next = no_key_at place.bytes next.rest is next.key
+nothing_comes schema errors.Utf8 place is next = no_key_at place.bytes next.rest is next.key
+nothing_comes schema errors.OutOfMemory place is c = c
+nothing_comes schema errors.Depth place is (none, next) = no_key_at place.bytes next.rest is next.key
+
+nothing_stands : (schema : Schema) {e : DecodeError} {place : Place} → Stands schema e place → place.bytes ≡ no_value → ⊥
+nothing_stands schema (Here {e} {place} c) is = nothing_comes schema e place is c
+nothing_stands schema (Behind {place} r rest front more) is = no_record_at r place.bytes rest is front
+nothing_stands schema (InMessage {place} n T k f body rest after found m kind left key d more) is = no_key_at place.bytes rest is key
+nothing_stands schema (InGroup {place} n T k f rest found m kind left key more) is = no_key_at place.bytes rest is key
+nothing_stands schema (InUnknown {place} n k rest found left key more) is = no_key_at place.bytes rest is key
+nothing_stands schema (InEntry {place} n f key_type body rest after found form level key d more) is = no_key_at place.bytes rest is key
+
+not_accepted : accepts examples 0 my_message no_value ≡ false
+unfolding short read unpacked allows meaning steps is_utf8 chars encode_utf8
+not_accepted = refl
+
 pub not_of_faults : NotOfFaults
 not_of_faults = record {
   accepted_has_no_fault = (group_accepted, faults.past_last_level);
@@ -61,6 +109,7 @@ not_of_faults = record {
     Here (record { number = 3; wire = wires.Varint; field = field 3 Singular (message_value_type (MessageOf 0)); rest = 0x00 ∷ 0x00 ∷ []; key = key 3 wires.Varint (0x00 ∷ 0x00 ∷ []) (lit< tt) (lit< tt); found = refl; behind = (no_end, refl) }),
     Behind (record { number = 3; payload = Flat (Var 0) }) (0x00 ∷ []) third_zero (Here (no_key [])),
   );
+  accepted_unless_fault = (not_accepted, λ e stands. nothing_stands examples stands refl);
   never_stands = each_stands;
   only_memory = (λ other. faults.varint_ends, ends);
 }

@@ -11,12 +11,12 @@ use Rattle.prost_reflect_wire.specs.Examples.NearbyReading.{no_bytes, NotOfRecor
 use Rattle.prost_reflect_wire.proofs.Reading.{spelled_read}
 use Rattle.prost_reflect_wire.proofs.Sound.{some_inside}
 
-abbrev first : List ℕ → ℕ
+abbrev pub first : List ℕ → ℕ
 first [] = 0
 first (b ∷ bytes) = b
 
 -- digits begin with a byte
-first_digit : (digits rest : List ℕ) → AreDigits digits → first (digits ++ rest) < 256
+pub first_digit : (digits rest : List ℕ) → AreDigits digits → first (digits ++ rest) < 256
 first_digit [] rest d = absurd d
 first_digit (b ∷ []) rest d = omega (arith, d)
 first_digit (b ∷ c ∷ digits) rest d = d.1

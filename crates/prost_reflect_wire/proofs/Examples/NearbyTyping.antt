@@ -11,7 +11,7 @@ use Rattle.prost_reflect_wire.specs.Meaning.{meaning, steps}
 use Rattle.prost_reflect_wire.specs.Writing.{encoded}
 use Rattle.prost_reflect_wire.specs.Examples.NearbyTyping.{NotOfTyping, NotOfContents}
 use Rattle.prost_reflect_wire.proofs.Examples.Instances.{sample_typed, sample_low, behind_taken, stored_well}
-use Rattle.prost_reflect_wire.proofs.Examples.NearbyFalse.{deep_writable}
+use Rattle.prost_reflect_wire.proofs.Examples.NearbyMeaning.{deep_writable}
 
 abbrev first_number : List Record → ℕ
 first_number [] = 0

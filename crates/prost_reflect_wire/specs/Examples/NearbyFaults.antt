@@ -1,7 +1,7 @@
 -- Statements near the laws on faults and on single fields that do not hold, each refuted by a worked example.
-use Rattle.std.specs.Prelude.{◌≡◌, ◌≢◌, ℕ, List, [], ◌∷◌, ◌++◌}
+use Rattle.std.specs.Prelude.{◌≡◌, ◌≢◌, ℕ, false, List, [], ◌∷◌, ◌++◌}
 use Rattle.prost_reflect_wire.specs.Record.{spelled}
-use Rattle.prost_reflect_wire.specs.Grammar.{Accepts}
+use Rattle.prost_reflect_wire.specs.Grammar.{Accepts, accepts}
 use Rattle.prost_reflect_wire.specs.Front.{FieldFront}
 use Rattle.prost_reflect_wire.specs.Fault.{StandsInMessage, StandsInValue}
 use Rattle.prost_reflect_wire.specs.FieldLaws.{HasField, HasValue}
@@ -17,6 +17,10 @@ use Rattle.prost_reflect_wire.specs.declared.error.DecodeError.TheVariants as er
 abbrev pub group_bytes : List ℕ
 group_bytes = hex "2b2c"
 
+-- 264 is no byte. Its low seven bits are 8, a key, behind which the value is missing.
+abbrev pub no_value : List ℕ
+no_value = 264 ∷ 0 ∷ []
+
 pub record NotOfFaults : Type 0 where
   -- In bytes that are accepted a fault may stand with fewer levels left,
   pub accepted_has_no_fault : Accepts examples 1 my_message group_bytes × StandsInMessage examples my_message 0 errors.Depth group_bytes
@@ -24,6 +28,8 @@ pub record NotOfFaults : Type 0 where
   pub fault_further : StandsInMessage examples my_message 1 errors.Depth group_bytes → ⊥
   -- More than one fault may stand: a wire type, and behind it number 0.
   pub one_fault : StandsInMessage examples my_message 0 errors.WireType (hex "180000") × StandsInMessage examples my_message 0 errors.Key (hex "180000")
+  -- In numbers that are no bytes no fault stands, though they are not accepted.
+  pub accepted_unless_fault : (accepts examples 0 my_message no_value ≡ false) × ((e : DecodeError) → StandsInMessage examples my_message 0 e no_value → ⊥)
   -- Each error but want of memory stands in some bytes.
   pub never_stands : (e : DecodeError) → e ≢ errors.OutOfMemory → (T : ℕ) × ((k : ℕ) × ((bytes : List ℕ) × StandsInMessage examples T k e bytes))
   -- Bytes that are not accepted are refused for what stands in them, too.

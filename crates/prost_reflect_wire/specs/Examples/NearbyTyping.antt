@@ -13,7 +13,7 @@ use Rattle.prost_reflect_wire.specs.Edit.{merged, set_at}
 use Rattle.prost_reflect_wire.specs.Examples.Schemas.{examples, message, field, int32, my_message, maps, closed}
 use Rattle.prost_reflect_wire.specs.Examples.Words.{hex, content, int, ascii, inner, varint, delimited}
 use Rattle.prost_reflect_wire.specs.Examples.Instances.{sample, front, behind, stores_defaults, two_members, Low, Taken}
-use Rattle.prost_reflect_wire.specs.Examples.NearbyFalse.{deep}
+use Rattle.prost_reflect_wire.specs.Examples.NearbyMeaning.{deep}
 
 abbrev pub descending : List Record
 descending = record_at 2 (varint 66) ∷ record_at 1 (varint 5) ∷ []

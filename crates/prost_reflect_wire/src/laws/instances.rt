@@ -3,7 +3,7 @@
 ghost use Rattle.prost_reflect_wire.specs.Examples.Instances.{OfReading, OfMeaning, OfContents, OfWriting, OfFaults};
 ghost use Rattle.prost_reflect_wire.specs.Examples.ReadBack.{OfReadingBack};
 ghost use Rattle.prost_reflect_wire.specs.Examples.PremisesOfPassage.{OfPassages, OfFields};
-ghost use Rattle.prost_reflect_wire.specs.Examples.NearbyFalse.{NotOfMeaning, NotOfWriting};
+ghost use Rattle.prost_reflect_wire.specs.Examples.NearbyMeaning.{NotOfMeaning, NotOfWriting};
 ghost use Rattle.prost_reflect_wire.specs.Examples.NearbyReading.{NotOfRecords, NotOfScalars};
 ghost use Rattle.prost_reflect_wire.specs.Examples.NearbyTyping.{NotOfTyping, NotOfContents};
 ghost use Rattle.prost_reflect_wire.specs.Examples.NearbyBack.{NotOfReadingBack};

@@ -1,4 +1,4 @@
-use Rattle.prost_reflect_wire.proofs.Examples.NearbyFalse.{not_of_meaning, not_of_writing}
+use Rattle.prost_reflect_wire.proofs.Examples.NearbyMeaning.{not_of_meaning, not_of_writing}
 use Rattle.prost_reflect_wire.proofs.Examples.NearbyReading.{not_of_records, not_of_scalars}
 use Rattle.prost_reflect_wire.proofs.Examples.NearbyTyping.{not_of_typing, not_of_contents}
 use Rattle.prost_reflect_wire.proofs.Examples.NearbyBack.{not_of_reading_back}

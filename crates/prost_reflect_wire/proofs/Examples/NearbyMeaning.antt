@@ -13,7 +13,7 @@ use Rattle.prost_reflect_wire.specs.Typing.{Typed}
 use Rattle.prost_reflect_wire.specs.Laws.{Writable}
 use Rattle.prost_reflect_wire.specs.Examples.Schemas.{my_message}
 use Rattle.prost_reflect_wire.specs.Examples.Words.{content}
-use Rattle.prost_reflect_wire.specs.Examples.NearbyFalse.{deep, NotOfMeaning, NotOfWriting}
+use Rattle.prost_reflect_wire.specs.Examples.NearbyMeaning.{deep, NotOfMeaning, NotOfWriting}
 
 pub not_of_meaning : NotOfMeaning
 unfolding short read unpacked allows meaning steps is_utf8 chars encode_utf8

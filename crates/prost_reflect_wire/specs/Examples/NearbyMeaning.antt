@@ -90,7 +90,7 @@ pub record NotOfWriting : Type 0 where
   pub text_refused : (levels text_in_number ≡ 0) × (allows examples 0 my_message (records text_in_number) ≡ false)
   -- Records merged into two members of a oneof do not mean what they mean behind the records of the two.
   pub member_merged : merged two_members [] ≡ meaning examples LEVEL_LIMIT choice (records two_members ++ []) → ⊥
-  -- What is written of what was read is not always what was read; only what is written of that is.
+  -- The bytes that were read are not always written again: here a needless digit goes.
   pub bytes_again : (decoded examples 0 my_message needless ≡ Some one_content) × (encoded one_content ≡ needless → ⊥)
   -- A value at a number that is not known is not written.
   pub value_written : encoded (content my_message (Stored 9 (int 1) NoEntries)) ≡ encoded (content my_message NoEntries)
