@@ -28,7 +28,7 @@ EditPassageBy R = (older newer : Schema) (k A B : ℕ) (bytes : List ℕ) (path 
     length path ≤ suc k → PathTo older A path v → holds_message v ≡ false → Accepts newer k B bytes → edited older k A bytes path v ≡ Some again → length again < 2 ^ 64 →
     Accepts newer k B again × (decoded newer k B again ≡ (decoded newer k B bytes >>= λ d. Some (set_at path v d)))
 
--- All three hold of a reduction.
+-- The three hold of a reduction.
 abbrev pub OlderAccepts : Type 0
 OlderAccepts = AcceptsBy Reduced
 
@@ -52,7 +52,7 @@ as_fields schema = map with_fields schema
 abbrev pub ReducedAsFields : Related
 ReducedAsFields older A newer B = Reduced (as_fields older) A (as_fields newer) B
 
--- All three hold there too.
+-- The three hold there too.
 pub record AcrossExtensions : Type 0 where
   pub older_accepts : AcceptsBy ReducedAsFields
   pub passage : PassageBy ReducedAsFields

@@ -21,8 +21,8 @@ pub fn edit_passage()
     ensures { EditPassage }
 {}
 
-/// All three hold also where what is a field to one type is an extension to the other, but for that a
-/// reduction.
+/// What `older_accepts`, `passage` and `edit_passage` say holds also where fields of one type are extensions
+/// to the other, if it would be a reduction were they all fields.
 pub fn across_extensions()
     ensures { AcrossExtensions }
 {}
