@@ -18,9 +18,30 @@ use std::alloc::Global;
 /// How many levels of messages and groups are read below the top.
 pub const RECURSION_LIMIT: u32 = 100;
 
-/// Reads what stands behind the key of a field, with at most `depth` groups open at once.
-#[cycle(reading)]
+/// Reads what stands behind the key of a field, with at most `depth` groups open at once, and gives it and the bytes
+/// behind it.
+///
+/// # Errors
+///
+/// As `UnknownField::decode_value`.
 pub fn value_at(
+    alloc: Global,
+    number: FieldNumber,
+    wire_type: WireType,
+    bytes: &[u8],
+    depth: u32,
+) -> Result<(UnknownFieldValue, &[u8]), DecodeError>
+    ensures ok { IfOk result (λ x. ValueFront number.value wire_type depth (payload_of x.0) bytes.now x.1.now) }
+    ensures only { (p : Payload) (rest : List ℕ) → ValueFront number.value wire_type depth p bytes.now rest →
+        MatchResult result (λ x. (payload_of x.0 ≡ p) × (x.1.now ≡ rest)) (λ e. e ≡ DecodeError.OutOfMemory) }
+    ensures fault { IfErr result (λ e. e ≢ DecodeError.OutOfMemory → ValueFault e number.value wire_type depth bytes.now) }
+{
+    read_value(alloc, number, wire_type, bytes, depth)
+}
+
+/// The same by wire types.
+#[cycle(reading)]
+fn read_value(
     alloc: Global,
     number: FieldNumber,
     wire_type: WireType,
@@ -79,7 +100,7 @@ fn group_at(
             WireType::EndGroup => return Err(DecodeError::EndGroup),
             _ => {}
         }
-        let (value, after) = value_at(alloc, key, wire_type, after, depth - 1)?;
+        let (value, after) = read_value(alloc, key, wire_type, after, depth - 1)?;
         fields.insert(UnknownField::new(key, value))?;
         rest = after;
     }
@@ -106,7 +127,7 @@ impl UnknownField {
         ensures err { OnErr result (cursor.new.now ≡ cursor.old.now) }
     {
         let (number, wire_type, rest) = decode_key(cursor)?;
-        let (value, rest) = value_at(alloc, number, wire_type, rest, depth)?;
+        let (value, rest) = read_value(alloc, number, wire_type, rest, depth)?;
         *cursor = rest;
         Ok(UnknownField::new(number, value))
     }
@@ -135,7 +156,7 @@ impl UnknownField {
         ensures err { OnErr result (cursor.new.now ≡ cursor.old.now) }
     {
         let number = FieldNumber::new(number);
-        let (value, rest) = value_at(alloc, number, wire_type, cursor, depth)?;
+        let (value, rest) = read_value(alloc, number, wire_type, cursor, depth)?;
         *cursor = rest;
         Ok(UnknownField::new(number, value))
     }
