@@ -2,7 +2,7 @@
 
 ghost use Rattle.std.specs.Prelude.{◌≡◌};
 ghost use Rattle.prost_reflect_wire.specs.Grammar.{LEVEL_LIMIT};
-ghost use Rattle.prost_reflect_wire.specs.FieldLaws.{FieldUnlessFault, ValueUnlessFault, OneField, FieldAgain};
+ghost use Rattle.prost_reflect_wire.specs.FieldLaws.{FieldUnlessFault, ValueUnlessFault, OnlyTooDeep, OneField, FieldAgain};
 
 use crate::unknown::RECURSION_LIMIT;
 
@@ -14,6 +14,12 @@ pub fn field_unless_fault()
 /// So it is behind a given key.
 pub fn value_unless_fault()
     ensures { ValueUnlessFault }
+{}
+
+/// Where a whole field stands first, no fault stands in it but `Depth`, and that one only where it nests deeper than the
+/// levels.
+pub fn only_too_deep()
+    ensures { OnlyTooDeep }
 {}
 
 /// Bytes begin with at most one field, which ends in one place.
