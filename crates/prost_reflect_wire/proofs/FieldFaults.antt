@@ -1,5 +1,5 @@
--- Where a front of the bytes is a field within the levels, no fault stands in the field.
-use Rattle.std.proofs.Common.{◌≡◌, ◌≢◌, ℕ, suc, ◌≤◌, List, [], ◌++◌, length, Option, Some, None, true, refl, sym, ap, subst, ◌∙◌, arith, inl, inr, ◌⊎◌}
+-- Where a front of the bytes is a field, no fault stands in it but Depth, and that one only where the field nests deeper than the levels.
+use Rattle.std.proofs.Common.{◌≡◌, ◌≢◌, ℕ, suc, ◌<◌, ◌≤◌, List, [], ◌++◌, length, Option, Some, None, true, refl, sym, ap, subst, ◌∙◌, arith, inl, inr, ◌⊎◌}
 use Rattle.prost_reflect_wire.specs.declared.error.DecodeError.{DecodeError}
 use Rattle.prost_reflect_wire.specs.declared.error.DecodeError.TheVariants as errors
 use Rattle.prost_reflect_wire.specs.declared.key.WireType.{WireType}
@@ -14,11 +14,10 @@ use Rattle.prost_reflect_wire.proofs.RecordFronts.{record_front, record_parts, R
 
 -- BEHIND A KEY
 
--- nothing is wrong behind a key of the number and the wire type
-record Sound (n : ℕ) (w : WireType) (levels : ℕ) (open_group : Option ℕ) (rest : List ℕ) : Type 0 where
+-- nothing but the levels can be wrong behind a key of the number and the wire type
+record Sound (n : ℕ) (w : WireType) (open_group : Option ℕ) (rest : List ℕ) : Type 0 where
   plain : (e : DecodeError) → PlainFault e w rest → ⊥
   closes : w ≡ wires.EndGroup → open_group ≡ Some n
-  level : w ≡ wires.StartGroup → levels ≡ 0 → ⊥
 
 no_end : (p : Payload) → payload_wire p ≡ wires.EndGroup → ⊥
 no_end (Flat (Var v)) e = cc
@@ -34,12 +33,16 @@ no_plain_fault w (inl is) errors.Varint rest f = rw is at f
 no_plain_fault w (inr is) errors.Varint rest f = rw is at f
 no_plain_fault w is e rest f = f
 
-payload_sound : (n : ℕ) (p : Payload) (levels : ℕ) (open_group : Option ℕ) (bytes rest : List ℕ) → PayloadFront n p bytes rest → payload_levels p ≤ levels → Sound n (payload_wire p) levels open_group bytes
-payload_sound n (Flat p) levels open_group bytes rest f within = record { plain = λ e. plain_no_fault e p bytes rest f; closes = λ is. absurd (no_end (Flat p) is); level = λ is none. plain_no_group p is }
-payload_sound n (Group inside) levels open_group bytes rest f within = record { plain = λ e. no_plain_fault wires.StartGroup (inl refl) e bytes; closes = λ is. cc; level = λ is none. omega arith }
+payload_sound : (n : ℕ) (p : Payload) (open_group : Option ℕ) (bytes rest : List ℕ) → PayloadFront n p bytes rest → Sound n (payload_wire p) open_group bytes
+payload_sound n (Flat p) open_group bytes rest f = record { plain = λ e. plain_no_fault e p bytes rest f; closes = λ is. absurd (no_end (Flat p) is) }
+payload_sound n (Group inside) open_group bytes rest f = record { plain = λ e. no_plain_fault wires.StartGroup (inl refl) e bytes; closes = λ is. cc }
 
-end_sound : (n levels : ℕ) (rest : List ℕ) → Sound n wires.EndGroup levels (Some n) rest
-end_sound n levels rest = record { plain = λ e. no_plain_fault wires.EndGroup (inr refl) e rest; closes = λ is. refl; level = λ is none. cc }
+end_sound : (n : ℕ) (rest : List ℕ) → Sound n wires.EndGroup (Some n) rest
+end_sound n rest = record { plain = λ e. no_plain_fault wires.EndGroup (inr refl) e rest; closes = λ is. refl }
+
+start_levels : (p : Payload) → payload_wire p ≡ wires.StartGroup → 0 < payload_levels p
+start_levels (Flat p) is = absurd (plain_no_group p is)
+start_levels (Group inside) is = omega arith
 
 group_wire : (w : WireType) → same_wire w wires.StartGroup ≡ true → w ≡ wires.StartGroup
 group_wire wires.Varint e = cc
@@ -51,7 +54,7 @@ group_wire wires.ThirtyTwoBit e = cc
 
 -- AT A KEY
 
-module _ (n : ℕ) (w : WireType) (levels : ℕ) (open_group : Option ℕ) (bytes rest : List ℕ) (k : KeyFront n w bytes rest) (s : Sound n w levels open_group rest) where
+module _ (n : ℕ) (w : WireType) (levels : ℕ) (open_group : Option ℕ) (bytes rest : List ℕ) (k : KeyFront n w bytes rest) (s : Sound n w open_group rest) where
   abbrev At : Place
   At = record { bytes = bytes; inside = OfNothing; levels = levels; open_group = open_group }
 
@@ -62,29 +65,28 @@ module _ (n : ℕ) (w : WireType) (levels : ℕ) (open_group : Option ℕ) (byte
   no_field : (T : Field → WireType → List ℕ → Type 0) → NextField [] At T → ⊥
   no_field T f = let none = f.found in cc
 
-  comes_not : (e : DecodeError) → Comes [] e At → ⊥
-  comes_not errors.Truncated (inl f) = key_no_fault errors.Truncated n w bytes rest k f.1
-  comes_not errors.Truncated (inr (inl f)) = omega (arith, key_shorter n w bytes rest k, ap length f.0)
-  comes_not errors.Truncated (inr (inr (inl f))) = not_plain errors.Truncated (record { number = f.number; wire = f.wire; rest = f.rest; key = f.key; behind = f.behind })
-  comes_not errors.Truncated (inr (inr (inr f))) = no_field _ f
-  comes_not errors.Varint (inl f) = key_no_fault errors.Varint n w bytes rest k f
-  comes_not errors.Varint (inr (inl f)) = not_plain errors.Varint (record { number = f.number; wire = f.wire; rest = f.rest; key = f.key; behind = f.behind })
-  comes_not errors.Varint (inr (inr f)) = no_field _ f
-  comes_not errors.Key f = key_no_fault errors.Key n w bytes rest k f
-  comes_not errors.WireType f = no_field _ f
-  comes_not errors.EndGroup f = let (number, wire, behind) = key_once f.number n f.wire w bytes f.rest rest f.key k in
-      f.behind.1 (s.closes (sym wire ∙ f.behind.0) ∙ ap Some (sym number))
-  comes_not errors.Utf8 f = no_field _ f
-  comes_not errors.OutOfMemory f = f
-  comes_not errors.Depth (none, f) = let (number, wire, behind) = key_once f.number n f.wire w bytes f.rest rest f.key k in
-      s.level (sym wire ∙ group_wire f.wire f.behind) none
+  comes_only : (e : DecodeError) → Comes [] e At → (e ≡ errors.Depth) × (levels ≡ 0) × (w ≡ wires.StartGroup)
+  comes_only errors.Truncated (inl f) = absurd (key_no_fault errors.Truncated n w bytes rest k f.1)
+  comes_only errors.Truncated (inr (inl f)) = absurd (omega (arith, key_shorter n w bytes rest k, ap length f.0))
+  comes_only errors.Truncated (inr (inr (inl f))) = absurd (not_plain errors.Truncated (record { number = f.number; wire = f.wire; rest = f.rest; key = f.key; behind = f.behind }))
+  comes_only errors.Truncated (inr (inr (inr f))) = absurd (no_field _ f)
+  comes_only errors.Varint (inl f) = absurd (key_no_fault errors.Varint n w bytes rest k f)
+  comes_only errors.Varint (inr (inl f)) = absurd (not_plain errors.Varint (record { number = f.number; wire = f.wire; rest = f.rest; key = f.key; behind = f.behind }))
+  comes_only errors.Varint (inr (inr f)) = absurd (no_field _ f)
+  comes_only errors.Key f = absurd (key_no_fault errors.Key n w bytes rest k f)
+  comes_only errors.WireType f = absurd (no_field _ f)
+  comes_only errors.EndGroup f = let (number, wire, behind) = key_once f.number n f.wire w bytes f.rest rest f.key k in
+      absurd (f.behind.1 (s.closes (sym wire ∙ f.behind.0) ∙ ap Some (sym number)))
+  comes_only errors.Utf8 f = absurd (no_field _ f)
+  comes_only errors.OutOfMemory f = absurd f
+  comes_only errors.Depth (none, f) = let (number, wire, behind) = key_once f.number n f.wire w bytes f.rest rest f.key k in
+      (refl, none, sym wire ∙ group_wire f.wire f.behind)
 
 -- IN A WHOLE GROUP
 
--- a group of the number is at the front, within the levels
+-- a group of the number is at the front
 record Whole (place : Place) (n : ℕ) (inside : Records) (rest : List ℕ) : Type 0 where
   group : GroupFront n inside place.bytes rest
-  within : raw_levels inside ≤ place.levels
   unknown : place.inside ≡ OfNothing
   opened : place.open_group ≡ Some n
 
@@ -116,77 +118,98 @@ module _ (place : Place) (n : ℕ) (inside : Records) (rest : List ℕ) (w : Who
   next : KeyFront n wires.EndGroup place.bytes rest ⊎ NextRecord n inside place.bytes rest
   next = next_in_group n inside place.bytes rest w.group
 
-  first_within : (x : NextRecord n inside place.bytes rest) → payload_levels x.payload ≤ place.levels
-  first_within x = omega (arith, levels_first (record_at x.number x.payload) x.others, ap raw_levels x.is, w.within)
+  first_levels : (x : NextRecord n inside place.bytes rest) → payload_levels x.payload ≤ raw_levels inside
+  first_levels x = omega (arith, levels_first (record_at x.number x.payload) x.others, ap raw_levels x.is)
 
-  others_within : (x : NextRecord n inside place.bytes rest) → raw_levels x.others ≤ place.levels
-  others_within x = omega (arith, levels_first (record_at x.number x.payload) x.others, ap raw_levels x.is, w.within)
+  others_levels : (x : NextRecord n inside place.bytes rest) → raw_levels x.others ≤ raw_levels inside
+  others_levels x = omega (arith, levels_first (record_at x.number x.payload) x.others, ap raw_levels x.is)
 
-  here_not : (e : DecodeError) → Comes [] e place → ⊥
-  here_not e f = go next (subst (λ i. Comes [] e (record place { inside = i })) w.unknown f)
+  here_only : (e : DecodeError) → Comes [] e place → (e ≡ errors.Depth) × (place.levels < raw_levels inside)
+  here_only e f = go next (subst (λ i. Comes [] e (record place { inside = i })) w.unknown f)
     where
-      go : KeyFront n wires.EndGroup place.bytes rest ⊎ NextRecord n inside place.bytes rest → Comes [] e (record place { inside = OfNothing }) → ⊥
-      go (inl k) f = comes_not n wires.EndGroup place.levels place.open_group place.bytes rest k (subst (λ o. Sound n wires.EndGroup place.levels o rest) (sym w.opened) (end_sound n place.levels rest)) e f
-      go (inr x) f = comes_not x.number (payload_wire x.payload) place.levels place.open_group place.bytes x.mid x.key (payload_sound x.number x.payload place.levels place.open_group x.mid x.end x.front (first_within x)) e f
+      go : KeyFront n wires.EndGroup place.bytes rest ⊎ NextRecord n inside place.bytes rest → Comes [] e (record place { inside = OfNothing }) → (e ≡ errors.Depth) × (place.levels < raw_levels inside)
+      go (inl k) f = let (depth, none, wire) = comes_only n wires.EndGroup place.levels place.open_group place.bytes rest k (subst (λ o. Sound n wires.EndGroup o rest) (sym w.opened) (end_sound n rest)) e f in absurd cc
+      go (inr x) f =
+          let (depth, none, wire) = comes_only x.number (payload_wire x.payload) place.levels place.open_group place.bytes x.mid x.key (payload_sound x.number x.payload place.open_group x.mid x.end x.front) e f in
+          (depth, omega (arith, start_levels x.payload wire, first_levels x))
 
   -- behind a record the rest of the group is whole
-  behind_whole : (r : Record) (after : List ℕ) → RecordFront r place.bytes after → (rs : Records) × Whole (record place { bytes = after }) n rs rest
+  behind_whole : (r : Record) (after : List ℕ) → RecordFront r place.bytes after → (rs : Records) × (Whole (record place { bytes = after }) n rs rest × (raw_levels rs ≤ raw_levels inside))
   behind_whole r after front = go next (record_parts r.number r.payload place.bytes after front)
     where
-      go : KeyFront n wires.EndGroup place.bytes rest ⊎ NextRecord n inside place.bytes rest → RecordParts r.number r.payload place.bytes after → (rs : Records) × Whole (record place { bytes = after }) n rs rest
+      go : KeyFront n wires.EndGroup place.bytes rest ⊎ NextRecord n inside place.bytes rest → RecordParts r.number r.payload place.bytes after
+          → (rs : Records) × (Whole (record place { bytes = after }) n rs rest × (raw_levels rs ≤ raw_levels inside))
       go (inl k) parts = let (number, wire, behind) = key_once r.number n (payload_wire r.payload) wires.EndGroup place.bytes parts.mid rest parts.key k in absurd (no_end r.payload wire)
       go (inr x) parts =
           let (number, payload, behind) = record_once r.number x.number r.payload x.payload place.bytes after x.end front (record_front x.number x.payload place.bytes x.mid x.end x.key x.front) in
-          (x.others, record { group = subst (λ (l : List ℕ). GroupFront n x.others l rest) (sym behind) x.group; within = others_within x; unknown = w.unknown; opened = w.opened })
+          (x.others, (record { group = subst (λ (l : List ℕ). GroupFront n x.others l rest) (sym behind) x.group; unknown = w.unknown; opened = w.opened }, others_levels x))
 
   -- so is a group that comes next
-  inner_whole : (m k : ℕ) (after : List ℕ) → KeyFront m wires.StartGroup place.bytes after → place.levels ≡ suc k
-      → (rs : Records) × (end : List ℕ) × Whole (record { bytes = after; inside = OfNothing; levels = k; open_group = Some m }) m rs end
-  inner_whole m k after key levels = go next
+  inner_whole : (m k : ℕ) (after : List ℕ) → KeyFront m wires.StartGroup place.bytes after
+      → (rs : Records) × ((end : List ℕ) × (Whole (record { bytes = after; inside = OfNothing; levels = k; open_group = Some m }) m rs end × (suc (raw_levels rs) ≤ raw_levels inside)))
+  inner_whole m k after key = go next
     where
-      of_payload : (x : NextRecord n inside place.bytes rest) (p : Payload) → payload_wire p ≡ wires.StartGroup → PayloadFront m p after x.end → payload_levels p ≤ place.levels
-          → (rs : Records) × (end : List ℕ) × Whole (record { bytes = after; inside = OfNothing; levels = k; open_group = Some m }) m rs end
+      of_payload : (x : NextRecord n inside place.bytes rest) (p : Payload) → payload_wire p ≡ wires.StartGroup → PayloadFront m p after x.end → payload_levels p ≤ raw_levels inside
+          → (rs : Records) × ((end : List ℕ) × (Whole (record { bytes = after; inside = OfNothing; levels = k; open_group = Some m }) m rs end × (suc (raw_levels rs) ≤ raw_levels inside)))
       of_payload x (Flat p) wire front within = absurd (plain_no_group p wire)
-      of_payload x (Group q) wire front within = (q, x.end, record { group = front; within = omega arith; unknown = refl; opened = refl })
+      of_payload x (Group q) wire front within = (q, (x.end, (record { group = front; unknown = refl; opened = refl }, within)))
 
-      go : KeyFront n wires.EndGroup place.bytes rest ⊎ NextRecord n inside place.bytes rest → (rs : Records) × (end : List ℕ) × Whole (record { bytes = after; inside = OfNothing; levels = k; open_group = Some m }) m rs end
+      go : KeyFront n wires.EndGroup place.bytes rest ⊎ NextRecord n inside place.bytes rest
+          → (rs : Records) × ((end : List ℕ) × (Whole (record { bytes = after; inside = OfNothing; levels = k; open_group = Some m }) m rs end × (suc (raw_levels rs) ≤ raw_levels inside)))
       go (inl end) = let (number, wire, behind) = key_once m n wires.StartGroup wires.EndGroup place.bytes after rest key end in cc
       go (inr x) =
           let (number, wire, behind) = key_once m x.number wires.StartGroup (payload_wire x.payload) place.bytes after x.mid key x.key in
-          of_payload x x.payload (sym wire) (subst (λ (i : ℕ). PayloadFront i x.payload after x.end) (sym number) (subst (λ (l : List ℕ). PayloadFront x.number x.payload l x.end) (sym behind) x.front)) (first_within x)
+          of_payload x x.payload (sym wire) (subst (λ (i : ℕ). PayloadFront i x.payload after x.end) (sym number) (subst (λ (l : List ℕ). PayloadFront x.number x.payload l x.end) (sym behind) x.front)) (first_levels x)
 
-whole_no_fault : {e : DecodeError} {place : Place} (n : ℕ) (inside : Records) (rest : List ℕ) → Whole place n inside rest → Stands [] e place → ⊥
-whole_no_fault {e} {place} n inside rest w (Here f) = here_not place n inside rest w e f
-whole_no_fault {e} {place} n inside rest w (Behind r after front more) = let (rs, behind) = behind_whole place n inside rest w r after front in whole_no_fault n rs rest behind more
-whole_no_fault {e} {place} n inside rest w (InMessage m T k f body after end known map kind levels key front more) = let found = ap (λ i. field_at [] i m) w.unknown in cc
-whole_no_fault {e} {place} n inside rest w (InGroup m T k f after known map kind levels key more) = let found = ap (λ i. field_at [] i m) w.unknown in cc
-whole_no_fault {e} {place} n inside rest w (InUnknown m k after unknown levels key more) = let (rs, end, inner) = inner_whole place n inside rest w m k after key levels in whole_no_fault m rs end inner more
-whole_no_fault {e} {place} n inside rest w (InEntry m f key body after end known form levels front delimited more) = let found = ap (λ i. field_at [] i m) w.unknown in cc
+whole_only : {e : DecodeError} {place : Place} (n : ℕ) (inside : Records) (rest : List ℕ) → Whole place n inside rest → Stands [] e place → (e ≡ errors.Depth) × (place.levels < raw_levels inside)
+whole_only {e} {place} n inside rest w (Here f) = here_only place n inside rest w e f
+whole_only {e} {place} n inside rest w (Behind r after front more) =
+    let (rs, (behind, fewer)) = behind_whole place n inside rest w r after front in
+    let (depth, past) = whole_only n rs rest behind more in
+    (depth, omega (arith, past, fewer))
+whole_only {e} {place} n inside rest w (InMessage m T k f body after end known map kind levels key front more) = let found = ap (λ i. field_at [] i m) w.unknown in cc
+whole_only {e} {place} n inside rest w (InGroup m T k f after known map kind levels key more) = let found = ap (λ i. field_at [] i m) w.unknown in cc
+whole_only {e} {place} n inside rest w (InUnknown m k after unknown levels key more) =
+    let (rs, (end, (inner, fewer))) = inner_whole place n inside rest w m k after key in
+    let (depth, past) = whole_only m rs end inner more in
+    (depth, omega (arith, past, fewer, levels))
+whole_only {e} {place} n inside rest w (InEntry m f key body after end known form levels front delimited more) = let found = ap (λ i. field_at [] i m) w.unknown in cc
 
 -- IN A FIELD
 
-inside_no_fault : (e : DecodeError) (n : ℕ) (inside : Records) (levels : ℕ) (bytes rest : List ℕ) → GroupFront n inside bytes rest → suc (raw_levels inside) ≤ levels → InsideGroup e n levels bytes → ⊥
-inside_no_fault e n inside levels bytes rest f within g = whole_no_fault n inside rest (record { group = f; within = let l = g.left in omega arith; unknown = refl; opened = refl }) g.stands
+group_only : (e : DecodeError) (n : ℕ) (p : Payload) (levels : ℕ) (bytes rest : List ℕ) → PayloadFront n p bytes rest → payload_wire p ≡ wires.StartGroup → InsideGroup e n levels bytes
+    → (e ≡ errors.Depth) × (levels < payload_levels p)
+group_only e n (Flat p) levels bytes rest f is g = absurd (plain_no_group p is)
+group_only e n (Group q) levels bytes rest f is g =
+    let (depth, past) = whole_only n q rest (record { group = f; unknown = refl; opened = refl }) g.stands in
+    (depth, omega (arith, past, g.left))
 
-group_no_fault : (e : DecodeError) (n : ℕ) (p : Payload) (levels : ℕ) (bytes rest : List ℕ) → PayloadFront n p bytes rest → payload_levels p ≤ levels → payload_wire p ≡ wires.StartGroup → InsideGroup e n levels bytes → ⊥
-group_no_fault e n (Flat p) levels bytes rest f within is g = plain_no_group p is
-group_no_fault e n (Group q) levels bytes rest f within is g = inside_no_fault e n q levels bytes rest f within g
-
-pub field_no_fault : (e : DecodeError) (r : Record) (levels : ℕ) (bytes rest : List ℕ) → RecordFront r bytes rest → payload_levels r.payload ≤ levels → StandsInField levels e bytes → ⊥
-field_no_fault e r levels bytes rest f within s = go (record_parts r.number r.payload bytes rest f) s
+pub field_only : (e : DecodeError) (r : Record) (levels : ℕ) (bytes rest : List ℕ) → RecordFront r bytes rest → StandsInField levels e bytes → (e ≡ errors.Depth) × (levels < payload_levels r.payload)
+field_only e r levels bytes rest f s = go (record_parts r.number r.payload bytes rest f) s
   where
-    go : RecordParts r.number r.payload bytes rest → StandsInField levels e bytes → ⊥
-    go parts (inl g) = comes_not r.number (payload_wire r.payload) levels None bytes parts.mid parts.key (payload_sound r.number r.payload levels None parts.mid rest parts.payload within) e g
-    go parts (inr (inl (cut, empty))) = omega (arith, key_shorter r.number (payload_wire r.payload) bytes parts.mid parts.key, ap length empty)
+    go : RecordParts r.number r.payload bytes rest → StandsInField levels e bytes → (e ≡ errors.Depth) × (levels < payload_levels r.payload)
+    go parts (inl g) =
+        let (depth, none, wire) = comes_only r.number (payload_wire r.payload) levels None bytes parts.mid parts.key (payload_sound r.number r.payload None parts.mid rest parts.payload) e g in
+        (depth, omega (arith, none, start_levels r.payload wire))
+    go parts (inr (inl (cut, empty))) = absurd (omega (arith, key_shorter r.number (payload_wire r.payload) bytes parts.mid parts.key, ap length empty))
     go parts (inr (inr g)) =
         let (number, wire, behind) = key_once g.number r.number g.wire (payload_wire r.payload) bytes g.rest parts.mid g.key parts.key in
-        group_no_fault e r.number r.payload levels parts.mid rest parts.payload within (sym wire ∙ g.behind.0)
+        group_only e r.number r.payload levels parts.mid rest parts.payload (sym wire ∙ g.behind.0)
         (subst (λ (i : ℕ). InsideGroup e i levels parts.mid) number (subst (λ (l : List ℕ). InsideGroup e g.number levels l) behind g.behind.1))
+
+pub field_no_fault : (e : DecodeError) (r : Record) (levels : ℕ) (bytes rest : List ℕ) → RecordFront r bytes rest → payload_levels r.payload ≤ levels → StandsInField levels e bytes → ⊥
+field_no_fault e r levels bytes rest f within s = let (depth, past) = field_only e r levels bytes rest f s in omega arith
 
 pub value_no_fault : (e : DecodeError) (n : ℕ) (w : WireType) (levels : ℕ) (p : Payload) (bytes rest : List ℕ) → KeyFront n w (short_key n w ++ bytes) bytes → ValueFront n w levels p bytes rest → StandsInValue levels n w e bytes → ⊥
 value_no_fault e n w levels p bytes rest k v s =
     let key = subst (λ x. KeyFront n x (short_key n w ++ bytes) bytes) (sym v.wire) k in
     field_no_fault e (record_at n p) levels (short_key n w ++ bytes) rest (record_front n p (short_key n w ++ bytes) bytes rest key v.front) v.within s
+
+pub value_fault_only : (e : DecodeError) (n : ℕ) (w : WireType) (levels : ℕ) (p : Payload) (bytes rest : List ℕ) → KeyFront n w (short_key n w ++ bytes) bytes → payload_wire p ≡ w → PayloadFront n p bytes rest → StandsInValue levels n w e bytes → e ≡ errors.Depth
+value_fault_only e n w levels p bytes rest k wire f s =
+    let key = subst (λ x. KeyFront n x (short_key n w ++ bytes) bytes) (sym wire) k in
+    let only = field_only e (record_at n p) levels (short_key n w ++ bytes) rest (record_front n p (short_key n w ++ bytes) bytes rest key f) s in
+    only.0
 
 -- A refusal that no fault explains is one of memory.
 pub only_memory : (e : DecodeError) → (e ≢ errors.OutOfMemory → ⊥) → e ≡ errors.OutOfMemory

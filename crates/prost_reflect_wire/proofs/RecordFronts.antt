@@ -183,3 +183,10 @@ field_once levels r s bytes rest end f g =
 
 pub value_once : (n : ℕ) (w : WireType) (levels : ℕ) (p q : Payload) (bytes rest end : List ℕ) → ValueFront n w levels p bytes rest → ValueFront n w levels q bytes end → (p ≡ q) × (rest ≡ end)
 value_once n w levels p q bytes rest end f g = payload_once n p q bytes rest end (f.wire ∙ sym g.wire) f.front g.front
+
+-- A record at the front that nests deeper than the levels is no field within them.
+pub too_deep : (levels : ℕ) (r s : Record) (bytes rest end : List ℕ) → RecordFront r bytes rest → levels < payload_levels r.payload → FieldFront levels s bytes end → ⊥
+too_deep levels r s bytes rest end f deep g = let (number, payload, behind) = record_once r.number s.number r.payload s.payload bytes rest end f g.front in omega (arith, ap payload_levels payload, g.within)
+
+pub value_too_deep : (n : ℕ) (w : WireType) (levels : ℕ) (p q : Payload) (bytes rest end : List ℕ) → payload_wire p ≡ w → PayloadFront n p bytes rest → levels < payload_levels p → ValueFront n w levels q bytes end → ⊥
+value_too_deep n w levels p q bytes rest end wire f deep g = let (payload, behind) = payload_once n p q bytes rest end (wire ∙ sym g.wire) f g.front in omega (arith, ap payload_levels payload, g.within)

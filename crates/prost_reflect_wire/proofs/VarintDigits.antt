@@ -94,6 +94,15 @@ value_fits bytes i value scale digit d low (inr other) =
     let h : scale * digit ≤ scale * 127 = mul-le-mul_left scale (let g : digit ≤ 127 = omega arith in g) in
     omega (arith, h, value_small bytes i value scale d, scale_low i scale few d.scaled)
 
+-- a tenth byte of 1 at most has a bit as its digit, and no byte behind it
+pub tenth : (i b digit : ℕ) → digit ≡ b % 128 → ((i ≡ 9) × (b ≤ 1)) ⊎ (i ≡ 9 → ⊥) → ((i ≡ 9) × (digit ≤ 1)) ⊎ (i ≡ 9 → ⊥)
+tenth i b digit is (inl (nine, low)) = inl (nine, omega arith)
+tenth i b digit is (inr other) = inr other
+
+pub before_tenth : (i b : ℕ) → i ≤ 9 → 128 ≤ b → ((i ≡ 9) × (b ≤ 1)) ⊎ (i ≡ 9 → ⊥) → i < 9
+before_tenth i b few up (inl (nine, low)) = absurd (omega arith)
+before_tenth i b few up (inr other) = omega (arith, other)
+
 -- THE END OF THE READING
 
 -- the last digit

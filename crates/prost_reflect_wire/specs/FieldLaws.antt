@@ -1,11 +1,12 @@
 -- Laws of reading one unknown field.
 use Rattle.std.specs.Prelude.{◌≡◌, ℕ, ◌^◌, ◌<◌, ◌≤◌, ◌⊎◌, List, [], ◌∷◌, ◌++◌}
 use Rattle.prost_reflect_wire.specs.Varint.{AreBytes}
-use Rattle.prost_reflect_wire.specs.Record.{Record, Payload, spelled}
-use Rattle.prost_reflect_wire.specs.Front.{FieldFront, ValueFront}
+use Rattle.prost_reflect_wire.specs.Record.{Record, Payload, spelled, payload_levels}
+use Rattle.prost_reflect_wire.specs.Front.{RecordFront, FieldFront, ValueFront}
 use Rattle.prost_reflect_wire.specs.Fault.{StandsInField, StandsInValue}
 use Rattle.prost_reflect_wire.specs.declared.key.WireType.{WireType}
 use Rattle.prost_reflect_wire.specs.declared.error.DecodeError.{DecodeError}
+use Rattle.prost_reflect_wire.specs.declared.error.DecodeError.TheVariants as errors
 
 -- One of the two holds, and not both.
 abbrev pub ExactlyUnless : Type 0 → Type 0 → Type 0
@@ -25,6 +26,10 @@ FieldUnlessFault = (levels : ℕ) (bytes : List ℕ) → AreBytes bytes → Exac
 abbrev pub ValueUnlessFault : Type 0
 ValueUnlessFault = (levels n : ℕ) (w : WireType) (bytes : List ℕ) → 1 ≤ n → n < 2 ^ 29 → AreBytes bytes →
     ExactlyUnless (HasValue levels n w bytes) ((e : DecodeError) × StandsInValue levels n w e bytes)
+
+-- Where a whole field stands first, no fault stands in it but Depth, and that one only where it nests deeper than the levels.
+abbrev pub OnlyTooDeep : Type 0
+OnlyTooDeep = (levels : ℕ) (r : Record) (bytes rest : List ℕ) (e : DecodeError) → RecordFront r bytes rest → StandsInField levels e bytes → (e ≡ errors.Depth) × (levels < payload_levels r.payload)
 
 -- Bytes begin with at most one field, which ends in one place.
 abbrev pub OneField : Type 0

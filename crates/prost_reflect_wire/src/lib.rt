@@ -24,4 +24,4 @@ pub use unknown::{
     RECURSION_LIMIT, UnknownField, UnknownFieldSet, UnknownFieldValue, field_len, fields_len,
     prepend_field, prepend_fields, prepend_fields_at, skip_value, value_at,
 };
-pub use varint::{decode_varint, varint_len};
+pub use varint::{decode_varint, decode_varint_plain, varint_len};

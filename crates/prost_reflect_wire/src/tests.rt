@@ -1,12 +1,16 @@
 //! Bytes from the encoding guide and from other programs, and refused memory.
 
+mod memory;
+
 use crate::unknown::{UnknownField, UnknownFieldSet, UnknownFieldValue};
 use crate::{
     BackBuffer, DecodeError, EncodeError, FieldNumber, RECURSION_LIMIT, WireType, decode_key,
-    decode_varint, delimited_at, field_len, fields_len, fixed32_at, fixed64_at, key_len, low_i32,
-    low_u32, prepend_field, prepend_fields, prepend_fields_at, sign_extended, skip_value,
-    unzigzag32, unzigzag64, value_at, varint_len, zigzag32, zigzag64,
+    decode_varint, decode_varint_plain, delimited_at, field_len, fields_len, fixed32_at,
+    fixed64_at, key_len, low_i32, low_u32, prepend_field, prepend_fields, prepend_fields_at,
+    sign_extended, skip_value, unzigzag32, unzigzag64, value_at, varint_len, zigzag32, zigzag64,
 };
+use std::alloc::{AllocError, Global};
+use std::process::Abort;
 use std::test::Fail;
 
 /// The group of the number 3 with `hello`, 10 and 11.
@@ -46,113 +50,214 @@ fn group_and_tail(rt: HostRuntime) -> Result<(), Fail> {
     Ok(())
 }
 
-/// Each input is one field, which is written again as the bytes beside it.
-#[test]
-fn fields_are_written_shortest(rt: HostRuntime) -> Result<(), Fail> {
-    let rows: [(&[u8], &[u8]); 7] = [
-        (&[0x18, 0x83, 0x00], &[0x18, 0x03]),
-        (
-            &[0x09, 0x9a, 0x99, 0x99, 0x99, 0x99, 0x99, 0xf1, 0x3f],
-            &[0x09, 0x9a, 0x99, 0x99, 0x99, 0x99, 0x99, 0xf1, 0x3f],
-        ),
-        (
-            &[0x15, 0xcd, 0xcc, 0x0c, 0x40],
-            &[0x15, 0xcd, 0xcc, 0x0c, 0x40],
-        ),
-        (
-            &[0x7a, 0x07, 0x69, 0xa6, 0xbe, 0x6d, 0xb6, 0xff, 0x58],
-            &[0x7a, 0x07, 0x69, 0xa6, 0xbe, 0x6d, 0xb6, 0xff, 0x58],
-        ),
-        (&[0x1a, 0x02, 0x10, 0x42], &[0x1a, 0x02, 0x10, 0x42]),
-        (&[0x9b, 0x80, 0x00, 0x9c, 0x00], &[0x1b, 0x1c]),
-        (
-            &[0xf8, 0xff, 0xff, 0xff, 0x0f, 0x80, 0x00],
-            &[0xf8, 0xff, 0xff, 0xff, 0x0f, 0x00],
-        ),
-    ];
-    for (input, want) in rows {
-        let mut cursor = input;
-        let field = UnknownField::decode(rt.alloc(), &mut cursor, RECURSION_LIMIT)?;
-        assert!(rt; cursor.is_empty());
-        let mut out = Vec::new(rt.alloc());
-        field.encode(&mut out)?;
-        assert_eq!(rt; out.as_slice(), want);
-        assert_eq!(rt; field.encoded_len(), Some(want.len()));
-        assert_eq!(rt; field_len(&field), Some(want.len()));
-        assert!(rt; field.clone()? == field);
-    }
-    Ok(())
-}
+/// Bytes in hex within so many groups of number 5, how many levels are allowed, and the bytes that are written of the
+/// field which is read, or why none is. The answers follow from the rules and the examples of the encoding guide; the
+/// keys of number 0, the early ends and the end keys that close nothing are those of protobuf's conformance tests.
+static ROWS: [(usize, u32, &str, Result<&str, DecodeError>); 106] = [
+    // Varints, and the tenth byte.
+    (0, 100, "0800", Ok("0800")),
+    (0, 100, "087f", Ok("087f")),
+    (0, 100, "088001", Ok("088001")),
+    (0, 100, "089601", Ok("089601")),
+    (0, 100, "08ffffffff0f", Ok("08ffffffff0f")),
+    (0, 100, "08ffffffffffffffff7f", Ok("08ffffffffffffffff7f")),
+    (
+        0,
+        100,
+        "0880808080808080808001",
+        Ok("0880808080808080808001"),
+    ),
+    (
+        0,
+        100,
+        "08feffffffffffffffff01",
+        Ok("08feffffffffffffffff01"),
+    ),
+    (
+        0,
+        100,
+        "08ffffffffffffffffff01",
+        Ok("08ffffffffffffffffff01"),
+    ),
+    // Varints with needless digits.
+    (0, 100, "088000", Ok("0800")),
+    (0, 100, "188300", Ok("1803")),
+    (0, 100, "1803", Ok("1803")),
+    (0, 100, "088180808000", Ok("0801")),
+    (0, 100, "0880808080808080808000", Ok("0800")),
+    (0, 100, "08ffffffffffffffffff00", Ok("08ffffffffffffffff7f")),
+    (0, 100, "0881808080808080808000", Ok("0801")),
+    // Varints past 64 bits.
+    (0, 100, "0880808080808080808002", Err(DecodeError::Varint)),
+    (0, 100, "08ffffffffffffffffff02", Err(DecodeError::Varint)),
+    (0, 100, "088080808080808080807f", Err(DecodeError::Varint)),
+    (0, 100, "0880808080808080808080", Err(DecodeError::Varint)),
+    (0, 100, "088080808080808080808000", Err(DecodeError::Varint)),
+    (0, 100, "088080808080808080808101", Err(DecodeError::Varint)),
+    (0, 100, "0a80808080808080808002", Err(DecodeError::Varint)),
+    (0, 100, "0affffffffffffffffffff01", Err(DecodeError::Varint)),
+    (0, 100, "ffffffffffffffffff02", Err(DecodeError::Varint)),
+    (0, 100, "8080808080808080808001", Err(DecodeError::Varint)),
+    // Keys: the least and the greatest numbers, and needless digits.
+    (0, 100, "7801", Ok("7801")),
+    (0, 100, "800101", Ok("800101")),
+    (0, 100, "f8ffffff0f00", Ok("f8ffffff0f00")),
+    (0, 100, "fdffffff0f01020304", Ok("fdffffff0f01020304")),
+    (0, 100, "880001", Ok("0801")),
+    (0, 100, "88800000", Ok("0800")),
+    (0, 100, "8880808080808080800001", Ok("0801")),
+    // Keys of number 0.
+    (0, 100, "00", Err(DecodeError::Key)),
+    (0, 100, "0001", Err(DecodeError::Key)),
+    (0, 100, "800001", Err(DecodeError::Key)),
+    (0, 100, "014445414442454546", Err(DecodeError::Key)),
+    (0, 100, "020101", Err(DecodeError::Key)),
+    (0, 100, "0304", Err(DecodeError::Key)),
+    (0, 100, "04", Err(DecodeError::Key)),
+    (0, 100, "0544454144", Err(DecodeError::Key)),
+    // Keys of wire types 6 and 7.
+    (0, 100, "0601", Err(DecodeError::Key)),
+    (0, 100, "0701", Err(DecodeError::Key)),
+    (0, 100, "0e00", Err(DecodeError::Key)),
+    (0, 100, "0e", Err(DecodeError::Key)),
+    (0, 100, "0f00", Err(DecodeError::Key)),
+    (0, 100, "8e0000", Err(DecodeError::Key)),
+    (0, 100, "feffffff0f00", Err(DecodeError::Key)),
+    (0, 100, "ffffffff0f00", Err(DecodeError::Key)),
+    // Keys past 32 bits.
+    (0, 100, "808080801000", Err(DecodeError::Key)),
+    (0, 100, "8080808010", Err(DecodeError::Key)),
+    (0, 100, "888080801001", Err(DecodeError::Key)),
+    (0, 100, "ffffffff1f01", Err(DecodeError::Key)),
+    (0, 100, "808080808080808080010c", Err(DecodeError::Key)),
+    (0, 100, "8880808080808080800101", Err(DecodeError::Key)),
+    (0, 100, "ffffffffffffffffff0100", Err(DecodeError::Key)),
+    // Lengths.
+    (0, 100, "0a00", Ok("0a00")),
+    (0, 100, "120774657374696e67", Ok("120774657374696e67")),
+    (0, 100, "1a03089601", Ok("1a03089601")),
+    (0, 100, "1a021042", Ok("1a021042")),
+    (0, 100, "3206038e029ea705", Ok("3206038e029ea705")),
+    (0, 100, "7a0769a6be6db6ff58", Ok("7a0769a6be6db6ff58")),
+    (0, 100, "0a810061", Ok("0a0161")),
+    (0, 100, "0a80808080808080808000", Ok("0a00")),
+    (0, 100, "0a0241", Err(DecodeError::Truncated)),
+    (0, 100, "0affffffff0761", Err(DecodeError::Truncated)),
+    (0, 100, "0a808080801061", Err(DecodeError::Truncated)),
+    (
+        0,
+        100,
+        "0affffffffffffffff7f61",
+        Err(DecodeError::Truncated),
+    ),
+    (
+        0,
+        100,
+        "0affffffffffffffffff0161",
+        Err(DecodeError::Truncated),
+    ),
+    // Fixed widths.
+    (0, 100, "099a9999999999f13f", Ok("099a9999999999f13f")),
+    (0, 100, "15cdcc0c40", Ok("15cdcc0c40")),
+    (0, 100, "0961626364656667", Err(DecodeError::Truncated)),
+    (0, 100, "0d616263", Err(DecodeError::Truncated)),
+    // Groups.
+    (0, 100, "0b0c", Ok("0b0c")),
+    (
+        0,
+        100,
+        "1b0a0568656c6c6f100a100b1c",
+        Ok("1b0a0568656c6c6f100a100b1c"),
+    ),
+    (0, 100, "fbffffff0ffcffffff0f", Ok("fbffffff0ffcffffff0f")),
+    (0, 100, "8b008c8000", Ok("0b0c")),
+    (0, 100, "9b8000880083009c00", Ok("1b08031c")),
+    (0, 100, "0b0a010c0c", Ok("0b0a010c0c")),
+    (0, 100, "0b0d0c0c0c0c0c", Ok("0b0d0c0c0c0c0c")),
+    (0, 100, "0b131b1c1412000c", Ok("0b131b1c1412000c")),
+    (0, 100, "0b0801", Err(DecodeError::Truncated)),
+    (0, 100, "0b0a020c", Err(DecodeError::Truncated)),
+    (0, 100, "0b04", Err(DecodeError::Key)),
+    (0, 100, "0b0e000c", Err(DecodeError::Key)),
+    (
+        0,
+        100,
+        "0b08ffffffffffffffffff020c",
+        Err(DecodeError::Varint),
+    ),
+    // End keys that close no open group of their number.
+    (0, 100, "0c", Err(DecodeError::EndGroup)),
+    (0, 100, "944d", Err(DecodeError::EndGroup)),
+    (0, 100, "0b14", Err(DecodeError::EndGroup)),
+    (0, 100, "cb0cd40c", Err(DecodeError::EndGroup)),
+    (0, 100, "0b130c14", Err(DecodeError::EndGroup)),
+    (0, 100, "0b131414", Err(DecodeError::EndGroup)),
+    // Levels.
+    (0, 1, "0b0c", Ok("0b0c")),
+    (0, 0, "0b0c", Err(DecodeError::Depth)),
+    (0, 0, "1b0a0568656c6c6f100a100b1c", Err(DecodeError::Depth)),
+    (0, 0, "0801", Ok("0801")),
+    (0, 2, "0b13140c", Ok("0b13140c")),
+    (0, 1, "0b13140c", Err(DecodeError::Depth)),
+    (99, 100, "", Ok("")),
+    (100, 100, "", Ok("")),
+    (101, 100, "", Err(DecodeError::Depth)),
+    (100, 100, "088300", Ok("0803")),
+    (99, 100, "0b0c", Ok("0b0c")),
+    (100, 100, "0b0c", Err(DecodeError::Depth)),
+    (100, 99, "", Err(DecodeError::Depth)),
+    (0, 100, "", Err(DecodeError::Truncated)),
+];
 
-/// Each input is no field, and the cursor stays.
 #[test]
-fn refusals(rt: HostRuntime) {
-    let rows: [(&[u8], u32, DecodeError); 19] = [
-        (&[], 100, DecodeError::Truncated),
-        (&[0x80], 100, DecodeError::Truncated),
-        (&[0x08], 100, DecodeError::Truncated),
-        (&[0x08, 0x96], 100, DecodeError::Truncated),
-        (&[0x09, 1, 2, 3, 4, 5, 6, 7], 100, DecodeError::Truncated),
-        (&[0x0d, 1, 2, 3], 100, DecodeError::Truncated),
-        (&[0x0a, 0x02, 0x41], 100, DecodeError::Truncated),
-        (&[0x0a, 0x80], 100, DecodeError::Truncated),
-        (&[0x0b], 100, DecodeError::Truncated),
-        (
-            &[
-                0x08, 0xff, 0xff, 0xff, 0xff, 0xff, 0xff, 0xff, 0xff, 0xff, 0x02,
-            ],
-            100,
-            DecodeError::Varint,
-        ),
-        (
-            &[
-                0x0a, 0x80, 0x80, 0x80, 0x80, 0x80, 0x80, 0x80, 0x80, 0x80, 0x80,
-            ],
-            100,
-            DecodeError::Varint,
-        ),
-        (&[0x00, 0x00], 100, DecodeError::Key),
-        (&[0x0e, 0x00], 100, DecodeError::Key),
-        (&[0x0f, 0x00], 100, DecodeError::Key),
-        (&[0x80, 0x80, 0x80, 0x80, 0x10, 0x00], 100, DecodeError::Key),
-        (&[0x0c], 100, DecodeError::EndGroup),
-        (&[0x0b, 0x14], 100, DecodeError::EndGroup),
-        (&[0x0b, 0x0c], 0, DecodeError::Depth),
-        (&[0x0b, 0x13, 0x14, 0x0c], 1, DecodeError::Depth),
-    ];
-    for (input, depth, want) in rows {
-        let mut cursor = input;
-        match UnknownField::decode(rt.alloc(), &mut cursor, depth) {
-            Ok(_) => panic!(rt; "read {input:?}"),
-            Err(error) => assert_eq!(rt; error, want, "at {input:?}"),
-        }
-        assert_eq!(rt; cursor, input);
-    }
-}
-
-/// Groups within one another: as many as the depth are read, one more is not.
-#[test]
-fn levels(rt: HostRuntime) -> Result<(), Fail> {
-    for (count, reads) in [(1, true), (99, true), (100, true), (101, false)] {
-        let mut input = vec![in rt.alloc(); 0x2b; count]?;
-        input.extend_from_slice(vec![in rt.alloc(); 0x2c; count]?.as_slice())?;
+fn spellings_and_refusals(rt: HostRuntime) -> Result<(), Fail> {
+    for (groups, depth, text, answer) in &ROWS {
+        assert!(rt; *depth <= RECURSION_LIMIT);
+        let input = in_groups(rt.alloc(), *groups, text)?;
         let mut cursor = input.as_slice();
-        match UnknownField::decode(rt.alloc(), &mut cursor, 100) {
+        match UnknownField::decode(rt.alloc(), &mut cursor, *depth) {
             Ok(field) => {
-                assert!(rt; reads);
-                assert!(rt; cursor.is_empty());
+                assert!(rt; cursor.is_empty(), "a rest of {text}");
+                let Ok(want) = *answer else {
+                    panic!(rt; "{text} is read");
+                };
+                let want = in_groups(rt.alloc(), *groups, want)?;
                 let mut out = Vec::new(rt.alloc());
                 field.encode(&mut out)?;
-                assert_eq!(rt; out.as_slice(), input.as_slice());
+                assert_eq!(rt; out.as_slice(), want.as_slice(), "of {text}");
+                assert_eq!(rt; field.encoded_len(), Some(want.len()), "of {text}");
+                cut_anywhere(&rt, rt.alloc(), &input, *depth);
             }
             Err(error) => {
-                assert!(rt; !reads);
-                assert_eq!(rt; error, DecodeError::Depth);
-                assert_eq!(rt; cursor.len(), 2 * count);
+                assert_eq!(rt; Some(error), answer.err(), "at {text}");
+                assert_eq!(rt; cursor, input.as_slice(), "at {text}");
             }
         }
     }
     Ok(())
+}
+
+/// Each part of a field that ends before its last byte is refused.
+fn cut_anywhere(rt: &impl Abort, alloc: Global, input: &[u8], depth: u32) {
+    assert!(rt; depth <= RECURSION_LIMIT);
+    for len in 0..input.len() {
+        let mut cursor = &input[..len];
+        match UnknownField::decode(alloc, &mut cursor, depth) {
+            Ok(_) => panic!(rt; "{len} bytes of {input:?} are read"),
+            Err(error) => assert_eq!(rt; error, DecodeError::Truncated, "{len} bytes of {input:?}"),
+        }
+        assert_eq!(rt; cursor.len(), len);
+    }
+}
+
+/// The bytes of the hex text within so many groups of number 5.
+fn in_groups(alloc: Global, count: usize, text: &str) -> Result<Vec<u8>, Fail> {
+    let mut all = vec![in alloc; 0x2b; count]?;
+    for pair in text.as_bytes().chunks(2) {
+        all.push(u8::from_str_radix(str::from_utf8(pair)?, 16)?)?;
+    }
+    all.extend_from_slice(vec![in alloc; 0x2c; count]?.as_slice())?;
+    Ok(all)
 }
 
 #[test]
@@ -163,6 +268,17 @@ fn values_behind_a_key(rt: HostRuntime) -> Result<(), Fail> {
     assert_eq!(rt; cursor, [0x7f].as_slice());
     assert_eq!(rt; field.number(), 5);
     assert!(rt; *field.value() == UnknownFieldValue::Varint(150));
+    let mut text = [0x02, 0x10, 0x42].as_slice();
+    let message = UnknownField::decode_value(
+        rt.alloc(),
+        3,
+        WireType::LengthDelimited,
+        &mut text,
+        0,
+    )?;
+    let mut out = Vec::new(rt.alloc());
+    message.encode(&mut out)?;
+    assert_eq!(rt; out.as_slice(), [0x1a, 0x02, 0x10, 0x42].as_slice());
     let (value, rest) = value_at(rt.alloc(), FieldNumber::new(5), WireType::Varint, &input, 0)?;
     assert!(rt; value == *field.value());
     assert_eq!(rt; rest, [0x7f].as_slice());
@@ -214,7 +330,28 @@ fn sets_are_lists(rt: HostRuntime) -> Result<(), Fail> {
         }
     }
     assert!(rt; fields.next().is_none());
+    let mut sum = 0u64;
+    for field in &set {
+        sum = sum.wrapping_add(first_byte(field));
+    }
+    assert_eq!(rt; sum, 16);
     assert!(rt; set != UnknownFieldSet::new(rt.alloc()));
+    assert!(rt; set == set.clone()?);
+    assert!(rt; !format!(in rt.alloc(); "{set:?}")?.is_empty());
+    Ok(())
+}
+
+#[test]
+fn values_are_equal_where_they_store_the_same(rt: HostRuntime) -> Result<(), Fail> {
+    let text = UnknownFieldValue::LengthDelimited(Vec::from_slice(rt.alloc(), b"hello")?);
+    assert!(rt; text.clone()? == text);
+    let other = UnknownFieldValue::LengthDelimited(Vec::from_slice(rt.alloc(), b"hellp")?);
+    assert!(rt; text != other);
+    let group = UnknownFieldValue::Group(UnknownFieldSet::new(rt.alloc()));
+    assert!(rt; group.clone()? == group);
+    assert!(rt; UnknownFieldValue::Varint(1) != UnknownFieldValue::Varint(2));
+    assert!(rt; UnknownFieldValue::SixtyFourBit([1; 8]) == UnknownFieldValue::SixtyFourBit([1; 8]));
+    assert!(rt; UnknownFieldValue::ThirtyTwoBit([1; 4]) != UnknownFieldValue::Varint(0x0101_0101));
     Ok(())
 }
 
@@ -230,6 +367,7 @@ fn written_from_the_back(rt: HostRuntime) -> Result<(), Fail> {
     prepend_fields_at(FieldNumber::new(16), &set, &mut buffer)?;
     prepend_fields(&set, &mut buffer)?;
     let len = buffer.len();
+    assert_eq!(rt; len, buffer.as_slice().len());
     buffer.prepend_varint(len as u64)?;
     buffer.prepend_key(FieldNumber::new(1), WireType::LengthDelimited)?;
     let mut out = Vec::from_slice(rt.alloc(), b"<")?;
@@ -267,13 +405,46 @@ fn numbers(rt: HostRuntime) {
 }
 
 #[test]
+fn varints(rt: HostRuntime) -> Result<(), Fail> {
+    for (text, value) in [
+        ("00", 0),
+        ("7f", 127),
+        ("8001", 128),
+        ("9601", 150),
+        ("ff7f", 16_383),
+        ("808001", 16_384),
+        ("ffffffff0f", 0xffff_ffff),
+        ("ffffffffffffffff7f", 0x7fff_ffff_ffff_ffff),
+        ("80808080808080808001", 0x8000_0000_0000_0000),
+        ("ffffffffffffffffff01", u64::MAX),
+    ] {
+        let bytes = in_groups(rt.alloc(), 0, text)?;
+        assert_eq!(rt; varint_len(value), bytes.len(), "of {value}");
+        let mut input = Vec::from_slice(rt.alloc(), &bytes)?;
+        input.push(0x7f)?;
+        let read = decode_varint(&input)?;
+        assert_eq!(rt; read.0, value, "at {text}");
+        assert_eq!(rt; read.1, [0x7f].as_slice(), "behind {text}");
+        let read = decode_varint_plain(&input)?;
+        assert_eq!(rt; read.0, value, "at {text}");
+        assert_eq!(rt; read.1, [0x7f].as_slice(), "behind {text}");
+    }
+    Ok(())
+}
+
+#[test]
+fn errors(rt: HostRuntime) -> Result<(), Fail> {
+    assert_eq!(rt; DecodeError::from(AllocError), DecodeError::OutOfMemory);
+    assert_eq!(rt; EncodeError::from(AllocError), EncodeError::OutOfMemory);
+    assert!(rt; DecodeError::Truncated != DecodeError::Varint);
+    assert!(rt; EncodeError::TooLong != EncodeError::OutOfMemory);
+    assert!(rt; !format!(in rt.alloc(); "{}", DecodeError::Depth)?.is_empty());
+    assert!(rt; !format!(in rt.alloc(); "{}", EncodeError::TooLong)?.is_empty());
+    Ok(())
+}
+
+#[test]
 fn parts(rt: HostRuntime) -> Result<(), Fail> {
-    let (value, rest) = decode_varint(&[0x96, 0x01, 0x7f])?;
-    assert_eq!(rt; (value, rest), (150, [0x7f].as_slice()));
-    assert_eq!(rt;
-        (varint_len(0), varint_len(128), varint_len(u64::MAX)),
-        (1, 2, 10)
-    );
     let (number, wire_type, rest) = decode_key(&[0xfd, 0xff, 0xff, 0xff, 0x0f])?;
     assert_eq!(rt;
         (number.get(), wire_type),
@@ -295,30 +466,4 @@ fn parts(rt: HostRuntime) -> Result<(), Fail> {
         (0x0403_0201, [5].as_slice())
     );
     Ok(())
-}
-
-/// Any refusal of memory is told, and then nothing has changed.
-#[test]
-fn refused_memory(rt: HostRuntime) {
-    let mut cursor = GROUP.as_slice();
-    match UnknownField::decode(rt.alloc(), &mut cursor, RECURSION_LIMIT) {
-        Ok(field) => {
-            assert!(rt; cursor.is_empty());
-            let mut out = Vec::new(rt.alloc());
-            match field.encode(&mut out) {
-                Ok(()) => assert_eq!(rt; out.as_slice(), GROUP.as_slice()),
-                Err(error) => {
-                    assert_eq!(rt; error, EncodeError::OutOfMemory);
-                    assert!(rt; out.is_empty());
-                }
-            }
-            if let Ok(copy) = field.clone() {
-                assert!(rt; copy == field);
-            }
-        }
-        Err(error) => {
-            assert_eq!(rt; error, DecodeError::OutOfMemory);
-            assert_eq!(rt; cursor, GROUP.as_slice());
-        }
-    }
 }

@@ -1,9 +1,12 @@
 //! The fields that no descriptor knows.
 
 ghost use Rattle.std.specs.Prelude.{◌≡◌, ◌≤◌, ◌<◌, ◌^◌, ◌==◌, ◌++◌, ◌∷◌, [], length, map, OnOk, OnErr};
+ghost use Rattle.std.specs.Iterator.Runs.{EveryRun, ItemsMapTo, ItemsAre};
 ghost use Rattle.std.specs.Slice.Iter.{iter_rest, iter_steps};
+ghost use Rattle.std.specs.declared.alloc.Global.{Global as Heap};
 ghost use Rattle.std.specs.Vec.Iter.{into_iter_items, into_iter_len, into_iter_steps};
 ghost use Rattle.prost_reflect_wire.specs.Record.{payload_wire};
+ghost use Rattle.prost_reflect_wire.specs.declared.unknown.UnknownField.{UnknownField};
 ghost use Rattle.prost_reflect_wire.specs.Unknown.{payload_of, record_of, records_of, fields_of};
 
 use crate::key::{FieldNumber, WireType};
@@ -152,6 +155,8 @@ impl UnknownFieldSet {
     /// The fields in their order.
     pub fn iter(&self) -> Iter<'_, UnknownField>
         ensures rest { iter_rest result ≡ fields_of self.now }
+        ensures bound { length (iter_rest result) < 2 ^ 64 }
+        ensures runs { EveryRun (iter_steps {A = UnknownField}) (λ p. ItemsMapTo p (λ x. x.now) (iter_rest p.from)) }
     {
         self.fields.iter()
     }
@@ -162,9 +167,23 @@ impl IntoIterator for UnknownFieldSet {
 
     type IntoIter = IntoIter<UnknownField, Global>;
 
-    ghost into_iter_gives = { λ set fields. into_iter_items fields ≡ fields_of set };
+    ghost into_iter_gives = { λ set fields. (into_iter_items fields ≡ fields_of set) × (into_iter_len fields ≡ length (fields_of set)) × (into_iter_len fields < 2 ^ 64)
+        × EveryRun (into_iter_steps {X = UnknownField} {Z = Heap}) (λ p. ItemsAre p (into_iter_items p.from)) };
 
     fn into_iter(self) -> IntoIter<UnknownField, Global> {
         self.fields.into_iter()
+    }
+}
+
+impl<'a> IntoIterator for &'a UnknownFieldSet {
+    type Item = &'a UnknownField;
+
+    type IntoIter = Iter<'a, UnknownField>;
+
+    ghost into_iter_gives = { λ set fields. (iter_rest fields ≡ fields_of set.now) × (length (iter_rest fields) < 2 ^ 64)
+        × EveryRun (iter_steps {A = UnknownField}) (λ p. ItemsMapTo p (λ x. x.now) (iter_rest p.from)) };
+
+    fn into_iter(self) -> Iter<'a, UnknownField> {
+        self.iter()
     }
 }

@@ -21,25 +21,55 @@ pub fn decode_varint(bytes: &[u8]) -> Result<(u64, &[u8]), DecodeError>
 {
     match bytes.split_first() {
         Some((byte, rest)) if *byte < 0x80 => Ok((u64::from(*byte), rest)),
-        _ => decode_digits(bytes),
+        _ => decode_steps(bytes),
     }
 }
 
-/// The same digit by digit.
-fn decode_digits(bytes: &[u8]) -> Result<(u64, &[u8]), DecodeError>
+/// The same in at most ten steps. A loop of so many is unrolled, and each digit's scale is then a constant.
+fn decode_steps(bytes: &[u8]) -> Result<(u64, &[u8]), DecodeError>
     ensures ok { IfOk result (λ x. VarintFront x.0 bytes.now x.1.now) }
     ensures fault { IfErr result (λ e. VarintFault e bytes.now) }
 {
     let mut value = 0u64;
     let mut scale = 1u64;
-    for (index, byte) in bytes.iter().enumerate() {
-        let byte = *byte;
+    for index in 0..10 {
+        if index >= bytes.len() {
+            return Err(DecodeError::Truncated);
+        }
+        let byte = bytes[index];
         if index == 9 && byte > 1 {
             return Err(DecodeError::Varint);
         }
         value += scale * u64::from(byte & 0x7f);
         if byte < 0x80 {
             return Ok((value, &bytes[index + 1..]));
+        }
+        scale *= 0x80;
+    }
+    unreachable!()
+}
+
+/// The plain form of `decode_varint`, digit by digit as far as they go. It gives the same, more slowly.
+///
+/// # Errors
+///
+/// As `decode_varint`.
+pub fn decode_varint_plain(bytes: &[u8]) -> Result<(u64, &[u8]), DecodeError>
+    ensures ok { IfOk result (λ x. VarintFront x.0 bytes.now x.1.now) }
+    ensures only { (value : ℕ) (rest : List ℕ) → VarintFront value bytes.now rest →
+        IsOkAnd result (λ x. (x.0 ≡ value) × (x.1.now ≡ rest)) }
+    ensures fault { IfErr result (λ e. VarintFault e bytes.now) }
+{
+    let mut value = 0u64;
+    let mut scale = 1u64;
+    for (place, byte) in bytes.iter().enumerate() {
+        let byte = *byte;
+        if place == 9 && byte > 1 {
+            return Err(DecodeError::Varint);
+        }
+        value += scale * u64::from(byte & 0x7f);
+        if byte < 0x80 {
+            return Ok((value, &bytes[place + 1..]));
         }
         scale *= 0x80;
     }

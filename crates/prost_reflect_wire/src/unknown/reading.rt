@@ -1,9 +1,9 @@
 //! Reading a field that no descriptor knows (the encoding guide, "Message Structure" and "Groups").
 
-ghost use Rattle.std.specs.Prelude.{◌≡◌, ◌≢◌, ◌≤◌, ◌<◌, ◌^◌, ℕ, List, IfOk, IfErr, OnErr, MatchResult};
-ghost use Rattle.prost_reflect_wire.specs.Record.{Record, Payload};
+ghost use Rattle.std.specs.Prelude.{◌≡◌, ◌≢◌, ◌≤◌, ◌<◌, ◌^◌, ℕ, List, IfOk, IfErr, OnErr, IsErrAnd, MatchResult};
+ghost use Rattle.prost_reflect_wire.specs.Record.{Record, Payload, payload_wire, payload_levels};
 ghost use Rattle.prost_reflect_wire.specs.Grammar.{LEVEL_LIMIT};
-ghost use Rattle.prost_reflect_wire.specs.Front.{ValueFront, FieldFront};
+ghost use Rattle.prost_reflect_wire.specs.Front.{PayloadFront, RecordFront, ValueFront, FieldFront};
 ghost use Rattle.prost_reflect_wire.specs.Fault.{ValueFault, StandsInField, StandsInValue};
 ghost use Rattle.prost_reflect_wire.specs.Unknown.{payload_of, record_of, records_of, ReadsGroup};
 ghost use Rattle.prost_reflect_wire.specs.declared.key.WireType.TheVariants as wires;
@@ -18,9 +18,30 @@ use std::alloc::Global;
 /// How many levels of messages and groups are read below the top.
 pub const RECURSION_LIMIT: u32 = 100;
 
-/// Reads what stands behind the key of a field, with at most `depth` groups open at once.
-#[cycle(reading)]
+/// Reads what stands behind the key of a field, with at most `depth` groups open at once, and gives it and the bytes
+/// behind it.
+///
+/// # Errors
+///
+/// As `UnknownField::decode_value`.
 pub fn value_at(
+    alloc: Global,
+    number: FieldNumber,
+    wire_type: WireType,
+    bytes: &[u8],
+    depth: u32,
+) -> Result<(UnknownFieldValue, &[u8]), DecodeError>
+    ensures ok { IfOk result (λ x. ValueFront number.value wire_type depth (payload_of x.0) bytes.now x.1.now) }
+    ensures only { (p : Payload) (rest : List ℕ) → ValueFront number.value wire_type depth p bytes.now rest →
+        MatchResult result (λ x. (payload_of x.0 ≡ p) × (x.1.now ≡ rest)) (λ e. e ≡ DecodeError.OutOfMemory) }
+    ensures fault { IfErr result (λ e. e ≢ DecodeError.OutOfMemory → ValueFault e number.value wire_type depth bytes.now) }
+{
+    read_value(alloc, number, wire_type, bytes, depth)
+}
+
+/// The same by wire types.
+#[cycle(reading)]
+fn read_value(
     alloc: Global,
     number: FieldNumber,
     wire_type: WireType,
@@ -79,7 +100,7 @@ fn group_at(
             WireType::EndGroup => return Err(DecodeError::EndGroup),
             _ => {}
         }
-        let (value, after) = value_at(alloc, key, wire_type, after, depth - 1)?;
+        let (value, after) = read_value(alloc, key, wire_type, after, depth - 1)?;
         fields.insert(UnknownField::new(key, value))?;
         rest = after;
     }
@@ -92,7 +113,7 @@ impl UnknownField {
     ///
     /// `Truncated`, `Varint` or `Key` where the field is cut short, a varint is too long, or a key is none; `EndGroup`
     /// where an end key closes no open group; `Depth` where more groups would be open; `OutOfMemory` if a growth is
-    /// refused. The cursor stays.
+    /// refused. A whole field is refused only where it nests deeper than `depth`, or for want of memory. The cursor stays.
     pub fn decode(
         alloc: Global,
         cursor: &mut &[u8],
@@ -102,11 +123,13 @@ impl UnknownField {
         ensures ok { IfOk result (λ f. FieldFront depth (record_of f) cursor.old.now cursor.new.now) }
         ensures only { (r : Record) (rest : List ℕ) → FieldFront depth r cursor.old.now rest →
             MatchResult result (λ f. (record_of f ≡ r) × (cursor.new.now ≡ rest)) (λ e. e ≡ DecodeError.OutOfMemory) }
+        ensures deep { (r : Record) (rest : List ℕ) → RecordFront r cursor.old.now rest → depth < payload_levels r.payload →
+            IsErrAnd result (λ e. e ≢ DecodeError.OutOfMemory → e ≡ DecodeError.Depth) }
         ensures fault { IfErr result (λ e. e ≢ DecodeError.OutOfMemory → StandsInField depth e cursor.old.now) }
         ensures err { OnErr result (cursor.new.now ≡ cursor.old.now) }
     {
         let (number, wire_type, rest) = decode_key(cursor)?;
-        let (value, rest) = value_at(alloc, number, wire_type, rest, depth)?;
+        let (value, rest) = read_value(alloc, number, wire_type, rest, depth)?;
         *cursor = rest;
         Ok(UnknownField::new(number, value))
     }
@@ -131,11 +154,13 @@ impl UnknownField {
         ensures ok { IfOk result (λ f. ValueFront number wire_type depth (record_of f).payload cursor.old.now cursor.new.now) }
         ensures only { (p : Payload) (rest : List ℕ) → ValueFront number wire_type depth p cursor.old.now rest →
             MatchResult result (λ f. ((record_of f).payload ≡ p) × (cursor.new.now ≡ rest)) (λ e. e ≡ DecodeError.OutOfMemory) }
+        ensures deep { (p : Payload) (rest : List ℕ) → payload_wire p ≡ wire_type → PayloadFront number p cursor.old.now rest → depth < payload_levels p →
+            IsErrAnd result (λ e. e ≢ DecodeError.OutOfMemory → e ≡ DecodeError.Depth) }
         ensures fault { IfErr result (λ e. e ≢ DecodeError.OutOfMemory → StandsInValue depth number wire_type e cursor.old.now) }
         ensures err { OnErr result (cursor.new.now ≡ cursor.old.now) }
     {
         let number = FieldNumber::new(number);
-        let (value, rest) = value_at(alloc, number, wire_type, cursor, depth)?;
+        let (value, rest) = read_value(alloc, number, wire_type, cursor, depth)?;
         *cursor = rest;
         Ok(UnknownField::new(number, value))
     }

@@ -1,6 +1,8 @@
 //! Passing over a field that no descriptor knows, without memory for what it contains.
 
-ghost use Rattle.std.specs.Prelude.{◌≡◌, IfOk, IfErr};
+ghost use Rattle.std.specs.Prelude.{◌≡◌, ℕ, List, IfOk, IfErr, IsOkAnd};
+ghost use Rattle.prost_reflect_wire.specs.Record.{Payload};
+ghost use Rattle.prost_reflect_wire.specs.Front.{ValueFront};
 ghost use Rattle.prost_reflect_wire.specs.Fault.{ValueFault};
 ghost use Rattle.prost_reflect_wire.specs.Unknown.{SkipsValue, SkipsGroup};
 ghost use Rattle.prost_reflect_wire.specs.declared.key.WireType.TheVariants as wires;
@@ -15,8 +17,23 @@ use crate::varint::decode_varint;
 /// # Errors
 ///
 /// As `UnknownField::decode_value`, and never `OutOfMemory`.
-#[cycle(skipping)]
 pub fn skip_value(
+    number: FieldNumber,
+    wire_type: WireType,
+    bytes: &[u8],
+    depth: u32,
+) -> Result<&[u8], DecodeError>
+    ensures ok { IfOk result (λ rest. SkipsValue number.value wire_type depth bytes.now rest.now) }
+    ensures only { (p : Payload) (rest : List ℕ) → ValueFront number.value wire_type depth p bytes.now rest →
+        IsOkAnd result (λ x. x.now ≡ rest) }
+    ensures fault { IfErr result (λ e. ValueFault e number.value wire_type depth bytes.now) }
+{
+    pass_value(number, wire_type, bytes, depth)
+}
+
+/// The same by wire types.
+#[cycle(skipping)]
+fn pass_value(
     number: FieldNumber,
     wire_type: WireType,
     bytes: &[u8],
@@ -38,7 +55,7 @@ pub fn skip_value(
             let (_, rest) = delimited_at(bytes)?;
             Ok(rest)
         }
-        WireType::StartGroup => skip_group(number, bytes, depth),
+        WireType::StartGroup => pass_group(number, bytes, depth),
         WireType::EndGroup => Err(DecodeError::EndGroup),
         WireType::ThirtyTwoBit => {
             let (_, rest) = fixed32_at(bytes)?;
@@ -49,7 +66,7 @@ pub fn skip_value(
 
 /// Gives what follows the records of a group and its end key.
 #[cycle(skipping)]
-fn skip_group(number: FieldNumber, bytes: &[u8], depth: u32) -> Result<&[u8], DecodeError>
+fn pass_group(number: FieldNumber, bytes: &[u8], depth: u32) -> Result<&[u8], DecodeError>
     ensures ok { IfOk result (λ rest. SkipsGroup number.value depth bytes.now rest.now) }
     ensures fault { IfErr result (λ e. ValueFault e number.value wires.StartGroup depth bytes.now) }
 {
@@ -64,6 +81,6 @@ fn skip_group(number: FieldNumber, bytes: &[u8], depth: u32) -> Result<&[u8], De
             WireType::EndGroup => return Err(DecodeError::EndGroup),
             _ => {}
         }
-        rest = skip_value(key, wire_type, after, depth - 1)?;
+        rest = pass_value(key, wire_type, after, depth - 1)?;
     }
 }

@@ -8,4 +8,4 @@ pub returns-in-Some-clause-only : goal.returns-in-Some-clause-only
 returns-in-Some-clause-only c = λ value rest f. rw c.from.ensures (varint_once _ value _ _ rest (one_byte _ _ _ c.in-Some.ensures.cases.0 c.if-byte-lt128.true) f)
 
 pub returns-in_default-clause-only : goal.returns-in_default-clause-only
-returns-in_default-clause-only c = varint_only c.decode_digits.result c.args.bytes.now c.decode_digits.ensures.ok c.decode_digits.ensures.fault
+returns-in_default-clause-only c = varint_only c.decode_steps.result c.args.bytes.now c.decode_steps.ensures.ok c.decode_steps.ensures.fault

@@ -7,8 +7,8 @@ use Rattle.prost_reflect_wire.proofs.unknown.reading.+reading.Given as goal
 abbrev pub decreases-group_at : goal.decreases-group_at
 decreases-group_at l = 2 * l.depth
 
-abbrev pub decreases-value_at : goal.decreases-value_at
-decreases-value_at l = 2 * l.depth + 1
+abbrev pub decreases-read_value : goal.decreases-read_value
+decreases-read_value l = 2 * l.depth + 1
 
 -- the records so far are a front of the bytes
 abbrev pub invariant-group_at-loop-fields : goal.invariant-group_at-loop-fields
