@@ -22,4 +22,5 @@ pub mod Scalars
 pub mod Covered
 pub mod Builtin
 pub mod BuiltinRows
+pub mod Samples
 pub mod Encoding

@@ -21,6 +21,8 @@ mod copy;
 mod decode;
 mod encode;
 mod equality;
+#[cfg(test)]
+mod equality_tests;
 mod scalar;
 #[cfg(test)]
 mod tests;
