@@ -20,3 +20,6 @@ pub mod WrittenValues
 pub mod Encodings
 pub mod Keys
 pub mod Copied
+pub mod EqualDescriptors
+pub mod StoredViews
+pub mod StoredContents

@@ -15,11 +15,12 @@ pub mod ContentLaws
 pub mod Copies
 pub mod Variants
 pub mod Lent
+pub mod Stored
 pub mod Same
-pub mod SameLaws
 pub mod formers
 pub mod Scalars
 pub mod Covered
 pub mod Builtin
 pub mod BuiltinRows
+pub mod Samples
 pub mod Encoding

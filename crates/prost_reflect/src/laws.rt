@@ -1,11 +1,20 @@
 //! What is proved of the views of messages: each function has no body, and its contract is a law.
 
 ghost use Rattle.prost_reflect.specs.ContentLaws.{ValueViews, MessageSlots, MessageOrder, SlotsAfterSet, SlotsAfterClear, SlotsAfterUnknown, SlotsDetermine, MapInsert};
-ghost use Rattle.std.specs.Prelude.{◌≡◌};
+ghost use Rattle.std.specs.Prelude.{◌≡◌, ◌↔◌, IsTrue};
 ghost use Rattle.prost_reflect_wire.specs.Scalar.{scalar_cmp, scalar_eq};
+ghost use Rattle.prost_reflect.specs.Pools.{pool_rows};
+ghost use Rattle.prost_reflect.specs.Descriptors.{SameMessage};
+ghost use Rattle.prost_reflect.specs.Enums.{SameEnum};
+ghost use Rattle.prost_reflect.specs.Fields.{SameField};
 ghost use Rattle.prost_reflect.specs.View.{key_of};
+ghost use Rattle.prost_reflect.specs.declared.descriptor.pool.DescriptorPool.{DescriptorPool};
+ghost use Rattle.prost_reflect.specs.declared.descriptor.message.MessageDescriptor.{MessageDescriptor};
+ghost use Rattle.prost_reflect.specs.declared.descriptor.enums.EnumDescriptor.{EnumDescriptor};
+ghost use Rattle.prost_reflect.specs.declared.descriptor.field.FieldDescriptor.{FieldDescriptor};
 ghost use Rattle.prost_reflect.specs.declared.value.MapKey.{MapKey};
 
+use crate::descriptor::{DescriptorPool, EnumDescriptor, FieldDescriptor, MessageDescriptor};
 use crate::value::MapKey;
 
 /// What each variant of a value is in the definitions.
@@ -52,4 +61,16 @@ pub fn key_order()
 /// An entry put into a map is put among its pairs.
 pub fn map_insert()
     ensures { MapInsert }
+{}
+
+/// Pools are equal by `==` exactly where their tables show the same.
+pub fn pool_equality()
+    ensures { (a : DescriptorPool) (b : DescriptorPool) → IsTrue (⟦<DescriptorPool as PartialEq>⟧.eq a b) ↔ (pool_rows a ≡ pool_rows b) }
+{}
+
+/// Descriptors are equal by `==` exactly where their pools show the same and their places are one.
+pub fn descriptor_equality()
+    ensures message { (a : MessageDescriptor) (b : MessageDescriptor) → IsTrue (⟦<MessageDescriptor as PartialEq>⟧.eq a b) ↔ SameMessage b a }
+    ensures an_enum { (a : EnumDescriptor) (b : EnumDescriptor) → IsTrue (⟦<EnumDescriptor as PartialEq>⟧.eq a b) ↔ SameEnum b a }
+    ensures field { (a : FieldDescriptor) (b : FieldDescriptor) → IsTrue (⟦<FieldDescriptor as PartialEq>⟧.eq a b) ↔ SameField b a }
 {}

@@ -20,6 +20,9 @@ ghost use Rattle.prost_reflect.specs.Contents.{value_set, value_cleared, unknown
 mod copy;
 mod decode;
 mod encode;
+mod equality;
+#[cfg(test)]
+mod equality_tests;
 mod scalar;
 #[cfg(test)]
 mod tests;
@@ -33,7 +36,7 @@ use std::alloc::{AllocError, Global};
 
 /// A message of a type that is known only at run time: the values of its fields and extensions, and its unknown fields.
 #[cycle(value)]
-#[derive(Debug, PartialEq, Drop)]
+#[derive(Debug, Drop)]
 pub struct DynamicMessage {
     slots: Slots<Value>,
 }

@@ -46,7 +46,7 @@ impl Clone for MapKey {
 
 /// The value of a field or an extension, or of an element of one (the language guide, "Scalar Value Types").
 #[cycle(value)]
-#[derive(Debug, PartialEq, Drop)]
+#[derive(Debug, Drop)]
 pub enum Value {
     /// Of a bool field.
     Bool(bool),

@@ -3,3 +3,4 @@ mod Positions
 pub mod Keeping
 pub mod Fields
 mod Worked
+pub mod Equal

@@ -3,4 +3,5 @@ pub mod Places
 pub mod Shown
 pub mod Linked
 pub mod Schema
+pub mod Equality
 pub mod Examples

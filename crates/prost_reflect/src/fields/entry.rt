@@ -104,21 +104,3 @@ impl<V: Drop> Entry<V> {
         Ok(())
     }
 }
-
-impl<V: PartialEq> PartialEq for Entry<V> {
-    ghost use Rattle.prost_reflect.specs.Same.{same_entry};
-    ghost use Rattle.prost_reflect.specs.SameLaws.{entry_per};
-
-    ghost eq = { same_entry V.eq };
-
-    ghost laws = { entry_per V.laws };
-
-    fn eq(&self, other: &Entry<V>) -> bool {
-        match (self, other) {
-            (Entry::Value(v), Entry::Value(w)) => v == w,
-            (Entry::Unknown(u), Entry::Unknown(t)) => u == t,
-            (Entry::Both(v, u), Entry::Both(w, t)) => v == w && u == t,
-            _ => false,
-        }
-    }
-}

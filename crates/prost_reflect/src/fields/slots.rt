@@ -252,16 +252,3 @@ fn clear_members<V: Drop>(
         }
     }
 }
-
-impl<V: PartialEq> PartialEq for Slots<V> {
-    ghost use Rattle.prost_reflect.specs.Same.{same_slots};
-    ghost use Rattle.prost_reflect.specs.SameLaws.{slots_per};
-
-    ghost eq = { same_slots V.eq };
-
-    ghost laws = { slots_per V.laws };
-
-    fn eq(&self, other: &Slots<V>) -> bool {
-        self.descriptor == other.descriptor && self.fields == other.fields
-    }
-}

@@ -188,18 +188,3 @@ impl<T: Drop> NumberMap<T> for Sorted<T> {
         self.last_below(number)
     }
 }
-
-impl<T: PartialEq> PartialEq for Sorted<T> {
-    ghost use Rattle.std.specs.Prelude.{◌&&◌, ◌==◌};
-    ghost use Rattle.std.specs.Cmp.Lexicographic.{pointwise};
-    ghost use Rattle.std.specs.Cmp.{and_per, on_per, partial_equiv_from_equiv, nat_eq_equiv};
-    ghost use Rattle.std.specs.Cmp.Lexicographic.{lists_per};
-
-    ghost eq = { pointwise (λ p q. (p.0 == q.0) && T.eq p.1 q.1) };
-
-    ghost laws = { lists_per (and_per (on_per (λ p. p.0) (partial_equiv_from_equiv nat_eq_equiv)) (on_per (λ p. p.1) T.laws)) };
-
-    fn eq(&self, other: &Sorted<T>) -> bool {
-        self.items == other.items
-    }
-}

@@ -1,5 +1,5 @@
 -- `Slots` as a type that may hold the type that holds it.
-use Rattle.std.specs.Prelude.{◌≡◌, ℕ, Bool, true, false, ◌&&◌, ◌==◌, List, [], ◌∷◌, map, cond, is_some, Option, None, Some, option_map, option_and_then}
+use Rattle.std.specs.Prelude.{◌≡◌, ℕ, Bool, true, false, List, [], ◌∷◌, map, cond, is_some, Option, None, Some, option_map, option_and_then}
 use mathlib.Core.Path.{refl, sym, ap, ◌∙◌}
 use mathlib.Core.Bool.{Bool-set}
 use mathlib.Core.Former.{Former, this, const, pair, or, via}
@@ -23,10 +23,6 @@ use Rattle.prost_reflect.specs.declared.fields.entry.Entry.TheVariants.{Value, U
 use Rattle.prost_reflect.specs.Codes.{split, join, join-split, split-join, entry_code}
 use Rattle.prost_reflect.specs.contracts.fields.entry.Entry as E
 use Rattle.prost_reflect_wire.specs.contracts.unknown.UnknownFieldSet as unknown
-use Rattle.std.specs.declared.cmp.PartialEq as eq
-use Rattle.std.specs.Cmp.Lexicographic.{pointwise}
-use Rattle.std.specs.Cmp.Derive.Mapped.{pointwise-map}
-use Rattle.prost_reflect.specs.Same.{same_descriptor, same_entry, same_item, same_slots}
 use Rattle.prost_reflect.specs.formers.fields.sorted.Sorted as sorted
 use Rattle.prost_reflect.specs.declared.fields.slots.Slots.TheInside.{Inside}
 use Rattle.prost_reflect.specs.declared.fields.slots.Slots.TheView.{view, invariant}
@@ -135,25 +131,3 @@ module _ (R S : RattleType) (h : R.Denot → S.Denot) where
 
   pub the_codes_placed : Recodes R S h → Recodes (C.the_row R) (C.the_row S) ((the_former this).map R.Denot S.Denot h)
   the_codes_placed e d = behind (sym (code_map {A = ℕ × Entry R.Denot} {B = ℕ × Entry S.Denot} (item_code R) (item_code S) (over_item h) (λ p. ap (gcons (gnum p.0)) (entry_recoded e p.1)) d.1))
-
-module _ (X Y : Type 0) (h : X → Y) (G : eq.Ghosts Y) where
-  abbrev along : X → X → Bool
-  along x y = G.eq (h x) (h y)
-
-  same_entry_over : (a b : Entry X) → same_entry G.eq (over_entry h a) (over_entry h b) ≡ same_entry along a b
-  same_entry_over (Value v) (Value w) = refl
-  same_entry_over (Value v) (Unknown u) = refl
-  same_entry_over (Value v) (Both w u) = refl
-  same_entry_over (Unknown u) (Value v) = refl
-  same_entry_over (Unknown u) (Unknown t) = refl
-  same_entry_over (Unknown u) (Both w t) = refl
-  same_entry_over (Both v u) (Value w) = refl
-  same_entry_over (Both v u) (Unknown t) = refl
-  same_entry_over (Both v u) (Both w t) = refl
-
-  same_items_over : (es ds : List (ℕ × Entry X)) → pointwise (same_item G.eq) (map (over_item h) es) (map (over_item h) ds) ≡ pointwise (same_item along) es ds
-  same_items_over es ds = pointwise-map (over_item h) (same_item G.eq) es ds ∙ λ i. pointwise (λ p q. (p.0 == q.0) && same_entry_over p.1 q.1 i) es ds
-
-  pub the_eq_natural : (a b : MessageDescriptor × List (ℕ × Entry X))
-      → same_slots G.eq ((the_former this).map X Y h a) ((the_former this).map X Y h b) ≡ same_slots along a b
-  the_eq_natural a b = λ i. same_descriptor a.0 b.0 && same_items_over a.1 b.1 i

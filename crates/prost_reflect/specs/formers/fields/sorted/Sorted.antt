@@ -1,5 +1,5 @@
 -- `Sorted` as a type that may hold the type that holds it.
-use Rattle.std.specs.Prelude.{◌≡◌, ℕ, List, [], ◌∷◌, map, ◌&&◌, ◌==◌}
+use Rattle.std.specs.Prelude.{◌≡◌, ℕ, List, [], ◌∷◌, map}
 use mathlib.Core.Path.{refl, sym, ap, subst}
 use mathlib.Core.Former.{Former, this, const, pair, list, via}
 use base.Stored.{gcons, gnum, code_map, Gv}
@@ -18,9 +18,6 @@ use Rattle.std.specs.Map.{keys_of}
 use Rattle.std.specs.Ordering.{nat_cmp}
 use Rattle.std.specs.Borrow.{u32}
 use Rattle.std.specs.List.Sorted.{IsStrictlySortedBy, IsStrictlySortedBy-prop}
-use Rattle.std.specs.declared.cmp.PartialEq as eq
-use Rattle.std.specs.Cmp.Lexicographic.{pointwise}
-use Rattle.std.specs.Cmp.Derive.Mapped.{pointwise-map}
 use Rattle.prost_reflect.specs.declared.fields.sorted.Sorted.TheInside.{Inside}
 use Rattle.prost_reflect.specs.declared.fields.sorted.Sorted.TheView.{view, invariant}
 use Rattle.prost_reflect.specs.contracts.fields.sorted.Sorted as C
@@ -65,11 +62,3 @@ module _ (R S : RattleType) (h : R.Denot → S.Denot) where
 
   pub the_codes_placed : Recodes R S h → Recodes (C.the_row R) (C.the_row S) ((the_former this).map R.Denot S.Denot h)
   the_codes_placed e d = sym (code_map {A = ℕ × R.Denot} {B = ℕ × S.Denot} (item_code R) (item_code S) over_item (λ p. ap (gcons (gnum p.0)) (sym (e p.1))) d)
-
-module _ (X Y : Type 0) (h : X → Y) where
-  abbrev over_pair : ℕ × X → ℕ × Y
-  over_pair p = (p.0, h p.1)
-
-  pub the_eq_natural : (G : eq.Ghosts Y) (a b : List (ℕ × X))
-      → pointwise (λ p q. (p.0 == q.0) && G.eq p.1 q.1) (map over_pair a) (map over_pair b) ≡ pointwise (λ p q. (p.0 == q.0) && G.eq (h p.1) (h q.1)) a b
-  the_eq_natural G a b = pointwise-map over_pair (λ p q. (p.0 == q.0) && G.eq p.1 q.1) a b

@@ -1,0 +1,55 @@
+use Rattle.std.proofs.Common.{sym, ap₂, ◌∙◌}
+use Rattle.prost_reflect.specs.Stored.{value_stored, stored_entries}
+use Rattle.prost_reflect.specs.Same.{same_entries}
+use Rattle.prost_reflect.proofs.StoredViews.{texts_equal, bytes_equal, lists_equal, maps_equal, same_type, types_equal, types_differ, types_same, numbers_differ, entry_alone, keys_differ, values_differ, pair_passed, turned_true, turned_false}
+use Rattle.prost_reflect.proofs.message.equality.+equality.Goals as goal
+use Rattle.prost_reflect.proofs.message.equality.+equality.Goals.{are_equal_maps-then-ne-via-then-ne, are_equal_maps-then-ne-via-else-ne+then-not-are_equal_values}
+
+pub are_equal_values-returns-in-String-String : goal.are_equal_values-returns-in-String-String
+are_equal_values-returns-in-String-String t c = texts_equal c.args.a.now c.args.b.now c.in-String-String.a c.in-String-String.b c.eq.result c.in-String-String.is-0 c.in-String-String.is-1 c.eq.ensures
+
+pub are_equal_values-returns-in-Bytes-Bytes : goal.are_equal_values-returns-in-Bytes-Bytes
+are_equal_values-returns-in-Bytes-Bytes t c = bytes_equal c.args.a.now c.args.b.now c.in-Bytes-Bytes.a c.in-Bytes-Bytes.b c.eq-in-Bytes-Bytes.result c.in-Bytes-Bytes.is-0 c.in-Bytes-Bytes.is-1 c.eq-in-Bytes-Bytes.ensures
+
+pub are_equal_values-returns-in-List-List : goal.are_equal_values-returns-in-List-List
+are_equal_values-returns-in-List-List t c = lists_equal c.args.a.now c.args.b.now c.in-List-List.a c.in-List-List.b c.are_equal_lists.result c.in-List-List.is-0 c.in-List-List.is-1 c.are_equal_lists.ensures
+
+pub are_equal_values-returns-in-Map-Map : goal.are_equal_values-returns-in-Map-Map
+are_equal_values-returns-in-Map-Map t c = maps_equal c.args.a.now c.args.b.now c.in-Map-Map.a c.in-Map-Map.b c.are_equal_maps.result c.in-Map-Map.is-0 c.in-Map-Map.is-1 c.are_equal_maps.ensures
+
+pub are_equal_maps-returns-then-ne : goal.are_equal_maps-returns-then-ne
+are_equal_maps-returns-then-ne t c =
+    let mine = c.in-Some in let others = c.in-Some-next in
+    elim c.then-ne.branch [
+      | are_equal_maps-then-ne-via-then-ne w ↦
+          keys_differ mine.key.now others.other_key.now mine.value.now others.other.now _ _ _ _ _ mine.ensures.steps others.ensures.steps (turned_true c.ne.result _ c.ne.ensures w.if-ne.true) c.loop-key.invariant
+      | are_equal_maps-then-ne-via-else-ne+then-not-are_equal_values w ↦
+          values_differ mine.key.now others.other_key.now mine.value.now others.other.now _ _ _ _ _ mine.ensures.steps others.ensures.steps (turned_false c.ne.result _ c.ne.ensures w.if-ne.false) (sym w.are_equal_values.ensures ∙ w.if-not-are_equal_values.true) c.loop-key.invariant
+    ]
+
+pub are_equal_maps-loop-key-preserved : goal.are_equal_maps-loop-key-preserved
+are_equal_maps-loop-key-preserved t c =
+    let mine = c.in-Some in let others = c.in-Some-next in
+    pair_passed mine.key.now others.other_key.now mine.value.now others.other.now _ _ _ _ _ mine.ensures.steps others.ensures.steps (turned_false c.ne.result _ c.ne.ensures c.if-ne.false) (sym c.are_equal_values.ensures ∙ c.if-not-are_equal_values.false) c.loop-key.invariant
+
+pub are_equal_messages-returns-then-ne : goal.are_equal_messages-returns-then-ne
+are_equal_messages-returns-then-ne t c =
+    let types = sym (types_equal c.descriptor.result.now c.descriptor-2.result.now) ∙ turned_true c.ne.result _ c.ne.ensures c.if-ne.true in
+    types_differ c.args.a.now c.args.b.now (sym (ap₂ same_type c.descriptor.ensures c.descriptor-2.ensures) ∙ types)
+
+pub are_equal_messages-loop-number-init : goal.are_equal_messages-loop-number-init
+are_equal_messages-loop-number-init t c =
+    let types = sym (types_equal c.descriptor.result.now c.descriptor-2.result.now) ∙ turned_false c.ne.result _ c.ne.ensures c.if-ne.false in (
+      tt,
+      tt,
+      ap₂ (λ es ds. same_entries (stored_entries value_stored es) (stored_entries value_stored ds)) c.entries-number-items.ensures.entries (c.iter-others.ensures.rest ∙ c.entries.ensures.entries)
+          ∙ types_same c.args.a.now c.args.b.now (sym (ap₂ same_type c.descriptor.ensures c.descriptor-2.ensures) ∙ types),
+    )
+
+pub are_equal_messages-returns-in_default : goal.are_equal_messages-returns-in_default
+are_equal_messages-returns-in_default t c =
+    entry_alone c.entries-number-items.result.now _ c.loop-number.number-index c.loop-number-item.result _ c.loop-number-test.true c.loop-number-item.is c.in_default.ensures.steps.0 c.loop-number.invariant.2
+
+pub are_equal_messages-returns-then-number-other_number : goal.are_equal_messages-returns-then-number-other_number
+are_equal_messages-returns-then-number-other_number t c =
+    numbers_differ c.entries-number-items.result.now _ _ c.loop-number.number-index c.loop-number-item.result c.in-Some.field-0.now _ c.loop-number-test.true c.loop-number-item.is c.in-Some.ensures.steps c.if-number-other_number.true c.loop-number.invariant.2

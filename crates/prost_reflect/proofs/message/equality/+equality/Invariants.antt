@@ -1,0 +1,21 @@
+use Rattle.std.proofs.Common.{◌≡◌, drop}
+use Rattle.std.specs.Slice.Iter.{iter_rest}
+use Rattle.prost_reflect.specs.Stored.{stored_items, stored_pairs, stored_entries, value_stored}
+use Rattle.prost_reflect.specs.Same.{same_items, same_pairs, same_entries, equal_messages}
+use Rattle.prost_reflect.proofs.message.equality.+equality.Given as goal
+
+-- the lists, the maps, the messages are equal exactly if what is left of them is
+abbrev pub invariant-are_equal_lists-loop-value : goal.invariant-are_equal_lists-loop-value
+invariant-are_equal_lists-loop-value l =
+    (goal.iterator-are_equal_lists-loop-value).can_next l.others ×
+    (goal.iterator-are_equal_lists-loop-value).is_finite l.others ×
+    (same_items (stored_items value_stored (drop l.value-index l.value-items)) (stored_items value_stored (iter_rest l.others)) ≡ same_items (stored_items value_stored l.a.items) (stored_items value_stored l.b.items))
+
+abbrev pub invariant-are_equal_maps-loop-key : goal.invariant-are_equal_maps-loop-key
+invariant-are_equal_maps-loop-key l = same_pairs (stored_pairs value_stored l.key-iterator) (stored_pairs value_stored l.others) ≡ same_pairs (stored_pairs value_stored l.a.entries) (stored_pairs value_stored l.b.entries)
+
+abbrev pub invariant-are_equal_messages-loop-number : goal.invariant-are_equal_messages-loop-number
+invariant-are_equal_messages-loop-number l =
+    (goal.iterator-are_equal_messages-loop-number).can_next l.others ×
+    (goal.iterator-are_equal_messages-loop-number).is_finite l.others ×
+    (same_entries (stored_entries value_stored (drop l.number-index l.number-items)) (stored_entries value_stored (iter_rest l.others)) ≡ equal_messages l.a l.b)
