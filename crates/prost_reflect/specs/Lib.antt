@@ -25,4 +25,5 @@ pub mod Scalars
 pub mod Covered
 pub mod Builtin
 pub mod BuiltinRows
+pub mod Choices
 pub mod Encoding
