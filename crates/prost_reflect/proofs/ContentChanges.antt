@@ -2,7 +2,7 @@
 use Rattle.std.proofs.Common.{◌≡◌, ℕ, Bool, true, false, cond, nat_eq, Option, Some, None, refl, ap, sym, ◌∙◌, subst, arith}
 use Rattle.std.specs.Option.{option_map}
 use Rattle.prost_reflect_wire.specs.Schema.{Schema, Field, known, is_sibling}
-use Rattle.prost_reflect_wire.specs.Content.{ContentOf, Entries, Slot, slot_at, changed, insert_number, numbers_in, entries_of, schema_of, type_of, entries_ordered, value_ordered}
+use Rattle.prost_reflect_wire.specs.Content.{ContentOf, Entries, Slot, slot_at, table, changed, insert_number, numbers_in, entries_of, schema_of, type_of, entries_ordered, value_ordered}
 use Rattle.prost_reflect_wire.specs.Edit.{with_value, with_field_value}
 use Rattle.prost_reflect_wire.proofs.Numbers.{is_in, Covers, empty_slot, insert_ascending, entries_ascending, in_insert, slot_outside, slot_table}
 use Rattle.prost_reflect_wire.proofs.Survivors.{or_false, field_number}
@@ -12,9 +12,10 @@ use Rattle.prost_reflect.specs.Descriptors.{schema_at, type_at}
 use Rattle.prost_reflect.specs.Entries.{value_at}
 use Rattle.prost_reflect.specs.View.{value_of, entries_from}
 use Rattle.prost_reflect.specs.Contents.{with_unknown}
+use Rattle.prost_reflect.specs.KeptLaws.{MessageArranged}
 use Rattle.prost_reflect.specs.ContentLaws.{MessageSlots, MessageOrder, SlotsAfterSet, SlotsAfterClear, SlotsAfterUnknown, SlotsDetermine}
 use Rattle.prost_reflect.proofs.Views.{shown, content_of_message}
-use Rattle.prost_reflect.proofs.Slots.{same_slots_same, from_keys}
+use Rattle.prost_reflect.proofs.Slots.{same_slots_same, from_keys, from_slots}
 use Rattle.prost_reflect.proofs.Stored.{ascending_shown, slot_stored, slot_of_message}
 
 -- the slots of entries that were changed
@@ -75,3 +76,10 @@ message_order m s values =
 
     there : (n : ℕ) → OrderedOption (slot_at (entries_from (shown m.slots.1)) n).value
     there n = subst (λ (slot : Slot). OrderedOption slot.value) (sym (slot_stored m.slots.1 n s)) (of (value_at m.slots.1 n) (values n))
+
+pub message_arranged : MessageArranged
+message_arranged m s =
+    ap (λ c. table (slot_at (entries_of c)) (numbers_in (entries_of c))) (content_of_message m)
+    ∙ sym (from_slots (shown m.slots.1) (slot_at (entries_from (shown m.slots.1))) (numbers_in (entries_from (shown m.slots.1))) (ascending_shown m.slots.1 s) (entries_ascending (entries_from (shown m.slots.1)))
+    (λ k low out. slot_outside (entries_from (shown m.slots.1)) k out) (λ k. refl))
+    ∙ sym (ap entries_of (content_of_message m))

@@ -1,5 +1,5 @@
 -- Keys compare as the scalars that they are.
-use Rattle.std.proofs.Common.{◌≡◌, Bool, cond, List, [], ◌∷◌, ◌++◌, refl, ap, sym, ◌∙◌}
+use Rattle.std.proofs.Common.{◌≡◌, Bool, true, cond, List, [], ◌∷◌, ◌++◌, refl, ap, sym, ◌∙◌}
 use Rattle.std.specs.declared.cmp.Ordering.{Ordering}
 use Rattle.std.specs.declared.cmp.Ordering.TheVariants.{Less, Equal, Greater}
 use Rattle.prost_reflect_wire.specs.Scalar.{Scalar, scalar_cmp, scalar_eq, is_less}
@@ -8,6 +8,9 @@ use Rattle.prost_reflect.specs.declared.value.MapKey.{MapKey}
 use Rattle.prost_reflect.specs.declared.value.MapKey.TheVariants as keys
 use Rattle.prost_reflect.specs.contracts.value.MapKeyOrd.TheImpl.Laws as ord_laws
 use Rattle.prost_reflect.specs.contracts.value.MapKeyPartialEq.TheImpl as key_eq
+use Rattle.prost_reflect.specs.contracts.value.MapKeyHash.TheImpl as key_hash
+use Rattle.std.specs.Hash.{HashWrites}
+use Rattle.prost_reflect.specs.Keys.{key_writes}
 use Rattle.std.specs.Ordering.{is_eq, match_ordering}
 use Rattle.std.specs.BTreeMap.{insert_entry}
 use Rattle.std.specs.List.Sorted.{IsStrictlySortedBy}
@@ -60,8 +63,24 @@ keys_compared (keys.String t) (keys.String t2) = refl
 abbrev eq_key : MapKey → MapKey → Bool
 eq_key = (key_eq.ghosts).eq
 
+abbrev hash_key : MapKey → HashWrites
+hash_key = (key_hash.ghosts).hash_input
+
 pub keys_equal : (a b : MapKey) → eq_key a b ≡ scalar_eq (key_of a) (key_of b)
 keys_equal a b = ord_laws.matches_eq-law a b ∙ ap is_eq (keys_compared a b)
+
+-- HASHING
+
+pub keys_hashed : (a : MapKey) → hash_key a ≡ key_writes (key_of a)
+keys_hashed (keys.Bool b) = refl
+keys_hashed (keys.I32 z) = refl
+keys_hashed (keys.I64 z) = refl
+keys_hashed (keys.U32 n) = refl
+keys_hashed (keys.U64 n) = refl
+keys_hashed (keys.String t) = refl
+
+pub keys_alike : (a b : MapKey) → scalar_eq (key_of a) (key_of b) ≡ true → hash_key a ≡ hash_key b
+keys_alike a b h = keys_hashed a ∙ ap key_writes (scalars_equal (key_of a) (key_of b) h) ∙ sym (keys_hashed b)
 
 -- MAPS
 

@@ -14,6 +14,7 @@ pub mod Slots
 pub mod Stored
 pub mod Merging
 pub mod ContentChanges
+mod KeptSlots
 pub mod Described
 pub mod Zeros
 pub mod WrittenValues

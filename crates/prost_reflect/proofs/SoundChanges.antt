@@ -9,7 +9,7 @@ use Rattle.prost_reflect_wire.proofs.Deeper.{and_both, both_true, all_append}
 use Rattle.prost_reflect.specs.declared.fields.entry.Entry.{Entry}
 use Rattle.prost_reflect.specs.Items.{IsAscending, item_at, with_item}
 use Rattle.prost_reflect.specs.Known.{is_known, are_siblings, keeps_unknown, are_records_of}
-use Rattle.prost_reflect.specs.Entries.{value_in, records_in, value_at, records_at, has_value, revalued, put_value, without_values, with_value, SameStored, UnknownAdded}
+use Rattle.prost_reflect.specs.Entries.{value_in, records_in, value_at, records_at, has_value, revalued, put_value, without_values, with_value, with_entry, SameStored, UnknownAdded}
 use Rattle.prost_reflect.specs.Sound.{Sound, unknown_kept, set_value_at, prepared}
 use Rattle.prost_reflect.proofs.ItemChanges.{at_each, apart_of, with_same, with_apart}
 use Rattle.prost_reflect.proofs.EntryChanges.{value_without, records_without, ascending_put, value_put, value_put_apart, records_put, same_values, same_records, value_kept, records_kept, ascending_without_values, ascending_with_value, value_written, value_written_apart, records_written}
@@ -87,6 +87,13 @@ module _ {V : Type 0} where
   pub sound_same : (fields : List Field) (es : List (ℕ × Entry V)) (n : ℕ) (e : Entry V) → Some e ≡ item_at es n → Sound fields es → Sound fields (with_item es n e)
   sound_same fields es n e h s = subst (Sound fields) (sym (set_value_same (is_at (nat_cmp n)) es e (sym h))) s
 
+  pub sound_written : (fields : List Field) (es : List (ℕ × Entry V)) (n : ℕ) (w : V) → Sound fields es → Sound fields (with_value es n w)
+  sound_written fields es n w sound = cases (item_at es n) refl
+    where
+      cases : (o : Option (Entry V)) → item_at es n ≡ o → Sound fields (with_entry es n w o)
+      cases None at = sound
+      cases (Some e) at = sound_revalued fields es n e w (sym at) sound
+
   -- SETTING
 
   pub value_set_at : (fields : List Field) (es : List (ℕ × Entry V)) (n : ℕ) (v : V) (k : ℕ) → IsAscending es
@@ -140,6 +147,13 @@ module _ {V : Type 0} where
           cleared (are_siblings fields n k) (value_at es k) (sound.2 m k (not_cleared (are_siblings fields n m) (value_at es m) h).1 siblings)
 
   -- WRITING ACCESS
+
+  pub sound_prepared : (fields : List Field) (es : List (ℕ × Entry V)) (n : ℕ) (v : V) → IsAscending es → numbers_differ fields ≡ true → is_known fields n ≡ true → Sound fields es → Sound fields (prepared fields es n v)
+  sound_prepared fields es n v s differ known sound = cases (has_value es n)
+    where
+      cases : (b : Bool) → Sound fields (cond b es (set_value_at fields es n v))
+      cases true = sound
+      cases false = sound_set fields es n v s differ known sound
 
   -- a value that was there is written over as it is set, since no sibling has one
   over_value : (fields : List Field) (es : List (ℕ × Entry V)) (n : ℕ) (w : V) (k : ℕ) → Sound fields es → has_value es n ≡ true → value_at (with_value es n w) k ≡ cond (nat_eq k n) (Some w) (cond (are_siblings fields n k) None (value_at es k))

@@ -8,10 +8,13 @@ pub mod Entries
 pub mod Known
 pub mod Sound
 pub mod Members
+pub mod Lending
 pub mod Codes
 pub mod View
+pub mod Keys
 pub mod Contents
 pub mod ContentLaws
+pub mod KeptLaws
 pub mod Copies
 pub mod Variants
 pub mod Lent
@@ -23,4 +26,5 @@ pub mod Covered
 pub mod Builtin
 pub mod BuiltinRows
 pub mod Samples
+pub mod Choices
 pub mod Encoding

@@ -1,7 +1,8 @@
 //! What is proved of the views of messages: each function has no body, and its contract is a law.
 
 ghost use Rattle.prost_reflect.specs.ContentLaws.{ValueViews, MessageSlots, MessageOrder, SlotsAfterSet, SlotsAfterClear, SlotsAfterUnknown, SlotsDetermine, MapInsert};
-ghost use Rattle.std.specs.Prelude.{◌≡◌, ◌↔◌, IsTrue};
+ghost use Rattle.prost_reflect.specs.KeptLaws.{MessageArranged, KeptAfterSet, KeptAfterClear, KeptAfterUnknown, KeptAfterClearAll, KeptAfterWriting};
+ghost use Rattle.std.specs.Prelude.{◌≡◌, ◌↔◌, IsTrue, true};
 ghost use Rattle.prost_reflect_wire.specs.Scalar.{scalar_cmp, scalar_eq};
 ghost use Rattle.prost_reflect.specs.Pools.{pool_rows};
 ghost use Rattle.prost_reflect.specs.Descriptors.{SameMessage};
@@ -12,10 +13,12 @@ ghost use Rattle.prost_reflect.specs.declared.descriptor.pool.DescriptorPool.{De
 ghost use Rattle.prost_reflect.specs.declared.descriptor.message.MessageDescriptor.{MessageDescriptor};
 ghost use Rattle.prost_reflect.specs.declared.descriptor.enums.EnumDescriptor.{EnumDescriptor};
 ghost use Rattle.prost_reflect.specs.declared.descriptor.field.FieldDescriptor.{FieldDescriptor};
+ghost use Rattle.prost_reflect.specs.Keys.{key_writes};
 ghost use Rattle.prost_reflect.specs.declared.value.MapKey.{MapKey};
 
 use crate::descriptor::{DescriptorPool, EnumDescriptor, FieldDescriptor, MessageDescriptor};
 use crate::value::MapKey;
+use std::hash::Hash;
 
 /// What each variant of a value is in the definitions.
 pub fn value_views()
@@ -47,15 +50,47 @@ pub fn slots_after_unknown()
     ensures { SlotsAfterUnknown }
 {}
 
+/// The content of a message is arranged.
+pub fn message_arranged()
+    ensures { MessageArranged }
+{}
+
+/// What is kept after a set is the definitions' set of what was kept.
+pub fn kept_after_set()
+    ensures { KeptAfterSet }
+{}
+
+/// Likewise where a value is cleared or taken.
+pub fn kept_after_clear()
+    ensures { KeptAfterClear }
+{}
+
+/// Likewise where an unknown record is added.
+pub fn kept_after_unknown()
+    ensures { KeptAfterUnknown }
+{}
+
+/// Likewise where the whole message is cleared.
+pub fn kept_after_clear_all()
+    ensures { KeptAfterClearAll }
+{}
+
+/// Likewise where a value is lent for writing.
+pub fn kept_after_writing()
+    ensures { KeptAfterWriting }
+{}
+
 /// Equal slots at every number are equal contents.
 pub fn slots_determine()
     ensures { SlotsDetermine }
 {}
 
-/// Keys are ordered and equal as the scalars that they are.
+/// Keys are ordered and equal as the scalars that they are, and equal keys feed a hasher alike: the place of the variant, and then the value.
 pub fn key_order()
     ensures order { (a : MapKey) (b : MapKey) → ⟦<MapKey as Ord>⟧.cmp a b ≡ scalar_cmp (key_of a) (key_of b) }
     ensures equality { (a : MapKey) (b : MapKey) → ⟦<MapKey as PartialEq>⟧.eq a b ≡ scalar_eq (key_of a) (key_of b) }
+    ensures hash { (a : MapKey) → ⟦<MapKey as Hash>⟧.hash_input a ≡ key_writes (key_of a) }
+    ensures alike { (a : MapKey) (b : MapKey) → scalar_eq (key_of a) (key_of b) ≡ true → ⟦<MapKey as Hash>⟧.hash_input a ≡ ⟦<MapKey as Hash>⟧.hash_input b }
 {}
 
 /// An entry put into a map is put among its pairs.

@@ -1,6 +1,6 @@
 //! Maps from numbers.
 
-ghost use Rattle.std.specs.Prelude.{◌≡◌, ◌<◌, ◌^◌, ℕ, List, length, OnOk, OnErr, OnSome};
+ghost use Rattle.std.specs.Prelude.{◌≡◌, ◌<◌, ◌^◌, ℕ, List, length, OnOk, OnErr};
 ghost use Rattle.std.specs.Borrow.{LendsSo, sem};
 ghost use Rattle.std.specs.Option.{option_copied, option_copied_mut, option_map};
 ghost use Rattle.prost_reflect.specs.Items.{IsAscending, item_at, with_item, put_item, without_item, first_from, last_below};
@@ -23,7 +23,7 @@ pub trait NumberMap<T> {
 
     /// The item at the number, for writing.
     fn get_mut(&mut self, number: u32) -> Option<&mut T>
-        ensures* writes_back { sem 𝓛 (LendsSo Self.row T.row self.entry result (λ after w. OnSome result (entries after ≡ with_item (entries self.old) number w)) (λ after. entries after ≡ entries self.old)) }
+        ensures* writes_back { sem 𝓛 (LendsSo Self.row T.row self.entry result (λ after w. entries after ≡ with_item (entries self.old) number w) (λ after. entries after ≡ entries self.old)) }
         ensures value { option_copied_mut result ≡ item_at (entries self.old) number };
 
     /// Puts the item at the number, in place of one that is there. A refused growth changes nothing.

@@ -4,19 +4,18 @@ ghost use Rattle.std.specs.Prelude.{◌≡◌, [], true, OnOk, OnErr, IfOk, IsSo
 ghost use Rattle.std.specs.Borrow.{Lends, LendsIf, LendsIfOk, sem};
 ghost use Rattle.std.specs.Option.{option_copied, option_copied_mut};
 ghost use Rattle.prost_reflect_wire.specs.Unknown.{record_of};
-ghost use Rattle.prost_reflect_wire.specs.Schema.{same_oneof};
 ghost use Rattle.prost_reflect.specs.contracts.fields.slots.Slots.{the_row};
 ghost use Rattle.prost_reflect.specs.Items.{IsAscending};
-ghost use Rattle.prost_reflect.specs.Known.{known_of, is_known, oneof_of, are_siblings, keeps_unknown};
-ghost use Rattle.prost_reflect.specs.Entries.{value_at, unknown_at, clear_value, with_value, without_values, UnknownAdded, SameStored};
+ghost use Rattle.prost_reflect.specs.Known.{known_of, is_known, keeps_unknown};
+ghost use Rattle.prost_reflect.specs.Entries.{value_at, unknown_at, clear_value, with_value, UnknownAdded, SameStored};
 ghost use Rattle.prost_reflect.specs.Sound.{IsSound, set_value_at, prepared};
-ghost use Rattle.prost_reflect.specs.Members.{is_member};
 
 use crate::descriptor::MessageDescriptor;
 use crate::fields::entry::Entry;
 use crate::fields::sorted::Sorted;
-use crate::fields::stored::{add_unknown, put_value, take_value, unknown_at, value_at};
-use prost_reflect_tables::FieldTable;
+use crate::fields::stored::{
+    add_unknown, set_value, take_value, unknown_at, value_at, value_mut, value_mut_or,
+};
 use prost_reflect_wire::{UnknownField, UnknownFieldSet};
 use std::alloc::{AllocError, Global};
 use std::marker::Model;
@@ -88,17 +87,6 @@ impl<V> Slots<V> {
     {
         self.fields.as_slice()
     }
-
-    /// The value at the number, for writing.
-    pub fn get_mut(&mut self, number: u32) -> Option<&mut V>
-        ensures* writes_back { sem 𝓛 (LendsIf (the_row V.row) V.row self.entry result (λ w. (self.old.0, with_value self.old.1 number w)) self.old) }
-        ensures value { option_copied_mut result ≡ value_at self.old.1 number }
-    {
-        match self.fields.get_mut(number) {
-            Some(entry) => entry.value_mut(),
-            None => None,
-        }
-    }
 }
 
 impl<V: Drop> Slots<V> {
@@ -154,9 +142,7 @@ impl<V: Drop> Slots<V> {
         ensures ascending { IsAscending self.old.1 }
     {
         let alloc = self.fields.allocator();
-        put_value(&mut self.fields, alloc, number, value)?;
-        clear_siblings(&mut self.fields, alloc, &self.descriptor, number);
-        Ok(())
+        set_value(&mut self.fields, alloc, &self.descriptor, number, value)
     }
 
     /// Adds an unknown field behind those of its number, which is that of no field, or of one whose values are numbers of a closed enum.
@@ -173,15 +159,12 @@ impl<V: Drop> Slots<V> {
         add_unknown(&mut self.fields, alloc, number, field)
     }
 
-    fn stored_mut(&mut self, number: u32) -> &mut V
-        requires { IsSome (value_at self.old.1 number) }
-        ensures* writes_back { sem 𝓛 (Lends (the_row V.row) V.row self.entry result (λ w. (self.old.0, with_value self.old.1 number w))) }
-        ensures value { value_at self.old.1 number ≡ Some result.now }
+    /// The value at the number, for writing.
+    pub fn get_mut(&mut self, number: u32) -> Option<&mut V>
+        ensures* writes_back { sem 𝓛 (LendsIf (the_row V.row) V.row self.entry result (λ w. (self.old.0, with_value self.old.1 number w)) self.old) }
+        ensures value { option_copied_mut result ≡ value_at self.old.1 number }
     {
-        match self.get_mut(number) {
-            Some(value) => value,
-            None => unreachable!(),
-        }
+        value_mut(&mut self.fields, number)
     }
 
     /// The value at the number of a field or an extension, for writing. Where there is none it is first set to `default`.
@@ -193,62 +176,7 @@ impl<V: Drop> Slots<V> {
         ensures ascending { IsAscending self.old.1 }
         ensures sound { IsSound self.old.0 self.old.1 }
     {
-        if self.get(number).is_none() {
-            self.set(number, default)?;
-        }
-        Ok(self.stored_mut(number))
-    }
-}
-
-/// The oneof of the number's field.
-fn oneof_of(descriptor: &MessageDescriptor, number: u32) -> Option<usize>
-    ensures { result ≡ oneof_of (known_of descriptor.now) number }
-{
-    match descriptor.field_table(number) {
-        Some(field) => field.oneof,
-        None => None,
-    }
-}
-
-/// Removes the values of the other members of the oneof of the number's field.
-fn clear_siblings<V: Drop>(
-    fields: &mut Sorted<Entry<V>>,
-    alloc: Global,
-    descriptor: &MessageDescriptor,
-    number: u32,
-)
-    ensures cleared { fields.new ≡ without_values (are_siblings (known_of descriptor.now) number) fields.old }
-    ensures ascending { IsAscending fields.old }
-{
-    let oneof = oneof_of(descriptor, number);
-    clear_members(fields, alloc, descriptor.field_tables(), oneof, number);
-}
-
-/// Whether two fields are members of one oneof.
-fn is_same_oneof(left: Option<usize>, right: Option<usize>) -> bool
-    ensures { result ≡ same_oneof left right }
-{
-    match (left, right) {
-        (Some(left), Some(right)) => left == right,
-        _ => false,
-    }
-}
-
-/// Removes the values of the members of the oneof, but that of the number.
-fn clear_members<V: Drop>(
-    fields: &mut Sorted<Entry<V>>,
-    alloc: Global,
-    table: &[FieldTable],
-    oneof: Option<usize>,
-    number: u32,
-)
-    ensures cleared { fields.new ≡ without_values (is_member table.now oneof number) fields.old }
-    ensures ascending { IsAscending fields.old }
-{
-    let _ = fields.len();
-    for field in table {
-        if field.number != number && is_same_oneof(field.oneof, oneof) {
-            drop(take_value(fields, alloc, field.number));
-        }
+        let alloc = self.fields.allocator();
+        value_mut_or(&mut self.fields, alloc, &self.descriptor, number, default)
     }
 }

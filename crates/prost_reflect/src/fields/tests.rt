@@ -1,9 +1,16 @@
-//! Calls on both forms of a map from numbers.
+//! Calls on both forms of a map from numbers, over a message type with oneofs.
 
+mod choices;
+
+use crate::descriptor::MessageDescriptor;
 use crate::fields::entry::Entry;
 use crate::fields::number_map::NumberMap;
 use crate::fields::sorted::Sorted;
-use crate::fields::stored::{put_value, take_value, value_at};
+use crate::fields::stored::{
+    add_unknown, set_value, take_value, unknown_at, value_at, value_mut, value_mut_or,
+};
+use choices::choices;
+use prost_reflect_wire::{DecodeError, UnknownField};
 use std::alloc::{AllocError, Global};
 use std::collections::BTreeMap;
 use std::test::Fail;
@@ -13,9 +20,26 @@ enum Call {
     Set(u32, u32),
     Clear(u32),
     Take(u32),
+    /// Adds the amount to the value that is lent for writing, which is 1000 where there was none.
+    Write(u32, u32),
 }
 
-/// Five hundred calls on the numbers 1 to 16: two in four set a value, one takes it, and one clears it.
+impl Call {
+    fn number(self) -> u32 {
+        match self {
+            Call::Set(number, _) | Call::Write(number, _) => number,
+            Call::Clear(number) | Call::Take(number) => number,
+        }
+    }
+}
+
+/// What a call answers: the value that it took, or the one that it wrote.
+type Answer = Option<u32>;
+
+/// A number, its value, and how many unknown fields it has.
+type Seen = (u32, Option<u32>, usize);
+
+/// Five hundred calls of the four forms on the numbers 1 to 12.
 fn calls(alloc: Global) -> Result<Vec<Call>, AllocError> {
     let mut calls = Vec::new(alloc);
     let mut state: u64 = 20_251_122;
@@ -23,10 +47,11 @@ fn calls(alloc: Global) -> Result<Vec<Call>, AllocError> {
         state = state
             .wrapping_mul(6_364_136_223_846_793_005)
             .wrapping_add(1_442_695_040_888_963_407);
-        let number = ((state >> 33) % 16) as u32 + 1;
-        let call = match (state >> 40) % 4 {
+        let number = ((state >> 33) % 12) as u32 + 1;
+        let call = match (state >> 40) % 6 {
             0 => Call::Take(number),
             1 => Call::Clear(number),
+            2 | 3 => Call::Write(number, step),
             _ => Call::Set(number, step),
         };
         calls.push(call)?;
@@ -34,14 +59,26 @@ fn calls(alloc: Global) -> Result<Vec<Call>, AllocError> {
     Ok(calls)
 }
 
+/// Makes a call. At a number that no field has, a set and a write add an unknown field in place of a value.
 fn apply<S: NumberMap<Entry<u32>>>(
     fields: &mut S,
     alloc: Global,
+    descriptor: &MessageDescriptor,
     call: Call,
-) -> Result<Option<u32>, AllocError> {
+) -> Result<Answer, Fail> {
+    let is_known = descriptor.field_place(call.number()).is_some();
     match call {
-        Call::Set(number, value) => {
-            put_value(fields, alloc, number, value)?;
+        Call::Set(number, value) if is_known => {
+            set_value(fields, alloc, descriptor, number, value)?;
+            Ok(None)
+        }
+        Call::Write(number, amount) if is_known => {
+            let value = value_mut_or(fields, alloc, descriptor, number, 1000)?;
+            *value = value.wrapping_add(amount);
+            Ok(Some(*value))
+        }
+        Call::Set(number, _) | Call::Write(number, _) => {
+            add_record(fields, alloc, number)?;
             Ok(None)
         }
         Call::Clear(number) => {
@@ -52,74 +89,149 @@ fn apply<S: NumberMap<Entry<u32>>>(
     }
 }
 
-/// The numbers with their values, from the lowest up.
-fn walk<S: NumberMap<Entry<u32>>>(
-    fields: &S,
+/// Adds an unknown field, a varint, behind those of the number.
+fn add_record<S: NumberMap<Entry<u32>>>(
+    fields: &mut S,
     alloc: Global,
-) -> Result<Vec<(u32, Option<u32>)>, AllocError> {
-    let mut seen = Vec::new(alloc);
+    number: u32,
+) -> Result<(), Fail> {
+    let bytes = [(number % 16 * 8) as u8, 5];
+    let mut cursor: &[u8] = &bytes;
+    match UnknownField::decode(alloc, &mut cursor, 0) {
+        Ok(field) => Ok(add_unknown(fields, alloc, field.number(), field)?),
+        Err(DecodeError::OutOfMemory) => Err(Fail::from("out of memory")),
+        Err(_) => Err(Fail::from("an unknown field is not read")),
+    }
+}
+
+fn seen(number: u32, entry: &Entry<u32>) -> Seen {
+    let unknown = match entry.unknown() {
+        Some(unknown) => unknown.len(),
+        None => 0,
+    };
+    (number, entry.value().copied(), unknown)
+}
+
+/// What stands at the numbers, from the lowest up.
+fn walk<S: NumberMap<Entry<u32>>>(fields: &S, alloc: Global) -> Result<Vec<Seen>, AllocError> {
+    let mut walked = Vec::new(alloc);
     let mut from = 0;
     for _ in 0..fields.len() {
         if let Some((number, entry)) = fields.first_from(from) {
-            seen.push((number, entry.value().copied()))?;
+            walked.push(seen(number, entry))?;
             from = number.saturating_add(1);
         }
     }
-    Ok(seen)
+    Ok(walked)
 }
 
-/// The numbers with their values, from the highest down.
-fn walk_back<S: NumberMap<Entry<u32>>>(
-    fields: &S,
-    alloc: Global,
-) -> Result<Vec<(u32, Option<u32>)>, AllocError> {
-    let mut seen = Vec::new(alloc);
+/// What stands at the numbers, from the highest down.
+fn walk_back<S: NumberMap<Entry<u32>>>(fields: &S, alloc: Global) -> Result<Vec<Seen>, AllocError> {
+    let mut walked = Vec::new(alloc);
     let mut below = u32::MAX;
     for _ in 0..fields.len() {
         if let Some((number, entry)) = fields.last_below(below) {
-            seen.push((number, entry.value().copied()))?;
+            walked.push(seen(number, entry))?;
             below = number;
         }
     }
-    Ok(seen)
+    Ok(walked)
 }
 
-/// What a table of values by number has, from the lowest number up.
-fn listed(
-    values: &[Option<u32>; 17],
-    alloc: Global,
-) -> Result<Vec<(u32, Option<u32>)>, AllocError> {
-    let mut seen = Vec::new(alloc);
-    for number in 0..17_u32 {
-        let value = values[number as usize];
-        if value.is_some() {
-            seen.push((number, value))?;
+/// What a table by number says that stands there.
+#[derive(Drop)]
+struct Expected {
+    values: [Option<u32>; 13],
+    unknown: [usize; 13],
+}
+
+impl Expected {
+    /// The oneof of a number, the number itself for a field of none, and 0 for no field.
+    fn group(number: u32) -> u32 {
+        match number {
+            2 | 4 | 9 => 100,
+            6 | 8 => 200,
+            1 | 5 | 12 => number,
+            _ => 0,
         }
     }
-    Ok(seen)
+
+    fn set(&mut self, number: u32, value: u32) {
+        for other in 1..13_u32 {
+            if Expected::group(other) == Expected::group(number) {
+                self.values[other as usize % 13] = None;
+            }
+        }
+        self.values[number as usize % 13] = Some(value);
+    }
+
+    /// Makes a call, and gives what it answers.
+    fn apply(&mut self, call: Call) -> Answer {
+        let number = call.number();
+        let place = number as usize % 13;
+        let old = self.values[place];
+        match call {
+            Call::Set(_, _) | Call::Write(_, _) if Expected::group(number) == 0 => {
+                self.unknown[place] = self.unknown[place].saturating_add(1);
+                None
+            }
+            Call::Set(_, value) => {
+                self.set(number, value);
+                None
+            }
+            Call::Write(_, amount) => {
+                let written = old.unwrap_or(1000).wrapping_add(amount);
+                self.set(number, written);
+                Some(written)
+            }
+            Call::Clear(_) => {
+                self.values[place] = None;
+                None
+            }
+            Call::Take(_) => {
+                self.values[place] = None;
+                old
+            }
+        }
+    }
+
+    /// What stands at the numbers, from the lowest up.
+    fn walk(&self, alloc: Global) -> Result<Vec<Seen>, AllocError> {
+        let mut walked = Vec::new(alloc);
+        for number in 0..13_u32 {
+            let (value, unknown) = (self.values[number as usize], self.unknown[number as usize]);
+            if value.is_some() || unknown > 0 {
+                walked.push((number, value, unknown))?;
+            }
+        }
+        Ok(walked)
+    }
 }
 
-/// Each call answers the same on both forms, and leaves what a table by number has, walked up and down.
+/// Each call answers the same on both forms, and leaves what a table by number says, walked up and down.
 #[test]
 fn both_maps_walk_alike(rt: HostRuntime) -> Result<(), Fail> {
     let alloc = rt.alloc();
+    let descriptor = choices(alloc)?;
     let mut sorted: Sorted<Entry<u32>> = Sorted::new(alloc);
     let mut tree: BTreeMap<u32, Entry<u32>> = BTreeMap::new(alloc);
-    let mut table = [None; 17];
+    let mut expected = Expected {
+        values: [None; 13],
+        unknown: [0; 13],
+    };
+    for number in [5, 8, 8] {
+        add_record(&mut sorted, alloc, number)?;
+        add_record(&mut tree, alloc, number)?;
+    }
+    expected.unknown[5] = 1;
+    expected.unknown[8] = 2;
     let calls = calls(alloc)?;
     assert_eq!(rt; calls.len(), 500);
     for call in &calls {
-        let answer = apply(&mut sorted, alloc, *call)?;
-        assert_eq!(rt; apply(&mut tree, alloc, *call)?, answer);
-        match *call {
-            Call::Set(number, value) => table[number as usize % 17] = Some(value),
-            Call::Clear(number) => table[number as usize % 17] = None,
-            Call::Take(number) => {
-                assert_eq!(rt; table[number as usize % 17], answer);
-                table[number as usize % 17] = None;
-            }
-        }
-        let seen = listed(&table, alloc)?;
+        let answer = expected.apply(*call);
+        assert_eq!(rt; apply(&mut sorted, alloc, &descriptor, *call)?, answer);
+        assert_eq!(rt; apply(&mut tree, alloc, &descriptor, *call)?, answer);
+        let seen = expected.walk(alloc)?;
         assert_eq!(rt; walk(&sorted, alloc)?, seen);
         assert_eq!(rt; walk(&tree, alloc)?, seen);
         let mut back = walk_back(&sorted, alloc)?;
@@ -127,8 +239,13 @@ fn both_maps_walk_alike(rt: HostRuntime) -> Result<(), Fail> {
         back.reverse();
         assert_eq!(rt; back, seen);
     }
-    for number in 0..18_u32 {
+    for number in 0..14_u32 {
         assert_eq!(rt; value_at(&tree, number), value_at(&sorted, number));
+        assert!(rt; unknown_at(&tree, number) == unknown_at(&sorted, number));
+        if let Some(value) = value_mut(&mut tree, number) {
+            *value = 7;
+        }
+        assert!(rt; value_at(&tree, number).is_none() || value_at(&tree, number) == Some(&7));
     }
     Ok(())
 }

@@ -6,4 +6,4 @@ use Rattle.prost_reflect.proofs.fields.stored.put_value.Goals as goal
 pub returns-in-Some-clause-ok : goal.returns-in-Some-clause-ok
 returns-in-Some-clause-ok g c =
     let es = g.S.NumberMap.entries c.args.fields.now in
-    (rw c.in-Some.is at (c.get_mut.follows.holds c.put.new.self)) ∙ ap (with_item es c.args.number) c.put.ensures ∙ ap (put_entry es c.args.number c.args.value) c.in-Some.ensures.value
+    c.get_mut.follows.holds c.put.new.self ∙ ap (with_item es c.args.number) c.put.ensures ∙ ap (put_entry es c.args.number c.args.value) c.in-Some.ensures.value

@@ -1,0 +1,5 @@
+use Rattle.prost_reflect.proofs.KeptSlots.{kept_after_set}
+use Rattle.prost_reflect.proofs.laws.kept_after_set.Goals as goal
+
+pub returns : goal.returns
+returns c = kept_after_set

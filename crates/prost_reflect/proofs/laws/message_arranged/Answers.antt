@@ -1,0 +1,5 @@
+use Rattle.prost_reflect.proofs.ContentChanges.{message_arranged}
+use Rattle.prost_reflect.proofs.laws.message_arranged.Goals as goal
+
+pub returns : goal.returns
+returns c = message_arranged
