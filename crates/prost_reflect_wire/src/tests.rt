@@ -2,6 +2,8 @@
 
 mod memory;
 
+ghost use Rattle.std.specs.Prelude.{◌≤◌, ◌<◌, ◌^◌};
+
 use crate::unknown::{UnknownField, UnknownFieldSet, UnknownFieldValue};
 use crate::{
     BackBuffer, DecodeError, EncodeError, FieldNumber, RECURSION_LIMIT, WireType, decode_key,
@@ -27,27 +29,18 @@ fn group_and_tail(rt: HostRuntime) -> Result<(), Fail> {
     assert_eq!(rt; cursor, b"tail".as_slice());
     assert_eq!(rt; field.number(), 3);
     assert_eq!(rt; field.wire_type(), WireType::StartGroup);
-    let UnknownFieldValue::Group(fields) = field.value() else {
-        return Err(Fail::new("no group"));
-    };
-    let mut seen = 0;
-    for inside in fields.iter() {
-        match (seen, inside.number(), inside.value()) {
-            (0, 1, UnknownFieldValue::LengthDelimited(text)) => {
-                assert_eq!(rt; text.as_slice(), b"hello".as_slice());
-            }
-            (1, 2, UnknownFieldValue::Varint(value)) => assert_eq!(rt; *value, 10),
-            (2, 2, UnknownFieldValue::Varint(value)) => assert_eq!(rt; *value, 11),
-            _ => return Err(Fail::new("another field")),
-        }
-        seen += 1;
-    }
-    assert_eq!(rt; seen, 3);
-    let mut out = Vec::new(rt.alloc());
-    field.encode(&mut out)?;
-    assert_eq!(rt; out.as_slice(), GROUP.as_slice());
-    assert_eq!(rt; field.encoded_len(), Some(13));
+    assert!(rt; *field.value() == UnknownFieldValue::Group(records_of_group(rt.alloc())?));
     Ok(())
+}
+
+/// The fields in `GROUP`.
+fn records_of_group(alloc: Global) -> Result<UnknownFieldSet, AllocError> {
+    let text = UnknownFieldValue::LengthDelimited(Vec::from_slice(alloc, b"hello")?);
+    let mut fields = UnknownFieldSet::new(alloc);
+    fields.insert(UnknownField::new(FieldNumber::new(1), text))?;
+    fields.insert(varint_field(2, 10))?;
+    fields.insert(varint_field(2, 11))?;
+    Ok(fields)
 }
 
 /// Bytes in hex within so many groups of number 5, how many levels are allowed, and the bytes that are written of the
@@ -266,79 +259,103 @@ fn values_behind_a_key(rt: HostRuntime) -> Result<(), Fail> {
     let mut cursor = input.as_slice();
     let field = UnknownField::decode_value(rt.alloc(), 5, WireType::Varint, &mut cursor, 0)?;
     assert_eq!(rt; cursor, [0x7f].as_slice());
-    assert_eq!(rt; field.number(), 5);
-    assert!(rt; *field.value() == UnknownFieldValue::Varint(150));
-    let mut text = [0x02, 0x10, 0x42].as_slice();
-    let message = UnknownField::decode_value(
-        rt.alloc(),
-        3,
-        WireType::LengthDelimited,
-        &mut text,
-        0,
-    )?;
-    let mut out = Vec::new(rt.alloc());
-    message.encode(&mut out)?;
-    assert_eq!(rt; out.as_slice(), [0x1a, 0x02, 0x10, 0x42].as_slice());
+    assert!(rt; field == varint_field(5, 150));
     let (value, rest) = value_at(rt.alloc(), FieldNumber::new(5), WireType::Varint, &input, 0)?;
     assert!(rt; value == *field.value());
     assert_eq!(rt; rest, [0x7f].as_slice());
     let rest = skip_value(FieldNumber::new(3), WireType::StartGroup, &GROUP[1..], 1)?;
     assert!(rt; rest.is_empty());
-    let mut cursor = input.as_slice();
+    Ok(())
+}
+
+#[test]
+fn written_behind_its_key(rt: HostRuntime) -> Result<(), Fail> {
+    let mut cursor = [0x02, 0x10, 0x42].as_slice();
+    let number = 3;
+    let wire_type = WireType::LengthDelimited;
+    let field = UnknownField::decode_value(rt.alloc(), number, wire_type, &mut cursor, 0)?;
+    let mut out = Vec::new(rt.alloc());
+    field.encode(&mut out)?;
+    assert_eq!(rt; out.as_slice(), [0x1a, 0x02, 0x10, 0x42].as_slice());
+    Ok(())
+}
+
+#[test]
+fn nothing_behind_an_end_key(rt: HostRuntime) {
+    let mut cursor = [0x96, 0x01].as_slice();
     match UnknownField::decode_value(rt.alloc(), 5, WireType::EndGroup, &mut cursor, 100) {
         Ok(_) => panic!(rt; "an end key has no value"),
         Err(error) => assert_eq!(rt; error, DecodeError::EndGroup),
     }
-    assert_eq!(rt; cursor.len(), 3);
-    Ok(())
+    assert_eq!(rt; cursor.len(), 2);
 }
 
-fn first_byte(field: &UnknownField) -> u64 {
-    match field.value() {
-        UnknownFieldValue::Varint(value) => *value,
-        UnknownFieldValue::SixtyFourBit(bytes) => u64::from(bytes[0]),
-        _ => 0,
-    }
+fn varint_field(number: u32, value: u64) -> UnknownField
+    requires some { 1 ≤ number }
+    requires below { number < 2 ^ 29 }
+{
+    UnknownField::new(FieldNumber::new(number), UnknownFieldValue::Varint(value))
+}
+
+/// The fields 7 and 9 of number 1.
+fn two_fields(alloc: Global) -> Result<UnknownFieldSet, AllocError> {
+    let mut set = UnknownFieldSet::new(alloc);
+    set.insert(varint_field(1, 7))?;
+    set.insert(varint_field(1, 9))?;
+    Ok(set)
 }
 
 #[test]
 fn sets_are_lists(rt: HostRuntime) -> Result<(), Fail> {
-    let first = UnknownField::new(FieldNumber::new(1), UnknownFieldValue::Varint(7));
-    let second = UnknownField::new(FieldNumber::new(1), UnknownFieldValue::SixtyFourBit([9; 8]));
-    let mut set = UnknownFieldSet::new(rt.alloc());
-    assert!(rt; set.is_empty());
-    set.insert(first.clone()?)?;
-    set.insert(second.clone()?)?;
+    let set = two_fields(rt.alloc())?;
     assert_eq!(rt; set.len(), 2);
+    assert!(rt; !set.is_empty());
     let mut fields = Vec::new(rt.alloc());
-    fields.push(first)?;
-    fields.push(second)?;
+    fields.push(varint_field(1, 7))?;
+    fields.push(varint_field(1, 9))?;
     assert!(rt; set == UnknownFieldSet::from_fields(fields));
-    let mut out = Vec::new(rt.alloc());
-    set.encode(&mut out)?;
-    assert_eq!(rt;
-        out.as_slice(),
-        [0x08, 7, 0x09, 9, 9, 9, 9, 9, 9, 9, 9].as_slice()
-    );
-    assert_eq!(rt; set.encoded_len(), Some(11));
-    assert_eq!(rt; fields_len(&set), Some(11));
-    let mut fields = set.clone()?.into_iter();
-    for value in [7, 9] {
-        match fields.next() {
-            Some(field) => assert_eq!(rt; (field.number(), first_byte(&field)), (1, value)),
-            None => panic!(rt; "a field is missing"),
-        }
-    }
-    assert!(rt; fields.next().is_none());
-    let mut sum = 0u64;
-    for field in &set {
-        sum = sum.wrapping_add(first_byte(field));
-    }
-    assert_eq!(rt; sum, 16);
+    assert!(rt; set.clone()? == set);
     assert!(rt; set != UnknownFieldSet::new(rt.alloc()));
-    assert!(rt; set == set.clone()?);
+    assert!(rt; UnknownFieldSet::new(rt.alloc()).is_empty());
     assert!(rt; !format!(in rt.alloc(); "{set:?}")?.is_empty());
     Ok(())
+}
+
+#[test]
+fn sets_are_written_in_order(rt: HostRuntime) -> Result<(), Fail> {
+    let set = two_fields(rt.alloc())?;
+    let mut out = Vec::new(rt.alloc());
+    set.encode(&mut out)?;
+    assert_eq!(rt; out.as_slice(), [0x08, 7, 0x08, 9].as_slice());
+    assert_eq!(rt; set.encoded_len(), Some(4));
+    assert_eq!(rt; fields_len(&set), Some(4));
+    assert_eq!(rt; field_len(&varint_field(16, 300)), Some(4));
+    Ok(())
+}
+
+#[test]
+fn sets_are_iterated_in_order(rt: HostRuntime) -> Result<(), Fail> {
+    let set = two_fields(rt.alloc())?;
+    let mut seen = 0;
+    for field in &set {
+        seen = after(seen, field);
+    }
+    for field in set.iter() {
+        seen = after(seen, field);
+    }
+    for field in set {
+        seen = after(seen, &field);
+    }
+    assert_eq!(rt; seen, 797_979);
+    Ok(())
+}
+
+/// The digits, and that of the field behind them.
+fn after(digits: u64, field: &UnknownField) -> u64 {
+    match field.value() {
+        UnknownFieldValue::Varint(value) => digits.wrapping_mul(10).wrapping_add(*value),
+        _ => 0,
+    }
 }
 
 #[test]
@@ -404,32 +421,45 @@ fn numbers(rt: HostRuntime) {
     assert_eq!(rt; low_u32(0x1_8000_0000), 0x8000_0000);
 }
 
+/// Varints in hex, with a byte behind each that is none of theirs.
+static VARINTS: [(&str, u64, usize); 10] = [
+    ("00ff", 0, 1),
+    ("7fff", 127, 1),
+    ("8001ff", 128, 2),
+    ("9601ff", 150, 2),
+    ("ff7fff", 16_383, 2),
+    ("808001ff", 16_384, 3),
+    ("ffffffff0fff", 0xffff_ffff, 5),
+    ("ffffffffffffffff7fff", 0x7fff_ffff_ffff_ffff, 9),
+    ("80808080808080808001ff", 0x8000_0000_0000_0000, 10),
+    ("ffffffffffffffffff01ff", 0xffff_ffff_ffff_ffff, 10),
+];
+
 #[test]
 fn varints(rt: HostRuntime) -> Result<(), Fail> {
-    for (text, value) in [
-        ("00", 0),
-        ("7f", 127),
-        ("8001", 128),
-        ("9601", 150),
-        ("ff7f", 16_383),
-        ("808001", 16_384),
-        ("ffffffff0f", 0xffff_ffff),
-        ("ffffffffffffffff7f", 0x7fff_ffff_ffff_ffff),
-        ("80808080808080808001", 0x8000_0000_0000_0000),
-        ("ffffffffffffffffff01", u64::MAX),
-    ] {
-        let bytes = in_groups(rt.alloc(), 0, text)?;
-        assert_eq!(rt; varint_len(value), bytes.len(), "of {value}");
-        let mut input = Vec::from_slice(rt.alloc(), &bytes)?;
-        input.push(0x7f)?;
-        let read = decode_varint(&input)?;
-        assert_eq!(rt; read.0, value, "at {text}");
-        assert_eq!(rt; read.1, [0x7f].as_slice(), "behind {text}");
-        let read = decode_varint_plain(&input)?;
-        assert_eq!(rt; read.0, value, "at {text}");
-        assert_eq!(rt; read.1, [0x7f].as_slice(), "behind {text}");
+    for (text, value, len) in &VARINTS {
+        let input = in_groups(rt.alloc(), 0, text)?;
+        assert_eq!(rt;
+            value_and_rest(decode_varint(&input)),
+            Some((*value, 1)),
+            "at {text}"
+        );
+        assert_eq!(rt;
+            value_and_rest(decode_varint_plain(&input)),
+            Some((*value, 1)),
+            "at {text}"
+        );
+        assert_eq!(rt; varint_len(*value), *len, "at {text}");
     }
     Ok(())
+}
+
+/// The value, and how many bytes are left.
+fn value_and_rest(read: Result<(u64, &[u8]), DecodeError>) -> Option<(u64, usize)> {
+    match read {
+        Ok((value, rest)) => Some((value, rest.len())),
+        Err(_) => None,
+    }
 }
 
 #[test]
