@@ -20,6 +20,7 @@ pub mod WrittenValues
 pub mod Encodings
 pub mod Keys
 pub mod Copied
+pub mod CopiedPairs
 pub mod EqualDescriptors
 pub mod StoredViews
 pub mod StoredContents
