@@ -1,5 +1,5 @@
 -- What copies store.
-use Rattle.std.proofs.Common.{◌≡◌, ℕ, zero, suc, ◌+◌, ◌<◌, ◌≤◌, Bool, true, false, cond, List, [], ◌∷◌, ◌++◌, map, length, take, drop, get_or, Option, None, Some, refl, ap, ap₂, sym, ◌∙◌, subst, arith, unwrap_or}
+use Rattle.std.proofs.Common.{◌≡◌, ℕ, zero, suc, ◌+◌, ◌<◌, ◌≤◌, Bool, true, false, cond, List, [], ◌∷◌, ◌++◌, map, length, take, drop, get_or, Option, None, Some, refl, ap, ap₂, sym, ◌∙◌, subst, arith}
 use Rattle.std.specs.Option.{option_map, option_and_then, is_some}
 use Rattle.std.specs.Ordering.{nat_cmp, ordering_reverse, match_ordering}
 use Rattle.std.specs.declared.cmp.Ordering.{Ordering}
@@ -9,12 +9,10 @@ use Rattle.std.specs.BTreeMap.{is_at, insert_entry}
 use Rattle.std.specs.List.{AllByRecursion}
 use Rattle.std.specs.List.Sorted.{IsStrictlySortedBy}
 use Rattle.std.specs.Map.{keys_of}
-use Rattle.prost_reflect_wire.specs.Record.{Record}
+use Rattle.prost_reflect_wire.specs.Record.{Record, body_of}
 use Rattle.prost_reflect_wire.specs.Unknown.{records_of}
 use Rattle.prost_reflect_wire.specs.declared.unknown.UnknownFieldSet.{UnknownFieldSet}
 use Rattle.prost_reflect_wire.specs.Schema.{Field, known}
-use Rattle.prost_reflect_wire.specs.Content as contents
-use Rattle.prost_reflect_wire.specs.Content.{Content, ContentOf, Entries, NoEntries, Slot, store}
 use Rattle.prost_reflect.specs.declared.fields.entry.Entry.{Entry}
 use Rattle.prost_reflect.specs.declared.fields.entry.Entry.TheVariants as entries
 use Rattle.prost_reflect.specs.declared.descriptor.message.MessageDescriptor.{MessageDescriptor}
@@ -27,12 +25,15 @@ use Rattle.prost_reflect.specs.Items.{IsAscending, item_at, put_item}
 use Rattle.prost_reflect.specs.Known.{known_of}
 use Rattle.prost_reflect.specs.Entries.{value_in, records_in, records_at, has_value}
 use Rattle.prost_reflect.specs.Sound.{Sound, unknown_kept}
-use Rattle.prost_reflect.specs.View.{value_of, content_of, entries_from, payloads_of, entry_parts}
-use Rattle.prost_reflect.proofs.Views.{shown, shown_entry, content_of_message, content_of_roll}
-use Rattle.prost_reflect.proofs.Stored.{content_from}
+use Rattle.prost_reflect.specs.Stored.{StoredValue, StoredEntries, NothingStored, ValueAt, UnknownAt, BothAt, MessageOf, stored_entry, stored_entries, value_stored, message_stored}
+use Rattle.prost_reflect.proofs.StoredViews.{stored_message, stored_roll}
 
-abbrev Parts : Type 0
-Parts = Option contents.Value × Option (List Record)
+abbrev pub Parts : Type 0
+Parts = Option StoredValue × Option (List Record)
+
+-- what an entry stores: its value, and its unknown records
+abbrev pub entry_parts : Entry Value → Parts
+entry_parts e = (option_map value_stored (value_in e), records_in e)
 
 -- what is stored at each number
 abbrev pub parts_of : List (ℕ × Entry Value) → List (ℕ × Parts)
@@ -97,16 +98,16 @@ copied_next fields items i n e d s l at done same =
 
 -- ENTRIES
 
-abbrev parts : Option contents.Value → Option (List Record) → Parts
+abbrev parts : Option StoredValue → Option (List Record) → Parts
 parts o rs = (o, rs)
 
-pub value_copied : (v w : Value) → value_of v ≡ value_of w → entry_parts (entries.Value v) ≡ entry_parts (entries.Value w)
+pub value_copied : (v w : Value) → value_stored v ≡ value_stored w → entry_parts (entries.Value v) ≡ entry_parts (entries.Value w)
 value_copied v w h = ap (λ x. parts (Some x) None) h
 
 pub unknown_copied : (u t : UnknownFieldSet) → records_of u ≡ records_of t → entry_parts (entries.Unknown u) ≡ entry_parts (entries.Unknown t)
 unknown_copied u t h = ap (λ rs. parts None (Some rs)) h
 
-pub both_copied : (v w : Value) (u t : UnknownFieldSet) → value_of v ≡ value_of w → records_of u ≡ records_of t → entry_parts (entries.Both v u) ≡ entry_parts (entries.Both w t)
+pub both_copied : (v w : Value) (u t : UnknownFieldSet) → value_stored v ≡ value_stored w → records_of u ≡ records_of t → entry_parts (entries.Both v u) ≡ entry_parts (entries.Both w t)
 both_copied v w u t h k = ap₂ (λ x rs. parts (Some x) (Some rs)) h k
 
 -- THE SAME PARTS
@@ -149,28 +150,27 @@ known_same a b h = λ i. known (schema_from (h.0 i)) (h.1 i)
 pub sound_copied : (a b : MessageDescriptor) (es ds : List (ℕ × Entry Value)) → SameMessage a b → parts_of ds ≡ parts_of es → Sound (known_of a) es → Sound (known_of b) ds
 sound_copied a b es ds d h s = subst (λ fields. Sound fields ds) (sym (known_same a b d)) (sound_same (known_of a) es ds h s)
 
-abbrev slot_of_parts : Parts → Slot
-slot_of_parts p = record { value = p.0; unknowns = payloads_of (unwrap_or p.1 []) }
+abbrev entry_of_parts : ℕ → Option StoredValue → Option (List Record) → StoredEntries → StoredEntries
+entry_of_parts n (Some v) None es = ValueAt n v es
+entry_of_parts n None (Some rs) es = UnknownAt n (body_of rs) es
+entry_of_parts n (Some v) (Some rs) es = BothAt n v (body_of rs) es
+entry_of_parts n None None es = es
 
-entries_of_parts : List (ℕ × Parts) → Entries
-entries_of_parts [] = NoEntries
-entries_of_parts (p ∷ ps) = store p.0 (slot_of_parts p.1) (entries_of_parts ps)
+abbrev entries_of_parts : List (ℕ × Parts) → StoredEntries
+entries_of_parts [] = NothingStored
+entries_of_parts (p ∷ ps) = entry_of_parts p.0 p.1.0 p.1.1 (entries_of_parts ps)
 
-from_parts : (es : List (ℕ × Entry Value)) → entries_from (shown es) ≡ entries_of_parts (parts_of es)
-unfolding entries_of_parts
+from_parts : (es : List (ℕ × Entry Value)) → stored_entries value_stored es ≡ entries_of_parts (parts_of es)
 from_parts [] = refl
-from_parts (e ∷ es) = cases e.1 (from_parts es)
+from_parts (e ∷ es) = cases e.1 ∙ ap (entry_of_parts e.0 (entry_parts e.1).0 (entry_parts e.1).1) (from_parts es)
   where
-    cases : (d : Entry Value) → entries_from (shown es) ≡ entries_of_parts (parts_of es) → entries_from ((e.0, shown_entry d) ∷ shown es) ≡ entries_of_parts ((e.0, entry_parts d) ∷ parts_of es)
-    cases (entries.Value v) rest = ap (store e.0 (slot_of_parts (entry_parts (entries.Value v)))) rest
-    cases (entries.Unknown u) rest = ap (store e.0 (slot_of_parts (entry_parts (entries.Unknown u)))) rest
-    cases (entries.Both v u) rest = ap (store e.0 (slot_of_parts (entry_parts (entries.Both v u)))) rest
+    cases : (d : Entry Value) → stored_entry value_stored e.0 d (stored_entries value_stored es) ≡ entry_of_parts e.0 (entry_parts d).0 (entry_parts d).1 (stored_entries value_stored es)
+    cases (entries.Value v) = refl
+    cases (entries.Unknown u) = refl
+    cases (entries.Both v u) = refl
 
-pub content_copied : (a b : MessageDescriptor) (es ds : List (ℕ × Entry Value)) → SameMessage a b → parts_of ds ≡ parts_of es → content_from b ds ≡ content_from a es
-content_copied a b es ds d h = λ i. ContentOf (schema_from (d.0 i)) (d.1 i) ((from_parts ds ∙ ap entries_of_parts h ∙ sym (from_parts es)) i)
-
-pub message_copied : (m : DynamicMessage) (p : MessageDescriptor × List (ℕ × Entry Value)) → SameMessage m.slots.0 p.0 → parts_of p.1 ≡ parts_of m.slots.1 → content_of (roll-DynamicMessage (record { slots = p })) ≡ content_of m
-message_copied m p d h = content_of_roll (record { slots = p }) ∙ content_copied m.slots.0 p.0 m.slots.1 p.1 d h ∙ sym (content_of_message m)
+pub message_copied : (m : DynamicMessage) (p : MessageDescriptor × List (ℕ × Entry Value)) → SameMessage m.slots.0 p.0 → parts_of p.1 ≡ parts_of m.slots.1 → message_stored (roll-DynamicMessage (record { slots = p })) ≡ message_stored m
+message_copied m p d h = stored_roll (record { slots = p }) ∙ (λ i. MessageOf (d.0 i) (d.1 i) ((from_parts p.1 ∙ ap entries_of_parts h ∙ sym (from_parts m.slots.1)) i)) ∙ sym (stored_message m)
 
 -- all entries are copied
 pub all_copied : (fields items es : List (ℕ × Entry Value)) (i : ℕ) → items ≡ es → length items ≤ i → parts_of fields ≡ parts_of (take i items) → parts_of fields ≡ parts_of es

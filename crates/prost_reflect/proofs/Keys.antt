@@ -13,10 +13,6 @@ use Rattle.std.specs.Hash.{HashWrites}
 use Rattle.prost_reflect.specs.Keys.{key_writes}
 use Rattle.std.specs.Ordering.{is_eq, match_ordering}
 use Rattle.std.specs.BTreeMap.{insert_entry}
-use Rattle.std.specs.List.Sorted.{IsStrictlySortedBy}
-use Rattle.std.specs.Map.{keys_of}
-use Rattle.prost_reflect.specs.declared.value.Value as values
-use Rattle.prost_reflect.proofs.Copied.{insert_last}
 use Rattle.prost_reflect_wire.specs.Content.{Value, Pairs, Pair}
 use Rattle.prost_reflect_wire.specs.Meaning.{put}
 use Rattle.prost_reflect_wire.proofs.Order.{scalars_equal}
@@ -101,7 +97,3 @@ map_insert (e ∷ es) k v = cases (compare_keys k e.0) ∙ ap (λ o. match_order
     cases Less = refl
     cases Equal = refl
     cases Greater = refl
-
--- an entry behind all others, put among their pairs
-pub pairs_last : (done : List (MapKey × values.Value)) (k : MapKey) (v : values.Value) (rest : List MapKey) → IsStrictlySortedBy compare_keys (keys_of done ++ k ∷ rest) → put (key_of k) (value_of v) (pairs_shown done) ≡ pairs_shown (done ++ (k, v) ∷ [])
-pairs_last done k v rest s = sym (map_insert done k v) ∙ ap pairs_shown (insert_last compare_keys ord_laws.total-law done k v rest s)

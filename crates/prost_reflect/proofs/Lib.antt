@@ -21,6 +21,7 @@ pub mod WrittenValues
 pub mod Encodings
 pub mod Keys
 pub mod Copied
+pub mod CopiedPairs
 pub mod EqualDescriptors
 pub mod StoredViews
 pub mod StoredContents

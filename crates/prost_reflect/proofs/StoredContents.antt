@@ -1,5 +1,7 @@
 -- The content of a message follows from what it stores.
 use Rattle.std.proofs.Common.{◌≡◌, ℕ, List, [], ◌∷◌, map, Some, None, refl, ap, ap₂, sym, ◌∙◌, subst}
+use Rattle.std.specs.Prelude.{Result, Ok, Err, IfOk, MatchResult}
+use Rattle.std.specs.declared.alloc.AllocError.{AllocError}
 use mathlib.Core.Former.{this}
 use Rattle.prost_reflect_wire.specs.Record.{Record, Payload, Flat, Group, items, body_of, before, record_at}
 use Rattle.prost_reflect_wire.specs.Unknown.{records_of}
@@ -17,6 +19,8 @@ use Rattle.prost_reflect.specs.declared.value.Value.TheOpen.{Value-F, DynamicMes
 use Rattle.prost_reflect.specs.declared.value.Value.TheFolds.{fold-roll-Value, fold-roll-DynamicMessage, ind-Value, ind-DynamicMessage, map-Value, map-DynamicMessage}
 use Rattle.prost_reflect.specs.declared.message.DynamicMessage.{DynamicMessage}
 use Rattle.prost_reflect.specs.formers.fields.slots.Slots.{entry_former}
+use Rattle.prost_reflect.specs.Copies.{SameStored, SameStoring}
+use Rattle.prost_reflect.proofs.StoredViews.{same_types}
 
 -- CONTENTS OF WHAT IS STORED
 
@@ -169,3 +173,13 @@ values_shown v w h = sym (value_follows v) ∙ ap value_content h ∙ value_foll
 
 pub contents_shown : (m n : DynamicMessage) → message_stored m ≡ message_stored n → content_of m ≡ content_of n
 contents_shown m n h = sym (message_follows m) ∙ ap content_from h ∙ message_follows n
+
+-- COPIES
+
+pub values_copied : {Q : AllocError → Type 0} (v : Value) (r : Result Value AllocError) → IfOk r (λ w. value_stored w ≡ value_stored v) → ((e : AllocError) → Q e) → MatchResult r (SameStored v) Q
+values_copied v (Ok w) h q = (h, values_shown w v h)
+values_copied v (Err e) h q = q e
+
+pub messages_copied : {Q : AllocError → Type 0} (m : DynamicMessage) (r : Result DynamicMessage AllocError) → IfOk r (λ n. message_stored n ≡ message_stored m) → ((e : AllocError) → Q e) → MatchResult r (SameStoring m) Q
+messages_copied m (Ok n) h q = (h, same_types m n h, contents_shown n m h)
+messages_copied m (Err e) h q = q e

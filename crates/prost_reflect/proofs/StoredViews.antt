@@ -12,9 +12,11 @@ use Rattle.prost_reflect_wire.specs.Scalar.{scalar_eq}
 use Rattle.prost_reflect_wire.specs.Equality.{records_eq}
 use Rattle.prost_reflect_wire.specs.Record.{body_of}
 use Rattle.prost_reflect_wire.specs.Unknown.{records_of}
+use Rattle.prost_reflect_tables.specs.Rows.{TableRows}
 use Rattle.prost_reflect_tables.specs.Equality.{rows_eq}
 use Rattle.prost_reflect_tables.proofs.Equal.{tables_equal}
 use Rattle.prost_reflect.specs.Pools.{pool_rows}
+use Rattle.prost_reflect.specs.Descriptors.{SameMessage}
 use Rattle.prost_reflect.specs.declared.descriptor.message.MessageDescriptor.{MessageDescriptor}
 use Rattle.prost_reflect.specs.contracts.descriptor.message.MessageDescriptorPartialEq.TheImpl as descriptor_code
 use Rattle.prost_reflect.specs.contracts.value.MapKeyPartialEq.TheImpl as key_eq
@@ -24,9 +26,9 @@ use Rattle.prost_reflect.specs.declared.fields.entry.Entry.TheVariants as entrie
 use Rattle.prost_reflect.specs.declared.value.MapKey.{MapKey}
 use Rattle.prost_reflect.specs.declared.value.Value.{Value}
 use Rattle.prost_reflect.specs.declared.value.Value as values
-use Rattle.prost_reflect.specs.declared.value.Value.TheOpen.{Value-F}
-use Rattle.prost_reflect.specs.declared.value.Value.TheViews.{roll-Value}
-use Rattle.prost_reflect.specs.declared.value.Value.TheFolds.{fold-roll-Value, fold_out-DynamicMessage}
+use Rattle.prost_reflect.specs.declared.value.Value.TheOpen.{Value-F, DynamicMessage-F}
+use Rattle.prost_reflect.specs.declared.value.Value.TheViews.{roll-Value, roll-DynamicMessage}
+use Rattle.prost_reflect.specs.declared.value.Value.TheFolds.{fold-roll-Value, fold-roll-DynamicMessage, fold_out-DynamicMessage}
 use Rattle.prost_reflect.specs.declared.message.DynamicMessage.{DynamicMessage}
 use Rattle.prost_reflect.specs.formers.fields.slots.Slots.{entry_former}
 use Rattle.prost_reflect.specs.View.{descriptor_of, stored_in, key_of}
@@ -64,20 +66,33 @@ stored_text : (text : Text Global) → value_stored (values.String text) ≡ Sto
 unfolding roll-Value Carrier.roll
 stored_text text = fold-roll-Value StoredValue StoredMessage stored_step stored_message_step (Value-F.String text)
 
-stored_bytes : (bytes : Vec ℕ Global) → value_stored (values.Bytes bytes) ≡ StoredScalar (scalars.Bytes bytes.items)
+pub stored_bytes : (bytes : Vec ℕ Global) → value_stored (values.Bytes bytes) ≡ StoredScalar (scalars.Bytes bytes.items)
 unfolding roll-Value Carrier.roll
 stored_bytes bytes = fold-roll-Value StoredValue StoredMessage stored_step stored_message_step (Value-F.Bytes bytes)
 
-stored_list : (vs : Vec Value Global) → value_stored (values.List vs) ≡ StoredList (stored_items value_stored vs.items)
+pub stored_list : (vs : Vec Value Global) → value_stored (values.List vs) ≡ StoredList (stored_items value_stored vs.items)
 unfolding roll-Value Carrier.roll
 stored_list vs = fold-roll-Value StoredValue StoredMessage stored_step stored_message_step (Value-F.List vs) ∙ ap StoredList (items_mapped vs.items)
 
-stored_map : (m : BTreeMap MapKey Value) → value_stored (values.Map m) ≡ StoredMap (stored_pairs value_stored m.entries)
+pub stored_map : (m : BTreeMap MapKey Value) → value_stored (values.Map m) ≡ StoredMap (stored_pairs value_stored m.entries)
 unfolding roll-Value Carrier.roll
 stored_map m = fold-roll-Value StoredValue StoredMessage stored_step stored_message_step (Value-F.Map m) ∙ ap StoredMap (pairs_mapped m.entries)
 
 pub stored_message : (m : DynamicMessage) → message_stored m ≡ MessageOf (pool_rows m.slots.0.pool) m.slots.0.index (stored_entries value_stored m.slots.1)
 stored_message m = fold_out-DynamicMessage StoredValue StoredMessage stored_step stored_message_step m ∙ ap (MessageOf (pool_rows m.slots.0.pool) m.slots.0.index) (entries_mapped m.slots.1)
+
+pub stored_roll : (m : DynamicMessage-F Value DynamicMessage) → message_stored (roll-DynamicMessage m) ≡ MessageOf (pool_rows m.slots.0.pool) m.slots.0.index (stored_entries value_stored m.slots.1)
+stored_roll m = fold-roll-DynamicMessage StoredValue StoredMessage stored_step stored_message_step m ∙ ap (MessageOf (pool_rows m.slots.0.pool) m.slots.0.index) (entries_mapped m.slots.1)
+
+abbrev rows_in : StoredMessage → TableRows
+rows_in (MessageOf r T es) = r
+
+abbrev place_in : StoredMessage → ℕ
+place_in (MessageOf r T es) = T
+
+-- messages that store the same are of one type
+pub same_types : (m n : DynamicMessage) → message_stored n ≡ message_stored m → SameMessage (descriptor_of m) (descriptor_of n)
+same_types m n h = let same = sym (stored_message n) ∙ h ∙ stored_message m in (ap rows_in same, ap place_in same)
 
 -- VALUES
 

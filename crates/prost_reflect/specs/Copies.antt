@@ -1,9 +1,21 @@
--- Messages that store the same.
-use Rattle.std.specs.Prelude.{◌≡◌}
+-- Values and messages that store the same.
+use Rattle.std.specs.Prelude.{◌≡◌, List, map}
+use Rattle.prost_reflect_wire.specs.Scalar.{Scalar}
 use Rattle.prost_reflect.specs.Descriptors.{SameMessage}
-use Rattle.prost_reflect.specs.View.{content_of, descriptor_of}
+use Rattle.prost_reflect.specs.View.{key_of, value_of, content_of, descriptor_of}
+use Rattle.prost_reflect.specs.Stored.{StoredValue, value_stored, message_stored}
 use Rattle.prost_reflect.specs.declared.message.DynamicMessage.{DynamicMessage}
+use Rattle.prost_reflect.specs.declared.value.MapKey.{MapKey}
+use Rattle.prost_reflect.specs.declared.value.Value.{Value}
 
--- Two messages of one type with one content.
+-- Two values that store the same; so both are one value of the definitions.
+abbrev pub SameStored : Value → Value → Type 0
+SameStored v w = (value_stored w ≡ value_stored v) × (value_of w ≡ value_of v)
+
+-- Two messages that store the same; so both are of one type, with one content.
 abbrev pub SameStoring : DynamicMessage → DynamicMessage → Type 0
-SameStoring a b = SameMessage (descriptor_of a) (descriptor_of b) × (content_of b ≡ content_of a)
+SameStoring a b = (message_stored b ≡ message_stored a) × SameMessage (descriptor_of a) (descriptor_of b) × (content_of b ≡ content_of a)
+
+-- The entries of a map as keys and what their values store.
+abbrev pub pairs_seen : List (MapKey × Value) → List (Scalar × StoredValue)
+pairs_seen es = map (λ (e : MapKey × Value). (key_of e.0, value_stored e.1)) es

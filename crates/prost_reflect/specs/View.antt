@@ -1,5 +1,5 @@
 -- What values and messages store, without where it lies in memory.
-use Rattle.std.specs.Prelude.{ℕ, List, [], ◌∷◌, map, string_bytes, unwrap_or, Option, option_map}
+use Rattle.std.specs.Prelude.{ℕ, List, [], ◌∷◌, map, string_bytes, unwrap_or}
 use Rattle.prost_reflect_wire.specs.Record.{Record, Payload}
 use Rattle.prost_reflect_wire.specs.Scalar as scalars
 use Rattle.prost_reflect_wire.specs.Scalar.{Scalar}
@@ -77,7 +77,3 @@ stored_in m = m.slots.1
 -- A message whose value at a number, which is the default where there was none, was written over.
 abbrev pub written_at : DynamicMessage → ℕ → Value → Value → DynamicMessage
 written_at m n default v = record { slots = (m.slots.0, with_value (prepared (known_of m.slots.0) m.slots.1 n default) n v) }
-
--- What an entry stores: its value, and its unknown records.
-abbrev pub entry_parts : Entry Value → Option contents.Value × Option (List Record)
-entry_parts e = (option_map value_of (value_in e), records_in e)

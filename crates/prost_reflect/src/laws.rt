@@ -1,11 +1,11 @@
-//! What is proved of the views of messages: each function has no body, and its contract is a law.
+//! Laws of the views of messages, and of the equality of descriptors: each function has no body, and its contract is a law.
 
 ghost use Rattle.prost_reflect.specs.ContentLaws.{ValueViews, MessageSlots, MessageOrder, SlotsAfterSet, SlotsAfterClear, SlotsAfterUnknown, SlotsDetermine, MapInsert};
 ghost use Rattle.prost_reflect.specs.KeptLaws.{MessageArranged, KeptAfterSet, KeptAfterClear, KeptAfterUnknown, KeptAfterClearAll, KeptAfterWriting};
 ghost use Rattle.std.specs.Prelude.{◌≡◌, ◌↔◌, IsTrue, true};
 ghost use Rattle.prost_reflect_wire.specs.Scalar.{scalar_cmp, scalar_eq};
 ghost use Rattle.prost_reflect.specs.Pools.{pool_rows};
-ghost use Rattle.prost_reflect.specs.Descriptors.{SameMessage};
+ghost use Rattle.prost_reflect.specs.Descriptors.{SameMessage, schema_at, type_at};
 ghost use Rattle.prost_reflect.specs.Enums.{SameEnum};
 ghost use Rattle.prost_reflect.specs.Fields.{SameField};
 ghost use Rattle.prost_reflect.specs.View.{key_of};
@@ -103,9 +103,11 @@ pub fn pool_equality()
     ensures { (a : DescriptorPool) (b : DescriptorPool) → IsTrue (⟦<DescriptorPool as PartialEq>⟧.eq a b) ↔ (pool_rows a ≡ pool_rows b) }
 {}
 
-/// Descriptors are equal by `==` exactly where their pools show the same and their places are one.
+/// Descriptors are equal by `==` exactly where their pools show the same and their places are one; equal message types are one type of one schema.
 pub fn descriptor_equality()
     ensures message { (a : MessageDescriptor) (b : MessageDescriptor) → IsTrue (⟦<MessageDescriptor as PartialEq>⟧.eq a b) ↔ SameMessage b a }
     ensures an_enum { (a : EnumDescriptor) (b : EnumDescriptor) → IsTrue (⟦<EnumDescriptor as PartialEq>⟧.eq a b) ↔ SameEnum b a }
     ensures field { (a : FieldDescriptor) (b : FieldDescriptor) → IsTrue (⟦<FieldDescriptor as PartialEq>⟧.eq a b) ↔ SameField b a }
+    ensures schema { (a : MessageDescriptor) (b : MessageDescriptor) → IsTrue (⟦<MessageDescriptor as PartialEq>⟧.eq a b) → schema_at a ≡ schema_at b }
+    ensures place { (a : MessageDescriptor) (b : MessageDescriptor) → IsTrue (⟦<MessageDescriptor as PartialEq>⟧.eq a b) → type_at a ≡ type_at b }
 {}

@@ -1,10 +1,8 @@
 //! Copies of values and messages.
 
 ghost use Rattle.std.specs.Prelude.{◌≡◌, IfOk, map};
-ghost use Rattle.prost_reflect.specs.Descriptors.{SameMessage};
-ghost use Rattle.prost_reflect.specs.Copies.{SameStoring};
-ghost use Rattle.prost_reflect.specs.ContentLaws.{pairs_shown};
-ghost use Rattle.prost_reflect.specs.View.{content_of, value_of, descriptor_of};
+ghost use Rattle.prost_reflect.specs.Copies.{SameStored, SameStoring, pairs_seen};
+ghost use Rattle.prost_reflect.specs.Stored.{value_stored, message_stored};
 
 use crate::fields::entry::Entry;
 use crate::fields::slots::Slots;
@@ -16,7 +14,7 @@ use std::collections::BTreeMap;
 use std::default::Emptied;
 
 impl Clone for Value {
-    ghost is_clone = { λ value copied. value_of copied ≡ value_of value };
+    ghost is_clone = { SameStored };
 
     fn clone(&self) -> Result<Value, AllocError> {
         copy_value(self)
@@ -33,7 +31,7 @@ impl Clone for DynamicMessage {
 
 #[cycle(copy)]
 fn copy_value(value: &Value) -> Result<Value, AllocError>
-    ensures { IfOk result (λ copied. value_of copied ≡ value_of value.now) }
+    ensures { IfOk result (λ copied. value_stored copied ≡ value_stored value.now) }
 {
     match value {
         Value::Bool(value) => Ok(Value::Bool(*value)),
@@ -54,7 +52,7 @@ fn copy_value(value: &Value) -> Result<Value, AllocError>
 
 #[cycle(copy)]
 fn copy_values(values: &Vec<Value>) -> Result<Vec<Value>, AllocError>
-    ensures { IfOk result (λ copied. map value_of copied.items ≡ map value_of values.now.items) }
+    ensures { IfOk result (λ copied. map value_stored copied.items ≡ map value_stored values.now.items) }
 {
     let mut copied = Vec::with_capacity(*values.allocator(), values.len())?;
     for value in values {
@@ -65,7 +63,7 @@ fn copy_values(values: &Vec<Value>) -> Result<Vec<Value>, AllocError>
 
 #[cycle(copy)]
 fn copy_pairs(pairs: &BTreeMap<MapKey, Value>) -> Result<BTreeMap<MapKey, Value>, AllocError>
-    ensures { IfOk result (λ copied. pairs_shown copied.entries ≡ pairs_shown pairs.now.entries) }
+    ensures { IfOk result (λ copied. pairs_seen copied.entries ≡ pairs_seen pairs.now.entries) }
 {
     let mut copied = BTreeMap::emptied(pairs)?;
     for (key, value) in pairs.iter() {
@@ -77,7 +75,7 @@ fn copy_pairs(pairs: &BTreeMap<MapKey, Value>) -> Result<BTreeMap<MapKey, Value>
 
 #[cycle(copy)]
 fn copy_message(message: &DynamicMessage) -> Result<DynamicMessage, AllocError>
-    ensures { IfOk result (SameStoring message.now) }
+    ensures { IfOk result (λ copied. message_stored copied ≡ message_stored message.now) }
 {
     let mut fields = Sorted::new(message.slots.allocator());
     for (number, entry) in message.slots.entries() {

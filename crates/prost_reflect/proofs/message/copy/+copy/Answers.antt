@@ -1,21 +1,20 @@
-use Rattle.std.proofs.Common.{rules, ◌≡◌, ℕ, List, [], ◌∷◌, ◌++◌, sym, ap, ap₂, ◌∙◌, subst, append_assoc}
+use Rattle.std.proofs.Common.{rules, ◌≡◌, ℕ, List, [], ◌∷◌, ◌++◌, sym, ap, ◌∙◌, subst, append_assoc}
 use Rattle.std.proofs.lemmas.List.Elements.{same_from_all_zip}
 use Rattle.std.specs.List.Sorted.{IsStrictlySortedBy}
 use Rattle.std.specs.Map.{keys_of}
 use Rattle.prost_reflect_wire.specs.Scalar.{Bytes}
-use Rattle.prost_reflect_wire.specs.Content.{ScalarValue}
-use Rattle.prost_reflect_wire.specs.Meaning.{put}
 use Rattle.prost_reflect.specs.Descriptors.{SameMessage}
 use Rattle.prost_reflect.specs.Items.{IsAscending}
 use Rattle.prost_reflect.specs.declared.descriptor.message.MessageDescriptor.{MessageDescriptor}
 use Rattle.prost_reflect.specs.declared.fields.entry.Entry.{Entry}
 use Rattle.prost_reflect.specs.declared.value.MapKey.{MapKey}
 use Rattle.prost_reflect.specs.declared.value.Value.{Value}
-use Rattle.prost_reflect.specs.ContentLaws.{pairs_shown, compare_keys}
-use Rattle.prost_reflect.specs.View.{value_of, key_of, entry_parts}
-use Rattle.prost_reflect.proofs.Views.{value_of_bytes}
-use Rattle.prost_reflect.proofs.Copied.{parts_of, copied_next, all_copied, sound_copied, message_copied, keys_appended, value_copied, unknown_copied, both_copied}
-use Rattle.prost_reflect.proofs.Keys.{map_insert, pairs_last}
+use Rattle.prost_reflect.specs.ContentLaws.{compare_keys}
+use Rattle.prost_reflect.specs.Copies.{pairs_seen}
+use Rattle.prost_reflect.specs.Stored.{StoredScalar, value_stored}
+use Rattle.prost_reflect.proofs.StoredViews.{stored_bytes}
+use Rattle.prost_reflect.proofs.Copied.{parts_of, entry_parts, copied_next, all_copied, sound_copied, message_copied, keys_appended, value_copied, unknown_copied, both_copied}
+use Rattle.prost_reflect.proofs.CopiedPairs.{pair_copied, map_copied}
 use Rattle.prost_reflect.proofs.message.copy.+copy.Goals as goal
 use Rattle.prost_reflect.proofs.message.copy.+copy.Goals.{copy_message-in-Value+in_ok-copy_value-in-Value, copy_message-in-Unknown+in_ok-clone-in-Unknown, copy_message-in-Both+in_ok-value-in-Both+in_ok-clone-in-Both}
 
@@ -41,7 +40,7 @@ copy_message-returns t c =
     let all = all_copied c.loop-number.fields entries.result.now message.slots.1 c.loop-number.number-index entries.ensures.entries c.loop-number-test.false c.loop-number.invariant in
     let is = c.from_entries.ensures in
     let kept = subst (λ (p : MessageDescriptor × List (ℕ × Entry Value)). SameMessage message.slots.0 p.0) (sym is) same in
-    (kept, message_copied message c.from_entries.result kept (ap (λ (p : MessageDescriptor × List (ℕ × Entry Value)). parts_of p.1) is ∙ all))
+    message_copied message c.from_entries.result kept (ap (λ (p : MessageDescriptor × List (ℕ × Entry Value)). parts_of p.1) is ∙ all)
 
 pub copy_message-loop-number-preserved : goal.copy_message-loop-number-preserved
 copy_message-loop-number-preserved t c =
@@ -71,12 +70,14 @@ copy_pairs-loop-key-preserved t c =
     let sorted = subst (IsStrictlySortedBy compare_keys) keys c.iter-key-items.ensures.ordered in (
       done ++ e ∷ [],
       all ∙ sym (append_assoc done (e ∷ []) left),
-      ap pairs_shown c.in_ok-insert.ensures.entries ∙ map_insert l.copied.entries c.in_ok-clone.field-0 c.in_ok-value.value
-          ∙ ap₂ (λ k v. put k v (pairs_shown l.copied.entries)) c.in_ok-clone.ensures.cases c.in_ok-value.ensures
-          ∙ ap (put (key_of e.0) (value_of e.1)) l.invariant.2 ∙ pairs_last done e.0 e.1 (keys_of left) sorted,
+      ap pairs_seen c.in_ok-insert.ensures.entries
+          ∙ pair_copied l.copied.entries done e.0 c.in_ok-clone.field-0 e.1 c.in_ok-value.value (keys_of left) sorted l.invariant.2 c.in_ok-clone.ensures.cases c.in_ok-value.ensures,
     )
 
 pub copy_value-returns-in_ok-clone-in-Bytes : goal.copy_value-returns-in_ok-clone-in-Bytes
 copy_value-returns-in_ok-clone-in-Bytes t c =
     let same : c.in_ok-clone-in-Bytes.field-0.items ≡ c.in-Bytes.value.items = search (rules, same_from_all_zip) in
-    rw (c.in-Bytes.is, value_of_bytes c.in_ok-clone-in-Bytes.field-0, value_of_bytes c.in-Bytes.value) (ap (λ (l : List ℕ). ScalarValue (Bytes l)) same)
+    rw (c.in-Bytes.is, stored_bytes c.in_ok-clone-in-Bytes.field-0, stored_bytes c.in-Bytes.value) (ap (λ (l : List ℕ). StoredScalar (Bytes l)) same)
+
+pub copy_value-returns-in_ok-copy_pairs-in-Map : goal.copy_value-returns-in_ok-copy_pairs-in-Map
+copy_value-returns-in_ok-copy_pairs-in-Map t c = map_copied c.in_ok-copy_pairs-in-Map.field-0 c.in-Map.pairs c.in_ok-copy_pairs-in-Map.ensures ∙ ap value_stored (sym c.in-Map.is)

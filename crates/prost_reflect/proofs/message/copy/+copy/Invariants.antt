@@ -1,8 +1,8 @@
 use Rattle.std.proofs.Common.{◌≡◌, List, ◌++◌, map, take}
 use Rattle.prost_reflect.specs.declared.value.MapKey.{MapKey}
 use Rattle.prost_reflect.specs.declared.value.Value.{Value}
-use Rattle.prost_reflect.specs.ContentLaws.{pairs_shown}
-use Rattle.prost_reflect.specs.View.{value_of}
+use Rattle.prost_reflect.specs.Copies.{pairs_seen}
+use Rattle.prost_reflect.specs.Stored.{value_stored}
 use Rattle.prost_reflect.proofs.Copied.{parts_of}
 use Rattle.prost_reflect.proofs.message.copy.+copy.Given as goal
 
@@ -10,7 +10,7 @@ abbrev pub invariant-copy_message-loop-number : goal.invariant-copy_message-loop
 invariant-copy_message-loop-number l = parts_of l.fields ≡ parts_of (take l.number-index l.number-items)
 
 abbrev pub invariant-copy_pairs-loop-key : goal.invariant-copy_pairs-loop-key
-invariant-copy_pairs-loop-key l = (done : List (MapKey × Value)) × (l.pairs.entries ≡ done ++ l.key-iterator) × (pairs_shown l.copied.entries ≡ pairs_shown done)
+invariant-copy_pairs-loop-key l = (done : List (MapKey × Value)) × (l.pairs.entries ≡ done ++ l.key-iterator) × (pairs_seen l.copied.entries ≡ pairs_seen done)
 
 abbrev pub invariant-copy_values-loop-value : goal.invariant-copy_values-loop-value
-invariant-copy_values-loop-value l = map value_of l.copied.items ≡ map value_of (take l.value-index l.value-items)
+invariant-copy_values-loop-value l = map value_stored l.copied.items ≡ map value_stored (take l.value-index l.value-items)
