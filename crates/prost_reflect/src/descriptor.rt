@@ -1,6 +1,8 @@
 //! Pools of message types, and descriptors: places in a shared pool.
 
 mod builtin;
+#[cfg(test)]
+pub(crate) mod choices;
 mod covered;
 mod enums;
 mod field;

@@ -17,6 +17,8 @@ ghost use Rattle.prost_reflect.specs.declared.value.Value.{Value};
 ghost use Rattle.prost_reflect.specs.View.{content_of, value_of, descriptor_of, stored_in, written_at};
 ghost use Rattle.prost_reflect.specs.Contents.{value_set, value_cleared, unknown_added};
 
+#[cfg(test)]
+mod change_tests;
 mod copy;
 mod decode;
 mod encode;

@@ -1,15 +1,13 @@
 //! Calls on both forms of a map from numbers, over a message type with oneofs.
 
-mod choices;
-
 use crate::descriptor::MessageDescriptor;
+use crate::descriptor::choices::choices;
 use crate::fields::entry::Entry;
 use crate::fields::number_map::NumberMap;
 use crate::fields::sorted::Sorted;
 use crate::fields::stored::{
     add_unknown, set_value, take_value, unknown_at, value_at, value_mut, value_mut_or,
 };
-use choices::choices;
 use prost_reflect_wire::{DecodeError, UnknownField};
 use std::alloc::{AllocError, Global};
 use std::collections::BTreeMap;

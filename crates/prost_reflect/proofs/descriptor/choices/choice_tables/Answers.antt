@@ -4,7 +4,7 @@ use Rattle.prost_reflect_tables.specs.Linked.{is_linked}
 use Rattle.prost_reflect_tables.specs.Rows.{TableRows, rows_from}
 use Rattle.prost_reflect_tables.specs.Shown.{schema_from}
 use Rattle.prost_reflect.specs.Choices.{choice_fields, choice_tables}
-use Rattle.prost_reflect.proofs.fields.tests.choices.choice_tables.Goals as goal
+use Rattle.prost_reflect.proofs.descriptor.choices.choice_tables.Goals as goal
 
 choices_linked : is_linked choice_tables ≡ true
 unfolding is_utf8 chars schema_from choice_fields

@@ -1,6 +1,6 @@
 use Rattle.std.proofs.Common.{rules}
 use Rattle.prost_reflect.specs.Choices.{choice_fields}
-use Rattle.prost_reflect.proofs.fields.tests.choices.choice_fields.Goals as goal
+use Rattle.prost_reflect.proofs.descriptor.choices.choice_fields.Goals as goal
 
 pub returns : goal.returns
 unfolding choice_fields
