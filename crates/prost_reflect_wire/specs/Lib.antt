@@ -23,6 +23,8 @@ pub mod LawsOfFaults
 pub mod DescriptorTable
 pub mod DescriptorMeaning
 pub mod DescriptorViews
+pub mod DescriptorWriting
+pub mod Sinks
 pub mod Passage
 pub mod Reducing
 pub mod Examples

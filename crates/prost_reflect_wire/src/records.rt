@@ -6,7 +6,11 @@
 
 use std::alloc::Global;
 
+mod encoding;
+mod fields;
+mod sink;
 mod table;
+mod writing;
 
 /// The files that a compiler was given, each behind those that it depends on.
 #[derive(Debug, Drop)]

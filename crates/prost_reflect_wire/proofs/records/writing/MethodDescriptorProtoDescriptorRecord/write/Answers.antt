@@ -1,0 +1,7 @@
+use Rattle.std.proofs.Common.{refl}
+use Rattle.prost_reflect_wire.specs.declared.records.table.RecordType.TheVariants as types
+use Rattle.prost_reflect_wire.proofs.RecordSlots.{method_slots, record_adds}
+use Rattle.prost_reflect_wire.proofs.records.writing.MethodDescriptorProtoDescriptorRecord.write.Goals as goal
+
+pub returns : goal.returns
+returns g c = record_adds g.S.Sink.added _ _ types.Method (method_slots c.args.self.now) (refl, (refl, (refl, (refl, (refl, (refl, tt)))))) (λ start done h. c.write_text-3.ensures _ _ (c.write_text-2.ensures _ _ (c.write_text.ensures _ _ (c.write_bytes.ensures _ _ (c.write_flag-2.ensures _ _ (c.write_flag.ensures _ _ h))))))
