@@ -23,6 +23,7 @@ pub mod LawsOfFaults
 pub mod DescriptorTable
 pub mod DescriptorMeaning
 pub mod DescriptorViews
+pub mod ContentEquality
 pub mod DescriptorWriting
 pub mod Sinks
 pub mod Passage

@@ -6,7 +6,9 @@
 
 use std::alloc::Global;
 
+mod copy;
 mod encoding;
+mod equality;
 mod fields;
 mod sink;
 mod table;
