@@ -78,18 +78,18 @@ fields_before [] slots done = done
 fields_before (row ∷ rows) [] done = done
 fields_before (row ∷ rows) (slot ∷ slots) done = field_bytes row.0 row.1 slot.1 ++ fields_before rows slots done
 
-abbrev AllFound : List Field → List (ℕ × FieldKind) → Type 0
+abbrev pub AllFound : List Field → List (ℕ × FieldKind) → Type 0
 AllFound fields [] = Unit {0}
 AllFound fields (row ∷ rows) = (field_of fields row.0 ≡ Some (field_of_row row)) × AllFound fields rows
 
-abbrev SameNumbers : List (ℕ × FieldKind) → Slots → Type 0
+abbrev pub SameNumbers : List (ℕ × FieldKind) → Slots → Type 0
 SameNumbers [] [] = Unit {0}
 SameNumbers [] (slot ∷ slots) = ⊥
 SameNumbers (row ∷ rows) [] = ⊥
 SameNumbers (row ∷ rows) (slot ∷ slots) = (row.0 ≡ slot.0) × SameNumbers rows slots
 
 -- each row of a type is a field of it
-rows_found : (t : RecordType) → AllFound (known record_schema (place_of t)) (rows t)
+pub rows_found : (t : RecordType) → AllFound (known record_schema (place_of t)) (rows t)
 unfolding record_schema
 rows_found types.ExtensionRange = (refl, (refl, (refl, tt)))
 rows_found types.ReservedRange = (refl, (refl, tt))

@@ -1,6 +1,7 @@
 -- A length in front of what was added since.
 use Rattle.std.proofs.Common.{◌≡◌, ℕ, ◌+◌, ◌-◌, ◌^◌, ◌≤◌, List, [], ◌++◌, length, ◌<◌, Some, Result, Ok, Err, refl, sym, ap, ◌∙◌, subst, arith, append_assoc, append-nil, length-append, zero-add, lit<}
 use Rattle.std.specs.Option.{SomeIff}
+use Rattle.std.proofs.lemmas.List.{length-drop}
 use Rattle.prost_reflect_wire.specs.declared.buffer.BackBuffer.{BackBuffer}
 use Rattle.prost_reflect_wire.specs.declared.records.sink.RecordCount.{RecordCount}
 use Rattle.prost_reflect_wire.specs.declared.error.EncodeError.{EncodeError}
@@ -56,6 +57,10 @@ written_alone buffer w front e adds =
 
 pub written_whole : (buffer : BackBuffer) (w : RecordWriter) (front : List ℕ) (u : Unit {0}) → bytes_of buffer ≡ [] → Adds written_since (record { buffer = buffer; outcome = Ok tt }) w front → w.outcome ≡ Ok u → bytes_of w.buffer ≡ front
 written_whole buffer w front u e adds is = let p : bytes_of w.buffer ≡ front ++ [] = subst (λ (o : Answer). Prepended o [] (bytes_of w.buffer) front) is (written_alone buffer w front e adds) in p ∙ append-nil front
+
+-- a buffer holds fewer bytes than a usize counts
+pub whole_fits : (w : RecordWriter) (front : List ℕ) → bytes_of w.buffer ≡ front → length front < 2 ^ 64
+whole_fits w front is = let v = w.buffer.bytes in omega (arith, ap length is, length-drop w.buffer.start v.items, v.ok.0, v.ok.1, v.small)
 
 pub written_refused : (buffer : BackBuffer) (w : RecordWriter) (front : List ℕ) (r : EncodeError) → bytes_of buffer ≡ [] → Adds written_since (record { buffer = buffer; outcome = Ok tt }) w front → w.outcome ≡ Err r → r ≡ TooLong → 2 ^ 64 ≤ length front
 written_refused buffer w front r e adds is late = let p : r ≡ TooLong → 2 ^ 64 ≤ length front + 0 = subst (λ (o : Answer). Prepended o [] (bytes_of w.buffer) front) is (written_alone buffer w front e adds) in omega (arith, p late)

@@ -24,6 +24,7 @@ pub mod DescriptorTable
 pub mod DescriptorMeaning
 pub mod DescriptorViews
 pub mod ContentEquality
+pub mod DescriptorSound
 pub mod DescriptorWriting
 pub mod Sinks
 pub mod Passage

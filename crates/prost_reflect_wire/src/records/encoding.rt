@@ -4,6 +4,10 @@
 ghost use Rattle.std.specs.Prelude.{◌≡◌, ◌≤◌, ◌<◌, ◌^◌, ◌++◌, length, OnOk, OnErr, IfErr};
 ghost use Rattle.std.specs.Option.{SomeIff};
 ghost use Rattle.prost_reflect_wire.specs.Writing.{encoded};
+ghost use Rattle.prost_reflect_wire.specs.Levels.{levels};
+ghost use Rattle.prost_reflect_wire.specs.Grammar.{LEVEL_LIMIT};
+ghost use Rattle.prost_reflect_wire.specs.DescriptorMeaning.{record_decoded};
+ghost use Rattle.prost_reflect_wire.specs.declared.records.table.RecordType.TheVariants as types;
 ghost use Rattle.prost_reflect_wire.specs.DescriptorViews.{of_extension_range, of_reserved_range, of_field, of_oneof, of_enum_reserved_range, of_enum_value, of_enum, of_method, of_service, of_message, of_file, of_file_set};
 
 use crate::buffer::BackBuffer;
@@ -21,6 +25,7 @@ fn append<R: DescriptorRecord>(record: &R, out: &mut Vec<u8>) -> Result<(), Enco
     ensures ok { OnOk result (out.new.items ≡ out.old.items ++ encoded (R.content record.now)) }
     ensures err { OnErr result (out.new.items ≡ out.old.items) }
     ensures too_long { IfErr result (λ e. e ≡ EncodeError.TooLong → 2 ^ 64 ≤ length (encoded (R.content record.now))) }
+    ensures reads { OnOk result (levels (R.content record.now) ≤ LEVEL_LIMIT → record_decoded LEVEL_LIMIT R.record_type (encoded (R.content record.now)) ≡ Some (R.content record.now)) }
 {
     let mut writer = RecordWriter {
         buffer: BackBuffer::new(*out.allocator()),
@@ -42,7 +47,7 @@ fn count<R: DescriptorRecord>(record: &R) -> Option<usize>
 }
 
 impl ExtensionRange {
-    /// Appends the encoding of the record.
+    /// Appends the encoding of the record. Within 100 levels, the bytes are read as the same record.
     ///
     /// # Errors
     ///
@@ -51,6 +56,7 @@ impl ExtensionRange {
         ensures ok { OnOk result (out.new.items ≡ out.old.items ++ encoded (of_extension_range self.now)) }
         ensures err { OnErr result (out.new.items ≡ out.old.items) }
         ensures too_long { IfErr result (λ e. e ≡ EncodeError.TooLong → 2 ^ 64 ≤ length (encoded (of_extension_range self.now))) }
+        ensures reads { OnOk result (levels (of_extension_range self.now) ≤ LEVEL_LIMIT → record_decoded LEVEL_LIMIT types.ExtensionRange (encoded (of_extension_range self.now)) ≡ Some (of_extension_range self.now)) }
     {
         append(self, out)
     }
@@ -64,15 +70,12 @@ impl ExtensionRange {
 }
 
 impl ReservedRange {
-    /// Appends the encoding of the record.
-    ///
-    /// # Errors
-    ///
-    /// As `ExtensionRange::encode`.
+    /// Appends the encoding of the record, as `ExtensionRange::encode`.
     pub fn encode(&self, out: &mut Vec<u8>) -> Result<(), EncodeError>
         ensures ok { OnOk result (out.new.items ≡ out.old.items ++ encoded (of_reserved_range self.now)) }
         ensures err { OnErr result (out.new.items ≡ out.old.items) }
         ensures too_long { IfErr result (λ e. e ≡ EncodeError.TooLong → 2 ^ 64 ≤ length (encoded (of_reserved_range self.now))) }
+        ensures reads { OnOk result (levels (of_reserved_range self.now) ≤ LEVEL_LIMIT → record_decoded LEVEL_LIMIT types.ReservedRange (encoded (of_reserved_range self.now)) ≡ Some (of_reserved_range self.now)) }
     {
         append(self, out)
     }
@@ -86,15 +89,12 @@ impl ReservedRange {
 }
 
 impl FieldDescriptorProto {
-    /// Appends the encoding of the record.
-    ///
-    /// # Errors
-    ///
-    /// As `ExtensionRange::encode`.
+    /// Appends the encoding of the record, as `ExtensionRange::encode`.
     pub fn encode(&self, out: &mut Vec<u8>) -> Result<(), EncodeError>
         ensures ok { OnOk result (out.new.items ≡ out.old.items ++ encoded (of_field self.now)) }
         ensures err { OnErr result (out.new.items ≡ out.old.items) }
         ensures too_long { IfErr result (λ e. e ≡ EncodeError.TooLong → 2 ^ 64 ≤ length (encoded (of_field self.now))) }
+        ensures reads { OnOk result (levels (of_field self.now) ≤ LEVEL_LIMIT → record_decoded LEVEL_LIMIT types.Field (encoded (of_field self.now)) ≡ Some (of_field self.now)) }
     {
         append(self, out)
     }
@@ -108,15 +108,12 @@ impl FieldDescriptorProto {
 }
 
 impl OneofDescriptorProto {
-    /// Appends the encoding of the record.
-    ///
-    /// # Errors
-    ///
-    /// As `ExtensionRange::encode`.
+    /// Appends the encoding of the record, as `ExtensionRange::encode`.
     pub fn encode(&self, out: &mut Vec<u8>) -> Result<(), EncodeError>
         ensures ok { OnOk result (out.new.items ≡ out.old.items ++ encoded (of_oneof self.now)) }
         ensures err { OnErr result (out.new.items ≡ out.old.items) }
         ensures too_long { IfErr result (λ e. e ≡ EncodeError.TooLong → 2 ^ 64 ≤ length (encoded (of_oneof self.now))) }
+        ensures reads { OnOk result (levels (of_oneof self.now) ≤ LEVEL_LIMIT → record_decoded LEVEL_LIMIT types.Oneof (encoded (of_oneof self.now)) ≡ Some (of_oneof self.now)) }
     {
         append(self, out)
     }
@@ -130,15 +127,12 @@ impl OneofDescriptorProto {
 }
 
 impl EnumReservedRange {
-    /// Appends the encoding of the record.
-    ///
-    /// # Errors
-    ///
-    /// As `ExtensionRange::encode`.
+    /// Appends the encoding of the record, as `ExtensionRange::encode`.
     pub fn encode(&self, out: &mut Vec<u8>) -> Result<(), EncodeError>
         ensures ok { OnOk result (out.new.items ≡ out.old.items ++ encoded (of_enum_reserved_range self.now)) }
         ensures err { OnErr result (out.new.items ≡ out.old.items) }
         ensures too_long { IfErr result (λ e. e ≡ EncodeError.TooLong → 2 ^ 64 ≤ length (encoded (of_enum_reserved_range self.now))) }
+        ensures reads { OnOk result (levels (of_enum_reserved_range self.now) ≤ LEVEL_LIMIT → record_decoded LEVEL_LIMIT types.EnumReservedRange (encoded (of_enum_reserved_range self.now)) ≡ Some (of_enum_reserved_range self.now)) }
     {
         append(self, out)
     }
@@ -152,15 +146,12 @@ impl EnumReservedRange {
 }
 
 impl EnumValueDescriptorProto {
-    /// Appends the encoding of the record.
-    ///
-    /// # Errors
-    ///
-    /// As `ExtensionRange::encode`.
+    /// Appends the encoding of the record, as `ExtensionRange::encode`.
     pub fn encode(&self, out: &mut Vec<u8>) -> Result<(), EncodeError>
         ensures ok { OnOk result (out.new.items ≡ out.old.items ++ encoded (of_enum_value self.now)) }
         ensures err { OnErr result (out.new.items ≡ out.old.items) }
         ensures too_long { IfErr result (λ e. e ≡ EncodeError.TooLong → 2 ^ 64 ≤ length (encoded (of_enum_value self.now))) }
+        ensures reads { OnOk result (levels (of_enum_value self.now) ≤ LEVEL_LIMIT → record_decoded LEVEL_LIMIT types.EnumValue (encoded (of_enum_value self.now)) ≡ Some (of_enum_value self.now)) }
     {
         append(self, out)
     }
@@ -174,15 +165,12 @@ impl EnumValueDescriptorProto {
 }
 
 impl EnumDescriptorProto {
-    /// Appends the encoding of the record.
-    ///
-    /// # Errors
-    ///
-    /// As `ExtensionRange::encode`.
+    /// Appends the encoding of the record, as `ExtensionRange::encode`.
     pub fn encode(&self, out: &mut Vec<u8>) -> Result<(), EncodeError>
         ensures ok { OnOk result (out.new.items ≡ out.old.items ++ encoded (of_enum self.now)) }
         ensures err { OnErr result (out.new.items ≡ out.old.items) }
         ensures too_long { IfErr result (λ e. e ≡ EncodeError.TooLong → 2 ^ 64 ≤ length (encoded (of_enum self.now))) }
+        ensures reads { OnOk result (levels (of_enum self.now) ≤ LEVEL_LIMIT → record_decoded LEVEL_LIMIT types.Enum (encoded (of_enum self.now)) ≡ Some (of_enum self.now)) }
     {
         append(self, out)
     }
@@ -196,15 +184,12 @@ impl EnumDescriptorProto {
 }
 
 impl MethodDescriptorProto {
-    /// Appends the encoding of the record.
-    ///
-    /// # Errors
-    ///
-    /// As `ExtensionRange::encode`.
+    /// Appends the encoding of the record, as `ExtensionRange::encode`.
     pub fn encode(&self, out: &mut Vec<u8>) -> Result<(), EncodeError>
         ensures ok { OnOk result (out.new.items ≡ out.old.items ++ encoded (of_method self.now)) }
         ensures err { OnErr result (out.new.items ≡ out.old.items) }
         ensures too_long { IfErr result (λ e. e ≡ EncodeError.TooLong → 2 ^ 64 ≤ length (encoded (of_method self.now))) }
+        ensures reads { OnOk result (levels (of_method self.now) ≤ LEVEL_LIMIT → record_decoded LEVEL_LIMIT types.Method (encoded (of_method self.now)) ≡ Some (of_method self.now)) }
     {
         append(self, out)
     }
@@ -218,15 +203,12 @@ impl MethodDescriptorProto {
 }
 
 impl ServiceDescriptorProto {
-    /// Appends the encoding of the record.
-    ///
-    /// # Errors
-    ///
-    /// As `ExtensionRange::encode`.
+    /// Appends the encoding of the record, as `ExtensionRange::encode`.
     pub fn encode(&self, out: &mut Vec<u8>) -> Result<(), EncodeError>
         ensures ok { OnOk result (out.new.items ≡ out.old.items ++ encoded (of_service self.now)) }
         ensures err { OnErr result (out.new.items ≡ out.old.items) }
         ensures too_long { IfErr result (λ e. e ≡ EncodeError.TooLong → 2 ^ 64 ≤ length (encoded (of_service self.now))) }
+        ensures reads { OnOk result (levels (of_service self.now) ≤ LEVEL_LIMIT → record_decoded LEVEL_LIMIT types.Service (encoded (of_service self.now)) ≡ Some (of_service self.now)) }
     {
         append(self, out)
     }
@@ -240,15 +222,12 @@ impl ServiceDescriptorProto {
 }
 
 impl DescriptorProto {
-    /// Appends the encoding of the record.
-    ///
-    /// # Errors
-    ///
-    /// As `ExtensionRange::encode`.
+    /// Appends the encoding of the record, as `ExtensionRange::encode`.
     pub fn encode(&self, out: &mut Vec<u8>) -> Result<(), EncodeError>
         ensures ok { OnOk result (out.new.items ≡ out.old.items ++ encoded (of_message self.now)) }
         ensures err { OnErr result (out.new.items ≡ out.old.items) }
         ensures too_long { IfErr result (λ e. e ≡ EncodeError.TooLong → 2 ^ 64 ≤ length (encoded (of_message self.now))) }
+        ensures reads { OnOk result (levels (of_message self.now) ≤ LEVEL_LIMIT → record_decoded LEVEL_LIMIT types.Message (encoded (of_message self.now)) ≡ Some (of_message self.now)) }
     {
         append(self, out)
     }
@@ -262,15 +241,12 @@ impl DescriptorProto {
 }
 
 impl FileDescriptorProto {
-    /// Appends the encoding of the record.
-    ///
-    /// # Errors
-    ///
-    /// As `ExtensionRange::encode`.
+    /// Appends the encoding of the record, as `ExtensionRange::encode`.
     pub fn encode(&self, out: &mut Vec<u8>) -> Result<(), EncodeError>
         ensures ok { OnOk result (out.new.items ≡ out.old.items ++ encoded (of_file self.now)) }
         ensures err { OnErr result (out.new.items ≡ out.old.items) }
         ensures too_long { IfErr result (λ e. e ≡ EncodeError.TooLong → 2 ^ 64 ≤ length (encoded (of_file self.now))) }
+        ensures reads { OnOk result (levels (of_file self.now) ≤ LEVEL_LIMIT → record_decoded LEVEL_LIMIT types.File (encoded (of_file self.now)) ≡ Some (of_file self.now)) }
     {
         append(self, out)
     }
@@ -284,15 +260,12 @@ impl FileDescriptorProto {
 }
 
 impl FileDescriptorSet {
-    /// Appends the encoding of the record.
-    ///
-    /// # Errors
-    ///
-    /// As `ExtensionRange::encode`.
+    /// Appends the encoding of the record, as `ExtensionRange::encode`.
     pub fn encode(&self, out: &mut Vec<u8>) -> Result<(), EncodeError>
         ensures ok { OnOk result (out.new.items ≡ out.old.items ++ encoded (of_file_set self.now)) }
         ensures err { OnErr result (out.new.items ≡ out.old.items) }
         ensures too_long { IfErr result (λ e. e ≡ EncodeError.TooLong → 2 ^ 64 ≤ length (encoded (of_file_set self.now))) }
+        ensures reads { OnOk result (levels (of_file_set self.now) ≤ LEVEL_LIMIT → record_decoded LEVEL_LIMIT types.FileSet (encoded (of_file_set self.now)) ≡ Some (of_file_set self.now)) }
     {
         append(self, out)
     }

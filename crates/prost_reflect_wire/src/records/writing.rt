@@ -4,6 +4,7 @@ ghost use Rattle.std.specs.Prelude.{◌++◌, ◌∷◌, ℕ, List, [], map};
 ghost use Rattle.prost_reflect_wire.specs.Record.{Flat, Len, record_at, spelled};
 ghost use Rattle.prost_reflect_wire.specs.Writing.{encoded};
 ghost use Rattle.prost_reflect_wire.specs.DescriptorViews.{of_records, of_extension_range, of_reserved_range, of_field, of_oneof, of_enum_reserved_range, of_enum_value, of_enum, of_method, of_service, of_message, of_file, of_file_set};
+ghost use Rattle.prost_reflect_wire.specs.DescriptorSound.{RecordSound, FieldSound};
 ghost use Rattle.prost_reflect_wire.specs.DescriptorWriting.{field_bytes};
 ghost use Rattle.prost_reflect_wire.specs.Sinks.{Adds};
 ghost use Rattle.prost_reflect_wire.specs.declared.records.table.FieldKind.TheVariants as kinds;
@@ -151,7 +152,8 @@ impl DescriptorRecord for DescriptorProto {
 
 #[cycle(message_writing)]
 fn write_message<S: Sink>(sink: &mut S, message: &DescriptorProto)
-    ensures { Adds S.added sink.old sink.new (encoded (of_message message.now)) }
+    ensures added { Adds S.added sink.old sink.new (encoded (of_message message.now)) }
+    ensures sound { RecordSound types.Message (of_message message.now) }
 {
     write_texts(sink, 10, &message.reserved_name);
     write_records(sink, 9, &message.reserved_range);
@@ -167,7 +169,8 @@ fn write_message<S: Sink>(sink: &mut S, message: &DescriptorProto)
 
 #[cycle(message_writing)]
 fn write_messages<S: Sink>(sink: &mut S, number: u32, messages: &Vec<DescriptorProto>)
-    ensures { Adds S.added sink.old sink.new (field_bytes number (kinds.Records types.Message) (of_records (map of_message messages.now.items))) }
+    ensures added { Adds S.added sink.old sink.new (field_bytes number (kinds.Records types.Message) (of_records (map of_message messages.now.items))) }
+    ensures sound { FieldSound (kinds.Records types.Message) (of_records (map of_message messages.now.items)) }
 {
     for index in (0..messages.len()).rev() {
         let before = sink.len();
