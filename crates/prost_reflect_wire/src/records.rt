@@ -8,8 +8,10 @@ use std::alloc::Global;
 
 mod copy;
 mod encoding;
+#[cfg(test)]
+mod encoding_tests;
 mod equality;
-mod fields;
+mod field_writing;
 mod sink;
 mod table;
 mod writing;

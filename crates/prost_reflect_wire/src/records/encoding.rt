@@ -12,7 +12,7 @@ ghost use Rattle.prost_reflect_wire.specs.DescriptorViews.{of_extension_range, o
 
 use crate::buffer::BackBuffer;
 use crate::error::EncodeError;
-use crate::records::fields::DescriptorRecord;
+use crate::records::field_writing::DescriptorRecord;
 use crate::records::sink::{RecordCount, RecordWriter};
 use crate::records::{
     DescriptorProto, EnumDescriptorProto, EnumReservedRange, EnumValueDescriptorProto,

@@ -11,7 +11,7 @@ ghost use Rattle.prost_reflect_wire.specs.declared.records.table.FieldKind.TheVa
 ghost use Rattle.prost_reflect_wire.specs.declared.records.table.RecordType.TheVariants as types;
 
 use crate::key::WireType;
-use crate::records::fields::{
+use crate::records::field_writing::{
     DescriptorRecord, write_bytes, write_flag, write_key, write_number, write_numbers,
     write_records, write_text, write_texts,
 };

@@ -3,7 +3,7 @@ use Rattle.std.specs.Int.{w64, cast_unsigned}
 use Rattle.prost_reflect_wire.specs.Scalar.{in_i32}
 use Rattle.prost_reflect_wire.proofs.FieldBytes.{adds_same, adds_none, number_bytes, no_number}
 use Rattle.prost_reflect_wire.proofs.SoundFields.{number_sound, number_absent}
-use Rattle.prost_reflect_wire.proofs.records.fields.write_number.Goals as goal
+use Rattle.prost_reflect_wire.proofs.records.field_writing.write_number.Goals as goal
 
 pub returns-in-Some-clause-added : goal.returns-in-Some-clause-added
 returns-in-Some-clause-added g c = let value : c.sign_extended.result ≡ cast_unsigned w64 c.in-Some.value = search rules in

@@ -1,7 +1,7 @@
 use Rattle.std.proofs.Common.{◌≡◌, arith}
 use Rattle.prost_reflect_wire.proofs.FieldBytes.{adds_same, records_field}
 use Rattle.prost_reflect_wire.proofs.SoundFields.{records_sound}
-use Rattle.prost_reflect_wire.proofs.records.fields.write_records.Goals as goal
+use Rattle.prost_reflect_wire.proofs.records.field_writing.write_records.Goals as goal
 
 pub returns-clause-added : goal.returns-clause-added
 returns-clause-added g c = let first : c.loop-index.index ≡ 0 = omega arith in

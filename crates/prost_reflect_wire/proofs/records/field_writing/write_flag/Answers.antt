@@ -1,6 +1,6 @@
 use Rattle.std.proofs.Common.{rules, ◌≡◌, cond}
 use Rattle.prost_reflect_wire.proofs.FieldBytes.{adds_same, adds_none, flag_bytes, no_flag}
-use Rattle.prost_reflect_wire.proofs.records.fields.write_flag.Goals as goal
+use Rattle.prost_reflect_wire.proofs.records.field_writing.write_flag.Goals as goal
 
 pub returns-in-Some : goal.returns-in-Some
 returns-in-Some g c = let value : c.from.result ≡ cond c.in-Some.flag 1 0 = search rules in

@@ -1,6 +1,6 @@
 use Rattle.prost_reflect_wire.proofs.FieldBytes.{adds_same, adds_none, raw_bytes, no_bytes}
 use Rattle.prost_reflect_wire.proofs.SoundFields.{raw_sound, raw_absent}
-use Rattle.prost_reflect_wire.proofs.records.fields.write_bytes.Goals as goal
+use Rattle.prost_reflect_wire.proofs.records.field_writing.write_bytes.Goals as goal
 
 pub returns-in-Some-clause-added : goal.returns-in-Some-clause-added
 returns-in-Some-clause-added g c = adds_same g.S.Sink.added _ _ _ _ (raw_bytes _ _ c.in-Some.bytes _ c.in-Some.is c.deref.ensures.value) c.write_delimited.ensures.added

@@ -4,7 +4,7 @@ use Rattle.prost_reflect_wire.specs.Scalar.{Text}
 use Rattle.prost_reflect_wire.specs.Sinks.{Adds}
 use Rattle.prost_reflect_wire.specs.declared.records.table.FieldKind.TheVariants as kinds
 use Rattle.prost_reflect_wire.proofs.FieldBytes.{list_bytes}
-use Rattle.prost_reflect_wire.proofs.records.fields.write_texts.Given as goal
+use Rattle.prost_reflect_wire.proofs.records.field_writing.write_texts.Given as goal
 
 -- the elements from the index on are written
 abbrev pub invariant-loop-index : goal.invariant-loop-index

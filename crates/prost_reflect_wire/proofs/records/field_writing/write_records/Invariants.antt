@@ -4,7 +4,7 @@ use Rattle.prost_reflect_wire.specs.Sinks.{Adds}
 use Rattle.prost_reflect_wire.specs.declared.records.table.FieldKind.TheVariants as kinds
 use Rattle.prost_reflect_wire.proofs.FieldBytes.{list_bytes}
 use Rattle.prost_reflect_wire.proofs.SoundFields.{AllSound}
-use Rattle.prost_reflect_wire.proofs.records.fields.write_records.Given as goal
+use Rattle.prost_reflect_wire.proofs.records.field_writing.write_records.Given as goal
 
 -- the records from the index on are written
 abbrev pub invariant-loop-index : goal.invariant-loop-index
