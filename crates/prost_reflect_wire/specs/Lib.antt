@@ -23,6 +23,7 @@ pub mod LawsOfFaults
 pub mod DescriptorTable
 pub mod DescriptorMeaning
 pub mod DescriptorViews
+pub mod DescriptorReading
 pub mod Passage
 pub mod Reducing
 pub mod Examples

@@ -6,7 +6,9 @@
 
 use std::alloc::Global;
 
+mod fields;
 mod table;
+mod values;
 
 /// The files that a compiler was given, each behind those that it depends on.
 #[derive(Debug, Drop)]
