@@ -23,16 +23,13 @@ use Rattle.prost_reflect_wire.specs.Unknown.{SkipsValue}
 use Rattle.prost_reflect_wire.specs.DescriptorTable.{rows, place_of, form_of, value_type_of, field_of_row, record_schema}
 use Rattle.prost_reflect_wire.specs.DescriptorReading.{Found, FoundNumber, Fields, FieldRead, FieldFault, DelimitedFault, PackedRead, kind_at, found_in, found_in_record, found_in_records, number_in_plain, under, found_at, all_found}
 use Rattle.prost_reflect_wire.proofs.Sound.{some_inside, bind_ok}
+use Rattle.prost_reflect_wire.proofs.Steps.{map_append}
 use Rattle.prost_reflect_wire.proofs.KindsAllowed.{element_name}
 use Rattle.prost_reflect_wire.proofs.PlainFronts.{varint_plain}
 use Rattle.prost_reflect_wire.proofs.RecordFronts.{record_front, last_front, none_front}
 use Rattle.prost_reflect_wire.proofs.PlaceFaults.{key_stands, value_stands, stands_behind}
 use Rattle.prost_reflect_wire.proofs.DescriptorRows.{known_field, unknown_field}
 use Rattle.prost_reflect_wire.proofs.PackedNumbers.{PlainsFront, plains_more, fault_behind, plains_unpacked}
-
-map_append : {A B : Type 0} (f : A → B) (xs ys : List A) → map f (xs ++ ys) ≡ map f xs ++ map f ys
-map_append f [] ys = refl
-map_append f (x ∷ xs) ys = ap (λ l. f x ∷ l) (map_append f xs ys)
 
 -- a field put behind others
 pub found_pushed : (old new : List RawField) (field : RawField) → new ≡ old ++ field ∷ [] → all_found new ≡ all_found old ++ found_at field ∷ []

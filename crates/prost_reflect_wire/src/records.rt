@@ -6,8 +6,12 @@
 
 use std::alloc::Global;
 
+mod body;
+mod decode;
 mod fields;
 mod table;
+#[cfg(test)]
+mod tests;
 mod values;
 
 /// The files that a compiler was given, each behind those that it depends on.

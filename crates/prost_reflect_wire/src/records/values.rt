@@ -1,8 +1,8 @@
 //! Making the fields of a descriptor record of the values that were found.
 
-ghost use Rattle.std.specs.Prelude.{◌≡◌, [], ◌∷◌, None, Some, option_map, IfOk};
+ghost use Rattle.std.specs.Prelude.{◌≡◌, [], ◌∷◌, None, Some, map, option_map, IfOk};
 ghost use Rattle.prost_reflect_wire.specs.DescriptorViews.{of_text, of_number, of_flag, of_bytes, of_texts, of_numbers};
-ghost use Rattle.prost_reflect_wire.specs.DescriptorReading.{all_found, found_of, last_at, text_at, number_at, flag_at, bytes_at, texts_at, numbers_at, joined_to};
+ghost use Rattle.prost_reflect_wire.specs.DescriptorReading.{all_found, found_of, last_at, text_at, number_at, flag_at, bytes_at, texts_at, numbers_at, joined_to, at_number, record_in};
 
 use crate::records::fields::{RawField, RawValue};
 use std::alloc::{AllocError, Global};
@@ -120,4 +120,23 @@ pub fn numbers(alloc: Global, fields: &[RawField<'_>], number: u32) -> Result<Ve
         }
     }
     Ok(numbers)
+}
+
+/// The bodies of the nested records of the number.
+pub fn bodies<'a>(
+    alloc: Global,
+    fields: &[RawField<'a>],
+    number: u32,
+) -> Result<Vec<&'a [u8]>, AllocError>
+    ensures { IfOk result (λ bodies. map (λ b. b.now) bodies.items ≡ at_number record_in number (all_found fields.now)) }
+{
+    let mut bodies = Vec::new(alloc);
+    for field in fields {
+        if field.number == number {
+            if let RawValue::Record(body) = field.value {
+                bodies.push(body)?;
+            }
+        }
+    }
+    Ok(bodies)
 }
