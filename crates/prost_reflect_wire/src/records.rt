@@ -6,14 +6,20 @@
 
 use std::alloc::Global;
 
+mod body;
 mod copy;
+mod decode;
 mod encoding;
 #[cfg(test)]
 mod encoding_tests;
 mod equality;
 mod field_writing;
+mod fields;
 mod sink;
 mod table;
+#[cfg(test)]
+mod tests;
+mod values;
 mod writing;
 
 /// The files that a compiler was given, each behind those that it depends on.
