@@ -1,16 +1,14 @@
 -- Equality of rows, as tests that decide it.
-use Rattle.std.specs.Prelude.{◌≡◌, ℕ, Bool, true, ◌&&◌, nat_eq, List, Option, Some, None, refl}
+use Rattle.std.specs.Prelude.{◌≡◌, ℕ, Bool, true, false, ◌&&◌, nat_eq, List, Option, Some, None, refl}
 use Rattle.std.specs.Bool.{Decides, beq}
 use Rattle.std.specs.Option.{option_eq}
-use Rattle.std.specs.Ordering.{int_eq, is_eq}
-use Rattle.std.specs.Cmp.{unsigned_Decides, signed_Decides, booleans_Decides}
-use Rattle.std.specs.Cmp.Lexicographic.{pointwise}
+use Rattle.std.specs.Ordering.{nat_cmp, int_eq, eq_by_cmp}
+use Rattle.std.specs.Cmp.{unsigned_Decides, signed_Decides, booleans_Decides, unsigned_ties}
+use Rattle.std.specs.Cmp.Lexicographic.{pointwise, slice_cmp, texts_ties}
 use Rattle.std.proofs.Common.{sym, ap, ◌∙◌, true≢false}
 use Rattle.std.proofs.lemmas.Bool.Decides.{Decides-and, Decides-like}
 use Rattle.std.proofs.lemmas.Slice.Eq.{slice_eq-Decides}
-use Rattle.std.proofs.lemmas.Cmp.{tied_itself}
-use Rattle.prost_reflect_wire.specs.Scalar.{Scalar, scalar_eq}
-use Rattle.prost_reflect_wire.proofs.Order.{scalar_total, scalars_equal}
+use Rattle.prost_reflect_wire.specs.Scalar.{Scalar, Boolean, I32, I64, U32, U64, F32, F64, Text, Bytes, EnumNumber, scalar_eq}
 use Rattle.prost_reflect_tables.specs.declared.tables.Cardinality.{Cardinality}
 use Rattle.prost_reflect_tables.specs.declared.tables.Cardinality.TheVariants as labels
 use Rattle.prost_reflect_tables.specs.declared.tables.TableKind.{TableKind}
@@ -95,9 +93,6 @@ label_decides = decided label_eq label_same (label_laws.laws-law).refl
 kind_decides : (a b : TableKind) → Decides (kind_eq a b) (a ≡ b)
 kind_decides = decided kind_eq kind_same (kind_laws.laws-law).refl
 
-pub scalar_decides : (a b : Scalar) → Decides (scalar_eq a b) (a ≡ b)
-scalar_decides = decided scalar_eq scalars_equal (λ x. ap is_eq (tied_itself scalar_total x))
-
 list_decides : {A : Type 0} {E : A → A → Bool} → ((a b : A) → Decides (E a b) (a ≡ b)) → (xs ys : List A) → Decides (pointwise E xs ys) (xs ≡ ys)
 list_decides {E} each xs ys = slice_eq-Decides each xs ys (pointwise E xs ys) refl
 
@@ -115,6 +110,48 @@ option_decides {A} {E} each = decided (option_eq E) same itself
 
 pub text_decides : (xs ys : List ℕ) → Decides (pointwise nat_eq xs ys) (xs ≡ ys)
 text_decides = list_decides unsigned_Decides
+
+number_same : (a b : ℕ) → eq_by_cmp nat_cmp a b ≡ true → a ≡ b
+number_same a b h = (unsigned_Decides a b).0 (unsigned_ties a b ∙ h)
+
+number_itself : (a : ℕ) → eq_by_cmp nat_cmp a a ≡ true
+number_itself a = sym (unsigned_ties a a) ∙ (unsigned_Decides a a).1 refl
+
+text_same : (x y : List ℕ) → eq_by_cmp (slice_cmp nat_cmp) x y ≡ true → x ≡ y
+text_same x y h = (text_decides x y).0 (texts_ties x y ∙ h)
+
+text_itself : (x : List ℕ) → eq_by_cmp (slice_cmp nat_cmp) x x ≡ true
+text_itself x = sym (texts_ties x x) ∙ (text_decides x x).1 refl
+
+scalar_same : (a b : Scalar) → scalar_eq a b ≡ true → a ≡ b
+scalar_same (Boolean true) (Boolean true) h = refl
+scalar_same (Boolean false) (Boolean false) h = refl
+scalar_same (I32 a) (I32 b) h = ap I32 ((signed_Decides a b).0 h)
+scalar_same (I64 a) (I64 b) h = ap I64 ((signed_Decides a b).0 h)
+scalar_same (U32 a) (U32 b) h = ap U32 (number_same a b h)
+scalar_same (U64 a) (U64 b) h = ap U64 (number_same a b h)
+scalar_same (F32 a) (F32 b) h = ap F32 (number_same a b h)
+scalar_same (F64 a) (F64 b) h = ap F64 (number_same a b h)
+scalar_same (Text x) (Text y) h = ap Text (text_same x y h)
+scalar_same (Bytes x) (Bytes y) h = ap Bytes (text_same x y h)
+scalar_same (EnumNumber a) (EnumNumber b) h = ap EnumNumber ((signed_Decides a b).0 h)
+scalar_same a b h = absurd (true≢false (sym h))
+
+scalar_itself : (a : Scalar) → scalar_eq a a ≡ true
+scalar_itself (Boolean true) = refl
+scalar_itself (Boolean false) = refl
+scalar_itself (I32 a) = (signed_Decides a a).1 refl
+scalar_itself (I64 a) = (signed_Decides a a).1 refl
+scalar_itself (U32 a) = number_itself a
+scalar_itself (U64 a) = number_itself a
+scalar_itself (F32 a) = number_itself a
+scalar_itself (F64 a) = number_itself a
+scalar_itself (Text x) = text_itself x
+scalar_itself (Bytes x) = text_itself x
+scalar_itself (EnumNumber a) = (signed_Decides a a).1 refl
+
+pub scalar_decides : (a b : Scalar) → Decides (scalar_eq a b) (a ≡ b)
+scalar_decides = decided scalar_eq scalar_same scalar_itself
 
 -- ROWS
 
