@@ -133,7 +133,7 @@ impl DynamicMessage {
     }
 
     /// The value at the number of a field or an extension, for writing. Where there is none it is first set to `default`.
-    /// A refused growth changes nothing.
+    /// Once the loan is over, the message is as if what was left behind the reference had been set. A refused growth changes nothing.
     pub(crate) fn value_mut_or(
         &mut self,
         number: u32,
@@ -142,6 +142,7 @@ impl DynamicMessage {
         requires { is_known (known_of (descriptor_of self.old)) number ≡ true }
         ensures* writes_back { sem 𝓛 (LendsIfOk the_row value.the_row self.entry result (written_at self.old number default) self.old) }
         ensures value { IfOk result (λ lent. value_of lent.now ≡ unwrap_or (value_at number (entries_of (content_of self.old))) (value_of default)) }
+        ensures descriptor { (v : Value) → descriptor_of (written_at self.old number default v) ≡ descriptor_of self.old }
         ensures content { (v : Value) → content_of (written_at self.old number default v) ≡ value_set number (value_of v) (content_of self.old) }
     {
         self.slots.get_mut_or(number, default)
