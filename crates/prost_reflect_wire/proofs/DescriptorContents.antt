@@ -1,27 +1,27 @@
 -- A descriptor record is accepted and means its fields, where each of these is what was found at its number.
-use Rattle.std.proofs.Common.{◌≡◌, ℕ, zero, suc, ◌+◌, ◌≤◌, Bool, true, false, cond, ◌&&◌, ◌||◌, List, [], ◌∷◌, ◌++◌, map, flat_map, length, Option, Some, None, option_map, nat_eq, nat_le, refl, ap, ap₂, sym, subst, ◌∙◌, arith, append-nil, lit≤}
+use Rattle.std.proofs.Common.{◌≡◌, ℕ, zero, suc, ◌+◌, Bool, true, false, cond, ◌||◌, List, [], ◌∷◌, ◌++◌, map, flat_map, length, Option, Some, None, option_map, nat_eq, nat_le, refl, ap, ap₂, sym, subst, ◌∙◌, arith, append-nil, lit≤}
 use Rattle.std.proofs.lemmas.Bool.{eqb-true, eq-eqb}
 use Rattle.std.specs.List.{list_all}
 use Rattle.std.specs.Option.{is_some}
 use Rattle.std.specs.Str.{is_utf8}
 use Rattle.prost_reflect_wire.specs.Varint.{◌>>=◌, guard}
-use Rattle.prost_reflect_wire.specs.Record.{Plain, Var, Len, Payload, Flat, Record, Records, items, body_of, payload_levels, read, Spells}
+use Rattle.prost_reflect_wire.specs.Record.{Var, Len, Payload, Flat, Record, Records, items, body_of, payload_levels, Spells}
 use Rattle.prost_reflect_wire.specs.Front.{RecordsFront}
 use Rattle.prost_reflect_wire.specs.Scalar.{Text, Int32}
-use Rattle.prost_reflect_wire.specs.Schema.{Field, field_of, known}
-use Rattle.prost_reflect_wire.specs.Content.{Content, ContentOf, Entries, NoEntries, Stored, Value, Slot, then_unknowns, then_value, store, table}
+use Rattle.prost_reflect_wire.specs.Schema.{Field, known}
+use Rattle.prost_reflect_wire.specs.Content.{Content, ContentOf, Value, Slot, then_unknowns, then_value, store, table}
 use Rattle.prost_reflect_wire.specs.Grammar.{payloads, value_records, AllowsInside, allows, body, field_allowed, record_allowed, unpacked}
 use Rattle.prost_reflect_wire.specs.Schema.{passes}
-use Rattle.prost_reflect_wire.specs.Meaning.{MeansInside, field_value, numbers_of, meaning_at, meaning, decoded, survive, value_meaning}
-use Rattle.prost_reflect_wire.specs.DescriptorTable.{rows, place_of, form_of, value_type_of, field_of_row, record_schema}
+use Rattle.prost_reflect_wire.specs.Meaning.{field_value, numbers_of, meaning_at, meaning, survive, value_meaning}
+use Rattle.prost_reflect_wire.specs.DescriptorTable.{rows, place_of, form_of, value_type_of, record_schema}
 use Rattle.prost_reflect_wire.specs.DescriptorMeaning.{gathered, entries_gathered, value_gathered, record_decoded}
 use Rattle.prost_reflect_wire.specs.DescriptorViews.{entries_from, record_of}
-use Rattle.prost_reflect_wire.specs.DescriptorReading.{Found, FoundText, FoundRecord, kind_at, found_in, found_in_record, found_in_records, under, at_number, record_in, nested_decoded, all_decoded, records_at, number_in_plain, Fields}
+use Rattle.prost_reflect_wire.specs.DescriptorReading.{Found, FoundText, FoundRecord, kind_at, found_in, found_in_record, found_in_records, at_number, record_in, nested_decoded, all_decoded, records_at, number_in_plain, Fields}
 use Rattle.prost_reflect_wire.specs.declared.records.table.RecordType.{RecordType}
 use Rattle.prost_reflect_wire.specs.declared.records.table.RecordType.TheVariants as types
 use Rattle.prost_reflect_wire.specs.declared.records.table.FieldKind.{FieldKind}
 use Rattle.prost_reflect_wire.specs.declared.records.table.FieldKind.TheVariants as kinds
-use Rattle.prost_reflect_wire.proofs.Numbers.{Ascending, is_in, Covers, empty_slot, eqb-sym, numbers_ascending, table_same, table_covers, slots_same}
+use Rattle.prost_reflect_wire.proofs.Numbers.{Ascending, is_in, Covers, eqb-sym, numbers_ascending, table_covers}
 use Rattle.prost_reflect_wire.proofs.Sound.{some_inside, none_some, bind_ok, guard_ok}
 use Rattle.prost_reflect_wire.proofs.Survivors.{or_false}
 use Rattle.prost_reflect_wire.proofs.Deeper.{both_true}
@@ -32,7 +32,7 @@ use Rattle.prost_reflect_wire.proofs.Places.{passes_body}
 use Rattle.prost_reflect_wire.proofs.Reading.{spelled_read}
 use Rattle.prost_reflect_wire.proofs.Values.{items_body}
 use Rattle.prost_reflect_wire.proofs.DescriptorRows.{known_field, unknown_field}
-use Rattle.prost_reflect_wire.proofs.DescriptorKinds.{picked, Decoded, decoded_parts}
+use Rattle.prost_reflect_wire.proofs.DescriptorKinds.{picked, decoded_parts}
 use Rattle.prost_reflect_wire.proofs.DescriptorNumbers.{SlotOf, slot_means, at_under, FirstRecord, first_record, known_found, unknown_found}
 
 -- THE ROWS

@@ -2,15 +2,15 @@
 use Rattle.std.proofs.Common.{◌≡◌, ℕ, zero, suc, Bool, true, false, cond, not, ℤ, List, [], ◌∷◌, ◌++◌, map, filter, flat_map, Option, Some, None, option_map, nat_eq, refl, ap, ap₂, sym, ◌∙◌, append_assoc, arith}
 use Rattle.std.specs.Str.{is_utf8}
 use Rattle.prost_reflect_wire.specs.Varint.{◌>>=◌, guard}
-use Rattle.prost_reflect_wire.specs.Record.{Plain, Var, Fix64, Len, Fix32, Payload, Flat, Group, Records, items, read}
+use Rattle.prost_reflect_wire.specs.Record.{Plain, Var, Fix64, Len, Fix32, Payload, Flat, Records, items, read}
 use Rattle.prost_reflect_wire.specs.Scalar.{Scalar, Boolean, I32, Text, Bytes, ScalarKind, StringKind, BytesKind, Int32, BoolKind, elem, low_i32}
-use Rattle.prost_reflect_wire.specs.Schema.{Kind, ScalarOf, MessageOf, Singular, Repeated}
+use Rattle.prost_reflect_wire.specs.Schema.{ScalarOf, MessageOf, Singular, Repeated}
 use Rattle.prost_reflect_wire.specs.Content.{Content, Value, ScalarValue, MessageValue, ListValue, MapValue, Values, NoValues, Item, values_from}
 use Rattle.prost_reflect_wire.specs.Grammar.{unpacked, or_none, last, records_in, value_payloads, allows}
 use Rattle.prost_reflect_wire.specs.Meaning.{MeansInside, present, scalar_values, element, field_value, present_list, meaning}
 use Rattle.prost_reflect_wire.specs.DescriptorTable.{scalar_of, value_type_of, place_of, record_schema}
 use Rattle.prost_reflect_wire.specs.DescriptorMeaning.{in_front_of, gathered, value_gathered, values_gathered}
-use Rattle.prost_reflect_wire.specs.DescriptorReading.{Found, FoundText, FoundNumber, FoundFlag, FoundBytes, FoundRecord, found_in, number_in_plain, in_front, text_in, number_in, flag_in, bytes_in, record_in, last_of, joined_to, nested_decoded, all_decoded}
+use Rattle.prost_reflect_wire.specs.DescriptorReading.{Found, FoundText, FoundNumber, FoundFlag, found_in, number_in_plain, in_front, text_in, number_in, flag_in, bytes_in, record_in, last_of, joined_to, nested_decoded, all_decoded}
 use Rattle.prost_reflect_wire.specs.declared.records.table.RecordType.{RecordType}
 use Rattle.prost_reflect_wire.specs.declared.records.table.FieldKind.{FieldKind}
 use Rattle.prost_reflect_wire.specs.declared.records.table.FieldKind.TheVariants as kinds

@@ -1,9 +1,9 @@
 -- What the values of a descriptor record's fields mean, number by number.
-use Rattle.std.proofs.Common.{◌≡◌, ℕ, Bool, true, false, cond, ◌||◌, List, [], ◌∷◌, ◌++◌, map, filter, flat_map, Option, Some, None, option_map, nat_eq, nat_le, refl, ap, ap₂, sym, ◌∙◌, append_assoc}
+use Rattle.std.proofs.Common.{◌≡◌, ℕ, Bool, true, false, cond, ◌||◌, List, [], ◌∷◌, ◌++◌, map, filter, flat_map, Option, Some, None, option_map, nat_eq, nat_le, refl, ap, ap₂, sym, ◌∙◌}
 use Rattle.std.proofs.lemmas.Bool.{eqb-true}
 use Rattle.std.specs.List.{list_any}
 use Rattle.prost_reflect_wire.specs.Varint.{◌>>=◌, guard}
-use Rattle.prost_reflect_wire.specs.Record.{Payload, Record, record_at, payload_levels}
+use Rattle.prost_reflect_wire.specs.Record.{Payload, Record, payload_levels}
 use Rattle.prost_reflect_wire.specs.Schema.{Field, field_of, is_sibling, known}
 use Rattle.prost_reflect_wire.specs.Scalar.{I32, Text, Bytes}
 use Rattle.prost_reflect_wire.specs.Content.{Content, Value, ScalarValue, ListValue, NoValues, Item, values_from}

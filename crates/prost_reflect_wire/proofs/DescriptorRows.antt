@@ -2,7 +2,7 @@
 use Rattle.std.proofs.Common.{◌≡◌, ℕ, Bool, true, false, cond, List, [], ◌∷◌, map, nat_eq, Option, Some, None, refl, ap, ◌∙◌}
 use Rattle.std.proofs.lemmas.Bool.{eqb-true}
 use Rattle.prost_reflect_wire.specs.Varint.{◌>>=◌}
-use Rattle.prost_reflect_wire.specs.Schema.{Field, field_of, known}
+use Rattle.prost_reflect_wire.specs.Schema.{field_of, known}
 use Rattle.prost_reflect_wire.specs.DescriptorTable.{rows, place_of, field_of_row, record_schema}
 use Rattle.prost_reflect_wire.specs.DescriptorReading.{kind_at}
 use Rattle.prost_reflect_wire.specs.declared.records.table.RecordType.{RecordType}

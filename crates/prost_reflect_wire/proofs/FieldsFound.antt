@@ -1,5 +1,5 @@
 -- The values of a descriptor record's fields, found one behind another.
-use Rattle.std.proofs.Common.{◌≡◌, ◌≢◌, ◌⊎◌, ℕ, false, Result, Ok, Err, IfErr, List, [], ◌∷◌, ◌++◌, map, flat_map, Option, Some, None, refl, sym, ap, subst, ◌∙◌, append_assoc, append-nil, inl, inr, nat_le, arith, Fits}
+use Rattle.std.proofs.Common.{◌≡◌, ◌≢◌, ◌⊎◌, ℕ, false, Result, Ok, Err, IfErr, List, [], ◌∷◌, ◌++◌, flat_map, Option, Some, None, refl, sym, ap, subst, ◌∙◌, append_assoc, append-nil, inl, inr, nat_le, arith, Fits}
 use Rattle.std.specs.Int.{w32, cast_signed, cast_unsigned}
 use Rattle.std.proofs.lemmas.Int.{to_z-of_z}
 use Rattle.std.proofs.Math.Facts.{sfits_to_z}
@@ -14,7 +14,7 @@ use Rattle.prost_reflect_wire.specs.declared.records.table.FieldKind.{FieldKind}
 use Rattle.prost_reflect_wire.specs.declared.records.table.FieldKind.TheVariants as kinds
 use Rattle.prost_reflect_wire.specs.declared.records.fields.RawField.{RawField}
 use Rattle.prost_reflect_wire.specs.Varint.{◌>>=◌, guard}
-use Rattle.prost_reflect_wire.specs.Record.{Plain, Var, Record, record_at, Payload, Flat, body_of, payload_levels}
+use Rattle.prost_reflect_wire.specs.Record.{Plain, Var, Record, record_at, Flat, body_of, payload_levels}
 use Rattle.prost_reflect_wire.specs.Front.{KeyFront, VarintFront, DelimitedFront, RecordFront, KeyFault, VarintFault}
 use Rattle.prost_reflect_wire.specs.Scalar.{Int32, low_32, low_i32}
 use Rattle.prost_reflect_wire.specs.Schema.{Schema, Field}

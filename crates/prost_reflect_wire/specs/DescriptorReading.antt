@@ -1,12 +1,12 @@
 -- How the bytes of a descriptor record are read: first the values of its fields are found where they stand, then each field is made of those of its number.
-use Rattle.std.specs.Prelude.{◌≡◌, ◌≢◌, ℕ, zero, suc, ◌⊎◌, Bool, true, false, not, ℤ, List, [], ◌∷◌, ◌++◌, map, flat_map, Option, Some, None, option_map, nat_eq, nat_le, if◌then◌else◌}
+use Rattle.std.specs.Prelude.{◌≡◌, ◌≢◌, ℕ, zero, suc, ◌⊎◌, Bool, false, not, ℤ, List, [], ◌∷◌, ◌++◌, map, flat_map, Option, Some, None, option_map, nat_eq, nat_le, if◌then◌else◌}
 use Rattle.std.specs.Str.{is_utf8}
 use Rattle.prost_reflect_wire.specs.declared.error.DecodeError.{DecodeError}
 use Rattle.prost_reflect_wire.specs.declared.error.DecodeError.TheVariants as errors
 use Rattle.prost_reflect_wire.specs.declared.key.WireType.{WireType}
 use Rattle.prost_reflect_wire.specs.declared.key.WireType.TheVariants as wires
 use Rattle.prost_reflect_wire.specs.Varint.{◌>>=◌, guard}
-use Rattle.prost_reflect_wire.specs.Record.{Plain, Var, Fix64, Len, Fix32, Payload, Flat, Group, Record, body_of, plain_wire, payload_levels}
+use Rattle.prost_reflect_wire.specs.Record.{Plain, Var, Len, Payload, Flat, Record, body_of, plain_wire, payload_levels}
 use Rattle.prost_reflect_wire.specs.Front.{PlainFront, RecordsFront, PayloadEnds, PayloadPasses}
 use Rattle.prost_reflect_wire.specs.Scalar.{Boolean, I32, Text, Bytes, Int32, low_i32}
 use Rattle.prost_reflect_wire.specs.Schema.{Field}

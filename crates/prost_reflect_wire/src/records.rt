@@ -1,10 +1,12 @@
 //! The records of a descriptor set: files, messages, fields, enums, services and what they consist of, as
 //! `descriptor.proto` of Protocol Buffers declares them.
 //!
-//! Options and source information are kept as the bytes that they are written in; several such records are joined. A
-//! field that a record here does not have is read past and dropped.
-
-use std::alloc::Global;
+//! Options and source information are kept as the bytes that they are written in.
+//!
+//! A record is read in at most 100 levels of nested records and unknown groups. Of a text, a number or a flag that is given
+//! twice the last one counts; the records of a list, and the pieces of raw bytes, join; packed numbers are read as single
+//! ones are; fields that the record does not have are dropped (the encoding guide, "Last One Wins", "Packed Repeated Fields"
+//! and "Submessages").
 
 mod body;
 mod copy;

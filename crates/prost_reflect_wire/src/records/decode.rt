@@ -29,10 +29,7 @@ fn read<T: FromBody>(alloc: Global, bytes: &[u8]) -> Result<T, DecodeError>
 }
 
 impl FileDescriptorSet {
-    /// Reads the files of a descriptor set from the bytes, in at most 100 levels of nested records and unknown groups. Of a text, number
-    /// or flag that is given twice the last one counts, the records of a list and the pieces of raw bytes join, packed
-    /// numbers are read as single ones are, and fields that the record does not have are dropped (the encoding guide,
-    /// "Last One Wins" and "Packed Repeated Fields").
+    /// Reads the files of a descriptor set from the bytes, within 100 levels, as the head of the module `records` says.
     ///
     /// # Errors
     ///
@@ -49,10 +46,7 @@ impl FileDescriptorSet {
 }
 
 impl FileDescriptorProto {
-    /// Reads a file's record from the bytes, in at most 100 levels of nested records and unknown groups. Of a text, number
-    /// or flag that is given twice the last one counts, the records of a list and the pieces of raw bytes join, packed
-    /// numbers are read as single ones are, and fields that the record does not have are dropped (the encoding guide,
-    /// "Last One Wins" and "Packed Repeated Fields").
+    /// Reads a file's record from the bytes, within 100 levels, as the head of the module `records` says.
     ///
     /// # Errors
     ///
@@ -69,10 +63,7 @@ impl FileDescriptorProto {
 }
 
 impl DescriptorProto {
-    /// Reads a message's record from the bytes, in at most 100 levels of nested records and unknown groups. Of a text, number
-    /// or flag that is given twice the last one counts, the records of a list and the pieces of raw bytes join, packed
-    /// numbers are read as single ones are, and fields that the record does not have are dropped (the encoding guide,
-    /// "Last One Wins" and "Packed Repeated Fields").
+    /// Reads a message's record from the bytes, within 100 levels, as the head of the module `records` says.
     ///
     /// # Errors
     ///
@@ -89,10 +80,7 @@ impl DescriptorProto {
 }
 
 impl ExtensionRange {
-    /// Reads a range of numbers for extensions from the bytes, in at most 100 levels of nested records and unknown groups. Of a text, number
-    /// or flag that is given twice the last one counts, the records of a list and the pieces of raw bytes join, packed
-    /// numbers are read as single ones are, and fields that the record does not have are dropped (the encoding guide,
-    /// "Last One Wins" and "Packed Repeated Fields").
+    /// Reads a range of numbers for extensions from the bytes, within 100 levels, as the head of the module `records` says.
     ///
     /// # Errors
     ///
@@ -109,10 +97,7 @@ impl ExtensionRange {
 }
 
 impl ReservedRange {
-    /// Reads a range of reserved numbers from the bytes, in at most 100 levels of nested records and unknown groups. Of a text, number
-    /// or flag that is given twice the last one counts, the records of a list and the pieces of raw bytes join, packed
-    /// numbers are read as single ones are, and fields that the record does not have are dropped (the encoding guide,
-    /// "Last One Wins" and "Packed Repeated Fields").
+    /// Reads a range of reserved numbers from the bytes, within 100 levels, as the head of the module `records` says.
     ///
     /// # Errors
     ///
@@ -129,10 +114,7 @@ impl ReservedRange {
 }
 
 impl FieldDescriptorProto {
-    /// Reads a field's record from the bytes, in at most 100 levels of nested records and unknown groups. Of a text, number
-    /// or flag that is given twice the last one counts, the records of a list and the pieces of raw bytes join, packed
-    /// numbers are read as single ones are, and fields that the record does not have are dropped (the encoding guide,
-    /// "Last One Wins" and "Packed Repeated Fields").
+    /// Reads a field's record from the bytes, within 100 levels, as the head of the module `records` says.
     ///
     /// # Errors
     ///
@@ -149,10 +131,7 @@ impl FieldDescriptorProto {
 }
 
 impl OneofDescriptorProto {
-    /// Reads a oneof's record from the bytes, in at most 100 levels of nested records and unknown groups. Of a text, number
-    /// or flag that is given twice the last one counts, the records of a list and the pieces of raw bytes join, packed
-    /// numbers are read as single ones are, and fields that the record does not have are dropped (the encoding guide,
-    /// "Last One Wins" and "Packed Repeated Fields").
+    /// Reads a oneof's record from the bytes, within 100 levels, as the head of the module `records` says.
     ///
     /// # Errors
     ///
@@ -169,10 +148,7 @@ impl OneofDescriptorProto {
 }
 
 impl EnumDescriptorProto {
-    /// Reads an enum's record from the bytes, in at most 100 levels of nested records and unknown groups. Of a text, number
-    /// or flag that is given twice the last one counts, the records of a list and the pieces of raw bytes join, packed
-    /// numbers are read as single ones are, and fields that the record does not have are dropped (the encoding guide,
-    /// "Last One Wins" and "Packed Repeated Fields").
+    /// Reads an enum's record from the bytes, within 100 levels, as the head of the module `records` says.
     ///
     /// # Errors
     ///
@@ -189,10 +165,7 @@ impl EnumDescriptorProto {
 }
 
 impl EnumReservedRange {
-    /// Reads a range of reserved numbers from the bytes, in at most 100 levels of nested records and unknown groups. Of a text, number
-    /// or flag that is given twice the last one counts, the records of a list and the pieces of raw bytes join, packed
-    /// numbers are read as single ones are, and fields that the record does not have are dropped (the encoding guide,
-    /// "Last One Wins" and "Packed Repeated Fields").
+    /// Reads a range of reserved numbers from the bytes, within 100 levels, as the head of the module `records` says.
     ///
     /// # Errors
     ///
@@ -209,10 +182,7 @@ impl EnumReservedRange {
 }
 
 impl EnumValueDescriptorProto {
-    /// Reads an enum value's record from the bytes, in at most 100 levels of nested records and unknown groups. Of a text, number
-    /// or flag that is given twice the last one counts, the records of a list and the pieces of raw bytes join, packed
-    /// numbers are read as single ones are, and fields that the record does not have are dropped (the encoding guide,
-    /// "Last One Wins" and "Packed Repeated Fields").
+    /// Reads an enum value's record from the bytes, within 100 levels, as the head of the module `records` says.
     ///
     /// # Errors
     ///
@@ -229,10 +199,7 @@ impl EnumValueDescriptorProto {
 }
 
 impl ServiceDescriptorProto {
-    /// Reads a service's record from the bytes, in at most 100 levels of nested records and unknown groups. Of a text, number
-    /// or flag that is given twice the last one counts, the records of a list and the pieces of raw bytes join, packed
-    /// numbers are read as single ones are, and fields that the record does not have are dropped (the encoding guide,
-    /// "Last One Wins" and "Packed Repeated Fields").
+    /// Reads a service's record from the bytes, within 100 levels, as the head of the module `records` says.
     ///
     /// # Errors
     ///
@@ -249,10 +216,7 @@ impl ServiceDescriptorProto {
 }
 
 impl MethodDescriptorProto {
-    /// Reads a method's record from the bytes, in at most 100 levels of nested records and unknown groups. Of a text, number
-    /// or flag that is given twice the last one counts, the records of a list and the pieces of raw bytes join, packed
-    /// numbers are read as single ones are, and fields that the record does not have are dropped (the encoding guide,
-    /// "Last One Wins" and "Packed Repeated Fields").
+    /// Reads a method's record from the bytes, within 100 levels, as the head of the module `records` says.
     ///
     /// # Errors
     ///

@@ -1,4 +1,4 @@
-use Rattle.std.proofs.Common.{◌≡◌, ◌+◌, ◌*◌, drop, map}
+use Rattle.std.proofs.Common.{◌+◌, ◌*◌, drop, map}
 use Rattle.prost_reflect_wire.specs.declared.records.table.RecordType.TheVariants as types
 use Rattle.prost_reflect_wire.specs.DescriptorViews.{of_message}
 use Rattle.prost_reflect_wire.proofs.NestedRecords.{NestedSoFar}

@@ -1,4 +1,4 @@
-use Rattle.std.proofs.Common.{refl, sym, ap, subst, ◌∙◌, map, [], ◌∷◌}
+use Rattle.std.proofs.Common.{sym, ap, subst, ◌∙◌, map}
 use Rattle.std.proofs.lemmas.Result.{err_from_is_err_and}
 use Rattle.prost_reflect_wire.specs.DescriptorReading.{all_decoded, records_at}
 use Rattle.prost_reflect_wire.proofs.Steps.{map_append}

@@ -1,4 +1,4 @@
-use Rattle.std.proofs.Common.{◌≡◌, drop, map}
+use Rattle.std.proofs.Common.{drop, map}
 use Rattle.prost_reflect_wire.proofs.NestedRecords.{NestedSoFar}
 use Rattle.prost_reflect_wire.proofs.records.body.records.Given as goal
 

@@ -1,5 +1,4 @@
 use Rattle.prost_reflect_wire.specs.Grammar.{LEVEL_LIMIT}
-use Rattle.prost_reflect_wire.specs.DescriptorTable.{place_of, record_schema}
 use Rattle.prost_reflect_wire.proofs.ByteLists.{bytes_below}
 use Rattle.prost_reflect_wire.proofs.NestedRecords.{ok_accepts, err_memory}
 use Rattle.prost_reflect_wire.proofs.records.decode.read.Goals as goal

@@ -1,9 +1,8 @@
-use Rattle.std.proofs.Common.{◌≡◌, true, false, nat_eq, refl, ap, sym, subst, ◌∙◌, length, true≢false, Some, None}
+use Rattle.std.proofs.Common.{◌≡◌, false, nat_eq, ap, sym, subst, ◌∙◌, length, true≢false}
 use Rattle.std.proofs.lemmas.Result.{err_from_is_err_and}
 use Rattle.std.proofs.lemmas.Bool.{eqb-true}
 use Rattle.std.proofs.lemmas.List.{nil_from_length}
-use Rattle.prost_reflect_wire.specs.DescriptorTable.{rows}
-use Rattle.prost_reflect_wire.specs.DescriptorReading.{Fields, all_found, kind_at}
+use Rattle.prost_reflect_wire.specs.DescriptorReading.{Fields, all_found}
 use Rattle.prost_reflect_wire.proofs.FieldsFound.{fields_none, known_read, unknown_read, no_key, no_unknown, no_known}
 use Rattle.prost_reflect_wire.proofs.records.fields.fields_in.Goals as goal
 

@@ -1,5 +1,4 @@
-use Rattle.std.proofs.Common.{◌≡◌, length}
-use Rattle.prost_reflect_wire.specs.DescriptorTable.{rows}
+use Rattle.std.proofs.Common.{length}
 use Rattle.prost_reflect_wire.specs.DescriptorReading.{Fields, all_found}
 use Rattle.prost_reflect_wire.proofs.records.fields.fields_in.Given as goal
 

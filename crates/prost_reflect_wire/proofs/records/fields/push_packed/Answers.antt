@@ -1,4 +1,4 @@
-use Rattle.std.proofs.Common.{◌≡◌, true, false, nat_eq, refl, ap, sym, ◌∙◌, length, true≢false, [], ◌∷◌, ◌++◌}
+use Rattle.std.proofs.Common.{◌≡◌, false, nat_eq, ap, sym, ◌∙◌, length, true≢false, [], ◌∷◌, ◌++◌}
 use Rattle.std.specs.Int.{w32, cast_signed, cast_unsigned}
 use Rattle.prost_reflect_wire.specs.DescriptorReading.{FoundNumber, all_found}
 use Rattle.std.proofs.lemmas.Result.{err_from_is_err_and}

@@ -1,4 +1,4 @@
-use Rattle.std.proofs.Common.{◌≡◌, length}
+use Rattle.std.proofs.Common.{length}
 use Rattle.prost_reflect_wire.specs.DescriptorReading.{all_found}
 use Rattle.prost_reflect_wire.proofs.FieldsFound.{PackedSoFar}
 use Rattle.prost_reflect_wire.proofs.records.fields.push_packed.Given as goal

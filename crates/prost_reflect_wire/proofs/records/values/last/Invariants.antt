@@ -1,5 +1,5 @@
-use Rattle.std.proofs.Common.{◌≡◌, ◌++◌, Some, None, drop, map, option_map, string_bytes}
-use Rattle.prost_reflect_wire.specs.DescriptorReading.{found_of, all_found, at_number, last_of, joined_to, text_in, number_in, bytes_in}
+use Rattle.std.proofs.Common.{◌≡◌, Some, None, drop, option_map}
+use Rattle.prost_reflect_wire.specs.DescriptorReading.{found_of, all_found, at_number, last_of}
 use Rattle.prost_reflect_wire.proofs.records.values.last.Given as goal
 
 abbrev pub invariant-loop-field : goal.invariant-loop-field

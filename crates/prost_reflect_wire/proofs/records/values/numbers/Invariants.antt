@@ -1,5 +1,5 @@
-use Rattle.std.proofs.Common.{◌≡◌, ◌++◌, Some, None, drop, map, option_map, string_bytes}
-use Rattle.prost_reflect_wire.specs.DescriptorReading.{found_of, all_found, at_number, last_of, joined_to, text_in, number_in, bytes_in}
+use Rattle.std.proofs.Common.{◌≡◌, ◌++◌, drop}
+use Rattle.prost_reflect_wire.specs.DescriptorReading.{all_found, at_number, number_in}
 use Rattle.prost_reflect_wire.proofs.records.values.numbers.Given as goal
 
 abbrev pub invariant-loop-field : goal.invariant-loop-field
