@@ -3,3 +3,7 @@ mod Positions
 pub mod Keeping
 pub mod Fields
 mod Worked
+mod WholeNumbers
+mod WholeBits
+mod Escapes
+mod WorkedDefaults

@@ -4,3 +4,5 @@ pub mod Shown
 pub mod Linked
 pub mod Schema
 pub mod Examples
+pub mod WrittenDefaults
+pub mod DefaultExamples

@@ -1,11 +1,18 @@
 //! The linked tables of a descriptor pool: its message types and enums, each named by its place in a list.
 #![tactic(auto)]
 
+mod defaults;
+mod error;
 mod examples;
 mod lookup;
 mod tables;
+#[cfg(test)]
+mod tests;
 
-pub use examples::{shown_tables, tables_not_linked};
+pub use defaults::written_default;
+pub use error::PoolError;
+pub use examples::{defaults_read, defaults_refused, shown_tables, tables_not_linked};
 pub use tables::{
-    Cardinality, EnumTable, FieldTable, MessageTable, OneofTable, TableKind, Tables, WrittenDefault,
+    Cardinality, EnumTable, EnumValueTable, FieldTable, MessageTable, OneofTable, TableKind,
+    Tables, WrittenDefault,
 };
