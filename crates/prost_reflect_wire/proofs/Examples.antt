@@ -3,6 +3,7 @@ pub mod Computed
 pub mod ComputedDeeper
 pub mod ComputedContents
 pub mod ComputedReductions
+pub mod ComputedDescriptors
 pub mod NotReduced
 pub mod Faults
 pub mod Passages

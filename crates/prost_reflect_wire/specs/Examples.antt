@@ -10,6 +10,7 @@ pub mod Levels
 pub mod Unknown
 pub mod ClosedEnums
 pub mod Contents
+pub mod Descriptors
 pub mod Editing
 pub mod Reductions
 pub mod Faults

@@ -20,6 +20,9 @@ pub mod Fault
 pub mod FieldLaws
 pub mod Laws
 pub mod LawsOfFaults
+pub mod DescriptorTable
+pub mod DescriptorMeaning
+pub mod DescriptorViews
 pub mod Passage
 pub mod Reducing
 pub mod Examples

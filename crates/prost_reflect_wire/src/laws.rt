@@ -14,6 +14,7 @@ ghost use Rattle.prost_reflect_wire.specs.Examples.Reductions.{Reductions, NoRed
 ghost use Rattle.prost_reflect_wire.specs.Examples.Faults.{Faults};
 ghost use Rattle.prost_reflect_wire.specs.Laws.{OneReading, ReadIsSpells, WrittenSpells, AcceptsIsTest, MeaningBySteps, Commute, SameBehind, LevelsFree, AllowedFurther, WrittenIsRead, EntriesMean, ScalarBack, MessageBack, ListBack, PackedBack, MapBack, RecordsMean, EncodedSpells, Canonicity, RecordsAllowed, RoundTrip, MergedMeans, PiecesJoin, ReadIsValid, MeaningOrdered, StrayBack, KeptWell, KeptContent, SetWell, MeaningTyped, MeaningLevels, NormalForm, StepsWell, MergedWell, StepsFree, Pieces};
 
+pub mod descriptors;
 pub mod faults;
 pub mod instances;
 

@@ -8,6 +8,7 @@ mod key;
 pub mod laws;
 pub mod passage;
 mod payload;
+pub mod records;
 #[cfg(test)]
 mod tests;
 mod unknown;
