@@ -7,3 +7,4 @@ mod WholeNumbers
 mod WholeBits
 mod Escapes
 mod WorkedDefaults
+mod Flattening

@@ -6,3 +6,6 @@ pub mod Schema
 pub mod Examples
 pub mod WrittenDefaults
 pub mod DefaultExamples
+pub mod Names
+pub mod Flat
+pub mod FlatViews

@@ -4,7 +4,9 @@
 mod defaults;
 mod error;
 mod examples;
+mod flatten;
 mod lookup;
+mod names;
 mod tables;
 #[cfg(test)]
 mod tests;
@@ -12,6 +14,7 @@ mod tests;
 pub use defaults::written_default;
 pub use error::PoolError;
 pub use examples::{defaults_read, defaults_refused, shown_tables, tables_not_linked};
+pub use flatten::{Definition, Flat, FlatEnum, FlatMessage, FlatService, flattened};
 pub use tables::{
     Cardinality, EnumTable, EnumValueTable, FieldTable, MessageTable, OneofTable, TableKind,
     Tables, WrittenDefault,

@@ -1,6 +1,11 @@
 //! Calls with ample memory, whose contracts leave want of memory open.
 
-use crate::{EnumValueTable, PoolError, TableKind, WrittenDefault, written_default};
+use crate::{EnumValueTable, PoolError, TableKind, WrittenDefault, flattened, written_default};
+use prost_reflect_wire::records::{
+    DescriptorProto, EnumDescriptorProto, EnumValueDescriptorProto, FieldDescriptorProto,
+    FileDescriptorProto, MethodDescriptorProto, OneofDescriptorProto, ServiceDescriptorProto,
+};
+use std::alloc::{AllocError, Global};
 use std::test::Fail;
 
 /// A default of each kind is read.
@@ -61,5 +66,183 @@ fn defaults_refused_by_name(rt: HostRuntime) -> Result<(), Fail> {
             Err(error) => assert_eq!(rt; error, refusal, "of the text {text}"),
         }
     }
+    Ok(())
+}
+
+fn field(alloc: Global, name: &str) -> Result<FieldDescriptorProto, AllocError> {
+    Ok(FieldDescriptorProto {
+        name: Some(String::from_str(alloc, name)?),
+        extendee: None,
+        number: Some(1),
+        label: Some(1),
+        type_: Some(5),
+        type_name: None,
+        default_value: None,
+        options: None,
+        oneof_index: None,
+        json_name: None,
+        proto3_optional: None,
+    })
+}
+
+fn one_field(alloc: Global, name: &str) -> Result<Vec<FieldDescriptorProto>, AllocError> {
+    let mut fields = Vec::new(alloc);
+    fields.push(field(alloc, name)?)?;
+    Ok(fields)
+}
+
+/// An enum with the value `ZERO`.
+fn one_enum(alloc: Global, name: &str) -> Result<Vec<EnumDescriptorProto>, AllocError> {
+    let mut value = Vec::new(alloc);
+    value.push(EnumValueDescriptorProto {
+        name: Some(String::from_str(alloc, "ZERO")?),
+        number: Some(0),
+        options: None,
+    })?;
+    let mut enums = Vec::new(alloc);
+    enums.push(EnumDescriptorProto {
+        name: Some(String::from_str(alloc, name)?),
+        value,
+        options: None,
+        reserved_range: Vec::new(alloc),
+        reserved_name: Vec::new(alloc),
+    })?;
+    Ok(enums)
+}
+
+/// A message with a field, an enum, an extension, a oneof and these messages.
+fn message(
+    alloc: Global,
+    name: &str,
+    nested_type: Vec<DescriptorProto>,
+) -> Result<DescriptorProto, AllocError> {
+    let mut oneof_decl = Vec::new(alloc);
+    oneof_decl.push(OneofDescriptorProto {
+        name: Some(String::from_str(alloc, "choice")?),
+        options: None,
+    })?;
+    Ok(DescriptorProto {
+        name: Some(String::from_str(alloc, name)?),
+        field: one_field(alloc, "f")?,
+        nested_type,
+        enum_type: one_enum(alloc, "E")?,
+        extension_range: Vec::new(alloc),
+        extension: one_field(alloc, "x")?,
+        options: None,
+        oneof_decl,
+        reserved_range: Vec::new(alloc),
+        reserved_name: Vec::new(alloc),
+    })
+}
+
+fn one_service(alloc: Global) -> Result<Vec<ServiceDescriptorProto>, AllocError> {
+    let mut method = Vec::new(alloc);
+    method.push(MethodDescriptorProto {
+        name: Some(String::from_str(alloc, "Get")?),
+        input_type: None,
+        output_type: None,
+        options: None,
+        client_streaming: None,
+        server_streaming: None,
+    })?;
+    let mut services = Vec::new(alloc);
+    services.push(ServiceDescriptorProto {
+        name: Some(String::from_str(alloc, "S")?),
+        method,
+        options: None,
+    })?;
+    Ok(services)
+}
+
+/// The file of `package p; message A { message B {} } message C {}`, with what each message and the file have besides.
+fn nested_file(alloc: Global) -> Result<FileDescriptorProto, AllocError> {
+    let mut inner = Vec::new(alloc);
+    inner.push(message(alloc, "B", Vec::new(alloc))?)?;
+    let mut message_type = Vec::new(alloc);
+    message_type.push(message(alloc, "A", inner)?)?;
+    message_type.push(message(alloc, "C", Vec::new(alloc))?)?;
+    Ok(FileDescriptorProto {
+        name: Some(String::from_str(alloc, "n.proto")?),
+        package: Some(String::from_str(alloc, "p")?),
+        dependency: Vec::new(alloc),
+        message_type,
+        enum_type: one_enum(alloc, "F")?,
+        service: one_service(alloc)?,
+        extension: one_field(alloc, "y")?,
+        options: None,
+        source_code_info: None,
+        public_dependency: Vec::new(alloc),
+        weak_dependency: Vec::new(alloc),
+        syntax: None,
+    })
+}
+
+/// Full names, paths and enclosing messages of nested definitions, in the order of their paths.
+#[test]
+fn nested_definitions(rt: HostRuntime) -> Result<(), Fail> {
+    let file = nested_file(rt.alloc())?;
+    let mut files = Vec::new(rt.alloc());
+    files.push(&file)?;
+    let flat = flattened(rt.alloc(), files.as_slice())?;
+    let mut seen = String::new(rt.alloc());
+    for message in &flat.messages {
+        let parent = message.definition.parent;
+        write!(
+            seen,
+            "{} {:?} {:?}; ",
+            message.definition.full_name, message.definition.path, parent
+        )?;
+        for field in &message.fields {
+            write!(
+                seen,
+                "{} {:?} {:?}; ",
+                field.full_name, field.path, field.parent
+            )?;
+        }
+        for oneof in &message.oneofs {
+            write!(seen, "{} {:?}; ", oneof.full_name, oneof.path)?;
+        }
+    }
+    assert_eq!(rt;
+        seen.as_str(),
+        "p.A [4, 0] None; p.A.f [4, 0, 2, 0] Some(0); p.A.choice [4, 0, 8, 0]; p.A.B [4, 0, 3, 0] Some(0); p.A.B.f [4, 0, 3, 0, 2, 0] Some(1); p.A.B.choice [4, 0, 3, 0, 8, 0]; p.C [4, 1] None; p.C.f [4, 1, 2, 0] Some(2); p.C.choice [4, 1, 8, 0]; "
+    );
+    let mut seen = String::new(rt.alloc());
+    for declared in &flat.enums {
+        write!(
+            seen,
+            "{} {:?} {:?}; ",
+            declared.definition.full_name, declared.definition.path, declared.definition.parent
+        )?;
+        for value in &declared.values {
+            write!(seen, "{} {:?}; ", value.full_name, value.path)?;
+        }
+    }
+    assert_eq!(rt;
+        seen.as_str(),
+        "p.A.B.E [4, 0, 3, 0, 4, 0] Some(1); p.A.B.ZERO [4, 0, 3, 0, 4, 0, 2, 0]; p.A.E [4, 0, 4, 0] Some(0); p.A.ZERO [4, 0, 4, 0, 2, 0]; p.C.E [4, 1, 4, 0] Some(2); p.C.ZERO [4, 1, 4, 0, 2, 0]; p.F [5, 0] None; p.ZERO [5, 0, 2, 0]; "
+    );
+    let mut seen = String::new(rt.alloc());
+    for extension in &flat.extensions {
+        write!(
+            seen,
+            "{} {:?} {:?}; ",
+            extension.full_name, extension.path, extension.parent
+        )?;
+    }
+    for service in &flat.services {
+        write!(
+            seen,
+            "{} {:?}; ",
+            service.definition.full_name, service.definition.path
+        )?;
+        for method in &service.methods {
+            write!(seen, "{} {:?}; ", method.full_name, method.path)?;
+        }
+    }
+    assert_eq!(rt;
+        seen.as_str(),
+        "p.A.B.x [4, 0, 3, 0, 6, 0] Some(1); p.A.x [4, 0, 6, 0] Some(0); p.C.x [4, 1, 6, 0] Some(2); p.y [7, 0] None; p.S [6, 0]; p.S.Get [6, 0, 2, 0]; "
+    );
     Ok(())
 }
