@@ -1,5 +1,7 @@
 -- The flat lists without where they lie in memory.
 use Rattle.std.specs.Prelude.{List, map, string_bytes}
+use denote.Bor.{Bor}
+use Rattle.prost_reflect_wire.specs.declared.records.FileDescriptorProto.{FileDescriptorProto}
 use Rattle.prost_reflect_wire.specs.declared.records.DescriptorProto.TheViews.{out-DescriptorProto}
 use Rattle.prost_reflect_tables.specs.declared.flatten.Scope.{Scope}
 use Rattle.prost_reflect_tables.specs.declared.flatten.Definition.{Definition}
@@ -42,3 +44,7 @@ flat_rows f = record {
   extensions = map definition_row f.extensions.items;
   services = map service_row f.services.items;
 }
+
+-- Files that are lent.
+abbrev pub file_list : List (Bor FileDescriptorProto) → List FileDescriptorProto
+file_list files = map (λ f. f.now) files

@@ -9,3 +9,4 @@ pub mod DefaultExamples
 pub mod Names
 pub mod Flat
 pub mod FlatViews
+pub mod Checked

@@ -1,6 +1,7 @@
 //! The linked tables of a descriptor pool: its message types and enums, each named by its place in a list.
 #![tactic(auto)]
 
+mod checks;
 mod defaults;
 mod error;
 mod examples;
