@@ -8,3 +8,4 @@ mod WholeBits
 mod Escapes
 mod WorkedDefaults
 mod Flattening
+mod NamePlaces

@@ -1,6 +1,6 @@
 -- When files make a pool: one test for each reason to refuse them, over their definitions in flat lists (descriptor.proto; the language guide and the proto2 guide on what a file may declare).
-use Rattle.std.specs.Prelude.{◌≡◌, ℕ, ◌^◌, nat_lt, nat_le, nat_eq, if◌then◌else◌, ℤ, pos, negsuc, int_le, Bool, true, false, not, ◌&&◌, ◌||◌, length, List, [], ◌∷◌, ◌++◌, map, Option, Some, None, is_some, is_none, unwrap_or, String, string_bytes, codes, bytes_eq}
-use Rattle.std.specs.List.{list_any}
+use Rattle.std.specs.Prelude.{◌≡◌, ℕ, ◌^◌, nat_lt, nat_le, nat_eq, if◌then◌else◌, ℤ, pos, negsuc, int_le, int_lt, Bool, true, false, not, ◌&&◌, ◌||◌, length, List, [], ◌∷◌, ◌++◌, map, Option, Some, None, is_some, is_none, unwrap_or, option_and_then, slice_get, String, string_bytes, codes, bytes_eq}
+use Rattle.std.specs.List.{list_any, position_from}
 use Rattle.std.specs.declared.alloc.Global.{Global}
 use Rattle.prost_reflect_wire.specs.declared.records.FileDescriptorProto.{FileDescriptorProto}
 use Rattle.prost_reflect_wire.specs.declared.records.FieldDescriptorProto.{FieldDescriptorProto}
@@ -16,15 +16,6 @@ use Rattle.prost_reflect_tables.specs.Names.{text_or_empty, without_dot}
 -- Of a field of some message, or of an extension.
 abbrev pub any_field : (DefinitionRow FieldDescriptorProto → Bool) → FlatRows → Bool
 any_field test rows = list_any (λ m. list_any test m.fields) rows.messages || list_any test rows.extensions
-
-abbrev pub names_of : {R : Type 0} → List (DefinitionRow R) → List (List ℕ)
-names_of ds = map (λ d. d.full_name) ds
-
-abbrev pub message_names : List FlatMessageRow → List (List ℕ)
-message_names ms = map (λ m. m.definition.full_name) ms
-
-abbrev pub enum_names : List FlatEnumRow → List (List ℕ)
-enum_names es = map (λ e. e.definition.full_name) es
 
 -- MissingName: each definition and each file has a name that is not empty.
 
@@ -163,3 +154,92 @@ enum_empty e = nat_eq (length e.values) 0
 
 abbrev pub empty_enum : FlatRows → Bool
 empty_enum rows = list_any enum_empty rows.enums
+
+-- DuplicateName: no two definitions have one full name.
+
+abbrev pub names_of : {R : Type 0} → List (DefinitionRow R) → List (List ℕ)
+names_of ds = map (λ d. d.full_name) ds
+
+abbrev pub names_in_messages : List FlatMessageRow → List (List ℕ)
+names_in_messages [] = []
+names_in_messages (m ∷ ms) = (m.definition.full_name ∷ []) ++ names_of m.fields ++ names_of m.oneofs ++ names_in_messages ms
+
+abbrev pub names_in_enums : List FlatEnumRow → List (List ℕ)
+names_in_enums [] = []
+names_in_enums (e ∷ es) = (e.definition.full_name ∷ []) ++ names_of e.values ++ names_in_enums es
+
+abbrev pub names_in_services : List FlatServiceRow → List (List ℕ)
+names_in_services [] = []
+names_in_services (s ∷ ss) = (s.definition.full_name ∷ []) ++ names_of s.methods ++ names_in_services ss
+
+abbrev pub full_names : FlatRows → List (List ℕ)
+full_names rows = names_in_messages rows.messages ++ names_in_enums rows.enums ++ names_of rows.extensions ++ names_in_services rows.services
+
+-- A name stands among those before it.
+abbrev pub repeats : (before : List (List ℕ)) → List (List ℕ) → Bool
+repeats before [] = false
+repeats before (n ∷ names) = list_any (bytes_eq n) before || repeats (before ++ n ∷ []) names
+
+abbrev pub duplicate_name : FlatRows → Bool
+duplicate_name rows = repeats [] (full_names rows)
+
+-- WHAT A TEXT NAMES
+
+-- The place of the first of a name.
+abbrev pub place_of : List (List ℕ) → List ℕ → Option ℕ
+place_of names name = position_from (λ n. bytes_eq name n) 0 names
+
+abbrev pub file_names : List FileDescriptorProto → List (List ℕ)
+file_names files = map (λ f. text_or_empty f.name) files
+
+abbrev pub message_names : FlatRows → List (List ℕ)
+message_names rows = map (λ m. m.definition.full_name) rows.messages
+
+abbrev pub enum_names : FlatRows → List (List ℕ)
+enum_names rows = map (λ e. e.definition.full_name) rows.enums
+
+-- MissingDependency: each file that one depends on is there.
+
+abbrev pub dependency_missing : List (List ℕ) → FileDescriptorProto → Bool
+dependency_missing names f = list_any (λ d. is_none (place_of names (string_bytes d))) f.dependency.items
+
+abbrev pub missing_dependency : List FileDescriptorProto → Bool
+missing_dependency files = list_any (dependency_missing (file_names files)) files
+
+-- UnknownType: the type of a message, group or enum field, what an extension extends, and what a method takes and answers are there. A text on another field is ignored.
+
+abbrev pub names_nothing : List (List ℕ) → Option (String Global) → Bool
+names_nothing names None = false
+names_nothing names (Some text) = is_none (place_of names (without_dot (string_bytes text)))
+
+abbrev pub type_unknown : FlatRows → DefinitionRow FieldDescriptorProto → Bool
+type_unknown rows d = (is_message_type d.proto.type_ && names_nothing (message_names rows) d.proto.type_name) || (is_enum_type d.proto.type_ && names_nothing (enum_names rows) d.proto.type_name)
+
+abbrev pub extendee_unknown : FlatRows → DefinitionRow FieldDescriptorProto → Bool
+extendee_unknown rows d = names_nothing (message_names rows) d.proto.extendee
+
+abbrev pub method_type_unknown : FlatRows → DefinitionRow MethodDescriptorProto → Bool
+method_type_unknown rows d = names_nothing (message_names rows) d.proto.input_type || names_nothing (message_names rows) d.proto.output_type
+
+abbrev pub unknown_type : FlatRows → Bool
+unknown_type rows = any_field (type_unknown rows) rows || list_any (extendee_unknown rows) rows.extensions || list_any (λ s. list_any (method_type_unknown rows) s.methods) rows.services
+
+-- OutsideRange: an extension's number is in an extension range of the message that it extends, where that message is there.
+
+abbrev pub is_in_range : ℤ → ExtensionRange → Bool
+is_in_range number r = int_le (number_or_zero r.start) number && int_lt number (number_or_zero r.end)
+
+-- The message that a text names.
+abbrev pub message_named : FlatRows → Option (String Global) → Option FlatMessageRow
+message_named rows None = None
+message_named rows (Some text) = option_and_then (λ place. slice_get rows.messages place) (place_of (message_names rows) (without_dot (string_bytes text)))
+
+abbrev pub is_out_of : ℤ → Option FlatMessageRow → Bool
+is_out_of number None = false
+is_out_of number (Some m) = not (list_any (is_in_range number) m.definition.proto.extension_range)
+
+abbrev pub extension_outside : FlatRows → DefinitionRow FieldDescriptorProto → Bool
+extension_outside rows d = is_out_of (number_or_zero d.proto.number) (message_named rows d.proto.extendee)
+
+abbrev pub outside_range : FlatRows → Bool
+outside_range rows = list_any (extension_outside rows) rows.extensions

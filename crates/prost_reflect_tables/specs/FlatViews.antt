@@ -1,5 +1,5 @@
 -- The flat lists without where they lie in memory.
-use Rattle.std.specs.Prelude.{List, map, string_bytes}
+use Rattle.std.specs.Prelude.{ℕ, List, map, string_bytes}
 use denote.Bor.{Bor}
 use Rattle.prost_reflect_wire.specs.declared.records.FileDescriptorProto.{FileDescriptorProto}
 use Rattle.prost_reflect_wire.specs.declared.records.DescriptorProto.TheViews.{out-DescriptorProto}
@@ -45,6 +45,9 @@ flat_rows f = record {
   services = map service_row f.services.items;
 }
 
--- Files that are lent.
+-- Files and texts that are lent.
 abbrev pub file_list : List (Bor FileDescriptorProto) → List FileDescriptorProto
 file_list files = map (λ f. f.now) files
+
+abbrev pub text_list : List (Bor (List ℕ)) → List (List ℕ)
+text_list texts = map (λ t. t.now) texts

@@ -10,3 +10,4 @@ pub mod Names
 pub mod Flat
 pub mod FlatViews
 pub mod Checked
+pub mod Indexed

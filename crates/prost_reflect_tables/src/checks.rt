@@ -367,14 +367,14 @@ pub fn has_bad_range(flat: &Flat) -> bool
 
 // TYPES THAT ARE MISSING
 
-fn is_code(code: i32, number: Option<i32>) -> bool
+pub fn is_code(code: i32, number: Option<i32>) -> bool
     requires { pos 0 ≤ℤ code }
     ensures { result ≡ is_code (nat_abs code) number }
 {
     number == Some(code)
 }
 
-fn is_message_type(code: Option<i32>) -> bool
+pub fn is_message_type(code: Option<i32>) -> bool
     ensures { result ≡ is_message_type code }
 {
     is_code(10, code) || is_code(11, code)

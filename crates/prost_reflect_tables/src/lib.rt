@@ -6,8 +6,10 @@ mod defaults;
 mod error;
 mod examples;
 mod flatten;
+mod index;
 mod lookup;
 mod names;
+mod references;
 mod tables;
 #[cfg(test)]
 mod tests;
