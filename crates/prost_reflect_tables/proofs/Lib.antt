@@ -9,3 +9,4 @@ mod Escapes
 mod WorkedDefaults
 mod Flattening
 mod NamePlaces
+mod Numbering

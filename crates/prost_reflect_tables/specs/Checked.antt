@@ -1,5 +1,6 @@
 -- When files make a pool: one test for each reason to refuse them, over their definitions in flat lists (descriptor.proto; the language guide and the proto2 guide on what a file may declare).
-use Rattle.std.specs.Prelude.{◌≡◌, ℕ, ◌^◌, nat_lt, nat_le, nat_eq, if◌then◌else◌, ℤ, pos, negsuc, int_le, int_lt, Bool, true, false, not, ◌&&◌, ◌||◌, length, List, [], ◌∷◌, ◌++◌, map, Option, Some, None, is_some, is_none, unwrap_or, option_and_then, slice_get, String, string_bytes, codes, bytes_eq}
+use Rattle.std.specs.Prelude.{◌≡◌, ℕ, ◌+◌, ◌^◌, nat_lt, nat_le, nat_eq, if◌then◌else◌, ℤ, pos, negsuc, int_le, int_lt, Bool, true, false, not, ◌&&◌, ◌||◌, length, List, [], ◌∷◌, ◌++◌, map, Option, Some, None, is_some, is_none, unwrap_or, option_and_then, slice_get, String, string_bytes, codes, bytes_eq}
+use Rattle.std.specs.Ordering.{int_eq}
 use Rattle.std.specs.List.{list_any, position_from}
 use Rattle.std.specs.declared.alloc.Global.{Global}
 use Rattle.prost_reflect_wire.specs.declared.records.FileDescriptorProto.{FileDescriptorProto}
@@ -243,3 +244,44 @@ extension_outside rows d = is_out_of (number_or_zero d.proto.number) (message_na
 
 abbrev pub outside_range : FlatRows → Bool
 outside_range rows = list_any (extension_outside rows) rows.extensions
+
+-- DuplicateNumber: no two fields or extensions of one message have one number. An extension of a message that is not there has no place.
+
+-- A field or an extension: the place of its message, and its number.
+pub record Numbered : Type 0 where
+  pub message : ℕ
+  pub number : ℤ
+
+abbrev pub numbered_fields : ℕ → List (DefinitionRow FieldDescriptorProto) → List Numbered
+numbered_fields place ds = map (λ d. record { message = place; number = number_or_zero d.proto.number }) ds
+
+abbrev pub numbered_in : ℕ → List FlatMessageRow → List Numbered
+numbered_in place [] = []
+numbered_in place (m ∷ ms) = numbered_fields place m.fields ++ numbered_in (place + 1) ms
+
+abbrev pub numbered_at : ℤ → Option ℕ → List Numbered
+numbered_at number None = []
+numbered_at number (Some place) = record { message = place; number = number } ∷ []
+
+-- The place of the message that a text names.
+abbrev pub place_named : FlatRows → Option (String Global) → Option ℕ
+place_named rows None = None
+place_named rows (Some text) = place_of (message_names rows) (without_dot (string_bytes text))
+
+abbrev pub numbered_extensions : FlatRows → List (DefinitionRow FieldDescriptorProto) → List Numbered
+numbered_extensions rows [] = []
+numbered_extensions rows (d ∷ ds) = numbered_at (number_or_zero d.proto.number) (place_named rows d.proto.extendee) ++ numbered_extensions rows ds
+
+abbrev pub all_numbered : FlatRows → List Numbered
+all_numbered rows = numbered_in 0 rows.messages ++ numbered_extensions rows rows.extensions
+
+abbrev pub same_numbered : Numbered → Numbered → Bool
+same_numbered a b = nat_eq a.message b.message && int_eq a.number b.number
+
+-- One stands among those before it.
+abbrev pub number_repeats : (before : List Numbered) → List Numbered → Bool
+number_repeats before [] = false
+number_repeats before (n ∷ numbers) = list_any (same_numbered n) before || number_repeats (before ++ n ∷ []) numbers
+
+abbrev pub duplicate_number : FlatRows → Bool
+duplicate_number rows = number_repeats [] (all_numbered rows)

@@ -9,6 +9,7 @@ mod flatten;
 mod index;
 mod lookup;
 mod names;
+mod numbers;
 mod references;
 mod tables;
 #[cfg(test)]
