@@ -9,6 +9,8 @@ use Rattle.prost_reflect_wire.specs.declared.records.EnumReservedRange.{EnumRese
 use Rattle.prost_reflect_wire.specs.declared.records.ExtensionRange.{ExtensionRange}
 use Rattle.prost_reflect_wire.specs.declared.records.MethodDescriptorProto.{MethodDescriptorProto}
 use Rattle.prost_reflect_wire.specs.declared.records.ReservedRange.{ReservedRange}
+use Rattle.prost_reflect_tables.specs.declared.error.PoolError.{PoolError}
+use Rattle.prost_reflect_tables.specs.declared.error.PoolError.TheVariants.{MissingName, UnknownSyntax, MissingDependency, BadIndex, BadNumber, BadRange, MissingType, BadLabel, BadOneof, EmptyEnum, DuplicateName, UnknownType, DuplicateNumber, OutsideRange}
 use Rattle.prost_reflect_tables.specs.Flat.{DefinitionRow, FlatMessageRow, FlatEnumRow, FlatServiceRow, FlatRows}
 use Rattle.prost_reflect_tables.specs.Names.{text_or_empty, without_dot}
 
@@ -285,3 +287,43 @@ number_repeats before (n ∷ numbers) = list_any (same_numbered n) before || num
 
 abbrev pub duplicate_number : FlatRows → Bool
 duplicate_number rows = number_repeats [] (all_numbered rows)
+
+-- ALL TESTS
+
+-- Of definitions that name no other one.
+pub record OwnChecks (files : List FileDescriptorProto) (rows : FlatRows) : Type 0 where
+  pub named : missing_name files rows ≡ false
+  pub syntaxes : unknown_syntax files ≡ false
+  pub indices : bad_index files rows ≡ false
+  pub numbers : bad_number rows ≡ false
+  pub ranges : bad_range rows ≡ false
+  pub types : missing_type rows ≡ false
+  pub labels : bad_label rows ≡ false
+  pub oneofs : bad_oneof rows ≡ false
+  pub enums : empty_enum rows ≡ false
+
+pub record Checked (files : List FileDescriptorProto) (rows : FlatRows) : Type 0 where
+  pub own : OwnChecks files rows
+  pub dependencies : missing_dependency files ≡ false
+  pub names_differ : duplicate_name rows ≡ false
+  pub names_found : unknown_type rows ≡ false
+  pub numbers_differ : duplicate_number rows ≡ false
+  pub in_ranges : outside_range rows ≡ false
+
+-- Why files are refused: a test of that name is true. No other refusal stands in files.
+abbrev pub Stands : PoolError → List FileDescriptorProto → FlatRows → Type 0
+Stands MissingName files rows = missing_name files rows ≡ true
+Stands UnknownSyntax files rows = unknown_syntax files ≡ true
+Stands MissingDependency files rows = missing_dependency files ≡ true
+Stands BadIndex files rows = bad_index files rows ≡ true
+Stands BadNumber files rows = bad_number rows ≡ true
+Stands BadRange files rows = bad_range rows ≡ true
+Stands MissingType files rows = missing_type rows ≡ true
+Stands BadLabel files rows = bad_label rows ≡ true
+Stands BadOneof files rows = bad_oneof rows ≡ true
+Stands EmptyEnum files rows = empty_enum rows ≡ true
+Stands DuplicateName files rows = duplicate_name rows ≡ true
+Stands UnknownType files rows = unknown_type rows ≡ true
+Stands DuplicateNumber files rows = duplicate_number rows ≡ true
+Stands OutsideRange files rows = outside_range rows ≡ true
+Stands e files rows = ⊥

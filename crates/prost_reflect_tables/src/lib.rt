@@ -1,6 +1,7 @@
 //! The linked tables of a descriptor pool: its message types and enums, each named by its place in a list.
 #![tactic(auto)]
 
+mod all_checks;
 mod checks;
 mod defaults;
 mod error;
@@ -15,6 +16,7 @@ mod tables;
 #[cfg(test)]
 mod tests;
 
+pub use all_checks::check;
 pub use defaults::written_default;
 pub use error::PoolError;
 pub use examples::{defaults_read, defaults_refused, shown_tables, tables_not_linked};

@@ -1,6 +1,8 @@
 //! Calls with ample memory, whose contracts leave want of memory open.
 
-use crate::{EnumValueTable, PoolError, TableKind, WrittenDefault, flattened, written_default};
+use crate::{
+    EnumValueTable, PoolError, TableKind, WrittenDefault, check, flattened, written_default,
+};
 use prost_reflect_wire::records::{
     DescriptorProto, EnumDescriptorProto, EnumValueDescriptorProto, FieldDescriptorProto,
     FileDescriptorProto, MethodDescriptorProto, OneofDescriptorProto, ServiceDescriptorProto,
@@ -244,5 +246,113 @@ fn nested_definitions(rt: HostRuntime) -> Result<(), Fail> {
         seen.as_str(),
         "p.A.B.x [4, 0, 3, 0, 6, 0] Some(1); p.A.x [4, 0, 6, 0] Some(0); p.C.x [4, 1, 6, 0] Some(2); p.y [7, 0] None; p.S [6, 0]; p.S.Get [6, 0, 2, 0]; "
     );
+    Ok(())
+}
+
+/// The file of `package p; message M { int32 f = 1; }`.
+fn plain_file(alloc: Global) -> Result<FileDescriptorProto, AllocError> {
+    file_of(alloc, one_field(alloc, "f")?)
+}
+
+/// The same with these fields.
+fn file_of(
+    alloc: Global,
+    field: Vec<FieldDescriptorProto>,
+) -> Result<FileDescriptorProto, AllocError> {
+    let mut message_type = Vec::new(alloc);
+    message_type.push(DescriptorProto {
+        name: Some(String::from_str(alloc, "M")?),
+        field,
+        nested_type: Vec::new(alloc),
+        enum_type: Vec::new(alloc),
+        extension_range: Vec::new(alloc),
+        extension: Vec::new(alloc),
+        options: None,
+        oneof_decl: Vec::new(alloc),
+        reserved_range: Vec::new(alloc),
+        reserved_name: Vec::new(alloc),
+    })?;
+    Ok(FileDescriptorProto {
+        name: Some(String::from_str(alloc, "m.proto")?),
+        package: Some(String::from_str(alloc, "p")?),
+        dependency: Vec::new(alloc),
+        message_type,
+        enum_type: Vec::new(alloc),
+        service: Vec::new(alloc),
+        extension: Vec::new(alloc),
+        options: None,
+        source_code_info: None,
+        public_dependency: Vec::new(alloc),
+        weak_dependency: Vec::new(alloc),
+        syntax: None,
+    })
+}
+
+/// Why a file alone is refused, or nothing.
+fn refusal(alloc: Global, file: &FileDescriptorProto) -> Result<Option<PoolError>, AllocError> {
+    let mut files = Vec::new(alloc);
+    files.push(file)?;
+    let flat = flattened(alloc, files.as_slice())?;
+    match check(alloc, files.as_slice(), &flat) {
+        Ok(_) => Ok(None),
+        Err(error) => Ok(Some(error)),
+    }
+}
+
+/// A sound file is taken, and each change to it is refused by its name.
+#[test]
+fn faults_of_a_file(rt: HostRuntime) -> Result<(), Fail> {
+    let alloc = rt.alloc();
+    assert_eq!(rt; refusal(alloc, &plain_file(alloc)?)?, None);
+
+    let mut file = plain_file(alloc)?;
+    file.name = None;
+    assert_eq!(rt; refusal(alloc, &file)?, Some(PoolError::MissingName));
+
+    let mut file = plain_file(alloc)?;
+    file.syntax = Some(String::from_str(alloc, "editions")?);
+    assert_eq!(rt; refusal(alloc, &file)?, Some(PoolError::UnknownSyntax));
+
+    let mut file = plain_file(alloc)?;
+    file.dependency.push(String::from_str(alloc, "q.proto")?)?;
+    assert_eq!(rt; refusal(alloc, &file)?, Some(PoolError::MissingDependency));
+
+    let mut file = plain_file(alloc)?;
+    file.public_dependency.push(0)?;
+    assert_eq!(rt; refusal(alloc, &file)?, Some(PoolError::BadIndex));
+
+    let mut file = plain_file(alloc)?;
+    file.enum_type = one_enum(alloc, "M")?;
+    assert_eq!(rt; refusal(alloc, &file)?, Some(PoolError::DuplicateName));
+
+    let mut file = plain_file(alloc)?;
+    file.extension = one_field(alloc, "x")?;
+    assert_eq!(rt; refusal(alloc, &file)?, Some(PoolError::MissingType));
+    Ok(())
+}
+
+/// A change to the one field of the one message is refused by its name.
+#[test]
+fn faults_of_a_field(rt: HostRuntime) -> Result<(), Fail> {
+    let alloc = rt.alloc();
+    let rows = [
+        (Some(0), Some(1), Some(5), PoolError::BadNumber),
+        (None, Some(1), Some(5), PoolError::BadNumber),
+        (Some(536_870_912), Some(1), Some(5), PoolError::BadNumber),
+        (Some(1), Some(4), Some(5), PoolError::BadLabel),
+        (Some(1), Some(1), Some(19), PoolError::MissingType),
+        (Some(1), Some(1), None, PoolError::MissingType),
+        (Some(1), Some(1), Some(11), PoolError::MissingType),
+    ];
+    for (number, label, type_, error) in rows {
+        let mut fields = Vec::new(alloc);
+        let mut changed = field(alloc, "f")?;
+        changed.number = number;
+        changed.label = label;
+        changed.type_ = type_;
+        fields.push(changed)?;
+        let file = file_of(alloc, fields)?;
+        assert_eq!(rt; refusal(alloc, &file)?, Some(error));
+    }
     Ok(())
 }
