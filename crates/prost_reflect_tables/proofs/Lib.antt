@@ -4,3 +4,10 @@ pub mod Keeping
 pub mod Fields
 mod Worked
 pub mod Equal
+mod WholeNumbers
+mod WholeBits
+mod Escapes
+mod WorkedDefaults
+mod Flattening
+mod NamePlaces
+mod Numbering

@@ -5,3 +5,10 @@ pub mod Linked
 pub mod Schema
 pub mod Equality
 pub mod Examples
+pub mod WrittenDefaults
+pub mod DefaultExamples
+pub mod Names
+pub mod Flat
+pub mod FlatViews
+pub mod Checked
+pub mod Indexed

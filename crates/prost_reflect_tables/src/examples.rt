@@ -1,6 +1,7 @@
 //! Worked examples of the definitions: each function has no body, and its contract is what was computed.
 
 ghost use Rattle.prost_reflect_tables.specs.Examples.{Tables, NotLinked};
+ghost use Rattle.prost_reflect_tables.specs.DefaultExamples.{Integers, NoIntegers, Floats, NoFloats, Others, NoOthers, Escapes, NoEscapes};
 
 /// The schema that tables give, for a field of each form.
 pub fn shown_tables()
@@ -10,4 +11,20 @@ pub fn shown_tables()
 /// Tables that are not linked.
 pub fn tables_not_linked()
     ensures { NotLinked }
+{}
+
+/// Written defaults of each kind.
+pub fn defaults_read()
+    ensures integers { Integers }
+    ensures floats { Floats }
+    ensures others { Others }
+    ensures escapes { Escapes }
+{}
+
+/// Texts that are no default of their kind.
+pub fn defaults_refused()
+    ensures integers { NoIntegers }
+    ensures floats { NoFloats }
+    ensures others { NoOthers }
+    ensures escapes { NoEscapes }
 {}

@@ -1,13 +1,29 @@
 //! The linked tables of a descriptor pool: its message types and enums, each named by its place in a list.
 #![tactic(auto)]
 
+mod all_checks;
+mod checks;
+mod defaults;
+mod error;
 mod examples;
+mod flatten;
+mod index;
 mod laws;
 mod lookup;
+mod names;
+mod numbers;
+mod references;
 mod tables;
+#[cfg(test)]
+mod tests;
 
-pub use examples::{shown_tables, tables_not_linked};
+pub use all_checks::check;
+pub use defaults::written_default;
+pub use error::PoolError;
+pub use examples::{defaults_read, defaults_refused, shown_tables, tables_not_linked};
+pub use flatten::{Definition, Flat, FlatEnum, FlatMessage, FlatService, flattened};
 pub use laws::tables_equality;
 pub use tables::{
-    Cardinality, EnumTable, FieldTable, MessageTable, OneofTable, TableKind, Tables, WrittenDefault,
+    Cardinality, EnumTable, EnumValueTable, FieldTable, MessageTable, OneofTable, TableKind,
+    Tables, WrittenDefault,
 };

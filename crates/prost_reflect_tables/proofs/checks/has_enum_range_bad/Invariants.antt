@@ -1,0 +1,9 @@
+use Rattle.std.proofs.Common.{◌≡◌, map, drop, not, ◌&&◌, ◌||◌, length}
+use Rattle.std.specs.Prelude.{int_le, is_some, is_none}
+use Rattle.std.specs.List.{list_any}
+use Rattle.prost_reflect_tables.specs.Checked.{enum_range_bad}
+use Rattle.prost_reflect_tables.specs.FlatViews.{enum_row}
+use Rattle.prost_reflect_tables.proofs.checks.has_enum_range_bad.Given as goal
+
+abbrev pub invariant-loop-declared : goal.invariant-loop-declared
+invariant-loop-declared l = list_any (enum_range_bad) (map enum_row l.enums) ≡ list_any (enum_range_bad) (map enum_row (drop l.declared-index l.enums))

@@ -1,0 +1,9 @@
+use Rattle.std.proofs.Common.{◌≡◌, map, drop, not, ◌&&◌, ◌||◌, length}
+use Rattle.std.specs.Prelude.{int_le, is_some, is_none}
+use Rattle.std.specs.List.{list_any}
+use Rattle.prost_reflect_tables.specs.Checked.{is_member}
+use Rattle.prost_reflect_tables.specs.FlatViews.{definition_row}
+use Rattle.prost_reflect_tables.proofs.checks.has_member.Given as goal
+
+abbrev pub invariant-loop-extension : goal.invariant-loop-extension
+invariant-loop-extension l = list_any (is_member) (map definition_row l.extensions) ≡ list_any (is_member) (map definition_row (drop l.extension-index l.extensions))

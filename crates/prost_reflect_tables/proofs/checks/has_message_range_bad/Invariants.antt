@@ -1,0 +1,9 @@
+use Rattle.std.proofs.Common.{◌≡◌, map, drop, not, ◌&&◌, ◌||◌, length}
+use Rattle.std.specs.Prelude.{int_le, is_some, is_none}
+use Rattle.std.specs.List.{list_any}
+use Rattle.prost_reflect_tables.specs.Checked.{message_range_bad}
+use Rattle.prost_reflect_tables.specs.FlatViews.{message_row}
+use Rattle.prost_reflect_tables.proofs.checks.has_message_range_bad.Given as goal
+
+abbrev pub invariant-loop-message : goal.invariant-loop-message
+invariant-loop-message l = list_any (message_range_bad) (map message_row l.messages) ≡ list_any (message_range_bad) (map message_row (drop l.message-index l.messages))

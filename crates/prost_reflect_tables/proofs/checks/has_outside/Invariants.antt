@@ -1,0 +1,8 @@
+use Rattle.std.proofs.Common.{◌≡◌, map, drop, not, ◌&&◌, ◌||◌, length}
+use Rattle.std.specs.Prelude.{int_le, is_some, is_none}
+use Rattle.std.specs.List.{list_any}
+use Rattle.prost_reflect_tables.specs.Checked.{is_outside}
+use Rattle.prost_reflect_tables.proofs.checks.has_outside.Given as goal
+
+abbrev pub invariant-loop-index : goal.invariant-loop-index
+invariant-loop-index l = list_any (is_outside l.count) (l.indices) ≡ list_any (is_outside l.count) ((drop l.index-index l.indices))

@@ -1,0 +1,163 @@
+//! The full names of definitions, and which definition a text names.
+
+ghost use Rattle.std.specs.Prelude.{◌≡◌, [], ◌++◌, List, IfOk, OnOk, map};
+ghost use Rattle.std.specs.BTreeMap.{get_by_text};
+ghost use Rattle.prost_reflect_tables.specs.Names.{without_dot};
+ghost use Rattle.prost_reflect_tables.specs.Checked.{names_of, names_in_messages, names_in_enums, names_in_services, full_names, repeats, duplicate_name, file_names, message_names, enum_names};
+ghost use Rattle.prost_reflect_tables.specs.FlatViews.{definition_row, file_list, message_row, enum_row, service_row, flat_rows, text_list};
+ghost use Rattle.prost_reflect_tables.specs.Indexed.{IsIndexOf, IsIndex};
+
+use crate::flatten::{Definition, Flat, FlatEnum, FlatMessage, FlatService};
+use crate::names::{text_or_empty, without_dot};
+use prost_reflect_wire::records::FileDescriptorProto;
+use std::alloc::{AllocError, Global};
+use std::collections::{BTreeMap, BTreeSet};
+
+/// The places of messages and enums by their full names.
+#[derive(Drop)]
+pub struct Index {
+    /// The places of messages.
+    pub messages: BTreeMap<String, usize>,
+    /// The places of enums.
+    pub enums: BTreeMap<String, usize>,
+}
+
+// DUPLICATE NAMES
+
+fn add_names<'f, 'a, R>(
+    names: &mut Vec<&'f str>,
+    more: &'f [Definition<'a, R>],
+) -> Result<(), AllocError>
+    ensures { OnOk result (text_list names.new.items ≡ text_list names.old.items ++ names_of (map definition_row more.now)) }
+{
+    for definition in more {
+        names.push(definition.full_name.as_str())?;
+    }
+    Ok(())
+}
+
+fn add_names_in_messages<'f, 'a>(
+    names: &mut Vec<&'f str>,
+    messages: &'f [FlatMessage<'a>],
+) -> Result<(), AllocError>
+    ensures { OnOk result (text_list names.new.items ≡ text_list names.old.items ++ names_in_messages (map message_row messages.now)) }
+{
+    for message in messages {
+        names.push(message.definition.full_name.as_str())?;
+        add_names(names, message.fields.as_slice())?;
+        add_names(names, message.oneofs.as_slice())?;
+    }
+    Ok(())
+}
+
+fn add_names_in_enums<'f, 'a>(
+    names: &mut Vec<&'f str>,
+    enums: &'f [FlatEnum<'a>],
+) -> Result<(), AllocError>
+    ensures { OnOk result (text_list names.new.items ≡ text_list names.old.items ++ names_in_enums (map enum_row enums.now)) }
+{
+    for declared in enums {
+        names.push(declared.definition.full_name.as_str())?;
+        add_names(names, declared.values.as_slice())?;
+    }
+    Ok(())
+}
+
+fn add_names_in_services<'f, 'a>(
+    names: &mut Vec<&'f str>,
+    services: &'f [FlatService<'a>],
+) -> Result<(), AllocError>
+    ensures { OnOk result (text_list names.new.items ≡ text_list names.old.items ++ names_in_services (map service_row services.now)) }
+{
+    for service in services {
+        names.push(service.definition.full_name.as_str())?;
+        add_names(names, service.methods.as_slice())?;
+    }
+    Ok(())
+}
+
+fn full_names<'f, 'a>(alloc: Global, flat: &'f Flat<'a>) -> Result<Vec<&'f str>, AllocError>
+    ensures { IfOk result (λ v. text_list v.items ≡ full_names (flat_rows flat.now)) }
+{
+    let mut names = Vec::new(alloc);
+    add_names_in_messages(&mut names, flat.messages.as_slice())?;
+    add_names_in_enums(&mut names, flat.enums.as_slice())?;
+    add_names(&mut names, flat.extensions.as_slice())?;
+    add_names_in_services(&mut names, flat.services.as_slice())?;
+    Ok(names)
+}
+
+/// Whether a name stands among those before it.
+fn repeats(alloc: Global, names: &[&str]) -> Result<bool, AllocError>
+    ensures { IfOk result (λ b. b ≡ repeats [] (text_list names.now)) }
+{
+    let mut seen = BTreeSet::new(alloc);
+    for name in names {
+        if !seen.insert(String::from_str(alloc, name)?)? {
+            return Ok(true);
+        }
+    }
+    Ok(false)
+}
+
+/// Whether two definitions have one full name.
+pub fn has_duplicate_name(alloc: Global, flat: &Flat) -> Result<bool, AllocError>
+    ensures { IfOk result (λ b. b ≡ duplicate_name (flat_rows flat.now)) }
+{
+    let names = full_names(alloc, flat)?;
+    repeats(alloc, names.as_slice())
+}
+
+// INDICES OF NAMES
+
+/// The place of the first of each name.
+pub fn index_of(alloc: Global, names: &[&str]) -> Result<BTreeMap<String, usize>, AllocError>
+    ensures { IfOk result (λ m. IsIndexOf m (text_list names.now)) }
+{
+    let mut index = BTreeMap::new(alloc);
+    for (place, name) in names.iter().enumerate() {
+        index
+            .entry(String::from_str(alloc, name)?)?
+            .or_insert(place);
+    }
+    Ok(index)
+}
+
+fn message_names<'f, 'a>(
+    alloc: Global,
+    messages: &'f [FlatMessage<'a>],
+) -> Result<Vec<&'f str>, AllocError>
+    ensures { IfOk result (λ v. text_list v.items ≡ map (λ m. m.definition.full_name) (map message_row messages.now)) }
+{
+    let mut names = Vec::new(alloc);
+    for message in messages {
+        names.push(message.definition.full_name.as_str())?;
+    }
+    Ok(names)
+}
+
+fn enum_names<'f, 'a>(alloc: Global, enums: &'f [FlatEnum<'a>]) -> Result<Vec<&'f str>, AllocError>
+    ensures { IfOk result (λ v. text_list v.items ≡ map (λ e. e.definition.full_name) (map enum_row enums.now)) }
+{
+    let mut names = Vec::new(alloc);
+    for declared in enums {
+        names.push(declared.definition.full_name.as_str())?;
+    }
+    Ok(names)
+}
+
+/// The places of messages and enums by their full names.
+///
+/// # Errors
+///
+/// `AllocError` if a growth was refused.
+pub fn indexed(alloc: Global, flat: &Flat) -> Result<Index, AllocError>
+    ensures { IfOk result (λ index. IsIndex index (flat_rows flat.now)) }
+{
+    let messages = message_names(alloc, flat.messages.as_slice())?;
+    let enums = enum_names(alloc, flat.enums.as_slice())?;
+    Ok(Index {
+        messages: index_of(alloc, messages.as_slice())?,
+        enums: index_of(alloc, enums.as_slice())?,
+    })
+}

@@ -1,0 +1,48 @@
+//! Full names, and texts that name them.
+
+ghost use Rattle.std.specs.Prelude.{◌≡◌, IfOk, string_bytes};
+ghost use Rattle.prost_reflect_tables.specs.Names.{text_or_empty, joined, without_dot, bracketed};
+
+use std::alloc::{AllocError, Global};
+
+/// The text, or the empty one where there is none.
+pub fn text_or_empty(text: &Option<String>) -> &str
+    ensures { result.now ≡ text_or_empty text.now }
+{
+    match text {
+        Some(text) => text.as_str(),
+        None => "",
+    }
+}
+
+/// A name in a scope, joined by a dot; in the empty scope it stands alone.
+pub fn joined(alloc: Global, scope: &str, name: &str) -> Result<String, AllocError>
+    ensures { IfOk result (λ s. string_bytes s ≡ joined scope.now name.now) }
+{
+    let mut full_name = String::from_str(alloc, scope)?;
+    if !scope.is_empty() {
+        full_name.push_str(".")?;
+    }
+    full_name.push_str(name)?;
+    Ok(full_name)
+}
+
+/// The full name that a type name means: the text without a dot in front, if one stands there.
+pub fn without_dot(name: &str) -> &str
+    ensures { result.now ≡ without_dot name.now }
+{
+    match name.strip_prefix('.') {
+        Some(rest) => rest,
+        None => name,
+    }
+}
+
+/// The JSON name of an extension of a full name.
+pub fn bracketed(alloc: Global, full_name: &str) -> Result<String, AllocError>
+    ensures { IfOk result (λ s. string_bytes s ≡ bracketed full_name.now) }
+{
+    let mut json_name = String::from_str(alloc, "[")?;
+    json_name.push_str(full_name)?;
+    json_name.push_str("]")?;
+    Ok(json_name)
+}
