@@ -108,7 +108,7 @@ plain_some (Len body) front (len, varint, whole) = rw whole (omega (arith, lengt
 plain_some (Fix64 b) front s = omega (arith, ap length s.1, s.0)
 plain_some (Fix32 b) front s = omega (arith, ap length s.1, s.0)
 
-plain_shorter : (p : Plain) (bytes rest : List ℕ) → PlainFront p bytes rest → length rest < length bytes
+pub plain_shorter : (p : Plain) (bytes rest : List ℕ) → PlainFront p bytes rest → length rest < length bytes
 plain_shorter p bytes rest f = omega (arith, ap length f.parts, length-append f.front rest, plain_some p f.front f.spelled)
 
 pub record SomePlains (fuel : ℕ) (w : WireType) (bytes : List ℕ) : Type 0 where

@@ -1,7 +1,7 @@
 -- The records of a descriptor set as a table: each record's fields, by number and kind (descriptor.proto of Protocol Buffers).
 use Rattle.std.specs.Prelude.{ℕ, Bool, true, false, List, [], ◌∷◌, map, None}
 use Rattle.prost_reflect_wire.specs.Scalar.{Boolean, ScalarKind, Int32, BoolKind, StringKind, BytesKind, kind_default}
-use Rattle.prost_reflect_wire.specs.Schema.{Kind, ScalarOf, MessageOf, ValueType, FieldForm, Singular, Repeated, Field, MessageType, Schema}
+use Rattle.prost_reflect_wire.specs.Schema.{ScalarOf, MessageOf, ValueType, FieldForm, Singular, Repeated, Field, MessageType, Schema}
 use Rattle.prost_reflect_wire.specs.declared.records.table.RecordType.{RecordType}
 use Rattle.prost_reflect_wire.specs.declared.records.table.RecordType.TheVariants as types
 use Rattle.prost_reflect_wire.specs.declared.records.table.FieldKind.{FieldKind}

@@ -27,6 +27,7 @@ pub mod ContentEquality
 pub mod DescriptorSound
 pub mod DescriptorWriting
 pub mod Sinks
+pub mod DescriptorReading
 pub mod Passage
 pub mod Reducing
 pub mod Examples

@@ -1,19 +1,27 @@
 //! The records of a descriptor set: files, messages, fields, enums, services and what they consist of, as
 //! `descriptor.proto` of Protocol Buffers declares them.
 //!
-//! Options and source information are kept as the bytes that they are written in; several such records are joined. A
-//! field that a record here does not have is read past and dropped.
+//! Options and source information are kept as the bytes that they are written in.
+//!
+//! A record is read in at most 100 levels of nested records and unknown groups. Of a text, a number or a flag that is given
+//! twice the last one counts; the records of a list, and the pieces of raw bytes, join; packed numbers are read as single
+//! ones are; fields that the record does not have are dropped (the encoding guide, "Last One Wins", "Packed Repeated Fields"
+//! and "Submessages").
 
-use std::alloc::Global;
-
+mod body;
 mod copy;
+mod decode;
 mod encoding;
 #[cfg(test)]
 mod encoding_tests;
 mod equality;
 mod field_writing;
+mod fields;
 mod sink;
 mod table;
+#[cfg(test)]
+mod tests;
+mod values;
 mod writing;
 
 /// The files that a compiler was given, each behind those that it depends on.
