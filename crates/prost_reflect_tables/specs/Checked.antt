@@ -310,7 +310,7 @@ pub record Checked (files : List FileDescriptorProto) (rows : FlatRows) : Type 0
   pub numbers_differ : duplicate_number rows ≡ false
   pub in_ranges : outside_range rows ≡ false
 
--- Why files are refused: a test of that name is true. No other refusal stands in files.
+-- Why files are refused: the test of that name is true. The refusals that have no test here are not answered.
 abbrev pub Stands : PoolError → List FileDescriptorProto → FlatRows → Type 0
 Stands MissingName files rows = missing_name files rows ≡ true
 Stands UnknownSyntax files rows = unknown_syntax files ≡ true
