@@ -8,3 +8,7 @@ mod WholeBits
 mod Escapes
 mod WorkedDefaults
 mod Flattening
+mod OptionBytes
+mod Sorting
+mod Grouping
+mod NamePlaces

@@ -9,3 +9,6 @@ pub mod DefaultExamples
 pub mod Names
 pub mod Flat
 pub mod FlatViews
+pub mod Options
+pub mod Linking
+pub mod Indexing

@@ -5,8 +5,10 @@ mod defaults;
 mod error;
 mod examples;
 mod flatten;
+mod link;
 mod lookup;
 mod names;
+mod options;
 mod tables;
 #[cfg(test)]
 mod tests;
@@ -15,6 +17,7 @@ pub use defaults::written_default;
 pub use error::PoolError;
 pub use examples::{defaults_read, defaults_refused, shown_tables, tables_not_linked};
 pub use flatten::{Definition, Flat, FlatEnum, FlatMessage, FlatService, flattened};
+pub use link::linked;
 pub use tables::{
     Cardinality, EnumTable, EnumValueTable, FieldTable, MessageTable, OneofTable, TableKind,
     Tables, WrittenDefault,
