@@ -9,5 +9,9 @@ mod WholeBits
 mod Escapes
 mod WorkedDefaults
 mod Flattening
-mod NamePlaces
+mod LinkedPlaces
 mod Numbering
+mod OptionBytes
+mod Sorting
+mod Grouping
+mod NamePlaces

@@ -38,7 +38,7 @@ abbrev pub or_else : Option ℕ → Option ℕ → Option ℕ
 or_else None p = p
 or_else (Some i) p = Some i
 
-position_push : (p : List ℕ → Bool) (i : ℕ) (names : List (List ℕ)) (n : List ℕ) →
+pub position_push : (p : List ℕ → Bool) (i : ℕ) (names : List (List ℕ)) (n : List ℕ) →
     position_from p i (names ++ n ∷ []) ≡ or_else (position_from p i names) (cond (p n) (Some (i + length names)) None)
 position_push p i [] n = rw (add-zero i) refl
 position_push p i (m ∷ names) n =

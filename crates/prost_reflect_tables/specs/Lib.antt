@@ -12,3 +12,6 @@ pub mod Flat
 pub mod FlatViews
 pub mod Checked
 pub mod Indexed
+pub mod Options
+pub mod Linking
+pub mod Indexing

@@ -44,7 +44,7 @@ fn refusal(kind: TableKind) -> PoolError
 
 /// The default, or none where the text gives no value.
 #[tactic(auto, unfolding(crate::specs::WrittenDefaults::written_default))]
-fn scalar_default(
+pub fn scalar_default(
     alloc: Global,
     kind: TableKind,
     values: &[EnumValueTable],

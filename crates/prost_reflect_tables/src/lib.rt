@@ -9,9 +9,11 @@ mod examples;
 mod flatten;
 mod index;
 mod laws;
+mod link;
 mod lookup;
 mod names;
 mod numbers;
+mod options;
 mod references;
 mod tables;
 #[cfg(test)]
@@ -23,6 +25,7 @@ pub use error::PoolError;
 pub use examples::{defaults_read, defaults_refused, shown_tables, tables_not_linked};
 pub use flatten::{Definition, Flat, FlatEnum, FlatMessage, FlatService, flattened};
 pub use laws::tables_equality;
+pub use link::linked;
 pub use tables::{
     Cardinality, EnumTable, EnumValueTable, FieldTable, MessageTable, OneofTable, TableKind,
     Tables, WrittenDefault,
