@@ -9,9 +9,10 @@ use crate::records::{
 use std::alloc::{AllocError, Global};
 use std::test::Fail;
 
-/// The record is appended as these bytes, which are counted; a copy is equal to it, and another record is not.
+/// The record is appended as these bytes, which are counted and read back; a copy is
+/// equal to it, and another record is not.
 macro_rules! written {
-    ($rt:expr, $record:expr, $other:expr, $want:expr) => {{
+    ($rt:expr, $record_type:ident, $record:expr, $other:expr, $want:expr) => {{
         let record = $record;
         let want: &[u8] = $want;
         let mut out = Vec::from_slice($rt.alloc(), b"<")?;
@@ -22,9 +23,8 @@ macro_rules! written {
         let copy = record.clone()?;
         assert!($rt; copy == record);
         assert!($rt; copy != $other);
-        let mut again = Vec::new($rt.alloc());
-        copy.encode(&mut again)?;
-        assert_eq!($rt; again.as_slice(), want);
+        let read = $record_type::decode($rt.alloc(), want)?;
+        assert!($rt; read == copy);
     }};
 }
 
@@ -185,7 +185,13 @@ fn ranges(rt: HostRuntime) -> Result<(), Fail> {
         end: Some(200),
         options: raw(rt.alloc(), b"\x10\x01")?,
     };
-    written!(rt, range, other, b"\x08\x64\x10\xc8\x01\x1a\x02\x10\x01");
+    written!(
+        rt,
+        ExtensionRange,
+        range,
+        other,
+        b"\x08\x64\x10\xc8\x01\x1a\x02\x10\x01"
+    );
     let other = ReservedRange {
         start: Some(5),
         end: None,
@@ -194,7 +200,7 @@ fn ranges(rt: HostRuntime) -> Result<(), Fail> {
         start: None,
         end: Some(5),
     };
-    written!(rt, range, other, b"\x10\x05");
+    written!(rt, ReservedRange, range, other, b"\x10\x05");
     let other = EnumReservedRange {
         start: Some(-1),
         end: Some(-1),
@@ -205,6 +211,7 @@ fn ranges(rt: HostRuntime) -> Result<(), Fail> {
     };
     written!(
         rt,
+        EnumReservedRange,
         range,
         other,
         b"\x08\xff\xff\xff\xff\xff\xff\xff\xff\xff\x01\x10\x00"
@@ -230,6 +237,7 @@ fn fields_and_oneofs(rt: HostRuntime) -> Result<(), Fail> {
     };
     written!(
         rt,
+        FieldDescriptorProto,
         whole,
         field(alloc, "f")?,
         b"\x0a\x01f\x12\x02.E\x18\x96\x01\x20\x01\x28\x0b\x32\x02.T\x3a\x00\x42\x02\x10\x01\x48\x00\x52\x01F\x88\x01\x01"
@@ -242,7 +250,7 @@ fn fields_and_oneofs(rt: HostRuntime) -> Result<(), Fail> {
         name: text(alloc, "o")?,
         options: raw(alloc, b"")?,
     };
-    written!(rt, whole, other, b"\x0a\x01o\x12\x00");
+    written!(rt, OneofDescriptorProto, whole, other, b"\x0a\x01o\x12\x00");
     Ok(())
 }
 
@@ -251,6 +259,7 @@ fn enums_and_services(rt: HostRuntime) -> Result<(), Fail> {
     let alloc = rt.alloc();
     written!(
         rt,
+        EnumValueDescriptorProto,
         value(alloc, 300)?,
         value(alloc, 301)?,
         b"\x0a\x01V\x10\xac\x02\x1a\x02\x08\x01"
@@ -268,6 +277,7 @@ fn enums_and_services(rt: HostRuntime) -> Result<(), Fail> {
     };
     written!(
         rt,
+        EnumDescriptorProto,
         whole,
         numbers(alloc),
         b"\x0a\x01E\x12\x09\x0a\x01V\x10\x01\x1a\x02\x08\x01\x1a\x02\x10\x01\x22\x04\x08\x02\x10\x03\x2a\x01r"
@@ -276,6 +286,7 @@ fn enums_and_services(rt: HostRuntime) -> Result<(), Fail> {
     other.client_streaming = None;
     written!(
         rt,
+        MethodDescriptorProto,
         method(alloc)?,
         other,
         b"\x0a\x01m\x12\x02.I\x1a\x02.O\x22\x00\x28\x00\x30\x01"
@@ -292,6 +303,7 @@ fn enums_and_services(rt: HostRuntime) -> Result<(), Fail> {
     };
     written!(
         rt,
+        ServiceDescriptorProto,
         whole,
         other,
         b"\x0a\x01s\x12\x11\x0a\x01m\x12\x02.I\x1a\x02.O\x22\x00\x28\x00\x30\x01\x1a\x02\x08\x01"
@@ -304,6 +316,7 @@ fn messages(rt: HostRuntime) -> Result<(), Fail> {
     let alloc = rt.alloc();
     written!(
         rt,
+        DescriptorProto,
         whole_message(alloc)?,
         message(alloc, "M")?,
         b"\x0a\x01M\x12\x03\x0a\x01f\x1a\x08\x0a\x01J\x1a\x03\x0a\x01K\x22\x00\x2a\x02\x08\x01\x32\x03\x0a\x01x\x3a\x02\x38\x01\x42\x03\x0a\x01o\x4a\x04\x08\x07\x10\x08\x52\x01r"
@@ -316,6 +329,7 @@ fn files(rt: HostRuntime) -> Result<(), Fail> {
     let alloc = rt.alloc();
     written!(
         rt,
+        FileDescriptorProto,
         whole_file(alloc)?,
         file(alloc, "a")?,
         b"\x0a\x01a\x12\x01p\x1a\x01b\x1a\x01c\x22\x03\x0a\x01M\x2a\x00\x32\x00\x3a\x03\x0a\x01x\x42\x04\x10\x01\x20\x01\x4a\x02\x0a\x00\x50\x00\x50\x01\x58\xff\xff\xff\xff\xff\xff\xff\xff\xff\x01\x62\x06proto3"
@@ -332,7 +346,7 @@ fn file_sets(rt: HostRuntime) -> Result<(), Fail> {
     let other = FileDescriptorSet {
         file: Vec::new(alloc),
     };
-    written!(rt, set, other, b"\x0a\x03\x0a\x01a");
+    written!(rt, FileDescriptorSet, set, other, b"\x0a\x03\x0a\x01a");
     Ok(())
 }
 
