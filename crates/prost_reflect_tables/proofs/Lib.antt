@@ -11,4 +11,5 @@ mod Flattening
 mod OptionBytes
 mod Sorting
 mod Grouping
-mod NamePlaces
+mod FirstPlaces
+mod WorkedLinking

@@ -12,3 +12,4 @@ pub mod FlatViews
 pub mod Options
 pub mod Linking
 pub mod Indexing
+pub mod LinkingExamples
