@@ -9,9 +9,10 @@ mod WholeBits
 mod Escapes
 mod WorkedDefaults
 mod Flattening
-mod LinkedPlaces
 mod Numbering
 mod OptionBytes
 mod Sorting
 mod Grouping
 mod NamePlaces
+mod FirstPlaces
+mod WorkedLinking

@@ -15,3 +15,4 @@ pub mod Indexed
 pub mod Options
 pub mod Linking
 pub mod Indexing
+pub mod LinkingExamples

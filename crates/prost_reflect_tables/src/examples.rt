@@ -2,6 +2,7 @@
 
 ghost use Rattle.prost_reflect_tables.specs.Examples.{Tables, NotLinked};
 ghost use Rattle.prost_reflect_tables.specs.DefaultExamples.{Integers, NoIntegers, Floats, NoFloats, Others, NoOthers, Escapes, NoEscapes};
+ghost use Rattle.prost_reflect_tables.specs.LinkingExamples.{OptionBytes, KindsAndLabels, PackedAndPresent, Orders};
 
 /// The schema that tables give, for a field of each form.
 pub fn shown_tables()
@@ -27,4 +28,12 @@ pub fn defaults_refused()
     ensures floats { NoFloats }
     ensures others { NoOthers }
     ensures escapes { NoEscapes }
+{}
+
+/// Option bytes, and what linking makes of kinds, labels, packing, presence and orders.
+pub fn linking()
+    ensures options { OptionBytes }
+    ensures kinds { KindsAndLabels }
+    ensures packed { PackedAndPresent }
+    ensures orders { Orders }
 {}

@@ -1,7 +1,8 @@
 //! Calls with ample memory, whose contracts leave want of memory open.
 
 use crate::{
-    EnumValueTable, PoolError, TableKind, WrittenDefault, check, flattened, written_default,
+    EnumValueTable, Flat, PoolError, TableKind, WrittenDefault, check, flattened, linked,
+    written_default,
 };
 use prost_reflect_wire::records::{
     DescriptorProto, EnumDescriptorProto, EnumValueDescriptorProto, FieldDescriptorProto,
@@ -354,5 +355,165 @@ fn faults_of_a_field(rt: HostRuntime) -> Result<(), Fail> {
         let file = file_of(alloc, fields)?;
         assert_eq!(rt; refusal(alloc, &file)?, Some(error));
     }
+    Ok(())
+}
+
+fn text(alloc: Global, text: &str) -> Result<Option<String>, AllocError> {
+    Ok(Some(String::from_str(alloc, text)?))
+}
+
+/// A field of a number, a label and a type code.
+fn numbered(
+    alloc: Global,
+    name: &str,
+    number: i32,
+    label: i32,
+    code: i32,
+) -> Result<FieldDescriptorProto, AllocError> {
+    let mut made = field(alloc, name)?;
+    made.number = Some(number);
+    made.label = Some(label);
+    made.type_ = Some(code);
+    Ok(made)
+}
+
+fn empty_message(alloc: Global, name: &str) -> Result<DescriptorProto, AllocError> {
+    Ok(DescriptorProto {
+        name: text(alloc, name)?,
+        field: Vec::new(alloc),
+        nested_type: Vec::new(alloc),
+        enum_type: Vec::new(alloc),
+        extension_range: Vec::new(alloc),
+        extension: Vec::new(alloc),
+        options: None,
+        oneof_decl: Vec::new(alloc),
+        reserved_range: Vec::new(alloc),
+        reserved_name: Vec::new(alloc),
+    })
+}
+
+fn empty_file(
+    alloc: Global,
+    package: &str,
+    syntax: Option<String>,
+) -> Result<FileDescriptorProto, AllocError> {
+    Ok(FileDescriptorProto {
+        name: text(alloc, "m.proto")?,
+        package: text(alloc, package)?,
+        dependency: Vec::new(alloc),
+        message_type: Vec::new(alloc),
+        enum_type: Vec::new(alloc),
+        service: Vec::new(alloc),
+        extension: Vec::new(alloc),
+        options: None,
+        source_code_info: None,
+        public_dependency: Vec::new(alloc),
+        weak_dependency: Vec::new(alloc),
+        syntax,
+    })
+}
+
+/// proto3: `package package; message MyMessage { int32 foo = 1; oneof optional { int32 bar = 2; } MyMessage nested = 3; }`.
+fn my_message_file(alloc: Global) -> Result<FileDescriptorProto, AllocError> {
+    let mut message = empty_message(alloc, "MyMessage")?;
+    message.field.push(numbered(alloc, "foo", 1, 1, 5)?)?;
+    let mut bar = numbered(alloc, "bar", 2, 1, 5)?;
+    bar.oneof_index = Some(0);
+    message.field.push(bar)?;
+    let mut nested = numbered(alloc, "nested", 3, 1, 11)?;
+    nested.type_name = text(alloc, ".package.MyMessage")?;
+    message.field.push(nested)?;
+    message.oneof_decl.push(OneofDescriptorProto {
+        name: text(alloc, "optional")?,
+        options: None,
+    })?;
+    let mut file = empty_file(alloc, "package", text(alloc, "proto3")?)?;
+    file.message_type.push(message)?;
+    Ok(file)
+}
+
+fn shown(flat: &Flat, rt: &HostRuntime) -> Result<String, Fail> {
+    let (messages, enums) = linked(rt.alloc(), flat)?;
+    let mut seen = String::new(rt.alloc());
+    for message in &messages {
+        write!(seen, "{} {}: ", message.full_name, message.is_map_entry)?;
+        for field in &message.fields {
+            write!(
+                seen,
+                "{} {} {:?} {:?} extension {} group {} packed {} presence {} {:?} {:?}; ",
+                field.number,
+                field.name,
+                field.kind,
+                field.cardinality,
+                field.is_extension,
+                field.is_group,
+                field.is_packed,
+                field.supports_presence,
+                field.default,
+                field.oneof
+            )?;
+        }
+        for oneof in &message.oneofs {
+            write!(seen, "oneof {} {:?}; ", oneof.name, oneof.fields)?;
+        }
+    }
+    for item in &enums {
+        write!(
+            seen,
+            "{} {:?} closed {}; ",
+            item.full_name, item.numbers, item.is_closed
+        )?;
+    }
+    Ok(seen)
+}
+
+/// A message type with a oneof and a field of its own type, in proto3.
+#[test]
+fn linked_proto3(rt: HostRuntime) -> Result<(), Fail> {
+    let file = my_message_file(rt.alloc())?;
+    let mut files = Vec::new(rt.alloc());
+    files.push(&file)?;
+    let flat = flattened(rt.alloc(), files.as_slice())?;
+    let seen = shown(&flat, &rt)?;
+    assert_eq!(rt;
+        seen.as_str(),
+        "package.MyMessage false: 1 foo Int32 Optional extension false group false packed false presence false None None; 2 bar Int32 Optional extension false group false packed false presence true None Some(0); 3 nested Message(0) Optional extension false group false packed false presence true None None; oneof optional [1]; "
+    );
+    Ok(())
+}
+
+/// proto2: a list with a packed option in front of one without, a default, a closed enum, a map's entry, and an
+/// extension with a smaller number than the fields.
+#[test]
+fn linked_proto2(rt: HostRuntime) -> Result<(), Fail> {
+    let alloc = rt.alloc();
+    let mut message = empty_message(alloc, "M")?;
+    let mut packed = numbered(alloc, "p", 9, 3, 5)?;
+    packed.options = Some(Vec::from_slice(alloc, &[0x10, 0, 0x10, 1])?);
+    message.field.push(packed)?;
+    message.field.push(numbered(alloc, "l", 8, 3, 5)?)?;
+    let mut named = numbered(alloc, "e", 7, 2, 14)?;
+    named.type_name = text(alloc, "E")?;
+    named.default_value = text(alloc, "ZERO")?;
+    message.field.push(named)?;
+    let mut entry = empty_message(alloc, "Entry")?;
+    entry.options = Some(Vec::from_slice(alloc, &[0x38, 1])?);
+    entry.field.push(numbered(alloc, "key", 1, 1, 9)?)?;
+    let mut extension = numbered(alloc, "x", 5, 1, 10)?;
+    extension.type_name = text(alloc, ".Entry")?;
+    extension.extendee = text(alloc, ".M")?;
+    let mut file = empty_file(alloc, "", None)?;
+    file.message_type.push(message)?;
+    file.message_type.push(entry)?;
+    file.enum_type = one_enum(alloc, "E")?;
+    file.extension.push(extension)?;
+    let mut files = Vec::new(alloc);
+    files.push(&file)?;
+    let flat = flattened(alloc, files.as_slice())?;
+    let seen = shown(&flat, &rt)?;
+    assert_eq!(rt;
+        seen.as_str(),
+        "M false: 5 x Message(1) Optional extension true group true packed false presence true None None; 7 e Enum(0) Required extension false group false packed false presence true Some(EnumNumber(0)) None; 8 l Int32 Repeated extension false group false packed false presence false None None; 9 p Int32 Repeated extension false group false packed true presence false None None; Entry true: 1 key String Optional extension false group false packed false presence true None None; E [0] closed true; "
+    );
     Ok(())
 }

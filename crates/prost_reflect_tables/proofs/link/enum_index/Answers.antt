@@ -1,6 +1,6 @@
 use Rattle.std.proofs.Common.{arith}
 use Rattle.std.proofs.lemmas.Map.Text.{text_keys}
-use Rattle.prost_reflect_tables.proofs.LinkedPlaces.{enum_more}
+use Rattle.prost_reflect_tables.proofs.FirstPlaces.{enum_more}
 use Rattle.prost_reflect_tables.proofs.link.enum_index.Goals as goal
 
 pub loop-place-preserved : goal.loop-place-preserved
