@@ -1,0 +1,55 @@
+-- How sets and maps of names grow, name by name.
+use Rattle.std.proofs.Common.{◌≡◌, ℕ, ◌+◌, ◌<◌, Bool, true, false, not, cond, ◌||◌, List, [], ◌∷◌, ◌++◌, length, take, drop, get_or, map, Option, Some, None, refl, sym, ap, ◌∙◌, arith, add-zero, zero-add, drop-cons, add-one}
+use denote.Bor.{Bor}
+use Rattle.std.specs.Str.{bytes_eq}
+use Rattle.std.specs.List.{list_any, position_from}
+use Rattle.std.proofs.lemmas.List.{take_more, map-append, length-map, length-take}
+use Rattle.std.proofs.lemmas.Slice.Eq.{bytes_eq-Decides}
+use Rattle.prost_reflect_tables.specs.Checked.{repeats, place_of}
+use Rattle.prost_reflect_tables.specs.FlatViews.{text_list}
+
+pub texts_more : (xs : List (Bor (List ℕ))) (i : ℕ) (d : Bor (List ℕ)) → i < length xs → text_list (take (i + 1) xs) ≡ text_list (take i xs) ++ (get_or xs i d).now ∷ []
+texts_more xs i d h = ap text_list (take_more xs i d h) ∙ map-append (λ (t : Bor (List ℕ)). t.now) (take i xs) (get_or xs i d ∷ [])
+
+texts_left : (xs : List (Bor (List ℕ))) (i : ℕ) (d : Bor (List ℕ)) → i < length xs → text_list (drop i xs) ≡ (get_or xs i d).now ∷ text_list (drop (i + 1) xs)
+texts_left xs i d h = rw (drop-cons xs i d, add-one i) refl
+
+pub list_any_push : {X : Type 0} (p : X → Bool) (xs : List X) (x : X) → list_any p (xs ++ x ∷ []) ≡ list_any p xs || p x
+list_any_push p [] x = elim (p x) as (λ b. (b || false) ≡ b) [ true ↦ refl | false ↦ refl ]
+list_any_push p (y ∷ xs) x = elim (p y) as (λ b. (b || list_any p (xs ++ x ∷ [])) ≡ ((b || list_any p xs) || p x)) [ true ↦ refl | false ↦ list_any_push p xs x ]
+
+-- A name that is not among those before changes nothing.
+pub repeats_more : (xs : List (Bor (List ℕ))) (i : ℕ) (d : Bor (List ℕ)) → i < length xs → list_any (bytes_eq (get_or xs i d).now) (text_list (take i xs)) ≡ false →
+    repeats (text_list (take i xs)) (text_list (drop i xs)) ≡ repeats (text_list (take (i + 1) xs)) (text_list (drop (i + 1) xs))
+repeats_more xs i d h new = rw (texts_left xs i d h, texts_more xs i d h, new) refl
+
+pub not_true : (b : Bool) → not b ≡ true → b ≡ false
+not_true true e = sym e
+not_true false e = refl
+
+-- A set of names, with one name more.
+pub seen_more : (added name : List ℕ) {old new : Bool} (q : List ℕ) → added ≡ name → old ≡ new → cond (bytes_eq added q) true old ≡ (new || bytes_eq q name)
+seen_more added name {old} {new} q same kept = rw (same, kept) (grind (arith, bytes_eq-Decides name q, bytes_eq-Decides q name))
+
+-- THE FIRST PLACE
+
+-- The first answer, or else the second.
+abbrev pub or_else : Option ℕ → Option ℕ → Option ℕ
+or_else None p = p
+or_else (Some i) p = Some i
+
+pub position_push : (p : List ℕ → Bool) (i : ℕ) (names : List (List ℕ)) (n : List ℕ) →
+    position_from p i (names ++ n ∷ []) ≡ or_else (position_from p i names) (cond (p n) (Some (i + length names)) None)
+position_push p i [] n = rw (add-zero i) refl
+position_push p i (m ∷ names) n =
+    elim (p m) as (λ b. cond b (Some i) (position_from p (i + 1) (names ++ n ∷ [])) ≡ or_else (cond b (Some i) (position_from p (i + 1) names)) (cond (p n) (Some (i + length (m ∷ names))) None)) [
+      | true ↦ refl
+      | false ↦ let e : i + 1 + length names ≡ i + length (m ∷ names) = omega arith in rw (← e) (position_push p (i + 1) names n)
+    ]
+
+pub place_more : (name : List ℕ) (xs : List (Bor (List ℕ))) (i : ℕ) (d : Bor (List ℕ)) → i < length xs →
+    place_of (text_list (take (i + 1) xs)) name ≡ or_else (place_of (text_list (take i xs)) name) (cond (bytes_eq name (get_or xs i d).now) (Some i) None)
+place_more name xs i d h =
+    let size : length (text_list (take i xs)) ≡ i = simp (length-map, length-take) (omega arith) in
+    ap (λ (names : List (List ℕ)). place_of names name) (texts_more xs i d h)
+    ∙ (position_push (bytes_eq name) 0 (text_list (take i xs)) (get_or xs i d).now ∙ rw size (rw (zero-add i) refl))
