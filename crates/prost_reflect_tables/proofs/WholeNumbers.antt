@@ -1,5 +1,5 @@
 -- Whole numbers in a text, digit by digit.
-use Rattle.std.proofs.Common.{◌≡◌, ℕ, zero, suc, ◌+◌, ◌-◌, ◌*◌, ◌/◌, ◌^◌, ◌<◌, ◌≤◌, Bool, true, false, cond, ◌&&◌, List, [], ◌∷◌, length, get_or, drop, Option, Some, None, refl, sym, ap, ◌∙◌, arith, drop-cons, add-one}
+use Rattle.std.proofs.Common.{◌≡◌, ℕ, suc, ◌+◌, ◌-◌, ◌*◌, ◌<◌, true, false, cond, List, [], ◌∷◌, length, get_or, drop, Some, None, refl, arith, drop-cons}
 use Rattle.std.specs.Prelude.{nat_le}
 use Rattle.prost_reflect_tables.specs.WrittenDefaults.{is_digit, digits_from, whole_number, up_to}
 

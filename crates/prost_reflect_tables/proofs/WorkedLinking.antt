@@ -1,5 +1,5 @@
 -- The worked examples of linking, by computing.
-use Rattle.std.proofs.Common.{refl, ◌≡◌}
+use Rattle.std.proofs.Common.{refl}
 use Rattle.std.specs.Char.{encode_utf8}
 use Rattle.std.specs.Str.{is_utf8, chars}
 use Rattle.prost_reflect_wire.specs.Record.{read}

@@ -1,14 +1,12 @@
 -- When files make a pool: one test for each reason to refuse them, over their definitions in flat lists (descriptor.proto; the language guide and the proto2 guide on what a file may declare).
-use Rattle.std.specs.Prelude.{◌≡◌, ℕ, ◌+◌, ◌^◌, nat_lt, nat_le, nat_eq, if◌then◌else◌, ℤ, pos, negsuc, int_le, int_lt, Bool, true, false, not, ◌&&◌, ◌||◌, length, List, [], ◌∷◌, ◌++◌, map, Option, Some, None, is_some, is_none, unwrap_or, option_and_then, slice_get, String, string_bytes, codes, bytes_eq}
+use Rattle.std.specs.Prelude.{◌≡◌, ℕ, ◌+◌, ◌^◌, nat_lt, nat_le, nat_eq, ℤ, pos, negsuc, int_le, int_lt, Bool, true, false, not, ◌&&◌, ◌||◌, length, List, [], ◌∷◌, ◌++◌, map, Option, Some, None, is_some, is_none, unwrap_or, option_and_then, slice_get, String, string_bytes, codes, bytes_eq}
 use Rattle.std.specs.Ordering.{int_eq}
 use Rattle.std.specs.List.{list_any, position_from}
 use Rattle.std.specs.declared.alloc.Global.{Global}
 use Rattle.prost_reflect_wire.specs.declared.records.FileDescriptorProto.{FileDescriptorProto}
 use Rattle.prost_reflect_wire.specs.declared.records.FieldDescriptorProto.{FieldDescriptorProto}
-use Rattle.prost_reflect_wire.specs.declared.records.EnumReservedRange.{EnumReservedRange}
 use Rattle.prost_reflect_wire.specs.declared.records.ExtensionRange.{ExtensionRange}
 use Rattle.prost_reflect_wire.specs.declared.records.MethodDescriptorProto.{MethodDescriptorProto}
-use Rattle.prost_reflect_wire.specs.declared.records.ReservedRange.{ReservedRange}
 use Rattle.prost_reflect_tables.specs.declared.error.PoolError.{PoolError}
 use Rattle.prost_reflect_tables.specs.declared.error.PoolError.TheVariants.{MissingName, UnknownSyntax, MissingDependency, BadIndex, BadNumber, BadRange, MissingType, BadLabel, BadOneof, EmptyEnum, DuplicateName, UnknownType, DuplicateNumber, OutsideRange}
 use Rattle.prost_reflect_tables.specs.Flat.{DefinitionRow, FlatMessageRow, FlatEnumRow, FlatServiceRow, FlatRows}

@@ -1,5 +1,5 @@
 -- The definitions of files in flat lists, each with its full name, its path and what encloses it (descriptor.proto, `SourceCodeInfo.Location.path`; the language guide, "Packages and Name Resolution").
-use Rattle.std.specs.Prelude.{ℕ, ◌+◌, ℤ, pos, Bool, true, false, length, List, [], ◌∷◌, ◌++◌, map, Option, Some, None, String, Vec, codes, bytes_eq}
+use Rattle.std.specs.Prelude.{ℕ, ◌+◌, ℤ, pos, Bool, length, List, [], ◌∷◌, ◌++◌, map, Option, Some, None, String, Vec, codes, bytes_eq}
 use Rattle.std.specs.declared.alloc.Global.{Global}
 use Rattle.prost_reflect_wire.specs.declared.records.FileDescriptorProto.{FileDescriptorProto}
 use Rattle.prost_reflect_wire.specs.declared.records.DescriptorProto.{DescriptorProto}

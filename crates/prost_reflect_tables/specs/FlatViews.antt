@@ -9,7 +9,7 @@ use Rattle.prost_reflect_tables.specs.declared.flatten.FlatMessage.{FlatMessage}
 use Rattle.prost_reflect_tables.specs.declared.flatten.FlatEnum.{FlatEnum}
 use Rattle.prost_reflect_tables.specs.declared.flatten.FlatService.{FlatService}
 use Rattle.prost_reflect_tables.specs.declared.flatten.Flat.{Flat}
-use Rattle.prost_reflect_tables.specs.Flat.{ScopeRow, DefinitionRow, MessageParts, FlatMessageRow, FlatEnumRow, FlatServiceRow, FlatRows, message_parts}
+use Rattle.prost_reflect_tables.specs.Flat.{ScopeRow, DefinitionRow, FlatMessageRow, FlatEnumRow, FlatServiceRow, FlatRows, message_parts}
 
 abbrev pub scope_row : Scope → ScopeRow
 scope_row s = record { name = s.name.now; path = s.path.now; file = s.file; is_proto3 = s.is_proto3; parent = s.parent }

@@ -1,5 +1,5 @@
 -- What the indices of names say.
-use Rattle.std.specs.Prelude.{◌≡◌, ℕ, ℤ, List, map, Option, String}
+use Rattle.std.specs.Prelude.{◌≡◌, ℕ, ℤ, List, map, String}
 use Rattle.std.specs.BTreeMap.{BTreeMap, get_by_text}
 use Rattle.std.specs.declared.alloc.Global.{Global}
 use Rattle.prost_reflect_tables.specs.declared.index.Index.{Index}

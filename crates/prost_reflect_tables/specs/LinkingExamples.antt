@@ -1,9 +1,8 @@
 -- Option bytes, kinds, labels, packing, presence and orders (descriptor.proto; the proto2 and the proto3 guide).
-use Rattle.std.specs.Prelude.{◌≡◌, ℕ, pos, negsuc, true, false, List, [], ◌∷◌, map, Some, None, codes}
+use Rattle.std.specs.Prelude.{◌≡◌, pos, negsuc, true, false, [], ◌∷◌, map, Some, None, codes}
 use Rattle.prost_reflect_wire.specs.declared.records.FieldDescriptorProto.{FieldDescriptorProto}
 use Rattle.prost_reflect_tables.specs.declared.tables.Cardinality.TheVariants.{Optional, Required, Repeated}
 use Rattle.prost_reflect_tables.specs.declared.tables.TableKind.TheVariants.{Double, Int32, String, Bool as BoolKind, Message, Enum, Sint64}
-use Rattle.prost_reflect_tables.specs.Rows.{FieldRow}
 use Rattle.prost_reflect_tables.specs.Options.{bool_in}
 use Rattle.prost_reflect_tables.specs.Linking.{natural_or_zero, place_in, place_of_name, kind_of_code, cardinality_of_label, linked_packed, linked_presence, in_order, belonging}
 use Rattle.prost_reflect_tables.specs.Examples.{single}

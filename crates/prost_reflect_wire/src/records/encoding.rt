@@ -21,28 +21,28 @@ use crate::records::{
 };
 
 /// Appends the encoding of the record.
-fn append<R: DescriptorRecord>(record: &R, out: &mut Vec<u8>) -> Result<(), EncodeError>
-    ensures ok { OnOk result (out.new.items ≡ out.old.items ++ encoded (R.content record.now)) }
+fn append<R: DescriptorRecord>(value: &R, out: &mut Vec<u8>) -> Result<(), EncodeError>
+    ensures ok { OnOk result (out.new.items ≡ out.old.items ++ encoded (R.content value.now)) }
     ensures err { OnErr result (out.new.items ≡ out.old.items) }
-    ensures too_long { IfErr result (λ e. e ≡ EncodeError.TooLong → 2 ^ 64 ≤ length (encoded (R.content record.now))) }
-    ensures reads { OnOk result (levels (R.content record.now) ≤ LEVEL_LIMIT → record_decoded LEVEL_LIMIT R.record_type (encoded (R.content record.now)) ≡ Some (R.content record.now)) }
+    ensures too_long { IfErr result (λ e. e ≡ EncodeError.TooLong → 2 ^ 64 ≤ length (encoded (R.content value.now))) }
+    ensures reads { OnOk result (levels (R.content value.now) ≤ LEVEL_LIMIT → record_decoded LEVEL_LIMIT R.record_type (encoded (R.content value.now)) ≡ Some (R.content value.now)) }
 {
     let mut writer = RecordWriter {
         buffer: BackBuffer::new(*out.allocator()),
         outcome: Ok(()),
     };
-    record.write(&mut writer);
+    value.write(&mut writer);
     writer.outcome?;
     writer.buffer.append_to(out)?;
     Ok(())
 }
 
 /// How many bytes the encoding of the record takes.
-fn count<R: DescriptorRecord>(record: &R) -> Option<usize>
-    ensures { let n = length (encoded (R.content record.now)) in SomeIff result (n < 2 ^ 64) n }
+fn count<R: DescriptorRecord>(value: &R) -> Option<usize>
+    ensures { let n = length (encoded (R.content value.now)) in SomeIff result (n < 2 ^ 64) n }
 {
     let mut counter = RecordCount { count: Some(0) };
-    record.write(&mut counter);
+    value.write(&mut counter);
     counter.count
 }
 

@@ -1,5 +1,5 @@
-use Rattle.std.proofs.Common.{◌≡◌, map, drop, not, ◌&&◌, ◌||◌, length}
-use Rattle.std.specs.Prelude.{int_le, is_some, is_none}
+use Rattle.std.proofs.Common.{◌≡◌, drop, not}
+use Rattle.std.specs.Prelude.{int_le}
 use Rattle.std.specs.List.{list_any}
 use Rattle.prost_reflect_tables.specs.Checked.{number_or_zero}
 use Rattle.prost_reflect_tables.proofs.checks.has_bad_enum_range.Given as goal

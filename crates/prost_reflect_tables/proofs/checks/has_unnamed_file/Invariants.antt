@@ -1,5 +1,4 @@
-use Rattle.std.proofs.Common.{◌≡◌, map, drop, not, ◌&&◌, ◌||◌, length}
-use Rattle.std.specs.Prelude.{int_le, is_some, is_none}
+use Rattle.std.proofs.Common.{◌≡◌, drop}
 use Rattle.std.specs.List.{list_any}
 use Rattle.prost_reflect_tables.specs.Checked.{is_unnamed}
 use Rattle.prost_reflect_tables.specs.FlatViews.{file_list}

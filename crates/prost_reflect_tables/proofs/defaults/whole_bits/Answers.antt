@@ -1,4 +1,4 @@
-use Rattle.std.proofs.Common.{◌≡◌, ◌<◌, ◌+◌, ◌*◌, ◌^◌, ap, ◌∙◌, arith}
+use Rattle.std.proofs.Common.{◌<◌, ◌+◌, ◌*◌, ◌^◌, ap, ◌∙◌, arith}
 use Rattle.prost_reflect_tables.proofs.WholeBits.{power_fits, product_fits, double_one, halved, exponent_left, normal_bits}
 use Rattle.prost_reflect_tables.proofs.defaults.whole_bits.Goals as goal
 

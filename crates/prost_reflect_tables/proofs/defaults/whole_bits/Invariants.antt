@@ -1,4 +1,4 @@
-use Rattle.std.proofs.Common.{◌≡◌, ◌+◌, ◌*◌, ◌^◌, ◌<◌, ◌≤◌}
+use Rattle.std.proofs.Common.{◌≡◌, ◌*◌, ◌^◌, ◌<◌, ◌≤◌}
 use Rattle.prost_reflect_tables.proofs.defaults.whole_bits.Given as goal
 
 abbrev pub decreases-loop-significand : goal.decreases-loop-significand

@@ -1,4 +1,4 @@
-use Rattle.std.proofs.Common.{◌≡◌, ◌<◌, ◌+◌, ◌-◌, ◌*◌, get_or, refl, sym, ap, ◌∙◌, arith}
+use Rattle.std.proofs.Common.{◌<◌, ◌+◌, ◌-◌, ◌*◌, get_or, sym, ap, ◌∙◌, arith}
 use Rattle.prost_reflect_tables.specs.WrittenDefaults.{up_to}
 use Rattle.prost_reflect_tables.proofs.WholeNumbers.{digit_past, from_start}
 use Rattle.prost_reflect_tables.proofs.defaults.whole_number.Goals as goal

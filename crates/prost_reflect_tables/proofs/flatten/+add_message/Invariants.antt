@@ -1,4 +1,4 @@
-use Rattle.std.proofs.Common.{◌≡◌, map, drop, pos, length}
+use Rattle.std.proofs.Common.{◌≡◌, map, drop, length}
 use Rattle.prost_reflect_tables.specs.Flat.{message_at, all_from, with_given}
 use Rattle.prost_reflect_tables.specs.FlatViews.{scope_row, flat_rows}
 use Rattle.prost_reflect_tables.proofs.flatten.+add_message.Given as goal

@@ -1,4 +1,4 @@
-use Rattle.std.proofs.Common.{◌≡◌, ◌++◌, map, drop, pos}
+use Rattle.std.proofs.Common.{◌≡◌, ◌++◌, map, drop}
 use Rattle.prost_reflect_tables.specs.Flat.{enums_from}
 use Rattle.prost_reflect_tables.specs.FlatViews.{scope_row, enum_row}
 use Rattle.prost_reflect_tables.proofs.flatten.add_enums.Given as goal

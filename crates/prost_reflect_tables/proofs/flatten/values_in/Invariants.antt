@@ -1,4 +1,4 @@
-use Rattle.std.proofs.Common.{◌≡◌, ◌++◌, map, drop, pos}
+use Rattle.std.proofs.Common.{◌≡◌, ◌++◌, map, drop}
 use Rattle.prost_reflect_tables.specs.Flat.{defined_from, value_name}
 use Rattle.prost_reflect_tables.specs.FlatViews.{scope_row, definition_row}
 use Rattle.prost_reflect_tables.proofs.flatten.values_in.Given as goal

@@ -1,4 +1,4 @@
-use Rattle.std.proofs.Common.{◌≡◌, ◌++◌, map, drop, take, ℕ, List}
+use Rattle.std.proofs.Common.{◌≡◌, ◌++◌, map, drop}
 use Rattle.prost_reflect_tables.specs.Checked.{names_of}
 use Rattle.prost_reflect_tables.specs.FlatViews.{definition_row, text_list}
 use Rattle.prost_reflect_tables.proofs.index.add_names.Given as goal

@@ -1,4 +1,4 @@
-use Rattle.std.proofs.Common.{◌≡◌, ◌++◌, map, drop, take, ℕ, List}
+use Rattle.std.proofs.Common.{take}
 use Rattle.prost_reflect_tables.specs.Indexed.{IsIndexOf}
 use Rattle.prost_reflect_tables.specs.FlatViews.{text_list}
 use Rattle.prost_reflect_tables.proofs.index.index_of.Given as goal

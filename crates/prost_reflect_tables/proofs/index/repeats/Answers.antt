@@ -1,4 +1,4 @@
-use Rattle.std.proofs.Common.{◌≡◌, ◌∙◌, ℕ, Bool, false, true, List, [], get_or, take, rules, string_bytes, sym, ap}
+use Rattle.std.proofs.Common.{◌≡◌, ◌∙◌, ℕ, false, true, List, [], get_or, take, string_bytes, sym, ap}
 use denote.Bor.{Bor}
 use Rattle.std.specs.List.{list_any}
 use Rattle.std.specs.Str.{bytes_eq}

@@ -1,7 +1,5 @@
-use Rattle.std.proofs.Common.{◌≡◌, ◌∙◌, ℕ, ℤ, Bool, false, true, List, [], get_or, take, pos, sym, ap}
-use Rattle.std.specs.Ordering.{nat_cmp, int_cmp, ordering_then}
+use Rattle.std.proofs.Common.{◌≡◌, ◌∙◌, ℕ, ℤ, false, true, get_or, take, pos, sym}
 use Rattle.std.specs.List.{list_any}
-use Rattle.std.specs.BTreeSet.{contains}
 use Rattle.prost_reflect_tables.specs.Checked.{same_numbered}
 use Rattle.prost_reflect_tables.specs.Indexed.{numbered, numbered_list}
 use Rattle.prost_reflect_tables.proofs.NamePlaces.{list_any_push, not_true}

@@ -1,4 +1,4 @@
-use Rattle.std.proofs.Common.{◌≡◌, map, drop, string_bytes}
+use Rattle.std.proofs.Common.{◌≡◌, drop, string_bytes}
 use Rattle.std.specs.Prelude.{is_none}
 use Rattle.std.specs.List.{list_any}
 use Rattle.prost_reflect_tables.specs.Checked.{file_names, place_of}

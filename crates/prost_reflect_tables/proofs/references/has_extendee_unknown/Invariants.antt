@@ -1,5 +1,4 @@
-use Rattle.std.proofs.Common.{◌≡◌, map, drop, string_bytes}
-use Rattle.std.specs.Prelude.{is_none}
+use Rattle.std.proofs.Common.{◌≡◌, map, drop}
 use Rattle.std.specs.List.{list_any}
 use Rattle.prost_reflect_tables.specs.Checked.{extendee_unknown}
 use Rattle.prost_reflect_tables.specs.FlatViews.{definition_row, flat_rows}

@@ -1,4 +1,4 @@
-use Rattle.std.proofs.Common.{◌≡◌, Bool, true, false, cond, refl, ap, sym, ◌∙◌, Some, None, Option, List, ℕ, true≢false}
+use Rattle.std.proofs.Common.{◌≡◌, Bool, true, false, cond, refl, ap, sym, ◌∙◌, List, ℕ, true≢false}
 use Rattle.std.specs.Option.{is_some}
 use Rattle.prost_reflect_wire.specs.Schema.{Field}
 use Rattle.prost_reflect.specs.declared.fields.entry.Entry.{Entry}
