@@ -5,7 +5,7 @@ use Rattle.std.specs.Str.{bytes_eq}
 use Rattle.std.specs.List.{list_any, position_from}
 use Rattle.std.proofs.lemmas.List.{take_more, map-append, length-map, length-take}
 use Rattle.std.proofs.lemmas.Slice.Eq.{bytes_eq-Decides}
-use Rattle.prost_reflect_tables.specs.Checked.{repeats, place_of}
+use Rattle.prost_reflect_tables.specs.Faults.{repeats, place_of}
 use Rattle.prost_reflect_tables.specs.FlatViews.{text_list}
 
 pub texts_more : (xs : List (Bor (List ℕ))) (i : ℕ) (d : Bor (List ℕ)) → i < length xs → text_list (take (i + 1) xs) ≡ text_list (take i xs) ++ (get_or xs i d).now ∷ []

@@ -9,7 +9,7 @@ use Rattle.std.specs.List.{list_any}
 use Rattle.std.proofs.lemmas.Bool.{cases_lt, ne_eqb, eq-eqb}
 use Rattle.std.proofs.lemmas.Bool.Decides.{Decides-int_eq}
 use Rattle.std.proofs.lemmas.List.{take_more, map-append}
-use Rattle.prost_reflect_tables.specs.Checked.{same_numbered, number_repeats}
+use Rattle.prost_reflect_tables.specs.Faults.{same_numbered, number_repeats}
 use Rattle.prost_reflect_tables.specs.Indexed.{numbered, numbered_list}
 
 both_equal : (a b : Ordering) → is_eq (ordering_then a b) ≡ is_eq a && is_eq b

@@ -4,7 +4,7 @@ use Rattle.std.specs.BTreeMap.{BTreeMap, get_by_text}
 use Rattle.std.specs.declared.alloc.Global.{Global}
 use Rattle.prost_reflect_tables.specs.declared.index.Index.{Index}
 use Rattle.prost_reflect_tables.specs.Flat.{FlatRows}
-use Rattle.prost_reflect_tables.specs.Checked.{place_of, message_names, enum_names, Numbered}
+use Rattle.prost_reflect_tables.specs.Faults.{place_of, message_names, enum_names, Numbered}
 
 -- Looking a name up gives the place of the first of that name.
 abbrev pub IsIndexOf : BTreeMap (String Global) ℕ → List (List ℕ) → Type 0

@@ -10,6 +10,10 @@ pub mod DefaultExamples
 pub mod Names
 pub mod Flat
 pub mod FlatViews
+pub mod Faults
+pub mod EntryFaults
+pub mod DefaultFaults
+pub mod OptionFaults
 pub mod Checked
 pub mod Indexed
 pub mod Options

@@ -2,7 +2,7 @@
 
 ghost use Rattle.std.specs.Prelude.{◌≡◌, ◌++◌, ◌≤ℤ◌, pos, nat_abs, not, int_le, IfOk, OnOk, map};
 ghost use Rattle.std.specs.List.{list_any};
-ghost use Rattle.prost_reflect_tables.specs.Checked.{is_unnamed, message_unnamed, enum_unnamed, service_unnamed, missing_name, syntax_unknown, unknown_syntax, is_outside, import_outside, oneof_outside, has_oneof_outside, bad_index, number_or_zero, is_field_number, number_bad, bad_number, range_bad, message_range_bad, enum_range_bad, bad_range, is_type, is_code, is_message_type, type_missing, extendee_missing, method_type_missing, missing_type, label_bad, bad_label, is_repeated, is_member, repeated_member, bad_oneof, enum_empty, empty_enum};
+ghost use Rattle.prost_reflect_tables.specs.Faults.{is_unnamed, message_unnamed, enum_unnamed, service_unnamed, missing_name, syntax_unknown, unknown_syntax, is_outside, import_outside, oneof_outside, has_oneof_outside, bad_index, number_or_zero, is_field_number, number_bad, bad_number, range_bad, message_range_bad, enum_range_bad, bad_range, is_type, is_code, is_message_type, type_missing, extendee_missing, method_type_missing, missing_type, label_bad, bad_label, is_repeated, is_member, repeated_member, bad_oneof, enum_empty, empty_enum};
 ghost use Rattle.prost_reflect_tables.specs.FlatViews.{definition_row, file_list, message_row, enum_row, service_row, flat_rows};
 
 use crate::flatten::{Definition, Flat, FlatEnum, FlatMessage, FlatService};

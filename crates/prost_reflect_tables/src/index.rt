@@ -3,7 +3,7 @@
 ghost use Rattle.std.specs.Prelude.{◌≡◌, [], ◌++◌, List, IfOk, OnOk, map};
 ghost use Rattle.std.specs.BTreeMap.{get_by_text};
 ghost use Rattle.prost_reflect_tables.specs.Names.{without_dot};
-ghost use Rattle.prost_reflect_tables.specs.Checked.{names_of, names_in_messages, names_in_enums, names_in_services, full_names, repeats, duplicate_name, file_names, message_names, enum_names};
+ghost use Rattle.prost_reflect_tables.specs.Faults.{names_of, names_in_messages, names_in_enums, names_in_services, full_names, repeats, duplicate_name, file_names, message_names, enum_names};
 ghost use Rattle.prost_reflect_tables.specs.FlatViews.{definition_row, file_list, message_row, enum_row, service_row, flat_rows, text_list};
 ghost use Rattle.prost_reflect_tables.specs.Indexed.{IsIndexOf, IsIndex};
 

@@ -1,7 +1,7 @@
 //! The check that the fields and extensions of a message have different numbers.
 
 ghost use Rattle.std.specs.Prelude.{◌≡◌, [], ◌++◌, length, IfOk, OnOk, map};
-ghost use Rattle.prost_reflect_tables.specs.Checked.{number_or_zero, numbered_fields, numbered_in, place_named, numbered_extensions, all_numbered, number_repeats, duplicate_number};
+ghost use Rattle.prost_reflect_tables.specs.Faults.{number_or_zero, numbered_fields, numbered_in, place_named, numbered_extensions, all_numbered, number_repeats, duplicate_number};
 ghost use Rattle.prost_reflect_tables.specs.FlatViews.{definition_row, message_row, flat_rows};
 ghost use Rattle.prost_reflect_tables.specs.Indexed.{IsIndex, numbered_list};
 

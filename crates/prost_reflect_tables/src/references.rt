@@ -4,7 +4,7 @@ ghost use Rattle.std.specs.Prelude.{◌≡◌, IfOk, map, is_none, string_bytes}
 ghost use Rattle.std.specs.List.{list_any};
 ghost use Rattle.std.specs.BTreeMap.{get_by_text};
 ghost use Rattle.prost_reflect_tables.specs.Names.{without_dot};
-ghost use Rattle.prost_reflect_tables.specs.Checked.{is_code, is_message_type, place_of, file_names, message_names, enum_names, dependency_missing, missing_dependency, names_nothing, type_unknown, extendee_unknown, method_type_unknown, unknown_type, is_in_range, extension_outside, outside_range};
+ghost use Rattle.prost_reflect_tables.specs.Faults.{is_code, is_message_type, place_of, file_names, message_names, enum_names, dependency_missing, missing_dependency, names_nothing, type_unknown, extendee_unknown, method_type_unknown, unknown_type, is_in_range, extension_outside, outside_range};
 ghost use Rattle.prost_reflect_tables.specs.FlatViews.{definition_row, file_list, message_row, service_row, flat_rows, text_list};
 ghost use Rattle.prost_reflect_tables.specs.Indexed.{IsIndexOf, IsIndex};
 

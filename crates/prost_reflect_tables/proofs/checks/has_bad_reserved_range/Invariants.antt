@@ -1,6 +1,6 @@
 use Rattle.std.proofs.Common.{◌≡◌, drop}
 use Rattle.std.specs.List.{list_any}
-use Rattle.prost_reflect_tables.specs.Checked.{range_bad}
+use Rattle.prost_reflect_tables.specs.Faults.{range_bad}
 use Rattle.prost_reflect_tables.proofs.checks.has_bad_reserved_range.Given as goal
 
 abbrev pub invariant-loop-range : goal.invariant-loop-range

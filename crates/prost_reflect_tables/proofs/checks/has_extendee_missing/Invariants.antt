@@ -1,6 +1,6 @@
 use Rattle.std.proofs.Common.{◌≡◌, map, drop}
 use Rattle.std.specs.List.{list_any}
-use Rattle.prost_reflect_tables.specs.Checked.{extendee_missing}
+use Rattle.prost_reflect_tables.specs.Faults.{extendee_missing}
 use Rattle.prost_reflect_tables.specs.FlatViews.{definition_row}
 use Rattle.prost_reflect_tables.proofs.checks.has_extendee_missing.Given as goal
 

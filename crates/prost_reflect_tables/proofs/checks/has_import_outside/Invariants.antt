@@ -1,6 +1,6 @@
 use Rattle.std.proofs.Common.{◌≡◌, drop}
 use Rattle.std.specs.List.{list_any}
-use Rattle.prost_reflect_tables.specs.Checked.{import_outside}
+use Rattle.prost_reflect_tables.specs.Faults.{import_outside}
 use Rattle.prost_reflect_tables.specs.FlatViews.{file_list}
 use Rattle.prost_reflect_tables.proofs.checks.has_import_outside.Given as goal
 

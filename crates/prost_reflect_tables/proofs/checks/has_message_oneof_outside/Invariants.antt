@@ -1,6 +1,6 @@
 use Rattle.std.proofs.Common.{◌≡◌, map, drop}
 use Rattle.std.specs.List.{list_any}
-use Rattle.prost_reflect_tables.specs.Checked.{has_oneof_outside}
+use Rattle.prost_reflect_tables.specs.Faults.{has_oneof_outside}
 use Rattle.prost_reflect_tables.specs.FlatViews.{message_row}
 use Rattle.prost_reflect_tables.proofs.checks.has_message_oneof_outside.Given as goal
 

@@ -1,6 +1,6 @@
 use Rattle.std.proofs.Common.{◌≡◌, map, drop}
 use Rattle.std.specs.List.{list_any}
-use Rattle.prost_reflect_tables.specs.Checked.{is_unnamed}
+use Rattle.prost_reflect_tables.specs.Faults.{is_unnamed}
 use Rattle.prost_reflect_tables.specs.FlatViews.{definition_row}
 use Rattle.prost_reflect_tables.proofs.checks.has_unnamed_field.Given as goal
 

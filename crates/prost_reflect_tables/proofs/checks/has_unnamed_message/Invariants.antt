@@ -1,6 +1,6 @@
 use Rattle.std.proofs.Common.{◌≡◌, map, drop}
 use Rattle.std.specs.List.{list_any}
-use Rattle.prost_reflect_tables.specs.Checked.{message_unnamed}
+use Rattle.prost_reflect_tables.specs.Faults.{message_unnamed}
 use Rattle.prost_reflect_tables.specs.FlatViews.{message_row}
 use Rattle.prost_reflect_tables.proofs.checks.has_unnamed_message.Given as goal
 

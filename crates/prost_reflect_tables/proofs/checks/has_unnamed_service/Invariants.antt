@@ -1,6 +1,6 @@
 use Rattle.std.proofs.Common.{◌≡◌, map, drop}
 use Rattle.std.specs.List.{list_any}
-use Rattle.prost_reflect_tables.specs.Checked.{service_unnamed}
+use Rattle.prost_reflect_tables.specs.Faults.{service_unnamed}
 use Rattle.prost_reflect_tables.specs.FlatViews.{service_row}
 use Rattle.prost_reflect_tables.proofs.checks.has_unnamed_service.Given as goal
 

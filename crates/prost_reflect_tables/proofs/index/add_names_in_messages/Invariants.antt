@@ -1,5 +1,5 @@
 use Rattle.std.proofs.Common.{◌≡◌, ◌++◌, map, drop}
-use Rattle.prost_reflect_tables.specs.Checked.{names_in_messages}
+use Rattle.prost_reflect_tables.specs.Faults.{names_in_messages}
 use Rattle.prost_reflect_tables.specs.FlatViews.{message_row, text_list}
 use Rattle.prost_reflect_tables.proofs.index.add_names_in_messages.Given as goal
 

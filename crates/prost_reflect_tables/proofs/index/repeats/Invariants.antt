@@ -2,7 +2,7 @@ use Rattle.std.proofs.Common.{◌≡◌, [], drop, take, ℕ, List}
 use Rattle.std.specs.List.{list_any}
 use Rattle.std.specs.Str.{bytes_eq}
 use Rattle.std.specs.BTreeSet.{contains_text}
-use Rattle.prost_reflect_tables.specs.Checked.{repeats}
+use Rattle.prost_reflect_tables.specs.Faults.{repeats}
 use Rattle.prost_reflect_tables.specs.FlatViews.{text_list}
 use Rattle.prost_reflect_tables.proofs.index.repeats.Given as goal
 

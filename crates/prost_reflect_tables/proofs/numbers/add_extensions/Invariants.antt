@@ -1,5 +1,5 @@
 use Rattle.std.proofs.Common.{◌≡◌, ◌++◌, map, drop}
-use Rattle.prost_reflect_tables.specs.Checked.{numbered_extensions}
+use Rattle.prost_reflect_tables.specs.Faults.{numbered_extensions}
 use Rattle.prost_reflect_tables.specs.FlatViews.{definition_row, flat_rows}
 use Rattle.prost_reflect_tables.specs.Indexed.{numbered_list}
 use Rattle.prost_reflect_tables.proofs.numbers.add_extensions.Given as goal

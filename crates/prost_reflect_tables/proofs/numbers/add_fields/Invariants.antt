@@ -1,5 +1,5 @@
 use Rattle.std.proofs.Common.{◌≡◌, ◌++◌, map, drop}
-use Rattle.prost_reflect_tables.specs.Checked.{numbered_fields}
+use Rattle.prost_reflect_tables.specs.Faults.{numbered_fields}
 use Rattle.prost_reflect_tables.specs.FlatViews.{definition_row}
 use Rattle.prost_reflect_tables.specs.Indexed.{numbered_list}
 use Rattle.prost_reflect_tables.proofs.numbers.add_fields.Given as goal

@@ -1,5 +1,5 @@
 use Rattle.std.proofs.Common.{◌≡◌, ◌++◌, map, drop}
-use Rattle.prost_reflect_tables.specs.Checked.{numbered_in}
+use Rattle.prost_reflect_tables.specs.Faults.{numbered_in}
 use Rattle.prost_reflect_tables.specs.FlatViews.{message_row}
 use Rattle.prost_reflect_tables.specs.Indexed.{numbered_list}
 use Rattle.prost_reflect_tables.proofs.numbers.add_messages.Given as goal

@@ -1,6 +1,6 @@
 use Rattle.std.proofs.Common.{◌≡◌, ◌∙◌, ℕ, ℤ, false, true, get_or, take, pos, sym}
 use Rattle.std.specs.List.{list_any}
-use Rattle.prost_reflect_tables.specs.Checked.{same_numbered}
+use Rattle.prost_reflect_tables.specs.Faults.{same_numbered}
 use Rattle.prost_reflect_tables.specs.Indexed.{numbered, numbered_list}
 use Rattle.prost_reflect_tables.proofs.NamePlaces.{list_any_push, not_true}
 use Rattle.prost_reflect_tables.proofs.Numbering.{numbers_more, number_repeats_more, number_repeats_found, number_seen, not_false}

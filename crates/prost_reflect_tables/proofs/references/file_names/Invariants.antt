@@ -1,5 +1,5 @@
 use Rattle.std.proofs.Common.{◌≡◌, ◌++◌, drop}
-use Rattle.prost_reflect_tables.specs.Checked.{file_names}
+use Rattle.prost_reflect_tables.specs.Faults.{file_names}
 use Rattle.prost_reflect_tables.specs.FlatViews.{file_list, text_list}
 use Rattle.prost_reflect_tables.proofs.references.file_names.Given as goal
 

@@ -1,7 +1,7 @@
 use Rattle.std.proofs.Common.{◌≡◌, drop, string_bytes}
 use Rattle.std.specs.Prelude.{is_none}
 use Rattle.std.specs.List.{list_any}
-use Rattle.prost_reflect_tables.specs.Checked.{file_names, place_of}
+use Rattle.prost_reflect_tables.specs.Faults.{file_names, place_of}
 use Rattle.prost_reflect_tables.specs.FlatViews.{file_list}
 use Rattle.prost_reflect_tables.proofs.references.has_dependency_missing.Given as goal
 

@@ -1,6 +1,6 @@
 use Rattle.std.proofs.Common.{◌≡◌, map, drop}
 use Rattle.std.specs.List.{list_any}
-use Rattle.prost_reflect_tables.specs.Checked.{extendee_unknown}
+use Rattle.prost_reflect_tables.specs.Faults.{extendee_unknown}
 use Rattle.prost_reflect_tables.specs.FlatViews.{definition_row, flat_rows}
 use Rattle.prost_reflect_tables.proofs.references.has_extendee_unknown.Given as goal
 

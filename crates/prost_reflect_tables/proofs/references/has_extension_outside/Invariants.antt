@@ -1,6 +1,6 @@
 use Rattle.std.proofs.Common.{◌≡◌, map, drop}
 use Rattle.std.specs.List.{list_any}
-use Rattle.prost_reflect_tables.specs.Checked.{extension_outside}
+use Rattle.prost_reflect_tables.specs.Faults.{extension_outside}
 use Rattle.prost_reflect_tables.specs.FlatViews.{definition_row, flat_rows}
 use Rattle.prost_reflect_tables.proofs.references.has_extension_outside.Given as goal
 

@@ -1,6 +1,6 @@
 use Rattle.std.proofs.Common.{◌≡◌, map, drop}
 use Rattle.std.specs.List.{list_any}
-use Rattle.prost_reflect_tables.specs.Checked.{method_type_unknown}
+use Rattle.prost_reflect_tables.specs.Faults.{method_type_unknown}
 use Rattle.prost_reflect_tables.specs.FlatViews.{definition_row, flat_rows}
 use Rattle.prost_reflect_tables.proofs.references.has_method_type_unknown_in.Given as goal
 

@@ -1,6 +1,6 @@
 use Rattle.std.proofs.Common.{◌≡◌, drop}
 use Rattle.std.specs.List.{list_any}
-use Rattle.prost_reflect_tables.specs.Checked.{dependency_missing, file_names, missing_dependency}
+use Rattle.prost_reflect_tables.specs.Faults.{dependency_missing, file_names, missing_dependency}
 use Rattle.prost_reflect_tables.specs.FlatViews.{file_list}
 use Rattle.prost_reflect_tables.proofs.references.has_missing_among.Given as goal
 

@@ -1,6 +1,6 @@
 use Rattle.std.proofs.Common.{◌≡◌, map, drop}
 use Rattle.std.specs.List.{list_any}
-use Rattle.prost_reflect_tables.specs.Checked.{type_unknown}
+use Rattle.prost_reflect_tables.specs.Faults.{type_unknown}
 use Rattle.prost_reflect_tables.specs.FlatViews.{flat_rows, message_row}
 use Rattle.prost_reflect_tables.proofs.references.has_type_unknown_of.Given as goal
 

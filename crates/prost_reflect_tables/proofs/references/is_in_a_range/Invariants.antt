@@ -1,6 +1,6 @@
 use Rattle.std.proofs.Common.{◌≡◌, drop}
 use Rattle.std.specs.List.{list_any}
-use Rattle.prost_reflect_tables.specs.Checked.{is_in_range}
+use Rattle.prost_reflect_tables.specs.Faults.{is_in_range}
 use Rattle.prost_reflect_tables.proofs.references.is_in_a_range.Given as goal
 
 abbrev pub invariant-loop-range : goal.invariant-loop-range
