@@ -16,7 +16,7 @@ and_right : (a b : Bool) → a && b ≡ true → b ≡ true
 and_right true b h = h
 and_right false b h = cc
 
-passes_at : {X : Type 0} (p : X → Bool) (xs : List X) (i : ℕ) (x : X) → list_all p xs ≡ true → slice_get xs i ≡ Some x → p x ≡ true
+pub passes_at : {X : Type 0} (p : X → Bool) (xs : List X) (i : ℕ) (x : X) → list_all p xs ≡ true → slice_get xs i ≡ Some x → p x ≡ true
 passes_at p [] i x h e = cc
 passes_at p (y ∷ ys) zero x h e = grind (arith, and_left (p y) (list_all p ys) h)
 passes_at p (y ∷ ys) (suc i) x h e = passes_at p ys i x (and_right (p y) (list_all p ys) h) e

@@ -18,5 +18,6 @@ pub mod Checked
 pub mod Indexed
 pub mod Options
 pub mod Linking
+pub mod InRange
 pub mod Indexing
 pub mod LinkingExamples

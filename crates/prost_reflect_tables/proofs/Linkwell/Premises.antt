@@ -1,0 +1,117 @@
+-- What the checks say of each message, enum, field and extension.
+use Rattle.std.proofs.Common.{◌≡◌, ℕ, Bool, true, false, ◌||◌, List, Some, refl, slice_get}
+use Rattle.std.specs.List.{list_any, list_all}
+use Rattle.std.proofs.lemmas.Bool.{or_parts}
+use Rattle.prost_reflect_wire.specs.declared.records.FileDescriptorProto.{FileDescriptorProto}
+use Rattle.prost_reflect_wire.specs.declared.records.FieldDescriptorProto.{FieldDescriptorProto}
+use Rattle.prost_reflect_tables.specs.Flat.{DefinitionRow, FlatMessageRow, FlatEnumRow, FlatServiceRow, FlatRows}
+use Rattle.prost_reflect_tables.specs.Faults.{any_field, number_bad, type_missing, type_unknown, extendee_missing, extendee_unknown, method_type_missing, method_type_unknown, label_bad, repeated_member, is_member, has_oneof_outside, import_outside, enum_empty, extension_outside}
+use Rattle.prost_reflect_tables.specs.EntryFaults.{bad_map_entry, entry_bad, wrongly_of_entry, is_of_entry, method_of_entry}
+use Rattle.prost_reflect_tables.specs.DefaultFaults.{bad_default, default_bad, default_misplaced, default_unread, is_float_type}
+use Rattle.prost_reflect_tables.specs.Linking.{Links, links_of}
+use Rattle.prost_reflect_tables.specs.Checked.{Checked}
+use Rattle.prost_reflect_tables.specs.InRange.{enum_in_range, in_range}
+use Rattle.prost_reflect_tables.proofs.Keeping.{passes_at}
+use Rattle.prost_reflect_tables.proofs.Linkwell.Items.{none_at}
+
+-- Files that pass the checks, of which the code's types say what they do.
+pub record Sound (files : List FileDescriptorProto) (rows : FlatRows) : Type 0 where
+  pub checked : Checked files rows
+  pub entries : bad_map_entry rows ≡ false
+  pub defaults : bad_default rows ≡ false
+  pub range : in_range rows ≡ true
+
+pub record FieldChecked (rows : FlatRows) (d : DefinitionRow FieldDescriptorProto) : Type 0 where
+  pub number : number_bad d ≡ false
+  pub type_there : type_missing d ≡ false
+  pub type_found : type_unknown rows d ≡ false
+  pub member : repeated_member d ≡ false
+  pub entry : wrongly_of_entry rows d ≡ false
+  pub default : default_misplaced d ≡ false
+
+pub record ExtensionChecked (rows : FlatRows) (d : DefinitionRow FieldDescriptorProto) : Type 0 where
+  pub field : FieldChecked rows d
+  pub extendee : extendee_missing d ≡ false
+  pub extendee_found : extendee_unknown rows d ≡ false
+  pub alone : is_member d ≡ false
+  pub no_entry : is_of_entry rows d ≡ false
+  pub inside : extension_outside rows d ≡ false
+
+pub record MessageChecked (m : FlatMessageRow) : Type 0 where
+  pub oneofs : has_oneof_outside m ≡ false
+  pub entry : entry_bad m ≡ false
+
+pub record EnumChecked (e : FlatEnumRow) : Type 0 where
+  pub some : enum_empty e ≡ false
+  pub range : enum_in_range e ≡ true
+
+-- A test of all fields, at a field of a message and at an extension.
+field_at : (t : DefinitionRow FieldDescriptorProto → Bool) (rows : FlatRows) (T i : ℕ) (m : FlatMessageRow) (d : DefinitionRow FieldDescriptorProto) → any_field t rows ≡ false → slice_get rows.messages T ≡ Some m → slice_get m.fields i ≡ Some d → t d ≡ false
+field_at t rows T i m d h at there = none_at t m.fields i d (none_at (λ (m : FlatMessageRow). list_any t m.fields) rows.messages T m (or_parts (list_any (λ (m : FlatMessageRow). list_any t m.fields) rows.messages) (list_any t rows.extensions) h).0 at) there
+
+extension_at : (t : DefinitionRow FieldDescriptorProto → Bool) (rows : FlatRows) (i : ℕ) (d : DefinitionRow FieldDescriptorProto) → any_field t rows ≡ false → slice_get rows.extensions i ≡ Some d → t d ≡ false
+extension_at t rows i d h at = none_at t rows.extensions i d (or_parts (list_any (λ (m : FlatMessageRow). list_any t m.fields) rows.messages) (list_any t rows.extensions) h).1 at
+
+well_placed : (links : Links) (d : DefinitionRow FieldDescriptorProto) → default_bad links d ≡ false → default_misplaced d ≡ false
+well_placed links d h = (or_parts (default_misplaced d) _ h).0
+
+wrong_needs_entry : (rows : FlatRows) (d : DefinitionRow FieldDescriptorProto) → is_of_entry rows d ≡ false → wrongly_of_entry rows d ≡ false
+wrong_needs_entry rows d h = rw h refl
+
+-- The parts of tests that are joined by `||`.
+three : (a b c : Bool) → (a || b || c) ≡ false → (a ≡ false) × (b ≡ false) × (c ≡ false)
+three false false c h = (refl, refl, h)
+three true b c h = absurd cc
+three false true c h = absurd cc
+
+four : (a b c d : Bool) → (a || b || c || d) ≡ false → (a ≡ false) × (b ≡ false) × (c ≡ false) × (d ≡ false)
+four false false false d h = (refl, refl, refl, h)
+four true b c d h = absurd cc
+four false true c d h = absurd cc
+four false false true d h = absurd cc
+
+entry_parts : (rows : FlatRows) → bad_map_entry rows ≡ false → (list_any entry_bad rows.messages ≡ false) × (list_any (λ (m : FlatMessageRow). list_any (wrongly_of_entry rows) m.fields) rows.messages ≡ false) × (list_any (is_of_entry rows) rows.extensions ≡ false)
+entry_parts rows h =
+    let parts = four (list_any entry_bad rows.messages) (list_any (λ (m : FlatMessageRow). list_any (wrongly_of_entry rows) m.fields) rows.messages) (list_any (is_of_entry rows) rows.extensions) (list_any (λ (s : FlatServiceRow). list_any (method_of_entry rows) s.methods) rows.services) h in
+    (parts.0, parts.1, parts.2)
+
+pub message_checked : {files : List FileDescriptorProto} (rows : FlatRows) (T : ℕ) (m : FlatMessageRow) → Sound files rows → slice_get rows.messages T ≡ Some m → MessageChecked m
+message_checked {files} rows T m s at = record {
+  oneofs = none_at has_oneof_outside rows.messages T m (or_parts (list_any import_outside files) _ s.checked.own.indices).1 at;
+  entry = none_at entry_bad rows.messages T m (entry_parts rows s.entries).0 at;
+}
+
+pub enum_checked : {files : List FileDescriptorProto} (rows : FlatRows) (E : ℕ) (e : FlatEnumRow) → Sound files rows → slice_get rows.enums E ≡ Some e → EnumChecked e
+enum_checked rows E e s at = record {
+  some = none_at enum_empty rows.enums E e s.checked.own.enums at;
+  range = passes_at enum_in_range rows.enums E e s.range at;
+}
+
+pub field_checked : {files : List FileDescriptorProto} (rows : FlatRows) (T i : ℕ) (m : FlatMessageRow) (d : DefinitionRow FieldDescriptorProto) → Sound files rows → slice_get rows.messages T ≡ Some m → slice_get m.fields i ≡ Some d → FieldChecked rows d
+field_checked rows T i m d s at there = record {
+  number = field_at number_bad rows T i m d s.checked.own.numbers at there;
+  type_there = field_at type_missing rows T i m d (three _ _ _ s.checked.own.types).0 at there;
+  type_found = field_at (type_unknown rows) rows T i m d (three _ _ _ s.checked.names_found).0 at there;
+  member = field_at repeated_member rows T i m d (or_parts _ _ s.checked.own.oneofs).0 at there;
+  entry = none_at (wrongly_of_entry rows) m.fields i d (none_at (λ (m : FlatMessageRow). list_any (wrongly_of_entry rows) m.fields) rows.messages T m (entry_parts rows s.entries).1 at) there;
+  default = well_placed (links_of rows) d (field_at (default_bad (links_of rows)) rows T i m d s.defaults at there);
+}
+
+pub extension_checked : {files : List FileDescriptorProto} (rows : FlatRows) (i : ℕ) (d : DefinitionRow FieldDescriptorProto) → Sound files rows → slice_get rows.extensions i ≡ Some d → ExtensionChecked rows d
+extension_checked rows i d s at =
+    let no_entry : is_of_entry rows d ≡ false = none_at (is_of_entry rows) rows.extensions i d (entry_parts rows s.entries).2 at in
+    record {
+      field = record {
+        number = extension_at number_bad rows i d s.checked.own.numbers at;
+        type_there = extension_at type_missing rows i d (three _ _ _ s.checked.own.types).0 at;
+        type_found = extension_at (type_unknown rows) rows i d (three _ _ _ s.checked.names_found).0 at;
+        member = extension_at repeated_member rows i d (or_parts _ _ s.checked.own.oneofs).0 at;
+        entry = wrong_needs_entry rows d no_entry;
+        default = well_placed (links_of rows) d (extension_at (default_bad (links_of rows)) rows i d s.defaults at);
+      };
+      extendee = none_at extendee_missing rows.extensions i d (three _ _ _ s.checked.own.types).1 at;
+      extendee_found = none_at (extendee_unknown rows) rows.extensions i d (three _ _ _ s.checked.names_found).1 at;
+      alone = none_at is_member rows.extensions i d (or_parts _ _ s.checked.own.oneofs).1 at;
+      no_entry = no_entry;
+      inside = none_at (extension_outside rows) rows.extensions i d s.checked.in_ranges at;
+    }
