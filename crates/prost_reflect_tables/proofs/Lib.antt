@@ -14,5 +14,4 @@ mod OptionBytes
 mod Sorting
 mod Grouping
 mod NamePlaces
-mod FirstPlaces
 mod WorkedLinking
