@@ -14,6 +14,5 @@ mod OptionBytes
 mod Sorting
 mod Grouping
 mod NamePlaces
-mod FirstPlaces
 mod WorkedLinking
 mod Linkwell

@@ -197,6 +197,11 @@ message_names rows = map (λ m. m.definition.full_name) rows.messages
 abbrev pub enum_names : FlatRows → List (List ℕ)
 enum_names rows = map (λ e. e.definition.full_name) rows.enums
 
+-- The place of the first of the name that a text means. Without a text nothing is named.
+abbrev pub place_named : List (List ℕ) → Option (String Global) → Option ℕ
+place_named names None = None
+place_named names (Some text) = place_of names (without_dot (string_bytes text))
+
 -- MissingDependency: each file that one depends on is there.
 
 abbrev pub dependency_missing : List (List ℕ) → FileDescriptorProto → Bool
@@ -230,8 +235,7 @@ is_in_range number r = int_le (number_or_zero r.start) number && int_lt number (
 
 -- The message that a text names.
 abbrev pub message_named : FlatRows → Option (String Global) → Option FlatMessageRow
-message_named rows None = None
-message_named rows (Some text) = option_and_then (λ place. slice_get rows.messages place) (place_of (message_names rows) (without_dot (string_bytes text)))
+message_named rows text = option_and_then (λ place. slice_get rows.messages place) (place_named (message_names rows) text)
 
 abbrev pub is_out_of : ℤ → Option FlatMessageRow → Bool
 is_out_of number None = false
@@ -261,14 +265,9 @@ abbrev pub numbered_at : ℤ → Option ℕ → List Numbered
 numbered_at number None = []
 numbered_at number (Some place) = record { message = place; number = number } ∷ []
 
--- The place of the message that a text names.
-abbrev pub place_named : FlatRows → Option (String Global) → Option ℕ
-place_named rows None = None
-place_named rows (Some text) = place_of (message_names rows) (without_dot (string_bytes text))
-
 abbrev pub numbered_extensions : FlatRows → List (DefinitionRow FieldDescriptorProto) → List Numbered
 numbered_extensions rows [] = []
-numbered_extensions rows (d ∷ ds) = numbered_at (number_or_zero d.proto.number) (place_named rows d.proto.extendee) ++ numbered_extensions rows ds
+numbered_extensions rows (d ∷ ds) = numbered_at (number_or_zero d.proto.number) (place_named (message_names rows) d.proto.extendee) ++ numbered_extensions rows ds
 
 abbrev pub all_numbered : FlatRows → List Numbered
 all_numbered rows = numbered_in 0 rows.messages ++ numbered_extensions rows rows.extensions

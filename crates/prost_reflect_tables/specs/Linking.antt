@@ -1,5 +1,5 @@
 -- The rows of the tables that files in flat lists give (the language guide and the proto2 guide on labels, presence, packing, oneofs, extensions and enums). What a fault would leave open has some meaning too, so that every file is linked.
-use Rattle.std.specs.Prelude.{ℕ, ◌+◌, ◌-◌, nat_eq, nat_lt, nat_le, ℤ, pos, negsuc, Bool, true, false, not, ◌&&◌, ◌||◌, if◌then◌else◌, List, [], ◌∷◌, ◌++◌, length, map, filter, position, slice_get, bytes_eq, Option, Some, None, is_some, unwrap_or, String, string_bytes}
+use Rattle.std.specs.Prelude.{ℕ, ◌+◌, ◌-◌, nat_eq, nat_lt, nat_le, ℤ, pos, negsuc, Bool, true, false, not, ◌&&◌, ◌||◌, if◌then◌else◌, List, [], ◌∷◌, ◌++◌, length, map, filter, slice_get, Option, Some, None, is_some, unwrap_or, String, string_bytes}
 use Rattle.std.specs.declared.alloc.Global.{Global}
 use Rattle.prost_reflect_wire.specs.Scalar.{Scalar}
 use Rattle.prost_reflect_wire.specs.declared.records.FieldDescriptorProto.{FieldDescriptorProto}
@@ -10,8 +10,9 @@ use Rattle.prost_reflect_tables.specs.declared.tables.Cardinality.TheVariants.{O
 use Rattle.prost_reflect_tables.specs.declared.tables.TableKind.{TableKind}
 use Rattle.prost_reflect_tables.specs.declared.tables.TableKind.TheVariants.{Double, Float, Int32, Int64, Uint32, Uint64, Sint32, Sint64, Fixed32, Fixed64, Sfixed32, Sfixed64, Bool as BoolKind, String as StringKind, Bytes, Message, Enum}
 use Rattle.prost_reflect_tables.specs.Rows.{FieldRow, OneofRow, MessageRow, EnumValueRow, EnumRow, TableRows}
-use Rattle.prost_reflect_tables.specs.Names.{text_or_empty, without_dot}
+use Rattle.prost_reflect_tables.specs.Names.{text_or_empty}
 use Rattle.prost_reflect_tables.specs.Flat.{DefinitionRow, FlatMessageRow, FlatEnumRow, FlatRows}
+use Rattle.prost_reflect_tables.specs.Faults.{message_names, enum_names, place_named}
 use Rattle.prost_reflect_tables.specs.Options.{bool_option}
 use Rattle.prost_reflect_tables.specs.WrittenDefaults.{field_default}
 
@@ -50,18 +51,10 @@ linked_value v = record { name = text_or_empty v.proto.name; number = value_numb
 
 abbrev pub links_of : FlatRows → Links
 links_of rows = record {
-  messages = map (λ m. m.definition.full_name) rows.messages;
-  enums = map (λ e. e.definition.full_name) rows.enums;
+  messages = message_names rows;
+  enums = enum_names rows;
   values = map (λ e. map linked_value e.values) rows.enums;
 }
-
--- The first place of a full name.
-abbrev pub place_of_name : List (List ℕ) → List ℕ → Option ℕ
-place_of_name names name = position (bytes_eq name) names
-
--- The first place of the full name that a text means.
-abbrev pub place_named : List (List ℕ) → Option (String Global) → Option ℕ
-place_named names text = place_of_name names (without_dot (text_or_empty text))
 
 -- A name that is not there stands for the first one.
 abbrev pub place_or_first : List (List ℕ) → Option (String Global) → ℕ

@@ -3,13 +3,16 @@
 ghost use Rattle.std.specs.Prelude.{◌≡◌, [], ◌++◌, List, IfOk, OnOk, map};
 ghost use Rattle.std.specs.BTreeMap.{get_by_text};
 ghost use Rattle.prost_reflect_tables.specs.Names.{without_dot};
-ghost use Rattle.prost_reflect_tables.specs.Faults.{names_of, names_in_messages, names_in_enums, names_in_services, full_names, repeats, duplicate_name, file_names, message_names, enum_names};
+ghost use Rattle.prost_reflect_tables.specs.Faults.{names_of, names_in_messages, names_in_enums, names_in_services, full_names, repeats, duplicate_name, message_names, enum_names, place_named};
 ghost use Rattle.prost_reflect_tables.specs.FlatViews.{definition_row, file_list, message_row, enum_row, service_row, flat_rows, text_list};
 ghost use Rattle.prost_reflect_tables.specs.Indexed.{IsIndexOf, IsIndex};
+ghost use Rattle.prost_reflect_tables.specs.Rows.{enum_value_row};
+ghost use Rattle.prost_reflect_tables.specs.Linking.{linked_value};
 
 use crate::flatten::{Definition, Flat, FlatEnum, FlatMessage, FlatService};
 use crate::names::{text_or_empty, without_dot};
-use prost_reflect_wire::records::FileDescriptorProto;
+use crate::tables::EnumValueTable;
+use prost_reflect_wire::records::EnumValueDescriptorProto;
 use std::alloc::{AllocError, Global};
 use std::collections::{BTreeMap, BTreeSet};
 
@@ -20,6 +23,8 @@ pub struct Index {
     pub messages: BTreeMap<String, usize>,
     /// The places of enums.
     pub enums: BTreeMap<String, usize>,
+    /// The values of each enum.
+    pub values: Vec<Vec<EnumValueTable>>,
 }
 
 // DUPLICATE NAMES
@@ -146,6 +151,34 @@ fn enum_names<'f, 'a>(alloc: Global, enums: &'f [FlatEnum<'a>]) -> Result<Vec<&'
     Ok(names)
 }
 
+/// The values of an enum with their names, in the order of their declaration.
+fn linked_values(
+    alloc: Global,
+    values: &[Definition<EnumValueDescriptorProto>],
+) -> Result<Vec<EnumValueTable>, AllocError>
+    ensures { IfOk result (λ v. map enum_value_row v.items ≡ map linked_value (map definition_row values.now)) }
+{
+    let mut tables = Vec::new(alloc);
+    for value in values {
+        tables.push(EnumValueTable {
+            name: String::from_str(alloc, text_or_empty(&value.proto.name))?,
+            number: value.proto.number.unwrap_or(0),
+        })?;
+    }
+    Ok(tables)
+}
+
+/// The values of each enum.
+fn values_by_enum(alloc: Global, enums: &[FlatEnum]) -> Result<Vec<Vec<EnumValueTable>>, AllocError>
+    ensures { IfOk result (λ v. map (λ vs. map enum_value_row vs.items) v.items ≡ map (λ e. map linked_value e.values) (map enum_row enums.now)) }
+{
+    let mut lists = Vec::new(alloc);
+    for item in enums {
+        lists.push(linked_values(alloc, item.values.as_slice())?)?;
+    }
+    Ok(lists)
+}
+
 /// The places of messages and enums by their full names.
 ///
 /// # Errors
@@ -159,5 +192,28 @@ pub fn indexed(alloc: Global, flat: &Flat) -> Result<Index, AllocError>
     Ok(Index {
         messages: index_of(alloc, messages.as_slice())?,
         enums: index_of(alloc, enums.as_slice())?,
+        values: values_by_enum(alloc, flat.enums.as_slice())?,
     })
+}
+
+/// The place of the message that a text names: of the first one of that full name.
+pub fn message_place(index: &Index, flat: &Flat, text: &Option<String>) -> Option<usize>
+    requires { IsIndex index.now (flat_rows flat.now) }
+    ensures { result ≡ place_named (message_names (flat_rows flat.now)) text.now }
+{
+    match text {
+        Some(text) => index.messages.get(without_dot(text.as_str())).copied(),
+        None => None,
+    }
+}
+
+/// The place of the enum that a text names: of the first one of that full name.
+pub fn enum_place(index: &Index, flat: &Flat, text: &Option<String>) -> Option<usize>
+    requires { IsIndex index.now (flat_rows flat.now) }
+    ensures { result ≡ place_named (enum_names (flat_rows flat.now)) text.now }
+{
+    match text {
+        Some(text) => index.enums.get(without_dot(text.as_str())).copied(),
+        None => None,
+    }
 }

@@ -24,6 +24,7 @@ pub use defaults::written_default;
 pub use error::PoolError;
 pub use examples::{defaults_read, defaults_refused, linking, shown_tables, tables_not_linked};
 pub use flatten::{Definition, Flat, FlatEnum, FlatMessage, FlatService, flattened};
+pub use index::Index;
 pub use laws::tables_equality;
 pub use link::linked;
 pub use tables::{

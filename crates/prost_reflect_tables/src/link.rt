@@ -1,19 +1,20 @@
 //! Linking: the tables that files in flat lists give.
 
 ghost use Rattle.std.specs.Prelude.{◌≡◌, ◌<◌, ◌++◌, length, IfOk, OnOk, map, option_map, string_bytes, true, false};
-ghost use Rattle.std.specs.BTreeMap.{get_by_text};
 ghost use Rattle.std.specs.List.Sorted.{IsNonDecreasingBy};
-ghost use Rattle.prost_reflect_tables.specs.Names.{text_or_empty, without_dot};
+ghost use Rattle.prost_reflect_tables.specs.Names.{text_or_empty};
 ghost use Rattle.prost_reflect_tables.specs.Rows.{field_row, oneof_row, enum_value_row, message_row, enum_row, written_scalar, rows_from};
 ghost use Rattle.prost_reflect_tables.specs.declared.tables.FieldTable.{FieldTable};
 ghost use Rattle.prost_reflect_tables.specs.FlatViews.{definition_row, flat_rows};
 ghost use Rattle.prost_reflect_tables.specs.FlatViews as flat_views;
-ghost use Rattle.prost_reflect_tables.specs.Linking.{natural_or_zero, place_in, kind_of_code, linked_kind, is_message, is_packable, cardinality_of_label, linked_packed, linked_presence, values_of_kind, linked_default, linked_field, in_order, fields_of_message, declared_fields, extended_place, oneof_place, member_place, oneofs_from, linked_message, messages_from, value_number, linked_value, linked_enum, linked_rows};
-ghost use Rattle.prost_reflect_tables.specs.Indexing.{IsIndexOf, IsIndex, links_in, empty_lists, with_item, grouped, list_rows, messages_with};
+ghost use Rattle.prost_reflect_tables.specs.Linking.{links_of, natural_or_zero, place_in, kind_of_code, linked_kind, is_message, is_packable, cardinality_of_label, linked_packed, linked_presence, values_of_kind, linked_default, linked_field, in_order, fields_of_message, declared_fields, extended_place, oneof_place, member_place, oneofs_from, linked_message, messages_from, value_number, linked_value, linked_enum, linked_rows};
+ghost use Rattle.prost_reflect_tables.specs.Indexed.{IsIndex};
+ghost use Rattle.prost_reflect_tables.specs.Indexing.{empty_lists, with_item, grouped, list_rows, messages_with};
 
 use crate::defaults::scalar_default;
 use crate::flatten::{Definition, Flat, FlatEnum, FlatMessage};
-use crate::names::{text_or_empty, without_dot};
+use crate::index::{Index, enum_place, message_place};
+use crate::names::text_or_empty;
 use crate::options::bool_option;
 use crate::tables::{
     Cardinality, EnumTable, EnumValueTable, FieldTable, MessageTable, OneofTable, TableKind,
@@ -23,20 +24,6 @@ use prost_reflect_wire::records::{
     EnumValueDescriptorProto, FieldDescriptorProto, OneofDescriptorProto,
 };
 use std::alloc::{AllocError, Global};
-use std::collections::BTreeMap;
-
-/// Where full names stand in flat lists, and the values of the enums.
-#[derive(Drop)]
-pub struct Index<'f, 'a> {
-    /// The flat lists.
-    pub flat: &'f Flat<'a>,
-    /// The first place of each message's full name.
-    pub messages: BTreeMap<String, usize>,
-    /// The first place of each enum's full name.
-    pub enums: BTreeMap<String, usize>,
-    /// The values of each enum.
-    pub values: Vec<Vec<EnumValueTable>>,
-}
 
 /// A number that is absent or negative counts as 0.
 fn natural_or_zero(number: Option<i32>) -> u32
@@ -56,13 +43,6 @@ fn place_in(index: Option<i32>) -> Option<usize>
         Some(index) => usize::try_from(index).ok(),
         None => None,
     }
-}
-
-/// The place of the full name that a text means.
-fn place_named(index: &BTreeMap<String, usize>, text: &Option<String>) -> Option<usize>
-    ensures { result ≡ get_by_text index.now (without_dot (text_or_empty text.now)) }
-{
-    index.get(without_dot(text_or_empty(text))).copied()
 }
 
 /// The kind of a type code, where a message or an enum has the place.
@@ -91,12 +71,12 @@ fn kind_of_code(message: usize, enumeration: usize, code: u32) -> TableKind
 }
 
 /// The kind of a field.
-fn linked_kind(index: &Index, field: &FieldDescriptorProto) -> TableKind
-    requires { IsIndex index.now }
-    ensures { result ≡ linked_kind (links_in index.now) field.now }
+fn linked_kind(index: &Index, flat: &Flat, field: &FieldDescriptorProto) -> TableKind
+    requires { IsIndex index.now (flat_rows flat.now) }
+    ensures { result ≡ linked_kind (links_of (flat_rows flat.now)) field.now }
 {
-    let message = place_named(&index.messages, &field.type_name).unwrap_or(0);
-    let enumeration = place_named(&index.enums, &field.type_name).unwrap_or(0);
+    let message = message_place(index, flat, &field.type_name).unwrap_or(0);
+    let enumeration = enum_place(index, flat, &field.type_name).unwrap_or(0);
     kind_of_code(message, enumeration, natural_or_zero(field.type_))
 }
 
@@ -158,9 +138,9 @@ fn linked_presence(
 }
 
 /// The values of the enum that a kind names.
-fn values_of_kind<'i>(index: &'i Index, kind: TableKind) -> &'i [EnumValueTable]
-    requires { IsIndex index.now }
-    ensures { map enum_value_row result.now ≡ values_of_kind (links_in index.now) kind }
+fn values_of_kind<'i>(index: &'i Index, flat: &Flat, kind: TableKind) -> &'i [EnumValueTable]
+    requires { IsIndex index.now (flat_rows flat.now) }
+    ensures { map enum_value_row result.now ≡ values_of_kind (links_of (flat_rows flat.now)) kind }
 {
     match kind {
         TableKind::Enum(place) => match index.values.get(place) {
@@ -175,14 +155,20 @@ fn values_of_kind<'i>(index: &'i Index, kind: TableKind) -> &'i [EnumValueTable]
 fn linked_default(
     alloc: Global,
     index: &Index,
+    flat: &Flat,
     kind: TableKind,
     text: &Option<String>,
 ) -> Result<Option<WrittenDefault>, AllocError>
-    requires { IsIndex index.now }
-    ensures { IfOk result (λ d. option_map written_scalar d ≡ linked_default (links_in index.now) kind text.now) }
+    requires { IsIndex index.now (flat_rows flat.now) }
+    ensures { IfOk result (λ d. option_map written_scalar d ≡ linked_default (links_of (flat_rows flat.now)) kind text.now) }
 {
     match text {
-        Some(text) => scalar_default(alloc, kind, values_of_kind(index, kind), text.as_str()),
+        Some(text) => scalar_default(
+            alloc,
+            kind,
+            values_of_kind(index, flat, kind),
+            text.as_str(),
+        ),
         None => Ok(None),
     }
 }
@@ -192,15 +178,16 @@ fn linked_default(
 fn linked_field(
     alloc: Global,
     index: &Index,
+    flat: &Flat,
     is_extension: bool,
     definition: &Definition<FieldDescriptorProto>,
 ) -> Result<FieldTable, AllocError>
-    requires { IsIndex index.now }
-    ensures { IfOk result (λ f. field_row f ≡ linked_field (links_in index.now) is_extension (definition_row definition.now)) }
+    requires { IsIndex index.now (flat_rows flat.now) }
+    ensures { IfOk result (λ f. field_row f ≡ linked_field (links_of (flat_rows flat.now)) is_extension (definition_row definition.now)) }
 {
     let field = definition.proto;
     let is_proto3 = definition.is_proto3;
-    let kind = linked_kind(index, field);
+    let kind = linked_kind(index, flat, field);
     let cardinality = cardinality_of_label(natural_or_zero(field.label));
     Ok(FieldTable {
         number: natural_or_zero(field.number),
@@ -211,7 +198,7 @@ fn linked_field(
         cardinality,
         is_packed: linked_packed(is_proto3, field, cardinality, kind),
         supports_presence: linked_presence(is_proto3, is_extension, field, cardinality, kind),
-        default: linked_default(alloc, index, kind, &field.default_value)?,
+        default: linked_default(alloc, index, flat, kind, &field.default_value)?,
         oneof: place_in(field.oneof_index),
     })
 }
@@ -220,14 +207,15 @@ fn linked_field(
 fn declared_fields(
     alloc: Global,
     index: &Index,
+    flat: &Flat,
     definitions: &[Definition<FieldDescriptorProto>],
 ) -> Result<Vec<FieldTable>, AllocError>
-    requires { IsIndex index.now }
-    ensures { IfOk result (λ v. map field_row v.items ≡ declared_fields (links_in index.now) (map definition_row definitions.now)) }
+    requires { IsIndex index.now (flat_rows flat.now) }
+    ensures { IfOk result (λ v. map field_row v.items ≡ declared_fields (links_of (flat_rows flat.now)) (map definition_row definitions.now)) }
 {
     let mut fields = Vec::new(alloc);
     for definition in definitions {
-        fields.push(linked_field(alloc, index, false, definition)?)?;
+        fields.push(linked_field(alloc, index, flat, false, definition)?)?;
     }
     Ok(fields)
 }
@@ -236,14 +224,15 @@ fn declared_fields(
 fn declared_by_message(
     alloc: Global,
     index: &Index,
+    flat: &Flat,
     messages: &[FlatMessage],
 ) -> Result<Vec<Vec<FieldTable>>, AllocError>
-    requires { IsIndex index.now }
-    ensures { IfOk result (λ v. list_rows v.items ≡ map (λ m. declared_fields (links_in index.now) m.fields) (map flat_views.message_row messages.now)) }
+    requires { IsIndex index.now (flat_rows flat.now) }
+    ensures { IfOk result (λ v. list_rows v.items ≡ map (λ m. declared_fields (links_of (flat_rows flat.now)) m.fields) (map flat_views.message_row messages.now)) }
 {
     let mut lists = Vec::new(alloc);
     for message in messages {
-        lists.push(declared_fields(alloc, index, message.fields.as_slice())?)?;
+        lists.push(declared_fields(alloc, index, flat, message.fields.as_slice())?)?;
     }
     Ok(lists)
 }
@@ -279,15 +268,16 @@ fn add_item<T: Drop>(
 fn add_extensions(
     alloc: Global,
     index: &Index,
+    flat: &Flat,
     lists: &mut Vec<Vec<FieldTable>>,
     extensions: &[Definition<FieldDescriptorProto>],
 ) -> Result<(), AllocError>
-    requires { IsIndex index.now }
-    ensures { OnOk result (list_rows lists.new.items ≡ grouped (extended_place (links_in index.now)) (linked_field (links_in index.now) true) (map definition_row extensions.now) 0 (list_rows lists.old.items)) }
+    requires { IsIndex index.now (flat_rows flat.now) }
+    ensures { OnOk result (list_rows lists.new.items ≡ grouped (extended_place (links_of (flat_rows flat.now))) (linked_field (links_of (flat_rows flat.now)) true) (map definition_row extensions.now) 0 (list_rows lists.old.items)) }
 {
     for extension in extensions {
-        let place = place_named(&index.messages, &extension.proto.extendee);
-        let field = linked_field(alloc, index, true, extension)?;
+        let place = message_place(index, flat, &extension.proto.extendee);
+        let field = linked_field(alloc, index, flat, true, extension)?;
         add_item(lists, place, field)?;
     }
     Ok(())
@@ -433,82 +423,24 @@ fn linked_enums(alloc: Global, enums: &[FlatEnum]) -> Result<Vec<EnumTable>, All
     Ok(tables)
 }
 
-/// The values of an enum with their names, in the order of their declaration.
-fn linked_values(
-    alloc: Global,
-    values: &[Definition<EnumValueDescriptorProto>],
-) -> Result<Vec<EnumValueTable>, AllocError>
-    ensures { IfOk result (λ v. map enum_value_row v.items ≡ map linked_value (map definition_row values.now)) }
-{
-    let mut tables = Vec::new(alloc);
-    for value in values {
-        tables.push(EnumValueTable {
-            name: String::from_str(alloc, text_or_empty(&value.proto.name))?,
-            number: value.proto.number.unwrap_or(0),
-        })?;
-    }
-    Ok(tables)
-}
-
-/// The values of each enum.
-fn values_by_enum(alloc: Global, enums: &[FlatEnum]) -> Result<Vec<Vec<EnumValueTable>>, AllocError>
-    ensures { IfOk result (λ v. map (λ vs. map enum_value_row vs.items) v.items ≡ map (λ e. map linked_value e.values) (map flat_views.enum_row enums.now)) }
-{
-    let mut lists = Vec::new(alloc);
-    for item in enums {
-        lists.push(linked_values(alloc, item.values.as_slice())?)?;
-    }
-    Ok(lists)
-}
-
-/// The first place of each message's full name.
-fn message_index(
-    alloc: Global,
-    messages: &[FlatMessage],
-) -> Result<BTreeMap<String, usize>, AllocError>
-    ensures { IfOk result (λ m. IsIndexOf m (map (λ d. d.definition.full_name) (map flat_views.message_row messages.now))) }
-{
-    let mut index = BTreeMap::new(alloc);
-    for (place, message) in messages.iter().enumerate() {
-        index
-            .entry(message.definition.full_name.clone()?)?
-            .or_insert(place);
-    }
-    Ok(index)
-}
-
-/// The first place of each enum's full name.
-fn enum_index(alloc: Global, enums: &[FlatEnum]) -> Result<BTreeMap<String, usize>, AllocError>
-    ensures { IfOk result (λ m. IsIndexOf m (map (λ d. d.definition.full_name) (map flat_views.enum_row enums.now))) }
-{
-    let mut index = BTreeMap::new(alloc);
-    for (place, item) in enums.iter().enumerate() {
-        index
-            .entry(item.definition.full_name.clone()?)?
-            .or_insert(place);
-    }
-    Ok(index)
-}
-
 /// The message types and enums that files in flat lists give.
 ///
-/// Messages and enums keep their places. The cost grows as n log n in the number of definitions, and each written default of an
-/// enum field goes through the values of its enum.
+/// The index is that of the files' names, which `check` gives. Messages and enums keep their places. The cost grows as n log n in the
+/// number of definitions, and each written default of an enum field goes through the values of its enum.
 ///
 /// # Errors
 ///
 /// `AllocError` if a growth was refused.
-pub fn linked(alloc: Global, flat: &Flat) -> Result<(Vec<MessageTable>, Vec<EnumTable>), AllocError>
+pub fn linked(
+    alloc: Global,
+    flat: &Flat,
+    index: &Index,
+) -> Result<(Vec<MessageTable>, Vec<EnumTable>), AllocError>
+    requires { IsIndex index.now (flat_rows flat.now) }
     ensures { IfOk result (λ x. rows_from x.0.items x.1.items ≡ linked_rows (flat_rows flat.now)) }
 {
-    let index = Index {
-        flat,
-        messages: message_index(alloc, flat.messages.as_slice())?,
-        enums: enum_index(alloc, flat.enums.as_slice())?,
-        values: values_by_enum(alloc, flat.enums.as_slice())?,
-    };
-    let mut lists = declared_by_message(alloc, &index, flat.messages.as_slice())?;
-    add_extensions(alloc, &index, &mut lists, flat.extensions.as_slice())?;
+    let mut lists = declared_by_message(alloc, index, flat, flat.messages.as_slice())?;
+    add_extensions(alloc, index, flat, &mut lists, flat.extensions.as_slice())?;
     let messages = linked_messages(alloc, lists, flat.messages.as_slice())?;
     Ok((messages, linked_enums(alloc, flat.enums.as_slice())?))
 }

@@ -1,13 +1,12 @@
 //! The check that the fields and extensions of a message have different numbers.
 
 ghost use Rattle.std.specs.Prelude.{◌≡◌, [], ◌++◌, length, IfOk, OnOk, map};
-ghost use Rattle.prost_reflect_tables.specs.Faults.{number_or_zero, numbered_fields, numbered_in, place_named, numbered_extensions, all_numbered, number_repeats, duplicate_number};
+ghost use Rattle.prost_reflect_tables.specs.Faults.{number_or_zero, numbered_fields, numbered_in, numbered_extensions, all_numbered, number_repeats, duplicate_number};
 ghost use Rattle.prost_reflect_tables.specs.FlatViews.{definition_row, message_row, flat_rows};
 ghost use Rattle.prost_reflect_tables.specs.Indexed.{IsIndex, numbered_list};
 
 use crate::flatten::{Definition, Flat, FlatMessage};
-use crate::index::Index;
-use crate::names::without_dot;
+use crate::index::{Index, message_place};
 use prost_reflect_wire::records::FieldDescriptorProto;
 use std::alloc::{AllocError, Global};
 use std::collections::BTreeSet;
@@ -47,17 +46,6 @@ fn add_messages(numbers: &mut Vec<(usize, i32)>, messages: &[FlatMessage]) -> Re
     Ok(())
 }
 
-/// The place of the message that a text names.
-fn place_named(index: &Index, flat: &Flat, text: &Option<String>) -> Option<usize>
-    requires { IsIndex index.now (flat_rows flat.now) }
-    ensures { result ≡ place_named (flat_rows flat.now) text.now }
-{
-    match text {
-        Some(text) => index.messages.get(without_dot(text.as_str())).copied(),
-        None => None,
-    }
-}
-
 fn add_extensions(
     numbers: &mut Vec<(usize, i32)>,
     index: &Index,
@@ -68,7 +56,7 @@ fn add_extensions(
     ensures { OnOk result (numbered_list numbers.new.items ≡ numbered_list numbers.old.items ++ numbered_extensions (flat_rows flat.now) (map definition_row extensions.now)) }
 {
     for extension in extensions {
-        if let Some(place) = place_named(index, flat, &extension.proto.extendee) {
+        if let Some(place) = message_place(index, flat, &extension.proto.extendee) {
             numbers.push((place, extension.proto.number.unwrap_or(0)))?;
         }
     }

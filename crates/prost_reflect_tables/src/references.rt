@@ -3,29 +3,28 @@
 ghost use Rattle.std.specs.Prelude.{◌≡◌, IfOk, map, is_none, string_bytes};
 ghost use Rattle.std.specs.List.{list_any};
 ghost use Rattle.std.specs.BTreeMap.{get_by_text};
-ghost use Rattle.prost_reflect_tables.specs.Names.{without_dot};
 ghost use Rattle.prost_reflect_tables.specs.Faults.{is_code, is_message_type, place_of, file_names, message_names, enum_names, dependency_missing, missing_dependency, names_nothing, type_unknown, extendee_unknown, method_type_unknown, unknown_type, is_in_range, extension_outside, outside_range};
 ghost use Rattle.prost_reflect_tables.specs.FlatViews.{definition_row, file_list, message_row, service_row, flat_rows, text_list};
 ghost use Rattle.prost_reflect_tables.specs.Indexed.{IsIndexOf, IsIndex};
 
 use crate::checks::{is_code, is_message_type};
 use crate::flatten::{Definition, Flat, FlatMessage, FlatService};
-use crate::index::{Index, index_of};
-use crate::names::{text_or_empty, without_dot};
+use crate::index::{Index, enum_place, index_of, message_place};
+use crate::names::text_or_empty;
 use prost_reflect_wire::records::{
     ExtensionRange, FieldDescriptorProto, FileDescriptorProto, MethodDescriptorProto,
 };
 use std::alloc::{AllocError, Global};
 use std::collections::BTreeMap;
 
+// FILES
+
 /// The place of the first of a name.
-fn place_named(index: &BTreeMap<String, usize>, name: &str) -> Option<usize>
+fn place_of(index: &BTreeMap<String, usize>, name: &str) -> Option<usize>
     ensures { result ≡ get_by_text index.now name.now }
 {
     index.get(name).copied()
 }
-
-// FILES
 
 fn file_names<'f>(
     alloc: Global,
@@ -49,7 +48,7 @@ fn has_dependency_missing(
     ensures { result ≡ list_any (λ d. is_none (place_of (file_names (file_list files.now)) (string_bytes d))) dependencies.now }
 {
     for dependency in dependencies {
-        if place_named(index, dependency.as_str()).is_none() {
+        if place_of(index, dependency.as_str()).is_none() {
             return true;
         }
     }
@@ -97,20 +96,14 @@ fn names_no_message(index: &Index, flat: &Flat, text: &Option<String>) -> bool
     requires { IsIndex index.now (flat_rows flat.now) }
     ensures { result ≡ names_nothing (message_names (flat_rows flat.now)) text.now }
 {
-    match text {
-        Some(text) => place_named(&index.messages, without_dot(text.as_str())).is_none(),
-        None => false,
-    }
+    text.is_some() && message_place(index, flat, text).is_none()
 }
 
 fn names_no_enum(index: &Index, flat: &Flat, text: &Option<String>) -> bool
     requires { IsIndex index.now (flat_rows flat.now) }
     ensures { result ≡ names_nothing (enum_names (flat_rows flat.now)) text.now }
 {
-    match text {
-        Some(text) => place_named(&index.enums, without_dot(text.as_str())).is_none(),
-        None => false,
-    }
+    text.is_some() && enum_place(index, flat, text).is_none()
 }
 
 fn is_type_unknown(index: &Index, flat: &Flat, field: &Definition<FieldDescriptorProto>) -> bool
@@ -244,10 +237,7 @@ fn is_extension_outside(
     requires { IsIndex index.now (flat_rows flat.now) }
     ensures { result ≡ extension_outside (flat_rows flat.now) (definition_row extension.now) }
 {
-    let Some(extendee) = &extension.proto.extendee else {
-        return false;
-    };
-    let Some(place) = place_named(&index.messages, without_dot(extendee.as_str())) else {
+    let Some(place) = message_place(index, flat, &extension.proto.extendee) else {
         return false;
     };
     let Some(message) = flat.messages.get(place) else {

@@ -1,5 +1,6 @@
 //! Calls with ample memory, whose contracts leave want of memory open.
 
+use crate::index::indexed;
 use crate::{
     EnumValueTable, Flat, PoolError, TableKind, WrittenDefault, check, flattened, linked,
     written_default,
@@ -433,7 +434,8 @@ fn my_message_file(alloc: Global) -> Result<FileDescriptorProto, AllocError> {
 }
 
 fn shown(flat: &Flat, rt: &HostRuntime) -> Result<String, Fail> {
-    let (messages, enums) = linked(rt.alloc(), flat)?;
+    let index = indexed(rt.alloc(), flat)?;
+    let (messages, enums) = linked(rt.alloc(), flat, &index)?;
     let mut seen = String::new(rt.alloc());
     for message in &messages {
         write!(seen, "{} {}: ", message.full_name, message.is_map_entry)?;

@@ -12,8 +12,8 @@ use Rattle.prost_reflect_tables.proofs.link.linked.Goals as goal
 
 pub linked_messages-requires : goal.linked_messages-requires
 linked_messages-requires c =
-    lists_length (links_of (flat_rows c.args.flat.now)) _ c.as_slice-4.result.now c.in_ok-lists.lists.items c.add_extensions.new.lists.items c.in_ok-lists.ensures c.in_ok-add_extensions.ensures
-    ∙ ap (λ (ms : List FlatMessage). length ms) (c.as_slice-4.ensures.value ∙ sym c.as_slice-6.ensures.value)
+    lists_length (links_of (flat_rows c.args.flat.now)) (map definition_row c.as_slice-2.result.now) c.as_slice.result.now c.in_ok-lists.lists.items c.add_extensions.new.lists.items c.in_ok-lists.ensures c.in_ok-add_extensions.ensures
+    ∙ ap (λ (ms : List FlatMessage). length ms) (c.as_slice.ensures.value ∙ sym c.as_slice-3.ensures.value)
 
 pub returns : goal.returns
 returns c =
@@ -22,10 +22,10 @@ returns c =
     let old = c.in_ok-lists.lists.items in
     let new = c.add_extensions.new.lists.items in
     let declared : list_rows old ≡ map (λ (m : FlatMessageRow). declared_fields links m.fields) rows.messages =
-    c.in_ok-lists.ensures ∙ ap (λ (ms : List FlatMessage). map (λ (m : FlatMessageRow). declared_fields links m.fields) (map message_row ms)) c.as_slice-4.ensures.value in
+    c.in_ok-lists.ensures ∙ ap (λ (ms : List FlatMessage). map (λ (m : FlatMessageRow). declared_fields links m.fields) (map message_row ms)) c.as_slice.ensures.value in
     let extended : list_rows new ≡ grouped (extended_place links) (linked_field links true) rows.extensions 0 (list_rows old) =
-    c.in_ok-add_extensions.ensures ∙ ap (λ (es : List (Definition FieldDescriptorProto)). grouped (extended_place links) (linked_field links true) (map definition_row es) 0 (list_rows old)) c.as_slice-5.ensures.value in
-    let messages = c.in_ok-messages.ensures ∙ ap (λ (ms : List FlatMessage). messages_with (list_rows new) (map message_row ms)) c.as_slice-6.ensures.value in
+    c.in_ok-add_extensions.ensures ∙ ap (λ (es : List (Definition FieldDescriptorProto)). grouped (extended_place links) (linked_field links true) (map definition_row es) 0 (list_rows old)) c.as_slice-2.ensures.value in
+    let messages = c.in_ok-messages.ensures ∙ ap (λ (ms : List FlatMessage). messages_with (list_rows new) (map message_row ms)) c.as_slice-3.ensures.value in
     rows_linked c.in_ok-messages.messages.items c.in_ok-linked_enums.field-0.items rows
     (messages_linked links rows.extensions rows.messages old new c.in_ok-messages.messages.items declared extended messages)
-    (c.in_ok-linked_enums.ensures ∙ ap (λ (es : List FlatEnum). map linked_enum (map enum_row es)) c.as_slice-7.ensures.value)
+    (c.in_ok-linked_enums.ensures ∙ ap (λ (es : List FlatEnum). map linked_enum (map enum_row es)) c.as_slice-4.ensures.value)
