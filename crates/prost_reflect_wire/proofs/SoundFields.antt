@@ -19,7 +19,7 @@ use Rattle.prost_reflect_wire.specs.declared.records.table.FieldKind.TheVariants
 use Rattle.prost_reflect_wire.specs.declared.records.table.RecordType.{RecordType}
 use Rattle.prost_reflect_wire.proofs.Deeper.{both_true}
 
-text_valid : (t : String Global) → is_utf8 (string_bytes t) ≡ true
+pub text_valid : (t : String Global) → is_utf8 (string_bytes t) ≡ true
 text_valid t = is_utf8-from_IsUtf8 (string_bytes t) (IsUtf8-string_bytes t)
 
 -- ONE VALUE

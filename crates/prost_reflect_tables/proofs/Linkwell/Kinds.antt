@@ -1,17 +1,16 @@
 -- What the type codes say of kinds, and what stands at the places that they name.
 use Rattle.std.proofs.Common.{⊎_elim, ◌≡◌, ℕ, zero, suc, ℤ, pos, negsuc, ◌+◌, ◌-◌, ◌<◌, ◌≤◌, Bool, true, false, cond, not, ◌&&◌, ◌||◌, List, [], ◌∷◌, map, length, Option, Some, None, refl, sym, ap, ◌∙◌, subst, arith, slice_get, string_bytes, is_none, String, Global, bytes_eq, unwrap_or, inl, inr, ◌⊎◌}
-use Rattle.std.specs.Prelude.{nat_lt, nat_le, position}
+use Rattle.std.specs.Prelude.{nat_lt, nat_le}
 use Rattle.std.specs.List.{position_from}
 use Rattle.std.proofs.lemmas.Bool.{cases_lt, and_parts, or_parts, ltb-true, leb-true}
-use Rattle.std.proofs.lemmas.Iterator.Adapters.{position_from-zero}
 use Rattle.std.proofs.lemmas.List.{length-map}
 use Rattle.prost_reflect_wire.specs.declared.records.FieldDescriptorProto.{FieldDescriptorProto}
 use Rattle.prost_reflect_tables.specs.declared.tables.TableKind.{TableKind}
 use Rattle.prost_reflect_tables.specs.declared.tables.TableKind.TheVariants.{Message, Enum}
-use Rattle.prost_reflect_tables.specs.Names.{text_or_empty, without_dot}
+use Rattle.prost_reflect_tables.specs.Names.{without_dot}
 use Rattle.prost_reflect_tables.specs.Flat.{DefinitionRow, FlatMessageRow, FlatEnumRow, FlatRows}
 use Rattle.prost_reflect_tables.specs.Faults.{place_of, message_names, enum_names, names_nothing, number_or_zero, is_type, is_message_type, is_enum_type, type_missing, type_unknown, message_named}
-use Rattle.prost_reflect_tables.specs.Linking.{place_of_name, place_named, place_or_first, kind_of_code, linked_kind, links_of, natural_or_zero}
+use Rattle.prost_reflect_tables.specs.Linking.{place_or_first, kind_of_code, linked_kind, links_of, natural_or_zero}
 use Rattle.prost_reflect_tables.proofs.Linkwell.Premises.{FieldChecked}
 
 -- Neither a message nor an enum.
@@ -71,9 +70,6 @@ type_code d h = go d.proto.type_ refl (or_parts (not (is_type (number_or_zero d.
 
 -- NAMES
 
-pub places_agree : (names : List (List ℕ)) (name : List ℕ) → place_of names name ≡ place_of_name names name
-places_agree names name = sym (position_from-zero (bytes_eq name) names)
-
 -- A name that is there, at its place.
 pub record FoundIn {X : Type 0} (name_of : X → List ℕ) (xs : List X) (o : Option (String Global)) : Type 0 where
   pub text : String Global
@@ -124,8 +120,7 @@ needed false false c h some = ⊎_elim (λ e. absurd cc) (λ e. absurd cc) some
 
 first_place : {X : Type 0} (name_of : X → List ℕ) (xs : List X) (o : Option (String Global)) (f : FoundIn name_of xs o) → place_or_first (map name_of xs) o ≡ f.place
 first_place name_of xs o f =
-    ap (place_or_first (map name_of xs)) f.is
-    ∙ ap (λ (p : Option ℕ). unwrap_or p 0) (sym (places_agree (map name_of xs) (without_dot (string_bytes f.text))) ∙ f.found)
+    ap (place_or_first (map name_of xs)) f.is ∙ ap (λ (p : Option ℕ). unwrap_or p 0) f.found
 
 pub named_there : (rows : FlatRows) (o : Option (String Global)) (f : FoundIn message_name rows.messages o) → message_named rows o ≡ Some f.item
 named_there rows o f = ap (message_named rows) f.is ∙ (rw f.found f.at)

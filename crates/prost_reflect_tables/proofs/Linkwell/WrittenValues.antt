@@ -2,13 +2,18 @@
 use Rattle.std.proofs.Common.{⊎_elim, ◌≡◌, ℕ, zero, suc, ℤ, pos, negsuc, neg_ℤ, ◌+◌, ◌-◌, ◌*◌, ◌/◌, ◌^◌, ◌<◌, ◌≤◌, Bool, true, false, cond, not, ◌&&◌, ◌||◌, List, [], ◌∷◌, map, length, Option, Some, None, option_map, option_and_then, refl, sym, ap, ◌∙◌, subst, arith, find, bytes_eq, codes, nat_eq, nat_le, nat_lt}
 use Rattle.std.specs.List.{list_any, list_all}
 use Rattle.std.specs.Ordering.{int_eq}
-use Rattle.std.proofs.lemmas.Bool.{and_from, and_parts, leb-true, leb-false, lt-ltb, cases_lt, ne_eqb}
+use Rattle.std.proofs.lemmas.Bool.{and_from, and_parts, or_left, or_right, leb-true, leb-false, lt-ltb, ltb-true}
 use Rattle.std.proofs.lemmas.Bool.Decides.{Decides-int_eq}
 use Rattle.std.proofs.lemmas.Nat.{pow_pos, div_below}
 use Rattle.std.proofs.Math.Nat.{pow-succ', mul-lt-mul_of_pos_right, mul-le-mul_right, mul_comm}
-use Rattle.prost_reflect_wire.specs.Scalar.{Scalar, in_i32, in_i64, scalar_valid}
-use Rattle.prost_reflect_tables.specs.WrittenDefaults.{up_to, whole_number, signed, is_negative, behind, greatest_exponent, bits_at, whole_bits, magnitude_bits, float_bits, FloatFormat, binary32, binary64}
-use Rattle.prost_reflect_tables.specs.Linking.{value_number}
+use Rattle.prost_reflect_wire.specs.Scalar.{in_i32, in_i64}
+use Rattle.prost_reflect_tables.specs.WrittenDefaults.{up_to, whole_number, signed, is_negative, behind, greatest_exponent, bits_at, whole_bits, magnitude_bits, float_bits, FloatFormat, binary32, binary64, Front, front, is_octal, octal_digit, octal, letter, escaped, front_byte, unescaped_in, unescaped, number_named}
+use Rattle.prost_reflect_wire.specs.Varint.{are_bytes}
+use Rattle.prost_reflect_wire.specs.declared.records.EnumValueDescriptorProto.{EnumValueDescriptorProto}
+use Rattle.prost_reflect_tables.specs.Names.{text_or_empty}
+use Rattle.prost_reflect_tables.specs.Rows.{EnumValueRow}
+use Rattle.prost_reflect_tables.specs.Flat.{DefinitionRow}
+use Rattle.prost_reflect_tables.specs.Linking.{value_number, linked_value}
 
 -- WHOLE NUMBERS
 
@@ -145,3 +150,97 @@ float_32 text n e = let less : n < 2 * 2 ^ 31 = float_below binary32 text n (rec
 
 pub float_64 : (text : List ℕ) (n : ℕ) → float_bits binary64 text ≡ Some n → nat_lt n (2 ^ 64) ≡ true
 float_64 text n e = let less : n < 2 * 2 ^ 63 = float_below binary64 text n (record { infinity = omega arith; whole = omega arith; nan = omega arith }) e in lt-ltb n (2 ^ 64) (omega arith)
+
+-- BYTES
+
+digit_rest : (digits : Front) (text : List ℕ) → are_bytes digits.rest ≡ true → are_bytes text ≡ true → are_bytes (octal_digit digits text).rest ≡ true
+unfolding octal_digit
+digit_rest digits [] h k = h
+digit_rest digits (b ∷ text) h k = go (is_octal b) (and_parts (nat_lt b 256) (are_bytes text) k).1
+  where
+    go : (c : Bool) → are_bytes text ≡ true → are_bytes (cond c (front (8 * digits.value + (b - 48)) text) digits).rest ≡ true
+    go true more = more
+    go false more = h
+
+octal_rest : (text : List ℕ) → are_bytes text ≡ true → are_bytes (octal text).rest ≡ true
+octal_rest text h =
+    let first = octal_digit (front 0 text) text in
+    let second = octal_digit first first.rest in
+    let one : are_bytes first.rest ≡ true = digit_rest (front 0 text) text h h in
+    let two : are_bytes second.rest ≡ true = digit_rest first first.rest one one in
+    digit_rest second second.rest two two
+
+-- A byte, and bytes behind it.
+abbrev pub FrontSound : Front → Type 0
+FrontSound f = (f.value < 256) × (are_bytes f.rest ≡ true)
+
+lettered_sound : (b : ℕ) (text : List ℕ) (f : Front) → b < 256 → are_bytes text ≡ true → option_map (λ byte. front byte text) (letter b) ≡ Some f → FrontSound f
+lettered_sound b text f small more e = go (nat_eq b 110) (nat_eq b 114) (nat_eq b 116) (nat_eq b 34 || nat_eq b 39 || nat_eq b 92) e
+  where
+    made : (n : ℕ) → n < 256 → Some (front n text) ≡ Some f → FrontSound f
+    made n less e = let same : front n text ≡ f = cc in subst FrontSound same (less, more)
+
+    go : (i j k l : Bool) → option_map (λ byte. front byte text) (cond i (Some 10) (cond j (Some 13) (cond k (Some 9) (cond l (Some b) None)))) ≡ Some f → FrontSound f
+    go true j k l e = made 10 (omega arith) e
+    go false true k l e = made 13 (omega arith) e
+    go false false true l e = made 9 (omega arith) e
+    go false false false true e = made b small e
+    go false false false false e = cc
+
+escaped_sound : (text : List ℕ) (f : Front) → are_bytes text ≡ true → escaped text ≡ Some f → FrontSound f
+escaped_sound [] f h e = cc
+escaped_sound (b ∷ text) f h e = go (is_octal b) e
+  where
+    small : b < 256
+    small = ltb-true b 256 (and_parts (nat_lt b 256) (are_bytes text) h).0
+
+    digits : (c : Bool) → nat_le (octal (b ∷ text)).value 255 ≡ c → cond c (Some (octal (b ∷ text))) None ≡ Some f → FrontSound f
+    digits true is e =
+        let same : octal (b ∷ text) ≡ f = cc in
+        let less : (octal (b ∷ text)).value < 256 = omega (arith, leb-true (octal (b ∷ text)).value 255 is) in
+        subst FrontSound same (less, octal_rest (b ∷ text) h)
+    digits false is e = cc
+
+    go : (c : Bool) → cond c (cond (nat_le (octal (b ∷ text)).value 255) (Some (octal (b ∷ text))) None) (option_map (λ byte. front byte text) (letter b)) ≡ Some f → FrontSound f
+    go true e = digits (nat_le (octal (b ∷ text)).value 255) refl e
+    go false e = lettered_sound b text f small (and_parts (nat_lt b 256) (are_bytes text) h).1 e
+
+front_sound : (b : ℕ) (text : List ℕ) (f : Front) → are_bytes (b ∷ text) ≡ true → front_byte b text ≡ Some f → FrontSound f
+front_sound b text f h e = go (nat_eq b 92) e (and_parts (nat_lt b 256) (are_bytes text) h)
+  where
+    go : (c : Bool) → cond c (escaped text) (Some (front b text)) ≡ Some f → (nat_lt b 256 ≡ true) × (are_bytes text ≡ true) → FrontSound f
+    go true e parts = escaped_sound text f parts.1 e
+    go false e parts = let same : front b text ≡ f = cc in subst FrontSound same (ltb-true b 256 parts.0, parts.1)
+
+unescaped_bytes : (steps : ℕ) (text bytes : List ℕ) → are_bytes text ≡ true → unescaped_in steps text ≡ Some bytes → are_bytes bytes ≡ true
+unfolding unescaped_in
+unescaped_bytes steps [] bytes h e = let same : [] ≡ bytes = cc in ap are_bytes (sym same)
+unescaped_bytes zero (b ∷ text) bytes h e = cc
+unescaped_bytes (suc steps) (b ∷ text) bytes h e = go (front_byte b text) refl e (λ (rest : List ℕ) (more : List ℕ). unescaped_bytes steps rest more)
+  where
+    behind_it : (f : Front) (o : Option (List ℕ)) → FrontSound f → option_map (λ bytes. f.value ∷ bytes) o ≡ Some bytes → ((more : List ℕ) → o ≡ Some more → are_bytes more ≡ true) → are_bytes bytes ≡ true
+    behind_it f None s e k = cc
+    behind_it f (Some more) s e k = let same : f.value ∷ more ≡ bytes = cc in subst (λ (l : List ℕ). are_bytes l ≡ true) same (and_from (nat_lt f.value 256) (are_bytes more) (lt-ltb f.value 256 s.0) (k more refl))
+
+    go : (o : Option Front) → front_byte b text ≡ o → option_and_then (λ (first : Front). option_map (λ bytes. first.value ∷ bytes) (unescaped_in steps first.rest)) o ≡ Some bytes →
+        ((rest more : List ℕ) → are_bytes rest ≡ true → unescaped_in steps rest ≡ Some more → are_bytes more ≡ true) → are_bytes bytes ≡ true
+    go None is e again = cc
+    go (Some f) is e again = let s = front_sound b text f h is in behind_it f (unescaped_in steps f.rest) s e (λ more. again f.rest more s.1)
+
+pub unescaped_are_bytes : (text bytes : List ℕ) → are_bytes text ≡ true → unescaped text ≡ Some bytes → are_bytes bytes ≡ true
+unescaped_are_bytes text bytes h e = unescaped_bytes (length text) text bytes h e
+
+-- ENUM VALUES
+
+-- A number of a value that has a name is among the numbers.
+pub named_number : (name : List ℕ) (vs : List (DefinitionRow EnumValueDescriptorProto)) (z : ℤ) → list_all (λ v. in_i32 (value_number v)) vs ≡ true → number_named (map linked_value vs) name ≡ Some z → (in_i32 z ≡ true) × (list_any (int_eq z) (map value_number vs) ≡ true)
+named_number name [] z h e = cc
+named_number name (v ∷ vs) z h e = go (bytes_eq (text_or_empty v.proto.name) name) e (and_parts (in_i32 (value_number v)) (list_all (λ v. in_i32 (value_number v)) vs) h) (λ more rest. named_number name vs z more rest)
+  where
+    go : (b : Bool) → option_map (λ (w : EnumValueRow). w.number) (cond b (Some (linked_value v)) (find (λ (w : EnumValueRow). bytes_eq w.name name) (map linked_value vs))) ≡ Some z → (in_i32 (value_number v) ≡ true) × (list_all (λ v. in_i32 (value_number v)) vs ≡ true) →
+        (list_all (λ v. in_i32 (value_number v)) vs ≡ true → number_named (map linked_value vs) name ≡ Some z → (in_i32 z ≡ true) × (list_any (int_eq z) (map value_number vs) ≡ true)) →
+        (in_i32 z ≡ true) × (list_any (int_eq z) (map value_number (v ∷ vs)) ≡ true)
+    go true e parts more =
+        let same : value_number v ≡ z = cc in
+        (subst (λ (y : ℤ). in_i32 y ≡ true) same parts.0, or_left (int_eq z (value_number v)) (list_any (int_eq z) (map value_number vs)) (grind (arith, Decides-int_eq z (value_number v))))
+    go false e parts more = let rest = more parts.1 e in (rest.0, or_right (int_eq z (value_number v)) (list_any (int_eq z) (map value_number vs)) rest.1)
