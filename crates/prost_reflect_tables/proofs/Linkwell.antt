@@ -5,3 +5,4 @@ pub mod Premises
 mod Kinds
 mod Shapes
 mod WrittenValues
+mod Defaults

@@ -2,7 +2,7 @@
 use Rattle.std.proofs.Common.{⊎_elim, ◌≡◌, ℕ, zero, suc, ℤ, pos, negsuc, ◌+◌, ◌-◌, ◌<◌, ◌≤◌, Bool, true, false, cond, not, ◌&&◌, ◌||◌, List, [], ◌∷◌, map, length, Option, Some, None, refl, sym, ap, ◌∙◌, subst, arith, slice_get, string_bytes, is_none, String, Global, bytes_eq, unwrap_or, inl, inr, ◌⊎◌}
 use Rattle.std.specs.Prelude.{nat_lt, nat_le}
 use Rattle.std.specs.List.{position_from}
-use Rattle.std.proofs.lemmas.Bool.{cases_lt, and_parts, or_parts, ltb-true, leb-true}
+use Rattle.std.proofs.lemmas.Bool.{cases_lt, and_parts, or_parts, not-false, ltb-true, leb-true}
 use Rattle.std.proofs.lemmas.List.{length-map}
 use Rattle.prost_reflect_wire.specs.declared.records.FieldDescriptorProto.{FieldDescriptorProto}
 use Rattle.prost_reflect_tables.specs.declared.tables.TableKind.{TableKind}
@@ -53,6 +53,7 @@ kind_case message enum code le = below_at (KindOf message enum) 19 code (each_co
 pub record TypeCode (d : DefinitionRow FieldDescriptorProto) : Type 0 where
   pub code : ℕ
   pub is : d.proto.type_ ≡ Some (pos code)
+  pub some : 0 < code
   pub top : code ≤ 18
 
 pub type_code : (d : DefinitionRow FieldDescriptorProto) → type_missing d ≡ false → TypeCode d
@@ -61,12 +62,9 @@ type_code d h = go d.proto.type_ refl (or_parts (not (is_type (number_or_zero d.
     go : (o : Option ℤ) → d.proto.type_ ≡ o → not (is_type (number_or_zero o)) ≡ false → TypeCode d
     go None e bad = absurd cc
     go (Some (negsuc n)) e bad = absurd cc
-    go (Some (pos n)) e bad = record { code = n; is = e; top = within (nat_lt 0 n) (nat_le n 18) refl bad }
-      where
-        within : (a b : Bool) → nat_le n 18 ≡ b → not (a && b) ≡ false → n ≤ 18
-        within a true is bad = leb-true n 18 is
-        within true false is bad = absurd cc
-        within false false is bad = absurd cc
+    go (Some (pos n)) e bad =
+        let within = and_parts (nat_lt 0 n) (nat_le n 18) (not-false (nat_lt 0 n && nat_le n 18) bad) in
+        record { code = n; is = e; some = ltb-true 0 n within.0; top = leb-true n 18 within.1 }
 
 -- NAMES
 
