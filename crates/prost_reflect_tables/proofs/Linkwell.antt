@@ -6,3 +6,4 @@ mod Kinds
 mod Shapes
 mod WrittenValues
 mod Defaults
+mod Fields

@@ -94,7 +94,8 @@ packable_shown es (kinds.Enum E) g h = enum_packable (slice_get es E)
 packable_shown es k g h = refl
 
 pub no_group : (es : List EnumRow) (k : TableKind) → is_group (schema_kind es k false) ≡ false
-no_group es k = elim k [ kinds.Message T ↦ refl | _ ↦ refl ]
+no_group es (kinds.Message T) = refl
+no_group es k = refl
 
 -- DEFAULTS OF KINDS
 
