@@ -4,6 +4,7 @@
 mod all_checks;
 mod checks;
 mod defaults;
+mod entries;
 mod error;
 mod examples;
 mod flatten;

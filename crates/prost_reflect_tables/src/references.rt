@@ -19,7 +19,7 @@ use std::alloc::{AllocError, Global};
 use std::collections::BTreeMap;
 
 /// The place of the first of a name.
-fn place_named(index: &BTreeMap<String, usize>, name: &str) -> Option<usize>
+pub fn place_named(index: &BTreeMap<String, usize>, name: &str) -> Option<usize>
     ensures { result ≡ get_by_text index.now name.now }
 {
     index.get(name).copied()
