@@ -16,3 +16,4 @@ mod Grouping
 mod NamePlaces
 mod WorkedLinking
 mod Linkwell
+mod WorkedChecks

@@ -1,6 +1,7 @@
 -- The bool options in bytes, record by record.
 use Rattle.std.proofs.Common.{◌≡◌, ◌≢◌, ℕ, ◌<◌, ◌≤◌, max, Bool, true, false, cond, not, List, [], ◌∷◌, length, Option, Some, None, refl, sym, ap, subst, ◌∙◌, arith, append-nil}
-use Rattle.std.specs.Prelude.{nat_eq, nat_le, option_map}
+use Rattle.std.specs.Prelude.{nat_eq, nat_le, ◌&&◌, option_map}
+use Rattle.std.specs.List.{list_all}
 use Rattle.std.proofs.lemmas.Bool.{leb-true, eq-eqb, ne_eqb}
 use Rattle.prost_reflect_wire.specs.declared.error.DecodeError.{DecodeError}
 use Rattle.prost_reflect_wire.specs.declared.key.WireType.{WireType}
@@ -17,7 +18,8 @@ use Rattle.prost_reflect_wire.proofs.BodyFronts.{key_not_empty}
 use Rattle.prost_reflect_wire.proofs.VarintFronts.{varint_once, varint_no_fault}
 use Rattle.prost_reflect_wire.proofs.RecordFronts.{record_parts, first_front, first_parts, record_once, record_front, levels_first}
 use Rattle.prost_reflect_wire.proofs.FieldFaults.{field_no_fault}
-use Rattle.prost_reflect_tables.specs.Options.{bool_of, last_bool, bool_among, bool_in}
+use Rattle.prost_reflect_tables.specs.Options.{bool_of, bool_among, bool_in}
+use Rattle.prost_reflect_tables.specs.OptionFaults.{suits_option, records_suit_option, bytes_suit_option}
 
 -- A VALUE
 
@@ -90,25 +92,29 @@ bool_step number n p found bytes rest small f low = ap (bool_among number found)
     go None = refl
     go (Some rs) = rw (items_before n p rs, levels_first (record_at n p) rs, within_more (payload_levels p) (raw_levels rs) LEVEL_LIMIT low) refl
 
--- Where a fault stands at the front, nothing is read.
-fault_first : (number n : ℕ) (p : Payload) (found : Option Bool) (e : DecodeError) (qs : Records) (bytes : List ℕ) → Spells (before (record_at n p) qs) bytes → StandsInField LEVEL_LIMIT e bytes →
-    bool_among number found (Some (before (record_at n p) qs)) ≡ None
-fault_first number n p found e qs bytes s stands =
+-- Where a fault stands at the front, no records within the limit are there.
+
+first_beyond : (n : ℕ) (p : Payload) (e : DecodeError) (qs : Records) (bytes : List ℕ) → Spells (before (record_at n p) qs) bytes → StandsInField LEVEL_LIMIT e bytes →
+    nat_le (raw_levels (before (record_at n p) qs)) LEVEL_LIMIT ≡ false
+first_beyond n p e qs bytes s stands =
     let parts = first_parts (record_at n p) qs bytes [] (whole_front (before (record_at n p) qs) bytes s) in
     choice (nat_le (raw_levels (before (record_at n p) qs)) LEVEL_LIMIT) refl parts.mid parts.first
   where
-    choice : (b : Bool) → nat_le (raw_levels (before (record_at n p) qs)) LEVEL_LIMIT ≡ b → (mid : List ℕ) → RecordFront (record_at n p) bytes mid → cond b (last_bool number found (items (before (record_at n p) qs))) None ≡ None
+    choice : (b : Bool) → nat_le (raw_levels (before (record_at n p) qs)) LEVEL_LIMIT ≡ b → (mid : List ℕ) → RecordFront (record_at n p) bytes mid → b ≡ false
     choice true is mid first = let low = leb-true _ _ is in absurd (field_no_fault e (record_at n p) LEVEL_LIMIT bytes mid first (omega (arith, low, levels_first (record_at n p) qs)) stands)
     choice false is mid first = refl
+
+read_beyond : (e : DecodeError) (bytes : List ℕ) → AreBytes bytes → 0 < length bytes → StandsInField LEVEL_LIMIT e bytes → (rs : Records) → read bytes ≡ Some rs → nat_le (raw_levels rs) LEVEL_LIMIT ≡ false
+read_beyond e bytes small some stands NoRecords d = let empty : bytes ≡ [] = read_spells bytes NoRecords small d in absurd (omega (arith, ap length empty))
+read_beyond e bytes small some stands (PlainRecord m q qs) d = first_beyond m (Flat q) e qs bytes (read_spells bytes (PlainRecord m q qs) small d) stands
+read_beyond e bytes small some stands (GroupRecord m inside qs) d = first_beyond m (Group inside) e qs bytes (read_spells bytes (GroupRecord m inside qs) small d) stands
 
 pub bool_none : (number : ℕ) (found : Option Bool) (e : DecodeError) (bytes : List ℕ) → AreBytes bytes → 0 < length bytes → StandsInField LEVEL_LIMIT e bytes → bool_in number found bytes ≡ None
 bool_none number found e bytes small some stands = go (read bytes) refl
   where
     go : (o : Option Records) → read bytes ≡ o → bool_among number found o ≡ None
     go None d = refl
-    go (Some NoRecords) d = let empty : bytes ≡ [] = read_spells bytes NoRecords small d in absurd (omega (arith, ap length empty))
-    go (Some (PlainRecord m q qs)) d = fault_first number m (Flat q) found e qs bytes (read_spells bytes (PlainRecord m q qs) small d) stands
-    go (Some (GroupRecord m inside qs)) d = fault_first number m (Group inside) found e qs bytes (read_spells bytes (GroupRecord m inside qs) small d) stands
+    go (Some rs) d = rw (read_beyond e bytes small some stands rs d) refl
 
 -- AT A KEY
 
@@ -137,3 +143,49 @@ pub bool_left : (number : ℕ) (found : Option Bool) (bytes : List ℕ) → leng
 unfolding read
 bool_left number found [] h = refl
 bool_left number found (b ∷ bytes) h = absurd (omega arith)
+
+-- RECORDS THAT SUIT AN OPTION
+
+and_false : (a : Bool) → false ≡ (a && false)
+and_false true = refl
+and_false false = refl
+
+and_swap : (a b c : Bool) → (b && (a && c)) ≡ (a && (b && c))
+and_swap true true c = refl
+and_swap true false c = refl
+and_swap false true c = refl
+and_swap false false c = refl
+
+suit_step : (number n : ℕ) (p : Payload) (bytes rest : List ℕ) → AreBytes bytes → RecordFront (record_at n p) bytes rest → payload_levels p ≤ LEVEL_LIMIT →
+    bytes_suit_option number bytes ≡ (suits_option number (record_at n p) && bytes_suit_option number rest)
+suit_step number n p bytes rest small f low = ap (records_suit_option number) (read_before n p bytes rest small f) ∙ go (read rest)
+  where
+    go : (o : Option Records) → records_suit_option number (option_map (before (record_at n p)) o) ≡ (suits_option number (record_at n p) && records_suit_option number o)
+    go None = and_false (suits_option number (record_at n p))
+    go (Some rs) =
+        rw (items_before n p rs, levels_first (record_at n p) rs, within_more (payload_levels p) (raw_levels rs) LEVEL_LIMIT low)
+        (and_swap (suits_option number (record_at n p)) (nat_le (raw_levels rs) LEVEL_LIMIT) (list_all (suits_option number) (items rs)))
+
+suit_here : (number n : ℕ) (w : WireType) (p : Payload) (bytes after rest : List ℕ) → AreBytes bytes → KeyFront n w bytes after → ValueFront n w LEVEL_LIMIT p after rest → (b : Bool) → b ≡ suits_option number (record_at n p) →
+    bytes_suit_option number bytes ≡ (b && bytes_suit_option number rest)
+suit_here number n w p bytes after rest small k v b is = suit_step number n p bytes rest small (record_here n w p bytes after rest k v) v.within ∙ ap (λ x. x && bytes_suit_option number rest) (sym is)
+
+pub suit_passed : (number n : ℕ) (w : WireType) (p : Payload) (bytes after rest : List ℕ) → AreBytes bytes → KeyFront n w bytes after → ValueFront n w LEVEL_LIMIT p after rest → true ≡ suits_option number (record_at n p) →
+    bytes_suit_option number rest ≡ bytes_suit_option number bytes
+suit_passed number n w p bytes after rest small k v is = sym (suit_here number n w p bytes after rest small k v true is)
+
+pub suit_refused : (number n : ℕ) (w : WireType) (p : Payload) (bytes after rest : List ℕ) → AreBytes bytes → KeyFront n w bytes after → ValueFront n w LEVEL_LIMIT p after rest → false ≡ suits_option number (record_at n p) →
+    bytes_suit_option number bytes ≡ false
+suit_refused number n w p bytes after rest small k v is = suit_here number n w p bytes after rest small k v false is
+
+pub suit_none : (number : ℕ) (e : DecodeError) (bytes : List ℕ) → AreBytes bytes → 0 < length bytes → StandsInField LEVEL_LIMIT e bytes → bytes_suit_option number bytes ≡ false
+suit_none number e bytes small some stands = go (read bytes) refl
+  where
+    go : (o : Option Records) → read bytes ≡ o → records_suit_option number o ≡ false
+    go None d = refl
+    go (Some rs) d = rw (read_beyond e bytes small some stands rs d) refl
+
+pub suit_left : (number : ℕ) (bytes : List ℕ) → length bytes ≡ 0 → bytes_suit_option number bytes ≡ true
+unfolding read
+suit_left number [] h = refl
+suit_left number (b ∷ bytes) h = absurd (omega arith)

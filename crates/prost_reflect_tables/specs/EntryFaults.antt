@@ -6,16 +6,16 @@ use Rattle.prost_reflect_wire.specs.declared.records.FieldDescriptorProto.{Field
 use Rattle.prost_reflect_wire.specs.declared.records.MethodDescriptorProto.{MethodDescriptorProto}
 use Rattle.prost_reflect_tables.specs.Flat.{DefinitionRow, FlatMessageRow, FlatRows}
 use Rattle.prost_reflect_tables.specs.Options.{bool_option}
-use Rattle.prost_reflect_tables.specs.Faults.{is_code, is_message_type, is_repeated, is_member, message_named}
+use Rattle.prost_reflect_tables.specs.Faults.{number_or_zero, is_type, is_code, is_message_type, is_enum_type, is_repeated, is_member, message_named}
 
 abbrev pub is_entry : FlatMessageRow → Bool
 is_entry m = unwrap_or (bool_option 7 m.definition.proto.options) false
 
 -- KEYS AND VALUES
 
--- Keys are numbers (floats aside), bools or texts: neither double (1), float (2), group (10), message (11), bytes (12) nor enum (14).
+-- Keys are numbers (floats aside), bools or texts: of the types, neither double (1), float (2), group (10), message (11), bytes (12) nor enum (14).
 abbrev pub is_key_type : Option ℤ → Bool
-is_key_type code = not (is_code 1 code || is_code 2 code || is_code 10 code || is_code 11 code || is_code 12 code || is_code 14 code)
+is_key_type code = is_type (number_or_zero code) && not (is_code 1 code || is_code 2 code || is_message_type code || is_code 12 code || is_enum_type code)
 
 -- One value, without a written default, in no oneof.
 abbrev pub is_plain : DefinitionRow FieldDescriptorProto → Bool

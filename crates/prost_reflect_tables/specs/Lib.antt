@@ -14,6 +14,7 @@ pub mod Faults
 pub mod EntryFaults
 pub mod DefaultFaults
 pub mod OptionFaults
+pub mod CheckExamples
 pub mod Checked
 pub mod Indexed
 pub mod Options

@@ -8,18 +8,22 @@ use Rattle.prost_reflect_tables.specs.Flat.{FlatRows}
 use Rattle.prost_reflect_tables.specs.Options.{bool_of}
 use Rattle.prost_reflect_tables.specs.Faults.{any_field}
 
--- Each record of the number is a varint.
-abbrev pub are_bools : (number : ℕ) → List Record → Bool
-are_bools number rs = list_all (λ r. not (nat_eq r.number number) || is_some (bool_of r.payload)) rs
+-- A record of the number is a varint.
+abbrev pub suits_option : (number : ℕ) → Record → Bool
+suits_option number r = not (nat_eq r.number number) || is_some (bool_of r.payload)
 
-abbrev pub records_hold_option : (number : ℕ) → Option Records → Bool
-records_hold_option number None = false
-records_hold_option number (Some rs) = nat_le (raw_levels rs) LEVEL_LIMIT && are_bools number (items rs)
+abbrev pub records_suit_option : (number : ℕ) → Option Records → Bool
+records_suit_option number None = false
+records_suit_option number (Some rs) = nat_le (raw_levels rs) LEVEL_LIMIT && list_all (suits_option number) (items rs)
+
+-- Records within the limit of levels, each of which suits the option.
+abbrev pub bytes_suit_option : (number : ℕ) → List ℕ → Bool
+bytes_suit_option number bytes = records_suit_option number (read bytes)
 
 -- A definition without options has no bad ones.
 abbrev pub option_bad : (number : ℕ) → Option (Vec ℕ Global) → Bool
 option_bad number None = false
-option_bad number (Some bytes) = not (records_hold_option number (read bytes.items))
+option_bad number (Some bytes) = not (bytes_suit_option number bytes.items)
 
 -- Of a message `map_entry` is read, number 7, and of a field or extension `packed`, number 2.
 abbrev pub bad_options : FlatRows → Bool

@@ -10,10 +10,12 @@ use crate::checks::{
     has_bad_index, has_bad_label, has_bad_number, has_bad_oneof, has_bad_range, has_empty_enum,
     has_missing_name, has_missing_type, has_unknown_syntax,
 };
+use crate::entries::has_bad_map_entry;
 use crate::error::PoolError;
 use crate::flatten::Flat;
 use crate::index::{Index, has_duplicate_name, indexed};
 use crate::numbers::has_duplicate_number;
+use crate::options::has_bad_options;
 use crate::references::{has_missing_dependency, has_outside_range, has_unknown_type};
 use prost_reflect_wire::records::FileDescriptorProto;
 use std::alloc::Global;
@@ -64,6 +66,9 @@ pub fn check(alloc: Global, files: &[&FileDescriptorProto], flat: &Flat) -> Resu
     ensures stands { IfErr result (λ e. e ≢ pool_errors.OutOfMemory → Stands e (file_list files.now) (flat_rows flat.now)) }
 {
     check_each(files, flat)?;
+    if has_bad_options(flat) {
+        return Err(PoolError::BadOptions);
+    }
     if has_missing_dependency(alloc, files)? {
         return Err(PoolError::MissingDependency);
     }
@@ -79,6 +84,9 @@ pub fn check(alloc: Global, files: &[&FileDescriptorProto], flat: &Flat) -> Resu
     }
     if has_outside_range(&index, flat) {
         return Err(PoolError::OutsideRange);
+    }
+    if has_bad_map_entry(&index, flat) {
+        return Err(PoolError::BadMapEntry);
     }
     Ok(index)
 }

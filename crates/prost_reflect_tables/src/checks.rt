@@ -380,15 +380,19 @@ pub fn is_message_type(code: Option<i32>) -> bool
     is_code(10, code) || is_code(11, code)
 }
 
+pub fn is_type(code: Option<i32>) -> bool
+    ensures { result ≡ is_type (number_or_zero code) }
+{
+    let code = code.unwrap_or(0);
+    code >= 1 && code <= 18
+}
+
 fn is_type_missing(field: &Definition<FieldDescriptorProto>) -> bool
     ensures { result ≡ type_missing (definition_row field.now) }
 {
-    let code = field.proto.type_.unwrap_or(0);
-    if code < 1 || code > 18 {
-        return true;
-    }
-    (is_message_type(field.proto.type_) || is_code(14, field.proto.type_))
-        && field.proto.type_name.is_none()
+    let code = field.proto.type_;
+    !is_type(code)
+        || ((is_message_type(code) || is_code(14, code)) && field.proto.type_name.is_none())
 }
 
 fn is_extendee_missing(extension: &Definition<FieldDescriptorProto>) -> bool

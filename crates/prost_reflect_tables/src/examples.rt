@@ -2,6 +2,7 @@
 
 ghost use Rattle.prost_reflect_tables.specs.Examples.{Tables, NotLinked};
 ghost use Rattle.prost_reflect_tables.specs.DefaultExamples.{Integers, NoIntegers, Floats, NoFloats, Others, NoOthers, Escapes, NoEscapes};
+ghost use Rattle.prost_reflect_tables.specs.CheckExamples.{CheckedOptions, KeysAndValues};
 ghost use Rattle.prost_reflect_tables.specs.LinkingExamples.{OptionBytes, KindsAndLabels, PackedAndPresent, Orders};
 
 /// The schema that tables give, for a field of each form.
@@ -36,4 +37,10 @@ pub fn linking()
     ensures kinds { KindsAndLabels }
     ensures packed { PackedAndPresent }
     ensures orders { Orders }
+{}
+
+/// Option bytes, and keys and values of map entries, as the checks take them.
+pub fn checking()
+    ensures options { CheckedOptions }
+    ensures entries { KeysAndValues }
 {}

@@ -4,6 +4,7 @@
 mod all_checks;
 mod checks;
 mod defaults;
+mod entries;
 mod error;
 mod examples;
 mod flatten;
@@ -22,7 +23,9 @@ mod tests;
 pub use all_checks::check;
 pub use defaults::written_default;
 pub use error::PoolError;
-pub use examples::{defaults_read, defaults_refused, linking, shown_tables, tables_not_linked};
+pub use examples::{
+    checking, defaults_read, defaults_refused, linking, shown_tables, tables_not_linked,
+};
 pub use flatten::{Definition, Flat, FlatEnum, FlatMessage, FlatService, flattened};
 pub use index::Index;
 pub use laws::tables_equality;

@@ -414,6 +414,45 @@ fn empty_file(
     })
 }
 
+/// `message M { map<string, int32> kids = 1; }`, with the entry's options, the label of `kids` and the key's type code.
+fn map_file(
+    alloc: Global,
+    options: [u8; 2],
+    label: i32,
+    key: i32,
+) -> Result<FileDescriptorProto, AllocError> {
+    let mut kids = numbered(alloc, "kids", 1, label, 11)?;
+    kids.type_name = text(alloc, "M.KidsEntry")?;
+    let mut message = empty_message(alloc, "M")?;
+    message.field.push(kids)?;
+    let mut entry = empty_message(alloc, "KidsEntry")?;
+    entry.options = Some(Vec::from_slice(alloc, &options)?);
+    entry.field.push(numbered(alloc, "key", 1, 1, key)?)?;
+    entry.field.push(numbered(alloc, "value", 2, 1, 5)?)?;
+    message.nested_type.push(entry)?;
+    let mut file = empty_file(alloc, "", None)?;
+    file.message_type.push(message)?;
+    Ok(file)
+}
+
+/// A map is taken, and a change to it is refused by its name; a message that says it is no entry may have any key.
+#[test]
+fn faults_of_a_map(rt: HostRuntime) -> Result<(), Fail> {
+    let rows = [
+        ([0x38, 1], 3, 9, None),
+        ([0x38, 0], 1, 2, None),
+        ([0x38, 1], 1, 9, Some(PoolError::BadMapEntry)),
+        ([0x38, 1], 3, 2, Some(PoolError::BadMapEntry)),
+        ([0x3a, 0], 3, 9, Some(PoolError::BadOptions)),
+        ([0x38, 0x80], 3, 9, Some(PoolError::BadOptions)),
+    ];
+    for (options, label, key, error) in rows {
+        let file = map_file(rt.alloc(), options, label, key)?;
+        assert_eq!(rt; refusal(rt.alloc(), &file)?, error);
+    }
+    Ok(())
+}
+
 /// proto3: `package package; message MyMessage { int32 foo = 1; oneof optional { int32 bar = 2; } MyMessage nested = 3; }`.
 fn my_message_file(alloc: Global) -> Result<FileDescriptorProto, AllocError> {
     let mut message = empty_message(alloc, "MyMessage")?;

@@ -17,7 +17,6 @@ use Rattle.prost_reflect_tables.proofs.Linkwell.Items.{none_at}
 -- Files that pass the checks, of which the code's types say what they do.
 pub record Sound (files : List FileDescriptorProto) (rows : FlatRows) : Type 0 where
   pub checked : Checked files rows
-  pub entries : bad_map_entry rows ≡ false
   pub defaults : bad_default rows ≡ false
   pub range : in_range rows ≡ true
 
@@ -78,7 +77,7 @@ entry_parts rows h =
 pub message_checked : {files : List FileDescriptorProto} (rows : FlatRows) (T : ℕ) (m : FlatMessageRow) → Sound files rows → slice_get rows.messages T ≡ Some m → MessageChecked m
 message_checked {files} rows T m s at = record {
   oneofs = none_at has_oneof_outside rows.messages T m (or_parts (list_any import_outside files) _ s.checked.own.indices).1 at;
-  entry = none_at entry_bad rows.messages T m (entry_parts rows s.entries).0 at;
+  entry = none_at entry_bad rows.messages T m (entry_parts rows s.checked.entries).0 at;
 }
 
 pub enum_checked : {files : List FileDescriptorProto} (rows : FlatRows) (E : ℕ) (e : FlatEnumRow) → Sound files rows → slice_get rows.enums E ≡ Some e → EnumChecked e
@@ -93,13 +92,13 @@ field_checked rows T i m d s at there = record {
   type_there = field_at type_missing rows T i m d (three _ _ _ s.checked.own.types).0 at there;
   type_found = field_at (type_unknown rows) rows T i m d (three _ _ _ s.checked.names_found).0 at there;
   member = field_at repeated_member rows T i m d (or_parts _ _ s.checked.own.oneofs).0 at there;
-  entry = none_at (wrongly_of_entry rows) m.fields i d (none_at (λ (m : FlatMessageRow). list_any (wrongly_of_entry rows) m.fields) rows.messages T m (entry_parts rows s.entries).1 at) there;
+  entry = none_at (wrongly_of_entry rows) m.fields i d (none_at (λ (m : FlatMessageRow). list_any (wrongly_of_entry rows) m.fields) rows.messages T m (entry_parts rows s.checked.entries).1 at) there;
   default = well_placed (links_of rows) d (field_at (default_bad (links_of rows)) rows T i m d s.defaults at there);
 }
 
 pub extension_checked : {files : List FileDescriptorProto} (rows : FlatRows) (i : ℕ) (d : DefinitionRow FieldDescriptorProto) → Sound files rows → slice_get rows.extensions i ≡ Some d → ExtensionChecked rows d
 extension_checked rows i d s at =
-    let no_entry : is_of_entry rows d ≡ false = none_at (is_of_entry rows) rows.extensions i d (entry_parts rows s.entries).2 at in
+    let no_entry : is_of_entry rows d ≡ false = none_at (is_of_entry rows) rows.extensions i d (entry_parts rows s.checked.entries).2 at in
     record {
       field = record {
         number = extension_at number_bad rows i d s.checked.own.numbers at;

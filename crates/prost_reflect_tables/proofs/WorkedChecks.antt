@@ -1,0 +1,40 @@
+-- The worked examples of the checks, by computing.
+use Rattle.std.proofs.Common.{◌≡◌, Bool, true, false, refl}
+use Rattle.std.specs.Prelude.{◌&&◌, ◌||◌}
+use Rattle.prost_reflect_wire.specs.Record.{read}
+use Rattle.prost_reflect_tables.specs.EntryFaults.{is_entry_key, is_entry_value}
+use Rattle.prost_reflect_tables.specs.CheckExamples.{CheckedOptions, KeysAndValues}
+
+pub checked_options : CheckedOptions
+unfolding read
+checked_options = record {
+  none = refl;
+  no_bytes = refl;
+  varint = refl;
+  eight_bytes = refl;
+  text = refl;
+  group = refl;
+  four_bytes = refl;
+  first = refl;
+  others = refl;
+  cut = refl;
+  zero = refl;
+  ended = refl;
+  opened = refl;
+}
+
+or_true : (a : Bool) → (a || true) ≡ true
+or_true true = refl
+or_true false = refl
+
+second_order : (a b c d : Bool) → a ≡ true → b ≡ true → ((c && d) || (b && a)) ≡ true
+second_order a b c d p q = rw (p, q) (or_true (c && d))
+
+pub keys_and_values : KeysAndValues
+keys_and_values = record {
+  keys = refl;
+  no_types = refl;
+  either_order = λ key value k v. (rw (k, v) refl, second_order (is_entry_key key) (is_entry_value value) (is_entry_key value) (is_entry_value key) k v);
+  key_alone = λ key. refl;
+  third = λ key value other. refl;
+}
