@@ -7,3 +7,4 @@ mod Shapes
 mod WrittenValues
 mod Defaults
 mod Fields
+mod Messages

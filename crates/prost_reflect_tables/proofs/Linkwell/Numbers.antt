@@ -69,7 +69,7 @@ order_ascends fields one range =
 abbrev pub count_same : Numbered → List Numbered → ℕ
 count_same n ns = length (filter (same_numbered n) ns)
 
-filter_append : {X : Type 0} (p : X → Bool) (xs ys : List X) → filter p (xs ++ ys) ≡ filter p xs ++ filter p ys
+pub filter_append : {X : Type 0} (p : X → Bool) (xs ys : List X) → filter p (xs ++ ys) ≡ filter p xs ++ filter p ys
 filter_append p [] ys = refl
 filter_append p (x ∷ xs) ys = go (p x) (filter_append p xs ys)
   where

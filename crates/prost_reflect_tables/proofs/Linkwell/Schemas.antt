@@ -1,0 +1,116 @@
+-- The schema of files that pass the checks is one of a checked pool.
+use Rattle.std.proofs.Common.{◌≡◌, ℕ, suc, ◌+◌, ◌<◌, ◌≤◌, ◌^◌, Bool, true, false, cond, not, ◌&&◌, ◌||◌, List, [], ◌∷◌, ◌++◌, map, length, Option, Some, None, is_some, refl, sym, ap, ◌∙◌, subst, arith, slice_get, nat_eq, nat_lt}
+use Rattle.std.specs.List.{list_any, list_all}
+use Rattle.std.proofs.lemmas.Bool.{and_from, and_parts, or_from, ltb-true, ne_eqb}
+use Rattle.std.proofs.lemmas.List.Folds.{list_all-map}
+use Rattle.prost_reflect_wire.specs.Schema.{Field, MessageType, Schema, kind_valid, field_valid, numbers_differ, schema_valid}
+use Rattle.prost_reflect_wire.specs.declared.records.FieldDescriptorProto.{FieldDescriptorProto}
+use Rattle.prost_reflect_wire.specs.declared.records.FileDescriptorProto.{FileDescriptorProto}
+use Rattle.prost_reflect_tables.specs.declared.tables.Cardinality.{Cardinality}
+use Rattle.prost_reflect_tables.specs.declared.tables.Cardinality.TheVariants.{Optional, Required, Repeated}
+use Rattle.prost_reflect_tables.specs.declared.tables.TableKind.{TableKind}
+use Rattle.prost_reflect_tables.specs.declared.tables.TableKind.TheVariants as kinds
+use Rattle.prost_reflect_tables.specs.Rows.{FieldRow, MessageRow, TableRows}
+use Rattle.prost_reflect_tables.specs.Linked.{ascending_from}
+use Rattle.prost_reflect_tables.specs.Shown.{schema_kind, entry_or_none, entry_at, map_entry, schema_field, schema_message, schema_from}
+use Rattle.prost_reflect_tables.specs.Flat.{DefinitionRow, FlatMessageRow, FlatEnumRow, FlatRows}
+use Rattle.prost_reflect_tables.specs.Faults as faults
+use Rattle.prost_reflect_tables.specs.Faults.{is_code, is_member, extension_outside}
+use Rattle.prost_reflect_tables.specs.EntryFaults.{is_entry, is_of_entry, wrongly_of_entry}
+use Rattle.prost_reflect_tables.specs.Linking.{Links, links_of, is_repeated, natural_or_zero, is_place, extended_place, linked_kind, linked_field, linked_message, linked_rows, in_order, fields_of_message}
+use Rattle.prost_reflect_tables.proofs.Linkwell.Items.{messages_all}
+use Rattle.prost_reflect_tables.proofs.Linkwell.Premises.{Sound, FieldChecked, EnumChecked, field_checked, extension_checked, message_checked, enum_checked}
+use Rattle.prost_reflect_tables.proofs.Linkwell.Kinds.{FieldKind, NamesMessage, NamesEnum, IsScalar, is_scalar, field_kind}
+use Rattle.prost_reflect_tables.proofs.Linkwell.Shapes.{RowSound, plain_valid, map_valid}
+use Rattle.prost_reflect_tables.proofs.Linkwell.Fields.{repeated_shown, is_repeated_label, row_sound, kind_row, entry_shown, linked_at, linked_there, entry_is_of, type_shown_valid}
+use Rattle.prost_reflect_tables.proofs.Linkwell.Messages.{fields_all}
+use Rattle.prost_reflect_tables.proofs.Linkwell.Entries.{EntryFields, entry_fields, entry_sound, group_row}
+
+-- MAPS
+
+no_map : (messages : List MessageRow) (f : FieldRow) (c : Cardinality) → entry_at messages f.kind ≡ None → map_entry messages f c ≡ None
+no_map messages f Optional e = refl
+no_map messages f Required e = refl
+no_map messages f Repeated e = go f.is_group
+  where
+    go : (g : Bool) → cond g None (entry_at messages f.kind) ≡ None
+    go true = refl
+    go false = e
+
+map_there : (messages : List MessageRow) (f : FieldRow) (entry : MessageRow) → f.cardinality ≡ Repeated → f.is_group ≡ false → entry_at messages f.kind ≡ Some entry → map_entry messages f f.cardinality ≡ Some entry
+map_there messages f entry label group there = ap (map_entry messages f) label ∙ rw group there
+
+-- The entry that a kind names.
+entry_found : (rows : FlatRows) (T : ℕ) (m : FlatMessageRow) → slice_get rows.messages T ≡ Some m → is_entry m ≡ true → entry_at (linked_rows rows).messages (kinds.Message T) ≡ Some (linked_at rows T m)
+entry_found rows T m at is = ap entry_or_none (linked_there rows T m at) ∙ rw (entry_shown (fields_of_message (links_of rows) rows.extensions (0 + T) m) m ∙ is) refl
+
+no_entry_found : (rows : FlatRows) (T : ℕ) (m : FlatMessageRow) → slice_get rows.messages T ≡ Some m → is_entry m ≡ false → entry_at (linked_rows rows).messages (kinds.Message T) ≡ None
+no_entry_found rows T m at is = ap entry_or_none (linked_there rows T m at) ∙ rw (entry_shown (fields_of_message (links_of rows) rows.extensions (0 + T) m) m ∙ is) refl
+
+scalar_no_entry : (messages : List MessageRow) (k : TableKind) → is_scalar k ≡ true → entry_at messages k ≡ None
+scalar_no_entry messages (kinds.Message T) h = absurd cc
+scalar_no_entry messages k h = refl
+
+fields_shown : (fields : List FieldRow) (m : FlatMessageRow) → (linked_message fields m).fields ≡ in_order fields
+unfolding linked_message
+fields_shown fields m = refl
+
+code_eleven : (links : Links) (x : Bool) (d : DefinitionRow FieldDescriptorProto) → is_code 11 d.proto.type_ ≡ true → is_code 10 d.proto.type_ ≡ false
+code_eleven links x d h = go d.proto.type_ h
+  where
+    go : (o : Option _) → is_code 11 o ≡ true → is_code 10 o ≡ false
+    go o h = ?
+
+-- FIELDS
+
+-- What is known of all files that pass.
+abbrev EnumsChecked : FlatRows → Type 0
+EnumsChecked rows = (E : ℕ) (e : FlatEnumRow) → slice_get rows.enums E ≡ Some e → EnumChecked e
+
+pub field_shown_valid : {files : List FileDescriptorProto} (rows : FlatRows) (x : Bool) (d : DefinitionRow FieldDescriptorProto) → Sound files rows → FieldChecked rows d → (x ≡ true → is_member d ≡ false) →
+    field_valid (schema_from (linked_rows rows)) (schema_field (linked_rows rows) (linked_field (links_of rows) x d)) ≡ true
+field_shown_valid {files} rows x d s h alone = by_kind kind
+  where
+    enums : EnumsChecked rows
+    enums E e at = enum_checked rows E e s at
+
+    kind : FieldKind rows d
+    kind = field_kind rows d h.type_there h.type_found
+
+    sound : RowSound (schema_from (linked_rows rows)) (linked_rows rows) (linked_field (links_of rows) x d)
+    sound = row_sound (schema_from (linked_rows rows)) rows x d h kind alone enums
+
+    plain : is_of_entry rows d ≡ false → entry_at (linked_rows rows).messages (linked_kind (links_of rows) d.proto) ≡ None → field_valid (schema_from (linked_rows rows)) (schema_field (linked_rows rows) (linked_field (links_of rows) x d)) ≡ true
+    plain none no_entry =
+        let f = linked_field (links_of rows) x d in
+        plain_valid (schema_from (linked_rows rows)) (linked_rows rows) f sound
+        (ap (λ (k : TableKind). kind_valid (schema_from (linked_rows rows)) (schema_kind (linked_rows rows).enums k f.is_group)) (kind_row (links_of rows) x d) ∙ type_shown_valid rows d f.is_group kind none enums)
+        (no_map (linked_rows rows).messages f f.cardinality (ap (entry_at (linked_rows rows).messages) (kind_row (links_of rows) x d) ∙ no_entry))
+
+    as_map : (T : ℕ) (m : FlatMessageRow) → linked_kind (links_of rows) d.proto ≡ kinds.Message T → slice_get rows.messages T ≡ Some m → is_of_entry rows d ≡ true → is_entry m ≡ true → field_valid (schema_from (linked_rows rows)) (schema_field (linked_rows rows) (linked_field (links_of rows) x d)) ≡ true
+    as_map T m is at of_entry entry =
+        let f = linked_field (links_of rows) x d in
+        let right = right_entry (is_of_entry rows d) (faults.is_repeated d) (is_code 11 d.proto.type_) h.entry of_entry in
+        let label : f.cardinality ≡ Repeated = is_repeated_label f.cardinality (repeated_shown (links_of rows) x d ∙ right.0) in
+        let e : EntryFields rows T m = entry_fields rows T m at (message_checked rows T m s at).entry entry (λ i d there. (extension_checked rows i d s there).inside) in
+        let key = field_checked rows T e.key_place m e.key s at e.key_at in
+        let value = field_checked rows T e.value_place m e.value s at e.value_at in
+        map_valid (schema_from (linked_rows rows)) (linked_rows rows) f (linked_at rows T m) (linked_field (links_of rows) false e.key) (linked_field (links_of rows) false e.value) sound label
+        (map_there (linked_rows rows).messages f (linked_at rows T m) label (group_row (links_of rows) x d (code_eleven (links_of rows) x d right.1)) (ap (entry_at (linked_rows rows).messages) (kind_row (links_of rows) x d ∙ is) ∙ entry_found rows T m at entry))
+        (fields_shown (fields_of_message (links_of rows) rows.extensions (0 + T) m) m ∙ e.shown)
+        (entry_sound rows T m e key value (field_kind rows e.key key.type_there key.type_found) (field_kind rows e.value value.type_there value.type_found) enums)
+      where
+        right_entry : (a b c : Bool) → (a && not (b && c)) ≡ false → a ≡ true → (b ≡ true) × (c ≡ true)
+        right_entry true true true h is = (refl, refl)
+        right_entry true true false h is = absurd cc
+        right_entry true false c h is = absurd cc
+        right_entry false b c h is = absurd cc
+
+    by_entry : (T : ℕ) (m : FlatMessageRow) → linked_kind (links_of rows) d.proto ≡ kinds.Message T → slice_get rows.messages T ≡ Some m → is_of_entry rows d ≡ is_entry m → (b : Bool) → is_entry m ≡ b → field_valid (schema_from (linked_rows rows)) (schema_field (linked_rows rows) (linked_field (links_of rows) x d)) ≡ true
+    by_entry T m is at same true entry = as_map T m is at (same ∙ entry) entry
+    by_entry T m is at same false entry = plain (same ∙ entry) (ap (entry_at (linked_rows rows).messages) is ∙ no_entry_found rows T m at entry)
+
+    by_kind : FieldKind rows d → field_valid (schema_from (linked_rows rows)) (schema_field (linked_rows rows) (linked_field (links_of rows) x d)) ≡ true
+    by_kind (NamesMessage T m is at named message) = by_entry T m is at (entry_is_of rows d m named message) (is_entry m) refl
+    by_kind (NamesEnum E e is at) = ?
+    by_kind (IsScalar is) = ?
