@@ -17,3 +17,4 @@ mod NamePlaces
 mod WorkedLinking
 mod Linkwell
 mod WorkedChecks
+mod LinksWell

@@ -1,10 +1,12 @@
 -- That files which pass the checks link well.
-mod Items
-mod Numbers
+pub mod Items
+pub mod Numbers
 pub mod Premises
-mod Kinds
-mod Shapes
-mod WrittenValues
-mod Defaults
-mod Fields
-mod Messages
+pub mod Kinds
+pub mod Shapes
+pub mod WrittenValues
+pub mod Defaults
+pub mod Fields
+pub mod Messages
+pub mod Entries
+pub mod Schemas

@@ -36,7 +36,7 @@ placed_at T (Some p) h = ap Some (sym (eqb-true T p h))
 
 no_range : (ranges : List ExtensionRange) (number : ℤ) → nat_eq (length ranges) 0 ≡ true → list_any (is_in_range number) ranges ≡ false
 no_range [] number h = refl
-no_range (r ∷ ranges) number h = absurd cc
+no_range (r ∷ ranges) number h = absurd (omega (arith, eqb-true (length (r ∷ ranges)) 0 h))
 
 not_extended : (rows : FlatRows) (T : ℕ) (m : FlatMessageRow) (d : DefinitionRow FieldDescriptorProto) → slice_get rows.messages T ≡ Some m → nat_eq (length m.definition.proto.extension_range) 0 ≡ true → extension_outside rows d ≡ false → is_place (0 + T) (extended_place (links_of rows) d) ≡ true → ⊥
 not_extended rows T m d at none inside is =
@@ -158,7 +158,7 @@ ten None h = refl
 ten (Some (pos n)) h = h
 ten (Some (negsuc n)) h = refl
 
-group_row : (links : Links) (x : Bool) (d : DefinitionRow FieldDescriptorProto) → is_code 10 d.proto.type_ ≡ false → (linked_field links x d).is_group ≡ false
+pub group_row : (links : Links) (x : Bool) (d : DefinitionRow FieldDescriptorProto) → is_code 10 d.proto.type_ ≡ false → (linked_field links x d).is_group ≡ false
 unfolding linked_field
 group_row links x d h = ten d.proto.type_ h
 

@@ -227,22 +227,29 @@ scalar_valid schema es (kinds.Message T) g is = absurd cc
 scalar_valid schema es (kinds.Enum E) g is = absurd cc
 scalar_valid schema es k g is = refl
 
--- Of a field that names no entry.
-pub type_shown_valid : (rows : FlatRows) (d : DefinitionRow FieldDescriptorProto) (g : Bool) → FieldKind rows d → is_of_entry rows d ≡ false → ((E : ℕ) (e : FlatEnumRow) → slice_get rows.enums E ≡ Some e → EnumChecked e) →
-    kind_valid (schema_from (linked_rows rows)) (schema_kind (linked_rows rows).enums (linked_kind (links_of rows) d.proto) g) ≡ true
-type_shown_valid rows d g (NamesMessage T m kind at named is) none enums =
-    subst (λ (k : TableKind). kind_valid (schema_from (linked_rows rows)) (schema_kind (linked_rows rows).enums k g) ≡ true) (sym kind) (by_group g)
-  where
-    no_entry : is_entry m ≡ false
-    no_entry = sym (entry_is_of rows d m named is) ∙ none
+abbrev pub TypeValid : FlatRows → Bool → TableKind → Type 0
+TypeValid rows g k = kind_valid (schema_from (linked_rows rows)) (schema_kind (linked_rows rows).enums k g) ≡ true
 
-    by_group : (g : Bool) → kind_valid (schema_from (linked_rows rows)) (schema_kind (linked_rows rows).enums (kinds.Message T) g) ≡ true
-    by_group true = type_valid rows T m at no_entry
-    by_group false = type_valid rows T m at no_entry
-type_shown_valid rows d g (NamesEnum E e kind at) none enums =
-    subst (λ (k : TableKind). kind_valid (schema_from (linked_rows rows)) (schema_kind (linked_rows rows).enums k g) ≡ true) (sym kind)
-    (subst (λ (o : Option EnumRow). kind_valid (schema_from (linked_rows rows)) (ScalarOf (enum_kind o)) ≡ true) (sym (enum_shown rows E e at)) (enum_kind_valid (schema_from (linked_rows rows)) e (enums E e at)))
-type_shown_valid rows d g (IsScalar is) none enums = scalar_valid (schema_from (linked_rows rows)) (linked_rows rows).enums (linked_kind (links_of rows) d.proto) g is
+pub message_type_valid : (rows : FlatRows) (k : TableKind) (g : Bool) (T : ℕ) (m : FlatMessageRow) → k ≡ kinds.Message T → slice_get rows.messages T ≡ Some m → is_entry m ≡ false → TypeValid rows g k
+message_type_valid rows k g T m kind at none = subst (TypeValid rows g) (sym kind) (by_group g)
+  where
+    by_group : (g : Bool) → TypeValid rows g (kinds.Message T)
+    by_group true = type_valid rows T m at none
+    by_group false = type_valid rows T m at none
+
+pub enum_type_valid : (rows : FlatRows) (k : TableKind) (g : Bool) (E : ℕ) (e : FlatEnumRow) → k ≡ kinds.Enum E → slice_get rows.enums E ≡ Some e → EnumChecked e → TypeValid rows g k
+enum_type_valid rows k g E e kind at h =
+    subst (TypeValid rows g) (sym kind)
+    (subst (λ (o : Option EnumRow). kind_valid (schema_from (linked_rows rows)) (ScalarOf (enum_kind o)) ≡ true) (sym (enum_shown rows E e at)) (enum_kind_valid (schema_from (linked_rows rows)) e h))
+
+pub scalar_type_valid : (rows : FlatRows) (k : TableKind) (g : Bool) → is_scalar k ≡ true → TypeValid rows g k
+scalar_type_valid rows k g is = scalar_valid (schema_from (linked_rows rows)) (linked_rows rows).enums k g is
+
+-- Of a field that names no entry.
+pub type_shown_valid : (rows : FlatRows) (d : DefinitionRow FieldDescriptorProto) (g : Bool) → FieldKind rows d → is_of_entry rows d ≡ false → ((E : ℕ) (e : FlatEnumRow) → slice_get rows.enums E ≡ Some e → EnumChecked e) → TypeValid rows g (linked_kind (links_of rows) d.proto)
+type_shown_valid rows d g (NamesMessage T m kind at named is) none enums = message_type_valid rows (linked_kind (links_of rows) d.proto) g T m kind at (sym (entry_is_of rows d m named is) ∙ none)
+type_shown_valid rows d g (NamesEnum E e kind at) none enums = enum_type_valid rows (linked_kind (links_of rows) d.proto) g E e kind at (enums E e at)
+type_shown_valid rows d g (IsScalar is) none enums = scalar_type_valid rows (linked_kind (links_of rows) d.proto) g is
 
 -- PLACES
 
