@@ -15,3 +15,5 @@ mod Sorting
 mod Grouping
 mod NamePlaces
 mod WorkedLinking
+mod SameRows
+mod SameFlat
