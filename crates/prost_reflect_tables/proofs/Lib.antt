@@ -17,3 +17,4 @@ mod NamePlaces
 mod WorkedLinking
 mod SameRows
 mod SameFlat
+mod SameLinked
