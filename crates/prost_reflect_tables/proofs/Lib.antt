@@ -15,6 +15,10 @@ mod Sorting
 mod Grouping
 mod NamePlaces
 mod WorkedLinking
-mod SameRows
+pub mod SameRows
 mod SameFlat
 mod SameLinked
+mod SameChecks
+mod SameOptions
+pub mod EqualFiles
+mod WorkedFiles

@@ -1,24 +1,22 @@
 -- Files of equal contents have rows that hold the same.
-use Rattle.std.proofs.Common.{◌≡◌, ℕ, ◌+◌, ℤ, pos, Bool, List, [], ◌∷◌, ◌++◌, map, length, Option, Some, None, String, bytes_eq, refl, sym, ap, ap₂, ◌∙◌, subst}
+use Rattle.std.proofs.Common.{◌≡◌, ℕ, ◌+◌, pos, List, [], ◌∷◌, ◌++◌, map, Option, Some, None, String, bytes_eq, refl, sym, ap, ap₂, ◌∙◌, subst}
 use Rattle.std.specs.Prelude.{codes}
 use Rattle.std.specs.List.{AllZip}
+use Rattle.std.proofs.lemmas.List.Elements.{length_all_zip}
 use Rattle.std.specs.declared.alloc.Global.{Global}
 use Rattle.prost_reflect_wire.specs.declared.records.FieldDescriptorProto.{FieldDescriptorProto}
-use Rattle.prost_reflect_wire.specs.declared.records.OneofDescriptorProto.{OneofDescriptorProto}
 use Rattle.prost_reflect_wire.specs.declared.records.EnumDescriptorProto.{EnumDescriptorProto}
-use Rattle.prost_reflect_wire.specs.declared.records.EnumValueDescriptorProto.{EnumValueDescriptorProto}
 use Rattle.prost_reflect_wire.specs.declared.records.ServiceDescriptorProto.{ServiceDescriptorProto}
-use Rattle.prost_reflect_wire.specs.declared.records.MethodDescriptorProto.{MethodDescriptorProto}
 use Rattle.prost_reflect_wire.specs.declared.records.FileDescriptorProto.{FileDescriptorProto}
 use Rattle.prost_reflect_wire.specs.declared.records.DescriptorProto.{DescriptorProto}
 use Rattle.prost_reflect_wire.specs.declared.records.DescriptorProto.TheOpen.{DescriptorProto-F}
-use Rattle.prost_reflect_wire.specs.declared.records.DescriptorProto.TheViews.{out-DescriptorProto, roll-DescriptorProto}
+use Rattle.prost_reflect_wire.specs.declared.records.DescriptorProto.TheViews.{out-DescriptorProto}
 use Rattle.prost_reflect_wire.specs.declared.records.DescriptorProto.TheFolds.{fold-roll-DescriptorProto, fold_out-DescriptorProto, ind-DescriptorProto, map-DescriptorProto}
-use Rattle.prost_reflect_wire.specs.DescriptorViews.{of_message, of_file}
+use Rattle.prost_reflect_wire.specs.DescriptorViews.{of_message}
 use Rattle.prost_reflect_wire.proofs.EqualContents.{SameText, SameField, SameOneof, SameEnumValue, SameEnum, SameMethod, SameService, SameLayer, SameFile, message_same}
-use Rattle.prost_reflect_tables.specs.Names.{text_or_empty, joined}
-use Rattle.prost_reflect_tables.specs.Flat.{ScopeRow, DefinitionRow, FlatMessageRow, FlatRows, Given, Placed, defined, defined_from, field_name, oneof_name, value_name, method_name, enum_at, enums_from, service_at, services_from, all_from, inside, message_parts, own_message, message_step, message_at, file_scope, file_at, files_from, flattened}
-use Rattle.prost_reflect_tables.proofs.SameRows.{zip_append, zip_length, text_same, SameRow, SameParts, SameMessageRow, SameEnumRow, SameServiceRow, SameRows, SameGiven}
+use Rattle.prost_reflect_tables.specs.Names.{joined}
+use Rattle.prost_reflect_tables.specs.Flat.{ScopeRow, DefinitionRow, Placed, defined, defined_from, field_name, oneof_name, value_name, method_name, enum_at, enums_from, service_at, services_from, all_from, inside, message_parts, own_message, message_step, message_at, file_scope, file_at, files_from, flattened}
+use Rattle.prost_reflect_tables.proofs.SameRows.{zip_append, text_same, SameRow, SameParts, SameMessageRow, SameEnumRow, SameServiceRow, SameRows, SameGiven}
 
 -- DEFINITIONS
 
@@ -86,7 +84,7 @@ all_same [] (n ∷ ns) s t number place k l h scope before = absurd h
 all_same (m ∷ ms) [] s t number place k l h scope before = absurd h
 all_same (m ∷ ms) (n ∷ ns) s t number place k l h scope before =
     let first = h.0 s t number place k l scope before in
-    let more = all_same ms ns s t number (place + 1) _ _ h.1 scope (ap₂ (λ (a b : ℕ). a + b) before (zip_length SameMessageRow (m s number place k).messages (n t number place l).messages first.messages)) in
+    let more = all_same ms ns s t number (place + 1) _ _ h.1 scope (ap₂ (λ (a b : ℕ). a + b) before (length_all_zip SameMessageRow (m s number place k).messages (n t number place l).messages first.messages)) in
     record {
       messages = zip_append SameMessageRow _ _ _ _ first.messages more.messages;
       enums = zip_append SameEnumRow _ _ _ _ first.enums more.enums;
@@ -141,9 +139,9 @@ messages_same = ind-DescriptorProto Follows (λ x y is n e.
     let h = message_same x n e in
     let back : map (λ (m : Such). m.0) y.nested_type.items ≡ x.nested_type.items = ap (λ (z : DescriptorProto-F DescriptorProto). z.nested_type.items) is in
     let inner = subst (λ (ms : List DescriptorProto). AllZip SamePlaced (map message_at ms) (map message_at (out-DescriptorProto n).nested_type.items)) back
-        (nested_same y.nested_type.items (out-DescriptorProto n).nested_type.items (ap (λ (ms : List DescriptorProto). map of_message ms) back ∙ h.nested_type)) in
+    (nested_same y.nested_type.items (out-DescriptorProto n).nested_type.items (ap (λ (ms : List DescriptorProto). map of_message ms) back ∙ h.nested_type)) in
     subst (λ (p : Placed). SamePlaced p (message_at n)) (sym (fold-roll-DescriptorProto Placed message_step x))
-        (subst (λ (p : Placed). SamePlaced (layer x) p) (sym (fold_out-DescriptorProto Placed message_step n)) (layers_same x (out-DescriptorProto n) h inner)))
+    (subst (λ (p : Placed). SamePlaced (layer x) p) (sym (fold_out-DescriptorProto Placed message_step n)) (layers_same x (out-DescriptorProto n) h inner)))
 
 listed_same : (ms ns : List DescriptorProto) → map of_message ms ≡ map of_message ns → AllZip SamePlaced (map message_at ms) (map message_at ns)
 listed_same [] [] e = tt
@@ -182,7 +180,7 @@ files_same [] (g ∷ gs) file k l h before = absurd h
 files_same (f ∷ fs) [] file k l h before = absurd h
 files_same (f ∷ fs) (g ∷ gs) file k l h before =
     let first = file_rows_same f g file k l h.0 before in
-    let more = files_same fs gs (file + 1) _ _ h.1 (ap₂ (λ (a b : ℕ). a + b) before (zip_length SameMessageRow (file_at f file k).messages (file_at g file l).messages first.messages)) in
+    let more = files_same fs gs (file + 1) _ _ h.1 (ap₂ (λ (a b : ℕ). a + b) before (length_all_zip SameMessageRow (file_at f file k).messages (file_at g file l).messages first.messages)) in
     record {
       messages = zip_append SameMessageRow _ _ _ _ first.messages more.messages;
       enums = zip_append SameEnumRow _ _ _ _ first.enums more.enums;

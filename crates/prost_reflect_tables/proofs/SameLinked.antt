@@ -1,6 +1,5 @@
 -- Rows that hold the same are linked to the same tables.
-use Rattle.std.proofs.Common.{◌≡◌, ℕ, ◌+◌, nat_le, nat_lt, Bool, true, false, not, ◌&&◌, ◌||◌, List, [], ◌∷◌, ◌++◌, map, length, Option, Some, None, String, Vec, unwrap_or, is_some, refl, sym, ap, ap₂, ◌∙◌}
-use Rattle.std.specs.Prelude.{filter}
+use Rattle.std.proofs.Common.{◌≡◌, ℕ, ◌+◌, Bool, true, false, List, [], ◌∷◌, ◌++◌, map, Option, None, String, Vec, refl, ap, ap₂, ◌∙◌}
 use Rattle.std.specs.List.{AllZip}
 use Rattle.std.specs.declared.alloc.Global.{Global}
 use Rattle.prost_reflect_wire.specs.declared.records.FieldDescriptorProto.{FieldDescriptorProto}
@@ -8,24 +7,24 @@ use Rattle.prost_reflect_wire.specs.declared.records.OneofDescriptorProto.{Oneof
 use Rattle.prost_reflect_wire.specs.declared.records.EnumValueDescriptorProto.{EnumValueDescriptorProto}
 use Rattle.prost_reflect_wire.proofs.EqualContents.{SameText, SameBytes, SameField, SameOneof, SameEnumValue}
 use Rattle.prost_reflect_tables.specs.declared.tables.TableKind.{TableKind}
-use Rattle.prost_reflect_tables.specs.Names.{text_or_empty, without_dot}
+use Rattle.prost_reflect_tables.specs.Names.{without_dot}
 use Rattle.prost_reflect_tables.specs.Options.{bool_option, bool_in}
 use Rattle.prost_reflect_tables.specs.WrittenDefaults.{field_default}
-use Rattle.prost_reflect_tables.specs.Rows.{FieldRow, OneofRow, MessageRow, EnumValueRow, EnumRow, TableRows}
+use Rattle.prost_reflect_tables.specs.Rows.{FieldRow, OneofRow, MessageRow}
 use Rattle.prost_reflect_tables.specs.Flat.{DefinitionRow, FlatMessageRow, FlatEnumRow, FlatRows}
 use Rattle.prost_reflect_tables.specs.Faults.{place_of, place_named, message_names, enum_names}
-use Rattle.prost_reflect_tables.specs.Linking.{Links, links_of, value_number, linked_value, place_or_first, linked_kind, linked_default, values_of_kind, linked_field, in_order, extended_place, is_place, belonging, declared_fields, fields_of_message, oneof_place, member_place, linked_oneof, oneofs_from, linked_message, messages_from, linked_enum, linked_rows}
-use Rattle.prost_reflect_tables.proofs.SameRows.{zip_map, zip_filter, by_text, by_bytes, text_same, SameRow, SameParts, SameMessageRow, SameEnumRow, SameRows}
+use Rattle.prost_reflect_tables.specs.Linking.{Links, links_of, value_number, linked_value, linked_kind, linked_default, values_of_kind, linked_field, in_order, extended_place, is_place, belonging, fields_of_message, oneof_place, member_place, linked_oneof, oneofs_from, linked_message, messages_from, linked_enum, linked_rows}
+use Rattle.prost_reflect_tables.proofs.SameRows.{zip_map, zip_filter, by_text, by_bytes, text_same, SameRow, SameMessageRow, SameEnumRow, SameRows}
 
 -- FIELDS
 
-place_same : (names : List (List ℕ)) (a b : Option (String Global)) → SameText a b → place_named names a ≡ place_named names b
+pub place_same : (names : List (List ℕ)) (a b : Option (String Global)) → SameText a b → place_named names a ≡ place_named names b
 place_same names = by_text (place_named names) (λ bytes. place_of names (without_dot bytes)) (λ s. refl)
 
-option_same : (number : ℕ) (a b : Option (Vec ℕ Global)) → SameBytes a b → bool_option number a ≡ bool_option number b
+pub option_same : (number : ℕ) (a b : Option (Vec ℕ Global)) → SameBytes a b → bool_option number a ≡ bool_option number b
 option_same number = by_bytes (bool_option number) (bool_in number None) (λ v. refl)
 
-default_same : (links : Links) (kind : TableKind) (a b : Option (String Global)) → SameText a b → linked_default links kind a ≡ linked_default links kind b
+pub default_same : (links : Links) (kind : TableKind) (a b : Option (String Global)) → SameText a b → linked_default links kind a ≡ linked_default links kind b
 default_same links kind = by_text (linked_default links kind) (field_default kind (values_of_kind links kind)) (λ s. refl)
 
 field_linked : (links : Links) (x : Bool) (d e : DefinitionRow FieldDescriptorProto) → SameRow SameField d e → linked_field links x d ≡ linked_field links x e
@@ -55,7 +54,7 @@ message_fields : (links : Links) (ds es : List (DefinitionRow FieldDescriptorPro
 message_fields links ds es T m n extensions same = ap₂ (λ (fs gs : List FieldRow). fs ++ gs)
     (fields_linked links false m.fields n.fields same.fields)
     (fields_linked links true (belonging (extended_place links) ds T) (belonging (extended_place links) es T)
-        (belonging_same (extended_place links) (λ d e r. place_same links.messages d.proto.extendee e.proto.extendee r.proto.extendee) ds es T extensions))
+    (belonging_same (extended_place links) (λ d e r. place_same links.messages d.proto.extendee e.proto.extendee r.proto.extendee) ds es T extensions))
 
 -- ONEOFS
 

@@ -1,13 +1,11 @@
 -- Rows that hold the same, wherever it lies in memory.
-use Rattle.std.proofs.Common.{◌≡◌, ℕ, suc, Bool, true, false, cond, ◌||◌, List, [], ◌∷◌, ◌++◌, map, length, Option, Some, None, option_map, String, string_bytes, Vec, unwrap_or, refl, sym, ap, ap₂, ◌∙◌}
+use Rattle.std.proofs.Common.{◌≡◌, ℕ, Bool, true, false, cond, ◌||◌, List, [], ◌∷◌, ◌++◌, map, Option, Some, None, String, string_bytes, Vec, refl, sym, ap, ap₂, ◌∙◌}
 use Rattle.std.specs.Prelude.{filter}
 use Rattle.std.specs.List.{AllZip, list_any}
 use Rattle.std.specs.declared.alloc.Global.{Global}
-use Rattle.prost_reflect_wire.specs.declared.records.ExtensionRange.{ExtensionRange}
-use Rattle.prost_reflect_wire.specs.declared.records.ReservedRange.{ReservedRange}
 use Rattle.prost_reflect_wire.proofs.EqualContents.{SameText, SameBytes, SameExtensionRange, SameReservedRange, SameField, SameOneof, SameEnumValue, SameEnum, SameMethod, SameService}
 use Rattle.prost_reflect_tables.specs.Names.{text_or_empty}
-use Rattle.prost_reflect_tables.specs.Flat.{ScopeRow, DefinitionRow, MessageParts, FlatMessageRow, FlatEnumRow, FlatServiceRow, FlatRows, Given}
+use Rattle.prost_reflect_tables.specs.Flat.{DefinitionRow, MessageParts, FlatMessageRow, FlatEnumRow, FlatServiceRow, FlatRows, Given}
 
 -- LISTS
 
@@ -22,12 +20,6 @@ zip_append R [] [] vs ws h k = k
 zip_append R [] (y ∷ ys) vs ws h k = absurd h
 zip_append R (x ∷ xs) [] vs ws h k = absurd h
 zip_append R (x ∷ xs) (y ∷ ys) vs ws h k = (h.0, zip_append R xs ys vs ws h.1 k)
-
-pub zip_length : {X : Type 0} (R : X → X → Type 0) (xs ys : List X) → AllZip R xs ys → length xs ≡ length ys
-zip_length R [] [] h = refl
-zip_length R [] (y ∷ ys) h = absurd h
-zip_length R (x ∷ xs) [] h = absurd h
-zip_length R (x ∷ xs) (y ∷ ys) h = ap suc (zip_length R xs ys h.1)
 
 pub zip_any : {X : Type 0} (R : X → X → Type 0) (p q : X → Bool) → ((x y : X) → R x y → p x ≡ q y) → (xs ys : List X) → AllZip R xs ys → list_any p xs ≡ list_any q ys
 zip_any R p q each [] [] h = refl

@@ -20,3 +20,5 @@ pub mod Options
 pub mod Linking
 pub mod Indexing
 pub mod LinkingExamples
+pub mod FileLaws
+pub mod FileExamples

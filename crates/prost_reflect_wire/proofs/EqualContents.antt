@@ -1,10 +1,11 @@
 -- Records of equal contents hold the same, field by field, wherever it lies in memory.
 use Rattle.std.proofs.Common.{◌≡◌, ℕ, Bool, ℤ, List, [], ◌∷◌, map, Option, Some, None, String, string_bytes, Vec, option_map, refl, sym, ap, ap₂, ◌∙◌}
+use mathlib.Core.List.{map-id}
 use Rattle.std.specs.Bool.{⊤}
 use Rattle.std.specs.List.{AllZip}
 use Rattle.std.specs.declared.alloc.Global.{Global}
-use Rattle.prost_reflect_wire.specs.Scalar.{Boolean, I32, Text, Bytes}
-use Rattle.prost_reflect_wire.specs.Content.{Content, Value, ScalarValue, ListValue, NoValues, Item, entries_of}
+use Rattle.prost_reflect_wire.specs.Scalar.{I32, Text}
+use Rattle.prost_reflect_wire.specs.Content.{Content, ScalarValue, entries_of}
 use Rattle.prost_reflect_wire.specs.DescriptorViews.{record_of, of_text, of_number, of_flag, of_bytes, of_texts, of_numbers, of_records, of_extension_range, of_reserved_range, of_field, of_oneof, of_enum_value, of_enum_reserved_range, of_enum, of_method, of_service, of_message, of_file}
 use Rattle.prost_reflect_wire.specs.declared.records.table.RecordType.TheVariants as types
 use Rattle.prost_reflect_wire.specs.declared.records.ExtensionRange.{ExtensionRange}
@@ -21,7 +22,7 @@ use Rattle.prost_reflect_wire.specs.declared.records.DescriptorProto.TheOpen.{De
 use Rattle.prost_reflect_wire.specs.declared.records.FileDescriptorProto.{FileDescriptorProto}
 use Rattle.prost_reflect_wire.specs.declared.records.DescriptorProto.TheViews.{out-DescriptorProto, roll-DescriptorProto}
 use Rattle.prost_reflect_wire.proofs.MessageViews.{of_message_roll}
-use Rattle.prost_reflect_wire.proofs.RecordSlots.{Slots, extension_range_slots, reserved_range_slots, field_slots, oneof_slots, enum_reserved_range_slots, enum_value_slots, enum_slots, method_slots, service_slots, message_slots, file_slots, message_out}
+use Rattle.prost_reflect_wire.proofs.RecordSlots.{Slots, extension_range_slots, reserved_range_slots, field_slots, oneof_slots, enum_reserved_range_slots, enum_value_slots, enum_slots, method_slots, service_slots, file_slots, message_out}
 use Rattle.prost_reflect_wire.proofs.SameFields.{listed_same, records_same}
 use Rattle.prost_reflect_wire.proofs.SameRecords.{each_same}
 
@@ -64,34 +65,26 @@ bytes_same None (Some t) e = cc
 bytes_same (Some s) None e = cc
 bytes_same (Some s) (Some t) e = let h : s.items ≡ t.items = cc in ap Some h
 
-text_values : (xs ys : List (String Global)) → map (λ t. ScalarValue (Text (string_bytes t))) xs ≡ map (λ t. ScalarValue (Text (string_bytes t))) ys → map string_bytes xs ≡ map string_bytes ys
-text_values [] [] e = refl
-text_values [] (y ∷ ys) e = cc
-text_values (x ∷ xs) [] e = cc
-text_values (x ∷ xs) (y ∷ ys) e =
-    let h : string_bytes x ≡ string_bytes y = cc in
-    let t : map (λ t. ScalarValue (Text (string_bytes t))) xs ≡ map (λ t. ScalarValue (Text (string_bytes t))) ys = cc in
-    ap₂ (λ (b : List ℕ) (bs : List (List ℕ)). b ∷ bs) h (text_values xs ys t)
-
-number_values : (xs ys : List ℤ) → map (λ z. ScalarValue (I32 z)) xs ≡ map (λ z. ScalarValue (I32 z)) ys → xs ≡ ys
-number_values [] [] e = refl
-number_values [] (y ∷ ys) e = cc
-number_values (x ∷ xs) [] e = cc
-number_values (x ∷ xs) (y ∷ ys) e =
-    let h : x ≡ y = cc in
-    let t : map (λ z. ScalarValue (I32 z)) xs ≡ map (λ z. ScalarValue (I32 z)) ys = cc in
-    ap₂ (λ (z : ℤ) (zs : List ℤ). z ∷ zs) h (number_values xs ys t)
+-- A reading of elements that another one decides.
+read_alike : {A B C : Type 0} (f : A → B) (g : A → C) → ((x y : A) → f x ≡ f y → g x ≡ g y) → (xs ys : List A) → map f xs ≡ map f ys → map g xs ≡ map g ys
+read_alike f g each [] [] e = refl
+read_alike f g each [] (y ∷ ys) e = cc
+read_alike f g each (x ∷ xs) [] e = cc
+read_alike {A} {B} {C} f g each (x ∷ xs) (y ∷ ys) e =
+    let h : f x ≡ f y = cc in
+    let t : map f xs ≡ map f ys = cc in
+    ap₂ (λ (c : C) (cs : List C). c ∷ cs) (each x y h) (read_alike f g each xs ys t)
 
 texts_same : (a b : Vec (String Global) Global) → of_texts a ≡ of_texts b → SameTexts a b
 unfolding of_texts
-texts_same a b e = text_values a.items b.items (listed_same _ _ e)
+texts_same a b e = read_alike (λ t. ScalarValue (Text (string_bytes t))) string_bytes (λ s t e. cc) a.items b.items (listed_same _ _ e)
 
 numbers_same : (a b : Vec ℤ Global) → of_numbers a ≡ of_numbers b → a.items ≡ b.items
 unfolding of_numbers
-numbers_same a b e = number_values a.items b.items (listed_same _ _ e)
+numbers_same a b e = sym (map-id a.items) ∙ (read_alike (λ z. ScalarValue (I32 z)) (λ z. z) (λ y z e. cc) a.items b.items (listed_same _ _ e) ∙ map-id b.items)
 
--- Elements of equal contents, one by one.
-pub zip_same : {E : Type 0} (view : E → Content) (Same : E → E → Type 0) → ((x y : E) → view x ≡ view y → Same x y) → (xs ys : List E) → map view xs ≡ map view ys → AllZip Same xs ys
+-- What looks equal is the same, one by one.
+pub zip_same : {E C : Type 0} (view : E → C) (Same : E → E → Type 0) → ((x y : E) → view x ≡ view y → Same x y) → (xs ys : List E) → map view xs ≡ map view ys → AllZip Same xs ys
 zip_same view Same each [] [] e = tt
 zip_same view Same each [] (y ∷ ys) e = cc
 zip_same view Same each (x ∷ xs) [] e = cc
