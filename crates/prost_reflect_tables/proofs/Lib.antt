@@ -18,3 +18,10 @@ mod WorkedLinking
 mod Linkwell
 mod WorkedChecks
 mod LinksWell
+pub mod SameRows
+mod SameFlat
+mod SameLinked
+mod SameChecks
+mod SameOptions
+pub mod EqualFiles
+mod WorkedFiles

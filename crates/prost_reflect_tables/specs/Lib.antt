@@ -22,3 +22,5 @@ pub mod Linking
 pub mod InRange
 pub mod Indexing
 pub mod LinkingExamples
+pub mod FileLaws
+pub mod FileExamples

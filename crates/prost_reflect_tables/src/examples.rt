@@ -3,6 +3,7 @@
 ghost use Rattle.prost_reflect_tables.specs.Examples.{Tables, NotLinked};
 ghost use Rattle.prost_reflect_tables.specs.DefaultExamples.{Integers, NoIntegers, Floats, NoFloats, Others, NoOthers, Escapes, NoEscapes};
 ghost use Rattle.prost_reflect_tables.specs.CheckExamples.{CheckedOptions, KeysAndValues};
+ghost use Rattle.prost_reflect_tables.specs.FileExamples.{ContentsAndTables};
 ghost use Rattle.prost_reflect_tables.specs.LinkingExamples.{OptionBytes, KindsAndLabels, PackedAndPresent, Orders};
 
 /// The schema that tables give, for a field of each form.
@@ -43,4 +44,9 @@ pub fn linking()
 pub fn checking()
     ensures options { CheckedOptions }
     ensures entries { KeysAndValues }
+{}
+
+/// Files of equal contents that are not one value, and files of unequal contents that give one table.
+pub fn contents_and_tables()
+    ensures { ContentsAndTables }
 {}

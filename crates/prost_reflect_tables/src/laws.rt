@@ -1,12 +1,29 @@
 //! What is proved of the tables: each function has no body, and its contract is a law.
 
-ghost use Rattle.std.specs.Prelude.{◌≡◌, ◌↔◌, IsTrue};
+ghost use Rattle.std.specs.Prelude.{◌≡◌, ◌↔◌, IsTrue, List};
+ghost use Rattle.std.specs.Cmp.Lexicographic.{pointwise};
+ghost use Rattle.prost_reflect_wire.specs.declared.records.FileDescriptorProto.{FileDescriptorProto};
+ghost use Rattle.prost_reflect_tables.specs.FileLaws.{SameContents, EqualTables, EqualChecks, EqualRefusals};
 ghost use Rattle.prost_reflect_tables.specs.Schema.{rows_of};
 ghost use Rattle.prost_reflect_tables.specs.declared.tables.Tables.{Tables};
 
 use crate::tables::Tables;
+use prost_reflect_wire::records::FileDescriptorProto;
 
 /// Tables are equal by `==` exactly where their rows are.
 pub fn tables_equality()
     ensures { (a : Tables) (b : Tables) → IsTrue (⟦<Tables as PartialEq>⟧.eq a b) ↔ (rows_of a ≡ rows_of b) }
+{}
+
+/// Lists of files are equal by `==` exactly where as many files stand in both, and their contents are equal one by one.
+pub fn files_equality()
+    ensures { (a : List FileDescriptorProto) (b : List FileDescriptorProto) → IsTrue (pointwise (⟦<FileDescriptorProto as PartialEq>⟧.eq) a b) ↔ SameContents a b }
+{}
+
+/// Files whose contents are equal, one by one, give equal tables, pass the same checks, and are refused for the same reasons,
+/// wherever their records lie in memory.
+pub fn equal_files()
+    ensures tables { EqualTables }
+    ensures checks { EqualChecks }
+    ensures refusals { EqualRefusals }
 {}

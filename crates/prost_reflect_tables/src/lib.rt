@@ -24,11 +24,11 @@ pub use all_checks::check;
 pub use defaults::written_default;
 pub use error::PoolError;
 pub use examples::{
-    checking, defaults_read, defaults_refused, linking, shown_tables, tables_not_linked,
+    checking, contents_and_tables, defaults_read, defaults_refused, linking, shown_tables, tables_not_linked,
 };
 pub use flatten::{Definition, Flat, FlatEnum, FlatMessage, FlatService, flattened};
 pub use index::Index;
-pub use laws::tables_equality;
+pub use laws::{equal_files, files_equality, tables_equality};
 pub use link::linked;
 pub use tables::{
     Cardinality, EnumTable, EnumValueTable, FieldTable, MessageTable, OneofTable, TableKind,

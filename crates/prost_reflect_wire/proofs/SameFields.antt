@@ -40,7 +40,7 @@ values_same [] (w ∷ ws) e = cc
 values_same (v ∷ vs) [] e = cc
 values_same (v ∷ vs) (w ∷ ws) e = let h : v ≡ w = cc in let t : values_from vs ≡ values_from ws = cc in ap₂ (λ (v : Value) (vs : List Value). v ∷ vs) h (values_same vs ws t)
 
-listed_same : (vs ws : List Value) → present_list (values_from vs) ≡ present_list (values_from ws) → vs ≡ ws
+pub listed_same : (vs ws : List Value) → present_list (values_from vs) ≡ present_list (values_from ws) → vs ≡ ws
 listed_same [] [] e = refl
 listed_same [] (w ∷ ws) e = cc
 listed_same (v ∷ vs) [] e = cc

@@ -11,7 +11,7 @@ use Rattle.prost_reflect_wire.proofs.Deeper.{and_both}
 use Rattle.prost_reflect_wire.proofs.RecordSlots.{Slots}
 
 -- field by field, behind what is known of those before
-abbrev SameTo : Slots → Slots → Type 0 → Type 0
+abbrev pub SameTo : Slots → Slots → Type 0 → Type 0
 SameTo [] [] P = P
 SameTo [] (y ∷ ys) P = ⊥
 SameTo (x ∷ xs) [] P = ⊥
@@ -27,11 +27,11 @@ pub decided_along : {b : Bool} {c d x y : Content} → c ≡ x → d ≡ y → I
 decided_along cx dy h = (λ yes. cx ∙ h.0 yes ∙ sym dy, λ e. h.1 (sym cx ∙ e ∙ dy))
 
 -- the same numbers, each once
-abbrev absent : ℕ → Slots → Bool
+abbrev pub absent : ℕ → Slots → Bool
 absent n [] = true
 absent n (x ∷ xs) = not (nat_eq x.0 n) && absent n xs
 
-abbrev aligned : Slots → Slots → Bool
+abbrev pub aligned : Slots → Slots → Bool
 aligned [] [] = true
 aligned [] (y ∷ ys) = false
 aligned (x ∷ xs) [] = false
@@ -54,7 +54,7 @@ behind_same : (n : ℕ) (o : Option Value) (es ds : Entries) → then_value n o 
 behind_same n None es ds e = e
 behind_same n (Some v) es ds e = cc
 
-each_same : (xs ys : Slots) (P : Type 0) → aligned xs ys ≡ true → entries_from xs ≡ entries_from ys → P → SameTo xs ys P
+pub each_same : (xs ys : Slots) (P : Type 0) → aligned xs ys ≡ true → entries_from xs ≡ entries_from ys → P → SameTo xs ys P
 each_same [] [] P al e p = p
 each_same [] (y ∷ ys) P al e p = cc
 each_same (x ∷ xs) [] P al e p = cc
