@@ -23,5 +23,6 @@ not_linked = record {
   lone_entry = refl;
   entry_without_value = refl;
   list_with_presence = refl;
+  list_with_default = refl;
   packed_texts = refl;
 }

@@ -1,6 +1,6 @@
 -- Tables with a field of each form, the schema that they give, and tables that are not linked.
 use Rattle.std.specs.Prelude.{◌≡◌, ℕ, ◌^◌, true, false, pos, List, [], ◌∷◌, Some, None, codes}
-use Rattle.prost_reflect_wire.specs.Scalar.{Text, Enum as EnumKind, Open, Closed}
+use Rattle.prost_reflect_wire.specs.Scalar.{I32, Text, Enum as EnumKind, Open, Closed}
 use Rattle.prost_reflect_wire.specs.Schema.{MessageOf, GroupOf, ValueType, Singular, Repeated as ListOf, MapFrom, Schema}
 use Rattle.prost_reflect_wire.specs.Examples.Schemas.{scalar_value_type, message_value_type, field, list, extension, member, message, int32, text, required_int32}
 use Rattle.prost_reflect_tables.specs.declared.tables.Cardinality.TheVariants.{Optional, Required, Repeated}
@@ -103,6 +103,7 @@ pub record NotLinked : Type 0 where
   -- An entry stands in repeated fields alone, and has a key and a value.
   pub lone_entry : is_linked (rows (type_of_fields (present 1 (Message 1) ∷ []) ∷ entry ∷ [])) ≡ false
   pub entry_without_value : is_linked (rows (record (type_of_fields (single 1 String ∷ [])) { is_map_entry = true } ∷ [])) ≡ false
-  -- Lists have no presence, and texts are never packed.
+  -- Lists have no presence and no default of their own, and texts are never packed.
   pub list_with_presence : is_linked (rows (type_of_fields (record (repeated 1 Int32) { supports_presence = true } ∷ []) ∷ [])) ≡ false
+  pub list_with_default : is_linked (rows (type_of_fields (record (repeated 1 Int32) { default = Some (I32 (pos 5)) } ∷ []) ∷ [])) ≡ false
   pub packed_texts : is_linked (rows (type_of_fields (record (repeated 1 String) { is_packed = true } ∷ []) ∷ [])) ≡ false

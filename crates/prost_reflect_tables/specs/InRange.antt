@@ -1,12 +1,11 @@
--- What the types of the code say of definitions in flat lists, and what no check has to: the numbers of enum values are i32s.
-use Rattle.std.specs.Prelude.{◌≡◌, true, Bool}
+-- What the code's types say of linked rows, and no check has to: the numbers of enum values are i32s.
+use Rattle.std.specs.Prelude.{Bool}
 use Rattle.std.specs.List.{list_all}
 use Rattle.prost_reflect_wire.specs.Scalar.{in_i32}
-use Rattle.prost_reflect_tables.specs.Flat.{FlatEnumRow, FlatRows}
-use Rattle.prost_reflect_tables.specs.Linking.{value_number}
+use Rattle.prost_reflect_tables.specs.Rows.{EnumRow, TableRows}
 
-abbrev pub enum_in_range : FlatEnumRow → Bool
-enum_in_range e = list_all (λ v. in_i32 (value_number v)) e.values
+abbrev pub enum_in_range : EnumRow → Bool
+enum_in_range e = list_all in_i32 e.numbers
 
-abbrev pub in_range : FlatRows → Bool
+abbrev pub in_range : TableRows → Bool
 in_range rows = list_all enum_in_range rows.enums

@@ -2,6 +2,7 @@
 #![tactic(auto)]
 
 mod all_checks;
+mod builder;
 mod checks;
 mod defaults;
 mod entries;
@@ -21,6 +22,7 @@ mod tables;
 mod tests;
 
 pub use all_checks::check;
+pub use builder::build;
 pub use defaults::written_default;
 pub use error::PoolError;
 pub use examples::{

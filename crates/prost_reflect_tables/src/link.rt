@@ -1,13 +1,16 @@
 //! Linking: the tables that files in flat lists give.
 
 ghost use Rattle.std.specs.Prelude.{◌≡◌, ◌<◌, ◌++◌, length, IfOk, OnOk, map, option_map, string_bytes, true, false};
+ghost use Rattle.std.specs.List.{list_all};
 ghost use Rattle.std.specs.List.Sorted.{IsNonDecreasingBy};
+ghost use Rattle.prost_reflect_wire.specs.Scalar.{in_i32};
 ghost use Rattle.prost_reflect_tables.specs.Names.{text_or_empty};
 ghost use Rattle.prost_reflect_tables.specs.Rows.{field_row, oneof_row, enum_value_row, message_row, enum_row, written_scalar, rows_from};
 ghost use Rattle.prost_reflect_tables.specs.declared.tables.FieldTable.{FieldTable};
 ghost use Rattle.prost_reflect_tables.specs.FlatViews.{definition_row, flat_rows};
 ghost use Rattle.prost_reflect_tables.specs.FlatViews as flat_views;
 ghost use Rattle.prost_reflect_tables.specs.Linking.{links_of, natural_or_zero, place_in, kind_of_code, linked_kind, is_message, is_packable, cardinality_of_label, linked_packed, linked_presence, values_of_kind, linked_default, linked_field, in_order, fields_of_message, declared_fields, extended_place, oneof_place, member_place, oneofs_from, linked_message, messages_from, value_number, linked_value, linked_enum, linked_rows};
+ghost use Rattle.prost_reflect_tables.specs.InRange.{enum_in_range, in_range};
 ghost use Rattle.prost_reflect_tables.specs.Indexed.{IsIndex};
 ghost use Rattle.prost_reflect_tables.specs.Indexing.{empty_lists, with_item, grouped, list_rows, messages_with};
 
@@ -399,18 +402,21 @@ fn value_numbers(
     alloc: Global,
     values: &[Definition<EnumValueDescriptorProto>],
 ) -> Result<Vec<i32>, AllocError>
-    ensures { IfOk result (λ v. v.items ≡ map value_number (map definition_row values.now)) }
+    ensures numbers { IfOk result (λ v. v.items ≡ map value_number (map definition_row values.now)) }
+    ensures range { IfOk result (λ v. list_all in_i32 v.items ≡ true) }
 {
     let mut numbers = Vec::new(alloc);
     for value in values {
-        numbers.push(value.proto.number.unwrap_or(0))?;
+        let number = value.proto.number.unwrap_or(0);
+        numbers.push(number)?;
     }
     Ok(numbers)
 }
 
 /// The enums.
 fn linked_enums(alloc: Global, enums: &[FlatEnum]) -> Result<Vec<EnumTable>, AllocError>
-    ensures { IfOk result (λ v. map enum_row v.items ≡ map linked_enum (map flat_views.enum_row enums.now)) }
+    ensures rows { IfOk result (λ v. map enum_row v.items ≡ map linked_enum (map flat_views.enum_row enums.now)) }
+    ensures range { IfOk result (λ v. list_all enum_in_range (map enum_row v.items) ≡ true) }
 {
     let mut tables = Vec::new(alloc);
     for item in enums {
@@ -437,7 +443,8 @@ pub fn linked(
     index: &Index,
 ) -> Result<(Vec<MessageTable>, Vec<EnumTable>), AllocError>
     requires { IsIndex index.now (flat_rows flat.now) }
-    ensures { IfOk result (λ x. rows_from x.0.items x.1.items ≡ linked_rows (flat_rows flat.now)) }
+    ensures rows { IfOk result (λ x. rows_from x.0.items x.1.items ≡ linked_rows (flat_rows flat.now)) }
+    ensures range { IfOk result (λ x. in_range (rows_from x.0.items x.1.items) ≡ true) }
 {
     let mut lists = declared_by_message(alloc, index, flat, flat.messages.as_slice())?;
     add_extensions(alloc, index, flat, &mut lists, flat.extensions.as_slice())?;

@@ -1,14 +1,16 @@
 -- What the checks say of each message, enum, field and extension.
-use Rattle.std.proofs.Common.{◌≡◌, ℕ, Bool, true, false, ◌||◌, List, Some, refl, slice_get}
+use Rattle.std.proofs.Common.{◌≡◌, ℕ, Bool, true, false, ◌||◌, List, map, Some, refl, sym, ◌∙◌, slice_get}
 use Rattle.std.specs.List.{list_any, list_all}
 use Rattle.std.proofs.lemmas.Bool.{or_parts}
+use Rattle.std.proofs.lemmas.List.Folds.{list_all-map}
+use Rattle.prost_reflect_wire.specs.Scalar.{in_i32}
 use Rattle.prost_reflect_wire.specs.declared.records.FileDescriptorProto.{FileDescriptorProto}
 use Rattle.prost_reflect_wire.specs.declared.records.FieldDescriptorProto.{FieldDescriptorProto}
 use Rattle.prost_reflect_tables.specs.Flat.{DefinitionRow, FlatMessageRow, FlatEnumRow, FlatServiceRow, FlatRows}
 use Rattle.prost_reflect_tables.specs.Faults.{any_field, number_bad, type_missing, type_unknown, extendee_missing, extendee_unknown, method_type_missing, method_type_unknown, label_bad, repeated_member, is_member, has_oneof_outside, import_outside, enum_empty, extension_outside}
 use Rattle.prost_reflect_tables.specs.EntryFaults.{bad_map_entry, entry_bad, wrongly_of_entry, is_of_entry, method_of_entry}
 use Rattle.prost_reflect_tables.specs.DefaultFaults.{bad_default, default_bad, default_misplaced, default_unread, is_float_type}
-use Rattle.prost_reflect_tables.specs.Linking.{Links, links_of}
+use Rattle.prost_reflect_tables.specs.Linking.{Links, links_of, value_number, linked_enum, linked_rows}
 use Rattle.prost_reflect_tables.specs.Checked.{Checked}
 use Rattle.prost_reflect_tables.specs.InRange.{enum_in_range, in_range}
 use Rattle.prost_reflect_tables.proofs.Keeping.{passes_at}
@@ -18,7 +20,7 @@ use Rattle.prost_reflect_tables.proofs.Linkwell.Items.{none_at}
 pub record Sound (files : List FileDescriptorProto) (rows : FlatRows) : Type 0 where
   pub checked : Checked files rows
   pub defaults : bad_default rows ≡ false
-  pub range : in_range rows ≡ true
+  pub range : in_range (linked_rows rows) ≡ true
 
 pub record FieldChecked (rows : FlatRows) (d : DefinitionRow FieldDescriptorProto) : Type 0 where
   pub number : number_bad d ≡ false
@@ -42,7 +44,7 @@ pub record MessageChecked (m : FlatMessageRow) : Type 0 where
 
 pub record EnumChecked (e : FlatEnumRow) : Type 0 where
   pub some : enum_empty e ≡ false
-  pub range : enum_in_range e ≡ true
+  pub range : list_all (λ v. in_i32 (value_number v)) e.values ≡ true
 
 -- A test of all fields, at a field of a message and at an extension.
 field_at : (t : DefinitionRow FieldDescriptorProto → Bool) (rows : FlatRows) (T i : ℕ) (m : FlatMessageRow) (d : DefinitionRow FieldDescriptorProto) → any_field t rows ≡ false → slice_get rows.messages T ≡ Some m → slice_get m.fields i ≡ Some d → t d ≡ false
@@ -83,7 +85,7 @@ message_checked {files} rows T m s at = record {
 pub enum_checked : {files : List FileDescriptorProto} (rows : FlatRows) (E : ℕ) (e : FlatEnumRow) → Sound files rows → slice_get rows.enums E ≡ Some e → EnumChecked e
 enum_checked rows E e s at = record {
   some = none_at enum_empty rows.enums E e s.checked.own.enums at;
-  range = passes_at enum_in_range rows.enums E e s.range at;
+  range = sym (list_all-map in_i32 value_number e.values) ∙ passes_at (λ (x : FlatEnumRow). list_all in_i32 (map value_number x.values)) rows.enums E e (sym (list_all-map enum_in_range linked_enum rows.enums) ∙ s.range) at;
 }
 
 pub field_checked : {files : List FileDescriptorProto} (rows : FlatRows) (T i : ℕ) (m : FlatMessageRow) (d : DefinitionRow FieldDescriptorProto) → Sound files rows → slice_get rows.messages T ≡ Some m → slice_get m.fields i ≡ Some d → FieldChecked rows d

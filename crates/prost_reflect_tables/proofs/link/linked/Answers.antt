@@ -15,8 +15,8 @@ linked_messages-requires c =
     lists_length (links_of (flat_rows c.args.flat.now)) (map definition_row c.as_slice-2.result.now) c.as_slice.result.now c.in_ok-lists.lists.items c.add_extensions.new.lists.items c.in_ok-lists.ensures c.in_ok-add_extensions.ensures
     ∙ ap (λ (ms : List FlatMessage). length ms) (c.as_slice.ensures.value ∙ sym c.as_slice-3.ensures.value)
 
-pub returns : goal.returns
-returns c =
+pub returns-clause-rows : goal.returns-clause-rows
+returns-clause-rows c =
     let rows = flat_rows c.args.flat.now in
     let links = links_of rows in
     let old = c.in_ok-lists.lists.items in
@@ -28,4 +28,4 @@ returns c =
     let messages = c.in_ok-messages.ensures ∙ ap (λ (ms : List FlatMessage). messages_with (list_rows new) (map message_row ms)) c.as_slice-3.ensures.value in
     rows_linked c.in_ok-messages.messages.items c.in_ok-linked_enums.field-0.items rows
     (messages_linked links rows.extensions rows.messages old new c.in_ok-messages.messages.items declared extended messages)
-    (c.in_ok-linked_enums.ensures ∙ ap (λ (es : List FlatEnum). map linked_enum (map enum_row es)) c.as_slice-4.ensures.value)
+    (c.in_ok-linked_enums.ensures.rows ∙ ap (λ (es : List FlatEnum). map linked_enum (map enum_row es)) c.as_slice-4.ensures.value)
