@@ -15,3 +15,4 @@ mod Sorting
 mod Grouping
 mod NamePlaces
 mod WorkedLinking
+mod EnumNumbers

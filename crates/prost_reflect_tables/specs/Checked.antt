@@ -2,9 +2,10 @@
 use Rattle.std.specs.Prelude.{◌≡◌, true, false, List}
 use Rattle.prost_reflect_wire.specs.declared.records.FileDescriptorProto.{FileDescriptorProto}
 use Rattle.prost_reflect_tables.specs.declared.error.PoolError.{PoolError}
-use Rattle.prost_reflect_tables.specs.declared.error.PoolError.TheVariants.{MissingName, UnknownSyntax, MissingDependency, BadIndex, BadNumber, BadRange, MissingType, BadLabel, BadOneof, EmptyEnum, DuplicateName, UnknownType, DuplicateNumber, OutsideRange}
+use Rattle.prost_reflect_tables.specs.declared.error.PoolError.TheVariants.{MissingName, UnknownSyntax, MissingDependency, BadIndex, BadNumber, BadRange, MissingType, BadLabel, BadOneof, EmptyEnum, DuplicateName, UnknownType, DuplicateNumber, OutsideRange, BadDefault, FloatDefault}
 use Rattle.prost_reflect_tables.specs.Flat.{FlatRows}
 use Rattle.prost_reflect_tables.specs.Faults.{missing_name, unknown_syntax, bad_index, bad_number, bad_range, missing_type, bad_label, bad_oneof, empty_enum, missing_dependency, duplicate_name, unknown_type, duplicate_number, outside_range}
+use Rattle.prost_reflect_tables.specs.DefaultFaults.{bad_default, float_default}
 
 -- Of definitions that name no other one.
 pub record OwnChecks (files : List FileDescriptorProto) (rows : FlatRows) : Type 0 where
@@ -25,6 +26,8 @@ pub record Checked (files : List FileDescriptorProto) (rows : FlatRows) : Type 0
   pub names_found : unknown_type rows ≡ false
   pub numbers_differ : duplicate_number rows ≡ false
   pub in_ranges : outside_range rows ≡ false
+  pub defaults : bad_default rows ≡ false
+  pub float_defaults : float_default rows ≡ false
 
 -- Why files are refused: the test of that name is true. The refusals that have no test here are not answered.
 abbrev pub Stands : PoolError → List FileDescriptorProto → FlatRows → Type 0
@@ -42,4 +45,6 @@ Stands DuplicateName files rows = duplicate_name rows ≡ true
 Stands UnknownType files rows = unknown_type rows ≡ true
 Stands DuplicateNumber files rows = duplicate_number rows ≡ true
 Stands OutsideRange files rows = outside_range rows ≡ true
+Stands BadDefault files rows = bad_default rows ≡ true
+Stands FloatDefault files rows = float_default rows ≡ true
 Stands e files rows = ⊥

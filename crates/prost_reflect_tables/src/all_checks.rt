@@ -10,6 +10,7 @@ use crate::checks::{
     has_bad_index, has_bad_label, has_bad_number, has_bad_oneof, has_bad_range, has_empty_enum,
     has_missing_name, has_missing_type, has_unknown_syntax,
 };
+use crate::default_checks::{has_bad_default, has_float_default};
 use crate::error::PoolError;
 use crate::flatten::Flat;
 use crate::index::{Index, has_duplicate_name, indexed};
@@ -79,6 +80,12 @@ pub fn check(alloc: Global, files: &[&FileDescriptorProto], flat: &Flat) -> Resu
     }
     if has_outside_range(&index, flat) {
         return Err(PoolError::OutsideRange);
+    }
+    if has_bad_default(alloc, &index, flat)? {
+        return Err(PoolError::BadDefault);
+    }
+    if has_float_default(alloc, &index, flat)? {
+        return Err(PoolError::FloatDefault);
     }
     Ok(index)
 }

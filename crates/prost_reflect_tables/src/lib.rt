@@ -3,6 +3,7 @@
 
 mod all_checks;
 mod checks;
+mod default_checks;
 mod defaults;
 mod error;
 mod examples;
@@ -20,7 +21,6 @@ mod tables;
 mod tests;
 
 pub use all_checks::check;
-pub use defaults::written_default;
 pub use error::PoolError;
 pub use examples::{defaults_read, defaults_refused, linking, shown_tables, tables_not_linked};
 pub use flatten::{Definition, Flat, FlatEnum, FlatMessage, FlatService, flattened};
@@ -28,6 +28,5 @@ pub use index::Index;
 pub use laws::tables_equality;
 pub use link::linked;
 pub use tables::{
-    Cardinality, EnumTable, EnumValueTable, FieldTable, MessageTable, OneofTable, TableKind,
-    Tables, WrittenDefault,
+    Cardinality, EnumTable, FieldTable, MessageTable, OneofTable, TableKind, Tables, WrittenDefault,
 };
