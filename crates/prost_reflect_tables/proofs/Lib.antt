@@ -18,3 +18,4 @@ mod WorkedLinking
 mod Linkwell
 mod WorkedChecks
 mod LinksWell
+mod EnumNumbers
