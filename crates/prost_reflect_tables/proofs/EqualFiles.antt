@@ -9,7 +9,7 @@ use Rattle.prost_reflect_wire.specs.declared.records.FileDescriptorProto.{FileDe
 use Rattle.prost_reflect_wire.specs.DescriptorViews.{of_file}
 use Rattle.prost_reflect_wire.proofs.EqualContents.{SameFile, file_same, zip_same}
 use Rattle.prost_reflect_tables.specs.declared.error.PoolError.{PoolError}
-use Rattle.prost_reflect_tables.specs.declared.error.PoolError.TheVariants.{BadMapEntry, BadOptions, MissingName, UnknownSyntax, MissingDependency, BadIndex, BadNumber, BadRange, MissingType, BadLabel, BadOneof, EmptyEnum, DuplicateName, UnknownType, DuplicateNumber, OutsideRange}
+use Rattle.prost_reflect_tables.specs.declared.error.PoolError.TheVariants.{BadMapEntry, BadOptions, BadDefault, FloatDefault, MissingName, UnknownSyntax, MissingDependency, BadIndex, BadNumber, BadRange, MissingType, BadLabel, BadOneof, EmptyEnum, DuplicateName, UnknownType, DuplicateNumber, OutsideRange}
 use Rattle.prost_reflect_tables.specs.Flat.{FlatRows, flattened}
 use Rattle.prost_reflect_tables.specs.Checked.{OwnChecks, Checked, Stands}
 use Rattle.prost_reflect_tables.specs.FileLaws.{SameContents, EqualTables, EqualChecks, EqualRefusals}
@@ -17,7 +17,7 @@ use Rattle.prost_reflect_tables.proofs.SameRows.{SameRows}
 use Rattle.prost_reflect_tables.proofs.SameFlat.{flattened_same}
 use Rattle.prost_reflect_tables.proofs.SameLinked.{rows_linked}
 use Rattle.prost_reflect_tables.proofs.SameChecks.{missing_name_same, unknown_syntax_same, bad_index_same, bad_number_same, bad_range_same, missing_type_same, bad_label_same, bad_oneof_same, empty_enum_same, duplicate_name_same, missing_dependency_same, unknown_type_same, outside_range_same, duplicate_number_same}
-use Rattle.prost_reflect_tables.proofs.SameOptions.{bad_map_entry_same, bad_options_same}
+use Rattle.prost_reflect_tables.proofs.SameOptions.{bad_map_entry_same, bad_options_same, bad_default_same, float_default_same}
 
 files_same : (a b : List FileDescriptorProto) → SameContents a b → AllZip SameFile a b
 files_same = zip_same of_file SameFile file_same
@@ -53,6 +53,8 @@ all_checks fs gs a b files h c = record {
   in_ranges = sym (outside_range_same a b h) ∙ c.in_ranges;
   options = sym (bad_options_same a b h) ∙ c.options;
   entries = sym (bad_map_entry_same a b h) ∙ c.entries;
+  defaults = sym (bad_default_same a b h) ∙ c.defaults;
+  float_defaults = sym (float_default_same a b h) ∙ c.float_defaults;
 }
 
 checked_along : (a b : List FileDescriptorProto) → SameContents a b → Checked a (flattened a) → Checked b (flattened b)
@@ -80,6 +82,8 @@ stands_same DuplicateNumber fs gs a b files h s = sym (duplicate_number_same a b
 stands_same OutsideRange fs gs a b files h s = sym (outside_range_same a b h) ∙ s
 stands_same BadMapEntry fs gs a b files h s = sym (bad_map_entry_same a b h) ∙ s
 stands_same BadOptions fs gs a b files h s = sym (bad_options_same a b h) ∙ s
+stands_same BadDefault fs gs a b files h s = sym (bad_default_same a b h) ∙ s
+stands_same FloatDefault fs gs a b files h s = sym (float_default_same a b h) ∙ s
 stands_same e fs gs a b files h s = s
 
 stands_along : (e : PoolError) (a b : List FileDescriptorProto) → SameContents a b → Stands e a (flattened a) → Stands e b (flattened b)

@@ -25,3 +25,4 @@ mod SameChecks
 mod SameOptions
 pub mod EqualFiles
 mod WorkedFiles
+mod EnumNumbers

@@ -34,7 +34,7 @@ seen_more added name {old} {new} q same kept = rw (same, kept) (grind (arith, by
 -- THE FIRST PLACE
 
 -- The first answer, or else the second.
-abbrev pub or_else : Option ℕ → Option ℕ → Option ℕ
+abbrev pub or_else : {X : Type 0} → Option X → Option X → Option X
 or_else None p = p
 or_else (Some i) p = Some i
 

@@ -2,11 +2,12 @@
 use Rattle.std.specs.Prelude.{◌≡◌, true, false, List}
 use Rattle.prost_reflect_wire.specs.declared.records.FileDescriptorProto.{FileDescriptorProto}
 use Rattle.prost_reflect_tables.specs.declared.error.PoolError.{PoolError}
-use Rattle.prost_reflect_tables.specs.declared.error.PoolError.TheVariants.{MissingName, UnknownSyntax, MissingDependency, BadIndex, BadNumber, BadRange, MissingType, BadLabel, BadOneof, EmptyEnum, DuplicateName, UnknownType, DuplicateNumber, OutsideRange, BadMapEntry, BadOptions}
+use Rattle.prost_reflect_tables.specs.declared.error.PoolError.TheVariants.{MissingName, UnknownSyntax, MissingDependency, BadIndex, BadNumber, BadRange, MissingType, BadLabel, BadOneof, EmptyEnum, DuplicateName, UnknownType, DuplicateNumber, OutsideRange, BadMapEntry, BadDefault, FloatDefault, BadOptions}
 use Rattle.prost_reflect_tables.specs.Flat.{FlatRows}
 use Rattle.prost_reflect_tables.specs.Faults.{missing_name, unknown_syntax, bad_index, bad_number, bad_range, missing_type, bad_label, bad_oneof, empty_enum, missing_dependency, duplicate_name, unknown_type, duplicate_number, outside_range}
 use Rattle.prost_reflect_tables.specs.EntryFaults.{bad_map_entry}
 use Rattle.prost_reflect_tables.specs.OptionFaults.{bad_options}
+use Rattle.prost_reflect_tables.specs.DefaultFaults.{bad_default, float_default}
 
 -- Of definitions that name no other one.
 pub record OwnChecks (files : List FileDescriptorProto) (rows : FlatRows) : Type 0 where
@@ -29,6 +30,8 @@ pub record Checked (files : List FileDescriptorProto) (rows : FlatRows) : Type 0
   pub numbers_differ : duplicate_number rows ≡ false
   pub in_ranges : outside_range rows ≡ false
   pub entries : bad_map_entry rows ≡ false
+  pub defaults : bad_default rows ≡ false
+  pub float_defaults : float_default rows ≡ false
 
 -- Why files are refused: the test of that name is true. The refusals that have no test here are not answered.
 abbrev pub Stands : PoolError → List FileDescriptorProto → FlatRows → Type 0
@@ -48,4 +51,6 @@ Stands DuplicateNumber files rows = duplicate_number rows ≡ true
 Stands OutsideRange files rows = outside_range rows ≡ true
 Stands BadMapEntry files rows = bad_map_entry rows ≡ true
 Stands BadOptions files rows = bad_options rows ≡ true
+Stands BadDefault files rows = bad_default rows ≡ true
+Stands FloatDefault files rows = float_default rows ≡ true
 Stands e files rows = ⊥

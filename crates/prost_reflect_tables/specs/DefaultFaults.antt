@@ -17,13 +17,13 @@ default_unread links d = is_some d.proto.default_value && is_none (linked_defaul
 abbrev pub is_float_type : Option ℤ → Bool
 is_float_type code = is_code 1 code || is_code 2 code
 
-abbrev pub default_bad : Links → DefinitionRow FieldDescriptorProto → Bool
+unfoldable pub default_bad : Links → DefinitionRow FieldDescriptorProto → Bool
 default_bad links d = default_misplaced d || (not (is_float_type d.proto.type_) && default_unread links d)
 
 abbrev pub bad_default : FlatRows → Bool
 bad_default rows = any_field (default_bad (links_of rows)) rows
 
-abbrev pub float_default_bad : Links → DefinitionRow FieldDescriptorProto → Bool
+unfoldable pub float_default_bad : Links → DefinitionRow FieldDescriptorProto → Bool
 float_default_bad links d = is_float_type d.proto.type_ && default_unread links d
 
 abbrev pub float_default : FlatRows → Bool

@@ -1,6 +1,5 @@
 -- What is kept while files are linked: definitions by what they belong to.
-use Rattle.std.specs.Prelude.{ℕ, zero, suc, ◌+◌, if◌then◌else◌, List, [], ◌∷◌, ◌++◌, map, Option}
-use Rattle.std.specs.Prelude.{Vec}
+use Rattle.std.specs.Prelude.{ℕ, zero, suc, ◌+◌, if◌then◌else◌, List, [], ◌∷◌, ◌++◌, map, Option, Vec}
 use Rattle.std.specs.declared.alloc.Global.{Global}
 use Rattle.prost_reflect_tables.specs.declared.tables.FieldTable.{FieldTable}
 use Rattle.prost_reflect_tables.specs.Rows.{FieldRow, MessageRow, field_row}

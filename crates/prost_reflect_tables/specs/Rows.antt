@@ -10,7 +10,6 @@ use Rattle.prost_reflect_tables.specs.declared.tables.FieldTable.{FieldTable}
 use Rattle.prost_reflect_tables.specs.declared.tables.OneofTable.{OneofTable}
 use Rattle.prost_reflect_tables.specs.declared.tables.MessageTable.{MessageTable}
 use Rattle.prost_reflect_tables.specs.declared.tables.EnumTable.{EnumTable}
-use Rattle.prost_reflect_tables.specs.declared.tables.EnumValueTable.{EnumValueTable}
 
 pub record FieldRow : Type 0 where
   pub number : ℕ
@@ -78,9 +77,6 @@ oneof_row o = record { name = string_bytes o.name; fields = o.fields.items }
 
 abbrev pub message_row : MessageTable → MessageRow
 message_row m = record { full_name = string_bytes m.full_name; is_map_entry = m.is_map_entry; fields = map field_row m.fields.items; oneofs = map oneof_row m.oneofs.items }
-
-abbrev pub enum_value_row : EnumValueTable → EnumValueRow
-enum_value_row v = record { name = string_bytes v.name; number = v.number }
 
 abbrev pub enum_row : EnumTable → EnumRow
 enum_row e = record { full_name = string_bytes e.full_name; numbers = e.numbers.items; is_closed = e.is_closed }

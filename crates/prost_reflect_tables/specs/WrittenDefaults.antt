@@ -1,8 +1,6 @@
 -- The default that a field's definition writes as text (descriptor.proto, `default_value`; the proto2 guide, "Default Field Values"). A text that gives no value is refused.
 use Rattle.std.specs.Prelude.{ℕ, zero, suc, ◌+◌, ◌-◌, ◌*◌, ◌/◌, ◌^◌, nat_eq, nat_le, if◌then◌else◌, Bool, true, false, ◌&&◌, ◌||◌, ℤ, pos, neg_ℤ, List, [], ◌∷◌, length, Option, Some, None, option_map, option_and_then, find, bytes_eq, codes}
 use Rattle.prost_reflect_wire.specs.Scalar.{Scalar, Boolean, I32, I64, U32, U64, F32, F64, Text, Bytes, EnumNumber, ScalarKind, Double, Float, Int64, Uint64, Int32, Fixed64, Fixed32, BoolKind, StringKind, BytesKind, Uint32, Sfixed32, Sfixed64, Sint32, Sint64, Enum, Open}
-use Rattle.prost_reflect_tables.specs.declared.error.PoolError.{PoolError}
-use Rattle.prost_reflect_tables.specs.declared.error.PoolError.TheVariants.{BadDefault, FloatDefault}
 use Rattle.prost_reflect_tables.specs.declared.tables.TableKind.{TableKind}
 use Rattle.prost_reflect_tables.specs.declared.tables.TableKind.TheVariants as kinds
 use Rattle.prost_reflect_tables.specs.Rows.{EnumValueRow}
@@ -195,9 +193,3 @@ default_kind (kinds.Message T) = None
 -- The default of a singular field of a kind, which may be an enum of these values.
 abbrev pub field_default : TableKind → List EnumValueRow → List ℕ → Option Scalar
 field_default kind values text = option_and_then (λ k. written_default k values text) (default_kind kind)
-
--- Why a text that gives no value is refused.
-abbrev pub default_refusal : TableKind → PoolError
-default_refusal kinds.Double = FloatDefault
-default_refusal kinds.Float = FloatDefault
-default_refusal kind = BadDefault

@@ -10,6 +10,7 @@ use crate::checks::{
     has_bad_index, has_bad_label, has_bad_number, has_bad_oneof, has_bad_range, has_empty_enum,
     has_missing_name, has_missing_type, has_unknown_syntax,
 };
+use crate::default_checks::{has_bad_default, has_float_default};
 use crate::entries::has_bad_map_entry;
 use crate::error::PoolError;
 use crate::flatten::Flat;
@@ -87,6 +88,12 @@ pub fn check(alloc: Global, files: &[&FileDescriptorProto], flat: &Flat) -> Resu
     }
     if has_bad_map_entry(&index, flat) {
         return Err(PoolError::BadMapEntry);
+    }
+    if has_bad_default(alloc, &index, flat)? {
+        return Err(PoolError::BadDefault);
+    }
+    if has_float_default(alloc, &index, flat)? {
+        return Err(PoolError::FloatDefault);
     }
     Ok(index)
 }

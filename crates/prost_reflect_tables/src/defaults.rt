@@ -1,56 +1,30 @@
 //! Reading the default that a field's definition writes as text.
 
-ghost use Rattle.std.specs.Prelude.{◌≡◌, ◌<◌, ◌≤◌, ◌+◌, ◌-◌, ◌*◌, ◌^◌, ◌≢◌, ◌≤ℤ◌, ◌<ℤ◌, pos, neg_ℤ, ℕ, List, length, map, option_map, IfOk, IfErr, IfSome, bytes_eq};
-ghost use Rattle.prost_reflect_tables.specs.Rows.{enum_value_row, written_scalar};
-ghost use Rattle.prost_reflect_tables.specs.WrittenDefaults.{is_octal, is_digit, whole_number, up_to, signed, whole_bits, magnitude_bits, float_bits, binary32, binary64, front, octal_digit, octal, letter, escaped, front_byte, unescaped, boolean, number_named, field_default, default_refusal};
-ghost use Rattle.prost_reflect_tables.specs.declared.error.PoolError.TheVariants as pool_errors;
+ghost use Rattle.std.specs.Prelude.{◌≡◌, ◌<◌, ◌≤◌, ◌+◌, ◌-◌, ◌*◌, ◌^◌, ◌≤ℤ◌, ◌<ℤ◌, pos, neg_ℤ, ℕ, List, length, option_map, IfOk, IfSome, bytes_eq};
+ghost use Rattle.prost_reflect_tables.specs.Rows.{EnumValueRow, written_scalar};
+ghost use Rattle.prost_reflect_tables.specs.WrittenDefaults.{is_octal, is_digit, whole_number, up_to, signed, whole_bits, magnitude_bits, float_bits, binary32, binary64, front, octal_digit, octal, letter, escaped, front_byte, unescaped, boolean, number_named, field_default};
 
-use crate::error::PoolError;
-use crate::tables::{EnumValueTable, TableKind, WrittenDefault};
+use crate::tables::{TableKind, WrittenDefault};
 use std::alloc::{AllocError, Global};
 
-/// Reads the default of a singular field of a proto2 file, as protoc writes it into the field's record.
+/// Reads the default of a singular field of a proto2 file, as protoc writes it into the field's record. A text that gives no value of
+/// the field's kind is none.
 ///
-/// The values are those of the field's enum, and none where the field has another kind.
+/// The number is that of the value that the text names, where the field is of an enum: of its first value of that name.
+///
+/// Of a float or double field the texts `inf`, `-inf`, `nan` and whole numbers up to 2^24 or 2^53 are read.
 ///
 /// # Errors
 ///
-/// `FloatDefault` if a float or double field has a text that is neither `inf`, `-inf`, `nan` nor a whole number up to 2^24 or 2^53,
-/// `BadDefault` if a field of another kind has a text that gives no value of the kind, and `OutOfMemory` if a growth was refused.
+/// `AllocError` if a growth was refused.
+#[tactic(auto, unfolding(crate::specs::WrittenDefaults::written_default))]
 pub fn written_default(
     alloc: Global,
     kind: TableKind,
-    values: &[EnumValueTable],
-    text: &str,
-) -> Result<WrittenDefault, PoolError>
-    ensures ok { IfOk result (λ d. field_default kind (map enum_value_row values.now) text.now ≡ Some (written_scalar d)) }
-    ensures refused { IfErr result (λ e. e ≢ pool_errors.OutOfMemory →
-        (field_default kind (map enum_value_row values.now) text.now ≡ None) × (e ≡ default_refusal kind)) }
-{
-    match scalar_default(alloc, kind, values, text)? {
-        Some(default) => Ok(default),
-        None => Err(refusal(kind)),
-    }
-}
-
-fn refusal(kind: TableKind) -> PoolError
-    ensures { result ≡ default_refusal kind }
-{
-    match kind {
-        TableKind::Double | TableKind::Float => PoolError::FloatDefault,
-        _ => PoolError::BadDefault,
-    }
-}
-
-/// The default, or none where the text gives no value.
-#[tactic(auto, unfolding(crate::specs::WrittenDefaults::written_default))]
-pub fn scalar_default(
-    alloc: Global,
-    kind: TableKind,
-    values: &[EnumValueTable],
+    number: Option<i32>,
     text: &str,
 ) -> Result<Option<WrittenDefault>, AllocError>
-    ensures { IfOk result (λ d. option_map written_scalar d ≡ field_default kind (map enum_value_row values.now) text.now) }
+    ensures { IfOk result (λ d. (values : List EnumValueRow) → number_named values text.now ≡ number → option_map written_scalar d ≡ field_default kind values text.now) }
 {
     let bytes = text.as_bytes();
     match kind {
@@ -69,7 +43,7 @@ pub fn scalar_default(
         TableKind::Bool => Ok(boolean(text).map(WrittenDefault::Bool)),
         TableKind::String => Ok(Some(WrittenDefault::String(String::from_str(alloc, text)?))),
         TableKind::Bytes => Ok(unescaped(alloc, bytes)?.map(WrittenDefault::Bytes)),
-        TableKind::Enum(_) => Ok(number_named(values, text).map(WrittenDefault::EnumNumber)),
+        TableKind::Enum(_) => Ok(number.map(WrittenDefault::EnumNumber)),
         TableKind::Message(_) => Ok(None),
     }
 }
@@ -82,18 +56,6 @@ fn boolean(text: &str) -> Option<bool>
         "false" => Some(false),
         _ => None,
     }
-}
-
-/// The number of the first enum value of a name.
-fn number_named(values: &[EnumValueTable], name: &str) -> Option<i32>
-    ensures { result ≡ number_named (map enum_value_row values.now) name.now }
-{
-    for value in values {
-        if value.name.as_str() == name {
-            return Some(value.number);
-        }
-    }
-    None
 }
 
 // WHOLE NUMBERS

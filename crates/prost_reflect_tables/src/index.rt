@@ -2,29 +2,28 @@
 
 ghost use Rattle.std.specs.Prelude.{◌≡◌, [], ◌++◌, List, IfOk, OnOk, map};
 ghost use Rattle.std.specs.BTreeMap.{get_by_text};
-ghost use Rattle.prost_reflect_tables.specs.Names.{without_dot};
 ghost use Rattle.prost_reflect_tables.specs.Faults.{names_of, names_in_messages, names_in_enums, names_in_services, full_names, repeats, duplicate_name, message_names, enum_names, place_named};
-ghost use Rattle.prost_reflect_tables.specs.FlatViews.{definition_row, file_list, message_row, enum_row, service_row, flat_rows, text_list};
-ghost use Rattle.prost_reflect_tables.specs.Indexed.{IsIndexOf, IsIndex};
-ghost use Rattle.prost_reflect_tables.specs.Rows.{enum_value_row};
-ghost use Rattle.prost_reflect_tables.specs.Linking.{linked_value};
+ghost use Rattle.prost_reflect_tables.specs.FlatViews.{definition_row, message_row, enum_row, service_row, flat_rows, text_list};
+ghost use Rattle.prost_reflect_tables.specs.Indexed.{IsIndexOf, IsNumbersOf, AreNumbersOf, IsIndex};
+ghost use Rattle.prost_reflect_tables.specs.WrittenDefaults.{number_named};
+ghost use Rattle.prost_reflect_tables.specs.Linking.{links_of, linked_value, values_of_kind};
 
 use crate::flatten::{Definition, Flat, FlatEnum, FlatMessage, FlatService};
 use crate::names::{text_or_empty, without_dot};
-use crate::tables::EnumValueTable;
+use crate::tables::TableKind;
 use prost_reflect_wire::records::EnumValueDescriptorProto;
 use std::alloc::{AllocError, Global};
 use std::collections::{BTreeMap, BTreeSet};
 
-/// The places of messages and enums by their full names.
+/// The places of messages and enums by their full names, and the numbers of enum values by their names.
 #[derive(Drop)]
 pub struct Index {
     /// The places of messages.
     pub messages: BTreeMap<String, usize>,
     /// The places of enums.
     pub enums: BTreeMap<String, usize>,
-    /// The values of each enum.
-    pub values: Vec<Vec<EnumValueTable>>,
+    /// The numbers of each enum's values by their names.
+    pub numbers: Vec<BTreeMap<String, i32>>,
 }
 
 // DUPLICATE NAMES
@@ -151,35 +150,37 @@ fn enum_names<'f, 'a>(alloc: Global, enums: &'f [FlatEnum<'a>]) -> Result<Vec<&'
     Ok(names)
 }
 
-/// The values of an enum with their names, in the order of their declaration.
-fn linked_values(
+/// The numbers of an enum's values by their names, where the first of each name counts.
+fn numbers_by_name(
     alloc: Global,
     values: &[Definition<EnumValueDescriptorProto>],
-) -> Result<Vec<EnumValueTable>, AllocError>
-    ensures { IfOk result (λ v. map enum_value_row v.items ≡ map linked_value (map definition_row values.now)) }
+) -> Result<BTreeMap<String, i32>, AllocError>
+    ensures { IfOk result (λ m. IsNumbersOf m (map linked_value (map definition_row values.now))) }
 {
-    let mut tables = Vec::new(alloc);
+    let mut numbers = BTreeMap::new(alloc);
     for value in values {
-        tables.push(EnumValueTable {
-            name: String::from_str(alloc, text_or_empty(&value.proto.name))?,
-            number: value.proto.number.unwrap_or(0),
-        })?;
+        let name = String::from_str(alloc, text_or_empty(&value.proto.name))?;
+        let number = value.proto.number.unwrap_or(0);
+        numbers.entry(name)?.or_insert(number);
     }
-    Ok(tables)
+    Ok(numbers)
 }
 
-/// The values of each enum.
-fn values_by_enum(alloc: Global, enums: &[FlatEnum]) -> Result<Vec<Vec<EnumValueTable>>, AllocError>
-    ensures { IfOk result (λ v. map (λ vs. map enum_value_row vs.items) v.items ≡ map (λ e. map linked_value e.values) (map enum_row enums.now)) }
+/// The numbers of each enum's values by their names.
+fn numbers_by_enum(
+    alloc: Global,
+    enums: &[FlatEnum],
+) -> Result<Vec<BTreeMap<String, i32>>, AllocError>
+    ensures { IfOk result (λ v. AreNumbersOf v.items (map (λ e. map linked_value e.values) (map enum_row enums.now))) }
 {
-    let mut lists = Vec::new(alloc);
-    for item in enums {
-        lists.push(linked_values(alloc, item.values.as_slice())?)?;
+    let mut numbers = Vec::new(alloc);
+    for declared in enums {
+        numbers.push(numbers_by_name(alloc, declared.values.as_slice())?)?;
     }
-    Ok(lists)
+    Ok(numbers)
 }
 
-/// The places of messages and enums by their full names.
+/// The places of messages and enums by their full names, and the numbers of enum values by their names.
 ///
 /// # Errors
 ///
@@ -192,7 +193,7 @@ pub fn indexed(alloc: Global, flat: &Flat) -> Result<Index, AllocError>
     Ok(Index {
         messages: index_of(alloc, messages.as_slice())?,
         enums: index_of(alloc, enums.as_slice())?,
-        values: values_by_enum(alloc, flat.enums.as_slice())?,
+        numbers: numbers_by_enum(alloc, flat.enums.as_slice())?,
     })
 }
 
@@ -215,5 +216,25 @@ pub fn enum_place(index: &Index, flat: &Flat, text: &Option<String>) -> Option<u
     match text {
         Some(text) => index.enums.get(without_dot(text.as_str())).copied(),
         None => None,
+    }
+}
+
+fn number_in(numbers: &BTreeMap<String, i32>, name: &str) -> Option<i32>
+    ensures { result ≡ get_by_text numbers.now name.now }
+{
+    numbers.get(name).copied()
+}
+
+/// The number of the value that a text names, if the kind is an enum: of the enum's first value of that name.
+pub fn number_named(index: &Index, flat: &Flat, kind: TableKind, name: &str) -> Option<i32>
+    requires { IsIndex index.now (flat_rows flat.now) }
+    ensures { result ≡ number_named (values_of_kind (links_of (flat_rows flat.now)) kind) name.now }
+{
+    match kind {
+        TableKind::Enum(place) => match index.numbers.get(place) {
+            Some(numbers) => number_in(numbers, name),
+            None => None,
+        },
+        _ => None,
     }
 }

@@ -4,6 +4,7 @@
 mod all_checks;
 mod builder;
 mod checks;
+mod default_checks;
 mod defaults;
 mod entries;
 mod error;
@@ -23,7 +24,6 @@ mod tests;
 
 pub use all_checks::check;
 pub use builder::build;
-pub use defaults::written_default;
 pub use error::PoolError;
 pub use examples::{
     checking, contents_and_tables, defaults_read, defaults_refused, linking, shown_tables, tables_not_linked,
@@ -33,6 +33,5 @@ pub use index::Index;
 pub use laws::{equal_files, files_equality, tables_equality};
 pub use link::linked;
 pub use tables::{
-    Cardinality, EnumTable, EnumValueTable, FieldTable, MessageTable, OneofTable, TableKind,
-    Tables, WrittenDefault,
+    Cardinality, EnumTable, FieldTable, MessageTable, OneofTable, TableKind, Tables, WrittenDefault,
 };

@@ -5,23 +5,22 @@ ghost use Rattle.std.specs.List.{list_all};
 ghost use Rattle.std.specs.List.Sorted.{IsNonDecreasingBy};
 ghost use Rattle.prost_reflect_wire.specs.Scalar.{in_i32};
 ghost use Rattle.prost_reflect_tables.specs.Names.{text_or_empty};
-ghost use Rattle.prost_reflect_tables.specs.Rows.{field_row, oneof_row, enum_value_row, message_row, enum_row, written_scalar, rows_from};
+ghost use Rattle.prost_reflect_tables.specs.Rows.{field_row, oneof_row, message_row, enum_row, written_scalar, rows_from};
 ghost use Rattle.prost_reflect_tables.specs.declared.tables.FieldTable.{FieldTable};
 ghost use Rattle.prost_reflect_tables.specs.FlatViews.{definition_row, flat_rows};
 ghost use Rattle.prost_reflect_tables.specs.FlatViews as flat_views;
-ghost use Rattle.prost_reflect_tables.specs.Linking.{links_of, natural_or_zero, place_in, kind_of_code, linked_kind, is_message, is_packable, cardinality_of_label, linked_packed, linked_presence, values_of_kind, linked_default, linked_field, in_order, fields_of_message, declared_fields, extended_place, oneof_place, member_place, oneofs_from, linked_message, messages_from, value_number, linked_value, linked_enum, linked_rows};
+ghost use Rattle.prost_reflect_tables.specs.Linking.{links_of, natural_or_zero, place_in, kind_of_code, linked_kind, is_message, is_packable, cardinality_of_label, linked_packed, linked_presence, linked_default, linked_field, in_order, fields_of_message, declared_fields, extended_place, oneof_place, member_place, oneofs_from, linked_message, messages_from, value_number, linked_value, linked_enum, linked_rows};
 ghost use Rattle.prost_reflect_tables.specs.InRange.{enum_in_range, in_range};
 ghost use Rattle.prost_reflect_tables.specs.Indexed.{IsIndex};
 ghost use Rattle.prost_reflect_tables.specs.Indexing.{empty_lists, with_item, grouped, list_rows, messages_with};
 
-use crate::defaults::scalar_default;
+use crate::defaults::written_default;
 use crate::flatten::{Definition, Flat, FlatEnum, FlatMessage};
-use crate::index::{Index, enum_place, message_place};
+use crate::index::{Index, enum_place, message_place, number_named};
 use crate::names::text_or_empty;
 use crate::options::bool_option;
 use crate::tables::{
-    Cardinality, EnumTable, EnumValueTable, FieldTable, MessageTable, OneofTable, TableKind,
-    WrittenDefault,
+    Cardinality, EnumTable, FieldTable, MessageTable, OneofTable, TableKind, WrittenDefault,
 };
 use prost_reflect_wire::records::{
     EnumValueDescriptorProto, FieldDescriptorProto, OneofDescriptorProto,
@@ -74,7 +73,7 @@ fn kind_of_code(message: usize, enumeration: usize, code: u32) -> TableKind
 }
 
 /// The kind of a field.
-fn linked_kind(index: &Index, flat: &Flat, field: &FieldDescriptorProto) -> TableKind
+pub fn linked_kind(index: &Index, flat: &Flat, field: &FieldDescriptorProto) -> TableKind
     requires { IsIndex index.now (flat_rows flat.now) }
     ensures { result ≡ linked_kind (links_of (flat_rows flat.now)) field.now }
 {
@@ -140,22 +139,8 @@ fn linked_presence(
             || field.proto3_optional.unwrap_or(false))
 }
 
-/// The values of the enum that a kind names.
-fn values_of_kind<'i>(index: &'i Index, flat: &Flat, kind: TableKind) -> &'i [EnumValueTable]
-    requires { IsIndex index.now (flat_rows flat.now) }
-    ensures { map enum_value_row result.now ≡ values_of_kind (links_of (flat_rows flat.now)) kind }
-{
-    match kind {
-        TableKind::Enum(place) => match index.values.get(place) {
-            Some(values) => values.as_slice(),
-            None => &[],
-        },
-        _ => &[],
-    }
-}
-
 /// The default that a field's definition writes.
-fn linked_default(
+pub fn linked_default(
     alloc: Global,
     index: &Index,
     flat: &Flat,
@@ -166,12 +151,10 @@ fn linked_default(
     ensures { IfOk result (λ d. option_map written_scalar d ≡ linked_default (links_of (flat_rows flat.now)) kind text.now) }
 {
     match text {
-        Some(text) => scalar_default(
-            alloc,
-            kind,
-            values_of_kind(index, flat, kind),
-            text.as_str(),
-        ),
+        Some(text) => {
+            let number = number_named(index, flat, kind, text.as_str());
+            written_default(alloc, kind, number, text.as_str())
+        }
         None => Ok(None),
     }
 }
@@ -432,7 +415,7 @@ fn linked_enums(alloc: Global, enums: &[FlatEnum]) -> Result<Vec<EnumTable>, All
 /// The message types and enums that files in flat lists give.
 ///
 /// The index is that of the files' names, which `check` gives. Messages and enums keep their places. The cost grows as n log n in the
-/// number of definitions, and each written default of an enum field goes through the values of its enum.
+/// number of definitions.
 ///
 /// # Errors
 ///

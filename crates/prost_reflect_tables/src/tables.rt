@@ -128,15 +128,6 @@ pub struct MessageTable {
     pub oneofs: Vec<OneofTable>,
 }
 
-/// A value of an enum.
-#[derive(PartialEq, Eq, Debug, Drop)]
-pub struct EnumValueTable {
-    /// The value's own name, without its scope.
-    pub name: String,
-    /// The number that stands for the value.
-    pub number: i32,
-}
-
 /// An enum.
 #[derive(PartialEq, Eq, Debug, Drop)]
 pub struct EnumTable {

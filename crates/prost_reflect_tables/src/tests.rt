@@ -1,10 +1,8 @@
 //! Calls with ample memory, whose contracts leave want of memory open.
 
+use crate::defaults::written_default;
 use crate::index::indexed;
-use crate::{
-    EnumValueTable, Flat, PoolError, TableKind, WrittenDefault, check, flattened, linked,
-    written_default,
-};
+use crate::{Flat, PoolError, TableKind, WrittenDefault, check, flattened, linked};
 use prost_reflect_wire::records::{
     DescriptorProto, EnumDescriptorProto, EnumValueDescriptorProto, FieldDescriptorProto,
     FileDescriptorProto, MethodDescriptorProto, OneofDescriptorProto, ServiceDescriptorProto,
@@ -15,12 +13,6 @@ use std::test::Fail;
 /// A default of each kind is read.
 #[test]
 fn defaults_of_each_kind(rt: HostRuntime) -> Result<(), Fail> {
-    let one = EnumValueTable {
-        name: String::from_str(rt.alloc(), "ONE")?,
-        number: 1,
-    };
-    let mut values = Vec::new(rt.alloc());
-    values.push(one)?;
     let text = String::from_str(rt.alloc(), "a\\n")?;
     let bytes = Vec::from_slice(rt.alloc(), b"A2\n")?;
     let mut rows = Vec::new(rt.alloc());
@@ -43,31 +35,9 @@ fn defaults_of_each_kind(rt: HostRuntime) -> Result<(), Fail> {
     rows.push((TableKind::Bytes, "\\1012\\n", WrittenDefault::Bytes(bytes)))?;
     rows.push((TableKind::Enum(0), "ONE", WrittenDefault::EnumNumber(1)))?;
     for (kind, text, expected) in &rows {
-        let default = written_default(rt.alloc(), *kind, values.as_slice(), text)?;
-        assert!(rt; default == *expected, "of the text {text}");
-    }
-    Ok(())
-}
-
-/// Each text is refused by the name that its kind has for it.
-#[test]
-fn defaults_refused_by_name(rt: HostRuntime) -> Result<(), Fail> {
-    let rows = [
-        (TableKind::Float, "1.5", PoolError::FloatDefault),
-        (TableKind::Float, "16777217", PoolError::FloatDefault),
-        (TableKind::Int32, "+1", PoolError::BadDefault),
-        (TableKind::Uint32, "-0", PoolError::BadDefault),
-        (TableKind::Bytes, "\\400", PoolError::BadDefault),
-        (TableKind::Bytes, "\\8", PoolError::BadDefault),
-        (TableKind::Bool, "1", PoolError::BadDefault),
-        (TableKind::Enum(0), "ONE", PoolError::BadDefault),
-        (TableKind::Message(0), "", PoolError::BadDefault),
-    ];
-    let values = Vec::new(rt.alloc());
-    for (kind, text, refusal) in rows {
-        match written_default(rt.alloc(), kind, values.as_slice(), text) {
-            Ok(_) => return Err(Fail::new("a default is read")),
-            Err(error) => assert_eq!(rt; error, refusal, "of the text {text}"),
+        match written_default(rt.alloc(), *kind, Some(1), text)? {
+            Some(default) => assert!(rt; default == *expected, "of the text {text}"),
+            None => return Err(Fail::new("a default is not read")),
         }
     }
     Ok(())
@@ -299,6 +269,38 @@ fn refusal(alloc: Global, file: &FileDescriptorProto) -> Result<Option<PoolError
         Ok(_) => Ok(None),
         Err(error) => Ok(Some(error)),
     }
+}
+
+/// Defaults of a field of proto2 are taken, or refused by their names.
+#[test]
+fn defaults_of_a_field(rt: HostRuntime) -> Result<(), Fail> {
+    let alloc = rt.alloc();
+    let rows = [
+        (2, "1.5", Some(PoolError::FloatDefault)),
+        (2, "16777217", Some(PoolError::FloatDefault)),
+        (5, "+1", Some(PoolError::BadDefault)),
+        (13, "-0", Some(PoolError::BadDefault)),
+        (12, "\\400", Some(PoolError::BadDefault)),
+        (12, "\\8", Some(PoolError::BadDefault)),
+        (8, "1", Some(PoolError::BadDefault)),
+        (14, "ONE", Some(PoolError::BadDefault)),
+        (5, "-0", None),
+        (2, "16777216", None),
+        (12, "\\1012", None),
+        (14, "ZERO", None),
+    ];
+    for (code, text, expected) in rows {
+        let mut declared = field(alloc, "f")?;
+        declared.type_ = Some(code);
+        declared.type_name = Some(String::from_str(alloc, "p.E")?);
+        declared.default_value = Some(String::from_str(alloc, text)?);
+        let mut fields = Vec::new(alloc);
+        fields.push(declared)?;
+        let mut file = file_of(alloc, fields)?;
+        file.enum_type = one_enum(alloc, "E")?;
+        assert_eq!(rt; refusal(alloc, &file)?, expected, "of the text {text}");
+    }
+    Ok(())
 }
 
 /// A sound file is taken, and each change to it is refused by its name.

@@ -19,7 +19,6 @@ use Rattle.prost_reflect_tables.proofs.Linkwell.Items.{none_at}
 -- Files that pass the checks, of which the code's types say what they do.
 pub record Sound (files : List FileDescriptorProto) (rows : FlatRows) : Type 0 where
   pub checked : Checked files rows
-  pub defaults : bad_default rows ≡ false
   pub range : in_range (linked_rows rows) ≡ true
 
 pub record FieldChecked (rows : FlatRows) (d : DefinitionRow FieldDescriptorProto) : Type 0 where
@@ -54,6 +53,7 @@ extension_at : (t : DefinitionRow FieldDescriptorProto → Bool) (rows : FlatRow
 extension_at t rows i d h at = none_at t rows.extensions i d (or_parts (list_any (λ (m : FlatMessageRow). list_any t m.fields) rows.messages) (list_any t rows.extensions) h).1 at
 
 well_placed : (links : Links) (d : DefinitionRow FieldDescriptorProto) → default_bad links d ≡ false → default_misplaced d ≡ false
+unfolding default_bad
 well_placed links d h = (or_parts (default_misplaced d) _ h).0
 
 wrong_needs_entry : (rows : FlatRows) (d : DefinitionRow FieldDescriptorProto) → is_of_entry rows d ≡ false → wrongly_of_entry rows d ≡ false
@@ -95,7 +95,7 @@ field_checked rows T i m d s at there = record {
   type_found = field_at (type_unknown rows) rows T i m d (three _ _ _ s.checked.names_found).0 at there;
   member = field_at repeated_member rows T i m d (or_parts _ _ s.checked.own.oneofs).0 at there;
   entry = none_at (wrongly_of_entry rows) m.fields i d (none_at (λ (m : FlatMessageRow). list_any (wrongly_of_entry rows) m.fields) rows.messages T m (entry_parts rows s.checked.entries).1 at) there;
-  default = well_placed (links_of rows) d (field_at (default_bad (links_of rows)) rows T i m d s.defaults at there);
+  default = well_placed (links_of rows) d (field_at (default_bad (links_of rows)) rows T i m d s.checked.defaults at there);
 }
 
 pub extension_checked : {files : List FileDescriptorProto} (rows : FlatRows) (i : ℕ) (d : DefinitionRow FieldDescriptorProto) → Sound files rows → slice_get rows.extensions i ≡ Some d → ExtensionChecked rows d
@@ -108,7 +108,7 @@ extension_checked rows i d s at =
         type_found = extension_at (type_unknown rows) rows i d (three _ _ _ s.checked.names_found).0 at;
         member = extension_at repeated_member rows i d (or_parts _ _ s.checked.own.oneofs).0 at;
         entry = wrong_needs_entry rows d no_entry;
-        default = well_placed (links_of rows) d (extension_at (default_bad (links_of rows)) rows i d s.defaults at);
+        default = well_placed (links_of rows) d (extension_at (default_bad (links_of rows)) rows i d s.checked.defaults at);
       };
       extendee = none_at extendee_missing rows.extensions i d (three _ _ _ s.checked.own.types).1 at;
       extendee_found = none_at (extendee_unknown rows) rows.extensions i d (three _ _ _ s.checked.names_found).1 at;
