@@ -2,6 +2,7 @@
 #![tactic(auto)]
 
 mod all_checks;
+mod builder;
 mod checks;
 mod defaults;
 mod error;
@@ -20,6 +21,7 @@ mod tables;
 mod tests;
 
 pub use all_checks::check;
+pub use builder::build;
 pub use defaults::written_default;
 pub use error::PoolError;
 pub use examples::{defaults_read, defaults_refused, linking, shown_tables, tables_not_linked};
