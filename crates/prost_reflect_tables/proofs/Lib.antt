@@ -16,3 +16,4 @@ mod Grouping
 mod NamePlaces
 mod FirstPlaces
 mod WorkedLinking
+pub mod Adding

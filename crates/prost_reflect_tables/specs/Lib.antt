@@ -15,6 +15,7 @@ pub mod EntryFaults
 pub mod DefaultFaults
 pub mod OptionFaults
 pub mod Checked
+pub mod Adding
 pub mod Indexed
 pub mod Options
 pub mod Linking
