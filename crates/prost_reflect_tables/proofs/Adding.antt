@@ -1,13 +1,28 @@
 -- Files are added one by one.
-use Rattle.std.proofs.Common.{◌≡◌, ℕ, Bool, true, false, not, cond, ◌&&◌, ◌||◌, List, [], ◌∷◌, ◌++◌, length, nat_eq, filter, refl, sym, ap, ◌∙◌, true≢false, append_assoc, append-nil, arith}
+use Rattle.std.proofs.Common.{◌≡◌, ℕ, Bool, true, false, not, cond, ◌&&◌, ◌||◌, List, [], ◌∷◌, ◌++◌, length, nat_eq, filter, String, refl, sym, ap, ◌∙◌, true≢false, append_assoc, append-nil, arith}
+use Rattle.std.specs.Bool.{◌==◌}
 use Rattle.std.specs.Str.{bytes_eq}
 use Rattle.std.specs.List.{list_any}
+use Rattle.std.specs.BTreeSet.{BTreeSet, contains_text}
+use Rattle.std.specs.declared.alloc.Global.{Global}
 use Rattle.std.proofs.lemmas.Slice.Eq.{bytes_eq-Decides}
 use Rattle.prost_reflect_wire.specs.declared.records.FileDescriptorProto.{FileDescriptorProto}
 use Rattle.prost_reflect_tables.specs.Names.{text_or_empty}
 use Rattle.prost_reflect_tables.specs.Faults.{is_unnamed}
-use Rattle.prost_reflect_tables.specs.Adding.{have_one_name, first_of_name, is_there, unskipped, added}
+use Rattle.prost_reflect_tables.specs.Adding.{is_named, have_one_name, first_of_name, is_there, unskipped, added, AreNamesOf}
 use Rattle.prost_reflect_tables.proofs.NamePlaces.{list_any_push}
+
+pub not_true : (b : Bool) → not b ≡ true → b ≡ false
+not_true true e = sym e
+not_true false e = refl
+
+pub not_false : (b : Bool) → not b ≡ false → b ≡ true
+not_false true e = refl
+not_false false e = sym e
+
+pub no_length : (l : List ℕ) → (length l == 0) ≡ true → l ≡ []
+no_length [] e = refl
+no_length (b ∷ l) e = absurd (grind arith)
 
 -- FILTERS
 
@@ -63,3 +78,62 @@ taken files batch f e = rw e
 
 pub none_added : (files : List FileDescriptorProto) → added files [] ≡ files
 none_added files = append-nil files
+
+-- NAMES OF FILES
+
+pub named_more : (files : List FileDescriptorProto) (f : FileDescriptorProto) (name : List ℕ) → list_any (is_named name) (files ++ f ∷ []) ≡ (list_any (is_named name) files || is_named name f)
+named_more files f name = list_any_push (is_named name) files f
+
+-- the name of a file that is there adds nothing
+pub named_again : (files : List FileDescriptorProto) (f : FileDescriptorProto) (name : List ℕ) → is_there files f ≡ true → list_any (is_named name) (files ++ f ∷ []) ≡ list_any (is_named name) files
+named_again files f name there = named_more files f name ∙ go (is_named name f) refl
+  where
+    go : (b : Bool) → is_named name f ≡ b → (list_any (is_named name) files || b) ≡ list_any (is_named name) files
+    go false e = elim (list_any (is_named name) files) as (λ c. (c || false) ≡ c) [ true ↦ refl | false ↦ refl ]
+    go true e =
+        let same : text_or_empty f.name ≡ name = grind (arith, bytes_eq-Decides (text_or_empty f.name) name) in
+        rw (rw same at there) refl
+
+-- an empty name is nobody's
+not_named : (g : FileDescriptorProto) → is_named [] g ≡ false
+not_named g = go (text_or_empty g.name)
+  where
+    go : (l : List ℕ) → (not (nat_eq (length l) 0) && bytes_eq l []) ≡ false
+    go [] = refl
+    go (b ∷ l) = other (bytes_eq (b ∷ l) []) refl
+      where
+        other : (c : Bool) → bytes_eq (b ∷ l) [] ≡ c → (not (nat_eq (length (b ∷ l)) 0) && c) ≡ false
+        other false e = grind arith
+        other true e = absurd (grind (arith, bytes_eq-Decides (b ∷ l) []))
+
+none_named : (files : List FileDescriptorProto) → list_any (is_named []) files ≡ false
+none_named [] = refl
+none_named (g ∷ files) = rw (not_named g, none_named files) refl
+
+pub unnamed_new : (files : List FileDescriptorProto) (f : FileDescriptorProto) → text_or_empty f.name ≡ [] → is_there files f ≡ false
+unnamed_new files f e = ap (λ (name : List ℕ). list_any (is_named name) files) e ∙ none_named files
+
+pub unnamed_more : (files : List FileDescriptorProto) (f : FileDescriptorProto) (names : BTreeSet (String Global)) → text_or_empty f.name ≡ [] → AreNamesOf files names → AreNamesOf (files ++ f ∷ []) names
+unnamed_more files f names e h = λ name. h name ∙ sym (named_more files f name ∙ rw e (elim (list_any (is_named name) files) as (λ c. (c || false) ≡ c) [ true ↦ refl | false ↦ refl ]))
+
+pub name_new : (files : List FileDescriptorProto) (f : FileDescriptorProto) (names : BTreeSet (String Global)) (key : List ℕ) (b : Bool) → key ≡ text_or_empty f.name → b ≡ not (contains_text names key) → AreNamesOf files names → b ≡ not (is_there files f)
+name_new files f names key b e is h = is ∙ ap not (ap (contains_text names) e ∙ h (text_or_empty f.name))
+
+pub name_more : (files : List FileDescriptorProto) (f : FileDescriptorProto) (old new : BTreeSet (String Global)) (key : List ℕ) → key ≡ text_or_empty f.name → is_unnamed f.name ≡ false →
+    ((name : List ℕ) → contains_text new name ≡ cond (bytes_eq key name) true (contains_text old name)) → AreNamesOf files old → AreNamesOf (files ++ f ∷ []) new
+name_more files f old new key e named more h = λ name.
+    more name
+    ∙ (ap (λ (k : List ℕ). cond (bytes_eq k name) true (contains_text old name)) e
+    ∙ (ap (cond (bytes_eq (text_or_empty f.name) name) true) (h name)
+    ∙ (sides (bytes_eq (text_or_empty f.name) name) (list_any (is_named name) files)
+    ∙ sym (named_more files f name ∙ rw named refl))))
+  where
+    sides : (b c : Bool) → cond b true c ≡ (c || b)
+    sides true true = refl
+    sides true false = refl
+    sides false true = refl
+    sides false false = refl
+
+-- where the name of a file is not new, the names stay
+pub names_stay : (files : List FileDescriptorProto) (f : FileDescriptorProto) (names : BTreeSet (String Global)) → is_there files f ≡ true → AreNamesOf (files ++ f ∷ []) names → AreNamesOf files names
+names_stay files f names there h = λ name. h name ∙ named_again files f name there

@@ -17,3 +17,4 @@ mod NamePlaces
 mod FirstPlaces
 mod WorkedLinking
 pub mod Adding
+pub mod Refusing

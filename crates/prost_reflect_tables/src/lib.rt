@@ -28,6 +28,7 @@ pub use examples::{defaults_read, defaults_refused, linking, shown_tables, table
 pub use flatten::{Definition, Flat, FlatEnum, FlatMessage, FlatService, flattened};
 pub use laws::tables_equality;
 pub use link::linked;
+pub use names::text_or_empty;
 pub use tables::{
     Cardinality, EnumTable, EnumValueTable, FieldTable, MessageTable, OneofTable, TableKind,
     Tables, WrittenDefault,
