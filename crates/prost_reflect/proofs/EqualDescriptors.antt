@@ -3,7 +3,7 @@ use Rattle.std.proofs.Common.{◌≡◌, nat_eq}
 use Rattle.std.specs.Bool.{Decides}
 use Rattle.std.specs.Cmp.{unsigned_Decides}
 use Rattle.std.proofs.lemmas.Bool.Decides.{Decides-and}
-use Rattle.prost_reflect_tables.proofs.Equal.{tables_decide}
+use Rattle.prost_reflect_tables.specs.Equality.{rows_decide}
 use Rattle.prost_reflect.specs.Pools.{pool_rows}
 use Rattle.prost_reflect.specs.Descriptors.{SameMessage}
 use Rattle.prost_reflect.specs.Enums.{SameEnum}
@@ -18,7 +18,7 @@ use Rattle.prost_reflect.specs.contracts.descriptor.enums.EnumDescriptorPartialE
 use Rattle.prost_reflect.specs.contracts.descriptor.field.FieldDescriptorPartialEq.TheImpl as field_code
 
 pub pools_decide : (a b : DescriptorPool) → Decides ((pool_code.ghosts).eq a b) (pool_rows a ≡ pool_rows b)
-pools_decide a b = tables_decide a.inner.value.tables b.inner.value.tables
+pools_decide a b = rows_decide (pool_rows a) (pool_rows b)
 
 pub messages_decide : (a b : MessageDescriptor) → Decides ((message_code.ghosts).eq a b) (SameMessage b a)
 messages_decide a b = Decides-and ((pool_code.ghosts).eq a.pool b.pool) (nat_eq a.index b.index) (pools_decide a.pool b.pool) (unsigned_Decides a.index b.index)

@@ -8,6 +8,9 @@ pub mod SoundChanges
 pub mod MembersCleared
 pub mod Covering
 mod BuiltinFacts
+mod NoFiles
+mod BuiltinLinks
+mod OneFile
 pub mod PlainKinds
 pub mod Views
 pub mod Slots

@@ -117,7 +117,7 @@ abbrev pub same_type : MessageDescriptor → MessageDescriptor → Bool
 same_type a b = rows_eq (pool_rows a.pool) (pool_rows b.pool) && nat_eq a.index b.index
 
 pub types_equal : (a b : MessageDescriptor) → (descriptor_code.ghosts).eq a b ≡ same_type a b
-types_equal a b = λ i. tables_equal a.pool.inner.value.tables b.pool.inner.value.tables i && nat_eq a.index b.index
+types_equal a b = refl
 
 opened : (m n : DynamicMessage) → equal_messages m n ≡ (same_type (descriptor_of m) (descriptor_of n) && same_entries (stored_entries value_stored (stored_in m)) (stored_entries value_stored (stored_in n)))
 opened m n = λ i. same_message (stored_message m i) (stored_message n i)

@@ -1,4 +1,5 @@
 pub mod Pools
+pub mod PoolFiles
 pub mod Descriptors
 pub mod Fields
 pub mod Kinds
@@ -25,6 +26,5 @@ pub mod Scalars
 pub mod Covered
 pub mod Builtin
 pub mod BuiltinRows
-pub mod Samples
-pub mod Choices
+pub mod BuiltinFiles
 pub mod Encoding

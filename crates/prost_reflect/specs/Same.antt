@@ -1,11 +1,11 @@
 -- Equality of what is stored, as tests that decide it.
 use Rattle.std.specs.Prelude.{◌≡◌, Bool, true, false, ◌&&◌, nat_eq, refl}
 use Rattle.std.specs.Bool.{Decides}
-use Rattle.std.specs.Cmp.{IsEquivalence, IsPartialEquivalence, unsigned_Decides, both_ways, partial_equiv_from_equiv, on_per}
+use Rattle.std.specs.Cmp.{IsPartialEquivalence, unsigned_Decides, partial_equiv_from_equiv, on_per}
 use Rattle.std.proofs.Common.{sym, ap, ap₂, ◌∙◌, true≢false}
 use Rattle.prost_reflect_wire.specs.Scalar.{scalar_eq}
 use Rattle.prost_reflect_wire.specs.Equality.{records_eq, records_same, records_refl}
-use Rattle.prost_reflect_tables.specs.Equality.{rows_eq, rows_decide, scalar_decides, decided}
+use Rattle.prost_reflect_tables.specs.Equality.{rows_eq, rows_decide, scalar_decides, decided, equivalence}
 use Rattle.prost_reflect.specs.Stored.{StoredMessage, MessageOf, StoredEntries, NothingStored, ValueAt, UnknownAt, BothAt, StoredValue, StoredScalar, StoredInside, StoredList, StoredMap, StoredItems, NoItems, ItemThen, StoredPairs, NoPairs, PairThen, value_stored, message_stored}
 use Rattle.prost_reflect.specs.declared.value.Value.{Value}
 use Rattle.prost_reflect.specs.declared.message.DynamicMessage.{DynamicMessage}
@@ -124,14 +124,6 @@ pub value_decides : (v w : StoredValue) → Decides (same_value v w) (v ≡ w)
 value_decides = decided same_value value_same value_itself
 
 -- LAWS
-
--- a test that decides equality is an equivalence
-equivalence : {K : Type 0} (E : K → K → Bool) → ((x y : K) → Decides (E x y) (x ≡ y)) → IsEquivalence E
-equivalence {K} E decides = record {
-  refl = λ x. (decides x x).1 refl;
-  symm = λ x y. both_ways (E x y) (E y x) (λ h. (decides y x).1 (sym ((decides x y).0 h))) (λ h. (decides x y).1 (sym ((decides y x).0 h)));
-  congr = λ x y z h. ap (λ (w : K). E w z) ((decides x y).0 h);
-}
 
 abbrev pub equal_values : Value → Value → Bool
 equal_values v w = same_value (value_stored v) (value_stored w)

@@ -8,10 +8,16 @@ mod message;
 mod value;
 
 pub use descriptor::{
-    DescriptorPool, EnumDescriptor, FieldDescriptor, Kind, MessageDescriptor, builtin_pool,
+    DescriptorPool, EnumDescriptor, FieldDescriptor, FileDescriptorProtos, Kind, MessageDescriptor,
+    builtin_pool,
 };
 pub use message::DynamicMessage;
-pub use prost_reflect_tables::Cardinality;
+pub use prost_reflect_tables::{Cardinality, PoolError};
+pub use prost_reflect_wire::records::{
+    DescriptorProto, EnumDescriptorProto, EnumReservedRange, EnumValueDescriptorProto,
+    ExtensionRange, FieldDescriptorProto, FileDescriptorProto, FileDescriptorSet,
+    MethodDescriptorProto, OneofDescriptorProto, ReservedRange, ServiceDescriptorProto,
+};
 pub use prost_reflect_wire::{
     DecodeError, EncodeError, RECURSION_LIMIT, UnknownField, UnknownFieldSet, UnknownFieldValue,
     WireType,

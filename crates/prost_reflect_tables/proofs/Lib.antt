@@ -26,3 +26,5 @@ mod SameOptions
 pub mod EqualFiles
 mod WorkedFiles
 mod EnumNumbers
+pub mod Adding
+pub mod Refusing

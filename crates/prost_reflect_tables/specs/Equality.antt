@@ -3,7 +3,7 @@ use Rattle.std.specs.Prelude.{◌≡◌, ℕ, Bool, true, false, ◌&&◌, nat_e
 use Rattle.std.specs.Bool.{Decides, beq}
 use Rattle.std.specs.Option.{option_eq}
 use Rattle.std.specs.Ordering.{nat_cmp, int_eq, eq_by_cmp}
-use Rattle.std.specs.Cmp.{unsigned_Decides, signed_Decides, booleans_Decides, unsigned_ties}
+use Rattle.std.specs.Cmp.{IsEquivalence, both_ways, unsigned_Decides, signed_Decides, booleans_Decides, unsigned_ties}
 use Rattle.std.specs.Cmp.Lexicographic.{pointwise, slice_cmp, texts_ties}
 use Rattle.std.proofs.Common.{sym, ap, ◌∙◌, true≢false}
 use Rattle.std.proofs.lemmas.Bool.Decides.{Decides-and, Decides-like}
@@ -194,3 +194,16 @@ enum_decides e d = Decides-like (enum_eq e d)
 pub rows_decide : (r s : TableRows) → Decides (rows_eq r s) (r ≡ s)
 rows_decide r s = Decides-like (rows_eq r s) (λ h i. record { messages = h.0 i; enums = h.1 i }) (λ e. (ap (λ (t : TableRows). t.messages) e, ap (λ (t : TableRows). t.enums) e))
     (Decides-and _ _ (list_decides message_decides r.messages s.messages) (list_decides enum_decides r.enums s.enums))
+
+-- LAWS
+
+-- A test that decides equality is an equivalence.
+pub equivalence : {K : Type 0} (E : K → K → Bool) → ((x y : K) → Decides (E x y) (x ≡ y)) → IsEquivalence E
+equivalence {K} E decides = record {
+  refl = λ x. (decides x x).1 refl;
+  symm = λ x y. both_ways (E x y) (E y x) (λ h. (decides y x).1 (sym ((decides x y).0 h))) (λ h. (decides x y).1 (sym ((decides y x).0 h)));
+  congr = λ x y z h. ap (λ (w : K). E w z) ((decides x y).0 h);
+}
+
+pub rows_equivalence : IsEquivalence rows_eq
+rows_equivalence = equivalence rows_eq rows_decide

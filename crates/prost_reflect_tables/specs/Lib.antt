@@ -16,6 +16,8 @@ pub mod DefaultFaults
 pub mod OptionFaults
 pub mod CheckExamples
 pub mod Checked
+pub mod Adding
+pub mod ReadErrors
 pub mod Indexed
 pub mod Options
 pub mod Linking

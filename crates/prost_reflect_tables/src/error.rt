@@ -2,6 +2,7 @@
 
 ghost use Rattle.std.specs.Prelude.{◌≡◌};
 ghost use Rattle.prost_reflect_tables.specs.declared.error.PoolError.TheVariants as pool_errors;
+ghost use Rattle.prost_reflect_tables.specs.ReadErrors.{read_error};
 
 use prost_reflect_wire::DecodeError;
 use std::alloc::{AllocError, AllocFailed};
@@ -85,5 +86,16 @@ impl<T: Drop> From<AllocFailed<T>> for PoolError {
 
     fn from(_error: AllocFailed<T>) -> PoolError {
         PoolError::OutOfMemory
+    }
+}
+
+impl From<DecodeError> for PoolError {
+    ghost from_gives = { λ error e. e ≡ read_error error };
+
+    fn from(error: DecodeError) -> PoolError {
+        match error {
+            DecodeError::OutOfMemory => PoolError::OutOfMemory,
+            fault => PoolError::Decode(fault),
+        }
     }
 }

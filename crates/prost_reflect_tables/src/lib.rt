@@ -32,6 +32,7 @@ pub use flatten::{Definition, Flat, FlatEnum, FlatMessage, FlatService, flattene
 pub use index::Index;
 pub use laws::{equal_files, files_equality, tables_equality};
 pub use link::linked;
+pub use names::text_or_empty;
 pub use tables::{
     Cardinality, EnumTable, FieldTable, MessageTable, OneofTable, TableKind, Tables, WrittenDefault,
 };

@@ -1,6 +1,7 @@
 -- What each struct of a descriptor record is as a content of its type: its fields in ascending number, each a row of the table.
 use Rattle.std.specs.Prelude.{ℕ, ℤ, Bool, List, [], ◌∷◌, map, Option, option_map, String, string_bytes, Vec}
 use Rattle.std.specs.declared.alloc.Global.{Global}
+use Rattle.std.specs.declared.rc.Rc.{Rc}
 use Rattle.prost_reflect_wire.specs.Scalar.{Boolean, I32, Text, Bytes}
 use Rattle.prost_reflect_wire.specs.Content.{Content, ContentOf, Entries, NoEntries, Value, ScalarValue, MessageValue, ListValue, NoValues, Item, values_from, then_value}
 use Rattle.prost_reflect_wire.specs.Meaning.{present_list}
@@ -108,5 +109,12 @@ of_file f = record_of types.File
     ∷ (7, of_records (map of_field f.extension.items)) ∷ (8, of_bytes f.options) ∷ (9, of_bytes f.source_code_info)
     ∷ (10, of_numbers f.public_dependency) ∷ (11, of_numbers f.weak_dependency) ∷ (12, of_text f.syntax) ∷ [])
 
+abbrev pub of_files : List FileDescriptorProto → Content
+of_files files = record_of types.FileSet ((1, of_records (map of_file files)) ∷ [])
+
 abbrev pub of_file_set : FileDescriptorSet → Content
-of_file_set s = record_of types.FileSet ((1, of_records (map of_file s.file.items)) ∷ [])
+of_file_set s = of_files s.file.items
+
+-- Files that are shared.
+abbrev pub shared_files : List (Rc FileDescriptorProto Global) → List FileDescriptorProto
+shared_files files = map (λ f. f.value) files

@@ -17,12 +17,15 @@ mod encoding_tests;
 mod equality;
 mod field_writing;
 mod fields;
+mod shared;
 mod sink;
 mod table;
 #[cfg(test)]
 mod tests;
 mod values;
 mod writing;
+
+pub use shared::encode_files;
 
 /// The files that a compiler was given, each behind those that it depends on.
 #[derive(Debug, Drop)]

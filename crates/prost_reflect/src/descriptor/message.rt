@@ -29,7 +29,7 @@ impl Clone for MessageDescriptor {
 }
 
 impl MessageDescriptor {
-    ghost use Rattle.std.specs.Prelude.{IfOk, IfSome, option_map, map};
+    ghost use Rattle.std.specs.Prelude.{IfOk, IfSome, IsTrue, option_map, map};
     ghost use Rattle.prost_reflect_wire.specs.Schema.{known, field_of};
     ghost use Rattle.prost_reflect_tables.specs.Rows.{field_row, message_row};
     ghost use Rattle.prost_reflect_tables.specs.Places.{place_of, row_of};
@@ -40,6 +40,7 @@ impl MessageDescriptor {
     pub(crate) fn new(pool: DescriptorPool, index: usize) -> MessageDescriptor
         requires { index < length (pool_rows pool).messages }
         ensures pool { pool_rows result.pool ≡ pool_rows pool }
+        ensures same { result.pool ≡ pool }
         ensures index { result.index ≡ index }
     {
         MessageDescriptor { pool, index }
@@ -78,12 +79,20 @@ impl MessageDescriptor {
         ensures found { IfOk result (λ found. option_map (λ field. field.index) found ≡ declared_place (fields_of self.now) number) }
         ensures message { IfOk result (λ found. IfSome found (λ field. SameMessage self.now field.message)) }
     {
+        match self.declared_place(number) {
+            Some(index) => Ok(Some(FieldDescriptor::new(self.clone()?, index))),
+            None => Ok(None),
+        }
+    }
+
+    /// The place of the field of a number; the number of an extension finds none.
+    fn declared_place(&self, number: u32) -> Option<usize>
+        ensures place { result ≡ declared_place (fields_of self.now) number }
+        ensures declared { IfSome result (λ i. IsTrue (is_declared_at (fields_of self.now) i)) }
+    {
         match self.field_place(number) {
-            Some(index) if !self.field_tables()[index].is_extension => Ok(Some(FieldDescriptor::new(
-                self.clone()?,
-                index,
-            ))),
-            _ => Ok(None),
+            Some(index) if !self.field_tables()[index].is_extension => Some(index),
+            _ => None,
         }
     }
 

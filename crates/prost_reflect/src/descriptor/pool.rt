@@ -1,27 +1,59 @@
 //! Pools.
 
+ghost use Rattle.std.specs.Prelude.{◌≡◌};
+ghost use Rattle.prost_reflect_wire.specs.DescriptorViews.{shared_files};
+ghost use Rattle.prost_reflect_tables.specs.Checked.{Checked};
+ghost use Rattle.prost_reflect_tables.specs.Flat.{flattened};
+ghost use Rattle.prost_reflect_tables.specs.Linking.{linked_rows};
+ghost use Rattle.prost_reflect_tables.specs.Schema.{rows_of};
+
 use crate::descriptor::MessageDescriptor;
 use prost_reflect_tables::Tables;
+use prost_reflect_wire::records::FileDescriptorProto;
 use std::alloc::{AllocError, Global};
 use std::rc::Rc;
 
-/// What the clones of a pool share.
-#[derive(PartialEq, Eq, Debug, Drop)]
-struct PoolInner {
-    tables: Tables,
+/// What the clones of a pool share: files that pass all checks, and the tables that they link to.
+#[derive(Debug, Drop)]
+pub(crate) struct PoolInner {
+    pub(crate) files: Vec<Rc<FileDescriptorProto>>,
+    pub(crate) tables: Tables,
+    pub ghost checked: { Checked (shared_files files.items) (flattened (shared_files files.items)) },
+    pub ghost linked: { rows_of tables ≡ linked_rows (flattened (shared_files files.items)) },
 }
 
-/// The message types and enums that descriptors are places of. A clone shares them.
+impl PartialEq for PoolInner {
+    ghost use Rattle.std.specs.Cmp.{on_per, partial_equiv_from_equiv};
+    ghost use Rattle.prost_reflect_tables.specs.Equality.{rows_eq, rows_equivalence};
+
+    ghost eq = { λ a b. rows_eq (rows_of a.tables) (rows_of b.tables) };
+
+    ghost laws = { on_per (λ inner. rows_of inner.tables) (partial_equiv_from_equiv rows_equivalence) };
+
+    fn eq(&self, other: &PoolInner) -> bool {
+        self.tables == other.tables
+    }
+}
+
+impl Eq for PoolInner {
+    ghost use Rattle.std.specs.Cmp.{on_equiv};
+    ghost use Rattle.prost_reflect_tables.specs.Equality.{rows_equivalence};
+
+    ghost laws = { on_equiv (λ inner. rows_of inner.tables) rows_equivalence };
+}
+
+/// Files of definitions with the message types and enums that descriptors are places of. A clone shares them.
+///
+/// The files pass all checks together, and the pool's tables are what they link to.
 #[derive(PartialEq, Eq, Debug, Drop)]
 pub struct DescriptorPool {
-    inner: Rc<PoolInner>,
+    pub(crate) inner: Rc<PoolInner>,
 }
 
 impl Clone for DescriptorPool {
-    ghost use Rattle.std.specs.Prelude.{◌≡◌};
-    ghost use Rattle.prost_reflect.specs.Pools.{pool_rows};
+    ghost use Rattle.prost_reflect.specs.Pools.{SamePool};
 
-    ghost is_clone = { λ pool copy. pool_rows copy ≡ pool_rows pool };
+    ghost is_clone = { SamePool };
 
     fn clone(&self) -> Result<DescriptorPool, AllocError> {
         Ok(DescriptorPool {
@@ -31,25 +63,33 @@ impl Clone for DescriptorPool {
 }
 
 impl DescriptorPool {
-    ghost use Rattle.std.specs.Prelude.{◌≡◌, IfOk, IfSome, option_map};
+    ghost use Rattle.std.specs.Prelude.{[], IfOk, IfSome, option_map};
     ghost use Rattle.prost_reflect_tables.specs.Places.{message_place};
-    ghost use Rattle.prost_reflect_tables.specs.Schema.{rows_of};
-    ghost use Rattle.prost_reflect.specs.Pools.{pool_rows};
+    ghost use Rattle.prost_reflect.specs.Pools.{IsPoolOf, SamePool, pool_rows};
     ghost use Rattle.prost_reflect.specs.Descriptors.{type_at};
 
-    /// A pool of linked tables.
-    pub(crate) fn new(alloc: Global, tables: Tables) -> Result<DescriptorPool, AllocError>
-        ensures { IfOk result (λ pool. pool_rows pool ≡ rows_of tables) }
+    /// A pool without files.
+    ///
+    /// # Errors
+    ///
+    /// `AllocError` if a growth is refused.
+    pub fn new(alloc: Global) -> Result<DescriptorPool, AllocError>
+        ensures { IfOk result (IsPoolOf []) }
     {
+        let tables = Tables {
+            messages: Vec::new(alloc),
+            enums: Vec::new(alloc),
+        };
+        let files = Vec::new(alloc);
         Ok(DescriptorPool {
-            inner: Rc::new(alloc, PoolInner { tables })?,
+            inner: Rc::new(alloc, PoolInner { files, tables })?,
         })
     }
 
     /// The message type of a full name, as `my.package.MyMessage`, or none where no message type has it.
     pub fn get_message_by_name(&self, name: &str) -> Result<Option<MessageDescriptor>, AllocError>
         ensures found { IfOk result (λ found. option_map type_at found ≡ message_place (pool_rows self.now) name.now) }
-        ensures pool { IfOk result (λ found. IfSome found (λ message. pool_rows message.pool ≡ pool_rows self.now)) }
+        ensures pool { IfOk result (λ found. IfSome found (λ message. SamePool self.now message.pool)) }
     {
         match self.tables().message_place(name) {
             Some(index) => Ok(Some(MessageDescriptor::new(self.clone()?, index))),

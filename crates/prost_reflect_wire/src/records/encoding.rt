@@ -21,7 +21,7 @@ use crate::records::{
 };
 
 /// Appends the encoding of the record.
-fn append<R: DescriptorRecord>(value: &R, out: &mut Vec<u8>) -> Result<(), EncodeError>
+pub fn append<R: DescriptorRecord>(value: &R, out: &mut Vec<u8>) -> Result<(), EncodeError>
     ensures ok { OnOk result (out.new.items ≡ out.old.items ++ encoded (R.content value.now)) }
     ensures err { OnErr result (out.new.items ≡ out.old.items) }
     ensures too_long { IfErr result (λ e. e ≡ EncodeError.TooLong → 2 ^ 64 ≤ length (encoded (R.content value.now))) }

@@ -52,7 +52,7 @@ fn write_delimited<S: Sink>(sink: &mut S, number: u32, payload: &[u8])
     write_key(sink, number, WireType::LengthDelimited);
 }
 
-fn write_record<S: Sink, R: DescriptorRecord>(sink: &mut S, number: u32, value: &R)
+pub fn write_record<S: Sink, R: DescriptorRecord>(sink: &mut S, number: u32, value: &R)
     ensures added { Adds S.added sink.old sink.new (spelled (record_at number (Flat (Len (encoded (R.content value.now)))) ∷ [])) }
     ensures sound { RecordSound R.record_type (R.content value.now) }
 {
