@@ -1,4 +1,5 @@
 pub mod CommandLine
 pub mod Types
+pub mod Sets
 pub mod Relaying
 pub mod Printing

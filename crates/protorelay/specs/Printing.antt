@@ -12,7 +12,7 @@ AppendsLine old new text = Appends old new (text ++ 10 ∷ [])
 
 -- The text answers the command.
 abbrev pub Answers : Command → List ℕ → Type 0
-Answers (Relay name digits) text = IsRelayed (string_bytes name.now) (string_bytes digits.now) text
+Answers (Relay set name digits) text = IsRelayed (string_bytes set.now) (string_bytes name.now) (string_bytes digits.now) text
 
 -- The words ask for a command that the text answers.
 pub record AnswersWords (words : List (List ℕ)) (text : List ℕ) : Type 0 where

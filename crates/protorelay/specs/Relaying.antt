@@ -1,5 +1,5 @@
--- What relaying makes of the name of a message type and of hex digits.
-use Rattle.std.specs.Prelude.{◌≡◌, ◌≢◌, ◌≤◌, ◌^◌, ℕ, List, length, Some, None, Ok, IsErr, ⊤}
+-- What relaying makes of a descriptor set, the name of a message type and hex digits.
+use Rattle.std.specs.Prelude.{◌≡◌, ◌≤◌, ◌^◌, ◌⊎◌, ℕ, List, length, Some, None, Ok, IsErr, ⊤}
 use Rattle.hex.specs.Hex.{decode_of, encode_lower}
 use Rattle.hex.specs.declared.error.FromHexError.{FromHexError}
 use Rattle.hex.specs.declared.error.FromHexError.TheVariants as hex_errors
@@ -11,25 +11,40 @@ use Rattle.prost_reflect_wire.specs.declared.error.DecodeError.{DecodeError}
 use Rattle.prost_reflect_wire.specs.declared.error.DecodeError.TheVariants as decode_errors
 use Rattle.prost_reflect_wire.specs.declared.error.EncodeError.{EncodeError}
 use Rattle.prost_reflect_wire.specs.declared.error.EncodeError.TheVariants as encode_errors
-use Rattle.prost_reflect.specs.Builtin.{builtin_schema}
-use Rattle.protorelay.specs.Types.{builtin_type}
+use Rattle.prost_reflect_tables.specs.Shown.{schema_from}
+use Rattle.prost_reflect_tables.specs.declared.error.PoolError.{PoolError}
+use Rattle.prost_reflect_tables.specs.declared.error.PoolError.TheVariants as pool_errors
+use Rattle.prost_reflect.specs.declared.descriptor.pool.DescriptorPool.{DescriptorPool}
+use Rattle.prost_reflect.specs.Pools.{pool_rows}
+use Rattle.protorelay.specs.Types.{covered_type}
+use Rattle.protorelay.specs.Sets.{IsPoolOfSet, RefusesSet, IsNoSet}
 use Rattle.protorelay.specs.declared.relay.Refusal.{Refusal}
-use Rattle.protorelay.specs.declared.relay.Refusal.TheVariants.{Name, Hex, Decode, Encode, Memory}
+use Rattle.protorelay.specs.declared.relay.Refusal.TheVariants.{Set, Pool, Name, Hex, Decode, Encode, Memory}
+
+-- The schema of a pool's message types.
+abbrev pub pool_schema : DescriptorPool → Schema
+pool_schema pool = schema_from (pool_rows pool)
 
 -- WHAT IS RELAYED
 
--- The name is that of a built-in message type, and the digits spell bytes.
-pub record IsAsked (name digits : List ℕ) (T : ℕ) (bytes : List ℕ) : Type 0 where
-  pub named : builtin_type name ≡ Some T
+-- The set makes the pool, and the name is that of a message type in it.
+pub record IsNamed (set name : List ℕ) (pool : DescriptorPool) (T : ℕ) : Type 0 where
+  pub made : IsPoolOfSet set pool
+  pub named : covered_type (pool_rows pool) name ≡ Some T
+
+-- Besides, the digits spell bytes.
+pub record IsAsked (set name digits : List ℕ) (pool : DescriptorPool) (T : ℕ) (bytes : List ℕ) : Type 0 where
+  pub named : IsNamed set name pool T
   pub spelled : decode_of digits ≡ Ok bytes
 
 -- The text has the digits, in lower case, of the bytes that the message is written as again.
-pub record IsRelayed (name digits text : List ℕ) : Type 0 where
+pub record IsRelayed (set name digits text : List ℕ) : Type 0 where
+  pub pool : DescriptorPool
   pub message_type : ℕ
   pub bytes : List ℕ
   pub written : List ℕ
-  pub asked : IsAsked name digits message_type bytes
-  pub relayed : relayed builtin_schema LEVEL_LIMIT message_type bytes ≡ Some written
+  pub asked : IsAsked set name digits pool message_type bytes
+  pub relayed : relayed (pool_schema pool) LEVEL_LIMIT message_type bytes ≡ Some written
   pub printed : text ≡ encode_lower written
 
 -- WHAT IS REFUSED
@@ -42,32 +57,60 @@ pub record PassesLength (schema : Schema) (T : ℕ) (bytes : List ℕ) : Type 0 
 
 -- Why the bytes are refused: a fault stands in them, or what is written again is too long. Want of memory may come anywhere.
 abbrev pub RefusesBytes : Schema → ℕ → List ℕ → Refusal → Type 0
-RefusesBytes schema T bytes Name = ⊥
-RefusesBytes schema T bytes Hex = ⊥
 RefusesBytes schema T bytes (Decode e) = StandsInMessage schema T LEVEL_LIMIT e bytes
 RefusesBytes schema T bytes (Encode e) = (e ≡ encode_errors.TooLong) × PassesLength schema T bytes
 RefusesBytes schema T bytes Memory = ⊤
+RefusesBytes schema T bytes refusal = ⊥
 
--- The name and the digits are sound, and the bytes are refused.
-pub record RefusesAsked (name digits : List ℕ) (refusal : Refusal) : Type 0 where
+-- Why the word for a set makes no pool.
+abbrev pub RefusesPool : List ℕ → Refusal → Type 0
+RefusesPool set Hex = IsNoSet set
+RefusesPool set (Set e) = RefusesSet set (pool_errors.Decode e)
+RefusesPool set (Pool e) = RefusesSet set e
+RefusesPool set Memory = ⊤
+RefusesPool set refusal = ⊥
+
+-- No message type of the pool has the name.
+pub record RefusesName (set name : List ℕ) : Type 0 where
+  pub pool : DescriptorPool
+  pub made : IsPoolOfSet set pool
+  pub unnamed : covered_type (pool_rows pool) name ≡ None
+
+-- A message type has it, and the digits spell nothing.
+pub record RefusesDigits (set name digits : List ℕ) : Type 0 where
+  pub pool : DescriptorPool
+  pub message_type : ℕ
+  pub named : IsNamed set name pool message_type
+  pub unspelled : IsErr (decode_of digits)
+
+-- The set, the name and the digits are sound, and the bytes are refused.
+pub record RefusesAsked (set name digits : List ℕ) (refusal : Refusal) : Type 0 where
+  pub pool : DescriptorPool
   pub message_type : ℕ
   pub bytes : List ℕ
-  pub asked : IsAsked name digits message_type bytes
-  pub refuses : RefusesBytes builtin_schema message_type bytes refusal
+  pub asked : IsAsked set name digits pool message_type bytes
+  pub refuses : RefusesBytes (pool_schema pool) message_type bytes refusal
 
 -- The first step that fails.
-abbrev pub Refuses : (name digits : List ℕ) → Refusal → Type 0
-Refuses name digits Name = builtin_type name ≡ None
-Refuses name digits Hex = (builtin_type name ≢ None) × IsErr (decode_of digits)
-Refuses name digits (Decode e) = RefusesAsked name digits (Decode e)
-Refuses name digits (Encode e) = RefusesAsked name digits (Encode e)
-Refuses name digits Memory = ⊤
+abbrev pub Refuses : (set name digits : List ℕ) → Refusal → Type 0
+Refuses set name digits (Set e) = RefusesPool set (Set e)
+Refuses set name digits (Pool e) = RefusesPool set (Pool e)
+Refuses set name digits Name = RefusesName set name
+Refuses set name digits Hex = RefusesPool set Hex ⊎ RefusesDigits set name digits
+Refuses set name digits (Decode e) = RefusesAsked set name digits (Decode e)
+Refuses set name digits (Encode e) = RefusesAsked set name digits (Encode e)
+Refuses set name digits Memory = ⊤
 
 -- WHAT ERRORS BECOME
 
 abbrev pub hex_refusal : FromHexError → Refusal
 hex_refusal hex_errors.OutOfMemory = Memory
 hex_refusal e = Hex
+
+abbrev pub pool_refusal : PoolError → Refusal
+pool_refusal pool_errors.OutOfMemory = Memory
+pool_refusal (pool_errors.Decode e) = Set e
+pool_refusal e = Pool e
 
 abbrev pub decode_refusal : DecodeError → Refusal
 decode_refusal decode_errors.OutOfMemory = Memory

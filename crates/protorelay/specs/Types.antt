@@ -1,16 +1,10 @@
 -- Which message type a name finds.
-use Rattle.std.specs.Prelude.{ℕ, List, Option, position}
-use Rattle.std.specs.Str.{bytes_eq}
+use Rattle.std.specs.Prelude.{ℕ, List, Option}
 use Rattle.prost_reflect_wire.specs.Varint.{◌>>=◌, guard}
 use Rattle.prost_reflect_tables.specs.Rows.{TableRows}
 use Rattle.prost_reflect_tables.specs.Places.{message_place}
 use Rattle.prost_reflect_tables.specs.Shown.{schema_from}
 use Rattle.prost_reflect.specs.Covered.{covered}
-use Rattle.prost_reflect.specs.Builtin.{builtin_names}
-
--- The place of the built-in message type of the name.
-abbrev pub builtin_type : List ℕ → Option ℕ
-builtin_type name = position (λ full_name. bytes_eq full_name name) builtin_names
 
 -- The place of the message type of the name in a pool, if it can be read and written so far.
 abbrev pub covered_type : TableRows → List ℕ → Option ℕ

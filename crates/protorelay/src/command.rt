@@ -6,8 +6,9 @@ ghost use Rattle.protorelay.specs.CommandLine.{AsksFor, AsksForNone};
 /// What a command line asks for.
 #[derive(Clone, Copy)]
 pub enum Command<'a> {
-    /// Read the bytes that the digits spell by the built-in message type of the name, and write the message again.
+    /// Read the bytes that the digits spell by the message type of the name in the descriptor set, and write the message again.
     Relay {
+        set: &'a String,
         name: &'a String,
         digits: &'a String,
     },
@@ -20,8 +21,8 @@ impl<'a> Command<'a> {
         ensures none { IfNone result (AsksForNone (map string_bytes words.now)) }
     {
         match words {
-            [command, set, name, digits] if command.as_str() == "relay" && set.as_str() == "-" =>
-                Some(Command::Relay { name, digits }),
+            [command, set, name, digits] if command.as_str() == "relay" =>
+                Some(Command::Relay { set, name, digits }),
             _ => None,
         }
     }

@@ -3,18 +3,17 @@
 ghost use Rattle.std.specs.Prelude.{◌≡◌, ◌⊎◌, Some, None, true, IfOk, IfErr, string_bytes};
 ghost use Rattle.prost_reflect_wire.specs.Grammar.{LEVEL_LIMIT};
 ghost use Rattle.prost_reflect_wire.specs.Writing.{relayed};
-ghost use Rattle.prost_reflect_tables.specs.Shown.{schema_from};
 ghost use Rattle.prost_reflect.specs.Pools.{pool_rows};
 ghost use Rattle.prost_reflect.specs.Descriptors.{schema_at, type_at};
 ghost use Rattle.prost_reflect.specs.Covered.{covered};
-ghost use Rattle.prost_reflect.specs.Builtin.{builtin_schema};
-ghost use Rattle.protorelay.specs.Types.{covered_type, builtin_type};
-ghost use Rattle.protorelay.specs.Relaying.{IsRelayed, RefusesBytes, Refuses, hex_refusal, decode_refusal, encode_refusal};
+ghost use Rattle.protorelay.specs.Types.{covered_type};
+ghost use Rattle.protorelay.specs.Sets.{IsPoolOfSet};
+ghost use Rattle.protorelay.specs.Relaying.{pool_schema, IsRelayed, RefusesBytes, RefusesPool, Refuses, hex_refusal, pool_refusal, decode_refusal, encode_refusal};
 ghost use Rattle.protorelay.specs.declared.relay.Refusal.TheVariants as refusals;
 
 use hex::FromHexError;
 use prost_reflect::{
-    DecodeError, DescriptorPool, DynamicMessage, EncodeError, MessageDescriptor, builtin_pool,
+    DecodeError, DescriptorPool, DynamicMessage, EncodeError, MessageDescriptor, PoolError, builtin_pool,
 };
 use std::alloc::{AllocError, Global};
 use thiserror::Error;
@@ -22,10 +21,16 @@ use thiserror::Error;
 /// Why a message is not relayed. The text is the line that the program prints.
 #[derive(Clone, Copy, Debug, PartialEq, Eq, Error)]
 pub enum Refusal {
+    /// The bytes of the descriptor set are none. Want of memory is `Memory`.
+    #[error("refused pool Decode {0:?}")]
+    Set(DecodeError),
+    /// The files of the descriptor set make no pool. Want of memory is `Memory`, and bytes that are no set are `Set`.
+    #[error("refused pool {0:?}")]
+    Pool(PoolError),
     /// No message type has the name.
     #[error("refused name")]
     Name,
-    /// The digits are not pairs of hex digits.
+    /// The digits of the set, or of the message, are not pairs of hex digits.
     #[error("refused hex")]
     Hex,
     /// The type does not accept the bytes. Want of memory is `Memory`.
@@ -58,6 +63,18 @@ impl From<FromHexError> for Refusal {
     }
 }
 
+impl From<PoolError> for Refusal {
+    ghost from_gives = { λ error refusal. refusal ≡ pool_refusal error };
+
+    fn from(error: PoolError) -> Refusal {
+        match error {
+            PoolError::OutOfMemory => Refusal::Memory,
+            PoolError::Decode(fault) => Refusal::Set(fault),
+            fault => Refusal::Pool(fault),
+        }
+    }
+}
+
 impl From<DecodeError> for Refusal {
     ghost from_gives = { λ error refusal. refusal ≡ decode_refusal error };
 
@@ -80,38 +97,39 @@ impl From<EncodeError> for Refusal {
     }
 }
 
-/// The message that the hex digits spell, read by the built-in message type of the name and written again, in lower-case hex digits.
+/// The message that the hex digits spell, read by the message type of the name in the descriptor set and written again, in lower-case hex digits. The set is `-`, for the built-in one, or in hex digits too.
 ///
 /// # Errors
 ///
-/// The first step that fails: `Name`, `Hex`, `Decode`, `Encode`; or `Memory`, wherever a growth is refused.
-pub fn relay(alloc: Global, name: &str, digits: &str) -> Result<String, Refusal>
-    ensures relayed { IfOk result (λ text. IsRelayed name.now digits.now (string_bytes text)) }
-    ensures refused { IfErr result (Refuses name.now digits.now) }
+/// The first step that fails: `Hex`, `Set` or `Pool` of the set, `Name`, `Hex` of the message, `Decode`, `Encode`; or `Memory`, wherever a growth is refused.
+pub fn relay(alloc: Global, set: &str, name: &str, digits: &str) -> Result<String, Refusal>
+    ensures relayed { IfOk result (λ text. IsRelayed set.now name.now digits.now (string_bytes text)) }
+    ensures refused { IfErr result (Refuses set.now name.now digits.now) }
 {
-    let descriptor = builtin_type(alloc, name)?;
+    let pool = pool_of(alloc, set)?;
+    let descriptor = message_type(&pool, name)?;
     let bytes = hex::decode(alloc, digits)?;
     let written = relay_bytes(alloc, descriptor, bytes.as_slice())?;
     Ok(hex::encode(alloc, written.as_slice())?)
 }
 
-/// The built-in message type of the name.
-fn builtin_type(alloc: Global, name: &str) -> Result<MessageDescriptor, Refusal>
-    ensures found { IfOk result (λ message. builtin_type name.now ≡ Some (type_at message)) }
-    ensures schema { IfOk result (λ message. schema_at message ≡ builtin_schema) }
-    ensures covered { IfOk result (λ message. covered (schema_at message) (type_at message) ≡ true) }
-    ensures refused { IfErr result (λ refusal.
-        ((refusal ≡ refusals.Name) × (builtin_type name.now ≡ None)) ⊎ (refusal ≡ refusals.Memory)) }
+/// The pool that the word for a descriptor set stands for.
+fn pool_of(alloc: Global, set: &str) -> Result<DescriptorPool, Refusal>
+    ensures made { IfOk result (IsPoolOfSet set.now) }
+    ensures refused { IfErr result (RefusesPool set.now) }
 {
-    let pool = builtin_pool(alloc)?;
-    message_type(&pool, name)
+    if set == "-" {
+        return Ok(builtin_pool(alloc)?);
+    }
+    let bytes = hex::decode(alloc, set)?;
+    Ok(DescriptorPool::decode(alloc, bytes.as_slice())?)
 }
 
 /// The message type of the name in the pool, if it can be read and written so far.
 fn message_type(pool: &DescriptorPool, name: &str) -> Result<MessageDescriptor, Refusal>
     ensures found { IfOk result (λ message.
         covered_type (pool_rows pool.now) name.now ≡ Some (type_at message)) }
-    ensures schema { IfOk result (λ message. schema_at message ≡ schema_from (pool_rows pool.now)) }
+    ensures schema { IfOk result (λ message. schema_at message ≡ pool_schema pool.now) }
     ensures covered { IfOk result (λ message. covered (schema_at message) (type_at message) ≡ true) }
     ensures refused { IfErr result (λ refusal.
         ((refusal ≡ refusals.Name) × (covered_type (pool_rows pool.now) name.now ≡ None))

@@ -29,7 +29,7 @@ const USAGE: &str = "usage: protorelay relay|show SET NAME HEX";
 
 /// Carries out a command line, given without the program's name, and answers the status that the program ends with.
 ///
-/// `relay - NAME HEX` writes the message again as a line of lower-case hex digits on `out`, with status 0. Refused data leave `out` as it was and are named by a line on `err`, with status 1. Any other command line leaves `out` as it was and gets a line on the usage on `err`, with status 2. Where a write fails the status is 1.
+/// `relay SET NAME HEX` writes the message again as a line of lower-case hex digits on `out`, with status 0. Refused data leave `out` as it was and are named by a line on `err`, with status 1. Any other command line leaves `out` as it was and gets a line on the usage on `err`, with status 2. Where a write fails the status is 1.
 pub fn run<O: Write, E: Write>(words: &[String], out: &mut O, err: &mut E) -> u8
     ensures done { result ≡ DONE → (err.new ≡ err.old) × ((text : List ℕ)
         × AnswersWords (map string_bytes words.now) text
@@ -53,7 +53,12 @@ fn answer(command: Command<'_>) -> Result<String, Refusal>
     ensures answered { IfOk result (λ text. Answers command.entry (string_bytes text)) }
 {
     match command {
-        Command::Relay { name, digits } => relay(*name.allocator(), name.as_str(), digits.as_str()),
+        Command::Relay { set, name, digits } => relay(
+            *name.allocator(),
+            set.as_str(),
+            name.as_str(),
+            digits.as_str(),
+        ),
     }
 }
 

@@ -16,5 +16,4 @@ pub returns-in-len4-clause-found : goal.returns-in-len4-clause-found
 returns-in-len4-clause-found c =
     let words = four_items c.args.words.now _ _ _ _ c.in-len4.len_at_least c.in-len4.len_below c.command-item.is c.set-item.is c.name-item.is c.digits-item.is in
     let command = (bytes_eq-Decides c.as_str.result.now _).0 (sym c.eq.ensures ∙ c.if-eq.true) in
-    let set = (bytes_eq-Decides c.as_str-then-eq.result.now _).0 (sym c.eq-then-eq.ensures ∙ c.if-eq-2.true) in
     ap (map string_bytes) words ∙ (cc)
