@@ -6,6 +6,7 @@ ghost use Rattle.prost_reflect_wire.specs.Writing.{relayed};
 ghost use Rattle.prost_reflect.specs.Pools.{pool_rows};
 ghost use Rattle.prost_reflect.specs.Descriptors.{schema_at, type_at};
 ghost use Rattle.prost_reflect.specs.Covered.{covered};
+ghost use Rattle.prost_reflect.specs.BuiltinRows.{builtin_rows};
 ghost use Rattle.protorelay.specs.Types.{covered_type};
 ghost use Rattle.protorelay.specs.Sets.{IsPoolOfSet};
 ghost use Rattle.protorelay.specs.Relaying.{pool_schema, IsRelayed, RefusesBytes, RefusesPool, Refuses, hex_refusal, pool_refusal, decode_refusal, encode_refusal};
@@ -119,10 +120,21 @@ fn pool_of(alloc: Global, set: &str) -> Result<DescriptorPool, Refusal>
     ensures refused { IfErr result (RefusesPool set.now) }
 {
     if set == "-" {
-        return Ok(builtin_pool(alloc)?);
+        return builtin(alloc);
     }
     let bytes = hex::decode(alloc, set)?;
     Ok(DescriptorPool::decode(alloc, bytes.as_slice())?)
+}
+
+/// The built-in pool. Its files are sound, as tests show, so it lacks memory where it is refused.
+fn builtin(alloc: Global) -> Result<DescriptorPool, Refusal>
+    ensures rows { IfOk result (λ pool. pool_rows pool ≡ builtin_rows) }
+    ensures refused { IfErr result (λ refusal. refusal ≡ refusals.Memory) }
+{
+    match builtin_pool(alloc) {
+        Ok(pool) => Ok(pool),
+        Err(_) => Err(Refusal::Memory),
+    }
 }
 
 /// The message type of the name in the pool, if it can be read and written so far.
