@@ -38,10 +38,10 @@ unread_same links d e r =
     rw (there, code, message, enum, value)
 
 pub bad_default_same : (a b : FlatRows) → SameRows a b → bad_default a ≡ bad_default b
+unfolding default_bad
 bad_default_same a b h = any_field_same (default_bad (links_of a)) (default_bad (links_of b)) each a b h
   where
     each : (d e : DefinitionRow FieldDescriptorProto) → SameRow SameField d e → default_bad (links_of a) d ≡ default_bad (links_of b) e
-    unfolding default_bad
     each d e r =
         let misplaced = misplaced_same d e r in
         let unread = unread_same (links_of b) d e r in
@@ -49,10 +49,10 @@ bad_default_same a b h = any_field_same (default_bad (links_of a)) (default_bad 
         ap (λ (links : Links). default_bad links d) (links_same a b h) ∙ (rw (misplaced, unread, code))
 
 pub float_default_same : (a b : FlatRows) → SameRows a b → float_default a ≡ float_default b
+unfolding float_default_bad
 float_default_same a b h = any_field_same (float_default_bad (links_of a)) (float_default_bad (links_of b)) each a b h
   where
     each : (d e : DefinitionRow FieldDescriptorProto) → SameRow SameField d e → float_default_bad (links_of a) d ≡ float_default_bad (links_of b) e
-    unfolding float_default_bad
     each d e r =
         let unread = unread_same (links_of b) d e r in
         let code = r.proto.type_ in
