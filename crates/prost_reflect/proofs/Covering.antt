@@ -2,7 +2,6 @@
 use Rattle.std.proofs.Common.{◌≡◌, ℕ, Bool, true, false, not, ◌&&◌, List, [], ◌∷◌, map, Option, Some, None, cond, subst, refl, sym, ap, ◌∙◌}
 use Rattle.std.specs.Prelude.{slice_get, nat_eq}
 use Rattle.std.specs.List.{list_all}
-use Rattle.std.specs.Option.{is_some}
 use Rattle.prost_reflect_wire.specs.Schema.{ScalarOf, FieldForm, Singular, Repeated as RepeatedForm, MapFrom, Field, Schema, known, field_of, is_singular}
 use Rattle.prost_reflect_tables.specs.declared.tables.Cardinality.{Cardinality}
 use Rattle.prost_reflect_tables.specs.declared.tables.Cardinality.TheVariants.{Optional, Required, Repeated}
@@ -44,15 +43,15 @@ repeated_form enums f None = refl
 repeated_form enums f (Some entry) = refl
 
 -- A single row is shown by its own kind; a repeated one is no single field.
-shown_with : (rows : TableRows) (f : FieldRow) (c : Cardinality) (x : Bool) →
-    not (is_repeated c) && is_plain_kind f.kind && x
-    ≡ (is_singular (form_of rows.enums f c (map_entry rows.messages f c)) && is_plain (value_type_of rows.enums f (map_entry rows.messages f c)).kind && x)
-shown_with rows f Optional x = rw (plain_kind rows.enums f.kind f.is_group) refl
-shown_with rows f Required x = rw (plain_kind rows.enums f.kind f.is_group) refl
-shown_with rows f Repeated x = rw (repeated_form rows.enums f (map_entry rows.messages f Repeated)) refl
+shown_with : (rows : TableRows) (f : FieldRow) (c : Cardinality) →
+    not (is_repeated c) && is_plain_kind f.kind
+    ≡ (is_singular (form_of rows.enums f c (map_entry rows.messages f c)) && is_plain (value_type_of rows.enums f (map_entry rows.messages f c)).kind)
+shown_with rows f Optional = rw (plain_kind rows.enums f.kind f.is_group) refl
+shown_with rows f Required = rw (plain_kind rows.enums f.kind f.is_group) refl
+shown_with rows f Repeated = rw (repeated_form rows.enums f (map_entry rows.messages f Repeated)) refl
 
 covered_row : (rows : TableRows) (f : FieldRow) → row_covered f ≡ field_covered (schema_field rows f)
-covered_row rows f = shown_with rows f f.cardinality (not (is_some f.oneof))
+covered_row rows f = shown_with rows f f.cardinality
 
 all_covered : (rows : TableRows) (fields : List FieldTable) → list_all (λ f. row_covered (field_row f)) fields ≡ list_all field_covered (map (schema_field rows) (map field_row fields))
 all_covered rows [] = refl
@@ -86,20 +85,11 @@ covered_field schema T n f h e = passing_field (known schema T) n f h e
 pub record OnePlain (f : Field) : Type 0 where
   pub single : f.form ≡ Singular
   pub plain : is_plain f.value_type.kind ≡ true
-  pub alone : f.oneof ≡ None
 
 pub covered_parts : (f : Field) → field_covered f ≡ true → OnePlain f
-covered_parts f h = record {
-  single = singular f.form (and_left _ _ (and_left (is_singular f.form && is_plain f.value_type.kind) _ h));
-  plain = and_right (is_singular f.form) _ (and_left (is_singular f.form && is_plain f.value_type.kind) _ h);
-  alone = none f.oneof (and_right (is_singular f.form && is_plain f.value_type.kind) _ h);
-}
+covered_parts f h = record { single = singular f.form (and_left (is_singular f.form) _ h); plain = and_right (is_singular f.form) _ h }
   where
     singular : (form : FieldForm) → is_singular form ≡ true → form ≡ Singular
     singular Singular e = refl
     singular (RepeatedForm packed) e = cc
     singular (MapFrom key) e = cc
-
-    none : (o : Option ℕ) → not (is_some o) ≡ true → o ≡ None
-    none None e = refl
-    none (Some o) e = cc

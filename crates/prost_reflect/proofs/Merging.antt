@@ -1,12 +1,12 @@
 -- Records read into a message.
-use Rattle.std.proofs.Common.{◌≡◌, ℕ, List, Option, Some, None, refl, sym, ap, ◌∙◌, subst, ◌≤◌, ◌<◌, ◌^◌, true}
+use Rattle.std.proofs.Common.{◌≡◌, ℕ, List, Option, Some, None, refl, sym, ap, ◌∙◌, subst, ◌≤◌, ◌<◌, ◌^◌, true, false}
 use Rattle.prost_reflect_wire.specs.declared.key.WireType.{WireType}
 use Rattle.prost_reflect_wire.specs.declared.error.DecodeError.{DecodeError}
 use Rattle.prost_reflect_wire.specs.Varint.{AreBytes}
-use Rattle.prost_reflect_wire.specs.Record.{Payload, record_at}
+use Rattle.prost_reflect_wire.specs.Record.{Payload, Flat, record_at}
 use Rattle.prost_reflect_wire.specs.Front.{ValueFront}
-use Rattle.prost_reflect_wire.specs.Scalar.{Scalar, ScalarKind}
-use Rattle.prost_reflect_wire.specs.Schema.{ScalarOf, Singular, Field, Schema, known, field_of}
+use Rattle.prost_reflect_wire.specs.Scalar.{Scalar, ScalarKind, is_undeclared}
+use Rattle.prost_reflect_wire.specs.Schema.{ScalarOf, Singular, Field, Schema, known, field_of, numbers_differ}
 use Rattle.prost_reflect_wire.specs.Content.{Content, ContentOf, Entries, ScalarValue, schema_of, type_of}
 use Rattle.prost_reflect_wire.specs.Content as contents
 use Rattle.prost_reflect_wire.specs.Typing.{WellStored}
@@ -14,7 +14,6 @@ use Rattle.prost_reflect_wire.specs.Edit.{with_field_value}
 use Rattle.prost_reflect_wire.specs.Fault.{OfType, ValueFault}
 use Rattle.prost_reflect_wire.specs.Decoding.{Step, ScalarRead, ScalarFault, StandsBehindKey}
 use Rattle.prost_reflect_wire.proofs.RecordReads.{IsOpen}
-use Rattle.prost_reflect_wire.proofs.PlainTypes.{NoOneofs}
 use Rattle.prost_reflect_wire.proofs.Holding.{scalar_holds, unknown_holds}
 use Rattle.prost_reflect_wire.proofs.ScalarFaults.{scalar_stands}
 use Rattle.prost_reflect_wire.proofs.PlaceFaults.{value_stands}
@@ -33,28 +32,25 @@ use Rattle.prost_reflect.specs.View.{value_of, content_of, descriptor_of}
 use Rattle.prost_reflect.specs.Scalars.{plain_kind, PlainField, ReadsScalar, RefusesScalar}
 use Rattle.prost_reflect.proofs.Views.{content_of_message}
 use Rattle.prost_reflect.proofs.PlainKinds.{plain_row}
+use Rattle.prost_reflect.proofs.Siblings.{known_differ}
 use Rattle.prost_reflect.specs.Contents.{value_set, unknown_added}
 use Rattle.prost_reflect.specs.Covered.{covered}
 use Rattle.prost_reflect.proofs.Covering.{covered_field, covered_parts}
 
--- a covered type has no oneofs
-pub covered_alone : (schema : Schema) (T : ℕ) → covered schema T ≡ true → NoOneofs (known schema T)
-covered_alone schema T h = record { none = λ m f found. let parts = covered_parts f (covered_field schema T m f h found) in parts.alone }
-
 -- a scalar's value was set
-pub set_step : (levels n : ℕ) (w : WireType) (c d : Content) (f : Field) (kind : ScalarKind) (v : contents.Value) (s : Scalar) (bytes rest : List ℕ) → WellStored c → NoOneofs (known (schema_of c) (type_of c)) →
-    field_of (known (schema_of c) (type_of c)) n ≡ Some f → f.form ≡ Singular → f.value_type.kind ≡ ScalarOf kind → f.oneof ≡ None → IsOpen kind → AreBytes bytes → ScalarRead kind w s bytes rest →
+pub set_step : (levels n : ℕ) (w : WireType) (c d : Content) (f : Field) (kind : ScalarKind) (v : contents.Value) (s : Scalar) (bytes rest : List ℕ) → WellStored c → numbers_differ (known (schema_of c) (type_of c)) ≡ true →
+    field_of (known (schema_of c) (type_of c)) n ≡ Some f → f.form ≡ Singular → f.value_type.kind ≡ ScalarOf kind → (read : ScalarRead kind w s bytes rest) → is_undeclared kind (Flat read.plain) ≡ false → AreBytes bytes →
     v ≡ ScalarValue s → d ≡ value_set n v c → Step levels n w c d bytes rest
-set_step levels n w (ContentOf schema T es) d f kind v s bytes rest sound none found form is alone whole small read value new =
+set_step levels n w (ContentOf schema T es) d f kind v s bytes rest sound differ found form is read declared small value new =
     subst (λ d. Step levels n w (ContentOf schema T es) d bytes rest)
     (sym (new ∙ ap (λ v. value_set n v (ContentOf schema T es)) value ∙ ap (λ (o : Option Field). ContentOf schema T (elim o [ None ↦ es | Some f ↦ with_field_value (known schema T) f (Some (ScalarValue s)) es ])) found))
-    (scalar_holds schema T es sound levels n f kind w s bytes rest none found form is alone whole small read)
+    (scalar_holds schema T es differ sound levels n f kind w s bytes rest found form is read declared small)
 
 -- an unknown field was added
-pub added_step : (levels n : ℕ) (w : WireType) (c d : Content) (p : Payload) (bytes rest : List ℕ) → WellStored c → NoOneofs (known (schema_of c) (type_of c)) →
+pub added_step : (levels n : ℕ) (w : WireType) (c d : Content) (p : Payload) (bytes rest : List ℕ) → WellStored c → numbers_differ (known (schema_of c) (type_of c)) ≡ true →
     field_of (known (schema_of c) (type_of c)) n ≡ None → 1 ≤ n → n < 2 ^ 29 → AreBytes bytes → ValueFront n w levels p bytes rest → d ≡ unknown_added (record_at n p) c → Step levels n w c d bytes rest
-added_step levels n w (ContentOf schema T es) d p bytes rest sound none absent some below small front new =
-    subst (λ d. Step levels n w (ContentOf schema T es) d bytes rest) (sym new) (unknown_holds schema T es sound levels n w p bytes rest none absent some below small front)
+added_step levels n w (ContentOf schema T es) d p bytes rest sound differ absent some below small front new =
+    subst (λ d. Step levels n w (ContentOf schema T es) d bytes rest) (sym new) (unknown_holds schema T es differ sound levels n w p bytes rest absent some below small front)
 
 -- MESSAGES
 
@@ -62,8 +58,8 @@ added_step levels n w (ContentOf schema T es) d p bytes rest sound none absent s
 pub known_in : (m : DynamicMessage) → known (schema_of (content_of m)) (type_of (content_of m)) ≡ known_of (descriptor_of m)
 known_in m = ap (λ c. known (schema_of c) (type_of c)) (content_of_message m)
 
-alone_in : (m : DynamicMessage) → covered (schema_at (descriptor_of m)) (type_at (descriptor_of m)) ≡ true → NoOneofs (known (schema_of (content_of m)) (type_of (content_of m)))
-alone_in m h = subst NoOneofs (sym (known_in m)) (covered_alone (schema_at (descriptor_of m)) (type_at (descriptor_of m)) h)
+differ_in : (m : DynamicMessage) → numbers_differ (known (schema_of (content_of m)) (type_of (content_of m))) ≡ true
+differ_in m = ap numbers_differ (known_in m) ∙ known_differ (descriptor_of m)
 
 plain_open : (kind : TableKind) (k : ScalarKind) → plain_kind kind ≡ Some k → IsOpen k
 plain_open kinds.Double k e = subst IsOpen (let is : ◌≡◌ {A = ScalarKind} scalars.Double k = cc in is) (record { declared = λ p. refl })
@@ -88,21 +84,22 @@ pub plain_field : (d : MessageDescriptor) (n : ℕ) (row : FieldRow) → covered
 plain_field d n row h found =
     let parts = covered_parts (schema_field (pool_rows d.pool) row) (covered_field (schema_at d) (type_at d) n (schema_field (pool_rows d.pool) row) h found) in
     let kind = plain_row (pool_rows d.pool) row parts.single parts.plain in
-    record { field = schema_field (pool_rows d.pool) row; scalar_kind = kind.scalar; found = found; plain = kind.named; form = parts.single; kind_is = kind.is; alone = parts.alone }
+    record { field = schema_field (pool_rows d.pool) row; scalar_kind = kind.scalar; found = found; plain = kind.named; form = parts.single; kind_is = kind.is }
 
 same_kind : {k l : ScalarKind} {o : Option ScalarKind} → o ≡ Some k → o ≡ Some l → k ≡ l
 same_kind e f = cc
 
-pub scalar_set : (m new : DynamicMessage) (levels n : ℕ) (w : WireType) (kind : TableKind) (v : Value) (bytes rest : List ℕ) → WellStored (content_of m) → covered (schema_at (descriptor_of m)) (type_at (descriptor_of m)) ≡ true →
+pub scalar_set : (m new : DynamicMessage) (levels n : ℕ) (w : WireType) (kind : TableKind) (v : Value) (bytes rest : List ℕ) → WellStored (content_of m) →
     PlainField (known_of (descriptor_of m)) n kind → AreBytes bytes → ReadsScalar kind w v bytes rest → content_of new ≡ value_set n (value_of v) (content_of m) → Step levels n w (content_of m) (content_of new) bytes rest
-scalar_set m new levels n w kind v bytes rest sound h field small read content =
-    set_step levels n w (content_of m) (content_of new) field.field read.scalar_kind (value_of v) read.scalar bytes rest sound (alone_in m h) (ap (λ fields. field_of fields n) (known_in m) ∙ field.found)
-    field.form (field.kind_is ∙ ap ScalarOf (same_kind field.plain read.plain)) field.alone (plain_open kind read.scalar_kind read.plain) small read.read read.value content
+scalar_set m new levels n w kind v bytes rest sound field small read content =
+    let r = read.read in
+    set_step levels n w (content_of m) (content_of new) field.field read.scalar_kind (value_of v) read.scalar bytes rest sound (differ_in m) (ap (λ fields. field_of fields n) (known_in m) ∙ field.found)
+    field.form (field.kind_is ∙ ap ScalarOf (same_kind field.plain read.plain)) r ((plain_open kind read.scalar_kind read.plain).declared (Flat r.plain)) small read.value content
 
-pub unknown_set : (m new : DynamicMessage) (levels n : ℕ) (w : WireType) (p : Payload) (bytes rest : List ℕ) → WellStored (content_of m) → covered (schema_at (descriptor_of m)) (type_at (descriptor_of m)) ≡ true →
+pub unknown_set : (m new : DynamicMessage) (levels n : ℕ) (w : WireType) (p : Payload) (bytes rest : List ℕ) → WellStored (content_of m) →
     field_of (known_of (descriptor_of m)) n ≡ None → 1 ≤ n → n < 2 ^ 29 → AreBytes bytes → ValueFront n w levels p bytes rest → content_of new ≡ unknown_added (record_at n p) (content_of m) → Step levels n w (content_of m) (content_of new) bytes rest
-unknown_set m new levels n w p bytes rest sound h absent some below small front content =
-    added_step levels n w (content_of m) (content_of new) p bytes rest sound (alone_in m h) (ap (λ fields. field_of fields n) (known_in m) ∙ absent) some below small front content
+unknown_set m new levels n w p bytes rest sound absent some below small front content =
+    added_step levels n w (content_of m) (content_of new) p bytes rest sound (differ_in m) (ap (λ fields. field_of fields n) (known_in m) ∙ absent) some below small front content
 
 -- REFUSALS
 

@@ -79,7 +79,6 @@ pub record PlainField (fields : List Field) (n : ℕ) (kind : TableKind) : Type 
   pub plain : plain_kind kind ≡ Some scalar_kind
   pub form : field.form ≡ Singular
   pub kind_is : field.value_type.kind ≡ ScalarOf scalar_kind
-  pub alone : field.oneof ≡ None
 
 -- DEFAULTS
 

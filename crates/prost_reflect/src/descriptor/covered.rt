@@ -10,7 +10,7 @@ use crate::descriptor::MessageDescriptor;
 use prost_reflect_tables::{Cardinality, FieldTable, TableKind};
 
 impl MessageDescriptor {
-    /// Whether the message type is covered by reading and writing so far: each field has at most one value, of a scalar kind other than an enum, and is in no oneof.
+    /// Whether the message type is covered by reading and writing so far: each field has at most one value, of a scalar kind other than an enum.
     pub fn is_covered(&self) -> bool
         ensures { result ≡ covered (schema_at self.now) (type_at self.now) }
     {
@@ -27,7 +27,7 @@ fn are_covered(fields: &[FieldTable]) -> bool
 fn is_field_covered(field: &FieldTable) -> bool
     ensures { result ≡ row_covered (field_row field.now) }
 {
-    is_single(field.cardinality) && is_plain(field.kind) && field.oneof.is_none()
+    is_single(field.cardinality) && is_plain(field.kind)
 }
 
 fn is_single(cardinality: Cardinality) -> bool

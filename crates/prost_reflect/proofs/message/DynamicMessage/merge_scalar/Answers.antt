@@ -8,4 +8,4 @@ returns-in_err-value-clause-fault c = let p = err_from_is_err_and c.from_residua
     rw (p.1, p.2) (λ ne. scalar_fault c.args.self.now _ _ _ c.args.kind _ _ c.requires.field (c.in_err-value.ensures.fault ne))
 
 pub returns-clause-ok : goal.returns-clause-ok
-returns-clause-ok c = scalar_set c.args.self.now c.set_value.new.self _ _ _ c.args.kind c.in_ok-value.value _ _ c.requires.sound c.requires.plain c.requires.field (bytes_below _ c.type_inv.bytes) c.in_ok-value.ensures.ok (rw c.get.ensures.value at c.in_ok-set_value.ensures.content)
+returns-clause-ok c = scalar_set c.args.self.now c.set_value.new.self _ _ _ c.args.kind c.in_ok-value.value _ _ c.requires.sound c.requires.field (bytes_below _ c.type_inv.bytes) c.in_ok-value.ensures.ok (rw c.get.ensures.value at c.in_ok-set_value.ensures.content)
