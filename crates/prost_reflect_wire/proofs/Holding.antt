@@ -122,10 +122,10 @@ module _ (schema : Schema) (T : ℕ) (es : Entries) (differ : numbers_differ (kn
       (ap (λ o. unknown_fits o n p) absent ∙ both_true (both_true (lt-ltb 0 n some) (lt-ltb n (2 ^ 29) below)) (payload_front_valid n p bytes rest small front.front)) front
 
   -- at the number of a closed enum that doesn't declare the number read
-  pub stray_holds : (k n : ℕ) (f : Field) (kind : ScalarKind) (w : WireType) (p : Payload) (bytes rest : List ℕ) → field_of (known schema T) n ≡ Some f → f.form ≡ Singular → f.value_type.kind ≡ ScalarOf kind → is_undeclared kind p ≡ true →
-      AreBytes bytes → ValueFront n w k p bytes rest → Step k n w (ContentOf schema T es) (ContentOf schema T (changed n (with_unknown n p) es)) bytes rest
-  stray_holds k n f kind w p bytes rest found form is stray small front = beside_holds k n w p bytes rest (stray_allowed schema k T n f kind p found form is stray) (stray_back (known schema T) n f p found whole)
+  pub stray_holds : (k n : ℕ) (f : Field) (w : WireType) (p : Payload) (bytes rest : List ℕ) → field_of (known schema T) n ≡ Some f → f.form ≡ Singular → is_stray f.value_type.kind p ≡ true → AreBytes bytes → ValueFront n w k p bytes rest →
+      Step k n w (ContentOf schema T es) (ContentOf schema T (changed n (with_unknown n p) es)) bytes rest
+  stray_holds k n f w p bytes rest found form stray small front = beside_holds k n w p bytes rest (stray_allowed schema k T n f p found form stray) (stray_back (known schema T) n f p found whole)
       (ap (λ o. unknown_fits o n p) found ∙ both_true (payload_front_valid n p bytes rest small front.front) whole) front
     where
       whole : is_whole_stray f.form f.value_type p ≡ true
-      whole = ap (λ form. is_whole_stray form f.value_type p) form ∙ ap (λ k. is_stray k p) is ∙ stray
+      whole = ap (λ form. is_whole_stray form f.value_type p) form ∙ stray

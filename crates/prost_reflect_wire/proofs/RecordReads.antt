@@ -9,7 +9,7 @@ use Rattle.prost_reflect_wire.specs.Front.{ValueFront}
 use Rattle.prost_reflect_wire.specs.Scalar.{Scalar, ScalarKind, is_undeclared, scalar_valid}
 use Rattle.prost_reflect_wire.specs.Schema.{ScalarOf, Singular, Field, Schema, known, field_of, is_sibling}
 use Rattle.prost_reflect_wire.specs.Content.{ContentOf, Entries, Value, ScalarValue, slot_at, entries_ordered}
-use Rattle.prost_reflect_wire.specs.Grammar.{allows, record_allowed, field_allowed, one_allowed}
+use Rattle.prost_reflect_wire.specs.Grammar.{allows, is_stray, record_allowed, field_allowed, one_allowed}
 use Rattle.prost_reflect_wire.specs.Meaning.{step_by, steps}
 use Rattle.prost_reflect_wire.specs.Writing.{record_at}
 use Rattle.prost_reflect_wire.specs.Typing.{kept}
@@ -35,10 +35,6 @@ one_allowed_record schema k T r h = allows_inside schema k T (r ∷ []) ∙ both
 one_step : (schema : Schema) (k T : ℕ) (es ds : Entries) (r : Record) → step_by (below schema k) (further k) (kept (ContentOf schema T es)) r ≡ kept (ContentOf schema T ds) →
     kept (ContentOf schema T ds) ≡ steps k (kept (ContentOf schema T es)) (r ∷ [])
 one_step schema k T es ds r h = sym (steps_one k (kept (ContentOf schema T es)) [] r ∙ ap (λ c. step_by (below schema k) (further k) c r) (steps_level k (kept (ContentOf schema T es)) []) ∙ h)
-
--- kinds that declare every number
-pub record IsOpen (kind : ScalarKind) : Type 0 where
-  pub declared : (p : Payload) → is_undeclared kind p ≡ false
 
 abbrev Changed : List Field → Field → Value → Entries → Entries → Type 0
 Changed fields f v es ds = (m : ℕ) → slot_at ds m ≡ with_stored fields f v m (slot_at es m)
@@ -101,11 +97,10 @@ unknown_allowed schema k T n p none within =
     ap (λ o. elim o [ None ↦ nat_le (payload_levels p) k | Some g ↦ field_allowed k (inside schema k) g.form g.value_type p ]) none ∙ le-leb (payload_levels p) k within
 
 -- a field of a closed enum takes the numbers that it doesn't declare
-pub stray_allowed : (schema : Schema) (k T n : ℕ) (f : Field) (kind : ScalarKind) (p : Payload) → field_of (known schema T) n ≡ Some f → f.form ≡ Singular → f.value_type.kind ≡ ScalarOf kind → is_undeclared kind p ≡ true →
-    record_allowed k (inside schema k) (known schema T) (record_at n p) ≡ true
-stray_allowed schema k T n f kind p found form is stray =
+pub stray_allowed : (schema : Schema) (k T n : ℕ) (f : Field) (p : Payload) → field_of (known schema T) n ≡ Some f → f.form ≡ Singular → is_stray f.value_type.kind p ≡ true → record_allowed k (inside schema k) (known schema T) (record_at n p) ≡ true
+stray_allowed schema k T n f p found form stray =
     ap (λ o. elim o [ None ↦ nat_le (payload_levels p) k | Some g ↦ field_allowed k (inside schema k) g.form g.value_type p ]) found
-    ∙ ap (λ form. field_allowed k (inside schema k) form f.value_type p) form ∙ ap (λ kind. one_allowed (inside schema k) kind p) is ∙ (one_stray (inside schema k) k (ScalarOf kind) p stray).0
+    ∙ ap (λ form. field_allowed k (inside schema k) form f.value_type p) form ∙ (one_stray (inside schema k) k f.value_type.kind p stray).0
 
 -- WHAT IS STORED FITS
 

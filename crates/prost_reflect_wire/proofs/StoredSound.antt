@@ -9,7 +9,7 @@ use Rattle.prost_reflect_wire.specs.Edit.{with_value}
 use Rattle.prost_reflect_wire.specs.Storing.{with_stored, with_unknown}
 use Rattle.prost_reflect_wire.proofs.Deeper.{and_both, both_true}
 use Rattle.prost_reflect_wire.proofs.Everywhere.{stored_passes}
-use Rattle.prost_reflect_wire.proofs.Slots.{Apart, not_own, members_apart, apart_members, alone_changed}
+use Rattle.prost_reflect_wire.proofs.Slots.{not_own, members_apart, apart_members, alone_changed}
 use Rattle.prost_reflect_wire.proofs.StoredPasses.{entries_stored_pass, entries_unknown_pass}
 use Rattle.prost_reflect_wire.proofs.StoredTyped.{value_stored_typed, unknown_stored_typed}
 
