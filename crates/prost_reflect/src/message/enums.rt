@@ -21,7 +21,7 @@ pub(crate) fn first_number(descriptor: &MessageDescriptor, place: usize) -> i32
 }
 
 /// Whether a value is a number that its kind, a closed enum of the message type's pool, does not declare. Its record
-/// stays an unknown field. All declared numbers are looked at.
+/// stays an unknown field. The declared numbers are looked at one after another.
 pub(crate) fn is_stray(descriptor: &MessageDescriptor, kind: TableKind, value: &Value) -> bool
     ensures { result ≡ is_stray_number (pool_rows descriptor.now.pool).enums kind (value_of value.now) }
 {
