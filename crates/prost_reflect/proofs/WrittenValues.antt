@@ -1,10 +1,10 @@
--- What is written of a plain scalar field's value.
+-- What is written of the value of a field of one scalar.
 use Rattle.std.proofs.Common.{◌≡◌, ℕ, Bool, true, false, cond, not, ◌&&◌, List, [], ◌++◌, Option, Some, None, refl, sym, ap, ap₂, ◌∙◌, true≢false}
 use Rattle.prost_reflect_wire.specs.Record.{short_key, short_plain}
 use Rattle.prost_reflect_wire.specs.Scalar as scalars
 use Rattle.prost_reflect_wire.specs.Scalar.{Scalar, ScalarKind, kind_wire, kind_default, scalar_eq, scalar_valid, written}
-use Rattle.prost_reflect_wire.specs.Schema.{ScalarOf, ValueType, Singular, Field, field_of, is_message, passes}
-use Rattle.prost_reflect_wire.specs.Content.{ScalarValue, MessageValue, ListValue, MapValue, Pairs}
+use Rattle.prost_reflect_wire.specs.Schema.{Kind, ScalarOf, ValueType, Singular, Field, field_of, is_message, passes}
+use Rattle.prost_reflect_wire.specs.Content.{ScalarValue, MessageValue, ListValue, MapValue}
 use Rattle.prost_reflect_wire.specs.Content as contents
 use Rattle.prost_reflect_wire.specs.Typing.{value_valid, kind_takes, is_repeated, pairs_valid}
 use Rattle.prost_reflect_wire.specs.Storing.{value_bytes}
@@ -12,16 +12,20 @@ use Rattle.prost_reflect_wire.proofs.Deeper.{and_both}
 use Rattle.prost_reflect_wire.proofs.WrittenEntries.{scalar_written}
 use Rattle.prost_reflect_tables.specs.declared.tables.Cardinality.{Cardinality}
 use Rattle.prost_reflect_tables.specs.declared.tables.Cardinality.TheVariants.{Optional, Required, Repeated as RepeatedLabel}
-use Rattle.prost_reflect_tables.specs.Rows.{FieldRow, MessageRow, TableRows}
-use Rattle.prost_reflect_tables.specs.Shown.{schema_default, own_type, map_entry, value_type_of, form_of, schema_field}
+use Rattle.prost_reflect_tables.specs.Rows.{FieldRow, MessageRow, EnumRow, TableRows}
+use Rattle.prost_reflect_tables.specs.declared.tables.TableKind.{TableKind}
+use Rattle.prost_reflect_tables.specs.declared.tables.TableKind.TheVariants as kinds
+use Rattle.std.specs.Prelude.{slice_get}
+use Rattle.prost_reflect_tables.specs.Shown.{schema_default, schema_kind, enum_kind, own_type, map_entry, value_type_of, form_of, schema_field}
 use Rattle.prost_reflect.specs.declared.descriptor.message.MessageDescriptor.{MessageDescriptor}
 use Rattle.prost_reflect.specs.Pools.{pool_rows}
 use Rattle.prost_reflect.specs.Descriptors.{schema_at, type_at}
 use Rattle.prost_reflect.specs.Known.{known_of}
-use Rattle.prost_reflect.specs.Covered.{covered, is_plain}
+use Rattle.prost_reflect.specs.Covered.{covered}
+use Rattle.prost_reflect.specs.Enums.{first_of}
 use Rattle.prost_reflect.specs.Scalars.{plain_kind, TakesScalar, scalar_record_bytes, zero_like, is_default}
-use Rattle.prost_reflect.proofs.Covering.{OnePlain, covered_field, covered_parts}
-use Rattle.prost_reflect.proofs.PlainKinds.{PlainKind, plain_row}
+use Rattle.prost_reflect.proofs.Covering.{OneScalar, covered_field, covered_parts}
+use Rattle.prost_reflect.proofs.PlainKinds.{NamedKind, scalar_row, plain_of, plain_payloads}
 
 -- a field of one value has its row's own type
 own_of : (rows : TableRows) (row : FieldRow) → (schema_field rows row).form ≡ Singular → (schema_field rows row).value_type ≡ own_type rows.enums row
@@ -36,7 +40,7 @@ own_of rows row form = go row.cardinality form
     go Required f = refl
     go RepeatedLabel f = absurd (listed (map_entry rows.messages row RepeatedLabel) f)
 
--- a value of a plain field is a scalar of its kind
+-- a value of such a field is a scalar of its kind
 pub record PlainValue (kind : ScalarKind) (v : contents.Value) : Type 0 where
   pub scalar : Scalar
   pub is : v ≡ ScalarValue scalar
@@ -48,8 +52,12 @@ valid_scalar f kind (MessageValue c) form is h = absurd (true≢false (sym (and_
 valid_scalar f kind (ListValue vs) form is h = absurd (true≢false (sym (and_both _ _ h).0 ∙ ap is_repeated form))
 valid_scalar f kind (MapValue ps) form is h = absurd (true≢false (sym h ∙ ap (λ form. pairs_valid form f.value_type.kind ps) form))
 
+abbrev is_enum : Kind → Bool
+is_enum (ScalarOf (scalars.Enum first numbers)) = true
+is_enum kind = false
+
 -- zero is the kind's default, enums aside
-zero_of : (kind : ScalarKind) (s : Scalar) → is_plain (ScalarOf kind) ≡ true → scalar_valid kind s ≡ true → zero_like s ≡ kind_default kind
+zero_of : (kind : ScalarKind) (s : Scalar) → is_enum (ScalarOf kind) ≡ false → scalar_valid kind s ≡ true → zero_like s ≡ kind_default kind
 zero_of scalars.Double (scalars.F64 x) p h = refl
 zero_of scalars.Float (scalars.F32 x) p h = refl
 zero_of scalars.Int32 (scalars.I32 x) p h = refl
@@ -65,30 +73,41 @@ zero_of scalars.Sfixed64 (scalars.I64 x) p h = refl
 zero_of scalars.BoolKind (scalars.Boolean x) p h = refl
 zero_of scalars.StringKind (scalars.Text x) p h = refl
 zero_of scalars.BytesKind (scalars.Bytes x) p h = refl
-zero_of (scalars.Enum first numbers) s p h = absurd (true≢false (sym p))
+zero_of (scalars.Enum first numbers) s p h = absurd (true≢false p)
 zero_of kind s p h = absurd (true≢false (sym h))
 
-default_is : (kind : ScalarKind) (s : Scalar) (o : Option Scalar) → is_plain (ScalarOf kind) ≡ true → scalar_valid kind s ≡ true → scalar_eq s (schema_default o (ScalarOf kind)) ≡ is_default o (ScalarValue s)
-default_is kind s (Some w) p h = refl
-default_is kind s None p h = ap (scalar_eq s) (sym (zero_of kind s p h))
+default_is : (enums : List EnumRow) (table : TableKind) (own : ScalarKind) (s : Scalar) (o : Option Scalar) → schema_kind enums table false ≡ ScalarOf own → scalar_valid own s ≡ true →
+    scalar_eq s (schema_default o (ScalarOf own)) ≡ is_default enums table o (ScalarValue s)
+default_is enums table own s (Some w) e h = refl
+default_is enums (kinds.Enum E) own s None e h = ap (λ kind. scalar_eq s (schema_default None kind)) (sym e) ∙ first (slice_get enums E)
+  where
+    first : (o : Option EnumRow) → scalar_eq s (kind_default (enum_kind o)) ≡ scalar_eq s (scalars.EnumNumber (first_of o))
+    first None = refl
+    first (Some row) = refl
+default_is enums (kinds.Message T) own s None e h = cc
+default_is enums table own s None e h = ap (scalar_eq s) (sym (zero_of own s (sym (ap is_enum e)) h))
 
 -- what the writer of a value needs to know, and what it has to write
-pub record PlainWritten (fields : List Field) (n : ℕ) (row : FieldRow) (v : contents.Value) : Type 0 where
+pub record PlainWritten (fields : List Field) (n : ℕ) (enums : List EnumRow) (row : FieldRow) (v : contents.Value) : Type 0 where
   pub takes : TakesScalar row.kind v
-  pub bytes : value_bytes fields n v ≡ cond (not row.supports_presence && is_default row.default v) [] (scalar_record_bytes n (plain_kind row.kind) v)
+  pub bytes : value_bytes fields n v ≡ cond (not row.supports_presence && is_default enums row.kind row.default v) [] (scalar_record_bytes n (plain_kind row.kind) v)
 
-written_by : (fields : List Field) (n : ℕ) (rows : TableRows) (row : FieldRow) (v : contents.Value) → OnePlain (schema_field rows row) → field_of fields n ≡ Some (schema_field rows row) → value_valid (schema_field rows row) v ≡ true → PlainWritten fields n row v
-written_by fields n rows row v one found valid = record {
-  takes = rw (kind.named, value.is) value.fits;
-  bytes = ap (value_bytes fields n) value.is
-      ∙ scalar_written fields n (schema_field rows row) kind.scalar value.scalar found one.single kind.is value.fits
-      ∙ ap (λ b. cond b [] (short_key n (kind_wire kind.scalar) ++ short_plain (written kind.scalar value.scalar))) same
-      ∙ ap (λ o. cond (not row.supports_presence && is_default row.default (ScalarValue value.scalar)) [] (scalar_record_bytes n o (ScalarValue value.scalar))) (sym kind.named)
-      ∙ ap (λ v. cond (not row.supports_presence && is_default row.default v) [] (scalar_record_bytes n (plain_kind row.kind) v)) (sym value.is);
-}
+written_by : (fields : List Field) (n : ℕ) (rows : TableRows) (row : FieldRow) (v : contents.Value) → OneScalar (schema_field rows row) → field_of fields n ≡ Some (schema_field rows row) → value_valid (schema_field rows row) v ≡ true → PlainWritten fields n rows.enums row v
+written_by fields n rows row v one found valid =
+    let (plain, named) = plain_of rows.enums row.kind kind.scalar kind.named in
+    let alike = plain_payloads rows.enums row.kind plain kind.scalar named kind.named in
+    record {
+      takes = rw (named, value.is) (alike.takes value.scalar value.fits);
+      bytes = ap (value_bytes fields n) value.is
+          ∙ scalar_written fields n (schema_field rows row) kind.scalar value.scalar found one.single kind.is value.fits
+          ∙ ap (λ b. cond b [] (short_key n (kind_wire kind.scalar) ++ short_plain (written kind.scalar value.scalar))) same
+          ∙ ap₂ (λ w p. cond (not row.supports_presence && is_default rows.enums row.kind row.default (ScalarValue value.scalar)) [] (short_key n w ++ short_plain p)) (sym alike.wire) (sym (alike.write value.scalar))
+          ∙ ap (λ o. cond (not row.supports_presence && is_default rows.enums row.kind row.default (ScalarValue value.scalar)) [] (scalar_record_bytes n o (ScalarValue value.scalar))) (sym named)
+          ∙ ap (λ v. cond (not row.supports_presence && is_default rows.enums row.kind row.default v) [] (scalar_record_bytes n (plain_kind row.kind) v)) (sym value.is);
+    }
   where
-    kind : PlainKind row.kind (schema_field rows row).value_type.kind
-    kind = plain_row rows row one.single one.plain
+    kind : NamedKind rows.enums row.kind (schema_field rows row).value_type.kind
+    kind = scalar_row rows row one.single one.scalar
 
     value : PlainValue kind.scalar v
     value = valid_scalar (schema_field rows row) kind.scalar v one.single kind.is valid
@@ -99,25 +118,25 @@ written_by fields n rows row v one found valid = record {
     own_kind : (own_type rows.enums row).kind ≡ ScalarOf kind.scalar
     own_kind = ap (λ (t : ValueType). t.kind) (sym own) ∙ kind.is
 
-    same : (not (schema_field rows row).value_type.presence && scalar_eq value.scalar (schema_field rows row).value_type.default) ≡ (not row.supports_presence && is_default row.default (ScalarValue value.scalar))
+    same : (not (schema_field rows row).value_type.presence && scalar_eq value.scalar (schema_field rows row).value_type.default) ≡ (not row.supports_presence && is_default rows.enums row.kind row.default (ScalarValue value.scalar))
     same = ap₂ (λ p d. not p && scalar_eq value.scalar d) (ap (λ (t : ValueType). t.presence) own) (ap (λ (t : ValueType). t.default) own ∙ ap (schema_default row.default) own_kind)
-        ∙ ap (λ b. not row.supports_presence && b) (default_is kind.scalar value.scalar row.default (ap is_plain (sym kind.is) ∙ one.plain) value.fits)
+        ∙ ap (λ b. not row.supports_presence && b) (default_is rows.enums row.kind kind.scalar value.scalar row.default kind.named value.fits)
 
 pub value_written : (d : MessageDescriptor) (n : ℕ) (row : FieldRow) (v : contents.Value) → covered (schema_at d) (type_at d) ≡ true → field_of (known_of d) n ≡ Some (schema_field (pool_rows d.pool) row) → value_valid (schema_field (pool_rows d.pool) row) v ≡ true →
-    PlainWritten (known_of d) n row v
+    PlainWritten (known_of d) n (pool_rows d.pool).enums row v
 value_written d n row v h found valid = written_by (known_of d) n (pool_rows d.pool) row v (covered_parts (schema_field (pool_rows d.pool) row) (covered_field (schema_at d) (type_at d) n (schema_field (pool_rows d.pool) row) h found)) found valid
 
 -- nothing, or the record
-pub left_out : (fields : List Field) (n : ℕ) (row : FieldRow) (v : contents.Value) → PlainWritten fields n row v → (not row.supports_presence && is_default row.default v) ≡ true → value_bytes fields n v ≡ []
-left_out fields n row v w h = w.bytes ∙ ap (λ b. cond b [] (scalar_record_bytes n (plain_kind row.kind) v)) h
+pub left_out : (fields : List Field) (n : ℕ) (enums : List EnumRow) (row : FieldRow) (v : contents.Value) → PlainWritten fields n enums row v → (not row.supports_presence && is_default enums row.kind row.default v) ≡ true → value_bytes fields n v ≡ []
+left_out fields n enums row v w h = w.bytes ∙ ap (λ b. cond b [] (scalar_record_bytes n (plain_kind row.kind) v)) h
 
-pub put_in : (fields : List Field) (n : ℕ) (row : FieldRow) (v : contents.Value) → PlainWritten fields n row v → (not row.supports_presence && is_default row.default v) ≡ false → value_bytes fields n v ≡ scalar_record_bytes n (plain_kind row.kind) v
-put_in fields n row v w h = w.bytes ∙ ap (λ b. cond b [] (scalar_record_bytes n (plain_kind row.kind) v)) h
+pub put_in : (fields : List Field) (n : ℕ) (enums : List EnumRow) (row : FieldRow) (v : contents.Value) → PlainWritten fields n enums row v → (not row.supports_presence && is_default enums row.kind row.default v) ≡ false → value_bytes fields n v ≡ scalar_record_bytes n (plain_kind row.kind) v
+put_in fields n enums row v w h = w.bytes ∙ ap (λ b. cond b [] (scalar_record_bytes n (plain_kind row.kind) v)) h
 
 -- the valid value of a number is that of its field
 pub passing : {A : Type 0} (o : Option A) (x : A) (test : A → Bool) → o ≡ Some x → passes o test ≡ true → test x ≡ true
 passing o x test e h = ap (λ o. passes o test) (sym e) ∙ h
 
 pub row_written : (d : MessageDescriptor) (n : ℕ) (row : FieldRow) (v : contents.Value) → covered (schema_at d) (type_at d) ≡ true → Some (schema_field (pool_rows d.pool) row) ≡ field_of (known_of d) n → passes (field_of (known_of d) n) (λ f. value_valid f v) ≡ true →
-    PlainWritten (known_of d) n row v
+    PlainWritten (known_of d) n (pool_rows d.pool).enums row v
 row_written d n row v h found valid = value_written d n row v h (sym found) (passing (field_of (known_of d) n) (schema_field (pool_rows d.pool) row) (λ f. value_valid f v) (sym found) valid)

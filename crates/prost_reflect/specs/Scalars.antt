@@ -1,21 +1,29 @@
 -- Scalar kinds of the tables, their payloads and values.
-use Rattle.std.specs.Prelude.{◌≡◌, ℕ, Bool, pos, true, false, List, [], ◌++◌, Option, Some, None, option_map, option_and_then, IsSomeAnd}
+use Rattle.std.specs.Prelude.{◌≡◌, ◌⊎◌, ℕ, Bool, pos, true, false, not, List, [], ◌++◌, Option, Some, None, option_map, option_and_then, slice_get, IsSomeAnd}
 use Rattle.prost_reflect_wire.specs.declared.key.WireType.{WireType}
 use Rattle.prost_reflect_wire.specs.declared.error.DecodeError.{DecodeError}
 use Rattle.prost_reflect_wire.specs.Record.{Payload, short_key, short_plain}
 use Rattle.prost_reflect_wire.specs.Scalar as scalars
-use Rattle.prost_reflect_wire.specs.Scalar.{Scalar, ScalarKind, elem, kind_wire, scalar_eq, written}
+use Rattle.prost_reflect_wire.specs.Scalar.{Scalar, ScalarKind, elem, kind_wire, scalar_eq, written, is_declared}
 use Rattle.prost_reflect_wire.specs.Content.{ScalarValue}
 use Rattle.prost_reflect_wire.specs.Content as content
 use Rattle.prost_reflect_wire.specs.Schema.{ScalarOf, Singular, Field, field_of}
 use Rattle.prost_reflect_wire.specs.Typing.{element_valid}
+use Rattle.prost_reflect_wire.specs.Front.{ValueFront}
+use Rattle.prost_reflect_wire.specs.Grammar.{is_stray}
 use Rattle.prost_reflect_wire.specs.Decoding.{ScalarRead, ScalarFault}
 use Rattle.prost_reflect_tables.specs.declared.tables.TableKind.{TableKind}
 use Rattle.prost_reflect_tables.specs.declared.tables.TableKind.TheVariants.{Double, Float, Int32, Int64, Uint32, Uint64, Sint32, Sint64, Fixed32, Fixed64, Sfixed32, Sfixed64, Bool as BoolKind, String, Bytes, Message, Enum}
+use Rattle.prost_reflect_tables.specs.Rows.{EnumRow}
+use Rattle.prost_reflect_tables.specs.Shown.{schema_kind}
+use Rattle.prost_reflect.specs.Pools.{pool_rows}
+use Rattle.prost_reflect.specs.Known.{known_of}
+use Rattle.prost_reflect.specs.Enums.{first_of, numbers_of}
+use Rattle.prost_reflect.specs.declared.descriptor.message.MessageDescriptor.{MessageDescriptor}
 use Rattle.prost_reflect.specs.declared.value.Value.{Value}
 use Rattle.prost_reflect.specs.View.{value_of}
 
--- The scalar kinds, enums aside.
+-- The scalar kinds as payloads and values tell them: each enum as one that takes every number.
 abbrev pub plain_kind : TableKind → Option ScalarKind
 plain_kind Double = Some scalars.Double
 plain_kind Float = Some scalars.Float
@@ -33,7 +41,7 @@ plain_kind BoolKind = Some scalars.BoolKind
 plain_kind String = Some scalars.StringKind
 plain_kind Bytes = Some scalars.BytesKind
 plain_kind (Message T) = None
-plain_kind (Enum E) = None
+plain_kind (Enum E) = Some (scalars.Enum (pos 0) scalars.Open)
 
 -- The kind is a scalar kind of this wire type.
 abbrev pub HasWire : TableKind → WireType → Type 0
@@ -71,15 +79,33 @@ abbrev pub scalar_record_bytes : ℕ → Option ScalarKind → content.Value →
 scalar_record_bytes n (Some k) v = short_key n (kind_wire k) ++ scalar_bytes (Some k) v
 scalar_record_bytes n None v = []
 
--- The number is that of a field of one plain scalar, which the tables call by this kind.
-pub record PlainField (fields : List Field) (n : ℕ) (kind : TableKind) : Type 0 where
+-- The number is that of a field of one scalar, which the tables call by this kind.
+pub record PlainField (d : MessageDescriptor) (n : ℕ) (kind : TableKind) : Type 0 where
   pub field : Field
   pub scalar_kind : ScalarKind
-  pub found : field_of fields n ≡ Some field
-  pub plain : plain_kind kind ≡ Some scalar_kind
+  pub found : field_of (known_of d) n ≡ Some field
   pub form : field.form ≡ Singular
   pub kind_is : field.value_type.kind ≡ ScalarOf scalar_kind
-  pub alone : field.oneof ≡ None
+  pub named : schema_kind (pool_rows d.pool).enums kind false ≡ ScalarOf scalar_kind
+
+-- A number that its closed enum does not declare.
+abbrev pub is_stray_number : List EnumRow → TableKind → content.Value → Bool
+is_stray_number enums (Enum E) (ScalarValue (scalars.EnumNumber z)) = not (is_declared (numbers_of (slice_get enums E)) z)
+is_stray_number enums kind v = false
+
+-- Behind a key, the payload of a record that gives its field no value, and stays unknown as it is.
+pub record ReadsStray (fields : List Field) (levels n : ℕ) (w : WireType) (bytes : List ℕ) : Type 0 where
+  pub field : Field
+  pub payload : Payload
+  pub rest : List ℕ
+  pub found : field_of fields n ≡ Some field
+  pub form : field.form ≡ Singular
+  pub stray : is_stray field.value_type.kind payload ≡ true
+  pub front : ValueFront n w levels payload bytes rest
+
+-- The record behind a key stays unknown: no field has its number, or its field takes no value from it.
+abbrev pub StaysUnknown : List Field → ℕ → ℕ → WireType → List ℕ → Type 0
+StaysUnknown fields levels n w bytes = (field_of fields n ≡ None) ⊎ ReadsStray fields levels n w bytes
 
 -- DEFAULTS
 
@@ -104,7 +130,8 @@ abbrev pub is_zero : content.Value → Bool
 is_zero (ScalarValue v) = scalar_eq v (zero_like v)
 is_zero v = false
 
--- The value is the default that is written, else zero, false or empty.
-abbrev pub is_default : Option Scalar → content.Value → Bool
-is_default (Some w) v = equals v w
-is_default None v = is_zero v
+-- The value is the default that is written, else the enum's first number, else zero, false or empty.
+abbrev pub is_default : List EnumRow → TableKind → Option Scalar → content.Value → Bool
+is_default enums kind (Some w) v = equals v w
+is_default enums (Enum E) None v = equals v (scalars.EnumNumber (first_of (slice_get enums E)))
+is_default enums kind None v = is_zero v

@@ -22,6 +22,7 @@ mod change_tests;
 mod copy;
 mod decode;
 mod encode;
+mod enums;
 mod equality;
 #[cfg(test)]
 mod equality_tests;

@@ -18,7 +18,7 @@ use Rattle.prost_reflect_wire.specs.declared.records.table.FieldKind.{FieldKind}
 use Rattle.prost_reflect_wire.specs.declared.records.table.FieldKind.TheVariants as kinds
 use Rattle.prost_reflect_wire.proofs.Sound.{some_inside, bind_ok}
 use Rattle.prost_reflect_wire.proofs.Means.{below}
-use Rattle.prost_reflect_wire.proofs.PlainTypes.{no_sibling}
+use Rattle.prost_reflect_wire.proofs.StoredSound.{no_sibling}
 use Rattle.prost_reflect_wire.proofs.ByNumber.{block_payloads, numbered_records, values_of_block, filter_values, after_none}
 use Rattle.prost_reflect_wire.proofs.DescriptorRows.{known_field}
 use Rattle.prost_reflect_wire.proofs.DescriptorKinds.{all_in, picked, text_means, number_means, flag_means, texts_mean, numbers_mean, bytes_mean, records_mean}

@@ -61,7 +61,7 @@ mutual
   pub both_parts : (a b : EntryTest) (c : Content) → everywhere (both_tests a b) c ≡ true → (everywhere a c ≡ true) × (everywhere b c ≡ true)
   both_parts a b (ContentOf schema T es) h = entries_parts a b (known schema T) es h
 
-  entries_parts : (a b : EntryTest) (fields : List Field) (es : Entries) → entries_pass (both_tests a b) fields es ≡ true → (entries_pass a fields es ≡ true) × (entries_pass b fields es ≡ true)
+  pub entries_parts : (a b : EntryTest) (fields : List Field) (es : Entries) → entries_pass (both_tests a b) fields es ≡ true → (entries_pass a fields es ≡ true) × (entries_pass b fields es ≡ true)
   entries_parts a b fields NoEntries h = (refl, refl)
   entries_parts a b fields (Stored n v es) h =
       let x = stored_passes (both_tests a b) fields n v es h in

@@ -1,13 +1,16 @@
--- A record read into a content that holds: a scalar where its field's value is set, an unknown record where it is added.
+-- A record read into a content that holds: a scalar where its field's value is set, a record that stays unknown where it is added.
 use Rattle.std.proofs.Common.{◌≡◌, ◌<◌, ◌≤◌, ◌^◌, ℕ, Bool, true, false, cond, ◌&&◌, List, [], ◌∷◌, ◌++◌, nat_eq, Option, Some, None, refl, ap, sym, ◌∙◌, subst, true≢false, arith}
 use Rattle.prost_reflect_wire.specs.declared.key.WireType.{WireType}
 use Rattle.prost_reflect_wire.specs.Varint.{AreBytes}
 use Rattle.prost_reflect_wire.specs.Record.{Payload, Flat, Group, payload_valid}
 use Rattle.prost_reflect_wire.specs.Front.{ValueFront, PayloadFront}
-use Rattle.prost_reflect_wire.specs.Scalar.{Scalar, ScalarKind}
-use Rattle.prost_reflect_wire.specs.Schema.{ScalarOf, Singular, Field, Schema, known, field_of, is_sibling, passes}
+use Rattle.prost_reflect_wire.specs.Scalar.{Scalar, ScalarKind, is_undeclared, scalar_valid}
+use Rattle.prost_reflect_wire.specs.Schema.{ScalarOf, Singular, Field, Schema, known, field_of, is_sibling, is_singular, numbers_differ, passes}
 use Rattle.prost_reflect_wire.specs.Content.{ContentOf, Entries, Value, ScalarValue, Slot, value_at, unknowns_at, slot_at, insert_number, numbers_in, changed, entries_ordered}
-use Rattle.prost_reflect_wire.specs.Typing.{fit_test, value_valid, value_passes, entries_pass, WellStored}
+use Rattle.prost_reflect_wire.specs.Typing.{fit_test, value_valid, kind_takes, unknown_fits, is_whole_stray, value_passes, entries_pass, ValueStored, WellStored}
+use Rattle.prost_reflect_wire.specs.Grammar.{record_allowed, is_stray}
+use Rattle.prost_reflect_wire.specs.Writing.{record_at}
+use Rattle.prost_reflect_wire.specs.Laws.{UnknownBack}
 use Rattle.prost_reflect_wire.specs.Edit.{with_value}
 use Rattle.prost_reflect_wire.specs.Storing.{with_stored, with_unknown}
 use Rattle.prost_reflect_wire.specs.Decoding.{ScalarRead, Step}
@@ -21,8 +24,11 @@ use Rattle.prost_reflect_wire.proofs.Arranged.{OrderedOption, table_ordered}
 use Rattle.prost_reflect_wire.proofs.Slotwise.{slot_changed}
 use Rattle.prost_reflect_wire.proofs.StoredSteps.{Known, value_in_order}
 use Rattle.prost_reflect_wire.proofs.StoredPasses.{OptionPasses, SlotPasses, passes_slots}
-use Rattle.prost_reflect_wire.proofs.RecordReads.{IsOpen, scalar_record, unknown_record, scalar_read_fits}
-use Rattle.prost_reflect_wire.proofs.PlainTypes.{NoOneofs, mutual_none, scalar_sound, unknown_sound}
+use Rattle.prost_reflect_wire.proofs.RecordReads.{scalar_record, unknown_record, unknown_allowed, stray_allowed, scalar_read_fits}
+use Rattle.prost_reflect_wire.proofs.Slots.{siblings_mutual}
+use Rattle.prost_reflect_wire.proofs.StoredSound.{value_sound, unknown_sound}
+use Rattle.prost_reflect_wire.proofs.Values.{unknown_back, stray_back}
+use Rattle.prost_reflect_wire.proofs.Allowed.{inside}
 
 -- values that fit stand at known numbers
 pub known_values : (fields : List Field) (es : Entries) → entries_pass fit_test fields es ≡ true → Known fields es
@@ -47,13 +53,17 @@ payload_front_valid : (n : ℕ) (p : Payload) (bytes rest : List ℕ) → AreByt
 payload_front_valid n (Flat p) bytes rest small f = spelled_plain_valid p f.front (bytes_front f.front rest (subst AreBytes f.parts small)) f.spelled
 payload_front_valid n (Group inside) bytes rest small f = let g = f.records in spelled_valid inside g.front (bytes_front g.front f.end (subst AreBytes g.parts small)) g.spelled
 
-module _ (schema : Schema) (T : ℕ) (es : Entries) (sound : WellStored (ContentOf schema T es)) where
+-- a scalar that a field takes
+pub scalar_stored : (schema : Schema) (f : Field) (kind : ScalarKind) (v : Scalar) → f.form ≡ Singular → f.value_type.kind ≡ ScalarOf kind → scalar_valid kind v ≡ true → ValueStored schema f (ScalarValue v)
+scalar_stored schema f kind v form is fits = record { valid = both_true (ap is_singular form) (ap (λ k. kind_takes k v) is ∙ fits); fits = refl; types = tt; order = refl; members = refl }
+
+module _ (schema : Schema) (T : ℕ) (es : Entries) (differ : numbers_differ (known schema T) ≡ true) (sound : WellStored (ContentOf schema T es)) where
   -- a scalar's value set
-  scalar_at_number : (k : ℕ) (f : Field) (kind : ScalarKind) (w : WireType) (v : Scalar) (bytes rest : List ℕ) → NoOneofs (known schema T) → field_of (known schema T) f.number ≡ Some f → f.form ≡ Singular → f.value_type.kind ≡ ScalarOf kind → f.oneof ≡ None →
-      IsOpen kind → AreBytes bytes → ScalarRead kind w v bytes rest → Step k f.number w (ContentOf schema T es) (ContentOf schema T (changed f.number (with_stored (known schema T) f (ScalarValue v)) es)) bytes rest
-  scalar_at_number k f kind w v bytes rest none found form is alone whole small read = record {
-    read = scalar_record schema k T es (changed f.number change es) f.number f kind w v bytes rest read whole found form is (mutual_none (known schema T) f none alone) (known_values (known schema T) es sound.fits) sound.order ordered slots;
-    holds = record { schema = refl; type = refl; sound = scalar_sound schema T es (changed f.number change es) f kind v none found form is (scalar_read_fits kind w v bytes rest read whole small) ordered slots sound };
+  scalar_at_number : (k : ℕ) (f : Field) (kind : ScalarKind) (w : WireType) (v : Scalar) (bytes rest : List ℕ) → field_of (known schema T) f.number ≡ Some f → f.form ≡ Singular → f.value_type.kind ≡ ScalarOf kind →
+      (read : ScalarRead kind w v bytes rest) → is_undeclared kind (Flat read.plain) ≡ false → AreBytes bytes → Step k f.number w (ContentOf schema T es) (ContentOf schema T (changed f.number (with_stored (known schema T) f (ScalarValue v)) es)) bytes rest
+  scalar_at_number k f kind w v bytes rest found form is read declared small = record {
+    read = scalar_record schema k T es (changed f.number change es) f.number f kind w v bytes rest read declared found form is (λ m g at apart. siblings_mutual (known schema T) f differ found m g at) (known_values (known schema T) es sound.fits) sound.order ordered slots;
+    holds = record { schema = refl; type = refl; sound = value_sound schema T es (changed f.number change es) f (ScalarValue v) differ found (scalar_stored schema f kind v form is (scalar_read_fits kind w v bytes rest read declared small)) ordered slots sound };
   }
     where
       change : ℕ → Slot → Slot
@@ -75,12 +85,20 @@ module _ (schema : Schema) (T : ℕ) (es : Entries) (sound : WellStored (Content
       ordered : entries_ordered (changed f.number (with_stored (known schema T) f (ScalarValue v)) es) ≡ true
       ordered = changed_ordered f.number (with_stored (known schema T) f (ScalarValue v)) es (λ m. each m (nat_eq m f.number) (is_sibling (known schema T) f m))
 
-  -- an unknown record added
-  pub unknown_holds : (k n : ℕ) (w : WireType) (p : Payload) (bytes rest : List ℕ) → NoOneofs (known schema T) → field_of (known schema T) n ≡ None → 1 ≤ n → n < 2 ^ 29 → AreBytes bytes → ValueFront n w k p bytes rest →
-      Step k n w (ContentOf schema T es) (ContentOf schema T (changed n (with_unknown n p) es)) bytes rest
-  unknown_holds k n w p bytes rest none absent some below small front = record {
-    read = unknown_record schema k T es (changed n (with_unknown n p) es) n w p bytes rest front absent (known_values (known schema T) es sound.fits) sound.order ordered slots;
-    holds = record { schema = refl; type = refl; sound = unknown_sound schema T es (changed n (with_unknown n p) es) n p none absent (both_true (lt-ltb 0 n some) (lt-ltb n (2 ^ 29) below)) (payload_front_valid n p bytes rest small front.front) ordered slots sound };
+  -- a scalar at the number of its field
+  pub scalar_holds : (k n : ℕ) (f : Field) (kind : ScalarKind) (w : WireType) (v : Scalar) (bytes rest : List ℕ) → field_of (known schema T) n ≡ Some f → f.form ≡ Singular → f.value_type.kind ≡ ScalarOf kind →
+      (read : ScalarRead kind w v bytes rest) → is_undeclared kind (Flat read.plain) ≡ false → AreBytes bytes → Step k n w (ContentOf schema T es) (ContentOf schema T (changed f.number (with_stored (known schema T) f (ScalarValue v)) es)) bytes rest
+  scalar_holds k n f kind w v bytes rest found form is read declared small =
+      let number : f.number ≡ n = field_number (known schema T) n f found in
+      subst (λ m. Step k m w (ContentOf schema T es) (ContentOf schema T (changed f.number (with_stored (known schema T) f (ScalarValue v)) es)) bytes rest) number
+      (scalar_at_number k f kind w v bytes rest (ap (field_of (known schema T)) number ∙ found) form is read declared small)
+
+  -- a record added that stays unknown
+  beside_holds : (k n : ℕ) (w : WireType) (p : Payload) (bytes rest : List ℕ) → record_allowed k (inside schema k) (known schema T) (record_at n p) ≡ true → UnknownBack (known schema T) n p → unknown_fits (field_of (known schema T) n) n p ≡ true →
+      ValueFront n w k p bytes rest → Step k n w (ContentOf schema T es) (ContentOf schema T (changed n (with_unknown n p) es)) bytes rest
+  beside_holds k n w p bytes rest allowed back fits front = record {
+    read = unknown_record schema k T es (changed n (with_unknown n p) es) n w p bytes rest front allowed back (known_values (known schema T) es sound.fits) sound.order ordered slots;
+    holds = record { schema = refl; type = refl; sound = unknown_sound schema T es (changed n (with_unknown n p) es) n p differ fits ordered slots sound };
   }
     where
       still : (b : Bool) → b ≡ false → cond b (record { value = None; unknowns = [] ++ (p ∷ []) }) empty_slot ≡ empty_slot
@@ -97,10 +115,17 @@ module _ (schema : Schema) (T : ℕ) (es : Entries) (sound : WellStored (Content
       ordered : entries_ordered (changed n (with_unknown n p) es) ≡ true
       ordered = changed_ordered n (with_unknown n p) es (λ m. each m (nat_eq m n))
 
-  -- a scalar at the number of its field
-  pub scalar_holds : (k n : ℕ) (f : Field) (kind : ScalarKind) (w : WireType) (v : Scalar) (bytes rest : List ℕ) → NoOneofs (known schema T) → field_of (known schema T) n ≡ Some f → f.form ≡ Singular → f.value_type.kind ≡ ScalarOf kind → f.oneof ≡ None →
-      IsOpen kind → AreBytes bytes → ScalarRead kind w v bytes rest → Step k n w (ContentOf schema T es) (ContentOf schema T (changed f.number (with_stored (known schema T) f (ScalarValue v)) es)) bytes rest
-  scalar_holds k n f kind w v bytes rest none found form is alone whole small read =
-      let number : f.number ≡ n = field_number (known schema T) n f found in
-      subst (λ m. Step k m w (ContentOf schema T es) (ContentOf schema T (changed f.number (with_stored (known schema T) f (ScalarValue v)) es)) bytes rest) number
-      (scalar_at_number k f kind w v bytes rest none (ap (field_of (known schema T)) number ∙ found) form is alone whole small read)
+  -- at a number that is not known
+  pub unknown_holds : (k n : ℕ) (w : WireType) (p : Payload) (bytes rest : List ℕ) → field_of (known schema T) n ≡ None → 1 ≤ n → n < 2 ^ 29 → AreBytes bytes → ValueFront n w k p bytes rest →
+      Step k n w (ContentOf schema T es) (ContentOf schema T (changed n (with_unknown n p) es)) bytes rest
+  unknown_holds k n w p bytes rest absent some below small front = beside_holds k n w p bytes rest (unknown_allowed schema k T n p absent front.within) (unknown_back (known schema T) n p absent)
+      (ap (λ o. unknown_fits o n p) absent ∙ both_true (both_true (lt-ltb 0 n some) (lt-ltb n (2 ^ 29) below)) (payload_front_valid n p bytes rest small front.front)) front
+
+  -- at the number of a closed enum that doesn't declare the number read
+  pub stray_holds : (k n : ℕ) (f : Field) (w : WireType) (p : Payload) (bytes rest : List ℕ) → field_of (known schema T) n ≡ Some f → f.form ≡ Singular → is_stray f.value_type.kind p ≡ true → AreBytes bytes → ValueFront n w k p bytes rest →
+      Step k n w (ContentOf schema T es) (ContentOf schema T (changed n (with_unknown n p) es)) bytes rest
+  stray_holds k n f w p bytes rest found form stray small front = beside_holds k n w p bytes rest (stray_allowed schema k T n f p found form stray) (stray_back (known schema T) n f p found whole)
+      (ap (λ o. unknown_fits o n p) found ∙ both_true (payload_front_valid n p bytes rest small front.front) whole) front
+    where
+      whole : is_whole_stray f.form f.value_type p ≡ true
+      whole = ap (λ form. is_whole_stray form f.value_type p) form ∙ stray

@@ -4,14 +4,15 @@ use Rattle.std.specs.List.{list_any, list_all}
 use Rattle.std.proofs.lemmas.Bool.{eqb-true, eq-eqb, leb-true, le-leb}
 use Rattle.prost_reflect_wire.specs.Record.{Payload}
 use Rattle.prost_reflect_wire.specs.Schema.{Field, Schema, known, field_of, same_oneof, is_sibling, numbers_differ, passes}
-use Rattle.prost_reflect_wire.specs.Content.{Content, Entries, NoEntries, Stored, Unknown, Value, Slot, value_at, unknowns_at, slot_at, then_unknowns, then_value, table, ordered, comes_before, entries_ordered, value_ordered}
+use Rattle.prost_reflect_wire.specs.Content.{Content, Entries, NoEntries, Stored, Unknown, Value, Slot, value_at, unknowns_at, slot_at, then_unknowns, then_value, table, numbers_in, ordered, comes_before, entries_ordered, value_ordered}
 use Rattle.prost_reflect_wire.specs.Levels.{unknown_levels, levels, entries_levels, value_levels}
 use Rattle.prost_reflect_wire.specs.Typing.{value_valid, unknown_fits, EntryTest, everywhere, entries_pass, value_passes, fit_test, has_value_of, is_alone, alone_test, is_empty_of, is_stored_default, filled_test, default_test, kind_for, Typed, EntriesTyped, ValueTyped, WellTyped}
 use Rattle.prost_reflect_wire.proofs.Deeper.{and_both, both_true}
-use Rattle.prost_reflect_wire.proofs.Everywhere.{stored_passes, both_tests, both_pass, both_parts}
+use Rattle.prost_reflect_wire.proofs.Everywhere.{stored_passes, both_tests, both_pass, both_parts, entries_parts}
 use Rattle.prost_reflect_wire.proofs.Numbers.{Ascending, eqb-sym, both_max}
 use Rattle.prost_reflect_wire.proofs.Survivors.{field_number}
 use Rattle.prost_reflect_wire.proofs.Arranged.{OrderedOption, table_ordered}
+use Rattle.prost_reflect_wire.proofs.Rebuilt.{rebuilt}
 
 -- WHAT IS ASKED
 
@@ -44,10 +45,14 @@ pub record GoodValue (schema : Schema) (o : Option Field) (k : ℕ) (v : Value) 
 abbrev pub unknown_good : Option Field → ℕ → ℕ → Payload → Bool
 unknown_good o k n p = unknown_fits o n p && nat_le (unknown_levels o p) k
 
+-- no two members of a oneof have a value
+abbrev pub Apart : List Field → (ℕ → Slot) → Type 0
+Apart fields at = (n m : ℕ) (f : Field) (v w : Value) → field_of fields n ≡ Some f → is_sibling fields f m ≡ true → (at n).value ≡ Some v → (at m).value ≡ Some w → ⊥
+
 pub record GoodSlots (schema : Schema) (fields : List Field) (k : ℕ) (at : ℕ → Slot) : Type 0 where
   pub value : (n : ℕ) (v : Value) → (at n).value ≡ Some v → GoodValue schema (field_of fields n) k v
   pub unknown : (n : ℕ) → list_all (unknown_good (field_of fields n) k n) (at n).unknowns ≡ true
-  pub alone : (n m : ℕ) (f : Field) (v w : Value) → field_of fields n ≡ Some f → is_sibling fields f m ≡ true → (at n).value ≡ Some v → (at m).value ≡ Some w → ⊥
+  pub alone : Apart fields at
 
 -- SIBLINGS
 
@@ -115,6 +120,23 @@ not_own fields f m h = go (nat_eq m f.number) (and_both (not (nat_eq m f.number)
     go : (b : Bool) → not b ≡ true → b ≡ false
     go true h = absurd (true≢false (sym h))
     go false h = refl
+
+-- a field is a sibling of its siblings, and of no others
+pub siblings_mutual : (fields : List Field) (f : Field) → numbers_differ fields ≡ true → field_of fields f.number ≡ Some f → (m : ℕ) (g : Field) → field_of fields m ≡ Some g → is_sibling fields g f.number ≡ is_sibling fields f m
+siblings_mutual fields f d found m g at = go (is_sibling fields g f.number) refl (is_sibling fields f m) refl
+  where
+    one : (a b : Field) (o : Option Field) → o ≡ Some a → o ≡ Some b → a ≡ b
+    one a b o x y = ap (λ (o : Option Field). elim o [ None ↦ a | Some x ↦ x ]) (sym x ∙ y)
+
+    go : (a : Bool) → is_sibling fields g f.number ≡ a → (b : Bool) → is_sibling fields f m ≡ b → a ≡ b
+    go true x true y = refl
+    go false x false y = refl
+    go true x false y =
+        let (h, other, back) = sibling_back fields m f.number g d at x in
+        absurd (true≢false (sym back ∙ ap (λ (z : Field). is_sibling fields z m) (one h f (field_of fields f.number) other found) ∙ y))
+    go false x true y =
+        let (h, other, back) = sibling_back fields f.number m f d found y in
+        absurd (true≢false (sym back ∙ ap (λ (z : Field). is_sibling fields z f.number) (one h g (field_of fields m) other at) ∙ x))
 
 -- FROM ENTRIES TO SLOTS
 
@@ -211,11 +233,12 @@ not_alone fields f es (Some g) e h k =
     let same : g ≡ f = ap (λ (o : Option Field). elim o [ None ↦ g | Some x ↦ x ]) e in
     true≢false (sym h ∙ ap (λ (x : Field). not (has_value_of (is_sibling fields x) es)) same ∙ ap not k)
 
-alone_good : (schema : Schema) (fields : List Field) (k : ℕ) (es : Entries) → numbers_differ fields ≡ true → GoodEntries schema fields k es → (n m : ℕ) (f : Field) (v w : Value) → field_of fields n ≡ Some f → is_sibling fields f m ≡ true → value_at n es ≡ Some v → value_at m es ≡ Some w → ⊥
-alone_good schema fields k NoEntries d g n m f v w found h e e' = cc
-alone_good schema fields k (Stored l x es) d g n m f v w found h e e' =
-    let s = stored_good schema fields k l x es g in
-    go (nat_eq l n) refl e (nat_eq l m) refl e' s.alone (alone_good schema fields k es d s.behind n m f v w found h)
+-- where numbers differ, no two members of a oneof have a value
+pub members_apart : (fields : List Field) (es : Entries) → numbers_differ fields ≡ true → entries_pass alone_test fields es ≡ true → Apart fields (slot_at es)
+members_apart fields NoEntries d g n m f v w found h e e' = cc
+members_apart fields (Stored l x es) d g n m f v w found h e e' =
+    let s = stored_passes alone_test fields l x es g in
+    go (nat_eq l n) refl e (nat_eq l m) refl e' s.here (members_apart fields es d s.behind n m f v w found h)
   where
     go : (a : Bool) → nat_eq l n ≡ a → cond a (Some x) (value_at n es) ≡ Some v → (b : Bool) → nat_eq l m ≡ b → cond b (Some x) (value_at m es) ≡ Some w →
         is_alone fields (field_of fields l) es ≡ true → (value_at n es ≡ Some v → value_at m es ≡ Some w → ⊥) → ⊥
@@ -227,13 +250,14 @@ alone_good schema fields k (Stored l x es) d g n m f v w found h e e' =
     go false a p true b q alone more =
         let (g, other, back) = sibling_back fields n m f d found h in
         not_alone fields g es (field_of fields l) (ap (field_of fields) (eqb-true l m b) ∙ other) alone (there (is_sibling fields g) es n v p back)
-alone_good schema fields k (Unknown l p es) d g n m f v w found h e e' = alone_good schema fields k es d (unknown_parts schema fields k l p es g).behind n m f v w found h e e'
+members_apart fields (Unknown l p es) d g n m f v w found h e e' = members_apart fields es d (and_both (alone_test.unknown fields l p) (entries_pass alone_test fields es) g).1 n m f v w found h e e'
 
 pub slots_good : (schema : Schema) (fields : List Field) (k : ℕ) (es : Entries) → numbers_differ fields ≡ true → GoodEntries schema fields k es → GoodSlots schema fields k (slot_at es)
 slots_good schema fields k es d g = record {
   value = λ n v. value_good schema fields k es n v g;
   unknown = λ n. unknowns_good schema fields k es n g;
-  alone = alone_good schema fields k es d g;
+  alone = members_apart fields es d
+      (let (fits, rest) = entries_parts fit_test (both_tests alone_test (both_tests filled_test default_test)) fields es g.deep in (entries_parts alone_test (both_tests filled_test default_test) fields es rest).0);
 }
 
 -- FROM SLOTS TO ENTRIES
@@ -273,6 +297,20 @@ table_alone at test (m ∷ ms) h = go (at m).value refl (unknowns (at m).unknown
 unknowns_alone : (test : ℕ → Bool) (n : ℕ) (ps : List Payload) (es : Entries) → has_value_of test (then_unknowns n ps es) ≡ has_value_of test es
 unknowns_alone test n [] es = refl
 unknowns_alone test n (p ∷ ps) es = unknowns_alone test n ps es
+
+-- the members apart from one another, no other one stands behind a value
+first_alone : (fields : List Field) (at : ℕ → Slot) → Apart fields at → (n : ℕ) (v : Value) (ms : List ℕ) → (at n).value ≡ Some v → (o : Option Field) → field_of fields n ≡ o → is_alone fields o (then_unknowns n (at n).unknowns (table at ms)) ≡ true
+first_alone fields at apart n v ms e None f = refl
+first_alone fields at apart n v ms e (Some x) f = ap not (unknowns_alone (is_sibling fields x) n (at n).unknowns (table at ms) ∙ table_alone at (is_sibling fields x) ms (λ m w h e'. apart n m x v w f h e e'))
+
+-- ordered entries whose members stand apart
+pub apart_members : (fields : List Field) (es : Entries) → entries_ordered es ≡ true → Apart fields (slot_at es) → ((n : ℕ) (v : Value) → value_at n es ≡ Some v → value_passes alone_test v ≡ true) → entries_pass alone_test fields es ≡ true
+apart_members fields es o apart inside = subst (λ (es : Entries). entries_pass alone_test fields es ≡ true) (rebuilt es o)
+    (table_passes alone_test fields (slot_at es) (numbers_in es) (λ n v ms e. first_alone fields (slot_at es) apart n v ms e (field_of fields n) refl) inside (λ n. every (unknowns_at n es)))
+  where
+    every : {A : Type 0} (xs : List A) → list_all (λ x. true) xs ≡ true
+    every [] = refl
+    every (x ∷ xs) = every xs
 
 table_typed : (schema : Schema) (fields : List Field) (at : ℕ → Slot) (ns : List ℕ) → ((n : ℕ) (v : Value) → (at n).value ≡ Some v → ValueTyped schema (kind_for (field_of fields n) v) v) → EntriesTyped schema fields (table at ns)
 table_typed schema fields at [] h = tt
@@ -326,14 +364,10 @@ table_good schema fields k at ns a g = record {
     ordered_slot n None e = tt
     ordered_slot n (Some v) e = (g.value n v e).order
 
-    alone : (n : ℕ) (v : Value) (ms : List ℕ) → (at n).value ≡ Some v → (o : Option Field) → field_of fields n ≡ o → is_alone fields o (then_unknowns n (at n).unknowns (table at ms)) ≡ true
-    alone n v ms e None f = refl
-    alone n v ms e (Some x) f = ap not (unknowns_alone (is_sibling fields x) n (at n).unknowns (table at ms) ∙ table_alone at (is_sibling fields x) ms (λ m w h e'. g.alone n m x v w f h e e'))
-
     stored : (n : ℕ) (v : Value) (ms : List ℕ) → (at n).value ≡ Some v → deep_test.stored fields n v (then_unknowns n (at n).unknowns (table at ms)) ≡ true
     stored n v ms e =
         let x = g.value n v e in
-        both_true x.valid (both_true (alone n v ms e (field_of fields n) refl) (both_true x.filled x.default))
+        both_true x.valid (both_true (first_alone fields at g.alone n v ms e (field_of fields n) refl) (both_true x.filled x.default))
 
 -- CONTENTS
 
@@ -356,9 +390,7 @@ good_well k c g =
 
 -- where one member gets a value and its siblings none, no two have one
 pub alone_changed : (fields : List Field) (at by : ℕ → Slot) (f : Field) → numbers_differ fields ≡ true → field_of fields f.number ≡ Some f →
-    ((m : ℕ) → is_sibling fields f m ≡ true → (by m).value ≡ None) → ((m : ℕ) → nat_eq m f.number ≡ false → is_sibling fields f m ≡ false → (by m).value ≡ (at m).value) →
-    ((n m : ℕ) (g : Field) (v w : Value) → field_of fields n ≡ Some g → is_sibling fields g m ≡ true → (at n).value ≡ Some v → (at m).value ≡ Some w → ⊥) →
-    (n m : ℕ) (g : Field) (v w : Value) → field_of fields n ≡ Some g → is_sibling fields g m ≡ true → (by n).value ≡ Some v → (by m).value ≡ Some w → ⊥
+    ((m : ℕ) → is_sibling fields f m ≡ true → (by m).value ≡ None) → ((m : ℕ) → nat_eq m f.number ≡ false → is_sibling fields f m ≡ false → (by m).value ≡ (at m).value) → Apart fields at → Apart fields by
 alone_changed fields at by f d known gone same old n m g v w found h e e' = go (nat_eq n f.number) refl (is_sibling fields f n) refl (nat_eq m f.number) refl (is_sibling fields f m) refl
   where
     one : (a b : Field) (o : Option Field) → o ≡ Some a → o ≡ Some b → a ≡ b

@@ -3,14 +3,14 @@
 ghost use Rattle.std.specs.Prelude.{◌≡◌, not};
 ghost use Rattle.std.specs.List.{list_all};
 ghost use Rattle.prost_reflect_tables.specs.Rows.{field_row};
-ghost use Rattle.prost_reflect.specs.Covered.{covered, row_covered, is_repeated, is_plain_kind};
+ghost use Rattle.prost_reflect.specs.Covered.{covered, row_covered, is_repeated, names_message};
 ghost use Rattle.prost_reflect.specs.Descriptors.{schema_at, type_at};
 
 use crate::descriptor::MessageDescriptor;
 use prost_reflect_tables::{Cardinality, FieldTable, TableKind};
 
 impl MessageDescriptor {
-    /// Whether the message type is covered by reading and writing so far: each field has at most one value, of a scalar kind other than an enum, and is in no oneof.
+    /// Whether the message type is covered by reading and writing so far: each field has at most one value, a scalar or an enum's number.
     pub fn is_covered(&self) -> bool
         ensures { result ≡ covered (schema_at self.now) (type_at self.now) }
     {
@@ -27,7 +27,7 @@ fn are_covered(fields: &[FieldTable]) -> bool
 fn is_field_covered(field: &FieldTable) -> bool
     ensures { result ≡ row_covered (field_row field.now) }
 {
-    is_single(field.cardinality) && is_plain(field.kind) && field.oneof.is_none()
+    is_single(field.cardinality) && is_scalar(field.kind)
 }
 
 fn is_single(cardinality: Cardinality) -> bool
@@ -36,8 +36,8 @@ fn is_single(cardinality: Cardinality) -> bool
     !matches!(cardinality, Cardinality::Repeated)
 }
 
-fn is_plain(kind: TableKind) -> bool
-    ensures { result ≡ is_plain_kind kind }
+fn is_scalar(kind: TableKind) -> bool
+    ensures { result ≡ not (names_message kind) }
 {
-    !matches!(kind, TableKind::Message(_) | TableKind::Enum(_))
+    !matches!(kind, TableKind::Message(_))
 }

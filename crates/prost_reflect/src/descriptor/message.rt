@@ -4,7 +4,7 @@ ghost use Rattle.std.specs.Prelude.{◌≡◌, ◌<◌, length};
 ghost use Rattle.prost_reflect.specs.Pools.{pool_rows};
 
 use crate::descriptor::{DescriptorPool, FieldDescriptor};
-use prost_reflect_tables::{FieldTable, MessageTable};
+use prost_reflect_tables::{EnumTable, FieldTable, MessageTable};
 use std::alloc::AllocError;
 
 /// A message type of a pool.
@@ -29,9 +29,9 @@ impl Clone for MessageDescriptor {
 }
 
 impl MessageDescriptor {
-    ghost use Rattle.std.specs.Prelude.{IfOk, IfSome, IsTrue, option_map, map};
+    ghost use Rattle.std.specs.Prelude.{IfOk, IfSome, IsTrue, option_map, map, slice_get};
     ghost use Rattle.prost_reflect_wire.specs.Schema.{known, field_of};
-    ghost use Rattle.prost_reflect_tables.specs.Rows.{field_row, message_row};
+    ghost use Rattle.prost_reflect_tables.specs.Rows.{field_row, message_row, enum_row};
     ghost use Rattle.prost_reflect_tables.specs.Places.{place_of, row_of};
     ghost use Rattle.prost_reflect_tables.specs.Shown.{schema_field};
     ghost use Rattle.prost_reflect.specs.Descriptors.{schema_at, type_at, message_row_at, fields_of, declared_place, is_declared_at, SameMessage};
@@ -116,5 +116,12 @@ impl MessageDescriptor {
         ensures field { option_map (λ field. schema_field (pool_rows self.now.pool) (field_row field.now)) result ≡ field_of (known (schema_at self.now) (type_at self.now)) number }
     {
         self.pool.tables().field_table(self.index, number)
+    }
+
+    /// The row of the enum at a place of the pool, or none where no enum stands there.
+    pub(crate) fn enum_table(&self, place: usize) -> Option<&EnumTable>
+        ensures { option_map (λ e. enum_row e.now) result ≡ slice_get (pool_rows self.now.pool).enums place }
+    {
+        self.pool.tables().enums.get(place)
     }
 }

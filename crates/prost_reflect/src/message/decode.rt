@@ -11,11 +11,12 @@ ghost use Rattle.prost_reflect_wire.specs.Decoding.{Progress, Step, StandsBehind
 ghost use Rattle.prost_reflect.specs.Covered.{covered};
 ghost use Rattle.prost_reflect.specs.Descriptors.{schema_at, type_at};
 ghost use Rattle.prost_reflect.specs.Known.{known_of};
-ghost use Rattle.prost_reflect.specs.Scalars.{PlainField};
+ghost use Rattle.prost_reflect.specs.Scalars.{PlainField, StaysUnknown};
 ghost use Rattle.prost_reflect.specs.View.{content_of, descriptor_of};
 
 use crate::descriptor::MessageDescriptor;
 use crate::message::DynamicMessage;
+use crate::message::enums::is_stray;
 use crate::message::scalar::scalar_at;
 use prost_reflect_tables::TableKind;
 use prost_reflect_wire::{
@@ -27,8 +28,10 @@ impl DynamicMessage {
     /// Reads a message of the type from the bytes, in at most 100 levels of messages and groups. The type has to be
     /// covered (`MessageDescriptor::is_covered`).
     ///
-    /// A later record of a field replaces an earlier one, and records of numbers that the type lacks become unknown fields,
-    /// in their order (the encoding guide, "Last One Wins"; the language guide, "Unknown Fields").
+    /// A later record of a field replaces an earlier one, and the values of the other members of its oneof. Records of
+    /// numbers that the type lacks become unknown fields, in their order, and so do the numbers that a closed enum does not
+    /// declare (the encoding guide, "Last One Wins" and "Oneofs"; the language guide, "Unknown Fields"; the page "Enum
+    /// Behavior").
     ///
     /// # Errors
     ///
@@ -90,7 +93,8 @@ impl DynamicMessage {
         }
     }
 
-    /// Reads a scalar behind its field's key, which replaces the value that is there.
+    /// Reads a scalar behind its field's key, which replaces the value that is there. A number that a closed enum does not
+    /// declare becomes an unknown field instead, with all of its bits.
     fn merge_scalar<'a>(
         &mut self,
         alloc: Global,
@@ -100,19 +104,21 @@ impl DynamicMessage {
         bytes: &'a [u8],
         levels: u32,
     ) -> Result<&'a [u8], DecodeError>
-        requires plain { covered (schema_at (descriptor_of self.old)) (type_at (descriptor_of self.old)) ≡ true }
         requires sound { WellStored (content_of self.old) }
-        requires field { PlainField (known_of (descriptor_of self.old)) number.value kind }
+        requires field { PlainField (descriptor_of self.old) number.value kind }
         ensures ok { IfOk result (λ rest. Step levels number.value wire_type (content_of self.old) (content_of self.new) bytes.now rest.now) }
         ensures descriptor { descriptor_of self.new ≡ descriptor_of self.old }
         ensures fault { IfErr result (λ e. e ≢ DecodeError.OutOfMemory → StandsBehindKey (content_of self.old) levels number.value wire_type e bytes.now) }
     {
         let (value, rest) = scalar_at(alloc, kind, wire_type, bytes)?;
+        if is_stray(self.descriptor(), kind, &value) {
+            return self.merge_unknown(alloc, number, wire_type, bytes, levels);
+        }
         self.set_value(number.get(), value)?;
         Ok(rest)
     }
 
-    /// Reads an unknown field behind its key, and adds it behind those of its number.
+    /// Reads a record that stays unknown behind its key, and adds it behind those of its number.
     fn merge_unknown<'a>(
         &mut self,
         alloc: Global,
@@ -121,9 +127,8 @@ impl DynamicMessage {
         bytes: &'a [u8],
         levels: u32,
     ) -> Result<&'a [u8], DecodeError>
-        requires plain { covered (schema_at (descriptor_of self.old)) (type_at (descriptor_of self.old)) ≡ true }
         requires sound { WellStored (content_of self.old) }
-        requires unknown { field_of (known_of (descriptor_of self.old)) number.value ≡ None }
+        requires unknown { StaysUnknown (known_of (descriptor_of self.old)) levels number.value wire_type bytes.now }
         ensures ok { IfOk result (λ rest. Step levels number.value wire_type (content_of self.old) (content_of self.new) bytes.now rest.now) }
         ensures descriptor { descriptor_of self.new ≡ descriptor_of self.old }
         ensures fault { IfErr result (λ e. e ≢ DecodeError.OutOfMemory → StandsBehindKey (content_of self.old) levels number.value wire_type e bytes.now) }
@@ -137,7 +142,7 @@ impl DynamicMessage {
 /// The kind of the field or extension of a number, in a covered message type.
 fn plain_kind_at(descriptor: &MessageDescriptor, number: u32) -> Option<TableKind>
     requires { covered (schema_at descriptor.now) (type_at descriptor.now) ≡ true }
-    ensures known { IfSome result (λ kind. PlainField (known_of descriptor.now) number kind) }
+    ensures known { IfSome result (λ kind. PlainField descriptor.now number kind) }
     ensures unknown { IfNone result (field_of (known_of descriptor.now) number ≡ None) }
 {
     match descriptor.field_table(number) {

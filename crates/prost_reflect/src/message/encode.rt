@@ -1,6 +1,6 @@
 //! Writing messages, the last byte first, so that a length is written once what it counts is there.
 
-ghost use Rattle.std.specs.Prelude.{◌≡◌, ◌&&◌, not, ◌≤◌, ◌^◌, ◌++◌, true, length, option_map, IsSome, IfOk, IfErr, OnOk, OnErr};
+ghost use Rattle.std.specs.Prelude.{◌≡◌, ◌&&◌, not, ◌≤◌, ◌^◌, ◌++◌, true, length, slice_get, IsSome, IfOk, IfErr, OnOk, OnErr};
 ghost use Rattle.prost_reflect_wire.specs.Record.{Len, short_plain};
 ghost use Rattle.prost_reflect_wire.specs.Schema.{field_of, passes};
 ghost use Rattle.prost_reflect_wire.specs.Writing.{encoded};
@@ -11,6 +11,9 @@ ghost use Rattle.prost_reflect_tables.specs.Rows.{field_row, written_scalar};
 ghost use Rattle.prost_reflect.specs.Covered.{covered};
 ghost use Rattle.prost_reflect.specs.Descriptors.{schema_at, type_at};
 ghost use Rattle.prost_reflect.specs.Encoding.{entry_slot, entries_bytes, IsWritable, AreWritable};
+ghost use Rattle.prost_reflect_wire.specs.Scalar.{EnumNumber};
+ghost use Rattle.prost_reflect.specs.Enums.{first_of};
+ghost use Rattle.prost_reflect.specs.Pools.{pool_rows};
 ghost use Rattle.prost_reflect.specs.Known.{known_of};
 ghost use Rattle.prost_reflect.specs.View.{value_of, content_of, descriptor_of};
 ghost use Rattle.prost_reflect.specs.Scalars.{plain_kind, TakesScalar, scalar_bytes, scalar_record_bytes, is_zero, equals, is_default};
@@ -18,6 +21,7 @@ ghost use Rattle.prost_reflect.specs.Scalars.{plain_kind, TakesScalar, scalar_by
 use crate::descriptor::MessageDescriptor;
 use crate::fields::entry::Entry;
 use crate::message::DynamicMessage;
+use crate::message::enums::first_number;
 use crate::message::scalar::wire_type_of;
 use crate::value::Value;
 use prost_reflect_tables::{FieldTable, TableKind, WrittenDefault};
@@ -53,6 +57,9 @@ fn prepend_scalar(
         (TableKind::Sfixed64, Value::I64(value)) => buffer.prepend(&value.to_le_bytes()),
         (TableKind::String, Value::String(value)) => prepend_delimited(buffer, value.as_bytes()),
         (TableKind::Bytes, Value::Bytes(value)) => prepend_delimited(buffer, value),
+        (TableKind::Enum(_), Value::EnumNumber(value)) => {
+            buffer.prepend_varint(sign_extended(*value))
+        }
         _ => unreachable!(),
     }
 }
@@ -100,21 +107,33 @@ fn equals_written(value: &Value, default: &WrittenDefault) -> bool
     }
 }
 
-/// Whether a scalar is its field's default: the one that the definition writes, else zero, false or empty.
-fn is_default(value: &Value, default: &Option<WrittenDefault>) -> bool
-    ensures { result ≡ is_default (option_map written_scalar default.now) (value_of value.now) }
+/// Whether a value is the number of the first value of the enum at a place of the pool.
+fn is_first_number(descriptor: &MessageDescriptor, place: usize, value: &Value) -> bool
+    ensures { result ≡ equals (value_of value.now) (EnumNumber (first_of (slice_get (pool_rows descriptor.now.pool).enums place))) }
 {
-    match default {
-        Some(default) => equals_written(value, default),
-        None => is_zero(value),
+    match value {
+        Value::EnumNumber(value) => *value == first_number(descriptor, place),
+        _ => false,
+    }
+}
+
+/// Whether a scalar is its field's default: the one that the definition writes, else the first number of an enum, else
+/// zero, false or empty.
+fn is_default(descriptor: &MessageDescriptor, field: &FieldTable, value: &Value) -> bool
+    ensures { result ≡ is_default (pool_rows descriptor.now.pool).enums (field_row field.now).kind (field_row field.now).default (value_of value.now) }
+{
+    match (&field.default, field.kind) {
+        (Some(default), _) => equals_written(value, default),
+        (None, TableKind::Enum(place)) => is_first_number(descriptor, place, value),
+        (None, _) => is_zero(value),
     }
 }
 
 /// Whether nothing is written of a scalar: the default of a field without presence.
-fn is_left_out(value: &Value, field: &FieldTable) -> bool
-    ensures { result ≡ (not (field_row field.now).supports_presence && is_default (field_row field.now).default (value_of value.now)) }
+fn is_left_out(descriptor: &MessageDescriptor, field: &FieldTable, value: &Value) -> bool
+    ensures { result ≡ (not (field_row field.now).supports_presence && is_default (pool_rows descriptor.now.pool).enums (field_row field.now).kind (field_row field.now).default (value_of value.now)) }
 {
-    !field.supports_presence && is_default(value, &field.default)
+    !field.supports_presence && is_default(descriptor, field, value)
 }
 
 /// Adds the record of a scalar in front.
@@ -144,7 +163,7 @@ fn prepend_value(
     ensures { Prepended result (bytes_of buffer.old) (bytes_of buffer.new) (value_bytes (known_of descriptor.now) number (value_of value.now)) }
 {
     match descriptor.field_table(number) {
-        Some(field) if is_left_out(value, field) => Ok(()),
+        Some(field) if is_left_out(descriptor, field, value) => Ok(()),
         Some(field) => prepend_scalar_record(buffer, number, field.kind, value),
         None => unreachable!(),
     }

@@ -41,6 +41,7 @@ fn varint_value(kind: TableKind, value: u64) -> Value
         TableKind::Sint32 => Value::I32(unzigzag32(low_u32(value))),
         TableKind::Sint64 => Value::I64(unzigzag64(value)),
         TableKind::Bool => Value::Bool(value != 0),
+        TableKind::Enum(_) => Value::EnumNumber(low_i32(value)),
         _ => unreachable!(),
     }
 }
@@ -89,7 +90,7 @@ fn delimited_value(alloc: Global, kind: TableKind, bytes: &[u8]) -> Result<Value
     }
 }
 
-/// Reads the value of a scalar kind behind its key, and gives it and the bytes behind it.
+/// Reads the value of a scalar kind behind its key, and gives it and the bytes behind it. Of an enum it reads any number.
 ///
 /// # Errors
 ///

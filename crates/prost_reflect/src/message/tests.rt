@@ -1,5 +1,6 @@
-//! Each call once, on messages of the built-in types.
+//! Each call once, on messages of the built-in types, and a closed enum in a oneof and alone.
 
+use crate::descriptor::choices::choices;
 use crate::descriptor::{MessageDescriptor, builtin_pool};
 use crate::message::DynamicMessage;
 use prost_reflect_wire::DecodeError;
@@ -44,5 +45,26 @@ fn a_fault_is_named(rt: HostRuntime) -> Result<(), Fail> {
         Ok(_) => return Err(Fail::from("a key without a value is read")),
         Err(fault) => assert_eq!(rt; fault, DecodeError::Truncated),
     }
+    Ok(())
+}
+
+/// Reads the bytes as a message with oneofs and fields of an enum that declares 0 and 1, and writes it again.
+fn choices_relayed(alloc: Global, bytes: &[u8]) -> Result<Vec<u8>, Fail> {
+    let descriptor = choices(alloc)?;
+    if !descriptor.is_covered() {
+        return Err(Fail::from("Choices is not covered"));
+    }
+    let message = DynamicMessage::decode(alloc, descriptor, bytes)?;
+    Ok(message.encode_to_vec(alloc)?)
+}
+
+#[test]
+fn an_undeclared_number_stays_and_clears_nothing(rt: HostRuntime) -> Result<(), Fail> {
+    let alone = choices_relayed(rt.alloc(), &[0x28, 1, 0x28, 7, 0x28, 0])?;
+    assert!(rt; alone.as_slice() == [0x28, 0, 0x28, 7].as_slice());
+    let sibling = choices_relayed(rt.alloc(), &[0x30, 1, 0x40, 7])?;
+    assert!(rt; sibling.as_slice() == [0x30, 1, 0x40, 7].as_slice());
+    let cleared = choices_relayed(rt.alloc(), &[0x30, 1, 0x40, 7, 0x40, 1])?;
+    assert!(rt; cleared.as_slice() == [0x40, 1, 0x40, 7].as_slice());
     Ok(())
 }

@@ -6,7 +6,7 @@ use Rattle.prost_reflect.proofs.message.DynamicMessage.merge_unknown.Goals as go
 
 pub returns-in_err-value-clause-fault : goal.returns-in_err-value-clause-fault
 returns-in_err-value-clause-fault c = let p = err_from_is_err_and c.from_residual.result c.from_residual.ensures.1 in
-    rw (p.1, p.2) (λ ne. unknown_fault c.args.self.now _ _ _ _ _ c.requires.unknown (c.in_err-value.ensures.fault ne))
+    rw (p.1, p.2) (λ ne. unknown_fault c.args.self.now _ _ _ _ _ c.requires.unknown (c.in_err-value.ensures.fault ne) c.in_err-value.ensures.only ne)
 
 pub returns-clause-ok : goal.returns-clause-ok
-returns-clause-ok c = unknown_set c.args.self.now c.add_unknown.new.self _ _ _ _ _ _ c.requires.sound c.requires.plain c.requires.unknown c.args.number.some c.args.number.below (bytes_below _ c.type_inv.bytes) c.in_ok-value.ensures.ok (rw (record_of_field, c.new.ensures.number, c.new.ensures.value) at c.in_ok-add_unknown.ensures.content)
+returns-clause-ok c = unknown_set c.args.self.now c.add_unknown.new.self _ _ _ _ _ _ c.requires.sound c.requires.unknown c.args.number.some c.args.number.below (bytes_below _ c.type_inv.bytes) c.in_ok-value.ensures.ok (rw (record_of_field, c.new.ensures.number, c.new.ensures.value) at c.in_ok-add_unknown.ensures.content)

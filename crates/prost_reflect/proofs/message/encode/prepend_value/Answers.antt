@@ -8,8 +8,8 @@ prepend_scalar_record-requires c = let w = row_written c.args.descriptor.now c.a
 
 pub returns-in-Some : goal.returns-in-Some
 returns-in-Some c = let w = row_written c.args.descriptor.now c.args.number (field_row c.in-Some.field.now) _ c.requires.plain c.in-Some.ensures.field c.requires.valid in
-    rw (left_out _ _ _ _ w (sym c.is_left_out.ensures ∙ c.if-is_left_out.true)) refl
+    rw (left_out _ _ _ _ _ w (sym c.is_left_out.ensures ∙ c.if-is_left_out.true)) refl
 
 pub returns-in-Some-2 : goal.returns-in-Some-2
 returns-in-Some-2 c = let w = row_written c.args.descriptor.now c.args.number (field_row c.in-Some.field.now) _ c.requires.plain c.in-Some.ensures.field c.requires.valid in
-    rw (put_in _ _ _ _ w (sym c.is_left_out.ensures ∙ c.if-is_left_out.false)) c.prepend_scalar_record.ensures
+    rw (put_in _ _ _ _ _ w (sym c.is_left_out.ensures ∙ c.if-is_left_out.false)) c.prepend_scalar_record.ensures

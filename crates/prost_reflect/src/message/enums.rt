@@ -1,0 +1,37 @@
+//! What enums declare (the page "Enum Behavior").
+
+ghost use Rattle.std.specs.Prelude.{◌≡◌, slice_get};
+ghost use Rattle.prost_reflect.specs.Enums.{first_of};
+ghost use Rattle.prost_reflect.specs.Pools.{pool_rows};
+ghost use Rattle.prost_reflect.specs.Scalars.{is_stray_number};
+ghost use Rattle.prost_reflect.specs.View.{value_of};
+
+use crate::descriptor::MessageDescriptor;
+use crate::value::Value;
+use prost_reflect_tables::TableKind;
+
+/// The number of the first value of the enum at a place of the message type's pool.
+pub(crate) fn first_number(descriptor: &MessageDescriptor, place: usize) -> i32
+    ensures { result ≡ first_of (slice_get (pool_rows descriptor.now.pool).enums place) }
+{
+    match descriptor.enum_table(place) {
+        Some(table) if !table.numbers.is_empty() => table.numbers[0],
+        _ => 0,
+    }
+}
+
+/// Whether a value is a number that its kind, a closed enum of the message type's pool, does not declare. Its record
+/// stays an unknown field. The declared numbers are looked at one after another.
+pub(crate) fn is_stray(descriptor: &MessageDescriptor, kind: TableKind, value: &Value) -> bool
+    ensures { result ≡ is_stray_number (pool_rows descriptor.now.pool).enums kind (value_of value.now) }
+{
+    match (kind, value) {
+        (TableKind::Enum(place), Value::EnumNumber(number)) => {
+            match descriptor.enum_table(place) {
+                Some(table) => table.is_closed && !table.numbers.contains(number),
+                None => false,
+            }
+        }
+        _ => false,
+    }
+}
