@@ -13,7 +13,7 @@ use Rattle.prost_reflect_tables.specs.Rows.{TableRows}
 use Rattle.prost_reflect_tables.specs.Schema.{rows_of}
 use Rattle.prost_reflect_tables.specs.Flat.{flattened}
 use Rattle.prost_reflect_tables.specs.Checked.{Checked, Stands}
-use Rattle.prost_reflect_tables.specs.Linking.{linked_rows}
+use Rattle.prost_reflect_tables.specs.Built.{AreTablesOf}
 use Rattle.prost_reflect_tables.specs.Adding.{added}
 use Rattle.prost_reflect_tables.specs.declared.error.PoolError.{PoolError}
 use Rattle.prost_reflect_tables.specs.declared.error.PoolError.TheVariants.{Decode, OutOfMemory}
@@ -32,11 +32,10 @@ pub record SamePool (a b : DescriptorPool) : Type 0 where
   pub files : files_of b ≡ files_of a
   pub rows : pool_rows b ≡ pool_rows a
 
--- The files pass all checks, and the pool's tables are what they link to.
+-- The pool has these files, and its tables are theirs.
 pub record IsPoolOf (files : List FileDescriptorProto) (pool : DescriptorPool) : Type 0 where
   pub holds : files_of pool ≡ files
-  pub checked : Checked files (flattened files)
-  pub linked : pool_rows pool ≡ linked_rows (flattened files)
+  pub built : AreTablesOf files (pool_rows pool)
 
 -- The files make no pool: the fault stands in them, and so they do not pass all checks. Want of memory may come anywhere.
 pub record RefusesFiles (files : List FileDescriptorProto) (e : PoolError) : Type 0 where

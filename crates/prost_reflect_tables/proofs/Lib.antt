@@ -28,3 +28,4 @@ mod WorkedFiles
 mod EnumNumbers
 pub mod Adding
 pub mod Refusing
+pub mod Built

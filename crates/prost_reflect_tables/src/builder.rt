@@ -1,11 +1,11 @@
 //! Builds the tables of files.
 
-ghost use Rattle.std.specs.Prelude.{◌≡◌, ◌≢◌, IfOk, IfErr, OnOk};
+ghost use Rattle.std.specs.Prelude.{◌≢◌, IfOk, IfErr};
 ghost use Rattle.prost_reflect_tables.specs.declared.error.PoolError.TheVariants as pool_errors;
-ghost use Rattle.prost_reflect_tables.specs.Checked.{Checked, Stands};
+ghost use Rattle.prost_reflect_tables.specs.Built.{AreTablesOf};
+ghost use Rattle.prost_reflect_tables.specs.Checked.{Stands};
 ghost use Rattle.prost_reflect_tables.specs.Flat.{flattened};
 ghost use Rattle.prost_reflect_tables.specs.FlatViews.{file_list};
-ghost use Rattle.prost_reflect_tables.specs.Linking.{linked_rows};
 ghost use Rattle.prost_reflect_tables.specs.Schema.{rows_of};
 
 use crate::all_checks::check;
@@ -27,8 +27,7 @@ use std::alloc::Global;
 /// The name of a fault that stands in the files, as a type that is named and is not there, or `OutOfMemory` if a growth was refused.
 /// Where several faults stand, one of them is named. Never `Decode`, since the files are read already.
 pub fn build(alloc: Global, files: &[&FileDescriptorProto]) -> Result<Tables, PoolError>
-    ensures checked { OnOk result (Checked (file_list files.now) (flattened (file_list files.now))) }
-    ensures rows { IfOk result (λ tables. rows_of tables ≡ linked_rows (flattened (file_list files.now))) }
+    ensures tables { IfOk result (λ tables. AreTablesOf (file_list files.now) (rows_of tables)) }
     ensures stands { IfErr result (λ e. e ≢ pool_errors.OutOfMemory → Stands e (file_list files.now) (flattened (file_list files.now))) }
 {
     let flat = flattened(alloc, files)?;

@@ -5,10 +5,10 @@ ghost use Rattle.prost_reflect_wire.specs.DescriptorViews.{shared_files};
 ghost use Rattle.prost_reflect_wire.specs.declared.records.FileDescriptorProto.{FileDescriptorProto};
 ghost use Rattle.prost_reflect_wire.specs.declared.records.table.RecordType.TheVariants as types;
 ghost use Rattle.prost_reflect_tables.specs.Adding.{is_there, added, AreNamesOf};
-ghost use Rattle.prost_reflect_tables.specs.Checked.{Checked, Stands};
+ghost use Rattle.prost_reflect_tables.specs.Built.{AreTablesOf};
+ghost use Rattle.prost_reflect_tables.specs.Checked.{Stands};
 ghost use Rattle.prost_reflect_tables.specs.Flat.{flattened};
 ghost use Rattle.prost_reflect_tables.specs.FlatViews.{file_list};
-ghost use Rattle.prost_reflect_tables.specs.Linking.{linked_rows};
 ghost use Rattle.prost_reflect_tables.specs.Schema.{rows_of};
 ghost use Rattle.prost_reflect_tables.specs.declared.error.PoolError.TheVariants as pool_errors;
 ghost use Rattle.prost_reflect.specs.Pools.{files_of, IsPoolOf, RefusesFiles, IsPoolOfBytes, Refuses};
@@ -118,8 +118,7 @@ fn add_files(
 
 /// The tables of the files, if they pass all checks.
 fn tables_of(alloc: Global, files: &[Rc<FileDescriptorProto>]) -> Result<Tables, PoolError>
-    ensures ok { OnOk result (Checked (shared_files files.now) (flattened (shared_files files.now))) }
-    ensures rows { IfOk result (λ tables. rows_of tables ≡ linked_rows (flattened (shared_files files.now))) }
+    ensures tables { IfOk result (λ tables. AreTablesOf (shared_files files.now) (rows_of tables)) }
     ensures stands { IfErr result (λ e. e ≢ pool_errors.OutOfMemory → Stands e (shared_files files.now) (flattened (shared_files files.now))) }
 {
     let lent = lent(alloc, files)?;

@@ -2,9 +2,7 @@
 
 ghost use Rattle.std.specs.Prelude.{◌≡◌};
 ghost use Rattle.prost_reflect_wire.specs.DescriptorViews.{shared_files};
-ghost use Rattle.prost_reflect_tables.specs.Checked.{Checked};
-ghost use Rattle.prost_reflect_tables.specs.Flat.{flattened};
-ghost use Rattle.prost_reflect_tables.specs.Linking.{linked_rows};
+ghost use Rattle.prost_reflect_tables.specs.Built.{AreTablesOf};
 ghost use Rattle.prost_reflect_tables.specs.Schema.{rows_of};
 
 use crate::descriptor::MessageDescriptor;
@@ -18,8 +16,7 @@ use std::rc::Rc;
 pub(crate) struct PoolInner {
     pub(crate) files: Vec<Rc<FileDescriptorProto>>,
     pub(crate) tables: Tables,
-    pub ghost checked: { Checked (shared_files files.items) (flattened (shared_files files.items)) },
-    pub ghost linked: { rows_of tables ≡ linked_rows (flattened (shared_files files.items)) },
+    pub ghost built: { AreTablesOf (shared_files files.items) (rows_of tables) },
 }
 
 impl PartialEq for PoolInner {
