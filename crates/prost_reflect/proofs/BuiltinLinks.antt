@@ -19,6 +19,7 @@ use Rattle.prost_reflect_tables.specs.Options.{bool_option}
 use Rattle.prost_reflect_tables.specs.Linking.{Links, links_of, kind_of_code, is_message, is_group_code, place_or_first, linked_field, in_order, declared_fields, oneofs_from, linked_message, linked_rows}
 use Rattle.prost_reflect_tables.specs.Adding.{is_named, is_there, added}
 use Rattle.prost_reflect_tables.proofs.Adding.{taken, none_added}
+use Rattle.prost_reflect_tables.proofs.Built.{linked_of}
 use Rattle.prost_reflect.specs.Pools.{IsPoolOf, pool_rows, files_of}
 use Rattle.prost_reflect.specs.declared.descriptor.pool.DescriptorPool.{DescriptorPool}
 use Rattle.prost_reflect.specs.BuiltinFiles.{FieldView, field_view, scalar_view, scalar_names, IsScalarMessage, IsScalarFile, AreBuiltin}
@@ -199,4 +200,4 @@ both_linked files are =
 
 pub rows_built : (old new : DescriptorPool) (files : List FileDescriptorProto) → IsPoolOf [] old → AreBuiltin files → IsPoolOf (added (files_of old) files) new → pool_rows new ≡ builtin_rows
 rows_built old new files none are is =
-    is.linked ∙ (ap (λ (fs : List FileDescriptorProto). linked_rows (flattened fs)) (ap (λ (o : List FileDescriptorProto). added o files) none.holds ∙ both_added files are) ∙ both_linked files are)
+    linked_of _ _ is.built ∙ (ap (λ (fs : List FileDescriptorProto). linked_rows (flattened fs)) (ap (λ (o : List FileDescriptorProto). added o files) none.holds ∙ both_added files are) ∙ both_linked files are)

@@ -1,6 +1,9 @@
 //! What enums declare (the page "Enum Behavior").
 
-ghost use Rattle.std.specs.Prelude.{◌≡◌, slice_get};
+ghost use Rattle.std.specs.Prelude.{◌≡◌, not, slice_get};
+ghost use Rattle.prost_reflect_wire.specs.Scalar.{is_declared};
+ghost use Rattle.prost_reflect_tables.specs.Rows.{enum_row};
+ghost use Rattle.prost_reflect_tables.specs.Shown.{enum_numbers};
 ghost use Rattle.prost_reflect.specs.Enums.{first_of};
 ghost use Rattle.prost_reflect.specs.Pools.{pool_rows};
 ghost use Rattle.prost_reflect.specs.Scalars.{is_stray_number};
@@ -8,7 +11,7 @@ ghost use Rattle.prost_reflect.specs.View.{value_of};
 
 use crate::descriptor::MessageDescriptor;
 use crate::value::Value;
-use prost_reflect_tables::TableKind;
+use prost_reflect_tables::{EnumTable, TableKind};
 
 /// The number of the first value of the enum at a place of the message type's pool.
 pub(crate) fn first_number(descriptor: &MessageDescriptor, place: usize) -> i32
@@ -20,6 +23,13 @@ pub(crate) fn first_number(descriptor: &MessageDescriptor, place: usize) -> i32
     }
 }
 
+/// Whether an enum is closed and does not declare the number.
+fn lacks(table: &EnumTable, number: i32) -> bool
+    ensures { result ≡ not (is_declared (enum_numbers (enum_row table.now)) number) }
+{
+    table.is_closed && !table.numbers.contains(&number)
+}
+
 /// Whether a value is a number that its kind, a closed enum of the message type's pool, does not declare. Its record
 /// stays an unknown field. The declared numbers are looked at one after another.
 pub(crate) fn is_stray(descriptor: &MessageDescriptor, kind: TableKind, value: &Value) -> bool
@@ -28,7 +38,7 @@ pub(crate) fn is_stray(descriptor: &MessageDescriptor, kind: TableKind, value: &
     match (kind, value) {
         (TableKind::Enum(place), Value::EnumNumber(number)) => {
             match descriptor.enum_table(place) {
-                Some(table) => table.is_closed && !table.numbers.contains(number),
+                Some(table) => lacks(table, *number),
                 None => false,
             }
         }
