@@ -1,5 +1,5 @@
 -- What relaying makes of a descriptor set, the name of a message type and hex digits.
-use Rattle.std.specs.Prelude.{◌≡◌, ◌≤◌, ◌^◌, ◌⊎◌, ℕ, List, length, Some, None, Ok, IsErr, ⊤}
+use Rattle.std.specs.Prelude.{◌≡◌, ◌≢◌, ◌≤◌, ◌^◌, ◌⊎◌, ℕ, List, length, Some, None, Ok, IsErr, ⊤}
 use Rattle.hex.specs.Hex.{decode_of, encode_lower}
 use Rattle.hex.specs.declared.error.FromHexError.{FromHexError}
 use Rattle.hex.specs.declared.error.FromHexError.TheVariants as hex_errors
@@ -27,25 +27,25 @@ pool_schema pool = schema_from (pool_rows pool)
 
 -- WHAT IS RELAYED
 
--- The set makes the pool, and the name is that of a message type in it.
-pub record IsNamed (set name : List ℕ) (pool : DescriptorPool) (T : ℕ) : Type 0 where
-  pub made : IsPoolOfSet set pool
+-- The name is that of a message type in the pool, and the digits spell bytes.
+pub record IsAsked (pool : DescriptorPool) (name digits : List ℕ) (T : ℕ) (bytes : List ℕ) : Type 0 where
   pub named : covered_type (pool_rows pool) name ≡ Some T
-
--- Besides, the digits spell bytes.
-pub record IsAsked (set name digits : List ℕ) (pool : DescriptorPool) (T : ℕ) (bytes : List ℕ) : Type 0 where
-  pub named : IsNamed set name pool T
   pub spelled : decode_of digits ≡ Ok bytes
 
 -- The text has the digits, in lower case, of the bytes that the message is written as again.
-pub record IsRelayed (set name digits text : List ℕ) : Type 0 where
-  pub pool : DescriptorPool
+pub record IsRelayedIn (pool : DescriptorPool) (name digits text : List ℕ) : Type 0 where
   pub message_type : ℕ
   pub bytes : List ℕ
   pub written : List ℕ
-  pub asked : IsAsked set name digits pool message_type bytes
+  pub asked : IsAsked pool name digits message_type bytes
   pub relayed : relayed (pool_schema pool) LEVEL_LIMIT message_type bytes ≡ Some written
   pub printed : text ≡ encode_lower written
+
+-- In the pool that the set stands for.
+pub record IsRelayed (set name digits text : List ℕ) : Type 0 where
+  pub pool : DescriptorPool
+  pub made : IsPoolOfSet set pool
+  pub relayed : IsRelayedIn pool name digits text
 
 -- WHAT IS REFUSED
 
@@ -62,6 +62,22 @@ RefusesBytes schema T bytes (Encode e) = (e ≡ encode_errors.TooLong) × Passes
 RefusesBytes schema T bytes Memory = ⊤
 RefusesBytes schema T bytes refusal = ⊥
 
+-- The name and the digits are sound, and the bytes are refused.
+pub record RefusesAsked (pool : DescriptorPool) (name digits : List ℕ) (refusal : Refusal) : Type 0 where
+  pub message_type : ℕ
+  pub bytes : List ℕ
+  pub asked : IsAsked pool name digits message_type bytes
+  pub refuses : RefusesBytes (pool_schema pool) message_type bytes refusal
+
+-- The first step that fails in the pool.
+abbrev pub RefusesIn : DescriptorPool → (name digits : List ℕ) → Refusal → Type 0
+RefusesIn pool name digits Name = covered_type (pool_rows pool) name ≡ None
+RefusesIn pool name digits Hex = (covered_type (pool_rows pool) name ≢ None) × IsErr (decode_of digits)
+RefusesIn pool name digits (Decode e) = RefusesAsked pool name digits (Decode e)
+RefusesIn pool name digits (Encode e) = RefusesAsked pool name digits (Encode e)
+RefusesIn pool name digits Memory = ⊤
+RefusesIn pool name digits refusal = ⊥
+
 -- Why the word for a set makes no pool.
 abbrev pub RefusesPool : List ℕ → Refusal → Type 0
 RefusesPool set Hex = IsNoSet set
@@ -70,36 +86,15 @@ RefusesPool set (Pool e) = RefusesSet set e
 RefusesPool set Memory = ⊤
 RefusesPool set refusal = ⊥
 
--- No message type of the pool has the name.
-pub record RefusesName (set name : List ℕ) : Type 0 where
+-- The set makes the pool, and there it is refused.
+pub record RefusesBehindSet (set name digits : List ℕ) (refusal : Refusal) : Type 0 where
   pub pool : DescriptorPool
   pub made : IsPoolOfSet set pool
-  pub unnamed : covered_type (pool_rows pool) name ≡ None
-
--- A message type has it, and the digits spell nothing.
-pub record RefusesDigits (set name digits : List ℕ) : Type 0 where
-  pub pool : DescriptorPool
-  pub message_type : ℕ
-  pub named : IsNamed set name pool message_type
-  pub unspelled : IsErr (decode_of digits)
-
--- The set, the name and the digits are sound, and the bytes are refused.
-pub record RefusesAsked (set name digits : List ℕ) (refusal : Refusal) : Type 0 where
-  pub pool : DescriptorPool
-  pub message_type : ℕ
-  pub bytes : List ℕ
-  pub asked : IsAsked set name digits pool message_type bytes
-  pub refuses : RefusesBytes (pool_schema pool) message_type bytes refusal
+  pub refuses : RefusesIn pool name digits refusal
 
 -- The first step that fails.
 abbrev pub Refuses : (set name digits : List ℕ) → Refusal → Type 0
-Refuses set name digits (Set e) = RefusesPool set (Set e)
-Refuses set name digits (Pool e) = RefusesPool set (Pool e)
-Refuses set name digits Name = RefusesName set name
-Refuses set name digits Hex = RefusesPool set Hex ⊎ RefusesDigits set name digits
-Refuses set name digits (Decode e) = RefusesAsked set name digits (Decode e)
-Refuses set name digits (Encode e) = RefusesAsked set name digits (Encode e)
-Refuses set name digits Memory = ⊤
+Refuses set name digits refusal = RefusesPool set refusal ⊎ RefusesBehindSet set name digits refusal
 
 -- WHAT ERRORS BECOME
 

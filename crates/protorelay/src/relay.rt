@@ -9,7 +9,7 @@ ghost use Rattle.prost_reflect.specs.Covered.{covered};
 ghost use Rattle.prost_reflect.specs.BuiltinRows.{builtin_rows};
 ghost use Rattle.protorelay.specs.Types.{covered_type};
 ghost use Rattle.protorelay.specs.Sets.{IsPoolOfSet};
-ghost use Rattle.protorelay.specs.Relaying.{pool_schema, IsRelayed, RefusesBytes, RefusesPool, Refuses, hex_refusal, pool_refusal, decode_refusal, encode_refusal};
+ghost use Rattle.protorelay.specs.Relaying.{pool_schema, IsRelayed, IsRelayedIn, RefusesBytes, RefusesIn, RefusesPool, Refuses, hex_refusal, pool_refusal, decode_refusal, encode_refusal};
 ghost use Rattle.protorelay.specs.declared.relay.Refusal.TheVariants as refusals;
 
 use hex::FromHexError;
@@ -108,10 +108,7 @@ pub fn relay(alloc: Global, set: &str, name: &str, digits: &str) -> Result<Strin
     ensures refused { IfErr result (Refuses set.now name.now digits.now) }
 {
     let pool = pool_of(alloc, set)?;
-    let descriptor = message_type(&pool, name)?;
-    let bytes = hex::decode(alloc, digits)?;
-    let written = relay_bytes(alloc, descriptor, bytes.as_slice())?;
-    Ok(hex::encode(alloc, written.as_slice())?)
+    relay_in(alloc, &pool, name, digits)
 }
 
 /// The pool that the word for a descriptor set stands for.
@@ -135,6 +132,22 @@ fn builtin(alloc: Global) -> Result<DescriptorPool, Refusal>
         Ok(pool) => Ok(pool),
         Err(_) => Err(Refusal::Memory),
     }
+}
+
+/// The message that the hex digits spell, read by the message type of the name in the pool and written again, in lower-case hex digits.
+fn relay_in(
+    alloc: Global,
+    pool: &DescriptorPool,
+    name: &str,
+    digits: &str,
+) -> Result<String, Refusal>
+    ensures relayed { IfOk result (λ text. IsRelayedIn pool.now name.now digits.now (string_bytes text)) }
+    ensures refused { IfErr result (RefusesIn pool.now name.now digits.now) }
+{
+    let descriptor = message_type(pool, name)?;
+    let bytes = hex::decode(alloc, digits)?;
+    let written = relay_bytes(alloc, descriptor, bytes.as_slice())?;
+    Ok(hex::encode(alloc, written.as_slice())?)
 }
 
 /// The message type of the name in the pool, if it can be read and written so far.
