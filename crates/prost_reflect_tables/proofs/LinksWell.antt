@@ -47,7 +47,7 @@ fields_there : {files : List FileDescriptorProto} (rows : FlatRows) (T : ℕ) (m
 fields_there rows T m s at =
     fields_all (field_linked (length (linked_rows rows).messages) (length (linked_rows rows).enums) (length m.oneofs)) (links_of rows) rows.extensions (0 + T) m
     (λ i d there. field_there rows (length m.oneofs) false d (field_checked rows T i m d s at there)
-        (oneof_there (length m.oneofs) d.proto.oneof_index (none_at (λ (f : DefinitionRow FieldDescriptorProto). oneof_outside (length m.oneofs) f.proto.oneof_index) m.fields i d (message_checked rows T m s at).oneofs there)))
+    (oneof_there (length m.oneofs) d.proto.oneof_index (none_at (λ (f : DefinitionRow FieldDescriptorProto). oneof_outside (length m.oneofs) f.proto.oneof_index) m.fields i d (message_checked rows T m s at).oneofs there)))
     (λ i d there is. let e = extension_checked rows i d s there in field_there rows (length m.oneofs) true d e.field (no_oneof (length m.oneofs) d.proto.oneof_index e.alone))
 
 -- An entry has its numbers.

@@ -26,7 +26,8 @@ pub use all_checks::check;
 pub use builder::build;
 pub use error::PoolError;
 pub use examples::{
-    checking, contents_and_tables, defaults_read, defaults_refused, linking, shown_tables, tables_not_linked,
+    checking, contents_and_tables, defaults_read, defaults_refused, linking, shown_tables,
+    tables_not_linked,
 };
 pub use flatten::{Definition, Flat, FlatEnum, FlatMessage, FlatService, flattened};
 pub use index::Index;

@@ -21,8 +21,11 @@ impl<'a> Command<'a> {
         ensures none { IfNone result (AsksForNone (map string_bytes words.now)) }
     {
         match words {
-            [command, set, name, digits] if command.as_str() == "relay" =>
-                Some(Command::Relay { set, name, digits }),
+            [command, set, name, digits] if command.as_str() == "relay" => Some(Command::Relay {
+                set,
+                name,
+                digits,
+            }),
             _ => None,
         }
     }

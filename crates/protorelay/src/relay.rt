@@ -14,7 +14,8 @@ ghost use Rattle.protorelay.specs.declared.relay.Refusal.TheVariants as refusals
 
 use hex::FromHexError;
 use prost_reflect::{
-    DecodeError, DescriptorPool, DynamicMessage, EncodeError, MessageDescriptor, PoolError, builtin_pool,
+    DecodeError, DescriptorPool, DynamicMessage, EncodeError, MessageDescriptor, PoolError,
+    builtin_pool,
 };
 use std::alloc::{AllocError, Global};
 use thiserror::Error;

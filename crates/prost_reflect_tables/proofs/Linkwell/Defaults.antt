@@ -96,9 +96,10 @@ first_declared e h = record { range = (go e.values h.some h.range).0; declared =
     go : (vs : List (DefinitionRow EnumValueDescriptorProto)) → nat_eq (length vs) 0 ≡ false → list_all (λ v. in_i32 (value_number v)) vs ≡ true →
         (in_i32 (first_number (map value_number vs)) ≡ true) × (list_any (int_eq (first_number (map value_number vs))) (map value_number vs) ≡ true)
     go [] some range = absurd cc
-    go (v ∷ vs) some range =
-        ((and_parts (in_i32 (value_number v)) (list_all (λ v. in_i32 (value_number v)) vs) range).0,
-        or_left (int_eq (value_number v) (value_number v)) (list_any (int_eq (value_number v)) (map value_number vs)) (grind (arith, Decides-int_eq (value_number v) (value_number v))))
+    go (v ∷ vs) some range = (
+      (and_parts (in_i32 (value_number v)) (list_all (λ v. in_i32 (value_number v)) vs) range).0,
+      or_left (int_eq (value_number v) (value_number v)) (list_any (int_eq (value_number v)) (map value_number vs)) (grind (arith, Decides-int_eq (value_number v) (value_number v))),
+    )
 
 abbrev pub enum_scalar : FlatEnumRow → ScalarKind
 enum_scalar e = enum_kind (Some (linked_enum e))

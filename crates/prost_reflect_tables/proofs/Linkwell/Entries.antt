@@ -94,17 +94,27 @@ entry_fields rows T m at bad is inside =
     two a b is alone (inl h) =
         let parts = and_parts (is_entry_key a) (is_entry_value b) h in
         record {
-          key = a; value = b; key_place = 0; value_place = 1;
-          key_at = ap (λ ds. slice_get ds 0) is; value_at = ap (λ ds. slice_get ds 1) is;
-          is_key = parts.0; is_value = parts.1;
+          key = a;
+          value = b;
+          key_place = 0;
+          value_place = 1;
+          key_at = ap (λ ds. slice_get ds 0) is;
+          value_at = ap (λ ds. slice_get ds 1) is;
+          is_key = parts.0;
+          is_value = parts.1;
           shown = shown_as (a ∷ b ∷ []) _ is alone (in_front (linked_field (links_of rows) false a) (linked_field (links_of rows) false b) (key_number (links_of rows) a parts.0) (value_number (links_of rows) b parts.1));
         }
     two a b is alone (inr h) =
         let parts = and_parts (is_entry_value a) (is_entry_key b) h in
         record {
-          key = b; value = a; key_place = 1; value_place = 0;
-          key_at = ap (λ ds. slice_get ds 1) is; value_at = ap (λ ds. slice_get ds 0) is;
-          is_key = parts.1; is_value = parts.0;
+          key = b;
+          value = a;
+          key_place = 1;
+          value_place = 0;
+          key_at = ap (λ ds. slice_get ds 1) is;
+          value_at = ap (λ ds. slice_get ds 0) is;
+          is_key = parts.1;
+          is_value = parts.0;
           shown = shown_as (a ∷ b ∷ []) _ is alone (turned (linked_field (links_of rows) false b) (linked_field (links_of rows) false a) (key_number (links_of rows) b parts.1) (value_number (links_of rows) a parts.0));
         }
 
@@ -139,9 +149,34 @@ abbrev KeyCode : List EnumRow → ℕ → ℕ → Bool → ℕ → Type 0
 KeyCode es message enum g code = is_key_type (Some (pos code)) ≡ true → is_key_kind (schema_kind es (kind_of_code message enum code) g) ≡ true
 
 each_key : (es : List EnumRow) (message enum : ℕ) (g : Bool) → Below (KeyCode es message enum g) 19
-each_key es message enum g =
-    (λ h. refl, (λ h. refl, (λ h. refl, (λ h. refl, (λ h. absurd cc, (λ h. refl, (λ h. absurd cc, (λ h. absurd cc, (λ h. absurd cc,
-    (λ h. refl, (λ h. refl, (λ h. refl, (λ h. refl, (λ h. refl, (λ h. refl, (λ h. refl, (λ h. absurd cc, (λ h. absurd cc, (λ h. absurd cc, tt)))))))))))))))))))
+each_key es message enum g = (
+  λ h. refl,
+  (
+    λ h. refl,
+    (
+      λ h. refl,
+      (
+        λ h. refl,
+        (
+          λ h. absurd cc,
+          (
+            λ h. refl,
+            (
+              λ h. absurd cc,
+              (
+                λ h. absurd cc,
+                (
+                  λ h. absurd cc,
+                  (λ h. refl, (λ h. refl, (λ h. refl, (λ h. refl, (λ h. refl, (λ h. refl, (λ h. refl, (λ h. absurd cc, (λ h. absurd cc, (λ h. absurd cc, tt)))))))))),
+                ),
+              ),
+            ),
+          ),
+        ),
+      ),
+    ),
+  ),
+)
 
 key_kind : (rows : FlatRows) (d : DefinitionRow FieldDescriptorProto) → TypeCode d → is_key_type d.proto.type_ ≡ true → is_key_kind (own_kind (linked_rows rows) (linked_field (links_of rows) false d)) ≡ true
 unfolding linked_field

@@ -190,12 +190,13 @@ row_sound schema rows x d h kind alone enums =
       default = default_shown rows d f.is_group kind enums;
       single = λ one. rw (message_kind_shown es k f.is_group) (presence_of_message (is_repeated c) (is_message k) (not d.is_proto3) x (is_some d.proto.oneof_index) _ one);
       member = λ some.
-        let member : is_member d ≡ true = placed_member d.proto.oneof_index some in
-        let one : is_repeated c ≡ false = label_shown d.proto.label ∙ single_member (is_member d) (faults.is_repeated d) h.member member in
-        (one, presence_of_member (is_repeated c) (is_message k) (not d.is_proto3) x (is_some d.proto.oneof_index) _ one (no_extension x (is_member d) alone member) member);
-      list = λ many.
-        (bare es f (listed (is_repeated c) _ many) (never_required c many) (no_default links x d (list_default d h.default (sym (label_shown d.proto.label) ∙ many))),
-          packed_shown (is_repeated c) (is_packable k) _ (is_packable_kind (own_kind (linked_rows rows) f)) (λ p. packable_shown es k f.is_group p));
+          let member : is_member d ≡ true = placed_member d.proto.oneof_index some in
+          let one : is_repeated c ≡ false = label_shown d.proto.label ∙ single_member (is_member d) (faults.is_repeated d) h.member member in
+          (one, presence_of_member (is_repeated c) (is_message k) (not d.is_proto3) x (is_some d.proto.oneof_index) _ one (no_extension x (is_member d) alone member) member);
+      list = λ many. (
+        bare es f (listed (is_repeated c) _ many) (never_required c many) (no_default links x d (list_default d h.default (sym (label_shown d.proto.label) ∙ many))),
+        packed_shown (is_repeated c) (is_packable k) _ (is_packable_kind (own_kind (linked_rows rows) f)) (λ p. packable_shown es k f.is_group p),
+      );
     }
 
 -- THE TYPE OF A FIELD

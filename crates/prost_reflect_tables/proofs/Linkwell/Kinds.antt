@@ -42,9 +42,34 @@ abbrev KindOf : ℕ → ℕ → ℕ → Type 0
 KindOf message enum code = KindCase message enum code (kind_of_code message enum code)
 
 each_code : (message enum : ℕ) → Below (KindOf message enum) 19
-each_code message enum =
-    (OfScalar refl, (OfScalar refl, (OfScalar refl, (OfScalar refl, (OfEnum refl refl, (OfScalar refl, (OfScalar refl, (OfMessage refl refl, (OfMessage refl refl,
-    (OfScalar refl, (OfScalar refl, (OfScalar refl, (OfScalar refl, (OfScalar refl, (OfScalar refl, (OfScalar refl, (OfScalar refl, (OfScalar refl, (OfScalar refl, tt)))))))))))))))))))
+each_code message enum = (
+  OfScalar refl,
+  (
+    OfScalar refl,
+    (
+      OfScalar refl,
+      (
+        OfScalar refl,
+        (
+          OfEnum refl refl,
+          (
+            OfScalar refl,
+            (
+              OfScalar refl,
+              (
+                OfMessage refl refl,
+                (
+                  OfMessage refl refl,
+                  (OfScalar refl, (OfScalar refl, (OfScalar refl, (OfScalar refl, (OfScalar refl, (OfScalar refl, (OfScalar refl, (OfScalar refl, (OfScalar refl, (OfScalar refl, tt)))))))))),
+                ),
+              ),
+            ),
+          ),
+        ),
+      ),
+    ),
+  ),
+)
 
 kind_case : (message enum code : ℕ) → code ≤ 18 → KindOf message enum code
 kind_case message enum code le = below_at (KindOf message enum) 19 code (each_code message enum) (omega arith)

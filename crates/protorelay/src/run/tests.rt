@@ -126,6 +126,43 @@ fn names_the_first_refusal(rt: HostRuntime) -> Result<(), Fail> {
     Ok(())
 }
 
+/// The set of the file `s` in proto3 with the message type `S`, which has the field `int32 a = 1`.
+const SMALL: &str = "0a1b0a0173220e0a015312090a0161180120012805620670726f746f33";
+
+/// The same without its last byte, and with another one in its place, so that the syntax is `proto4`.
+const CUT: &str = "0a1b0a0173220e0a015312090a0161180120012805620670726f746f";
+
+const PROTO4: &str = "0a1b0a0173220e0a015312090a0161180120012805620670726f746f34";
+
+#[test]
+fn takes_descriptor_sets(rt: HostRuntime) -> Result<(), Fail> {
+    let rows = [
+        (SMALL, "S", "0896011002", "0896011002", ""),
+        (SMALL, "T", "08", "", "refused name"),
+        (SMALL, "S", "08", "", "refused decode Truncated"),
+        (CUT, "S", "08", "", "refused pool Decode Truncated"),
+        (PROTO4, "S", "08", "", "refused pool UnknownSyntax"),
+        // A set without files, and what is no set in hex digits.
+        ("", "S", "08", "", "refused name"),
+        ("0", "S", "08", "", "refused hex"),
+    ];
+    for (set, name, digits, out, err) in rows {
+        let text = format!(in rt.alloc(); "relay {set} {name} {digits}")?;
+        let answer = answer_to(rt.alloc(), text.as_str())?;
+        let is_refused = out.is_empty();
+        let said = if is_refused { &answer.err } else { &answer.out };
+        let want = if is_refused { err } else { out };
+        assert_eq!(rt;
+            said.as_slice(),
+            line(rt.alloc(), want)?.as_bytes(),
+            "{text}"
+        );
+        assert_eq!(rt; answer.out.is_empty(), is_refused, "{text}");
+        assert_eq!(rt; answer.status, if is_refused { 1 } else { 0 }, "{text}");
+    }
+    Ok(())
+}
+
 #[test]
 fn prints_the_usage_for_any_other_command_line(rt: HostRuntime) -> Result<(), Fail> {
     let rows = [
@@ -134,8 +171,7 @@ fn prints_the_usage_for_any_other_command_line(rt: HostRuntime) -> Result<(), Fa
         "relay - builtin.Plain",
         "relay - builtin.Plain 2800 ",
         "Relay - builtin.Plain 2800",
-        // A descriptor set is not taken so far, and there is no `show`.
-        "relay  builtin.Plain 2800",
+        // There is no `show` so far.
         "show - builtin.Plain 2800",
     ];
     for text in rows {
