@@ -144,7 +144,7 @@ sound_same fields es ds h s = (
 )
 
 known_same : (a b : MessageDescriptor) → SameMessage a b → known_of b ≡ known_of a
-known_same a b h = λ i. known (schema_from (h.0 i)) (h.1 i)
+known_same a b h = λ i. known (schema_from (h.1 i)) (h.2 i)
 
 -- what a copied descriptor and the copied entries keep
 pub sound_copied : (a b : MessageDescriptor) (es ds : List (ℕ × Entry Value)) → SameMessage a b → parts_of ds ≡ parts_of es → Sound (known_of a) es → Sound (known_of b) ds
@@ -170,7 +170,7 @@ from_parts (e ∷ es) = cases e.1 ∙ ap (entry_of_parts e.0 (entry_parts e.1).0
     cases (entries.Both v u) = refl
 
 pub message_copied : (m : DynamicMessage) (p : MessageDescriptor × List (ℕ × Entry Value)) → SameMessage m.slots.0 p.0 → parts_of p.1 ≡ parts_of m.slots.1 → message_stored (roll-DynamicMessage (record { slots = p })) ≡ message_stored m
-message_copied m p d h = stored_roll (record { slots = p }) ∙ (λ i. MessageOf (d.0 i) (d.1 i) ((from_parts p.1 ∙ ap entries_of_parts h ∙ sym (from_parts m.slots.1)) i)) ∙ sym (stored_message m)
+message_copied m p d h = stored_roll (record { slots = p }) ∙ (λ i. MessageOf (d.0 i) (d.1 i) (d.2 i) ((from_parts p.1 ∙ ap entries_of_parts h ∙ sym (from_parts m.slots.1)) i)) ∙ sym (stored_message m)
 
 -- all entries are copied
 pub all_copied : (fields items es : List (ℕ × Entry Value)) (i : ℕ) → items ≡ es → length items ≤ i → parts_of fields ≡ parts_of (take i items) → parts_of fields ≡ parts_of es

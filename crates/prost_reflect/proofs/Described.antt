@@ -33,4 +33,4 @@ known_of_row m i f at = known_row (pool_rows m.pool) m.index i f m.pool.inner.va
 
 -- Descriptors of one message type have one schema.
 pub same_schema : (a b : MessageDescriptor) → SameMessage a b → schema_at b ≡ schema_at a
-same_schema a b same = ap schema_from same.0
+same_schema a b same = ap schema_from same.1

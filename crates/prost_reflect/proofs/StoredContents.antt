@@ -26,7 +26,7 @@ use Rattle.prost_reflect.proofs.StoredViews.{same_types}
 
 mutual
   content_from : StoredMessage → Content
-  content_from (MessageOf rows T es) = ContentOf (schema_from rows) T (entries_content es)
+  content_from (MessageOf files rows T es) = ContentOf (schema_from rows) T (entries_content es)
 
   entries_content : StoredEntries → Entries
   entries_content NothingStored = NoEntries

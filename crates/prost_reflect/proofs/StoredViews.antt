@@ -12,11 +12,13 @@ use Rattle.prost_reflect_wire.specs.Scalar.{scalar_eq}
 use Rattle.prost_reflect_wire.specs.Equality.{records_eq}
 use Rattle.prost_reflect_wire.specs.Record.{body_of}
 use Rattle.prost_reflect_wire.specs.Unknown.{records_of}
+use Rattle.prost_reflect_wire.specs.Content.{Content}
 use Rattle.prost_reflect_tables.specs.Rows.{TableRows}
 use Rattle.prost_reflect_tables.specs.Equality.{rows_eq}
-use Rattle.prost_reflect_tables.proofs.Equal.{tables_equal}
-use Rattle.prost_reflect.specs.Pools.{pool_rows}
+use Rattle.prost_reflect.specs.Pools.{pool_rows, pool_contents}
+use Rattle.prost_reflect.specs.PoolEquality.{contents_eq}
 use Rattle.prost_reflect.specs.Descriptors.{SameMessage}
+use Rattle.prost_reflect.proofs.EqualDescriptors.{rows_follow}
 use Rattle.prost_reflect.specs.declared.descriptor.message.MessageDescriptor.{MessageDescriptor}
 use Rattle.prost_reflect.specs.contracts.descriptor.message.MessageDescriptorPartialEq.TheImpl as descriptor_code
 use Rattle.prost_reflect.specs.contracts.value.MapKeyPartialEq.TheImpl as key_eq
@@ -78,21 +80,24 @@ pub stored_map : (m : BTreeMap MapKey Value) → value_stored (values.Map m) ≡
 unfolding roll-Value Carrier.roll
 stored_map m = fold-roll-Value StoredValue StoredMessage stored_step stored_message_step (Value-F.Map m) ∙ ap StoredMap (pairs_mapped m.entries)
 
-pub stored_message : (m : DynamicMessage) → message_stored m ≡ MessageOf (pool_rows m.slots.0.pool) m.slots.0.index (stored_entries value_stored m.slots.1)
-stored_message m = fold_out-DynamicMessage StoredValue StoredMessage stored_step stored_message_step m ∙ ap (MessageOf (pool_rows m.slots.0.pool) m.slots.0.index) (entries_mapped m.slots.1)
+pub stored_message : (m : DynamicMessage) → message_stored m ≡ MessageOf (pool_contents m.slots.0.pool) (pool_rows m.slots.0.pool) m.slots.0.index (stored_entries value_stored m.slots.1)
+stored_message m = fold_out-DynamicMessage StoredValue StoredMessage stored_step stored_message_step m ∙ ap (MessageOf (pool_contents m.slots.0.pool) (pool_rows m.slots.0.pool) m.slots.0.index) (entries_mapped m.slots.1)
 
-pub stored_roll : (m : DynamicMessage-F Value DynamicMessage) → message_stored (roll-DynamicMessage m) ≡ MessageOf (pool_rows m.slots.0.pool) m.slots.0.index (stored_entries value_stored m.slots.1)
-stored_roll m = fold-roll-DynamicMessage StoredValue StoredMessage stored_step stored_message_step m ∙ ap (MessageOf (pool_rows m.slots.0.pool) m.slots.0.index) (entries_mapped m.slots.1)
+pub stored_roll : (m : DynamicMessage-F Value DynamicMessage) → message_stored (roll-DynamicMessage m) ≡ MessageOf (pool_contents m.slots.0.pool) (pool_rows m.slots.0.pool) m.slots.0.index (stored_entries value_stored m.slots.1)
+stored_roll m = fold-roll-DynamicMessage StoredValue StoredMessage stored_step stored_message_step m ∙ ap (MessageOf (pool_contents m.slots.0.pool) (pool_rows m.slots.0.pool) m.slots.0.index) (entries_mapped m.slots.1)
+
+abbrev files_in : StoredMessage → List Content
+files_in (MessageOf fs r T es) = fs
 
 abbrev rows_in : StoredMessage → TableRows
-rows_in (MessageOf r T es) = r
+rows_in (MessageOf fs r T es) = r
 
 abbrev place_in : StoredMessage → ℕ
-place_in (MessageOf r T es) = T
+place_in (MessageOf fs r T es) = T
 
 -- messages that store the same are of one type
 pub same_types : (m n : DynamicMessage) → message_stored n ≡ message_stored m → SameMessage (descriptor_of m) (descriptor_of n)
-same_types m n h = let same = sym (stored_message n) ∙ h ∙ stored_message m in (ap rows_in same, ap place_in same)
+same_types m n h = let same = sym (stored_message n) ∙ h ∙ stored_message m in (ap files_in same, ap rows_in same, ap place_in same)
 
 -- VALUES
 
@@ -114,10 +119,10 @@ maps_equal v w a b r va wb is = is ∙ by_views v w (values.Map a) (values.Map b
 -- TYPES
 
 abbrev pub same_type : MessageDescriptor → MessageDescriptor → Bool
-same_type a b = rows_eq (pool_rows a.pool) (pool_rows b.pool) && nat_eq a.index b.index
+same_type a b = (contents_eq (pool_contents a.pool) (pool_contents b.pool) && rows_eq (pool_rows a.pool) (pool_rows b.pool)) && nat_eq a.index b.index
 
 pub types_equal : (a b : MessageDescriptor) → (descriptor_code.ghosts).eq a b ≡ same_type a b
-types_equal a b = refl
+types_equal a b = ap (λ t. t && nat_eq a.index b.index) (rows_follow a.pool b.pool)
 
 opened : (m n : DynamicMessage) → equal_messages m n ≡ (same_type (descriptor_of m) (descriptor_of n) && same_entries (stored_entries value_stored (stored_in m)) (stored_entries value_stored (stored_in n)))
 opened m n = λ i. same_message (stored_message m i) (stored_message n i)

@@ -4,7 +4,7 @@ use Rattle.prost_reflect_wire.specs.Schema.{Schema}
 use Rattle.prost_reflect_tables.specs.Rows.{FieldRow, MessageRow}
 use Rattle.prost_reflect_tables.specs.Places.{fields_at, place_of}
 use Rattle.prost_reflect_tables.specs.Shown.{schema_from}
-use Rattle.prost_reflect.specs.Pools.{pool_rows}
+use Rattle.prost_reflect.specs.Pools.{pool_rows, pool_contents}
 use Rattle.prost_reflect.specs.declared.descriptor.message.MessageDescriptor.{MessageDescriptor}
 
 -- The schema of the pool's message types, and the message type's place in it.
@@ -33,6 +33,6 @@ is_declared_at fields i = is_declared (slice_get fields i)
 abbrev pub declared_place : List FieldRow → ℕ → Option ℕ
 declared_place fields n = option_and_then (λ i. if is_declared_at fields i then Some i else None) (place_of fields n)
 
--- Two descriptors of one message type: their pools say the same, and their places are one.
+-- Two descriptors of one message type: their pools' files hold the same, and so the rows are the same; and their places are one.
 abbrev pub SameMessage : MessageDescriptor → MessageDescriptor → Type 0
-SameMessage a b = (pool_rows b.pool ≡ pool_rows a.pool) × (b.index ≡ a.index)
+SameMessage a b = (pool_contents b.pool ≡ pool_contents a.pool) × (pool_rows b.pool ≡ pool_rows a.pool) × (b.index ≡ a.index)

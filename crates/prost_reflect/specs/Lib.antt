@@ -1,5 +1,6 @@
 pub mod Pools
 pub mod PoolFiles
+pub mod PoolEquality
 pub mod Descriptors
 pub mod Fields
 pub mod Kinds

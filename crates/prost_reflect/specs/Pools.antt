@@ -1,5 +1,6 @@
 -- What a pool holds, and what its calls make of it.
-use Rattle.std.specs.Prelude.{◌≡◌, ◌≢◌, ℕ, ⊤, List, [], ◌∷◌, Some}
+use Rattle.std.specs.Prelude.{◌≡◌, ◌≢◌, ℕ, ⊤, List, [], ◌∷◌, Some, map}
+use Rattle.prost_reflect_wire.specs.Content.{Content}
 use Rattle.prost_reflect_wire.specs.Grammar.{LEVEL_LIMIT, Accepts}
 use Rattle.prost_reflect_wire.specs.Fault.{StandsInMessage}
 use Rattle.prost_reflect_wire.specs.DescriptorTable.{place_of, record_schema}
@@ -26,6 +27,13 @@ pool_rows pool = rows_of pool.inner.value.tables
 -- The records of the pool's files, in the order in which they were added.
 abbrev pub files_of : DescriptorPool → List FileDescriptorProto
 files_of pool = shared_files pool.inner.value.files.items
+
+-- What file records hold, wherever they lie in memory.
+unfoldable pub contents_of : List FileDescriptorProto → List Content
+contents_of files = map of_file files
+
+abbrev pub pool_contents : DescriptorPool → List Content
+pool_contents pool = contents_of (files_of pool)
 
 -- The second pool holds what the first one does.
 pub record SamePool (a b : DescriptorPool) : Type 0 where

@@ -6,13 +6,14 @@ use Rattle.std.proofs.Common.{sym, ap, ap₂, ◌∙◌, true≢false}
 use Rattle.prost_reflect_wire.specs.Scalar.{scalar_eq}
 use Rattle.prost_reflect_wire.specs.Equality.{records_eq, records_same, records_refl}
 use Rattle.prost_reflect_tables.specs.Equality.{rows_eq, rows_decide, scalar_decides, decided, equivalence}
+use Rattle.prost_reflect.specs.PoolEquality.{contents_eq, contents_decide}
 use Rattle.prost_reflect.specs.Stored.{StoredMessage, MessageOf, StoredEntries, NothingStored, ValueAt, UnknownAt, BothAt, StoredValue, StoredScalar, StoredInside, StoredList, StoredMap, StoredItems, NoItems, ItemThen, StoredPairs, NoPairs, PairThen, value_stored, message_stored}
 use Rattle.prost_reflect.specs.declared.value.Value.{Value}
 use Rattle.prost_reflect.specs.declared.message.DynamicMessage.{DynamicMessage}
 
 abbrev mutual
   pub same_message : StoredMessage → StoredMessage → Bool
-  same_message (MessageOf r T es) (MessageOf s U ds) = (rows_eq r s && nat_eq T U) && same_entries es ds
+  same_message (MessageOf fs r T es) (MessageOf gs s U ds) = ((contents_eq fs gs && rows_eq r s) && nat_eq T U) && same_entries es ds
 
   pub same_entries : StoredEntries → StoredEntries → Bool
   same_entries NothingStored NothingStored = true
@@ -49,10 +50,11 @@ both_true {b} e f = ap (λ c. c && b) e ∙ f
 
 mutual
   message_same : (m n : StoredMessage) → same_message m n ≡ true → m ≡ n
-  message_same (MessageOf r T es) (MessageOf s U ds) h =
-      let (types, rest) = and_both (rows_eq r s && nat_eq T U) (same_entries es ds) h in
-      let (rows, place) = and_both (rows_eq r s) (nat_eq T U) types in
-      λ i. MessageOf ((rows_decide r s).0 rows i) ((unsigned_Decides T U).0 place i) (entries_same es ds rest i)
+  message_same (MessageOf fs r T es) (MessageOf gs s U ds) h =
+      let (types, rest) = and_both ((contents_eq fs gs && rows_eq r s) && nat_eq T U) (same_entries es ds) h in
+      let (pools, place) = and_both (contents_eq fs gs && rows_eq r s) (nat_eq T U) types in
+      let (files, rows) = and_both (contents_eq fs gs) (rows_eq r s) pools in
+      λ i. MessageOf ((contents_decide fs gs).0 files i) ((rows_decide r s).0 rows i) ((unsigned_Decides T U).0 place i) (entries_same es ds rest i)
 
   entries_same : (es ds : StoredEntries) → same_entries es ds ≡ true → es ≡ ds
   entries_same NothingStored NothingStored h = refl
@@ -95,7 +97,7 @@ mutual
 
 mutual
   message_itself : (m : StoredMessage) → same_message m m ≡ true
-  message_itself (MessageOf r T es) = both_true (both_true ((rows_decide r r).1 refl) ((unsigned_Decides T T).1 refl)) (entries_itself es)
+  message_itself (MessageOf fs r T es) = both_true (both_true (both_true ((contents_decide fs fs).1 refl) ((rows_decide r r).1 refl)) ((unsigned_Decides T T).1 refl)) (entries_itself es)
 
   entries_itself : (es : StoredEntries) → same_entries es es ≡ true
   entries_itself NothingStored = refl

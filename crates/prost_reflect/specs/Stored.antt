@@ -4,8 +4,9 @@ use Rattle.prost_reflect_wire.specs.Record.{Records, body_of}
 use Rattle.prost_reflect_wire.specs.Unknown.{records_of}
 use Rattle.prost_reflect_wire.specs.Scalar as scalars
 use Rattle.prost_reflect_wire.specs.Scalar.{Scalar}
+use Rattle.prost_reflect_wire.specs.Content.{Content}
 use Rattle.prost_reflect_tables.specs.Rows.{TableRows}
-use Rattle.prost_reflect.specs.Pools.{pool_rows}
+use Rattle.prost_reflect.specs.Pools.{pool_rows, pool_contents}
 use Rattle.prost_reflect.specs.View.{key_of}
 use Rattle.prost_reflect.specs.declared.fields.entry.Entry.{Entry}
 use Rattle.prost_reflect.specs.declared.fields.entry.Entry.TheVariants.{Value as ValueEntry, Unknown as UnknownEntry, Both as BothEntry}
@@ -16,9 +17,9 @@ use Rattle.prost_reflect.specs.declared.message.DynamicMessage.{DynamicMessage, 
 
 -- A content tells less apart: it names a type by its schema, and leaves out the names in it.
 mutual
-  -- The rows of its pool, its type's place in them, and what stands at each number.
+  -- What its pool's files hold, and the rows that they link to; its type's place in them, and what stands at each number.
   pub data StoredMessage : Type 0 where
-    MessageOf : TableRows → ℕ → StoredEntries → StoredMessage
+    MessageOf : List Content → TableRows → ℕ → StoredEntries → StoredMessage
 
   -- In ascending number: a value, unknown records, or a value with unknown records beside it.
   pub data StoredEntries : Type 0 where
@@ -78,7 +79,7 @@ stored_step (Value-F.List values) = StoredList (stored_items (λ v. v) values.it
 stored_step (Value-F.Map pairs) = StoredMap (stored_pairs (λ v. v) pairs.entries)
 
 abbrev pub stored_message_step : DynamicMessage-F StoredValue StoredMessage → StoredMessage
-stored_message_step m = MessageOf (pool_rows m.slots.0.pool) m.slots.0.index (stored_entries (λ v. v) m.slots.1)
+stored_message_step m = MessageOf (pool_contents m.slots.0.pool) (pool_rows m.slots.0.pool) m.slots.0.index (stored_entries (λ v. v) m.slots.1)
 
 -- What a value stores.
 abbrev pub value_stored : Value → StoredValue

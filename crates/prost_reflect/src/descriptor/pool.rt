@@ -21,27 +21,31 @@ pub(crate) struct PoolInner {
 
 impl PartialEq for PoolInner {
     ghost use Rattle.std.specs.Cmp.{on_per, partial_equiv_from_equiv};
-    ghost use Rattle.prost_reflect_tables.specs.Equality.{rows_eq, rows_equivalence};
+    ghost use Rattle.prost_reflect.specs.PoolEquality.{contents_eq, contents_equivalence};
+    ghost use Rattle.prost_reflect.specs.Pools.{contents_of};
 
-    ghost eq = { λ a b. rows_eq (rows_of a.tables) (rows_of b.tables) };
+    ghost eq = { λ a b. contents_eq (contents_of (shared_files a.files.items)) (contents_of (shared_files b.files.items)) };
 
-    ghost laws = { on_per (λ inner. rows_of inner.tables) (partial_equiv_from_equiv rows_equivalence) };
+    ghost laws = { on_per (λ inner. contents_of (shared_files inner.files.items)) (partial_equiv_from_equiv contents_equivalence) };
 
+    /// Whether the files hold the same, one by one; so their tables are the same, too.
     fn eq(&self, other: &PoolInner) -> bool {
-        self.tables == other.tables
+        self.files == other.files
     }
 }
 
 impl Eq for PoolInner {
     ghost use Rattle.std.specs.Cmp.{on_equiv};
-    ghost use Rattle.prost_reflect_tables.specs.Equality.{rows_equivalence};
+    ghost use Rattle.prost_reflect.specs.PoolEquality.{contents_equivalence};
+    ghost use Rattle.prost_reflect.specs.Pools.{contents_of};
 
-    ghost laws = { on_equiv (λ inner. rows_of inner.tables) rows_equivalence };
+    ghost laws = { on_equiv (λ inner. contents_of (shared_files inner.files.items)) contents_equivalence };
 }
 
 /// Files of definitions with the message types and enums that descriptors are places of. A clone shares them.
 ///
-/// The files pass all checks together, and the pool's tables are what they link to.
+/// The files pass all checks together, and the pool's tables are what they link to. Two pools are equal where as many files
+/// stand in both and their records hold the same, one by one.
 #[derive(PartialEq, Eq, Debug, Drop)]
 pub struct DescriptorPool {
     pub(crate) inner: Rc<PoolInner>,

@@ -31,8 +31,8 @@ impl PartialEq for DynamicMessage {
 
     ghost laws = { message_laws };
 
-    /// Whether both are of one type, by their pools and its place there, and store the same at each number, at every
-    /// depth. A stored default counts, also where the field has no presence, and so do unknown fields and their order.
+    /// Whether both are of one type, by what their pools' files hold and its place there, and store the same at each number,
+    /// at every depth. A stored default counts, also where the field has no presence, and so do unknown fields and their order.
     fn eq(&self, other: &DynamicMessage) -> bool
         ensures value { result ≡ equal_messages self.now other.now }
         ensures same { IsTrue result ↔ (message_stored self.now ≡ message_stored other.now) }

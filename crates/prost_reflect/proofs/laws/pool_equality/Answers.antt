@@ -1,5 +1,10 @@
-use Rattle.prost_reflect.proofs.EqualDescriptors.{pools_decide}
+use Rattle.prost_reflect.specs.Pools.{contents_of}
+use Rattle.prost_reflect.proofs.EqualDescriptors.{pools_decide, rows_same}
 use Rattle.prost_reflect.proofs.laws.pool_equality.Goals as goal
 
-pub returns : goal.returns
-returns c = pools_decide
+pub returns-clause-files : goal.returns-clause-files
+unfolding contents_of
+returns-clause-files c = pools_decide
+
+pub returns-clause-tables : goal.returns-clause-tables
+returns-clause-tables c = λ a b h. rows_same a b ((pools_decide a b).0 h)
