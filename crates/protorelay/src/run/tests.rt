@@ -137,28 +137,21 @@ const PROTO4: &str = "0a1b0a0173220e0a015312090a0161180120012805620670726f746f34
 #[test]
 fn takes_descriptor_sets(rt: HostRuntime) -> Result<(), Fail> {
     let rows = [
-        (SMALL, "S", "0896011002", "0896011002", ""),
-        (SMALL, "T", "08", "", "refused name"),
-        (SMALL, "S", "08", "", "refused decode Truncated"),
-        (CUT, "S", "08", "", "refused pool Decode Truncated"),
-        (PROTO4, "S", "08", "", "refused pool UnknownSyntax"),
+        (SMALL, "S", "0896011002", 0, "0896011002\n", ""),
+        (SMALL, "T", "08", 1, "", "refused name\n"),
+        (SMALL, "S", "08", 1, "", "refused decode Truncated\n"),
+        (CUT, "S", "08", 1, "", "refused pool Decode Truncated\n"),
+        (PROTO4, "S", "08", 1, "", "refused pool UnknownSyntax\n"),
         // A set without files, and what is no set in hex digits.
-        ("", "S", "08", "", "refused name"),
-        ("0", "S", "08", "", "refused hex"),
+        ("", "S", "08", 1, "", "refused name\n"),
+        ("0", "S", "08", 1, "", "refused hex\n"),
     ];
-    for (set, name, digits, out, err) in rows {
+    for (set, name, digits, status, out, err) in rows {
         let text = format!(in rt.alloc(); "relay {set} {name} {digits}")?;
         let answer = answer_to(rt.alloc(), text.as_str())?;
-        let is_refused = out.is_empty();
-        let said = if is_refused { &answer.err } else { &answer.out };
-        let want = if is_refused { err } else { out };
-        assert_eq!(rt;
-            said.as_slice(),
-            line(rt.alloc(), want)?.as_bytes(),
-            "{text}"
-        );
-        assert_eq!(rt; answer.out.is_empty(), is_refused, "{text}");
-        assert_eq!(rt; answer.status, if is_refused { 1 } else { 0 }, "{text}");
+        assert_eq!(rt; answer.out.as_slice(), out.as_bytes(), "{text}");
+        assert_eq!(rt; answer.err.as_slice(), err.as_bytes(), "{text}");
+        assert_eq!(rt; answer.status, status, "{text}");
     }
     Ok(())
 }
