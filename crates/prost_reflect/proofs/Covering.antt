@@ -1,19 +1,18 @@
 -- What the rows say of a covered type, the schema says.
-use Rattle.std.proofs.Common.{◌≡◌, ℕ, Bool, true, false, not, ◌&&◌, List, [], ◌∷◌, map, Option, Some, None, cond, subst, refl, sym, ap, ◌∙◌}
+use Rattle.std.proofs.Common.{◌≡◌, ℕ, Bool, true, false, not, ◌&&◌, ◌||◌, zero, suc, List, [], ◌∷◌, map, Option, Some, None, cond, subst, refl, sym, ◌∙◌}
 use Rattle.std.specs.Prelude.{slice_get, nat_eq}
 use Rattle.std.specs.List.{list_all}
 use Rattle.std.specs.Option.{is_some}
-use Rattle.prost_reflect_wire.specs.Schema.{ScalarOf, FieldForm, Singular, Repeated as RepeatedForm, MapFrom, Field, Schema, known, field_of, is_singular}
+use Rattle.prost_reflect_wire.specs.Schema.{ScalarOf, FieldForm, Singular, Repeated as RepeatedForm, MapFrom, Field, MessageType, Schema, known, field_of, is_singular, is_message}
 use Rattle.prost_reflect_tables.specs.declared.tables.Cardinality.{Cardinality}
 use Rattle.prost_reflect_tables.specs.declared.tables.Cardinality.TheVariants.{Optional, Required, Repeated}
 use Rattle.prost_reflect_tables.specs.declared.tables.TableKind.{TableKind}
 use Rattle.prost_reflect_tables.specs.declared.tables.TableKind.TheVariants.{Double, Float, Int32, Int64, Uint32, Uint64, Sint32, Sint64, Fixed32, Fixed64, Sfixed32, Sfixed64, Bool as BoolKind, String, Bytes, Message, Enum}
 use Rattle.prost_reflect_tables.specs.declared.tables.FieldTable.{FieldTable}
-use Rattle.prost_reflect_tables.specs.Rows.{FieldRow, MessageRow, EnumRow, TableRows, field_row}
-use Rattle.prost_reflect_tables.specs.Places.{fields_at}
-use Rattle.prost_reflect_tables.specs.Shown.{schema_from, schema_field, schema_kind, enum_kind, map_entry, form_of, value_type_of}
-use Rattle.prost_reflect_tables.proofs.Fields.{known_rows}
-use Rattle.prost_reflect.specs.Covered.{covered, field_covered, row_covered, is_plain, is_repeated, is_plain_kind}
+use Rattle.prost_reflect_tables.specs.declared.tables.MessageTable.{MessageTable}
+use Rattle.prost_reflect_tables.specs.Rows.{FieldRow, MessageRow, EnumRow, TableRows, field_row, message_row}
+use Rattle.prost_reflect_tables.specs.Shown.{schema_from, schema_message, schema_field, schema_kind, enum_kind, map_entry, form_of, value_type_of}
+use Rattle.prost_reflect.specs.Covered.{covered, field_covered, row_covered, message_covered, is_plain, is_repeated, is_plain_kind, is_message_kind}
 
 plain_kind : (enums : List EnumRow) (kind : TableKind) (g : Bool) → is_plain (schema_kind enums kind g) ≡ is_plain_kind kind
 plain_kind enums Double g = refl
@@ -39,28 +38,60 @@ plain_kind enums (Enum E) g = of (slice_get enums E)
 plain_kind enums (Message T) true = refl
 plain_kind enums (Message T) false = refl
 
+pub message_kind : (enums : List EnumRow) (kind : TableKind) (g : Bool) → is_message (schema_kind enums kind g) ≡ is_message_kind kind
+message_kind enums Double g = refl
+message_kind enums Float g = refl
+message_kind enums Int32 g = refl
+message_kind enums Int64 g = refl
+message_kind enums Uint32 g = refl
+message_kind enums Uint64 g = refl
+message_kind enums Sint32 g = refl
+message_kind enums Sint64 g = refl
+message_kind enums Fixed32 g = refl
+message_kind enums Fixed64 g = refl
+message_kind enums Sfixed32 g = refl
+message_kind enums Sfixed64 g = refl
+message_kind enums BoolKind g = refl
+message_kind enums String g = refl
+message_kind enums Bytes g = refl
+message_kind enums (Enum E) g = refl
+message_kind enums (Message T) true = refl
+message_kind enums (Message T) false = refl
+
 repeated_form : (enums : List EnumRow) (f : FieldRow) (entry : Option MessageRow) → is_singular (form_of enums f Repeated entry) ≡ false
 repeated_form enums f None = refl
 repeated_form enums f (Some entry) = refl
 
 -- A single row is shown by its own kind; a repeated one is no single field.
 shown_with : (rows : TableRows) (f : FieldRow) (c : Cardinality) (x : Bool) →
-    not (is_repeated c) && is_plain_kind f.kind && x
-    ≡ (is_singular (form_of rows.enums f c (map_entry rows.messages f c)) && is_plain (value_type_of rows.enums f (map_entry rows.messages f c)).kind && x)
-shown_with rows f Optional x = rw (plain_kind rows.enums f.kind f.is_group) refl
-shown_with rows f Required x = rw (plain_kind rows.enums f.kind f.is_group) refl
+    not (is_repeated c) && (is_plain_kind f.kind || is_message_kind f.kind) && x
+    ≡ (is_singular (form_of rows.enums f c (map_entry rows.messages f c)) && (is_plain (value_type_of rows.enums f (map_entry rows.messages f c)).kind || is_message (value_type_of rows.enums f (map_entry rows.messages f c)).kind) && x)
+shown_with rows f Optional x = rw (plain_kind rows.enums f.kind f.is_group, message_kind rows.enums f.kind f.is_group) refl
+shown_with rows f Required x = rw (plain_kind rows.enums f.kind f.is_group, message_kind rows.enums f.kind f.is_group) refl
 shown_with rows f Repeated x = rw (repeated_form rows.enums f (map_entry rows.messages f Repeated)) refl
 
 covered_row : (rows : TableRows) (f : FieldRow) → row_covered f ≡ field_covered (schema_field rows f)
 covered_row rows f = shown_with rows f f.cardinality (not (is_some f.oneof))
 
-all_covered : (rows : TableRows) (fields : List FieldTable) → list_all (λ f. row_covered (field_row f)) fields ≡ list_all field_covered (map (schema_field rows) (map field_row fields))
+all_covered : (rows : TableRows) (fields : List FieldRow) → list_all row_covered fields ≡ list_all field_covered (map (schema_field rows) fields)
 all_covered rows [] = refl
-all_covered rows (f ∷ fields) = rw (covered_row rows (field_row f), all_covered rows fields) refl
+all_covered rows (f ∷ fields) = rw (covered_row rows f, all_covered rows fields) refl
 
-pub rows_covered : (rows : TableRows) (T : ℕ) (fields : List FieldTable) → map field_row fields ≡ fields_at rows T → list_all (λ f. row_covered (field_row f)) fields ≡ covered (schema_from rows) T
-unfolding covered
-rows_covered rows T fields e = all_covered rows fields ∙ ap (list_all field_covered) (ap (map (schema_field rows)) e ∙ sym (known_rows rows T))
+messages_covered : (rows : TableRows) (messages : List MessageRow) → list_all message_covered messages ≡ list_all (λ (m : MessageType). list_all field_covered m.known) (map (schema_message rows) messages)
+messages_covered rows [] = refl
+messages_covered rows (m ∷ messages) = rw (all_covered rows m.fields, messages_covered rows messages) refl
+
+pub rows_all : (fields : List FieldTable) → list_all (λ f. row_covered (field_row f)) fields ≡ list_all row_covered (map field_row fields)
+rows_all [] = refl
+rows_all (f ∷ fields) = rw (rows_all fields) refl
+
+pub tables_all : (messages : List MessageTable) → list_all (λ m. message_covered (message_row m)) messages ≡ list_all message_covered (map message_row messages)
+tables_all [] = refl
+tables_all (m ∷ messages) = rw (tables_all messages) refl
+
+pub rows_covered : (rows : TableRows) (T : ℕ) → list_all message_covered rows.messages ≡ covered (schema_from rows) T
+unfolding covered schema_from
+rows_covered rows T = messages_covered rows rows.messages
 
 and_left : (a b : Bool) → a && b ≡ true → a ≡ true
 and_left true b h = refl
@@ -78,21 +109,31 @@ passing_field (g ∷ fields) n f h e = of (nat_eq g.number n) (passing_field fie
     of true further at = let same : g ≡ f = cc in subst (λ (x : Field). field_covered x ≡ true) same (and_left (field_covered g) (list_all field_covered fields) h)
     of false further at = further at
 
+known_covered : (schema : Schema) (T : ℕ) → list_all (λ (m : MessageType). list_all field_covered m.known) schema ≡ true → list_all field_covered (known schema T) ≡ true
+known_covered [] T h = refl
+known_covered (m ∷ schema) zero h = and_left (list_all field_covered m.known) _ h
+known_covered (m ∷ schema) (suc T) h = known_covered schema T (and_right (list_all field_covered m.known) _ h)
+
 -- The field of a number of a covered type is covered.
 pub covered_field : (schema : Schema) (T n : ℕ) (f : Field) → covered schema T ≡ true → field_of (known schema T) n ≡ Some f → field_covered f ≡ true
 unfolding covered
-covered_field schema T n f h e = passing_field (known schema T) n f h e
+covered_field schema T n f h e = passing_field (known schema T) n f (known_covered schema T h) e
 
-pub record OnePlain (f : Field) : Type 0 where
+-- With one type of a schema each is covered.
+pub covered_further : (schema : Schema) (T U : ℕ) → covered schema T ≡ true → covered schema U ≡ true
+unfolding covered
+covered_further schema T U h = h
+
+pub record OneCovered (f : Field) : Type 0 where
   pub single : f.form ≡ Singular
-  pub plain : is_plain f.value_type.kind ≡ true
+  pub kind : (is_plain f.value_type.kind || is_message f.value_type.kind) ≡ true
   pub alone : f.oneof ≡ None
 
-pub covered_parts : (f : Field) → field_covered f ≡ true → OnePlain f
+pub covered_parts : (f : Field) → field_covered f ≡ true → OneCovered f
 covered_parts f h = record {
-  single = singular f.form (and_left _ _ (and_left (is_singular f.form && is_plain f.value_type.kind) _ h));
-  plain = and_right (is_singular f.form) _ (and_left (is_singular f.form && is_plain f.value_type.kind) _ h);
-  alone = none f.oneof (and_right (is_singular f.form && is_plain f.value_type.kind) _ h);
+  single = singular f.form (and_left _ _ (and_left (is_singular f.form && (is_plain f.value_type.kind || is_message f.value_type.kind)) _ h));
+  kind = and_right (is_singular f.form) _ (and_left (is_singular f.form && (is_plain f.value_type.kind || is_message f.value_type.kind)) _ h);
+  alone = none f.oneof (and_right (is_singular f.form && (is_plain f.value_type.kind || is_message f.value_type.kind)) _ h);
 }
   where
     singular : (form : FieldForm) → is_singular form ≡ true → form ≡ Singular
@@ -103,3 +144,16 @@ covered_parts f h = record {
     none : (o : Option ℕ) → not (is_some o) ≡ true → o ≡ None
     none None e = refl
     none (Some o) e = cc
+
+-- A field that is no message is plain.
+pub record OnePlain (f : Field) : Type 0 where
+  pub single : f.form ≡ Singular
+  pub plain : is_plain f.value_type.kind ≡ true
+  pub alone : f.oneof ≡ None
+
+pub plain_parts : (f : Field) → field_covered f ≡ true → is_message f.value_type.kind ≡ false → OnePlain f
+plain_parts f h apart = let parts = covered_parts f h in record { single = parts.single; plain = other (is_plain f.value_type.kind) (is_message f.value_type.kind) parts.kind apart; alone = parts.alone }
+  where
+    other : (a b : Bool) → (a || b) ≡ true → b ≡ false → a ≡ true
+    other true b h e = refl
+    other false b h e = sym e ∙ h

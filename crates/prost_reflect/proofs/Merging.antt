@@ -1,16 +1,16 @@
 -- Records read into a message.
-use Rattle.std.proofs.Common.{◌≡◌, ℕ, List, Option, Some, None, refl, sym, ap, ◌∙◌, subst, ◌≤◌, ◌<◌, ◌^◌, true}
+use Rattle.std.proofs.Common.{◌≡◌, ℕ, Bool, List, Option, Some, None, refl, sym, ap, ap₂, ◌∙◌, subst, ◌≤◌, ◌<◌, ◌^◌, true, false, true≢false}
 use Rattle.prost_reflect_wire.specs.declared.key.WireType.{WireType}
 use Rattle.prost_reflect_wire.specs.declared.error.DecodeError.{DecodeError}
 use Rattle.prost_reflect_wire.specs.Varint.{AreBytes}
 use Rattle.prost_reflect_wire.specs.Record.{Payload, record_at}
 use Rattle.prost_reflect_wire.specs.Front.{ValueFront}
 use Rattle.prost_reflect_wire.specs.Scalar.{Scalar, ScalarKind}
-use Rattle.prost_reflect_wire.specs.Schema.{ScalarOf, Singular, Field, Schema, known, field_of}
+use Rattle.prost_reflect_wire.specs.Schema.{Kind, ScalarOf, MessageOf, GroupOf, ValueType, Singular, Field, Schema, known, field_of, is_message}
 use Rattle.prost_reflect_wire.specs.Content.{Content, ContentOf, Entries, ScalarValue, schema_of, type_of}
 use Rattle.prost_reflect_wire.specs.Content as contents
 use Rattle.prost_reflect_wire.specs.Typing.{WellStored}
-use Rattle.prost_reflect_wire.specs.Edit.{with_field_value}
+use Rattle.prost_reflect_wire.specs.Edit.{with_field_value, message_of}
 use Rattle.prost_reflect_wire.specs.Fault.{OfType, ValueFault}
 use Rattle.prost_reflect_wire.specs.Decoding.{Step, ScalarRead, ScalarFault, StandsBehindKey}
 use Rattle.prost_reflect_wire.proofs.RecordReads.{IsOpen}
@@ -22,20 +22,24 @@ use Rattle.prost_reflect_wire.specs.Scalar as scalars
 use Rattle.prost_reflect_tables.specs.declared.tables.TableKind.{TableKind}
 use Rattle.prost_reflect_tables.specs.declared.tables.TableKind.TheVariants as kinds
 use Rattle.prost_reflect_tables.specs.Rows.{FieldRow}
-use Rattle.prost_reflect_tables.specs.Shown.{schema_field}
+use Rattle.prost_reflect_tables.specs.Shown.{schema_kind, schema_field}
 use Rattle.prost_reflect.specs.declared.descriptor.message.MessageDescriptor.{MessageDescriptor}
 use Rattle.prost_reflect.specs.declared.message.DynamicMessage.{DynamicMessage}
 use Rattle.prost_reflect.specs.declared.value.Value.{Value}
+use Rattle.prost_reflect.specs.declared.message.decode.Target.{Target}
+use Rattle.prost_reflect.specs.declared.message.decode.Target.TheVariants as targets
 use Rattle.prost_reflect.specs.Pools.{pool_rows}
 use Rattle.prost_reflect.specs.Descriptors.{schema_at, type_at}
 use Rattle.prost_reflect.specs.Known.{known_of}
 use Rattle.prost_reflect.specs.View.{value_of, content_of, descriptor_of}
 use Rattle.prost_reflect.specs.Scalars.{plain_kind, PlainField, ReadsScalar, RefusesScalar}
+use Rattle.prost_reflect.specs.Targets.{NestedField, IsTarget}
+use Rattle.prost_reflect.proofs.Described.{named_in_range}
 use Rattle.prost_reflect.proofs.Views.{content_of_message}
-use Rattle.prost_reflect.proofs.PlainKinds.{plain_row}
+use Rattle.prost_reflect.proofs.PlainKinds.{plain_row, own_of}
 use Rattle.prost_reflect.specs.Contents.{value_set, unknown_added}
-use Rattle.prost_reflect.specs.Covered.{covered}
-use Rattle.prost_reflect.proofs.Covering.{covered_field, covered_parts}
+use Rattle.prost_reflect.specs.Covered.{covered, field_covered, is_message_kind}
+use Rattle.prost_reflect.proofs.Covering.{covered_field, covered_parts, plain_parts, message_kind}
 
 -- a covered type has no oneofs
 pub covered_alone : (schema : Schema) (T : ℕ) → covered schema T ≡ true → NoOneofs (known schema T)
@@ -84,11 +88,95 @@ plain_open kinds.Bytes k e = subst IsOpen (let is : ◌≡◌ {A = ScalarKind} s
 plain_open (kinds.Message T) k e = cc
 plain_open (kinds.Enum E) k e = cc
 
-pub plain_field : (d : MessageDescriptor) (n : ℕ) (row : FieldRow) → covered (schema_at d) (type_at d) ≡ true → field_of (known_of d) n ≡ Some (schema_field (pool_rows d.pool) row) → PlainField (known_of d) n row.kind
-plain_field d n row h found =
-    let parts = covered_parts (schema_field (pool_rows d.pool) row) (covered_field (schema_at d) (type_at d) n (schema_field (pool_rows d.pool) row) h found) in
-    let kind = plain_row (pool_rows d.pool) row parts.single parts.plain in
-    record { field = schema_field (pool_rows d.pool) row; scalar_kind = kind.scalar; found = found; plain = kind.named; form = parts.single; kind_is = kind.is; alone = parts.alone }
+-- WHAT A RECORD IS READ AS
+
+-- by its field's row
+abbrev pub target_of : TableKind → Bool → Target
+target_of (kinds.Message T) true = targets.Group T
+target_of (kinds.Message T) false = targets.Message T
+target_of kind g = targets.Scalar kind
+
+pub scalar_target : (kind : TableKind) (g : Bool) → is_message_kind kind ≡ false → target_of kind g ≡ targets.Scalar kind
+scalar_target (kinds.Message T) g e = absurd (true≢false e)
+scalar_target kinds.Double g e = refl
+scalar_target kinds.Float g e = refl
+scalar_target kinds.Int32 g e = refl
+scalar_target kinds.Int64 g e = refl
+scalar_target kinds.Uint32 g e = refl
+scalar_target kinds.Uint64 g e = refl
+scalar_target kinds.Sint32 g e = refl
+scalar_target kinds.Sint64 g e = refl
+scalar_target kinds.Fixed32 g e = refl
+scalar_target kinds.Fixed64 g e = refl
+scalar_target kinds.Sfixed32 g e = refl
+scalar_target kinds.Sfixed64 g e = refl
+scalar_target kinds.Bool g e = refl
+scalar_target kinds.String g e = refl
+scalar_target kinds.Bytes g e = refl
+scalar_target (kinds.Enum E) g e = refl
+
+pub no_message_kind : (kind : TableKind) → ((T : ℕ) → kind ≡ kinds.Message T → ⊥) → is_message_kind kind ≡ false
+no_message_kind (kinds.Message T) h = absurd (h T refl)
+no_message_kind kinds.Double h = refl
+no_message_kind kinds.Float h = refl
+no_message_kind kinds.Int32 h = refl
+no_message_kind kinds.Int64 h = refl
+no_message_kind kinds.Uint32 h = refl
+no_message_kind kinds.Uint64 h = refl
+no_message_kind kinds.Sint32 h = refl
+no_message_kind kinds.Sint64 h = refl
+no_message_kind kinds.Fixed32 h = refl
+no_message_kind kinds.Fixed64 h = refl
+no_message_kind kinds.Sfixed32 h = refl
+no_message_kind kinds.Sfixed64 h = refl
+no_message_kind kinds.Bool h = refl
+no_message_kind kinds.String h = refl
+no_message_kind kinds.Bytes h = refl
+no_message_kind (kinds.Enum E) h = refl
+
+module _ (d : MessageDescriptor) (n : ℕ) (row : FieldRow) (h : covered (schema_at d) (type_at d) ≡ true) (found : field_of (known_of d) n ≡ Some (schema_field (pool_rows d.pool) row)) where
+  abbrev shown : Field
+  shown = schema_field (pool_rows d.pool) row
+
+  row_covers : field_covered (schema_field (pool_rows d.pool) row) ≡ true
+  row_covers = covered_field (schema_at d) (type_at d) n (schema_field (pool_rows d.pool) row) h found
+
+  own_kind : (schema_field (pool_rows d.pool) row).value_type.kind ≡ schema_kind (pool_rows d.pool).enums row.kind row.is_group
+  own_kind = ap (λ (t : ValueType). t.kind) (own_of (pool_rows d.pool) row (covered_parts (schema_field (pool_rows d.pool) row) row_covers).single)
+
+  plain_field : is_message_kind row.kind ≡ false → PlainField (known_of d) n row.kind
+  plain_field apart =
+      let parts = plain_parts (schema_field (pool_rows d.pool) row) row_covers (ap is_message own_kind ∙ message_kind (pool_rows d.pool).enums row.kind row.is_group ∙ apart) in
+      let kind = plain_row (pool_rows d.pool) row parts.single parts.plain in
+      record { field = schema_field (pool_rows d.pool) row; scalar_kind = kind.scalar; found = found; plain = kind.named; form = parts.single; kind_is = kind.is; alone = parts.alone }
+
+  nested_field : (T : ℕ) (kind : Kind) → schema_kind (pool_rows d.pool).enums row.kind row.is_group ≡ kind → message_of kind ≡ Some T → NestedField d n T kind
+  nested_field T kind is names =
+      let parts = covered_parts (schema_field (pool_rows d.pool) row) row_covers in
+      record { field = schema_field (pool_rows d.pool) row; found = found; form = parts.single; kind_is = own_kind ∙ is; alone = parts.alone; in_range = named_in_range d n (schema_field (pool_rows d.pool) row) T found (ap message_of (own_kind ∙ is) ∙ names) }
+
+  pub target_is : IsTarget d n (target_of row.kind row.is_group)
+  target_is = go row.kind row.is_group refl refl
+    where
+      go : (kind : TableKind) (g : Bool) → row.kind ≡ kind → row.is_group ≡ g → IsTarget d n (target_of kind g)
+      go (kinds.Message T) true k i = nested_field T (GroupOf T) (ap₂ (schema_kind (pool_rows d.pool).enums) k i) refl
+      go (kinds.Message T) false k i = nested_field T (MessageOf T) (ap₂ (schema_kind (pool_rows d.pool).enums) k i) refl
+      go kinds.Double g k i = subst (PlainField (known_of d) n) k (plain_field (ap is_message_kind k))
+      go kinds.Float g k i = subst (PlainField (known_of d) n) k (plain_field (ap is_message_kind k))
+      go kinds.Int32 g k i = subst (PlainField (known_of d) n) k (plain_field (ap is_message_kind k))
+      go kinds.Int64 g k i = subst (PlainField (known_of d) n) k (plain_field (ap is_message_kind k))
+      go kinds.Uint32 g k i = subst (PlainField (known_of d) n) k (plain_field (ap is_message_kind k))
+      go kinds.Uint64 g k i = subst (PlainField (known_of d) n) k (plain_field (ap is_message_kind k))
+      go kinds.Sint32 g k i = subst (PlainField (known_of d) n) k (plain_field (ap is_message_kind k))
+      go kinds.Sint64 g k i = subst (PlainField (known_of d) n) k (plain_field (ap is_message_kind k))
+      go kinds.Fixed32 g k i = subst (PlainField (known_of d) n) k (plain_field (ap is_message_kind k))
+      go kinds.Fixed64 g k i = subst (PlainField (known_of d) n) k (plain_field (ap is_message_kind k))
+      go kinds.Sfixed32 g k i = subst (PlainField (known_of d) n) k (plain_field (ap is_message_kind k))
+      go kinds.Sfixed64 g k i = subst (PlainField (known_of d) n) k (plain_field (ap is_message_kind k))
+      go kinds.Bool g k i = subst (PlainField (known_of d) n) k (plain_field (ap is_message_kind k))
+      go kinds.String g k i = subst (PlainField (known_of d) n) k (plain_field (ap is_message_kind k))
+      go kinds.Bytes g k i = subst (PlainField (known_of d) n) k (plain_field (ap is_message_kind k))
+      go (kinds.Enum E) g k i = subst (PlainField (known_of d) n) k (plain_field (ap is_message_kind k))
 
 same_kind : {k l : ScalarKind} {o : Option ScalarKind} → o ≡ Some k → o ≡ Some l → k ≡ l
 same_kind e f = cc

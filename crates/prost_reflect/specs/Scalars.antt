@@ -1,5 +1,5 @@
 -- Scalar kinds of the tables, their payloads and values.
-use Rattle.std.specs.Prelude.{◌≡◌, ℕ, Bool, pos, true, false, List, [], ◌++◌, Option, Some, None, option_map, option_and_then, IsSomeAnd}
+use Rattle.std.specs.Prelude.{◌≡◌, ℕ, Bool, pos, true, false, List, [], ◌++◌, Option, Some, None, option_map, option_and_then, IsSomeAnd, not, ◌&&◌, if◌then◌else◌}
 use Rattle.prost_reflect_wire.specs.declared.key.WireType.{WireType}
 use Rattle.prost_reflect_wire.specs.declared.error.DecodeError.{DecodeError}
 use Rattle.prost_reflect_wire.specs.Record.{Payload, short_key, short_plain}
@@ -12,6 +12,7 @@ use Rattle.prost_reflect_wire.specs.Typing.{element_valid}
 use Rattle.prost_reflect_wire.specs.Decoding.{ScalarRead, ScalarFault}
 use Rattle.prost_reflect_tables.specs.declared.tables.TableKind.{TableKind}
 use Rattle.prost_reflect_tables.specs.declared.tables.TableKind.TheVariants.{Double, Float, Int32, Int64, Uint32, Uint64, Sint32, Sint64, Fixed32, Fixed64, Sfixed32, Sfixed64, Bool as BoolKind, String, Bytes, Message, Enum}
+use Rattle.prost_reflect_tables.specs.Rows.{FieldRow}
 use Rattle.prost_reflect.specs.declared.value.Value.{Value}
 use Rattle.prost_reflect.specs.View.{value_of}
 
@@ -108,3 +109,7 @@ is_zero v = false
 abbrev pub is_default : Option Scalar → content.Value → Bool
 is_default (Some w) v = equals v w
 is_default None v = is_zero v
+
+-- What is written of a value of the row's field: nothing, if it is the default and there is no presence.
+abbrev pub kept_scalar_bytes : ℕ → FieldRow → content.Value → List ℕ
+kept_scalar_bytes n f v = if not f.supports_presence && is_default f.default v then [] else scalar_record_bytes n (plain_kind f.kind) v

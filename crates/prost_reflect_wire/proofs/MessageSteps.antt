@@ -55,7 +55,7 @@ message_kind (MessageOf V) U e = refl
 message_kind (GroupOf V) U e = refl
 
 -- what is kept of a message's value is what is kept of the message
-kept_message : (f : Field) (c : Content) → f.form ≡ Singular → kept_value (Some f) (MessageValue c) ≡ Some (MessageValue c)
+pub kept_message : (f : Field) (c : Content) → f.form ≡ Singular → kept_value (Some f) (MessageValue c) ≡ Some (MessageValue c)
 kept_message f c form = ap (λ form. go form) form
   where
     go : FieldForm → Option Value
