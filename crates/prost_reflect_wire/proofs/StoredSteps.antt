@@ -138,12 +138,12 @@ module _ (inner : MeansInside) (further : JoinsInside) (fields : List Field) whe
 -- WHOLE CONTENTS
 
 -- where a change of the stored slots is, at each number, the step of a record on what is kept, what is kept makes that step
-pub kept_step : (inner : MeansInside) (further : JoinsInside) (schema : Schema) (T : ℕ) (es ds : Entries) (r : Record) (change : ℕ → Slot → Slot) → entries_ordered es ≡ true → entries_ordered ds ≡ true →
+pub kept_step_at : (inner : MeansInside) (further : JoinsInside) (schema : Schema) (T : ℕ) (es ds : Entries) (r : Record) (change : ℕ → Slot → Slot) → entries_ordered es ≡ true → entries_ordered ds ≡ true →
     ((m : ℕ) → slot_at ds m ≡ change m (slot_at es m)) →
-    ((m : ℕ) (slot : Slot) → (field_of (known schema T) m ≡ None → slot.value ≡ None) → slot_step inner further (known schema T) r m (kept_slot (known schema T) m slot) ≡ kept_slot (known schema T) m (change m slot)) →
-    ((m : ℕ) → nat_eq r.number m ≡ false → change m empty_slot ≡ empty_slot) →
-    Known (known schema T) es → step_by inner further (kept (ContentOf schema T es)) r ≡ kept (ContentOf schema T ds)
-kept_step inner further schema T es ds r change o q slots step still values = ap (ContentOf schema T) (entries_same (changed r.number (slot_step inner further fields r) olds) news in_order (entries_kept_ordered fields ds q) same)
+    ((m : ℕ) → slot_step inner further (known schema T) r m (kept_slot (known schema T) m (slot_at es m)) ≡ kept_slot (known schema T) m (change m (slot_at es m))) →
+    ((m : ℕ) → nat_eq r.number m ≡ false → slot_step inner further (known schema T) r m empty_slot ≡ empty_slot) →
+    step_by inner further (kept (ContentOf schema T es)) r ≡ kept (ContentOf schema T ds)
+kept_step_at inner further schema T es ds r change o q slots step unmoved = ap (ContentOf schema T) (entries_same (changed r.number (slot_step inner further fields r) olds) news in_order (entries_kept_ordered fields ds q) same)
   where
     fields : List Field
     fields = known schema T
@@ -157,12 +157,9 @@ kept_step inner further schema T es ds r change o q slots step still values = ap
     at : (m : ℕ) → slot_step inner further (known schema T) r m (slot_at (kept_entries (known schema T) es) m) ≡ slot_at (kept_entries (known schema T) ds) m
     at m =
         ap (slot_step inner further (known schema T) r m) (slot_kept (known schema T) m es o)
-        ∙ step m (slot_at es m) (values m)
+        ∙ step m
         ∙ ap (kept_slot (known schema T) m) (sym (slots m))
         ∙ sym (slot_kept (known schema T) m ds q)
-
-    unmoved : (m : ℕ) → nat_eq r.number m ≡ false → slot_step inner further (known schema T) r m empty_slot ≡ empty_slot
-    unmoved m e = step m empty_slot (λ none. refl) ∙ ap (kept_slot (known schema T) m) (still m e)
 
     same : (m : ℕ) → slot_at (changed r.number (slot_step inner further (known schema T) r) (kept_entries (known schema T) es)) m ≡ slot_at (kept_entries (known schema T) ds) m
     same m = slot_changed r.number m (slot_step inner further (known schema T) r) (kept_entries (known schema T) es) unmoved ∙ at m
@@ -171,3 +168,12 @@ kept_step inner further schema T es ds r change o q slots step still values = ap
     in_order = table_ordered (λ m. slot_step inner further (known schema T) r m (slot_at (kept_entries (known schema T) es) m)) 0 (insert_number r.number (numbers_in (kept_entries (known schema T) es)))
         (insert_ascending r.number 0 (numbers_in (kept_entries (known schema T) es)) (entries_ascending (kept_entries (known schema T) es)) (omega arith))
         (λ m. subst (λ (s : Slot). OrderedOption s.value) (sym (at m)) (value_in_order m (kept_entries (known schema T) ds) (entries_kept_ordered (known schema T) ds q)))
+
+-- the same of a change that makes that step of any slot
+pub kept_step : (inner : MeansInside) (further : JoinsInside) (schema : Schema) (T : ℕ) (es ds : Entries) (r : Record) (change : ℕ → Slot → Slot) → entries_ordered es ≡ true → entries_ordered ds ≡ true →
+    ((m : ℕ) → slot_at ds m ≡ change m (slot_at es m)) →
+    ((m : ℕ) (slot : Slot) → (field_of (known schema T) m ≡ None → slot.value ≡ None) → slot_step inner further (known schema T) r m (kept_slot (known schema T) m slot) ≡ kept_slot (known schema T) m (change m slot)) →
+    ((m : ℕ) → nat_eq r.number m ≡ false → change m empty_slot ≡ empty_slot) →
+    Known (known schema T) es → step_by inner further (kept (ContentOf schema T es)) r ≡ kept (ContentOf schema T ds)
+kept_step inner further schema T es ds r change o q slots step still values =
+    kept_step_at inner further schema T es ds r change o q slots (λ m. step m (slot_at es m) (values m)) (λ m e. step m empty_slot (λ none. refl) ∙ ap (kept_slot (known schema T) m) (still m e))

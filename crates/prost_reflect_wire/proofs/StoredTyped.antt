@@ -42,14 +42,19 @@ module _ (schema : Schema) (fields : List Field) where
       other n false e none s = s
   values_typed (Unknown m p es) o h = values_typed es (and_both (comes_before m es) (entries_ordered es) o).1 h
 
+  -- a value of its field's type
+  pub value_stored_typed : (es ds : Entries) (f : Field) (v : Value) → ValueTyped schema (kind_for (field_of fields f.number) v) v → entries_ordered ds ≡ true → ((m : ℕ) → slot_at ds m ≡ with_stored fields f v m (slot_at es m)) →
+      EntriesTyped schema fields es → EntriesTyped schema fields ds
+  value_stored_typed es ds f v own o slots h = values_typed ds o (λ m. subst (λ (s : Slot). OptionTyped schema fields m s.value) (sym (slots m)) (go m (nat_eq m f.number) refl (is_sibling fields f m) (typed_values es m h)))
+    where
+      go : (m : ℕ) (b : Bool) → nat_eq m f.number ≡ b → (c : Bool) → OptionTyped schema fields m (value_at m es) → OptionTyped schema fields m (cond b (with_value (Some v) (slot_at es m)) (cond c (with_value None (slot_at es m)) (slot_at es m))).value
+      go m true e c s = subst (λ k. ValueTyped schema (kind_for (field_of fields k) v) v) (sym (eqb-true m f.number e)) own
+      go m false e true s = tt
+      go m false e false s = s
+
   -- a scalar is of no message type
   pub scalar_stored_typed : (es ds : Entries) (f : Field) (v : Scalar) → entries_ordered ds ≡ true → ((m : ℕ) → slot_at ds m ≡ with_stored fields f (ScalarValue v) m (slot_at es m)) → EntriesTyped schema fields es → EntriesTyped schema fields ds
-  scalar_stored_typed es ds f v o slots h = values_typed ds o (λ m. subst (λ (s : Slot). OptionTyped schema fields m s.value) (sym (slots m)) (go m (nat_eq m f.number) (is_sibling fields f m) (typed_values es m h)))
-    where
-      go : (m : ℕ) (b c : Bool) → OptionTyped schema fields m (value_at m es) → OptionTyped schema fields m (cond b (with_value (Some (ScalarValue v)) (slot_at es m)) (cond c (with_value None (slot_at es m)) (slot_at es m))).value
-      go m true c s = tt
-      go m false true s = tt
-      go m false false s = s
+  scalar_stored_typed es ds f v o slots h = value_stored_typed es ds f (ScalarValue v) tt o slots h
 
   pub unknown_stored_typed : (es ds : Entries) (n : ℕ) (p : Payload) → entries_ordered ds ≡ true → ((m : ℕ) → slot_at ds m ≡ with_unknown n p m (slot_at es m)) → EntriesTyped schema fields es → EntriesTyped schema fields ds
   unknown_stored_typed es ds n p o slots h = values_typed ds o (λ m. subst (λ (s : Slot). OptionTyped schema fields m s.value) (sym (slots m)) (go m (nat_eq m n) (typed_values es m h)))

@@ -1,5 +1,5 @@
 -- What the steps of reading a message have read, and what they refuse.
-use Rattle.std.specs.Prelude.{◌≡◌, ◌≢◌, ℕ, true, false, List, [], ◌∷◌, Some}
+use Rattle.std.specs.Prelude.{◌≡◌, ◌≢◌, ℕ, Bool, true, false, ◌||◌, List, [], ◌∷◌, flat_map, Some}
 use Rattle.std.specs.Str.{is_utf8}
 use Rattle.prost_reflect_wire.specs.declared.key.WireType.{WireType}
 use Rattle.prost_reflect_wire.specs.declared.key.WireType.TheVariants as wires
@@ -8,9 +8,10 @@ use Rattle.prost_reflect_wire.specs.declared.error.DecodeError.TheVariants as er
 use Rattle.prost_reflect_wire.specs.Record.{Plain, Payload, Flat, Record, body_of, plain_wire}
 use Rattle.prost_reflect_wire.specs.Front.{KeyFront, PlainFront, DelimitedFront, ValueFront, RecordsFront, PayloadEnds, PayloadPasses}
 use Rattle.prost_reflect_wire.specs.Scalar.{Scalar, ScalarKind, StringKind, kind_wire, elem}
-use Rattle.prost_reflect_wire.specs.Content.{Content, schema_of, type_of}
-use Rattle.prost_reflect_wire.specs.Grammar.{allows}
-use Rattle.prost_reflect_wire.specs.Meaning.{steps}
+use Rattle.prost_reflect_wire.specs.Schema.{ScalarOf}
+use Rattle.prost_reflect_wire.specs.Content.{Content, Value, schema_of, type_of}
+use Rattle.prost_reflect_wire.specs.Grammar.{fits, packed_allowed, element_payloads_in, allows}
+use Rattle.prost_reflect_wire.specs.Meaning.{scalar_values, steps}
 use Rattle.prost_reflect_wire.specs.Writing.{record_at}
 use Rattle.prost_reflect_wire.specs.Typing.{kept, WellStored}
 use Rattle.prost_reflect_wire.specs.Fault.{StandsInMessage, same_wire}
@@ -68,3 +69,21 @@ ScalarFault kind w errors.WireType bytes = (w ≢ wires.EndGroup) × (same_wire 
 ScalarFault kind w errors.EndGroup bytes = w ≡ wires.EndGroup
 ScalarFault kind w errors.Utf8 bytes = (w ≡ wires.LengthDelimited) × (kind ≡ StringKind) × ((body rest : List ℕ) × DelimitedFront body bytes rest × (is_utf8 body ≡ false))
 ScalarFault kind w e bytes = ⊥
+
+-- LISTS OF SCALARS
+
+-- One element, or packed ones.
+abbrev pub list_takes : ScalarKind → Payload → Bool
+list_takes kind p = fits kind p || packed_allowed (ScalarOf kind) p
+
+-- The values of the elements of a payload.
+abbrev pub element_values : ScalarKind → Payload → List Value
+element_values kind p = flat_map (λ q. scalar_values (elem kind q)) (element_payloads_in (ScalarOf kind) p)
+
+-- Behind a key, a payload that a list of the kind takes, with these elements.
+pub record ElementsRead (kind : ScalarKind) (w : WireType) (vs : List Value) (bytes rest : List ℕ) : Type 0 where
+  pub plain : Plain
+  pub wire : plain_wire plain ≡ w
+  pub front : PlainFront plain bytes rest
+  pub taken : list_takes kind (Flat plain) ≡ true
+  pub values : vs ≡ element_values kind (Flat plain)
