@@ -21,7 +21,8 @@ use Rattle.prost_reflect_wire.specs.Schema.{Schema, Field}
 use Rattle.prost_reflect_wire.specs.Fault.{Place, OfType, Stands, Here, Comes, field_at, ElementFault, ElementEnds, ElementPasses, StandsInMessage, ValueFault, PackedNext, TextNext, takes, is_map}
 use Rattle.prost_reflect_wire.specs.Unknown.{SkipsValue}
 use Rattle.prost_reflect_wire.specs.DescriptorTable.{rows, place_of, form_of, value_type_of, field_of_row, record_schema}
-use Rattle.prost_reflect_wire.specs.DescriptorReading.{Found, FoundNumber, Fields, FieldRead, FieldFault, DelimitedFault, PackedRead, kind_at, found_in, found_in_record, found_in_records, number_in_plain, under, found_at, all_found}
+use Rattle.prost_reflect_wire.specs.Decoding.{FieldFault}
+use Rattle.prost_reflect_wire.specs.DescriptorReading.{Found, FoundNumber, Fields, FieldRead, DelimitedFault, PackedRead, kind_at, found_in, found_in_record, found_in_records, number_in_plain, under, found_at, all_found}
 use Rattle.prost_reflect_wire.proofs.Sound.{some_inside, bind_ok}
 use Rattle.prost_reflect_wire.proofs.Steps.{map_append}
 use Rattle.prost_reflect_wire.proofs.KindsAllowed.{element_name}

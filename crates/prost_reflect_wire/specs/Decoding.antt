@@ -1,20 +1,21 @@
 -- What the steps of reading a message have read, and what they refuse.
-use Rattle.std.specs.Prelude.{◌≡◌, ◌≢◌, ℕ, Bool, true, false, ◌||◌, List, [], ◌∷◌, flat_map, Some}
+use Rattle.std.specs.Prelude.{◌≡◌, ◌≢◌, ℕ, ◌⊎◌, Bool, true, false, ◌||◌, List, [], ◌∷◌, flat_map, Option, Some}
 use Rattle.std.specs.Str.{is_utf8}
 use Rattle.prost_reflect_wire.specs.declared.key.WireType.{WireType}
 use Rattle.prost_reflect_wire.specs.declared.key.WireType.TheVariants as wires
 use Rattle.prost_reflect_wire.specs.declared.error.DecodeError.{DecodeError}
 use Rattle.prost_reflect_wire.specs.declared.error.DecodeError.TheVariants as errors
+use Rattle.prost_reflect_wire.specs.Varint.{◌>>=◌}
 use Rattle.prost_reflect_wire.specs.Record.{Plain, Payload, Flat, Record, body_of, plain_wire}
 use Rattle.prost_reflect_wire.specs.Front.{KeyFront, PlainFront, DelimitedFront, ValueFront, RecordsFront, PayloadEnds, PayloadPasses}
 use Rattle.prost_reflect_wire.specs.Scalar.{Scalar, ScalarKind, StringKind, kind_wire, elem}
-use Rattle.prost_reflect_wire.specs.Schema.{ScalarOf}
+use Rattle.prost_reflect_wire.specs.Schema.{ScalarOf, Field}
 use Rattle.prost_reflect_wire.specs.Content.{Content, Value, schema_of, type_of}
-use Rattle.prost_reflect_wire.specs.Grammar.{fits, packed_allowed, element_payloads_in, allows}
+use Rattle.prost_reflect_wire.specs.Grammar.{fits, packed_allowed, unpacked, element_payloads_in, allows}
 use Rattle.prost_reflect_wire.specs.Meaning.{scalar_values, steps}
 use Rattle.prost_reflect_wire.specs.Writing.{record_at}
 use Rattle.prost_reflect_wire.specs.Typing.{kept, WellStored}
-use Rattle.prost_reflect_wire.specs.Fault.{StandsInMessage, same_wire}
+use Rattle.prost_reflect_wire.specs.Fault.{PackedNext, TextNext, takes, StandsInMessage, same_wire}
 
 -- The bytes before the rest are records that the old content's type takes, and the new content is what they make of the old one.
 pub record ReadTo (levels : ℕ) (old new : Content) (bytes rest : List ℕ) : Type 0 where
@@ -52,6 +53,15 @@ pub record Step (levels n : ℕ) (w : WireType) (old new : Content) (bytes rest 
 abbrev pub StandsBehindKey : Content → ℕ → ℕ → WireType → DecodeError → List ℕ → Type 0
 StandsBehindKey c levels n w e rest = (bytes : List ℕ) → KeyFront n w bytes rest → StandsInMessage (schema_of c) (type_of c) levels e bytes
 
+-- What keeps a field from being read behind its key.
+abbrev pub FieldFault : DecodeError → Field → WireType → List ℕ → Type 0
+FieldFault errors.Truncated f w bytes = PayloadEnds w bytes ⊎ PackedNext errors.Truncated f w bytes
+FieldFault errors.Varint f w bytes = PayloadPasses w bytes ⊎ PackedNext errors.Varint f w bytes
+FieldFault errors.WireType f w bytes = (w ≢ wires.EndGroup) × (takes f.form f.value_type.kind w ≡ false)
+FieldFault errors.EndGroup f w bytes = w ≡ wires.EndGroup
+FieldFault errors.Utf8 f w bytes = TextNext f w bytes
+FieldFault e f w bytes = ⊥
+
 -- SCALARS
 
 -- Behind a key, the payload of a value of the kind.
@@ -87,3 +97,7 @@ pub record ElementsRead (kind : ScalarKind) (w : WireType) (vs : List Value) (by
   pub front : PlainFront plain bytes rest
   pub taken : list_takes kind (Flat plain) ≡ true
   pub values : vs ≡ element_values kind (Flat plain)
+
+-- The values of the elements of a packed record.
+abbrev pub packed_values : ScalarKind → List ℕ → Option (List Value)
+packed_values kind body = unpacked kind body >>= λ ps. Some (flat_map (λ p. scalar_values (elem kind (Flat p))) ps)
