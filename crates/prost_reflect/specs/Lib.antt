@@ -28,3 +28,4 @@ pub mod BuiltinRows
 pub mod Samples
 pub mod Choices
 pub mod Encoding
+pub mod Lists

@@ -25,6 +25,7 @@ mod encode;
 mod equality;
 #[cfg(test)]
 mod equality_tests;
+mod list;
 mod scalar;
 #[cfg(test)]
 mod tests;

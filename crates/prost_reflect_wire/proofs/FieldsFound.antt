@@ -97,7 +97,7 @@ field_comes schema errors.Utf8 place n w rest f key found top fault = record { n
 field_comes schema e place n w rest f key found top fault = absurd fault
 
 -- behind the key of a known field
-field_stands : (schema : Schema) (e : DecodeError) (place : Place) (n : ℕ) (w : WireType) (rest : List ℕ) (f : Field) → KeyFront n w place.bytes rest → field_at schema place.inside n ≡ Some f →
+pub field_stands : (schema : Schema) (e : DecodeError) (place : Place) (n : ℕ) (w : WireType) (rest : List ℕ) (f : Field) → KeyFront n w place.bytes rest → field_at schema place.inside n ≡ Some f →
     place.open_group ≡ None → FieldFault e f w rest → Stands schema e place
 field_stands schema e place n w rest f key found top fault = Here (field_comes schema e place n w rest f key found top fault)
 

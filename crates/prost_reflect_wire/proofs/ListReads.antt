@@ -68,13 +68,13 @@ value_sound schema T es ds f v none found s o slots w = record {
 }
 
 -- lists of scalars hold no message
-record Scalars (vs : Values) : Type 0 where
-  passes : (test : EntryTest) → values_pass test vs ≡ true
-  typed : (schema : Schema) (kind : Option Kind) → ValuesTyped schema kind vs
-  order : values_ordered vs ≡ true
-  kept : kept_values vs ≡ vs
+pub record Scalars (vs : Values) : Type 0 where
+  pub passes : (test : EntryTest) → values_pass test vs ≡ true
+  pub typed : (schema : Schema) (kind : Option Kind) → ValuesTyped schema kind vs
+  pub order : values_ordered vs ≡ true
+  pub kept : kept_values vs ≡ vs
 
-scalars_only : (kind : ScalarKind) (vs : Values) → elements_valid (ScalarOf kind) vs ≡ true → Scalars vs
+pub scalars_only : (kind : ScalarKind) (vs : Values) → elements_valid (ScalarOf kind) vs ≡ true → Scalars vs
 scalars_only kind NoValues h = record { passes = λ test. refl; typed = λ schema kind. tt; order = refl; kept = refl }
 scalars_only kind (Item (ScalarValue v) vs) h =
     let more : Scalars vs = scalars_only kind vs (and_both (scalar_valid kind v) (elements_valid (ScalarOf kind) vs) h).1 in
@@ -99,9 +99,9 @@ elements_joined kind NoValues ws h g = g
 elements_joined kind (Item v vs) ws h g = let (one, more) = and_both (element_valid kind v) (elements_valid kind vs) h in both_true one (elements_joined kind vs ws more g)
 
 -- what is stored of a list
-record StoredList (kind : Kind) (o : Option Value) : Type 0 where
-  listed : IsListed o
-  valid : elements_valid kind (values_in o) ≡ true
+pub record StoredList (kind : Kind) (o : Option Value) : Type 0 where
+  pub listed : IsListed o
+  pub valid : elements_valid kind (values_in o) ≡ true
 
 valid_list : (f : Field) (packed : Bool) (v : Value) → f.form ≡ Repeated packed → value_valid f v ≡ true → StoredList f.value_type.kind (Some v)
 valid_list f packed (ScalarValue v) form h = absurd (true≢false (sym (and_both _ _ h).0 ∙ ap is_singular form))
@@ -109,7 +109,7 @@ valid_list f packed (MessageValue c) form h = absurd (true≢false (sym (and_bot
 valid_list f packed (ListValue vs) form h = record { listed = tt; valid = (and_both _ _ h).1 }
 valid_list f packed (MapValue ps) form h = absurd (true≢false (sym h ∙ ap (λ form. pairs_valid form f.value_type.kind ps) form))
 
-stored_list : (fields : List Field) (es : Entries) (f : Field) (packed : Bool) → entries_pass fit_test fields es ≡ true → field_of fields f.number ≡ Some f → f.form ≡ Repeated packed → StoredList f.value_type.kind (value_at f.number es)
+pub stored_list : (fields : List Field) (es : Entries) (f : Field) (packed : Bool) → entries_pass fit_test fields es ≡ true → field_of fields f.number ≡ Some f → f.form ≡ Repeated packed → StoredList f.value_type.kind (value_at f.number es)
 stored_list fields es f packed fits found form = go (value_at f.number es) at.value
   where
     own : ℕ → Value → Bool

@@ -27,7 +27,7 @@ use prost_reflect_wire::{
 use std::alloc::Global;
 
 /// Adds the payload of a scalar in front.
-fn prepend_scalar(
+pub(crate) fn prepend_scalar(
     buffer: &mut BackBuffer,
     kind: TableKind,
     value: &Value,
@@ -118,7 +118,7 @@ fn is_left_out(value: &Value, field: &FieldTable) -> bool
 }
 
 /// Adds the record of a scalar in front.
-fn prepend_scalar_record(
+pub(crate) fn prepend_scalar_record(
     buffer: &mut BackBuffer,
     number: u32,
     kind: TableKind,
