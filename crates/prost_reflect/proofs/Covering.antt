@@ -3,7 +3,9 @@ use Rattle.std.proofs.Common.{◌≡◌, ℕ, Bool, true, false, not, ◌&&◌, 
 use Rattle.std.specs.Prelude.{slice_get, nat_eq}
 use Rattle.std.specs.List.{list_all}
 use Rattle.std.specs.Option.{is_some}
-use Rattle.prost_reflect_wire.specs.Schema.{ScalarOf, FieldForm, Singular, Repeated as RepeatedForm, MapFrom, Field, Schema, known, field_of, is_singular}
+use Rattle.prost_reflect_wire.specs.Schema.{ScalarOf, Field, Schema, known, field_of}
+use Rattle.prost_reflect_wire.specs.Fault.{is_map}
+use Rattle.prost_reflect_wire.proofs.ListTests.{not_true}
 use Rattle.prost_reflect_tables.specs.declared.tables.Cardinality.{Cardinality}
 use Rattle.prost_reflect_tables.specs.declared.tables.Cardinality.TheVariants.{Optional, Required, Repeated}
 use Rattle.prost_reflect_tables.specs.declared.tables.TableKind.{TableKind}
@@ -11,9 +13,9 @@ use Rattle.prost_reflect_tables.specs.declared.tables.TableKind.TheVariants.{Dou
 use Rattle.prost_reflect_tables.specs.declared.tables.FieldTable.{FieldTable}
 use Rattle.prost_reflect_tables.specs.Rows.{FieldRow, MessageRow, EnumRow, TableRows, field_row}
 use Rattle.prost_reflect_tables.specs.Places.{fields_at}
-use Rattle.prost_reflect_tables.specs.Shown.{schema_from, schema_field, schema_kind, enum_kind, map_entry, form_of, value_type_of}
+use Rattle.prost_reflect_tables.specs.Shown.{schema_from, schema_field, schema_kind, enum_kind, entry_at, map_entry, form_of, value_type_of}
 use Rattle.prost_reflect_tables.proofs.Fields.{known_rows}
-use Rattle.prost_reflect.specs.Covered.{covered, field_covered, row_covered, is_plain, is_repeated, is_plain_kind}
+use Rattle.prost_reflect.specs.Covered.{covered, field_covered, row_covered, is_plain, is_plain_kind}
 
 plain_kind : (enums : List EnumRow) (kind : TableKind) (g : Bool) → is_plain (schema_kind enums kind g) ≡ is_plain_kind kind
 plain_kind enums Double g = refl
@@ -39,17 +41,26 @@ plain_kind enums (Enum E) g = of (slice_get enums E)
 plain_kind enums (Message T) true = refl
 plain_kind enums (Message T) false = refl
 
-repeated_form : (enums : List EnumRow) (f : FieldRow) (entry : Option MessageRow) → is_singular (form_of enums f Repeated entry) ≡ false
-repeated_form enums f None = refl
-repeated_form enums f (Some entry) = refl
+-- A map's kind is that of its entries, which is no plain one.
+entry_kind : (messages : List MessageRow) (f : FieldRow) (entry : MessageRow) → map_entry messages f Repeated ≡ Some entry → is_plain_kind f.kind ≡ false
+entry_kind messages f entry e = go f.is_group f.kind e
+  where
+    go : (g : Bool) (kind : TableKind) → cond g None (entry_at messages kind) ≡ Some entry → is_plain_kind kind ≡ false
+    go true kind e = cc
+    go false (Message T) e = refl
+    go false kind e = cc
 
--- A single row is shown by its own kind; a repeated one is no single field.
+-- A row that is no map is shown by its own kind.
 shown_with : (rows : TableRows) (f : FieldRow) (c : Cardinality) (x : Bool) →
-    not (is_repeated c) && is_plain_kind f.kind && x
-    ≡ (is_singular (form_of rows.enums f c (map_entry rows.messages f c)) && is_plain (value_type_of rows.enums f (map_entry rows.messages f c)).kind && x)
+    is_plain_kind f.kind && x
+    ≡ (not (is_map (form_of rows.enums f c (map_entry rows.messages f c))) && is_plain (value_type_of rows.enums f (map_entry rows.messages f c)).kind && x)
 shown_with rows f Optional x = rw (plain_kind rows.enums f.kind f.is_group) refl
 shown_with rows f Required x = rw (plain_kind rows.enums f.kind f.is_group) refl
-shown_with rows f Repeated x = rw (repeated_form rows.enums f (map_entry rows.messages f Repeated)) refl
+shown_with rows f Repeated x = go (map_entry rows.messages f Repeated) refl
+  where
+    go : (entry : Option MessageRow) → map_entry rows.messages f Repeated ≡ entry → is_plain_kind f.kind && x ≡ (not (is_map (form_of rows.enums f Repeated entry)) && is_plain (value_type_of rows.enums f entry).kind && x)
+    go None e = rw (plain_kind rows.enums f.kind f.is_group) refl
+    go (Some entry) e = ap (λ b. b && x) (entry_kind rows.messages f entry e)
 
 covered_row : (rows : TableRows) (f : FieldRow) → row_covered f ≡ field_covered (schema_field rows f)
 covered_row rows f = shown_with rows f f.cardinality (not (is_some f.oneof))
@@ -83,23 +94,18 @@ pub covered_field : (schema : Schema) (T n : ℕ) (f : Field) → covered schema
 unfolding covered
 covered_field schema T n f h e = passing_field (known schema T) n f h e
 
-pub record OnePlain (f : Field) : Type 0 where
-  pub single : f.form ≡ Singular
+pub record PlainParts (f : Field) : Type 0 where
+  pub no_map : is_map f.form ≡ false
   pub plain : is_plain f.value_type.kind ≡ true
   pub alone : f.oneof ≡ None
 
-pub covered_parts : (f : Field) → field_covered f ≡ true → OnePlain f
+pub covered_parts : (f : Field) → field_covered f ≡ true → PlainParts f
 covered_parts f h = record {
-  single = singular f.form (and_left _ _ (and_left (is_singular f.form && is_plain f.value_type.kind) _ h));
-  plain = and_right (is_singular f.form) _ (and_left (is_singular f.form && is_plain f.value_type.kind) _ h);
-  alone = none f.oneof (and_right (is_singular f.form && is_plain f.value_type.kind) _ h);
+  no_map = not_true (is_map f.form) (and_left _ _ (and_left (not (is_map f.form) && is_plain f.value_type.kind) _ h));
+  plain = and_right (not (is_map f.form)) _ (and_left (not (is_map f.form) && is_plain f.value_type.kind) _ h);
+  alone = none f.oneof (and_right (not (is_map f.form) && is_plain f.value_type.kind) _ h);
 }
   where
-    singular : (form : FieldForm) → is_singular form ≡ true → form ≡ Singular
-    singular Singular e = refl
-    singular (RepeatedForm packed) e = cc
-    singular (MapFrom key) e = cc
-
     none : (o : Option ℕ) → not (is_some o) ≡ true → o ≡ None
     none None e = refl
     none (Some o) e = cc

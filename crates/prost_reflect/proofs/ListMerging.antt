@@ -28,7 +28,13 @@ use Rattle.prost_reflect.specs.Descriptors.{schema_at, type_at}
 use Rattle.prost_reflect.specs.Known.{known_of}
 use Rattle.prost_reflect.specs.View.{value_of, content_of, descriptor_of}
 use Rattle.prost_reflect.specs.Contents.{value_set}
-use Rattle.prost_reflect.specs.Covered.{covered}
+use Rattle.prost_reflect.specs.Covered.{covered, is_repeated}
+use Rattle.prost_reflect_tables.specs.Rows.{FieldRow}
+use Rattle.prost_reflect_tables.specs.Shown.{schema_field}
+use Rattle.prost_reflect.specs.Pools.{pool_rows}
+use Rattle.prost_reflect.specs.declared.descriptor.message.MessageDescriptor.{MessageDescriptor}
+use Rattle.prost_reflect.proofs.Covering.{covered_field, covered_parts}
+use Rattle.prost_reflect.proofs.PlainKinds.{plain_row, list_row}
 use Rattle.prost_reflect.specs.Lists.{AddsElements, RefusesElements, JoinsElements, IsList, ListField}
 use Rattle.prost_reflect.proofs.Views.{value_of_list}
 use Rattle.prost_reflect.proofs.Merging.{known_in, alone_in, plain_open, same_kind}
@@ -77,6 +83,22 @@ list_or (Some v) h = absurd h
 values_or : (o : Option contents.Value) → values_in (Some (unwrap_or o (ListValue NoValues))) ≡ values_in o
 values_or None = refl
 values_or (Some v) = refl
+
+-- a repeated row of a covered type is a list
+pub list_field : (d : MessageDescriptor) (n : ℕ) (row : FieldRow) → covered (schema_at d) (type_at d) ≡ true → field_of (known_of d) n ≡ Some (schema_field (pool_rows d.pool) row) → is_repeated row.cardinality ≡ true → ListField (known_of d) n row.kind
+list_field d n row h found many =
+    let parts = covered_parts (schema_field (pool_rows d.pool) row) (covered_field (schema_at d) (type_at d) n (schema_field (pool_rows d.pool) row) h found) in
+    let kind = plain_row (pool_rows d.pool) row parts.no_map parts.plain in
+    record {
+      field = schema_field (pool_rows d.pool) row;
+      scalar_kind = kind.scalar;
+      packed = row.is_packed;
+      found = found;
+      plain = kind.named;
+      form = list_row (pool_rows d.pool) row many parts.no_map;
+      kind_is = kind.is;
+      alone = parts.alone;
+    }
 
 -- MESSAGES
 

@@ -1,5 +1,5 @@
 -- Records read into a message.
-use Rattle.std.proofs.Common.{◌≡◌, ℕ, List, Option, Some, None, refl, sym, ap, ◌∙◌, subst, ◌≤◌, ◌<◌, ◌^◌, true}
+use Rattle.std.proofs.Common.{◌≡◌, ℕ, List, Option, Some, None, refl, sym, ap, ◌∙◌, subst, ◌≤◌, ◌<◌, ◌^◌, true, false}
 use Rattle.prost_reflect_wire.specs.declared.key.WireType.{WireType}
 use Rattle.prost_reflect_wire.specs.declared.error.DecodeError.{DecodeError}
 use Rattle.prost_reflect_wire.specs.Varint.{AreBytes}
@@ -32,9 +32,9 @@ use Rattle.prost_reflect.specs.Known.{known_of}
 use Rattle.prost_reflect.specs.View.{value_of, content_of, descriptor_of}
 use Rattle.prost_reflect.specs.Scalars.{plain_kind, PlainField, ReadsScalar, RefusesScalar}
 use Rattle.prost_reflect.proofs.Views.{content_of_message}
-use Rattle.prost_reflect.proofs.PlainKinds.{plain_row}
+use Rattle.prost_reflect.proofs.PlainKinds.{plain_row, single_row}
 use Rattle.prost_reflect.specs.Contents.{value_set, unknown_added}
-use Rattle.prost_reflect.specs.Covered.{covered}
+use Rattle.prost_reflect.specs.Covered.{covered, is_repeated}
 use Rattle.prost_reflect.proofs.Covering.{covered_field, covered_parts}
 
 -- a covered type has no oneofs
@@ -84,11 +84,11 @@ plain_open kinds.Bytes k e = subst IsOpen (let is : ◌≡◌ {A = ScalarKind} s
 plain_open (kinds.Message T) k e = cc
 plain_open (kinds.Enum E) k e = cc
 
-pub plain_field : (d : MessageDescriptor) (n : ℕ) (row : FieldRow) → covered (schema_at d) (type_at d) ≡ true → field_of (known_of d) n ≡ Some (schema_field (pool_rows d.pool) row) → PlainField (known_of d) n row.kind
-plain_field d n row h found =
+pub plain_field : (d : MessageDescriptor) (n : ℕ) (row : FieldRow) → covered (schema_at d) (type_at d) ≡ true → field_of (known_of d) n ≡ Some (schema_field (pool_rows d.pool) row) → is_repeated row.cardinality ≡ false → PlainField (known_of d) n row.kind
+plain_field d n row h found one =
     let parts = covered_parts (schema_field (pool_rows d.pool) row) (covered_field (schema_at d) (type_at d) n (schema_field (pool_rows d.pool) row) h found) in
-    let kind = plain_row (pool_rows d.pool) row parts.single parts.plain in
-    record { field = schema_field (pool_rows d.pool) row; scalar_kind = kind.scalar; found = found; plain = kind.named; form = parts.single; kind_is = kind.is; alone = parts.alone }
+    let kind = plain_row (pool_rows d.pool) row parts.no_map parts.plain in
+    record { field = schema_field (pool_rows d.pool) row; scalar_kind = kind.scalar; found = found; plain = kind.named; form = single_row (pool_rows d.pool) row one; kind_is = kind.is; alone = parts.alone }
 
 pub same_kind : {k l : ScalarKind} {o : Option ScalarKind} → o ≡ Some k → o ≡ Some l → k ≡ l
 same_kind e f = cc

@@ -3,7 +3,8 @@ use Rattle.std.proofs.Common.{◌≡◌, Bool, true, false, List, Option, Some, 
 use Rattle.std.specs.Prelude.{slice_get}
 use Rattle.prost_reflect_wire.specs.Scalar as scalars
 use Rattle.prost_reflect_wire.specs.Scalar.{ScalarKind, is_undeclared}
-use Rattle.prost_reflect_wire.specs.Schema.{Kind, ScalarOf, Singular}
+use Rattle.prost_reflect_wire.specs.Schema.{Kind, ScalarOf, Singular, Repeated}
+use Rattle.prost_reflect_wire.specs.Fault.{is_map}
 use Rattle.prost_reflect_wire.proofs.RecordReads.{IsOpen}
 use Rattle.prost_reflect_tables.specs.declared.tables.Cardinality.{Cardinality}
 use Rattle.prost_reflect_tables.specs.declared.tables.Cardinality.TheVariants.{Optional, Required, Repeated as RepeatedLabel}
@@ -11,7 +12,7 @@ use Rattle.prost_reflect_tables.specs.declared.tables.TableKind.{TableKind}
 use Rattle.prost_reflect_tables.specs.declared.tables.TableKind.TheVariants as kinds
 use Rattle.prost_reflect_tables.specs.Rows.{FieldRow, MessageRow, EnumRow, TableRows}
 use Rattle.prost_reflect_tables.specs.Shown.{schema_kind, enum_kind, map_entry, value_type_of, form_of, schema_field}
-use Rattle.prost_reflect.specs.Covered.{is_plain}
+use Rattle.prost_reflect.specs.Covered.{is_plain, is_repeated}
 use Rattle.prost_reflect.specs.Scalars.{plain_kind}
 
 -- a scalar kind that is no enum, as both name it
@@ -45,16 +46,37 @@ kind_plain enums g (kinds.Enum E) h = no_enum (slice_get enums E) h
     no_enum None h = absurd (true≢false (sym h))
     no_enum (Some e) h = absurd (true≢false (sym h))
 
--- the row of a field of one plain value
-pub plain_row : (rows : TableRows) (row : FieldRow) → (schema_field rows row).form ≡ Singular → is_plain (schema_field rows row).value_type.kind ≡ true → PlainKind row.kind (schema_field rows row).value_type.kind
+-- the row of a field of plain values
+pub plain_row : (rows : TableRows) (row : FieldRow) → is_map (schema_field rows row).form ≡ false → is_plain (schema_field rows row).value_type.kind ≡ true → PlainKind row.kind (schema_field rows row).value_type.kind
 plain_row rows row form plain = go row.cardinality form plain
   where
-    listed : (entry : Option MessageRow) → form_of rows.enums row RepeatedLabel entry ≡ Singular → ⊥
-    listed None e = cc
-    listed (Some m) e = cc
+    listed : (entry : Option MessageRow) → is_map (form_of rows.enums row RepeatedLabel entry) ≡ false → is_plain (value_type_of rows.enums row entry).kind ≡ true → PlainKind row.kind (value_type_of rows.enums row entry).kind
+    listed None f p = kind_plain rows.enums row.is_group row.kind p
+    listed (Some m) f p = absurd (true≢false f)
 
-    go : (c : Cardinality) → form_of rows.enums row c (map_entry rows.messages row c) ≡ Singular → is_plain (value_type_of rows.enums row (map_entry rows.messages row c)).kind ≡ true →
+    go : (c : Cardinality) → is_map (form_of rows.enums row c (map_entry rows.messages row c)) ≡ false → is_plain (value_type_of rows.enums row (map_entry rows.messages row c)).kind ≡ true →
         PlainKind row.kind (value_type_of rows.enums row (map_entry rows.messages row c)).kind
     go Optional f p = kind_plain rows.enums row.is_group row.kind p
     go Required f p = kind_plain rows.enums row.is_group row.kind p
-    go RepeatedLabel f p = absurd (listed (map_entry rows.messages row RepeatedLabel) f)
+    go RepeatedLabel f p = listed (map_entry rows.messages row RepeatedLabel) f p
+
+-- its form, by its label
+pub single_row : (rows : TableRows) (row : FieldRow) → is_repeated row.cardinality ≡ false → (schema_field rows row).form ≡ Singular
+single_row rows row h = go row.cardinality h
+  where
+    go : (c : Cardinality) → is_repeated c ≡ false → form_of rows.enums row c (map_entry rows.messages row c) ≡ Singular
+    go Optional h = refl
+    go Required h = refl
+    go RepeatedLabel h = absurd (true≢false h)
+
+pub list_row : (rows : TableRows) (row : FieldRow) → is_repeated row.cardinality ≡ true → is_map (schema_field rows row).form ≡ false → (schema_field rows row).form ≡ Repeated row.is_packed
+list_row rows row h m = go row.cardinality h m
+  where
+    listed : (entry : Option MessageRow) → is_map (form_of rows.enums row RepeatedLabel entry) ≡ false → form_of rows.enums row RepeatedLabel entry ≡ Repeated row.is_packed
+    listed None m = refl
+    listed (Some e) m = absurd (true≢false m)
+
+    go : (c : Cardinality) → is_repeated c ≡ true → is_map (form_of rows.enums row c (map_entry rows.messages row c)) ≡ false → form_of rows.enums row c (map_entry rows.messages row c) ≡ Repeated row.is_packed
+    go Optional h m = absurd (true≢false (sym h))
+    go Required h m = absurd (true≢false (sym h))
+    go RepeatedLabel h m = listed (map_entry rows.messages row RepeatedLabel) m

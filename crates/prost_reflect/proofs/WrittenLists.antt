@@ -1,23 +1,37 @@
 -- What is written of a list of plain scalars.
 use Rattle.std.proofs.Common.{◌≡◌, ℕ, zero, suc, ◌+◌, ◌-◌, ◌^◌, ◌≤◌, Bool, true, false, ◌&&◌, List, [], ◌∷◌, ◌++◌, map, flat_map, drop, length, Option, Some, None, refl, sym, ap, ◌∙◌, subst, append_assoc, append-nil, true≢false, arith, length-append}
-use Rattle.std.specs.Prelude.{IsSomeAnd}
+use Rattle.std.specs.Prelude.{IsSomeAnd, Vec}
+use Rattle.std.specs.declared.alloc.Global.{Global}
 use Rattle.prost_reflect_wire.specs.declared.key.WireType.TheVariants as wires
 use Rattle.prost_reflect_wire.specs.Record.{Len, record_at, short_key, short_plain, spelled}
 use Rattle.prost_reflect_wire.specs.Scalar.{ScalarKind, kind_wire, scalar_valid, written}
-use Rattle.prost_reflect_wire.specs.Schema.{Kind, ScalarOf, Repeated, Field, field_of}
+use Rattle.prost_reflect_wire.specs.Schema.{Kind, ScalarOf, Repeated, Field, field_of, is_singular, passes}
 use Rattle.prost_reflect_wire.specs.Content as contents
 use Rattle.prost_reflect_wire.specs.Content.{ScalarValue, MessageValue, ListValue, MapValue, values_from}
 use Rattle.prost_reflect_wire.specs.Writing.{end_to_end, list_payloads, element_payloads}
-use Rattle.prost_reflect_wire.specs.Typing.{element_valid, elements_valid, value_valid}
+use Rattle.prost_reflect_wire.specs.Typing.{element_valid, elements_valid, value_valid, pairs_valid}
 use Rattle.prost_reflect_wire.specs.Storing.{value_bytes}
 use Rattle.prost_reflect_wire.proofs.Deeper.{and_both}
 use Rattle.prost_reflect_wire.proofs.WrittenEntries.{written_wire}
 use Rattle.prost_reflect_wire.proofs.ListWritten.{list_written}
 use Rattle.prost_reflect_tables.specs.declared.tables.TableKind.{TableKind}
+use Rattle.prost_reflect_tables.specs.Rows.{FieldRow}
+use Rattle.prost_reflect_tables.specs.Shown.{schema_field}
+use Rattle.prost_reflect.specs.declared.descriptor.message.MessageDescriptor.{MessageDescriptor}
 use Rattle.prost_reflect.specs.declared.value.Value.{Value}
+use Rattle.prost_reflect.specs.declared.value.Value as values
+use Rattle.prost_reflect.specs.Covered.{covered, is_repeated}
+use Rattle.prost_reflect.specs.Descriptors.{schema_at, type_at}
+use Rattle.prost_reflect.specs.Known.{known_of}
+use Rattle.prost_reflect.specs.Pools.{pool_rows}
+use Rattle.prost_reflect.proofs.Covering.{covered_field, covered_parts}
+use Rattle.prost_reflect.proofs.PlainKinds.{plain_row, list_row}
+use Rattle.prost_reflect.proofs.ListMerging.{list_field}
+use Rattle.prost_reflect.proofs.Views.{value_of_list}
+use Rattle.prost_reflect.proofs.WrittenValues.{passing}
 use Rattle.prost_reflect.specs.View.{value_of}
 use Rattle.prost_reflect.specs.Scalars.{plain_kind, TakesScalar, scalar_bytes, scalar_record_bytes}
-use Rattle.prost_reflect.specs.Lists.{TakesScalars, payloads_bytes, records_bytes, packed_bytes, list_bytes}
+use Rattle.prost_reflect.specs.Lists.{IsList, TakesScalars, payloads_bytes, records_bytes, packed_bytes, list_bytes}
 
 -- ITEMS FROM THE LAST ON
 
@@ -96,3 +110,34 @@ pub list_of_kind : (fields : List Field) (n : ℕ) (f : Field) (packed : Bool) (
 list_of_kind fields n f packed kind k vs found form is e h =
     let valid : elements_valid (ScalarOf k) (values_from (map value_of vs)) ≡ true = ap (λ kind. elements_valid kind (values_from (map value_of vs))) (sym is) ∙ (and_both _ _ h).1 in
     record { takes = takes_all kind k vs e valid; bytes = list_written fields n f packed k (values_from (map value_of vs)) found form is valid ∙ list_spelled n k kind packed vs e valid }
+
+-- ROWS
+
+pub row_list_written : (d : MessageDescriptor) (n : ℕ) (row : FieldRow) (v : Value) (vs : Vec Value Global) → covered (schema_at d) (type_at d) ≡ true → Some (schema_field (pool_rows d.pool) row) ≡ field_of (known_of d) n → is_repeated row.cardinality ≡ true →
+    passes (field_of (known_of d) n) (λ f. value_valid f (value_of v)) ≡ true → v ≡ values.List vs → ListWritten (known_of d) n row.kind row.is_packed vs.items
+row_list_written d n row v vs h found many valid is =
+    let parts = covered_parts (schema_field (pool_rows d.pool) row) (covered_field (schema_at d) (type_at d) n (schema_field (pool_rows d.pool) row) h (sym found)) in
+    let kind = plain_row (pool_rows d.pool) row parts.no_map parts.plain in
+    list_of_kind (known_of d) n (schema_field (pool_rows d.pool) row) row.is_packed row.kind kind.scalar vs.items (sym found) (list_row (pool_rows d.pool) row many parts.no_map) kind.is kind.named
+    (passing (field_of (known_of d) n) (schema_field (pool_rows d.pool) row) (λ f. value_valid f (ListValue (values_from (map value_of vs.items)))) (sym found)
+    (subst (λ c. passes (field_of (known_of d) n) (λ f. value_valid f c) ≡ true) (ap value_of is ∙ value_of_list vs) valid))
+
+pub takes_same : (fields : List Field) (n : ℕ) (kind : TableKind) (packed : Bool) (vs ws : List Value) → ws ≡ vs → ListWritten fields n kind packed vs → TakesScalars kind ws
+takes_same fields n kind packed vs ws same w = subst (TakesScalars kind) (sym same) w.takes
+
+pub list_value_bytes : (fields : List Field) (n : ℕ) (kind : TableKind) (packed : Bool) (v : Value) (vs : Vec Value Global) (ws : List Value) → v ≡ values.List vs → ws ≡ vs.items → ListWritten fields n kind packed vs.items →
+    value_bytes fields n (value_of v) ≡ list_bytes n packed kind ws
+list_value_bytes fields n kind packed v vs ws is same w = ap (value_bytes fields n) (ap value_of is ∙ value_of_list vs) ∙ w.bytes ∙ ap (list_bytes n packed kind) (sym same)
+
+-- a value of a repeated row is a list
+pub valid_list_value : (d : MessageDescriptor) (n : ℕ) (row : FieldRow) (c : contents.Value) → covered (schema_at d) (type_at d) ≡ true → Some (schema_field (pool_rows d.pool) row) ≡ field_of (known_of d) n → is_repeated row.cardinality ≡ true →
+    passes (field_of (known_of d) n) (λ f. value_valid f c) ≡ true → IsList c
+valid_list_value d n row c h found many valid =
+    let f = list_field d n row h (sym found) many in
+    go f.field f.packed c f.form (passing (field_of (known_of d) n) f.field (λ f. value_valid f c) f.found valid)
+  where
+    go : (f : Field) (packed : Bool) (c : contents.Value) → f.form ≡ Repeated packed → value_valid f c ≡ true → IsList c
+    go f packed (ScalarValue s) form h = absurd (true≢false (sym (and_both _ _ h).0 ∙ ap is_singular form))
+    go f packed (MessageValue m) form h = absurd (true≢false (sym (and_both _ _ h).0 ∙ ap is_singular form))
+    go f packed (ListValue vs) form h = tt
+    go f packed (MapValue ps) form h = absurd (true≢false (sym h ∙ ap (λ form. pairs_valid form f.value_type.kind ps) form))

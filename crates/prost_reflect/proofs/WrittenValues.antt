@@ -18,10 +18,10 @@ use Rattle.prost_reflect.specs.declared.descriptor.message.MessageDescriptor.{Me
 use Rattle.prost_reflect.specs.Pools.{pool_rows}
 use Rattle.prost_reflect.specs.Descriptors.{schema_at, type_at}
 use Rattle.prost_reflect.specs.Known.{known_of}
-use Rattle.prost_reflect.specs.Covered.{covered, is_plain}
+use Rattle.prost_reflect.specs.Covered.{covered, is_plain, is_repeated as is_labelled}
 use Rattle.prost_reflect.specs.Scalars.{plain_kind, TakesScalar, scalar_record_bytes, zero_like, is_default}
-use Rattle.prost_reflect.proofs.Covering.{OnePlain, covered_field, covered_parts}
-use Rattle.prost_reflect.proofs.PlainKinds.{PlainKind, plain_row}
+use Rattle.prost_reflect.proofs.Covering.{PlainParts, covered_field, covered_parts}
+use Rattle.prost_reflect.proofs.PlainKinds.{PlainKind, plain_row, single_row}
 
 -- a field of one value has its row's own type
 own_of : (rows : TableRows) (row : FieldRow) → (schema_field rows row).form ≡ Singular → (schema_field rows row).value_type ≡ own_type rows.enums row
@@ -77,24 +77,24 @@ pub record PlainWritten (fields : List Field) (n : ℕ) (row : FieldRow) (v : co
   pub takes : TakesScalar row.kind v
   pub bytes : value_bytes fields n v ≡ cond (not row.supports_presence && is_default row.default v) [] (scalar_record_bytes n (plain_kind row.kind) v)
 
-written_by : (fields : List Field) (n : ℕ) (rows : TableRows) (row : FieldRow) (v : contents.Value) → OnePlain (schema_field rows row) → field_of fields n ≡ Some (schema_field rows row) → value_valid (schema_field rows row) v ≡ true → PlainWritten fields n row v
-written_by fields n rows row v one found valid = record {
+written_by : (fields : List Field) (n : ℕ) (rows : TableRows) (row : FieldRow) (v : contents.Value) → PlainParts (schema_field rows row) → (schema_field rows row).form ≡ Singular → field_of fields n ≡ Some (schema_field rows row) → value_valid (schema_field rows row) v ≡ true → PlainWritten fields n row v
+written_by fields n rows row v one single found valid = record {
   takes = rw (kind.named, value.is) value.fits;
   bytes = ap (value_bytes fields n) value.is
-      ∙ scalar_written fields n (schema_field rows row) kind.scalar value.scalar found one.single kind.is value.fits
+      ∙ scalar_written fields n (schema_field rows row) kind.scalar value.scalar found single kind.is value.fits
       ∙ ap (λ b. cond b [] (short_key n (kind_wire kind.scalar) ++ short_plain (written kind.scalar value.scalar))) same
       ∙ ap (λ o. cond (not row.supports_presence && is_default row.default (ScalarValue value.scalar)) [] (scalar_record_bytes n o (ScalarValue value.scalar))) (sym kind.named)
       ∙ ap (λ v. cond (not row.supports_presence && is_default row.default v) [] (scalar_record_bytes n (plain_kind row.kind) v)) (sym value.is);
 }
   where
     kind : PlainKind row.kind (schema_field rows row).value_type.kind
-    kind = plain_row rows row one.single one.plain
+    kind = plain_row rows row one.no_map one.plain
 
     value : PlainValue kind.scalar v
-    value = valid_scalar (schema_field rows row) kind.scalar v one.single kind.is valid
+    value = valid_scalar (schema_field rows row) kind.scalar v single kind.is valid
 
     own : (schema_field rows row).value_type ≡ own_type rows.enums row
-    own = own_of rows row one.single
+    own = own_of rows row single
 
     own_kind : (own_type rows.enums row).kind ≡ ScalarOf kind.scalar
     own_kind = ap (λ (t : ValueType). t.kind) (sym own) ∙ kind.is
@@ -103,9 +103,9 @@ written_by fields n rows row v one found valid = record {
     same = ap₂ (λ p d. not p && scalar_eq value.scalar d) (ap (λ (t : ValueType). t.presence) own) (ap (λ (t : ValueType). t.default) own ∙ ap (schema_default row.default) own_kind)
         ∙ ap (λ b. not row.supports_presence && b) (default_is kind.scalar value.scalar row.default (ap is_plain (sym kind.is) ∙ one.plain) value.fits)
 
-pub value_written : (d : MessageDescriptor) (n : ℕ) (row : FieldRow) (v : contents.Value) → covered (schema_at d) (type_at d) ≡ true → field_of (known_of d) n ≡ Some (schema_field (pool_rows d.pool) row) → value_valid (schema_field (pool_rows d.pool) row) v ≡ true →
+pub value_written : (d : MessageDescriptor) (n : ℕ) (row : FieldRow) (v : contents.Value) → covered (schema_at d) (type_at d) ≡ true → field_of (known_of d) n ≡ Some (schema_field (pool_rows d.pool) row) → value_valid (schema_field (pool_rows d.pool) row) v ≡ true → is_labelled row.cardinality ≡ false →
     PlainWritten (known_of d) n row v
-value_written d n row v h found valid = written_by (known_of d) n (pool_rows d.pool) row v (covered_parts (schema_field (pool_rows d.pool) row) (covered_field (schema_at d) (type_at d) n (schema_field (pool_rows d.pool) row) h found)) found valid
+value_written d n row v h found valid one = written_by (known_of d) n (pool_rows d.pool) row v (covered_parts (schema_field (pool_rows d.pool) row) (covered_field (schema_at d) (type_at d) n (schema_field (pool_rows d.pool) row) h found)) (single_row (pool_rows d.pool) row one) found valid
 
 -- nothing, or the record
 pub left_out : (fields : List Field) (n : ℕ) (row : FieldRow) (v : contents.Value) → PlainWritten fields n row v → (not row.supports_presence && is_default row.default v) ≡ true → value_bytes fields n v ≡ []
@@ -118,6 +118,6 @@ put_in fields n row v w h = w.bytes ∙ ap (λ b. cond b [] (scalar_record_bytes
 pub passing : {A : Type 0} (o : Option A) (x : A) (test : A → Bool) → o ≡ Some x → passes o test ≡ true → test x ≡ true
 passing o x test e h = ap (λ o. passes o test) (sym e) ∙ h
 
-pub row_written : (d : MessageDescriptor) (n : ℕ) (row : FieldRow) (v : contents.Value) → covered (schema_at d) (type_at d) ≡ true → Some (schema_field (pool_rows d.pool) row) ≡ field_of (known_of d) n → passes (field_of (known_of d) n) (λ f. value_valid f v) ≡ true →
+pub row_written : (d : MessageDescriptor) (n : ℕ) (row : FieldRow) (v : contents.Value) → covered (schema_at d) (type_at d) ≡ true → Some (schema_field (pool_rows d.pool) row) ≡ field_of (known_of d) n → passes (field_of (known_of d) n) (λ f. value_valid f v) ≡ true → is_labelled row.cardinality ≡ false →
     PlainWritten (known_of d) n row v
-row_written d n row v h found valid = value_written d n row v h (sym found) (passing (field_of (known_of d) n) (schema_field (pool_rows d.pool) row) (λ f. value_valid f v) (sym found) valid)
+row_written d n row v h found valid one = value_written d n row v h (sym found) (passing (field_of (known_of d) n) (schema_field (pool_rows d.pool) row) (λ f. value_valid f v) (sym found) valid) one

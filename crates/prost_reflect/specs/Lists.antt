@@ -14,8 +14,10 @@ use Rattle.prost_reflect_wire.specs.Fault.{ElementFault}
 use Rattle.prost_reflect_wire.specs.Decoding.{FieldFault, ElementsRead, packed_values}
 use Rattle.prost_reflect_tables.specs.declared.tables.TableKind.{TableKind}
 use Rattle.prost_reflect.specs.declared.value.Value.{Value}
+use Rattle.prost_reflect.specs.declared.message.decode.CoveredField.{CoveredField}
+use Rattle.prost_reflect.specs.declared.message.decode.CoveredField.TheVariants.{Scalar, List as ListOf}
 use Rattle.prost_reflect.specs.View.{value_of}
-use Rattle.prost_reflect.specs.Scalars.{plain_kind, TakesScalar, scalar_bytes, scalar_record_bytes}
+use Rattle.prost_reflect.specs.Scalars.{plain_kind, PlainField, TakesScalar, scalar_bytes, scalar_record_bytes}
 
 -- The elements of a packed body were put behind others.
 pub record AddsPacked (kind : TableKind) (old new : List Value) (body : List ℕ) : Type 0 where
@@ -67,6 +69,11 @@ pub record ListField (fields : List Field) (n : ℕ) (kind : TableKind) : Type 0
   pub form : field.form ≡ Repeated packed
   pub kind_is : field.value_type.kind ≡ ScalarOf scalar_kind
   pub alone : field.oneof ≡ None
+
+-- What is known of the field at a number.
+abbrev pub IsCoveredField : List Field → ℕ → CoveredField → Type 0
+IsCoveredField fields n (Scalar kind) = PlainField fields n kind
+IsCoveredField fields n (ListOf kind) = ListField fields n kind
 
 -- WRITING
 

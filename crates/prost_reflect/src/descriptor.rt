@@ -3,7 +3,7 @@
 mod builtin;
 #[cfg(test)]
 pub(crate) mod choices;
-mod covered;
+pub(crate) mod covered;
 mod enums;
 mod field;
 mod kind;

@@ -1,6 +1,6 @@
 //! The message types that reading and writing cover so far.
 
-ghost use Rattle.std.specs.Prelude.{◌≡◌, not};
+ghost use Rattle.std.specs.Prelude.{◌≡◌};
 ghost use Rattle.std.specs.List.{list_all};
 ghost use Rattle.prost_reflect_tables.specs.Rows.{field_row};
 ghost use Rattle.prost_reflect.specs.Covered.{covered, row_covered, is_repeated, is_plain_kind};
@@ -10,7 +10,7 @@ use crate::descriptor::MessageDescriptor;
 use prost_reflect_tables::{Cardinality, FieldTable, TableKind};
 
 impl MessageDescriptor {
-    /// Whether the message type is covered by reading and writing so far: each field has at most one value, of a scalar kind other than an enum, and is in no oneof.
+    /// Whether the message type is covered by reading and writing so far: each field has one value or a list of them, of a scalar kind other than an enum, and is in no oneof.
     pub fn is_covered(&self) -> bool
         ensures { result ≡ covered (schema_at self.now) (type_at self.now) }
     {
@@ -27,13 +27,14 @@ fn are_covered(fields: &[FieldTable]) -> bool
 fn is_field_covered(field: &FieldTable) -> bool
     ensures { result ≡ row_covered (field_row field.now) }
 {
-    is_single(field.cardinality) && is_plain(field.kind) && field.oneof.is_none()
+    is_plain(field.kind) && field.oneof.is_none()
 }
 
-fn is_single(cardinality: Cardinality) -> bool
-    ensures { result ≡ not (is_repeated cardinality) }
+/// Whether a field of the label has a list of values, or a map.
+pub(crate) fn is_repeated(cardinality: Cardinality) -> bool
+    ensures { result ≡ is_repeated cardinality }
 {
-    !matches!(cardinality, Cardinality::Repeated)
+    matches!(cardinality, Cardinality::Repeated)
 }
 
 fn is_plain(kind: TableKind) -> bool

@@ -11,10 +11,12 @@ ghost use Rattle.prost_reflect_wire.specs.Decoding.{Progress, Step, StandsBehind
 ghost use Rattle.prost_reflect.specs.Covered.{covered};
 ghost use Rattle.prost_reflect.specs.Descriptors.{schema_at, type_at};
 ghost use Rattle.prost_reflect.specs.Known.{known_of};
+ghost use Rattle.prost_reflect.specs.Lists.{IsCoveredField};
 ghost use Rattle.prost_reflect.specs.Scalars.{PlainField};
 ghost use Rattle.prost_reflect.specs.View.{content_of, descriptor_of};
 
 use crate::descriptor::MessageDescriptor;
+use crate::descriptor::covered::is_repeated;
 use crate::message::DynamicMessage;
 use crate::message::scalar::scalar_at;
 use prost_reflect_tables::TableKind;
@@ -27,8 +29,9 @@ impl DynamicMessage {
     /// Reads a message of the type from the bytes, in at most 100 levels of messages and groups. The type has to be
     /// covered (`MessageDescriptor::is_covered`).
     ///
-    /// A later record of a field replaces an earlier one, and records of numbers that the type lacks become unknown fields,
-    /// in their order (the encoding guide, "Last One Wins"; the language guide, "Unknown Fields").
+    /// A later record of a field of one value replaces an earlier one, the elements of a list's records stand one behind
+    /// another, whether they are packed or not, and records of numbers that the type lacks become unknown fields,
+    /// in their order (the encoding guide, "Last One Wins", "Packed Repeated Fields"; the language guide, "Unknown Fields").
     ///
     /// # Errors
     ///
@@ -84,8 +87,13 @@ impl DynamicMessage {
         ensures descriptor { descriptor_of self.new ≡ descriptor_of self.old }
         ensures fault { IfErr result (λ e. e ≢ DecodeError.OutOfMemory → StandsBehindKey (content_of self.old) levels number.value wire_type e bytes.now) }
     {
-        match plain_kind_at(self.descriptor(), number.get()) {
-            Some(kind) => self.merge_scalar(alloc, number, kind, wire_type, bytes, levels),
+        match covered_field_at(self.descriptor(), number.get()) {
+            Some(CoveredField::Scalar(kind)) => {
+                self.merge_scalar(alloc, number, kind, wire_type, bytes, levels)
+            }
+            Some(CoveredField::List(kind)) => {
+                self.merge_list(alloc, number, kind, wire_type, bytes, levels)
+            }
             None => self.merge_unknown(alloc, number, wire_type, bytes, levels),
         }
     }
@@ -134,14 +142,24 @@ impl DynamicMessage {
     }
 }
 
-/// The kind of the field or extension of a number, in a covered message type.
-fn plain_kind_at(descriptor: &MessageDescriptor, number: u32) -> Option<TableKind>
+/// The form of a covered field, and the kind of its values.
+#[derive(Clone, Copy)]
+enum CoveredField {
+    /// One scalar.
+    Scalar(TableKind),
+    /// A list of scalars.
+    List(TableKind),
+}
+
+/// The field or extension of a number, in a covered message type.
+fn covered_field_at(descriptor: &MessageDescriptor, number: u32) -> Option<CoveredField>
     requires { covered (schema_at descriptor.now) (type_at descriptor.now) ≡ true }
-    ensures known { IfSome result (λ kind. PlainField (known_of descriptor.now) number kind) }
+    ensures known { IfSome result (λ field. IsCoveredField (known_of descriptor.now) number field) }
     ensures unknown { IfNone result (field_of (known_of descriptor.now) number ≡ None) }
 {
     match descriptor.field_table(number) {
-        Some(field) => Some(field.kind),
+        Some(field) if is_repeated(field.cardinality) => Some(CoveredField::List(field.kind)),
+        Some(field) => Some(CoveredField::Scalar(field.kind)),
         None => None,
     }
 }

@@ -16,8 +16,10 @@ ghost use Rattle.prost_reflect.specs.View.{value_of, content_of, descriptor_of};
 ghost use Rattle.prost_reflect.specs.Scalars.{plain_kind, TakesScalar, scalar_bytes, scalar_record_bytes, is_zero, equals, is_default};
 
 use crate::descriptor::MessageDescriptor;
+use crate::descriptor::covered::is_repeated;
 use crate::fields::entry::Entry;
 use crate::message::DynamicMessage;
+use crate::message::list::prepend_elements;
 use crate::message::scalar::wire_type_of;
 use crate::value::Value;
 use prost_reflect_tables::{FieldTable, TableKind, WrittenDefault};
@@ -144,6 +146,9 @@ fn prepend_value(
     ensures { Prepended result (bytes_of buffer.old) (bytes_of buffer.new) (value_bytes (known_of descriptor.now) number (value_of value.now)) }
 {
     match descriptor.field_table(number) {
+        Some(field) if is_repeated(field.cardinality) => {
+            prepend_elements(buffer, descriptor, number, field, value)
+        }
         Some(field) if is_left_out(value, field) => Ok(()),
         Some(field) => prepend_scalar_record(buffer, number, field.kind, value),
         None => unreachable!(),
