@@ -106,17 +106,14 @@ unknown_set m new levels n w p bytes rest sound h absent some below small front 
 
 -- REFUSALS
 
-none_closes : {n : ℕ} → ◌≡◌ {A = Option ℕ} None (Some n) → ⊥
-none_closes e = cc
-
 pub scalar_refused : (c : Content) (levels n : ℕ) (w : WireType) (e : DecodeError) (rest : List ℕ) (f : Field) (kind : ScalarKind) → field_of (known (schema_of c) (type_of c)) n ≡ Some f → f.form ≡ Singular → f.value_type.kind ≡ ScalarOf kind →
     ScalarFault kind w e rest → StandsBehindKey c levels n w e rest
-scalar_refused c levels n w e rest f kind found form is fault = λ bytes key.
-    scalar_stands (schema_of c) e (record { bytes = bytes; inside = OfType (type_of c); levels = levels; open_group = None }) n w rest f kind key found form is (λ _. none_closes) fault
+scalar_refused c levels n w e rest f kind found form is fault = λ bytes opened key closes.
+    scalar_stands (schema_of c) e (record { bytes = bytes; inside = OfType (type_of c); levels = levels; open_group = opened }) n w rest f kind key found form is closes fault
 
 pub unknown_refused : (c : Content) (levels n : ℕ) (w : WireType) (e : DecodeError) (rest : List ℕ) → field_of (known (schema_of c) (type_of c)) n ≡ None → ValueFault e n w levels rest → StandsBehindKey c levels n w e rest
-unknown_refused c levels n w e rest absent fault = λ bytes key.
-    value_stands (schema_of c) (record { bytes = bytes; inside = OfType (type_of c); levels = levels; open_group = None }) e n w rest absent key (λ _. none_closes) fault
+unknown_refused c levels n w e rest absent fault = λ bytes opened key closes.
+    value_stands (schema_of c) (record { bytes = bytes; inside = OfType (type_of c); levels = levels; open_group = opened }) e n w rest absent key closes fault
 
 pub scalar_fault : (m : DynamicMessage) (levels n : ℕ) (w : WireType) (kind : TableKind) (e : DecodeError) (rest : List ℕ) → PlainField (known_of (descriptor_of m)) n kind → RefusesScalar kind w e rest → StandsBehindKey (content_of m) levels n w e rest
 scalar_fault m levels n w kind e rest field refused =

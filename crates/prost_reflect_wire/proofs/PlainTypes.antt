@@ -42,7 +42,8 @@ no_sibling fields f n e = ap (λ b. not (nat_eq n f.number) && b) (all fields) �
 pub mutual_none : (fields : List Field) (f : Field) → NoOneofs fields → f.oneof ≡ None → Mutual fields f
 mutual_none fields f none e m g found apart = no_sibling fields g f.number (none.none m g found) ∙ sym (no_sibling fields f m e)
 
-all_alone : (fields : List Field) → NoOneofs fields → (n : ℕ) (es : Entries) → is_alone fields (field_of fields n) es ≡ true
+-- without oneofs each value is alone
+pub all_alone : (fields : List Field) → NoOneofs fields → (n : ℕ) (es : Entries) → is_alone fields (field_of fields n) es ≡ true
 all_alone fields none n es = go (field_of fields n) refl
   where
     nothing : (f : Field) → f.oneof ≡ None → (es : Entries) → has_value_of (is_sibling fields f) es ≡ false

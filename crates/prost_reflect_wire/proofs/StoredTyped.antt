@@ -51,6 +51,16 @@ module _ (schema : Schema) (fields : List Field) where
       go m false true s = tt
       go m false false s = s
 
+  -- a value of its field's type
+  pub value_stored_typed : (es ds : Entries) (f : Field) (v : Value) → field_of fields f.number ≡ Some f → ValueTyped schema (kind_for (Some f) v) v → entries_ordered ds ≡ true → ((m : ℕ) → slot_at ds m ≡ with_stored fields f v m (slot_at es m))
+      → EntriesTyped schema fields es → EntriesTyped schema fields ds
+  value_stored_typed es ds f v found typed o slots h = values_typed ds o (λ m. subst (λ (s : Slot). OptionTyped schema fields m s.value) (sym (slots m)) (go m (nat_eq m f.number) refl (is_sibling fields f m) (typed_values es m h)))
+    where
+      go : (m : ℕ) (b : Bool) → nat_eq m f.number ≡ b → (c : Bool) → OptionTyped schema fields m (value_at m es) → OptionTyped schema fields m (cond b (with_value (Some v) (slot_at es m)) (cond c (with_value None (slot_at es m)) (slot_at es m))).value
+      go m true e c s = subst (λ (x : Option Field). ValueTyped schema (kind_for x v) v) (sym (ap (field_of fields) (eqb-true m f.number e) ∙ found)) typed
+      go m false e true s = tt
+      go m false e false s = s
+
   pub unknown_stored_typed : (es ds : Entries) (n : ℕ) (p : Payload) → entries_ordered ds ≡ true → ((m : ℕ) → slot_at ds m ≡ with_unknown n p m (slot_at es m)) → EntriesTyped schema fields es → EntriesTyped schema fields ds
   unknown_stored_typed es ds n p o slots h = values_typed ds o (λ m. subst (λ (s : Slot). OptionTyped schema fields m s.value) (sym (slots m)) (go m (nat_eq m n) (typed_values es m h)))
     where
