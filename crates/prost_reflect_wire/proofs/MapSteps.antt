@@ -1,6 +1,5 @@
 -- An entry of a map, read into a content that holds: its key and its value are put among the pairs that are there.
-use Rattle.std.proofs.Common.{◌≡◌, ◌≢◌, ℕ, Bool, true, false, cond, not, ◌&&◌, List, [], ◌∷◌, nat_eq, Option, Some, None, refl, ap, ap₂, sym, ◌∙◌, subst, append-nil, arith, true≢false}
-use Rattle.std.specs.Bool.{⊤}
+use Rattle.std.proofs.Common.{◌≡◌, ◌≢◌, ℕ, Bool, true, false, cond, not, ◌&&◌, List, [], ◌∷◌, nat_eq, Option, Some, None, refl, ap, ap₂, sym, ◌∙◌, subst, append-nil, inl, inr, arith, true≢false}
 use Rattle.std.specs.List.{list_all}
 use Rattle.prost_reflect_wire.specs.declared.key.WireType.{WireType}
 use Rattle.prost_reflect_wire.specs.declared.key.WireType.TheVariants as wires
@@ -18,7 +17,7 @@ use Rattle.prost_reflect_wire.specs.Typing.{EntryTest, fit_test, alone_test, kin
 use Rattle.prost_reflect_wire.specs.Storing.{with_stored}
 use Rattle.prost_reflect_wire.specs.Decoding.{Step, StandsBehindKey}
 use Rattle.prost_reflect_wire.specs.Fault.{OfType, Stands, Here, InEntry, takes, same_wire}
-use Rattle.prost_reflect_wire.specs.EntryReading.{EntryTo, EntryPlace}
+use Rattle.prost_reflect_wire.specs.EntryReading.{IsMapped, EntryTo, EntryPlace, BodyFault}
 use Rattle.prost_reflect_wire.proofs.ListTests.{and_both, both_true}
 use Rattle.prost_reflect_wire.proofs.Reading.{spelled_read}
 use Rattle.prost_reflect_wire.proofs.Values.{items_body}
@@ -90,12 +89,6 @@ module _ (schema : Schema) (key : ValueType) (kind : Kind) where
 
 -- WHAT IS THERE
 
--- a map, or nothing yet
-abbrev pub IsMapped : Option Value → Type 0
-IsMapped None = ⊤
-IsMapped (Some (MapValue ps)) = ⊤
-IsMapped (Some v) = ⊥
-
 -- what is stored of a map
 pub record StoredMap (schema : Schema) (key : ValueType) (kind : Kind) (o : Option Value) : Type 0 where
   pub mapped : IsMapped o
@@ -150,7 +143,7 @@ module _ (schema : Schema) (T : ℕ) (es : Entries) (sound : WellStored (Content
 -- ONE ENTRY MORE
 
 -- the body of an entry that was read to its end
-entry_records : (allow : AllowsInside) (inner : MeansInside) (levels : ℕ) (key value_type : ValueType) (k : Scalar) (v : Value) (bytes : List ℕ) → (done : EntryTo allow inner levels key value_type k v bytes []) → body (Flat (Len bytes)) ≡ Some done.records
+pub entry_records : (allow : AllowsInside) (inner : MeansInside) (levels : ℕ) (key value_type : ValueType) (k : Scalar) (v : Value) (bytes : List ℕ) → (done : EntryTo allow inner levels key value_type k v bytes []) → body (Flat (Len bytes)) ≡ Some done.records
 entry_records allow inner levels key value_type k v bytes done =
     let front : RecordsFront (body_of done.records) bytes [] = done.front in
     ap (λ (o : Option Records). o >>= λ rs. Some (items rs)) (spelled_read (body_of done.records) bytes (subst (Spells (body_of done.records)) (sym (front.parts ∙ append-nil front.front)) front.spelled))
@@ -196,11 +189,11 @@ pub record FoundMap (schema : Schema) (T n : ℕ) (key : ValueType) : Type 0 whe
   pub form : field.form ≡ MapFrom key
 
 module _ (c : Content) (n : ℕ) (key : ValueType) (at : FoundMap (schema_of c) (type_of c) n key) where
-  pub map_end : (levels : ℕ) (rest : List ℕ) → StandsBehindKey c levels n wires.EndGroup errors.EndGroup rest
+  map_end : (levels : ℕ) (rest : List ℕ) → StandsBehindKey c levels n wires.EndGroup errors.EndGroup rest
   map_end levels rest = λ bytes opened front closes. Here (record { number = n; wire = wires.EndGroup; rest = rest; key = front; behind = (refl, closes refl) })
 
   -- another wire type
-  pub map_wire : (levels : ℕ) (w : WireType) (rest : List ℕ) → w ≢ wires.EndGroup → same_wire w wires.LengthDelimited ≡ false → StandsBehindKey c levels n w errors.WireType rest
+  map_wire : (levels : ℕ) (w : WireType) (rest : List ℕ) → w ≢ wires.EndGroup → same_wire w wires.LengthDelimited ≡ false → StandsBehindKey c levels n w errors.WireType rest
   map_wire levels w rest unended other = λ bytes opened front closes. Here (record {
     number = n;
     wire = w;
@@ -212,8 +205,14 @@ module _ (c : Content) (n : ℕ) (key : ValueType) (at : FoundMap (schema_of c) 
   })
 
   -- the entry is cut short
-  pub map_plain : (levels : ℕ) (w : WireType) (e : DecodeError) (rest : List ℕ) → PlainFault e w rest → StandsBehindKey c levels n w e rest
+  map_plain : (levels : ℕ) (w : WireType) (e : DecodeError) (rest : List ℕ) → PlainFault e w rest → StandsBehindKey c levels n w e rest
   map_plain levels w e rest fault = λ bytes opened front closes. plain_stands (schema_of c) (record { bytes = bytes; inside = OfType (type_of c); levels = levels; open_group = opened }) e n w rest front fault
+
+  -- no body stands there
+  pub body_refused : (levels : ℕ) (w : WireType) (e : DecodeError) (rest : List ℕ) → BodyFault e w rest → StandsBehindKey c levels n w e rest
+  body_refused levels w e rest (inl fault) = map_plain levels w e rest fault
+  body_refused levels w e rest (inr (inl (name, end))) = subst (λ e. StandsBehindKey c levels n w e rest) (sym name) (subst (λ w. StandsBehindKey c levels n w errors.EndGroup rest) (sym end) (map_end levels rest))
+  body_refused levels w e rest (inr (inr (name, unended, other))) = subst (λ e. StandsBehindKey c levels n w e rest) (sym name) (map_wire levels w rest unended other)
 
   -- a fault stands in the entry
   pub entry_stands : (levels : ℕ) (e : DecodeError) (inside_bytes rest after : List ℕ) → has_level levels at.field.value_type.kind ≡ true → DelimitedFront inside_bytes rest after →
