@@ -15,7 +15,7 @@ use Rattle.prost_reflect_tables.specs.Shown.{schema_from, schema_field, schema_k
 use Rattle.prost_reflect_tables.proofs.Fields.{known_rows}
 use Rattle.prost_reflect.specs.Covered.{covered, field_covered, row_covered, is_plain, is_repeated, is_plain_kind}
 
-plain_kind : (enums : List EnumRow) (kind : TableKind) (g : Bool) → is_plain (schema_kind enums kind g) ≡ is_plain_kind kind
+pub plain_kind : (enums : List EnumRow) (kind : TableKind) (g : Bool) → is_plain (schema_kind enums kind g) ≡ is_plain_kind kind
 plain_kind enums Double g = refl
 plain_kind enums Float g = refl
 plain_kind enums Int32 g = refl

@@ -13,11 +13,15 @@ pub mod Views
 pub mod Slots
 pub mod Stored
 pub mod Merging
+pub mod MapEntries
+pub mod MapMerging
+pub mod MapRows
 pub mod ContentChanges
 mod KeptSlots
 pub mod Described
 pub mod Zeros
 pub mod WrittenValues
+pub mod WrittenMaps
 pub mod Encodings
 pub mod Keys
 pub mod Copied

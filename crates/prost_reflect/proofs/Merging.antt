@@ -62,10 +62,10 @@ added_step levels n w (ContentOf schema T es) d p bytes rest sound none absent s
 pub known_in : (m : DynamicMessage) → known (schema_of (content_of m)) (type_of (content_of m)) ≡ known_of (descriptor_of m)
 known_in m = ap (λ c. known (schema_of c) (type_of c)) (content_of_message m)
 
-alone_in : (m : DynamicMessage) → covered (schema_at (descriptor_of m)) (type_at (descriptor_of m)) ≡ true → NoOneofs (known (schema_of (content_of m)) (type_of (content_of m)))
+pub alone_in : (m : DynamicMessage) → covered (schema_at (descriptor_of m)) (type_at (descriptor_of m)) ≡ true → NoOneofs (known (schema_of (content_of m)) (type_of (content_of m)))
 alone_in m h = subst NoOneofs (sym (known_in m)) (covered_alone (schema_at (descriptor_of m)) (type_at (descriptor_of m)) h)
 
-plain_open : (kind : TableKind) (k : ScalarKind) → plain_kind kind ≡ Some k → IsOpen k
+pub plain_open : (kind : TableKind) (k : ScalarKind) → plain_kind kind ≡ Some k → IsOpen k
 plain_open kinds.Double k e = subst IsOpen (let is : ◌≡◌ {A = ScalarKind} scalars.Double k = cc in is) (record { declared = λ p. refl })
 plain_open kinds.Float k e = subst IsOpen (let is : ◌≡◌ {A = ScalarKind} scalars.Float k = cc in is) (record { declared = λ p. refl })
 plain_open kinds.Int32 k e = subst IsOpen (let is : ◌≡◌ {A = ScalarKind} scalars.Int32 k = cc in is) (record { declared = λ p. refl })
@@ -90,7 +90,7 @@ plain_field d n row h found =
     let kind = plain_row (pool_rows d.pool) row parts.single parts.plain in
     record { field = schema_field (pool_rows d.pool) row; scalar_kind = kind.scalar; found = found; plain = kind.named; form = parts.single; kind_is = kind.is; alone = parts.alone }
 
-same_kind : {k l : ScalarKind} {o : Option ScalarKind} → o ≡ Some k → o ≡ Some l → k ≡ l
+pub same_kind : {k l : ScalarKind} {o : Option ScalarKind} → o ≡ Some k → o ≡ Some l → k ≡ l
 same_kind e f = cc
 
 pub scalar_set : (m new : DynamicMessage) (levels n : ℕ) (w : WireType) (kind : TableKind) (v : Value) (bytes rest : List ℕ) → WellStored (content_of m) → covered (schema_at (descriptor_of m)) (type_at (descriptor_of m)) ≡ true →

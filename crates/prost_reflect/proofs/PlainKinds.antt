@@ -21,7 +21,7 @@ pub record PlainKind (table : TableKind) (kind : Kind) : Type 0 where
   pub is : kind ≡ ScalarOf scalar
   pub whole : IsOpen scalar
 
-kind_plain : (enums : List EnumRow) (g : Bool) (table : TableKind) → is_plain (schema_kind enums table g) ≡ true → PlainKind table (schema_kind enums table g)
+pub kind_plain : (enums : List EnumRow) (g : Bool) (table : TableKind) → is_plain (schema_kind enums table g) ≡ true → PlainKind table (schema_kind enums table g)
 kind_plain enums g kinds.Double h = record { scalar = scalars.Double; named = refl; is = refl; whole = record { declared = λ p. refl } }
 kind_plain enums g kinds.Float h = record { scalar = scalars.Float; named = refl; is = refl; whole = record { declared = λ p. refl } }
 kind_plain enums g kinds.Int32 h = record { scalar = scalars.Int32; named = refl; is = refl; whole = record { declared = λ p. refl } }

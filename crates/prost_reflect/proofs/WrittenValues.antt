@@ -49,7 +49,7 @@ valid_scalar f kind (ListValue vs) form is h = absurd (true≢false (sym (and_bo
 valid_scalar f kind (MapValue ps) form is h = absurd (true≢false (sym h ∙ ap (λ form. pairs_valid form f.value_type.kind ps) form))
 
 -- zero is the kind's default, enums aside
-zero_of : (kind : ScalarKind) (s : Scalar) → is_plain (ScalarOf kind) ≡ true → scalar_valid kind s ≡ true → zero_like s ≡ kind_default kind
+pub zero_of : (kind : ScalarKind) (s : Scalar) → is_plain (ScalarOf kind) ≡ true → scalar_valid kind s ≡ true → zero_like s ≡ kind_default kind
 zero_of scalars.Double (scalars.F64 x) p h = refl
 zero_of scalars.Float (scalars.F32 x) p h = refl
 zero_of scalars.Int32 (scalars.I32 x) p h = refl
@@ -68,7 +68,7 @@ zero_of scalars.BytesKind (scalars.Bytes x) p h = refl
 zero_of (scalars.Enum first numbers) s p h = absurd (true≢false (sym p))
 zero_of kind s p h = absurd (true≢false (sym h))
 
-default_is : (kind : ScalarKind) (s : Scalar) (o : Option Scalar) → is_plain (ScalarOf kind) ≡ true → scalar_valid kind s ≡ true → scalar_eq s (schema_default o (ScalarOf kind)) ≡ is_default o (ScalarValue s)
+pub default_is : (kind : ScalarKind) (s : Scalar) (o : Option Scalar) → is_plain (ScalarOf kind) ≡ true → scalar_valid kind s ≡ true → scalar_eq s (schema_default o (ScalarOf kind)) ≡ is_default o (ScalarValue s)
 default_is kind s (Some w) p h = refl
 default_is kind s None p h = ap (scalar_eq s) (sym (zero_of kind s p h))
 

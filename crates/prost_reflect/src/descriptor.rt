@@ -7,6 +7,7 @@ mod covered;
 mod enums;
 mod field;
 mod kind;
+mod maps;
 mod message;
 mod pool;
 #[cfg(test)]

@@ -25,6 +25,8 @@ mod encode;
 mod equality;
 #[cfg(test)]
 mod equality_tests;
+mod map;
+mod pairs;
 mod scalar;
 #[cfg(test)]
 mod tests;

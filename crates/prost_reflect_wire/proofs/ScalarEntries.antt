@@ -1,6 +1,7 @@
 -- An entry with a scalar key and a scalar value, read into a content that holds.
 use Rattle.std.proofs.Common.{◌≡◌, ℕ, Bool, true, false, cond, not, ◌&&◌, ◌||◌, nat_eq, nat_lt, nat_le, List, [], Option, Some, None, refl, ap, ap₂, sym, ◌∙◌, subst}
 use Rattle.std.specs.List.{list_all}
+use Rattle.std.specs.Option.{is_some}
 use Rattle.prost_reflect_wire.specs.declared.key.WireType.TheVariants as wires
 use Rattle.prost_reflect_wire.specs.declared.error.DecodeError.{DecodeError}
 use Rattle.prost_reflect_wire.specs.Varint.{AreBytes}
@@ -35,6 +36,21 @@ field_checked schema T n f h e = found_valid schema (known schema T) n f (known_
 -- the key of a map of a checked schema
 pub map_keyed : (schema : Schema) (f : Field) (key : ValueType) → field_valid schema f ≡ true → f.form ≡ MapFrom key → is_key_kind key.kind ≡ true
 map_keyed schema f key h form = (checked_map schema f key (checked_field schema f h) form).keyed
+
+-- a default that is its kind's
+default_is : (value_type : ValueType) (kind : ScalarKind) → value_type.kind ≡ ScalarOf kind → (elim value_type.kind [ ScalarOf kind ↦ scalar_eq value_type.default (kind_default kind) | _ ↦ true ]) ≡ true → value_type.default ≡ kind_default kind
+default_is value_type kind is h = scalars_equal value_type.default (kind_default kind) (ap (λ kind. elim kind [ ScalarOf kind ↦ scalar_eq value_type.default (kind_default kind) | _ ↦ true ]) (sym is) ∙ h)
+
+-- what else the check of a map says
+pub map_alone : (schema : Schema) (f : Field) (key : ValueType) → field_valid schema f ≡ true → f.form ≡ MapFrom key → f.oneof ≡ None
+map_alone schema f key h form = go f.oneof (checked_map schema f key (checked_field schema f h) form).alone
+  where
+    go : (o : Option ℕ) → not (is_some o) ≡ true → o ≡ None
+    go None e = refl
+    go (Some n) e = cc
+
+pub map_key_default : (schema : Schema) (f : Field) (key : ValueType) (kind : ScalarKind) → field_valid schema f ≡ true → f.form ≡ MapFrom key → key.kind ≡ ScalarOf kind → key.default ≡ kind_default kind
+map_key_default schema f key kind h form is = default_is key kind is (checked_map schema f key (checked_field schema f h) form).key_default
 
 -- the bytes of a delimited payload are bytes
 pub delimited_bytes : (body bytes rest : List ℕ) → AreBytes bytes → DelimitedFront body bytes rest → AreBytes body
@@ -77,9 +93,6 @@ module _ (allow : AllowsInside) (inner : MeansInside) (levels : ℕ) (key value_
       go : (o : Option Payload) → (elim o [ None ↦ false | Some q ↦ is_stray value_type.kind q ]) ≡ false
       go None = refl
       go (Some q) = ap (λ kind. is_stray kind q) value_is ∙ whole.declared q
-
-default_is : (value_type : ValueType) (kind : ScalarKind) → value_type.kind ≡ ScalarOf kind → (elim value_type.kind [ ScalarOf kind ↦ scalar_eq value_type.default (kind_default kind) | _ ↦ true ]) ≡ true → value_type.default ≡ kind_default kind
-default_is value_type kind is h = scalars_equal value_type.default (kind_default kind) (ap (λ kind. elim kind [ ScalarOf kind ↦ scalar_eq value_type.default (kind_default kind) | _ ↦ true ]) (sym is) ∙ h)
 
 -- A FIELD
 

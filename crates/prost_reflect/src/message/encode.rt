@@ -58,7 +58,7 @@ fn prepend_scalar(
 }
 
 /// Adds a length and the bytes in front.
-fn prepend_delimited(buffer: &mut BackBuffer, body: &[u8]) -> Result<(), EncodeError>
+pub(crate) fn prepend_delimited(buffer: &mut BackBuffer, body: &[u8]) -> Result<(), EncodeError>
     ensures { Prepended result (bytes_of buffer.old) (bytes_of buffer.new) (short_plain (Len body.now)) }
 {
     buffer.prepend(body)?;
@@ -111,14 +111,14 @@ fn is_default(value: &Value, default: &Option<WrittenDefault>) -> bool
 }
 
 /// Whether nothing is written of a scalar: the default of a field without presence.
-fn is_left_out(value: &Value, field: &FieldTable) -> bool
+pub(crate) fn is_left_out(value: &Value, field: &FieldTable) -> bool
     ensures { result ≡ (not (field_row field.now).supports_presence && is_default (field_row field.now).default (value_of value.now)) }
 {
     !field.supports_presence && is_default(value, &field.default)
 }
 
 /// Adds the record of a scalar in front.
-fn prepend_scalar_record(
+pub(crate) fn prepend_scalar_record(
     buffer: &mut BackBuffer,
     number: u32,
     kind: TableKind,
