@@ -1,6 +1,6 @@
 -- The built-in files, linked.
-use Rattle.std.proofs.Common.{◌≡◌, ℕ, ◌+◌, ℤ, pos, Bool, true, false, not, ◌||◌, ◌&&◌, nat_eq, length, List, [], ◌∷◌, ◌++◌, map, Option, Some, None, String, string_bytes, Vec, refl, sym, ap, ap₂, ◌∙◌}
-use Rattle.std.specs.Prelude.{option_map, unwrap_or, bytes_eq, codes}
+use Rattle.std.proofs.Common.{◌≡◌, ℕ, ◌+◌, pos, Bool, true, false, not, ◌||◌, ◌&&◌, nat_eq, length, List, [], ◌∷◌, ◌++◌, map, Option, None, Vec, refl, sym, ap, ap₂, ◌∙◌}
+use Rattle.std.specs.Prelude.{unwrap_or, bytes_eq, codes}
 use Rattle.std.specs.List.{list_any}
 use Rattle.std.specs.declared.alloc.Global.{Global}
 use Rattle.prost_reflect_wire.specs.declared.records.FileDescriptorProto.{FileDescriptorProto}
@@ -12,7 +12,7 @@ use Rattle.prost_reflect_wire.specs.declared.records.DescriptorProto.{Descriptor
 use Rattle.prost_reflect_wire.specs.declared.records.DescriptorProto.TheViews.{out-DescriptorProto}
 use Rattle.prost_reflect_wire.specs.declared.records.DescriptorProto.TheFolds.{fold_out-DescriptorProto}
 use Rattle.prost_reflect_tables.specs.declared.tables.Cardinality.TheVariants.{Optional}
-use Rattle.prost_reflect_tables.specs.Rows.{FieldRow, MessageRow, TableRows}
+use Rattle.prost_reflect_tables.specs.Rows.{FieldRow, MessageRow}
 use Rattle.prost_reflect_tables.specs.Names.{text_or_empty, joined}
 use Rattle.prost_reflect_tables.specs.Flat.{ScopeRow, DefinitionRow, FlatMessageRow, FlatRows, Given, Placed, all_from, inside, own_message, enums_from, services_from, defined, defined_from, field_name, oneof_name, message_step, message_at, is_proto3, file_scope, file_at, behind, files_from, flattened}
 use Rattle.prost_reflect_tables.specs.Options.{bool_option}
@@ -22,22 +22,9 @@ use Rattle.prost_reflect_tables.proofs.Adding.{taken, none_added}
 use Rattle.prost_reflect_tables.proofs.Built.{linked_of}
 use Rattle.prost_reflect.specs.Pools.{IsPoolOf, pool_rows, files_of}
 use Rattle.prost_reflect.specs.declared.descriptor.pool.DescriptorPool.{DescriptorPool}
-use Rattle.prost_reflect.specs.BuiltinFiles.{FieldView, field_view, scalar_view, scalar_names, IsScalarMessage, IsScalarFile, AreBuiltin}
+use Rattle.prost_reflect.specs.BuiltinFiles.{field_view, scalar_view, scalar_names, IsScalarMessage, IsScalarFile, AreBuiltin}
 use Rattle.prost_reflect.specs.BuiltinRows.{scalar_rows, scalar_message_row, builtin_messages, builtin_rows}
-
--- TEXTS
-
-text_some : (o : Option (String Global)) (text : List ℕ) → option_map string_bytes o ≡ Some text → text_or_empty o ≡ text
-text_some None text e = cc
-text_some (Some s) text e = cc
-
-text_none : (o : Option (String Global)) → option_map string_bytes o ≡ None → o ≡ None
-text_none None e = refl
-text_none (Some s) e = cc
-
-bytes_none : (o : Option (Vec ℕ Global)) → option_map (λ b. b.items) o ≡ None → o ≡ None
-bytes_none None e = refl
-bytes_none (Some b) e = cc
+use Rattle.prost_reflect.proofs.BuiltinFields.{is_scalar}
 
 -- FIELDS
 
@@ -60,15 +47,15 @@ field_linked : (links : Links) (d : DefinitionRow FieldDescriptorProto) (x : ℕ
     linked_field links false d ≡ row (place_or_first links.messages None) (place_or_first links.enums None) d.is_proto3 x
 unfolding linked_field
 field_linked links d x e =
-    let number : d.proto.number ≡ Some (pos x.0) = ap (λ (v : FieldView). v.number) e in
-    let label : d.proto.label ≡ Some (pos 1) = ap (λ (v : FieldView). v.label) e in
-    let type_ : d.proto.type_ ≡ Some (pos x.0) = ap (λ (v : FieldView). v.type_) e in
-    let named : text_or_empty d.proto.name ≡ x.1 = text_some d.proto.name x.1 (ap (λ (v : FieldView). v.name) e) in
-    let type_name : d.proto.type_name ≡ None = text_none d.proto.type_name (ap (λ (v : FieldView). v.type_name) e) in
-    let default : d.proto.default_value ≡ None = text_none d.proto.default_value (ap (λ (v : FieldView). v.default_value) e) in
-    let options : d.proto.options ≡ None = bytes_none d.proto.options (ap (λ (v : FieldView). v.options) e) in
-    let oneof : d.proto.oneof_index ≡ None = ap (λ (v : FieldView). v.oneof_index) e in
-    let marked : d.proto.proto3_optional ≡ None = ap (λ (v : FieldView). v.proto3_optional) e in
+    let is = is_scalar d.proto x e in
+    let number = is.number in
+    let label = is.label in
+    let type_ = is.type_ in
+    let named = is.named in
+    let type_name = is.no_type_name in
+    let default = is.no_default in
+    let oneof = is.no_oneof in
+    let marked = is.unmarked in
     rw (number, label, type_, named, type_name, default, oneof, marked) refl
 
 fields_linked : (links : Links) (scope : ScopeRow) (i : ℕ) (fs : List FieldDescriptorProto) (xs : List (ℕ × List ℕ)) → map field_view fs ≡ map (λ (x : ℕ × List ℕ). scalar_view (pos x.0) x.1) xs →
@@ -96,7 +83,7 @@ shape o ms es xs within n = let nested = all_from (map message_at ms) within 3 0
   extensions = nested.extensions ++ defined_from field_name within 6 0 xs;
 }
 
-abbrev own : DescriptorProto → ScopeRow → ℕ → FlatMessageRow
+abbrev pub own : DescriptorProto → ScopeRow → ℕ → FlatMessageRow
 own m scope n = own_message (out-DescriptorProto m) scope 4 0 n
 
 abbrev alone : FlatMessageRow → Given
@@ -164,7 +151,7 @@ file_given name message syntax f file n is =
     ∙ (ap (λ xs. file_shape scope (alone (own is.proto scope n)) [] xs f.service.items) is.no_extensions
     ∙ ap (λ ss. file_shape scope (alone (own is.proto scope n)) [] [] ss) is.no_services)))
 
-abbrev two : FlatMessageRow → FlatMessageRow → FlatRows
+abbrev pub two : FlatMessageRow → FlatMessageRow → FlatRows
 two o q = record { messages = o ∷ q ∷ []; enums = []; extensions = []; services = [] }
 
 -- both are added

@@ -2,7 +2,8 @@
 use Rattle.std.proofs.Common.{◌≡◌, ℕ, ◌<◌, true, length, map, Some, ap}
 use Rattle.std.specs.Prelude.{slice_get, option_map}
 use Rattle.std.proofs.lemmas.List.{length-map}
-use Rattle.prost_reflect_wire.specs.Schema.{known, field_of, schema_valid}
+use Rattle.prost_reflect_wire.specs.Schema.{Field, known, field_of, field_valid, schema_valid}
+use Rattle.prost_reflect_wire.proofs.Checked.{known_valid, found_valid}
 use Rattle.prost_reflect_tables.specs.Rows.{FieldRow}
 use Rattle.prost_reflect_tables.specs.Places.{row_of}
 use Rattle.prost_reflect_tables.specs.Shown.{schema_from, schema_field}
@@ -19,6 +20,10 @@ schema_at_valid m = schema_is_valid (pool_rows m.pool) m.pool.inner.value.tables
 pub type_in_schema : (m : MessageDescriptor) → type_at m < length (schema_at m)
 unfolding schema_from
 type_in_schema m = rw length-map m.in_range
+
+-- So each of its fields passes the check.
+pub found_checked : (m : MessageDescriptor) (n : ℕ) (f : Field) → field_of (known (schema_at m) (type_at m)) n ≡ Some f → field_valid (schema_at m) f ≡ true
+found_checked m n f found = found_valid (schema_at m) (known (schema_at m) (type_at m)) n f (known_valid (schema_at m) (type_at m) (schema_at_valid m)) found
 
 -- The known fields are the rows, shown.
 pub known_at : (m : MessageDescriptor) → known (schema_at m) (type_at m) ≡ map (schema_field (pool_rows m.pool)) (fields_of m)

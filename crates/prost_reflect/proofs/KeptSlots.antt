@@ -17,7 +17,7 @@ use Rattle.prost_reflect.specs.Contents.{with_unknown}
 use Rattle.prost_reflect.specs.KeptLaws.{Arranged, KeptAfterSet, KeptAfterClear, KeptAfterUnknown, KeptAfterClearAll, KeptAfterWriting}
 
 -- what is kept of a slot
-abbrev kept_slot : Option Field → Slot → Slot
+abbrev pub kept_slot : Option Field → Slot → Slot
 kept_slot o slot = record { value = option_and_then (λ v. kept_value o (kept_inside v)) slot.value; unknowns = slot.unknowns }
 
 -- TABLES
@@ -39,7 +39,7 @@ table_kept fields at [] = refl
 table_kept fields at (n ∷ ns) = store_kept fields n (at n) (table at ns) ∙ ap (store n (kept_slot (field_of fields n) (at n))) (table_kept fields at ns)
 
 -- what is kept of arranged entries, by their slots
-slot_kept : (fields : List Field) (es : Entries) (k : ℕ) → Arranged es → slot_at (kept_entries fields es) k ≡ kept_slot (field_of fields k) (slot_at es k)
+pub slot_kept : (fields : List Field) (es : Entries) (k : ℕ) → Arranged es → slot_at (kept_entries fields es) k ≡ kept_slot (field_of fields k) (slot_at es k)
 slot_kept fields es k a =
     ap (λ ds. slot_at (kept_entries fields ds) k) (sym a)
     ∙ ap (λ ds. slot_at ds k) (table_kept fields (slot_at es) (numbers_in es))

@@ -9,7 +9,10 @@ pub mod MembersCleared
 pub mod Covering
 mod BuiltinFacts
 mod NoFiles
+mod BuiltinFields
 mod BuiltinLinks
+mod BuiltinMessages
+mod BuiltinChecked
 mod OneFile
 pub mod PlainKinds
 pub mod Views
@@ -22,6 +25,8 @@ pub mod Described
 pub mod Zeros
 pub mod WrittenValues
 pub mod Encodings
+pub mod Present
+pub mod Defaults
 pub mod Keys
 pub mod Copied
 pub mod CopiedPairs

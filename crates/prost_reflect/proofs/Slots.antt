@@ -55,12 +55,12 @@ unfolding IsStrictlySortedBy
 ascending_above m [] all s = tt
 ascending_above m (k ∷ ks) all s = (less_is m k all.0, ascending_above k ks s.0 s.1)
 
-keys_ascending : {T : Type 0} (es : List (ℕ × T)) → IsAscending es → Ascending 0 (keys_of es)
+pub keys_ascending : {T : Type 0} (es : List (ℕ × T)) → IsAscending es → Ascending 0 (keys_of es)
 unfolding IsStrictlySortedBy
 keys_ascending [] s = tt
 keys_ascending (e ∷ es) s = (omega arith, ascending_above e.0 (keys_of es) s.0 s.1)
 
-not_among : {T : Type 0} (es : List (ℕ × T)) (k : ℕ) → is_in k (keys_of es) ≡ false → item_at es k ≡ None
+pub not_among : {T : Type 0} (es : List (ℕ × T)) (k : ℕ) → is_in k (keys_of es) ≡ false → item_at es k ≡ None
 not_among [] k h = refl
 not_among (e ∷ es) k h =
     let (apart, rest) = or_false (nat_eq k e.0) (is_in k (keys_of es)) h in

@@ -29,3 +29,5 @@ pub mod Builtin
 pub mod BuiltinRows
 pub mod BuiltinFiles
 pub mod Encoding
+pub mod Defaults
+pub mod Present

@@ -11,7 +11,7 @@ pub use descriptor::{
     DescriptorPool, EnumDescriptor, FieldDescriptor, FileDescriptorProtos, Kind, MessageDescriptor,
     builtin_pool,
 };
-pub use message::DynamicMessage;
+pub use message::{DynamicMessage, PresentNumber};
 pub use prost_reflect_tables::{Cardinality, PoolError};
 pub use prost_reflect_wire::records::{
     DescriptorProto, EnumDescriptorProto, EnumReservedRange, EnumValueDescriptorProto,

@@ -21,11 +21,15 @@ ghost use Rattle.prost_reflect.specs.Contents.{value_set, value_cleared, unknown
 mod change_tests;
 mod copy;
 mod decode;
+mod defaults;
 mod encode;
 mod enums;
 mod equality;
 #[cfg(test)]
 mod equality_tests;
+mod present;
+#[cfg(test)]
+mod present_tests;
 mod scalar;
 #[cfg(test)]
 mod tests;
@@ -34,6 +38,7 @@ use crate::descriptor::MessageDescriptor;
 use crate::fields::entry::Entry;
 use crate::fields::slots::Slots;
 use crate::value::Value;
+pub use present::PresentNumber;
 use prost_reflect_wire::{UnknownField, UnknownFieldSet};
 use std::alloc::{AllocError, Global};
 

@@ -9,11 +9,14 @@ use Rattle.prost_reflect_tables.specs.Flat.{DefinitionRow, MessageParts, FlatMes
 
 -- LISTS
 
+pub zip_maps : {X Z Y : Type 0} (R : X → Z → Type 0) (f : X → Y) (g : Z → Y) → ((x : X) (z : Z) → R x z → f x ≡ g z) → (xs : List X) (zs : List Z) → AllZip R xs zs → map f xs ≡ map g zs
+zip_maps R f g each [] [] h = refl
+zip_maps R f g each [] (z ∷ zs) h = absurd h
+zip_maps R f g each (x ∷ xs) [] h = absurd h
+zip_maps {X} {Z} {Y} R f g each (x ∷ xs) (z ∷ zs) h = ap₂ (λ (y : Y) (ys : List Y). y ∷ ys) (each x z h.0) (zip_maps R f g each xs zs h.1)
+
 pub zip_map : {X Y : Type 0} (R : X → X → Type 0) (f : X → Y) → ((x y : X) → R x y → f x ≡ f y) → (xs ys : List X) → AllZip R xs ys → map f xs ≡ map f ys
-zip_map R f each [] [] h = refl
-zip_map R f each [] (y ∷ ys) h = absurd h
-zip_map R f each (x ∷ xs) [] h = absurd h
-zip_map {X} {Y} R f each (x ∷ xs) (y ∷ ys) h = ap₂ (λ (z : Y) (zs : List Y). z ∷ zs) (each x y h.0) (zip_map R f each xs ys h.1)
+zip_map R f = zip_maps R f f
 
 pub zip_append : {X : Type 0} (R : X → X → Type 0) (xs ys vs ws : List X) → AllZip R xs ys → AllZip R vs ws → AllZip R (xs ++ vs) (ys ++ ws)
 zip_append R [] [] vs ws h k = k
@@ -21,11 +24,11 @@ zip_append R [] (y ∷ ys) vs ws h k = absurd h
 zip_append R (x ∷ xs) [] vs ws h k = absurd h
 zip_append R (x ∷ xs) (y ∷ ys) vs ws h k = (h.0, zip_append R xs ys vs ws h.1 k)
 
-pub zip_any : {X : Type 0} (R : X → X → Type 0) (p q : X → Bool) → ((x y : X) → R x y → p x ≡ q y) → (xs ys : List X) → AllZip R xs ys → list_any p xs ≡ list_any q ys
+pub zip_any : {X Z : Type 0} (R : X → Z → Type 0) (p : X → Bool) (q : Z → Bool) → ((x : X) (z : Z) → R x z → p x ≡ q z) → (xs : List X) (zs : List Z) → AllZip R xs zs → list_any p xs ≡ list_any q zs
 zip_any R p q each [] [] h = refl
-zip_any R p q each [] (y ∷ ys) h = absurd h
+zip_any R p q each [] (z ∷ zs) h = absurd h
 zip_any R p q each (x ∷ xs) [] h = absurd h
-zip_any R p q each (x ∷ xs) (y ∷ ys) h = ap₂ (λ (a b : Bool). a || b) (each x y h.0) (zip_any R p q each xs ys h.1)
+zip_any R p q each (x ∷ xs) (z ∷ zs) h = ap₂ (λ (a b : Bool). a || b) (each x z h.0) (zip_any R p q each xs zs h.1)
 
 pub zip_filter : {X : Type 0} (R : X → X → Type 0) (p : X → Bool) → ((x y : X) → R x y → p x ≡ p y) → (xs ys : List X) → AllZip R xs ys → AllZip R (filter p xs) (filter p ys)
 zip_filter R p each [] [] h = tt

@@ -1,5 +1,7 @@
 pub mod CommandLine
 pub mod Types
 pub mod Sets
+pub mod Reading
 pub mod Relaying
+pub mod Showing
 pub mod Printing

@@ -2,17 +2,19 @@
 use Rattle.std.specs.Prelude.{ℕ, List, [], ◌∷◌, ◌++◌, Option, string_bytes}
 use Rattle.std.specs.Io.KnownBytes.{Appends}
 use Rattle.protorelay.specs.declared.command.Command.{Command}
-use Rattle.protorelay.specs.declared.command.Command.TheVariants.{Relay}
+use Rattle.protorelay.specs.declared.command.Command.TheVariants.{Relay, Show}
 use Rattle.protorelay.specs.CommandLine.{AsksFor}
 use Rattle.protorelay.specs.Relaying.{IsRelayed}
+use Rattle.protorelay.specs.Showing.{IsShown}
 
 -- A line behind what a writer holds, where that is known.
 abbrev pub AppendsLine : Option (List ℕ) → Option (List ℕ) → List ℕ → Type 0
 AppendsLine old new text = Appends old new (text ++ 10 ∷ [])
 
--- The text answers the command.
+-- The text, with its line feeds, answers the command.
 abbrev pub Answers : Command → List ℕ → Type 0
 Answers (Relay set name digits) text = IsRelayed (string_bytes set.now) (string_bytes name.now) (string_bytes digits.now) text
+Answers (Show set name digits) text = IsShown (string_bytes set.now) (string_bytes name.now) (string_bytes digits.now) text
 
 -- The words ask for a command that the text answers.
 pub record AnswersWords (words : List (List ℕ)) (text : List ℕ) : Type 0 where

@@ -20,8 +20,9 @@ pub record SpellsPool (set : List ℕ) (pool : DescriptorPool) : Type 0 where
 abbrev pub IsPoolOfSet : List ℕ → DescriptorPool → Type 0
 IsPoolOfSet set pool = (IsBuiltin set × (pool_rows pool ≡ builtin_rows)) ⊎ ((set ≢ codes "-") × SpellsPool set pool)
 
--- The digits spell bytes that make no pool.
+-- The digits spell bytes that make no pool. The built-in files always make one.
 pub record RefusesSet (set : List ℕ) (e : PoolError) : Type 0 where
+  pub other : set ≢ codes "-"
   pub bytes : List ℕ
   pub spelled : decode_of set ≡ Ok bytes
   pub refuses : Refuses types.FileSet bytes [] e

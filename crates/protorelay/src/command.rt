@@ -12,6 +12,12 @@ pub enum Command<'a> {
         name: &'a String,
         digits: &'a String,
     },
+    /// Read them likewise, and name the numbers that are present.
+    Show {
+        set: &'a String,
+        name: &'a String,
+        digits: &'a String,
+    },
 }
 
 impl<'a> Command<'a> {
@@ -20,12 +26,12 @@ impl<'a> Command<'a> {
         ensures found { IfSome result (AsksFor (map string_bytes words.now)) }
         ensures none { IfNone result (AsksForNone (map string_bytes words.now)) }
     {
-        match words {
-            [command, set, name, digits] if command.as_str() == "relay" => Some(Command::Relay {
-                set,
-                name,
-                digits,
-            }),
+        let [verb, set, name, digits] = words else {
+            return None;
+        };
+        match verb.as_str() {
+            "relay" => Some(Command::Relay { set, name, digits }),
+            "show" => Some(Command::Show { set, name, digits }),
             _ => None,
         }
     }

@@ -1,9 +1,11 @@
-//! Reads a message by the name of its type and writes it again: `protorelay relay - NAME HEX`.
+//! Reads a message by the name of its type, and writes it again or names what is present: `protorelay relay|show SET NAME HEX`.
 #![tactic(auto)]
 
 mod command;
+mod reading;
 mod relay;
 pub mod run;
+mod show;
 
 use std::env::Env;
 use std::process::ExitCode;

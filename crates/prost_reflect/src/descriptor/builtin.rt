@@ -41,6 +41,7 @@ pub fn builtin_pool(alloc: Global) -> Result<DescriptorPool, PoolError>
     ensures rows { IfOk result (λ pool. pool_rows pool ≡ builtin_rows) }
     ensures schema { IfOk result (λ pool. schema_from (pool_rows pool) ≡ builtin_schema) }
     ensures names { IfOk result (λ pool. map (λ m. m.full_name) (pool_rows pool).messages ≡ builtin_names) }
+    ensures refused { IfErr result (λ e. e ≡ pool_errors.OutOfMemory) }
 {
     let mut pool = DescriptorPool::new(alloc)?;
     pool.add_file_descriptor_protos(builtin_files(alloc)?)?;

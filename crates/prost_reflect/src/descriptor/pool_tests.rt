@@ -2,6 +2,8 @@
 
 use crate::descriptor::DescriptorPool;
 use prost_reflect_tables::PoolError;
+use prost_reflect_wire::DecodeError;
+use std::alloc::Global;
 use std::test::Fail;
 
 /// `m.proto`, of proto3: `message MyMessage { int32 foo = 1; oneof optional { int32 bar = 2; } MyMessage nested = 3; }` in `package`.
@@ -62,5 +64,61 @@ fn a_refused_batch_adds_nothing(rt: HostRuntime) -> Result<(), Fail> {
     pool.decode_file_descriptor_set(SET_M)?;
     assert_eq!(rt; before.file_descriptor_protos().len(), 0);
     assert_eq!(rt; pool.file_descriptor_protos().len(), 1);
+    Ok(())
+}
+
+/// One changed byte, or a missing one, is refused by its own name, and adds nothing.
+#[test]
+fn a_changed_byte_is_refused(rt: HostRuntime) -> Result<(), Fail> {
+    let rows = [
+        // The number of `foo` is that of `bar`.
+        (41, 0x02, PoolError::DuplicateNumber),
+        // No message has the name of the type of `nested`.
+        (96, b'f', PoolError::UnknownType),
+        (116, b'4', PoolError::UnknownSyntax),
+    ];
+    let mut pool = DescriptorPool::new(rt.alloc())?;
+    for (place, changed, fault) in rows {
+        let mut bytes = Vec::from_slice(rt.alloc(), SET_M)?;
+        if let Some(byte) = bytes.get_mut(place) {
+            *byte = changed;
+        }
+        let refused = pool.decode_file_descriptor_set(&bytes);
+        assert!(rt; refused == Err(fault), "{place}");
+    }
+    let cut = pool.decode_file_descriptor_set(&SET_M[..116]);
+    assert!(rt; cut == Err(PoolError::Decode(DecodeError::Truncated)));
+    assert_eq!(rt; pool.file_descriptor_protos().len(), 0);
+    Ok(())
+}
+
+/// Adds a set with one bit turned to a copy of the pool, which stays as it was where the set is refused.
+fn add_turned(
+    alloc: Global,
+    pool: &DescriptorPool,
+    set: &[u8],
+    place: usize,
+    bit: u32,
+) -> Result<(), Fail> {
+    let mut bytes = Vec::from_slice(alloc, set)?;
+    if let Some(byte) = bytes.get_mut(place) {
+        *byte ^= 1 << (bit % 8);
+    }
+    let mut added = pool.clone()?;
+    if added.decode_file_descriptor_set(&bytes).is_err() && added != *pool {
+        return Err(Fail::from("a refusal changed the pool"));
+    }
+    Ok(())
+}
+
+/// Whatever bit of a set is turned, there is an answer.
+#[test]
+fn a_turned_bit_is_answered(rt: HostRuntime) -> Result<(), Fail> {
+    let pool = DescriptorPool::decode(rt.alloc(), A_AND_B)?;
+    for place in 0..SET_M.len() {
+        for bit in 0..8_u32 {
+            add_turned(rt.alloc(), &pool, SET_M, place, bit)?;
+        }
+    }
     Ok(())
 }

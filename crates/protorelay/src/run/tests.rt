@@ -137,21 +137,126 @@ const PROTO4: &str = "0a1b0a0173220e0a015312090a0161180120012805620670726f746f34
 #[test]
 fn takes_descriptor_sets(rt: HostRuntime) -> Result<(), Fail> {
     let rows = [
-        (SMALL, "S", "0896011002", 0, "0896011002\n", ""),
-        (SMALL, "T", "08", 1, "", "refused name\n"),
-        (SMALL, "S", "08", 1, "", "refused decode Truncated\n"),
-        (CUT, "S", "08", 1, "", "refused pool Decode Truncated\n"),
-        (PROTO4, "S", "08", 1, "", "refused pool UnknownSyntax\n"),
+        ("relay", SMALL, "S", "0896011002", 0, "0896011002\n", ""),
+        (
+            "show",
+            SMALL,
+            "S",
+            "0896011002",
+            0,
+            "field 1\nunknown 2 1\n",
+            "",
+        ),
+        ("relay", SMALL, "T", "08", 1, "", "refused name\n"),
+        ("show", SMALL, "T", "0", 1, "", "refused name\n"),
+        ("show", SMALL, "S", "0", 1, "", "refused hex\n"),
+        (
+            "relay",
+            SMALL,
+            "S",
+            "08",
+            1,
+            "",
+            "refused decode Truncated\n",
+        ),
+        (
+            "show",
+            SMALL,
+            "S",
+            "08",
+            1,
+            "",
+            "refused decode Truncated\n",
+        ),
+        (
+            "relay",
+            CUT,
+            "S",
+            "08",
+            1,
+            "",
+            "refused pool Decode Truncated\n",
+        ),
+        (
+            "show",
+            CUT,
+            "S",
+            "08",
+            1,
+            "",
+            "refused pool Decode Truncated\n",
+        ),
+        (
+            "relay",
+            PROTO4,
+            "S",
+            "08",
+            1,
+            "",
+            "refused pool UnknownSyntax\n",
+        ),
+        (
+            "show",
+            PROTO4,
+            "S",
+            "08",
+            1,
+            "",
+            "refused pool UnknownSyntax\n",
+        ),
         // A set without files, and what is no set in hex digits.
-        ("", "S", "08", 1, "", "refused name\n"),
-        ("0", "S", "08", 1, "", "refused hex\n"),
+        ("relay", "", "S", "08", 1, "", "refused name\n"),
+        ("relay", "0", "S", "08", 1, "", "refused hex\n"),
+        ("show", "0", "S", "08", 1, "", "refused hex\n"),
     ];
-    for (set, name, digits, status, out, err) in rows {
-        let text = format!(in rt.alloc(); "relay {set} {name} {digits}")?;
+    for (verb, set, name, digits, status, out, err) in rows {
+        let text = format!(in rt.alloc(); "{verb} {set} {name} {digits}")?;
         let answer = answer_to(rt.alloc(), text.as_str())?;
         assert_eq!(rt; answer.out.as_slice(), out.as_bytes(), "{text}");
         assert_eq!(rt; answer.err.as_slice(), err.as_bytes(), "{text}");
         assert_eq!(rt; answer.status, status, "{text}");
+    }
+    Ok(())
+}
+
+/// The set of the file `f` in proto2 with `message E { optional int32 a = 1; extensions 100 to 199; }` and the extension `x = 100`.
+const EXTENDED: &str =
+    "0a290a016622150a014512090a01611801200128052a05086410c8013a0d0a017812022e45186420012805";
+
+/// The set of the file `f` in proto2 with `enum E { A = 0; B = 1; }` and `message C { optional E e = 1; }`.
+const CLOSED: &str =
+    "0a2a0a016622120a0143120d0a016518012001280e32022e452a110a014512050a0141100012050a01421001";
+
+#[test]
+fn shows_what_is_present(rt: HostRuntime) -> Result<(), Fail> {
+    let rows = [
+        // Unknown fields are counted, in whatever order they came.
+        (
+            "-",
+            PLAIN,
+            "5000289601720040015001",
+            "field 5\nfield 8\nunknown 10 2\nunknown 14 1\n",
+        ),
+        // A default without presence is not present; with it, it is.
+        ("-", PLAIN, "28001500000080", "field 2\n"),
+        ("-", KEPT, "28001500000080", "field 2\nfield 5\n"),
+        ("-", PLAIN, "", ""),
+        (
+            EXTENDED,
+            "E",
+            "a00607a8060008ff01",
+            "field 1\nextension 100\nunknown 101 1\n",
+        ),
+        // A number that the enum does not declare stands beside one that it does, or alone.
+        (CLOSED, "C", "080108070800", "field 1\nunknown 1 1\n"),
+        (CLOSED, "C", "0807", "unknown 1 1\n"),
+    ];
+    for (set, name, digits, out) in rows {
+        let text = format!(in rt.alloc(); "show {set} {name} {digits}")?;
+        let answer = answer_to(rt.alloc(), text.as_str())?;
+        assert_eq!(rt; answer.err.as_slice(), b"".as_slice(), "{text}");
+        assert_eq!(rt; answer.out.as_slice(), out.as_bytes(), "{text}");
+        assert_eq!(rt; answer.status, 0, "{text}");
     }
     Ok(())
 }
@@ -164,8 +269,9 @@ fn prints_the_usage_for_any_other_command_line(rt: HostRuntime) -> Result<(), Fa
         "relay - builtin.Plain",
         "relay - builtin.Plain 2800 ",
         "Relay - builtin.Plain 2800",
-        // There is no `show` so far.
-        "show - builtin.Plain 2800",
+        "show - builtin.Plain",
+        "show - builtin.Plain 2800 ",
+        "edit - builtin.Plain 2800",
     ];
     for text in rows {
         let answer = answer_to(rt.alloc(), text)?;
@@ -230,6 +336,7 @@ fn answers_1_where_a_write_fails(rt: HostRuntime) -> Result<(), Fail> {
     // So many bytes are printed, the last of them a line feed.
     let rows = [
         ("relay - builtin.Plain 4001", 5, 0),
+        ("show - builtin.Plain 4001", 8, 0),
         ("relay - none 4001", 13, 1),
         ("", 42, 2),
     ];

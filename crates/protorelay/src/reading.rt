@@ -1,0 +1,159 @@
+//! Reading a message: its bytes, in hex digits, are read by its type in a descriptor set.
+
+ghost use Rattle.std.specs.Prelude.{◌≡◌, ◌⊎◌, Some, None, true, IfOk, IfErr};
+ghost use Rattle.prost_reflect_wire.specs.Typing.{kept, encodable};
+ghost use Rattle.prost_reflect.specs.Pools.{pool_rows};
+ghost use Rattle.prost_reflect.specs.Descriptors.{schema_at, type_at};
+ghost use Rattle.prost_reflect.specs.Covered.{covered};
+ghost use Rattle.prost_reflect.specs.View.{content_of, descriptor_of};
+ghost use Rattle.protorelay.specs.Types.{covered_type};
+ghost use Rattle.protorelay.specs.Sets.{IsPoolOfSet};
+ghost use Rattle.protorelay.specs.Reading.{pool_schema, IsRead, IsReadIn, RefusesPool, RefusesIn, Refuses, hex_refusal, pool_refusal, decode_refusal, encode_refusal};
+ghost use Rattle.protorelay.specs.declared.reading.Refusal.TheVariants as refusals;
+
+use hex::FromHexError;
+use prost_reflect::{
+    DecodeError, DescriptorPool, DynamicMessage, EncodeError, MessageDescriptor, PoolError,
+    builtin_pool,
+};
+use std::alloc::{AllocError, Global};
+use thiserror::Error;
+
+/// Why a command is not carried out. The text is the line that the program prints.
+#[derive(Clone, Copy, Debug, PartialEq, Eq, Error)]
+pub enum Refusal {
+    /// The bytes of the descriptor set are none. Want of memory is `Memory`.
+    #[error("refused pool Decode {0:?}")]
+    Set(DecodeError),
+    /// The files of the descriptor set make no pool. Want of memory is `Memory`, and bytes that are no set are `Set`.
+    #[error("refused pool {0:?}")]
+    Pool(PoolError),
+    /// No message type has the name.
+    #[error("refused name")]
+    Name,
+    /// The digits of the set, or of the message, are not pairs of hex digits.
+    #[error("refused hex")]
+    Hex,
+    /// The type does not accept the bytes. Want of memory is `Memory`.
+    #[error("refused decode {0:?}")]
+    Decode(DecodeError),
+    /// The message is not written. Want of memory is `Memory`.
+    #[error("refused encode {0:?}")]
+    Encode(EncodeError),
+    /// A growth was refused.
+    #[error("refused memory")]
+    Memory,
+}
+
+impl From<AllocError> for Refusal {
+    ghost from_gives = { λ _ refusal. refusal ≡ refusals.Memory };
+
+    fn from(_error: AllocError) -> Refusal {
+        Refusal::Memory
+    }
+}
+
+impl From<FromHexError> for Refusal {
+    ghost from_gives = { λ error refusal. refusal ≡ hex_refusal error };
+
+    fn from(error: FromHexError) -> Refusal {
+        match error {
+            FromHexError::OutOfMemory => Refusal::Memory,
+            _ => Refusal::Hex,
+        }
+    }
+}
+
+impl From<PoolError> for Refusal {
+    ghost from_gives = { λ error refusal. refusal ≡ pool_refusal error };
+
+    fn from(error: PoolError) -> Refusal {
+        match error {
+            PoolError::OutOfMemory => Refusal::Memory,
+            PoolError::Decode(fault) => Refusal::Set(fault),
+            fault => Refusal::Pool(fault),
+        }
+    }
+}
+
+impl From<DecodeError> for Refusal {
+    ghost from_gives = { λ error refusal. refusal ≡ decode_refusal error };
+
+    fn from(error: DecodeError) -> Refusal {
+        match error {
+            DecodeError::OutOfMemory => Refusal::Memory,
+            fault => Refusal::Decode(fault),
+        }
+    }
+}
+
+impl From<EncodeError> for Refusal {
+    ghost from_gives = { λ error refusal. refusal ≡ encode_refusal error };
+
+    fn from(error: EncodeError) -> Refusal {
+        match error {
+            EncodeError::OutOfMemory => Refusal::Memory,
+            EncodeError::TooLong => Refusal::Encode(EncodeError::TooLong),
+        }
+    }
+}
+
+/// The message that the hex digits spell, read by the message type of the name in the descriptor set. The set is `-`, for the built-in one, or in hex digits too.
+///
+/// # Errors
+///
+/// The first step that fails: `Hex`, `Set` or `Pool` of the set, `Name`, `Hex` of the message, `Decode`; or `Memory`, wherever a growth is refused.
+pub fn read(alloc: Global, set: &str, name: &str, digits: &str) -> Result<DynamicMessage, Refusal>
+    ensures read { IfOk result (λ message. IsRead set.now name.now digits.now (kept (content_of message))) }
+    ensures covered { IfOk result (λ message. covered (schema_at (descriptor_of message)) (type_at (descriptor_of message)) ≡ true) }
+    ensures fits { IfOk result (λ message. encodable (content_of message) ≡ true) }
+    ensures refused { IfErr result (Refuses set.now name.now digits.now) }
+{
+    let pool = pool_of(alloc, set)?;
+    read_in(alloc, &pool, name, digits)
+}
+
+/// The pool that the word for a descriptor set stands for.
+fn pool_of(alloc: Global, set: &str) -> Result<DescriptorPool, Refusal>
+    ensures made { IfOk result (IsPoolOfSet set.now) }
+    ensures refused { IfErr result (RefusesPool set.now) }
+{
+    if set == "-" {
+        return Ok(builtin_pool(alloc)?);
+    }
+    let bytes = hex::decode(alloc, set)?;
+    Ok(DescriptorPool::decode(alloc, bytes.as_slice())?)
+}
+
+/// The message that the hex digits spell, read by the message type of the name in the pool.
+fn read_in(
+    alloc: Global,
+    pool: &DescriptorPool,
+    name: &str,
+    digits: &str,
+) -> Result<DynamicMessage, Refusal>
+    ensures read { IfOk result (λ message. IsReadIn pool.now name.now digits.now (kept (content_of message))) }
+    ensures covered { IfOk result (λ message. covered (schema_at (descriptor_of message)) (type_at (descriptor_of message)) ≡ true) }
+    ensures fits { IfOk result (λ message. encodable (content_of message) ≡ true) }
+    ensures refused { IfErr result (RefusesIn pool.now name.now digits.now) }
+{
+    let descriptor = message_type(pool, name)?;
+    let bytes = hex::decode(alloc, digits)?;
+    Ok(DynamicMessage::decode(alloc, descriptor, bytes.as_slice())?)
+}
+
+/// The message type of the name in the pool, if it can be read and written so far.
+fn message_type(pool: &DescriptorPool, name: &str) -> Result<MessageDescriptor, Refusal>
+    ensures found { IfOk result (λ message.
+        covered_type (pool_rows pool.now) name.now ≡ Some (type_at message)) }
+    ensures schema { IfOk result (λ message. schema_at message ≡ pool_schema pool.now) }
+    ensures covered { IfOk result (λ message. covered (schema_at message) (type_at message) ≡ true) }
+    ensures refused { IfErr result (λ refusal.
+        ((refusal ≡ refusals.Name) × (covered_type (pool_rows pool.now) name.now ≡ None))
+        ⊎ (refusal ≡ refusals.Memory)) }
+{
+    match pool.get_message_by_name(name)? {
+        Some(descriptor) if descriptor.is_covered() => Ok(descriptor),
+        _ => Err(Refusal::Name),
+    }
+}
