@@ -19,11 +19,13 @@ pub mod Views
 pub mod Slots
 pub mod Stored
 pub mod Merging
+pub mod NestedReads
 pub mod ContentChanges
 mod KeptSlots
 pub mod Described
 pub mod Zeros
 pub mod WrittenValues
+pub mod NestedWrites
 pub mod Encodings
 pub mod Present
 pub mod Defaults

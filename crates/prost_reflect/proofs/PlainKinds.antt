@@ -13,7 +13,7 @@ use Rattle.prost_reflect_tables.specs.declared.tables.Cardinality.TheVariants.{O
 use Rattle.prost_reflect_tables.specs.declared.tables.TableKind.{TableKind}
 use Rattle.prost_reflect_tables.specs.declared.tables.TableKind.TheVariants as kinds
 use Rattle.prost_reflect_tables.specs.Rows.{FieldRow, MessageRow, EnumRow, TableRows}
-use Rattle.prost_reflect_tables.specs.Shown.{first_number, enum_numbers, schema_kind, enum_kind, map_entry, value_type_of, form_of, schema_field}
+use Rattle.prost_reflect_tables.specs.Shown.{first_number, enum_numbers, schema_kind, enum_kind, own_type, map_entry, value_type_of, form_of, schema_field}
 use Rattle.prost_reflect.specs.Enums.{numbers_of}
 use Rattle.prost_reflect.specs.Scalars.{plain_kind, is_stray_number}
 
@@ -43,6 +43,19 @@ scalar_row rows row form scalar = go row.cardinality form scalar
     go Optional f p = kind_named rows.enums row.is_group row.kind p
     go Required f p = kind_named rows.enums row.is_group row.kind p
     go RepeatedLabel f p = absurd (listed (map_entry rows.messages row RepeatedLabel) f)
+
+-- a field of one value has its row's own type
+pub own_of : (rows : TableRows) (row : FieldRow) → (schema_field rows row).form ≡ Singular → (schema_field rows row).value_type ≡ own_type rows.enums row
+own_of rows row form = go row.cardinality form
+  where
+    listed : (entry : Option MessageRow) → form_of rows.enums row RepeatedLabel entry ≡ Singular → ⊥
+    listed None e = cc
+    listed (Some m) e = cc
+
+    go : (c : Cardinality) → form_of rows.enums row c (map_entry rows.messages row c) ≡ Singular → value_type_of rows.enums row (map_entry rows.messages row c) ≡ own_type rows.enums row
+    go Optional f = refl
+    go Required f = refl
+    go RepeatedLabel f = absurd (listed (map_entry rows.messages row RepeatedLabel) f)
 
 -- PLAIN KINDS
 

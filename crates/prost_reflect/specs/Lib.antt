@@ -25,6 +25,8 @@ pub mod Same
 pub mod formers
 pub mod Scalars
 pub mod Covered
+pub mod Targets
+pub mod Held
 pub mod Builtin
 pub mod BuiltinRows
 pub mod BuiltinFiles

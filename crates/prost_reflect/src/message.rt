@@ -27,6 +27,7 @@ mod enums;
 mod equality;
 #[cfg(test)]
 mod equality_tests;
+mod nested;
 mod present;
 #[cfg(test)]
 mod present_tests;

@@ -1,5 +1,5 @@
 -- What the steps of reading a message have read, and what they refuse.
-use Rattle.std.specs.Prelude.{◌≡◌, ◌≢◌, ℕ, true, false, List, [], ◌∷◌, Some}
+use Rattle.std.specs.Prelude.{◌≡◌, ◌≢◌, ℕ, true, false, List, [], ◌∷◌, Option, Some}
 use Rattle.std.specs.Str.{is_utf8}
 use Rattle.prost_reflect_wire.specs.declared.key.WireType.{WireType}
 use Rattle.prost_reflect_wire.specs.declared.key.WireType.TheVariants as wires
@@ -13,7 +13,7 @@ use Rattle.prost_reflect_wire.specs.Grammar.{allows}
 use Rattle.prost_reflect_wire.specs.Meaning.{steps}
 use Rattle.prost_reflect_wire.specs.Writing.{record_at}
 use Rattle.prost_reflect_wire.specs.Typing.{kept, WellStored}
-use Rattle.prost_reflect_wire.specs.Fault.{StandsInMessage, same_wire}
+use Rattle.prost_reflect_wire.specs.Fault.{OfType, Stands, same_wire}
 
 -- The bytes before the rest are records that the old content's type takes, and the new content is what they make of the old one.
 pub record ReadTo (levels : ℕ) (old new : Content) (bytes rest : List ℕ) : Type 0 where
@@ -47,9 +47,22 @@ pub record Step (levels n : ℕ) (w : WireType) (old new : Content) (bytes rest 
   pub read : RecordRead levels n w old new bytes rest
   pub holds : Holds old new
 
--- Wherever such a key stands in front of the bytes, the fault stands in the message there.
+-- Wherever such a key stands in front of the bytes, in a message or in an open group that the key does not end, the fault stands there.
 abbrev pub StandsBehindKey : Content → ℕ → ℕ → WireType → DecodeError → List ℕ → Type 0
-StandsBehindKey c levels n w e rest = (bytes : List ℕ) → KeyFront n w bytes rest → StandsInMessage (schema_of c) (type_of c) levels e bytes
+StandsBehindKey c levels n w e rest = (bytes : List ℕ) (open_group : Option ℕ) → KeyFront n w bytes rest → (w ≡ wires.EndGroup → open_group ≢ Some n)
+    → Stands (schema_of c) e (record { bytes = bytes; inside = OfType (type_of c); levels = levels; open_group = open_group })
+
+-- READING INTO A GROUP
+
+-- Behind a start key of the number: the records that were read, and the end key.
+pub record GroupProgress (levels n : ℕ) (old new : Content) (bytes rest : List ℕ) : Type 0 where
+  pub end : List ℕ
+  pub progress : Progress levels old new bytes end
+  pub stop : KeyFront n wires.EndGroup end rest
+
+-- The fault stands in the group that a start key of the number opens.
+abbrev pub StandsInGroup : Content → ℕ → ℕ → DecodeError → List ℕ → Type 0
+StandsInGroup c levels n e bytes = Stands (schema_of c) e (record { bytes = bytes; inside = OfType (type_of c); levels = levels; open_group = Some n })
 
 -- SCALARS
 

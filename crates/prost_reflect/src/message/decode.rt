@@ -1,6 +1,6 @@
 //! Reading messages (the encoding guide, "Message Structure", "Last One Wins" and "Unknown Fields").
 
-ghost use Rattle.std.specs.Prelude.{◌≡◌, ◌≢◌, [], Some, None, true, IfSome, IfNone, IfOk, IfErr};
+ghost use Rattle.std.specs.Prelude.{◌≡◌, ◌≢◌, [], Some, None, true, IfOk, IfErr};
 ghost use Rattle.prost_reflect_wire.specs.Schema.{field_of};
 ghost use Rattle.prost_reflect_wire.specs.Content.{schema_of, type_of};
 ghost use Rattle.prost_reflect_wire.specs.Grammar.{LEVEL_LIMIT, Accepts};
@@ -12,6 +12,7 @@ ghost use Rattle.prost_reflect.specs.Covered.{covered};
 ghost use Rattle.prost_reflect.specs.Descriptors.{schema_at, type_at};
 ghost use Rattle.prost_reflect.specs.Known.{known_of};
 ghost use Rattle.prost_reflect.specs.Scalars.{PlainField, StaysUnknown};
+ghost use Rattle.prost_reflect.specs.Targets.{IsTarget};
 ghost use Rattle.prost_reflect.specs.View.{content_of, descriptor_of};
 
 use crate::descriptor::MessageDescriptor;
@@ -28,10 +29,10 @@ impl DynamicMessage {
     /// Reads a message of the type from the bytes, in at most 100 levels of messages and groups. The type has to be
     /// covered (`MessageDescriptor::is_covered`).
     ///
-    /// A later record of a field replaces an earlier one, and the values of the other members of its oneof. Records of
-    /// numbers that the type lacks become unknown fields, in their order, and so do the numbers that a closed enum does not
-    /// declare (the encoding guide, "Last One Wins" and "Oneofs"; the language guide, "Unknown Fields"; the page "Enum
-    /// Behavior").
+    /// A later scalar of a field replaces an earlier one, a later message or group is read into the earlier one, and the
+    /// values of the other members of its oneof go. Records of numbers that the type lacks become unknown fields, in their
+    /// order, and so do the numbers that a closed enum does not declare (the encoding guide, "Last One Wins" and "Oneofs";
+    /// the language guide, "Unknown Fields"; the page "Enum Behavior").
     ///
     /// # Errors
     ///
@@ -56,7 +57,8 @@ impl DynamicMessage {
     }
 
     /// Reads the records of the bytes into the message. A refusal leaves a part of them read.
-    fn merge_records(&mut self, alloc: Global, bytes: &[u8], levels: u32) -> Result<(), DecodeError>
+    #[cycle(reading)]
+    pub(super) fn merge_records(&mut self, alloc: Global, bytes: &[u8], levels: u32) -> Result<(), DecodeError>
         requires plain { covered (schema_at (descriptor_of self.old)) (type_at (descriptor_of self.old)) ≡ true }
         requires sound { WellStored (content_of self.old) }
         ensures ok { IfOk result (λ _. Progress levels (content_of self.old) (content_of self.new) bytes.now []) }
@@ -71,9 +73,10 @@ impl DynamicMessage {
         Ok(())
     }
 
-    /// Reads the record behind a key into the message, and gives the bytes behind it. A refusal changes no value and
-    /// no unknown field.
-    fn merge_record<'a>(
+    /// Reads the record behind a key into the message, and gives the bytes behind it. A refusal leaves a part of a nested
+    /// message read.
+    #[cycle(reading)]
+    pub(super) fn merge_record<'a>(
         &mut self,
         alloc: Global,
         number: FieldNumber,
@@ -87,9 +90,13 @@ impl DynamicMessage {
         ensures descriptor { descriptor_of self.new ≡ descriptor_of self.old }
         ensures fault { IfErr result (λ e. e ≢ DecodeError.OutOfMemory → StandsBehindKey (content_of self.old) levels number.value wire_type e bytes.now) }
     {
-        match plain_kind_at(self.descriptor(), number.get()) {
-            Some(kind) => self.merge_scalar(alloc, number, kind, wire_type, bytes, levels),
-            None => self.merge_unknown(alloc, number, wire_type, bytes, levels),
+        match target_at(self.descriptor(), number.get()) {
+            Target::Scalar(kind) => self.merge_scalar(alloc, number, kind, wire_type, bytes, levels),
+            Target::Message(place) => {
+                self.merge_message(alloc, number, place, wire_type, bytes, levels)
+            }
+            Target::Group(place) => self.merge_group(alloc, number, place, wire_type, bytes, levels),
+            Target::Unknown => self.merge_unknown(alloc, number, wire_type, bytes, levels),
         }
     }
 
@@ -139,14 +146,30 @@ impl DynamicMessage {
     }
 }
 
-/// The kind of the field or extension of a number, in a covered message type.
-fn plain_kind_at(descriptor: &MessageDescriptor, number: u32) -> Option<TableKind>
+/// What the record behind a key is read as.
+#[derive(Clone, Copy)]
+pub(super) enum Target {
+    /// An unknown field.
+    Unknown,
+    /// A scalar of the kind.
+    Scalar(TableKind),
+    /// A message of the type at the place.
+    Message(usize),
+    /// Likewise, written as a group.
+    Group(usize),
+}
+
+/// What a record of the number is read as, in a covered message type.
+fn target_at(descriptor: &MessageDescriptor, number: u32) -> Target
     requires { covered (schema_at descriptor.now) (type_at descriptor.now) ≡ true }
-    ensures known { IfSome result (λ kind. PlainField descriptor.now number kind) }
-    ensures unknown { IfNone result (field_of (known_of descriptor.now) number ≡ None) }
+    ensures { IsTarget descriptor.now number result }
 {
     match descriptor.field_table(number) {
-        Some(field) => Some(field.kind),
-        None => None,
+        Some(field) => match field.kind {
+            TableKind::Message(place) if field.is_group => Target::Group(place),
+            TableKind::Message(place) => Target::Message(place),
+            kind => Target::Scalar(kind),
+        },
+        None => Target::Unknown,
     }
 }

@@ -1,22 +1,22 @@
 //! Writing messages, the last byte first, so that a length is written once what it counts is there.
 
 ghost use Rattle.std.specs.Prelude.{◌≡◌, ◌&&◌, not, ◌≤◌, ◌^◌, ◌++◌, true, length, slice_get, IsSome, IfOk, IfErr, OnOk, OnErr};
-ghost use Rattle.prost_reflect_wire.specs.Record.{Len, short_plain};
-ghost use Rattle.prost_reflect_wire.specs.Schema.{field_of, passes};
+ghost use Rattle.prost_reflect_wire.specs.Record.{Len, short_key, short_plain};
+ghost use Rattle.prost_reflect_wire.specs.Schema.{field_of};
 ghost use Rattle.prost_reflect_wire.specs.Writing.{encoded};
-ghost use Rattle.prost_reflect_wire.specs.Typing.{kept, encodable, value_valid};
-ghost use Rattle.prost_reflect_wire.specs.Storing.{value_bytes, slot_bytes};
+ghost use Rattle.prost_reflect_wire.specs.Typing.{kept, encodable, Typed};
+ghost use Rattle.prost_reflect_wire.specs.Storing.{value_bytes};
 ghost use Rattle.prost_reflect_wire.specs.Buffer.{bytes_of, Prepended};
 ghost use Rattle.prost_reflect_tables.specs.Rows.{field_row, written_scalar};
 ghost use Rattle.prost_reflect.specs.Covered.{covered};
 ghost use Rattle.prost_reflect.specs.Descriptors.{schema_at, type_at};
-ghost use Rattle.prost_reflect.specs.Encoding.{entry_slot, entries_bytes, IsWritable, AreWritable};
+ghost use Rattle.prost_reflect.specs.Encoding.{entry_slot, unknown_bytes, nested_bytes, ValueWritable, OwnUnknown};
 ghost use Rattle.prost_reflect_wire.specs.Scalar.{EnumNumber};
 ghost use Rattle.prost_reflect.specs.Enums.{first_of};
 ghost use Rattle.prost_reflect.specs.Pools.{pool_rows};
 ghost use Rattle.prost_reflect.specs.Known.{known_of};
 ghost use Rattle.prost_reflect.specs.View.{value_of, content_of, descriptor_of};
-ghost use Rattle.prost_reflect.specs.Scalars.{plain_kind, TakesScalar, scalar_bytes, scalar_record_bytes, is_zero, equals, is_default};
+ghost use Rattle.prost_reflect.specs.Scalars.{plain_kind, TakesScalar, scalar_bytes, scalar_record_bytes, kept_scalar_bytes, is_zero, equals, is_default};
 
 use crate::descriptor::MessageDescriptor;
 use crate::fields::entry::Entry;
@@ -26,7 +26,7 @@ use crate::message::scalar::wire_type_of;
 use crate::value::Value;
 use prost_reflect_tables::{FieldTable, TableKind, WrittenDefault};
 use prost_reflect_wire::{
-    BackBuffer, EncodeError, prepend_fields, sign_extended, zigzag32, zigzag64,
+    BackBuffer, EncodeError, WireType, prepend_fields, sign_extended, zigzag32, zigzag64,
 };
 use std::alloc::Global;
 
@@ -147,11 +147,84 @@ fn prepend_scalar_record(
     ensures { Prepended result (bytes_of buffer.old) (bytes_of buffer.new) (scalar_record_bytes number (plain_kind kind) (value_of value.now)) }
 {
     prepend_scalar(buffer, kind, value)?;
-    let wire_type = wire_type_of(kind);
+    prepend_key(buffer, number, wire_type_of(kind))
+}
+
+/// Adds a key in front.
+fn prepend_key(
+    buffer: &mut BackBuffer,
+    number: u32,
+    wire_type: WireType,
+) -> Result<(), EncodeError>
+    ensures { Prepended result (bytes_of buffer.old) (bytes_of buffer.new) (short_key number wire_type) }
+{
     buffer.prepend_varint(8 * u64::from(number) + u64::from(wire_type.code()))
 }
 
+/// Adds the record of a message in front, or of a group.
+#[cycle(writing)]
+fn prepend_message(
+    buffer: &mut BackBuffer,
+    number: u32,
+    is_group: bool,
+    message: &DynamicMessage,
+) -> Result<(), EncodeError>
+    requires plain { covered (schema_at (descriptor_of message.now)) (type_at (descriptor_of message.now)) ≡ true }
+    requires encodable { encodable (content_of message.now) ≡ true }
+    requires typed { Typed (content_of message.now) }
+    ensures { Prepended result (bytes_of buffer.old) (bytes_of buffer.new) (nested_bytes number is_group (content_of message.now)) }
+{
+    if is_group {
+        prepend_key(buffer, number, WireType::EndGroup)?;
+        prepend_body(buffer, message)?;
+        return prepend_key(buffer, number, WireType::StartGroup);
+    }
+    let behind = buffer.len();
+    prepend_body(buffer, message)?;
+    let len = buffer.len() - behind;
+    buffer.prepend_varint(len as u64)?;
+    prepend_key(buffer, number, WireType::LengthDelimited)
+}
+
+/// Adds what is written of a message in front: at each number what is kept of the value, and then the unknown fields.
+#[cycle(writing)]
+fn prepend_body(buffer: &mut BackBuffer, message: &DynamicMessage) -> Result<(), EncodeError>
+    requires plain { covered (schema_at (descriptor_of message.now)) (type_at (descriptor_of message.now)) ≡ true }
+    requires encodable { encodable (content_of message.now) ≡ true }
+    requires typed { Typed (content_of message.now) }
+    ensures { Prepended result (bytes_of buffer.old) (bytes_of buffer.new) (encoded (kept (content_of message.now))) }
+{
+    let entries = message.slots.entries();
+    for index in (0..entries.len()).rev() {
+        let entry = &entries[index];
+        prepend_unknown(buffer, entry.0, &entry.1)?;
+        match &entry.1 {
+            Entry::Value(value) | Entry::Both(value, _) => {
+                prepend_value(buffer, message.slots.descriptor(), entry.0, value)?;
+            }
+            Entry::Unknown(_) => {}
+        }
+    }
+    Ok(())
+}
+
+/// Adds the unknown fields at a number in front.
+fn prepend_unknown(
+    buffer: &mut BackBuffer,
+    number: u32,
+    entry: &Entry<Value>,
+) -> Result<(), EncodeError>
+    requires { OwnUnknown number entry.now }
+    ensures { Prepended result (bytes_of buffer.old) (bytes_of buffer.new) (unknown_bytes number (entry_slot entry.now)) }
+{
+    match entry.unknown() {
+        Some(unknown) => prepend_fields(unknown, buffer),
+        None => Ok(()),
+    }
+}
+
 /// Adds what is kept of a field's value in front.
+#[cycle(writing)]
 fn prepend_value(
     buffer: &mut BackBuffer,
     descriptor: &MessageDescriptor,
@@ -159,59 +232,40 @@ fn prepend_value(
     value: &Value,
 ) -> Result<(), EncodeError>
     requires plain { covered (schema_at descriptor.now) (type_at descriptor.now) ≡ true }
-    requires valid { passes (field_of (known_of descriptor.now) number) (λ f. value_valid f (value_of value.now)) ≡ true }
+    requires writable { ValueWritable (schema_at descriptor.now) (known_of descriptor.now) number (value_of value.now) }
     ensures { Prepended result (bytes_of buffer.old) (bytes_of buffer.new) (value_bytes (known_of descriptor.now) number (value_of value.now)) }
 {
     match descriptor.field_table(number) {
-        Some(field) if is_left_out(descriptor, field, value) => Ok(()),
-        Some(field) => prepend_scalar_record(buffer, number, field.kind, value),
+        Some(field) => match value {
+            Value::Message(message) => prepend_message(buffer, number, field.is_group, message),
+            _ => prepend_kept_scalar(buffer, descriptor, number, field, value),
+        },
         None => unreachable!(),
     }
 }
 
-/// Adds in front what is written at a number: what is kept of the value, and then the unknown fields.
-fn prepend_entry(
+/// Adds what is kept of a scalar in front: nothing of the default of a field without presence.
+fn prepend_kept_scalar(
     buffer: &mut BackBuffer,
     descriptor: &MessageDescriptor,
     number: u32,
-    entry: &Entry<Value>,
+    field: &FieldTable,
+    value: &Value,
 ) -> Result<(), EncodeError>
-    requires plain { covered (schema_at descriptor.now) (type_at descriptor.now) ≡ true }
-    requires writable { IsWritable (known_of descriptor.now) number entry.now }
-    ensures { Prepended result (bytes_of buffer.old) (bytes_of buffer.new) (slot_bytes (known_of descriptor.now) number (entry_slot entry.now)) }
+    requires { TakesScalar (field_row field.now).kind (value_of value.now) }
+    ensures { Prepended result (bytes_of buffer.old) (bytes_of buffer.new) (kept_scalar_bytes number (pool_rows descriptor.now.pool).enums (field_row field.now) (value_of value.now)) }
 {
-    match entry {
-        Entry::Value(value) => prepend_value(buffer, descriptor, number, value),
-        Entry::Unknown(unknown) => prepend_fields(unknown, buffer),
-        Entry::Both(value, unknown) => {
-            prepend_fields(unknown, buffer)?;
-            prepend_value(buffer, descriptor, number, value)
-        }
+    if is_left_out(descriptor, field, value) {
+        return Ok(());
     }
-}
-
-/// Adds in front what is written of entries, in their order.
-fn prepend_entries(
-    buffer: &mut BackBuffer,
-    descriptor: &MessageDescriptor,
-    entries: &[(u32, Entry<Value>)],
-) -> Result<(), EncodeError>
-    requires plain { covered (schema_at descriptor.now) (type_at descriptor.now) ≡ true }
-    requires writable { AreWritable (known_of descriptor.now) entries.now }
-    ensures { Prepended result (bytes_of buffer.old) (bytes_of buffer.new) (entries_bytes (known_of descriptor.now) entries.now) }
-{
-    for index in (0..entries.len()).rev() {
-        let entry = &entries[index];
-        prepend_entry(buffer, descriptor, entry.0, &entry.1)?;
-    }
-    Ok(())
+    prepend_scalar_record(buffer, number, field.kind, value)
 }
 
 impl DynamicMessage {
     /// Appends the encoding of the message: fields and unknown fields in ascending order of their numbers, without the
     /// defaults of fields that have no presence (the encoding guide, "Message Structure"). The type has to be covered
-    /// (`MessageDescriptor::is_covered`), and each stored value has to fit its field, as in every message that `decode`
-    /// gives.
+    /// (`MessageDescriptor::is_covered`), each stored value has to fit its field, and each message has to be of its
+    /// field's type, as in every message that `decode` gives.
     ///
     /// # Errors
     ///
@@ -220,12 +274,13 @@ impl DynamicMessage {
     pub fn encode(&self, out: &mut Vec<u8>) -> Result<(), EncodeError>
         requires plain { covered (schema_at (descriptor_of self.now)) (type_at (descriptor_of self.now)) ≡ true }
         requires encodable { encodable (content_of self.now) ≡ true }
+        requires typed { Typed (content_of self.now) }
         ensures ok { OnOk result (out.new.items ≡ out.old.items ++ encoded (kept (content_of self.now))) }
         ensures err { OnErr result (out.new.items ≡ out.old.items) }
         ensures too_long { IfErr result (λ e. e ≡ EncodeError.TooLong → 2 ^ 64 ≤ length (encoded (kept (content_of self.now)))) }
     {
         let mut buffer = BackBuffer::new(*out.allocator());
-        prepend_entries(&mut buffer, self.descriptor(), self.entries())?;
+        prepend_body(&mut buffer, self)?;
         buffer.append_to(out)?;
         Ok(())
     }
@@ -238,6 +293,7 @@ impl DynamicMessage {
     pub fn encode_to_vec(&self, alloc: Global) -> Result<Vec<u8>, EncodeError>
         requires plain { covered (schema_at (descriptor_of self.now)) (type_at (descriptor_of self.now)) ≡ true }
         requires encodable { encodable (content_of self.now) ≡ true }
+        requires typed { Typed (content_of self.now) }
         ensures ok { IfOk result (λ out. out.items ≡ encoded (kept (content_of self.now))) }
         ensures too_long { IfErr result (λ e. e ≡ EncodeError.TooLong → 2 ^ 64 ≤ length (encoded (kept (content_of self.now)))) }
     {

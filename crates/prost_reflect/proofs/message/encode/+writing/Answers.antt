@@ -1,0 +1,63 @@
+use Rattle.std.proofs.Common.{rules, ◌≡◌, Some, ap, inl, inr, ◌⊎◌, arith}
+use Rattle.std.proofs.lemmas.Result.{err_from_is_err_and}
+use Rattle.prost_reflect_tables.specs.Rows.{field_row}
+use Rattle.prost_reflect_wire.specs.declared.unknown.UnknownFieldSet.{UnknownFieldSet}
+use Rattle.prost_reflect.specs.declared.fields.entry.Entry.{Entry}
+use Rattle.prost_reflect.specs.declared.fields.entry.Entry.TheVariants as entries
+use Rattle.prost_reflect.specs.declared.value.Value.{Value, the_lemmas}
+use Rattle.prost_reflect.specs.View.{value_of}
+use Rattle.prost_reflect.specs.Entries.{value_in}
+use Rattle.prost_reflect.proofs.Encodings.{whole_written, entry_writable, unknown_too_long, value_too_long}
+use Rattle.prost_reflect.proofs.NestedWrites.{nested_written, no_message_value}
+use Rattle.prost_reflect.proofs.WrittenValues.{row_written}
+use Rattle.prost_reflect.proofs.message.encode.+writing.Goals as goal
+
+one_value : (e : Entry Value) (v : Value) → (e ≡ entries.Value v) ⊎ ((u : UnknownFieldSet) × (e ≡ entries.Both v u)) → value_in e ≡ Some v
+one_value e v (inl is) = ap value_in is
+one_value e v (inr both) = ap value_in both.1
+
+pub prepend_body-prepend_unknown-requires : goal.prepend_body-prepend_unknown-requires
+prepend_body-prepend_unknown-requires t c =
+    let within = rw c.entries-entries.ensures.entries at c.loop-index.auto.index in
+    let at = rw c.entries-entries.ensures.entries at c.index-entries-index.is in
+    (entry_writable c.args.message.now c.loop-index.index c.index-entries-index.result c.loop-index-test.true within at c.requires.encodable c.requires.typed c.entries-entries.ensures.ascending c.entries-entries.ensures.sound).own
+
+pub prepend_body-returns-in_err-prepend_unknown : goal.prepend_body-returns-in_err-prepend_unknown
+prepend_body-returns-in_err-prepend_unknown t c = let q = err_from_is_err_and c.from_residual.result c.from_residual.ensures.1 in
+    let within = rw c.entries-entries.ensures.entries at c.loop-index.auto.index in
+    let at = rw c.entries-entries.ensures.entries at c.index-entries-index.is in
+    rw (q.1, q.2) (λ is. unknown_too_long c.args.message.now c.loop-index.index c.index-entries-index.result c.loop-index-test.true within at _ _ c.loop-index.invariant (c.in_err-prepend_unknown.ensures is))
+
+pub prepend_body-prepend_value-requires : goal.prepend_body-prepend_value-requires
+prepend_body-prepend_value-requires t c =
+    let within = rw c.entries-entries.ensures.entries at c.loop-index.auto.index in
+    let at = rw c.entries-entries.ensures.entries at c.index-entries-index.is in
+    let w = entry_writable c.args.message.now c.loop-index.index c.index-entries-index.result c.loop-index-test.true within at c.requires.encodable c.requires.typed c.entries-entries.ensures.ascending c.entries-entries.ensures.sound in
+    let v = w.value c.in-Value.value (one_value c.index-entries-index.result.1 c.in-Value.value c.in-Value.is) in
+    (elim c.in-Value.is [ inl is ↦ search (rules, the_lemmas) | inr both ↦ search (rules, the_lemmas) ], rw c.descriptor.ensures (c.requires.plain, v))
+
+pub prepend_body-returns-in_err-prepend_value-in-Value : goal.prepend_body-returns-in_err-prepend_value-in-Value
+prepend_body-returns-in_err-prepend_value-in-Value t c =
+    let q = err_from_is_err_and c.from_residual-in_err-prepend_value-in-Value.result c.from_residual-in_err-prepend_value-in-Value.ensures.1 in
+    let within = rw c.entries-entries.ensures.entries at c.loop-index.auto.index in
+    let at = rw c.entries-entries.ensures.entries at c.index-entries-index.is in
+    let valued = one_value c.index-entries-index.result.1 c.in-Value.value c.in-Value.is in
+    rw (q.1, q.2) (λ is. value_too_long c.args.message.now c.loop-index.index c.index-entries-index.result c.loop-index-test.true within at c.in-Value.value _ _ _ valued c.loop-index.invariant c.in_ok-prepend_unknown.ensures
+    (rw c.descriptor.ensures at c.in_err-prepend_value-in-Value.ensures is))
+
+pub prepend_body-returns : goal.prepend_body-returns
+prepend_body-returns t c = whole_written c.args.message.now c.loop-index.index _ _ (omega (arith, c.loop-index-test.false)) c.loop-index.invariant
+
+pub prepend_value-prepend_message-requires : goal.prepend_value-prepend_message-requires
+prepend_value-prepend_message-requires t c =
+    let w = nested_written c.args.descriptor.now c.args.number (field_row c.in-Some.field.now) c.args.value.now c.in-Message.message c.requires.plain c.in-Some.ensures.field c.requires.writable c.in-Message.is in
+    (search (rules, the_lemmas), (w.plain, (w.fits, w.types)))
+
+pub prepend_value-returns-in-Message : goal.prepend_value-returns-in-Message
+prepend_value-returns-in-Message t c = rw (nested_written c.args.descriptor.now c.args.number (field_row c.in-Some.field.now) c.args.value.now c.in-Message.message c.requires.plain c.in-Some.ensures.field c.requires.writable c.in-Message.is).bytes c.prepend_message.ensures
+
+pub prepend_value-prepend_kept_scalar-requires : goal.prepend_value-prepend_kept_scalar-requires
+prepend_value-prepend_kept_scalar-requires t c = (row_written c.args.descriptor.now c.args.number (field_row c.in-Some.field.now) (value_of c.args.value.now) c.requires.plain c.in-Some.ensures.field c.requires.writable.valid (no_message_value c.args.value.now c.in_default.not-Message)).takes
+
+pub prepend_value-returns-in_default : goal.prepend_value-returns-in_default
+prepend_value-returns-in_default t c = rw (row_written c.args.descriptor.now c.args.number (field_row c.in-Some.field.now) (value_of c.args.value.now) c.requires.plain c.in-Some.ensures.field c.requires.writable.valid (no_message_value c.args.value.now c.in_default.not-Message)).bytes c.prepend_kept_scalar.ensures

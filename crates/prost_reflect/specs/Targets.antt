@@ -1,0 +1,35 @@
+-- What the record behind a key is read as.
+use Rattle.std.specs.Prelude.{◌≡◌, ◌≢◌, ℕ, ◌<◌, false, length, Some, None}
+use Rattle.prost_reflect_wire.specs.declared.key.WireType.{WireType}
+use Rattle.prost_reflect_wire.specs.declared.key.WireType.TheVariants as wires
+use Rattle.prost_reflect_wire.specs.declared.error.DecodeError.{DecodeError}
+use Rattle.prost_reflect_wire.specs.declared.error.DecodeError.TheVariants as errors
+use Rattle.prost_reflect_wire.specs.Schema.{Kind, MessageOf, GroupOf, Singular, Field, field_of}
+use Rattle.prost_reflect_wire.specs.Fault.{same_wire}
+use Rattle.prost_reflect.specs.Pools.{pool_rows}
+use Rattle.prost_reflect.specs.Known.{known_of}
+use Rattle.prost_reflect.specs.Scalars.{PlainField}
+use Rattle.prost_reflect.specs.declared.descriptor.message.MessageDescriptor.{MessageDescriptor}
+use Rattle.prost_reflect.specs.declared.message.decode.Target.{Target}
+use Rattle.prost_reflect.specs.declared.message.decode.Target.TheVariants.{Unknown, Scalar, Message, Group}
+
+-- The number is that of a field of one message; the message type stands at the place.
+pub record NestedField (d : MessageDescriptor) (n T : ℕ) (kind : Kind) : Type 0 where
+  pub field : Field
+  pub found : field_of (known_of d) n ≡ Some field
+  pub form : field.form ≡ Singular
+  pub kind_is : field.value_type.kind ≡ kind
+  pub in_range : T < length (pool_rows d.pool).messages
+
+abbrev pub IsTarget : MessageDescriptor → ℕ → Target → Type 0
+IsTarget d n Unknown = field_of (known_of d) n ≡ None
+IsTarget d n (Scalar kind) = PlainField d n kind
+IsTarget d n (Message T) = NestedField d n T (MessageOf T)
+IsTarget d n (Group T) = NestedField d n T (GroupOf T)
+
+-- Why no message is read where this wire type is wanted: an end key, another wire type, or no level is left.
+abbrev pub NestedFault : WireType → WireType → ℕ → DecodeError → Type 0
+NestedFault wanted w levels errors.EndGroup = w ≡ wires.EndGroup
+NestedFault wanted w levels errors.WireType = (w ≢ wires.EndGroup) × (same_wire w wanted ≡ false)
+NestedFault wanted w levels errors.Depth = (w ≡ wanted) × (levels ≡ 0)
+NestedFault wanted w levels e = ⊥
