@@ -70,9 +70,13 @@ pub schema_covered : (rows : TableRows) → list_all message_covered rows.messag
 unfolding schema_from
 schema_covered rows = messages_covered rows rows.messages
 
-pub covered_by : (schema : Schema) (T : ℕ) → covered schema T ≡ (list_all field_flat (known schema T) || all_covered schema)
+pub flat_covered : (schema : Schema) (T : ℕ) → list_all field_flat (known schema T) ≡ true → covered schema T ≡ true
 unfolding covered
-covered_by schema T = refl
+flat_covered schema T h = ap (λ b. b || all_covered schema) h
+
+pub covered_beside : (schema : Schema) (T : ℕ) → list_all field_flat (known schema T) ≡ false → covered schema T ≡ all_covered schema
+unfolding covered
+covered_beside schema T h = ap (λ b. b || all_covered schema) h
 
 and_left : (a b : Bool) → a && b ≡ true → a ≡ true
 and_left true b h = refl

@@ -91,12 +91,12 @@ pub record IsHeld (v : Value) : Type 0 where
   pub message : DynamicMessage
   pub is : message_in (out-Value v) ≡ Some message
 
+some_held : (v : Value) (c : Content) (o : Option DynamicMessage) → message_in (out-Value v) ≡ o → option_map content_of o ≡ Some c → IsHeld v
+some_held v c None is h = cc
+some_held v c (Some m) is h = record { message = m; is = is }
+
 pub held_of : (v : Value) (c : Content) → value_of v ≡ MessageValue c → IsHeld v
-held_of v c e = go (message_in (out-Value v)) refl (held_content v ∙ ap content_held e)
-  where
-    go : (o : Option DynamicMessage) → message_in (out-Value v) ≡ o → option_map content_of o ≡ Some c → IsHeld v
-    go None is h = cc
-    go (Some m) is h = record { message = m; is = is }
+held_of v c e = some_held v c (message_in (out-Value v)) refl (held_content v ∙ ap content_held e)
 
 -- WHAT IS LENT
 
