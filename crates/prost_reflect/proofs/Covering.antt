@@ -1,36 +1,72 @@
 -- What the rows say of a covered type, the schema says.
-use Rattle.std.proofs.Common.{◌≡◌, ℕ, zero, suc, Bool, true, false, not, ◌&&◌, ◌||◌, List, [], ◌∷◌, map, Option, Some, None, cond, subst, refl, sym, ap, ◌∙◌}
-use Rattle.std.specs.Prelude.{nat_eq}
+use Rattle.std.proofs.Common.{◌≡◌, ℕ, zero, suc, Bool, true, false, not, ◌&&◌, ◌||◌, List, [], ◌∷◌, map, Option, Some, None, cond, subst, refl, sym, ap, ap₂, ◌∙◌}
+use Rattle.std.specs.Prelude.{nat_eq, slice_get}
 use Rattle.std.specs.List.{list_all}
-use Rattle.prost_reflect_wire.specs.Schema.{FieldForm, Singular, Repeated as RepeatedForm, MapFrom, Field, MessageType, Schema, known, field_of, is_singular, is_message}
+use Rattle.prost_reflect_wire.specs.Schema.{ScalarOf, Field, MessageType, Schema, known, field_of, is_singular, is_message}
+use Rattle.prost_reflect_wire.specs.Typing.{is_repeated as is_list}
 use Rattle.prost_reflect_tables.specs.declared.tables.Cardinality.{Cardinality}
 use Rattle.prost_reflect_tables.specs.declared.tables.Cardinality.TheVariants.{Optional, Required, Repeated}
 use Rattle.prost_reflect_tables.specs.declared.tables.TableKind.{TableKind}
-use Rattle.prost_reflect_tables.specs.declared.tables.TableKind.TheVariants.{Message}
+use Rattle.prost_reflect_tables.specs.declared.tables.TableKind.TheVariants.{Message, Enum}
 use Rattle.prost_reflect_tables.specs.declared.tables.FieldTable.{FieldTable}
 use Rattle.prost_reflect_tables.specs.declared.tables.MessageTable.{MessageTable}
 use Rattle.prost_reflect_tables.specs.Rows.{FieldRow, MessageRow, EnumRow, TableRows, field_row, message_row}
 use Rattle.prost_reflect_tables.specs.Places.{fields_at}
-use Rattle.prost_reflect_tables.specs.Shown.{schema_from, schema_message, schema_field, schema_kind, map_entry, form_of, value_type_of}
+use Rattle.prost_reflect_tables.specs.Shown.{schema_from, schema_message, schema_field, schema_kind, enum_kind, map_entry, entry_at, form_of, value_type_of}
 use Rattle.prost_reflect_tables.proofs.Fields.{known_rows}
-use Rattle.prost_reflect.specs.Covered.{covered, all_covered, field_covered, field_flat, row_covered, row_flat, message_covered, is_repeated, names_message}
+use Rattle.prost_reflect.specs.Covered.{covered, is_plain, is_plain_kind, all_covered, field_covered, field_flat, row_covered, row_flat, message_covered, is_repeated, names_message}
 
 pub message_kind : (enums : List EnumRow) (kind : TableKind) (g : Bool) → is_message (schema_kind enums kind g) ≡ names_message kind
 message_kind enums (Message T) true = refl
 message_kind enums (Message T) false = refl
 message_kind enums kind g = refl
 
-repeated_form : (enums : List EnumRow) (f : FieldRow) (entry : Option MessageRow) → is_singular (form_of enums f Repeated entry) ≡ false
-repeated_form enums f None = refl
-repeated_form enums f (Some entry) = refl
+plain_kind : (enums : List EnumRow) (kind : TableKind) (g : Bool) → is_plain (schema_kind enums kind g) ≡ is_plain_kind kind
+plain_kind enums (Enum E) g = of (slice_get enums E)
+  where
+    of : (o : Option EnumRow) → is_plain (ScalarOf (enum_kind o)) ≡ false
+    of None = refl
+    of (Some e) = refl
+plain_kind enums (Message T) true = refl
+plain_kind enums (Message T) false = refl
+plain_kind enums kind g = refl
 
--- A single row is shown by its own kind; a repeated one is no single field.
+-- A map's kind is that of its entries, which is no plain one.
+entry_kind : (messages : List MessageRow) (f : FieldRow) (entry : MessageRow) → map_entry messages f Repeated ≡ Some entry → is_plain_kind f.kind ≡ false
+entry_kind messages f entry e = go f.is_group f.kind e
+  where
+    go : (g : Bool) (kind : TableKind) → cond g None (entry_at messages kind) ≡ Some entry → is_plain_kind kind ≡ false
+    go true kind e = cc
+    go false (Message T) e = refl
+    go false kind e = cc
+
+-- A row that is no map is shown by its own kind.
+covered_with : (rows : TableRows) (f : FieldRow) (c : Cardinality) →
+    (not (is_repeated c) || is_plain_kind f.kind)
+    ≡ (is_singular (form_of rows.enums f c (map_entry rows.messages f c)) || (is_list (form_of rows.enums f c (map_entry rows.messages f c)) && is_plain (value_type_of rows.enums f (map_entry rows.messages f c)).kind))
+covered_with rows f Optional = refl
+covered_with rows f Required = refl
+covered_with rows f Repeated = go (map_entry rows.messages f Repeated) refl
+  where
+    go : (entry : Option MessageRow) → map_entry rows.messages f Repeated ≡ entry → is_plain_kind f.kind ≡ (is_singular (form_of rows.enums f Repeated entry) || (is_list (form_of rows.enums f Repeated entry) && is_plain (value_type_of rows.enums f entry).kind))
+    go None e = sym (plain_kind rows.enums f.kind f.is_group)
+    go (Some entry) e = entry_kind rows.messages f entry e
+
+covered_row : (rows : TableRows) (f : FieldRow) → row_covered f ≡ field_covered (schema_field rows f)
+covered_row rows f = covered_with rows f f.cardinality
+
 flat_with : (rows : TableRows) (f : FieldRow) (c : Cardinality) →
-    not (is_repeated c) && not (names_message f.kind)
-    ≡ (is_singular (form_of rows.enums f c (map_entry rows.messages f c)) && not (is_message (value_type_of rows.enums f (map_entry rows.messages f c)).kind))
-flat_with rows f Optional = rw (message_kind rows.enums f.kind f.is_group) refl
-flat_with rows f Required = rw (message_kind rows.enums f.kind f.is_group) refl
-flat_with rows f Repeated = rw (repeated_form rows.enums f (map_entry rows.messages f Repeated)) refl
+    (not (is_repeated c) || is_plain_kind f.kind) && not (names_message f.kind)
+    ≡ ((is_singular (form_of rows.enums f c (map_entry rows.messages f c)) || (is_list (form_of rows.enums f c (map_entry rows.messages f c)) && is_plain (value_type_of rows.enums f (map_entry rows.messages f c)).kind))
+        && not (is_message (value_type_of rows.enums f (map_entry rows.messages f c)).kind))
+flat_with rows f Optional = ap not (sym (message_kind rows.enums f.kind f.is_group))
+flat_with rows f Required = ap not (sym (message_kind rows.enums f.kind f.is_group))
+flat_with rows f Repeated = go (map_entry rows.messages f Repeated) refl
+  where
+    go : (entry : Option MessageRow) → map_entry rows.messages f Repeated ≡ entry → is_plain_kind f.kind && not (names_message f.kind)
+        ≡ ((is_singular (form_of rows.enums f Repeated entry) || (is_list (form_of rows.enums f Repeated entry) && is_plain (value_type_of rows.enums f entry).kind)) && not (is_message (value_type_of rows.enums f entry).kind))
+    go None e = ap₂ (λ a b. a && not b) (sym (plain_kind rows.enums f.kind f.is_group)) (sym (message_kind rows.enums f.kind f.is_group))
+    go (Some entry) e = ap (λ b. b && not (names_message f.kind)) (entry_kind rows.messages f entry e)
 
 flat_row : (rows : TableRows) (f : FieldRow) → row_flat f ≡ field_flat (schema_field rows f)
 flat_row rows f = flat_with rows f f.cardinality
@@ -41,14 +77,6 @@ flat_rows rows (f ∷ fields) = rw (flat_row rows (field_row f), flat_rows rows 
 
 pub fields_flat : (rows : TableRows) (T : ℕ) (fields : List FieldTable) → map field_row fields ≡ fields_at rows T → list_all (λ f. row_flat (field_row f)) fields ≡ list_all field_flat (known (schema_from rows) T)
 fields_flat rows T fields e = flat_rows rows fields ∙ ap (list_all field_flat) (ap (map (schema_field rows)) e ∙ sym (known_rows rows T))
-
-single_with : (rows : TableRows) (f : FieldRow) (c : Cardinality) → not (is_repeated c) ≡ is_singular (form_of rows.enums f c (map_entry rows.messages f c))
-single_with rows f Optional = refl
-single_with rows f Required = refl
-single_with rows f Repeated = rw (repeated_form rows.enums f (map_entry rows.messages f Repeated)) refl
-
-covered_row : (rows : TableRows) (f : FieldRow) → row_covered f ≡ field_covered (schema_field rows f)
-covered_row rows f = single_with rows f f.cardinality
 
 covered_rows : (rows : TableRows) (fields : List FieldRow) → list_all row_covered fields ≡ list_all field_covered (map (schema_field rows) fields)
 covered_rows rows [] = refl
@@ -126,11 +154,12 @@ covered_further schema T n U f h e names = go (list_all field_flat (known schema
     go true flat h = absurd (no (is_message f.value_type.kind) names (and_right (field_covered f) _ (passing_field field_flat (known schema T) n f flat e)))
     go false flat h = or_second (list_all field_flat (known schema U)) (all_covered schema) h
 
--- A covered field has at most one value.
-pub covered_single : (f : Field) → field_covered f ≡ true → f.form ≡ Singular
-covered_single f h = singular f.form h
-  where
-    singular : (form : FieldForm) → is_singular form ≡ true → form ≡ Singular
-    singular Singular e = refl
-    singular (RepeatedForm packed) e = cc
-    singular (MapFrom key) e = cc
+-- A covered field that is repeated has a list of plain scalars.
+pub record PlainList (f : Field) : Type 0 where
+  pub listed : is_list f.form ≡ true
+  pub plain : is_plain f.value_type.kind ≡ true
+
+pub covered_list : (f : Field) → field_covered f ≡ true → is_singular f.form ≡ false → PlainList f
+covered_list f h one =
+    let both : is_list f.form && is_plain f.value_type.kind ≡ true = ap (λ b. b || (is_list f.form && is_plain f.value_type.kind)) (sym one) ∙ h in
+    record { listed = and_left (is_list f.form) _ both; plain = and_right (is_list f.form) _ both }

@@ -35,3 +35,6 @@ pub mod CopiedPairs
 pub mod EqualDescriptors
 pub mod StoredViews
 pub mod StoredContents
+mod ListElements
+mod ListMerging
+mod WrittenLists

@@ -26,21 +26,19 @@ use Rattle.prost_reflect_tables.specs.Shown.{schema_kind, schema_field}
 use Rattle.prost_reflect.specs.declared.descriptor.message.MessageDescriptor.{MessageDescriptor}
 use Rattle.prost_reflect.specs.declared.message.DynamicMessage.{DynamicMessage}
 use Rattle.prost_reflect.specs.declared.value.Value.{Value}
-use Rattle.prost_reflect.specs.declared.message.decode.Target.{Target}
 use Rattle.prost_reflect.specs.declared.message.decode.Target.TheVariants as targets
 use Rattle.prost_reflect.specs.Pools.{pool_rows}
-use Rattle.prost_reflect.specs.Descriptors.{schema_at, type_at}
 use Rattle.prost_reflect.specs.Known.{known_of}
 use Rattle.prost_reflect.specs.View.{value_of, content_of, descriptor_of}
 use Rattle.prost_reflect.specs.Scalars.{PlainField, ReadsScalar, RefusesScalar, ReadsStray, StaysUnknown, is_stray_number}
-use Rattle.prost_reflect.specs.Targets.{NestedField, IsTarget}
+use Rattle.prost_reflect.specs.Targets.{NestedField, IsTarget, target_of}
 use Rattle.prost_reflect.proofs.Described.{named_in_range}
 use Rattle.prost_reflect.proofs.Views.{content_of_message}
-use Rattle.prost_reflect.proofs.PlainKinds.{SamePayloads, scalar_row, own_of, plain_payloads, stray_payload}
+use Rattle.prost_reflect.proofs.PlainKinds.{SamePayloads, scalar_row, single_row, own_of, plain_payloads, stray_payload}
 use Rattle.prost_reflect.proofs.Siblings.{known_differ}
 use Rattle.prost_reflect.specs.Contents.{value_set, unknown_added}
-use Rattle.prost_reflect.specs.Covered.{covered, names_message}
-use Rattle.prost_reflect.proofs.Covering.{covered_field, covered_single, message_kind}
+use Rattle.prost_reflect.specs.Covered.{is_repeated, names_message}
+use Rattle.prost_reflect.proofs.Covering.{message_kind}
 
 -- a scalar's value was set
 pub set_step : (levels n : ℕ) (w : WireType) (c d : Content) (f : Field) (kind : ScalarKind) (v : contents.Value) (s : Scalar) (bytes rest : List ℕ) → WellStored c → numbers_differ (known (schema_of c) (type_of c)) ≡ true →
@@ -74,12 +72,6 @@ differ_in m = ap numbers_differ (known_in m) ∙ known_differ (descriptor_of m)
 
 -- WHAT A RECORD IS READ AS
 
--- by its field's row
-abbrev pub target_of : TableKind → Bool → Target
-target_of (kinds.Message T) true = targets.Group T
-target_of (kinds.Message T) false = targets.Message T
-target_of kind g = targets.Scalar kind
-
 pub scalar_target : (kind : TableKind) (g : Bool) → names_message kind ≡ false → target_of kind g ≡ targets.Scalar kind
 scalar_target (kinds.Message T) g e = absurd (true≢false e)
 scalar_target kind g e = refl
@@ -88,9 +80,9 @@ pub no_message_kind : (kind : TableKind) → ((T : ℕ) → kind ≡ kinds.Messa
 no_message_kind (kinds.Message T) h = absurd (h T refl)
 no_message_kind kind h = refl
 
-module _ (d : MessageDescriptor) (n : ℕ) (row : FieldRow) (h : covered (schema_at d) (type_at d) ≡ true) (found : field_of (known_of d) n ≡ Some (schema_field (pool_rows d.pool) row)) where
+module _ (d : MessageDescriptor) (n : ℕ) (row : FieldRow) (one : is_repeated row.cardinality ≡ false) (found : field_of (known_of d) n ≡ Some (schema_field (pool_rows d.pool) row)) where
   single : (schema_field (pool_rows d.pool) row).form ≡ Singular
-  single = covered_single (schema_field (pool_rows d.pool) row) (covered_field (schema_at d) (type_at d) n (schema_field (pool_rows d.pool) row) h found)
+  single = single_row (pool_rows d.pool) row one
 
   own_kind : (schema_field (pool_rows d.pool) row).value_type.kind ≡ schema_kind (pool_rows d.pool).enums row.kind row.is_group
   own_kind = ap (λ (t : ValueType). t.kind) (own_of (pool_rows d.pool) row single)
@@ -181,3 +173,7 @@ pub unknown_fault : (m : DynamicMessage) (levels n : ℕ) (w : WireType) (e : De
     ((p : Payload) (after : List ℕ) → ValueFront n w levels p rest after → e ≡ errors.OutOfMemory) → e ≢ errors.OutOfMemory → StandsBehindKey (content_of m) levels n w e rest
 unknown_fault m levels n w e rest (inl absent) fault only not_memory = unknown_refused (content_of m) levels n w e rest (ap (λ fields. field_of fields n) (known_in m) ∙ absent) fault
 unknown_fault m levels n w e rest (inr s) fault only not_memory = absurd (not_memory (only s.payload s.rest s.front))
+
+-- two names of one kind
+pub same_kind : {k l : ScalarKind} {o : Option ScalarKind} → o ≡ Some k → o ≡ Some l → k ≡ l
+same_kind e f = cc

@@ -91,12 +91,14 @@ pub record IsHeld (v : Value) : Type 0 where
   pub message : DynamicMessage
   pub is : message_in (out-Value v) ≡ Some message
 
-some_held : (v : Value) (c : Content) (o : Option DynamicMessage) → message_in (out-Value v) ≡ o → option_map content_of o ≡ Some c → IsHeld v
-some_held v c None is h = cc
-some_held v c (Some m) is h = record { message = m; is = is }
+mapped_some : {A B : Type 0} (f : A → B) (o : Option A) (b : B) → option_map f o ≡ Some b → (a : A) × (o ≡ Some a)
+mapped_some f None b h = cc
+mapped_some f (Some a) b h = (a, refl)
 
 pub held_of : (v : Value) (c : Content) → value_of v ≡ MessageValue c → IsHeld v
-held_of v c e = some_held v c (message_in (out-Value v)) refl (held_content v ∙ ap content_held e)
+held_of v c e =
+    let (m, is) = mapped_some content_of (message_in (out-Value v)) c (held_content v ∙ ap content_held e) in
+    record { message = m; is = is }
 
 -- WHAT IS LENT
 

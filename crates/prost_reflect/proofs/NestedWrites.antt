@@ -26,11 +26,11 @@ use Rattle.prost_reflect.specs.declared.value.Value.TheFolds.{fold-roll-Value, i
 use Rattle.prost_reflect.specs.Pools.{pool_rows}
 use Rattle.prost_reflect.specs.Descriptors.{schema_at, type_at}
 use Rattle.prost_reflect.specs.Known.{known_of}
-use Rattle.prost_reflect.specs.Covered.{covered}
+use Rattle.prost_reflect.specs.Covered.{covered, is_repeated}
 use Rattle.prost_reflect.specs.Encoding.{ValueWritable, nested_bytes}
 use Rattle.prost_reflect.specs.View.{value_step, message_step, value_of, content_of, descriptor_of}
-use Rattle.prost_reflect.proofs.Covering.{covered_field, covered_single, covered_further}
-use Rattle.prost_reflect.proofs.PlainKinds.{own_of}
+use Rattle.prost_reflect.proofs.Covering.{covered_further}
+use Rattle.prost_reflect.proofs.PlainKinds.{single_row, own_of}
 use Rattle.prost_reflect.proofs.Views.{value_of_message}
 use Rattle.prost_reflect.proofs.WrittenValues.{is_message_value, passing}
 use Rattle.prost_reflect.proofs.NestedReads.{schema_in}
@@ -90,12 +90,12 @@ pub record NestedWritten (d : MessageDescriptor) (n : ℕ) (g : Bool) (m : Dynam
   pub types : Typed (content_of m)
   pub bytes : value_bytes (known_of d) n v ≡ nested_bytes n g (content_of m)
 
-pub nested_written : (d : MessageDescriptor) (n : ℕ) (row : FieldRow) (v : Value) (m : DynamicMessage) → covered (schema_at d) (type_at d) ≡ true → Some (schema_field (pool_rows d.pool) row) ≡ field_of (known_of d) n → ValueWritable (schema_at d) (known_of d) n (value_of v) →
+pub nested_written : (d : MessageDescriptor) (n : ℕ) (row : FieldRow) (v : Value) (m : DynamicMessage) → covered (schema_at d) (type_at d) ≡ true → is_repeated row.cardinality ≡ false → Some (schema_field (pool_rows d.pool) row) ≡ field_of (known_of d) n → ValueWritable (schema_at d) (known_of d) n (value_of v) →
     v ≡ values.Message m → NestedWritten d n row.is_group m (value_of v)
-nested_written d n row v m h found writable is =
+nested_written d n row v m h one found writable is =
     let shown : Field = schema_field (pool_rows d.pool) row in
     let seen : value_of v ≡ MessageValue (content_of m) = ap value_of is ∙ value_of_message m in
-    let single = covered_single (schema_field (pool_rows d.pool) row) (covered_field (schema_at d) (type_at d) n (schema_field (pool_rows d.pool) row) h (sym found)) in
+    let single = single_row (pool_rows d.pool) row one in
     let valid : value_valid (schema_field (pool_rows d.pool) row) (MessageValue (content_of m)) ≡ true = passing (field_of (known_of d) n) (schema_field (pool_rows d.pool) row) (λ f. value_valid f (MessageValue (content_of m))) (sym found)
         (ap (λ v. passes (field_of (known_of d) n) (λ f. value_valid f v)) (sym seen) ∙ writable.valid) in
     let types : ValueTyped (schema_at d) (Some (schema_field (pool_rows d.pool) row).value_type.kind) (MessageValue (content_of m)) = field_typed (schema_at d) (schema_field (pool_rows d.pool) row) (MessageValue (content_of m)) valid

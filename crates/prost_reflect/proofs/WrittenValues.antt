@@ -17,13 +17,11 @@ use Rattle.std.specs.Prelude.{slice_get}
 use Rattle.prost_reflect_tables.specs.Shown.{schema_default, schema_kind, enum_kind, own_type, schema_field}
 use Rattle.prost_reflect.specs.declared.descriptor.message.MessageDescriptor.{MessageDescriptor}
 use Rattle.prost_reflect.specs.Pools.{pool_rows}
-use Rattle.prost_reflect.specs.Descriptors.{schema_at, type_at}
 use Rattle.prost_reflect.specs.Known.{known_of}
-use Rattle.prost_reflect.specs.Covered.{covered}
+use Rattle.prost_reflect.specs.Covered.{is_repeated as is_labelled}
 use Rattle.prost_reflect.specs.Enums.{first_of}
 use Rattle.prost_reflect.specs.Scalars.{plain_kind, TakesScalar, scalar_record_bytes, zero_like, is_default}
-use Rattle.prost_reflect.proofs.Covering.{covered_field, covered_single}
-use Rattle.prost_reflect.proofs.PlainKinds.{NamedKind, scalar_row, own_of, plain_of, plain_payloads}
+use Rattle.prost_reflect.proofs.PlainKinds.{NamedKind, scalar_row, single_row, own_of, plain_of, plain_payloads}
 
 -- a field of one scalar
 pub record OneScalar (f : Field) : Type 0 where
@@ -128,23 +126,16 @@ written_by fields n rows row v one found valid =
     same = ap₂ (λ p d. not p && scalar_eq value.scalar d) (ap (λ (t : ValueType). t.presence) own) (ap (λ (t : ValueType). t.default) own ∙ ap (schema_default row.default) own_kind)
         ∙ ap (λ b. not row.supports_presence && b) (default_is rows.enums row.kind kind.scalar value.scalar row.default kind.named value.fits)
 
-pub value_written : (d : MessageDescriptor) (n : ℕ) (row : FieldRow) (v : contents.Value) → covered (schema_at d) (type_at d) ≡ true → field_of (known_of d) n ≡ Some (schema_field (pool_rows d.pool) row) → value_valid (schema_field (pool_rows d.pool) row) v ≡ true →
+pub value_written : (d : MessageDescriptor) (n : ℕ) (row : FieldRow) (v : contents.Value) → is_labelled row.cardinality ≡ false → field_of (known_of d) n ≡ Some (schema_field (pool_rows d.pool) row) → value_valid (schema_field (pool_rows d.pool) row) v ≡ true →
     is_message_value v ≡ false → PlainWritten (known_of d) n (pool_rows d.pool).enums row v
-value_written d n row v h found valid apart =
-    let single = covered_single (schema_field (pool_rows d.pool) row) (covered_field (schema_at d) (type_at d) n (schema_field (pool_rows d.pool) row) h found) in
+value_written d n row v one found valid apart =
+    let single = single_row (pool_rows d.pool) row one in
     written_by (known_of d) n (pool_rows d.pool) row v (record { single = single; scalar = no_message (schema_field (pool_rows d.pool) row) v single valid apart }) found valid
-
--- nothing, or the record
-pub left_out : (fields : List Field) (n : ℕ) (enums : List EnumRow) (row : FieldRow) (v : contents.Value) → PlainWritten fields n enums row v → (not row.supports_presence && is_default enums row.kind row.default v) ≡ true → value_bytes fields n v ≡ []
-left_out fields n enums row v w h = w.bytes ∙ ap (λ b. cond b [] (scalar_record_bytes n (plain_kind row.kind) v)) h
-
-pub put_in : (fields : List Field) (n : ℕ) (enums : List EnumRow) (row : FieldRow) (v : contents.Value) → PlainWritten fields n enums row v → (not row.supports_presence && is_default enums row.kind row.default v) ≡ false → value_bytes fields n v ≡ scalar_record_bytes n (plain_kind row.kind) v
-put_in fields n enums row v w h = w.bytes ∙ ap (λ b. cond b [] (scalar_record_bytes n (plain_kind row.kind) v)) h
 
 -- the valid value of a number is that of its field
 pub passing : {A : Type 0} (o : Option A) (x : A) (test : A → Bool) → o ≡ Some x → passes o test ≡ true → test x ≡ true
 passing o x test e h = ap (λ o. passes o test) (sym e) ∙ h
 
-pub row_written : (d : MessageDescriptor) (n : ℕ) (row : FieldRow) (v : contents.Value) → covered (schema_at d) (type_at d) ≡ true → Some (schema_field (pool_rows d.pool) row) ≡ field_of (known_of d) n → passes (field_of (known_of d) n) (λ f. value_valid f v) ≡ true →
+pub row_written : (d : MessageDescriptor) (n : ℕ) (row : FieldRow) (v : contents.Value) → is_labelled row.cardinality ≡ false → Some (schema_field (pool_rows d.pool) row) ≡ field_of (known_of d) n → passes (field_of (known_of d) n) (λ f. value_valid f v) ≡ true →
     is_message_value v ≡ false → PlainWritten (known_of d) n (pool_rows d.pool).enums row v
-row_written d n row v h found valid apart = value_written d n row v h (sym found) (passing (field_of (known_of d) n) (schema_field (pool_rows d.pool) row) (λ f. value_valid f v) (sym found) valid) apart
+row_written d n row v one found valid apart = value_written d n row v one (sym found) (passing (field_of (known_of d) n) (schema_field (pool_rows d.pool) row) (λ f. value_valid f v) (sym found) valid) apart

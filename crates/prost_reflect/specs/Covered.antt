@@ -1,20 +1,28 @@
--- The message types that reading and writing cover so far: those whose fields have at most one scalar each, and those of schemas in which no field has a list or a map.
+-- The message types that reading and writing cover so far: those whose fields have scalars, one each or lists that hold no enum numbers, and those of schemas in which each field has one value or such a list.
 use Rattle.std.specs.Prelude.{ℕ, Bool, true, false, not, ◌&&◌, ◌||◌}
 use Rattle.std.specs.List.{list_all}
-use Rattle.prost_reflect_wire.specs.Schema.{Field, MessageType, Schema, known, is_singular, is_message}
+use Rattle.prost_reflect_wire.specs.Scalar.{Enum}
+use Rattle.prost_reflect_wire.specs.Schema.{Kind, ScalarOf, Field, MessageType, Schema, known, is_singular, is_message}
+use Rattle.prost_reflect_wire.specs.Typing.{is_repeated as is_list}
 use Rattle.prost_reflect_tables.specs.declared.tables.Cardinality.{Cardinality}
 use Rattle.prost_reflect_tables.specs.declared.tables.Cardinality.TheVariants.{Repeated}
 use Rattle.prost_reflect_tables.specs.declared.tables.TableKind.{TableKind}
-use Rattle.prost_reflect_tables.specs.declared.tables.TableKind.TheVariants.{Message}
+use Rattle.prost_reflect_tables.specs.declared.tables.TableKind.TheVariants.{Message, Enum as EnumAt}
 use Rattle.prost_reflect_tables.specs.Rows.{FieldRow, MessageRow}
 
--- At most one value.
-abbrev pub field_covered : Field → Bool
-field_covered f = is_singular f.form
+-- Neither an enum nor a message.
+abbrev pub is_plain : Kind → Bool
+is_plain (ScalarOf (Enum first numbers)) = false
+is_plain (ScalarOf kind) = true
+is_plain kind = false
 
--- And this one a scalar.
+-- One value, or a list of plain scalars.
+abbrev pub field_covered : Field → Bool
+field_covered f = is_singular f.form || (is_list f.form && is_plain f.value_type.kind)
+
+-- And no message.
 abbrev pub field_flat : Field → Bool
-field_flat f = is_singular f.form && not (is_message f.value_type.kind)
+field_flat f = field_covered f && not (is_message f.value_type.kind)
 
 -- Types may name one another in circles, so a type that has messages is covered where all types of its schema are.
 abbrev pub all_covered : Schema → Bool
@@ -29,15 +37,20 @@ abbrev pub is_repeated : Cardinality → Bool
 is_repeated Repeated = true
 is_repeated c = false
 
+abbrev pub is_plain_kind : TableKind → Bool
+is_plain_kind (Message T) = false
+is_plain_kind (EnumAt E) = false
+is_plain_kind kind = true
+
 abbrev pub names_message : TableKind → Bool
 names_message (Message T) = true
 names_message kind = false
 
 abbrev pub row_covered : FieldRow → Bool
-row_covered f = not (is_repeated f.cardinality)
+row_covered f = not (is_repeated f.cardinality) || is_plain_kind f.kind
 
 abbrev pub row_flat : FieldRow → Bool
-row_flat f = not (is_repeated f.cardinality) && not (names_message f.kind)
+row_flat f = row_covered f && not (names_message f.kind)
 
 abbrev pub message_covered : MessageRow → Bool
 message_covered m = list_all row_covered m.fields

@@ -33,3 +33,4 @@ pub mod BuiltinFiles
 pub mod Encoding
 pub mod Defaults
 pub mod Present
+pub mod Lists

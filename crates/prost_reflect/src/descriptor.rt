@@ -4,7 +4,7 @@ mod adding;
 mod builtin;
 #[cfg(test)]
 pub(crate) mod choices;
-mod covered;
+pub(crate) mod covered;
 mod enums;
 mod field;
 mod files;

@@ -27,6 +27,7 @@ mod enums;
 mod equality;
 #[cfg(test)]
 mod equality_tests;
+mod list;
 mod nested;
 mod present;
 #[cfg(test)]

@@ -113,15 +113,6 @@ pub record PackedRead (n : ℕ) (old new : List (ℕ × Found)) (body : List ℕ
   pub unpacked : unpacked Int32 body ≡ Some plains
   pub added : new ≡ old ++ under n (flat_map number_in_plain plains)
 
--- What keeps a field from being read behind its key.
-abbrev pub FieldFault : DecodeError → Field → WireType → List ℕ → Type 0
-FieldFault errors.Truncated f w bytes = PayloadEnds w bytes ⊎ PackedNext errors.Truncated f w bytes
-FieldFault errors.Varint f w bytes = PayloadPasses w bytes ⊎ PackedNext errors.Varint f w bytes
-FieldFault errors.WireType f w bytes = (w ≢ wires.EndGroup) × (takes f.form f.value_type.kind w ≡ false)
-FieldFault errors.EndGroup f w bytes = w ≡ wires.EndGroup
-FieldFault errors.Utf8 f w bytes = TextNext f w bytes
-FieldFault e f w bytes = ⊥
-
 -- BY NUMBER
 
 abbrev pub in_front : {A : Type 0} → Option A → List A → List A

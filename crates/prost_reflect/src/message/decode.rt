@@ -12,10 +12,11 @@ ghost use Rattle.prost_reflect.specs.Covered.{covered};
 ghost use Rattle.prost_reflect.specs.Descriptors.{schema_at, type_at};
 ghost use Rattle.prost_reflect.specs.Known.{known_of};
 ghost use Rattle.prost_reflect.specs.Scalars.{PlainField, StaysUnknown};
-ghost use Rattle.prost_reflect.specs.Targets.{IsTarget};
+ghost use Rattle.prost_reflect.specs.Targets.{IsTarget, target_of};
 ghost use Rattle.prost_reflect.specs.View.{content_of, descriptor_of};
 
 use crate::descriptor::MessageDescriptor;
+use crate::descriptor::covered::is_repeated;
 use crate::message::DynamicMessage;
 use crate::message::enums::is_stray;
 use crate::message::scalar::scalar_at;
@@ -30,9 +31,10 @@ impl DynamicMessage {
     /// covered (`MessageDescriptor::is_covered`).
     ///
     /// A later scalar of a field replaces an earlier one, a later message or group is read into the earlier one, and the
-    /// values of the other members of its oneof go. Records of numbers that the type lacks become unknown fields, in their
-    /// order, and so do the numbers that a closed enum does not declare (the encoding guide, "Last One Wins" and "Oneofs";
-    /// the language guide, "Unknown Fields"; the page "Enum Behavior").
+    /// values of the other members of its oneof go. The elements of a list's records stand one behind another, packed or
+    /// not. Records of numbers that the type lacks become unknown fields, in their order, and so do the numbers that a
+    /// closed enum does not declare (the encoding guide, "Last One Wins", "Oneofs" and "Packed Repeated Fields"; the
+    /// language guide, "Unknown Fields"; the page "Enum Behavior").
     ///
     /// # Errors
     ///
@@ -92,6 +94,7 @@ impl DynamicMessage {
     {
         match target_at(self.descriptor(), number.get()) {
             Target::Scalar(kind) => self.merge_scalar(alloc, number, kind, wire_type, bytes, levels),
+            Target::List(kind) => self.merge_list(alloc, number, kind, wire_type, bytes, levels),
             Target::Message(place) => {
                 self.merge_message(alloc, number, place, wire_type, bytes, levels)
             }
@@ -153,6 +156,8 @@ pub(super) enum Target {
     Unknown,
     /// A scalar of the kind.
     Scalar(TableKind),
+    /// Elements of a list of such scalars.
+    List(TableKind),
     /// A message of the type at the place.
     Message(usize),
     /// Likewise, written as a group.
@@ -165,11 +170,19 @@ fn target_at(descriptor: &MessageDescriptor, number: u32) -> Target
     ensures { IsTarget descriptor.now number result }
 {
     match descriptor.field_table(number) {
-        Some(field) => match field.kind {
-            TableKind::Message(place) if field.is_group => Target::Group(place),
-            TableKind::Message(place) => Target::Message(place),
-            kind => Target::Scalar(kind),
-        },
+        Some(field) if is_repeated(field.cardinality) => Target::List(field.kind),
+        Some(field) => value_target(field.kind, field.is_group),
         None => Target::Unknown,
+    }
+}
+
+/// What a record of a field of one value is read as.
+fn value_target(kind: TableKind, is_group: bool) -> Target
+    ensures { result ≡ target_of kind is_group }
+{
+    match kind {
+        TableKind::Message(place) if is_group => Target::Group(place),
+        TableKind::Message(place) => Target::Message(place),
+        _ => Target::Scalar(kind),
     }
 }

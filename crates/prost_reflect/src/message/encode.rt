@@ -19,9 +19,11 @@ ghost use Rattle.prost_reflect.specs.View.{value_of, content_of, descriptor_of};
 ghost use Rattle.prost_reflect.specs.Scalars.{plain_kind, TakesScalar, scalar_bytes, scalar_record_bytes, kept_scalar_bytes, is_zero, equals, is_default};
 
 use crate::descriptor::MessageDescriptor;
+use crate::descriptor::covered::is_repeated;
 use crate::fields::entry::Entry;
 use crate::message::DynamicMessage;
 use crate::message::enums::first_number;
+use crate::message::list::prepend_elements;
 use crate::message::scalar::wire_type_of;
 use crate::value::Value;
 use prost_reflect_tables::{FieldTable, TableKind, WrittenDefault};
@@ -31,7 +33,7 @@ use prost_reflect_wire::{
 use std::alloc::Global;
 
 /// Adds the payload of a scalar in front.
-fn prepend_scalar(
+pub(crate) fn prepend_scalar(
     buffer: &mut BackBuffer,
     kind: TableKind,
     value: &Value,
@@ -137,7 +139,7 @@ fn is_left_out(descriptor: &MessageDescriptor, field: &FieldTable, value: &Value
 }
 
 /// Adds the record of a scalar in front.
-fn prepend_scalar_record(
+pub(crate) fn prepend_scalar_record(
     buffer: &mut BackBuffer,
     number: u32,
     kind: TableKind,
@@ -151,7 +153,7 @@ fn prepend_scalar_record(
 }
 
 /// Adds a key in front.
-fn prepend_key(
+pub(crate) fn prepend_key(
     buffer: &mut BackBuffer,
     number: u32,
     wire_type: WireType,
@@ -236,6 +238,9 @@ fn prepend_value(
     ensures { Prepended result (bytes_of buffer.old) (bytes_of buffer.new) (value_bytes (known_of descriptor.now) number (value_of value.now)) }
 {
     match descriptor.field_table(number) {
+        Some(field) if is_repeated(field.cardinality) => {
+            prepend_elements(buffer, descriptor, number, field, value)
+        }
         Some(field) => match value {
             Value::Message(message) => prepend_message(buffer, number, field.is_group, message),
             _ => prepend_kept_scalar(buffer, descriptor, number, field, value),

@@ -1,4 +1,4 @@
-use Rattle.std.proofs.Common.{rules, ◌≡◌, Some, ap, inl, inr, ◌⊎◌, arith}
+use Rattle.std.proofs.Common.{rules, ◌≡◌, Some, ap, sym, ◌∙◌, inl, inr, ◌⊎◌, arith}
 use Rattle.std.proofs.lemmas.Result.{err_from_is_err_and}
 use Rattle.prost_reflect_tables.specs.Rows.{field_row}
 use Rattle.prost_reflect_wire.specs.declared.unknown.UnknownFieldSet.{UnknownFieldSet}
@@ -10,6 +10,7 @@ use Rattle.prost_reflect.specs.Entries.{value_in}
 use Rattle.prost_reflect.proofs.Encodings.{whole_written, entry_writable, unknown_too_long, value_too_long}
 use Rattle.prost_reflect.proofs.NestedWrites.{nested_written, no_message_value}
 use Rattle.prost_reflect.proofs.WrittenValues.{row_written}
+use Rattle.prost_reflect.proofs.WrittenLists.{valid_list_value}
 use Rattle.prost_reflect.proofs.message.encode.+writing.Goals as goal
 
 one_value : (e : Entry Value) (v : Value) → (e ≡ entries.Value v) ⊎ ((u : UnknownFieldSet) × (e ≡ entries.Both v u)) → value_in e ≡ Some v
@@ -48,16 +49,19 @@ prepend_body-returns-in_err-prepend_value-in-Value t c =
 pub prepend_body-returns : goal.prepend_body-returns
 prepend_body-returns t c = whole_written c.args.message.now c.loop-index.index _ _ (omega (arith, c.loop-index-test.false)) c.loop-index.invariant
 
+pub prepend_value-prepend_elements-requires-clause-list : goal.prepend_value-prepend_elements-requires-clause-list
+prepend_value-prepend_elements-requires-clause-list t c = valid_list_value c.args.descriptor.now c.args.number (field_row c.in-Some.field.now) (value_of c.args.value.now) c.requires.plain c.in-Some.ensures.field (sym c.is_repeated.ensures ∙ c.if-is_repeated.true) c.requires.writable.valid
+
 pub prepend_value-prepend_message-requires : goal.prepend_value-prepend_message-requires
 prepend_value-prepend_message-requires t c =
-    let w = nested_written c.args.descriptor.now c.args.number (field_row c.in-Some.field.now) c.args.value.now c.in-Message.message c.requires.plain c.in-Some.ensures.field c.requires.writable c.in-Message.is in
+    let w = nested_written c.args.descriptor.now c.args.number (field_row c.in-Some.field.now) c.args.value.now c.in-Message.message c.requires.plain (sym c.is_repeated.ensures ∙ c.if-is_repeated.false) c.in-Some.ensures.field c.requires.writable c.in-Message.is in
     (search (rules, the_lemmas), (w.plain, (w.fits, w.types)))
 
 pub prepend_value-returns-in-Message : goal.prepend_value-returns-in-Message
-prepend_value-returns-in-Message t c = rw (nested_written c.args.descriptor.now c.args.number (field_row c.in-Some.field.now) c.args.value.now c.in-Message.message c.requires.plain c.in-Some.ensures.field c.requires.writable c.in-Message.is).bytes c.prepend_message.ensures
+prepend_value-returns-in-Message t c = rw (nested_written c.args.descriptor.now c.args.number (field_row c.in-Some.field.now) c.args.value.now c.in-Message.message c.requires.plain (sym c.is_repeated.ensures ∙ c.if-is_repeated.false) c.in-Some.ensures.field c.requires.writable c.in-Message.is).bytes c.prepend_message.ensures
 
 pub prepend_value-prepend_kept_scalar-requires : goal.prepend_value-prepend_kept_scalar-requires
-prepend_value-prepend_kept_scalar-requires t c = (row_written c.args.descriptor.now c.args.number (field_row c.in-Some.field.now) (value_of c.args.value.now) c.requires.plain c.in-Some.ensures.field c.requires.writable.valid (no_message_value c.args.value.now c.in_default.not-Message)).takes
+prepend_value-prepend_kept_scalar-requires t c = (row_written c.args.descriptor.now c.args.number (field_row c.in-Some.field.now) (value_of c.args.value.now) (sym c.is_repeated.ensures ∙ c.if-is_repeated.false) c.in-Some.ensures.field c.requires.writable.valid (no_message_value c.args.value.now c.in_default.not-Message)).takes
 
 pub prepend_value-returns-in_default : goal.prepend_value-returns-in_default
-prepend_value-returns-in_default t c = rw (row_written c.args.descriptor.now c.args.number (field_row c.in-Some.field.now) (value_of c.args.value.now) c.requires.plain c.in-Some.ensures.field c.requires.writable.valid (no_message_value c.args.value.now c.in_default.not-Message)).bytes c.prepend_kept_scalar.ensures
+prepend_value-returns-in_default t c = rw (row_written c.args.descriptor.now c.args.number (field_row c.in-Some.field.now) (value_of c.args.value.now) (sym c.is_repeated.ensures ∙ c.if-is_repeated.false) c.in-Some.ensures.field c.requires.writable.valid (no_message_value c.args.value.now c.in_default.not-Message)).bytes c.prepend_kept_scalar.ensures
