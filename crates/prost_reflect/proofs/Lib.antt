@@ -20,12 +20,16 @@ pub mod Slots
 pub mod Stored
 pub mod Merging
 pub mod NestedReads
+pub mod MapEntries
+pub mod MapMerging
+pub mod MapRows
 pub mod ContentChanges
 mod KeptSlots
 pub mod Described
 pub mod Zeros
 pub mod WrittenValues
 pub mod NestedWrites
+pub mod WrittenMaps
 pub mod Encodings
 pub mod Present
 pub mod Defaults

@@ -24,6 +24,8 @@ pub mod Stored
 pub mod Same
 pub mod formers
 pub mod Scalars
+pub mod MapParts
+pub mod Maps
 pub mod Covered
 pub mod Targets
 pub mod Held

@@ -9,6 +9,7 @@ mod enums;
 mod field;
 mod files;
 mod kind;
+mod maps;
 mod message;
 mod pool;
 #[cfg(test)]

@@ -104,7 +104,7 @@ pub kept_list : (f : Field) (x : Bool) (vs : Values) → f.form ≡ Repeated x �
 kept_list f x NoValues e = kept_by f (Repeated x) (ListValue NoValues) e
 kept_list f x (Item v vs) e = kept_by f (Repeated x) (ListValue (Item v vs)) e
 
-kept_map : (f : Field) (key : ValueType) (ps : Pairs) → f.form ≡ MapFrom key → kept_value (Some f) (MapValue ps) ≡ present_map ps
+pub kept_map : (f : Field) (key : ValueType) (ps : Pairs) → f.form ≡ MapFrom key → kept_value (Some f) (MapValue ps) ≡ present_map ps
 kept_map f key NoPairs e = kept_by f (MapFrom key) (MapValue NoPairs) e
 kept_map f key (Pair k v ps) e = kept_by f (MapFrom key) (MapValue (Pair k v ps)) e
 

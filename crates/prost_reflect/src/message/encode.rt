@@ -67,7 +67,7 @@ pub(crate) fn prepend_scalar(
 }
 
 /// Adds a length and the bytes in front.
-fn prepend_delimited(buffer: &mut BackBuffer, body: &[u8]) -> Result<(), EncodeError>
+pub(crate) fn prepend_delimited(buffer: &mut BackBuffer, body: &[u8]) -> Result<(), EncodeError>
     ensures { Prepended result (bytes_of buffer.old) (bytes_of buffer.new) (short_plain (Len body.now)) }
 {
     buffer.prepend(body)?;

@@ -1,0 +1,101 @@
+-- What the rows of a map field say of it.
+use Rattle.std.proofs.Common.{◌≡◌, ℕ, Bool, true, false, not, List, [], ◌∷◌, Option, Some, None, refl, sym, ap, ◌∙◌, true≢false}
+use Rattle.std.specs.Prelude.{slice_get}
+use Rattle.prost_reflect_wire.specs.Scalar.{ScalarKind, Double, Float, BytesKind, Enum}
+use Rattle.prost_reflect_wire.specs.Schema.{Kind, ScalarOf, MessageOf, GroupOf, ValueType, MapFrom, Field, field_of, is_key_kind, field_valid, passes}
+use Rattle.prost_reflect_wire.specs.Content.{MapValue}
+use Rattle.prost_reflect_wire.specs.Typing.{value_valid}
+use Rattle.prost_reflect_wire.proofs.ScalarEntries.{field_checked, map_keyed, map_alone, map_key_default}
+use Rattle.prost_reflect_tables.specs.declared.tables.Cardinality.{Cardinality}
+use Rattle.prost_reflect_tables.specs.declared.tables.Cardinality.TheVariants.{Optional, Required, Repeated as RepeatedLabel}
+use Rattle.prost_reflect_tables.specs.Rows.{FieldRow, MessageRow, TableRows}
+use Rattle.prost_reflect_tables.specs.Shown.{schema_kind, schema_default, own_type, type_or, map_entry, form_of, value_type_of, schema_field}
+use Rattle.prost_reflect_tables.proofs.Keeping.{schema_is_valid}
+use Rattle.prost_reflect.specs.declared.descriptor.message.MessageDescriptor.{MessageDescriptor}
+use Rattle.prost_reflect.specs.declared.value.MapKey.{MapKey}
+use Rattle.prost_reflect.specs.declared.value.Value.{Value}
+use Rattle.prost_reflect.specs.Pools.{pool_rows}
+use Rattle.prost_reflect.specs.Descriptors.{schema_at, type_at}
+use Rattle.prost_reflect.specs.Known.{known_of}
+use Rattle.prost_reflect.specs.Covered.{is_plain, is_plain_kind}
+use Rattle.prost_reflect.specs.ContentLaws.{pairs_shown}
+use Rattle.prost_reflect.specs.MapParts.{two_of, entry_parts, map_parts}
+use Rattle.prost_reflect.specs.Maps.{PlainMap}
+use Rattle.prost_reflect.proofs.Covering as covering
+use Rattle.prost_reflect.proofs.PlainKinds.{PlainKind, kind_plain}
+use Rattle.prost_reflect.proofs.WrittenValues.{passing}
+use Rattle.prost_reflect.proofs.WrittenMaps.{PartRow, MapWritten, map_of_kinds}
+
+-- the types of a map's keys and values are those of its entry's fields
+record ShownMap (rows : TableRows) (f : Field) (key value : FieldRow) : Type 0 where
+  pub form : f.form ≡ MapFrom (own_type rows.enums key)
+  pub type : f.value_type ≡ own_type rows.enums value
+
+shown_map : (rows : TableRows) (f key value : FieldRow) → map_parts rows f ≡ Some (key, value) → ShownMap rows (schema_field rows f) key value
+shown_map rows f key value h = let (form, type) = go f.cardinality h in record { form = form; type = type }
+  where
+    two : (fields : List FieldRow) → two_of fields ≡ Some (key, value) → (MapFrom (type_or rows.enums f (slice_get fields 0)) ≡ MapFrom (own_type rows.enums key)) × (type_or rows.enums f (slice_get fields 1) ≡ own_type rows.enums value)
+    two (k ∷ v ∷ []) h = (ap (λ (o : Option (FieldRow × FieldRow)). MapFrom (own_type rows.enums (elim o [ None ↦ k | Some p ↦ p.0 ]))) h, ap (λ (o : Option (FieldRow × FieldRow)). own_type rows.enums (elim o [ None ↦ v | Some p ↦ p.1 ])) h)
+    two [] h = cc
+    two (k ∷ []) h = cc
+    two (k ∷ v ∷ w ∷ fields) h = cc
+
+    by : (o : Option MessageRow) → entry_parts o ≡ Some (key, value) → (form_of rows.enums f RepeatedLabel o ≡ MapFrom (own_type rows.enums key)) × (value_type_of rows.enums f o ≡ own_type rows.enums value)
+    by None h = cc
+    by (Some m) h = two m.fields h
+
+    go : (c : Cardinality) → entry_parts (map_entry rows.messages f c) ≡ Some (key, value) → (form_of rows.enums f c (map_entry rows.messages f c) ≡ MapFrom (own_type rows.enums key)) × (value_type_of rows.enums f (map_entry rows.messages f c) ≡ own_type rows.enums value)
+    go Optional h = cc
+    go Required h = cc
+    go RepeatedLabel h = by (map_entry rows.messages f RepeatedLabel) h
+
+-- kinds of keys are plain
+key_plain : (kind : Kind) → is_key_kind kind ≡ true → is_plain kind ≡ true
+key_plain (ScalarOf (Enum first numbers)) h = absurd (true≢false (sym h))
+key_plain (ScalarOf kind) h = refl
+key_plain (MessageOf T) h = absurd (true≢false (sym h))
+key_plain (GroupOf T) h = absurd (true≢false (sym h))
+
+module _ (d : MessageDescriptor) (n : ℕ) (row key value : FieldRow) (found : Some (schema_field (pool_rows d.pool) row) ≡ field_of (known_of d) n) (parts : map_parts (pool_rows d.pool) row ≡ Some (key, value)) (plain : is_plain_kind value.kind ≡ true) where
+  abbrev rows : TableRows
+  rows = pool_rows d.pool
+
+  abbrev field : Field
+  field = schema_field (pool_rows d.pool) row
+
+  shown : ShownMap (pool_rows d.pool) (schema_field (pool_rows d.pool) row) key value
+  shown = shown_map (pool_rows d.pool) row key value parts
+
+  checked : field_valid (schema_at d) (schema_field (pool_rows d.pool) row) ≡ true
+  checked = field_checked (schema_at d) (type_at d) n (schema_field (pool_rows d.pool) row) (schema_is_valid (pool_rows d.pool) d.pool.inner.value.tables.linked) (sym found)
+
+  key_kind : PlainKind key.kind (schema_kind (pool_rows d.pool).enums key.kind key.is_group)
+  key_kind = kind_plain (pool_rows d.pool).enums key.is_group key.kind (key_plain (schema_kind (pool_rows d.pool).enums key.kind key.is_group) (map_keyed (schema_at d) field (own_type (pool_rows d.pool).enums key) checked shown.form))
+
+  value_kind : PlainKind value.kind (schema_kind (pool_rows d.pool).enums value.kind value.is_group)
+  value_kind = kind_plain (pool_rows d.pool).enums value.is_group value.kind (covering.plain_kind (pool_rows d.pool).enums value.kind value.is_group ∙ plain)
+
+  pub plain_map : PlainMap (known_of d) n key.kind value.kind
+  plain_map = record {
+    field = field;
+    key_type = own_type (pool_rows d.pool).enums key;
+    key_scalar = key_kind.scalar;
+    value_scalar = value_kind.scalar;
+    found = sym found;
+    form = shown.form;
+    key_plain = key_kind.named;
+    key_is = key_kind.is;
+    value_plain = value_kind.named;
+    value_is = ap (λ (t : ValueType). t.kind) shown.type ∙ value_kind.is;
+    alone = map_alone (schema_at d) field (own_type (pool_rows d.pool).enums key) checked shown.form;
+  }
+
+  part_row : (r : FieldRow) (kind : PlainKind r.kind (schema_kind (pool_rows d.pool).enums r.kind r.is_group)) → is_plain (schema_kind (pool_rows d.pool).enums r.kind r.is_group) ≡ true → PartRow r (own_type (pool_rows d.pool).enums r) kind.scalar
+  part_row r kind h = record { named = kind.named; is = kind.is; plain = ap is_plain (sym kind.is) ∙ h; presence = refl; default = ap (λ kind. schema_default r.default kind) kind.is }
+
+  pub map_row_written : (es : List (MapKey × Value)) → passes (field_of (known_of d) n) (λ f. value_valid f (MapValue (pairs_shown es))) ≡ true → MapWritten (known_of d) n key value es
+  map_row_written es h = map_of_kinds n key value (own_type (pool_rows d.pool).enums key) (own_type (pool_rows d.pool).enums value) key_kind.scalar value_kind.scalar
+      (part_row key key_kind (key_plain (schema_kind (pool_rows d.pool).enums key.kind key.is_group) (map_keyed (schema_at d) field (own_type (pool_rows d.pool).enums key) checked shown.form)))
+      (part_row value value_kind (covering.plain_kind (pool_rows d.pool).enums value.kind value.is_group ∙ plain))
+      (map_key_default (schema_at d) field (own_type (pool_rows d.pool).enums key) key_kind.scalar checked shown.form key_kind.is)
+      (known_of d) field es (sym found) shown.form shown.type (passing (field_of (known_of d) n) field (λ f. value_valid f (MapValue (pairs_shown es))) (sym found) h)
