@@ -1,19 +1,17 @@
 -- What the rows say of a covered type, the schema says.
-use Rattle.std.proofs.Common.{◌≡◌, ℕ, zero, suc, Bool, true, false, not, ◌&&◌, ◌||◌, List, [], ◌∷◌, map, Option, Some, None, cond, subst, refl, sym, ap, ap₂, ◌∙◌}
+use Rattle.std.proofs.Common.{◌≡◌, ℕ, zero, suc, Bool, true, false, not, ◌&&◌, ◌||◌, List, [], ◌∷◌, map, Option, Some, None, cond, subst, refl, sym, ap, ap₂, ◌∙◌, true≢false}
 use Rattle.std.specs.Prelude.{nat_eq, slice_get}
 use Rattle.std.specs.List.{list_all}
-use Rattle.prost_reflect_wire.specs.Schema.{ScalarOf, Field, MessageType, Schema, known, field_of, is_singular, is_message}
-use Rattle.prost_reflect_wire.specs.Typing.{is_repeated as is_list}
+use Rattle.prost_reflect_wire.specs.Schema.{ScalarOf, ValueType, Field, MessageType, Schema, known, field_of, is_singular, is_message}
 use Rattle.prost_reflect_tables.specs.declared.tables.Cardinality.{Cardinality}
 use Rattle.prost_reflect_tables.specs.declared.tables.Cardinality.TheVariants.{Optional, Required, Repeated}
 use Rattle.prost_reflect_tables.specs.declared.tables.TableKind.{TableKind}
 use Rattle.prost_reflect_tables.specs.declared.tables.TableKind.TheVariants.{Message, Enum}
-use Rattle.prost_reflect_tables.specs.declared.tables.FieldTable.{FieldTable}
-use Rattle.prost_reflect_tables.specs.declared.tables.MessageTable.{MessageTable}
-use Rattle.prost_reflect_tables.specs.Rows.{FieldRow, MessageRow, EnumRow, TableRows, field_row, message_row}
+use Rattle.prost_reflect_tables.specs.Rows.{FieldRow, MessageRow, EnumRow, TableRows}
 use Rattle.prost_reflect_tables.specs.Places.{fields_at}
-use Rattle.prost_reflect_tables.specs.Shown.{schema_from, schema_message, schema_field, schema_kind, enum_kind, map_entry, entry_at, form_of, value_type_of}
+use Rattle.prost_reflect_tables.specs.Shown.{schema_from, schema_message, schema_field, schema_kind, enum_kind, own_type, type_or, map_entry, entry_at, form_of, value_type_of}
 use Rattle.prost_reflect_tables.proofs.Fields.{known_rows}
+use Rattle.prost_reflect.specs.MapParts.{two_of, entry_parts, map_parts, value_row}
 use Rattle.prost_reflect.specs.Covered.{covered, is_plain, is_plain_kind, all_covered, field_covered, field_flat, row_covered, row_flat, message_covered, is_repeated, names_message}
 
 pub message_kind : (enums : List EnumRow) (kind : TableKind) (g : Bool) → is_message (schema_kind enums kind g) ≡ names_message kind
@@ -21,7 +19,7 @@ message_kind enums (Message T) true = refl
 message_kind enums (Message T) false = refl
 message_kind enums kind g = refl
 
-plain_kind : (enums : List EnumRow) (kind : TableKind) (g : Bool) → is_plain (schema_kind enums kind g) ≡ is_plain_kind kind
+pub plain_kind : (enums : List EnumRow) (kind : TableKind) (g : Bool) → is_plain (schema_kind enums kind g) ≡ is_plain_kind kind
 plain_kind enums (Enum E) g = of (slice_get enums E)
   where
     of : (o : Option EnumRow) → is_plain (ScalarOf (enum_kind o)) ≡ false
@@ -32,69 +30,75 @@ plain_kind enums (Message T) false = refl
 plain_kind enums kind g = refl
 
 -- A map's kind is that of its entries, which is no plain one.
-entry_kind : (messages : List MessageRow) (f : FieldRow) (entry : MessageRow) → map_entry messages f Repeated ≡ Some entry → is_plain_kind f.kind ≡ false
-entry_kind messages f entry e = go f.is_group f.kind e
+pub no_entry : (messages : List MessageRow) (f : FieldRow) (c : Cardinality) → is_plain_kind f.kind ≡ true → map_entry messages f c ≡ None
+no_entry messages f Optional h = refl
+no_entry messages f Required h = refl
+no_entry messages f Repeated h = go f.is_group f.kind h
   where
-    go : (g : Bool) (kind : TableKind) → cond g None (entry_at messages kind) ≡ Some entry → is_plain_kind kind ≡ false
-    go true kind e = cc
-    go false (Message T) e = refl
-    go false kind e = cc
+    go : (g : Bool) (kind : TableKind) → is_plain_kind kind ≡ true → cond g None (entry_at messages kind) ≡ None
+    go true kind h = refl
+    go false (Message T) h = absurd (true≢false (sym h))
+    go false kind h = refl
 
--- A row that is no map is shown by its own kind.
-covered_with : (rows : TableRows) (f : FieldRow) (c : Cardinality) →
-    (not (is_repeated c) || is_plain_kind f.kind)
-    ≡ (is_singular (form_of rows.enums f c (map_entry rows.messages f c)) || (is_list (form_of rows.enums f c (map_entry rows.messages f c)) && is_plain (value_type_of rows.enums f (map_entry rows.messages f c)).kind))
-covered_with rows f Optional = refl
-covered_with rows f Required = refl
-covered_with rows f Repeated = go (map_entry rows.messages f Repeated) refl
+-- Values are of the type of their row.
+value_shown : (rows : TableRows) (f : FieldRow) → (schema_field rows f).value_type ≡ own_type rows.enums (value_row (map_parts rows f) f)
+value_shown rows f = go (map_entry rows.messages f f.cardinality)
   where
-    go : (entry : Option MessageRow) → map_entry rows.messages f Repeated ≡ entry → is_plain_kind f.kind ≡ (is_singular (form_of rows.enums f Repeated entry) || (is_list (form_of rows.enums f Repeated entry) && is_plain (value_type_of rows.enums f entry).kind))
-    go None e = sym (plain_kind rows.enums f.kind f.is_group)
-    go (Some entry) e = entry_kind rows.messages f entry e
+    two : (fields : List FieldRow) → type_or rows.enums f (slice_get fields 1) ≡ own_type rows.enums (value_row (two_of fields) f)
+    two [] = refl
+    two (k ∷ []) = refl
+    two (k ∷ v ∷ fields) = refl
 
-covered_row : (rows : TableRows) (f : FieldRow) → row_covered f ≡ field_covered (schema_field rows f)
-covered_row rows f = covered_with rows f f.cardinality
+    go : (o : Option MessageRow) → value_type_of rows.enums f o ≡ own_type rows.enums (value_row (entry_parts o) f)
+    go None = refl
+    go (Some m) = two m.fields
 
-flat_with : (rows : TableRows) (f : FieldRow) (c : Cardinality) →
-    (not (is_repeated c) || is_plain_kind f.kind) && not (names_message f.kind)
-    ≡ ((is_singular (form_of rows.enums f c (map_entry rows.messages f c)) || (is_list (form_of rows.enums f c (map_entry rows.messages f c)) && is_plain (value_type_of rows.enums f (map_entry rows.messages f c)).kind))
-        && not (is_message (value_type_of rows.enums f (map_entry rows.messages f c)).kind))
-flat_with rows f Optional = ap not (sym (message_kind rows.enums f.kind f.is_group))
-flat_with rows f Required = ap not (sym (message_kind rows.enums f.kind f.is_group))
-flat_with rows f Repeated = go (map_entry rows.messages f Repeated) refl
+-- A field that is not repeated has one value.
+single_shown : (rows : TableRows) (f : FieldRow) → not (is_repeated f.cardinality) ≡ is_singular (schema_field rows f).form
+single_shown rows f = go f.cardinality
   where
-    go : (entry : Option MessageRow) → map_entry rows.messages f Repeated ≡ entry → is_plain_kind f.kind && not (names_message f.kind)
-        ≡ ((is_singular (form_of rows.enums f Repeated entry) || (is_list (form_of rows.enums f Repeated entry) && is_plain (value_type_of rows.enums f entry).kind)) && not (is_message (value_type_of rows.enums f entry).kind))
-    go None e = ap₂ (λ a b. a && not b) (sym (plain_kind rows.enums f.kind f.is_group)) (sym (message_kind rows.enums f.kind f.is_group))
-    go (Some entry) e = ap (λ b. b && not (names_message f.kind)) (entry_kind rows.messages f entry e)
+    many : (entry : Option MessageRow) → false ≡ is_singular (form_of rows.enums f Repeated entry)
+    many None = refl
+    many (Some m) = refl
 
-flat_row : (rows : TableRows) (f : FieldRow) → row_flat f ≡ field_flat (schema_field rows f)
-flat_row rows f = flat_with rows f f.cardinality
+    go : (c : Cardinality) → not (is_repeated c) ≡ is_singular (form_of rows.enums f c (map_entry rows.messages f c))
+    go Optional = refl
+    go Required = refl
+    go Repeated = many (map_entry rows.messages f Repeated)
 
-flat_rows : (rows : TableRows) (fields : List FieldTable) → list_all (λ f. row_flat (field_row f)) fields ≡ list_all field_flat (map (schema_field rows) (map field_row fields))
+plain_shown : (rows : TableRows) (f : FieldRow) → is_plain_kind (value_row (map_parts rows f) f).kind ≡ is_plain (schema_field rows f).value_type.kind
+plain_shown rows f =
+    let row : FieldRow = value_row (map_parts rows f) f in
+    sym (ap (λ (t : ValueType). is_plain t.kind) (value_shown rows f) ∙ plain_kind rows.enums row.kind row.is_group)
+
+covered_row : (rows : TableRows) (f : FieldRow) → row_covered rows f ≡ field_covered (schema_field rows f)
+covered_row rows f = ap₂ (λ a b. a || b) (single_shown rows f) (plain_shown rows f)
+
+flat_row : (rows : TableRows) (f : FieldRow) → row_flat rows f ≡ field_flat (schema_field rows f)
+flat_row rows f =
+    let row : FieldRow = value_row (map_parts rows f) f in
+    ap₂ (λ a b. a && not b) (covered_row rows f) (sym (ap (λ (t : ValueType). is_message t.kind) (value_shown rows f) ∙ message_kind rows.enums row.kind row.is_group))
+
+-- A covered row that is repeated has plain scalars.
+pub covered_values : (rows : TableRows) (f : FieldRow) → field_covered (schema_field rows f) ≡ true → is_repeated f.cardinality ≡ true → is_plain_kind (value_row (map_parts rows f) f).kind ≡ true
+covered_values rows f h many = ap (λ b. not b || is_plain_kind (value_row (map_parts rows f) f).kind) (sym many) ∙ covered_row rows f ∙ h
+
+flat_rows : (rows : TableRows) (fields : List FieldRow) → list_all (row_flat rows) fields ≡ list_all field_flat (map (schema_field rows) fields)
 flat_rows rows [] = refl
-flat_rows rows (f ∷ fields) = rw (flat_row rows (field_row f), flat_rows rows fields) refl
+flat_rows rows (f ∷ fields) = ap₂ (λ a b. a && b) (flat_row rows f) (flat_rows rows fields)
 
-pub fields_flat : (rows : TableRows) (T : ℕ) (fields : List FieldTable) → map field_row fields ≡ fields_at rows T → list_all (λ f. row_flat (field_row f)) fields ≡ list_all field_flat (known (schema_from rows) T)
+pub fields_flat : (rows : TableRows) (T : ℕ) (fields : List FieldRow) → fields ≡ fields_at rows T → list_all (row_flat rows) fields ≡ list_all field_flat (known (schema_from rows) T)
 fields_flat rows T fields e = flat_rows rows fields ∙ ap (list_all field_flat) (ap (map (schema_field rows)) e ∙ sym (known_rows rows T))
 
-covered_rows : (rows : TableRows) (fields : List FieldRow) → list_all row_covered fields ≡ list_all field_covered (map (schema_field rows) fields)
+covered_rows : (rows : TableRows) (fields : List FieldRow) → list_all (row_covered rows) fields ≡ list_all field_covered (map (schema_field rows) fields)
 covered_rows rows [] = refl
-covered_rows rows (f ∷ fields) = rw (covered_row rows f, covered_rows rows fields) refl
+covered_rows rows (f ∷ fields) = ap₂ (λ a b. a && b) (covered_row rows f) (covered_rows rows fields)
 
-messages_covered : (rows : TableRows) (messages : List MessageRow) → list_all message_covered messages ≡ list_all (λ (m : MessageType). list_all field_covered m.known) (map (schema_message rows) messages)
+messages_covered : (rows : TableRows) (messages : List MessageRow) → list_all (message_covered rows) messages ≡ list_all (λ (m : MessageType). list_all field_covered m.known) (map (schema_message rows) messages)
 messages_covered rows [] = refl
-messages_covered rows (m ∷ messages) = rw (covered_rows rows m.fields, messages_covered rows messages) refl
+messages_covered rows (m ∷ messages) = ap₂ (λ a b. a && b) (covered_rows rows m.fields) (messages_covered rows messages)
 
-pub rows_all : (fields : List FieldTable) → list_all (λ f. row_covered (field_row f)) fields ≡ list_all row_covered (map field_row fields)
-rows_all [] = refl
-rows_all (f ∷ fields) = rw (rows_all fields) refl
-
-pub tables_all : (messages : List MessageTable) → list_all (λ m. message_covered (message_row m)) messages ≡ list_all message_covered (map message_row messages)
-tables_all [] = refl
-tables_all (m ∷ messages) = rw (tables_all messages) refl
-
-pub schema_covered : (rows : TableRows) → list_all message_covered rows.messages ≡ all_covered (schema_from rows)
+pub schema_covered : (rows : TableRows) → list_all (message_covered rows) rows.messages ≡ all_covered (schema_from rows)
 unfolding schema_from
 schema_covered rows = messages_covered rows rows.messages
 
@@ -153,13 +157,3 @@ covered_further schema T n U f h e names = go (list_all field_flat (known schema
     go : (b : Bool) → list_all field_flat (known schema T) ≡ b → (b || all_covered schema) ≡ true → (list_all field_flat (known schema U) || all_covered schema) ≡ true
     go true flat h = absurd (no (is_message f.value_type.kind) names (and_right (field_covered f) _ (passing_field field_flat (known schema T) n f flat e)))
     go false flat h = or_second (list_all field_flat (known schema U)) (all_covered schema) h
-
--- A covered field that is repeated has a list of plain scalars.
-pub record PlainList (f : Field) : Type 0 where
-  pub listed : is_list f.form ≡ true
-  pub plain : is_plain f.value_type.kind ≡ true
-
-pub covered_list : (f : Field) → field_covered f ≡ true → is_singular f.form ≡ false → PlainList f
-covered_list f h one =
-    let both : is_list f.form && is_plain f.value_type.kind ≡ true = ap (λ b. b || (is_list f.form && is_plain f.value_type.kind)) (sym one) ∙ h in
-    record { listed = and_left (is_list f.form) _ both; plain = and_right (is_list f.form) _ both }

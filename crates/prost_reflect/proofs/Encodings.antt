@@ -121,7 +121,7 @@ writable_entries schema fields (e ∷ es) h t own = (
     own = own.0;
   },
   writable_entries schema fields es (behind_unknowns fit_test fields e.0 (slot_of (shown_entry e.1)).unknowns (entries_from (shown es)) (behind_value fit_test fields e.0 (slot_of (shown_entry e.1)).value _ h))
-  (typed_behind schema fields e.0 (slot_of (shown_entry e.1)) (entries_from (shown es)) t) own.1,
+      (typed_behind schema fields e.0 (slot_of (shown_entry e.1)) (entries_from (shown es)) t) own.1,
 )
 
 pub writable_message : (m : DynamicMessage) → encodable (content_of m) ≡ true → Typed (content_of m) → IsAscending (stored_in m) → IsSound (descriptor_of m) (stored_in m) → AreWritable (schema_at (descriptor_of m)) (known_of (descriptor_of m)) (stored_in m)

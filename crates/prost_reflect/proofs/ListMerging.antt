@@ -24,17 +24,16 @@ use Rattle.prost_reflect_tables.specs.declared.tables.TableKind.{TableKind}
 use Rattle.prost_reflect.specs.declared.message.DynamicMessage.{DynamicMessage}
 use Rattle.prost_reflect.specs.declared.value.Value.{Value}
 use Rattle.prost_reflect.specs.declared.value.Value as values
-use Rattle.prost_reflect.specs.Descriptors.{schema_at, type_at}
+use Rattle.prost_reflect.specs.Descriptors.{schema_at}
 use Rattle.prost_reflect.specs.Known.{known_of}
 use Rattle.prost_reflect.specs.View.{value_of, content_of, descriptor_of}
 use Rattle.prost_reflect.specs.Contents.{value_set}
-use Rattle.prost_reflect.specs.Covered.{covered, is_repeated}
+use Rattle.prost_reflect.specs.Covered.{is_plain_kind, is_repeated}
 use Rattle.prost_reflect_tables.specs.Rows.{FieldRow}
 use Rattle.prost_reflect_tables.specs.Shown.{schema_field}
 use Rattle.prost_reflect.specs.Pools.{pool_rows}
 use Rattle.prost_reflect.specs.declared.descriptor.message.MessageDescriptor.{MessageDescriptor}
-use Rattle.prost_reflect.proofs.Covering.{covered_field, covered_list}
-use Rattle.prost_reflect.proofs.PlainKinds.{plain_row, list_row, repeated_row}
+use Rattle.prost_reflect.proofs.PlainKinds.{plain_row, list_row}
 use Rattle.prost_reflect.proofs.Described.{found_checked}
 use Rattle.prost_reflect.specs.Lists.{AddsElements, RefusesElements, JoinsElements, IsList, ListField}
 use Rattle.prost_reflect.proofs.Views.{value_of_list}
@@ -85,12 +84,11 @@ values_or : (o : Option contents.Value) → values_in (Some (unwrap_or o (ListVa
 values_or None = refl
 values_or (Some v) = refl
 
--- a repeated row of a covered type is a list
-pub list_field : (d : MessageDescriptor) (n : ℕ) (row : FieldRow) → covered (schema_at d) (type_at d) ≡ true → field_of (known_of d) n ≡ Some (schema_field (pool_rows d.pool) row) → is_repeated row.cardinality ≡ true → ListField (known_of d) n row.kind
-list_field d n row h found many =
-    let parts = covered_list (schema_field (pool_rows d.pool) row) (covered_field (schema_at d) (type_at d) n (schema_field (pool_rows d.pool) row) h found) (repeated_row (pool_rows d.pool) row many) in
-    let kind = plain_row (pool_rows d.pool) row many parts.listed parts.plain in
-    let form : (schema_field (pool_rows d.pool) row).form ≡ Repeated row.is_packed = list_row (pool_rows d.pool) row many parts.listed in
+-- a repeated row of a plain kind is a list
+pub list_field : (d : MessageDescriptor) (n : ℕ) (row : FieldRow) → field_of (known_of d) n ≡ Some (schema_field (pool_rows d.pool) row) → is_repeated row.cardinality ≡ true → is_plain_kind row.kind ≡ true → ListField (known_of d) n row.kind
+list_field d n row found many plain =
+    let kind = plain_row (pool_rows d.pool) row plain in
+    let form : (schema_field (pool_rows d.pool) row).form ≡ Repeated row.is_packed = list_row (pool_rows d.pool) row many plain in
     let checked = checked_list (schema_at d) (schema_field (pool_rows d.pool) row) row.is_packed (checked_field (schema_at d) (schema_field (pool_rows d.pool) row) (found_checked d n (schema_field (pool_rows d.pool) row) found)) form in
     record {
       field = schema_field (pool_rows d.pool) row;

@@ -178,9 +178,9 @@ module _ (m inner done new : DynamicMessage) (n T k : ℕ) (sound : WellStored (
       subst (λ c. Step (suc k) n wires.LengthDelimited c (content_of new) bytes rest) (whole (content_of m))
       (subst (λ d. Step (suc k) n wires.LengthDelimited (ContentOf (schema_of (content_of m)) (type_of (content_of m)) (entries_of (content_of m))) d bytes rest) (sym (set ∙ set_in (content_of m) n field.field (MessageValue (content_of done)) found.found))
       (subst (λ i. Step (suc k) i wires.LengthDelimited (ContentOf (schema_of (content_of m)) (type_of (content_of m)) (entries_of (content_of m)))
-          (ContentOf (schema_of (content_of m)) (type_of (content_of m)) (with_field_value (known (schema_of (content_of m)) (type_of (content_of m))) field.field (Some (MessageValue (content_of done))) (entries_of (content_of m)))) bytes rest) number
+      (ContentOf (schema_of (content_of m)) (type_of (content_of m)) (with_field_value (known (schema_of (content_of m)) (type_of (content_of m))) field.field (Some (MessageValue (content_of done))) (entries_of (content_of m)))) bytes rest) number
       (message_holds (schema_of (content_of m)) (type_of (content_of m)) (entries_of (content_of m)) (subst WellStored (sym (whole (content_of m))) sound) (differ_in m) field.field own T (one_of m n T (MessageOf T) field refl)
-          (content_of inner) (content_of done) (subst (λ i. ReadInto (schema_of (content_of m)) T i (entries_of (content_of m)) (content_of inner)) (sym number) at.into) at.schema_is at.type_is progress.holds k body bytes rest field.kind_is progress.read front)))
+      (content_of inner) (content_of done) (subst (λ i. ReadInto (schema_of (content_of m)) T i (entries_of (content_of m)) (content_of inner)) (sym number) at.into) at.schema_is at.type_is progress.holds k body bytes rest field.kind_is progress.read front)))
 
   pub nested_group_step : (bytes rest : List ℕ) → NestedField (descriptor_of m) n T (GroupOf T) → GroupProgress k n (content_of inner) (content_of done) bytes rest → Step (suc k) n wires.StartGroup (content_of m) (content_of new) bytes rest
   nested_group_step bytes rest field group =
@@ -191,10 +191,10 @@ module _ (m inner done new : DynamicMessage) (n T k : ℕ) (sound : WellStored (
       subst (λ c. Step (suc k) n wires.StartGroup c (content_of new) bytes rest) (whole (content_of m))
       (subst (λ d. Step (suc k) n wires.StartGroup (ContentOf (schema_of (content_of m)) (type_of (content_of m)) (entries_of (content_of m))) d bytes rest) (sym (set ∙ set_in (content_of m) n field.field (MessageValue (content_of done)) found.found))
       (subst (λ i. Step (suc k) i wires.StartGroup (ContentOf (schema_of (content_of m)) (type_of (content_of m)) (entries_of (content_of m)))
-          (ContentOf (schema_of (content_of m)) (type_of (content_of m)) (with_field_value (known (schema_of (content_of m)) (type_of (content_of m))) field.field (Some (MessageValue (content_of done))) (entries_of (content_of m)))) bytes rest) number
+      (ContentOf (schema_of (content_of m)) (type_of (content_of m)) (with_field_value (known (schema_of (content_of m)) (type_of (content_of m))) field.field (Some (MessageValue (content_of done))) (entries_of (content_of m)))) bytes rest) number
       (group_holds (schema_of (content_of m)) (type_of (content_of m)) (entries_of (content_of m)) (subst WellStored (sym (whole (content_of m))) sound) (differ_in m) field.field own T (one_of m n T (GroupOf T) field refl)
-          (content_of inner) (content_of done) (subst (λ i. ReadInto (schema_of (content_of m)) T i (entries_of (content_of m)) (content_of inner)) (sym number) at.into) at.schema_is at.type_is progress.holds k bytes group.end rest field.kind_is progress.read
-          (subst (λ i. KeyFront i wires.EndGroup group.end rest) (sym number) group.stop))))
+      (content_of inner) (content_of done) (subst (λ i. ReadInto (schema_of (content_of m)) T i (entries_of (content_of m)) (content_of inner)) (sym number) at.into) at.schema_is at.type_is progress.holds k bytes group.end rest field.kind_is progress.read
+      (subst (λ i. KeyFront i wires.EndGroup group.end rest) (sym number) group.stop))))
 
 -- a level less than the levels left
 pub one_less : (levels : ℕ) → 1 ≤ levels → suc (levels - 1) ≡ levels

@@ -97,9 +97,9 @@ nested_written d n row v m h one found writable is =
     let seen : value_of v ≡ MessageValue (content_of m) = ap value_of is ∙ value_of_message m in
     let single = single_row (pool_rows d.pool) row one in
     let valid : value_valid (schema_field (pool_rows d.pool) row) (MessageValue (content_of m)) ≡ true = passing (field_of (known_of d) n) (schema_field (pool_rows d.pool) row) (λ f. value_valid f (MessageValue (content_of m))) (sym found)
-        (ap (λ v. passes (field_of (known_of d) n) (λ f. value_valid f v)) (sym seen) ∙ writable.valid) in
+    (ap (λ v. passes (field_of (known_of d) n) (λ f. value_valid f v)) (sym seen) ∙ writable.valid) in
     let types : ValueTyped (schema_at d) (Some (schema_field (pool_rows d.pool) row).value_type.kind) (MessageValue (content_of m)) = field_typed (schema_at d) (schema_field (pool_rows d.pool) row) (MessageValue (content_of m)) valid
-        (subst (λ o. ValueTyped (schema_at d) (kind_for o (MessageValue (content_of m))) (MessageValue (content_of m))) (sym found) (subst (λ v. ValueTyped (schema_at d) (kind_for (field_of (known_of d) n) v) v) seen writable.types)) in
+    (subst (λ o. ValueTyped (schema_at d) (kind_for o (MessageValue (content_of m))) (MessageValue (content_of m))) (sym found) (subst (λ v. ValueTyped (schema_at d) (kind_for (field_of (known_of d) n) v) v) seen writable.types)) in
     let own : (schema_field (pool_rows d.pool) row).value_type.kind ≡ schema_kind (pool_rows d.pool).enums row.kind row.is_group = ap (λ (t : ValueType). t.kind) (own_of (pool_rows d.pool) row single) in
     record {
       plain = ap (λ s. covered s (type_at (descriptor_of m))) (sym (schema_in m) ∙ types.0.0) ∙ covered_further (schema_at d) (type_at d) n (type_at (descriptor_of m)) (schema_field (pool_rows d.pool) row) h (sym found) (and_both (is_singular (schema_field (pool_rows d.pool) row).form) _ valid).1;

@@ -4,10 +4,9 @@ use Rattle.std.specs.Prelude.{slice_get}
 use Rattle.prost_reflect_wire.specs.Record.{Payload, Plain, Var, Fix64, Len, Fix32, Flat, Group}
 use Rattle.prost_reflect_wire.specs.Scalar as scalars
 use Rattle.prost_reflect_wire.specs.Scalar.{Scalar, ScalarKind, EnumNumbers, low_i32, kind_wire, elem, written, scalar_valid, is_declared, is_undeclared, in_i32}
-use Rattle.prost_reflect_wire.specs.Schema.{Kind, ScalarOf, Singular, Repeated, is_singular, is_message}
+use Rattle.prost_reflect_wire.specs.Schema.{Kind, ScalarOf, Singular, Repeated, is_message}
 use Rattle.prost_reflect_wire.specs.Content.{ScalarValue}
 use Rattle.prost_reflect_wire.specs.Grammar.{is_stray}
-use Rattle.prost_reflect_wire.specs.Typing.{is_repeated as is_list}
 use Rattle.prost_reflect_wire.proofs.Deeper.{and_both, both_true}
 use Rattle.prost_reflect_tables.specs.declared.tables.Cardinality.{Cardinality}
 use Rattle.prost_reflect_tables.specs.declared.tables.Cardinality.TheVariants.{Optional, Required, Repeated as RepeatedLabel}
@@ -15,9 +14,11 @@ use Rattle.prost_reflect_tables.specs.declared.tables.TableKind.{TableKind}
 use Rattle.prost_reflect_tables.specs.declared.tables.TableKind.TheVariants as kinds
 use Rattle.prost_reflect_tables.specs.Rows.{FieldRow, MessageRow, EnumRow, TableRows}
 use Rattle.prost_reflect_tables.specs.Shown.{first_number, enum_numbers, schema_kind, enum_kind, own_type, map_entry, value_type_of, form_of, schema_field}
-use Rattle.prost_reflect.specs.Covered.{is_plain, is_repeated}
+use Rattle.prost_reflect.specs.Covered.{is_plain, is_plain_kind, is_repeated}
 use Rattle.prost_reflect.specs.Enums.{numbers_of}
 use Rattle.prost_reflect.specs.Scalars.{plain_kind, is_stray_number}
+use Rattle.prost_reflect.proofs.Covering as covering
+use Rattle.prost_reflect.proofs.Covering.{no_entry}
 
 -- THE ROW OF A FIELD
 
@@ -68,29 +69,13 @@ single_row rows row h = go row.cardinality h
     go Required h = refl
     go RepeatedLabel h = absurd (true≢false h)
 
-pub list_row : (rows : TableRows) (row : FieldRow) → is_repeated row.cardinality ≡ true → is_list (schema_field rows row).form ≡ true → (schema_field rows row).form ≡ Repeated row.is_packed
-list_row rows row h m = go row.cardinality h m
+pub list_row : (rows : TableRows) (row : FieldRow) → is_repeated row.cardinality ≡ true → is_plain_kind row.kind ≡ true → (schema_field rows row).form ≡ Repeated row.is_packed
+list_row rows row h plain = ap (form_of rows.enums row row.cardinality) (no_entry rows.messages row row.cardinality plain) ∙ go row.cardinality h
   where
-    listed : (entry : Option MessageRow) → is_list (form_of rows.enums row RepeatedLabel entry) ≡ true → form_of rows.enums row RepeatedLabel entry ≡ Repeated row.is_packed
-    listed None m = refl
-    listed (Some e) m = absurd (true≢false (sym m))
-
-    go : (c : Cardinality) → is_repeated c ≡ true → is_list (form_of rows.enums row c (map_entry rows.messages row c)) ≡ true → form_of rows.enums row c (map_entry rows.messages row c) ≡ Repeated row.is_packed
-    go Optional h m = absurd (true≢false (sym h))
-    go Required h m = absurd (true≢false (sym h))
-    go RepeatedLabel h m = listed (map_entry rows.messages row RepeatedLabel) m
-
-pub repeated_row : (rows : TableRows) (row : FieldRow) → is_repeated row.cardinality ≡ true → is_singular (schema_field rows row).form ≡ false
-repeated_row rows row h = go row.cardinality h
-  where
-    listed : (entry : Option MessageRow) → is_singular (form_of rows.enums row RepeatedLabel entry) ≡ false
-    listed None = refl
-    listed (Some e) = refl
-
-    go : (c : Cardinality) → is_repeated c ≡ true → is_singular (form_of rows.enums row c (map_entry rows.messages row c)) ≡ false
+    go : (c : Cardinality) → is_repeated c ≡ true → form_of rows.enums row c None ≡ Repeated row.is_packed
     go Optional h = absurd (true≢false (sym h))
     go Required h = absurd (true≢false (sym h))
-    go RepeatedLabel h = listed (map_entry rows.messages row RepeatedLabel)
+    go RepeatedLabel h = refl
 
 -- a scalar kind that is no enum, as both name it
 pub record PlainKind (table : TableKind) (kind : Kind) : Type 0 where
@@ -99,7 +84,7 @@ pub record PlainKind (table : TableKind) (kind : Kind) : Type 0 where
   pub is : kind ≡ ScalarOf scalar
   pub whole : (p : Payload) → is_undeclared scalar p ≡ false
 
-kind_plain : (enums : List EnumRow) (g : Bool) (table : TableKind) → is_plain (schema_kind enums table g) ≡ true → PlainKind table (schema_kind enums table g)
+pub kind_plain : (enums : List EnumRow) (g : Bool) (table : TableKind) → is_plain (schema_kind enums table g) ≡ true → PlainKind table (schema_kind enums table g)
 kind_plain enums g kinds.Double h = record { scalar = scalars.Double; named = refl; is = refl; whole = λ p. refl }
 kind_plain enums g kinds.Float h = record { scalar = scalars.Float; named = refl; is = refl; whole = λ p. refl }
 kind_plain enums g kinds.Int32 h = record { scalar = scalars.Int32; named = refl; is = refl; whole = λ p. refl }
@@ -124,18 +109,16 @@ kind_plain enums g (kinds.Enum E) h = no_enum (slice_get enums E) h
     no_enum (Some e) h = absurd (true≢false (sym h))
 
 -- the row of a list of plain scalars
-pub plain_row : (rows : TableRows) (row : FieldRow) → is_repeated row.cardinality ≡ true → is_list (schema_field rows row).form ≡ true → is_plain (schema_field rows row).value_type.kind ≡ true → PlainKind row.kind (schema_field rows row).value_type.kind
-plain_row rows row many form plain = go row.cardinality many form plain
-  where
-    listed : (entry : Option MessageRow) → is_list (form_of rows.enums row RepeatedLabel entry) ≡ true → is_plain (value_type_of rows.enums row entry).kind ≡ true → PlainKind row.kind (value_type_of rows.enums row entry).kind
-    listed None f p = kind_plain rows.enums row.is_group row.kind p
-    listed (Some m) f p = absurd (true≢false (sym f))
+pub plain_row : (rows : TableRows) (row : FieldRow) → is_plain_kind row.kind ≡ true → PlainKind row.kind (schema_field rows row).value_type.kind
+plain_row rows row plain =
+    subst (λ o. PlainKind row.kind (value_type_of rows.enums row o).kind) (sym (no_entry rows.messages row row.cardinality plain))
+    (kind_plain rows.enums row.is_group row.kind (covering.plain_kind rows.enums row.kind row.is_group ∙ plain))
 
-    go : (c : Cardinality) → is_repeated c ≡ true → is_list (form_of rows.enums row c (map_entry rows.messages row c)) ≡ true → is_plain (value_type_of rows.enums row (map_entry rows.messages row c)).kind ≡ true →
-        PlainKind row.kind (value_type_of rows.enums row (map_entry rows.messages row c)).kind
-    go Optional m f p = absurd (true≢false (sym m))
-    go Required m f p = absurd (true≢false (sym m))
-    go RepeatedLabel m f p = listed (map_entry rows.messages row RepeatedLabel) f p
+-- a plain kind is that of no group
+pub plain_ungrouped : (enums : List EnumRow) (g : Bool) (table : TableKind) → is_plain (schema_kind enums table g) ≡ true → schema_kind enums table false ≡ schema_kind enums table g
+plain_ungrouped enums true (kinds.Message T) h = absurd (true≢false (sym h))
+plain_ungrouped enums false (kinds.Message T) h = refl
+plain_ungrouped enums g table h = refl
 
 -- PLAIN KINDS
 

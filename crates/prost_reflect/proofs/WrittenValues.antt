@@ -40,7 +40,7 @@ valid_scalar f kind (MessageValue c) form is h = absurd (true≢false (sym (and_
 valid_scalar f kind (ListValue vs) form is h = absurd (true≢false (sym (and_both _ _ h).0 ∙ ap is_repeated form))
 valid_scalar f kind (MapValue ps) form is h = absurd (true≢false (sym h ∙ ap (λ form. pairs_valid form f.value_type.kind ps) form))
 
-abbrev is_enum : Kind → Bool
+abbrev pub is_enum : Kind → Bool
 is_enum (ScalarOf (scalars.Enum first numbers)) = true
 is_enum kind = false
 
@@ -61,7 +61,7 @@ no_message f (ListValue vs) form h e = absurd (true≢false (sym (and_both _ _ h
 no_message f (MapValue ps) form h e = absurd (true≢false (sym h ∙ ap (λ form. pairs_valid form f.value_type.kind ps) form))
 
 -- zero is the kind's default, enums aside
-zero_of : (kind : ScalarKind) (s : Scalar) → is_enum (ScalarOf kind) ≡ false → scalar_valid kind s ≡ true → zero_like s ≡ kind_default kind
+pub zero_of : (kind : ScalarKind) (s : Scalar) → is_enum (ScalarOf kind) ≡ false → scalar_valid kind s ≡ true → zero_like s ≡ kind_default kind
 zero_of scalars.Double (scalars.F64 x) p h = refl
 zero_of scalars.Float (scalars.F32 x) p h = refl
 zero_of scalars.Int32 (scalars.I32 x) p h = refl
@@ -80,7 +80,7 @@ zero_of scalars.BytesKind (scalars.Bytes x) p h = refl
 zero_of (scalars.Enum first numbers) s p h = absurd (true≢false p)
 zero_of kind s p h = absurd (true≢false (sym h))
 
-default_is : (enums : List EnumRow) (table : TableKind) (own : ScalarKind) (s : Scalar) (o : Option Scalar) → schema_kind enums table false ≡ ScalarOf own → scalar_valid own s ≡ true →
+pub default_is : (enums : List EnumRow) (table : TableKind) (own : ScalarKind) (s : Scalar) (o : Option Scalar) → schema_kind enums table false ≡ ScalarOf own → scalar_valid own s ≡ true →
     scalar_eq s (schema_default o (ScalarOf own)) ≡ is_default enums table o (ScalarValue s)
 default_is enums table own s (Some w) e h = refl
 default_is enums (kinds.Enum E) own s None e h = ap (λ kind. scalar_eq s (schema_default None kind)) (sym e) ∙ first (slice_get enums E)

@@ -25,8 +25,8 @@ pub mod Same
 pub mod formers
 pub mod Scalars
 pub mod MapParts
-pub mod Maps
 pub mod Covered
+pub mod Maps
 pub mod Targets
 pub mod Held
 pub mod Builtin

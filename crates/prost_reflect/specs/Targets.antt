@@ -1,5 +1,5 @@
 -- What the record behind a key is read as.
-use Rattle.std.specs.Prelude.{◌≡◌, ◌≢◌, ℕ, ◌<◌, Bool, true, false, length, Some, None}
+use Rattle.std.specs.Prelude.{◌≡◌, ◌≢◌, ℕ, ◌<◌, Bool, true, false, length, Option, Some, None}
 use Rattle.prost_reflect_wire.specs.declared.key.WireType.{WireType}
 use Rattle.prost_reflect_wire.specs.declared.key.WireType.TheVariants as wires
 use Rattle.prost_reflect_wire.specs.declared.error.DecodeError.{DecodeError}
@@ -10,11 +10,13 @@ use Rattle.prost_reflect.specs.Pools.{pool_rows}
 use Rattle.prost_reflect.specs.Known.{known_of}
 use Rattle.prost_reflect_tables.specs.declared.tables.TableKind.{TableKind}
 use Rattle.prost_reflect_tables.specs.declared.tables.TableKind.TheVariants as kinds
+use Rattle.prost_reflect_tables.specs.Rows.{FieldRow}
 use Rattle.prost_reflect.specs.Scalars.{PlainField}
 use Rattle.prost_reflect.specs.Lists.{ListField}
+use Rattle.prost_reflect.specs.Maps.{PlainMap}
 use Rattle.prost_reflect.specs.declared.descriptor.message.MessageDescriptor.{MessageDescriptor}
 use Rattle.prost_reflect.specs.declared.message.decode.Target.{Target}
-use Rattle.prost_reflect.specs.declared.message.decode.Target.TheVariants.{Unknown, Scalar, List as ListOf, Message, Group}
+use Rattle.prost_reflect.specs.declared.message.decode.Target.TheVariants.{Unknown, Scalar, List as ListOf, Map as MapOf, Message, Group}
 
 -- The number is that of a field of one message; the message type stands at the place.
 pub record NestedField (d : MessageDescriptor) (n T : ℕ) (kind : Kind) : Type 0 where
@@ -30,10 +32,16 @@ target_of (kinds.Message T) true = Group T
 target_of (kinds.Message T) false = Message T
 target_of kind g = Scalar kind
 
+-- One of a repeated field as an entry of its map, or as elements of a list.
+abbrev pub repeated_target_of : Option (FieldRow × FieldRow) → TableKind → Target
+repeated_target_of (Some parts) kind = MapOf parts.0.kind parts.1.kind
+repeated_target_of None kind = ListOf kind
+
 abbrev pub IsTarget : MessageDescriptor → ℕ → Target → Type 0
 IsTarget d n Unknown = field_of (known_of d) n ≡ None
 IsTarget d n (Scalar kind) = PlainField d n kind
 IsTarget d n (ListOf kind) = ListField (known_of d) n kind
+IsTarget d n (MapOf key kind) = PlainMap (known_of d) n key kind
 IsTarget d n (Message T) = NestedField d n T (MessageOf T)
 IsTarget d n (Group T) = NestedField d n T (GroupOf T)
 

@@ -28,7 +28,9 @@ mod equality;
 #[cfg(test)]
 mod equality_tests;
 mod list;
+mod map;
 mod nested;
+mod pairs;
 mod present;
 #[cfg(test)]
 mod present_tests;

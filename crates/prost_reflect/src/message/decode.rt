@@ -12,7 +12,10 @@ ghost use Rattle.prost_reflect.specs.Covered.{covered};
 ghost use Rattle.prost_reflect.specs.Descriptors.{schema_at, type_at};
 ghost use Rattle.prost_reflect.specs.Known.{known_of};
 ghost use Rattle.prost_reflect.specs.Scalars.{PlainField, StaysUnknown};
-ghost use Rattle.prost_reflect.specs.Targets.{IsTarget, target_of};
+ghost use Rattle.prost_reflect_tables.specs.Rows.{field_row};
+ghost use Rattle.prost_reflect.specs.MapParts.{map_parts};
+ghost use Rattle.prost_reflect.specs.Pools.{pool_rows};
+ghost use Rattle.prost_reflect.specs.Targets.{IsTarget, target_of, repeated_target_of};
 ghost use Rattle.prost_reflect.specs.View.{content_of, descriptor_of};
 
 use crate::descriptor::MessageDescriptor;
@@ -20,7 +23,7 @@ use crate::descriptor::covered::is_repeated;
 use crate::message::DynamicMessage;
 use crate::message::enums::is_stray;
 use crate::message::scalar::scalar_at;
-use prost_reflect_tables::TableKind;
+use prost_reflect_tables::{FieldTable, TableKind};
 use prost_reflect_wire::{
     DecodeError, FieldNumber, RECURSION_LIMIT, UnknownField, WireType, decode_key, value_at,
 };
@@ -32,9 +35,10 @@ impl DynamicMessage {
     ///
     /// A later scalar of a field replaces an earlier one, a later message or group is read into the earlier one, and the
     /// values of the other members of its oneof go. The elements of a list's records stand one behind another, packed or
-    /// not. Records of numbers that the type lacks become unknown fields, in their order, and so do the numbers that a
-    /// closed enum does not declare (the encoding guide, "Last One Wins", "Oneofs" and "Packed Repeated Fields"; the
-    /// language guide, "Unknown Fields"; the page "Enum Behavior").
+    /// not, and an entry of a map takes the place of one whose key is equal. Records of numbers that the type lacks become
+    /// unknown fields, in their order, and so do the numbers that a closed enum does not declare (the encoding guide, "Last
+    /// One Wins", "Oneofs", "Packed Repeated Fields" and "Maps"; the language guide, "Unknown Fields"; the page "Enum
+    /// Behavior").
     ///
     /// # Errors
     ///
@@ -60,7 +64,12 @@ impl DynamicMessage {
 
     /// Reads the records of the bytes into the message. A refusal leaves a part of them read.
     #[cycle(reading)]
-    pub(super) fn merge_records(&mut self, alloc: Global, bytes: &[u8], levels: u32) -> Result<(), DecodeError>
+    pub(super) fn merge_records(
+        &mut self,
+        alloc: Global,
+        bytes: &[u8],
+        levels: u32,
+    ) -> Result<(), DecodeError>
         requires plain { covered (schema_at (descriptor_of self.old)) (type_at (descriptor_of self.old)) ≡ true }
         requires sound { WellStored (content_of self.old) }
         ensures ok { IfOk result (λ _. Progress levels (content_of self.old) (content_of self.new) bytes.now []) }
@@ -93,12 +102,19 @@ impl DynamicMessage {
         ensures fault { IfErr result (λ e. e ≢ DecodeError.OutOfMemory → StandsBehindKey (content_of self.old) levels number.value wire_type e bytes.now) }
     {
         match target_at(self.descriptor(), number.get()) {
-            Target::Scalar(kind) => self.merge_scalar(alloc, number, kind, wire_type, bytes, levels),
+            Target::Scalar(kind) => self.merge_scalar(
+                alloc, number, kind, wire_type, bytes, levels,
+            ),
             Target::List(kind) => self.merge_list(alloc, number, kind, wire_type, bytes, levels),
+            Target::Map(key, kind) => {
+                self.merge_map(alloc, number, (key, kind), wire_type, bytes, levels)
+            }
             Target::Message(place) => {
                 self.merge_message(alloc, number, place, wire_type, bytes, levels)
             }
-            Target::Group(place) => self.merge_group(alloc, number, place, wire_type, bytes, levels),
+            Target::Group(place) => self.merge_group(
+                alloc, number, place, wire_type, bytes, levels,
+            ),
             Target::Unknown => self.merge_unknown(alloc, number, wire_type, bytes, levels),
         }
     }
@@ -158,6 +174,8 @@ pub(super) enum Target {
     Scalar(TableKind),
     /// Elements of a list of such scalars.
     List(TableKind),
+    /// An entry of a map whose keys and values are scalars of these kinds.
+    Map(TableKind, TableKind),
     /// A message of the type at the place.
     Message(usize),
     /// Likewise, written as a group.
@@ -170,9 +188,19 @@ fn target_at(descriptor: &MessageDescriptor, number: u32) -> Target
     ensures { IsTarget descriptor.now number result }
 {
     match descriptor.field_table(number) {
-        Some(field) if is_repeated(field.cardinality) => Target::List(field.kind),
+        Some(field) if is_repeated(field.cardinality) => repeated_target(descriptor, field),
         Some(field) => value_target(field.kind, field.is_group),
         None => Target::Unknown,
+    }
+}
+
+/// What a record of a repeated field is read as.
+fn repeated_target(descriptor: &MessageDescriptor, field: &FieldTable) -> Target
+    ensures { result ≡ repeated_target_of (map_parts (pool_rows descriptor.now.pool) (field_row field.now)) (field_row field.now).kind }
+{
+    match descriptor.map_parts(field) {
+        Some((key, value)) => Target::Map(key.kind, value.kind),
+        None => Target::List(field.kind),
     }
 }
 

@@ -1,14 +1,17 @@
 //! Writing messages, the last byte first, so that a length is written once what it counts is there.
 
 ghost use Rattle.std.specs.Prelude.{◌≡◌, ◌&&◌, not, ◌≤◌, ◌^◌, ◌++◌, true, length, slice_get, IsSome, IfOk, IfErr, OnOk, OnErr};
+ghost use Rattle.prost_reflect_wire.specs.declared.key.WireType.TheVariants as wires;
+ghost use Rattle.prost_reflect_wire.specs.Varint.{short};
 ghost use Rattle.prost_reflect_wire.specs.Record.{Len, short_key, short_plain};
-ghost use Rattle.prost_reflect_wire.specs.Schema.{field_of};
+ghost use Rattle.prost_reflect_wire.specs.Schema.{field_of, passes};
 ghost use Rattle.prost_reflect_wire.specs.Writing.{encoded};
-ghost use Rattle.prost_reflect_wire.specs.Typing.{kept, encodable, Typed};
+ghost use Rattle.prost_reflect_wire.specs.Typing.{kept, value_valid, encodable, Typed};
 ghost use Rattle.prost_reflect_wire.specs.Storing.{value_bytes};
 ghost use Rattle.prost_reflect_wire.specs.Buffer.{bytes_of, Prepended};
 ghost use Rattle.prost_reflect_tables.specs.Rows.{field_row, written_scalar};
-ghost use Rattle.prost_reflect.specs.Covered.{covered};
+ghost use Rattle.prost_reflect_tables.specs.Shown.{schema_field};
+ghost use Rattle.prost_reflect.specs.Covered.{covered, is_repeated};
 ghost use Rattle.prost_reflect.specs.Descriptors.{schema_at, type_at};
 ghost use Rattle.prost_reflect.specs.Encoding.{entry_slot, unknown_bytes, nested_bytes, ValueWritable, OwnUnknown};
 ghost use Rattle.prost_reflect_wire.specs.Scalar.{EnumNumber};
@@ -24,6 +27,7 @@ use crate::fields::entry::Entry;
 use crate::message::DynamicMessage;
 use crate::message::enums::first_number;
 use crate::message::list::prepend_elements;
+use crate::message::pairs::prepend_map;
 use crate::message::scalar::wire_type_of;
 use crate::value::Value;
 use prost_reflect_tables::{FieldTable, TableKind, WrittenDefault};
@@ -163,6 +167,18 @@ pub(crate) fn prepend_key(
     buffer.prepend_varint(8 * u64::from(number) + u64::from(wire_type.code()))
 }
 
+/// Adds the key and the length of a delimited payload in front.
+pub(crate) fn prepend_length(
+    buffer: &mut BackBuffer,
+    number: u32,
+    length: usize,
+) -> Result<(), EncodeError>
+    ensures { Prepended result (bytes_of buffer.old) (bytes_of buffer.new) (short_key number wires.LengthDelimited ++ short length) }
+{
+    buffer.prepend_varint(length as u64)?;
+    prepend_key(buffer, number, WireType::LengthDelimited)
+}
+
 /// Adds the record of a message in front, or of a group.
 #[cycle(writing)]
 fn prepend_message(
@@ -239,7 +255,7 @@ fn prepend_value(
 {
     match descriptor.field_table(number) {
         Some(field) if is_repeated(field.cardinality) => {
-            prepend_elements(buffer, descriptor, number, field, value)
+            prepend_repeated(buffer, descriptor, number, field, value)
         }
         Some(field) => match value {
             Value::Message(message) => prepend_message(buffer, number, field.is_group, message),
@@ -249,8 +265,28 @@ fn prepend_value(
     }
 }
 
+/// Adds what is kept of the list or the map of a repeated field in front.
+fn prepend_repeated(
+    buffer: &mut BackBuffer,
+    descriptor: &MessageDescriptor,
+    number: u32,
+    field: &FieldTable,
+    value: &Value,
+) -> Result<(), EncodeError>
+    requires plain { covered (schema_at descriptor.now) (type_at descriptor.now) ≡ true }
+    requires field { Some (schema_field (pool_rows descriptor.now.pool) (field_row field.now)) ≡ field_of (known_of descriptor.now) number }
+    requires repeated { is_repeated (field_row field.now).cardinality ≡ true }
+    requires valid { passes (field_of (known_of descriptor.now) number) (λ f. value_valid f (value_of value.now)) ≡ true }
+    ensures { Prepended result (bytes_of buffer.old) (bytes_of buffer.new) (value_bytes (known_of descriptor.now) number (value_of value.now)) }
+{
+    match descriptor.map_parts(field) {
+        Some((key, element)) => prepend_map(buffer, descriptor, number, key, element, value),
+        None => prepend_elements(buffer, descriptor, number, field, value),
+    }
+}
+
 /// Adds what is kept of a scalar in front: nothing of the default of a field without presence.
-fn prepend_kept_scalar(
+pub(crate) fn prepend_kept_scalar(
     buffer: &mut BackBuffer,
     descriptor: &MessageDescriptor,
     number: u32,

@@ -9,8 +9,6 @@ ghost use Rattle.prost_reflect_wire.specs.Typing.{WellStored};
 ghost use Rattle.prost_reflect_wire.specs.Decoding.{Step, StandsBehindKey};
 ghost use Rattle.prost_reflect_wire.specs.EntryReading.{IsMapped, BodyFault};
 ghost use Rattle.prost_reflect.specs.Contents.{value_set};
-ghost use Rattle.prost_reflect.specs.Covered.{covered};
-ghost use Rattle.prost_reflect.specs.Descriptors.{schema_at, type_at};
 ghost use Rattle.prost_reflect.specs.Known.{known_of, is_known};
 ghost use Rattle.prost_reflect.specs.Maps.{PlainMap, IsDefaultOf, ReadsEntry, RefusesEntry};
 ghost use Rattle.prost_reflect.specs.Scalars.{plain_kind};
@@ -36,13 +34,14 @@ fn default_of(alloc: Global, kind: TableKind) -> Value
         TableKind::Double => Value::F64(0),
         TableKind::Float => Value::F32(0),
         TableKind::Int32 | TableKind::Sint32 | TableKind::Sfixed32 => Value::I32(0),
+        TableKind::Enum(_) => Value::EnumNumber(0),
         TableKind::Int64 | TableKind::Sint64 | TableKind::Sfixed64 => Value::I64(0),
         TableKind::Uint32 | TableKind::Fixed32 => Value::U32(0),
         TableKind::Uint64 | TableKind::Fixed64 => Value::U64(0),
         TableKind::Bool => Value::Bool(false),
         TableKind::String => Value::String(String::new(alloc)),
         TableKind::Bytes => Value::Bytes(Vec::new(alloc)),
-        _ => unreachable!(),
+        TableKind::Message(_) => unreachable!(),
     }
 }
 
@@ -127,7 +126,6 @@ impl DynamicMessage {
         bytes: &'a [u8],
         levels: u32,
     ) -> Result<&'a [u8], DecodeError>
-        requires plain { covered (schema_at (descriptor_of self.old)) (type_at (descriptor_of self.old)) ≡ true }
         requires sound { WellStored (content_of self.old) }
         requires field { PlainMap (known_of (descriptor_of self.old)) number.value kinds.0 kinds.1 }
         ensures ok { IfOk result (λ rest. Step levels number.value wire_type (content_of self.old) (content_of self.new) bytes.now rest.now) }

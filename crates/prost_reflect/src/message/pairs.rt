@@ -1,25 +1,32 @@
 //! Writing maps (the encoding guide, "Maps"), the last entry first.
 
-ghost use Rattle.std.specs.Prelude.{◌≡◌, ◌&&◌, ◌++◌, not};
-ghost use Rattle.prost_reflect_wire.specs.declared.key.WireType.TheVariants as wires;
-ghost use Rattle.prost_reflect_wire.specs.Varint.{short};
-ghost use Rattle.prost_reflect_wire.specs.Record.{short_key};
+ghost use Rattle.std.specs.Prelude.{◌≡◌, ◌&&◌, true, not};
 ghost use Rattle.prost_reflect_wire.specs.Content.{ScalarValue};
+ghost use Rattle.prost_reflect_wire.specs.Schema.{field_of, passes};
+ghost use Rattle.prost_reflect_wire.specs.Typing.{value_valid};
+ghost use Rattle.prost_reflect_wire.specs.Storing.{value_bytes};
 ghost use Rattle.prost_reflect_wire.specs.Buffer.{bytes_of, Prepended};
 ghost use Rattle.prost_reflect_tables.specs.Rows.{field_row};
-ghost use Rattle.prost_reflect.specs.Maps.{TakesPairs, key_bytes, value_part_bytes, entry_bytes, pairs_bytes};
+ghost use Rattle.prost_reflect.specs.Known.{known_of};
+ghost use Rattle.prost_reflect.specs.Maps.{TakesPairs, key_bytes, entry_bytes, pairs_bytes, IsMap, MapOfRows};
+ghost use Rattle.prost_reflect.specs.Pools.{pool_rows};
 ghost use Rattle.prost_reflect.specs.Scalars.{plain_kind, TakesScalar, scalar_bytes, scalar_record_bytes, is_zero};
 ghost use Rattle.prost_reflect.specs.View.{key_of, value_of};
 
-use crate::message::encode::{is_left_out, prepend_delimited, prepend_scalar_record};
+use crate::descriptor::MessageDescriptor;
+use crate::message::encode::{prepend_delimited, prepend_kept_scalar, prepend_key, prepend_length};
 use crate::message::scalar::wire_type_of;
 use crate::value::{MapKey, Value};
 use prost_reflect_tables::{FieldTable, TableKind};
-use prost_reflect_wire::{BackBuffer, EncodeError, WireType, sign_extended, zigzag32, zigzag64};
+use prost_reflect_wire::{BackBuffer, EncodeError, sign_extended, zigzag32, zigzag64};
 use std::collections::BTreeMap;
 
-/// Adds the payload of a key in front.
-fn prepend_key(buffer: &mut BackBuffer, kind: TableKind, key: &MapKey) -> Result<(), EncodeError>
+/// Adds the payload of a map's key in front.
+fn prepend_key_payload(
+    buffer: &mut BackBuffer,
+    kind: TableKind,
+    key: &MapKey,
+) -> Result<(), EncodeError>
     requires { TakesScalar kind (ScalarValue (key_of key.now)) }
     ensures { Prepended result (bytes_of buffer.old) (bytes_of buffer.new) (scalar_bytes (plain_kind kind) (ScalarValue (key_of key.now))) }
 {
@@ -54,7 +61,7 @@ fn is_zero_key(key: &MapKey) -> bool
     }
 }
 
-/// Adds the record of a key in front.
+/// Adds the record of a map's key in front.
 fn prepend_key_record(
     buffer: &mut BackBuffer,
     number: u32,
@@ -64,9 +71,8 @@ fn prepend_key_record(
     requires { TakesScalar kind (ScalarValue (key_of key.now)) }
     ensures { Prepended result (bytes_of buffer.old) (bytes_of buffer.new) (scalar_record_bytes number (plain_kind kind) (ScalarValue (key_of key.now))) }
 {
-    prepend_key(buffer, kind, key)?;
-    let wire_type = wire_type_of(kind);
-    buffer.prepend_varint(8 * u64::from(number) + u64::from(wire_type.code()))
+    prepend_key_payload(buffer, kind, key)?;
+    prepend_key(buffer, number, wire_type_of(kind))
 }
 
 /// Whether an entry writes nothing of its key: of zero, false or an empty text where a key has no presence.
@@ -91,36 +97,10 @@ fn prepend_key_part(
     prepend_key_record(buffer, 1, field.kind, key)
 }
 
-/// Adds what an entry writes of its value in front: nothing of the default where a value has no presence.
-fn prepend_value_part(
-    buffer: &mut BackBuffer,
-    field: &FieldTable,
-    value: &Value,
-) -> Result<(), EncodeError>
-    requires { TakesScalar (field_row field.now).kind (value_of value.now) }
-    ensures { Prepended result (bytes_of buffer.old) (bytes_of buffer.new) (value_part_bytes (field_row field.now) (value_of value.now)) }
-{
-    if is_left_out(value, field) {
-        return Ok(());
-    }
-    prepend_scalar_record(buffer, 2, field.kind, value)
-}
-
-/// Adds the key and the length of an entry in front.
-fn prepend_entry_head(
-    buffer: &mut BackBuffer,
-    number: u32,
-    length: usize,
-) -> Result<(), EncodeError>
-    ensures { Prepended result (bytes_of buffer.old) (bytes_of buffer.new) (short_key number wires.LengthDelimited ++ short length) }
-{
-    buffer.prepend_varint(length as u64)?;
-    buffer.prepend_varint(8 * u64::from(number) + u64::from(WireType::LengthDelimited.code()))
-}
-
 /// Adds the record of an entry in front.
 fn prepend_pair(
     buffer: &mut BackBuffer,
+    descriptor: &MessageDescriptor,
     number: u32,
     key_field: &FieldTable,
     value_field: &FieldTable,
@@ -129,28 +109,59 @@ fn prepend_pair(
 ) -> Result<(), EncodeError>
     requires key { TakesScalar (field_row key_field.now).kind (ScalarValue (key_of key.now)) }
     requires value { TakesScalar (field_row value_field.now).kind (value_of value.now) }
-    ensures { Prepended result (bytes_of buffer.old) (bytes_of buffer.new) (entry_bytes number (field_row key_field.now) (field_row value_field.now) (key_of key.now) (value_of value.now)) }
+    ensures { Prepended result (bytes_of buffer.old) (bytes_of buffer.new) (entry_bytes number (pool_rows descriptor.now.pool).enums (field_row key_field.now) (field_row value_field.now) (key_of key.now) (value_of value.now)) }
 {
     let behind = buffer.len();
-    prepend_value_part(buffer, value_field, value)?;
+    prepend_kept_scalar(buffer, descriptor, 2, value_field, value)?;
     prepend_key_part(buffer, key_field, key)?;
     let length = buffer.len() - behind;
-    prepend_entry_head(buffer, number, length)
+    prepend_length(buffer, number, length)
 }
 
 /// Adds the records of a map's entries in front, in ascending order of their keys; nothing of an empty map.
-pub(crate) fn prepend_pairs(
+fn prepend_pairs(
     buffer: &mut BackBuffer,
+    descriptor: &MessageDescriptor,
     number: u32,
     key_field: &FieldTable,
     value_field: &FieldTable,
     pairs: &BTreeMap<MapKey, Value>,
 ) -> Result<(), EncodeError>
     requires { TakesPairs (field_row key_field.now).kind (field_row value_field.now).kind pairs.now.entries }
-    ensures { Prepended result (bytes_of buffer.old) (bytes_of buffer.new) (pairs_bytes number (field_row key_field.now) (field_row value_field.now) pairs.now.entries) }
+    ensures { Prepended result (bytes_of buffer.old) (bytes_of buffer.new) (pairs_bytes number (pool_rows descriptor.now.pool).enums (field_row key_field.now) (field_row value_field.now) pairs.now.entries) }
 {
     for (key, value) in pairs.iter().rev() {
-        prepend_pair(buffer, number, key_field, value_field, key, value)?;
+        prepend_pair(
+            buffer,
+            descriptor,
+            number,
+            key_field,
+            value_field,
+            key,
+            value,
+        )?;
     }
     Ok(())
+}
+
+/// Adds what is kept of the map of a field in front, whose keys and values have these rows.
+pub(crate) fn prepend_map(
+    buffer: &mut BackBuffer,
+    descriptor: &MessageDescriptor,
+    number: u32,
+    key_field: &FieldTable,
+    value_field: &FieldTable,
+    value: &Value,
+) -> Result<(), EncodeError>
+    requires rows { MapOfRows descriptor.now number (field_row key_field.now) (field_row value_field.now) }
+    requires valid { passes (field_of (known_of descriptor.now) number) (λ f. value_valid f (value_of value.now)) ≡ true }
+    requires map { IsMap (value_of value.now) }
+    ensures { Prepended result (bytes_of buffer.old) (bytes_of buffer.new) (value_bytes (known_of descriptor.now) number (value_of value.now)) }
+{
+    match value {
+        Value::Map(pairs) => {
+            prepend_pairs(buffer, descriptor, number, key_field, value_field, pairs)
+        }
+        _ => unreachable!(),
+    }
 }

@@ -15,9 +15,9 @@ pub map_key-requires : goal.map_key-requires
 map_key-requires c = key_found c.args.self.now _ _ _ c.requires.field _ _ c.in_ok-key.value _ _ _ c.in_ok-key.ensures.ok (bytes_below _ c.type_inv.bytes) c.in_ok-body.ensures.ok.1
 
 pub put_entry-requires-clause-mapped : goal.put_entry-requires-clause-mapped
-put_entry-requires-clause-mapped c = rw c.get.ensures.value (mapped_in c.args.self.now _ _ _ c.requires.field c.requires.sound c.requires.plain)
+put_entry-requires-clause-mapped c = rw c.get.ensures.value (mapped_in c.args.self.now _ _ _ c.requires.field c.requires.sound)
 
 pub returns-clause-ok : goal.returns-clause-ok
 returns-clause-ok c =
-    entry_set c.args.self.now _ _ _ c.requires.field c.put_entry.new.self _ _ c.in_ok-key.key c.in_ok-key.value c.map_key.result _ _ _ c.requires.sound c.requires.plain (bytes_below _ c.type_inv.bytes) c.in_ok-key.ensures.ok c.map_key.ensures
+    entry_set c.args.self.now _ _ _ c.requires.field c.put_entry.new.self _ _ c.in_ok-key.key c.in_ok-key.value c.map_key.result _ _ _ c.requires.sound (bytes_below _ c.type_inv.bytes) c.in_ok-key.ensures.ok c.map_key.ensures
     c.in_ok-body.ensures.ok.0 c.in_ok-body.ensures.ok.1 (rw c.get.ensures.value at c.in_ok-put_entry.ensures.content)

@@ -10,7 +10,6 @@ use Rattle.prost_reflect.specs.Entries.{value_in}
 use Rattle.prost_reflect.proofs.Encodings.{whole_written, entry_writable, unknown_too_long, value_too_long}
 use Rattle.prost_reflect.proofs.NestedWrites.{nested_written, no_message_value}
 use Rattle.prost_reflect.proofs.WrittenValues.{row_written}
-use Rattle.prost_reflect.proofs.WrittenLists.{valid_list_value}
 use Rattle.prost_reflect.proofs.message.encode.+writing.Goals as goal
 
 one_value : (e : Entry Value) (v : Value) → (e ≡ entries.Value v) ⊎ ((u : UnknownFieldSet) × (e ≡ entries.Both v u)) → value_in e ≡ Some v
@@ -48,9 +47,6 @@ prepend_body-returns-in_err-prepend_value-in-Value t c =
 
 pub prepend_body-returns : goal.prepend_body-returns
 prepend_body-returns t c = whole_written c.args.message.now c.loop-index.index _ _ (omega (arith, c.loop-index-test.false)) c.loop-index.invariant
-
-pub prepend_value-prepend_elements-requires-clause-list : goal.prepend_value-prepend_elements-requires-clause-list
-prepend_value-prepend_elements-requires-clause-list t c = valid_list_value c.args.descriptor.now c.args.number (field_row c.in-Some.field.now) (value_of c.args.value.now) c.requires.plain c.in-Some.ensures.field (sym c.is_repeated.ensures ∙ c.if-is_repeated.true) c.requires.writable.valid
 
 pub prepend_value-prepend_message-requires : goal.prepend_value-prepend_message-requires
 prepend_value-prepend_message-requires t c =
