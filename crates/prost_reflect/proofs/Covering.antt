@@ -12,89 +12,80 @@ use Rattle.prost_reflect_tables.specs.declared.tables.FieldTable.{FieldTable}
 use Rattle.prost_reflect_tables.specs.declared.tables.MessageTable.{MessageTable}
 use Rattle.prost_reflect_tables.specs.Rows.{FieldRow, MessageRow, EnumRow, TableRows, field_row, message_row}
 use Rattle.prost_reflect_tables.specs.Places.{fields_at}
-use Rattle.prost_reflect_tables.specs.Shown.{schema_from, schema_message, schema_field, schema_kind, enum_kind, map_entry, entry_at, form_of, value_type_of}
+use Rattle.prost_reflect_tables.specs.Shown.{schema_from, schema_message, schema_field, schema_kind, enum_kind, map_entry, form_of, value_type_of}
 use Rattle.prost_reflect_tables.proofs.Fields.{known_rows}
-use Rattle.prost_reflect.specs.Covered.{covered, is_plain, is_plain_kind, all_covered, field_covered, field_flat, row_covered, row_flat, message_covered, is_repeated, names_message}
+use Rattle.prost_reflect.specs.Covered.{covered, is_enum, is_enum_kind, all_covered, field_covered, field_flat, message_covered, is_repeated, names_message}
 
 pub message_kind : (enums : List EnumRow) (kind : TableKind) (g : Bool) → is_message (schema_kind enums kind g) ≡ names_message kind
 message_kind enums (Message T) true = refl
 message_kind enums (Message T) false = refl
 message_kind enums kind g = refl
 
-plain_kind : (enums : List EnumRow) (kind : TableKind) (g : Bool) → is_plain (schema_kind enums kind g) ≡ is_plain_kind kind
-plain_kind enums (Enum E) g = of (slice_get enums E)
+enum_kind_shown : (enums : List EnumRow) (kind : TableKind) (g : Bool) → is_enum (schema_kind enums kind g) ≡ is_enum_kind kind
+enum_kind_shown enums (Enum E) g = of (slice_get enums E)
   where
-    of : (o : Option EnumRow) → is_plain (ScalarOf (enum_kind o)) ≡ false
+    of : (o : Option EnumRow) → is_enum (ScalarOf (enum_kind o)) ≡ true
     of None = refl
     of (Some e) = refl
-plain_kind enums (Message T) true = refl
-plain_kind enums (Message T) false = refl
-plain_kind enums kind g = refl
-
--- A map's kind is that of its entries, which is no plain one.
-entry_kind : (messages : List MessageRow) (f : FieldRow) (entry : MessageRow) → map_entry messages f Repeated ≡ Some entry → is_plain_kind f.kind ≡ false
-entry_kind messages f entry e = go f.is_group f.kind e
-  where
-    go : (g : Bool) (kind : TableKind) → cond g None (entry_at messages kind) ≡ Some entry → is_plain_kind kind ≡ false
-    go true kind e = cc
-    go false (Message T) e = refl
-    go false kind e = cc
+enum_kind_shown enums (Message T) true = refl
+enum_kind_shown enums (Message T) false = refl
+enum_kind_shown enums kind g = refl
 
 -- A row that is no map is shown by its own kind.
 covered_with : (rows : TableRows) (f : FieldRow) (c : Cardinality) →
-    (not (is_repeated c) || is_plain_kind f.kind)
-    ≡ (is_singular (form_of rows.enums f c (map_entry rows.messages f c)) || (is_list (form_of rows.enums f c (map_entry rows.messages f c)) && is_plain (value_type_of rows.enums f (map_entry rows.messages f c)).kind))
+    (not (is_repeated c) || (is_list (form_of rows.enums f c (map_entry rows.messages f c)) && not (is_enum_kind f.kind)))
+    ≡ (is_singular (form_of rows.enums f c (map_entry rows.messages f c)) || (is_list (form_of rows.enums f c (map_entry rows.messages f c)) && not (is_enum (value_type_of rows.enums f (map_entry rows.messages f c)).kind)))
 covered_with rows f Optional = refl
 covered_with rows f Required = refl
-covered_with rows f Repeated = go (map_entry rows.messages f Repeated) refl
+covered_with rows f Repeated = go (map_entry rows.messages f Repeated)
   where
-    go : (entry : Option MessageRow) → map_entry rows.messages f Repeated ≡ entry → is_plain_kind f.kind ≡ (is_singular (form_of rows.enums f Repeated entry) || (is_list (form_of rows.enums f Repeated entry) && is_plain (value_type_of rows.enums f entry).kind))
-    go None e = sym (plain_kind rows.enums f.kind f.is_group)
-    go (Some entry) e = entry_kind rows.messages f entry e
+    go : (entry : Option MessageRow) → (is_list (form_of rows.enums f Repeated entry) && not (is_enum_kind f.kind))
+        ≡ (is_singular (form_of rows.enums f Repeated entry) || (is_list (form_of rows.enums f Repeated entry) && not (is_enum (value_type_of rows.enums f entry).kind)))
+    go None = ap not (sym (enum_kind_shown rows.enums f.kind f.is_group))
+    go (Some entry) = refl
 
-covered_row : (rows : TableRows) (f : FieldRow) → row_covered f ≡ field_covered (schema_field rows f)
+pub covered_row : (rows : TableRows) (f : FieldRow) → (not (is_repeated f.cardinality) || (is_list (schema_field rows f).form && not (is_enum_kind f.kind))) ≡ field_covered (schema_field rows f)
 covered_row rows f = covered_with rows f f.cardinality
 
-flat_with : (rows : TableRows) (f : FieldRow) (c : Cardinality) →
-    (not (is_repeated c) || is_plain_kind f.kind) && not (names_message f.kind)
-    ≡ ((is_singular (form_of rows.enums f c (map_entry rows.messages f c)) || (is_list (form_of rows.enums f c (map_entry rows.messages f c)) && is_plain (value_type_of rows.enums f (map_entry rows.messages f c)).kind))
-        && not (is_message (value_type_of rows.enums f (map_entry rows.messages f c)).kind))
-flat_with rows f Optional = ap not (sym (message_kind rows.enums f.kind f.is_group))
-flat_with rows f Required = ap not (sym (message_kind rows.enums f.kind f.is_group))
-flat_with rows f Repeated = go (map_entry rows.messages f Repeated) refl
+flat_with : (rows : TableRows) (f : FieldRow) (c : Cardinality) (b : Bool) →
+    ((is_singular (form_of rows.enums f c (map_entry rows.messages f c)) || (is_list (form_of rows.enums f c (map_entry rows.messages f c)) && b)) && not (names_message f.kind))
+    ≡ ((is_singular (form_of rows.enums f c (map_entry rows.messages f c)) || (is_list (form_of rows.enums f c (map_entry rows.messages f c)) && b)) && not (is_message (value_type_of rows.enums f (map_entry rows.messages f c)).kind))
+flat_with rows f Optional b = ap not (sym (message_kind rows.enums f.kind f.is_group))
+flat_with rows f Required b = ap not (sym (message_kind rows.enums f.kind f.is_group))
+flat_with rows f Repeated b = go (map_entry rows.messages f Repeated)
   where
-    go : (entry : Option MessageRow) → map_entry rows.messages f Repeated ≡ entry → is_plain_kind f.kind && not (names_message f.kind)
-        ≡ ((is_singular (form_of rows.enums f Repeated entry) || (is_list (form_of rows.enums f Repeated entry) && is_plain (value_type_of rows.enums f entry).kind)) && not (is_message (value_type_of rows.enums f entry).kind))
-    go None e = ap₂ (λ a b. a && not b) (sym (plain_kind rows.enums f.kind f.is_group)) (sym (message_kind rows.enums f.kind f.is_group))
-    go (Some entry) e = ap (λ b. b && not (names_message f.kind)) (entry_kind rows.messages f entry e)
+    go : (entry : Option MessageRow) → ((is_singular (form_of rows.enums f Repeated entry) || (is_list (form_of rows.enums f Repeated entry) && b)) && not (names_message f.kind))
+        ≡ ((is_singular (form_of rows.enums f Repeated entry) || (is_list (form_of rows.enums f Repeated entry) && b)) && not (is_message (value_type_of rows.enums f entry).kind))
+    go None = ap (λ x. b && not x) (sym (message_kind rows.enums f.kind f.is_group))
+    go (Some entry) = refl
 
-flat_row : (rows : TableRows) (f : FieldRow) → row_flat f ≡ field_flat (schema_field rows f)
-flat_row rows f = flat_with rows f f.cardinality
+pub flat_row : (rows : TableRows) (f : FieldRow) → (field_covered (schema_field rows f) && not (names_message f.kind)) ≡ field_flat (schema_field rows f)
+flat_row rows f = flat_with rows f f.cardinality (not (is_enum (schema_field rows f).value_type.kind))
 
-flat_rows : (rows : TableRows) (fields : List FieldTable) → list_all (λ f. row_flat (field_row f)) fields ≡ list_all field_flat (map (schema_field rows) (map field_row fields))
+flat_rows : (rows : TableRows) (fields : List FieldTable) → list_all (λ f. field_flat (schema_field rows (field_row f))) fields ≡ list_all field_flat (map (schema_field rows) (map field_row fields))
 flat_rows rows [] = refl
-flat_rows rows (f ∷ fields) = rw (flat_row rows (field_row f), flat_rows rows fields) refl
+flat_rows rows (f ∷ fields) = rw (flat_rows rows fields) refl
 
-pub fields_flat : (rows : TableRows) (T : ℕ) (fields : List FieldTable) → map field_row fields ≡ fields_at rows T → list_all (λ f. row_flat (field_row f)) fields ≡ list_all field_flat (known (schema_from rows) T)
+pub fields_flat : (rows : TableRows) (T : ℕ) (fields : List FieldTable) → map field_row fields ≡ fields_at rows T → list_all (λ f. field_flat (schema_field rows (field_row f))) fields ≡ list_all field_flat (known (schema_from rows) T)
 fields_flat rows T fields e = flat_rows rows fields ∙ ap (list_all field_flat) (ap (map (schema_field rows)) e ∙ sym (known_rows rows T))
 
-covered_rows : (rows : TableRows) (fields : List FieldRow) → list_all row_covered fields ≡ list_all field_covered (map (schema_field rows) fields)
+covered_rows : (rows : TableRows) (fields : List FieldRow) → list_all (λ f. field_covered (schema_field rows f)) fields ≡ list_all field_covered (map (schema_field rows) fields)
 covered_rows rows [] = refl
-covered_rows rows (f ∷ fields) = rw (covered_row rows f, covered_rows rows fields) refl
+covered_rows rows (f ∷ fields) = rw (covered_rows rows fields) refl
 
-messages_covered : (rows : TableRows) (messages : List MessageRow) → list_all message_covered messages ≡ list_all (λ (m : MessageType). list_all field_covered m.known) (map (schema_message rows) messages)
+messages_covered : (rows : TableRows) (messages : List MessageRow) → list_all (message_covered rows) messages ≡ list_all (λ (m : MessageType). list_all field_covered m.known) (map (schema_message rows) messages)
 messages_covered rows [] = refl
 messages_covered rows (m ∷ messages) = rw (covered_rows rows m.fields, messages_covered rows messages) refl
 
-pub rows_all : (fields : List FieldTable) → list_all (λ f. row_covered (field_row f)) fields ≡ list_all row_covered (map field_row fields)
-rows_all [] = refl
-rows_all (f ∷ fields) = rw (rows_all fields) refl
+pub rows_all : (rows : TableRows) (fields : List FieldTable) → list_all (λ f. field_covered (schema_field rows (field_row f))) fields ≡ list_all (λ f. field_covered (schema_field rows f)) (map field_row fields)
+rows_all rows [] = refl
+rows_all rows (f ∷ fields) = rw (rows_all rows fields) refl
 
-pub tables_all : (messages : List MessageTable) → list_all (λ m. message_covered (message_row m)) messages ≡ list_all message_covered (map message_row messages)
-tables_all [] = refl
-tables_all (m ∷ messages) = rw (tables_all messages) refl
+pub tables_all : (rows : TableRows) (messages : List MessageTable) → list_all (λ m. message_covered rows (message_row m)) messages ≡ list_all (message_covered rows) (map message_row messages)
+tables_all rows [] = refl
+tables_all rows (m ∷ messages) = rw (tables_all rows messages) refl
 
-pub schema_covered : (rows : TableRows) → list_all message_covered rows.messages ≡ all_covered (schema_from rows)
+pub schema_covered : (rows : TableRows) → list_all (message_covered rows) rows.messages ≡ all_covered (schema_from rows)
 unfolding schema_from
 schema_covered rows = messages_covered rows rows.messages
 
@@ -154,12 +145,16 @@ covered_further schema T n U f h e names = go (list_all field_flat (known schema
     go true flat h = absurd (no (is_message f.value_type.kind) names (and_right (field_covered f) _ (passing_field field_flat (known schema T) n f flat e)))
     go false flat h = or_second (list_all field_flat (known schema U)) (all_covered schema) h
 
--- A covered field that is repeated has a list of plain scalars.
-pub record PlainList (f : Field) : Type 0 where
+-- A covered field that is repeated has a list that holds no enum numbers.
+pub record OtherList (f : Field) : Type 0 where
   pub listed : is_list f.form ≡ true
-  pub plain : is_plain f.value_type.kind ≡ true
+  pub other : is_enum f.value_type.kind ≡ false
 
-pub covered_list : (f : Field) → field_covered f ≡ true → is_singular f.form ≡ false → PlainList f
+pub covered_list : (f : Field) → field_covered f ≡ true → is_singular f.form ≡ false → OtherList f
 covered_list f h one =
-    let both : is_list f.form && is_plain f.value_type.kind ≡ true = ap (λ b. b || (is_list f.form && is_plain f.value_type.kind)) (sym one) ∙ h in
-    record { listed = and_left (is_list f.form) _ both; plain = and_right (is_list f.form) _ both }
+    let both : is_list f.form && not (is_enum f.value_type.kind) ≡ true = ap (λ b. b || (is_list f.form && not (is_enum f.value_type.kind))) (sym one) ∙ h in
+    record { listed = and_left (is_list f.form) _ both; other = none (is_enum f.value_type.kind) (and_right (is_list f.form) _ both) }
+  where
+    none : (b : Bool) → not b ≡ true → b ≡ false
+    none true e = cc
+    none false e = refl

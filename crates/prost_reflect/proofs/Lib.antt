@@ -26,6 +26,8 @@ pub mod Described
 pub mod Zeros
 pub mod WrittenValues
 pub mod NestedWrites
+pub mod ElementReads
+pub mod ElementWrites
 pub mod Encodings
 pub mod Present
 pub mod Defaults

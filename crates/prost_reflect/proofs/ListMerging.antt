@@ -1,5 +1,5 @@
 -- Records of lists read into a message.
-use Rattle.std.proofs.Common.{◌≡◌, ℕ, Bool, true, not, List, [], ◌∷◌, ◌++◌, map, Option, Some, None, refl, sym, ap, ◌∙◌, subst, unwrap_or}
+use Rattle.std.proofs.Common.{◌≡◌, ℕ, Bool, true, false, not, List, [], ◌∷◌, ◌++◌, map, Option, Some, None, refl, sym, ap, ◌∙◌, subst, unwrap_or}
 use Rattle.std.specs.Prelude.{Vec}
 use Rattle.std.specs.Option.{is_some}
 use Rattle.std.specs.declared.alloc.Global.{Global}
@@ -28,7 +28,7 @@ use Rattle.prost_reflect.specs.Descriptors.{schema_at, type_at}
 use Rattle.prost_reflect.specs.Known.{known_of}
 use Rattle.prost_reflect.specs.View.{value_of, content_of, descriptor_of}
 use Rattle.prost_reflect.specs.Contents.{value_set}
-use Rattle.prost_reflect.specs.Covered.{covered, is_repeated}
+use Rattle.prost_reflect.specs.Covered.{covered, is_repeated, names_message}
 use Rattle.prost_reflect_tables.specs.Rows.{FieldRow}
 use Rattle.prost_reflect_tables.specs.Shown.{schema_field}
 use Rattle.prost_reflect.specs.Pools.{pool_rows}
@@ -86,10 +86,10 @@ values_or None = refl
 values_or (Some v) = refl
 
 -- a repeated row of a covered type is a list
-pub list_field : (d : MessageDescriptor) (n : ℕ) (row : FieldRow) → covered (schema_at d) (type_at d) ≡ true → field_of (known_of d) n ≡ Some (schema_field (pool_rows d.pool) row) → is_repeated row.cardinality ≡ true → ListField (known_of d) n row.kind
-list_field d n row h found many =
+pub list_field : (d : MessageDescriptor) (n : ℕ) (row : FieldRow) → covered (schema_at d) (type_at d) ≡ true → field_of (known_of d) n ≡ Some (schema_field (pool_rows d.pool) row) → is_repeated row.cardinality ≡ true → names_message row.kind ≡ false → ListField (known_of d) n row.kind
+list_field d n row h found many scalar =
     let parts = covered_list (schema_field (pool_rows d.pool) row) (covered_field (schema_at d) (type_at d) n (schema_field (pool_rows d.pool) row) h found) (repeated_row (pool_rows d.pool) row many) in
-    let kind = plain_row (pool_rows d.pool) row many parts.listed parts.plain in
+    let kind = plain_row (pool_rows d.pool) row many parts.listed parts.other scalar in
     let form : (schema_field (pool_rows d.pool) row).form ≡ Repeated row.is_packed = list_row (pool_rows d.pool) row many parts.listed in
     let checked = checked_list (schema_at d) (schema_field (pool_rows d.pool) row) row.is_packed (checked_field (schema_at d) (schema_field (pool_rows d.pool) row) (found_checked d n (schema_field (pool_rows d.pool) row) found)) form in
     record {

@@ -15,7 +15,7 @@ use Rattle.prost_reflect_tables.specs.declared.tables.TableKind.{TableKind}
 use Rattle.prost_reflect_tables.specs.declared.tables.TableKind.TheVariants as kinds
 use Rattle.prost_reflect_tables.specs.Rows.{FieldRow, MessageRow, EnumRow, TableRows}
 use Rattle.prost_reflect_tables.specs.Shown.{first_number, enum_numbers, schema_kind, enum_kind, own_type, map_entry, value_type_of, form_of, schema_field}
-use Rattle.prost_reflect.specs.Covered.{is_plain, is_repeated}
+use Rattle.prost_reflect.specs.Covered.{is_enum, is_repeated, names_message}
 use Rattle.prost_reflect.specs.Enums.{numbers_of}
 use Rattle.prost_reflect.specs.Scalars.{plain_kind, is_stray_number}
 
@@ -99,43 +99,48 @@ pub record PlainKind (table : TableKind) (kind : Kind) : Type 0 where
   pub is : kind ≡ ScalarOf scalar
   pub whole : (p : Payload) → is_undeclared scalar p ≡ false
 
-kind_plain : (enums : List EnumRow) (g : Bool) (table : TableKind) → is_plain (schema_kind enums table g) ≡ true → PlainKind table (schema_kind enums table g)
-kind_plain enums g kinds.Double h = record { scalar = scalars.Double; named = refl; is = refl; whole = λ p. refl }
-kind_plain enums g kinds.Float h = record { scalar = scalars.Float; named = refl; is = refl; whole = λ p. refl }
-kind_plain enums g kinds.Int32 h = record { scalar = scalars.Int32; named = refl; is = refl; whole = λ p. refl }
-kind_plain enums g kinds.Int64 h = record { scalar = scalars.Int64; named = refl; is = refl; whole = λ p. refl }
-kind_plain enums g kinds.Uint32 h = record { scalar = scalars.Uint32; named = refl; is = refl; whole = λ p. refl }
-kind_plain enums g kinds.Uint64 h = record { scalar = scalars.Uint64; named = refl; is = refl; whole = λ p. refl }
-kind_plain enums g kinds.Sint32 h = record { scalar = scalars.Sint32; named = refl; is = refl; whole = λ p. refl }
-kind_plain enums g kinds.Sint64 h = record { scalar = scalars.Sint64; named = refl; is = refl; whole = λ p. refl }
-kind_plain enums g kinds.Fixed32 h = record { scalar = scalars.Fixed32; named = refl; is = refl; whole = λ p. refl }
-kind_plain enums g kinds.Fixed64 h = record { scalar = scalars.Fixed64; named = refl; is = refl; whole = λ p. refl }
-kind_plain enums g kinds.Sfixed32 h = record { scalar = scalars.Sfixed32; named = refl; is = refl; whole = λ p. refl }
-kind_plain enums g kinds.Sfixed64 h = record { scalar = scalars.Sfixed64; named = refl; is = refl; whole = λ p. refl }
-kind_plain enums g kinds.Bool h = record { scalar = scalars.BoolKind; named = refl; is = refl; whole = λ p. refl }
-kind_plain enums g kinds.String h = record { scalar = scalars.StringKind; named = refl; is = refl; whole = λ p. refl }
-kind_plain enums g kinds.Bytes h = record { scalar = scalars.BytesKind; named = refl; is = refl; whole = λ p. refl }
-kind_plain enums true (kinds.Message T) h = absurd (true≢false (sym h))
-kind_plain enums false (kinds.Message T) h = absurd (true≢false (sym h))
-kind_plain enums g (kinds.Enum E) h = no_enum (slice_get enums E) h
+kind_plain : (enums : List EnumRow) (g : Bool) (table : TableKind) → is_enum (schema_kind enums table g) ≡ false → names_message table ≡ false → PlainKind table (schema_kind enums table g)
+kind_plain enums g kinds.Double h s = record { scalar = scalars.Double; named = refl; is = refl; whole = λ p. refl }
+kind_plain enums g kinds.Float h s = record { scalar = scalars.Float; named = refl; is = refl; whole = λ p. refl }
+kind_plain enums g kinds.Int32 h s = record { scalar = scalars.Int32; named = refl; is = refl; whole = λ p. refl }
+kind_plain enums g kinds.Int64 h s = record { scalar = scalars.Int64; named = refl; is = refl; whole = λ p. refl }
+kind_plain enums g kinds.Uint32 h s = record { scalar = scalars.Uint32; named = refl; is = refl; whole = λ p. refl }
+kind_plain enums g kinds.Uint64 h s = record { scalar = scalars.Uint64; named = refl; is = refl; whole = λ p. refl }
+kind_plain enums g kinds.Sint32 h s = record { scalar = scalars.Sint32; named = refl; is = refl; whole = λ p. refl }
+kind_plain enums g kinds.Sint64 h s = record { scalar = scalars.Sint64; named = refl; is = refl; whole = λ p. refl }
+kind_plain enums g kinds.Fixed32 h s = record { scalar = scalars.Fixed32; named = refl; is = refl; whole = λ p. refl }
+kind_plain enums g kinds.Fixed64 h s = record { scalar = scalars.Fixed64; named = refl; is = refl; whole = λ p. refl }
+kind_plain enums g kinds.Sfixed32 h s = record { scalar = scalars.Sfixed32; named = refl; is = refl; whole = λ p. refl }
+kind_plain enums g kinds.Sfixed64 h s = record { scalar = scalars.Sfixed64; named = refl; is = refl; whole = λ p. refl }
+kind_plain enums g kinds.Bool h s = record { scalar = scalars.BoolKind; named = refl; is = refl; whole = λ p. refl }
+kind_plain enums g kinds.String h s = record { scalar = scalars.StringKind; named = refl; is = refl; whole = λ p. refl }
+kind_plain enums g kinds.Bytes h s = record { scalar = scalars.BytesKind; named = refl; is = refl; whole = λ p. refl }
+kind_plain enums g (kinds.Message T) h s = absurd (true≢false s)
+kind_plain enums g (kinds.Enum E) h s = no_enum (slice_get enums E) h
   where
-    no_enum : (o : Option EnumRow) → is_plain (ScalarOf (enum_kind o)) ≡ true → PlainKind (kinds.Enum E) (ScalarOf (enum_kind (slice_get enums E)))
-    no_enum None h = absurd (true≢false (sym h))
-    no_enum (Some e) h = absurd (true≢false (sym h))
+    no_enum : (o : Option EnumRow) → is_enum (ScalarOf (enum_kind o)) ≡ false → PlainKind (kinds.Enum E) (ScalarOf (enum_kind (slice_get enums E)))
+    no_enum None h = absurd (true≢false h)
+    no_enum (Some e) h = absurd (true≢false h)
+
+-- the row of a list
+pub list_kind : (rows : TableRows) (row : FieldRow) → is_repeated row.cardinality ≡ true → is_list (schema_field rows row).form ≡ true → (schema_field rows row).value_type.kind ≡ schema_kind rows.enums row.kind row.is_group
+list_kind rows row many form = go row.cardinality many form
+  where
+    listed : (entry : Option MessageRow) → is_list (form_of rows.enums row RepeatedLabel entry) ≡ true → (value_type_of rows.enums row entry).kind ≡ schema_kind rows.enums row.kind row.is_group
+    listed None f = refl
+    listed (Some m) f = absurd (true≢false (sym f))
+
+    go : (c : Cardinality) → is_repeated c ≡ true → is_list (form_of rows.enums row c (map_entry rows.messages row c)) ≡ true → (value_type_of rows.enums row (map_entry rows.messages row c)).kind ≡ schema_kind rows.enums row.kind row.is_group
+    go Optional m f = absurd (true≢false (sym m))
+    go Required m f = absurd (true≢false (sym m))
+    go RepeatedLabel m f = listed (map_entry rows.messages row RepeatedLabel) f
 
 -- the row of a list of plain scalars
-pub plain_row : (rows : TableRows) (row : FieldRow) → is_repeated row.cardinality ≡ true → is_list (schema_field rows row).form ≡ true → is_plain (schema_field rows row).value_type.kind ≡ true → PlainKind row.kind (schema_field rows row).value_type.kind
-plain_row rows row many form plain = go row.cardinality many form plain
-  where
-    listed : (entry : Option MessageRow) → is_list (form_of rows.enums row RepeatedLabel entry) ≡ true → is_plain (value_type_of rows.enums row entry).kind ≡ true → PlainKind row.kind (value_type_of rows.enums row entry).kind
-    listed None f p = kind_plain rows.enums row.is_group row.kind p
-    listed (Some m) f p = absurd (true≢false (sym f))
-
-    go : (c : Cardinality) → is_repeated c ≡ true → is_list (form_of rows.enums row c (map_entry rows.messages row c)) ≡ true → is_plain (value_type_of rows.enums row (map_entry rows.messages row c)).kind ≡ true →
-        PlainKind row.kind (value_type_of rows.enums row (map_entry rows.messages row c)).kind
-    go Optional m f p = absurd (true≢false (sym m))
-    go Required m f p = absurd (true≢false (sym m))
-    go RepeatedLabel m f p = listed (map_entry rows.messages row RepeatedLabel) f p
+pub plain_row : (rows : TableRows) (row : FieldRow) → is_repeated row.cardinality ≡ true → is_list (schema_field rows row).form ≡ true → is_enum (schema_field rows row).value_type.kind ≡ false → names_message row.kind ≡ false → PlainKind row.kind (schema_field rows row).value_type.kind
+plain_row rows row many form other scalar =
+    let own : (schema_field rows row).value_type.kind ≡ schema_kind rows.enums row.kind row.is_group = list_kind rows row many form in
+    let kind = kind_plain rows.enums row.is_group row.kind (ap is_enum (sym own) ∙ other) scalar in
+    record { scalar = kind.scalar; named = kind.named; is = own ∙ kind.is; whole = kind.whole }
 
 -- PLAIN KINDS
 

@@ -20,13 +20,12 @@ use Rattle.prost_reflect_tables.specs.Shown.{schema_field}
 use Rattle.prost_reflect.specs.declared.descriptor.message.MessageDescriptor.{MessageDescriptor}
 use Rattle.prost_reflect.specs.declared.value.Value.{Value}
 use Rattle.prost_reflect.specs.declared.value.Value as values
-use Rattle.prost_reflect.specs.Covered.{covered, is_repeated}
+use Rattle.prost_reflect.specs.Covered.{covered, is_repeated, names_message}
 use Rattle.prost_reflect.specs.Descriptors.{schema_at, type_at}
 use Rattle.prost_reflect.specs.Known.{known_of}
 use Rattle.prost_reflect.specs.Pools.{pool_rows}
 use Rattle.prost_reflect.proofs.Covering.{covered_field, covered_list}
 use Rattle.prost_reflect.proofs.PlainKinds.{plain_row, list_row, repeated_row}
-use Rattle.prost_reflect.proofs.ListMerging.{list_field}
 use Rattle.prost_reflect.proofs.Views.{value_of_list}
 use Rattle.prost_reflect.proofs.WrittenValues.{passing}
 use Rattle.prost_reflect.specs.View.{value_of}
@@ -113,11 +112,11 @@ list_of_kind fields n f packed kind k vs found form is e h =
 
 -- ROWS
 
-pub row_list_written : (d : MessageDescriptor) (n : ℕ) (row : FieldRow) (v : Value) (vs : Vec Value Global) → covered (schema_at d) (type_at d) ≡ true → Some (schema_field (pool_rows d.pool) row) ≡ field_of (known_of d) n → is_repeated row.cardinality ≡ true →
+pub row_list_written : (d : MessageDescriptor) (n : ℕ) (row : FieldRow) (v : Value) (vs : Vec Value Global) → covered (schema_at d) (type_at d) ≡ true → Some (schema_field (pool_rows d.pool) row) ≡ field_of (known_of d) n → is_repeated row.cardinality ≡ true → names_message row.kind ≡ false →
     passes (field_of (known_of d) n) (λ f. value_valid f (value_of v)) ≡ true → v ≡ values.List vs → ListWritten (known_of d) n row.kind row.is_packed vs.items
-row_list_written d n row v vs h found many valid is =
+row_list_written d n row v vs h found many scalar valid is =
     let parts = covered_list (schema_field (pool_rows d.pool) row) (covered_field (schema_at d) (type_at d) n (schema_field (pool_rows d.pool) row) h (sym found)) (repeated_row (pool_rows d.pool) row many) in
-    let kind = plain_row (pool_rows d.pool) row many parts.listed parts.plain in
+    let kind = plain_row (pool_rows d.pool) row many parts.listed parts.other scalar in
     list_of_kind (known_of d) n (schema_field (pool_rows d.pool) row) row.is_packed row.kind kind.scalar vs.items (sym found) (list_row (pool_rows d.pool) row many parts.listed) kind.is kind.named
     (passing (field_of (known_of d) n) (schema_field (pool_rows d.pool) row) (λ f. value_valid f (ListValue (values_from (map value_of vs.items)))) (sym found)
     (subst (λ c. passes (field_of (known_of d) n) (λ f. value_valid f c) ≡ true) (ap value_of is ∙ value_of_list vs) valid))
@@ -133,8 +132,8 @@ list_value_bytes fields n kind packed v vs ws is same w = ap (value_bytes fields
 pub valid_list_value : (d : MessageDescriptor) (n : ℕ) (row : FieldRow) (c : contents.Value) → covered (schema_at d) (type_at d) ≡ true → Some (schema_field (pool_rows d.pool) row) ≡ field_of (known_of d) n → is_repeated row.cardinality ≡ true →
     passes (field_of (known_of d) n) (λ f. value_valid f c) ≡ true → IsList c
 valid_list_value d n row c h found many valid =
-    let f = list_field d n row h (sym found) many in
-    go f.field f.packed c f.form (passing (field_of (known_of d) n) f.field (λ f. value_valid f c) f.found valid)
+    let parts = covered_list (schema_field (pool_rows d.pool) row) (covered_field (schema_at d) (type_at d) n (schema_field (pool_rows d.pool) row) h (sym found)) (repeated_row (pool_rows d.pool) row many) in
+    go (schema_field (pool_rows d.pool) row) row.is_packed c (list_row (pool_rows d.pool) row many parts.listed) (passing (field_of (known_of d) n) (schema_field (pool_rows d.pool) row) (λ f. value_valid f c) (sym found) valid)
   where
     go : (f : Field) (packed : Bool) (c : contents.Value) → f.form ≡ Repeated packed → value_valid f c ≡ true → IsList c
     go f packed (ScalarValue s) form h = absurd (true≢false (sym (and_both _ _ h).0 ∙ ap is_singular form))

@@ -1,4 +1,4 @@
--- The message types that reading and writing cover so far: those whose fields have scalars, one each or lists that hold no enum numbers, and those of schemas in which each field has one value or such a list.
+-- The message types that reading and writing cover so far: those whose fields hold scalars, one each or lists of other scalars than enum numbers, and those of schemas in which each field has one value or such a list, or a list of messages.
 use Rattle.std.specs.Prelude.{ℕ, Bool, true, false, not, ◌&&◌, ◌||◌}
 use Rattle.std.specs.List.{list_all}
 use Rattle.prost_reflect_wire.specs.Scalar.{Enum}
@@ -8,17 +8,16 @@ use Rattle.prost_reflect_tables.specs.declared.tables.Cardinality.{Cardinality}
 use Rattle.prost_reflect_tables.specs.declared.tables.Cardinality.TheVariants.{Repeated}
 use Rattle.prost_reflect_tables.specs.declared.tables.TableKind.{TableKind}
 use Rattle.prost_reflect_tables.specs.declared.tables.TableKind.TheVariants.{Message, Enum as EnumAt}
-use Rattle.prost_reflect_tables.specs.Rows.{FieldRow, MessageRow}
+use Rattle.prost_reflect_tables.specs.Rows.{MessageRow, TableRows}
+use Rattle.prost_reflect_tables.specs.Shown.{schema_field}
 
--- Neither an enum nor a message.
-abbrev pub is_plain : Kind → Bool
-is_plain (ScalarOf (Enum first numbers)) = false
-is_plain (ScalarOf kind) = true
-is_plain kind = false
+abbrev pub is_enum : Kind → Bool
+is_enum (ScalarOf (Enum first numbers)) = true
+is_enum kind = false
 
--- One value, or a list of plain scalars.
+-- One value, or a list that holds no enum numbers.
 abbrev pub field_covered : Field → Bool
-field_covered f = is_singular f.form || (is_list f.form && is_plain f.value_type.kind)
+field_covered f = is_singular f.form || (is_list f.form && not (is_enum f.value_type.kind))
 
 -- And no message.
 abbrev pub field_flat : Field → Bool
@@ -37,20 +36,13 @@ abbrev pub is_repeated : Cardinality → Bool
 is_repeated Repeated = true
 is_repeated c = false
 
-abbrev pub is_plain_kind : TableKind → Bool
-is_plain_kind (Message T) = false
-is_plain_kind (EnumAt E) = false
-is_plain_kind kind = true
+abbrev pub is_enum_kind : TableKind → Bool
+is_enum_kind (EnumAt E) = true
+is_enum_kind kind = false
 
 abbrev pub names_message : TableKind → Bool
 names_message (Message T) = true
 names_message kind = false
 
-abbrev pub row_covered : FieldRow → Bool
-row_covered f = not (is_repeated f.cardinality) || is_plain_kind f.kind
-
-abbrev pub row_flat : FieldRow → Bool
-row_flat f = row_covered f && not (names_message f.kind)
-
-abbrev pub message_covered : MessageRow → Bool
-message_covered m = list_all row_covered m.fields
+abbrev pub message_covered : TableRows → MessageRow → Bool
+message_covered rows m = list_all (λ f. field_covered (schema_field rows f)) m.fields

@@ -12,7 +12,7 @@ ghost use Rattle.prost_reflect.specs.Covered.{covered};
 ghost use Rattle.prost_reflect.specs.Descriptors.{schema_at, type_at};
 ghost use Rattle.prost_reflect.specs.Known.{known_of};
 ghost use Rattle.prost_reflect.specs.Scalars.{PlainField, StaysUnknown};
-ghost use Rattle.prost_reflect.specs.Targets.{IsTarget, target_of};
+ghost use Rattle.prost_reflect.specs.Targets.{IsTarget, target_of, element_target_of};
 ghost use Rattle.prost_reflect.specs.View.{content_of, descriptor_of};
 
 use crate::descriptor::MessageDescriptor;
@@ -99,6 +99,12 @@ impl DynamicMessage {
                 self.merge_message(alloc, number, place, wire_type, bytes, levels)
             }
             Target::Group(place) => self.merge_group(alloc, number, place, wire_type, bytes, levels),
+            Target::MessageElement(place) => {
+                self.merge_message_element(alloc, number, place, wire_type, bytes, levels)
+            }
+            Target::GroupElement(place) => {
+                self.merge_group_element(alloc, number, place, wire_type, bytes, levels)
+            }
             Target::Unknown => self.merge_unknown(alloc, number, wire_type, bytes, levels),
         }
     }
@@ -162,6 +168,10 @@ pub(super) enum Target {
     Message(usize),
     /// Likewise, written as a group.
     Group(usize),
+    /// A message as an element of a list.
+    MessageElement(usize),
+    /// A group as an element of a list.
+    GroupElement(usize),
 }
 
 /// What a record of the number is read as, in a covered message type.
@@ -170,7 +180,9 @@ fn target_at(descriptor: &MessageDescriptor, number: u32) -> Target
     ensures { IsTarget descriptor.now number result }
 {
     match descriptor.field_table(number) {
-        Some(field) if is_repeated(field.cardinality) => Target::List(field.kind),
+        Some(field) if is_repeated(field.cardinality) => {
+            element_target(field.kind, field.is_group)
+        }
         Some(field) => value_target(field.kind, field.is_group),
         None => Target::Unknown,
     }
@@ -184,5 +196,16 @@ fn value_target(kind: TableKind, is_group: bool) -> Target
         TableKind::Message(place) if is_group => Target::Group(place),
         TableKind::Message(place) => Target::Message(place),
         _ => Target::Scalar(kind),
+    }
+}
+
+/// What a record of a list is read as.
+fn element_target(kind: TableKind, is_group: bool) -> Target
+    ensures { result ≡ element_target_of kind is_group }
+{
+    match kind {
+        TableKind::Message(place) if is_group => Target::GroupElement(place),
+        TableKind::Message(place) => Target::MessageElement(place),
+        _ => Target::List(kind),
     }
 }

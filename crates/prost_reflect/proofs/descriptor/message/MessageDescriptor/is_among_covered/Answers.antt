@@ -8,6 +8,6 @@ use Rattle.prost_reflect.proofs.descriptor.message.MessageDescriptor.is_among_co
 
 pub returns : goal.returns
 returns c =
-    c.are_messages_covered.ensures ∙ ap (list_all (λ m. message_covered (message_row m))) c.deref.ensures.value ∙ tables_all c.tables.result.now.messages.items
-    ∙ ap (λ (rows : TableRows). list_all message_covered rows.messages) (c.tables.ensures ∙ c.parent_pool.ensures)
+    c.are_messages_covered.ensures ∙ ap (list_all (λ m. message_covered (pool_rows c.args.self.now.pool) (message_row m))) c.deref.ensures.value ∙ tables_all (pool_rows c.args.self.now.pool) c.tables.result.now.messages.items
+    ∙ ap (λ (rows : TableRows). list_all (message_covered (pool_rows c.args.self.now.pool)) rows.messages) (c.tables.ensures ∙ c.parent_pool.ensures)
     ∙ schema_covered (pool_rows c.args.self.now.pool)
