@@ -3,6 +3,7 @@ use Rattle.std.proofs.Common.{◌≡◌, ℕ, zero, suc, Bool, true, false, not,
 use Rattle.std.specs.Prelude.{nat_eq, slice_get}
 use Rattle.std.specs.List.{list_all}
 use Rattle.prost_reflect_wire.specs.Schema.{ScalarOf, ValueType, Field, MessageType, Schema, known, field_of, is_singular, is_message}
+use Rattle.prost_reflect_wire.specs.Typing.{is_repeated as is_list}
 use Rattle.prost_reflect_tables.specs.declared.tables.Cardinality.{Cardinality}
 use Rattle.prost_reflect_tables.specs.declared.tables.Cardinality.TheVariants.{Optional, Required, Repeated}
 use Rattle.prost_reflect_tables.specs.declared.tables.TableKind.{TableKind}
@@ -71,17 +72,32 @@ plain_shown rows f =
     let row : FieldRow = value_row (map_parts rows f) f in
     sym (ap (λ (t : ValueType). is_plain t.kind) (value_shown rows f) ∙ plain_kind rows.enums row.kind row.is_group)
 
+-- A list has the kind of its row.
+messages_shown : (rows : TableRows) (f : FieldRow) → (is_list (schema_field rows f).form && names_message f.kind) ≡ (is_list (schema_field rows f).form && is_message (schema_field rows f).value_type.kind)
+messages_shown rows f = go f.cardinality
+  where
+    many : (entry : Option MessageRow) → (is_list (form_of rows.enums f Repeated entry) && names_message f.kind) ≡ (is_list (form_of rows.enums f Repeated entry) && is_message (value_type_of rows.enums f entry).kind)
+    many None = sym (message_kind rows.enums f.kind f.is_group)
+    many (Some m) = refl
+
+    go : (c : Cardinality) → (is_list (form_of rows.enums f c (map_entry rows.messages f c)) && names_message f.kind) ≡ (is_list (form_of rows.enums f c (map_entry rows.messages f c)) && is_message (value_type_of rows.enums f (map_entry rows.messages f c)).kind)
+    go Optional = refl
+    go Required = refl
+    go Repeated = many (map_entry rows.messages f Repeated)
+
 covered_row : (rows : TableRows) (f : FieldRow) → row_covered rows f ≡ field_covered (schema_field rows f)
-covered_row rows f = ap₂ (λ a b. a || b) (single_shown rows f) (plain_shown rows f)
+covered_row rows f = ap₂ (λ a b. a || b) (single_shown rows f) (ap₂ (λ a b. a || b) (plain_shown rows f) (messages_shown rows f))
 
 flat_row : (rows : TableRows) (f : FieldRow) → row_flat rows f ≡ field_flat (schema_field rows f)
 flat_row rows f =
     let row : FieldRow = value_row (map_parts rows f) f in
     ap₂ (λ a b. a && not b) (covered_row rows f) (sym (ap (λ (t : ValueType). is_message t.kind) (value_shown rows f) ∙ message_kind rows.enums row.kind row.is_group))
 
--- A covered row that is repeated has plain scalars.
-pub covered_values : (rows : TableRows) (f : FieldRow) → field_covered (schema_field rows f) ≡ true → is_repeated f.cardinality ≡ true → is_plain_kind (value_row (map_parts rows f) f).kind ≡ true
-covered_values rows f h many = ap (λ b. not b || is_plain_kind (value_row (map_parts rows f) f).kind) (sym many) ∙ covered_row rows f ∙ h
+-- A covered row that is repeated has plain scalars, or it is a list of messages.
+pub covered_values : (rows : TableRows) (f : FieldRow) → field_covered (schema_field rows f) ≡ true → is_repeated f.cardinality ≡ true →
+    (is_plain_kind (value_row (map_parts rows f) f).kind || (is_list (schema_field rows f).form && names_message f.kind)) ≡ true
+covered_values rows f h many =
+    ap (λ b. not b || (is_plain_kind (value_row (map_parts rows f) f).kind || (is_list (schema_field rows f).form && names_message f.kind))) (sym many) ∙ covered_row rows f ∙ h
 
 flat_rows : (rows : TableRows) (fields : List FieldRow) → list_all (row_flat rows) fields ≡ list_all field_flat (map (schema_field rows) fields)
 flat_rows rows [] = refl

@@ -30,6 +30,8 @@ pub mod Zeros
 pub mod WrittenValues
 pub mod NestedWrites
 pub mod WrittenMaps
+pub mod ElementReads
+pub mod ElementWrites
 pub mod Encodings
 pub mod Present
 pub mod Defaults

@@ -11,7 +11,7 @@ use Rattle.prost_reflect_wire.specs.Content.{Content, ContentOf, Entries, Messag
 use Rattle.prost_reflect_wire.specs.Content as contents
 use Rattle.prost_reflect_wire.specs.Typing.{WellStored}
 use Rattle.prost_reflect_wire.specs.Edit.{with_field_value, message_of}
-use Rattle.prost_reflect_wire.specs.Fault.{OfType, Stands, StandsInMessage, one_takes, same_wire}
+use Rattle.prost_reflect_wire.specs.Fault.{OfType, Stands, StandsInMessage, one_takes, same_wire, is_map}
 use Rattle.prost_reflect_wire.specs.Decoding.{Progress, GroupProgress, Step, StandsBehindKey, StandsInGroup}
 use Rattle.prost_reflect_wire.proofs.Survivors.{field_number}
 use Rattle.prost_reflect_wire.proofs.MessageSteps.{OneMessage, ReadInto, Nested, FoundNested, nested_sound, message_holds, group_holds, nested_end, nested_wire, nested_depth, nested_plain, message_refused, group_refused}
@@ -34,17 +34,17 @@ use Rattle.prost_reflect.proofs.Merging.{differ_in, known_in}
 pub schema_in : (m : DynamicMessage) → schema_of (content_of m) ≡ schema_at (descriptor_of m)
 schema_in m = ap schema_of (content_of_message m)
 
-type_in : (m : DynamicMessage) → type_of (content_of m) ≡ type_at (descriptor_of m)
+pub type_in : (m : DynamicMessage) → type_of (content_of m) ≡ type_at (descriptor_of m)
 type_in m = ap type_of (content_of_message m)
 
 -- the field of the number, as the message's content knows it
 abbrev found_in : (m : DynamicMessage) (n T : ℕ) (kind : Kind) → NestedField (descriptor_of m) n T kind → message_of kind ≡ Some T → FoundNested (schema_of (content_of m)) (type_of (content_of m)) n T kind
-found_in m n T kind at names = record { field = at.field; found = ap (λ fields. field_of fields n) (known_in m) ∙ at.found; form = at.form; kind_is = at.kind_is; names = names }
+found_in m n T kind at names = record { field = at.field; found = ap (λ fields. field_of fields n) (known_in m) ∙ at.found; form = ap is_map at.form; kind_is = at.kind_is; names = names }
 
 one_of : (m : DynamicMessage) (n T : ℕ) (kind : Kind) → (at : NestedField (descriptor_of m) n T kind) → message_of kind ≡ Some T → OneMessage at.field T
 one_of m n T kind at names = record { form = at.form; names = ap message_of at.kind_is ∙ names }
 
-names_message : (kind : Kind) (T : ℕ) → message_of kind ≡ Some T → is_message kind ≡ true
+pub names_message : (kind : Kind) (T : ℕ) → message_of kind ≡ Some T → is_message kind ≡ true
 names_message (ScalarOf kind) T e = cc
 names_message (MessageOf U) T e = refl
 names_message (GroupOf U) T e = refl
@@ -202,33 +202,40 @@ one_less levels some = omega arith
 
 -- REFUSALS
 
+abbrev pub FoundIn : DynamicMessage → ℕ → ℕ → Kind → Type 0
+FoundIn m n T kind = FoundNested (schema_of (content_of m)) (type_of (content_of m)) n T kind
+
+pub found_refused : (m : DynamicMessage) (n T : ℕ) (kind : Kind) (wanted w : WireType) (levels : ℕ) (e : DecodeError) (rest : List ℕ) → FoundIn m n T kind → ((v : WireType) → one_takes kind v ≡ same_wire v wanted) → same_wire wanted wanted ≡ true →
+    NestedFault wanted w levels e → StandsBehindKey (content_of m) levels n w e rest
+found_refused m n T kind wanted w levels errors.EndGroup rest at takes itself f = subst (λ v. StandsBehindKey (content_of m) levels n v errors.EndGroup rest) (sym f) (nested_end (content_of m) n T kind at levels rest)
+found_refused m n T kind wanted w levels errors.WireType rest at takes itself f = nested_wire (content_of m) n T kind at levels w rest f.0 (takes w ∙ f.1)
+found_refused m n T kind wanted w levels errors.Depth rest at takes itself f =
+    subst (λ k. StandsBehindKey (content_of m) k n w errors.Depth rest) (sym f.1) (nested_depth (content_of m) n T kind at w rest (takes w ∙ ap (λ v. same_wire v wanted) f.0 ∙ itself))
+found_refused m n T kind wanted w levels errors.Truncated rest at takes itself f = absurd f
+found_refused m n T kind wanted w levels errors.Varint rest at takes itself f = absurd f
+found_refused m n T kind wanted w levels errors.Key rest at takes itself f = absurd f
+found_refused m n T kind wanted w levels errors.Utf8 rest at takes itself f = absurd f
+found_refused m n T kind wanted w levels errors.OutOfMemory rest at takes itself f = absurd f
+
 pub nested_refused : (m : DynamicMessage) (n T : ℕ) (kind : Kind) (wanted w : WireType) (levels : ℕ) (e : DecodeError) (rest : List ℕ) → NestedField (descriptor_of m) n T kind → message_of kind ≡ Some T → ((v : WireType) → one_takes kind v ≡ same_wire v wanted) → same_wire wanted wanted ≡ true →
     NestedFault wanted w levels e → StandsBehindKey (content_of m) levels n w e rest
-nested_refused m n T kind wanted w levels errors.EndGroup rest at names takes itself f = subst (λ v. StandsBehindKey (content_of m) levels n v errors.EndGroup rest) (sym f) (nested_end (content_of m) n T kind (found_in m n T kind at names) levels rest)
-nested_refused m n T kind wanted w levels errors.WireType rest at names takes itself f = nested_wire (content_of m) n T kind (found_in m n T kind at names) levels w rest f.0 (takes w ∙ f.1)
-nested_refused m n T kind wanted w levels errors.Depth rest at names takes itself f =
-    subst (λ k. StandsBehindKey (content_of m) k n w errors.Depth rest) (sym f.1) (nested_depth (content_of m) n T kind (found_in m n T kind at names) w rest (takes w ∙ ap (λ v. same_wire v wanted) f.0 ∙ itself))
-nested_refused m n T kind wanted w levels errors.Truncated rest at names takes itself f = absurd f
-nested_refused m n T kind wanted w levels errors.Varint rest at names takes itself f = absurd f
-nested_refused m n T kind wanted w levels errors.Key rest at names takes itself f = absurd f
-nested_refused m n T kind wanted w levels errors.Utf8 rest at names takes itself f = absurd f
-nested_refused m n T kind wanted w levels errors.OutOfMemory rest at names takes itself f = absurd f
+nested_refused m n T kind wanted w levels e rest at names takes itself f = found_refused m n T kind wanted w levels e rest (found_in m n T kind at names) takes itself f
 
 pub payload_refused : (m : DynamicMessage) (n T : ℕ) (kind : Kind) (w : WireType) (levels : ℕ) (e : DecodeError) (rest : List ℕ) → NestedField (descriptor_of m) n T kind → message_of kind ≡ Some T → PlainFault e w rest → StandsBehindKey (content_of m) levels n w e rest
 payload_refused m n T kind w levels e rest at names f = nested_plain (content_of m) n T kind (found_in m n T kind at names) levels w e rest f
 
-module _ (m inner : DynamicMessage) (n T : ℕ) (at : InsideMessage m inner n T) (levels : ℕ) (some : 1 ≤ levels) (e : DecodeError) where
-  pub inside_refused : (body rest after : List ℕ) → NestedField (descriptor_of m) n T (MessageOf T) → DelimitedFront body rest after → StandsInMessage (schema_of (content_of inner)) (type_of (content_of inner)) (levels - 1) e body →
+module _ (m inner : DynamicMessage) (n T : ℕ) (schema_is : schema_of (content_of inner) ≡ schema_of (content_of m)) (type_is : type_of (content_of inner) ≡ T) (levels : ℕ) (some : 1 ≤ levels) (e : DecodeError) where
+  pub inside_refused : (body rest after : List ℕ) → FoundIn m n T (MessageOf T) → DelimitedFront body rest after → StandsInMessage (schema_of (content_of inner)) (type_of (content_of inner)) (levels - 1) e body →
       StandsBehindKey (content_of m) levels n wires.LengthDelimited e rest
   inside_refused body rest after field front stands =
       subst (λ k. StandsBehindKey (content_of m) k n wires.LengthDelimited e rest) (one_less levels some)
-      (message_refused (content_of m) n T (MessageOf T) (found_in m n T (MessageOf T) field refl) (levels - 1) e body rest after refl front (subst (λ s. StandsInMessage s T (levels - 1) e body) at.schema_is (subst (λ U. StandsInMessage (schema_of (content_of inner)) U (levels - 1) e body) at.type_is stands)))
+      (message_refused (content_of m) n T (MessageOf T) field (levels - 1) e body rest after refl front (subst (λ s. StandsInMessage s T (levels - 1) e body) schema_is (subst (λ U. StandsInMessage (schema_of (content_of inner)) U (levels - 1) e body) type_is stands)))
 
-  pub in_group_refused : (rest : List ℕ) → NestedField (descriptor_of m) n T (GroupOf T) → StandsInGroup (content_of inner) (levels - 1) n e rest → StandsBehindKey (content_of m) levels n wires.StartGroup e rest
+  pub in_group_refused : (rest : List ℕ) → FoundIn m n T (GroupOf T) → StandsInGroup (content_of inner) (levels - 1) n e rest → StandsBehindKey (content_of m) levels n wires.StartGroup e rest
   in_group_refused rest field stands =
       subst (λ k. StandsBehindKey (content_of m) k n wires.StartGroup e rest) (one_less levels some)
-      (group_refused (content_of m) n T (GroupOf T) (found_in m n T (GroupOf T) field refl) (levels - 1) e rest refl
-      (subst (λ s. Stands s e (record { bytes = rest; inside = OfType T; levels = levels - 1; open_group = Some n })) at.schema_is (subst (λ U. Stands (schema_of (content_of inner)) e (record { bytes = rest; inside = OfType U; levels = levels - 1; open_group = Some n })) at.type_is stands)))
+      (group_refused (content_of m) n T (GroupOf T) field (levels - 1) e rest refl
+      (subst (λ s. Stands s e (record { bytes = rest; inside = OfType T; levels = levels - 1; open_group = Some n })) schema_is (subst (λ U. Stands (schema_of (content_of inner)) e (record { bytes = rest; inside = OfType U; levels = levels - 1; open_group = Some n })) type_is stands)))
 
 -- WHAT WAS READ INTO THE LENT VALUE
 
@@ -253,10 +260,10 @@ module _ (m : DynamicMessage) (n T levels : ℕ) (v : Value) (some : 1 ≤ level
       StandsInHeld (levels - 1) (message_in (out-Value v)) e body → StandsBehindKey (content_of m) levels n w e bytes
   message_refused_in e w bytes body rest field wire front f =
       let at = inside_message m f.before n T v h lent (held_is v f.before f.was) in
-      subst (λ w. StandsBehindKey (content_of m) levels n w e bytes) (sym wire) (inside_refused m f.before n T at levels some e body bytes rest field front f.stands)
+      subst (λ w. StandsBehindKey (content_of m) levels n w e bytes) (sym wire) (inside_refused m f.before n T at.schema_is at.type_is levels some e body bytes rest (found_in m n T (MessageOf T) field refl) front f.stands)
 
   pub group_refused_in : (e : DecodeError) (w : WireType) (bytes : List ℕ) → NestedField (descriptor_of m) n T (GroupOf T) → w ≡ wires.StartGroup →
       GroupStandsInHeld (levels - 1) n (message_in (out-Value v)) e bytes → StandsBehindKey (content_of m) levels n w e bytes
   group_refused_in e w bytes field wire f =
       let at = inside_message m f.before n T v h lent (held_is v f.before f.was) in
-      subst (λ w. StandsBehindKey (content_of m) levels n w e bytes) (sym wire) (in_group_refused m f.before n T at levels some e bytes field f.stands)
+      subst (λ w. StandsBehindKey (content_of m) levels n w e bytes) (sym wire) (in_group_refused m f.before n T at.schema_is at.type_is levels some e bytes (found_in m n T (GroupOf T) field refl) f.stands)

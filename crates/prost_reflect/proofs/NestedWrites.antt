@@ -1,8 +1,8 @@
 -- What is written of a message or a group in the place of its field.
-use Rattle.std.proofs.Common.{◌≡◌, ℕ, Bool, true, false, List, [], ◌∷◌, ◌++◌, ◌⊎◌, inl, inr, Some, refl, sym, ap, ◌∙◌, subst, append-nil, true≢false}
+use Rattle.std.proofs.Common.{◌≡◌, ℕ, Bool, true, false, List, [], ◌∷◌, ◌++◌, ◌⊎◌, inl, inr, Some, refl, sym, ap, ◌∙◌, subst, append-nil, append_assoc, true≢false}
 use denote.Hole.Carrier as Carrier
 use Rattle.prost_reflect_wire.specs.declared.key.WireType.TheVariants as wires
-use Rattle.prost_reflect_wire.specs.Record.{Len, short_key, short_plain, record_at, spelled}
+use Rattle.prost_reflect_wire.specs.Record.{Len, Record, short_key, short_plain, record_at, spelled}
 use Rattle.prost_reflect_wire.specs.Schema.{Kind, ScalarOf, MessageOf, GroupOf, ValueType, Field, is_message, is_singular, field_of, passes}
 use Rattle.prost_reflect_wire.specs.Content.{Content, MessageValue, schema_of}
 use Rattle.prost_reflect_wire.specs.Content as contents
@@ -73,12 +73,22 @@ kind_bytes n (ScalarOf kind) g c h plain group = absurd (true≢false (sym h))
 kind_bytes n (MessageOf T) g c h plain group = ap (λ l. short_key n wires.LengthDelimited ++ l) (append-nil (short_plain (Len (spelled (records (kept c)))))) ∙ ap (λ g. nested_bytes n g c) (sym (plain T refl))
 kind_bytes n (GroupOf T) g c h plain group = ap (λ l. short_key n wires.StartGroup ++ (spelled (records (kept c)) ++ l)) (append-nil (short_key n wires.EndGroup)) ∙ ap (λ g. nested_bytes n g c) (sym (group T refl))
 
-shown_plain : (enums : List EnumRow) (kind : TableKind) (g : Bool) (T : ℕ) → schema_kind enums kind g ≡ MessageOf T → g ≡ false
+-- and in front of further records
+pub kind_bytes_before : (n : ℕ) (kind : Kind) (g : Bool) (c : Content) (rs : List Record) → is_message kind ≡ true → ((T : ℕ) → kind ≡ MessageOf T → g ≡ false) → ((T : ℕ) → kind ≡ GroupOf T → g ≡ true) →
+    spelled (record_at n (message_payload kind (records (kept c))) ∷ rs) ≡ nested_bytes n g c ++ spelled rs
+kind_bytes_before n (ScalarOf kind) g c rs h plain group = absurd (true≢false (sym h))
+kind_bytes_before n (MessageOf T) g c rs h plain group =
+    sym (append_assoc (short_key n wires.LengthDelimited) (short_plain (Len (spelled (records (kept c))))) (spelled rs)) ∙ ap (λ g. nested_bytes n g c ++ spelled rs) (sym (plain T refl))
+kind_bytes_before n (GroupOf T) g c rs h plain group =
+    ap (λ l. short_key n wires.StartGroup ++ l) (sym (append_assoc (spelled (records (kept c))) (short_key n wires.EndGroup) (spelled rs)))
+    ∙ sym (append_assoc (short_key n wires.StartGroup) (spelled (records (kept c)) ++ short_key n wires.EndGroup) (spelled rs)) ∙ ap (λ g. nested_bytes n g c ++ spelled rs) (sym (group T refl))
+
+pub shown_plain : (enums : List EnumRow) (kind : TableKind) (g : Bool) (T : ℕ) → schema_kind enums kind g ≡ MessageOf T → g ≡ false
 shown_plain enums (kinds.Message U) true T e = cc
 shown_plain enums (kinds.Message U) false T e = refl
 shown_plain enums kind g T e = cc
 
-shown_group : (enums : List EnumRow) (kind : TableKind) (g : Bool) (T : ℕ) → schema_kind enums kind g ≡ GroupOf T → g ≡ true
+pub shown_group : (enums : List EnumRow) (kind : TableKind) (g : Bool) (T : ℕ) → schema_kind enums kind g ≡ GroupOf T → g ≡ true
 shown_group enums (kinds.Message U) true T e = refl
 shown_group enums (kinds.Message U) false T e = cc
 shown_group enums kind g T e = cc

@@ -5,6 +5,7 @@ use Rattle.prost_reflect_wire.specs.Record.{Payload, Plain, Var, Fix64, Len, Fix
 use Rattle.prost_reflect_wire.specs.Scalar as scalars
 use Rattle.prost_reflect_wire.specs.Scalar.{Scalar, ScalarKind, EnumNumbers, low_i32, kind_wire, elem, written, scalar_valid, is_declared, is_undeclared, in_i32}
 use Rattle.prost_reflect_wire.specs.Schema.{Kind, ScalarOf, Singular, Repeated, is_message}
+use Rattle.prost_reflect_wire.specs.Typing.{is_repeated as is_list}
 use Rattle.prost_reflect_wire.specs.Content.{ScalarValue}
 use Rattle.prost_reflect_wire.specs.Grammar.{is_stray}
 use Rattle.prost_reflect_wire.proofs.Deeper.{and_both, both_true}
@@ -119,6 +120,31 @@ pub plain_ungrouped : (enums : List EnumRow) (g : Bool) (table : TableKind) → 
 plain_ungrouped enums true (kinds.Message T) h = absurd (true≢false (sym h))
 plain_ungrouped enums false (kinds.Message T) h = refl
 plain_ungrouped enums g table h = refl
+
+-- the row of a list
+pub list_kind : (rows : TableRows) (row : FieldRow) → is_repeated row.cardinality ≡ true → is_list (schema_field rows row).form ≡ true → (schema_field rows row).value_type.kind ≡ schema_kind rows.enums row.kind row.is_group
+list_kind rows row many form = go row.cardinality many form
+  where
+    listed : (entry : Option MessageRow) → is_list (form_of rows.enums row RepeatedLabel entry) ≡ true → (value_type_of rows.enums row entry).kind ≡ schema_kind rows.enums row.kind row.is_group
+    listed None f = refl
+    listed (Some m) f = absurd (true≢false (sym f))
+
+    go : (c : Cardinality) → is_repeated c ≡ true → is_list (form_of rows.enums row c (map_entry rows.messages row c)) ≡ true → (value_type_of rows.enums row (map_entry rows.messages row c)).kind ≡ schema_kind rows.enums row.kind row.is_group
+    go Optional m f = absurd (true≢false (sym m))
+    go Required m f = absurd (true≢false (sym m))
+    go RepeatedLabel m f = listed (map_entry rows.messages row RepeatedLabel) f
+
+pub listed_row : (rows : TableRows) (row : FieldRow) → is_repeated row.cardinality ≡ true → is_list (schema_field rows row).form ≡ true → (schema_field rows row).form ≡ Repeated row.is_packed
+listed_row rows row h m = go row.cardinality h m
+  where
+    listed : (entry : Option MessageRow) → is_list (form_of rows.enums row RepeatedLabel entry) ≡ true → form_of rows.enums row RepeatedLabel entry ≡ Repeated row.is_packed
+    listed None m = refl
+    listed (Some e) m = absurd (true≢false (sym m))
+
+    go : (c : Cardinality) → is_repeated c ≡ true → is_list (form_of rows.enums row c (map_entry rows.messages row c)) ≡ true → form_of rows.enums row c (map_entry rows.messages row c) ≡ Repeated row.is_packed
+    go Optional h m = absurd (true≢false (sym h))
+    go Required h m = absurd (true≢false (sym h))
+    go RepeatedLabel h m = listed (map_entry rows.messages row RepeatedLabel) m
 
 -- PLAIN KINDS
 

@@ -24,7 +24,6 @@ use Rattle.prost_reflect.specs.Covered.{is_plain_kind, is_repeated}
 use Rattle.prost_reflect.specs.Known.{known_of}
 use Rattle.prost_reflect.specs.Pools.{pool_rows}
 use Rattle.prost_reflect.proofs.PlainKinds.{plain_row, list_row}
-use Rattle.prost_reflect.proofs.ListMerging.{list_field}
 use Rattle.prost_reflect.proofs.Views.{value_of_list}
 use Rattle.prost_reflect.proofs.WrittenValues.{passing}
 use Rattle.prost_reflect.specs.View.{value_of}
@@ -126,12 +125,11 @@ pub list_value_bytes : (fields : List Field) (n : ℕ) (kind : TableKind) (packe
     value_bytes fields n (value_of v) ≡ list_bytes n packed kind ws
 list_value_bytes fields n kind packed v vs ws is same w = ap (value_bytes fields n) (ap value_of is ∙ value_of_list vs) ∙ w.bytes ∙ ap (list_bytes n packed kind) (sym same)
 
--- a value of a repeated row of a plain kind is a list
-pub valid_list_value : (d : MessageDescriptor) (n : ℕ) (row : FieldRow) (c : contents.Value) → is_plain_kind row.kind ≡ true → Some (schema_field (pool_rows d.pool) row) ≡ field_of (known_of d) n → is_repeated row.cardinality ≡ true →
+-- a value of a field of lists is a list
+pub valid_list_value : (d : MessageDescriptor) (n : ℕ) (row : FieldRow) (c : contents.Value) → (schema_field (pool_rows d.pool) row).form ≡ Repeated row.is_packed → Some (schema_field (pool_rows d.pool) row) ≡ field_of (known_of d) n →
     passes (field_of (known_of d) n) (λ f. value_valid f c) ≡ true → IsList c
-valid_list_value d n row c plain found many valid =
-    let f = list_field d n row (sym found) many plain in
-    go f.field f.packed c f.form (passing (field_of (known_of d) n) f.field (λ f. value_valid f c) f.found valid)
+valid_list_value d n row c form found valid =
+    go (schema_field (pool_rows d.pool) row) row.is_packed c form (passing (field_of (known_of d) n) (schema_field (pool_rows d.pool) row) (λ f. value_valid f c) (sym found) valid)
   where
     go : (f : Field) (packed : Bool) (c : contents.Value) → f.form ≡ Repeated packed → value_valid f c ≡ true → IsList c
     go f packed (ScalarValue s) form h = absurd (true≢false (sym (and_both _ _ h).0 ∙ ap is_singular form))

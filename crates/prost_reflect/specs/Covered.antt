@@ -1,13 +1,15 @@
--- The message types that reading and writing cover so far: those whose fields have scalars, one each or lists and maps that hold no enum numbers, and those of schemas in which each field has one value, or such a list or map.
+-- The message types that reading and writing cover so far: those whose fields have scalars, one each or lists and maps that hold no enum numbers, and those of schemas in which each field has one value, or such a list or map, or a list of messages.
 use Rattle.std.specs.Prelude.{ℕ, Bool, true, false, not, ◌&&◌, ◌||◌}
 use Rattle.std.specs.List.{list_all}
 use Rattle.prost_reflect_wire.specs.Scalar.{Enum}
 use Rattle.prost_reflect_wire.specs.Schema.{Kind, ScalarOf, Field, MessageType, Schema, known, is_singular, is_message}
+use Rattle.prost_reflect_wire.specs.Typing.{is_repeated as is_list}
 use Rattle.prost_reflect_tables.specs.declared.tables.Cardinality.{Cardinality}
 use Rattle.prost_reflect_tables.specs.declared.tables.Cardinality.TheVariants.{Repeated}
 use Rattle.prost_reflect_tables.specs.declared.tables.TableKind.{TableKind}
 use Rattle.prost_reflect_tables.specs.declared.tables.TableKind.TheVariants.{Message, Enum as EnumAt}
 use Rattle.prost_reflect_tables.specs.Rows.{FieldRow, MessageRow, TableRows}
+use Rattle.prost_reflect_tables.specs.Shown.{schema_field}
 use Rattle.prost_reflect.specs.MapParts.{map_parts, value_row}
 
 -- Neither an enum nor a message.
@@ -16,9 +18,9 @@ is_plain (ScalarOf (Enum first numbers)) = false
 is_plain (ScalarOf kind) = true
 is_plain kind = false
 
--- One value, or a list or a map of plain scalars.
+-- One value, or a list or a map of plain scalars, or a list of messages.
 abbrev pub field_covered : Field → Bool
-field_covered f = is_singular f.form || is_plain f.value_type.kind
+field_covered f = is_singular f.form || (is_plain f.value_type.kind || (is_list f.form && is_message f.value_type.kind))
 
 -- And no message.
 abbrev pub field_flat : Field → Bool
@@ -47,7 +49,7 @@ names_message (Message T) = true
 names_message kind = false
 
 abbrev pub row_covered : TableRows → FieldRow → Bool
-row_covered rows f = not (is_repeated f.cardinality) || is_plain_kind (value_row (map_parts rows f) f).kind
+row_covered rows f = not (is_repeated f.cardinality) || (is_plain_kind (value_row (map_parts rows f) f).kind || (is_list (schema_field rows f).form && names_message f.kind))
 
 abbrev pub row_flat : TableRows → FieldRow → Bool
 row_flat rows f = row_covered rows f && not (names_message (value_row (map_parts rows f) f).kind)

@@ -7,13 +7,16 @@ use Rattle.prost_reflect_wire.specs.declared.error.DecodeError.{DecodeError}
 use Rattle.prost_reflect_wire.specs.Record.{Len, Payload, short_key, short_plain}
 use Rattle.prost_reflect_wire.specs.Scalar.{ScalarKind, kind_wire, is_undeclared}
 use Rattle.prost_reflect_wire.specs.Content as content
-use Rattle.prost_reflect_wire.specs.Content.{ListValue, values_from, ◌and_then◌}
+use Rattle.prost_reflect_wire.specs.Content.{MessageValue, ListValue, NoValues, Item, values_from, ◌and_then◌, schema_of, type_of}
 use Rattle.prost_reflect_wire.specs.Meaning.{values_in}
 use Rattle.prost_reflect_wire.specs.Schema.{ScalarOf, Repeated, Field, field_of}
 use Rattle.prost_reflect_wire.specs.Fault.{ElementFault}
 use Rattle.prost_reflect_wire.specs.Decoding.{FieldFault, ElementsRead, packed_values}
 use Rattle.prost_reflect_tables.specs.declared.tables.TableKind.{TableKind}
 use Rattle.prost_reflect.specs.declared.value.Value.{Value}
+use Rattle.prost_reflect_wire.specs.Typing.{encodable, Typed}
+use Rattle.prost_reflect.specs.Covered.{covered}
+use Rattle.prost_reflect.specs.Encoding.{nested_bytes}
 use Rattle.prost_reflect.specs.View.{value_of}
 use Rattle.prost_reflect.specs.Scalars.{plain_kind, TakesScalar, scalar_bytes, scalar_record_bytes}
 
@@ -57,6 +60,14 @@ abbrev pub IsList : content.Value → Type 0
 IsList (ListValue vs) = Unit {0}
 IsList v = ⊥
 
+abbrev pub IsListOrNone : Option content.Value → Type 0
+IsListOrNone None = Unit {0}
+IsListOrNone (Some v) = IsList v
+
+-- The list with one more element; the first one, where nothing is there yet.
+abbrev pub with_element : Option content.Value → content.Value → content.Value
+with_element o v = ListValue (values_in o and_then Item v NoValues)
+
 -- The number is that of a list of plain scalars, which the tables call by this kind; no number is a stray.
 pub record ListField (fields : List Field) (n : ℕ) (kind : TableKind) : Type 0 where
   pub field : Field
@@ -92,3 +103,21 @@ abbrev pub list_bytes : ℕ → (packed : Bool) → TableKind → List Value →
 list_bytes n packed kind [] = []
 list_bytes n true kind (v ∷ vs) = packed_bytes n kind (v ∷ vs)
 list_bytes n false kind (v ∷ vs) = records_bytes n kind (v ∷ vs)
+
+-- LISTS OF MESSAGES
+
+-- A message of a covered type that can be written.
+abbrev pub ElementWritable : content.Value → Type 0
+ElementWritable (MessageValue c) = (covered (schema_of c) (type_of c) ≡ true) × (encodable c ≡ true) × Typed c
+ElementWritable v = ⊥
+
+abbrev pub AreElements : List Value → Type 0
+AreElements vs = AllByRecursion (λ v. ElementWritable (value_of v)) vs
+
+-- The record of each, one behind another.
+abbrev pub element_bytes : ℕ → (is_group : Bool) → content.Value → List ℕ
+element_bytes n g (MessageValue c) = nested_bytes n g c
+element_bytes n g v = []
+
+abbrev pub elements_bytes : ℕ → (is_group : Bool) → List Value → List ℕ
+elements_bytes n g vs = flat_map (λ v. element_bytes n g (value_of v)) vs

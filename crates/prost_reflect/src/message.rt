@@ -21,7 +21,8 @@ ghost use Rattle.prost_reflect.specs.Contents.{value_set, value_cleared, unknown
 mod change_tests;
 mod copy;
 mod decode;
-mod defaults;
+pub(crate) mod defaults;
+mod elements;
 mod encode;
 mod enums;
 mod equality;

@@ -92,7 +92,7 @@ pub record StoredList (kind : Kind) (o : Option Value) : Type 0 where
   pub listed : IsListed o
   pub valid : elements_valid kind (values_in o) ≡ true
 
-valid_list : (f : Field) (packed : Bool) (v : Value) → f.form ≡ Repeated packed → value_valid f v ≡ true → StoredList f.value_type.kind (Some v)
+pub valid_list : (f : Field) (packed : Bool) (v : Value) → f.form ≡ Repeated packed → value_valid f v ≡ true → StoredList f.value_type.kind (Some v)
 valid_list f packed (ScalarValue v) form h = absurd (true≢false (sym (and_both _ _ h).0 ∙ ap is_singular form))
 valid_list f packed (MessageValue c) form h = absurd (true≢false (sym (and_both _ _ h).0 ∙ ap is_singular form))
 valid_list f packed (ListValue vs) form h = record { listed = tt; valid = (and_both _ _ h).1 }

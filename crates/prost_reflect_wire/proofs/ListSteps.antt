@@ -57,7 +57,7 @@ abbrev pub joined_slot : Field → Values → List Payload → ℕ → Slot → 
 joined_slot f added strays m slot = cond (nat_eq m f.number) (record { value = Some (ListValue (values_in slot.value and_then added)); unknowns = slot.unknowns ++ strays }) slot
 
 -- what is kept of a list
-listed_kept : (f : Field) (packed : Bool) → f.form ≡ Repeated packed → (o : Option Value) → IsListed o → (o >>= λ v. kept_value (Some f) (kept_inside v)) ≡ present_list (kept_values (values_in o))
+pub listed_kept : (f : Field) (packed : Bool) → f.form ≡ Repeated packed → (o : Option Value) → IsListed o → (o >>= λ v. kept_value (Some f) (kept_inside v)) ≡ present_list (kept_values (values_in o))
 listed_kept f packed form None h = refl
 listed_kept f packed form (Some (ListValue vs)) h = kept_list f packed (kept_values vs) form
 listed_kept f packed form (Some v) h = absurd h

@@ -1,5 +1,5 @@
 -- A message or a group of one value, read into a content that holds: its records are read into the message that is there, or into an empty one.
-use Rattle.std.proofs.Common.{◌≡◌, ◌≢◌, ℕ, suc, ◌≤◌, Bool, true, false, List, [], Option, Some, None, refl, ap, ap₂, sym, ◌∙◌, subst, arith, true≢false}
+use Rattle.std.proofs.Common.{◌≡◌, ◌≢◌, ℕ, suc, ◌≤◌, Bool, true, false, ◌||◌, List, [], Option, Some, None, refl, ap, ap₂, sym, ◌∙◌, subst, arith, true≢false}
 use Rattle.std.specs.Prelude.{unwrap_or}
 use Rattle.std.proofs.lemmas.Bool.{eq-eqb}
 use Rattle.prost_reflect_wire.specs.declared.key.WireType.{WireType}
@@ -9,7 +9,7 @@ use Rattle.prost_reflect_wire.specs.declared.error.DecodeError.TheVariants as er
 use Rattle.prost_reflect_wire.specs.Varint.{◌>>=◌}
 use Rattle.prost_reflect_wire.specs.Record.{Len, Records, Record, Payload, Flat, Group, items, body_of, raw_levels}
 use Rattle.prost_reflect_wire.specs.Front.{KeyFront, DelimitedFront, ValueFront, PlainFault}
-use Rattle.prost_reflect_wire.specs.Schema.{Kind, ScalarOf, MessageOf, GroupOf, ValueType, FieldForm, Singular, Field, Schema, known, field_of, is_message, is_singular, numbers_differ, passes}
+use Rattle.prost_reflect_wire.specs.Schema.{Kind, ScalarOf, MessageOf, GroupOf, ValueType, FieldForm, Singular, Repeated, MapFrom, Field, Schema, known, field_of, is_message, is_singular, numbers_differ, passes}
 use Rattle.prost_reflect_wire.specs.Content.{Content, ContentOf, Entries, Value, ScalarValue, MessageValue, ListValue, MapValue, value_at, slot_at, changed, empty, schema_of, type_of, value_ordered}
 use Rattle.prost_reflect_wire.specs.Grammar.{body, or_none, records_in, is_stray, one_allowed, field_allowed, allows}
 use Rattle.prost_reflect_wire.specs.Meaning.{MeansInside, JoinsInside, content_in, one_joined, value_joined, steps}
@@ -48,7 +48,7 @@ pub record OneMessage (f : Field) (U : ℕ) : Type 0 where
 pub record ReadInto (schema : Schema) (U n : ℕ) (es : Entries) (c : Content) : Type 0 where
   pub is : unwrap_or (value_at n es) (MessageValue (empty schema U)) ≡ MessageValue c
 
-message_kind : (kind : Kind) (U : ℕ) → message_of kind ≡ Some U → is_message kind ≡ true
+pub message_kind : (kind : Kind) (U : ℕ) → message_of kind ≡ Some U → is_message kind ≡ true
 message_kind (ScalarOf kind) U e = cc
 message_kind (MessageOf V) U e = refl
 message_kind (GroupOf V) U e = refl
@@ -118,7 +118,7 @@ module _ (schema : Schema) (T : ℕ) (es : Entries) (sound : WellStored (Content
 
 -- ONE MORE MESSAGE
 
-is_its_type : (kind : Kind) (U T : ℕ) → message_of kind ≡ Some U → T ≡ U → is_of_type kind T ≡ true
+pub is_its_type : (kind : Kind) (U T : ℕ) → message_of kind ≡ Some U → T ≡ U → is_of_type kind T ≡ true
 is_its_type (ScalarOf kind) U T e same = cc
 is_its_type (MessageOf V) U T e same = eq-eqb T V (let names : V ≡ U = cc in same ∙ sym names)
 is_its_type (GroupOf V) U T e same = eq-eqb T V (let names : V ≡ U = cc in same ∙ sym names)
@@ -141,9 +141,9 @@ further_steps : (k : ℕ) (c : Content) (rs : List Record) → further (suc k) c
 unfolding further
 further_steps k c rs = refl
 
-inside_allows : (schema : Schema) (k T : ℕ) (rs : List Record) → inside schema (suc k) T rs ≡ allows schema k T rs
+pub allows_inside : (schema : Schema) (k T : ℕ) (rs : List Record) → inside schema (suc k) T rs ≡ allows schema k T rs
 unfolding inside
-inside_allows schema k T rs = refl
+allows_inside schema k T rs = refl
 
 module _ (schema : Schema) (T : ℕ) (es : Entries) (sound : WellStored (ContentOf schema T es)) (differ : numbers_differ (known schema T) ≡ true) (f : Field) (found : field_of (known schema T) f.number ≡ Some f) (U : ℕ) (one : OneMessage f U)
     (c d : Content) (into : ReadInto schema U f.number es c) (schema_is : schema_of c ≡ schema) (type_same : type_of c ≡ U) (holds : Holds c d) where
@@ -173,7 +173,7 @@ module _ (schema : Schema) (T : ℕ) (es : Entries) (sound : WellStored (Content
       ∙ sym (kept_message f (kept d) one.form))
 
   allowed_inside : (k : ℕ) (rs : List Record) → allows (schema_of c) k (type_of c) rs ≡ true → inside schema (suc k) U rs ≡ true
-  allowed_inside k rs h = inside_allows schema k U rs ∙ ap₂ (λ s T. allows s k T rs) (sym schema_is) (sym type_same) ∙ h
+  allowed_inside k rs h = allows_inside schema k U rs ∙ ap₂ (λ s T. allows s k T rs) (sym schema_is) (sym type_same) ∙ h
 
   -- a length and a body, which its records spell
   pub message_holds : (k : ℕ) (inside_bytes bytes rest : List ℕ) → f.value_type.kind ≡ MessageOf U → ReadTo k c d inside_bytes [] → DelimitedFront inside_bytes bytes rest →
@@ -199,13 +199,33 @@ module _ (schema : Schema) (T : ℕ) (es : Entries) (sound : WellStored (Content
 
 -- REFUSALS
 
--- the field of a number is of one message of the type
+-- the field of a number is of messages of the type, of one or of a list
 pub record FoundNested (schema : Schema) (T n U : ℕ) (kind : Kind) : Type 0 where
   pub field : Field
   pub found : field_of (known schema T) n ≡ Some field
-  pub form : field.form ≡ Singular
+  pub form : is_map field.form ≡ false
   pub kind_is : field.value_type.kind ≡ kind
   pub names : message_of kind ≡ Some U
+
+or_false : (b : Bool) → (b || false) ≡ b
+or_false true = refl
+or_false false = refl
+
+takes_nested : (form : FieldForm) (kind : Kind) (U : ℕ) (w : WireType) → is_map form ≡ false → message_of kind ≡ Some U → takes form kind w ≡ one_takes kind w
+takes_nested Singular kind U w form e = refl
+takes_nested (Repeated packed) (ScalarOf kind) U w form e = cc
+takes_nested (Repeated packed) (MessageOf V) U w form e = or_false (one_takes (MessageOf V) w)
+takes_nested (Repeated packed) (GroupOf V) U w form e = or_false (one_takes (GroupOf V) w)
+takes_nested (MapFrom key) kind U w form e = absurd (true≢false form)
+
+needs_nested : (form : FieldForm) (kind : Kind) (U : ℕ) (w : WireType) → is_map form ≡ false → message_of kind ≡ Some U → needs_level form kind w ≡ one_takes kind w
+needs_nested (MapFrom key) kind U w form e = absurd (true≢false form)
+needs_nested Singular (ScalarOf kind) U w form e = cc
+needs_nested Singular (MessageOf V) U w form e = refl
+needs_nested Singular (GroupOf V) U w form e = refl
+needs_nested (Repeated packed) (ScalarOf kind) U w form e = cc
+needs_nested (Repeated packed) (MessageOf V) U w form e = refl
+needs_nested (Repeated packed) (GroupOf V) U w form e = refl
 
 module _ (c : Content) (n U : ℕ) (kind : Kind) (at : FoundNested (schema_of c) (type_of c) n U kind) where
   -- an end key ends no group here
@@ -221,20 +241,15 @@ module _ (c : Content) (n U : ℕ) (kind : Kind) (at : FoundNested (schema_of c)
     rest = rest;
     key = key;
     found = at.found;
-    behind = (unended, ap (λ form. takes form at.field.value_type.kind w) at.form ∙ ap (λ kind. one_takes kind w) at.kind_is ∙ other);
+    behind = (unended, takes_nested at.field.form at.field.value_type.kind U w at.form (ap message_of at.kind_is ∙ at.names) ∙ ap (λ kind. one_takes kind w) at.kind_is ∙ other);
   })
 
   -- no level is left
   pub nested_depth : (w : WireType) (rest : List ℕ) → one_takes kind w ≡ true → StandsBehindKey c 0 n w errors.Depth rest
   nested_depth w rest taken = λ bytes opened key closes. Here (refl, record { number = n; wire = w; rest = rest; key = key; behind = opens })
     where
-      needs : (kind : Kind) → message_of kind ≡ Some U → one_takes kind w ≡ true → needs_level Singular kind w ≡ true
-      needs (ScalarOf kind) e h = cc
-      needs (MessageOf V) e h = h
-      needs (GroupOf V) e h = h
-
       opens : opens_level (field_of (known (schema_of c) (type_of c)) n) w ≡ true
-      opens = ap (λ o. opens_level o w) at.found ∙ ap (λ form. needs_level form at.field.value_type.kind w) at.form ∙ ap (λ kind. needs_level Singular kind w) at.kind_is ∙ needs kind at.names taken
+      opens = ap (λ o. opens_level o w) at.found ∙ needs_nested at.field.form at.field.value_type.kind U w at.form (ap message_of at.kind_is ∙ at.names) ∙ ap (λ kind. one_takes kind w) at.kind_is ∙ taken
 
   -- the payload is cut short
   pub nested_plain : (levels : ℕ) (w : WireType) (e : DecodeError) (rest : List ℕ) → PlainFault e w rest → StandsBehindKey c levels n w e rest
@@ -242,7 +257,7 @@ module _ (c : Content) (n U : ℕ) (kind : Kind) (at : FoundNested (schema_of c)
 
   -- a fault stands inside, one level fewer
   pub message_refused : (k : ℕ) (e : DecodeError) (inside_bytes rest after : List ℕ) → kind ≡ MessageOf U → DelimitedFront inside_bytes rest after → StandsInMessage (schema_of c) U k e inside_bytes → StandsBehindKey c (suc k) n wires.LengthDelimited e rest
-  message_refused k e inside_bytes rest after is front stands = λ bytes opened key closes. InMessage n U k at.field inside_bytes rest after at.found (ap is_map at.form) (at.kind_is ∙ is) refl key front stands
+  message_refused k e inside_bytes rest after is front stands = λ bytes opened key closes. InMessage n U k at.field inside_bytes rest after at.found at.form (at.kind_is ∙ is) refl key front stands
 
   pub group_refused : (k : ℕ) (e : DecodeError) (rest : List ℕ) → kind ≡ GroupOf U → Stands (schema_of c) e (record { bytes = rest; inside = OfType U; levels = k; open_group = Some n }) → StandsBehindKey c (suc k) n wires.StartGroup e rest
-  group_refused k e rest is stands = λ bytes opened key closes. InGroup n U k at.field rest at.found (ap is_map at.form) (at.kind_is ∙ is) refl key stands
+  group_refused k e rest is stands = λ bytes opened key closes. InGroup n U k at.field rest at.found at.form (at.kind_is ∙ is) refl key stands

@@ -9,12 +9,13 @@ ghost use Rattle.prost_reflect.specs.Descriptors.{schema_at, type_at};
 ghost use Rattle.prost_reflect.specs.Pools.{pool_rows};
 
 use crate::descriptor::MessageDescriptor;
+use crate::message::defaults::is_list;
 use prost_reflect_tables::{Cardinality, FieldTable, MessageTable, TableKind};
 
 impl MessageDescriptor {
-    /// Whether the message type is covered by reading and writing so far: its fields hold no messages, and no field has
-    /// a list or a map of enum numbers; or no field of any message type of the pool has a list or a map of messages or of
-    /// enum numbers.
+    /// Whether the message type is covered by reading and writing so far: its fields hold no messages, and no field has a
+    /// list or a map of enum numbers; or no field of any message type of the pool has a list or a map of enum numbers, or a
+    /// map of messages.
     pub fn is_covered(&self) -> bool
         ensures { result ≡ covered (schema_at self.now) (type_at self.now) }
     {
@@ -49,7 +50,7 @@ impl MessageDescriptor {
     fn is_field_flat(&self, field: &FieldTable) -> bool
         ensures { result ≡ row_flat (pool_rows self.now.pool) (field_row field.now) }
     {
-        self.is_field_covered(field) && is_scalar(self.value_table(field).kind)
+        self.is_field_covered(field) && !names_message(self.value_table(field).kind)
     }
 
     fn are_messages_covered(&self, messages: &[MessageTable]) -> bool
@@ -77,7 +78,9 @@ impl MessageDescriptor {
     fn is_field_covered(&self, field: &FieldTable) -> bool
         ensures { result ≡ row_covered (pool_rows self.now.pool) (field_row field.now) }
     {
-        !is_repeated(field.cardinality) || is_plain(self.value_table(field).kind)
+        !is_repeated(field.cardinality)
+            || is_plain(self.value_table(field).kind)
+            || (is_list(self, field) && names_message(field.kind))
     }
 }
 
@@ -94,8 +97,8 @@ fn is_plain(kind: TableKind) -> bool
     !matches!(kind, TableKind::Message(_) | TableKind::Enum(_))
 }
 
-fn is_scalar(kind: TableKind) -> bool
-    ensures { result ≡ not (names_message kind) }
+fn names_message(kind: TableKind) -> bool
+    ensures { result ≡ names_message kind }
 {
-    !matches!(kind, TableKind::Message(_))
+    matches!(kind, TableKind::Message(_))
 }

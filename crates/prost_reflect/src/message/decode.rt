@@ -15,7 +15,7 @@ ghost use Rattle.prost_reflect.specs.Scalars.{PlainField, StaysUnknown};
 ghost use Rattle.prost_reflect_tables.specs.Rows.{field_row};
 ghost use Rattle.prost_reflect.specs.MapParts.{map_parts};
 ghost use Rattle.prost_reflect.specs.Pools.{pool_rows};
-ghost use Rattle.prost_reflect.specs.Targets.{IsTarget, target_of, repeated_target_of};
+ghost use Rattle.prost_reflect.specs.Targets.{IsTarget, target_of, repeated_target_of, element_target_of};
 ghost use Rattle.prost_reflect.specs.View.{content_of, descriptor_of};
 
 use crate::descriptor::MessageDescriptor;
@@ -112,9 +112,13 @@ impl DynamicMessage {
             Target::Message(place) => {
                 self.merge_message(alloc, number, place, wire_type, bytes, levels)
             }
-            Target::Group(place) => self.merge_group(
-                alloc, number, place, wire_type, bytes, levels,
-            ),
+            Target::Group(place) => self.merge_group(alloc, number, place, wire_type, bytes, levels),
+            Target::MessageElement(place) => {
+                self.merge_message_element(alloc, number, place, wire_type, bytes, levels)
+            }
+            Target::GroupElement(place) => {
+                self.merge_group_element(alloc, number, place, wire_type, bytes, levels)
+            }
             Target::Unknown => self.merge_unknown(alloc, number, wire_type, bytes, levels),
         }
     }
@@ -180,6 +184,10 @@ pub(super) enum Target {
     Message(usize),
     /// Likewise, written as a group.
     Group(usize),
+    /// A message as an element of a list.
+    MessageElement(usize),
+    /// A group as an element of a list.
+    GroupElement(usize),
 }
 
 /// What a record of the number is read as, in a covered message type.
@@ -196,11 +204,11 @@ fn target_at(descriptor: &MessageDescriptor, number: u32) -> Target
 
 /// What a record of a repeated field is read as.
 fn repeated_target(descriptor: &MessageDescriptor, field: &FieldTable) -> Target
-    ensures { result ≡ repeated_target_of (map_parts (pool_rows descriptor.now.pool) (field_row field.now)) (field_row field.now).kind }
+    ensures { result ≡ repeated_target_of (map_parts (pool_rows descriptor.now.pool) (field_row field.now)) (field_row field.now).kind (field_row field.now).is_group }
 {
     match descriptor.map_parts(field) {
         Some((key, value)) => Target::Map(key.kind, value.kind),
-        None => Target::List(field.kind),
+        None => element_target(field.kind, field.is_group),
     }
 }
 
@@ -212,5 +220,16 @@ fn value_target(kind: TableKind, is_group: bool) -> Target
         TableKind::Message(place) if is_group => Target::Group(place),
         TableKind::Message(place) => Target::Message(place),
         _ => Target::Scalar(kind),
+    }
+}
+
+/// What a record of a list is read as.
+fn element_target(kind: TableKind, is_group: bool) -> Target
+    ensures { result ≡ element_target_of kind is_group }
+{
+    match kind {
+        TableKind::Message(place) if is_group => Target::GroupElement(place),
+        TableKind::Message(place) => Target::MessageElement(place),
+        _ => Target::List(kind),
     }
 }

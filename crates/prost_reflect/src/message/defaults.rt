@@ -44,7 +44,7 @@ fn is_empty(descriptor: &MessageDescriptor, field: &FieldTable, value: &Value) -
 }
 
 /// Whether a field is a list, and no map.
-fn is_list(descriptor: &MessageDescriptor, field: &FieldTable) -> bool
+pub(crate) fn is_list(descriptor: &MessageDescriptor, field: &FieldTable) -> bool
     ensures { result ≡ is_repeated (schema_field (pool_rows descriptor.now.pool) (field_row field.now)).form }
 {
     has_repeated_label(field.cardinality) && !is_map(descriptor, field)

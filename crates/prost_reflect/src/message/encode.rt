@@ -1,6 +1,6 @@
 //! Writing messages, the last byte first, so that a length is written once what it counts is there.
 
-ghost use Rattle.std.specs.Prelude.{◌≡◌, ◌&&◌, not, ◌≤◌, ◌^◌, ◌++◌, true, length, slice_get, IsSome, IfOk, IfErr, OnOk, OnErr};
+ghost use Rattle.std.specs.Prelude.{◌≡◌, ◌&&◌, not, ◌≤◌, ◌^◌, ◌++◌, true, Some, None, length, slice_get, IsSome, IfOk, IfErr, OnOk, OnErr};
 ghost use Rattle.prost_reflect_wire.specs.declared.key.WireType.TheVariants as wires;
 ghost use Rattle.prost_reflect_wire.specs.Varint.{short};
 ghost use Rattle.prost_reflect_wire.specs.Record.{Len, short_key, short_plain};
@@ -12,6 +12,8 @@ ghost use Rattle.prost_reflect_wire.specs.Buffer.{bytes_of, Prepended};
 ghost use Rattle.prost_reflect_tables.specs.Rows.{field_row, written_scalar};
 ghost use Rattle.prost_reflect_tables.specs.Shown.{schema_field};
 ghost use Rattle.prost_reflect.specs.Covered.{covered, is_repeated};
+ghost use Rattle.prost_reflect.specs.Lists.{IsList, AreElements, elements_bytes};
+ghost use Rattle.prost_reflect.specs.MapParts.{map_parts};
 ghost use Rattle.prost_reflect.specs.Descriptors.{schema_at, type_at};
 ghost use Rattle.prost_reflect.specs.Encoding.{entry_slot, unknown_bytes, nested_bytes, ValueWritable, OwnUnknown};
 ghost use Rattle.prost_reflect_wire.specs.Scalar.{EnumNumber};
@@ -26,7 +28,7 @@ use crate::descriptor::covered::is_repeated;
 use crate::fields::entry::Entry;
 use crate::message::DynamicMessage;
 use crate::message::enums::first_number;
-use crate::message::list::prepend_elements;
+use crate::message::list::prepend_list;
 use crate::message::pairs::prepend_map;
 use crate::message::scalar::wire_type_of;
 use crate::value::Value;
@@ -266,6 +268,7 @@ fn prepend_value(
 }
 
 /// Adds what is kept of the list or the map of a repeated field in front.
+#[cycle(writing)]
 fn prepend_repeated(
     buffer: &mut BackBuffer,
     descriptor: &MessageDescriptor,
@@ -276,13 +279,59 @@ fn prepend_repeated(
     requires plain { covered (schema_at descriptor.now) (type_at descriptor.now) ≡ true }
     requires field { Some (schema_field (pool_rows descriptor.now.pool) (field_row field.now)) ≡ field_of (known_of descriptor.now) number }
     requires repeated { is_repeated (field_row field.now).cardinality ≡ true }
-    requires valid { passes (field_of (known_of descriptor.now) number) (λ f. value_valid f (value_of value.now)) ≡ true }
+    requires writable { ValueWritable (schema_at descriptor.now) (known_of descriptor.now) number (value_of value.now) }
     ensures { Prepended result (bytes_of buffer.old) (bytes_of buffer.new) (value_bytes (known_of descriptor.now) number (value_of value.now)) }
 {
     match descriptor.map_parts(field) {
         Some((key, element)) => prepend_map(buffer, descriptor, number, key, element, value),
         None => prepend_elements(buffer, descriptor, number, field, value),
     }
+}
+
+/// Adds what is kept of the list of a field that is no map in front.
+#[cycle(writing)]
+fn prepend_elements(
+    buffer: &mut BackBuffer,
+    descriptor: &MessageDescriptor,
+    number: u32,
+    field: &FieldTable,
+    value: &Value,
+) -> Result<(), EncodeError>
+    requires plain { covered (schema_at descriptor.now) (type_at descriptor.now) ≡ true }
+    requires field { Some (schema_field (pool_rows descriptor.now.pool) (field_row field.now)) ≡ field_of (known_of descriptor.now) number }
+    requires repeated { is_repeated (field_row field.now).cardinality ≡ true }
+    requires no_map { None ≡ map_parts (pool_rows descriptor.now.pool) (field_row field.now) }
+    requires writable { ValueWritable (schema_at descriptor.now) (known_of descriptor.now) number (value_of value.now) }
+    requires list { IsList (value_of value.now) }
+    ensures { Prepended result (bytes_of buffer.old) (bytes_of buffer.new) (value_bytes (known_of descriptor.now) number (value_of value.now)) }
+{
+    match value {
+        Value::List(values) => match field.kind {
+            TableKind::Message(_) => prepend_messages(buffer, number, field.is_group, values),
+            _ => prepend_list(buffer, number, field, values),
+        },
+        _ => unreachable!(),
+    }
+}
+
+/// Adds the records of messages, or of groups, in front, one for each.
+#[cycle(writing)]
+fn prepend_messages(
+    buffer: &mut BackBuffer,
+    number: u32,
+    is_group: bool,
+    values: &Vec<Value>,
+) -> Result<(), EncodeError>
+    requires { AreElements values.now.items }
+    ensures { Prepended result (bytes_of buffer.old) (bytes_of buffer.new) (elements_bytes number is_group values.now.items) }
+{
+    for index in (0..values.len()).rev() {
+        match &values[index] {
+            Value::Message(message) => prepend_message(buffer, number, is_group, message)?,
+            _ => unreachable!(),
+        }
+    }
+    Ok(())
 }
 
 /// Adds what is kept of a scalar in front: nothing of the default of a field without presence.

@@ -1,24 +1,22 @@
 //! Lists of scalars (the encoding guide, "Repeated Elements" and "Packed Repeated Fields").
 
-ghost use Rattle.std.specs.Prelude.{◌≡◌, ◌≢◌, true, Some, IsSome, IsSomeAnd, IfOk, IfErr};
+ghost use Rattle.std.specs.Prelude.{◌≡◌, ◌≢◌, ◌++◌, true, Some, IsSome, IsSomeAnd, IfOk, IfErr};
+ghost use Rattle.prost_reflect_wire.specs.declared.key.WireType.TheVariants as wires;
+ghost use Rattle.prost_reflect_wire.specs.Varint.{short};
+ghost use Rattle.prost_reflect_wire.specs.Record.{short_key};
 ghost use Rattle.prost_reflect_wire.specs.Buffer.{bytes_of, Prepended};
 ghost use Rattle.prost_reflect_tables.specs.Rows.{field_row};
-ghost use Rattle.prost_reflect_wire.specs.Schema.{field_of, is_packable, passes};
+ghost use Rattle.prost_reflect_wire.specs.Schema.{is_packable};
 ghost use Rattle.prost_reflect_wire.specs.Content.{schema_of, type_of};
-ghost use Rattle.prost_reflect_wire.specs.Typing.{value_valid, WellStored};
+ghost use Rattle.prost_reflect_wire.specs.Typing.{WellStored};
 ghost use Rattle.prost_reflect_wire.specs.Decoding.{Step, StandsBehindKey};
-ghost use Rattle.prost_reflect_wire.specs.Storing.{value_bytes};
-ghost use Rattle.prost_reflect_tables.specs.Shown.{schema_field};
-ghost use Rattle.prost_reflect.specs.Pools.{pool_rows};
-ghost use Rattle.prost_reflect.specs.Covered.{is_plain_kind, is_repeated};
 ghost use Rattle.prost_reflect.specs.Known.{known_of};
 ghost use Rattle.prost_reflect.specs.Lists.{AddsPacked, RefusesPacked, AddsElements, RefusesElements, JoinsElements, IsList, ListField, TakesScalars, payloads_bytes, records_bytes, packed_bytes, list_bytes};
 ghost use Rattle.prost_reflect.specs.Scalars.{plain_kind};
 ghost use Rattle.prost_reflect.specs.View.{value_of, content_of, descriptor_of};
 
-use crate::descriptor::MessageDescriptor;
 use crate::message::DynamicMessage;
-use crate::message::encode::{prepend_length, prepend_scalar, prepend_scalar_record};
+use crate::message::encode::{prepend_key, prepend_scalar, prepend_scalar_record};
 use crate::message::scalar::{scalar_at, wire_type_of};
 use crate::value::Value;
 use prost_reflect_tables::{FieldTable, TableKind};
@@ -163,6 +161,14 @@ fn prepend_records(
     Ok(())
 }
 
+/// Adds the key and the length of a delimited payload in front.
+fn prepend_length(buffer: &mut BackBuffer, number: u32, length: usize) -> Result<(), EncodeError>
+    ensures { Prepended result (bytes_of buffer.old) (bytes_of buffer.new) (short_key number wires.LengthDelimited ++ short length) }
+{
+    buffer.prepend_varint(length as u64)?;
+    prepend_key(buffer, number, WireType::LengthDelimited)
+}
+
 /// Adds one record of all scalars in front.
 fn prepend_packed(
     buffer: &mut BackBuffer,
@@ -179,29 +185,8 @@ fn prepend_packed(
     prepend_length(buffer, number, length)
 }
 
-/// Adds what is kept of the list of a repeated field in front.
-pub(crate) fn prepend_elements(
-    buffer: &mut BackBuffer,
-    descriptor: &MessageDescriptor,
-    number: u32,
-    field: &FieldTable,
-    value: &Value,
-) -> Result<(), EncodeError>
-    requires plain { is_plain_kind (field_row field.now).kind ≡ true }
-    requires field { Some (schema_field (pool_rows descriptor.now.pool) (field_row field.now)) ≡ field_of (known_of descriptor.now) number }
-    requires repeated { is_repeated (field_row field.now).cardinality ≡ true }
-    requires valid { passes (field_of (known_of descriptor.now) number) (λ f. value_valid f (value_of value.now)) ≡ true }
-    requires list { IsList (value_of value.now) }
-    ensures { Prepended result (bytes_of buffer.old) (bytes_of buffer.new) (value_bytes (known_of descriptor.now) number (value_of value.now)) }
-{
-    match value {
-        Value::List(values) => prepend_list(buffer, number, field, values),
-        _ => unreachable!(),
-    }
-}
-
 /// Adds what is written of a list in front: one record where it is packed, else one for each element; nothing of an empty one.
-fn prepend_list(
+pub(crate) fn prepend_list(
     buffer: &mut BackBuffer,
     number: u32,
     field: &FieldTable,

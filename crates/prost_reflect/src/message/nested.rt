@@ -112,7 +112,7 @@ impl DynamicMessage {
     /// Reads the records of a group into the message, and gives the bytes behind the end key of its number. A refusal
     /// leaves a part of them read.
     #[cycle(reading)]
-    fn merge_to_end<'a>(
+    pub(super) fn merge_to_end<'a>(
         &mut self,
         alloc: Global,
         number: FieldNumber,
@@ -139,7 +139,7 @@ impl DynamicMessage {
 }
 
 /// Whether a message or a group may be read behind a key: the wire type is the wanted one, and a level is left.
-fn check_nested(wanted: WireType, wire_type: WireType, levels: u32) -> Result<(), DecodeError>
+pub(super) fn check_nested(wanted: WireType, wire_type: WireType, levels: u32) -> Result<(), DecodeError>
     ensures wire { OnOk result (wire_type ≡ wanted) }
     ensures levels { OnOk result (1 ≤ levels) }
     ensures fault { IfErr result (λ e. NestedFault wanted wire_type levels e) }
@@ -156,7 +156,7 @@ fn check_nested(wanted: WireType, wire_type: WireType, levels: u32) -> Result<()
     Ok(())
 }
 
-/// An empty message of the type at the place of a descriptor's pool.
+/// The value that is an empty message of the type at the place of a descriptor's pool.
 fn empty_value(
     alloc: Global,
     descriptor: &MessageDescriptor,
@@ -165,6 +165,18 @@ fn empty_value(
     requires { place < length (pool_rows descriptor.now.pool).messages }
     ensures { IfOk result (λ v. value_of v ≡ MessageValue (empty (schema_at descriptor.now) place)) }
 {
+    Ok(Value::Message(empty_message(alloc, descriptor, place)?))
+}
+
+/// An empty message of the type at the place of a descriptor's pool.
+pub(super) fn empty_message(
+    alloc: Global,
+    descriptor: &MessageDescriptor,
+    place: usize,
+) -> Result<DynamicMessage, AllocError>
+    requires { place < length (pool_rows descriptor.now.pool).messages }
+    ensures { IfOk result (λ m. content_of m ≡ empty (schema_at descriptor.now) place) }
+{
     let nested = MessageDescriptor::new(descriptor.parent_pool().clone()?, place);
-    Ok(Value::Message(DynamicMessage::new(alloc, nested)))
+    Ok(DynamicMessage::new(alloc, nested))
 }

@@ -41,3 +41,9 @@ invariant-merge_to_end-loop-key l = record {
   progress : Progress l.levels (content_of l.fn.self) (content_of l.self) l.bytes l.rest;
   descriptor : descriptor_of l.self ≡ descriptor_of l.fn.self;
 }
+
+abbrev pub decreases-merge_message_element : goal.decreases-merge_message_element
+decreases-merge_message_element l = 4 * l.levels
+
+abbrev pub decreases-merge_group_element : goal.decreases-merge_group_element
+decreases-merge_group_element l = 4 * l.levels
