@@ -1,7 +1,6 @@
 -- The records of an entry, read one behind another: each key and each value takes the place of the one before, and other records are passed over.
-use Rattle.std.proofs.Common.{◌≡◌, ◌≢◌, ℕ, Bool, true, false, cond, List, [], ◌∷◌, ◌++◌, nat_eq, nat_le, Option, Some, None, refl, ap, ap₂, sym, subst, ◌∙◌, append-nil, arith}
+use Rattle.std.proofs.Common.{◌≡◌, ◌≢◌, ℕ, Bool, true, false, cond, List, [], ◌∷◌, ◌++◌, nat_eq, nat_le, Option, Some, None, refl, ap, ap₂, sym, subst, ◌∙◌, append-nil}
 use Rattle.std.specs.Option.{is_some}
-use Rattle.std.specs.List.{list_all}
 use Rattle.std.proofs.lemmas.Bool.{eqb-true, le-leb}
 use Rattle.prost_reflect_wire.specs.declared.error.DecodeError.{DecodeError}
 use Rattle.prost_reflect_wire.specs.declared.key.WireType.{WireType}
@@ -9,12 +8,12 @@ use Rattle.prost_reflect_wire.specs.Varint.{◌>>=◌}
 use Rattle.prost_reflect_wire.specs.Record.{Record, Payload, Flat, record_at, body_of, payload_levels}
 use Rattle.prost_reflect_wire.specs.Front.{KeyFront, RecordFront, KeyFault}
 use Rattle.prost_reflect_wire.specs.Scalar.{Scalar, ScalarKind, elem, kind_default}
-use Rattle.prost_reflect_wire.specs.Schema.{ScalarOf, Singular, ValueType, Field, Schema}
+use Rattle.prost_reflect_wire.specs.Schema.{ValueType, Schema}
 use Rattle.prost_reflect_wire.specs.Content.{Value, ScalarValue}
-use Rattle.prost_reflect_wire.specs.Grammar.{AllowsInside, nothing_inside, has_number, payloads, numbered, last, fits, one_allowed, in_entry_allowed}
+use Rattle.prost_reflect_wire.specs.Grammar.{AllowsInside, nothing_inside, has_number, payloads, numbered, last, fits, in_entry_allowed}
 use Rattle.prost_reflect_wire.specs.Meaning.{MeansInside, empty_inside, last_or, entry_key, entry_value}
 use Rattle.prost_reflect_wire.specs.Unknown.{SkipsValue}
-use Rattle.prost_reflect_wire.specs.Fault.{Place, Stands, entry_field, field_at, ValueFault}
+use Rattle.prost_reflect_wire.specs.Fault.{Stands, entry_field, field_at, ValueFault}
 use Rattle.prost_reflect_wire.specs.Decoding.{ScalarRead, ScalarFault}
 use Rattle.prost_reflect_wire.specs.EntryReading.{EntryTo, EntryPlace, plain_type, ScalarEntryTo, StandsInEntry}
 use Rattle.prost_reflect_wire.proofs.ListTests.{both_true, all_append}

@@ -1,19 +1,19 @@
 -- An entry of a map, read into a content that holds: its key and its value are put among the pairs that are there.
-use Rattle.std.proofs.Common.{◌≡◌, ◌≢◌, ℕ, Bool, true, false, cond, not, ◌&&◌, List, [], ◌∷◌, nat_eq, Option, Some, None, refl, ap, ap₂, sym, ◌∙◌, subst, append-nil, inl, inr, arith, true≢false}
+use Rattle.std.proofs.Common.{◌≡◌, ◌≢◌, ℕ, Bool, true, false, cond, not, ◌&&◌, List, [], ◌∷◌, Option, Some, None, refl, ap, ap₂, sym, ◌∙◌, subst, append-nil, inl, inr, arith, true≢false}
 use Rattle.std.specs.List.{list_all}
 use Rattle.prost_reflect_wire.specs.declared.key.WireType.{WireType}
 use Rattle.prost_reflect_wire.specs.declared.key.WireType.TheVariants as wires
 use Rattle.prost_reflect_wire.specs.declared.error.DecodeError.{DecodeError}
 use Rattle.prost_reflect_wire.specs.declared.error.DecodeError.TheVariants as errors
 use Rattle.prost_reflect_wire.specs.Varint.{◌>>=◌}
-use Rattle.prost_reflect_wire.specs.Record.{Len, Records, Record, Payload, Flat, items, body_of, Spells}
-use Rattle.prost_reflect_wire.specs.Front.{KeyFront, DelimitedFront, RecordsFront, PlainFault}
+use Rattle.prost_reflect_wire.specs.Record.{Len, Records, Payload, Flat, items, body_of, Spells}
+use Rattle.prost_reflect_wire.specs.Front.{DelimitedFront, RecordsFront, PlainFault}
 use Rattle.prost_reflect_wire.specs.Scalar.{Scalar, scalar_lt, scalar_eq}
-use Rattle.prost_reflect_wire.specs.Schema.{Kind, ValueType, FieldForm, MapFrom, Field, Schema, known, field_of, is_message, is_singular, numbers_differ, passes}
+use Rattle.prost_reflect_wire.specs.Schema.{Kind, ValueType, MapFrom, Field, Schema, known, field_of, is_singular, numbers_differ, passes}
 use Rattle.prost_reflect_wire.specs.Content.{Content, ContentOf, Entries, Value, ScalarValue, MessageValue, ListValue, MapValue, Pairs, NoPairs, Pair, value_at, slot_at, changed, schema_of, type_of, value_ordered, pairs_ordered}
-use Rattle.prost_reflect_wire.specs.Grammar.{AllowsInside, body, or_none, records_in, numbered, last, is_stray, is_stray_entry, value_payloads, stray_payloads, has_level, in_entry_allowed, field_allowed}
-use Rattle.prost_reflect_wire.specs.Meaning.{MeansInside, entry_key, entry_value, put, put_entry, present_map, pairs_in, value_joined}
-use Rattle.prost_reflect_wire.specs.Typing.{EntryTest, fit_test, alone_test, kind_takes, element_valid, pairs_valid, is_repeated, value_valid, value_passes, pairs_pass, kind_for, ValueTyped, PairsTyped, kept_value, kept_inside, kept_pairs, WellStored, ValueStored}
+use Rattle.prost_reflect_wire.specs.Grammar.{AllowsInside, body, or_none, is_stray_entry, value_payloads, stray_payloads, has_level, in_entry_allowed, field_allowed}
+use Rattle.prost_reflect_wire.specs.Meaning.{MeansInside, entry_key, entry_value, put, present_map, pairs_in, value_joined}
+use Rattle.prost_reflect_wire.specs.Typing.{fit_test, alone_test, kind_takes, element_valid, pairs_valid, is_repeated, value_valid, value_passes, pairs_pass, kind_for, ValueTyped, PairsTyped, kept_inside, kept_pairs, WellStored, ValueStored}
 use Rattle.prost_reflect_wire.specs.Storing.{with_stored}
 use Rattle.prost_reflect_wire.specs.Decoding.{Step, StandsBehindKey}
 use Rattle.prost_reflect_wire.specs.Fault.{OfType, Stands, Here, InEntry, takes, same_wire}

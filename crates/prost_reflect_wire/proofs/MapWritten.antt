@@ -7,7 +7,7 @@ use Rattle.prost_reflect_wire.specs.Schema.{ScalarOf, ValueType, MapFrom, Field,
 use Rattle.prost_reflect_wire.specs.Content.{ScalarValue, MessageValue, ListValue, MapValue, Pairs, NoPairs, Pair}
 use Rattle.prost_reflect_wire.specs.Meaning.{present_map}
 use Rattle.prost_reflect_wire.specs.Writing.{key_of, scalar_payload, entry_record, field_payloads, pair_payloads}
-use Rattle.prost_reflect_wire.specs.Typing.{kind_takes, element_valid, pairs_valid, kept_value, kept_pairs}
+use Rattle.prost_reflect_wire.specs.Typing.{pairs_valid, kept_value, kept_pairs}
 use Rattle.prost_reflect_wire.specs.Storing.{kept_records, value_bytes}
 use Rattle.prost_reflect_wire.proofs.ListTests.{and_both}
 use Rattle.prost_reflect_wire.proofs.ValueCarried.{kept_map}

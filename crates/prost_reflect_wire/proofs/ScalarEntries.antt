@@ -1,17 +1,16 @@
 -- An entry with a scalar key and a scalar value, read into a content that holds.
-use Rattle.std.proofs.Common.{◌≡◌, ℕ, Bool, true, false, cond, not, ◌&&◌, ◌||◌, nat_eq, nat_lt, nat_le, List, [], Option, Some, None, refl, ap, ap₂, sym, ◌∙◌, subst}
+use Rattle.std.proofs.Common.{◌≡◌, ℕ, Bool, true, false, cond, not, ◌||◌, nat_eq, nat_lt, nat_le, List, [], Option, Some, None, refl, ap, ap₂, sym, ◌∙◌, subst}
 use Rattle.std.specs.List.{list_all}
 use Rattle.std.specs.Option.{is_some}
 use Rattle.prost_reflect_wire.specs.declared.key.WireType.TheVariants as wires
-use Rattle.prost_reflect_wire.specs.declared.error.DecodeError.{DecodeError}
 use Rattle.prost_reflect_wire.specs.Varint.{AreBytes}
 use Rattle.prost_reflect_wire.specs.Record.{Len, Record, Payload, Flat, body_of, payload_levels, valid}
 use Rattle.prost_reflect_wire.specs.Front.{DelimitedFront, RecordsFront}
 use Rattle.prost_reflect_wire.specs.Scalar.{Scalar, ScalarKind, kind_default, scalar_eq, scalar_valid}
-use Rattle.prost_reflect_wire.specs.Schema.{Kind, ScalarOf, ValueType, MapFrom, Field, Schema, known, field_of, is_message, is_key_kind, default_valid, field_valid, numbers_differ, schema_valid}
+use Rattle.prost_reflect_wire.specs.Schema.{ScalarOf, ValueType, MapFrom, Field, Schema, known, field_of, is_message, is_key_kind, default_valid, field_valid, numbers_differ, schema_valid}
 use Rattle.prost_reflect_wire.specs.Content.{ContentOf, Entries, Value, ScalarValue, MapValue, value_at, changed}
-use Rattle.prost_reflect_wire.specs.Grammar.{AllowsInside, numbered, last, body, or_none, records_in, is_stray, is_stray_entry, has_level, one_allowed, in_entry_allowed}
-use Rattle.prost_reflect_wire.specs.Meaning.{MeansInside, last_or, entry_key, entry_value, put, pairs_in}
+use Rattle.prost_reflect_wire.specs.Grammar.{AllowsInside, numbered, last, body, records_in, is_stray, is_stray_entry, one_allowed}
+use Rattle.prost_reflect_wire.specs.Meaning.{MeansInside, last_or, entry_value, put, pairs_in}
 use Rattle.prost_reflect_wire.specs.Typing.{kind_takes, element_valid, WellStored}
 use Rattle.prost_reflect_wire.specs.Storing.{with_stored}
 use Rattle.prost_reflect_wire.specs.Decoding.{Step}

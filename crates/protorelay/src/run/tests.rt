@@ -219,6 +219,74 @@ fn takes_descriptor_sets(rt: HostRuntime) -> Result<(), Fail> {
     Ok(())
 }
 
+/// The set of the file `m` in proto3 with `message M { map<int32, string> a = 1; map<string, sint64> b = 2; }`.
+const MAPS: &str =
+    "0a91010a016d2283010a014d12140a016118012003280b32092e4d2e41456e74727912140a016218022003280b32092e4d2e42456e7472791a280a0641456e747279120b0a036b6579180120012805120d0a0576616c75651802200128093a0238011a280a0642456e747279120b0a036b6579180120012809120d0a0576616c75651802200128123a023801620670726f746f33";
+
+/// The same file in proto2, where keys and values have presence.
+const OLD_MAPS: &str =
+    "0a89010a016d2283010a014d12140a016118012003280b32092e4d2e41456e74727912140a016218022003280b32092e4d2e42456e7472791a280a0641456e747279120b0a036b6579180120012805120d0a0576616c75651802200128093a0238011a280a0642456e747279120b0a036b6579180120012809120d0a0576616c75651802200128123a023801";
+
+#[test]
+fn relays_maps(rt: HostRuntime) -> Result<(), Fail> {
+    let rows = [
+        // Keys ascend, as numbers.
+        (
+            MAPS,
+            "0a0508011201610a0e08ffffffffffffffffff01120162",
+            "0a0e08ffffffffffffffffff011201620a050801120161",
+        ),
+        (MAPS, "12050a016b100112030a0161", "12030a016112050a016b1001"),
+        // The last entry of a key replaces the others.
+        (
+            MAPS,
+            "0a0508011201610a0508021201630a050801120162",
+            "0a0508011201620a050802120163",
+        ),
+        // In an entry the last key and the last value count, and nothing is kept of other records.
+        (MAPS, "0a09120161180008010802", "0a050802120161"),
+        // What an entry lacks is zero, false or empty, and written where it has presence.
+        (MAPS, "0a00", "0a00"),
+        (OLD_MAPS, "0a00", "0a0408001200"),
+    ];
+    for (set, digits, out) in rows {
+        let text = format!(in rt.alloc(); "relay {set} M {digits}")?;
+        let answer = answer_to(rt.alloc(), text.as_str())?;
+        assert_eq!(rt; answer.err.as_slice(), b"".as_slice(), "{text}");
+        assert_eq!(rt;
+            answer.out.as_slice(),
+            line(rt.alloc(), out)?.as_bytes(),
+            "{text}"
+        );
+        assert_eq!(rt; answer.status, 0, "{text}");
+    }
+    Ok(())
+}
+
+#[test]
+fn names_the_faults_of_maps(rt: HostRuntime) -> Result<(), Fail> {
+    let rows = [
+        ("0801", "refused decode WireType"),
+        ("0a020a00", "refused decode WireType"),
+        ("0a03120161ff", "refused decode Truncated"),
+        ("0a0212", "refused decode Truncated"),
+        ("0a031201ff", "refused decode Utf8"),
+        ("0c", "refused decode EndGroup"),
+    ];
+    for (digits, refusal) in rows {
+        let text = format!(in rt.alloc(); "relay {MAPS} M {digits}")?;
+        let answer = answer_to(rt.alloc(), text.as_str())?;
+        assert_eq!(rt; answer.out.as_slice(), b"".as_slice(), "{text}");
+        assert_eq!(rt;
+            answer.err.as_slice(),
+            line(rt.alloc(), refusal)?.as_bytes(),
+            "{text}"
+        );
+        assert_eq!(rt; answer.status, 1, "{text}");
+    }
+    Ok(())
+}
+
 /// The set of the file `f` in proto2 with `message E { optional int32 a = 1; extensions 100 to 199; }` and the extension `x = 100`.
 const EXTENDED: &str =
     "0a290a016622150a014512090a01611801200128052a05086410c8013a0d0a017812022e45186420012805";
