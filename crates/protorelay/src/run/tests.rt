@@ -2,19 +2,12 @@
 
 use super::*;
 use std::alloc::{AllocError, Global};
+use std::process::Abort;
 use std::test::Fail;
 
 const PLAIN: &str = "builtin.Plain";
 
 const KEPT: &str = "builtin.Kept";
-
-/// What a command line printed on both streams, and its status.
-#[derive(Drop)]
-struct Answer {
-    status: u8,
-    out: Vec<u8>,
-    err: Vec<u8>,
-}
 
 /// The words between single spaces; none, if there is no text.
 fn words(alloc: Global, text: &str) -> Result<Vec<String>, AllocError> {
@@ -26,21 +19,22 @@ fn words(alloc: Global, text: &str) -> Result<Vec<String>, AllocError> {
         .try_collect(alloc)
 }
 
-fn answer_to(alloc: Global, text: &str) -> Result<Answer, AllocError> {
-    let words = words(alloc, text)?;
-    let mut out = Vec::new(alloc);
-    let mut err = Vec::new(alloc);
-    let status = run(words.as_slice(), &mut out, &mut err);
-    Ok(Answer { status, out, err })
+/// The words of a command line of four.
+fn four_words(alloc: Global, words: &[&str; 4]) -> Result<Vec<String>, AllocError> {
+    words
+        .iter()
+        .map(|word| word.to_string(alloc))
+        .try_collect(alloc)
 }
 
-fn relay_of(alloc: Global, name: &str, digits: &str) -> Result<Answer, AllocError> {
-    let text = format!(in alloc; "relay - {name} {digits}")?;
-    answer_to(alloc, text.as_str())
-}
-
-fn line(alloc: Global, text: &str) -> Result<String, AllocError> {
-    format!(in alloc; "{text}\n")
+/// The words are answered by this status, and by what is printed on the one stream and on the other.
+fn answered(rt: &impl Abort, alloc: Global, words: &[String], status: u8, out: &str, err: &str) {
+    let mut printed = Vec::new(alloc);
+    let mut warned = Vec::new(alloc);
+    let answer = run(words, &mut printed, &mut warned);
+    assert_eq!(rt; printed.as_slice(), out.as_bytes(), "{words:?}");
+    assert_eq!(rt; warned.as_slice(), err.as_bytes(), "{words:?}");
+    assert_eq!(rt; answer, status, "{words:?}");
 }
 
 /// So many times 0x53, which opens a group of number 10, and as often 0x54, which ends it.
@@ -55,74 +49,82 @@ fn groups(alloc: Global, levels: usize) -> Result<String, AllocError> {
     Ok(digits)
 }
 
+/// Names and messages, and what is printed of them.
+static RELAYED: [(&str, &str, &str); 12] = [
+    // An unknown varint keeps its value and loses its needless zero digits, and numbers ascend.
+    (PLAIN, "508300289601", "2896015003\n"),
+    // A bool is 1 for any value but 0.
+    (PLAIN, "4005", "4001\n"),
+    // The zigzag of -1.
+    (PLAIN, "880101", "880101\n"),
+    // A default without presence is dropped; -0.0 is no default, and presence keeps each value.
+    (PLAIN, "1500000000", "\n"),
+    (KEPT, "1500000000", "1500000000\n"),
+    (PLAIN, "1500000080", "1500000080\n"),
+    (PLAIN, "2800", "\n"),
+    (KEPT, "2800", "2800\n"),
+    // A negative int32 is written in ten bytes.
+    (PLAIN, "28ffffffff0f", "28ffffffffffffffffff01\n"),
+    // Unknown groups stay.
+    (PLAIN, "5354", "5354\n"),
+    // Digits in either case, and none.
+    (PLAIN, "4A024869", "4a024869\n"),
+    (PLAIN, "", "\n"),
+];
+
 #[test]
 fn prints_what_is_written_again(rt: HostRuntime) -> Result<(), Fail> {
-    let deep = groups(rt.alloc(), 100)?;
-    let rows = [
-        // An unknown varint keeps its value and loses its needless zero digits, and numbers ascend.
-        (PLAIN, "508300289601", "2896015003"),
-        // A bool is 1 for any value but 0.
-        (PLAIN, "4005", "4001"),
-        // The zigzag of -1.
-        (PLAIN, "880101", "880101"),
-        // A default without presence is dropped; -0.0 is no default, and presence keeps each value.
-        (PLAIN, "1500000000", ""),
-        (KEPT, "1500000000", "1500000000"),
-        (PLAIN, "1500000080", "1500000080"),
-        (PLAIN, "2800", ""),
-        (KEPT, "2800", "2800"),
-        // A negative int32 is written in ten bytes.
-        (PLAIN, "28ffffffff0f", "28ffffffffffffffffff01"),
-        // Unknown groups stay.
-        (PLAIN, "5354", "5354"),
-        (PLAIN, deep.as_str(), deep.as_str()),
-        // Digits in either case, and none.
-        (PLAIN, "4A024869", "4a024869"),
-        (PLAIN, "", ""),
-    ];
-    for (name, digits, written) in rows {
-        let answer = relay_of(rt.alloc(), name, digits)?;
-        assert_eq!(rt; answer.err.as_slice(), b"".as_slice(), "{name} {digits}");
-        assert_eq!(rt;
-            answer.out.as_slice(),
-            line(rt.alloc(), written)?.as_bytes(),
-            "{name} {digits}"
-        );
-        assert_eq!(rt; answer.status, 0, "{name} {digits}");
+    for (name, digits, written) in &RELAYED {
+        let words = four_words(rt.alloc(), &["relay", "-", name, digits])?;
+        answered(&rt, rt.alloc(), words.as_slice(), 0, written, "");
     }
     Ok(())
 }
 
+/// Names and messages, and why they are refused.
+static REFUSED: [(&str, &str, &str); 12] = [
+    (PLAIN, "0801", "refused decode WireType\n"),
+    (PLAIN, "4a01ff", "refused decode Utf8\n"),
+    (PLAIN, "54", "refused decode EndGroup\n"),
+    (PLAIN, "28", "refused decode Truncated\n"),
+    (PLAIN, "00", "refused decode Key\n"),
+    (PLAIN, "28ffffffffffffffffff02", "refused decode Varint\n"),
+    // An odd number of digits, and no digit.
+    (PLAIN, "280", "refused hex\n"),
+    (PLAIN, "2x00", "refused hex\n"),
+    // The name comes before the digits.
+    ("builtin.None", "2800", "refused name\n"),
+    ("builtin", "2x", "refused name\n"),
+    (".builtin.Plain", "2800", "refused name\n"),
+    ("", "", "refused name\n"),
+];
+
 #[test]
 fn names_the_first_refusal(rt: HostRuntime) -> Result<(), Fail> {
-    let deep = groups(rt.alloc(), 101)?;
-    let rows = [
-        (PLAIN, deep.as_str(), "refused decode Depth"),
-        (PLAIN, "0801", "refused decode WireType"),
-        (PLAIN, "4a01ff", "refused decode Utf8"),
-        (PLAIN, "54", "refused decode EndGroup"),
-        (PLAIN, "28", "refused decode Truncated"),
-        (PLAIN, "00", "refused decode Key"),
-        (PLAIN, "28ffffffffffffffffff02", "refused decode Varint"),
-        // An odd number of digits, and no digit.
-        (PLAIN, "280", "refused hex"),
-        (PLAIN, "2x00", "refused hex"),
-        // The name comes before the digits.
-        ("builtin.None", "2800", "refused name"),
-        ("builtin", "2x", "refused name"),
-        (".builtin.Plain", "2800", "refused name"),
-        ("", "", "refused name"),
-    ];
-    for (name, digits, refusal) in rows {
-        let answer = relay_of(rt.alloc(), name, digits)?;
-        assert_eq!(rt; answer.out.as_slice(), b"".as_slice(), "{name} {digits}");
-        assert_eq!(rt;
-            answer.err.as_slice(),
-            line(rt.alloc(), refusal)?.as_bytes(),
-            "{name} {digits}"
-        );
-        assert_eq!(rt; answer.status, 1, "{name} {digits}");
+    for (name, digits, refusal) in &REFUSED {
+        let words = four_words(rt.alloc(), &["relay", "-", name, digits])?;
+        answered(&rt, rt.alloc(), words.as_slice(), 1, "", refusal);
     }
+    Ok(())
+}
+
+/// A hundred groups in one another pass, and no more.
+#[test]
+fn passes_a_hundred_groups(rt: HostRuntime) -> Result<(), Fail> {
+    let deep = groups(rt.alloc(), 100)?;
+    let words = four_words(rt.alloc(), &["relay", "-", PLAIN, deep.as_str()])?;
+    let written = format!(in rt.alloc(); "{deep}\n")?;
+    answered(&rt, rt.alloc(), words.as_slice(), 0, written.as_str(), "");
+    let deep = groups(rt.alloc(), 101)?;
+    let words = four_words(rt.alloc(), &["relay", "-", PLAIN, deep.as_str()])?;
+    answered(
+        &rt,
+        rt.alloc(),
+        words.as_slice(),
+        1,
+        "",
+        "refused decode Depth\n",
+    );
     Ok(())
 }
 
@@ -134,87 +136,65 @@ const CUT: &str = "0a1b0a0173220e0a015312090a0161180120012805620670726f746f";
 
 const PROTO4: &str = "0a1b0a0173220e0a015312090a0161180120012805620670726f746f34";
 
+/// Command lines with a set, and their statuses and what is printed.
+static WITH_SETS: [([&str; 4], u8, &str, &str); 14] = [
+    (["relay", SMALL, "S", "0896011002"], 0, "0896011002\n", ""),
+    (
+        ["show", SMALL, "S", "0896011002"],
+        0,
+        "field 1\nunknown 2 1\n",
+        "",
+    ),
+    (["relay", SMALL, "T", "08"], 1, "", "refused name\n"),
+    (["show", SMALL, "T", "0"], 1, "", "refused name\n"),
+    (["show", SMALL, "S", "0"], 1, "", "refused hex\n"),
+    (
+        ["relay", SMALL, "S", "08"],
+        1,
+        "",
+        "refused decode Truncated\n",
+    ),
+    (
+        ["show", SMALL, "S", "08"],
+        1,
+        "",
+        "refused decode Truncated\n",
+    ),
+    (
+        ["relay", CUT, "S", "08"],
+        1,
+        "",
+        "refused pool Decode Truncated\n",
+    ),
+    (
+        ["show", CUT, "S", "08"],
+        1,
+        "",
+        "refused pool Decode Truncated\n",
+    ),
+    (
+        ["relay", PROTO4, "S", "08"],
+        1,
+        "",
+        "refused pool UnknownSyntax\n",
+    ),
+    (
+        ["show", PROTO4, "S", "08"],
+        1,
+        "",
+        "refused pool UnknownSyntax\n",
+    ),
+    // A set without files, and what is no set in hex digits.
+    (["relay", "", "S", "08"], 1, "", "refused name\n"),
+    (["relay", "0", "S", "08"], 1, "", "refused hex\n"),
+    (["show", "0", "S", "08"], 1, "", "refused hex\n"),
+];
+
 #[test]
 fn takes_descriptor_sets(rt: HostRuntime) -> Result<(), Fail> {
-    let rows = [
-        ("relay", SMALL, "S", "0896011002", 0, "0896011002\n", ""),
-        (
-            "show",
-            SMALL,
-            "S",
-            "0896011002",
-            0,
-            "field 1\nunknown 2 1\n",
-            "",
-        ),
-        ("relay", SMALL, "T", "08", 1, "", "refused name\n"),
-        ("show", SMALL, "T", "0", 1, "", "refused name\n"),
-        ("show", SMALL, "S", "0", 1, "", "refused hex\n"),
-        (
-            "relay",
-            SMALL,
-            "S",
-            "08",
-            1,
-            "",
-            "refused decode Truncated\n",
-        ),
-        (
-            "show",
-            SMALL,
-            "S",
-            "08",
-            1,
-            "",
-            "refused decode Truncated\n",
-        ),
-        (
-            "relay",
-            CUT,
-            "S",
-            "08",
-            1,
-            "",
-            "refused pool Decode Truncated\n",
-        ),
-        (
-            "show",
-            CUT,
-            "S",
-            "08",
-            1,
-            "",
-            "refused pool Decode Truncated\n",
-        ),
-        (
-            "relay",
-            PROTO4,
-            "S",
-            "08",
-            1,
-            "",
-            "refused pool UnknownSyntax\n",
-        ),
-        (
-            "show",
-            PROTO4,
-            "S",
-            "08",
-            1,
-            "",
-            "refused pool UnknownSyntax\n",
-        ),
-        // A set without files, and what is no set in hex digits.
-        ("relay", "", "S", "08", 1, "", "refused name\n"),
-        ("relay", "0", "S", "08", 1, "", "refused hex\n"),
-        ("show", "0", "S", "08", 1, "", "refused hex\n"),
-    ];
-    for (verb, set, name, digits, status, out, err) in rows {
-        let text = format!(in rt.alloc(); "{verb} {set} {name} {digits}")?;
-        let answer = answer_to(rt.alloc(), text.as_str())?;
-        assert_eq!(rt; answer.out.as_slice(), out.as_bytes(), "{text}");
-        assert_eq!(rt; answer.err.as_slice(), err.as_bytes(), "{text}");
-        assert_eq!(rt; answer.status, status, "{text}");
+    for (line, status, out, err) in &WITH_SETS {
+        let words = four_words(rt.alloc(), line)?;
+        answered(&rt, rt.alloc(), words.as_slice(), *status, out, err);
     }
     Ok(())
 }
@@ -295,39 +275,40 @@ const EXTENDED: &str =
 const CLOSED: &str =
     "0a2a0a016622120a0143120d0a016518012001280e32022e452a110a014512050a0141100012050a01421001";
 
+/// Sets, names and messages, and what is shown of them.
+static SHOWN: [(&str, &str, &str, &str); 7] = [
+    // Unknown fields are counted, in whatever order they came.
+    (
+        "-",
+        PLAIN,
+        "5000289601720040015001",
+        "field 5\nfield 8\nunknown 10 2\nunknown 14 1\n",
+    ),
+    // A default without presence is not present; with it, it is.
+    ("-", PLAIN, "28001500000080", "field 2\n"),
+    ("-", KEPT, "28001500000080", "field 2\nfield 5\n"),
+    ("-", PLAIN, "", ""),
+    (
+        EXTENDED,
+        "E",
+        "a00607a8060008ff01",
+        "field 1\nextension 100\nunknown 101 1\n",
+    ),
+    // A number that the enum does not declare stands beside one that it does, or alone.
+    (CLOSED, "C", "080108070800", "field 1\nunknown 1 1\n"),
+    (CLOSED, "C", "0807", "unknown 1 1\n"),
+];
+
 #[test]
 fn shows_what_is_present(rt: HostRuntime) -> Result<(), Fail> {
-    let rows = [
-        // Unknown fields are counted, in whatever order they came.
-        (
-            "-",
-            PLAIN,
-            "5000289601720040015001",
-            "field 5\nfield 8\nunknown 10 2\nunknown 14 1\n",
-        ),
-        // A default without presence is not present; with it, it is.
-        ("-", PLAIN, "28001500000080", "field 2\n"),
-        ("-", KEPT, "28001500000080", "field 2\nfield 5\n"),
-        ("-", PLAIN, "", ""),
-        (
-            EXTENDED,
-            "E",
-            "a00607a8060008ff01",
-            "field 1\nextension 100\nunknown 101 1\n",
-        ),
-        // A number that the enum does not declare stands beside one that it does, or alone.
-        (CLOSED, "C", "080108070800", "field 1\nunknown 1 1\n"),
-        (CLOSED, "C", "0807", "unknown 1 1\n"),
-    ];
-    for (set, name, digits, out) in rows {
-        let text = format!(in rt.alloc(); "show {set} {name} {digits}")?;
-        let answer = answer_to(rt.alloc(), text.as_str())?;
-        assert_eq!(rt; answer.err.as_slice(), b"".as_slice(), "{text}");
-        assert_eq!(rt; answer.out.as_slice(), out.as_bytes(), "{text}");
-        assert_eq!(rt; answer.status, 0, "{text}");
+    for (set, name, digits, out) in &SHOWN {
+        let words = four_words(rt.alloc(), &["show", set, name, digits])?;
+        answered(&rt, rt.alloc(), words.as_slice(), 0, out, "");
     }
     Ok(())
 }
+
+const USAGE: &str = "usage: protorelay relay|show SET NAME HEX\n";
 
 #[test]
 fn prints_the_usage_for_any_other_command_line(rt: HostRuntime) -> Result<(), Fail> {
@@ -342,13 +323,8 @@ fn prints_the_usage_for_any_other_command_line(rt: HostRuntime) -> Result<(), Fa
         "edit - builtin.Plain 2800",
     ];
     for text in rows {
-        let answer = answer_to(rt.alloc(), text)?;
-        assert_eq!(rt; answer.out.as_slice(), b"".as_slice(), "{text}");
-        assert_eq!(rt;
-            answer.err.as_slice(),
-            b"usage: protorelay relay|show SET NAME HEX\n".as_slice()
-        );
-        assert_eq!(rt; answer.status, 2);
+        let words = words(rt.alloc(), text)?;
+        answered(&rt, rt.alloc(), words.as_slice(), 2, "", USAGE);
     }
     Ok(())
 }
@@ -356,20 +332,13 @@ fn prints_the_usage_for_any_other_command_line(rt: HostRuntime) -> Result<(), Fa
 #[test]
 fn names_why_the_words_cannot_be_had(rt: HostRuntime) -> Result<(), Fail> {
     let mut err = Vec::new(rt.alloc());
-    assert_eq!(rt;
-        refuse_words(&io::Error::from(ErrorKind::OutOfMemory), &mut err),
-        1
-    );
+    let refused = io::Error::from(ErrorKind::OutOfMemory);
+    assert_eq!(rt; refuse_words(&refused, &mut err), 1);
     assert_eq!(rt; err.as_slice(), b"refused memory\n".as_slice());
     err.clear();
-    assert_eq!(rt;
-        refuse_words(&io::Error::from(ErrorKind::InvalidData), &mut err),
-        2
-    );
-    assert_eq!(rt;
-        err.as_slice(),
-        b"usage: protorelay relay|show SET NAME HEX\n".as_slice()
-    );
+    let invalid = io::Error::from(ErrorKind::InvalidData);
+    assert_eq!(rt; refuse_words(&invalid, &mut err), 2);
+    assert_eq!(rt; err.as_slice(), USAGE.as_bytes());
     Ok(())
 }
 
@@ -410,31 +379,30 @@ fn answers_1_where_a_write_fails(rt: HostRuntime) -> Result<(), Fail> {
     ];
     for (text, length, status) in rows {
         let words = words(rt.alloc(), text)?;
-        for bytes in 0..=length {
-            let mut out = Room {
-                bytes,
-                flushes: true,
-            };
-            let mut err = Room {
-                bytes,
-                flushes: true,
-            };
-            let want = if bytes == length { status } else { 1 };
+        for bytes in 0..length {
             assert_eq!(rt;
-                run(words.as_slice(), &mut out, &mut err),
-                want,
+                status_with_room(words.as_slice(), bytes, true),
+                1,
                 "{text} {bytes}"
             );
         }
-        let mut out = Room {
-            bytes: length,
-            flushes: false,
-        };
-        let mut err = Room {
-            bytes: length,
-            flushes: false,
-        };
-        assert_eq!(rt; run(words.as_slice(), &mut out, &mut err), 1, "{text}");
+        assert_eq!(rt;
+            status_with_room(words.as_slice(), length, true),
+            status,
+            "{text}"
+        );
+        assert_eq!(rt;
+            status_with_room(words.as_slice(), length, false),
+            1,
+            "{text}"
+        );
     }
     Ok(())
+}
+
+/// The status where each stream has room for so many bytes, and can be flushed or not.
+fn status_with_room(words: &[String], bytes: usize, flushes: bool) -> u8 {
+    let mut out = Room { bytes, flushes };
+    let mut err = Room { bytes, flushes };
+    run(words, &mut out, &mut err)
 }
