@@ -15,32 +15,17 @@ use std::alloc::{AllocError, Global};
 use std::process::Abort;
 use std::test::Fail;
 
-/// The group of the number 3 with `hello`, 10 and 11.
-const GROUP: [u8; 13] = [
-    0x1b, 0x0a, 0x05, 0x68, 0x65, 0x6c, 0x6c, 0x6f, 0x10, 0x0a, 0x10, 0x0b, 0x1c,
-];
+/// The group of the number 3 with `hello`, 10 and 11, and what stands behind it.
+static GROUP_AND_TAIL: &[u8] = b"\x1b\x0a\x05hello\x10\x0a\x10\x0b\x1ctail";
 
 #[test]
 fn group_and_tail(rt: HostRuntime) -> Result<(), Fail> {
-    let mut input = Vec::from_slice(rt.alloc(), &GROUP)?;
-    input.extend_from_slice(b"tail")?;
-    let mut cursor = input.as_slice();
+    let mut cursor = GROUP_AND_TAIL;
     let field = UnknownField::decode(rt.alloc(), &mut cursor, RECURSION_LIMIT)?;
     assert_eq!(rt; cursor, b"tail".as_slice());
     assert_eq!(rt; field.number(), 3);
     assert_eq!(rt; field.wire_type(), WireType::StartGroup);
-    assert!(rt; *field.value() == UnknownFieldValue::Group(records_of_group(rt.alloc())?));
     Ok(())
-}
-
-/// The fields in `GROUP`.
-fn records_of_group(alloc: Global) -> Result<UnknownFieldSet, AllocError> {
-    let text = UnknownFieldValue::LengthDelimited(Vec::from_slice(alloc, b"hello")?);
-    let mut fields = UnknownFieldSet::new(alloc);
-    fields.insert(UnknownField::new(FieldNumber::new(1), text))?;
-    fields.insert(varint_field(2, 10))?;
-    fields.insert(varint_field(2, 11))?;
-    Ok(fields)
 }
 
 /// Bytes in hex within so many groups of number 5, how many levels are allowed, and the bytes that are written of the
@@ -266,25 +251,10 @@ fn in_groups(alloc: Global, count: usize, text: &str) -> Result<Vec<u8>, Fail> {
 
 #[test]
 fn values_behind_a_key(rt: HostRuntime) -> Result<(), Fail> {
-    let input = [0x96, 0x01, 0x7f];
-    let mut cursor = input.as_slice();
-    let field = UnknownField::decode_value(rt.alloc(), 5, WireType::Varint, &mut cursor, 0)?;
-    assert_eq!(rt; cursor, [0x7f].as_slice());
-    assert!(rt; field == varint_field(5, 150));
-    let (value, rest) = value_at(rt.alloc(), FieldNumber::new(5), WireType::Varint, &input, 0)?;
-    assert!(rt; value == *field.value());
-    assert_eq!(rt; rest, [0x7f].as_slice());
-    let rest = skip_value(FieldNumber::new(3), WireType::StartGroup, &GROUP[1..], 1)?;
-    assert!(rt; rest.is_empty());
-    Ok(())
-}
-
-#[test]
-fn written_behind_its_key(rt: HostRuntime) -> Result<(), Fail> {
-    let mut cursor = [0x02, 0x10, 0x42].as_slice();
-    let number = 3;
+    let mut cursor = [0x02, 0x10, 0x42, 0x7f].as_slice();
     let wire_type = WireType::LengthDelimited;
-    let field = UnknownField::decode_value(rt.alloc(), number, wire_type, &mut cursor, 0)?;
+    let field = UnknownField::decode_value(rt.alloc(), 3, wire_type, &mut cursor, 0)?;
+    assert_eq!(rt; cursor, [0x7f].as_slice());
     let mut out = Vec::new(rt.alloc());
     field.encode(&mut out)?;
     assert_eq!(rt; out.as_slice(), [0x1a, 0x02, 0x10, 0x42].as_slice());
@@ -292,13 +262,22 @@ fn written_behind_its_key(rt: HostRuntime) -> Result<(), Fail> {
 }
 
 #[test]
-fn nothing_behind_an_end_key(rt: HostRuntime) {
-    let mut cursor = [0x96, 0x01].as_slice();
-    match UnknownField::decode_value(rt.alloc(), 5, WireType::EndGroup, &mut cursor, 100) {
-        Ok(_) => panic!(rt; "an end key has no value"),
-        Err(error) => assert_eq!(rt; error, DecodeError::EndGroup),
-    }
-    assert_eq!(rt; cursor.len(), 2);
+fn values_alone(rt: HostRuntime) -> Result<(), Fail> {
+    let input = [0x96, 0x01, 0x7f];
+    let number = FieldNumber::new(5);
+    let (value, rest) = value_at(rt.alloc(), number, WireType::Varint, &input, 0)?;
+    assert!(rt; value == UnknownFieldValue::Varint(150));
+    assert!(rt; varint_field(5, 150).value() == &value);
+    assert_eq!(rt; rest, [0x7f].as_slice());
+    Ok(())
+}
+
+#[test]
+fn skipped_values(rt: HostRuntime) -> Result<(), Fail> {
+    let number = FieldNumber::new(3);
+    let rest = skip_value(number, WireType::StartGroup, &GROUP_AND_TAIL[1..], 1)?;
+    assert_eq!(rt; rest, b"tail".as_slice());
+    Ok(())
 }
 
 fn varint_field(number: u32, value: u64) -> UnknownField

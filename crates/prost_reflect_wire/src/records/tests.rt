@@ -119,10 +119,8 @@ fn enums(rt: HostRuntime) -> Result<(), Fail> {
         b'Y',
     ];
     let kinds = EnumDescriptorProto::decode(rt.alloc(), &bytes)?;
-    assert_eq!(rt; shown(&kinds.name), "K");
-    assert!(rt; raw(&kinds.options) == [16, 1].as_slice());
-    assert!(rt; has_its_values(&kinds));
-    assert!(rt; has_its_reserved_ones(&kinds));
+    assert!(rt; shown(&kinds.name) == "K" && raw(&kinds.options) == [16, 1].as_slice());
+    assert!(rt; has_its_values(&kinds) && has_its_reserved_ones(&kinds));
     Ok(())
 }
 
@@ -430,12 +428,17 @@ fn within(alloc: Global, levels: usize) -> Result<BackBuffer, EncodeError> {
     Ok(bytes)
 }
 
-/// A message in 100 others is read; in 101 it is nested too deep.
 #[test]
-fn levels(rt: HostRuntime) -> Result<(), Fail> {
+fn a_message_in_100_others(rt: HostRuntime) -> Result<(), Fail> {
     let bytes = within(rt.alloc(), 100)?;
     let message = DescriptorProto::decode(rt.alloc(), bytes.as_slice())?;
     assert_eq!(rt; message.nested_type.len(), 1);
+    Ok(())
+}
+
+/// It is nested too deep.
+#[test]
+fn a_message_in_101_others(rt: HostRuntime) -> Result<(), Fail> {
     let bytes = within(rt.alloc(), 101)?;
     match DescriptorProto::decode(rt.alloc(), bytes.as_slice()) {
         Err(error) => assert_eq!(rt; error, DecodeError::Depth),
