@@ -154,11 +154,11 @@ module _ (m inner done new : DynamicMessage) (n T k : ℕ) (sound : WellStored (
       let read : Progress k (empty (schema_of (content_of m)) T) (content_of done) body [] = subst (λ c. Progress k c (content_of done) body []) fresh.is progress in
       subst (λ c. Step (suc k) n wires.LengthDelimited c (content_of new) bytes rest) (whole (content_of m))
       (subst (λ d. Step (suc k) n wires.LengthDelimited (ContentOf (schema_of (content_of m)) (type_of (content_of m)) (entries_of (content_of m))) d bytes rest)
-          (sym (set ∙ element_set_in (content_of m) n at.field (with_element (value_at n (entries_of (content_of m))) (MessageValue (content_of done))) found))
+      (sym (set ∙ element_set_in (content_of m) n at.field (with_element (value_at n (entries_of (content_of m))) (MessageValue (content_of done))) found))
       (subst (λ i. Step (suc k) i wires.LengthDelimited (ContentOf (schema_of (content_of m)) (type_of (content_of m)) (entries_of (content_of m)))
-          (ContentOf (schema_of (content_of m)) (type_of (content_of m)) (with_field_value (known (schema_of (content_of m)) (type_of (content_of m))) at.field (Some (with_element (value_at i (entries_of (content_of m))) (MessageValue (content_of done)))) (entries_of (content_of m)))) bytes rest) number
+      (ContentOf (schema_of (content_of m)) (type_of (content_of m)) (with_field_value (known (schema_of (content_of m)) (type_of (content_of m))) at.field (Some (with_element (value_at i (entries_of (content_of m))) (MessageValue (content_of done)))) (entries_of (content_of m)))) bytes rest) number
       (message_element_holds (schema_of (content_of m)) (type_of (content_of m)) (entries_of (content_of m)) (subst WellStored (sym (whole (content_of m))) sound) (differ_in m) at.field own T (many_of m n T (MessageOf T) at refl)
-          (content_of done) read.holds k body bytes rest at.kind_is read.read front)))
+      (content_of done) read.holds k body bytes rest at.kind_is read.read front)))
 
   pub group_element_step : (bytes rest : List ℕ) → NestedList (descriptor_of m) n T (GroupOf T) → GroupProgress k n (content_of inner) (content_of done) bytes rest → Step (suc k) n wires.StartGroup (content_of m) (content_of new) bytes rest
   group_element_step bytes rest at group =
@@ -168,8 +168,8 @@ module _ (m inner done new : DynamicMessage) (n T k : ℕ) (sound : WellStored (
       let read : Progress k (empty (schema_of (content_of m)) T) (content_of done) bytes group.end = subst (λ c. Progress k c (content_of done) bytes group.end) fresh.is group.progress in
       subst (λ c. Step (suc k) n wires.StartGroup c (content_of new) bytes rest) (whole (content_of m))
       (subst (λ d. Step (suc k) n wires.StartGroup (ContentOf (schema_of (content_of m)) (type_of (content_of m)) (entries_of (content_of m))) d bytes rest)
-          (sym (set ∙ element_set_in (content_of m) n at.field (with_element (value_at n (entries_of (content_of m))) (MessageValue (content_of done))) found))
+      (sym (set ∙ element_set_in (content_of m) n at.field (with_element (value_at n (entries_of (content_of m))) (MessageValue (content_of done))) found))
       (subst (λ i. Step (suc k) i wires.StartGroup (ContentOf (schema_of (content_of m)) (type_of (content_of m)) (entries_of (content_of m)))
-          (ContentOf (schema_of (content_of m)) (type_of (content_of m)) (with_field_value (known (schema_of (content_of m)) (type_of (content_of m))) at.field (Some (with_element (value_at i (entries_of (content_of m))) (MessageValue (content_of done)))) (entries_of (content_of m)))) bytes rest) number
+      (ContentOf (schema_of (content_of m)) (type_of (content_of m)) (with_field_value (known (schema_of (content_of m)) (type_of (content_of m))) at.field (Some (with_element (value_at i (entries_of (content_of m))) (MessageValue (content_of done)))) (entries_of (content_of m)))) bytes rest) number
       (group_element_holds (schema_of (content_of m)) (type_of (content_of m)) (entries_of (content_of m)) (subst WellStored (sym (whole (content_of m))) sound) (differ_in m) at.field own T (many_of m n T (GroupOf T) at refl)
-          (content_of done) read.holds k bytes group.end rest at.kind_is read.read (subst (λ i. KeyFront i wires.EndGroup group.end rest) (sym number) group.stop))))
+      (content_of done) read.holds k bytes group.end rest at.kind_is read.read (subst (λ i. KeyFront i wires.EndGroup group.end rest) (sym number) group.stop))))

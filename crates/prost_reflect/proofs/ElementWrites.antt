@@ -127,13 +127,13 @@ row_messages_written d n row v vs h found many listed names w is =
     let checked = checked_list (schema_at d) (schema_field (pool_rows d.pool) row) row.is_packed (checked_field (schema_at d) (schema_field (pool_rows d.pool) row) (found_checked d n (schema_field (pool_rows d.pool) row) (sym found))) form in
     let single : (schema_field (pool_rows d.pool) row).form ≡ Repeated false = form ∙ ap Repeated (not_packed row.is_packed (schema_field (pool_rows d.pool) row).value_type.kind message checked.packable) in
     let valid : value_valid (schema_field (pool_rows d.pool) row) (ListValue (values_from (map value_of vs.items))) ≡ true = passing (field_of (known_of d) n) (schema_field (pool_rows d.pool) row) (λ f. value_valid f (ListValue (values_from (map value_of vs.items)))) (sym found)
-        (ap (λ v. passes (field_of (known_of d) n) (λ f. value_valid f v)) (sym seen) ∙ w.valid) in
+    (ap (λ v. passes (field_of (known_of d) n) (λ f. value_valid f v)) (sym seen) ∙ w.valid) in
     let types : ValueTyped (schema_at d) (Some (schema_field (pool_rows d.pool) row).value_type.kind) (ListValue (values_from (map value_of vs.items))) = field_typed (schema_at d) (schema_field (pool_rows d.pool) row) (ListValue (values_from (map value_of vs.items))) valid
-        (subst (λ o. ValueTyped (schema_at d) (kind_for o (ListValue (values_from (map value_of vs.items)))) (ListValue (values_from (map value_of vs.items)))) (sym found)
-        (subst (λ v. ValueTyped (schema_at d) (kind_for (field_of (known_of d) n) v) v) seen w.types)) in
+    (subst (λ o. ValueTyped (schema_at d) (kind_for o (ListValue (values_from (map value_of vs.items)))) (ListValue (values_from (map value_of vs.items)))) (sym found)
+    (subst (λ v. ValueTyped (schema_at d) (kind_for (field_of (known_of d) n) v) v) seen w.types)) in
     let takes : AreElements vs.items = each_writable (schema_at d) (schema_field (pool_rows d.pool) row).value_type.kind message
-        (λ U. covered_further (schema_at d) (type_at d) n U (schema_field (pool_rows d.pool) row) h (sym found) message) vs.items
-        (and_both _ _ valid).1 (ap (value_passes fit_test) (sym seen) ∙ w.fits) types in
+    (λ U. covered_further (schema_at d) (type_at d) n U (schema_field (pool_rows d.pool) row) h (sym found) message) vs.items
+    (and_both _ _ valid).1 (ap (value_passes fit_test) (sym seen) ∙ w.fits) types in
     record {
       takes = takes;
       bytes = ap (value_bytes (known_of d) n) seen

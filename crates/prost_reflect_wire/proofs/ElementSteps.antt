@@ -134,7 +134,7 @@ module _ (schema : Schema) (T : ℕ) (es : Entries) (sound : WellStored (Content
       let w : WellStored d = holds.sound in
       let o : Elements schema f.value_type.kind (values_in (value_at f.number es)) = old.elements in
       let valid : value_valid f (with_message (value_at f.number es) d) ≡ true = both_true (ap is_repeated many.form)
-          (elements_joined f.value_type.kind (values_in (value_at f.number es)) (Item (MessageValue d) NoValues) o.valid (both_true (message_kind f.value_type.kind U many.names) refl)) in
+      (elements_joined f.value_type.kind (values_in (value_at f.number es)) (Item (MessageValue d) NoValues) o.valid (both_true (message_kind f.value_type.kind U many.names) refl)) in
       record {
         valid = valid;
         fits = pass_more fit_test (values_in (value_at f.number es)) (MessageValue d) o.fits w.fits;

@@ -112,7 +112,9 @@ impl DynamicMessage {
             Target::Message(place) => {
                 self.merge_message(alloc, number, place, wire_type, bytes, levels)
             }
-            Target::Group(place) => self.merge_group(alloc, number, place, wire_type, bytes, levels),
+            Target::Group(place) => self.merge_group(
+                alloc, number, place, wire_type, bytes, levels,
+            ),
             Target::MessageElement(place) => {
                 self.merge_message_element(alloc, number, place, wire_type, bytes, levels)
             }

@@ -139,7 +139,11 @@ impl DynamicMessage {
 }
 
 /// Whether a message or a group may be read behind a key: the wire type is the wanted one, and a level is left.
-pub(super) fn check_nested(wanted: WireType, wire_type: WireType, levels: u32) -> Result<(), DecodeError>
+pub(super) fn check_nested(
+    wanted: WireType,
+    wire_type: WireType,
+    levels: u32,
+) -> Result<(), DecodeError>
     ensures wire { OnOk result (wire_type ≡ wanted) }
     ensures levels { OnOk result (1 ≤ levels) }
     ensures fault { IfErr result (λ e. NestedFault wanted wire_type levels e) }

@@ -145,13 +145,13 @@ merge_message_element-returns-in_err-body-clause-fault t c = let p = err_from_is
 pub merge_message_element-merge_records-requires : goal.merge_message_element-merge_records-requires
 merge_message_element-merge_records-requires t c =
     let fresh = empty_element c.args.self.now c.in_ok-element.element c.args.number.value c.args.place (MessageOf c.args.place) c.requires.plain c.requires.field refl
-        (c.in_ok-element.ensures ∙ ap (λ d. empty (schema_at d) c.args.place) c.descriptor.ensures) in
+    (c.in_ok-element.ensures ∙ ap (λ d. empty (schema_at d) c.args.place) c.descriptor.ensures) in
     (search rules, (fresh.plain, fresh.sound))
 
 pub merge_message_element-returns-in_err-merge_records-clause-fault : goal.merge_message_element-returns-in_err-merge_records-clause-fault
 merge_message_element-returns-in_err-merge_records-clause-fault t c =
     let fresh = empty_element c.args.self.now c.in_ok-element.element c.args.number.value c.args.place (MessageOf c.args.place) c.requires.plain c.requires.field refl
-        (c.in_ok-element.ensures ∙ ap (λ d. empty (schema_at d) c.args.place) c.descriptor.ensures) in
+    (c.in_ok-element.ensures ∙ ap (λ d. empty (schema_at d) c.args.place) c.descriptor.ensures) in
     let p = err_from_is_err_and c.from_residual-in_err-merge_records.result c.from_residual-in_err-merge_records.ensures.1 in
     rw (p.1, p.2, c.in_ok-check_nested.ensures.wire) (λ ne. inside_refused c.args.self.now c.in_ok-element.element c.args.number.value c.args.place fresh.schema_is fresh.type_is c.args.levels c.in_ok-check_nested.ensures.levels _
     c.in_ok-body.body.now c.args.bytes.now c.in_ok-body.rest.now (found_element c.args.self.now c.args.number.value c.args.place (MessageOf c.args.place) c.requires.field refl) c.in_ok-body.ensures.ok (c.in_err-merge_records.ensures.fault ne))
@@ -162,7 +162,7 @@ merge_message_element-push_element-requires-clause-list t c = rw c.get.ensures.v
 pub merge_message_element-returns-clause-ok : goal.merge_message_element-returns-clause-ok
 merge_message_element-returns-clause-ok t c =
     let fresh = empty_element c.args.self.now c.in_ok-element.element c.args.number.value c.args.place (MessageOf c.args.place) c.requires.plain c.requires.field refl
-        (c.in_ok-element.ensures ∙ ap (λ d. empty (schema_at d) c.args.place) c.descriptor.ensures) in
+    (c.in_ok-element.ensures ∙ ap (λ d. empty (schema_at d) c.args.place) c.descriptor.ensures) in
     rw (c.in_ok-check_nested.ensures.wire, sym (one_less c.args.levels c.in_ok-check_nested.ensures.levels))
     (element_step c.args.self.now c.in_ok-element.element c.merge_records.new.self c.push_element.new.self c.args.number.value c.args.place (c.args.levels - 1) c.requires.sound fresh
     (c.in_ok-push_element.ensures.content ∙ ap (λ n. value_set n (with_element (value_at n (entries_of (content_of c.args.self.now))) (MessageValue (content_of c.merge_records.new.self))) (content_of c.args.self.now)) c.get.ensures.value)
@@ -176,13 +176,13 @@ merge_group_element-returns-in_err-check_nested-clause-fault t c = let p = err_f
 pub merge_group_element-merge_to_end-requires : goal.merge_group_element-merge_to_end-requires
 merge_group_element-merge_to_end-requires t c =
     let fresh = empty_element c.args.self.now c.in_ok-element.element c.args.number.value c.args.place (GroupOf c.args.place) c.requires.plain c.requires.field refl
-        (c.in_ok-element.ensures ∙ ap (λ d. empty (schema_at d) c.args.place) c.descriptor.ensures) in
+    (c.in_ok-element.ensures ∙ ap (λ d. empty (schema_at d) c.args.place) c.descriptor.ensures) in
     (search rules, (fresh.plain, fresh.sound))
 
 pub merge_group_element-returns-in_err-rest-clause-fault : goal.merge_group_element-returns-in_err-rest-clause-fault
 merge_group_element-returns-in_err-rest-clause-fault t c =
     let fresh = empty_element c.args.self.now c.in_ok-element.element c.args.number.value c.args.place (GroupOf c.args.place) c.requires.plain c.requires.field refl
-        (c.in_ok-element.ensures ∙ ap (λ d. empty (schema_at d) c.args.place) c.descriptor.ensures) in
+    (c.in_ok-element.ensures ∙ ap (λ d. empty (schema_at d) c.args.place) c.descriptor.ensures) in
     let p = err_from_is_err_and c.from_residual-in_err-rest.result c.from_residual-in_err-rest.ensures.1 in
     rw (p.1, p.2, c.in_ok-check_nested.ensures.wire) (λ ne. in_group_refused c.args.self.now c.in_ok-element.element c.args.number.value c.args.place fresh.schema_is fresh.type_is c.args.levels c.in_ok-check_nested.ensures.levels _
     c.args.bytes.now (found_element c.args.self.now c.args.number.value c.args.place (GroupOf c.args.place) c.requires.field refl) (c.in_err-rest.ensures.fault ne))
@@ -193,7 +193,7 @@ merge_group_element-push_element-requires-clause-list t c = rw c.get.ensures.val
 pub merge_group_element-returns-clause-ok : goal.merge_group_element-returns-clause-ok
 merge_group_element-returns-clause-ok t c =
     let fresh = empty_element c.args.self.now c.in_ok-element.element c.args.number.value c.args.place (GroupOf c.args.place) c.requires.plain c.requires.field refl
-        (c.in_ok-element.ensures ∙ ap (λ d. empty (schema_at d) c.args.place) c.descriptor.ensures) in
+    (c.in_ok-element.ensures ∙ ap (λ d. empty (schema_at d) c.args.place) c.descriptor.ensures) in
     rw (c.in_ok-check_nested.ensures.wire, sym (one_less c.args.levels c.in_ok-check_nested.ensures.levels))
     (group_element_step c.args.self.now c.in_ok-element.element c.merge_to_end.new.self c.push_element.new.self c.args.number.value c.args.place (c.args.levels - 1) c.requires.sound fresh
     (c.in_ok-push_element.ensures.content ∙ ap (λ n. value_set n (with_element (value_at n (entries_of (content_of c.args.self.now))) (MessageValue (content_of c.merge_to_end.new.self))) (content_of c.args.self.now)) c.get.ensures.value)

@@ -71,9 +71,25 @@ prepend_repeated-prepend_map-requires-clause-map t c = valid_map_value c.args.de
 
 pub prepend_repeated-prepend_elements-requires : goal.prepend_repeated-prepend_elements-requires
 prepend_repeated-prepend_elements-requires t c =
-    let form = listed_form c.args.descriptor.now c.args.number (field_row c.args.field.now) c.requires.plain c.requires.field c.requires.repeated c.in-None.ensures in
-    (search (rules, the_lemmas), (c.requires.plain, (c.requires.field, (c.requires.repeated, (c.in-None.ensures, (c.requires.writable,
-    valid_list_value c.args.descriptor.now c.args.number (field_row c.args.field.now) (value_of c.args.value.now) form c.requires.field c.requires.writable.valid))))))
+    let form = listed_form c.args.descriptor.now c.args.number (field_row c.args.field.now) c.requires.plain c.requires.field c.requires.repeated c.in-None.ensures in (
+      search (rules, the_lemmas),
+      (
+        c.requires.plain,
+        (
+          c.requires.field,
+          (
+            c.requires.repeated,
+            (
+              c.in-None.ensures,
+              (
+                c.requires.writable,
+                valid_list_value c.args.descriptor.now c.args.number (field_row c.args.field.now) (value_of c.args.value.now) form c.requires.field c.requires.writable.valid,
+              ),
+            ),
+          ),
+        ),
+      ),
+    )
 
 pub prepend_elements-prepend_messages-requires : goal.prepend_elements-prepend_messages-requires
 prepend_elements-prepend_messages-requires t c =
