@@ -2,13 +2,13 @@
 use Rattle.std.proofs.Common.{◌≡◌, ◌≢◌, Bool, true, false, not, ◌&&◌, ◌||◌, cond, List, [], ◌∷◌, length, map, Option, Some, None, refl, ap, ap₂, sym, ◌∙◌, arith, true≢false}
 use Rattle.std.specs.Prelude.{◌==◌, is_some}
 use Rattle.prost_reflect_wire.specs.Schema.{FieldForm, Singular, Repeated, MapFrom, ValueType, Schema, field_valid, form_valid, is_singular, is_message, message_has_presence}
-use Rattle.prost_reflect_wire.specs.Content.{Value, ScalarValue, MessageValue, ListValue, MapValue, Values, NoValues, Item, Pairs, NoPairs, Pair, values_from}
+use Rattle.prost_reflect_wire.specs.Content.{Value, ScalarValue, MessageValue, ListValue, MapValue, NoValues, Item, NoPairs, Pair, values_from}
 use Rattle.prost_reflect_wire.specs.Writing.{is_default_of}
 use Rattle.prost_reflect_wire.specs.Typing.{is_repeated, is_empty_of, is_field_default, kept_inside}
 use Rattle.prost_reflect_wire.proofs.Checked.{checked_field}
 use Rattle.prost_reflect_tables.specs.declared.tables.Cardinality.{Cardinality}
 use Rattle.prost_reflect_tables.specs.declared.tables.Cardinality.TheVariants.{Optional, Required, Repeated as RepeatedLabel}
-use Rattle.prost_reflect_tables.specs.Rows.{FieldRow, MessageRow, EnumRow, TableRows}
+use Rattle.prost_reflect_tables.specs.Rows.{FieldRow, MessageRow, TableRows}
 use Rattle.prost_reflect_tables.specs.Shown.{own_type, entry_at, map_entry, value_type_of, form_of, schema_field}
 use Rattle.prost_reflect.specs.Scalars.{equals}
 use Rattle.prost_reflect.specs.View.{pairs_from}

@@ -1,12 +1,11 @@
 -- Messages and groups read as elements of the list of their field.
-use Rattle.std.proofs.Common.{◌≡◌, ℕ, suc, ◌≤◌, Bool, true, false, not, List, [], Option, Some, None, refl, sym, ap, ap₂, ◌∙◌, subst, true≢false, ◌-◌}
+use Rattle.std.proofs.Common.{◌≡◌, ℕ, suc, Bool, true, false, List, [], Option, Some, None, refl, sym, ap, ap₂, ◌∙◌, subst, true≢false}
 use Rattle.std.specs.Prelude.{Vec, unwrap_or, map, ◌++◌, ◌∷◌}
 use Rattle.std.specs.declared.alloc.Global.{Global}
 use Rattle.std.proofs.lemmas.List.{map-append}
-use Rattle.prost_reflect_wire.specs.declared.key.WireType.{WireType}
 use Rattle.prost_reflect_wire.specs.declared.key.WireType.TheVariants as wires
 use Rattle.prost_reflect_wire.specs.Front.{KeyFront, DelimitedFront}
-use Rattle.prost_reflect_wire.specs.Schema.{Kind, MessageOf, GroupOf, Repeated, ValueType, Field, known, field_of, is_message}
+use Rattle.prost_reflect_wire.specs.Schema.{Kind, MessageOf, GroupOf, Field, known, field_of, is_message}
 use Rattle.prost_reflect_wire.specs.Content as contents
 use Rattle.prost_reflect_wire.specs.Content.{Content, ContentOf, MessageValue, ListValue, NoValues, ◌and_then◌, empty, value_at, entries_of, schema_of, type_of, values_from}
 use Rattle.prost_reflect_wire.specs.Typing.{WellStored, is_repeated as is_list}
@@ -14,7 +13,6 @@ use Rattle.prost_reflect_wire.specs.Edit.{with_field_value, message_of}
 use Rattle.prost_reflect_wire.specs.Fault.{is_map}
 use Rattle.prost_reflect_wire.specs.Decoding.{Progress, GroupProgress, Step}
 use Rattle.prost_reflect_wire.proofs.Survivors.{field_number}
-use Rattle.prost_reflect_wire.proofs.MessageSteps.{FoundNested}
 use Rattle.prost_reflect_wire.proofs.ListSteps.{IsListed}
 use Rattle.prost_reflect_wire.proofs.ElementSteps.{ManyMessages, elements_at, message_element_holds, group_element_holds}
 use Rattle.prost_reflect_tables.specs.declared.tables.TableKind.{TableKind}
@@ -38,7 +36,7 @@ use Rattle.prost_reflect.proofs.Covering.{covered_further}
 use Rattle.prost_reflect.proofs.Described.{named_in_range}
 use Rattle.prost_reflect.proofs.ListMerging.{list_field}
 use Rattle.prost_reflect.proofs.Merging.{known_in, differ_in}
-use Rattle.prost_reflect.proofs.NestedReads.{FoundIn, schema_in, type_in, names_message as names_it}
+use Rattle.prost_reflect.proofs.NestedReads.{FoundIn, schema_in, names_message as names_it}
 use Rattle.prost_reflect.proofs.PlainKinds.{listed_row, list_kind}
 use Rattle.prost_reflect.proofs.Views.{value_of_list, value_of_message}
 

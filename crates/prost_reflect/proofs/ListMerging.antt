@@ -14,7 +14,7 @@ use Rattle.prost_reflect_wire.specs.Meaning.{values_in}
 use Rattle.prost_reflect_wire.specs.Typing.{WellStored}
 use Rattle.prost_reflect_wire.specs.Edit.{with_field_value}
 use Rattle.prost_reflect_wire.specs.Fault.{OfType}
-use Rattle.prost_reflect_wire.specs.Decoding.{Step, FieldFault, ElementsRead, StandsBehindKey}
+use Rattle.prost_reflect_wire.specs.Decoding.{Step, ElementsRead, StandsBehindKey}
 use Rattle.prost_reflect_wire.proofs.Survivors.{field_number}
 use Rattle.prost_reflect_wire.proofs.Checked.{checked_field, checked_list}
 use Rattle.prost_reflect_wire.proofs.FieldsFound.{field_stands}

@@ -1,5 +1,5 @@
 -- Entries of maps of plain scalars, read one record behind another and put into a map.
-use Rattle.std.proofs.Common.{◌≡◌, ◌≢◌, ℕ, true, false, nat_eq, List, [], ◌∷◌, map, Option, Some, None, refl, ap, sym, ◌∙◌, subst}
+use Rattle.std.proofs.Common.{◌≡◌, ◌≢◌, ℕ, true, false, nat_eq, List, [], Option, Some, None, refl, ap, sym, ◌∙◌, subst}
 use Rattle.std.specs.Prelude.{IsSomeAnd, unwrap_or}
 use Rattle.std.specs.BTreeMap.{BTreeMap, insert_entry}
 use Rattle.prost_reflect_wire.specs.declared.error.DecodeError.{DecodeError}
@@ -26,7 +26,7 @@ use Rattle.prost_reflect.specs.declared.message.DynamicMessage.{DynamicMessage}
 use Rattle.prost_reflect.specs.Scalars.{plain_kind, ReadsScalar, RefusesScalar}
 use Rattle.prost_reflect.specs.Maps.{IsDefaultOf, ReadsEntry, RefusesEntry}
 use Rattle.prost_reflect.specs.Variants.{pairs_in}
-use Rattle.prost_reflect.specs.View.{key_of, value_step, message_step, value_of, content_of, pairs_from}
+use Rattle.prost_reflect.specs.View.{key_of, value_step, message_step, value_of, content_of}
 use Rattle.prost_reflect.specs.ContentLaws.{pairs_shown, compare_keys}
 use Rattle.prost_reflect.proofs.Views.{value_of_map}
 use Rattle.prost_reflect.proofs.Keys.{map_insert}

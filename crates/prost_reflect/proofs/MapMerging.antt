@@ -1,5 +1,5 @@
 -- An entry read into a message: its step, and what it is refused for.
-use Rattle.std.proofs.Common.{◌≡◌, ℕ, Bool, true, false, List, [], Option, Some, None, refl, sym, ap, ◌∙◌, subst, true≢false}
+use Rattle.std.proofs.Common.{◌≡◌, ℕ, true, List, [], Option, Some, None, refl, sym, ap, ◌∙◌, subst, true≢false}
 use Rattle.std.specs.Prelude.{IsSome}
 use Rattle.prost_reflect_wire.specs.declared.key.WireType.{WireType}
 use Rattle.prost_reflect_wire.specs.declared.key.WireType.TheVariants as wires
@@ -8,9 +8,8 @@ use Rattle.prost_reflect_wire.specs.Varint.{AreBytes}
 use Rattle.prost_reflect_wire.specs.Front.{DelimitedFront}
 use Rattle.prost_reflect_wire.specs.Scalar.{Scalar, ScalarKind, Float, Double, BytesKind, Enum, scalar_valid}
 use Rattle.prost_reflect_wire.specs.Scalar as scalars
-use Rattle.prost_reflect_wire.specs.Schema.{ScalarOf, ValueType, MapFrom, Field, Schema, known, field_of, is_message, is_key_kind, numbers_differ, schema_valid}
+use Rattle.prost_reflect_wire.specs.Schema.{ScalarOf, ValueType, MapFrom, Field, known, field_of, is_key_kind, numbers_differ, schema_valid}
 use Rattle.prost_reflect_wire.specs.Content.{Content, ContentOf, ScalarValue, MapValue, value_at, schema_of, type_of, entries_of}
-use Rattle.prost_reflect_wire.specs.Content as contents
 use Rattle.prost_reflect_wire.specs.Grammar.{has_level}
 use Rattle.prost_reflect_wire.specs.Meaning.{put, pairs_in}
 use Rattle.prost_reflect_wire.specs.Typing.{WellStored}

@@ -1,11 +1,11 @@
 -- What is written of a list of plain scalars.
-use Rattle.std.proofs.Common.{◌≡◌, ℕ, zero, suc, ◌+◌, ◌-◌, ◌^◌, ◌≤◌, Bool, true, false, ◌&&◌, List, [], ◌∷◌, ◌++◌, map, flat_map, drop, length, Option, Some, None, refl, sym, ap, ◌∙◌, subst, append_assoc, append-nil, true≢false, arith, length-append}
+use Rattle.std.proofs.Common.{◌≡◌, ℕ, zero, suc, ◌+◌, ◌-◌, ◌^◌, ◌≤◌, Bool, true, false, List, [], ◌∷◌, ◌++◌, map, flat_map, drop, length, Some, refl, sym, ap, ◌∙◌, subst, append_assoc, append-nil, true≢false, arith, length-append}
 use Rattle.std.specs.Prelude.{IsSomeAnd, Vec}
 use Rattle.std.specs.declared.alloc.Global.{Global}
 use Rattle.prost_reflect_wire.specs.declared.key.WireType.TheVariants as wires
 use Rattle.prost_reflect_wire.specs.Record.{Len, record_at, short_key, short_plain, spelled}
-use Rattle.prost_reflect_wire.specs.Scalar.{ScalarKind, kind_wire, scalar_valid, written}
-use Rattle.prost_reflect_wire.specs.Schema.{Kind, ScalarOf, Repeated, Field, field_of, is_singular, passes}
+use Rattle.prost_reflect_wire.specs.Scalar.{ScalarKind, kind_wire, written}
+use Rattle.prost_reflect_wire.specs.Schema.{ScalarOf, Repeated, Field, field_of, is_singular, passes}
 use Rattle.prost_reflect_wire.specs.Content as contents
 use Rattle.prost_reflect_wire.specs.Content.{ScalarValue, MessageValue, ListValue, MapValue, values_from}
 use Rattle.prost_reflect_wire.specs.Writing.{end_to_end, list_payloads, element_payloads}
@@ -27,8 +27,8 @@ use Rattle.prost_reflect.proofs.PlainKinds.{plain_row, list_row}
 use Rattle.prost_reflect.proofs.Views.{value_of_list}
 use Rattle.prost_reflect.proofs.WrittenValues.{passing}
 use Rattle.prost_reflect.specs.View.{value_of}
-use Rattle.prost_reflect.specs.Scalars.{plain_kind, TakesScalar, scalar_bytes, scalar_record_bytes}
-use Rattle.prost_reflect.specs.Lists.{IsList, TakesScalars, payloads_bytes, records_bytes, packed_bytes, list_bytes}
+use Rattle.prost_reflect.specs.Scalars.{plain_kind, scalar_bytes, scalar_record_bytes}
+use Rattle.prost_reflect.specs.Lists.{IsList, TakesScalars, list_bytes}
 
 -- ITEMS FROM THE LAST ON
 

@@ -1,5 +1,5 @@
 -- The rows of the key and the value of a map's entries.
-use Rattle.std.specs.Prelude.{List, [], ◌∷◌, Option, Some, None}
+use Rattle.std.specs.Prelude.{List, ◌∷◌, Option, Some, None}
 use Rattle.prost_reflect_tables.specs.Rows.{FieldRow, MessageRow, TableRows}
 use Rattle.prost_reflect_tables.specs.Shown.{map_entry}
 

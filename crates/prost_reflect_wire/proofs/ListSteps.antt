@@ -3,10 +3,10 @@ use Rattle.std.proofs.Common.{◌≡◌, ℕ, Bool, true, false, cond, List, [],
 use Rattle.std.specs.Bool.{⊤}
 use Rattle.std.proofs.lemmas.Bool.{eqb-true, eq-eqb}
 use Rattle.prost_reflect_wire.specs.Varint.{◌>>=◌}
-use Rattle.prost_reflect_wire.specs.Record.{Record, Payload, record_at}
+use Rattle.prost_reflect_wire.specs.Record.{Payload, record_at}
 use Rattle.prost_reflect_wire.specs.Schema.{Repeated, Field, field_of, is_sibling}
 use Rattle.prost_reflect_wire.specs.Content.{Value, ListValue, Values, NoValues, Item, values_from, ◌and_then◌, Slot}
-use Rattle.prost_reflect_wire.specs.Grammar.{value_payloads, stray_payloads, value_records, unknown_payloads}
+use Rattle.prost_reflect_wire.specs.Grammar.{value_payloads, stray_payloads}
 use Rattle.prost_reflect_wire.specs.Meaning.{MeansInside, JoinsInside, element, present_list, values_in, value_joined, value_step, value_steps, value_behind, slot_step}
 use Rattle.prost_reflect_wire.specs.Typing.{kept_value, kept_inside, kept_values}
 use Rattle.prost_reflect_wire.proofs.Numbers.{eqb-sym, slots_same}

@@ -1,5 +1,5 @@
 -- How the bytes of a descriptor record are read: first the values of its fields are found where they stand, then each field is made of those of its number.
-use Rattle.std.specs.Prelude.{◌≡◌, ◌≢◌, ℕ, zero, suc, ◌⊎◌, Bool, false, not, ℤ, List, [], ◌∷◌, ◌++◌, map, flat_map, Option, Some, None, option_map, nat_eq, nat_le, if◌then◌else◌}
+use Rattle.std.specs.Prelude.{◌≡◌, ℕ, zero, suc, ◌⊎◌, Bool, false, not, ℤ, List, [], ◌∷◌, ◌++◌, map, flat_map, Option, Some, None, option_map, nat_eq, nat_le, if◌then◌else◌}
 use Rattle.std.specs.Str.{is_utf8}
 use Rattle.prost_reflect_wire.specs.declared.error.DecodeError.{DecodeError}
 use Rattle.prost_reflect_wire.specs.declared.error.DecodeError.TheVariants as errors
@@ -7,13 +7,12 @@ use Rattle.prost_reflect_wire.specs.declared.key.WireType.{WireType}
 use Rattle.prost_reflect_wire.specs.declared.key.WireType.TheVariants as wires
 use Rattle.prost_reflect_wire.specs.Varint.{◌>>=◌, guard}
 use Rattle.prost_reflect_wire.specs.Record.{Plain, Var, Len, Payload, Flat, Record, body_of, plain_wire, payload_levels}
-use Rattle.prost_reflect_wire.specs.Front.{PlainFront, RecordsFront, PayloadEnds, PayloadPasses}
+use Rattle.prost_reflect_wire.specs.Front.{PlainFront, RecordsFront}
 use Rattle.prost_reflect_wire.specs.Scalar.{Boolean, I32, Text, Bytes, Int32, low_i32}
-use Rattle.prost_reflect_wire.specs.Schema.{Field}
 use Rattle.prost_reflect_wire.specs.Content.{Content, Value, ScalarValue, ListValue, NoValues, Item, values_from}
 use Rattle.prost_reflect_wire.specs.Grammar.{unpacked}
 use Rattle.prost_reflect_wire.specs.Meaning.{present_list}
-use Rattle.prost_reflect_wire.specs.Fault.{ElementFault, PackedNext, TextNext, takes, StandsInMessage}
+use Rattle.prost_reflect_wire.specs.Fault.{ElementFault, takes, StandsInMessage}
 use Rattle.prost_reflect_wire.specs.DescriptorTable.{rows, place_of, form_of, value_type_of, record_schema}
 use Rattle.prost_reflect_wire.specs.DescriptorMeaning.{record_decoded}
 use Rattle.prost_reflect_wire.specs.declared.records.table.RecordType.{RecordType}

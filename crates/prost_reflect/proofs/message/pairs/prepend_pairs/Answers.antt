@@ -1,4 +1,4 @@
-use Rattle.std.proofs.Common.{◌≡◌, List, ◌∷◌, ◌++◌, subst}
+use Rattle.std.proofs.Common.{◌∷◌, subst}
 use Rattle.std.proofs.lemmas.Result.{err_from_is_err_and}
 use Rattle.prost_reflect.specs.declared.value.MapKey.{MapKey}
 use Rattle.prost_reflect.specs.declared.value.Value.{Value}
