@@ -9,7 +9,7 @@ ghost use Rattle.prost_reflect_wire.specs.Writing.{encoded};
 ghost use Rattle.prost_reflect_wire.specs.Typing.{kept, value_valid, encodable, Typed};
 ghost use Rattle.prost_reflect_wire.specs.Storing.{value_bytes};
 ghost use Rattle.prost_reflect_wire.specs.Buffer.{bytes_of, Prepended};
-ghost use Rattle.prost_reflect_tables.specs.Rows.{field_row, written_scalar};
+ghost use Rattle.prost_reflect_tables.specs.Rows.{field_row};
 ghost use Rattle.prost_reflect_tables.specs.Shown.{schema_field};
 ghost use Rattle.prost_reflect.specs.Covered.{covered, is_repeated};
 ghost use Rattle.prost_reflect.specs.Lists.{IsList, AreElements, elements_bytes};
@@ -27,12 +27,13 @@ use crate::descriptor::MessageDescriptor;
 use crate::descriptor::covered::is_repeated;
 use crate::fields::entry::Entry;
 use crate::message::DynamicMessage;
+use crate::message::defaults::equals_written;
 use crate::message::enums::first_number;
 use crate::message::list::prepend_list;
 use crate::message::pairs::prepend_map;
 use crate::message::scalar::wire_type_of;
 use crate::value::Value;
-use prost_reflect_tables::{FieldTable, TableKind, WrittenDefault};
+use prost_reflect_tables::{FieldTable, TableKind};
 use prost_reflect_wire::{
     BackBuffer, EncodeError, WireType, prepend_fields, sign_extended, zigzag32, zigzag64,
 };
@@ -93,25 +94,6 @@ fn is_zero(value: &Value) -> bool
         Value::String(value) => value.is_empty(),
         Value::Bytes(value) => value.is_empty(),
         Value::Message(_) | Value::List(_) | Value::Map(_) => false,
-    }
-}
-
-/// Whether a scalar is the default that a field's definition writes.
-fn equals_written(value: &Value, default: &WrittenDefault) -> bool
-    ensures { result ≡ equals (value_of value.now) (written_scalar default.now) }
-{
-    match (value, default) {
-        (Value::Bool(value), WrittenDefault::Bool(default)) => value == default,
-        (Value::I32(value), WrittenDefault::I32(default)) => value == default,
-        (Value::I64(value), WrittenDefault::I64(default)) => value == default,
-        (Value::U32(value), WrittenDefault::U32(default)) => value == default,
-        (Value::U64(value), WrittenDefault::U64(default)) => value == default,
-        (Value::F32(value), WrittenDefault::F32(default)) => value == default,
-        (Value::F64(value), WrittenDefault::F64(default)) => value == default,
-        (Value::String(value), WrittenDefault::String(default)) => value == default,
-        (Value::Bytes(value), WrittenDefault::Bytes(default)) => value == default,
-        (Value::EnumNumber(value), WrittenDefault::EnumNumber(default)) => value == default,
-        _ => false,
     }
 }
 
