@@ -207,62 +207,108 @@ const MAPS: &str =
 const OLD_MAPS: &str =
     "0a89010a016d2283010a014d12140a016118012003280b32092e4d2e41456e74727912140a016218022003280b32092e4d2e42456e7472791a280a0641456e747279120b0a036b6579180120012805120d0a0576616c75651802200128093a0238011a280a0642456e747279120b0a036b6579180120012809120d0a0576616c75651802200128123a023801";
 
+/// The set of `package.MyMessage` in proto3, as protoc writes it: `int32 foo = 1; oneof optional { int32 bar = 2; } MyMessage nested = 3;`.
+const MESSAGES: &str =
+    "0a85010a07662e70726f746f12077061636b61676522690a094d794d65737361676512100a03666f6f1801200128055203666f6f12120a0362617218022001280548005203626172122a0a066e657374656418032001280b32122e7061636b6167652e4d794d65737361676552066e6573746564420a0a086f7074696f6e616c620670726f746f33";
+
+/// The same with `message Q { oneof o { int32 a = 1; MyMessage b = 2; } }`.
+const MEMBERS: &str =
+    "0ac3010a07662e70726f746f12077061636b61676522690a094d794d65737361676512100a03666f6f1801200128055203666f6f12120a0362617218022001280548005203626172122a0a066e657374656418032001280b32122e7061636b6167652e4d794d65737361676552066e6573746564420a0a086f7074696f6e616c223c0a0151120e0a0161180120012805480052016112220a016218022001280b32122e7061636b6167652e4d794d657373616765480052016242030a0163620670726f746f33";
+
+/// `message Foo { repeated int32 values = 1; }` in proto3.
+const LISTS: &str =
+    "0a300a07662e70726f746f221d0a03466f6f12160a0676616c756573180120032805520676616c756573620670726f746f33";
+
+/// The same in proto2, with a range of extensions and `repeated int32 ext_values = 100`.
+const OLD_LISTS: &str =
+    "0a540a07662e70726f746f22240a03466f6f12160a0676616c756573180120032805520676616c7565732a05086410c8013a230a0a6578745f76616c75657312042e466f6f186420032805520965787456616c756573";
+
+/// `message G { repeated group Item = 1 { optional int32 x = 1; } }` in proto2.
+const GROUPS: &str =
+    "0a410a07662e70726f746f22360a0147121b0a046974656d18012003280a32072e472e4974656d52046974656d1a140a044974656d120c0a0178180120012805520178";
+
+/// Sets, names and messages of each form of field, and what is printed of them.
+static FORMS: [(&str, &str, &str, &str); 15] = [
+    // The records of two messages of one field are those of one message.
+    (
+        MESSAGES,
+        "package.MyMessage",
+        "1a0208051a021042",
+        "1a0408051042\n",
+    ),
+    (MESSAGES, "package.MyMessage", "1a0208051a020800", "1a00\n"),
+    // A member of a oneof has presence.
+    (MESSAGES, "package.MyMessage", "08001000", "1000\n"),
+    // Another member clears a message of its oneof.
+    (MEMBERS, "package.Q", "12020805080112021042", "12021042\n"),
+    (MEMBERS, "package.Q", "08011200", "1200\n"),
+    // An element of a list of groups.
+    (GROUPS, "G", "0b08010c", "0b08010c\n"),
+    // Elements, packed or not, are written in one record in proto3, and in one each in proto2; no record of none.
+    (LISTS, "Foo", "08010a02020308040a00", "0a0401020304\n"),
+    (OLD_LISTS, "Foo", "0a020102", "08010802\n"),
+    (LISTS, "Foo", "0a00", "\n"),
+    // Keys ascend, as numbers.
+    (
+        MAPS,
+        "M",
+        "0a0508011201610a0e08ffffffffffffffffff01120162",
+        "0a0e08ffffffffffffffffff011201620a050801120161\n",
+    ),
+    (
+        MAPS,
+        "M",
+        "12050a016b100112030a0161",
+        "12030a016112050a016b1001\n",
+    ),
+    // The last entry of a key replaces the others.
+    (
+        MAPS,
+        "M",
+        "0a0508011201610a0508021201630a050801120162",
+        "0a0508011201620a050802120163\n",
+    ),
+    // In an entry the last key and the last value count, and nothing is kept of other records.
+    (MAPS, "M", "0a09120161180008010802", "0a050802120161\n"),
+    // What an entry lacks is zero, false or empty, and written where it has presence.
+    (MAPS, "M", "0a00", "0a00\n"),
+    (OLD_MAPS, "M", "0a00", "0a0408001200\n"),
+];
+
 #[test]
-fn relays_maps(rt: HostRuntime) -> Result<(), Fail> {
-    let rows = [
-        // Keys ascend, as numbers.
-        (
-            MAPS,
-            "0a0508011201610a0e08ffffffffffffffffff01120162",
-            "0a0e08ffffffffffffffffff011201620a050801120161",
-        ),
-        (MAPS, "12050a016b100112030a0161", "12030a016112050a016b1001"),
-        // The last entry of a key replaces the others.
-        (
-            MAPS,
-            "0a0508011201610a0508021201630a050801120162",
-            "0a0508011201620a050802120163",
-        ),
-        // In an entry the last key and the last value count, and nothing is kept of other records.
-        (MAPS, "0a09120161180008010802", "0a050802120161"),
-        // What an entry lacks is zero, false or empty, and written where it has presence.
-        (MAPS, "0a00", "0a00"),
-        (OLD_MAPS, "0a00", "0a0408001200"),
-    ];
-    for (set, digits, out) in rows {
-        let text = format!(in rt.alloc(); "relay {set} M {digits}")?;
-        let answer = answer_to(rt.alloc(), text.as_str())?;
-        assert_eq!(rt; answer.err.as_slice(), b"".as_slice(), "{text}");
-        assert_eq!(rt;
-            answer.out.as_slice(),
-            line(rt.alloc(), out)?.as_bytes(),
-            "{text}"
-        );
-        assert_eq!(rt; answer.status, 0, "{text}");
+fn relays_each_form(rt: HostRuntime) -> Result<(), Fail> {
+    for (set, name, digits, written) in &FORMS {
+        let words = four_words(rt.alloc(), &["relay", set, name, digits])?;
+        answered(&rt, rt.alloc(), words.as_slice(), 0, written, "");
     }
     Ok(())
 }
 
+/// Likewise, and why they are refused.
+static FORM_FAULTS: [(&str, &str, &str, &str); 11] = [
+    (
+        MESSAGES,
+        "package.MyMessage",
+        "1b1c",
+        "refused decode WireType\n",
+    ),
+    (GROUPS, "G", "0b080114", "refused decode EndGroup\n"),
+    (GROUPS, "G", "0a020801", "refused decode WireType\n"),
+    (LISTS, "Foo", "0a0180", "refused decode Truncated\n"),
+    (LISTS, "Foo", "0d00000000", "refused decode WireType\n"),
+    (MAPS, "M", "0801", "refused decode WireType\n"),
+    (MAPS, "M", "0a020a00", "refused decode WireType\n"),
+    (MAPS, "M", "0a03120161ff", "refused decode Truncated\n"),
+    (MAPS, "M", "0a0212", "refused decode Truncated\n"),
+    (MAPS, "M", "0a031201ff", "refused decode Utf8\n"),
+    (MAPS, "M", "0c", "refused decode EndGroup\n"),
+];
+
 #[test]
-fn names_the_faults_of_maps(rt: HostRuntime) -> Result<(), Fail> {
-    let rows = [
-        ("0801", "refused decode WireType"),
-        ("0a020a00", "refused decode WireType"),
-        ("0a03120161ff", "refused decode Truncated"),
-        ("0a0212", "refused decode Truncated"),
-        ("0a031201ff", "refused decode Utf8"),
-        ("0c", "refused decode EndGroup"),
-    ];
-    for (digits, refusal) in rows {
-        let text = format!(in rt.alloc(); "relay {MAPS} M {digits}")?;
-        let answer = answer_to(rt.alloc(), text.as_str())?;
-        assert_eq!(rt; answer.out.as_slice(), b"".as_slice(), "{text}");
-        assert_eq!(rt;
-            answer.err.as_slice(),
-            line(rt.alloc(), refusal)?.as_bytes(),
-            "{text}"
-        );
-        assert_eq!(rt; answer.status, 1, "{text}");
+fn names_the_faults_of_each_form(rt: HostRuntime) -> Result<(), Fail> {
+    for (set, name, digits, refusal) in &FORM_FAULTS {
+        let words = four_words(rt.alloc(), &["relay", set, name, digits])?;
+        answered(&rt, rt.alloc(), words.as_slice(), 1, "", refusal);
     }
     Ok(())
 }
