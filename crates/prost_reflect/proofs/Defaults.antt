@@ -2,18 +2,20 @@
 use Rattle.std.proofs.Common.{◌≡◌, ◌≢◌, Bool, true, false, not, ◌&&◌, ◌||◌, cond, List, [], ◌∷◌, length, map, Option, Some, None, refl, ap, ap₂, sym, ◌∙◌, arith, true≢false}
 use Rattle.std.specs.Prelude.{◌==◌, is_some}
 use Rattle.prost_reflect_wire.specs.Schema.{FieldForm, Singular, Repeated, MapFrom, ValueType, Schema, field_valid, form_valid, is_singular, is_message, message_has_presence}
-use Rattle.prost_reflect_wire.specs.Content.{Value, ScalarValue, MessageValue, ListValue, MapValue, Values, NoValues, Item, Pairs, NoPairs, Pair, values_from}
+use Rattle.prost_reflect_wire.specs.Content.{Value, ScalarValue, MessageValue, ListValue, MapValue, NoValues, Item, NoPairs, Pair, values_from}
 use Rattle.prost_reflect_wire.specs.Writing.{is_default_of}
 use Rattle.prost_reflect_wire.specs.Typing.{is_repeated, is_empty_of, is_field_default, kept_inside}
 use Rattle.prost_reflect_wire.proofs.Checked.{checked_field}
 use Rattle.prost_reflect_tables.specs.declared.tables.Cardinality.{Cardinality}
 use Rattle.prost_reflect_tables.specs.declared.tables.Cardinality.TheVariants.{Optional, Required, Repeated as RepeatedLabel}
-use Rattle.prost_reflect_tables.specs.Rows.{FieldRow, MessageRow, EnumRow, TableRows}
+use Rattle.prost_reflect_tables.specs.Rows.{FieldRow, MessageRow, TableRows}
 use Rattle.prost_reflect_tables.specs.Shown.{own_type, entry_at, map_entry, value_type_of, form_of, schema_field}
 use Rattle.prost_reflect.specs.Scalars.{equals}
 use Rattle.prost_reflect.specs.View.{pairs_from}
 use Rattle.prost_reflect.specs.declared.value.MapKey.{MapKey}
-use Rattle.prost_reflect.specs.Defaults.{is_repeated_label, is_map_form, is_empty_value}
+use Rattle.prost_reflect_wire.specs.Fault.{is_map}
+use Rattle.prost_reflect.specs.Covered.{is_repeated as is_repeated_label}
+use Rattle.prost_reflect.specs.Defaults.{is_empty_value}
 
 -- EMPTY LISTS AND MAPS
 
@@ -76,22 +78,22 @@ single_is rows row = go row.cardinality
     go Required = refl
     go RepeatedLabel = listed (map_entry rows.messages row RepeatedLabel)
 
-pub list_is : (rows : TableRows) (row : FieldRow) → is_repeated (schema_field rows row).form ≡ (is_repeated_label row.cardinality && not (is_map_form (schema_field rows row).form))
+pub list_is : (rows : TableRows) (row : FieldRow) → is_repeated (schema_field rows row).form ≡ (is_repeated_label row.cardinality && not (is_map (schema_field rows row).form))
 list_is rows row = go row.cardinality
   where
-    listed : (entry : Option MessageRow) → is_repeated (form_of rows.enums row RepeatedLabel entry) ≡ not (is_map_form (form_of rows.enums row RepeatedLabel entry))
+    listed : (entry : Option MessageRow) → is_repeated (form_of rows.enums row RepeatedLabel entry) ≡ not (is_map (form_of rows.enums row RepeatedLabel entry))
     listed None = refl
     listed (Some m) = refl
 
-    go : (c : Cardinality) → is_repeated (form_of rows.enums row c (map_entry rows.messages row c)) ≡ (is_repeated_label c && not (is_map_form (form_of rows.enums row c (map_entry rows.messages row c))))
+    go : (c : Cardinality) → is_repeated (form_of rows.enums row c (map_entry rows.messages row c)) ≡ (is_repeated_label c && not (is_map (form_of rows.enums row c (map_entry rows.messages row c))))
     go Optional = refl
     go Required = refl
     go RepeatedLabel = listed (map_entry rows.messages row RepeatedLabel)
 
-pub map_is : (rows : TableRows) (row : FieldRow) → is_map_form (schema_field rows row).form ≡ (is_repeated_label row.cardinality && (not row.is_group && is_some (entry_at rows.messages row.kind)))
+pub map_is : (rows : TableRows) (row : FieldRow) → is_map (schema_field rows row).form ≡ (is_repeated_label row.cardinality && (not row.is_group && is_some (entry_at rows.messages row.kind)))
 map_is rows row = go row.cardinality
   where
-    listed : (entry : Option MessageRow) → is_map_form (form_of rows.enums row RepeatedLabel entry) ≡ is_some entry
+    listed : (entry : Option MessageRow) → is_map (form_of rows.enums row RepeatedLabel entry) ≡ is_some entry
     listed None = refl
     listed (Some m) = refl
 
@@ -99,7 +101,7 @@ map_is rows row = go row.cardinality
     grouped true = refl
     grouped false = refl
 
-    go : (c : Cardinality) → is_map_form (form_of rows.enums row c (map_entry rows.messages row c)) ≡ (is_repeated_label c && (not row.is_group && is_some (entry_at rows.messages row.kind)))
+    go : (c : Cardinality) → is_map (form_of rows.enums row c (map_entry rows.messages row c)) ≡ (is_repeated_label c && (not row.is_group && is_some (entry_at rows.messages row.kind)))
     go Optional = refl
     go Required = refl
     go RepeatedLabel = listed (map_entry rows.messages row RepeatedLabel) ∙ grouped row.is_group
@@ -110,7 +112,7 @@ some_items view [] form h = absurd (true≢false h)
 some_items view (v ∷ vs) form h = refl
 
 -- a map of no pairs, and of some
-pub no_pairs : {V : Type 0} (view : V → MapKey × Value) (es : List V) (form : FieldForm) → length es ≡ 0 → is_map_form form ≡ is_empty_value form (MapValue (pairs_from (map view es)))
+pub no_pairs : {V : Type 0} (view : V → MapKey × Value) (es : List V) (form : FieldForm) → length es ≡ 0 → is_map form ≡ is_empty_value form (MapValue (pairs_from (map view es)))
 no_pairs view [] form h = refl
 no_pairs view (e ∷ es) form h = absurd (omega (arith, h))
 

@@ -1,9 +1,12 @@
 -- The known fields of a descriptor's message type, and its schema.
-use Rattle.std.proofs.Common.{◌≡◌, ℕ, ◌<◌, true, length, map, Some, ap}
+use Rattle.std.proofs.Common.{◌≡◌, ℕ, ◌<◌, true, length, map, Some, ap, subst}
+use Rattle.std.proofs.lemmas.Bool.{ltb-true}
 use Rattle.std.specs.Prelude.{slice_get, option_map}
 use Rattle.std.proofs.lemmas.List.{length-map}
-use Rattle.prost_reflect_wire.specs.Schema.{Field, known, field_of, field_valid, schema_valid}
-use Rattle.prost_reflect_wire.proofs.Checked.{known_valid, found_valid}
+use Rattle.prost_reflect_wire.specs.Schema.{Kind, ScalarOf, MessageOf, GroupOf, Field, known, field_of, kind_valid, field_valid, schema_valid}
+use Rattle.prost_reflect_wire.specs.Edit.{message_of}
+use Rattle.prost_reflect_wire.proofs.Deeper.{and_both}
+use Rattle.prost_reflect_wire.proofs.Checked.{known_valid, found_valid, checked_field}
 use Rattle.prost_reflect_tables.specs.Rows.{FieldRow}
 use Rattle.prost_reflect_tables.specs.Places.{row_of}
 use Rattle.prost_reflect_tables.specs.Shown.{schema_from, schema_field}
@@ -24,6 +27,20 @@ type_in_schema m = rw length-map m.in_range
 -- So each of its fields passes the check.
 pub found_checked : (m : MessageDescriptor) (n : ℕ) (f : Field) → field_of (known (schema_at m) (type_at m)) n ≡ Some f → field_valid (schema_at m) f ≡ true
 found_checked m n f found = found_valid (schema_at m) (known (schema_at m) (type_at m)) n f (known_valid (schema_at m) (type_at m) (schema_at_valid m)) found
+
+-- The message type that a field names is one of the pool.
+pub named_in_range : (m : MessageDescriptor) (n : ℕ) (f : Field) (T : ℕ) → field_of (known (schema_at m) (type_at m)) n ≡ Some f → message_of f.value_type.kind ≡ Some T → T < length (pool_rows m.pool).messages
+unfolding schema_from
+named_in_range m n f T found names =
+    let valid : field_valid (schema_at m) f ≡ true = found_valid (schema_at m) (known (schema_at m) (type_at m)) n f (known_valid (schema_at m) (type_at m) (schema_at_valid m)) found in
+    let checked = checked_field (schema_at m) f valid in
+    let within : T < length (schema_at m) = named f.value_type.kind names checked.kind in
+    rw length-map at within
+  where
+    named : (kind : Kind) → message_of kind ≡ Some T → kind_valid (schema_at m) kind ≡ true → T < length (schema_at m)
+    named (ScalarOf kind) e h = cc
+    named (MessageOf U) e h = let same : U ≡ T = cc in subst (λ U. U < length (schema_at m)) same (ltb-true U (length (schema_at m)) (and_both _ _ h).0)
+    named (GroupOf U) e h = let same : U ≡ T = cc in subst (λ U. U < length (schema_at m)) same (ltb-true U (length (schema_at m)) (and_both _ _ h).0)
 
 -- The known fields are the rows, shown.
 pub known_at : (m : MessageDescriptor) → known (schema_at m) (type_at m) ≡ map (schema_field (pool_rows m.pool)) (fields_of m)

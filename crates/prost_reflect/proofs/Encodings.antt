@@ -1,18 +1,20 @@
 -- The entries of a message that is encodable can be written, and their bytes are the encoding of its content.
-use Rattle.std.proofs.Common.{◌≡◌, ℕ, true, cond, List, [], ◌∷◌, ◌++◌, map, nat_eq, Option, Some, None, refl, sym, ap, ap₂, ◌∙◌, subst, append-nil, zero, suc, ◌+◌, ◌-◌, ◌^◌, ◌≤◌, ◌<◌, length, drop, get_or, arith}
+use Rattle.prost_reflect_wire.proofs.WrittenRecords.{cut_before}
+use Rattle.std.proofs.Common.{◌≡◌, ℕ, true, cond, List, [], ◌∷◌, ◌++◌, map, nat_eq, Option, Some, None, refl, sym, ap, ap₂, ◌∙◌, subst, zero, suc, ◌+◌, ◌-◌, ◌^◌, ◌≤◌, ◌<◌, length, drop, get_or, arith, append_assoc}
 use Rattle.std.proofs.lemmas.List.{length-append}
 use Rattle.std.proofs.lemmas.Bool.{eqb-true}
 use Rattle.std.specs.List.{list_all}
 use Rattle.std.specs.List.Sorted.{IsStrictlySortedBy}
 use Rattle.std.specs.Option.{option_map, option_and_then}
+use Rattle.std.specs.Prelude.{unwrap_or}
 use Rattle.std.specs.Ordering.{is_eq}
 use Rattle.prost_reflect_wire.specs.Record.{Record, Payload, record_at, spelled}
-use Rattle.prost_reflect_wire.specs.Schema.{Field, field_of, passes}
+use Rattle.prost_reflect_wire.specs.Schema.{Schema, Field, field_of, passes}
 use Rattle.prost_reflect_wire.specs.Content as contents
 use Rattle.prost_reflect_wire.specs.Content.{Entries, Slot, Stored, Unknown, then_unknowns, then_value, store}
 use Rattle.prost_reflect_wire.specs.Writing.{encoded, entries_records}
-use Rattle.prost_reflect_wire.specs.Typing.{EntryTest, fit_test, value_valid, entries_pass, encodable, kept, kept_entries}
-use Rattle.prost_reflect_wire.specs.Storing.{slot_bytes, value_bytes}
+use Rattle.prost_reflect_wire.specs.Typing.{EntryTest, fit_test, value_valid, value_passes, entries_pass, encodable, Typed, EntriesTyped, kept, kept_entries}
+use Rattle.prost_reflect_wire.specs.Storing.{slot_bytes, value_bytes, stored_bytes}
 use Rattle.prost_reflect_wire.specs.Unknown.{records_of}
 use Rattle.prost_reflect_wire.specs.declared.unknown.UnknownFieldSet.{UnknownFieldSet}
 use Rattle.prost_reflect_wire.proofs.Deeper.{and_both}
@@ -22,11 +24,12 @@ use Rattle.prost_reflect.specs.declared.fields.entry.Entry.TheVariants as entrie
 use Rattle.prost_reflect.specs.declared.message.DynamicMessage.{DynamicMessage}
 use Rattle.prost_reflect.specs.declared.value.Value.{Value}
 use Rattle.prost_reflect.specs.Items.{IsAscending, item_at}
+use Rattle.prost_reflect.specs.Descriptors.{schema_at}
 use Rattle.prost_reflect.specs.Known.{known_of, are_records_of, keeps_unknown}
-use Rattle.prost_reflect.specs.Entries.{value_in, records_in, records_at}
+use Rattle.prost_reflect.specs.Entries.{value_in, unknown_in, records_in, records_at}
 use Rattle.prost_reflect.specs.Sound.{IsSound, UnknownKept, unknown_kept}
 use Rattle.prost_reflect.specs.View.{value_of, content_of, descriptor_of, stored_in, slot_of, entries_from, payloads_of}
-use Rattle.prost_reflect.specs.Encoding.{entry_slot, entries_bytes, IsWritable, AreWritable}
+use Rattle.prost_reflect.specs.Encoding.{entry_slot, unknown_bytes, entries_bytes, ValueWritable, OwnUnknown, IsWritable, AreWritable}
 use Rattle.prost_reflect.proofs.ItemChanges.{by_number, none_above, itself}
 use Rattle.prost_reflect.proofs.Views.{shown, shown_entry, content_of_message}
 
@@ -63,11 +66,27 @@ behind_unknowns : (test : EntryTest) (fields : List Field) (n : ℕ) (ps : List 
 behind_unknowns test fields n [] es h = h
 behind_unknowns test fields n (p ∷ ps) es h = behind_unknowns test fields n ps es (and_both (test.unknown fields n p) _ h).1
 
-first_value : (fields : List Field) (n : ℕ) (o : Option contents.Value) (es : Entries) → entries_pass fit_test fields (then_value n o es) ≡ true → (v : contents.Value) → o ≡ Some v → passes (field_of fields n) (λ f. value_valid f v) ≡ true
-first_value fields n None es h v e = cc
-first_value fields n (Some w) es h v e =
-    let same : w ≡ v = cc in
-    subst (λ v. passes (field_of fields n) (λ f. value_valid f v) ≡ true) same (and_both (passes (field_of fields n) (λ f. value_valid f w)) _ (and_both _ (entries_pass fit_test fields es) h).0).0
+-- the value of the first entry
+record FirstValue (schema : Schema) (fields : List Field) (n : ℕ) (o : Option contents.Value) : Type 0 where
+  pub writable : (v : contents.Value) → o ≡ Some v → ValueWritable schema fields n v
+
+first_value : (schema : Schema) (fields : List Field) (n : ℕ) (o : Option contents.Value) (es : Entries) → entries_pass fit_test fields (then_value n o es) ≡ true → EntriesTyped schema fields (then_value n o es) → FirstValue schema fields n o
+first_value schema fields n None es h t = record { writable = λ v e. cc }
+first_value schema fields n (Some w) es h t =
+    let parts = and_both (passes (field_of fields n) (λ f. value_valid f w)) (value_passes fit_test w) (and_both _ (entries_pass fit_test fields es) h).0 in
+    let own : ValueWritable schema fields n w = record { valid = parts.0; fits = parts.1; types = t.0 } in
+    record { writable = λ v e. let same : w ≡ v = cc in subst (ValueWritable schema fields n) same own }
+
+typed_behind : (schema : Schema) (fields : List Field) (n : ℕ) (slot : Slot) (es : Entries) → EntriesTyped schema fields (store n slot es) → EntriesTyped schema fields es
+typed_behind schema fields n slot es h = past_unknowns slot.unknowns (past_value slot.value h)
+  where
+    past_value : (o : Option contents.Value) → EntriesTyped schema fields (then_value n o (then_unknowns n slot.unknowns es)) → EntriesTyped schema fields (then_unknowns n slot.unknowns es)
+    past_value None h = h
+    past_value (Some v) h = h.1
+
+    past_unknowns : (ps : List Payload) → EntriesTyped schema fields (then_unknowns n ps es) → EntriesTyped schema fields es
+    past_unknowns [] h = h
+    past_unknowns (p ∷ ps) h = past_unknowns ps h
 
 behind_value : (test : EntryTest) (fields : List Field) (n : ℕ) (o : Option contents.Value) (es : Entries) → entries_pass test fields (then_value n o es) ≡ true → entries_pass test fields es ≡ true
 behind_value test fields n None es h = h
@@ -94,30 +113,29 @@ own_in fields (e ∷ es) s kept = (
 shown_value : (e : Entry Value) (v : Value) → value_in e ≡ Some v → (slot_of (shown_entry e)).value ≡ Some (value_of v)
 shown_value e v is = ap (λ (slot : Slot). slot.value) (slot_shown e) ∙ ap (option_map value_of) is
 
-writable_entries : (fields : List Field) (es : List (ℕ × Entry Value)) → entries_pass fit_test fields (entries_from (shown es)) ≡ true → OwnRecords es → AreWritable fields es
-writable_entries fields [] h own = tt
-writable_entries fields (e ∷ es) h own = (
+writable_entries : (schema : Schema) (fields : List Field) (es : List (ℕ × Entry Value)) → entries_pass fit_test fields (entries_from (shown es)) ≡ true → EntriesTyped schema fields (entries_from (shown es)) → OwnRecords es → AreWritable schema fields es
+writable_entries schema fields [] h t own = tt
+writable_entries schema fields (e ∷ es) h t own = (
   record {
-    valid = λ v is. first_value fields e.0 (slot_of (shown_entry e.1)).value (then_unknowns e.0 (slot_of (shown_entry e.1)).unknowns (entries_from (shown es))) h (value_of v) (shown_value e.1 v is);
+    value = λ v is. (first_value schema fields e.0 (slot_of (shown_entry e.1)).value (then_unknowns e.0 (slot_of (shown_entry e.1)).unknowns (entries_from (shown es))) h t).writable (value_of v) (shown_value e.1 v is);
     own = own.0;
   },
-  writable_entries fields es (behind_unknowns fit_test fields e.0 (slot_of (shown_entry e.1)).unknowns (entries_from (shown es)) (behind_value fit_test fields e.0 (slot_of (shown_entry e.1)).value _ h)) own.1,
+  writable_entries schema fields es (behind_unknowns fit_test fields e.0 (slot_of (shown_entry e.1)).unknowns (entries_from (shown es)) (behind_value fit_test fields e.0 (slot_of (shown_entry e.1)).value _ h))
+      (typed_behind schema fields e.0 (slot_of (shown_entry e.1)) (entries_from (shown es)) t) own.1,
 )
 
-pub writable_message : (m : DynamicMessage) → encodable (content_of m) ≡ true → IsAscending (stored_in m) → IsSound (descriptor_of m) (stored_in m) → AreWritable (known_of (descriptor_of m)) (stored_in m)
-writable_message m h s sound = writable_entries (known_of (descriptor_of m)) (stored_in m) (ap encodable (sym (content_of_message m)) ∙ h) (own_in (known_of (descriptor_of m)) (stored_in m) s sound.1)
+pub writable_message : (m : DynamicMessage) → encodable (content_of m) ≡ true → Typed (content_of m) → IsAscending (stored_in m) → IsSound (descriptor_of m) (stored_in m) → AreWritable (schema_at (descriptor_of m)) (known_of (descriptor_of m)) (stored_in m)
+writable_message m h t s sound =
+    writable_entries (schema_at (descriptor_of m)) (known_of (descriptor_of m)) (stored_in m) (ap encodable (sym (content_of_message m)) ∙ h) (subst Typed (content_of_message m) t) (own_in (known_of (descriptor_of m)) (stored_in m) s sound.1)
 
 -- ONE ENTRY
 
-pub value_slot : (fields : List Field) (n : ℕ) (e : Entry Value) (v : Value) → e ≡ entries.Value v → slot_bytes fields n (entry_slot e) ≡ value_bytes fields n (value_of v)
-value_slot fields n e v is = ap (λ e. slot_bytes fields n (entry_slot e)) is ∙ append-nil (value_bytes fields n (value_of v))
+pub unknown_written : (n : ℕ) (e : Entry Value) (u : UnknownFieldSet) → unknown_in e ≡ Some u → OwnUnknown n e → unknown_bytes n (entry_slot e) ≡ spelled (records_of u)
+unknown_written n e u is own =
+    ap (λ o. spelled (map (record_at n) (payloads_of (unwrap_or (option_map records_of o) [])))) is ∙ ap spelled (own_all n (records_of u) (own (records_of u) (ap (option_map records_of) is)))
 
-pub unknown_slot : (fields : List Field) (n : ℕ) (e : Entry Value) (u : UnknownFieldSet) → e ≡ entries.Unknown u → IsWritable fields n e → slot_bytes fields n (entry_slot e) ≡ spelled (records_of u)
-unknown_slot fields n e u is w = ap (λ e. slot_bytes fields n (entry_slot e)) is ∙ ap spelled (own_all n (records_of u) (w.own (records_of u) (ap records_in is)))
-
-pub both_slot : (fields : List Field) (n : ℕ) (e : Entry Value) (v : Value) (u : UnknownFieldSet) → e ≡ entries.Both v u → IsWritable fields n e → slot_bytes fields n (entry_slot e) ≡ value_bytes fields n (value_of v) ++ spelled (records_of u)
-both_slot fields n e v u is w =
-    ap (λ e. slot_bytes fields n (entry_slot e)) is ∙ ap (λ rs. value_bytes fields n (value_of v) ++ spelled rs) (own_all n (records_of u) (w.own (records_of u) (ap records_in is)))
+pub unknown_nothing : (n : ℕ) (e : Entry Value) → unknown_in e ≡ None → unknown_bytes n (entry_slot e) ≡ []
+unknown_nothing n e is = ap (λ o. spelled (map (record_at n) (payloads_of (unwrap_or (option_map records_of o) [])))) is
 
 -- ENTRIES FROM THE BACK
 
@@ -143,7 +161,50 @@ too_long_from fields items i e old mid cut is h =
       bytes_drop fields (i - 1) items,
     )
 
-pub writable_at : (fields : List Field) (items : List (ℕ × Entry Value)) (i : ℕ) (e : ℕ × Entry Value) → i < length items → e ≡ get_or items i e → AreWritable fields items → IsWritable fields e.0 e.1
-writable_at fields [] i e l is h = absurd (omega arith)
-writable_at fields (x ∷ items) zero e l is h = subst (λ (x : ℕ × Entry Value). IsWritable fields x.0 x.1) (sym is) h.0
-writable_at fields (x ∷ items) (suc i) e l is h = writable_at fields items i e (omega arith) is h.1
+pub writable_at : (schema : Schema) (fields : List Field) (items : List (ℕ × Entry Value)) (i : ℕ) (e : ℕ × Entry Value) → i < length items → e ≡ get_or items i e → AreWritable schema fields items → IsWritable schema fields e.0 e.1
+writable_at schema fields [] i e l is h = absurd (omega arith)
+writable_at schema fields (x ∷ items) zero e l is h = subst (λ (x : ℕ × Entry Value). IsWritable schema fields x.0 x.1) (sym is) h.0
+writable_at schema fields (x ∷ items) (suc i) e l is h = writable_at schema fields items i e (omega arith) is h.1
+
+-- the whole is written
+pub whole_written : (m : DynamicMessage) (i : ℕ) (old new : List ℕ) → i ≡ 0 → new ≡ entries_bytes (known_of (descriptor_of m)) (drop i (stored_in m)) ++ old → new ≡ encoded (kept (content_of m)) ++ old
+whole_written m i old new first is = is ∙ ap (λ i. entries_bytes (known_of (descriptor_of m)) (drop i (stored_in m)) ++ old) first ∙ ap (λ l. l ++ old) (sym (encoded_entries m))
+
+module _ (m : DynamicMessage) (i : ℕ) (e : ℕ × Entry Value) (some : 0 < i) (within : i ≤ length (stored_in m)) (at : e ≡ get_or (stored_in m) (i - 1) e) where
+  cut_here : drop (i - 1) (stored_in m) ≡ e ∷ drop i (stored_in m)
+  cut_here = cut_before (stored_in m) i e some within at
+
+  pub entry_writable : encodable (content_of m) ≡ true → Typed (content_of m) → IsAscending (stored_in m) → IsSound (descriptor_of m) (stored_in m) → IsWritable (schema_at (descriptor_of m)) (known_of (descriptor_of m)) e.0 e.1
+  entry_writable h t s sound = writable_at (schema_at (descriptor_of m)) (known_of (descriptor_of m)) (stored_in m) (i - 1) e (omega (arith, some, within)) at (writable_message m h t s sound)
+
+  entry_too_long : (old mid : List ℕ) → mid ≡ entries_bytes (known_of (descriptor_of m)) (drop i (stored_in m)) ++ old → 2 ^ 64 ≤ length (slot_bytes (known_of (descriptor_of m)) e.0 (entry_slot e.1)) + length mid → 2 ^ 64 ≤ length (encoded (kept (content_of m))) + length old
+  entry_too_long old mid is h =
+      let all : 2 ^ 64 ≤ length (entries_bytes (known_of (descriptor_of m)) (stored_in m)) + length old = too_long_from (known_of (descriptor_of m)) (stored_in m) i e old mid cut_here is h in
+      omega (arith, all, ap length (encoded_entries m))
+
+  pub unknown_too_long : (old mid : List ℕ) → mid ≡ entries_bytes (known_of (descriptor_of m)) (drop i (stored_in m)) ++ old → 2 ^ 64 ≤ length (unknown_bytes e.0 (entry_slot e.1)) + length mid → 2 ^ 64 ≤ length (encoded (kept (content_of m))) + length old
+  unknown_too_long old mid is h =
+      let more = length-append (stored_bytes (known_of (descriptor_of m)) e.0 (entry_slot e.1).value) (unknown_bytes e.0 (entry_slot e.1)) in
+      entry_too_long old mid is (omega (arith, h, more))
+
+  stored_value : (v : Value) → value_in e.1 ≡ Some v → stored_bytes (known_of (descriptor_of m)) e.0 (entry_slot e.1).value ≡ value_bytes (known_of (descriptor_of m)) e.0 (value_of v)
+  stored_value v is = ap (λ o. stored_bytes (known_of (descriptor_of m)) e.0 (option_map value_of o)) is
+
+  pub value_too_long : (v : Value) (old mid after : List ℕ) → value_in e.1 ≡ Some v → mid ≡ entries_bytes (known_of (descriptor_of m)) (drop i (stored_in m)) ++ old → after ≡ unknown_bytes e.0 (entry_slot e.1) ++ mid →
+      2 ^ 64 ≤ length (value_bytes (known_of (descriptor_of m)) e.0 (value_of v)) + length after → 2 ^ 64 ≤ length (encoded (kept (content_of m))) + length old
+  value_too_long v old mid after valued is behind h =
+      let more = length-append (stored_bytes (known_of (descriptor_of m)) e.0 (entry_slot e.1).value) (unknown_bytes e.0 (entry_slot e.1)) in
+      entry_too_long old mid is (omega (arith, h, more, ap length (stored_value v valued), ap length behind, length-append (unknown_bytes e.0 (entry_slot e.1)) mid))
+
+  -- one entry more is written
+  pub entry_written : (old mid new : List ℕ) → mid ≡ entries_bytes (known_of (descriptor_of m)) (drop i (stored_in m)) ++ old → new ≡ stored_bytes (known_of (descriptor_of m)) e.0 (entry_slot e.1).value ++ (unknown_bytes e.0 (entry_slot e.1) ++ mid) →
+      new ≡ entries_bytes (known_of (descriptor_of m)) (drop (i - 1) (stored_in m)) ++ old
+  entry_written old mid new is added =
+      added ∙ sym (append_assoc (stored_bytes (known_of (descriptor_of m)) e.0 (entry_slot e.1).value) (unknown_bytes e.0 (entry_slot e.1)) mid)
+      ∙ ap (λ l. slot_bytes (known_of (descriptor_of m)) e.0 (entry_slot e.1) ++ l) is
+      ∙ sym (append_assoc (slot_bytes (known_of (descriptor_of m)) e.0 (entry_slot e.1)) (entries_bytes (known_of (descriptor_of m)) (drop i (stored_in m))) old)
+      ∙ ap (λ l. entries_bytes (known_of (descriptor_of m)) l ++ old) (sym cut_here)
+
+  pub value_added : (v : Value) (old mid after new : List ℕ) → value_in e.1 ≡ Some v → mid ≡ entries_bytes (known_of (descriptor_of m)) (drop i (stored_in m)) ++ old → after ≡ unknown_bytes e.0 (entry_slot e.1) ++ mid →
+      new ≡ value_bytes (known_of (descriptor_of m)) e.0 (value_of v) ++ after → new ≡ entries_bytes (known_of (descriptor_of m)) (drop (i - 1) (stored_in m)) ++ old
+  value_added v old mid after new valued is behind added = entry_written old mid new is (added ∙ ap₂ ◌++◌ (sym (stored_value v valued)) behind)

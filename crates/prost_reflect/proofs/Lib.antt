@@ -19,11 +19,19 @@ pub mod Views
 pub mod Slots
 pub mod Stored
 pub mod Merging
+pub mod NestedReads
+pub mod MapEntries
+pub mod MapMerging
+pub mod MapRows
 pub mod ContentChanges
 mod KeptSlots
 pub mod Described
 pub mod Zeros
 pub mod WrittenValues
+pub mod NestedWrites
+pub mod WrittenMaps
+pub mod ElementReads
+pub mod ElementWrites
 pub mod Encodings
 pub mod Present
 pub mod Defaults
@@ -33,3 +41,6 @@ pub mod CopiedPairs
 pub mod EqualDescriptors
 pub mod StoredViews
 pub mod StoredContents
+mod ListElements
+mod ListMerging
+mod WrittenLists

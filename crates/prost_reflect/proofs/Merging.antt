@@ -1,5 +1,5 @@
 -- Records read into a message.
-use Rattle.std.proofs.Common.{◌≡◌, ◌≢◌, inl, inr, arith, ℕ, List, Option, Some, None, sym, ap, ◌∙◌, subst, ◌≤◌, ◌<◌, ◌^◌, true, false}
+use Rattle.std.proofs.Common.{◌≡◌, ◌≢◌, inl, inr, arith, ℕ, Bool, List, Option, Some, None, refl, sym, ap, ap₂, ◌∙◌, subst, ◌≤◌, ◌<◌, ◌^◌, true, false, true≢false}
 use Rattle.prost_reflect_wire.specs.declared.key.WireType.{WireType}
 use Rattle.prost_reflect_wire.specs.declared.error.DecodeError.{DecodeError}
 use Rattle.prost_reflect_wire.specs.declared.error.DecodeError.TheVariants as errors
@@ -7,11 +7,11 @@ use Rattle.prost_reflect_wire.specs.Varint.{AreBytes}
 use Rattle.prost_reflect_wire.specs.Record.{Payload, Flat, record_at}
 use Rattle.prost_reflect_wire.specs.Front.{ValueFront}
 use Rattle.prost_reflect_wire.specs.Scalar.{Scalar, ScalarKind, is_undeclared}
-use Rattle.prost_reflect_wire.specs.Schema.{ScalarOf, Singular, Field, known, field_of, numbers_differ}
+use Rattle.prost_reflect_wire.specs.Schema.{Kind, ScalarOf, MessageOf, GroupOf, ValueType, Singular, Field, known, field_of, numbers_differ, is_message}
 use Rattle.prost_reflect_wire.specs.Content.{Content, ContentOf, ScalarValue, schema_of, type_of}
 use Rattle.prost_reflect_wire.specs.Content as contents
 use Rattle.prost_reflect_wire.specs.Typing.{WellStored}
-use Rattle.prost_reflect_wire.specs.Edit.{with_field_value}
+use Rattle.prost_reflect_wire.specs.Edit.{with_field_value, message_of}
 use Rattle.prost_reflect_wire.specs.Grammar.{is_stray}
 use Rattle.prost_reflect_wire.specs.Fault.{OfType, ValueFault, same_wire}
 use Rattle.prost_reflect_wire.specs.Decoding.{Step, ScalarRead, ScalarFault, StandsBehindKey}
@@ -20,22 +20,25 @@ use Rattle.prost_reflect_wire.proofs.Holding.{scalar_holds, unknown_holds, stray
 use Rattle.prost_reflect_wire.proofs.ScalarFaults.{scalar_stands}
 use Rattle.prost_reflect_wire.proofs.PlaceFaults.{value_stands}
 use Rattle.prost_reflect_tables.specs.declared.tables.TableKind.{TableKind}
+use Rattle.prost_reflect_tables.specs.declared.tables.TableKind.TheVariants as kinds
 use Rattle.prost_reflect_tables.specs.Rows.{FieldRow}
-use Rattle.prost_reflect_tables.specs.Shown.{schema_field}
+use Rattle.prost_reflect_tables.specs.Shown.{schema_kind, schema_field}
 use Rattle.prost_reflect.specs.declared.descriptor.message.MessageDescriptor.{MessageDescriptor}
 use Rattle.prost_reflect.specs.declared.message.DynamicMessage.{DynamicMessage}
 use Rattle.prost_reflect.specs.declared.value.Value.{Value}
+use Rattle.prost_reflect.specs.declared.message.decode.Target.TheVariants as targets
 use Rattle.prost_reflect.specs.Pools.{pool_rows}
-use Rattle.prost_reflect.specs.Descriptors.{schema_at, type_at}
 use Rattle.prost_reflect.specs.Known.{known_of}
 use Rattle.prost_reflect.specs.View.{value_of, content_of, descriptor_of}
 use Rattle.prost_reflect.specs.Scalars.{PlainField, ReadsScalar, RefusesScalar, ReadsStray, StaysUnknown, is_stray_number}
+use Rattle.prost_reflect.specs.Targets.{NestedField, IsTarget, target_of}
+use Rattle.prost_reflect.proofs.Described.{named_in_range}
 use Rattle.prost_reflect.proofs.Views.{content_of_message}
-use Rattle.prost_reflect.proofs.PlainKinds.{SamePayloads, scalar_row, plain_payloads, stray_payload}
+use Rattle.prost_reflect.proofs.PlainKinds.{SamePayloads, scalar_row, single_row, own_of, plain_payloads, stray_payload}
 use Rattle.prost_reflect.proofs.Siblings.{known_differ}
 use Rattle.prost_reflect.specs.Contents.{value_set, unknown_added}
-use Rattle.prost_reflect.specs.Covered.{covered}
-use Rattle.prost_reflect.proofs.Covering.{covered_field, covered_parts}
+use Rattle.prost_reflect.specs.Covered.{is_repeated, names_message}
+use Rattle.prost_reflect.proofs.Covering.{message_kind}
 
 -- a scalar's value was set
 pub set_step : (levels n : ℕ) (w : WireType) (c d : Content) (f : Field) (kind : ScalarKind) (v : contents.Value) (s : Scalar) (bytes rest : List ℕ) → WellStored c → numbers_differ (known (schema_of c) (type_of c)) ≡ true →
@@ -64,14 +67,42 @@ stray_step levels n w (ContentOf schema T es) d f p bytes rest sound differ foun
 pub known_in : (m : DynamicMessage) → known (schema_of (content_of m)) (type_of (content_of m)) ≡ known_of (descriptor_of m)
 known_in m = ap (λ c. known (schema_of c) (type_of c)) (content_of_message m)
 
-differ_in : (m : DynamicMessage) → numbers_differ (known (schema_of (content_of m)) (type_of (content_of m))) ≡ true
+pub differ_in : (m : DynamicMessage) → numbers_differ (known (schema_of (content_of m)) (type_of (content_of m))) ≡ true
 differ_in m = ap numbers_differ (known_in m) ∙ known_differ (descriptor_of m)
 
-pub plain_field : (d : MessageDescriptor) (n : ℕ) (row : FieldRow) → covered (schema_at d) (type_at d) ≡ true → field_of (known_of d) n ≡ Some (schema_field (pool_rows d.pool) row) → PlainField d n row.kind
-plain_field d n row h found =
-    let parts = covered_parts (schema_field (pool_rows d.pool) row) (covered_field (schema_at d) (type_at d) n (schema_field (pool_rows d.pool) row) h found) in
-    let kind = scalar_row (pool_rows d.pool) row parts.single parts.scalar in
-    record { field = schema_field (pool_rows d.pool) row; scalar_kind = kind.scalar; found = found; form = parts.single; kind_is = kind.is; named = kind.named }
+-- WHAT A RECORD IS READ AS
+
+pub scalar_target : (kind : TableKind) (g : Bool) → names_message kind ≡ false → target_of kind g ≡ targets.Scalar kind
+scalar_target (kinds.Message T) g e = absurd (true≢false e)
+scalar_target kind g e = refl
+
+pub no_message_kind : (kind : TableKind) → ((T : ℕ) → kind ≡ kinds.Message T → ⊥) → names_message kind ≡ false
+no_message_kind (kinds.Message T) h = absurd (h T refl)
+no_message_kind kind h = refl
+
+module _ (d : MessageDescriptor) (n : ℕ) (row : FieldRow) (one : is_repeated row.cardinality ≡ false) (found : field_of (known_of d) n ≡ Some (schema_field (pool_rows d.pool) row)) where
+  single : (schema_field (pool_rows d.pool) row).form ≡ Singular
+  single = single_row (pool_rows d.pool) row one
+
+  own_kind : (schema_field (pool_rows d.pool) row).value_type.kind ≡ schema_kind (pool_rows d.pool).enums row.kind row.is_group
+  own_kind = ap (λ (t : ValueType). t.kind) (own_of (pool_rows d.pool) row single)
+
+  plain_field : names_message row.kind ≡ false → PlainField d n row.kind
+  plain_field apart =
+      let kind = scalar_row (pool_rows d.pool) row single (ap is_message own_kind ∙ message_kind (pool_rows d.pool).enums row.kind row.is_group ∙ apart) in
+      record { field = schema_field (pool_rows d.pool) row; scalar_kind = kind.scalar; found = found; form = single; kind_is = kind.is; named = kind.named }
+
+  nested_field : (T : ℕ) (kind : Kind) → schema_kind (pool_rows d.pool).enums row.kind row.is_group ≡ kind → message_of kind ≡ Some T → NestedField d n T kind
+  nested_field T kind is names =
+      record { field = schema_field (pool_rows d.pool) row; found = found; form = single; kind_is = own_kind ∙ is; in_range = named_in_range d n (schema_field (pool_rows d.pool) row) T found (ap message_of (own_kind ∙ is) ∙ names) }
+
+  pub target_is : IsTarget d n (target_of row.kind row.is_group)
+  target_is = go row.kind row.is_group refl refl
+    where
+      go : (kind : TableKind) (g : Bool) → row.kind ≡ kind → row.is_group ≡ g → IsTarget d n (target_of kind g)
+      go (kinds.Message T) true k i = nested_field T (GroupOf T) (ap₂ (schema_kind (pool_rows d.pool).enums) k i) refl
+      go (kinds.Message T) false k i = nested_field T (MessageOf T) (ap₂ (schema_kind (pool_rows d.pool).enums) k i) refl
+      go kind g k i = subst (PlainField d n) k (plain_field (ap names_message k))
 
 -- what is read by the plain kind is read by the field's own
 own_read : (d : MessageDescriptor) (n : ℕ) (kind : TableKind) (w : WireType) (v : Value) (bytes rest : List ℕ) → (field : PlainField d n kind) → (read : ReadsScalar kind w v bytes rest) → ScalarRead field.scalar_kind w read.scalar bytes rest
@@ -114,17 +145,14 @@ unknown_set m new levels n w p bytes rest sound (inr s) some below small front c
 
 -- REFUSALS
 
-none_closes : {n : ℕ} → ◌≡◌ {A = Option ℕ} None (Some n) → ⊥
-none_closes e = cc
-
 pub scalar_refused : (c : Content) (levels n : ℕ) (w : WireType) (e : DecodeError) (rest : List ℕ) (f : Field) (kind : ScalarKind) → field_of (known (schema_of c) (type_of c)) n ≡ Some f → f.form ≡ Singular → f.value_type.kind ≡ ScalarOf kind →
     ScalarFault kind w e rest → StandsBehindKey c levels n w e rest
-scalar_refused c levels n w e rest f kind found form is fault = λ bytes key.
-    scalar_stands (schema_of c) e (record { bytes = bytes; inside = OfType (type_of c); levels = levels; open_group = None }) n w rest f kind key found form is (λ _. none_closes) fault
+scalar_refused c levels n w e rest f kind found form is fault = λ bytes opened key closes.
+    scalar_stands (schema_of c) e (record { bytes = bytes; inside = OfType (type_of c); levels = levels; open_group = opened }) n w rest f kind key found form is closes fault
 
 pub unknown_refused : (c : Content) (levels n : ℕ) (w : WireType) (e : DecodeError) (rest : List ℕ) → field_of (known (schema_of c) (type_of c)) n ≡ None → ValueFault e n w levels rest → StandsBehindKey c levels n w e rest
-unknown_refused c levels n w e rest absent fault = λ bytes key.
-    value_stands (schema_of c) (record { bytes = bytes; inside = OfType (type_of c); levels = levels; open_group = None }) e n w rest absent key (λ _. none_closes) fault
+unknown_refused c levels n w e rest absent fault = λ bytes opened key closes.
+    value_stands (schema_of c) (record { bytes = bytes; inside = OfType (type_of c); levels = levels; open_group = opened }) e n w rest absent key closes fault
 
 -- a fault of the plain kind is one of the field's own
 own_fault : (plain own : ScalarKind) (w : WireType) (e : DecodeError) (bytes : List ℕ) → SamePayloads plain own → ScalarFault plain w e bytes → ScalarFault own w e bytes
@@ -145,3 +173,7 @@ pub unknown_fault : (m : DynamicMessage) (levels n : ℕ) (w : WireType) (e : De
     ((p : Payload) (after : List ℕ) → ValueFront n w levels p rest after → e ≡ errors.OutOfMemory) → e ≢ errors.OutOfMemory → StandsBehindKey (content_of m) levels n w e rest
 unknown_fault m levels n w e rest (inl absent) fault only not_memory = unknown_refused (content_of m) levels n w e rest (ap (λ fields. field_of fields n) (known_in m) ∙ absent) fault
 unknown_fault m levels n w e rest (inr s) fault only not_memory = absurd (not_memory (only s.payload s.rest s.front))
+
+-- two names of one kind
+pub same_kind : {k l : ScalarKind} {o : Option ScalarKind} → o ≡ Some k → o ≡ Some l → k ≡ l
+same_kind e f = cc

@@ -4,7 +4,8 @@ use Rattle.std.specs.Prelude.{slice_get}
 use Rattle.prost_reflect_wire.specs.Record.{Payload, Plain, Var, Fix64, Len, Fix32, Flat, Group}
 use Rattle.prost_reflect_wire.specs.Scalar as scalars
 use Rattle.prost_reflect_wire.specs.Scalar.{Scalar, ScalarKind, EnumNumbers, low_i32, kind_wire, elem, written, scalar_valid, is_declared, is_undeclared, in_i32}
-use Rattle.prost_reflect_wire.specs.Schema.{Kind, ScalarOf, Singular, is_message}
+use Rattle.prost_reflect_wire.specs.Schema.{Kind, ScalarOf, Singular, Repeated, is_message}
+use Rattle.prost_reflect_wire.specs.Typing.{is_repeated as is_list}
 use Rattle.prost_reflect_wire.specs.Content.{ScalarValue}
 use Rattle.prost_reflect_wire.specs.Grammar.{is_stray}
 use Rattle.prost_reflect_wire.proofs.Deeper.{and_both, both_true}
@@ -13,9 +14,12 @@ use Rattle.prost_reflect_tables.specs.declared.tables.Cardinality.TheVariants.{O
 use Rattle.prost_reflect_tables.specs.declared.tables.TableKind.{TableKind}
 use Rattle.prost_reflect_tables.specs.declared.tables.TableKind.TheVariants as kinds
 use Rattle.prost_reflect_tables.specs.Rows.{FieldRow, MessageRow, EnumRow, TableRows}
-use Rattle.prost_reflect_tables.specs.Shown.{first_number, enum_numbers, schema_kind, enum_kind, map_entry, value_type_of, form_of, schema_field}
+use Rattle.prost_reflect_tables.specs.Shown.{first_number, enum_numbers, schema_kind, enum_kind, own_type, map_entry, value_type_of, form_of, schema_field}
+use Rattle.prost_reflect.specs.Covered.{is_plain, is_plain_kind, is_repeated}
 use Rattle.prost_reflect.specs.Enums.{numbers_of}
 use Rattle.prost_reflect.specs.Scalars.{plain_kind, is_stray_number}
+use Rattle.prost_reflect.proofs.Covering as covering
+use Rattle.prost_reflect.proofs.Covering.{no_entry}
 
 -- THE ROW OF A FIELD
 
@@ -43,6 +47,104 @@ scalar_row rows row form scalar = go row.cardinality form scalar
     go Optional f p = kind_named rows.enums row.is_group row.kind p
     go Required f p = kind_named rows.enums row.is_group row.kind p
     go RepeatedLabel f p = absurd (listed (map_entry rows.messages row RepeatedLabel) f)
+
+-- a field of one value has its row's own type
+pub own_of : (rows : TableRows) (row : FieldRow) → (schema_field rows row).form ≡ Singular → (schema_field rows row).value_type ≡ own_type rows.enums row
+own_of rows row form = go row.cardinality form
+  where
+    listed : (entry : Option MessageRow) → form_of rows.enums row RepeatedLabel entry ≡ Singular → ⊥
+    listed None e = cc
+    listed (Some m) e = cc
+
+    go : (c : Cardinality) → form_of rows.enums row c (map_entry rows.messages row c) ≡ Singular → value_type_of rows.enums row (map_entry rows.messages row c) ≡ own_type rows.enums row
+    go Optional f = refl
+    go Required f = refl
+    go RepeatedLabel f = absurd (listed (map_entry rows.messages row RepeatedLabel) f)
+
+-- its form, by its label
+pub single_row : (rows : TableRows) (row : FieldRow) → is_repeated row.cardinality ≡ false → (schema_field rows row).form ≡ Singular
+single_row rows row h = go row.cardinality h
+  where
+    go : (c : Cardinality) → is_repeated c ≡ false → form_of rows.enums row c (map_entry rows.messages row c) ≡ Singular
+    go Optional h = refl
+    go Required h = refl
+    go RepeatedLabel h = absurd (true≢false h)
+
+pub list_row : (rows : TableRows) (row : FieldRow) → is_repeated row.cardinality ≡ true → is_plain_kind row.kind ≡ true → (schema_field rows row).form ≡ Repeated row.is_packed
+list_row rows row h plain = ap (form_of rows.enums row row.cardinality) (no_entry rows.messages row row.cardinality plain) ∙ go row.cardinality h
+  where
+    go : (c : Cardinality) → is_repeated c ≡ true → form_of rows.enums row c None ≡ Repeated row.is_packed
+    go Optional h = absurd (true≢false (sym h))
+    go Required h = absurd (true≢false (sym h))
+    go RepeatedLabel h = refl
+
+-- a scalar kind that is no enum, as both name it
+pub record PlainKind (table : TableKind) (kind : Kind) : Type 0 where
+  pub scalar : ScalarKind
+  pub named : plain_kind table ≡ Some scalar
+  pub is : kind ≡ ScalarOf scalar
+  pub whole : (p : Payload) → is_undeclared scalar p ≡ false
+
+pub kind_plain : (enums : List EnumRow) (g : Bool) (table : TableKind) → is_plain (schema_kind enums table g) ≡ true → PlainKind table (schema_kind enums table g)
+kind_plain enums g kinds.Double h = record { scalar = scalars.Double; named = refl; is = refl; whole = λ p. refl }
+kind_plain enums g kinds.Float h = record { scalar = scalars.Float; named = refl; is = refl; whole = λ p. refl }
+kind_plain enums g kinds.Int32 h = record { scalar = scalars.Int32; named = refl; is = refl; whole = λ p. refl }
+kind_plain enums g kinds.Int64 h = record { scalar = scalars.Int64; named = refl; is = refl; whole = λ p. refl }
+kind_plain enums g kinds.Uint32 h = record { scalar = scalars.Uint32; named = refl; is = refl; whole = λ p. refl }
+kind_plain enums g kinds.Uint64 h = record { scalar = scalars.Uint64; named = refl; is = refl; whole = λ p. refl }
+kind_plain enums g kinds.Sint32 h = record { scalar = scalars.Sint32; named = refl; is = refl; whole = λ p. refl }
+kind_plain enums g kinds.Sint64 h = record { scalar = scalars.Sint64; named = refl; is = refl; whole = λ p. refl }
+kind_plain enums g kinds.Fixed32 h = record { scalar = scalars.Fixed32; named = refl; is = refl; whole = λ p. refl }
+kind_plain enums g kinds.Fixed64 h = record { scalar = scalars.Fixed64; named = refl; is = refl; whole = λ p. refl }
+kind_plain enums g kinds.Sfixed32 h = record { scalar = scalars.Sfixed32; named = refl; is = refl; whole = λ p. refl }
+kind_plain enums g kinds.Sfixed64 h = record { scalar = scalars.Sfixed64; named = refl; is = refl; whole = λ p. refl }
+kind_plain enums g kinds.Bool h = record { scalar = scalars.BoolKind; named = refl; is = refl; whole = λ p. refl }
+kind_plain enums g kinds.String h = record { scalar = scalars.StringKind; named = refl; is = refl; whole = λ p. refl }
+kind_plain enums g kinds.Bytes h = record { scalar = scalars.BytesKind; named = refl; is = refl; whole = λ p. refl }
+kind_plain enums true (kinds.Message T) h = absurd (true≢false (sym h))
+kind_plain enums false (kinds.Message T) h = absurd (true≢false (sym h))
+kind_plain enums g (kinds.Enum E) h = no_enum (slice_get enums E) h
+  where
+    no_enum : (o : Option EnumRow) → is_plain (ScalarOf (enum_kind o)) ≡ true → PlainKind (kinds.Enum E) (ScalarOf (enum_kind (slice_get enums E)))
+    no_enum None h = absurd (true≢false (sym h))
+    no_enum (Some e) h = absurd (true≢false (sym h))
+
+-- the row of a list of plain scalars
+pub plain_row : (rows : TableRows) (row : FieldRow) → is_plain_kind row.kind ≡ true → PlainKind row.kind (schema_field rows row).value_type.kind
+plain_row rows row plain =
+    subst (λ o. PlainKind row.kind (value_type_of rows.enums row o).kind) (sym (no_entry rows.messages row row.cardinality plain))
+    (kind_plain rows.enums row.is_group row.kind (covering.plain_kind rows.enums row.kind row.is_group ∙ plain))
+
+-- a plain kind is that of no group
+pub plain_ungrouped : (enums : List EnumRow) (g : Bool) (table : TableKind) → is_plain (schema_kind enums table g) ≡ true → schema_kind enums table false ≡ schema_kind enums table g
+plain_ungrouped enums true (kinds.Message T) h = absurd (true≢false (sym h))
+plain_ungrouped enums false (kinds.Message T) h = refl
+plain_ungrouped enums g table h = refl
+
+-- the row of a list
+pub list_kind : (rows : TableRows) (row : FieldRow) → is_repeated row.cardinality ≡ true → is_list (schema_field rows row).form ≡ true → (schema_field rows row).value_type.kind ≡ schema_kind rows.enums row.kind row.is_group
+list_kind rows row many form = go row.cardinality many form
+  where
+    listed : (entry : Option MessageRow) → is_list (form_of rows.enums row RepeatedLabel entry) ≡ true → (value_type_of rows.enums row entry).kind ≡ schema_kind rows.enums row.kind row.is_group
+    listed None f = refl
+    listed (Some m) f = absurd (true≢false (sym f))
+
+    go : (c : Cardinality) → is_repeated c ≡ true → is_list (form_of rows.enums row c (map_entry rows.messages row c)) ≡ true → (value_type_of rows.enums row (map_entry rows.messages row c)).kind ≡ schema_kind rows.enums row.kind row.is_group
+    go Optional m f = absurd (true≢false (sym m))
+    go Required m f = absurd (true≢false (sym m))
+    go RepeatedLabel m f = listed (map_entry rows.messages row RepeatedLabel) f
+
+pub listed_row : (rows : TableRows) (row : FieldRow) → is_repeated row.cardinality ≡ true → is_list (schema_field rows row).form ≡ true → (schema_field rows row).form ≡ Repeated row.is_packed
+listed_row rows row h m = go row.cardinality h m
+  where
+    listed : (entry : Option MessageRow) → is_list (form_of rows.enums row RepeatedLabel entry) ≡ true → form_of rows.enums row RepeatedLabel entry ≡ Repeated row.is_packed
+    listed None m = refl
+    listed (Some e) m = absurd (true≢false (sym m))
+
+    go : (c : Cardinality) → is_repeated c ≡ true → is_list (form_of rows.enums row c (map_entry rows.messages row c)) ≡ true → form_of rows.enums row c (map_entry rows.messages row c) ≡ Repeated row.is_packed
+    go Optional h m = absurd (true≢false (sym h))
+    go Required h m = absurd (true≢false (sym h))
+    go RepeatedLabel h m = listed (map_entry rows.messages row RepeatedLabel) m
 
 -- PLAIN KINDS
 

@@ -1,15 +1,15 @@
 -- What is present in a message's content is what is present in its entries, one after another.
-use Rattle.std.proofs.Common.{◌≡◌, ◌≢◌, ℕ, zero, suc, Bool, true, false, cond, ◌||◌, ◌++◌, ◌+◌, ◌≤◌, ◌<◌, List, [], ◌∷◌, length, nat_lt, nat_eq, Option, Some, None, unwrap_or, refl, ap, ap₂, sym, ◌∙◌, append-nil, drop, drop_of_length-le, arith}
+use Rattle.std.proofs.Common.{◌≡◌, ℕ, zero, suc, Bool, true, false, cond, ◌||◌, ◌++◌, ◌+◌, ◌≤◌, ◌<◌, List, [], ◌∷◌, length, nat_lt, Option, Some, unwrap_or, refl, ap, ap₂, sym, ◌∙◌, append-nil, drop, drop_of_length-le, arith}
 use Rattle.std.specs.Prelude.{flat_map}
 use Rattle.std.proofs.lemmas.Bool.{ltb-true, ltb-false, ne_eqb}
 use Rattle.std.specs.Option.{option_map, option_and_then}
-use Rattle.std.specs.Ordering.{nat_cmp, is_eq}
+use Rattle.std.specs.Ordering.{is_eq}
 use Rattle.std.specs.List.Sorted.{IsStrictlySortedBy}
 use Rattle.std.specs.Map.{keys_of}
 use Rattle.prost_reflect_wire.specs.Schema.{Field}
 use Rattle.prost_reflect_wire.specs.Content.{Entries, Slot, slot_at, numbers_in, entries_of}
 use Rattle.prost_reflect_wire.specs.Typing.{kept, kept_entries}
-use Rattle.prost_reflect_wire.proofs.Numbers.{Ascending, is_in, empty_slot, not_in, entries_ascending, slot_outside}
+use Rattle.prost_reflect_wire.proofs.Numbers.{Ascending, is_in, not_in, entries_ascending, slot_outside}
 use Rattle.prost_reflect.specs.declared.fields.entry.Entry.{Entry}
 use Rattle.prost_reflect.specs.declared.message.DynamicMessage.{DynamicMessage}
 use Rattle.prost_reflect.specs.declared.message.present.PresentNumber.{PresentNumber}
@@ -19,10 +19,10 @@ use Rattle.prost_reflect.specs.Known.{known_of}
 use Rattle.prost_reflect.specs.Entries.{value_in, records_in}
 use Rattle.prost_reflect.specs.View.{value_of, content_of, descriptor_of, stored_in, entries_from, payloads_of}
 use Rattle.prost_reflect.specs.Present.{slot_present, present_in, kept_slot, entry_present}
-use Rattle.prost_reflect.proofs.ItemChanges.{Apart, apart_of, itself}
+use Rattle.prost_reflect.proofs.ItemChanges.{apart_of, itself}
 use Rattle.prost_reflect.proofs.Views.{shown, content_of_message}
 use Rattle.prost_reflect.proofs.Slots.{keys_ascending, not_among}
-use Rattle.prost_reflect.proofs.Stored.{stored_slot, slot_stored}
+use Rattle.prost_reflect.proofs.Stored.{slot_stored}
 use Rattle.prost_reflect.proofs.ContentChanges.{message_arranged}
 use Rattle.prost_reflect.proofs.KeptSlots.{slot_kept}
 

@@ -3,42 +3,30 @@ use Rattle.std.proofs.Common.{◌≡◌, ℕ, Bool, true, false, cond, not, ◌&
 use Rattle.prost_reflect_wire.specs.Record.{short_key, short_plain}
 use Rattle.prost_reflect_wire.specs.Scalar as scalars
 use Rattle.prost_reflect_wire.specs.Scalar.{Scalar, ScalarKind, kind_wire, kind_default, scalar_eq, scalar_valid, written}
-use Rattle.prost_reflect_wire.specs.Schema.{Kind, ScalarOf, ValueType, Singular, Field, field_of, is_message, passes}
-use Rattle.prost_reflect_wire.specs.Content.{ScalarValue, MessageValue, ListValue, MapValue}
+use Rattle.prost_reflect_wire.specs.Schema.{Kind, ScalarOf, MessageOf, GroupOf, ValueType, Singular, Field, field_of, is_message, passes}
+use Rattle.prost_reflect_wire.specs.Content.{ScalarValue, MessageValue, ListValue, MapValue, Pairs}
 use Rattle.prost_reflect_wire.specs.Content as contents
 use Rattle.prost_reflect_wire.specs.Typing.{value_valid, kind_takes, is_repeated, pairs_valid}
 use Rattle.prost_reflect_wire.specs.Storing.{value_bytes}
 use Rattle.prost_reflect_wire.proofs.Deeper.{and_both}
 use Rattle.prost_reflect_wire.proofs.WrittenEntries.{scalar_written}
-use Rattle.prost_reflect_tables.specs.declared.tables.Cardinality.{Cardinality}
-use Rattle.prost_reflect_tables.specs.declared.tables.Cardinality.TheVariants.{Optional, Required, Repeated as RepeatedLabel}
-use Rattle.prost_reflect_tables.specs.Rows.{FieldRow, MessageRow, EnumRow, TableRows}
+use Rattle.prost_reflect_tables.specs.Rows.{FieldRow, EnumRow, TableRows}
 use Rattle.prost_reflect_tables.specs.declared.tables.TableKind.{TableKind}
 use Rattle.prost_reflect_tables.specs.declared.tables.TableKind.TheVariants as kinds
 use Rattle.std.specs.Prelude.{slice_get}
-use Rattle.prost_reflect_tables.specs.Shown.{schema_default, schema_kind, enum_kind, own_type, map_entry, value_type_of, form_of, schema_field}
+use Rattle.prost_reflect_tables.specs.Shown.{schema_default, schema_kind, enum_kind, own_type, schema_field}
 use Rattle.prost_reflect.specs.declared.descriptor.message.MessageDescriptor.{MessageDescriptor}
 use Rattle.prost_reflect.specs.Pools.{pool_rows}
-use Rattle.prost_reflect.specs.Descriptors.{schema_at, type_at}
 use Rattle.prost_reflect.specs.Known.{known_of}
-use Rattle.prost_reflect.specs.Covered.{covered}
+use Rattle.prost_reflect.specs.Covered.{is_repeated as is_labelled}
 use Rattle.prost_reflect.specs.Enums.{first_of}
 use Rattle.prost_reflect.specs.Scalars.{plain_kind, TakesScalar, scalar_record_bytes, zero_like, is_default}
-use Rattle.prost_reflect.proofs.Covering.{OneScalar, covered_field, covered_parts}
-use Rattle.prost_reflect.proofs.PlainKinds.{NamedKind, scalar_row, plain_of, plain_payloads}
+use Rattle.prost_reflect.proofs.PlainKinds.{NamedKind, scalar_row, single_row, own_of, plain_of, plain_payloads}
 
--- a field of one value has its row's own type
-own_of : (rows : TableRows) (row : FieldRow) → (schema_field rows row).form ≡ Singular → (schema_field rows row).value_type ≡ own_type rows.enums row
-own_of rows row form = go row.cardinality form
-  where
-    listed : (entry : Option MessageRow) → form_of rows.enums row RepeatedLabel entry ≡ Singular → ⊥
-    listed None e = cc
-    listed (Some m) e = cc
-
-    go : (c : Cardinality) → form_of rows.enums row c (map_entry rows.messages row c) ≡ Singular → value_type_of rows.enums row (map_entry rows.messages row c) ≡ own_type rows.enums row
-    go Optional f = refl
-    go Required f = refl
-    go RepeatedLabel f = absurd (listed (map_entry rows.messages row RepeatedLabel) f)
+-- a field of one scalar
+pub record OneScalar (f : Field) : Type 0 where
+  pub single : f.form ≡ Singular
+  pub scalar : is_message f.value_type.kind ≡ false
 
 -- a value of such a field is a scalar of its kind
 pub record PlainValue (kind : ScalarKind) (v : contents.Value) : Type 0 where
@@ -52,12 +40,28 @@ valid_scalar f kind (MessageValue c) form is h = absurd (true≢false (sym (and_
 valid_scalar f kind (ListValue vs) form is h = absurd (true≢false (sym (and_both _ _ h).0 ∙ ap is_repeated form))
 valid_scalar f kind (MapValue ps) form is h = absurd (true≢false (sym h ∙ ap (λ form. pairs_valid form f.value_type.kind ps) form))
 
-abbrev is_enum : Kind → Bool
+abbrev pub is_enum : Kind → Bool
 is_enum (ScalarOf (scalars.Enum first numbers)) = true
 is_enum kind = false
 
+-- a value that is no message is of no message field
+abbrev pub is_message_value : contents.Value → Bool
+is_message_value (MessageValue c) = true
+is_message_value v = false
+
+no_message : (f : Field) (v : contents.Value) → f.form ≡ Singular → value_valid f v ≡ true → is_message_value v ≡ false → is_message f.value_type.kind ≡ false
+no_message f (ScalarValue s) form h e = scalar_kind f.value_type.kind (and_both _ _ h).1
+  where
+    scalar_kind : (kind : Kind) → kind_takes kind s ≡ true → is_message kind ≡ false
+    scalar_kind (ScalarOf kind) h = refl
+    scalar_kind (MessageOf T) h = absurd (true≢false (sym h))
+    scalar_kind (GroupOf T) h = absurd (true≢false (sym h))
+no_message f (MessageValue c) form h e = absurd (true≢false e)
+no_message f (ListValue vs) form h e = absurd (true≢false (sym (and_both _ _ h).0 ∙ ap is_repeated form))
+no_message f (MapValue ps) form h e = absurd (true≢false (sym h ∙ ap (λ form. pairs_valid form f.value_type.kind ps) form))
+
 -- zero is the kind's default, enums aside
-zero_of : (kind : ScalarKind) (s : Scalar) → is_enum (ScalarOf kind) ≡ false → scalar_valid kind s ≡ true → zero_like s ≡ kind_default kind
+pub zero_of : (kind : ScalarKind) (s : Scalar) → is_enum (ScalarOf kind) ≡ false → scalar_valid kind s ≡ true → zero_like s ≡ kind_default kind
 zero_of scalars.Double (scalars.F64 x) p h = refl
 zero_of scalars.Float (scalars.F32 x) p h = refl
 zero_of scalars.Int32 (scalars.I32 x) p h = refl
@@ -76,7 +80,7 @@ zero_of scalars.BytesKind (scalars.Bytes x) p h = refl
 zero_of (scalars.Enum first numbers) s p h = absurd (true≢false p)
 zero_of kind s p h = absurd (true≢false (sym h))
 
-default_is : (enums : List EnumRow) (table : TableKind) (own : ScalarKind) (s : Scalar) (o : Option Scalar) → schema_kind enums table false ≡ ScalarOf own → scalar_valid own s ≡ true →
+pub default_is : (enums : List EnumRow) (table : TableKind) (own : ScalarKind) (s : Scalar) (o : Option Scalar) → schema_kind enums table false ≡ ScalarOf own → scalar_valid own s ≡ true →
     scalar_eq s (schema_default o (ScalarOf own)) ≡ is_default enums table o (ScalarValue s)
 default_is enums table own s (Some w) e h = refl
 default_is enums (kinds.Enum E) own s None e h = ap (λ kind. scalar_eq s (schema_default None kind)) (sym e) ∙ first (slice_get enums E)
@@ -122,21 +126,16 @@ written_by fields n rows row v one found valid =
     same = ap₂ (λ p d. not p && scalar_eq value.scalar d) (ap (λ (t : ValueType). t.presence) own) (ap (λ (t : ValueType). t.default) own ∙ ap (schema_default row.default) own_kind)
         ∙ ap (λ b. not row.supports_presence && b) (default_is rows.enums row.kind kind.scalar value.scalar row.default kind.named value.fits)
 
-pub value_written : (d : MessageDescriptor) (n : ℕ) (row : FieldRow) (v : contents.Value) → covered (schema_at d) (type_at d) ≡ true → field_of (known_of d) n ≡ Some (schema_field (pool_rows d.pool) row) → value_valid (schema_field (pool_rows d.pool) row) v ≡ true →
-    PlainWritten (known_of d) n (pool_rows d.pool).enums row v
-value_written d n row v h found valid = written_by (known_of d) n (pool_rows d.pool) row v (covered_parts (schema_field (pool_rows d.pool) row) (covered_field (schema_at d) (type_at d) n (schema_field (pool_rows d.pool) row) h found)) found valid
-
--- nothing, or the record
-pub left_out : (fields : List Field) (n : ℕ) (enums : List EnumRow) (row : FieldRow) (v : contents.Value) → PlainWritten fields n enums row v → (not row.supports_presence && is_default enums row.kind row.default v) ≡ true → value_bytes fields n v ≡ []
-left_out fields n enums row v w h = w.bytes ∙ ap (λ b. cond b [] (scalar_record_bytes n (plain_kind row.kind) v)) h
-
-pub put_in : (fields : List Field) (n : ℕ) (enums : List EnumRow) (row : FieldRow) (v : contents.Value) → PlainWritten fields n enums row v → (not row.supports_presence && is_default enums row.kind row.default v) ≡ false → value_bytes fields n v ≡ scalar_record_bytes n (plain_kind row.kind) v
-put_in fields n enums row v w h = w.bytes ∙ ap (λ b. cond b [] (scalar_record_bytes n (plain_kind row.kind) v)) h
+pub value_written : (d : MessageDescriptor) (n : ℕ) (row : FieldRow) (v : contents.Value) → is_labelled row.cardinality ≡ false → field_of (known_of d) n ≡ Some (schema_field (pool_rows d.pool) row) → value_valid (schema_field (pool_rows d.pool) row) v ≡ true →
+    is_message_value v ≡ false → PlainWritten (known_of d) n (pool_rows d.pool).enums row v
+value_written d n row v one found valid apart =
+    let single = single_row (pool_rows d.pool) row one in
+    written_by (known_of d) n (pool_rows d.pool) row v (record { single = single; scalar = no_message (schema_field (pool_rows d.pool) row) v single valid apart }) found valid
 
 -- the valid value of a number is that of its field
 pub passing : {A : Type 0} (o : Option A) (x : A) (test : A → Bool) → o ≡ Some x → passes o test ≡ true → test x ≡ true
 passing o x test e h = ap (λ o. passes o test) (sym e) ∙ h
 
-pub row_written : (d : MessageDescriptor) (n : ℕ) (row : FieldRow) (v : contents.Value) → covered (schema_at d) (type_at d) ≡ true → Some (schema_field (pool_rows d.pool) row) ≡ field_of (known_of d) n → passes (field_of (known_of d) n) (λ f. value_valid f v) ≡ true →
-    PlainWritten (known_of d) n (pool_rows d.pool).enums row v
-row_written d n row v h found valid = value_written d n row v h (sym found) (passing (field_of (known_of d) n) (schema_field (pool_rows d.pool) row) (λ f. value_valid f v) (sym found) valid)
+pub row_written : (d : MessageDescriptor) (n : ℕ) (row : FieldRow) (v : contents.Value) → is_labelled row.cardinality ≡ false → Some (schema_field (pool_rows d.pool) row) ≡ field_of (known_of d) n → passes (field_of (known_of d) n) (λ f. value_valid f v) ≡ true →
+    is_message_value v ≡ false → PlainWritten (known_of d) n (pool_rows d.pool).enums row v
+row_written d n row v one found valid apart = value_written d n row v one (sym found) (passing (field_of (known_of d) n) (schema_field (pool_rows d.pool) row) (λ f. value_valid f v) (sym found) valid) apart

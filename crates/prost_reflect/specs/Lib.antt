@@ -24,10 +24,15 @@ pub mod Stored
 pub mod Same
 pub mod formers
 pub mod Scalars
+pub mod MapParts
 pub mod Covered
+pub mod Maps
+pub mod Targets
+pub mod Held
 pub mod Builtin
 pub mod BuiltinRows
 pub mod BuiltinFiles
 pub mod Encoding
 pub mod Defaults
 pub mod Present
+pub mod Lists

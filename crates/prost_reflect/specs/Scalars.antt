@@ -1,5 +1,5 @@
 -- Scalar kinds of the tables, their payloads and values.
-use Rattle.std.specs.Prelude.{◌≡◌, ◌⊎◌, ℕ, Bool, pos, true, false, not, List, [], ◌++◌, Option, Some, None, option_map, option_and_then, slice_get, IsSomeAnd}
+use Rattle.std.specs.Prelude.{◌≡◌, ◌⊎◌, ℕ, Bool, pos, true, false, not, ◌&&◌, List, [], ◌++◌, Option, Some, None, option_map, option_and_then, slice_get, IsSomeAnd, if◌then◌else◌}
 use Rattle.prost_reflect_wire.specs.declared.key.WireType.{WireType}
 use Rattle.prost_reflect_wire.specs.declared.error.DecodeError.{DecodeError}
 use Rattle.prost_reflect_wire.specs.Record.{Payload, short_key, short_plain}
@@ -14,7 +14,7 @@ use Rattle.prost_reflect_wire.specs.Grammar.{is_stray}
 use Rattle.prost_reflect_wire.specs.Decoding.{ScalarRead, ScalarFault}
 use Rattle.prost_reflect_tables.specs.declared.tables.TableKind.{TableKind}
 use Rattle.prost_reflect_tables.specs.declared.tables.TableKind.TheVariants.{Double, Float, Int32, Int64, Uint32, Uint64, Sint32, Sint64, Fixed32, Fixed64, Sfixed32, Sfixed64, Bool as BoolKind, String, Bytes, Message, Enum}
-use Rattle.prost_reflect_tables.specs.Rows.{EnumRow}
+use Rattle.prost_reflect_tables.specs.Rows.{FieldRow, EnumRow}
 use Rattle.prost_reflect_tables.specs.Shown.{schema_kind}
 use Rattle.prost_reflect.specs.Pools.{pool_rows}
 use Rattle.prost_reflect.specs.Known.{known_of}
@@ -135,3 +135,7 @@ abbrev pub is_default : List EnumRow → TableKind → Option Scalar → content
 is_default enums kind (Some w) v = equals v w
 is_default enums (Enum E) None v = equals v (scalars.EnumNumber (first_of (slice_get enums E)))
 is_default enums kind None v = is_zero v
+
+-- What is written of a value of the row's field: nothing, if it is the default and there is no presence.
+abbrev pub kept_scalar_bytes : ℕ → List EnumRow → FieldRow → content.Value → List ℕ
+kept_scalar_bytes n enums f v = if not f.supports_presence && is_default enums f.kind f.default v then [] else scalar_record_bytes n (plain_kind f.kind) v

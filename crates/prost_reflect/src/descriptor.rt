@@ -4,11 +4,12 @@ mod adding;
 mod builtin;
 #[cfg(test)]
 pub(crate) mod choices;
-mod covered;
+pub(crate) mod covered;
 mod enums;
 mod field;
 mod files;
 mod kind;
+mod maps;
 mod message;
 mod pool;
 #[cfg(test)]

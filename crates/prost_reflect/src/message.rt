@@ -21,12 +21,17 @@ ghost use Rattle.prost_reflect.specs.Contents.{value_set, value_cleared, unknown
 mod change_tests;
 mod copy;
 mod decode;
-mod defaults;
+pub(crate) mod defaults;
+mod elements;
 mod encode;
 mod enums;
 mod equality;
 #[cfg(test)]
 mod equality_tests;
+mod list;
+mod map;
+mod nested;
+mod pairs;
 mod present;
 #[cfg(test)]
 mod present_tests;

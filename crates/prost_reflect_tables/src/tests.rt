@@ -1,202 +1,112 @@
-//! Calls with ample memory, whose contracts leave want of memory open.
+//! Calls with ample memory, whose contracts leave want of memory open. The files are written as descriptor records.
 
 use crate::defaults::written_default;
 use crate::index::indexed;
-use crate::{Flat, PoolError, TableKind, WrittenDefault, check, flattened, linked};
-use prost_reflect_wire::records::{
-    DescriptorProto, EnumDescriptorProto, EnumValueDescriptorProto, FieldDescriptorProto,
-    FileDescriptorProto, MethodDescriptorProto, OneofDescriptorProto, ServiceDescriptorProto,
+use crate::{
+    EnumTable, FieldTable, Flat, FlatMessage, MessageTable, PoolError, TableKind, WrittenDefault,
+    build, check, flattened, linked,
 };
+use prost_reflect_wire::records::FileDescriptorProto;
 use std::alloc::{AllocError, Global};
 use std::test::Fail;
 
-/// A default of each kind is read.
+/// A default of each kind of number is read.
 #[test]
-fn defaults_of_each_kind(rt: HostRuntime) -> Result<(), Fail> {
-    let text = String::from_str(rt.alloc(), "a\\n")?;
-    let bytes = Vec::from_slice(rt.alloc(), b"A2\n")?;
-    let mut rows = Vec::new(rt.alloc());
-    rows.push((TableKind::Int32, "-0", WrittenDefault::I32(0)))?;
-    rows.push((TableKind::Sfixed64, "-7", WrittenDefault::I64(-7)))?;
-    rows.push((TableKind::Fixed32, "00012", WrittenDefault::U32(12)))?;
-    rows.push((TableKind::Uint64, "150", WrittenDefault::U64(150)))?;
-    rows.push((
-        TableKind::Float,
-        "16777216",
-        WrittenDefault::F32(0x4b80_0000),
-    ))?;
-    rows.push((
-        TableKind::Double,
-        "-inf",
-        WrittenDefault::F64(0xfff0_0000_0000_0000),
-    ))?;
-    rows.push((TableKind::Bool, "true", WrittenDefault::Bool(true)))?;
-    rows.push((TableKind::String, "a\\n", WrittenDefault::String(text)))?;
-    rows.push((TableKind::Bytes, "\\1012\\n", WrittenDefault::Bytes(bytes)))?;
-    rows.push((TableKind::Enum(0), "ONE", WrittenDefault::EnumNumber(1)))?;
-    for (kind, text, expected) in &rows {
-        match written_default(rt.alloc(), *kind, Some(1), text)? {
-            Some(default) => assert!(rt; default == *expected, "of the text {text}"),
-            None => return Err(Fail::new("a default is not read")),
-        }
+fn defaults_of_numbers(rt: HostRuntime) -> Result<(), Fail> {
+    let rows = [
+        (TableKind::Int32, "-0", WrittenDefault::I32(0)),
+        (TableKind::Sfixed64, "-7", WrittenDefault::I64(-7)),
+        (TableKind::Fixed32, "00012", WrittenDefault::U32(12)),
+        (TableKind::Uint64, "150", WrittenDefault::U64(150)),
+        (
+            TableKind::Float,
+            "16777216",
+            WrittenDefault::F32(0x4b80_0000),
+        ),
+        (
+            TableKind::Double,
+            "-inf",
+            WrittenDefault::F64(0xfff0_0000_0000_0000),
+        ),
+        (TableKind::Bool, "true", WrittenDefault::Bool(true)),
+        (TableKind::Enum(0), "ONE", WrittenDefault::EnumNumber(1)),
+    ];
+    for (kind, text, expected) in rows {
+        let read = written_default(rt.alloc(), kind, Some(1), text)?;
+        assert!(rt; read == Some(expected), "of the text {text}");
     }
     Ok(())
 }
 
-fn field(alloc: Global, name: &str) -> Result<FieldDescriptorProto, AllocError> {
-    Ok(FieldDescriptorProto {
-        name: Some(String::from_str(alloc, name)?),
-        extendee: None,
-        number: Some(1),
-        label: Some(1),
-        type_: Some(5),
-        type_name: None,
-        default_value: None,
-        options: None,
-        oneof_index: None,
-        json_name: None,
-        proto3_optional: None,
-    })
-}
-
-fn one_field(alloc: Global, name: &str) -> Result<Vec<FieldDescriptorProto>, AllocError> {
-    let mut fields = Vec::new(alloc);
-    fields.push(field(alloc, name)?)?;
-    Ok(fields)
-}
-
-/// An enum with the value `ZERO`.
-fn one_enum(alloc: Global, name: &str) -> Result<Vec<EnumDescriptorProto>, AllocError> {
-    let mut value = Vec::new(alloc);
-    value.push(EnumValueDescriptorProto {
-        name: Some(String::from_str(alloc, "ZERO")?),
-        number: Some(0),
-        options: None,
-    })?;
-    let mut enums = Vec::new(alloc);
-    enums.push(EnumDescriptorProto {
-        name: Some(String::from_str(alloc, name)?),
-        value,
-        options: None,
-        reserved_range: Vec::new(alloc),
-        reserved_name: Vec::new(alloc),
-    })?;
-    Ok(enums)
-}
-
-/// A message with a field, an enum, an extension, a oneof and these messages.
-fn message(
-    alloc: Global,
-    name: &str,
-    nested_type: Vec<DescriptorProto>,
-) -> Result<DescriptorProto, AllocError> {
-    let mut oneof_decl = Vec::new(alloc);
-    oneof_decl.push(OneofDescriptorProto {
-        name: Some(String::from_str(alloc, "choice")?),
-        options: None,
-    })?;
-    Ok(DescriptorProto {
-        name: Some(String::from_str(alloc, name)?),
-        field: one_field(alloc, "f")?,
-        nested_type,
-        enum_type: one_enum(alloc, "E")?,
-        extension_range: Vec::new(alloc),
-        extension: one_field(alloc, "x")?,
-        options: None,
-        oneof_decl,
-        reserved_range: Vec::new(alloc),
-        reserved_name: Vec::new(alloc),
-    })
-}
-
-fn one_service(alloc: Global) -> Result<Vec<ServiceDescriptorProto>, AllocError> {
-    let mut method = Vec::new(alloc);
-    method.push(MethodDescriptorProto {
-        name: Some(String::from_str(alloc, "Get")?),
-        input_type: None,
-        output_type: None,
-        options: None,
-        client_streaming: None,
-        server_streaming: None,
-    })?;
-    let mut services = Vec::new(alloc);
-    services.push(ServiceDescriptorProto {
-        name: Some(String::from_str(alloc, "S")?),
-        method,
-        options: None,
-    })?;
-    Ok(services)
-}
-
-/// The file of `package p; message A { message B {} } message C {}`, with what each message and the file have besides.
-fn nested_file(alloc: Global) -> Result<FileDescriptorProto, AllocError> {
-    let mut inner = Vec::new(alloc);
-    inner.push(message(alloc, "B", Vec::new(alloc))?)?;
-    let mut message_type = Vec::new(alloc);
-    message_type.push(message(alloc, "A", inner)?)?;
-    message_type.push(message(alloc, "C", Vec::new(alloc))?)?;
-    Ok(FileDescriptorProto {
-        name: Some(String::from_str(alloc, "n.proto")?),
-        package: Some(String::from_str(alloc, "p")?),
-        dependency: Vec::new(alloc),
-        message_type,
-        enum_type: one_enum(alloc, "F")?,
-        service: one_service(alloc)?,
-        extension: one_field(alloc, "y")?,
-        options: None,
-        source_code_info: None,
-        public_dependency: Vec::new(alloc),
-        weak_dependency: Vec::new(alloc),
-        syntax: None,
-    })
-}
-
-/// Full names, paths and enclosing messages of nested definitions, in the order of their paths.
 #[test]
-fn nested_definitions(rt: HostRuntime) -> Result<(), Fail> {
-    let file = nested_file(rt.alloc())?;
-    let mut files = Vec::new(rt.alloc());
-    files.push(&file)?;
-    let flat = flattened(rt.alloc(), files.as_slice())?;
-    let mut seen = String::new(rt.alloc());
+fn defaults_of_texts_and_bytes(rt: HostRuntime) -> Result<(), Fail> {
+    let text = String::from_str(rt.alloc(), "a\\n")?;
+    let read = written_default(rt.alloc(), TableKind::String, None, "a\\n")?;
+    assert!(rt; read == Some(WrittenDefault::String(text)));
+    let bytes = Vec::from_slice(rt.alloc(), b"A2\n")?;
+    let read = written_default(rt.alloc(), TableKind::Bytes, None, "\\1012\\n")?;
+    assert!(rt; read == Some(WrittenDefault::Bytes(bytes)));
+    Ok(())
+}
+
+/// The file of `package p; message A { message B {} } message C {} enum F {} service S {}`. Each message has a field `f`,
+/// an enum `E`, an extension `x` and a oneof `choice`; each enum has `ZERO`, the service has `Get`, and the file has an
+/// extension `y`.
+static NESTED: &[u8] =
+    b"\x0a\x07n.proto\x12\x01p\"f\x0a\x01A\x12\x09\x0a\x01f\x18\x01 \x01(\x05\x1a2\x0a\x01B\x12\x09\
+    \x0a\x01f\x18\x01 \x01(\x05\"\x0d\x0a\x01E\x12\x08\x0a\x04ZERO\x10\x002\x09\x0a\x01x\x18\x01 \
+    \x01(\x05B\x08\x0a\x06choice\"\x0d\x0a\x01E\x12\x08\x0a\x04ZERO\x10\x002\x09\x0a\x01x\x18\x01 \
+    \x01(\x05B\x08\x0a\x06choice\"2\x0a\x01C\x12\x09\x0a\x01f\x18\x01 \x01(\x05\"\x0d\x0a\x01E\x12\
+    \x08\x0a\x04ZERO\x10\x002\x09\x0a\x01x\x18\x01 \x01(\x05B\x08\x0a\x06choice*\x0d\x0a\x01F\x12\
+    \x08\x0a\x04ZERO\x10\x002\x0a\x0a\x01S\x12\x05\x0a\x03Get:\x09\x0a\x01y\x18\x01 \x01(\x05";
+
+fn shown_messages(alloc: Global, flat: &Flat) -> Result<String, Fail> {
+    let mut seen = String::new(alloc);
     for message in &flat.messages {
-        let parent = message.definition.parent;
+        let scope = &message.definition;
         write!(
             seen,
             "{} {:?} {:?}; ",
-            message.definition.full_name, message.definition.path, parent
+            scope.full_name, scope.path, scope.parent
         )?;
-        for field in &message.fields {
-            write!(
-                seen,
-                "{} {:?} {:?}; ",
-                field.full_name, field.path, field.parent
-            )?;
-        }
-        for oneof in &message.oneofs {
-            write!(seen, "{} {:?}; ", oneof.full_name, oneof.path)?;
-        }
+        show_members(&mut seen, message)?;
     }
-    assert_eq!(rt;
-        seen.as_str(),
-        "p.A [4, 0] None; p.A.f [4, 0, 2, 0] Some(0); p.A.choice [4, 0, 8, 0]; p.A.B [4, 0, 3, 0] Some(0); p.A.B.f [4, 0, 3, 0, 2, 0] Some(1); p.A.B.choice [4, 0, 3, 0, 8, 0]; p.C [4, 1] None; p.C.f [4, 1, 2, 0] Some(2); p.C.choice [4, 1, 8, 0]; "
-    );
-    let mut seen = String::new(rt.alloc());
-    for declared in &flat.enums {
+    Ok(seen)
+}
+
+/// Fields and oneofs.
+fn show_members(seen: &mut String, message: &FlatMessage) -> Result<(), Fail> {
+    for field in &message.fields {
         write!(
             seen,
             "{} {:?} {:?}; ",
-            declared.definition.full_name, declared.definition.path, declared.definition.parent
+            field.full_name, field.path, field.parent
+        )?;
+    }
+    for oneof in &message.oneofs {
+        write!(seen, "{} {:?}; ", oneof.full_name, oneof.path)?;
+    }
+    Ok(())
+}
+
+fn shown_enums(alloc: Global, flat: &Flat) -> Result<String, Fail> {
+    let mut seen = String::new(alloc);
+    for declared in &flat.enums {
+        let scope = &declared.definition;
+        write!(
+            seen,
+            "{} {:?} {:?}; ",
+            scope.full_name, scope.path, scope.parent
         )?;
         for value in &declared.values {
             write!(seen, "{} {:?}; ", value.full_name, value.path)?;
         }
     }
-    assert_eq!(rt;
-        seen.as_str(),
-        "p.A.B.E [4, 0, 3, 0, 4, 0] Some(1); p.A.B.ZERO [4, 0, 3, 0, 4, 0, 2, 0]; p.A.E [4, 0, 4, 0] Some(0); p.A.ZERO [4, 0, 4, 0, 2, 0]; p.C.E [4, 1, 4, 0] Some(2); p.C.ZERO [4, 1, 4, 0, 2, 0]; p.F [5, 0] None; p.ZERO [5, 0, 2, 0]; "
-    );
-    let mut seen = String::new(rt.alloc());
+    Ok(seen)
+}
+
+fn shown_extensions_and_services(alloc: Global, flat: &Flat) -> Result<String, Fail> {
+    let mut seen = String::new(alloc);
     for extension in &flat.extensions {
         write!(
             seen,
@@ -205,76 +115,67 @@ fn nested_definitions(rt: HostRuntime) -> Result<(), Fail> {
         )?;
     }
     for service in &flat.services {
-        write!(
-            seen,
-            "{} {:?}; ",
-            service.definition.full_name, service.definition.path
-        )?;
+        let scope = &service.definition;
+        write!(seen, "{} {:?}; ", scope.full_name, scope.path)?;
         for method in &service.methods {
             write!(seen, "{} {:?}; ", method.full_name, method.path)?;
         }
     }
+    Ok(seen)
+}
+
+/// Full names, paths and enclosing messages of nested definitions, in the order of their paths.
+#[test]
+fn nested_definitions(rt: HostRuntime) -> Result<(), Fail> {
+    let file = FileDescriptorProto::decode(rt.alloc(), NESTED)?;
+    let flat = flattened(rt.alloc(), &[&file])?;
     assert_eq!(rt;
-        seen.as_str(),
+        shown_messages(rt.alloc(), &flat)?.as_str(),
+        "p.A [4, 0] None; p.A.f [4, 0, 2, 0] Some(0); p.A.choice [4, 0, 8, 0]; p.A.B [4, 0, 3, 0] Some(0); p.A.B.f [4, 0, 3, 0, 2, 0] Some(1); p.A.B.choice [4, 0, 3, 0, 8, 0]; p.C [4, 1] None; p.C.f [4, 1, 2, 0] Some(2); p.C.choice [4, 1, 8, 0]; "
+    );
+    assert_eq!(rt;
+        shown_enums(rt.alloc(), &flat)?.as_str(),
+        "p.A.B.E [4, 0, 3, 0, 4, 0] Some(1); p.A.B.ZERO [4, 0, 3, 0, 4, 0, 2, 0]; p.A.E [4, 0, 4, 0] Some(0); p.A.ZERO [4, 0, 4, 0, 2, 0]; p.C.E [4, 1, 4, 0] Some(2); p.C.ZERO [4, 1, 4, 0, 2, 0]; p.F [5, 0] None; p.ZERO [5, 0, 2, 0]; "
+    );
+    assert_eq!(rt;
+        shown_extensions_and_services(rt.alloc(), &flat)?.as_str(),
         "p.A.B.x [4, 0, 3, 0, 6, 0] Some(1); p.A.x [4, 0, 6, 0] Some(0); p.C.x [4, 1, 6, 0] Some(2); p.y [7, 0] None; p.S [6, 0]; p.S.Get [6, 0, 2, 0]; "
     );
     Ok(())
 }
 
-/// The file of `package p; message M { int32 f = 1; }`.
-fn plain_file(alloc: Global) -> Result<FileDescriptorProto, AllocError> {
-    file_of(alloc, one_field(alloc, "f")?)
-}
-
-/// The same with these fields.
-fn file_of(
-    alloc: Global,
-    field: Vec<FieldDescriptorProto>,
-) -> Result<FileDescriptorProto, AllocError> {
-    let mut message_type = Vec::new(alloc);
-    message_type.push(DescriptorProto {
-        name: Some(String::from_str(alloc, "M")?),
-        field,
-        nested_type: Vec::new(alloc),
-        enum_type: Vec::new(alloc),
-        extension_range: Vec::new(alloc),
-        extension: Vec::new(alloc),
-        options: None,
-        oneof_decl: Vec::new(alloc),
-        reserved_range: Vec::new(alloc),
-        reserved_name: Vec::new(alloc),
-    })?;
-    Ok(FileDescriptorProto {
-        name: Some(String::from_str(alloc, "m.proto")?),
-        package: Some(String::from_str(alloc, "p")?),
-        dependency: Vec::new(alloc),
-        message_type,
-        enum_type: Vec::new(alloc),
-        service: Vec::new(alloc),
-        extension: Vec::new(alloc),
-        options: None,
-        source_code_info: None,
-        public_dependency: Vec::new(alloc),
-        weak_dependency: Vec::new(alloc),
-        syntax: None,
-    })
-}
-
-/// Why a file alone is refused, or nothing.
-fn refusal(alloc: Global, file: &FileDescriptorProto) -> Result<Option<PoolError>, AllocError> {
-    let mut files = Vec::new(alloc);
-    files.push(file)?;
-    let flat = flattened(alloc, files.as_slice())?;
-    match check(alloc, files.as_slice(), &flat) {
+/// Why the file of these bytes alone is refused, or nothing.
+fn refusal(alloc: Global, bytes: &[u8]) -> Result<Option<PoolError>, Fail> {
+    let file = FileDescriptorProto::decode(alloc, bytes)?;
+    let flat = flattened(alloc, &[&file])?;
+    match check(alloc, &[&file], &flat) {
         Ok(_) => Ok(None),
         Err(error) => Ok(Some(error)),
     }
 }
 
+/// The file of `package p; enum E { ZERO = 0; } message M {}`, where `M` has the field of these bytes.
+fn with_field(alloc: Global, field: &[u8]) -> Result<Vec<u8>, AllocError> {
+    let front = b"\x0a\x07m.proto\x12\x01p\x2a\x0d\x0a\x01E\x12\x08\x0a\x04ZERO\x10\x00";
+    let length = (field.len() % 64) as u8;
+    let mut bytes = Vec::from_slice(alloc, front)?;
+    bytes.extend_from_slice(&[0x22, length + 5, 0x0a, 1, b'M', 0x12, length])?;
+    bytes.extend_from_slice(field)?;
+    Ok(bytes)
+}
+
+/// The same with the field 1 of this type code, and `p.E` where it is of an enum, with a default.
+fn with_default(alloc: Global, code: u8, text: &str) -> Result<Vec<u8>, AllocError> {
+    let length = (text.len() % 32) as u8;
+    let mut field = Vec::from_slice(alloc, b"\x0a\x01f\x18\x01\x20\x01\x32\x03p.E")?;
+    field.extend_from_slice(&[0x28, code, 0x3a, length])?;
+    field.extend_from_slice(text.as_bytes())?;
+    with_field(alloc, &field)
+}
+
 /// Defaults of a field of proto2 are taken, or refused by their names.
 #[test]
 fn defaults_of_a_field(rt: HostRuntime) -> Result<(), Fail> {
-    let alloc = rt.alloc();
     let rows = [
         (2, "1.5", Some(PoolError::FloatDefault)),
         (2, "16777217", Some(PoolError::FloatDefault)),
@@ -290,151 +191,88 @@ fn defaults_of_a_field(rt: HostRuntime) -> Result<(), Fail> {
         (14, "ZERO", None),
     ];
     for (code, text, expected) in rows {
-        let mut declared = field(alloc, "f")?;
-        declared.type_ = Some(code);
-        declared.type_name = Some(String::from_str(alloc, "p.E")?);
-        declared.default_value = Some(String::from_str(alloc, text)?);
-        let mut fields = Vec::new(alloc);
-        fields.push(declared)?;
-        let mut file = file_of(alloc, fields)?;
-        file.enum_type = one_enum(alloc, "E")?;
-        assert_eq!(rt; refusal(alloc, &file)?, expected, "of the text {text}");
+        let file = with_default(rt.alloc(), code, text)?;
+        assert_eq!(rt; refusal(rt.alloc(), &file)?, expected, "of the text {text}");
     }
     Ok(())
 }
+
+/// The file of `package p; message M { int32 f = 1; }`. Its name takes nine bytes.
+static PLAIN: &[u8] =
+    b"\x0a\x07m.proto\x12\x01p\x22\x0e\x0a\x01M\x12\x09\x0a\x01f\x18\x01\x20\x01\x28\x05";
+
+/// What is put behind a sound file, and why it is refused then.
+static FAULTS_OF_A_FILE: [(&[u8], PoolError); 5] = [
+    (b"\x62\x08editions", PoolError::UnknownSyntax),
+    (b"\x1a\x07q.proto", PoolError::MissingDependency),
+    // The public dependency 0, where there is none.
+    (b"\x50\x00", PoolError::BadIndex),
+    // An enum `M`.
+    (
+        b"\x2a\x0d\x0a\x01M\x12\x08\x0a\x04ZERO\x10\x00",
+        PoolError::DuplicateName,
+    ),
+    // An extension of nothing.
+    (
+        b"\x3a\x09\x0a\x01x\x18\x01\x20\x01\x28\x05",
+        PoolError::MissingType,
+    ),
+];
 
 /// A sound file is taken, and each change to it is refused by its name.
 #[test]
 fn faults_of_a_file(rt: HostRuntime) -> Result<(), Fail> {
-    let alloc = rt.alloc();
-    assert_eq!(rt; refusal(alloc, &plain_file(alloc)?)?, None);
-
-    let mut file = plain_file(alloc)?;
-    file.name = None;
-    assert_eq!(rt; refusal(alloc, &file)?, Some(PoolError::MissingName));
-
-    let mut file = plain_file(alloc)?;
-    file.syntax = Some(String::from_str(alloc, "editions")?);
-    assert_eq!(rt; refusal(alloc, &file)?, Some(PoolError::UnknownSyntax));
-
-    let mut file = plain_file(alloc)?;
-    file.dependency.push(String::from_str(alloc, "q.proto")?)?;
-    assert_eq!(rt; refusal(alloc, &file)?, Some(PoolError::MissingDependency));
-
-    let mut file = plain_file(alloc)?;
-    file.public_dependency.push(0)?;
-    assert_eq!(rt; refusal(alloc, &file)?, Some(PoolError::BadIndex));
-
-    let mut file = plain_file(alloc)?;
-    file.enum_type = one_enum(alloc, "M")?;
-    assert_eq!(rt; refusal(alloc, &file)?, Some(PoolError::DuplicateName));
-
-    let mut file = plain_file(alloc)?;
-    file.extension = one_field(alloc, "x")?;
-    assert_eq!(rt; refusal(alloc, &file)?, Some(PoolError::MissingType));
-    Ok(())
-}
-
-/// A change to the one field of the one message is refused by its name.
-#[test]
-fn faults_of_a_field(rt: HostRuntime) -> Result<(), Fail> {
-    let alloc = rt.alloc();
-    let rows = [
-        (Some(0), Some(1), Some(5), PoolError::BadNumber),
-        (None, Some(1), Some(5), PoolError::BadNumber),
-        (Some(536_870_912), Some(1), Some(5), PoolError::BadNumber),
-        (Some(1), Some(4), Some(5), PoolError::BadLabel),
-        (Some(1), Some(1), Some(19), PoolError::MissingType),
-        (Some(1), Some(1), None, PoolError::MissingType),
-        (Some(1), Some(1), Some(11), PoolError::MissingType),
-    ];
-    for (number, label, type_, error) in rows {
-        let mut fields = Vec::new(alloc);
-        let mut changed = field(alloc, "f")?;
-        changed.number = number;
-        changed.label = label;
-        changed.type_ = type_;
-        fields.push(changed)?;
-        let file = file_of(alloc, fields)?;
-        assert_eq!(rt; refusal(alloc, &file)?, Some(error));
+    assert_eq!(rt; refusal(rt.alloc(), PLAIN)?, None);
+    assert_eq!(rt;
+        refusal(rt.alloc(), &PLAIN[9..])?,
+        Some(PoolError::MissingName)
+    );
+    for (rest, error) in &FAULTS_OF_A_FILE {
+        let mut file = Vec::from_slice(rt.alloc(), PLAIN)?;
+        file.extend_from_slice(rest)?;
+        assert_eq!(rt; refusal(rt.alloc(), &file)?.as_ref(), Some(error));
     }
     Ok(())
 }
 
-fn text(alloc: Global, text: &str) -> Result<Option<String>, AllocError> {
-    Ok(Some(String::from_str(alloc, text)?))
-}
+/// Fields with another number, label or type than 1, 1 and 5, and why they are refused.
+static FAULTS_OF_A_FIELD: [(&[u8], PoolError); 7] = [
+    (b"\x0a\x01f\x18\x00\x20\x01\x28\x05", PoolError::BadNumber),
+    (b"\x0a\x01f\x20\x01\x28\x05", PoolError::BadNumber),
+    // 536,870,912.
+    (
+        b"\x0a\x01f\x18\x80\x80\x80\x80\x02\x20\x01\x28\x05",
+        PoolError::BadNumber,
+    ),
+    (b"\x0a\x01f\x18\x01\x20\x04\x28\x05", PoolError::BadLabel),
+    (b"\x0a\x01f\x18\x01\x20\x01\x28\x13", PoolError::MissingType),
+    (b"\x0a\x01f\x18\x01\x20\x01", PoolError::MissingType),
+    // A message, whose type is not named.
+    (b"\x0a\x01f\x18\x01\x20\x01\x28\x0b", PoolError::MissingType),
+];
 
-/// A field of a number, a label and a type code.
-fn numbered(
-    alloc: Global,
-    name: &str,
-    number: i32,
-    label: i32,
-    code: i32,
-) -> Result<FieldDescriptorProto, AllocError> {
-    let mut made = field(alloc, name)?;
-    made.number = Some(number);
-    made.label = Some(label);
-    made.type_ = Some(code);
-    Ok(made)
-}
-
-fn empty_message(alloc: Global, name: &str) -> Result<DescriptorProto, AllocError> {
-    Ok(DescriptorProto {
-        name: text(alloc, name)?,
-        field: Vec::new(alloc),
-        nested_type: Vec::new(alloc),
-        enum_type: Vec::new(alloc),
-        extension_range: Vec::new(alloc),
-        extension: Vec::new(alloc),
-        options: None,
-        oneof_decl: Vec::new(alloc),
-        reserved_range: Vec::new(alloc),
-        reserved_name: Vec::new(alloc),
-    })
-}
-
-fn empty_file(
-    alloc: Global,
-    package: &str,
-    syntax: Option<String>,
-) -> Result<FileDescriptorProto, AllocError> {
-    Ok(FileDescriptorProto {
-        name: text(alloc, "m.proto")?,
-        package: text(alloc, package)?,
-        dependency: Vec::new(alloc),
-        message_type: Vec::new(alloc),
-        enum_type: Vec::new(alloc),
-        service: Vec::new(alloc),
-        extension: Vec::new(alloc),
-        options: None,
-        source_code_info: None,
-        public_dependency: Vec::new(alloc),
-        weak_dependency: Vec::new(alloc),
-        syntax,
-    })
+#[test]
+fn faults_of_a_field(rt: HostRuntime) -> Result<(), Fail> {
+    for (field, error) in &FAULTS_OF_A_FIELD {
+        let file = with_field(rt.alloc(), field)?;
+        assert_eq!(rt; refusal(rt.alloc(), &file)?.as_ref(), Some(error));
+    }
+    Ok(())
 }
 
 /// `message M { map<string, int32> kids = 1; }`, with the entry's options, the label of `kids` and the key's type code.
-fn map_file(
-    alloc: Global,
-    options: [u8; 2],
-    label: i32,
-    key: i32,
-) -> Result<FileDescriptorProto, AllocError> {
-    let mut kids = numbered(alloc, "kids", 1, label, 11)?;
-    kids.type_name = text(alloc, "M.KidsEntry")?;
-    let mut message = empty_message(alloc, "M")?;
-    message.field.push(kids)?;
-    let mut entry = empty_message(alloc, "KidsEntry")?;
-    entry.options = Some(Vec::from_slice(alloc, &options)?);
-    entry.field.push(numbered(alloc, "key", 1, 1, key)?)?;
-    entry.field.push(numbered(alloc, "value", 2, 1, 5)?)?;
-    message.nested_type.push(entry)?;
-    let mut file = empty_file(alloc, "", None)?;
-    file.message_type.push(message)?;
-    Ok(file)
+fn map_file(alloc: Global, options: [u8; 2], label: u8, key: u8) -> Result<Vec<u8>, AllocError> {
+    let mut bytes = Vec::from_slice(
+        alloc,
+        b"\x0a\x07m.proto\x22\x4b\x0a\x01M\x12\x19\x0a\x04kids",
+    )?;
+    bytes.extend_from_slice(&[0x18, 1, 0x20, label])?;
+    bytes.extend_from_slice(b"\x28\x0b\x32\x0bM.KidsEntry\x1a\x2b\x0a\x09KidsEntry")?;
+    bytes.extend_from_slice(b"\x12\x0b\x0a\x03key\x18\x01\x20\x01")?;
+    bytes.extend_from_slice(&[0x28, key])?;
+    bytes.extend_from_slice(b"\x12\x0d\x0a\x05value\x18\x02\x20\x01\x28\x05\x3a\x02")?;
+    bytes.extend_from_slice(&options)?;
+    Ok(bytes)
 }
 
 /// A map is taken, and a change to it is refused by its name; a message that says it is no entry may have any key.
@@ -455,52 +293,43 @@ fn faults_of_a_map(rt: HostRuntime) -> Result<(), Fail> {
     Ok(())
 }
 
-/// proto3: `package package; message MyMessage { int32 foo = 1; oneof optional { int32 bar = 2; } MyMessage nested = 3; }`.
-fn my_message_file(alloc: Global) -> Result<FileDescriptorProto, AllocError> {
-    let mut message = empty_message(alloc, "MyMessage")?;
-    message.field.push(numbered(alloc, "foo", 1, 1, 5)?)?;
-    let mut bar = numbered(alloc, "bar", 2, 1, 5)?;
-    bar.oneof_index = Some(0);
-    message.field.push(bar)?;
-    let mut nested = numbered(alloc, "nested", 3, 1, 11)?;
-    nested.type_name = text(alloc, ".package.MyMessage")?;
-    message.field.push(nested)?;
-    message.oneof_decl.push(OneofDescriptorProto {
-        name: text(alloc, "optional")?,
-        options: None,
-    })?;
-    let mut file = empty_file(alloc, "package", text(alloc, "proto3")?)?;
-    file.message_type.push(message)?;
-    Ok(file)
+fn show_field(seen: &mut String, field: &FieldTable) -> Result<(), Fail> {
+    write!(
+        seen,
+        "{} {} {:?} {:?} ",
+        field.number, field.name, field.kind, field.cardinality
+    )?;
+    show_flags(seen, field)?;
+    write!(seen, "{:?} {:?}; ", field.default, field.oneof)?;
+    Ok(())
 }
 
-fn shown(flat: &Flat, rt: &HostRuntime) -> Result<String, Fail> {
-    let index = indexed(rt.alloc(), flat)?;
-    let (messages, enums) = linked(rt.alloc(), flat, &index)?;
-    let mut seen = String::new(rt.alloc());
-    for message in &messages {
-        write!(seen, "{} {}: ", message.full_name, message.is_map_entry)?;
-        for field in &message.fields {
-            write!(
-                seen,
-                "{} {} {:?} {:?} extension {} group {} packed {} presence {} {:?} {:?}; ",
-                field.number,
-                field.name,
-                field.kind,
-                field.cardinality,
-                field.is_extension,
-                field.is_group,
-                field.is_packed,
-                field.supports_presence,
-                field.default,
-                field.oneof
-            )?;
-        }
-        for oneof in &message.oneofs {
-            write!(seen, "oneof {} {:?}; ", oneof.name, oneof.fields)?;
-        }
+fn show_flags(seen: &mut String, field: &FieldTable) -> Result<(), Fail> {
+    write!(
+        seen,
+        "extension {} group {} packed {} presence {} ",
+        field.is_extension, field.is_group, field.is_packed, field.supports_presence
+    )?;
+    Ok(())
+}
+
+fn show_message(seen: &mut String, message: &MessageTable) -> Result<(), Fail> {
+    write!(seen, "{} {}: ", message.full_name, message.is_map_entry)?;
+    for field in &message.fields {
+        show_field(seen, field)?;
     }
-    for item in &enums {
+    for oneof in &message.oneofs {
+        write!(seen, "oneof {} {:?}; ", oneof.name, oneof.fields)?;
+    }
+    Ok(())
+}
+
+fn shown(alloc: Global, messages: &[MessageTable], enums: &[EnumTable]) -> Result<String, Fail> {
+    let mut seen = String::new(alloc);
+    for message in messages {
+        show_message(&mut seen, message)?;
+    }
+    for item in enums {
         write!(
             seen,
             "{} {:?} closed {}; ",
@@ -510,52 +339,43 @@ fn shown(flat: &Flat, rt: &HostRuntime) -> Result<String, Fail> {
     Ok(seen)
 }
 
+/// proto3: `package package; message MyMessage { int32 foo = 1; oneof optional { int32 bar = 2; } MyMessage nested = 3; }`.
+static MY_MESSAGE: &[u8] =
+    b"\x0a\x07m.proto\x12\x07package\"W\x0a\x09MyMessage\x12\x0b\x0a\x03foo\x18\x01 \x01(\x05\x12\
+    \x0d\x0a\x03bar\x18\x02 \x01(\x05H\x00\x12\"\x0a\x06nested\x18\x03 \x01(\x0b2\x12.package.MyMess\
+    ageB\x0a\x0a\x08optionalb\x06proto3";
+
 /// A message type with a oneof and a field of its own type, in proto3.
 #[test]
 fn linked_proto3(rt: HostRuntime) -> Result<(), Fail> {
-    let file = my_message_file(rt.alloc())?;
-    let mut files = Vec::new(rt.alloc());
-    files.push(&file)?;
-    let flat = flattened(rt.alloc(), files.as_slice())?;
-    let seen = shown(&flat, &rt)?;
+    let file = FileDescriptorProto::decode(rt.alloc(), MY_MESSAGE)?;
+    let tables = build(rt.alloc(), &[&file])?;
     assert_eq!(rt;
-        seen.as_str(),
+        shown(rt.alloc(), &tables.messages, &tables.enums)?.as_str(),
         "package.MyMessage false: 1 foo Int32 Optional extension false group false packed false presence false None None; 2 bar Int32 Optional extension false group false packed false presence true None Some(0); 3 nested Message(0) Optional extension false group false packed false presence true None None; oneof optional [1]; "
     );
     Ok(())
 }
 
-/// proto2: a list with a packed option in front of one without, a default, a closed enum, a map's entry, and an
-/// extension with a smaller number than the fields.
+/// proto2: `message M { repeated int32 p = 9; repeated int32 l = 8; required E e = 7 [default = ZERO]; } enum E { ZERO = 0; }`,
+/// where `p` has the option `packed` twice and is packed at last, with the message `Entry` that is a map's entry, and the
+/// extension `optional group x = 5` of `M` with the type `Entry`.
+static FORMS: &[u8] =
+    b"\x0a\x07m.proto\"3\x0a\x01M\x12\x0f\x0a\x01p\x18\x09 \x03(\x05B\x04\x10\x00\x10\x01\x12\x09\
+    \x0a\x01l\x18\x08 \x03(\x05\x12\x12\x0a\x01e\x18\x07 \x02(\x0e2\x01E:\x04ZERO\"\x18\x0a\x05Entry\
+    \x12\x0b\x0a\x03key\x18\x01 \x01(\x09:\x028\x01*\x0d\x0a\x01E\x12\x08\x0a\x04ZERO\x10\x00:\x15\
+    \x0a\x01x\x12\x02.M\x18\x05 \x01(\x0a2\x06.Entry";
+
+/// A list with a packed option in front of one without, a default, a closed enum, a map's entry, and an extension with a
+/// smaller number than the fields.
 #[test]
 fn linked_proto2(rt: HostRuntime) -> Result<(), Fail> {
-    let alloc = rt.alloc();
-    let mut message = empty_message(alloc, "M")?;
-    let mut packed = numbered(alloc, "p", 9, 3, 5)?;
-    packed.options = Some(Vec::from_slice(alloc, &[0x10, 0, 0x10, 1])?);
-    message.field.push(packed)?;
-    message.field.push(numbered(alloc, "l", 8, 3, 5)?)?;
-    let mut named = numbered(alloc, "e", 7, 2, 14)?;
-    named.type_name = text(alloc, "E")?;
-    named.default_value = text(alloc, "ZERO")?;
-    message.field.push(named)?;
-    let mut entry = empty_message(alloc, "Entry")?;
-    entry.options = Some(Vec::from_slice(alloc, &[0x38, 1])?);
-    entry.field.push(numbered(alloc, "key", 1, 1, 9)?)?;
-    let mut extension = numbered(alloc, "x", 5, 1, 10)?;
-    extension.type_name = text(alloc, ".Entry")?;
-    extension.extendee = text(alloc, ".M")?;
-    let mut file = empty_file(alloc, "", None)?;
-    file.message_type.push(message)?;
-    file.message_type.push(entry)?;
-    file.enum_type = one_enum(alloc, "E")?;
-    file.extension.push(extension)?;
-    let mut files = Vec::new(alloc);
-    files.push(&file)?;
-    let flat = flattened(alloc, files.as_slice())?;
-    let seen = shown(&flat, &rt)?;
+    let file = FileDescriptorProto::decode(rt.alloc(), FORMS)?;
+    let flat = flattened(rt.alloc(), &[&file])?;
+    let index = indexed(rt.alloc(), &flat)?;
+    let (messages, enums) = linked(rt.alloc(), &flat, &index)?;
     assert_eq!(rt;
-        seen.as_str(),
+        shown(rt.alloc(), &messages, &enums)?.as_str(),
         "M false: 5 x Message(1) Optional extension true group true packed false presence true None None; 7 e Enum(0) Required extension false group false packed false presence true Some(EnumNumber(0)) None; 8 l Int32 Repeated extension false group false packed false presence false None None; 9 p Int32 Repeated extension false group false packed true presence false None None; Entry true: 1 key String Optional extension false group false packed false presence true None None; E [0] closed true; "
     );
     Ok(())

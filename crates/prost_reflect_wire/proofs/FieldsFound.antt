@@ -21,7 +21,8 @@ use Rattle.prost_reflect_wire.specs.Schema.{Schema, Field}
 use Rattle.prost_reflect_wire.specs.Fault.{Place, OfType, Stands, Here, Comes, field_at, ElementFault, ElementEnds, ElementPasses, StandsInMessage, ValueFault, PackedNext, TextNext, takes, is_map}
 use Rattle.prost_reflect_wire.specs.Unknown.{SkipsValue}
 use Rattle.prost_reflect_wire.specs.DescriptorTable.{rows, place_of, form_of, value_type_of, field_of_row, record_schema}
-use Rattle.prost_reflect_wire.specs.DescriptorReading.{Found, FoundNumber, Fields, FieldRead, FieldFault, DelimitedFault, PackedRead, kind_at, found_in, found_in_record, found_in_records, number_in_plain, under, found_at, all_found}
+use Rattle.prost_reflect_wire.specs.Decoding.{FieldFault}
+use Rattle.prost_reflect_wire.specs.DescriptorReading.{Found, FoundNumber, Fields, FieldRead, DelimitedFault, PackedRead, kind_at, found_in, found_in_record, found_in_records, number_in_plain, under, found_at, all_found}
 use Rattle.prost_reflect_wire.proofs.Sound.{some_inside, bind_ok}
 use Rattle.prost_reflect_wire.proofs.Steps.{map_append}
 use Rattle.prost_reflect_wire.proofs.KindsAllowed.{element_name}
@@ -85,20 +86,20 @@ some_none : {n : ℕ} → ◌≡◌ {A = Option ℕ} None (Some n) → ⊥
 some_none e = cc
 
 field_comes : (schema : Schema) (e : DecodeError) (place : Place) (n : ℕ) (w : WireType) (rest : List ℕ) (f : Field) → KeyFront n w place.bytes rest → field_at schema place.inside n ≡ Some f →
-    place.open_group ≡ None → FieldFault e f w rest → Comes schema e place
-field_comes schema errors.Truncated place n w rest f key found top (inl fault) = inr (inr (inl (record { number = n; wire = w; rest = rest; key = key; behind = fault })))
-field_comes schema errors.Truncated place n w rest f key found top (inr fault) = inr (inr (inr (record { number = n; wire = w; field = f; rest = rest; key = key; found = found; behind = fault })))
-field_comes schema errors.Varint place n w rest f key found top (inl fault) = inr (inl (record { number = n; wire = w; rest = rest; key = key; behind = fault }))
-field_comes schema errors.Varint place n w rest f key found top (inr fault) = inr (inr (record { number = n; wire = w; field = f; rest = rest; key = key; found = found; behind = fault }))
-field_comes schema errors.WireType place n w rest f key found top fault = record { number = n; wire = w; field = f; rest = rest; key = key; found = found; behind = fault }
-field_comes schema errors.EndGroup place n w rest f key found top fault = record { number = n; wire = w; rest = rest; key = key; behind = (fault, λ same. some_none (sym top ∙ same)) }
-field_comes schema errors.Utf8 place n w rest f key found top fault = record { number = n; wire = w; field = f; rest = rest; key = key; found = found; behind = fault }
-field_comes schema e place n w rest f key found top fault = absurd fault
+    (w ≡ wires.EndGroup → place.open_group ≢ Some n) → FieldFault e f w rest → Comes schema e place
+field_comes schema errors.Truncated place n w rest f key found closes (inl fault) = inr (inr (inl (record { number = n; wire = w; rest = rest; key = key; behind = fault })))
+field_comes schema errors.Truncated place n w rest f key found closes (inr fault) = inr (inr (inr (record { number = n; wire = w; field = f; rest = rest; key = key; found = found; behind = fault })))
+field_comes schema errors.Varint place n w rest f key found closes (inl fault) = inr (inl (record { number = n; wire = w; rest = rest; key = key; behind = fault }))
+field_comes schema errors.Varint place n w rest f key found closes (inr fault) = inr (inr (record { number = n; wire = w; field = f; rest = rest; key = key; found = found; behind = fault }))
+field_comes schema errors.WireType place n w rest f key found closes fault = record { number = n; wire = w; field = f; rest = rest; key = key; found = found; behind = fault }
+field_comes schema errors.EndGroup place n w rest f key found closes fault = record { number = n; wire = w; rest = rest; key = key; behind = (fault, closes fault) }
+field_comes schema errors.Utf8 place n w rest f key found closes fault = record { number = n; wire = w; field = f; rest = rest; key = key; found = found; behind = fault }
+field_comes schema e place n w rest f key found closes fault = absurd fault
 
 -- behind the key of a known field
-field_stands : (schema : Schema) (e : DecodeError) (place : Place) (n : ℕ) (w : WireType) (rest : List ℕ) (f : Field) → KeyFront n w place.bytes rest → field_at schema place.inside n ≡ Some f →
-    place.open_group ≡ None → FieldFault e f w rest → Stands schema e place
-field_stands schema e place n w rest f key found top fault = Here (field_comes schema e place n w rest f key found top fault)
+pub field_stands : (schema : Schema) (e : DecodeError) (place : Place) (n : ℕ) (w : WireType) (rest : List ℕ) (f : Field) → KeyFront n w place.bytes rest → field_at schema place.inside n ≡ Some f →
+    (w ≡ wires.EndGroup → place.open_group ≢ Some n) → FieldFault e f w rest → Stands schema e place
+field_stands schema e place n w rest f key found closes fault = Here (field_comes schema e place n w rest f key found closes fault)
 
 -- refused numbers of a packed record are refused delimited bytes,
 pub packed_refused : (kind : FieldKind) (r : Result (Unit {0}) DecodeError) (body : List ℕ) → kind ≡ kinds.Numbers → IfErr r (λ e. e ≢ errors.OutOfMemory → ElementFault wires.Varint e body) →
@@ -189,4 +190,4 @@ module _ (levels : ℕ) (t : RecordType) (fields : List (ℕ × Found)) (body mi
   no_unknown e n w after key unknown f = behind e (value_stands record_schema (record Here_at { bytes = mid }) e n w after (unknown_field t n (sym unknown)) key (λ _ same. some_none same) f)
 
   pub no_known : (e : DecodeError) (n : ℕ) (w : WireType) (after : List ℕ) (kind : FieldKind) → KeyFront n w mid after → Some kind ≡ kind_at (rows t) n → FieldFault e (field_of_row (n, kind)) w after → StandsInMessage record_schema (place_of t) levels e body
-  no_known e n w after kind key known f = behind e (field_stands record_schema e (record Here_at { bytes = mid }) n w after (field_of_row (n, kind)) key (known_field t n kind (sym known)) refl f)
+  no_known e n w after kind key known f = behind e (field_stands record_schema e (record Here_at { bytes = mid }) n w after (field_of_row (n, kind)) key (known_field t n kind (sym known)) (λ _. some_none) f)

@@ -49,7 +49,7 @@ pub changed_ordered : (n : ℕ) (change : ℕ → Slot → Slot) (es : Entries) 
 changed_ordered n change es h = table_ordered (λ m. change m (slot_at es m)) 0 (insert_number n (numbers_in es)) (insert_ascending n 0 (numbers_in es) (entries_ascending es) (omega arith)) h
 
 -- what is read behind a key has a spelling
-payload_front_valid : (n : ℕ) (p : Payload) (bytes rest : List ℕ) → AreBytes bytes → PayloadFront n p bytes rest → payload_valid p ≡ true
+pub payload_front_valid : (n : ℕ) (p : Payload) (bytes rest : List ℕ) → AreBytes bytes → PayloadFront n p bytes rest → payload_valid p ≡ true
 payload_front_valid n (Flat p) bytes rest small f = spelled_plain_valid p f.front (bytes_front f.front rest (subst AreBytes f.parts small)) f.spelled
 payload_front_valid n (Group inside) bytes rest small f = let g = f.records in spelled_valid inside g.front (bytes_front g.front f.end (subst AreBytes g.parts small)) g.spelled
 

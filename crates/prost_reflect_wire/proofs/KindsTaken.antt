@@ -43,7 +43,7 @@ fits_wire Sint32 (Flat (Var v)) h = refl
 fits_wire Sint64 (Flat (Var v)) h = refl
 fits_wire kind p h = absurd (true≢false (sym h))
 
-packable_no_len : (kind : ScalarKind) (bytes : List ℕ) → is_packable kind ≡ true → fits kind (Flat (Len bytes)) ≡ false
+pub packable_no_len : (kind : ScalarKind) (bytes : List ℕ) → is_packable kind ≡ true → fits kind (Flat (Len bytes)) ≡ false
 packable_no_len StringKind bytes h = absurd (true≢false (sym h))
 packable_no_len BytesKind bytes h = absurd (true≢false (sym h))
 packable_no_len kind bytes h = refl

@@ -72,7 +72,7 @@ read_record k n w old mid new bytes rest after end done key next schema type = r
     value = next.value
 
 -- all bytes are spelled by the records that were read
-whole_spelled : (levels : ℕ) (old new : Content) (bytes : List ℕ) → (done : ReadTo levels old new bytes []) → Spells (body_of done.records) bytes
+pub whole_spelled : (levels : ℕ) (old new : Content) (bytes : List ℕ) → (done : ReadTo levels old new bytes []) → Spells (body_of done.records) bytes
 whole_spelled levels old new bytes done = let f : RecordsFront (body_of done.records) bytes [] = done.front in subst (Spells (body_of done.records)) (sym (f.parts ∙ append-nil f.front)) f.spelled
 
 -- a whole message, read into nothing

@@ -29,10 +29,15 @@ use Rattle.prost_reflect_wire.proofs.StoredSteps.{Mutual, Known, scalar_step, un
 use Rattle.prost_reflect_wire.proofs.Readings.{steps_level, steps_one}
 
 -- one record alone
-one_allowed_record : (schema : Schema) (k T : ℕ) (r : Record) → record_allowed k (inside schema k) (known schema T) r ≡ true → allows schema k T (r ∷ []) ≡ true
+pub one_allowed_record : (schema : Schema) (k T : ℕ) (r : Record) → record_allowed k (inside schema k) (known schema T) r ≡ true → allows schema k T (r ∷ []) ≡ true
 one_allowed_record schema k T r h = allows_inside schema k T (r ∷ []) ∙ both_true h refl
 
-one_step : (schema : Schema) (k T : ℕ) (es ds : Entries) (r : Record) → step_by (below schema k) (further k) (kept (ContentOf schema T es)) r ≡ kept (ContentOf schema T ds) →
+-- one record of a field
+pub allowed_record : (schema : Schema) (k T : ℕ) (f : Field) (p : Payload) → field_of (known schema T) f.number ≡ Some f → field_allowed k (inside schema k) f.form f.value_type p ≡ true → allows schema k T (record_at f.number p ∷ []) ≡ true
+allowed_record schema k T f p found h =
+    one_allowed_record schema k T (record_at f.number p) (ap (λ o. elim o [ None ↦ nat_le (payload_levels p) k | Some g ↦ field_allowed k (inside schema k) g.form g.value_type p ]) found ∙ h)
+
+pub one_step : (schema : Schema) (k T : ℕ) (es ds : Entries) (r : Record) → step_by (below schema k) (further k) (kept (ContentOf schema T es)) r ≡ kept (ContentOf schema T ds) →
     kept (ContentOf schema T ds) ≡ steps k (kept (ContentOf schema T es)) (r ∷ [])
 one_step schema k T es ds r h = sym (steps_one k (kept (ContentOf schema T es)) [] r ∙ ap (λ c. step_by (below schema k) (further k) c r) (steps_level k (kept (ContentOf schema T es)) []) ∙ h)
 

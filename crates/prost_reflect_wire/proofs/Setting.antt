@@ -113,7 +113,7 @@ pub record FoundMessage (schema : Schema) (f : Field) (U : ℕ) (v : Value) : Ty
   pub type_same : type_of content ≡ U
   pub well : WellTyped content
 
-type_is : (kind : Kind) (U T : ℕ) → message_of kind ≡ Some U → is_of_type kind T ≡ true → T ≡ U
+pub type_is : (kind : Kind) (U T : ℕ) → message_of kind ≡ Some U → is_of_type kind T ≡ true → T ≡ U
 type_is (ScalarOf kind) U T e h = cc
 type_is (MessageOf V) U T e h = eqb-true T V h ∙ ap (λ (o : Option ℕ). elim o [ None ↦ V | Some x ↦ x ]) e
 type_is (GroupOf V) U T e h = eqb-true T V h ∙ ap (λ (o : Option ℕ). elim o [ None ↦ V | Some x ↦ x ]) e

@@ -39,7 +39,7 @@ no_sibling fields f n e = ap (λ b. not (nat_eq n f.number) && b) (all fields) �
 -- MEMBERS OF ONEOFS
 
 -- what passes of entries passes in each of their values
-inside_value : (test : EntryTest) (fields : List Field) (es : Entries) (n : ℕ) (v : Value) → entries_pass test fields es ≡ true → value_at n es ≡ Some v → value_passes test v ≡ true
+pub inside_value : (test : EntryTest) (fields : List Field) (es : Entries) (n : ℕ) (v : Value) → entries_pass test fields es ≡ true → value_at n es ≡ Some v → value_passes test v ≡ true
 inside_value test fields NoEntries n v h e = cc
 inside_value test fields (Stored m w es) n v h e = let s = stored_passes test fields m w es h in go (nat_eq m n) e s.inside (inside_value test fields es n v s.behind)
   where

@@ -68,12 +68,12 @@ module _ (inner : MeansInside) (further : JoinsInside) (fields : List Field) whe
       ∙ sym (ap (λ form. cond (is_empty_of form (ScalarValue v) || (is_singular form && is_default_of f.value_type (ScalarValue v))) None (Some (ScalarValue v))) r.form)
 
   -- what is kept of a slot whose value goes, or stays
-  kept_cleared : (o : Option Field) (b : Bool) (slot : Slot) →
+  pub kept_cleared : (o : Option Field) (b : Bool) (slot : Slot) →
       ((cond b (with_value None slot) slot).value >>= λ v. kept_value o (kept_inside v)) ≡ cond b None (slot.value >>= λ v. kept_value o (kept_inside v))
   kept_cleared o true slot = refl
   kept_cleared o false slot = refl
 
-  none_either : (b : Bool) → cond {A = Option Value} b None None ≡ None
+  pub none_either : (b : Bool) → cond {A = Option Value} b None None ≡ None
   none_either true = refl
   none_either false = refl
 
@@ -137,13 +137,12 @@ module _ (inner : MeansInside) (further : JoinsInside) (fields : List Field) whe
 
 -- WHOLE CONTENTS
 
--- where a change of the stored slots is, at each number, the step of a record on what is kept, what is kept makes that step
-pub kept_step : (inner : MeansInside) (further : JoinsInside) (schema : Schema) (T : ℕ) (es ds : Entries) (r : Record) (change : ℕ → Slot → Slot) → entries_ordered es ≡ true → entries_ordered ds ≡ true →
-    ((m : ℕ) → slot_at ds m ≡ change m (slot_at es m)) →
-    ((m : ℕ) (slot : Slot) → (field_of (known schema T) m ≡ None → slot.value ≡ None) → slot_step inner further (known schema T) r m (kept_slot (known schema T) m slot) ≡ kept_slot (known schema T) m (change m slot)) →
-    ((m : ℕ) → nat_eq r.number m ≡ false → change m empty_slot ≡ empty_slot) →
-    Known (known schema T) es → step_by inner further (kept (ContentOf schema T es)) r ≡ kept (ContentOf schema T ds)
-kept_step inner further schema T es ds r change o q slots step still values = ap (ContentOf schema T) (entries_same (changed r.number (slot_step inner further fields r) olds) news in_order (entries_kept_ordered fields ds q) same)
+-- where a record's step on what is kept leads, at each number, to what is kept of the new slots, what is kept makes that step
+pub kept_step_at : (inner : MeansInside) (further : JoinsInside) (schema : Schema) (T : ℕ) (es ds : Entries) (r : Record) → entries_ordered es ≡ true → entries_ordered ds ≡ true →
+    ((m : ℕ) → slot_step inner further (known schema T) r m (kept_slot (known schema T) m (slot_at es m)) ≡ kept_slot (known schema T) m (slot_at ds m)) →
+    ((m : ℕ) → nat_eq r.number m ≡ false → slot_step inner further (known schema T) r m empty_slot ≡ empty_slot) →
+    step_by inner further (kept (ContentOf schema T es)) r ≡ kept (ContentOf schema T ds)
+kept_step_at inner further schema T es ds r o q step unmoved = ap (ContentOf schema T) (entries_same (changed r.number (slot_step inner further fields r) olds) news in_order (entries_kept_ordered fields ds q) same)
   where
     fields : List Field
     fields = known schema T
@@ -155,14 +154,7 @@ kept_step inner further schema T es ds r change o q slots step still values = ap
     news = kept_entries (known schema T) ds
 
     at : (m : ℕ) → slot_step inner further (known schema T) r m (slot_at (kept_entries (known schema T) es) m) ≡ slot_at (kept_entries (known schema T) ds) m
-    at m =
-        ap (slot_step inner further (known schema T) r m) (slot_kept (known schema T) m es o)
-        ∙ step m (slot_at es m) (values m)
-        ∙ ap (kept_slot (known schema T) m) (sym (slots m))
-        ∙ sym (slot_kept (known schema T) m ds q)
-
-    unmoved : (m : ℕ) → nat_eq r.number m ≡ false → slot_step inner further (known schema T) r m empty_slot ≡ empty_slot
-    unmoved m e = step m empty_slot (λ none. refl) ∙ ap (kept_slot (known schema T) m) (still m e)
+    at m = ap (slot_step inner further (known schema T) r m) (slot_kept (known schema T) m es o) ∙ step m ∙ sym (slot_kept (known schema T) m ds q)
 
     same : (m : ℕ) → slot_at (changed r.number (slot_step inner further (known schema T) r) (kept_entries (known schema T) es)) m ≡ slot_at (kept_entries (known schema T) ds) m
     same m = slot_changed r.number m (slot_step inner further (known schema T) r) (kept_entries (known schema T) es) unmoved ∙ at m
@@ -171,3 +163,13 @@ kept_step inner further schema T es ds r change o q slots step still values = ap
     in_order = table_ordered (λ m. slot_step inner further (known schema T) r m (slot_at (kept_entries (known schema T) es) m)) 0 (insert_number r.number (numbers_in (kept_entries (known schema T) es)))
         (insert_ascending r.number 0 (numbers_in (kept_entries (known schema T) es)) (entries_ascending (kept_entries (known schema T) es)) (omega arith))
         (λ m. subst (λ (s : Slot). OrderedOption s.value) (sym (at m)) (value_in_order m (kept_entries (known schema T) ds) (entries_kept_ordered (known schema T) ds q)))
+
+-- the same by a change of any slot
+pub kept_step : (inner : MeansInside) (further : JoinsInside) (schema : Schema) (T : ℕ) (es ds : Entries) (r : Record) (change : ℕ → Slot → Slot) → entries_ordered es ≡ true → entries_ordered ds ≡ true →
+    ((m : ℕ) → slot_at ds m ≡ change m (slot_at es m)) →
+    ((m : ℕ) (slot : Slot) → (field_of (known schema T) m ≡ None → slot.value ≡ None) → slot_step inner further (known schema T) r m (kept_slot (known schema T) m slot) ≡ kept_slot (known schema T) m (change m slot)) →
+    ((m : ℕ) → nat_eq r.number m ≡ false → change m empty_slot ≡ empty_slot) →
+    Known (known schema T) es → step_by inner further (kept (ContentOf schema T es)) r ≡ kept (ContentOf schema T ds)
+kept_step inner further schema T es ds r change o q slots step still values = kept_step_at inner further schema T es ds r o q
+    (λ m. step m (slot_at es m) (values m) ∙ ap (kept_slot (known schema T) m) (sym (slots m)))
+    (λ m apart. step m empty_slot (λ none. refl) ∙ ap (kept_slot (known schema T) m) (still m apart))

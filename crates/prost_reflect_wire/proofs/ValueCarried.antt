@@ -100,11 +100,11 @@ element_kinds pairs k l (MapValue ps) h t none = absurd (true≢false (sym t))
 pub kept_by : (f : Field) (c : FieldForm) (v : Value) → f.form ≡ c → kept_value (Some f) v ≡ cond (is_empty_of c v || (is_singular c && is_default_of f.value_type v)) None (Some v)
 kept_by f c v e = ap (λ c. cond (is_empty_of c v || (is_singular c && is_default_of f.value_type v)) None (Some v)) e
 
-kept_list : (f : Field) (x : Bool) (vs : Values) → f.form ≡ Repeated x → kept_value (Some f) (ListValue vs) ≡ present_list vs
+pub kept_list : (f : Field) (x : Bool) (vs : Values) → f.form ≡ Repeated x → kept_value (Some f) (ListValue vs) ≡ present_list vs
 kept_list f x NoValues e = kept_by f (Repeated x) (ListValue NoValues) e
 kept_list f x (Item v vs) e = kept_by f (Repeated x) (ListValue (Item v vs)) e
 
-kept_map : (f : Field) (key : ValueType) (ps : Pairs) → f.form ≡ MapFrom key → kept_value (Some f) (MapValue ps) ≡ present_map ps
+pub kept_map : (f : Field) (key : ValueType) (ps : Pairs) → f.form ≡ MapFrom key → kept_value (Some f) (MapValue ps) ≡ present_map ps
 kept_map f key NoPairs e = kept_by f (MapFrom key) (MapValue NoPairs) e
 kept_map f key (Pair k v ps) e = kept_by f (MapFrom key) (MapValue (Pair k v ps)) e
 

@@ -5,10 +5,10 @@ use Rattle.prost_reflect_wire.specs.Varint.{◌>>=◌}
 use Rattle.prost_reflect_wire.specs.Record.{Record, Payload, Flat, Group, before, body_of, plain_wire, short_key, short_plain, short_body, spelled}
 use Rattle.prost_reflect_wire.specs.Scalar.{Scalar, F64, F32, I64, U64, I32, U32, Boolean, Text, Bytes, EnumNumber, ScalarKind, Double, Float, Int64, Uint64, Int32, Fixed64, Fixed32, BoolKind, StringKind, BytesKind, Uint32, Sfixed32, Sfixed64, Sint32, Sint64, Enum, kind_wire, scalar_eq, scalar_valid, written}
 use Rattle.prost_reflect_wire.specs.Schema.{ScalarOf, Singular, Field, field_of, is_singular}
-use Rattle.prost_reflect_wire.specs.Content.{Entries, Unknown, Value, ScalarValue, Slot, then_unknowns, then_value, store}
-use Rattle.prost_reflect_wire.specs.Writing.{record_at, is_default_of, field_payloads, entries_records, scalar_payload}
+use Rattle.prost_reflect_wire.specs.Content.{Entries, Unknown, Value, ScalarValue, Slot, then_unknowns, then_value, store, Content, MessageValue}
+use Rattle.prost_reflect_wire.specs.Writing.{record_at, is_default_of, field_payloads, entries_records, scalar_payload, records, message_payload}
 use Rattle.prost_reflect_wire.specs.Storing.{kept_records, value_bytes, stored_bytes, slot_bytes}
-use Rattle.prost_reflect_wire.specs.Typing.{kept_value, kept_inside, kept_entries, is_empty_of}
+use Rattle.prost_reflect_wire.specs.Typing.{kept_value, kept_inside, kept_entries, is_empty_of, kept}
 use Rattle.prost_reflect_wire.proofs.ByNumber.{unknowns_first}
 
 pub spelled_append : (rs qs : List Record) → spelled (rs ++ qs) ≡ spelled rs ++ spelled qs
@@ -116,3 +116,12 @@ scalar_written fields n f kind v found form is fits =
         ∙ ap (λ k. spelled (map (record_at n) (scalar_payload k v ∷ []))) is
         ∙ ap (λ w. short_key n w ++ (short_plain (written kind v) ++ [])) (written_wire kind v fits)
         ∙ ap (λ l. short_key n (kind_wire kind) ++ l) (append-nil (short_plain (written kind v)))
+
+-- MESSAGES
+
+-- what is written of a message or a group
+pub message_written : (fields : List Field) (n : ℕ) (f : Field) (c : Content) → field_of fields n ≡ Some f → f.form ≡ Singular → value_bytes fields n (MessageValue c) ≡ spelled (record_at n (message_payload f.value_type.kind (records (kept c))) ∷ [])
+message_written fields n f c found form =
+    ap (λ o. spelled (kept_records fields n (kept_value o (MessageValue (kept c))))) found
+    ∙ ap (λ form. spelled (kept_records fields n (cond (is_empty_of form (MessageValue (kept c)) || (is_singular form && is_default_of f.value_type (MessageValue (kept c)))) None (Some (MessageValue (kept c)))))) form
+    ∙ ap (λ o. spelled (map (record_at n) (field_payloads o (MessageValue (kept c))))) found

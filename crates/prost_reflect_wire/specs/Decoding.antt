@@ -1,19 +1,21 @@
 -- What the steps of reading a message have read, and what they refuse.
-use Rattle.std.specs.Prelude.{◌≡◌, ◌≢◌, ℕ, true, false, List, [], ◌∷◌, Some}
+use Rattle.std.specs.Prelude.{◌≡◌, ◌≢◌, ℕ, ◌⊎◌, Bool, true, false, ◌||◌, List, [], ◌∷◌, flat_map, Option, Some}
 use Rattle.std.specs.Str.{is_utf8}
 use Rattle.prost_reflect_wire.specs.declared.key.WireType.{WireType}
 use Rattle.prost_reflect_wire.specs.declared.key.WireType.TheVariants as wires
 use Rattle.prost_reflect_wire.specs.declared.error.DecodeError.{DecodeError}
 use Rattle.prost_reflect_wire.specs.declared.error.DecodeError.TheVariants as errors
+use Rattle.prost_reflect_wire.specs.Varint.{◌>>=◌}
 use Rattle.prost_reflect_wire.specs.Record.{Plain, Payload, Flat, Record, body_of, plain_wire}
 use Rattle.prost_reflect_wire.specs.Front.{KeyFront, PlainFront, DelimitedFront, ValueFront, RecordsFront, PayloadEnds, PayloadPasses}
 use Rattle.prost_reflect_wire.specs.Scalar.{Scalar, ScalarKind, StringKind, kind_wire, elem}
-use Rattle.prost_reflect_wire.specs.Content.{Content, schema_of, type_of}
-use Rattle.prost_reflect_wire.specs.Grammar.{allows}
-use Rattle.prost_reflect_wire.specs.Meaning.{steps}
+use Rattle.prost_reflect_wire.specs.Schema.{ScalarOf, Field}
+use Rattle.prost_reflect_wire.specs.Content.{Content, Value, schema_of, type_of}
+use Rattle.prost_reflect_wire.specs.Grammar.{fits, packed_allowed, unpacked, element_payloads_in, allows}
+use Rattle.prost_reflect_wire.specs.Meaning.{scalar_values, steps}
 use Rattle.prost_reflect_wire.specs.Writing.{record_at}
 use Rattle.prost_reflect_wire.specs.Typing.{kept, WellStored}
-use Rattle.prost_reflect_wire.specs.Fault.{StandsInMessage, same_wire}
+use Rattle.prost_reflect_wire.specs.Fault.{PackedNext, TextNext, takes, OfType, Stands, same_wire}
 
 -- The bytes before the rest are records that the old content's type takes, and the new content is what they make of the old one.
 pub record ReadTo (levels : ℕ) (old new : Content) (bytes rest : List ℕ) : Type 0 where
@@ -47,9 +49,31 @@ pub record Step (levels n : ℕ) (w : WireType) (old new : Content) (bytes rest 
   pub read : RecordRead levels n w old new bytes rest
   pub holds : Holds old new
 
--- Wherever such a key stands in front of the bytes, the fault stands in the message there.
+-- Wherever such a key stands in front of the bytes, in a message or in an open group that the key does not end, the fault stands there.
 abbrev pub StandsBehindKey : Content → ℕ → ℕ → WireType → DecodeError → List ℕ → Type 0
-StandsBehindKey c levels n w e rest = (bytes : List ℕ) → KeyFront n w bytes rest → StandsInMessage (schema_of c) (type_of c) levels e bytes
+StandsBehindKey c levels n w e rest = (bytes : List ℕ) (open_group : Option ℕ) → KeyFront n w bytes rest → (w ≡ wires.EndGroup → open_group ≢ Some n)
+    → Stands (schema_of c) e (record { bytes = bytes; inside = OfType (type_of c); levels = levels; open_group = open_group })
+
+-- READING INTO A GROUP
+
+-- Behind a start key of the number: the records that were read, and the end key.
+pub record GroupProgress (levels n : ℕ) (old new : Content) (bytes rest : List ℕ) : Type 0 where
+  pub end : List ℕ
+  pub progress : Progress levels old new bytes end
+  pub stop : KeyFront n wires.EndGroup end rest
+
+-- The fault stands in the group that a start key of the number opens.
+abbrev pub StandsInGroup : Content → ℕ → ℕ → DecodeError → List ℕ → Type 0
+StandsInGroup c levels n e bytes = Stands (schema_of c) e (record { bytes = bytes; inside = OfType (type_of c); levels = levels; open_group = Some n })
+
+-- What keeps a field from being read behind its key.
+abbrev pub FieldFault : DecodeError → Field → WireType → List ℕ → Type 0
+FieldFault errors.Truncated f w bytes = PayloadEnds w bytes ⊎ PackedNext errors.Truncated f w bytes
+FieldFault errors.Varint f w bytes = PayloadPasses w bytes ⊎ PackedNext errors.Varint f w bytes
+FieldFault errors.WireType f w bytes = (w ≢ wires.EndGroup) × (takes f.form f.value_type.kind w ≡ false)
+FieldFault errors.EndGroup f w bytes = w ≡ wires.EndGroup
+FieldFault errors.Utf8 f w bytes = TextNext f w bytes
+FieldFault e f w bytes = ⊥
 
 -- SCALARS
 
@@ -68,3 +92,25 @@ ScalarFault kind w errors.WireType bytes = (w ≢ wires.EndGroup) × (same_wire 
 ScalarFault kind w errors.EndGroup bytes = w ≡ wires.EndGroup
 ScalarFault kind w errors.Utf8 bytes = (w ≡ wires.LengthDelimited) × (kind ≡ StringKind) × ((body rest : List ℕ) × DelimitedFront body bytes rest × (is_utf8 body ≡ false))
 ScalarFault kind w e bytes = ⊥
+
+-- LISTS OF SCALARS
+
+-- One element, or packed ones.
+abbrev pub list_takes : ScalarKind → Payload → Bool
+list_takes kind p = fits kind p || packed_allowed (ScalarOf kind) p
+
+-- The values of the elements of a payload.
+abbrev pub element_values : ScalarKind → Payload → List Value
+element_values kind p = flat_map (λ q. scalar_values (elem kind q)) (element_payloads_in (ScalarOf kind) p)
+
+-- Behind a key, a payload that a list of the kind takes, with these elements.
+pub record ElementsRead (kind : ScalarKind) (w : WireType) (vs : List Value) (bytes rest : List ℕ) : Type 0 where
+  pub plain : Plain
+  pub wire : plain_wire plain ≡ w
+  pub front : PlainFront plain bytes rest
+  pub taken : list_takes kind (Flat plain) ≡ true
+  pub values : vs ≡ element_values kind (Flat plain)
+
+-- The values of the elements of a packed record.
+abbrev pub packed_values : ScalarKind → List ℕ → Option (List Value)
+packed_values kind body = unpacked kind body >>= λ ps. Some (flat_map (λ p. scalar_values (elem kind (Flat p))) ps)

@@ -1,5 +1,5 @@
 -- How the bytes of a descriptor record are read: first the values of its fields are found where they stand, then each field is made of those of its number.
-use Rattle.std.specs.Prelude.{◌≡◌, ◌≢◌, ℕ, zero, suc, ◌⊎◌, Bool, false, not, ℤ, List, [], ◌∷◌, ◌++◌, map, flat_map, Option, Some, None, option_map, nat_eq, nat_le, if◌then◌else◌}
+use Rattle.std.specs.Prelude.{◌≡◌, ℕ, zero, suc, ◌⊎◌, Bool, false, not, ℤ, List, [], ◌∷◌, ◌++◌, map, flat_map, Option, Some, None, option_map, nat_eq, nat_le, if◌then◌else◌}
 use Rattle.std.specs.Str.{is_utf8}
 use Rattle.prost_reflect_wire.specs.declared.error.DecodeError.{DecodeError}
 use Rattle.prost_reflect_wire.specs.declared.error.DecodeError.TheVariants as errors
@@ -7,13 +7,12 @@ use Rattle.prost_reflect_wire.specs.declared.key.WireType.{WireType}
 use Rattle.prost_reflect_wire.specs.declared.key.WireType.TheVariants as wires
 use Rattle.prost_reflect_wire.specs.Varint.{◌>>=◌, guard}
 use Rattle.prost_reflect_wire.specs.Record.{Plain, Var, Len, Payload, Flat, Record, body_of, plain_wire, payload_levels}
-use Rattle.prost_reflect_wire.specs.Front.{PlainFront, RecordsFront, PayloadEnds, PayloadPasses}
+use Rattle.prost_reflect_wire.specs.Front.{PlainFront, RecordsFront}
 use Rattle.prost_reflect_wire.specs.Scalar.{Boolean, I32, Text, Bytes, Int32, low_i32}
-use Rattle.prost_reflect_wire.specs.Schema.{Field}
 use Rattle.prost_reflect_wire.specs.Content.{Content, Value, ScalarValue, ListValue, NoValues, Item, values_from}
 use Rattle.prost_reflect_wire.specs.Grammar.{unpacked}
 use Rattle.prost_reflect_wire.specs.Meaning.{present_list}
-use Rattle.prost_reflect_wire.specs.Fault.{ElementFault, PackedNext, TextNext, takes, StandsInMessage}
+use Rattle.prost_reflect_wire.specs.Fault.{ElementFault, takes, StandsInMessage}
 use Rattle.prost_reflect_wire.specs.DescriptorTable.{rows, place_of, form_of, value_type_of, record_schema}
 use Rattle.prost_reflect_wire.specs.DescriptorMeaning.{record_decoded}
 use Rattle.prost_reflect_wire.specs.declared.records.table.RecordType.{RecordType}
@@ -112,15 +111,6 @@ pub record PackedRead (n : ℕ) (old new : List (ℕ × Found)) (body : List ℕ
   pub plains : List Plain
   pub unpacked : unpacked Int32 body ≡ Some plains
   pub added : new ≡ old ++ under n (flat_map number_in_plain plains)
-
--- What keeps a field from being read behind its key.
-abbrev pub FieldFault : DecodeError → Field → WireType → List ℕ → Type 0
-FieldFault errors.Truncated f w bytes = PayloadEnds w bytes ⊎ PackedNext errors.Truncated f w bytes
-FieldFault errors.Varint f w bytes = PayloadPasses w bytes ⊎ PackedNext errors.Varint f w bytes
-FieldFault errors.WireType f w bytes = (w ≢ wires.EndGroup) × (takes f.form f.value_type.kind w ≡ false)
-FieldFault errors.EndGroup f w bytes = w ≡ wires.EndGroup
-FieldFault errors.Utf8 f w bytes = TextNext f w bytes
-FieldFault e f w bytes = ⊥
 
 -- BY NUMBER
 

@@ -17,6 +17,7 @@ pub mod Edit
 pub mod Storing
 pub mod Decoding
 pub mod Fault
+pub mod EntryReading
 pub mod FieldLaws
 pub mod Laws
 pub mod LawsOfFaults

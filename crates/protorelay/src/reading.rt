@@ -1,7 +1,7 @@
 //! Reading a message: its bytes, in hex digits, are read by its type in a descriptor set.
 
 ghost use Rattle.std.specs.Prelude.{◌≡◌, ◌⊎◌, Some, None, true, IfOk, IfErr};
-ghost use Rattle.prost_reflect_wire.specs.Typing.{kept, encodable};
+ghost use Rattle.prost_reflect_wire.specs.Typing.{kept, encodable, Typed};
 ghost use Rattle.prost_reflect.specs.Pools.{pool_rows};
 ghost use Rattle.prost_reflect.specs.Descriptors.{schema_at, type_at};
 ghost use Rattle.prost_reflect.specs.Covered.{covered};
@@ -107,6 +107,7 @@ pub fn read(alloc: Global, set: &str, name: &str, digits: &str) -> Result<Dynami
     ensures read { IfOk result (λ message. IsRead set.now name.now digits.now (kept (content_of message))) }
     ensures covered { IfOk result (λ message. covered (schema_at (descriptor_of message)) (type_at (descriptor_of message)) ≡ true) }
     ensures fits { IfOk result (λ message. encodable (content_of message) ≡ true) }
+    ensures typed { IfOk result (λ message. Typed (content_of message)) }
     ensures refused { IfErr result (Refuses set.now name.now digits.now) }
 {
     let pool = pool_of(alloc, set)?;
@@ -135,6 +136,7 @@ fn read_in(
     ensures read { IfOk result (λ message. IsReadIn pool.now name.now digits.now (kept (content_of message))) }
     ensures covered { IfOk result (λ message. covered (schema_at (descriptor_of message)) (type_at (descriptor_of message)) ≡ true) }
     ensures fits { IfOk result (λ message. encodable (content_of message) ≡ true) }
+    ensures typed { IfOk result (λ message. Typed (content_of message)) }
     ensures refused { IfErr result (RefusesIn pool.now name.now digits.now) }
 {
     let descriptor = message_type(pool, name)?;

@@ -3,7 +3,7 @@
 use crate::descriptor::DescriptorPool;
 use prost_reflect_tables::PoolError;
 use prost_reflect_wire::DecodeError;
-use std::alloc::Global;
+use std::alloc::{AllocError, Global};
 use std::test::Fail;
 
 /// `m.proto`, of proto3: `message MyMessage { int32 foo = 1; oneof optional { int32 bar = 2; } MyMessage nested = 3; }` in `package`.
@@ -30,14 +30,18 @@ static SOUND_AND_EDITIONS: &[u8] =
 #[test]
 fn a_set_is_encoded_as_it_was_read(rt: HostRuntime) -> Result<(), Fail> {
     let mut pool = DescriptorPool::decode(rt.alloc(), SET_M)?;
-    assert_eq!(rt; pool.file_descriptor_protos().len(), 1);
     pool.decode_file_descriptor_set(SET_M)?;
-    assert_eq!(rt; pool.file_descriptor_protos().len(), 1);
     assert_eq!(rt; pool.encode_to_vec(rt.alloc())?.as_slice(), SET_M);
-    let again = DescriptorPool::decode(rt.alloc(), SET_M)?;
-    assert!(rt; pool == again);
-    for file in pool.file_descriptor_protos() {
-        assert!(rt; file.dependency.is_empty());
+    assert!(rt; pool == DescriptorPool::decode(rt.alloc(), SET_M)?);
+    Ok(())
+}
+
+#[test]
+fn files_are_lent(rt: HostRuntime) -> Result<(), Fail> {
+    let pool = DescriptorPool::decode(rt.alloc(), SET_M)?;
+    let files = pool.file_descriptor_protos();
+    assert_eq!(rt; files.len(), 1);
+    for file in files {
         assert_eq!(rt; file.message_type.len(), 1);
     }
     Ok(())
@@ -67,6 +71,15 @@ fn a_refused_batch_adds_nothing(rt: HostRuntime) -> Result<(), Fail> {
     Ok(())
 }
 
+/// The set with one byte changed.
+fn changed(alloc: Global, place: usize, byte: u8) -> Result<Vec<u8>, AllocError> {
+    let mut bytes = Vec::from_slice(alloc, SET_M)?;
+    if let Some(changed) = bytes.get_mut(place) {
+        *changed = byte;
+    }
+    Ok(bytes)
+}
+
 /// One changed byte, or a missing one, is refused by its own name, and adds nothing.
 #[test]
 fn a_changed_byte_is_refused(rt: HostRuntime) -> Result<(), Fail> {
@@ -78,12 +91,8 @@ fn a_changed_byte_is_refused(rt: HostRuntime) -> Result<(), Fail> {
         (116, b'4', PoolError::UnknownSyntax),
     ];
     let mut pool = DescriptorPool::new(rt.alloc())?;
-    for (place, changed, fault) in rows {
-        let mut bytes = Vec::from_slice(rt.alloc(), SET_M)?;
-        if let Some(byte) = bytes.get_mut(place) {
-            *byte = changed;
-        }
-        let refused = pool.decode_file_descriptor_set(&bytes);
+    for (place, byte, fault) in rows {
+        let refused = pool.decode_file_descriptor_set(&changed(rt.alloc(), place, byte)?);
         assert!(rt; refused == Err(fault), "{place}");
     }
     let cut = pool.decode_file_descriptor_set(&SET_M[..116]);

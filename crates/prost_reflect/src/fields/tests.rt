@@ -163,6 +163,11 @@ impl Expected {
         self.values[number as usize % 13] = Some(value);
     }
 
+    fn add_unknown(&mut self, number: u32) {
+        let place = number as usize % 13;
+        self.unknown[place] = self.unknown[place].saturating_add(1);
+    }
+
     /// Makes a call, and gives what it answers.
     fn apply(&mut self, call: Call) -> Answer {
         let number = call.number();
@@ -170,7 +175,7 @@ impl Expected {
         let old = self.values[place];
         match call {
             Call::Set(_, _) | Call::Write(_, _) if Expected::group(number) == 0 => {
-                self.unknown[place] = self.unknown[place].saturating_add(1);
+                self.add_unknown(number);
                 None
             }
             Call::Set(_, value) => {
@@ -206,44 +211,74 @@ impl Expected {
     }
 }
 
-/// Each call answers the same on both forms, and leaves what a table by number says, walked up and down.
-#[test]
-fn both_maps_walk_alike(rt: HostRuntime) -> Result<(), Fail> {
-    let alloc = rt.alloc();
+/// Makes a call on the map and on the table. Says whether both answer the same, and whether the map then has what the
+/// table says, walked up and down.
+fn agrees_after<S: NumberMap<Entry<u32>>>(
+    fields: &mut S,
+    alloc: Global,
+    descriptor: &MessageDescriptor,
+    expected: &mut Expected,
+    call: Call,
+) -> Result<bool, Fail> {
+    if apply(fields, alloc, descriptor, call)? != expected.apply(call) {
+        return Ok(false);
+    }
+    let seen = expected.walk(alloc)?;
+    let mut back = walk_back(fields, alloc)?;
+    back.reverse();
+    Ok(walk(fields, alloc)? == seen && back == seen)
+}
+
+/// Whether the calls that find what a number has find what the table says.
+fn agrees_at<S: NumberMap<Entry<u32>>>(fields: &mut S, expected: &Expected, number: u32) -> bool {
+    let place = number as usize % 13;
+    let unknown = match unknown_at(fields, number) {
+        Some(unknown) => unknown.len(),
+        None => 0,
+    };
+    let value = value_at(fields, number).copied();
+    let lent = match value_mut(fields, number) {
+        Some(value) => Some(*value),
+        None => None,
+    };
+    unknown == expected.unknown[place] && value == expected.values[place] && lent == value
+}
+
+/// How many calls agree with the table, up to the first that does not.
+fn agreeing_calls<S: NumberMap<Entry<u32>>>(fields: &mut S, alloc: Global) -> Result<usize, Fail> {
     let descriptor = choices(alloc)?;
-    let mut sorted: Sorted<Entry<u32>> = Sorted::new(alloc);
-    let mut tree: BTreeMap<u32, Entry<u32>> = BTreeMap::new(alloc);
     let mut expected = Expected {
         values: [None; 13],
         unknown: [0; 13],
     };
     for number in [5, 8, 8] {
-        add_record(&mut sorted, alloc, number)?;
-        add_record(&mut tree, alloc, number)?;
+        add_record(fields, alloc, number)?;
+        expected.add_unknown(number);
     }
-    expected.unknown[5] = 1;
-    expected.unknown[8] = 2;
     let calls = calls(alloc)?;
-    assert_eq!(rt; calls.len(), 500);
-    for call in &calls {
-        let answer = expected.apply(*call);
-        assert_eq!(rt; apply(&mut sorted, alloc, &descriptor, *call)?, answer);
-        assert_eq!(rt; apply(&mut tree, alloc, &descriptor, *call)?, answer);
-        let seen = expected.walk(alloc)?;
-        assert_eq!(rt; walk(&sorted, alloc)?, seen);
-        assert_eq!(rt; walk(&tree, alloc)?, seen);
-        let mut back = walk_back(&sorted, alloc)?;
-        assert_eq!(rt; walk_back(&tree, alloc)?, back);
-        back.reverse();
-        assert_eq!(rt; back, seen);
-    }
-    for number in 0..14_u32 {
-        assert_eq!(rt; value_at(&tree, number), value_at(&sorted, number));
-        assert!(rt; unknown_at(&tree, number) == unknown_at(&sorted, number));
-        if let Some(value) = value_mut(&mut tree, number) {
-            *value = 7;
+    for (step, call) in calls.iter().enumerate() {
+        if !agrees_after(fields, alloc, &descriptor, &mut expected, *call)? {
+            return Ok(step);
         }
-        assert!(rt; value_at(&tree, number).is_none() || value_at(&tree, number) == Some(&7));
     }
+    for number in 0..13_u32 {
+        if !agrees_at(fields, &expected, number) {
+            return Err(Fail::from("a number has another value than the table"));
+        }
+    }
+    Ok(calls.len())
+}
+
+#[test]
+fn a_sorted_list_agrees_with_a_table(rt: HostRuntime) -> Result<(), Fail> {
+    let mut fields: Sorted<Entry<u32>> = Sorted::new(rt.alloc());
+    assert_eq!(rt; agreeing_calls(&mut fields, rt.alloc())?, 500);
+    Ok(())
+}
+
+#[test]
+fn a_tree_agrees_with_a_table(rt: HostRuntime) -> Result<(), Fail> {
+    let mut fields: BTreeMap<u32, Entry<u32>> = BTreeMap::new(rt.alloc());
+    assert_eq!(rt; agreeing_calls(&mut fields, rt.alloc())?, 500);
     Ok(())
 }

@@ -1,6 +1,6 @@
 //! Reading messages (the encoding guide, "Message Structure", "Last One Wins" and "Unknown Fields").
 
-ghost use Rattle.std.specs.Prelude.{◌≡◌, ◌≢◌, [], Some, None, true, IfSome, IfNone, IfOk, IfErr};
+ghost use Rattle.std.specs.Prelude.{◌≡◌, ◌≢◌, [], Some, None, true, IfOk, IfErr};
 ghost use Rattle.prost_reflect_wire.specs.Schema.{field_of};
 ghost use Rattle.prost_reflect_wire.specs.Content.{schema_of, type_of};
 ghost use Rattle.prost_reflect_wire.specs.Grammar.{LEVEL_LIMIT, Accepts};
@@ -12,13 +12,18 @@ ghost use Rattle.prost_reflect.specs.Covered.{covered};
 ghost use Rattle.prost_reflect.specs.Descriptors.{schema_at, type_at};
 ghost use Rattle.prost_reflect.specs.Known.{known_of};
 ghost use Rattle.prost_reflect.specs.Scalars.{PlainField, StaysUnknown};
+ghost use Rattle.prost_reflect_tables.specs.Rows.{field_row};
+ghost use Rattle.prost_reflect.specs.MapParts.{map_parts};
+ghost use Rattle.prost_reflect.specs.Pools.{pool_rows};
+ghost use Rattle.prost_reflect.specs.Targets.{IsTarget, target_of, repeated_target_of, element_target_of};
 ghost use Rattle.prost_reflect.specs.View.{content_of, descriptor_of};
 
 use crate::descriptor::MessageDescriptor;
+use crate::descriptor::covered::is_repeated;
 use crate::message::DynamicMessage;
 use crate::message::enums::is_stray;
 use crate::message::scalar::scalar_at;
-use prost_reflect_tables::TableKind;
+use prost_reflect_tables::{FieldTable, TableKind};
 use prost_reflect_wire::{
     DecodeError, FieldNumber, RECURSION_LIMIT, UnknownField, WireType, decode_key, value_at,
 };
@@ -28,9 +33,11 @@ impl DynamicMessage {
     /// Reads a message of the type from the bytes, in at most 100 levels of messages and groups. The type has to be
     /// covered (`MessageDescriptor::is_covered`).
     ///
-    /// A later record of a field replaces an earlier one, and the values of the other members of its oneof. Records of
-    /// numbers that the type lacks become unknown fields, in their order, and so do the numbers that a closed enum does not
-    /// declare (the encoding guide, "Last One Wins" and "Oneofs"; the language guide, "Unknown Fields"; the page "Enum
+    /// A later scalar of a field replaces an earlier one, a later message or group is read into the earlier one, and the
+    /// values of the other members of its oneof go. The elements of a list's records stand one behind another, packed or
+    /// not, and an entry of a map takes the place of one whose key is equal. Records of numbers that the type lacks become
+    /// unknown fields, in their order, and so do the numbers that a closed enum does not declare (the encoding guide, "Last
+    /// One Wins", "Oneofs", "Packed Repeated Fields" and "Maps"; the language guide, "Unknown Fields"; the page "Enum
     /// Behavior").
     ///
     /// # Errors
@@ -56,7 +63,13 @@ impl DynamicMessage {
     }
 
     /// Reads the records of the bytes into the message. A refusal leaves a part of them read.
-    fn merge_records(&mut self, alloc: Global, bytes: &[u8], levels: u32) -> Result<(), DecodeError>
+    #[cycle(reading)]
+    pub(super) fn merge_records(
+        &mut self,
+        alloc: Global,
+        bytes: &[u8],
+        levels: u32,
+    ) -> Result<(), DecodeError>
         requires plain { covered (schema_at (descriptor_of self.old)) (type_at (descriptor_of self.old)) ≡ true }
         requires sound { WellStored (content_of self.old) }
         ensures ok { IfOk result (λ _. Progress levels (content_of self.old) (content_of self.new) bytes.now []) }
@@ -71,9 +84,10 @@ impl DynamicMessage {
         Ok(())
     }
 
-    /// Reads the record behind a key into the message, and gives the bytes behind it. A refusal changes no value and
-    /// no unknown field.
-    fn merge_record<'a>(
+    /// Reads the record behind a key into the message, and gives the bytes behind it. A refusal leaves a part of a nested
+    /// message read.
+    #[cycle(reading)]
+    pub(super) fn merge_record<'a>(
         &mut self,
         alloc: Global,
         number: FieldNumber,
@@ -87,9 +101,27 @@ impl DynamicMessage {
         ensures descriptor { descriptor_of self.new ≡ descriptor_of self.old }
         ensures fault { IfErr result (λ e. e ≢ DecodeError.OutOfMemory → StandsBehindKey (content_of self.old) levels number.value wire_type e bytes.now) }
     {
-        match plain_kind_at(self.descriptor(), number.get()) {
-            Some(kind) => self.merge_scalar(alloc, number, kind, wire_type, bytes, levels),
-            None => self.merge_unknown(alloc, number, wire_type, bytes, levels),
+        match target_at(self.descriptor(), number.get()) {
+            Target::Scalar(kind) => self.merge_scalar(
+                alloc, number, kind, wire_type, bytes, levels,
+            ),
+            Target::List(kind) => self.merge_list(alloc, number, kind, wire_type, bytes, levels),
+            Target::Map(key, kind) => {
+                self.merge_map(alloc, number, (key, kind), wire_type, bytes, levels)
+            }
+            Target::Message(place) => {
+                self.merge_message(alloc, number, place, wire_type, bytes, levels)
+            }
+            Target::Group(place) => self.merge_group(
+                alloc, number, place, wire_type, bytes, levels,
+            ),
+            Target::MessageElement(place) => {
+                self.merge_message_element(alloc, number, place, wire_type, bytes, levels)
+            }
+            Target::GroupElement(place) => {
+                self.merge_group_element(alloc, number, place, wire_type, bytes, levels)
+            }
+            Target::Unknown => self.merge_unknown(alloc, number, wire_type, bytes, levels),
         }
     }
 
@@ -139,14 +171,67 @@ impl DynamicMessage {
     }
 }
 
-/// The kind of the field or extension of a number, in a covered message type.
-fn plain_kind_at(descriptor: &MessageDescriptor, number: u32) -> Option<TableKind>
+/// What the record behind a key is read as.
+#[derive(Clone, Copy)]
+pub(super) enum Target {
+    /// An unknown field.
+    Unknown,
+    /// A scalar of the kind.
+    Scalar(TableKind),
+    /// Elements of a list of such scalars.
+    List(TableKind),
+    /// An entry of a map whose keys and values are scalars of these kinds.
+    Map(TableKind, TableKind),
+    /// A message of the type at the place.
+    Message(usize),
+    /// Likewise, written as a group.
+    Group(usize),
+    /// A message as an element of a list.
+    MessageElement(usize),
+    /// A group as an element of a list.
+    GroupElement(usize),
+}
+
+/// What a record of the number is read as, in a covered message type.
+fn target_at(descriptor: &MessageDescriptor, number: u32) -> Target
     requires { covered (schema_at descriptor.now) (type_at descriptor.now) ≡ true }
-    ensures known { IfSome result (λ kind. PlainField descriptor.now number kind) }
-    ensures unknown { IfNone result (field_of (known_of descriptor.now) number ≡ None) }
+    ensures { IsTarget descriptor.now number result }
 {
     match descriptor.field_table(number) {
-        Some(field) => Some(field.kind),
-        None => None,
+        Some(field) if is_repeated(field.cardinality) => repeated_target(descriptor, field),
+        Some(field) => value_target(field.kind, field.is_group),
+        None => Target::Unknown,
+    }
+}
+
+/// What a record of a repeated field is read as.
+fn repeated_target(descriptor: &MessageDescriptor, field: &FieldTable) -> Target
+    ensures { result ≡ repeated_target_of (map_parts (pool_rows descriptor.now.pool) (field_row field.now)) (field_row field.now).kind (field_row field.now).is_group }
+{
+    match descriptor.map_parts(field) {
+        Some((key, value)) => Target::Map(key.kind, value.kind),
+        None => element_target(field.kind, field.is_group),
+    }
+}
+
+/// What a record of a field of one value is read as.
+fn value_target(kind: TableKind, is_group: bool) -> Target
+    ensures { result ≡ target_of kind is_group }
+{
+    match kind {
+        TableKind::Message(place) if is_group => Target::Group(place),
+        TableKind::Message(place) => Target::Message(place),
+        _ => Target::Scalar(kind),
+    }
+}
+
+/// What a record of a list is read as.
+fn element_target(kind: TableKind, is_group: bool) -> Target
+    ensures { result ≡ element_target_of kind is_group }
+{
+    match kind {
+        TableKind::Message(place) if is_group => Target::GroupElement(place),
+        TableKind::Message(place) => Target::MessageElement(place),
+        _ => Target::List(kind),
     }
 }

@@ -5,16 +5,18 @@ ghost use Rattle.prost_reflect_wire.specs.Schema.{field_valid, is_message};
 ghost use Rattle.prost_reflect_wire.specs.Typing.{is_field_default, is_repeated, kept_inside};
 ghost use Rattle.prost_reflect_tables.specs.Rows.{field_row, written_scalar};
 ghost use Rattle.prost_reflect_tables.specs.Shown.{schema_field, schema_kind, schema_default, own_type, entry_or_none, entry_at};
-ghost use Rattle.prost_reflect.specs.Defaults.{is_repeated_label, is_map_form, is_empty_value};
+ghost use Rattle.prost_reflect_wire.specs.Fault.{is_map};
+ghost use Rattle.prost_reflect.specs.Defaults.{is_empty_value};
 ghost use Rattle.prost_reflect.specs.Descriptors.{schema_at};
 ghost use Rattle.prost_reflect.specs.Pools.{pool_rows};
 ghost use Rattle.prost_reflect.specs.Scalars.{plain_kind, equals};
 ghost use Rattle.prost_reflect.specs.View.{value_of};
 
 use crate::descriptor::MessageDescriptor;
+use crate::descriptor::covered::is_repeated;
 use crate::message::enums::first_number;
 use crate::value::Value;
-use prost_reflect_tables::{Cardinality, FieldTable, TableKind, WrittenDefault};
+use prost_reflect_tables::{FieldTable, TableKind, WrittenDefault};
 
 /// Whether a value, of any form, is what its field has where nothing is stored: an empty list or map, or the default of a
 /// field of one value without presence.
@@ -27,7 +29,7 @@ pub(crate) fn is_field_default(
     ensures { result ≡ is_field_default (schema_field (pool_rows descriptor.now.pool) (field_row field.now)) (kept_inside (value_of value.now)) }
 {
     is_empty(descriptor, field, value)
-        || (!has_repeated_label(field.cardinality)
+        || (!is_repeated(field.cardinality)
             && !field.supports_presence
             && is_default(descriptor, field, value))
 }
@@ -44,23 +46,17 @@ fn is_empty(descriptor: &MessageDescriptor, field: &FieldTable, value: &Value) -
 }
 
 /// Whether a field is a list, and no map.
-fn is_list(descriptor: &MessageDescriptor, field: &FieldTable) -> bool
+pub(crate) fn is_list(descriptor: &MessageDescriptor, field: &FieldTable) -> bool
     ensures { result ≡ is_repeated (schema_field (pool_rows descriptor.now.pool) (field_row field.now)).form }
 {
-    has_repeated_label(field.cardinality) && !is_map(descriptor, field)
+    is_repeated(field.cardinality) && !is_map(descriptor, field)
 }
 
 /// Whether a field is a map.
 fn is_map(descriptor: &MessageDescriptor, field: &FieldTable) -> bool
-    ensures { result ≡ is_map_form (schema_field (pool_rows descriptor.now.pool) (field_row field.now)).form }
+    ensures { result ≡ is_map (schema_field (pool_rows descriptor.now.pool) (field_row field.now)).form }
 {
-    has_repeated_label(field.cardinality) && !field.is_group && names_entry(descriptor, field.kind)
-}
-
-fn has_repeated_label(cardinality: Cardinality) -> bool
-    ensures { result ≡ is_repeated_label cardinality }
-{
-    matches!(cardinality, Cardinality::Repeated)
+    is_repeated(field.cardinality) && !field.is_group && names_entry(descriptor, field.kind)
 }
 
 /// Whether a kind is the message type of a map's entries.
@@ -95,7 +91,7 @@ fn is_default(descriptor: &MessageDescriptor, field: &FieldTable, value: &Value)
 }
 
 /// Whether a value is the default that a field's definition writes.
-fn equals_written(value: &Value, default: &WrittenDefault) -> bool
+pub(crate) fn equals_written(value: &Value, default: &WrittenDefault) -> bool
     ensures { result ≡ equals (value_of value.now) (written_scalar default.now) }
 {
     match (value, default) {

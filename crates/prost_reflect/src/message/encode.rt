@@ -1,37 +1,46 @@
 //! Writing messages, the last byte first, so that a length is written once what it counts is there.
 
-ghost use Rattle.std.specs.Prelude.{◌≡◌, ◌&&◌, not, ◌≤◌, ◌^◌, ◌++◌, true, length, slice_get, IsSome, IfOk, IfErr, OnOk, OnErr};
-ghost use Rattle.prost_reflect_wire.specs.Record.{Len, short_plain};
+ghost use Rattle.std.specs.Prelude.{◌≡◌, ◌&&◌, not, ◌≤◌, ◌^◌, ◌++◌, true, Some, None, length, slice_get, IsSome, IfOk, IfErr, OnOk, OnErr};
+ghost use Rattle.prost_reflect_wire.specs.declared.key.WireType.TheVariants as wires;
+ghost use Rattle.prost_reflect_wire.specs.Varint.{short};
+ghost use Rattle.prost_reflect_wire.specs.Record.{Len, short_key, short_plain};
 ghost use Rattle.prost_reflect_wire.specs.Schema.{field_of, passes};
 ghost use Rattle.prost_reflect_wire.specs.Writing.{encoded};
-ghost use Rattle.prost_reflect_wire.specs.Typing.{kept, encodable, value_valid};
-ghost use Rattle.prost_reflect_wire.specs.Storing.{value_bytes, slot_bytes};
+ghost use Rattle.prost_reflect_wire.specs.Typing.{kept, value_valid, encodable, Typed};
+ghost use Rattle.prost_reflect_wire.specs.Storing.{value_bytes};
 ghost use Rattle.prost_reflect_wire.specs.Buffer.{bytes_of, Prepended};
-ghost use Rattle.prost_reflect_tables.specs.Rows.{field_row, written_scalar};
-ghost use Rattle.prost_reflect.specs.Covered.{covered};
+ghost use Rattle.prost_reflect_tables.specs.Rows.{field_row};
+ghost use Rattle.prost_reflect_tables.specs.Shown.{schema_field};
+ghost use Rattle.prost_reflect.specs.Covered.{covered, is_repeated};
+ghost use Rattle.prost_reflect.specs.Lists.{IsList, AreElements, elements_bytes};
+ghost use Rattle.prost_reflect.specs.MapParts.{map_parts};
 ghost use Rattle.prost_reflect.specs.Descriptors.{schema_at, type_at};
-ghost use Rattle.prost_reflect.specs.Encoding.{entry_slot, entries_bytes, IsWritable, AreWritable};
+ghost use Rattle.prost_reflect.specs.Encoding.{entry_slot, unknown_bytes, nested_bytes, ValueWritable, OwnUnknown};
 ghost use Rattle.prost_reflect_wire.specs.Scalar.{EnumNumber};
 ghost use Rattle.prost_reflect.specs.Enums.{first_of};
 ghost use Rattle.prost_reflect.specs.Pools.{pool_rows};
 ghost use Rattle.prost_reflect.specs.Known.{known_of};
 ghost use Rattle.prost_reflect.specs.View.{value_of, content_of, descriptor_of};
-ghost use Rattle.prost_reflect.specs.Scalars.{plain_kind, TakesScalar, scalar_bytes, scalar_record_bytes, is_zero, equals, is_default};
+ghost use Rattle.prost_reflect.specs.Scalars.{plain_kind, TakesScalar, scalar_bytes, scalar_record_bytes, kept_scalar_bytes, is_zero, equals, is_default};
 
 use crate::descriptor::MessageDescriptor;
+use crate::descriptor::covered::is_repeated;
 use crate::fields::entry::Entry;
 use crate::message::DynamicMessage;
+use crate::message::defaults::equals_written;
 use crate::message::enums::first_number;
+use crate::message::list::prepend_list;
+use crate::message::pairs::prepend_map;
 use crate::message::scalar::wire_type_of;
 use crate::value::Value;
-use prost_reflect_tables::{FieldTable, TableKind, WrittenDefault};
+use prost_reflect_tables::{FieldTable, TableKind};
 use prost_reflect_wire::{
-    BackBuffer, EncodeError, prepend_fields, sign_extended, zigzag32, zigzag64,
+    BackBuffer, EncodeError, WireType, prepend_fields, sign_extended, zigzag32, zigzag64,
 };
 use std::alloc::Global;
 
 /// Adds the payload of a scalar in front.
-fn prepend_scalar(
+pub(crate) fn prepend_scalar(
     buffer: &mut BackBuffer,
     kind: TableKind,
     value: &Value,
@@ -65,7 +74,7 @@ fn prepend_scalar(
 }
 
 /// Adds a length and the bytes in front.
-fn prepend_delimited(buffer: &mut BackBuffer, body: &[u8]) -> Result<(), EncodeError>
+pub(crate) fn prepend_delimited(buffer: &mut BackBuffer, body: &[u8]) -> Result<(), EncodeError>
     ensures { Prepended result (bytes_of buffer.old) (bytes_of buffer.new) (short_plain (Len body.now)) }
 {
     buffer.prepend(body)?;
@@ -85,25 +94,6 @@ fn is_zero(value: &Value) -> bool
         Value::String(value) => value.is_empty(),
         Value::Bytes(value) => value.is_empty(),
         Value::Message(_) | Value::List(_) | Value::Map(_) => false,
-    }
-}
-
-/// Whether a scalar is the default that a field's definition writes.
-fn equals_written(value: &Value, default: &WrittenDefault) -> bool
-    ensures { result ≡ equals (value_of value.now) (written_scalar default.now) }
-{
-    match (value, default) {
-        (Value::Bool(value), WrittenDefault::Bool(default)) => value == default,
-        (Value::I32(value), WrittenDefault::I32(default)) => value == default,
-        (Value::I64(value), WrittenDefault::I64(default)) => value == default,
-        (Value::U32(value), WrittenDefault::U32(default)) => value == default,
-        (Value::U64(value), WrittenDefault::U64(default)) => value == default,
-        (Value::F32(value), WrittenDefault::F32(default)) => value == default,
-        (Value::F64(value), WrittenDefault::F64(default)) => value == default,
-        (Value::String(value), WrittenDefault::String(default)) => value == default,
-        (Value::Bytes(value), WrittenDefault::Bytes(default)) => value == default,
-        (Value::EnumNumber(value), WrittenDefault::EnumNumber(default)) => value == default,
-        _ => false,
     }
 }
 
@@ -137,7 +127,7 @@ fn is_left_out(descriptor: &MessageDescriptor, field: &FieldTable, value: &Value
 }
 
 /// Adds the record of a scalar in front.
-fn prepend_scalar_record(
+pub(crate) fn prepend_scalar_record(
     buffer: &mut BackBuffer,
     number: u32,
     kind: TableKind,
@@ -147,11 +137,96 @@ fn prepend_scalar_record(
     ensures { Prepended result (bytes_of buffer.old) (bytes_of buffer.new) (scalar_record_bytes number (plain_kind kind) (value_of value.now)) }
 {
     prepend_scalar(buffer, kind, value)?;
-    let wire_type = wire_type_of(kind);
+    prepend_key(buffer, number, wire_type_of(kind))
+}
+
+/// Adds a key in front.
+pub(crate) fn prepend_key(
+    buffer: &mut BackBuffer,
+    number: u32,
+    wire_type: WireType,
+) -> Result<(), EncodeError>
+    ensures { Prepended result (bytes_of buffer.old) (bytes_of buffer.new) (short_key number wire_type) }
+{
     buffer.prepend_varint(8 * u64::from(number) + u64::from(wire_type.code()))
 }
 
+/// Adds the key and the length of a delimited payload in front.
+pub(crate) fn prepend_length(
+    buffer: &mut BackBuffer,
+    number: u32,
+    length: usize,
+) -> Result<(), EncodeError>
+    ensures { Prepended result (bytes_of buffer.old) (bytes_of buffer.new) (short_key number wires.LengthDelimited ++ short length) }
+{
+    buffer.prepend_varint(length as u64)?;
+    prepend_key(buffer, number, WireType::LengthDelimited)
+}
+
+/// Adds the record of a message in front, or of a group.
+#[cycle(writing)]
+fn prepend_message(
+    buffer: &mut BackBuffer,
+    number: u32,
+    is_group: bool,
+    message: &DynamicMessage,
+) -> Result<(), EncodeError>
+    requires plain { covered (schema_at (descriptor_of message.now)) (type_at (descriptor_of message.now)) ≡ true }
+    requires encodable { encodable (content_of message.now) ≡ true }
+    requires typed { Typed (content_of message.now) }
+    ensures { Prepended result (bytes_of buffer.old) (bytes_of buffer.new) (nested_bytes number is_group (content_of message.now)) }
+{
+    if is_group {
+        prepend_key(buffer, number, WireType::EndGroup)?;
+        prepend_body(buffer, message)?;
+        return prepend_key(buffer, number, WireType::StartGroup);
+    }
+    let behind = buffer.len();
+    prepend_body(buffer, message)?;
+    let len = buffer.len() - behind;
+    buffer.prepend_varint(len as u64)?;
+    prepend_key(buffer, number, WireType::LengthDelimited)
+}
+
+/// Adds what is written of a message in front: at each number what is kept of the value, and then the unknown fields.
+#[cycle(writing)]
+fn prepend_body(buffer: &mut BackBuffer, message: &DynamicMessage) -> Result<(), EncodeError>
+    requires plain { covered (schema_at (descriptor_of message.now)) (type_at (descriptor_of message.now)) ≡ true }
+    requires encodable { encodable (content_of message.now) ≡ true }
+    requires typed { Typed (content_of message.now) }
+    ensures { Prepended result (bytes_of buffer.old) (bytes_of buffer.new) (encoded (kept (content_of message.now))) }
+{
+    let entries = message.slots.entries();
+    for index in (0..entries.len()).rev() {
+        let entry = &entries[index];
+        prepend_unknown(buffer, entry.0, &entry.1)?;
+        match &entry.1 {
+            Entry::Value(value) | Entry::Both(value, _) => {
+                prepend_value(buffer, message.slots.descriptor(), entry.0, value)?;
+            }
+            Entry::Unknown(_) => {}
+        }
+    }
+    Ok(())
+}
+
+/// Adds the unknown fields at a number in front.
+fn prepend_unknown(
+    buffer: &mut BackBuffer,
+    number: u32,
+    entry: &Entry<Value>,
+) -> Result<(), EncodeError>
+    requires { OwnUnknown number entry.now }
+    ensures { Prepended result (bytes_of buffer.old) (bytes_of buffer.new) (unknown_bytes number (entry_slot entry.now)) }
+{
+    match entry.unknown() {
+        Some(unknown) => prepend_fields(unknown, buffer),
+        None => Ok(()),
+    }
+}
+
 /// Adds what is kept of a field's value in front.
+#[cycle(writing)]
 fn prepend_value(
     buffer: &mut BackBuffer,
     descriptor: &MessageDescriptor,
@@ -159,59 +234,110 @@ fn prepend_value(
     value: &Value,
 ) -> Result<(), EncodeError>
     requires plain { covered (schema_at descriptor.now) (type_at descriptor.now) ≡ true }
-    requires valid { passes (field_of (known_of descriptor.now) number) (λ f. value_valid f (value_of value.now)) ≡ true }
+    requires writable { ValueWritable (schema_at descriptor.now) (known_of descriptor.now) number (value_of value.now) }
     ensures { Prepended result (bytes_of buffer.old) (bytes_of buffer.new) (value_bytes (known_of descriptor.now) number (value_of value.now)) }
 {
     match descriptor.field_table(number) {
-        Some(field) if is_left_out(descriptor, field, value) => Ok(()),
-        Some(field) => prepend_scalar_record(buffer, number, field.kind, value),
+        Some(field) if is_repeated(field.cardinality) => {
+            prepend_repeated(buffer, descriptor, number, field, value)
+        }
+        Some(field) => match value {
+            Value::Message(message) => prepend_message(buffer, number, field.is_group, message),
+            _ => prepend_kept_scalar(buffer, descriptor, number, field, value),
+        },
         None => unreachable!(),
     }
 }
 
-/// Adds in front what is written at a number: what is kept of the value, and then the unknown fields.
-fn prepend_entry(
+/// Adds what is kept of the list or the map of a repeated field in front.
+#[cycle(writing)]
+fn prepend_repeated(
     buffer: &mut BackBuffer,
     descriptor: &MessageDescriptor,
     number: u32,
-    entry: &Entry<Value>,
+    field: &FieldTable,
+    value: &Value,
 ) -> Result<(), EncodeError>
     requires plain { covered (schema_at descriptor.now) (type_at descriptor.now) ≡ true }
-    requires writable { IsWritable (known_of descriptor.now) number entry.now }
-    ensures { Prepended result (bytes_of buffer.old) (bytes_of buffer.new) (slot_bytes (known_of descriptor.now) number (entry_slot entry.now)) }
+    requires field { Some (schema_field (pool_rows descriptor.now.pool) (field_row field.now)) ≡ field_of (known_of descriptor.now) number }
+    requires repeated { is_repeated (field_row field.now).cardinality ≡ true }
+    requires writable { ValueWritable (schema_at descriptor.now) (known_of descriptor.now) number (value_of value.now) }
+    ensures { Prepended result (bytes_of buffer.old) (bytes_of buffer.new) (value_bytes (known_of descriptor.now) number (value_of value.now)) }
 {
-    match entry {
-        Entry::Value(value) => prepend_value(buffer, descriptor, number, value),
-        Entry::Unknown(unknown) => prepend_fields(unknown, buffer),
-        Entry::Both(value, unknown) => {
-            prepend_fields(unknown, buffer)?;
-            prepend_value(buffer, descriptor, number, value)
-        }
+    match descriptor.map_parts(field) {
+        Some((key, element)) => prepend_map(buffer, descriptor, number, key, element, value),
+        None => prepend_elements(buffer, descriptor, number, field, value),
     }
 }
 
-/// Adds in front what is written of entries, in their order.
-fn prepend_entries(
+/// Adds what is kept of the list of a field that is no map in front.
+#[cycle(writing)]
+fn prepend_elements(
     buffer: &mut BackBuffer,
     descriptor: &MessageDescriptor,
-    entries: &[(u32, Entry<Value>)],
+    number: u32,
+    field: &FieldTable,
+    value: &Value,
 ) -> Result<(), EncodeError>
     requires plain { covered (schema_at descriptor.now) (type_at descriptor.now) ≡ true }
-    requires writable { AreWritable (known_of descriptor.now) entries.now }
-    ensures { Prepended result (bytes_of buffer.old) (bytes_of buffer.new) (entries_bytes (known_of descriptor.now) entries.now) }
+    requires field { Some (schema_field (pool_rows descriptor.now.pool) (field_row field.now)) ≡ field_of (known_of descriptor.now) number }
+    requires repeated { is_repeated (field_row field.now).cardinality ≡ true }
+    requires no_map { None ≡ map_parts (pool_rows descriptor.now.pool) (field_row field.now) }
+    requires writable { ValueWritable (schema_at descriptor.now) (known_of descriptor.now) number (value_of value.now) }
+    requires list { IsList (value_of value.now) }
+    ensures { Prepended result (bytes_of buffer.old) (bytes_of buffer.new) (value_bytes (known_of descriptor.now) number (value_of value.now)) }
 {
-    for index in (0..entries.len()).rev() {
-        let entry = &entries[index];
-        prepend_entry(buffer, descriptor, entry.0, &entry.1)?;
+    match value {
+        Value::List(values) => match field.kind {
+            TableKind::Message(_) => prepend_messages(buffer, number, field.is_group, values),
+            _ => prepend_list(buffer, number, field, values),
+        },
+        _ => unreachable!(),
+    }
+}
+
+/// Adds the records of messages, or of groups, in front, one for each.
+#[cycle(writing)]
+fn prepend_messages(
+    buffer: &mut BackBuffer,
+    number: u32,
+    is_group: bool,
+    values: &Vec<Value>,
+) -> Result<(), EncodeError>
+    requires { AreElements values.now.items }
+    ensures { Prepended result (bytes_of buffer.old) (bytes_of buffer.new) (elements_bytes number is_group values.now.items) }
+{
+    for index in (0..values.len()).rev() {
+        match &values[index] {
+            Value::Message(message) => prepend_message(buffer, number, is_group, message)?,
+            _ => unreachable!(),
+        }
     }
     Ok(())
+}
+
+/// Adds what is kept of a scalar in front: nothing of the default of a field without presence.
+pub(crate) fn prepend_kept_scalar(
+    buffer: &mut BackBuffer,
+    descriptor: &MessageDescriptor,
+    number: u32,
+    field: &FieldTable,
+    value: &Value,
+) -> Result<(), EncodeError>
+    requires { TakesScalar (field_row field.now).kind (value_of value.now) }
+    ensures { Prepended result (bytes_of buffer.old) (bytes_of buffer.new) (kept_scalar_bytes number (pool_rows descriptor.now.pool).enums (field_row field.now) (value_of value.now)) }
+{
+    if is_left_out(descriptor, field, value) {
+        return Ok(());
+    }
+    prepend_scalar_record(buffer, number, field.kind, value)
 }
 
 impl DynamicMessage {
     /// Appends the encoding of the message: fields and unknown fields in ascending order of their numbers, without the
     /// defaults of fields that have no presence (the encoding guide, "Message Structure"). The type has to be covered
-    /// (`MessageDescriptor::is_covered`), and each stored value has to fit its field, as in every message that `decode`
-    /// gives.
+    /// (`MessageDescriptor::is_covered`), each stored value has to fit its field, and each message has to be of its
+    /// field's type, as in every message that `decode` gives.
     ///
     /// # Errors
     ///
@@ -220,12 +346,13 @@ impl DynamicMessage {
     pub fn encode(&self, out: &mut Vec<u8>) -> Result<(), EncodeError>
         requires plain { covered (schema_at (descriptor_of self.now)) (type_at (descriptor_of self.now)) ≡ true }
         requires encodable { encodable (content_of self.now) ≡ true }
+        requires typed { Typed (content_of self.now) }
         ensures ok { OnOk result (out.new.items ≡ out.old.items ++ encoded (kept (content_of self.now))) }
         ensures err { OnErr result (out.new.items ≡ out.old.items) }
         ensures too_long { IfErr result (λ e. e ≡ EncodeError.TooLong → 2 ^ 64 ≤ length (encoded (kept (content_of self.now)))) }
     {
         let mut buffer = BackBuffer::new(*out.allocator());
-        prepend_entries(&mut buffer, self.descriptor(), self.entries())?;
+        prepend_body(&mut buffer, self)?;
         buffer.append_to(out)?;
         Ok(())
     }
@@ -238,6 +365,7 @@ impl DynamicMessage {
     pub fn encode_to_vec(&self, alloc: Global) -> Result<Vec<u8>, EncodeError>
         requires plain { covered (schema_at (descriptor_of self.now)) (type_at (descriptor_of self.now)) ≡ true }
         requires encodable { encodable (content_of self.now) ≡ true }
+        requires typed { Typed (content_of self.now) }
         ensures ok { IfOk result (λ out. out.items ≡ encoded (kept (content_of self.now))) }
         ensures too_long { IfErr result (λ e. e ≡ EncodeError.TooLong → 2 ^ 64 ≤ length (encoded (kept (content_of self.now)))) }
     {

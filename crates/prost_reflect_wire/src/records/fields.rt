@@ -6,7 +6,8 @@ ghost use Rattle.prost_reflect_wire.specs.declared.key.WireType.TheVariants as w
 ghost use Rattle.prost_reflect_wire.specs.Record.{Flat, Var, Len};
 ghost use Rattle.prost_reflect_wire.specs.Fault.{ElementFault, StandsInMessage, takes};
 ghost use Rattle.prost_reflect_wire.specs.DescriptorTable.{place_of, record_schema, form_of, value_type_of, field_of_row};
-ghost use Rattle.prost_reflect_wire.specs.DescriptorReading.{Fields, FieldRead, FieldFault, DelimitedRead, DelimitedFault, PackedRead, found_of, all_found, kind_at, found_in};
+ghost use Rattle.prost_reflect_wire.specs.Decoding.{FieldFault};
+ghost use Rattle.prost_reflect_wire.specs.DescriptorReading.{Fields, FieldRead, DelimitedRead, DelimitedFault, PackedRead, found_of, all_found, kind_at, found_in};
 
 use crate::error::DecodeError;
 use crate::key::{WireType, decode_key};

@@ -1,12 +1,13 @@
 //! Descriptor records from compilers and by hand: what is read of them, and what is refused.
 
 use crate::buffer::BackBuffer;
-use crate::error::DecodeError;
+use crate::error::{DecodeError, EncodeError};
 use crate::records::{
     DescriptorProto, EnumDescriptorProto, EnumReservedRange, EnumValueDescriptorProto,
     ExtensionRange, FieldDescriptorProto, FileDescriptorProto, FileDescriptorSet,
     MethodDescriptorProto, OneofDescriptorProto, ReservedRange, ServiceDescriptorProto,
 };
+use std::alloc::Global;
 use std::test::Fail;
 
 /// The descriptor set of `m.proto`: the package `package` in proto3, and the message `MyMessage` with the fields `foo` and
@@ -50,23 +51,25 @@ fn raw(bytes: &Option<Vec<u8>>) -> &[u8] {
 }
 
 #[test]
-fn ranges(rt: HostRuntime) -> Result<(), Fail> {
+fn extension_ranges(rt: HostRuntime) -> Result<(), Fail> {
     let bytes = [
         0x08, 0x04, 0x10, 0xff, 0xff, 0xff, 0xff, 0x07, 0x1a, 0x01, 0x01, 0x1a, 0x01, 0x02,
     ];
     let range = ExtensionRange::decode(rt.alloc(), &bytes)?;
-    assert_eq!(rt; range.start, Some(4));
-    assert_eq!(rt; range.end, Some(2147483647));
-    assert_eq!(rt; raw(&range.options), [1, 2].as_slice());
+    assert_eq!(rt; (range.start, range.end), (Some(4), Some(2147483647)));
+    assert!(rt; raw(&range.options) == [1, 2].as_slice());
+    Ok(())
+}
+
+#[test]
+fn reserved_ranges(rt: HostRuntime) -> Result<(), Fail> {
     let range = ReservedRange::decode(rt.alloc(), &[0x10, 0x05])?;
-    assert_eq!(rt; range.start, None);
-    assert_eq!(rt; range.end, Some(5));
+    assert_eq!(rt; (range.start, range.end), (None, Some(5)));
     let bytes = [
         0x08, 0xfe, 0xff, 0xff, 0xff, 0xff, 0xff, 0xff, 0xff, 0xff, 0x01, 0x10, 0x05, 0x10, 0x07,
     ];
     let range = EnumReservedRange::decode(rt.alloc(), &bytes)?;
-    assert_eq!(rt; range.start, Some(-2));
-    assert_eq!(rt; range.end, Some(7));
+    assert_eq!(rt; (range.start, range.end), (Some(-2), Some(7)));
     Ok(())
 }
 
@@ -78,82 +81,113 @@ fn fields(rt: HostRuntime) -> Result<(), Fail> {
         0x01, 0x01,
     ];
     let field = FieldDescriptorProto::decode(rt.alloc(), &bytes)?;
-    assert_eq!(rt; shown(&field.name), "a");
-    assert_eq!(rt; shown(&field.extendee), ".M");
-    assert_eq!(rt; field.number, Some(100));
-    assert_eq!(rt; field.label, Some(1));
-    assert_eq!(rt; field.type_, Some(11));
-    assert_eq!(rt; shown(&field.type_name), ".N");
-    assert_eq!(rt; shown(&field.default_value), "7");
-    assert_eq!(rt; raw(&field.options), [8, 1].as_slice());
-    assert_eq!(rt; field.oneof_index, Some(3));
-    assert_eq!(rt; shown(&field.json_name), "j");
-    assert_eq!(rt; field.proto3_optional, Some(true));
+    assert!(rt; has_its_texts(&field));
+    assert!(rt; has_its_numbers(&field));
+    Ok(())
+}
+
+fn has_its_texts(field: &FieldDescriptorProto) -> bool {
+    shown(&field.name) == "a"
+        && shown(&field.extendee) == ".M"
+        && shown(&field.type_name) == ".N"
+        && shown(&field.default_value) == "7"
+        && raw(&field.options) == [8, 1].as_slice()
+        && shown(&field.json_name) == "j"
+}
+
+fn has_its_numbers(field: &FieldDescriptorProto) -> bool {
+    field.number == Some(100)
+        && field.label == Some(1)
+        && field.type_ == Some(11)
+        && field.oneof_index == Some(3)
+        && field.proto3_optional == Some(true)
+}
+
+#[test]
+fn oneofs(rt: HostRuntime) -> Result<(), Fail> {
     let oneof = OneofDescriptorProto::decode(rt.alloc(), &[0x12, 0x00, 0x0a, 0x01, b'o'])?;
     assert_eq!(rt; shown(&oneof.name), "o");
-    assert_eq!(rt; raw(&oneof.options), b"".as_slice());
+    assert!(rt; raw(&oneof.options).is_empty());
     Ok(())
 }
 
 #[test]
 fn enums(rt: HostRuntime) -> Result<(), Fail> {
-    let value = EnumValueDescriptorProto::decode(rt.alloc(), &[0x0a, 0x01, b'A', 0x10, 0x00])?;
-    assert_eq!(rt; shown(&value.name), "A");
-    assert_eq!(rt; value.number, Some(0));
-    assert_eq!(rt; raw(&value.options), b"-".as_slice());
     let bytes = [
         0x0a, 0x01, b'K', 0x12, 0x05, 0x0a, 0x01, b'A', 0x10, 0x00, 0x12, 0x03, 0x0a, 0x01, b'B',
         0x1a, 0x02, 0x10, 0x01, 0x22, 0x04, 0x08, 0x02, 0x10, 0x03, 0x2a, 0x01, b'X', 0x2a, 0x01,
         b'Y',
     ];
     let kinds = EnumDescriptorProto::decode(rt.alloc(), &bytes)?;
-    assert_eq!(rt; shown(&kinds.name), "K");
+    assert!(rt; shown(&kinds.name) == "K" && raw(&kinds.options) == [16, 1].as_slice());
+    assert!(rt; has_its_values(&kinds) && has_its_reserved_ones(&kinds));
+    Ok(())
+}
+
+fn has_its_values(kinds: &EnumDescriptorProto) -> bool {
     let [a, b] = kinds.value.as_slice() else {
-        return Err(Fail::new("not two values"));
+        return false;
     };
-    assert_eq!(rt; shown(&a.name), "A");
-    assert_eq!(rt; a.number, Some(0));
-    assert_eq!(rt; shown(&b.name), "B");
-    assert_eq!(rt; b.number, None);
-    assert_eq!(rt; raw(&kinds.options), [16, 1].as_slice());
+    shown(&a.name) == "A" && a.number == Some(0) && shown(&b.name) == "B" && b.number.is_none()
+}
+
+fn has_its_reserved_ones(kinds: &EnumDescriptorProto) -> bool {
     let [range] = kinds.reserved_range.as_slice() else {
-        return Err(Fail::new("not one range"));
+        return false;
     };
-    assert_eq!(rt; range.start, Some(2));
-    assert_eq!(rt; range.end, Some(3));
     let [x, y] = kinds.reserved_name.as_slice() else {
-        return Err(Fail::new("not two names"));
+        return false;
     };
-    assert_eq!(rt; x.as_str(), "X");
-    assert_eq!(rt; y.as_str(), "Y");
+    range.start == Some(2) && range.end == Some(3) && x.as_str() == "X" && y.as_str() == "Y"
+}
+
+#[test]
+fn enum_values(rt: HostRuntime) -> Result<(), Fail> {
+    let bytes = [0x0a, 0x01, b'A', 0x10, 0x00, 0x1a, 0x01, 0x07];
+    let value = EnumValueDescriptorProto::decode(rt.alloc(), &bytes)?;
+    assert_eq!(rt; (shown(&value.name), value.number), ("A", Some(0)));
+    assert!(rt; raw(&value.options) == [7].as_slice());
     Ok(())
 }
 
 #[test]
-fn services(rt: HostRuntime) -> Result<(), Fail> {
+fn methods(rt: HostRuntime) -> Result<(), Fail> {
     let bytes = [
         0x0a, 0x01, b'm', 0x12, 0x02, b'.', b'A', 0x1a, 0x02, b'.', b'B', 0x22, 0x01, 0x07, 0x28,
         0x01, 0x30, 0x00,
     ];
     let method = MethodDescriptorProto::decode(rt.alloc(), &bytes)?;
-    assert_eq!(rt; shown(&method.name), "m");
-    assert_eq!(rt; shown(&method.input_type), ".A");
-    assert_eq!(rt; shown(&method.output_type), ".B");
-    assert_eq!(rt; raw(&method.options), [7].as_slice());
-    assert_eq!(rt; method.client_streaming, Some(true));
-    assert_eq!(rt; method.server_streaming, Some(false));
+    assert!(rt; is_method_of_a_and_b(&method));
+    Ok(())
+}
+
+fn is_method_of_a_and_b(method: &MethodDescriptorProto) -> bool {
+    shown(&method.name) == "m"
+        && shown(&method.input_type) == ".A"
+        && shown(&method.output_type) == ".B"
+        && raw(&method.options) == [7].as_slice()
+        && method.client_streaming == Some(true)
+        && method.server_streaming == Some(false)
+}
+
+#[test]
+fn services(rt: HostRuntime) -> Result<(), Fail> {
     let bytes = [
         0x0a, 0x01, b'S', 0x12, 0x03, 0x0a, 0x01, b'm', 0x12, 0x00, 0x1a, 0x01, 0x07,
     ];
     let service = ServiceDescriptorProto::decode(rt.alloc(), &bytes)?;
-    assert_eq!(rt; shown(&service.name), "S");
-    let [first, second] = service.method.as_slice() else {
-        return Err(Fail::new("not two methods"));
-    };
-    assert_eq!(rt; shown(&first.name), "m");
-    assert_eq!(rt; shown(&second.name), "-");
-    assert_eq!(rt; raw(&service.options), [7].as_slice());
+    assert!(rt; is_service_of_two(&service));
     Ok(())
+}
+
+fn is_service_of_two(service: &ServiceDescriptorProto) -> bool {
+    let [first, second] = service.method.as_slice() else {
+        return false;
+    };
+    shown(&service.name) == "S"
+        && raw(&service.options) == [7].as_slice()
+        && shown(&first.name) == "m"
+        && second.name.is_none()
 }
 
 /// Each number of a message's record once, out of order; number 63 is unknown.
@@ -167,44 +201,50 @@ fn messages(rt: HostRuntime) -> Result<(), Fail> {
     ];
     let message = DescriptorProto::decode(rt.alloc(), &bytes)?;
     assert_eq!(rt; shown(&message.name), "M");
-    let [field] = message.field.as_slice() else {
-        return Err(Fail::new("not one field"));
-    };
-    assert_eq!(rt; field.number, Some(5));
-    let [nested] = message.nested_type.as_slice() else {
-        return Err(Fail::new("not one nested message"));
-    };
-    assert_eq!(rt; shown(&nested.name), "N");
-    let [deeper] = nested.nested_type.as_slice() else {
-        return Err(Fail::new("not one message in it"));
-    };
-    assert_eq!(rt; shown(&deeper.name), "");
-    let [kinds] = message.enum_type.as_slice() else {
-        return Err(Fail::new("not one enum"));
-    };
-    assert_eq!(rt; shown(&kinds.name), "E");
-    let [range] = message.extension_range.as_slice() else {
-        return Err(Fail::new("not one range of extensions"));
-    };
-    assert_eq!(rt; range.end, Some(9));
-    let [extension] = message.extension.as_slice() else {
-        return Err(Fail::new("not one extension"));
-    };
-    assert_eq!(rt; extension.number, Some(100));
-    assert_eq!(rt; raw(&message.options), [0x38, 1].as_slice());
-    let [oneof] = message.oneof_decl.as_slice() else {
-        return Err(Fail::new("not one oneof"));
-    };
-    assert_eq!(rt; shown(&oneof.name), "o");
-    let [reserved] = message.reserved_range.as_slice() else {
-        return Err(Fail::new("not one reserved range"));
-    };
-    assert_eq!(rt; reserved.start, Some(1));
-    let [name] = message.reserved_name.as_slice() else {
-        return Err(Fail::new("not one reserved name"));
-    };
-    assert_eq!(rt; name.as_str(), "R");
+    assert!(rt; raw(&message.options) == [0x38, 1].as_slice());
+    assert!(rt; has_its_fields(&message));
+    assert!(rt; has_its_types(&message));
+    assert!(rt; has_its_ranges(&message));
     Ok(())
+}
+
+fn has_its_fields(message: &DescriptorProto) -> bool {
+    let [field] = message.field.as_slice() else {
+        return false;
+    };
+    let [extension] = message.extension.as_slice() else {
+        return false;
+    };
+    let [oneof] = message.oneof_decl.as_slice() else {
+        return false;
+    };
+    field.number == Some(5) && extension.number == Some(100) && shown(&oneof.name) == "o"
+}
+
+fn has_its_types(message: &DescriptorProto) -> bool {
+    let [nested] = message.nested_type.as_slice() else {
+        return false;
+    };
+    let [deeper] = nested.nested_type.as_slice() else {
+        return false;
+    };
+    let [kinds] = message.enum_type.as_slice() else {
+        return false;
+    };
+    shown(&nested.name) == "N" && shown(&deeper.name) == "" && shown(&kinds.name) == "E"
+}
+
+fn has_its_ranges(message: &DescriptorProto) -> bool {
+    let [range] = message.extension_range.as_slice() else {
+        return false;
+    };
+    let [reserved] = message.reserved_range.as_slice() else {
+        return false;
+    };
+    let [name] = message.reserved_name.as_slice() else {
+        return false;
+    };
+    range.end == Some(9) && reserved.start == Some(1) && name.as_str() == "R"
 }
 
 /// Options in two pieces join; a name that is given twice is the last; number 14 is unknown; packed and single public
@@ -217,70 +257,123 @@ fn files(rt: HostRuntime) -> Result<(), Fail> {
         0x00, 0x62, 0x06, b'p', b'r', b'o', b't', b'o', b'3',
     ];
     let file = FileDescriptorProto::decode(rt.alloc(), &bytes)?;
-    assert_eq!(rt; shown(&file.name), "b");
-    assert_eq!(rt; shown(&file.package), "-");
-    let [dependency] = file.dependency.as_slice() else {
-        return Err(Fail::new("not one dependency"));
-    };
-    assert_eq!(rt; dependency.as_str(), "d");
-    assert_eq!(rt; file.message_type.len(), 0);
-    assert_eq!(rt; file.enum_type.len(), 0);
-    assert_eq!(rt; file.service.len(), 0);
-    assert_eq!(rt; file.extension.len(), 0);
-    assert_eq!(rt; raw(&file.options), [0x10, 1, 0x20, 1].as_slice());
-    assert_eq!(rt; raw(&file.source_code_info), b"".as_slice());
-    assert_eq!(rt; file.public_dependency.as_slice(), [5, 0, 1, 7].as_slice());
-    assert_eq!(rt; file.weak_dependency.as_slice(), [2].as_slice());
-    assert_eq!(rt; shown(&file.syntax), "proto3");
+    assert!(rt; has_its_words(&file));
+    assert!(rt; has_its_dependencies(&file));
     Ok(())
 }
 
+fn has_its_words(file: &FileDescriptorProto) -> bool {
+    shown(&file.name) == "b"
+        && file.package.is_none()
+        && raw(&file.options) == [0x10, 1, 0x20, 1].as_slice()
+        && raw(&file.source_code_info).is_empty()
+        && shown(&file.syntax) == "proto3"
+}
+
+fn has_its_dependencies(file: &FileDescriptorProto) -> bool {
+    let [dependency] = file.dependency.as_slice() else {
+        return false;
+    };
+    dependency.as_str() == "d"
+        && file.public_dependency.as_slice() == [5, 0, 1, 7].as_slice()
+        && file.weak_dependency.as_slice() == [2].as_slice()
+}
+
 #[test]
-fn sets(rt: HostRuntime) -> Result<(), Fail> {
+fn definitions_of_a_file(rt: HostRuntime) -> Result<(), Fail> {
+    let bytes = [
+        0x22, 0x03, 0x0a, 0x01, b'M', 0x2a, 0x03, 0x0a, 0x01, b'E', 0x32, 0x03, 0x0a, 0x01, b'S',
+        0x3a, 0x03, 0x0a, 0x01, b'x',
+    ];
+    let file = FileDescriptorProto::decode(rt.alloc(), &bytes)?;
+    assert!(rt; has_its_definitions(&file));
+    Ok(())
+}
+
+fn has_its_definitions(file: &FileDescriptorProto) -> bool {
+    let [message] = file.message_type.as_slice() else {
+        return false;
+    };
+    let [kinds] = file.enum_type.as_slice() else {
+        return false;
+    };
+    let [service] = file.service.as_slice() else {
+        return false;
+    };
+    let [extension] = file.extension.as_slice() else {
+        return false;
+    };
+    shown(&message.name) == "M"
+        && shown(&kinds.name) == "E"
+        && shown(&service.name) == "S"
+        && shown(&extension.name) == "x"
+}
+
+#[test]
+fn a_set_with_a_oneof(rt: HostRuntime) -> Result<(), Fail> {
     let set = FileDescriptorSet::decode(rt.alloc(), &SMALL_SET)?;
     let [file] = set.file.as_slice() else {
         return Err(Fail::new("not one file"));
     };
-    assert_eq!(rt; shown(&file.name), "m.proto");
-    assert_eq!(rt; shown(&file.package), "package");
-    assert_eq!(rt; shown(&file.syntax), "proto3");
+    assert!(rt; is_small_file(file));
+    Ok(())
+}
+
+fn is_small_file(file: &FileDescriptorProto) -> bool {
     let [message] = file.message_type.as_slice() else {
-        return Err(Fail::new("not one message"));
+        return false;
     };
-    assert_eq!(rt; shown(&message.name), "MyMessage");
+    shown(&file.name) == "m.proto"
+        && shown(&file.package) == "package"
+        && shown(&file.syntax) == "proto3"
+        && is_my_message(message)
+}
+
+fn is_my_message(message: &DescriptorProto) -> bool {
     let [foo, bar, nested] = message.field.as_slice() else {
-        return Err(Fail::new("not three fields"));
+        return false;
     };
-    assert_eq!(rt; shown(&foo.name), "foo");
-    assert_eq!(rt; foo.oneof_index, None);
-    assert_eq!(rt; shown(&bar.name), "bar");
-    assert_eq!(rt; bar.oneof_index, Some(0));
-    assert_eq!(rt; shown(&nested.type_name), ".package.MyMessage");
     let [oneof] = message.oneof_decl.as_slice() else {
-        return Err(Fail::new("not one oneof"));
+        return false;
     };
-    assert_eq!(rt; shown(&oneof.name), "optional");
+    shown(&message.name) == "MyMessage"
+        && shown(&oneof.name) == "optional"
+        && (shown(&foo.name), foo.oneof_index) == ("foo", None)
+        && (shown(&bar.name), bar.oneof_index) == ("bar", Some(0))
+        && shown(&nested.type_name) == ".package.MyMessage"
+}
+
+#[test]
+fn a_set_with_an_extension(rt: HostRuntime) -> Result<(), Fail> {
     let set = FileDescriptorSet::decode(rt.alloc(), &EXTENDED_SET)?;
     let [file] = set.file.as_slice() else {
         return Err(Fail::new("not one file"));
     };
-    assert_eq!(rt; shown(&file.syntax), "-");
+    assert!(rt; file.syntax.is_none());
     let [extended, item] = file.message_type.as_slice() else {
         return Err(Fail::new("not two messages"));
     };
-    assert_eq!(rt; raw(&extended.options), [8, 1].as_slice());
-    let [range] = extended.extension_range.as_slice() else {
-        return Err(Fail::new("not one range"));
-    };
-    assert_eq!(rt; range.start, Some(4));
-    assert_eq!(rt; range.end, Some(2147483647));
-    let [extension] = item.extension.as_slice() else {
-        return Err(Fail::new("not one extension"));
-    };
-    assert_eq!(rt; shown(&extension.extendee), ".ms.Set");
-    assert_eq!(rt; extension.number, Some(12345));
-    assert_eq!(rt; extension.type_, Some(11));
+    assert!(rt; is_extended(extended));
+    assert!(rt; has_the_extension(item));
     Ok(())
+}
+
+fn is_extended(message: &DescriptorProto) -> bool {
+    let [range] = message.extension_range.as_slice() else {
+        return false;
+    };
+    raw(&message.options) == [8, 1].as_slice()
+        && range.start == Some(4)
+        && range.end == Some(2147483647)
+}
+
+fn has_the_extension(message: &DescriptorProto) -> bool {
+    let [extension] = message.extension.as_slice() else {
+        return false;
+    };
+    shown(&extension.extendee) == ".ms.Set"
+        && extension.number == Some(12345)
+        && extension.type_ == Some(11)
 }
 
 /// What is cut short is refused, but for no bytes, which are the set without files.
@@ -324,20 +417,29 @@ fn refused(rt: HostRuntime) -> Result<(), Fail> {
     Ok(())
 }
 
-/// A message in 100 others is read; in 101 it is nested too deep.
-#[test]
-fn levels(rt: HostRuntime) -> Result<(), Fail> {
-    let mut bytes = BackBuffer::new(rt.alloc());
-    for _ in 0..100 {
+/// A message within so many others.
+fn within(alloc: Global, levels: usize) -> Result<BackBuffer, EncodeError> {
+    let mut bytes = BackBuffer::new(alloc);
+    for _ in 0..levels {
         let len = bytes.len() as u64;
         bytes.prepend_varint(len)?;
         bytes.prepend(&[0x1a])?;
     }
+    Ok(bytes)
+}
+
+#[test]
+fn a_message_in_100_others(rt: HostRuntime) -> Result<(), Fail> {
+    let bytes = within(rt.alloc(), 100)?;
     let message = DescriptorProto::decode(rt.alloc(), bytes.as_slice())?;
     assert_eq!(rt; message.nested_type.len(), 1);
-    let len = bytes.len() as u64;
-    bytes.prepend_varint(len)?;
-    bytes.prepend(&[0x1a])?;
+    Ok(())
+}
+
+/// It is nested too deep.
+#[test]
+fn a_message_in_101_others(rt: HostRuntime) -> Result<(), Fail> {
+    let bytes = within(rt.alloc(), 101)?;
     match DescriptorProto::decode(rt.alloc(), bytes.as_slice()) {
         Err(error) => assert_eq!(rt; error, DecodeError::Depth),
         Ok(_) => return Err(Fail::new("101 levels were read")),

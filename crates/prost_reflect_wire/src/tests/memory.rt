@@ -1,6 +1,7 @@
 //! Refused memory. With ample memory each call succeeds; where an allocation is refused the call says so, and what it was
 //! lent has not changed.
 
+use crate::records::DescriptorProto;
 use crate::unknown::{UnknownField, UnknownFieldSet, UnknownFieldValue};
 use crate::{DecodeError, EncodeError, FieldNumber, RECURSION_LIMIT};
 use std::alloc::{AllocError, Global};
@@ -39,6 +40,16 @@ fn ample_writing(rt: HostRuntime) {
 #[test]
 fn refused_writing(rt: HostRuntime) {
     let _met_none = has_inserted_and_written(&rt, rt.alloc());
+}
+
+#[test]
+fn ample_records(rt: HostRuntime) {
+    assert!(rt; has_written_a_record(&rt, rt.alloc()));
+}
+
+#[test]
+fn refused_records(rt: HostRuntime) {
+    let _met_none = has_written_a_record(&rt, rt.alloc());
 }
 
 /// Reads nested groups, and says whether no allocation was refused.
@@ -100,6 +111,33 @@ fn has_inserted_and_written(rt: &impl Abort, alloc: Global) -> bool {
         Err(error) => {
             assert_eq!(rt; error, EncodeError::OutOfMemory);
             assert_eq!(rt; out.as_slice(), b"<".as_slice());
+            false
+        }
+    }
+}
+
+/// The same of reading, copying and writing a descriptor record.
+fn has_written_a_record(rt: &impl Abort, alloc: Global) -> bool {
+    let bytes = b"\x0a\x01M".as_slice();
+    let record = match DescriptorProto::decode(alloc, bytes) {
+        Ok(record) => record,
+        Err(error) => {
+            assert_eq!(rt; error, DecodeError::OutOfMemory);
+            return false;
+        }
+    };
+    let Ok(copy) = record.clone() else {
+        return false;
+    };
+    let mut out = Vec::new(alloc);
+    match copy.encode(&mut out) {
+        Ok(()) => {
+            assert_eq!(rt; out.as_slice(), bytes);
+            true
+        }
+        Err(error) => {
+            assert_eq!(rt; error, EncodeError::OutOfMemory);
+            assert!(rt; out.is_empty());
             false
         }
     }

@@ -2,19 +2,12 @@
 
 use super::*;
 use std::alloc::{AllocError, Global};
+use std::process::Abort;
 use std::test::Fail;
 
 const PLAIN: &str = "builtin.Plain";
 
 const KEPT: &str = "builtin.Kept";
-
-/// What a command line printed on both streams, and its status.
-#[derive(Drop)]
-struct Answer {
-    status: u8,
-    out: Vec<u8>,
-    err: Vec<u8>,
-}
 
 /// The words between single spaces; none, if there is no text.
 fn words(alloc: Global, text: &str) -> Result<Vec<String>, AllocError> {
@@ -26,21 +19,22 @@ fn words(alloc: Global, text: &str) -> Result<Vec<String>, AllocError> {
         .try_collect(alloc)
 }
 
-fn answer_to(alloc: Global, text: &str) -> Result<Answer, AllocError> {
-    let words = words(alloc, text)?;
-    let mut out = Vec::new(alloc);
-    let mut err = Vec::new(alloc);
-    let status = run(words.as_slice(), &mut out, &mut err);
-    Ok(Answer { status, out, err })
+/// The words of a command line of four.
+fn four_words(alloc: Global, words: &[&str; 4]) -> Result<Vec<String>, AllocError> {
+    words
+        .iter()
+        .map(|word| word.to_string(alloc))
+        .try_collect(alloc)
 }
 
-fn relay_of(alloc: Global, name: &str, digits: &str) -> Result<Answer, AllocError> {
-    let text = format!(in alloc; "relay - {name} {digits}")?;
-    answer_to(alloc, text.as_str())
-}
-
-fn line(alloc: Global, text: &str) -> Result<String, AllocError> {
-    format!(in alloc; "{text}\n")
+/// The words are answered by this status, and by what is printed on the one stream and on the other.
+fn answered(rt: &impl Abort, alloc: Global, words: &[String], status: u8, out: &str, err: &str) {
+    let mut printed = Vec::new(alloc);
+    let mut warned = Vec::new(alloc);
+    let answer = run(words, &mut printed, &mut warned);
+    assert_eq!(rt; printed.as_slice(), out.as_bytes(), "{words:?}");
+    assert_eq!(rt; warned.as_slice(), err.as_bytes(), "{words:?}");
+    assert_eq!(rt; answer, status, "{words:?}");
 }
 
 /// So many times 0x53, which opens a group of number 10, and as often 0x54, which ends it.
@@ -55,74 +49,82 @@ fn groups(alloc: Global, levels: usize) -> Result<String, AllocError> {
     Ok(digits)
 }
 
+/// Names and messages, and what is printed of them.
+static RELAYED: [(&str, &str, &str); 12] = [
+    // An unknown varint keeps its value and loses its needless zero digits, and numbers ascend.
+    (PLAIN, "508300289601", "2896015003\n"),
+    // A bool is 1 for any value but 0.
+    (PLAIN, "4005", "4001\n"),
+    // The zigzag of -1.
+    (PLAIN, "880101", "880101\n"),
+    // A default without presence is dropped; -0.0 is no default, and presence keeps each value.
+    (PLAIN, "1500000000", "\n"),
+    (KEPT, "1500000000", "1500000000\n"),
+    (PLAIN, "1500000080", "1500000080\n"),
+    (PLAIN, "2800", "\n"),
+    (KEPT, "2800", "2800\n"),
+    // A negative int32 is written in ten bytes.
+    (PLAIN, "28ffffffff0f", "28ffffffffffffffffff01\n"),
+    // Unknown groups stay.
+    (PLAIN, "5354", "5354\n"),
+    // Digits in either case, and none.
+    (PLAIN, "4A024869", "4a024869\n"),
+    (PLAIN, "", "\n"),
+];
+
 #[test]
 fn prints_what_is_written_again(rt: HostRuntime) -> Result<(), Fail> {
-    let deep = groups(rt.alloc(), 100)?;
-    let rows = [
-        // An unknown varint keeps its value and loses its needless zero digits, and numbers ascend.
-        (PLAIN, "508300289601", "2896015003"),
-        // A bool is 1 for any value but 0.
-        (PLAIN, "4005", "4001"),
-        // The zigzag of -1.
-        (PLAIN, "880101", "880101"),
-        // A default without presence is dropped; -0.0 is no default, and presence keeps each value.
-        (PLAIN, "1500000000", ""),
-        (KEPT, "1500000000", "1500000000"),
-        (PLAIN, "1500000080", "1500000080"),
-        (PLAIN, "2800", ""),
-        (KEPT, "2800", "2800"),
-        // A negative int32 is written in ten bytes.
-        (PLAIN, "28ffffffff0f", "28ffffffffffffffffff01"),
-        // Unknown groups stay.
-        (PLAIN, "5354", "5354"),
-        (PLAIN, deep.as_str(), deep.as_str()),
-        // Digits in either case, and none.
-        (PLAIN, "4A024869", "4a024869"),
-        (PLAIN, "", ""),
-    ];
-    for (name, digits, written) in rows {
-        let answer = relay_of(rt.alloc(), name, digits)?;
-        assert_eq!(rt; answer.err.as_slice(), b"".as_slice(), "{name} {digits}");
-        assert_eq!(rt;
-            answer.out.as_slice(),
-            line(rt.alloc(), written)?.as_bytes(),
-            "{name} {digits}"
-        );
-        assert_eq!(rt; answer.status, 0, "{name} {digits}");
+    for (name, digits, written) in &RELAYED {
+        let words = four_words(rt.alloc(), &["relay", "-", name, digits])?;
+        answered(&rt, rt.alloc(), words.as_slice(), 0, written, "");
     }
     Ok(())
 }
 
+/// Names and messages, and why they are refused.
+static REFUSED: [(&str, &str, &str); 12] = [
+    (PLAIN, "0801", "refused decode WireType\n"),
+    (PLAIN, "4a01ff", "refused decode Utf8\n"),
+    (PLAIN, "54", "refused decode EndGroup\n"),
+    (PLAIN, "28", "refused decode Truncated\n"),
+    (PLAIN, "00", "refused decode Key\n"),
+    (PLAIN, "28ffffffffffffffffff02", "refused decode Varint\n"),
+    // An odd number of digits, and no digit.
+    (PLAIN, "280", "refused hex\n"),
+    (PLAIN, "2x00", "refused hex\n"),
+    // The name comes before the digits.
+    ("builtin.None", "2800", "refused name\n"),
+    ("builtin", "2x", "refused name\n"),
+    (".builtin.Plain", "2800", "refused name\n"),
+    ("", "", "refused name\n"),
+];
+
 #[test]
 fn names_the_first_refusal(rt: HostRuntime) -> Result<(), Fail> {
-    let deep = groups(rt.alloc(), 101)?;
-    let rows = [
-        (PLAIN, deep.as_str(), "refused decode Depth"),
-        (PLAIN, "0801", "refused decode WireType"),
-        (PLAIN, "4a01ff", "refused decode Utf8"),
-        (PLAIN, "54", "refused decode EndGroup"),
-        (PLAIN, "28", "refused decode Truncated"),
-        (PLAIN, "00", "refused decode Key"),
-        (PLAIN, "28ffffffffffffffffff02", "refused decode Varint"),
-        // An odd number of digits, and no digit.
-        (PLAIN, "280", "refused hex"),
-        (PLAIN, "2x00", "refused hex"),
-        // The name comes before the digits.
-        ("builtin.None", "2800", "refused name"),
-        ("builtin", "2x", "refused name"),
-        (".builtin.Plain", "2800", "refused name"),
-        ("", "", "refused name"),
-    ];
-    for (name, digits, refusal) in rows {
-        let answer = relay_of(rt.alloc(), name, digits)?;
-        assert_eq!(rt; answer.out.as_slice(), b"".as_slice(), "{name} {digits}");
-        assert_eq!(rt;
-            answer.err.as_slice(),
-            line(rt.alloc(), refusal)?.as_bytes(),
-            "{name} {digits}"
-        );
-        assert_eq!(rt; answer.status, 1, "{name} {digits}");
+    for (name, digits, refusal) in &REFUSED {
+        let words = four_words(rt.alloc(), &["relay", "-", name, digits])?;
+        answered(&rt, rt.alloc(), words.as_slice(), 1, "", refusal);
     }
+    Ok(())
+}
+
+/// A hundred groups in one another pass, and no more.
+#[test]
+fn passes_a_hundred_groups(rt: HostRuntime) -> Result<(), Fail> {
+    let deep = groups(rt.alloc(), 100)?;
+    let words = four_words(rt.alloc(), &["relay", "-", PLAIN, deep.as_str()])?;
+    let written = format!(in rt.alloc(); "{deep}\n")?;
+    answered(&rt, rt.alloc(), words.as_slice(), 0, written.as_str(), "");
+    let deep = groups(rt.alloc(), 101)?;
+    let words = four_words(rt.alloc(), &["relay", "-", PLAIN, deep.as_str()])?;
+    answered(
+        &rt,
+        rt.alloc(),
+        words.as_slice(),
+        1,
+        "",
+        "refused decode Depth\n",
+    );
     Ok(())
 }
 
@@ -134,87 +136,179 @@ const CUT: &str = "0a1b0a0173220e0a015312090a0161180120012805620670726f746f";
 
 const PROTO4: &str = "0a1b0a0173220e0a015312090a0161180120012805620670726f746f34";
 
+/// Command lines with a set, and their statuses and what is printed.
+static WITH_SETS: [([&str; 4], u8, &str, &str); 14] = [
+    (["relay", SMALL, "S", "0896011002"], 0, "0896011002\n", ""),
+    (
+        ["show", SMALL, "S", "0896011002"],
+        0,
+        "field 1\nunknown 2 1\n",
+        "",
+    ),
+    (["relay", SMALL, "T", "08"], 1, "", "refused name\n"),
+    (["show", SMALL, "T", "0"], 1, "", "refused name\n"),
+    (["show", SMALL, "S", "0"], 1, "", "refused hex\n"),
+    (
+        ["relay", SMALL, "S", "08"],
+        1,
+        "",
+        "refused decode Truncated\n",
+    ),
+    (
+        ["show", SMALL, "S", "08"],
+        1,
+        "",
+        "refused decode Truncated\n",
+    ),
+    (
+        ["relay", CUT, "S", "08"],
+        1,
+        "",
+        "refused pool Decode Truncated\n",
+    ),
+    (
+        ["show", CUT, "S", "08"],
+        1,
+        "",
+        "refused pool Decode Truncated\n",
+    ),
+    (
+        ["relay", PROTO4, "S", "08"],
+        1,
+        "",
+        "refused pool UnknownSyntax\n",
+    ),
+    (
+        ["show", PROTO4, "S", "08"],
+        1,
+        "",
+        "refused pool UnknownSyntax\n",
+    ),
+    // A set without files, and what is no set in hex digits.
+    (["relay", "", "S", "08"], 1, "", "refused name\n"),
+    (["relay", "0", "S", "08"], 1, "", "refused hex\n"),
+    (["show", "0", "S", "08"], 1, "", "refused hex\n"),
+];
+
 #[test]
 fn takes_descriptor_sets(rt: HostRuntime) -> Result<(), Fail> {
-    let rows = [
-        ("relay", SMALL, "S", "0896011002", 0, "0896011002\n", ""),
-        (
-            "show",
-            SMALL,
-            "S",
-            "0896011002",
-            0,
-            "field 1\nunknown 2 1\n",
-            "",
-        ),
-        ("relay", SMALL, "T", "08", 1, "", "refused name\n"),
-        ("show", SMALL, "T", "0", 1, "", "refused name\n"),
-        ("show", SMALL, "S", "0", 1, "", "refused hex\n"),
-        (
-            "relay",
-            SMALL,
-            "S",
-            "08",
-            1,
-            "",
-            "refused decode Truncated\n",
-        ),
-        (
-            "show",
-            SMALL,
-            "S",
-            "08",
-            1,
-            "",
-            "refused decode Truncated\n",
-        ),
-        (
-            "relay",
-            CUT,
-            "S",
-            "08",
-            1,
-            "",
-            "refused pool Decode Truncated\n",
-        ),
-        (
-            "show",
-            CUT,
-            "S",
-            "08",
-            1,
-            "",
-            "refused pool Decode Truncated\n",
-        ),
-        (
-            "relay",
-            PROTO4,
-            "S",
-            "08",
-            1,
-            "",
-            "refused pool UnknownSyntax\n",
-        ),
-        (
-            "show",
-            PROTO4,
-            "S",
-            "08",
-            1,
-            "",
-            "refused pool UnknownSyntax\n",
-        ),
-        // A set without files, and what is no set in hex digits.
-        ("relay", "", "S", "08", 1, "", "refused name\n"),
-        ("relay", "0", "S", "08", 1, "", "refused hex\n"),
-        ("show", "0", "S", "08", 1, "", "refused hex\n"),
-    ];
-    for (verb, set, name, digits, status, out, err) in rows {
-        let text = format!(in rt.alloc(); "{verb} {set} {name} {digits}")?;
-        let answer = answer_to(rt.alloc(), text.as_str())?;
-        assert_eq!(rt; answer.out.as_slice(), out.as_bytes(), "{text}");
-        assert_eq!(rt; answer.err.as_slice(), err.as_bytes(), "{text}");
-        assert_eq!(rt; answer.status, status, "{text}");
+    for (line, status, out, err) in &WITH_SETS {
+        let words = four_words(rt.alloc(), line)?;
+        answered(&rt, rt.alloc(), words.as_slice(), *status, out, err);
+    }
+    Ok(())
+}
+
+/// The set of the file `m` in proto3 with `message M { map<int32, string> a = 1; map<string, sint64> b = 2; }`.
+const MAPS: &str =
+    "0a91010a016d2283010a014d12140a016118012003280b32092e4d2e41456e74727912140a016218022003280b32092e4d2e42456e7472791a280a0641456e747279120b0a036b6579180120012805120d0a0576616c75651802200128093a0238011a280a0642456e747279120b0a036b6579180120012809120d0a0576616c75651802200128123a023801620670726f746f33";
+
+/// The same file in proto2, where keys and values have presence.
+const OLD_MAPS: &str =
+    "0a89010a016d2283010a014d12140a016118012003280b32092e4d2e41456e74727912140a016218022003280b32092e4d2e42456e7472791a280a0641456e747279120b0a036b6579180120012805120d0a0576616c75651802200128093a0238011a280a0642456e747279120b0a036b6579180120012809120d0a0576616c75651802200128123a023801";
+
+/// The set of `package.MyMessage` in proto3, as protoc writes it: `int32 foo = 1; oneof optional { int32 bar = 2; } MyMessage nested = 3;`.
+const MESSAGES: &str =
+    "0a85010a07662e70726f746f12077061636b61676522690a094d794d65737361676512100a03666f6f1801200128055203666f6f12120a0362617218022001280548005203626172122a0a066e657374656418032001280b32122e7061636b6167652e4d794d65737361676552066e6573746564420a0a086f7074696f6e616c620670726f746f33";
+
+/// The same with `message Q { oneof o { int32 a = 1; MyMessage b = 2; } }`.
+const MEMBERS: &str =
+    "0ac3010a07662e70726f746f12077061636b61676522690a094d794d65737361676512100a03666f6f1801200128055203666f6f12120a0362617218022001280548005203626172122a0a066e657374656418032001280b32122e7061636b6167652e4d794d65737361676552066e6573746564420a0a086f7074696f6e616c223c0a0151120e0a0161180120012805480052016112220a016218022001280b32122e7061636b6167652e4d794d657373616765480052016242030a0163620670726f746f33";
+
+/// `message Foo { repeated int32 values = 1; }` in proto3.
+const LISTS: &str =
+    "0a300a07662e70726f746f221d0a03466f6f12160a0676616c756573180120032805520676616c756573620670726f746f33";
+
+/// The same in proto2, with a range of extensions and `repeated int32 ext_values = 100`.
+const OLD_LISTS: &str =
+    "0a540a07662e70726f746f22240a03466f6f12160a0676616c756573180120032805520676616c7565732a05086410c8013a230a0a6578745f76616c75657312042e466f6f186420032805520965787456616c756573";
+
+/// `message G { repeated group Item = 1 { optional int32 x = 1; } }` in proto2.
+const GROUPS: &str =
+    "0a410a07662e70726f746f22360a0147121b0a046974656d18012003280a32072e472e4974656d52046974656d1a140a044974656d120c0a0178180120012805520178";
+
+/// Sets, names and messages of each form of field, and what is printed of them.
+static FORMS: [(&str, &str, &str, &str); 15] = [
+    // The records of two messages of one field are those of one message.
+    (
+        MESSAGES,
+        "package.MyMessage",
+        "1a0208051a021042",
+        "1a0408051042\n",
+    ),
+    (MESSAGES, "package.MyMessage", "1a0208051a020800", "1a00\n"),
+    // A member of a oneof has presence.
+    (MESSAGES, "package.MyMessage", "08001000", "1000\n"),
+    // Another member clears a message of its oneof.
+    (MEMBERS, "package.Q", "12020805080112021042", "12021042\n"),
+    (MEMBERS, "package.Q", "08011200", "1200\n"),
+    // An element of a list of groups.
+    (GROUPS, "G", "0b08010c", "0b08010c\n"),
+    // Elements, packed or not, are written in one record in proto3, and in one each in proto2; no record of none.
+    (LISTS, "Foo", "08010a02020308040a00", "0a0401020304\n"),
+    (OLD_LISTS, "Foo", "0a020102", "08010802\n"),
+    (LISTS, "Foo", "0a00", "\n"),
+    // Keys ascend, as numbers.
+    (
+        MAPS,
+        "M",
+        "0a0508011201610a0e08ffffffffffffffffff01120162",
+        "0a0e08ffffffffffffffffff011201620a050801120161\n",
+    ),
+    (
+        MAPS,
+        "M",
+        "12050a016b100112030a0161",
+        "12030a016112050a016b1001\n",
+    ),
+    // The last entry of a key replaces the others.
+    (
+        MAPS,
+        "M",
+        "0a0508011201610a0508021201630a050801120162",
+        "0a0508011201620a050802120163\n",
+    ),
+    // In an entry the last key and the last value count, and nothing is kept of other records.
+    (MAPS, "M", "0a09120161180008010802", "0a050802120161\n"),
+    // What an entry lacks is zero, false or empty, and written where it has presence.
+    (MAPS, "M", "0a00", "0a00\n"),
+    (OLD_MAPS, "M", "0a00", "0a0408001200\n"),
+];
+
+#[test]
+fn relays_each_form(rt: HostRuntime) -> Result<(), Fail> {
+    for (set, name, digits, written) in &FORMS {
+        let words = four_words(rt.alloc(), &["relay", set, name, digits])?;
+        answered(&rt, rt.alloc(), words.as_slice(), 0, written, "");
+    }
+    Ok(())
+}
+
+/// Likewise, and why they are refused.
+static FORM_FAULTS: [(&str, &str, &str, &str); 11] = [
+    (
+        MESSAGES,
+        "package.MyMessage",
+        "1b1c",
+        "refused decode WireType\n",
+    ),
+    (GROUPS, "G", "0b080114", "refused decode EndGroup\n"),
+    (GROUPS, "G", "0a020801", "refused decode WireType\n"),
+    (LISTS, "Foo", "0a0180", "refused decode Truncated\n"),
+    (LISTS, "Foo", "0d00000000", "refused decode WireType\n"),
+    (MAPS, "M", "0801", "refused decode WireType\n"),
+    (MAPS, "M", "0a020a00", "refused decode WireType\n"),
+    (MAPS, "M", "0a03120161ff", "refused decode Truncated\n"),
+    (MAPS, "M", "0a0212", "refused decode Truncated\n"),
+    (MAPS, "M", "0a031201ff", "refused decode Utf8\n"),
+    (MAPS, "M", "0c", "refused decode EndGroup\n"),
+];
+
+#[test]
+fn names_the_faults_of_each_form(rt: HostRuntime) -> Result<(), Fail> {
+    for (set, name, digits, refusal) in &FORM_FAULTS {
+        let words = four_words(rt.alloc(), &["relay", set, name, digits])?;
+        answered(&rt, rt.alloc(), words.as_slice(), 1, "", refusal);
     }
     Ok(())
 }
@@ -227,39 +321,40 @@ const EXTENDED: &str =
 const CLOSED: &str =
     "0a2a0a016622120a0143120d0a016518012001280e32022e452a110a014512050a0141100012050a01421001";
 
+/// Sets, names and messages, and what is shown of them.
+static SHOWN: [(&str, &str, &str, &str); 7] = [
+    // Unknown fields are counted, in whatever order they came.
+    (
+        "-",
+        PLAIN,
+        "5000289601720040015001",
+        "field 5\nfield 8\nunknown 10 2\nunknown 14 1\n",
+    ),
+    // A default without presence is not present; with it, it is.
+    ("-", PLAIN, "28001500000080", "field 2\n"),
+    ("-", KEPT, "28001500000080", "field 2\nfield 5\n"),
+    ("-", PLAIN, "", ""),
+    (
+        EXTENDED,
+        "E",
+        "a00607a8060008ff01",
+        "field 1\nextension 100\nunknown 101 1\n",
+    ),
+    // A number that the enum does not declare stands beside one that it does, or alone.
+    (CLOSED, "C", "080108070800", "field 1\nunknown 1 1\n"),
+    (CLOSED, "C", "0807", "unknown 1 1\n"),
+];
+
 #[test]
 fn shows_what_is_present(rt: HostRuntime) -> Result<(), Fail> {
-    let rows = [
-        // Unknown fields are counted, in whatever order they came.
-        (
-            "-",
-            PLAIN,
-            "5000289601720040015001",
-            "field 5\nfield 8\nunknown 10 2\nunknown 14 1\n",
-        ),
-        // A default without presence is not present; with it, it is.
-        ("-", PLAIN, "28001500000080", "field 2\n"),
-        ("-", KEPT, "28001500000080", "field 2\nfield 5\n"),
-        ("-", PLAIN, "", ""),
-        (
-            EXTENDED,
-            "E",
-            "a00607a8060008ff01",
-            "field 1\nextension 100\nunknown 101 1\n",
-        ),
-        // A number that the enum does not declare stands beside one that it does, or alone.
-        (CLOSED, "C", "080108070800", "field 1\nunknown 1 1\n"),
-        (CLOSED, "C", "0807", "unknown 1 1\n"),
-    ];
-    for (set, name, digits, out) in rows {
-        let text = format!(in rt.alloc(); "show {set} {name} {digits}")?;
-        let answer = answer_to(rt.alloc(), text.as_str())?;
-        assert_eq!(rt; answer.err.as_slice(), b"".as_slice(), "{text}");
-        assert_eq!(rt; answer.out.as_slice(), out.as_bytes(), "{text}");
-        assert_eq!(rt; answer.status, 0, "{text}");
+    for (set, name, digits, out) in &SHOWN {
+        let words = four_words(rt.alloc(), &["show", set, name, digits])?;
+        answered(&rt, rt.alloc(), words.as_slice(), 0, out, "");
     }
     Ok(())
 }
+
+const USAGE: &str = "usage: protorelay relay|show SET NAME HEX\n";
 
 #[test]
 fn prints_the_usage_for_any_other_command_line(rt: HostRuntime) -> Result<(), Fail> {
@@ -274,13 +369,8 @@ fn prints_the_usage_for_any_other_command_line(rt: HostRuntime) -> Result<(), Fa
         "edit - builtin.Plain 2800",
     ];
     for text in rows {
-        let answer = answer_to(rt.alloc(), text)?;
-        assert_eq!(rt; answer.out.as_slice(), b"".as_slice(), "{text}");
-        assert_eq!(rt;
-            answer.err.as_slice(),
-            b"usage: protorelay relay|show SET NAME HEX\n".as_slice()
-        );
-        assert_eq!(rt; answer.status, 2);
+        let words = words(rt.alloc(), text)?;
+        answered(&rt, rt.alloc(), words.as_slice(), 2, "", USAGE);
     }
     Ok(())
 }
@@ -288,20 +378,13 @@ fn prints_the_usage_for_any_other_command_line(rt: HostRuntime) -> Result<(), Fa
 #[test]
 fn names_why_the_words_cannot_be_had(rt: HostRuntime) -> Result<(), Fail> {
     let mut err = Vec::new(rt.alloc());
-    assert_eq!(rt;
-        refuse_words(&io::Error::from(ErrorKind::OutOfMemory), &mut err),
-        1
-    );
+    let refused = io::Error::from(ErrorKind::OutOfMemory);
+    assert_eq!(rt; refuse_words(&refused, &mut err), 1);
     assert_eq!(rt; err.as_slice(), b"refused memory\n".as_slice());
     err.clear();
-    assert_eq!(rt;
-        refuse_words(&io::Error::from(ErrorKind::InvalidData), &mut err),
-        2
-    );
-    assert_eq!(rt;
-        err.as_slice(),
-        b"usage: protorelay relay|show SET NAME HEX\n".as_slice()
-    );
+    let invalid = io::Error::from(ErrorKind::InvalidData);
+    assert_eq!(rt; refuse_words(&invalid, &mut err), 2);
+    assert_eq!(rt; err.as_slice(), USAGE.as_bytes());
     Ok(())
 }
 
@@ -342,31 +425,30 @@ fn answers_1_where_a_write_fails(rt: HostRuntime) -> Result<(), Fail> {
     ];
     for (text, length, status) in rows {
         let words = words(rt.alloc(), text)?;
-        for bytes in 0..=length {
-            let mut out = Room {
-                bytes,
-                flushes: true,
-            };
-            let mut err = Room {
-                bytes,
-                flushes: true,
-            };
-            let want = if bytes == length { status } else { 1 };
+        for bytes in 0..length {
             assert_eq!(rt;
-                run(words.as_slice(), &mut out, &mut err),
-                want,
+                status_with_room(words.as_slice(), bytes, true),
+                1,
                 "{text} {bytes}"
             );
         }
-        let mut out = Room {
-            bytes: length,
-            flushes: false,
-        };
-        let mut err = Room {
-            bytes: length,
-            flushes: false,
-        };
-        assert_eq!(rt; run(words.as_slice(), &mut out, &mut err), 1, "{text}");
+        assert_eq!(rt;
+            status_with_room(words.as_slice(), length, true),
+            status,
+            "{text}"
+        );
+        assert_eq!(rt;
+            status_with_room(words.as_slice(), length, false),
+            1,
+            "{text}"
+        );
     }
     Ok(())
+}
+
+/// The status where each stream has room for so many bytes, and can be flushed or not.
+fn status_with_room(words: &[String], bytes: usize, flushes: bool) -> u8 {
+    let mut out = Room { bytes, flushes };
+    let mut err = Room { bytes, flushes };
+    run(words, &mut out, &mut err)
 }

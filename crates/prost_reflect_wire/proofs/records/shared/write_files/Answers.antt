@@ -1,5 +1,4 @@
 use Rattle.std.proofs.Common.{◌≡◌, arith, subst, sym, ap, ◌∙◌}
-use Rattle.prost_reflect_wire.specs.Content.{Content}
 use Rattle.prost_reflect_wire.specs.DescriptorSound.{FieldSound}
 use Rattle.prost_reflect_wire.specs.DescriptorViews.{of_file, of_records}
 use Rattle.prost_reflect_wire.specs.DescriptorWriting.{field_bytes}

@@ -1,0 +1,173 @@
+-- Messages and groups read as elements of the list of their field.
+use Rattle.std.proofs.Common.{◌≡◌, ℕ, suc, Bool, true, false, List, [], Option, Some, None, refl, sym, ap, ap₂, ◌∙◌, subst, true≢false}
+use Rattle.std.specs.Prelude.{Vec, unwrap_or, map, ◌++◌, ◌∷◌}
+use Rattle.std.specs.declared.alloc.Global.{Global}
+use Rattle.std.proofs.lemmas.List.{map-append}
+use Rattle.prost_reflect_wire.specs.declared.key.WireType.TheVariants as wires
+use Rattle.prost_reflect_wire.specs.Front.{KeyFront, DelimitedFront}
+use Rattle.prost_reflect_wire.specs.Schema.{Kind, MessageOf, GroupOf, Field, known, field_of, is_message}
+use Rattle.prost_reflect_wire.specs.Content as contents
+use Rattle.prost_reflect_wire.specs.Content.{Content, ContentOf, MessageValue, ListValue, NoValues, ◌and_then◌, empty, value_at, entries_of, schema_of, type_of, values_from}
+use Rattle.prost_reflect_wire.specs.Typing.{WellStored, is_repeated as is_list}
+use Rattle.prost_reflect_wire.specs.Edit.{with_field_value, message_of}
+use Rattle.prost_reflect_wire.specs.Fault.{is_map}
+use Rattle.prost_reflect_wire.specs.Decoding.{Progress, GroupProgress, Step}
+use Rattle.prost_reflect_wire.proofs.Survivors.{field_number}
+use Rattle.prost_reflect_wire.proofs.ListSteps.{IsListed}
+use Rattle.prost_reflect_wire.proofs.ElementSteps.{ManyMessages, elements_at, message_element_holds, group_element_holds}
+use Rattle.prost_reflect_tables.specs.declared.tables.TableKind.{TableKind}
+use Rattle.prost_reflect_tables.specs.declared.tables.TableKind.TheVariants as kinds
+use Rattle.prost_reflect_tables.specs.Rows.{FieldRow}
+use Rattle.prost_reflect_tables.specs.Shown.{schema_kind, schema_field}
+use Rattle.prost_reflect.specs.declared.descriptor.message.MessageDescriptor.{MessageDescriptor}
+use Rattle.prost_reflect.specs.declared.message.DynamicMessage.{DynamicMessage}
+use Rattle.prost_reflect.specs.declared.message.decode.Target.TheVariants as targets
+use Rattle.prost_reflect.specs.declared.value.Value.{Value}
+use Rattle.prost_reflect.specs.declared.value.Value as values
+use Rattle.prost_reflect.specs.Contents.{value_set}
+use Rattle.prost_reflect.specs.Covered.{covered, is_repeated, is_plain_kind, names_message}
+use Rattle.prost_reflect.specs.Descriptors.{schema_at, type_at}
+use Rattle.prost_reflect.specs.Known.{known_of}
+use Rattle.prost_reflect.specs.Lists.{IsList, IsListOrNone, ListField, with_element}
+use Rattle.prost_reflect.specs.Pools.{pool_rows}
+use Rattle.prost_reflect.specs.Targets.{NestedList, IsTarget, element_target_of}
+use Rattle.prost_reflect.specs.View.{value_of, content_of, descriptor_of}
+use Rattle.prost_reflect.proofs.Covering.{covered_further}
+use Rattle.prost_reflect.proofs.Described.{named_in_range}
+use Rattle.prost_reflect.proofs.ListMerging.{list_field}
+use Rattle.prost_reflect.proofs.Merging.{known_in, differ_in}
+use Rattle.prost_reflect.proofs.NestedReads.{FoundIn, schema_in, names_message as names_it}
+use Rattle.prost_reflect.proofs.PlainKinds.{listed_row, list_kind}
+use Rattle.prost_reflect.proofs.Views.{value_of_list, value_of_message}
+
+-- WHAT A RECORD IS READ AS
+
+pub list_target : (kind : TableKind) (g : Bool) → names_message kind ≡ false → element_target_of kind g ≡ targets.List kind
+list_target (kinds.Message T) g e = absurd (true≢false e)
+list_target kind g e = refl
+
+module _ (d : MessageDescriptor) (n : ℕ) (row : FieldRow) (found : field_of (known_of d) n ≡ Some (schema_field (pool_rows d.pool) row)) (many : is_repeated row.cardinality ≡ true)
+    (listed : names_message row.kind ≡ true → is_list (schema_field (pool_rows d.pool) row).form ≡ true) (plain : names_message row.kind ≡ false → is_plain_kind row.kind ≡ true) where
+  nested_list : (T : ℕ) (kind : Kind) → names_message row.kind ≡ true → schema_kind (pool_rows d.pool).enums row.kind row.is_group ≡ kind → message_of kind ≡ Some T → NestedList d n T kind
+  nested_list T kind message is names =
+      let own : (schema_field (pool_rows d.pool) row).value_type.kind ≡ kind = list_kind (pool_rows d.pool) row many (listed message) ∙ is in
+      record {
+        field = schema_field (pool_rows d.pool) row;
+        packed = row.is_packed;
+        found = found;
+        form = listed_row (pool_rows d.pool) row many (listed message);
+        kind_is = own;
+        in_range = named_in_range d n (schema_field (pool_rows d.pool) row) T found (ap message_of own ∙ names);
+      }
+
+  pub element_target_is : IsTarget d n (element_target_of row.kind row.is_group)
+  element_target_is = go row.kind row.is_group refl refl
+    where
+      go : (kind : TableKind) (g : Bool) → row.kind ≡ kind → row.is_group ≡ g → IsTarget d n (element_target_of kind g)
+      go (kinds.Message T) true k i = nested_list T (GroupOf T) (ap names_message k) (ap₂ (schema_kind (pool_rows d.pool).enums) k i) refl
+      go (kinds.Message T) false k i = nested_list T (MessageOf T) (ap names_message k) (ap₂ (schema_kind (pool_rows d.pool).enums) k i) refl
+      go kind g k i = subst (ListField (known_of d) n) k (list_field d n row found many (plain (ap names_message k)))
+
+-- THE LIST
+
+module _ (m : DynamicMessage) (n T : ℕ) (kind : Kind) (at : NestedList (descriptor_of m) n T kind) (names : message_of kind ≡ Some T) where
+  found_here : field_of (known (schema_of (content_of m)) (type_of (content_of m))) n ≡ Some at.field
+  found_here = ap (λ fields. field_of fields n) (known_in m) ∙ at.found
+
+  pub found_element : FoundIn m n T kind
+  found_element = record { field = at.field; found = found_here; form = ap is_map at.form; kind_is = at.kind_is; names = names }
+
+  many_of : ManyMessages at.field T
+  many_of = record { packed = at.packed; form = at.form; names = ap message_of at.kind_is ∙ names }
+
+  -- at the number stands a list, or nothing yet
+  pub list_or_none : WellStored (content_of m) → IsListOrNone (value_at n (entries_of (content_of m)))
+  list_or_none sound = of (content_of m) sound found_here
+    where
+      listed : (o : Option contents.Value) → IsListed o → IsListOrNone o
+      listed None l = tt
+      listed (Some (ListValue vs)) l = tt
+      listed (Some v) l = absurd l
+
+      of : (c : Content) → WellStored c → field_of (known (schema_of c) (type_of c)) n ≡ Some at.field → IsListOrNone (value_at n (entries_of c))
+      of (ContentOf schema U es) sound found = listed (value_at n es) (let here = elements_at schema U es sound n at.field found at.packed at.form in here.listed)
+
+-- what is lent of it is a list
+pub lent_or_empty : (o : Option contents.Value) (default v : contents.Value) → IsListOrNone o → default ≡ ListValue NoValues → v ≡ unwrap_or o default → IsList v
+lent_or_empty None default v l d e = subst IsList (sym (e ∙ d)) tt
+lent_or_empty (Some w) default v l d e = subst IsList (sym e) l
+
+pub with_lent : (o : Option contents.Value) (default v w : contents.Value) → default ≡ ListValue NoValues → v ≡ unwrap_or o default → with_element (Some v) w ≡ with_element o w
+with_lent None default v w d e = ap (λ v. with_element (Some v) w) (e ∙ d)
+with_lent (Some u) default v w d e = ap (λ v. with_element (Some v) w) e
+
+-- an element behind others
+from_append : (vs : List contents.Value) (w : contents.Value) → values_from (vs ++ w ∷ []) ≡ (values_from vs and_then contents.Item w NoValues)
+from_append [] w = refl
+from_append (v ∷ vs) w = ap (contents.Item v) (from_append vs w)
+
+pub element_pushed : (v : Value) (olds news : Vec Value Global) (m : DynamicMessage) → v ≡ values.List olds → news.items ≡ olds.items ++ values.Message m ∷ [] → value_of (values.List news) ≡ with_element (Some (value_of v)) (MessageValue (content_of m))
+element_pushed v olds news m is e =
+    value_of_list news ∙ ap (λ l. ListValue (values_from l)) (ap (map value_of) e ∙ map-append value_of olds.items (values.Message m ∷ []) ∙ ap (λ x. map value_of olds.items ++ x ∷ []) (value_of_message m))
+    ∙ ap ListValue (from_append (map value_of olds.items) (MessageValue (content_of m)))
+    ∙ ap (λ v. with_element (Some v) (MessageValue (content_of m))) (sym (ap value_of is ∙ value_of_list olds))
+
+-- THE ELEMENT
+
+-- an empty message of the type
+pub record EmptyElement (m inner : DynamicMessage) (T : ℕ) : Type 0 where
+  pub schema_is : schema_of (content_of inner) ≡ schema_of (content_of m)
+  pub type_is : type_of (content_of inner) ≡ T
+  pub sound : WellStored (content_of inner)
+  pub plain : covered (schema_at (descriptor_of inner)) (type_at (descriptor_of inner)) ≡ true
+  pub is : content_of inner ≡ empty (schema_of (content_of m)) T
+
+pub empty_element : (m inner : DynamicMessage) (n T : ℕ) (kind : Kind) → covered (schema_at (descriptor_of m)) (type_at (descriptor_of m)) ≡ true → NestedList (descriptor_of m) n T kind → message_of kind ≡ Some T → content_of inner ≡ empty (schema_at (descriptor_of m)) T → EmptyElement m inner T
+empty_element m inner n T kind h at names is =
+    let same : content_of inner ≡ empty (schema_of (content_of m)) T = is ∙ ap (λ s. empty s T) (sym (schema_in m)) in
+    record {
+      schema_is = ap schema_of same;
+      type_is = ap type_of same;
+      sound = subst WellStored (sym same) (record { fits = refl; types = tt; order = refl; members = refl });
+      plain = ap (λ s. covered s (type_at (descriptor_of inner))) (sym (schema_in inner) ∙ ap schema_of is)
+          ∙ covered_further (schema_at (descriptor_of m)) (type_at (descriptor_of m)) n (type_at (descriptor_of inner)) at.field h at.found (ap is_message at.kind_is ∙ names_it kind T names);
+      is = same;
+    }
+
+-- ONE MORE RECORD
+
+element_set_in : (c : Content) (n : ℕ) (f : Field) (v : contents.Value) → field_of (known (schema_of c) (type_of c)) n ≡ Some f → value_set n v c ≡ ContentOf (schema_of c) (type_of c) (with_field_value (known (schema_of c) (type_of c)) f (Some v) (entries_of c))
+element_set_in (ContentOf schema T es) n f v found = ap (λ (o : Option Field). ContentOf schema T (elim o [ None ↦ es | Some f ↦ with_field_value (known schema T) f (Some v) es ])) found
+
+whole : (c : Content) → ContentOf (schema_of c) (type_of c) (entries_of c) ≡ c
+whole (ContentOf schema T es) = refl
+
+module _ (m inner done new : DynamicMessage) (n T k : ℕ) (sound : WellStored (content_of m)) (fresh : EmptyElement m inner T)
+    (set : content_of new ≡ value_set n (with_element (value_at n (entries_of (content_of m))) (MessageValue (content_of done))) (content_of m)) where
+  pub element_step : (bytes body rest : List ℕ) → NestedList (descriptor_of m) n T (MessageOf T) → DelimitedFront body bytes rest → Progress k (content_of inner) (content_of done) body [] → Step (suc k) n wires.LengthDelimited (content_of m) (content_of new) bytes rest
+  element_step bytes body rest at front progress =
+      let found = found_here m n T (MessageOf T) at refl in
+      let number : at.field.number ≡ n = field_number (known (schema_of (content_of m)) (type_of (content_of m))) n at.field found in
+      let own : field_of (known (schema_of (content_of m)) (type_of (content_of m))) at.field.number ≡ Some at.field = ap (field_of (known (schema_of (content_of m)) (type_of (content_of m)))) number ∙ found in
+      let read : Progress k (empty (schema_of (content_of m)) T) (content_of done) body [] = subst (λ c. Progress k c (content_of done) body []) fresh.is progress in
+      subst (λ c. Step (suc k) n wires.LengthDelimited c (content_of new) bytes rest) (whole (content_of m))
+      (subst (λ d. Step (suc k) n wires.LengthDelimited (ContentOf (schema_of (content_of m)) (type_of (content_of m)) (entries_of (content_of m))) d bytes rest)
+      (sym (set ∙ element_set_in (content_of m) n at.field (with_element (value_at n (entries_of (content_of m))) (MessageValue (content_of done))) found))
+      (subst (λ i. Step (suc k) i wires.LengthDelimited (ContentOf (schema_of (content_of m)) (type_of (content_of m)) (entries_of (content_of m)))
+      (ContentOf (schema_of (content_of m)) (type_of (content_of m)) (with_field_value (known (schema_of (content_of m)) (type_of (content_of m))) at.field (Some (with_element (value_at i (entries_of (content_of m))) (MessageValue (content_of done)))) (entries_of (content_of m)))) bytes rest) number
+      (message_element_holds (schema_of (content_of m)) (type_of (content_of m)) (entries_of (content_of m)) (subst WellStored (sym (whole (content_of m))) sound) (differ_in m) at.field own T (many_of m n T (MessageOf T) at refl)
+      (content_of done) read.holds k body bytes rest at.kind_is read.read front)))
+
+  pub group_element_step : (bytes rest : List ℕ) → NestedList (descriptor_of m) n T (GroupOf T) → GroupProgress k n (content_of inner) (content_of done) bytes rest → Step (suc k) n wires.StartGroup (content_of m) (content_of new) bytes rest
+  group_element_step bytes rest at group =
+      let found = found_here m n T (GroupOf T) at refl in
+      let number : at.field.number ≡ n = field_number (known (schema_of (content_of m)) (type_of (content_of m))) n at.field found in
+      let own : field_of (known (schema_of (content_of m)) (type_of (content_of m))) at.field.number ≡ Some at.field = ap (field_of (known (schema_of (content_of m)) (type_of (content_of m)))) number ∙ found in
+      let read : Progress k (empty (schema_of (content_of m)) T) (content_of done) bytes group.end = subst (λ c. Progress k c (content_of done) bytes group.end) fresh.is group.progress in
+      subst (λ c. Step (suc k) n wires.StartGroup c (content_of new) bytes rest) (whole (content_of m))
+      (subst (λ d. Step (suc k) n wires.StartGroup (ContentOf (schema_of (content_of m)) (type_of (content_of m)) (entries_of (content_of m))) d bytes rest)
+      (sym (set ∙ element_set_in (content_of m) n at.field (with_element (value_at n (entries_of (content_of m))) (MessageValue (content_of done))) found))
+      (subst (λ i. Step (suc k) i wires.StartGroup (ContentOf (schema_of (content_of m)) (type_of (content_of m)) (entries_of (content_of m)))
+      (ContentOf (schema_of (content_of m)) (type_of (content_of m)) (with_field_value (known (schema_of (content_of m)) (type_of (content_of m))) at.field (Some (with_element (value_at i (entries_of (content_of m))) (MessageValue (content_of done)))) (entries_of (content_of m)))) bytes rest) number
+      (group_element_holds (schema_of (content_of m)) (type_of (content_of m)) (entries_of (content_of m)) (subst WellStored (sym (whole (content_of m))) sound) (differ_in m) at.field own T (many_of m n T (GroupOf T) at refl)
+      (content_of done) read.holds k bytes group.end rest at.kind_is read.read (subst (λ i. KeyFront i wires.EndGroup group.end rest) (sym number) group.stop))))

@@ -1,0 +1,205 @@
+-- What the rows of a map field say of it.
+use Rattle.std.proofs.Common.{◌≡◌, ℕ, Bool, true, false, ◌&&◌, ◌||◌, List, [], ◌∷◌, Option, Some, None, refl, sym, ap, ◌∙◌, subst, true≢false}
+use Rattle.std.specs.Prelude.{slice_get}
+use Rattle.std.specs.BTreeMap.{BTreeMap}
+use Rattle.prost_reflect_wire.specs.Scalar.{ScalarKind, Enum}
+use Rattle.prost_reflect_wire.specs.Schema.{Kind, ScalarOf, MessageOf, GroupOf, ValueType, MapFrom, Repeated, Field, field_of, is_singular, is_key_kind, field_valid, passes}
+use Rattle.prost_reflect_wire.specs.Content as contents
+use Rattle.prost_reflect_wire.specs.Content.{ScalarValue, MessageValue, ListValue, MapValue}
+use Rattle.prost_reflect_wire.specs.Typing.{value_valid, is_repeated as is_list}
+use Rattle.prost_reflect_wire.specs.Storing.{value_bytes}
+use Rattle.prost_reflect_wire.proofs.Deeper.{and_both}
+use Rattle.prost_reflect_wire.proofs.ScalarEntries.{map_keyed, map_key_default}
+use Rattle.prost_reflect_tables.specs.declared.tables.Cardinality.{Cardinality}
+use Rattle.prost_reflect_tables.specs.declared.tables.Cardinality.TheVariants.{Optional, Required, Repeated as RepeatedLabel}
+use Rattle.prost_reflect_tables.specs.declared.tables.TableKind.{TableKind}
+use Rattle.prost_reflect_tables.specs.declared.tables.TableKind.TheVariants as kinds
+use Rattle.prost_reflect_tables.specs.Rows.{FieldRow, MessageRow, TableRows}
+use Rattle.prost_reflect_tables.specs.Shown.{schema_kind, schema_default, own_type, type_or, map_entry, form_of, value_type_of, schema_field}
+use Rattle.prost_reflect.specs.declared.descriptor.message.MessageDescriptor.{MessageDescriptor}
+use Rattle.prost_reflect.specs.declared.value.MapKey.{MapKey}
+use Rattle.prost_reflect.specs.declared.value.Value.{Value}
+use Rattle.prost_reflect.specs.declared.value.Value as values
+use Rattle.prost_reflect.specs.Pools.{pool_rows}
+use Rattle.prost_reflect.specs.Descriptors.{schema_at, type_at}
+use Rattle.prost_reflect.specs.Known.{known_of}
+use Rattle.prost_reflect.specs.Covered.{covered, is_plain, is_plain_kind, is_repeated, names_message}
+use Rattle.prost_reflect.specs.ContentLaws.{pairs_shown}
+use Rattle.prost_reflect.specs.MapParts.{two_of, entry_parts, map_parts, value_row}
+use Rattle.prost_reflect.specs.Maps.{PlainMap, pairs_bytes, IsMap, MapOfRows}
+use Rattle.prost_reflect.specs.Targets.{IsTarget, repeated_target_of}
+use Rattle.prost_reflect.specs.View.{value_of}
+use Rattle.prost_reflect.proofs.Covering as covering
+use Rattle.prost_reflect.proofs.PlainKinds.{PlainKind, kind_plain, plain_ungrouped, list_row, listed_row}
+use Rattle.prost_reflect.proofs.Described.{found_checked}
+use Rattle.prost_reflect.proofs.ElementReads.{element_target_is}
+use Rattle.prost_reflect.proofs.Views.{value_of_map}
+use Rattle.prost_reflect.proofs.WrittenValues.{is_enum, passing}
+use Rattle.prost_reflect.proofs.WrittenMaps.{PartRow, MapWritten, map_of_kinds}
+
+-- the types of a map's keys and values are those of its entry's fields
+record ShownMap (rows : TableRows) (f : Field) (key value : FieldRow) : Type 0 where
+  pub form : f.form ≡ MapFrom (own_type rows.enums key)
+  pub type : f.value_type ≡ own_type rows.enums value
+
+shown_map : (rows : TableRows) (f key value : FieldRow) → map_parts rows f ≡ Some (key, value) → ShownMap rows (schema_field rows f) key value
+shown_map rows f key value h = let (form, type) = go f.cardinality h in record { form = form; type = type }
+  where
+    two : (fields : List FieldRow) → two_of fields ≡ Some (key, value) → (MapFrom (type_or rows.enums f (slice_get fields 0)) ≡ MapFrom (own_type rows.enums key)) × (type_or rows.enums f (slice_get fields 1) ≡ own_type rows.enums value)
+    two (k ∷ v ∷ fields) h = (ap (λ (o : Option (FieldRow × FieldRow)). MapFrom (own_type rows.enums (elim o [ None ↦ k | Some p ↦ p.0 ]))) h, ap (λ (o : Option (FieldRow × FieldRow)). own_type rows.enums (elim o [ None ↦ v | Some p ↦ p.1 ])) h)
+    two [] h = cc
+    two (k ∷ []) h = cc
+
+    by : (o : Option MessageRow) → entry_parts o ≡ Some (key, value) → (form_of rows.enums f RepeatedLabel o ≡ MapFrom (own_type rows.enums key)) × (value_type_of rows.enums f o ≡ own_type rows.enums value)
+    by None h = cc
+    by (Some m) h = two m.fields h
+
+    go : (c : Cardinality) → entry_parts (map_entry rows.messages f c) ≡ Some (key, value) → (form_of rows.enums f c (map_entry rows.messages f c) ≡ MapFrom (own_type rows.enums key)) × (value_type_of rows.enums f (map_entry rows.messages f c) ≡ own_type rows.enums value)
+    go Optional h = cc
+    go Required h = cc
+    go RepeatedLabel h = by (map_entry rows.messages f RepeatedLabel) h
+
+no_enum : (kind : ScalarKind) → is_plain (ScalarOf kind) ≡ true → is_enum (ScalarOf kind) ≡ false
+no_enum (Enum first numbers) h = absurd (true≢false (sym h))
+no_enum kind h = refl
+
+-- kinds of keys are plain
+key_plain : (kind : Kind) → is_key_kind kind ≡ true → is_plain kind ≡ true
+key_plain (ScalarOf (Enum first numbers)) h = absurd (true≢false (sym h))
+key_plain (ScalarOf kind) h = refl
+key_plain (MessageOf T) h = absurd (true≢false (sym h))
+key_plain (GroupOf T) h = absurd (true≢false (sym h))
+
+module _ (d : MessageDescriptor) (n : ℕ) (row key value : FieldRow) (found : Some (schema_field (pool_rows d.pool) row) ≡ field_of (known_of d) n) (parts : map_parts (pool_rows d.pool) row ≡ Some (key, value)) (plain : is_plain_kind value.kind ≡ true) where
+  abbrev rows : TableRows
+  rows = pool_rows d.pool
+
+  abbrev field : Field
+  field = schema_field (pool_rows d.pool) row
+
+  shown : ShownMap (pool_rows d.pool) (schema_field (pool_rows d.pool) row) key value
+  shown = shown_map (pool_rows d.pool) row key value parts
+
+  checked : field_valid (schema_at d) (schema_field (pool_rows d.pool) row) ≡ true
+  checked = found_checked d n (schema_field (pool_rows d.pool) row) (sym found)
+
+  key_kind : PlainKind key.kind (schema_kind (pool_rows d.pool).enums key.kind key.is_group)
+  key_kind = kind_plain (pool_rows d.pool).enums key.is_group key.kind (key_plain (schema_kind (pool_rows d.pool).enums key.kind key.is_group) (map_keyed (schema_at d) field (own_type (pool_rows d.pool).enums key) checked shown.form))
+
+  value_kind : PlainKind value.kind (schema_kind (pool_rows d.pool).enums value.kind value.is_group)
+  value_kind = kind_plain (pool_rows d.pool).enums value.is_group value.kind (covering.plain_kind (pool_rows d.pool).enums value.kind value.is_group ∙ plain)
+
+  pub plain_map : PlainMap (known_of d) n key.kind value.kind
+  plain_map = record {
+    field = field;
+    key_type = own_type (pool_rows d.pool).enums key;
+    key_scalar = key_kind.scalar;
+    value_scalar = value_kind.scalar;
+    found = sym found;
+    form = shown.form;
+    key_plain = key_kind.named;
+    key_is = key_kind.is;
+    value_plain = value_kind.named;
+    value_is = ap (λ (t : ValueType). t.kind) shown.type ∙ value_kind.is;
+    whole = value_kind.whole;
+  }
+
+  part_row : (r : FieldRow) (kind : PlainKind r.kind (schema_kind (pool_rows d.pool).enums r.kind r.is_group)) → is_plain (schema_kind (pool_rows d.pool).enums r.kind r.is_group) ≡ true → PartRow (pool_rows d.pool).enums r (own_type (pool_rows d.pool).enums r) kind.scalar
+  part_row r kind h = record {
+    named = kind.named;
+    shown = plain_ungrouped (pool_rows d.pool).enums r.is_group r.kind h ∙ kind.is;
+    is = kind.is;
+    plain = no_enum kind.scalar (ap is_plain (sym kind.is) ∙ h);
+    presence = refl;
+    default = ap (λ kind. schema_default r.default kind) kind.is;
+  }
+
+  pub map_row_written : (es : List (MapKey × Value)) → passes (field_of (known_of d) n) (λ f. value_valid f (MapValue (pairs_shown es))) ≡ true → MapWritten (known_of d) n (pool_rows d.pool).enums key value es
+  map_row_written es h = map_of_kinds n (pool_rows d.pool).enums key value (own_type (pool_rows d.pool).enums key) (own_type (pool_rows d.pool).enums value) key_kind.scalar value_kind.scalar
+      (part_row key key_kind (key_plain (schema_kind (pool_rows d.pool).enums key.kind key.is_group) (map_keyed (schema_at d) field (own_type (pool_rows d.pool).enums key) checked shown.form)))
+      (part_row value value_kind (covering.plain_kind (pool_rows d.pool).enums value.kind value.is_group ∙ plain))
+      (map_key_default (schema_at d) field (own_type (pool_rows d.pool).enums key) key_kind.scalar checked shown.form key_kind.is)
+      (known_of d) field es (sym found) shown.form shown.type (passing (field_of (known_of d) n) field (λ f. value_valid f (MapValue (pairs_shown es))) (sym found) h)
+
+-- WHAT A RECORD OF A REPEATED FIELD IS READ AS, AND WHAT IS WRITTEN OF ITS VALUE
+
+first_of_or : (a b : Bool) → (a || b) ≡ true → b ≡ false → a ≡ true
+first_of_or true b h e = refl
+first_of_or false b h e = sym e ∙ h
+
+and_false : (b : Bool) → (b && false) ≡ false
+and_false true = refl
+and_false false = refl
+
+and_true : (b : Bool) → (b && true) ≡ b
+and_true true = refl
+and_true false = refl
+
+message_apart : (kind : TableKind) → names_message kind ≡ true → is_plain_kind kind ≡ false
+message_apart (kinds.Message T) e = refl
+message_apart kind e = absurd (true≢false (sym e))
+
+module _ (d : MessageDescriptor) (n : ℕ) (row : FieldRow) (h : covered (schema_at d) (type_at d) ≡ true) (found : Some (schema_field (pool_rows d.pool) row) ≡ field_of (known_of d) n) (many : is_repeated row.cardinality ≡ true) where
+  values_covered : (is_plain_kind (value_row (map_parts (pool_rows d.pool) row) row).kind || (is_list (schema_field (pool_rows d.pool) row).form && names_message row.kind)) ≡ true
+  values_covered = covering.covered_values (pool_rows d.pool) row (covering.covered_field (schema_at d) (type_at d) n (schema_field (pool_rows d.pool) row) h (sym found)) many
+
+  -- a list of scalars has a plain kind
+  pub list_plain : None ≡ map_parts (pool_rows d.pool) row → names_message row.kind ≡ false → is_plain_kind row.kind ≡ true
+  list_plain none scalar = ap (λ o. is_plain_kind (value_row o row).kind) none
+      ∙ first_of_or (is_plain_kind (value_row (map_parts (pool_rows d.pool) row) row).kind) (is_list (schema_field (pool_rows d.pool) row).form && names_message row.kind) values_covered
+      (ap (λ b. is_list (schema_field (pool_rows d.pool) row).form && b) scalar ∙ and_false (is_list (schema_field (pool_rows d.pool) row).form))
+
+  -- one of messages is a list
+  pub messages_listed : None ≡ map_parts (pool_rows d.pool) row → names_message row.kind ≡ true → is_list (schema_field (pool_rows d.pool) row).form ≡ true
+  messages_listed none names =
+      sym (and_true (is_list (schema_field (pool_rows d.pool) row).form)) ∙ ap (λ b. is_list (schema_field (pool_rows d.pool) row).form && b) (sym names)
+      ∙ ap (λ b. b || (is_list (schema_field (pool_rows d.pool) row).form && names_message row.kind)) (sym (message_apart row.kind names) ∙ ap (λ o. is_plain_kind (value_row o row).kind) none)
+      ∙ values_covered
+
+  -- a map has rows of a key and a value, of a plain kind
+  entries_plain : (key value : FieldRow) → Some (key, value) ≡ map_parts (pool_rows d.pool) row → is_plain_kind value.kind ≡ true
+  entries_plain key value parts =
+      let m = shown_map (pool_rows d.pool) row key value (sym parts) in
+      ap (λ o. is_plain_kind (value_row o row).kind) parts
+      ∙ first_of_or (is_plain_kind (value_row (map_parts (pool_rows d.pool) row) row).kind) (is_list (schema_field (pool_rows d.pool) row).form && names_message row.kind) values_covered
+      (ap (λ form. is_list form && names_message row.kind) m.form)
+
+  pub map_of_rows : (key value : FieldRow) → Some (key, value) ≡ map_parts (pool_rows d.pool) row → MapOfRows d n key value
+  map_of_rows key value parts = record { row = row; found = found; parts = sym parts; plain = entries_plain key value parts }
+
+  -- a field that is no map has a list
+  pub listed_form : None ≡ map_parts (pool_rows d.pool) row → (schema_field (pool_rows d.pool) row).form ≡ Repeated row.is_packed
+  listed_form none = go (names_message row.kind) refl
+    where
+      go : (b : Bool) → names_message row.kind ≡ b → (schema_field (pool_rows d.pool) row).form ≡ Repeated row.is_packed
+      go true e = listed_row (pool_rows d.pool) row many (messages_listed none e)
+      go false e = list_row (pool_rows d.pool) row many (list_plain none e)
+
+  pub repeated_is : IsTarget d n (repeated_target_of (map_parts (pool_rows d.pool) row) row.kind row.is_group)
+  repeated_is = go (map_parts (pool_rows d.pool) row) refl
+    where
+      go : (o : Option (FieldRow × FieldRow)) → map_parts (pool_rows d.pool) row ≡ o → IsTarget d n (repeated_target_of o row.kind row.is_group)
+      go None e = element_target_is d n row (sym found) many (messages_listed (sym e)) (list_plain (sym e))
+      go (Some (key, value)) e = plain_map d n row key value found e (entries_plain key value (sym e))
+
+-- the value of a map is one
+pub valid_map_value : (d : MessageDescriptor) (n : ℕ) (key value : FieldRow) (c : contents.Value) → MapOfRows d n key value → passes (field_of (known_of d) n) (λ f. value_valid f c) ≡ true → IsMap c
+valid_map_value d n key value c m valid =
+    let p = plain_map d n m.row key value m.found m.parts m.plain in
+    go p.field p.key_type c p.form (passing (field_of (known_of d) n) p.field (λ f. value_valid f c) p.found valid)
+  where
+    go : (f : Field) (key_type : ValueType) (c : contents.Value) → f.form ≡ MapFrom key_type → value_valid f c ≡ true → IsMap c
+    go f key_type (ScalarValue s) form h = absurd (true≢false (sym (and_both _ _ h).0 ∙ ap is_singular form))
+    go f key_type (MessageValue m) form h = absurd (true≢false (sym (and_both _ _ h).0 ∙ ap is_singular form))
+    go f key_type (ListValue vs) form h = absurd (true≢false (sym (and_both _ _ h).0 ∙ ap is_list form))
+    go f key_type (MapValue ps) form h = tt
+
+-- what is written of the value of a map
+pub rows_written : (d : MessageDescriptor) (n : ℕ) (key value : FieldRow) (v : Value) (pairs : BTreeMap MapKey Value) → MapOfRows d n key value → passes (field_of (known_of d) n) (λ f. value_valid f (value_of v)) ≡ true → v ≡ values.Map pairs →
+    MapWritten (known_of d) n (pool_rows d.pool).enums key value pairs.entries
+rows_written d n key value v pairs m valid is =
+    map_row_written d n m.row key value m.found m.parts m.plain pairs.entries (subst (λ c. passes (field_of (known_of d) n) (λ f. value_valid f c) ≡ true) (ap value_of is ∙ value_of_map pairs) valid)
+
+pub map_value_bytes : (d : MessageDescriptor) (n : ℕ) (key value : FieldRow) (v : Value) (pairs : BTreeMap MapKey Value) → v ≡ values.Map pairs → MapWritten (known_of d) n (pool_rows d.pool).enums key value pairs.entries →
+    value_bytes (known_of d) n (value_of v) ≡ pairs_bytes n (pool_rows d.pool).enums key value pairs.entries
+map_value_bytes d n key value v pairs is w = ap (value_bytes (known_of d) n) (ap value_of is ∙ value_of_map pairs) ∙ w.bytes

@@ -1,0 +1,138 @@
+-- What is written of a list of plain scalars.
+use Rattle.std.proofs.Common.{◌≡◌, ℕ, zero, suc, ◌+◌, ◌-◌, ◌^◌, ◌≤◌, Bool, true, false, List, [], ◌∷◌, ◌++◌, map, flat_map, drop, length, Some, refl, sym, ap, ◌∙◌, subst, append_assoc, append-nil, true≢false, arith, length-append}
+use Rattle.std.specs.Prelude.{IsSomeAnd, Vec}
+use Rattle.std.specs.declared.alloc.Global.{Global}
+use Rattle.prost_reflect_wire.specs.declared.key.WireType.TheVariants as wires
+use Rattle.prost_reflect_wire.specs.Record.{Len, record_at, short_key, short_plain, spelled}
+use Rattle.prost_reflect_wire.specs.Scalar.{ScalarKind, kind_wire, written}
+use Rattle.prost_reflect_wire.specs.Schema.{ScalarOf, Repeated, Field, field_of, is_singular, passes}
+use Rattle.prost_reflect_wire.specs.Content as contents
+use Rattle.prost_reflect_wire.specs.Content.{ScalarValue, MessageValue, ListValue, MapValue, values_from}
+use Rattle.prost_reflect_wire.specs.Writing.{end_to_end, list_payloads, element_payloads}
+use Rattle.prost_reflect_wire.specs.Typing.{element_valid, elements_valid, value_valid, pairs_valid}
+use Rattle.prost_reflect_wire.specs.Storing.{value_bytes}
+use Rattle.prost_reflect_wire.proofs.Deeper.{and_both}
+use Rattle.prost_reflect_wire.proofs.WrittenEntries.{written_wire}
+use Rattle.prost_reflect_wire.proofs.ListWritten.{list_written}
+use Rattle.prost_reflect_tables.specs.declared.tables.TableKind.{TableKind}
+use Rattle.prost_reflect_tables.specs.Rows.{FieldRow}
+use Rattle.prost_reflect_tables.specs.Shown.{schema_field}
+use Rattle.prost_reflect.specs.declared.descriptor.message.MessageDescriptor.{MessageDescriptor}
+use Rattle.prost_reflect.specs.declared.value.Value.{Value}
+use Rattle.prost_reflect.specs.declared.value.Value as values
+use Rattle.prost_reflect.specs.Covered.{is_plain_kind, is_repeated}
+use Rattle.prost_reflect.specs.Known.{known_of}
+use Rattle.prost_reflect.specs.Pools.{pool_rows}
+use Rattle.prost_reflect.proofs.PlainKinds.{plain_row, list_row}
+use Rattle.prost_reflect.proofs.Views.{value_of_list}
+use Rattle.prost_reflect.proofs.WrittenValues.{passing}
+use Rattle.prost_reflect.specs.View.{value_of}
+use Rattle.prost_reflect.specs.Scalars.{plain_kind, scalar_bytes, scalar_record_bytes}
+use Rattle.prost_reflect.specs.Lists.{IsList, TakesScalars, list_bytes}
+
+-- ITEMS FROM THE LAST ON
+
+module _ {A : Type 0} (f : A → List ℕ) where
+  pub flat_before : (items rest : List A) (x : A) (old mid new : List ℕ) → items ≡ x ∷ rest → mid ≡ flat_map f rest ++ old → new ≡ f x ++ mid → new ≡ flat_map f items ++ old
+  flat_before items rest x old mid new cut m n = n ∙ ap (λ l. f x ++ l) m ∙ sym (append_assoc (f x) (flat_map f rest) old) ∙ ap (λ items. flat_map f items ++ old) (sym cut)
+
+  flat_drop : (i : ℕ) (items : List A) → length (flat_map f (drop i items)) ≤ length (flat_map f items)
+  flat_drop zero items = omega arith
+  flat_drop (suc i) [] = omega arith
+  flat_drop (suc i) (x ∷ items) = omega (arith, flat_drop i items, length-append (f x) (flat_map f items))
+
+  -- a length that is too great before the whole is written
+  pub flat_too_long : (items : List A) (i : ℕ) (x : A) (old mid : List ℕ) → drop (i - 1) items ≡ x ∷ drop i items → mid ≡ flat_map f (drop i items) ++ old → 2 ^ 64 ≤ length (f x) + length mid → 2 ^ 64 ≤ length (flat_map f items) + length old
+  flat_too_long items i x old mid cut is h =
+      omega (arith, h, ap length is, length-append (flat_map f (drop i items)) old, ap (λ (l : List A). length (flat_map f l)) cut, length-append (f x) (flat_map f (drop i items)), flat_drop (i - 1) items)
+
+-- SCALARS
+
+module _ (n : ℕ) (k : ScalarKind) where
+  payloads_spelled : (vs : List Value) → elements_valid (ScalarOf k) (values_from (map value_of vs)) ≡ true → end_to_end (element_payloads (ScalarOf k) (values_from (map value_of vs))) ≡ flat_map (λ v. scalar_bytes (Some k) (value_of v)) vs
+  payloads_spelled [] h = refl
+  payloads_spelled (v ∷ vs) h =
+      let (one, more) = and_both (element_valid (ScalarOf k) (value_of v)) (elements_valid (ScalarOf k) (values_from (map value_of vs))) h in
+      go (value_of v) one (payloads_spelled vs more)
+    where
+      go : (c : contents.Value) → element_valid (ScalarOf k) c ≡ true → end_to_end (element_payloads (ScalarOf k) (values_from (map value_of vs))) ≡ flat_map (λ v. scalar_bytes (Some k) (value_of v)) vs →
+          end_to_end (element_payloads (ScalarOf k) (values_from (c ∷ map value_of vs))) ≡ scalar_bytes (Some k) c ++ flat_map (λ v. scalar_bytes (Some k) (value_of v)) vs
+      go (ScalarValue s) one more = ap (λ l. short_plain (written k s) ++ l) more
+      go (MessageValue m) one more = absurd (true≢false (sym one))
+      go (ListValue vs) one more = absurd (true≢false (sym one))
+      go (MapValue ps) one more = absurd (true≢false (sym one))
+
+  records_spelled : (vs : List Value) → elements_valid (ScalarOf k) (values_from (map value_of vs)) ≡ true →
+      spelled (map (record_at n) (element_payloads (ScalarOf k) (values_from (map value_of vs)))) ≡ flat_map (λ v. scalar_record_bytes n (Some k) (value_of v)) vs
+  records_spelled [] h = refl
+  records_spelled (v ∷ vs) h =
+      let (one, more) = and_both (element_valid (ScalarOf k) (value_of v)) (elements_valid (ScalarOf k) (values_from (map value_of vs))) h in
+      go (value_of v) one (records_spelled vs more)
+    where
+      go : (c : contents.Value) → element_valid (ScalarOf k) c ≡ true → spelled (map (record_at n) (element_payloads (ScalarOf k) (values_from (map value_of vs)))) ≡ flat_map (λ v. scalar_record_bytes n (Some k) (value_of v)) vs →
+          spelled (map (record_at n) (element_payloads (ScalarOf k) (values_from (c ∷ map value_of vs)))) ≡ scalar_record_bytes n (Some k) c ++ flat_map (λ v. scalar_record_bytes n (Some k) (value_of v)) vs
+      go (ScalarValue s) one more =
+          ap (λ w. short_key n w ++ (short_plain (written k s) ++ spelled (map (record_at n) (element_payloads (ScalarOf k) (values_from (map value_of vs)))))) (written_wire k s one)
+          ∙ sym (append_assoc (short_key n (kind_wire k)) (short_plain (written k s)) (spelled (map (record_at n) (element_payloads (ScalarOf k) (values_from (map value_of vs))))))
+          ∙ ap (λ l. (short_key n (kind_wire k) ++ short_plain (written k s)) ++ l) more
+      go (MessageValue m) one more = absurd (true≢false (sym one))
+      go (ListValue vs) one more = absurd (true≢false (sym one))
+      go (MapValue ps) one more = absurd (true≢false (sym one))
+
+  list_spelled : (kind : TableKind) (packed : Bool) (vs : List Value) → plain_kind kind ≡ Some k → elements_valid (ScalarOf k) (values_from (map value_of vs)) ≡ true →
+      spelled (map (record_at n) (list_payloads (Repeated packed) (element_payloads (ScalarOf k) (values_from (map value_of vs))))) ≡ list_bytes n packed kind vs
+  list_spelled kind true [] e h = refl
+  list_spelled kind false [] e h = refl
+  list_spelled kind true (v ∷ vs) e h =
+      append-nil-behind (end_to_end (element_payloads (ScalarOf k) (values_from (map value_of (v ∷ vs)))))
+      ∙ ap (λ body. short_key n wires.LengthDelimited ++ short_plain (Len body)) (payloads_spelled (v ∷ vs) h ∙ ap (λ o. flat_map (λ v. scalar_bytes o (value_of v)) (v ∷ vs)) (sym e))
+    where
+      append-nil-behind : (body : List ℕ) → short_key n wires.LengthDelimited ++ (short_plain (Len body) ++ []) ≡ short_key n wires.LengthDelimited ++ short_plain (Len body)
+      append-nil-behind body = ap (λ l. short_key n wires.LengthDelimited ++ l) (append-nil (short_plain (Len body)))
+  list_spelled kind false (v ∷ vs) e h = records_spelled (v ∷ vs) h ∙ ap (λ o. flat_map (λ v. scalar_record_bytes n o (value_of v)) (v ∷ vs)) (sym e)
+
+takes_all : (kind : TableKind) (k : ScalarKind) (vs : List Value) → plain_kind kind ≡ Some k → elements_valid (ScalarOf k) (values_from (map value_of vs)) ≡ true → TakesScalars kind vs
+takes_all kind k [] e h = tt
+takes_all kind k (v ∷ vs) e h =
+    let (one, more) = and_both (element_valid (ScalarOf k) (value_of v)) (elements_valid (ScalarOf k) (values_from (map value_of vs))) h in
+    (subst (λ o. IsSomeAnd o (λ k. element_valid (ScalarOf k) (value_of v) ≡ true)) (sym e) one, takes_all kind k vs e more)
+
+-- what the writer of a list needs to know, and what it has to write
+pub record ListWritten (fields : List Field) (n : ℕ) (kind : TableKind) (packed : Bool) (vs : List Value) : Type 0 where
+  pub takes : TakesScalars kind vs
+  pub bytes : value_bytes fields n (ListValue (values_from (map value_of vs))) ≡ list_bytes n packed kind vs
+
+pub list_of_kind : (fields : List Field) (n : ℕ) (f : Field) (packed : Bool) (kind : TableKind) (k : ScalarKind) (vs : List Value) → field_of fields n ≡ Some f → f.form ≡ Repeated packed → f.value_type.kind ≡ ScalarOf k → plain_kind kind ≡ Some k →
+    value_valid f (ListValue (values_from (map value_of vs))) ≡ true → ListWritten fields n kind packed vs
+list_of_kind fields n f packed kind k vs found form is e h =
+    let valid : elements_valid (ScalarOf k) (values_from (map value_of vs)) ≡ true = ap (λ kind. elements_valid kind (values_from (map value_of vs))) (sym is) ∙ (and_both _ _ h).1 in
+    record { takes = takes_all kind k vs e valid; bytes = list_written fields n f packed k (values_from (map value_of vs)) found form is valid ∙ list_spelled n k kind packed vs e valid }
+
+-- ROWS
+
+pub row_list_written : (d : MessageDescriptor) (n : ℕ) (row : FieldRow) (v : Value) (vs : Vec Value Global) → is_plain_kind row.kind ≡ true → Some (schema_field (pool_rows d.pool) row) ≡ field_of (known_of d) n → is_repeated row.cardinality ≡ true →
+    passes (field_of (known_of d) n) (λ f. value_valid f (value_of v)) ≡ true → v ≡ values.List vs → ListWritten (known_of d) n row.kind row.is_packed vs.items
+row_list_written d n row v vs plain found many valid is =
+    let kind = plain_row (pool_rows d.pool) row plain in
+    list_of_kind (known_of d) n (schema_field (pool_rows d.pool) row) row.is_packed row.kind kind.scalar vs.items (sym found) (list_row (pool_rows d.pool) row many plain) kind.is kind.named
+    (passing (field_of (known_of d) n) (schema_field (pool_rows d.pool) row) (λ f. value_valid f (ListValue (values_from (map value_of vs.items)))) (sym found)
+    (subst (λ c. passes (field_of (known_of d) n) (λ f. value_valid f c) ≡ true) (ap value_of is ∙ value_of_list vs) valid))
+
+pub takes_same : (fields : List Field) (n : ℕ) (kind : TableKind) (packed : Bool) (vs ws : List Value) → ws ≡ vs → ListWritten fields n kind packed vs → TakesScalars kind ws
+takes_same fields n kind packed vs ws same w = subst (TakesScalars kind) (sym same) w.takes
+
+pub list_value_bytes : (fields : List Field) (n : ℕ) (kind : TableKind) (packed : Bool) (v : Value) (vs : Vec Value Global) (ws : List Value) → v ≡ values.List vs → ws ≡ vs.items → ListWritten fields n kind packed vs.items →
+    value_bytes fields n (value_of v) ≡ list_bytes n packed kind ws
+list_value_bytes fields n kind packed v vs ws is same w = ap (value_bytes fields n) (ap value_of is ∙ value_of_list vs) ∙ w.bytes ∙ ap (list_bytes n packed kind) (sym same)
+
+-- a value of a field of lists is a list
+pub valid_list_value : (d : MessageDescriptor) (n : ℕ) (row : FieldRow) (c : contents.Value) → (schema_field (pool_rows d.pool) row).form ≡ Repeated row.is_packed → Some (schema_field (pool_rows d.pool) row) ≡ field_of (known_of d) n →
+    passes (field_of (known_of d) n) (λ f. value_valid f c) ≡ true → IsList c
+valid_list_value d n row c form found valid =
+    go (schema_field (pool_rows d.pool) row) row.is_packed c form (passing (field_of (known_of d) n) (schema_field (pool_rows d.pool) row) (λ f. value_valid f c) (sym found) valid)
+  where
+    go : (f : Field) (packed : Bool) (c : contents.Value) → f.form ≡ Repeated packed → value_valid f c ≡ true → IsList c
+    go f packed (ScalarValue s) form h = absurd (true≢false (sym (and_both _ _ h).0 ∙ ap is_singular form))
+    go f packed (MessageValue m) form h = absurd (true≢false (sym (and_both _ _ h).0 ∙ ap is_singular form))
+    go f packed (ListValue vs) form h = tt
+    go f packed (MapValue ps) form h = absurd (true≢false (sym h ∙ ap (λ form. pairs_valid form f.value_type.kind ps) form))

@@ -1,0 +1,123 @@
+-- What is written of a map of plain scalars.
+use Rattle.std.proofs.Common.{◌≡◌, ℕ, ◌+◌, ◌^◌, ◌≤◌, true, false, cond, not, ◌&&◌, List, [], ◌∷◌, ◌++◌, length, map, Some, refl, sym, ap, ap₂, ◌∙◌, subst, append_assoc, true≢false, arith, length-append}
+use Rattle.std.specs.Prelude.{IsSomeAnd}
+use Rattle.prost_reflect_wire.specs.declared.key.WireType.TheVariants as wires
+use Rattle.prost_reflect_wire.specs.Record.{Len, record_at, short_key, short_plain, spelled}
+use Rattle.prost_reflect_wire.specs.Scalar.{Scalar, ScalarKind, kind_wire, kind_default, scalar_eq, scalar_valid, written}
+use Rattle.prost_reflect_wire.specs.Schema.{ScalarOf, ValueType, MapFrom, Field, field_of}
+use Rattle.prost_reflect_wire.specs.Content as contents
+use Rattle.prost_reflect_wire.specs.Content.{ScalarValue, MessageValue, ListValue, MapValue, Pair}
+use Rattle.prost_reflect_wire.specs.Writing.{pair_payloads}
+use Rattle.prost_reflect_wire.specs.Typing.{kind_takes, element_valid, pairs_valid, value_valid}
+use Rattle.prost_reflect_wire.specs.Storing.{value_bytes}
+use Rattle.prost_reflect_wire.proofs.Deeper.{and_both}
+use Rattle.prost_reflect_wire.proofs.MapWritten.{part_bytes, pair_written, map_written}
+use Rattle.prost_reflect_tables.specs.declared.tables.TableKind.{TableKind}
+use Rattle.prost_reflect_tables.specs.Rows.{FieldRow, EnumRow}
+use Rattle.prost_reflect_tables.specs.Shown.{schema_kind, schema_default}
+use Rattle.prost_reflect.specs.declared.value.MapKey.{MapKey}
+use Rattle.prost_reflect.specs.declared.value.Value.{Value}
+use Rattle.prost_reflect.specs.ContentLaws.{pairs_shown}
+use Rattle.prost_reflect.specs.Scalars.{plain_kind, TakesScalar, scalar_record_bytes, kept_scalar_bytes, zero_like, is_default}
+use Rattle.prost_reflect.specs.Maps.{TakesPairs, key_bytes, entry_bytes, pairs_bytes}
+use Rattle.prost_reflect.specs.View.{key_of, value_of}
+use Rattle.prost_reflect.proofs.WrittenValues.{is_enum, zero_of, default_is}
+
+-- the row of an entry's key or value, and its type
+pub record PartRow (enums : List EnumRow) (row : FieldRow) (t : ValueType) (kind : ScalarKind) : Type 0 where
+  pub named : plain_kind row.kind ≡ Some kind
+  pub shown : schema_kind enums row.kind false ≡ ScalarOf kind
+  pub is : t.kind ≡ ScalarOf kind
+  pub plain : is_enum (ScalarOf kind) ≡ false
+  pub presence : t.presence ≡ row.supports_presence
+  pub default : t.default ≡ schema_default row.default (ScalarOf kind)
+
+module _ (enums : List EnumRow) where
+  key_part : (row : FieldRow) (t : ValueType) (kind : ScalarKind) (s : Scalar) → PartRow enums row t kind → t.default ≡ kind_default kind → scalar_valid kind s ≡ true → key_bytes row (ScalarValue s) ≡ part_bytes t 1 kind s
+  key_part row t kind s part zero fits =
+      ap (λ o. cond (not row.supports_presence && scalar_eq s (zero_like s)) [] (scalar_record_bytes 1 o (ScalarValue s))) part.named
+      ∙ ap₂ (λ p d. cond (not p && scalar_eq s d) [] (short_key 1 (kind_wire kind) ++ short_plain (written kind s))) (sym part.presence) (zero_of kind s part.plain fits ∙ sym zero)
+
+  value_part : (row : FieldRow) (t : ValueType) (kind : ScalarKind) (s : Scalar) → PartRow enums row t kind → scalar_valid kind s ≡ true → kept_scalar_bytes 2 enums row (ScalarValue s) ≡ part_bytes t 2 kind s
+  value_part row t kind s part fits =
+      ap (λ o. cond (not row.supports_presence && is_default enums row.kind row.default (ScalarValue s)) [] (scalar_record_bytes 2 o (ScalarValue s))) part.named
+      ∙ ap₂ (λ p b. cond (not p && b) [] (short_key 2 (kind_wire kind) ++ short_plain (written kind s))) (sym part.presence) (sym (default_is enums row.kind kind s row.default part.shown fits) ∙ ap (scalar_eq s) (sym part.default))
+
+-- what the writer of a map needs to know, and what it has to write
+pub record MapWritten (fields : List Field) (n : ℕ) (enums : List EnumRow) (key value_row : FieldRow) (es : List (MapKey × Value)) : Type 0 where
+  pub takes : TakesPairs key.kind value_row.kind es
+  pub bytes : value_bytes fields n (MapValue (pairs_shown es)) ≡ pairs_bytes n enums key value_row es
+
+module _ (n : ℕ) (enums : List EnumRow) (key value_row : FieldRow) (key_type value_type : ValueType) (key_kind kind : ScalarKind) (key_part_row : PartRow enums key key_type key_kind) (part_row : PartRow enums value_row value_type kind) (zero : key_type.default ≡ kind_default key_kind) where
+  key_fits : (k : Scalar) → kind_takes key_type.kind k ≡ true → scalar_valid key_kind k ≡ true
+  key_fits k h = ap (λ kind. kind_takes kind k) (sym key_part_row.is) ∙ h
+
+  takes_pairs : (es : List (MapKey × Value)) → pairs_valid (MapFrom key_type) (ScalarOf kind) (pairs_shown es) ≡ true → TakesPairs key.kind value_row.kind es
+  takes_pairs [] h = tt
+  takes_pairs (e ∷ es) h =
+      let (one, more) = and_both (kind_takes key_type.kind (key_of e.0) && element_valid (ScalarOf kind) (value_of e.1)) (pairs_valid (MapFrom key_type) (ScalarOf kind) (pairs_shown es)) h in
+      let (a, b) = and_both (kind_takes key_type.kind (key_of e.0)) (element_valid (ScalarOf kind) (value_of e.1)) one in
+      ((subst (λ o. IsSomeAnd o (λ k. element_valid (ScalarOf k) (ScalarValue (key_of e.0)) ≡ true)) (sym key_part_row.named) (key_fits (key_of e.0) a), subst (λ o. IsSomeAnd o (λ k. element_valid (ScalarOf k) (value_of e.1) ≡ true)) (sym part_row.named) b), takes_pairs es more)
+
+  pairs_spelled : (es : List (MapKey × Value)) → pairs_valid (MapFrom key_type) (ScalarOf kind) (pairs_shown es) ≡ true → spelled (map (record_at n) (pair_payloads key_type value_type (pairs_shown es))) ≡ pairs_bytes n enums key value_row es
+  pairs_spelled [] h = refl
+  pairs_spelled (e ∷ es) h =
+      let (one, more) = and_both (kind_takes key_type.kind (key_of e.0) && element_valid (ScalarOf kind) (value_of e.1)) (pairs_valid (MapFrom key_type) (ScalarOf kind) (pairs_shown es)) h in
+      let (a, b) = and_both (kind_takes key_type.kind (key_of e.0)) (element_valid (ScalarOf kind) (value_of e.1)) one in
+      go (value_of e.1) (key_fits (key_of e.0) a) b (pairs_spelled es more)
+    where
+      go : (c : contents.Value) → scalar_valid key_kind (key_of e.0) ≡ true → element_valid (ScalarOf kind) c ≡ true → spelled (map (record_at n) (pair_payloads key_type value_type (pairs_shown es))) ≡ pairs_bytes n enums key value_row es →
+          spelled (map (record_at n) (pair_payloads key_type value_type (Pair (key_of e.0) c (pairs_shown es)))) ≡ entry_bytes n enums key value_row (key_of e.0) c ++ pairs_bytes n enums key value_row es
+      go (ScalarValue s) a b more =
+          pair_written n key_type value_type key_kind kind (key_of e.0) s (pairs_shown es) key_part_row.is part_row.is a b
+          ∙ ap₂ (λ (body : List ℕ) (rest : List ℕ). (short_key n wires.LengthDelimited ++ short_plain (Len body)) ++ rest)
+          (ap₂ ◌++◌ (sym (key_part enums key key_type key_kind (key_of e.0) key_part_row zero a)) (sym (value_part enums value_row value_type kind s part_row b))) more
+      go (MessageValue m) a b more = absurd (true≢false (sym b))
+      go (ListValue vs) a b more = absurd (true≢false (sym b))
+      go (MapValue ps) a b more = absurd (true≢false (sym b))
+
+  pub map_of_kinds : (fields : List Field) (f : Field) (es : List (MapKey × Value)) → field_of fields n ≡ Some f → f.form ≡ MapFrom key_type → f.value_type ≡ value_type → value_valid f (MapValue (pairs_shown es)) ≡ true → MapWritten fields n enums key value_row es
+  map_of_kinds fields f es found form type h =
+      let valid : pairs_valid (MapFrom key_type) (ScalarOf kind) (pairs_shown es) ≡ true = ap₂ (λ form kind. pairs_valid form kind (pairs_shown es)) (sym form) (sym (ap (λ (t : ValueType). t.kind) type ∙ part_row.is)) ∙ h in
+      record {
+        takes = takes_pairs es valid;
+        bytes = map_written fields n f key_type kind (pairs_shown es) found form valid ∙ ap (λ t. spelled (map (record_at n) (pair_payloads key_type t (pairs_shown es)))) type ∙ pairs_spelled es valid;
+      }
+
+-- ENTRIES FROM THE LAST ON
+
+module _ (n : ℕ) (enums : List EnumRow) (key value_row : FieldRow) where
+  pairs_behind : (es ds : List (MapKey × Value)) → pairs_bytes n enums key value_row (es ++ ds) ≡ pairs_bytes n enums key value_row es ++ pairs_bytes n enums key value_row ds
+  pairs_behind [] ds = refl
+  pairs_behind (e ∷ es) ds =
+      ap (λ l. entry_bytes n enums key value_row (key_of e.0) (value_of e.1) ++ l) (pairs_behind es ds)
+      ∙ sym (append_assoc (entry_bytes n enums key value_row (key_of e.0) (value_of e.1)) (pairs_bytes n enums key value_row es) (pairs_bytes n enums key value_row ds))
+
+  -- one more in front of those that are written
+  pub pairs_more : (e : MapKey × Value) (done : List (MapKey × Value)) (old mid new : List ℕ) → mid ≡ pairs_bytes n enums key value_row done ++ old → new ≡ entry_bytes n enums key value_row (key_of e.0) (value_of e.1) ++ mid → new ≡ pairs_bytes n enums key value_row (e ∷ done) ++ old
+  pairs_more e done old mid new m h =
+      h ∙ ap (λ l. entry_bytes n enums key value_row (key_of e.0) (value_of e.1) ++ l) m ∙ sym (append_assoc (entry_bytes n enums key value_row (key_of e.0) (value_of e.1)) (pairs_bytes n enums key value_row done) old)
+
+  -- a length that is too great before the whole is written
+  pub pairs_too_long : (items left done : List (MapKey × Value)) (e : MapKey × Value) (old mid : List ℕ) → items ≡ left ++ e ∷ done → mid ≡ pairs_bytes n enums key value_row done ++ old →
+      2 ^ 64 ≤ length (entry_bytes n enums key value_row (key_of e.0) (value_of e.1)) + length mid → 2 ^ 64 ≤ length (pairs_bytes n enums key value_row items) + length old
+  pairs_too_long items left done e old mid cut m h =
+      omega (
+        arith,
+        h,
+        ap length m,
+        length-append (pairs_bytes n enums key value_row done) old,
+        ap (λ es. length (pairs_bytes n enums key value_row es)) cut,
+        ap (λ (l : List ℕ). length l) (pairs_behind left (e ∷ done)),
+        length-append (pairs_bytes n enums key value_row left) (pairs_bytes n enums key value_row (e ∷ done)),
+        length-append (entry_bytes n enums key value_row (key_of e.0) (value_of e.1)) (pairs_bytes n enums key value_row done),
+      )
+
+-- where the entries are cut
+pub cut_pairs : (items left rest done : List (MapKey × Value)) (e : MapKey × Value) → items ≡ left ++ done → left ≡ rest ++ e ∷ [] → items ≡ rest ++ e ∷ done
+cut_pairs items left rest done e all cut = all ∙ ap (λ l. l ++ done) cut ∙ append_assoc rest (e ∷ []) done
+
+-- each entry is taken
+pub takes_at : (key value_kind : TableKind) (left done : List (MapKey × Value)) (e : MapKey × Value) → TakesPairs key value_kind (left ++ e ∷ done) → TakesScalar key (ScalarValue (key_of e.0)) × TakesScalar value_kind (value_of e.1)
+takes_at key value_kind [] done e h = h.0
+takes_at key value_kind (x ∷ left) done e h = takes_at key value_kind left done e h.1

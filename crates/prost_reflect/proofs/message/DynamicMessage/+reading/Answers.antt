@@ -1,0 +1,200 @@
+use Rattle.std.proofs.Common.{◌≡◌, subst, false, nat_eq, refl, ap, sym, ◌∙◌, ◌-◌, length, true≢false}
+use Rattle.std.proofs.Common.{rules}
+use Rattle.std.proofs.lemmas.Result.{err_from_is_err_and, IfOk-weaker, IfErr-weaker}
+use Rattle.prost_reflect_wire.specs.Content.{MessageValue, empty, value_at, entries_of}
+use Rattle.prost_reflect.specs.Descriptors.{schema_at}
+use Rattle.prost_reflect.specs.View.{value_of, content_of, descriptor_of, written_at}
+use Rattle.prost_reflect.specs.Contents.{value_set}
+use Rattle.prost_reflect.proofs.Views.{value_of_message}
+use Rattle.prost_reflect_wire.specs.declared.key.WireType.TheVariants as wires
+use Rattle.prost_reflect_wire.specs.Front.{KeyFront}
+use Rattle.prost_reflect_wire.specs.Schema.{MessageOf, GroupOf}
+use Rattle.prost_reflect_wire.proofs.Progressing.{progress_start, progress_step, progress_no_key, progress_no_key_in, progress_no_record, progress_no_record_in, progress_other_end}
+use Rattle.prost_reflect.proofs.NestedReads.{covered_inside, lent_message, held_message, nested_refused, payload_refused, message_read_in, group_read_in, message_refused_in, group_refused_in, found_refused, inside_refused, in_group_refused, one_less}
+use Rattle.prost_reflect.proofs.ElementReads.{found_element, list_or_none, empty_element, element_step, group_element_step}
+use Rattle.prost_reflect_wire.proofs.MessageSteps.{nested_plain}
+use Rattle.prost_reflect.specs.Lists.{with_element}
+use Rattle.prost_reflect.proofs.message.DynamicMessage.+reading.Goals as goal
+
+pub merge_records-loop-rest-init : goal.merge_records-loop-rest-init
+merge_records-loop-rest-init t c = record { progress = progress_start _ _ _ c.requires.sound; descriptor = refl }
+
+pub merge_records-returns-in_err-number-clause-fault : goal.merge_records-returns-in_err-number-clause-fault
+merge_records-returns-in_err-number-clause-fault t c = let p = err_from_is_err_and c.from_residual.result c.from_residual.ensures.1 in
+    let some : nat_eq (length c.loop-rest.rest.now) 0 ≡ false = sym c.is_empty.ensures ∙ c.loop-rest-test.true in
+    rw (p.1, p.2) (λ ne. progress_no_key _ _ _ _ _ _ c.loop-rest.invariant.progress (λ none. true≢false (sym (ap (λ bytes. nat_eq (length bytes) 0) none) ∙ some)) c.in_err-number.ensures.fault)
+
+pub merge_records-returns-in_err-rest-clause-fault : goal.merge_records-returns-in_err-rest-clause-fault
+merge_records-returns-in_err-rest-clause-fault t c = let p = err_from_is_err_and c.from_residual-in_err-rest.result c.from_residual-in_err-rest.ensures.1 in
+    rw (p.1, p.2) (λ ne. progress_no_record _ _ _ _ _ _ _ _ _ c.loop-rest.invariant.progress c.in_ok-number.ensures.ok (c.in_err-rest.ensures.fault ne))
+
+pub merge_records-loop-rest-preserved : goal.merge_records-loop-rest-preserved
+merge_records-loop-rest-preserved t c = record {
+  progress = progress_step _ _ _ _ _ _ _ _ _ _ c.loop-rest.invariant.progress c.in_ok-number.ensures.ok c.in_ok-rest.ensures.ok;
+  descriptor = c.merge_record.ensures.descriptor ∙ c.loop-rest.invariant.descriptor;
+}
+
+pub merge_to_end-loop-key-init : goal.merge_to_end-loop-key-init
+merge_to_end-loop-key-init t c = record { progress = progress_start _ _ _ c.requires.sound; descriptor = refl }
+
+pub merge_to_end-loop-key-preserved : goal.merge_to_end-loop-key-preserved
+merge_to_end-loop-key-preserved t c = record {
+  progress = progress_step _ _ _ _ _ _ _ _ _ _ c.loop-key.invariant.progress c.in_ok-key.ensures.ok c.in_ok-rest.ensures.ok;
+  descriptor = c.merge_record.ensures.descriptor ∙ c.loop-key.invariant.descriptor;
+}
+
+pub merge_to_end-returns-in_err-key-clause-fault : goal.merge_to_end-returns-in_err-key-clause-fault
+merge_to_end-returns-in_err-key-clause-fault t c = let p = err_from_is_err_and c.from_residual.result c.from_residual.ensures.1 in
+    rw (p.1, p.2) (λ ne. progress_no_key_in _ _ _ _ _ _ _ c.loop-key.invariant.progress (λ _ none. cc) c.in_err-key.ensures.fault)
+
+pub merge_to_end-returns-in-EndGroup-2-clause-fault : goal.merge_to_end-returns-in-EndGroup-2-clause-fault
+merge_to_end-returns-in-EndGroup-2-clause-fault t c = λ ne.
+    progress_other_end _ _ _ _ _ _ _ _ c.loop-key.invariant.progress (subst (λ w. KeyFront c.in_ok-key.key.value w c.loop-key.rest.now c.in_ok-key.after.now) c.in-EndGroup-2.is c.in_ok-key.ensures.ok)
+    (λ same. c.if-get.false (c.get.ensures.value ∙ sym same ∙ sym c.get-in-EndGroup-1.ensures.value))
+
+pub merge_to_end-returns-in_err-rest-clause-fault : goal.merge_to_end-returns-in_err-rest-clause-fault
+merge_to_end-returns-in_err-rest-clause-fault t c = let p = err_from_is_err_and c.from_residual-in_err-rest.result c.from_residual-in_err-rest.ensures.1 in
+    rw (p.1, p.2) (λ ne. progress_no_record_in _ _ _ _ _ _ _ _ _ _ c.loop-key.invariant.progress c.in_ok-key.ensures.ok (λ is. absurd (c.in_default.not-EndGroup is)) (c.in_err-rest.ensures.fault ne))
+
+pub merge_to_end-returns-in_err-rest-clause-descriptor : goal.merge_to_end-returns-in_err-rest-clause-descriptor
+merge_to_end-returns-in_err-rest-clause-descriptor t c = c.merge_record.ensures.descriptor ∙ c.loop-key.invariant.descriptor
+
+pub merge_message-returns-in_err-check_nested-clause-fault : goal.merge_message-returns-in_err-check_nested-clause-fault
+merge_message-returns-in_err-check_nested-clause-fault t c = let p = err_from_is_err_and c.from_residual.result c.from_residual.ensures.1 in
+    rw (p.1, p.2) (λ ne. nested_refused c.args.self.now c.args.number.value c.args.place (MessageOf c.args.place) wires.LengthDelimited c.args.wire_type c.args.levels _ c.args.bytes.now c.requires.field refl (λ v. refl) refl c.in_err-check_nested.ensures.fault)
+
+pub merge_message-returns-in_err-body-clause-fault : goal.merge_message-returns-in_err-body-clause-fault
+merge_message-returns-in_err-body-clause-fault t c = let p = err_from_is_err_and c.from_residual-in_err-body.result c.from_residual-in_err-body.ensures.1 in
+    rw (p.1, p.2, c.in_ok-check_nested.ensures.wire) (λ ne. payload_refused c.args.self.now c.args.number.value c.args.place (MessageOf c.args.place) wires.LengthDelimited c.args.levels _ c.args.bytes.now c.requires.field refl c.in_err-body.ensures.fault)
+
+pub merge_message-merge_into-requires : goal.merge_message-merge_into-requires
+merge_message-merge_into-requires t c =
+    let lent = lent_message c.args.self.now c.args.number.value c.args.place (MessageOf c.args.place) c.in_ok-default.default c.in_ok-value.value.now c.requires.sound c.requires.field refl
+    (c.in_ok-default.ensures ∙ ap (λ d. MessageValue (empty (schema_at d) c.args.place)) c.descriptor.ensures) (rw c.get.ensures.value at c.in_ok-value.ensures.value) in
+    (search rules, held_message c.args.self.now c.args.number.value c.args.place c.in_ok-value.value.now (covered_inside (descriptor_of c.args.self.now) c.args.number.value c.args.place (MessageOf c.args.place) c.requires.plain c.requires.field refl) lent)
+
+pub merge_message-returns-in_err-merge_into-clause-fault : goal.merge_message-returns-in_err-merge_into-clause-fault
+merge_message-returns-in_err-merge_into-clause-fault t c =
+    let lent = lent_message c.args.self.now c.args.number.value c.args.place (MessageOf c.args.place) c.in_ok-default.default c.in_ok-value.value.now c.requires.sound c.requires.field refl
+    (c.in_ok-default.ensures ∙ ap (λ d. MessageValue (empty (schema_at d) c.args.place)) c.descriptor.ensures) (rw c.get.ensures.value at c.in_ok-value.ensures.value) in
+    let p = err_from_is_err_and c.from_residual-in_err-merge_into.result c.from_residual-in_err-merge_into.ensures.1 in
+    rw (p.1, p.2) (λ ne. message_refused_in c.args.self.now c.args.number.value c.args.place c.args.levels c.in_ok-value.value.now c.in_ok-check_nested.ensures.levels c.requires.sound (covered_inside (descriptor_of c.args.self.now) c.args.number.value c.args.place (MessageOf c.args.place) c.requires.plain c.requires.field refl) lent _ c.args.wire_type c.args.bytes.now c.in_ok-body.body.now c.in_ok-body.rest.now
+    c.requires.field c.in_ok-check_nested.ensures.wire c.in_ok-body.ensures.ok (c.in_err-merge_into.ensures.fault ne))
+
+pub merge_message-returns-clause-ok : goal.merge_message-returns-clause-ok
+merge_message-returns-clause-ok t c =
+    let lent = lent_message c.args.self.now c.args.number.value c.args.place (MessageOf c.args.place) c.in_ok-default.default c.in_ok-value.value.now c.requires.sound c.requires.field refl
+    (c.in_ok-default.ensures ∙ ap (λ d. MessageValue (empty (schema_at d) c.args.place)) c.descriptor.ensures) (rw c.get.ensures.value at c.in_ok-value.ensures.value) in
+    message_read_in c.args.self.now c.args.number.value c.args.place c.args.levels c.in_ok-value.value.now c.in_ok-check_nested.ensures.levels c.requires.sound (covered_inside (descriptor_of c.args.self.now) c.args.number.value c.args.place (MessageOf c.args.place) c.requires.plain c.requires.field refl) lent
+    (written_at c.args.self.now c.get.result c.in_ok-default.default c.merge_into.new.value) (value_of c.merge_into.new.value) c.args.wire_type c.args.bytes.now c.in_ok-body.body.now c.in_ok-body.rest.now
+    c.requires.field c.in_ok-check_nested.ensures.wire c.in_ok-body.ensures.ok c.in_ok-merge_into.ensures.ok
+    (c.in_ok-value.ensures.content c.merge_into.new.value ∙ ap (λ n. value_set n (value_of c.merge_into.new.value) (content_of c.args.self.now)) c.get.ensures.value)
+
+pub merge_group-returns-in_err-check_nested-clause-fault : goal.merge_group-returns-in_err-check_nested-clause-fault
+merge_group-returns-in_err-check_nested-clause-fault t c = let p = err_from_is_err_and c.from_residual.result c.from_residual.ensures.1 in
+    rw (p.1, p.2) (λ ne. nested_refused c.args.self.now c.args.number.value c.args.place (GroupOf c.args.place) wires.StartGroup c.args.wire_type c.args.levels _ c.args.bytes.now c.requires.field refl (λ v. refl) refl c.in_err-check_nested.ensures.fault)
+
+pub merge_group-merge_group_into-requires : goal.merge_group-merge_group_into-requires
+merge_group-merge_group_into-requires t c =
+    let lent = lent_message c.args.self.now c.args.number.value c.args.place (GroupOf c.args.place) c.in_ok-default.default c.in_ok-value.value.now c.requires.sound c.requires.field refl
+    (c.in_ok-default.ensures ∙ ap (λ d. MessageValue (empty (schema_at d) c.args.place)) c.descriptor.ensures) (rw c.get.ensures.value at c.in_ok-value.ensures.value) in
+    (search rules, held_message c.args.self.now c.args.number.value c.args.place c.in_ok-value.value.now (covered_inside (descriptor_of c.args.self.now) c.args.number.value c.args.place (GroupOf c.args.place) c.requires.plain c.requires.field refl) lent)
+
+pub merge_group-returns-clause-fault : goal.merge_group-returns-clause-fault
+merge_group-returns-clause-fault t c =
+    let lent = lent_message c.args.self.now c.args.number.value c.args.place (GroupOf c.args.place) c.in_ok-default.default c.in_ok-value.value.now c.requires.sound c.requires.field refl
+    (c.in_ok-default.ensures ∙ ap (λ d. MessageValue (empty (schema_at d) c.args.place)) c.descriptor.ensures) (rw c.get.ensures.value at c.in_ok-value.ensures.value) in
+    IfErr-weaker c.merge_group_into.result _ _
+    (λ e f ne. group_refused_in c.args.self.now c.args.number.value c.args.place c.args.levels c.in_ok-value.value.now c.in_ok-check_nested.ensures.levels c.requires.sound (covered_inside (descriptor_of c.args.self.now) c.args.number.value c.args.place (GroupOf c.args.place) c.requires.plain c.requires.field refl) lent e c.args.wire_type c.args.bytes.now c.requires.field c.in_ok-check_nested.ensures.wire (f ne))
+    c.merge_group_into.ensures.fault
+
+pub merge_group-returns-clause-ok : goal.merge_group-returns-clause-ok
+merge_group-returns-clause-ok t c =
+    let lent = lent_message c.args.self.now c.args.number.value c.args.place (GroupOf c.args.place) c.in_ok-default.default c.in_ok-value.value.now c.requires.sound c.requires.field refl
+    (c.in_ok-default.ensures ∙ ap (λ d. MessageValue (empty (schema_at d) c.args.place)) c.descriptor.ensures) (rw c.get.ensures.value at c.in_ok-value.ensures.value) in
+    IfOk-weaker c.merge_group_into.result _ _
+    (λ rest r. group_read_in c.args.self.now c.args.number.value c.args.place c.args.levels c.in_ok-value.value.now c.in_ok-check_nested.ensures.levels c.requires.sound (covered_inside (descriptor_of c.args.self.now) c.args.number.value c.args.place (GroupOf c.args.place) c.requires.plain c.requires.field refl) lent
+    (written_at c.args.self.now c.get.result c.in_ok-default.default c.merge_group_into.new.value) (value_of c.merge_group_into.new.value) c.args.wire_type c.args.bytes.now rest.now c.requires.field c.in_ok-check_nested.ensures.wire r
+    (c.in_ok-value.ensures.content c.merge_group_into.new.value ∙ ap (λ n. value_set n (value_of c.merge_group_into.new.value) (content_of c.args.self.now)) c.get.ensures.value))
+    c.merge_group_into.ensures.ok
+
+pub merge_into-returns-clause-ok : goal.merge_into-returns-clause-ok
+merge_into-returns-clause-ok t c =
+    IfOk-weaker c.merge_records.result _ _ (λ u done. record { before = c.in-Some.message.now; after = c.merge_records.new.self; was = sym c.in-Some.ensures.value; is = value_of_message c.merge_records.new.self; progress = done }) c.merge_records.ensures.ok
+
+pub merge_into-returns-clause-fault : goal.merge_into-returns-clause-fault
+merge_into-returns-clause-fault t c = IfErr-weaker c.merge_records.result _ _ (λ e f ne. record { before = c.in-Some.message.now; was = sym c.in-Some.ensures.value; stands = f ne }) c.merge_records.ensures.fault
+
+pub merge_group_into-returns-clause-ok : goal.merge_group_into-returns-clause-ok
+merge_group_into-returns-clause-ok t c =
+    IfOk-weaker c.merge_to_end.result _ _ (λ rest done. record { before = c.in-Some.message.now; after = c.merge_to_end.new.self; was = sym c.in-Some.ensures.value; is = value_of_message c.merge_to_end.new.self; progress = done }) c.merge_to_end.ensures.ok
+
+pub merge_group_into-returns-clause-fault : goal.merge_group_into-returns-clause-fault
+merge_group_into-returns-clause-fault t c = IfErr-weaker c.merge_to_end.result _ _ (λ e f ne. record { before = c.in-Some.message.now; was = sym c.in-Some.ensures.value; stands = f ne }) c.merge_to_end.ensures.fault
+
+pub merge_message_element-returns-in_err-check_nested-clause-fault : goal.merge_message_element-returns-in_err-check_nested-clause-fault
+merge_message_element-returns-in_err-check_nested-clause-fault t c = let p = err_from_is_err_and c.from_residual.result c.from_residual.ensures.1 in
+    rw (p.1, p.2) (λ ne. found_refused c.args.self.now c.args.number.value c.args.place (MessageOf c.args.place) wires.LengthDelimited c.args.wire_type c.args.levels _ c.args.bytes.now
+    (found_element c.args.self.now c.args.number.value c.args.place (MessageOf c.args.place) c.requires.field refl) (λ v. refl) refl c.in_err-check_nested.ensures.fault)
+
+pub merge_message_element-returns-in_err-body-clause-fault : goal.merge_message_element-returns-in_err-body-clause-fault
+merge_message_element-returns-in_err-body-clause-fault t c = let p = err_from_is_err_and c.from_residual-in_err-body.result c.from_residual-in_err-body.ensures.1 in
+    rw (p.1, p.2, c.in_ok-check_nested.ensures.wire) (λ ne. nested_plain (content_of c.args.self.now) c.args.number.value c.args.place (MessageOf c.args.place)
+    (found_element c.args.self.now c.args.number.value c.args.place (MessageOf c.args.place) c.requires.field refl) c.args.levels wires.LengthDelimited _ c.args.bytes.now c.in_err-body.ensures.fault)
+
+pub merge_message_element-merge_records-requires : goal.merge_message_element-merge_records-requires
+merge_message_element-merge_records-requires t c =
+    let fresh = empty_element c.args.self.now c.in_ok-element.element c.args.number.value c.args.place (MessageOf c.args.place) c.requires.plain c.requires.field refl
+    (c.in_ok-element.ensures ∙ ap (λ d. empty (schema_at d) c.args.place) c.descriptor.ensures) in
+    (search rules, (fresh.plain, fresh.sound))
+
+pub merge_message_element-returns-in_err-merge_records-clause-fault : goal.merge_message_element-returns-in_err-merge_records-clause-fault
+merge_message_element-returns-in_err-merge_records-clause-fault t c =
+    let fresh = empty_element c.args.self.now c.in_ok-element.element c.args.number.value c.args.place (MessageOf c.args.place) c.requires.plain c.requires.field refl
+    (c.in_ok-element.ensures ∙ ap (λ d. empty (schema_at d) c.args.place) c.descriptor.ensures) in
+    let p = err_from_is_err_and c.from_residual-in_err-merge_records.result c.from_residual-in_err-merge_records.ensures.1 in
+    rw (p.1, p.2, c.in_ok-check_nested.ensures.wire) (λ ne. inside_refused c.args.self.now c.in_ok-element.element c.args.number.value c.args.place fresh.schema_is fresh.type_is c.args.levels c.in_ok-check_nested.ensures.levels _
+    c.in_ok-body.body.now c.args.bytes.now c.in_ok-body.rest.now (found_element c.args.self.now c.args.number.value c.args.place (MessageOf c.args.place) c.requires.field refl) c.in_ok-body.ensures.ok (c.in_err-merge_records.ensures.fault ne))
+
+pub merge_message_element-push_element-requires-clause-list : goal.merge_message_element-push_element-requires-clause-list
+merge_message_element-push_element-requires-clause-list t c = rw c.get.ensures.value (list_or_none c.args.self.now c.args.number.value c.args.place (MessageOf c.args.place) c.requires.field refl c.requires.sound)
+
+pub merge_message_element-returns-clause-ok : goal.merge_message_element-returns-clause-ok
+merge_message_element-returns-clause-ok t c =
+    let fresh = empty_element c.args.self.now c.in_ok-element.element c.args.number.value c.args.place (MessageOf c.args.place) c.requires.plain c.requires.field refl
+    (c.in_ok-element.ensures ∙ ap (λ d. empty (schema_at d) c.args.place) c.descriptor.ensures) in
+    rw (c.in_ok-check_nested.ensures.wire, sym (one_less c.args.levels c.in_ok-check_nested.ensures.levels))
+    (element_step c.args.self.now c.in_ok-element.element c.merge_records.new.self c.push_element.new.self c.args.number.value c.args.place (c.args.levels - 1) c.requires.sound fresh
+    (c.in_ok-push_element.ensures.content ∙ ap (λ n. value_set n (with_element (value_at n (entries_of (content_of c.args.self.now))) (MessageValue (content_of c.merge_records.new.self))) (content_of c.args.self.now)) c.get.ensures.value)
+    c.args.bytes.now c.in_ok-body.body.now c.in_ok-body.rest.now c.requires.field c.in_ok-body.ensures.ok c.in_ok-merge_records.ensures.ok)
+
+pub merge_group_element-returns-in_err-check_nested-clause-fault : goal.merge_group_element-returns-in_err-check_nested-clause-fault
+merge_group_element-returns-in_err-check_nested-clause-fault t c = let p = err_from_is_err_and c.from_residual.result c.from_residual.ensures.1 in
+    rw (p.1, p.2) (λ ne. found_refused c.args.self.now c.args.number.value c.args.place (GroupOf c.args.place) wires.StartGroup c.args.wire_type c.args.levels _ c.args.bytes.now
+    (found_element c.args.self.now c.args.number.value c.args.place (GroupOf c.args.place) c.requires.field refl) (λ v. refl) refl c.in_err-check_nested.ensures.fault)
+
+pub merge_group_element-merge_to_end-requires : goal.merge_group_element-merge_to_end-requires
+merge_group_element-merge_to_end-requires t c =
+    let fresh = empty_element c.args.self.now c.in_ok-element.element c.args.number.value c.args.place (GroupOf c.args.place) c.requires.plain c.requires.field refl
+    (c.in_ok-element.ensures ∙ ap (λ d. empty (schema_at d) c.args.place) c.descriptor.ensures) in
+    (search rules, (fresh.plain, fresh.sound))
+
+pub merge_group_element-returns-in_err-rest-clause-fault : goal.merge_group_element-returns-in_err-rest-clause-fault
+merge_group_element-returns-in_err-rest-clause-fault t c =
+    let fresh = empty_element c.args.self.now c.in_ok-element.element c.args.number.value c.args.place (GroupOf c.args.place) c.requires.plain c.requires.field refl
+    (c.in_ok-element.ensures ∙ ap (λ d. empty (schema_at d) c.args.place) c.descriptor.ensures) in
+    let p = err_from_is_err_and c.from_residual-in_err-rest.result c.from_residual-in_err-rest.ensures.1 in
+    rw (p.1, p.2, c.in_ok-check_nested.ensures.wire) (λ ne. in_group_refused c.args.self.now c.in_ok-element.element c.args.number.value c.args.place fresh.schema_is fresh.type_is c.args.levels c.in_ok-check_nested.ensures.levels _
+    c.args.bytes.now (found_element c.args.self.now c.args.number.value c.args.place (GroupOf c.args.place) c.requires.field refl) (c.in_err-rest.ensures.fault ne))
+
+pub merge_group_element-push_element-requires-clause-list : goal.merge_group_element-push_element-requires-clause-list
+merge_group_element-push_element-requires-clause-list t c = rw c.get.ensures.value (list_or_none c.args.self.now c.args.number.value c.args.place (GroupOf c.args.place) c.requires.field refl c.requires.sound)
+
+pub merge_group_element-returns-clause-ok : goal.merge_group_element-returns-clause-ok
+merge_group_element-returns-clause-ok t c =
+    let fresh = empty_element c.args.self.now c.in_ok-element.element c.args.number.value c.args.place (GroupOf c.args.place) c.requires.plain c.requires.field refl
+    (c.in_ok-element.ensures ∙ ap (λ d. empty (schema_at d) c.args.place) c.descriptor.ensures) in
+    rw (c.in_ok-check_nested.ensures.wire, sym (one_less c.args.levels c.in_ok-check_nested.ensures.levels))
+    (group_element_step c.args.self.now c.in_ok-element.element c.merge_to_end.new.self c.push_element.new.self c.args.number.value c.args.place (c.args.levels - 1) c.requires.sound fresh
+    (c.in_ok-push_element.ensures.content ∙ ap (λ n. value_set n (with_element (value_at n (entries_of (content_of c.args.self.now))) (MessageValue (content_of c.merge_to_end.new.self))) (content_of c.args.self.now)) c.get.ensures.value)
+    c.args.bytes.now c.in_ok-rest.rest.now c.requires.field c.in_ok-rest.ensures.ok)

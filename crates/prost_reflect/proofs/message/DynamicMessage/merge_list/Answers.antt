@@ -1,0 +1,21 @@
+use Rattle.std.proofs.Common.{ap, map, ◌∙◌}
+use Rattle.std.proofs.lemmas.Result.{IfOk-weaker, IfErr-weaker}
+use Rattle.prost_reflect_wire.specs.Content.{ListValue, values_from}
+use Rattle.prost_reflect_wire.proofs.ByteLists.{bytes_below}
+use Rattle.prost_reflect.specs.View.{value_of, content_of}
+use Rattle.prost_reflect.specs.Contents.{value_set}
+use Rattle.prost_reflect.proofs.Views.{value_of_list}
+use Rattle.prost_reflect.proofs.ListMerging.{lent_list, elements_set, elements_fault}
+use Rattle.prost_reflect.proofs.message.DynamicMessage.merge_list.Goals as goal
+
+pub join_elements-requires-clause-list : goal.join_elements-requires-clause-list
+join_elements-requires-clause-list c = lent_list c.args.self.now _ c.args.kind c.requires.field _ _ c.requires.sound (value_of_list c.new.result ∙ ap (λ l. ListValue (values_from (map value_of l))) c.new.ensures.items) (rw c.get.ensures.value at c.in_ok-value.ensures.value)
+
+pub returns-clause-ok : goal.returns-clause-ok
+returns-clause-ok c = IfOk-weaker c.join_elements.result _ _
+    (λ rest j. elements_set c.args.self.now _ c.args.kind c.requires.field _ c.args.levels c.args.wire_type _ _ _ _ _ c.requires.sound (bytes_below _ c.type_inv.bytes)
+    (value_of_list c.new.result ∙ ap (λ l. ListValue (values_from (map value_of l))) c.new.ensures.items) (rw c.get.ensures.value at c.in_ok-value.ensures.value) j (c.in_ok-value.ensures.content c.join_elements.new.value ∙ ap (λ k. value_set k (value_of c.join_elements.new.value) (content_of c.args.self.now)) c.get.ensures.value))
+    c.join_elements.ensures.ok
+
+pub returns-clause-fault : goal.returns-clause-fault
+returns-clause-fault c = IfErr-weaker c.join_elements.result _ _ (λ e h ne. elements_fault c.args.self.now _ c.args.kind c.requires.field c.args.levels c.args.wire_type e _ (h ne)) c.join_elements.ensures.fault

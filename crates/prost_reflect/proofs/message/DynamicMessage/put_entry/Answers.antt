@@ -1,0 +1,12 @@
+use Rattle.std.proofs.Common.{ap, sym, ◌∙◌}
+use Rattle.prost_reflect.specs.Contents.{value_set}
+use Rattle.prost_reflect.specs.View.{content_of}
+use Rattle.prost_reflect.specs.declared.value.Value as values
+use Rattle.prost_reflect.proofs.MapEntries.{map_after, empty_map}
+use Rattle.prost_reflect.proofs.message.DynamicMessage.put_entry.Goals as goal
+
+pub returns-clause-content : goal.returns-clause-content
+returns-clause-content c =
+    c.in_ok-map.ensures.content (values.Map c.insert.new.self)
+    ∙ ap (λ v. value_set c.args.number v (content_of c.args.self.now))
+    (map_after _ c.in_ok-map.map.now (values.Map c.new.result) _ c.insert.new.self c.args.key c.args.value c.requires.mapped (empty_map c.new.result c.new.ensures.empty) c.in_ok-map.ensures.value (sym c.in-Some.ensures.value) c.in_ok-insert-in-Some.ensures.entries)

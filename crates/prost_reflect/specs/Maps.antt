@@ -1,0 +1,95 @@
+-- Maps of plain scalars: what is read of an entry, which numbers are those of such a map, and what is written of it.
+use Rattle.std.specs.Prelude.{◌≡◌, ℕ, true, false, not, ◌&&◌, if◌then◌else◌, List, [], ◌∷◌, ◌++◌, Some, IsSomeAnd}
+use Rattle.std.specs.List.{AllByRecursion}
+use Rattle.prost_reflect_wire.specs.declared.key.WireType.TheVariants as wires
+use Rattle.prost_reflect_wire.specs.declared.error.DecodeError.{DecodeError}
+use Rattle.prost_reflect_wire.specs.Record.{Payload, Len, short_key, short_plain}
+use Rattle.prost_reflect_wire.specs.Scalar.{Scalar, ScalarKind, kind_default, is_undeclared}
+use Rattle.prost_reflect_wire.specs.Schema.{ScalarOf, ValueType, MapFrom, Field, field_of}
+use Rattle.prost_reflect_wire.specs.Content as content
+use Rattle.prost_reflect_wire.specs.Content.{ScalarValue, MapValue}
+use Rattle.prost_reflect_wire.specs.EntryReading.{ScalarEntryTo, StandsInEntry}
+use Rattle.prost_reflect_tables.specs.declared.tables.TableKind.{TableKind}
+use Rattle.prost_reflect_tables.specs.Rows.{FieldRow, EnumRow}
+use Rattle.prost_reflect_tables.specs.Shown.{schema_field}
+use Rattle.prost_reflect.specs.declared.value.MapKey.{MapKey}
+use Rattle.prost_reflect.specs.declared.value.Value.{Value}
+use Rattle.prost_reflect.specs.declared.descriptor.message.MessageDescriptor.{MessageDescriptor}
+use Rattle.prost_reflect.specs.Pools.{pool_rows}
+use Rattle.prost_reflect.specs.Known.{known_of}
+use Rattle.prost_reflect.specs.MapParts.{map_parts}
+use Rattle.prost_reflect.specs.Covered.{is_plain_kind}
+use Rattle.prost_reflect.specs.Scalars.{plain_kind, TakesScalar, scalar_record_bytes, kept_scalar_bytes, is_zero}
+use Rattle.prost_reflect.specs.View.{key_of, value_of}
+
+-- The number is that of a map of plain scalars, whose keys and values the tables call by these kinds; no value is a stray.
+pub record PlainMap (fields : List Field) (n : ℕ) (key value_kind : TableKind) : Type 0 where
+  pub field : Field
+  pub key_type : ValueType
+  pub key_scalar : ScalarKind
+  pub value_scalar : ScalarKind
+  pub found : field_of fields n ≡ Some field
+  pub form : field.form ≡ MapFrom key_type
+  pub key_plain : plain_kind key ≡ Some key_scalar
+  pub key_is : key_type.kind ≡ ScalarOf key_scalar
+  pub value_plain : plain_kind value_kind ≡ Some value_scalar
+  pub value_is : field.value_type.kind ≡ ScalarOf value_scalar
+  pub whole : (p : Payload) → is_undeclared value_scalar p ≡ false
+
+-- The value is zero, false or empty, by the plain kind.
+abbrev pub IsDefaultOf : TableKind → Value → Type 0
+IsDefaultOf kind v = IsSomeAnd (plain_kind kind) (λ k. value_of v ≡ ScalarValue (kind_default k))
+
+-- The bytes before the rest are records of an entry, which have this key and this value.
+pub record ReadsEntry (levels : ℕ) (key value_kind : TableKind) (k v : Value) (bytes rest : List ℕ) : Type 0 where
+  pub key_scalar : ScalarKind
+  pub value_scalar : ScalarKind
+  pub key_read : Scalar
+  pub value_read : Scalar
+  pub key_plain : plain_kind key ≡ Some key_scalar
+  pub value_plain : plain_kind value_kind ≡ Some value_scalar
+  pub key_is : value_of k ≡ ScalarValue key_read
+  pub value_is : value_of v ≡ ScalarValue value_read
+  pub read : ScalarEntryTo levels key_scalar value_scalar key_read value_read bytes rest
+
+-- Why the bytes are no such entry.
+pub record RefusesEntry (levels : ℕ) (key value_kind : TableKind) (e : DecodeError) (bytes : List ℕ) : Type 0 where
+  pub key_scalar : ScalarKind
+  pub value_scalar : ScalarKind
+  pub key_plain : plain_kind key ≡ Some key_scalar
+  pub value_plain : plain_kind value_kind ≡ Some value_scalar
+  pub fault : StandsInEntry levels key_scalar value_scalar e bytes
+
+-- WRITING
+
+-- The keys and the values are scalars of the kinds.
+abbrev pub TakesPairs : TableKind → TableKind → List (MapKey × Value) → Type 0
+TakesPairs key value_kind es = AllByRecursion (λ e. TakesScalar key (ScalarValue (key_of e.0)) × TakesScalar value_kind (value_of e.1)) es
+
+-- What an entry writes of its key, by the key's row; nothing of zero, false or an empty text without presence.
+abbrev pub key_bytes : FieldRow → content.Value → List ℕ
+key_bytes row v = if not row.supports_presence && is_zero v then [] else scalar_record_bytes 1 (plain_kind row.kind) v
+
+-- What it writes of its key and its value.
+abbrev pub parts_bytes : List EnumRow → FieldRow → FieldRow → Scalar → content.Value → List ℕ
+parts_bytes enums key value_row k v = key_bytes key (ScalarValue k) ++ kept_scalar_bytes 2 enums value_row v
+
+-- The record of an entry.
+abbrev pub entry_bytes : ℕ → List EnumRow → FieldRow → FieldRow → Scalar → content.Value → List ℕ
+entry_bytes n enums key value_row k v = short_key n wires.LengthDelimited ++ short_plain (Len (parts_bytes enums key value_row k v))
+
+-- The records of entries, one behind another.
+abbrev pub pairs_bytes : ℕ → List EnumRow → FieldRow → FieldRow → List (MapKey × Value) → List ℕ
+pairs_bytes n enums key value_row [] = []
+pairs_bytes n enums key value_row (e ∷ es) = entry_bytes n enums key value_row (key_of e.0) (value_of e.1) ++ pairs_bytes n enums key value_row es
+
+abbrev pub IsMap : content.Value → Type 0
+IsMap (MapValue ps) = Unit {0}
+IsMap v = ⊥
+
+-- The number is that of a map of plain scalars, whose keys and values have these rows.
+pub record MapOfRows (d : MessageDescriptor) (n : ℕ) (key value_row : FieldRow) : Type 0 where
+  pub row : FieldRow
+  pub found : Some (schema_field (pool_rows d.pool) row) ≡ field_of (known_of d) n
+  pub parts : map_parts (pool_rows d.pool) row ≡ Some (key, value_row)
+  pub plain : is_plain_kind value_row.kind ≡ true

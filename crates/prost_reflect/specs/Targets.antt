@@ -1,0 +1,70 @@
+-- What the record behind a key is read as.
+use Rattle.std.specs.Prelude.{◌≡◌, ◌≢◌, ℕ, ◌<◌, Bool, true, false, length, Option, Some, None}
+use Rattle.prost_reflect_wire.specs.declared.key.WireType.{WireType}
+use Rattle.prost_reflect_wire.specs.declared.key.WireType.TheVariants as wires
+use Rattle.prost_reflect_wire.specs.declared.error.DecodeError.{DecodeError}
+use Rattle.prost_reflect_wire.specs.declared.error.DecodeError.TheVariants as errors
+use Rattle.prost_reflect_wire.specs.Schema.{Kind, MessageOf, GroupOf, Singular, Repeated, Field, field_of}
+use Rattle.prost_reflect_wire.specs.Fault.{same_wire}
+use Rattle.prost_reflect.specs.Pools.{pool_rows}
+use Rattle.prost_reflect.specs.Known.{known_of}
+use Rattle.prost_reflect_tables.specs.declared.tables.TableKind.{TableKind}
+use Rattle.prost_reflect_tables.specs.declared.tables.TableKind.TheVariants as kinds
+use Rattle.prost_reflect_tables.specs.Rows.{FieldRow}
+use Rattle.prost_reflect.specs.Scalars.{PlainField}
+use Rattle.prost_reflect.specs.Lists.{ListField}
+use Rattle.prost_reflect.specs.Maps.{PlainMap}
+use Rattle.prost_reflect.specs.declared.descriptor.message.MessageDescriptor.{MessageDescriptor}
+use Rattle.prost_reflect.specs.declared.message.decode.Target.{Target}
+use Rattle.prost_reflect.specs.declared.message.decode.Target.TheVariants.{Unknown, Scalar, List as ListOf, Map as MapOf, Message, Group, MessageElement, GroupElement}
+
+-- The number is that of a field of one message; the message type stands at the place.
+pub record NestedField (d : MessageDescriptor) (n T : ℕ) (kind : Kind) : Type 0 where
+  pub field : Field
+  pub found : field_of (known_of d) n ≡ Some field
+  pub form : field.form ≡ Singular
+  pub kind_is : field.value_type.kind ≡ kind
+  pub in_range : T < length (pool_rows d.pool).messages
+
+-- Likewise of a list of messages.
+pub record NestedList (d : MessageDescriptor) (n T : ℕ) (kind : Kind) : Type 0 where
+  pub field : Field
+  pub packed : Bool
+  pub found : field_of (known_of d) n ≡ Some field
+  pub form : field.form ≡ Repeated packed
+  pub kind_is : field.value_type.kind ≡ kind
+  pub in_range : T < length (pool_rows d.pool).messages
+
+-- A record of a field of one value is read as its kind says.
+abbrev pub target_of : TableKind → Bool → Target
+target_of (kinds.Message T) true = Group T
+target_of (kinds.Message T) false = Message T
+target_of kind g = Scalar kind
+
+-- A record of a list is read as an element of its kind, or as packed ones.
+abbrev pub element_target_of : TableKind → Bool → Target
+element_target_of (kinds.Message T) true = GroupElement T
+element_target_of (kinds.Message T) false = MessageElement T
+element_target_of kind g = ListOf kind
+
+-- One of a repeated field as an entry of its map, or as one of a list.
+abbrev pub repeated_target_of : Option (FieldRow × FieldRow) → TableKind → Bool → Target
+repeated_target_of (Some parts) kind g = MapOf parts.0.kind parts.1.kind
+repeated_target_of None kind g = element_target_of kind g
+
+abbrev pub IsTarget : MessageDescriptor → ℕ → Target → Type 0
+IsTarget d n Unknown = field_of (known_of d) n ≡ None
+IsTarget d n (Scalar kind) = PlainField d n kind
+IsTarget d n (ListOf kind) = ListField (known_of d) n kind
+IsTarget d n (MapOf key kind) = PlainMap (known_of d) n key kind
+IsTarget d n (Message T) = NestedField d n T (MessageOf T)
+IsTarget d n (Group T) = NestedField d n T (GroupOf T)
+IsTarget d n (MessageElement T) = NestedList d n T (MessageOf T)
+IsTarget d n (GroupElement T) = NestedList d n T (GroupOf T)
+
+-- Why no message is read where this wire type is wanted: an end key, another wire type, or no level is left.
+abbrev pub NestedFault : WireType → WireType → ℕ → DecodeError → Type 0
+NestedFault wanted w levels errors.EndGroup = w ≡ wires.EndGroup
+NestedFault wanted w levels errors.WireType = (w ≢ wires.EndGroup) × (same_wire w wanted ≡ false)
+NestedFault wanted w levels errors.Depth = (w ≡ wanted) × (levels ≡ 0)
+NestedFault wanted w levels e = ⊥

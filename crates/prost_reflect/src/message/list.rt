@@ -1,0 +1,206 @@
+//! Lists of scalars (the encoding guide, "Repeated Elements" and "Packed Repeated Fields").
+
+ghost use Rattle.std.specs.Prelude.{◌≡◌, ◌≢◌, ◌++◌, true, Some, IsSome, IsSomeAnd, IfOk, IfErr};
+ghost use Rattle.prost_reflect_wire.specs.declared.key.WireType.TheVariants as wires;
+ghost use Rattle.prost_reflect_wire.specs.Varint.{short};
+ghost use Rattle.prost_reflect_wire.specs.Record.{short_key};
+ghost use Rattle.prost_reflect_wire.specs.Buffer.{bytes_of, Prepended};
+ghost use Rattle.prost_reflect_tables.specs.Rows.{field_row};
+ghost use Rattle.prost_reflect_wire.specs.Schema.{is_packable};
+ghost use Rattle.prost_reflect_wire.specs.Content.{schema_of, type_of};
+ghost use Rattle.prost_reflect_wire.specs.Typing.{WellStored};
+ghost use Rattle.prost_reflect_wire.specs.Decoding.{Step, StandsBehindKey};
+ghost use Rattle.prost_reflect.specs.Known.{known_of};
+ghost use Rattle.prost_reflect.specs.Lists.{AddsPacked, RefusesPacked, AddsElements, RefusesElements, JoinsElements, IsList, ListField, TakesScalars, payloads_bytes, records_bytes, packed_bytes, list_bytes};
+ghost use Rattle.prost_reflect.specs.Scalars.{plain_kind};
+ghost use Rattle.prost_reflect.specs.View.{value_of, content_of, descriptor_of};
+
+use crate::message::DynamicMessage;
+use crate::message::encode::{prepend_key, prepend_scalar, prepend_scalar_record};
+use crate::message::scalar::{scalar_at, wire_type_of};
+use crate::value::Value;
+use prost_reflect_tables::{FieldTable, TableKind};
+use prost_reflect_wire::{
+    BackBuffer, DecodeError, EncodeError, FieldNumber, WireType, delimited_at,
+};
+use std::alloc::Global;
+use std::mem;
+
+/// Whether a list of the kind takes packed records: of all kinds but string and bytes.
+pub(crate) fn is_packable(kind: TableKind) -> bool
+    requires { IsSome (plain_kind kind) }
+    ensures { IsSomeAnd (plain_kind kind) (λ k. is_packable k ≡ result) }
+{
+    !matches!(kind, TableKind::String | TableKind::Bytes)
+}
+
+/// Adds the elements of a packed record's body, which stand end to end.
+///
+/// # Errors
+///
+/// `Truncated` and `Varint` as an element's reader, `OutOfMemory` if a growth is refused; then some may have been added.
+fn push_packed(
+    alloc: Global,
+    values: &mut Vec<Value>,
+    kind: TableKind,
+    body: &[u8],
+) -> Result<(), DecodeError>
+    requires { IsSomeAnd (plain_kind kind) (λ k. is_packable k ≡ true) }
+    ensures ok { IfOk result (λ _. AddsPacked kind values.old.items values.new.items body.now) }
+    ensures fault { IfErr result (λ e. e ≢ DecodeError.OutOfMemory → RefusesPacked kind e body.now) }
+{
+    let wire_type = wire_type_of(kind);
+    let mut rest = body;
+    while !rest.is_empty() {
+        let (element, after) = scalar_at(alloc, kind, wire_type, rest)?;
+        values.push(element)?;
+        rest = after;
+    }
+    Ok(())
+}
+
+/// Adds the elements of a list's record behind its key, and gives the bytes behind them. A packed record and a single one are taken alike.
+///
+/// # Errors
+///
+/// As `scalar_at` and `push_packed`; on a refusal some may have been added.
+fn push_elements<'a>(
+    alloc: Global,
+    values: &mut Vec<Value>,
+    kind: TableKind,
+    wire_type: WireType,
+    bytes: &'a [u8],
+) -> Result<&'a [u8], DecodeError>
+    requires { IsSome (plain_kind kind) }
+    ensures ok { IfOk result (λ rest. AddsElements kind wire_type values.old.items values.new.items bytes.now rest.now) }
+    ensures fault { IfErr result (λ e. e ≢ DecodeError.OutOfMemory → RefusesElements kind wire_type e bytes.now) }
+{
+    if wire_type == WireType::LengthDelimited && is_packable(kind) {
+        let (body, rest) = delimited_at(bytes)?;
+        push_packed(alloc, values, kind, body)?;
+        return Ok(rest);
+    }
+    let (value, rest) = scalar_at(alloc, kind, wire_type, bytes)?;
+    values.push(value)?;
+    Ok(rest)
+}
+
+/// The same for a value that is a list.
+fn join_elements<'a>(
+    alloc: Global,
+    value: &mut Value,
+    kind: TableKind,
+    wire_type: WireType,
+    bytes: &'a [u8],
+) -> Result<&'a [u8], DecodeError>
+    requires scalar { IsSome (plain_kind kind) }
+    requires list { IsList (value_of value.old) }
+    ensures ok { IfOk result (λ rest. JoinsElements kind wire_type (value_of value.old) (value_of value.new) bytes.now rest.now) }
+    ensures fault { IfErr result (λ e. e ≢ DecodeError.OutOfMemory → RefusesElements kind wire_type e bytes.now) }
+{
+    match mem::replace(value, Value::Bool(false)) {
+        Value::List(mut values) => {
+            let result = push_elements(alloc, &mut values, kind, wire_type, bytes);
+            *value = Value::List(values);
+            result
+        }
+        _ => unreachable!(),
+    }
+}
+
+impl DynamicMessage {
+    /// Reads a record of a list behind its field's key: its elements go behind those that are there.
+    pub(crate) fn merge_list<'a>(
+        &mut self,
+        alloc: Global,
+        number: FieldNumber,
+        kind: TableKind,
+        wire_type: WireType,
+        bytes: &'a [u8],
+        levels: u32,
+    ) -> Result<&'a [u8], DecodeError>
+        requires sound { WellStored (content_of self.old) }
+        requires field { ListField (known_of (descriptor_of self.old)) number.value kind }
+        ensures ok { IfOk result (λ rest. Step levels number.value wire_type (content_of self.old) (content_of self.new) bytes.now rest.now) }
+        ensures descriptor { descriptor_of self.new ≡ descriptor_of self.old }
+        ensures fault { IfErr result (λ e. e ≢ DecodeError.OutOfMemory → StandsBehindKey (content_of self.old) levels number.value wire_type e bytes.now) }
+    {
+        let value = self.value_mut_or(number.get(), Value::List(Vec::new(alloc)))?;
+        join_elements(alloc, value, kind, wire_type, bytes)
+    }
+}
+
+/// Adds the payloads of scalars in front, end to end.
+fn prepend_payloads(
+    buffer: &mut BackBuffer,
+    kind: TableKind,
+    values: &[Value],
+) -> Result<(), EncodeError>
+    requires { TakesScalars kind values.now }
+    ensures { Prepended result (bytes_of buffer.old) (bytes_of buffer.new) (payloads_bytes kind values.now) }
+{
+    for index in (0..values.len()).rev() {
+        prepend_scalar(buffer, kind, &values[index])?;
+    }
+    Ok(())
+}
+
+/// Adds the records of scalars in front, one for each.
+fn prepend_records(
+    buffer: &mut BackBuffer,
+    number: u32,
+    kind: TableKind,
+    values: &[Value],
+) -> Result<(), EncodeError>
+    requires { TakesScalars kind values.now }
+    ensures { Prepended result (bytes_of buffer.old) (bytes_of buffer.new) (records_bytes number kind values.now) }
+{
+    for index in (0..values.len()).rev() {
+        prepend_scalar_record(buffer, number, kind, &values[index])?;
+    }
+    Ok(())
+}
+
+/// Adds the key and the length of a delimited payload in front.
+fn prepend_length(buffer: &mut BackBuffer, number: u32, length: usize) -> Result<(), EncodeError>
+    ensures { Prepended result (bytes_of buffer.old) (bytes_of buffer.new) (short_key number wires.LengthDelimited ++ short length) }
+{
+    buffer.prepend_varint(length as u64)?;
+    prepend_key(buffer, number, WireType::LengthDelimited)
+}
+
+/// Adds one record of all scalars in front.
+fn prepend_packed(
+    buffer: &mut BackBuffer,
+    number: u32,
+    kind: TableKind,
+    values: &[Value],
+) -> Result<(), EncodeError>
+    requires { TakesScalars kind values.now }
+    ensures { Prepended result (bytes_of buffer.old) (bytes_of buffer.new) (packed_bytes number kind values.now) }
+{
+    let behind = buffer.len();
+    prepend_payloads(buffer, kind, values)?;
+    let length = buffer.len() - behind;
+    prepend_length(buffer, number, length)
+}
+
+/// Adds what is written of a list in front: one record where it is packed, else one for each element; nothing of an empty one.
+pub(crate) fn prepend_list(
+    buffer: &mut BackBuffer,
+    number: u32,
+    field: &FieldTable,
+    values: &[Value],
+) -> Result<(), EncodeError>
+    requires { TakesScalars (field_row field.now).kind values.now }
+    ensures { Prepended result (bytes_of buffer.old) (bytes_of buffer.new) (list_bytes number (field_row field.now).is_packed (field_row field.now).kind values.now) }
+{
+    if values.is_empty() {
+        return Ok(());
+    }
+    if field.is_packed {
+        prepend_packed(buffer, number, field.kind, values)
+    } else {
+        prepend_records(buffer, number, field.kind, values)
+    }
+}

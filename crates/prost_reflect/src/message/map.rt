@@ -1,0 +1,164 @@
+//! Map fields (the encoding guide, "Maps").
+
+ghost use Rattle.std.specs.Prelude.{◌≡◌, ◌≢◌, true, [], Some, IsSome, IfOk, IfErr, OnOk};
+ghost use Rattle.prost_reflect_wire.specs.declared.key.WireType.TheVariants as wires;
+ghost use Rattle.prost_reflect_wire.specs.Front.{DelimitedFront};
+ghost use Rattle.prost_reflect_wire.specs.Content.{MapValue, value_at, entries_of};
+ghost use Rattle.prost_reflect_wire.specs.Meaning.{put, pairs_in};
+ghost use Rattle.prost_reflect_wire.specs.Typing.{WellStored};
+ghost use Rattle.prost_reflect_wire.specs.Decoding.{Step, StandsBehindKey};
+ghost use Rattle.prost_reflect_wire.specs.EntryReading.{IsMapped, BodyFault};
+ghost use Rattle.prost_reflect.specs.Contents.{value_set};
+ghost use Rattle.prost_reflect.specs.Known.{known_of, is_known};
+ghost use Rattle.prost_reflect.specs.Maps.{PlainMap, IsDefaultOf, ReadsEntry, RefusesEntry};
+ghost use Rattle.prost_reflect.specs.Scalars.{plain_kind};
+ghost use Rattle.prost_reflect.specs.Variants.{key_in};
+ghost use Rattle.prost_reflect.specs.View.{key_of, value_of, content_of, descriptor_of};
+
+use crate::message::DynamicMessage;
+use crate::message::scalar::scalar_at;
+use crate::value::{MapKey, Value};
+use prost_reflect_tables::TableKind;
+use prost_reflect_wire::{
+    DecodeError, FieldNumber, WireType, decode_key, delimited_at, skip_value,
+};
+use std::alloc::{AllocError, Global};
+use std::collections::BTreeMap;
+
+/// Zero, false or empty, by the scalar kind.
+fn default_of(alloc: Global, kind: TableKind) -> Value
+    requires { IsSome (plain_kind kind) }
+    ensures { IsDefaultOf kind result }
+{
+    match kind {
+        TableKind::Double => Value::F64(0),
+        TableKind::Float => Value::F32(0),
+        TableKind::Int32 | TableKind::Sint32 | TableKind::Sfixed32 => Value::I32(0),
+        TableKind::Enum(_) => Value::EnumNumber(0),
+        TableKind::Int64 | TableKind::Sint64 | TableKind::Sfixed64 => Value::I64(0),
+        TableKind::Uint32 | TableKind::Fixed32 => Value::U32(0),
+        TableKind::Uint64 | TableKind::Fixed64 => Value::U64(0),
+        TableKind::Bool => Value::Bool(false),
+        TableKind::String => Value::String(String::new(alloc)),
+        TableKind::Bytes => Value::Bytes(Vec::new(alloc)),
+        TableKind::Message(_) => unreachable!(),
+    }
+}
+
+/// Reads the body of a map's entry whose key and value are of these scalar kinds: the last record of number 1 is the key
+/// and that of number 2 the value, each of which has the kind's default where there is none; others are passed over.
+///
+/// # Errors
+///
+/// `Truncated`, `Varint`, `Key`, `WireType`, `EndGroup`, `Utf8` or `Depth` where that fault stands in the body,
+/// `OutOfMemory` if a growth is refused.
+fn entry_at(
+    alloc: Global,
+    key_kind: TableKind,
+    value_kind: TableKind,
+    body: &[u8],
+    levels: u32,
+) -> Result<(Value, Value), DecodeError>
+    requires key { IsSome (plain_kind key_kind) }
+    requires value { IsSome (plain_kind value_kind) }
+    ensures ok { IfOk result (λ entry. ReadsEntry levels key_kind value_kind entry.0 entry.1 body.now []) }
+    ensures fault { IfErr result (λ e. e ≢ DecodeError.OutOfMemory → RefusesEntry levels key_kind value_kind e body.now) }
+{
+    let mut key = default_of(alloc, key_kind);
+    let mut value = default_of(alloc, value_kind);
+    let mut rest = body;
+    while !rest.is_empty() {
+        let (number, wire_type, after) = decode_key(rest)?;
+        if number.get() == 1 {
+            let (read, end) = scalar_at(alloc, key_kind, wire_type, after)?;
+            key = read;
+            rest = end;
+        } else if number.get() == 2 {
+            let (read, end) = scalar_at(alloc, value_kind, wire_type, after)?;
+            value = read;
+            rest = end;
+        } else {
+            rest = skip_value(number, wire_type, after, levels)?;
+        }
+    }
+    Ok((key, value))
+}
+
+/// The body of an entry behind a map field's key, and the bytes behind it.
+///
+/// # Errors
+///
+/// `EndGroup` at an end key, `WireType` if the record is not delimited, `Truncated` and `Varint` as `delimited_at`.
+fn entry_body(wire_type: WireType, bytes: &[u8]) -> Result<(&[u8], &[u8]), DecodeError>
+    ensures ok { IfOk result (λ x. (wire_type ≡ wires.LengthDelimited) × DelimitedFront x.0.now bytes.now x.1.now) }
+    ensures fault { IfErr result (λ e. BodyFault e wire_type bytes.now) }
+{
+    match wire_type {
+        WireType::LengthDelimited => delimited_at(bytes),
+        WireType::EndGroup => Err(DecodeError::EndGroup),
+        WireType::Varint => Err(DecodeError::WireType),
+        WireType::SixtyFourBit => Err(DecodeError::WireType),
+        WireType::StartGroup => Err(DecodeError::WireType),
+        WireType::ThirtyTwoBit => Err(DecodeError::WireType),
+    }
+}
+
+/// The value of a key kind as a key.
+fn map_key(value: Value) -> MapKey
+    requires { IsSome (key_in (value_of value)) }
+    ensures { key_in (value_of value) ≡ Some (key_of result) }
+{
+    match value.into_map_key() {
+        Some(key) => key,
+        None => unreachable!(),
+    }
+}
+
+impl DynamicMessage {
+    /// Reads an entry behind the key of a map field, and puts it into the map. A refusal may leave an empty map where
+    /// there was none.
+    pub(crate) fn merge_map<'a>(
+        &mut self,
+        alloc: Global,
+        number: FieldNumber,
+        kinds: (TableKind, TableKind),
+        wire_type: WireType,
+        bytes: &'a [u8],
+        levels: u32,
+    ) -> Result<&'a [u8], DecodeError>
+        requires sound { WellStored (content_of self.old) }
+        requires field { PlainMap (known_of (descriptor_of self.old)) number.value kinds.0 kinds.1 }
+        ensures ok { IfOk result (λ rest. Step levels number.value wire_type (content_of self.old) (content_of self.new) bytes.now rest.now) }
+        ensures descriptor { descriptor_of self.new ≡ descriptor_of self.old }
+        ensures fault { IfErr result (λ e. e ≢ DecodeError.OutOfMemory → StandsBehindKey (content_of self.old) levels number.value wire_type e bytes.now) }
+    {
+        let (body, rest) = entry_body(wire_type, bytes)?;
+        let (key, value) = entry_at(alloc, kinds.0, kinds.1, body, levels)?;
+        self.put_entry(alloc, number.get(), map_key(key), value)?;
+        Ok(rest)
+    }
+
+    /// Puts an entry into the map at the number of its field, in the place of one whose key is equal. A refused growth
+    /// leaves the map as it was, or empty where there was none.
+    fn put_entry(
+        &mut self,
+        alloc: Global,
+        number: u32,
+        key: MapKey,
+        value: Value,
+    ) -> Result<(), AllocError>
+        requires known { is_known (known_of (descriptor_of self.old)) number ≡ true }
+        requires mapped { IsMapped (value_at number (entries_of (content_of self.old))) }
+        ensures descriptor { descriptor_of self.new ≡ descriptor_of self.old }
+        ensures content { OnOk result (content_of self.new ≡ value_set number (MapValue (put (key_of key) (value_of value) (pairs_in (value_at number (entries_of (content_of self.old)))))) (content_of self.old)) }
+    {
+        let map = self.value_mut_or(number, Value::Map(BTreeMap::new(alloc)))?;
+        match map.as_map_mut() {
+            Some(pairs) => {
+                pairs.insert(key, value)?;
+                Ok(())
+            }
+            None => unreachable!(),
+        }
+    }
+}
