@@ -1,7 +1,6 @@
 -- An entry with a scalar key and a scalar value, read into a content that holds.
 use Rattle.std.proofs.Common.{◌≡◌, ℕ, Bool, true, false, cond, not, ◌||◌, nat_eq, nat_lt, nat_le, List, [], Option, Some, None, refl, ap, ap₂, sym, ◌∙◌, subst}
 use Rattle.std.specs.List.{list_all}
-use Rattle.std.specs.Option.{is_some}
 use Rattle.prost_reflect_wire.specs.declared.key.WireType.TheVariants as wires
 use Rattle.prost_reflect_wire.specs.Varint.{AreBytes}
 use Rattle.prost_reflect_wire.specs.Record.{Len, Record, Payload, Flat, body_of, payload_levels, valid}
@@ -40,13 +39,6 @@ default_is : (value_type : ValueType) (kind : ScalarKind) → value_type.kind �
 default_is value_type kind is h = scalars_equal value_type.default (kind_default kind) (ap (λ kind. elim kind [ ScalarOf kind ↦ scalar_eq value_type.default (kind_default kind) | _ ↦ true ]) (sym is) ∙ h)
 
 -- what else the check of a map says
-pub map_alone : (schema : Schema) (f : Field) (key : ValueType) → field_valid schema f ≡ true → f.form ≡ MapFrom key → f.oneof ≡ None
-map_alone schema f key h form = go f.oneof (checked_map schema f key (checked_field schema f h) form).alone
-  where
-    go : (o : Option ℕ) → not (is_some o) ≡ true → o ≡ None
-    go None e = refl
-    go (Some n) e = cc
-
 pub map_key_default : (schema : Schema) (f : Field) (key : ValueType) (kind : ScalarKind) → field_valid schema f ≡ true → f.form ≡ MapFrom key → key.kind ≡ ScalarOf kind → key.default ≡ kind_default kind
 map_key_default schema f key kind h form is = default_is key kind is (checked_map schema f key (checked_field schema f h) form).key_default
 
