@@ -36,7 +36,7 @@ use Rattle.prost_reflect.proofs.Covering.{covered_further}
 use Rattle.prost_reflect.proofs.Described.{named_in_range}
 use Rattle.prost_reflect.proofs.ListMerging.{list_field}
 use Rattle.prost_reflect.proofs.Merging.{known_in, differ_in}
-use Rattle.prost_reflect.proofs.NestedReads.{FoundIn, schema_in, names_message as names_it}
+use Rattle.prost_reflect.proofs.NestedReads.{FoundIn, schema_in, names_message as names_it, set_in, whole}
 use Rattle.prost_reflect.proofs.PlainKinds.{listed_row, list_kind}
 use Rattle.prost_reflect.proofs.Views.{value_of_list, value_of_message}
 
@@ -136,12 +136,6 @@ empty_element m inner n T kind h at names is =
 
 -- ONE MORE RECORD
 
-element_set_in : (c : Content) (n : ℕ) (f : Field) (v : contents.Value) → field_of (known (schema_of c) (type_of c)) n ≡ Some f → value_set n v c ≡ ContentOf (schema_of c) (type_of c) (with_field_value (known (schema_of c) (type_of c)) f (Some v) (entries_of c))
-element_set_in (ContentOf schema T es) n f v found = ap (λ (o : Option Field). ContentOf schema T (elim o [ None ↦ es | Some f ↦ with_field_value (known schema T) f (Some v) es ])) found
-
-whole : (c : Content) → ContentOf (schema_of c) (type_of c) (entries_of c) ≡ c
-whole (ContentOf schema T es) = refl
-
 module _ (m inner done new : DynamicMessage) (n T k : ℕ) (sound : WellStored (content_of m)) (fresh : EmptyElement m inner T)
     (set : content_of new ≡ value_set n (with_element (value_at n (entries_of (content_of m))) (MessageValue (content_of done))) (content_of m)) where
   pub element_step : (bytes body rest : List ℕ) → NestedList (descriptor_of m) n T (MessageOf T) → DelimitedFront body bytes rest → Progress k (content_of inner) (content_of done) body [] → Step (suc k) n wires.LengthDelimited (content_of m) (content_of new) bytes rest
@@ -152,7 +146,7 @@ module _ (m inner done new : DynamicMessage) (n T k : ℕ) (sound : WellStored (
       let read : Progress k (empty (schema_of (content_of m)) T) (content_of done) body [] = subst (λ c. Progress k c (content_of done) body []) fresh.is progress in
       subst (λ c. Step (suc k) n wires.LengthDelimited c (content_of new) bytes rest) (whole (content_of m))
       (subst (λ d. Step (suc k) n wires.LengthDelimited (ContentOf (schema_of (content_of m)) (type_of (content_of m)) (entries_of (content_of m))) d bytes rest)
-      (sym (set ∙ element_set_in (content_of m) n at.field (with_element (value_at n (entries_of (content_of m))) (MessageValue (content_of done))) found))
+      (sym (set ∙ set_in (content_of m) n at.field (with_element (value_at n (entries_of (content_of m))) (MessageValue (content_of done))) found))
       (subst (λ i. Step (suc k) i wires.LengthDelimited (ContentOf (schema_of (content_of m)) (type_of (content_of m)) (entries_of (content_of m)))
       (ContentOf (schema_of (content_of m)) (type_of (content_of m)) (with_field_value (known (schema_of (content_of m)) (type_of (content_of m))) at.field (Some (with_element (value_at i (entries_of (content_of m))) (MessageValue (content_of done)))) (entries_of (content_of m)))) bytes rest) number
       (message_element_holds (schema_of (content_of m)) (type_of (content_of m)) (entries_of (content_of m)) (subst WellStored (sym (whole (content_of m))) sound) (differ_in m) at.field own T (many_of m n T (MessageOf T) at refl)
@@ -166,7 +160,7 @@ module _ (m inner done new : DynamicMessage) (n T k : ℕ) (sound : WellStored (
       let read : Progress k (empty (schema_of (content_of m)) T) (content_of done) bytes group.end = subst (λ c. Progress k c (content_of done) bytes group.end) fresh.is group.progress in
       subst (λ c. Step (suc k) n wires.StartGroup c (content_of new) bytes rest) (whole (content_of m))
       (subst (λ d. Step (suc k) n wires.StartGroup (ContentOf (schema_of (content_of m)) (type_of (content_of m)) (entries_of (content_of m))) d bytes rest)
-      (sym (set ∙ element_set_in (content_of m) n at.field (with_element (value_at n (entries_of (content_of m))) (MessageValue (content_of done))) found))
+      (sym (set ∙ set_in (content_of m) n at.field (with_element (value_at n (entries_of (content_of m))) (MessageValue (content_of done))) found))
       (subst (λ i. Step (suc k) i wires.StartGroup (ContentOf (schema_of (content_of m)) (type_of (content_of m)) (entries_of (content_of m)))
       (ContentOf (schema_of (content_of m)) (type_of (content_of m)) (with_field_value (known (schema_of (content_of m)) (type_of (content_of m))) at.field (Some (with_element (value_at i (entries_of (content_of m))) (MessageValue (content_of done)))) (entries_of (content_of m)))) bytes rest) number
       (group_element_holds (schema_of (content_of m)) (type_of (content_of m)) (entries_of (content_of m)) (subst WellStored (sym (whole (content_of m))) sound) (differ_in m) at.field own T (many_of m n T (GroupOf T) at refl)

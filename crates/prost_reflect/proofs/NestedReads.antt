@@ -162,11 +162,11 @@ held_message m n T v h lent =
 
 -- ONE MORE RECORD
 
-set_in : (c : Content) (n : ℕ) (f : Field) (v : contents.Value) → field_of (known (schema_of c) (type_of c)) n ≡ Some f → value_set n v c ≡ ContentOf (schema_of c) (type_of c) (with_field_value (known (schema_of c) (type_of c)) f (Some v) (entries_of c))
+pub set_in : (c : Content) (n : ℕ) (f : Field) (v : contents.Value) → field_of (known (schema_of c) (type_of c)) n ≡ Some f → value_set n v c ≡ ContentOf (schema_of c) (type_of c) (with_field_value (known (schema_of c) (type_of c)) f (Some v) (entries_of c))
 set_in (ContentOf schema T es) n f v found = ap (λ (o : Option Field). ContentOf schema T (elim o [ None ↦ es | Some f ↦ with_field_value (known schema T) f (Some v) es ])) found
 
 -- the content of a message, taken apart
-whole : (c : Content) → ContentOf (schema_of c) (type_of c) (entries_of c) ≡ c
+pub whole : (c : Content) → ContentOf (schema_of c) (type_of c) (entries_of c) ≡ c
 whole (ContentOf schema T es) = refl
 
 module _ (m inner done new : DynamicMessage) (n T k : ℕ) (sound : WellStored (content_of m)) (at : InsideMessage m inner n T) (set : content_of new ≡ value_set n (MessageValue (content_of done)) (content_of m)) where
