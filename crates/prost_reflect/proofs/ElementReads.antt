@@ -5,7 +5,7 @@ use Rattle.std.specs.declared.alloc.Global.{Global}
 use Rattle.std.proofs.lemmas.List.{map-append}
 use Rattle.prost_reflect_wire.specs.declared.key.WireType.TheVariants as wires
 use Rattle.prost_reflect_wire.specs.Front.{KeyFront, DelimitedFront}
-use Rattle.prost_reflect_wire.specs.Schema.{Kind, MessageOf, GroupOf, Field, known, field_of, is_message}
+use Rattle.prost_reflect_wire.specs.Schema.{Kind, MessageOf, GroupOf, known, field_of, is_message}
 use Rattle.prost_reflect_wire.specs.Content as contents
 use Rattle.prost_reflect_wire.specs.Content.{Content, ContentOf, MessageValue, ListValue, NoValues, ◌and_then◌, empty, value_at, entries_of, schema_of, type_of, values_from}
 use Rattle.prost_reflect_wire.specs.Typing.{WellStored, is_repeated as is_list}
