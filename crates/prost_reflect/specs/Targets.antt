@@ -13,7 +13,7 @@ use Rattle.prost_reflect_tables.specs.declared.tables.TableKind.TheVariants as k
 use Rattle.prost_reflect_tables.specs.Rows.{FieldRow}
 use Rattle.prost_reflect.specs.Scalars.{PlainField}
 use Rattle.prost_reflect.specs.Lists.{ListField}
-use Rattle.prost_reflect.specs.Maps.{PlainMap}
+use Rattle.prost_reflect.specs.Maps.{ScalarMap}
 use Rattle.prost_reflect.specs.declared.descriptor.message.MessageDescriptor.{MessageDescriptor}
 use Rattle.prost_reflect.specs.declared.message.decode.Target.{Target}
 use Rattle.prost_reflect.specs.declared.message.decode.Target.TheVariants.{Unknown, Scalar, List as ListOf, Map as MapOf, Message, Group, MessageElement, GroupElement}
@@ -56,7 +56,7 @@ abbrev pub IsTarget : MessageDescriptor → ℕ → Target → Type 0
 IsTarget d n Unknown = field_of (known_of d) n ≡ None
 IsTarget d n (Scalar kind) = PlainField d n kind
 IsTarget d n (ListOf kind) = ListField (known_of d) n kind
-IsTarget d n (MapOf key kind) = PlainMap (known_of d) n key kind
+IsTarget d n (MapOf key kind) = ScalarMap d n key kind
 IsTarget d n (Message T) = NestedField d n T (MessageOf T)
 IsTarget d n (Group T) = NestedField d n T (GroupOf T)
 IsTarget d n (MessageElement T) = NestedList d n T (MessageOf T)
