@@ -129,7 +129,7 @@ module _ (m : DynamicMessage) (n : ℕ) (key value_kind : TableKind) (map : Scal
     pub entry_stray : is_stray_number (pool_rows (descriptor_of m).pool).enums value_kind (value_of v) ≡ true → ReadsStray (known_of (descriptor_of m)) levels n w bytes
     entry_stray stray =
         let s : StaysWhole map.field levels (Flat (Len body)) = scalar_entry_stays (schema_of (content_of m)) map.field (field_checked (schema_of (content_of m)) (type_of (content_of m)) n map.field (valid_in m) found_in) map.key_type map.form
-            read.key_scalar read.value_scalar key_typed value_typed levels read.key_read read.value_read body bytes rest small read.read (value_stray ∙ stray) front in
+        read.key_scalar read.value_scalar key_typed value_typed levels read.key_read read.value_read body bytes rest small read.read (value_stray ∙ stray) front in
         record {
           field = map.field;
           payload = Flat (Len body);

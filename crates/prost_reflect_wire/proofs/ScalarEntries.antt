@@ -1,5 +1,5 @@
 -- An entry with a scalar key and a scalar value, read into a content that holds.
-use Rattle.std.proofs.Common.{◌≡◌, ◌≤◌, ℕ, Bool, true, false, cond, ◌&&◌, nat_eq, nat_le, List, [], Option, Some, None, refl, ap, ap₂, sym, ◌∙◌, subst}
+use Rattle.std.proofs.Common.{◌≡◌, ◌≤◌, ℕ, true, false, cond, ◌&&◌, nat_eq, nat_le, List, [], Some, None, refl, ap, ap₂, sym, ◌∙◌, subst}
 use Rattle.std.specs.List.{list_all}
 use Rattle.std.proofs.lemmas.Bool.{leb-true}
 use Rattle.prost_reflect_wire.specs.declared.key.WireType.TheVariants as wires
@@ -114,8 +114,8 @@ module _ (schema : Schema) (f : Field) (checked : field_valid schema f ≡ true)
   pub scalar_entry_stays : (k : ℕ) (x v : Scalar) (inside_bytes bytes rest : List ℕ) → AreBytes bytes → ScalarEntryTo k key value_kind x v inside_bytes [] → is_undeclared_value value_kind v ≡ true → DelimitedFront inside_bytes bytes rest → StaysWhole f k (Flat (Len inside_bytes))
   scalar_entry_stays k x v inside_bytes bytes rest small done undeclared front =
       let (whole, level) = and_both (payload_valid p && is_whole_stray (MapFrom key_type) f.value_type p) (nat_le (stray_levels (MapFrom key_type) p) k)
-          (entry_stays k nothing_inside key_type f.value_type p map_checks.keyed (payload_front_valid 1 p bytes rest small (record { front = front.front; spelled = front.spelled; parts = front.parts })) allowed
-          (typed_stray nothing_inside (empty_inside []) k key value_kind key_type f.value_type key_is value_is default x v inside_bytes (delimited_bytes inside_bytes bytes rest small front) taken done ∙ undeclared)) in
+      (entry_stays k nothing_inside key_type f.value_type p map_checks.keyed (payload_front_valid 1 p bytes rest small (record { front = front.front; spelled = front.spelled; parts = front.parts })) allowed
+      (typed_stray nothing_inside (empty_inside []) k key value_kind key_type f.value_type key_is value_is default x v inside_bytes (delimited_bytes inside_bytes bytes rest small front) taken done ∙ undeclared)) in
       record {
         whole = ap (λ form. is_whole_stray form f.value_type p) form ∙ (and_both (payload_valid p) (is_whole_stray (MapFrom key_type) f.value_type p) whole).1;
         within = leb-true (stray_levels f.form p) k (ap (λ form. nat_le (stray_levels form p) k) form ∙ level);

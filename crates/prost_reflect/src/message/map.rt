@@ -149,14 +149,7 @@ impl DynamicMessage {
         ensures fault { IfErr result (λ e. e ≢ DecodeError.OutOfMemory → StandsBehindKey (content_of self.old) levels number.value wire_type e bytes.now) }
     {
         let (body, rest) = entry_body(wire_type, bytes)?;
-        let (key, value) = entry_at(
-            alloc,
-            self.descriptor(),
-            kinds.0,
-            kinds.1,
-            body,
-            levels,
-        )?;
+        let (key, value) = entry_at(alloc, self.descriptor(), kinds.0, kinds.1, body, levels)?;
         if is_stray(self.descriptor(), kinds.1, &value) {
             return self.merge_unknown(alloc, number, wire_type, bytes, levels);
         }
