@@ -1,20 +1,21 @@
 -- A record read into a content that holds: a scalar where its field's value is set, a record that stays unknown where it is added.
-use Rattle.std.proofs.Common.{◌≡◌, ◌<◌, ◌≤◌, ◌^◌, ℕ, Bool, true, false, cond, ◌&&◌, List, [], ◌∷◌, ◌++◌, nat_eq, Option, Some, None, refl, ap, sym, ◌∙◌, subst, true≢false, arith}
+use Rattle.std.proofs.Common.{◌≡◌, ◌<◌, ◌≤◌, ◌^◌, ℕ, Bool, true, false, cond, ◌&&◌, List, [], ◌∷◌, ◌++◌, nat_eq, nat_le, Option, Some, None, refl, ap, sym, ◌∙◌, subst, true≢false, arith}
 use Rattle.prost_reflect_wire.specs.declared.key.WireType.{WireType}
 use Rattle.prost_reflect_wire.specs.Varint.{AreBytes}
 use Rattle.prost_reflect_wire.specs.Record.{Payload, Flat, Group, payload_valid}
 use Rattle.prost_reflect_wire.specs.Front.{ValueFront, PayloadFront}
 use Rattle.prost_reflect_wire.specs.Scalar.{Scalar, ScalarKind, is_undeclared, scalar_valid}
-use Rattle.prost_reflect_wire.specs.Schema.{ScalarOf, Singular, Field, Schema, known, field_of, is_sibling, is_singular, numbers_differ, passes}
+use Rattle.prost_reflect_wire.specs.Schema.{ScalarOf, Singular, Field, Schema, known, field_of, is_sibling, is_singular, numbers_differ, schema_valid, passes}
 use Rattle.prost_reflect_wire.specs.Content.{ContentOf, Entries, Value, ScalarValue, Slot, value_at, unknowns_at, slot_at, insert_number, numbers_in, changed, entries_ordered}
 use Rattle.prost_reflect_wire.specs.Typing.{fit_test, value_valid, kind_takes, unknown_fits, is_whole_stray, value_passes, entries_pass, ValueStored, WellStored}
-use Rattle.prost_reflect_wire.specs.Grammar.{record_allowed, is_stray}
+use Rattle.prost_reflect_wire.specs.Grammar.{record_allowed}
+use Rattle.prost_reflect_wire.specs.Levels.{stray_levels, unknown_levels}
 use Rattle.prost_reflect_wire.specs.Writing.{record_at}
 use Rattle.prost_reflect_wire.specs.Laws.{UnknownBack}
 use Rattle.prost_reflect_wire.specs.Edit.{with_value}
 use Rattle.prost_reflect_wire.specs.Storing.{with_stored, with_unknown}
 use Rattle.prost_reflect_wire.specs.Decoding.{ScalarRead, Step}
-use Rattle.std.proofs.lemmas.Bool.{lt-ltb}
+use Rattle.std.proofs.lemmas.Bool.{lt-ltb, le-leb}
 use Rattle.prost_reflect_wire.proofs.Deeper.{both_true}
 use Rattle.prost_reflect_wire.proofs.ByteLists.{bytes_front}
 use Rattle.prost_reflect_wire.proofs.SpelledValid.{spelled_plain_valid, spelled_valid}
@@ -24,11 +25,12 @@ use Rattle.prost_reflect_wire.proofs.Arranged.{OrderedOption, table_ordered}
 use Rattle.prost_reflect_wire.proofs.Slotwise.{slot_changed}
 use Rattle.prost_reflect_wire.proofs.StoredSteps.{Known, value_in_order}
 use Rattle.prost_reflect_wire.proofs.StoredPasses.{OptionPasses, SlotPasses, passes_slots}
-use Rattle.prost_reflect_wire.proofs.RecordReads.{scalar_record, unknown_record, unknown_allowed, stray_allowed, scalar_read_fits}
+use Rattle.prost_reflect_wire.proofs.RecordReads.{scalar_record, unknown_record, unknown_allowed, scalar_read_fits}
 use Rattle.prost_reflect_wire.proofs.Slots.{siblings_mutual}
 use Rattle.prost_reflect_wire.proofs.StoredSound.{value_sound, unknown_sound}
 use Rattle.prost_reflect_wire.proofs.Values.{unknown_back, stray_back}
-use Rattle.prost_reflect_wire.proofs.Allowed.{inside}
+use Rattle.prost_reflect_wire.proofs.Checked.{known_valid}
+use Rattle.prost_reflect_wire.proofs.Allowed.{inside, unknown_within}
 
 -- values that fit stand at known numbers
 pub known_values : (fields : List Field) (es : Entries) → entries_pass fit_test fields es ≡ true → Known fields es
@@ -121,11 +123,12 @@ module _ (schema : Schema) (T : ℕ) (es : Entries) (differ : numbers_differ (kn
   unknown_holds k n w p bytes rest absent some below small front = beside_holds k n w p bytes rest (unknown_allowed schema k T n p absent front.within) (unknown_back (known schema T) n p absent)
       (ap (λ o. unknown_fits o n p) absent ∙ both_true (both_true (lt-ltb 0 n some) (lt-ltb n (2 ^ 29) below)) (payload_front_valid n p bytes rest small front.front)) front
 
-  -- at the number of a closed enum that doesn't declare the number read
-  pub stray_holds : (k n : ℕ) (f : Field) (w : WireType) (p : Payload) (bytes rest : List ℕ) → field_of (known schema T) n ≡ Some f → f.form ≡ Singular → is_stray f.value_type.kind p ≡ true → AreBytes bytes → ValueFront n w k p bytes rest →
-      Step k n w (ContentOf schema T es) (ContentOf schema T (changed n (with_unknown n p) es)) bytes rest
-  stray_holds k n f w p bytes rest found form stray small front = beside_holds k n w p bytes rest (stray_allowed schema k T n f p found form stray) (stray_back (known schema T) n f p found whole)
-      (ap (λ o. unknown_fits o n p) found ∙ both_true (payload_front_valid n p bytes rest small front.front) whole) front
+  -- at the number of a field, where it stays whole as a stray
+  pub stray_holds : (k n : ℕ) (f : Field) (w : WireType) (p : Payload) (bytes rest : List ℕ) → schema_valid schema ≡ true → field_of (known schema T) n ≡ Some f → is_whole_stray f.form f.value_type p ≡ true → stray_levels f.form p ≤ k → AreBytes bytes →
+      ValueFront n w k p bytes rest → Step k n w (ContentOf schema T es) (ContentOf schema T (changed n (with_unknown n p) es)) bytes rest
+  stray_holds k n f w p bytes rest valid found whole within small front = beside_holds k n w p bytes rest
+      (unknown_within (inside schema k) schema (known schema T) k n p (known_valid schema T valid) fits ∙ ap (λ o. nat_le (unknown_levels o p) k) found ∙ le-leb (stray_levels f.form p) k within)
+      (stray_back (known schema T) n f p found whole) fits front
     where
-      whole : is_whole_stray f.form f.value_type p ≡ true
-      whole = ap (λ form. is_whole_stray form f.value_type p) form ∙ stray
+      fits : unknown_fits (field_of (known schema T) n) n p ≡ true
+      fits = ap (λ o. unknown_fits o n p) found ∙ both_true (payload_front_valid n p bytes rest small front.front) whole
