@@ -36,3 +36,4 @@ pub mod Encoding
 pub mod Defaults
 pub mod Present
 pub mod Lists
+pub mod Numbers

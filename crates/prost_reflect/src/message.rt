@@ -31,6 +31,7 @@ mod equality_tests;
 mod list;
 mod map;
 mod nested;
+mod numbers;
 mod pairs;
 mod present;
 #[cfg(test)]
