@@ -43,4 +43,5 @@ pub mod StoredViews
 pub mod StoredContents
 mod ListElements
 mod ListMerging
+mod NumberMerging
 mod WrittenLists

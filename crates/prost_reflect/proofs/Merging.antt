@@ -155,7 +155,7 @@ unknown_refused c levels n w e rest absent fault = λ bytes opened key closes.
     value_stands (schema_of c) (record { bytes = bytes; inside = OfType (type_of c); levels = levels; open_group = opened }) e n w rest absent key closes fault
 
 -- a fault of the plain kind is one of the field's own
-own_fault : (plain own : ScalarKind) (w : WireType) (e : DecodeError) (bytes : List ℕ) → SamePayloads plain own → ScalarFault plain w e bytes → ScalarFault own w e bytes
+pub own_fault : (plain own : ScalarKind) (w : WireType) (e : DecodeError) (bytes : List ℕ) → SamePayloads plain own → ScalarFault plain w e bytes → ScalarFault own w e bytes
 own_fault plain own w errors.Truncated bytes same fault = fault
 own_fault plain own w errors.Varint bytes same fault = fault
 own_fault plain own w errors.WireType bytes same (unended, other) = (unended, ap (same_wire w) (sym same.wire) ∙ other)
