@@ -134,22 +134,23 @@ module _ (m : DynamicMessage) (n : ℕ) (kind : TableKind) (list : NumberList (d
   pub list_there : WellStored (content_of m) → IsListOrNone (value_at n (entries_of (content_of m)))
   list_there sound = or_none (value_at n (entries_of (content_of m))) (listed_at (content_of m) n list.field list.packed sound found_in list.form)
 
-  made : (new : DynamicMessage) → WellStored (content_of m) → content_of new ≡ value_set n (unwrap_or (value_at n (entries_of (content_of m))) (ListValue NoValues)) (content_of m) → NumbersJoined list.field (Enum list.first list.numbers) [] (content_of m) (content_of new)
+  pub made : (new : DynamicMessage) → WellStored (content_of m) → content_of new ≡ value_set n (unwrap_or (value_at n (entries_of (content_of m))) (ListValue NoValues)) (content_of m) → NumbersJoined list.field (Enum list.first list.numbers) [] (content_of m) (content_of new)
   made new sound content = made_list n list.field list.packed (Enum list.first list.numbers) list.form list.kind_is list.alone (content_of m) (content_of new) sound (differ_in m) found_in content
 
   pub none_taken : (new : DynamicMessage) (body : List ℕ) → WellStored (content_of m) → content_of new ≡ value_set n (unwrap_or (value_at n (entries_of (content_of m))) (ListValue NoValues)) (content_of m) → TakenSoFar (descriptor_of m) n kind (content_of m) (content_of new) body body
   none_taken new body sound content = record { list = list; numbers = numbers_none list.field (Enum list.first list.numbers) (content_of m) (content_of new) body (made new sound content) }
 
   -- a record of one number
-  pub number_taken_step : (mid new : DynamicMessage) (levels value : ℕ) (w : WireType) (bytes rest : List ℕ) → WellStored (content_of m) → w ≡ wires.Varint → VarintFront value bytes rest → value < 2 ^ 64 → descriptor_of mid ≡ descriptor_of m →
-      content_of mid ≡ value_set n (unwrap_or (value_at n (entries_of (content_of m))) (ListValue NoValues)) (content_of m) → content_of new ≡ number_taken (pool_rows (descriptor_of m).pool).enums n kind value (content_of mid) →
+  pub number_taken_step : (mid new : DynamicMessage) (levels value : ℕ) (w : WireType) (bytes rest : List ℕ) → WellStored (content_of m) → w ≡ wires.Varint → VarintFront value bytes rest → descriptor_of mid ≡ descriptor_of m →
+      content_of mid ≡ value_set n (unwrap_or (value_at n (entries_of (content_of m))) (ListValue NoValues)) (content_of m) → content_of new ≡ number_taken (pool_rows (descriptor_of mid).pool).enums n kind value (content_of mid) →
       Step levels n w (content_of m) (content_of new) bytes rest
-  number_taken_step mid new levels value w bytes rest sound wire front small same start content =
+  number_taken_step mid new levels value w bytes rest sound wire front same start content =
       subst (λ w. Step levels n w (content_of m) (content_of new) bytes rest) (sym wire)
       (number_read (content_of m) (content_of new) found_in sound (differ_in m)
       (one_taken n list.field list.packed (Enum list.first list.numbers) list.form list.kind_is list.alone (content_of m) (content_of mid) (content_of new) [] value
       (is_stray_number (pool_rows (descriptor_of m).pool).enums kind (ScalarValue (EnumNumber (low_i32 value)))) list.first list.numbers refl (differ_in mid)
-      (ap (λ fields. field_of fields n) (known_in mid) ∙ ap (λ d. field_of (known_of d) n) same ∙ list.found) small (stray_is (descriptor_of m) n kind value list) (made mid sound start) content))
+      (ap (λ fields. field_of fields n) (known_in mid) ∙ ap (λ d. field_of (known_of d) n) same ∙ list.found) front.varint.below (stray_is (descriptor_of m) n kind value list) (made mid sound start)
+      (content ∙ ap (λ (d : MessageDescriptor). number_taken (pool_rows d.pool).enums n kind value (content_of mid)) same)))
     where
       number_read : (c d : Content) → field_of (known (schema_of c) (type_of c)) n ≡ Some list.field → WellStored c → numbers_differ (known (schema_of c) (type_of c)) ≡ true → NumbersJoined list.field (Enum list.first list.numbers) (Flat (Var value) ∷ []) c d →
           Step levels n wires.Varint c d bytes rest
@@ -189,16 +190,16 @@ module _ (m : DynamicMessage) (n : ℕ) (kind : TableKind) (list : NumberList (d
 -- THE LOOP OVER A PACKED BODY
 
 -- the descriptor stays while numbers are read
-pub taken_more : (m new : DynamicMessage) (d : MessageDescriptor) (n : ℕ) (kind : TableKind) (old : Content) (value : ℕ) (body bytes rest : List ℕ) → descriptor_of m ≡ d → TakenSoFar d n kind old (content_of m) body bytes → VarintFront value bytes rest → value < 2 ^ 64 →
+pub taken_more : (m new : DynamicMessage) (d : MessageDescriptor) (n : ℕ) (kind : TableKind) (old : Content) (value : ℕ) (body bytes rest : List ℕ) → descriptor_of m ≡ d → TakenSoFar d n kind old (content_of m) body bytes → VarintFront value bytes rest →
     content_of new ≡ number_taken (pool_rows (descriptor_of m).pool).enums n kind value (content_of m) → TakenSoFar d n kind old (content_of new) body rest
-taken_more m new d n kind old value body bytes rest same s front small content =
+taken_more m new d n kind old value body bytes rest same s front content =
     let list = s.list in
     record {
       list = list;
       numbers = numbers_more list.field (Enum list.first list.numbers) old (content_of m) (content_of new) (Var value) body bytes rest s.numbers (varint_front value bytes rest front) refl
           (one_taken n list.field list.packed (Enum list.first list.numbers) list.form list.kind_is list.alone old (content_of m) (content_of new) (map Flat s.numbers.plains) value
           (is_stray_number (pool_rows d.pool).enums kind (ScalarValue (EnumNumber (low_i32 value)))) list.first list.numbers refl (differ_in m)
-          (ap (λ fields. field_of fields n) (known_in m) ∙ ap (λ d. field_of (known_of d) n) same ∙ list.found) small (stray_is d n kind value list) s.numbers.joined
+          (ap (λ fields. field_of fields n) (known_in m) ∙ ap (λ d. field_of (known_of d) n) same ∙ list.found) front.varint.below (stray_is d n kind value list) s.numbers.joined
           (content ∙ ap (λ (d : MessageDescriptor). number_taken (pool_rows d.pool).enums n kind value (content_of m)) same));
     }
 
