@@ -16,11 +16,11 @@ use Rattle.prost_reflect_tables.specs.declared.tables.TableKind.{TableKind}
 use Rattle.prost_reflect_tables.specs.declared.tables.TableKind.TheVariants as kinds
 use Rattle.prost_reflect_tables.specs.Rows.{FieldRow, MessageRow, EnumRow, TableRows}
 use Rattle.prost_reflect_tables.specs.Shown.{first_number, enum_numbers, schema_kind, enum_kind, own_type, map_entry, value_type_of, form_of, schema_field}
-use Rattle.prost_reflect.specs.Covered.{is_plain, is_plain_kind, is_repeated}
+use Rattle.prost_reflect.specs.Covered.{is_plain, is_plain_kind, is_repeated, names_message}
 use Rattle.prost_reflect.specs.Enums.{numbers_of}
 use Rattle.prost_reflect.specs.Scalars.{plain_kind, is_stray_number}
 use Rattle.prost_reflect.proofs.Covering as covering
-use Rattle.prost_reflect.proofs.Covering.{no_entry}
+use Rattle.prost_reflect.proofs.Covering.{no_entry, no_message_entry}
 
 -- THE ROW OF A FIELD
 
@@ -80,8 +80,18 @@ bare_row rows row h none = ap (form_of rows.enums row row.cardinality) none ∙ 
     go Required h = absurd (true≢false (sym h))
     go RepeatedLabel h = refl
 
+-- so is one of scalars
+pub scalars_row : (rows : TableRows) (row : FieldRow) → is_repeated row.cardinality ≡ true → names_message row.kind ≡ false → (schema_field rows row).form ≡ Repeated row.is_packed
+scalars_row rows row h scalar = bare_row rows row h (no_message_entry rows.messages row row.cardinality scalar)
+
 pub list_row : (rows : TableRows) (row : FieldRow) → is_repeated row.cardinality ≡ true → is_plain_kind row.kind ≡ true → (schema_field rows row).form ≡ Repeated row.is_packed
-list_row rows row h plain = bare_row rows row h (no_entry rows.messages row row.cardinality plain)
+list_row rows row h plain = scalars_row rows row h (covering.plain_apart row.kind plain)
+
+-- the row of a list of scalars
+pub scalars_kind : (rows : TableRows) (row : FieldRow) → names_message row.kind ≡ false → NamedKind rows.enums row.kind (schema_field rows row).value_type.kind
+scalars_kind rows row scalar =
+    subst (λ o. NamedKind rows.enums row.kind (value_type_of rows.enums row o).kind) (sym (no_message_entry rows.messages row row.cardinality scalar))
+    (kind_named rows.enums row.is_group row.kind (covering.message_kind rows.enums row.kind row.is_group ∙ scalar))
 
 -- a scalar kind that is no enum, as both name it
 pub record PlainKind (table : TableKind) (kind : Kind) : Type 0 where
@@ -161,7 +171,7 @@ same_payloads plain own e = let same : plain ≡ own = cc in subst (SamePayloads
 abbrev open_kind : ScalarKind
 open_kind = scalars.Enum (pos 0) scalars.Open
 
-enum_payloads : (first : ℤ) (numbers : EnumNumbers) → SamePayloads open_kind (scalars.Enum first numbers)
+pub enum_payloads : (first : ℤ) (numbers : EnumNumbers) → SamePayloads open_kind (scalars.Enum first numbers)
 enum_payloads first numbers = record { wire = refl; text = λ t. cc; read = read; write = write; takes = takes }
   where
     read : (p : Payload) → elem open_kind p ≡ elem (scalars.Enum first numbers) p

@@ -59,6 +59,21 @@ payload_front_valid n (Group inside) bytes rest small f = let g = f.records in s
 pub scalar_stored : (schema : Schema) (f : Field) (kind : ScalarKind) (v : Scalar) → f.form ≡ Singular → f.value_type.kind ≡ ScalarOf kind → scalar_valid kind v ≡ true → ValueStored schema f (ScalarValue v)
 scalar_stored schema f kind v form is fits = record { valid = both_true (ap is_singular form) (ap (λ k. kind_takes k v) is ∙ fits); fits = refl; types = tt; order = refl; members = refl }
 
+-- the slots where a record that stays unknown was added
+pub added_slots : (es : Entries) (n : ℕ) (p : Payload) (m : ℕ) → slot_at (changed n (with_unknown n p) es) m ≡ with_unknown n p m (slot_at es m)
+added_slots es n p m = slot_changed n m (with_unknown n p) es (λ k apart. still (nat_eq k n) (eqb-sym k n ∙ apart))
+  where
+    still : (b : Bool) → b ≡ false → cond b (record { value = None; unknowns = [] ++ (p ∷ []) }) empty_slot ≡ empty_slot
+    still true e = absurd (true≢false e)
+    still false e = refl
+
+pub added_ordered : (es : Entries) (n : ℕ) (p : Payload) → entries_ordered es ≡ true → entries_ordered (changed n (with_unknown n p) es) ≡ true
+added_ordered es n p order = changed_ordered n (with_unknown n p) es (λ m. each m (nat_eq m n))
+  where
+    each : (m : ℕ) (b : Bool) → OrderedOption (cond b (record { value = value_at m es; unknowns = unknowns_at m es ++ (p ∷ []) }) (slot_at es m)).value
+    each m true = value_in_order m es order
+    each m false = value_in_order m es order
+
 module _ (schema : Schema) (T : ℕ) (es : Entries) (differ : numbers_differ (known schema T) ≡ true) (sound : WellStored (ContentOf schema T es)) where
   -- a scalar's value set
   scalar_at_number : (k : ℕ) (f : Field) (kind : ScalarKind) (w : WireType) (v : Scalar) (bytes rest : List ℕ) → field_of (known schema T) f.number ≡ Some f → f.form ≡ Singular → f.value_type.kind ≡ ScalarOf kind →
@@ -99,23 +114,9 @@ module _ (schema : Schema) (T : ℕ) (es : Entries) (differ : numbers_differ (kn
   beside_holds : (k n : ℕ) (w : WireType) (p : Payload) (bytes rest : List ℕ) → record_allowed k (inside schema k) (known schema T) (record_at n p) ≡ true → UnknownBack (known schema T) n p → unknown_fits (field_of (known schema T) n) n p ≡ true →
       ValueFront n w k p bytes rest → Step k n w (ContentOf schema T es) (ContentOf schema T (changed n (with_unknown n p) es)) bytes rest
   beside_holds k n w p bytes rest allowed back fits front = record {
-    read = unknown_record schema k T es (changed n (with_unknown n p) es) n w p bytes rest front allowed back (known_values (known schema T) es sound.fits) sound.order ordered slots;
-    holds = record { schema = refl; type = refl; sound = unknown_sound schema T es (changed n (with_unknown n p) es) n p differ fits ordered slots sound };
+    read = unknown_record schema k T es (changed n (with_unknown n p) es) n w p bytes rest front allowed back (known_values (known schema T) es sound.fits) sound.order (added_ordered es n p sound.order) (added_slots es n p);
+    holds = record { schema = refl; type = refl; sound = unknown_sound schema T es (changed n (with_unknown n p) es) n p differ fits (added_ordered es n p sound.order) (added_slots es n p) sound };
   }
-    where
-      still : (b : Bool) → b ≡ false → cond b (record { value = None; unknowns = [] ++ (p ∷ []) }) empty_slot ≡ empty_slot
-      still true e = absurd (true≢false e)
-      still false e = refl
-
-      slots : (m : ℕ) → slot_at (changed n (with_unknown n p) es) m ≡ with_unknown n p m (slot_at es m)
-      slots m = slot_changed n m (with_unknown n p) es (λ k apart. still (nat_eq k n) (eqb-sym k n ∙ apart))
-
-      each : (m : ℕ) (b : Bool) → OrderedOption (cond b (record { value = value_at m es; unknowns = unknowns_at m es ++ (p ∷ []) }) (slot_at es m)).value
-      each m true = value_in_order m es sound.order
-      each m false = value_in_order m es sound.order
-
-      ordered : entries_ordered (changed n (with_unknown n p) es) ≡ true
-      ordered = changed_ordered n (with_unknown n p) es (λ m. each m (nat_eq m n))
 
   -- at a number that is not known
   pub unknown_holds : (k n : ℕ) (w : WireType) (p : Payload) (bytes rest : List ℕ) → field_of (known schema T) n ≡ None → 1 ≤ n → n < 2 ^ 29 → AreBytes bytes → ValueFront n w k p bytes rest →
