@@ -14,7 +14,7 @@ use Rattle.prost_reflect.specs.Covered.{names_message}
 use Rattle.prost_reflect.specs.Known.{known_of}
 use Rattle.prost_reflect.proofs.Merging.{no_message_kind}
 use Rattle.prost_reflect.proofs.WrittenLists.{valid_list_value, row_list_written, takes_same, list_value_bytes, flat_too_long}
-use Rattle.prost_reflect.proofs.MapRows.{list_plain, messages_listed, listed_form, map_of_rows, valid_map_value}
+use Rattle.prost_reflect.proofs.MapRows.{messages_listed, listed_form, map_of_rows, valid_map_value}
 use Rattle.prost_reflect.proofs.ElementWrites.{row_messages_written, element_at, element_shown, no_element}
 use Rattle.prost_reflect.specs.Lists.{element_bytes}
 use Rattle.prost_reflect_wire.specs.Buffer.{bytes_of}
@@ -105,15 +105,15 @@ prepend_elements-returns-in-Message t c =
 
 pub prepend_elements-prepend_list-requires : goal.prepend_elements-prepend_list-requires
 prepend_elements-prepend_list-requires t c =
-    let plain = list_plain c.args.descriptor.now c.args.number (field_row c.args.field.now) c.requires.plain c.requires.field c.requires.repeated c.requires.no_map (no_message_kind (field_row c.args.field.now).kind c.in_default-kind.not-Message) in
+    let scalar = no_message_kind (field_row c.args.field.now).kind c.in_default-kind.not-Message in
     takes_same (known_of c.args.descriptor.now) c.args.number (field_row c.args.field.now).kind (field_row c.args.field.now).is_packed c.in-List.values.items c.deref.result.now c.deref.ensures.value
-    (row_list_written c.args.descriptor.now c.args.number (field_row c.args.field.now) c.args.value.now c.in-List.values plain c.requires.field c.requires.repeated c.requires.writable.valid c.in-List.is)
+    (row_list_written c.args.descriptor.now c.args.number (field_row c.args.field.now) c.args.value.now c.in-List.values scalar c.requires.field c.requires.repeated c.requires.writable.valid c.in-List.is)
 
 pub prepend_elements-returns-in_default-kind : goal.prepend_elements-returns-in_default-kind
 prepend_elements-returns-in_default-kind t c =
-    let plain = list_plain c.args.descriptor.now c.args.number (field_row c.args.field.now) c.requires.plain c.requires.field c.requires.repeated c.requires.no_map (no_message_kind (field_row c.args.field.now).kind c.in_default-kind.not-Message) in
+    let scalar = no_message_kind (field_row c.args.field.now).kind c.in_default-kind.not-Message in
     rw (list_value_bytes (known_of c.args.descriptor.now) c.args.number (field_row c.args.field.now).kind (field_row c.args.field.now).is_packed c.args.value.now c.in-List.values c.deref.result.now c.in-List.is c.deref.ensures.value
-    (row_list_written c.args.descriptor.now c.args.number (field_row c.args.field.now) c.args.value.now c.in-List.values plain c.requires.field c.requires.repeated c.requires.writable.valid c.in-List.is))
+    (row_list_written c.args.descriptor.now c.args.number (field_row c.args.field.now) c.args.value.now c.in-List.values scalar c.requires.field c.requires.repeated c.requires.writable.valid c.in-List.is))
     c.prepend_list.ensures
 
 pub prepend_value-prepend_message-requires : goal.prepend_value-prepend_message-requires
