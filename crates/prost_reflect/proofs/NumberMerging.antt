@@ -203,9 +203,6 @@ taken_more m new d n kind old value body bytes rest same s front content =
           (content ∙ ap (λ (d : MessageDescriptor). number_taken (pool_rows d.pool).enums n kind value (content_of m)) same));
     }
 
-pub taken_sound : (d : MessageDescriptor) (n : ℕ) (kind : TableKind) (old new : Content) (body rest : List ℕ) → TakenSoFar d n kind old new body rest → WellStored new
-taken_sound d n kind old new body rest s = s.numbers.joined.holds.sound
-
 pub taken_done : (d : MessageDescriptor) (n : ℕ) (kind : TableKind) (old new : Content) (body rest : List ℕ) → TakenSoFar d n kind old new body rest → rest ≡ [] → BodyTaken d n kind old new body
 taken_done d n kind old new body rest s e = let list = s.list in record { list = list; joined = numbers_done list.field (Enum list.first list.numbers) old new body rest s.numbers e }
 
