@@ -1,5 +1,6 @@
 -- What is written of a map of messages.
 use Rattle.std.proofs.Common.{◌≡◌, ℕ, ◌+◌, ◌^◌, ◌≤◌, Bool, true, false, ◌&&◌, List, [], ◌∷◌, ◌++◌, length, map, flat_map, Some, refl, sym, ap, ap₂, ◌∙◌, subst, append_assoc, append-nil, true≢false, arith, length-append}
+use denote.Param.Weighed.{most}
 use Rattle.std.specs.BTreeMap.{BTreeMap}
 use Rattle.prost_reflect_wire.specs.declared.key.WireType.TheVariants as wires
 use Rattle.prost_reflect_wire.specs.Record.{Len, Flat, record_at, short_key, short_plain, spelled}
@@ -149,9 +150,13 @@ module _ {A : Type 0} (f : A → List ℕ) where
         length-append (f x) (flat_map f done),
       )
 
--- an entry whose value holds the message
-pub entry_shown : (n : ℕ) (key : FieldRow) (k : Scalar) (v : Value) (m : DynamicMessage) → v ≡ values.Message m → nested_entry_bytes n key k (value_of v) ≡ nested_entry_bytes n key k (MessageValue (content_of m))
-entry_shown n key k v m is = ap (nested_entry_bytes n key k) (ap value_of is ∙ value_of_message m)
+-- no item weighs more than the list
+most_among : {A B : Type 0} (f : A → B) (weight : B → ℕ) (left done : List A) (x : A) → weight (f x) ≤ most weight (map f (left ++ x ∷ done))
+most_among f weight [] done x = omega arith
+most_among f weight (y ∷ left) done x = let h : weight (f x) ≤ most weight (map f (left ++ x ∷ done)) = most_among f weight left done x in omega (arith, h)
+
+pub most_in : {A B : Type 0} (f : A → B) (weight : B → ℕ) (items left done : List A) (x : A) → items ≡ left ++ x ∷ done → weight (f x) ≤ most weight (map f items)
+most_in f weight items left done x cut = subst (λ l. weight (f x) ≤ most weight (map f l)) (sym cut) (most_among f weight left done x)
 
 -- each entry is taken
 pub entry_at : (key : TableKind) (left done : List (MapKey × Value)) (e : MapKey × Value) → AreEntries key (left ++ e ∷ done) → TakesScalar key (ScalarValue (key_of e.0)) × ElementWritable (value_of e.1)

@@ -12,7 +12,7 @@ ghost use Rattle.prost_reflect_wire.specs.Buffer.{bytes_of, Prepended};
 ghost use Rattle.prost_reflect_tables.specs.Rows.{field_row};
 ghost use Rattle.prost_reflect_tables.specs.Shown.{schema_field};
 ghost use Rattle.prost_reflect.specs.Covered.{is_repeated};
-ghost use Rattle.prost_reflect.specs.Lists.{IsList, AreElements, elements_bytes};
+ghost use Rattle.prost_reflect.specs.Lists.{IsList, ElementWritable, AreElements, elements_bytes};
 ghost use Rattle.prost_reflect.specs.MapParts.{map_parts};
 ghost use Rattle.prost_reflect.specs.Descriptors.{schema_at, type_at};
 ghost use Rattle.prost_reflect.specs.Encoding.{entry_slot, unknown_bytes, nested_bytes, ValueWritable, OwnUnknown};
@@ -21,7 +21,7 @@ ghost use Rattle.prost_reflect.specs.Enums.{first_of};
 ghost use Rattle.prost_reflect.specs.Pools.{pool_rows};
 ghost use Rattle.prost_reflect.specs.Known.{known_of};
 ghost use Rattle.prost_reflect.specs.NestedMaps.{NestedMapOfRows, AreEntries, nested_entry_bytes, nested_pairs_bytes};
-ghost use Rattle.prost_reflect_wire.specs.Content.{ScalarValue, MessageValue};
+ghost use Rattle.prost_reflect_wire.specs.Content.{ScalarValue};
 ghost use Rattle.prost_reflect.specs.View.{key_of, value_of, content_of, descriptor_of};
 ghost use Rattle.prost_reflect.specs.Scalars.{plain_kind, TakesScalar, scalar_bytes, scalar_record_bytes, kept_scalar_bytes, is_zero, equals, is_default};
 
@@ -348,10 +348,7 @@ fn prepend_entries(
     ensures { Prepended result (bytes_of buffer.old) (bytes_of buffer.new) (nested_pairs_bytes number (field_row key_field.now) pairs.now.entries) }
 {
     for (key, value) in pairs.iter().rev() {
-        match value {
-            Value::Message(message) => prepend_entry(buffer, number, key_field, key, message)?,
-            _ => unreachable!(),
-        }
+        prepend_entry(buffer, number, key_field, key, value)?;
     }
     Ok(())
 }
@@ -363,14 +360,17 @@ fn prepend_entry(
     number: u32,
     key_field: &FieldTable,
     key: &MapKey,
-    message: &DynamicMessage,
+    value: &Value,
 ) -> Result<(), EncodeError>
     requires key { TakesScalar (field_row key_field.now).kind (ScalarValue (key_of key.now)) }
-    requires encodable { encodable (content_of message.now) ≡ true }
-    ensures { Prepended result (bytes_of buffer.old) (bytes_of buffer.new) (nested_entry_bytes number (field_row key_field.now) (key_of key.now) (MessageValue (content_of message.now))) }
+    requires message { ElementWritable (value_of value.now) }
+    ensures { Prepended result (bytes_of buffer.old) (bytes_of buffer.new) (nested_entry_bytes number (field_row key_field.now) (key_of key.now) (value_of value.now)) }
 {
     let behind = buffer.len();
-    prepend_message(buffer, 2, false, message)?;
+    match value {
+        Value::Message(message) => prepend_message(buffer, 2, false, message)?,
+        _ => unreachable!(),
+    }
     prepend_key_part(buffer, key_field, key)?;
     let length = buffer.len() - behind;
     prepend_length(buffer, number, length)

@@ -5,6 +5,7 @@ use Rattle.prost_reflect_wire.specs.declared.unknown.UnknownFieldSet.{UnknownFie
 use Rattle.prost_reflect.specs.declared.fields.entry.Entry.{Entry}
 use Rattle.prost_reflect.specs.declared.fields.entry.Entry.TheVariants as entries
 use Rattle.prost_reflect.specs.declared.value.Value.{Value, the_lemmas}
+use Rattle.prost_reflect.specs.declared.value.Value.TheBlock.{the_depth, member-Value}
 use Rattle.prost_reflect.specs.View.{value_of}
 use Rattle.prost_reflect.specs.Entries.{value_in}
 use Rattle.prost_reflect.proofs.Encodings.{whole_written, entry_writable, unknown_too_long, value_too_long}
@@ -15,7 +16,7 @@ use Rattle.prost_reflect.specs.Known.{known_of}
 use Rattle.prost_reflect.proofs.Merging.{no_message_kind}
 use Rattle.prost_reflect.proofs.WrittenLists.{valid_list_value, row_list_written, takes_same, list_value_bytes, flat_too_long}
 use Rattle.prost_reflect.proofs.RepeatedRows.{listed_form, map_of_rows}
-use Rattle.prost_reflect.proofs.NestedMapWrites.{nested_rows, nested_map_value, nested_rows_written, nested_value_bytes, flat_more, flat_part_too_long, entry_at, entry_shown}
+use Rattle.prost_reflect.proofs.NestedMapWrites.{nested_rows, nested_map_value, nested_rows_written, nested_value_bytes, flat_more, flat_part_too_long, most_in, entry_at}
 use Rattle.prost_reflect.specs.NestedMaps.{AreEntries, nested_entry_bytes}
 use Rattle.prost_reflect.proofs.WrittenMaps.{cut_pairs}
 use Rattle.prost_reflect.specs.View.{key_of}
@@ -160,22 +161,14 @@ pub prepend_entries-prepend_entry-requires : goal.prepend_entries-prepend_entry-
 prepend_entries-prepend_entry-requires t c =
     let e : MapKey × Value = (c.in-Some.key.now, c.in-Some.value.now) in
     let cut = cut_pairs _ _ _ _ e c.loop-key.invariant.1 c.in-Some.ensures.steps in
-    let taken = entry_at (field_row c.args.key_field.now).kind _ _ e (subst (AreEntries (field_row c.args.key_field.now).kind) cut c.requires) in
-    (search (rules, the_lemmas, cut), (taken.0, element_encodable c.in-Message.message c.in-Some.value.now c.in-Message.is taken.1))
+    let bound = most_in (λ (x : MapKey × Value). x.1) (the_depth member-Value) c.args.pairs.now.entries _ c.loop-key.invariant.0 e cut in
+    (search (rules, the_lemmas, bound), entry_at (field_row c.args.key_field.now).kind _ _ e (subst (AreEntries (field_row c.args.key_field.now).kind) cut c.requires))
 
-pub prepend_entries-unreachable-requires : goal.prepend_entries-unreachable-requires
-prepend_entries-unreachable-requires t c =
+pub prepend_entries-returns-in_err-prepend_entry : goal.prepend_entries-returns-in_err-prepend_entry
+prepend_entries-returns-in_err-prepend_entry t c = let q = err_from_is_err_and c.from_residual.result c.from_residual.ensures.1 in
     let e : MapKey × Value = (c.in-Some.key.now, c.in-Some.value.now) in
     let cut = cut_pairs _ _ _ _ e c.loop-key.invariant.1 c.in-Some.ensures.steps in
-    let taken = entry_at (field_row c.args.key_field.now).kind _ _ e (subst (AreEntries (field_row c.args.key_field.now).kind) cut c.requires) in
-    no_element c.in-Some.value.now taken.1 c.in_default.not-Message
-
-pub prepend_entries-returns-in_err-prepend_entry-in-Message : goal.prepend_entries-returns-in_err-prepend_entry-in-Message
-prepend_entries-returns-in_err-prepend_entry-in-Message t c = let q = err_from_is_err_and c.from_residual.result c.from_residual.ensures.1 in
-    let e : MapKey × Value = (c.in-Some.key.now, c.in-Some.value.now) in
-    let cut = cut_pairs _ _ _ _ e c.loop-key.invariant.1 c.in-Some.ensures.steps in
-    rw (q.1, q.2) (λ is. flat_part_too_long (λ (e : MapKey × Value). nested_entry_bytes c.args.number (field_row c.args.key_field.now) (key_of e.0) (value_of e.1)) c.args.pairs.now.entries _ c.loop-key.invariant.0 e (bytes_of c.args.buffer.now) (bytes_of c.loop-key.buffer) cut c.loop-key.invariant.2
-    (rw (entry_shown c.args.number (field_row c.args.key_field.now) (key_of c.in-Some.key.now) c.in-Some.value.now c.in-Message.message c.in-Message.is) (c.in_err-prepend_entry-in-Message.ensures is)))
+    rw (q.1, q.2) (λ is. flat_part_too_long (λ (e : MapKey × Value). nested_entry_bytes c.args.number (field_row c.args.key_field.now) (key_of e.0) (value_of e.1)) c.args.pairs.now.entries _ c.loop-key.invariant.0 e (bytes_of c.args.buffer.now) (bytes_of c.loop-key.buffer) cut c.loop-key.invariant.2 (c.in_err-prepend_entry.ensures is))
 
 pub prepend_entries-loop-key-preserved : goal.prepend_entries-loop-key-preserved
 prepend_entries-loop-key-preserved t c =
@@ -184,6 +177,11 @@ prepend_entries-loop-key-preserved t c =
     let cut = cut_pairs _ _ _ _ e c.loop-key.invariant.1 c.in-Some.ensures.steps in (
       e ∷ done,
       cut,
-      flat_more (λ (e : MapKey × Value). nested_entry_bytes c.args.number (field_row c.args.key_field.now) (key_of e.0) (value_of e.1)) e done (bytes_of c.args.buffer.now) (bytes_of c.loop-key.buffer) _ c.loop-key.invariant.2
-          (c.in_ok-prepend_entry-in-Message.ensures ∙ ap (λ l. l ++ bytes_of c.loop-key.buffer) (sym (entry_shown c.args.number (field_row c.args.key_field.now) (key_of c.in-Some.key.now) c.in-Some.value.now c.in-Message.message c.in-Message.is))),
+      flat_more (λ (e : MapKey × Value). nested_entry_bytes c.args.number (field_row c.args.key_field.now) (key_of e.0) (value_of e.1)) e done (bytes_of c.args.buffer.now) (bytes_of c.loop-key.buffer) _ c.loop-key.invariant.2 c.in_ok-prepend_entry.ensures,
     )
+
+pub prepend_entry-unreachable-requires : goal.prepend_entry-unreachable-requires
+prepend_entry-unreachable-requires t c = no_element c.args.value.now c.requires.message c.in_default.not-Message
+
+pub prepend_entry-prepend_message-requires : goal.prepend_entry-prepend_message-requires
+prepend_entry-prepend_message-requires t c = (search (rules, the_lemmas), element_encodable c.in-Message.message c.args.value.now c.in-Message.is c.requires.message)
