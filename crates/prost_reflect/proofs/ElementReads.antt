@@ -38,7 +38,7 @@ use Rattle.prost_reflect.proofs.ListMerging.{list_field}
 use Rattle.prost_reflect.proofs.Merging.{known_in, differ_in}
 use Rattle.prost_reflect.proofs.NestedReads.{FoundIn, schema_in, names_message as names_it, set_in, whole}
 use Rattle.prost_reflect.proofs.PlainKinds.{listed_row, list_kind}
-use Rattle.prost_reflect.proofs.Views.{value_of_list, value_of_message}
+use Rattle.prost_reflect.proofs.Views.{value_of_list}
 
 -- WHAT A RECORD IS READ AS
 
