@@ -39,7 +39,7 @@ use Rattle.prost_reflect.proofs.Merging.{known_in, differ_in}
 use Rattle.prost_reflect.proofs.NestedReads.{FoundIn, schema_in, set_in, whole}
 use Rattle.prost_reflect.proofs.NumberMerging.{number_list}
 use Rattle.prost_reflect.proofs.PlainKinds.{list_kind}
-use Rattle.prost_reflect.proofs.Views.{value_of_list, value_of_message}
+use Rattle.prost_reflect.proofs.Views.{value_of_list}
 
 -- WHAT A RECORD IS READ AS
 

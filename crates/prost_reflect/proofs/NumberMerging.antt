@@ -9,7 +9,7 @@ use Rattle.prost_reflect_wire.specs.declared.error.DecodeError.TheVariants as er
 use Rattle.prost_reflect_wire.specs.Record.{Var, Payload, Flat, record_at}
 use Rattle.prost_reflect_wire.specs.Front.{VarintFront, DelimitedFront, VarintFault, PlainFault}
 use Rattle.prost_reflect_wire.specs.Scalar.{ScalarKind, EnumNumbers, Enum, Open, Closed, EnumNumber, low_i32, elem, is_undeclared}
-use Rattle.prost_reflect_wire.specs.Schema.{Kind, ScalarOf, Repeated, Field, known, field_of, numbers_differ}
+use Rattle.prost_reflect_wire.specs.Schema.{ScalarOf, Repeated, Field, known, field_of, numbers_differ}
 use Rattle.prost_reflect_wire.specs.Content as contents
 use Rattle.prost_reflect_wire.specs.Content.{Content, ContentOf, ScalarValue, ListValue, NoValues, schema_of, type_of, entries_of, value_at}
 use Rattle.prost_reflect_wire.specs.Meaning.{values_in}
