@@ -128,7 +128,7 @@ message_joined inner join value_type (ScalarOf kind) U old p e = cc
 message_joined inner join value_type (MessageOf V) U old p e = ap (λ (V : ℕ). Some (MessageValue (join (content_in inner V old) (records_in p)))) (let names : V ≡ U = cc in names)
 message_joined inner join value_type (GroupOf V) U old p e = ap (λ (V : ℕ). Some (MessageValue (join (content_in inner V old) (records_in p)))) (let names : V ≡ U = cc in names)
 
-no_stray : (kind : Kind) (U : ℕ) (p : Payload) → message_of kind ≡ Some U → is_stray kind p ≡ false
+pub no_stray : (kind : Kind) (U : ℕ) (p : Payload) → message_of kind ≡ Some U → is_stray kind p ≡ false
 no_stray (ScalarOf kind) U p e = cc
 no_stray (MessageOf V) U p e = refl
 no_stray (GroupOf V) U p e = refl
@@ -211,14 +211,14 @@ or_false : (b : Bool) → (b || false) ≡ b
 or_false true = refl
 or_false false = refl
 
-takes_nested : (form : FieldForm) (kind : Kind) (U : ℕ) (w : WireType) → is_map form ≡ false → message_of kind ≡ Some U → takes form kind w ≡ one_takes kind w
+pub takes_nested : (form : FieldForm) (kind : Kind) (U : ℕ) (w : WireType) → is_map form ≡ false → message_of kind ≡ Some U → takes form kind w ≡ one_takes kind w
 takes_nested Singular kind U w form e = refl
 takes_nested (Repeated packed) (ScalarOf kind) U w form e = cc
 takes_nested (Repeated packed) (MessageOf V) U w form e = or_false (one_takes (MessageOf V) w)
 takes_nested (Repeated packed) (GroupOf V) U w form e = or_false (one_takes (GroupOf V) w)
 takes_nested (MapFrom key) kind U w form e = absurd (true≢false form)
 
-needs_nested : (form : FieldForm) (kind : Kind) (U : ℕ) (w : WireType) → is_map form ≡ false → message_of kind ≡ Some U → needs_level form kind w ≡ one_takes kind w
+pub needs_nested : (form : FieldForm) (kind : Kind) (U : ℕ) (w : WireType) → is_map form ≡ false → message_of kind ≡ Some U → needs_level form kind w ≡ one_takes kind w
 needs_nested (MapFrom key) kind U w form e = absurd (true≢false form)
 needs_nested Singular (ScalarOf kind) U w form e = cc
 needs_nested Singular (MessageOf V) U w form e = refl

@@ -8,12 +8,12 @@ use Rattle.prost_reflect_wire.specs.Front.{DelimitedFront, RecordsFront}
 use Rattle.prost_reflect_wire.specs.Scalar.{Scalar, ScalarKind, kind_default, scalar_eq, scalar_valid}
 use Rattle.prost_reflect_wire.specs.Schema.{ScalarOf, ValueType, MapFrom, Field, Schema, known, field_of, is_message, is_key_kind, default_valid, field_valid, numbers_differ, schema_valid}
 use Rattle.prost_reflect_wire.specs.Content.{ContentOf, Entries, Value, ScalarValue, MapValue, value_at, changed}
-use Rattle.prost_reflect_wire.specs.Grammar.{AllowsInside, numbered, last, body, records_in, is_stray, is_stray_entry, one_allowed}
-use Rattle.prost_reflect_wire.specs.Meaning.{MeansInside, last_or, entry_value, put, pairs_in}
+use Rattle.prost_reflect_wire.specs.Grammar.{AllowsInside, nothing_inside, numbered, last, body, records_in, is_stray, is_stray_entry, one_allowed}
+use Rattle.prost_reflect_wire.specs.Meaning.{MeansInside, empty_inside, last_or, entry_value, put, pairs_in}
 use Rattle.prost_reflect_wire.specs.Typing.{kind_takes, element_valid, WellStored}
 use Rattle.prost_reflect_wire.specs.Storing.{with_stored}
 use Rattle.prost_reflect_wire.specs.Decoding.{Step}
-use Rattle.prost_reflect_wire.specs.EntryReading.{EntryTo, ScalarEntryTo}
+use Rattle.prost_reflect_wire.specs.EntryReading.{EntryTo, plain_type, ScalarEntryTo}
 use Rattle.prost_reflect_wire.proofs.ByteLists.{bytes_front, bytes_behind}
 use Rattle.prost_reflect_wire.proofs.SpelledValid.{spelled_valid}
 use Rattle.prost_reflect_wire.proofs.Survivors.{field_number}
@@ -51,12 +51,20 @@ delimited_bytes body bytes rest small front =
 
 -- WHAT IS READ FITS
 
+-- the key of an entry, whatever its value is
+pub entry_key_valid : (allow : AllowsInside) (inner : MeansInside) (levels : ℕ) (key : ScalarKind) (value_type : ValueType) (k : Scalar) (v : Value) (bytes : List ℕ) → EntryTo allow inner levels (plain_type key) value_type k v bytes [] → AreBytes bytes → is_key_kind (ScalarOf key) ≡ true → scalar_valid key k ≡ true
+entry_key_valid allow inner levels key value_type k v bytes done small keyed =
+    ap (scalar_valid key) (sym done.key_is) ∙ last_or_valid key (kind_default key) (numbered 1 done.records) (default_valid_key key keyed) (numbered_valid 1 done.records spelt) (λ p e. key_stays key p keyed)
+  where
+    spelt : valid (body_of done.records) ≡ true
+    spelt = let f : RecordsFront (body_of done.records) bytes [] = done.front in spelled_valid (body_of done.records) f.front (bytes_front f.front [] (subst AreBytes f.parts small)) f.spelled
+
 module _ (levels : ℕ) (key value_kind : ScalarKind) (k v : Scalar) (bytes : List ℕ) (done : ScalarEntryTo levels key value_kind k v bytes []) (small : AreBytes bytes) where
   spelt : valid (body_of done.records) ≡ true
   spelt = let f : RecordsFront (body_of done.records) bytes [] = done.front in spelled_valid (body_of done.records) f.front (bytes_front f.front [] (subst AreBytes f.parts small)) f.spelled
 
   pub key_read_valid : is_key_kind (ScalarOf key) ≡ true → scalar_valid key k ≡ true
-  key_read_valid keyed = ap (scalar_valid key) (sym done.key_is) ∙ last_or_valid key (kind_default key) (numbered 1 done.records) (default_valid_key key keyed) (numbered_valid 1 done.records spelt) (λ p e. key_stays key p keyed)
+  key_read_valid keyed = entry_key_valid nothing_inside (empty_inside []) levels key (plain_type value_kind) k (ScalarValue v) bytes done small keyed
 
   pub value_read_valid : IsOpen value_kind → scalar_valid value_kind (kind_default value_kind) ≡ true → scalar_valid value_kind v ≡ true
   value_read_valid whole default =
