@@ -7,7 +7,6 @@ use Rattle.prost_reflect_tables.specs.Rows.{MessageRow, TableRows}
 use Rattle.prost_reflect_tables.specs.Shown.{schema_from}
 use Rattle.prost_reflect.specs.Builtin.{builtin_schema, builtin_names}
 use Rattle.prost_reflect.specs.BuiltinRows.{builtin_messages, builtin_rows}
-use Rattle.prost_reflect.specs.Covered.{covered}
 
 pub builtin_shown : schema_from builtin_rows ≡ builtin_schema
 unfolding schema_from builtin_messages
@@ -30,11 +29,3 @@ shown_alike rows e = ap schema_from e ∙ builtin_shown
 pub named_alike : (rows : TableRows) → rows ≡ builtin_rows → map (λ m. m.full_name) rows.messages ≡ builtin_names
 unfolding builtin_messages
 named_alike rows e = ap (λ (x : TableRows). map (λ (m : MessageRow). m.full_name) x.messages) e
-
-pub plain_covered : covered builtin_schema 0 ≡ true
-unfolding covered
-plain_covered = refl
-
-pub kept_covered : covered builtin_schema 1 ≡ true
-unfolding covered
-kept_covered = refl

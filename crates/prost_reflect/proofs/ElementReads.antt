@@ -5,7 +5,7 @@ use Rattle.std.specs.declared.alloc.Global.{Global}
 use Rattle.std.proofs.lemmas.List.{map-append}
 use Rattle.prost_reflect_wire.specs.declared.key.WireType.TheVariants as wires
 use Rattle.prost_reflect_wire.specs.Front.{KeyFront, DelimitedFront}
-use Rattle.prost_reflect_wire.specs.Schema.{Kind, MessageOf, GroupOf, known, field_of, is_message}
+use Rattle.prost_reflect_wire.specs.Schema.{Kind, MessageOf, GroupOf, Repeated, known, field_of}
 use Rattle.prost_reflect_wire.specs.Content as contents
 use Rattle.prost_reflect_wire.specs.Content.{Content, ContentOf, MessageValue, ListValue, NoValues, ◌and_then◌, empty, value_at, entries_of, schema_of, type_of, values_from}
 use Rattle.prost_reflect_wire.specs.Typing.{WellStored, is_repeated as is_list}
@@ -25,37 +25,38 @@ use Rattle.prost_reflect.specs.declared.message.decode.Target.TheVariants as tar
 use Rattle.prost_reflect.specs.declared.value.Value.{Value}
 use Rattle.prost_reflect.specs.declared.value.Value as values
 use Rattle.prost_reflect.specs.Contents.{value_set}
-use Rattle.prost_reflect.specs.Covered.{covered, is_repeated, is_plain_kind, names_message}
+use Rattle.prost_reflect.specs.Covered.{is_repeated, is_plain_kind, names_message}
 use Rattle.prost_reflect.specs.Descriptors.{schema_at, type_at}
 use Rattle.prost_reflect.specs.Known.{known_of}
 use Rattle.prost_reflect.specs.Lists.{IsList, IsListOrNone, ListField, with_element}
+use Rattle.prost_reflect.specs.Numbers.{NumberList}
 use Rattle.prost_reflect.specs.Pools.{pool_rows}
 use Rattle.prost_reflect.specs.Targets.{NestedList, IsTarget, element_target_of}
 use Rattle.prost_reflect.specs.View.{value_of, content_of, descriptor_of}
-use Rattle.prost_reflect.proofs.Covering.{covered_further}
 use Rattle.prost_reflect.proofs.Described.{named_in_range}
 use Rattle.prost_reflect.proofs.ListMerging.{list_field}
 use Rattle.prost_reflect.proofs.Merging.{known_in, differ_in}
-use Rattle.prost_reflect.proofs.NestedReads.{FoundIn, schema_in, names_message as names_it, set_in, whole}
-use Rattle.prost_reflect.proofs.PlainKinds.{listed_row, list_kind}
+use Rattle.prost_reflect.proofs.NestedReads.{FoundIn, schema_in, set_in, whole}
+use Rattle.prost_reflect.proofs.NumberMerging.{number_list}
+use Rattle.prost_reflect.proofs.PlainKinds.{list_kind}
 use Rattle.prost_reflect.proofs.Views.{value_of_list, value_of_message}
 
 -- WHAT A RECORD IS READ AS
 
-pub list_target : (kind : TableKind) (g : Bool) → names_message kind ≡ false → element_target_of kind g ≡ targets.List kind
-list_target (kinds.Message T) g e = absurd (true≢false e)
-list_target kind g e = refl
+pub list_target : (kind : TableKind) (g : Bool) → names_message kind ≡ false → ((E : ℕ) → kind ≡ kinds.Enum E → ⊥) → element_target_of kind g ≡ targets.List kind
+list_target (kinds.Message T) g e none = absurd (true≢false e)
+list_target (kinds.Enum E) g e none = absurd (none E refl)
+list_target kind g e none = refl
 
-module _ (d : MessageDescriptor) (n : ℕ) (row : FieldRow) (found : field_of (known_of d) n ≡ Some (schema_field (pool_rows d.pool) row)) (many : is_repeated row.cardinality ≡ true)
-    (listed : names_message row.kind ≡ true → is_list (schema_field (pool_rows d.pool) row).form ≡ true) (plain : names_message row.kind ≡ false → is_plain_kind row.kind ≡ true) where
-  nested_list : (T : ℕ) (kind : Kind) → names_message row.kind ≡ true → schema_kind (pool_rows d.pool).enums row.kind row.is_group ≡ kind → message_of kind ≡ Some T → NestedList d n T kind
-  nested_list T kind message is names =
-      let own : (schema_field (pool_rows d.pool) row).value_type.kind ≡ kind = list_kind (pool_rows d.pool) row many (listed message) ∙ is in
+module _ (d : MessageDescriptor) (n : ℕ) (row : FieldRow) (found : field_of (known_of d) n ≡ Some (schema_field (pool_rows d.pool) row)) (many : is_repeated row.cardinality ≡ true) (form : (schema_field (pool_rows d.pool) row).form ≡ Repeated row.is_packed) where
+  nested_list : (T : ℕ) (kind : Kind) → schema_kind (pool_rows d.pool).enums row.kind row.is_group ≡ kind → message_of kind ≡ Some T → NestedList d n T kind
+  nested_list T kind is names =
+      let own : (schema_field (pool_rows d.pool) row).value_type.kind ≡ kind = list_kind (pool_rows d.pool) row many (ap is_list form) ∙ is in
       record {
         field = schema_field (pool_rows d.pool) row;
         packed = row.is_packed;
         found = found;
-        form = listed_row (pool_rows d.pool) row many (listed message);
+        form = form;
         kind_is = own;
         in_range = named_in_range d n (schema_field (pool_rows d.pool) row) T found (ap message_of own ∙ names);
       }
@@ -64,9 +65,10 @@ module _ (d : MessageDescriptor) (n : ℕ) (row : FieldRow) (found : field_of (k
   element_target_is = go row.kind row.is_group refl refl
     where
       go : (kind : TableKind) (g : Bool) → row.kind ≡ kind → row.is_group ≡ g → IsTarget d n (element_target_of kind g)
-      go (kinds.Message T) true k i = nested_list T (GroupOf T) (ap names_message k) (ap₂ (schema_kind (pool_rows d.pool).enums) k i) refl
-      go (kinds.Message T) false k i = nested_list T (MessageOf T) (ap names_message k) (ap₂ (schema_kind (pool_rows d.pool).enums) k i) refl
-      go kind g k i = subst (ListField (known_of d) n) k (list_field d n row found many (plain (ap names_message k)))
+      go (kinds.Message T) true k i = nested_list T (GroupOf T) (ap₂ (schema_kind (pool_rows d.pool).enums) k i) refl
+      go (kinds.Message T) false k i = nested_list T (MessageOf T) (ap₂ (schema_kind (pool_rows d.pool).enums) k i) refl
+      go (kinds.Enum E) g k i = subst (NumberList d n) k (number_list d n row E found many form k)
+      go kind g k i = subst (ListField (known_of d) n) k (list_field d n row found many (ap is_plain_kind k))
 
 -- THE LIST
 
@@ -119,18 +121,15 @@ pub record EmptyElement (m inner : DynamicMessage) (T : ℕ) : Type 0 where
   pub schema_is : schema_of (content_of inner) ≡ schema_of (content_of m)
   pub type_is : type_of (content_of inner) ≡ T
   pub sound : WellStored (content_of inner)
-  pub plain : covered (schema_at (descriptor_of inner)) (type_at (descriptor_of inner)) ≡ true
   pub is : content_of inner ≡ empty (schema_of (content_of m)) T
 
-pub empty_element : (m inner : DynamicMessage) (n T : ℕ) (kind : Kind) → covered (schema_at (descriptor_of m)) (type_at (descriptor_of m)) ≡ true → NestedList (descriptor_of m) n T kind → message_of kind ≡ Some T → content_of inner ≡ empty (schema_at (descriptor_of m)) T → EmptyElement m inner T
-empty_element m inner n T kind h at names is =
+pub empty_element : (m inner : DynamicMessage) (n T : ℕ) (kind : Kind) → NestedList (descriptor_of m) n T kind → message_of kind ≡ Some T → content_of inner ≡ empty (schema_at (descriptor_of m)) T → EmptyElement m inner T
+empty_element m inner n T kind at names is =
     let same : content_of inner ≡ empty (schema_of (content_of m)) T = is ∙ ap (λ s. empty s T) (sym (schema_in m)) in
     record {
       schema_is = ap schema_of same;
       type_is = ap type_of same;
       sound = subst WellStored (sym same) (record { fits = refl; types = tt; order = refl; members = refl });
-      plain = ap (λ s. covered s (type_at (descriptor_of inner))) (sym (schema_in inner) ∙ ap schema_of is)
-          ∙ covered_further (schema_at (descriptor_of m)) (type_at (descriptor_of m)) n (type_at (descriptor_of inner)) at.field h at.found (ap is_message at.kind_is ∙ names_it kind T names);
       is = same;
     }
 

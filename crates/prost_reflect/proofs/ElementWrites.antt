@@ -20,14 +20,14 @@ use Rattle.prost_reflect.specs.declared.descriptor.message.MessageDescriptor.{Me
 use Rattle.prost_reflect.specs.declared.message.DynamicMessage.{DynamicMessage}
 use Rattle.prost_reflect.specs.declared.value.Value.{Value}
 use Rattle.prost_reflect.specs.declared.value.Value as values
-use Rattle.prost_reflect.specs.Covered.{covered, is_repeated, names_message}
+use Rattle.prost_reflect.specs.Covered.{is_repeated, names_message}
 use Rattle.prost_reflect.specs.Descriptors.{schema_at, type_at}
 use Rattle.prost_reflect.specs.Encoding.{ValueWritable, nested_bytes}
 use Rattle.prost_reflect.specs.Known.{known_of}
 use Rattle.prost_reflect.specs.Lists.{ElementWritable, AreElements, element_bytes, elements_bytes}
 use Rattle.prost_reflect.specs.Pools.{pool_rows}
 use Rattle.prost_reflect.specs.View.{value_of, content_of, descriptor_of}
-use Rattle.prost_reflect.proofs.Covering.{covered_further, message_kind}
+use Rattle.prost_reflect.proofs.Covering.{message_kind}
 use Rattle.prost_reflect.proofs.Described.{found_checked}
 use Rattle.prost_reflect.proofs.NestedReads.{schema_in, type_in}
 use Rattle.prost_reflect.proofs.NestedWrites.{no_message_value, kind_bytes_before, shown_plain, shown_group}
@@ -50,14 +50,8 @@ module _ (m : DynamicMessage) (v : Value) (is : v ≡ values.Message m) where
   writable : ElementWritable (value_of v) → ElementWritable (MessageValue (content_of m))
   writable w = subst ElementWritable (ap value_of is ∙ value_of_message m) w
 
-  pub element_covered : ElementWritable (value_of v) → covered (schema_at (descriptor_of m)) (type_at (descriptor_of m)) ≡ true
-  element_covered w = ap₂ covered (sym (schema_in m)) (sym (type_in m)) ∙ (writable w).0
-
   pub element_encodable : ElementWritable (value_of v) → encodable (content_of m) ≡ true
-  element_encodable w = (writable w).1
-
-  pub element_typed : ElementWritable (value_of v) → Typed (content_of m)
-  element_typed w = (writable w).2
+  element_encodable w = writable w
 
   pub element_shown : (n : ℕ) (g : Bool) → element_bytes n g (value_of v) ≡ nested_bytes n g (content_of m)
   element_shown n g = ap (element_bytes n g) seen
@@ -86,25 +80,25 @@ module _ (n : ℕ) (kind : Kind) (g : Bool) (message : is_message kind ≡ true)
       go (ListValue ws) one more = absurd one
       go (contents.MapValue ps) one more = absurd one
 
--- elements that fit the list of a covered type can be written
-module _ (schema : Schema) (kind : Kind) (message : is_message kind ≡ true) (further : (U : ℕ) → covered schema U ≡ true) where
-  each_writable : (vs : List Value) → elements_valid kind (values_from (map value_of vs)) ≡ true → values_pass fit_test (values_from (map value_of vs)) ≡ true → ValuesTyped schema (Some kind) (values_from (map value_of vs)) → AreElements vs
-  each_writable [] h f t = tt
-  each_writable (v ∷ vs) h f t =
+-- elements that fit the list can be written
+module _ (kind : Kind) (message : is_message kind ≡ true) where
+  each_writable : (vs : List Value) → elements_valid kind (values_from (map value_of vs)) ≡ true → values_pass fit_test (values_from (map value_of vs)) ≡ true → AreElements vs
+  each_writable [] h f = tt
+  each_writable (v ∷ vs) h f =
       let valid = and_both (element_valid kind (value_of v)) (elements_valid kind (values_from (map value_of vs))) h in
       let fits = and_both (value_passes fit_test (value_of v)) (values_pass fit_test (values_from (map value_of vs))) f in
-      (go (value_of v) valid.0 fits.0 t.0, each_writable vs valid.1 fits.1 t.1)
+      (go (value_of v) valid.0 fits.0, each_writable vs valid.1 fits.1)
     where
       scalar : (kind : Kind) (s : Scalar) → is_message kind ≡ true → kind_takes kind s ≡ true → ⊥
       scalar (ScalarOf k) s m h = true≢false (sym m)
       scalar (MessageOf T) s m h = true≢false (sym h)
       scalar (GroupOf T) s m h = true≢false (sym h)
 
-      go : (c : contents.Value) → element_valid kind c ≡ true → value_passes fit_test c ≡ true → ValueTyped schema (Some kind) c → ElementWritable c
-      go (MessageValue c) h f t = (ap (λ s. covered s (type_of c)) t.0.0 ∙ further (type_of c), f, t.1)
-      go (contents.ScalarValue s) h f t = absurd (scalar kind s message h)
-      go (ListValue ws) h f t = absurd (true≢false (sym h))
-      go (contents.MapValue ps) h f t = absurd (true≢false (sym h))
+      go : (c : contents.Value) → element_valid kind c ≡ true → value_passes fit_test c ≡ true → ElementWritable c
+      go (MessageValue c) h f = f
+      go (contents.ScalarValue s) h f = absurd (scalar kind s message h)
+      go (ListValue ws) h f = absurd (true≢false (sym h))
+      go (contents.MapValue ps) h f = absurd (true≢false (sym h))
 
 -- what the writer of a list of messages needs to know, and what it has to write
 pub record MessagesWritten (d : MessageDescriptor) (n : ℕ) (g : Bool) (v : contents.Value) (vs : List Value) : Type 0 where
@@ -117,23 +111,17 @@ not_packed true (MessageOf T) m h = absurd (true≢false (sym h))
 not_packed true (GroupOf T) m h = absurd (true≢false (sym h))
 not_packed false kind m h = refl
 
-pub row_messages_written : (d : MessageDescriptor) (n : ℕ) (row : FieldRow) (v : Value) (vs : Vec Value Global) → covered (schema_at d) (type_at d) ≡ true → Some (schema_field (pool_rows d.pool) row) ≡ field_of (known_of d) n → is_repeated row.cardinality ≡ true →
-    is_list (schema_field (pool_rows d.pool) row).form ≡ true → names_message row.kind ≡ true → ValueWritable (schema_at d) (known_of d) n (value_of v) → v ≡ values.List vs → MessagesWritten d n row.is_group (value_of v) vs.items
-row_messages_written d n row v vs h found many listed names w is =
+pub row_messages_written : (d : MessageDescriptor) (n : ℕ) (row : FieldRow) (v : Value) (vs : Vec Value Global) → Some (schema_field (pool_rows d.pool) row) ≡ field_of (known_of d) n → is_repeated row.cardinality ≡ true →
+    (schema_field (pool_rows d.pool) row).form ≡ Repeated row.is_packed → names_message row.kind ≡ true → ValueWritable (known_of d) n (value_of v) → v ≡ values.List vs → MessagesWritten d n row.is_group (value_of v) vs.items
+row_messages_written d n row v vs found many form names w is =
     let seen : value_of v ≡ ListValue (values_from (map value_of vs.items)) = ap value_of is ∙ value_of_list vs in
-    let own : (schema_field (pool_rows d.pool) row).value_type.kind ≡ schema_kind (pool_rows d.pool).enums row.kind row.is_group = list_kind (pool_rows d.pool) row many listed in
+    let own : (schema_field (pool_rows d.pool) row).value_type.kind ≡ schema_kind (pool_rows d.pool).enums row.kind row.is_group = list_kind (pool_rows d.pool) row many (ap is_list form) in
     let message : is_message (schema_field (pool_rows d.pool) row).value_type.kind ≡ true = ap is_message own ∙ message_kind (pool_rows d.pool).enums row.kind row.is_group ∙ names in
-    let form : (schema_field (pool_rows d.pool) row).form ≡ Repeated row.is_packed = listed_row (pool_rows d.pool) row many listed in
     let checked = checked_list (schema_at d) (schema_field (pool_rows d.pool) row) row.is_packed (checked_field (schema_at d) (schema_field (pool_rows d.pool) row) (found_checked d n (schema_field (pool_rows d.pool) row) (sym found))) form in
     let single : (schema_field (pool_rows d.pool) row).form ≡ Repeated false = form ∙ ap Repeated (not_packed row.is_packed (schema_field (pool_rows d.pool) row).value_type.kind message checked.packable) in
     let valid : value_valid (schema_field (pool_rows d.pool) row) (ListValue (values_from (map value_of vs.items))) ≡ true = passing (field_of (known_of d) n) (schema_field (pool_rows d.pool) row) (λ f. value_valid f (ListValue (values_from (map value_of vs.items)))) (sym found)
     (ap (λ v. passes (field_of (known_of d) n) (λ f. value_valid f v)) (sym seen) ∙ w.valid) in
-    let types : ValueTyped (schema_at d) (Some (schema_field (pool_rows d.pool) row).value_type.kind) (ListValue (values_from (map value_of vs.items))) = field_typed (schema_at d) (schema_field (pool_rows d.pool) row) (ListValue (values_from (map value_of vs.items))) valid
-    (subst (λ o. ValueTyped (schema_at d) (kind_for o (ListValue (values_from (map value_of vs.items)))) (ListValue (values_from (map value_of vs.items)))) (sym found)
-    (subst (λ v. ValueTyped (schema_at d) (kind_for (field_of (known_of d) n) v) v) seen w.types)) in
-    let takes : AreElements vs.items = each_writable (schema_at d) (schema_field (pool_rows d.pool) row).value_type.kind message
-    (λ U. covered_further (schema_at d) (type_at d) n U (schema_field (pool_rows d.pool) row) h (sym found) message) vs.items
-    (and_both _ _ valid).1 (ap (value_passes fit_test) (sym seen) ∙ w.fits) types in
+    let takes : AreElements vs.items = each_writable (schema_field (pool_rows d.pool) row).value_type.kind message vs.items (and_both _ _ valid).1 (ap (value_passes fit_test) (sym seen) ∙ w.fits) in
     record {
       takes = takes;
       bytes = ap (value_bytes (known_of d) n) seen

@@ -13,7 +13,7 @@ use Rattle.prost_reflect_wire.specs.Schema.{Schema, Field, field_of, passes}
 use Rattle.prost_reflect_wire.specs.Content as contents
 use Rattle.prost_reflect_wire.specs.Content.{Entries, Slot, Stored, Unknown, then_unknowns, then_value, store}
 use Rattle.prost_reflect_wire.specs.Writing.{encoded, entries_records}
-use Rattle.prost_reflect_wire.specs.Typing.{EntryTest, fit_test, value_valid, value_passes, entries_pass, encodable, Typed, EntriesTyped, kept, kept_entries}
+use Rattle.prost_reflect_wire.specs.Typing.{EntryTest, fit_test, value_valid, value_passes, entries_pass, encodable, kept, kept_entries}
 use Rattle.prost_reflect_wire.specs.Storing.{slot_bytes, value_bytes, stored_bytes}
 use Rattle.prost_reflect_wire.specs.Unknown.{records_of}
 use Rattle.prost_reflect_wire.specs.declared.unknown.UnknownFieldSet.{UnknownFieldSet}
@@ -67,26 +67,15 @@ behind_unknowns test fields n [] es h = h
 behind_unknowns test fields n (p ∷ ps) es h = behind_unknowns test fields n ps es (and_both (test.unknown fields n p) _ h).1
 
 -- the value of the first entry
-record FirstValue (schema : Schema) (fields : List Field) (n : ℕ) (o : Option contents.Value) : Type 0 where
-  pub writable : (v : contents.Value) → o ≡ Some v → ValueWritable schema fields n v
+record FirstValue (fields : List Field) (n : ℕ) (o : Option contents.Value) : Type 0 where
+  pub writable : (v : contents.Value) → o ≡ Some v → ValueWritable fields n v
 
-first_value : (schema : Schema) (fields : List Field) (n : ℕ) (o : Option contents.Value) (es : Entries) → entries_pass fit_test fields (then_value n o es) ≡ true → EntriesTyped schema fields (then_value n o es) → FirstValue schema fields n o
-first_value schema fields n None es h t = record { writable = λ v e. cc }
-first_value schema fields n (Some w) es h t =
+first_value : (fields : List Field) (n : ℕ) (o : Option contents.Value) (es : Entries) → entries_pass fit_test fields (then_value n o es) ≡ true → FirstValue fields n o
+first_value fields n None es h = record { writable = λ v e. cc }
+first_value fields n (Some w) es h =
     let parts = and_both (passes (field_of fields n) (λ f. value_valid f w)) (value_passes fit_test w) (and_both _ (entries_pass fit_test fields es) h).0 in
-    let own : ValueWritable schema fields n w = record { valid = parts.0; fits = parts.1; types = t.0 } in
-    record { writable = λ v e. let same : w ≡ v = cc in subst (ValueWritable schema fields n) same own }
-
-typed_behind : (schema : Schema) (fields : List Field) (n : ℕ) (slot : Slot) (es : Entries) → EntriesTyped schema fields (store n slot es) → EntriesTyped schema fields es
-typed_behind schema fields n slot es h = past_unknowns slot.unknowns (past_value slot.value h)
-  where
-    past_value : (o : Option contents.Value) → EntriesTyped schema fields (then_value n o (then_unknowns n slot.unknowns es)) → EntriesTyped schema fields (then_unknowns n slot.unknowns es)
-    past_value None h = h
-    past_value (Some v) h = h.1
-
-    past_unknowns : (ps : List Payload) → EntriesTyped schema fields (then_unknowns n ps es) → EntriesTyped schema fields es
-    past_unknowns [] h = h
-    past_unknowns (p ∷ ps) h = past_unknowns ps h
+    let own : ValueWritable fields n w = record { valid = parts.0; fits = parts.1 } in
+    record { writable = λ v e. let same : w ≡ v = cc in subst (ValueWritable fields n) same own }
 
 behind_value : (test : EntryTest) (fields : List Field) (n : ℕ) (o : Option contents.Value) (es : Entries) → entries_pass test fields (then_value n o es) ≡ true → entries_pass test fields es ≡ true
 behind_value test fields n None es h = h
@@ -113,20 +102,19 @@ own_in fields (e ∷ es) s kept = (
 shown_value : (e : Entry Value) (v : Value) → value_in e ≡ Some v → (slot_of (shown_entry e)).value ≡ Some (value_of v)
 shown_value e v is = ap (λ (slot : Slot). slot.value) (slot_shown e) ∙ ap (option_map value_of) is
 
-writable_entries : (schema : Schema) (fields : List Field) (es : List (ℕ × Entry Value)) → entries_pass fit_test fields (entries_from (shown es)) ≡ true → EntriesTyped schema fields (entries_from (shown es)) → OwnRecords es → AreWritable schema fields es
-writable_entries schema fields [] h t own = tt
-writable_entries schema fields (e ∷ es) h t own = (
+writable_entries : (fields : List Field) (es : List (ℕ × Entry Value)) → entries_pass fit_test fields (entries_from (shown es)) ≡ true → OwnRecords es → AreWritable fields es
+writable_entries fields [] h own = tt
+writable_entries fields (e ∷ es) h own = (
   record {
-    value = λ v is. (first_value schema fields e.0 (slot_of (shown_entry e.1)).value (then_unknowns e.0 (slot_of (shown_entry e.1)).unknowns (entries_from (shown es))) h t).writable (value_of v) (shown_value e.1 v is);
+    value = λ v is. (first_value fields e.0 (slot_of (shown_entry e.1)).value (then_unknowns e.0 (slot_of (shown_entry e.1)).unknowns (entries_from (shown es))) h).writable (value_of v) (shown_value e.1 v is);
     own = own.0;
   },
-  writable_entries schema fields es (behind_unknowns fit_test fields e.0 (slot_of (shown_entry e.1)).unknowns (entries_from (shown es)) (behind_value fit_test fields e.0 (slot_of (shown_entry e.1)).value _ h))
-      (typed_behind schema fields e.0 (slot_of (shown_entry e.1)) (entries_from (shown es)) t) own.1,
+  writable_entries fields es (behind_unknowns fit_test fields e.0 (slot_of (shown_entry e.1)).unknowns (entries_from (shown es)) (behind_value fit_test fields e.0 (slot_of (shown_entry e.1)).value _ h)) own.1,
 )
 
-pub writable_message : (m : DynamicMessage) → encodable (content_of m) ≡ true → Typed (content_of m) → IsAscending (stored_in m) → IsSound (descriptor_of m) (stored_in m) → AreWritable (schema_at (descriptor_of m)) (known_of (descriptor_of m)) (stored_in m)
-writable_message m h t s sound =
-    writable_entries (schema_at (descriptor_of m)) (known_of (descriptor_of m)) (stored_in m) (ap encodable (sym (content_of_message m)) ∙ h) (subst Typed (content_of_message m) t) (own_in (known_of (descriptor_of m)) (stored_in m) s sound.1)
+pub writable_message : (m : DynamicMessage) → encodable (content_of m) ≡ true → IsAscending (stored_in m) → IsSound (descriptor_of m) (stored_in m) → AreWritable (known_of (descriptor_of m)) (stored_in m)
+writable_message m h s sound =
+    writable_entries (known_of (descriptor_of m)) (stored_in m) (ap encodable (sym (content_of_message m)) ∙ h) (own_in (known_of (descriptor_of m)) (stored_in m) s sound.1)
 
 -- ONE ENTRY
 
@@ -161,10 +149,10 @@ too_long_from fields items i e old mid cut is h =
       bytes_drop fields (i - 1) items,
     )
 
-pub writable_at : (schema : Schema) (fields : List Field) (items : List (ℕ × Entry Value)) (i : ℕ) (e : ℕ × Entry Value) → i < length items → e ≡ get_or items i e → AreWritable schema fields items → IsWritable schema fields e.0 e.1
-writable_at schema fields [] i e l is h = absurd (omega arith)
-writable_at schema fields (x ∷ items) zero e l is h = subst (λ (x : ℕ × Entry Value). IsWritable schema fields x.0 x.1) (sym is) h.0
-writable_at schema fields (x ∷ items) (suc i) e l is h = writable_at schema fields items i e (omega arith) is h.1
+pub writable_at : (fields : List Field) (items : List (ℕ × Entry Value)) (i : ℕ) (e : ℕ × Entry Value) → i < length items → e ≡ get_or items i e → AreWritable fields items → IsWritable fields e.0 e.1
+writable_at fields [] i e l is h = absurd (omega arith)
+writable_at fields (x ∷ items) zero e l is h = subst (λ (x : ℕ × Entry Value). IsWritable fields x.0 x.1) (sym is) h.0
+writable_at fields (x ∷ items) (suc i) e l is h = writable_at fields items i e (omega arith) is h.1
 
 -- the whole is written
 pub whole_written : (m : DynamicMessage) (i : ℕ) (old new : List ℕ) → i ≡ 0 → new ≡ entries_bytes (known_of (descriptor_of m)) (drop i (stored_in m)) ++ old → new ≡ encoded (kept (content_of m)) ++ old
@@ -174,8 +162,8 @@ module _ (m : DynamicMessage) (i : ℕ) (e : ℕ × Entry Value) (some : 0 < i) 
   cut_here : drop (i - 1) (stored_in m) ≡ e ∷ drop i (stored_in m)
   cut_here = cut_before (stored_in m) i e some within at
 
-  pub entry_writable : encodable (content_of m) ≡ true → Typed (content_of m) → IsAscending (stored_in m) → IsSound (descriptor_of m) (stored_in m) → IsWritable (schema_at (descriptor_of m)) (known_of (descriptor_of m)) e.0 e.1
-  entry_writable h t s sound = writable_at (schema_at (descriptor_of m)) (known_of (descriptor_of m)) (stored_in m) (i - 1) e (omega (arith, some, within)) at (writable_message m h t s sound)
+  pub entry_writable : encodable (content_of m) ≡ true → IsAscending (stored_in m) → IsSound (descriptor_of m) (stored_in m) → IsWritable (known_of (descriptor_of m)) e.0 e.1
+  entry_writable h s sound = writable_at (known_of (descriptor_of m)) (stored_in m) (i - 1) e (omega (arith, some, within)) at (writable_message m h s sound)
 
   entry_too_long : (old mid : List ℕ) → mid ≡ entries_bytes (known_of (descriptor_of m)) (drop i (stored_in m)) ++ old → 2 ^ 64 ≤ length (slot_bytes (known_of (descriptor_of m)) e.0 (entry_slot e.1)) + length mid → 2 ^ 64 ≤ length (encoded (kept (content_of m))) + length old
   entry_too_long old mid is h =

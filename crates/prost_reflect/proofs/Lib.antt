@@ -23,6 +23,7 @@ pub mod NestedReads
 pub mod MapEntries
 pub mod MapMerging
 pub mod MapRows
+mod RepeatedRows
 pub mod ContentChanges
 mod KeptSlots
 pub mod Described
@@ -43,4 +44,5 @@ pub mod StoredViews
 pub mod StoredContents
 mod ListElements
 mod ListMerging
+mod NumberMerging
 mod WrittenLists

@@ -23,9 +23,9 @@ use Rattle.prost_reflect.specs.declared.value.Value as values
 use Rattle.prost_reflect.specs.Pools.{pool_rows}
 use Rattle.prost_reflect.specs.Descriptors.{schema_at, type_at}
 use Rattle.prost_reflect.specs.Known.{known_of}
-use Rattle.prost_reflect.specs.Covered.{covered, is_plain, is_plain_kind, is_repeated, names_message}
+use Rattle.prost_reflect.specs.Covered.{is_plain, is_plain_kind}
 use Rattle.prost_reflect.specs.ContentLaws.{pairs_shown}
-use Rattle.prost_reflect.specs.MapParts.{two_of, entry_parts, map_parts, value_row}
+use Rattle.prost_reflect.specs.MapParts.{two_of, entry_parts, map_parts}
 use Rattle.prost_reflect.specs.Maps.{PlainMap, pairs_bytes, IsMap, MapOfRows}
 use Rattle.prost_reflect.specs.Targets.{IsTarget, repeated_target_of}
 use Rattle.prost_reflect.specs.View.{value_of}
@@ -38,11 +38,11 @@ use Rattle.prost_reflect.proofs.WrittenValues.{is_enum, passing}
 use Rattle.prost_reflect.proofs.WrittenMaps.{PartRow, MapWritten, map_of_kinds}
 
 -- the types of a map's keys and values are those of its entry's fields
-record ShownMap (rows : TableRows) (f : Field) (key value : FieldRow) : Type 0 where
+pub record ShownMap (rows : TableRows) (f : Field) (key value : FieldRow) : Type 0 where
   pub form : f.form ≡ MapFrom (own_type rows.enums key)
   pub type : f.value_type ≡ own_type rows.enums value
 
-shown_map : (rows : TableRows) (f key value : FieldRow) → map_parts rows f ≡ Some (key, value) → ShownMap rows (schema_field rows f) key value
+pub shown_map : (rows : TableRows) (f key value : FieldRow) → map_parts rows f ≡ Some (key, value) → ShownMap rows (schema_field rows f) key value
 shown_map rows f key value h = let (form, type) = go f.cardinality h in record { form = form; type = type }
   where
     two : (fields : List FieldRow) → two_of fields ≡ Some (key, value) → (MapFrom (type_or rows.enums f (slice_get fields 0)) ≡ MapFrom (own_type rows.enums key)) × (type_or rows.enums f (slice_get fields 1) ≡ own_type rows.enums value)
@@ -64,7 +64,7 @@ no_enum (Enum first numbers) h = absurd (true≢false (sym h))
 no_enum kind h = refl
 
 -- kinds of keys are plain
-key_plain : (kind : Kind) → is_key_kind kind ≡ true → is_plain kind ≡ true
+pub key_plain : (kind : Kind) → is_key_kind kind ≡ true → is_plain kind ≡ true
 key_plain (ScalarOf (Enum first numbers)) h = absurd (true≢false (sym h))
 key_plain (ScalarOf kind) h = refl
 key_plain (MessageOf T) h = absurd (true≢false (sym h))
@@ -120,67 +120,6 @@ module _ (d : MessageDescriptor) (n : ℕ) (row key value : FieldRow) (found : S
       (part_row value value_kind (covering.plain_kind (pool_rows d.pool).enums value.kind value.is_group ∙ plain))
       (map_key_default (schema_at d) field (own_type (pool_rows d.pool).enums key) key_kind.scalar checked shown.form key_kind.is)
       (known_of d) field es (sym found) shown.form shown.type (passing (field_of (known_of d) n) field (λ f. value_valid f (MapValue (pairs_shown es))) (sym found) h)
-
--- WHAT A RECORD OF A REPEATED FIELD IS READ AS, AND WHAT IS WRITTEN OF ITS VALUE
-
-first_of_or : (a b : Bool) → (a || b) ≡ true → b ≡ false → a ≡ true
-first_of_or true b h e = refl
-first_of_or false b h e = sym e ∙ h
-
-and_false : (b : Bool) → (b && false) ≡ false
-and_false true = refl
-and_false false = refl
-
-and_true : (b : Bool) → (b && true) ≡ b
-and_true true = refl
-and_true false = refl
-
-message_apart : (kind : TableKind) → names_message kind ≡ true → is_plain_kind kind ≡ false
-message_apart (kinds.Message T) e = refl
-message_apart kind e = absurd (true≢false (sym e))
-
-module _ (d : MessageDescriptor) (n : ℕ) (row : FieldRow) (h : covered (schema_at d) (type_at d) ≡ true) (found : Some (schema_field (pool_rows d.pool) row) ≡ field_of (known_of d) n) (many : is_repeated row.cardinality ≡ true) where
-  values_covered : (is_plain_kind (value_row (map_parts (pool_rows d.pool) row) row).kind || (is_list (schema_field (pool_rows d.pool) row).form && names_message row.kind)) ≡ true
-  values_covered = covering.covered_values (pool_rows d.pool) row (covering.covered_field (schema_at d) (type_at d) n (schema_field (pool_rows d.pool) row) h (sym found)) many
-
-  -- a list of scalars has a plain kind
-  pub list_plain : None ≡ map_parts (pool_rows d.pool) row → names_message row.kind ≡ false → is_plain_kind row.kind ≡ true
-  list_plain none scalar = ap (λ o. is_plain_kind (value_row o row).kind) none
-      ∙ first_of_or (is_plain_kind (value_row (map_parts (pool_rows d.pool) row) row).kind) (is_list (schema_field (pool_rows d.pool) row).form && names_message row.kind) values_covered
-      (ap (λ b. is_list (schema_field (pool_rows d.pool) row).form && b) scalar ∙ and_false (is_list (schema_field (pool_rows d.pool) row).form))
-
-  -- one of messages is a list
-  pub messages_listed : None ≡ map_parts (pool_rows d.pool) row → names_message row.kind ≡ true → is_list (schema_field (pool_rows d.pool) row).form ≡ true
-  messages_listed none names =
-      sym (and_true (is_list (schema_field (pool_rows d.pool) row).form)) ∙ ap (λ b. is_list (schema_field (pool_rows d.pool) row).form && b) (sym names)
-      ∙ ap (λ b. b || (is_list (schema_field (pool_rows d.pool) row).form && names_message row.kind)) (sym (message_apart row.kind names) ∙ ap (λ o. is_plain_kind (value_row o row).kind) none)
-      ∙ values_covered
-
-  -- a map has rows of a key and a value, of a plain kind
-  entries_plain : (key value : FieldRow) → Some (key, value) ≡ map_parts (pool_rows d.pool) row → is_plain_kind value.kind ≡ true
-  entries_plain key value parts =
-      let m = shown_map (pool_rows d.pool) row key value (sym parts) in
-      ap (λ o. is_plain_kind (value_row o row).kind) parts
-      ∙ first_of_or (is_plain_kind (value_row (map_parts (pool_rows d.pool) row) row).kind) (is_list (schema_field (pool_rows d.pool) row).form && names_message row.kind) values_covered
-      (ap (λ form. is_list form && names_message row.kind) m.form)
-
-  pub map_of_rows : (key value : FieldRow) → Some (key, value) ≡ map_parts (pool_rows d.pool) row → MapOfRows d n key value
-  map_of_rows key value parts = record { row = row; found = found; parts = sym parts; plain = entries_plain key value parts }
-
-  -- a field that is no map has a list
-  pub listed_form : None ≡ map_parts (pool_rows d.pool) row → (schema_field (pool_rows d.pool) row).form ≡ Repeated row.is_packed
-  listed_form none = go (names_message row.kind) refl
-    where
-      go : (b : Bool) → names_message row.kind ≡ b → (schema_field (pool_rows d.pool) row).form ≡ Repeated row.is_packed
-      go true e = listed_row (pool_rows d.pool) row many (messages_listed none e)
-      go false e = list_row (pool_rows d.pool) row many (list_plain none e)
-
-  pub repeated_is : IsTarget d n (repeated_target_of (map_parts (pool_rows d.pool) row) row.kind row.is_group)
-  repeated_is = go (map_parts (pool_rows d.pool) row) refl
-    where
-      go : (o : Option (FieldRow × FieldRow)) → map_parts (pool_rows d.pool) row ≡ o → IsTarget d n (repeated_target_of o row.kind row.is_group)
-      go None e = element_target_is d n row (sym found) many (messages_listed (sym e)) (list_plain (sym e))
-      go (Some (key, value)) e = plain_map d n row key value found e (entries_plain key value (sym e))
 
 -- the value of a map is one
 pub valid_map_value : (d : MessageDescriptor) (n : ℕ) (key value : FieldRow) (c : contents.Value) → MapOfRows d n key value → passes (field_of (known_of d) n) (λ f. value_valid f c) ≡ true → IsMap c

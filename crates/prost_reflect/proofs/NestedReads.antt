@@ -23,12 +23,10 @@ use Rattle.prost_reflect.specs.declared.value.Value.TheFolds.{fold_out-Value, ma
 use Rattle.prost_reflect.specs.Descriptors.{schema_at, type_at}
 use Rattle.prost_reflect.specs.View.{value_step, message_step, value_of, content_of, descriptor_of}
 use Rattle.prost_reflect.specs.Contents.{value_set}
-use Rattle.prost_reflect.specs.Covered.{covered}
 use Rattle.prost_reflect.specs.Targets.{NestedField, NestedFault}
 use Rattle.prost_reflect.specs.Held.{HeldMessage, ReadIntoHeld, GroupReadIntoHeld, StandsInHeld, GroupStandsInHeld}
 use Rattle.prost_reflect.specs.Variants.{message_in}
 use Rattle.prost_reflect.proofs.Views.{content_of_message}
-use Rattle.prost_reflect.proofs.Covering.{covered_further}
 use Rattle.prost_reflect.proofs.Merging.{differ_in, known_in}
 
 pub schema_in : (m : DynamicMessage) → schema_of (content_of m) ≡ schema_at (descriptor_of m)
@@ -48,10 +46,6 @@ pub names_message : (kind : Kind) (T : ℕ) → message_of kind ≡ Some T → i
 names_message (ScalarOf kind) T e = cc
 names_message (MessageOf U) T e = refl
 names_message (GroupOf U) T e = refl
-
--- a covered type that has such a field stands among covered types alone
-pub covered_inside : (d : MessageDescriptor) (n T : ℕ) (kind : Kind) → covered (schema_at d) (type_at d) ≡ true → NestedField d n T kind → message_of kind ≡ Some T → (U : ℕ) → covered (schema_at d) U ≡ true
-covered_inside d n T kind h at names U = covered_further (schema_at d) (type_at d) n U at.field h at.found (ap is_message at.kind_is ∙ names_message kind T names)
 
 -- WHAT IS HELD
 
@@ -136,10 +130,9 @@ pub record InsideMessage (m inner : DynamicMessage) (n T : ℕ) : Type 0 where
   pub type_is : type_of (content_of inner) ≡ T
   pub sound : WellStored (content_of inner)
   pub into : ReadInto (schema_of (content_of m)) T n (entries_of (content_of m)) (content_of inner)
-  pub plain : covered (schema_at (descriptor_of inner)) (type_at (descriptor_of inner)) ≡ true
 
-pub inside_message : (m inner : DynamicMessage) (n T : ℕ) (v : Value) → ((U : ℕ) → covered (schema_at (descriptor_of m)) U ≡ true) → LentMessage m n T v → value_of v ≡ MessageValue (content_of inner) → InsideMessage m inner n T
-inside_message m inner n T v h lent is =
+pub inside_message : (m inner : DynamicMessage) (n T : ℕ) (v : Value) → LentMessage m n T v → value_of v ≡ MessageValue (content_of inner) → InsideMessage m inner n T
+inside_message m inner n T v lent is =
     let same : lent.content ≡ content_of inner = one_content (sym lent.is ∙ is) in
     let schemas : schema_of (content_of inner) ≡ schema_of (content_of m) = ap schema_of (sym same) ∙ lent.schema_is in
     record {
@@ -147,18 +140,17 @@ inside_message m inner n T v h lent is =
       type_is = ap type_of (sym same) ∙ lent.type_is;
       sound = subst WellStored same lent.sound;
       into = subst (ReadInto (schema_of (content_of m)) T n (entries_of (content_of m))) same lent.into;
-      plain = ap (λ s. covered s (type_at (descriptor_of inner))) (sym (schema_in inner) ∙ schemas ∙ schema_in m) ∙ h (type_at (descriptor_of inner));
     }
   where
     one_content : {c d : Content} → MessageValue c ≡ MessageValue d → c ≡ d
     one_content e = cc
 
 -- the message that a lent value holds
-pub held_message : (m : DynamicMessage) (n T : ℕ) (v : Value) → ((U : ℕ) → covered (schema_at (descriptor_of m)) U ≡ true) → LentMessage m n T v → HeldMessage (message_in (out-Value v))
-held_message m n T v h lent =
+pub held_message : (m : DynamicMessage) (n T : ℕ) (v : Value) → LentMessage m n T v → HeldMessage (message_in (out-Value v))
+held_message m n T v lent =
     let held = held_of v lent.content lent.is in
-    let at = inside_message m held.message n T v h lent (held_is v held.message held.is) in
-    record { message = held.message; is = held.is; plain = at.plain; sound = at.sound }
+    let at = inside_message m held.message n T v lent (held_is v held.message held.is) in
+    record { message = held.message; is = held.is; sound = at.sound }
 
 -- ONE MORE RECORD
 
@@ -239,11 +231,11 @@ module _ (m inner : DynamicMessage) (n T : ℕ) (schema_is : schema_of (content_
 
 -- WHAT WAS READ INTO THE LENT VALUE
 
-module _ (m : DynamicMessage) (n T levels : ℕ) (v : Value) (some : 1 ≤ levels) (sound : WellStored (content_of m)) (h : (U : ℕ) → covered (schema_at (descriptor_of m)) U ≡ true) (lent : LentMessage m n T v) where
+module _ (m : DynamicMessage) (n T levels : ℕ) (v : Value) (some : 1 ≤ levels) (sound : WellStored (content_of m)) (lent : LentMessage m n T v) where
   pub message_read_in : (new : DynamicMessage) (after : contents.Value) (w : WireType) (bytes body rest : List ℕ) → NestedField (descriptor_of m) n T (MessageOf T) → w ≡ wires.LengthDelimited → DelimitedFront body bytes rest →
       ReadIntoHeld (levels - 1) (message_in (out-Value v)) after body → content_of new ≡ value_set n after (content_of m) → Step levels n w (content_of m) (content_of new) bytes rest
   message_read_in new after w bytes body rest field wire front r set =
-      let at = inside_message m r.before n T v h lent (held_is v r.before r.was) in
+      let at = inside_message m r.before n T v lent (held_is v r.before r.was) in
       subst (λ w. Step levels n w (content_of m) (content_of new) bytes rest) (sym wire)
       (subst (λ k. Step k n wires.LengthDelimited (content_of m) (content_of new) bytes rest) (one_less levels some)
       (nested_step m r.before r.after new n T (levels - 1) sound at (set ∙ ap (λ x. value_set n x (content_of m)) r.is) bytes body rest field front r.progress))
@@ -251,7 +243,7 @@ module _ (m : DynamicMessage) (n T levels : ℕ) (v : Value) (some : 1 ≤ level
   pub group_read_in : (new : DynamicMessage) (after : contents.Value) (w : WireType) (bytes rest : List ℕ) → NestedField (descriptor_of m) n T (GroupOf T) → w ≡ wires.StartGroup →
       GroupReadIntoHeld (levels - 1) n (message_in (out-Value v)) after bytes rest → content_of new ≡ value_set n after (content_of m) → Step levels n w (content_of m) (content_of new) bytes rest
   group_read_in new after w bytes rest field wire r set =
-      let at = inside_message m r.before n T v h lent (held_is v r.before r.was) in
+      let at = inside_message m r.before n T v lent (held_is v r.before r.was) in
       subst (λ w. Step levels n w (content_of m) (content_of new) bytes rest) (sym wire)
       (subst (λ k. Step k n wires.StartGroup (content_of m) (content_of new) bytes rest) (one_less levels some)
       (nested_group_step m r.before r.after new n T (levels - 1) sound at (set ∙ ap (λ x. value_set n x (content_of m)) r.is) bytes rest field r.progress))
@@ -259,11 +251,11 @@ module _ (m : DynamicMessage) (n T levels : ℕ) (v : Value) (some : 1 ≤ level
   pub message_refused_in : (e : DecodeError) (w : WireType) (bytes body rest : List ℕ) → NestedField (descriptor_of m) n T (MessageOf T) → w ≡ wires.LengthDelimited → DelimitedFront body bytes rest →
       StandsInHeld (levels - 1) (message_in (out-Value v)) e body → StandsBehindKey (content_of m) levels n w e bytes
   message_refused_in e w bytes body rest field wire front f =
-      let at = inside_message m f.before n T v h lent (held_is v f.before f.was) in
+      let at = inside_message m f.before n T v lent (held_is v f.before f.was) in
       subst (λ w. StandsBehindKey (content_of m) levels n w e bytes) (sym wire) (inside_refused m f.before n T at.schema_is at.type_is levels some e body bytes rest (found_in m n T (MessageOf T) field refl) front f.stands)
 
   pub group_refused_in : (e : DecodeError) (w : WireType) (bytes : List ℕ) → NestedField (descriptor_of m) n T (GroupOf T) → w ≡ wires.StartGroup →
       GroupStandsInHeld (levels - 1) n (message_in (out-Value v)) e bytes → StandsBehindKey (content_of m) levels n w e bytes
   group_refused_in e w bytes field wire f =
-      let at = inside_message m f.before n T v h lent (held_is v f.before f.was) in
+      let at = inside_message m f.before n T v lent (held_is v f.before f.was) in
       subst (λ w. StandsBehindKey (content_of m) levels n w e bytes) (sym wire) (in_group_refused m f.before n T at.schema_is at.type_is levels some e bytes (found_in m n T (GroupOf T) field refl) f.stands)

@@ -26,10 +26,9 @@ use Rattle.prost_reflect.specs.declared.value.Value.TheFolds.{fold-roll-Value, i
 use Rattle.prost_reflect.specs.Pools.{pool_rows}
 use Rattle.prost_reflect.specs.Descriptors.{schema_at, type_at}
 use Rattle.prost_reflect.specs.Known.{known_of}
-use Rattle.prost_reflect.specs.Covered.{covered, is_repeated}
+use Rattle.prost_reflect.specs.Covered.{is_repeated}
 use Rattle.prost_reflect.specs.Encoding.{ValueWritable, nested_bytes}
 use Rattle.prost_reflect.specs.View.{value_step, message_step, value_of, content_of, descriptor_of}
-use Rattle.prost_reflect.proofs.Covering.{covered_further}
 use Rattle.prost_reflect.proofs.PlainKinds.{single_row, own_of}
 use Rattle.prost_reflect.proofs.Views.{value_of_message}
 use Rattle.prost_reflect.proofs.WrittenValues.{is_message_value, passing}
@@ -95,26 +94,20 @@ shown_group enums kind g T e = cc
 
 -- what the writer of a message's value needs to know, and what it has to write
 pub record NestedWritten (d : MessageDescriptor) (n : ℕ) (g : Bool) (m : DynamicMessage) (v : contents.Value) : Type 0 where
-  pub plain : covered (schema_at (descriptor_of m)) (type_at (descriptor_of m)) ≡ true
   pub fits : encodable (content_of m) ≡ true
-  pub types : Typed (content_of m)
   pub bytes : value_bytes (known_of d) n v ≡ nested_bytes n g (content_of m)
 
-pub nested_written : (d : MessageDescriptor) (n : ℕ) (row : FieldRow) (v : Value) (m : DynamicMessage) → covered (schema_at d) (type_at d) ≡ true → is_repeated row.cardinality ≡ false → Some (schema_field (pool_rows d.pool) row) ≡ field_of (known_of d) n → ValueWritable (schema_at d) (known_of d) n (value_of v) →
+pub nested_written : (d : MessageDescriptor) (n : ℕ) (row : FieldRow) (v : Value) (m : DynamicMessage) → is_repeated row.cardinality ≡ false → Some (schema_field (pool_rows d.pool) row) ≡ field_of (known_of d) n → ValueWritable (known_of d) n (value_of v) →
     v ≡ values.Message m → NestedWritten d n row.is_group m (value_of v)
-nested_written d n row v m h one found writable is =
+nested_written d n row v m one found writable is =
     let shown : Field = schema_field (pool_rows d.pool) row in
     let seen : value_of v ≡ MessageValue (content_of m) = ap value_of is ∙ value_of_message m in
     let single = single_row (pool_rows d.pool) row one in
     let valid : value_valid (schema_field (pool_rows d.pool) row) (MessageValue (content_of m)) ≡ true = passing (field_of (known_of d) n) (schema_field (pool_rows d.pool) row) (λ f. value_valid f (MessageValue (content_of m))) (sym found)
     (ap (λ v. passes (field_of (known_of d) n) (λ f. value_valid f v)) (sym seen) ∙ writable.valid) in
-    let types : ValueTyped (schema_at d) (Some (schema_field (pool_rows d.pool) row).value_type.kind) (MessageValue (content_of m)) = field_typed (schema_at d) (schema_field (pool_rows d.pool) row) (MessageValue (content_of m)) valid
-    (subst (λ o. ValueTyped (schema_at d) (kind_for o (MessageValue (content_of m))) (MessageValue (content_of m))) (sym found) (subst (λ v. ValueTyped (schema_at d) (kind_for (field_of (known_of d) n) v) v) seen writable.types)) in
     let own : (schema_field (pool_rows d.pool) row).value_type.kind ≡ schema_kind (pool_rows d.pool).enums row.kind row.is_group = ap (λ (t : ValueType). t.kind) (own_of (pool_rows d.pool) row single) in
     record {
-      plain = ap (λ s. covered s (type_at (descriptor_of m))) (sym (schema_in m) ∙ types.0.0) ∙ covered_further (schema_at d) (type_at d) n (type_at (descriptor_of m)) (schema_field (pool_rows d.pool) row) h (sym found) (and_both (is_singular (schema_field (pool_rows d.pool) row).form) _ valid).1;
       fits = ap (value_passes fit_test) (sym seen) ∙ writable.fits;
-      types = types.1;
       bytes = ap (value_bytes (known_of d) n) seen
           ∙ message_written (known_of d) n (schema_field (pool_rows d.pool) row) (content_of m) (sym found) single
           ∙ kind_bytes n (schema_field (pool_rows d.pool) row).value_type.kind row.is_group (content_of m) (and_both (is_singular (schema_field (pool_rows d.pool) row).form) _ valid).1

@@ -70,13 +70,17 @@ single_row rows row h = go row.cardinality h
     go Required h = refl
     go RepeatedLabel h = absurd (true≢false h)
 
-pub list_row : (rows : TableRows) (row : FieldRow) → is_repeated row.cardinality ≡ true → is_plain_kind row.kind ≡ true → (schema_field rows row).form ≡ Repeated row.is_packed
-list_row rows row h plain = ap (form_of rows.enums row row.cardinality) (no_entry rows.messages row row.cardinality plain) ∙ go row.cardinality h
+-- a repeated field that is no map is a list
+pub bare_row : (rows : TableRows) (row : FieldRow) → is_repeated row.cardinality ≡ true → map_entry rows.messages row row.cardinality ≡ None → (schema_field rows row).form ≡ Repeated row.is_packed
+bare_row rows row h none = ap (form_of rows.enums row row.cardinality) none ∙ go row.cardinality h
   where
     go : (c : Cardinality) → is_repeated c ≡ true → form_of rows.enums row c None ≡ Repeated row.is_packed
     go Optional h = absurd (true≢false (sym h))
     go Required h = absurd (true≢false (sym h))
     go RepeatedLabel h = refl
+
+pub list_row : (rows : TableRows) (row : FieldRow) → is_repeated row.cardinality ≡ true → is_plain_kind row.kind ≡ true → (schema_field rows row).form ≡ Repeated row.is_packed
+list_row rows row h plain = bare_row rows row h (no_entry rows.messages row row.cardinality plain)
 
 -- a scalar kind that is no enum, as both name it
 pub record PlainKind (table : TableKind) (kind : Kind) : Type 0 where

@@ -4,11 +4,11 @@ use Rattle.std.specs.Option.{ForSome}
 use Rattle.std.specs.List.{AllByRecursion}
 use Rattle.prost_reflect_wire.specs.declared.key.WireType.TheVariants as wires
 use Rattle.prost_reflect_wire.specs.Record.{Len, record_at, spelled, short_key, short_plain}
-use Rattle.prost_reflect_wire.specs.Schema.{Schema, Field, field_of, passes}
+use Rattle.prost_reflect_wire.specs.Schema.{Field, field_of, passes}
 use Rattle.prost_reflect_wire.specs.Content as contents
 use Rattle.prost_reflect_wire.specs.Content.{Content, Slot}
 use Rattle.prost_reflect_wire.specs.Writing.{encoded}
-use Rattle.prost_reflect_wire.specs.Typing.{kept, value_valid, value_passes, fit_test, kind_for, ValueTyped}
+use Rattle.prost_reflect_wire.specs.Typing.{kept, value_valid, value_passes, fit_test}
 use Rattle.prost_reflect_wire.specs.Storing.{slot_bytes}
 use Rattle.prost_reflect.specs.Entries.{value_in, records_in}
 use Rattle.prost_reflect.specs.Known.{are_records_of}
@@ -25,11 +25,10 @@ abbrev pub entries_bytes : List Field → List (ℕ × Entry Value) → List ℕ
 entries_bytes fields [] = []
 entries_bytes fields (e ∷ es) = slot_bytes fields e.0 (entry_slot e.1) ++ entries_bytes fields es
 
--- The value fits its field, and each message in it is of its field's type and encodable.
-pub record ValueWritable (schema : Schema) (fields : List Field) (n : ℕ) (v : contents.Value) : Type 0 where
+-- The value fits its field, and each message in it is encodable.
+pub record ValueWritable (fields : List Field) (n : ℕ) (v : contents.Value) : Type 0 where
   pub valid : passes (field_of fields n) (λ f. value_valid f v) ≡ true
   pub fits : value_passes fit_test v ≡ true
-  pub types : ValueTyped schema (kind_for (field_of fields n) v) v
 
 -- The unknown records of an entry are of its number.
 abbrev pub OwnUnknown : ℕ → Entry Value → Type 0
@@ -40,12 +39,12 @@ abbrev pub unknown_bytes : ℕ → Slot → List ℕ
 unknown_bytes n slot = spelled (map (record_at n) slot.unknowns)
 
 -- The value of an entry can be written, and its unknown records are of its number.
-pub record IsWritable (schema : Schema) (fields : List Field) (n : ℕ) (e : Entry Value) : Type 0 where
-  pub value : ForSome (value_in e) (λ v. ValueWritable schema fields n (value_of v))
+pub record IsWritable (fields : List Field) (n : ℕ) (e : Entry Value) : Type 0 where
+  pub value : ForSome (value_in e) (λ v. ValueWritable fields n (value_of v))
   pub own : OwnUnknown n e
 
-abbrev pub AreWritable : Schema → List Field → List (ℕ × Entry Value) → Type 0
-AreWritable schema fields es = AllByRecursion (λ e. IsWritable schema fields e.0 e.1) es
+abbrev pub AreWritable : List Field → List (ℕ × Entry Value) → Type 0
+AreWritable fields es = AllByRecursion (λ e. IsWritable fields e.0 e.1) es
 
 -- The record of a message, or of a group.
 abbrev pub nested_bytes : ℕ → Bool → Content → List ℕ

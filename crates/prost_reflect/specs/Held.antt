@@ -1,20 +1,17 @@
 -- Reading into a message that a value holds.
-use Rattle.std.specs.Prelude.{◌≡◌, ℕ, true, List, [], Option, Some}
+use Rattle.std.specs.Prelude.{◌≡◌, ℕ, List, [], Option, Some}
 use Rattle.prost_reflect_wire.specs.declared.error.DecodeError.{DecodeError}
 use Rattle.prost_reflect_wire.specs.Content.{Value, MessageValue, schema_of, type_of}
 use Rattle.prost_reflect_wire.specs.Typing.{WellStored}
 use Rattle.prost_reflect_wire.specs.Fault.{StandsInMessage}
 use Rattle.prost_reflect_wire.specs.Decoding.{Progress, GroupProgress, StandsInGroup}
-use Rattle.prost_reflect.specs.Covered.{covered}
-use Rattle.prost_reflect.specs.Descriptors.{schema_at, type_at}
-use Rattle.prost_reflect.specs.View.{content_of, descriptor_of}
+use Rattle.prost_reflect.specs.View.{content_of}
 use Rattle.prost_reflect.specs.declared.message.DynamicMessage.{DynamicMessage}
 
--- There is a message, of a covered type, well-stored.
+-- There is a message, well-stored.
 pub record HeldMessage (held : Option DynamicMessage) : Type 0 where
   pub message : DynamicMessage
   pub is : held ≡ Some message
-  pub plain : covered (schema_at (descriptor_of message)) (type_at (descriptor_of message)) ≡ true
   pub sound : WellStored (content_of message)
 
 -- The bytes were read into the message that was held, and the value is what came of it.

@@ -27,6 +27,8 @@ pub mod Scalars
 pub mod MapParts
 pub mod Covered
 pub mod Maps
+pub mod Numbers
+pub mod NestedMaps
 pub mod Targets
 pub mod Held
 pub mod Builtin

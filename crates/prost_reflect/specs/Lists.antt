@@ -7,15 +7,14 @@ use Rattle.prost_reflect_wire.specs.declared.error.DecodeError.{DecodeError}
 use Rattle.prost_reflect_wire.specs.Record.{Len, Payload, short_key, short_plain}
 use Rattle.prost_reflect_wire.specs.Scalar.{ScalarKind, kind_wire, is_undeclared}
 use Rattle.prost_reflect_wire.specs.Content as content
-use Rattle.prost_reflect_wire.specs.Content.{MessageValue, ListValue, NoValues, Item, values_from, ◌and_then◌, schema_of, type_of}
+use Rattle.prost_reflect_wire.specs.Content.{MessageValue, ListValue, NoValues, Item, values_from, ◌and_then◌}
 use Rattle.prost_reflect_wire.specs.Meaning.{values_in}
 use Rattle.prost_reflect_wire.specs.Schema.{ScalarOf, Repeated, Field, field_of}
 use Rattle.prost_reflect_wire.specs.Fault.{ElementFault}
 use Rattle.prost_reflect_wire.specs.Decoding.{FieldFault, ElementsRead, packed_values}
 use Rattle.prost_reflect_tables.specs.declared.tables.TableKind.{TableKind}
 use Rattle.prost_reflect.specs.declared.value.Value.{Value}
-use Rattle.prost_reflect_wire.specs.Typing.{encodable, Typed}
-use Rattle.prost_reflect.specs.Covered.{covered}
+use Rattle.prost_reflect_wire.specs.Typing.{encodable}
 use Rattle.prost_reflect.specs.Encoding.{nested_bytes}
 use Rattle.prost_reflect.specs.View.{value_of}
 use Rattle.prost_reflect.specs.Scalars.{plain_kind, TakesScalar, scalar_bytes, scalar_record_bytes}
@@ -106,9 +105,9 @@ list_bytes n false kind (v ∷ vs) = records_bytes n kind (v ∷ vs)
 
 -- LISTS OF MESSAGES
 
--- A message of a covered type that can be written.
+-- A message that can be written.
 abbrev pub ElementWritable : content.Value → Type 0
-ElementWritable (MessageValue c) = (covered (schema_of c) (type_of c) ≡ true) × (encodable c ≡ true) × Typed c
+ElementWritable (MessageValue c) = encodable c ≡ true
 ElementWritable v = ⊥
 
 abbrev pub AreElements : List Value → Type 0

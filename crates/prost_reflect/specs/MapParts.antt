@@ -14,8 +14,3 @@ entry_parts (Some m) = two_of m.fields
 -- None where the field is no map.
 abbrev pub map_parts : TableRows → FieldRow → Option (FieldRow × FieldRow)
 map_parts rows f = entry_parts (map_entry rows.messages f f.cardinality)
-
--- The row of a field's values: of a map that of its entries' values, else the field's own.
-abbrev pub value_row : Option (FieldRow × FieldRow) → FieldRow → FieldRow
-value_row None f = f
-value_row (Some parts) f = parts.1

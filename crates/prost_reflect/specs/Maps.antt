@@ -11,14 +11,14 @@ use Rattle.prost_reflect_wire.specs.Content.{ScalarValue, MapValue}
 use Rattle.prost_reflect_wire.specs.EntryReading.{ScalarEntryTo, StandsInEntry}
 use Rattle.prost_reflect_tables.specs.declared.tables.TableKind.{TableKind}
 use Rattle.prost_reflect_tables.specs.Rows.{FieldRow, EnumRow}
-use Rattle.prost_reflect_tables.specs.Shown.{schema_field}
+use Rattle.prost_reflect_tables.specs.Shown.{schema_kind, schema_field}
 use Rattle.prost_reflect.specs.declared.value.MapKey.{MapKey}
 use Rattle.prost_reflect.specs.declared.value.Value.{Value}
 use Rattle.prost_reflect.specs.declared.descriptor.message.MessageDescriptor.{MessageDescriptor}
 use Rattle.prost_reflect.specs.Pools.{pool_rows}
 use Rattle.prost_reflect.specs.Known.{known_of}
 use Rattle.prost_reflect.specs.MapParts.{map_parts}
-use Rattle.prost_reflect.specs.Covered.{is_plain_kind}
+use Rattle.prost_reflect.specs.Covered.{names_message}
 use Rattle.prost_reflect.specs.Scalars.{plain_kind, TakesScalar, scalar_record_bytes, kept_scalar_bytes, is_zero}
 use Rattle.prost_reflect.specs.View.{key_of, value_of}
 
@@ -35,6 +35,19 @@ pub record PlainMap (fields : List Field) (n : ℕ) (key value_kind : TableKind)
   pub value_plain : plain_kind value_kind ≡ Some value_scalar
   pub value_is : field.value_type.kind ≡ ScalarOf value_scalar
   pub whole : (p : Payload) → is_undeclared value_scalar p ≡ false
+
+-- The number is that of a map of scalars, whose keys and values the tables call by these kinds.
+pub record ScalarMap (d : MessageDescriptor) (n : ℕ) (key value_kind : TableKind) : Type 0 where
+  pub field : Field
+  pub key_type : ValueType
+  pub key_scalar : ScalarKind
+  pub value_scalar : ScalarKind
+  pub found : field_of (known_of d) n ≡ Some field
+  pub form : field.form ≡ MapFrom key_type
+  pub key_plain : plain_kind key ≡ Some key_scalar
+  pub key_is : key_type.kind ≡ ScalarOf key_scalar
+  pub value_is : field.value_type.kind ≡ ScalarOf value_scalar
+  pub value_named : schema_kind (pool_rows d.pool).enums value_kind false ≡ ScalarOf value_scalar
 
 -- The value is zero, false or empty, by the plain kind.
 abbrev pub IsDefaultOf : TableKind → Value → Type 0
@@ -87,9 +100,9 @@ abbrev pub IsMap : content.Value → Type 0
 IsMap (MapValue ps) = Unit {0}
 IsMap v = ⊥
 
--- The number is that of a map of plain scalars, whose keys and values have these rows.
+-- The number is that of a map of scalars, whose keys and values have these rows.
 pub record MapOfRows (d : MessageDescriptor) (n : ℕ) (key value_row : FieldRow) : Type 0 where
   pub row : FieldRow
   pub found : Some (schema_field (pool_rows d.pool) row) ≡ field_of (known_of d) n
   pub parts : map_parts (pool_rows d.pool) row ≡ Some (key, value_row)
-  pub plain : is_plain_kind value_row.kind ≡ true
+  pub scalar : names_message value_row.kind ≡ false

@@ -13,10 +13,12 @@ use Rattle.prost_reflect_tables.specs.declared.tables.TableKind.TheVariants as k
 use Rattle.prost_reflect_tables.specs.Rows.{FieldRow}
 use Rattle.prost_reflect.specs.Scalars.{PlainField}
 use Rattle.prost_reflect.specs.Lists.{ListField}
-use Rattle.prost_reflect.specs.Maps.{PlainMap}
+use Rattle.prost_reflect.specs.Maps.{ScalarMap}
+use Rattle.prost_reflect.specs.Numbers.{NumberList}
+use Rattle.prost_reflect.specs.NestedMaps.{NestedMap}
 use Rattle.prost_reflect.specs.declared.descriptor.message.MessageDescriptor.{MessageDescriptor}
 use Rattle.prost_reflect.specs.declared.message.decode.Target.{Target}
-use Rattle.prost_reflect.specs.declared.message.decode.Target.TheVariants.{Unknown, Scalar, List as ListOf, Map as MapOf, Message, Group, MessageElement, GroupElement}
+use Rattle.prost_reflect.specs.declared.message.decode.Target.TheVariants.{Unknown, Scalar, List as ListOf, Numbers, Map as MapOf, Message, Group, MessageElement, GroupElement, MessageEntry}
 
 -- The number is that of a field of one message; the message type stands at the place.
 pub record NestedField (d : MessageDescriptor) (n T : ℕ) (kind : Kind) : Type 0 where
@@ -45,18 +47,26 @@ target_of kind g = Scalar kind
 abbrev pub element_target_of : TableKind → Bool → Target
 element_target_of (kinds.Message T) true = GroupElement T
 element_target_of (kinds.Message T) false = MessageElement T
+element_target_of (kinds.Enum E) g = Numbers (kinds.Enum E)
 element_target_of kind g = ListOf kind
+
+-- A record of a map is read as an entry whose value is of its kind.
+abbrev pub entry_target_of : (key value : TableKind) → Target
+entry_target_of key (kinds.Message T) = MessageEntry key T
+entry_target_of key kind = MapOf key kind
 
 -- One of a repeated field as an entry of its map, or as one of a list.
 abbrev pub repeated_target_of : Option (FieldRow × FieldRow) → TableKind → Bool → Target
-repeated_target_of (Some parts) kind g = MapOf parts.0.kind parts.1.kind
+repeated_target_of (Some parts) kind g = entry_target_of parts.0.kind parts.1.kind
 repeated_target_of None kind g = element_target_of kind g
 
 abbrev pub IsTarget : MessageDescriptor → ℕ → Target → Type 0
 IsTarget d n Unknown = field_of (known_of d) n ≡ None
 IsTarget d n (Scalar kind) = PlainField d n kind
 IsTarget d n (ListOf kind) = ListField (known_of d) n kind
-IsTarget d n (MapOf key kind) = PlainMap (known_of d) n key kind
+IsTarget d n (Numbers kind) = NumberList d n kind
+IsTarget d n (MapOf key kind) = ScalarMap d n key kind
+IsTarget d n (MessageEntry key T) = NestedMap d n key T
 IsTarget d n (Message T) = NestedField d n T (MessageOf T)
 IsTarget d n (Group T) = NestedField d n T (GroupOf T)
 IsTarget d n (MessageElement T) = NestedList d n T (MessageOf T)

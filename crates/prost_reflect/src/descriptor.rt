@@ -4,7 +4,6 @@ mod adding;
 mod builtin;
 #[cfg(test)]
 pub(crate) mod choices;
-pub(crate) mod covered;
 mod enums;
 mod field;
 mod files;

@@ -24,6 +24,7 @@ mod decode;
 pub(crate) mod defaults;
 mod elements;
 mod encode;
+mod entries;
 mod enums;
 mod equality;
 #[cfg(test)]
@@ -31,6 +32,7 @@ mod equality_tests;
 mod list;
 mod map;
 mod nested;
+mod numbers;
 mod pairs;
 mod present;
 #[cfg(test)]

@@ -1,12 +1,12 @@
 -- What linked rows keep, place by place.
-use Rattle.std.proofs.Common.{◌≡◌, ℕ, zero, suc, Bool, true, false, ◌&&◌, List, [], ◌∷◌, length, Option, Some, None, refl, arith}
+use Rattle.std.proofs.Common.{◌≡◌, ℕ, zero, suc, Bool, true, false, not, ◌&&◌, ◌||◌, List, [], ◌∷◌, length, Option, Some, None, refl, sym, ap, ◌∙◌, arith}
 use Rattle.std.specs.Prelude.{slice_get}
 use Rattle.std.specs.List.{list_all}
 use Rattle.prost_reflect_wire.specs.Schema.{schema_valid}
 use Rattle.prost_reflect_tables.specs.Rows.{FieldRow, MessageRow, TableRows}
 use Rattle.prost_reflect_tables.specs.Places.{fields_at, fields_or_none}
 use Rattle.prost_reflect_tables.specs.Shown.{schema_from}
-use Rattle.prost_reflect_tables.specs.Linked.{is_linked, message_linked, field_linked, ascending_from, kind_in_range}
+use Rattle.prost_reflect_tables.specs.Linked.{is_linked, message_linked, field_linked, ascending_from, has_entry_numbers, kind_in_range}
 
 and_left : (a b : Bool) → a && b ≡ true → a ≡ true
 and_left true b h = refl
@@ -44,3 +44,7 @@ field_keeps rows T i f linked e =
     let keeps = message_keeps rows T found.0 linked found.1.0 in
     let field = passes_at (field_linked (length rows.messages) (length rows.enums) (length found.0.oneofs)) found.0.fields i f (and_right _ _ (and_left _ _ (and_left _ _ keeps))) found.1.1 in
     and_left _ _ field
+
+-- the entries of a map have a key and a value
+pub entry_keeps : (rows : TableRows) (T : ℕ) (m : MessageRow) → is_linked rows ≡ true → slice_get rows.messages T ≡ Some m → m.is_map_entry ≡ true → has_entry_numbers m.fields ≡ true
+entry_keeps rows T m linked at entry = ap (λ b. not b || has_entry_numbers m.fields) (sym entry) ∙ and_right _ _ (message_keeps rows T m linked at)

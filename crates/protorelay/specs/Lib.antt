@@ -1,5 +1,4 @@
 pub mod CommandLine
-pub mod Types
 pub mod Sets
 pub mod Reading
 pub mod Relaying

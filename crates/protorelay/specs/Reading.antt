@@ -12,12 +12,12 @@ use Rattle.prost_reflect_wire.specs.declared.error.DecodeError.{DecodeError}
 use Rattle.prost_reflect_wire.specs.declared.error.DecodeError.TheVariants as decode_errors
 use Rattle.prost_reflect_wire.specs.declared.error.EncodeError.{EncodeError}
 use Rattle.prost_reflect_wire.specs.declared.error.EncodeError.TheVariants as encode_errors
+use Rattle.prost_reflect_tables.specs.Places.{message_place}
 use Rattle.prost_reflect_tables.specs.Shown.{schema_from}
 use Rattle.prost_reflect_tables.specs.declared.error.PoolError.{PoolError}
 use Rattle.prost_reflect_tables.specs.declared.error.PoolError.TheVariants as pool_errors
 use Rattle.prost_reflect.specs.declared.descriptor.pool.DescriptorPool.{DescriptorPool}
 use Rattle.prost_reflect.specs.Pools.{pool_rows}
-use Rattle.protorelay.specs.Types.{covered_type}
 use Rattle.protorelay.specs.Sets.{IsPoolOfSet, RefusesSet, IsNoSet}
 use Rattle.protorelay.specs.declared.reading.Refusal.{Refusal}
 use Rattle.protorelay.specs.declared.reading.Refusal.TheVariants.{Set, Pool, Name, Hex, Decode, Encode, Memory}
@@ -30,7 +30,7 @@ pool_schema pool = schema_from (pool_rows pool)
 
 -- The name is that of a message type in the pool, and the digits spell bytes.
 pub record IsAsked (pool : DescriptorPool) (name digits : List ℕ) (T : ℕ) (bytes : List ℕ) : Type 0 where
-  pub named : covered_type (pool_rows pool) name ≡ Some T
+  pub named : message_place (pool_rows pool) name ≡ Some T
   pub spelled : decode_of digits ≡ Ok bytes
 
 -- The content is what the bytes mean by the type.
@@ -57,8 +57,8 @@ pub record RefusesBytes (pool : DescriptorPool) (name digits : List ℕ) (e : De
 
 -- The first step that fails in the pool. Want of memory may come anywhere.
 abbrev pub RefusesIn : DescriptorPool → (name digits : List ℕ) → Refusal → Type 0
-RefusesIn pool name digits Name = covered_type (pool_rows pool) name ≡ None
-RefusesIn pool name digits Hex = (covered_type (pool_rows pool) name ≢ None) × IsErr (decode_of digits)
+RefusesIn pool name digits Name = message_place (pool_rows pool) name ≡ None
+RefusesIn pool name digits Hex = (message_place (pool_rows pool) name ≢ None) × IsErr (decode_of digits)
 RefusesIn pool name digits (Decode e) = RefusesBytes pool name digits e
 RefusesIn pool name digits Memory = ⊤
 RefusesIn pool name digits refusal = ⊥

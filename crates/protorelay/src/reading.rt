@@ -1,12 +1,11 @@
 //! Reading a message: its bytes, in hex digits, are read by its type in a descriptor set.
 
 ghost use Rattle.std.specs.Prelude.{◌≡◌, ◌⊎◌, Some, None, true, IfOk, IfErr};
-ghost use Rattle.prost_reflect_wire.specs.Typing.{kept, encodable, Typed};
+ghost use Rattle.prost_reflect_wire.specs.Typing.{kept, encodable};
 ghost use Rattle.prost_reflect.specs.Pools.{pool_rows};
 ghost use Rattle.prost_reflect.specs.Descriptors.{schema_at, type_at};
-ghost use Rattle.prost_reflect.specs.Covered.{covered};
+ghost use Rattle.prost_reflect_tables.specs.Places.{message_place};
 ghost use Rattle.prost_reflect.specs.View.{content_of, descriptor_of};
-ghost use Rattle.protorelay.specs.Types.{covered_type};
 ghost use Rattle.protorelay.specs.Sets.{IsPoolOfSet};
 ghost use Rattle.protorelay.specs.Reading.{pool_schema, IsRead, IsReadIn, RefusesPool, RefusesIn, Refuses, hex_refusal, pool_refusal, decode_refusal, encode_refusal};
 ghost use Rattle.protorelay.specs.declared.reading.Refusal.TheVariants as refusals;
@@ -105,9 +104,7 @@ impl From<EncodeError> for Refusal {
 /// The first step that fails: `Hex`, `Set` or `Pool` of the set, `Name`, `Hex` of the message, `Decode`; or `Memory`, wherever a growth is refused.
 pub fn read(alloc: Global, set: &str, name: &str, digits: &str) -> Result<DynamicMessage, Refusal>
     ensures read { IfOk result (λ message. IsRead set.now name.now digits.now (kept (content_of message))) }
-    ensures covered { IfOk result (λ message. covered (schema_at (descriptor_of message)) (type_at (descriptor_of message)) ≡ true) }
     ensures fits { IfOk result (λ message. encodable (content_of message) ≡ true) }
-    ensures typed { IfOk result (λ message. Typed (content_of message)) }
     ensures refused { IfErr result (Refuses set.now name.now digits.now) }
 {
     let pool = pool_of(alloc, set)?;
@@ -134,9 +131,7 @@ fn read_in(
     digits: &str,
 ) -> Result<DynamicMessage, Refusal>
     ensures read { IfOk result (λ message. IsReadIn pool.now name.now digits.now (kept (content_of message))) }
-    ensures covered { IfOk result (λ message. covered (schema_at (descriptor_of message)) (type_at (descriptor_of message)) ≡ true) }
     ensures fits { IfOk result (λ message. encodable (content_of message) ≡ true) }
-    ensures typed { IfOk result (λ message. Typed (content_of message)) }
     ensures refused { IfErr result (RefusesIn pool.now name.now digits.now) }
 {
     let descriptor = message_type(pool, name)?;
@@ -144,18 +139,17 @@ fn read_in(
     Ok(DynamicMessage::decode(alloc, descriptor, bytes.as_slice())?)
 }
 
-/// The message type of the name in the pool, if it can be read and written so far.
+/// The message type of the name in the pool.
 fn message_type(pool: &DescriptorPool, name: &str) -> Result<MessageDescriptor, Refusal>
     ensures found { IfOk result (λ message.
-        covered_type (pool_rows pool.now) name.now ≡ Some (type_at message)) }
+        message_place (pool_rows pool.now) name.now ≡ Some (type_at message)) }
     ensures schema { IfOk result (λ message. schema_at message ≡ pool_schema pool.now) }
-    ensures covered { IfOk result (λ message. covered (schema_at message) (type_at message) ≡ true) }
     ensures refused { IfErr result (λ refusal.
-        ((refusal ≡ refusals.Name) × (covered_type (pool_rows pool.now) name.now ≡ None))
+        ((refusal ≡ refusals.Name) × (message_place (pool_rows pool.now) name.now ≡ None))
         ⊎ (refusal ≡ refusals.Memory)) }
 {
     match pool.get_message_by_name(name)? {
-        Some(descriptor) if descriptor.is_covered() => Ok(descriptor),
-        _ => Err(Refusal::Name),
+        Some(descriptor) => Ok(descriptor),
+        None => Err(Refusal::Name),
     }
 }

@@ -3,7 +3,7 @@
 ghost use Rattle.std.specs.Prelude.{◌≡◌, Some, map, option_map};
 ghost use Rattle.prost_reflect_tables.specs.Rows.{field_row, message_row};
 ghost use Rattle.prost_reflect_tables.specs.Shown.{entry_or_none};
-ghost use Rattle.prost_reflect.specs.MapParts.{two_of, entry_parts, map_parts, value_row};
+ghost use Rattle.prost_reflect.specs.MapParts.{two_of, entry_parts, map_parts};
 ghost use Rattle.prost_reflect.specs.Pools.{pool_rows};
 
 use crate::descriptor::MessageDescriptor;
@@ -25,16 +25,6 @@ impl MessageDescriptor {
                 }
             }
             _ => None,
-        }
-    }
-
-    /// The row of a field's values: of a map that of its entries' values, else the field's own.
-    pub(crate) fn value_table<'a>(&'a self, field: &'a FieldTable) -> &'a FieldTable
-        ensures { field_row result.now ≡ value_row (map_parts (pool_rows self.now.pool) (field_row field.now)) (field_row field.now) }
-    {
-        match self.map_parts(field) {
-            Some((_, value)) => value,
-            None => field,
         }
     }
 }

@@ -8,19 +8,18 @@ ghost use Rattle.prost_reflect_wire.specs.Meaning.{decoded};
 ghost use Rattle.prost_reflect_wire.specs.Typing.{kept, WellStored};
 ghost use Rattle.prost_reflect_wire.specs.Fault.{StandsInMessage};
 ghost use Rattle.prost_reflect_wire.specs.Decoding.{Progress, Step, StandsBehindKey};
-ghost use Rattle.prost_reflect.specs.Covered.{covered};
 ghost use Rattle.prost_reflect.specs.Descriptors.{schema_at, type_at};
 ghost use Rattle.prost_reflect.specs.Known.{known_of};
 ghost use Rattle.prost_reflect.specs.Scalars.{PlainField, StaysUnknown};
 ghost use Rattle.prost_reflect_tables.specs.Rows.{field_row};
 ghost use Rattle.prost_reflect.specs.MapParts.{map_parts};
 ghost use Rattle.prost_reflect.specs.Pools.{pool_rows};
-ghost use Rattle.prost_reflect.specs.Targets.{IsTarget, target_of, repeated_target_of, element_target_of};
+ghost use Rattle.prost_reflect.specs.Targets.{IsTarget, target_of, repeated_target_of, element_target_of, entry_target_of};
 ghost use Rattle.prost_reflect.specs.View.{content_of, descriptor_of};
 
 use crate::descriptor::MessageDescriptor;
-use crate::descriptor::covered::is_repeated;
 use crate::message::DynamicMessage;
+use crate::message::defaults::is_repeated;
 use crate::message::enums::is_stray;
 use crate::message::scalar::scalar_at;
 use prost_reflect_tables::{FieldTable, TableKind};
@@ -30,8 +29,7 @@ use prost_reflect_wire::{
 use std::alloc::Global;
 
 impl DynamicMessage {
-    /// Reads a message of the type from the bytes, in at most 100 levels of messages and groups. The type has to be
-    /// covered (`MessageDescriptor::is_covered`).
+    /// Reads a message of the type from the bytes, in at most 100 levels of messages and groups.
     ///
     /// A later scalar of a field replaces an earlier one, a later message or group is read into the earlier one, and the
     /// values of the other members of its oneof go. The elements of a list's records stand one behind another, packed or
@@ -49,7 +47,6 @@ impl DynamicMessage {
         descriptor: MessageDescriptor,
         bytes: &[u8],
     ) -> Result<DynamicMessage, DecodeError>
-        requires { covered (schema_at descriptor) (type_at descriptor) ≡ true }
         ensures descriptor { IfOk result (λ message. descriptor_of message ≡ descriptor) }
         ensures means { IfOk result (λ message. decoded (schema_at descriptor) LEVEL_LIMIT (type_at descriptor) bytes.now ≡ Some (kept (content_of message))) }
         ensures sound { IfOk result (λ message. WellStored (content_of message)) }
@@ -70,7 +67,6 @@ impl DynamicMessage {
         bytes: &[u8],
         levels: u32,
     ) -> Result<(), DecodeError>
-        requires plain { covered (schema_at (descriptor_of self.old)) (type_at (descriptor_of self.old)) ≡ true }
         requires sound { WellStored (content_of self.old) }
         ensures ok { IfOk result (λ _. Progress levels (content_of self.old) (content_of self.new) bytes.now []) }
         ensures descriptor { descriptor_of self.new ≡ descriptor_of self.old }
@@ -95,7 +91,6 @@ impl DynamicMessage {
         bytes: &'a [u8],
         levels: u32,
     ) -> Result<&'a [u8], DecodeError>
-        requires plain { covered (schema_at (descriptor_of self.old)) (type_at (descriptor_of self.old)) ≡ true }
         requires sound { WellStored (content_of self.old) }
         ensures ok { IfOk result (λ rest. Step levels number.value wire_type (content_of self.old) (content_of self.new) bytes.now rest.now) }
         ensures descriptor { descriptor_of self.new ≡ descriptor_of self.old }
@@ -106,6 +101,9 @@ impl DynamicMessage {
                 alloc, number, kind, wire_type, bytes, levels,
             ),
             Target::List(kind) => self.merge_list(alloc, number, kind, wire_type, bytes, levels),
+            Target::Numbers(kind) => {
+                self.merge_numbers(alloc, number, kind, wire_type, bytes, levels)
+            }
             Target::Map(key, kind) => {
                 self.merge_map(alloc, number, (key, kind), wire_type, bytes, levels)
             }
@@ -120,6 +118,9 @@ impl DynamicMessage {
             }
             Target::GroupElement(place) => {
                 self.merge_group_element(alloc, number, place, wire_type, bytes, levels)
+            }
+            Target::MessageEntry(key, place) => {
+                self.merge_entry(alloc, number, key, place, wire_type, bytes, levels)
             }
             Target::Unknown => self.merge_unknown(alloc, number, wire_type, bytes, levels),
         }
@@ -180,6 +181,8 @@ pub(super) enum Target {
     Scalar(TableKind),
     /// Elements of a list of such scalars.
     List(TableKind),
+    /// Elements of a list of numbers of this enum.
+    Numbers(TableKind),
     /// An entry of a map whose keys and values are scalars of these kinds.
     Map(TableKind, TableKind),
     /// A message of the type at the place.
@@ -190,11 +193,12 @@ pub(super) enum Target {
     MessageElement(usize),
     /// A group as an element of a list.
     GroupElement(usize),
+    /// An entry of a map whose keys are scalars of the kind, and whose values are messages of the type at the place.
+    MessageEntry(TableKind, usize),
 }
 
-/// What a record of the number is read as, in a covered message type.
+/// What a record of the number is read as.
 fn target_at(descriptor: &MessageDescriptor, number: u32) -> Target
-    requires { covered (schema_at descriptor.now) (type_at descriptor.now) ≡ true }
     ensures { IsTarget descriptor.now number result }
 {
     match descriptor.field_table(number) {
@@ -209,7 +213,7 @@ fn repeated_target(descriptor: &MessageDescriptor, field: &FieldTable) -> Target
     ensures { result ≡ repeated_target_of (map_parts (pool_rows descriptor.now.pool) (field_row field.now)) (field_row field.now).kind (field_row field.now).is_group }
 {
     match descriptor.map_parts(field) {
-        Some((key, value)) => Target::Map(key.kind, value.kind),
+        Some((key, value)) => entry_target(key.kind, value.kind),
         None => element_target(field.kind, field.is_group),
     }
 }
@@ -232,6 +236,17 @@ fn element_target(kind: TableKind, is_group: bool) -> Target
     match kind {
         TableKind::Message(place) if is_group => Target::GroupElement(place),
         TableKind::Message(place) => Target::MessageElement(place),
+        TableKind::Enum(_) => Target::Numbers(kind),
         _ => Target::List(kind),
+    }
+}
+
+/// What a record of a map is read as, by the kinds of its keys and values.
+fn entry_target(key: TableKind, kind: TableKind) -> Target
+    ensures { result ≡ entry_target_of key kind }
+{
+    match kind {
+        TableKind::Message(place) => Target::MessageEntry(key, place),
+        _ => Target::Map(key, kind),
     }
 }

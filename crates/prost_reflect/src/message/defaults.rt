@@ -6,6 +6,7 @@ ghost use Rattle.prost_reflect_wire.specs.Typing.{is_field_default, is_repeated,
 ghost use Rattle.prost_reflect_tables.specs.Rows.{field_row, written_scalar};
 ghost use Rattle.prost_reflect_tables.specs.Shown.{schema_field, schema_kind, schema_default, own_type, entry_or_none, entry_at};
 ghost use Rattle.prost_reflect_wire.specs.Fault.{is_map};
+ghost use Rattle.prost_reflect.specs.Covered.{is_repeated as is_labelled};
 ghost use Rattle.prost_reflect.specs.Defaults.{is_empty_value};
 ghost use Rattle.prost_reflect.specs.Descriptors.{schema_at};
 ghost use Rattle.prost_reflect.specs.Pools.{pool_rows};
@@ -13,10 +14,9 @@ ghost use Rattle.prost_reflect.specs.Scalars.{plain_kind, equals};
 ghost use Rattle.prost_reflect.specs.View.{value_of};
 
 use crate::descriptor::MessageDescriptor;
-use crate::descriptor::covered::is_repeated;
 use crate::message::enums::first_number;
 use crate::value::Value;
-use prost_reflect_tables::{FieldTable, TableKind, WrittenDefault};
+use prost_reflect_tables::{Cardinality, FieldTable, TableKind, WrittenDefault};
 
 /// Whether a value, of any form, is what its field has where nothing is stored: an empty list or map, or the default of a
 /// field of one value without presence.
@@ -45,8 +45,15 @@ fn is_empty(descriptor: &MessageDescriptor, field: &FieldTable, value: &Value) -
     }
 }
 
+/// Whether a field of the label has a list of values, or a map.
+pub(crate) fn is_repeated(cardinality: Cardinality) -> bool
+    ensures { result ≡ is_labelled cardinality }
+{
+    matches!(cardinality, Cardinality::Repeated)
+}
+
 /// Whether a field is a list, and no map.
-pub(crate) fn is_list(descriptor: &MessageDescriptor, field: &FieldTable) -> bool
+fn is_list(descriptor: &MessageDescriptor, field: &FieldTable) -> bool
     ensures { result ≡ is_repeated (schema_field (pool_rows descriptor.now.pool) (field_row field.now)).form }
 {
     is_repeated(field.cardinality) && !is_map(descriptor, field)

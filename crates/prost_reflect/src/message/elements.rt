@@ -7,7 +7,6 @@ ghost use Rattle.prost_reflect_wire.specs.Content.{MessageValue, entries_of, val
 ghost use Rattle.prost_reflect_wire.specs.Typing.{WellStored};
 ghost use Rattle.prost_reflect_wire.specs.Decoding.{Step, StandsBehindKey};
 ghost use Rattle.prost_reflect.specs.Contents.{value_set};
-ghost use Rattle.prost_reflect.specs.Covered.{covered};
 ghost use Rattle.prost_reflect.specs.Descriptors.{schema_at, type_at};
 ghost use Rattle.prost_reflect.specs.Known.{known_of, is_known};
 ghost use Rattle.prost_reflect.specs.Lists.{IsList, IsListOrNone, with_element};
@@ -33,7 +32,6 @@ impl DynamicMessage {
         bytes: &'a [u8],
         levels: u32,
     ) -> Result<&'a [u8], DecodeError>
-        requires plain { covered (schema_at (descriptor_of self.old)) (type_at (descriptor_of self.old)) ≡ true }
         requires sound { WellStored (content_of self.old) }
         requires field { NestedList (descriptor_of self.old) number.value place (MessageOf place) }
         ensures ok { IfOk result (λ rest. Step levels number.value wire_type (content_of self.old) (content_of self.new) bytes.now rest.now) }
@@ -59,7 +57,6 @@ impl DynamicMessage {
         bytes: &'a [u8],
         levels: u32,
     ) -> Result<&'a [u8], DecodeError>
-        requires plain { covered (schema_at (descriptor_of self.old)) (type_at (descriptor_of self.old)) ≡ true }
         requires sound { WellStored (content_of self.old) }
         requires field { NestedList (descriptor_of self.old) number.value place (GroupOf place) }
         ensures ok { IfOk result (λ rest. Step levels number.value wire_type (content_of self.old) (content_of self.new) bytes.now rest.now) }

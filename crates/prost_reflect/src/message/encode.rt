@@ -6,12 +6,12 @@ ghost use Rattle.prost_reflect_wire.specs.Varint.{short};
 ghost use Rattle.prost_reflect_wire.specs.Record.{Len, short_key, short_plain};
 ghost use Rattle.prost_reflect_wire.specs.Schema.{field_of, passes};
 ghost use Rattle.prost_reflect_wire.specs.Writing.{encoded};
-ghost use Rattle.prost_reflect_wire.specs.Typing.{kept, value_valid, encodable, Typed};
+ghost use Rattle.prost_reflect_wire.specs.Typing.{kept, value_valid, encodable};
 ghost use Rattle.prost_reflect_wire.specs.Storing.{value_bytes};
 ghost use Rattle.prost_reflect_wire.specs.Buffer.{bytes_of, Prepended};
 ghost use Rattle.prost_reflect_tables.specs.Rows.{field_row};
 ghost use Rattle.prost_reflect_tables.specs.Shown.{schema_field};
-ghost use Rattle.prost_reflect.specs.Covered.{covered, is_repeated};
+ghost use Rattle.prost_reflect.specs.Covered.{is_repeated};
 ghost use Rattle.prost_reflect.specs.Lists.{IsList, AreElements, elements_bytes};
 ghost use Rattle.prost_reflect.specs.MapParts.{map_parts};
 ghost use Rattle.prost_reflect.specs.Descriptors.{schema_at, type_at};
@@ -24,10 +24,9 @@ ghost use Rattle.prost_reflect.specs.View.{value_of, content_of, descriptor_of};
 ghost use Rattle.prost_reflect.specs.Scalars.{plain_kind, TakesScalar, scalar_bytes, scalar_record_bytes, kept_scalar_bytes, is_zero, equals, is_default};
 
 use crate::descriptor::MessageDescriptor;
-use crate::descriptor::covered::is_repeated;
 use crate::fields::entry::Entry;
 use crate::message::DynamicMessage;
-use crate::message::defaults::equals_written;
+use crate::message::defaults::{equals_written, is_repeated};
 use crate::message::enums::first_number;
 use crate::message::list::prepend_list;
 use crate::message::pairs::prepend_map;
@@ -171,9 +170,7 @@ fn prepend_message(
     is_group: bool,
     message: &DynamicMessage,
 ) -> Result<(), EncodeError>
-    requires plain { covered (schema_at (descriptor_of message.now)) (type_at (descriptor_of message.now)) ≡ true }
     requires encodable { encodable (content_of message.now) ≡ true }
-    requires typed { Typed (content_of message.now) }
     ensures { Prepended result (bytes_of buffer.old) (bytes_of buffer.new) (nested_bytes number is_group (content_of message.now)) }
 {
     if is_group {
@@ -191,9 +188,7 @@ fn prepend_message(
 /// Adds what is written of a message in front: at each number what is kept of the value, and then the unknown fields.
 #[cycle(writing)]
 fn prepend_body(buffer: &mut BackBuffer, message: &DynamicMessage) -> Result<(), EncodeError>
-    requires plain { covered (schema_at (descriptor_of message.now)) (type_at (descriptor_of message.now)) ≡ true }
     requires encodable { encodable (content_of message.now) ≡ true }
-    requires typed { Typed (content_of message.now) }
     ensures { Prepended result (bytes_of buffer.old) (bytes_of buffer.new) (encoded (kept (content_of message.now))) }
 {
     let entries = message.slots.entries();
@@ -233,8 +228,7 @@ fn prepend_value(
     number: u32,
     value: &Value,
 ) -> Result<(), EncodeError>
-    requires plain { covered (schema_at descriptor.now) (type_at descriptor.now) ≡ true }
-    requires writable { ValueWritable (schema_at descriptor.now) (known_of descriptor.now) number (value_of value.now) }
+    requires writable { ValueWritable (known_of descriptor.now) number (value_of value.now) }
     ensures { Prepended result (bytes_of buffer.old) (bytes_of buffer.new) (value_bytes (known_of descriptor.now) number (value_of value.now)) }
 {
     match descriptor.field_table(number) {
@@ -258,10 +252,9 @@ fn prepend_repeated(
     field: &FieldTable,
     value: &Value,
 ) -> Result<(), EncodeError>
-    requires plain { covered (schema_at descriptor.now) (type_at descriptor.now) ≡ true }
     requires field { Some (schema_field (pool_rows descriptor.now.pool) (field_row field.now)) ≡ field_of (known_of descriptor.now) number }
     requires repeated { is_repeated (field_row field.now).cardinality ≡ true }
-    requires writable { ValueWritable (schema_at descriptor.now) (known_of descriptor.now) number (value_of value.now) }
+    requires writable { ValueWritable (known_of descriptor.now) number (value_of value.now) }
     ensures { Prepended result (bytes_of buffer.old) (bytes_of buffer.new) (value_bytes (known_of descriptor.now) number (value_of value.now)) }
 {
     match descriptor.map_parts(field) {
@@ -279,11 +272,10 @@ fn prepend_elements(
     field: &FieldTable,
     value: &Value,
 ) -> Result<(), EncodeError>
-    requires plain { covered (schema_at descriptor.now) (type_at descriptor.now) ≡ true }
     requires field { Some (schema_field (pool_rows descriptor.now.pool) (field_row field.now)) ≡ field_of (known_of descriptor.now) number }
     requires repeated { is_repeated (field_row field.now).cardinality ≡ true }
     requires no_map { None ≡ map_parts (pool_rows descriptor.now.pool) (field_row field.now) }
-    requires writable { ValueWritable (schema_at descriptor.now) (known_of descriptor.now) number (value_of value.now) }
+    requires writable { ValueWritable (known_of descriptor.now) number (value_of value.now) }
     requires list { IsList (value_of value.now) }
     ensures { Prepended result (bytes_of buffer.old) (bytes_of buffer.new) (value_bytes (known_of descriptor.now) number (value_of value.now)) }
 {
@@ -335,18 +327,15 @@ pub(crate) fn prepend_kept_scalar(
 
 impl DynamicMessage {
     /// Appends the encoding of the message: fields and unknown fields in ascending order of their numbers, without the
-    /// defaults of fields that have no presence (the encoding guide, "Message Structure"). The type has to be covered
-    /// (`MessageDescriptor::is_covered`), each stored value has to fit its field, and each message has to be of its
-    /// field's type, as in every message that `decode` gives.
+    /// defaults of fields that have no presence (the encoding guide, "Message Structure"). Each stored value has to fit its
+    /// field, as in every message that `decode` gives. A message inside is written by its own type.
     ///
     /// # Errors
     ///
     /// `TooLong` if the encoding passes the greatest `usize`, `OutOfMemory` if a growth is refused; the output stays as it
     /// was.
     pub fn encode(&self, out: &mut Vec<u8>) -> Result<(), EncodeError>
-        requires plain { covered (schema_at (descriptor_of self.now)) (type_at (descriptor_of self.now)) ≡ true }
         requires encodable { encodable (content_of self.now) ≡ true }
-        requires typed { Typed (content_of self.now) }
         ensures ok { OnOk result (out.new.items ≡ out.old.items ++ encoded (kept (content_of self.now))) }
         ensures err { OnErr result (out.new.items ≡ out.old.items) }
         ensures too_long { IfErr result (λ e. e ≡ EncodeError.TooLong → 2 ^ 64 ≤ length (encoded (kept (content_of self.now)))) }
@@ -363,9 +352,7 @@ impl DynamicMessage {
     ///
     /// As `encode`.
     pub fn encode_to_vec(&self, alloc: Global) -> Result<Vec<u8>, EncodeError>
-        requires plain { covered (schema_at (descriptor_of self.now)) (type_at (descriptor_of self.now)) ≡ true }
         requires encodable { encodable (content_of self.now) ≡ true }
-        requires typed { Typed (content_of self.now) }
         ensures ok { IfOk result (λ out. out.items ≡ encoded (kept (content_of self.now))) }
         ensures too_long { IfErr result (λ e. e ≡ EncodeError.TooLong → 2 ^ 64 ≤ length (encoded (kept (content_of self.now)))) }
     {

@@ -104,9 +104,6 @@ fn values_are_equal_by_bits(rt: HostRuntime) {
 
 fn kept(alloc: Global, bytes: &[u8]) -> Result<DynamicMessage, Fail> {
     let descriptor = message_type(&builtin_pool(alloc)?, "builtin.Kept")?;
-    if !descriptor.is_covered() {
-        return Err(Fail::from("builtin.Kept is not covered"));
-    }
     Ok(DynamicMessage::decode(alloc, descriptor, bytes)?)
 }
 

@@ -10,7 +10,7 @@ ghost use Rattle.prost_reflect_wire.specs.Decoding.{Step, StandsBehindKey};
 ghost use Rattle.prost_reflect_wire.specs.EntryReading.{IsMapped, BodyFault};
 ghost use Rattle.prost_reflect.specs.Contents.{value_set};
 ghost use Rattle.prost_reflect.specs.Known.{known_of, is_known};
-ghost use Rattle.prost_reflect.specs.Maps.{PlainMap, IsDefaultOf, ReadsEntry, RefusesEntry};
+ghost use Rattle.prost_reflect.specs.Maps.{ScalarMap, IsDefaultOf, ReadsEntry, RefusesEntry};
 ghost use Rattle.prost_reflect.specs.Scalars.{plain_kind};
 ghost use Rattle.prost_reflect.specs.Variants.{key_in};
 ghost use Rattle.prost_reflect.specs.View.{key_of, value_of, content_of, descriptor_of};
@@ -127,7 +127,7 @@ impl DynamicMessage {
         levels: u32,
     ) -> Result<&'a [u8], DecodeError>
         requires sound { WellStored (content_of self.old) }
-        requires field { PlainMap (known_of (descriptor_of self.old)) number.value kinds.0 kinds.1 }
+        requires field { ScalarMap (descriptor_of self.old) number.value kinds.0 kinds.1 }
         ensures ok { IfOk result (λ rest. Step levels number.value wire_type (content_of self.old) (content_of self.new) bytes.now rest.now) }
         ensures descriptor { descriptor_of self.new ≡ descriptor_of self.old }
         ensures fault { IfErr result (λ e. e ≢ DecodeError.OutOfMemory → StandsBehindKey (content_of self.old) levels number.value wire_type e bytes.now) }

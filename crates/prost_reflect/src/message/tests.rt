@@ -19,9 +19,6 @@ const BYTES: [u8; 5] = [0x50, 3, 0x28, 0x96, 1];
 #[test]
 fn a_message_is_read_and_written(rt: HostRuntime) -> Result<(), Fail> {
     let descriptor = kept(rt.alloc())?;
-    if !descriptor.is_covered() {
-        return Err(Fail::from("builtin.Kept is not covered"));
-    }
     let message = DynamicMessage::decode(rt.alloc(), descriptor, &BYTES)?;
     let written = message.encode_to_vec(rt.alloc())?;
     assert!(rt; written.as_slice() == [0x28, 0x96, 1, 0x50, 3].as_slice());
@@ -34,9 +31,6 @@ fn a_message_is_read_and_written(rt: HostRuntime) -> Result<(), Fail> {
 #[test]
 fn a_message_is_copied_and_emptied(rt: HostRuntime) -> Result<(), Fail> {
     let descriptor = kept(rt.alloc())?;
-    if !descriptor.is_covered() {
-        return Err(Fail::from("builtin.Kept is not covered"));
-    }
     let message = DynamicMessage::decode(rt.alloc(), descriptor.clone()?, &BYTES)?;
     let mut copied = message.clone()?;
     assert!(rt; copied == message);
@@ -48,9 +42,6 @@ fn a_message_is_copied_and_emptied(rt: HostRuntime) -> Result<(), Fail> {
 #[test]
 fn a_fault_is_named(rt: HostRuntime) -> Result<(), Fail> {
     let descriptor = kept(rt.alloc())?;
-    if !descriptor.is_covered() {
-        return Err(Fail::from("builtin.Kept is not covered"));
-    }
     match DynamicMessage::decode(rt.alloc(), descriptor, &[0x28]) {
         Ok(_) => return Err(Fail::from("a key without a value is read")),
         Err(fault) => assert_eq!(rt; fault, DecodeError::Truncated),
@@ -61,9 +52,6 @@ fn a_fault_is_named(rt: HostRuntime) -> Result<(), Fail> {
 /// Reads the bytes as a message with oneofs and fields of an enum that declares 0 and 1, and writes it again.
 fn choices_relayed(alloc: Global, bytes: &[u8]) -> Result<Vec<u8>, Fail> {
     let descriptor = choices(alloc)?;
-    if !descriptor.is_covered() {
-        return Err(Fail::from("Choices is not covered"));
-    }
     let message = DynamicMessage::decode(alloc, descriptor, bytes)?;
     Ok(message.encode_to_vec(alloc)?)
 }

@@ -10,7 +10,7 @@ use Rattle.prost_reflect_wire.specs.declared.key.WireType.TheVariants as wires
 use Rattle.prost_reflect_wire.specs.Front.{KeyFront}
 use Rattle.prost_reflect_wire.specs.Schema.{MessageOf, GroupOf}
 use Rattle.prost_reflect_wire.proofs.Progressing.{progress_start, progress_step, progress_no_key, progress_no_key_in, progress_no_record, progress_no_record_in, progress_other_end}
-use Rattle.prost_reflect.proofs.NestedReads.{covered_inside, lent_message, held_message, nested_refused, payload_refused, message_read_in, group_read_in, message_refused_in, group_refused_in, found_refused, inside_refused, in_group_refused, one_less}
+use Rattle.prost_reflect.proofs.NestedReads.{lent_message, held_message, nested_refused, payload_refused, message_read_in, group_read_in, message_refused_in, group_refused_in, found_refused, inside_refused, in_group_refused, one_less}
 use Rattle.prost_reflect.proofs.ElementReads.{found_element, list_or_none, empty_element, element_step, group_element_step}
 use Rattle.prost_reflect_wire.proofs.MessageSteps.{nested_plain}
 use Rattle.prost_reflect.specs.Lists.{with_element}
@@ -71,21 +71,21 @@ pub merge_message-merge_into-requires : goal.merge_message-merge_into-requires
 merge_message-merge_into-requires t c =
     let lent = lent_message c.args.self.now c.args.number.value c.args.place (MessageOf c.args.place) c.in_ok-default.default c.in_ok-value.value.now c.requires.sound c.requires.field refl
     (c.in_ok-default.ensures ∙ ap (λ d. MessageValue (empty (schema_at d) c.args.place)) c.descriptor.ensures) (rw c.get.ensures.value at c.in_ok-value.ensures.value) in
-    (search rules, held_message c.args.self.now c.args.number.value c.args.place c.in_ok-value.value.now (covered_inside (descriptor_of c.args.self.now) c.args.number.value c.args.place (MessageOf c.args.place) c.requires.plain c.requires.field refl) lent)
+    (search rules, held_message c.args.self.now c.args.number.value c.args.place c.in_ok-value.value.now lent)
 
 pub merge_message-returns-in_err-merge_into-clause-fault : goal.merge_message-returns-in_err-merge_into-clause-fault
 merge_message-returns-in_err-merge_into-clause-fault t c =
     let lent = lent_message c.args.self.now c.args.number.value c.args.place (MessageOf c.args.place) c.in_ok-default.default c.in_ok-value.value.now c.requires.sound c.requires.field refl
     (c.in_ok-default.ensures ∙ ap (λ d. MessageValue (empty (schema_at d) c.args.place)) c.descriptor.ensures) (rw c.get.ensures.value at c.in_ok-value.ensures.value) in
     let p = err_from_is_err_and c.from_residual-in_err-merge_into.result c.from_residual-in_err-merge_into.ensures.1 in
-    rw (p.1, p.2) (λ ne. message_refused_in c.args.self.now c.args.number.value c.args.place c.args.levels c.in_ok-value.value.now c.in_ok-check_nested.ensures.levels c.requires.sound (covered_inside (descriptor_of c.args.self.now) c.args.number.value c.args.place (MessageOf c.args.place) c.requires.plain c.requires.field refl) lent _ c.args.wire_type c.args.bytes.now c.in_ok-body.body.now c.in_ok-body.rest.now
+    rw (p.1, p.2) (λ ne. message_refused_in c.args.self.now c.args.number.value c.args.place c.args.levels c.in_ok-value.value.now c.in_ok-check_nested.ensures.levels c.requires.sound lent _ c.args.wire_type c.args.bytes.now c.in_ok-body.body.now c.in_ok-body.rest.now
     c.requires.field c.in_ok-check_nested.ensures.wire c.in_ok-body.ensures.ok (c.in_err-merge_into.ensures.fault ne))
 
 pub merge_message-returns-clause-ok : goal.merge_message-returns-clause-ok
 merge_message-returns-clause-ok t c =
     let lent = lent_message c.args.self.now c.args.number.value c.args.place (MessageOf c.args.place) c.in_ok-default.default c.in_ok-value.value.now c.requires.sound c.requires.field refl
     (c.in_ok-default.ensures ∙ ap (λ d. MessageValue (empty (schema_at d) c.args.place)) c.descriptor.ensures) (rw c.get.ensures.value at c.in_ok-value.ensures.value) in
-    message_read_in c.args.self.now c.args.number.value c.args.place c.args.levels c.in_ok-value.value.now c.in_ok-check_nested.ensures.levels c.requires.sound (covered_inside (descriptor_of c.args.self.now) c.args.number.value c.args.place (MessageOf c.args.place) c.requires.plain c.requires.field refl) lent
+    message_read_in c.args.self.now c.args.number.value c.args.place c.args.levels c.in_ok-value.value.now c.in_ok-check_nested.ensures.levels c.requires.sound lent
     (written_at c.args.self.now c.get.result c.in_ok-default.default c.merge_into.new.value) (value_of c.merge_into.new.value) c.args.wire_type c.args.bytes.now c.in_ok-body.body.now c.in_ok-body.rest.now
     c.requires.field c.in_ok-check_nested.ensures.wire c.in_ok-body.ensures.ok c.in_ok-merge_into.ensures.ok
     (c.in_ok-value.ensures.content c.merge_into.new.value ∙ ap (λ n. value_set n (value_of c.merge_into.new.value) (content_of c.args.self.now)) c.get.ensures.value)
@@ -98,14 +98,14 @@ pub merge_group-merge_group_into-requires : goal.merge_group-merge_group_into-re
 merge_group-merge_group_into-requires t c =
     let lent = lent_message c.args.self.now c.args.number.value c.args.place (GroupOf c.args.place) c.in_ok-default.default c.in_ok-value.value.now c.requires.sound c.requires.field refl
     (c.in_ok-default.ensures ∙ ap (λ d. MessageValue (empty (schema_at d) c.args.place)) c.descriptor.ensures) (rw c.get.ensures.value at c.in_ok-value.ensures.value) in
-    (search rules, held_message c.args.self.now c.args.number.value c.args.place c.in_ok-value.value.now (covered_inside (descriptor_of c.args.self.now) c.args.number.value c.args.place (GroupOf c.args.place) c.requires.plain c.requires.field refl) lent)
+    (search rules, held_message c.args.self.now c.args.number.value c.args.place c.in_ok-value.value.now lent)
 
 pub merge_group-returns-clause-fault : goal.merge_group-returns-clause-fault
 merge_group-returns-clause-fault t c =
     let lent = lent_message c.args.self.now c.args.number.value c.args.place (GroupOf c.args.place) c.in_ok-default.default c.in_ok-value.value.now c.requires.sound c.requires.field refl
     (c.in_ok-default.ensures ∙ ap (λ d. MessageValue (empty (schema_at d) c.args.place)) c.descriptor.ensures) (rw c.get.ensures.value at c.in_ok-value.ensures.value) in
     IfErr-weaker c.merge_group_into.result _ _
-    (λ e f ne. group_refused_in c.args.self.now c.args.number.value c.args.place c.args.levels c.in_ok-value.value.now c.in_ok-check_nested.ensures.levels c.requires.sound (covered_inside (descriptor_of c.args.self.now) c.args.number.value c.args.place (GroupOf c.args.place) c.requires.plain c.requires.field refl) lent e c.args.wire_type c.args.bytes.now c.requires.field c.in_ok-check_nested.ensures.wire (f ne))
+    (λ e f ne. group_refused_in c.args.self.now c.args.number.value c.args.place c.args.levels c.in_ok-value.value.now c.in_ok-check_nested.ensures.levels c.requires.sound lent e c.args.wire_type c.args.bytes.now c.requires.field c.in_ok-check_nested.ensures.wire (f ne))
     c.merge_group_into.ensures.fault
 
 pub merge_group-returns-clause-ok : goal.merge_group-returns-clause-ok
@@ -113,7 +113,7 @@ merge_group-returns-clause-ok t c =
     let lent = lent_message c.args.self.now c.args.number.value c.args.place (GroupOf c.args.place) c.in_ok-default.default c.in_ok-value.value.now c.requires.sound c.requires.field refl
     (c.in_ok-default.ensures ∙ ap (λ d. MessageValue (empty (schema_at d) c.args.place)) c.descriptor.ensures) (rw c.get.ensures.value at c.in_ok-value.ensures.value) in
     IfOk-weaker c.merge_group_into.result _ _
-    (λ rest r. group_read_in c.args.self.now c.args.number.value c.args.place c.args.levels c.in_ok-value.value.now c.in_ok-check_nested.ensures.levels c.requires.sound (covered_inside (descriptor_of c.args.self.now) c.args.number.value c.args.place (GroupOf c.args.place) c.requires.plain c.requires.field refl) lent
+    (λ rest r. group_read_in c.args.self.now c.args.number.value c.args.place c.args.levels c.in_ok-value.value.now c.in_ok-check_nested.ensures.levels c.requires.sound lent
     (written_at c.args.self.now c.get.result c.in_ok-default.default c.merge_group_into.new.value) (value_of c.merge_group_into.new.value) c.args.wire_type c.args.bytes.now rest.now c.requires.field c.in_ok-check_nested.ensures.wire r
     (c.in_ok-value.ensures.content c.merge_group_into.new.value ∙ ap (λ n. value_set n (value_of c.merge_group_into.new.value) (content_of c.args.self.now)) c.get.ensures.value))
     c.merge_group_into.ensures.ok
@@ -144,13 +144,13 @@ merge_message_element-returns-in_err-body-clause-fault t c = let p = err_from_is
 
 pub merge_message_element-merge_records-requires : goal.merge_message_element-merge_records-requires
 merge_message_element-merge_records-requires t c =
-    let fresh = empty_element c.args.self.now c.in_ok-element.element c.args.number.value c.args.place (MessageOf c.args.place) c.requires.plain c.requires.field refl
+    let fresh = empty_element c.args.self.now c.in_ok-element.element c.args.number.value c.args.place (MessageOf c.args.place) c.requires.field refl
     (c.in_ok-element.ensures ∙ ap (λ d. empty (schema_at d) c.args.place) c.descriptor.ensures) in
-    (search rules, (fresh.plain, fresh.sound))
+    (search rules, fresh.sound)
 
 pub merge_message_element-returns-in_err-merge_records-clause-fault : goal.merge_message_element-returns-in_err-merge_records-clause-fault
 merge_message_element-returns-in_err-merge_records-clause-fault t c =
-    let fresh = empty_element c.args.self.now c.in_ok-element.element c.args.number.value c.args.place (MessageOf c.args.place) c.requires.plain c.requires.field refl
+    let fresh = empty_element c.args.self.now c.in_ok-element.element c.args.number.value c.args.place (MessageOf c.args.place) c.requires.field refl
     (c.in_ok-element.ensures ∙ ap (λ d. empty (schema_at d) c.args.place) c.descriptor.ensures) in
     let p = err_from_is_err_and c.from_residual-in_err-merge_records.result c.from_residual-in_err-merge_records.ensures.1 in
     rw (p.1, p.2, c.in_ok-check_nested.ensures.wire) (λ ne. inside_refused c.args.self.now c.in_ok-element.element c.args.number.value c.args.place fresh.schema_is fresh.type_is c.args.levels c.in_ok-check_nested.ensures.levels _
@@ -161,7 +161,7 @@ merge_message_element-push_element-requires-clause-list t c = rw c.get.ensures.v
 
 pub merge_message_element-returns-clause-ok : goal.merge_message_element-returns-clause-ok
 merge_message_element-returns-clause-ok t c =
-    let fresh = empty_element c.args.self.now c.in_ok-element.element c.args.number.value c.args.place (MessageOf c.args.place) c.requires.plain c.requires.field refl
+    let fresh = empty_element c.args.self.now c.in_ok-element.element c.args.number.value c.args.place (MessageOf c.args.place) c.requires.field refl
     (c.in_ok-element.ensures ∙ ap (λ d. empty (schema_at d) c.args.place) c.descriptor.ensures) in
     rw (c.in_ok-check_nested.ensures.wire, sym (one_less c.args.levels c.in_ok-check_nested.ensures.levels))
     (element_step c.args.self.now c.in_ok-element.element c.merge_records.new.self c.push_element.new.self c.args.number.value c.args.place (c.args.levels - 1) c.requires.sound fresh
@@ -175,13 +175,13 @@ merge_group_element-returns-in_err-check_nested-clause-fault t c = let p = err_f
 
 pub merge_group_element-merge_to_end-requires : goal.merge_group_element-merge_to_end-requires
 merge_group_element-merge_to_end-requires t c =
-    let fresh = empty_element c.args.self.now c.in_ok-element.element c.args.number.value c.args.place (GroupOf c.args.place) c.requires.plain c.requires.field refl
+    let fresh = empty_element c.args.self.now c.in_ok-element.element c.args.number.value c.args.place (GroupOf c.args.place) c.requires.field refl
     (c.in_ok-element.ensures ∙ ap (λ d. empty (schema_at d) c.args.place) c.descriptor.ensures) in
-    (search rules, (fresh.plain, fresh.sound))
+    (search rules, fresh.sound)
 
 pub merge_group_element-returns-in_err-rest-clause-fault : goal.merge_group_element-returns-in_err-rest-clause-fault
 merge_group_element-returns-in_err-rest-clause-fault t c =
-    let fresh = empty_element c.args.self.now c.in_ok-element.element c.args.number.value c.args.place (GroupOf c.args.place) c.requires.plain c.requires.field refl
+    let fresh = empty_element c.args.self.now c.in_ok-element.element c.args.number.value c.args.place (GroupOf c.args.place) c.requires.field refl
     (c.in_ok-element.ensures ∙ ap (λ d. empty (schema_at d) c.args.place) c.descriptor.ensures) in
     let p = err_from_is_err_and c.from_residual-in_err-rest.result c.from_residual-in_err-rest.ensures.1 in
     rw (p.1, p.2, c.in_ok-check_nested.ensures.wire) (λ ne. in_group_refused c.args.self.now c.in_ok-element.element c.args.number.value c.args.place fresh.schema_is fresh.type_is c.args.levels c.in_ok-check_nested.ensures.levels _
@@ -192,7 +192,7 @@ merge_group_element-push_element-requires-clause-list t c = rw c.get.ensures.val
 
 pub merge_group_element-returns-clause-ok : goal.merge_group_element-returns-clause-ok
 merge_group_element-returns-clause-ok t c =
-    let fresh = empty_element c.args.self.now c.in_ok-element.element c.args.number.value c.args.place (GroupOf c.args.place) c.requires.plain c.requires.field refl
+    let fresh = empty_element c.args.self.now c.in_ok-element.element c.args.number.value c.args.place (GroupOf c.args.place) c.requires.field refl
     (c.in_ok-element.ensures ∙ ap (λ d. empty (schema_at d) c.args.place) c.descriptor.ensures) in
     rw (c.in_ok-check_nested.ensures.wire, sym (one_less c.args.levels c.in_ok-check_nested.ensures.levels))
     (group_element_step c.args.self.now c.in_ok-element.element c.merge_to_end.new.self c.push_element.new.self c.args.number.value c.args.place (c.args.levels - 1) c.requires.sound fresh

@@ -1,14 +1,14 @@
 use Rattle.std.proofs.Common.{subst, sym, ◌∙◌}
 use Rattle.prost_reflect_tables.specs.Rows.{field_row}
 use Rattle.prost_reflect.specs.Targets.{IsTarget}
-use Rattle.prost_reflect.proofs.MapRows.{repeated_is}
+use Rattle.prost_reflect.proofs.RepeatedRows.{repeated_is}
 use Rattle.prost_reflect.proofs.Merging.{target_is}
 use Rattle.prost_reflect.proofs.message.decode.target_at.Goals as goal
 
 pub returns-in-Some : goal.returns-in-Some
 returns-in-Some c =
     subst (IsTarget c.args.descriptor.now c.args.number) (sym c.repeated_target.ensures)
-    (repeated_is c.args.descriptor.now c.args.number (field_row c.in-Some.field.now) c.requires c.in-Some.ensures.field (sym c.is_repeated.ensures ∙ c.if-is_repeated.true))
+    (repeated_is c.args.descriptor.now c.args.number (field_row c.in-Some.field.now) c.in-Some.ensures.field (sym c.is_repeated.ensures ∙ c.if-is_repeated.true))
 
 pub returns-in-Some-2 : goal.returns-in-Some-2
 returns-in-Some-2 c =

@@ -14,7 +14,8 @@ use Rattle.prost_reflect.specs.Covered.{names_message}
 use Rattle.prost_reflect.specs.Known.{known_of}
 use Rattle.prost_reflect.proofs.Merging.{no_message_kind}
 use Rattle.prost_reflect.proofs.WrittenLists.{valid_list_value, row_list_written, takes_same, list_value_bytes, flat_too_long}
-use Rattle.prost_reflect.proofs.MapRows.{list_plain, messages_listed, listed_form, map_of_rows, valid_map_value}
+use Rattle.prost_reflect.proofs.RepeatedRows.{listed_form, map_of_rows}
+use Rattle.prost_reflect.proofs.MapRows.{valid_map_value}
 use Rattle.prost_reflect.proofs.ElementWrites.{row_messages_written, element_at, element_shown, no_element}
 use Rattle.prost_reflect.specs.Lists.{element_bytes}
 use Rattle.prost_reflect_wire.specs.Buffer.{bytes_of}
@@ -29,7 +30,7 @@ pub prepend_body-prepend_unknown-requires : goal.prepend_body-prepend_unknown-re
 prepend_body-prepend_unknown-requires t c =
     let within = rw c.entries-entries.ensures.entries at c.loop-index.auto.index in
     let at = rw c.entries-entries.ensures.entries at c.index-entries-index.is in
-    (entry_writable c.args.message.now c.loop-index.index c.index-entries-index.result c.loop-index-test.true within at c.requires.encodable c.requires.typed c.entries-entries.ensures.ascending c.entries-entries.ensures.sound).own
+    (entry_writable c.args.message.now c.loop-index.index c.index-entries-index.result c.loop-index-test.true within at c.requires.encodable c.entries-entries.ensures.ascending c.entries-entries.ensures.sound).own
 
 pub prepend_body-returns-in_err-prepend_unknown : goal.prepend_body-returns-in_err-prepend_unknown
 prepend_body-returns-in_err-prepend_unknown t c = let q = err_from_is_err_and c.from_residual.result c.from_residual.ensures.1 in
@@ -41,9 +42,9 @@ pub prepend_body-prepend_value-requires : goal.prepend_body-prepend_value-requir
 prepend_body-prepend_value-requires t c =
     let within = rw c.entries-entries.ensures.entries at c.loop-index.auto.index in
     let at = rw c.entries-entries.ensures.entries at c.index-entries-index.is in
-    let w = entry_writable c.args.message.now c.loop-index.index c.index-entries-index.result c.loop-index-test.true within at c.requires.encodable c.requires.typed c.entries-entries.ensures.ascending c.entries-entries.ensures.sound in
+    let w = entry_writable c.args.message.now c.loop-index.index c.index-entries-index.result c.loop-index-test.true within at c.requires.encodable c.entries-entries.ensures.ascending c.entries-entries.ensures.sound in
     let v = w.value c.in-Value.value (one_value c.index-entries-index.result.1 c.in-Value.value c.in-Value.is) in
-    (elim c.in-Value.is [ inl is ↦ search (rules, the_lemmas) | inr both ↦ search (rules, the_lemmas) ], rw c.descriptor.ensures (c.requires.plain, v))
+    (elim c.in-Value.is [ inl is ↦ search (rules, the_lemmas) | inr both ↦ search (rules, the_lemmas) ], rw c.descriptor.ensures v)
 
 pub prepend_body-returns-in_err-prepend_value-in-Value : goal.prepend_body-returns-in_err-prepend_value-in-Value
 prepend_body-returns-in_err-prepend_value-in-Value t c =
@@ -59,32 +60,29 @@ prepend_body-returns t c = whole_written c.args.message.now c.loop-index.index _
 
 pub prepend_value-prepend_repeated-requires : goal.prepend_value-prepend_repeated-requires
 prepend_value-prepend_repeated-requires t c =
-    (search (rules, the_lemmas), (c.requires.plain, (c.in-Some.ensures.field, (sym c.is_repeated.ensures ∙ c.if-is_repeated.true, c.requires.writable))))
+    (search (rules, the_lemmas), (c.in-Some.ensures.field, (sym c.is_repeated.ensures ∙ c.if-is_repeated.true, c.requires.writable)))
 
 pub prepend_repeated-prepend_map-requires-clause-rows : goal.prepend_repeated-prepend_map-requires-clause-rows
 prepend_repeated-prepend_map-requires-clause-rows t c =
-    map_of_rows c.args.descriptor.now c.args.number (field_row c.args.field.now) c.requires.plain c.requires.field c.requires.repeated (field_row c.in-Some.key.now) (field_row c.in-Some.element.now) c.in-Some.ensures
+    map_of_rows c.args.descriptor.now c.args.number (field_row c.args.field.now) c.requires.field c.requires.repeated (field_row c.in-Some.key.now) (field_row c.in-Some.element.now) c.in-Some.ensures
 
 pub prepend_repeated-prepend_map-requires-clause-map : goal.prepend_repeated-prepend_map-requires-clause-map
 prepend_repeated-prepend_map-requires-clause-map t c = valid_map_value c.args.descriptor.now c.args.number (field_row c.in-Some.key.now) (field_row c.in-Some.element.now) (value_of c.args.value.now)
-    (map_of_rows c.args.descriptor.now c.args.number (field_row c.args.field.now) c.requires.plain c.requires.field c.requires.repeated (field_row c.in-Some.key.now) (field_row c.in-Some.element.now) c.in-Some.ensures) c.requires.writable.valid
+    (map_of_rows c.args.descriptor.now c.args.number (field_row c.args.field.now) c.requires.field c.requires.repeated (field_row c.in-Some.key.now) (field_row c.in-Some.element.now) c.in-Some.ensures) c.requires.writable.valid
 
 pub prepend_repeated-prepend_elements-requires : goal.prepend_repeated-prepend_elements-requires
 prepend_repeated-prepend_elements-requires t c =
-    let form = listed_form c.args.descriptor.now c.args.number (field_row c.args.field.now) c.requires.plain c.requires.field c.requires.repeated c.in-None.ensures in (
+    let form = listed_form c.args.descriptor.now c.args.number (field_row c.args.field.now) c.requires.field c.requires.repeated c.in-None.ensures in (
       search (rules, the_lemmas),
       (
-        c.requires.plain,
+        c.requires.field,
         (
-          c.requires.field,
+          c.requires.repeated,
           (
-            c.requires.repeated,
+            c.in-None.ensures,
             (
-              c.in-None.ensures,
-              (
-                c.requires.writable,
-                valid_list_value c.args.descriptor.now c.args.number (field_row c.args.field.now) (value_of c.args.value.now) form c.requires.field c.requires.writable.valid,
-              ),
+              c.requires.writable,
+              valid_list_value c.args.descriptor.now c.args.number (field_row c.args.field.now) (value_of c.args.value.now) form c.requires.field c.requires.writable.valid,
             ),
           ),
         ),
@@ -93,36 +91,36 @@ prepend_repeated-prepend_elements-requires t c =
 
 pub prepend_elements-prepend_messages-requires : goal.prepend_elements-prepend_messages-requires
 prepend_elements-prepend_messages-requires t c =
-    let listed = messages_listed c.args.descriptor.now c.args.number (field_row c.args.field.now) c.requires.plain c.requires.field c.requires.repeated c.requires.no_map (ap names_message c.in-Message.is) in
-    let w = row_messages_written c.args.descriptor.now c.args.number (field_row c.args.field.now) c.args.value.now c.in-List.values c.requires.plain c.requires.field c.requires.repeated listed (ap names_message c.in-Message.is) c.requires.writable c.in-List.is in
+    let form = listed_form c.args.descriptor.now c.args.number (field_row c.args.field.now) c.requires.field c.requires.repeated c.requires.no_map in
+    let w = row_messages_written c.args.descriptor.now c.args.number (field_row c.args.field.now) c.args.value.now c.in-List.values c.requires.field c.requires.repeated form (ap names_message c.in-Message.is) c.requires.writable c.in-List.is in
     (search (rules, the_lemmas), w.takes)
 
 pub prepend_elements-returns-in-Message : goal.prepend_elements-returns-in-Message
 prepend_elements-returns-in-Message t c =
-    let listed = messages_listed c.args.descriptor.now c.args.number (field_row c.args.field.now) c.requires.plain c.requires.field c.requires.repeated c.requires.no_map (ap names_message c.in-Message.is) in
-    rw (row_messages_written c.args.descriptor.now c.args.number (field_row c.args.field.now) c.args.value.now c.in-List.values c.requires.plain c.requires.field c.requires.repeated listed (ap names_message c.in-Message.is) c.requires.writable c.in-List.is).bytes
+    let form = listed_form c.args.descriptor.now c.args.number (field_row c.args.field.now) c.requires.field c.requires.repeated c.requires.no_map in
+    rw (row_messages_written c.args.descriptor.now c.args.number (field_row c.args.field.now) c.args.value.now c.in-List.values c.requires.field c.requires.repeated form (ap names_message c.in-Message.is) c.requires.writable c.in-List.is).bytes
     c.prepend_messages.ensures
 
 pub prepend_elements-prepend_list-requires : goal.prepend_elements-prepend_list-requires
 prepend_elements-prepend_list-requires t c =
-    let plain = list_plain c.args.descriptor.now c.args.number (field_row c.args.field.now) c.requires.plain c.requires.field c.requires.repeated c.requires.no_map (no_message_kind (field_row c.args.field.now).kind c.in_default-kind.not-Message) in
+    let scalar = no_message_kind (field_row c.args.field.now).kind c.in_default-kind.not-Message in
     takes_same (known_of c.args.descriptor.now) c.args.number (field_row c.args.field.now).kind (field_row c.args.field.now).is_packed c.in-List.values.items c.deref.result.now c.deref.ensures.value
-    (row_list_written c.args.descriptor.now c.args.number (field_row c.args.field.now) c.args.value.now c.in-List.values plain c.requires.field c.requires.repeated c.requires.writable.valid c.in-List.is)
+    (row_list_written c.args.descriptor.now c.args.number (field_row c.args.field.now) c.args.value.now c.in-List.values scalar c.requires.field c.requires.repeated c.requires.writable.valid c.in-List.is)
 
 pub prepend_elements-returns-in_default-kind : goal.prepend_elements-returns-in_default-kind
 prepend_elements-returns-in_default-kind t c =
-    let plain = list_plain c.args.descriptor.now c.args.number (field_row c.args.field.now) c.requires.plain c.requires.field c.requires.repeated c.requires.no_map (no_message_kind (field_row c.args.field.now).kind c.in_default-kind.not-Message) in
+    let scalar = no_message_kind (field_row c.args.field.now).kind c.in_default-kind.not-Message in
     rw (list_value_bytes (known_of c.args.descriptor.now) c.args.number (field_row c.args.field.now).kind (field_row c.args.field.now).is_packed c.args.value.now c.in-List.values c.deref.result.now c.in-List.is c.deref.ensures.value
-    (row_list_written c.args.descriptor.now c.args.number (field_row c.args.field.now) c.args.value.now c.in-List.values plain c.requires.field c.requires.repeated c.requires.writable.valid c.in-List.is))
+    (row_list_written c.args.descriptor.now c.args.number (field_row c.args.field.now) c.args.value.now c.in-List.values scalar c.requires.field c.requires.repeated c.requires.writable.valid c.in-List.is))
     c.prepend_list.ensures
 
 pub prepend_value-prepend_message-requires : goal.prepend_value-prepend_message-requires
 prepend_value-prepend_message-requires t c =
-    let w = nested_written c.args.descriptor.now c.args.number (field_row c.in-Some.field.now) c.args.value.now c.in-Message.message c.requires.plain (sym c.is_repeated.ensures ∙ c.if-is_repeated.false) c.in-Some.ensures.field c.requires.writable c.in-Message.is in
-    (search (rules, the_lemmas), (w.plain, (w.fits, w.types)))
+    let w = nested_written c.args.descriptor.now c.args.number (field_row c.in-Some.field.now) c.args.value.now c.in-Message.message (sym c.is_repeated.ensures ∙ c.if-is_repeated.false) c.in-Some.ensures.field c.requires.writable c.in-Message.is in
+    (search (rules, the_lemmas), w.fits)
 
 pub prepend_value-returns-in-Message : goal.prepend_value-returns-in-Message
-prepend_value-returns-in-Message t c = rw (nested_written c.args.descriptor.now c.args.number (field_row c.in-Some.field.now) c.args.value.now c.in-Message.message c.requires.plain (sym c.is_repeated.ensures ∙ c.if-is_repeated.false) c.in-Some.ensures.field c.requires.writable c.in-Message.is).bytes c.prepend_message.ensures
+prepend_value-returns-in-Message t c = rw (nested_written c.args.descriptor.now c.args.number (field_row c.in-Some.field.now) c.args.value.now c.in-Message.message (sym c.is_repeated.ensures ∙ c.if-is_repeated.false) c.in-Some.ensures.field c.requires.writable c.in-Message.is).bytes c.prepend_message.ensures
 
 pub prepend_value-prepend_kept_scalar-requires : goal.prepend_value-prepend_kept_scalar-requires
 prepend_value-prepend_kept_scalar-requires t c = (row_written c.args.descriptor.now c.args.number (field_row c.in-Some.field.now) (value_of c.args.value.now) (sym c.is_repeated.ensures ∙ c.if-is_repeated.false) c.in-Some.ensures.field c.requires.writable.valid (no_message_value c.args.value.now c.in_default.not-Message)).takes
