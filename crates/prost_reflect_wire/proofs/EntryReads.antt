@@ -29,7 +29,7 @@ pub numbered_last : (n : ℕ) (rs : List Record) (r : Record) → numbered n (rs
 numbered_last n rs r = ap payloads (filter_append (has_number n) rs (r ∷ [])) ∙ map_append (λ r. r.payload) _ _
 
 -- a record of the number is its last
-pub numbered_own : (n : ℕ) (rs : List Record) (r : Record) → nat_eq r.number n ≡ true → last (numbered n (rs ++ r ∷ [])) ≡ Some r.payload
+numbered_own : (n : ℕ) (rs : List Record) (r : Record) → nat_eq r.number n ≡ true → last (numbered n (rs ++ r ∷ [])) ≡ Some r.payload
 numbered_own n rs r own = ap last (numbered_last n rs r ∙ ap (λ b. numbered n rs ++ payloads (cond b (r ∷ []) [])) own) ∙ last_append (numbered n rs) r.payload []
 
 -- a record of another number is not

@@ -128,7 +128,7 @@ message_joined inner join value_type (ScalarOf kind) U old p e = cc
 message_joined inner join value_type (MessageOf V) U old p e = ap (λ (V : ℕ). Some (MessageValue (join (content_in inner V old) (records_in p)))) (let names : V ≡ U = cc in names)
 message_joined inner join value_type (GroupOf V) U old p e = ap (λ (V : ℕ). Some (MessageValue (join (content_in inner V old) (records_in p)))) (let names : V ≡ U = cc in names)
 
-pub no_stray : (kind : Kind) (U : ℕ) (p : Payload) → message_of kind ≡ Some U → is_stray kind p ≡ false
+no_stray : (kind : Kind) (U : ℕ) (p : Payload) → message_of kind ≡ Some U → is_stray kind p ≡ false
 no_stray (ScalarOf kind) U p e = cc
 no_stray (MessageOf V) U p e = refl
 no_stray (GroupOf V) U p e = refl
