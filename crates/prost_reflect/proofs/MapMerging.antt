@@ -35,7 +35,7 @@ use Rattle.prost_reflect.proofs.Merging.{known_in, differ_in, same_kind}
 -- KEYS
 
 -- a scalar of a key's kind is a key
-found_key : (kind : ScalarKind) (s : Scalar) → is_key_kind (ScalarOf kind) ≡ true → scalar_valid kind s ≡ true → IsSome (key_among s)
+pub found_key : (kind : ScalarKind) (s : Scalar) → is_key_kind (ScalarOf kind) ≡ true → scalar_valid kind s ≡ true → IsSome (key_among s)
 found_key kind (scalars.Boolean b) h v = refl
 found_key kind (scalars.I32 z) h v = refl
 found_key kind (scalars.I64 z) h v = refl
@@ -51,7 +51,7 @@ found_key _ (scalars.Bytes x) h v = absurd (true≢false (sym v))
 found_key (Enum first numbers) (scalars.EnumNumber z) h v = absurd (true≢false (sym h))
 found_key _ (scalars.EnumNumber z) h v = absurd (true≢false (sym v))
 
-key_itself : (s t : Scalar) → key_among s ≡ Some t → t ≡ s
+pub key_itself : (s t : Scalar) → key_among s ≡ Some t → t ≡ s
 key_itself (scalars.Boolean b) t h = cc
 key_itself (scalars.I32 z) t h = cc
 key_itself (scalars.I64 z) t h = cc
@@ -76,7 +76,7 @@ set_entry levels n (ContentOf schema T es) d f key_type key value_kind x s body 
 -- MESSAGES
 
 -- the schema of a message is checked
-valid_in : (m : DynamicMessage) → schema_valid (schema_of (content_of m)) ≡ true
+pub valid_in : (m : DynamicMessage) → schema_valid (schema_of (content_of m)) ≡ true
 valid_in m = ap (λ c. schema_valid (schema_of c)) (content_of_message m) ∙ schema_at_valid (descriptor_of m)
 
 module _ (m : DynamicMessage) (n : ℕ) (key value_kind : TableKind) (map : PlainMap (known_of (descriptor_of m)) n key value_kind) where
