@@ -30,16 +30,24 @@ plain_kind enums kind g = refl
 
 -- MAPS
 
--- A map's kind is that of its entries, which is no plain one.
-pub no_entry : (messages : List MessageRow) (f : FieldRow) (c : Cardinality) → is_plain_kind f.kind ≡ true → map_entry messages f c ≡ None
-no_entry messages f Optional h = refl
-no_entry messages f Required h = refl
-no_entry messages f Repeated h = go f.is_group f.kind h
+-- A map's kind is that of its entries.
+pub no_message_entry : (messages : List MessageRow) (f : FieldRow) (c : Cardinality) → names_message f.kind ≡ false → map_entry messages f c ≡ None
+no_message_entry messages f Optional h = refl
+no_message_entry messages f Required h = refl
+no_message_entry messages f Repeated h = go f.is_group f.kind h
   where
-    go : (g : Bool) (kind : TableKind) → is_plain_kind kind ≡ true → cond g None (entry_at messages kind) ≡ None
+    go : (g : Bool) (kind : TableKind) → names_message kind ≡ false → cond g None (entry_at messages kind) ≡ None
     go true kind h = refl
-    go false (Message T) h = absurd (true≢false (sym h))
+    go false (Message T) h = absurd (true≢false h)
     go false kind h = refl
+
+-- A plain kind names no message.
+pub plain_apart : (kind : TableKind) → is_plain_kind kind ≡ true → names_message kind ≡ false
+plain_apart (Message T) h = absurd (true≢false (sym h))
+plain_apart kind h = refl
+
+pub no_entry : (messages : List MessageRow) (f : FieldRow) (c : Cardinality) → is_plain_kind f.kind ≡ true → map_entry messages f c ≡ None
+no_entry messages f c h = no_message_entry messages f c (plain_apart f.kind h)
 
 -- The type of a map's entries stands in the rows.
 record EntryOf (messages : List MessageRow) (m : MessageRow) : Type 0 where

@@ -67,7 +67,7 @@ module _ (d : MessageDescriptor) (n : ℕ) (row : FieldRow) (found : field_of (k
       go : (kind : TableKind) (g : Bool) → row.kind ≡ kind → row.is_group ≡ g → IsTarget d n (element_target_of kind g)
       go (kinds.Message T) true k i = nested_list T (GroupOf T) (ap₂ (schema_kind (pool_rows d.pool).enums) k i) refl
       go (kinds.Message T) false k i = nested_list T (MessageOf T) (ap₂ (schema_kind (pool_rows d.pool).enums) k i) refl
-      go (kinds.Enum E) g k i = subst (NumberList d n) k (number_list d n row E found many form k)
+      go (kinds.Enum E) g k i = subst (NumberList d n) k (number_list d n row E found many k)
       go kind g k i = subst (ListField (known_of d) n) k (list_field d n row found many (ap is_plain_kind k))
 
 -- THE LIST
@@ -108,11 +108,11 @@ from_append : (vs : List contents.Value) (w : contents.Value) → values_from (v
 from_append [] w = refl
 from_append (v ∷ vs) w = ap (contents.Item v) (from_append vs w)
 
-pub element_pushed : (v : Value) (olds news : Vec Value Global) (m : DynamicMessage) → v ≡ values.List olds → news.items ≡ olds.items ++ values.Message m ∷ [] → value_of (values.List news) ≡ with_element (Some (value_of v)) (MessageValue (content_of m))
-element_pushed v olds news m is e =
-    value_of_list news ∙ ap (λ l. ListValue (values_from l)) (ap (map value_of) e ∙ map-append value_of olds.items (values.Message m ∷ []) ∙ ap (λ x. map value_of olds.items ++ x ∷ []) (value_of_message m))
-    ∙ ap ListValue (from_append (map value_of olds.items) (MessageValue (content_of m)))
-    ∙ ap (λ v. with_element (Some v) (MessageValue (content_of m))) (sym (ap value_of is ∙ value_of_list olds))
+pub element_pushed : (v : Value) (olds news : Vec Value Global) (w : Value) → v ≡ values.List olds → news.items ≡ olds.items ++ w ∷ [] → value_of (values.List news) ≡ with_element (Some (value_of v)) (value_of w)
+element_pushed v olds news w is e =
+    value_of_list news ∙ ap (λ l. ListValue (values_from l)) (ap (map value_of) e ∙ map-append value_of olds.items (w ∷ []))
+    ∙ ap ListValue (from_append (map value_of olds.items) (value_of w))
+    ∙ ap (λ v. with_element (Some v) (value_of w)) (sym (ap value_of is ∙ value_of_list olds))
 
 -- THE ELEMENT
 

@@ -69,7 +69,7 @@ joined_step levels n w (ContentOf schema T es) d f packed kind v vs bytes rest s
     (list_holds schema T es sound levels n f packed kind w vs bytes rest differ found form is alone whole small read)
 
 -- at the number of a list stands a list, or nothing yet
-listed_at : (c : Content) (n : ℕ) (f : Field) (packed : Bool) → WellStored c → field_of (known (schema_of c) (type_of c)) n ≡ Some f → f.form ≡ Repeated packed → IsListed (value_at n (entries_of c))
+pub listed_at : (c : Content) (n : ℕ) (f : Field) (packed : Bool) → WellStored c → field_of (known (schema_of c) (type_of c)) n ≡ Some f → f.form ≡ Repeated packed → IsListed (value_at n (entries_of c))
 listed_at (ContentOf schema T es) n f packed sound found form =
     let number : f.number ≡ n = field_number (known schema T) n f found in
     let s = stored_list (known schema T) es f packed sound.fits (ap (field_of (known schema T)) number ∙ found) form in
@@ -84,12 +84,19 @@ values_or : (o : Option contents.Value) → values_in (Some (unwrap_or o (ListVa
 values_or None = refl
 values_or (Some v) = refl
 
+-- a checked list is no member of a oneof
+pub list_alone : (d : MessageDescriptor) (n : ℕ) (f : Field) (packed : Bool) → field_of (known_of d) n ≡ Some f → f.form ≡ Repeated packed → f.oneof ≡ None
+list_alone d n f packed found form = let checked = checked_list (schema_at d) f packed (checked_field (schema_at d) f (found_checked d n f found)) form in none f.oneof checked.alone
+  where
+    none : (o : Option ℕ) → not (is_some o) ≡ true → o ≡ None
+    none None e = refl
+    none (Some o) e = cc
+
 -- a repeated row of a plain kind is a list
 pub list_field : (d : MessageDescriptor) (n : ℕ) (row : FieldRow) → field_of (known_of d) n ≡ Some (schema_field (pool_rows d.pool) row) → is_repeated row.cardinality ≡ true → is_plain_kind row.kind ≡ true → ListField (known_of d) n row.kind
 list_field d n row found many plain =
     let kind = plain_row (pool_rows d.pool) row plain in
     let form : (schema_field (pool_rows d.pool) row).form ≡ Repeated row.is_packed = list_row (pool_rows d.pool) row many plain in
-    let checked = checked_list (schema_at d) (schema_field (pool_rows d.pool) row) row.is_packed (checked_field (schema_at d) (schema_field (pool_rows d.pool) row) (found_checked d n (schema_field (pool_rows d.pool) row) found)) form in
     record {
       field = schema_field (pool_rows d.pool) row;
       scalar_kind = kind.scalar;
@@ -98,13 +105,9 @@ list_field d n row found many plain =
       plain = kind.named;
       form = form;
       kind_is = kind.is;
-      alone = none (schema_field (pool_rows d.pool) row).oneof checked.alone;
+      alone = list_alone d n (schema_field (pool_rows d.pool) row) row.is_packed found form;
       whole = kind.whole;
     }
-  where
-    none : (o : Option ℕ) → not (is_some o) ≡ true → o ≡ None
-    none None e = refl
-    none (Some o) e = cc
 
 -- MESSAGES
 

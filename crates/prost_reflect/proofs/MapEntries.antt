@@ -1,4 +1,4 @@
--- Entries of maps of plain scalars, read one record behind another and put into a map.
+-- Entries of maps of scalars, read one record behind another and put into a map.
 use Rattle.std.proofs.Common.{◌≡◌, ◌≢◌, ℕ, true, false, nat_eq, List, [], Option, Some, None, refl, ap, sym, ◌∙◌, subst}
 use Rattle.std.specs.Prelude.{IsSomeAnd, unwrap_or}
 use Rattle.std.specs.BTreeMap.{BTreeMap, insert_entry}
@@ -6,6 +6,7 @@ use Rattle.prost_reflect_wire.specs.declared.error.DecodeError.{DecodeError}
 use Rattle.prost_reflect_wire.specs.declared.key.WireType.{WireType}
 use Rattle.prost_reflect_wire.specs.Front.{KeyFront, KeyFault}
 use Rattle.prost_reflect_wire.specs.Scalar.{ScalarKind, kind_default}
+use Rattle.prost_reflect_wire.specs.Schema.{Kind, ScalarOf, MessageOf, GroupOf}
 use Rattle.prost_reflect_wire.specs.Content as contents
 use Rattle.prost_reflect_wire.specs.Content.{Content, ScalarValue, MapValue}
 use Rattle.prost_reflect_wire.specs.Meaning as meaning
@@ -16,6 +17,8 @@ use Rattle.prost_reflect_wire.specs.Decoding.{ScalarRead, ScalarFault}
 use Rattle.prost_reflect_wire.specs.EntryReading.{IsMapped}
 use Rattle.prost_reflect_wire.proofs.EntryReads.{scalar_entry_nothing, key_read, value_read, other_read, key_refused, value_refused, other_refused, no_key_read}
 use Rattle.prost_reflect_tables.specs.declared.tables.TableKind.{TableKind}
+use Rattle.prost_reflect_tables.specs.Rows.{EnumRow}
+use Rattle.prost_reflect_tables.specs.Shown.{schema_kind}
 use Rattle.prost_reflect.specs.declared.value.MapKey.{MapKey}
 use Rattle.prost_reflect.specs.declared.value.Value.{Value}
 use Rattle.prost_reflect.specs.declared.value.Value.{out-Value}
@@ -24,112 +27,114 @@ use Rattle.prost_reflect.specs.declared.value.Value.TheOpen.{Value-F}
 use Rattle.prost_reflect.specs.declared.value.Value.TheFolds.{fold_out-Value, map-Value}
 use Rattle.prost_reflect.specs.declared.message.DynamicMessage.{DynamicMessage}
 use Rattle.prost_reflect.specs.Scalars.{plain_kind, ReadsScalar, RefusesScalar}
-use Rattle.prost_reflect.specs.Maps.{IsDefaultOf, ReadsEntry, RefusesEntry}
+use Rattle.prost_reflect.specs.Maps.{IsDefaultOf, IsKindDefault, IsAbsentValue, ReadsEntry, RefusesEntry}
 use Rattle.prost_reflect.specs.Variants.{pairs_in}
 use Rattle.prost_reflect.specs.View.{key_of, value_step, message_step, value_of, content_of}
 use Rattle.prost_reflect.specs.ContentLaws.{pairs_shown, compare_keys}
 use Rattle.prost_reflect.proofs.Views.{value_of_map}
 use Rattle.prost_reflect.proofs.Keys.{map_insert}
-use Rattle.prost_reflect.proofs.Merging.{same_kind}
+use Rattle.prost_reflect.proofs.PlainKinds.{plain_payloads}
+use Rattle.prost_reflect.proofs.Merging.{read_own, own_fault, same_kind}
 
 -- ONE RECORD MORE
 
-module _ (levels : ℕ) (key value_kind : TableKind) where
-  pub entry_start : (k v : Value) (bytes : List ℕ) → IsDefaultOf key k → IsDefaultOf value_kind v → ReadsEntry levels key value_kind k v bytes bytes
-  entry_start k v bytes a b = go (plain_kind key) refl a (plain_kind value_kind) refl b
+module _ (enums : List EnumRow) (levels : ℕ) (key value_kind : TableKind) where
+  pub entry_start : (k v : Value) (bytes : List ℕ) → IsDefaultOf key k → IsAbsentValue enums value_kind v → ReadsEntry enums levels key value_kind k v bytes bytes
+  entry_start k v bytes a b = go (plain_kind key) refl a (schema_kind enums value_kind false) refl b
     where
-      go : (o : Option ScalarKind) → plain_kind key ≡ o → IsSomeAnd o (λ x. value_of k ≡ ScalarValue (kind_default x)) → (p : Option ScalarKind) → plain_kind value_kind ≡ p → IsSomeAnd p (λ x. value_of v ≡ ScalarValue (kind_default x)) →
-          ReadsEntry levels key value_kind k v bytes bytes
-      go (Some x) e a (Some y) f b = record {
+      go : (o : Option ScalarKind) → plain_kind key ≡ o → IsSomeAnd o (λ x. value_of k ≡ ScalarValue (kind_default x)) → (kind : Kind) → schema_kind enums value_kind false ≡ kind → IsKindDefault kind v → ReadsEntry enums levels key value_kind k v bytes bytes
+      go (Some x) e a (ScalarOf y) f b = record {
         key_scalar = x;
         value_scalar = y;
         key_read = kind_default x;
         value_read = kind_default y;
         key_plain = e;
-        value_plain = f;
+        value_named = f;
         key_is = a;
         value_is = b;
         read = scalar_entry_nothing levels x y bytes;
       }
-      go (Some x) e a None f b = absurd b
-      go None e a p f b = absurd a
+      go (Some x) e a (MessageOf T) f b = absurd b
+      go (Some x) e a (GroupOf T) f b = absurd b
+      go None e a kind f b = absurd a
 
-  module _ (k v : Value) (bytes mid : List ℕ) (done : ReadsEntry levels key value_kind k v bytes mid) where
-    pub no_key_there : (e : DecodeError) → mid ≢ [] → KeyFault e mid → RefusesEntry levels key value_kind e bytes
+  module _ (k v : Value) (bytes mid : List ℕ) (done : ReadsEntry enums levels key value_kind k v bytes mid) where
+    pub no_key_there : (e : DecodeError) → mid ≢ [] → KeyFault e mid → RefusesEntry enums levels key value_kind e bytes
     no_key_there e some fault = record {
       key_scalar = done.key_scalar;
       value_scalar = done.value_scalar;
       key_plain = done.key_plain;
-      value_plain = done.value_plain;
+      value_named = done.value_named;
       fault = no_key_read levels done.key_scalar done.value_scalar e done.key_read done.value_read bytes mid done.read some fault;
     }
 
     module _ (n : ℕ) (w : WireType) (after : List ℕ) (front : KeyFront n w mid after) where
-      pub key_there : (x : Value) (rest : List ℕ) → nat_eq n 1 ≡ true → ReadsScalar key w x after rest → ReadsEntry levels key value_kind x v bytes rest
+      pub key_there : (x : Value) (rest : List ℕ) → nat_eq n 1 ≡ true → ReadsScalar key w x after rest → ReadsEntry enums levels key value_kind x v bytes rest
       key_there x rest is r = record {
         key_scalar = done.key_scalar;
         value_scalar = done.value_scalar;
         key_read = r.scalar;
         value_read = done.value_read;
         key_plain = done.key_plain;
-        value_plain = done.value_plain;
+        value_named = done.value_named;
         key_is = r.value;
         value_is = done.value_is;
         read = key_read levels done.key_scalar done.value_scalar done.key_read done.value_read bytes mid done.read n w after front r.scalar rest is
             (subst (λ kind. ScalarRead kind w r.scalar after rest) (same_kind r.plain done.key_plain) r.read);
       }
 
-      pub value_there : (x : Value) (rest : List ℕ) → nat_eq n 2 ≡ true → ReadsScalar value_kind w x after rest → ReadsEntry levels key value_kind k x bytes rest
+      pub value_there : (x : Value) (rest : List ℕ) → nat_eq n 2 ≡ true → ReadsScalar value_kind w x after rest → ReadsEntry enums levels key value_kind k x bytes rest
       value_there x rest is r = record {
         key_scalar = done.key_scalar;
         value_scalar = done.value_scalar;
         key_read = done.key_read;
         value_read = r.scalar;
         key_plain = done.key_plain;
-        value_plain = done.value_plain;
+        value_named = done.value_named;
         key_is = done.key_is;
         value_is = r.value;
         read = value_read levels done.key_scalar done.value_scalar done.key_read done.value_read bytes mid done.read n w after front r.scalar rest is
-            (subst (λ kind. ScalarRead kind w r.scalar after rest) (same_kind r.plain done.value_plain) r.read);
+            (read_own r.scalar_kind done.value_scalar w r.scalar after rest (plain_payloads enums value_kind r.scalar_kind done.value_scalar r.plain done.value_named) r.read);
       }
 
-      pub other_there : (rest : List ℕ) → nat_eq n 1 ≡ false → nat_eq n 2 ≡ false → SkipsValue n w levels after rest → ReadsEntry levels key value_kind k v bytes rest
+      pub other_there : (rest : List ℕ) → nat_eq n 1 ≡ false → nat_eq n 2 ≡ false → SkipsValue n w levels after rest → ReadsEntry enums levels key value_kind k v bytes rest
       other_there rest first second skipped = record {
         key_scalar = done.key_scalar;
         value_scalar = done.value_scalar;
         key_read = done.key_read;
         value_read = done.value_read;
         key_plain = done.key_plain;
-        value_plain = done.value_plain;
+        value_named = done.value_named;
         key_is = done.key_is;
         value_is = done.value_is;
         read = other_read levels done.key_scalar done.value_scalar done.key_read done.value_read bytes mid done.read n w after front rest first second skipped;
       }
 
-      pub no_key_value : (e : DecodeError) → nat_eq n 1 ≡ true → RefusesScalar key w e after → RefusesEntry levels key value_kind e bytes
+      pub no_key_value : (e : DecodeError) → nat_eq n 1 ≡ true → RefusesScalar key w e after → RefusesEntry enums levels key value_kind e bytes
       no_key_value e is r = record {
         key_scalar = done.key_scalar;
         value_scalar = done.value_scalar;
         key_plain = done.key_plain;
-        value_plain = done.value_plain;
+        value_named = done.value_named;
         fault = key_refused levels done.key_scalar done.value_scalar done.key_read done.value_read bytes mid done.read n w after front e is (subst (λ kind. ScalarFault kind w e after) (same_kind r.plain done.key_plain) r.fault);
       }
 
-      pub no_value : (e : DecodeError) → nat_eq n 2 ≡ true → RefusesScalar value_kind w e after → RefusesEntry levels key value_kind e bytes
+      pub no_value : (e : DecodeError) → nat_eq n 2 ≡ true → RefusesScalar value_kind w e after → RefusesEntry enums levels key value_kind e bytes
       no_value e is r = record {
         key_scalar = done.key_scalar;
         value_scalar = done.value_scalar;
         key_plain = done.key_plain;
-        value_plain = done.value_plain;
-        fault = value_refused levels done.key_scalar done.value_scalar done.key_read done.value_read bytes mid done.read n w after front e is (subst (λ kind. ScalarFault kind w e after) (same_kind r.plain done.value_plain) r.fault);
+        value_named = done.value_named;
+        fault = value_refused levels done.key_scalar done.value_scalar done.key_read done.value_read bytes mid done.read n w after front e is
+            (own_fault r.scalar_kind done.value_scalar w e after (plain_payloads enums value_kind r.scalar_kind done.value_scalar r.plain done.value_named) r.fault);
       }
 
-      pub no_other : (e : DecodeError) → nat_eq n 1 ≡ false → nat_eq n 2 ≡ false → ValueFault e n w levels after → RefusesEntry levels key value_kind e bytes
+      pub no_other : (e : DecodeError) → nat_eq n 1 ≡ false → nat_eq n 2 ≡ false → ValueFault e n w levels after → RefusesEntry enums levels key value_kind e bytes
       no_other e first second fault = record {
         key_scalar = done.key_scalar;
         value_scalar = done.value_scalar;
         key_plain = done.key_plain;
-        value_plain = done.value_plain;
+        value_named = done.value_named;
         fault = other_refused levels done.key_scalar done.value_scalar done.key_read done.value_read bytes mid done.read n w after front e first second fault;
       }
 

@@ -1,10 +1,11 @@
 -- An entry read into a message: its step, and what it is refused for.
-use Rattle.std.proofs.Common.{◌≡◌, ℕ, true, List, [], Option, Some, None, refl, sym, ap, ◌∙◌, subst, true≢false}
+use Rattle.std.proofs.Common.{◌≡◌, ℕ, true, false, List, [], Option, Some, None, refl, sym, ap, ◌∙◌, subst, true≢false, arith}
 use Rattle.std.specs.Prelude.{IsSome}
 use Rattle.prost_reflect_wire.specs.declared.key.WireType.{WireType}
 use Rattle.prost_reflect_wire.specs.declared.key.WireType.TheVariants as wires
 use Rattle.prost_reflect_wire.specs.declared.error.DecodeError.{DecodeError}
 use Rattle.prost_reflect_wire.specs.Varint.{AreBytes}
+use Rattle.prost_reflect_wire.specs.Record.{Len, Flat}
 use Rattle.prost_reflect_wire.specs.Front.{DelimitedFront}
 use Rattle.prost_reflect_wire.specs.Scalar.{Scalar, ScalarKind, Float, Double, BytesKind, Enum, scalar_valid}
 use Rattle.prost_reflect_wire.specs.Scalar as scalars
@@ -16,21 +17,23 @@ use Rattle.prost_reflect_wire.specs.Typing.{WellStored}
 use Rattle.prost_reflect_wire.specs.Edit.{with_field_value}
 use Rattle.prost_reflect_wire.specs.Decoding.{Step, StandsBehindKey}
 use Rattle.prost_reflect_wire.specs.EntryReading.{IsMapped, ScalarEntryTo, BodyFault}
-use Rattle.prost_reflect_wire.proofs.ListReads.{IsOpen}
-use Rattle.prost_reflect_wire.proofs.MapSteps.{FoundMap, StoredMap, stored_map, body_refused, entry_stands}
-use Rattle.prost_reflect_wire.proofs.ScalarEntries.{field_checked, map_keyed, delimited_bytes, key_read_valid, scalar_entry_holds}
+use Rattle.prost_reflect_wire.proofs.EntryDefaults.{is_undeclared_value}
+use Rattle.prost_reflect_wire.proofs.MapSteps.{FoundMap, mapped_at, body_refused, entry_stands}
+use Rattle.prost_reflect_wire.proofs.ScalarEntries.{field_checked, map_keyed, delimited_bytes, key_read_valid, StaysWhole, scalar_entry_stays, scalar_entry_holds}
 use Rattle.prost_reflect_tables.specs.declared.tables.TableKind.{TableKind}
+use Rattle.prost_reflect_tables.specs.Rows.{EnumRow}
 use Rattle.prost_reflect.specs.declared.message.DynamicMessage.{DynamicMessage}
 use Rattle.prost_reflect.specs.declared.value.MapKey.{MapKey}
 use Rattle.prost_reflect.specs.declared.value.Value.{Value}
+use Rattle.prost_reflect.specs.Pools.{pool_rows}
 use Rattle.prost_reflect.specs.Known.{known_of}
+use Rattle.prost_reflect.specs.Scalars.{ReadsStray, is_stray_number}
 use Rattle.prost_reflect.specs.Contents.{value_set}
 use Rattle.prost_reflect.specs.Variants.{key_among, key_in}
-use Rattle.prost_reflect.specs.Maps.{PlainMap, ReadsEntry, RefusesEntry}
+use Rattle.prost_reflect.specs.Maps.{ScalarMap, ReadsEntry, RefusesEntry}
 use Rattle.prost_reflect.specs.View.{key_of, value_of, content_of, descriptor_of}
-use Rattle.prost_reflect.proofs.Views.{content_of_message}
-use Rattle.prost_reflect.proofs.Described.{schema_at_valid}
-use Rattle.prost_reflect.proofs.Merging.{known_in, differ_in, same_kind}
+use Rattle.prost_reflect.proofs.PlainKinds.{stray_value}
+use Rattle.prost_reflect.proofs.Merging.{known_in, differ_in, valid_in, same_kind}
 
 -- KEYS
 
@@ -66,20 +69,19 @@ key_itself (scalars.EnumNumber z) t h = cc
 -- AN ENTRY WAS PUT IN
 
 set_entry : (levels n : ℕ) (c d : Content) (f : Field) (key_type : ValueType) (key value_kind : ScalarKind) (x s : Scalar) (body bytes rest : List ℕ) → schema_valid (schema_of c) ≡ true → WellStored c → numbers_differ (known (schema_of c) (type_of c)) ≡ true →
-    field_of (known (schema_of c) (type_of c)) n ≡ Some f → f.form ≡ MapFrom key_type → key_type.kind ≡ ScalarOf key → f.value_type.kind ≡ ScalarOf value_kind → IsOpen value_kind → AreBytes bytes →
+    field_of (known (schema_of c) (type_of c)) n ≡ Some f → f.form ≡ MapFrom key_type → key_type.kind ≡ ScalarOf key → f.value_type.kind ≡ ScalarOf value_kind → is_undeclared_value value_kind s ≡ false → AreBytes bytes →
     ScalarEntryTo levels key value_kind x s body [] → DelimitedFront body bytes rest → d ≡ value_set n (MapValue (put x (ScalarValue s) (pairs_in (value_at n (entries_of c))))) c → Step levels n wires.LengthDelimited c d bytes rest
-set_entry levels n (ContentOf schema T es) d f key_type key value_kind x s body bytes rest valid sound differ found form key_is value_is whole small done front new =
+set_entry levels n (ContentOf schema T es) d f key_type key value_kind x s body bytes rest valid sound differ found form key_is value_is declared small done front new =
     subst (λ d. Step levels n wires.LengthDelimited (ContentOf schema T es) d bytes rest)
     (sym (new ∙ ap (λ (o : Option Field). ContentOf schema T (elim o [ None ↦ es | Some f ↦ with_field_value (known schema T) f (Some (MapValue (put x (ScalarValue s) (pairs_in (value_at n es))))) es ])) found))
-    (scalar_entry_holds schema T es sound differ f (field_checked schema T n f valid found) key_type form key value_kind key_is value_is whole levels n x s body bytes rest found small done front)
+    (scalar_entry_holds schema f (field_checked schema T n f valid found) key_type form key value_kind key_is value_is T es sound differ levels n x s body bytes rest found small done declared front)
 
 -- MESSAGES
 
--- the schema of a message is checked
-pub valid_in : (m : DynamicMessage) → schema_valid (schema_of (content_of m)) ≡ true
-valid_in m = ap (λ c. schema_valid (schema_of c)) (content_of_message m) ∙ schema_at_valid (descriptor_of m)
+module _ (m : DynamicMessage) (n : ℕ) (key value_kind : TableKind) (map : ScalarMap (descriptor_of m) n key value_kind) where
+  abbrev enums : List EnumRow
+  enums = (pool_rows (descriptor_of m).pool).enums
 
-module _ (m : DynamicMessage) (n : ℕ) (key value_kind : TableKind) (map : PlainMap (known_of (descriptor_of m)) n key value_kind) where
   found_in : field_of (known (schema_of (content_of m)) (type_of (content_of m))) n ≡ Some map.field
   found_in = ap (λ fields. field_of fields n) (known_in m) ∙ map.found
 
@@ -88,13 +90,10 @@ module _ (m : DynamicMessage) (n : ℕ) (key value_kind : TableKind) (map : Plai
 
   -- there is a map, or nothing yet
   pub mapped_in : WellStored (content_of m) → IsMapped (value_at n (entries_of (content_of m)))
-  mapped_in sound = go (content_of m) found_in sound
-    where
-      go : (c : Content) → field_of (known (schema_of c) (type_of c)) n ≡ Some map.field → WellStored c → IsMapped (value_at n (entries_of c))
-      go (ContentOf schema T es) found sound = let s : StoredMap schema map.key_type map.field.value_type.kind (value_at n es) = stored_map schema T es sound n map.field map.key_type found map.form in s.mapped
+  mapped_in sound = mapped_at (content_of m) n map.key_type at_map sound
 
   -- the key that was read is a key
-  pub key_found : (levels : ℕ) (k v : Value) (body bytes rest : List ℕ) → ReadsEntry levels key value_kind k v body [] → AreBytes bytes → DelimitedFront body bytes rest → IsSome (key_in (value_of k))
+  pub key_found : (levels : ℕ) (k v : Value) (body bytes rest : List ℕ) → ReadsEntry (pool_rows (descriptor_of m).pool).enums levels key value_kind k v body [] → AreBytes bytes → DelimitedFront body bytes rest → IsSome (key_in (value_of k))
   key_found levels k v body bytes rest read small front =
       subst (λ w. IsSome (key_in w)) (sym read.key_is)
       (found_key read.key_scalar read.key_read keyed (key_read_valid levels read.key_scalar read.value_scalar read.key_read read.value_read body read.read (delimited_bytes body bytes rest small front) keyed))
@@ -104,23 +103,47 @@ module _ (m : DynamicMessage) (n : ℕ) (key value_kind : TableKind) (map : Plai
           ap (λ kind. is_key_kind (ScalarOf kind)) (same_kind read.key_plain map.key_plain) ∙ ap is_key_kind (sym map.key_is)
           ∙ map_keyed (schema_of (content_of m)) map.field map.key_type (field_checked (schema_of (content_of m)) (type_of (content_of m)) n map.field (valid_in m) found_in) map.form
 
-  pub entry_set : (new : DynamicMessage) (levels : ℕ) (w : WireType) (k v : Value) (x : MapKey) (body bytes rest : List ℕ) → WellStored (content_of m) → AreBytes bytes →
-      ReadsEntry levels key value_kind k v body [] → key_in (value_of k) ≡ Some (key_of x) → w ≡ wires.LengthDelimited → DelimitedFront body bytes rest →
-      content_of new ≡ value_set n (MapValue (put (key_of x) (value_of v) (pairs_in (value_at n (entries_of (content_of m)))))) (content_of m) → Step levels n w (content_of m) (content_of new) bytes rest
-  entry_set new levels w k v x body bytes rest sound small read is delimited front content =
-      subst (λ w. Step levels n w (content_of m) (content_of new) bytes rest) (sym delimited)
-      (set_entry levels n (content_of m) (content_of new) map.field map.key_type read.key_scalar read.value_scalar read.key_read read.value_read body bytes rest (valid_in m) sound (differ_in m) found_in map.form
-      (map.key_is ∙ ap ScalarOf (same_kind map.key_plain read.key_plain)) (map.value_is ∙ ap ScalarOf (same_kind map.value_plain read.value_plain)) (subst IsOpen (same_kind map.value_plain read.value_plain) (record { declared = map.whole })) small read.read front
-      (content ∙ ap (λ s. value_set n (MapValue (put s (value_of v) (pairs_in (value_at n (entries_of (content_of m)))))) (content_of m)) (key_itself read.key_read (key_of x) (ap key_in (sym read.key_is) ∙ is))
-      ∙ ap (λ s. value_set n (MapValue (put read.key_read s (pairs_in (value_at n (entries_of (content_of m)))))) (content_of m)) read.value_is))
+  module _ (levels : ℕ) (w : WireType) (k v : Value) (body bytes rest : List ℕ) (small : AreBytes bytes) (read : ReadsEntry (pool_rows (descriptor_of m).pool).enums levels key value_kind k v body []) (delimited : w ≡ wires.LengthDelimited) (front : DelimitedFront body bytes rest) where
+    key_typed : map.key_type.kind ≡ ScalarOf read.key_scalar
+    key_typed = map.key_is ∙ ap ScalarOf (same_kind map.key_plain read.key_plain)
+
+    value_typed : map.field.value_type.kind ≡ ScalarOf read.value_scalar
+    value_typed = map.value_is ∙ sym map.value_named ∙ read.value_named
+
+    value_stray : is_undeclared_value read.value_scalar read.value_read ≡ is_stray_number (pool_rows (descriptor_of m).pool).enums value_kind (value_of v)
+    value_stray = stray_value enums value_kind read.value_scalar read.value_read read.value_named ∙ ap (is_stray_number enums value_kind) (sym read.value_is)
+
+    pub entry_set : (new : DynamicMessage) (x : MapKey) → WellStored (content_of m) → is_stray_number (pool_rows (descriptor_of m).pool).enums value_kind (value_of v) ≡ false → key_in (value_of k) ≡ Some (key_of x) →
+        content_of new ≡ value_set n (MapValue (put (key_of x) (value_of v) (pairs_in (value_at n (entries_of (content_of m)))))) (content_of m) → Step levels n w (content_of m) (content_of new) bytes rest
+    entry_set new x sound declared is content =
+        subst (λ w. Step levels n w (content_of m) (content_of new) bytes rest) (sym delimited)
+        (set_entry levels n (content_of m) (content_of new) map.field map.key_type read.key_scalar read.value_scalar read.key_read read.value_read body bytes rest (valid_in m) sound (differ_in m) found_in map.form
+        key_typed value_typed (value_stray ∙ declared) small read.read front
+        (content ∙ ap (λ s. value_set n (MapValue (put s (value_of v) (pairs_in (value_at n (entries_of (content_of m)))))) (content_of m)) (key_itself read.key_read (key_of x) (ap key_in (sym read.key_is) ∙ is))
+        ∙ ap (λ s. value_set n (MapValue (put read.key_read s (pairs_in (value_at n (entries_of (content_of m)))))) (content_of m)) read.value_is))
+
+    -- an entry whose value its closed enum does not declare stays unknown
+    pub entry_stray : is_stray_number (pool_rows (descriptor_of m).pool).enums value_kind (value_of v) ≡ true → ReadsStray (known_of (descriptor_of m)) levels n w bytes
+    entry_stray stray =
+        let s : StaysWhole map.field levels (Flat (Len body)) = scalar_entry_stays (schema_of (content_of m)) map.field (field_checked (schema_of (content_of m)) (type_of (content_of m)) n map.field (valid_in m) found_in) map.key_type map.form
+        read.key_scalar read.value_scalar key_typed value_typed levels read.key_read read.value_read body bytes rest small read.read (value_stray ∙ stray) front in
+        record {
+          field = map.field;
+          payload = Flat (Len body);
+          rest = rest;
+          found = map.found;
+          whole = s.whole;
+          within = s.within;
+          front = record { wire = sym delimited; front = record { front = front.front; spelled = front.spelled; parts = front.parts }; within = omega arith };
+        }
 
   -- REFUSALS
 
   pub body_fault : (levels : ℕ) (w : WireType) (e : DecodeError) (rest : List ℕ) → BodyFault e w rest → StandsBehindKey (content_of m) levels n w e rest
   body_fault levels w e rest fault = body_refused (content_of m) n map.key_type at_map levels w e rest fault
 
-  pub entry_fault : (levels : ℕ) (w : WireType) (e : DecodeError) (body rest after : List ℕ) → w ≡ wires.LengthDelimited → DelimitedFront body rest after → RefusesEntry levels key value_kind e body → StandsBehindKey (content_of m) levels n w e rest
+  pub entry_fault : (levels : ℕ) (w : WireType) (e : DecodeError) (body rest after : List ℕ) → w ≡ wires.LengthDelimited → DelimitedFront body rest after → RefusesEntry (pool_rows (descriptor_of m).pool).enums levels key value_kind e body → StandsBehindKey (content_of m) levels n w e rest
   entry_fault levels w e body rest after delimited front refused =
       subst (λ w. StandsBehindKey (content_of m) levels n w e rest) (sym delimited)
       (entry_stands (content_of m) n map.key_type at_map levels e body rest after (ap (λ kind. has_level levels kind) map.value_is) front
-      (refused.fault (schema_of (content_of m)) map.key_type map.field.value_type (map.key_is ∙ ap ScalarOf (same_kind map.key_plain refused.key_plain)) (map.value_is ∙ ap ScalarOf (same_kind map.value_plain refused.value_plain))))
+      (refused.fault (schema_of (content_of m)) map.key_type map.field.value_type (map.key_is ∙ ap ScalarOf (same_kind map.key_plain refused.key_plain)) (map.value_is ∙ sym map.value_named ∙ refused.value_named)))

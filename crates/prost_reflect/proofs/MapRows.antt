@@ -3,7 +3,7 @@ use Rattle.std.proofs.Common.{◌≡◌, ℕ, Bool, true, false, ◌&&◌, ◌||
 use Rattle.std.specs.Prelude.{slice_get}
 use Rattle.std.specs.BTreeMap.{BTreeMap}
 use Rattle.prost_reflect_wire.specs.Scalar.{ScalarKind, Enum}
-use Rattle.prost_reflect_wire.specs.Schema.{Kind, ScalarOf, MessageOf, GroupOf, ValueType, MapFrom, Repeated, Field, field_of, is_singular, is_key_kind, field_valid, passes}
+use Rattle.prost_reflect_wire.specs.Schema.{Kind, ScalarOf, MessageOf, GroupOf, ValueType, MapFrom, Repeated, Field, field_of, is_message, is_singular, is_key_kind, field_valid, passes}
 use Rattle.prost_reflect_wire.specs.Content as contents
 use Rattle.prost_reflect_wire.specs.Content.{ScalarValue, MessageValue, ListValue, MapValue}
 use Rattle.prost_reflect_wire.specs.Typing.{value_valid, is_repeated as is_list}
@@ -23,14 +23,14 @@ use Rattle.prost_reflect.specs.declared.value.Value as values
 use Rattle.prost_reflect.specs.Pools.{pool_rows}
 use Rattle.prost_reflect.specs.Descriptors.{schema_at, type_at}
 use Rattle.prost_reflect.specs.Known.{known_of}
-use Rattle.prost_reflect.specs.Covered.{is_plain, is_plain_kind}
+use Rattle.prost_reflect.specs.Covered.{is_plain, names_message}
 use Rattle.prost_reflect.specs.ContentLaws.{pairs_shown}
 use Rattle.prost_reflect.specs.MapParts.{two_of, entry_parts, map_parts}
-use Rattle.prost_reflect.specs.Maps.{PlainMap, pairs_bytes, IsMap, MapOfRows}
+use Rattle.prost_reflect.specs.Maps.{ScalarMap, pairs_bytes, IsMap, MapOfRows}
 use Rattle.prost_reflect.specs.Targets.{IsTarget, repeated_target_of}
 use Rattle.prost_reflect.specs.View.{value_of}
 use Rattle.prost_reflect.proofs.Covering as covering
-use Rattle.prost_reflect.proofs.PlainKinds.{PlainKind, kind_plain, plain_ungrouped, list_row, listed_row}
+use Rattle.prost_reflect.proofs.PlainKinds.{PlainKind, kind_plain, NamedKind, kind_named, plain_of, list_row, listed_row}
 use Rattle.prost_reflect.proofs.Described.{found_checked}
 use Rattle.prost_reflect.proofs.ElementReads.{element_target_is}
 use Rattle.prost_reflect.proofs.Views.{value_of_map}
@@ -59,9 +59,10 @@ shown_map rows f key value h = let (form, type) = go f.cardinality h in record {
     go Required h = cc
     go RepeatedLabel h = by (map_entry rows.messages f RepeatedLabel) h
 
-no_enum : (kind : ScalarKind) → is_plain (ScalarOf kind) ≡ true → is_enum (ScalarOf kind) ≡ false
-no_enum (Enum first numbers) h = absurd (true≢false (sym h))
-no_enum kind h = refl
+-- no enum is a key
+key_apart : (kind : ScalarKind) → is_key_kind (ScalarOf kind) ≡ true → is_enum (ScalarOf kind) ≡ false
+key_apart (Enum first numbers) h = absurd (true≢false (sym h))
+key_apart kind h = refl
 
 -- kinds of keys are plain
 pub key_plain : (kind : Kind) → is_key_kind kind ≡ true → is_plain kind ≡ true
@@ -70,10 +71,12 @@ key_plain (ScalarOf kind) h = refl
 key_plain (MessageOf T) h = absurd (true≢false (sym h))
 key_plain (GroupOf T) h = absurd (true≢false (sym h))
 
-module _ (d : MessageDescriptor) (n : ℕ) (row key value : FieldRow) (found : Some (schema_field (pool_rows d.pool) row) ≡ field_of (known_of d) n) (parts : map_parts (pool_rows d.pool) row ≡ Some (key, value)) (plain : is_plain_kind value.kind ≡ true) where
-  abbrev rows : TableRows
-  rows = pool_rows d.pool
+key_no_message : (kind : Kind) → is_key_kind kind ≡ true → is_message kind ≡ false
+key_no_message (ScalarOf kind) h = refl
+key_no_message (MessageOf T) h = absurd (true≢false (sym h))
+key_no_message (GroupOf T) h = absurd (true≢false (sym h))
 
+module _ (d : MessageDescriptor) (n : ℕ) (row key value : FieldRow) (found : Some (schema_field (pool_rows d.pool) row) ≡ field_of (known_of d) n) (parts : map_parts (pool_rows d.pool) row ≡ Some (key, value)) where
   abbrev field : Field
   field = schema_field (pool_rows d.pool) row
 
@@ -83,48 +86,55 @@ module _ (d : MessageDescriptor) (n : ℕ) (row key value : FieldRow) (found : S
   checked : field_valid (schema_at d) (schema_field (pool_rows d.pool) row) ≡ true
   checked = found_checked d n (schema_field (pool_rows d.pool) row) (sym found)
 
+  keyed : is_key_kind (schema_kind (pool_rows d.pool).enums key.kind key.is_group) ≡ true
+  keyed = map_keyed (schema_at d) field (own_type (pool_rows d.pool).enums key) checked shown.form
+
+  -- the key is a scalar, which both name alike
   key_kind : PlainKind key.kind (schema_kind (pool_rows d.pool).enums key.kind key.is_group)
-  key_kind = kind_plain (pool_rows d.pool).enums key.is_group key.kind (key_plain (schema_kind (pool_rows d.pool).enums key.kind key.is_group) (map_keyed (schema_at d) field (own_type (pool_rows d.pool).enums key) checked shown.form))
+  key_kind = kind_plain (pool_rows d.pool).enums key.is_group key.kind (key_plain (schema_kind (pool_rows d.pool).enums key.kind key.is_group) keyed)
 
-  value_kind : PlainKind value.kind (schema_kind (pool_rows d.pool).enums value.kind value.is_group)
-  value_kind = kind_plain (pool_rows d.pool).enums value.is_group value.kind (covering.plain_kind (pool_rows d.pool).enums value.kind value.is_group ∙ plain)
+  key_named : NamedKind (pool_rows d.pool).enums key.kind (schema_kind (pool_rows d.pool).enums key.kind key.is_group)
+  key_named = kind_named (pool_rows d.pool).enums key.is_group key.kind (key_no_message (schema_kind (pool_rows d.pool).enums key.kind key.is_group) keyed)
 
-  pub plain_map : PlainMap (known_of d) n key.kind value.kind
-  plain_map = record {
-    field = field;
-    key_type = own_type (pool_rows d.pool).enums key;
-    key_scalar = key_kind.scalar;
-    value_scalar = value_kind.scalar;
-    found = sym found;
-    form = shown.form;
-    key_plain = key_kind.named;
-    key_is = key_kind.is;
-    value_plain = value_kind.named;
-    value_is = ap (λ (t : ValueType). t.kind) shown.type ∙ value_kind.is;
-    whole = value_kind.whole;
-  }
-
-  part_row : (r : FieldRow) (kind : PlainKind r.kind (schema_kind (pool_rows d.pool).enums r.kind r.is_group)) → is_plain (schema_kind (pool_rows d.pool).enums r.kind r.is_group) ≡ true → PartRow (pool_rows d.pool).enums r (own_type (pool_rows d.pool).enums r) kind.scalar
-  part_row r kind h = record {
-    named = kind.named;
-    shown = plain_ungrouped (pool_rows d.pool).enums r.is_group r.kind h ∙ kind.is;
+  part_row : (r : FieldRow) (kind : NamedKind (pool_rows d.pool).enums r.kind (schema_kind (pool_rows d.pool).enums r.kind r.is_group)) → PartRow (pool_rows d.pool).enums r (own_type (pool_rows d.pool).enums r) kind.scalar
+  part_row r kind = let (plain, named) = plain_of (pool_rows d.pool).enums r.kind kind.scalar kind.named in record {
+    plain = plain;
+    named = named;
+    shown = kind.named;
     is = kind.is;
-    plain = no_enum kind.scalar (ap is_plain (sym kind.is) ∙ h);
     presence = refl;
-    default = ap (λ kind. schema_default r.default kind) kind.is;
+    default = ap (schema_default r.default) kind.is;
   }
 
-  pub map_row_written : (es : List (MapKey × Value)) → passes (field_of (known_of d) n) (λ f. value_valid f (MapValue (pairs_shown es))) ≡ true → MapWritten (known_of d) n (pool_rows d.pool).enums key value es
-  map_row_written es h = map_of_kinds n (pool_rows d.pool).enums key value (own_type (pool_rows d.pool).enums key) (own_type (pool_rows d.pool).enums value) key_kind.scalar value_kind.scalar
-      (part_row key key_kind (key_plain (schema_kind (pool_rows d.pool).enums key.kind key.is_group) (map_keyed (schema_at d) field (own_type (pool_rows d.pool).enums key) checked shown.form)))
-      (part_row value value_kind (covering.plain_kind (pool_rows d.pool).enums value.kind value.is_group ∙ plain))
-      (map_key_default (schema_at d) field (own_type (pool_rows d.pool).enums key) key_kind.scalar checked shown.form key_kind.is)
-      (known_of d) field es (sym found) shown.form shown.type (passing (field_of (known_of d) n) field (λ f. value_valid f (MapValue (pairs_shown es))) (sym found) h)
+  module _ (scalar : names_message value.kind ≡ false) where
+    value_kind : NamedKind (pool_rows d.pool).enums value.kind (schema_kind (pool_rows d.pool).enums value.kind value.is_group)
+    value_kind = kind_named (pool_rows d.pool).enums value.is_group value.kind (covering.message_kind (pool_rows d.pool).enums value.kind value.is_group ∙ scalar)
+
+    -- a map whose values are no messages
+    pub scalar_map : ScalarMap d n key.kind value.kind
+    scalar_map = record {
+      field = field;
+      key_type = own_type (pool_rows d.pool).enums key;
+      key_scalar = key_kind.scalar;
+      value_scalar = value_kind.scalar;
+      found = sym found;
+      form = shown.form;
+      key_plain = key_kind.named;
+      key_is = key_kind.is;
+      value_is = ap (λ (t : ValueType). t.kind) shown.type ∙ value_kind.is;
+      value_named = value_kind.named;
+    }
+
+    pub map_row_written : (es : List (MapKey × Value)) → passes (field_of (known_of d) n) (λ f. value_valid f (MapValue (pairs_shown es))) ≡ true → MapWritten (known_of d) n (pool_rows d.pool).enums key value es
+    map_row_written es h = map_of_kinds n (pool_rows d.pool).enums key value (own_type (pool_rows d.pool).enums key) (own_type (pool_rows d.pool).enums value) key_named.scalar value_kind.scalar (part_row key key_named) (part_row value value_kind)
+        (key_apart key_named.scalar (ap is_key_kind (sym key_named.is) ∙ keyed))
+        (map_key_default (schema_at d) field (own_type (pool_rows d.pool).enums key) key_named.scalar checked shown.form key_named.is)
+        (known_of d) field es (sym found) shown.form shown.type (passing (field_of (known_of d) n) field (λ f. value_valid f (MapValue (pairs_shown es))) (sym found) h)
 
 -- the value of a map is one
 pub valid_map_value : (d : MessageDescriptor) (n : ℕ) (key value : FieldRow) (c : contents.Value) → MapOfRows d n key value → passes (field_of (known_of d) n) (λ f. value_valid f c) ≡ true → IsMap c
 valid_map_value d n key value c m valid =
-    let p = plain_map d n m.row key value m.found m.parts m.plain in
+    let p = scalar_map d n m.row key value m.found m.parts m.scalar in
     go p.field p.key_type c p.form (passing (field_of (known_of d) n) p.field (λ f. value_valid f c) p.found valid)
   where
     go : (f : Field) (key_type : ValueType) (c : contents.Value) → f.form ≡ MapFrom key_type → value_valid f c ≡ true → IsMap c
@@ -137,7 +147,7 @@ valid_map_value d n key value c m valid =
 pub rows_written : (d : MessageDescriptor) (n : ℕ) (key value : FieldRow) (v : Value) (pairs : BTreeMap MapKey Value) → MapOfRows d n key value → passes (field_of (known_of d) n) (λ f. value_valid f (value_of v)) ≡ true → v ≡ values.Map pairs →
     MapWritten (known_of d) n (pool_rows d.pool).enums key value pairs.entries
 rows_written d n key value v pairs m valid is =
-    map_row_written d n m.row key value m.found m.parts m.plain pairs.entries (subst (λ c. passes (field_of (known_of d) n) (λ f. value_valid f c) ≡ true) (ap value_of is ∙ value_of_map pairs) valid)
+    map_row_written d n m.row key value m.found m.parts m.scalar pairs.entries (subst (λ c. passes (field_of (known_of d) n) (λ f. value_valid f c) ≡ true) (ap value_of is ∙ value_of_map pairs) valid)
 
 pub map_value_bytes : (d : MessageDescriptor) (n : ℕ) (key value : FieldRow) (v : Value) (pairs : BTreeMap MapKey Value) → v ≡ values.Map pairs → MapWritten (known_of d) n (pool_rows d.pool).enums key value pairs.entries →
     value_bytes (known_of d) n (value_of v) ≡ pairs_bytes n (pool_rows d.pool).enums key value pairs.entries

@@ -4,15 +4,16 @@ use Rattle.prost_reflect_wire.specs.declared.key.WireType.{WireType}
 use Rattle.prost_reflect_wire.specs.declared.error.DecodeError.{DecodeError}
 use Rattle.prost_reflect_wire.specs.declared.error.DecodeError.TheVariants as errors
 use Rattle.prost_reflect_wire.specs.Varint.{AreBytes}
-use Rattle.prost_reflect_wire.specs.Record.{Payload, Flat, record_at}
+use Rattle.prost_reflect_wire.specs.Record.{Payload, Flat, record_at, payload_levels}
 use Rattle.prost_reflect_wire.specs.Front.{ValueFront}
 use Rattle.prost_reflect_wire.specs.Scalar.{Scalar, ScalarKind, is_undeclared}
-use Rattle.prost_reflect_wire.specs.Schema.{Kind, ScalarOf, MessageOf, GroupOf, ValueType, Singular, Field, known, field_of, numbers_differ, is_message}
+use Rattle.prost_reflect_wire.specs.Schema.{Kind, ScalarOf, MessageOf, GroupOf, ValueType, Singular, Field, known, field_of, numbers_differ, is_message, schema_valid}
 use Rattle.prost_reflect_wire.specs.Content.{Content, ContentOf, ScalarValue, schema_of, type_of}
 use Rattle.prost_reflect_wire.specs.Content as contents
-use Rattle.prost_reflect_wire.specs.Typing.{WellStored}
+use Rattle.prost_reflect_wire.specs.Typing.{is_whole_stray, WellStored}
 use Rattle.prost_reflect_wire.specs.Edit.{with_field_value, message_of}
 use Rattle.prost_reflect_wire.specs.Grammar.{is_stray}
+use Rattle.prost_reflect_wire.specs.Levels.{stray_levels}
 use Rattle.prost_reflect_wire.specs.Fault.{OfType, ValueFault, same_wire}
 use Rattle.prost_reflect_wire.specs.Decoding.{Step, ScalarRead, ScalarFault, StandsBehindKey}
 use Rattle.prost_reflect_wire.proofs.RecordFronts.{value_once}
@@ -32,7 +33,7 @@ use Rattle.prost_reflect.specs.Known.{known_of}
 use Rattle.prost_reflect.specs.View.{value_of, content_of, descriptor_of}
 use Rattle.prost_reflect.specs.Scalars.{PlainField, ReadsScalar, RefusesScalar, ReadsStray, StaysUnknown, is_stray_number}
 use Rattle.prost_reflect.specs.Targets.{NestedField, IsTarget, target_of}
-use Rattle.prost_reflect.proofs.Described.{named_in_range}
+use Rattle.prost_reflect.proofs.Described.{named_in_range, schema_at_valid}
 use Rattle.prost_reflect.proofs.Views.{content_of_message}
 use Rattle.prost_reflect.proofs.PlainKinds.{SamePayloads, scalar_row, single_row, own_of, plain_payloads, stray_payload}
 use Rattle.prost_reflect.proofs.Siblings.{known_differ}
@@ -56,10 +57,10 @@ added_step levels n w (ContentOf schema T es) d p bytes rest sound differ absent
     subst (λ d. Step levels n w (ContentOf schema T es) d bytes rest) (sym new) (unknown_holds schema T es differ sound levels n w p bytes rest absent some below small front)
 
 -- a stray was added
-pub stray_step : (levels n : ℕ) (w : WireType) (c d : Content) (f : Field) (p : Payload) (bytes rest : List ℕ) → WellStored c → numbers_differ (known (schema_of c) (type_of c)) ≡ true →
-    field_of (known (schema_of c) (type_of c)) n ≡ Some f → f.form ≡ Singular → is_stray f.value_type.kind p ≡ true → AreBytes bytes → ValueFront n w levels p bytes rest → d ≡ unknown_added (record_at n p) c → Step levels n w c d bytes rest
-stray_step levels n w (ContentOf schema T es) d f p bytes rest sound differ found form stray small front new =
-    subst (λ d. Step levels n w (ContentOf schema T es) d bytes rest) (sym new) (stray_holds schema T es differ sound levels n f w p bytes rest found form stray small front)
+pub stray_step : (levels n : ℕ) (w : WireType) (c d : Content) (f : Field) (p : Payload) (bytes rest : List ℕ) → schema_valid (schema_of c) ≡ true → WellStored c → numbers_differ (known (schema_of c) (type_of c)) ≡ true →
+    field_of (known (schema_of c) (type_of c)) n ≡ Some f → is_whole_stray f.form f.value_type p ≡ true → stray_levels f.form p ≤ levels → AreBytes bytes → ValueFront n w levels p bytes rest → d ≡ unknown_added (record_at n p) c → Step levels n w c d bytes rest
+stray_step levels n w (ContentOf schema T es) d f p bytes rest valid sound differ found whole within small front new =
+    subst (λ d. Step levels n w (ContentOf schema T es) d bytes rest) (sym new) (stray_holds schema T es differ sound levels n f w p bytes rest valid found whole within small front)
 
 -- MESSAGES
 
@@ -69,6 +70,10 @@ known_in m = ap (λ c. known (schema_of c) (type_of c)) (content_of_message m)
 
 pub differ_in : (m : DynamicMessage) → numbers_differ (known (schema_of (content_of m)) (type_of (content_of m))) ≡ true
 differ_in m = ap numbers_differ (known_in m) ∙ known_differ (descriptor_of m)
+
+-- the schema of a message is checked
+pub valid_in : (m : DynamicMessage) → schema_valid (schema_of (content_of m)) ≡ true
+valid_in m = ap (λ c. schema_valid (schema_of c)) (content_of_message m) ∙ schema_at_valid (descriptor_of m)
 
 -- WHAT A RECORD IS READ AS
 
@@ -104,12 +109,13 @@ module _ (d : MessageDescriptor) (n : ℕ) (row : FieldRow) (one : is_repeated r
       go (kinds.Message T) false k i = nested_field T (MessageOf T) (ap₂ (schema_kind (pool_rows d.pool).enums) k i) refl
       go kind g k i = subst (PlainField d n) k (plain_field (ap names_message k))
 
--- what is read by the plain kind is read by the field's own
+-- what is read by the plain kind is read by the own
+pub read_own : (plain own : ScalarKind) (w : WireType) (s : Scalar) (bytes rest : List ℕ) → SamePayloads plain own → ScalarRead plain w s bytes rest → ScalarRead own w s bytes rest
+read_own plain own w s bytes rest same r = record { plain = r.plain; wire = r.wire; front = r.front; value = sym (same.read (Flat r.plain)) ∙ r.value }
+
 own_read : (d : MessageDescriptor) (n : ℕ) (kind : TableKind) (w : WireType) (v : Value) (bytes rest : List ℕ) → (field : PlainField d n kind) → (read : ReadsScalar kind w v bytes rest) → ScalarRead field.scalar_kind w read.scalar bytes rest
 own_read d n kind w v bytes rest field read =
-    let r = read.read in
-    let same = plain_payloads (pool_rows d.pool).enums kind read.scalar_kind field.scalar_kind read.plain field.named in
-    record { plain = r.plain; wire = r.wire; front = r.front; value = sym (same.read (Flat r.plain)) ∙ r.value }
+    read_own read.scalar_kind field.scalar_kind w read.scalar bytes rest (plain_payloads (pool_rows d.pool).enums kind read.scalar_kind field.scalar_kind read.plain field.named) read.read
 
 pub scalar_set : (m new : DynamicMessage) (levels n : ℕ) (w : WireType) (kind : TableKind) (v : Value) (bytes rest : List ℕ) → WellStored (content_of m) → PlainField (descriptor_of m) n kind → AreBytes bytes → ReadsScalar kind w v bytes rest →
     is_stray_number (pool_rows (descriptor_of m).pool).enums kind (value_of v) ≡ false → content_of new ≡ value_set n (value_of v) (content_of m) → Step levels n w (content_of m) (content_of new) bytes rest
@@ -124,15 +130,16 @@ pub scalar_stray : (m : DynamicMessage) (levels n : ℕ) (w : WireType) (kind : 
     is_stray_number (pool_rows (descriptor_of m).pool).enums kind (value_of v) ≡ true → ReadsStray (known_of (descriptor_of m)) levels n w bytes
 scalar_stray m levels n w kind v bytes rest field read stray =
     let own : ScalarRead field.scalar_kind w read.scalar bytes rest = own_read (descriptor_of m) n kind w v bytes rest field read in
+    let level : payload_levels (Flat own.plain) ≤ levels = omega arith in
     record {
       field = field.field;
       payload = Flat own.plain;
       rest = rest;
       found = field.found;
-      form = field.form;
-      stray = ap (λ k. is_stray k (Flat own.plain)) field.kind_is
+      whole = ap (λ form. is_whole_stray form field.field.value_type (Flat own.plain)) field.form ∙ ap (λ k. is_stray k (Flat own.plain)) field.kind_is
           ∙ stray_payload (pool_rows (descriptor_of m).pool).enums kind field.scalar_kind own.plain read.scalar field.named own.value ∙ ap (is_stray_number (pool_rows (descriptor_of m).pool).enums kind) (sym read.value) ∙ stray;
-      front = record { wire = own.wire; front = own.front; within = omega arith };
+      within = subst (λ form. stray_levels form (Flat own.plain) ≤ levels) (sym field.form) level;
+      front = record { wire = own.wire; front = own.front; within = level };
     }
 
 pub unknown_set : (m new : DynamicMessage) (levels n : ℕ) (w : WireType) (p : Payload) (bytes rest : List ℕ) → WellStored (content_of m) → StaysUnknown (known_of (descriptor_of m)) levels n w bytes → 1 ≤ n → n < 2 ^ 29 → AreBytes bytes →
@@ -141,7 +148,8 @@ unknown_set m new levels n w p bytes rest sound (inl absent) some below small fr
     added_step levels n w (content_of m) (content_of new) p bytes rest sound (differ_in m) (ap (λ fields. field_of fields n) (known_in m) ∙ absent) some below small front content
 unknown_set m new levels n w p bytes rest sound (inr s) some below small front content =
     let (same, more) = value_once n w levels s.payload p bytes s.rest rest s.front front in
-    stray_step levels n w (content_of m) (content_of new) s.field p bytes rest sound (differ_in m) (ap (λ fields. field_of fields n) (known_in m) ∙ s.found) s.form (ap (is_stray s.field.value_type.kind) (sym same) ∙ s.stray) small front content
+    stray_step levels n w (content_of m) (content_of new) s.field p bytes rest (valid_in m) sound (differ_in m) (ap (λ fields. field_of fields n) (known_in m) ∙ s.found)
+    (ap (is_whole_stray s.field.form s.field.value_type) (sym same) ∙ s.whole) (subst (λ q. stray_levels s.field.form q ≤ levels) same s.within) small front content
 
 -- REFUSALS
 
@@ -155,7 +163,7 @@ unknown_refused c levels n w e rest absent fault = λ bytes opened key closes.
     value_stands (schema_of c) (record { bytes = bytes; inside = OfType (type_of c); levels = levels; open_group = opened }) e n w rest absent key closes fault
 
 -- a fault of the plain kind is one of the field's own
-own_fault : (plain own : ScalarKind) (w : WireType) (e : DecodeError) (bytes : List ℕ) → SamePayloads plain own → ScalarFault plain w e bytes → ScalarFault own w e bytes
+pub own_fault : (plain own : ScalarKind) (w : WireType) (e : DecodeError) (bytes : List ℕ) → SamePayloads plain own → ScalarFault plain w e bytes → ScalarFault own w e bytes
 own_fault plain own w errors.Truncated bytes same fault = fault
 own_fault plain own w errors.Varint bytes same fault = fault
 own_fault plain own w errors.WireType bytes same (unended, other) = (unended, ap (same_wire w) (sym same.wire) ∙ other)

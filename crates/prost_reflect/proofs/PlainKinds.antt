@@ -1,5 +1,5 @@
 -- The kind of a field of one scalar, as the tables name it and as the definitions do. What an enum declares makes no difference to its payloads.
-use Rattle.std.proofs.Common.{◌≡◌, ℤ, pos, Bool, true, false, not, List, Option, Some, None, refl, sym, ap, subst, ◌∙◌, true≢false}
+use Rattle.std.proofs.Common.{◌≡◌, ℕ, ℤ, pos, Bool, true, false, not, List, Option, Some, None, refl, sym, ap, subst, ◌∙◌, true≢false}
 use Rattle.std.specs.Prelude.{slice_get}
 use Rattle.prost_reflect_wire.specs.Record.{Payload, Plain, Var, Fix64, Len, Fix32, Flat, Group}
 use Rattle.prost_reflect_wire.specs.Scalar as scalars
@@ -9,17 +9,18 @@ use Rattle.prost_reflect_wire.specs.Typing.{is_repeated as is_list}
 use Rattle.prost_reflect_wire.specs.Content.{ScalarValue}
 use Rattle.prost_reflect_wire.specs.Grammar.{is_stray}
 use Rattle.prost_reflect_wire.proofs.Deeper.{and_both, both_true}
+use Rattle.prost_reflect_wire.proofs.EntryDefaults.{is_undeclared_value}
 use Rattle.prost_reflect_tables.specs.declared.tables.Cardinality.{Cardinality}
 use Rattle.prost_reflect_tables.specs.declared.tables.Cardinality.TheVariants.{Optional, Required, Repeated as RepeatedLabel}
 use Rattle.prost_reflect_tables.specs.declared.tables.TableKind.{TableKind}
 use Rattle.prost_reflect_tables.specs.declared.tables.TableKind.TheVariants as kinds
 use Rattle.prost_reflect_tables.specs.Rows.{FieldRow, MessageRow, EnumRow, TableRows}
 use Rattle.prost_reflect_tables.specs.Shown.{first_number, enum_numbers, schema_kind, enum_kind, own_type, map_entry, value_type_of, form_of, schema_field}
-use Rattle.prost_reflect.specs.Covered.{is_plain, is_plain_kind, is_repeated}
+use Rattle.prost_reflect.specs.Covered.{is_plain, is_plain_kind, is_repeated, names_message}
 use Rattle.prost_reflect.specs.Enums.{numbers_of}
 use Rattle.prost_reflect.specs.Scalars.{plain_kind, is_stray_number}
 use Rattle.prost_reflect.proofs.Covering as covering
-use Rattle.prost_reflect.proofs.Covering.{no_entry}
+use Rattle.prost_reflect.proofs.Covering.{no_entry, no_message_entry}
 
 -- THE ROW OF A FIELD
 
@@ -29,7 +30,7 @@ pub record NamedKind (enums : List EnumRow) (table : TableKind) (kind : Kind) : 
   pub named : schema_kind enums table false ≡ ScalarOf scalar
   pub is : kind ≡ ScalarOf scalar
 
-kind_named : (enums : List EnumRow) (g : Bool) (table : TableKind) → is_message (schema_kind enums table g) ≡ false → NamedKind enums table (schema_kind enums table g)
+pub kind_named : (enums : List EnumRow) (g : Bool) (table : TableKind) → is_message (schema_kind enums table g) ≡ false → NamedKind enums table (schema_kind enums table g)
 kind_named enums true (kinds.Message T) h = absurd (true≢false h)
 kind_named enums false (kinds.Message T) h = absurd (true≢false h)
 kind_named enums g table h = record { scalar = _; named = refl; is = refl }
@@ -79,8 +80,18 @@ bare_row rows row h none = ap (form_of rows.enums row row.cardinality) none ∙ 
     go Required h = absurd (true≢false (sym h))
     go RepeatedLabel h = refl
 
+-- so is one of scalars
+pub scalars_row : (rows : TableRows) (row : FieldRow) → is_repeated row.cardinality ≡ true → names_message row.kind ≡ false → (schema_field rows row).form ≡ Repeated row.is_packed
+scalars_row rows row h scalar = bare_row rows row h (no_message_entry rows.messages row row.cardinality scalar)
+
 pub list_row : (rows : TableRows) (row : FieldRow) → is_repeated row.cardinality ≡ true → is_plain_kind row.kind ≡ true → (schema_field rows row).form ≡ Repeated row.is_packed
-list_row rows row h plain = bare_row rows row h (no_entry rows.messages row row.cardinality plain)
+list_row rows row h plain = scalars_row rows row h (covering.plain_apart row.kind plain)
+
+-- the row of a list of scalars
+pub scalars_kind : (rows : TableRows) (row : FieldRow) → names_message row.kind ≡ false → NamedKind rows.enums row.kind (schema_field rows row).value_type.kind
+scalars_kind rows row scalar =
+    subst (λ o. NamedKind rows.enums row.kind (value_type_of rows.enums row o).kind) (sym (no_message_entry rows.messages row row.cardinality scalar))
+    (kind_named rows.enums row.is_group row.kind (covering.message_kind rows.enums row.kind row.is_group ∙ scalar))
 
 -- a scalar kind that is no enum, as both name it
 pub record PlainKind (table : TableKind) (kind : Kind) : Type 0 where
@@ -118,12 +129,6 @@ pub plain_row : (rows : TableRows) (row : FieldRow) → is_plain_kind row.kind �
 plain_row rows row plain =
     subst (λ o. PlainKind row.kind (value_type_of rows.enums row o).kind) (sym (no_entry rows.messages row row.cardinality plain))
     (kind_plain rows.enums row.is_group row.kind (covering.plain_kind rows.enums row.kind row.is_group ∙ plain))
-
--- a plain kind is that of no group
-pub plain_ungrouped : (enums : List EnumRow) (g : Bool) (table : TableKind) → is_plain (schema_kind enums table g) ≡ true → schema_kind enums table false ≡ schema_kind enums table g
-plain_ungrouped enums true (kinds.Message T) h = absurd (true≢false (sym h))
-plain_ungrouped enums false (kinds.Message T) h = refl
-plain_ungrouped enums g table h = refl
 
 -- the row of a list
 pub list_kind : (rows : TableRows) (row : FieldRow) → is_repeated row.cardinality ≡ true → is_list (schema_field rows row).form ≡ true → (schema_field rows row).value_type.kind ≡ schema_kind rows.enums row.kind row.is_group
@@ -166,7 +171,7 @@ same_payloads plain own e = let same : plain ≡ own = cc in subst (SamePayloads
 abbrev open_kind : ScalarKind
 open_kind = scalars.Enum (pos 0) scalars.Open
 
-enum_payloads : (first : ℤ) (numbers : EnumNumbers) → SamePayloads open_kind (scalars.Enum first numbers)
+pub enum_payloads : (first : ℤ) (numbers : EnumNumbers) → SamePayloads open_kind (scalars.Enum first numbers)
 enum_payloads first numbers = record { wire = refl; text = λ t. cc; read = read; write = write; takes = takes }
   where
     read : (p : Payload) → elem open_kind p ≡ elem (scalars.Enum first numbers) p
@@ -220,14 +225,28 @@ enum_stray : (o : Option EnumRow) (plain : Plain) (v : Scalar) → elem (enum_ki
 enum_stray None plain v r = number_stray (pos 0) scalars.Open plain v r
 enum_stray (Some row) plain v r = number_stray (first_number row.numbers) (enum_numbers row) plain v r
 
+stray_shown : (enums : List EnumRow) (E : ℕ) (v : Scalar) → stray_of (numbers_of (slice_get enums E)) v ≡ is_stray_number enums (kinds.Enum E) (ScalarValue v)
+stray_shown enums E (scalars.EnumNumber z) = refl
+stray_shown enums E v = refl
+
 -- the payload of a value is a stray where the value is a number that its enum does not declare
 pub stray_payload : (enums : List EnumRow) (table : TableKind) (own : ScalarKind) (plain : Plain) (v : Scalar) → schema_kind enums table false ≡ ScalarOf own → elem own (Flat plain) ≡ Some v → is_undeclared own (Flat plain) ≡ is_stray_number enums table (ScalarValue v)
 stray_payload enums (kinds.Enum E) own plain v e read =
     let is : enum_kind (slice_get enums E) ≡ own = cc in
-    ap (λ k. is_undeclared k (Flat plain)) (sym is) ∙ enum_stray (slice_get enums E) plain v (ap (λ k. elem k (Flat plain)) is ∙ read) ∙ same v
-  where
-    same : (v : Scalar) → stray_of (numbers_of (slice_get enums E)) v ≡ is_stray_number enums (kinds.Enum E) (ScalarValue v)
-    same (scalars.EnumNumber z) = refl
-    same v = refl
+    ap (λ k. is_undeclared k (Flat plain)) (sym is) ∙ enum_stray (slice_get enums E) plain v (ap (λ k. elem k (Flat plain)) is ∙ read) ∙ stray_shown enums E v
 stray_payload enums (kinds.Message T) own plain v e read = cc
 stray_payload enums table own plain v e read = sym (ap (λ k. is_stray k (Flat plain)) e)
+
+-- the same of the value alone
+pub stray_value : (enums : List EnumRow) (table : TableKind) (own : ScalarKind) (v : Scalar) → schema_kind enums table false ≡ ScalarOf own → is_undeclared_value own v ≡ is_stray_number enums table (ScalarValue v)
+stray_value enums (kinds.Enum E) own v e =
+    let is : enum_kind (slice_get enums E) ≡ own = cc in
+    ap (λ k. is_undeclared_value k v) (sym is) ∙ of (slice_get enums E) v ∙ stray_shown enums E v
+  where
+    of : (o : Option EnumRow) (v : Scalar) → is_undeclared_value (enum_kind o) v ≡ stray_of (numbers_of o) v
+    of None (scalars.EnumNumber z) = refl
+    of None v = refl
+    of (Some row) (scalars.EnumNumber z) = refl
+    of (Some row) v = refl
+stray_value enums (kinds.Message T) own v e = cc
+stray_value enums table own v e = sym (ap (λ k. elim k [ ScalarOf kind ↦ is_undeclared_value kind v | _ ↦ false ]) e)

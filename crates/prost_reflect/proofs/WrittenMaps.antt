@@ -1,4 +1,4 @@
--- What is written of a map of plain scalars.
+-- What is written of a map of scalars.
 use Rattle.std.proofs.Common.{◌≡◌, ℕ, ◌+◌, ◌^◌, ◌≤◌, true, false, cond, not, ◌&&◌, List, [], ◌∷◌, ◌++◌, length, map, Some, refl, sym, ap, ap₂, ◌∙◌, subst, append_assoc, true≢false, arith, length-append}
 use Rattle.std.specs.Prelude.{IsSomeAnd}
 use Rattle.prost_reflect_wire.specs.declared.key.WireType.TheVariants as wires
@@ -21,34 +21,51 @@ use Rattle.prost_reflect.specs.ContentLaws.{pairs_shown}
 use Rattle.prost_reflect.specs.Scalars.{plain_kind, TakesScalar, scalar_record_bytes, kept_scalar_bytes, zero_like, is_default}
 use Rattle.prost_reflect.specs.Maps.{TakesPairs, key_bytes, entry_bytes, pairs_bytes}
 use Rattle.prost_reflect.specs.View.{key_of, value_of}
+use Rattle.prost_reflect.proofs.PlainKinds.{SamePayloads, plain_payloads}
 use Rattle.prost_reflect.proofs.WrittenValues.{is_enum, zero_of, default_is}
 
 -- the row of an entry's key or value, and its type
 pub record PartRow (enums : List EnumRow) (row : FieldRow) (t : ValueType) (kind : ScalarKind) : Type 0 where
-  pub named : plain_kind row.kind ≡ Some kind
+  pub plain : ScalarKind
+  pub named : plain_kind row.kind ≡ Some plain
   pub shown : schema_kind enums row.kind false ≡ ScalarOf kind
   pub is : t.kind ≡ ScalarOf kind
-  pub plain : is_enum (ScalarOf kind) ≡ false
   pub presence : t.presence ≡ row.supports_presence
   pub default : t.default ≡ schema_default row.default (ScalarOf kind)
 
-module _ (enums : List EnumRow) where
-  key_part : (row : FieldRow) (t : ValueType) (kind : ScalarKind) (s : Scalar) → PartRow enums row t kind → t.default ≡ kind_default kind → scalar_valid kind s ≡ true → key_bytes row (ScalarValue s) ≡ part_bytes t 1 kind s
-  key_part row t kind s part zero fits =
-      ap (λ o. cond (not row.supports_presence && scalar_eq s (zero_like s)) [] (scalar_record_bytes 1 o (ScalarValue s))) part.named
-      ∙ ap₂ (λ p d. cond (not p && scalar_eq s d) [] (short_key 1 (kind_wire kind) ++ short_plain (written kind s))) (sym part.presence) (zero_of kind s part.plain fits ∙ sym zero)
+module _ (enums : List EnumRow) (row : FieldRow) (t : ValueType) (kind : ScalarKind) (part : PartRow enums row t kind) where
+  part_alike : SamePayloads part.plain kind
+  part_alike = plain_payloads enums row.kind part.plain kind part.named part.shown
 
-  value_part : (row : FieldRow) (t : ValueType) (kind : ScalarKind) (s : Scalar) → PartRow enums row t kind → scalar_valid kind s ≡ true → kept_scalar_bytes 2 enums row (ScalarValue s) ≡ part_bytes t 2 kind s
-  value_part row t kind s part fits =
-      ap (λ o. cond (not row.supports_presence && is_default enums row.kind row.default (ScalarValue s)) [] (scalar_record_bytes 2 o (ScalarValue s))) part.named
+  record_part : (n : ℕ) (s : Scalar) → scalar_record_bytes n (plain_kind row.kind) (ScalarValue s) ≡ short_key n (kind_wire kind) ++ short_plain (written kind s)
+  record_part n s = ap (λ o. scalar_record_bytes n o (ScalarValue s)) part.named ∙ ap₂ (λ w p. short_key n w ++ short_plain p) part_alike.wire (part_alike.write s)
+
+  key_part : (s : Scalar) → is_enum (ScalarOf kind) ≡ false → t.default ≡ kind_default kind → scalar_valid kind s ≡ true → key_bytes row (ScalarValue s) ≡ part_bytes t 1 kind s
+  key_part s apart zero fits =
+      ap (λ l. cond (not row.supports_presence && scalar_eq s (zero_like s)) [] l) (record_part 1 s)
+      ∙ ap₂ (λ p d. cond (not p && scalar_eq s d) [] (short_key 1 (kind_wire kind) ++ short_plain (written kind s))) (sym part.presence) (zero_of kind s apart fits ∙ sym zero)
+
+  value_part : (s : Scalar) → scalar_valid kind s ≡ true → kept_scalar_bytes 2 enums row (ScalarValue s) ≡ part_bytes t 2 kind s
+  value_part s fits =
+      ap (λ l. cond (not row.supports_presence && is_default enums row.kind row.default (ScalarValue s)) [] l) (record_part 2 s)
       ∙ ap₂ (λ p b. cond (not p && b) [] (short_key 2 (kind_wire kind) ++ short_plain (written kind s))) (sym part.presence) (sym (default_is enums row.kind kind s row.default part.shown fits) ∙ ap (scalar_eq s) (sym part.default))
+
+  -- a value of the part's kind is one of the plain kind
+  part_takes : (v : contents.Value) → element_valid (ScalarOf kind) v ≡ true → TakesScalar row.kind v
+  part_takes v h = subst (λ o. IsSomeAnd o (λ k. element_valid (ScalarOf k) v ≡ true)) (sym part.named) (go v h)
+    where
+      go : (v : contents.Value) → element_valid (ScalarOf kind) v ≡ true → element_valid (ScalarOf part.plain) v ≡ true
+      go (ScalarValue s) h = part_alike.takes s h
+      go (MessageValue m) h = absurd (true≢false (sym h))
+      go (ListValue vs) h = absurd (true≢false (sym h))
+      go (MapValue ps) h = absurd (true≢false (sym h))
 
 -- what the writer of a map needs to know, and what it has to write
 pub record MapWritten (fields : List Field) (n : ℕ) (enums : List EnumRow) (key value_row : FieldRow) (es : List (MapKey × Value)) : Type 0 where
   pub takes : TakesPairs key.kind value_row.kind es
   pub bytes : value_bytes fields n (MapValue (pairs_shown es)) ≡ pairs_bytes n enums key value_row es
 
-module _ (n : ℕ) (enums : List EnumRow) (key value_row : FieldRow) (key_type value_type : ValueType) (key_kind kind : ScalarKind) (key_part_row : PartRow enums key key_type key_kind) (part_row : PartRow enums value_row value_type kind) (zero : key_type.default ≡ kind_default key_kind) where
+module _ (n : ℕ) (enums : List EnumRow) (key value_row : FieldRow) (key_type value_type : ValueType) (key_kind kind : ScalarKind) (key_part_row : PartRow enums key key_type key_kind) (part_row : PartRow enums value_row value_type kind) (apart : is_enum (ScalarOf key_kind) ≡ false) (zero : key_type.default ≡ kind_default key_kind) where
   key_fits : (k : Scalar) → kind_takes key_type.kind k ≡ true → scalar_valid key_kind k ≡ true
   key_fits k h = ap (λ kind. kind_takes kind k) (sym key_part_row.is) ∙ h
 
@@ -57,7 +74,7 @@ module _ (n : ℕ) (enums : List EnumRow) (key value_row : FieldRow) (key_type v
   takes_pairs (e ∷ es) h =
       let (one, more) = and_both (kind_takes key_type.kind (key_of e.0) && element_valid (ScalarOf kind) (value_of e.1)) (pairs_valid (MapFrom key_type) (ScalarOf kind) (pairs_shown es)) h in
       let (a, b) = and_both (kind_takes key_type.kind (key_of e.0)) (element_valid (ScalarOf kind) (value_of e.1)) one in
-      ((subst (λ o. IsSomeAnd o (λ k. element_valid (ScalarOf k) (ScalarValue (key_of e.0)) ≡ true)) (sym key_part_row.named) (key_fits (key_of e.0) a), subst (λ o. IsSomeAnd o (λ k. element_valid (ScalarOf k) (value_of e.1) ≡ true)) (sym part_row.named) b), takes_pairs es more)
+      ((part_takes enums key key_type key_kind key_part_row (ScalarValue (key_of e.0)) (key_fits (key_of e.0) a), part_takes enums value_row value_type kind part_row (value_of e.1) b), takes_pairs es more)
 
   pairs_spelled : (es : List (MapKey × Value)) → pairs_valid (MapFrom key_type) (ScalarOf kind) (pairs_shown es) ≡ true → spelled (map (record_at n) (pair_payloads key_type value_type (pairs_shown es))) ≡ pairs_bytes n enums key value_row es
   pairs_spelled [] h = refl
@@ -71,7 +88,7 @@ module _ (n : ℕ) (enums : List EnumRow) (key value_row : FieldRow) (key_type v
       go (ScalarValue s) a b more =
           pair_written n key_type value_type key_kind kind (key_of e.0) s (pairs_shown es) key_part_row.is part_row.is a b
           ∙ ap₂ (λ (body : List ℕ) (rest : List ℕ). (short_key n wires.LengthDelimited ++ short_plain (Len body)) ++ rest)
-          (ap₂ ◌++◌ (sym (key_part enums key key_type key_kind (key_of e.0) key_part_row zero a)) (sym (value_part enums value_row value_type kind s part_row b))) more
+          (ap₂ ◌++◌ (sym (key_part enums key key_type key_kind key_part_row (key_of e.0) apart zero a)) (sym (value_part enums value_row value_type kind part_row s b))) more
       go (MessageValue m) a b more = absurd (true≢false (sym b))
       go (ListValue vs) a b more = absurd (true≢false (sym b))
       go (MapValue ps) a b more = absurd (true≢false (sym b))

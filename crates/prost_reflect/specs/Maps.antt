@@ -1,11 +1,11 @@
--- Maps of plain scalars: what is read of an entry, which numbers are those of such a map, and what is written of it.
-use Rattle.std.specs.Prelude.{◌≡◌, ℕ, true, false, not, ◌&&◌, if◌then◌else◌, List, [], ◌∷◌, ◌++◌, Some, IsSomeAnd}
+-- Maps of scalars: what is read of an entry, which numbers are those of such a map, and what is written of it.
+use Rattle.std.specs.Prelude.{◌≡◌, ℕ, false, not, ◌&&◌, if◌then◌else◌, List, [], ◌∷◌, ◌++◌, Some, IsSomeAnd}
 use Rattle.std.specs.List.{AllByRecursion}
 use Rattle.prost_reflect_wire.specs.declared.key.WireType.TheVariants as wires
 use Rattle.prost_reflect_wire.specs.declared.error.DecodeError.{DecodeError}
-use Rattle.prost_reflect_wire.specs.Record.{Payload, Len, short_key, short_plain}
-use Rattle.prost_reflect_wire.specs.Scalar.{Scalar, ScalarKind, kind_default, is_undeclared}
-use Rattle.prost_reflect_wire.specs.Schema.{ScalarOf, ValueType, MapFrom, Field, field_of}
+use Rattle.prost_reflect_wire.specs.Record.{Len, short_key, short_plain}
+use Rattle.prost_reflect_wire.specs.Scalar.{Scalar, ScalarKind, kind_default}
+use Rattle.prost_reflect_wire.specs.Schema.{Kind, ScalarOf, ValueType, MapFrom, Field, field_of}
 use Rattle.prost_reflect_wire.specs.Content as content
 use Rattle.prost_reflect_wire.specs.Content.{ScalarValue, MapValue}
 use Rattle.prost_reflect_wire.specs.EntryReading.{ScalarEntryTo, StandsInEntry}
@@ -21,20 +21,6 @@ use Rattle.prost_reflect.specs.MapParts.{map_parts}
 use Rattle.prost_reflect.specs.Covered.{names_message}
 use Rattle.prost_reflect.specs.Scalars.{plain_kind, TakesScalar, scalar_record_bytes, kept_scalar_bytes, is_zero}
 use Rattle.prost_reflect.specs.View.{key_of, value_of}
-
--- The number is that of a map of plain scalars, whose keys and values the tables call by these kinds; no value is a stray.
-pub record PlainMap (fields : List Field) (n : ℕ) (key value_kind : TableKind) : Type 0 where
-  pub field : Field
-  pub key_type : ValueType
-  pub key_scalar : ScalarKind
-  pub value_scalar : ScalarKind
-  pub found : field_of fields n ≡ Some field
-  pub form : field.form ≡ MapFrom key_type
-  pub key_plain : plain_kind key ≡ Some key_scalar
-  pub key_is : key_type.kind ≡ ScalarOf key_scalar
-  pub value_plain : plain_kind value_kind ≡ Some value_scalar
-  pub value_is : field.value_type.kind ≡ ScalarOf value_scalar
-  pub whole : (p : Payload) → is_undeclared value_scalar p ≡ false
 
 -- The number is that of a map of scalars, whose keys and values the tables call by these kinds.
 pub record ScalarMap (d : MessageDescriptor) (n : ℕ) (key value_kind : TableKind) : Type 0 where
@@ -53,24 +39,33 @@ pub record ScalarMap (d : MessageDescriptor) (n : ℕ) (key value_kind : TableKi
 abbrev pub IsDefaultOf : TableKind → Value → Type 0
 IsDefaultOf kind v = IsSomeAnd (plain_kind kind) (λ k. value_of v ≡ ScalarValue (kind_default k))
 
+-- The value is the default of a scalar kind of a schema.
+abbrev pub IsKindDefault : Kind → Value → Type 0
+IsKindDefault (ScalarOf kind) v = value_of v ≡ ScalarValue (kind_default kind)
+IsKindDefault kind v = ⊥
+
+-- It is what an entry has where it lacks a value: the first number of an enum, else zero, false or empty.
+abbrev pub IsAbsentValue : List EnumRow → TableKind → Value → Type 0
+IsAbsentValue enums kind v = IsKindDefault (schema_kind enums kind false) v
+
 -- The bytes before the rest are records of an entry, which have this key and this value.
-pub record ReadsEntry (levels : ℕ) (key value_kind : TableKind) (k v : Value) (bytes rest : List ℕ) : Type 0 where
+pub record ReadsEntry (enums : List EnumRow) (levels : ℕ) (key value_kind : TableKind) (k v : Value) (bytes rest : List ℕ) : Type 0 where
   pub key_scalar : ScalarKind
   pub value_scalar : ScalarKind
   pub key_read : Scalar
   pub value_read : Scalar
   pub key_plain : plain_kind key ≡ Some key_scalar
-  pub value_plain : plain_kind value_kind ≡ Some value_scalar
+  pub value_named : schema_kind enums value_kind false ≡ ScalarOf value_scalar
   pub key_is : value_of k ≡ ScalarValue key_read
   pub value_is : value_of v ≡ ScalarValue value_read
   pub read : ScalarEntryTo levels key_scalar value_scalar key_read value_read bytes rest
 
 -- Why the bytes are no such entry.
-pub record RefusesEntry (levels : ℕ) (key value_kind : TableKind) (e : DecodeError) (bytes : List ℕ) : Type 0 where
+pub record RefusesEntry (enums : List EnumRow) (levels : ℕ) (key value_kind : TableKind) (e : DecodeError) (bytes : List ℕ) : Type 0 where
   pub key_scalar : ScalarKind
   pub value_scalar : ScalarKind
   pub key_plain : plain_kind key ≡ Some key_scalar
-  pub value_plain : plain_kind value_kind ≡ Some value_scalar
+  pub value_named : schema_kind enums value_kind false ≡ ScalarOf value_scalar
   pub fault : StandsInEntry levels key_scalar value_scalar e bytes
 
 -- WRITING

@@ -1,5 +1,5 @@
 -- Scalar kinds of the tables, their payloads and values.
-use Rattle.std.specs.Prelude.{◌≡◌, ◌⊎◌, ℕ, Bool, pos, true, false, not, ◌&&◌, List, [], ◌++◌, Option, Some, None, option_map, option_and_then, slice_get, IsSomeAnd, if◌then◌else◌}
+use Rattle.std.specs.Prelude.{◌≡◌, ◌⊎◌, ◌≤◌, ℕ, Bool, pos, true, false, not, ◌&&◌, List, [], ◌++◌, Option, Some, None, option_map, option_and_then, slice_get, IsSomeAnd, if◌then◌else◌}
 use Rattle.prost_reflect_wire.specs.declared.key.WireType.{WireType}
 use Rattle.prost_reflect_wire.specs.declared.error.DecodeError.{DecodeError}
 use Rattle.prost_reflect_wire.specs.Record.{Payload, short_key, short_plain}
@@ -8,9 +8,9 @@ use Rattle.prost_reflect_wire.specs.Scalar.{Scalar, ScalarKind, elem, kind_wire,
 use Rattle.prost_reflect_wire.specs.Content.{ScalarValue}
 use Rattle.prost_reflect_wire.specs.Content as content
 use Rattle.prost_reflect_wire.specs.Schema.{ScalarOf, Singular, Field, field_of}
-use Rattle.prost_reflect_wire.specs.Typing.{element_valid}
+use Rattle.prost_reflect_wire.specs.Typing.{element_valid, is_whole_stray}
+use Rattle.prost_reflect_wire.specs.Levels.{stray_levels}
 use Rattle.prost_reflect_wire.specs.Front.{ValueFront}
-use Rattle.prost_reflect_wire.specs.Grammar.{is_stray}
 use Rattle.prost_reflect_wire.specs.Decoding.{ScalarRead, ScalarFault}
 use Rattle.prost_reflect_tables.specs.declared.tables.TableKind.{TableKind}
 use Rattle.prost_reflect_tables.specs.declared.tables.TableKind.TheVariants.{Double, Float, Int32, Int64, Uint32, Uint64, Sint32, Sint64, Fixed32, Fixed64, Sfixed32, Sfixed64, Bool as BoolKind, String, Bytes, Message, Enum}
@@ -99,8 +99,8 @@ pub record ReadsStray (fields : List Field) (levels n : ℕ) (w : WireType) (byt
   pub payload : Payload
   pub rest : List ℕ
   pub found : field_of fields n ≡ Some field
-  pub form : field.form ≡ Singular
-  pub stray : is_stray field.value_type.kind payload ≡ true
+  pub whole : is_whole_stray field.form field.value_type payload ≡ true
+  pub within : stray_levels field.form payload ≤ levels
   pub front : ValueFront n w levels payload bytes rest
 
 -- The record behind a key stays unknown: no field has its number, or its field takes no value from it.

@@ -8,13 +8,13 @@ use Rattle.prost_reflect_wire.specs.Record.{Payload, Flat, payload_valid, record
 use Rattle.prost_reflect_wire.specs.Front.{ValueFront}
 use Rattle.prost_reflect_wire.specs.Scalar.{Scalar, ScalarKind, elem, is_undeclared, scalar_valid}
 use Rattle.prost_reflect_wire.specs.Schema.{Kind, ScalarOf, Repeated, Field, Schema, known, field_of, is_sibling, is_singular, numbers_differ, passes}
-use Rattle.prost_reflect_wire.specs.Content.{ContentOf, Entries, Value, ScalarValue, MessageValue, ListValue, MapValue, Values, NoValues, Item, values_from, ◌and_then◌, Slot, value_at, unknowns_at, slot_at, changed, entries_ordered, values_ordered}
+use Rattle.prost_reflect_wire.specs.Content.{Content, ContentOf, Entries, Value, ScalarValue, MessageValue, ListValue, MapValue, Values, NoValues, Item, values_from, ◌and_then◌, Slot, schema_of, type_of, entries_of, value_at, unknowns_at, slot_at, changed, entries_ordered, values_ordered}
 use Rattle.prost_reflect_wire.specs.Grammar.{field_allowed, one_allowed, packed_allowed, element_payloads_in, is_stray, value_payloads, stray_payloads}
 use Rattle.prost_reflect_wire.specs.Meaning.{element, scalar_values, values_in}
 use Rattle.prost_reflect_wire.specs.Typing.{fit_test, alone_test, EntryTest, element_valid, elements_valid, value_valid, is_repeated, pairs_valid, value_passes, values_pass, entries_pass, kind_for, ValuesTyped, kept_values, ValueStored, WellStored}
 use Rattle.prost_reflect_wire.specs.Edit.{with_value}
-use Rattle.prost_reflect_wire.specs.Storing.{with_stored}
-use Rattle.prost_reflect_wire.specs.Decoding.{RecordRead, Step, ElementsRead}
+use Rattle.prost_reflect_wire.specs.Storing.{with_stored, joined_slot}
+use Rattle.prost_reflect_wire.specs.Decoding.{RecordRead, Step, ElementsRead, ElementsJoined, list_takes}
 use Rattle.prost_reflect_wire.proofs.Deeper.{and_both, both_true}
 use Rattle.prost_reflect_wire.proofs.Survivors.{field_number}
 use Rattle.prost_reflect_wire.proofs.Numbers.{empty_slot, eqb-sym}
@@ -30,7 +30,7 @@ use Rattle.prost_reflect_wire.proofs.RecordReads.{allowed_record, one_step}
 use Rattle.prost_reflect_wire.proofs.Slots.{siblings_mutual}
 use Rattle.prost_reflect_wire.proofs.StoredSound.{no_sibling, value_sound}
 use Rattle.prost_reflect_wire.proofs.Holding.{known_values, changed_ordered, payload_front_valid}
-use Rattle.prost_reflect_wire.proofs.ListSteps.{ListRecord, Lone, IsListed, joined_slot, list_step}
+use Rattle.prost_reflect_wire.proofs.ListSteps.{ListRecord, Lone, IsListed, list_step}
 
 -- THE RECORD
 
@@ -140,76 +140,95 @@ elements_read_valid kind w vs bytes rest read whole small =
     ∙ all_valid kind (element_payloads_in (ScalarOf kind) (Flat read.plain)) whole (elements_in_valid (ScalarOf kind) (Flat read.plain) (payload_front_valid 0 (Flat read.plain) bytes rest small read.front))
 
 module _ (schema : Schema) (T : ℕ) (es : Entries) (sound : WellStored (ContentOf schema T es)) where
-  elements_at_number : (k : ℕ) (f : Field) (packed : Bool) (kind : ScalarKind) (w : WireType) (vs : List Value) (bytes rest : List ℕ) → numbers_differ (known schema T) ≡ true → field_of (known schema T) f.number ≡ Some f → f.form ≡ Repeated packed →
-      f.value_type.kind ≡ ScalarOf kind → f.oneof ≡ None → IsOpen kind → AreBytes bytes → ElementsRead kind w vs bytes rest →
-      Step k f.number w (ContentOf schema T es) (ContentOf schema T (changed f.number (with_stored (known schema T) f (ListValue (values_in (value_at f.number es) and_then values_from vs))) es)) bytes rest
-  elements_at_number k f packed kind w vs bytes rest differ found form is alone whole small read = record {
-    read = list_record schema k T es (changed f.number change es) f p added [] w bytes rest
-        (record {
-          found = found;
-          packed = packed;
-          form = form;
-          elements = element_payloads_in (ScalarOf kind) p;
-          taken = ap (λ form. value_payloads form f.value_type p) form ∙ ap (λ kind. filter (λ q. not (is_stray kind q)) (element_payloads_in kind p)) is ∙ all_taken kind (element_payloads_in (ScalarOf kind) p) whole;
-          left = ap (λ form. stray_payloads form f.value_type p) form ∙ ap (λ kind. filter (is_stray kind) (element_payloads_in kind p)) is ∙ none_left kind (element_payloads_in (ScalarOf kind) p) whole;
-          values = let s : Scalars (values_from vs) = scalars_only kind (values_from vs) (elements_read_valid kind w vs bytes rest read whole small) in
-              s.kept ∙ ap values_from read.values ∙ ap (λ kind. values_from (flat_map (element (below schema k) kind) (element_payloads_in (ScalarOf read_kind) p))) (sym is);
-        })
-        (record { apart = λ m g there apart. siblings_mutual (known schema T) f differ found m g there ∙ no_sibling (known schema T) f m alone }) old.listed
-        (record { wire = read.wire; front = read.front; within = omega arith })
-        (ap (λ form. field_allowed k (inside schema k) form f.value_type p) form ∙ ap (λ kind. one_allowed (inside schema k) kind p || packed_allowed kind p) is ∙ read.taken)
-        (known_values (known schema T) es sound.fits) sound.order ordered (λ m. slots m ∙ as_joined m (nat_eq m f.number) refl);
+  -- values of the kind put behind those of the list
+  pub values_behind : (f : Field) (packed : Bool) (kind : ScalarKind) (added : Values) → numbers_differ (known schema T) ≡ true → field_of (known schema T) f.number ≡ Some f → f.form ≡ Repeated packed → f.value_type.kind ≡ ScalarOf kind → f.oneof ≡ None →
+      elements_valid (ScalarOf kind) added ≡ true → ElementsJoined f added [] (ContentOf schema T es) (ContentOf schema T (changed f.number (with_stored (known schema T) f (ListValue (values_in (value_at f.number es) and_then added))) es))
+  values_behind f packed kind added differ found form is alone valid = record {
+    slots = λ m. slots m ∙ as_joined m (nat_eq m f.number) refl;
     holds = record { schema = refl; type = refl; sound = value_sound schema T es (changed f.number change es) f (ListValue (values_in (value_at f.number es) and_then added)) differ found fit ordered slots sound };
   }
     where
-      p : Payload
-      p = Flat read.plain
-
-      read_kind : ScalarKind
-      read_kind = kind
-
-      added : Values
-      added = values_from vs
-
       joined : Values
-      joined = values_in (value_at f.number es) and_then values_from vs
+      joined = values_in (value_at f.number es) and_then added
 
       change : ℕ → Slot → Slot
-      change = with_stored (known schema T) f (ListValue (values_in (value_at f.number es) and_then values_from vs))
+      change = with_stored (known schema T) f (ListValue (values_in (value_at f.number es) and_then added))
 
       old : StoredList f.value_type.kind (value_at f.number es)
       old = stored_list (known schema T) es f packed sound.fits found form
 
-      fit : ValueStored schema f (ListValue (values_in (value_at f.number es) and_then values_from vs))
-      fit = list_stored schema f packed kind (values_in (value_at f.number es) and_then values_from vs) form is
-          (elements_joined (ScalarOf kind) (values_in (value_at f.number es)) (values_from vs) (ap (λ kind. elements_valid kind (values_in (value_at f.number es))) (sym is) ∙ old.valid) (elements_read_valid kind w vs bytes rest read whole small))
+      fit : ValueStored schema f (ListValue (values_in (value_at f.number es) and_then added))
+      fit = list_stored schema f packed kind (values_in (value_at f.number es) and_then added) form is
+          (elements_joined (ScalarOf kind) (values_in (value_at f.number es)) added (ap (λ kind. elements_valid kind (values_in (value_at f.number es))) (sym is) ∙ old.valid) valid)
 
-      still : (m : ℕ) (b : Bool) → b ≡ false → (c : Bool) → cond b (with_value (Some (ListValue (values_in (value_at f.number es) and_then values_from vs))) empty_slot) (cond c (with_value None empty_slot) empty_slot) ≡ empty_slot
+      still : (m : ℕ) (b : Bool) → b ≡ false → (c : Bool) → cond b (with_value (Some (ListValue (values_in (value_at f.number es) and_then added))) empty_slot) (cond c (with_value None empty_slot) empty_slot) ≡ empty_slot
       still m true e c = absurd (true≢false e)
       still m false e true = refl
       still m false e false = refl
 
-      slots : (m : ℕ) → slot_at (changed f.number (with_stored (known schema T) f (ListValue (values_in (value_at f.number es) and_then values_from vs))) es) m
-          ≡ with_stored (known schema T) f (ListValue (values_in (value_at f.number es) and_then values_from vs)) m (slot_at es m)
+      slots : (m : ℕ) → slot_at (changed f.number (with_stored (known schema T) f (ListValue (values_in (value_at f.number es) and_then added))) es) m
+          ≡ with_stored (known schema T) f (ListValue (values_in (value_at f.number es) and_then added)) m (slot_at es m)
       slots m = slot_changed f.number m change es (λ k apart. still k (nat_eq k f.number) (eqb-sym k f.number ∙ apart) (is_sibling (known schema T) f k))
 
-      as_joined : (m : ℕ) (b : Bool) → nat_eq m f.number ≡ b → with_stored (known schema T) f (ListValue (values_in (value_at f.number es) and_then values_from vs)) m (slot_at es m) ≡ joined_slot f (values_from vs) [] m (slot_at es m)
+      as_joined : (m : ℕ) (b : Bool) → nat_eq m f.number ≡ b → with_stored (known schema T) f (ListValue (values_in (value_at f.number es) and_then added)) m (slot_at es m) ≡ joined_slot f added [] m (slot_at es m)
       as_joined m true at =
           ap (λ b. cond b (with_value (Some (ListValue joined)) (slot_at es m)) (cond (is_sibling (known schema T) f m) (with_value None (slot_at es m)) (slot_at es m))) at
-          ∙ ap₂ (λ n ps. record { value = Some (ListValue (values_in (value_at n es) and_then values_from vs)); unknowns = ps }) (sym (eqb-true m f.number at)) (sym (append-nil (unknowns_at m es)))
-          ∙ sym (ap (λ b. cond b (record { value = Some (ListValue (values_in (value_at m es) and_then values_from vs)); unknowns = unknowns_at m es ++ [] }) (slot_at es m)) at)
+          ∙ ap₂ (λ n ps. record { value = Some (ListValue (values_in (value_at n es) and_then added)); unknowns = ps }) (sym (eqb-true m f.number at)) (sym (append-nil (unknowns_at m es)))
+          ∙ sym (ap (λ b. cond b (record { value = Some (ListValue (values_in (value_at m es) and_then added)); unknowns = unknowns_at m es ++ [] }) (slot_at es m)) at)
       as_joined m false at =
           ap (λ b. cond b (with_value (Some (ListValue joined)) (slot_at es m)) (cond (is_sibling (known schema T) f m) (with_value None (slot_at es m)) (slot_at es m))) at
           ∙ ap (λ b. cond b (with_value None (slot_at es m)) (slot_at es m)) (no_sibling (known schema T) f m alone)
-          ∙ sym (ap (λ b. cond b (record { value = Some (ListValue (values_in (value_at m es) and_then values_from vs)); unknowns = unknowns_at m es ++ [] }) (slot_at es m)) at)
+          ∙ sym (ap (λ b. cond b (record { value = Some (ListValue (values_in (value_at m es) and_then added)); unknowns = unknowns_at m es ++ [] }) (slot_at es m)) at)
 
-      each : (m : ℕ) (b c : Bool) → OrderedOption (cond b (with_value (Some (ListValue (values_in (value_at f.number es) and_then values_from vs))) (slot_at es m)) (cond c (with_value None (slot_at es m)) (slot_at es m))).value
+      each : (m : ℕ) (b c : Bool) → OrderedOption (cond b (with_value (Some (ListValue (values_in (value_at f.number es) and_then added))) (slot_at es m)) (cond c (with_value None (slot_at es m)) (slot_at es m))).value
       each m true c = fit.order
       each m false true = tt
       each m false false = value_in_order m es sound.order
 
-      ordered : entries_ordered (changed f.number (with_stored (known schema T) f (ListValue (values_in (value_at f.number es) and_then values_from vs))) es) ≡ true
+      ordered : entries_ordered (changed f.number (with_stored (known schema T) f (ListValue (values_in (value_at f.number es) and_then added))) es) ≡ true
       ordered = changed_ordered f.number change es (λ m. each m (nat_eq m f.number) (is_sibling (known schema T) f m))
+
+  -- the record of a list, whose elements and strays were joined to what is there
+  pub joined_read : (k : ℕ) (f : Field) (packed : Bool) (kind : ScalarKind) (w : WireType) (p : Payload) (added : Values) (strays : List Payload) (new : Content) (bytes rest : List ℕ) → numbers_differ (known schema T) ≡ true → field_of (known schema T) f.number ≡ Some f →
+      f.form ≡ Repeated packed → f.value_type.kind ≡ ScalarOf kind → f.oneof ≡ None → ElementsJoined f added strays (ContentOf schema T es) new → filter (is_undeclared kind) (element_payloads_in (ScalarOf kind) p) ≡ strays →
+      kept_values added ≡ values_from (flat_map (λ q. scalar_values (elem kind q)) (filter (λ q. not (is_undeclared kind q)) (element_payloads_in (ScalarOf kind) p))) → list_takes kind p ≡ true → ValueFront f.number w k p bytes rest →
+      Step k f.number w (ContentOf schema T es) new bytes rest
+  joined_read k f packed kind w p added strays new bytes rest differ found form is alone joined left values taken front =
+      subst (λ d. Step k f.number w (ContentOf schema T es) d bytes rest) (same_type schema T new joined.holds.schema joined.holds.type) (record {
+        read = list_record schema k T es (entries_of new) f p added strays w bytes rest
+            (record {
+              found = found;
+              packed = packed;
+              form = form;
+              elements = filter (λ q. not (is_stray (ScalarOf kind) q)) (element_payloads_in (ScalarOf kind) p);
+              taken = ap (λ form. value_payloads form f.value_type p) form ∙ ap (λ kind. filter (λ q. not (is_stray kind q)) (element_payloads_in kind p)) is;
+              left = ap (λ form. stray_payloads form f.value_type p) form ∙ ap (λ kind. filter (is_stray kind) (element_payloads_in kind p)) is ∙ left;
+              values = values ∙ ap (λ of. values_from (flat_map (element (below schema k) of) (filter (λ q. not (is_undeclared kind q)) (element_payloads_in (ScalarOf kind) p)))) (sym is);
+            })
+            (record { apart = λ m g there apart. siblings_mutual (known schema T) f differ found m g there ∙ no_sibling (known schema T) f m alone })
+            (let old = stored_list (known schema T) es f packed sound.fits found form in old.listed) front
+            (ap (λ form. field_allowed k (inside schema k) form f.value_type p) form ∙ ap (λ kind. one_allowed (inside schema k) kind p || packed_allowed kind p) is ∙ taken)
+            (known_values (known schema T) es sound.fits) sound.order held.order joined.slots;
+        holds = record { schema = refl; type = refl; sound = held };
+      })
+    where
+      same_type : (schema : Schema) (T : ℕ) (new : Content) → schema_of new ≡ schema → type_of new ≡ T → ContentOf schema T (entries_of new) ≡ new
+      same_type schema T (ContentOf s t ds) e f = ap₂ (λ s t. ContentOf s t ds) (sym e) (sym f)
+
+      held : WellStored (ContentOf schema T (entries_of new))
+      held = subst WellStored (sym (same_type schema T new joined.holds.schema joined.holds.type)) joined.holds.sound
+
+  elements_at_number : (k : ℕ) (f : Field) (packed : Bool) (kind : ScalarKind) (w : WireType) (vs : List Value) (bytes rest : List ℕ) → numbers_differ (known schema T) ≡ true → field_of (known schema T) f.number ≡ Some f → f.form ≡ Repeated packed →
+      f.value_type.kind ≡ ScalarOf kind → f.oneof ≡ None → IsOpen kind → AreBytes bytes → ElementsRead kind w vs bytes rest →
+      Step k f.number w (ContentOf schema T es) (ContentOf schema T (changed f.number (with_stored (known schema T) f (ListValue (values_in (value_at f.number es) and_then values_from vs))) es)) bytes rest
+  elements_at_number k f packed kind w vs bytes rest differ found form is alone whole small read =
+      let valid : elements_valid (ScalarOf kind) (values_from vs) ≡ true = elements_read_valid kind w vs bytes rest read whole small in
+      let s : Scalars (values_from vs) = scalars_only kind (values_from vs) valid in
+      joined_read k f packed kind w (Flat read.plain) (values_from vs) [] (ContentOf schema T (changed f.number (with_stored (known schema T) f (ListValue (values_in (value_at f.number es) and_then values_from vs))) es)) bytes rest differ found form is alone
+      (values_behind f packed kind (values_from vs) differ found form is alone valid)
+      (none_left kind (element_payloads_in (ScalarOf kind) (Flat read.plain)) whole)
+      (s.kept ∙ ap values_from read.values ∙ ap (λ ps. values_from (flat_map (λ q. scalar_values (elem kind q)) ps)) (sym (all_taken kind (element_payloads_in (ScalarOf kind) (Flat read.plain)) whole)))
+      read.taken (record { wire = read.wire; front = read.front; within = omega arith })
 
   -- elements behind those that are stored at the number of a list
   pub list_holds : (k n : ℕ) (f : Field) (packed : Bool) (kind : ScalarKind) (w : WireType) (vs : List Value) (bytes rest : List ℕ) → numbers_differ (known schema T) ≡ true → field_of (known schema T) n ≡ Some f → f.form ≡ Repeated packed →

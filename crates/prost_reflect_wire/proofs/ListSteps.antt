@@ -9,6 +9,7 @@ use Rattle.prost_reflect_wire.specs.Content.{Value, ListValue, Values, NoValues,
 use Rattle.prost_reflect_wire.specs.Grammar.{value_payloads, stray_payloads}
 use Rattle.prost_reflect_wire.specs.Meaning.{MeansInside, JoinsInside, element, present_list, values_in, value_joined, value_step, value_steps, value_behind, slot_step}
 use Rattle.prost_reflect_wire.specs.Typing.{kept_value, kept_inside, kept_values}
+use Rattle.prost_reflect_wire.specs.Storing.{joined_slot}
 use Rattle.prost_reflect_wire.proofs.Numbers.{eqb-sym, slots_same}
 use Rattle.prost_reflect_wire.proofs.Survivors.{field_number}
 use Rattle.prost_reflect_wire.proofs.Steps.{values_append, values_present}
@@ -51,10 +52,6 @@ abbrev pub IsListed : Option Value → Type 0
 IsListed None = ⊤
 IsListed (Some (ListValue vs)) = ⊤
 IsListed (Some v) = ⊥
-
--- at its number, values behind those of the list, and strays behind the unknown records
-abbrev pub joined_slot : Field → Values → List Payload → ℕ → Slot → Slot
-joined_slot f added strays m slot = cond (nat_eq m f.number) (record { value = Some (ListValue (values_in slot.value and_then added)); unknowns = slot.unknowns ++ strays }) slot
 
 -- what is kept of a list
 pub listed_kept : (f : Field) (packed : Bool) → f.form ≡ Repeated packed → (o : Option Value) → IsListed o → (o >>= λ v. kept_value (Some f) (kept_inside v)) ≡ present_list (kept_values (values_in o))

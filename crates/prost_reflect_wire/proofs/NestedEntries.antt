@@ -12,7 +12,7 @@ use Rattle.prost_reflect_wire.specs.Record.{Len, Record, Records, Payload, Flat,
 use Rattle.prost_reflect_wire.specs.Front.{KeyFront, DelimitedFront, KeyFault, PlainFault}
 use Rattle.prost_reflect_wire.specs.Scalar.{Scalar, ScalarKind, kind_default, scalar_valid}
 use Rattle.prost_reflect_wire.specs.Schema.{Kind, ScalarOf, MessageOf, ValueType, MapFrom, Field, Schema, known, field_of, is_message, is_key_kind, field_valid, numbers_differ, passes}
-use Rattle.prost_reflect_wire.specs.Content.{Content, ContentOf, Entries, MessageValue, MapValue, empty, value_at, changed, schema_of, type_of, entries_of}
+use Rattle.prost_reflect_wire.specs.Content.{Content, ContentOf, Entries, MessageValue, MapValue, empty, value_at, changed, schema_of, type_of}
 use Rattle.prost_reflect_wire.specs.Grammar.{payloads, numbered, last, fits, body, or_none, records_in, is_stray, is_stray_entry, one_allowed, has_level, allows}
 use Rattle.prost_reflect_wire.specs.Meaning.{last_or, joined, entry_value, put, pairs_in, meaning, steps}
 use Rattle.prost_reflect_wire.specs.Typing.{kept, kind_takes, WellStored}
@@ -21,7 +21,7 @@ use Rattle.prost_reflect_wire.specs.Storing.{with_stored}
 use Rattle.prost_reflect_wire.specs.Unknown.{SkipsValue}
 use Rattle.prost_reflect_wire.specs.Fault.{Stands, Here, InMessage, StandsInMessage, entry_field, opens_level, needs_level, one_takes, same_wire, ValueFault}
 use Rattle.prost_reflect_wire.specs.Decoding.{Holds, Progress, Step, ScalarRead, ScalarFault, StandsBehindKey}
-use Rattle.prost_reflect_wire.specs.EntryReading.{IsMapped, EntryTo, EntryPlace, plain_type}
+use Rattle.prost_reflect_wire.specs.EntryReading.{EntryTo, EntryPlace, plain_type}
 use Rattle.prost_reflect_wire.specs.MessageEntries.{nested_type, NestedEntryTo, NestedValueRead, NestedValueFault, StandsInNestedEntry}
 use Rattle.prost_reflect_wire.proofs.ListTests.{both_true}
 use Rattle.prost_reflect_wire.proofs.Steps.{flat_append, meaning_empty, meaning_steps}
@@ -36,7 +36,7 @@ use Rattle.prost_reflect_wire.proofs.Allowed.{inside}
 use Rattle.prost_reflect_wire.proofs.Means.{below}
 use Rattle.prost_reflect_wire.proofs.MessageSteps.{is_its_type, takes_nested, needs_nested}
 use Rattle.prost_reflect_wire.proofs.EntryReads.{numbered_last, numbered_other, last_read, one_two, two_one, no_group, entry_more, entry_behind}
-use Rattle.prost_reflect_wire.proofs.MapSteps.{PairStored, StoredMap, FoundMap, stored_map, entry_holds}
+use Rattle.prost_reflect_wire.proofs.MapSteps.{PairStored, FoundMap, entry_holds}
 use Rattle.prost_reflect_wire.proofs.ScalarEntries.{map_keyed, delimited_bytes, entry_key_valid}
 
 -- the records of one value more are read behind those of the others
@@ -222,11 +222,7 @@ module _ (schema : Schema) (T : ℕ) (es : Entries) (sound : WellStored (Content
       subst (λ m. Step (suc k) m wires.LengthDelimited (ContentOf schema T es) (ContentOf schema T (changed f.number (with_stored (known schema T) f (MapValue (put x (MessageValue c) (pairs_in (value_at m es))))) es)) bytes rest) number
       (nested_at_number k x c inside_bytes bytes rest (ap (field_of (known schema T)) number ∙ found) small done front)
 
--- WHAT IS THERE, AND WHAT IS REFUSED
-
--- at the number of a map stands a map, or nothing yet
-pub mapped_at : (c : Content) (n : ℕ) (key : ValueType) → FoundMap (schema_of c) (type_of c) n key → WellStored c → IsMapped (value_at n (entries_of c))
-mapped_at (ContentOf schema T es) n key at sound = let s : StoredMap schema key at.field.value_type.kind (value_at n es) = stored_map schema T es sound n at.field key at.found at.form in s.mapped
+-- REFUSALS
 
 -- no level is left for the value
 pub entry_depth : (c : Content) (n U : ℕ) (key : ValueType) (at : FoundMap (schema_of c) (type_of c) n key) → at.field.value_type.kind ≡ MessageOf U → (rest : List ℕ) → StandsBehindKey c 0 n wires.LengthDelimited errors.Depth rest

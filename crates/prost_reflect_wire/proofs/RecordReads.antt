@@ -9,7 +9,7 @@ use Rattle.prost_reflect_wire.specs.Front.{ValueFront}
 use Rattle.prost_reflect_wire.specs.Scalar.{Scalar, ScalarKind, is_undeclared, scalar_valid}
 use Rattle.prost_reflect_wire.specs.Schema.{ScalarOf, Singular, Field, Schema, known, field_of, is_sibling}
 use Rattle.prost_reflect_wire.specs.Content.{ContentOf, Entries, Value, ScalarValue, slot_at, entries_ordered}
-use Rattle.prost_reflect_wire.specs.Grammar.{allows, is_stray, record_allowed, field_allowed, one_allowed}
+use Rattle.prost_reflect_wire.specs.Grammar.{allows, record_allowed, field_allowed, one_allowed}
 use Rattle.prost_reflect_wire.specs.Meaning.{step_by, steps}
 use Rattle.prost_reflect_wire.specs.Writing.{record_at}
 use Rattle.prost_reflect_wire.specs.Typing.{kept}
@@ -19,7 +19,7 @@ use Rattle.prost_reflect_wire.specs.Decoding.{RecordRead, ScalarRead}
 use Rattle.prost_reflect_wire.proofs.Deeper.{both_true}
 use Rattle.prost_reflect_wire.proofs.Survivors.{field_number}
 use Rattle.prost_reflect_wire.proofs.Numbers.{empty_slot, eqb-sym}
-use Rattle.prost_reflect_wire.proofs.Allowed.{inside, allows_inside, one_stray}
+use Rattle.prost_reflect_wire.proofs.Allowed.{inside, allows_inside}
 use Rattle.prost_reflect_wire.proofs.Means.{below, further}
 use Rattle.prost_reflect_wire.specs.Laws.{UnknownBack}
 use Rattle.prost_reflect_wire.proofs.Declared.{read_valid}
@@ -100,12 +100,6 @@ unknown_record schema k T es ds n w p bytes rest front allowed back values o q s
 pub unknown_allowed : (schema : Schema) (k T n : ℕ) (p : Payload) → field_of (known schema T) n ≡ None → payload_levels p ≤ k → record_allowed k (inside schema k) (known schema T) (record_at n p) ≡ true
 unknown_allowed schema k T n p none within =
     ap (λ o. elim o [ None ↦ nat_le (payload_levels p) k | Some g ↦ field_allowed k (inside schema k) g.form g.value_type p ]) none ∙ le-leb (payload_levels p) k within
-
--- a field of a closed enum takes the numbers that it doesn't declare
-pub stray_allowed : (schema : Schema) (k T n : ℕ) (f : Field) (p : Payload) → field_of (known schema T) n ≡ Some f → f.form ≡ Singular → is_stray f.value_type.kind p ≡ true → record_allowed k (inside schema k) (known schema T) (record_at n p) ≡ true
-stray_allowed schema k T n f p found form stray =
-    ap (λ o. elim o [ None ↦ nat_le (payload_levels p) k | Some g ↦ field_allowed k (inside schema k) g.form g.value_type p ]) found
-    ∙ ap (λ form. field_allowed k (inside schema k) form f.value_type p) form ∙ (one_stray (inside schema k) k f.value_type.kind p stray).0
 
 -- WHAT IS STORED FITS
 

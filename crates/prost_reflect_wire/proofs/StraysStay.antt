@@ -49,7 +49,7 @@ entry_own k g allow key value_type kind kind' (r ∷ rs) d e l h =
     go false true h = own value_type.kind kind' e h
     go false false h = le-leb (payload_levels r.payload) g (omega arith)
 
-entry_stays : (k : ℕ) (allow : AllowsInside) (key value_type : ValueType) (p : Payload) → is_key_kind key.kind ≡ true → payload_valid p ≡ true → field_allowed k allow (MapFrom key) value_type p ≡ true → is_stray_entry value_type p ≡ true → stray_good (MapFrom key) value_type k p ≡ true
+pub entry_stays : (k : ℕ) (allow : AllowsInside) (key value_type : ValueType) (p : Payload) → is_key_kind key.kind ≡ true → payload_valid p ≡ true → field_allowed k allow (MapFrom key) value_type p ≡ true → is_stray_entry value_type p ≡ true → stray_good (MapFrom key) value_type k p ≡ true
 entry_stays k allow key value_type p h v a s =
     let g : ℕ = greatest_level (records_in p) in
     let (shape, inside) = and_both (is_len p && has_level k value_type.kind) (passes (body p) (list_all (in_entry_allowed k allow key value_type))) a in

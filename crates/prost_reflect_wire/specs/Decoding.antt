@@ -1,5 +1,5 @@
 -- What the steps of reading a message have read, and what they refuse.
-use Rattle.std.specs.Prelude.{◌≡◌, ◌≢◌, ℕ, ◌⊎◌, Bool, true, false, ◌||◌, List, [], ◌∷◌, flat_map, Option, Some}
+use Rattle.std.specs.Prelude.{◌≡◌, ◌≢◌, ℕ, ◌⊎◌, Bool, true, false, not, ◌||◌, List, [], ◌∷◌, map, filter, flat_map, Option, Some}
 use Rattle.std.specs.Str.{is_utf8}
 use Rattle.prost_reflect_wire.specs.declared.key.WireType.{WireType}
 use Rattle.prost_reflect_wire.specs.declared.key.WireType.TheVariants as wires
@@ -8,13 +8,14 @@ use Rattle.prost_reflect_wire.specs.declared.error.DecodeError.TheVariants as er
 use Rattle.prost_reflect_wire.specs.Varint.{◌>>=◌}
 use Rattle.prost_reflect_wire.specs.Record.{Plain, Payload, Flat, Record, body_of, plain_wire}
 use Rattle.prost_reflect_wire.specs.Front.{KeyFront, PlainFront, DelimitedFront, ValueFront, RecordsFront, PayloadEnds, PayloadPasses}
-use Rattle.prost_reflect_wire.specs.Scalar.{Scalar, ScalarKind, StringKind, kind_wire, elem}
+use Rattle.prost_reflect_wire.specs.Scalar.{Scalar, ScalarKind, StringKind, kind_wire, elem, is_undeclared}
 use Rattle.prost_reflect_wire.specs.Schema.{ScalarOf, Field}
-use Rattle.prost_reflect_wire.specs.Content.{Content, Value, schema_of, type_of}
+use Rattle.prost_reflect_wire.specs.Content.{Content, Value, Values, values_from, schema_of, type_of, entries_of, slot_at}
 use Rattle.prost_reflect_wire.specs.Grammar.{fits, packed_allowed, unpacked, element_payloads_in, allows}
 use Rattle.prost_reflect_wire.specs.Meaning.{scalar_values, steps}
 use Rattle.prost_reflect_wire.specs.Writing.{record_at}
 use Rattle.prost_reflect_wire.specs.Typing.{kept, WellStored}
+use Rattle.prost_reflect_wire.specs.Storing.{joined_slot}
 use Rattle.prost_reflect_wire.specs.Fault.{PackedNext, TextNext, takes, OfType, Stands, same_wire}
 
 -- The bytes before the rest are records that the old content's type takes, and the new content is what they make of the old one.
@@ -114,3 +115,24 @@ pub record ElementsRead (kind : ScalarKind) (w : WireType) (vs : List Value) (by
 -- The values of the elements of a packed record.
 abbrev pub packed_values : ScalarKind → List ℕ → Option (List Value)
 packed_values kind body = unpacked kind body >>= λ ps. Some (flat_map (λ p. scalar_values (elem kind (Flat p))) ps)
+
+-- The new content is the old one with values behind those of the field's list, and strays behind the unknown records of its number.
+pub record ElementsJoined (f : Field) (added : Values) (strays : List Payload) (old new : Content) : Type 0 where
+  pub slots : (m : ℕ) → slot_at (entries_of new) m ≡ joined_slot f added strays m (slot_at (entries_of old) m)
+  pub holds : Holds old new
+
+-- LISTS OF ENUM NUMBERS
+
+-- The values of the payloads whose numbers are declared.
+abbrev pub declared_values : ScalarKind → List Payload → Values
+declared_values kind ps = values_from (flat_map (λ q. scalar_values (elem kind q)) (filter (λ q. not (is_undeclared kind q)) ps))
+
+-- The payloads were read one by one: the declared numbers are elements, and the others unknown records.
+abbrev pub NumbersJoined : Field → ScalarKind → List Payload → Content → Content → Type 0
+NumbersJoined f kind ps old new = ElementsJoined f (declared_values kind ps) (filter (is_undeclared kind) ps) old new
+
+-- The numbers of a packed record were.
+pub record BodyJoined (f : Field) (kind : ScalarKind) (old new : Content) (body : List ℕ) : Type 0 where
+  pub plains : List Plain
+  pub whole : unpacked kind body ≡ Some plains
+  pub joined : NumbersJoined f kind (map Flat plains) old new

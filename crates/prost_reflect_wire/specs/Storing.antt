@@ -1,8 +1,9 @@
--- What storing makes of the slot of each number: a value is put in its field's place and clears its siblings; an unknown record goes behind those of its number.
+-- What storing makes of the slot of each number: a value is put in its field's place and clears its siblings; elements go behind those of their list; an unknown record goes behind those of its number.
 use Rattle.std.specs.Prelude.{ℕ, nat_eq, if◌then◌else◌, List, [], ◌∷◌, ◌++◌, map, Option, Some, None}
 use Rattle.prost_reflect_wire.specs.Record.{Payload, Record, record_at, spelled}
 use Rattle.prost_reflect_wire.specs.Schema.{Field, field_of, is_sibling}
-use Rattle.prost_reflect_wire.specs.Content.{Value, Slot}
+use Rattle.prost_reflect_wire.specs.Content.{Value, ListValue, Values, ◌and_then◌, Slot}
+use Rattle.prost_reflect_wire.specs.Meaning.{values_in}
 use Rattle.prost_reflect_wire.specs.Writing.{field_payloads}
 use Rattle.prost_reflect_wire.specs.Typing.{kept_value, kept_inside}
 use Rattle.prost_reflect_wire.specs.Edit.{with_value}
@@ -12,6 +13,10 @@ with_stored fields f v m slot = if nat_eq m f.number then with_value (Some v) sl
 
 abbrev pub with_unknown : ℕ → Payload → ℕ → Slot → Slot
 with_unknown n p m slot = if nat_eq m n then record { value = slot.value; unknowns = slot.unknowns ++ (p ∷ []) } else slot
+
+-- At its number, values behind those of the list, and strays behind the unknown records.
+abbrev pub joined_slot : Field → Values → List Payload → ℕ → Slot → Slot
+joined_slot f added strays m slot = if nat_eq m f.number then record { value = Some (ListValue (values_in slot.value and_then added)); unknowns = slot.unknowns ++ strays } else slot
 
 -- WRITING WHAT IS STORED
 

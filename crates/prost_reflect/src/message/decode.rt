@@ -152,7 +152,7 @@ impl DynamicMessage {
     }
 
     /// Reads a record that stays unknown behind its key, and adds it behind those of its number.
-    fn merge_unknown<'a>(
+    pub(super) fn merge_unknown<'a>(
         &mut self,
         alloc: Global,
         number: FieldNumber,

@@ -82,15 +82,30 @@ impl DynamicMessage {
         ensures descriptor { descriptor_of self.new ≡ descriptor_of self.old }
         ensures content { IfOk result (λ _. content_of self.new ≡ value_set number (with_element (value_at number (entries_of (content_of self.old))) (MessageValue (content_of element))) (content_of self.old)) }
     {
+        self.push_value(alloc, number, Value::Message(element))
+    }
+
+    /// Adds a value behind the elements of the list at a number; where nothing is there yet, it is the first one.
+    pub(super) fn push_value(
+        &mut self,
+        alloc: Global,
+        number: u32,
+        element: Value,
+    ) -> Result<(), AllocError>
+        requires known { is_known (known_of (descriptor_of self.old)) number ≡ true }
+        requires list { IsListOrNone (value_at number (entries_of (content_of self.old))) }
+        ensures descriptor { descriptor_of self.new ≡ descriptor_of self.old }
+        ensures content { IfOk result (λ _. content_of self.new ≡ value_set number (with_element (value_at number (entries_of (content_of self.old))) (value_of element)) (content_of self.old)) }
+    {
         let value = self.value_mut_or(number, Value::List(Vec::new(alloc)))?;
-        push_message(value, element)
+        push_item(value, element)
     }
 }
 
-/// Adds a message behind the elements of the list that a value is.
-fn push_message(value: &mut Value, element: DynamicMessage) -> Result<(), AllocError>
+/// Adds a value behind the elements of the list that a value is.
+fn push_item(value: &mut Value, element: Value) -> Result<(), AllocError>
     requires { IsList (value_of value.old) }
-    ensures { IfOk result (λ _. value_of value.new ≡ with_element (Some (value_of value.old)) (MessageValue (content_of element))) }
+    ensures { IfOk result (λ _. value_of value.new ≡ with_element (Some (value_of value.old)) (value_of element)) }
 {
     match mem::replace(value, Value::Bool(false)) {
         Value::List(mut values) => {
@@ -102,9 +117,9 @@ fn push_message(value: &mut Value, element: DynamicMessage) -> Result<(), AllocE
     }
 }
 
-fn push_last(values: &mut Vec<Value>, element: DynamicMessage) -> Result<(), AllocError>
-    ensures { IfOk result (λ _. values.new.items ≡ values.old.items ++ Value.Message element ∷ []) }
+fn push_last(values: &mut Vec<Value>, element: Value) -> Result<(), AllocError>
+    ensures { IfOk result (λ _. values.new.items ≡ values.old.items ++ element ∷ []) }
 {
-    values.push(Value::Message(element))?;
+    values.push(element)?;
     Ok(())
 }

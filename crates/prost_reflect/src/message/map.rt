@@ -10,12 +10,15 @@ ghost use Rattle.prost_reflect_wire.specs.Decoding.{Step, StandsBehindKey};
 ghost use Rattle.prost_reflect_wire.specs.EntryReading.{IsMapped, BodyFault};
 ghost use Rattle.prost_reflect.specs.Contents.{value_set};
 ghost use Rattle.prost_reflect.specs.Known.{known_of, is_known};
-ghost use Rattle.prost_reflect.specs.Maps.{ScalarMap, IsDefaultOf, ReadsEntry, RefusesEntry};
+ghost use Rattle.prost_reflect.specs.Maps.{ScalarMap, IsDefaultOf, IsAbsentValue, ReadsEntry, RefusesEntry};
+ghost use Rattle.prost_reflect.specs.Pools.{pool_rows};
 ghost use Rattle.prost_reflect.specs.Scalars.{plain_kind};
 ghost use Rattle.prost_reflect.specs.Variants.{key_in};
 ghost use Rattle.prost_reflect.specs.View.{key_of, value_of, content_of, descriptor_of};
 
+use crate::descriptor::MessageDescriptor;
 use crate::message::DynamicMessage;
+use crate::message::enums::{first_number, is_stray};
 use crate::message::scalar::scalar_at;
 use crate::value::{MapKey, Value};
 use prost_reflect_tables::TableKind;
@@ -45,8 +48,20 @@ pub(super) fn default_of(alloc: Global, kind: TableKind) -> Value
     }
 }
 
+/// What an entry has where it lacks a value: the first number of an enum, else zero, false or empty.
+fn absent_value(alloc: Global, descriptor: &MessageDescriptor, kind: TableKind) -> Value
+    requires { IsSome (plain_kind kind) }
+    ensures { IsAbsentValue (pool_rows descriptor.now.pool).enums kind result }
+{
+    match kind {
+        TableKind::Enum(place) => Value::EnumNumber(first_number(descriptor, place)),
+        _ => default_of(alloc, kind),
+    }
+}
+
 /// Reads the body of a map's entry whose key and value are of these scalar kinds: the last record of number 1 is the key
-/// and that of number 2 the value, each of which has the kind's default where there is none; others are passed over.
+/// and that of number 2 the value, each of which has the kind's default where there is none; others are passed over. A
+/// number of an enum is read whether the enum declares it or not.
 ///
 /// # Errors
 ///
@@ -54,6 +69,7 @@ pub(super) fn default_of(alloc: Global, kind: TableKind) -> Value
 /// `OutOfMemory` if a growth is refused.
 fn entry_at(
     alloc: Global,
+    descriptor: &MessageDescriptor,
     key_kind: TableKind,
     value_kind: TableKind,
     body: &[u8],
@@ -61,11 +77,11 @@ fn entry_at(
 ) -> Result<(Value, Value), DecodeError>
     requires key { IsSome (plain_kind key_kind) }
     requires value { IsSome (plain_kind value_kind) }
-    ensures ok { IfOk result (λ entry. ReadsEntry levels key_kind value_kind entry.0 entry.1 body.now []) }
-    ensures fault { IfErr result (λ e. e ≢ DecodeError.OutOfMemory → RefusesEntry levels key_kind value_kind e body.now) }
+    ensures ok { IfOk result (λ entry. ReadsEntry (pool_rows descriptor.now.pool).enums levels key_kind value_kind entry.0 entry.1 body.now []) }
+    ensures fault { IfErr result (λ e. e ≢ DecodeError.OutOfMemory → RefusesEntry (pool_rows descriptor.now.pool).enums levels key_kind value_kind e body.now) }
 {
     let mut key = default_of(alloc, key_kind);
-    let mut value = default_of(alloc, value_kind);
+    let mut value = absent_value(alloc, descriptor, value_kind);
     let mut rest = body;
     while !rest.is_empty() {
         let (number, wire_type, after) = decode_key(rest)?;
@@ -115,8 +131,8 @@ pub(super) fn map_key(value: Value) -> MapKey
 }
 
 impl DynamicMessage {
-    /// Reads an entry behind the key of a map field, and puts it into the map. A refusal may leave an empty map where
-    /// there was none.
+    /// Reads an entry behind the key of a map field, and puts it into the map. One whose value is a number that a closed
+    /// enum does not declare becomes an unknown field instead. A refusal may leave an empty map where there was none.
     pub(crate) fn merge_map<'a>(
         &mut self,
         alloc: Global,
@@ -133,7 +149,10 @@ impl DynamicMessage {
         ensures fault { IfErr result (λ e. e ≢ DecodeError.OutOfMemory → StandsBehindKey (content_of self.old) levels number.value wire_type e bytes.now) }
     {
         let (body, rest) = entry_body(wire_type, bytes)?;
-        let (key, value) = entry_at(alloc, kinds.0, kinds.1, body, levels)?;
+        let (key, value) = entry_at(alloc, self.descriptor(), kinds.0, kinds.1, body, levels)?;
+        if is_stray(self.descriptor(), kinds.1, &value) {
+            return self.merge_unknown(alloc, number, wire_type, bytes, levels);
+        }
         self.put_entry(alloc, number.get(), map_key(key), value)?;
         Ok(rest)
     }

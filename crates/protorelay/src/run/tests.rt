@@ -227,8 +227,17 @@ const OLD_LISTS: &str =
 const GROUPS: &str =
     "0a410a07662e70726f746f22360a0147121b0a046974656d18012003280a32072e472e4974656d52046974656d1a140a044974656d120c0a0178180120012805520178";
 
+/// The set of the file `f.proto` in proto2 with `enum E { A = 0; B = 1; }` and `message C { optional E e = 1;
+/// repeated E r = 2 [packed = true]; map<string, E> m = 3; oneof o { E x = 4; int32 y = 5; } }`.
+const NUMBERS: &str =
+    "0ac6010a07662e70726f746f22a7010a014312100a016518012001280e32022e4552016512140a017218022003280e32022e454202100152017212170a016d18032003280b32092e432e4d456e74727952016d12120a017818042001280e32022e454800520178120e0a017918052001280548005201791a380a064d456e74727912100a036b657918012001280952036b657912180a0576616c756518022001280e32022e45520576616c75653a02380142030a016f2a110a014512050a0141100012050a01421001";
+
+/// The set of the file of `package.MyMessage` with `message P { map<string, int32> m = 1; map<int32, MyMessage> q = 2; P p = 3; }`.
+const NESTED_MAPS: &str =
+    "0ae7020a07662e70726f746f12077061636b61676522690a094d794d65737361676512100a03666f6f1801200128055203666f6f12120a0362617218022001280548005203626172122a0a066e657374656418032001280b32122e7061636b6167652e4d794d65737361676552066e6573746564420a0a086f7074696f6e616c22df010a0150121f0a016d18012003280b32112e7061636b6167652e502e4d456e74727952016d121f0a017118022003280b32112e7061636b6167652e502e51456e74727952017112180a017018032001280b320a2e7061636b6167652e505201701a340a064d456e74727912100a036b657918012001280952036b657912140a0576616c7565180220012805520576616c75653a0238011a480a0651456e74727912100a036b657918012001280552036b657912280a0576616c756518022001280b32122e7061636b6167652e4d794d657373616765520576616c75653a023801620670726f746f33";
+
 /// Sets, names and messages of each form of field, and what is printed of them.
-static FORMS: [(&str, &str, &str, &str); 15] = [
+static FORMS: [(&str, &str, &str, &str); 21] = [
     // The records of two messages of one field are those of one message.
     (
         MESSAGES,
@@ -273,6 +282,30 @@ static FORMS: [(&str, &str, &str, &str); 15] = [
     // What an entry lacks is zero, false or empty, and written where it has presence.
     (MAPS, "M", "0a00", "0a00\n"),
     (OLD_MAPS, "M", "0a00", "0a0408001200\n"),
+    // Numbers that the enum does not declare leave a packed record, each as a record of its own.
+    (NUMBERS, "C", "120401070009", "1202010010071009\n"),
+    (NUMBERS, "C", "120107", "1007\n"),
+    // An entry of such a number stays unknown whole, and the map as it was.
+    (
+        NUMBERS,
+        "C",
+        "1a050a016110011a050a01611007",
+        "1a050a016110011a050a01611007\n",
+    ),
+    // The records of an entry's message are those of one message; where none is, it is empty, and written.
+    (
+        NESTED_MAPS,
+        "package.P",
+        "120a08011202080512021042",
+        "12080801120408051042\n",
+    ),
+    (NESTED_MAPS, "package.P", "1200", "12021200\n"),
+    (
+        NESTED_MAPS,
+        "package.P",
+        "12020801120b08ffffffffffffffffff01",
+        "120d08ffffffffffffffffff011200120408011200\n",
+    ),
 ];
 
 #[test]
@@ -285,7 +318,7 @@ fn relays_each_form(rt: HostRuntime) -> Result<(), Fail> {
 }
 
 /// Likewise, and why they are refused.
-static FORM_FAULTS: [(&str, &str, &str, &str); 11] = [
+static FORM_FAULTS: [(&str, &str, &str, &str); 12] = [
     (
         MESSAGES,
         "package.MyMessage",
@@ -302,6 +335,13 @@ static FORM_FAULTS: [(&str, &str, &str, &str); 11] = [
     (MAPS, "M", "0a0212", "refused decode Truncated\n"),
     (MAPS, "M", "0a031201ff", "refused decode Utf8\n"),
     (MAPS, "M", "0c", "refused decode EndGroup\n"),
+    // The message of an entry is a level too many, though none is written.
+    (
+        NESTED_MAPS,
+        "package.P",
+        "1aec011ae9011ae6011ae3011ae0011add011ada011ad7011ad4011ad1011ace011acb011ac8011ac5011ac2011abf011abc011ab9011ab6011ab3011ab0011aad011aaa011aa7011aa4011aa1011a9e011a9b011a98011a95011a92011a8f011a8c011a89011a86011a83011a80011a7e1a7c1a7a1a781a761a741a721a701a6e1a6c1a6a1a681a661a641a621a601a5e1a5c1a5a1a581a561a541a521a501a4e1a4c1a4a1a481a461a441a421a401a3e1a3c1a3a1a381a361a341a321a301a2e1a2c1a2a1a281a261a241a221a201a1e1a1c1a1a1a181a161a141a121a101a0e1a0c1a0a1a081a061a041a021200",
+        "refused decode Depth\n",
+    ),
 ];
 
 #[test]

@@ -1,7 +1,7 @@
 use Rattle.std.proofs.Common.{sym, ◌∙◌}
 use Rattle.std.proofs.lemmas.Result.{IfOk-weaker}
 use Rattle.prost_reflect.proofs.ElementReads.{element_pushed}
-use Rattle.prost_reflect.proofs.message.elements.push_message.Goals as goal
+use Rattle.prost_reflect.proofs.message.elements.push_item.Goals as goal
 
 pub returns : goal.returns
 returns c = IfOk-weaker c.push_last-result.result _ _

@@ -1,0 +1,19 @@
+use Rattle.std.proofs.Common.{ap, map, ◌∙◌}
+use Rattle.std.proofs.lemmas.Result.{IfOk-weaker}
+use Rattle.prost_reflect_wire.specs.Content.{ListValue, values_from, value_at, entries_of}
+use Rattle.prost_reflect.specs.Contents.{value_set}
+use Rattle.prost_reflect.specs.View.{value_of, content_of}
+use Rattle.prost_reflect.proofs.Views.{value_of_list}
+use Rattle.prost_reflect.proofs.ElementReads.{lent_or_empty, with_lent}
+use Rattle.prost_reflect.proofs.message.DynamicMessage.push_value.Goals as goal
+
+pub push_item-requires : goal.push_item-requires
+push_item-requires c = lent_or_empty (value_at c.args.number (entries_of (content_of c.args.self.now))) _ _ c.requires.list
+    (value_of_list c.new.result ∙ ap (λ l. ListValue (values_from (map value_of l))) c.new.ensures.items) c.in_ok-value.ensures.value
+
+pub returns-clause-content : goal.returns-clause-content
+returns-clause-content c = IfOk-weaker c.push_item.result _ _
+    (λ u pushed. c.in_ok-value.ensures.content c.push_item.new.value
+    ∙ ap (λ v. value_set c.args.number v (content_of c.args.self.now)) (pushed ∙ with_lent (value_at c.args.number (entries_of (content_of c.args.self.now))) _ _ _
+    (value_of_list c.new.result ∙ ap (λ l. ListValue (values_from (map value_of l))) c.new.ensures.items) c.in_ok-value.ensures.value))
+    c.push_item.ensures
