@@ -152,8 +152,8 @@ module _ (m : DynamicMessage) (n : ℕ) (key : TableKind) (T : ℕ) (map : Neste
     nested_key_found k c body bytes rest read small front =
         let r : ReadsNestedEntry (levels - 1) key k (empty (schema_of (content_of m)) T) c body [] = moved k c body read in
         let keyed : is_key_kind (ScalarOf r.key_scalar) ≡ true =
-            ap (λ kind. is_key_kind (ScalarOf kind)) (same_kind r.key_plain map.key_plain) ∙ ap is_key_kind (sym map.key_is)
-            ∙ map_keyed (schema_of (content_of m)) map.field map.key_type (field_checked (schema_of (content_of m)) (type_of (content_of m)) n map.field (valid_in m) nested_found) map.form in
+        ap (λ kind. is_key_kind (ScalarOf kind)) (same_kind r.key_plain map.key_plain) ∙ ap is_key_kind (sym map.key_is)
+        ∙ map_keyed (schema_of (content_of m)) map.field map.key_type (field_checked (schema_of (content_of m)) (type_of (content_of m)) n map.field (valid_in m) nested_found) map.form in
         subst (λ w. IsSome (key_in w)) (sym r.key_is)
         (found_key r.key_scalar r.key_read keyed
         (entry_key_valid (allows (schema_of (content_of m)) (levels - 1)) (meaning (schema_of (content_of m)) (levels - 1)) (suc (levels - 1)) r.key_scalar (nested_type T) r.key_read (MessageValue (kept c)) body r.read.read (delimited_bytes body bytes rest small front) keyed))

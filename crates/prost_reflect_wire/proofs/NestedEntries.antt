@@ -68,13 +68,16 @@ module _ (schema : Schema) (n U : ℕ) where
 
   -- no level is left
   pub value_depth : (rest : List ℕ) → NestedValueFault schema 0 n U wires.LengthDelimited errors.Depth rest
-  value_depth rest = λ place f left found form is key closes. Here (left, record {
-    number = n;
-    wire = wires.LengthDelimited;
-    rest = rest;
-    key = key;
-    behind = ap (λ o. opens_level o wires.LengthDelimited) found ∙ needs_nested f.form f.value_type.kind U wires.LengthDelimited form (ap message_of is) ∙ ap (λ kind. one_takes kind wires.LengthDelimited) is;
-  })
+  value_depth rest = λ place f left found form is key closes. Here (
+    left,
+    record {
+      number = n;
+      wire = wires.LengthDelimited;
+      rest = rest;
+      key = key;
+      behind = ap (λ o. opens_level o wires.LengthDelimited) found ∙ needs_nested f.form f.value_type.kind U wires.LengthDelimited form (ap message_of is) ∙ ap (λ kind. one_takes kind wires.LengthDelimited) is;
+    },
+  )
 
   -- the payload is cut short
   pub value_plain : (levels : ℕ) (w : WireType) (e : DecodeError) (rest : List ℕ) → PlainFault e w rest → NestedValueFault schema levels n U w e rest
@@ -131,7 +134,7 @@ module _ (schema : Schema) (k U : ℕ) (key : ScalarKind) where
           let new : Holds c d = value.progress.holds in
           let spelt : DelimitedFront value.body after rest = value.front in
           let records : body (Flat (Len value.body)) ≡ Some value.progress.read.records =
-              ap (λ (o : Option Records). o >>= λ rs. Some (items rs)) (spelled_read (body_of value.progress.read.records) value.body (whole_spelled k c d value.body value.progress.read)) ∙ ap Some (items_body value.progress.read.records) in
+          ap (λ (o : Option Records). o >>= λ rs. Some (items rs)) (spelled_read (body_of value.progress.read.records) value.body (whole_spelled k c d value.body value.progress.read)) ∙ ap Some (items_body value.progress.read.records) in
           record {
             read = entry_more (allows schema k) (meaning schema k) (suc k) (plain_type key) (nested_type U) x x (MessageValue (kept c)) (MessageValue (kept d)) bytes mid rest done.read (record_at n p)
                 (record_front n p mid after rest (subst (λ w. KeyFront n w mid after) value.wire front) (record { front = spelt.front; spelled = spelt.spelled; parts = spelt.parts }))
