@@ -24,6 +24,7 @@ pub mod MapEntries
 pub mod MapMerging
 pub mod MapRows
 mod RepeatedRows
+mod NestedMapWrites
 pub mod ContentChanges
 mod KeptSlots
 pub mod Described

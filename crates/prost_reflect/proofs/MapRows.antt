@@ -35,7 +35,7 @@ use Rattle.prost_reflect.proofs.Described.{found_checked}
 use Rattle.prost_reflect.proofs.ElementReads.{element_target_is}
 use Rattle.prost_reflect.proofs.Views.{value_of_map}
 use Rattle.prost_reflect.proofs.WrittenValues.{is_enum, passing}
-use Rattle.prost_reflect.proofs.WrittenMaps.{PartRow, MapWritten, map_of_kinds}
+use Rattle.prost_reflect.proofs.WrittenMaps.{PartRow, KeyRow, MapWritten, map_of_kinds}
 
 -- the types of a map's keys and values are those of its entry's fields
 pub record ShownMap (rows : TableRows) (f : Field) (key value : FieldRow) : Type 0 where
@@ -106,6 +106,15 @@ module _ (d : MessageDescriptor) (n : ℕ) (row key value : FieldRow) (found : S
     default = ap (schema_default r.default) kind.is;
   }
 
+  -- what is written of the key
+  pub key_row : KeyRow (pool_rows d.pool).enums key (own_type (pool_rows d.pool).enums key)
+  key_row = record {
+    kind = key_named.scalar;
+    part = part_row key key_named;
+    apart = key_apart key_named.scalar (ap is_key_kind (sym key_named.is) ∙ keyed);
+    zero = map_key_default (schema_at d) field (own_type (pool_rows d.pool).enums key) key_named.scalar checked shown.form key_named.is;
+  }
+
   module _ (scalar : names_message value.kind ≡ false) where
     value_kind : NamedKind (pool_rows d.pool).enums value.kind (schema_kind (pool_rows d.pool).enums value.kind value.is_group)
     value_kind = kind_named (pool_rows d.pool).enums value.is_group value.kind (covering.message_kind (pool_rows d.pool).enums value.kind value.is_group ∙ scalar)
@@ -126,22 +135,20 @@ module _ (d : MessageDescriptor) (n : ℕ) (row key value : FieldRow) (found : S
     }
 
     pub map_row_written : (es : List (MapKey × Value)) → passes (field_of (known_of d) n) (λ f. value_valid f (MapValue (pairs_shown es))) ≡ true → MapWritten (known_of d) n (pool_rows d.pool).enums key value es
-    map_row_written es h = map_of_kinds n (pool_rows d.pool).enums key value (own_type (pool_rows d.pool).enums key) (own_type (pool_rows d.pool).enums value) key_named.scalar value_kind.scalar (part_row key key_named) (part_row value value_kind)
-        (key_apart key_named.scalar (ap is_key_kind (sym key_named.is) ∙ keyed))
-        (map_key_default (schema_at d) field (own_type (pool_rows d.pool).enums key) key_named.scalar checked shown.form key_named.is)
+    map_row_written es h = map_of_kinds n (pool_rows d.pool).enums key value (own_type (pool_rows d.pool).enums key) (own_type (pool_rows d.pool).enums value) key_row.kind value_kind.scalar key_row.part (part_row value value_kind) key_row.apart key_row.zero
         (known_of d) field es (sym found) shown.form shown.type (passing (field_of (known_of d) n) field (λ f. value_valid f (MapValue (pairs_shown es))) (sym found) h)
 
 -- the value of a map is one
+pub is_map_value : (f : Field) (key_type : ValueType) (c : contents.Value) → f.form ≡ MapFrom key_type → value_valid f c ≡ true → IsMap c
+is_map_value f key_type (ScalarValue s) form h = absurd (true≢false (sym (and_both _ _ h).0 ∙ ap is_singular form))
+is_map_value f key_type (MessageValue m) form h = absurd (true≢false (sym (and_both _ _ h).0 ∙ ap is_singular form))
+is_map_value f key_type (ListValue vs) form h = absurd (true≢false (sym (and_both _ _ h).0 ∙ ap is_list form))
+is_map_value f key_type (MapValue ps) form h = tt
+
 pub valid_map_value : (d : MessageDescriptor) (n : ℕ) (key value : FieldRow) (c : contents.Value) → MapOfRows d n key value → passes (field_of (known_of d) n) (λ f. value_valid f c) ≡ true → IsMap c
 valid_map_value d n key value c m valid =
     let p = scalar_map d n m.row key value m.found m.parts m.scalar in
-    go p.field p.key_type c p.form (passing (field_of (known_of d) n) p.field (λ f. value_valid f c) p.found valid)
-  where
-    go : (f : Field) (key_type : ValueType) (c : contents.Value) → f.form ≡ MapFrom key_type → value_valid f c ≡ true → IsMap c
-    go f key_type (ScalarValue s) form h = absurd (true≢false (sym (and_both _ _ h).0 ∙ ap is_singular form))
-    go f key_type (MessageValue m) form h = absurd (true≢false (sym (and_both _ _ h).0 ∙ ap is_singular form))
-    go f key_type (ListValue vs) form h = absurd (true≢false (sym (and_both _ _ h).0 ∙ ap is_list form))
-    go f key_type (MapValue ps) form h = tt
+    is_map_value p.field p.key_type c p.form (passing (field_of (known_of d) n) p.field (λ f. value_valid f c) p.found valid)
 
 -- what is written of the value of a map
 pub rows_written : (d : MessageDescriptor) (n : ℕ) (key value : FieldRow) (v : Value) (pairs : BTreeMap MapKey Value) → MapOfRows d n key value → passes (field_of (known_of d) n) (λ f. value_valid f (value_of v)) ≡ true → v ≡ values.Map pairs →

@@ -40,7 +40,7 @@ module _ (enums : List EnumRow) (row : FieldRow) (t : ValueType) (kind : ScalarK
   record_part : (n : ℕ) (s : Scalar) → scalar_record_bytes n (plain_kind row.kind) (ScalarValue s) ≡ short_key n (kind_wire kind) ++ short_plain (written kind s)
   record_part n s = ap (λ o. scalar_record_bytes n o (ScalarValue s)) part.named ∙ ap₂ (λ w p. short_key n w ++ short_plain p) part_alike.wire (part_alike.write s)
 
-  key_part : (s : Scalar) → is_enum (ScalarOf kind) ≡ false → t.default ≡ kind_default kind → scalar_valid kind s ≡ true → key_bytes row (ScalarValue s) ≡ part_bytes t 1 kind s
+  pub key_part : (s : Scalar) → is_enum (ScalarOf kind) ≡ false → t.default ≡ kind_default kind → scalar_valid kind s ≡ true → key_bytes row (ScalarValue s) ≡ part_bytes t 1 kind s
   key_part s apart zero fits =
       ap (λ l. cond (not row.supports_presence && scalar_eq s (zero_like s)) [] l) (record_part 1 s)
       ∙ ap₂ (λ p d. cond (not p && scalar_eq s d) [] (short_key 1 (kind_wire kind) ++ short_plain (written kind s))) (sym part.presence) (zero_of kind s apart fits ∙ sym zero)
@@ -51,7 +51,7 @@ module _ (enums : List EnumRow) (row : FieldRow) (t : ValueType) (kind : ScalarK
       ∙ ap₂ (λ p b. cond (not p && b) [] (short_key 2 (kind_wire kind) ++ short_plain (written kind s))) (sym part.presence) (sym (default_is enums row.kind kind s row.default part.shown fits) ∙ ap (scalar_eq s) (sym part.default))
 
   -- a value of the part's kind is one of the plain kind
-  part_takes : (v : contents.Value) → element_valid (ScalarOf kind) v ≡ true → TakesScalar row.kind v
+  pub part_takes : (v : contents.Value) → element_valid (ScalarOf kind) v ≡ true → TakesScalar row.kind v
   part_takes v h = subst (λ o. IsSomeAnd o (λ k. element_valid (ScalarOf k) v ≡ true)) (sym part.named) (go v h)
     where
       go : (v : contents.Value) → element_valid (ScalarOf kind) v ≡ true → element_valid (ScalarOf part.plain) v ≡ true
@@ -59,6 +59,13 @@ module _ (enums : List EnumRow) (row : FieldRow) (t : ValueType) (kind : ScalarK
       go (MessageValue m) h = absurd (true≢false (sym h))
       go (ListValue vs) h = absurd (true≢false (sym h))
       go (MapValue ps) h = absurd (true≢false (sym h))
+
+-- the row of a map's key, and its type
+pub record KeyRow (enums : List EnumRow) (row : FieldRow) (t : ValueType) : Type 0 where
+  pub kind : ScalarKind
+  pub part : PartRow enums row t kind
+  pub apart : is_enum (ScalarOf kind) ≡ false
+  pub zero : t.default ≡ kind_default kind
 
 -- what the writer of a map needs to know, and what it has to write
 pub record MapWritten (fields : List Field) (n : ℕ) (enums : List EnumRow) (key value_row : FieldRow) (es : List (MapKey × Value)) : Type 0 where

@@ -20,7 +20,9 @@ ghost use Rattle.prost_reflect_wire.specs.Scalar.{EnumNumber};
 ghost use Rattle.prost_reflect.specs.Enums.{first_of};
 ghost use Rattle.prost_reflect.specs.Pools.{pool_rows};
 ghost use Rattle.prost_reflect.specs.Known.{known_of};
-ghost use Rattle.prost_reflect.specs.View.{value_of, content_of, descriptor_of};
+ghost use Rattle.prost_reflect.specs.NestedMaps.{NestedMapOfRows, AreEntries, nested_entry_bytes, nested_pairs_bytes};
+ghost use Rattle.prost_reflect_wire.specs.Content.{ScalarValue, MessageValue};
+ghost use Rattle.prost_reflect.specs.View.{key_of, value_of, content_of, descriptor_of};
 ghost use Rattle.prost_reflect.specs.Scalars.{plain_kind, TakesScalar, scalar_bytes, scalar_record_bytes, kept_scalar_bytes, is_zero, equals, is_default};
 
 use crate::descriptor::MessageDescriptor;
@@ -29,14 +31,15 @@ use crate::message::DynamicMessage;
 use crate::message::defaults::{equals_written, is_repeated};
 use crate::message::enums::first_number;
 use crate::message::list::prepend_list;
-use crate::message::pairs::prepend_map;
+use crate::message::pairs::{prepend_key_part, prepend_map};
 use crate::message::scalar::wire_type_of;
-use crate::value::Value;
+use crate::value::{MapKey, Value};
 use prost_reflect_tables::{FieldTable, TableKind};
 use prost_reflect_wire::{
     BackBuffer, EncodeError, WireType, prepend_fields, sign_extended, zigzag32, zigzag64,
 };
 use std::alloc::Global;
+use std::collections::BTreeMap;
 
 /// Adds the payload of a scalar in front.
 pub(crate) fn prepend_scalar(
@@ -258,7 +261,12 @@ fn prepend_repeated(
     ensures { Prepended result (bytes_of buffer.old) (bytes_of buffer.new) (value_bytes (known_of descriptor.now) number (value_of value.now)) }
 {
     match descriptor.map_parts(field) {
-        Some((key, element)) => prepend_map(buffer, descriptor, number, key, element, value),
+        Some((key, element)) => match element.kind {
+            TableKind::Message(_) => {
+                prepend_nested_map(buffer, descriptor, number, key, element, value)
+            }
+            _ => prepend_map(buffer, descriptor, number, key, element, value),
+        },
         None => prepend_elements(buffer, descriptor, number, field, value),
     }
 }
@@ -306,6 +314,66 @@ fn prepend_messages(
         }
     }
     Ok(())
+}
+
+/// Adds what is kept of the map of a field in front, whose keys have this row and whose values are messages.
+#[cycle(writing)]
+fn prepend_nested_map(
+    buffer: &mut BackBuffer,
+    descriptor: &MessageDescriptor,
+    number: u32,
+    key_field: &FieldTable,
+    value_field: &FieldTable,
+    value: &Value,
+) -> Result<(), EncodeError>
+    requires rows { NestedMapOfRows descriptor.now number (field_row key_field.now) (field_row value_field.now) }
+    requires writable { ValueWritable (known_of descriptor.now) number (value_of value.now) }
+    ensures { Prepended result (bytes_of buffer.old) (bytes_of buffer.new) (value_bytes (known_of descriptor.now) number (value_of value.now)) }
+{
+    match value {
+        Value::Map(pairs) => prepend_entries(buffer, number, key_field, pairs),
+        _ => unreachable!(),
+    }
+}
+
+/// Adds the records of entries in front, in ascending order of their keys.
+#[cycle(writing)]
+fn prepend_entries(
+    buffer: &mut BackBuffer,
+    number: u32,
+    key_field: &FieldTable,
+    pairs: &BTreeMap<MapKey, Value>,
+) -> Result<(), EncodeError>
+    requires { AreEntries (field_row key_field.now).kind pairs.now.entries }
+    ensures { Prepended result (bytes_of buffer.old) (bytes_of buffer.new) (nested_pairs_bytes number (field_row key_field.now) pairs.now.entries) }
+{
+    for (key, value) in pairs.iter().rev() {
+        match value {
+            Value::Message(message) => prepend_entry(buffer, number, key_field, key, message)?,
+            _ => unreachable!(),
+        }
+    }
+    Ok(())
+}
+
+/// Adds the record of an entry in front.
+#[cycle(writing)]
+fn prepend_entry(
+    buffer: &mut BackBuffer,
+    number: u32,
+    key_field: &FieldTable,
+    key: &MapKey,
+    message: &DynamicMessage,
+) -> Result<(), EncodeError>
+    requires key { TakesScalar (field_row key_field.now).kind (ScalarValue (key_of key.now)) }
+    requires encodable { encodable (content_of message.now) ≡ true }
+    ensures { Prepended result (bytes_of buffer.old) (bytes_of buffer.new) (nested_entry_bytes number (field_row key_field.now) (key_of key.now) (MessageValue (content_of message.now))) }
+{
+    let behind = buffer.len();
+    prepend_message(buffer, 2, false, message)?;
+    prepend_key_part(buffer, key_field, key)?;
+    let length = buffer.len() - behind;
+    prepend_length(buffer, number, length)
 }
 
 /// Adds what is kept of a scalar in front: nothing of the default of a field without presence.

@@ -83,7 +83,7 @@ fn is_key_left_out(key: &MapKey, field: &FieldTable) -> bool
 }
 
 /// Adds what an entry writes of its key in front.
-fn prepend_key_part(
+pub(super) fn prepend_key_part(
     buffer: &mut BackBuffer,
     field: &FieldTable,
     key: &MapKey,

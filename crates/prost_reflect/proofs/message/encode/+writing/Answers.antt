@@ -1,4 +1,4 @@
-use Rattle.std.proofs.Common.{rules, ◌≡◌, Some, ap, sym, ◌∙◌, inl, inr, ◌⊎◌, arith, ◌-◌}
+use Rattle.std.proofs.Common.{rules, ◌≡◌, ◌∷◌, ◌++◌, Some, ap, sym, subst, ◌∙◌, inl, inr, ◌⊎◌, arith, ◌-◌}
 use Rattle.std.proofs.lemmas.Result.{err_from_is_err_and}
 use Rattle.prost_reflect_tables.specs.Rows.{field_row}
 use Rattle.prost_reflect_wire.specs.declared.unknown.UnknownFieldSet.{UnknownFieldSet}
@@ -15,8 +15,13 @@ use Rattle.prost_reflect.specs.Known.{known_of}
 use Rattle.prost_reflect.proofs.Merging.{no_message_kind}
 use Rattle.prost_reflect.proofs.WrittenLists.{valid_list_value, row_list_written, takes_same, list_value_bytes, flat_too_long}
 use Rattle.prost_reflect.proofs.RepeatedRows.{listed_form, map_of_rows}
+use Rattle.prost_reflect.proofs.NestedMapWrites.{nested_rows, nested_map_value, nested_rows_written, nested_value_bytes, flat_more, flat_part_too_long, entry_at, entry_shown}
+use Rattle.prost_reflect.specs.NestedMaps.{AreEntries, nested_entry_bytes}
+use Rattle.prost_reflect.proofs.WrittenMaps.{cut_pairs}
+use Rattle.prost_reflect.specs.View.{key_of}
+use Rattle.prost_reflect.specs.declared.value.MapKey.{MapKey}
 use Rattle.prost_reflect.proofs.MapRows.{valid_map_value}
-use Rattle.prost_reflect.proofs.ElementWrites.{row_messages_written, element_at, element_shown, no_element}
+use Rattle.prost_reflect.proofs.ElementWrites.{row_messages_written, element_at, element_shown, element_encodable, no_element}
 use Rattle.prost_reflect.specs.Lists.{element_bytes}
 use Rattle.prost_reflect_wire.specs.Buffer.{bytes_of}
 use Rattle.prost_reflect_wire.proofs.WrittenRecords.{cut_before}
@@ -62,13 +67,18 @@ pub prepend_value-prepend_repeated-requires : goal.prepend_value-prepend_repeate
 prepend_value-prepend_repeated-requires t c =
     (search (rules, the_lemmas), (c.in-Some.ensures.field, (sym c.is_repeated.ensures ∙ c.if-is_repeated.true, c.requires.writable)))
 
+pub prepend_repeated-prepend_nested_map-requires : goal.prepend_repeated-prepend_nested_map-requires
+prepend_repeated-prepend_nested_map-requires t c =
+    let rows = nested_rows c.args.descriptor.now c.args.number (field_row c.args.field.now) (field_row c.in-Some.key.now) (field_row c.in-Some.element.now) c.requires.field c.in-Some.ensures (ap names_message c.in-Message.is) in
+    (search (rules, the_lemmas), (rows, c.requires.writable))
+
 pub prepend_repeated-prepend_map-requires-clause-rows : goal.prepend_repeated-prepend_map-requires-clause-rows
 prepend_repeated-prepend_map-requires-clause-rows t c =
-    map_of_rows c.args.descriptor.now c.args.number (field_row c.args.field.now) c.requires.field c.requires.repeated (field_row c.in-Some.key.now) (field_row c.in-Some.element.now) c.in-Some.ensures
+    map_of_rows c.args.descriptor.now c.args.number (field_row c.args.field.now) c.requires.field c.requires.repeated (field_row c.in-Some.key.now) (field_row c.in-Some.element.now) c.in-Some.ensures (no_message_kind (field_row c.in-Some.element.now).kind c.in_default.not-Message)
 
 pub prepend_repeated-prepend_map-requires-clause-map : goal.prepend_repeated-prepend_map-requires-clause-map
 prepend_repeated-prepend_map-requires-clause-map t c = valid_map_value c.args.descriptor.now c.args.number (field_row c.in-Some.key.now) (field_row c.in-Some.element.now) (value_of c.args.value.now)
-    (map_of_rows c.args.descriptor.now c.args.number (field_row c.args.field.now) c.requires.field c.requires.repeated (field_row c.in-Some.key.now) (field_row c.in-Some.element.now) c.in-Some.ensures) c.requires.writable.valid
+    (map_of_rows c.args.descriptor.now c.args.number (field_row c.args.field.now) c.requires.field c.requires.repeated (field_row c.in-Some.key.now) (field_row c.in-Some.element.now) c.in-Some.ensures (no_message_kind (field_row c.in-Some.element.now).kind c.in_default.not-Message)) c.requires.writable.valid
 
 pub prepend_repeated-prepend_elements-requires : goal.prepend_repeated-prepend_elements-requires
 prepend_repeated-prepend_elements-requires t c =
@@ -137,3 +147,43 @@ prepend_messages-returns-in_err-prepend_message-in-Message t c = let q = err_fro
 pub prepend_messages-unreachable-requires : goal.prepend_messages-unreachable-requires
 prepend_messages-unreachable-requires t c =
     no_element c.index.result.now (element_at c.args.values.now.items (c.loop-index.index - 1) c.index.result.now (omega (arith, c.loop-index-test.true, c.loop-index.auto.index, c.len-index.ensures)) c.index.ensures c.requires) c.in_default.not-Message
+
+pub prepend_nested_map-prepend_entries-requires : goal.prepend_nested_map-prepend_entries-requires
+prepend_nested_map-prepend_entries-requires t c =
+    (search (rules, the_lemmas), (nested_rows_written c.args.descriptor.now c.args.number (field_row c.args.key_field.now) (field_row c.args.value_field.now) c.args.value.now c.requires.rows c.requires.writable c.in-Map.pairs c.in-Map.is).takes)
+
+pub prepend_nested_map-returns : goal.prepend_nested_map-returns
+prepend_nested_map-returns t c =
+    rw (nested_value_bytes c.args.descriptor.now c.args.number (field_row c.args.key_field.now) (field_row c.args.value_field.now) c.args.value.now c.requires.rows c.requires.writable c.in-Map.pairs c.in-Map.is) c.prepend_entries.ensures
+
+pub prepend_entries-prepend_entry-requires : goal.prepend_entries-prepend_entry-requires
+prepend_entries-prepend_entry-requires t c =
+    let e : MapKey × Value = (c.in-Some.key.now, c.in-Some.value.now) in
+    let cut = cut_pairs _ _ _ _ e c.loop-key.invariant.1 c.in-Some.ensures.steps in
+    let taken = entry_at (field_row c.args.key_field.now).kind _ _ e (subst (AreEntries (field_row c.args.key_field.now).kind) cut c.requires) in
+    (search (rules, the_lemmas, cut), (taken.0, element_encodable c.in-Message.message c.in-Some.value.now c.in-Message.is taken.1))
+
+pub prepend_entries-unreachable-requires : goal.prepend_entries-unreachable-requires
+prepend_entries-unreachable-requires t c =
+    let e : MapKey × Value = (c.in-Some.key.now, c.in-Some.value.now) in
+    let cut = cut_pairs _ _ _ _ e c.loop-key.invariant.1 c.in-Some.ensures.steps in
+    let taken = entry_at (field_row c.args.key_field.now).kind _ _ e (subst (AreEntries (field_row c.args.key_field.now).kind) cut c.requires) in
+    no_element c.in-Some.value.now taken.1 c.in_default.not-Message
+
+pub prepend_entries-returns-in_err-prepend_entry-in-Message : goal.prepend_entries-returns-in_err-prepend_entry-in-Message
+prepend_entries-returns-in_err-prepend_entry-in-Message t c = let q = err_from_is_err_and c.from_residual.result c.from_residual.ensures.1 in
+    let e : MapKey × Value = (c.in-Some.key.now, c.in-Some.value.now) in
+    let cut = cut_pairs _ _ _ _ e c.loop-key.invariant.1 c.in-Some.ensures.steps in
+    rw (q.1, q.2) (λ is. flat_part_too_long (λ (e : MapKey × Value). nested_entry_bytes c.args.number (field_row c.args.key_field.now) (key_of e.0) (value_of e.1)) c.args.pairs.now.entries _ c.loop-key.invariant.0 e (bytes_of c.args.buffer.now) (bytes_of c.loop-key.buffer) cut c.loop-key.invariant.2
+    (rw (entry_shown c.args.number (field_row c.args.key_field.now) (key_of c.in-Some.key.now) c.in-Some.value.now c.in-Message.message c.in-Message.is) (c.in_err-prepend_entry-in-Message.ensures is)))
+
+pub prepend_entries-loop-key-preserved : goal.prepend_entries-loop-key-preserved
+prepend_entries-loop-key-preserved t c =
+    let done = c.loop-key.invariant.0 in
+    let e : MapKey × Value = (c.in-Some.key.now, c.in-Some.value.now) in
+    let cut = cut_pairs _ _ _ _ e c.loop-key.invariant.1 c.in-Some.ensures.steps in (
+      e ∷ done,
+      cut,
+      flat_more (λ (e : MapKey × Value). nested_entry_bytes c.args.number (field_row c.args.key_field.now) (key_of e.0) (value_of e.1)) e done (bytes_of c.args.buffer.now) (bytes_of c.loop-key.buffer) _ c.loop-key.invariant.2
+          (c.in_ok-prepend_entry-in-Message.ensures ∙ ap (λ l. l ++ bytes_of c.loop-key.buffer) (sym (entry_shown c.args.number (field_row c.args.key_field.now) (key_of c.in-Some.key.now) c.in-Some.value.now c.in-Message.message c.in-Message.is))),
+    )

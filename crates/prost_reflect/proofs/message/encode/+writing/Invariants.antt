@@ -1,4 +1,9 @@
-use Rattle.std.proofs.Common.{◌≡◌, ◌++◌, drop}
+use Rattle.std.proofs.Common.{◌≡◌, List, ◌++◌, drop}
+use Rattle.std.specs.Iterator.Adapters.{rev_source}
+use Rattle.prost_reflect_tables.specs.Rows.{field_row}
+use Rattle.prost_reflect.specs.NestedMaps.{nested_pairs_bytes}
+use Rattle.prost_reflect.specs.declared.value.MapKey.{MapKey}
+use Rattle.prost_reflect.specs.declared.value.Value.{Value}
 use Rattle.prost_reflect_wire.specs.Buffer.{bytes_of}
 use Rattle.prost_reflect.specs.Known.{known_of}
 use Rattle.prost_reflect.specs.View.{descriptor_of, stored_in}
@@ -13,3 +18,8 @@ invariant-prepend_body-loop-index l = bytes_of l.buffer ≡ entries_bytes (known
 -- the elements from the index on are written
 abbrev pub invariant-prepend_messages-loop-index : goal.invariant-prepend_messages-loop-index
 invariant-prepend_messages-loop-index l = bytes_of l.buffer ≡ elements_bytes l.number l.is_group (drop l.index l.values.items) ++ bytes_of l.fn.buffer
+
+-- the entries behind those that are left are written
+abbrev pub invariant-prepend_entries-loop-key : goal.invariant-prepend_entries-loop-key
+invariant-prepend_entries-loop-key l = (done : List (MapKey × Value)) × (l.pairs.entries ≡ rev_source l.key-iterator ++ done)
+    × (bytes_of l.buffer ≡ nested_pairs_bytes l.number (field_row l.key_field) done ++ bytes_of l.fn.buffer)
