@@ -123,8 +123,8 @@ pub record EmptyElement (m inner : DynamicMessage) (T : ℕ) : Type 0 where
   pub sound : WellStored (content_of inner)
   pub is : content_of inner ≡ empty (schema_of (content_of m)) T
 
-pub empty_element : (m inner : DynamicMessage) (n T : ℕ) (kind : Kind) → NestedList (descriptor_of m) n T kind → message_of kind ≡ Some T → content_of inner ≡ empty (schema_at (descriptor_of m)) T → EmptyElement m inner T
-empty_element m inner n T kind at names is =
+pub empty_element : (m inner : DynamicMessage) (T : ℕ) → content_of inner ≡ empty (schema_at (descriptor_of m)) T → EmptyElement m inner T
+empty_element m inner T is =
     let same : content_of inner ≡ empty (schema_of (content_of m)) T = is ∙ ap (λ s. empty s T) (sym (schema_in m)) in
     record {
       schema_is = ap schema_of same;

@@ -33,6 +33,7 @@ pub mod WrittenValues
 pub mod NestedWrites
 pub mod WrittenMaps
 pub mod ElementReads
+pub mod NestedMaps
 pub mod ElementWrites
 pub mod Encodings
 pub mod Present

@@ -18,7 +18,7 @@ use Rattle.prost_reflect_wire.specs.Edit.{with_field_value}
 use Rattle.prost_reflect_wire.specs.Decoding.{Step, StandsBehindKey}
 use Rattle.prost_reflect_wire.specs.EntryReading.{IsMapped, ScalarEntryTo, BodyFault}
 use Rattle.prost_reflect_wire.proofs.EntryDefaults.{is_undeclared_value}
-use Rattle.prost_reflect_wire.proofs.MapSteps.{FoundMap, StoredMap, stored_map, body_refused, entry_stands}
+use Rattle.prost_reflect_wire.proofs.MapSteps.{FoundMap, mapped_at, body_refused, entry_stands}
 use Rattle.prost_reflect_wire.proofs.ScalarEntries.{field_checked, map_keyed, delimited_bytes, key_read_valid, StaysWhole, scalar_entry_stays, scalar_entry_holds}
 use Rattle.prost_reflect_tables.specs.declared.tables.TableKind.{TableKind}
 use Rattle.prost_reflect_tables.specs.Rows.{EnumRow}
@@ -38,7 +38,7 @@ use Rattle.prost_reflect.proofs.Merging.{known_in, differ_in, valid_in, same_kin
 -- KEYS
 
 -- a scalar of a key's kind is a key
-found_key : (kind : ScalarKind) (s : Scalar) → is_key_kind (ScalarOf kind) ≡ true → scalar_valid kind s ≡ true → IsSome (key_among s)
+pub found_key : (kind : ScalarKind) (s : Scalar) → is_key_kind (ScalarOf kind) ≡ true → scalar_valid kind s ≡ true → IsSome (key_among s)
 found_key kind (scalars.Boolean b) h v = refl
 found_key kind (scalars.I32 z) h v = refl
 found_key kind (scalars.I64 z) h v = refl
@@ -54,7 +54,7 @@ found_key _ (scalars.Bytes x) h v = absurd (true≢false (sym v))
 found_key (Enum first numbers) (scalars.EnumNumber z) h v = absurd (true≢false (sym h))
 found_key _ (scalars.EnumNumber z) h v = absurd (true≢false (sym v))
 
-key_itself : (s t : Scalar) → key_among s ≡ Some t → t ≡ s
+pub key_itself : (s t : Scalar) → key_among s ≡ Some t → t ≡ s
 key_itself (scalars.Boolean b) t h = cc
 key_itself (scalars.I32 z) t h = cc
 key_itself (scalars.I64 z) t h = cc
@@ -90,10 +90,7 @@ module _ (m : DynamicMessage) (n : ℕ) (key value_kind : TableKind) (map : Scal
 
   -- there is a map, or nothing yet
   pub mapped_in : WellStored (content_of m) → IsMapped (value_at n (entries_of (content_of m)))
-  mapped_in sound = go (content_of m) found_in sound
-    where
-      go : (c : Content) → field_of (known (schema_of c) (type_of c)) n ≡ Some map.field → WellStored c → IsMapped (value_at n (entries_of c))
-      go (ContentOf schema T es) found sound = let s : StoredMap schema map.key_type map.field.value_type.kind (value_at n es) = stored_map schema T es sound n map.field map.key_type found map.form in s.mapped
+  mapped_in sound = mapped_at (content_of m) n map.key_type at_map sound
 
   -- the key that was read is a key
   pub key_found : (levels : ℕ) (k v : Value) (body bytes rest : List ℕ) → ReadsEntry (pool_rows (descriptor_of m).pool).enums levels key value_kind k v body [] → AreBytes bytes → DelimitedFront body bytes rest → IsSome (key_in (value_of k))

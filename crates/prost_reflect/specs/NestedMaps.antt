@@ -1,12 +1,14 @@
--- Maps whose values are messages.
+-- Maps whose values are messages: which numbers are those of such a map, what is read of an entry, and what is written.
 use Rattle.std.specs.Prelude.{◌≡◌, ℕ, ◌<◌, true, false, List, ◌++◌, flat_map, length, Some}
 use Rattle.std.specs.List.{AllByRecursion}
+use Rattle.prost_reflect_wire.specs.declared.error.DecodeError.{DecodeError}
 use Rattle.prost_reflect_wire.specs.declared.key.WireType.TheVariants as wires
 use Rattle.prost_reflect_wire.specs.Record.{Len, short_key, short_plain}
 use Rattle.prost_reflect_wire.specs.Scalar.{Scalar, ScalarKind}
-use Rattle.prost_reflect_wire.specs.Schema.{ScalarOf, MessageOf, ValueType, MapFrom, Field, field_of}
+use Rattle.prost_reflect_wire.specs.Schema.{ScalarOf, MessageOf, ValueType, MapFrom, Field, Schema, field_of}
 use Rattle.prost_reflect_wire.specs.Content as content
-use Rattle.prost_reflect_wire.specs.Content.{ScalarValue}
+use Rattle.prost_reflect_wire.specs.Content.{Content, ScalarValue, schema_of, type_of}
+use Rattle.prost_reflect_wire.specs.MessageEntries.{NestedEntryTo, StandsInNestedEntry}
 use Rattle.prost_reflect_tables.specs.declared.tables.TableKind.{TableKind}
 use Rattle.prost_reflect_tables.specs.Rows.{FieldRow}
 use Rattle.prost_reflect_tables.specs.Shown.{schema_field}
@@ -33,6 +35,20 @@ pub record NestedMap (d : MessageDescriptor) (n : ℕ) (key : TableKind) (T : �
   pub key_is : key_type.kind ≡ ScalarOf key_scalar
   pub value_is : field.value_type.kind ≡ MessageOf T
   pub in_range : T < length (pool_rows d.pool).messages
+
+-- The bytes before the rest are records of an entry, which have this key; those of its value made the new content of the old one, which is empty, with so many levels left inside.
+pub record ReadsNestedEntry (levels : ℕ) (key : TableKind) (k : Value) (old new : Content) (bytes rest : List ℕ) : Type 0 where
+  pub key_scalar : ScalarKind
+  pub key_read : Scalar
+  pub key_plain : plain_kind key ≡ Some key_scalar
+  pub key_is : value_of k ≡ ScalarValue key_read
+  pub read : NestedEntryTo (schema_of old) levels (type_of old) key_scalar key_read new bytes rest
+
+-- Why the bytes are no such entry.
+pub record RefusesNestedEntry (schema : Schema) (levels T : ℕ) (key : TableKind) (e : DecodeError) (bytes : List ℕ) : Type 0 where
+  pub key_scalar : ScalarKind
+  pub key_plain : plain_kind key ≡ Some key_scalar
+  pub fault : StandsInNestedEntry schema levels T key_scalar e bytes
 
 -- WRITING
 

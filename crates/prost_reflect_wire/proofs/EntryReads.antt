@@ -25,7 +25,7 @@ use Rattle.prost_reflect_wire.proofs.ScalarFaults.{scalar_stands}
 
 -- ONE RECORD MORE
 
-numbered_last : (n : ℕ) (rs : List Record) (r : Record) → numbered n (rs ++ r ∷ []) ≡ numbered n rs ++ payloads (cond (nat_eq r.number n) (r ∷ []) [])
+pub numbered_last : (n : ℕ) (rs : List Record) (r : Record) → numbered n (rs ++ r ∷ []) ≡ numbered n rs ++ payloads (cond (nat_eq r.number n) (r ∷ []) [])
 numbered_last n rs r = ap payloads (filter_append (has_number n) rs (r ∷ [])) ∙ map_append (λ r. r.payload) _ _
 
 -- a record of the number is its last
@@ -33,10 +33,10 @@ numbered_own : (n : ℕ) (rs : List Record) (r : Record) → nat_eq r.number n �
 numbered_own n rs r own = ap last (numbered_last n rs r ∙ ap (λ b. numbered n rs ++ payloads (cond b (r ∷ []) [])) own) ∙ last_append (numbered n rs) r.payload []
 
 -- a record of another number is not
-numbered_other : (n : ℕ) (rs : List Record) (r : Record) → nat_eq r.number n ≡ false → numbered n (rs ++ r ∷ []) ≡ numbered n rs
+pub numbered_other : (n : ℕ) (rs : List Record) (r : Record) → nat_eq r.number n ≡ false → numbered n (rs ++ r ∷ []) ≡ numbered n rs
 numbered_other n rs r other = numbered_last n rs r ∙ ap (λ b. numbered n rs ++ payloads (cond b (r ∷ []) [])) other ∙ append-nil (numbered n rs)
 
-last_read : (kind : ScalarKind) (d : Scalar) (n : ℕ) (rs : List Record) (r : Record) (v : Scalar) → nat_eq r.number n ≡ true → elem kind r.payload ≡ Some v → last_or kind d (numbered n (rs ++ r ∷ [])) ≡ v
+pub last_read : (kind : ScalarKind) (d : Scalar) (n : ℕ) (rs : List Record) (r : Record) (v : Scalar) → nat_eq r.number n ≡ true → elem kind r.payload ≡ Some v → last_or kind d (numbered n (rs ++ r ∷ [])) ≡ v
 last_read kind d n rs r v own read =
     ap (λ (o : Option Payload). elim (o >>= elem kind) [ None ↦ d | Some w ↦ w ]) (numbered_own n rs r own) ∙ ap (λ (o : Option Scalar). elim o [ None ↦ d | Some w ↦ w ]) read
 
@@ -61,13 +61,13 @@ module _ (allow : AllowsInside) (inner : MeansInside) (levels : ℕ) (key value_
 
 -- SCALAR KEYS AND VALUES
 
-one_two : (n : ℕ) → nat_eq n 1 ≡ true → nat_eq n 2 ≡ false
+pub one_two : (n : ℕ) → nat_eq n 1 ≡ true → nat_eq n 2 ≡ false
 one_two n e = ap (λ m. nat_eq m 2) (eqb-true n 1 e)
 
-two_one : (n : ℕ) → nat_eq n 2 ≡ true → nat_eq n 1 ≡ false
+pub two_one : (n : ℕ) → nat_eq n 2 ≡ true → nat_eq n 1 ≡ false
 two_one n e = ap (λ m. nat_eq m 1) (eqb-true n 2 e)
 
-no_group : {n : ℕ} → ◌≡◌ {A = Option ℕ} None (Some n) → ⊥
+pub no_group : {n : ℕ} → ◌≡◌ {A = Option ℕ} None (Some n) → ⊥
 no_group e = cc
 
 module _ (levels : ℕ) (key value_kind : ScalarKind) where

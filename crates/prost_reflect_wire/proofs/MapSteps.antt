@@ -10,7 +10,7 @@ use Rattle.prost_reflect_wire.specs.Record.{Len, Records, Payload, Flat, items, 
 use Rattle.prost_reflect_wire.specs.Front.{DelimitedFront, RecordsFront, PlainFault}
 use Rattle.prost_reflect_wire.specs.Scalar.{Scalar, scalar_lt, scalar_eq}
 use Rattle.prost_reflect_wire.specs.Schema.{Kind, ValueType, MapFrom, Field, Schema, known, field_of, is_singular, numbers_differ, passes}
-use Rattle.prost_reflect_wire.specs.Content.{Content, ContentOf, Entries, Value, ScalarValue, MessageValue, ListValue, MapValue, Pairs, NoPairs, Pair, value_at, slot_at, changed, schema_of, type_of, value_ordered, pairs_ordered}
+use Rattle.prost_reflect_wire.specs.Content.{Content, ContentOf, Entries, Value, ScalarValue, MessageValue, ListValue, MapValue, Pairs, NoPairs, Pair, value_at, slot_at, changed, schema_of, type_of, entries_of, value_ordered, pairs_ordered}
 use Rattle.prost_reflect_wire.specs.Grammar.{AllowsInside, body, or_none, is_stray_entry, value_payloads, stray_payloads, has_level, in_entry_allowed, field_allowed}
 use Rattle.prost_reflect_wire.specs.Meaning.{MeansInside, entry_key, entry_value, put, present_map, pairs_in, value_joined}
 use Rattle.prost_reflect_wire.specs.Typing.{fit_test, alone_test, kind_takes, element_valid, pairs_valid, is_repeated, value_valid, value_passes, pairs_pass, kind_for, ValueTyped, PairsTyped, kept_inside, kept_pairs, WellStored, ValueStored}
@@ -177,13 +177,19 @@ module _ (schema : Schema) (T : ℕ) (es : Entries) (sound : WellStored (Content
       records : body (Flat (Len inside_bytes)) ≡ Some done.records
       records = entry_records (inside schema k) (below schema k) k key f.value_type x (kept_inside v) inside_bytes done
 
--- REFUSALS
+-- A FIELD
 
 -- the field of a number is a map
 pub record FoundMap (schema : Schema) (T n : ℕ) (key : ValueType) : Type 0 where
   pub field : Field
   pub found : field_of (known schema T) n ≡ Some field
   pub form : field.form ≡ MapFrom key
+
+-- at the number of a map stands a map, or nothing yet
+pub mapped_at : (c : Content) (n : ℕ) (key : ValueType) → FoundMap (schema_of c) (type_of c) n key → WellStored c → IsMapped (value_at n (entries_of c))
+mapped_at (ContentOf schema T es) n key at sound = let s : StoredMap schema key at.field.value_type.kind (value_at n es) = stored_map schema T es sound n at.field key at.found at.form in s.mapped
+
+-- REFUSALS
 
 module _ (c : Content) (n : ℕ) (key : ValueType) (at : FoundMap (schema_of c) (type_of c) n key) where
   map_end : (levels : ℕ) (rest : List ℕ) → StandsBehindKey c levels n wires.EndGroup errors.EndGroup rest

@@ -211,14 +211,14 @@ or_false : (b : Bool) → (b || false) ≡ b
 or_false true = refl
 or_false false = refl
 
-takes_nested : (form : FieldForm) (kind : Kind) (U : ℕ) (w : WireType) → is_map form ≡ false → message_of kind ≡ Some U → takes form kind w ≡ one_takes kind w
+pub takes_nested : (form : FieldForm) (kind : Kind) (U : ℕ) (w : WireType) → is_map form ≡ false → message_of kind ≡ Some U → takes form kind w ≡ one_takes kind w
 takes_nested Singular kind U w form e = refl
 takes_nested (Repeated packed) (ScalarOf kind) U w form e = cc
 takes_nested (Repeated packed) (MessageOf V) U w form e = or_false (one_takes (MessageOf V) w)
 takes_nested (Repeated packed) (GroupOf V) U w form e = or_false (one_takes (GroupOf V) w)
 takes_nested (MapFrom key) kind U w form e = absurd (true≢false form)
 
-needs_nested : (form : FieldForm) (kind : Kind) (U : ℕ) (w : WireType) → is_map form ≡ false → message_of kind ≡ Some U → needs_level form kind w ≡ one_takes kind w
+pub needs_nested : (form : FieldForm) (kind : Kind) (U : ℕ) (w : WireType) → is_map form ≡ false → message_of kind ≡ Some U → needs_level form kind w ≡ one_takes kind w
 needs_nested (MapFrom key) kind U w form e = absurd (true≢false form)
 needs_nested Singular (ScalarOf kind) U w form e = cc
 needs_nested Singular (MessageOf V) U w form e = refl

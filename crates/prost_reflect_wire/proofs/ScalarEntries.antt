@@ -55,12 +55,20 @@ delimited_bytes body bytes rest small front =
 
 -- WHAT IS READ FITS
 
+-- the key of an entry, whatever its value is
+pub entry_key_valid : (allow : AllowsInside) (inner : MeansInside) (levels : ℕ) (key : ScalarKind) (value_type : ValueType) (k : Scalar) (v : Value) (bytes : List ℕ) → EntryTo allow inner levels (plain_type key) value_type k v bytes [] → AreBytes bytes → is_key_kind (ScalarOf key) ≡ true → scalar_valid key k ≡ true
+entry_key_valid allow inner levels key value_type k v bytes done small keyed =
+    ap (scalar_valid key) (sym done.key_is) ∙ last_or_valid key (kind_default key) (numbered 1 done.records) (default_valid_key key keyed) (numbered_valid 1 done.records spelt) (λ p e. key_stays key p keyed)
+  where
+    spelt : valid (body_of done.records) ≡ true
+    spelt = let f : RecordsFront (body_of done.records) bytes [] = done.front in spelled_valid (body_of done.records) f.front (bytes_front f.front [] (subst AreBytes f.parts small)) f.spelled
+
 module _ (levels : ℕ) (key value_kind : ScalarKind) (k v : Scalar) (bytes : List ℕ) (done : ScalarEntryTo levels key value_kind k v bytes []) (small : AreBytes bytes) where
   spelt : valid (body_of done.records) ≡ true
   spelt = let f : RecordsFront (body_of done.records) bytes [] = done.front in spelled_valid (body_of done.records) f.front (bytes_front f.front [] (subst AreBytes f.parts small)) f.spelled
 
   pub key_read_valid : is_key_kind (ScalarOf key) ≡ true → scalar_valid key k ≡ true
-  key_read_valid keyed = ap (scalar_valid key) (sym done.key_is) ∙ last_or_valid key (kind_default key) (numbered 1 done.records) (default_valid_key key keyed) (numbered_valid 1 done.records spelt) (λ p e. key_stays key p keyed)
+  key_read_valid keyed = entry_key_valid nothing_inside (empty_inside []) levels key (plain_type value_kind) k (ScalarValue v) bytes done small keyed
 
   -- the value is that of the last record of number 2
   pub value_left : last_or value_kind (kind_default value_kind) (numbered 2 done.records) ≡ v

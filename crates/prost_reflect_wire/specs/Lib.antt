@@ -18,6 +18,7 @@ pub mod Storing
 pub mod Decoding
 pub mod Fault
 pub mod EntryReading
+pub mod MessageEntries
 pub mod FieldLaws
 pub mod Laws
 pub mod LawsOfFaults

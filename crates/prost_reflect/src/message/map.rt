@@ -29,7 +29,7 @@ use std::alloc::{AllocError, Global};
 use std::collections::BTreeMap;
 
 /// Zero, false or empty, by the scalar kind.
-fn default_of(alloc: Global, kind: TableKind) -> Value
+pub(super) fn default_of(alloc: Global, kind: TableKind) -> Value
     requires { IsSome (plain_kind kind) }
     ensures { IsDefaultOf kind result }
 {
@@ -105,7 +105,7 @@ fn entry_at(
 /// # Errors
 ///
 /// `EndGroup` at an end key, `WireType` if the record is not delimited, `Truncated` and `Varint` as `delimited_at`.
-fn entry_body(wire_type: WireType, bytes: &[u8]) -> Result<(&[u8], &[u8]), DecodeError>
+pub(super) fn entry_body(wire_type: WireType, bytes: &[u8]) -> Result<(&[u8], &[u8]), DecodeError>
     ensures ok { IfOk result (λ x. (wire_type ≡ wires.LengthDelimited) × DelimitedFront x.0.now bytes.now x.1.now) }
     ensures fault { IfErr result (λ e. BodyFault e wire_type bytes.now) }
 {
@@ -120,7 +120,7 @@ fn entry_body(wire_type: WireType, bytes: &[u8]) -> Result<(&[u8], &[u8]), Decod
 }
 
 /// The value of a key kind as a key.
-fn map_key(value: Value) -> MapKey
+pub(super) fn map_key(value: Value) -> MapKey
     requires { IsSome (key_in (value_of value)) }
     ensures { key_in (value_of value) ≡ Some (key_of result) }
 {
@@ -159,7 +159,7 @@ impl DynamicMessage {
 
     /// Puts an entry into the map at the number of its field, in the place of one whose key is equal. A refused growth
     /// leaves the map as it was, or empty where there was none.
-    fn put_entry(
+    pub(super) fn put_entry(
         &mut self,
         alloc: Global,
         number: u32,

@@ -1,4 +1,6 @@
-use Rattle.std.proofs.Common.{◌≡◌, subst, false, nat_eq, refl, ap, sym, ◌∙◌, ◌-◌, length, true≢false}
+use Rattle.std.proofs.Common.{◌≡◌, ◌≤◌, subst, false, nat_eq, refl, ap, sym, ◌∙◌, ◌-◌, length, true≢false, arith}
+use Rattle.std.proofs.lemmas.Bool.{eq-eqb, ne_eqb}
+use Rattle.prost_reflect.specs.View.{key_of}
 use Rattle.std.proofs.Common.{rules}
 use Rattle.std.proofs.lemmas.Result.{err_from_is_err_and, IfOk-weaker, IfErr-weaker}
 use Rattle.prost_reflect_wire.specs.Content.{MessageValue, empty, value_at, entries_of}
@@ -13,7 +15,12 @@ use Rattle.prost_reflect_wire.proofs.Progressing.{progress_start, progress_step,
 use Rattle.prost_reflect.proofs.NestedReads.{lent_message, held_message, nested_refused, payload_refused, message_read_in, group_read_in, message_refused_in, group_refused_in, found_refused, inside_refused, in_group_refused, one_less}
 use Rattle.prost_reflect.proofs.ElementReads.{found_element, list_or_none, empty_element, element_step, group_element_step}
 use Rattle.prost_reflect_wire.proofs.MessageSteps.{nested_plain}
+use Rattle.prost_reflect_wire.proofs.NestedEntries.{value_plain}
+use Rattle.prost_reflect_wire.proofs.ByteLists.{bytes_below}
+use Rattle.prost_reflect_wire.specs.Content.{MapValue, schema_of, type_of}
+use Rattle.prost_reflect_wire.specs.Meaning.{put, pairs_in}
 use Rattle.prost_reflect.specs.Lists.{with_element}
+use Rattle.prost_reflect.proofs.NestedMaps.{value_not_here, value_not_inside, nested_start, nested_sound, nested_no_key_there, nested_key_there, nested_value_there, nested_other_there, nested_no_key_value, nested_no_value, nested_no_other, nested_mapped, nested_key_found, nested_entry_set, nested_entry_fault, nested_body_fault, nested_no_level}
 use Rattle.prost_reflect.proofs.message.DynamicMessage.+reading.Goals as goal
 
 pub merge_records-loop-rest-init : goal.merge_records-loop-rest-init
@@ -144,13 +151,13 @@ merge_message_element-returns-in_err-body-clause-fault t c = let p = err_from_is
 
 pub merge_message_element-merge_records-requires : goal.merge_message_element-merge_records-requires
 merge_message_element-merge_records-requires t c =
-    let fresh = empty_element c.args.self.now c.in_ok-element.element c.args.number.value c.args.place (MessageOf c.args.place) c.requires.field refl
+    let fresh = empty_element c.args.self.now c.in_ok-element.element c.args.place
     (c.in_ok-element.ensures ∙ ap (λ d. empty (schema_at d) c.args.place) c.descriptor.ensures) in
     (search rules, fresh.sound)
 
 pub merge_message_element-returns-in_err-merge_records-clause-fault : goal.merge_message_element-returns-in_err-merge_records-clause-fault
 merge_message_element-returns-in_err-merge_records-clause-fault t c =
-    let fresh = empty_element c.args.self.now c.in_ok-element.element c.args.number.value c.args.place (MessageOf c.args.place) c.requires.field refl
+    let fresh = empty_element c.args.self.now c.in_ok-element.element c.args.place
     (c.in_ok-element.ensures ∙ ap (λ d. empty (schema_at d) c.args.place) c.descriptor.ensures) in
     let p = err_from_is_err_and c.from_residual-in_err-merge_records.result c.from_residual-in_err-merge_records.ensures.1 in
     rw (p.1, p.2, c.in_ok-check_nested.ensures.wire) (λ ne. inside_refused c.args.self.now c.in_ok-element.element c.args.number.value c.args.place fresh.schema_is fresh.type_is c.args.levels c.in_ok-check_nested.ensures.levels _
@@ -161,7 +168,7 @@ merge_message_element-push_element-requires-clause-list t c = rw c.get.ensures.v
 
 pub merge_message_element-returns-clause-ok : goal.merge_message_element-returns-clause-ok
 merge_message_element-returns-clause-ok t c =
-    let fresh = empty_element c.args.self.now c.in_ok-element.element c.args.number.value c.args.place (MessageOf c.args.place) c.requires.field refl
+    let fresh = empty_element c.args.self.now c.in_ok-element.element c.args.place
     (c.in_ok-element.ensures ∙ ap (λ d. empty (schema_at d) c.args.place) c.descriptor.ensures) in
     rw (c.in_ok-check_nested.ensures.wire, sym (one_less c.args.levels c.in_ok-check_nested.ensures.levels))
     (element_step c.args.self.now c.in_ok-element.element c.merge_records.new.self c.push_element.new.self c.args.number.value c.args.place (c.args.levels - 1) c.requires.sound fresh
@@ -175,13 +182,13 @@ merge_group_element-returns-in_err-check_nested-clause-fault t c = let p = err_f
 
 pub merge_group_element-merge_to_end-requires : goal.merge_group_element-merge_to_end-requires
 merge_group_element-merge_to_end-requires t c =
-    let fresh = empty_element c.args.self.now c.in_ok-element.element c.args.number.value c.args.place (GroupOf c.args.place) c.requires.field refl
+    let fresh = empty_element c.args.self.now c.in_ok-element.element c.args.place
     (c.in_ok-element.ensures ∙ ap (λ d. empty (schema_at d) c.args.place) c.descriptor.ensures) in
     (search rules, fresh.sound)
 
 pub merge_group_element-returns-in_err-rest-clause-fault : goal.merge_group_element-returns-in_err-rest-clause-fault
 merge_group_element-returns-in_err-rest-clause-fault t c =
-    let fresh = empty_element c.args.self.now c.in_ok-element.element c.args.number.value c.args.place (GroupOf c.args.place) c.requires.field refl
+    let fresh = empty_element c.args.self.now c.in_ok-element.element c.args.place
     (c.in_ok-element.ensures ∙ ap (λ d. empty (schema_at d) c.args.place) c.descriptor.ensures) in
     let p = err_from_is_err_and c.from_residual-in_err-rest.result c.from_residual-in_err-rest.ensures.1 in
     rw (p.1, p.2, c.in_ok-check_nested.ensures.wire) (λ ne. in_group_refused c.args.self.now c.in_ok-element.element c.args.number.value c.args.place fresh.schema_is fresh.type_is c.args.levels c.in_ok-check_nested.ensures.levels _
@@ -192,9 +199,88 @@ merge_group_element-push_element-requires-clause-list t c = rw c.get.ensures.val
 
 pub merge_group_element-returns-clause-ok : goal.merge_group_element-returns-clause-ok
 merge_group_element-returns-clause-ok t c =
-    let fresh = empty_element c.args.self.now c.in_ok-element.element c.args.number.value c.args.place (GroupOf c.args.place) c.requires.field refl
+    let fresh = empty_element c.args.self.now c.in_ok-element.element c.args.place
     (c.in_ok-element.ensures ∙ ap (λ d. empty (schema_at d) c.args.place) c.descriptor.ensures) in
     rw (c.in_ok-check_nested.ensures.wire, sym (one_less c.args.levels c.in_ok-check_nested.ensures.levels))
     (group_element_step c.args.self.now c.in_ok-element.element c.merge_to_end.new.self c.push_element.new.self c.args.number.value c.args.place (c.args.levels - 1) c.requires.sound fresh
     (c.in_ok-push_element.ensures.content ∙ ap (λ n. value_set n (with_element (value_at n (entries_of (content_of c.args.self.now))) (MessageValue (content_of c.merge_to_end.new.self))) (content_of c.args.self.now)) c.get.ensures.value)
     c.args.bytes.now c.in_ok-rest.rest.now c.requires.field c.in_ok-rest.ensures.ok)
+
+pub merge_entry_value-returns-in_err-check_nested-clause-fault : goal.merge_entry_value-returns-in_err-check_nested-clause-fault
+merge_entry_value-returns-in_err-check_nested-clause-fault t c = let p = err_from_is_err_and c.from_residual.result c.from_residual.ensures.1 in
+    rw (p.1, p.2) (λ ne. value_not_here (schema_of (content_of c.args.self.now)) c.args.levels 2 (type_of (content_of c.args.self.now)) c.args.wire_type _ c.args.bytes.now c.in_err-check_nested.ensures.fault)
+
+pub merge_entry_value-returns-in_err-body-clause-fault : goal.merge_entry_value-returns-in_err-body-clause-fault
+merge_entry_value-returns-in_err-body-clause-fault t c = let p = err_from_is_err_and c.from_residual-in_err-body.result c.from_residual-in_err-body.ensures.1 in
+    rw (p.1, p.2, c.in_ok-check_nested.ensures.wire) (λ ne. value_plain (schema_of (content_of c.args.self.now)) 2 (type_of (content_of c.args.self.now)) c.args.levels wires.LengthDelimited _ c.args.bytes.now c.in_err-body.ensures.fault)
+
+pub merge_entry_value-returns-in_err-merge_records-clause-fault : goal.merge_entry_value-returns-in_err-merge_records-clause-fault
+merge_entry_value-returns-in_err-merge_records-clause-fault t c = let p = err_from_is_err_and c.from_residual-in_err-merge_records.result c.from_residual-in_err-merge_records.ensures.1 in
+    rw (p.1, p.2) (λ ne. value_not_inside (schema_of (content_of c.args.self.now)) c.args.levels 2 (type_of (content_of c.args.self.now)) c.in_ok-check_nested.ensures.levels c.args.wire_type _ c.in_ok-body.body.now c.args.bytes.now c.in_ok-body.rest.now
+    c.in_ok-check_nested.ensures.wire c.in_ok-body.ensures.ok (c.in_err-merge_records.ensures.fault ne))
+
+pub merge_entry_body-loop-rest-init : goal.merge_entry_body-loop-rest-init
+merge_entry_body-loop-rest-init t c = nested_start _ _ _ _ _ c.requires.empty c.default_of-key.ensures
+
+pub merge_entry_body-returns-in_err-number-clause-fault : goal.merge_entry_body-returns-in_err-number-clause-fault
+merge_entry_body-returns-in_err-number-clause-fault t c = let p = err_from_is_err_and c.from_residual.result c.from_residual.ensures.1 in
+    let some : nat_eq (length c.loop-rest.rest.now) 0 ≡ false = sym c.is_empty.ensures ∙ c.loop-rest-test.true in
+    rw (p.1, p.2) (λ ne. nested_no_key_there _ c.requires.some _ _ _ _ _ _ c.loop-rest.invariant _ (λ none. true≢false (sym (ap (λ bytes. nat_eq (length bytes) 0) none) ∙ some)) c.in_err-number.ensures.fault)
+
+pub merge_entry_body-returns-in_err-read-clause-fault : goal.merge_entry_body-returns-in_err-read-clause-fault
+merge_entry_body-returns-in_err-read-clause-fault t c = let p = err_from_is_err_and c.from_residual-in_err-read.result c.from_residual-in_err-read.ensures.1 in
+    rw (p.1, p.2) (λ ne. nested_no_key_value _ c.requires.some _ _ _ _ _ _ c.loop-rest.invariant _ _ _ c.in_ok-number.ensures.ok _ (eq-eqb _ 1 (sym c.get.ensures.value ∙ c.if-get-eq1.true)) (c.in_err-read.ensures.fault ne))
+
+pub merge_entry_body-loop-rest-preserved-then-get-eq1 : goal.merge_entry_body-loop-rest-preserved-then-get-eq1
+merge_entry_body-loop-rest-preserved-then-get-eq1 t c =
+    nested_key_there _ c.requires.some _ _ _ _ _ _ c.loop-rest.invariant _ _ _ c.in_ok-number.ensures.ok _ _ (eq-eqb _ 1 (sym c.get.ensures.value ∙ c.if-get-eq1.true)) c.in_ok-read.ensures.ok
+
+pub merge_entry_body-returns-in_err-rest-clause-fault : goal.merge_entry_body-returns-in_err-rest-clause-fault
+merge_entry_body-returns-in_err-rest-clause-fault t c = let p = err_from_is_err_and c.from_residual-in_err-rest.result c.from_residual-in_err-rest.ensures.1 in
+    rw (p.1, p.2) (λ ne. nested_no_value _ c.requires.some _ _ _ _ _ _ c.loop-rest.invariant _ _ _ c.in_ok-number.ensures.ok _ (eq-eqb _ 2 (sym c.get-else-get-eq1.ensures.value ∙ c.if-get-eq2.true)) (c.in_err-rest.ensures.fault ne))
+
+pub merge_entry_body-loop-rest-preserved-then-get-eq2 : goal.merge_entry_body-loop-rest-preserved-then-get-eq2
+merge_entry_body-loop-rest-preserved-then-get-eq2 t c =
+    nested_value_there _ c.requires.some _ _ _ _ _ _ c.loop-rest.invariant _ _ _ c.in_ok-number.ensures.ok _ _ (eq-eqb _ 2 (sym c.get-else-get-eq1.ensures.value ∙ c.if-get-eq2.true)) c.in_ok-rest.ensures.ok
+
+pub merge_entry_body-returns-in_err-rest-2-clause-fault : goal.merge_entry_body-returns-in_err-rest-2-clause-fault
+merge_entry_body-returns-in_err-rest-2-clause-fault t c = let p = err_from_is_err_and c.from_residual-in_err-rest-2.result c.from_residual-in_err-rest-2.ensures.1 in
+    rw (p.1, p.2) (λ ne. nested_no_other _ c.requires.some _ _ _ _ _ _ c.loop-rest.invariant _ _ _ c.in_ok-number.ensures.ok _ (ne_eqb _ 1 (λ is. c.if-get-eq1.false (c.get.ensures.value ∙ is)))
+    (ne_eqb _ 2 (λ is. c.if-get-eq2.false (c.get-else-get-eq1.ensures.value ∙ is))) c.in_err-rest-2.ensures.fault)
+
+pub merge_entry_body-loop-rest-preserved : goal.merge_entry_body-loop-rest-preserved
+merge_entry_body-loop-rest-preserved t c =
+    nested_other_there _ c.requires.some _ _ _ _ _ _ c.loop-rest.invariant _ _ _ c.in_ok-number.ensures.ok _ (ne_eqb _ 1 (λ is. c.if-get-eq1.false (c.get.ensures.value ∙ is)))
+    (ne_eqb _ 2 (λ is. c.if-get-eq2.false (c.get-else-get-eq1.ensures.value ∙ is))) c.in_ok-rest-2.ensures.ok
+
+pub merge_entry-returns-in_err-body-clause-fault : goal.merge_entry-returns-in_err-body-clause-fault
+merge_entry-returns-in_err-body-clause-fault t c = let p = err_from_is_err_and c.from_residual.result c.from_residual.ensures.1 in
+    rw (p.1, p.2) (λ ne. nested_body_fault c.args.self.now _ _ _ c.requires.field _ _ _ _ c.in_err-body.ensures.fault)
+
+pub merge_entry-returns-then-levels-eq0-clause-fault : goal.merge_entry-returns-then-levels-eq0-clause-fault
+merge_entry-returns-then-levels-eq0-clause-fault t c = λ ne. nested_no_level c.args.self.now _ _ _ c.requires.field c.args.levels c.args.wire_type c.args.bytes.now c.if-levels-eq0.true c.in_ok-body.ensures.ok.0
+
+pub merge_entry-returns-in_err-read-clause-fault : goal.merge_entry-returns-in_err-read-clause-fault
+merge_entry-returns-in_err-read-clause-fault t c =
+    let fresh = empty_element c.args.self.now c.in_ok-value.value c.args.place (c.in_ok-value.ensures ∙ ap (λ d. empty (schema_at d) c.args.place) c.descriptor.ensures) in
+    let some : 1 ≤ c.args.levels = omega (arith, c.if-levels-eq0.false) in
+    let p = err_from_is_err_and c.from_residual-in_err-read.result c.from_residual-in_err-read.ensures.1 in
+    rw (p.1, p.2) (λ ne. nested_entry_fault c.args.self.now _ _ _ c.requires.field c.in_ok-value.value fresh c.args.levels some c.args.wire_type _ c.in_ok-body.body.now c.args.bytes.now c.in_ok-body.rest.now c.in_ok-body.ensures.ok.0 c.in_ok-body.ensures.ok.1 (c.in_err-read.ensures.fault ne))
+
+pub merge_entry-map_key-requires : goal.merge_entry-map_key-requires
+merge_entry-map_key-requires t c =
+    let fresh = empty_element c.args.self.now c.in_ok-value.value c.args.place (c.in_ok-value.ensures ∙ ap (λ d. empty (schema_at d) c.args.place) c.descriptor.ensures) in
+    let some : 1 ≤ c.args.levels = omega (arith, c.if-levels-eq0.false) in
+    nested_key_found c.args.self.now _ _ _ c.requires.field c.in_ok-value.value fresh c.args.levels some c.in_ok-read.read (content_of c.merge_entry_body.new.self) _ _ _ c.in_ok-read.ensures.ok (bytes_below _ c.type_inv.bytes) c.in_ok-body.ensures.ok.1
+
+pub merge_entry-put_entry-requires-clause-mapped : goal.merge_entry-put_entry-requires-clause-mapped
+merge_entry-put_entry-requires-clause-mapped t c = rw c.get.ensures.value (nested_mapped c.args.self.now _ _ _ c.requires.field c.requires.sound)
+
+pub merge_entry-returns-clause-ok : goal.merge_entry-returns-clause-ok
+merge_entry-returns-clause-ok t c =
+    let fresh = empty_element c.args.self.now c.in_ok-value.value c.args.place (c.in_ok-value.ensures ∙ ap (λ d. empty (schema_at d) c.args.place) c.descriptor.ensures) in
+    let some : 1 ≤ c.args.levels = omega (arith, c.if-levels-eq0.false) in
+    nested_entry_set c.args.self.now _ _ _ c.requires.field c.in_ok-value.value fresh c.args.levels some c.put_entry.new.self c.args.wire_type c.in_ok-read.read c.map_key.result (content_of c.merge_entry_body.new.self) _ _ _ c.requires.sound (bytes_below _ c.type_inv.bytes)
+    c.in_ok-read.ensures.ok c.map_key.ensures c.in_ok-body.ensures.ok.0 c.in_ok-body.ensures.ok.1
+    ((rw c.get.ensures.value at c.in_ok-put_entry.ensures.content)
+    ∙ ap (λ v. value_set c.args.number.value (MapValue (put (key_of c.map_key.result) v (pairs_in (value_at c.args.number.value (entries_of (content_of c.args.self.now)))))) (content_of c.args.self.now)) (value_of_message c.merge_entry_body.new.self))
