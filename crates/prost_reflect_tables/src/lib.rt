@@ -19,18 +19,17 @@ mod numbers;
 mod options;
 mod references;
 mod tables;
-#[cfg(test)]
-mod tests;
 
 pub use all_checks::check;
 pub use builder::build;
+pub use defaults::written_default;
 pub use error::PoolError;
 pub use examples::{
     checking, contents_and_tables, defaults_read, defaults_refused, linking, shown_tables,
     tables_not_linked,
 };
 pub use flatten::{Definition, Flat, FlatEnum, FlatMessage, FlatService, flattened};
-pub use index::Index;
+pub use index::{Index, indexed};
 pub use laws::{equal_files, files_equality, tables_equality};
 pub use link::linked;
 pub use names::text_or_empty;

@@ -9,8 +9,6 @@ pub mod laws;
 pub mod passage;
 mod payload;
 pub mod records;
-#[cfg(test)]
-mod tests;
 mod unknown;
 mod varint;
 

@@ -12,16 +12,12 @@ mod body;
 mod copy;
 mod decode;
 mod encoding;
-#[cfg(test)]
-mod encoding_tests;
 mod equality;
 mod field_writing;
 mod fields;
 mod shared;
 mod sink;
 mod table;
-#[cfg(test)]
-mod tests;
 mod values;
 mod writing;
 

@@ -1,12 +1,11 @@
 //! Descriptor records from compilers and by hand: what is read of them, and what is refused.
 
-use crate::buffer::BackBuffer;
-use crate::error::{DecodeError, EncodeError};
-use crate::records::{
+use prost_reflect_wire::records::{
     DescriptorProto, EnumDescriptorProto, EnumReservedRange, EnumValueDescriptorProto,
     ExtensionRange, FieldDescriptorProto, FileDescriptorProto, FileDescriptorSet,
     MethodDescriptorProto, OneofDescriptorProto, ReservedRange, ServiceDescriptorProto,
 };
+use prost_reflect_wire::{BackBuffer, DecodeError, EncodeError};
 use std::alloc::Global;
 use std::test::Fail;
 

@@ -1,15 +1,13 @@
 //! Bytes from the encoding guide and from other programs, and refused memory.
 
-mod memory;
-
 ghost use Rattle.std.specs.Prelude.{◌≤◌, ◌<◌, ◌^◌};
 
-use crate::unknown::{UnknownField, UnknownFieldSet, UnknownFieldValue};
-use crate::{
-    BackBuffer, DecodeError, EncodeError, FieldNumber, RECURSION_LIMIT, WireType, decode_key,
-    decode_varint, decode_varint_plain, delimited_at, field_len, fields_len, fixed32_at,
-    fixed64_at, key_len, low_i32, low_u32, prepend_field, prepend_fields, prepend_fields_at,
-    sign_extended, skip_value, unzigzag32, unzigzag64, value_at, varint_len, zigzag32, zigzag64,
+use prost_reflect_wire::{
+    BackBuffer, DecodeError, EncodeError, FieldNumber, RECURSION_LIMIT, UnknownField,
+    UnknownFieldSet, UnknownFieldValue, WireType, decode_key, decode_varint, decode_varint_plain,
+    delimited_at, field_len, fields_len, fixed32_at, fixed64_at, key_len, low_i32, low_u32,
+    prepend_field, prepend_fields, prepend_fields_at, sign_extended, skip_value, unzigzag32,
+    unzigzag64, value_at, varint_len, zigzag32, zigzag64,
 };
 use std::alloc::{AllocError, Global};
 use std::process::Abort;

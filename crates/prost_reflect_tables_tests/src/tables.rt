@@ -1,10 +1,8 @@
 //! Calls with ample memory, whose contracts leave want of memory open. The files are written as descriptor records.
 
-use crate::defaults::written_default;
-use crate::index::indexed;
-use crate::{
+use prost_reflect_tables::{
     EnumTable, FieldTable, Flat, FlatMessage, MessageTable, PoolError, TableKind, WrittenDefault,
-    build, check, flattened, linked,
+    build, check, flattened, indexed, linked, written_default,
 };
 use prost_reflect_wire::records::FileDescriptorProto;
 use std::alloc::{AllocError, Global};

@@ -1,9 +1,11 @@
 //! Refused memory. With ample memory each call succeeds; where an allocation is refused the call says so, and what it was
 //! lent has not changed.
 
-use crate::records::DescriptorProto;
-use crate::unknown::{UnknownField, UnknownFieldSet, UnknownFieldValue};
-use crate::{DecodeError, EncodeError, FieldNumber, RECURSION_LIMIT};
+use prost_reflect_wire::records::DescriptorProto;
+use prost_reflect_wire::{
+    DecodeError, EncodeError, FieldNumber, RECURSION_LIMIT, UnknownField, UnknownFieldSet,
+    UnknownFieldValue,
+};
 use std::alloc::{AllocError, Global};
 use std::process::Abort;
 

@@ -1,0 +1,12 @@
+//! Tests of `prost_reflect_wire`, through its public calls. They stand in a crate of their own, so that the gate need not
+//! prove that one a second time with them.
+#![tactic(auto)]
+
+#[cfg(test)]
+mod encodings;
+#[cfg(test)]
+mod memory;
+#[cfg(test)]
+mod records;
+#[cfg(test)]
+mod unknown;
