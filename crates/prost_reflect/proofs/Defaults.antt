@@ -14,7 +14,7 @@ use Rattle.prost_reflect.specs.Scalars.{equals}
 use Rattle.prost_reflect.specs.View.{pairs_from}
 use Rattle.prost_reflect.specs.declared.value.MapKey.{MapKey}
 use Rattle.prost_reflect_wire.specs.Fault.{is_map}
-use Rattle.prost_reflect.specs.Covered.{is_repeated as is_repeated_label}
+use Rattle.prost_reflect.specs.RowKinds.{is_repeated as is_repeated_label}
 use Rattle.prost_reflect.specs.Defaults.{is_empty_value}
 
 -- EMPTY LISTS AND MAPS

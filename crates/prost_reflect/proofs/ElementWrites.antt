@@ -20,14 +20,14 @@ use Rattle.prost_reflect.specs.declared.descriptor.message.MessageDescriptor.{Me
 use Rattle.prost_reflect.specs.declared.message.DynamicMessage.{DynamicMessage}
 use Rattle.prost_reflect.specs.declared.value.Value.{Value}
 use Rattle.prost_reflect.specs.declared.value.Value as values
-use Rattle.prost_reflect.specs.Covered.{is_repeated, names_message}
+use Rattle.prost_reflect.specs.RowKinds.{is_repeated, names_message}
 use Rattle.prost_reflect.specs.Descriptors.{schema_at, type_at}
 use Rattle.prost_reflect.specs.Encoding.{ValueWritable, nested_bytes}
 use Rattle.prost_reflect.specs.Known.{known_of}
 use Rattle.prost_reflect.specs.Lists.{ElementWritable, AreElements, element_bytes, elements_bytes}
 use Rattle.prost_reflect.specs.Pools.{pool_rows}
 use Rattle.prost_reflect.specs.View.{value_of, content_of, descriptor_of}
-use Rattle.prost_reflect.proofs.Covering.{message_kind}
+use Rattle.prost_reflect.proofs.RowKinds.{message_kind}
 use Rattle.prost_reflect.proofs.Described.{found_checked}
 use Rattle.prost_reflect.proofs.NestedReads.{schema_in, type_in}
 use Rattle.prost_reflect.proofs.NestedWrites.{no_message_value, kind_bytes_before, shown_plain, shown_group}

@@ -6,7 +6,7 @@ pub mod ScalarReads
 pub mod Siblings
 pub mod SoundChanges
 pub mod MembersCleared
-pub mod Covering
+pub mod RowKinds
 mod BuiltinFacts
 mod NoFiles
 mod BuiltinFields

@@ -28,7 +28,7 @@ use Rattle.prost_reflect.specs.Descriptors.{schema_at}
 use Rattle.prost_reflect.specs.Known.{known_of}
 use Rattle.prost_reflect.specs.View.{value_of, content_of, descriptor_of}
 use Rattle.prost_reflect.specs.Contents.{value_set}
-use Rattle.prost_reflect.specs.Covered.{is_plain_kind, is_repeated}
+use Rattle.prost_reflect.specs.RowKinds.{is_plain_kind, is_repeated}
 use Rattle.prost_reflect_tables.specs.Rows.{FieldRow}
 use Rattle.prost_reflect_tables.specs.Shown.{schema_field}
 use Rattle.prost_reflect.specs.Pools.{pool_rows}

@@ -23,13 +23,13 @@ use Rattle.prost_reflect.specs.declared.value.Value as values
 use Rattle.prost_reflect.specs.Pools.{pool_rows}
 use Rattle.prost_reflect.specs.Descriptors.{schema_at, type_at}
 use Rattle.prost_reflect.specs.Known.{known_of}
-use Rattle.prost_reflect.specs.Covered.{is_plain, names_message}
+use Rattle.prost_reflect.specs.RowKinds.{is_plain, names_message}
 use Rattle.prost_reflect.specs.ContentLaws.{pairs_shown}
 use Rattle.prost_reflect.specs.MapParts.{two_of, entry_parts, map_parts}
 use Rattle.prost_reflect.specs.Maps.{ScalarMap, pairs_bytes, IsMap, MapOfRows}
 use Rattle.prost_reflect.specs.Targets.{IsTarget, repeated_target_of}
 use Rattle.prost_reflect.specs.View.{value_of}
-use Rattle.prost_reflect.proofs.Covering as covering
+use Rattle.prost_reflect.proofs.RowKinds as row_kinds
 use Rattle.prost_reflect.proofs.PlainKinds.{PlainKind, kind_plain, NamedKind, kind_named, plain_of, list_row, listed_row}
 use Rattle.prost_reflect.proofs.Described.{found_checked}
 use Rattle.prost_reflect.proofs.ElementReads.{element_target_is}
@@ -117,7 +117,7 @@ module _ (d : MessageDescriptor) (n : ℕ) (row key value : FieldRow) (found : S
 
   module _ (scalar : names_message value.kind ≡ false) where
     value_kind : NamedKind (pool_rows d.pool).enums value.kind (schema_kind (pool_rows d.pool).enums value.kind value.is_group)
-    value_kind = kind_named (pool_rows d.pool).enums value.is_group value.kind (covering.message_kind (pool_rows d.pool).enums value.kind value.is_group ∙ scalar)
+    value_kind = kind_named (pool_rows d.pool).enums value.is_group value.kind (row_kinds.message_kind (pool_rows d.pool).enums value.kind value.is_group ∙ scalar)
 
     -- a map whose values are no messages
     pub scalar_map : ScalarMap d n key.kind value.kind

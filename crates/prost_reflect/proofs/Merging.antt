@@ -38,8 +38,8 @@ use Rattle.prost_reflect.proofs.Views.{content_of_message}
 use Rattle.prost_reflect.proofs.PlainKinds.{SamePayloads, scalar_row, single_row, own_of, plain_payloads, stray_payload}
 use Rattle.prost_reflect.proofs.Siblings.{known_differ}
 use Rattle.prost_reflect.specs.Contents.{value_set, unknown_added}
-use Rattle.prost_reflect.specs.Covered.{is_repeated, names_message}
-use Rattle.prost_reflect.proofs.Covering.{message_kind}
+use Rattle.prost_reflect.specs.RowKinds.{is_repeated, names_message}
+use Rattle.prost_reflect.proofs.RowKinds.{message_kind}
 
 -- a scalar's value was set
 pub set_step : (levels n : ℕ) (w : WireType) (c d : Content) (f : Field) (kind : ScalarKind) (v : contents.Value) (s : Scalar) (bytes rest : List ℕ) → WellStored c → numbers_differ (known (schema_of c) (type_of c)) ≡ true →

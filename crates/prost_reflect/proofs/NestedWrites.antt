@@ -26,7 +26,7 @@ use Rattle.prost_reflect.specs.declared.value.Value.TheFolds.{fold-roll-Value, i
 use Rattle.prost_reflect.specs.Pools.{pool_rows}
 use Rattle.prost_reflect.specs.Descriptors.{schema_at, type_at}
 use Rattle.prost_reflect.specs.Known.{known_of}
-use Rattle.prost_reflect.specs.Covered.{is_repeated}
+use Rattle.prost_reflect.specs.RowKinds.{is_repeated}
 use Rattle.prost_reflect.specs.Encoding.{ValueWritable, nested_bytes}
 use Rattle.prost_reflect.specs.View.{value_step, message_step, value_of, content_of, descriptor_of}
 use Rattle.prost_reflect.proofs.PlainKinds.{single_row, own_of}

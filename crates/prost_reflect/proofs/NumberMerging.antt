@@ -29,7 +29,7 @@ use Rattle.prost_reflect_tables.specs.Shown.{schema_kind, enum_kind, schema_fiel
 use Rattle.prost_reflect.specs.declared.descriptor.message.MessageDescriptor.{MessageDescriptor}
 use Rattle.prost_reflect.specs.declared.message.DynamicMessage.{DynamicMessage}
 use Rattle.prost_reflect.specs.Contents.{value_set, unknown_added}
-use Rattle.prost_reflect.specs.Covered.{is_repeated, names_message}
+use Rattle.prost_reflect.specs.RowKinds.{is_repeated, names_message}
 use Rattle.prost_reflect.specs.Enums.{first_of, numbers_of}
 use Rattle.prost_reflect.specs.Known.{known_of, keeps_unknown, keeps_unknown_beside, is_closed_enum}
 use Rattle.prost_reflect.specs.Lists.{IsListOrNone, with_element}

@@ -16,11 +16,11 @@ use Rattle.prost_reflect_tables.specs.declared.tables.TableKind.{TableKind}
 use Rattle.prost_reflect_tables.specs.declared.tables.TableKind.TheVariants as kinds
 use Rattle.prost_reflect_tables.specs.Rows.{FieldRow, MessageRow, EnumRow, TableRows}
 use Rattle.prost_reflect_tables.specs.Shown.{first_number, enum_numbers, schema_kind, enum_kind, own_type, map_entry, value_type_of, form_of, schema_field}
-use Rattle.prost_reflect.specs.Covered.{is_plain, is_plain_kind, is_repeated, names_message}
+use Rattle.prost_reflect.specs.RowKinds.{is_plain, is_plain_kind, is_repeated, names_message}
 use Rattle.prost_reflect.specs.Enums.{numbers_of}
 use Rattle.prost_reflect.specs.Scalars.{plain_kind, is_stray_number}
-use Rattle.prost_reflect.proofs.Covering as covering
-use Rattle.prost_reflect.proofs.Covering.{no_entry, no_message_entry}
+use Rattle.prost_reflect.proofs.RowKinds as row_kinds
+use Rattle.prost_reflect.proofs.RowKinds.{no_entry, no_message_entry}
 
 -- THE ROW OF A FIELD
 
@@ -85,13 +85,13 @@ pub scalars_row : (rows : TableRows) (row : FieldRow) → is_repeated row.cardin
 scalars_row rows row h scalar = bare_row rows row h (no_message_entry rows.messages row row.cardinality scalar)
 
 pub list_row : (rows : TableRows) (row : FieldRow) → is_repeated row.cardinality ≡ true → is_plain_kind row.kind ≡ true → (schema_field rows row).form ≡ Repeated row.is_packed
-list_row rows row h plain = scalars_row rows row h (covering.plain_apart row.kind plain)
+list_row rows row h plain = scalars_row rows row h (row_kinds.plain_apart row.kind plain)
 
 -- the row of a list of scalars
 pub scalars_kind : (rows : TableRows) (row : FieldRow) → names_message row.kind ≡ false → NamedKind rows.enums row.kind (schema_field rows row).value_type.kind
 scalars_kind rows row scalar =
     subst (λ o. NamedKind rows.enums row.kind (value_type_of rows.enums row o).kind) (sym (no_message_entry rows.messages row row.cardinality scalar))
-    (kind_named rows.enums row.is_group row.kind (covering.message_kind rows.enums row.kind row.is_group ∙ scalar))
+    (kind_named rows.enums row.is_group row.kind (row_kinds.message_kind rows.enums row.kind row.is_group ∙ scalar))
 
 -- a scalar kind that is no enum, as both name it
 pub record PlainKind (table : TableKind) (kind : Kind) : Type 0 where
@@ -128,7 +128,7 @@ kind_plain enums g (kinds.Enum E) h = no_enum (slice_get enums E) h
 pub plain_row : (rows : TableRows) (row : FieldRow) → is_plain_kind row.kind ≡ true → PlainKind row.kind (schema_field rows row).value_type.kind
 plain_row rows row plain =
     subst (λ o. PlainKind row.kind (value_type_of rows.enums row o).kind) (sym (no_entry rows.messages row row.cardinality plain))
-    (kind_plain rows.enums row.is_group row.kind (covering.plain_kind rows.enums row.kind row.is_group ∙ plain))
+    (kind_plain rows.enums row.is_group row.kind (row_kinds.plain_kind rows.enums row.kind row.is_group ∙ plain))
 
 -- the row of a list
 pub list_kind : (rows : TableRows) (row : FieldRow) → is_repeated row.cardinality ≡ true → is_list (schema_field rows row).form ≡ true → (schema_field rows row).value_type.kind ≡ schema_kind rows.enums row.kind row.is_group

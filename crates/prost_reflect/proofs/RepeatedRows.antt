@@ -9,7 +9,7 @@ use Rattle.prost_reflect_tables.specs.declared.tables.TableKind.TheVariants as k
 use Rattle.prost_reflect_tables.specs.Rows.{FieldRow}
 use Rattle.prost_reflect_tables.specs.Shown.{schema_kind, own_type, schema_field}
 use Rattle.prost_reflect.specs.declared.descriptor.message.MessageDescriptor.{MessageDescriptor}
-use Rattle.prost_reflect.specs.Covered.{is_repeated, names_message}
+use Rattle.prost_reflect.specs.RowKinds.{is_repeated, names_message}
 use Rattle.prost_reflect.specs.Descriptors.{schema_at}
 use Rattle.prost_reflect.specs.Known.{known_of}
 use Rattle.prost_reflect.specs.MapParts.{map_parts}
@@ -17,7 +17,7 @@ use Rattle.prost_reflect.specs.Maps.{ScalarMap, MapOfRows}
 use Rattle.prost_reflect.specs.NestedMaps.{NestedMap}
 use Rattle.prost_reflect.specs.Pools.{pool_rows}
 use Rattle.prost_reflect.specs.Targets.{IsTarget, entry_target_of, repeated_target_of}
-use Rattle.prost_reflect.proofs.Covering.{no_map}
+use Rattle.prost_reflect.proofs.RowKinds.{no_map}
 use Rattle.prost_reflect.proofs.Described.{found_checked, named_in_range}
 use Rattle.prost_reflect.proofs.ElementReads.{element_target_is}
 use Rattle.prost_reflect.proofs.MapRows.{shown_map, key_plain, scalar_map}

@@ -20,7 +20,7 @@ use Rattle.prost_reflect_tables.specs.Shown.{schema_field}
 use Rattle.prost_reflect.specs.declared.descriptor.message.MessageDescriptor.{MessageDescriptor}
 use Rattle.prost_reflect.specs.declared.value.Value.{Value}
 use Rattle.prost_reflect.specs.declared.value.Value as values
-use Rattle.prost_reflect.specs.Covered.{is_repeated, names_message}
+use Rattle.prost_reflect.specs.RowKinds.{is_repeated, names_message}
 use Rattle.prost_reflect.specs.Known.{known_of}
 use Rattle.prost_reflect.specs.Pools.{pool_rows}
 use Rattle.prost_reflect.proofs.PlainKinds.{SamePayloads, scalars_row, scalars_kind, plain_of, plain_payloads}

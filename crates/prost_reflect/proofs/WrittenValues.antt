@@ -18,7 +18,7 @@ use Rattle.prost_reflect_tables.specs.Shown.{schema_default, schema_kind, enum_k
 use Rattle.prost_reflect.specs.declared.descriptor.message.MessageDescriptor.{MessageDescriptor}
 use Rattle.prost_reflect.specs.Pools.{pool_rows}
 use Rattle.prost_reflect.specs.Known.{known_of}
-use Rattle.prost_reflect.specs.Covered.{is_repeated as is_labelled}
+use Rattle.prost_reflect.specs.RowKinds.{is_repeated as is_labelled}
 use Rattle.prost_reflect.specs.Enums.{first_of}
 use Rattle.prost_reflect.specs.Scalars.{plain_kind, TakesScalar, scalar_record_bytes, zero_like, is_default}
 use Rattle.prost_reflect.proofs.PlainKinds.{NamedKind, scalar_row, single_row, own_of, plain_of, plain_payloads}

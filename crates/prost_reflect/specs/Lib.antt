@@ -25,7 +25,7 @@ pub mod Same
 pub mod formers
 pub mod Scalars
 pub mod MapParts
-pub mod Covered
+pub mod RowKinds
 pub mod Maps
 pub mod Numbers
 pub mod NestedMaps

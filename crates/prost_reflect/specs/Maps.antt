@@ -18,7 +18,7 @@ use Rattle.prost_reflect.specs.declared.descriptor.message.MessageDescriptor.{Me
 use Rattle.prost_reflect.specs.Pools.{pool_rows}
 use Rattle.prost_reflect.specs.Known.{known_of}
 use Rattle.prost_reflect.specs.MapParts.{map_parts}
-use Rattle.prost_reflect.specs.Covered.{names_message}
+use Rattle.prost_reflect.specs.RowKinds.{names_message}
 use Rattle.prost_reflect.specs.Scalars.{plain_kind, TakesScalar, scalar_record_bytes, kept_scalar_bytes, is_zero}
 use Rattle.prost_reflect.specs.View.{key_of, value_of}
 

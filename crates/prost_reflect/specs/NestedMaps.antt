@@ -17,7 +17,7 @@ use Rattle.prost_reflect.specs.declared.value.Value.{Value}
 use Rattle.prost_reflect.specs.declared.descriptor.message.MessageDescriptor.{MessageDescriptor}
 use Rattle.prost_reflect.specs.Pools.{pool_rows}
 use Rattle.prost_reflect.specs.Known.{known_of}
-use Rattle.prost_reflect.specs.Covered.{names_message}
+use Rattle.prost_reflect.specs.RowKinds.{names_message}
 use Rattle.prost_reflect.specs.Lists.{ElementWritable, element_bytes}
 use Rattle.prost_reflect.specs.MapParts.{map_parts}
 use Rattle.prost_reflect.specs.Maps.{key_bytes}

@@ -6,7 +6,7 @@ ghost use Rattle.prost_reflect_wire.specs.Typing.{is_field_default, is_repeated,
 ghost use Rattle.prost_reflect_tables.specs.Rows.{field_row, written_scalar};
 ghost use Rattle.prost_reflect_tables.specs.Shown.{schema_field, schema_kind, schema_default, own_type, entry_or_none, entry_at};
 ghost use Rattle.prost_reflect_wire.specs.Fault.{is_map};
-ghost use Rattle.prost_reflect.specs.Covered.{is_repeated as is_labelled};
+ghost use Rattle.prost_reflect.specs.RowKinds.{is_repeated as is_labelled};
 ghost use Rattle.prost_reflect.specs.Defaults.{is_empty_value};
 ghost use Rattle.prost_reflect.specs.Descriptors.{schema_at};
 ghost use Rattle.prost_reflect.specs.Pools.{pool_rows};

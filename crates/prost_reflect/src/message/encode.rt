@@ -11,7 +11,7 @@ ghost use Rattle.prost_reflect_wire.specs.Storing.{value_bytes};
 ghost use Rattle.prost_reflect_wire.specs.Buffer.{bytes_of, Prepended};
 ghost use Rattle.prost_reflect_tables.specs.Rows.{field_row};
 ghost use Rattle.prost_reflect_tables.specs.Shown.{schema_field};
-ghost use Rattle.prost_reflect.specs.Covered.{is_repeated};
+ghost use Rattle.prost_reflect.specs.RowKinds.{is_repeated};
 ghost use Rattle.prost_reflect.specs.Lists.{IsList, ElementWritable, AreElements, elements_bytes};
 ghost use Rattle.prost_reflect.specs.MapParts.{map_parts};
 ghost use Rattle.prost_reflect.specs.Descriptors.{schema_at, type_at};

@@ -11,7 +11,7 @@ use Rattle.prost_reflect.specs.Entries.{value_in}
 use Rattle.prost_reflect.proofs.Encodings.{whole_written, entry_writable, unknown_too_long, value_too_long}
 use Rattle.prost_reflect.proofs.NestedWrites.{nested_written, no_message_value}
 use Rattle.prost_reflect.proofs.WrittenValues.{row_written}
-use Rattle.prost_reflect.specs.Covered.{names_message}
+use Rattle.prost_reflect.specs.RowKinds.{names_message}
 use Rattle.prost_reflect.specs.Known.{known_of}
 use Rattle.prost_reflect.proofs.Merging.{no_message_kind}
 use Rattle.prost_reflect.proofs.WrittenLists.{valid_list_value, row_list_written, takes_same, list_value_bytes, flat_too_long}
