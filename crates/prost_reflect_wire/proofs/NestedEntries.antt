@@ -1,5 +1,5 @@
 -- An entry of a map whose value is a message: the records of number 2 are read into one message, one behind another and one level down, and what comes of it is put among the pairs that are there.
-use Rattle.std.proofs.Common.{◌≡◌, ◌≢◌, ℕ, suc, Bool, true, false, cond, not, ◌&&◌, ◌||◌, List, [], ◌∷◌, ◌++◌, nat_eq, nat_lt, nat_le, Option, Some, None, refl, ap, ap₂, sym, subst, ◌∙◌, append-nil, arith}
+use Rattle.std.proofs.Common.{◌≡◌, ◌≢◌, ℕ, suc, Bool, true, false, cond, List, [], ◌∷◌, ◌++◌, nat_eq, nat_le, Option, Some, None, refl, ap, ap₂, sym, subst, ◌∙◌, append-nil, arith}
 use Rattle.std.specs.List.{list_all}
 use Rattle.std.specs.Option.{is_some}
 use Rattle.std.proofs.lemmas.Bool.{le-leb, lt-ltb}
@@ -20,10 +20,9 @@ use Rattle.prost_reflect_wire.specs.Edit.{message_of}
 use Rattle.prost_reflect_wire.specs.Storing.{with_stored}
 use Rattle.prost_reflect_wire.specs.Unknown.{SkipsValue}
 use Rattle.prost_reflect_wire.specs.Fault.{Stands, Here, InMessage, StandsInMessage, entry_field, opens_level, needs_level, one_takes, same_wire, ValueFault}
-use Rattle.prost_reflect_wire.specs.Decoding.{Holds, Progress, Step, ScalarRead, ScalarFault, StandsBehindKey}
+use Rattle.prost_reflect_wire.specs.Decoding.{Holds, Step, ScalarRead, ScalarFault, StandsBehindKey}
 use Rattle.prost_reflect_wire.specs.EntryReading.{EntryTo, EntryPlace, plain_type}
 use Rattle.prost_reflect_wire.specs.MessageEntries.{nested_type, NestedEntryTo, NestedValueRead, NestedValueFault, StandsInNestedEntry}
-use Rattle.prost_reflect_wire.proofs.ListTests.{both_true}
 use Rattle.prost_reflect_wire.proofs.Steps.{flat_append, meaning_empty, meaning_steps}
 use Rattle.prost_reflect_wire.proofs.Reading.{spelled_read}
 use Rattle.prost_reflect_wire.proofs.Values.{items_body}

@@ -5,7 +5,7 @@ use Rattle.std.proofs.Common.{rules}
 use Rattle.std.proofs.lemmas.Result.{err_from_is_err_and, IfOk-weaker, IfErr-weaker}
 use Rattle.prost_reflect_wire.specs.Content.{MessageValue, empty, value_at, entries_of}
 use Rattle.prost_reflect.specs.Descriptors.{schema_at}
-use Rattle.prost_reflect.specs.View.{value_of, content_of, descriptor_of, written_at}
+use Rattle.prost_reflect.specs.View.{value_of, content_of, written_at}
 use Rattle.prost_reflect.specs.Contents.{value_set}
 use Rattle.prost_reflect.proofs.Views.{value_of_message}
 use Rattle.prost_reflect_wire.specs.declared.key.WireType.TheVariants as wires
@@ -20,7 +20,7 @@ use Rattle.prost_reflect_wire.proofs.ByteLists.{bytes_below}
 use Rattle.prost_reflect_wire.specs.Content.{MapValue, schema_of, type_of}
 use Rattle.prost_reflect_wire.specs.Meaning.{put, pairs_in}
 use Rattle.prost_reflect.specs.Lists.{with_element}
-use Rattle.prost_reflect.proofs.NestedMaps.{value_not_here, value_not_inside, nested_start, nested_sound, nested_no_key_there, nested_key_there, nested_value_there, nested_other_there, nested_no_key_value, nested_no_value, nested_no_other, nested_mapped, nested_key_found, nested_entry_set, nested_entry_fault, nested_body_fault, nested_no_level}
+use Rattle.prost_reflect.proofs.NestedMaps.{value_not_here, value_not_inside, nested_start, nested_no_key_there, nested_key_there, nested_value_there, nested_other_there, nested_no_key_value, nested_no_value, nested_no_other, nested_mapped, nested_key_found, nested_entry_set, nested_entry_fault, nested_body_fault, nested_no_level}
 use Rattle.prost_reflect.proofs.message.DynamicMessage.+reading.Goals as goal
 
 pub merge_records-loop-rest-init : goal.merge_records-loop-rest-init
