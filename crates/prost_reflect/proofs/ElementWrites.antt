@@ -1,18 +1,17 @@
 -- What is written of a list of messages or groups.
-use Rattle.std.proofs.Common.{◌≡◌, ◌<◌, ℕ, zero, suc, length, arith, slice_index_or, Bool, true, false, not, ◌||◌, List, [], ◌∷◌, ◌++◌, map, Some, refl, sym, ap, ap₂, ◌∙◌, subst, true≢false}
+use Rattle.std.proofs.Common.{◌≡◌, ◌<◌, ℕ, zero, suc, length, arith, slice_index_or, Bool, true, false, not, ◌||◌, List, [], ◌∷◌, ◌++◌, map, Some, refl, sym, ap, ◌∙◌, subst, true≢false}
 use Rattle.std.specs.Prelude.{Vec}
 use Rattle.std.specs.declared.alloc.Global.{Global}
 use Rattle.prost_reflect_wire.specs.Record.{record_at, spelled}
 use Rattle.prost_reflect_wire.specs.Scalar.{Scalar}
-use Rattle.prost_reflect_wire.specs.Schema.{Kind, ScalarOf, MessageOf, GroupOf, Repeated, Schema, field_of, is_message, is_packable_kind, passes}
+use Rattle.prost_reflect_wire.specs.Schema.{Kind, ScalarOf, MessageOf, GroupOf, Repeated, field_of, is_message, is_packable_kind, passes}
 use Rattle.prost_reflect_wire.specs.Content as contents
 use Rattle.prost_reflect_wire.specs.Content.{MessageValue, ListValue, values_from, schema_of, type_of}
 use Rattle.prost_reflect_wire.specs.Writing.{element_payloads}
-use Rattle.prost_reflect_wire.specs.Typing.{is_repeated as is_list, encodable, Typed, kind_takes, element_valid, elements_valid, value_valid, value_passes, values_pass, fit_test, kind_for, kept_values, ValueTyped, ValuesTyped}
+use Rattle.prost_reflect_wire.specs.Typing.{is_repeated as is_list, encodable, kind_takes, element_valid, elements_valid, value_valid, value_passes, values_pass, fit_test, kept_values}
 use Rattle.prost_reflect_wire.specs.Storing.{value_bytes}
 use Rattle.prost_reflect_wire.proofs.Deeper.{and_both}
 use Rattle.prost_reflect_wire.proofs.Checked.{checked_field, checked_list}
-use Rattle.prost_reflect_wire.proofs.FieldTypes.{field_typed}
 use Rattle.prost_reflect_wire.proofs.ListWritten.{messages_written}
 use Rattle.prost_reflect_tables.specs.Rows.{FieldRow}
 use Rattle.prost_reflect_tables.specs.Shown.{schema_kind, schema_field}
@@ -21,17 +20,16 @@ use Rattle.prost_reflect.specs.declared.message.DynamicMessage.{DynamicMessage}
 use Rattle.prost_reflect.specs.declared.value.Value.{Value}
 use Rattle.prost_reflect.specs.declared.value.Value as values
 use Rattle.prost_reflect.specs.RowKinds.{is_repeated, names_message}
-use Rattle.prost_reflect.specs.Descriptors.{schema_at, type_at}
+use Rattle.prost_reflect.specs.Descriptors.{schema_at}
 use Rattle.prost_reflect.specs.Encoding.{ValueWritable, nested_bytes}
 use Rattle.prost_reflect.specs.Known.{known_of}
 use Rattle.prost_reflect.specs.Lists.{ElementWritable, AreElements, element_bytes, elements_bytes}
 use Rattle.prost_reflect.specs.Pools.{pool_rows}
-use Rattle.prost_reflect.specs.View.{value_of, content_of, descriptor_of}
+use Rattle.prost_reflect.specs.View.{value_of, content_of}
 use Rattle.prost_reflect.proofs.RowKinds.{message_kind}
 use Rattle.prost_reflect.proofs.Described.{found_checked}
-use Rattle.prost_reflect.proofs.NestedReads.{schema_in, type_in}
 use Rattle.prost_reflect.proofs.NestedWrites.{no_message_value, kind_bytes_before, shown_plain, shown_group}
-use Rattle.prost_reflect.proofs.PlainKinds.{listed_row, list_kind}
+use Rattle.prost_reflect.proofs.PlainKinds.{list_kind}
 use Rattle.prost_reflect.proofs.Views.{value_of_list, value_of_message}
 use Rattle.prost_reflect.proofs.WrittenValues.{passing, is_message_value}
 

@@ -9,7 +9,7 @@ use Rattle.std.specs.Option.{option_map, option_and_then}
 use Rattle.std.specs.Prelude.{unwrap_or}
 use Rattle.std.specs.Ordering.{is_eq}
 use Rattle.prost_reflect_wire.specs.Record.{Record, Payload, record_at, spelled}
-use Rattle.prost_reflect_wire.specs.Schema.{Schema, Field, field_of, passes}
+use Rattle.prost_reflect_wire.specs.Schema.{Field, field_of, passes}
 use Rattle.prost_reflect_wire.specs.Content as contents
 use Rattle.prost_reflect_wire.specs.Content.{Entries, Slot, Stored, Unknown, then_unknowns, then_value, store}
 use Rattle.prost_reflect_wire.specs.Writing.{encoded, entries_records}
@@ -24,7 +24,6 @@ use Rattle.prost_reflect.specs.declared.fields.entry.Entry.TheVariants as entrie
 use Rattle.prost_reflect.specs.declared.message.DynamicMessage.{DynamicMessage}
 use Rattle.prost_reflect.specs.declared.value.Value.{Value}
 use Rattle.prost_reflect.specs.Items.{IsAscending, item_at}
-use Rattle.prost_reflect.specs.Descriptors.{schema_at}
 use Rattle.prost_reflect.specs.Known.{known_of, are_records_of, keeps_unknown}
 use Rattle.prost_reflect.specs.Entries.{value_in, unknown_in, records_in, records_at}
 use Rattle.prost_reflect.specs.Sound.{IsSound, UnknownKept, unknown_kept}

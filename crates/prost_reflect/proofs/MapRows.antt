@@ -1,9 +1,9 @@
 -- What the rows of a map field say of it.
-use Rattle.std.proofs.Common.{◌≡◌, ℕ, Bool, true, false, ◌&&◌, ◌||◌, List, [], ◌∷◌, Option, Some, None, refl, sym, ap, ◌∙◌, subst, true≢false}
+use Rattle.std.proofs.Common.{◌≡◌, ℕ, true, false, List, [], ◌∷◌, Option, Some, None, refl, sym, ap, ◌∙◌, subst, true≢false}
 use Rattle.std.specs.Prelude.{slice_get}
 use Rattle.std.specs.BTreeMap.{BTreeMap}
 use Rattle.prost_reflect_wire.specs.Scalar.{ScalarKind, Enum}
-use Rattle.prost_reflect_wire.specs.Schema.{Kind, ScalarOf, MessageOf, GroupOf, ValueType, MapFrom, Repeated, Field, field_of, is_message, is_singular, is_key_kind, field_valid, passes}
+use Rattle.prost_reflect_wire.specs.Schema.{Kind, ScalarOf, MessageOf, GroupOf, ValueType, MapFrom, Field, field_of, is_message, is_singular, is_key_kind, field_valid, passes}
 use Rattle.prost_reflect_wire.specs.Content as contents
 use Rattle.prost_reflect_wire.specs.Content.{ScalarValue, MessageValue, ListValue, MapValue}
 use Rattle.prost_reflect_wire.specs.Typing.{value_valid, is_repeated as is_list}
@@ -12,8 +12,6 @@ use Rattle.prost_reflect_wire.proofs.Deeper.{and_both}
 use Rattle.prost_reflect_wire.proofs.ScalarEntries.{map_keyed, map_key_default}
 use Rattle.prost_reflect_tables.specs.declared.tables.Cardinality.{Cardinality}
 use Rattle.prost_reflect_tables.specs.declared.tables.Cardinality.TheVariants.{Optional, Required, Repeated as RepeatedLabel}
-use Rattle.prost_reflect_tables.specs.declared.tables.TableKind.{TableKind}
-use Rattle.prost_reflect_tables.specs.declared.tables.TableKind.TheVariants as kinds
 use Rattle.prost_reflect_tables.specs.Rows.{FieldRow, MessageRow, TableRows}
 use Rattle.prost_reflect_tables.specs.Shown.{schema_kind, schema_default, own_type, type_or, map_entry, form_of, value_type_of, schema_field}
 use Rattle.prost_reflect.specs.declared.descriptor.message.MessageDescriptor.{MessageDescriptor}
@@ -21,18 +19,16 @@ use Rattle.prost_reflect.specs.declared.value.MapKey.{MapKey}
 use Rattle.prost_reflect.specs.declared.value.Value.{Value}
 use Rattle.prost_reflect.specs.declared.value.Value as values
 use Rattle.prost_reflect.specs.Pools.{pool_rows}
-use Rattle.prost_reflect.specs.Descriptors.{schema_at, type_at}
+use Rattle.prost_reflect.specs.Descriptors.{schema_at}
 use Rattle.prost_reflect.specs.Known.{known_of}
 use Rattle.prost_reflect.specs.RowKinds.{is_plain, names_message}
 use Rattle.prost_reflect.specs.ContentLaws.{pairs_shown}
 use Rattle.prost_reflect.specs.MapParts.{two_of, entry_parts, map_parts}
 use Rattle.prost_reflect.specs.Maps.{ScalarMap, pairs_bytes, IsMap, MapOfRows}
-use Rattle.prost_reflect.specs.Targets.{IsTarget, repeated_target_of}
 use Rattle.prost_reflect.specs.View.{value_of}
 use Rattle.prost_reflect.proofs.RowKinds as row_kinds
-use Rattle.prost_reflect.proofs.PlainKinds.{PlainKind, kind_plain, NamedKind, kind_named, plain_of, list_row, listed_row}
+use Rattle.prost_reflect.proofs.PlainKinds.{PlainKind, kind_plain, NamedKind, kind_named, plain_of}
 use Rattle.prost_reflect.proofs.Described.{found_checked}
-use Rattle.prost_reflect.proofs.ElementReads.{element_target_is}
 use Rattle.prost_reflect.proofs.Views.{value_of_map}
 use Rattle.prost_reflect.proofs.WrittenValues.{is_enum, passing}
 use Rattle.prost_reflect.proofs.WrittenMaps.{PartRow, KeyRow, MapWritten, map_of_kinds}

@@ -1,11 +1,11 @@
 -- What is written of a map of messages.
-use Rattle.std.proofs.Common.{◌≡◌, ℕ, ◌+◌, ◌^◌, ◌≤◌, Bool, true, false, ◌&&◌, List, [], ◌∷◌, ◌++◌, length, map, flat_map, Some, refl, sym, ap, ap₂, ◌∙◌, subst, append_assoc, append-nil, true≢false, arith, length-append}
+use Rattle.std.proofs.Common.{◌≡◌, ℕ, ◌+◌, ◌^◌, ◌≤◌, true, false, ◌&&◌, List, [], ◌∷◌, ◌++◌, length, map, flat_map, Some, refl, sym, ap, ap₂, ◌∙◌, subst, append_assoc, append-nil, true≢false, arith, length-append}
 use denote.Param.Weighed.{most}
 use Rattle.std.specs.BTreeMap.{BTreeMap}
 use Rattle.prost_reflect_wire.specs.declared.key.WireType.TheVariants as wires
-use Rattle.prost_reflect_wire.specs.Record.{Len, Flat, record_at, short_key, short_plain, spelled}
+use Rattle.prost_reflect_wire.specs.Record.{Len, record_at, short_key, short_plain, spelled}
 use Rattle.prost_reflect_wire.specs.Scalar.{Scalar, scalar_valid}
-use Rattle.prost_reflect_wire.specs.Schema.{Kind, ScalarOf, MessageOf, ValueType, MapFrom, Field, field_of, passes}
+use Rattle.prost_reflect_wire.specs.Schema.{MessageOf, ValueType, MapFrom, Field, field_of, passes}
 use Rattle.prost_reflect_wire.specs.Content as contents
 use Rattle.prost_reflect_wire.specs.Content.{Content, ScalarValue, MessageValue, ListValue, MapValue, Pairs, Pair}
 use Rattle.prost_reflect_wire.specs.Writing.{message_payload, records, entry_record, pair_payloads}
@@ -18,25 +18,24 @@ use Rattle.prost_reflect_tables.specs.declared.tables.TableKind.TheVariants as k
 use Rattle.prost_reflect_tables.specs.Rows.{FieldRow, EnumRow}
 use Rattle.prost_reflect_tables.specs.Shown.{own_type, schema_field}
 use Rattle.prost_reflect.specs.declared.descriptor.message.MessageDescriptor.{MessageDescriptor}
-use Rattle.prost_reflect.specs.declared.message.DynamicMessage.{DynamicMessage}
 use Rattle.prost_reflect.specs.declared.value.MapKey.{MapKey}
 use Rattle.prost_reflect.specs.declared.value.Value.{Value}
 use Rattle.prost_reflect.specs.declared.value.Value as values
 use Rattle.prost_reflect.specs.ContentLaws.{pairs_shown}
-use Rattle.prost_reflect.specs.RowKinds.{is_repeated, names_message}
+use Rattle.prost_reflect.specs.RowKinds.{names_message}
 use Rattle.prost_reflect.specs.Encoding.{ValueWritable, nested_bytes}
 use Rattle.prost_reflect.specs.Known.{known_of}
-use Rattle.prost_reflect.specs.Lists.{ElementWritable, element_bytes}
+use Rattle.prost_reflect.specs.Lists.{ElementWritable}
 use Rattle.prost_reflect.specs.MapParts.{map_parts}
-use Rattle.prost_reflect.specs.Maps.{key_bytes, IsMap}
+use Rattle.prost_reflect.specs.Maps.{IsMap}
 use Rattle.prost_reflect.specs.NestedMaps.{AreEntries, nested_entry_bytes, nested_pairs_bytes, NestedMapOfRows}
 use Rattle.prost_reflect.specs.Pools.{pool_rows}
 use Rattle.prost_reflect.specs.Scalars.{TakesScalar}
-use Rattle.prost_reflect.specs.View.{key_of, value_of, content_of}
+use Rattle.prost_reflect.specs.View.{key_of, value_of}
 use Rattle.prost_reflect.proofs.MapRows.{shown_map, key_row, is_map_value}
 use Rattle.prost_reflect.proofs.NestedWrites.{kind_bytes_before}
 use Rattle.prost_reflect.proofs.RepeatedRows.{map_message}
-use Rattle.prost_reflect.proofs.Views.{value_of_map, value_of_message}
+use Rattle.prost_reflect.proofs.Views.{value_of_map}
 use Rattle.prost_reflect.proofs.WrittenMaps.{KeyRow, key_part, part_takes}
 use Rattle.prost_reflect.proofs.WrittenValues.{passing}
 

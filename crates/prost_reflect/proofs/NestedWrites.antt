@@ -1,5 +1,5 @@
 -- What is written of a message or a group in the place of its field.
-use Rattle.std.proofs.Common.{◌≡◌, ℕ, Bool, true, false, List, [], ◌∷◌, ◌++◌, ◌⊎◌, inl, inr, Some, refl, sym, ap, ◌∙◌, subst, append-nil, append_assoc, true≢false}
+use Rattle.std.proofs.Common.{◌≡◌, ℕ, Bool, true, false, List, [], ◌∷◌, ◌++◌, ◌⊎◌, inl, inr, Some, refl, sym, ap, ◌∙◌, append-nil, append_assoc, true≢false}
 use denote.Hole.Carrier as Carrier
 use Rattle.prost_reflect_wire.specs.declared.key.WireType.TheVariants as wires
 use Rattle.prost_reflect_wire.specs.Record.{Len, Record, short_key, short_plain, record_at, spelled}
@@ -7,10 +7,9 @@ use Rattle.prost_reflect_wire.specs.Schema.{Kind, ScalarOf, MessageOf, GroupOf, 
 use Rattle.prost_reflect_wire.specs.Content.{Content, MessageValue, schema_of}
 use Rattle.prost_reflect_wire.specs.Content as contents
 use Rattle.prost_reflect_wire.specs.Writing.{records, message_payload}
-use Rattle.prost_reflect_wire.specs.Typing.{kept, encodable, Typed, value_valid, value_passes, fit_test, kind_for, ValueTyped}
+use Rattle.prost_reflect_wire.specs.Typing.{kept, encodable, value_valid, value_passes, fit_test}
 use Rattle.prost_reflect_wire.specs.Storing.{value_bytes}
 use Rattle.prost_reflect_wire.proofs.Deeper.{and_both}
-use Rattle.prost_reflect_wire.proofs.FieldTypes.{field_typed}
 use Rattle.prost_reflect_wire.proofs.WrittenEntries.{message_written}
 use Rattle.prost_reflect_tables.specs.declared.tables.TableKind.{TableKind}
 use Rattle.prost_reflect_tables.specs.declared.tables.TableKind.TheVariants as kinds
@@ -24,15 +23,13 @@ use Rattle.prost_reflect.specs.declared.value.Value.TheOpen.{Value-F}
 use Rattle.prost_reflect.specs.declared.value.Value.TheViews.{roll-Value}
 use Rattle.prost_reflect.specs.declared.value.Value.TheFolds.{fold-roll-Value, ind-Value}
 use Rattle.prost_reflect.specs.Pools.{pool_rows}
-use Rattle.prost_reflect.specs.Descriptors.{schema_at, type_at}
 use Rattle.prost_reflect.specs.Known.{known_of}
 use Rattle.prost_reflect.specs.RowKinds.{is_repeated}
 use Rattle.prost_reflect.specs.Encoding.{ValueWritable, nested_bytes}
-use Rattle.prost_reflect.specs.View.{value_step, message_step, value_of, content_of, descriptor_of}
+use Rattle.prost_reflect.specs.View.{value_step, message_step, value_of, content_of}
 use Rattle.prost_reflect.proofs.PlainKinds.{single_row, own_of}
 use Rattle.prost_reflect.proofs.Views.{value_of_message}
 use Rattle.prost_reflect.proofs.WrittenValues.{is_message_value, passing}
-use Rattle.prost_reflect.proofs.NestedReads.{schema_in}
 
 -- A MESSAGE OR NOT
 

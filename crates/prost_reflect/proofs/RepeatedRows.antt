@@ -1,6 +1,6 @@
 -- The row of a repeated field: whether it is a list or a map, and what its records are read as.
-use Rattle.std.proofs.Common.{◌≡◌, ℕ, Bool, true, false, cond, not, Option, Some, None, refl, sym, ap, ap₂, ◌∙◌, subst, true≢false}
-use Rattle.prost_reflect_wire.specs.Schema.{Kind, MessageOf, GroupOf, ValueType, Repeated, Field, field_of, is_group, field_valid}
+use Rattle.std.proofs.Common.{◌≡◌, ℕ, Bool, true, false, cond, not, Option, Some, None, refl, sym, ap, ◌∙◌, subst, true≢false}
+use Rattle.prost_reflect_wire.specs.Schema.{MessageOf, GroupOf, ValueType, Repeated, field_of, is_group, field_valid}
 use Rattle.prost_reflect_wire.specs.Edit.{message_of}
 use Rattle.prost_reflect_wire.proofs.Checked.{checked_field, checked_map}
 use Rattle.prost_reflect_wire.proofs.ScalarEntries.{map_keyed}

@@ -1,4 +1,4 @@
-use Rattle.std.proofs.Common.{rules, ◌≡◌, ◌∷◌, ◌++◌, Some, ap, sym, subst, ◌∙◌, inl, inr, ◌⊎◌, arith, ◌-◌}
+use Rattle.std.proofs.Common.{rules, ◌≡◌, ◌∷◌, Some, ap, sym, subst, ◌∙◌, inl, inr, ◌⊎◌, arith, ◌-◌}
 use Rattle.std.proofs.lemmas.Result.{err_from_is_err_and}
 use Rattle.prost_reflect_tables.specs.Rows.{field_row}
 use Rattle.prost_reflect_wire.specs.declared.unknown.UnknownFieldSet.{UnknownFieldSet}
@@ -16,7 +16,7 @@ use Rattle.prost_reflect.specs.Known.{known_of}
 use Rattle.prost_reflect.proofs.Merging.{no_message_kind}
 use Rattle.prost_reflect.proofs.WrittenLists.{valid_list_value, row_list_written, takes_same, list_value_bytes, flat_too_long}
 use Rattle.prost_reflect.proofs.RepeatedRows.{listed_form, map_of_rows}
-use Rattle.prost_reflect.proofs.NestedMapWrites.{nested_rows, nested_map_value, nested_rows_written, nested_value_bytes, flat_more, flat_part_too_long, most_in, entry_at}
+use Rattle.prost_reflect.proofs.NestedMapWrites.{nested_rows, nested_rows_written, nested_value_bytes, flat_more, flat_part_too_long, most_in, entry_at}
 use Rattle.prost_reflect.specs.NestedMaps.{AreEntries, nested_entry_bytes}
 use Rattle.prost_reflect.proofs.WrittenMaps.{cut_pairs}
 use Rattle.prost_reflect.specs.View.{key_of}
