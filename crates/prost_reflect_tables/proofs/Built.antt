@@ -1,6 +1,5 @@
 -- What shows that rows are the tables of files.
 use Rattle.std.proofs.Common.{◌≡◌, Bool, true, false, not, List, [], refl, ap, sym, ◌∙◌}
-use Rattle.std.specs.Prelude.{IsTrue}
 use Rattle.prost_reflect_wire.specs.declared.records.FileDescriptorProto.{FileDescriptorProto}
 use Rattle.prost_reflect_wire.proofs.ListTests.{and_both}
 use Rattle.prost_reflect_tables.specs.declared.tables.MessageTable.{MessageTable}

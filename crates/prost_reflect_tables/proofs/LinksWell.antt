@@ -1,5 +1,5 @@
 -- Files that pass the checks link well.
-use Rattle.std.proofs.Common.{◌≡◌, ℕ, suc, ℤ, is_some, ◌+◌, ◌<◌, ◌≤◌, Bool, true, false, cond, not, ◌&&◌, ◌||◌, List, map, length, Option, Some, None, refl, sym, ap, ◌∙◌, subst, arith, slice_get, nat_eq, nat_lt}
+use Rattle.std.proofs.Common.{◌≡◌, ℕ, ℤ, is_some, ◌+◌, Bool, true, false, not, ◌&&◌, ◌||◌, List, map, length, Option, Some, None, refl, ap, ◌∙◌, arith, slice_get, nat_eq}
 use Rattle.std.specs.List.{list_all}
 use Rattle.std.proofs.lemmas.Bool.{and_from, lt-ltb, eqb-false}
 use Rattle.std.proofs.lemmas.List.{length-map}
@@ -7,13 +7,12 @@ use Rattle.std.proofs.lemmas.List.Folds.{list_all-map}
 use Rattle.prost_reflect_wire.specs.Schema.{schema_valid}
 use Rattle.prost_reflect_wire.specs.declared.records.FieldDescriptorProto.{FieldDescriptorProto}
 use Rattle.prost_reflect_wire.specs.declared.records.FileDescriptorProto.{FileDescriptorProto}
-use Rattle.prost_reflect_tables.specs.Rows.{FieldRow, OneofRow, MessageRow}
 use Rattle.prost_reflect_tables.specs.Shown.{schema_from}
-use Rattle.prost_reflect_tables.specs.Linked.{kind_in_range, oneof_in_range, ascending_from, field_linked, oneof_linked, has_entry_numbers, message_linked, enum_linked, is_linked}
+use Rattle.prost_reflect_tables.specs.Linked.{kind_in_range, oneof_in_range, field_linked, has_entry_numbers, message_linked, enum_linked, is_linked}
 use Rattle.prost_reflect_tables.specs.Flat.{DefinitionRow, FlatMessageRow, FlatEnumRow, FlatRows}
-use Rattle.prost_reflect_tables.specs.Faults.{oneof_outside, has_oneof_outside, is_member, all_numbered}
+use Rattle.prost_reflect_tables.specs.Faults.{oneof_outside, all_numbered}
 use Rattle.prost_reflect_tables.specs.EntryFaults.{is_entry}
-use Rattle.prost_reflect_tables.specs.Linking.{links_of, place_in, linked_kind, linked_field, linked_message, linked_enum, linked_rows, value_number, in_order, oneofs_from, fields_of_message}
+use Rattle.prost_reflect_tables.specs.Linking.{links_of, place_in, linked_field, linked_message, linked_enum, linked_rows, value_number, in_order, oneofs_from, fields_of_message}
 use Rattle.prost_reflect_tables.proofs.Linkwell.Items.{none_at, all_from, messages_all}
 use Rattle.prost_reflect_tables.proofs.Linkwell.Numbers.{counted_once}
 use Rattle.prost_reflect_tables.proofs.Linkwell.Premises.{Sound, FieldChecked, field_checked, extension_checked, message_checked, enum_checked}

@@ -1,5 +1,5 @@
 -- The default of a field is a value of its kind.
-use Rattle.std.proofs.Common.{◌≡◌, ℕ, ℤ, pos, ◌-◌, ◌^◌, ◌<◌, ◌≤◌, Bool, true, false, cond, not, ◌&&◌, ◌||◌, List, [], ◌∷◌, map, length, Option, Some, None, option_map, refl, sym, ap, ◌∙◌, subst, arith, slice_get, string_bytes, String, Global, nat_eq, nat_lt}
+use Rattle.std.proofs.Common.{◌≡◌, ℕ, ℤ, ◌-◌, ◌^◌, Bool, true, false, cond, not, List, [], ◌∷◌, map, length, Option, Some, None, option_map, refl, sym, ap, ◌∙◌, subst, arith, slice_get, string_bytes, String, Global, nat_eq, nat_lt}
 use Rattle.std.specs.Str.{is_utf8, chars}
 use Rattle.std.specs.List.{list_any, list_all}
 use Rattle.std.specs.Ordering.{int_eq}
@@ -10,16 +10,16 @@ use Rattle.prost_reflect_wire.proofs.Spelt.{text_bytes}
 use Rattle.prost_reflect_wire.proofs.SoundFields.{text_valid}
 use Rattle.prost_reflect_wire.specs.Scalar.{Scalar, Boolean, I32, I64, U32, U64, F32, F64, Text, Bytes, EnumNumber, ScalarKind, EnumNumbers, Open, Closed, in_i32, is_declared, kind_default, scalar_valid}
 use Rattle.prost_reflect_wire.specs.Scalar as scalars
-use Rattle.prost_reflect_wire.specs.Schema.{Kind, ScalarOf, Schema, kind_valid, default_valid}
+use Rattle.prost_reflect_wire.specs.Schema.{ScalarOf, Schema, kind_valid, default_valid}
 use Rattle.prost_reflect_wire.specs.declared.records.FieldDescriptorProto.{FieldDescriptorProto}
 use Rattle.prost_reflect_wire.specs.declared.records.EnumValueDescriptorProto.{EnumValueDescriptorProto}
 use Rattle.prost_reflect_tables.specs.declared.tables.TableKind.{TableKind}
 use Rattle.prost_reflect_tables.specs.declared.tables.TableKind.TheVariants as kinds
-use Rattle.prost_reflect_tables.specs.Rows.{EnumValueRow, EnumRow, TableRows}
+use Rattle.prost_reflect_tables.specs.Rows.{EnumValueRow, EnumRow}
 use Rattle.prost_reflect_tables.specs.Shown.{first_number, enum_kind, schema_kind, schema_default}
 use Rattle.prost_reflect_tables.specs.WrittenDefaults.{signed, up_to, whole_number, float_bits, binary32, binary64, boolean, unescaped, number_named, written_default, field_default}
 use Rattle.prost_reflect_tables.specs.Flat.{DefinitionRow, FlatEnumRow, FlatRows}
-use Rattle.prost_reflect_tables.specs.Linking.{Links, links_of, linked_kind, linked_default, linked_value, linked_enum, linked_rows, value_number, values_of_kind}
+use Rattle.prost_reflect_tables.specs.Linking.{links_of, linked_kind, linked_default, linked_value, linked_enum, linked_rows, value_number, values_of_kind}
 use Rattle.prost_reflect_tables.proofs.Linkwell.Premises.{EnumChecked}
 use Rattle.prost_reflect_tables.proofs.Linkwell.Kinds.{is_scalar, FieldKind, NamesMessage, NamesEnum, IsScalar}
 use Rattle.prost_reflect_tables.proofs.Linkwell.WrittenValues.{up_to_limit, signed_i32, signed_i64, float_32, float_64, unescaped_are_bytes, named_number}

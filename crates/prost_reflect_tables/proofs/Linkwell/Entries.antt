@@ -1,23 +1,23 @@
 -- An entry that passes the checks has a key and a value, the numbers 1 and 2, and no extension.
-use Rattle.std.proofs.Common.{⊎_elim, ◌⊎◌, inl, inr, ◌≡◌, ℕ, zero, suc, ℤ, pos, negsuc, ◌+◌, ◌<◌, ◌≤◌, Bool, true, false, cond, not, ◌&&◌, ◌||◌, List, [], ◌∷◌, ◌++◌, map, length, Option, Some, None, is_some, is_none, refl, sym, ap, ◌∙◌, subst, arith, slice_get, nat_eq, nat_lt, nat_le}
+use Rattle.std.proofs.Common.{◌⊎◌, inl, inr, ◌≡◌, ℕ, suc, ℤ, pos, negsuc, ◌+◌, Bool, true, false, cond, not, ◌&&◌, List, [], ◌∷◌, ◌++◌, map, length, Option, Some, None, is_some, is_none, refl, sym, ap, ◌∙◌, arith, slice_get, nat_eq}
 use Rattle.std.specs.Prelude.{option_and_then}
-use Rattle.std.specs.List.{list_any, list_all}
-use Rattle.std.proofs.lemmas.Bool.{and_from, and_parts, or_cases, not-true, not-false, eqb-true}
+use Rattle.std.specs.List.{list_any}
+use Rattle.std.proofs.lemmas.Bool.{and_parts, or_cases, not-true, not-false, eqb-true}
 use Rattle.prost_reflect_tables.specs.declared.tables.TableKind.{TableKind}
-use Rattle.prost_reflect_wire.specs.Schema.{Schema, kind_valid, is_key_kind, is_group, message_has_presence}
+use Rattle.prost_reflect_wire.specs.Schema.{kind_valid, is_key_kind, is_group}
 use Rattle.prost_reflect_wire.specs.declared.records.FieldDescriptorProto.{FieldDescriptorProto}
 use Rattle.prost_reflect_wire.specs.declared.records.ExtensionRange.{ExtensionRange}
 use Rattle.prost_reflect_tables.specs.Rows.{FieldRow, EnumRow}
 use Rattle.prost_reflect_tables.specs.Linked.{has_entry_numbers}
-use Rattle.prost_reflect_tables.specs.Shown.{schema_kind, schema_from, own_type}
+use Rattle.prost_reflect_tables.specs.Shown.{schema_kind, schema_from}
 use Rattle.prost_reflect_tables.specs.Flat.{DefinitionRow, FlatMessageRow, FlatEnumRow, FlatRows}
 use Rattle.prost_reflect_tables.specs.Faults as faults
 use Rattle.prost_reflect_tables.specs.Faults.{number_or_zero, is_code, is_member, message_names, place_named, message_named, is_in_range, is_out_of, extension_outside}
 use Rattle.prost_reflect_tables.specs.EntryFaults.{is_entry, is_key_type, is_plain, is_entry_key, is_entry_value, is_key_and_value, entry_bad, is_of_entry, wrongly_of_entry}
-use Rattle.prost_reflect_tables.specs.Linking.{Links, links_of, natural_or_zero, is_place, is_group_code, belonging, extended_place, kind_of_code, linked_kind, linked_field, linked_rows, put_in_order, in_order, declared_fields, fields_of_message, place_or_first}
+use Rattle.prost_reflect_tables.specs.Linking.{Links, links_of, natural_or_zero, is_place, is_group_code, belonging, extended_place, kind_of_code, linked_field, linked_rows, in_order, declared_fields, fields_of_message, place_or_first}
 use Rattle.prost_reflect_tables.proofs.Linkwell.Premises.{FieldChecked, EnumChecked}
 use Rattle.prost_reflect_tables.proofs.Linkwell.Kinds.{Below, below_at, TypeCode, type_code, FieldKind}
-use Rattle.prost_reflect_tables.proofs.Linkwell.Shapes.{own_kind, RowSound, EntrySound}
+use Rattle.prost_reflect_tables.proofs.Linkwell.Shapes.{own_kind, EntrySound}
 use Rattle.prost_reflect_tables.proofs.Linkwell.Fields.{number_shown, repeated_shown, no_default, no_group, unwritten_default, row_sound, type_shown_valid, kind_row}
 
 -- NO EXTENSION

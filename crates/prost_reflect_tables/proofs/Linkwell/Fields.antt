@@ -1,8 +1,7 @@
 -- What linking makes of a field that passes the checks: its number, its presence, its lists, its place in a oneof, and its own type.
-use Rattle.std.proofs.Common.{◌≡◌, ℕ, ℤ, pos, negsuc, ◌+◌, ◌<◌, ◌≤◌, ◌^◌, Bool, true, false, cond, not, ◌&&◌, ◌||◌, List, [], ◌∷◌, map, length, Option, Some, None, is_some, is_none, refl, sym, ap, ◌∙◌, subst, arith, slice_get, nat_eq, nat_lt, nat_le, String, Global}
-use Rattle.std.specs.Ordering.{int_eq, int_cmp, is_eq}
-use Rattle.std.specs.Str.{is_utf8, chars}
-use Rattle.std.proofs.lemmas.Bool.{and_from, and_parts, or_parts, or_left, or_right, not-true, not-false, eqb-true, lt-ltb, leb-false}
+use Rattle.std.proofs.Common.{◌≡◌, ℕ, ℤ, pos, negsuc, ◌+◌, Bool, true, false, cond, not, ◌&&◌, ◌||◌, List, length, Option, Some, None, is_some, refl, sym, ap, ◌∙◌, subst, arith, slice_get, nat_eq, nat_lt, String, Global}
+use Rattle.std.specs.Ordering.{int_cmp, is_eq}
+use Rattle.std.proofs.lemmas.Bool.{and_from, not-false, eqb-true, lt-ltb, leb-false}
 use Rattle.std.proofs.lemmas.Bool.Decides.{Decides-int_eq}
 use Rattle.std.proofs.lemmas.Option.{slice_get_within}
 use Rattle.prost_reflect_wire.specs.Record.{number_valid}
@@ -15,21 +14,20 @@ use Rattle.prost_reflect_tables.specs.declared.tables.Cardinality.{Cardinality}
 use Rattle.prost_reflect_tables.specs.declared.tables.Cardinality.TheVariants.{Optional, Required, Repeated}
 use Rattle.prost_reflect_tables.specs.declared.tables.TableKind.{TableKind}
 use Rattle.prost_reflect_tables.specs.declared.tables.TableKind.TheVariants as kinds
-use Rattle.prost_reflect_tables.specs.Rows.{FieldRow, MessageRow, EnumRow, TableRows}
+use Rattle.prost_reflect_tables.specs.Rows.{FieldRow, MessageRow, EnumRow}
 use Rattle.prost_reflect_tables.specs.Linked.{kind_in_range, oneof_in_range}
-use Rattle.prost_reflect_tables.specs.Shown.{enum_kind, schema_kind, schema_default, is_required, own_type, schema_message, schema_from}
-use Rattle.prost_reflect_tables.specs.Options.{bool_option}
+use Rattle.prost_reflect_tables.specs.Shown.{enum_kind, schema_kind, schema_default, is_required, own_type, schema_from}
 use Rattle.prost_reflect_tables.specs.Flat.{DefinitionRow, FlatMessageRow, FlatEnumRow, FlatRows}
 use Rattle.prost_reflect_tables.specs.Faults as faults
 use Rattle.prost_reflect_tables.specs.Faults.{number_or_zero, is_field_number, number_bad, is_code, is_message_type, repeated_member, is_member, is_outside, oneof_outside}
 use Rattle.prost_reflect_tables.specs.EntryFaults.{is_entry, is_of_entry, names_entry, is_entry_message}
 use Rattle.prost_reflect_tables.specs.DefaultFaults.{default_misplaced}
-use Rattle.prost_reflect_tables.specs.Linking.{Links, links_of, natural_or_zero, place_in, is_message, is_packable, is_repeated, cardinality_of_label, linked_kind, linked_packed, linked_presence, linked_default, linked_field, linked_message, linked_rows, fields_of_message}
+use Rattle.prost_reflect_tables.specs.Linking.{Links, links_of, natural_or_zero, place_in, is_message, is_packable, is_repeated, cardinality_of_label, linked_kind, linked_default, linked_field, linked_message, linked_rows, fields_of_message}
 use Rattle.prost_reflect_tables.proofs.Linkwell.Items.{message_at, messages_length}
 use Rattle.prost_reflect_tables.proofs.Linkwell.Premises.{FieldChecked, EnumChecked}
 use Rattle.prost_reflect_tables.proofs.Linkwell.Kinds.{is_scalar, FieldKind, NamesMessage, NamesEnum, IsScalar}
 use Rattle.prost_reflect_tables.proofs.Linkwell.Shapes.{own_kind, type_shown, types_shown, RowSound}
-use Rattle.prost_reflect_tables.proofs.Linkwell.Defaults.{enum_scalar, enum_kind_valid, enum_shown, default_shown}
+use Rattle.prost_reflect_tables.proofs.Linkwell.Defaults.{enum_kind_valid, enum_shown, default_shown}
 
 -- NUMBERS
 

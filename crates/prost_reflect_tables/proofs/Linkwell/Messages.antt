@@ -1,10 +1,9 @@
 -- Numbers in a message and its extensions differ, and members of its oneofs are among its fields.
-use Rattle.std.proofs.Common.{◌≡◌, ◌≢◌, ℕ, zero, suc, ℤ, pos, ◌+◌, ◌<◌, ◌≤◌, ◌^◌, Bool, true, false, cond, not, ◌&&◌, ◌||◌, List, [], ◌∷◌, ◌++◌, map, length, filter, Option, Some, None, refl, sym, ap, ◌∙◌, subst, arith, slice_get, nat_eq, nat_lt, length-append}
+use Rattle.std.proofs.Common.{◌≡◌, ℕ, zero, suc, ℤ, pos, ◌+◌, ◌<◌, ◌≤◌, ◌^◌, Bool, true, false, cond, ◌&&◌, List, [], ◌∷◌, ◌++◌, map, length, filter, Option, Some, None, refl, sym, ap, ◌∙◌, subst, arith, slice_get, nat_eq, nat_lt, length-append}
 use Rattle.std.specs.Ordering.{int_eq}
-use Rattle.std.specs.List.{list_any, list_all}
-use Rattle.std.proofs.lemmas.Bool.{and_from, and_parts, eqb-true, eq-eqb, ltb-true, ltb-false, lt-ltb}
+use Rattle.std.specs.List.{list_all}
+use Rattle.std.proofs.lemmas.Bool.{and_from, eqb-true, eq-eqb, ltb-true, lt-ltb}
 use Rattle.std.proofs.lemmas.Bool.Decides.{Decides-int_eq}
-use Rattle.std.proofs.lemmas.List.{length-map}
 use Rattle.std.proofs.lemmas.List.Folds.{list_all-append, list_all-map}
 use Rattle.prost_reflect_wire.specs.declared.records.FieldDescriptorProto.{FieldDescriptorProto}
 use Rattle.prost_reflect_wire.specs.declared.records.OneofDescriptorProto.{OneofDescriptorProto}
@@ -15,7 +14,7 @@ use Rattle.prost_reflect_tables.specs.Faults.{number_or_zero, number_bad, messag
 use Rattle.prost_reflect_tables.specs.Linking.{Links, links_of, natural_or_zero, is_place, belonging, extended_place, linked_field, declared_fields, fields_of_message, in_order, oneof_place, member_place, oneofs_from}
 use Rattle.prost_reflect_tables.proofs.Sorting.{with_number, order_there}
 use Rattle.prost_reflect_tables.proofs.Linkwell.Items.{all_from, all_belonging, all_in_order}
-use Rattle.prost_reflect_tables.proofs.Linkwell.Numbers.{number_of, in_number_range, AtMostOne, order_ascends, count_same, count_append, counted_once, filter_append}
+use Rattle.prost_reflect_tables.proofs.Linkwell.Numbers.{number_of, in_number_range, AtMostOne, order_ascends, count_same, count_append, filter_append}
 use Rattle.prost_reflect_tables.proofs.Linkwell.Fields.{number_is_natural, number_in_range, number_shown}
 
 -- A test of each field and of each extension of a message, in order.

@@ -7,9 +7,9 @@ use Rattle.prost_reflect_wire.specs.Scalar.{in_i32}
 use Rattle.prost_reflect_wire.specs.declared.records.FileDescriptorProto.{FileDescriptorProto}
 use Rattle.prost_reflect_wire.specs.declared.records.FieldDescriptorProto.{FieldDescriptorProto}
 use Rattle.prost_reflect_tables.specs.Flat.{DefinitionRow, FlatMessageRow, FlatEnumRow, FlatServiceRow, FlatRows}
-use Rattle.prost_reflect_tables.specs.Faults.{any_field, number_bad, type_missing, type_unknown, extendee_missing, extendee_unknown, method_type_missing, method_type_unknown, label_bad, repeated_member, is_member, has_oneof_outside, import_outside, enum_empty, extension_outside}
+use Rattle.prost_reflect_tables.specs.Faults.{any_field, number_bad, type_missing, type_unknown, extendee_missing, extendee_unknown, repeated_member, is_member, has_oneof_outside, import_outside, enum_empty, extension_outside}
 use Rattle.prost_reflect_tables.specs.EntryFaults.{bad_map_entry, entry_bad, wrongly_of_entry, is_of_entry, method_of_entry}
-use Rattle.prost_reflect_tables.specs.DefaultFaults.{bad_default, default_bad, default_misplaced, default_unread, is_float_type}
+use Rattle.prost_reflect_tables.specs.DefaultFaults.{default_bad, default_misplaced}
 use Rattle.prost_reflect_tables.specs.Linking.{Links, links_of, value_number, linked_enum, linked_rows}
 use Rattle.prost_reflect_tables.specs.Checked.{Checked}
 use Rattle.prost_reflect_tables.specs.InRange.{enum_in_range, in_range}

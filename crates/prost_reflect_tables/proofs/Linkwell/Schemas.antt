@@ -1,5 +1,5 @@
 -- The schema of files that pass the checks is one of a checked pool.
-use Rattle.std.proofs.Common.{◌≡◌, ℕ, suc, ℤ, pos, negsuc, ◌+◌, ◌<◌, ◌≤◌, ◌^◌, Bool, true, false, cond, not, ◌&&◌, ◌||◌, List, [], ◌∷◌, ◌++◌, map, length, Option, Some, None, is_some, refl, sym, ap, ◌∙◌, subst, arith, slice_get, nat_eq, nat_lt}
+use Rattle.std.proofs.Common.{◌≡◌, ℕ, ℤ, pos, negsuc, ◌+◌, ◌<◌, ◌≤◌, ◌^◌, Bool, true, false, cond, not, ◌&&◌, List, [], ◌∷◌, map, Option, Some, None, refl, ap, ◌∙◌, arith, slice_get, nat_eq, nat_lt}
 use Rattle.std.specs.List.{list_any, list_all}
 use Rattle.std.proofs.lemmas.Bool.{and_from, and_parts, or_from, ltb-true, ne_eqb, eqb-true}
 use Rattle.std.proofs.lemmas.List.Folds.{list_all-map}
@@ -16,8 +16,8 @@ use Rattle.prost_reflect_tables.specs.Shown.{schema_kind, entry_or_none, entry_a
 use Rattle.prost_reflect_tables.specs.Flat.{DefinitionRow, FlatMessageRow, FlatEnumRow, FlatRows}
 use Rattle.prost_reflect_tables.specs.Faults as faults
 use Rattle.prost_reflect_tables.specs.Faults.{is_code, is_member, extension_outside}
-use Rattle.prost_reflect_tables.specs.EntryFaults.{is_entry, is_of_entry, wrongly_of_entry}
-use Rattle.prost_reflect_tables.specs.Linking.{Links, links_of, is_repeated, natural_or_zero, is_place, extended_place, linked_kind, linked_field, linked_message, linked_rows, in_order, fields_of_message}
+use Rattle.prost_reflect_tables.specs.EntryFaults.{is_entry, is_of_entry}
+use Rattle.prost_reflect_tables.specs.Linking.{links_of, linked_kind, linked_field, linked_message, linked_rows, in_order, fields_of_message}
 use Rattle.prost_reflect_tables.proofs.Linkwell.Items.{messages_all}
 use Rattle.prost_reflect_tables.proofs.Linkwell.Premises.{Sound, FieldChecked, EnumChecked, field_checked, extension_checked, message_checked, enum_checked}
 use Rattle.prost_reflect_tables.proofs.Linkwell.Kinds.{FieldKind, NamesMessage, NamesEnum, IsScalar, is_scalar, field_kind}
