@@ -4,7 +4,7 @@ ghost use Rattle.std.specs.Prelude.{◌≡◌, true, OnOk, OnErr, IfOk, option_m
 ghost use Rattle.std.specs.Borrow.{LendsIfOk, sem};
 ghost use Rattle.std.specs.Option.{option_copied};
 ghost use Rattle.prost_reflect_wire.specs.Unknown.{record_of, records_of};
-ghost use Rattle.prost_reflect_wire.specs.Content.{empty, entries_of, value_at, slot_at};
+ghost use Rattle.prost_reflect_wire.specs.Content.{empty, entries_of, value_at};
 ghost use Rattle.prost_reflect_wire.specs.Edit.{cleared};
 ghost use Rattle.prost_reflect.specs.contracts.message.DynamicMessage.{the_row};
 ghost use Rattle.prost_reflect.specs.contracts.value.Value as value;

@@ -5,7 +5,7 @@ ghost use Rattle.prost_reflect_wire.specs.Typing.{kept, encodable};
 ghost use Rattle.prost_reflect.specs.Pools.{pool_rows};
 ghost use Rattle.prost_reflect.specs.Descriptors.{schema_at, type_at};
 ghost use Rattle.prost_reflect_tables.specs.Places.{message_place};
-ghost use Rattle.prost_reflect.specs.View.{content_of, descriptor_of};
+ghost use Rattle.prost_reflect.specs.View.{content_of};
 ghost use Rattle.protorelay.specs.Sets.{IsPoolOfSet};
 ghost use Rattle.protorelay.specs.Reading.{pool_schema, IsRead, IsReadIn, RefusesPool, RefusesIn, Refuses, hex_refusal, pool_refusal, decode_refusal, encode_refusal};
 ghost use Rattle.protorelay.specs.declared.reading.Refusal.TheVariants as refusals;

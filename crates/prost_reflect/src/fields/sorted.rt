@@ -1,8 +1,8 @@
 //! A map from numbers as a sorted vector.
 
-ghost use Rattle.std.specs.Prelude.{◌≡◌, ◌<◌, ℕ, List, [], length, OnOk, OnErr, OnSome, Some, slice_get};
+ghost use Rattle.std.specs.Prelude.{◌≡◌, ◌<◌, ℕ, List, [], length, OnOk, OnErr, Some, slice_get};
 ghost use Rattle.std.specs.Map.{values_of};
-ghost use Rattle.std.specs.Borrow.{Lends, LendsIf, LendsSo, sem};
+ghost use Rattle.std.specs.Borrow.{Lends, LendsIf, sem};
 ghost use Rattle.std.specs.Option.{option_copied, option_copied_mut, option_map};
 ghost use Rattle.std.specs.Ordering.{nat_cmp};
 ghost use Rattle.std_collections.specs.Layout.BTreeMap.{seek, index_of};

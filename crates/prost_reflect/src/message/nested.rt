@@ -1,12 +1,12 @@
 //! Reading messages and groups into the message of their field (the encoding guide, "Submessages", "Groups" and "Last One
 //! Wins": the records of several messages of one field are read as those of one message).
 
-ghost use Rattle.std.specs.Prelude.{◌≡◌, ◌≢◌, ◌≤◌, ◌<◌, length, true, IfOk, IfErr, OnOk};
+ghost use Rattle.std.specs.Prelude.{◌≡◌, ◌≢◌, ◌≤◌, ◌<◌, length, IfOk, IfErr, OnOk};
 ghost use Rattle.prost_reflect_wire.specs.Schema.{MessageOf, GroupOf};
 ghost use Rattle.prost_reflect_wire.specs.Content.{MessageValue, empty};
 ghost use Rattle.prost_reflect_wire.specs.Typing.{WellStored};
 ghost use Rattle.prost_reflect_wire.specs.Decoding.{GroupProgress, Step, StandsBehindKey, StandsInGroup};
-ghost use Rattle.prost_reflect.specs.Descriptors.{schema_at, type_at};
+ghost use Rattle.prost_reflect.specs.Descriptors.{schema_at};
 ghost use Rattle.prost_reflect.specs.Pools.{pool_rows};
 ghost use Rattle.prost_reflect.specs.Targets.{NestedField, NestedFault};
 ghost use Rattle.prost_reflect.specs.Held.{HeldMessage, ReadIntoHeld, GroupReadIntoHeld, StandsInHeld, GroupStandsInHeld};
