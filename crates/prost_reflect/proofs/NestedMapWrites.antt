@@ -131,10 +131,6 @@ module _ {A : Type 0} (f : A → List ℕ) where
   flat_behind [] ys = refl
   flat_behind (x ∷ xs) ys = ap (λ l. f x ++ l) (flat_behind xs ys) ∙ sym (append_assoc (f x) (flat_map f xs) (flat_map f ys))
 
-  -- one more in front of those that are written
-  pub flat_more : (x : A) (done : List A) (old mid new : List ℕ) → mid ≡ flat_map f done ++ old → new ≡ f x ++ mid → new ≡ flat_map f (x ∷ done) ++ old
-  flat_more x done old mid new m h = h ∙ ap (λ l. f x ++ l) m ∙ sym (append_assoc (f x) (flat_map f done) old)
-
   -- a length that is too great before the whole is written
   pub flat_part_too_long : (items left done : List A) (x : A) (old mid : List ℕ) → items ≡ left ++ x ∷ done → mid ≡ flat_map f done ++ old → 2 ^ 64 ≤ length (f x) + length mid → 2 ^ 64 ≤ length (flat_map f items) + length old
   flat_part_too_long items left done x old mid cut m h =

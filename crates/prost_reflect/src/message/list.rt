@@ -1,9 +1,6 @@
 //! Lists of scalars (the encoding guide, "Repeated Elements" and "Packed Repeated Fields").
 
-ghost use Rattle.std.specs.Prelude.{◌≡◌, ◌≢◌, ◌++◌, true, Some, IsSome, IsSomeAnd, IfOk, IfErr};
-ghost use Rattle.prost_reflect_wire.specs.declared.key.WireType.TheVariants as wires;
-ghost use Rattle.prost_reflect_wire.specs.Varint.{short};
-ghost use Rattle.prost_reflect_wire.specs.Record.{short_key};
+ghost use Rattle.std.specs.Prelude.{◌≡◌, ◌≢◌, true, Some, IsSome, IsSomeAnd, IfOk, IfErr};
 ghost use Rattle.prost_reflect_wire.specs.Buffer.{bytes_of, Prepended};
 ghost use Rattle.prost_reflect_tables.specs.Rows.{field_row};
 ghost use Rattle.prost_reflect_wire.specs.Schema.{is_packable};
@@ -16,7 +13,7 @@ ghost use Rattle.prost_reflect.specs.Scalars.{plain_kind};
 ghost use Rattle.prost_reflect.specs.View.{value_of, content_of, descriptor_of};
 
 use crate::message::DynamicMessage;
-use crate::message::encode::{prepend_key, prepend_scalar, prepend_scalar_record};
+use crate::message::encode::{prepend_length, prepend_scalar, prepend_scalar_record};
 use crate::message::scalar::{scalar_at, wire_type_of};
 use crate::value::Value;
 use prost_reflect_tables::{FieldTable, TableKind};
@@ -159,14 +156,6 @@ fn prepend_records(
         prepend_scalar_record(buffer, number, kind, &values[index])?;
     }
     Ok(())
-}
-
-/// Adds the key and the length of a delimited payload in front.
-fn prepend_length(buffer: &mut BackBuffer, number: u32, length: usize) -> Result<(), EncodeError>
-    ensures { Prepended result (bytes_of buffer.old) (bytes_of buffer.new) (short_key number wires.LengthDelimited ++ short length) }
-{
-    buffer.prepend_varint(length as u64)?;
-    prepend_key(buffer, number, WireType::LengthDelimited)
 }
 
 /// Adds one record of all scalars in front.

@@ -1,4 +1,4 @@
-use Rattle.std.proofs.Common.{rules, ◌≡◌, ◌∷◌, Some, ap, sym, subst, ◌∙◌, inl, inr, ◌⊎◌, arith, ◌-◌}
+use Rattle.std.proofs.Common.{rules, ◌≡◌, refl, ◌∷◌, Some, ap, sym, subst, ◌∙◌, inl, inr, ◌⊎◌, arith, ◌-◌}
 use Rattle.std.proofs.lemmas.Result.{err_from_is_err_and}
 use Rattle.prost_reflect_tables.specs.Rows.{field_row}
 use Rattle.prost_reflect_wire.specs.declared.unknown.UnknownFieldSet.{UnknownFieldSet}
@@ -14,9 +14,9 @@ use Rattle.prost_reflect.proofs.WrittenValues.{row_written}
 use Rattle.prost_reflect.specs.RowKinds.{names_message}
 use Rattle.prost_reflect.specs.Known.{known_of}
 use Rattle.prost_reflect.proofs.Merging.{no_message_kind}
-use Rattle.prost_reflect.proofs.WrittenLists.{valid_list_value, row_list_written, takes_same, list_value_bytes, flat_too_long}
+use Rattle.prost_reflect.proofs.WrittenLists.{valid_list_value, row_list_written, takes_same, list_value_bytes, flat_before, flat_too_long}
 use Rattle.prost_reflect.proofs.RepeatedRows.{listed_form, map_of_rows}
-use Rattle.prost_reflect.proofs.NestedMapWrites.{nested_rows, nested_rows_written, nested_value_bytes, flat_more, flat_part_too_long, most_in, entry_at}
+use Rattle.prost_reflect.proofs.NestedMapWrites.{nested_rows, nested_rows_written, nested_value_bytes, flat_part_too_long, most_in, entry_at}
 use Rattle.prost_reflect.specs.NestedMaps.{AreEntries, nested_entry_bytes}
 use Rattle.prost_reflect.proofs.WrittenMaps.{cut_pairs}
 use Rattle.prost_reflect.specs.View.{key_of}
@@ -177,7 +177,7 @@ prepend_entries-loop-key-preserved t c =
     let cut = cut_pairs _ _ _ _ e c.loop-key.invariant.1 c.in-Some.ensures.steps in (
       e ∷ done,
       cut,
-      flat_more (λ (e : MapKey × Value). nested_entry_bytes c.args.number (field_row c.args.key_field.now) (key_of e.0) (value_of e.1)) e done (bytes_of c.args.buffer.now) (bytes_of c.loop-key.buffer) _ c.loop-key.invariant.2 c.in_ok-prepend_entry.ensures,
+      flat_before (λ (e : MapKey × Value). nested_entry_bytes c.args.number (field_row c.args.key_field.now) (key_of e.0) (value_of e.1)) (e ∷ done) done e (bytes_of c.args.buffer.now) (bytes_of c.loop-key.buffer) _ refl c.loop-key.invariant.2 c.in_ok-prepend_entry.ensures,
     )
 
 pub prepend_entry-unreachable-requires : goal.prepend_entry-unreachable-requires
