@@ -15,11 +15,11 @@ use Rattle.prost_reflect_wire.specs.declared.unknown.UnknownFieldSet.{UnknownFie
 use Rattle.prost_reflect_wire.specs.Schema.{Field, known}
 use Rattle.prost_reflect.specs.declared.fields.entry.Entry.{Entry}
 use Rattle.prost_reflect.specs.declared.fields.entry.Entry.TheVariants as entries
-use Rattle.prost_reflect.specs.declared.descriptor.message.MessageDescriptor.{MessageDescriptor}
+use Rattle.prost_reflect_descriptors.specs.declared.message.MessageDescriptor.{MessageDescriptor}
 use Rattle.prost_reflect.specs.declared.message.DynamicMessage.{DynamicMessage}
 use Rattle.prost_reflect.specs.declared.value.Value.{Value}
 use Rattle.prost_reflect.specs.declared.value.Value.TheViews.{roll-DynamicMessage}
-use Rattle.prost_reflect.specs.Descriptors.{SameMessage}
+use Rattle.prost_reflect_descriptors.specs.Descriptors.{SameMessage}
 use Rattle.prost_reflect_tables.specs.Shown.{schema_from}
 use Rattle.prost_reflect.specs.Items.{IsAscending, item_at, put_item}
 use Rattle.prost_reflect.specs.Known.{known_of}

@@ -12,9 +12,9 @@ use Rattle.prost_reflect_tables.specs.Places.{row_of}
 use Rattle.prost_reflect_tables.specs.Shown.{schema_from, schema_field}
 use Rattle.prost_reflect_tables.proofs.Keeping.{schema_is_valid}
 use Rattle.prost_reflect_tables.proofs.Fields.{known_rows, field_of_number, known_row}
-use Rattle.prost_reflect.specs.Pools.{pool_rows}
-use Rattle.prost_reflect.specs.Descriptors.{schema_at, type_at, fields_of, SameMessage}
-use Rattle.prost_reflect.specs.declared.descriptor.message.MessageDescriptor.{MessageDescriptor}
+use Rattle.prost_reflect_descriptors.specs.Pools.{pool_rows}
+use Rattle.prost_reflect_descriptors.specs.Descriptors.{schema_at, type_at, fields_of, SameMessage}
+use Rattle.prost_reflect_descriptors.specs.declared.message.MessageDescriptor.{MessageDescriptor}
 
 -- The schema is one of a checked pool, and has the type.
 pub schema_at_valid : (m : MessageDescriptor) → schema_valid (schema_at m) ≡ true

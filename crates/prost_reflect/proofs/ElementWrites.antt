@@ -15,16 +15,16 @@ use Rattle.prost_reflect_wire.proofs.Checked.{checked_field, checked_list}
 use Rattle.prost_reflect_wire.proofs.ListWritten.{messages_written}
 use Rattle.prost_reflect_tables.specs.Rows.{FieldRow}
 use Rattle.prost_reflect_tables.specs.Shown.{schema_kind, schema_field}
-use Rattle.prost_reflect.specs.declared.descriptor.message.MessageDescriptor.{MessageDescriptor}
+use Rattle.prost_reflect_descriptors.specs.declared.message.MessageDescriptor.{MessageDescriptor}
 use Rattle.prost_reflect.specs.declared.message.DynamicMessage.{DynamicMessage}
 use Rattle.prost_reflect.specs.declared.value.Value.{Value}
 use Rattle.prost_reflect.specs.declared.value.Value as values
 use Rattle.prost_reflect.specs.RowKinds.{is_repeated, names_message}
-use Rattle.prost_reflect.specs.Descriptors.{schema_at}
+use Rattle.prost_reflect_descriptors.specs.Descriptors.{schema_at}
 use Rattle.prost_reflect.specs.Encoding.{ValueWritable, nested_bytes}
 use Rattle.prost_reflect.specs.Known.{known_of}
 use Rattle.prost_reflect.specs.Lists.{ElementWritable, AreElements, element_bytes, elements_bytes}
-use Rattle.prost_reflect.specs.Pools.{pool_rows}
+use Rattle.prost_reflect_descriptors.specs.Pools.{pool_rows}
 use Rattle.prost_reflect.specs.View.{value_of, content_of}
 use Rattle.prost_reflect.proofs.RowKinds.{message_kind}
 use Rattle.prost_reflect.proofs.Described.{found_checked}

@@ -7,13 +7,6 @@ pub mod Siblings
 pub mod SoundChanges
 pub mod MembersCleared
 pub mod RowKinds
-mod BuiltinFacts
-mod NoFiles
-mod BuiltinFields
-mod BuiltinLinks
-mod BuiltinMessages
-mod BuiltinChecked
-mod OneFile
 pub mod PlainKinds
 pub mod Views
 pub mod Slots
@@ -41,7 +34,6 @@ pub mod Defaults
 pub mod Keys
 pub mod Copied
 pub mod CopiedPairs
-pub mod EqualDescriptors
 pub mod StoredViews
 pub mod StoredContents
 mod ListElements

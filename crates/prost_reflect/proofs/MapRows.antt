@@ -14,16 +14,16 @@ use Rattle.prost_reflect_tables.specs.declared.tables.Cardinality.{Cardinality}
 use Rattle.prost_reflect_tables.specs.declared.tables.Cardinality.TheVariants.{Optional, Required, Repeated as RepeatedLabel}
 use Rattle.prost_reflect_tables.specs.Rows.{FieldRow, MessageRow, TableRows}
 use Rattle.prost_reflect_tables.specs.Shown.{schema_kind, schema_default, own_type, type_or, map_entry, form_of, value_type_of, schema_field}
-use Rattle.prost_reflect.specs.declared.descriptor.message.MessageDescriptor.{MessageDescriptor}
+use Rattle.prost_reflect_descriptors.specs.declared.message.MessageDescriptor.{MessageDescriptor}
 use Rattle.prost_reflect.specs.declared.value.MapKey.{MapKey}
 use Rattle.prost_reflect.specs.declared.value.Value.{Value}
 use Rattle.prost_reflect.specs.declared.value.Value as values
-use Rattle.prost_reflect.specs.Pools.{pool_rows}
-use Rattle.prost_reflect.specs.Descriptors.{schema_at}
+use Rattle.prost_reflect_descriptors.specs.Pools.{pool_rows}
+use Rattle.prost_reflect_descriptors.specs.Descriptors.{schema_at}
 use Rattle.prost_reflect.specs.Known.{known_of}
 use Rattle.prost_reflect.specs.RowKinds.{is_plain, names_message}
 use Rattle.prost_reflect.specs.ContentLaws.{pairs_shown}
-use Rattle.prost_reflect.specs.MapParts.{two_of, entry_parts, map_parts}
+use Rattle.prost_reflect_descriptors.specs.MapParts.{two_of, entry_parts, map_parts}
 use Rattle.prost_reflect.specs.Maps.{ScalarMap, pairs_bytes, IsMap, MapOfRows}
 use Rattle.prost_reflect.specs.View.{value_of}
 use Rattle.prost_reflect.proofs.RowKinds as row_kinds

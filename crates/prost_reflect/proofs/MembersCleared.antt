@@ -10,9 +10,9 @@ use Rattle.prost_reflect_tables.specs.Rows.{field_row, TableRows}
 use Rattle.prost_reflect_tables.specs.Shown.{schema_field}
 use Rattle.prost_reflect_tables.proofs.Fields.{known_rows}
 use Rattle.prost_reflect.specs.declared.fields.entry.Entry.{Entry}
-use Rattle.prost_reflect.specs.declared.descriptor.message.MessageDescriptor.{MessageDescriptor}
-use Rattle.prost_reflect.specs.Pools.{pool_rows}
-use Rattle.prost_reflect.specs.Descriptors.{fields_of}
+use Rattle.prost_reflect_descriptors.specs.declared.message.MessageDescriptor.{MessageDescriptor}
+use Rattle.prost_reflect_descriptors.specs.Pools.{pool_rows}
+use Rattle.prost_reflect_descriptors.specs.Descriptors.{fields_of}
 use Rattle.prost_reflect.specs.Items.{IsAscending}
 use Rattle.prost_reflect.specs.Entries.{without_values, clear_value}
 use Rattle.prost_reflect.specs.Known.{known_of, oneof_of, are_siblings}

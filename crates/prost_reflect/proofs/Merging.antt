@@ -24,11 +24,11 @@ use Rattle.prost_reflect_tables.specs.declared.tables.TableKind.{TableKind}
 use Rattle.prost_reflect_tables.specs.declared.tables.TableKind.TheVariants as kinds
 use Rattle.prost_reflect_tables.specs.Rows.{FieldRow}
 use Rattle.prost_reflect_tables.specs.Shown.{schema_kind, schema_field}
-use Rattle.prost_reflect.specs.declared.descriptor.message.MessageDescriptor.{MessageDescriptor}
+use Rattle.prost_reflect_descriptors.specs.declared.message.MessageDescriptor.{MessageDescriptor}
 use Rattle.prost_reflect.specs.declared.message.DynamicMessage.{DynamicMessage}
 use Rattle.prost_reflect.specs.declared.value.Value.{Value}
 use Rattle.prost_reflect.specs.declared.message.decode.Target.TheVariants as targets
-use Rattle.prost_reflect.specs.Pools.{pool_rows}
+use Rattle.prost_reflect_descriptors.specs.Pools.{pool_rows}
 use Rattle.prost_reflect.specs.Known.{known_of}
 use Rattle.prost_reflect.specs.View.{value_of, content_of, descriptor_of}
 use Rattle.prost_reflect.specs.Scalars.{PlainField, ReadsScalar, RefusesScalar, ReadsStray, StaysUnknown, is_stray_number}

@@ -17,7 +17,7 @@ use Rattle.prost_reflect_tables.specs.declared.tables.TableKind.{TableKind}
 use Rattle.prost_reflect_tables.specs.declared.tables.TableKind.TheVariants as kinds
 use Rattle.prost_reflect_tables.specs.Rows.{FieldRow, EnumRow}
 use Rattle.prost_reflect_tables.specs.Shown.{own_type, schema_field}
-use Rattle.prost_reflect.specs.declared.descriptor.message.MessageDescriptor.{MessageDescriptor}
+use Rattle.prost_reflect_descriptors.specs.declared.message.MessageDescriptor.{MessageDescriptor}
 use Rattle.prost_reflect.specs.declared.value.MapKey.{MapKey}
 use Rattle.prost_reflect.specs.declared.value.Value.{Value}
 use Rattle.prost_reflect.specs.declared.value.Value as values
@@ -26,10 +26,10 @@ use Rattle.prost_reflect.specs.RowKinds.{names_message}
 use Rattle.prost_reflect.specs.Encoding.{ValueWritable, nested_bytes}
 use Rattle.prost_reflect.specs.Known.{known_of}
 use Rattle.prost_reflect.specs.Lists.{ElementWritable}
-use Rattle.prost_reflect.specs.MapParts.{map_parts}
+use Rattle.prost_reflect_descriptors.specs.MapParts.{map_parts}
 use Rattle.prost_reflect.specs.Maps.{IsMap}
 use Rattle.prost_reflect.specs.NestedMaps.{AreEntries, nested_entry_bytes, nested_pairs_bytes, NestedMapOfRows}
-use Rattle.prost_reflect.specs.Pools.{pool_rows}
+use Rattle.prost_reflect_descriptors.specs.Pools.{pool_rows}
 use Rattle.prost_reflect.specs.Scalars.{TakesScalar}
 use Rattle.prost_reflect.specs.View.{key_of, value_of}
 use Rattle.prost_reflect.proofs.MapRows.{shown_map, key_row, is_map_value}

@@ -19,7 +19,7 @@ use Rattle.prost_reflect.specs.declared.message.DynamicMessage.{DynamicMessage}
 use Rattle.prost_reflect.specs.declared.value.Value.{Value, out-Value}
 use Rattle.prost_reflect.specs.declared.value.Value.TheOpen.{Value-F}
 use Rattle.prost_reflect.specs.declared.value.Value.TheFolds.{fold_out-Value, map-Value}
-use Rattle.prost_reflect.specs.Descriptors.{schema_at, type_at}
+use Rattle.prost_reflect_descriptors.specs.Descriptors.{schema_at, type_at}
 use Rattle.prost_reflect.specs.View.{value_step, message_step, value_of, content_of, descriptor_of}
 use Rattle.prost_reflect.specs.Contents.{value_set}
 use Rattle.prost_reflect.specs.Targets.{NestedField, NestedFault}

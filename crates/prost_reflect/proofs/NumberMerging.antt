@@ -26,15 +26,15 @@ use Rattle.prost_reflect_tables.specs.declared.tables.TableKind.{TableKind}
 use Rattle.prost_reflect_tables.specs.declared.tables.TableKind.TheVariants as kinds
 use Rattle.prost_reflect_tables.specs.Rows.{FieldRow, EnumRow}
 use Rattle.prost_reflect_tables.specs.Shown.{schema_kind, enum_kind, schema_field}
-use Rattle.prost_reflect.specs.declared.descriptor.message.MessageDescriptor.{MessageDescriptor}
+use Rattle.prost_reflect_descriptors.specs.declared.message.MessageDescriptor.{MessageDescriptor}
 use Rattle.prost_reflect.specs.declared.message.DynamicMessage.{DynamicMessage}
 use Rattle.prost_reflect.specs.Contents.{value_set, unknown_added}
 use Rattle.prost_reflect.specs.RowKinds.{is_repeated, names_message}
-use Rattle.prost_reflect.specs.Enums.{first_of, numbers_of}
+use Rattle.prost_reflect_descriptors.specs.Enums.{first_of, numbers_of}
 use Rattle.prost_reflect.specs.Known.{known_of, keeps_unknown, keeps_unknown_beside, is_closed_enum}
 use Rattle.prost_reflect.specs.Lists.{IsListOrNone, with_element}
 use Rattle.prost_reflect.specs.Numbers.{NumberList, BodyTaken, number_taken}
-use Rattle.prost_reflect.specs.Pools.{pool_rows}
+use Rattle.prost_reflect_descriptors.specs.Pools.{pool_rows}
 use Rattle.prost_reflect.specs.Scalars.{is_stray_number}
 use Rattle.prost_reflect.specs.View.{content_of, descriptor_of}
 use Rattle.prost_reflect.proofs.ListMerging.{listed_at, list_alone}

@@ -8,14 +8,14 @@ use Rattle.prost_reflect_tables.specs.declared.tables.TableKind.{TableKind}
 use Rattle.prost_reflect_tables.specs.declared.tables.TableKind.TheVariants as kinds
 use Rattle.prost_reflect_tables.specs.Rows.{FieldRow}
 use Rattle.prost_reflect_tables.specs.Shown.{schema_kind, own_type, schema_field}
-use Rattle.prost_reflect.specs.declared.descriptor.message.MessageDescriptor.{MessageDescriptor}
+use Rattle.prost_reflect_descriptors.specs.declared.message.MessageDescriptor.{MessageDescriptor}
 use Rattle.prost_reflect.specs.RowKinds.{is_repeated, names_message}
-use Rattle.prost_reflect.specs.Descriptors.{schema_at}
+use Rattle.prost_reflect_descriptors.specs.Descriptors.{schema_at}
 use Rattle.prost_reflect.specs.Known.{known_of}
-use Rattle.prost_reflect.specs.MapParts.{map_parts}
+use Rattle.prost_reflect_descriptors.specs.MapParts.{map_parts}
 use Rattle.prost_reflect.specs.Maps.{ScalarMap, MapOfRows}
 use Rattle.prost_reflect.specs.NestedMaps.{NestedMap}
-use Rattle.prost_reflect.specs.Pools.{pool_rows}
+use Rattle.prost_reflect_descriptors.specs.Pools.{pool_rows}
 use Rattle.prost_reflect.specs.Targets.{IsTarget, entry_target_of, repeated_target_of}
 use Rattle.prost_reflect.proofs.RowKinds.{no_map}
 use Rattle.prost_reflect.proofs.Described.{found_checked, named_in_range}

@@ -10,7 +10,7 @@ use Rattle.prost_reflect_tables.specs.Rows.{FieldRow, MessageRow, EnumRow, Table
 use Rattle.prost_reflect_tables.specs.Linked.{is_linked, has_entry_numbers}
 use Rattle.prost_reflect_tables.specs.Shown.{schema_kind, enum_kind, map_entry, entry_or_none, entry_at}
 use Rattle.prost_reflect_tables.proofs.Keeping.{entry_keeps}
-use Rattle.prost_reflect.specs.MapParts.{two_of, entry_parts, map_parts}
+use Rattle.prost_reflect_descriptors.specs.MapParts.{two_of, entry_parts, map_parts}
 use Rattle.prost_reflect.specs.RowKinds.{is_plain, is_plain_kind, names_message}
 
 pub message_kind : (enums : List EnumRow) (kind : TableKind) (g : Bool) → is_message (schema_kind enums kind g) ≡ names_message kind

@@ -6,10 +6,10 @@ use Rattle.prost_reflect_wire.specs.Schema.{Field, MessageType, Schema, known, f
 use Rattle.prost_reflect_wire.proofs.Deeper.{and_both, both_true}
 use Rattle.prost_reflect_wire.proofs.Survivors.{field_number, or_false}
 use Rattle.prost_reflect_tables.proofs.Keeping.{schema_is_valid}
-use Rattle.prost_reflect.specs.Descriptors.{schema_at}
-use Rattle.prost_reflect.specs.Pools.{pool_rows}
+use Rattle.prost_reflect_descriptors.specs.Descriptors.{schema_at}
+use Rattle.prost_reflect_descriptors.specs.Pools.{pool_rows}
 use Rattle.prost_reflect.specs.Known.{known_of, are_siblings}
-use Rattle.prost_reflect.specs.declared.descriptor.message.MessageDescriptor.{MessageDescriptor}
+use Rattle.prost_reflect_descriptors.specs.declared.message.MessageDescriptor.{MessageDescriptor}
 
 -- NUMBERS DIFFER
 

@@ -15,11 +15,11 @@ use Rattle.prost_reflect_wire.proofs.Numbers.{empty_slot, slots_same, eqb-sym}
 use Rattle.prost_reflect_wire.proofs.Survivors.{field_number}
 use Rattle.prost_reflect.specs.declared.fields.entry.Entry.{Entry}
 use Rattle.prost_reflect.specs.declared.fields.entry.Entry.TheVariants as entries
-use Rattle.prost_reflect.specs.declared.descriptor.message.MessageDescriptor.{MessageDescriptor}
+use Rattle.prost_reflect_descriptors.specs.declared.message.MessageDescriptor.{MessageDescriptor}
 use Rattle.prost_reflect.specs.declared.message.DynamicMessage.{DynamicMessage}
 use Rattle.prost_reflect.specs.declared.value.Value.{Value}
 use Rattle.prost_reflect.specs.declared.value.Value.TheViews.{roll-DynamicMessage}
-use Rattle.prost_reflect.specs.Descriptors.{schema_at, type_at}
+use Rattle.prost_reflect_descriptors.specs.Descriptors.{schema_at, type_at}
 use Rattle.prost_reflect.specs.Items.{IsAscending, item_at}
 use Rattle.prost_reflect.specs.Known.{known_of, is_known, are_siblings}
 use Rattle.prost_reflect.specs.Entries.{value_in, records_in, value_at, records_at, put_value, clear_value, with_value as with_value_at, SameStored, UnknownAdded}

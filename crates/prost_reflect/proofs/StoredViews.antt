@@ -15,12 +15,12 @@ use Rattle.prost_reflect_wire.specs.Unknown.{records_of}
 use Rattle.prost_reflect_wire.specs.Content.{Content}
 use Rattle.prost_reflect_tables.specs.Rows.{TableRows}
 use Rattle.prost_reflect_tables.specs.Equality.{rows_eq}
-use Rattle.prost_reflect.specs.Pools.{pool_rows, pool_contents}
-use Rattle.prost_reflect.specs.PoolEquality.{contents_eq}
-use Rattle.prost_reflect.specs.Descriptors.{SameMessage}
-use Rattle.prost_reflect.proofs.EqualDescriptors.{rows_follow}
-use Rattle.prost_reflect.specs.declared.descriptor.message.MessageDescriptor.{MessageDescriptor}
-use Rattle.prost_reflect.specs.contracts.descriptor.message.MessageDescriptorPartialEq.TheImpl as descriptor_code
+use Rattle.prost_reflect_descriptors.specs.Pools.{pool_rows, pool_contents}
+use Rattle.prost_reflect_descriptors.specs.PoolEquality.{contents_eq}
+use Rattle.prost_reflect_descriptors.specs.Descriptors.{SameMessage}
+use Rattle.prost_reflect_descriptors.proofs.EqualDescriptors.{rows_follow}
+use Rattle.prost_reflect_descriptors.specs.declared.message.MessageDescriptor.{MessageDescriptor}
+use Rattle.prost_reflect_descriptors.specs.contracts.message.MessageDescriptorPartialEq.TheImpl as descriptor_code
 use Rattle.prost_reflect.specs.contracts.value.MapKeyPartialEq.TheImpl as key_eq
 use Rattle.prost_reflect.proofs.Keys.{keys_equal}
 use Rattle.prost_reflect.specs.declared.fields.entry.Entry.{Entry}

@@ -8,7 +8,7 @@ use denote.Hole.Carrier as Carrier
 use Rattle.prost_reflect_wire.specs.Scalar as scalars
 use Rattle.prost_reflect_wire.specs.Content as contents
 use Rattle.prost_reflect_wire.specs.Content.{Content, ContentOf, ScalarValue, MessageValue, ListValue, MapValue, values_from}
-use Rattle.prost_reflect.specs.Descriptors.{schema_at, type_at}
+use Rattle.prost_reflect_descriptors.specs.Descriptors.{schema_at, type_at}
 use Rattle.prost_reflect.specs.declared.fields.entry.Entry.{Entry}
 use Rattle.prost_reflect.specs.declared.fields.entry.Entry.TheVariants as entries
 use Rattle.prost_reflect.specs.declared.value.MapKey.{MapKey}

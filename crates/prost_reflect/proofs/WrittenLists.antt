@@ -17,12 +17,12 @@ use Rattle.prost_reflect_wire.proofs.ListWritten.{list_written}
 use Rattle.prost_reflect_tables.specs.declared.tables.TableKind.{TableKind}
 use Rattle.prost_reflect_tables.specs.Rows.{FieldRow}
 use Rattle.prost_reflect_tables.specs.Shown.{schema_field}
-use Rattle.prost_reflect.specs.declared.descriptor.message.MessageDescriptor.{MessageDescriptor}
+use Rattle.prost_reflect_descriptors.specs.declared.message.MessageDescriptor.{MessageDescriptor}
 use Rattle.prost_reflect.specs.declared.value.Value.{Value}
 use Rattle.prost_reflect.specs.declared.value.Value as values
 use Rattle.prost_reflect.specs.RowKinds.{is_repeated, names_message}
 use Rattle.prost_reflect.specs.Known.{known_of}
-use Rattle.prost_reflect.specs.Pools.{pool_rows}
+use Rattle.prost_reflect_descriptors.specs.Pools.{pool_rows}
 use Rattle.prost_reflect.proofs.PlainKinds.{SamePayloads, scalars_row, scalars_kind, plain_of, plain_payloads}
 use Rattle.prost_reflect.proofs.Views.{value_of_list}
 use Rattle.prost_reflect.proofs.WrittenValues.{passing}

@@ -1,7 +1,7 @@
 -- Values and messages that store the same.
 use Rattle.std.specs.Prelude.{◌≡◌, List, map}
 use Rattle.prost_reflect_wire.specs.Scalar.{Scalar}
-use Rattle.prost_reflect.specs.Descriptors.{SameMessage}
+use Rattle.prost_reflect_descriptors.specs.Descriptors.{SameMessage}
 use Rattle.prost_reflect.specs.View.{key_of, value_of, content_of, descriptor_of}
 use Rattle.prost_reflect.specs.Stored.{StoredValue, value_stored, message_stored}
 use Rattle.prost_reflect.specs.declared.message.DynamicMessage.{DynamicMessage}

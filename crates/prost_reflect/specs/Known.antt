@@ -4,8 +4,8 @@ use Rattle.std.specs.List.{list_all}
 use Rattle.prost_reflect_wire.specs.Record.{Record}
 use Rattle.prost_reflect_wire.specs.Scalar.{Enum, Closed}
 use Rattle.prost_reflect_wire.specs.Schema.{Kind, ScalarOf, Field, known, field_of, is_sibling, passes}
-use Rattle.prost_reflect.specs.Descriptors.{schema_at, type_at}
-use Rattle.prost_reflect.specs.declared.descriptor.message.MessageDescriptor.{MessageDescriptor}
+use Rattle.prost_reflect_descriptors.specs.Descriptors.{schema_at, type_at}
+use Rattle.prost_reflect_descriptors.specs.declared.message.MessageDescriptor.{MessageDescriptor}
 
 -- The fields and extensions of a message type.
 abbrev pub known_of : MessageDescriptor → List Field

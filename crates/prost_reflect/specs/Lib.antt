@@ -1,10 +1,3 @@
-pub mod Pools
-pub mod PoolFiles
-pub mod PoolEquality
-pub mod Descriptors
-pub mod Fields
-pub mod Kinds
-pub mod Enums
 pub mod Items
 pub mod Entries
 pub mod Known
@@ -24,16 +17,12 @@ pub mod Stored
 pub mod Same
 pub mod formers
 pub mod Scalars
-pub mod MapParts
 pub mod RowKinds
 pub mod Maps
 pub mod Numbers
 pub mod NestedMaps
 pub mod Targets
 pub mod Held
-pub mod Builtin
-pub mod BuiltinRows
-pub mod BuiltinFiles
 pub mod Encoding
 pub mod Defaults
 pub mod Present

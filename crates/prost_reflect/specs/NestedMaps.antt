@@ -14,12 +14,12 @@ use Rattle.prost_reflect_tables.specs.Rows.{FieldRow}
 use Rattle.prost_reflect_tables.specs.Shown.{schema_field}
 use Rattle.prost_reflect.specs.declared.value.MapKey.{MapKey}
 use Rattle.prost_reflect.specs.declared.value.Value.{Value}
-use Rattle.prost_reflect.specs.declared.descriptor.message.MessageDescriptor.{MessageDescriptor}
-use Rattle.prost_reflect.specs.Pools.{pool_rows}
+use Rattle.prost_reflect_descriptors.specs.declared.message.MessageDescriptor.{MessageDescriptor}
+use Rattle.prost_reflect_descriptors.specs.Pools.{pool_rows}
 use Rattle.prost_reflect.specs.Known.{known_of}
 use Rattle.prost_reflect.specs.RowKinds.{names_message}
 use Rattle.prost_reflect.specs.Lists.{ElementWritable, element_bytes}
-use Rattle.prost_reflect.specs.MapParts.{map_parts}
+use Rattle.prost_reflect_descriptors.specs.MapParts.{map_parts}
 use Rattle.prost_reflect.specs.Maps.{key_bytes}
 use Rattle.prost_reflect.specs.Scalars.{plain_kind, TakesScalar}
 use Rattle.prost_reflect.specs.View.{key_of, value_of}

@@ -16,10 +16,10 @@ use Rattle.prost_reflect_tables.specs.declared.tables.TableKind.{TableKind}
 use Rattle.prost_reflect_tables.specs.declared.tables.TableKind.TheVariants.{Double, Float, Int32, Int64, Uint32, Uint64, Sint32, Sint64, Fixed32, Fixed64, Sfixed32, Sfixed64, Bool as BoolKind, String, Bytes, Message, Enum}
 use Rattle.prost_reflect_tables.specs.Rows.{FieldRow, EnumRow}
 use Rattle.prost_reflect_tables.specs.Shown.{schema_kind}
-use Rattle.prost_reflect.specs.Pools.{pool_rows}
+use Rattle.prost_reflect_descriptors.specs.Pools.{pool_rows}
 use Rattle.prost_reflect.specs.Known.{known_of}
-use Rattle.prost_reflect.specs.Enums.{first_of, numbers_of}
-use Rattle.prost_reflect.specs.declared.descriptor.message.MessageDescriptor.{MessageDescriptor}
+use Rattle.prost_reflect_descriptors.specs.Enums.{first_of, numbers_of}
+use Rattle.prost_reflect_descriptors.specs.declared.message.MessageDescriptor.{MessageDescriptor}
 use Rattle.prost_reflect.specs.declared.value.Value.{Value}
 use Rattle.prost_reflect.specs.View.{value_of}
 

@@ -4,7 +4,7 @@ use Rattle.prost_reflect_wire.specs.Record.{Record}
 use Rattle.prost_reflect_wire.specs.Schema.{Field}
 use Rattle.prost_reflect.specs.Known.{known_of, is_known, are_siblings, keeps_unknown, are_records_of}
 use Rattle.prost_reflect.specs.Entries.{has_value, records_at, put_value, without_values}
-use Rattle.prost_reflect.specs.declared.descriptor.message.MessageDescriptor.{MessageDescriptor}
+use Rattle.prost_reflect_descriptors.specs.declared.message.MessageDescriptor.{MessageDescriptor}
 use Rattle.prost_reflect.specs.declared.fields.entry.Entry.{Entry}
 
 -- Unknown fields where they may stand, each at its own number.

@@ -6,7 +6,7 @@ use Rattle.prost_reflect_wire.specs.Scalar as scalars
 use Rattle.prost_reflect_wire.specs.Scalar.{Scalar}
 use Rattle.prost_reflect_wire.specs.Content.{Content}
 use Rattle.prost_reflect_tables.specs.Rows.{TableRows}
-use Rattle.prost_reflect.specs.Pools.{pool_rows, pool_contents}
+use Rattle.prost_reflect_descriptors.specs.Pools.{pool_rows, pool_contents}
 use Rattle.prost_reflect.specs.View.{key_of}
 use Rattle.prost_reflect.specs.declared.fields.entry.Entry.{Entry}
 use Rattle.prost_reflect.specs.declared.fields.entry.Entry.TheVariants.{Value as ValueEntry, Unknown as UnknownEntry, Both as BothEntry}

@@ -6,7 +6,7 @@ use Rattle.prost_reflect_wire.specs.declared.error.DecodeError.{DecodeError}
 use Rattle.prost_reflect_wire.specs.declared.error.DecodeError.TheVariants as errors
 use Rattle.prost_reflect_wire.specs.Schema.{Kind, MessageOf, GroupOf, Singular, Repeated, Field, field_of}
 use Rattle.prost_reflect_wire.specs.Fault.{same_wire}
-use Rattle.prost_reflect.specs.Pools.{pool_rows}
+use Rattle.prost_reflect_descriptors.specs.Pools.{pool_rows}
 use Rattle.prost_reflect.specs.Known.{known_of}
 use Rattle.prost_reflect_tables.specs.declared.tables.TableKind.{TableKind}
 use Rattle.prost_reflect_tables.specs.declared.tables.TableKind.TheVariants as kinds
@@ -16,7 +16,7 @@ use Rattle.prost_reflect.specs.Lists.{ListField}
 use Rattle.prost_reflect.specs.Maps.{ScalarMap}
 use Rattle.prost_reflect.specs.Numbers.{NumberList}
 use Rattle.prost_reflect.specs.NestedMaps.{NestedMap}
-use Rattle.prost_reflect.specs.declared.descriptor.message.MessageDescriptor.{MessageDescriptor}
+use Rattle.prost_reflect_descriptors.specs.declared.message.MessageDescriptor.{MessageDescriptor}
 use Rattle.prost_reflect.specs.declared.message.decode.Target.{Target}
 use Rattle.prost_reflect.specs.declared.message.decode.Target.TheVariants.{Unknown, Scalar, List as ListOf, Numbers, Map as MapOf, Message, Group, MessageElement, GroupElement, MessageEntry}
 

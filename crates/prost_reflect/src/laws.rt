@@ -1,21 +1,13 @@
-//! Laws of the views of messages, and of the equality of descriptors: each function has no body, and its contract is a law.
+//! Laws of the views of messages: each function has no body, and its contract is a law.
 
 ghost use Rattle.prost_reflect.specs.ContentLaws.{ValueViews, MessageSlots, MessageOrder, SlotsAfterSet, SlotsAfterClear, SlotsAfterUnknown, SlotsDetermine, MapInsert};
 ghost use Rattle.prost_reflect.specs.KeptLaws.{MessageArranged, KeptAfterSet, KeptAfterClear, KeptAfterUnknown, KeptAfterClearAll, KeptAfterWriting};
-ghost use Rattle.std.specs.Prelude.{◌≡◌, ◌↔◌, IsTrue, true};
+ghost use Rattle.std.specs.Prelude.{◌≡◌, true};
 ghost use Rattle.prost_reflect_wire.specs.Scalar.{scalar_cmp, scalar_eq};
-ghost use Rattle.prost_reflect.specs.Pools.{pool_rows, files_of};
-ghost use Rattle.prost_reflect_tables.specs.FileLaws.{SameContents};
-ghost use Rattle.prost_reflect.specs.Descriptors.{schema_at, type_at};
 ghost use Rattle.prost_reflect.specs.View.{key_of};
-ghost use Rattle.prost_reflect.specs.declared.descriptor.pool.DescriptorPool.{DescriptorPool};
-ghost use Rattle.prost_reflect.specs.declared.descriptor.message.MessageDescriptor.{MessageDescriptor};
-ghost use Rattle.prost_reflect.specs.declared.descriptor.enums.EnumDescriptor.{EnumDescriptor};
-ghost use Rattle.prost_reflect.specs.declared.descriptor.field.FieldDescriptor.{FieldDescriptor};
 ghost use Rattle.prost_reflect.specs.Keys.{key_writes};
 ghost use Rattle.prost_reflect.specs.declared.value.MapKey.{MapKey};
 
-use crate::descriptor::{DescriptorPool, EnumDescriptor, FieldDescriptor, MessageDescriptor};
 use crate::value::MapKey;
 use std::hash::Hash;
 
@@ -95,21 +87,4 @@ pub fn key_order()
 /// An entry put into a map is put among its pairs.
 pub fn map_insert()
     ensures { MapInsert }
-{}
-
-/// Pools are equal by `==` exactly where as many files stand in both, and their contents are equal one by one; equal pools
-/// have equal tables.
-pub fn pool_equality()
-    ensures files { (a : DescriptorPool) (b : DescriptorPool) → IsTrue (⟦<DescriptorPool as PartialEq>⟧.eq a b) ↔ SameContents (files_of a) (files_of b) }
-    ensures tables { (a : DescriptorPool) (b : DescriptorPool) → IsTrue (⟦<DescriptorPool as PartialEq>⟧.eq a b) → pool_rows a ≡ pool_rows b }
-{}
-
-/// Descriptors are equal by `==` exactly where the files of their pools are and their places are one; equal message types
-/// are one type of one schema.
-pub fn descriptor_equality()
-    ensures message { (a : MessageDescriptor) (b : MessageDescriptor) → IsTrue (⟦<MessageDescriptor as PartialEq>⟧.eq a b) ↔ (SameContents (files_of a.pool) (files_of b.pool) × (a.index ≡ b.index)) }
-    ensures an_enum { (a : EnumDescriptor) (b : EnumDescriptor) → IsTrue (⟦<EnumDescriptor as PartialEq>⟧.eq a b) ↔ (SameContents (files_of a.pool) (files_of b.pool) × (a.index ≡ b.index)) }
-    ensures field { (a : FieldDescriptor) (b : FieldDescriptor) → IsTrue (⟦<FieldDescriptor as PartialEq>⟧.eq a b) ↔ (IsTrue (⟦<MessageDescriptor as PartialEq>⟧.eq a.message b.message) × (a.index ≡ b.index)) }
-    ensures schema { (a : MessageDescriptor) (b : MessageDescriptor) → IsTrue (⟦<MessageDescriptor as PartialEq>⟧.eq a b) → schema_at a ≡ schema_at b }
-    ensures place { (a : MessageDescriptor) (b : MessageDescriptor) → IsTrue (⟦<MessageDescriptor as PartialEq>⟧.eq a b) → type_at a ≡ type_at b }
 {}

@@ -1,17 +1,18 @@
 //! Protocol Buffers messages whose types are known only at run time.
 #![tactic(auto)]
 
-mod descriptor;
+#[cfg(test)]
+mod choices;
 mod fields;
 mod laws;
 mod message;
 mod value;
 
-pub use descriptor::{
+pub use message::{DynamicMessage, PresentNumber};
+pub use prost_reflect_descriptors::{
     DescriptorPool, EnumDescriptor, FieldDescriptor, FileDescriptorProtos, Kind, MessageDescriptor,
     builtin_pool,
 };
-pub use message::{DynamicMessage, PresentNumber};
 pub use prost_reflect_tables::{Cardinality, PoolError};
 pub use prost_reflect_wire::records::{
     DescriptorProto, EnumDescriptorProto, EnumReservedRange, EnumValueDescriptorProto,

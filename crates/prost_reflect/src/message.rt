@@ -8,7 +8,7 @@ ghost use Rattle.prost_reflect_wire.specs.Content.{empty, entries_of, value_at};
 ghost use Rattle.prost_reflect_wire.specs.Edit.{cleared};
 ghost use Rattle.prost_reflect.specs.contracts.message.DynamicMessage.{the_row};
 ghost use Rattle.prost_reflect.specs.contracts.value.Value as value;
-ghost use Rattle.prost_reflect.specs.Descriptors.{schema_at, type_at};
+ghost use Rattle.prost_reflect_descriptors.specs.Descriptors.{schema_at, type_at};
 ghost use Rattle.prost_reflect.specs.Items.{IsAscending};
 ghost use Rattle.prost_reflect.specs.Known.{known_of, is_known, keeps_unknown};
 ghost use Rattle.prost_reflect.specs.Entries.{records_at};
@@ -41,11 +41,11 @@ mod scalar;
 #[cfg(test)]
 mod tests;
 
-use crate::descriptor::MessageDescriptor;
 use crate::fields::entry::Entry;
 use crate::fields::slots::Slots;
 use crate::value::Value;
 pub use present::PresentNumber;
+use prost_reflect_descriptors::MessageDescriptor;
 use prost_reflect_wire::{UnknownField, UnknownFieldSet};
 use std::alloc::{AllocError, Global};
 

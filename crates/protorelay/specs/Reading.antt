@@ -16,8 +16,8 @@ use Rattle.prost_reflect_tables.specs.Places.{message_place}
 use Rattle.prost_reflect_tables.specs.Shown.{schema_from}
 use Rattle.prost_reflect_tables.specs.declared.error.PoolError.{PoolError}
 use Rattle.prost_reflect_tables.specs.declared.error.PoolError.TheVariants as pool_errors
-use Rattle.prost_reflect.specs.declared.descriptor.pool.DescriptorPool.{DescriptorPool}
-use Rattle.prost_reflect.specs.Pools.{pool_rows}
+use Rattle.prost_reflect_descriptors.specs.declared.pool.DescriptorPool.{DescriptorPool}
+use Rattle.prost_reflect_descriptors.specs.Pools.{pool_rows}
 use Rattle.protorelay.specs.Sets.{IsPoolOfSet, RefusesSet, IsNoSet}
 use Rattle.protorelay.specs.declared.reading.Refusal.{Refusal}
 use Rattle.protorelay.specs.declared.reading.Refusal.TheVariants.{Set, Pool, Name, Hex, Decode, Encode, Memory}

@@ -3,9 +3,9 @@ use Rattle.std.specs.Prelude.{◌≡◌, ◌≢◌, ◌⊎◌, ℕ, List, [], co
 use Rattle.hex.specs.Hex.{decode_of}
 use Rattle.prost_reflect_wire.specs.declared.records.table.RecordType.TheVariants as types
 use Rattle.prost_reflect_tables.specs.declared.error.PoolError.{PoolError}
-use Rattle.prost_reflect.specs.declared.descriptor.pool.DescriptorPool.{DescriptorPool}
-use Rattle.prost_reflect.specs.Pools.{pool_rows, IsPoolOfBytes, Refuses}
-use Rattle.prost_reflect.specs.BuiltinRows.{builtin_rows}
+use Rattle.prost_reflect_descriptors.specs.declared.pool.DescriptorPool.{DescriptorPool}
+use Rattle.prost_reflect_descriptors.specs.Pools.{pool_rows, IsPoolOfBytes, Refuses}
+use Rattle.prost_reflect_descriptors.specs.BuiltinRows.{builtin_rows}
 
 -- The word for the built-in files.
 abbrev pub IsBuiltin : List ℕ → Type 0

@@ -2,8 +2,8 @@
 
 ghost use Rattle.std.specs.Prelude.{◌≡◌, ◌⊎◌, Some, None, true, IfOk, IfErr};
 ghost use Rattle.prost_reflect_wire.specs.Typing.{kept, encodable};
-ghost use Rattle.prost_reflect.specs.Pools.{pool_rows};
-ghost use Rattle.prost_reflect.specs.Descriptors.{schema_at, type_at};
+ghost use Rattle.prost_reflect_descriptors.specs.Pools.{pool_rows};
+ghost use Rattle.prost_reflect_descriptors.specs.Descriptors.{schema_at, type_at};
 ghost use Rattle.prost_reflect_tables.specs.Places.{message_place};
 ghost use Rattle.prost_reflect.specs.View.{content_of};
 ghost use Rattle.protorelay.specs.Sets.{IsPoolOfSet};

@@ -10,12 +10,12 @@ ghost use Rattle.prost_reflect.specs.Known.{known_of, is_known, keeps_unknown};
 ghost use Rattle.prost_reflect.specs.Entries.{value_at, unknown_at, clear_value, with_value, UnknownAdded, SameStored};
 ghost use Rattle.prost_reflect.specs.Sound.{IsSound, set_value_at, prepared};
 
-use crate::descriptor::MessageDescriptor;
 use crate::fields::entry::Entry;
 use crate::fields::sorted::Sorted;
 use crate::fields::stored::{
     add_unknown, set_value, take_value, unknown_at, value_at, value_mut, value_mut_or,
 };
+use prost_reflect_descriptors::MessageDescriptor;
 use prost_reflect_wire::{UnknownField, UnknownFieldSet};
 use std::alloc::{AllocError, Global};
 use std::marker::Model;
@@ -32,7 +32,7 @@ pub struct Slots<V> {
 
 impl<V> Model for Slots<V> {
     ghost use Rattle.std.specs.Prelude.{ℕ, List, ◌≡◌, true};
-    ghost use Rattle.prost_reflect.specs.declared.descriptor.message.MessageDescriptor.{MessageDescriptor};
+    ghost use Rattle.prost_reflect_descriptors.specs.declared.message.MessageDescriptor.{MessageDescriptor};
     ghost use Rattle.prost_reflect.specs.declared.fields.entry.Entry.{Entry};
 
     ghost Value = { MessageDescriptor × List (ℕ × Entry V) };

@@ -12,9 +12,10 @@ ghost use Rattle.prost_reflect.specs.Sound.{set_value_at, prepared};
 ghost use Rattle.prost_reflect.specs.Members.{is_member};
 ghost use Rattle.prost_reflect.specs.Lending.{LendsOrStays};
 
-use crate::descriptor::MessageDescriptor;
 use crate::fields::entry::Entry;
 use crate::fields::number_map::NumberMap;
+use prost_reflect_descriptors::MessageDescriptor;
+use prost_reflect_descriptors::rows::{field_table, field_tables};
 use prost_reflect_tables::FieldTable;
 use prost_reflect_wire::{UnknownField, UnknownFieldSet};
 use std::alloc::{AllocError, Global};
@@ -184,7 +185,7 @@ fn set_default<V: Drop, S: NumberMap<Entry<V>>>(
 fn oneof_of(descriptor: &MessageDescriptor, number: u32) -> Option<usize>
     ensures { result ≡ oneof_of (known_of descriptor.now) number }
 {
-    match descriptor.field_table(number) {
+    match field_table(descriptor, number) {
         Some(field) => field.oneof,
         None => None,
     }
@@ -201,7 +202,7 @@ fn clear_siblings<V: Drop, S: NumberMap<Entry<V>>>(
     ensures ascending { IsAscending (S.entries fields.old) }
 {
     let oneof = oneof_of(descriptor, number);
-    clear_members(fields, alloc, descriptor.field_tables(), oneof, number);
+    clear_members(fields, alloc, field_tables(descriptor), oneof, number);
 }
 
 /// Whether two fields are members of one oneof.

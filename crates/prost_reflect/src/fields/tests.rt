@@ -1,13 +1,14 @@
 //! Calls on both forms of a map from numbers, over a message type with oneofs.
 
-use crate::descriptor::MessageDescriptor;
-use crate::descriptor::choices::choices;
+use crate::choices::choices;
 use crate::fields::entry::Entry;
 use crate::fields::number_map::NumberMap;
 use crate::fields::sorted::Sorted;
 use crate::fields::stored::{
     add_unknown, set_value, take_value, unknown_at, value_at, value_mut, value_mut_or,
 };
+use prost_reflect_descriptors::MessageDescriptor;
+use prost_reflect_descriptors::rows::field_place;
 use prost_reflect_wire::{DecodeError, UnknownField};
 use std::alloc::{AllocError, Global};
 use std::collections::BTreeMap;
@@ -64,7 +65,7 @@ fn apply<S: NumberMap<Entry<u32>>>(
     descriptor: &MessageDescriptor,
     call: Call,
 ) -> Result<Answer, Fail> {
-    let is_known = descriptor.field_place(call.number()).is_some();
+    let is_known = field_place(descriptor, call.number()).is_some();
     match call {
         Call::Set(number, value) if is_known => {
             set_value(fields, alloc, descriptor, number, value)?;

@@ -3,16 +3,17 @@
 ghost use Rattle.std.specs.Prelude.{◌≡◌};
 ghost use Rattle.prost_reflect.specs.Known.{known_of, is_known};
 
-use crate::descriptor::MessageDescriptor;
-use crate::descriptor::choices::choices;
+use crate::choices::choices;
 use crate::message::DynamicMessage;
 use crate::value::Value;
+use prost_reflect_descriptors::MessageDescriptor;
+use prost_reflect_descriptors::rows::field_table;
 use std::test::Fail;
 
 fn is_known(descriptor: &MessageDescriptor, number: u32) -> bool
     ensures { result ≡ is_known (known_of descriptor.now) number }
 {
-    match descriptor.field_table(number) {
+    match field_table(descriptor, number) {
         Some(_) => true,
         None => false,
     }

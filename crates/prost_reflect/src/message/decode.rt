@@ -7,20 +7,21 @@ ghost use Rattle.prost_reflect_wire.specs.Meaning.{decoded};
 ghost use Rattle.prost_reflect_wire.specs.Typing.{kept, WellStored};
 ghost use Rattle.prost_reflect_wire.specs.Fault.{StandsInMessage};
 ghost use Rattle.prost_reflect_wire.specs.Decoding.{Progress, Step, StandsBehindKey};
-ghost use Rattle.prost_reflect.specs.Descriptors.{schema_at, type_at};
+ghost use Rattle.prost_reflect_descriptors.specs.Descriptors.{schema_at, type_at};
 ghost use Rattle.prost_reflect.specs.Known.{known_of};
 ghost use Rattle.prost_reflect.specs.Scalars.{PlainField, StaysUnknown};
 ghost use Rattle.prost_reflect_tables.specs.Rows.{field_row};
-ghost use Rattle.prost_reflect.specs.MapParts.{map_parts};
-ghost use Rattle.prost_reflect.specs.Pools.{pool_rows};
+ghost use Rattle.prost_reflect_descriptors.specs.MapParts.{map_parts};
+ghost use Rattle.prost_reflect_descriptors.specs.Pools.{pool_rows};
 ghost use Rattle.prost_reflect.specs.Targets.{IsTarget, target_of, repeated_target_of, element_target_of, entry_target_of};
 ghost use Rattle.prost_reflect.specs.View.{content_of, descriptor_of};
 
-use crate::descriptor::MessageDescriptor;
 use crate::message::DynamicMessage;
 use crate::message::defaults::is_repeated;
 use crate::message::enums::is_stray;
 use crate::message::scalar::scalar_at;
+use prost_reflect_descriptors::MessageDescriptor;
+use prost_reflect_descriptors::rows::{field_table, map_parts};
 use prost_reflect_tables::{FieldTable, TableKind};
 use prost_reflect_wire::{
     DecodeError, FieldNumber, RECURSION_LIMIT, UnknownField, WireType, decode_key, value_at,
@@ -200,7 +201,7 @@ pub(super) enum Target {
 fn target_at(descriptor: &MessageDescriptor, number: u32) -> Target
     ensures { IsTarget descriptor.now number result }
 {
-    match descriptor.field_table(number) {
+    match field_table(descriptor, number) {
         Some(field) if is_repeated(field.cardinality) => repeated_target(descriptor, field),
         Some(field) => value_target(field.kind, field.is_group),
         None => Target::Unknown,
@@ -211,7 +212,7 @@ fn target_at(descriptor: &MessageDescriptor, number: u32) -> Target
 fn repeated_target(descriptor: &MessageDescriptor, field: &FieldTable) -> Target
     ensures { result ≡ repeated_target_of (map_parts (pool_rows descriptor.now.pool) (field_row field.now)) (field_row field.now).kind (field_row field.now).is_group }
 {
-    match descriptor.map_parts(field) {
+    match map_parts(descriptor, field) {
         Some((key, value)) => entry_target(key.kind, value.kind),
         None => element_target(field.kind, field.is_group),
     }

@@ -8,14 +8,15 @@ ghost use Rattle.prost_reflect_tables.specs.Shown.{schema_field, schema_kind, sc
 ghost use Rattle.prost_reflect_wire.specs.Fault.{is_map};
 ghost use Rattle.prost_reflect.specs.RowKinds.{is_repeated as is_labelled};
 ghost use Rattle.prost_reflect.specs.Defaults.{is_empty_value};
-ghost use Rattle.prost_reflect.specs.Descriptors.{schema_at};
-ghost use Rattle.prost_reflect.specs.Pools.{pool_rows};
+ghost use Rattle.prost_reflect_descriptors.specs.Descriptors.{schema_at};
+ghost use Rattle.prost_reflect_descriptors.specs.Pools.{pool_rows};
 ghost use Rattle.prost_reflect.specs.Scalars.{plain_kind, equals};
 ghost use Rattle.prost_reflect.specs.View.{value_of};
 
-use crate::descriptor::MessageDescriptor;
 use crate::message::enums::first_number;
 use crate::value::Value;
+use prost_reflect_descriptors::MessageDescriptor;
+use prost_reflect_descriptors::rows::tables;
 use prost_reflect_tables::{Cardinality, FieldTable, TableKind, WrittenDefault};
 
 /// Whether a value, of any form, is what its field has where nothing is stored: an empty list or map, or the default of a
@@ -80,7 +81,7 @@ fn names_entry(descriptor: &MessageDescriptor, kind: TableKind) -> bool
 fn is_entry(descriptor: &MessageDescriptor, place: usize) -> bool
     ensures { result ≡ is_some (entry_or_none (slice_get (pool_rows descriptor.now.pool).messages place)) }
 {
-    match descriptor.parent_pool().tables().messages.get(place) {
+    match tables(descriptor.parent_pool()).messages.get(place) {
         Some(message) => message.is_map_entry,
         None => false,
     }

@@ -13,18 +13,17 @@ ghost use Rattle.prost_reflect_tables.specs.Rows.{field_row};
 ghost use Rattle.prost_reflect_tables.specs.Shown.{schema_field};
 ghost use Rattle.prost_reflect.specs.RowKinds.{is_repeated};
 ghost use Rattle.prost_reflect.specs.Lists.{IsList, ElementWritable, AreElements, elements_bytes};
-ghost use Rattle.prost_reflect.specs.MapParts.{map_parts};
+ghost use Rattle.prost_reflect_descriptors.specs.MapParts.{map_parts};
 ghost use Rattle.prost_reflect.specs.Encoding.{entry_slot, unknown_bytes, nested_bytes, ValueWritable, OwnUnknown};
 ghost use Rattle.prost_reflect_wire.specs.Scalar.{EnumNumber};
-ghost use Rattle.prost_reflect.specs.Enums.{first_of};
-ghost use Rattle.prost_reflect.specs.Pools.{pool_rows};
+ghost use Rattle.prost_reflect_descriptors.specs.Enums.{first_of};
+ghost use Rattle.prost_reflect_descriptors.specs.Pools.{pool_rows};
 ghost use Rattle.prost_reflect.specs.Known.{known_of};
 ghost use Rattle.prost_reflect.specs.NestedMaps.{NestedMapOfRows, AreEntries, nested_entry_bytes, nested_pairs_bytes};
 ghost use Rattle.prost_reflect_wire.specs.Content.{ScalarValue};
 ghost use Rattle.prost_reflect.specs.View.{key_of, value_of, content_of};
 ghost use Rattle.prost_reflect.specs.Scalars.{plain_kind, TakesScalar, scalar_bytes, scalar_record_bytes, kept_scalar_bytes, is_zero, equals, is_default};
 
-use crate::descriptor::MessageDescriptor;
 use crate::fields::entry::Entry;
 use crate::message::DynamicMessage;
 use crate::message::defaults::{equals_written, is_repeated};
@@ -33,6 +32,8 @@ use crate::message::list::prepend_list;
 use crate::message::pairs::{prepend_key_part, prepend_map};
 use crate::message::scalar::wire_type_of;
 use crate::value::{MapKey, Value};
+use prost_reflect_descriptors::MessageDescriptor;
+use prost_reflect_descriptors::rows::{field_table, map_parts};
 use prost_reflect_tables::{FieldTable, TableKind};
 use prost_reflect_wire::{
     BackBuffer, EncodeError, WireType, prepend_fields, sign_extended, zigzag32, zigzag64,
@@ -233,7 +234,7 @@ fn prepend_value(
     requires writable { ValueWritable (known_of descriptor.now) number (value_of value.now) }
     ensures { Prepended result (bytes_of buffer.old) (bytes_of buffer.new) (value_bytes (known_of descriptor.now) number (value_of value.now)) }
 {
-    match descriptor.field_table(number) {
+    match field_table(descriptor, number) {
         Some(field) if is_repeated(field.cardinality) => {
             prepend_repeated(buffer, descriptor, number, field, value)
         }
@@ -259,7 +260,7 @@ fn prepend_repeated(
     requires writable { ValueWritable (known_of descriptor.now) number (value_of value.now) }
     ensures { Prepended result (bytes_of buffer.old) (bytes_of buffer.new) (value_bytes (known_of descriptor.now) number (value_of value.now)) }
 {
-    match descriptor.map_parts(field) {
+    match map_parts(descriptor, field) {
         Some((key, element)) => match element.kind {
             TableKind::Message(_) => {
                 prepend_nested_map(buffer, descriptor, number, key, element, value)

@@ -4,20 +4,21 @@ ghost use Rattle.std.specs.Prelude.{◌≡◌, not, slice_get};
 ghost use Rattle.prost_reflect_wire.specs.Scalar.{is_declared};
 ghost use Rattle.prost_reflect_tables.specs.Rows.{enum_row};
 ghost use Rattle.prost_reflect_tables.specs.Shown.{enum_numbers};
-ghost use Rattle.prost_reflect.specs.Enums.{first_of};
-ghost use Rattle.prost_reflect.specs.Pools.{pool_rows};
+ghost use Rattle.prost_reflect_descriptors.specs.Enums.{first_of};
+ghost use Rattle.prost_reflect_descriptors.specs.Pools.{pool_rows};
 ghost use Rattle.prost_reflect.specs.Scalars.{is_stray_number};
 ghost use Rattle.prost_reflect.specs.View.{value_of};
 
-use crate::descriptor::MessageDescriptor;
 use crate::value::Value;
+use prost_reflect_descriptors::MessageDescriptor;
+use prost_reflect_descriptors::rows::enum_table;
 use prost_reflect_tables::{EnumTable, TableKind};
 
 /// The number of the first value of the enum at a place of the message type's pool.
 pub(crate) fn first_number(descriptor: &MessageDescriptor, place: usize) -> i32
     ensures { result ≡ first_of (slice_get (pool_rows descriptor.now.pool).enums place) }
 {
-    match descriptor.enum_table(place) {
+    match enum_table(descriptor, place) {
         Some(table) if !table.numbers.is_empty() => table.numbers[0],
         _ => 0,
     }
@@ -37,7 +38,7 @@ pub(crate) fn is_stray(descriptor: &MessageDescriptor, kind: TableKind, value: &
 {
     match (kind, value) {
         (TableKind::Enum(place), Value::EnumNumber(number)) => {
-            match descriptor.enum_table(place) {
+            match enum_table(descriptor, place) {
                 Some(table) => lacks(table, *number),
                 None => false,
             }

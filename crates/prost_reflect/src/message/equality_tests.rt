@@ -2,9 +2,10 @@
 
 mod samples;
 
-use crate::descriptor::{DescriptorPool, MessageDescriptor, builtin_pool};
 use crate::message::DynamicMessage;
 use crate::value::{MapKey, Value};
+use prost_reflect_descriptors::rows::field_table;
+use prost_reflect_descriptors::{DescriptorPool, MessageDescriptor, builtin_pool};
 use samples::sample_pool;
 use std::alloc::Global;
 use std::collections::BTreeMap;
@@ -20,7 +21,7 @@ fn empty(alloc: Global, descriptor: &MessageDescriptor) -> Result<DynamicMessage
 }
 
 fn set(message: &mut DynamicMessage, number: u32, value: Value) -> Result<(), Fail> {
-    if message.descriptor().field_table(number).is_none() {
+    if field_table(message.descriptor(), number).is_none() {
         return Err(Fail::from("no such field"));
     }
     Ok(message.set_value(number, value)?)

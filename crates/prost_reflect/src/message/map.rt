@@ -11,16 +11,16 @@ ghost use Rattle.prost_reflect_wire.specs.EntryReading.{IsMapped, BodyFault};
 ghost use Rattle.prost_reflect.specs.Contents.{value_set};
 ghost use Rattle.prost_reflect.specs.Known.{known_of, is_known};
 ghost use Rattle.prost_reflect.specs.Maps.{ScalarMap, IsDefaultOf, IsAbsentValue, ReadsEntry, RefusesEntry};
-ghost use Rattle.prost_reflect.specs.Pools.{pool_rows};
+ghost use Rattle.prost_reflect_descriptors.specs.Pools.{pool_rows};
 ghost use Rattle.prost_reflect.specs.Scalars.{plain_kind};
 ghost use Rattle.prost_reflect.specs.Variants.{key_in};
 ghost use Rattle.prost_reflect.specs.View.{key_of, value_of, content_of, descriptor_of};
 
-use crate::descriptor::MessageDescriptor;
 use crate::message::DynamicMessage;
 use crate::message::enums::{first_number, is_stray};
 use crate::message::scalar::scalar_at;
 use crate::value::{MapKey, Value};
+use prost_reflect_descriptors::MessageDescriptor;
 use prost_reflect_tables::TableKind;
 use prost_reflect_wire::{
     DecodeError, FieldNumber, WireType, decode_key, delimited_at, skip_value,

@@ -6,17 +6,18 @@ ghost use Rattle.prost_reflect_wire.specs.Schema.{MessageOf, GroupOf};
 ghost use Rattle.prost_reflect_wire.specs.Content.{MessageValue, empty};
 ghost use Rattle.prost_reflect_wire.specs.Typing.{WellStored};
 ghost use Rattle.prost_reflect_wire.specs.Decoding.{GroupProgress, Step, StandsBehindKey, StandsInGroup};
-ghost use Rattle.prost_reflect.specs.Descriptors.{schema_at};
-ghost use Rattle.prost_reflect.specs.Pools.{pool_rows};
+ghost use Rattle.prost_reflect_descriptors.specs.Descriptors.{schema_at};
+ghost use Rattle.prost_reflect_descriptors.specs.Pools.{pool_rows};
 ghost use Rattle.prost_reflect.specs.Targets.{NestedField, NestedFault};
 ghost use Rattle.prost_reflect.specs.Held.{HeldMessage, ReadIntoHeld, GroupReadIntoHeld, StandsInHeld, GroupStandsInHeld};
 ghost use Rattle.prost_reflect.specs.Variants.{message_in};
 ghost use Rattle.prost_reflect.specs.declared.value.Value.{out-Value};
 ghost use Rattle.prost_reflect.specs.View.{value_of, content_of, descriptor_of};
 
-use crate::descriptor::MessageDescriptor;
 use crate::message::DynamicMessage;
 use crate::value::Value;
+use prost_reflect_descriptors::MessageDescriptor;
+use prost_reflect_descriptors::rows::message_at;
 use prost_reflect_wire::{DecodeError, FieldNumber, WireType, decode_key, delimited_at};
 use std::alloc::{AllocError, Global};
 
@@ -177,6 +178,6 @@ pub(super) fn empty_message(
     requires { place < length (pool_rows descriptor.now.pool).messages }
     ensures { IfOk result (λ m. content_of m ≡ empty (schema_at descriptor.now) place) }
 {
-    let nested = MessageDescriptor::new(descriptor.parent_pool().clone()?, place);
+    let nested = message_at(descriptor.parent_pool().clone()?, place);
     Ok(DynamicMessage::new(alloc, nested))
 }

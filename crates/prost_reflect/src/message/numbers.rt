@@ -12,7 +12,7 @@ ghost use Rattle.prost_reflect_wire.specs.Decoding.{ScalarFault, Step, StandsBeh
 ghost use Rattle.prost_reflect.specs.Contents.{value_set};
 ghost use Rattle.prost_reflect.specs.Known.{known_of, is_known};
 ghost use Rattle.prost_reflect.specs.Numbers.{NumberList, BodyTaken, number_taken};
-ghost use Rattle.prost_reflect.specs.Pools.{pool_rows};
+ghost use Rattle.prost_reflect_descriptors.specs.Pools.{pool_rows};
 ghost use Rattle.prost_reflect.specs.View.{content_of, descriptor_of};
 
 use crate::message::DynamicMessage;

@@ -9,14 +9,14 @@ ghost use Rattle.prost_reflect_wire.specs.Buffer.{bytes_of, Prepended};
 ghost use Rattle.prost_reflect_tables.specs.Rows.{field_row};
 ghost use Rattle.prost_reflect.specs.Known.{known_of};
 ghost use Rattle.prost_reflect.specs.Maps.{TakesPairs, key_bytes, entry_bytes, pairs_bytes, IsMap, MapOfRows};
-ghost use Rattle.prost_reflect.specs.Pools.{pool_rows};
+ghost use Rattle.prost_reflect_descriptors.specs.Pools.{pool_rows};
 ghost use Rattle.prost_reflect.specs.Scalars.{plain_kind, TakesScalar, scalar_bytes, scalar_record_bytes, is_zero};
 ghost use Rattle.prost_reflect.specs.View.{key_of, value_of};
 
-use crate::descriptor::MessageDescriptor;
 use crate::message::encode::{prepend_delimited, prepend_kept_scalar, prepend_key, prepend_length};
 use crate::message::scalar::wire_type_of;
 use crate::value::{MapKey, Value};
+use prost_reflect_descriptors::MessageDescriptor;
 use prost_reflect_tables::{FieldTable, TableKind};
 use prost_reflect_wire::{BackBuffer, EncodeError, sign_extended, zigzag32, zigzag64};
 use std::collections::BTreeMap;

@@ -7,11 +7,12 @@ ghost use Rattle.prost_reflect.specs.Known.{known_of};
 ghost use Rattle.prost_reflect.specs.Present.{present_in, entry_present, value_present};
 ghost use Rattle.prost_reflect.specs.View.{value_of, content_of};
 
-use crate::descriptor::MessageDescriptor;
 use crate::fields::entry::Entry;
 use crate::message::DynamicMessage;
 use crate::message::defaults::is_field_default;
 use crate::value::Value;
+use prost_reflect_descriptors::MessageDescriptor;
+use prost_reflect_descriptors::rows::field_table;
 use std::alloc::{AllocError, Global};
 
 /// A number at which a message has something.
@@ -72,7 +73,7 @@ fn present_value(
 ) -> Option<PresentNumber>
     ensures { result ≡ value_present (known_of descriptor.now) number (kept_value (field_of (known_of descriptor.now) number) (kept_inside (value_of value.now))) }
 {
-    match descriptor.field_table(number) {
+    match field_table(descriptor, number) {
         Some(field) if is_field_default(descriptor, field, value) => None,
         Some(field) if field.is_extension => Some(PresentNumber::Extension(number)),
         _ => Some(PresentNumber::Field(number)),

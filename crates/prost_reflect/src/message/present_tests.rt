@@ -1,8 +1,9 @@
 //! What is present in messages with values of any form.
 
-use crate::descriptor::{DescriptorPool, MessageDescriptor};
 use crate::message::DynamicMessage;
 use crate::value::Value;
+use prost_reflect_descriptors::rows::field_table;
+use prost_reflect_descriptors::{DescriptorPool, MessageDescriptor};
 use std::alloc::Global;
 use std::collections::BTreeMap;
 use std::test::Fail;
@@ -21,7 +22,7 @@ fn forms(alloc: Global) -> Result<MessageDescriptor, Fail> {
 }
 
 fn set(message: &mut DynamicMessage, number: u32, value: Value) -> Result<(), Fail> {
-    if message.descriptor().field_table(number).is_none() {
+    if field_table(message.descriptor(), number).is_none() {
         return Err(Fail::from("no such field"));
     }
     Ok(message.set_value(number, value)?)

@@ -1,8 +1,8 @@
 //! Each call once, on messages of the built-in types, and a closed enum in a oneof and alone.
 
-use crate::descriptor::choices::choices;
-use crate::descriptor::{MessageDescriptor, builtin_pool};
+use crate::choices::choices;
 use crate::message::DynamicMessage;
+use prost_reflect_descriptors::{MessageDescriptor, builtin_pool};
 use prost_reflect_wire::DecodeError;
 use std::alloc::Global;
 use std::test::Fail;

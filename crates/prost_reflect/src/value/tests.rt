@@ -1,8 +1,8 @@
 //! Each variant by its accessors, and keys in their order.
 
-use crate::descriptor::builtin_pool;
 use crate::message::DynamicMessage;
 use crate::value::{MapKey, Value};
+use prost_reflect_descriptors::builtin_pool;
 use std::alloc::{AllocError, Global};
 use std::collections::BTreeMap;
 use std::hash::{DefaultHasher, Hash, Hasher};

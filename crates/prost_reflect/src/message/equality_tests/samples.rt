@@ -1,6 +1,6 @@
 //! Message types with a oneof, a message and maps.
 
-use crate::descriptor::DescriptorPool;
+use prost_reflect_descriptors::DescriptorPool;
 use prost_reflect_tables::PoolError;
 use std::alloc::Global;
 

@@ -4,7 +4,7 @@ use Rattle.prost_reflect.specs.View.{key_of}
 use Rattle.std.proofs.Common.{rules}
 use Rattle.std.proofs.lemmas.Result.{err_from_is_err_and, IfOk-weaker, IfErr-weaker}
 use Rattle.prost_reflect_wire.specs.Content.{MessageValue, empty, value_at, entries_of}
-use Rattle.prost_reflect.specs.Descriptors.{schema_at}
+use Rattle.prost_reflect_descriptors.specs.Descriptors.{schema_at}
 use Rattle.prost_reflect.specs.View.{value_of, content_of, written_at}
 use Rattle.prost_reflect.specs.Contents.{value_set}
 use Rattle.prost_reflect.proofs.Views.{value_of_message}

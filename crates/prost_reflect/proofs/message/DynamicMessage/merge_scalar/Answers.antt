@@ -1,8 +1,8 @@
 use Rattle.std.proofs.Common.{sym, ap, inr, ◌∙◌}
 use Rattle.std.proofs.lemmas.Result.{err_from_is_err_and}
 use Rattle.prost_reflect_wire.proofs.ByteLists.{bytes_below}
-use Rattle.prost_reflect.specs.declared.descriptor.message.MessageDescriptor.{MessageDescriptor}
-use Rattle.prost_reflect.specs.Pools.{pool_rows}
+use Rattle.prost_reflect_descriptors.specs.declared.message.MessageDescriptor.{MessageDescriptor}
+use Rattle.prost_reflect_descriptors.specs.Pools.{pool_rows}
 use Rattle.prost_reflect.specs.Scalars.{is_stray_number}
 use Rattle.prost_reflect.specs.View.{value_of}
 use Rattle.prost_reflect.proofs.Merging.{scalar_set, scalar_stray, scalar_fault}

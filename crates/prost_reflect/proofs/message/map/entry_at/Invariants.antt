@@ -1,6 +1,6 @@
 use Rattle.std.proofs.Common.{length}
 use Rattle.prost_reflect.specs.Maps.{ReadsEntry}
-use Rattle.prost_reflect.specs.Pools.{pool_rows}
+use Rattle.prost_reflect_descriptors.specs.Pools.{pool_rows}
 use Rattle.prost_reflect.proofs.message.map.entry_at.Given as goal
 
 abbrev pub decreases-loop-rest : goal.decreases-loop-rest

@@ -5,7 +5,7 @@ use Rattle.prost_reflect.specs.declared.value.Value.{Value}
 use Rattle.prost_reflect_wire.specs.Buffer.{bytes_of}
 use Rattle.prost_reflect_tables.specs.Rows.{field_row}
 use Rattle.prost_reflect.specs.Maps.{TakesPairs}
-use Rattle.prost_reflect.specs.Pools.{pool_rows}
+use Rattle.prost_reflect_descriptors.specs.Pools.{pool_rows}
 use Rattle.prost_reflect.proofs.WrittenMaps.{pairs_more, pairs_too_long, cut_pairs, takes_at}
 use Rattle.prost_reflect.proofs.message.pairs.prepend_pairs.Goals as goal
 

@@ -13,7 +13,7 @@ use denote.Model.Placed.{view_places}
 use Rattle.std.specs.Ordering.{nat_cmp}
 use Rattle.std.specs.BTreeMap.{is_at}
 use Rattle.prost_reflect_wire.specs.Schema.{Field}
-use Rattle.prost_reflect.specs.declared.descriptor.message.MessageDescriptor.{MessageDescriptor}
+use Rattle.prost_reflect_descriptors.specs.declared.message.MessageDescriptor.{MessageDescriptor}
 use Rattle.prost_reflect.specs.Items.{item_at}
 use Rattle.prost_reflect.specs.Entries.{value_in, records_in, records_at, has_value}
 use Rattle.prost_reflect.specs.Sound.{Sound, unknown_kept}

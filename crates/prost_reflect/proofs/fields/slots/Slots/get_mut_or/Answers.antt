@@ -3,7 +3,7 @@ use mathlib.Core.Option.{some}
 use borrow.Follows.Closed.{read_of}
 use Rattle.std.specs.Borrow.{MutBor, name_if_ok}
 use Rattle.std.specs.Result.{OnOk, OnErr, IfOk}
-use Rattle.prost_reflect.specs.declared.descriptor.message.MessageDescriptor.{MessageDescriptor}
+use Rattle.prost_reflect_descriptors.specs.declared.message.MessageDescriptor.{MessageDescriptor}
 use Rattle.prost_reflect.specs.declared.fields.entry.Entry.{Entry}
 use Rattle.prost_reflect.specs.Entries.{value_at, with_value}
 use Rattle.prost_reflect.specs.Items.{IsAscending}

@@ -1,0 +1,11 @@
+pub mod Pools
+pub mod PoolFiles
+pub mod PoolEquality
+pub mod Descriptors
+pub mod Fields
+pub mod Kinds
+pub mod Enums
+pub mod MapParts
+pub mod Builtin
+pub mod BuiltinRows
+pub mod BuiltinFiles

@@ -1,0 +1,8 @@
+//! Tests of `prost_reflect_descriptors`, through its public calls. They stand in a crate of their own, so that the gate need
+//! not prove that one a second time with them.
+#![tactic(auto)]
+
+#[cfg(test)]
+mod builtin;
+#[cfg(test)]
+mod pools;
