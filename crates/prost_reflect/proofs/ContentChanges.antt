@@ -6,7 +6,7 @@ use Rattle.prost_reflect_wire.specs.Content.{ContentOf, Entries, Slot, slot_at, 
 use Rattle.prost_reflect_wire.specs.Edit.{with_value, with_field_value}
 use Rattle.prost_reflect_wire.proofs.Numbers.{is_in, Covers, empty_slot, insert_ascending, entries_ascending, in_insert, slot_outside, slot_table}
 use Rattle.prost_reflect_wire.proofs.Survivors.{or_false, field_number}
-use Rattle.prost_reflect_wire.proofs.Arranged.{OrderedOption, table_ordered}
+use Rattle.prost_reflect_laws.proofs.Arranged.{OrderedOption, table_ordered}
 use Rattle.prost_reflect.specs.declared.value.Value.{Value}
 use Rattle.prost_reflect_descriptors.specs.Descriptors.{schema_at, type_at}
 use Rattle.prost_reflect.specs.Entries.{value_at}

@@ -5,7 +5,7 @@ use Rattle.prost_reflect_wire.specs.Schema.{FieldForm, Singular, Repeated, MapFr
 use Rattle.prost_reflect_wire.specs.Content.{Value, ScalarValue, MessageValue, ListValue, MapValue, NoValues, Item, NoPairs, Pair, values_from}
 use Rattle.prost_reflect_wire.specs.Writing.{is_default_of}
 use Rattle.prost_reflect_wire.specs.Typing.{is_repeated, is_empty_of, is_field_default, kept_inside}
-use Rattle.prost_reflect_wire.proofs.Checked.{checked_field}
+use Rattle.prost_reflect_laws.proofs.Checked.{checked_field}
 use Rattle.prost_reflect_tables.specs.declared.tables.Cardinality.{Cardinality}
 use Rattle.prost_reflect_tables.specs.declared.tables.Cardinality.TheVariants.{Optional, Required, Repeated as RepeatedLabel}
 use Rattle.prost_reflect_tables.specs.Rows.{FieldRow, MessageRow, TableRows}

@@ -6,7 +6,7 @@ use Rattle.std.proofs.lemmas.List.{length-map}
 use Rattle.prost_reflect_wire.specs.Schema.{Kind, ScalarOf, MessageOf, GroupOf, Field, known, field_of, kind_valid, field_valid, schema_valid}
 use Rattle.prost_reflect_wire.specs.Edit.{message_of}
 use Rattle.prost_reflect_wire.proofs.Deeper.{and_both}
-use Rattle.prost_reflect_wire.proofs.Checked.{known_valid, found_valid, checked_field}
+use Rattle.prost_reflect_laws.proofs.Checked.{known_valid, found_valid, checked_field}
 use Rattle.prost_reflect_tables.specs.Rows.{FieldRow}
 use Rattle.prost_reflect_tables.specs.Places.{row_of}
 use Rattle.prost_reflect_tables.specs.Shown.{schema_from, schema_field}

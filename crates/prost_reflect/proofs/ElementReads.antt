@@ -13,8 +13,8 @@ use Rattle.prost_reflect_wire.specs.Edit.{with_field_value, message_of}
 use Rattle.prost_reflect_wire.specs.Fault.{is_map}
 use Rattle.prost_reflect_wire.specs.Decoding.{Progress, GroupProgress, Step}
 use Rattle.prost_reflect_wire.proofs.Survivors.{field_number}
-use Rattle.prost_reflect_wire.proofs.ListSteps.{IsListed}
-use Rattle.prost_reflect_wire.proofs.ElementSteps.{ManyMessages, elements_at, message_element_holds, group_element_holds}
+use Rattle.prost_reflect_laws.proofs.ListSteps.{IsListed}
+use Rattle.prost_reflect_laws.proofs.ElementSteps.{ManyMessages, elements_at, message_element_holds, group_element_holds}
 use Rattle.prost_reflect_tables.specs.declared.tables.TableKind.{TableKind}
 use Rattle.prost_reflect_tables.specs.declared.tables.TableKind.TheVariants as kinds
 use Rattle.prost_reflect_tables.specs.Rows.{FieldRow}

@@ -11,8 +11,8 @@ use Rattle.prost_reflect_wire.specs.Writing.{element_payloads}
 use Rattle.prost_reflect_wire.specs.Typing.{is_repeated as is_list, encodable, kind_takes, element_valid, elements_valid, value_valid, value_passes, values_pass, fit_test, kept_values}
 use Rattle.prost_reflect_wire.specs.Storing.{value_bytes}
 use Rattle.prost_reflect_wire.proofs.Deeper.{and_both}
-use Rattle.prost_reflect_wire.proofs.Checked.{checked_field, checked_list}
-use Rattle.prost_reflect_wire.proofs.ListWritten.{messages_written}
+use Rattle.prost_reflect_laws.proofs.Checked.{checked_field, checked_list}
+use Rattle.prost_reflect_laws.proofs.ListWritten.{messages_written}
 use Rattle.prost_reflect_tables.specs.Rows.{FieldRow}
 use Rattle.prost_reflect_tables.specs.Shown.{schema_kind, schema_field}
 use Rattle.prost_reflect_descriptors.specs.declared.message.MessageDescriptor.{MessageDescriptor}

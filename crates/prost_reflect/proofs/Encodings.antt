@@ -18,7 +18,7 @@ use Rattle.prost_reflect_wire.specs.Storing.{slot_bytes, value_bytes, stored_byt
 use Rattle.prost_reflect_wire.specs.Unknown.{records_of}
 use Rattle.prost_reflect_wire.specs.declared.unknown.UnknownFieldSet.{UnknownFieldSet}
 use Rattle.prost_reflect_wire.proofs.Deeper.{and_both}
-use Rattle.prost_reflect_wire.proofs.WrittenEntries.{written_store}
+use Rattle.prost_reflect_laws.proofs.WrittenEntries.{written_store}
 use Rattle.prost_reflect.specs.declared.fields.entry.Entry.{Entry}
 use Rattle.prost_reflect.specs.declared.fields.entry.Entry.TheVariants as entries
 use Rattle.prost_reflect.specs.declared.message.DynamicMessage.{DynamicMessage}

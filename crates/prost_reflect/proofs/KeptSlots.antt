@@ -12,7 +12,7 @@ use Rattle.prost_reflect_wire.specs.Edit.{with_value, with_field_value, set_fiel
 use Rattle.prost_reflect_wire.proofs.Numbers.{is_in, Covers, empty_slot, insert_ascending, entries_ascending, in_insert, slot_outside, slot_table, table_same, table_covers}
 use Rattle.prost_reflect_wire.proofs.Survivors.{or_false, field_number}
 use Rattle.prost_reflect_wire.proofs.Deeper.{and_both}
-use Rattle.prost_reflect_wire.proofs.Order.{scalars_equal}
+use Rattle.prost_reflect_laws.proofs.Order.{scalars_equal}
 use Rattle.prost_reflect.specs.Contents.{with_unknown}
 use Rattle.prost_reflect.specs.KeptLaws.{Arranged, KeptAfterSet, KeptAfterClear, KeptAfterUnknown, KeptAfterClearAll, KeptAfterWriting}
 

@@ -15,7 +15,7 @@ use Rattle.std.specs.Ordering.{is_eq, match_ordering}
 use Rattle.std.specs.BTreeMap.{insert_entry}
 use Rattle.prost_reflect_wire.specs.Content.{Value, Pairs, Pair}
 use Rattle.prost_reflect_wire.specs.Meaning.{put}
-use Rattle.prost_reflect_wire.proofs.Order.{scalars_equal}
+use Rattle.prost_reflect_laws.proofs.Order.{scalars_equal}
 use Rattle.prost_reflect.specs.ContentLaws.{MapInsert, pairs_shown, compare_keys}
 
 pub keys_compared : (a b : MapKey) → compare_keys a b ≡ scalar_cmp (key_of a) (key_of b)

@@ -11,7 +11,7 @@ use Rattle.prost_reflect_wire.specs.Content.{ScalarValue}
 use Rattle.prost_reflect_wire.specs.Fault.{same_wire}
 use Rattle.prost_reflect_wire.specs.Decoding.{ScalarRead, ScalarFault}
 use Rattle.std.proofs.lemmas.List.{map-append}
-use Rattle.prost_reflect_wire.proofs.PackedElements.{ElementsSoFar, elements_none, elements_more, elements_done, elements_fault, packed_read, single_read, packed_refused, delimited_refused, single_refused}
+use Rattle.prost_reflect_laws.proofs.PackedElements.{ElementsSoFar, elements_none, elements_more, elements_done, elements_fault, packed_read, single_read, packed_refused, delimited_refused, single_refused}
 use Rattle.prost_reflect_tables.specs.declared.tables.TableKind.{TableKind}
 use Rattle.prost_reflect.specs.declared.value.Value.{Value}
 use Rattle.prost_reflect.specs.View.{value_of}

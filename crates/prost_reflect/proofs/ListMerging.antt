@@ -16,10 +16,10 @@ use Rattle.prost_reflect_wire.specs.Edit.{with_field_value}
 use Rattle.prost_reflect_wire.specs.Fault.{OfType}
 use Rattle.prost_reflect_wire.specs.Decoding.{Step, ElementsRead, StandsBehindKey}
 use Rattle.prost_reflect_wire.proofs.Survivors.{field_number}
-use Rattle.prost_reflect_wire.proofs.Checked.{checked_field, checked_list}
-use Rattle.prost_reflect_wire.proofs.FieldsFound.{field_stands}
-use Rattle.prost_reflect_wire.proofs.ListSteps.{IsListed}
-use Rattle.prost_reflect_wire.proofs.ListReads.{IsOpen, stored_list, list_holds}
+use Rattle.prost_reflect_laws.proofs.Checked.{checked_field, checked_list}
+use Rattle.prost_reflect_records.proofs.FieldsFound.{field_stands}
+use Rattle.prost_reflect_laws.proofs.ListSteps.{IsListed}
+use Rattle.prost_reflect_laws.proofs.ListReads.{IsOpen, stored_list, list_holds}
 use Rattle.prost_reflect_tables.specs.declared.tables.TableKind.{TableKind}
 use Rattle.prost_reflect.specs.declared.message.DynamicMessage.{DynamicMessage}
 use Rattle.prost_reflect.specs.declared.value.Value.{Value}

@@ -15,7 +15,7 @@ use Rattle.prost_reflect_wire.specs.Unknown.{SkipsValue}
 use Rattle.prost_reflect_wire.specs.Fault.{ValueFault}
 use Rattle.prost_reflect_wire.specs.Decoding.{ScalarRead, ScalarFault}
 use Rattle.prost_reflect_wire.specs.EntryReading.{IsMapped}
-use Rattle.prost_reflect_wire.proofs.EntryReads.{scalar_entry_nothing, key_read, value_read, other_read, key_refused, value_refused, other_refused, no_key_read}
+use Rattle.prost_reflect_laws.proofs.EntryReads.{scalar_entry_nothing, key_read, value_read, other_read, key_refused, value_refused, other_refused, no_key_read}
 use Rattle.prost_reflect_tables.specs.declared.tables.TableKind.{TableKind}
 use Rattle.prost_reflect_tables.specs.Rows.{EnumRow}
 use Rattle.prost_reflect_tables.specs.Shown.{schema_kind}

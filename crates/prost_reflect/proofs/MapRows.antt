@@ -9,7 +9,7 @@ use Rattle.prost_reflect_wire.specs.Content.{ScalarValue, MessageValue, ListValu
 use Rattle.prost_reflect_wire.specs.Typing.{value_valid, is_repeated as is_list}
 use Rattle.prost_reflect_wire.specs.Storing.{value_bytes}
 use Rattle.prost_reflect_wire.proofs.Deeper.{and_both}
-use Rattle.prost_reflect_wire.proofs.ScalarEntries.{map_keyed, map_key_default}
+use Rattle.prost_reflect_laws.proofs.ScalarEntries.{map_keyed, map_key_default}
 use Rattle.prost_reflect_tables.specs.declared.tables.Cardinality.{Cardinality}
 use Rattle.prost_reflect_tables.specs.declared.tables.Cardinality.TheVariants.{Optional, Required, Repeated as RepeatedLabel}
 use Rattle.prost_reflect_tables.specs.Rows.{FieldRow, MessageRow, TableRows}

@@ -17,8 +17,8 @@ use Rattle.prost_reflect_wire.specs.Levels.{stray_levels}
 use Rattle.prost_reflect_wire.specs.Fault.{OfType, ValueFault, same_wire}
 use Rattle.prost_reflect_wire.specs.Decoding.{Step, ScalarRead, ScalarFault, StandsBehindKey}
 use Rattle.prost_reflect_wire.proofs.RecordFronts.{value_once}
-use Rattle.prost_reflect_wire.proofs.Holding.{scalar_holds, unknown_holds, stray_holds}
-use Rattle.prost_reflect_wire.proofs.ScalarFaults.{scalar_stands}
+use Rattle.prost_reflect_laws.proofs.Holding.{scalar_holds, unknown_holds, stray_holds}
+use Rattle.prost_reflect_laws.proofs.ScalarFaults.{scalar_stands}
 use Rattle.prost_reflect_wire.proofs.PlaceFaults.{value_stands}
 use Rattle.prost_reflect_tables.specs.declared.tables.TableKind.{TableKind}
 use Rattle.prost_reflect_tables.specs.declared.tables.TableKind.TheVariants as kinds

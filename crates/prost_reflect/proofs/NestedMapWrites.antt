@@ -12,7 +12,7 @@ use Rattle.prost_reflect_wire.specs.Writing.{message_payload, records, entry_rec
 use Rattle.prost_reflect_wire.specs.Typing.{fit_test, kind_takes, element_valid, pairs_valid, value_valid, value_passes, pairs_pass, kept, kept_pairs}
 use Rattle.prost_reflect_wire.specs.Storing.{value_bytes}
 use Rattle.prost_reflect_wire.proofs.Deeper.{and_both}
-use Rattle.prost_reflect_wire.proofs.MapWritten.{part_written, pair_front, map_kept_written}
+use Rattle.prost_reflect_laws.proofs.MapWritten.{part_written, pair_front, map_kept_written}
 use Rattle.prost_reflect_tables.specs.declared.tables.TableKind.{TableKind}
 use Rattle.prost_reflect_tables.specs.declared.tables.TableKind.TheVariants as kinds
 use Rattle.prost_reflect_tables.specs.Rows.{FieldRow, EnumRow}

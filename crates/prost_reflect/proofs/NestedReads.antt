@@ -14,7 +14,7 @@ use Rattle.prost_reflect_wire.specs.Edit.{with_field_value, message_of}
 use Rattle.prost_reflect_wire.specs.Fault.{OfType, Stands, StandsInMessage, one_takes, same_wire, is_map}
 use Rattle.prost_reflect_wire.specs.Decoding.{Progress, GroupProgress, Step, StandsBehindKey, StandsInGroup}
 use Rattle.prost_reflect_wire.proofs.Survivors.{field_number}
-use Rattle.prost_reflect_wire.proofs.MessageSteps.{OneMessage, ReadInto, Nested, FoundNested, nested_sound, message_holds, group_holds, nested_end, nested_wire, nested_depth, nested_plain, message_refused, group_refused}
+use Rattle.prost_reflect_laws.proofs.MessageSteps.{OneMessage, ReadInto, Nested, FoundNested, nested_sound, message_holds, group_holds, nested_end, nested_wire, nested_depth, nested_plain, message_refused, group_refused}
 use Rattle.prost_reflect.specs.declared.message.DynamicMessage.{DynamicMessage}
 use Rattle.prost_reflect.specs.declared.value.Value.{Value, out-Value}
 use Rattle.prost_reflect.specs.declared.value.Value.TheOpen.{Value-F}

@@ -10,7 +10,7 @@ use Rattle.prost_reflect_wire.specs.Writing.{records, message_payload}
 use Rattle.prost_reflect_wire.specs.Typing.{kept, encodable, value_valid, value_passes, fit_test}
 use Rattle.prost_reflect_wire.specs.Storing.{value_bytes}
 use Rattle.prost_reflect_wire.proofs.Deeper.{and_both}
-use Rattle.prost_reflect_wire.proofs.WrittenEntries.{message_written}
+use Rattle.prost_reflect_laws.proofs.WrittenEntries.{message_written}
 use Rattle.prost_reflect_tables.specs.declared.tables.TableKind.{TableKind}
 use Rattle.prost_reflect_tables.specs.declared.tables.TableKind.TheVariants as kinds
 use Rattle.prost_reflect_tables.specs.Rows.{FieldRow, EnumRow}

@@ -18,10 +18,10 @@ use Rattle.prost_reflect_wire.specs.Edit.{with_field_value}
 use Rattle.prost_reflect_wire.specs.Fault.{OfType, ElementFault, ElementEnds, ElementPasses, same_wire}
 use Rattle.prost_reflect_wire.specs.Decoding.{Step, NumbersJoined, BodyJoined, FieldFault, ScalarFault, StandsBehindKey}
 use Rattle.prost_reflect_wire.proofs.Survivors.{field_number}
-use Rattle.prost_reflect_wire.proofs.FieldsFound.{field_stands}
-use Rattle.prost_reflect_wire.proofs.ListSteps.{IsListed}
-use Rattle.prost_reflect_wire.proofs.PackedElements.{packed_refused, delimited_refused, single_refused}
-use Rattle.prost_reflect_wire.proofs.NumberSteps.{NumbersSoFar, list_made, declared_joined, stray_joined, numbers_none, numbers_more, numbers_done, number_behind, packed_step, number_step}
+use Rattle.prost_reflect_records.proofs.FieldsFound.{field_stands}
+use Rattle.prost_reflect_laws.proofs.ListSteps.{IsListed}
+use Rattle.prost_reflect_laws.proofs.PackedElements.{packed_refused, delimited_refused, single_refused}
+use Rattle.prost_reflect_laws.proofs.NumberSteps.{NumbersSoFar, list_made, declared_joined, stray_joined, numbers_none, numbers_more, numbers_done, number_behind, packed_step, number_step}
 use Rattle.prost_reflect_tables.specs.declared.tables.TableKind.{TableKind}
 use Rattle.prost_reflect_tables.specs.declared.tables.TableKind.TheVariants as kinds
 use Rattle.prost_reflect_tables.specs.Rows.{FieldRow, EnumRow}

@@ -9,7 +9,7 @@ use Rattle.prost_reflect_wire.specs.Typing.{is_repeated as is_list}
 use Rattle.prost_reflect_wire.specs.Content.{ScalarValue}
 use Rattle.prost_reflect_wire.specs.Grammar.{is_stray}
 use Rattle.prost_reflect_wire.proofs.Deeper.{and_both, both_true}
-use Rattle.prost_reflect_wire.proofs.EntryDefaults.{is_undeclared_value}
+use Rattle.prost_reflect_laws.proofs.EntryDefaults.{is_undeclared_value}
 use Rattle.prost_reflect_tables.specs.declared.tables.Cardinality.{Cardinality}
 use Rattle.prost_reflect_tables.specs.declared.tables.Cardinality.TheVariants.{Optional, Required, Repeated as RepeatedLabel}
 use Rattle.prost_reflect_tables.specs.declared.tables.TableKind.{TableKind}

@@ -2,8 +2,8 @@
 use Rattle.std.proofs.Common.{◌≡◌, ℕ, Bool, true, false, cond, not, Option, Some, None, refl, sym, ap, ◌∙◌, subst, true≢false}
 use Rattle.prost_reflect_wire.specs.Schema.{MessageOf, GroupOf, ValueType, Repeated, field_of, is_group, field_valid}
 use Rattle.prost_reflect_wire.specs.Edit.{message_of}
-use Rattle.prost_reflect_wire.proofs.Checked.{checked_field, checked_map}
-use Rattle.prost_reflect_wire.proofs.ScalarEntries.{map_keyed}
+use Rattle.prost_reflect_laws.proofs.Checked.{checked_field, checked_map}
+use Rattle.prost_reflect_laws.proofs.ScalarEntries.{map_keyed}
 use Rattle.prost_reflect_tables.specs.declared.tables.TableKind.{TableKind}
 use Rattle.prost_reflect_tables.specs.declared.tables.TableKind.TheVariants as kinds
 use Rattle.prost_reflect_tables.specs.Rows.{FieldRow}

@@ -10,7 +10,7 @@ use Rattle.std.specs.Map.{keys_of}
 use Rattle.prost_reflect_wire.specs.Content.{Entries, Value, Slot, slot_at, store, table, insert_number, numbers_in, changed}
 use Rattle.prost_reflect_wire.proofs.Numbers.{Ascending, is_in, Covers, empty_slot, table_same, table_covers, slots_same, value_apart, unknowns_apart, value_here, unknowns_here, insert_ascending, entries_ascending, in_insert, slot_outside}
 use Rattle.prost_reflect_wire.proofs.Survivors.{or_false}
-use Rattle.prost_reflect_wire.proofs.Rebuilt.{table_from}
+use Rattle.prost_reflect_laws.proofs.Rebuilt.{table_from}
 use Rattle.prost_reflect.specs.declared.fields.entry.Entry.{Entry}
 use Rattle.prost_reflect.specs.Items.{IsAscending, item_at}
 use Rattle.prost_reflect.specs.View.{slot_of, entries_from}

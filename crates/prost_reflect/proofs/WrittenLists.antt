@@ -12,8 +12,8 @@ use Rattle.prost_reflect_wire.specs.Writing.{end_to_end, list_payloads, element_
 use Rattle.prost_reflect_wire.specs.Typing.{element_valid, elements_valid, value_valid, pairs_valid}
 use Rattle.prost_reflect_wire.specs.Storing.{value_bytes}
 use Rattle.prost_reflect_wire.proofs.Deeper.{and_both}
-use Rattle.prost_reflect_wire.proofs.WrittenEntries.{written_wire}
-use Rattle.prost_reflect_wire.proofs.ListWritten.{list_written}
+use Rattle.prost_reflect_laws.proofs.WrittenEntries.{written_wire}
+use Rattle.prost_reflect_laws.proofs.ListWritten.{list_written}
 use Rattle.prost_reflect_tables.specs.declared.tables.TableKind.{TableKind}
 use Rattle.prost_reflect_tables.specs.Rows.{FieldRow}
 use Rattle.prost_reflect_tables.specs.Shown.{schema_field}

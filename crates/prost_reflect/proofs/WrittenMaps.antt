@@ -11,7 +11,7 @@ use Rattle.prost_reflect_wire.specs.Writing.{pair_payloads}
 use Rattle.prost_reflect_wire.specs.Typing.{kind_takes, element_valid, pairs_valid, value_valid}
 use Rattle.prost_reflect_wire.specs.Storing.{value_bytes}
 use Rattle.prost_reflect_wire.proofs.Deeper.{and_both}
-use Rattle.prost_reflect_wire.proofs.MapWritten.{part_bytes, pair_written, map_written}
+use Rattle.prost_reflect_laws.proofs.MapWritten.{part_bytes, pair_written, map_written}
 use Rattle.prost_reflect_tables.specs.declared.tables.TableKind.{TableKind}
 use Rattle.prost_reflect_tables.specs.Rows.{FieldRow, EnumRow}
 use Rattle.prost_reflect_tables.specs.Shown.{schema_kind, schema_default}

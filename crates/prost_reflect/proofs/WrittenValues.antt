@@ -9,7 +9,7 @@ use Rattle.prost_reflect_wire.specs.Content as contents
 use Rattle.prost_reflect_wire.specs.Typing.{value_valid, kind_takes, is_repeated, pairs_valid}
 use Rattle.prost_reflect_wire.specs.Storing.{value_bytes}
 use Rattle.prost_reflect_wire.proofs.Deeper.{and_both}
-use Rattle.prost_reflect_wire.proofs.WrittenEntries.{scalar_written}
+use Rattle.prost_reflect_laws.proofs.WrittenEntries.{scalar_written}
 use Rattle.prost_reflect_tables.specs.Rows.{FieldRow, EnumRow, TableRows}
 use Rattle.prost_reflect_tables.specs.declared.tables.TableKind.{TableKind}
 use Rattle.prost_reflect_tables.specs.declared.tables.TableKind.TheVariants as kinds

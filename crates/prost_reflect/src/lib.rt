@@ -14,7 +14,7 @@ pub use prost_reflect_descriptors::{
     builtin_pool,
 };
 pub use prost_reflect_tables::{Cardinality, PoolError};
-pub use prost_reflect_wire::records::{
+pub use prost_reflect_records::{
     DescriptorProto, EnumDescriptorProto, EnumReservedRange, EnumValueDescriptorProto,
     ExtensionRange, FieldDescriptorProto, FileDescriptorProto, FileDescriptorSet,
     MethodDescriptorProto, OneofDescriptorProto, ReservedRange, ServiceDescriptorProto,

@@ -2,8 +2,8 @@
 use Rattle.std.proofs.Common.{◌≡◌, ℕ, nat_eq, Bool, false, not, ◌||◌, length, List, [], ◌∷◌, ◌++◌, is_none, string_bytes, refl, sym, ap, ◌∙◌, subst}
 use Rattle.std.specs.Prelude.{bytes_eq, codes}
 use Rattle.std.specs.List.{list_any}
-use Rattle.prost_reflect_wire.specs.declared.records.FileDescriptorProto.{FileDescriptorProto}
-use Rattle.prost_reflect_wire.specs.declared.records.FieldDescriptorProto.{FieldDescriptorProto}
+use Rattle.prost_reflect_records.specs.declared.FileDescriptorProto.{FileDescriptorProto}
+use Rattle.prost_reflect_records.specs.declared.FieldDescriptorProto.{FieldDescriptorProto}
 use Rattle.prost_reflect_tables.specs.declared.error.PoolError.{PoolError}
 use Rattle.prost_reflect_tables.specs.declared.error.PoolError.TheVariants as pool_errors
 use Rattle.prost_reflect_tables.specs.Flat.{DefinitionRow, FlatMessageRow, file_scope, flattened}

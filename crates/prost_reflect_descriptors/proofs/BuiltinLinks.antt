@@ -3,14 +3,14 @@ use Rattle.std.proofs.Common.{◌≡◌, ℕ, ◌+◌, pos, Bool, true, false, n
 use Rattle.std.specs.Prelude.{unwrap_or, bytes_eq, codes}
 use Rattle.std.specs.List.{list_any}
 use Rattle.std.specs.declared.alloc.Global.{Global}
-use Rattle.prost_reflect_wire.specs.declared.records.FileDescriptorProto.{FileDescriptorProto}
-use Rattle.prost_reflect_wire.specs.declared.records.FieldDescriptorProto.{FieldDescriptorProto}
-use Rattle.prost_reflect_wire.specs.declared.records.OneofDescriptorProto.{OneofDescriptorProto}
-use Rattle.prost_reflect_wire.specs.declared.records.EnumDescriptorProto.{EnumDescriptorProto}
-use Rattle.prost_reflect_wire.specs.declared.records.ServiceDescriptorProto.{ServiceDescriptorProto}
-use Rattle.prost_reflect_wire.specs.declared.records.DescriptorProto.{DescriptorProto}
-use Rattle.prost_reflect_wire.specs.declared.records.DescriptorProto.TheViews.{out-DescriptorProto}
-use Rattle.prost_reflect_wire.specs.declared.records.DescriptorProto.TheFolds.{fold_out-DescriptorProto}
+use Rattle.prost_reflect_records.specs.declared.FileDescriptorProto.{FileDescriptorProto}
+use Rattle.prost_reflect_records.specs.declared.FieldDescriptorProto.{FieldDescriptorProto}
+use Rattle.prost_reflect_records.specs.declared.OneofDescriptorProto.{OneofDescriptorProto}
+use Rattle.prost_reflect_records.specs.declared.EnumDescriptorProto.{EnumDescriptorProto}
+use Rattle.prost_reflect_records.specs.declared.ServiceDescriptorProto.{ServiceDescriptorProto}
+use Rattle.prost_reflect_records.specs.declared.DescriptorProto.{DescriptorProto}
+use Rattle.prost_reflect_records.specs.declared.DescriptorProto.TheViews.{out-DescriptorProto}
+use Rattle.prost_reflect_records.specs.declared.DescriptorProto.TheFolds.{fold_out-DescriptorProto}
 use Rattle.prost_reflect_tables.specs.declared.tables.Cardinality.TheVariants.{Optional}
 use Rattle.prost_reflect_tables.specs.Rows.{FieldRow, MessageRow}
 use Rattle.prost_reflect_tables.specs.Names.{text_or_empty, joined}

@@ -2,9 +2,9 @@
 use Rattle.std.proofs.Common.{◌≡◌, ℕ, pos, nat_eq, Bool, false, not, ◌&&◌, ◌||◌, length, List, [], map, None, refl, ap, ◌∙◌, subst}
 use Rattle.std.specs.Prelude.{unwrap_or, codes}
 use Rattle.std.specs.List.{AllZip, list_any}
-use Rattle.prost_reflect_wire.specs.declared.records.FieldDescriptorProto.{FieldDescriptorProto}
-use Rattle.prost_reflect_wire.specs.declared.records.DescriptorProto.{DescriptorProto}
-use Rattle.prost_reflect_wire.specs.declared.records.DescriptorProto.TheViews.{out-DescriptorProto}
+use Rattle.prost_reflect_records.specs.declared.FieldDescriptorProto.{FieldDescriptorProto}
+use Rattle.prost_reflect_records.specs.declared.DescriptorProto.{DescriptorProto}
+use Rattle.prost_reflect_records.specs.declared.DescriptorProto.TheViews.{out-DescriptorProto}
 use Rattle.prost_reflect_tables.specs.Names.{text_or_empty, joined}
 use Rattle.prost_reflect_tables.specs.Flat.{ScopeRow, DefinitionRow, FlatMessageRow, inside, defined_from, oneof_name}
 use Rattle.prost_reflect_tables.specs.Options.{bool_option}

@@ -7,8 +7,8 @@ use Rattle.std.specs.Cmp.{unsigned_Decides}
 use Rattle.std.specs.Cmp.Lexicographic.{pointwise}
 use Rattle.std.proofs.lemmas.Bool.Decides.{Decides-and}
 use Rattle.prost_reflect_wire.specs.ContentEquality.{content_eq}
-use Rattle.prost_reflect_wire.specs.DescriptorViews.{of_file, shared_files}
-use Rattle.prost_reflect_wire.specs.declared.records.FileDescriptorProto.{FileDescriptorProto}
+use Rattle.prost_reflect_records.specs.DescriptorViews.{of_file, shared_files}
+use Rattle.prost_reflect_records.specs.declared.FileDescriptorProto.{FileDescriptorProto}
 use Rattle.prost_reflect_tables.specs.Equality.{rows_eq, rows_decide}
 use Rattle.prost_reflect_tables.proofs.Built.{linked_of}
 use Rattle.prost_reflect_tables.proofs.EqualFiles.{equal_tables}

@@ -1,10 +1,10 @@
 -- What the bytes of one file add, and why they add nothing.
 use Rattle.std.proofs.Common.{◌≡◌, ℕ, List, [], ◌∷◌, Some}
 use Rattle.prost_reflect_wire.specs.Grammar.{LEVEL_LIMIT}
-use Rattle.prost_reflect_wire.specs.DescriptorMeaning.{record_decoded}
-use Rattle.prost_reflect_wire.specs.DescriptorViews.{of_file}
-use Rattle.prost_reflect_wire.specs.declared.records.FileDescriptorProto.{FileDescriptorProto}
-use Rattle.prost_reflect_wire.specs.declared.records.table.RecordType.TheVariants as types
+use Rattle.prost_reflect_records.specs.DescriptorMeaning.{record_decoded}
+use Rattle.prost_reflect_records.specs.DescriptorViews.{of_file}
+use Rattle.prost_reflect_records.specs.declared.FileDescriptorProto.{FileDescriptorProto}
+use Rattle.prost_reflect_records.specs.declared.table.RecordType.TheVariants as types
 use Rattle.prost_reflect_tables.specs.Adding.{added}
 use Rattle.prost_reflect_tables.specs.declared.error.PoolError.{PoolError}
 use Rattle.prost_reflect_tables.specs.declared.error.PoolError.TheVariants as errors

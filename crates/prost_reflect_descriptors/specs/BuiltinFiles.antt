@@ -1,10 +1,10 @@
 -- The files of the built-in pool.
 use Rattle.std.specs.Prelude.{◌≡◌, ℕ, ℤ, pos, Bool, List, [], ◌∷◌, map, Option, Some, None, option_map, string_bytes, codes}
-use Rattle.prost_reflect_wire.specs.declared.records.FileDescriptorProto.{FileDescriptorProto}
-use Rattle.prost_reflect_wire.specs.declared.records.FieldDescriptorProto.{FieldDescriptorProto}
-use Rattle.prost_reflect_wire.specs.declared.records.DescriptorProto.{DescriptorProto}
-use Rattle.prost_reflect_wire.specs.declared.records.DescriptorProto.TheOpen.{DescriptorProto-F}
-use Rattle.prost_reflect_wire.specs.declared.records.DescriptorProto.TheViews.{out-DescriptorProto}
+use Rattle.prost_reflect_records.specs.declared.FileDescriptorProto.{FileDescriptorProto}
+use Rattle.prost_reflect_records.specs.declared.FieldDescriptorProto.{FieldDescriptorProto}
+use Rattle.prost_reflect_records.specs.declared.DescriptorProto.{DescriptorProto}
+use Rattle.prost_reflect_records.specs.declared.DescriptorProto.TheOpen.{DescriptorProto-F}
+use Rattle.prost_reflect_records.specs.declared.DescriptorProto.TheViews.{out-DescriptorProto}
 use Rattle.prost_reflect_tables.specs.Names.{text_or_empty}
 
 -- A field's record without where it lies in memory.

@@ -1,8 +1,8 @@
 -- The records of a pool's files, one after another.
 use Rattle.std.specs.Prelude.{◌≡◌, List, [], ◌∷◌, Option, Some, None}
 use denote.Bor.{Bor}
-use Rattle.prost_reflect_wire.specs.DescriptorViews.{shared_files}
-use Rattle.prost_reflect_wire.specs.declared.records.FileDescriptorProto.{FileDescriptorProto}
+use Rattle.prost_reflect_records.specs.DescriptorViews.{shared_files}
+use Rattle.prost_reflect_records.specs.declared.FileDescriptorProto.{FileDescriptorProto}
 use Rattle.prost_reflect_descriptors.specs.declared.files.FileDescriptorProtos.{FileDescriptorProtos}
 
 -- Those that are still to come.

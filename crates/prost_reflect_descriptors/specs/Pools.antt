@@ -3,13 +3,13 @@ use Rattle.std.specs.Prelude.{◌≡◌, ◌≢◌, ℕ, ⊤, List, [], ◌∷�
 use Rattle.prost_reflect_wire.specs.Content.{Content}
 use Rattle.prost_reflect_wire.specs.Grammar.{LEVEL_LIMIT, Accepts}
 use Rattle.prost_reflect_wire.specs.Fault.{StandsInMessage}
-use Rattle.prost_reflect_wire.specs.DescriptorTable.{place_of, record_schema}
-use Rattle.prost_reflect_wire.specs.DescriptorMeaning.{record_decoded}
-use Rattle.prost_reflect_wire.specs.DescriptorViews.{of_file, of_files, shared_files}
+use Rattle.prost_reflect_records.specs.DescriptorTable.{place_of, record_schema}
+use Rattle.prost_reflect_records.specs.DescriptorMeaning.{record_decoded}
+use Rattle.prost_reflect_records.specs.DescriptorViews.{of_file, of_files, shared_files}
 use Rattle.prost_reflect_wire.specs.declared.error.DecodeError.{DecodeError}
-use Rattle.prost_reflect_wire.specs.declared.records.FileDescriptorProto.{FileDescriptorProto}
-use Rattle.prost_reflect_wire.specs.declared.records.table.RecordType.{RecordType}
-use Rattle.prost_reflect_wire.specs.declared.records.table.RecordType.TheVariants as types
+use Rattle.prost_reflect_records.specs.declared.FileDescriptorProto.{FileDescriptorProto}
+use Rattle.prost_reflect_records.specs.declared.table.RecordType.{RecordType}
+use Rattle.prost_reflect_records.specs.declared.table.RecordType.TheVariants as types
 use Rattle.prost_reflect_tables.specs.Rows.{TableRows}
 use Rattle.prost_reflect_tables.specs.Schema.{rows_of}
 use Rattle.prost_reflect_tables.specs.Flat.{flattened}

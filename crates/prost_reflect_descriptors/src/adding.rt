@@ -1,9 +1,9 @@
 //! Adding files to pools.
 
 ghost use Rattle.std.specs.Prelude.{◌≡◌, ◌≢◌, ◌++◌, ◌∷◌, [], List, not, IfOk, IfErr, OnOk, OnErr};
-ghost use Rattle.prost_reflect_wire.specs.DescriptorViews.{shared_files};
-ghost use Rattle.prost_reflect_wire.specs.declared.records.FileDescriptorProto.{FileDescriptorProto};
-ghost use Rattle.prost_reflect_wire.specs.declared.records.table.RecordType.TheVariants as types;
+ghost use Rattle.prost_reflect_records.specs.DescriptorViews.{shared_files};
+ghost use Rattle.prost_reflect_records.specs.declared.FileDescriptorProto.{FileDescriptorProto};
+ghost use Rattle.prost_reflect_records.specs.declared.table.RecordType.TheVariants as types;
 ghost use Rattle.prost_reflect_tables.specs.Adding.{is_there, added, AreNamesOf};
 ghost use Rattle.prost_reflect_tables.specs.Built.{AreTablesOf};
 ghost use Rattle.prost_reflect_tables.specs.Checked.{Stands};
@@ -16,7 +16,7 @@ ghost use Rattle.prost_reflect_descriptors.specs.Pools.{files_of, IsPoolOf, Refu
 use crate::DescriptorPool;
 use crate::pool::PoolInner;
 use prost_reflect_tables::{PoolError, Tables, build, text_or_empty};
-use prost_reflect_wire::records::{FileDescriptorProto, FileDescriptorSet};
+use prost_reflect_records::{FileDescriptorProto, FileDescriptorSet};
 use std::alloc::{AllocError, Global};
 use std::collections::BTreeSet;
 use std::rc::Rc;

@@ -10,7 +10,7 @@ ghost use Rattle.prost_reflect_descriptors.specs.BuiltinRows.{builtin_rows};
 
 use crate::DescriptorPool;
 use prost_reflect_tables::PoolError;
-use prost_reflect_wire::records::{DescriptorProto, FieldDescriptorProto, FileDescriptorProto};
+use prost_reflect_records::{DescriptorProto, FieldDescriptorProto, FileDescriptorProto};
 use std::alloc::{AllocError, Global};
 
 /// The type code and the name of each field; the number is the type code too.

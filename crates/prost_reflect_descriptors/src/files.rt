@@ -1,11 +1,11 @@
 //! The records of a pool's files, and their encoding.
 
 ghost use Rattle.std.specs.Prelude.{◌≡◌, ◌≤◌, ◌++◌, ◌^◌, length, IfOk, IfErr, OnOk, OnErr};
-ghost use Rattle.prost_reflect_wire.specs.DescriptorViews.{of_files};
+ghost use Rattle.prost_reflect_records.specs.DescriptorViews.{of_files};
 ghost use Rattle.prost_reflect_wire.specs.Grammar.{LEVEL_LIMIT};
 ghost use Rattle.prost_reflect_wire.specs.Levels.{levels};
 ghost use Rattle.prost_reflect_wire.specs.Writing.{encoded};
-ghost use Rattle.prost_reflect_wire.specs.declared.records.table.RecordType.TheVariants as types;
+ghost use Rattle.prost_reflect_records.specs.declared.table.RecordType.TheVariants as types;
 ghost use Rattle.prost_reflect_tables.specs.Checked.{Checked};
 ghost use Rattle.prost_reflect_tables.specs.Flat.{flattened};
 ghost use Rattle.prost_reflect_descriptors.specs.PoolFiles.{files_left};
@@ -13,7 +13,7 @@ ghost use Rattle.prost_reflect_descriptors.specs.Pools.{files_of, Reads};
 
 use crate::DescriptorPool;
 use prost_reflect_wire::EncodeError;
-use prost_reflect_wire::records::{FileDescriptorProto, encode_files};
+use prost_reflect_records::{FileDescriptorProto, encode_files};
 use std::alloc::Global;
 use std::rc::Rc;
 

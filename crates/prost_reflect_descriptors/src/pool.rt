@@ -1,13 +1,13 @@
 //! Pools.
 
 ghost use Rattle.std.specs.Prelude.{◌≡◌};
-ghost use Rattle.prost_reflect_wire.specs.DescriptorViews.{shared_files};
+ghost use Rattle.prost_reflect_records.specs.DescriptorViews.{shared_files};
 ghost use Rattle.prost_reflect_tables.specs.Built.{AreTablesOf};
 ghost use Rattle.prost_reflect_tables.specs.Schema.{rows_of};
 
 use crate::MessageDescriptor;
 use prost_reflect_tables::Tables;
-use prost_reflect_wire::records::FileDescriptorProto;
+use prost_reflect_records::FileDescriptorProto;
 use std::alloc::{AllocError, Global};
 use std::rc::Rc;
 

@@ -1,6 +1,6 @@
 -- What shows that rows are the tables of files.
 use Rattle.std.proofs.Common.{◌≡◌, Bool, true, false, not, List, [], refl, ap, sym, ◌∙◌}
-use Rattle.prost_reflect_wire.specs.declared.records.FileDescriptorProto.{FileDescriptorProto}
+use Rattle.prost_reflect_records.specs.declared.FileDescriptorProto.{FileDescriptorProto}
 use Rattle.prost_reflect_wire.proofs.ListTests.{and_both}
 use Rattle.prost_reflect_tables.specs.declared.tables.MessageTable.{MessageTable}
 use Rattle.prost_reflect_tables.specs.declared.tables.EnumTable.{EnumTable}

@@ -5,9 +5,9 @@ use Rattle.std.specs.Cmp.Lexicographic.{pointwise}
 use Rattle.prost_reflect_wire.specs.Content.{Content}
 use Rattle.prost_reflect_wire.specs.ContentEquality.{content_eq, content_same, content_refl}
 use Rattle.prost_reflect_wire.proofs.ListTests.{and_both, both_true}
-use Rattle.prost_reflect_wire.specs.declared.records.FileDescriptorProto.{FileDescriptorProto}
-use Rattle.prost_reflect_wire.specs.DescriptorViews.{of_file}
-use Rattle.prost_reflect_wire.proofs.EqualContents.{SameFile, file_same, zip_same}
+use Rattle.prost_reflect_records.specs.declared.FileDescriptorProto.{FileDescriptorProto}
+use Rattle.prost_reflect_records.specs.DescriptorViews.{of_file}
+use Rattle.prost_reflect_records.proofs.EqualContents.{SameFile, file_same, zip_same}
 use Rattle.prost_reflect_tables.specs.declared.error.PoolError.{PoolError}
 use Rattle.prost_reflect_tables.specs.declared.error.PoolError.TheVariants.{BadMapEntry, BadOptions, BadDefault, FloatDefault, MissingName, UnknownSyntax, MissingDependency, BadIndex, BadNumber, BadRange, MissingType, BadLabel, BadOneof, EmptyEnum, DuplicateName, UnknownType, DuplicateNumber, OutsideRange}
 use Rattle.prost_reflect_tables.specs.Flat.{FlatRows, flattened}

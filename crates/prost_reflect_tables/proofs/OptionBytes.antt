@@ -14,7 +14,7 @@ use Rattle.prost_reflect_wire.specs.Fault.{StandsInField}
 use Rattle.prost_reflect_wire.proofs.Reading.{spelled_read}
 use Rattle.prost_reflect_wire.proofs.Sound.{read_spells}
 use Rattle.prost_reflect_wire.proofs.ByteLists.{bytes_behind}
-use Rattle.prost_reflect_wire.proofs.BodyFronts.{key_not_empty}
+use Rattle.prost_reflect_laws.proofs.BodyFronts.{key_not_empty}
 use Rattle.prost_reflect_wire.proofs.VarintFronts.{varint_once, varint_no_fault}
 use Rattle.prost_reflect_wire.proofs.RecordFronts.{record_parts, first_front, first_parts, record_once, record_front, levels_first}
 use Rattle.prost_reflect_wire.proofs.FieldFaults.{field_no_fault}

@@ -1,7 +1,7 @@
 -- No fault stands in checked files.
 use Rattle.std.proofs.Common.{◌≡◌, true, false, List, sym, ◌∙◌, true≢false}
 use Rattle.std.specs.Prelude.{Bool}
-use Rattle.prost_reflect_wire.specs.declared.records.FileDescriptorProto.{FileDescriptorProto}
+use Rattle.prost_reflect_records.specs.declared.FileDescriptorProto.{FileDescriptorProto}
 use Rattle.prost_reflect_tables.specs.declared.error.PoolError.{PoolError}
 use Rattle.prost_reflect_tables.specs.declared.error.PoolError.TheVariants as errors
 use Rattle.prost_reflect_tables.specs.Flat.{FlatRows}

@@ -1,7 +1,7 @@
 -- The tables of files.
 use Rattle.std.specs.Prelude.{◌≡◌, IsTrue, Bool, not, List, [], ◌∷◌}
 use Rattle.std.specs.List.{list_all}
-use Rattle.prost_reflect_wire.specs.declared.records.FileDescriptorProto.{FileDescriptorProto}
+use Rattle.prost_reflect_records.specs.declared.FileDescriptorProto.{FileDescriptorProto}
 use Rattle.prost_reflect_tables.specs.Rows.{TableRows}
 use Rattle.prost_reflect_tables.specs.Flat.{FlatRows, flattened}
 use Rattle.prost_reflect_tables.specs.Faults.{missing_name, unknown_syntax, bad_index, bad_number, bad_range, missing_type, bad_label, bad_oneof, empty_enum, missing_dependency, duplicate_name, unknown_type, duplicate_number, outside_range}

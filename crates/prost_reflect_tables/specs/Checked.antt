@@ -1,6 +1,6 @@
 -- When files make a pool, and why they make none.
 use Rattle.std.specs.Prelude.{◌≡◌, true, false, List}
-use Rattle.prost_reflect_wire.specs.declared.records.FileDescriptorProto.{FileDescriptorProto}
+use Rattle.prost_reflect_records.specs.declared.FileDescriptorProto.{FileDescriptorProto}
 use Rattle.prost_reflect_tables.specs.declared.error.PoolError.{PoolError}
 use Rattle.prost_reflect_tables.specs.declared.error.PoolError.TheVariants.{MissingName, UnknownSyntax, MissingDependency, BadIndex, BadNumber, BadRange, MissingType, BadLabel, BadOneof, EmptyEnum, DuplicateName, UnknownType, DuplicateNumber, OutsideRange, BadMapEntry, BadDefault, FloatDefault, BadOptions}
 use Rattle.prost_reflect_tables.specs.Flat.{FlatRows}

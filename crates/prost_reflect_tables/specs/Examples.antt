@@ -2,7 +2,7 @@
 use Rattle.std.specs.Prelude.{◌≡◌, ℕ, ◌^◌, true, false, pos, List, [], ◌∷◌, Some, None, codes}
 use Rattle.prost_reflect_wire.specs.Scalar.{I32, Text, Enum as EnumKind, Open, Closed}
 use Rattle.prost_reflect_wire.specs.Schema.{MessageOf, GroupOf, ValueType, Singular, Repeated as ListOf, MapFrom, Schema}
-use Rattle.prost_reflect_wire.specs.Examples.Schemas.{scalar_value_type, message_value_type, field, list, extension, member, message, int32, text, required_int32}
+use Rattle.prost_reflect_laws.specs.Examples.Schemas.{scalar_value_type, message_value_type, field, list, extension, member, message, int32, text, required_int32}
 use Rattle.prost_reflect_tables.specs.declared.tables.Cardinality.TheVariants.{Optional, Required, Repeated}
 use Rattle.prost_reflect_tables.specs.declared.tables.TableKind.{TableKind}
 use Rattle.prost_reflect_tables.specs.declared.tables.TableKind.TheVariants.{Int32, String, Message, Enum}

@@ -1,8 +1,8 @@
 -- The flat lists without where they lie in memory.
 use Rattle.std.specs.Prelude.{ℕ, List, map, string_bytes}
 use denote.Bor.{Bor}
-use Rattle.prost_reflect_wire.specs.declared.records.FileDescriptorProto.{FileDescriptorProto}
-use Rattle.prost_reflect_wire.specs.declared.records.DescriptorProto.TheViews.{out-DescriptorProto}
+use Rattle.prost_reflect_records.specs.declared.FileDescriptorProto.{FileDescriptorProto}
+use Rattle.prost_reflect_records.specs.declared.DescriptorProto.TheViews.{out-DescriptorProto}
 use Rattle.prost_reflect_tables.specs.declared.flatten.Scope.{Scope}
 use Rattle.prost_reflect_tables.specs.declared.flatten.Definition.{Definition}
 use Rattle.prost_reflect_tables.specs.declared.flatten.FlatMessage.{FlatMessage}

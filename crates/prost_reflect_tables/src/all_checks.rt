@@ -18,7 +18,7 @@ use crate::index::{Index, has_duplicate_name, indexed};
 use crate::numbers::has_duplicate_number;
 use crate::options::has_bad_options;
 use crate::references::{has_missing_dependency, has_outside_range, has_unknown_type};
-use prost_reflect_wire::records::FileDescriptorProto;
+use prost_reflect_records::FileDescriptorProto;
 use std::alloc::Global;
 
 /// The checks of definitions that name no other one.

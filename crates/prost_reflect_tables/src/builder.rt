@@ -13,7 +13,7 @@ use crate::error::PoolError;
 use crate::flatten::flattened;
 use crate::link::linked;
 use crate::tables::Tables;
-use prost_reflect_wire::records::FileDescriptorProto;
+use prost_reflect_records::FileDescriptorProto;
 use std::alloc::Global;
 
 /// The tables of files: their message types, nested ones too, and their enums, by file and then by path.

@@ -7,7 +7,7 @@ ghost use Rattle.prost_reflect_tables.specs.FlatViews.{definition_row, file_list
 
 use crate::flatten::{Definition, Flat, FlatEnum, FlatMessage, FlatService};
 use crate::names::text_or_empty;
-use prost_reflect_wire::records::{
+use prost_reflect_records::{
     EnumReservedRange, EnumValueDescriptorProto, ExtensionRange, FieldDescriptorProto,
     FileDescriptorProto, MethodDescriptorProto, OneofDescriptorProto, ReservedRange,
 };

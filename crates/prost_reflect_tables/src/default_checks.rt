@@ -11,7 +11,7 @@ use crate::checks::{is_code, is_message_type};
 use crate::flatten::{Definition, Flat, FlatMessage};
 use crate::index::Index;
 use crate::link::{linked_default, linked_kind};
-use prost_reflect_wire::records::FieldDescriptorProto;
+use prost_reflect_records::FieldDescriptorProto;
 use std::alloc::{AllocError, Global};
 
 /// Whether a default stands at a list, at a message or in a proto3 file.

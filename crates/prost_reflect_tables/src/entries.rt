@@ -10,7 +10,7 @@ use crate::checks::{is_code, is_message_type, is_type};
 use crate::flatten::{Definition, Flat, FlatMessage, FlatService};
 use crate::index::{Index, message_place};
 use crate::options::bool_option;
-use prost_reflect_wire::records::{FieldDescriptorProto, MethodDescriptorProto};
+use prost_reflect_records::{FieldDescriptorProto, MethodDescriptorProto};
 
 // KEYS AND VALUES
 

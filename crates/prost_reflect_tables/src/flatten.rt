@@ -1,12 +1,12 @@
 //! The definitions of files in flat lists, each with its full name, its path and what encloses it.
 
 ghost use Rattle.std.specs.Prelude.{◌≡◌, ◌++◌, ◌∷◌, [], pos, length, IfOk, OnOk, map};
-ghost use Rattle.prost_reflect_wire.specs.declared.records.DescriptorProto.TheViews.{out-DescriptorProto};
+ghost use Rattle.prost_reflect_records.specs.declared.DescriptorProto.TheViews.{out-DescriptorProto};
 ghost use Rattle.prost_reflect_tables.specs.Flat.{inside, defined, defined_from, field_name, oneof_name, value_name, method_name, enum_at, enums_from, service_at, services_from, own_message, message_at, with_given, is_proto3, behind, file_at, flattened};
 ghost use Rattle.prost_reflect_tables.specs.FlatViews.{scope_row, definition_row, message_row, enum_row, service_row, flat_rows};
 
 use crate::names::{joined, text_or_empty};
-use prost_reflect_wire::records::{
+use prost_reflect_records::{
     DescriptorProto, EnumDescriptorProto, EnumValueDescriptorProto, FieldDescriptorProto,
     FileDescriptorProto, MethodDescriptorProto, OneofDescriptorProto, ServiceDescriptorProto,
 };

@@ -11,7 +11,7 @@ ghost use Rattle.prost_reflect_tables.specs.Linking.{links_of, linked_value, val
 use crate::flatten::{Definition, Flat, FlatEnum, FlatMessage, FlatService};
 use crate::names::{text_or_empty, without_dot};
 use crate::tables::TableKind;
-use prost_reflect_wire::records::EnumValueDescriptorProto;
+use prost_reflect_records::EnumValueDescriptorProto;
 use std::alloc::{AllocError, Global};
 use std::collections::{BTreeMap, BTreeSet};
 

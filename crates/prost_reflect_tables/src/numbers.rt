@@ -7,7 +7,7 @@ ghost use Rattle.prost_reflect_tables.specs.Indexed.{IsIndex, numbered_list};
 
 use crate::flatten::{Definition, Flat, FlatMessage};
 use crate::index::{Index, message_place};
-use prost_reflect_wire::records::FieldDescriptorProto;
+use prost_reflect_records::FieldDescriptorProto;
 use std::alloc::{AllocError, Global};
 use std::collections::BTreeSet;
 

@@ -9,7 +9,7 @@ ghost use Rattle.prost_reflect_tables.specs.OptionFaults.{suits_option, bytes_su
 ghost use Rattle.prost_reflect_tables.specs.Options.{bool_of, bool_in, bool_option};
 
 use crate::flatten::{Definition, Flat, FlatMessage};
-use prost_reflect_wire::records::FieldDescriptorProto;
+use prost_reflect_records::FieldDescriptorProto;
 use prost_reflect_wire::{RECURSION_LIMIT, WireType, decode_key, decode_varint, skip_value};
 
 // WHAT OPTIONS SAY

@@ -11,7 +11,7 @@ use crate::checks::{is_code, is_message_type};
 use crate::flatten::{Definition, Flat, FlatMessage, FlatService};
 use crate::index::{Index, enum_place, index_of, message_place};
 use crate::names::text_or_empty;
-use prost_reflect_wire::records::{
+use prost_reflect_records::{
     ExtensionRange, FieldDescriptorProto, FileDescriptorProto, MethodDescriptorProto,
 };
 use std::alloc::{AllocError, Global};

@@ -4,7 +4,7 @@ use prost_reflect_tables::{
     EnumTable, FieldTable, Flat, FlatMessage, MessageTable, PoolError, TableKind, WrittenDefault,
     build, check, flattened, indexed, linked, written_default,
 };
-use prost_reflect_wire::records::FileDescriptorProto;
+use prost_reflect_records::FileDescriptorProto;
 use std::alloc::{AllocError, Global};
 use std::test::Fail;
 

@@ -6,7 +6,7 @@ use Rattle.prost_reflect_wire.specs.declared.unknown.UnknownFieldSet.{UnknownFie
 use Rattle.prost_reflect_wire.specs.Record.{Records, Record, record_at, Payload, Flat, Group, body_of, before, items}
 use Rattle.prost_reflect_wire.specs.Unknown.{record_of, records_of, fields_of}
 use Rattle.prost_reflect_wire.specs.Equality.{plain_eq, records_eq, records_same, records_refl, payload_eq, record_eq, field_eq, set_eq}
-use Rattle.prost_reflect_wire.proofs.Values.{items_body}
+use Rattle.prost_reflect_wire.proofs.Bodies.{items_body}
 use Rattle.prost_reflect_wire.proofs.UnknownViews.{records_of_out}
 
 pub decided : {K : Type 0} (E : K → K → Bool) → ((x y : K) → E x y ≡ true → x ≡ y) → ((x : K) → E x x ≡ true) → (x y : K) (b : Bool) → b ≡ E x y → IsTrue b ↔ (x ≡ y)

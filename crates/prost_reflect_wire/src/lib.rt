@@ -1,14 +1,10 @@
-//! The wire format of Protocol Buffers: definitions, laws over them, readers and writers.
+//! The wire format of Protocol Buffers: definitions, readers and writers.
 #![tactic(auto)]
 
 mod buffer;
 mod error;
-pub mod field_laws;
 mod key;
-pub mod laws;
-pub mod passage;
 mod payload;
-pub mod records;
 mod unknown;
 mod varint;
 

@@ -1,7 +1,7 @@
 -- Which pool the word for a descriptor set stands for.
 use Rattle.std.specs.Prelude.{◌≡◌, ◌≢◌, ◌⊎◌, ℕ, List, [], codes, Ok, IsErr}
 use Rattle.hex.specs.Hex.{decode_of}
-use Rattle.prost_reflect_wire.specs.declared.records.table.RecordType.TheVariants as types
+use Rattle.prost_reflect_records.specs.declared.table.RecordType.TheVariants as types
 use Rattle.prost_reflect_tables.specs.declared.error.PoolError.{PoolError}
 use Rattle.prost_reflect_descriptors.specs.declared.pool.DescriptorPool.{DescriptorPool}
 use Rattle.prost_reflect_descriptors.specs.Pools.{pool_rows, IsPoolOfBytes, Refuses}

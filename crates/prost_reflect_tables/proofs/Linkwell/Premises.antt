@@ -4,8 +4,8 @@ use Rattle.std.specs.List.{list_any, list_all}
 use Rattle.std.proofs.lemmas.Bool.{or_parts}
 use Rattle.std.proofs.lemmas.List.Folds.{list_all-map}
 use Rattle.prost_reflect_wire.specs.Scalar.{in_i32}
-use Rattle.prost_reflect_wire.specs.declared.records.FileDescriptorProto.{FileDescriptorProto}
-use Rattle.prost_reflect_wire.specs.declared.records.FieldDescriptorProto.{FieldDescriptorProto}
+use Rattle.prost_reflect_records.specs.declared.FileDescriptorProto.{FileDescriptorProto}
+use Rattle.prost_reflect_records.specs.declared.FieldDescriptorProto.{FieldDescriptorProto}
 use Rattle.prost_reflect_tables.specs.Flat.{DefinitionRow, FlatMessageRow, FlatEnumRow, FlatServiceRow, FlatRows}
 use Rattle.prost_reflect_tables.specs.Faults.{any_field, number_bad, type_missing, type_unknown, extendee_missing, extendee_unknown, repeated_member, is_member, has_oneof_outside, import_outside, enum_empty, extension_outside}
 use Rattle.prost_reflect_tables.specs.EntryFaults.{bad_map_entry, entry_bad, wrongly_of_entry, is_of_entry, method_of_entry}

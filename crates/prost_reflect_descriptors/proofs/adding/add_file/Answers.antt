@@ -1,6 +1,6 @@
 use Rattle.std.proofs.Common.{◌≡◌, ◌++◌, ◌∷◌, [], true, false, ap, sym, ◌∙◌}
 use Rattle.std.proofs.lemmas.List.{map-append}
-use Rattle.prost_reflect_wire.specs.DescriptorViews.{shared_files}
+use Rattle.prost_reflect_records.specs.DescriptorViews.{shared_files}
 use Rattle.prost_reflect_tables.specs.Adding.{is_there, added}
 use Rattle.prost_reflect_tables.proofs.Adding.{skipped, taken, names_stay, not_true, not_false}
 use Rattle.prost_reflect_descriptors.proofs.adding.add_file.Goals as goal

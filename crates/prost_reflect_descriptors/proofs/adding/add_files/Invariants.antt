@@ -1,6 +1,6 @@
 use Rattle.std.proofs.Common.{◌≡◌}
 use Rattle.std.specs.Vec.Iter.{into_iter_items}
-use Rattle.prost_reflect_wire.specs.DescriptorViews.{shared_files}
+use Rattle.prost_reflect_records.specs.DescriptorViews.{shared_files}
 use Rattle.prost_reflect_tables.specs.Adding.{added, AreNamesOf}
 use Rattle.prost_reflect_descriptors.proofs.adding.add_files.Given as goal
 

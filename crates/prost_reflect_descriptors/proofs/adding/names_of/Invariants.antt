@@ -1,5 +1,5 @@
 use Rattle.std.proofs.Common.{take}
-use Rattle.prost_reflect_wire.specs.DescriptorViews.{shared_files}
+use Rattle.prost_reflect_records.specs.DescriptorViews.{shared_files}
 use Rattle.prost_reflect_tables.specs.Adding.{AreNamesOf}
 use Rattle.prost_reflect_descriptors.proofs.adding.names_of.Given as goal
 

@@ -1,5 +1,5 @@
 use Rattle.std.proofs.Common.{◌≡◌, ◌++◌, drop}
-use Rattle.prost_reflect_wire.specs.DescriptorViews.{shared_files}
+use Rattle.prost_reflect_records.specs.DescriptorViews.{shared_files}
 use Rattle.prost_reflect_descriptors.proofs.adding.shared.Given as goal
 
 abbrev pub invariant-loop-file : goal.invariant-loop-file

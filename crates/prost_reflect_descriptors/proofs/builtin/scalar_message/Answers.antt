@@ -1,7 +1,7 @@
 use Rattle.std.proofs.Common.{Some, None, refl, sym, subst}
-use Rattle.prost_reflect_wire.specs.declared.records.DescriptorProto.{DescriptorProto}
-use Rattle.prost_reflect_wire.specs.declared.records.DescriptorProto.TheOpen.{DescriptorProto-F}
-use Rattle.prost_reflect_wire.specs.declared.records.DescriptorProto.TheViews.{out-roll-DescriptorProto}
+use Rattle.prost_reflect_records.specs.declared.DescriptorProto.{DescriptorProto}
+use Rattle.prost_reflect_records.specs.declared.DescriptorProto.TheOpen.{DescriptorProto-F}
+use Rattle.prost_reflect_records.specs.declared.DescriptorProto.TheViews.{out-roll-DescriptorProto}
 use Rattle.prost_reflect_descriptors.specs.BuiltinFiles.{scalar_names, HasScalars}
 use Rattle.prost_reflect_descriptors.proofs.builtin.scalar_message.Goals as goal
 

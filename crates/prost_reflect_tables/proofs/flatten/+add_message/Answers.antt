@@ -1,9 +1,9 @@
 use Rattle.std.proofs.Common.{◌≡◌, ◌++◌, ◌∷◌, [], List, map, length, Some, rules, refl, sym, ap, ◌∙◌, arith}
 use Rattle.std.proofs.lemmas.List.{length-map, map-append, drop_all}
-use Rattle.prost_reflect_wire.specs.declared.records.DescriptorProto.{DescriptorProto}
-use Rattle.prost_reflect_wire.specs.declared.records.DescriptorProto.TheViews.{out-DescriptorProto}
-use Rattle.prost_reflect_wire.specs.declared.records.EnumDescriptorProto.{EnumDescriptorProto}
-use Rattle.prost_reflect_wire.specs.declared.records.FieldDescriptorProto.{FieldDescriptorProto}
+use Rattle.prost_reflect_records.specs.declared.DescriptorProto.{DescriptorProto}
+use Rattle.prost_reflect_records.specs.declared.DescriptorProto.TheViews.{out-DescriptorProto}
+use Rattle.prost_reflect_records.specs.declared.EnumDescriptorProto.{EnumDescriptorProto}
+use Rattle.prost_reflect_records.specs.declared.FieldDescriptorProto.{FieldDescriptorProto}
 use Rattle.prost_reflect_tables.specs.Flat.{ScopeRow, FlatRows, FlatMessageRow, inside, enums_from, defined_from, field_name, own_message, message_at, all_from, with_given}
 use Rattle.prost_reflect_tables.specs.FlatViews.{scope_row, definition_row, enum_row, message_row, flat_rows}
 use Rattle.prost_reflect_tables.proofs.Flattening.{message_added, message_closed, same_rows, same_scope, given_nothing}

@@ -1,5 +1,5 @@
 use Rattle.std.proofs.Common.{◌≡◌, true, List, ap, sym, ◌∙◌, map, length}
-use Rattle.prost_reflect_wire.specs.declared.records.FieldDescriptorProto.{FieldDescriptorProto}
+use Rattle.prost_reflect_records.specs.declared.FieldDescriptorProto.{FieldDescriptorProto}
 use Rattle.prost_reflect_tables.specs.declared.flatten.Definition.{Definition}
 use Rattle.prost_reflect_tables.specs.declared.flatten.FlatMessage.{FlatMessage}
 use Rattle.prost_reflect_tables.specs.declared.flatten.FlatEnum.{FlatEnum}

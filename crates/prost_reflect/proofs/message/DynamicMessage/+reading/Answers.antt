@@ -11,11 +11,11 @@ use Rattle.prost_reflect.proofs.Views.{value_of_message}
 use Rattle.prost_reflect_wire.specs.declared.key.WireType.TheVariants as wires
 use Rattle.prost_reflect_wire.specs.Front.{KeyFront}
 use Rattle.prost_reflect_wire.specs.Schema.{MessageOf, GroupOf}
-use Rattle.prost_reflect_wire.proofs.Progressing.{progress_start, progress_step, progress_no_key, progress_no_key_in, progress_no_record, progress_no_record_in, progress_other_end}
+use Rattle.prost_reflect_laws.proofs.Progressing.{progress_start, progress_step, progress_no_key, progress_no_key_in, progress_no_record, progress_no_record_in, progress_other_end}
 use Rattle.prost_reflect.proofs.NestedReads.{lent_message, held_message, nested_refused, payload_refused, message_read_in, group_read_in, message_refused_in, group_refused_in, found_refused, inside_refused, in_group_refused, one_less}
 use Rattle.prost_reflect.proofs.ElementReads.{found_element, list_or_none, empty_element, element_step, group_element_step}
-use Rattle.prost_reflect_wire.proofs.MessageSteps.{nested_plain}
-use Rattle.prost_reflect_wire.proofs.NestedEntries.{value_plain}
+use Rattle.prost_reflect_laws.proofs.MessageSteps.{nested_plain}
+use Rattle.prost_reflect_laws.proofs.NestedEntries.{value_plain}
 use Rattle.prost_reflect_wire.proofs.ByteLists.{bytes_below}
 use Rattle.prost_reflect_wire.specs.Content.{MapValue, schema_of, type_of}
 use Rattle.prost_reflect_wire.specs.Meaning.{put, pairs_in}

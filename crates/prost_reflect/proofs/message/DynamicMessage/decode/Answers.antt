@@ -1,8 +1,8 @@
 use Rattle.std.proofs.lemmas.Result.{err_from_is_err_and}
 use Rattle.prost_reflect_wire.specs.Grammar.{LEVEL_LIMIT}
 use Rattle.prost_reflect_wire.proofs.ByteLists.{bytes_below}
-use Rattle.prost_reflect_wire.proofs.FaultLaws.{accepted_only_memory}
-use Rattle.prost_reflect_wire.proofs.Progressing.{progress_decoded, progress_accepts}
+use Rattle.prost_reflect_laws.proofs.FaultLaws.{accepted_only_memory}
+use Rattle.prost_reflect_laws.proofs.Progressing.{progress_decoded, progress_accepts}
 use Rattle.prost_reflect_descriptors.specs.Descriptors.{schema_at, type_at}
 use Rattle.prost_reflect.proofs.message.DynamicMessage.decode.Goals as goal
 

@@ -1,9 +1,0 @@
--- The worked examples of the test of reduction.
-use Rattle.std.proofs.Common.{refl}
-use Rattle.std.specs.Str.{is_utf8, chars}
-use Rattle.prost_reflect_wire.specs.Reducing.{refined_times}
-use Rattle.prost_reflect_wire.specs.ReducingExamples.{WorkedReductions}
-
-pub worked_reductions : WorkedReductions
-unfolding refined_times is_utf8 chars
-worked_reductions = record { whole_valid = refl; less_valid = refl; other_valid = refl; itself = refl; without_field = refl; backwards = refl; inner = refl; inside = refl; greatest = refl }

@@ -1,5 +1,0 @@
-use Rattle.prost_reflect_wire.proofs.SpelledValid.{field_again}
-use Rattle.prost_reflect_wire.proofs.field_laws.field_again.Goals as goal
-
-pub returns : goal.returns
-returns c = field_again

@@ -1,5 +1,0 @@
-use Rattle.prost_reflect_wire.proofs.FieldFaults.{field_only}
-use Rattle.prost_reflect_wire.proofs.field_laws.only_too_deep.Goals as goal
-
-pub returns : goal.returns
-returns c = λ levels r bytes rest e f s. field_only e r levels bytes rest f s

@@ -1,5 +1,0 @@
-use Rattle.prost_reflect_wire.proofs.NormalForms.{decoded_well}
-use Rattle.prost_reflect_wire.proofs.laws.decoded_well.Goals as goal
-
-pub returns : goal.returns
-returns c = decoded_well

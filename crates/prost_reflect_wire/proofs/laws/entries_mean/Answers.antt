@@ -1,5 +1,0 @@
-use Rattle.prost_reflect_wire.proofs.Back.{entries_mean}
-use Rattle.prost_reflect_wire.proofs.laws.entries_mean.Goals as goal
-
-pub returns : goal.returns
-returns c = entries_mean

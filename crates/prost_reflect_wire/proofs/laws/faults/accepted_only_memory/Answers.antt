@@ -1,5 +1,0 @@
-use Rattle.prost_reflect_wire.proofs.FaultLaws.{accepted_only_memory}
-use Rattle.prost_reflect_wire.proofs.laws.faults.accepted_only_memory.Goals as goal
-
-pub returns : goal.returns
-returns c = accepted_only_memory

@@ -1,6 +1,0 @@
-use Rattle.std.proofs.Common.{refl}
-use Rattle.prost_reflect_wire.proofs.FaultLaws.{memory_never_stands}
-use Rattle.prost_reflect_wire.proofs.laws.faults.memory_never_stands.Goals as goal
-
-pub returns : goal.returns
-returns c = λ schema place stands. memory_never_stands schema stands refl

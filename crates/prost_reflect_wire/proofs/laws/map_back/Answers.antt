@@ -1,5 +1,0 @@
-use Rattle.prost_reflect_wire.proofs.Maps.{map_back}
-use Rattle.prost_reflect_wire.proofs.laws.map_back.Goals as goal
-
-pub returns : goal.returns
-returns c = map_back

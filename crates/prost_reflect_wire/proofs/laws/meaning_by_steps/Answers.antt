@@ -1,5 +1,0 @@
-use Rattle.prost_reflect_wire.proofs.Steps.{meaning_steps}
-use Rattle.prost_reflect_wire.proofs.laws.meaning_by_steps.Goals as goal
-
-pub returns : goal.returns
-returns c = meaning_steps

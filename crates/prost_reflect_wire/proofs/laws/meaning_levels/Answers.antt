@@ -1,5 +1,0 @@
-use Rattle.prost_reflect_wire.proofs.GoodSteps.{meaning_levels}
-use Rattle.prost_reflect_wire.proofs.laws.meaning_levels.Goals as goal
-
-pub returns : goal.returns
-returns c = meaning_levels

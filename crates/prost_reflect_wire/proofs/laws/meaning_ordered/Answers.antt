@@ -1,5 +1,0 @@
-use Rattle.prost_reflect_wire.proofs.Arranged.{meaning_ordered}
-use Rattle.prost_reflect_wire.proofs.laws.meaning_ordered.Goals as goal
-
-pub returns : goal.returns
-returns c = meaning_ordered

@@ -1,5 +1,0 @@
-use Rattle.prost_reflect_wire.proofs.NormalForms.{merged_well}
-use Rattle.prost_reflect_wire.proofs.laws.merged_well.Goals as goal
-
-pub returns : goal.returns
-returns c = merged_well

@@ -1,5 +1,0 @@
-use Rattle.prost_reflect_wire.proofs.Packed.{packed_back}
-use Rattle.prost_reflect_wire.proofs.laws.packed_back.Goals as goal
-
-pub returns : goal.returns
-returns c = packed_back

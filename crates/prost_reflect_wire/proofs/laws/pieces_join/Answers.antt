@@ -1,5 +1,0 @@
-use Rattle.prost_reflect_wire.proofs.Pieces.{pieces_join}
-use Rattle.prost_reflect_wire.proofs.laws.pieces_join.Goals as goal
-
-pub returns : goal.returns
-returns c = pieces_join

@@ -1,6 +1,0 @@
-use Rattle.prost_reflect_wire.proofs.Reading.{spelled_read}
-use Rattle.prost_reflect_wire.proofs.Sound.{read_spells}
-use Rattle.prost_reflect_wire.proofs.laws.read_is_spells.Goals as goal
-
-pub returns : goal.returns
-returns c bytes rs small = (read_spells bytes rs small, spelled_read rs bytes)

@@ -1,5 +1,0 @@
-use Rattle.prost_reflect_wire.proofs.Declared.{read_valid}
-use Rattle.prost_reflect_wire.proofs.laws.read_is_valid.Goals as goal
-
-pub returns : goal.returns
-returns c = read_valid

@@ -1,5 +1,0 @@
-use Rattle.prost_reflect_wire.proofs.Means.{records_mean}
-use Rattle.prost_reflect_wire.proofs.laws.records_mean.Goals as goal
-
-pub returns : goal.returns
-returns c = records_mean

@@ -1,5 +1,0 @@
-use Rattle.prost_reflect_wire.proofs.Setting.{set_well}
-use Rattle.prost_reflect_wire.proofs.laws.set_well.Goals as goal
-
-pub returns : goal.returns
-returns c = set_well

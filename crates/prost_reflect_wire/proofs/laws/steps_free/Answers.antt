@@ -1,5 +1,0 @@
-use Rattle.prost_reflect_wire.proofs.StepsFree.{steps_levels}
-use Rattle.prost_reflect_wire.proofs.laws.steps_free.Goals as goal
-
-pub returns : goal.returns
-returns c = steps_levels

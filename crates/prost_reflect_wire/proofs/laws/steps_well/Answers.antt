@@ -1,5 +1,0 @@
-use Rattle.prost_reflect_wire.proofs.NormalForms.{steps_well}
-use Rattle.prost_reflect_wire.proofs.laws.steps_well.Goals as goal
-
-pub returns : goal.returns
-returns c = steps_well

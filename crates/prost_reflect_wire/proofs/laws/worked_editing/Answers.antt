@@ -1,5 +1,0 @@
-use Rattle.prost_reflect_wire.proofs.Examples.ComputedContents.{merging, one_number, access, paths}
-use Rattle.prost_reflect_wire.proofs.laws.worked_editing.Goals as goal
-
-pub returns : goal.returns
-returns c = record { merging = merging; one_number = one_number; access = access; paths = paths }

@@ -1,5 +1,0 @@
-use Rattle.prost_reflect_wire.proofs.Examples.Computed.{scalars, texts, messages, oneofs, extensions}
-use Rattle.prost_reflect_wire.proofs.laws.worked_fields.Goals as goal
-
-pub returns : goal.returns
-returns c = record { scalars = scalars; texts = texts; messages = messages; oneofs = oneofs; extensions = extensions }

@@ -1,5 +1,0 @@
-use Rattle.prost_reflect_wire.proofs.Examples.ComputedDeeper.{maps}
-use Rattle.prost_reflect_wire.proofs.laws.worked_maps.Goals as goal
-
-pub returns : goal.returns
-returns c = maps

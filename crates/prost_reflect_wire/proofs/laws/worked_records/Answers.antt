@@ -1,5 +1,0 @@
-use Rattle.prost_reflect_wire.proofs.Examples.Computed.{records, unreadable, raw_levels}
-use Rattle.prost_reflect_wire.proofs.laws.worked_records.Goals as goal
-
-pub returns : goal.returns
-returns c = record { records = records; unreadable = unreadable; raw_levels = raw_levels }

@@ -1,5 +1,0 @@
-use Rattle.prost_reflect_wire.proofs.Shortest.{short_spells}
-use Rattle.prost_reflect_wire.proofs.laws.written_spells.Goals as goal
-
-pub returns : goal.returns
-returns c = short_spells
