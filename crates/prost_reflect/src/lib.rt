@@ -13,12 +13,12 @@ pub use prost_reflect_descriptors::{
     DescriptorPool, EnumDescriptor, FieldDescriptor, FileDescriptorProtos, Kind, MessageDescriptor,
     builtin_pool,
 };
-pub use prost_reflect_tables::{Cardinality, PoolError};
 pub use prost_reflect_records::{
     DescriptorProto, EnumDescriptorProto, EnumReservedRange, EnumValueDescriptorProto,
     ExtensionRange, FieldDescriptorProto, FileDescriptorProto, FileDescriptorSet,
     MethodDescriptorProto, OneofDescriptorProto, ReservedRange, ServiceDescriptorProto,
 };
+pub use prost_reflect_tables::{Cardinality, PoolError};
 pub use prost_reflect_wire::{
     DecodeError, EncodeError, RECURSION_LIMIT, UnknownField, UnknownFieldSet, UnknownFieldValue,
     WireType,

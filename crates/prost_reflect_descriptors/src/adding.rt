@@ -15,8 +15,8 @@ ghost use Rattle.prost_reflect_descriptors.specs.Pools.{files_of, IsPoolOf, Refu
 
 use crate::DescriptorPool;
 use crate::pool::PoolInner;
-use prost_reflect_tables::{PoolError, Tables, build, text_or_empty};
 use prost_reflect_records::{FileDescriptorProto, FileDescriptorSet};
+use prost_reflect_tables::{PoolError, Tables, build, text_or_empty};
 use std::alloc::{AllocError, Global};
 use std::collections::BTreeSet;
 use std::rc::Rc;

@@ -9,8 +9,8 @@ ghost use Rattle.prost_reflect_descriptors.specs.BuiltinFiles.{field_view, scala
 ghost use Rattle.prost_reflect_descriptors.specs.BuiltinRows.{builtin_rows};
 
 use crate::DescriptorPool;
-use prost_reflect_tables::PoolError;
 use prost_reflect_records::{DescriptorProto, FieldDescriptorProto, FileDescriptorProto};
+use prost_reflect_tables::PoolError;
 use std::alloc::{AllocError, Global};
 
 /// The type code and the name of each field; the number is the type code too.

@@ -12,8 +12,8 @@ ghost use Rattle.prost_reflect_descriptors.specs.PoolFiles.{files_left};
 ghost use Rattle.prost_reflect_descriptors.specs.Pools.{files_of, Reads};
 
 use crate::DescriptorPool;
-use prost_reflect_wire::EncodeError;
 use prost_reflect_records::{FileDescriptorProto, encode_files};
+use prost_reflect_wire::EncodeError;
 use std::alloc::Global;
 use std::rc::Rc;
 

@@ -6,8 +6,8 @@ ghost use Rattle.prost_reflect_tables.specs.Built.{AreTablesOf};
 ghost use Rattle.prost_reflect_tables.specs.Schema.{rows_of};
 
 use crate::MessageDescriptor;
-use prost_reflect_tables::Tables;
 use prost_reflect_records::FileDescriptorProto;
+use prost_reflect_tables::Tables;
 use std::alloc::{AllocError, Global};
 use std::rc::Rc;
 

@@ -8,7 +8,6 @@ ghost use Rattle.prost_reflect_records.specs.DescriptorViews.{of_message};
 ghost use Rattle.prost_reflect_records.specs.DescriptorReading.{Fields, all_found, nested_decoded, records_at, at_number, record_in, StandsInNested, StandsAmong};
 ghost use Rattle.prost_reflect_records.specs.declared.table.RecordType.TheVariants as types;
 
-use prost_reflect_wire::DecodeError;
 use crate::fields::{RawField, fields_in};
 use crate::table::RecordType;
 use crate::values::{bodies, bytes, flag, number, numbers, text, texts};
@@ -17,6 +16,7 @@ use crate::{
     ExtensionRange, FieldDescriptorProto, FileDescriptorProto, FileDescriptorSet,
     MethodDescriptorProto, OneofDescriptorProto, ReservedRange, ServiceDescriptorProto,
 };
+use prost_reflect_wire::DecodeError;
 use std::alloc::Global;
 
 /// A record that is read by its row of the table.

@@ -8,14 +8,13 @@ ghost use Rattle.prost_reflect_records.specs.DescriptorMeaning.{record_decoded};
 ghost use Rattle.prost_reflect_records.specs.DescriptorViews.{of_enum, of_enum_reserved_range, of_enum_value, of_extension_range, of_field, of_file, of_file_set, of_message, of_method, of_oneof, of_reserved_range, of_service};
 ghost use Rattle.prost_reflect_records.specs.declared.table.RecordType.TheVariants as types;
 
-use prost_reflect_wire::DecodeError;
 use crate::body::FromBody;
 use crate::{
     DescriptorProto, EnumDescriptorProto, EnumReservedRange, EnumValueDescriptorProto,
     ExtensionRange, FieldDescriptorProto, FileDescriptorProto, FileDescriptorSet,
     MethodDescriptorProto, OneofDescriptorProto, ReservedRange, ServiceDescriptorProto,
 };
-use prost_reflect_wire::RECURSION_LIMIT;
+use prost_reflect_wire::{DecodeError, RECURSION_LIMIT};
 use std::alloc::Global;
 
 /// Reads a record from all the bytes, within 100 levels.

@@ -10,8 +10,6 @@ ghost use Rattle.prost_reflect_records.specs.DescriptorMeaning.{record_decoded};
 ghost use Rattle.prost_reflect_records.specs.declared.table.RecordType.TheVariants as types;
 ghost use Rattle.prost_reflect_records.specs.DescriptorViews.{of_extension_range, of_reserved_range, of_field, of_oneof, of_enum_reserved_range, of_enum_value, of_enum, of_method, of_service, of_message, of_file, of_file_set};
 
-use prost_reflect_wire::BackBuffer;
-use prost_reflect_wire::EncodeError;
 use crate::field_writing::DescriptorRecord;
 use crate::sink::{RecordCount, RecordWriter};
 use crate::{
@@ -19,6 +17,7 @@ use crate::{
     ExtensionRange, FieldDescriptorProto, FileDescriptorProto, FileDescriptorSet,
     MethodDescriptorProto, OneofDescriptorProto, ReservedRange, ServiceDescriptorProto,
 };
+use prost_reflect_wire::{BackBuffer, EncodeError};
 
 /// Appends the encoding of the record.
 pub fn append<R: DescriptorRecord>(value: &R, out: &mut Vec<u8>) -> Result<(), EncodeError>

@@ -14,9 +14,8 @@ ghost use Rattle.prost_reflect_records.specs.Sinks.{Adds};
 ghost use Rattle.prost_reflect_records.specs.declared.table.FieldKind.TheVariants as kinds;
 ghost use Rattle.prost_reflect_records.specs.declared.table.RecordType.{RecordType};
 
-use prost_reflect_wire::WireType;
-use prost_reflect_wire::sign_extended;
 use crate::sink::Sink;
+use prost_reflect_wire::{WireType, sign_extended};
 
 /// A record of a descriptor set.
 pub trait DescriptorRecord {

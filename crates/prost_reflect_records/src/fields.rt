@@ -9,12 +9,10 @@ ghost use Rattle.prost_reflect_records.specs.DescriptorTable.{place_of, record_s
 ghost use Rattle.prost_reflect_wire.specs.Decoding.{FieldFault};
 ghost use Rattle.prost_reflect_records.specs.DescriptorReading.{Fields, FieldRead, DelimitedRead, DelimitedFault, PackedRead, found_of, all_found, kind_at, found_in};
 
-use prost_reflect_wire::DecodeError;
-use prost_reflect_wire::{WireType, decode_key};
-use prost_reflect_wire::{delimited_at, low_i32};
 use crate::table::{FieldKind, RecordType};
-use prost_reflect_wire::skip_value;
-use prost_reflect_wire::decode_varint;
+use prost_reflect_wire::{
+    DecodeError, WireType, decode_key, decode_varint, delimited_at, low_i32, skip_value,
+};
 use std::alloc::Global;
 
 /// A value of a field, in the bytes that it was read from.

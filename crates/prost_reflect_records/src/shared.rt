@@ -12,11 +12,11 @@ ghost use Rattle.prost_reflect_records.specs.Sinks.{Adds};
 ghost use Rattle.prost_reflect_records.specs.declared.table.FieldKind.TheVariants as kinds;
 ghost use Rattle.prost_reflect_records.specs.declared.table.RecordType.TheVariants as types;
 
-use prost_reflect_wire::EncodeError;
 use crate::FileDescriptorProto;
 use crate::encoding::append;
 use crate::field_writing::{DescriptorRecord, write_record};
 use crate::sink::Sink;
+use prost_reflect_wire::EncodeError;
 use std::rc::Rc;
 
 /// The set of files that are shared.

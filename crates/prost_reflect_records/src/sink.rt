@@ -4,9 +4,7 @@ ghost use Rattle.std.specs.Prelude.{◌≡◌, ◌++◌, ℕ, List, [], length};
 ghost use Rattle.prost_reflect_wire.specs.Varint.{short};
 ghost use Rattle.prost_reflect_records.specs.Sinks.{Adds};
 
-use prost_reflect_wire::BackBuffer;
-use prost_reflect_wire::EncodeError;
-use prost_reflect_wire::varint_len;
+use prost_reflect_wire::{BackBuffer, EncodeError, varint_len};
 use std::alloc::Global;
 
 /// Takes bytes in front of those that it has. Once it refused some, it passes over the rest.

@@ -10,7 +10,6 @@ ghost use Rattle.prost_reflect_records.specs.Sinks.{Adds};
 ghost use Rattle.prost_reflect_records.specs.declared.table.FieldKind.TheVariants as kinds;
 ghost use Rattle.prost_reflect_records.specs.declared.table.RecordType.TheVariants as types;
 
-use prost_reflect_wire::WireType;
 use crate::field_writing::{
     DescriptorRecord, write_bytes, write_flag, write_key, write_number, write_numbers,
     write_records, write_text, write_texts,
@@ -21,6 +20,7 @@ use crate::{
     ExtensionRange, FieldDescriptorProto, FileDescriptorProto, FileDescriptorSet,
     MethodDescriptorProto, OneofDescriptorProto, ReservedRange, ServiceDescriptorProto,
 };
+use prost_reflect_wire::WireType;
 
 impl DescriptorRecord for ExtensionRange {
     ghost record_type = { types.ExtensionRange };

@@ -22,9 +22,7 @@ use crate::options::bool_option;
 use crate::tables::{
     Cardinality, EnumTable, FieldTable, MessageTable, OneofTable, TableKind, WrittenDefault,
 };
-use prost_reflect_records::{
-    EnumValueDescriptorProto, FieldDescriptorProto, OneofDescriptorProto,
-};
+use prost_reflect_records::{EnumValueDescriptorProto, FieldDescriptorProto, OneofDescriptorProto};
 use std::alloc::{AllocError, Global};
 
 /// A number that is absent or negative counts as 0.

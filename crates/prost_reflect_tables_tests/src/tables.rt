@@ -1,10 +1,10 @@
 //! Calls with ample memory, whose contracts leave want of memory open. The files are written as descriptor records.
 
+use prost_reflect_records::FileDescriptorProto;
 use prost_reflect_tables::{
     EnumTable, FieldTable, Flat, FlatMessage, MessageTable, PoolError, TableKind, WrittenDefault,
     build, check, flattened, indexed, linked, written_default,
 };
-use prost_reflect_records::FileDescriptorProto;
 use std::alloc::{AllocError, Global};
 use std::test::Fail;
 
