@@ -1,10 +1,6 @@
 //! Laws of reading one unknown field, over the definitions alone.
 
-ghost use Rattle.std.specs.Prelude.{◌≡◌};
-ghost use Rattle.prost_reflect_wire.specs.Grammar.{LEVEL_LIMIT};
 ghost use Rattle.prost_reflect_laws.specs.FieldLaws.{FieldUnlessFault, ValueUnlessFault, OnlyTooDeep, OneField, FieldAgain};
-
-use prost_reflect_wire::RECURSION_LIMIT;
 
 /// A front of the bytes is a field within the levels exactly unless a fault stands in the field.
 pub fn field_unless_fault()
@@ -30,9 +26,4 @@ pub fn one_field()
 /// What was read and is written again is read again, whatever follows it.
 pub fn field_again()
     ensures { FieldAgain }
-{}
-
-/// The limit that callers name is that of the definitions.
-pub fn recursion_limit()
-    ensures { RECURSION_LIMIT ≡ LEVEL_LIMIT }
 {}

@@ -4,6 +4,7 @@
 mod buffer;
 mod error;
 mod key;
+pub mod laws;
 mod payload;
 mod unknown;
 mod varint;
