@@ -5,4 +5,6 @@ mod BuiltinLinks
 mod BuiltinMessages
 mod BuiltinChecked
 mod OneFile
+mod FileNames
+mod OwnEncoding
 pub mod EqualDescriptors

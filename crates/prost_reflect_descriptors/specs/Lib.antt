@@ -1,3 +1,4 @@
+pub mod FileNames
 pub mod Pools
 pub mod PoolFiles
 pub mod PoolEquality

@@ -1,5 +1,6 @@
 -- What a pool holds, and what its calls make of it.
 use Rattle.std.specs.Prelude.{◌≡◌, ◌≢◌, ℕ, ⊤, List, [], ◌∷◌, Some, map}
+use Rattle.prost_reflect_wire.specs.Varint.{AreBytes}
 use Rattle.prost_reflect_wire.specs.Content.{Content}
 use Rattle.prost_reflect_wire.specs.Grammar.{LEVEL_LIMIT, Accepts}
 use Rattle.prost_reflect_wire.specs.Fault.{StandsInMessage}
@@ -80,3 +81,8 @@ abbrev pub Refuses : RecordType → List ℕ → List FileDescriptorProto → Po
 Refuses t bytes files OutOfMemory = ⊤
 Refuses t bytes files (Decode e) = RefusesBytes t bytes e
 Refuses t bytes files e = RefusesRead t bytes files e
+
+-- Of these bytes a pool is made that is equal to the one at hand, or none for want of memory.
+pub record MakesAgain (bytes : List ℕ) (pool : DescriptorPool) : Type 0 where
+  pub equal : (again : DescriptorPool) → IsPoolOfBytes types.FileSet bytes [] again → pool_contents again ≡ pool_contents pool
+  pub unrefused : AreBytes bytes → (e : PoolError) → Refuses types.FileSet bytes [] e → e ≡ OutOfMemory

@@ -1,6 +1,6 @@
 //! Adding files to pools.
 
-ghost use Rattle.std.specs.Prelude.{◌≡◌, ◌≢◌, ◌++◌, ◌∷◌, [], List, not, IfOk, IfErr, OnOk, OnErr};
+ghost use Rattle.std.specs.Prelude.{◌≡◌, ◌≢◌, ◌++◌, ◌∷◌, [], List, not, IsTrue, IfOk, IfErr, OnOk, OnErr};
 ghost use Rattle.prost_reflect_records.specs.DescriptorViews.{shared_files};
 ghost use Rattle.prost_reflect_records.specs.declared.FileDescriptorProto.{FileDescriptorProto};
 ghost use Rattle.prost_reflect_records.specs.declared.table.RecordType.TheVariants as types;
@@ -11,6 +11,7 @@ ghost use Rattle.prost_reflect_tables.specs.Flat.{flattened};
 ghost use Rattle.prost_reflect_tables.specs.FlatViews.{file_list};
 ghost use Rattle.prost_reflect_tables.specs.Schema.{rows_of};
 ghost use Rattle.prost_reflect_tables.specs.declared.error.PoolError.TheVariants as pool_errors;
+ghost use Rattle.prost_reflect_descriptors.specs.FileNames.{names_differ};
 ghost use Rattle.prost_reflect_descriptors.specs.Pools.{files_of, IsPoolOf, RefusesFiles, IsPoolOfBytes, Refuses};
 
 use crate::DescriptorPool;
@@ -92,6 +93,7 @@ fn add_file(
     requires { AreNamesOf (shared_files files.old.items) names.old }
     ensures names { OnOk result (AreNamesOf (shared_files files.new.items) names.new) }
     ensures added { OnOk result ((batch : List FileDescriptorProto) → added (shared_files files.old.items) (file ∷ batch) ≡ added (shared_files files.new.items) batch) }
+    ensures differ { OnOk result (IsTrue (names_differ (shared_files files.old.items)) → IsTrue (names_differ (shared_files files.new.items))) }
     ensures err { IfErr result (λ e. e ≡ pool_errors.OutOfMemory) }
 {
     if add_name(alloc, names, &file)? {
@@ -107,6 +109,7 @@ fn add_files(
     batch: Vec<FileDescriptorProto>,
 ) -> Result<(), PoolError>
     ensures added { OnOk result (shared_files files.new.items ≡ added (shared_files files.old.items) batch.items) }
+    ensures differ { OnOk result (IsTrue (names_differ (shared_files files.old.items)) → IsTrue (names_differ (shared_files files.new.items))) }
     ensures err { IfErr result (λ e. e ≡ pool_errors.OutOfMemory) }
 {
     let mut names = names_of(alloc, files.as_slice())?;
@@ -125,8 +128,9 @@ fn tables_of(alloc: Global, files: &[Rc<FileDescriptorProto>]) -> Result<Tables,
     build(alloc, lent.as_slice())
 }
 
-/// The files with their tables, if they pass all checks.
+/// The files with their tables, if they pass all checks; no two have one name.
 fn inner_of(alloc: Global, files: Vec<Rc<FileDescriptorProto>>) -> Result<PoolInner, PoolError>
+    requires { IsTrue (names_differ (shared_files files.items)) }
     ensures files { IfOk result (λ inner. shared_files inner.files.items ≡ shared_files files.items) }
     ensures stands { IfErr result (λ e. e ≢ pool_errors.OutOfMemory → Stands e (shared_files files.items) (flattened (shared_files files.items))) }
 {

@@ -9,7 +9,7 @@ ghost use Rattle.prost_reflect_records.specs.declared.table.RecordType.TheVarian
 ghost use Rattle.prost_reflect_tables.specs.Checked.{Checked};
 ghost use Rattle.prost_reflect_tables.specs.Flat.{flattened};
 ghost use Rattle.prost_reflect_descriptors.specs.PoolFiles.{files_left};
-ghost use Rattle.prost_reflect_descriptors.specs.Pools.{files_of, Reads};
+ghost use Rattle.prost_reflect_descriptors.specs.Pools.{files_of, Reads, MakesAgain};
 
 use crate::DescriptorPool;
 use prost_reflect_records::{FileDescriptorProto, encode_files};
@@ -61,7 +61,7 @@ impl DescriptorPool {
         }
     }
 
-    /// Appends the encoding of the descriptor set that has the pool's files. Where their records nest at most 100 levels below the set, `decode` reads the bytes as a set of these files.
+    /// Appends the encoding of the descriptor set that has the pool's files. Where their records nest at most 100 levels below the set, `decode` reads the bytes as a set of these files, and makes an equal pool of them.
     ///
     /// # Errors
     ///
@@ -72,6 +72,7 @@ impl DescriptorPool {
         ensures too_long { IfErr result (λ e. e ≡ EncodeError.TooLong → 2 ^ 64 ≤ length (encoded (of_files (files_of self.now)))) }
         ensures reads { OnOk result (levels (of_files (files_of self.now)) ≤ LEVEL_LIMIT → Reads types.FileSet (encoded (of_files (files_of self.now))) (files_of self.now)) }
         ensures checked { Checked (files_of self.now) (flattened (files_of self.now)) }
+        ensures again { OnOk result (levels (of_files (files_of self.now)) ≤ LEVEL_LIMIT → MakesAgain (encoded (of_files (files_of self.now))) self.now) }
     {
         encode_files(self.inner.files.as_slice(), out)
     }
@@ -82,6 +83,7 @@ impl DescriptorPool {
         ensures too_long { IfErr result (λ e. e ≡ EncodeError.TooLong → 2 ^ 64 ≤ length (encoded (of_files (files_of self.now)))) }
         ensures reads { OnOk result (levels (of_files (files_of self.now)) ≤ LEVEL_LIMIT → Reads types.FileSet (encoded (of_files (files_of self.now))) (files_of self.now)) }
         ensures checked { Checked (files_of self.now) (flattened (files_of self.now)) }
+        ensures again { OnOk result (levels (of_files (files_of self.now)) ≤ LEVEL_LIMIT → MakesAgain (encoded (of_files (files_of self.now))) self.now) }
     {
         let mut bytes = Vec::new(alloc);
         self.encode(&mut bytes)?;

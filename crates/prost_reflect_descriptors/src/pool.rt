@@ -1,9 +1,10 @@
 //! Pools.
 
-ghost use Rattle.std.specs.Prelude.{◌≡◌};
+ghost use Rattle.std.specs.Prelude.{◌≡◌, IsTrue};
 ghost use Rattle.prost_reflect_records.specs.DescriptorViews.{shared_files};
 ghost use Rattle.prost_reflect_tables.specs.Built.{AreTablesOf};
 ghost use Rattle.prost_reflect_tables.specs.Schema.{rows_of};
+ghost use Rattle.prost_reflect_descriptors.specs.FileNames.{names_differ};
 
 use crate::MessageDescriptor;
 use prost_reflect_records::FileDescriptorProto;
@@ -11,12 +12,13 @@ use prost_reflect_tables::Tables;
 use std::alloc::{AllocError, Global};
 use std::rc::Rc;
 
-/// What the clones of a pool share: files that pass all checks, and the tables that they link to.
+/// What the clones of a pool share: files that pass all checks, no two of one name, and the tables that they link to.
 #[derive(Debug, Drop)]
 pub(crate) struct PoolInner {
     pub(crate) files: Vec<Rc<FileDescriptorProto>>,
     pub(crate) tables: Tables,
     pub ghost built: { AreTablesOf (shared_files files.items) (rows_of tables) },
+    pub ghost names: { IsTrue (names_differ (shared_files files.items)) },
 }
 
 impl PartialEq for PoolInner {

@@ -3,6 +3,8 @@ use Rattle.std.proofs.lemmas.List.{map-append}
 use Rattle.prost_reflect_records.specs.DescriptorViews.{shared_files}
 use Rattle.prost_reflect_tables.specs.Adding.{is_there, added}
 use Rattle.prost_reflect_tables.proofs.Adding.{skipped, taken, names_stay, not_true, not_false}
+use Rattle.prost_reflect_descriptors.specs.FileNames.{names_differ}
+use Rattle.prost_reflect_descriptors.proofs.FileNames.{differ_more}
 use Rattle.prost_reflect_descriptors.proofs.adding.add_file.Goals as goal
 
 pub returns-in_ok-push-clause-added : goal.returns-in_ok-push-clause-added
@@ -12,6 +14,14 @@ returns-in_ok-push-clause-added c =
     let more : shared_files c.push.new.self.items ≡ files ++ c.args.file ∷ [] =
     ap shared_files c.in_ok-push.ensures.items ∙ (map-append (λ f. f.value) c.args.files.now.items (c.in_ok-new.field-0 ∷ []) ∙ ap (λ f. files ++ f ∷ []) c.in_ok-new.ensures.ok) in
     λ batch. taken files batch c.args.file new ∙ ap (λ l. added l batch) (sym more)
+
+pub returns-in_ok-push-clause-differ : goal.returns-in_ok-push-clause-differ
+returns-in_ok-push-clause-differ c =
+    let files = shared_files c.args.files.now.items in
+    let new : is_there files c.args.file ≡ false = not_true _ (sym (c.in_ok-add_name.ensures.new files c.requires) ∙ c.if-branch.true) in
+    let more : shared_files c.push.new.self.items ≡ files ++ c.args.file ∷ [] =
+    ap shared_files c.in_ok-push.ensures.items ∙ (map-append (λ f. f.value) c.args.files.now.items (c.in_ok-new.field-0 ∷ []) ∙ ap (λ f. files ++ f ∷ []) c.in_ok-new.ensures.ok) in
+    λ h. ap names_differ more ∙ differ_more files c.args.file new h
 
 pub returns-else-branch-clause-names : goal.returns-else-branch-clause-names
 returns-else-branch-clause-names c =

@@ -1,4 +1,5 @@
 use Rattle.prost_reflect_tables.proofs.Built.{none_built}
+use Rattle.prost_reflect_descriptors.proofs.FileNames.{none_differ}
 use Rattle.prost_reflect_descriptors.proofs.NoFiles.{none_linked}
 use Rattle.prost_reflect_descriptors.proofs.pool.DescriptorPool.new.Goals as goal
 
@@ -6,4 +7,7 @@ pub invariant_of-tables : goal.invariant_of-tables
 invariant_of-tables c = record { linked = none_linked _ _ c.new.ensures.items c.new-2.ensures.items }
 
 pub invariant_of-new : goal.invariant_of-new
-invariant_of-new c = record { built = rw (c.new-files.ensures.items) (none_built c.new.result.items c.new-2.result.items c.new.ensures.items c.new-2.ensures.items) }
+invariant_of-new c = record {
+  built = rw (c.new-files.ensures.items) (none_built c.new.result.items c.new-2.result.items c.new.ensures.items c.new-2.ensures.items);
+  names = rw (c.new-files.ensures.items) none_differ;
+}
