@@ -3,7 +3,7 @@ use Rattle.std.proofs.Common.{refl}
 use Rattle.std.specs.Char.{encode_utf8}
 use Rattle.std.specs.Str.{is_utf8, chars}
 use Rattle.prost_reflect_wire.specs.Record.{read}
-use Rattle.prost_reflect_tables.specs.LinkingExamples.{OptionBytes, KindsAndLabels, PackedAndPresent, Orders}
+use Rattle.prost_reflect_tables.specs.LinkingExamples.{OptionBytes, KindsAndLabels, PackedAndPresent, Orders, NamesInJson}
 
 pub option_bytes : OptionBytes
 unfolding read
@@ -42,3 +42,7 @@ packed_and_present = record {
 pub orders : Orders
 unfolding is_utf8 chars encode_utf8
 orders = record { order = refl; of_place = refl }
+
+pub names_in_json : NamesInJson
+unfolding is_utf8 chars encode_utf8
+names_in_json = record { written = λ d s is. rw is refl; unwritten = λ d s none is. rw (none, is) refl; extension = λ d is. rw is refl }

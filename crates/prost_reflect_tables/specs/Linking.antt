@@ -10,7 +10,7 @@ use Rattle.prost_reflect_tables.specs.declared.tables.Cardinality.TheVariants.{O
 use Rattle.prost_reflect_tables.specs.declared.tables.TableKind.{TableKind}
 use Rattle.prost_reflect_tables.specs.declared.tables.TableKind.TheVariants.{Double, Float, Int32, Int64, Uint32, Uint64, Sint32, Sint64, Fixed32, Fixed64, Sfixed32, Sfixed64, Bool as BoolKind, String as StringKind, Bytes, Message, Enum}
 use Rattle.prost_reflect_tables.specs.Rows.{FieldRow, OneofRow, MessageRow, EnumValueRow, EnumRow, TableRows}
-use Rattle.prost_reflect_tables.specs.Names.{text_or_empty}
+use Rattle.prost_reflect_tables.specs.Names.{text_or_empty, bracketed}
 use Rattle.prost_reflect_tables.specs.Flat.{DefinitionRow, FlatMessageRow, FlatEnumRow, FlatRows}
 use Rattle.prost_reflect_tables.specs.Faults.{message_names, enum_names, place_named}
 use Rattle.prost_reflect_tables.specs.Options.{bool_option}
@@ -137,6 +137,20 @@ linked_field links is_extension d =
       default = linked_default links kind f.default_value;
       oneof = place_in f.oneof_index;
     }
+
+-- NAMES IN JSON
+
+-- That of a field's record, or the field's name where the record has none.
+abbrev pub json_name_or : Option (String Global) → (name : Option (String Global)) → List ℕ
+json_name_or None name = text_or_empty name
+json_name_or (Some s) name = string_bytes s
+
+-- An extension has its full name in brackets.
+abbrev pub json_name : (is_extension : Bool) → DefinitionRow FieldDescriptorProto → List ℕ
+json_name false d = json_name_or d.proto.json_name d.proto.name
+json_name true d = bracketed d.full_name
+
+-- ORDER
 
 -- A row in front of the first one that has no smaller number.
 abbrev pub put_in_order : FieldRow → List FieldRow → List FieldRow

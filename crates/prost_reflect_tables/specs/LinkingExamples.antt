@@ -1,11 +1,13 @@
--- Option bytes, kinds, labels, packing, presence and orders (descriptor.proto; the proto2 and the proto3 guide).
-use Rattle.std.specs.Prelude.{◌≡◌, pos, negsuc, true, false, [], ◌∷◌, map, Some, None, codes}
+-- Option bytes, kinds, labels, packing, presence, orders and names in JSON (descriptor.proto; the proto2 and the proto3 guide).
+use Rattle.std.specs.Prelude.{◌≡◌, pos, negsuc, true, false, [], ◌∷◌, map, Some, None, String as Text, string_bytes, codes}
+use Rattle.std.specs.declared.alloc.Global.{Global}
 use Rattle.prost_reflect_records.specs.declared.FieldDescriptorProto.{FieldDescriptorProto}
 use Rattle.prost_reflect_tables.specs.declared.tables.Cardinality.TheVariants.{Optional, Required, Repeated}
 use Rattle.prost_reflect_tables.specs.declared.tables.TableKind.TheVariants.{Double, Int32, String, Bool as BoolKind, Message, Enum, Sint64}
+use Rattle.prost_reflect_tables.specs.Flat.{DefinitionRow}
 use Rattle.prost_reflect_tables.specs.Options.{bool_in}
 use Rattle.prost_reflect_tables.specs.Faults.{place_of}
-use Rattle.prost_reflect_tables.specs.Linking.{natural_or_zero, place_in, kind_of_code, cardinality_of_label, linked_packed, linked_presence, in_order, belonging}
+use Rattle.prost_reflect_tables.specs.Linking.{natural_or_zero, place_in, kind_of_code, cardinality_of_label, linked_packed, linked_presence, in_order, belonging, json_name}
 use Rattle.prost_reflect_tables.specs.Examples.{single}
 
 pub record OptionBytes : Type 0 where
@@ -56,3 +58,9 @@ pub record Orders : Type 0 where
   pub order : in_order (single 3 Int32 ∷ single 1 String ∷ single 2 Int32 ∷ single 1 Int32 ∷ []) ≡ single 1 String ∷ single 1 Int32 ∷ single 2 Int32 ∷ single 3 Int32 ∷ []
   -- Those of the place 1.
   pub of_place : belonging place_in (Some (pos 1) ∷ None ∷ Some (pos 0) ∷ Some (pos 1) ∷ []) 1 ≡ Some (pos 1) ∷ Some (pos 1) ∷ []
+
+pub record NamesInJson : Type 0 where
+  pub written : (d : DefinitionRow FieldDescriptorProto) (s : Text Global) → d.proto.json_name ≡ Some s → json_name false d ≡ string_bytes s
+  pub unwritten : (d : DefinitionRow FieldDescriptorProto) (s : Text Global) → d.proto.json_name ≡ None → d.proto.name ≡ Some s → json_name false d ≡ string_bytes s
+  -- The extension x that is declared in the message M of the package p.
+  pub extension : (d : DefinitionRow FieldDescriptorProto) → d.full_name ≡ codes "p.M.x" → json_name true d ≡ codes "[p.M.x]"

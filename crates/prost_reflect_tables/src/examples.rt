@@ -4,7 +4,7 @@ ghost use Rattle.prost_reflect_tables.specs.Examples.{Tables, NotLinked};
 ghost use Rattle.prost_reflect_tables.specs.DefaultExamples.{Integers, NoIntegers, Floats, NoFloats, Others, NoOthers, Escapes, NoEscapes};
 ghost use Rattle.prost_reflect_tables.specs.CheckExamples.{CheckedOptions, KeysAndValues};
 ghost use Rattle.prost_reflect_tables.specs.FileExamples.{ContentsAndTables};
-ghost use Rattle.prost_reflect_tables.specs.LinkingExamples.{OptionBytes, KindsAndLabels, PackedAndPresent, Orders};
+ghost use Rattle.prost_reflect_tables.specs.LinkingExamples.{OptionBytes, KindsAndLabels, PackedAndPresent, Orders, NamesInJson};
 
 /// The schema that tables give, for a field of each form.
 pub fn shown_tables()
@@ -32,12 +32,13 @@ pub fn defaults_refused()
     ensures escapes { NoEscapes }
 {}
 
-/// Option bytes, and what linking makes of kinds, labels, packing, presence and orders.
+/// Option bytes, and what linking makes of kinds, labels, packing, presence, orders and names in JSON.
 pub fn linking()
     ensures options { OptionBytes }
     ensures kinds { KindsAndLabels }
     ensures packed { PackedAndPresent }
     ensures orders { Orders }
+    ensures json { NamesInJson }
 {}
 
 /// Option bytes, and keys and values of map entries, as the checks take them.

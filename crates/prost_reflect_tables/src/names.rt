@@ -1,7 +1,7 @@
 //! Full names, and texts that name them.
 
 ghost use Rattle.std.specs.Prelude.{◌≡◌, IfOk, string_bytes};
-ghost use Rattle.prost_reflect_tables.specs.Names.{text_or_empty, joined, without_dot, bracketed};
+ghost use Rattle.prost_reflect_tables.specs.Names.{text_or_empty, joined, without_dot};
 
 use std::alloc::{AllocError, Global};
 
@@ -35,14 +35,4 @@ pub fn without_dot(name: &str) -> &str
         Some(rest) => rest,
         None => name,
     }
-}
-
-/// The JSON name of an extension of a full name.
-pub fn bracketed(alloc: Global, full_name: &str) -> Result<String, AllocError>
-    ensures { IfOk result (λ s. string_bytes s ≡ bracketed full_name.now) }
-{
-    let mut json_name = String::from_str(alloc, "[")?;
-    json_name.push_str(full_name)?;
-    json_name.push_str("]")?;
-    Ok(json_name)
 }
