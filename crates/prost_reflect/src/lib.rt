@@ -20,7 +20,7 @@ pub use prost_reflect_records::{
 };
 pub use prost_reflect_tables::{Cardinality, PoolError};
 pub use prost_reflect_wire::{
-    DecodeError, EncodeError, RECURSION_LIMIT, UnknownField, UnknownFieldSet, UnknownFieldValue,
-    WireType,
+    DecodeError, EncodeError, FieldNumber, RECURSION_LIMIT, UnknownField, UnknownFieldSet,
+    UnknownFieldValue, WireType,
 };
 pub use value::{MapKey, Value};

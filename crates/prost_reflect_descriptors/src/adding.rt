@@ -139,11 +139,11 @@ fn inner_of(alloc: Global, files: Vec<Rc<FileDescriptorProto>>) -> Result<PoolIn
 }
 
 impl DescriptorPool {
-    /// A pool of the files of a set.
+    /// A pool of the files of a set; of several files of one name the first is taken.
     ///
     /// # Errors
     ///
-    /// As `add_file_descriptor_set`.
+    /// The name of a fault that stands in the files that are taken, or `OutOfMemory` if a growth is refused.
     pub fn from_file_descriptor_set(
         alloc: Global,
         set: FileDescriptorSet,
@@ -156,11 +156,12 @@ impl DescriptorPool {
         Ok(pool)
     }
 
-    /// A pool of the files of the set that the bytes are the encoding of.
+    /// A pool of the files of the set that the bytes are the encoding of; of several files of one name the first is taken.
     ///
     /// # Errors
     ///
-    /// As `decode_file_descriptor_set`.
+    /// `Decode` with a fault that stands in the bytes, where they are no descriptor set within 100 levels; the name of a
+    /// fault that stands in the files that are taken; or `OutOfMemory` if a growth is refused.
     pub fn decode(alloc: Global, bytes: &[u8]) -> Result<DescriptorPool, PoolError>
         ensures ok { IfOk result (IsPoolOfBytes types.FileSet bytes.now []) }
         ensures refused { IfErr result (Refuses types.FileSet bytes.now []) }
@@ -171,6 +172,10 @@ impl DescriptorPool {
     }
 
     /// Adds the files of a set, as `add_file_descriptor_protos`.
+    ///
+    /// # Errors
+    ///
+    /// As `add_file_descriptor_protos`; the pool stays.
     pub fn add_file_descriptor_set(&mut self, set: FileDescriptorSet) -> Result<(), PoolError>
         ensures ok { OnOk result (IsPoolOf (added (files_of self.old) set.file.items) self.new) }
         ensures refused { IfErr result (RefusesFiles (added (files_of self.old) set.file.items)) }
@@ -203,6 +208,10 @@ impl DescriptorPool {
     }
 
     /// Adds a file, as `add_file_descriptor_protos`.
+    ///
+    /// # Errors
+    ///
+    /// As `add_file_descriptor_protos`; the pool stays.
     pub fn add_file_descriptor_proto(&mut self, file: FileDescriptorProto) -> Result<(), PoolError>
         ensures ok { OnOk result (IsPoolOf (added (files_of self.old) (file ∷ [])) self.new) }
         ensures refused { IfErr result (RefusesFiles (added (files_of self.old) (file ∷ []))) }

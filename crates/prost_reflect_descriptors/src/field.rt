@@ -95,6 +95,10 @@ impl FieldDescriptor {
     }
 
     /// The type of the field's values; a map's is the message type of its entries.
+    ///
+    /// # Errors
+    ///
+    /// `AllocError` if a clone of the pool is refused.
     pub fn kind(&self) -> Result<Kind, AllocError>
         ensures kind { IfOk result (λ kind. option_map (λ field. field.kind) (row_at self.now) ≡ Some (table_kind kind)) }
         ensures pool { IfOk result (IsAmong (pool_rows self.now.message.pool)) }

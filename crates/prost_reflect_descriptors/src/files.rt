@@ -78,6 +78,10 @@ impl DescriptorPool {
     }
 
     /// The encoding of the descriptor set that has the pool's files, as `encode`.
+    ///
+    /// # Errors
+    ///
+    /// `TooLong` if the encoding passes the greatest `usize`, `OutOfMemory` if a growth is refused.
     pub fn encode_to_vec(&self, alloc: Global) -> Result<Vec<u8>, EncodeError>
         ensures ok { IfOk result (λ bytes. bytes.items ≡ encoded (of_files (files_of self.now))) }
         ensures too_long { IfErr result (λ e. e ≡ EncodeError.TooLong → 2 ^ 64 ≤ length (encoded (of_files (files_of self.now)))) }

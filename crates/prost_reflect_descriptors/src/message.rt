@@ -75,6 +75,10 @@ impl MessageDescriptor {
     }
 
     /// The field of a number, or none where no field has it; the number of an extension finds none.
+    ///
+    /// # Errors
+    ///
+    /// `AllocError` if a clone of the pool is refused.
     pub fn get_field(&self, number: u32) -> Result<Option<FieldDescriptor>, AllocError>
         ensures found { IfOk result (λ found. option_map (λ field. field.index) found ≡ declared_place (fields_of self.now) number) }
         ensures message { IfOk result (λ found. IfSome found (λ field. SameMessage self.now field.message)) }

@@ -90,6 +90,10 @@ impl DescriptorPool {
     }
 
     /// The message type of a full name, as `my.package.MyMessage`, or none where no message type has it.
+    ///
+    /// # Errors
+    ///
+    /// `AllocError` if a clone of the pool is refused.
     pub fn get_message_by_name(&self, name: &str) -> Result<Option<MessageDescriptor>, AllocError>
         ensures found { IfOk result (λ found. option_map type_at found ≡ message_place (pool_rows self.now) name.now) }
         ensures pool { IfOk result (λ found. IfSome found (λ message. SamePool self.now message.pool)) }

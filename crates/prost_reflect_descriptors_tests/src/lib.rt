@@ -5,4 +5,6 @@
 #[cfg(test)]
 mod builtin;
 #[cfg(test)]
+mod descriptors;
+#[cfg(test)]
 mod pools;

@@ -1,6 +1,7 @@
 //! Pools that are made of descriptor sets, and what is added to them.
 
 use prost_reflect_descriptors::DescriptorPool;
+use prost_reflect_records::{FileDescriptorProto, FileDescriptorSet};
 use prost_reflect_tables::PoolError;
 use prost_reflect_wire::DecodeError;
 use std::alloc::{AllocError, Global};
@@ -33,6 +34,32 @@ fn a_set_is_encoded_as_it_was_read(rt: HostRuntime) -> Result<(), Fail> {
     pool.decode_file_descriptor_set(SET_M)?;
     assert_eq!(rt; pool.encode_to_vec(rt.alloc())?.as_slice(), SET_M);
     assert!(rt; pool == DescriptorPool::decode(rt.alloc(), SET_M)?);
+    Ok(())
+}
+
+#[test]
+fn a_set_makes_a_pool(rt: HostRuntime) -> Result<(), Fail> {
+    let set = FileDescriptorSet::decode(rt.alloc(), A_AND_B)?;
+    let pool = DescriptorPool::from_file_descriptor_set(rt.alloc(), set)?;
+    assert_eq!(rt; pool.encode_to_vec(rt.alloc())?.as_slice(), A_AND_B);
+    Ok(())
+}
+
+/// The file of the set stands behind a key and a length of a byte each.
+#[test]
+fn a_file_is_added(rt: HostRuntime) -> Result<(), Fail> {
+    let file = FileDescriptorProto::decode(rt.alloc(), &SET_M[2..])?;
+    let mut pool = DescriptorPool::new(rt.alloc())?;
+    pool.add_file_descriptor_proto(file)?;
+    assert_eq!(rt; pool.encode_to_vec(rt.alloc())?.as_slice(), SET_M);
+    Ok(())
+}
+
+#[test]
+fn a_file_is_read_and_added(rt: HostRuntime) -> Result<(), Fail> {
+    let mut pool = DescriptorPool::new(rt.alloc())?;
+    pool.decode_file_descriptor_proto(&SET_M[2..])?;
+    assert_eq!(rt; pool.encode_to_vec(rt.alloc())?.as_slice(), SET_M);
     Ok(())
 }
 

@@ -13,6 +13,11 @@ use std::alloc::AllocError;
 
 /// A record that is copied with all that it holds.
 pub trait CopiedRecord: DescriptorRecord {
+    /// A record that holds the same.
+    ///
+    /// # Errors
+    ///
+    /// `AllocError` if a growth is refused.
     fn copy(&self) -> Result<Self, AllocError>
         ensures { IfOk result (λ copied. Self.content copied ≡ Self.content self.now) };
 }

@@ -28,7 +28,7 @@ fn read<T: FromBody>(alloc: Global, bytes: &[u8]) -> Result<T, DecodeError>
 }
 
 impl FileDescriptorSet {
-    /// Reads the files of a descriptor set from the bytes, within 100 levels, as the head of the module `records` says.
+    /// Reads the files of a descriptor set from the bytes, within 100 levels, as the head of this crate says.
     ///
     /// # Errors
     ///
@@ -45,7 +45,7 @@ impl FileDescriptorSet {
 }
 
 impl FileDescriptorProto {
-    /// Reads a file's record from the bytes, within 100 levels, as the head of the module `records` says.
+    /// Reads a file's record from the bytes, within 100 levels, as the head of this crate says.
     ///
     /// # Errors
     ///
@@ -62,7 +62,7 @@ impl FileDescriptorProto {
 }
 
 impl DescriptorProto {
-    /// Reads a message's record from the bytes, within 100 levels, as the head of the module `records` says.
+    /// Reads a message's record from the bytes, within 100 levels, as the head of this crate says.
     ///
     /// # Errors
     ///
@@ -79,7 +79,7 @@ impl DescriptorProto {
 }
 
 impl ExtensionRange {
-    /// Reads a range of numbers for extensions from the bytes, within 100 levels, as the head of the module `records` says.
+    /// Reads a range of numbers for extensions from the bytes, within 100 levels, as the head of this crate says.
     ///
     /// # Errors
     ///
@@ -96,7 +96,7 @@ impl ExtensionRange {
 }
 
 impl ReservedRange {
-    /// Reads a range of reserved numbers from the bytes, within 100 levels, as the head of the module `records` says.
+    /// Reads a range of reserved numbers from the bytes, within 100 levels, as the head of this crate says.
     ///
     /// # Errors
     ///
@@ -113,7 +113,7 @@ impl ReservedRange {
 }
 
 impl FieldDescriptorProto {
-    /// Reads a field's record from the bytes, within 100 levels, as the head of the module `records` says.
+    /// Reads a field's record from the bytes, within 100 levels, as the head of this crate says.
     ///
     /// # Errors
     ///
@@ -130,7 +130,7 @@ impl FieldDescriptorProto {
 }
 
 impl OneofDescriptorProto {
-    /// Reads a oneof's record from the bytes, within 100 levels, as the head of the module `records` says.
+    /// Reads a oneof's record from the bytes, within 100 levels, as the head of this crate says.
     ///
     /// # Errors
     ///
@@ -147,7 +147,7 @@ impl OneofDescriptorProto {
 }
 
 impl EnumDescriptorProto {
-    /// Reads an enum's record from the bytes, within 100 levels, as the head of the module `records` says.
+    /// Reads an enum's record from the bytes, within 100 levels, as the head of this crate says.
     ///
     /// # Errors
     ///
@@ -164,7 +164,7 @@ impl EnumDescriptorProto {
 }
 
 impl EnumReservedRange {
-    /// Reads a range of reserved numbers from the bytes, within 100 levels, as the head of the module `records` says.
+    /// Reads a range of reserved numbers from the bytes, within 100 levels, as the head of this crate says.
     ///
     /// # Errors
     ///
@@ -181,7 +181,7 @@ impl EnumReservedRange {
 }
 
 impl EnumValueDescriptorProto {
-    /// Reads an enum value's record from the bytes, within 100 levels, as the head of the module `records` says.
+    /// Reads an enum value's record from the bytes, within 100 levels, as the head of this crate says.
     ///
     /// # Errors
     ///
@@ -198,7 +198,7 @@ impl EnumValueDescriptorProto {
 }
 
 impl ServiceDescriptorProto {
-    /// Reads a service's record from the bytes, within 100 levels, as the head of the module `records` says.
+    /// Reads a service's record from the bytes, within 100 levels, as the head of this crate says.
     ///
     /// # Errors
     ///
@@ -215,7 +215,7 @@ impl ServiceDescriptorProto {
 }
 
 impl MethodDescriptorProto {
-    /// Reads a method's record from the bytes, within 100 levels, as the head of the module `records` says.
+    /// Reads a method's record from the bytes, within 100 levels, as the head of this crate says.
     ///
     /// # Errors
     ///

@@ -70,6 +70,10 @@ impl ExtensionRange {
 
 impl ReservedRange {
     /// Appends the encoding of the record, as `ExtensionRange::encode`.
+    ///
+    /// # Errors
+    ///
+    /// As `ExtensionRange::encode`; the output stays.
     pub fn encode(&self, out: &mut Vec<u8>) -> Result<(), EncodeError>
         ensures ok { OnOk result (out.new.items ≡ out.old.items ++ encoded (of_reserved_range self.now)) }
         ensures err { OnErr result (out.new.items ≡ out.old.items) }
@@ -89,6 +93,10 @@ impl ReservedRange {
 
 impl FieldDescriptorProto {
     /// Appends the encoding of the record, as `ExtensionRange::encode`.
+    ///
+    /// # Errors
+    ///
+    /// As `ExtensionRange::encode`; the output stays.
     pub fn encode(&self, out: &mut Vec<u8>) -> Result<(), EncodeError>
         ensures ok { OnOk result (out.new.items ≡ out.old.items ++ encoded (of_field self.now)) }
         ensures err { OnErr result (out.new.items ≡ out.old.items) }
@@ -108,6 +116,10 @@ impl FieldDescriptorProto {
 
 impl OneofDescriptorProto {
     /// Appends the encoding of the record, as `ExtensionRange::encode`.
+    ///
+    /// # Errors
+    ///
+    /// As `ExtensionRange::encode`; the output stays.
     pub fn encode(&self, out: &mut Vec<u8>) -> Result<(), EncodeError>
         ensures ok { OnOk result (out.new.items ≡ out.old.items ++ encoded (of_oneof self.now)) }
         ensures err { OnErr result (out.new.items ≡ out.old.items) }
@@ -127,6 +139,10 @@ impl OneofDescriptorProto {
 
 impl EnumReservedRange {
     /// Appends the encoding of the record, as `ExtensionRange::encode`.
+    ///
+    /// # Errors
+    ///
+    /// As `ExtensionRange::encode`; the output stays.
     pub fn encode(&self, out: &mut Vec<u8>) -> Result<(), EncodeError>
         ensures ok { OnOk result (out.new.items ≡ out.old.items ++ encoded (of_enum_reserved_range self.now)) }
         ensures err { OnErr result (out.new.items ≡ out.old.items) }
@@ -146,6 +162,10 @@ impl EnumReservedRange {
 
 impl EnumValueDescriptorProto {
     /// Appends the encoding of the record, as `ExtensionRange::encode`.
+    ///
+    /// # Errors
+    ///
+    /// As `ExtensionRange::encode`; the output stays.
     pub fn encode(&self, out: &mut Vec<u8>) -> Result<(), EncodeError>
         ensures ok { OnOk result (out.new.items ≡ out.old.items ++ encoded (of_enum_value self.now)) }
         ensures err { OnErr result (out.new.items ≡ out.old.items) }
@@ -165,6 +185,10 @@ impl EnumValueDescriptorProto {
 
 impl EnumDescriptorProto {
     /// Appends the encoding of the record, as `ExtensionRange::encode`.
+    ///
+    /// # Errors
+    ///
+    /// As `ExtensionRange::encode`; the output stays.
     pub fn encode(&self, out: &mut Vec<u8>) -> Result<(), EncodeError>
         ensures ok { OnOk result (out.new.items ≡ out.old.items ++ encoded (of_enum self.now)) }
         ensures err { OnErr result (out.new.items ≡ out.old.items) }
@@ -184,6 +208,10 @@ impl EnumDescriptorProto {
 
 impl MethodDescriptorProto {
     /// Appends the encoding of the record, as `ExtensionRange::encode`.
+    ///
+    /// # Errors
+    ///
+    /// As `ExtensionRange::encode`; the output stays.
     pub fn encode(&self, out: &mut Vec<u8>) -> Result<(), EncodeError>
         ensures ok { OnOk result (out.new.items ≡ out.old.items ++ encoded (of_method self.now)) }
         ensures err { OnErr result (out.new.items ≡ out.old.items) }
@@ -203,6 +231,10 @@ impl MethodDescriptorProto {
 
 impl ServiceDescriptorProto {
     /// Appends the encoding of the record, as `ExtensionRange::encode`.
+    ///
+    /// # Errors
+    ///
+    /// As `ExtensionRange::encode`; the output stays.
     pub fn encode(&self, out: &mut Vec<u8>) -> Result<(), EncodeError>
         ensures ok { OnOk result (out.new.items ≡ out.old.items ++ encoded (of_service self.now)) }
         ensures err { OnErr result (out.new.items ≡ out.old.items) }
@@ -222,6 +254,10 @@ impl ServiceDescriptorProto {
 
 impl DescriptorProto {
     /// Appends the encoding of the record, as `ExtensionRange::encode`.
+    ///
+    /// # Errors
+    ///
+    /// As `ExtensionRange::encode`; the output stays.
     pub fn encode(&self, out: &mut Vec<u8>) -> Result<(), EncodeError>
         ensures ok { OnOk result (out.new.items ≡ out.old.items ++ encoded (of_message self.now)) }
         ensures err { OnErr result (out.new.items ≡ out.old.items) }
@@ -241,6 +277,10 @@ impl DescriptorProto {
 
 impl FileDescriptorProto {
     /// Appends the encoding of the record, as `ExtensionRange::encode`.
+    ///
+    /// # Errors
+    ///
+    /// As `ExtensionRange::encode`; the output stays.
     pub fn encode(&self, out: &mut Vec<u8>) -> Result<(), EncodeError>
         ensures ok { OnOk result (out.new.items ≡ out.old.items ++ encoded (of_file self.now)) }
         ensures err { OnErr result (out.new.items ≡ out.old.items) }
@@ -259,7 +299,11 @@ impl FileDescriptorProto {
 }
 
 impl FileDescriptorSet {
-    /// Appends the encoding of the record, as `ExtensionRange::encode`.
+    /// Appends the encoding of the set. Within 100 levels, the bytes are read as the same set.
+    ///
+    /// # Errors
+    ///
+    /// `TooLong` if the encoding passes the greatest `usize`, `OutOfMemory` if a growth is refused; the output stays.
     pub fn encode(&self, out: &mut Vec<u8>) -> Result<(), EncodeError>
         ensures ok { OnOk result (out.new.items ≡ out.old.items ++ encoded (of_file_set self.now)) }
         ensures err { OnErr result (out.new.items ≡ out.old.items) }

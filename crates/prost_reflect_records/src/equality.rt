@@ -13,6 +13,7 @@ use crate::{
 
 /// A record that is compared by all that it holds.
 pub trait ComparedRecord: DescriptorRecord {
+    /// Whether both hold the same.
     fn equals(&self, other: &Self) -> bool
         ensures { IsTrue result ↔ (Self.content self.now ≡ Self.content other.now) };
 }

@@ -29,6 +29,7 @@ pub trait DescriptorRecord {
         ensures sound { RecordSound record_type (content self.now) };
 }
 
+/// Writes the key of the number and the wire type.
 pub fn write_key<S: Sink>(sink: &mut S, number: u32, wire_type: WireType)
     ensures { Adds S.added sink.old sink.new (short_key number wire_type) }
 {
@@ -51,6 +52,7 @@ fn write_delimited<S: Sink>(sink: &mut S, number: u32, payload: &[u8])
     write_key(sink, number, WireType::LengthDelimited);
 }
 
+/// Writes a nested record under the number.
 pub fn write_record<S: Sink, R: DescriptorRecord>(sink: &mut S, number: u32, value: &R)
     ensures added { Adds S.added sink.old sink.new (spelled (record_at number (Flat (Len (encoded (R.content value.now)))) ∷ [])) }
     ensures sound { RecordSound R.record_type (R.content value.now) }
@@ -61,6 +63,7 @@ pub fn write_record<S: Sink, R: DescriptorRecord>(sink: &mut S, number: u32, val
     write_key(sink, number, WireType::LengthDelimited);
 }
 
+/// Writes a text under the number, unless it is absent.
 pub fn write_text<S: Sink>(sink: &mut S, number: u32, text: &Option<String>)
     ensures { Adds S.added sink.old sink.new (field_bytes number kinds.Text (of_text text.now)) }
 {
@@ -69,6 +72,7 @@ pub fn write_text<S: Sink>(sink: &mut S, number: u32, text: &Option<String>)
     }
 }
 
+/// Writes an `int32` under the number, unless it is absent.
 pub fn write_number<S: Sink>(sink: &mut S, number: u32, value: &Option<i32>)
     ensures added { Adds S.added sink.old sink.new (field_bytes number kinds.Number (of_number value.now)) }
     ensures sound { FieldSound kinds.Number (of_number value.now) }
@@ -79,6 +83,7 @@ pub fn write_number<S: Sink>(sink: &mut S, number: u32, value: &Option<i32>)
     }
 }
 
+/// Writes a `bool` under the number, unless it is absent.
 pub fn write_flag<S: Sink>(sink: &mut S, number: u32, flag: &Option<bool>)
     ensures { Adds S.added sink.old sink.new (field_bytes number kinds.Flag (of_flag flag.now)) }
 {
@@ -87,6 +92,7 @@ pub fn write_flag<S: Sink>(sink: &mut S, number: u32, flag: &Option<bool>)
     }
 }
 
+/// Writes raw bytes under the number, unless they are absent.
 pub fn write_bytes<S: Sink>(sink: &mut S, number: u32, bytes: &Option<Vec<u8>>)
     ensures added { Adds S.added sink.old sink.new (field_bytes number kinds.Bytes (of_bytes bytes.now)) }
     ensures sound { FieldSound kinds.Bytes (of_bytes bytes.now) }
@@ -96,6 +102,7 @@ pub fn write_bytes<S: Sink>(sink: &mut S, number: u32, bytes: &Option<Vec<u8>>)
     }
 }
 
+/// Writes each text under the number, the last one first.
 pub fn write_texts<S: Sink>(sink: &mut S, number: u32, texts: &Vec<String>)
     ensures { Adds S.added sink.old sink.new (field_bytes number kinds.Texts (of_texts texts.now)) }
 {
@@ -104,6 +111,7 @@ pub fn write_texts<S: Sink>(sink: &mut S, number: u32, texts: &Vec<String>)
     }
 }
 
+/// Writes each `int32` under the number, not packed, the last one first.
 pub fn write_numbers<S: Sink>(sink: &mut S, number: u32, values: &Vec<i32>)
     ensures added { Adds S.added sink.old sink.new (field_bytes number kinds.Numbers (of_numbers values.now)) }
     ensures sound { FieldSound kinds.Numbers (of_numbers values.now) }
@@ -113,6 +121,7 @@ pub fn write_numbers<S: Sink>(sink: &mut S, number: u32, values: &Vec<i32>)
     }
 }
 
+/// Writes each nested record under the number, the last one first.
 pub fn write_records<S: Sink, R: DescriptorRecord>(sink: &mut S, number: u32, records: &Vec<R>)
     ensures added { Adds S.added sink.old sink.new (field_bytes number (kinds.Records R.record_type) (of_records (map R.content records.now.items))) }
     ensures sound { FieldSound (kinds.Records R.record_type) (of_records (map R.content records.now.items)) }

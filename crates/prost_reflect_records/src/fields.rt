@@ -33,12 +33,19 @@ pub enum RawValue<'a> {
 /// Such a value under the number of its field.
 #[derive(Clone, Copy)]
 pub struct RawField<'a> {
+    /// The number of the field.
     pub number: u32,
+    /// The value.
     pub value: RawValue<'a>,
 }
 
 /// The values of the record's fields in its body, in their order. Nested records are not looked into, and fields of
 /// unknown numbers are passed over.
+///
+/// # Errors
+///
+/// `Truncated`, `Varint`, `Key`, `WireType`, `EndGroup`, `Utf8` or `Depth` where that fault stands in the body;
+/// `OutOfMemory` if a growth is refused.
 pub fn fields_in<'a>(
     alloc: Global,
     record_type: RecordType,

@@ -21,6 +21,10 @@ fn last<'a>(fields: &[RawField<'a>], number: u32) -> Option<RawValue<'a>>
 }
 
 /// The text of the number: the last one.
+///
+/// # Errors
+///
+/// `AllocError` if a growth is refused.
 #[tactic(auto, unfolding(crate::specs::DescriptorReading::text_at, crate::specs::DescriptorViews::of_text))]
 pub fn text(
     alloc: Global,
@@ -58,6 +62,10 @@ pub fn flag(fields: &[RawField<'_>], number: u32) -> Option<bool>
 }
 
 /// The raw bytes of the number: all its pieces, joined.
+///
+/// # Errors
+///
+/// `AllocError` if a growth is refused.
 #[tactic(auto, unfolding(crate::specs::DescriptorReading::bytes_at, crate::specs::DescriptorViews::of_bytes))]
 pub fn bytes(
     alloc: Global,
@@ -91,6 +99,10 @@ fn longer(alloc: Global, bytes: Option<Vec<u8>>, piece: &[u8]) -> Result<Vec<u8>
 }
 
 /// The texts of the number.
+///
+/// # Errors
+///
+/// `AllocError` if a growth is refused.
 #[tactic(auto, unfolding(crate::specs::DescriptorReading::texts_at, crate::specs::DescriptorViews::of_texts))]
 pub fn texts(alloc: Global, fields: &[RawField<'_>], number: u32) -> Result<Vec<String>, AllocError>
     ensures { IfOk result (λ texts. of_texts texts ≡ texts_at number (all_found fields.now)) }
@@ -107,6 +119,10 @@ pub fn texts(alloc: Global, fields: &[RawField<'_>], number: u32) -> Result<Vec<
 }
 
 /// The numbers under the number.
+///
+/// # Errors
+///
+/// `AllocError` if a growth is refused.
 #[tactic(auto, unfolding(crate::specs::DescriptorReading::numbers_at, crate::specs::DescriptorViews::of_numbers))]
 pub fn numbers(alloc: Global, fields: &[RawField<'_>], number: u32) -> Result<Vec<i32>, AllocError>
     ensures { IfOk result (λ numbers. of_numbers numbers ≡ numbers_at number (all_found fields.now)) }
@@ -123,6 +139,10 @@ pub fn numbers(alloc: Global, fields: &[RawField<'_>], number: u32) -> Result<Ve
 }
 
 /// The bodies of the nested records of the number.
+///
+/// # Errors
+///
+/// `AllocError` if a growth is refused.
 pub fn bodies<'a>(
     alloc: Global,
     fields: &[RawField<'a>],

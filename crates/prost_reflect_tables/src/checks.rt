@@ -367,6 +367,7 @@ pub fn has_bad_range(flat: &Flat) -> bool
 
 // TYPES THAT ARE MISSING
 
+/// Whether the number is there and is the code.
 pub fn is_code(code: i32, number: Option<i32>) -> bool
     requires { pos 0 ≤ℤ code }
     ensures { result ≡ is_code (nat_abs code) number }
@@ -374,12 +375,14 @@ pub fn is_code(code: i32, number: Option<i32>) -> bool
     number == Some(code)
 }
 
+/// Whether the type code is that of a group or of a message.
 pub fn is_message_type(code: Option<i32>) -> bool
     ensures { result ≡ is_message_type code }
 {
     is_code(10, code) || is_code(11, code)
 }
 
+/// Whether the type code is there and is that of a type: from 1 to 18.
 pub fn is_type(code: Option<i32>) -> bool
     ensures { result ≡ is_type (number_or_zero code) }
 {

@@ -105,6 +105,10 @@ fn repeats(alloc: Global, names: &[&str]) -> Result<bool, AllocError>
 }
 
 /// Whether two definitions have one full name.
+///
+/// # Errors
+///
+/// `AllocError` if a growth was refused.
 pub fn has_duplicate_name(alloc: Global, flat: &Flat) -> Result<bool, AllocError>
     ensures { IfOk result (λ b. b ≡ duplicate_name (flat_rows flat.now)) }
 {
@@ -115,6 +119,10 @@ pub fn has_duplicate_name(alloc: Global, flat: &Flat) -> Result<bool, AllocError
 // INDICES OF NAMES
 
 /// The place of the first of each name.
+///
+/// # Errors
+///
+/// `AllocError` if a growth was refused.
 pub fn index_of(alloc: Global, names: &[&str]) -> Result<BTreeMap<String, usize>, AllocError>
     ensures { IfOk result (λ m. IsIndexOf m (text_list names.now)) }
 {

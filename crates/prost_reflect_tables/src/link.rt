@@ -138,6 +138,10 @@ fn linked_presence(
 }
 
 /// The default that a field's definition writes.
+///
+/// # Errors
+///
+/// `AllocError` if a growth was refused.
 pub fn linked_default(
     alloc: Global,
     index: &Index,

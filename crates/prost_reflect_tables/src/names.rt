@@ -16,6 +16,10 @@ pub fn text_or_empty(text: &Option<String>) -> &str
 }
 
 /// A name in a scope, joined by a dot; in the empty scope it stands alone.
+///
+/// # Errors
+///
+/// `AllocError` if a growth was refused.
 pub fn joined(alloc: Global, scope: &str, name: &str) -> Result<String, AllocError>
     ensures { IfOk result (λ s. string_bytes s ≡ joined scope.now name.now) }
 {

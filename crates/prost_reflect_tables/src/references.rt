@@ -79,6 +79,10 @@ fn has_missing_among(index: &BTreeMap<String, usize>, files: &[&FileDescriptorPr
 }
 
 /// Whether a file depends on one that is not there.
+///
+/// # Errors
+///
+/// `AllocError` if a growth was refused.
 pub fn has_missing_dependency(
     alloc: Global,
     files: &[&FileDescriptorProto],
