@@ -13,5 +13,5 @@ returns-clause-checked c = checked_of (files_of c.args.self.now) (pool_rows c.ar
 pub returns-clause-again : goal.returns-clause-again
 returns-clause-again c =
     let files : shared_files c.as_slice.result.now ≡ files_of c.args.self.now
-        = ap shared_files c.as_slice.ensures.value ∙ ap (λ (inner : PoolInner). shared_files inner.files.items) c.deref.ensures in
+    = ap shared_files c.as_slice.ensures.value ∙ ap (λ (inner : PoolInner). shared_files inner.files.items) c.deref.ensures in
     on_ok_weaker _ (written_again (shared_files c.as_slice.result.now) c.args.self.now files) c.encode_files.ensures.reads
