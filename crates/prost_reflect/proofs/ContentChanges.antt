@@ -9,7 +9,7 @@ use Rattle.prost_reflect_wire.proofs.Survivors.{or_false, field_number}
 use Rattle.prost_reflect_laws.proofs.Arranged.{OrderedOption, table_ordered}
 use Rattle.prost_reflect.specs.declared.value.Value.{Value}
 use Rattle.prost_reflect_descriptors.specs.Descriptors.{schema_at, type_at}
-use Rattle.prost_reflect.specs.Entries.{value_at}
+use Rattle.prost_reflect_fields.specs.Entries.{value_at}
 use Rattle.prost_reflect.specs.View.{value_of, entries_from}
 use Rattle.prost_reflect.specs.Contents.{with_unknown}
 use Rattle.prost_reflect.specs.KeptLaws.{MessageArranged}

@@ -13,18 +13,18 @@ use Rattle.prost_reflect_wire.specs.Record.{Record, body_of}
 use Rattle.prost_reflect_wire.specs.Unknown.{records_of}
 use Rattle.prost_reflect_wire.specs.declared.unknown.UnknownFieldSet.{UnknownFieldSet}
 use Rattle.prost_reflect_wire.specs.Schema.{Field, known}
-use Rattle.prost_reflect.specs.declared.fields.entry.Entry.{Entry}
-use Rattle.prost_reflect.specs.declared.fields.entry.Entry.TheVariants as entries
+use Rattle.prost_reflect_fields.specs.declared.entry.Entry.{Entry}
+use Rattle.prost_reflect_fields.specs.declared.entry.Entry.TheVariants as entries
 use Rattle.prost_reflect_descriptors.specs.declared.message.MessageDescriptor.{MessageDescriptor}
 use Rattle.prost_reflect.specs.declared.message.DynamicMessage.{DynamicMessage}
 use Rattle.prost_reflect.specs.declared.value.Value.{Value}
 use Rattle.prost_reflect.specs.declared.value.Value.TheViews.{roll-DynamicMessage}
 use Rattle.prost_reflect_descriptors.specs.Descriptors.{SameMessage}
 use Rattle.prost_reflect_tables.specs.Shown.{schema_from}
-use Rattle.prost_reflect.specs.Items.{IsAscending, item_at, put_item}
-use Rattle.prost_reflect.specs.Known.{known_of}
-use Rattle.prost_reflect.specs.Entries.{value_in, records_in, records_at, has_value}
-use Rattle.prost_reflect.specs.Sound.{Sound, unknown_kept}
+use Rattle.prost_reflect_fields.specs.Items.{IsAscending, item_at, put_item}
+use Rattle.prost_reflect_fields.specs.Known.{known_of}
+use Rattle.prost_reflect_fields.specs.Entries.{value_in, records_in, records_at, has_value}
+use Rattle.prost_reflect_fields.specs.Sound.{Sound, unknown_kept}
 use Rattle.prost_reflect.specs.Stored.{StoredValue, StoredEntries, NothingStored, ValueAt, UnknownAt, BothAt, MessageOf, stored_entry, stored_entries, value_stored, message_stored}
 use Rattle.prost_reflect.proofs.StoredViews.{stored_message, stored_roll}
 

@@ -27,7 +27,7 @@ use Rattle.prost_reflect.specs.declared.value.Value as values
 use Rattle.prost_reflect.specs.Contents.{value_set}
 use Rattle.prost_reflect.specs.RowKinds.{is_repeated, is_plain_kind, names_message}
 use Rattle.prost_reflect_descriptors.specs.Descriptors.{schema_at}
-use Rattle.prost_reflect.specs.Known.{known_of}
+use Rattle.prost_reflect_fields.specs.Known.{known_of}
 use Rattle.prost_reflect.specs.Lists.{IsList, IsListOrNone, ListField, with_element}
 use Rattle.prost_reflect.specs.Numbers.{NumberList}
 use Rattle.prost_reflect_descriptors.specs.Pools.{pool_rows}

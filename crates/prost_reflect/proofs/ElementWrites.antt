@@ -22,7 +22,7 @@ use Rattle.prost_reflect.specs.declared.value.Value as values
 use Rattle.prost_reflect.specs.RowKinds.{is_repeated, names_message}
 use Rattle.prost_reflect_descriptors.specs.Descriptors.{schema_at}
 use Rattle.prost_reflect.specs.Encoding.{ValueWritable, nested_bytes}
-use Rattle.prost_reflect.specs.Known.{known_of}
+use Rattle.prost_reflect_fields.specs.Known.{known_of}
 use Rattle.prost_reflect.specs.Lists.{ElementWritable, AreElements, element_bytes, elements_bytes}
 use Rattle.prost_reflect_descriptors.specs.Pools.{pool_rows}
 use Rattle.prost_reflect.specs.View.{value_of, content_of}

@@ -19,17 +19,17 @@ use Rattle.prost_reflect_wire.specs.Unknown.{records_of}
 use Rattle.prost_reflect_wire.specs.declared.unknown.UnknownFieldSet.{UnknownFieldSet}
 use Rattle.prost_reflect_wire.proofs.Deeper.{and_both}
 use Rattle.prost_reflect_laws.proofs.WrittenEntries.{written_store}
-use Rattle.prost_reflect.specs.declared.fields.entry.Entry.{Entry}
-use Rattle.prost_reflect.specs.declared.fields.entry.Entry.TheVariants as entries
+use Rattle.prost_reflect_fields.specs.declared.entry.Entry.{Entry}
+use Rattle.prost_reflect_fields.specs.declared.entry.Entry.TheVariants as entries
 use Rattle.prost_reflect.specs.declared.message.DynamicMessage.{DynamicMessage}
 use Rattle.prost_reflect.specs.declared.value.Value.{Value}
-use Rattle.prost_reflect.specs.Items.{IsAscending, item_at}
-use Rattle.prost_reflect.specs.Known.{known_of, are_records_of, keeps_unknown}
-use Rattle.prost_reflect.specs.Entries.{value_in, unknown_in, records_in, records_at}
-use Rattle.prost_reflect.specs.Sound.{IsSound, UnknownKept, unknown_kept}
+use Rattle.prost_reflect_fields.specs.Items.{IsAscending, item_at}
+use Rattle.prost_reflect_fields.specs.Known.{known_of, are_records_of, keeps_unknown}
+use Rattle.prost_reflect_fields.specs.Entries.{value_in, unknown_in, records_in, records_at}
+use Rattle.prost_reflect_fields.specs.Sound.{IsSound, UnknownKept, unknown_kept}
 use Rattle.prost_reflect.specs.View.{value_of, content_of, descriptor_of, stored_in, slot_of, entries_from, payloads_of}
 use Rattle.prost_reflect.specs.Encoding.{entry_slot, unknown_bytes, entries_bytes, ValueWritable, OwnUnknown, IsWritable, AreWritable}
-use Rattle.prost_reflect.proofs.ItemChanges.{by_number, none_above, itself}
+use Rattle.prost_reflect_fields.proofs.ItemChanges.{by_number, none_above, itself}
 use Rattle.prost_reflect.proofs.Views.{shown, shown_entry, content_of_message}
 
 -- BYTES

@@ -1,11 +1,4 @@
-pub mod Places
-pub mod Walks
-pub mod ItemChanges
-pub mod EntryChanges
 pub mod ScalarReads
-pub mod Siblings
-pub mod SoundChanges
-pub mod MembersCleared
 pub mod RowKinds
 pub mod PlainKinds
 pub mod Views

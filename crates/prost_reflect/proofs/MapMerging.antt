@@ -26,7 +26,7 @@ use Rattle.prost_reflect.specs.declared.message.DynamicMessage.{DynamicMessage}
 use Rattle.prost_reflect.specs.declared.value.MapKey.{MapKey}
 use Rattle.prost_reflect.specs.declared.value.Value.{Value}
 use Rattle.prost_reflect_descriptors.specs.Pools.{pool_rows}
-use Rattle.prost_reflect.specs.Known.{known_of}
+use Rattle.prost_reflect_fields.specs.Known.{known_of}
 use Rattle.prost_reflect.specs.Scalars.{ReadsStray, is_stray_number}
 use Rattle.prost_reflect.specs.Contents.{value_set}
 use Rattle.prost_reflect.specs.Variants.{key_among, key_in}

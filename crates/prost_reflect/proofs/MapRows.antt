@@ -20,7 +20,7 @@ use Rattle.prost_reflect.specs.declared.value.Value.{Value}
 use Rattle.prost_reflect.specs.declared.value.Value as values
 use Rattle.prost_reflect_descriptors.specs.Pools.{pool_rows}
 use Rattle.prost_reflect_descriptors.specs.Descriptors.{schema_at}
-use Rattle.prost_reflect.specs.Known.{known_of}
+use Rattle.prost_reflect_fields.specs.Known.{known_of}
 use Rattle.prost_reflect.specs.RowKinds.{is_plain, names_message}
 use Rattle.prost_reflect.specs.ContentLaws.{pairs_shown}
 use Rattle.prost_reflect_descriptors.specs.MapParts.{two_of, entry_parts, map_parts}

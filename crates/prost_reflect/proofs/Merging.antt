@@ -29,14 +29,14 @@ use Rattle.prost_reflect.specs.declared.message.DynamicMessage.{DynamicMessage}
 use Rattle.prost_reflect.specs.declared.value.Value.{Value}
 use Rattle.prost_reflect.specs.declared.message.decode.Target.TheVariants as targets
 use Rattle.prost_reflect_descriptors.specs.Pools.{pool_rows}
-use Rattle.prost_reflect.specs.Known.{known_of}
+use Rattle.prost_reflect_fields.specs.Known.{known_of}
 use Rattle.prost_reflect.specs.View.{value_of, content_of, descriptor_of}
 use Rattle.prost_reflect.specs.Scalars.{PlainField, ReadsScalar, RefusesScalar, ReadsStray, StaysUnknown, is_stray_number}
 use Rattle.prost_reflect.specs.Targets.{NestedField, IsTarget, target_of}
 use Rattle.prost_reflect.proofs.Described.{named_in_range, schema_at_valid}
 use Rattle.prost_reflect.proofs.Views.{content_of_message}
 use Rattle.prost_reflect.proofs.PlainKinds.{SamePayloads, scalar_row, single_row, own_of, plain_payloads, stray_payload}
-use Rattle.prost_reflect.proofs.Siblings.{known_differ}
+use Rattle.prost_reflect_fields.proofs.Siblings.{known_differ}
 use Rattle.prost_reflect.specs.Contents.{value_set, unknown_added}
 use Rattle.prost_reflect.specs.RowKinds.{is_repeated, names_message}
 use Rattle.prost_reflect.proofs.RowKinds.{message_kind}

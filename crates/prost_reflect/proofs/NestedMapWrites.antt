@@ -24,7 +24,7 @@ use Rattle.prost_reflect.specs.declared.value.Value as values
 use Rattle.prost_reflect.specs.ContentLaws.{pairs_shown}
 use Rattle.prost_reflect.specs.RowKinds.{names_message}
 use Rattle.prost_reflect.specs.Encoding.{ValueWritable, nested_bytes}
-use Rattle.prost_reflect.specs.Known.{known_of}
+use Rattle.prost_reflect_fields.specs.Known.{known_of}
 use Rattle.prost_reflect.specs.Lists.{ElementWritable}
 use Rattle.prost_reflect_descriptors.specs.MapParts.{map_parts}
 use Rattle.prost_reflect.specs.Maps.{IsMap}

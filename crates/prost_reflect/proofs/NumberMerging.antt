@@ -31,7 +31,7 @@ use Rattle.prost_reflect.specs.declared.message.DynamicMessage.{DynamicMessage}
 use Rattle.prost_reflect.specs.Contents.{value_set, unknown_added}
 use Rattle.prost_reflect.specs.RowKinds.{is_repeated, names_message}
 use Rattle.prost_reflect_descriptors.specs.Enums.{first_of, numbers_of}
-use Rattle.prost_reflect.specs.Known.{known_of, keeps_unknown, keeps_unknown_beside, is_closed_enum}
+use Rattle.prost_reflect_fields.specs.Known.{known_of, keeps_unknown, keeps_unknown_beside, is_closed_enum}
 use Rattle.prost_reflect.specs.Lists.{IsListOrNone, with_element}
 use Rattle.prost_reflect.specs.Numbers.{NumberList, BodyTaken, number_taken}
 use Rattle.prost_reflect_descriptors.specs.Pools.{pool_rows}

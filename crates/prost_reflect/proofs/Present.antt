@@ -10,16 +10,16 @@ use Rattle.prost_reflect_wire.specs.Schema.{Field}
 use Rattle.prost_reflect_wire.specs.Content.{Entries, Slot, slot_at, numbers_in, entries_of}
 use Rattle.prost_reflect_wire.specs.Typing.{kept, kept_entries}
 use Rattle.prost_reflect_wire.proofs.Numbers.{Ascending, is_in, not_in, entries_ascending, slot_outside}
-use Rattle.prost_reflect.specs.declared.fields.entry.Entry.{Entry}
+use Rattle.prost_reflect_fields.specs.declared.entry.Entry.{Entry}
 use Rattle.prost_reflect.specs.declared.message.DynamicMessage.{DynamicMessage}
 use Rattle.prost_reflect.specs.declared.message.present.PresentNumber.{PresentNumber}
 use Rattle.prost_reflect.specs.declared.value.Value.{Value}
-use Rattle.prost_reflect.specs.Items.{IsAscending, item_at}
-use Rattle.prost_reflect.specs.Known.{known_of}
-use Rattle.prost_reflect.specs.Entries.{value_in, records_in}
+use Rattle.prost_reflect_fields.specs.Items.{IsAscending, item_at}
+use Rattle.prost_reflect_fields.specs.Known.{known_of}
+use Rattle.prost_reflect_fields.specs.Entries.{value_in, records_in}
 use Rattle.prost_reflect.specs.View.{value_of, content_of, descriptor_of, stored_in, entries_from, payloads_of}
 use Rattle.prost_reflect.specs.Present.{slot_present, present_in, kept_slot, entry_present}
-use Rattle.prost_reflect.proofs.ItemChanges.{apart_of, itself}
+use Rattle.prost_reflect_fields.proofs.ItemChanges.{apart_of, itself}
 use Rattle.prost_reflect.proofs.Views.{shown, content_of_message}
 use Rattle.prost_reflect.proofs.Slots.{keys_ascending, not_among}
 use Rattle.prost_reflect.proofs.Stored.{slot_stored}

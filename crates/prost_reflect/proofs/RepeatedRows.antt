@@ -11,7 +11,7 @@ use Rattle.prost_reflect_tables.specs.Shown.{schema_kind, own_type, schema_field
 use Rattle.prost_reflect_descriptors.specs.declared.message.MessageDescriptor.{MessageDescriptor}
 use Rattle.prost_reflect.specs.RowKinds.{is_repeated, names_message}
 use Rattle.prost_reflect_descriptors.specs.Descriptors.{schema_at}
-use Rattle.prost_reflect.specs.Known.{known_of}
+use Rattle.prost_reflect_fields.specs.Known.{known_of}
 use Rattle.prost_reflect_descriptors.specs.MapParts.{map_parts}
 use Rattle.prost_reflect.specs.Maps.{ScalarMap, MapOfRows}
 use Rattle.prost_reflect.specs.NestedMaps.{NestedMap}

@@ -11,10 +11,10 @@ use Rattle.prost_reflect_wire.specs.Content.{Entries, Value, Slot, slot_at, stor
 use Rattle.prost_reflect_wire.proofs.Numbers.{Ascending, is_in, Covers, empty_slot, table_same, table_covers, slots_same, value_apart, unknowns_apart, value_here, unknowns_here, insert_ascending, entries_ascending, in_insert, slot_outside}
 use Rattle.prost_reflect_wire.proofs.Survivors.{or_false}
 use Rattle.prost_reflect_laws.proofs.Rebuilt.{table_from}
-use Rattle.prost_reflect.specs.declared.fields.entry.Entry.{Entry}
-use Rattle.prost_reflect.specs.Items.{IsAscending, item_at}
+use Rattle.prost_reflect_fields.specs.declared.entry.Entry.{Entry}
+use Rattle.prost_reflect_fields.specs.Items.{IsAscending, item_at}
 use Rattle.prost_reflect.specs.View.{slot_of, entries_from}
-use Rattle.prost_reflect.proofs.ItemChanges.{Apart, by_number, none_above, itself}
+use Rattle.prost_reflect_fields.proofs.ItemChanges.{Apart, by_number, none_above, itself}
 
 abbrev pub slot_in : Option (Entry Value) → Slot
 slot_in None = empty_slot

@@ -13,21 +13,21 @@ use Rattle.prost_reflect_wire.specs.Content.{Content, ContentOf, Entries, Slot, 
 use Rattle.prost_reflect_wire.specs.Edit.{with_value, with_field_value, cleared}
 use Rattle.prost_reflect_wire.proofs.Numbers.{empty_slot, slots_same, eqb-sym}
 use Rattle.prost_reflect_wire.proofs.Survivors.{field_number}
-use Rattle.prost_reflect.specs.declared.fields.entry.Entry.{Entry}
-use Rattle.prost_reflect.specs.declared.fields.entry.Entry.TheVariants as entries
+use Rattle.prost_reflect_fields.specs.declared.entry.Entry.{Entry}
+use Rattle.prost_reflect_fields.specs.declared.entry.Entry.TheVariants as entries
 use Rattle.prost_reflect_descriptors.specs.declared.message.MessageDescriptor.{MessageDescriptor}
 use Rattle.prost_reflect.specs.declared.message.DynamicMessage.{DynamicMessage}
 use Rattle.prost_reflect.specs.declared.value.Value.{Value}
 use Rattle.prost_reflect.specs.declared.value.Value.TheViews.{roll-DynamicMessage}
 use Rattle.prost_reflect_descriptors.specs.Descriptors.{schema_at, type_at}
-use Rattle.prost_reflect.specs.Items.{IsAscending, item_at}
-use Rattle.prost_reflect.specs.Known.{known_of, is_known, are_siblings}
-use Rattle.prost_reflect.specs.Entries.{value_in, records_in, value_at, records_at, put_value, clear_value, with_value as with_value_at, SameStored, UnknownAdded}
-use Rattle.prost_reflect.specs.Sound.{Sound, set_value_at, prepared}
+use Rattle.prost_reflect_fields.specs.Items.{IsAscending, item_at}
+use Rattle.prost_reflect_fields.specs.Known.{known_of, is_known, are_siblings}
+use Rattle.prost_reflect_fields.specs.Entries.{value_in, records_in, value_at, records_at, put_value, clear_value, with_value as with_value_at, SameStored, UnknownAdded}
+use Rattle.prost_reflect_fields.specs.Sound.{Sound, set_value_at, prepared}
 use Rattle.prost_reflect.specs.View.{value_of, content_of, entries_from, payloads_of, written_at}
 use Rattle.prost_reflect.specs.Contents.{value_set, value_cleared, with_unknown, unknown_added}
-use Rattle.prost_reflect.proofs.EntryChanges.{value_without, records_without, ascending_without_values, ascending_put}
-use Rattle.prost_reflect.proofs.SoundChanges.{value_set_at, records_set_at, ascending_set_at, written_is_set, value_set as value_set_here}
+use Rattle.prost_reflect_fields.proofs.EntryChanges.{value_without, records_without, ascending_without_values, ascending_put}
+use Rattle.prost_reflect_fields.proofs.SoundChanges.{value_set_at, records_set_at, ascending_set_at, written_is_set, value_set as value_set_here}
 use Rattle.prost_reflect.proofs.Views.{shown, shown_entry, content_of_message, content_of_roll}
 use Rattle.prost_reflect.proofs.Slots.{slot_in, slot_from, same_slots_same, changed_from}
 

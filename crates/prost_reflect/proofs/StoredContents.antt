@@ -11,14 +11,14 @@ use Rattle.prost_reflect_tables.specs.Shown.{schema_from}
 use Rattle.prost_reflect_descriptors.specs.Pools.{pool_rows}
 use Rattle.prost_reflect.specs.View.{value_step, message_step, value_of, content_of, entries_from, pairs_from, payloads_of, key_of}
 use Rattle.prost_reflect.specs.Stored.{StoredMessage, MessageOf, StoredEntries, NothingStored, ValueAt, UnknownAt, BothAt, StoredValue, StoredScalar, StoredInside, StoredList, StoredMap, StoredItems, NoItems, ItemThen, StoredPairs, NoPairs, PairThen, stored_items, stored_pairs, stored_entries, stored_step, stored_message_step, value_stored, message_stored}
-use Rattle.prost_reflect.specs.declared.fields.entry.Entry.{Entry}
-use Rattle.prost_reflect.specs.declared.fields.entry.Entry.TheVariants as entries
+use Rattle.prost_reflect_fields.specs.declared.entry.Entry.{Entry}
+use Rattle.prost_reflect_fields.specs.declared.entry.Entry.TheVariants as entries
 use Rattle.prost_reflect.specs.declared.value.MapKey.{MapKey}
 use Rattle.prost_reflect.specs.declared.value.Value.{Value}
 use Rattle.prost_reflect.specs.declared.value.Value.TheOpen.{Value-F, DynamicMessage-F}
 use Rattle.prost_reflect.specs.declared.value.Value.TheFolds.{fold-roll-Value, fold-roll-DynamicMessage, ind-Value, ind-DynamicMessage, map-Value, map-DynamicMessage}
 use Rattle.prost_reflect.specs.declared.message.DynamicMessage.{DynamicMessage}
-use Rattle.prost_reflect.specs.formers.fields.slots.Slots.{entry_former}
+use Rattle.prost_reflect_fields.specs.formers.slots.Slots.{entry_former}
 use Rattle.prost_reflect.specs.Copies.{SameStored, SameStoring}
 use Rattle.prost_reflect.proofs.StoredViews.{same_types}
 

@@ -23,8 +23,8 @@ use Rattle.prost_reflect_descriptors.specs.declared.message.MessageDescriptor.{M
 use Rattle.prost_reflect_descriptors.specs.contracts.message.MessageDescriptorPartialEq.TheImpl as descriptor_code
 use Rattle.prost_reflect.specs.contracts.value.MapKeyPartialEq.TheImpl as key_eq
 use Rattle.prost_reflect.proofs.Keys.{keys_equal}
-use Rattle.prost_reflect.specs.declared.fields.entry.Entry.{Entry}
-use Rattle.prost_reflect.specs.declared.fields.entry.Entry.TheVariants as entries
+use Rattle.prost_reflect_fields.specs.declared.entry.Entry.{Entry}
+use Rattle.prost_reflect_fields.specs.declared.entry.Entry.TheVariants as entries
 use Rattle.prost_reflect.specs.declared.value.MapKey.{MapKey}
 use Rattle.prost_reflect.specs.declared.value.Value.{Value}
 use Rattle.prost_reflect.specs.declared.value.Value as values
@@ -32,7 +32,7 @@ use Rattle.prost_reflect.specs.declared.value.Value.TheOpen.{Value-F, DynamicMes
 use Rattle.prost_reflect.specs.declared.value.Value.TheViews.{roll-Value, roll-DynamicMessage}
 use Rattle.prost_reflect.specs.declared.value.Value.TheFolds.{fold-roll-Value, fold-roll-DynamicMessage, fold_out-DynamicMessage}
 use Rattle.prost_reflect.specs.declared.message.DynamicMessage.{DynamicMessage}
-use Rattle.prost_reflect.specs.formers.fields.slots.Slots.{entry_former}
+use Rattle.prost_reflect_fields.specs.formers.slots.Slots.{entry_former}
 use Rattle.prost_reflect.specs.View.{descriptor_of, stored_in, key_of}
 use Rattle.prost_reflect.specs.Stored.{StoredMessage, MessageOf, StoredEntries, NothingStored, StoredValue, StoredScalar, StoredList, StoredMap, ItemThen, PairThen, stored_items, stored_pairs, stored_entry, stored_entries, stored_step, stored_message_step, value_stored, message_stored}
 use Rattle.prost_reflect.specs.Same.{same_message, same_value, same_items, same_pairs, same_entries, equal_values, equal_messages}

@@ -9,8 +9,8 @@ use Rattle.prost_reflect_wire.specs.Scalar as scalars
 use Rattle.prost_reflect_wire.specs.Content as contents
 use Rattle.prost_reflect_wire.specs.Content.{Content, ContentOf, ScalarValue, MessageValue, ListValue, MapValue, values_from}
 use Rattle.prost_reflect_descriptors.specs.Descriptors.{schema_at, type_at}
-use Rattle.prost_reflect.specs.declared.fields.entry.Entry.{Entry}
-use Rattle.prost_reflect.specs.declared.fields.entry.Entry.TheVariants as entries
+use Rattle.prost_reflect_fields.specs.declared.entry.Entry.{Entry}
+use Rattle.prost_reflect_fields.specs.declared.entry.Entry.TheVariants as entries
 use Rattle.prost_reflect.specs.declared.value.MapKey.{MapKey}
 use Rattle.prost_reflect.specs.declared.value.Value.{Value}
 use Rattle.prost_reflect.specs.declared.value.Value as values
@@ -18,7 +18,7 @@ use Rattle.prost_reflect.specs.declared.value.Value.TheOpen.{Value-F, DynamicMes
 use Rattle.prost_reflect.specs.declared.value.Value.TheViews.{roll-Value, roll-DynamicMessage}
 use Rattle.prost_reflect.specs.declared.value.Value.TheFolds.{fold-roll-Value, fold-roll-DynamicMessage, fold_out-DynamicMessage}
 use Rattle.prost_reflect.specs.declared.message.DynamicMessage.{DynamicMessage}
-use Rattle.prost_reflect.specs.formers.fields.slots.Slots.{entry_former}
+use Rattle.prost_reflect_fields.specs.formers.slots.Slots.{entry_former}
 use Rattle.prost_reflect.specs.ContentLaws.{ValueViews}
 use Rattle.prost_reflect.specs.View.{value_step, message_step, value_of, content_of, entries_from, pairs_from}
 

@@ -17,7 +17,7 @@ use Rattle.std.specs.Prelude.{slice_get}
 use Rattle.prost_reflect_tables.specs.Shown.{schema_default, schema_kind, enum_kind, own_type, schema_field}
 use Rattle.prost_reflect_descriptors.specs.declared.message.MessageDescriptor.{MessageDescriptor}
 use Rattle.prost_reflect_descriptors.specs.Pools.{pool_rows}
-use Rattle.prost_reflect.specs.Known.{known_of}
+use Rattle.prost_reflect_fields.specs.Known.{known_of}
 use Rattle.prost_reflect.specs.RowKinds.{is_repeated as is_labelled}
 use Rattle.prost_reflect_descriptors.specs.Enums.{first_of}
 use Rattle.prost_reflect.specs.Scalars.{plain_kind, TakesScalar, scalar_record_bytes, zero_like, is_default}

@@ -10,10 +10,10 @@ use Rattle.prost_reflect_wire.specs.Content.{Content, Slot}
 use Rattle.prost_reflect_wire.specs.Writing.{encoded}
 use Rattle.prost_reflect_wire.specs.Typing.{kept, value_valid, value_passes, fit_test}
 use Rattle.prost_reflect_wire.specs.Storing.{slot_bytes}
-use Rattle.prost_reflect.specs.Entries.{value_in, records_in}
-use Rattle.prost_reflect.specs.Known.{are_records_of}
+use Rattle.prost_reflect_fields.specs.Entries.{value_in, records_in}
+use Rattle.prost_reflect_fields.specs.Known.{are_records_of}
 use Rattle.prost_reflect.specs.View.{value_of, payloads_of}
-use Rattle.prost_reflect.specs.declared.fields.entry.Entry.{Entry}
+use Rattle.prost_reflect_fields.specs.declared.entry.Entry.{Entry}
 use Rattle.prost_reflect.specs.declared.value.Value.{Value}
 
 -- The slot of an entry: what its value is, and the payloads of its unknown records.

@@ -1,10 +1,3 @@
-pub mod Items
-pub mod Entries
-pub mod Known
-pub mod Sound
-pub mod Members
-pub mod Lending
-pub mod Codes
 pub mod View
 pub mod Keys
 pub mod Contents
@@ -15,7 +8,6 @@ pub mod Variants
 pub mod Lent
 pub mod Stored
 pub mod Same
-pub mod formers
 pub mod Scalars
 pub mod RowKinds
 pub mod Maps

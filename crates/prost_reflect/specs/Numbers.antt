@@ -10,7 +10,7 @@ use Rattle.prost_reflect_tables.specs.Rows.{EnumRow}
 use Rattle.prost_reflect_tables.specs.Shown.{schema_kind}
 use Rattle.prost_reflect_descriptors.specs.declared.message.MessageDescriptor.{MessageDescriptor}
 use Rattle.prost_reflect.specs.Contents.{value_set, unknown_added}
-use Rattle.prost_reflect.specs.Known.{known_of}
+use Rattle.prost_reflect_fields.specs.Known.{known_of}
 use Rattle.prost_reflect.specs.Lists.{with_element}
 use Rattle.prost_reflect_descriptors.specs.Pools.{pool_rows}
 use Rattle.prost_reflect.specs.Scalars.{is_stray_number}

@@ -6,7 +6,7 @@ use Rattle.prost_reflect_wire.specs.Content as content
 use Rattle.prost_reflect_wire.specs.Content.{Content, ContentOf, Slot, slot_at, numbers_in}
 use Rattle.prost_reflect_wire.specs.Typing.{kept_value, kept_inside}
 use Rattle.prost_reflect.specs.Encoding.{entry_slot}
-use Rattle.prost_reflect.specs.declared.fields.entry.Entry.{Entry}
+use Rattle.prost_reflect_fields.specs.declared.entry.Entry.{Entry}
 use Rattle.prost_reflect.specs.declared.value.Value.{Value}
 use Rattle.prost_reflect.specs.declared.message.present.PresentNumber.{PresentNumber}
 use Rattle.prost_reflect.specs.declared.message.present.PresentNumber.TheVariants.{Field as FieldNumber, Extension as ExtensionNumber, Unknown as UnknownNumber}

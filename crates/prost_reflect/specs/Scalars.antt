@@ -17,7 +17,7 @@ use Rattle.prost_reflect_tables.specs.declared.tables.TableKind.TheVariants.{Dou
 use Rattle.prost_reflect_tables.specs.Rows.{FieldRow, EnumRow}
 use Rattle.prost_reflect_tables.specs.Shown.{schema_kind}
 use Rattle.prost_reflect_descriptors.specs.Pools.{pool_rows}
-use Rattle.prost_reflect.specs.Known.{known_of}
+use Rattle.prost_reflect_fields.specs.Known.{known_of}
 use Rattle.prost_reflect_descriptors.specs.Enums.{first_of, numbers_of}
 use Rattle.prost_reflect_descriptors.specs.declared.message.MessageDescriptor.{MessageDescriptor}
 use Rattle.prost_reflect.specs.declared.value.Value.{Value}

@@ -8,8 +8,8 @@ use Rattle.prost_reflect_wire.specs.Content.{Content}
 use Rattle.prost_reflect_tables.specs.Rows.{TableRows}
 use Rattle.prost_reflect_descriptors.specs.Pools.{pool_rows, pool_contents}
 use Rattle.prost_reflect.specs.View.{key_of}
-use Rattle.prost_reflect.specs.declared.fields.entry.Entry.{Entry}
-use Rattle.prost_reflect.specs.declared.fields.entry.Entry.TheVariants.{Value as ValueEntry, Unknown as UnknownEntry, Both as BothEntry}
+use Rattle.prost_reflect_fields.specs.declared.entry.Entry.{Entry}
+use Rattle.prost_reflect_fields.specs.declared.entry.Entry.TheVariants.{Value as ValueEntry, Unknown as UnknownEntry, Both as BothEntry}
 use Rattle.prost_reflect.specs.declared.value.MapKey.{MapKey}
 use Rattle.prost_reflect.specs.declared.value.Value.{Value, fold-Value}
 use Rattle.prost_reflect.specs.declared.value.Value.TheOpen.{Value-F, DynamicMessage-F}

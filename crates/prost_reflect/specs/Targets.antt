@@ -7,7 +7,7 @@ use Rattle.prost_reflect_wire.specs.declared.error.DecodeError.TheVariants as er
 use Rattle.prost_reflect_wire.specs.Schema.{Kind, MessageOf, GroupOf, Singular, Repeated, Field, field_of}
 use Rattle.prost_reflect_wire.specs.Fault.{same_wire}
 use Rattle.prost_reflect_descriptors.specs.Pools.{pool_rows}
-use Rattle.prost_reflect.specs.Known.{known_of}
+use Rattle.prost_reflect_fields.specs.Known.{known_of}
 use Rattle.prost_reflect_tables.specs.declared.tables.TableKind.{TableKind}
 use Rattle.prost_reflect_tables.specs.declared.tables.TableKind.TheVariants as kinds
 use Rattle.prost_reflect_tables.specs.Rows.{FieldRow}

@@ -6,11 +6,11 @@ use Rattle.prost_reflect_wire.specs.Scalar.{Scalar}
 use Rattle.prost_reflect_wire.specs.Content as contents
 use Rattle.prost_reflect_wire.specs.Content.{Content, ContentOf, Entries, NoEntries, Values, Pairs, NoPairs, Pair, Slot, ScalarValue, MessageValue, ListValue, MapValue, values_from, store}
 use Rattle.prost_reflect_descriptors.specs.Descriptors.{schema_at, type_at}
-use Rattle.prost_reflect.specs.Known.{known_of}
-use Rattle.prost_reflect.specs.Sound.{prepared}
-use Rattle.prost_reflect.specs.Entries.{value_in, records_in, with_value}
+use Rattle.prost_reflect_fields.specs.Known.{known_of}
+use Rattle.prost_reflect_fields.specs.Sound.{prepared}
+use Rattle.prost_reflect_fields.specs.Entries.{value_in, records_in, with_value}
 use Rattle.prost_reflect_descriptors.specs.declared.message.MessageDescriptor.{MessageDescriptor}
-use Rattle.prost_reflect.specs.declared.fields.entry.Entry.{Entry}
+use Rattle.prost_reflect_fields.specs.declared.entry.Entry.{Entry}
 use Rattle.prost_reflect.specs.declared.value.MapKey.{MapKey}
 use Rattle.prost_reflect.specs.declared.value.MapKey.TheVariants as keys
 use Rattle.prost_reflect.specs.declared.value.Value.{Value, fold-Value}

@@ -1,9 +1,6 @@
 //! Protocol Buffers messages whose types are known only at run time.
 #![tactic(auto)]
 
-#[cfg(test)]
-mod choices;
-mod fields;
 mod laws;
 mod message;
 mod value;

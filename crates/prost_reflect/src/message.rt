@@ -9,16 +9,14 @@ ghost use Rattle.prost_reflect_wire.specs.Edit.{cleared};
 ghost use Rattle.prost_reflect.specs.contracts.message.DynamicMessage.{the_row};
 ghost use Rattle.prost_reflect.specs.contracts.value.Value as value;
 ghost use Rattle.prost_reflect_descriptors.specs.Descriptors.{schema_at, type_at};
-ghost use Rattle.prost_reflect.specs.Items.{IsAscending};
-ghost use Rattle.prost_reflect.specs.Known.{known_of, is_known, keeps_unknown};
-ghost use Rattle.prost_reflect.specs.Entries.{records_at};
-ghost use Rattle.prost_reflect.specs.Sound.{IsSound};
+ghost use Rattle.prost_reflect_fields.specs.Items.{IsAscending};
+ghost use Rattle.prost_reflect_fields.specs.Known.{known_of, is_known, keeps_unknown};
+ghost use Rattle.prost_reflect_fields.specs.Entries.{records_at};
+ghost use Rattle.prost_reflect_fields.specs.Sound.{IsSound};
 ghost use Rattle.prost_reflect.specs.declared.value.Value.{Value};
 ghost use Rattle.prost_reflect.specs.View.{content_of, value_of, descriptor_of, stored_in, written_at};
 ghost use Rattle.prost_reflect.specs.Contents.{value_set, value_cleared, unknown_added};
 
-#[cfg(test)]
-mod change_tests;
 mod copy;
 mod decode;
 pub(crate) mod defaults;
@@ -27,25 +25,19 @@ mod encode;
 mod entries;
 mod enums;
 mod equality;
-#[cfg(test)]
-mod equality_tests;
 mod list;
 mod map;
 mod nested;
 mod numbers;
 mod pairs;
 mod present;
-#[cfg(test)]
-mod present_tests;
 mod scalar;
-#[cfg(test)]
-mod tests;
 
-use crate::fields::entry::Entry;
-use crate::fields::slots::Slots;
 use crate::value::Value;
 pub use present::PresentNumber;
 use prost_reflect_descriptors::MessageDescriptor;
+use prost_reflect_fields::entry::Entry;
+use prost_reflect_fields::slots::Slots;
 use prost_reflect_wire::{UnknownField, UnknownFieldSet};
 use std::alloc::{AllocError, Global};
 

@@ -4,8 +4,6 @@ mod access;
 mod access_mut;
 mod key_access;
 mod keys;
-#[cfg(test)]
-mod tests;
 
 use crate::message::DynamicMessage;
 use std::alloc::AllocError;

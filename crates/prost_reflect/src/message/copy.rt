@@ -4,11 +4,11 @@ ghost use Rattle.std.specs.Prelude.{◌≡◌, IfOk, map};
 ghost use Rattle.prost_reflect.specs.Copies.{SameStored, SameStoring, pairs_seen};
 ghost use Rattle.prost_reflect.specs.Stored.{value_stored, message_stored};
 
-use crate::fields::entry::Entry;
-use crate::fields::slots::Slots;
-use crate::fields::sorted::Sorted;
 use crate::message::DynamicMessage;
 use crate::value::{MapKey, Value};
+use prost_reflect_fields::entry::Entry;
+use prost_reflect_fields::slots::Slots;
+use prost_reflect_fields::sorted::Sorted;
 use std::alloc::AllocError;
 use std::collections::BTreeMap;
 use std::default::Emptied;

@@ -8,7 +8,7 @@ ghost use Rattle.prost_reflect_wire.specs.Typing.{kept, WellStored};
 ghost use Rattle.prost_reflect_wire.specs.Fault.{StandsInMessage};
 ghost use Rattle.prost_reflect_wire.specs.Decoding.{Progress, Step, StandsBehindKey};
 ghost use Rattle.prost_reflect_descriptors.specs.Descriptors.{schema_at, type_at};
-ghost use Rattle.prost_reflect.specs.Known.{known_of};
+ghost use Rattle.prost_reflect_fields.specs.Known.{known_of};
 ghost use Rattle.prost_reflect.specs.Scalars.{PlainField, StaysUnknown};
 ghost use Rattle.prost_reflect_tables.specs.Rows.{field_row};
 ghost use Rattle.prost_reflect_descriptors.specs.MapParts.{map_parts};

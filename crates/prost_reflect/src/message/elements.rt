@@ -7,7 +7,7 @@ ghost use Rattle.prost_reflect_wire.specs.Content.{MessageValue, entries_of, val
 ghost use Rattle.prost_reflect_wire.specs.Typing.{WellStored};
 ghost use Rattle.prost_reflect_wire.specs.Decoding.{Step, StandsBehindKey};
 ghost use Rattle.prost_reflect.specs.Contents.{value_set};
-ghost use Rattle.prost_reflect.specs.Known.{known_of, is_known};
+ghost use Rattle.prost_reflect_fields.specs.Known.{known_of, is_known};
 ghost use Rattle.prost_reflect.specs.Lists.{IsList, IsListOrNone, with_element};
 ghost use Rattle.prost_reflect.specs.Targets.{NestedList};
 ghost use Rattle.prost_reflect.specs.View.{value_of, content_of, descriptor_of};

@@ -18,13 +18,12 @@ ghost use Rattle.prost_reflect.specs.Encoding.{entry_slot, unknown_bytes, nested
 ghost use Rattle.prost_reflect_wire.specs.Scalar.{EnumNumber};
 ghost use Rattle.prost_reflect_descriptors.specs.Enums.{first_of};
 ghost use Rattle.prost_reflect_descriptors.specs.Pools.{pool_rows};
-ghost use Rattle.prost_reflect.specs.Known.{known_of};
+ghost use Rattle.prost_reflect_fields.specs.Known.{known_of};
 ghost use Rattle.prost_reflect.specs.NestedMaps.{NestedMapOfRows, AreEntries, nested_entry_bytes, nested_pairs_bytes};
 ghost use Rattle.prost_reflect_wire.specs.Content.{ScalarValue};
 ghost use Rattle.prost_reflect.specs.View.{key_of, value_of, content_of};
 ghost use Rattle.prost_reflect.specs.Scalars.{plain_kind, TakesScalar, scalar_bytes, scalar_record_bytes, kept_scalar_bytes, is_zero, equals, is_default};
 
-use crate::fields::entry::Entry;
 use crate::message::DynamicMessage;
 use crate::message::defaults::{equals_written, is_repeated};
 use crate::message::enums::first_number;
@@ -34,6 +33,7 @@ use crate::message::scalar::wire_type_of;
 use crate::value::{MapKey, Value};
 use prost_reflect_descriptors::MessageDescriptor;
 use prost_reflect_descriptors::rows::{field_table, map_parts};
+use prost_reflect_fields::entry::Entry;
 use prost_reflect_tables::{FieldTable, TableKind};
 use prost_reflect_wire::{
     BackBuffer, EncodeError, WireType, prepend_fields, sign_extended, zigzag32, zigzag64,

@@ -5,9 +5,9 @@ ghost use Rattle.prost_reflect.specs.Stored.{stored_items, stored_pairs, value_s
 ghost use Rattle.prost_reflect.specs.Same.{same_items, same_pairs, equal_values, equal_messages, value_laws, message_laws};
 ghost use Rattle.prost_reflect.specs.View.{content_of, value_of};
 
-use crate::fields::entry::Entry;
 use crate::message::DynamicMessage;
 use crate::value::{MapKey, Value};
+use prost_reflect_fields::entry::Entry;
 use std::collections::BTreeMap;
 
 impl PartialEq for Value {

@@ -7,7 +7,7 @@ ghost use Rattle.prost_reflect_wire.specs.Schema.{is_packable};
 ghost use Rattle.prost_reflect_wire.specs.Content.{type_of};
 ghost use Rattle.prost_reflect_wire.specs.Typing.{WellStored};
 ghost use Rattle.prost_reflect_wire.specs.Decoding.{Step, StandsBehindKey};
-ghost use Rattle.prost_reflect.specs.Known.{known_of};
+ghost use Rattle.prost_reflect_fields.specs.Known.{known_of};
 ghost use Rattle.prost_reflect.specs.Lists.{AddsPacked, RefusesPacked, AddsElements, RefusesElements, JoinsElements, IsList, ListField, TakesScalars, payloads_bytes, records_bytes, packed_bytes, list_bytes};
 ghost use Rattle.prost_reflect.specs.Scalars.{plain_kind};
 ghost use Rattle.prost_reflect.specs.View.{value_of, content_of, descriptor_of};

@@ -9,7 +9,7 @@ ghost use Rattle.prost_reflect_wire.specs.Typing.{WellStored};
 ghost use Rattle.prost_reflect_wire.specs.Decoding.{Step, StandsBehindKey};
 ghost use Rattle.prost_reflect_wire.specs.EntryReading.{IsMapped, BodyFault};
 ghost use Rattle.prost_reflect.specs.Contents.{value_set};
-ghost use Rattle.prost_reflect.specs.Known.{known_of, is_known};
+ghost use Rattle.prost_reflect_fields.specs.Known.{known_of, is_known};
 ghost use Rattle.prost_reflect.specs.Maps.{ScalarMap, IsDefaultOf, IsAbsentValue, ReadsEntry, RefusesEntry};
 ghost use Rattle.prost_reflect_descriptors.specs.Pools.{pool_rows};
 ghost use Rattle.prost_reflect.specs.Scalars.{plain_kind};

@@ -10,7 +10,7 @@ ghost use Rattle.prost_reflect_wire.specs.Scalar.{Enum, Open};
 ghost use Rattle.prost_reflect_wire.specs.Typing.{WellStored};
 ghost use Rattle.prost_reflect_wire.specs.Decoding.{ScalarFault, Step, StandsBehindKey};
 ghost use Rattle.prost_reflect.specs.Contents.{value_set};
-ghost use Rattle.prost_reflect.specs.Known.{known_of, is_known};
+ghost use Rattle.prost_reflect_fields.specs.Known.{known_of, is_known};
 ghost use Rattle.prost_reflect.specs.Numbers.{NumberList, BodyTaken, number_taken};
 ghost use Rattle.prost_reflect_descriptors.specs.Pools.{pool_rows};
 ghost use Rattle.prost_reflect.specs.View.{content_of, descriptor_of};

@@ -7,7 +7,7 @@ ghost use Rattle.prost_reflect_wire.specs.Typing.{value_valid};
 ghost use Rattle.prost_reflect_wire.specs.Storing.{value_bytes};
 ghost use Rattle.prost_reflect_wire.specs.Buffer.{bytes_of, Prepended};
 ghost use Rattle.prost_reflect_tables.specs.Rows.{field_row};
-ghost use Rattle.prost_reflect.specs.Known.{known_of};
+ghost use Rattle.prost_reflect_fields.specs.Known.{known_of};
 ghost use Rattle.prost_reflect.specs.Maps.{TakesPairs, key_bytes, entry_bytes, pairs_bytes, IsMap, MapOfRows};
 ghost use Rattle.prost_reflect_descriptors.specs.Pools.{pool_rows};
 ghost use Rattle.prost_reflect.specs.Scalars.{plain_kind, TakesScalar, scalar_bytes, scalar_record_bytes, is_zero};

@@ -3,16 +3,16 @@
 ghost use Rattle.std.specs.Prelude.{◌≡◌, ◌++◌, IfOk, OnOk};
 ghost use Rattle.prost_reflect_wire.specs.Schema.{field_of};
 ghost use Rattle.prost_reflect_wire.specs.Typing.{kept, kept_value, kept_inside};
-ghost use Rattle.prost_reflect.specs.Known.{known_of};
+ghost use Rattle.prost_reflect_fields.specs.Known.{known_of};
 ghost use Rattle.prost_reflect.specs.Present.{present_in, entry_present, value_present};
 ghost use Rattle.prost_reflect.specs.View.{value_of, content_of};
 
-use crate::fields::entry::Entry;
 use crate::message::DynamicMessage;
 use crate::message::defaults::is_field_default;
 use crate::value::Value;
 use prost_reflect_descriptors::MessageDescriptor;
 use prost_reflect_descriptors::rows::field_table;
+use prost_reflect_fields::entry::Entry;
 use std::alloc::{AllocError, Global};
 
 /// A number at which a message has something.

@@ -1,6 +1,6 @@
 use Rattle.std.proofs.Common.{◌≡◌, ◌++◌, drop}
 use Rattle.std.specs.Prelude.{flat_map}
-use Rattle.prost_reflect.specs.Known.{known_of}
+use Rattle.prost_reflect_fields.specs.Known.{known_of}
 use Rattle.prost_reflect.specs.View.{descriptor_of}
 use Rattle.prost_reflect.specs.Present.{entry_present}
 use Rattle.prost_reflect.proofs.message.DynamicMessage.present_numbers.Given as goal

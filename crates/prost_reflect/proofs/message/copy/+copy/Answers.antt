@@ -4,9 +4,9 @@ use Rattle.std.specs.List.Sorted.{IsStrictlySortedBy}
 use Rattle.std.specs.Map.{keys_of}
 use Rattle.prost_reflect_wire.specs.Scalar.{Bytes}
 use Rattle.prost_reflect_descriptors.specs.Descriptors.{SameMessage}
-use Rattle.prost_reflect.specs.Items.{IsAscending}
+use Rattle.prost_reflect_fields.specs.Items.{IsAscending}
 use Rattle.prost_reflect_descriptors.specs.declared.message.MessageDescriptor.{MessageDescriptor}
-use Rattle.prost_reflect.specs.declared.fields.entry.Entry.{Entry}
+use Rattle.prost_reflect_fields.specs.declared.entry.Entry.{Entry}
 use Rattle.prost_reflect.specs.declared.value.MapKey.{MapKey}
 use Rattle.prost_reflect.specs.declared.value.Value.{Value}
 use Rattle.prost_reflect.specs.ContentLaws.{compare_keys}

@@ -2,17 +2,17 @@ use Rattle.std.proofs.Common.{rules, ◌≡◌, refl, ◌∷◌, Some, ap, sym, 
 use Rattle.std.proofs.lemmas.Result.{err_from_is_err_and}
 use Rattle.prost_reflect_tables.specs.Rows.{field_row}
 use Rattle.prost_reflect_wire.specs.declared.unknown.UnknownFieldSet.{UnknownFieldSet}
-use Rattle.prost_reflect.specs.declared.fields.entry.Entry.{Entry}
-use Rattle.prost_reflect.specs.declared.fields.entry.Entry.TheVariants as entries
+use Rattle.prost_reflect_fields.specs.declared.entry.Entry.{Entry}
+use Rattle.prost_reflect_fields.specs.declared.entry.Entry.TheVariants as entries
 use Rattle.prost_reflect.specs.declared.value.Value.{Value, the_lemmas}
 use Rattle.prost_reflect.specs.declared.value.Value.TheBlock.{the_depth, member-Value}
 use Rattle.prost_reflect.specs.View.{value_of}
-use Rattle.prost_reflect.specs.Entries.{value_in}
+use Rattle.prost_reflect_fields.specs.Entries.{value_in}
 use Rattle.prost_reflect.proofs.Encodings.{whole_written, entry_writable, unknown_too_long, value_too_long}
 use Rattle.prost_reflect.proofs.NestedWrites.{nested_written, no_message_value}
 use Rattle.prost_reflect.proofs.WrittenValues.{row_written}
 use Rattle.prost_reflect.specs.RowKinds.{names_message}
-use Rattle.prost_reflect.specs.Known.{known_of}
+use Rattle.prost_reflect_fields.specs.Known.{known_of}
 use Rattle.prost_reflect.proofs.Merging.{no_message_kind}
 use Rattle.prost_reflect.proofs.WrittenLists.{valid_list_value, row_list_written, takes_same, list_value_bytes, flat_before, flat_too_long}
 use Rattle.prost_reflect.proofs.RepeatedRows.{listed_form, map_of_rows}

@@ -5,7 +5,7 @@ use Rattle.prost_reflect.specs.NestedMaps.{nested_pairs_bytes}
 use Rattle.prost_reflect.specs.declared.value.MapKey.{MapKey}
 use Rattle.prost_reflect.specs.declared.value.Value.{Value}
 use Rattle.prost_reflect_wire.specs.Buffer.{bytes_of}
-use Rattle.prost_reflect.specs.Known.{known_of}
+use Rattle.prost_reflect_fields.specs.Known.{known_of}
 use Rattle.prost_reflect.specs.View.{descriptor_of, stored_in}
 use Rattle.prost_reflect.specs.Encoding.{entries_bytes}
 use Rattle.prost_reflect.specs.Lists.{elements_bytes}

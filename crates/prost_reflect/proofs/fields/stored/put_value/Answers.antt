@@ -1,9 +1,0 @@
-use Rattle.std.proofs.Common.{ap, ◌∙◌}
-use Rattle.prost_reflect.specs.Entries.{put_entry}
-use Rattle.prost_reflect.specs.Items.{with_item}
-use Rattle.prost_reflect.proofs.fields.stored.put_value.Goals as goal
-
-pub returns-in-Some-clause-ok : goal.returns-in-Some-clause-ok
-returns-in-Some-clause-ok g c =
-    let es = g.S.NumberMap.entries c.args.fields.now in
-    c.get_mut.follows.holds c.put.new.self ∙ ap (with_item es c.args.number) c.put.ensures ∙ ap (put_entry es c.args.number c.args.value) c.in-Some.ensures.value

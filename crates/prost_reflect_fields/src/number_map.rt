@@ -1,0 +1,85 @@
+//! Maps from numbers.
+
+ghost use Rattle.std.specs.Prelude.{◌≡◌, ◌<◌, ℕ, List, length, OnOk, OnErr};
+ghost use Rattle.std.specs.Borrow.{LendsSo, sem};
+ghost use Rattle.std.specs.Option.{option_copied, option_copied_mut, option_map};
+ghost use Rattle.prost_reflect_fields.specs.Items.{IsAscending, item_at, with_item, put_item, without_item, first_from, last_below};
+
+use std::alloc::AllocError;
+use std::collections::BTreeMap;
+
+/// A map from numbers, which can be walked from any number in ascending and in descending order.
+pub trait NumberMap<T> {
+    ghost entries: { Self → List (ℕ × T) };
+
+    /// How many numbers have an item.
+    fn len(&self) -> usize
+        ensures len { result ≡ length (entries self.now) }
+        ensures ascending { IsAscending (entries self.now) };
+
+    /// The item at the number.
+    fn get(&self, number: u32) -> Option<&T>
+        ensures { option_copied result ≡ item_at (entries self.now) number };
+
+    /// The item at the number, for writing.
+    fn get_mut(&mut self, number: u32) -> Option<&mut T>
+        ensures* writes_back { sem 𝓛 (LendsSo Self.row T.row self.entry result (λ after w. entries after ≡ with_item (entries self.old) number w) (λ after. entries after ≡ entries self.old)) }
+        ensures value { option_copied_mut result ≡ item_at (entries self.old) number };
+
+    /// Puts the item at the number, in place of one that is there. A refused growth changes nothing.
+    fn insert(&mut self, number: u32, item: T) -> Result<(), AllocError>
+        ensures ok { OnOk result (entries self.new ≡ put_item (entries self.old) number item) }
+        ensures err { OnErr result (entries self.new ≡ entries self.old) };
+
+    /// Takes the item at the number.
+    fn remove(&mut self, number: u32) -> Option<T>
+        ensures removed { result ≡ item_at (entries self.old) number }
+        ensures entries { entries self.new ≡ without_item (entries self.old) number };
+
+    /// The first item at the number or above it.
+    fn first_from(&self, number: u32) -> Option<(u32, &T)>
+        ensures { option_map (λ p. (p.0, p.1.now)) result ≡ first_from (entries self.now) number };
+
+    /// The last item below the number.
+    fn last_below(&self, number: u32) -> Option<(u32, &T)>
+        ensures { option_map (λ p. (p.0, p.1.now)) result ≡ last_below (entries self.now) number };
+}
+
+impl<T: Drop> NumberMap<T> for BTreeMap<u32, T> {
+    ghost entries = { λ m. m.entries };
+
+    fn len(&self) -> usize {
+        self.len()
+    }
+
+    fn get(&self, number: u32) -> Option<&T> {
+        self.get(&number)
+    }
+
+    fn get_mut(&mut self, number: u32) -> Option<&mut T> {
+        self.get_mut(&number)
+    }
+
+    fn insert(&mut self, number: u32, item: T) -> Result<(), AllocError> {
+        self.insert(number, item)?;
+        Ok(())
+    }
+
+    fn remove(&mut self, number: u32) -> Option<T> {
+        self.remove(&number)
+    }
+
+    fn first_from(&self, number: u32) -> Option<(u32, &T)> {
+        match self.range(number..).next() {
+            Some((found, item)) => Some((*found, item)),
+            None => None,
+        }
+    }
+
+    fn last_below(&self, number: u32) -> Option<(u32, &T)> {
+        match self.range(..number).next_back() {
+            Some((found, item)) => Some((*found, item)),
+            None => None,
+        }
+    }
+}

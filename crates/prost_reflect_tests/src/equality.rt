@@ -1,0 +1,101 @@
+//! Which messages and values are equal.
+
+mod samples;
+
+use prost_reflect::{
+    DescriptorPool, DynamicMessage, MapKey, MessageDescriptor, Value, builtin_pool,
+};
+use samples::sample_pool;
+use std::alloc::Global;
+use std::collections::BTreeMap;
+use std::test::Fail;
+
+fn message_type(pool: &DescriptorPool, full_name: &str) -> Result<MessageDescriptor, Fail> {
+    let found = pool.get_message_by_name(full_name)?;
+    Ok(found.ok_or("no such message type")?)
+}
+
+fn sample(alloc: Global, full_name: &str, bytes: &[u8]) -> Result<DynamicMessage, Fail> {
+    let descriptor = message_type(&sample_pool(alloc)?, full_name)?;
+    Ok(DynamicMessage::decode(alloc, descriptor, bytes)?)
+}
+
+/// A stored default of a field without presence is unequal to none.
+#[test]
+fn a_stored_default_counts(rt: HostRuntime) -> Result<(), Fail> {
+    let fresh = sample(rt.alloc(), "package.MyMessage", &[])?;
+    let mut message = sample(rt.alloc(), "package.MyMessage", &[0x08, 0])?;
+    assert!(rt; message != fresh);
+    message.clear();
+    assert!(rt; message == fresh);
+    Ok(())
+}
+
+/// A message of `MyMessage` with `foo`, in so many lists.
+fn nested(alloc: Global, depth: u32, foo: u8) -> Result<Value, Fail> {
+    let bytes = [0x08, foo];
+    let mut value = Value::Message(sample(alloc, "package.MyMessage", &bytes)?);
+    for _ in 0..depth {
+        let mut items = Vec::new(alloc);
+        items.push(value)?;
+        value = Value::List(items);
+    }
+    Ok(value)
+}
+
+#[test]
+fn a_value_150_deep_is_copied_and_compared(rt: HostRuntime) -> Result<(), Fail> {
+    let value = nested(rt.alloc(), 150, 5)?;
+    assert!(rt; value == value.clone()?);
+    assert!(rt; value != nested(rt.alloc(), 150, 6)?);
+    Ok(())
+}
+
+fn counts(alloc: Global, pairs: &[(&str, i32)]) -> Result<Value, Fail> {
+    let mut map = BTreeMap::new(alloc);
+    for (key, count) in pairs {
+        drop(map.insert(
+            MapKey::String(String::from_str(alloc, key)?),
+            Value::I32(*count),
+        )?);
+    }
+    Ok(Value::Map(map))
+}
+
+#[test]
+fn entries_are_equal_in_any_order_of_putting(rt: HostRuntime) -> Result<(), Fail> {
+    let map = counts(rt.alloc(), &[("a", 1), ("b", 2)])?;
+    assert!(rt; map == counts(rt.alloc(), &[("b", 2), ("a", 1)])?);
+    assert!(rt; map != counts(rt.alloc(), &[("a", 2), ("b", 1)])?);
+    Ok(())
+}
+
+/// A NaN is equal to itself, and the zeros are not equal.
+#[test]
+fn values_are_equal_by_bits(rt: HostRuntime) {
+    assert!(rt; Value::F32(0x7fc0_0000) == Value::F32(0x7fc0_0000));
+    assert!(rt; Value::F32(0) != Value::F32(0x8000_0000));
+}
+
+fn kept(alloc: Global, bytes: &[u8]) -> Result<DynamicMessage, Fail> {
+    let descriptor = message_type(&builtin_pool(alloc)?, "builtin.Kept")?;
+    Ok(DynamicMessage::decode(alloc, descriptor, bytes)?)
+}
+
+/// The numbers 10 and 11 are of no field.
+#[test]
+fn unknown_fields_count(rt: HostRuntime) -> Result<(), Fail> {
+    let message = kept(rt.alloc(), &[0x50, 3, 0x50, 4, 0x58, 1])?;
+    assert!(rt; message == kept(rt.alloc(), &[0x50, 3, 0x58, 1, 0x50, 4])?);
+    assert!(rt; message != kept(rt.alloc(), &[0x50, 4, 0x50, 3, 0x58, 1])?);
+    Ok(())
+}
+
+/// Pools that were made apart show the same, and types are told apart by their places.
+#[test]
+fn types_count(rt: HostRuntime) -> Result<(), Fail> {
+    let message = sample(rt.alloc(), "package.MyMessage", &[])?;
+    assert!(rt; message == sample(rt.alloc(), "package.MyMessage", &[])?);
+    assert!(rt; message != sample(rt.alloc(), "package.P", &[])?);
+    Ok(())
+}

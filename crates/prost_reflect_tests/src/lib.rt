@@ -1,0 +1,18 @@
+//! Tests of `prost_reflect` and `prost_reflect_fields`, through their public calls. They stand in a crate of their own, so
+//! that the gate need not prove those a second time with them.
+#![tactic(auto)]
+
+#[cfg(test)]
+mod changes;
+#[cfg(test)]
+mod choices;
+#[cfg(test)]
+mod equality;
+#[cfg(test)]
+mod fields;
+#[cfg(test)]
+mod messages;
+#[cfg(test)]
+mod present;
+#[cfg(test)]
+mod values;
