@@ -26,6 +26,7 @@ mod SameOptions
 pub mod EqualFiles
 mod WorkedFiles
 mod EnumNumbers
+mod Spans
 pub mod Adding
 pub mod Refusing
 pub mod Built

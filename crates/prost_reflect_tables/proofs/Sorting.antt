@@ -107,7 +107,7 @@ is_in_order fields sorted up h = one_order (λ (r : FieldRow). r.number) sorted 
 
 -- A STABLE SORT
 
-rising_from : {X : Type 0} (n : X → ℕ) (low : ℕ) (xs : List X) → IsNonDecreasingBy n xs → ((d : X) → 0 < length xs → low ≤ n (get_or xs 0 d)) → Rising n low xs
+pub rising_from : {X : Type 0} (n : X → ℕ) (low : ℕ) (xs : List X) → IsNonDecreasingBy n xs → ((d : X) → 0 < length xs → low ≤ n (get_or xs 0 d)) → Rising n low xs
 rising_from n low [] h first = tt
 rising_from n low (x ∷ xs) h first =
     (first x (omega arith), rising_from n (n x) xs (λ i j d le lt. h (suc i) (suc j) d (omega arith) (omega arith)) (λ d some. h 0 1 d (omega arith) (omega arith)))

@@ -20,6 +20,7 @@ pub mod Built
 pub mod Adding
 pub mod ReadErrors
 pub mod Indexed
+pub mod Spans
 pub mod Options
 pub mod Linking
 pub mod InRange

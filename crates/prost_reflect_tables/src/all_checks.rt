@@ -17,7 +17,8 @@ use crate::flatten::Flat;
 use crate::index::{Index, has_duplicate_name, indexed};
 use crate::numbers::has_duplicate_number;
 use crate::options::has_bad_options;
-use crate::references::{has_missing_dependency, has_outside_range, has_unknown_type};
+use crate::ranges::has_outside_range;
+use crate::references::{has_missing_dependency, has_unknown_type};
 use prost_reflect_records::FileDescriptorProto;
 use std::alloc::Global;
 
@@ -83,7 +84,7 @@ pub fn check(alloc: Global, files: &[&FileDescriptorProto], flat: &Flat) -> Resu
     if has_duplicate_number(alloc, &index, flat)? {
         return Err(PoolError::DuplicateNumber);
     }
-    if has_outside_range(&index, flat) {
+    if has_outside_range(alloc, &index, flat)? {
         return Err(PoolError::OutsideRange);
     }
     if has_bad_map_entry(&index, flat) {

@@ -17,6 +17,7 @@ mod lookup;
 mod names;
 mod numbers;
 mod options;
+mod ranges;
 mod references;
 mod tables;
 

@@ -26,7 +26,7 @@ use prost_reflect_records::{EnumValueDescriptorProto, FieldDescriptorProto, Oneo
 use std::alloc::{AllocError, Global};
 
 /// A number that is absent or negative counts as 0.
-fn natural_or_zero(number: Option<i32>) -> u32
+pub fn natural_or_zero(number: Option<i32>) -> u32
     ensures { result ≡ natural_or_zero number }
 {
     match number {

@@ -3,7 +3,7 @@
 ghost use Rattle.std.specs.Prelude.{◌≡◌, IfOk, map, is_none, string_bytes};
 ghost use Rattle.std.specs.List.{list_any};
 ghost use Rattle.std.specs.BTreeMap.{get_by_text};
-ghost use Rattle.prost_reflect_tables.specs.Faults.{is_code, is_message_type, place_of, file_names, message_names, enum_names, dependency_missing, missing_dependency, names_nothing, type_unknown, extendee_unknown, method_type_unknown, unknown_type, is_in_range, extension_outside, outside_range};
+ghost use Rattle.prost_reflect_tables.specs.Faults.{is_code, is_message_type, place_of, file_names, message_names, enum_names, dependency_missing, missing_dependency, names_nothing, type_unknown, extendee_unknown, method_type_unknown, unknown_type};
 ghost use Rattle.prost_reflect_tables.specs.FlatViews.{definition_row, file_list, message_row, service_row, flat_rows, text_list};
 ghost use Rattle.prost_reflect_tables.specs.Indexed.{IsIndexOf, IsIndex};
 
@@ -11,9 +11,7 @@ use crate::checks::{is_code, is_message_type};
 use crate::flatten::{Definition, Flat, FlatMessage, FlatService};
 use crate::index::{Index, enum_place, index_of, message_place};
 use crate::names::text_or_empty;
-use prost_reflect_records::{
-    ExtensionRange, FieldDescriptorProto, FileDescriptorProto, MethodDescriptorProto,
-};
+use prost_reflect_records::{FieldDescriptorProto, FileDescriptorProto, MethodDescriptorProto};
 use std::alloc::{AllocError, Global};
 use std::collections::BTreeMap;
 
@@ -212,65 +210,4 @@ pub fn has_unknown_type(index: &Index, flat: &Flat) -> bool
         || has_type_unknown_in(index, flat, flat.extensions.as_slice())
         || has_extendee_unknown(index, flat, flat.extensions.as_slice())
         || has_method_type_unknown_of(index, flat, flat.services.as_slice())
-}
-
-// EXTENSION RANGES
-
-fn is_in_range(number: i32, range: &ExtensionRange) -> bool
-    ensures { result ≡ is_in_range number range.now }
-{
-    range.start.unwrap_or(0) <= number && number < range.end.unwrap_or(0)
-}
-
-fn is_in_a_range(number: i32, ranges: &[ExtensionRange]) -> bool
-    ensures { result ≡ list_any (is_in_range number) ranges.now }
-{
-    for range in ranges {
-        if is_in_range(number, range) {
-            return true;
-        }
-    }
-    false
-}
-
-fn is_extension_outside(
-    index: &Index,
-    flat: &Flat,
-    extension: &Definition<FieldDescriptorProto>,
-) -> bool
-    requires { IsIndex index.now (flat_rows flat.now) }
-    ensures { result ≡ extension_outside (flat_rows flat.now) (definition_row extension.now) }
-{
-    let Some(place) = message_place(index, flat, &extension.proto.extendee) else {
-        return false;
-    };
-    let Some(message) = flat.messages.get(place) else {
-        return false;
-    };
-    let ranges = message.definition.proto.extension_range.as_slice();
-    !is_in_a_range(extension.proto.number.unwrap_or(0), ranges)
-}
-
-fn has_extension_outside(
-    index: &Index,
-    flat: &Flat,
-    extensions: &[Definition<FieldDescriptorProto>],
-) -> bool
-    requires { IsIndex index.now (flat_rows flat.now) }
-    ensures { result ≡ list_any (extension_outside (flat_rows flat.now)) (map definition_row extensions.now) }
-{
-    for extension in extensions {
-        if is_extension_outside(index, flat, extension) {
-            return true;
-        }
-    }
-    false
-}
-
-/// Whether an extension's number is in no extension range of the message that it extends.
-pub fn has_outside_range(index: &Index, flat: &Flat) -> bool
-    requires { IsIndex index.now (flat_rows flat.now) }
-    ensures { result ≡ outside_range (flat_rows flat.now) }
-{
-    has_extension_outside(index, flat, flat.extensions.as_slice())
 }
