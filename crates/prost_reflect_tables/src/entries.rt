@@ -2,23 +2,17 @@
 
 ghost use Rattle.std.specs.Prelude.{◌≡◌, map};
 ghost use Rattle.std.specs.List.{list_any};
-ghost use Rattle.prost_reflect_tables.specs.EntryFaults.{is_entry, is_key_type, is_plain, is_entry_key, is_entry_value, is_key_and_value, entry_bad, names_entry, is_of_entry, wrongly_of_entry, method_of_entry, bad_map_entry};
+ghost use Rattle.prost_reflect_tables.specs.EntryFaults.{is_key_type, is_plain, is_entry_key, is_entry_value, is_key_and_value, entry_bad, names_entry, is_of_entry, wrongly_of_entry, method_of_entry, bad_map_entry};
 ghost use Rattle.prost_reflect_tables.specs.FlatViews.{definition_row, message_row, service_row, flat_rows};
 ghost use Rattle.prost_reflect_tables.specs.Indexed.{IsIndex};
 
 use crate::checks::{is_code, is_message_type, is_type};
 use crate::flatten::{Definition, Flat, FlatMessage, FlatService};
 use crate::index::{Index, message_place};
-use crate::options::bool_option;
+use crate::options::is_entry;
 use prost_reflect_records::{FieldDescriptorProto, MethodDescriptorProto};
 
 // KEYS AND VALUES
-
-fn is_entry(message: &FlatMessage) -> bool
-    ensures { result ≡ is_entry (message_row message.now) }
-{
-    bool_option(7, &message.definition.proto.options).unwrap_or(false)
-}
 
 fn is_key_type(code: Option<i32>) -> bool
     ensures { result ≡ is_key_type code }
@@ -90,10 +84,7 @@ fn names_entry(index: &Index, flat: &Flat, text: &Option<String>) -> bool
     let Some(place) = message_place(index, flat, text) else {
         return false;
     };
-    match flat.messages.get(place) {
-        Some(message) => is_entry(message),
-        None => false,
-    }
+    index.entries.get(place).copied().unwrap_or(false)
 }
 
 fn is_of_entry(index: &Index, flat: &Flat, field: &Definition<FieldDescriptorProto>) -> bool

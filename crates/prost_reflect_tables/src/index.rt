@@ -2,6 +2,7 @@
 
 ghost use Rattle.std.specs.Prelude.{◌≡◌, [], ◌++◌, List, IfOk, OnOk, map};
 ghost use Rattle.std.specs.BTreeMap.{get_by_text};
+ghost use Rattle.prost_reflect_tables.specs.EntryFaults.{is_entry};
 ghost use Rattle.prost_reflect_tables.specs.Faults.{names_of, names_in_messages, names_in_enums, names_in_services, full_names, repeats, duplicate_name, message_names, enum_names, place_named};
 ghost use Rattle.prost_reflect_tables.specs.FlatViews.{definition_row, message_row, enum_row, service_row, flat_rows, text_list};
 ghost use Rattle.prost_reflect_tables.specs.Indexed.{IsIndexOf, IsNumbersOf, AreNumbersOf, IsIndex};
@@ -10,12 +11,13 @@ ghost use Rattle.prost_reflect_tables.specs.Linking.{links_of, linked_value, val
 
 use crate::flatten::{Definition, Flat, FlatEnum, FlatMessage, FlatService};
 use crate::names::{text_or_empty, without_dot};
+use crate::options::is_entry;
 use crate::tables::TableKind;
 use prost_reflect_records::EnumValueDescriptorProto;
 use std::alloc::{AllocError, Global};
 use std::collections::{BTreeMap, BTreeSet};
 
-/// The places of messages and enums by their full names, and the numbers of enum values by their names.
+/// The places of messages and enums by their full names, the numbers of enum values by their names, and the flags of messages that are entries of maps.
 #[derive(Drop)]
 pub struct Index {
     /// The places of messages.
@@ -24,6 +26,8 @@ pub struct Index {
     pub enums: BTreeMap<String, usize>,
     /// The numbers of each enum's values by their names.
     pub numbers: Vec<BTreeMap<String, i32>>,
+    /// Whether each message is a map's entry.
+    pub entries: Vec<bool>,
 }
 
 // DUPLICATE NAMES
@@ -188,7 +192,18 @@ fn numbers_by_enum(
     Ok(numbers)
 }
 
-/// The places of messages and enums by their full names, and the numbers of enum values by their names.
+/// Whether each message is a map's entry.
+fn entry_flags(alloc: Global, messages: &[FlatMessage]) -> Result<Vec<bool>, AllocError>
+    ensures { IfOk result (λ v. v.items ≡ map is_entry (map message_row messages.now)) }
+{
+    let mut flags = Vec::new(alloc);
+    for message in messages {
+        flags.push(is_entry(message))?;
+    }
+    Ok(flags)
+}
+
+/// The places of messages and enums by their full names, the numbers of enum values by their names, and the flags of messages that are entries of maps.
 ///
 /// # Errors
 ///
@@ -202,6 +217,7 @@ pub fn indexed(alloc: Global, flat: &Flat) -> Result<Index, AllocError>
         messages: index_of(alloc, messages.as_slice())?,
         enums: index_of(alloc, enums.as_slice())?,
         numbers: numbers_by_enum(alloc, flat.enums.as_slice())?,
+        entries: entry_flags(alloc, flat.messages.as_slice())?,
     })
 }
 

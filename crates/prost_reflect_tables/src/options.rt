@@ -4,6 +4,7 @@ ghost use Rattle.std.specs.Prelude.{◌≡◌, ℕ, List, None, map};
 ghost use Rattle.std.specs.List.{list_any};
 ghost use Rattle.prost_reflect_wire.specs.Record.{Payload, record_at, payload_wire};
 ghost use Rattle.prost_reflect_wire.specs.Front.{ValueFront};
+ghost use Rattle.prost_reflect_tables.specs.EntryFaults.{is_entry};
 ghost use Rattle.prost_reflect_tables.specs.FlatViews.{definition_row, message_row, flat_rows};
 ghost use Rattle.prost_reflect_tables.specs.OptionFaults.{suits_option, bytes_suit_option, option_bad, bad_options};
 ghost use Rattle.prost_reflect_tables.specs.Options.{bool_of, bool_in, bool_option};
@@ -56,6 +57,13 @@ fn bool_at(wire_type: WireType, bytes: &[u8]) -> Option<bool>
         },
         _ => None,
     }
+}
+
+/// Whether the option `map_entry` marks a message.
+pub fn is_entry(message: &FlatMessage) -> bool
+    ensures { result ≡ is_entry (message_row message.now) }
+{
+    bool_option(7, &message.definition.proto.options).unwrap_or(false)
 }
 
 // OPTIONS THAT ARE NOT READ
