@@ -1,5 +1,5 @@
-use Rattle.std.proofs.Common.{◌≡◌, ◌∙◌, rules, ap, sym, get_or, arith, length}
-use Rattle.prost_reflect_tables.specs.FlatViews.{definition_row, message_row}
+use Rattle.std.proofs.Common.{◌∙◌, rules, ap, sym, get_or, arith, length}
+use Rattle.prost_reflect_tables.specs.FlatViews.{definition_row}
 use Rattle.prost_reflect_tables.proofs.Spans.{spans_found, spans_long, outside_is}
 use Rattle.prost_reflect_tables.proofs.ranges.is_extension_outside.Goals as goal
 
@@ -10,7 +10,7 @@ is_covered-requires c =
     let flat = c.args.flat.now in
     rw (c.as_slice.ensures.value, c.as_slice-ranges.ensures.value)
     (spans_found c.args.spans.now flat.messages.items c.requires.spans place c.in-Some-get-2.spans.now message c.in-Some-get-2.ensures.lookup.3.0 c.in-Some-get-2.ensures.lookup.1
-        (c.in-Some-get.ensures.lookup.1 ∙ ap (λ l. get_or l place message) c.deref.ensures.value))
+    (c.in-Some-get.ensures.lookup.1 ∙ ap (λ l. get_or l place message) c.deref.ensures.value))
 
 pub returns : goal.returns
 returns c =

@@ -1,7 +1,5 @@
-use Rattle.std.proofs.Common.{ℕ, rules, subst, map, List, IsPermutation}
-use Rattle.std.specs.Result.{IfOk}
+use Rattle.std.proofs.Common.{ℕ, rules, subst, List, IsPermutation}
 use Rattle.std.proofs.lemmas.List.Sorted.{IsNonDecreasingBy-from_sort_by_key}
-use Rattle.prost_reflect_tables.specs.Spans.{AreSpansOf}
 use Rattle.prost_reflect_tables.proofs.Spans.{spans_in_order}
 use Rattle.prost_reflect_tables.proofs.ranges.spans_of.Goals as goal
 

@@ -1,4 +1,4 @@
-use Rattle.std.proofs.Common.{ℕ, subst, List}
+use Rattle.std.proofs.Common.{subst, List}
 use Rattle.prost_reflect_records.specs.declared.ExtensionRange.{ExtensionRange}
 use Rattle.prost_reflect_tables.specs.Spans.{AreSpansOf}
 use Rattle.prost_reflect_tables.proofs.Spans.{spans_more}
