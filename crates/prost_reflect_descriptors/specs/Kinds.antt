@@ -1,9 +1,9 @@
 -- What kinds name.
-use Rattle.std.specs.Prelude.{◌≡◌, ⊤}
-use Rattle.prost_reflect_tables.specs.Rows.{TableRows}
+use Rattle.std.specs.Prelude.{⊤}
 use Rattle.prost_reflect_tables.specs.declared.tables.TableKind.{TableKind}
 use Rattle.prost_reflect_tables.specs.declared.tables.TableKind.TheVariants as places
-use Rattle.prost_reflect_descriptors.specs.Pools.{pool_rows}
+use Rattle.prost_reflect_descriptors.specs.declared.pool.DescriptorPool.{DescriptorPool}
+use Rattle.prost_reflect_descriptors.specs.Pools.{SamePool}
 use Rattle.prost_reflect_descriptors.specs.declared.kind.Kind.{Kind}
 use Rattle.prost_reflect_descriptors.specs.declared.kind.Kind.TheVariants.{Double, Float, Int32, Int64, Uint32, Uint64, Sint32, Sint64, Fixed32, Fixed64, Sfixed32, Sfixed64, Bool, String, Bytes, Message, Enum}
 
@@ -27,8 +27,8 @@ table_kind Bytes = places.Bytes
 table_kind (Message message) = places.Message message.index
 table_kind (Enum e) = places.Enum e.index
 
--- The type that the kind names is one of these rows.
-abbrev pub IsAmong : TableRows → Kind → Type 0
-IsAmong rows (Message message) = pool_rows message.pool ≡ rows
-IsAmong rows (Enum e) = pool_rows e.pool ≡ rows
-IsAmong rows kind = ⊤
+-- The type that the kind names is one of the pool.
+abbrev pub IsAmong : DescriptorPool → Kind → Type 0
+IsAmong pool (Message message) = SamePool pool message.pool
+IsAmong pool (Enum e) = SamePool pool e.pool
+IsAmong pool kind = ⊤

@@ -37,6 +37,7 @@ impl EnumDescriptor {
     pub(crate) fn new(pool: DescriptorPool, index: usize) -> EnumDescriptor
         requires { index < length (pool_rows pool).enums }
         ensures pool { pool_rows result.pool ≡ pool_rows pool }
+        ensures same { result.pool ≡ pool }
         ensures index { result.index ≡ index }
     {
         EnumDescriptor { pool, index }
@@ -44,7 +45,8 @@ impl EnumDescriptor {
 
     /// The pool that the enum is of.
     pub fn parent_pool(&self) -> &DescriptorPool
-        ensures { pool_rows result.now ≡ pool_rows self.now.pool }
+        ensures rows { pool_rows result.now ≡ pool_rows self.now.pool }
+        ensures same { result.now ≡ self.now.pool }
     {
         &self.pool
     }

@@ -101,7 +101,7 @@ impl FieldDescriptor {
     /// `AllocError` if a clone of the pool is refused.
     pub fn kind(&self) -> Result<Kind, AllocError>
         ensures kind { IfOk result (λ kind. option_map (λ field. field.kind) (row_at self.now) ≡ Some (table_kind kind)) }
-        ensures pool { IfOk result (IsAmong (pool_rows self.now.message.pool)) }
+        ensures pool { IfOk result (IsAmong self.now.message.pool) }
     {
         Kind::from_table(self.message.parent_pool(), self.table().kind)
     }

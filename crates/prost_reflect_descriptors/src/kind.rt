@@ -53,7 +53,7 @@ impl Kind {
     pub(crate) fn from_table(pool: &DescriptorPool, kind: TableKind) -> Result<Kind, AllocError>
         requires { IsTrue (kind_in_range (length (pool_rows pool.now).messages) (length (pool_rows pool.now).enums) kind) }
         ensures kind { IfOk result (λ shown. table_kind shown ≡ kind) }
-        ensures pool { IfOk result (IsAmong (pool_rows pool.now)) }
+        ensures pool { IfOk result (IsAmong pool.now) }
     {
         Ok(match kind {
             TableKind::Double => Kind::Double,

@@ -48,7 +48,8 @@ impl MessageDescriptor {
 
     /// The pool that the message type is of.
     pub fn parent_pool(&self) -> &DescriptorPool
-        ensures { pool_rows result.now ≡ pool_rows self.now.pool }
+        ensures rows { pool_rows result.now ≡ pool_rows self.now.pool }
+        ensures same { result.now ≡ self.now.pool }
     {
         &self.pool
     }

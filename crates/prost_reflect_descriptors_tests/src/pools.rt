@@ -84,17 +84,57 @@ fn files_may_come_in_any_order(rt: HostRuntime) -> Result<(), Fail> {
     Ok(())
 }
 
-/// Descriptors keep the pool that they were made of, and a refused batch adds nothing.
 #[test]
 fn a_refused_batch_adds_nothing(rt: HostRuntime) -> Result<(), Fail> {
     let mut pool = DescriptorPool::new(rt.alloc())?;
     let refused = pool.decode_file_descriptor_set(SOUND_AND_EDITIONS);
     assert!(rt; refused == Err(PoolError::UnknownSyntax));
     assert_eq!(rt; pool.file_descriptor_protos().len(), 0);
-    let before = pool.clone()?;
-    pool.decode_file_descriptor_set(SET_M)?;
-    assert_eq!(rt; before.file_descriptor_protos().len(), 0);
-    assert_eq!(rt; pool.file_descriptor_protos().len(), 1);
+    Ok(())
+}
+
+/// A descriptor and a copy keep the pool as it was before an addition.
+#[test]
+fn an_addition_changes_no_descriptor(rt: HostRuntime) -> Result<(), Fail> {
+    let mut pool = DescriptorPool::decode(rt.alloc(), SET_M)?;
+    let found = pool.get_message_by_name("package.MyMessage")?;
+    let descriptor = found.ok_or("no package.MyMessage")?;
+    let copy = pool.clone()?;
+    pool.decode_file_descriptor_set(A_AND_B)?;
+    assert_eq!(rt; pool.file_descriptor_protos().len(), 3);
+    assert_eq!(rt; copy.file_descriptor_protos().len(), 1);
+    assert_eq!(rt; descriptor.parent_pool().file_descriptor_protos().len(), 1);
+    Ok(())
+}
+
+/// A file `m.proto` that no pool takes.
+static M_OF_EDITIONS: &[u8] = b"\x0a\x13\x0a\x07m.protob\x08editions";
+
+/// Of files of one name the first counts, and the others are not looked at.
+#[test]
+fn the_first_file_of_a_name_counts(rt: HostRuntime) -> Result<(), Fail> {
+    let mut pool = DescriptorPool::decode(rt.alloc(), SET_M)?;
+    pool.decode_file_descriptor_set(M_OF_EDITIONS)?;
+    assert_eq!(rt; pool.encode_to_vec(rt.alloc())?.as_slice(), SET_M);
+    let mut both = Vec::from_slice(rt.alloc(), SET_M)?;
+    both.extend_from_slice(M_OF_EDITIONS)?;
+    let pool = DescriptorPool::decode(rt.alloc(), &both)?;
+    assert_eq!(rt; pool.encode_to_vec(rt.alloc())?.as_slice(), SET_M);
+    Ok(())
+}
+
+/// A file that has the message `Z` and no name.
+static NAMELESS: &[u8] = b"\x0a\x05\x22\x03\x0a\x01Z";
+
+/// A file without a name is looked at, and refused, also behind another one.
+#[test]
+fn a_file_without_a_name_is_not_skipped(rt: HostRuntime) -> Result<(), Fail> {
+    for front in [b"".as_slice(), SET_M, NAMELESS] {
+        let mut bytes = Vec::from_slice(rt.alloc(), front)?;
+        bytes.extend_from_slice(NAMELESS)?;
+        let refused = DescriptorPool::decode(rt.alloc(), &bytes);
+        assert!(rt; refused.is_err_and(|error| error == PoolError::MissingName));
+    }
     Ok(())
 }
 

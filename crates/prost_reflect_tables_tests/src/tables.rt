@@ -200,7 +200,7 @@ static PLAIN: &[u8] =
     b"\x0a\x07m.proto\x12\x01p\x22\x0e\x0a\x01M\x12\x09\x0a\x01f\x18\x01\x20\x01\x28\x05";
 
 /// What is put behind a sound file, and why it is refused then.
-static FAULTS_OF_A_FILE: [(&[u8], PoolError); 5] = [
+static FAULTS_OF_A_FILE: [(&[u8], PoolError); 10] = [
     (b"\x62\x08editions", PoolError::UnknownSyntax),
     (b"\x1a\x07q.proto", PoolError::MissingDependency),
     // The public dependency 0, where there is none.
@@ -214,6 +214,27 @@ static FAULTS_OF_A_FILE: [(&[u8], PoolError); 5] = [
     (
         b"\x3a\x09\x0a\x01x\x18\x01\x20\x01\x28\x05",
         PoolError::MissingType,
+    ),
+    // An enum without values, and one that reserves the numbers from 5 to 4.
+    (b"\x2a\x03\x0a\x01E", PoolError::EmptyEnum),
+    (
+        b"\x2a\x13\x0a\x01E\x12\x08\x0a\x04ZERO\x10\x00\x22\x04\x08\x05\x10\x04",
+        PoolError::BadRange,
+    ),
+    // A message with an extension range from 5 up to, but without, 5.
+    (
+        b"\x22\x09\x0a\x01N\x2a\x04\x08\x05\x10\x05",
+        PoolError::BadRange,
+    ),
+    // An extension of `M`, which has no extension ranges.
+    (
+        b"\x3a\x0f\x0a\x01x\x12\x04.p.M\x18\x09\x20\x01\x28\x05",
+        PoolError::OutsideRange,
+    ),
+    // A repeated member of a oneof.
+    (
+        b"\x22\x15\x0a\x01N\x12\x0b\x0a\x01f\x18\x01\x20\x03\x28\x05\x48\x00\x42\x03\x0a\x01c",
+        PoolError::BadOneof,
     ),
 ];
 
@@ -229,6 +250,30 @@ fn faults_of_a_file(rt: HostRuntime) -> Result<(), Fail> {
         let mut file = Vec::from_slice(rt.alloc(), PLAIN)?;
         file.extend_from_slice(rest)?;
         assert_eq!(rt; refusal(rt.alloc(), &file)?.as_ref(), Some(error));
+    }
+    Ok(())
+}
+
+/// `m.proto` with `message N`, whose extension ranges are 30 to 32, 5, and 3 to 19.
+static RANGES: &[u8] =
+    b"\x0a\x07m.proto\x22\x15\x0a\x01N\x2a\x04\x08\x1e\x10\x21\x2a\x04\x08\x05\x10\x06\x2a\x04\x08\x03\x10\x14";
+
+/// Why an extension of `N` with the number is refused.
+fn refusal_of_number(alloc: Global, number: u8) -> Result<Option<PoolError>, Fail> {
+    let mut file = Vec::from_slice(alloc, RANGES)?;
+    file.extend_from_slice(b"\x3a\x0d\x0a\x01x\x12\x02.N\x20\x01\x28\x05\x18")?;
+    file.push(number)?;
+    refusal(alloc, &file)
+}
+
+#[test]
+fn numbers_of_extensions(rt: HostRuntime) -> Result<(), Fail> {
+    for number in [3, 4, 5, 6, 19, 30, 32] {
+        assert_eq!(rt; refusal_of_number(rt.alloc(), number)?, None);
+    }
+    for number in [1, 2, 20, 29, 33] {
+        let refused = refusal_of_number(rt.alloc(), number)?;
+        assert_eq!(rt; refused, Some(PoolError::OutsideRange));
     }
     Ok(())
 }

@@ -63,10 +63,12 @@ RefusesIn pool name digits (Decode e) = RefusesBytes pool name digits e
 RefusesIn pool name digits Memory = ⊤
 RefusesIn pool name digits refusal = ⊥
 
--- Why the word for a set makes no pool.
+-- Why the word for a set makes no pool: it spells no bytes, a fault stands in these, or one in their files.
 abbrev pub RefusesPool : List ℕ → Refusal → Type 0
 RefusesPool set Hex = IsNoSet set
 RefusesPool set (Set e) = RefusesSet set (pool_errors.Decode e)
+RefusesPool set (Pool (pool_errors.Decode e)) = ⊥
+RefusesPool set (Pool pool_errors.OutOfMemory) = ⊥
 RefusesPool set (Pool e) = RefusesSet set e
 RefusesPool set Memory = ⊤
 RefusesPool set refusal = ⊥

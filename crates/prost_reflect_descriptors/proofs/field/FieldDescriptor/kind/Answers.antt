@@ -9,4 +9,4 @@ use Rattle.prost_reflect_descriptors.proofs.field.FieldDescriptor.kind.Goals as 
 pub from_table-requires : goal.from_table-requires
 from_table-requires c =
     let P : TableRows → Type 0 = λ (rows : TableRows). IsTrue (kind_in_range (length rows.messages) (length rows.enums) c.table.result.now.kind) in
-    subst P (sym c.parent_pool.ensures) (field_keeps (pool_rows c.args.self.now.message.pool) c.args.self.now.message.index c.args.self.now.index _ c.args.self.now.message.pool.inner.value.tables.linked c.table.ensures)
+    subst P (sym c.parent_pool.ensures.rows) (field_keeps (pool_rows c.args.self.now.message.pool) c.args.self.now.message.index c.args.self.now.index _ c.args.self.now.message.pool.inner.value.tables.linked c.table.ensures)
