@@ -8,8 +8,8 @@ use Rattle.prost_reflect_wire.proofs.Numbers.{is_in, Covers, empty_slot, insert_
 use Rattle.prost_reflect_wire.proofs.Survivors.{or_false, field_number}
 use Rattle.prost_reflect_laws.proofs.Arranged.{OrderedOption, table_ordered}
 use Rattle.prost_reflect.specs.declared.value.Value.{Value}
-use Rattle.prost_reflect_descriptors.specs.Descriptors.{schema_at, type_at}
-use Rattle.prost_reflect_fields.specs.Entries.{value_at}
+use Rattle.prost_reflect_pool.specs.MessageTypes.{schema_at, type_at}
+use Rattle.prost_reflect_fields.specs.FieldSlots.{value_at}
 use Rattle.prost_reflect.specs.View.{value_of, entries_from}
 use Rattle.prost_reflect.specs.Contents.{with_unknown}
 use Rattle.prost_reflect.specs.KeptLaws.{MessageArranged}
@@ -58,28 +58,28 @@ content_same schema typed T U es ds e f h = λ i. ContentOf (e i) (f i) (h i)
 pub slots_determine : SlotsDetermine
 slots_determine a b s r schema type same =
     content_of_message a
-    ∙ content_same (schema_at a.slots.0) (schema_at b.slots.0) (type_at a.slots.0) (type_at b.slots.0) (entries_from (shown a.slots.1)) (entries_from (shown b.slots.1))
+    ∙ content_same (schema_at a.fields.0) (schema_at b.fields.0) (type_at a.fields.0) (type_at b.fields.0) (entries_from (shown a.fields.1)) (entries_from (shown b.fields.1))
     (sym (ap schema_of (content_of_message a)) ∙ schema ∙ ap schema_of (content_of_message b)) (sym (ap type_of (content_of_message a)) ∙ type ∙ ap type_of (content_of_message b))
-    (same_slots_same (shown a.slots.1) (shown b.slots.1) (ascending_shown a.slots.1 s) (ascending_shown b.slots.1 r)
+    (same_slots_same (shown a.fields.1) (shown b.fields.1) (ascending_shown a.fields.1 s) (ascending_shown b.fields.1 r)
     (λ k. sym (ap (λ c. slot_at (entries_of c) k) (content_of_message a)) ∙ same k ∙ ap (λ c. slot_at (entries_of c) k) (content_of_message b)))
     ∙ sym (content_of_message b)
 
 pub message_order : MessageOrder
 message_order m s values =
     ap (λ c. entries_ordered (entries_of c)) (content_of_message m)
-    ∙ from_keys (λ es. entries_ordered es ≡ true) (shown m.slots.1) (ascending_shown m.slots.1 s)
-    (λ ns ascending. table_ordered (slot_at (entries_from (shown m.slots.1))) 0 ns ascending (λ n. there n))
+    ∙ from_keys (λ es. entries_ordered es ≡ true) (shown m.fields.1) (ascending_shown m.fields.1 s)
+    (λ ns ascending. table_ordered (slot_at (entries_from (shown m.fields.1))) 0 ns ascending (λ n. there n))
   where
     of : (o : Option Value) → ((v : Value) → o ≡ Some v → value_ordered (value_of v) ≡ true) → OrderedOption (option_map value_of o)
     of None h = tt
     of (Some v) h = h v refl
 
-    there : (n : ℕ) → OrderedOption (slot_at (entries_from (shown m.slots.1)) n).value
-    there n = subst (λ (slot : Slot). OrderedOption slot.value) (sym (slot_stored m.slots.1 n s)) (of (value_at m.slots.1 n) (values n))
+    there : (n : ℕ) → OrderedOption (slot_at (entries_from (shown m.fields.1)) n).value
+    there n = subst (λ (slot : Slot). OrderedOption slot.value) (sym (slot_stored m.fields.1 n s)) (of (value_at m.fields.1 n) (values n))
 
 pub message_arranged : MessageArranged
 message_arranged m s =
     ap (λ c. table (slot_at (entries_of c)) (numbers_in (entries_of c))) (content_of_message m)
-    ∙ sym (from_slots (shown m.slots.1) (slot_at (entries_from (shown m.slots.1))) (numbers_in (entries_from (shown m.slots.1))) (ascending_shown m.slots.1 s) (entries_ascending (entries_from (shown m.slots.1)))
-    (λ k low out. slot_outside (entries_from (shown m.slots.1)) k out) (λ k. refl))
+    ∙ sym (from_slots (shown m.fields.1) (slot_at (entries_from (shown m.fields.1))) (numbers_in (entries_from (shown m.fields.1))) (ascending_shown m.fields.1 s) (entries_ascending (entries_from (shown m.fields.1)))
+    (λ k low out. slot_outside (entries_from (shown m.fields.1)) k out) (λ k. refl))
     ∙ sym (ap entries_of (content_of_message m))

@@ -13,17 +13,17 @@ use Rattle.prost_reflect_wire.specs.Record.{Record, body_of}
 use Rattle.prost_reflect_wire.specs.Unknown.{records_of}
 use Rattle.prost_reflect_wire.specs.declared.unknown.UnknownFieldSet.{UnknownFieldSet}
 use Rattle.prost_reflect_wire.specs.Schema.{Field, known}
-use Rattle.prost_reflect_fields.specs.declared.entry.Entry.{Entry}
-use Rattle.prost_reflect_fields.specs.declared.entry.Entry.TheVariants as entries
-use Rattle.prost_reflect_descriptors.specs.declared.message.MessageDescriptor.{MessageDescriptor}
+use Rattle.prost_reflect_fields.specs.declared.slot.FieldSlot.{FieldSlot}
+use Rattle.prost_reflect_fields.specs.declared.slot.FieldSlot.TheVariants as entries
+use Rattle.prost_reflect_pool.specs.declared.pooled_type.PooledType.{PooledType}
 use Rattle.prost_reflect.specs.declared.message.DynamicMessage.{DynamicMessage}
 use Rattle.prost_reflect.specs.declared.value.Value.{Value}
 use Rattle.prost_reflect.specs.declared.value.Value.TheViews.{roll-DynamicMessage}
-use Rattle.prost_reflect_descriptors.specs.Descriptors.{SameMessage}
+use Rattle.prost_reflect_pool.specs.MessageTypes.{SameMessage}
 use Rattle.prost_reflect_tables.specs.Shown.{schema_from}
 use Rattle.prost_reflect_fields.specs.Items.{IsAscending, item_at, put_item}
 use Rattle.prost_reflect_fields.specs.Known.{known_of}
-use Rattle.prost_reflect_fields.specs.Entries.{value_in, records_in, records_at, has_value}
+use Rattle.prost_reflect_fields.specs.FieldSlots.{value_in, records_in, records_at, has_value}
 use Rattle.prost_reflect_fields.specs.Sound.{Sound, unknown_kept}
 use Rattle.prost_reflect.specs.Stored.{StoredValue, StoredEntries, NothingStored, ValueAt, UnknownAt, BothAt, MessageOf, stored_entry, stored_entries, value_stored, message_stored}
 use Rattle.prost_reflect.proofs.StoredViews.{stored_message, stored_roll}
@@ -32,11 +32,11 @@ abbrev pub Parts : Type 0
 Parts = Option StoredValue × Option (List Record)
 
 -- what an entry stores: its value, and its unknown records
-abbrev pub entry_parts : Entry Value → Parts
+abbrev pub entry_parts : FieldSlot Value → Parts
 entry_parts e = (option_map value_stored (value_in e), records_in e)
 
 -- what is stored at each number
-abbrev pub parts_of : List (ℕ × Entry Value) → List (ℕ × Parts)
+abbrev pub parts_of : List (ℕ × FieldSlot Value) → List (ℕ × Parts)
 parts_of es = map (λ e. (e.0, entry_parts e.1)) es
 
 -- LISTS
@@ -57,7 +57,7 @@ taken_and_rest (y ∷ ys) (suc i) x l h = ap (λ zs. y ∷ zs) (taken_and_rest y
     plus : (i : ℕ) → suc (i + 1) ≡ suc i + 1
     plus i = omega arith
 
-parts_appended : (es ds : List (ℕ × Entry Value)) → parts_of (es ++ ds) ≡ parts_of es ++ parts_of ds
+parts_appended : (es ds : List (ℕ × FieldSlot Value)) → parts_of (es ++ ds) ≡ parts_of es ++ parts_of ds
 parts_appended [] ds = refl
 parts_appended (e ∷ es) ds = ap (λ ps. (e.0, entry_parts e.1) ∷ ps) (parts_appended es ds)
 
@@ -65,7 +65,7 @@ pub keys_appended : {K T : Type 0} (es ds : List (K × T)) → keys_of (es ++ ds
 keys_appended [] ds = refl
 keys_appended (e ∷ es) ds = ap (λ ks. e.0 ∷ ks) (keys_appended es ds)
 
-keys_of_parts : (es : List (ℕ × Entry Value)) → keys_of (parts_of es) ≡ keys_of es
+keys_of_parts : (es : List (ℕ × FieldSlot Value)) → keys_of (parts_of es) ≡ keys_of es
 keys_of_parts [] = refl
 keys_of_parts (e ∷ es) = ap (λ ks. e.0 ∷ ks) (keys_of_parts es)
 
@@ -86,7 +86,7 @@ insert_last R total (e ∷ es) k t rest s =
     ap (λ o. match_ordering o ((k, t) ∷ e ∷ es) ((e.0, t) ∷ es) (e ∷ insert_entry R es k t)) above ∙ ap (λ ds. e ∷ ds) (insert_last R total es k t rest s.1)
 
 -- one more entry copied
-pub copied_next : (fields items : List (ℕ × Entry Value)) (i n : ℕ) (e d : Entry Value) → IsAscending items → i < length items → (n, e) ≡ get_or items i (n, e)
+pub copied_next : (fields items : List (ℕ × FieldSlot Value)) (i n : ℕ) (e d : FieldSlot Value) → IsAscending items → i < length items → (n, e) ≡ get_or items i (n, e)
     → parts_of fields ≡ parts_of (take i items) → entry_parts d ≡ entry_parts e → parts_of (put_item fields n d) ≡ parts_of (take (i + 1) items)
 copied_next fields items i n e d s l at done same =
     let keys : keys_of fields ≡ keys_of (take i items) = sym (keys_of_parts fields) ∙ ap keys_of done ∙ keys_of_parts (take i items) in
@@ -112,7 +112,7 @@ both_copied v w u t h k = ap₂ (λ x rs. parts (Some x) (Some rs)) h k
 
 -- THE SAME PARTS
 
-part_at : (es : List (ℕ × Entry Value)) (k : ℕ) → item_at (parts_of es) k ≡ option_map entry_parts (item_at es k)
+part_at : (es : List (ℕ × FieldSlot Value)) (k : ℕ) → item_at (parts_of es) k ≡ option_map entry_parts (item_at es k)
 part_at [] k = refl
 part_at (e ∷ es) k = cases (is_at (nat_cmp k) e.0) (part_at es k)
   where
@@ -120,34 +120,34 @@ part_at (e ∷ es) k = cases (is_at (nat_cmp k) e.0) (part_at es k)
     cases true rest = refl
     cases false rest = rest
 
-has_from : (o : Option (Entry Value)) → is_some (option_and_then value_in o) ≡ is_some (option_and_then (λ (p : Parts). p.0) (option_map entry_parts o))
+has_from : (o : Option (FieldSlot Value)) → is_some (option_and_then value_in o) ≡ is_some (option_and_then (λ (p : Parts). p.0) (option_map entry_parts o))
 has_from None = refl
 has_from (Some (entries.Value v)) = refl
 has_from (Some (entries.Unknown u)) = refl
 has_from (Some (entries.Both v u)) = refl
 
-records_from : (o : Option (Entry Value)) → option_and_then records_in o ≡ option_and_then (λ (p : Parts). p.1) (option_map entry_parts o)
+records_from : (o : Option (FieldSlot Value)) → option_and_then records_in o ≡ option_and_then (λ (p : Parts). p.1) (option_map entry_parts o)
 records_from None = refl
 records_from (Some e) = refl
 
-has_same : (es ds : List (ℕ × Entry Value)) (k : ℕ) → parts_of ds ≡ parts_of es → has_value ds k ≡ has_value es k
+has_same : (es ds : List (ℕ × FieldSlot Value)) (k : ℕ) → parts_of ds ≡ parts_of es → has_value ds k ≡ has_value es k
 has_same es ds k h = has_from (item_at ds k) ∙ ap (λ o. is_some (option_and_then (λ (p : Parts). p.0) o)) (sym (part_at ds k) ∙ ap (λ ps. item_at ps k) h ∙ part_at es k) ∙ sym (has_from (item_at es k))
 
-records_same : (es ds : List (ℕ × Entry Value)) (k : ℕ) → parts_of ds ≡ parts_of es → records_at ds k ≡ records_at es k
+records_same : (es ds : List (ℕ × FieldSlot Value)) (k : ℕ) → parts_of ds ≡ parts_of es → records_at ds k ≡ records_at es k
 records_same es ds k h = records_from (item_at ds k) ∙ ap (option_and_then (λ (p : Parts). p.1)) (sym (part_at ds k) ∙ ap (λ ps. item_at ps k) h ∙ part_at es k) ∙ sym (records_from (item_at es k))
 
-sound_same : (fields : List Field) (es ds : List (ℕ × Entry Value)) → parts_of ds ≡ parts_of es → Sound fields es → Sound fields ds
+sound_same : (fields : List Field) (es ds : List (ℕ × FieldSlot Value)) → parts_of ds ≡ parts_of es → Sound fields es → Sound fields ds
 sound_same fields es ds h s = (
   λ n v. s.0 n (sym (has_same es ds n h) ∙ v),
   λ n. ap (unknown_kept fields n) (records_same es ds n h) ∙ s.1 n,
   λ m n v siblings. has_same es ds n h ∙ s.2 m n (sym (has_same es ds m h) ∙ v) siblings,
 )
 
-known_same : (a b : MessageDescriptor) → SameMessage a b → known_of b ≡ known_of a
+known_same : (a b : PooledType) → SameMessage a b → known_of b ≡ known_of a
 known_same a b h = λ i. known (schema_from (h.1 i)) (h.2 i)
 
 -- what a copied descriptor and the copied entries keep
-pub sound_copied : (a b : MessageDescriptor) (es ds : List (ℕ × Entry Value)) → SameMessage a b → parts_of ds ≡ parts_of es → Sound (known_of a) es → Sound (known_of b) ds
+pub sound_copied : (a b : PooledType) (es ds : List (ℕ × FieldSlot Value)) → SameMessage a b → parts_of ds ≡ parts_of es → Sound (known_of a) es → Sound (known_of b) ds
 sound_copied a b es ds d h s = subst (λ fields. Sound fields ds) (sym (known_same a b d)) (sound_same (known_of a) es ds h s)
 
 abbrev entry_of_parts : ℕ → Option StoredValue → Option (List Record) → StoredEntries → StoredEntries
@@ -160,20 +160,20 @@ abbrev entries_of_parts : List (ℕ × Parts) → StoredEntries
 entries_of_parts [] = NothingStored
 entries_of_parts (p ∷ ps) = entry_of_parts p.0 p.1.0 p.1.1 (entries_of_parts ps)
 
-from_parts : (es : List (ℕ × Entry Value)) → stored_entries value_stored es ≡ entries_of_parts (parts_of es)
+from_parts : (es : List (ℕ × FieldSlot Value)) → stored_entries value_stored es ≡ entries_of_parts (parts_of es)
 from_parts [] = refl
 from_parts (e ∷ es) = cases e.1 ∙ ap (entry_of_parts e.0 (entry_parts e.1).0 (entry_parts e.1).1) (from_parts es)
   where
-    cases : (d : Entry Value) → stored_entry value_stored e.0 d (stored_entries value_stored es) ≡ entry_of_parts e.0 (entry_parts d).0 (entry_parts d).1 (stored_entries value_stored es)
+    cases : (d : FieldSlot Value) → stored_entry value_stored e.0 d (stored_entries value_stored es) ≡ entry_of_parts e.0 (entry_parts d).0 (entry_parts d).1 (stored_entries value_stored es)
     cases (entries.Value v) = refl
     cases (entries.Unknown u) = refl
     cases (entries.Both v u) = refl
 
-pub message_copied : (m : DynamicMessage) (p : MessageDescriptor × List (ℕ × Entry Value)) → SameMessage m.slots.0 p.0 → parts_of p.1 ≡ parts_of m.slots.1 → message_stored (roll-DynamicMessage (record { slots = p })) ≡ message_stored m
-message_copied m p d h = stored_roll (record { slots = p }) ∙ (λ i. MessageOf (d.0 i) (d.1 i) (d.2 i) ((from_parts p.1 ∙ ap entries_of_parts h ∙ sym (from_parts m.slots.1)) i)) ∙ sym (stored_message m)
+pub message_copied : (m : DynamicMessage) (p : PooledType × List (ℕ × FieldSlot Value)) → SameMessage m.fields.0 p.0 → parts_of p.1 ≡ parts_of m.fields.1 → message_stored (roll-DynamicMessage (record { fields = p })) ≡ message_stored m
+message_copied m p d h = stored_roll (record { fields = p }) ∙ (λ i. MessageOf (d.0 i) (d.1 i) (d.2 i) ((from_parts p.1 ∙ ap entries_of_parts h ∙ sym (from_parts m.fields.1)) i)) ∙ sym (stored_message m)
 
 -- all entries are copied
-pub all_copied : (fields items es : List (ℕ × Entry Value)) (i : ℕ) → items ≡ es → length items ≤ i → parts_of fields ≡ parts_of (take i items) → parts_of fields ≡ parts_of es
+pub all_copied : (fields items es : List (ℕ × FieldSlot Value)) (i : ℕ) → items ≡ es → length items ≤ i → parts_of fields ≡ parts_of (take i items) → parts_of fields ≡ parts_of es
 all_copied fields items es i same past done = done ∙ ap parts_of (take_all items i past) ∙ ap parts_of same
   where
     take_all : {A : Type 0} (xs : List A) (i : ℕ) → length xs ≤ i → take i xs ≡ xs

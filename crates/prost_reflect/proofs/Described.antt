@@ -12,24 +12,24 @@ use Rattle.prost_reflect_tables.specs.Places.{row_of}
 use Rattle.prost_reflect_tables.specs.Shown.{schema_from, schema_field}
 use Rattle.prost_reflect_tables.proofs.Keeping.{schema_is_valid}
 use Rattle.prost_reflect_tables.proofs.Fields.{known_rows, field_of_number, known_row}
-use Rattle.prost_reflect_descriptors.specs.Pools.{pool_rows}
-use Rattle.prost_reflect_descriptors.specs.Descriptors.{schema_at, type_at, fields_of, SameMessage}
-use Rattle.prost_reflect_descriptors.specs.declared.message.MessageDescriptor.{MessageDescriptor}
+use Rattle.prost_reflect_pool.specs.SharedPools.{pool_rows}
+use Rattle.prost_reflect_pool.specs.MessageTypes.{schema_at, type_at, fields_of, SameMessage}
+use Rattle.prost_reflect_pool.specs.declared.pooled_type.PooledType.{PooledType}
 
 -- The schema is one of a checked pool, and has the type.
-pub schema_at_valid : (m : MessageDescriptor) → schema_valid (schema_at m) ≡ true
-schema_at_valid m = schema_is_valid (pool_rows m.pool) m.pool.inner.value.tables.linked
+pub schema_at_valid : (m : PooledType) → schema_valid (schema_at m) ≡ true
+schema_at_valid m = schema_is_valid (pool_rows m.pool) m.pool.value.tables.linked
 
-pub type_in_schema : (m : MessageDescriptor) → type_at m < length (schema_at m)
+pub type_in_schema : (m : PooledType) → type_at m < length (schema_at m)
 unfolding schema_from
 type_in_schema m = rw length-map m.in_range
 
 -- So each of its fields passes the check.
-pub found_checked : (m : MessageDescriptor) (n : ℕ) (f : Field) → field_of (known (schema_at m) (type_at m)) n ≡ Some f → field_valid (schema_at m) f ≡ true
+pub found_checked : (m : PooledType) (n : ℕ) (f : Field) → field_of (known (schema_at m) (type_at m)) n ≡ Some f → field_valid (schema_at m) f ≡ true
 found_checked m n f found = found_valid (schema_at m) (known (schema_at m) (type_at m)) n f (known_valid (schema_at m) (type_at m) (schema_at_valid m)) found
 
 -- The message type that a field names is one of the pool.
-pub named_in_range : (m : MessageDescriptor) (n : ℕ) (f : Field) (T : ℕ) → field_of (known (schema_at m) (type_at m)) n ≡ Some f → message_of f.value_type.kind ≡ Some T → T < length (pool_rows m.pool).messages
+pub named_in_range : (m : PooledType) (n : ℕ) (f : Field) (T : ℕ) → field_of (known (schema_at m) (type_at m)) n ≡ Some f → message_of f.value_type.kind ≡ Some T → T < length (pool_rows m.pool).messages
 unfolding schema_from
 named_in_range m n f T found names =
     let valid : field_valid (schema_at m) f ≡ true = found_valid (schema_at m) (known (schema_at m) (type_at m)) n f (known_valid (schema_at m) (type_at m) (schema_at_valid m)) found in
@@ -43,16 +43,16 @@ named_in_range m n f T found names =
     named (GroupOf U) e h = let same : U ≡ T = cc in subst (λ U. U < length (schema_at m)) same (ltb-true U (length (schema_at m)) (and_both _ _ h).0)
 
 -- The known fields are the rows, shown.
-pub known_at : (m : MessageDescriptor) → known (schema_at m) (type_at m) ≡ map (schema_field (pool_rows m.pool)) (fields_of m)
+pub known_at : (m : PooledType) → known (schema_at m) (type_at m) ≡ map (schema_field (pool_rows m.pool)) (fields_of m)
 known_at m = known_rows (pool_rows m.pool) m.index
 
-pub field_at_number : (m : MessageDescriptor) (n : ℕ) → field_of (known (schema_at m) (type_at m)) n ≡ option_map (schema_field (pool_rows m.pool)) (row_of (fields_of m) n)
+pub field_at_number : (m : PooledType) (n : ℕ) → field_of (known (schema_at m) (type_at m)) n ≡ option_map (schema_field (pool_rows m.pool)) (row_of (fields_of m) n)
 field_at_number m n = field_of_number (pool_rows m.pool) m.index n
 
 -- Under the number of a row that row is known, shown.
-pub known_of_row : (m : MessageDescriptor) (i : ℕ) (f : FieldRow) → slice_get (fields_of m) i ≡ Some f → field_of (known (schema_at m) (type_at m)) f.number ≡ Some (schema_field (pool_rows m.pool) f)
-known_of_row m i f at = known_row (pool_rows m.pool) m.index i f m.pool.inner.value.tables.linked at
+pub known_of_row : (m : PooledType) (i : ℕ) (f : FieldRow) → slice_get (fields_of m) i ≡ Some f → field_of (known (schema_at m) (type_at m)) f.number ≡ Some (schema_field (pool_rows m.pool) f)
+known_of_row m i f at = known_row (pool_rows m.pool) m.index i f m.pool.value.tables.linked at
 
 -- Descriptors of one message type have one schema.
-pub same_schema : (a b : MessageDescriptor) → SameMessage a b → schema_at b ≡ schema_at a
+pub same_schema : (a b : PooledType) → SameMessage a b → schema_at b ≡ schema_at a
 same_schema a b same = ap schema_from same.1

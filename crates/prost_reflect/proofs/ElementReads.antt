@@ -3,42 +3,47 @@ use Rattle.std.proofs.Common.{◌≡◌, ℕ, suc, Bool, true, false, List, [], 
 use Rattle.std.specs.Prelude.{Vec, unwrap_or, map, ◌++◌, ◌∷◌}
 use Rattle.std.specs.declared.alloc.Global.{Global}
 use Rattle.std.proofs.lemmas.List.{map-append}
+use Rattle.prost_reflect_wire.specs.declared.error.DecodeError.{DecodeError}
+use Rattle.prost_reflect_wire.specs.declared.key.WireType.{WireType}
 use Rattle.prost_reflect_wire.specs.declared.key.WireType.TheVariants as wires
-use Rattle.prost_reflect_wire.specs.Front.{KeyFront, DelimitedFront}
-use Rattle.prost_reflect_wire.specs.Schema.{Kind, MessageOf, GroupOf, Repeated, known, field_of}
+use Rattle.prost_reflect_wire.specs.Front.{KeyFront}
+use Rattle.prost_reflect_wire.specs.Schema.{Repeated, Field, known, field_of}
 use Rattle.prost_reflect_wire.specs.Content as contents
 use Rattle.prost_reflect_wire.specs.Content.{Content, ContentOf, MessageValue, ListValue, NoValues, ◌and_then◌, empty, value_at, entries_of, schema_of, type_of, values_from}
 use Rattle.prost_reflect_wire.specs.Typing.{WellStored, is_repeated as is_list}
 use Rattle.prost_reflect_wire.specs.Edit.{with_field_value, message_of}
 use Rattle.prost_reflect_wire.specs.Fault.{is_map}
-use Rattle.prost_reflect_wire.specs.Decoding.{Progress, GroupProgress, Step}
+use Rattle.prost_reflect_wire.specs.Decoding.{Step, StandsBehindKey}
 use Rattle.prost_reflect_wire.proofs.Survivors.{field_number}
 use Rattle.prost_reflect_laws.proofs.ListSteps.{IsListed}
+use Rattle.prost_reflect_laws.proofs.MessageSteps.{FoundNested}
 use Rattle.prost_reflect_laws.proofs.ElementSteps.{ManyMessages, elements_at, message_element_holds, group_element_holds}
 use Rattle.prost_reflect_tables.specs.declared.tables.TableKind.{TableKind}
 use Rattle.prost_reflect_tables.specs.declared.tables.TableKind.TheVariants as kinds
 use Rattle.prost_reflect_tables.specs.Rows.{FieldRow}
 use Rattle.prost_reflect_tables.specs.Shown.{schema_kind, schema_field}
-use Rattle.prost_reflect_descriptors.specs.declared.message.MessageDescriptor.{MessageDescriptor}
+use Rattle.prost_reflect_pool.specs.declared.pooled_type.PooledType.{PooledType}
 use Rattle.prost_reflect.specs.declared.message.DynamicMessage.{DynamicMessage}
 use Rattle.prost_reflect.specs.declared.message.decode.Target.TheVariants as targets
 use Rattle.prost_reflect.specs.declared.value.Value.{Value}
 use Rattle.prost_reflect.specs.declared.value.Value as values
 use Rattle.prost_reflect.specs.Contents.{value_set}
 use Rattle.prost_reflect.specs.RowKinds.{is_repeated, is_plain_kind, names_message}
-use Rattle.prost_reflect_descriptors.specs.Descriptors.{schema_at}
+use Rattle.prost_reflect_pool.specs.MessageTypes.{schema_at}
 use Rattle.prost_reflect_fields.specs.Known.{known_of}
 use Rattle.prost_reflect.specs.Lists.{IsList, IsListOrNone, ListField, with_element}
 use Rattle.prost_reflect.specs.Numbers.{NumberList}
-use Rattle.prost_reflect_descriptors.specs.Pools.{pool_rows}
-use Rattle.prost_reflect.specs.Targets.{NestedList, IsTarget, element_target_of}
-use Rattle.prost_reflect.specs.View.{value_of, content_of, descriptor_of}
+use Rattle.prost_reflect_pool.specs.SharedPools.{pool_rows}
+use Rattle.prost_reflect.specs.Targets.{nested_kind, NestedList, IsTarget, element_target_of}
+use Rattle.prost_reflect.specs.Nested.{ReadInside, NestedRead, StandsBehindNested}
+use Rattle.prost_reflect.specs.View.{value_of, content_of, message_type_of}
 use Rattle.prost_reflect.proofs.Described.{named_in_range}
 use Rattle.prost_reflect.proofs.ListMerging.{list_field}
 use Rattle.prost_reflect.proofs.Merging.{known_in, differ_in}
-use Rattle.prost_reflect.proofs.NestedReads.{FoundIn, schema_in, set_in, whole}
+use Rattle.prost_reflect.proofs.NestedReads.{behind_inside, schema_in, step_set, whole}
 use Rattle.prost_reflect.proofs.NumberMerging.{number_list}
 use Rattle.prost_reflect.proofs.PlainKinds.{list_kind}
+use Rattle.prost_reflect.proofs.RowKinds.{message_named}
 use Rattle.prost_reflect.proofs.Views.{value_of_list}
 
 -- WHAT A RECORD IS READ AS
@@ -48,39 +53,38 @@ list_target (kinds.Message T) g e none = absurd (true≢false e)
 list_target (kinds.Enum E) g e none = absurd (none E refl)
 list_target kind g e none = refl
 
-module _ (d : MessageDescriptor) (n : ℕ) (row : FieldRow) (found : field_of (known_of d) n ≡ Some (schema_field (pool_rows d.pool) row)) (many : is_repeated row.cardinality ≡ true) (form : (schema_field (pool_rows d.pool) row).form ≡ Repeated row.is_packed) where
-  nested_list : (T : ℕ) (kind : Kind) → schema_kind (pool_rows d.pool).enums row.kind row.is_group ≡ kind → message_of kind ≡ Some T → NestedList d n T kind
-  nested_list T kind is names =
-      let own : (schema_field (pool_rows d.pool) row).value_type.kind ≡ kind = list_kind (pool_rows d.pool) row many (ap is_list form) ∙ is in
+module _ (d : PooledType) (n : ℕ) (row : FieldRow) (found : field_of (known_of d) n ≡ Some (schema_field (pool_rows d.pool) row)) (many : is_repeated row.cardinality ≡ true) (form : (schema_field (pool_rows d.pool) row).form ≡ Repeated row.is_packed) where
+  nested_list : (T : ℕ) (g : Bool) → row.kind ≡ kinds.Message T → row.is_group ≡ g → NestedList d n T g
+  nested_list T g k i =
+      let own : (schema_field (pool_rows d.pool) row).value_type.kind ≡ nested_kind g T = list_kind (pool_rows d.pool) row many (ap is_list form) ∙ ap₂ (schema_kind (pool_rows d.pool).enums) k i in
       record {
         field = schema_field (pool_rows d.pool) row;
         packed = row.is_packed;
         found = found;
         form = form;
         kind_is = own;
-        in_range = named_in_range d n (schema_field (pool_rows d.pool) row) T found (ap message_of own ∙ names);
+        in_range = named_in_range d n (schema_field (pool_rows d.pool) row) T found (ap message_of own ∙ message_named g T);
       }
 
   pub element_target_is : IsTarget d n (element_target_of row.kind row.is_group)
   element_target_is = go row.kind row.is_group refl refl
     where
       go : (kind : TableKind) (g : Bool) → row.kind ≡ kind → row.is_group ≡ g → IsTarget d n (element_target_of kind g)
-      go (kinds.Message T) true k i = nested_list T (GroupOf T) (ap₂ (schema_kind (pool_rows d.pool).enums) k i) refl
-      go (kinds.Message T) false k i = nested_list T (MessageOf T) (ap₂ (schema_kind (pool_rows d.pool).enums) k i) refl
+      go (kinds.Message T) g k i = nested_list T g k i
       go (kinds.Enum E) g k i = subst (NumberList d n) k (number_list d n row E found many k)
       go kind g k i = subst (ListField (known_of d) n) k (list_field d n row found many (ap is_plain_kind k))
 
 -- THE LIST
 
-module _ (m : DynamicMessage) (n T : ℕ) (kind : Kind) (at : NestedList (descriptor_of m) n T kind) (names : message_of kind ≡ Some T) where
+module _ (m : DynamicMessage) (n T : ℕ) (g : Bool) (at : NestedList (message_type_of m) n T g) where
   found_here : field_of (known (schema_of (content_of m)) (type_of (content_of m))) n ≡ Some at.field
   found_here = ap (λ fields. field_of fields n) (known_in m) ∙ at.found
 
-  pub found_element : FoundIn m n T kind
-  found_element = record { field = at.field; found = found_here; form = ap is_map at.form; kind_is = at.kind_is; names = names }
+  pub found_element : FoundNested (schema_of (content_of m)) (type_of (content_of m)) n T (nested_kind g T)
+  found_element = record { field = at.field; found = found_here; form = ap is_map at.form; kind_is = at.kind_is; names = message_named g T }
 
   many_of : ManyMessages at.field T
-  many_of = record { packed = at.packed; form = at.form; names = ap message_of at.kind_is ∙ names }
+  many_of = record { packed = at.packed; form = at.form; names = ap message_of at.kind_is ∙ message_named g T }
 
   -- at the number stands a list, or nothing yet
   pub list_or_none : WellStored (content_of m) → IsListOrNone (value_at n (entries_of (content_of m)))
@@ -123,7 +127,7 @@ pub record EmptyElement (m inner : DynamicMessage) (T : ℕ) : Type 0 where
   pub sound : WellStored (content_of inner)
   pub is : content_of inner ≡ empty (schema_of (content_of m)) T
 
-pub empty_element : (m inner : DynamicMessage) (T : ℕ) → content_of inner ≡ empty (schema_at (descriptor_of m)) T → EmptyElement m inner T
+pub empty_element : (m inner : DynamicMessage) (T : ℕ) → content_of inner ≡ empty (schema_at (message_type_of m)) T → EmptyElement m inner T
 empty_element m inner T is =
     let same : content_of inner ≡ empty (schema_of (content_of m)) T = is ∙ ap (λ s. empty s T) (sym (schema_in m)) in
     record {
@@ -135,32 +139,41 @@ empty_element m inner T is =
 
 -- ONE MORE RECORD
 
-module _ (m inner done new : DynamicMessage) (n T k : ℕ) (sound : WellStored (content_of m)) (fresh : EmptyElement m inner T)
+module _ (m inner done new : DynamicMessage) (n T levels : ℕ) (g : Bool) (w : WireType) (sound : WellStored (content_of m)) (at : NestedList (message_type_of m) n T g) (fresh : EmptyElement m inner T)
     (set : content_of new ≡ value_set n (with_element (value_at n (entries_of (content_of m))) (MessageValue (content_of done))) (content_of m)) where
-  pub element_step : (bytes body rest : List ℕ) → NestedList (descriptor_of m) n T (MessageOf T) → DelimitedFront body bytes rest → Progress k (content_of inner) (content_of done) body [] → Step (suc k) n wires.LengthDelimited (content_of m) (content_of new) bytes rest
-  element_step bytes body rest at front progress =
-      let found = found_here m n T (MessageOf T) at refl in
-      let number : at.field.number ≡ n = field_number (known (schema_of (content_of m)) (type_of (content_of m))) n at.field found in
-      let own : field_of (known (schema_of (content_of m)) (type_of (content_of m))) at.field.number ≡ Some at.field = ap (field_of (known (schema_of (content_of m)) (type_of (content_of m)))) number ∙ found in
-      let read : Progress k (empty (schema_of (content_of m)) T) (content_of done) body [] = subst (λ c. Progress k c (content_of done) body []) fresh.is progress in
-      subst (λ c. Step (suc k) n wires.LengthDelimited c (content_of new) bytes rest) (whole (content_of m))
-      (subst (λ d. Step (suc k) n wires.LengthDelimited (ContentOf (schema_of (content_of m)) (type_of (content_of m)) (entries_of (content_of m))) d bytes rest)
-      (sym (set ∙ set_in (content_of m) n at.field (with_element (value_at n (entries_of (content_of m))) (MessageValue (content_of done))) found))
-      (subst (λ i. Step (suc k) i wires.LengthDelimited (ContentOf (schema_of (content_of m)) (type_of (content_of m)) (entries_of (content_of m)))
-      (ContentOf (schema_of (content_of m)) (type_of (content_of m)) (with_field_value (known (schema_of (content_of m)) (type_of (content_of m))) at.field (Some (with_element (value_at i (entries_of (content_of m))) (MessageValue (content_of done)))) (entries_of (content_of m)))) bytes rest) number
-      (message_element_holds (schema_of (content_of m)) (type_of (content_of m)) (entries_of (content_of m)) (subst WellStored (sym (whole (content_of m))) sound) (differ_in m) at.field own T (many_of m n T (MessageOf T) at refl)
-      (content_of done) read.holds k body bytes rest at.kind_is read.read front)))
+  abbrev fields : List Field
+  fields = known (schema_of (content_of m)) (type_of (content_of m))
 
-  pub group_element_step : (bytes rest : List ℕ) → NestedList (descriptor_of m) n T (GroupOf T) → GroupProgress k n (content_of inner) (content_of done) bytes rest → Step (suc k) n wires.StartGroup (content_of m) (content_of new) bytes rest
-  group_element_step bytes rest at group =
-      let found = found_here m n T (GroupOf T) at refl in
-      let number : at.field.number ≡ n = field_number (known (schema_of (content_of m)) (type_of (content_of m))) n at.field found in
-      let own : field_of (known (schema_of (content_of m)) (type_of (content_of m))) at.field.number ≡ Some at.field = ap (field_of (known (schema_of (content_of m)) (type_of (content_of m)))) number ∙ found in
-      let read : Progress k (empty (schema_of (content_of m)) T) (content_of done) bytes group.end = subst (λ c. Progress k c (content_of done) bytes group.end) fresh.is group.progress in
-      subst (λ c. Step (suc k) n wires.StartGroup c (content_of new) bytes rest) (whole (content_of m))
-      (subst (λ d. Step (suc k) n wires.StartGroup (ContentOf (schema_of (content_of m)) (type_of (content_of m)) (entries_of (content_of m))) d bytes rest)
-      (sym (set ∙ set_in (content_of m) n at.field (with_element (value_at n (entries_of (content_of m))) (MessageValue (content_of done))) found))
-      (subst (λ i. Step (suc k) i wires.StartGroup (ContentOf (schema_of (content_of m)) (type_of (content_of m)) (entries_of (content_of m)))
-      (ContentOf (schema_of (content_of m)) (type_of (content_of m)) (with_field_value (known (schema_of (content_of m)) (type_of (content_of m))) at.field (Some (with_element (value_at i (entries_of (content_of m))) (MessageValue (content_of done)))) (entries_of (content_of m)))) bytes rest) number
-      (group_element_holds (schema_of (content_of m)) (type_of (content_of m)) (entries_of (content_of m)) (subst WellStored (sym (whole (content_of m))) sound) (differ_in m) at.field own T (many_of m n T (GroupOf T) at refl)
-      (content_of done) read.holds k bytes group.end rest at.kind_is read.read (subst (λ i. KeyFront i wires.EndGroup group.end rest) (sym number) group.stop))))
+  abbrev old : Content
+  old = ContentOf (schema_of (content_of m)) (type_of (content_of m)) (entries_of (content_of m))
+
+  abbrev joined : ℕ → Content
+  joined i = ContentOf (schema_of (content_of m)) (type_of (content_of m)) (with_field_value fields at.field (Some (with_element (value_at i (entries_of (content_of m))) (MessageValue (content_of done)))) (entries_of (content_of m)))
+
+  here : field_of fields n ≡ Some at.field
+  here = found_here m n T g at
+
+  number : at.field.number ≡ n
+  number = field_number fields n at.field here
+
+  at_number : (k : ℕ) (bytes rest : List ℕ) (g : Bool) → at.field.value_type.kind ≡ nested_kind g T → ManyMessages at.field T → ReadInside g k n w (empty (schema_of (content_of m)) T) (content_of done) bytes rest →
+      Step (suc k) at.field.number w old (joined at.field.number) bytes rest
+  at_number k bytes rest true kind many (wire, group) = let progress = group.progress in
+      subst (λ w. Step (suc k) at.field.number w old (joined at.field.number) bytes rest) (sym wire)
+      (group_element_holds (schema_of (content_of m)) (type_of (content_of m)) (entries_of (content_of m)) (subst WellStored (sym (whole (content_of m))) sound) (differ_in m) at.field (ap (field_of fields) number ∙ here) T many
+      (content_of done) progress.holds k bytes group.end rest kind progress.read (subst (λ i. KeyFront i wires.EndGroup group.end rest) (sym number) group.stop))
+  at_number k bytes rest false kind many r = let progress = r.progress in
+      subst (λ w. Step (suc k) at.field.number w old (joined at.field.number) bytes rest) (sym r.wire)
+      (message_element_holds (schema_of (content_of m)) (type_of (content_of m)) (entries_of (content_of m)) (subst WellStored (sym (whole (content_of m))) sound) (differ_in m) at.field (ap (field_of fields) number ∙ here) T many
+      (content_of done) progress.holds k r.body bytes rest kind progress.read r.front)
+
+  pub element_step : (bytes rest : List ℕ) → NestedRead g levels n w (content_of inner) (content_of done) bytes rest → Step levels n w (content_of m) (content_of new) bytes rest
+  element_step bytes rest read =
+      let r : NestedRead g levels n w (empty (schema_of (content_of m)) T) (content_of done) bytes rest = subst (λ c. NestedRead g levels n w c (content_of done) bytes rest) fresh.is read in
+      step_set (content_of m) (content_of new) levels n w at.field (with_element (value_at n (entries_of (content_of m))) (MessageValue (content_of done))) bytes rest here set
+      (subst (λ l. Step l n w old (joined n) bytes rest) (sym r.left) (subst (λ i. Step (suc r.inside) i w old (joined i) bytes rest) number (at_number r.inside bytes rest g at.kind_is (many_of m n T g at) r.read)))
+
+-- what is refused of it
+pub element_refused : (m inner : DynamicMessage) (n T levels : ℕ) (g : Bool) (w : WireType) → NestedList (message_type_of m) n T g → EmptyElement m inner T → (e : DecodeError) (bytes : List ℕ) →
+    StandsBehindNested (schema_of (content_of inner)) levels n (nested_kind g (type_of (content_of inner))) w e bytes → StandsBehindKey (content_of m) levels n w e bytes
+element_refused m inner n T levels g w at fresh e bytes stands = behind_inside m inner n T levels g w (found_element m n T g at) fresh.schema_is fresh.type_is e bytes stands

@@ -1,5 +1,5 @@
 -- What is written of a list of messages or groups.
-use Rattle.std.proofs.Common.{◌≡◌, ◌<◌, ℕ, zero, suc, length, arith, slice_index_or, Bool, true, false, not, ◌||◌, List, [], ◌∷◌, ◌++◌, map, Some, refl, sym, ap, ◌∙◌, subst, true≢false}
+use Rattle.std.proofs.Common.{◌≡◌, ℕ, Bool, true, false, not, ◌||◌, List, [], ◌∷◌, ◌++◌, map, Some, refl, sym, ap, ◌∙◌, subst, true≢false}
 use Rattle.std.specs.Prelude.{Vec}
 use Rattle.std.specs.declared.alloc.Global.{Global}
 use Rattle.prost_reflect_wire.specs.Record.{record_at, spelled}
@@ -15,16 +15,16 @@ use Rattle.prost_reflect_laws.proofs.Checked.{checked_field, checked_list}
 use Rattle.prost_reflect_laws.proofs.ListWritten.{messages_written}
 use Rattle.prost_reflect_tables.specs.Rows.{FieldRow}
 use Rattle.prost_reflect_tables.specs.Shown.{schema_kind, schema_field}
-use Rattle.prost_reflect_descriptors.specs.declared.message.MessageDescriptor.{MessageDescriptor}
+use Rattle.prost_reflect_pool.specs.declared.pooled_type.PooledType.{PooledType}
 use Rattle.prost_reflect.specs.declared.message.DynamicMessage.{DynamicMessage}
 use Rattle.prost_reflect.specs.declared.value.Value.{Value}
 use Rattle.prost_reflect.specs.declared.value.Value as values
 use Rattle.prost_reflect.specs.RowKinds.{is_repeated, names_message}
-use Rattle.prost_reflect_descriptors.specs.Descriptors.{schema_at}
+use Rattle.prost_reflect_pool.specs.MessageTypes.{schema_at}
 use Rattle.prost_reflect.specs.Encoding.{ValueWritable, nested_bytes}
 use Rattle.prost_reflect_fields.specs.Known.{known_of}
 use Rattle.prost_reflect.specs.Lists.{ElementWritable, AreElements, element_bytes, elements_bytes}
-use Rattle.prost_reflect_descriptors.specs.Pools.{pool_rows}
+use Rattle.prost_reflect_pool.specs.SharedPools.{pool_rows}
 use Rattle.prost_reflect.specs.View.{value_of, content_of}
 use Rattle.prost_reflect.proofs.RowKinds.{message_kind}
 use Rattle.prost_reflect.proofs.Described.{found_checked}
@@ -53,12 +53,6 @@ module _ (m : DynamicMessage) (v : Value) (is : v ≡ values.Message m) where
 
   pub element_shown : (n : ℕ) (g : Bool) → element_bytes n g (value_of v) ≡ nested_bytes n g (content_of m)
   element_shown n g = ap (element_bytes n g) seen
-
--- each of them can be written
-pub element_at : (vs : List Value) (i : ℕ) (v : Value) → i < length vs → v ≡ slice_index_or vs i v → AreElements vs → ElementWritable (value_of v)
-element_at [] i v b e w = absurd (omega (arith, b))
-element_at (u ∷ vs) zero v b e (one, more) = subst (λ v. ElementWritable (value_of v)) (sym e) one
-element_at (u ∷ vs) (suc i) v b e (one, more) = element_at vs i v (omega (arith, b)) e more
 
 pub no_element : (v : Value) → ElementWritable (value_of v) → ((m : DynamicMessage) → v ≡ values.Message m → ⊥) → ⊥
 no_element v w none = true≢false (sym (element_is_message (value_of v) w) ∙ no_message_value v none)
@@ -99,7 +93,7 @@ module _ (kind : Kind) (message : is_message kind ≡ true) where
       go (contents.MapValue ps) h f = absurd (true≢false (sym h))
 
 -- what the writer of a list of messages needs to know, and what it has to write
-pub record MessagesWritten (d : MessageDescriptor) (n : ℕ) (g : Bool) (v : contents.Value) (vs : List Value) : Type 0 where
+pub record MessagesWritten (d : PooledType) (n : ℕ) (g : Bool) (v : contents.Value) (vs : List Value) : Type 0 where
   pub takes : AreElements vs
   pub bytes : value_bytes (known_of d) n v ≡ elements_bytes n g vs
 
@@ -109,7 +103,7 @@ not_packed true (MessageOf T) m h = absurd (true≢false (sym h))
 not_packed true (GroupOf T) m h = absurd (true≢false (sym h))
 not_packed false kind m h = refl
 
-pub row_messages_written : (d : MessageDescriptor) (n : ℕ) (row : FieldRow) (v : Value) (vs : Vec Value Global) → Some (schema_field (pool_rows d.pool) row) ≡ field_of (known_of d) n → is_repeated row.cardinality ≡ true →
+pub row_messages_written : (d : PooledType) (n : ℕ) (row : FieldRow) (v : Value) (vs : Vec Value Global) → Some (schema_field (pool_rows d.pool) row) ≡ field_of (known_of d) n → is_repeated row.cardinality ≡ true →
     (schema_field (pool_rows d.pool) row).form ≡ Repeated row.is_packed → names_message row.kind ≡ true → ValueWritable (known_of d) n (value_of v) → v ≡ values.List vs → MessagesWritten d n row.is_group (value_of v) vs.items
 row_messages_written d n row v vs found many form names w is =
     let seen : value_of v ≡ ListValue (values_from (map value_of vs.items)) = ap value_of is ∙ value_of_list vs in

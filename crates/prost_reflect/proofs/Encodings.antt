@@ -19,34 +19,34 @@ use Rattle.prost_reflect_wire.specs.Unknown.{records_of}
 use Rattle.prost_reflect_wire.specs.declared.unknown.UnknownFieldSet.{UnknownFieldSet}
 use Rattle.prost_reflect_wire.proofs.Deeper.{and_both}
 use Rattle.prost_reflect_laws.proofs.WrittenEntries.{written_store}
-use Rattle.prost_reflect_fields.specs.declared.entry.Entry.{Entry}
-use Rattle.prost_reflect_fields.specs.declared.entry.Entry.TheVariants as entries
+use Rattle.prost_reflect_fields.specs.declared.slot.FieldSlot.{FieldSlot}
+use Rattle.prost_reflect_fields.specs.declared.slot.FieldSlot.TheVariants as entries
 use Rattle.prost_reflect.specs.declared.message.DynamicMessage.{DynamicMessage}
 use Rattle.prost_reflect.specs.declared.value.Value.{Value}
 use Rattle.prost_reflect_fields.specs.Items.{IsAscending, item_at}
 use Rattle.prost_reflect_fields.specs.Known.{known_of, are_records_of, keeps_unknown}
-use Rattle.prost_reflect_fields.specs.Entries.{value_in, unknown_in, records_in, records_at}
+use Rattle.prost_reflect_fields.specs.FieldSlots.{value_in, unknown_in, records_in, records_at}
 use Rattle.prost_reflect_fields.specs.Sound.{IsSound, UnknownKept, unknown_kept}
-use Rattle.prost_reflect.specs.View.{value_of, content_of, descriptor_of, stored_in, slot_of, entries_from, payloads_of}
+use Rattle.prost_reflect.specs.View.{value_of, content_of, message_type_of, stored_in, slot_of, entries_from, payloads_of}
 use Rattle.prost_reflect.specs.Encoding.{entry_slot, unknown_bytes, entries_bytes, ValueWritable, OwnUnknown, IsWritable, AreWritable}
 use Rattle.prost_reflect_fields.proofs.ItemChanges.{by_number, none_above, itself}
 use Rattle.prost_reflect.proofs.Views.{shown, shown_entry, content_of_message}
 
 -- BYTES
 
-slot_shown : (e : Entry Value) → slot_of (shown_entry e) ≡ entry_slot e
+slot_shown : (e : FieldSlot Value) → slot_of (shown_entry e) ≡ entry_slot e
 slot_shown (entries.Value v) = refl
 slot_shown (entries.Unknown u) = refl
 slot_shown (entries.Both v u) = refl
 
-pub written_entries : (fields : List Field) (es : List (ℕ × Entry Value)) → spelled (entries_records fields (kept_entries fields (entries_from (shown es)))) ≡ entries_bytes fields es
+pub written_entries : (fields : List Field) (es : List (ℕ × FieldSlot Value)) → spelled (entries_records fields (kept_entries fields (entries_from (shown es)))) ≡ entries_bytes fields es
 written_entries fields [] = refl
 written_entries fields (e ∷ es) =
     written_store fields e.0 (slot_of (shown_entry e.1)) (entries_from (shown es))
     ∙ ap₂ (λ slot more. slot_bytes fields e.0 slot ++ more) (slot_shown e.1) (written_entries fields es)
 
-pub encoded_entries : (m : DynamicMessage) → encoded (kept (content_of m)) ≡ entries_bytes (known_of (descriptor_of m)) (stored_in m)
-encoded_entries m = ap (λ c. encoded (kept c)) (content_of_message m) ∙ written_entries (known_of (descriptor_of m)) (stored_in m)
+pub encoded_entries : (m : DynamicMessage) → encoded (kept (content_of m)) ≡ entries_bytes (known_of (message_type_of m)) (stored_in m)
+encoded_entries m = ap (λ c. encoded (kept c)) (content_of_message m) ∙ written_entries (known_of (message_type_of m)) (stored_in m)
 
 -- the records of a number under that number are themselves
 pub own_records : (n : ℕ) (rs : List Record) → list_all (λ r. nat_eq r.number n) rs ≡ true → map (record_at n) (payloads_of rs) ≡ rs
@@ -81,11 +81,11 @@ behind_value test fields n None es h = h
 behind_value test fields n (Some w) es h = (and_both _ (entries_pass test fields es) h).1
 
 -- each entry has unknown records of its own number
-abbrev OwnRecords : List (ℕ × Entry Value) → Type 0
+abbrev OwnRecords : List (ℕ × FieldSlot Value) → Type 0
 OwnRecords [] = Unit {0}
 OwnRecords (e ∷ es) = ((rs : List Record) → records_in e.1 ≡ Some rs → are_records_of e.0 rs ≡ true) × OwnRecords es
 
-own_in : (fields : List Field) (es : List (ℕ × Entry Value)) → IsAscending es → UnknownKept fields es → OwnRecords es
+own_in : (fields : List Field) (es : List (ℕ × FieldSlot Value)) → IsAscending es → UnknownKept fields es → OwnRecords es
 unfolding IsStrictlySortedBy
 own_in fields [] s kept = tt
 own_in fields (e ∷ es) s kept = (
@@ -98,10 +98,10 @@ own_in fields (e ∷ es) s kept = (
     behind : (n : ℕ) → n ≡ e.0 → unknown_kept fields n (records_at es n) ≡ true
     behind n same = ap (λ o. unknown_kept fields n (option_and_then records_in o)) (subst (λ k. item_at es k ≡ None) (sym same) (none_above e.0 es s.0))
 
-shown_value : (e : Entry Value) (v : Value) → value_in e ≡ Some v → (slot_of (shown_entry e)).value ≡ Some (value_of v)
+shown_value : (e : FieldSlot Value) (v : Value) → value_in e ≡ Some v → (slot_of (shown_entry e)).value ≡ Some (value_of v)
 shown_value e v is = ap (λ (slot : Slot). slot.value) (slot_shown e) ∙ ap (option_map value_of) is
 
-writable_entries : (fields : List Field) (es : List (ℕ × Entry Value)) → entries_pass fit_test fields (entries_from (shown es)) ≡ true → OwnRecords es → AreWritable fields es
+writable_entries : (fields : List Field) (es : List (ℕ × FieldSlot Value)) → entries_pass fit_test fields (entries_from (shown es)) ≡ true → OwnRecords es → AreWritable fields es
 writable_entries fields [] h own = tt
 writable_entries fields (e ∷ es) h own = (
   record {
@@ -111,31 +111,31 @@ writable_entries fields (e ∷ es) h own = (
   writable_entries fields es (behind_unknowns fit_test fields e.0 (slot_of (shown_entry e.1)).unknowns (entries_from (shown es)) (behind_value fit_test fields e.0 (slot_of (shown_entry e.1)).value _ h)) own.1,
 )
 
-pub writable_message : (m : DynamicMessage) → encodable (content_of m) ≡ true → IsAscending (stored_in m) → IsSound (descriptor_of m) (stored_in m) → AreWritable (known_of (descriptor_of m)) (stored_in m)
+pub writable_message : (m : DynamicMessage) → encodable (content_of m) ≡ true → IsAscending (stored_in m) → IsSound (message_type_of m) (stored_in m) → AreWritable (known_of (message_type_of m)) (stored_in m)
 writable_message m h s sound =
-    writable_entries (known_of (descriptor_of m)) (stored_in m) (ap encodable (sym (content_of_message m)) ∙ h) (own_in (known_of (descriptor_of m)) (stored_in m) s sound.1)
+    writable_entries (known_of (message_type_of m)) (stored_in m) (ap encodable (sym (content_of_message m)) ∙ h) (own_in (known_of (message_type_of m)) (stored_in m) s sound.1)
 
 -- ONE ENTRY
 
-pub unknown_written : (n : ℕ) (e : Entry Value) (u : UnknownFieldSet) → unknown_in e ≡ Some u → OwnUnknown n e → unknown_bytes n (entry_slot e) ≡ spelled (records_of u)
+pub unknown_written : (n : ℕ) (e : FieldSlot Value) (u : UnknownFieldSet) → unknown_in e ≡ Some u → OwnUnknown n e → unknown_bytes n (entry_slot e) ≡ spelled (records_of u)
 unknown_written n e u is own =
     ap (λ o. spelled (map (record_at n) (payloads_of (unwrap_or (option_map records_of o) [])))) is ∙ ap spelled (own_all n (records_of u) (own (records_of u) (ap (option_map records_of) is)))
 
-pub unknown_nothing : (n : ℕ) (e : Entry Value) → unknown_in e ≡ None → unknown_bytes n (entry_slot e) ≡ []
+pub unknown_nothing : (n : ℕ) (e : FieldSlot Value) → unknown_in e ≡ None → unknown_bytes n (entry_slot e) ≡ []
 unknown_nothing n e is = ap (λ o. spelled (map (record_at n) (payloads_of (unwrap_or (option_map records_of o) [])))) is
 
 -- ENTRIES FROM THE BACK
 
-pub bytes_cons : (fields : List Field) (items rest : List (ℕ × Entry Value)) (e : ℕ × Entry Value) → items ≡ e ∷ rest → entries_bytes fields items ≡ slot_bytes fields e.0 (entry_slot e.1) ++ entries_bytes fields rest
+pub bytes_cons : (fields : List Field) (items rest : List (ℕ × FieldSlot Value)) (e : ℕ × FieldSlot Value) → items ≡ e ∷ rest → entries_bytes fields items ≡ slot_bytes fields e.0 (entry_slot e.1) ++ entries_bytes fields rest
 bytes_cons fields items rest e is = ap (entries_bytes fields) is
 
-bytes_drop : (fields : List Field) (i : ℕ) (items : List (ℕ × Entry Value)) → length (entries_bytes fields (drop i items)) ≤ length (entries_bytes fields items)
+bytes_drop : (fields : List Field) (i : ℕ) (items : List (ℕ × FieldSlot Value)) → length (entries_bytes fields (drop i items)) ≤ length (entries_bytes fields items)
 bytes_drop fields zero items = omega arith
 bytes_drop fields (suc i) [] = omega arith
 bytes_drop fields (suc i) (e ∷ items) = omega (arith, bytes_drop fields i items, length-append (slot_bytes fields e.0 (entry_slot e.1)) (entries_bytes fields items))
 
 -- a length that is too great before the whole is written
-pub too_long_from : (fields : List Field) (items : List (ℕ × Entry Value)) (i : ℕ) (e : ℕ × Entry Value) (old mid : List ℕ) → drop (i - 1) items ≡ e ∷ drop i items → mid ≡ entries_bytes fields (drop i items) ++ old →
+pub too_long_from : (fields : List Field) (items : List (ℕ × FieldSlot Value)) (i : ℕ) (e : ℕ × FieldSlot Value) (old mid : List ℕ) → drop (i - 1) items ≡ e ∷ drop i items → mid ≡ entries_bytes fields (drop i items) ++ old →
     2 ^ 64 ≤ length (slot_bytes fields e.0 (entry_slot e.1)) + length mid → 2 ^ 64 ≤ length (entries_bytes fields items) + length old
 too_long_from fields items i e old mid cut is h =
     omega (
@@ -148,50 +148,50 @@ too_long_from fields items i e old mid cut is h =
       bytes_drop fields (i - 1) items,
     )
 
-pub writable_at : (fields : List Field) (items : List (ℕ × Entry Value)) (i : ℕ) (e : ℕ × Entry Value) → i < length items → e ≡ get_or items i e → AreWritable fields items → IsWritable fields e.0 e.1
+pub writable_at : (fields : List Field) (items : List (ℕ × FieldSlot Value)) (i : ℕ) (e : ℕ × FieldSlot Value) → i < length items → e ≡ get_or items i e → AreWritable fields items → IsWritable fields e.0 e.1
 writable_at fields [] i e l is h = absurd (omega arith)
-writable_at fields (x ∷ items) zero e l is h = subst (λ (x : ℕ × Entry Value). IsWritable fields x.0 x.1) (sym is) h.0
+writable_at fields (x ∷ items) zero e l is h = subst (λ (x : ℕ × FieldSlot Value). IsWritable fields x.0 x.1) (sym is) h.0
 writable_at fields (x ∷ items) (suc i) e l is h = writable_at fields items i e (omega arith) is h.1
 
 -- the whole is written
-pub whole_written : (m : DynamicMessage) (i : ℕ) (old new : List ℕ) → i ≡ 0 → new ≡ entries_bytes (known_of (descriptor_of m)) (drop i (stored_in m)) ++ old → new ≡ encoded (kept (content_of m)) ++ old
-whole_written m i old new first is = is ∙ ap (λ i. entries_bytes (known_of (descriptor_of m)) (drop i (stored_in m)) ++ old) first ∙ ap (λ l. l ++ old) (sym (encoded_entries m))
+pub whole_written : (m : DynamicMessage) (i : ℕ) (old new : List ℕ) → i ≡ 0 → new ≡ entries_bytes (known_of (message_type_of m)) (drop i (stored_in m)) ++ old → new ≡ encoded (kept (content_of m)) ++ old
+whole_written m i old new first is = is ∙ ap (λ i. entries_bytes (known_of (message_type_of m)) (drop i (stored_in m)) ++ old) first ∙ ap (λ l. l ++ old) (sym (encoded_entries m))
 
-module _ (m : DynamicMessage) (i : ℕ) (e : ℕ × Entry Value) (some : 0 < i) (within : i ≤ length (stored_in m)) (at : e ≡ get_or (stored_in m) (i - 1) e) where
+module _ (m : DynamicMessage) (i : ℕ) (e : ℕ × FieldSlot Value) (some : 0 < i) (within : i ≤ length (stored_in m)) (at : e ≡ get_or (stored_in m) (i - 1) e) where
   cut_here : drop (i - 1) (stored_in m) ≡ e ∷ drop i (stored_in m)
   cut_here = cut_before (stored_in m) i e some within at
 
-  pub entry_writable : encodable (content_of m) ≡ true → IsAscending (stored_in m) → IsSound (descriptor_of m) (stored_in m) → IsWritable (known_of (descriptor_of m)) e.0 e.1
-  entry_writable h s sound = writable_at (known_of (descriptor_of m)) (stored_in m) (i - 1) e (omega (arith, some, within)) at (writable_message m h s sound)
+  pub entry_writable : encodable (content_of m) ≡ true → IsAscending (stored_in m) → IsSound (message_type_of m) (stored_in m) → IsWritable (known_of (message_type_of m)) e.0 e.1
+  entry_writable h s sound = writable_at (known_of (message_type_of m)) (stored_in m) (i - 1) e (omega (arith, some, within)) at (writable_message m h s sound)
 
-  entry_too_long : (old mid : List ℕ) → mid ≡ entries_bytes (known_of (descriptor_of m)) (drop i (stored_in m)) ++ old → 2 ^ 64 ≤ length (slot_bytes (known_of (descriptor_of m)) e.0 (entry_slot e.1)) + length mid → 2 ^ 64 ≤ length (encoded (kept (content_of m))) + length old
+  entry_too_long : (old mid : List ℕ) → mid ≡ entries_bytes (known_of (message_type_of m)) (drop i (stored_in m)) ++ old → 2 ^ 64 ≤ length (slot_bytes (known_of (message_type_of m)) e.0 (entry_slot e.1)) + length mid → 2 ^ 64 ≤ length (encoded (kept (content_of m))) + length old
   entry_too_long old mid is h =
-      let all : 2 ^ 64 ≤ length (entries_bytes (known_of (descriptor_of m)) (stored_in m)) + length old = too_long_from (known_of (descriptor_of m)) (stored_in m) i e old mid cut_here is h in
+      let all : 2 ^ 64 ≤ length (entries_bytes (known_of (message_type_of m)) (stored_in m)) + length old = too_long_from (known_of (message_type_of m)) (stored_in m) i e old mid cut_here is h in
       omega (arith, all, ap length (encoded_entries m))
 
-  pub unknown_too_long : (old mid : List ℕ) → mid ≡ entries_bytes (known_of (descriptor_of m)) (drop i (stored_in m)) ++ old → 2 ^ 64 ≤ length (unknown_bytes e.0 (entry_slot e.1)) + length mid → 2 ^ 64 ≤ length (encoded (kept (content_of m))) + length old
+  pub unknown_too_long : (old mid : List ℕ) → mid ≡ entries_bytes (known_of (message_type_of m)) (drop i (stored_in m)) ++ old → 2 ^ 64 ≤ length (unknown_bytes e.0 (entry_slot e.1)) + length mid → 2 ^ 64 ≤ length (encoded (kept (content_of m))) + length old
   unknown_too_long old mid is h =
-      let more = length-append (stored_bytes (known_of (descriptor_of m)) e.0 (entry_slot e.1).value) (unknown_bytes e.0 (entry_slot e.1)) in
+      let more = length-append (stored_bytes (known_of (message_type_of m)) e.0 (entry_slot e.1).value) (unknown_bytes e.0 (entry_slot e.1)) in
       entry_too_long old mid is (omega (arith, h, more))
 
-  stored_value : (v : Value) → value_in e.1 ≡ Some v → stored_bytes (known_of (descriptor_of m)) e.0 (entry_slot e.1).value ≡ value_bytes (known_of (descriptor_of m)) e.0 (value_of v)
-  stored_value v is = ap (λ o. stored_bytes (known_of (descriptor_of m)) e.0 (option_map value_of o)) is
+  stored_value : (v : Value) → value_in e.1 ≡ Some v → stored_bytes (known_of (message_type_of m)) e.0 (entry_slot e.1).value ≡ value_bytes (known_of (message_type_of m)) e.0 (value_of v)
+  stored_value v is = ap (λ o. stored_bytes (known_of (message_type_of m)) e.0 (option_map value_of o)) is
 
-  pub value_too_long : (v : Value) (old mid after : List ℕ) → value_in e.1 ≡ Some v → mid ≡ entries_bytes (known_of (descriptor_of m)) (drop i (stored_in m)) ++ old → after ≡ unknown_bytes e.0 (entry_slot e.1) ++ mid →
-      2 ^ 64 ≤ length (value_bytes (known_of (descriptor_of m)) e.0 (value_of v)) + length after → 2 ^ 64 ≤ length (encoded (kept (content_of m))) + length old
+  pub value_too_long : (v : Value) (old mid after : List ℕ) → value_in e.1 ≡ Some v → mid ≡ entries_bytes (known_of (message_type_of m)) (drop i (stored_in m)) ++ old → after ≡ unknown_bytes e.0 (entry_slot e.1) ++ mid →
+      2 ^ 64 ≤ length (value_bytes (known_of (message_type_of m)) e.0 (value_of v)) + length after → 2 ^ 64 ≤ length (encoded (kept (content_of m))) + length old
   value_too_long v old mid after valued is behind h =
-      let more = length-append (stored_bytes (known_of (descriptor_of m)) e.0 (entry_slot e.1).value) (unknown_bytes e.0 (entry_slot e.1)) in
+      let more = length-append (stored_bytes (known_of (message_type_of m)) e.0 (entry_slot e.1).value) (unknown_bytes e.0 (entry_slot e.1)) in
       entry_too_long old mid is (omega (arith, h, more, ap length (stored_value v valued), ap length behind, length-append (unknown_bytes e.0 (entry_slot e.1)) mid))
 
   -- one entry more is written
-  pub entry_written : (old mid new : List ℕ) → mid ≡ entries_bytes (known_of (descriptor_of m)) (drop i (stored_in m)) ++ old → new ≡ stored_bytes (known_of (descriptor_of m)) e.0 (entry_slot e.1).value ++ (unknown_bytes e.0 (entry_slot e.1) ++ mid) →
-      new ≡ entries_bytes (known_of (descriptor_of m)) (drop (i - 1) (stored_in m)) ++ old
+  pub entry_written : (old mid new : List ℕ) → mid ≡ entries_bytes (known_of (message_type_of m)) (drop i (stored_in m)) ++ old → new ≡ stored_bytes (known_of (message_type_of m)) e.0 (entry_slot e.1).value ++ (unknown_bytes e.0 (entry_slot e.1) ++ mid) →
+      new ≡ entries_bytes (known_of (message_type_of m)) (drop (i - 1) (stored_in m)) ++ old
   entry_written old mid new is added =
-      added ∙ sym (append_assoc (stored_bytes (known_of (descriptor_of m)) e.0 (entry_slot e.1).value) (unknown_bytes e.0 (entry_slot e.1)) mid)
-      ∙ ap (λ l. slot_bytes (known_of (descriptor_of m)) e.0 (entry_slot e.1) ++ l) is
-      ∙ sym (append_assoc (slot_bytes (known_of (descriptor_of m)) e.0 (entry_slot e.1)) (entries_bytes (known_of (descriptor_of m)) (drop i (stored_in m))) old)
-      ∙ ap (λ l. entries_bytes (known_of (descriptor_of m)) l ++ old) (sym cut_here)
+      added ∙ sym (append_assoc (stored_bytes (known_of (message_type_of m)) e.0 (entry_slot e.1).value) (unknown_bytes e.0 (entry_slot e.1)) mid)
+      ∙ ap (λ l. slot_bytes (known_of (message_type_of m)) e.0 (entry_slot e.1) ++ l) is
+      ∙ sym (append_assoc (slot_bytes (known_of (message_type_of m)) e.0 (entry_slot e.1)) (entries_bytes (known_of (message_type_of m)) (drop i (stored_in m))) old)
+      ∙ ap (λ l. entries_bytes (known_of (message_type_of m)) l ++ old) (sym cut_here)
 
-  pub value_added : (v : Value) (old mid after new : List ℕ) → value_in e.1 ≡ Some v → mid ≡ entries_bytes (known_of (descriptor_of m)) (drop i (stored_in m)) ++ old → after ≡ unknown_bytes e.0 (entry_slot e.1) ++ mid →
-      new ≡ value_bytes (known_of (descriptor_of m)) e.0 (value_of v) ++ after → new ≡ entries_bytes (known_of (descriptor_of m)) (drop (i - 1) (stored_in m)) ++ old
+  pub value_added : (v : Value) (old mid after new : List ℕ) → value_in e.1 ≡ Some v → mid ≡ entries_bytes (known_of (message_type_of m)) (drop i (stored_in m)) ++ old → after ≡ unknown_bytes e.0 (entry_slot e.1) ++ mid →
+      new ≡ value_bytes (known_of (message_type_of m)) e.0 (value_of v) ++ after → new ≡ entries_bytes (known_of (message_type_of m)) (drop (i - 1) (stored_in m)) ++ old
   value_added v old mid after new valued is behind added = entry_written old mid new is (added ∙ ap₂ ◌++◌ (sym (stored_value v valued)) behind)

@@ -5,6 +5,7 @@ pub mod Views
 pub mod Slots
 pub mod Stored
 pub mod Merging
+pub mod NestedFaults
 pub mod NestedReads
 pub mod MapEntries
 pub mod MapMerging
@@ -14,7 +15,7 @@ mod NestedMapWrites
 pub mod ContentChanges
 mod KeptSlots
 pub mod Described
-pub mod Zeros
+pub mod ScalarRefs
 pub mod WrittenValues
 pub mod NestedWrites
 pub mod WrittenMaps

@@ -17,22 +17,22 @@ use Rattle.prost_reflect_wire.specs.Fault.{OfType}
 use Rattle.prost_reflect_wire.specs.Decoding.{Step, ElementsRead, StandsBehindKey}
 use Rattle.prost_reflect_wire.proofs.Survivors.{field_number}
 use Rattle.prost_reflect_laws.proofs.Checked.{checked_field, checked_list}
-use Rattle.prost_reflect_records.proofs.FieldsFound.{field_stands}
+use Rattle.prost_reflect_types.proofs.FieldsFound.{field_stands}
 use Rattle.prost_reflect_laws.proofs.ListSteps.{IsListed}
 use Rattle.prost_reflect_laws.proofs.ListReads.{IsOpen, stored_list, list_holds}
 use Rattle.prost_reflect_tables.specs.declared.tables.TableKind.{TableKind}
 use Rattle.prost_reflect.specs.declared.message.DynamicMessage.{DynamicMessage}
 use Rattle.prost_reflect.specs.declared.value.Value.{Value}
 use Rattle.prost_reflect.specs.declared.value.Value as values
-use Rattle.prost_reflect_descriptors.specs.Descriptors.{schema_at}
+use Rattle.prost_reflect_pool.specs.MessageTypes.{schema_at}
 use Rattle.prost_reflect_fields.specs.Known.{known_of}
-use Rattle.prost_reflect.specs.View.{value_of, content_of, descriptor_of}
+use Rattle.prost_reflect.specs.View.{value_of, content_of, message_type_of}
 use Rattle.prost_reflect.specs.Contents.{value_set}
 use Rattle.prost_reflect.specs.RowKinds.{is_plain_kind, is_repeated}
 use Rattle.prost_reflect_tables.specs.Rows.{FieldRow}
 use Rattle.prost_reflect_tables.specs.Shown.{schema_field}
-use Rattle.prost_reflect_descriptors.specs.Pools.{pool_rows}
-use Rattle.prost_reflect_descriptors.specs.declared.message.MessageDescriptor.{MessageDescriptor}
+use Rattle.prost_reflect_pool.specs.SharedPools.{pool_rows}
+use Rattle.prost_reflect_pool.specs.declared.pooled_type.PooledType.{PooledType}
 use Rattle.prost_reflect.proofs.PlainKinds.{plain_row, list_row}
 use Rattle.prost_reflect.proofs.Described.{found_checked}
 use Rattle.prost_reflect.specs.Lists.{AddsElements, RefusesElements, JoinsElements, IsList, ListField}
@@ -85,7 +85,7 @@ values_or None = refl
 values_or (Some v) = refl
 
 -- a checked list is no member of a oneof
-pub list_alone : (d : MessageDescriptor) (n : ℕ) (f : Field) (packed : Bool) → field_of (known_of d) n ≡ Some f → f.form ≡ Repeated packed → f.oneof ≡ None
+pub list_alone : (d : PooledType) (n : ℕ) (f : Field) (packed : Bool) → field_of (known_of d) n ≡ Some f → f.form ≡ Repeated packed → f.oneof ≡ None
 list_alone d n f packed found form = let checked = checked_list (schema_at d) f packed (checked_field (schema_at d) f (found_checked d n f found)) form in none f.oneof checked.alone
   where
     none : (o : Option ℕ) → not (is_some o) ≡ true → o ≡ None
@@ -93,7 +93,7 @@ list_alone d n f packed found form = let checked = checked_list (schema_at d) f 
     none (Some o) e = cc
 
 -- a repeated row of a plain kind is a list
-pub list_field : (d : MessageDescriptor) (n : ℕ) (row : FieldRow) → field_of (known_of d) n ≡ Some (schema_field (pool_rows d.pool) row) → is_repeated row.cardinality ≡ true → is_plain_kind row.kind ≡ true → ListField (known_of d) n row.kind
+pub list_field : (d : PooledType) (n : ℕ) (row : FieldRow) → field_of (known_of d) n ≡ Some (schema_field (pool_rows d.pool) row) → is_repeated row.cardinality ≡ true → is_plain_kind row.kind ≡ true → ListField (known_of d) n row.kind
 list_field d n row found many plain =
     let kind = plain_row (pool_rows d.pool) row plain in
     let form : (schema_field (pool_rows d.pool) row).form ≡ Repeated row.is_packed = list_row (pool_rows d.pool) row many plain in
@@ -111,7 +111,7 @@ list_field d n row found many plain =
 
 -- MESSAGES
 
-module _ (m : DynamicMessage) (n : ℕ) (kind : TableKind) (field : ListField (known_of (descriptor_of m)) n kind) where
+module _ (m : DynamicMessage) (n : ℕ) (kind : TableKind) (field : ListField (known_of (message_type_of m)) n kind) where
   found_in : field_of (known (schema_of (content_of m)) (type_of (content_of m))) n ≡ Some field.field
   found_in = ap (λ fields. field_of fields n) (known_in m) ∙ field.found
 

@@ -25,13 +25,13 @@ use Rattle.prost_reflect_tables.specs.Rows.{EnumRow}
 use Rattle.prost_reflect.specs.declared.message.DynamicMessage.{DynamicMessage}
 use Rattle.prost_reflect.specs.declared.value.MapKey.{MapKey}
 use Rattle.prost_reflect.specs.declared.value.Value.{Value}
-use Rattle.prost_reflect_descriptors.specs.Pools.{pool_rows}
+use Rattle.prost_reflect_pool.specs.SharedPools.{pool_rows}
 use Rattle.prost_reflect_fields.specs.Known.{known_of}
 use Rattle.prost_reflect.specs.Scalars.{ReadsStray, is_stray_number}
 use Rattle.prost_reflect.specs.Contents.{value_set}
 use Rattle.prost_reflect.specs.Variants.{key_among, key_in}
 use Rattle.prost_reflect.specs.Maps.{ScalarMap, ReadsEntry, RefusesEntry}
-use Rattle.prost_reflect.specs.View.{key_of, value_of, content_of, descriptor_of}
+use Rattle.prost_reflect.specs.View.{key_of, value_of, content_of, message_type_of}
 use Rattle.prost_reflect.proofs.PlainKinds.{stray_value}
 use Rattle.prost_reflect.proofs.Merging.{known_in, differ_in, valid_in, same_kind}
 
@@ -78,9 +78,9 @@ set_entry levels n (ContentOf schema T es) d f key_type key value_kind x s body 
 
 -- MESSAGES
 
-module _ (m : DynamicMessage) (n : ℕ) (key value_kind : TableKind) (map : ScalarMap (descriptor_of m) n key value_kind) where
+module _ (m : DynamicMessage) (n : ℕ) (key value_kind : TableKind) (map : ScalarMap (message_type_of m) n key value_kind) where
   abbrev enums : List EnumRow
-  enums = (pool_rows (descriptor_of m).pool).enums
+  enums = (pool_rows (message_type_of m).pool).enums
 
   found_in : field_of (known (schema_of (content_of m)) (type_of (content_of m))) n ≡ Some map.field
   found_in = ap (λ fields. field_of fields n) (known_in m) ∙ map.found
@@ -93,7 +93,7 @@ module _ (m : DynamicMessage) (n : ℕ) (key value_kind : TableKind) (map : Scal
   mapped_in sound = mapped_at (content_of m) n map.key_type at_map sound
 
   -- the key that was read is a key
-  pub key_found : (levels : ℕ) (k v : Value) (body bytes rest : List ℕ) → ReadsEntry (pool_rows (descriptor_of m).pool).enums levels key value_kind k v body [] → AreBytes bytes → DelimitedFront body bytes rest → IsSome (key_in (value_of k))
+  pub key_found : (levels : ℕ) (k v : Value) (body bytes rest : List ℕ) → ReadsEntry (pool_rows (message_type_of m).pool).enums levels key value_kind k v body [] → AreBytes bytes → DelimitedFront body bytes rest → IsSome (key_in (value_of k))
   key_found levels k v body bytes rest read small front =
       subst (λ w. IsSome (key_in w)) (sym read.key_is)
       (found_key read.key_scalar read.key_read keyed (key_read_valid levels read.key_scalar read.value_scalar read.key_read read.value_read body read.read (delimited_bytes body bytes rest small front) keyed))
@@ -103,17 +103,17 @@ module _ (m : DynamicMessage) (n : ℕ) (key value_kind : TableKind) (map : Scal
           ap (λ kind. is_key_kind (ScalarOf kind)) (same_kind read.key_plain map.key_plain) ∙ ap is_key_kind (sym map.key_is)
           ∙ map_keyed (schema_of (content_of m)) map.field map.key_type (field_checked (schema_of (content_of m)) (type_of (content_of m)) n map.field (valid_in m) found_in) map.form
 
-  module _ (levels : ℕ) (w : WireType) (k v : Value) (body bytes rest : List ℕ) (small : AreBytes bytes) (read : ReadsEntry (pool_rows (descriptor_of m).pool).enums levels key value_kind k v body []) (delimited : w ≡ wires.LengthDelimited) (front : DelimitedFront body bytes rest) where
+  module _ (levels : ℕ) (w : WireType) (k v : Value) (body bytes rest : List ℕ) (small : AreBytes bytes) (read : ReadsEntry (pool_rows (message_type_of m).pool).enums levels key value_kind k v body []) (delimited : w ≡ wires.LengthDelimited) (front : DelimitedFront body bytes rest) where
     key_typed : map.key_type.kind ≡ ScalarOf read.key_scalar
     key_typed = map.key_is ∙ ap ScalarOf (same_kind map.key_plain read.key_plain)
 
     value_typed : map.field.value_type.kind ≡ ScalarOf read.value_scalar
     value_typed = map.value_is ∙ sym map.value_named ∙ read.value_named
 
-    value_stray : is_undeclared_value read.value_scalar read.value_read ≡ is_stray_number (pool_rows (descriptor_of m).pool).enums value_kind (value_of v)
+    value_stray : is_undeclared_value read.value_scalar read.value_read ≡ is_stray_number (pool_rows (message_type_of m).pool).enums value_kind (value_of v)
     value_stray = stray_value enums value_kind read.value_scalar read.value_read read.value_named ∙ ap (is_stray_number enums value_kind) (sym read.value_is)
 
-    pub entry_set : (new : DynamicMessage) (x : MapKey) → WellStored (content_of m) → is_stray_number (pool_rows (descriptor_of m).pool).enums value_kind (value_of v) ≡ false → key_in (value_of k) ≡ Some (key_of x) →
+    pub entry_set : (new : DynamicMessage) (x : MapKey) → WellStored (content_of m) → is_stray_number (pool_rows (message_type_of m).pool).enums value_kind (value_of v) ≡ false → key_in (value_of k) ≡ Some (key_of x) →
         content_of new ≡ value_set n (MapValue (put (key_of x) (value_of v) (pairs_in (value_at n (entries_of (content_of m)))))) (content_of m) → Step levels n w (content_of m) (content_of new) bytes rest
     entry_set new x sound declared is content =
         subst (λ w. Step levels n w (content_of m) (content_of new) bytes rest) (sym delimited)
@@ -123,7 +123,7 @@ module _ (m : DynamicMessage) (n : ℕ) (key value_kind : TableKind) (map : Scal
         ∙ ap (λ s. value_set n (MapValue (put read.key_read s (pairs_in (value_at n (entries_of (content_of m)))))) (content_of m)) read.value_is))
 
     -- an entry whose value its closed enum does not declare stays unknown
-    pub entry_stray : is_stray_number (pool_rows (descriptor_of m).pool).enums value_kind (value_of v) ≡ true → ReadsStray (known_of (descriptor_of m)) levels n w bytes
+    pub entry_stray : is_stray_number (pool_rows (message_type_of m).pool).enums value_kind (value_of v) ≡ true → ReadsStray (known_of (message_type_of m)) levels n w bytes
     entry_stray stray =
         let s : StaysWhole map.field levels (Flat (Len body)) = scalar_entry_stays (schema_of (content_of m)) map.field (field_checked (schema_of (content_of m)) (type_of (content_of m)) n map.field (valid_in m) found_in) map.key_type map.form
         read.key_scalar read.value_scalar key_typed value_typed levels read.key_read read.value_read body bytes rest small read.read (value_stray ∙ stray) front in
@@ -142,7 +142,7 @@ module _ (m : DynamicMessage) (n : ℕ) (key value_kind : TableKind) (map : Scal
   pub body_fault : (levels : ℕ) (w : WireType) (e : DecodeError) (rest : List ℕ) → BodyFault e w rest → StandsBehindKey (content_of m) levels n w e rest
   body_fault levels w e rest fault = body_refused (content_of m) n map.key_type at_map levels w e rest fault
 
-  pub entry_fault : (levels : ℕ) (w : WireType) (e : DecodeError) (body rest after : List ℕ) → w ≡ wires.LengthDelimited → DelimitedFront body rest after → RefusesEntry (pool_rows (descriptor_of m).pool).enums levels key value_kind e body → StandsBehindKey (content_of m) levels n w e rest
+  pub entry_fault : (levels : ℕ) (w : WireType) (e : DecodeError) (body rest after : List ℕ) → w ≡ wires.LengthDelimited → DelimitedFront body rest after → RefusesEntry (pool_rows (message_type_of m).pool).enums levels key value_kind e body → StandsBehindKey (content_of m) levels n w e rest
   entry_fault levels w e body rest after delimited front refused =
       subst (λ w. StandsBehindKey (content_of m) levels n w e rest) (sym delimited)
       (entry_stands (content_of m) n map.key_type at_map levels e body rest after (ap (λ kind. has_level levels kind) map.value_is) front

@@ -2,35 +2,35 @@
 use Rattle.std.proofs.Common.{◌≡◌, ℕ, true, false, List, [], ◌∷◌, Option, Some, None, refl, sym, ap, ◌∙◌, subst, true≢false}
 use Rattle.std.specs.Prelude.{slice_get}
 use Rattle.std.specs.BTreeMap.{BTreeMap}
-use Rattle.prost_reflect_wire.specs.Scalar.{ScalarKind, Enum}
+use Rattle.prost_reflect_wire.specs.Scalar.{Enum}
 use Rattle.prost_reflect_wire.specs.Schema.{Kind, ScalarOf, MessageOf, GroupOf, ValueType, MapFrom, Field, field_of, is_message, is_singular, is_key_kind, field_valid, passes}
 use Rattle.prost_reflect_wire.specs.Content as contents
 use Rattle.prost_reflect_wire.specs.Content.{ScalarValue, MessageValue, ListValue, MapValue}
 use Rattle.prost_reflect_wire.specs.Typing.{value_valid, is_repeated as is_list}
 use Rattle.prost_reflect_wire.specs.Storing.{value_bytes}
 use Rattle.prost_reflect_wire.proofs.Deeper.{and_both}
-use Rattle.prost_reflect_laws.proofs.ScalarEntries.{map_keyed, map_key_default}
+use Rattle.prost_reflect_laws.proofs.ScalarEntries.{map_keyed}
 use Rattle.prost_reflect_tables.specs.declared.tables.Cardinality.{Cardinality}
 use Rattle.prost_reflect_tables.specs.declared.tables.Cardinality.TheVariants.{Optional, Required, Repeated as RepeatedLabel}
 use Rattle.prost_reflect_tables.specs.Rows.{FieldRow, MessageRow, TableRows}
-use Rattle.prost_reflect_tables.specs.Shown.{schema_kind, schema_default, own_type, type_or, map_entry, form_of, value_type_of, schema_field}
-use Rattle.prost_reflect_descriptors.specs.declared.message.MessageDescriptor.{MessageDescriptor}
+use Rattle.prost_reflect_tables.specs.Shown.{schema_kind, own_type, type_or, map_entry, form_of, value_type_of, schema_field}
+use Rattle.prost_reflect_pool.specs.declared.pooled_type.PooledType.{PooledType}
 use Rattle.prost_reflect.specs.declared.value.MapKey.{MapKey}
 use Rattle.prost_reflect.specs.declared.value.Value.{Value}
 use Rattle.prost_reflect.specs.declared.value.Value as values
-use Rattle.prost_reflect_descriptors.specs.Pools.{pool_rows}
-use Rattle.prost_reflect_descriptors.specs.Descriptors.{schema_at}
+use Rattle.prost_reflect_pool.specs.SharedPools.{pool_rows}
+use Rattle.prost_reflect_pool.specs.MessageTypes.{schema_at}
 use Rattle.prost_reflect_fields.specs.Known.{known_of}
 use Rattle.prost_reflect.specs.RowKinds.{is_plain, names_message}
 use Rattle.prost_reflect.specs.ContentLaws.{pairs_shown}
-use Rattle.prost_reflect_descriptors.specs.MapParts.{two_of, entry_parts, map_parts}
+use Rattle.prost_reflect_pool.specs.MapParts.{two_of, entry_parts, map_parts}
 use Rattle.prost_reflect.specs.Maps.{ScalarMap, pairs_bytes, IsMap, MapOfRows}
 use Rattle.prost_reflect.specs.View.{value_of}
 use Rattle.prost_reflect.proofs.RowKinds as row_kinds
 use Rattle.prost_reflect.proofs.PlainKinds.{PlainKind, kind_plain, NamedKind, kind_named, plain_of}
 use Rattle.prost_reflect.proofs.Described.{found_checked}
 use Rattle.prost_reflect.proofs.Views.{value_of_map}
-use Rattle.prost_reflect.proofs.WrittenValues.{is_enum, passing}
+use Rattle.prost_reflect.proofs.WrittenValues.{passing}
 use Rattle.prost_reflect.proofs.WrittenMaps.{PartRow, KeyRow, MapWritten, map_of_kinds}
 
 -- the types of a map's keys and values are those of its entry's fields
@@ -55,11 +55,6 @@ shown_map rows f key value h = let (form, type) = go f.cardinality h in record {
     go Required h = cc
     go RepeatedLabel h = by (map_entry rows.messages f RepeatedLabel) h
 
--- no enum is a key
-key_apart : (kind : ScalarKind) → is_key_kind (ScalarOf kind) ≡ true → is_enum (ScalarOf kind) ≡ false
-key_apart (Enum first numbers) h = absurd (true≢false (sym h))
-key_apart kind h = refl
-
 -- kinds of keys are plain
 pub key_plain : (kind : Kind) → is_key_kind kind ≡ true → is_plain kind ≡ true
 key_plain (ScalarOf (Enum first numbers)) h = absurd (true≢false (sym h))
@@ -72,7 +67,7 @@ key_no_message (ScalarOf kind) h = refl
 key_no_message (MessageOf T) h = absurd (true≢false (sym h))
 key_no_message (GroupOf T) h = absurd (true≢false (sym h))
 
-module _ (d : MessageDescriptor) (n : ℕ) (row key value : FieldRow) (found : Some (schema_field (pool_rows d.pool) row) ≡ field_of (known_of d) n) (parts : map_parts (pool_rows d.pool) row ≡ Some (key, value)) where
+module _ (d : PooledType) (n : ℕ) (row key value : FieldRow) (found : Some (schema_field (pool_rows d.pool) row) ≡ field_of (known_of d) n) (parts : map_parts (pool_rows d.pool) row ≡ Some (key, value)) where
   abbrev field : Field
   field = schema_field (pool_rows d.pool) row
 
@@ -98,18 +93,12 @@ module _ (d : MessageDescriptor) (n : ℕ) (row key value : FieldRow) (found : S
     named = named;
     shown = kind.named;
     is = kind.is;
-    presence = refl;
-    default = ap (schema_default r.default) kind.is;
+    own = refl;
   }
 
   -- what is written of the key
   pub key_row : KeyRow (pool_rows d.pool).enums key (own_type (pool_rows d.pool).enums key)
-  key_row = record {
-    kind = key_named.scalar;
-    part = part_row key key_named;
-    apart = key_apart key_named.scalar (ap is_key_kind (sym key_named.is) ∙ keyed);
-    zero = map_key_default (schema_at d) field (own_type (pool_rows d.pool).enums key) key_named.scalar checked shown.form key_named.is;
-  }
+  key_row = record { kind = key_named.scalar; part = part_row key key_named }
 
   module _ (scalar : names_message value.kind ≡ false) where
     value_kind : NamedKind (pool_rows d.pool).enums value.kind (schema_kind (pool_rows d.pool).enums value.kind value.is_group)
@@ -131,7 +120,7 @@ module _ (d : MessageDescriptor) (n : ℕ) (row key value : FieldRow) (found : S
     }
 
     pub map_row_written : (es : List (MapKey × Value)) → passes (field_of (known_of d) n) (λ f. value_valid f (MapValue (pairs_shown es))) ≡ true → MapWritten (known_of d) n (pool_rows d.pool).enums key value es
-    map_row_written es h = map_of_kinds n (pool_rows d.pool).enums key value (own_type (pool_rows d.pool).enums key) (own_type (pool_rows d.pool).enums value) key_row.kind value_kind.scalar key_row.part (part_row value value_kind) key_row.apart key_row.zero
+    map_row_written es h = map_of_kinds n (pool_rows d.pool).enums key value (own_type (pool_rows d.pool).enums key) (own_type (pool_rows d.pool).enums value) key_row.kind value_kind.scalar key_row.part (part_row value value_kind)
         (known_of d) field es (sym found) shown.form shown.type (passing (field_of (known_of d) n) field (λ f. value_valid f (MapValue (pairs_shown es))) (sym found) h)
 
 -- the value of a map is one
@@ -141,17 +130,17 @@ is_map_value f key_type (MessageValue m) form h = absurd (true≢false (sym (and
 is_map_value f key_type (ListValue vs) form h = absurd (true≢false (sym (and_both _ _ h).0 ∙ ap is_list form))
 is_map_value f key_type (MapValue ps) form h = tt
 
-pub valid_map_value : (d : MessageDescriptor) (n : ℕ) (key value : FieldRow) (c : contents.Value) → MapOfRows d n key value → passes (field_of (known_of d) n) (λ f. value_valid f c) ≡ true → IsMap c
+pub valid_map_value : (d : PooledType) (n : ℕ) (key value : FieldRow) (c : contents.Value) → MapOfRows d n key value → passes (field_of (known_of d) n) (λ f. value_valid f c) ≡ true → IsMap c
 valid_map_value d n key value c m valid =
     let p = scalar_map d n m.row key value m.found m.parts m.scalar in
     is_map_value p.field p.key_type c p.form (passing (field_of (known_of d) n) p.field (λ f. value_valid f c) p.found valid)
 
 -- what is written of the value of a map
-pub rows_written : (d : MessageDescriptor) (n : ℕ) (key value : FieldRow) (v : Value) (pairs : BTreeMap MapKey Value) → MapOfRows d n key value → passes (field_of (known_of d) n) (λ f. value_valid f (value_of v)) ≡ true → v ≡ values.Map pairs →
+pub rows_written : (d : PooledType) (n : ℕ) (key value : FieldRow) (v : Value) (pairs : BTreeMap MapKey Value) → MapOfRows d n key value → passes (field_of (known_of d) n) (λ f. value_valid f (value_of v)) ≡ true → v ≡ values.Map pairs →
     MapWritten (known_of d) n (pool_rows d.pool).enums key value pairs.entries
 rows_written d n key value v pairs m valid is =
     map_row_written d n m.row key value m.found m.parts m.scalar pairs.entries (subst (λ c. passes (field_of (known_of d) n) (λ f. value_valid f c) ≡ true) (ap value_of is ∙ value_of_map pairs) valid)
 
-pub map_value_bytes : (d : MessageDescriptor) (n : ℕ) (key value : FieldRow) (v : Value) (pairs : BTreeMap MapKey Value) → v ≡ values.Map pairs → MapWritten (known_of d) n (pool_rows d.pool).enums key value pairs.entries →
+pub map_value_bytes : (d : PooledType) (n : ℕ) (key value : FieldRow) (v : Value) (pairs : BTreeMap MapKey Value) → v ≡ values.Map pairs → MapWritten (known_of d) n (pool_rows d.pool).enums key value pairs.entries →
     value_bytes (known_of d) n (value_of v) ≡ pairs_bytes n (pool_rows d.pool).enums key value pairs.entries
 map_value_bytes d n key value v pairs is w = ap (value_bytes (known_of d) n) (ap value_of is ∙ value_of_map pairs) ∙ w.bytes

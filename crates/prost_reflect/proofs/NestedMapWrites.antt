@@ -17,7 +17,7 @@ use Rattle.prost_reflect_tables.specs.declared.tables.TableKind.{TableKind}
 use Rattle.prost_reflect_tables.specs.declared.tables.TableKind.TheVariants as kinds
 use Rattle.prost_reflect_tables.specs.Rows.{FieldRow, EnumRow}
 use Rattle.prost_reflect_tables.specs.Shown.{own_type, schema_field}
-use Rattle.prost_reflect_descriptors.specs.declared.message.MessageDescriptor.{MessageDescriptor}
+use Rattle.prost_reflect_pool.specs.declared.pooled_type.PooledType.{PooledType}
 use Rattle.prost_reflect.specs.declared.value.MapKey.{MapKey}
 use Rattle.prost_reflect.specs.declared.value.Value.{Value}
 use Rattle.prost_reflect.specs.declared.value.Value as values
@@ -26,23 +26,23 @@ use Rattle.prost_reflect.specs.RowKinds.{names_message}
 use Rattle.prost_reflect.specs.Encoding.{ValueWritable, nested_bytes}
 use Rattle.prost_reflect_fields.specs.Known.{known_of}
 use Rattle.prost_reflect.specs.Lists.{ElementWritable}
-use Rattle.prost_reflect_descriptors.specs.MapParts.{map_parts}
+use Rattle.prost_reflect_pool.specs.MapParts.{map_parts}
 use Rattle.prost_reflect.specs.Maps.{IsMap}
 use Rattle.prost_reflect.specs.NestedMaps.{AreEntries, nested_entry_bytes, nested_pairs_bytes, NestedMapOfRows}
-use Rattle.prost_reflect_descriptors.specs.Pools.{pool_rows}
+use Rattle.prost_reflect_pool.specs.SharedPools.{pool_rows}
 use Rattle.prost_reflect.specs.Scalars.{TakesScalar}
 use Rattle.prost_reflect.specs.View.{key_of, value_of}
 use Rattle.prost_reflect.proofs.MapRows.{shown_map, key_row, is_map_value}
 use Rattle.prost_reflect.proofs.NestedWrites.{kind_bytes_before}
 use Rattle.prost_reflect.proofs.RepeatedRows.{map_message}
 use Rattle.prost_reflect.proofs.Views.{value_of_map}
-use Rattle.prost_reflect.proofs.WrittenMaps.{KeyRow, key_part, part_takes}
+use Rattle.prost_reflect.proofs.WrittenMaps.{KeyRow, part_written_as, part_takes}
 use Rattle.prost_reflect.proofs.WrittenValues.{passing}
 
 -- what the writer of a map of messages needs to know, and what it has to write
-pub record NestedPairsWritten (fields : List Field) (n : ℕ) (key : FieldRow) (es : List (MapKey × Value)) : Type 0 where
+pub record NestedPairsWritten (fields : List Field) (n : ℕ) (enums : List EnumRow) (key : FieldRow) (es : List (MapKey × Value)) : Type 0 where
   pub takes : AreEntries key.kind es
-  pub bytes : value_bytes fields n (MapValue (pairs_shown es)) ≡ nested_pairs_bytes n key es
+  pub bytes : value_bytes fields n (MapValue (pairs_shown es)) ≡ nested_pairs_bytes n enums key es
 
 module _ (n : ℕ) (enums : List EnumRow) (key : FieldRow) (key_type value_type : ValueType) (T : ℕ) (row : KeyRow enums key key_type) (message : value_type.kind ≡ MessageOf T) where
   key_fits : (k : Scalar) → kind_takes key_type.kind k ≡ true → scalar_valid row.kind k ≡ true
@@ -67,7 +67,7 @@ module _ (n : ℕ) (enums : List EnumRow) (key : FieldRow) (key_type value_type 
       ap (λ kind. spelled (record_at 2 (message_payload kind (records (kept c))) ∷ [])) message
       ∙ kind_bytes_before 2 (MessageOf T) false c [] refl (λ U e. refl) (λ U e. cc) ∙ append-nil (nested_bytes 2 false c)
 
-  entries_spelled : (es : List (MapKey × Value)) → pairs_valid (MapFrom key_type) (MessageOf T) (pairs_shown es) ≡ true → spelled (map (record_at n) (pair_payloads key_type value_type (kept_pairs (pairs_shown es)))) ≡ nested_pairs_bytes n key es
+  entries_spelled : (es : List (MapKey × Value)) → pairs_valid (MapFrom key_type) (MessageOf T) (pairs_shown es) ≡ true → spelled (map (record_at n) (pair_payloads key_type value_type (kept_pairs (pairs_shown es)))) ≡ nested_pairs_bytes n enums key es
   entries_spelled [] h = refl
   entries_spelled (e ∷ es) h =
       let (one, more) = and_both (kind_takes key_type.kind (key_of e.0) && element_valid (MessageOf T) (value_of e.1)) (pairs_valid (MapFrom key_type) (MessageOf T) (pairs_shown es)) h in
@@ -75,18 +75,18 @@ module _ (n : ℕ) (enums : List EnumRow) (key : FieldRow) (key_type value_type 
       go (value_of e.1) (key_fits (key_of e.0) a) b (entries_spelled es more)
     where
       go : (c : contents.Value) → scalar_valid row.kind (key_of e.0) ≡ true → element_valid (MessageOf T) c ≡ true →
-          spelled (map (record_at n) (pair_payloads key_type value_type (kept_pairs (pairs_shown es)))) ≡ nested_pairs_bytes n key es →
-          spelled (map (record_at n) (pair_payloads key_type value_type (kept_pairs (Pair (key_of e.0) c (pairs_shown es))))) ≡ nested_entry_bytes n key (key_of e.0) c ++ nested_pairs_bytes n key es
+          spelled (map (record_at n) (pair_payloads key_type value_type (kept_pairs (pairs_shown es)))) ≡ nested_pairs_bytes n enums key es →
+          spelled (map (record_at n) (pair_payloads key_type value_type (kept_pairs (Pair (key_of e.0) c (pairs_shown es))))) ≡ nested_entry_bytes n enums key (key_of e.0) c ++ nested_pairs_bytes n enums key es
       go (MessageValue c) a b more =
           pair_front n key_type value_type (key_of e.0) (MessageValue (kept c)) (message_payload value_type.kind (records (kept c))) (map (record_at n) (pair_payloads key_type value_type (kept_pairs (pairs_shown es))))
           ∙ ap₂ (λ (body : List ℕ) (rest : List ℕ). (short_key n wires.LengthDelimited ++ short_plain (Len body)) ++ rest)
-          (ap₂ ◌++◌ (part_written key_type 1 row.kind (key_of e.0) row.part.is a ∙ sym (key_part enums key key_type row.kind row.part (key_of e.0) row.apart row.zero a)) (message_part c)) more
+          (ap₂ ◌++◌ (part_written key_type 1 row.kind (key_of e.0) row.part.is a ∙ sym (part_written_as enums key key_type row.kind row.part 1 (key_of e.0))) (message_part c)) more
       go (ScalarValue s) a b more = absurd (true≢false (sym b))
       go (ListValue vs) a b more = absurd (true≢false (sym b))
       go (MapValue ps) a b more = absurd (true≢false (sym b))
 
   pairs_of_messages : (fields : List Field) (f : Field) (es : List (MapKey × Value)) → field_of fields n ≡ Some f → f.form ≡ MapFrom key_type → f.value_type ≡ value_type → value_valid f (MapValue (pairs_shown es)) ≡ true → pairs_pass fit_test (pairs_shown es) ≡ true →
-      NestedPairsWritten fields n key es
+      NestedPairsWritten fields n enums key es
   pairs_of_messages fields f es found form type h fits =
       let valid : pairs_valid (MapFrom key_type) (MessageOf T) (pairs_shown es) ≡ true = ap₂ (λ form kind. pairs_valid form kind (pairs_shown es)) (sym form) (sym (ap (λ (t : ValueType). t.kind) type ∙ message)) ∙ h in
       record {
@@ -100,10 +100,10 @@ message_place : (kind : TableKind) → names_message kind ≡ true → (T : ℕ)
 message_place (kinds.Message T) h = (T, refl)
 message_place kind h = absurd (true≢false (sym h))
 
-pub nested_rows : (d : MessageDescriptor) (n : ℕ) (row key value : FieldRow) → Some (schema_field (pool_rows d.pool) row) ≡ field_of (known_of d) n → Some (key, value) ≡ map_parts (pool_rows d.pool) row → names_message value.kind ≡ true → NestedMapOfRows d n key value
+pub nested_rows : (d : PooledType) (n : ℕ) (row key value : FieldRow) → Some (schema_field (pool_rows d.pool) row) ≡ field_of (known_of d) n → Some (key, value) ≡ map_parts (pool_rows d.pool) row → names_message value.kind ≡ true → NestedMapOfRows d n key value
 nested_rows d n row key value found parts message = record { row = row; found = found; parts = sym parts; message = message }
 
-module _ (d : MessageDescriptor) (n : ℕ) (key value : FieldRow) (v : Value) (m : NestedMapOfRows d n key value) (writable : ValueWritable (known_of d) n (value_of v)) where
+module _ (d : PooledType) (n : ℕ) (key value : FieldRow) (v : Value) (m : NestedMapOfRows d n key value) (writable : ValueWritable (known_of d) n (value_of v)) where
   -- the value of a map is one
   pub nested_map_value : IsMap (value_of v)
   nested_map_value =
@@ -111,7 +111,7 @@ module _ (d : MessageDescriptor) (n : ℕ) (key value : FieldRow) (v : Value) (m
       is_map_value (schema_field (pool_rows d.pool) m.row) (own_type (pool_rows d.pool).enums key) (value_of v) shown.form
       (passing (field_of (known_of d) n) (schema_field (pool_rows d.pool) m.row) (λ f. value_valid f (value_of v)) (sym m.found) writable.valid)
 
-  pub nested_rows_written : (pairs : BTreeMap MapKey Value) → v ≡ values.Map pairs → NestedPairsWritten (known_of d) n key pairs.entries
+  pub nested_rows_written : (pairs : BTreeMap MapKey Value) → v ≡ values.Map pairs → NestedPairsWritten (known_of d) n (pool_rows d.pool).enums key pairs.entries
   nested_rows_written pairs is =
       let seen : value_of v ≡ MapValue (pairs_shown pairs.entries) = ap value_of is ∙ value_of_map pairs in
       let shown = shown_map (pool_rows d.pool) m.row key value m.parts in
@@ -121,7 +121,7 @@ module _ (d : MessageDescriptor) (n : ℕ) (key value : FieldRow) (v : Value) (m
       (passing (field_of (known_of d) n) (schema_field (pool_rows d.pool) m.row) (λ f. value_valid f (MapValue (pairs_shown pairs.entries))) (sym m.found) (subst (λ c. passes (field_of (known_of d) n) (λ f. value_valid f c) ≡ true) seen writable.valid))
       (subst (λ c. value_passes fit_test c ≡ true) seen writable.fits)
 
-  pub nested_value_bytes : (pairs : BTreeMap MapKey Value) → v ≡ values.Map pairs → value_bytes (known_of d) n (value_of v) ≡ nested_pairs_bytes n key pairs.entries
+  pub nested_value_bytes : (pairs : BTreeMap MapKey Value) → v ≡ values.Map pairs → value_bytes (known_of d) n (value_of v) ≡ nested_pairs_bytes n (pool_rows d.pool).enums key pairs.entries
   nested_value_bytes pairs is = ap (value_bytes (known_of d) n) (ap value_of is ∙ value_of_map pairs) ∙ (nested_rows_written pairs is).bytes
 
 -- ENTRIES FROM THE LAST ON

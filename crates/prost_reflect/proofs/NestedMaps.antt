@@ -1,7 +1,6 @@
 -- Entries of maps of messages, read one record behind another and put into the map of their field.
-use Rattle.std.proofs.Common.{◌≡◌, ◌≢◌, ℕ, suc, ◌≤◌, ◌-◌, true, false, nat_eq, List, [], Option, Some, None, refl, ap, sym, ◌∙◌, subst}
+use Rattle.std.proofs.Common.{◌≡◌, ◌≢◌, ℕ, suc, ◌≤◌, ◌-◌, true, false, nat_eq, List, [], Option, Some, None, refl, ap, sym, ◌∙◌, subst, arith}
 use Rattle.std.specs.Prelude.{IsSome, IsSomeAnd}
-use Rattle.std.proofs.lemmas.Bool.{eqb-true}
 use Rattle.prost_reflect_wire.specs.declared.error.DecodeError.{DecodeError}
 use Rattle.prost_reflect_wire.specs.declared.error.DecodeError.TheVariants as errors
 use Rattle.prost_reflect_wire.specs.declared.key.WireType.{WireType}
@@ -9,19 +8,19 @@ use Rattle.prost_reflect_wire.specs.declared.key.WireType.TheVariants as wires
 use Rattle.prost_reflect_wire.specs.Varint.{AreBytes}
 use Rattle.prost_reflect_wire.specs.Front.{KeyFront, DelimitedFront, KeyFault}
 use Rattle.prost_reflect_wire.specs.Scalar.{ScalarKind, kind_default}
-use Rattle.prost_reflect_wire.specs.Schema.{ScalarOf, Schema, known, field_of, is_key_kind}
-use Rattle.prost_reflect_wire.specs.Content.{Content, ContentOf, ScalarValue, MessageValue, MapValue, empty, value_at, schema_of, type_of, entries_of}
+use Rattle.prost_reflect_wire.specs.Schema.{ScalarOf, known, field_of, is_key_kind}
+use Rattle.prost_reflect_wire.specs.Content.{Content, ScalarValue, MessageValue, MapValue, empty, value_at, schema_of, type_of, entries_of}
 use Rattle.prost_reflect_wire.specs.Grammar.{allows, has_level}
 use Rattle.prost_reflect_wire.specs.Meaning.{put, pairs_in, meaning}
 use Rattle.prost_reflect_wire.specs.Typing.{kept, WellStored}
 use Rattle.prost_reflect_wire.specs.Unknown.{SkipsValue}
-use Rattle.prost_reflect_wire.specs.Fault.{StandsInMessage, ValueFault}
+use Rattle.prost_reflect_wire.specs.Fault.{ValueFault}
 use Rattle.prost_reflect_wire.specs.Decoding.{Step, StandsBehindKey, ScalarRead, ScalarFault}
 use Rattle.prost_reflect_wire.specs.EntryReading.{IsMapped, BodyFault}
 use Rattle.prost_reflect_wire.specs.MessageEntries.{nested_type, NestedEntryTo, NestedValueRead, NestedValueFault, StandsInNestedEntry}
 use Rattle.prost_reflect_laws.proofs.MapSteps.{FoundMap, mapped_at, body_refused, entry_stands}
 use Rattle.prost_reflect_laws.proofs.ScalarEntries.{field_checked, map_keyed, delimited_bytes, entry_key_valid}
-use Rattle.prost_reflect_laws.proofs.NestedEntries.{value_end, value_wire, value_depth, value_inside, nested_entry_nothing, nested_no_key, nested_key_read, nested_value_read, nested_other_read, nested_key_refused, nested_value_refused, nested_other_refused, nested_level, nested_entry_holds, entry_depth}
+use Rattle.prost_reflect_laws.proofs.NestedEntries.{nested_entry_nothing, nested_no_key, nested_key_read, nested_value_read, nested_other_read, nested_key_refused, nested_value_refused, nested_other_refused, nested_level, nested_entry_holds, entry_depth}
 use Rattle.prost_reflect_tables.specs.declared.tables.TableKind.{TableKind}
 use Rattle.prost_reflect.specs.declared.message.DynamicMessage.{DynamicMessage}
 use Rattle.prost_reflect.specs.declared.value.MapKey.{MapKey}
@@ -30,33 +29,15 @@ use Rattle.prost_reflect.specs.Contents.{value_set}
 use Rattle.prost_reflect.specs.Maps.{IsDefaultOf}
 use Rattle.prost_reflect.specs.NestedMaps.{NestedMap, ReadsNestedEntry, RefusesNestedEntry}
 use Rattle.prost_reflect.specs.Scalars.{plain_kind, ReadsScalar, RefusesScalar}
-use Rattle.prost_reflect.specs.Targets.{NestedFault}
+use Rattle.prost_reflect.specs.Nested.{NestedRead, StandsBehindNested}
+use Rattle.prost_reflect.specs.Targets.{nested_kind}
 use Rattle.prost_reflect.specs.Variants.{key_in}
-use Rattle.prost_reflect.specs.View.{key_of, value_of, content_of, descriptor_of}
+use Rattle.prost_reflect.specs.View.{key_of, value_of, content_of, message_type_of}
 use Rattle.prost_reflect.proofs.ElementReads.{EmptyElement}
 use Rattle.prost_reflect.proofs.MapMerging.{found_key, key_itself}
 use Rattle.prost_reflect.proofs.Merging.{known_in, differ_in, valid_in, same_kind}
-use Rattle.prost_reflect.proofs.NestedReads.{set_in, whole, one_less}
-
--- A VALUE
-
--- why none is read
-module _ (schema : Schema) (levels n T : ℕ) where
-  pub value_not_here : (w : WireType) (e : DecodeError) (rest : List ℕ) → NestedFault wires.LengthDelimited w levels e → NestedValueFault schema levels n T w e rest
-  value_not_here w errors.EndGroup rest f = subst (λ v. NestedValueFault schema levels n T v errors.EndGroup rest) (sym f) (value_end schema n T levels rest)
-  value_not_here w errors.WireType rest f = value_wire schema n T levels w rest f.0 f.1
-  value_not_here w errors.Depth rest f =
-      subst (λ k. NestedValueFault schema k n T w errors.Depth rest) (sym f.1) (subst (λ v. NestedValueFault schema 0 n T v errors.Depth rest) (sym f.0) (value_depth schema n T rest))
-  value_not_here w errors.Truncated rest f = absurd f
-  value_not_here w errors.Varint rest f = absurd f
-  value_not_here w errors.Key rest f = absurd f
-  value_not_here w errors.Utf8 rest f = absurd f
-  value_not_here w errors.OutOfMemory rest f = absurd f
-
-  pub value_not_inside : 1 ≤ levels → (w : WireType) (e : DecodeError) (body rest after : List ℕ) → w ≡ wires.LengthDelimited → DelimitedFront body rest after → StandsInMessage schema T (levels - 1) e body → NestedValueFault schema levels n T w e rest
-  value_not_inside some w e body rest after wire front stands =
-      subst (λ w. NestedValueFault schema levels n T w e rest) (sym wire)
-      (subst (λ k. NestedValueFault schema k n T wires.LengthDelimited e rest) (one_less levels some) (value_inside schema n T (levels - 1) e body rest after front stands))
+use Rattle.prost_reflect.proofs.NestedFaults.{one_less}
+use Rattle.prost_reflect.proofs.NestedReads.{step_set, whole}
 
 -- ONE RECORD MORE
 
@@ -95,13 +76,14 @@ module _ (levels : ℕ) (some : 1 ≤ levels) (key : TableKind) (k : Value) (old
           (subst (λ kind. ScalarRead kind w r.scalar after rest) (same_kind r.plain done.key_plain) r.read);
     }
 
-    pub nested_value_there : (new : Content) (rest : List ℕ) → nat_eq n 2 ≡ true → NestedValueRead (levels - 1) w mid new after rest → ReadsNestedEntry (levels - 1) key k old new bytes rest
+    pub nested_value_there : (new : Content) (rest : List ℕ) → nat_eq n 2 ≡ true → NestedRead false levels n w mid new after rest → ReadsNestedEntry (levels - 1) key k old new bytes rest
     nested_value_there new rest is value = record {
       key_scalar = done.key_scalar;
       key_read = done.key_read;
       key_plain = done.key_plain;
       key_is = done.key_is;
-      read = nested_value_read (schema_of old) (levels - 1) (type_of old) done.key_scalar done.key_read mid bytes here done.read n w after front new rest is value;
+      read = nested_value_read (schema_of old) (levels - 1) (type_of old) done.key_scalar done.key_read mid bytes here done.read n w after front new rest is
+          (subst (λ k. NestedValueRead k w mid new after rest) (omega (arith, value.left)) value.read);
     }
 
     pub nested_other_there : (rest : List ℕ) → nat_eq n 1 ≡ false → nat_eq n 2 ≡ false → SkipsValue n w levels after rest → ReadsNestedEntry (levels - 1) key k old mid bytes rest
@@ -118,13 +100,12 @@ module _ (levels : ℕ) (some : 1 ≤ levels) (key : TableKind) (k : Value) (old
     nested_no_key_value e is r = refuses e
         (nested_key_refused (schema_of old) (levels - 1) (type_of old) done.key_scalar done.key_read mid bytes here done.read n w after front e is (subst (λ kind. ScalarFault kind w e after) (same_kind r.plain done.key_plain) r.fault))
 
-    pub nested_no_value : (e : DecodeError) → nat_eq n 2 ≡ true → NestedValueFault (schema_of mid) levels 2 (type_of mid) w e after → RefusesNestedEntry (schema_of old) levels (type_of old) key e bytes
+    pub nested_no_value : (e : DecodeError) → nat_eq n 2 ≡ true → StandsBehindNested (schema_of mid) levels n (nested_kind false (type_of mid)) w e after → RefusesNestedEntry (schema_of old) levels (type_of old) key e bytes
     nested_no_value e is fault = let h = done.read.holds in
         refuses e
         (nested_value_refused (schema_of old) (levels - 1) (type_of old) done.key_scalar done.key_read mid bytes here done.read n w after front e is
         (subst (λ l. NestedValueFault (schema_of old) l n (type_of old) w e after) (sym (one_less levels some))
-        (subst (λ m. NestedValueFault (schema_of old) levels m (type_of old) w e after) (sym (eqb-true n 2 is))
-        (subst (λ s. NestedValueFault s levels 2 (type_of old) w e after) h.schema (subst (λ T. NestedValueFault (schema_of mid) levels 2 T w e after) h.type fault)))))
+        (subst (λ s. NestedValueFault s levels n (type_of old) w e after) h.schema (subst (λ T. NestedValueFault (schema_of mid) levels n T w e after) h.type fault))))
 
     pub nested_no_other : (e : DecodeError) → nat_eq n 1 ≡ false → nat_eq n 2 ≡ false → ValueFault e n w levels after → RefusesNestedEntry (schema_of old) levels (type_of old) key e bytes
     nested_no_other e first second fault = refuses e
@@ -132,7 +113,7 @@ module _ (levels : ℕ) (some : 1 ≤ levels) (key : TableKind) (k : Value) (old
 
 -- MESSAGES
 
-module _ (m : DynamicMessage) (n : ℕ) (key : TableKind) (T : ℕ) (map : NestedMap (descriptor_of m) n key T) where
+module _ (m : DynamicMessage) (n : ℕ) (key : TableKind) (T : ℕ) (map : NestedMap (message_type_of m) n key T) where
   nested_found : field_of (known (schema_of (content_of m)) (type_of (content_of m))) n ≡ Some map.field
   nested_found = ap (λ fields. field_of fields n) (known_in m) ∙ map.found
 
@@ -165,13 +146,11 @@ module _ (m : DynamicMessage) (n : ℕ) (key : TableKind) (T : ℕ) (map : Neste
         let same : key_of x ≡ r.key_read = key_itself r.key_read (key_of x) (ap key_in (sym r.key_is) ∙ is) in
         subst (λ w. Step levels n w (content_of m) (content_of new) bytes rest) (sym wire)
         (subst (λ l. Step l n wires.LengthDelimited (content_of m) (content_of new) bytes rest) (one_less levels some)
-        (subst (λ c. Step (suc (levels - 1)) n wires.LengthDelimited c (content_of new) bytes rest) (whole (content_of m))
-        (subst (λ d. Step (suc (levels - 1)) n wires.LengthDelimited (ContentOf (schema_of (content_of m)) (type_of (content_of m)) (entries_of (content_of m))) d bytes rest)
-        (sym (set ∙ ap (λ s. value_set n (MapValue (put s (MessageValue c) (pairs_in (value_at n (entries_of (content_of m)))))) (content_of m)) same
-        ∙ set_in (content_of m) n map.field (MapValue (put r.key_read (MessageValue c) (pairs_in (value_at n (entries_of (content_of m)))))) nested_found))
+        (step_set (content_of m) (content_of new) (suc (levels - 1)) n wires.LengthDelimited map.field (MapValue (put r.key_read (MessageValue c) (pairs_in (value_at n (entries_of (content_of m)))))) bytes rest nested_found
+        (set ∙ ap (λ s. value_set n (MapValue (put s (MessageValue c) (pairs_in (value_at n (entries_of (content_of m)))))) (content_of m)) same)
         (nested_entry_holds (schema_of (content_of m)) (type_of (content_of m)) (entries_of (content_of m)) (subst WellStored (sym (whole (content_of m))) sound) (differ_in m) map.field
         (field_checked (schema_of (content_of m)) (type_of (content_of m)) n map.field (valid_in m) nested_found) map.key_type map.form r.key_scalar T (map.key_is ∙ ap ScalarOf (same_kind map.key_plain r.key_plain)) map.value_is
-        (levels - 1) n r.key_read c body bytes rest nested_found small r.read front))))
+        (levels - 1) n r.key_read c body bytes rest nested_found small r.read front)))
 
     -- REFUSALS
 

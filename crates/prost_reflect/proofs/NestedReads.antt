@@ -1,50 +1,53 @@
 -- Messages and groups read into the message of their field.
-use Rattle.std.proofs.Common.{◌≡◌, ℕ, suc, ◌≤◌, true, List, [], Option, Some, None, refl, sym, ap, ◌∙◌, subst, arith, ◌-◌}
+use Rattle.std.proofs.Common.{◌≡◌, ℕ, suc, Bool, true, false, List, Option, Some, None, refl, sym, ap, ◌∙◌, subst}
 use Rattle.std.specs.Prelude.{unwrap_or, option_map}
 use Rattle.prost_reflect_wire.specs.declared.key.WireType.{WireType}
 use Rattle.prost_reflect_wire.specs.declared.key.WireType.TheVariants as wires
 use Rattle.prost_reflect_wire.specs.declared.error.DecodeError.{DecodeError}
-use Rattle.prost_reflect_wire.specs.declared.error.DecodeError.TheVariants as errors
-use Rattle.prost_reflect_wire.specs.Front.{KeyFront, DelimitedFront, PlainFault}
-use Rattle.prost_reflect_wire.specs.Schema.{Kind, ScalarOf, MessageOf, GroupOf, Field, known, field_of, numbers_differ, is_message}
-use Rattle.prost_reflect_wire.specs.Content.{Content, ContentOf, Entries, MessageValue, empty, value_at, schema_of, type_of, entries_of}
+use Rattle.prost_reflect_wire.specs.Front.{KeyFront}
+use Rattle.prost_reflect_wire.specs.Schema.{Field, known, field_of, numbers_differ}
+use Rattle.prost_reflect_wire.specs.Content.{Content, ContentOf, MessageValue, empty, value_at, schema_of, type_of, entries_of}
 use Rattle.prost_reflect_wire.specs.Content as contents
 use Rattle.prost_reflect_wire.specs.Typing.{WellStored}
 use Rattle.prost_reflect_wire.specs.Edit.{with_field_value, message_of}
-use Rattle.prost_reflect_wire.specs.Fault.{OfType, Stands, StandsInMessage, one_takes, same_wire, is_map}
-use Rattle.prost_reflect_wire.specs.Decoding.{Progress, GroupProgress, Step, StandsBehindKey, StandsInGroup}
+use Rattle.prost_reflect_wire.specs.Fault.{is_map}
+use Rattle.prost_reflect_wire.specs.Decoding.{Step, StandsBehindKey}
 use Rattle.prost_reflect_wire.proofs.Survivors.{field_number}
-use Rattle.prost_reflect_laws.proofs.MessageSteps.{OneMessage, ReadInto, Nested, FoundNested, nested_sound, message_holds, group_holds, nested_end, nested_wire, nested_depth, nested_plain, message_refused, group_refused}
+use Rattle.prost_reflect_laws.proofs.MessageSteps.{OneMessage, ReadInto, Nested, FoundNested, nested_sound, message_holds, group_holds}
 use Rattle.prost_reflect.specs.declared.message.DynamicMessage.{DynamicMessage}
 use Rattle.prost_reflect.specs.declared.value.Value.{Value, out-Value}
 use Rattle.prost_reflect.specs.declared.value.Value.TheOpen.{Value-F}
 use Rattle.prost_reflect.specs.declared.value.Value.TheFolds.{fold_out-Value, map-Value}
-use Rattle.prost_reflect_descriptors.specs.Descriptors.{schema_at, type_at}
-use Rattle.prost_reflect.specs.View.{value_step, message_step, value_of, content_of, descriptor_of}
+use Rattle.prost_reflect_pool.specs.MessageTypes.{schema_at, type_at}
+use Rattle.prost_reflect.specs.View.{value_step, message_step, value_of, content_of, message_type_of}
 use Rattle.prost_reflect.specs.Contents.{value_set}
-use Rattle.prost_reflect.specs.Targets.{NestedField, NestedFault}
-use Rattle.prost_reflect.specs.Held.{HeldMessage, ReadIntoHeld, GroupReadIntoHeld, StandsInHeld, GroupStandsInHeld}
+use Rattle.prost_reflect.specs.Targets.{nested_kind, NestedField}
+use Rattle.prost_reflect.specs.Nested.{ReadInside, NestedRead, StandsBehindNested, HeldMessage, ReadIntoHeld, StandsInHeld}
 use Rattle.prost_reflect.specs.Variants.{message_in}
+use Rattle.prost_reflect.proofs.NestedFaults.{behind_key}
+use Rattle.prost_reflect.proofs.RowKinds.{message_named}
 use Rattle.prost_reflect.proofs.Views.{content_of_message}
 use Rattle.prost_reflect.proofs.Merging.{differ_in, known_in}
 
-pub schema_in : (m : DynamicMessage) → schema_of (content_of m) ≡ schema_at (descriptor_of m)
+pub schema_in : (m : DynamicMessage) → schema_of (content_of m) ≡ schema_at (message_type_of m)
 schema_in m = ap schema_of (content_of_message m)
 
-pub type_in : (m : DynamicMessage) → type_of (content_of m) ≡ type_at (descriptor_of m)
+pub type_in : (m : DynamicMessage) → type_of (content_of m) ≡ type_at (message_type_of m)
 type_in m = ap type_of (content_of_message m)
 
 -- the field of the number, as the message's content knows it
-abbrev found_in : (m : DynamicMessage) (n T : ℕ) (kind : Kind) → NestedField (descriptor_of m) n T kind → message_of kind ≡ Some T → FoundNested (schema_of (content_of m)) (type_of (content_of m)) n T kind
-found_in m n T kind at names = record { field = at.field; found = ap (λ fields. field_of fields n) (known_in m) ∙ at.found; form = ap is_map at.form; kind_is = at.kind_is; names = names }
+abbrev pub found_in : (m : DynamicMessage) (n T : ℕ) (g : Bool) → NestedField (message_type_of m) n T g → FoundNested (schema_of (content_of m)) (type_of (content_of m)) n T (nested_kind g T)
+found_in m n T g at = record { field = at.field; found = ap (λ fields. field_of fields n) (known_in m) ∙ at.found; form = ap is_map at.form; kind_is = at.kind_is; names = message_named g T }
 
-one_of : (m : DynamicMessage) (n T : ℕ) (kind : Kind) → (at : NestedField (descriptor_of m) n T kind) → message_of kind ≡ Some T → OneMessage at.field T
-one_of m n T kind at names = record { form = at.form; names = ap message_of at.kind_is ∙ names }
+one_of : (m : DynamicMessage) (n T : ℕ) (g : Bool) → (at : NestedField (message_type_of m) n T g) → OneMessage at.field T
+one_of m n T g at = record { form = at.form; names = ap message_of at.kind_is ∙ message_named g T }
 
-pub names_message : (kind : Kind) (T : ℕ) → message_of kind ≡ Some T → is_message kind ≡ true
-names_message (ScalarOf kind) T e = cc
-names_message (MessageOf U) T e = refl
-names_message (GroupOf U) T e = refl
+-- what stands behind the key, as a message of the type sees it
+pub behind_inside : (m inner : DynamicMessage) (n T levels : ℕ) (g : Bool) (w : WireType) → FoundNested (schema_of (content_of m)) (type_of (content_of m)) n T (nested_kind g T) → schema_of (content_of inner) ≡ schema_of (content_of m) → type_of (content_of inner) ≡ T →
+    (e : DecodeError) (bytes : List ℕ) → StandsBehindNested (schema_of (content_of inner)) levels n (nested_kind g (type_of (content_of inner))) w e bytes → StandsBehindKey (content_of m) levels n w e bytes
+behind_inside m inner n T levels g w found schema_is type_is e bytes stands =
+    behind_key (content_of m) levels n T g w e bytes found
+    (subst (λ s. StandsBehindNested s levels n (nested_kind g T) w e bytes) schema_is (subst (λ U. StandsBehindNested (schema_of (content_of inner)) levels n (nested_kind g U) w e bytes) type_is stands))
 
 -- WHAT IS HELD
 
@@ -108,12 +111,12 @@ pub record LentMessage (m : DynamicMessage) (n T : ℕ) (v : Value) : Type 0 whe
   pub sound : WellStored content
   pub into : ReadInto (schema_of (content_of m)) T n (entries_of (content_of m)) content
 
-pub lent_message : (m : DynamicMessage) (n T : ℕ) (kind : Kind) (default v : Value) → WellStored (content_of m) → NestedField (descriptor_of m) n T kind → message_of kind ≡ Some T →
-    value_of default ≡ MessageValue (empty (schema_at (descriptor_of m)) T) → value_of v ≡ unwrap_or (value_at n (entries_of (content_of m))) (value_of default) → LentMessage m n T v
-lent_message m n T kind default v sound at names is lent =
+pub lent_message : (m : DynamicMessage) (n T : ℕ) (g : Bool) (default v : Value) → WellStored (content_of m) → NestedField (message_type_of m) n T g → value_of default ≡ MessageValue (empty (schema_at (message_type_of m)) T) →
+    value_of v ≡ unwrap_or (value_at n (entries_of (content_of m))) (value_of default) → LentMessage m n T v
+lent_message m n T g default v sound at is lent =
     let empties : value_of default ≡ MessageValue (empty (schema_of (content_of m)) T) = is ∙ ap (λ s. MessageValue (empty s T)) (sym (schema_in m)) in
-    let found = found_in m n T kind at names in
-    let nested : Nested (schema_of (content_of m)) T (value_of v) = lent_in (content_of m) n T at.field (value_of v) (value_of default) sound (differ_in m) found.found (one_of m n T kind at names) empties lent in
+    let found = found_in m n T g at in
+    let nested : Nested (schema_of (content_of m)) T (value_of v) = lent_in (content_of m) n T at.field (value_of v) (value_of default) sound (differ_in m) found.found (one_of m n T g at) empties lent in
     record {
       content = nested.content;
       is = nested.is;
@@ -160,101 +163,52 @@ set_in (ContentOf schema T es) n f v found = ap (λ (o : Option Field). ContentO
 pub whole : (c : Content) → ContentOf (schema_of c) (type_of c) (entries_of c) ≡ c
 whole (ContentOf schema T es) = refl
 
-module _ (m inner done new : DynamicMessage) (n T k : ℕ) (sound : WellStored (content_of m)) (at : InsideMessage m inner n T) (set : content_of new ≡ value_set n (MessageValue (content_of done)) (content_of m)) where
-  pub nested_step : (bytes body rest : List ℕ) → NestedField (descriptor_of m) n T (MessageOf T) → DelimitedFront body bytes rest → Progress k (content_of inner) (content_of done) body [] → Step (suc k) n wires.LengthDelimited (content_of m) (content_of new) bytes rest
-  nested_step bytes body rest field front progress =
-      let found = found_in m n T (MessageOf T) field refl in
-      let number : field.field.number ≡ n = field_number (known (schema_of (content_of m)) (type_of (content_of m))) n field.field found.found in
-      let own : field_of (known (schema_of (content_of m)) (type_of (content_of m))) field.field.number ≡ Some field.field = ap (field_of (known (schema_of (content_of m)) (type_of (content_of m)))) number ∙ found.found in
-      subst (λ c. Step (suc k) n wires.LengthDelimited c (content_of new) bytes rest) (whole (content_of m))
-      (subst (λ d. Step (suc k) n wires.LengthDelimited (ContentOf (schema_of (content_of m)) (type_of (content_of m)) (entries_of (content_of m))) d bytes rest) (sym (set ∙ set_in (content_of m) n field.field (MessageValue (content_of done)) found.found))
-      (subst (λ i. Step (suc k) i wires.LengthDelimited (ContentOf (schema_of (content_of m)) (type_of (content_of m)) (entries_of (content_of m)))
-      (ContentOf (schema_of (content_of m)) (type_of (content_of m)) (with_field_value (known (schema_of (content_of m)) (type_of (content_of m))) field.field (Some (MessageValue (content_of done))) (entries_of (content_of m)))) bytes rest) number
-      (message_holds (schema_of (content_of m)) (type_of (content_of m)) (entries_of (content_of m)) (subst WellStored (sym (whole (content_of m))) sound) (differ_in m) field.field own T (one_of m n T (MessageOf T) field refl)
-      (content_of inner) (content_of done) (subst (λ i. ReadInto (schema_of (content_of m)) T i (entries_of (content_of m)) (content_of inner)) (sym number) at.into) at.schema_is at.type_is progress.holds k body bytes rest field.kind_is progress.read front)))
+-- a step that sets a value, as the definitions say it
+pub step_set : (c d : Content) (levels n : ℕ) (w : WireType) (f : Field) (v : contents.Value) (bytes rest : List ℕ) → field_of (known (schema_of c) (type_of c)) n ≡ Some f → d ≡ value_set n v c →
+    Step levels n w (ContentOf (schema_of c) (type_of c) (entries_of c)) (ContentOf (schema_of c) (type_of c) (with_field_value (known (schema_of c) (type_of c)) f (Some v) (entries_of c))) bytes rest → Step levels n w c d bytes rest
+step_set (ContentOf schema T es) d levels n w f v bytes rest found set step = subst (λ d. Step levels n w (ContentOf schema T es) d bytes rest) (sym (set ∙ set_in (ContentOf schema T es) n f v found)) step
 
-  pub nested_group_step : (bytes rest : List ℕ) → NestedField (descriptor_of m) n T (GroupOf T) → GroupProgress k n (content_of inner) (content_of done) bytes rest → Step (suc k) n wires.StartGroup (content_of m) (content_of new) bytes rest
-  nested_group_step bytes rest field group =
-      let progress = group.progress in
-      let found = found_in m n T (GroupOf T) field refl in
-      let number : field.field.number ≡ n = field_number (known (schema_of (content_of m)) (type_of (content_of m))) n field.field found.found in
-      let own : field_of (known (schema_of (content_of m)) (type_of (content_of m))) field.field.number ≡ Some field.field = ap (field_of (known (schema_of (content_of m)) (type_of (content_of m)))) number ∙ found.found in
-      subst (λ c. Step (suc k) n wires.StartGroup c (content_of new) bytes rest) (whole (content_of m))
-      (subst (λ d. Step (suc k) n wires.StartGroup (ContentOf (schema_of (content_of m)) (type_of (content_of m)) (entries_of (content_of m))) d bytes rest) (sym (set ∙ set_in (content_of m) n field.field (MessageValue (content_of done)) found.found))
-      (subst (λ i. Step (suc k) i wires.StartGroup (ContentOf (schema_of (content_of m)) (type_of (content_of m)) (entries_of (content_of m)))
-      (ContentOf (schema_of (content_of m)) (type_of (content_of m)) (with_field_value (known (schema_of (content_of m)) (type_of (content_of m))) field.field (Some (MessageValue (content_of done))) (entries_of (content_of m)))) bytes rest) number
-      (group_holds (schema_of (content_of m)) (type_of (content_of m)) (entries_of (content_of m)) (subst WellStored (sym (whole (content_of m))) sound) (differ_in m) field.field own T (one_of m n T (GroupOf T) field refl)
-      (content_of inner) (content_of done) (subst (λ i. ReadInto (schema_of (content_of m)) T i (entries_of (content_of m)) (content_of inner)) (sym number) at.into) at.schema_is at.type_is progress.holds k bytes group.end rest field.kind_is progress.read
-      (subst (λ i. KeyFront i wires.EndGroup group.end rest) (sym number) group.stop))))
+module _ (m inner done new : DynamicMessage) (n T levels : ℕ) (g : Bool) (w : WireType) (sound : WellStored (content_of m)) (field : NestedField (message_type_of m) n T g) (at : InsideMessage m inner n T)
+    (set : content_of new ≡ value_set n (MessageValue (content_of done)) (content_of m)) where
+  abbrev fields : List Field
+  fields = known (schema_of (content_of m)) (type_of (content_of m))
 
--- a level less than the levels left
-pub one_less : (levels : ℕ) → 1 ≤ levels → suc (levels - 1) ≡ levels
-one_less levels some = omega arith
+  abbrev old : Content
+  old = ContentOf (schema_of (content_of m)) (type_of (content_of m)) (entries_of (content_of m))
 
--- REFUSALS
+  abbrev joined : Content
+  joined = ContentOf (schema_of (content_of m)) (type_of (content_of m)) (with_field_value fields field.field (Some (MessageValue (content_of done))) (entries_of (content_of m)))
 
-abbrev pub FoundIn : DynamicMessage → ℕ → ℕ → Kind → Type 0
-FoundIn m n T kind = FoundNested (schema_of (content_of m)) (type_of (content_of m)) n T kind
+  here : field_of fields n ≡ Some field.field
+  here = let found = found_in m n T g field in found.found
 
-pub found_refused : (m : DynamicMessage) (n T : ℕ) (kind : Kind) (wanted w : WireType) (levels : ℕ) (e : DecodeError) (rest : List ℕ) → FoundIn m n T kind → ((v : WireType) → one_takes kind v ≡ same_wire v wanted) → same_wire wanted wanted ≡ true →
-    NestedFault wanted w levels e → StandsBehindKey (content_of m) levels n w e rest
-found_refused m n T kind wanted w levels errors.EndGroup rest at takes itself f = subst (λ v. StandsBehindKey (content_of m) levels n v errors.EndGroup rest) (sym f) (nested_end (content_of m) n T kind at levels rest)
-found_refused m n T kind wanted w levels errors.WireType rest at takes itself f = nested_wire (content_of m) n T kind at levels w rest f.0 (takes w ∙ f.1)
-found_refused m n T kind wanted w levels errors.Depth rest at takes itself f =
-    subst (λ k. StandsBehindKey (content_of m) k n w errors.Depth rest) (sym f.1) (nested_depth (content_of m) n T kind at w rest (takes w ∙ ap (λ v. same_wire v wanted) f.0 ∙ itself))
-found_refused m n T kind wanted w levels errors.Truncated rest at takes itself f = absurd f
-found_refused m n T kind wanted w levels errors.Varint rest at takes itself f = absurd f
-found_refused m n T kind wanted w levels errors.Key rest at takes itself f = absurd f
-found_refused m n T kind wanted w levels errors.Utf8 rest at takes itself f = absurd f
-found_refused m n T kind wanted w levels errors.OutOfMemory rest at takes itself f = absurd f
+  number : field.field.number ≡ n
+  number = field_number fields n field.field here
 
-pub nested_refused : (m : DynamicMessage) (n T : ℕ) (kind : Kind) (wanted w : WireType) (levels : ℕ) (e : DecodeError) (rest : List ℕ) → NestedField (descriptor_of m) n T kind → message_of kind ≡ Some T → ((v : WireType) → one_takes kind v ≡ same_wire v wanted) → same_wire wanted wanted ≡ true →
-    NestedFault wanted w levels e → StandsBehindKey (content_of m) levels n w e rest
-nested_refused m n T kind wanted w levels e rest at names takes itself f = found_refused m n T kind wanted w levels e rest (found_in m n T kind at names) takes itself f
+  at_number : (k : ℕ) (bytes rest : List ℕ) (g : Bool) → field.field.value_type.kind ≡ nested_kind g T → OneMessage field.field T → ReadInside g k n w (content_of inner) (content_of done) bytes rest → Step (suc k) field.field.number w old joined bytes rest
+  at_number k bytes rest true kind one (wire, group) = let progress = group.progress in
+      subst (λ w. Step (suc k) field.field.number w old joined bytes rest) (sym wire)
+      (group_holds (schema_of (content_of m)) (type_of (content_of m)) (entries_of (content_of m)) (subst WellStored (sym (whole (content_of m))) sound) (differ_in m) field.field (ap (field_of fields) number ∙ here) T one
+      (content_of inner) (content_of done) (subst (λ i. ReadInto (schema_of (content_of m)) T i (entries_of (content_of m)) (content_of inner)) (sym number) at.into) at.schema_is at.type_is progress.holds k bytes group.end rest kind progress.read
+      (subst (λ i. KeyFront i wires.EndGroup group.end rest) (sym number) group.stop))
+  at_number k bytes rest false kind one r = let progress = r.progress in
+      subst (λ w. Step (suc k) field.field.number w old joined bytes rest) (sym r.wire)
+      (message_holds (schema_of (content_of m)) (type_of (content_of m)) (entries_of (content_of m)) (subst WellStored (sym (whole (content_of m))) sound) (differ_in m) field.field (ap (field_of fields) number ∙ here) T one
+      (content_of inner) (content_of done) (subst (λ i. ReadInto (schema_of (content_of m)) T i (entries_of (content_of m)) (content_of inner)) (sym number) at.into) at.schema_is at.type_is progress.holds k r.body bytes rest kind progress.read r.front)
 
-pub payload_refused : (m : DynamicMessage) (n T : ℕ) (kind : Kind) (w : WireType) (levels : ℕ) (e : DecodeError) (rest : List ℕ) → NestedField (descriptor_of m) n T kind → message_of kind ≡ Some T → PlainFault e w rest → StandsBehindKey (content_of m) levels n w e rest
-payload_refused m n T kind w levels e rest at names f = nested_plain (content_of m) n T kind (found_in m n T kind at names) levels w e rest f
+  pub nested_step : (bytes rest : List ℕ) → NestedRead g levels n w (content_of inner) (content_of done) bytes rest → Step levels n w (content_of m) (content_of new) bytes rest
+  nested_step bytes rest r =
+      step_set (content_of m) (content_of new) levels n w field.field (MessageValue (content_of done)) bytes rest here set
+      (subst (λ l. Step l n w old joined bytes rest) (sym r.left) (subst (λ i. Step (suc r.inside) i w old joined bytes rest) number (at_number r.inside bytes rest g field.kind_is (one_of m n T g field) r.read)))
 
-module _ (m inner : DynamicMessage) (n T : ℕ) (schema_is : schema_of (content_of inner) ≡ schema_of (content_of m)) (type_is : type_of (content_of inner) ≡ T) (levels : ℕ) (some : 1 ≤ levels) (e : DecodeError) where
-  pub inside_refused : (body rest after : List ℕ) → FoundIn m n T (MessageOf T) → DelimitedFront body rest after → StandsInMessage (schema_of (content_of inner)) (type_of (content_of inner)) (levels - 1) e body →
-      StandsBehindKey (content_of m) levels n wires.LengthDelimited e rest
-  inside_refused body rest after field front stands =
-      subst (λ k. StandsBehindKey (content_of m) k n wires.LengthDelimited e rest) (one_less levels some)
-      (message_refused (content_of m) n T (MessageOf T) field (levels - 1) e body rest after refl front (subst (λ s. StandsInMessage s T (levels - 1) e body) schema_is (subst (λ U. StandsInMessage (schema_of (content_of inner)) U (levels - 1) e body) type_is stands)))
+-- WHAT WAS READ INTO THE LENT VALUE, AND WHAT WAS REFUSED
 
-  pub in_group_refused : (rest : List ℕ) → FoundIn m n T (GroupOf T) → StandsInGroup (content_of inner) (levels - 1) n e rest → StandsBehindKey (content_of m) levels n wires.StartGroup e rest
-  in_group_refused rest field stands =
-      subst (λ k. StandsBehindKey (content_of m) k n wires.StartGroup e rest) (one_less levels some)
-      (group_refused (content_of m) n T (GroupOf T) field (levels - 1) e rest refl
-      (subst (λ s. Stands s e (record { bytes = rest; inside = OfType T; levels = levels - 1; open_group = Some n })) schema_is (subst (λ U. Stands (schema_of (content_of inner)) e (record { bytes = rest; inside = OfType U; levels = levels - 1; open_group = Some n })) type_is stands)))
+module _ (m : DynamicMessage) (n T levels : ℕ) (g : Bool) (w : WireType) (v : Value) (sound : WellStored (content_of m)) (field : NestedField (message_type_of m) n T g) (lent : LentMessage m n T v) where
+  pub read_in : (new : DynamicMessage) (after : contents.Value) (bytes rest : List ℕ) → ReadIntoHeld g levels n w (message_in (out-Value v)) after bytes rest → content_of new ≡ value_set n after (content_of m) → Step levels n w (content_of m) (content_of new) bytes rest
+  read_in new after bytes rest r set =
+      nested_step m r.before r.after new n T levels g w sound field (inside_message m r.before n T v lent (held_is v r.before r.was)) (set ∙ ap (λ x. value_set n x (content_of m)) r.is) bytes rest r.read
 
--- WHAT WAS READ INTO THE LENT VALUE
-
-module _ (m : DynamicMessage) (n T levels : ℕ) (v : Value) (some : 1 ≤ levels) (sound : WellStored (content_of m)) (lent : LentMessage m n T v) where
-  pub message_read_in : (new : DynamicMessage) (after : contents.Value) (w : WireType) (bytes body rest : List ℕ) → NestedField (descriptor_of m) n T (MessageOf T) → w ≡ wires.LengthDelimited → DelimitedFront body bytes rest →
-      ReadIntoHeld (levels - 1) (message_in (out-Value v)) after body → content_of new ≡ value_set n after (content_of m) → Step levels n w (content_of m) (content_of new) bytes rest
-  message_read_in new after w bytes body rest field wire front r set =
-      let at = inside_message m r.before n T v lent (held_is v r.before r.was) in
-      subst (λ w. Step levels n w (content_of m) (content_of new) bytes rest) (sym wire)
-      (subst (λ k. Step k n wires.LengthDelimited (content_of m) (content_of new) bytes rest) (one_less levels some)
-      (nested_step m r.before r.after new n T (levels - 1) sound at (set ∙ ap (λ x. value_set n x (content_of m)) r.is) bytes body rest field front r.progress))
-
-  pub group_read_in : (new : DynamicMessage) (after : contents.Value) (w : WireType) (bytes rest : List ℕ) → NestedField (descriptor_of m) n T (GroupOf T) → w ≡ wires.StartGroup →
-      GroupReadIntoHeld (levels - 1) n (message_in (out-Value v)) after bytes rest → content_of new ≡ value_set n after (content_of m) → Step levels n w (content_of m) (content_of new) bytes rest
-  group_read_in new after w bytes rest field wire r set =
-      let at = inside_message m r.before n T v lent (held_is v r.before r.was) in
-      subst (λ w. Step levels n w (content_of m) (content_of new) bytes rest) (sym wire)
-      (subst (λ k. Step k n wires.StartGroup (content_of m) (content_of new) bytes rest) (one_less levels some)
-      (nested_group_step m r.before r.after new n T (levels - 1) sound at (set ∙ ap (λ x. value_set n x (content_of m)) r.is) bytes rest field r.progress))
-
-  pub message_refused_in : (e : DecodeError) (w : WireType) (bytes body rest : List ℕ) → NestedField (descriptor_of m) n T (MessageOf T) → w ≡ wires.LengthDelimited → DelimitedFront body bytes rest →
-      StandsInHeld (levels - 1) (message_in (out-Value v)) e body → StandsBehindKey (content_of m) levels n w e bytes
-  message_refused_in e w bytes body rest field wire front f =
+  pub refused_in : (e : DecodeError) (bytes : List ℕ) → StandsInHeld g levels n w (message_in (out-Value v)) e bytes → StandsBehindKey (content_of m) levels n w e bytes
+  refused_in e bytes f =
       let at = inside_message m f.before n T v lent (held_is v f.before f.was) in
-      subst (λ w. StandsBehindKey (content_of m) levels n w e bytes) (sym wire) (inside_refused m f.before n T at.schema_is at.type_is levels some e body bytes rest (found_in m n T (MessageOf T) field refl) front f.stands)
-
-  pub group_refused_in : (e : DecodeError) (w : WireType) (bytes : List ℕ) → NestedField (descriptor_of m) n T (GroupOf T) → w ≡ wires.StartGroup →
-      GroupStandsInHeld (levels - 1) n (message_in (out-Value v)) e bytes → StandsBehindKey (content_of m) levels n w e bytes
-  group_refused_in e w bytes field wire f =
-      let at = inside_message m f.before n T v lent (held_is v f.before f.was) in
-      subst (λ w. StandsBehindKey (content_of m) levels n w e bytes) (sym wire) (in_group_refused m f.before n T at.schema_is at.type_is levels some e bytes (found_in m n T (GroupOf T) field refl) f.stands)
+      behind_inside m f.before n T levels g w (found_in m n T g field) at.schema_is at.type_is e bytes f.stands

@@ -15,14 +15,14 @@ use Rattle.prost_reflect_tables.specs.declared.tables.TableKind.{TableKind}
 use Rattle.prost_reflect_tables.specs.declared.tables.TableKind.TheVariants as kinds
 use Rattle.prost_reflect_tables.specs.Rows.{FieldRow, EnumRow}
 use Rattle.prost_reflect_tables.specs.Shown.{schema_kind, schema_field}
-use Rattle.prost_reflect_descriptors.specs.declared.message.MessageDescriptor.{MessageDescriptor}
+use Rattle.prost_reflect_pool.specs.declared.pooled_type.PooledType.{PooledType}
 use Rattle.prost_reflect.specs.declared.message.DynamicMessage.{DynamicMessage}
 use Rattle.prost_reflect.specs.declared.value.Value.{Value}
 use Rattle.prost_reflect.specs.declared.value.Value as values
 use Rattle.prost_reflect.specs.declared.value.Value.TheOpen.{Value-F}
 use Rattle.prost_reflect.specs.declared.value.Value.TheViews.{roll-Value}
 use Rattle.prost_reflect.specs.declared.value.Value.TheFolds.{fold-roll-Value, ind-Value}
-use Rattle.prost_reflect_descriptors.specs.Pools.{pool_rows}
+use Rattle.prost_reflect_pool.specs.SharedPools.{pool_rows}
 use Rattle.prost_reflect_fields.specs.Known.{known_of}
 use Rattle.prost_reflect.specs.RowKinds.{is_repeated}
 use Rattle.prost_reflect.specs.Encoding.{ValueWritable, nested_bytes}
@@ -90,11 +90,11 @@ shown_group enums (kinds.Message U) false T e = cc
 shown_group enums kind g T e = cc
 
 -- what the writer of a message's value needs to know, and what it has to write
-pub record NestedWritten (d : MessageDescriptor) (n : ℕ) (g : Bool) (m : DynamicMessage) (v : contents.Value) : Type 0 where
+pub record NestedWritten (d : PooledType) (n : ℕ) (g : Bool) (m : DynamicMessage) (v : contents.Value) : Type 0 where
   pub fits : encodable (content_of m) ≡ true
   pub bytes : value_bytes (known_of d) n v ≡ nested_bytes n g (content_of m)
 
-pub nested_written : (d : MessageDescriptor) (n : ℕ) (row : FieldRow) (v : Value) (m : DynamicMessage) → is_repeated row.cardinality ≡ false → Some (schema_field (pool_rows d.pool) row) ≡ field_of (known_of d) n → ValueWritable (known_of d) n (value_of v) →
+pub nested_written : (d : PooledType) (n : ℕ) (row : FieldRow) (v : Value) (m : DynamicMessage) → is_repeated row.cardinality ≡ false → Some (schema_field (pool_rows d.pool) row) ≡ field_of (known_of d) n → ValueWritable (known_of d) n (value_of v) →
     v ≡ values.Message m → NestedWritten d n row.is_group m (value_of v)
 nested_written d n row v m one found writable is =
     let shown : Field = schema_field (pool_rows d.pool) row in

@@ -18,7 +18,7 @@ use Rattle.prost_reflect_wire.specs.Edit.{with_field_value}
 use Rattle.prost_reflect_wire.specs.Fault.{OfType, ElementFault, ElementEnds, ElementPasses, same_wire}
 use Rattle.prost_reflect_wire.specs.Decoding.{Step, NumbersJoined, BodyJoined, FieldFault, ScalarFault, StandsBehindKey}
 use Rattle.prost_reflect_wire.proofs.Survivors.{field_number}
-use Rattle.prost_reflect_records.proofs.FieldsFound.{field_stands}
+use Rattle.prost_reflect_types.proofs.FieldsFound.{field_stands}
 use Rattle.prost_reflect_laws.proofs.ListSteps.{IsListed}
 use Rattle.prost_reflect_laws.proofs.PackedElements.{packed_refused, delimited_refused, single_refused}
 use Rattle.prost_reflect_laws.proofs.NumberSteps.{NumbersSoFar, list_made, declared_joined, stray_joined, numbers_none, numbers_more, numbers_done, number_behind, packed_step, number_step}
@@ -26,17 +26,17 @@ use Rattle.prost_reflect_tables.specs.declared.tables.TableKind.{TableKind}
 use Rattle.prost_reflect_tables.specs.declared.tables.TableKind.TheVariants as kinds
 use Rattle.prost_reflect_tables.specs.Rows.{FieldRow, EnumRow}
 use Rattle.prost_reflect_tables.specs.Shown.{schema_kind, enum_kind, schema_field}
-use Rattle.prost_reflect_descriptors.specs.declared.message.MessageDescriptor.{MessageDescriptor}
+use Rattle.prost_reflect_pool.specs.declared.pooled_type.PooledType.{PooledType}
 use Rattle.prost_reflect.specs.declared.message.DynamicMessage.{DynamicMessage}
 use Rattle.prost_reflect.specs.Contents.{value_set, unknown_added}
 use Rattle.prost_reflect.specs.RowKinds.{is_repeated, names_message}
-use Rattle.prost_reflect_descriptors.specs.Enums.{first_of, numbers_of}
+use Rattle.prost_reflect_pool.specs.Enums.{first_of, numbers_of}
 use Rattle.prost_reflect_fields.specs.Known.{known_of, keeps_unknown, keeps_unknown_beside, is_closed_enum}
 use Rattle.prost_reflect.specs.Lists.{IsListOrNone, with_element}
 use Rattle.prost_reflect.specs.Numbers.{NumberList, BodyTaken, number_taken}
-use Rattle.prost_reflect_descriptors.specs.Pools.{pool_rows}
+use Rattle.prost_reflect_pool.specs.SharedPools.{pool_rows}
 use Rattle.prost_reflect.specs.Scalars.{is_stray_number}
-use Rattle.prost_reflect.specs.View.{content_of, descriptor_of}
+use Rattle.prost_reflect.specs.View.{content_of, message_type_of}
 use Rattle.prost_reflect.proofs.ListMerging.{listed_at, list_alone}
 use Rattle.prost_reflect.proofs.Merging.{known_in, differ_in, own_fault}
 use Rattle.prost_reflect.proofs.PlainKinds.{list_kind, scalars_row, stray_payload, enum_payloads}
@@ -49,7 +49,7 @@ enum_is None = refl
 enum_is (Some e) = refl
 
 -- a repeated row of an enum is a list of its numbers
-pub number_list : (d : MessageDescriptor) (n : ℕ) (row : FieldRow) (E : ℕ) → field_of (known_of d) n ≡ Some (schema_field (pool_rows d.pool) row) → is_repeated row.cardinality ≡ true → row.kind ≡ kinds.Enum E → NumberList d n row.kind
+pub number_list : (d : PooledType) (n : ℕ) (row : FieldRow) (E : ℕ) → field_of (known_of d) n ≡ Some (schema_field (pool_rows d.pool) row) → is_repeated row.cardinality ≡ true → row.kind ≡ kinds.Enum E → NumberList d n row.kind
 number_list d n row E found many is =
     let form : (schema_field (pool_rows d.pool) row).form ≡ Repeated row.is_packed = scalars_row (pool_rows d.pool) row many (ap names_message is) in
     record {
@@ -65,11 +65,11 @@ number_list d n row E found many is =
     }
 
 -- whether a number is a stray, as the tables and the definitions say it
-stray_is : (d : MessageDescriptor) (n : ℕ) (kind : TableKind) (value : ℕ) (list : NumberList d n kind) → is_undeclared (Enum list.first list.numbers) (Flat (Var value)) ≡ is_stray_number (pool_rows d.pool).enums kind (ScalarValue (EnumNumber (low_i32 value)))
+stray_is : (d : PooledType) (n : ℕ) (kind : TableKind) (value : ℕ) (list : NumberList d n kind) → is_undeclared (Enum list.first list.numbers) (Flat (Var value)) ≡ is_stray_number (pool_rows d.pool).enums kind (ScalarValue (EnumNumber (low_i32 value)))
 stray_is d n kind value list = stray_payload (pool_rows d.pool).enums kind (Enum list.first list.numbers) (Var value) (EnumNumber (low_i32 value)) list.named refl
 
 -- only a closed enum has strays, so an unknown record may stand beside the list
-pub stray_kept : (d : MessageDescriptor) (n : ℕ) (kind : TableKind) (value : ℕ) → NumberList d n kind → is_stray_number (pool_rows d.pool).enums kind (ScalarValue (EnumNumber (low_i32 value))) ≡ true → keeps_unknown (known_of d) n ≡ true
+pub stray_kept : (d : PooledType) (n : ℕ) (kind : TableKind) (value : ℕ) → NumberList d n kind → is_stray_number (pool_rows d.pool).enums kind (ScalarValue (EnumNumber (low_i32 value))) ≡ true → keeps_unknown (known_of d) n ≡ true
 stray_kept d n kind value list stray =
     ap keeps_unknown_beside list.found ∙ ap is_closed_enum list.kind_is ∙ closed list.numbers (stray_is d n kind value list ∙ stray)
   where
@@ -122,11 +122,11 @@ module _ (n : ℕ) (f : Field) (packed : Bool) (kind : ScalarKind) (form : f.for
 -- MESSAGES
 
 -- the numbers of a packed body that were read so far
-pub record TakenSoFar (d : MessageDescriptor) (n : ℕ) (kind : TableKind) (old new : Content) (body rest : List ℕ) : Type 0 where
+pub record TakenSoFar (d : PooledType) (n : ℕ) (kind : TableKind) (old new : Content) (body rest : List ℕ) : Type 0 where
   pub list : NumberList d n kind
   pub numbers : NumbersSoFar list.field (Enum list.first list.numbers) old new body rest
 
-module _ (m : DynamicMessage) (n : ℕ) (kind : TableKind) (list : NumberList (descriptor_of m) n kind) where
+module _ (m : DynamicMessage) (n : ℕ) (kind : TableKind) (list : NumberList (message_type_of m) n kind) where
   found_in : field_of (known (schema_of (content_of m)) (type_of (content_of m))) n ≡ Some list.field
   found_in = ap (λ fields. field_of fields n) (known_in m) ∙ list.found
 
@@ -137,20 +137,20 @@ module _ (m : DynamicMessage) (n : ℕ) (kind : TableKind) (list : NumberList (d
   pub made : (new : DynamicMessage) → WellStored (content_of m) → content_of new ≡ value_set n (unwrap_or (value_at n (entries_of (content_of m))) (ListValue NoValues)) (content_of m) → NumbersJoined list.field (Enum list.first list.numbers) [] (content_of m) (content_of new)
   made new sound content = made_list n list.field list.packed (Enum list.first list.numbers) list.form list.kind_is list.alone (content_of m) (content_of new) sound (differ_in m) found_in content
 
-  pub none_taken : (new : DynamicMessage) (body : List ℕ) → WellStored (content_of m) → content_of new ≡ value_set n (unwrap_or (value_at n (entries_of (content_of m))) (ListValue NoValues)) (content_of m) → TakenSoFar (descriptor_of m) n kind (content_of m) (content_of new) body body
+  pub none_taken : (new : DynamicMessage) (body : List ℕ) → WellStored (content_of m) → content_of new ≡ value_set n (unwrap_or (value_at n (entries_of (content_of m))) (ListValue NoValues)) (content_of m) → TakenSoFar (message_type_of m) n kind (content_of m) (content_of new) body body
   none_taken new body sound content = record { list = list; numbers = numbers_none list.field (Enum list.first list.numbers) (content_of m) (content_of new) body (made new sound content) }
 
   -- a record of one number
-  pub number_taken_step : (mid new : DynamicMessage) (levels value : ℕ) (w : WireType) (bytes rest : List ℕ) → WellStored (content_of m) → w ≡ wires.Varint → VarintFront value bytes rest → descriptor_of mid ≡ descriptor_of m →
-      content_of mid ≡ value_set n (unwrap_or (value_at n (entries_of (content_of m))) (ListValue NoValues)) (content_of m) → content_of new ≡ number_taken (pool_rows (descriptor_of mid).pool).enums n kind value (content_of mid) →
+  pub number_taken_step : (mid new : DynamicMessage) (levels value : ℕ) (w : WireType) (bytes rest : List ℕ) → WellStored (content_of m) → w ≡ wires.Varint → VarintFront value bytes rest → message_type_of mid ≡ message_type_of m →
+      content_of mid ≡ value_set n (unwrap_or (value_at n (entries_of (content_of m))) (ListValue NoValues)) (content_of m) → content_of new ≡ number_taken (pool_rows (message_type_of mid).pool).enums n kind value (content_of mid) →
       Step levels n w (content_of m) (content_of new) bytes rest
   number_taken_step mid new levels value w bytes rest sound wire front same start content =
       subst (λ w. Step levels n w (content_of m) (content_of new) bytes rest) (sym wire)
       (number_read (content_of m) (content_of new) found_in sound (differ_in m)
       (one_taken n list.field list.packed (Enum list.first list.numbers) list.form list.kind_is list.alone (content_of m) (content_of mid) (content_of new) [] value
-      (is_stray_number (pool_rows (descriptor_of m).pool).enums kind (ScalarValue (EnumNumber (low_i32 value)))) list.first list.numbers refl (differ_in mid)
-      (ap (λ fields. field_of fields n) (known_in mid) ∙ ap (λ d. field_of (known_of d) n) same ∙ list.found) front.varint.below (stray_is (descriptor_of m) n kind value list) (made mid sound start)
-      (content ∙ ap (λ (d : MessageDescriptor). number_taken (pool_rows d.pool).enums n kind value (content_of mid)) same)))
+      (is_stray_number (pool_rows (message_type_of m).pool).enums kind (ScalarValue (EnumNumber (low_i32 value)))) list.first list.numbers refl (differ_in mid)
+      (ap (λ fields. field_of fields n) (known_in mid) ∙ ap (λ d. field_of (known_of d) n) same ∙ list.found) front.varint.below (stray_is (message_type_of m) n kind value list) (made mid sound start)
+      (content ∙ ap (λ (d : PooledType). number_taken (pool_rows d.pool).enums n kind value (content_of mid)) same)))
     where
       number_read : (c d : Content) → field_of (known (schema_of c) (type_of c)) n ≡ Some list.field → WellStored c → numbers_differ (known (schema_of c) (type_of c)) ≡ true → NumbersJoined list.field (Enum list.first list.numbers) (Flat (Var value) ∷ []) c d →
           Step levels n wires.Varint c d bytes rest
@@ -160,7 +160,7 @@ module _ (m : DynamicMessage) (n : ℕ) (kind : TableKind) (list : NumberList (d
           (number_step schema T es sound levels list.field list.packed list.first list.numbers differ (ap (field_of (known schema T)) number ∙ found) list.form list.kind_is list.alone d value bytes rest joined (varint_front value bytes rest front))
 
   -- a packed record
-  pub body_taken_step : (new : DynamicMessage) (levels : ℕ) (w : WireType) (body bytes rest : List ℕ) → WellStored (content_of m) → w ≡ wires.LengthDelimited → DelimitedFront body bytes rest → BodyTaken (descriptor_of m) n kind (content_of m) (content_of new) body →
+  pub body_taken_step : (new : DynamicMessage) (levels : ℕ) (w : WireType) (body bytes rest : List ℕ) → WellStored (content_of m) → w ≡ wires.LengthDelimited → DelimitedFront body bytes rest → BodyTaken (message_type_of m) n kind (content_of m) (content_of new) body →
       Step levels n w (content_of m) (content_of new) bytes rest
   body_taken_step new levels w body bytes rest sound wire front taken =
       subst (λ w. Step levels n w (content_of m) (content_of new) bytes rest) (sym wire)
@@ -190,8 +190,8 @@ module _ (m : DynamicMessage) (n : ℕ) (kind : TableKind) (list : NumberList (d
 -- THE LOOP OVER A PACKED BODY
 
 -- the descriptor stays while numbers are read
-pub taken_more : (m new : DynamicMessage) (d : MessageDescriptor) (n : ℕ) (kind : TableKind) (old : Content) (value : ℕ) (body bytes rest : List ℕ) → descriptor_of m ≡ d → TakenSoFar d n kind old (content_of m) body bytes → VarintFront value bytes rest →
-    content_of new ≡ number_taken (pool_rows (descriptor_of m).pool).enums n kind value (content_of m) → TakenSoFar d n kind old (content_of new) body rest
+pub taken_more : (m new : DynamicMessage) (d : PooledType) (n : ℕ) (kind : TableKind) (old : Content) (value : ℕ) (body bytes rest : List ℕ) → message_type_of m ≡ d → TakenSoFar d n kind old (content_of m) body bytes → VarintFront value bytes rest →
+    content_of new ≡ number_taken (pool_rows (message_type_of m).pool).enums n kind value (content_of m) → TakenSoFar d n kind old (content_of new) body rest
 taken_more m new d n kind old value body bytes rest same s front content =
     let list = s.list in
     record {
@@ -200,10 +200,10 @@ taken_more m new d n kind old value body bytes rest same s front content =
           (one_taken n list.field list.packed (Enum list.first list.numbers) list.form list.kind_is list.alone old (content_of m) (content_of new) (map Flat s.numbers.plains) value
           (is_stray_number (pool_rows d.pool).enums kind (ScalarValue (EnumNumber (low_i32 value)))) list.first list.numbers refl (differ_in m)
           (ap (λ fields. field_of fields n) (known_in m) ∙ ap (λ d. field_of (known_of d) n) same ∙ list.found) front.varint.below (stray_is d n kind value list) s.numbers.joined
-          (content ∙ ap (λ (d : MessageDescriptor). number_taken (pool_rows d.pool).enums n kind value (content_of m)) same));
+          (content ∙ ap (λ (d : PooledType). number_taken (pool_rows d.pool).enums n kind value (content_of m)) same));
     }
 
-pub taken_done : (d : MessageDescriptor) (n : ℕ) (kind : TableKind) (old new : Content) (body rest : List ℕ) → TakenSoFar d n kind old new body rest → rest ≡ [] → BodyTaken d n kind old new body
+pub taken_done : (d : PooledType) (n : ℕ) (kind : TableKind) (old new : Content) (body rest : List ℕ) → TakenSoFar d n kind old new body rest → rest ≡ [] → BodyTaken d n kind old new body
 taken_done d n kind old new body rest s e = let list = s.list in record { list = list; joined = numbers_done list.field (Enum list.first list.numbers) old new body rest s.numbers e }
 
 varint_fault : (e : DecodeError) (rest : List ℕ) → rest ≢ [] → VarintFault e rest → ElementFault wires.Varint e rest
@@ -212,5 +212,5 @@ varint_fault errors.Truncated (b ∷ rest) some fault = ElementEnds fault
 varint_fault errors.Varint rest some fault = ElementPasses fault
 varint_fault e rest some fault = absurd fault
 
-pub taken_fault : (d : MessageDescriptor) (n : ℕ) (kind : TableKind) (e : DecodeError) (old new : Content) (body rest : List ℕ) → TakenSoFar d n kind old new body rest → rest ≢ [] → VarintFault e rest → ElementFault wires.Varint e body
+pub taken_fault : (d : PooledType) (n : ℕ) (kind : TableKind) (e : DecodeError) (old new : Content) (body rest : List ℕ) → TakenSoFar d n kind old new body rest → rest ≢ [] → VarintFault e rest → ElementFault wires.Varint e body
 taken_fault d n kind e old new body rest s some fault = let list = s.list in number_behind list.field (Enum list.first list.numbers) e old new body rest s.numbers (varint_fault e rest some fault)

@@ -17,7 +17,7 @@ use Rattle.prost_reflect_tables.specs.declared.tables.TableKind.TheVariants as k
 use Rattle.prost_reflect_tables.specs.Rows.{FieldRow, MessageRow, EnumRow, TableRows}
 use Rattle.prost_reflect_tables.specs.Shown.{first_number, enum_numbers, schema_kind, enum_kind, own_type, map_entry, value_type_of, form_of, schema_field}
 use Rattle.prost_reflect.specs.RowKinds.{is_plain, is_plain_kind, is_repeated, names_message}
-use Rattle.prost_reflect_descriptors.specs.Enums.{numbers_of}
+use Rattle.prost_reflect_pool.specs.Enums.{numbers_of}
 use Rattle.prost_reflect.specs.Scalars.{plain_kind, is_stray_number}
 use Rattle.prost_reflect.proofs.RowKinds as row_kinds
 use Rattle.prost_reflect.proofs.RowKinds.{no_entry, no_message_entry}

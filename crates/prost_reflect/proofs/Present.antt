@@ -10,14 +10,14 @@ use Rattle.prost_reflect_wire.specs.Schema.{Field}
 use Rattle.prost_reflect_wire.specs.Content.{Entries, Slot, slot_at, numbers_in, entries_of}
 use Rattle.prost_reflect_wire.specs.Typing.{kept, kept_entries}
 use Rattle.prost_reflect_wire.proofs.Numbers.{Ascending, is_in, not_in, entries_ascending, slot_outside}
-use Rattle.prost_reflect_fields.specs.declared.entry.Entry.{Entry}
+use Rattle.prost_reflect_fields.specs.declared.slot.FieldSlot.{FieldSlot}
 use Rattle.prost_reflect.specs.declared.message.DynamicMessage.{DynamicMessage}
 use Rattle.prost_reflect.specs.declared.message.present.PresentNumber.{PresentNumber}
 use Rattle.prost_reflect.specs.declared.value.Value.{Value}
 use Rattle.prost_reflect_fields.specs.Items.{IsAscending, item_at}
 use Rattle.prost_reflect_fields.specs.Known.{known_of}
-use Rattle.prost_reflect_fields.specs.Entries.{value_in, records_in}
-use Rattle.prost_reflect.specs.View.{value_of, content_of, descriptor_of, stored_in, entries_from, payloads_of}
+use Rattle.prost_reflect_fields.specs.FieldSlots.{value_in, records_in}
+use Rattle.prost_reflect.specs.View.{value_of, content_of, message_type_of, stored_in, entries_from, payloads_of}
 use Rattle.prost_reflect.specs.Present.{slot_present, present_in, kept_slot, entry_present}
 use Rattle.prost_reflect_fields.proofs.ItemChanges.{apart_of, itself}
 use Rattle.prost_reflect.proofs.Views.{shown, content_of_message}
@@ -77,13 +77,13 @@ module _ {A : Type 0} where
 -- ENTRIES
 
 -- the slot of an entry, or of none
-abbrev slot_of_item : Option (Entry Value) → Slot
+abbrev slot_of_item : Option (FieldSlot Value) → Slot
 slot_of_item o = record { value = option_map value_of (option_and_then value_in o); unknowns = payloads_of (unwrap_or (option_and_then records_in o) []) }
 
-abbrev present_of_item : List Field → ℕ → Option (Entry Value) → List PresentNumber
+abbrev present_of_item : List Field → ℕ → Option (FieldSlot Value) → List PresentNumber
 present_of_item fields n o = slot_present fields n (kept_slot fields n (slot_of_item o))
 
-present_by_keys : (fields : List Field) (es : List (ℕ × Entry Value)) → IsAscending es
+present_by_keys : (fields : List Field) (es : List (ℕ × FieldSlot Value)) → IsAscending es
     → flat_map (λ n. present_of_item fields n (item_at es n)) (keys_of es) ≡ flat_map (λ e. entry_present fields e.0 e.1) es
 unfolding IsStrictlySortedBy
 present_by_keys fields [] s = refl
@@ -98,7 +98,7 @@ present_by_keys fields (e ∷ es) s = ap₂ (λ xs ys. xs ++ ys) here (behind �
     behind : flat_map (λ n. present_of_item fields n (item_at (e ∷ es) n)) (keys_of es) ≡ flat_map (λ n. present_of_item fields n (item_at es n)) (keys_of es)
     behind = flat_from _ _ (suc e.0) (keys_of es) above (λ n more. ap (λ b. present_of_item fields n (cond b (Some e.1) (item_at es n))) (apart_of n e.0 (λ same. omega (arith, same, more))))
 
-present_entries : (m : DynamicMessage) → IsAscending (stored_in m) → present_in (kept (content_of m)) ≡ flat_map (λ e. entry_present (known_of (descriptor_of m)) e.0 e.1) (stored_in m)
+present_entries : (m : DynamicMessage) → IsAscending (stored_in m) → present_in (kept (content_of m)) ≡ flat_map (λ e. entry_present (known_of (message_type_of m)) e.0 e.1) (stored_in m)
 present_entries m s =
     ap (λ c. present_in (kept c)) (content_of_message m)
     ∙ flat_within at (length (numbers_in left) + length (keys_of es)) 0 (numbers_in left) (keys_of es) (omega arith) (entries_ascending left) (keys_ascending es s)
@@ -107,11 +107,11 @@ present_entries m s =
     ∙ flat_from at (λ n. present_of_item fields n (item_at es n)) 0 (keys_of es) (keys_ascending es s) (λ n low. same n)
     ∙ present_by_keys fields es s
   where
-    es : List (ℕ × Entry Value)
+    es : List (ℕ × FieldSlot Value)
     es = stored_in m
 
     fields : List Field
-    fields = known_of (descriptor_of m)
+    fields = known_of (message_type_of m)
 
     left : Entries
     left = kept_entries fields (entries_from (shown es))
@@ -123,11 +123,11 @@ present_entries m s =
     same k = ap (slot_present fields k) (slot_kept fields (entries_from (shown es)) k (rw (sym (ap entries_of (content_of_message m))) (message_arranged m s)) ∙ ap (kept_slot fields k) (slot_stored es k s))
 
 -- a walk over all entries has found it
-pub all_present : (m : DynamicMessage) (items : List (ℕ × Entry Value)) (i : ℕ) (numbers : List PresentNumber) → IsAscending (stored_in m) → items ≡ stored_in m → length items ≤ i
-    → flat_map (λ e. entry_present (known_of (descriptor_of m)) e.0 e.1) items ≡ numbers ++ flat_map (λ e. entry_present (known_of (descriptor_of m)) e.0 e.1) (drop i items)
+pub all_present : (m : DynamicMessage) (items : List (ℕ × FieldSlot Value)) (i : ℕ) (numbers : List PresentNumber) → IsAscending (stored_in m) → items ≡ stored_in m → length items ≤ i
+    → flat_map (λ e. entry_present (known_of (message_type_of m)) e.0 e.1) items ≡ numbers ++ flat_map (λ e. entry_present (known_of (message_type_of m)) e.0 e.1) (drop i items)
     → numbers ≡ present_in (kept (content_of m))
 all_present m items i numbers s is past h =
     sym (append-nil numbers) ∙ ap (λ ds. numbers ++ flat_map by ds) (sym (drop_of_length-le items past)) ∙ sym h ∙ ap (flat_map by) is ∙ sym (present_entries m s)
   where
-    by : ℕ × Entry Value → List PresentNumber
-    by e = entry_present (known_of (descriptor_of m)) e.0 e.1
+    by : ℕ × FieldSlot Value → List PresentNumber
+    by e = entry_present (known_of (message_type_of m)) e.0 e.1

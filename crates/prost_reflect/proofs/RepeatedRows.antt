@@ -8,14 +8,14 @@ use Rattle.prost_reflect_tables.specs.declared.tables.TableKind.{TableKind}
 use Rattle.prost_reflect_tables.specs.declared.tables.TableKind.TheVariants as kinds
 use Rattle.prost_reflect_tables.specs.Rows.{FieldRow}
 use Rattle.prost_reflect_tables.specs.Shown.{schema_kind, own_type, schema_field}
-use Rattle.prost_reflect_descriptors.specs.declared.message.MessageDescriptor.{MessageDescriptor}
+use Rattle.prost_reflect_pool.specs.declared.pooled_type.PooledType.{PooledType}
 use Rattle.prost_reflect.specs.RowKinds.{is_repeated, names_message}
-use Rattle.prost_reflect_descriptors.specs.Descriptors.{schema_at}
+use Rattle.prost_reflect_pool.specs.MessageTypes.{schema_at}
 use Rattle.prost_reflect_fields.specs.Known.{known_of}
-use Rattle.prost_reflect_descriptors.specs.MapParts.{map_parts}
+use Rattle.prost_reflect_pool.specs.MapParts.{map_parts}
 use Rattle.prost_reflect.specs.Maps.{ScalarMap, MapOfRows}
 use Rattle.prost_reflect.specs.NestedMaps.{NestedMap}
-use Rattle.prost_reflect_descriptors.specs.Pools.{pool_rows}
+use Rattle.prost_reflect_pool.specs.SharedPools.{pool_rows}
 use Rattle.prost_reflect.specs.Targets.{IsTarget, entry_target_of, repeated_target_of}
 use Rattle.prost_reflect.proofs.RowKinds.{no_map}
 use Rattle.prost_reflect.proofs.Described.{found_checked, named_in_range}
@@ -23,7 +23,7 @@ use Rattle.prost_reflect.proofs.ElementReads.{element_target_is}
 use Rattle.prost_reflect.proofs.MapRows.{shown_map, key_plain, scalar_map}
 use Rattle.prost_reflect.proofs.PlainKinds.{kind_plain, bare_row}
 
-module _ (d : MessageDescriptor) (n : ℕ) (row : FieldRow) (found : Some (schema_field (pool_rows d.pool) row) ≡ field_of (known_of d) n) where
+module _ (d : PooledType) (n : ℕ) (row : FieldRow) (found : Some (schema_field (pool_rows d.pool) row) ≡ field_of (known_of d) n) where
   -- a map's messages are no groups
   pub map_message : (key value : FieldRow) (T : ℕ) → map_parts (pool_rows d.pool) row ≡ Some (key, value) → value.kind ≡ kinds.Message T → (schema_field (pool_rows d.pool) row).value_type.kind ≡ MessageOf T
   map_message key value T parts is =
@@ -56,10 +56,10 @@ module _ (d : MessageDescriptor) (n : ℕ) (row : FieldRow) (found : Some (schem
         in_range = named_in_range d n (schema_field (pool_rows d.pool) row) T (sym found) (ap message_of (map_message key value T parts is));
       }
 
-module _ (d : MessageDescriptor) (n : ℕ) (row : FieldRow) (found : Some (schema_field (pool_rows d.pool) row) ≡ field_of (known_of d) n) (many : is_repeated row.cardinality ≡ true) where
+module _ (d : PooledType) (n : ℕ) (row : FieldRow) (found : Some (schema_field (pool_rows d.pool) row) ≡ field_of (known_of d) n) (many : is_repeated row.cardinality ≡ true) where
   -- a field that is no map has a list
   pub listed_form : None ≡ map_parts (pool_rows d.pool) row → (schema_field (pool_rows d.pool) row).form ≡ Repeated row.is_packed
-  listed_form none = bare_row (pool_rows d.pool) row many (no_map (pool_rows d.pool) row d.pool.inner.value.tables.linked (sym none))
+  listed_form none = bare_row (pool_rows d.pool) row many (no_map (pool_rows d.pool) row d.pool.value.tables.linked (sym none))
 
   pub map_of_rows : (key value : FieldRow) → Some (key, value) ≡ map_parts (pool_rows d.pool) row → names_message value.kind ≡ false → MapOfRows d n key value
   map_of_rows key value parts scalar = record { row = row; found = found; parts = sym parts; scalar = scalar }

@@ -2,6 +2,7 @@
 use Rattle.std.proofs.Common.{◌≡◌, ℕ, Bool, true, false, cond, List, [], ◌∷◌, Option, Some, None, refl, sym, subst, true≢false}
 use Rattle.std.specs.Prelude.{slice_get}
 use Rattle.prost_reflect_wire.specs.Schema.{ScalarOf, is_message}
+use Rattle.prost_reflect_wire.specs.Edit.{message_of}
 use Rattle.prost_reflect_tables.specs.declared.tables.Cardinality.{Cardinality}
 use Rattle.prost_reflect_tables.specs.declared.tables.Cardinality.TheVariants.{Optional, Required, Repeated}
 use Rattle.prost_reflect_tables.specs.declared.tables.TableKind.{TableKind}
@@ -10,8 +11,9 @@ use Rattle.prost_reflect_tables.specs.Rows.{FieldRow, MessageRow, EnumRow, Table
 use Rattle.prost_reflect_tables.specs.Linked.{is_linked, has_entry_numbers}
 use Rattle.prost_reflect_tables.specs.Shown.{schema_kind, enum_kind, map_entry, entry_or_none, entry_at}
 use Rattle.prost_reflect_tables.proofs.Keeping.{entry_keeps}
-use Rattle.prost_reflect_descriptors.specs.MapParts.{two_of, entry_parts, map_parts}
+use Rattle.prost_reflect_pool.specs.MapParts.{two_of, entry_parts, map_parts}
 use Rattle.prost_reflect.specs.RowKinds.{is_plain, is_plain_kind, names_message}
+use Rattle.prost_reflect.specs.Targets.{nested_kind}
 
 pub message_kind : (enums : List EnumRow) (kind : TableKind) (g : Bool) → is_message (schema_kind enums kind g) ≡ names_message kind
 message_kind enums (Message T) true = refl
@@ -27,6 +29,10 @@ plain_kind enums (Enum E) g = of (slice_get enums E)
 plain_kind enums (Message T) true = refl
 plain_kind enums (Message T) false = refl
 plain_kind enums kind g = refl
+
+pub message_named : (g : Bool) (T : ℕ) → message_of (nested_kind g T) ≡ Some T
+message_named true T = refl
+message_named false T = refl
 
 -- MAPS
 

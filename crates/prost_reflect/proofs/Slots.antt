@@ -11,12 +11,12 @@ use Rattle.prost_reflect_wire.specs.Content.{Entries, Value, Slot, slot_at, stor
 use Rattle.prost_reflect_wire.proofs.Numbers.{Ascending, is_in, Covers, empty_slot, table_same, table_covers, slots_same, value_apart, unknowns_apart, value_here, unknowns_here, insert_ascending, entries_ascending, in_insert, slot_outside}
 use Rattle.prost_reflect_wire.proofs.Survivors.{or_false}
 use Rattle.prost_reflect_laws.proofs.Rebuilt.{table_from}
-use Rattle.prost_reflect_fields.specs.declared.entry.Entry.{Entry}
+use Rattle.prost_reflect_fields.specs.declared.slot.FieldSlot.{FieldSlot}
 use Rattle.prost_reflect_fields.specs.Items.{IsAscending, item_at}
 use Rattle.prost_reflect.specs.View.{slot_of, entries_from}
 use Rattle.prost_reflect_fields.proofs.ItemChanges.{Apart, by_number, none_above, itself}
 
-abbrev pub slot_in : Option (Entry Value) → Slot
+abbrev pub slot_in : Option (FieldSlot Value) → Slot
 slot_in None = empty_slot
 slot_in (Some e) = slot_of e
 
@@ -30,7 +30,7 @@ differ : (n k : ℕ) → Apart k n → nat_eq n k ≡ false
 differ n k a = ne_eqb n k (λ e. true≢false (sym (ap is_eq (ap (nat_cmp k) e ∙ itself k)) ∙ a))
 
 -- the slot of a number is that of its entry
-pub slot_from : (es : List (ℕ × Entry Value)) (k : ℕ) → IsAscending es → slot_at (entries_from es) k ≡ slot_in (item_at es k)
+pub slot_from : (es : List (ℕ × FieldSlot Value)) (k : ℕ) → IsAscending es → slot_at (entries_from es) k ≡ slot_in (item_at es k)
 unfolding IsStrictlySortedBy
 slot_from [] k s = refl
 slot_from (e ∷ es) k s = by_number k e.0 (λ is. here is (slot_from es k s.1)) (λ apart. there apart (slot_from es k s.1))
@@ -69,7 +69,7 @@ not_among (e ∷ es) k h =
     is_apart : nat_eq k e.0 ≡ false → Apart k e.0
     is_apart h = by_number k e.0 (λ e. absurd (eqb-false k _ h e)) (λ a. a)
 
-from_table : (es : List (ℕ × Entry Value)) → IsAscending es → entries_from es ≡ table (slot_at (entries_from es)) (keys_of es)
+from_table : (es : List (ℕ × FieldSlot Value)) → IsAscending es → entries_from es ≡ table (slot_at (entries_from es)) (keys_of es)
 unfolding IsStrictlySortedBy
 from_table [] s = refl
 from_table (e ∷ es) s =
@@ -79,24 +79,24 @@ from_table (e ∷ es) s =
     (λ n more. sym (store_apart e.0 n (slot_of e.1) (entries_from es) (ne_eqb e.0 n (λ same. omega (arith, same, more))))))
 
 -- what holds of the table of the slots holds of the entries
-pub from_keys : (P : Entries → Type 0) (es : List (ℕ × Entry Value)) → IsAscending es → ((ns : List ℕ) → Ascending 0 ns → P (table (slot_at (entries_from es)) ns)) → P (entries_from es)
+pub from_keys : (P : Entries → Type 0) (es : List (ℕ × FieldSlot Value)) → IsAscending es → ((ns : List ℕ) → Ascending 0 ns → P (table (slot_at (entries_from es)) ns)) → P (entries_from es)
 from_keys P es s h = subst P (sym (from_table es s)) (h (keys_of es) (keys_ascending es s))
 
-covered : (es : List (ℕ × Entry Value)) → IsAscending es → Covers (slot_at (entries_from es)) 0 (keys_of es)
+covered : (es : List (ℕ × FieldSlot Value)) → IsAscending es → Covers (slot_at (entries_from es)) 0 (keys_of es)
 covered es s k low out = slot_from es k s ∙ ap slot_in (not_among es k out)
 
 -- entries are the table of any slots that they have, over any numbers that cover these
-pub from_slots : (es : List (ℕ × Entry Value)) (at : ℕ → Slot) (ns : List ℕ) → IsAscending es → Ascending 0 ns → Covers at 0 ns → ((k : ℕ) → slot_at (entries_from es) k ≡ at k) → entries_from es ≡ table at ns
+pub from_slots : (es : List (ℕ × FieldSlot Value)) (at : ℕ → Slot) (ns : List ℕ) → IsAscending es → Ascending 0 ns → Covers at 0 ns → ((k : ℕ) → slot_at (entries_from es) k ≡ at k) → entries_from es ≡ table at ns
 from_slots es at ns s a c same =
     from_table es s ∙ table_same (slot_at (entries_from es)) at (keys_of es) same
     ∙ table_covers at (length (keys_of es) + length ns) 0 (keys_of es) ns (omega arith) (keys_ascending es s) a (λ k low out. sym (same k) ∙ covered es s k low out) c
 
 -- ascending entries of the same slots are the same
-pub same_slots_same : (es ds : List (ℕ × Entry Value)) → IsAscending es → IsAscending ds → ((k : ℕ) → slot_at (entries_from es) k ≡ slot_at (entries_from ds) k) → entries_from es ≡ entries_from ds
+pub same_slots_same : (es ds : List (ℕ × FieldSlot Value)) → IsAscending es → IsAscending ds → ((k : ℕ) → slot_at (entries_from es) k ≡ slot_at (entries_from ds) k) → entries_from es ≡ entries_from ds
 same_slots_same es ds s r same = from_slots es (slot_at (entries_from ds)) (keys_of ds) s (keys_ascending ds r) (covered ds r) same ∙ sym (from_table ds r)
 
 -- entries whose slots are those of others, changed
-pub changed_from : (es : List (ℕ × Entry Value)) (old : Entries) (n : ℕ) (change : ℕ → Slot → Slot) → IsAscending es → ((k : ℕ) → nat_eq k n ≡ false → change k empty_slot ≡ empty_slot)
+pub changed_from : (es : List (ℕ × FieldSlot Value)) (old : Entries) (n : ℕ) (change : ℕ → Slot → Slot) → IsAscending es → ((k : ℕ) → nat_eq k n ≡ false → change k empty_slot ≡ empty_slot)
     → ((k : ℕ) → slot_at (entries_from es) k ≡ change k (slot_at old k)) → entries_from es ≡ changed n change old
 changed_from es old n change s still same =
     from_slots es (λ k. change k (slot_at old k)) (insert_number n (numbers_in old)) s (insert_ascending n 0 (numbers_in old) (entries_ascending old) (omega arith)) covers same

@@ -13,32 +13,32 @@ use Rattle.prost_reflect_wire.specs.Content.{Content, ContentOf, Entries, Slot, 
 use Rattle.prost_reflect_wire.specs.Edit.{with_value, with_field_value, cleared}
 use Rattle.prost_reflect_wire.proofs.Numbers.{empty_slot, slots_same, eqb-sym}
 use Rattle.prost_reflect_wire.proofs.Survivors.{field_number}
-use Rattle.prost_reflect_fields.specs.declared.entry.Entry.{Entry}
-use Rattle.prost_reflect_fields.specs.declared.entry.Entry.TheVariants as entries
-use Rattle.prost_reflect_descriptors.specs.declared.message.MessageDescriptor.{MessageDescriptor}
+use Rattle.prost_reflect_fields.specs.declared.slot.FieldSlot.{FieldSlot}
+use Rattle.prost_reflect_fields.specs.declared.slot.FieldSlot.TheVariants as entries
+use Rattle.prost_reflect_pool.specs.declared.pooled_type.PooledType.{PooledType}
 use Rattle.prost_reflect.specs.declared.message.DynamicMessage.{DynamicMessage}
 use Rattle.prost_reflect.specs.declared.value.Value.{Value}
 use Rattle.prost_reflect.specs.declared.value.Value.TheViews.{roll-DynamicMessage}
-use Rattle.prost_reflect_descriptors.specs.Descriptors.{schema_at, type_at}
+use Rattle.prost_reflect_pool.specs.MessageTypes.{schema_at, type_at}
 use Rattle.prost_reflect_fields.specs.Items.{IsAscending, item_at}
 use Rattle.prost_reflect_fields.specs.Known.{known_of, is_known, are_siblings}
-use Rattle.prost_reflect_fields.specs.Entries.{value_in, records_in, value_at, records_at, put_value, clear_value, with_value as with_value_at, SameStored, UnknownAdded}
+use Rattle.prost_reflect_fields.specs.FieldSlots.{value_in, records_in, value_at, records_at, put_value, clear_value, with_value as with_value_at, SameStored, UnknownAdded}
 use Rattle.prost_reflect_fields.specs.Sound.{Sound, set_value_at, prepared}
 use Rattle.prost_reflect.specs.View.{value_of, content_of, entries_from, payloads_of, written_at}
 use Rattle.prost_reflect.specs.Contents.{value_set, value_cleared, with_unknown, unknown_added}
-use Rattle.prost_reflect_fields.proofs.EntryChanges.{value_without, records_without, ascending_without_values, ascending_put}
+use Rattle.prost_reflect_fields.proofs.SlotChanges.{value_without, records_without, ascending_without_values, ascending_put}
 use Rattle.prost_reflect_fields.proofs.SoundChanges.{value_set_at, records_set_at, ascending_set_at, written_is_set, value_set as value_set_here}
 use Rattle.prost_reflect.proofs.Views.{shown, shown_entry, content_of_message, content_of_roll}
 use Rattle.prost_reflect.proofs.Slots.{slot_in, slot_from, same_slots_same, changed_from}
 
-keys_shown : (es : List (ℕ × Entry Value)) → keys_of (shown es) ≡ keys_of es
+keys_shown : (es : List (ℕ × FieldSlot Value)) → keys_of (shown es) ≡ keys_of es
 keys_shown [] = refl
 keys_shown (e ∷ es) = ap (λ ks. e.0 ∷ ks) (keys_shown es)
 
-pub ascending_shown : (es : List (ℕ × Entry Value)) → IsAscending es → IsAscending (shown es)
+pub ascending_shown : (es : List (ℕ × FieldSlot Value)) → IsAscending es → IsAscending (shown es)
 ascending_shown es s = subst (IsStrictlySortedBy nat_cmp) (sym (keys_shown es)) s
 
-item_shown : (es : List (ℕ × Entry Value)) (k : ℕ) → item_at (shown es) k ≡ option_map shown_entry (item_at es k)
+item_shown : (es : List (ℕ × FieldSlot Value)) (k : ℕ) → item_at (shown es) k ≡ option_map shown_entry (item_at es k)
 item_shown [] k = refl
 item_shown (e ∷ es) k = cases (is_at (nat_cmp k) e.0) (item_shown es k)
   where
@@ -47,33 +47,33 @@ item_shown (e ∷ es) k = cases (is_at (nat_cmp k) e.0) (item_shown es k)
     cases false rest = rest
 
 -- what is stored at a number, shown
-abbrev pub stored_slot : List (ℕ × Entry Value) → ℕ → Slot
+abbrev pub stored_slot : List (ℕ × FieldSlot Value) → ℕ → Slot
 stored_slot es k = record { value = option_map value_of (value_at es k); unknowns = payloads_of (unwrap_or (records_at es k) []) }
 
-slot_shown : (o : Option (Entry Value)) → slot_in (option_map shown_entry o) ≡ record { value = option_map value_of (option_and_then value_in o); unknowns = payloads_of (unwrap_or (option_and_then records_in o) []) }
+slot_shown : (o : Option (FieldSlot Value)) → slot_in (option_map shown_entry o) ≡ record { value = option_map value_of (option_and_then value_in o); unknowns = payloads_of (unwrap_or (option_and_then records_in o) []) }
 slot_shown None = refl
 slot_shown (Some (entries.Value v)) = refl
 slot_shown (Some (entries.Unknown u)) = refl
 slot_shown (Some (entries.Both v u)) = refl
 
-pub slot_stored : (es : List (ℕ × Entry Value)) (k : ℕ) → IsAscending es → slot_at (entries_from (shown es)) k ≡ stored_slot es k
+pub slot_stored : (es : List (ℕ × FieldSlot Value)) (k : ℕ) → IsAscending es → slot_at (entries_from (shown es)) k ≡ stored_slot es k
 slot_stored es k s = slot_from (shown es) k (ascending_shown es s) ∙ ap slot_in (item_shown es k) ∙ slot_shown (item_at es k)
 
 -- the content of what is stored under a descriptor
-abbrev pub content_from : MessageDescriptor → List (ℕ × Entry Value) → Content
+abbrev pub content_from : PooledType → List (ℕ × FieldSlot Value) → Content
 content_from d es = ContentOf (schema_at d) (type_at d) (entries_from (shown es))
 
 -- what a content has at a number is what is stored there
-pub slot_of_message : (m : DynamicMessage) (k : ℕ) → IsAscending m.slots.1 → slot_at (entries_of (content_of m)) k ≡ stored_slot m.slots.1 k
-slot_of_message m k s = ap (λ c. slot_at (entries_of c) k) (content_of_message m) ∙ slot_stored m.slots.1 k s
+pub slot_of_message : (m : DynamicMessage) (k : ℕ) → IsAscending m.fields.1 → slot_at (entries_of (content_of m)) k ≡ stored_slot m.fields.1 k
+slot_of_message m k s = ap (λ c. slot_at (entries_of c) k) (content_of_message m) ∙ slot_stored m.fields.1 k s
 
-pub value_of_message : (m : DynamicMessage) (k : ℕ) → IsAscending m.slots.1 → option_map value_of (value_at m.slots.1 k) ≡ contents.value_at k (entries_of (content_of m))
+pub value_of_message : (m : DynamicMessage) (k : ℕ) → IsAscending m.fields.1 → option_map value_of (value_at m.fields.1 k) ≡ contents.value_at k (entries_of (content_of m))
 value_of_message m k s = ap (λ (slot : Slot). slot.value) (sym (slot_of_message m k s))
 
 -- SETTING
 
-module _ (d : MessageDescriptor) (es : List (ℕ × Entry Value)) (n : ℕ) (v : Value) (s : IsAscending es) where
-  abbrev after_set : List (ℕ × Entry Value)
+module _ (d : PooledType) (es : List (ℕ × FieldSlot Value)) (n : ℕ) (v : Value) (s : IsAscending es) where
+  abbrev after_set : List (ℕ × FieldSlot Value)
   after_set = set_value_at (known_of d) es n v
 
   ascending_set : IsAscending (set_value_at (known_of d) es n v)
@@ -115,7 +115,7 @@ module _ (d : MessageDescriptor) (es : List (ℕ × Entry Value)) (n : ℕ) (v :
 
 -- CLEARING
 
-pub content_cleared : (d : MessageDescriptor) (es : List (ℕ × Entry Value)) (n : ℕ) → IsAscending es → content_from d (clear_value es n) ≡ value_cleared n (content_from d es)
+pub content_cleared : (d : PooledType) (es : List (ℕ × FieldSlot Value)) (n : ℕ) → IsAscending es → content_from d (clear_value es n) ≡ value_cleared n (content_from d es)
 content_cleared d es n s = ap (ContentOf (schema_at d) (type_at d)) (changed_from (shown (clear_value es n)) (entries_from (shown es)) n (λ k slot. cond (nat_eq k n) (with_value None slot) slot) (ascending_shown (clear_value es n) order) still there)
   where
     order : IsAscending (clear_value es n)
@@ -142,7 +142,7 @@ payloads_appended : (rs : List Record) (r : Record) → payloads_of (rs ++ r ∷
 payloads_appended [] r = refl
 payloads_appended (q ∷ rs) r = ap (λ ps. q.payload ∷ ps) (payloads_appended rs r)
 
-pub content_added : (d : MessageDescriptor) (es ds : List (ℕ × Entry Value)) (r : Record) → IsAscending es → UnknownAdded es ds r → content_from d ds ≡ unknown_added r (content_from d es)
+pub content_added : (d : PooledType) (es ds : List (ℕ × FieldSlot Value)) (r : Record) → IsAscending es → UnknownAdded es ds r → content_from d ds ≡ unknown_added r (content_from d es)
 content_added d es ds r s added = ap (ContentOf (schema_at d) (type_at d)) (changed_from (shown ds) (entries_from (shown es)) r.number (λ k slot. cond (nat_eq k r.number) (with_unknown r.payload slot) slot) (ascending_shown ds (added.order s)) still there)
   where
     still : (k : ℕ) → nat_eq k r.number ≡ false → cond (nat_eq k r.number) (with_unknown r.payload empty_slot) empty_slot ≡ empty_slot
@@ -162,41 +162,41 @@ content_added d es ds r s added = ap (ContentOf (schema_at d) (type_at d)) (chan
         slot_stored ds k (added.order s) ∙ cases k (nat_eq k r.number) refl
         ∙ ap (λ slot. cond (nat_eq k r.number) (with_unknown r.payload slot) slot) (sym (slot_stored es k s))
 
-pub content_same : (d : MessageDescriptor) (es ds : List (ℕ × Entry Value)) → IsAscending es → SameStored es ds → content_from d ds ≡ content_from d es
+pub content_same : (d : PooledType) (es ds : List (ℕ × FieldSlot Value)) → IsAscending es → SameStored es ds → content_from d ds ≡ content_from d es
 content_same d es ds s same = ap (ContentOf (schema_at d) (type_at d)) (same_slots_same (shown ds) (shown es) (ascending_shown ds (same.order s)) (ascending_shown es s)
     (λ k. slot_stored ds k (same.order s) ∙ slots_same (stored_slot ds k) (stored_slot es k) (ap (option_map value_of) (same.values k)) (ap (λ o. payloads_of (unwrap_or o [])) (same.records k)) ∙ sym (slot_stored es k s)))
 
 -- MESSAGES
 
 abbrev Kept : Type 0
-Kept = MessageDescriptor × List (ℕ × Entry Value)
+Kept = PooledType × List (ℕ × FieldSlot Value)
 
-rolled : (p : Kept) → content_of (roll-DynamicMessage (record { slots = p })) ≡ content_from p.0 p.1
-rolled p = content_of_roll (record { slots = p })
+rolled : (p : Kept) → content_of (roll-DynamicMessage (record { fields = p })) ≡ content_from p.0 p.1
+rolled p = content_of_roll (record { fields = p })
 
 module _ (m : DynamicMessage) (p : Kept) where
-  kept_as : (es : List (ℕ × Entry Value)) → p ≡ (m.slots.0, es) → content_of (roll-DynamicMessage (record { slots = p })) ≡ content_from m.slots.0 es
+  kept_as : (es : List (ℕ × FieldSlot Value)) → p ≡ (m.fields.0, es) → content_of (roll-DynamicMessage (record { fields = p })) ≡ content_from m.fields.0 es
   kept_as es h = rolled p ∙ ap (λ (q : Kept). content_from q.0 q.1) h
 
-  pub message_set : (n : ℕ) (v : Value) → IsAscending m.slots.1 → is_known (known_of m.slots.0) n ≡ true → p ≡ (m.slots.0, set_value_at (known_of m.slots.0) m.slots.1 n v)
-      → content_of (roll-DynamicMessage (record { slots = p })) ≡ value_set n (value_of v) (content_of m)
-  message_set n v s known h = kept_as (set_value_at (known_of m.slots.0) m.slots.1 n v) h ∙ content_set m.slots.0 m.slots.1 n v s known ∙ ap (value_set n (value_of v)) (sym (content_of_message m))
+  pub message_set : (n : ℕ) (v : Value) → IsAscending m.fields.1 → is_known (known_of m.fields.0) n ≡ true → p ≡ (m.fields.0, set_value_at (known_of m.fields.0) m.fields.1 n v)
+      → content_of (roll-DynamicMessage (record { fields = p })) ≡ value_set n (value_of v) (content_of m)
+  message_set n v s known h = kept_as (set_value_at (known_of m.fields.0) m.fields.1 n v) h ∙ content_set m.fields.0 m.fields.1 n v s known ∙ ap (value_set n (value_of v)) (sym (content_of_message m))
 
-  pub message_cleared : (n : ℕ) → IsAscending m.slots.1 → p ≡ (m.slots.0, clear_value m.slots.1 n) → content_of (roll-DynamicMessage (record { slots = p })) ≡ value_cleared n (content_of m)
-  message_cleared n s h = kept_as (clear_value m.slots.1 n) h ∙ content_cleared m.slots.0 m.slots.1 n s ∙ ap (value_cleared n) (sym (content_of_message m))
+  pub message_cleared : (n : ℕ) → IsAscending m.fields.1 → p ≡ (m.fields.0, clear_value m.fields.1 n) → content_of (roll-DynamicMessage (record { fields = p })) ≡ value_cleared n (content_of m)
+  message_cleared n s h = kept_as (clear_value m.fields.1 n) h ∙ content_cleared m.fields.0 m.fields.1 n s ∙ ap (value_cleared n) (sym (content_of_message m))
 
-  pub message_emptied : p ≡ (m.slots.0, []) → content_of (roll-DynamicMessage (record { slots = p })) ≡ cleared (content_of m)
+  pub message_emptied : p ≡ (m.fields.0, []) → content_of (roll-DynamicMessage (record { fields = p })) ≡ cleared (content_of m)
   message_emptied h = kept_as [] h ∙ ap cleared (sym (content_of_message m))
 
-  pub message_added : (r : Record) → IsAscending m.slots.1 → p.0 ≡ m.slots.0 → UnknownAdded m.slots.1 p.1 r → content_of (roll-DynamicMessage (record { slots = p })) ≡ unknown_added r (content_of m)
-  message_added r s d added = rolled p ∙ ap (λ d. content_from d p.1) d ∙ content_added m.slots.0 m.slots.1 p.1 r s added ∙ ap (unknown_added r) (sym (content_of_message m))
+  pub message_added : (r : Record) → IsAscending m.fields.1 → p.0 ≡ m.fields.0 → UnknownAdded m.fields.1 p.1 r → content_of (roll-DynamicMessage (record { fields = p })) ≡ unknown_added r (content_of m)
+  message_added r s d added = rolled p ∙ ap (λ d. content_from d p.1) d ∙ content_added m.fields.0 m.fields.1 p.1 r s added ∙ ap (unknown_added r) (sym (content_of_message m))
 
-  pub message_same : IsAscending m.slots.1 → p.0 ≡ m.slots.0 → SameStored m.slots.1 p.1 → content_of (roll-DynamicMessage (record { slots = p })) ≡ content_of m
-  message_same s d same = rolled p ∙ ap (λ d. content_from d p.1) d ∙ content_same m.slots.0 m.slots.1 p.1 s same ∙ sym (content_of_message m)
+  pub message_same : IsAscending m.fields.1 → p.0 ≡ m.fields.0 → SameStored m.fields.1 p.1 → content_of (roll-DynamicMessage (record { fields = p })) ≡ content_of m
+  message_same s d same = rolled p ∙ ap (λ d. content_from d p.1) d ∙ content_same m.fields.0 m.fields.1 p.1 s same ∙ sym (content_of_message m)
 
 -- WRITING ACCESS
 
-prepared_value : (fields : List Field) (es : List (ℕ × Entry Value)) (n : ℕ) (default v : Value) → IsAscending es → value_at (prepared fields es n default) n ≡ Some v → v ≡ unwrap_or (value_at es n) default
+prepared_value : (fields : List Field) (es : List (ℕ × FieldSlot Value)) (n : ℕ) (default v : Value) → IsAscending es → value_at (prepared fields es n default) n ≡ Some v → v ≡ unwrap_or (value_at es n) default
 prepared_value fields es n default v s h = cases (value_at es n) refl h
   where
     one : (x y : Value) → Some x ≡ Some y → y ≡ x
@@ -211,16 +211,16 @@ unwrapped None default = refl
 unwrapped (Some v) default = refl
 
 -- the value that is lent
-pub value_lent : (m : DynamicMessage) (n : ℕ) (default v : Value) → IsAscending m.slots.1 → value_at (prepared (known_of m.slots.0) m.slots.1 n default) n ≡ Some v
+pub value_lent : (m : DynamicMessage) (n : ℕ) (default v : Value) → IsAscending m.fields.1 → value_at (prepared (known_of m.fields.0) m.fields.1 n default) n ≡ Some v
     → value_of v ≡ unwrap_or (contents.value_at n (entries_of (content_of m))) (value_of default)
 value_lent m n default v s h =
-    ap value_of (prepared_value (known_of m.slots.0) m.slots.1 n default v s h) ∙ unwrapped (value_at m.slots.1 n) default
+    ap value_of (prepared_value (known_of m.fields.0) m.fields.1 n default v s h) ∙ unwrapped (value_at m.fields.1 n) default
     ∙ ap (λ o. unwrap_or o (value_of default)) (value_of_message m n s)
 
 -- what is left where the lent value was written over
-pub content_written : (m : DynamicMessage) (n : ℕ) (default v : Value) → IsAscending m.slots.1 → Sound (known_of m.slots.0) m.slots.1 → is_known (known_of m.slots.0) n ≡ true → content_of (written_at m n default v) ≡ value_set n (value_of v) (content_of m)
+pub content_written : (m : DynamicMessage) (n : ℕ) (default v : Value) → IsAscending m.fields.1 → Sound (known_of m.fields.0) m.fields.1 → is_known (known_of m.fields.0) n ≡ true → content_of (written_at m n default v) ≡ value_set n (value_of v) (content_of m)
 content_written m n default v s sound known =
-    let fields = known_of m.slots.0 in
+    let fields = known_of m.fields.0 in
     content_of_message (written_at m n default v)
-    ∙ content_same m.slots.0 (set_value_at fields m.slots.1 n v) (with_value_at (prepared fields m.slots.1 n default) n v) (ascending_set_at fields m.slots.1 n v s) (written_is_set fields m.slots.1 n default v s sound)
-    ∙ content_set m.slots.0 m.slots.1 n v s known ∙ ap (value_set n (value_of v)) (sym (content_of_message m))
+    ∙ content_same m.fields.0 (set_value_at fields m.fields.1 n v) (with_value_at (prepared fields m.fields.1 n default) n v) (ascending_set_at fields m.fields.1 n v s) (written_is_set fields m.fields.1 n default v s sound)
+    ∙ content_set m.fields.0 m.fields.1 n v s known ∙ ap (value_set n (value_of v)) (sym (content_of_message m))

@@ -8,17 +8,17 @@ use Rattle.prost_reflect_wire.specs.Unknown.{records_of}
 use Rattle.prost_reflect_wire.specs.Content as contents
 use Rattle.prost_reflect_wire.specs.Content.{Content, ContentOf, Entries, NoEntries, Values, NoValues, Item, Pairs, Pair, ScalarValue, MessageValue, ListValue, MapValue, values_from, store}
 use Rattle.prost_reflect_tables.specs.Shown.{schema_from}
-use Rattle.prost_reflect_descriptors.specs.Pools.{pool_rows}
+use Rattle.prost_reflect_pool.specs.SharedPools.{pool_rows}
 use Rattle.prost_reflect.specs.View.{value_step, message_step, value_of, content_of, entries_from, pairs_from, payloads_of, key_of}
 use Rattle.prost_reflect.specs.Stored.{StoredMessage, MessageOf, StoredEntries, NothingStored, ValueAt, UnknownAt, BothAt, StoredValue, StoredScalar, StoredInside, StoredList, StoredMap, StoredItems, NoItems, ItemThen, StoredPairs, NoPairs, PairThen, stored_items, stored_pairs, stored_entries, stored_step, stored_message_step, value_stored, message_stored}
-use Rattle.prost_reflect_fields.specs.declared.entry.Entry.{Entry}
-use Rattle.prost_reflect_fields.specs.declared.entry.Entry.TheVariants as entries
+use Rattle.prost_reflect_fields.specs.declared.slot.FieldSlot.{FieldSlot}
+use Rattle.prost_reflect_fields.specs.declared.slot.FieldSlot.TheVariants as entries
 use Rattle.prost_reflect.specs.declared.value.MapKey.{MapKey}
 use Rattle.prost_reflect.specs.declared.value.Value.{Value}
 use Rattle.prost_reflect.specs.declared.value.Value.TheOpen.{Value-F, DynamicMessage-F}
 use Rattle.prost_reflect.specs.declared.value.Value.TheFolds.{fold-roll-Value, fold-roll-DynamicMessage, ind-Value, ind-DynamicMessage, map-Value, map-DynamicMessage}
 use Rattle.prost_reflect.specs.declared.message.DynamicMessage.{DynamicMessage}
-use Rattle.prost_reflect_fields.specs.formers.slots.Slots.{entry_former}
+use Rattle.prost_reflect_fields.specs.formers.field_set.FieldSet.{slot_former}
 use Rattle.prost_reflect.specs.Copies.{SameStored, SameStoring}
 use Rattle.prost_reflect.proofs.StoredViews.{same_types}
 
@@ -91,18 +91,18 @@ unfolding pairs_content
 pairs_follow [] = refl
 pairs_follow (e ∷ es) = ap₂ (Pair (key_of e.0)) e.1.1 (pairs_follow es)
 
-abbrev over : {X Y : Type 0} → (X → Y) → Entry X → Entry Y
-over {X} {Y} f = (entry_former this).map X Y f
+abbrev over : {X Y : Type 0} → (X → Y) → FieldSlot X → FieldSlot Y
+over {X} {Y} f = (slot_former this).map X Y f
 
-abbrev over_items : {X Y : Type 0} → (X → Y) → List (ℕ × Entry X) → List (ℕ × Entry Y)
+abbrev over_items : {X Y : Type 0} → (X → Y) → List (ℕ × FieldSlot X) → List (ℕ × FieldSlot Y)
 over_items f es = map (λ e. (e.0, over f e.1)) es
 
-entries_follow : (es : List (ℕ × Entry Values-Such)) → entries_content (stored_entries seen (over_items value_stored (over_items value_in es))) ≡ entries_from (over_items value_of (over_items value_in es))
+entries_follow : (es : List (ℕ × FieldSlot Values-Such)) → entries_content (stored_entries seen (over_items value_stored (over_items value_in es))) ≡ entries_from (over_items value_of (over_items value_in es))
 unfolding entries_content
 entries_follow [] = refl
 entries_follow (e ∷ es) = cases e.1 (entries_follow es)
   where
-    cases : (d : Entry Values-Such) → entries_content (stored_entries seen (over_items value_stored (over_items value_in es))) ≡ entries_from (over_items value_of (over_items value_in es))
+    cases : (d : FieldSlot Values-Such) → entries_content (stored_entries seen (over_items value_stored (over_items value_in es))) ≡ entries_from (over_items value_of (over_items value_in es))
         → entries_content (stored_entries seen (over_items value_stored (over_items value_in ((e.0, d) ∷ es)))) ≡ entries_from (over_items value_of (over_items value_in ((e.0, d) ∷ es)))
     cases (entries.Value v) rest = ap₂ (λ w ds. store e.0 (record { value = Some w; unknowns = [] }) ds) v.1 rest
     cases (entries.Unknown u) rest = ap₂ (λ rs ds. store e.0 (record { value = None; unknowns = payloads_of rs }) ds) (items_body (records_of u)) rest
@@ -145,7 +145,7 @@ message_shown_of x = message_step (map-DynamicMessage Value DynamicMessage conte
 message_layer_follows : (y : DynamicMessage-F Values-Such Messages-Such)
     → content_from (message_stored_of (map-DynamicMessage Values-Such Messages-Such Value DynamicMessage value_in message_in y)) ≡ message_shown_of (map-DynamicMessage Values-Such Messages-Such Value DynamicMessage value_in message_in y)
 unfolding message_stored_of message_shown_of content_from
-message_layer_follows y = ap (ContentOf (schema_from (pool_rows y.slots.0.pool)) y.slots.0.index) (entries_follow y.slots.1)
+message_layer_follows y = ap (ContentOf (schema_from (pool_rows y.fields.0.pool)) y.fields.0.index) (entries_follow y.fields.1)
 
 -- AT EVERY DEPTH
 

@@ -15,16 +15,16 @@ use Rattle.prost_reflect_wire.specs.Unknown.{records_of}
 use Rattle.prost_reflect_wire.specs.Content.{Content}
 use Rattle.prost_reflect_tables.specs.Rows.{TableRows}
 use Rattle.prost_reflect_tables.specs.Equality.{rows_eq}
-use Rattle.prost_reflect_descriptors.specs.Pools.{pool_rows, pool_contents}
-use Rattle.prost_reflect_descriptors.specs.PoolEquality.{contents_eq}
-use Rattle.prost_reflect_descriptors.specs.Descriptors.{SameMessage}
-use Rattle.prost_reflect_descriptors.proofs.EqualDescriptors.{rows_follow}
-use Rattle.prost_reflect_descriptors.specs.declared.message.MessageDescriptor.{MessageDescriptor}
-use Rattle.prost_reflect_descriptors.specs.contracts.message.MessageDescriptorPartialEq.TheImpl as descriptor_code
+use Rattle.prost_reflect_pool.specs.SharedPools.{pool_rows, pool_contents}
+use Rattle.prost_reflect_pool.specs.PoolEquality.{contents_eq}
+use Rattle.prost_reflect_pool.specs.MessageTypes.{SameMessage}
+use Rattle.prost_reflect_pool.proofs.EqualTypes.{rows_follow}
+use Rattle.prost_reflect_pool.specs.declared.pooled_type.PooledType.{PooledType}
+use Rattle.prost_reflect_pool.specs.contracts.pooled_type.PooledTypePartialEq.TheImpl as descriptor_code
 use Rattle.prost_reflect.specs.contracts.value.MapKeyPartialEq.TheImpl as key_eq
 use Rattle.prost_reflect.proofs.Keys.{keys_equal}
-use Rattle.prost_reflect_fields.specs.declared.entry.Entry.{Entry}
-use Rattle.prost_reflect_fields.specs.declared.entry.Entry.TheVariants as entries
+use Rattle.prost_reflect_fields.specs.declared.slot.FieldSlot.{FieldSlot}
+use Rattle.prost_reflect_fields.specs.declared.slot.FieldSlot.TheVariants as entries
 use Rattle.prost_reflect.specs.declared.value.MapKey.{MapKey}
 use Rattle.prost_reflect.specs.declared.value.Value.{Value}
 use Rattle.prost_reflect.specs.declared.value.Value as values
@@ -32,8 +32,8 @@ use Rattle.prost_reflect.specs.declared.value.Value.TheOpen.{Value-F, DynamicMes
 use Rattle.prost_reflect.specs.declared.value.Value.TheViews.{roll-Value, roll-DynamicMessage}
 use Rattle.prost_reflect.specs.declared.value.Value.TheFolds.{fold-roll-Value, fold-roll-DynamicMessage, fold_out-DynamicMessage}
 use Rattle.prost_reflect.specs.declared.message.DynamicMessage.{DynamicMessage}
-use Rattle.prost_reflect_fields.specs.formers.slots.Slots.{entry_former}
-use Rattle.prost_reflect.specs.View.{descriptor_of, stored_in, key_of}
+use Rattle.prost_reflect_fields.specs.formers.field_set.FieldSet.{slot_former}
+use Rattle.prost_reflect.specs.View.{message_type_of, stored_in, key_of}
 use Rattle.prost_reflect.specs.Stored.{StoredMessage, MessageOf, StoredEntries, NothingStored, StoredValue, StoredScalar, StoredList, StoredMap, ItemThen, PairThen, stored_items, stored_pairs, stored_entry, stored_entries, stored_step, stored_message_step, value_stored, message_stored}
 use Rattle.prost_reflect.specs.Same.{same_message, same_value, same_items, same_pairs, same_entries, equal_values, equal_messages}
 
@@ -50,15 +50,15 @@ pairs_mapped : (es : List (MapKey × Value)) → stored_pairs seen (map (λ (e :
 pairs_mapped [] = refl
 pairs_mapped (e ∷ es) = ap (PairThen (key_of e.0) (value_stored e.1)) (pairs_mapped es)
 
-abbrev over : Entry Value → Entry StoredValue
-over = (entry_former this).map Value StoredValue value_stored
+abbrev over : FieldSlot Value → FieldSlot StoredValue
+over = (slot_former this).map Value StoredValue value_stored
 
-entry_mapped : (n : ℕ) (e : Entry Value) (es : StoredEntries) → stored_entry seen n (over e) es ≡ stored_entry value_stored n e es
+entry_mapped : (n : ℕ) (e : FieldSlot Value) (es : StoredEntries) → stored_entry seen n (over e) es ≡ stored_entry value_stored n e es
 entry_mapped n (entries.Value v) es = refl
 entry_mapped n (entries.Unknown u) es = refl
 entry_mapped n (entries.Both v u) es = refl
 
-entries_mapped : (es : List (ℕ × Entry Value)) → stored_entries seen (map (λ e. (e.0, over e.1)) es) ≡ stored_entries value_stored es
+entries_mapped : (es : List (ℕ × FieldSlot Value)) → stored_entries seen (map (λ e. (e.0, over e.1)) es) ≡ stored_entries value_stored es
 entries_mapped [] = refl
 entries_mapped (e ∷ es) = entry_mapped e.0 e.1 (stored_entries seen (map (λ e. (e.0, over e.1)) es)) ∙ ap (stored_entry value_stored e.0 e.1) (entries_mapped es)
 
@@ -80,11 +80,11 @@ pub stored_map : (m : BTreeMap MapKey Value) → value_stored (values.Map m) ≡
 unfolding roll-Value Carrier.roll
 stored_map m = fold-roll-Value StoredValue StoredMessage stored_step stored_message_step (Value-F.Map m) ∙ ap StoredMap (pairs_mapped m.entries)
 
-pub stored_message : (m : DynamicMessage) → message_stored m ≡ MessageOf (pool_contents m.slots.0.pool) (pool_rows m.slots.0.pool) m.slots.0.index (stored_entries value_stored m.slots.1)
-stored_message m = fold_out-DynamicMessage StoredValue StoredMessage stored_step stored_message_step m ∙ ap (MessageOf (pool_contents m.slots.0.pool) (pool_rows m.slots.0.pool) m.slots.0.index) (entries_mapped m.slots.1)
+pub stored_message : (m : DynamicMessage) → message_stored m ≡ MessageOf (pool_contents m.fields.0.pool) (pool_rows m.fields.0.pool) m.fields.0.index (stored_entries value_stored m.fields.1)
+stored_message m = fold_out-DynamicMessage StoredValue StoredMessage stored_step stored_message_step m ∙ ap (MessageOf (pool_contents m.fields.0.pool) (pool_rows m.fields.0.pool) m.fields.0.index) (entries_mapped m.fields.1)
 
-pub stored_roll : (m : DynamicMessage-F Value DynamicMessage) → message_stored (roll-DynamicMessage m) ≡ MessageOf (pool_contents m.slots.0.pool) (pool_rows m.slots.0.pool) m.slots.0.index (stored_entries value_stored m.slots.1)
-stored_roll m = fold-roll-DynamicMessage StoredValue StoredMessage stored_step stored_message_step m ∙ ap (MessageOf (pool_contents m.slots.0.pool) (pool_rows m.slots.0.pool) m.slots.0.index) (entries_mapped m.slots.1)
+pub stored_roll : (m : DynamicMessage-F Value DynamicMessage) → message_stored (roll-DynamicMessage m) ≡ MessageOf (pool_contents m.fields.0.pool) (pool_rows m.fields.0.pool) m.fields.0.index (stored_entries value_stored m.fields.1)
+stored_roll m = fold-roll-DynamicMessage StoredValue StoredMessage stored_step stored_message_step m ∙ ap (MessageOf (pool_contents m.fields.0.pool) (pool_rows m.fields.0.pool) m.fields.0.index) (entries_mapped m.fields.1)
 
 abbrev files_in : StoredMessage → List Content
 files_in (MessageOf fs r T es) = fs
@@ -96,7 +96,7 @@ abbrev place_in : StoredMessage → ℕ
 place_in (MessageOf fs r T es) = T
 
 -- messages that store the same are of one type
-pub same_types : (m n : DynamicMessage) → message_stored n ≡ message_stored m → SameMessage (descriptor_of m) (descriptor_of n)
+pub same_types : (m n : DynamicMessage) → message_stored n ≡ message_stored m → SameMessage (message_type_of m) (message_type_of n)
 same_types m n h = let same = sym (stored_message n) ∙ h ∙ stored_message m in (ap files_in same, ap rows_in same, ap place_in same)
 
 -- VALUES
@@ -118,27 +118,27 @@ maps_equal v w a b r va wb is = is ∙ by_views v w (values.Map a) (values.Map b
 
 -- TYPES
 
-abbrev pub same_type : MessageDescriptor → MessageDescriptor → Bool
+abbrev pub same_type : PooledType → PooledType → Bool
 same_type a b = (contents_eq (pool_contents a.pool) (pool_contents b.pool) && rows_eq (pool_rows a.pool) (pool_rows b.pool)) && nat_eq a.index b.index
 
-pub types_equal : (a b : MessageDescriptor) → (descriptor_code.ghosts).eq a b ≡ same_type a b
+pub types_equal : (a b : PooledType) → (descriptor_code.ghosts).eq a b ≡ same_type a b
 types_equal a b = ap (λ t. t && nat_eq a.index b.index) (rows_follow a.pool b.pool)
 
-opened : (m n : DynamicMessage) → equal_messages m n ≡ (same_type (descriptor_of m) (descriptor_of n) && same_entries (stored_entries value_stored (stored_in m)) (stored_entries value_stored (stored_in n)))
+opened : (m n : DynamicMessage) → equal_messages m n ≡ (same_type (message_type_of m) (message_type_of n) && same_entries (stored_entries value_stored (stored_in m)) (stored_entries value_stored (stored_in n)))
 opened m n = λ i. same_message (stored_message m i) (stored_message n i)
 
-pub types_differ : (m n : DynamicMessage) → same_type (descriptor_of m) (descriptor_of n) ≡ false → false ≡ equal_messages m n
+pub types_differ : (m n : DynamicMessage) → same_type (message_type_of m) (message_type_of n) ≡ false → false ≡ equal_messages m n
 types_differ m n h = sym (opened m n ∙ ap (λ b. b && same_entries (stored_entries value_stored (stored_in m)) (stored_entries value_stored (stored_in n))) h)
 
-pub types_same : (m n : DynamicMessage) → same_type (descriptor_of m) (descriptor_of n) ≡ true → same_entries (stored_entries value_stored (stored_in m)) (stored_entries value_stored (stored_in n)) ≡ equal_messages m n
+pub types_same : (m n : DynamicMessage) → same_type (message_type_of m) (message_type_of n) ≡ true → same_entries (stored_entries value_stored (stored_in m)) (stored_entries value_stored (stored_in n)) ≡ equal_messages m n
 types_same m n h = sym (opened m n ∙ ap (λ b. b && same_entries (stored_entries value_stored (stored_in m)) (stored_entries value_stored (stored_in n))) h)
 
 -- ENTRIES
 
 abbrev Entries : Type 0
-Entries = List (ℕ × Entry Value)
+Entries = List (ℕ × FieldSlot Value)
 
-apart : (n m : ℕ) (e d : Entry Value) (es ds : StoredEntries) → nat_eq n m ≡ false → same_entries (stored_entry value_stored n e es) (stored_entry value_stored m d ds) ≡ false
+apart : (n m : ℕ) (e d : FieldSlot Value) (es ds : StoredEntries) → nat_eq n m ≡ false → same_entries (stored_entry value_stored n e es) (stored_entry value_stored m d ds) ≡ false
 apart n m (entries.Value v) (entries.Value w) es ds h = ap (λ b. (b && same_value (value_stored v) (value_stored w)) && same_entries es ds) h
 apart n m (entries.Unknown u) (entries.Unknown t) es ds h = ap (λ b. (b && records_eq (body_of (records_of u)) (body_of (records_of t))) && same_entries es ds) h
 apart n m (entries.Both v u) (entries.Both w t) es ds h = ap (λ b. (b && (same_value (value_stored v) (value_stored w) && records_eq (body_of (records_of u)) (body_of (records_of t)))) && same_entries es ds) h
@@ -149,7 +149,7 @@ apart n m (entries.Unknown u) (entries.Both w t) es ds h = refl
 apart n m (entries.Both v u) (entries.Value w) es ds h = refl
 apart n m (entries.Both v u) (entries.Unknown t) es ds h = refl
 
-alone : (n : ℕ) (e : Entry Value) (es : StoredEntries) → same_entries (stored_entry value_stored n e es) NothingStored ≡ false
+alone : (n : ℕ) (e : FieldSlot Value) (es : StoredEntries) → same_entries (stored_entry value_stored n e es) NothingStored ≡ false
 alone n (entries.Value v) es = refl
 alone n (entries.Unknown u) es = refl
 alone n (entries.Both v u) es = refl
@@ -161,12 +161,12 @@ abbrev left : Entries → ℕ → Entries → Bool
 left es i ds = same_entries (stored_entries value_stored (drop i es)) (stored_entries value_stored ds)
 
 -- what is left differs in its first number, or one side has an entry more
-pub numbers_differ : (es ds rest : Entries) (i : ℕ) (e d : ℕ × Entry Value) (b : Bool) → i < length es → e ≡ get_or es i e → ds ≡ d ∷ rest → (e.0 ≡ d.0 → ⊥) → left es i ds ≡ b → false ≡ b
+pub numbers_differ : (es ds rest : Entries) (i : ℕ) (e d : ℕ × FieldSlot Value) (b : Bool) → i < length es → e ≡ get_or es i e → ds ≡ d ∷ rest → (e.0 ≡ d.0 → ⊥) → left es i ds ≡ b → false ≡ b
 numbers_differ es ds rest i e d b l is from differ same =
     sym (apart e.0 d.0 e.1 d.1 (stored_entries value_stored (drop (i + 1) es)) (stored_entries value_stored rest) (ne_eqb e.0 d.0 differ))
     ∙ sym (ap₂ (λ (xs ys : Entries). same_entries (stored_entries value_stored xs) (stored_entries value_stored ys)) (cut es i e l is) from) ∙ same
 
-pub entry_alone : (es ds : Entries) (i : ℕ) (e : ℕ × Entry Value) (b : Bool) → i < length es → e ≡ get_or es i e → length ds ≡ 0 → left es i ds ≡ b → false ≡ b
+pub entry_alone : (es ds : Entries) (i : ℕ) (e : ℕ × FieldSlot Value) (b : Bool) → i < length es → e ≡ get_or es i e → length ds ≡ 0 → left es i ds ≡ b → false ≡ b
 entry_alone es (d ∷ ds) i e b l is none same = absurd (omega arith)
 entry_alone es [] i e b l is none same = sym (alone e.0 e.1 (stored_entries value_stored (drop (i + 1) es))) ∙ sym (ap (λ (xs : Entries). same_entries (stored_entries value_stored xs) NothingStored) (cut es i e l is)) ∙ same
 

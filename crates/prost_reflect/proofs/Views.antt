@@ -8,9 +8,9 @@ use denote.Hole.Carrier as Carrier
 use Rattle.prost_reflect_wire.specs.Scalar as scalars
 use Rattle.prost_reflect_wire.specs.Content as contents
 use Rattle.prost_reflect_wire.specs.Content.{Content, ContentOf, ScalarValue, MessageValue, ListValue, MapValue, values_from}
-use Rattle.prost_reflect_descriptors.specs.Descriptors.{schema_at, type_at}
-use Rattle.prost_reflect_fields.specs.declared.entry.Entry.{Entry}
-use Rattle.prost_reflect_fields.specs.declared.entry.Entry.TheVariants as entries
+use Rattle.prost_reflect_pool.specs.MessageTypes.{schema_at, type_at}
+use Rattle.prost_reflect_fields.specs.declared.slot.FieldSlot.{FieldSlot}
+use Rattle.prost_reflect_fields.specs.declared.slot.FieldSlot.TheVariants as entries
 use Rattle.prost_reflect.specs.declared.value.MapKey.{MapKey}
 use Rattle.prost_reflect.specs.declared.value.Value.{Value}
 use Rattle.prost_reflect.specs.declared.value.Value as values
@@ -18,38 +18,38 @@ use Rattle.prost_reflect.specs.declared.value.Value.TheOpen.{Value-F, DynamicMes
 use Rattle.prost_reflect.specs.declared.value.Value.TheViews.{roll-Value, roll-DynamicMessage}
 use Rattle.prost_reflect.specs.declared.value.Value.TheFolds.{fold-roll-Value, fold-roll-DynamicMessage, fold_out-DynamicMessage}
 use Rattle.prost_reflect.specs.declared.message.DynamicMessage.{DynamicMessage}
-use Rattle.prost_reflect_fields.specs.formers.slots.Slots.{entry_former}
+use Rattle.prost_reflect_fields.specs.formers.field_set.FieldSet.{slot_former}
 use Rattle.prost_reflect.specs.ContentLaws.{ValueViews}
 use Rattle.prost_reflect.specs.View.{value_step, message_step, value_of, content_of, entries_from, pairs_from}
 
 -- A MESSAGE
 
 -- an entry with its value shown
-abbrev pub shown_entry : Entry Value → Entry contents.Value
+abbrev pub shown_entry : FieldSlot Value → FieldSlot contents.Value
 shown_entry (entries.Value v) = entries.Value (value_of v)
 shown_entry (entries.Unknown u) = entries.Unknown u
 shown_entry (entries.Both v u) = entries.Both (value_of v) u
 
-abbrev pub shown : List (ℕ × Entry Value) → List (ℕ × Entry contents.Value)
+abbrev pub shown : List (ℕ × FieldSlot Value) → List (ℕ × FieldSlot contents.Value)
 shown es = map (λ e. (e.0, shown_entry e.1)) es
 
-abbrev over : Entry Value → Entry contents.Value
-over = (entry_former this).map Value contents.Value value_of
+abbrev over : FieldSlot Value → FieldSlot contents.Value
+over = (slot_former this).map Value contents.Value value_of
 
-over_same : (e : Entry Value) → over e ≡ shown_entry e
+over_same : (e : FieldSlot Value) → over e ≡ shown_entry e
 over_same (entries.Value v) = refl
 over_same (entries.Unknown u) = refl
 over_same (entries.Both v u) = refl
 
-all_over : (es : List (ℕ × Entry Value)) → map (λ e. (e.0, over e.1)) es ≡ shown es
+all_over : (es : List (ℕ × FieldSlot Value)) → map (λ e. (e.0, over e.1)) es ≡ shown es
 all_over [] = refl
 all_over (e ∷ es) = λ i. (e.0, over_same e.1 i) ∷ all_over es i
 
-pub content_of_message : (m : DynamicMessage) → content_of m ≡ ContentOf (schema_at m.slots.0) (type_at m.slots.0) (entries_from (shown m.slots.1))
-content_of_message m = fold_out-DynamicMessage contents.Value Content value_step message_step m ∙ ap (λ es. ContentOf (schema_at m.slots.0) (type_at m.slots.0) (entries_from es)) (all_over m.slots.1)
+pub content_of_message : (m : DynamicMessage) → content_of m ≡ ContentOf (schema_at m.fields.0) (type_at m.fields.0) (entries_from (shown m.fields.1))
+content_of_message m = fold_out-DynamicMessage contents.Value Content value_step message_step m ∙ ap (λ es. ContentOf (schema_at m.fields.0) (type_at m.fields.0) (entries_from es)) (all_over m.fields.1)
 
-pub content_of_roll : (m : DynamicMessage-F Value DynamicMessage) → content_of (roll-DynamicMessage m) ≡ ContentOf (schema_at m.slots.0) (type_at m.slots.0) (entries_from (shown m.slots.1))
-content_of_roll m = fold-roll-DynamicMessage contents.Value Content value_step message_step m ∙ ap (λ es. ContentOf (schema_at m.slots.0) (type_at m.slots.0) (entries_from es)) (all_over m.slots.1)
+pub content_of_roll : (m : DynamicMessage-F Value DynamicMessage) → content_of (roll-DynamicMessage m) ≡ ContentOf (schema_at m.fields.0) (type_at m.fields.0) (entries_from (shown m.fields.1))
+content_of_roll m = fold-roll-DynamicMessage contents.Value Content value_step message_step m ∙ ap (λ es. ContentOf (schema_at m.fields.0) (type_at m.fields.0) (entries_from es)) (all_over m.fields.1)
 
 -- VALUES
 

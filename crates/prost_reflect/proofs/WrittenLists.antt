@@ -1,6 +1,7 @@
 -- What is written of a list of scalars.
-use Rattle.std.proofs.Common.{◌≡◌, ℕ, zero, suc, ◌+◌, ◌-◌, ◌^◌, ◌≤◌, Bool, true, false, List, [], ◌∷◌, ◌++◌, map, flat_map, drop, length, Some, refl, sym, ap, ap₂, ◌∙◌, subst, append_assoc, append-nil, true≢false, arith, length-append}
+use Rattle.std.proofs.Common.{◌≡◌, ℕ, zero, suc, ◌+◌, ◌-◌, ◌^◌, ◌≤◌, ◌<◌, slice_index_or, Bool, true, false, List, [], ◌∷◌, ◌++◌, map, flat_map, drop, length, Some, refl, sym, ap, ap₂, ◌∙◌, subst, append_assoc, append-nil, true≢false, arith, length-append}
 use Rattle.std.specs.Prelude.{IsSomeAnd, Vec}
+use Rattle.std.specs.List.{AllByRecursion}
 use Rattle.std.specs.declared.alloc.Global.{Global}
 use Rattle.prost_reflect_wire.specs.declared.key.WireType.TheVariants as wires
 use Rattle.prost_reflect_wire.specs.Record.{Len, record_at, short_key, short_plain, spelled}
@@ -17,12 +18,12 @@ use Rattle.prost_reflect_laws.proofs.ListWritten.{list_written}
 use Rattle.prost_reflect_tables.specs.declared.tables.TableKind.{TableKind}
 use Rattle.prost_reflect_tables.specs.Rows.{FieldRow}
 use Rattle.prost_reflect_tables.specs.Shown.{schema_field}
-use Rattle.prost_reflect_descriptors.specs.declared.message.MessageDescriptor.{MessageDescriptor}
+use Rattle.prost_reflect_pool.specs.declared.pooled_type.PooledType.{PooledType}
 use Rattle.prost_reflect.specs.declared.value.Value.{Value}
 use Rattle.prost_reflect.specs.declared.value.Value as values
 use Rattle.prost_reflect.specs.RowKinds.{is_repeated, names_message}
 use Rattle.prost_reflect_fields.specs.Known.{known_of}
-use Rattle.prost_reflect_descriptors.specs.Pools.{pool_rows}
+use Rattle.prost_reflect_pool.specs.SharedPools.{pool_rows}
 use Rattle.prost_reflect.proofs.PlainKinds.{SamePayloads, scalars_row, scalars_kind, plain_of, plain_payloads}
 use Rattle.prost_reflect.proofs.Views.{value_of_list}
 use Rattle.prost_reflect.proofs.WrittenValues.{passing}
@@ -45,6 +46,12 @@ module _ {A : Type 0} (f : A → List ℕ) where
   pub flat_too_long : (items : List A) (i : ℕ) (x : A) (old mid : List ℕ) → drop (i - 1) items ≡ x ∷ drop i items → mid ≡ flat_map f (drop i items) ++ old → 2 ^ 64 ≤ length (f x) + length mid → 2 ^ 64 ≤ length (flat_map f items) + length old
   flat_too_long items i x old mid cut is h =
       omega (arith, h, ap length is, length-append (flat_map f (drop i items)) old, ap (λ (l : List A). length (flat_map f l)) cut, length-append (f x) (flat_map f (drop i items)), flat_drop (i - 1) items)
+
+-- what holds of each holds of one
+pub holds_at : {A : Type 0} (P : A → Type 0) (xs : List A) (i : ℕ) (x : A) → i < length xs → x ≡ slice_index_or xs i x → AllByRecursion P xs → P x
+holds_at P [] i x b e h = absurd (omega (arith, b))
+holds_at P (y ∷ xs) zero x b e (one, more) = subst P (sym e) one
+holds_at P (y ∷ xs) (suc i) x b e (one, more) = holds_at P xs i x (omega (arith, b)) e more
 
 -- SCALARS
 
@@ -120,7 +127,7 @@ list_of_kind fields n f packed kind plain own vs same found form is e h =
 -- ROWS
 
 -- the list of a row that names no message
-pub row_list_written : (d : MessageDescriptor) (n : ℕ) (row : FieldRow) (v : Value) (vs : Vec Value Global) → names_message row.kind ≡ false → Some (schema_field (pool_rows d.pool) row) ≡ field_of (known_of d) n → is_repeated row.cardinality ≡ true →
+pub row_list_written : (d : PooledType) (n : ℕ) (row : FieldRow) (v : Value) (vs : Vec Value Global) → names_message row.kind ≡ false → Some (schema_field (pool_rows d.pool) row) ≡ field_of (known_of d) n → is_repeated row.cardinality ≡ true →
     passes (field_of (known_of d) n) (λ f. value_valid f (value_of v)) ≡ true → v ≡ values.List vs → ListWritten (known_of d) n row.kind row.is_packed vs.items
 row_list_written d n row v vs scalar found many valid is =
     let kind = scalars_kind (pool_rows d.pool) row scalar in
@@ -138,7 +145,7 @@ pub list_value_bytes : (fields : List Field) (n : ℕ) (kind : TableKind) (packe
 list_value_bytes fields n kind packed v vs ws is same w = ap (value_bytes fields n) (ap value_of is ∙ value_of_list vs) ∙ w.bytes ∙ ap (list_bytes n packed kind) (sym same)
 
 -- a value of a field of lists is a list
-pub valid_list_value : (d : MessageDescriptor) (n : ℕ) (row : FieldRow) (c : contents.Value) → (schema_field (pool_rows d.pool) row).form ≡ Repeated row.is_packed → Some (schema_field (pool_rows d.pool) row) ≡ field_of (known_of d) n →
+pub valid_list_value : (d : PooledType) (n : ℕ) (row : FieldRow) (c : contents.Value) → (schema_field (pool_rows d.pool) row).form ≡ Repeated row.is_packed → Some (schema_field (pool_rows d.pool) row) ≡ field_of (known_of d) n →
     passes (field_of (known_of d) n) (λ f. value_valid f c) ≡ true → IsList c
 valid_list_value d n row c form found valid =
     go (schema_field (pool_rows d.pool) row) row.is_packed c form (passing (field_of (known_of d) n) (schema_field (pool_rows d.pool) row) (λ f. value_valid f c) (sym found) valid)

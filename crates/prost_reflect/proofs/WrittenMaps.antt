@@ -1,28 +1,27 @@
 -- What is written of a map of scalars.
-use Rattle.std.proofs.Common.{◌≡◌, ℕ, ◌+◌, ◌^◌, ◌≤◌, true, false, cond, not, ◌&&◌, List, [], ◌∷◌, ◌++◌, length, map, Some, refl, sym, ap, ap₂, ◌∙◌, subst, append_assoc, true≢false, arith, length-append}
+use Rattle.std.proofs.Common.{◌≡◌, ℕ, ◌+◌, ◌^◌, ◌≤◌, true, false, cond, ◌&&◌, List, [], ◌∷◌, ◌++◌, length, map, Some, refl, sym, ap, ap₂, ◌∙◌, subst, append_assoc, true≢false, arith, length-append}
 use Rattle.std.specs.Prelude.{IsSomeAnd}
 use Rattle.prost_reflect_wire.specs.declared.key.WireType.TheVariants as wires
 use Rattle.prost_reflect_wire.specs.Record.{Len, record_at, short_key, short_plain, spelled}
-use Rattle.prost_reflect_wire.specs.Scalar.{Scalar, ScalarKind, kind_wire, kind_default, scalar_eq, scalar_valid, written}
+use Rattle.prost_reflect_wire.specs.Scalar.{Scalar, ScalarKind, kind_wire, scalar_valid, written}
 use Rattle.prost_reflect_wire.specs.Schema.{ScalarOf, ValueType, MapFrom, Field, field_of}
 use Rattle.prost_reflect_wire.specs.Content as contents
 use Rattle.prost_reflect_wire.specs.Content.{ScalarValue, MessageValue, ListValue, MapValue, Pair}
-use Rattle.prost_reflect_wire.specs.Writing.{pair_payloads}
+use Rattle.prost_reflect_wire.specs.Writing.{is_default_of, pair_payloads}
 use Rattle.prost_reflect_wire.specs.Typing.{kind_takes, element_valid, pairs_valid, value_valid}
 use Rattle.prost_reflect_wire.specs.Storing.{value_bytes}
 use Rattle.prost_reflect_wire.proofs.Deeper.{and_both}
 use Rattle.prost_reflect_laws.proofs.MapWritten.{part_bytes, pair_written, map_written}
 use Rattle.prost_reflect_tables.specs.declared.tables.TableKind.{TableKind}
 use Rattle.prost_reflect_tables.specs.Rows.{FieldRow, EnumRow}
-use Rattle.prost_reflect_tables.specs.Shown.{schema_kind, schema_default}
+use Rattle.prost_reflect_tables.specs.Shown.{schema_kind, own_type}
 use Rattle.prost_reflect.specs.declared.value.MapKey.{MapKey}
 use Rattle.prost_reflect.specs.declared.value.Value.{Value}
 use Rattle.prost_reflect.specs.ContentLaws.{pairs_shown}
-use Rattle.prost_reflect.specs.Scalars.{plain_kind, TakesScalar, scalar_record_bytes, kept_scalar_bytes, zero_like, is_default}
-use Rattle.prost_reflect.specs.Maps.{TakesPairs, key_bytes, entry_bytes, pairs_bytes}
+use Rattle.prost_reflect.specs.Scalars.{plain_kind, TakesScalar, scalar_record_bytes, kept_scalar_bytes}
+use Rattle.prost_reflect.specs.Maps.{TakesPairs, entry_bytes, pairs_bytes}
 use Rattle.prost_reflect.specs.View.{key_of, value_of}
 use Rattle.prost_reflect.proofs.PlainKinds.{SamePayloads, plain_payloads}
-use Rattle.prost_reflect.proofs.WrittenValues.{is_enum, zero_of, default_is}
 
 -- the row of an entry's key or value, and its type
 pub record PartRow (enums : List EnumRow) (row : FieldRow) (t : ValueType) (kind : ScalarKind) : Type 0 where
@@ -30,8 +29,7 @@ pub record PartRow (enums : List EnumRow) (row : FieldRow) (t : ValueType) (kind
   pub named : plain_kind row.kind ≡ Some plain
   pub shown : schema_kind enums row.kind false ≡ ScalarOf kind
   pub is : t.kind ≡ ScalarOf kind
-  pub presence : t.presence ≡ row.supports_presence
-  pub default : t.default ≡ schema_default row.default (ScalarOf kind)
+  pub own : own_type enums row ≡ t
 
 module _ (enums : List EnumRow) (row : FieldRow) (t : ValueType) (kind : ScalarKind) (part : PartRow enums row t kind) where
   part_alike : SamePayloads part.plain kind
@@ -40,15 +38,10 @@ module _ (enums : List EnumRow) (row : FieldRow) (t : ValueType) (kind : ScalarK
   record_part : (n : ℕ) (s : Scalar) → scalar_record_bytes n (plain_kind row.kind) (ScalarValue s) ≡ short_key n (kind_wire kind) ++ short_plain (written kind s)
   record_part n s = ap (λ o. scalar_record_bytes n o (ScalarValue s)) part.named ∙ ap₂ (λ w p. short_key n w ++ short_plain p) part_alike.wire (part_alike.write s)
 
-  pub key_part : (s : Scalar) → is_enum (ScalarOf kind) ≡ false → t.default ≡ kind_default kind → scalar_valid kind s ≡ true → key_bytes row (ScalarValue s) ≡ part_bytes t 1 kind s
-  key_part s apart zero fits =
-      ap (λ l. cond (not row.supports_presence && scalar_eq s (zero_like s)) [] l) (record_part 1 s)
-      ∙ ap₂ (λ p d. cond (not p && scalar_eq s d) [] (short_key 1 (kind_wire kind) ++ short_plain (written kind s))) (sym part.presence) (zero_of kind s apart fits ∙ sym zero)
-
-  value_part : (s : Scalar) → scalar_valid kind s ≡ true → kept_scalar_bytes 2 enums row (ScalarValue s) ≡ part_bytes t 2 kind s
-  value_part s fits =
-      ap (λ l. cond (not row.supports_presence && is_default enums row.kind row.default (ScalarValue s)) [] l) (record_part 2 s)
-      ∙ ap₂ (λ p b. cond (not p && b) [] (short_key 2 (kind_wire kind) ++ short_plain (written kind s))) (sym part.presence) (sym (default_is enums row.kind kind s row.default part.shown fits) ∙ ap (scalar_eq s) (sym part.default))
+  pub part_written_as : (n : ℕ) (s : Scalar) → kept_scalar_bytes n enums row (ScalarValue s) ≡ part_bytes t n kind s
+  part_written_as n s =
+      ap (λ l. cond (is_default_of (own_type enums row) (ScalarValue s)) [] l) (record_part n s)
+      ∙ ap (λ (t : ValueType). cond (is_default_of t (ScalarValue s)) [] (short_key n (kind_wire kind) ++ short_plain (written kind s))) part.own
 
   -- a value of the part's kind is one of the plain kind
   pub part_takes : (v : contents.Value) → element_valid (ScalarOf kind) v ≡ true → TakesScalar row.kind v
@@ -64,15 +57,13 @@ module _ (enums : List EnumRow) (row : FieldRow) (t : ValueType) (kind : ScalarK
 pub record KeyRow (enums : List EnumRow) (row : FieldRow) (t : ValueType) : Type 0 where
   pub kind : ScalarKind
   pub part : PartRow enums row t kind
-  pub apart : is_enum (ScalarOf kind) ≡ false
-  pub zero : t.default ≡ kind_default kind
 
 -- what the writer of a map needs to know, and what it has to write
 pub record MapWritten (fields : List Field) (n : ℕ) (enums : List EnumRow) (key value_row : FieldRow) (es : List (MapKey × Value)) : Type 0 where
   pub takes : TakesPairs key.kind value_row.kind es
   pub bytes : value_bytes fields n (MapValue (pairs_shown es)) ≡ pairs_bytes n enums key value_row es
 
-module _ (n : ℕ) (enums : List EnumRow) (key value_row : FieldRow) (key_type value_type : ValueType) (key_kind kind : ScalarKind) (key_part_row : PartRow enums key key_type key_kind) (part_row : PartRow enums value_row value_type kind) (apart : is_enum (ScalarOf key_kind) ≡ false) (zero : key_type.default ≡ kind_default key_kind) where
+module _ (n : ℕ) (enums : List EnumRow) (key value_row : FieldRow) (key_type value_type : ValueType) (key_kind kind : ScalarKind) (key_part_row : PartRow enums key key_type key_kind) (part_row : PartRow enums value_row value_type kind) where
   key_fits : (k : Scalar) → kind_takes key_type.kind k ≡ true → scalar_valid key_kind k ≡ true
   key_fits k h = ap (λ kind. kind_takes kind k) (sym key_part_row.is) ∙ h
 
@@ -95,7 +86,7 @@ module _ (n : ℕ) (enums : List EnumRow) (key value_row : FieldRow) (key_type v
       go (ScalarValue s) a b more =
           pair_written n key_type value_type key_kind kind (key_of e.0) s (pairs_shown es) key_part_row.is part_row.is a b
           ∙ ap₂ (λ (body : List ℕ) (rest : List ℕ). (short_key n wires.LengthDelimited ++ short_plain (Len body)) ++ rest)
-          (ap₂ ◌++◌ (sym (key_part enums key key_type key_kind key_part_row (key_of e.0) apart zero a)) (sym (value_part enums value_row value_type kind part_row s b))) more
+          (ap₂ ◌++◌ (sym (part_written_as enums key key_type key_kind key_part_row 1 (key_of e.0))) (sym (part_written_as enums value_row value_type kind part_row 2 s))) more
       go (MessageValue m) a b more = absurd (true≢false (sym b))
       go (ListValue vs) a b more = absurd (true≢false (sym b))
       go (MapValue ps) a b more = absurd (true≢false (sym b))

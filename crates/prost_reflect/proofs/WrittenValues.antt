@@ -1,26 +1,22 @@
 -- What is written of the value of a field of one scalar.
-use Rattle.std.proofs.Common.{◌≡◌, ℕ, Bool, true, false, cond, not, ◌&&◌, List, [], ◌++◌, Option, Some, None, refl, sym, ap, ap₂, ◌∙◌, true≢false}
+use Rattle.std.proofs.Common.{◌≡◌, ℕ, Bool, true, false, cond, List, [], ◌++◌, Option, Some, refl, sym, ap, ap₂, ◌∙◌, true≢false}
 use Rattle.prost_reflect_wire.specs.Record.{short_key, short_plain}
-use Rattle.prost_reflect_wire.specs.Scalar as scalars
-use Rattle.prost_reflect_wire.specs.Scalar.{Scalar, ScalarKind, kind_wire, kind_default, scalar_eq, scalar_valid, written}
+use Rattle.prost_reflect_wire.specs.Scalar.{Scalar, ScalarKind, kind_wire, scalar_valid, written}
 use Rattle.prost_reflect_wire.specs.Schema.{Kind, ScalarOf, MessageOf, GroupOf, ValueType, Singular, Field, field_of, is_message, passes}
 use Rattle.prost_reflect_wire.specs.Content.{ScalarValue, MessageValue, ListValue, MapValue, Pairs}
 use Rattle.prost_reflect_wire.specs.Content as contents
+use Rattle.prost_reflect_wire.specs.Writing.{is_default_of}
 use Rattle.prost_reflect_wire.specs.Typing.{value_valid, kind_takes, is_repeated, pairs_valid}
 use Rattle.prost_reflect_wire.specs.Storing.{value_bytes}
 use Rattle.prost_reflect_wire.proofs.Deeper.{and_both}
 use Rattle.prost_reflect_laws.proofs.WrittenEntries.{scalar_written}
 use Rattle.prost_reflect_tables.specs.Rows.{FieldRow, EnumRow, TableRows}
-use Rattle.prost_reflect_tables.specs.declared.tables.TableKind.{TableKind}
-use Rattle.prost_reflect_tables.specs.declared.tables.TableKind.TheVariants as kinds
-use Rattle.std.specs.Prelude.{slice_get}
-use Rattle.prost_reflect_tables.specs.Shown.{schema_default, schema_kind, enum_kind, own_type, schema_field}
-use Rattle.prost_reflect_descriptors.specs.declared.message.MessageDescriptor.{MessageDescriptor}
-use Rattle.prost_reflect_descriptors.specs.Pools.{pool_rows}
+use Rattle.prost_reflect_tables.specs.Shown.{own_type, schema_field}
+use Rattle.prost_reflect_pool.specs.declared.pooled_type.PooledType.{PooledType}
+use Rattle.prost_reflect_pool.specs.SharedPools.{pool_rows}
 use Rattle.prost_reflect_fields.specs.Known.{known_of}
 use Rattle.prost_reflect.specs.RowKinds.{is_repeated as is_labelled}
-use Rattle.prost_reflect_descriptors.specs.Enums.{first_of}
-use Rattle.prost_reflect.specs.Scalars.{plain_kind, TakesScalar, scalar_record_bytes, zero_like, is_default}
+use Rattle.prost_reflect.specs.Scalars.{TakesScalar, scalar_record_bytes, kept_scalar_bytes}
 use Rattle.prost_reflect.proofs.PlainKinds.{NamedKind, scalar_row, single_row, own_of, plain_of, plain_payloads}
 
 -- a field of one scalar
@@ -40,10 +36,6 @@ valid_scalar f kind (MessageValue c) form is h = absurd (true≢false (sym (and_
 valid_scalar f kind (ListValue vs) form is h = absurd (true≢false (sym (and_both _ _ h).0 ∙ ap is_repeated form))
 valid_scalar f kind (MapValue ps) form is h = absurd (true≢false (sym h ∙ ap (λ form. pairs_valid form f.value_type.kind ps) form))
 
-abbrev pub is_enum : Kind → Bool
-is_enum (ScalarOf (scalars.Enum first numbers)) = true
-is_enum kind = false
-
 -- a value that is no message is of no message field
 abbrev pub is_message_value : contents.Value → Bool
 is_message_value (MessageValue c) = true
@@ -60,41 +52,10 @@ no_message f (MessageValue c) form h e = absurd (true≢false e)
 no_message f (ListValue vs) form h e = absurd (true≢false (sym (and_both _ _ h).0 ∙ ap is_repeated form))
 no_message f (MapValue ps) form h e = absurd (true≢false (sym h ∙ ap (λ form. pairs_valid form f.value_type.kind ps) form))
 
--- zero is the kind's default, enums aside
-pub zero_of : (kind : ScalarKind) (s : Scalar) → is_enum (ScalarOf kind) ≡ false → scalar_valid kind s ≡ true → zero_like s ≡ kind_default kind
-zero_of scalars.Double (scalars.F64 x) p h = refl
-zero_of scalars.Float (scalars.F32 x) p h = refl
-zero_of scalars.Int32 (scalars.I32 x) p h = refl
-zero_of scalars.Int64 (scalars.I64 x) p h = refl
-zero_of scalars.Uint32 (scalars.U32 x) p h = refl
-zero_of scalars.Uint64 (scalars.U64 x) p h = refl
-zero_of scalars.Sint32 (scalars.I32 x) p h = refl
-zero_of scalars.Sint64 (scalars.I64 x) p h = refl
-zero_of scalars.Fixed32 (scalars.U32 x) p h = refl
-zero_of scalars.Fixed64 (scalars.U64 x) p h = refl
-zero_of scalars.Sfixed32 (scalars.I32 x) p h = refl
-zero_of scalars.Sfixed64 (scalars.I64 x) p h = refl
-zero_of scalars.BoolKind (scalars.Boolean x) p h = refl
-zero_of scalars.StringKind (scalars.Text x) p h = refl
-zero_of scalars.BytesKind (scalars.Bytes x) p h = refl
-zero_of (scalars.Enum first numbers) s p h = absurd (true≢false p)
-zero_of kind s p h = absurd (true≢false (sym h))
-
-pub default_is : (enums : List EnumRow) (table : TableKind) (own : ScalarKind) (s : Scalar) (o : Option Scalar) → schema_kind enums table false ≡ ScalarOf own → scalar_valid own s ≡ true →
-    scalar_eq s (schema_default o (ScalarOf own)) ≡ is_default enums table o (ScalarValue s)
-default_is enums table own s (Some w) e h = refl
-default_is enums (kinds.Enum E) own s None e h = ap (λ kind. scalar_eq s (schema_default None kind)) (sym e) ∙ first (slice_get enums E)
-  where
-    first : (o : Option EnumRow) → scalar_eq s (kind_default (enum_kind o)) ≡ scalar_eq s (scalars.EnumNumber (first_of o))
-    first None = refl
-    first (Some row) = refl
-default_is enums (kinds.Message T) own s None e h = cc
-default_is enums table own s None e h = ap (scalar_eq s) (sym (zero_of own s (sym (ap is_enum e)) h))
-
 -- what the writer of a value needs to know, and what it has to write
 pub record PlainWritten (fields : List Field) (n : ℕ) (enums : List EnumRow) (row : FieldRow) (v : contents.Value) : Type 0 where
   pub takes : TakesScalar row.kind v
-  pub bytes : value_bytes fields n v ≡ cond (not row.supports_presence && is_default enums row.kind row.default v) [] (scalar_record_bytes n (plain_kind row.kind) v)
+  pub bytes : value_bytes fields n v ≡ kept_scalar_bytes n enums row v
 
 written_by : (fields : List Field) (n : ℕ) (rows : TableRows) (row : FieldRow) (v : contents.Value) → OneScalar (schema_field rows row) → field_of fields n ≡ Some (schema_field rows row) → value_valid (schema_field rows row) v ≡ true → PlainWritten fields n rows.enums row v
 written_by fields n rows row v one found valid =
@@ -104,10 +65,10 @@ written_by fields n rows row v one found valid =
       takes = rw (named, value.is) (alike.takes value.scalar value.fits);
       bytes = ap (value_bytes fields n) value.is
           ∙ scalar_written fields n (schema_field rows row) kind.scalar value.scalar found one.single kind.is value.fits
-          ∙ ap (λ b. cond b [] (short_key n (kind_wire kind.scalar) ++ short_plain (written kind.scalar value.scalar))) same
-          ∙ ap₂ (λ w p. cond (not row.supports_presence && is_default rows.enums row.kind row.default (ScalarValue value.scalar)) [] (short_key n w ++ short_plain p)) (sym alike.wire) (sym (alike.write value.scalar))
-          ∙ ap (λ o. cond (not row.supports_presence && is_default rows.enums row.kind row.default (ScalarValue value.scalar)) [] (scalar_record_bytes n o (ScalarValue value.scalar))) (sym named)
-          ∙ ap (λ v. cond (not row.supports_presence && is_default rows.enums row.kind row.default v) [] (scalar_record_bytes n (plain_kind row.kind) v)) (sym value.is);
+          ∙ ap (λ (t : ValueType). cond (is_default_of t (ScalarValue value.scalar)) [] (short_key n (kind_wire kind.scalar) ++ short_plain (written kind.scalar value.scalar))) (own_of rows row one.single)
+          ∙ ap₂ (λ w p. cond (is_default_of (own_type rows.enums row) (ScalarValue value.scalar)) [] (short_key n w ++ short_plain p)) (sym alike.wire) (sym (alike.write value.scalar))
+          ∙ ap (λ o. cond (is_default_of (own_type rows.enums row) (ScalarValue value.scalar)) [] (scalar_record_bytes n o (ScalarValue value.scalar))) (sym named)
+          ∙ ap (kept_scalar_bytes n rows.enums row) (sym value.is);
     }
   where
     kind : NamedKind rows.enums row.kind (schema_field rows row).value_type.kind
@@ -116,17 +77,7 @@ written_by fields n rows row v one found valid =
     value : PlainValue kind.scalar v
     value = valid_scalar (schema_field rows row) kind.scalar v one.single kind.is valid
 
-    own : (schema_field rows row).value_type ≡ own_type rows.enums row
-    own = own_of rows row one.single
-
-    own_kind : (own_type rows.enums row).kind ≡ ScalarOf kind.scalar
-    own_kind = ap (λ (t : ValueType). t.kind) (sym own) ∙ kind.is
-
-    same : (not (schema_field rows row).value_type.presence && scalar_eq value.scalar (schema_field rows row).value_type.default) ≡ (not row.supports_presence && is_default rows.enums row.kind row.default (ScalarValue value.scalar))
-    same = ap₂ (λ p d. not p && scalar_eq value.scalar d) (ap (λ (t : ValueType). t.presence) own) (ap (λ (t : ValueType). t.default) own ∙ ap (schema_default row.default) own_kind)
-        ∙ ap (λ b. not row.supports_presence && b) (default_is rows.enums row.kind kind.scalar value.scalar row.default kind.named value.fits)
-
-pub value_written : (d : MessageDescriptor) (n : ℕ) (row : FieldRow) (v : contents.Value) → is_labelled row.cardinality ≡ false → field_of (known_of d) n ≡ Some (schema_field (pool_rows d.pool) row) → value_valid (schema_field (pool_rows d.pool) row) v ≡ true →
+pub value_written : (d : PooledType) (n : ℕ) (row : FieldRow) (v : contents.Value) → is_labelled row.cardinality ≡ false → field_of (known_of d) n ≡ Some (schema_field (pool_rows d.pool) row) → value_valid (schema_field (pool_rows d.pool) row) v ≡ true →
     is_message_value v ≡ false → PlainWritten (known_of d) n (pool_rows d.pool).enums row v
 value_written d n row v one found valid apart =
     let single = single_row (pool_rows d.pool) row one in
@@ -136,6 +87,6 @@ value_written d n row v one found valid apart =
 pub passing : {A : Type 0} (o : Option A) (x : A) (test : A → Bool) → o ≡ Some x → passes o test ≡ true → test x ≡ true
 passing o x test e h = ap (λ o. passes o test) (sym e) ∙ h
 
-pub row_written : (d : MessageDescriptor) (n : ℕ) (row : FieldRow) (v : contents.Value) → is_labelled row.cardinality ≡ false → Some (schema_field (pool_rows d.pool) row) ≡ field_of (known_of d) n → passes (field_of (known_of d) n) (λ f. value_valid f v) ≡ true →
+pub row_written : (d : PooledType) (n : ℕ) (row : FieldRow) (v : contents.Value) → is_labelled row.cardinality ≡ false → Some (schema_field (pool_rows d.pool) row) ≡ field_of (known_of d) n → passes (field_of (known_of d) n) (λ f. value_valid f v) ≡ true →
     is_message_value v ≡ false → PlainWritten (known_of d) n (pool_rows d.pool).enums row v
 row_written d n row v one found valid apart = value_written d n row v one (sym found) (passing (field_of (known_of d) n) (schema_field (pool_rows d.pool) row) (λ f. value_valid f v) (sym found) valid) apart

@@ -12,7 +12,7 @@ use Rattle.prost_reflect_wire.specs.Edit.{with_value}
 use Rattle.prost_reflect_wire.specs.Meaning.{put}
 use Rattle.prost_reflect.specs.contracts.value.MapKeyOrd.TheImpl as key_order
 use Rattle.prost_reflect_fields.specs.Items.{IsAscending}
-use Rattle.prost_reflect_fields.specs.Entries.{value_at, records_at}
+use Rattle.prost_reflect_fields.specs.FieldSlots.{value_at, records_at}
 use Rattle.prost_reflect.specs.View.{value_of, content_of, key_of, payloads_of, pairs_from, stored_in}
 use Rattle.prost_reflect.specs.Contents.{value_set, value_cleared, unknown_added, with_unknown}
 use Rattle.prost_reflect.specs.declared.value.MapKey.{MapKey}

@@ -1,8 +1,8 @@
 -- Values and messages that store the same.
 use Rattle.std.specs.Prelude.{◌≡◌, List, map}
 use Rattle.prost_reflect_wire.specs.Scalar.{Scalar}
-use Rattle.prost_reflect_descriptors.specs.Descriptors.{SameMessage}
-use Rattle.prost_reflect.specs.View.{key_of, value_of, content_of, descriptor_of}
+use Rattle.prost_reflect_pool.specs.MessageTypes.{SameMessage}
+use Rattle.prost_reflect.specs.View.{key_of, value_of, content_of, message_type_of}
 use Rattle.prost_reflect.specs.Stored.{StoredValue, value_stored, message_stored}
 use Rattle.prost_reflect.specs.declared.message.DynamicMessage.{DynamicMessage}
 use Rattle.prost_reflect.specs.declared.value.MapKey.{MapKey}
@@ -14,7 +14,7 @@ SameStored v w = (value_stored w ≡ value_stored v) × (value_of w ≡ value_of
 
 -- Two messages that store the same; so both are of one type, with one content.
 abbrev pub SameStoring : DynamicMessage → DynamicMessage → Type 0
-SameStoring a b = (message_stored b ≡ message_stored a) × SameMessage (descriptor_of a) (descriptor_of b) × (content_of b ≡ content_of a)
+SameStoring a b = (message_stored b ≡ message_stored a) × SameMessage (message_type_of a) (message_type_of b) × (content_of b ≡ content_of a)
 
 -- The entries of a map as keys and what their values store.
 abbrev pub pairs_seen : List (MapKey × Value) → List (Scalar × StoredValue)

@@ -10,18 +10,18 @@ use Rattle.prost_reflect_wire.specs.Content.{Content, Slot}
 use Rattle.prost_reflect_wire.specs.Writing.{encoded}
 use Rattle.prost_reflect_wire.specs.Typing.{kept, value_valid, value_passes, fit_test}
 use Rattle.prost_reflect_wire.specs.Storing.{slot_bytes}
-use Rattle.prost_reflect_fields.specs.Entries.{value_in, records_in}
+use Rattle.prost_reflect_fields.specs.FieldSlots.{value_in, records_in}
 use Rattle.prost_reflect_fields.specs.Known.{are_records_of}
 use Rattle.prost_reflect.specs.View.{value_of, payloads_of}
-use Rattle.prost_reflect_fields.specs.declared.entry.Entry.{Entry}
+use Rattle.prost_reflect_fields.specs.declared.slot.FieldSlot.{FieldSlot}
 use Rattle.prost_reflect.specs.declared.value.Value.{Value}
 
 -- The slot of an entry: what its value is, and the payloads of its unknown records.
-abbrev pub entry_slot : Entry Value → Slot
+abbrev pub entry_slot : FieldSlot Value → Slot
 entry_slot e = record { value = option_map value_of (value_in e); unknowns = payloads_of (unwrap_or (records_in e) []) }
 
 -- The bytes of entries, one number after another.
-abbrev pub entries_bytes : List Field → List (ℕ × Entry Value) → List ℕ
+abbrev pub entries_bytes : List Field → List (ℕ × FieldSlot Value) → List ℕ
 entries_bytes fields [] = []
 entries_bytes fields (e ∷ es) = slot_bytes fields e.0 (entry_slot e.1) ++ entries_bytes fields es
 
@@ -31,7 +31,7 @@ pub record ValueWritable (fields : List Field) (n : ℕ) (v : contents.Value) : 
   pub fits : value_passes fit_test v ≡ true
 
 -- The unknown records of an entry are of its number.
-abbrev pub OwnUnknown : ℕ → Entry Value → Type 0
+abbrev pub OwnUnknown : ℕ → FieldSlot Value → Type 0
 OwnUnknown n e = ForSome (records_in e) (λ rs. are_records_of n rs ≡ true)
 
 -- What is written of the unknown records of a slot.
@@ -39,11 +39,11 @@ abbrev pub unknown_bytes : ℕ → Slot → List ℕ
 unknown_bytes n slot = spelled (map (record_at n) slot.unknowns)
 
 -- The value of an entry can be written, and its unknown records are of its number.
-pub record IsWritable (fields : List Field) (n : ℕ) (e : Entry Value) : Type 0 where
+pub record IsWritable (fields : List Field) (n : ℕ) (e : FieldSlot Value) : Type 0 where
   pub value : ForSome (value_in e) (λ v. ValueWritable fields n (value_of v))
   pub own : OwnUnknown n e
 
-abbrev pub AreWritable : List Field → List (ℕ × Entry Value) → Type 0
+abbrev pub AreWritable : List Field → List (ℕ × FieldSlot Value) → Type 0
 AreWritable fields es = AllByRecursion (λ e. IsWritable fields e.0 e.1) es
 
 -- The record of a message, or of a group.

@@ -1,3 +1,9 @@
+pub mod Named
+pub mod NamedFields
+pub mod NamedField
+pub mod NamedEnums
+pub mod NamedKinds
+pub mod NamedDefaults
 pub mod View
 pub mod Keys
 pub mod Contents
@@ -14,7 +20,7 @@ pub mod Maps
 pub mod Numbers
 pub mod NestedMaps
 pub mod Targets
-pub mod Held
+pub mod Nested
 pub mod Encoding
 pub mod Defaults
 pub mod Present

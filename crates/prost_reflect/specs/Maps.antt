@@ -1,5 +1,5 @@
 -- Maps of scalars: what is read of an entry, which numbers are those of such a map, and what is written of it.
-use Rattle.std.specs.Prelude.{◌≡◌, ℕ, false, not, ◌&&◌, if◌then◌else◌, List, [], ◌∷◌, ◌++◌, Some, IsSomeAnd}
+use Rattle.std.specs.Prelude.{◌≡◌, ℕ, false, List, [], ◌∷◌, ◌++◌, Some, IsSomeAnd}
 use Rattle.std.specs.List.{AllByRecursion}
 use Rattle.prost_reflect_wire.specs.declared.key.WireType.TheVariants as wires
 use Rattle.prost_reflect_wire.specs.declared.error.DecodeError.{DecodeError}
@@ -14,16 +14,16 @@ use Rattle.prost_reflect_tables.specs.Rows.{FieldRow, EnumRow}
 use Rattle.prost_reflect_tables.specs.Shown.{schema_kind, schema_field}
 use Rattle.prost_reflect.specs.declared.value.MapKey.{MapKey}
 use Rattle.prost_reflect.specs.declared.value.Value.{Value}
-use Rattle.prost_reflect_descriptors.specs.declared.message.MessageDescriptor.{MessageDescriptor}
-use Rattle.prost_reflect_descriptors.specs.Pools.{pool_rows}
+use Rattle.prost_reflect_pool.specs.declared.pooled_type.PooledType.{PooledType}
+use Rattle.prost_reflect_pool.specs.SharedPools.{pool_rows}
 use Rattle.prost_reflect_fields.specs.Known.{known_of}
-use Rattle.prost_reflect_descriptors.specs.MapParts.{map_parts}
+use Rattle.prost_reflect_pool.specs.MapParts.{map_parts}
 use Rattle.prost_reflect.specs.RowKinds.{names_message}
-use Rattle.prost_reflect.specs.Scalars.{plain_kind, TakesScalar, scalar_record_bytes, kept_scalar_bytes, is_zero}
+use Rattle.prost_reflect.specs.Scalars.{plain_kind, TakesScalar, kept_scalar_bytes}
 use Rattle.prost_reflect.specs.View.{key_of, value_of}
 
 -- The number is that of a map of scalars, whose keys and values the tables call by these kinds.
-pub record ScalarMap (d : MessageDescriptor) (n : ℕ) (key value_kind : TableKind) : Type 0 where
+pub record ScalarMap (d : PooledType) (n : ℕ) (key value_kind : TableKind) : Type 0 where
   pub field : Field
   pub key_type : ValueType
   pub key_scalar : ScalarKind
@@ -74,13 +74,13 @@ pub record RefusesEntry (enums : List EnumRow) (levels : ℕ) (key value_kind : 
 abbrev pub TakesPairs : TableKind → TableKind → List (MapKey × Value) → Type 0
 TakesPairs key value_kind es = AllByRecursion (λ e. TakesScalar key (ScalarValue (key_of e.0)) × TakesScalar value_kind (value_of e.1)) es
 
--- What an entry writes of its key, by the key's row; nothing of zero, false or an empty text without presence.
-abbrev pub key_bytes : FieldRow → content.Value → List ℕ
-key_bytes row v = if not row.supports_presence && is_zero v then [] else scalar_record_bytes 1 (plain_kind row.kind) v
+-- What an entry writes of its key, by the key's row.
+abbrev pub key_bytes : List EnumRow → FieldRow → Scalar → List ℕ
+key_bytes enums key k = kept_scalar_bytes 1 enums key (ScalarValue k)
 
 -- What it writes of its key and its value.
 abbrev pub parts_bytes : List EnumRow → FieldRow → FieldRow → Scalar → content.Value → List ℕ
-parts_bytes enums key value_row k v = key_bytes key (ScalarValue k) ++ kept_scalar_bytes 2 enums value_row v
+parts_bytes enums key value_row k v = key_bytes enums key k ++ kept_scalar_bytes 2 enums value_row v
 
 -- The record of an entry.
 abbrev pub entry_bytes : ℕ → List EnumRow → FieldRow → FieldRow → Scalar → content.Value → List ℕ
@@ -96,7 +96,7 @@ IsMap (MapValue ps) = Unit {0}
 IsMap v = ⊥
 
 -- The number is that of a map of scalars, whose keys and values have these rows.
-pub record MapOfRows (d : MessageDescriptor) (n : ℕ) (key value_row : FieldRow) : Type 0 where
+pub record MapOfRows (d : PooledType) (n : ℕ) (key value_row : FieldRow) : Type 0 where
   pub row : FieldRow
   pub found : Some (schema_field (pool_rows d.pool) row) ≡ field_of (known_of d) n
   pub parts : map_parts (pool_rows d.pool) row ≡ Some (key, value_row)

@@ -10,22 +10,22 @@ use Rattle.prost_reflect_wire.specs.Content as content
 use Rattle.prost_reflect_wire.specs.Content.{Content, ScalarValue, schema_of, type_of}
 use Rattle.prost_reflect_wire.specs.MessageEntries.{NestedEntryTo, StandsInNestedEntry}
 use Rattle.prost_reflect_tables.specs.declared.tables.TableKind.{TableKind}
-use Rattle.prost_reflect_tables.specs.Rows.{FieldRow}
+use Rattle.prost_reflect_tables.specs.Rows.{FieldRow, EnumRow}
 use Rattle.prost_reflect_tables.specs.Shown.{schema_field}
 use Rattle.prost_reflect.specs.declared.value.MapKey.{MapKey}
 use Rattle.prost_reflect.specs.declared.value.Value.{Value}
-use Rattle.prost_reflect_descriptors.specs.declared.message.MessageDescriptor.{MessageDescriptor}
-use Rattle.prost_reflect_descriptors.specs.Pools.{pool_rows}
+use Rattle.prost_reflect_pool.specs.declared.pooled_type.PooledType.{PooledType}
+use Rattle.prost_reflect_pool.specs.SharedPools.{pool_rows}
 use Rattle.prost_reflect_fields.specs.Known.{known_of}
 use Rattle.prost_reflect.specs.RowKinds.{names_message}
 use Rattle.prost_reflect.specs.Lists.{ElementWritable, element_bytes}
-use Rattle.prost_reflect_descriptors.specs.MapParts.{map_parts}
+use Rattle.prost_reflect_pool.specs.MapParts.{map_parts}
 use Rattle.prost_reflect.specs.Maps.{key_bytes}
 use Rattle.prost_reflect.specs.Scalars.{plain_kind, TakesScalar}
 use Rattle.prost_reflect.specs.View.{key_of, value_of}
 
 -- The number is that of a map to messages of the type at a place, whose keys the tables call by this kind.
-pub record NestedMap (d : MessageDescriptor) (n : ℕ) (key : TableKind) (T : ℕ) : Type 0 where
+pub record NestedMap (d : PooledType) (n : ℕ) (key : TableKind) (T : ℕ) : Type 0 where
   pub field : Field
   pub key_type : ValueType
   pub key_scalar : ScalarKind
@@ -57,15 +57,15 @@ abbrev pub AreEntries : TableKind → List (MapKey × Value) → Type 0
 AreEntries key es = AllByRecursion (λ e. TakesScalar key (ScalarValue (key_of e.0)) × ElementWritable (value_of e.1)) es
 
 -- The record of an entry, whose message is always written.
-abbrev pub nested_entry_bytes : ℕ → FieldRow → Scalar → content.Value → List ℕ
-nested_entry_bytes n key k v = short_key n wires.LengthDelimited ++ short_plain (Len (key_bytes key (ScalarValue k) ++ element_bytes 2 false v))
+abbrev pub nested_entry_bytes : ℕ → List EnumRow → FieldRow → Scalar → content.Value → List ℕ
+nested_entry_bytes n enums key k v = short_key n wires.LengthDelimited ++ short_plain (Len (key_bytes enums key k ++ element_bytes 2 false v))
 
 -- The records of entries, one behind another.
-abbrev pub nested_pairs_bytes : ℕ → FieldRow → List (MapKey × Value) → List ℕ
-nested_pairs_bytes n key es = flat_map (λ e. nested_entry_bytes n key (key_of e.0) (value_of e.1)) es
+abbrev pub nested_pairs_bytes : ℕ → List EnumRow → FieldRow → List (MapKey × Value) → List ℕ
+nested_pairs_bytes n enums key es = flat_map (λ e. nested_entry_bytes n enums key (key_of e.0) (value_of e.1)) es
 
 -- The number is that of a map of messages, whose keys and values have these rows.
-pub record NestedMapOfRows (d : MessageDescriptor) (n : ℕ) (key value_row : FieldRow) : Type 0 where
+pub record NestedMapOfRows (d : PooledType) (n : ℕ) (key value_row : FieldRow) : Type 0 where
   pub row : FieldRow
   pub found : Some (schema_field (pool_rows d.pool) row) ≡ field_of (known_of d) n
   pub parts : map_parts (pool_rows d.pool) row ≡ Some (key, value_row)

@@ -8,15 +8,15 @@ use Rattle.prost_reflect_wire.specs.Decoding.{BodyJoined}
 use Rattle.prost_reflect_tables.specs.declared.tables.TableKind.{TableKind}
 use Rattle.prost_reflect_tables.specs.Rows.{EnumRow}
 use Rattle.prost_reflect_tables.specs.Shown.{schema_kind}
-use Rattle.prost_reflect_descriptors.specs.declared.message.MessageDescriptor.{MessageDescriptor}
+use Rattle.prost_reflect_pool.specs.declared.pooled_type.PooledType.{PooledType}
 use Rattle.prost_reflect.specs.Contents.{value_set, unknown_added}
 use Rattle.prost_reflect_fields.specs.Known.{known_of}
 use Rattle.prost_reflect.specs.Lists.{with_element}
-use Rattle.prost_reflect_descriptors.specs.Pools.{pool_rows}
+use Rattle.prost_reflect_pool.specs.SharedPools.{pool_rows}
 use Rattle.prost_reflect.specs.Scalars.{is_stray_number}
 
 -- The number is that of a list of enum numbers, which the tables call by this kind.
-pub record NumberList (d : MessageDescriptor) (n : ℕ) (kind : TableKind) : Type 0 where
+pub record NumberList (d : PooledType) (n : ℕ) (kind : TableKind) : Type 0 where
   pub field : Field
   pub first : ℤ
   pub numbers : EnumNumbers
@@ -33,6 +33,6 @@ number_taken enums n kind value c = if is_stray_number enums kind (ScalarValue (
     else value_set n (with_element (value_at n (entries_of c)) (ScalarValue (EnumNumber (low_i32 value)))) c
 
 -- The numbers of a packed record's body were taken.
-pub record BodyTaken (d : MessageDescriptor) (n : ℕ) (kind : TableKind) (old new : Content) (body : List ℕ) : Type 0 where
+pub record BodyTaken (d : PooledType) (n : ℕ) (kind : TableKind) (old new : Content) (body : List ℕ) : Type 0 where
   pub list : NumberList d n kind
   pub joined : BodyJoined list.field (Enum list.first list.numbers) old new body

@@ -6,7 +6,7 @@ use Rattle.prost_reflect_wire.specs.Content as content
 use Rattle.prost_reflect_wire.specs.Content.{Content, ContentOf, Slot, slot_at, numbers_in}
 use Rattle.prost_reflect_wire.specs.Typing.{kept_value, kept_inside}
 use Rattle.prost_reflect.specs.Encoding.{entry_slot}
-use Rattle.prost_reflect_fields.specs.declared.entry.Entry.{Entry}
+use Rattle.prost_reflect_fields.specs.declared.slot.FieldSlot.{FieldSlot}
 use Rattle.prost_reflect.specs.declared.value.Value.{Value}
 use Rattle.prost_reflect.specs.declared.message.present.PresentNumber.{PresentNumber}
 use Rattle.prost_reflect.specs.declared.message.present.PresentNumber.TheVariants.{Field as FieldNumber, Extension as ExtensionNumber, Unknown as UnknownNumber}
@@ -35,5 +35,5 @@ present_in (ContentOf schema T es) = flat_map (λ n. slot_present (known schema 
 abbrev pub kept_slot : List Field → ℕ → Slot → Slot
 kept_slot fields n slot = record { value = option_and_then (λ v. kept_value (field_of fields n) (kept_inside v)) slot.value; unknowns = slot.unknowns }
 
-abbrev pub entry_present : List Field → ℕ → Entry Value → List PresentNumber
+abbrev pub entry_present : List Field → ℕ → FieldSlot Value → List PresentNumber
 entry_present fields n e = slot_present fields n (kept_slot fields n (entry_slot e))

@@ -6,7 +6,7 @@ use Rattle.std.proofs.Common.{sym, ap, ap₂, ◌∙◌, true≢false}
 use Rattle.prost_reflect_wire.specs.Scalar.{scalar_eq}
 use Rattle.prost_reflect_wire.specs.Equality.{records_eq, records_same, records_refl}
 use Rattle.prost_reflect_tables.specs.Equality.{rows_eq, rows_decide, scalar_decides, decided, equivalence}
-use Rattle.prost_reflect_descriptors.specs.PoolEquality.{contents_eq, contents_decide}
+use Rattle.prost_reflect_pool.specs.PoolEquality.{contents_eq, contents_decide}
 use Rattle.prost_reflect.specs.Stored.{StoredMessage, MessageOf, StoredEntries, NothingStored, ValueAt, UnknownAt, BothAt, StoredValue, StoredScalar, StoredInside, StoredList, StoredMap, StoredItems, NoItems, ItemThen, StoredPairs, NoPairs, PairThen, value_stored, message_stored}
 use Rattle.prost_reflect.specs.declared.value.Value.{Value}
 use Rattle.prost_reflect.specs.declared.message.DynamicMessage.{DynamicMessage}

@@ -1,27 +1,58 @@
 -- Scalar kinds of the tables, their payloads and values.
-use Rattle.std.specs.Prelude.{◌≡◌, ◌⊎◌, ◌≤◌, ℕ, Bool, pos, true, false, not, ◌&&◌, List, [], ◌++◌, Option, Some, None, option_map, option_and_then, slice_get, IsSomeAnd, if◌then◌else◌}
+use Rattle.std.specs.Prelude.{◌≡◌, ◌⊎◌, ◌≤◌, ℕ, Bool, pos, true, false, not, List, [], ◌++◌, Option, Some, None, option_map, option_and_then, slice_get, IsSomeAnd, if◌then◌else◌}
 use Rattle.prost_reflect_wire.specs.declared.key.WireType.{WireType}
 use Rattle.prost_reflect_wire.specs.declared.error.DecodeError.{DecodeError}
 use Rattle.prost_reflect_wire.specs.Record.{Payload, short_key, short_plain}
 use Rattle.prost_reflect_wire.specs.Scalar as scalars
-use Rattle.prost_reflect_wire.specs.Scalar.{Scalar, ScalarKind, elem, kind_wire, scalar_eq, written, is_declared}
+use Rattle.prost_reflect_wire.specs.Scalar.{Scalar, ScalarKind, elem, kind_wire, written, is_declared}
 use Rattle.prost_reflect_wire.specs.Content.{ScalarValue}
 use Rattle.prost_reflect_wire.specs.Content as content
 use Rattle.prost_reflect_wire.specs.Schema.{ScalarOf, Singular, Field, field_of}
 use Rattle.prost_reflect_wire.specs.Typing.{element_valid, is_whole_stray}
+use Rattle.prost_reflect_wire.specs.Writing.{is_default_of}
 use Rattle.prost_reflect_wire.specs.Levels.{stray_levels}
 use Rattle.prost_reflect_wire.specs.Front.{ValueFront}
 use Rattle.prost_reflect_wire.specs.Decoding.{ScalarRead, ScalarFault}
 use Rattle.prost_reflect_tables.specs.declared.tables.TableKind.{TableKind}
 use Rattle.prost_reflect_tables.specs.declared.tables.TableKind.TheVariants.{Double, Float, Int32, Int64, Uint32, Uint64, Sint32, Sint64, Fixed32, Fixed64, Sfixed32, Sfixed64, Bool as BoolKind, String, Bytes, Message, Enum}
 use Rattle.prost_reflect_tables.specs.Rows.{FieldRow, EnumRow}
-use Rattle.prost_reflect_tables.specs.Shown.{schema_kind}
-use Rattle.prost_reflect_descriptors.specs.Pools.{pool_rows}
+use Rattle.prost_reflect_tables.specs.Shown.{schema_kind, own_type}
+use Rattle.prost_reflect_pool.specs.SharedPools.{pool_rows}
 use Rattle.prost_reflect_fields.specs.Known.{known_of}
-use Rattle.prost_reflect_descriptors.specs.Enums.{first_of, numbers_of}
-use Rattle.prost_reflect_descriptors.specs.declared.message.MessageDescriptor.{MessageDescriptor}
+use Rattle.prost_reflect_pool.specs.Enums.{numbers_of}
+use Rattle.prost_reflect_pool.specs.declared.pooled_type.PooledType.{PooledType}
 use Rattle.prost_reflect.specs.declared.value.Value.{Value}
+use Rattle.prost_reflect.specs.declared.value.scalar.ScalarRef.{ScalarRef}
+use Rattle.prost_reflect.specs.declared.value.scalar.ScalarRef.TheVariants as borrowed
 use Rattle.prost_reflect.specs.View.{value_of}
+
+-- The scalar that is borrowed.
+abbrev pub scalar_of : ScalarRef → Scalar
+scalar_of (borrowed.Bool b) = scalars.Boolean b
+scalar_of (borrowed.I32 z) = scalars.I32 z
+scalar_of (borrowed.I64 z) = scalars.I64 z
+scalar_of (borrowed.U32 n) = scalars.U32 n
+scalar_of (borrowed.U64 n) = scalars.U64 n
+scalar_of (borrowed.F32 n) = scalars.F32 n
+scalar_of (borrowed.F64 n) = scalars.F64 n
+scalar_of (borrowed.String text) = scalars.Text text.now
+scalar_of (borrowed.Bytes bytes) = scalars.Bytes bytes.now
+scalar_of (borrowed.EnumNumber z) = scalars.EnumNumber z
+
+-- The scalar that a value is, if it is one.
+abbrev pub scalar_in : content.Value → Option Scalar
+scalar_in (ScalarValue v) = Some v
+scalar_in v = None
+
+abbrev pub IsScalar : content.Value → Type 0
+IsScalar (ScalarValue v) = Unit {0}
+IsScalar v = ⊥
+
+-- It has neither text nor bytes.
+abbrev pub IsBlank : Scalar → Type 0
+IsBlank (scalars.Text x) = x ≡ []
+IsBlank (scalars.Bytes x) = x ≡ []
+IsBlank v = Unit {0}
 
 -- The scalar kinds as payloads and values tell them: each enum as one that takes every number.
 abbrev pub plain_kind : TableKind → Option ScalarKind
@@ -80,7 +111,7 @@ scalar_record_bytes n (Some k) v = short_key n (kind_wire k) ++ scalar_bytes (So
 scalar_record_bytes n None v = []
 
 -- The number is that of a field of one scalar, which the tables call by this kind.
-pub record PlainField (d : MessageDescriptor) (n : ℕ) (kind : TableKind) : Type 0 where
+pub record PlainField (d : PooledType) (n : ℕ) (kind : TableKind) : Type 0 where
   pub field : Field
   pub scalar_kind : ScalarKind
   pub found : field_of (known_of d) n ≡ Some field
@@ -107,35 +138,6 @@ pub record ReadsStray (fields : List Field) (levels n : ℕ) (w : WireType) (byt
 abbrev pub StaysUnknown : List Field → ℕ → ℕ → WireType → List ℕ → Type 0
 StaysUnknown fields levels n w bytes = (field_of fields n ≡ None) ⊎ ReadsStray fields levels n w bytes
 
--- DEFAULTS
-
--- Zero, false or empty, of the value's own variant.
-abbrev pub zero_like : Scalar → Scalar
-zero_like (scalars.Boolean b) = scalars.Boolean false
-zero_like (scalars.I32 z) = scalars.I32 (pos 0)
-zero_like (scalars.I64 z) = scalars.I64 (pos 0)
-zero_like (scalars.U32 n) = scalars.U32 0
-zero_like (scalars.U64 n) = scalars.U64 0
-zero_like (scalars.F32 n) = scalars.F32 0
-zero_like (scalars.F64 n) = scalars.F64 0
-zero_like (scalars.Text x) = scalars.Text []
-zero_like (scalars.Bytes x) = scalars.Bytes []
-zero_like (scalars.EnumNumber z) = scalars.EnumNumber (pos 0)
-
-abbrev pub equals : content.Value → Scalar → Bool
-equals (ScalarValue v) w = scalar_eq v w
-equals v w = false
-
-abbrev pub is_zero : content.Value → Bool
-is_zero (ScalarValue v) = scalar_eq v (zero_like v)
-is_zero v = false
-
--- The value is the default that is written, else the enum's first number, else zero, false or empty.
-abbrev pub is_default : List EnumRow → TableKind → Option Scalar → content.Value → Bool
-is_default enums kind (Some w) v = equals v w
-is_default enums (Enum E) None v = equals v (scalars.EnumNumber (first_of (slice_get enums E)))
-is_default enums kind None v = is_zero v
-
 -- What is written of a value of the row's field: nothing, if it is the default and there is no presence.
 abbrev pub kept_scalar_bytes : ℕ → List EnumRow → FieldRow → content.Value → List ℕ
-kept_scalar_bytes n enums f v = if not f.supports_presence && is_default enums f.kind f.default v then [] else scalar_record_bytes n (plain_kind f.kind) v
+kept_scalar_bytes n enums f v = if is_default_of (own_type enums f) v then [] else scalar_record_bytes n (plain_kind f.kind) v

@@ -6,10 +6,10 @@ use Rattle.prost_reflect_wire.specs.Scalar as scalars
 use Rattle.prost_reflect_wire.specs.Scalar.{Scalar}
 use Rattle.prost_reflect_wire.specs.Content.{Content}
 use Rattle.prost_reflect_tables.specs.Rows.{TableRows}
-use Rattle.prost_reflect_descriptors.specs.Pools.{pool_rows, pool_contents}
+use Rattle.prost_reflect_pool.specs.SharedPools.{pool_rows, pool_contents}
 use Rattle.prost_reflect.specs.View.{key_of}
-use Rattle.prost_reflect_fields.specs.declared.entry.Entry.{Entry}
-use Rattle.prost_reflect_fields.specs.declared.entry.Entry.TheVariants.{Value as ValueEntry, Unknown as UnknownEntry, Both as BothEntry}
+use Rattle.prost_reflect_fields.specs.declared.slot.FieldSlot.{FieldSlot}
+use Rattle.prost_reflect_fields.specs.declared.slot.FieldSlot.TheVariants.{Value as ValueEntry, Unknown as UnknownEntry, Both as BothEntry}
 use Rattle.prost_reflect.specs.declared.value.MapKey.{MapKey}
 use Rattle.prost_reflect.specs.declared.value.Value.{Value, fold-Value}
 use Rattle.prost_reflect.specs.declared.value.Value.TheOpen.{Value-F, DynamicMessage-F}
@@ -53,12 +53,12 @@ module _ {V : Type 0} (view : V → StoredValue) where
   stored_pairs [] = NoPairs
   stored_pairs (e ∷ es) = PairThen (key_of e.0) (view e.1) (stored_pairs es)
 
-  abbrev pub stored_entry : ℕ → Entry V → StoredEntries → StoredEntries
+  abbrev pub stored_entry : ℕ → FieldSlot V → StoredEntries → StoredEntries
   stored_entry n (ValueEntry v) es = ValueAt n (view v) es
   stored_entry n (UnknownEntry u) es = UnknownAt n (body_of (records_of u)) es
   stored_entry n (BothEntry v u) es = BothAt n (view v) (body_of (records_of u)) es
 
-  abbrev pub stored_entries : List (ℕ × Entry V) → StoredEntries
+  abbrev pub stored_entries : List (ℕ × FieldSlot V) → StoredEntries
   stored_entries [] = NothingStored
   stored_entries (e ∷ es) = stored_entry e.0 e.1 (stored_entries es)
 
@@ -79,7 +79,7 @@ stored_step (Value-F.List values) = StoredList (stored_items (λ v. v) values.it
 stored_step (Value-F.Map pairs) = StoredMap (stored_pairs (λ v. v) pairs.entries)
 
 abbrev pub stored_message_step : DynamicMessage-F StoredValue StoredMessage → StoredMessage
-stored_message_step m = MessageOf (pool_contents m.slots.0.pool) (pool_rows m.slots.0.pool) m.slots.0.index (stored_entries (λ v. v) m.slots.1)
+stored_message_step m = MessageOf (pool_contents m.fields.0.pool) (pool_rows m.fields.0.pool) m.fields.0.index (stored_entries (λ v. v) m.fields.1)
 
 -- What a value stores.
 abbrev pub value_stored : Value → StoredValue

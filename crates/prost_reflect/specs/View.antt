@@ -5,12 +5,12 @@ use Rattle.prost_reflect_wire.specs.Scalar as scalars
 use Rattle.prost_reflect_wire.specs.Scalar.{Scalar}
 use Rattle.prost_reflect_wire.specs.Content as contents
 use Rattle.prost_reflect_wire.specs.Content.{Content, ContentOf, Entries, NoEntries, Values, Pairs, NoPairs, Pair, Slot, ScalarValue, MessageValue, ListValue, MapValue, values_from, store}
-use Rattle.prost_reflect_descriptors.specs.Descriptors.{schema_at, type_at}
+use Rattle.prost_reflect_pool.specs.MessageTypes.{schema_at, type_at}
 use Rattle.prost_reflect_fields.specs.Known.{known_of}
 use Rattle.prost_reflect_fields.specs.Sound.{prepared}
-use Rattle.prost_reflect_fields.specs.Entries.{value_in, records_in, with_value}
-use Rattle.prost_reflect_descriptors.specs.declared.message.MessageDescriptor.{MessageDescriptor}
-use Rattle.prost_reflect_fields.specs.declared.entry.Entry.{Entry}
+use Rattle.prost_reflect_fields.specs.FieldSlots.{value_in, records_in, with_value}
+use Rattle.prost_reflect_pool.specs.declared.pooled_type.PooledType.{PooledType}
+use Rattle.prost_reflect_fields.specs.declared.slot.FieldSlot.{FieldSlot}
 use Rattle.prost_reflect.specs.declared.value.MapKey.{MapKey}
 use Rattle.prost_reflect.specs.declared.value.MapKey.TheVariants as keys
 use Rattle.prost_reflect.specs.declared.value.Value.{Value, fold-Value}
@@ -33,10 +33,10 @@ abbrev pub payloads_of : List Record → List Payload
 payloads_of rs = map (λ r. r.payload) rs
 
 -- The slot of an entry: its value, and the payloads of its unknown records.
-abbrev pub slot_of : Entry contents.Value → Slot
+abbrev pub slot_of : FieldSlot contents.Value → Slot
 slot_of e = record { value = value_in e; unknowns = payloads_of (unwrap_or (records_in e) []) }
 
-abbrev pub entries_from : List (ℕ × Entry contents.Value) → Entries
+abbrev pub entries_from : List (ℕ × FieldSlot contents.Value) → Entries
 entries_from [] = NoEntries
 entries_from (e ∷ es) = store e.0 (slot_of e.1) (entries_from es)
 
@@ -57,7 +57,7 @@ value_step (Value-F.List values) = ListValue (values_from values.items)
 value_step (Value-F.Map pairs) = MapValue (pairs_from pairs.entries)
 
 abbrev pub message_step : DynamicMessage-F contents.Value Content → Content
-message_step message = ContentOf (schema_at message.slots.0) (type_at message.slots.0) (entries_from message.slots.1)
+message_step message = ContentOf (schema_at message.fields.0) (type_at message.fields.0) (entries_from message.fields.1)
 
 -- A value of the definitions.
 abbrev pub value_of : Value → contents.Value
@@ -67,13 +67,13 @@ value_of = fold-Value contents.Value Content value_step message_step
 abbrev pub content_of : DynamicMessage → Content
 content_of = fold-DynamicMessage contents.Value Content value_step message_step
 
-abbrev pub descriptor_of : DynamicMessage → MessageDescriptor
-descriptor_of m = m.slots.0
+abbrev pub message_type_of : DynamicMessage → PooledType
+message_type_of m = m.fields.0
 
 -- What a message keeps at each of its numbers.
-abbrev pub stored_in : DynamicMessage → List (ℕ × Entry Value)
-stored_in m = m.slots.1
+abbrev pub stored_in : DynamicMessage → List (ℕ × FieldSlot Value)
+stored_in m = m.fields.1
 
 -- A message whose value at a number, which is the default where there was none, was written over.
 abbrev pub written_at : DynamicMessage → ℕ → Value → Value → DynamicMessage
-written_at m n default v = record { slots = (m.slots.0, with_value (prepared (known_of m.slots.0) m.slots.1 n default) n v) }
+written_at m n default v = record { fields = (m.fields.0, with_value (prepared (known_of m.fields.0) m.fields.1 n default) n v) }

@@ -1,21 +1,22 @@
 //! Protocol Buffers messages whose types are known only at run time.
 #![tactic(auto)]
 
+mod descriptor;
 mod laws;
 mod message;
 mod value;
 
-pub use message::{DynamicMessage, PresentNumber};
-pub use prost_reflect_descriptors::{
-    DescriptorPool, EnumDescriptor, FieldDescriptor, FileDescriptorProtos, Kind, MessageDescriptor,
-    builtin_pool,
+pub use descriptor::{
+    DescriptorPool, EnumDescriptor, FieldDescriptor, Kind, MessageDescriptor, builtin_pool,
 };
-pub use prost_reflect_records::{
+pub use message::{DynamicMessage, PresentNumber};
+pub use prost_reflect_pool::FileDescriptorProtos;
+pub use prost_reflect_tables::{Cardinality, PoolError};
+pub use prost_reflect_types::{
     DescriptorProto, EnumDescriptorProto, EnumReservedRange, EnumValueDescriptorProto,
     ExtensionRange, FieldDescriptorProto, FileDescriptorProto, FileDescriptorSet,
     MethodDescriptorProto, OneofDescriptorProto, ReservedRange, ServiceDescriptorProto,
 };
-pub use prost_reflect_tables::{Cardinality, PoolError};
 pub use prost_reflect_wire::{
     DecodeError, EncodeError, FieldNumber, RECURSION_LIMIT, UnknownField, UnknownFieldSet,
     UnknownFieldValue, WireType,

@@ -8,36 +8,30 @@ ghost use Rattle.prost_reflect_wire.specs.Content.{empty, entries_of, value_at};
 ghost use Rattle.prost_reflect_wire.specs.Edit.{cleared};
 ghost use Rattle.prost_reflect.specs.contracts.message.DynamicMessage.{the_row};
 ghost use Rattle.prost_reflect.specs.contracts.value.Value as value;
-ghost use Rattle.prost_reflect_descriptors.specs.Descriptors.{schema_at, type_at};
+ghost use Rattle.prost_reflect_pool.specs.MessageTypes.{schema_at, type_at};
 ghost use Rattle.prost_reflect_fields.specs.Items.{IsAscending};
 ghost use Rattle.prost_reflect_fields.specs.Known.{known_of, is_known, keeps_unknown};
-ghost use Rattle.prost_reflect_fields.specs.Entries.{records_at};
+ghost use Rattle.prost_reflect_fields.specs.FieldSlots.{records_at};
 ghost use Rattle.prost_reflect_fields.specs.Sound.{IsSound};
 ghost use Rattle.prost_reflect.specs.declared.value.Value.{Value};
-ghost use Rattle.prost_reflect.specs.View.{content_of, value_of, descriptor_of, stored_in, written_at};
+ghost use Rattle.prost_reflect.specs.View.{content_of, value_of, message_type_of, stored_in, written_at};
+ghost use Rattle.prost_reflect.specs.Named.{IsNamed, NamesSame, schema_named, type_named};
 ghost use Rattle.prost_reflect.specs.Contents.{value_set, value_cleared, unknown_added};
 
 mod copy;
 mod decode;
 pub(crate) mod defaults;
-mod elements;
 mod encode;
-mod entries;
 mod enums;
 mod equality;
-mod list;
-mod map;
-mod nested;
-mod numbers;
-mod pairs;
 mod present;
-mod scalar;
 
+use crate::descriptor::MessageDescriptor;
 use crate::value::Value;
 pub use present::PresentNumber;
-use prost_reflect_descriptors::MessageDescriptor;
-use prost_reflect_fields::entry::Entry;
-use prost_reflect_fields::slots::Slots;
+use prost_reflect_fields::field_set::FieldSet;
+use prost_reflect_fields::slot::FieldSlot;
+use prost_reflect_pool::PooledType;
 use prost_reflect_wire::{UnknownField, UnknownFieldSet};
 use std::alloc::{AllocError, Global};
 
@@ -45,96 +39,115 @@ use std::alloc::{AllocError, Global};
 #[cycle(value)]
 #[derive(Debug, Drop)]
 pub struct DynamicMessage {
-    slots: Slots<Value>,
+    fields: FieldSet<Value>,
 }
 
 impl DynamicMessage {
     /// The empty message of the type.
     pub fn new(alloc: Global, descriptor: MessageDescriptor) -> DynamicMessage
-        ensures descriptor { descriptor_of result ≡ descriptor }
-        ensures content { content_of result ≡ empty (schema_at descriptor) (type_at descriptor) }
+        ensures message_type { IsNamed descriptor (message_type_of result) }
+        ensures content { content_of result ≡ empty (schema_named descriptor) (type_named descriptor) }
+    {
+        DynamicMessage::of_type(alloc, descriptor.into_type())
+    }
+
+    /// The empty message of the type.
+    pub(crate) fn of_type(alloc: Global, message_type: PooledType) -> DynamicMessage
+        ensures message_type { message_type_of result ≡ message_type }
+        ensures content { content_of result ≡ empty (schema_at message_type) (type_at message_type) }
     {
         DynamicMessage {
-            slots: Slots::new(alloc, descriptor),
+            fields: FieldSet::new(alloc, message_type),
         }
     }
 
     /// The message type.
-    pub fn descriptor(&self) -> &MessageDescriptor
-        ensures { result.now ≡ descriptor_of self.now }
+    ///
+    /// # Errors
+    ///
+    /// `AllocError` if a clone of the pool is refused.
+    pub fn descriptor(&self) -> Result<MessageDescriptor, AllocError>
+        ensures { IfOk result (λ descriptor. NamesSame descriptor (message_type_of self.now)) }
     {
-        self.slots.descriptor()
+        MessageDescriptor::of_type(self.message_type())
+    }
+
+    /// The message type, lent.
+    pub(crate) fn message_type(&self) -> &PooledType
+        ensures { result.now ≡ message_type_of self.now }
+    {
+        self.fields.message_type()
     }
 
     /// Removes all values and all unknown fields. The type stays.
     pub fn clear(&mut self)
-        ensures descriptor { descriptor_of self.new ≡ descriptor_of self.old }
+        ensures message_type { message_type_of self.new ≡ message_type_of self.old }
         ensures content { content_of self.new ≡ cleared (content_of self.old) }
     {
-        self.slots.clear_all();
+        self.fields.clear_all();
     }
 
     /// What the message keeps at each number, in ascending order of the numbers.
-    pub(crate) fn entries(&self) -> &[(u32, Entry<Value>)]
-        ensures entries { result.now ≡ stored_in self.now }
+    pub(crate) fn slots(&self) -> &[(u32, FieldSlot<Value>)]
+        ensures slots { result.now ≡ stored_in self.now }
         ensures ascending { IsAscending (stored_in self.now) }
-        ensures sound { IsSound (descriptor_of self.now) (stored_in self.now) }
+        ensures sound { IsSound (message_type_of self.now) (stored_in self.now) }
     {
-        self.slots.entries()
+        self.fields.slots()
     }
 
     /// The value that is stored at the number.
     pub(crate) fn stored_value(&self, number: u32) -> Option<&Value>
         ensures { option_map value_of (option_copied result) ≡ value_at number (entries_of (content_of self.now)) }
     {
-        self.slots.get(number)
+        self.fields.get(number)
     }
 
     /// The unknown fields at the number.
     pub(crate) fn stored_unknown(&self, number: u32) -> Option<&UnknownFieldSet>
         ensures { option_map records_of (option_copied result) ≡ records_at (stored_in self.now) number }
     {
-        self.slots.unknown(number)
+        self.fields.unknown(number)
     }
 
     /// Stores the value at the number of a field or an extension, and removes those of the other members of its oneof.
     /// A refused growth changes nothing.
     pub(crate) fn set_value(&mut self, number: u32, value: Value) -> Result<(), AllocError>
-        requires { is_known (known_of (descriptor_of self.old)) number ≡ true }
-        ensures descriptor { descriptor_of self.new ≡ descriptor_of self.old }
+        requires { is_known (known_of (message_type_of self.old)) number ≡ true }
+        ensures message_type { message_type_of self.new ≡ message_type_of self.old }
         ensures content { OnOk result (content_of self.new ≡ value_set number (value_of value) (content_of self.old)) }
         ensures err { OnErr result (self.new ≡ self.old) }
     {
-        self.slots.set(number, value)
+        self.fields.set(number, value)
     }
 
     /// Takes the value at the number. The unknown fields stay.
     pub(crate) fn take_value(&mut self, number: u32) -> Option<Value>
-        ensures descriptor { descriptor_of self.new ≡ descriptor_of self.old }
+        ensures message_type { message_type_of self.new ≡ message_type_of self.old }
         ensures value { option_map value_of result ≡ value_at number (entries_of (content_of self.old)) }
         ensures content { content_of self.new ≡ value_cleared number (content_of self.old) }
     {
-        self.slots.take(number)
+        self.fields.take(number)
     }
 
     /// Removes the value at the number. The unknown fields stay.
     pub(crate) fn clear_value(&mut self, number: u32)
-        ensures descriptor { descriptor_of self.new ≡ descriptor_of self.old }
+        ensures message_type { message_type_of self.new ≡ message_type_of self.old }
         ensures content { content_of self.new ≡ value_cleared number (content_of self.old) }
     {
-        self.slots.clear(number);
+        self.fields.clear(number);
     }
 
     /// Adds an unknown field behind those of its number, which is that of no field, or of one whose values are numbers of a closed enum.
     /// A refused growth changes no value and no unknown field.
     pub(crate) fn add_unknown(&mut self, number: u32, field: UnknownField) -> Result<(), AllocError>
         requires own { (record_of field).number ≡ number }
-        requires kept { keeps_unknown (known_of (descriptor_of self.old)) number ≡ true }
-        ensures descriptor { descriptor_of self.new ≡ descriptor_of self.old }
+        requires kept { keeps_unknown (known_of (message_type_of self.old)) number ≡ true }
+        ensures message_type { message_type_of self.new ≡ message_type_of self.old }
         ensures content { OnOk result (content_of self.new ≡ unknown_added (record_of field) (content_of self.old)) }
         ensures err { OnErr result (content_of self.new ≡ content_of self.old) }
     {
-        self.slots.add_unknown(number, field)
+        self.fields.add_unknown(number, field)
     }
 
     /// The value at the number of a field or an extension, for writing. Where there is none it is first set to `default`.
@@ -144,12 +157,12 @@ impl DynamicMessage {
         number: u32,
         default: Value,
     ) -> Result<&mut Value, AllocError>
-        requires { is_known (known_of (descriptor_of self.old)) number ≡ true }
+        requires { is_known (known_of (message_type_of self.old)) number ≡ true }
         ensures* writes_back { sem 𝓛 (LendsIfOk the_row value.the_row self.entry result (written_at self.old number default) self.old) }
         ensures value { IfOk result (λ lent. value_of lent.now ≡ unwrap_or (value_at number (entries_of (content_of self.old))) (value_of default)) }
-        ensures descriptor { (v : Value) → descriptor_of (written_at self.old number default v) ≡ descriptor_of self.old }
+        ensures message_type { (v : Value) → message_type_of (written_at self.old number default v) ≡ message_type_of self.old }
         ensures content { (v : Value) → content_of (written_at self.old number default v) ≡ value_set number (value_of v) (content_of self.old) }
     {
-        self.slots.get_mut_or(number, default)
+        self.fields.get_mut_or(number, default)
     }
 }

@@ -4,6 +4,7 @@ mod access;
 mod access_mut;
 mod key_access;
 mod keys;
+pub(crate) mod scalar;
 
 use crate::message::DynamicMessage;
 use std::alloc::AllocError;

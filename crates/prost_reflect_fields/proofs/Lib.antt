@@ -1,7 +1,7 @@
 mod Places
 mod Walks
 pub mod ItemChanges
-pub mod EntryChanges
+pub mod SlotChanges
 pub mod Siblings
 pub mod SoundChanges
 mod MembersCleared

@@ -9,15 +9,15 @@ use Rattle.prost_reflect_tables.specs.declared.tables.FieldTable.{FieldTable}
 use Rattle.prost_reflect_tables.specs.Rows.{field_row, TableRows}
 use Rattle.prost_reflect_tables.specs.Shown.{schema_field}
 use Rattle.prost_reflect_tables.proofs.Fields.{known_rows}
-use Rattle.prost_reflect_fields.specs.declared.entry.Entry.{Entry}
-use Rattle.prost_reflect_descriptors.specs.declared.message.MessageDescriptor.{MessageDescriptor}
-use Rattle.prost_reflect_descriptors.specs.Pools.{pool_rows}
-use Rattle.prost_reflect_descriptors.specs.Descriptors.{fields_of}
+use Rattle.prost_reflect_fields.specs.declared.slot.FieldSlot.{FieldSlot}
+use Rattle.prost_reflect_pool.specs.declared.pooled_type.PooledType.{PooledType}
+use Rattle.prost_reflect_pool.specs.SharedPools.{pool_rows}
+use Rattle.prost_reflect_pool.specs.MessageTypes.{fields_of}
 use Rattle.prost_reflect_fields.specs.Items.{IsAscending}
-use Rattle.prost_reflect_fields.specs.Entries.{without_values, clear_value}
+use Rattle.prost_reflect_fields.specs.FieldSlots.{without_values, clear_value}
 use Rattle.prost_reflect_fields.specs.Known.{known_of, oneof_of, are_siblings}
 use Rattle.prost_reflect_fields.specs.Members.{is_member}
-use Rattle.prost_reflect_fields.proofs.EntryChanges.{without_both, without_none, without_same_test}
+use Rattle.prost_reflect_fields.proofs.SlotChanges.{without_both, without_none, without_same_test}
 
 module _ (f : FieldTable) (rest : List FieldTable) (o : Option ℕ) (n : ℕ) where
   abbrev behind : ℕ → Bool
@@ -44,17 +44,17 @@ module _ (f : FieldTable) (rest : List FieldTable) (o : Option ℕ) (n : ℕ) wh
       none true = refl
       none false = refl
 
-  pub first_cleared : {V : Type 0} (es : List (ℕ × Entry V)) → IsAscending es → nat_eq f.number n ≡ false → same_oneof f.oneof o ≡ true
+  pub first_cleared : {V : Type 0} (es : List (ℕ × FieldSlot V)) → IsAscending es → nat_eq f.number n ≡ false → same_oneof f.oneof o ≡ true
       → without_values (is_member rest o n) (clear_value es f.number) ≡ without_values (is_member (f ∷ rest) o n) es
   first_cleared es s other same = without_both (is_member rest o n) (nat_eq f.number) (is_member (f ∷ rest) o n) es s (λ k. member_first k other same)
 
-  pub first_own : {V : Type 0} (es : List (ℕ × Entry V)) → nat_eq f.number n ≡ true → without_values (is_member rest o n) es ≡ without_values (is_member (f ∷ rest) o n) es
+  pub first_own : {V : Type 0} (es : List (ℕ × FieldSlot V)) → nat_eq f.number n ≡ true → without_values (is_member rest o n) es ≡ without_values (is_member (f ∷ rest) o n) es
   first_own es own = without_same_test (is_member rest o n) (is_member (f ∷ rest) o n) es (λ k. sym (member_own k own))
 
-  pub first_apart : {V : Type 0} (es : List (ℕ × Entry V)) → same_oneof f.oneof o ≡ false → without_values (is_member rest o n) es ≡ without_values (is_member (f ∷ rest) o n) es
+  pub first_apart : {V : Type 0} (es : List (ℕ × FieldSlot V)) → same_oneof f.oneof o ≡ false → without_values (is_member rest o n) es ≡ without_values (is_member (f ∷ rest) o n) es
   first_apart es apart = without_same_test (is_member rest o n) (is_member (f ∷ rest) o n) es (λ k. sym (member_apart k apart))
 
-pub all_cleared : {V : Type 0} (o : Option ℕ) (n : ℕ) (es : List (ℕ × Entry V)) → without_values (is_member [] o n) es ≡ es
+pub all_cleared : {V : Type 0} (o : Option ℕ) (n : ℕ) (es : List (ℕ × FieldSlot V)) → without_values (is_member [] o n) es ≡ es
 all_cleared o n es = without_none (is_member [] o n) es (λ k. none (not (nat_eq k n)))
   where
     none : (b : Bool) → b && false ≡ false
@@ -72,7 +72,7 @@ any_shown p rows [] = refl
 any_shown p rows (f ∷ table) = ap (λ b. p (schema_field rows (field_row f)) || b) (any_shown p rows table)
 
 -- the siblings of a number are the members of its oneof among the rows
-pub siblings_are_members : (d : MessageDescriptor) (table : List FieldTable) (n : ℕ) (o : Option Field) (oneof : Option ℕ) → map field_row table ≡ fields_of d → field_of (known_of d) n ≡ o
+pub siblings_are_members : (d : PooledType) (table : List FieldTable) (n : ℕ) (o : Option Field) (oneof : Option ℕ) → map field_row table ≡ fields_of d → field_of (known_of d) n ≡ o
     → oneof ≡ option_and_then (λ f. f.oneof) o → (k : ℕ) → is_member table oneof n k ≡ are_siblings (known_of d) n k
 siblings_are_members d table n None oneof rows at is k = ap (λ q. is_member table q n k) is ∙ ap (λ b. not (nat_eq k n) && b) (nothing table) ∙ none (not (nat_eq k n)) ∙ ap (λ o. passes o (λ f. is_sibling (known_of d) f k)) (sym at)
   where
@@ -95,6 +95,6 @@ siblings_are_members d table n (Some f) oneof rows at is k =
     ∙ ap (λ z. not (nat_eq k z) && list_any (λ g. nat_eq g.number k && same_oneof g.oneof f.oneof) (known_of d)) (sym number)
     ∙ ap (λ o. passes o (λ f. is_sibling (known_of d) f k)) (sym at)
 
-pub siblings_cleared : {V : Type 0} (d : MessageDescriptor) (table : List FieldTable) (n : ℕ) (oneof : Option ℕ) (es : List (ℕ × Entry V)) → map field_row table ≡ fields_of d → oneof ≡ oneof_of (known_of d) n
+pub siblings_cleared : {V : Type 0} (d : PooledType) (table : List FieldTable) (n : ℕ) (oneof : Option ℕ) (es : List (ℕ × FieldSlot V)) → map field_row table ≡ fields_of d → oneof ≡ oneof_of (known_of d) n
     → without_values (is_member table oneof n) es ≡ without_values (are_siblings (known_of d) n) es
 siblings_cleared d table n oneof es rows is = without_same_test (is_member table oneof n) (are_siblings (known_of d) n) es (siblings_are_members d table n (field_of (known_of d) n) oneof rows refl is)

@@ -6,10 +6,10 @@ use Rattle.prost_reflect_wire.specs.Schema.{Field, MessageType, Schema, known, f
 use Rattle.prost_reflect_wire.proofs.Deeper.{and_both, both_true}
 use Rattle.prost_reflect_wire.proofs.Survivors.{field_number, or_false}
 use Rattle.prost_reflect_tables.proofs.Keeping.{schema_is_valid}
-use Rattle.prost_reflect_descriptors.specs.Descriptors.{schema_at}
-use Rattle.prost_reflect_descriptors.specs.Pools.{pool_rows}
+use Rattle.prost_reflect_pool.specs.MessageTypes.{schema_at}
+use Rattle.prost_reflect_pool.specs.SharedPools.{pool_rows}
 use Rattle.prost_reflect_fields.specs.Known.{known_of, are_siblings}
-use Rattle.prost_reflect_descriptors.specs.declared.message.MessageDescriptor.{MessageDescriptor}
+use Rattle.prost_reflect_pool.specs.declared.pooled_type.PooledType.{PooledType}
 
 -- NUMBERS DIFFER
 
@@ -20,8 +20,8 @@ differ_in schema (m ∷ types) zero h =
 differ_in schema (m ∷ types) (suc T) h =
     differ_in schema types T (and_both (numbers_differ m.known && list_all (field_valid schema) m.known) (list_all (λ (m : MessageType). numbers_differ m.known && list_all (field_valid schema) m.known) types) h).1
 
-pub known_differ : (d : MessageDescriptor) → numbers_differ (known_of d) ≡ true
-known_differ d = differ_in (schema_at d) (schema_at d) d.index (schema_is_valid (pool_rows d.pool) d.pool.inner.value.tables.linked)
+pub known_differ : (d : PooledType) → numbers_differ (known_of d) ≡ true
+known_differ d = differ_in (schema_at d) (schema_at d) d.index (schema_is_valid (pool_rows d.pool) d.pool.value.tables.linked)
 
 -- SIBLINGS
 

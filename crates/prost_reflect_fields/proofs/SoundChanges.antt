@@ -1,4 +1,4 @@
--- What a change keeps of what a message's entries keep.
+-- What a change keeps of what a message's slots keep.
 use Rattle.std.proofs.Common.{◌≡◌, ◌++◌, unwrap_or, Bool, true, false, cond, ℕ, nat_eq, List, [], ◌∷◌, Option, None, Some, ap, sym, ◌∙◌, subst, refl, true≢false}
 use Rattle.std.proofs.lemmas.Bool.{eq-eqb, eqb-true, eqb-false}
 use Rattle.std.specs.Option.{option_and_then, option_map, is_some}
@@ -6,13 +6,13 @@ use Rattle.std.specs.List.{list_all}
 use Rattle.prost_reflect_wire.specs.Record.{Record}
 use Rattle.prost_reflect_wire.specs.Schema.{Field, numbers_differ}
 use Rattle.prost_reflect_wire.proofs.Deeper.{and_both, both_true, all_append}
-use Rattle.prost_reflect_fields.specs.declared.entry.Entry.{Entry}
+use Rattle.prost_reflect_fields.specs.declared.slot.FieldSlot.{FieldSlot}
 use Rattle.prost_reflect_fields.specs.Items.{IsAscending, item_at, with_item}
 use Rattle.prost_reflect_fields.specs.Known.{is_known, are_siblings, keeps_unknown, are_records_of}
-use Rattle.prost_reflect_fields.specs.Entries.{value_in, records_in, value_at, records_at, has_value, revalued, put_value, without_values, with_value, with_entry, SameStored, UnknownAdded}
+use Rattle.prost_reflect_fields.specs.FieldSlots.{value_in, records_in, value_at, records_at, has_value, revalued, put_value, without_values, with_value, with_slot, SameStored, UnknownAdded}
 use Rattle.prost_reflect_fields.specs.Sound.{Sound, unknown_kept, set_value_at, prepared}
 use Rattle.prost_reflect_fields.proofs.ItemChanges.{at_each, apart_of, with_same, with_apart}
-use Rattle.prost_reflect_fields.proofs.EntryChanges.{value_without, records_without, ascending_put, value_put, value_put_apart, records_put, same_values, same_records, value_kept, records_kept, ascending_without_values, ascending_with_value, value_written, value_written_apart, records_written}
+use Rattle.prost_reflect_fields.proofs.SlotChanges.{value_without, records_without, ascending_put, value_put, value_put_apart, records_put, same_values, same_records, value_kept, records_kept, ascending_without_values, ascending_with_value, value_written, value_written_apart, records_written}
 use Rattle.prost_reflect_fields.proofs.Siblings.{siblings_back, siblings_self}
 use Rattle.std.proofs.lemmas.Map.Steps.{set_value_same}
 use Rattle.std.specs.BTreeMap.{is_at}
@@ -42,21 +42,21 @@ added_kept fields n r o own keeps h = both_true keeps (cases o h)
 
 module _ {V : Type 0} where
   -- values at no more numbers, and the same unknown records
-  pub record Fewer (ds es : List (ℕ × Entry V)) : Type 0 where
+  pub record Fewer (ds es : List (ℕ × FieldSlot V)) : Type 0 where
     pub values : (k : ℕ) → has_value ds k ≡ true → has_value es k ≡ true
     pub records : (k : ℕ) → records_at ds k ≡ records_at es k
 
-  without : (ds es : List (ℕ × Entry V)) (k : ℕ) → Fewer ds es → has_value es k ≡ false → has_value ds k ≡ false
+  without : (ds es : List (ℕ × FieldSlot V)) (k : ℕ) → Fewer ds es → has_value es k ≡ false → has_value ds k ≡ false
   without ds es k less h = not_true (has_value ds k) (λ t. not_both (has_value es k) (less.values k t) h)
 
-  pub sound_less : (fields : List Field) (ds es : List (ℕ × Entry V)) → Fewer ds es → Sound fields es → Sound fields ds
+  pub sound_less : (fields : List Field) (ds es : List (ℕ × FieldSlot V)) → Fewer ds es → Sound fields es → Sound fields ds
   sound_less fields ds es less s = (
     λ n v. s.0 n (less.values n v),
     λ n. ap (unknown_kept fields n) (less.records n) ∙ s.1 n,
     λ m n v siblings. without ds es n less (s.2 m n (less.values m v) siblings),
   )
 
-  fewer_without : (test : ℕ → Bool) (es : List (ℕ × Entry V)) → IsAscending es → Fewer (without_values test es) es
+  fewer_without : (test : ℕ → Bool) (es : List (ℕ × FieldSlot V)) → IsAscending es → Fewer (without_values test es) es
   fewer_without test es s = record {
     values = λ k h. cases (test k) (value_at es k) (ap is_some (sym (value_without test es k s)) ∙ h);
     records = λ k. records_without test es k s;
@@ -66,10 +66,10 @@ module _ {V : Type 0} where
       cases true o h = cc
       cases false o h = h
 
-  pub sound_without : (fields : List Field) (test : ℕ → Bool) (es : List (ℕ × Entry V)) → IsAscending es → Sound fields es → Sound fields (without_values test es)
+  pub sound_without : (fields : List Field) (test : ℕ → Bool) (es : List (ℕ × FieldSlot V)) → IsAscending es → Sound fields es → Sound fields (without_values test es)
   sound_without fields test es s = sound_less fields (without_values test es) es (fewer_without test es s)
 
-  fewer_revalued : (es : List (ℕ × Entry V)) (n : ℕ) (e : Entry V) (w : V) → item_at es n ≡ Some e → Fewer (with_item es n (revalued e w)) es
+  fewer_revalued : (es : List (ℕ × FieldSlot V)) (n : ℕ) (e : FieldSlot V) (w : V) → item_at es n ≡ Some e → Fewer (with_item es n (revalued e w)) es
   fewer_revalued es n e w h =
       let there : item_at (with_item es n (revalued e w)) n ≡ Some (revalued e w) = with_same es n (revalued e w) e h in
       record {
@@ -81,22 +81,22 @@ module _ {V : Type 0} where
             (λ k a. same_records es (with_item es n (revalued e w)) k (with_apart es n k (revalued e w) a));
       }
 
-  pub sound_revalued : (fields : List Field) (es : List (ℕ × Entry V)) (n : ℕ) (e : Entry V) (w : V) → Some e ≡ item_at es n → Sound fields es → Sound fields (with_item es n (revalued e w))
+  pub sound_revalued : (fields : List Field) (es : List (ℕ × FieldSlot V)) (n : ℕ) (e : FieldSlot V) (w : V) → Some e ≡ item_at es n → Sound fields es → Sound fields (with_item es n (revalued e w))
   sound_revalued fields es n e w h = sound_less fields (with_item es n (revalued e w)) es (fewer_revalued es n e w (sym h))
 
-  pub sound_same : (fields : List Field) (es : List (ℕ × Entry V)) (n : ℕ) (e : Entry V) → Some e ≡ item_at es n → Sound fields es → Sound fields (with_item es n e)
+  pub sound_same : (fields : List Field) (es : List (ℕ × FieldSlot V)) (n : ℕ) (e : FieldSlot V) → Some e ≡ item_at es n → Sound fields es → Sound fields (with_item es n e)
   sound_same fields es n e h s = subst (Sound fields) (sym (set_value_same (is_at (nat_cmp n)) es e (sym h))) s
 
-  pub sound_written : (fields : List Field) (es : List (ℕ × Entry V)) (n : ℕ) (w : V) → Sound fields es → Sound fields (with_value es n w)
+  pub sound_written : (fields : List Field) (es : List (ℕ × FieldSlot V)) (n : ℕ) (w : V) → Sound fields es → Sound fields (with_value es n w)
   sound_written fields es n w sound = cases (item_at es n) refl
     where
-      cases : (o : Option (Entry V)) → item_at es n ≡ o → Sound fields (with_entry es n w o)
+      cases : (o : Option (FieldSlot V)) → item_at es n ≡ o → Sound fields (with_slot es n w o)
       cases None at = sound
       cases (Some e) at = sound_revalued fields es n e w (sym at) sound
 
   -- SETTING
 
-  pub value_set_at : (fields : List Field) (es : List (ℕ × Entry V)) (n : ℕ) (v : V) (k : ℕ) → IsAscending es
+  pub value_set_at : (fields : List Field) (es : List (ℕ × FieldSlot V)) (n : ℕ) (v : V) (k : ℕ) → IsAscending es
       → value_at (set_value_at fields es n v) k ≡ cond (nat_eq k n) (Some v) (cond (are_siblings fields n k) None (value_at es k))
   value_set_at fields es n v k s = value_without (are_siblings fields n) (put_value es n v) k (ascending_put es n v s) ∙ cases (nat_eq k n) refl
     where
@@ -106,16 +106,16 @@ module _ {V : Type 0} where
           ap (λ z. cond (are_siblings fields n z) None (value_at (put_value es n v) z)) same ∙ ap (λ b. cond b None (value_at (put_value es n v) n)) (siblings_self fields n) ∙ value_put es n v
       cases false at = ap (cond (are_siblings fields n k) None) (value_put_apart es n k v (apart_of n k (eqb-false k n at)))
 
-  pub records_set_at : (fields : List Field) (es : List (ℕ × Entry V)) (n : ℕ) (v : V) (k : ℕ) → IsAscending es → records_at (set_value_at fields es n v) k ≡ records_at es k
+  pub records_set_at : (fields : List Field) (es : List (ℕ × FieldSlot V)) (n : ℕ) (v : V) (k : ℕ) → IsAscending es → records_at (set_value_at fields es n v) k ≡ records_at es k
   records_set_at fields es n v k s = records_without (are_siblings fields n) (put_value es n v) k (ascending_put es n v s) ∙ records_put es n v k
 
-  pub ascending_set_at : (fields : List Field) (es : List (ℕ × Entry V)) (n : ℕ) (v : V) → IsAscending es → IsAscending (set_value_at fields es n v)
+  pub ascending_set_at : (fields : List Field) (es : List (ℕ × FieldSlot V)) (n : ℕ) (v : V) → IsAscending es → IsAscending (set_value_at fields es n v)
   ascending_set_at fields es n v s = ascending_without_values (are_siblings fields n) (put_value es n v) (ascending_put es n v s)
 
-  pub value_set : (fields : List Field) (es : List (ℕ × Entry V)) (n : ℕ) (v : V) → IsAscending es → value_at (set_value_at fields es n v) n ≡ Some v
+  pub value_set : (fields : List Field) (es : List (ℕ × FieldSlot V)) (n : ℕ) (v : V) → IsAscending es → value_at (set_value_at fields es n v) n ≡ Some v
   value_set fields es n v s = value_set_at fields es n v n s ∙ ap (λ b. cond b (Some v) (cond (are_siblings fields n n) None (value_at es n))) (eq-eqb n n refl)
 
-  pub sound_set : (fields : List Field) (es : List (ℕ × Entry V)) (n : ℕ) (v : V) → IsAscending es → numbers_differ fields ≡ true → is_known fields n ≡ true → Sound fields es → Sound fields (set_value_at fields es n v)
+  pub sound_set : (fields : List Field) (es : List (ℕ × FieldSlot V)) (n : ℕ) (v : V) → IsAscending es → numbers_differ fields ≡ true → is_known fields n ≡ true → Sound fields es → Sound fields (set_value_at fields es n v)
   sound_set fields es n v s differ known sound = (
     λ k h. values k (nat_eq k n) refl (ap is_some (sym (value_set_at fields es n v k s)) ∙ h),
     λ k. ap (unknown_kept fields k) (records_set_at fields es n v k s) ∙ sound.1 k,
@@ -148,7 +148,7 @@ module _ {V : Type 0} where
 
   -- WRITING ACCESS
 
-  pub sound_prepared : (fields : List Field) (es : List (ℕ × Entry V)) (n : ℕ) (v : V) → IsAscending es → numbers_differ fields ≡ true → is_known fields n ≡ true → Sound fields es → Sound fields (prepared fields es n v)
+  pub sound_prepared : (fields : List Field) (es : List (ℕ × FieldSlot V)) (n : ℕ) (v : V) → IsAscending es → numbers_differ fields ≡ true → is_known fields n ≡ true → Sound fields es → Sound fields (prepared fields es n v)
   sound_prepared fields es n v s differ known sound = cases (has_value es n)
     where
       cases : (b : Bool) → Sound fields (cond b es (set_value_at fields es n v))
@@ -156,7 +156,7 @@ module _ {V : Type 0} where
       cases false = sound_set fields es n v s differ known sound
 
   -- a value that was there is written over as it is set, since no sibling has one
-  over_value : (fields : List Field) (es : List (ℕ × Entry V)) (n : ℕ) (w : V) (k : ℕ) → Sound fields es → has_value es n ≡ true → value_at (with_value es n w) k ≡ cond (nat_eq k n) (Some w) (cond (are_siblings fields n k) None (value_at es k))
+  over_value : (fields : List Field) (es : List (ℕ × FieldSlot V)) (n : ℕ) (w : V) (k : ℕ) → Sound fields es → has_value es n ≡ true → value_at (with_value es n w) k ≡ cond (nat_eq k n) (Some w) (cond (are_siblings fields n k) None (value_at es k))
   over_value fields es n w k sound here = cases (nat_eq k n) refl
     where
       there : (o : Option V) → is_some o ≡ true → option_map (λ _. w) o ≡ Some w
@@ -176,7 +176,7 @@ module _ {V : Type 0} where
       cases false at = value_written_apart es n k w (apart_of n k (eqb-false k n at)) ∙ sibling (are_siblings fields n k) refl
 
   -- one that was just set is written over as if the other had been set
-  over_set : (fields : List Field) (es : List (ℕ × Entry V)) (n : ℕ) (v w : V) (k : ℕ) → IsAscending es → value_at (with_value (set_value_at fields es n v) n w) k ≡ cond (nat_eq k n) (Some w) (cond (are_siblings fields n k) None (value_at es k))
+  over_set : (fields : List Field) (es : List (ℕ × FieldSlot V)) (n : ℕ) (v w : V) (k : ℕ) → IsAscending es → value_at (with_value (set_value_at fields es n v) n w) k ≡ cond (nat_eq k n) (Some w) (cond (are_siblings fields n k) None (value_at es k))
   over_set fields es n v w k s = cases (nat_eq k n) refl
     where
       cases : (b : Bool) → nat_eq k n ≡ b → value_at (with_value (set_value_at fields es n v) n w) k ≡ cond b (Some w) (cond (are_siblings fields n k) None (value_at es k))
@@ -184,7 +184,7 @@ module _ {V : Type 0} where
       cases false at = value_written_apart (set_value_at fields es n v) n k w (apart_of n k (eqb-false k n at)) ∙ value_set_at fields es n v k s ∙ ap (λ b. cond b (Some v) (cond (are_siblings fields n k) None (value_at es k))) at
 
   -- writing access leaves what a set leaves
-  pub written_is_set : (fields : List Field) (es : List (ℕ × Entry V)) (n : ℕ) (v w : V) → IsAscending es → Sound fields es → SameStored (set_value_at fields es n w) (with_value (prepared fields es n v) n w)
+  pub written_is_set : (fields : List Field) (es : List (ℕ × FieldSlot V)) (n : ℕ) (v w : V) → IsAscending es → Sound fields es → SameStored (set_value_at fields es n w) (with_value (prepared fields es n v) n w)
   written_is_set fields es n v w s sound = cases (has_value es n) refl
     where
       cases : (b : Bool) → has_value es n ≡ b → SameStored (set_value_at fields es n w) (with_value (cond b es (set_value_at fields es n v)) n w)
@@ -201,10 +201,10 @@ module _ {V : Type 0} where
 
   -- UNKNOWN RECORDS
 
-  pub sound_stored : (fields : List Field) (es ds : List (ℕ × Entry V)) → SameStored es ds → Sound fields es → Sound fields ds
+  pub sound_stored : (fields : List Field) (es ds : List (ℕ × FieldSlot V)) → SameStored es ds → Sound fields es → Sound fields ds
   sound_stored fields es ds same = sound_less fields ds es (record { values = λ k h. ap is_some (sym (same.values k)) ∙ h; records = same.records })
 
-  pub sound_added : (fields : List Field) (es ds : List (ℕ × Entry V)) (r : Record) → UnknownAdded es ds r → keeps_unknown fields r.number ≡ true → Sound fields es → Sound fields ds
+  pub sound_added : (fields : List Field) (es ds : List (ℕ × FieldSlot V)) (r : Record) → UnknownAdded es ds r → keeps_unknown fields r.number ≡ true → Sound fields es → Sound fields ds
   sound_added fields es ds r added keeps sound = (
     λ n v. sound.0 n (ap is_some (sym (added.values n)) ∙ v),
     λ n. cases n (nat_eq n r.number) refl,

@@ -4,11 +4,11 @@ use Rattle.std.specs.List.{list_all}
 use Rattle.prost_reflect_wire.specs.Record.{Record}
 use Rattle.prost_reflect_wire.specs.Scalar.{Enum, Closed}
 use Rattle.prost_reflect_wire.specs.Schema.{Kind, ScalarOf, Field, known, field_of, is_sibling, passes}
-use Rattle.prost_reflect_descriptors.specs.Descriptors.{schema_at, type_at}
-use Rattle.prost_reflect_descriptors.specs.declared.message.MessageDescriptor.{MessageDescriptor}
+use Rattle.prost_reflect_pool.specs.MessageTypes.{schema_at, type_at}
+use Rattle.prost_reflect_pool.specs.declared.pooled_type.PooledType.{PooledType}
 
 -- The fields and extensions of a message type.
-abbrev pub known_of : MessageDescriptor → List Field
+abbrev pub known_of : PooledType → List Field
 known_of d = known (schema_at d) (type_at d)
 
 abbrev pub is_known : List Field → ℕ → Bool

@@ -1,5 +1,5 @@
 pub mod Items
-pub mod Entries
+pub mod FieldSlots
 pub mod Known
 pub mod Sound
 pub mod Members

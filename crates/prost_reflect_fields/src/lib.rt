@@ -1,8 +1,8 @@
 //! The fields of a message by number, over any type of values.
 #![tactic(auto)]
 
-pub mod entry;
+pub mod field_set;
 pub mod number_map;
-pub mod slots;
-pub mod sorted;
+pub mod slot;
+pub mod sorted_map;
 pub mod stored;

@@ -45,6 +45,13 @@ pub trait NumberMap<T> {
         ensures { option_map (λ p. (p.0, p.1.now)) result ≡ last_below (entries self.now) number };
 }
 
+/// The numbers of a map ascend. A call does nothing, but its caller may then count on it.
+pub fn ascending<T, S: NumberMap<T>>(map: &S)
+    ensures { IsAscending (S.entries map.now) }
+{
+    let _ = map.len();
+}
+
 impl<T: Drop> NumberMap<T> for BTreeMap<u32, T> {
     ghost entries = { λ m. m.entries };
 

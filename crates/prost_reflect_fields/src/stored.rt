@@ -1,4 +1,4 @@
-//! Values and unknown fields in a map from numbers to entries.
+//! Values and unknown fields in a map from numbers to slots.
 
 ghost use Rattle.std.specs.Prelude.{◌≡◌, Some, OnOk, OnErr, IfOk};
 ghost use Rattle.std.specs.Borrow.{LendsSo, sem};
@@ -7,44 +7,43 @@ ghost use Rattle.prost_reflect_wire.specs.Unknown.{record_of};
 ghost use Rattle.prost_reflect_wire.specs.Schema.{same_oneof};
 ghost use Rattle.prost_reflect_fields.specs.Items.{IsAscending};
 ghost use Rattle.prost_reflect_fields.specs.Known.{known_of, oneof_of, are_siblings};
-ghost use Rattle.prost_reflect_fields.specs.Entries.{value_at, unknown_at, put_value, clear_value, with_value, without_values, UnknownAdded, SameStored};
+ghost use Rattle.prost_reflect_fields.specs.FieldSlots.{value_at, unknown_at, put_value, clear_value, with_value, without_values, UnknownAdded, SameStored};
 ghost use Rattle.prost_reflect_fields.specs.Sound.{set_value_at, prepared};
 ghost use Rattle.prost_reflect_fields.specs.Members.{is_member};
 ghost use Rattle.prost_reflect_fields.specs.Lending.{LendsOrStays};
 
-use crate::entry::Entry;
-use crate::number_map::NumberMap;
-use prost_reflect_descriptors::MessageDescriptor;
-use prost_reflect_descriptors::rows::{field_table, field_tables};
+use crate::number_map::{NumberMap, ascending};
+use crate::slot::FieldSlot;
+use prost_reflect_pool::PooledType;
 use prost_reflect_tables::FieldTable;
 use prost_reflect_wire::{UnknownField, UnknownFieldSet};
 use std::alloc::{AllocError, Global};
 
 /// The value at the number.
-pub fn value_at<V, S: NumberMap<Entry<V>>>(fields: &S, number: u32) -> Option<&V>
+pub fn value_at<V, S: NumberMap<FieldSlot<V>>>(fields: &S, number: u32) -> Option<&V>
     ensures { option_copied result ≡ value_at (S.entries fields.now) number }
 {
     match fields.get(number) {
-        Some(entry) => entry.value(),
+        Some(slot) => slot.value(),
         None => None,
     }
 }
 
 /// The unknown fields at the number.
-pub fn unknown_at<'a, V: 'a, S: NumberMap<Entry<V>>>(
+pub fn unknown_at<'a, V: 'a, S: NumberMap<FieldSlot<V>>>(
     fields: &'a S,
     number: u32,
 ) -> Option<&'a UnknownFieldSet>
     ensures { option_copied result ≡ unknown_at (S.entries fields.now) number }
 {
     match fields.get(number) {
-        Some(entry) => entry.unknown(),
+        Some(slot) => slot.unknown(),
         None => None,
     }
 }
 
 /// Puts a value at the number, where the unknown fields stay. A refused growth changes nothing.
-pub fn put_value<V: Drop, S: NumberMap<Entry<V>>>(
+pub fn put_value<V: Drop, S: NumberMap<FieldSlot<V>>>(
     fields: &mut S,
     alloc: Global,
     number: u32,
@@ -54,18 +53,18 @@ pub fn put_value<V: Drop, S: NumberMap<Entry<V>>>(
     ensures err { OnErr result (S.entries fields.new ≡ S.entries fields.old) }
     ensures ascending { IsAscending (S.entries fields.old) }
 {
-    let _ = fields.len();
+    ascending(fields);
     if fields.get(number).is_none() {
-        return fields.insert(number, Entry::Value(value));
+        return fields.insert(number, FieldSlot::Value(value));
     }
-    if let Some(entry) = fields.get_mut(number) {
-        entry.put(alloc, value);
+    if let Some(slot) = fields.get_mut(number) {
+        slot.put(alloc, value);
     }
     Ok(())
 }
 
 /// Takes the value at the number, where the unknown fields stay.
-pub fn take_value<V: Drop, S: NumberMap<Entry<V>>>(
+pub fn take_value<V: Drop, S: NumberMap<FieldSlot<V>>>(
     fields: &mut S,
     alloc: Global,
     number: u32,
@@ -74,23 +73,23 @@ pub fn take_value<V: Drop, S: NumberMap<Entry<V>>>(
     ensures entries { S.entries fields.new ≡ clear_value (S.entries fields.old) number }
     ensures ascending { IsAscending (S.entries fields.old) }
 {
-    let _ = fields.len();
+    ascending(fields);
     match fields.get(number) {
-        Some(Entry::Value(_)) => match fields.remove(number) {
-            Some(Entry::Value(value)) => Some(value),
+        Some(FieldSlot::Value(_)) => match fields.remove(number) {
+            Some(FieldSlot::Value(value)) => Some(value),
             _ => None,
         },
-        Some(Entry::Both(_, _)) => match fields.get_mut(number) {
-            Some(entry) => entry.take_beside(alloc),
+        Some(FieldSlot::Both(_, _)) => match fields.get_mut(number) {
+            Some(slot) => slot.take_beside(alloc),
             None => None,
         },
-        Some(Entry::Unknown(_)) => None,
+        Some(FieldSlot::Unknown(_)) => None,
         None => None,
     }
 }
 
 /// Adds an unknown field behind those of its number. A refused growth changes no value and no unknown field.
-pub fn add_unknown<V: Drop, S: NumberMap<Entry<V>>>(
+pub fn add_unknown<V: Drop, S: NumberMap<FieldSlot<V>>>(
     fields: &mut S,
     alloc: Global,
     number: u32,
@@ -101,61 +100,61 @@ pub fn add_unknown<V: Drop, S: NumberMap<Entry<V>>>(
     ensures err { OnErr result (SameStored (S.entries fields.old) (S.entries fields.new)) }
     ensures ascending { IsAscending (S.entries fields.old) }
 {
-    let _ = fields.len();
+    ascending(fields);
     if fields.get(number).is_none() {
         let mut unknown = UnknownFieldSet::new(alloc);
         unknown.insert(field)?;
-        return fields.insert(number, Entry::Unknown(unknown));
+        return fields.insert(number, FieldSlot::Unknown(unknown));
     }
     match fields.get_mut(number) {
-        Some(entry) => entry.add_unknown(alloc, field),
+        Some(slot) => slot.add_unknown(alloc, field),
         None => Ok(()),
     }
 }
 
 /// Sets the value at the number, and removes those of the other members of its field's oneof. The unknown fields stay.
 /// A refused growth changes nothing.
-pub fn set_value<V: Drop, S: NumberMap<Entry<V>>>(
+pub fn set_value<V: Drop, S: NumberMap<FieldSlot<V>>>(
     fields: &mut S,
     alloc: Global,
-    descriptor: &MessageDescriptor,
+    message_type: &PooledType,
     number: u32,
     value: V,
 ) -> Result<(), AllocError>
-    ensures ok { OnOk result (S.entries fields.new ≡ set_value_at (known_of descriptor.now) (S.entries fields.old) number value) }
+    ensures ok { OnOk result (S.entries fields.new ≡ set_value_at (known_of message_type.now) (S.entries fields.old) number value) }
     ensures err { OnErr result (S.entries fields.new ≡ S.entries fields.old) }
     ensures ascending { IsAscending (S.entries fields.old) }
 {
     put_value(fields, alloc, number, value)?;
-    clear_siblings(fields, alloc, descriptor, number);
+    clear_siblings(fields, alloc, message_type, number);
     Ok(())
 }
 
 /// The value at the number, for writing.
-pub fn value_mut<V, S: NumberMap<Entry<V>>>(fields: &mut S, number: u32) -> Option<&mut V>
+pub fn value_mut<V, S: NumberMap<FieldSlot<V>>>(fields: &mut S, number: u32) -> Option<&mut V>
     ensures* writes_back { sem 𝓛 (LendsSo S.row V.row fields.entry result (λ after w. S.entries after ≡ with_value (S.entries fields.old) number w) (λ after. S.entries after ≡ S.entries fields.old)) }
     ensures value { option_copied_mut result ≡ value_at (S.entries fields.old) number }
 {
     match fields.get_mut(number) {
-        Some(entry) => entry.value_mut(),
+        Some(slot) => slot.value_mut(),
         None => None,
     }
 }
 
 /// The value at the number, for writing. Where there is none it is first set to `default`, which removes those of the other members of its field's oneof.
 /// A refused growth changes nothing.
-pub fn value_mut_or<'a, V: Drop + 'a, S: NumberMap<Entry<V>>>(
+pub fn value_mut_or<'a, V: Drop + 'a, S: NumberMap<FieldSlot<V>>>(
     fields: &'a mut S,
     alloc: Global,
-    descriptor: &MessageDescriptor,
+    message_type: &PooledType,
     number: u32,
     default: V,
 ) -> Result<&'a mut V, AllocError>
-    ensures* writes_back { sem 𝓛 (LendsOrStays S.row V.row fields.entry result (λ after w. S.entries after ≡ with_value (prepared (known_of descriptor.now) (S.entries fields.old) number default) number w) (λ after. S.entries after ≡ prepared (known_of descriptor.now) (S.entries fields.old) number default) (λ after. S.entries after ≡ S.entries fields.old)) }
-    ensures value { IfOk result (λ v. value_at (prepared (known_of descriptor.now) (S.entries fields.old) number default) number ≡ Some v.now) }
+    ensures* writes_back { sem 𝓛 (LendsOrStays S.row V.row fields.entry result (λ after w. S.entries after ≡ with_value (prepared (known_of message_type.now) (S.entries fields.old) number default) number w) (λ after. S.entries after ≡ prepared (known_of message_type.now) (S.entries fields.old) number default) (λ after. S.entries after ≡ S.entries fields.old)) }
+    ensures value { IfOk result (λ v. value_at (prepared (known_of message_type.now) (S.entries fields.old) number default) number ≡ Some v.now) }
     ensures ascending { IsAscending (S.entries fields.old) }
 {
-    set_default(fields, alloc, descriptor, number, default)?;
+    set_default(fields, alloc, message_type, number, default)?;
     match value_mut(fields, number) {
         Some(value) => Ok(value),
         None => unreachable!(),
@@ -163,46 +162,46 @@ pub fn value_mut_or<'a, V: Drop + 'a, S: NumberMap<Entry<V>>>(
 }
 
 /// Sets the value at the number to `default` where there is none.
-fn set_default<V: Drop, S: NumberMap<Entry<V>>>(
+fn set_default<V: Drop, S: NumberMap<FieldSlot<V>>>(
     fields: &mut S,
     alloc: Global,
-    descriptor: &MessageDescriptor,
+    message_type: &PooledType,
     number: u32,
     default: V,
 ) -> Result<(), AllocError>
-    ensures ok { OnOk result (S.entries fields.new ≡ prepared (known_of descriptor.now) (S.entries fields.old) number default) }
+    ensures ok { OnOk result (S.entries fields.new ≡ prepared (known_of message_type.now) (S.entries fields.old) number default) }
     ensures err { OnErr result (S.entries fields.new ≡ S.entries fields.old) }
     ensures ascending { IsAscending (S.entries fields.old) }
 {
-    let _ = fields.len();
+    ascending(fields);
     if value_at(fields, number).is_some() {
         return Ok(());
     }
-    set_value(fields, alloc, descriptor, number, default)
+    set_value(fields, alloc, message_type, number, default)
 }
 
 /// The oneof of the number's field.
-fn oneof_of(descriptor: &MessageDescriptor, number: u32) -> Option<usize>
-    ensures { result ≡ oneof_of (known_of descriptor.now) number }
+fn oneof_of(message_type: &PooledType, number: u32) -> Option<usize>
+    ensures { result ≡ oneof_of (known_of message_type.now) number }
 {
-    match field_table(descriptor, number) {
+    match message_type.field_table(number) {
         Some(field) => field.oneof,
         None => None,
     }
 }
 
 /// Removes the values of the other members of the oneof of the number's field.
-fn clear_siblings<V: Drop, S: NumberMap<Entry<V>>>(
+fn clear_siblings<V: Drop, S: NumberMap<FieldSlot<V>>>(
     fields: &mut S,
     alloc: Global,
-    descriptor: &MessageDescriptor,
+    message_type: &PooledType,
     number: u32,
 )
-    ensures cleared { S.entries fields.new ≡ without_values (are_siblings (known_of descriptor.now) number) (S.entries fields.old) }
+    ensures cleared { S.entries fields.new ≡ without_values (are_siblings (known_of message_type.now) number) (S.entries fields.old) }
     ensures ascending { IsAscending (S.entries fields.old) }
 {
-    let oneof = oneof_of(descriptor, number);
-    clear_members(fields, alloc, field_tables(descriptor), oneof, number);
+    let oneof = oneof_of(message_type, number);
+    clear_members(fields, alloc, message_type.field_tables(), oneof, number);
 }
 
 /// Whether two fields are members of one oneof.
@@ -216,7 +215,7 @@ fn is_same_oneof(left: Option<usize>, right: Option<usize>) -> bool
 }
 
 /// Removes the values of the members of the oneof, but that of the number.
-fn clear_members<V: Drop, S: NumberMap<Entry<V>>>(
+fn clear_members<V: Drop, S: NumberMap<FieldSlot<V>>>(
     fields: &mut S,
     alloc: Global,
     table: &[FieldTable],
@@ -226,7 +225,7 @@ fn clear_members<V: Drop, S: NumberMap<Entry<V>>>(
     ensures cleared { S.entries fields.new ≡ without_values (is_member table.now oneof number) (S.entries fields.old) }
     ensures ascending { IsAscending (S.entries fields.old) }
 {
-    let _ = fields.len();
+    ascending(fields);
     for field in table {
         if field.number != number && is_same_oneof(field.oneof, oneof) {
             drop(take_value(fields, alloc, field.number));

@@ -4,11 +4,9 @@ use Rattle.std.specs.Prelude.{unwrap_or}
 use Rattle.std.proofs.lemmas.Bool.{eq-eqb}
 use Rattle.prost_reflect_wire.specs.declared.key.WireType.{WireType}
 use Rattle.prost_reflect_wire.specs.declared.key.WireType.TheVariants as wires
-use Rattle.prost_reflect_wire.specs.declared.error.DecodeError.{DecodeError}
-use Rattle.prost_reflect_wire.specs.declared.error.DecodeError.TheVariants as errors
 use Rattle.prost_reflect_wire.specs.Varint.{◌>>=◌}
 use Rattle.prost_reflect_wire.specs.Record.{Len, Records, Record, Payload, Flat, Group, items, body_of, raw_levels}
-use Rattle.prost_reflect_wire.specs.Front.{KeyFront, DelimitedFront, ValueFront, PlainFault}
+use Rattle.prost_reflect_wire.specs.Front.{KeyFront, DelimitedFront, ValueFront}
 use Rattle.prost_reflect_wire.specs.Schema.{Kind, ScalarOf, MessageOf, GroupOf, ValueType, FieldForm, Singular, Repeated, MapFrom, Field, Schema, known, field_of, is_message, is_singular, numbers_differ, passes}
 use Rattle.prost_reflect_wire.specs.Content.{Content, ContentOf, Entries, Value, ScalarValue, MessageValue, ListValue, MapValue, value_at, slot_at, changed, empty, schema_of, type_of, value_ordered}
 use Rattle.prost_reflect_wire.specs.Grammar.{body, or_none, records_in, is_stray, one_allowed, field_allowed, allows}
@@ -17,8 +15,8 @@ use Rattle.prost_reflect_wire.specs.Typing.{kept, kept_value, kept_inside, kind_
 use Rattle.prost_reflect_wire.specs.Edit.{message_of}
 use Rattle.prost_reflect_wire.specs.Levels.{greatest_level}
 use Rattle.prost_reflect_wire.specs.Storing.{with_stored}
-use Rattle.prost_reflect_wire.specs.Decoding.{ReadTo, Holds, Step, StandsBehindKey}
-use Rattle.prost_reflect_wire.specs.Fault.{OfType, StandsInMessage, Stands, Here, InMessage, InGroup, one_takes, takes, is_map, needs_level, opens_level}
+use Rattle.prost_reflect_wire.specs.Decoding.{ReadTo, Holds, Step}
+use Rattle.prost_reflect_wire.specs.Fault.{one_takes, takes, is_map, needs_level}
 use Rattle.prost_reflect_wire.proofs.Deeper.{and_both, both_true}
 use Rattle.prost_reflect_laws.proofs.Older.{items_level, allowed_levels}
 use Rattle.prost_reflect_wire.proofs.Reading.{spelled_read}
@@ -34,7 +32,6 @@ use Rattle.prost_reflect_laws.proofs.Arranged.{OrderedOption}
 use Rattle.prost_reflect_laws.proofs.StoredSteps.{value_in_order}
 use Rattle.prost_reflect_laws.proofs.StoredTyped.{OptionTyped, typed_values}
 use Rattle.prost_reflect_laws.proofs.Readings.{whole_spelled}
-use Rattle.prost_reflect_wire.proofs.PlaceFaults.{plain_stands}
 use Rattle.prost_reflect_laws.proofs.StoredPasses.{OptionPasses, SlotPasses, passes_slots}
 use Rattle.prost_reflect_laws.proofs.JoinedSteps.{kept_old, value_holds}
 
@@ -227,38 +224,3 @@ needs_nested Singular (GroupOf V) U w form e = refl
 needs_nested (Repeated packed) (ScalarOf kind) U w form e = cc
 needs_nested (Repeated packed) (MessageOf V) U w form e = refl
 needs_nested (Repeated packed) (GroupOf V) U w form e = refl
-
-module _ (c : Content) (n U : ℕ) (kind : Kind) (at : FoundNested (schema_of c) (type_of c) n U kind) where
-  -- an end key ends no group here
-  pub nested_end : (levels : ℕ) (rest : List ℕ) → StandsBehindKey c levels n wires.EndGroup errors.EndGroup rest
-  nested_end levels rest = λ bytes opened key closes. Here (record { number = n; wire = wires.EndGroup; rest = rest; key = key; behind = (refl, closes refl) })
-
-  -- another wire type
-  pub nested_wire : (levels : ℕ) (w : WireType) (rest : List ℕ) → w ≢ wires.EndGroup → one_takes kind w ≡ false → StandsBehindKey c levels n w errors.WireType rest
-  nested_wire levels w rest unended other = λ bytes opened key closes. Here (record {
-    number = n;
-    wire = w;
-    field = at.field;
-    rest = rest;
-    key = key;
-    found = at.found;
-    behind = (unended, takes_nested at.field.form at.field.value_type.kind U w at.form (ap message_of at.kind_is ∙ at.names) ∙ ap (λ kind. one_takes kind w) at.kind_is ∙ other);
-  })
-
-  -- no level is left
-  pub nested_depth : (w : WireType) (rest : List ℕ) → one_takes kind w ≡ true → StandsBehindKey c 0 n w errors.Depth rest
-  nested_depth w rest taken = λ bytes opened key closes. Here (refl, record { number = n; wire = w; rest = rest; key = key; behind = opens })
-    where
-      opens : opens_level (field_of (known (schema_of c) (type_of c)) n) w ≡ true
-      opens = ap (λ o. opens_level o w) at.found ∙ needs_nested at.field.form at.field.value_type.kind U w at.form (ap message_of at.kind_is ∙ at.names) ∙ ap (λ kind. one_takes kind w) at.kind_is ∙ taken
-
-  -- the payload is cut short
-  pub nested_plain : (levels : ℕ) (w : WireType) (e : DecodeError) (rest : List ℕ) → PlainFault e w rest → StandsBehindKey c levels n w e rest
-  nested_plain levels w e rest fault = λ bytes opened key closes. plain_stands (schema_of c) (record { bytes = bytes; inside = OfType (type_of c); levels = levels; open_group = opened }) e n w rest key fault
-
-  -- a fault stands inside, one level fewer
-  pub message_refused : (k : ℕ) (e : DecodeError) (inside_bytes rest after : List ℕ) → kind ≡ MessageOf U → DelimitedFront inside_bytes rest after → StandsInMessage (schema_of c) U k e inside_bytes → StandsBehindKey c (suc k) n wires.LengthDelimited e rest
-  message_refused k e inside_bytes rest after is front stands = λ bytes opened key closes. InMessage n U k at.field inside_bytes rest after at.found at.form (at.kind_is ∙ is) refl key front stands
-
-  pub group_refused : (k : ℕ) (e : DecodeError) (rest : List ℕ) → kind ≡ GroupOf U → Stands (schema_of c) e (record { bytes = rest; inside = OfType U; levels = k; open_group = Some n }) → StandsBehindKey c (suc k) n wires.StartGroup e rest
-  group_refused k e rest is stands = λ bytes opened key closes. InGroup n U k at.field rest at.found at.form (at.kind_is ∙ is) refl key stands

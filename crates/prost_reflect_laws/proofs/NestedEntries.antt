@@ -9,7 +9,7 @@ use Rattle.prost_reflect_wire.specs.declared.key.WireType.{WireType}
 use Rattle.prost_reflect_wire.specs.declared.key.WireType.TheVariants as wires
 use Rattle.prost_reflect_wire.specs.Varint.{AreBytes, ◌>>=◌}
 use Rattle.prost_reflect_wire.specs.Record.{Len, Record, Records, Payload, Flat, record_at, body_of, items, payload_levels}
-use Rattle.prost_reflect_wire.specs.Front.{KeyFront, DelimitedFront, KeyFault, PlainFault}
+use Rattle.prost_reflect_wire.specs.Front.{KeyFront, DelimitedFront, KeyFault}
 use Rattle.prost_reflect_wire.specs.Scalar.{Scalar, ScalarKind, kind_default, scalar_valid}
 use Rattle.prost_reflect_wire.specs.Schema.{Kind, ScalarOf, MessageOf, ValueType, MapFrom, Field, Schema, known, field_of, is_message, is_key_kind, field_valid, numbers_differ, passes}
 use Rattle.prost_reflect_wire.specs.Content.{Content, ContentOf, Entries, MessageValue, MapValue, empty, value_at, changed, schema_of, type_of}
@@ -19,7 +19,7 @@ use Rattle.prost_reflect_wire.specs.Typing.{kept, kind_takes, WellStored}
 use Rattle.prost_reflect_wire.specs.Edit.{message_of}
 use Rattle.prost_reflect_wire.specs.Storing.{with_stored}
 use Rattle.prost_reflect_wire.specs.Unknown.{SkipsValue}
-use Rattle.prost_reflect_wire.specs.Fault.{Stands, Here, InMessage, StandsInMessage, entry_field, opens_level, needs_level, one_takes, same_wire, ValueFault}
+use Rattle.prost_reflect_wire.specs.Fault.{Stands, Here, entry_field, opens_level, needs_level, ValueFault}
 use Rattle.prost_reflect_wire.specs.Decoding.{Holds, Step, ScalarRead, ScalarFault, StandsBehindKey}
 use Rattle.prost_reflect_wire.specs.EntryReading.{EntryTo, EntryPlace, plain_type}
 use Rattle.prost_reflect_wire.specs.MessageEntries.{nested_type, NestedEntryTo, NestedValueRead, NestedValueFault, StandsInNestedEntry}
@@ -28,12 +28,12 @@ use Rattle.prost_reflect_wire.proofs.Reading.{spelled_read}
 use Rattle.prost_reflect_wire.proofs.Bodies.{items_body}
 use Rattle.prost_reflect_wire.proofs.RecordFronts.{record_front, none_front}
 use Rattle.prost_reflect_laws.proofs.Readings.{whole_spelled}
-use Rattle.prost_reflect_wire.proofs.PlaceFaults.{key_stands, value_stands, plain_stands}
+use Rattle.prost_reflect_wire.proofs.PlaceFaults.{key_stands, value_stands}
 use Rattle.prost_reflect_laws.proofs.ScalarFaults.{scalar_stands}
 use Rattle.prost_reflect_wire.proofs.Survivors.{field_number}
 use Rattle.prost_reflect_laws.proofs.Allowed.{inside}
 use Rattle.prost_reflect_laws.proofs.Means.{below}
-use Rattle.prost_reflect_laws.proofs.MessageSteps.{is_its_type, takes_nested, needs_nested}
+use Rattle.prost_reflect_laws.proofs.MessageSteps.{is_its_type}
 use Rattle.prost_reflect_laws.proofs.EntryReads.{numbered_last, numbered_other, last_read, one_two, two_one, no_group, entry_more, entry_behind}
 use Rattle.prost_reflect_laws.proofs.MapSteps.{PairStored, FoundMap, entry_holds}
 use Rattle.prost_reflect_laws.proofs.ScalarEntries.{map_keyed, delimited_bytes, entry_key_valid}
@@ -45,46 +45,6 @@ joined_last n rs r own =
 
 one_content : {c d : Content} → MessageValue c ≡ MessageValue d → c ≡ d
 one_content e = cc
-
--- WHY NO VALUE IS READ
-
-module _ (schema : Schema) (n U : ℕ) where
-  -- an end key ends no group here
-  pub value_end : (levels : ℕ) (rest : List ℕ) → NestedValueFault schema levels n U wires.EndGroup errors.EndGroup rest
-  value_end levels rest = λ place f left found form is key closes. Here (record { number = n; wire = wires.EndGroup; rest = rest; key = key; behind = (refl, closes refl) })
-
-  -- another wire type
-  pub value_wire : (levels : ℕ) (w : WireType) (rest : List ℕ) → w ≢ wires.EndGroup → same_wire w wires.LengthDelimited ≡ false → NestedValueFault schema levels n U w errors.WireType rest
-  value_wire levels w rest unended other = λ place f left found form is key closes. Here (record {
-    number = n;
-    wire = w;
-    field = f;
-    rest = rest;
-    key = key;
-    found = found;
-    behind = (unended, takes_nested f.form f.value_type.kind U w form (ap message_of is) ∙ ap (λ kind. one_takes kind w) is ∙ other);
-  })
-
-  -- no level is left
-  pub value_depth : (rest : List ℕ) → NestedValueFault schema 0 n U wires.LengthDelimited errors.Depth rest
-  value_depth rest = λ place f left found form is key closes. Here (
-    left,
-    record {
-      number = n;
-      wire = wires.LengthDelimited;
-      rest = rest;
-      key = key;
-      behind = ap (λ o. opens_level o wires.LengthDelimited) found ∙ needs_nested f.form f.value_type.kind U wires.LengthDelimited form (ap message_of is) ∙ ap (λ kind. one_takes kind wires.LengthDelimited) is;
-    },
-  )
-
-  -- the payload is cut short
-  pub value_plain : (levels : ℕ) (w : WireType) (e : DecodeError) (rest : List ℕ) → PlainFault e w rest → NestedValueFault schema levels n U w e rest
-  value_plain levels w e rest fault = λ place f left found form is key closes. plain_stands schema place e n w rest key fault
-
-  -- a fault stands inside, one level fewer
-  pub value_inside : (k : ℕ) (e : DecodeError) (inside_bytes rest after : List ℕ) → DelimitedFront inside_bytes rest after → StandsInMessage schema U k e inside_bytes → NestedValueFault schema (suc k) n U wires.LengthDelimited e rest
-  value_inside k e inside_bytes rest after front stands = λ place f left found form is key closes. InMessage n U k f inside_bytes rest after found form is left key front stands
 
 -- ONE RECORD MORE
 

@@ -4,9 +4,9 @@ use Rattle.std.specs.Prelude.{bytes_eq, find, option_map}
 use Rattle.std.specs.BTreeMap.{BTreeMap, get_by_text}
 use Rattle.std.specs.declared.alloc.Global.{Global}
 use Rattle.std.proofs.lemmas.List.{take_more, map-append}
-use Rattle.prost_reflect_records.specs.declared.EnumValueDescriptorProto.{EnumValueDescriptorProto}
-use Rattle.prost_reflect_tables.specs.declared.flatten.Definition.{Definition}
-use Rattle.prost_reflect_tables.specs.declared.flatten.FlatEnum.{FlatEnum}
+use Rattle.prost_reflect_types.specs.declared.EnumValueDescriptorProto.{EnumValueDescriptorProto}
+use Rattle.prost_reflect_tables.specs.declared.build.flatten.Definition.{Definition}
+use Rattle.prost_reflect_tables.specs.declared.build.flatten.FlatEnum.{FlatEnum}
 use Rattle.prost_reflect_tables.specs.Names.{text_or_empty}
 use Rattle.prost_reflect_tables.specs.Rows.{EnumValueRow}
 use Rattle.prost_reflect_tables.specs.Flat.{FlatEnumRow}

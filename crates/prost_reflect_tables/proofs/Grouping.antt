@@ -7,10 +7,10 @@ use Rattle.std.proofs.lemmas.Bool.{eq-eqb, ne_eqb}
 use Rattle.prost_reflect_tables.specs.Linking.{Links, is_place, belonging, linked_field, declared_fields, fields_of_message, extended_place, linked_message, messages_from, linked_oneof, oneof_place, oneofs_from, links_of, linked_enum, linked_rows}
 use Rattle.prost_reflect_tables.specs.declared.tables.FieldTable.{FieldTable}
 use Rattle.prost_reflect_tables.specs.Rows.{FieldRow, OneofRow, MessageRow, EnumRow, field_row, oneof_row, enum_row, rows_from, message_row as table_row}
-use Rattle.prost_reflect_records.specs.declared.FieldDescriptorProto.{FieldDescriptorProto}
-use Rattle.prost_reflect_records.specs.declared.OneofDescriptorProto.{OneofDescriptorProto}
-use Rattle.prost_reflect_tables.specs.declared.flatten.Definition.{Definition}
-use Rattle.prost_reflect_tables.specs.declared.flatten.FlatMessage.{FlatMessage}
+use Rattle.prost_reflect_types.specs.declared.FieldDescriptorProto.{FieldDescriptorProto}
+use Rattle.prost_reflect_types.specs.declared.OneofDescriptorProto.{OneofDescriptorProto}
+use Rattle.prost_reflect_tables.specs.declared.build.flatten.Definition.{Definition}
+use Rattle.prost_reflect_tables.specs.declared.build.flatten.FlatMessage.{FlatMessage}
 use Rattle.prost_reflect_tables.specs.declared.tables.OneofTable.{OneofTable}
 use Rattle.prost_reflect_tables.specs.declared.tables.MessageTable.{MessageTable}
 use Rattle.prost_reflect_tables.specs.declared.tables.EnumTable.{EnumTable}

@@ -1,3 +1,4 @@
+mod Walks
 mod Ascending
 mod Positions
 pub mod Keeping

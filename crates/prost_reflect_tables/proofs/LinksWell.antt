@@ -5,8 +5,8 @@ use Rattle.std.proofs.lemmas.Bool.{and_from, lt-ltb, eqb-false}
 use Rattle.std.proofs.lemmas.List.{length-map}
 use Rattle.std.proofs.lemmas.List.Folds.{list_all-map}
 use Rattle.prost_reflect_wire.specs.Schema.{schema_valid}
-use Rattle.prost_reflect_records.specs.declared.FieldDescriptorProto.{FieldDescriptorProto}
-use Rattle.prost_reflect_records.specs.declared.FileDescriptorProto.{FileDescriptorProto}
+use Rattle.prost_reflect_types.specs.declared.FieldDescriptorProto.{FieldDescriptorProto}
+use Rattle.prost_reflect_types.specs.declared.FileDescriptorProto.{FileDescriptorProto}
 use Rattle.prost_reflect_tables.specs.Shown.{schema_from}
 use Rattle.prost_reflect_tables.specs.Linked.{kind_in_range, oneof_in_range, field_linked, has_entry_numbers, message_linked, enum_linked, is_linked}
 use Rattle.prost_reflect_tables.specs.Flat.{DefinitionRow, FlatMessageRow, FlatEnumRow, FlatRows}
@@ -15,7 +15,7 @@ use Rattle.prost_reflect_tables.specs.EntryFaults.{is_entry}
 use Rattle.prost_reflect_tables.specs.Linking.{links_of, place_in, linked_field, linked_message, linked_enum, linked_rows, value_number, in_order, oneofs_from, fields_of_message}
 use Rattle.prost_reflect_tables.proofs.Linkwell.Items.{none_at, all_from, messages_all}
 use Rattle.prost_reflect_tables.proofs.Linkwell.Numbers.{counted_once}
-use Rattle.prost_reflect_tables.proofs.Linkwell.Premises.{Sound, FieldChecked, field_checked, extension_checked, message_checked, enum_checked}
+use Rattle.prost_reflect_tables.proofs.Linkwell.Premises.{Sound, FieldChecked, numbers_differ, field_checked, extension_checked, message_checked, enum_checked}
 use Rattle.prost_reflect_tables.proofs.Linkwell.Kinds.{field_kind}
 use Rattle.prost_reflect_tables.proofs.Linkwell.Fields.{kind_row, oneof_row, kind_there, oneof_there}
 use Rattle.prost_reflect_tables.proofs.Linkwell.Messages.{fields_all, NumbersSound, numbers_ascend, oneofs_linked, oneofs_length}
@@ -26,7 +26,7 @@ numbers_sound : {files : List FileDescriptorProto} (rows : FlatRows) → Sound f
 numbers_sound rows s = record {
   own = λ T i m d at there. (field_checked rows T i m d s at there).number;
   extensions = λ i d at. (extension_checked rows i d s at).field.number;
-  once = λ n. counted_once n (all_numbered rows) s.checked.numbers_differ;
+  once = λ n. counted_once n (all_numbered rows) (numbers_differ rows s);
 }
 
 -- The place of a kind and that of a oneof are there.

@@ -1,33 +1,44 @@
--- No fault stands in checked files.
-use Rattle.std.proofs.Common.{◌≡◌, true, false, List, sym, ◌∙◌, true≢false}
-use Rattle.std.specs.Prelude.{Bool}
-use Rattle.prost_reflect_records.specs.declared.FileDescriptorProto.{FileDescriptorProto}
+-- Files that have none of the faults pass the checks, and no fault stands in files that do.
+use Rattle.std.proofs.Common.{◌≡◌, ℕ, false, List, [], ◌∷◌, Some, slice_get, refl, sym, ◌∙◌, true≢false}
+use Rattle.std.specs.List.{list_any}
+use Rattle.prost_reflect_types.specs.declared.FileDescriptorProto.{FileDescriptorProto}
 use Rattle.prost_reflect_tables.specs.declared.error.PoolError.{PoolError}
 use Rattle.prost_reflect_tables.specs.declared.error.PoolError.TheVariants as errors
 use Rattle.prost_reflect_tables.specs.Flat.{FlatRows}
-use Rattle.prost_reflect_tables.specs.Checked.{Checked, Stands}
-
-no : (b : Bool) → b ≡ true → b ≡ false → ⊥
-no b is isnt = true≢false (sym is ∙ isnt)
+use Rattle.prost_reflect_tables.specs.Checked.{has_fault, Checked, Stands}
+use Rattle.prost_reflect_tables.proofs.Linkwell.Items.{none_at}
 
 pub stands_unchecked : (e : PoolError) (files : List FileDescriptorProto) (rows : FlatRows) → Stands e files rows → Checked files rows → ⊥
-stands_unchecked errors.MissingName files rows s c = no _ s c.own.named
-stands_unchecked errors.UnknownSyntax files rows s c = no _ s c.own.syntaxes
-stands_unchecked errors.MissingDependency files rows s c = no _ s c.dependencies
-stands_unchecked errors.BadIndex files rows s c = no _ s c.own.indices
-stands_unchecked errors.BadNumber files rows s c = no _ s c.own.numbers
-stands_unchecked errors.BadRange files rows s c = no _ s c.own.ranges
-stands_unchecked errors.MissingType files rows s c = no _ s c.own.types
-stands_unchecked errors.BadLabel files rows s c = no _ s c.own.labels
-stands_unchecked errors.BadOneof files rows s c = no _ s c.own.oneofs
-stands_unchecked errors.EmptyEnum files rows s c = no _ s c.own.enums
-stands_unchecked errors.DuplicateName files rows s c = no _ s c.names_differ
-stands_unchecked errors.UnknownType files rows s c = no _ s c.names_found
-stands_unchecked errors.DuplicateNumber files rows s c = no _ s c.numbers_differ
-stands_unchecked errors.OutsideRange files rows s c = no _ s c.in_ranges
-stands_unchecked (errors.Decode d) files rows s c = s
-stands_unchecked errors.BadMapEntry files rows s c = no _ s c.entries
-stands_unchecked errors.BadDefault files rows s c = no _ s c.defaults
-stands_unchecked errors.FloatDefault files rows s c = no _ s c.float_defaults
-stands_unchecked errors.BadOptions files rows s c = no _ s c.options
-stands_unchecked errors.OutOfMemory files rows s c = s
+stands_unchecked e files rows stands checked = true≢false (sym stands ∙ checked e)
+
+-- The faults in the order in which they are looked for.
+abbrev faults : List PoolError
+faults = errors.MissingName ∷ errors.UnknownSyntax ∷ errors.BadIndex ∷ errors.BadNumber ∷ errors.BadRange ∷ errors.MissingType ∷ errors.BadLabel ∷ errors.BadOneof ∷ errors.EmptyEnum ∷ errors.BadOptions ∷ errors.MissingDependency ∷ errors.DuplicateName ∷ errors.UnknownType ∷ errors.DuplicateNumber ∷ errors.OutsideRange ∷ errors.BadMapEntry ∷ errors.BadDefault ∷ errors.FloatDefault ∷ []
+
+pub none_found : (files : List FileDescriptorProto) (rows : FlatRows) → list_any (λ e. has_fault e files rows) faults ≡ false → Checked files rows
+none_found files rows none e = go e
+  where
+    at : (i : ℕ) (e : PoolError) → slice_get faults i ≡ Some e → has_fault e files rows ≡ false
+    at i e there = none_at (λ e. has_fault e files rows) faults i e none there
+
+    go : (e : PoolError) → has_fault e files rows ≡ false
+    go errors.MissingName = at 0 errors.MissingName refl
+    go errors.UnknownSyntax = at 1 errors.UnknownSyntax refl
+    go errors.BadIndex = at 2 errors.BadIndex refl
+    go errors.BadNumber = at 3 errors.BadNumber refl
+    go errors.BadRange = at 4 errors.BadRange refl
+    go errors.MissingType = at 5 errors.MissingType refl
+    go errors.BadLabel = at 6 errors.BadLabel refl
+    go errors.BadOneof = at 7 errors.BadOneof refl
+    go errors.EmptyEnum = at 8 errors.EmptyEnum refl
+    go errors.BadOptions = at 9 errors.BadOptions refl
+    go errors.MissingDependency = at 10 errors.MissingDependency refl
+    go errors.DuplicateName = at 11 errors.DuplicateName refl
+    go errors.UnknownType = at 12 errors.UnknownType refl
+    go errors.DuplicateNumber = at 13 errors.DuplicateNumber refl
+    go errors.OutsideRange = at 14 errors.OutsideRange refl
+    go errors.BadMapEntry = at 15 errors.BadMapEntry refl
+    go errors.BadDefault = at 16 errors.BadDefault refl
+    go errors.FloatDefault = at 17 errors.FloatDefault refl
+    go (errors.Decode d) = refl
+    go errors.OutOfMemory = refl

@@ -4,10 +4,10 @@ use Rattle.std.specs.Prelude.{option_and_then, slice_get}
 use Rattle.std.specs.List.{AllZip, list_any}
 use Rattle.std.proofs.lemmas.List.Elements.{length_all_zip}
 use Rattle.std.specs.declared.alloc.Global.{Global}
-use Rattle.prost_reflect_records.specs.declared.FileDescriptorProto.{FileDescriptorProto}
-use Rattle.prost_reflect_records.specs.declared.FieldDescriptorProto.{FieldDescriptorProto}
-use Rattle.prost_reflect_records.specs.declared.MethodDescriptorProto.{MethodDescriptorProto}
-use Rattle.prost_reflect_records.proofs.EqualContents.{SameText, SameTexts, SameExtensionRange, SameReservedRange, SameField, SameOneof, SameEnumReservedRange, SameEnumValue, SameMethod, SameFile, zip_same}
+use Rattle.prost_reflect_types.specs.declared.FileDescriptorProto.{FileDescriptorProto}
+use Rattle.prost_reflect_types.specs.declared.FieldDescriptorProto.{FieldDescriptorProto}
+use Rattle.prost_reflect_types.specs.declared.MethodDescriptorProto.{MethodDescriptorProto}
+use Rattle.prost_reflect_types.proofs.EqualContents.{SameText, SameTexts, SameExtensionRange, SameReservedRange, SameField, SameOneof, SameEnumReservedRange, SameEnumValue, SameMethod, SameFile, zip_same}
 use Rattle.prost_reflect_tables.specs.Names.{text_or_empty, without_dot}
 use Rattle.prost_reflect_tables.specs.Flat.{DefinitionRow, FlatMessageRow, FlatEnumRow, FlatServiceRow, FlatRows}
 use Rattle.prost_reflect_tables.specs.Faults.{any_field, is_unnamed, message_unnamed, enum_unnamed, service_unnamed, missing_name, syntax_unknown, unknown_syntax, is_outside, import_outside, oneof_outside, has_oneof_outside, bad_index, number_bad, bad_number, range_bad, message_range_bad, enum_range_bad, bad_range, type_missing, extendee_missing, method_type_missing, missing_type, label_bad, bad_label, is_member, repeated_member, bad_oneof, enum_empty, empty_enum, names_of, names_in_messages, names_in_enums, names_in_services, repeats, duplicate_name, place_of, place_named, file_names, message_names, enum_names, dependency_missing, missing_dependency, names_nothing, type_unknown, extendee_unknown, method_type_unknown, unknown_type, is_in_range, message_named, is_out_of, extension_outside, outside_range, Numbered, number_or_zero, numbered_fields, numbered_in, numbered_at, numbered_extensions, number_repeats, duplicate_number}

@@ -4,16 +4,16 @@ use Rattle.std.specs.Prelude.{codes}
 use Rattle.std.specs.List.{AllZip}
 use Rattle.std.proofs.lemmas.List.Elements.{length_all_zip}
 use Rattle.std.specs.declared.alloc.Global.{Global}
-use Rattle.prost_reflect_records.specs.declared.FieldDescriptorProto.{FieldDescriptorProto}
-use Rattle.prost_reflect_records.specs.declared.EnumDescriptorProto.{EnumDescriptorProto}
-use Rattle.prost_reflect_records.specs.declared.ServiceDescriptorProto.{ServiceDescriptorProto}
-use Rattle.prost_reflect_records.specs.declared.FileDescriptorProto.{FileDescriptorProto}
-use Rattle.prost_reflect_records.specs.declared.DescriptorProto.{DescriptorProto}
-use Rattle.prost_reflect_records.specs.declared.DescriptorProto.TheOpen.{DescriptorProto-F}
-use Rattle.prost_reflect_records.specs.declared.DescriptorProto.TheViews.{out-DescriptorProto}
-use Rattle.prost_reflect_records.specs.declared.DescriptorProto.TheFolds.{fold-roll-DescriptorProto, fold_out-DescriptorProto, ind-DescriptorProto, map-DescriptorProto}
-use Rattle.prost_reflect_records.specs.DescriptorViews.{of_message}
-use Rattle.prost_reflect_records.proofs.EqualContents.{SameText, SameField, SameOneof, SameEnumValue, SameEnum, SameMethod, SameService, SameLayer, SameFile, message_same}
+use Rattle.prost_reflect_types.specs.declared.FieldDescriptorProto.{FieldDescriptorProto}
+use Rattle.prost_reflect_types.specs.declared.EnumDescriptorProto.{EnumDescriptorProto}
+use Rattle.prost_reflect_types.specs.declared.ServiceDescriptorProto.{ServiceDescriptorProto}
+use Rattle.prost_reflect_types.specs.declared.FileDescriptorProto.{FileDescriptorProto}
+use Rattle.prost_reflect_types.specs.declared.DescriptorProto.{DescriptorProto}
+use Rattle.prost_reflect_types.specs.declared.DescriptorProto.TheOpen.{DescriptorProto-F}
+use Rattle.prost_reflect_types.specs.declared.DescriptorProto.TheViews.{out-DescriptorProto}
+use Rattle.prost_reflect_types.specs.declared.DescriptorProto.TheFolds.{fold-roll-DescriptorProto, fold_out-DescriptorProto, ind-DescriptorProto, map-DescriptorProto}
+use Rattle.prost_reflect_types.specs.DescriptorViews.{of_message}
+use Rattle.prost_reflect_types.proofs.EqualContents.{SameText, SameField, SameOneof, SameEnumValue, SameEnum, SameMethod, SameService, SameLayer, SameFile, message_same}
 use Rattle.prost_reflect_tables.specs.Names.{joined}
 use Rattle.prost_reflect_tables.specs.Flat.{ScopeRow, DefinitionRow, Placed, defined, defined_from, field_name, oneof_name, value_name, method_name, enum_at, enums_from, service_at, services_from, all_from, inside, message_parts, own_message, message_step, message_at, file_scope, file_at, files_from, flattened}
 use Rattle.prost_reflect_tables.proofs.SameRows.{zip_append, text_same, SameRow, SameParts, SameMessageRow, SameEnumRow, SameServiceRow, SameRows, SameGiven}

@@ -2,10 +2,10 @@
 use Rattle.std.proofs.Common.{◌≡◌, ℕ, ◌+◌, Bool, true, false, List, [], ◌∷◌, ◌++◌, map, Option, None, String, Vec, refl, ap, ap₂, ◌∙◌}
 use Rattle.std.specs.List.{AllZip}
 use Rattle.std.specs.declared.alloc.Global.{Global}
-use Rattle.prost_reflect_records.specs.declared.FieldDescriptorProto.{FieldDescriptorProto}
-use Rattle.prost_reflect_records.specs.declared.OneofDescriptorProto.{OneofDescriptorProto}
-use Rattle.prost_reflect_records.specs.declared.EnumValueDescriptorProto.{EnumValueDescriptorProto}
-use Rattle.prost_reflect_records.proofs.EqualContents.{SameText, SameBytes, SameField, SameOneof, SameEnumValue}
+use Rattle.prost_reflect_types.specs.declared.FieldDescriptorProto.{FieldDescriptorProto}
+use Rattle.prost_reflect_types.specs.declared.OneofDescriptorProto.{OneofDescriptorProto}
+use Rattle.prost_reflect_types.specs.declared.EnumValueDescriptorProto.{EnumValueDescriptorProto}
+use Rattle.prost_reflect_types.proofs.EqualContents.{SameText, SameBytes, SameField, SameOneof, SameEnumValue}
 use Rattle.prost_reflect_tables.specs.declared.tables.TableKind.{TableKind}
 use Rattle.prost_reflect_tables.specs.Names.{without_dot}
 use Rattle.prost_reflect_tables.specs.Options.{bool_option, bool_in}

@@ -3,9 +3,9 @@ use Rattle.std.proofs.Common.{◌≡◌, ℕ, nat_eq, true, not, ◌&&◌, ◌||
 use Rattle.std.specs.List.{AllZip, list_any}
 use Rattle.std.proofs.lemmas.List.Elements.{length_all_zip}
 use Rattle.std.specs.declared.alloc.Global.{Global}
-use Rattle.prost_reflect_records.specs.declared.FieldDescriptorProto.{FieldDescriptorProto}
-use Rattle.prost_reflect_records.specs.declared.MethodDescriptorProto.{MethodDescriptorProto}
-use Rattle.prost_reflect_records.proofs.EqualContents.{SameText, SameBytes, SameExtensionRange, SameField, SameMethod}
+use Rattle.prost_reflect_types.specs.declared.FieldDescriptorProto.{FieldDescriptorProto}
+use Rattle.prost_reflect_types.specs.declared.MethodDescriptorProto.{MethodDescriptorProto}
+use Rattle.prost_reflect_types.proofs.EqualContents.{SameText, SameBytes, SameExtensionRange, SameField, SameMethod}
 use Rattle.prost_reflect_tables.specs.Flat.{DefinitionRow, FlatMessageRow, FlatRows}
 use Rattle.prost_reflect_tables.specs.Linking.{Links, links_of, linked_kind}
 use Rattle.prost_reflect_tables.specs.DefaultFaults.{default_misplaced, default_unread, default_bad, bad_default, float_default_bad, float_default}

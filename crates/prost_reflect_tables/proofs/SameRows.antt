@@ -3,7 +3,7 @@ use Rattle.std.proofs.Common.{◌≡◌, ℕ, Bool, true, false, cond, ◌||◌,
 use Rattle.std.specs.Prelude.{filter}
 use Rattle.std.specs.List.{AllZip, list_any}
 use Rattle.std.specs.declared.alloc.Global.{Global}
-use Rattle.prost_reflect_records.proofs.EqualContents.{SameText, SameBytes, SameExtensionRange, SameReservedRange, SameField, SameOneof, SameEnumValue, SameEnum, SameMethod, SameService}
+use Rattle.prost_reflect_types.proofs.EqualContents.{SameText, SameBytes, SameExtensionRange, SameReservedRange, SameField, SameOneof, SameEnumValue, SameEnum, SameMethod, SameService}
 use Rattle.prost_reflect_tables.specs.Names.{text_or_empty}
 use Rattle.prost_reflect_tables.specs.Flat.{DefinitionRow, MessageParts, FlatMessageRow, FlatEnumRow, FlatServiceRow, FlatRows, Given}
 

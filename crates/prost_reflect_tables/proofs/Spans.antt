@@ -8,10 +8,10 @@ use Rattle.std.proofs.lemmas.List.{take_more, map-append, get_or_default}
 use Rattle.std.proofs.lemmas.List.Sorted.{list_any-IsPermutation}
 use Rattle.std.proofs.lemmas.List.Folds.{list_any_at}
 use Rattle.std.proofs.lemmas.Bool.{cases_lt}
-use Rattle.prost_reflect_records.specs.declared.ExtensionRange.{ExtensionRange}
-use Rattle.prost_reflect_records.specs.declared.FieldDescriptorProto.{FieldDescriptorProto}
-use Rattle.prost_reflect_tables.specs.declared.flatten.Flat.{Flat}
-use Rattle.prost_reflect_tables.specs.declared.flatten.FlatMessage.{FlatMessage}
+use Rattle.prost_reflect_types.specs.declared.ExtensionRange.{ExtensionRange}
+use Rattle.prost_reflect_types.specs.declared.FieldDescriptorProto.{FieldDescriptorProto}
+use Rattle.prost_reflect_tables.specs.declared.build.flatten.Flat.{Flat}
+use Rattle.prost_reflect_tables.specs.declared.build.flatten.FlatMessage.{FlatMessage}
 use Rattle.prost_reflect_tables.specs.Flat.{DefinitionRow, FlatMessageRow}
 use Rattle.prost_reflect_tables.specs.FlatViews.{message_row, flat_rows}
 use Rattle.prost_reflect_tables.specs.Faults.{is_in_range, is_out_of, number_or_zero, place_named, message_names, extension_outside}

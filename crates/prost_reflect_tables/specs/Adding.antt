@@ -3,7 +3,7 @@ use Rattle.std.specs.Prelude.{◌≡◌, ℕ, Bool, not, ◌&&◌, List, [], ◌
 use Rattle.std.specs.List.{list_any}
 use Rattle.std.specs.BTreeSet.{BTreeSet, contains_text}
 use Rattle.std.specs.declared.alloc.Global.{Global}
-use Rattle.prost_reflect_records.specs.declared.FileDescriptorProto.{FileDescriptorProto}
+use Rattle.prost_reflect_types.specs.declared.FileDescriptorProto.{FileDescriptorProto}
 use Rattle.prost_reflect_tables.specs.Names.{text_or_empty}
 use Rattle.prost_reflect_tables.specs.Faults.{is_unnamed}
 

@@ -1,6 +1,6 @@
 -- Option bytes, and the keys and values of map entries, as the checks take them (descriptor.proto, `FieldOptions.packed` and `MessageOptions.map_entry`; the language guide, "Maps").
 use Rattle.std.specs.Prelude.{◌≡◌, pos, negsuc, true, false, [], ◌∷◌, map, Some, None}
-use Rattle.prost_reflect_records.specs.declared.FieldDescriptorProto.{FieldDescriptorProto}
+use Rattle.prost_reflect_types.specs.declared.FieldDescriptorProto.{FieldDescriptorProto}
 use Rattle.prost_reflect_tables.specs.Flat.{DefinitionRow}
 use Rattle.prost_reflect_tables.specs.EntryFaults.{is_key_type, is_entry_key, is_entry_value, is_key_and_value}
 use Rattle.prost_reflect_tables.specs.OptionFaults.{bytes_suit_option, option_bad}

@@ -1,6 +1,6 @@
--- When files make a pool, and why they make none.
-use Rattle.std.specs.Prelude.{◌≡◌, true, false, List}
-use Rattle.prost_reflect_records.specs.declared.FileDescriptorProto.{FileDescriptorProto}
+-- The faults of files: when files make a pool, and why they make none.
+use Rattle.std.specs.Prelude.{◌≡◌, Bool, true, false, List}
+use Rattle.prost_reflect_types.specs.declared.FileDescriptorProto.{FileDescriptorProto}
 use Rattle.prost_reflect_tables.specs.declared.error.PoolError.{PoolError}
 use Rattle.prost_reflect_tables.specs.declared.error.PoolError.TheVariants.{MissingName, UnknownSyntax, MissingDependency, BadIndex, BadNumber, BadRange, MissingType, BadLabel, BadOneof, EmptyEnum, DuplicateName, UnknownType, DuplicateNumber, OutsideRange, BadMapEntry, BadDefault, FloatDefault, BadOptions}
 use Rattle.prost_reflect_tables.specs.Flat.{FlatRows}
@@ -9,48 +9,32 @@ use Rattle.prost_reflect_tables.specs.EntryFaults.{bad_map_entry}
 use Rattle.prost_reflect_tables.specs.OptionFaults.{bad_options}
 use Rattle.prost_reflect_tables.specs.DefaultFaults.{bad_default, float_default}
 
--- Of definitions that name no other one.
-pub record OwnChecks (files : List FileDescriptorProto) (rows : FlatRows) : Type 0 where
-  pub named : missing_name files rows ≡ false
-  pub syntaxes : unknown_syntax files ≡ false
-  pub indices : bad_index files rows ≡ false
-  pub numbers : bad_number rows ≡ false
-  pub ranges : bad_range rows ≡ false
-  pub types : missing_type rows ≡ false
-  pub labels : bad_label rows ≡ false
-  pub oneofs : bad_oneof rows ≡ false
-  pub enums : empty_enum rows ≡ false
+-- Whether files have a fault, by the name of the refusal. A refusal that says nothing of the definitions names none.
+abbrev pub has_fault : PoolError → List FileDescriptorProto → FlatRows → Bool
+has_fault MissingName files rows = missing_name files rows
+has_fault UnknownSyntax files rows = unknown_syntax files
+has_fault MissingDependency files rows = missing_dependency files
+has_fault BadIndex files rows = bad_index files rows
+has_fault BadNumber files rows = bad_number rows
+has_fault BadRange files rows = bad_range rows
+has_fault MissingType files rows = missing_type rows
+has_fault BadLabel files rows = bad_label rows
+has_fault BadOneof files rows = bad_oneof rows
+has_fault EmptyEnum files rows = empty_enum rows
+has_fault DuplicateName files rows = duplicate_name rows
+has_fault UnknownType files rows = unknown_type rows
+has_fault DuplicateNumber files rows = duplicate_number rows
+has_fault OutsideRange files rows = outside_range rows
+has_fault BadMapEntry files rows = bad_map_entry rows
+has_fault BadOptions files rows = bad_options rows
+has_fault BadDefault files rows = bad_default rows
+has_fault FloatDefault files rows = float_default rows
+has_fault e files rows = false
 
-pub record Checked (files : List FileDescriptorProto) (rows : FlatRows) : Type 0 where
-  pub own : OwnChecks files rows
-  pub options : bad_options rows ≡ false
-  pub dependencies : missing_dependency files ≡ false
-  pub names_differ : duplicate_name rows ≡ false
-  pub names_found : unknown_type rows ≡ false
-  pub numbers_differ : duplicate_number rows ≡ false
-  pub in_ranges : outside_range rows ≡ false
-  pub entries : bad_map_entry rows ≡ false
-  pub defaults : bad_default rows ≡ false
-  pub float_defaults : float_default rows ≡ false
+-- The files have none of the faults.
+abbrev pub Checked : List FileDescriptorProto → FlatRows → Type 0
+Checked files rows = (e : PoolError) → has_fault e files rows ≡ false
 
--- Why files are refused: the test of that name is true. The refusals that have no test here are not answered.
+-- Why files are refused: they have the fault of that name.
 abbrev pub Stands : PoolError → List FileDescriptorProto → FlatRows → Type 0
-Stands MissingName files rows = missing_name files rows ≡ true
-Stands UnknownSyntax files rows = unknown_syntax files ≡ true
-Stands MissingDependency files rows = missing_dependency files ≡ true
-Stands BadIndex files rows = bad_index files rows ≡ true
-Stands BadNumber files rows = bad_number rows ≡ true
-Stands BadRange files rows = bad_range rows ≡ true
-Stands MissingType files rows = missing_type rows ≡ true
-Stands BadLabel files rows = bad_label rows ≡ true
-Stands BadOneof files rows = bad_oneof rows ≡ true
-Stands EmptyEnum files rows = empty_enum rows ≡ true
-Stands DuplicateName files rows = duplicate_name rows ≡ true
-Stands UnknownType files rows = unknown_type rows ≡ true
-Stands DuplicateNumber files rows = duplicate_number rows ≡ true
-Stands OutsideRange files rows = outside_range rows ≡ true
-Stands BadMapEntry files rows = bad_map_entry rows ≡ true
-Stands BadOptions files rows = bad_options rows ≡ true
-Stands BadDefault files rows = bad_default rows ≡ true
-Stands FloatDefault files rows = float_default rows ≡ true
-Stands e files rows = ⊥
+Stands e files rows = has_fault e files rows ≡ true

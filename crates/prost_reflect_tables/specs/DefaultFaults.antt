@@ -1,6 +1,6 @@
 -- BadDefault and FloatDefault: a written default stands at a singular scalar of a proto2 file, and its text gives a value (the proto2 guide, "Default Field Values").
 use Rattle.std.specs.Prelude.{ℤ, Bool, not, ◌&&◌, ◌||◌, Option, is_some, is_none}
-use Rattle.prost_reflect_records.specs.declared.FieldDescriptorProto.{FieldDescriptorProto}
+use Rattle.prost_reflect_types.specs.declared.FieldDescriptorProto.{FieldDescriptorProto}
 use Rattle.prost_reflect_tables.specs.Flat.{DefinitionRow, FlatRows}
 use Rattle.prost_reflect_tables.specs.Linking.{Links, links_of, linked_kind, linked_default}
 use Rattle.prost_reflect_tables.specs.Faults.{any_field, is_code, is_message_type, is_repeated}

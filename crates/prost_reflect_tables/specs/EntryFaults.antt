@@ -2,8 +2,8 @@
 use Rattle.std.specs.Prelude.{nat_eq, ℤ, Bool, false, not, ◌&&◌, ◌||◌, length, List, [], ◌∷◌, Option, Some, None, is_none, unwrap_or, String}
 use Rattle.std.specs.List.{list_any}
 use Rattle.std.specs.declared.alloc.Global.{Global}
-use Rattle.prost_reflect_records.specs.declared.FieldDescriptorProto.{FieldDescriptorProto}
-use Rattle.prost_reflect_records.specs.declared.MethodDescriptorProto.{MethodDescriptorProto}
+use Rattle.prost_reflect_types.specs.declared.FieldDescriptorProto.{FieldDescriptorProto}
+use Rattle.prost_reflect_types.specs.declared.MethodDescriptorProto.{MethodDescriptorProto}
 use Rattle.prost_reflect_tables.specs.Flat.{DefinitionRow, FlatMessageRow, FlatRows}
 use Rattle.prost_reflect_tables.specs.Options.{bool_option}
 use Rattle.prost_reflect_tables.specs.Faults.{number_or_zero, is_type, is_code, is_message_type, is_enum_type, is_repeated, is_member, message_named}

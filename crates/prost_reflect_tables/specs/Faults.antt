@@ -3,10 +3,10 @@ use Rattle.std.specs.Prelude.{ℕ, ◌+◌, ◌^◌, nat_lt, nat_le, nat_eq, ℤ
 use Rattle.std.specs.Ordering.{int_eq}
 use Rattle.std.specs.List.{list_any, position_from}
 use Rattle.std.specs.declared.alloc.Global.{Global}
-use Rattle.prost_reflect_records.specs.declared.FileDescriptorProto.{FileDescriptorProto}
-use Rattle.prost_reflect_records.specs.declared.FieldDescriptorProto.{FieldDescriptorProto}
-use Rattle.prost_reflect_records.specs.declared.ExtensionRange.{ExtensionRange}
-use Rattle.prost_reflect_records.specs.declared.MethodDescriptorProto.{MethodDescriptorProto}
+use Rattle.prost_reflect_types.specs.declared.FileDescriptorProto.{FileDescriptorProto}
+use Rattle.prost_reflect_types.specs.declared.FieldDescriptorProto.{FieldDescriptorProto}
+use Rattle.prost_reflect_types.specs.declared.ExtensionRange.{ExtensionRange}
+use Rattle.prost_reflect_types.specs.declared.MethodDescriptorProto.{MethodDescriptorProto}
 use Rattle.prost_reflect_tables.specs.Flat.{DefinitionRow, FlatMessageRow, FlatEnumRow, FlatServiceRow, FlatRows}
 use Rattle.prost_reflect_tables.specs.Names.{text_or_empty, without_dot}
 

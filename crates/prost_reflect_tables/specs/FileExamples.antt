@@ -1,8 +1,8 @@
 -- Which files have equal contents, and which give equal tables.
 use Rattle.std.specs.Prelude.{◌≡◌, ℕ, [], ◌∷◌, Option, Some, None, String, string_bytes, Vec}
 use Rattle.std.specs.declared.alloc.Global.{Global}
-use Rattle.prost_reflect_records.specs.declared.FileDescriptorProto.{FileDescriptorProto}
-use Rattle.prost_reflect_records.specs.declared.EnumDescriptorProto.{EnumDescriptorProto}
+use Rattle.prost_reflect_types.specs.declared.FileDescriptorProto.{FileDescriptorProto}
+use Rattle.prost_reflect_types.specs.declared.EnumDescriptorProto.{EnumDescriptorProto}
 use Rattle.prost_reflect_tables.specs.FileLaws.{SameContents, SameTables}
 
 pub record ContentsAndTables : Type 0 where

@@ -1,7 +1,7 @@
 -- What files of equal contents have in common: their tables, and why they are refused.
 use Rattle.std.specs.Prelude.{◌≡◌, ◌↔◌, List, map}
-use Rattle.prost_reflect_records.specs.declared.FileDescriptorProto.{FileDescriptorProto}
-use Rattle.prost_reflect_records.specs.DescriptorViews.{of_file}
+use Rattle.prost_reflect_types.specs.declared.FileDescriptorProto.{FileDescriptorProto}
+use Rattle.prost_reflect_types.specs.DescriptorViews.{of_file}
 use Rattle.prost_reflect_tables.specs.declared.error.PoolError.{PoolError}
 use Rattle.prost_reflect_tables.specs.Flat.{flattened}
 use Rattle.prost_reflect_tables.specs.Linking.{linked_rows}

@@ -1,18 +1,18 @@
 -- The definitions of files in flat lists, each with its full name, its path and what encloses it (descriptor.proto, `SourceCodeInfo.Location.path`; the language guide, "Packages and Name Resolution").
 use Rattle.std.specs.Prelude.{ℕ, ◌+◌, ℤ, pos, Bool, length, List, [], ◌∷◌, ◌++◌, map, Option, Some, None, String, Vec, codes, bytes_eq}
 use Rattle.std.specs.declared.alloc.Global.{Global}
-use Rattle.prost_reflect_records.specs.declared.FileDescriptorProto.{FileDescriptorProto}
-use Rattle.prost_reflect_records.specs.declared.DescriptorProto.{DescriptorProto}
-use Rattle.prost_reflect_records.specs.declared.DescriptorProto.TheOpen.{DescriptorProto-F}
-use Rattle.prost_reflect_records.specs.declared.DescriptorProto.TheFolds.{fold-DescriptorProto}
-use Rattle.prost_reflect_records.specs.declared.ExtensionRange.{ExtensionRange}
-use Rattle.prost_reflect_records.specs.declared.ReservedRange.{ReservedRange}
-use Rattle.prost_reflect_records.specs.declared.FieldDescriptorProto.{FieldDescriptorProto}
-use Rattle.prost_reflect_records.specs.declared.OneofDescriptorProto.{OneofDescriptorProto}
-use Rattle.prost_reflect_records.specs.declared.EnumDescriptorProto.{EnumDescriptorProto}
-use Rattle.prost_reflect_records.specs.declared.EnumValueDescriptorProto.{EnumValueDescriptorProto}
-use Rattle.prost_reflect_records.specs.declared.ServiceDescriptorProto.{ServiceDescriptorProto}
-use Rattle.prost_reflect_records.specs.declared.MethodDescriptorProto.{MethodDescriptorProto}
+use Rattle.prost_reflect_types.specs.declared.FileDescriptorProto.{FileDescriptorProto}
+use Rattle.prost_reflect_types.specs.declared.DescriptorProto.{DescriptorProto}
+use Rattle.prost_reflect_types.specs.declared.DescriptorProto.TheOpen.{DescriptorProto-F}
+use Rattle.prost_reflect_types.specs.declared.DescriptorProto.TheFolds.{fold-DescriptorProto}
+use Rattle.prost_reflect_types.specs.declared.ExtensionRange.{ExtensionRange}
+use Rattle.prost_reflect_types.specs.declared.ReservedRange.{ReservedRange}
+use Rattle.prost_reflect_types.specs.declared.FieldDescriptorProto.{FieldDescriptorProto}
+use Rattle.prost_reflect_types.specs.declared.OneofDescriptorProto.{OneofDescriptorProto}
+use Rattle.prost_reflect_types.specs.declared.EnumDescriptorProto.{EnumDescriptorProto}
+use Rattle.prost_reflect_types.specs.declared.EnumValueDescriptorProto.{EnumValueDescriptorProto}
+use Rattle.prost_reflect_types.specs.declared.ServiceDescriptorProto.{ServiceDescriptorProto}
+use Rattle.prost_reflect_types.specs.declared.MethodDescriptorProto.{MethodDescriptorProto}
 use Rattle.prost_reflect_tables.specs.Names.{text_or_empty, joined}
 
 -- Where definitions stand: the full name and the path of what encloses them, the place of their file and whether it is of proto3, and the place of the message around them.

@@ -1,14 +1,14 @@
 -- The flat lists without where they lie in memory.
 use Rattle.std.specs.Prelude.{ℕ, List, map, string_bytes}
 use denote.Bor.{Bor}
-use Rattle.prost_reflect_records.specs.declared.FileDescriptorProto.{FileDescriptorProto}
-use Rattle.prost_reflect_records.specs.declared.DescriptorProto.TheViews.{out-DescriptorProto}
-use Rattle.prost_reflect_tables.specs.declared.flatten.Scope.{Scope}
-use Rattle.prost_reflect_tables.specs.declared.flatten.Definition.{Definition}
-use Rattle.prost_reflect_tables.specs.declared.flatten.FlatMessage.{FlatMessage}
-use Rattle.prost_reflect_tables.specs.declared.flatten.FlatEnum.{FlatEnum}
-use Rattle.prost_reflect_tables.specs.declared.flatten.FlatService.{FlatService}
-use Rattle.prost_reflect_tables.specs.declared.flatten.Flat.{Flat}
+use Rattle.prost_reflect_types.specs.declared.FileDescriptorProto.{FileDescriptorProto}
+use Rattle.prost_reflect_types.specs.declared.DescriptorProto.TheViews.{out-DescriptorProto}
+use Rattle.prost_reflect_tables.specs.declared.build.flatten.Scope.{Scope}
+use Rattle.prost_reflect_tables.specs.declared.build.flatten.Definition.{Definition}
+use Rattle.prost_reflect_tables.specs.declared.build.flatten.FlatMessage.{FlatMessage}
+use Rattle.prost_reflect_tables.specs.declared.build.flatten.FlatEnum.{FlatEnum}
+use Rattle.prost_reflect_tables.specs.declared.build.flatten.FlatService.{FlatService}
+use Rattle.prost_reflect_tables.specs.declared.build.flatten.Flat.{Flat}
 use Rattle.prost_reflect_tables.specs.Flat.{ScopeRow, DefinitionRow, FlatMessageRow, FlatEnumRow, FlatServiceRow, FlatRows, message_parts}
 
 abbrev pub scope_row : Scope → ScopeRow

@@ -2,7 +2,7 @@
 use Rattle.std.specs.Prelude.{◌≡◌, ⊤, ℕ, ℤ, List, [], ◌∷◌, map, String}
 use Rattle.std.specs.BTreeMap.{BTreeMap, get_by_text}
 use Rattle.std.specs.declared.alloc.Global.{Global}
-use Rattle.prost_reflect_tables.specs.declared.index.Index.{Index}
+use Rattle.prost_reflect_tables.specs.declared.build.index.Index.{Index}
 use Rattle.prost_reflect_tables.specs.Rows.{EnumValueRow}
 use Rattle.prost_reflect_tables.specs.WrittenDefaults.{number_named}
 use Rattle.prost_reflect_tables.specs.Flat.{FlatRows}

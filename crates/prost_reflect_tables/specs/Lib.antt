@@ -16,6 +16,7 @@ pub mod DefaultFaults
 pub mod OptionFaults
 pub mod CheckExamples
 pub mod Checked
+pub mod Walks
 pub mod Built
 pub mod Adding
 pub mod ReadErrors

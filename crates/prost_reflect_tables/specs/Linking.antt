@@ -2,9 +2,9 @@
 use Rattle.std.specs.Prelude.{ℕ, ◌+◌, ◌-◌, nat_eq, nat_lt, nat_le, ℤ, pos, negsuc, Bool, true, false, not, ◌&&◌, ◌||◌, if◌then◌else◌, List, [], ◌∷◌, ◌++◌, length, map, filter, slice_get, Option, Some, None, is_some, unwrap_or, String, string_bytes}
 use Rattle.std.specs.declared.alloc.Global.{Global}
 use Rattle.prost_reflect_wire.specs.Scalar.{Scalar}
-use Rattle.prost_reflect_records.specs.declared.FieldDescriptorProto.{FieldDescriptorProto}
-use Rattle.prost_reflect_records.specs.declared.OneofDescriptorProto.{OneofDescriptorProto}
-use Rattle.prost_reflect_records.specs.declared.EnumValueDescriptorProto.{EnumValueDescriptorProto}
+use Rattle.prost_reflect_types.specs.declared.FieldDescriptorProto.{FieldDescriptorProto}
+use Rattle.prost_reflect_types.specs.declared.OneofDescriptorProto.{OneofDescriptorProto}
+use Rattle.prost_reflect_types.specs.declared.EnumValueDescriptorProto.{EnumValueDescriptorProto}
 use Rattle.prost_reflect_tables.specs.declared.tables.Cardinality.{Cardinality}
 use Rattle.prost_reflect_tables.specs.declared.tables.Cardinality.TheVariants.{Optional, Required, Repeated}
 use Rattle.prost_reflect_tables.specs.declared.tables.TableKind.{TableKind}

@@ -1,7 +1,7 @@
 -- Option bytes, kinds, labels, packing, presence, orders and names in JSON (descriptor.proto; the proto2 and the proto3 guide).
 use Rattle.std.specs.Prelude.{◌≡◌, pos, negsuc, true, false, [], ◌∷◌, map, Some, None, String as Text, string_bytes, codes}
 use Rattle.std.specs.declared.alloc.Global.{Global}
-use Rattle.prost_reflect_records.specs.declared.FieldDescriptorProto.{FieldDescriptorProto}
+use Rattle.prost_reflect_types.specs.declared.FieldDescriptorProto.{FieldDescriptorProto}
 use Rattle.prost_reflect_tables.specs.declared.tables.Cardinality.TheVariants.{Optional, Required, Repeated}
 use Rattle.prost_reflect_tables.specs.declared.tables.TableKind.TheVariants.{Double, Int32, String, Bool as BoolKind, Message, Enum, Sint64}
 use Rattle.prost_reflect_tables.specs.Flat.{DefinitionRow}

@@ -3,7 +3,7 @@ use Rattle.std.specs.Prelude.{◌≡◌, ⊤, ℕ, pos, nat_le, nat_lt, Bool, �
 use Rattle.std.specs.List.{list_any}
 use Rattle.std.specs.List.Sorted.{IsNonDecreasingBy}
 use Rattle.std.specs.declared.alloc.Global.{Global}
-use Rattle.prost_reflect_records.specs.declared.ExtensionRange.{ExtensionRange}
+use Rattle.prost_reflect_types.specs.declared.ExtensionRange.{ExtensionRange}
 use Rattle.prost_reflect_tables.specs.Flat.{FlatMessageRow}
 use Rattle.prost_reflect_tables.specs.Faults.{is_in_range}
 use Rattle.prost_reflect_tables.specs.Linking.{natural_or_zero}

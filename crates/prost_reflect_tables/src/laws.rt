@@ -2,13 +2,13 @@
 
 ghost use Rattle.std.specs.Prelude.{◌≡◌, ◌↔◌, IsTrue, List};
 ghost use Rattle.std.specs.Cmp.Lexicographic.{pointwise};
-ghost use Rattle.prost_reflect_records.specs.declared.FileDescriptorProto.{FileDescriptorProto};
+ghost use Rattle.prost_reflect_types.specs.declared.FileDescriptorProto.{FileDescriptorProto};
 ghost use Rattle.prost_reflect_tables.specs.FileLaws.{SameContents, EqualTables, EqualChecks, EqualRefusals};
 ghost use Rattle.prost_reflect_tables.specs.Schema.{rows_of};
 ghost use Rattle.prost_reflect_tables.specs.declared.tables.Tables.{Tables};
 
 use crate::tables::Tables;
-use prost_reflect_records::FileDescriptorProto;
+use prost_reflect_types::FileDescriptorProto;
 
 /// Tables are equal by `==` exactly where their rows are.
 pub fn tables_equality()

@@ -1,10 +1,10 @@
 //! Calls with ample memory, whose contracts leave want of memory open. The files are written as descriptor records.
 
-use prost_reflect_records::FileDescriptorProto;
 use prost_reflect_tables::{
     EnumTable, FieldTable, Flat, FlatMessage, MessageTable, PoolError, TableKind, WrittenDefault,
-    build, check, flattened, indexed, linked, written_default,
+    build_tables, check_files, flattened, indexed, linked, written_default,
 };
+use prost_reflect_types::FileDescriptorProto;
 use std::alloc::{AllocError, Global};
 use std::test::Fail;
 
@@ -146,7 +146,7 @@ fn nested_definitions(rt: HostRuntime) -> Result<(), Fail> {
 fn refusal(alloc: Global, bytes: &[u8]) -> Result<Option<PoolError>, Fail> {
     let file = FileDescriptorProto::decode(alloc, bytes)?;
     let flat = flattened(alloc, &[&file])?;
-    match check(alloc, &[&file], &flat) {
+    match check_files(alloc, &[&file], &flat) {
         Ok(_) => Ok(None),
         Err(error) => Ok(Some(error)),
     }
@@ -392,7 +392,7 @@ static MY_MESSAGE: &[u8] =
 #[test]
 fn linked_proto3(rt: HostRuntime) -> Result<(), Fail> {
     let file = FileDescriptorProto::decode(rt.alloc(), MY_MESSAGE)?;
-    let tables = build(rt.alloc(), &[&file])?;
+    let tables = build_tables(rt.alloc(), &[&file])?;
     assert_eq!(rt;
         shown(rt.alloc(), &tables.messages, &tables.enums)?.as_str(),
         "package.MyMessage false: 1 foo Int32 Optional extension false group false packed false presence false None None; 2 bar Int32 Optional extension false group false packed false presence true None Some(0); 3 nested Message(0) Optional extension false group false packed false presence true None None; oneof optional [1]; "

@@ -4,19 +4,18 @@ ghost use Rattle.std.specs.Prelude.{◌≡◌};
 ghost use Rattle.prost_reflect_fields.specs.Known.{known_of, is_known};
 
 use crate::choices::choices;
-use prost_reflect::MessageDescriptor;
-use prost_reflect_descriptors::rows::field_table;
-use prost_reflect_fields::slots::Slots;
+use prost_reflect_fields::field_set::FieldSet;
+use prost_reflect_pool::PooledType;
 use std::test::Fail;
 
-fn is_known(descriptor: &MessageDescriptor, number: u32) -> bool
+fn is_known(descriptor: &PooledType, number: u32) -> bool
     ensures { result ≡ is_known (known_of descriptor.now) number }
 {
-    field_table(descriptor, number).is_some()
+    descriptor.field_table(number).is_some()
 }
 
-fn set(slots: &mut Slots<i32>, number: u32, value: i32) -> Result<(), Fail> {
-    if !is_known(slots.descriptor(), number) {
+fn set(slots: &mut FieldSet<i32>, number: u32, value: i32) -> Result<(), Fail> {
+    if !is_known(slots.message_type(), number) {
         return Err(Fail::from("no field of the number"));
     }
     slots.set(number, value)?;
@@ -24,8 +23,8 @@ fn set(slots: &mut Slots<i32>, number: u32, value: i32) -> Result<(), Fail> {
 }
 
 /// Adds to the value, which is 100 where there was none.
-fn add(slots: &mut Slots<i32>, number: u32, amount: i32) -> Result<(), Fail> {
-    if !is_known(slots.descriptor(), number) {
+fn add(slots: &mut FieldSet<i32>, number: u32, amount: i32) -> Result<(), Fail> {
+    if !is_known(slots.message_type(), number) {
         return Err(Fail::from("no field of the number"));
     }
     let value = slots.get_mut_or(number, 100)?;
@@ -36,7 +35,7 @@ fn add(slots: &mut Slots<i32>, number: u32, amount: i32) -> Result<(), Fail> {
 /// 2, 4 and 9 are of one oneof.
 #[test]
 fn a_member_of_a_oneof_replaces_another(rt: HostRuntime) -> Result<(), Fail> {
-    let mut slots = Slots::new(rt.alloc(), choices(rt.alloc())?);
+    let mut slots = FieldSet::new(rt.alloc(), choices(rt.alloc())?);
     set(&mut slots, 2, 20)?;
     set(&mut slots, 4, 40)?;
     assert_eq!(rt; slots.get(2).copied(), None);
@@ -48,11 +47,11 @@ fn a_member_of_a_oneof_replaces_another(rt: HostRuntime) -> Result<(), Fail> {
 
 #[test]
 fn a_value_is_taken_or_cleared(rt: HostRuntime) -> Result<(), Fail> {
-    let mut slots = Slots::new(rt.alloc(), choices(rt.alloc())?);
+    let mut slots = FieldSet::new(rt.alloc(), choices(rt.alloc())?);
     set(&mut slots, 1, 10)?;
     set(&mut slots, 6, 60)?;
     assert_eq!(rt; slots.take(1), Some(10));
     slots.clear(6);
-    assert!(rt; slots.entries().is_empty());
+    assert!(rt; slots.slots().is_empty());
     Ok(())
 }

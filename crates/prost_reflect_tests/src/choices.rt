@@ -1,7 +1,10 @@
 //! A message type with two oneofs, an extension and fields of a closed enum.
 
 use prost_reflect::{DescriptorPool, MessageDescriptor};
+use prost_reflect_pool::{LinkedPool, PooledType};
+use prost_reflect_types::FileDescriptorSet;
 use std::alloc::Global;
+use std::rc::Rc;
 use std::test::Fail;
 
 /// `choices.proto`, of proto2: the fields 2, 4 and 9 are of one oneof, 6 and 8 of another; 5 and 8 are of the enum `Closed` with the numbers 0 and 1; 12 is an extension.
@@ -13,8 +16,19 @@ static CHOICES: &[u8] =
     \x0dB\x07\x0a\x05firstB\x08\x0a\x06second*\x1b\x0a\x06Closed\x12\x08\x0a\x04ZERO\x10\x00\x12\x07\
     \x0a\x03ONE\x10\x01:\x15\x0a\x03f12\x12\x08.Choices\x18\x0c \x01(\x05";
 
-pub fn choices(alloc: Global) -> Result<MessageDescriptor, Fail> {
+/// The descriptor of the message type.
+pub fn choices_descriptor(alloc: Global) -> Result<MessageDescriptor, Fail> {
     let pool = DescriptorPool::decode(alloc, CHOICES)?;
     let found = pool.get_message_by_name("Choices")?;
     Ok(found.ok_or("no such message type")?)
+}
+
+/// The message type, for a field set.
+pub fn choices(alloc: Global) -> Result<PooledType, Fail> {
+    let set = FileDescriptorSet::decode(alloc, CHOICES)?;
+    let pool = LinkedPool::new(alloc).with_files(set.file)?;
+    match pool.tables().message_place("Choices") {
+        Some(index) => Ok(PooledType::new(Rc::new(alloc, pool)?, index)),
+        None => Err(Fail::from("no such message type")),
+    }
 }

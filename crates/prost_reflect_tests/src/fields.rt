@@ -1,14 +1,14 @@
 //! Calls on both forms of a map from numbers, over a message type with oneofs.
 
 use crate::choices::choices;
-use prost_reflect::{DecodeError, MessageDescriptor, UnknownField};
-use prost_reflect_descriptors::rows::field_place;
-use prost_reflect_fields::entry::Entry;
+use prost_reflect::{DecodeError, UnknownField};
 use prost_reflect_fields::number_map::NumberMap;
-use prost_reflect_fields::sorted::Sorted;
+use prost_reflect_fields::slot::FieldSlot;
+use prost_reflect_fields::sorted_map::SortedMap;
 use prost_reflect_fields::stored::{
     add_unknown, set_value, take_value, unknown_at, value_at, value_mut, value_mut_or,
 };
+use prost_reflect_pool::PooledType;
 use std::alloc::{AllocError, Global};
 use std::collections::BTreeMap;
 use std::test::Fail;
@@ -58,13 +58,13 @@ fn calls(alloc: Global) -> Result<Vec<Call>, AllocError> {
 }
 
 /// Makes a call. At a number that no field has, a set and a write add an unknown field in place of a value.
-fn apply<S: NumberMap<Entry<u32>>>(
+fn apply<S: NumberMap<FieldSlot<u32>>>(
     fields: &mut S,
     alloc: Global,
-    descriptor: &MessageDescriptor,
+    descriptor: &PooledType,
     call: Call,
 ) -> Result<Answer, Fail> {
-    let is_known = field_place(descriptor, call.number()).is_some();
+    let is_known = descriptor.field_place(call.number()).is_some();
     match call {
         Call::Set(number, value) if is_known => {
             set_value(fields, alloc, descriptor, number, value)?;
@@ -88,7 +88,7 @@ fn apply<S: NumberMap<Entry<u32>>>(
 }
 
 /// Adds an unknown field, a varint, behind those of the number.
-fn add_record<S: NumberMap<Entry<u32>>>(
+fn add_record<S: NumberMap<FieldSlot<u32>>>(
     fields: &mut S,
     alloc: Global,
     number: u32,
@@ -102,7 +102,7 @@ fn add_record<S: NumberMap<Entry<u32>>>(
     }
 }
 
-fn seen(number: u32, entry: &Entry<u32>) -> Seen {
+fn seen(number: u32, entry: &FieldSlot<u32>) -> Seen {
     let unknown = match entry.unknown() {
         Some(unknown) => unknown.len(),
         None => 0,
@@ -111,7 +111,7 @@ fn seen(number: u32, entry: &Entry<u32>) -> Seen {
 }
 
 /// What stands at the numbers, from the lowest up.
-fn walk<S: NumberMap<Entry<u32>>>(fields: &S, alloc: Global) -> Result<Vec<Seen>, AllocError> {
+fn walk<S: NumberMap<FieldSlot<u32>>>(fields: &S, alloc: Global) -> Result<Vec<Seen>, AllocError> {
     let mut walked = Vec::new(alloc);
     let mut from = 0;
     for _ in 0..fields.len() {
@@ -124,7 +124,10 @@ fn walk<S: NumberMap<Entry<u32>>>(fields: &S, alloc: Global) -> Result<Vec<Seen>
 }
 
 /// What stands at the numbers, from the highest down.
-fn walk_back<S: NumberMap<Entry<u32>>>(fields: &S, alloc: Global) -> Result<Vec<Seen>, AllocError> {
+fn walk_back<S: NumberMap<FieldSlot<u32>>>(
+    fields: &S,
+    alloc: Global,
+) -> Result<Vec<Seen>, AllocError> {
     let mut walked = Vec::new(alloc);
     let mut below = u32::MAX;
     for _ in 0..fields.len() {
@@ -213,10 +216,10 @@ impl Expected {
 
 /// Makes a call on the map and on the table. Says whether both answer the same, and whether the map then has what the
 /// table says, walked up and down.
-fn agrees_after<S: NumberMap<Entry<u32>>>(
+fn agrees_after<S: NumberMap<FieldSlot<u32>>>(
     fields: &mut S,
     alloc: Global,
-    descriptor: &MessageDescriptor,
+    descriptor: &PooledType,
     expected: &mut Expected,
     call: Call,
 ) -> Result<bool, Fail> {
@@ -230,7 +233,11 @@ fn agrees_after<S: NumberMap<Entry<u32>>>(
 }
 
 /// Whether the calls that find what a number has find what the table says.
-fn agrees_at<S: NumberMap<Entry<u32>>>(fields: &mut S, expected: &Expected, number: u32) -> bool {
+fn agrees_at<S: NumberMap<FieldSlot<u32>>>(
+    fields: &mut S,
+    expected: &Expected,
+    number: u32,
+) -> bool {
     let place = number as usize % 13;
     let unknown = match unknown_at(fields, number) {
         Some(unknown) => unknown.len(),
@@ -245,7 +252,10 @@ fn agrees_at<S: NumberMap<Entry<u32>>>(fields: &mut S, expected: &Expected, numb
 }
 
 /// How many calls agree with the table, up to the first that does not.
-fn agreeing_calls<S: NumberMap<Entry<u32>>>(fields: &mut S, alloc: Global) -> Result<usize, Fail> {
+fn agreeing_calls<S: NumberMap<FieldSlot<u32>>>(
+    fields: &mut S,
+    alloc: Global,
+) -> Result<usize, Fail> {
     let descriptor = choices(alloc)?;
     let mut expected = Expected {
         values: [None; 13],
@@ -271,14 +281,14 @@ fn agreeing_calls<S: NumberMap<Entry<u32>>>(fields: &mut S, alloc: Global) -> Re
 
 #[test]
 fn a_sorted_list_agrees_with_a_table(rt: HostRuntime) -> Result<(), Fail> {
-    let mut fields: Sorted<Entry<u32>> = Sorted::new(rt.alloc());
+    let mut fields: SortedMap<FieldSlot<u32>> = SortedMap::new(rt.alloc());
     assert_eq!(rt; agreeing_calls(&mut fields, rt.alloc())?, 500);
     Ok(())
 }
 
 #[test]
 fn a_tree_agrees_with_a_table(rt: HostRuntime) -> Result<(), Fail> {
-    let mut fields: BTreeMap<u32, Entry<u32>> = BTreeMap::new(rt.alloc());
+    let mut fields: BTreeMap<u32, FieldSlot<u32>> = BTreeMap::new(rt.alloc());
     assert_eq!(rt; agreeing_calls(&mut fields, rt.alloc())?, 500);
     Ok(())
 }

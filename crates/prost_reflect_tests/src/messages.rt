@@ -1,7 +1,7 @@
 //! Each call once, on messages of the built-in types, and a closed enum in a oneof and alone.
 
-use crate::choices::choices;
-use prost_reflect::{DecodeError, DynamicMessage, MessageDescriptor, builtin_pool};
+use crate::choices::choices_descriptor;
+use prost_reflect::{DecodeError, DynamicMessage, MessageDescriptor, PresentNumber, builtin_pool};
 use std::alloc::Global;
 use std::test::Fail;
 
@@ -13,6 +13,21 @@ fn kept(alloc: Global) -> Result<MessageDescriptor, Fail> {
 
 /// An unknown varint of the number 10, and 150 in the field 5.
 const BYTES: [u8; 5] = [0x50, 3, 0x28, 0x96, 1];
+
+/// The worked example of the README.
+#[test]
+fn a_message_is_relayed(rt: HostRuntime) -> Result<(), Fail> {
+    let alloc = rt.alloc();
+    let pool = builtin_pool(alloc)?;
+    let found = pool.get_message_by_name("builtin.Plain")?;
+    let plain = found.ok_or("no builtin.Plain")?;
+    let message = DynamicMessage::decode(alloc, plain, &[0x50, 0x83, 0, 0x28, 0x96, 1])?;
+    let present = [PresentNumber::Field(5), PresentNumber::Unknown(10, 1)];
+    assert!(rt; message.present_numbers(alloc)?.as_slice() == present.as_slice());
+    let written = message.encode_to_vec(alloc)?;
+    assert!(rt; written.as_slice() == [0x28, 0x96, 1, 0x50, 3].as_slice());
+    Ok(())
+}
 
 #[test]
 fn a_message_is_read_and_written(rt: HostRuntime) -> Result<(), Fail> {
@@ -49,7 +64,7 @@ fn a_fault_is_named(rt: HostRuntime) -> Result<(), Fail> {
 
 /// Reads the bytes as a message with oneofs and fields of an enum that declares 0 and 1, and writes it again.
 fn choices_relayed(alloc: Global, bytes: &[u8]) -> Result<Vec<u8>, Fail> {
-    let descriptor = choices(alloc)?;
+    let descriptor = choices_descriptor(alloc)?;
     let message = DynamicMessage::decode(alloc, descriptor, bytes)?;
     Ok(message.encode_to_vec(alloc)?)
 }

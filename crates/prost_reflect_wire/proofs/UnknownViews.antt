@@ -1,5 +1,5 @@
 -- What the parts of an unknown field are, step by step.
-use Rattle.std.proofs.Common.{◌≡◌, ℕ, List, [], ◌∷◌, map, refl, ap, ap₂, ◌∙◌}
+use Rattle.std.proofs.Common.{◌≡◌, ℕ, List, map}
 use Rattle.std.specs.Global.{Vec}
 use denote.Hole.Carrier as Carrier
 use Rattle.prost_reflect_wire.specs.declared.unknown.UnknownFieldValue.{Varint, SixtyFourBit, ThirtyTwoBit, LengthDelimited, Group}
@@ -11,7 +11,7 @@ use Rattle.prost_reflect_wire.specs.declared.unknown.UnknownFieldValue.TheViews.
 use Rattle.prost_reflect_wire.specs.declared.unknown.UnknownFieldValue.TheFolds.{fold-roll-UnknownFieldSet, fold_out-UnknownFieldSet, fold_out-UnknownField, fold_out-UnknownFieldValue}
 use Rattle.prost_reflect_wire.specs.Record.{record_at, Record, Payload, Flat, Var, Fix64, Len, Fix32, body_of}
 use Rattle.prost_reflect_wire.specs.Record as model
-use Rattle.prost_reflect_wire.specs.Unknown.{value_step, field_step, set_step, payload_of, record_of, records_of, fields_of, renumbered}
+use Rattle.prost_reflect_wire.specs.Unknown.{value_step, field_step, set_step, payload_of, record_of, records_of}
 
 pub records_of_roll : (x : UnknownFieldSet-F UnknownFieldValue UnknownField UnknownFieldSet) → records_of (roll-UnknownFieldSet x) ≡ map record_of x.fields.items
 records_of_roll = fold-roll-UnknownFieldSet Payload Record (List Record) value_step field_step set_step
@@ -41,14 +41,3 @@ payload_of_Group s = fold_out-UnknownFieldValue Payload Record (List Record) val
 pub payload_of_ThirtyTwoBit : (p : List ℕ) → payload_of (ThirtyTwoBit p) ≡ Flat (Fix32 p)
 unfolding out-UnknownFieldValue Carrier.out
 payload_of_ThirtyTwoBit p = fold_out-UnknownFieldValue Payload Record (List Record) value_step field_step set_step (ThirtyTwoBit p)
-
--- a field under another number
-abbrev pub numbered_as : ℕ → UnknownField → Record
-numbered_as n f = record_at n (payload_of f.value)
-
-pub renumbered_of : (n : ℕ) (fs : List UnknownField) → renumbered n (map record_of fs) ≡ map (numbered_as n) fs
-renumbered_of n [] = refl
-renumbered_of n (f ∷ fs) = ap₂ (λ (p : Payload) (rs : List Record). record_at n p ∷ rs) (ap (λ (r : Record). r.payload) (record_of_field f)) (renumbered_of n fs)
-
-pub renumbered_fields : (n : ℕ) (s : UnknownFieldSet) → renumbered n (records_of s) ≡ map (numbered_as n) (fields_of s)
-renumbered_fields n s = ap (renumbered n) (records_of_out s) ∙ renumbered_of n (fields_of s)

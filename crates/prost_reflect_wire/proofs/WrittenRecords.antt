@@ -1,22 +1,15 @@
 -- Records are written one in front of another.
-use Rattle.std.proofs.Common.{◌≡◌, ◌<◌, ◌≤◌, ℕ, zero, suc, ◌+◌, ◌-◌, ◌^◌, true, List, [], ◌∷◌, ◌++◌, length, get_or, drop, map, Result, Ok, Err, refl, sym, ap, ◌∙◌, arith, append_assoc, append-nil, length-append, drop-cons, OnOk}
+use Rattle.std.proofs.Common.{◌≡◌, ◌<◌, ◌≤◌, ℕ, zero, suc, ◌-◌, ◌^◌, true, List, [], ◌∷◌, ◌++◌, length, get_or, drop, Result, Ok, Err, refl, sym, ap, ◌∙◌, arith, append_assoc, append-nil, drop-cons, OnOk}
 use Rattle.std.proofs.lemmas.Bool.{eq-eqb, lt-ltb}
 use Rattle.prost_reflect_wire.specs.Varint.{are_bytes}
 use Rattle.prost_reflect_wire.specs.declared.error.EncodeError.{EncodeError}
-use Rattle.prost_reflect_wire.specs.Buffer.{Prepended}
 use Rattle.prost_reflect_wire.specs.Record.{record_at, Record, Payload, Fix64, Len, Fix32, Flat, Group, body_of, payload_wire, short_key, short_payload, spelled, valid, number_valid, payload_valid}
 use Rattle.prost_reflect_wire.specs.Front.{RecordFront}
 use Rattle.prost_reflect_wire.proofs.Shortest.{short_spells}
 use Rattle.prost_reflect_wire.proofs.Deeper.{and_both, both_true}
 
--- A FRONT BEFORE ANOTHER
-
 abbrev Answer : Type 0
 Answer = Result (Unit {0}) EncodeError
-
-pub prepended_after : (r : Answer) (old mid new a b : List ℕ) → mid ≡ a ++ old → Prepended r mid new b → Prepended r old new (b ++ a)
-prepended_after (Ok u) old mid new a b e p = p ∙ ap (λ (l : List ℕ). b ++ l) e ∙ sym (append_assoc b a old)
-prepended_after (Err d) old mid new a b e p = λ is. omega (arith, p is, ap length e, length-append a old, length-append b a)
 
 -- RECORDS
 
@@ -62,27 +55,3 @@ cut_before {A} items (suc i) item some le is =
     let e : suc i - 1 ≡ i = omega arith in
     let lt : i < length items = omega arith in
     ap (λ (n : ℕ). drop n items) e ∙ drop-cons items i item lt ∙ ap (λ (x : A). x ∷ drop (suc i) items) (ap (λ (n : ℕ). get_or items n item) (sym e) ∙ sym is)
-
--- ITEMS THAT ARE RECORDS, FROM THE LAST ON
-
-module _ {A : Type 0} (f : A → Record) where
-  -- no fewer bytes than those of the last items
-  spelled_drop : (n : ℕ) (items : List A) → length (spelled (map f (drop n items))) ≤ length (spelled (map f items))
-  spelled_drop zero items = omega arith
-  spelled_drop (suc n) [] = omega arith
-  spelled_drop (suc n) (x ∷ items) = omega (arith, spelled_drop n items, ap length (spelled_more (f x) (map f items)), length-append (spelled (f x ∷ [])) (spelled (map f items)))
-
-  -- an item is refused before those behind it
-  pub too_long_before : (items : List A) (i : ℕ) (item : A) (old mid : List ℕ) → drop (i - 1) items ≡ item ∷ drop i items → mid ≡ spelled (map f (drop i items)) ++ old
-      → 2 ^ 64 ≤ length (spelled (f item ∷ [])) + length mid → 2 ^ 64 ≤ length (spelled (map f items)) + length old
-  too_long_before items i item old mid cut e h =
-      omega (
-        arith,
-        h,
-        ap length e,
-        length-append (spelled (map f (drop i items))) old,
-        ap length (spelled_more (f item) (map f (drop i items))),
-        length-append (spelled (f item ∷ [])) (spelled (map f (drop i items))),
-        spelled_drop (i - 1) items,
-        ap (λ (l : List A). length (spelled (map f l))) cut,
-      )

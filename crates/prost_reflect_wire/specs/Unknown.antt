@@ -1,5 +1,5 @@
 -- What an unknown field is, without where it lies in memory.
-use Rattle.std.specs.Prelude.{ℕ, List, ◌<◌, map}
+use Rattle.std.specs.Prelude.{ℕ, List, ◌<◌}
 use Rattle.prost_reflect_wire.specs.declared.unknown.UnknownField.{UnknownField}
 use Rattle.prost_reflect_wire.specs.declared.unknown.UnknownFieldSet.{UnknownFieldSet}
 use Rattle.prost_reflect_wire.specs.declared.unknown.UnknownFieldValue.{UnknownFieldValue}
@@ -37,10 +37,6 @@ records_of = fold-UnknownFieldSet Payload Record (List Record) value_step field_
 -- The fields of a set in their order.
 abbrev pub fields_of : UnknownFieldSet → List UnknownField
 fields_of set = (out-UnknownFieldSet set).fields.items
-
--- The same payloads under one number.
-abbrev pub renumbered : ℕ → List Record → List Record
-renumbered n rs = map (λ r. record_at n r.payload) rs
 
 -- Behind the start key of a group of the number: the records, of fewer levels, and the end key.
 pub record ReadsGroup (n levels : ℕ) (rs : List Record) (bytes rest : List ℕ) : Type 0 where

@@ -3,8 +3,9 @@
 ghost use Rattle.std.specs.Prelude.{◌≤◌, length};
 
 use crate::error::EncodeError;
-use crate::key::{FieldNumber, WireType};
+use crate::key::{FieldNumber, WireType, key_value};
 use std::alloc::{AllocError, Global};
+use std::mem;
 
 /// Bytes to which more are added in front.
 #[derive(Drop)]
@@ -35,6 +36,15 @@ impl BackBuffer {
         ensures { result.now ≡ bytes_of self.now }
     {
         &self.bytes[self.start..]
+    }
+
+    /// The bytes, which the buffer gives away.
+    pub(crate) fn take(&mut self) -> BackBuffer
+        ensures taken { bytes_of result ≡ bytes_of self.old }
+        ensures left { bytes_of self.new ≡ [] }
+    {
+        let empty = BackBuffer::new(*self.bytes.allocator());
+        mem::replace(self, empty)
     }
 
     /// How many bytes were added.
@@ -129,7 +139,7 @@ impl BackBuffer {
         ensures ok { Prepended result (bytes_of self.old) (bytes_of self.new) (short_key number.value wire_type) }
         ensures err { OnErr result (bytes_of self.new ≡ bytes_of self.old) }
     {
-        self.prepend_varint(8 * u64::from(number.get()) + u64::from(wire_type.code()))
+        self.prepend_varint(key_value(number.get(), wire_type))
     }
 
     /// Appends the bytes to the output, in one growth.

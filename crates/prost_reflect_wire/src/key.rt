@@ -1,12 +1,12 @@
 //! Keys: field numbers and wire types (the encoding guide, "Message Structure").
 
-ghost use Rattle.std.specs.Prelude.{◌≡◌, ◌≤◌, ◌<◌, ◌^◌, ℕ, List, length, IfOk, IfErr, IsOkAnd};
-ghost use Rattle.prost_reflect_wire.specs.Record.{wire_code, short_key};
+ghost use Rattle.std.specs.Prelude.{◌≡◌, ◌+◌, ◌*◌, ◌≤◌, ◌<◌, ◌^◌, ℕ, List, IfOk, IfErr, IsOkAnd};
+ghost use Rattle.prost_reflect_wire.specs.Record.{wire_code};
 ghost use Rattle.prost_reflect_wire.specs.Front.{KeyFront, KeyFault};
 ghost use Rattle.prost_reflect_wire.specs.declared.key.WireType.{WireType as Wire};
 
 use crate::error::DecodeError;
-use crate::varint::{decode_varint, varint_len};
+use crate::varint::decode_varint;
 
 /// What kind of payload stands behind a key (the encoding guide, "Message Structure").
 #[derive(Clone, Copy, Debug, PartialEq, Eq)]
@@ -104,10 +104,9 @@ pub fn decode_key(bytes: &[u8]) -> Result<(FieldNumber, WireType, &[u8]), Decode
     Ok((FieldNumber::new(number), wire_type, rest))
 }
 
-/// How many bytes the shortest key of the number and the wire type takes.
-pub fn key_len(number: FieldNumber, wire_type: WireType) -> usize
-    ensures len { result ≡ length (short_key number.value wire_type) }
-    ensures few { result ≤ 10 }
+/// The varint that a key is: eight times the number, plus the wire type's code.
+pub fn key_value(number: u32, wire_type: WireType) -> u64
+    ensures { result ≡ 8 * number + wire_code wire_type }
 {
-    varint_len(8 * u64::from(number.get()) + u64::from(wire_type.code()))
+    8 * u64::from(number) + u64::from(wire_type.code())
 }

@@ -16,15 +16,13 @@ use std::vec::IntoIter;
 
 mod copy;
 mod equality;
-mod length;
 mod reading;
 mod skipping;
 mod writing;
 
-pub use length::{field_len, fields_len};
 pub use reading::{RECURSION_LIMIT, value_at};
 pub use skipping::skip_value;
-pub use writing::{prepend_field, prepend_fields, prepend_fields_at};
+pub use writing::{prepend_fields, write_field, write_fields};
 
 /// A field that its message does not know.
 #[derive(Debug, Drop)]

@@ -1,6 +1,6 @@
 //! Each descriptor record with all its fields, as `protoc` writes them: read, written again, and copied.
 
-use prost_reflect_records::{
+use prost_reflect_types::{
     DescriptorProto, EnumDescriptorProto, EnumReservedRange, EnumValueDescriptorProto,
     ExtensionRange, FieldDescriptorProto, FileDescriptorProto, FileDescriptorSet,
     MethodDescriptorProto, OneofDescriptorProto, ReservedRange, ServiceDescriptorProto,

@@ -1,7 +1,7 @@
 //! Refused memory. With ample memory each call succeeds; where an allocation is refused the call says so, and what it was
 //! lent has not changed.
 
-use prost_reflect_records::DescriptorProto;
+use prost_reflect_types::DescriptorProto;
 use prost_reflect_wire::{
     DecodeError, EncodeError, FieldNumber, RECURSION_LIMIT, UnknownField, UnknownFieldSet,
     UnknownFieldValue,

@@ -1,6 +1,6 @@
 //! Descriptor records from compilers and by hand: what is read of them, and what is refused.
 
-use prost_reflect_records::{
+use prost_reflect_types::{
     DescriptorProto, EnumDescriptorProto, EnumReservedRange, EnumValueDescriptorProto,
     ExtensionRange, FieldDescriptorProto, FileDescriptorProto, FileDescriptorSet,
     MethodDescriptorProto, OneofDescriptorProto, ReservedRange, ServiceDescriptorProto,

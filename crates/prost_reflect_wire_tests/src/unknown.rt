@@ -3,11 +3,11 @@
 ghost use Rattle.std.specs.Prelude.{◌≤◌, ◌<◌, ◌^◌};
 
 use prost_reflect_wire::{
-    BackBuffer, DecodeError, EncodeError, FieldNumber, RECURSION_LIMIT, UnknownField,
-    UnknownFieldSet, UnknownFieldValue, WireType, decode_key, decode_varint, decode_varint_plain,
-    delimited_at, field_len, fields_len, fixed32_at, fixed64_at, key_len, low_i32, low_u32,
-    prepend_field, prepend_fields, prepend_fields_at, sign_extended, skip_value, unzigzag32,
-    unzigzag64, value_at, varint_len, zigzag32, zigzag64,
+    BackBuffer, ByteSink, DecodeError, EncodeError, FieldNumber, RECURSION_LIMIT, Sink,
+    UnknownField, UnknownFieldSet, UnknownFieldValue, WireType, decode_key, decode_varint,
+    decode_varint_plain, delimited_at, fixed32_at, fixed64_at, key_value, low_i32, low_u32,
+    prepend_fields, sign_extended, skip_value, unzigzag32, unzigzag64, value_at, varint_len,
+    write_field, write_fields, write_key, zigzag32, zigzag64,
 };
 use std::alloc::{AllocError, Global};
 use std::process::Abort;
@@ -319,8 +319,7 @@ fn sets_are_written_in_order(rt: HostRuntime) -> Result<(), Fail> {
     set.encode(&mut out)?;
     assert_eq!(rt; out.as_slice(), [0x08, 7, 0x08, 9].as_slice());
     assert_eq!(rt; set.encoded_len(), Some(4));
-    assert_eq!(rt; fields_len(&set), Some(4));
-    assert_eq!(rt; field_len(&varint_field(16, 300)), Some(4));
+    assert_eq!(rt; varint_field(16, 300).encoded_len(), Some(4));
     Ok(())
 }
 
@@ -362,11 +361,29 @@ fn written_from_the_back(rt: HostRuntime) -> Result<(), Fail> {
     let mut set = UnknownFieldSet::new(rt.alloc());
     let value = UnknownFieldValue::ThirtyTwoBit([1, 2, 3, 4]);
     let field = UnknownField::new(FieldNumber::new(2), value);
+    let mut sink = ByteSink::new(rt.alloc());
+    sink.prepend(b"end");
+    write_field(&mut sink, &field);
+    set.insert(field)?;
+    write_fields(&mut sink, &set);
+    let len = sink.len();
+    sink.prepend_varint(len as u64);
+    write_key(&mut sink, 1, WireType::LengthDelimited);
+    let mut out = Vec::from_slice(rt.alloc(), b"<")?;
+    sink.append_to(&mut out)?;
+    let want = [
+        b'<', 0x0a, 13, 0x15, 1, 2, 3, 4, 0x15, 1, 2, 3, 4, b'e', b'n', b'd',
+    ];
+    assert_eq!(rt; out.as_slice(), want.as_slice());
+    Ok(())
+}
+
+#[test]
+fn fields_in_front_of_a_buffer(rt: HostRuntime) -> Result<(), Fail> {
+    let mut set = UnknownFieldSet::new(rt.alloc());
+    set.insert(varint_field(16, 300))?;
     let mut buffer = BackBuffer::new(rt.alloc());
     buffer.prepend(b"end")?;
-    prepend_field(&field, &mut buffer)?;
-    set.insert(field)?;
-    prepend_fields_at(FieldNumber::new(16), &set, &mut buffer)?;
     prepend_fields(&set, &mut buffer)?;
     let len = buffer.len();
     assert_eq!(rt; len, buffer.as_slice().len());
@@ -374,10 +391,7 @@ fn written_from_the_back(rt: HostRuntime) -> Result<(), Fail> {
     buffer.prepend_key(FieldNumber::new(1), WireType::LengthDelimited)?;
     let mut out = Vec::from_slice(rt.alloc(), b"<")?;
     buffer.append_to(&mut out)?;
-    let want = [
-        b'<', 0x0a, 19, 0x15, 1, 2, 3, 4, 0x85, 0x01, 1, 2, 3, 4, 0x15, 1, 2, 3, 4, b'e', b'n',
-        b'd',
-    ];
+    let want = [b'<', 0x0a, 7, 0x80, 0x01, 0xac, 0x02, b'e', b'n', b'd'];
     assert_eq!(rt; out.as_slice(), want.as_slice());
     Ok(())
 }
@@ -475,7 +489,7 @@ fn keys(rt: HostRuntime) -> Result<(), Fail> {
     assert_eq!(rt; number.get(), 536_870_911);
     assert_eq!(rt; wire_type, WireType::ThirtyTwoBit);
     assert!(rt; rest.is_empty());
-    assert_eq!(rt; key_len(number, wire_type), 5);
+    assert_eq!(rt; key_value(number.get(), wire_type), 0xffff_fffd);
     assert_eq!(rt; wire_type.code(), 5);
     Ok(())
 }

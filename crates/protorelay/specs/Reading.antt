@@ -16,25 +16,25 @@ use Rattle.prost_reflect_tables.specs.Places.{message_place}
 use Rattle.prost_reflect_tables.specs.Shown.{schema_from}
 use Rattle.prost_reflect_tables.specs.declared.error.PoolError.{PoolError}
 use Rattle.prost_reflect_tables.specs.declared.error.PoolError.TheVariants as pool_errors
-use Rattle.prost_reflect_descriptors.specs.declared.pool.DescriptorPool.{DescriptorPool}
-use Rattle.prost_reflect_descriptors.specs.Pools.{pool_rows}
+use Rattle.prost_reflect_pool.specs.declared.pool.LinkedPool.{LinkedPool}
+use Rattle.prost_reflect_pool.specs.Pools.{pool_rows}
 use Rattle.protorelay.specs.Sets.{IsPoolOfSet, RefusesSet, IsNoSet}
 use Rattle.protorelay.specs.declared.reading.Refusal.{Refusal}
 use Rattle.protorelay.specs.declared.reading.Refusal.TheVariants.{Set, Pool, Name, Hex, Decode, Encode, Memory}
 
 -- The schema of a pool's message types.
-abbrev pub pool_schema : DescriptorPool → Schema
+abbrev pub pool_schema : LinkedPool → Schema
 pool_schema pool = schema_from (pool_rows pool)
 
 -- WHAT IS READ
 
 -- The name is that of a message type in the pool, and the digits spell bytes.
-pub record IsAsked (pool : DescriptorPool) (name digits : List ℕ) (T : ℕ) (bytes : List ℕ) : Type 0 where
+pub record IsAsked (pool : LinkedPool) (name digits : List ℕ) (T : ℕ) (bytes : List ℕ) : Type 0 where
   pub named : message_place (pool_rows pool) name ≡ Some T
   pub spelled : decode_of digits ≡ Ok bytes
 
 -- The content is what the bytes mean by the type.
-pub record IsReadIn (pool : DescriptorPool) (name digits : List ℕ) (content : Content) : Type 0 where
+pub record IsReadIn (pool : LinkedPool) (name digits : List ℕ) (content : Content) : Type 0 where
   pub message_type : ℕ
   pub bytes : List ℕ
   pub asked : IsAsked pool name digits message_type bytes
@@ -42,21 +42,21 @@ pub record IsReadIn (pool : DescriptorPool) (name digits : List ℕ) (content : 
 
 -- In the pool that the set stands for.
 pub record IsRead (set name digits : List ℕ) (content : Content) : Type 0 where
-  pub pool : DescriptorPool
+  pub pool : LinkedPool
   pub made : IsPoolOfSet set pool
   pub read : IsReadIn pool name digits content
 
 -- WHAT IS REFUSED
 
 -- The name and the digits are sound, and a fault stands in the bytes.
-pub record RefusesBytes (pool : DescriptorPool) (name digits : List ℕ) (e : DecodeError) : Type 0 where
+pub record RefusesBytes (pool : LinkedPool) (name digits : List ℕ) (e : DecodeError) : Type 0 where
   pub message_type : ℕ
   pub bytes : List ℕ
   pub asked : IsAsked pool name digits message_type bytes
   pub stands : StandsInMessage (pool_schema pool) message_type LEVEL_LIMIT e bytes
 
 -- The first step that fails in the pool. Want of memory may come anywhere.
-abbrev pub RefusesIn : DescriptorPool → (name digits : List ℕ) → Refusal → Type 0
+abbrev pub RefusesIn : LinkedPool → (name digits : List ℕ) → Refusal → Type 0
 RefusesIn pool name digits Name = message_place (pool_rows pool) name ≡ None
 RefusesIn pool name digits Hex = (message_place (pool_rows pool) name ≢ None) × IsErr (decode_of digits)
 RefusesIn pool name digits (Decode e) = RefusesBytes pool name digits e
@@ -75,7 +75,7 @@ RefusesPool set refusal = ⊥
 
 -- The set makes the pool, and there it is refused.
 pub record RefusesBehindSet (set name digits : List ℕ) (refusal : Refusal) : Type 0 where
-  pub pool : DescriptorPool
+  pub pool : LinkedPool
   pub made : IsPoolOfSet set pool
   pub refuses : RefusesIn pool name digits refusal
 

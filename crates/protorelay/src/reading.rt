@@ -2,8 +2,8 @@
 
 ghost use Rattle.std.specs.Prelude.{◌≡◌, ◌⊎◌, Some, None, true, IfOk, IfErr};
 ghost use Rattle.prost_reflect_wire.specs.Typing.{kept, encodable};
-ghost use Rattle.prost_reflect_descriptors.specs.Pools.{pool_rows};
-ghost use Rattle.prost_reflect_descriptors.specs.Descriptors.{schema_at, type_at};
+ghost use Rattle.prost_reflect_pool.specs.Pools.{pool_rows};
+ghost use Rattle.prost_reflect.specs.Named.{schema_named, type_named};
 ghost use Rattle.prost_reflect_tables.specs.Places.{message_place};
 ghost use Rattle.prost_reflect.specs.View.{content_of};
 ghost use Rattle.protorelay.specs.Sets.{IsPoolOfSet};
@@ -113,7 +113,7 @@ pub fn read(alloc: Global, set: &str, name: &str, digits: &str) -> Result<Dynami
 
 /// The pool that the word for a descriptor set stands for.
 fn pool_of(alloc: Global, set: &str) -> Result<DescriptorPool, Refusal>
-    ensures made { IfOk result (IsPoolOfSet set.now) }
+    ensures made { IfOk result (λ pool. IsPoolOfSet set.now pool.inner.value) }
     ensures refused { IfErr result (RefusesPool set.now) }
 {
     if set == "-" {
@@ -130,9 +130,9 @@ fn read_in(
     name: &str,
     digits: &str,
 ) -> Result<DynamicMessage, Refusal>
-    ensures read { IfOk result (λ message. IsReadIn pool.now name.now digits.now (kept (content_of message))) }
+    ensures read { IfOk result (λ message. IsReadIn pool.now.inner.value name.now digits.now (kept (content_of message))) }
     ensures fits { IfOk result (λ message. encodable (content_of message) ≡ true) }
-    ensures refused { IfErr result (RefusesIn pool.now name.now digits.now) }
+    ensures refused { IfErr result (RefusesIn pool.now.inner.value name.now digits.now) }
 {
     let descriptor = message_type(pool, name)?;
     let bytes = hex::decode(alloc, digits)?;
@@ -142,10 +142,10 @@ fn read_in(
 /// The message type of the name in the pool.
 fn message_type(pool: &DescriptorPool, name: &str) -> Result<MessageDescriptor, Refusal>
     ensures found { IfOk result (λ message.
-        message_place (pool_rows pool.now) name.now ≡ Some (type_at message)) }
-    ensures schema { IfOk result (λ message. schema_at message ≡ pool_schema pool.now) }
+        message_place (pool_rows pool.now.inner.value) name.now ≡ Some (type_named message)) }
+    ensures schema { IfOk result (λ message. schema_named message ≡ pool_schema pool.now.inner.value) }
     ensures refused { IfErr result (λ refusal.
-        ((refusal ≡ refusals.Name) × (message_place (pool_rows pool.now) name.now ≡ None))
+        ((refusal ≡ refusals.Name) × (message_place (pool_rows pool.now.inner.value) name.now ≡ None))
         ⊎ (refusal ≡ refusals.Memory)) }
 {
     match pool.get_message_by_name(name)? {

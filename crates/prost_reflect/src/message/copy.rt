@@ -6,9 +6,9 @@ ghost use Rattle.prost_reflect.specs.Stored.{value_stored, message_stored};
 
 use crate::message::DynamicMessage;
 use crate::value::{MapKey, Value};
-use prost_reflect_fields::entry::Entry;
-use prost_reflect_fields::slots::Slots;
-use prost_reflect_fields::sorted::Sorted;
+use prost_reflect_fields::field_set::FieldSet;
+use prost_reflect_fields::slot::FieldSlot;
+use prost_reflect_fields::sorted_map::SortedMap;
 use std::alloc::AllocError;
 use std::collections::BTreeMap;
 use std::default::Emptied;
@@ -77,20 +77,20 @@ fn copy_pairs(pairs: &BTreeMap<MapKey, Value>) -> Result<BTreeMap<MapKey, Value>
 fn copy_message(message: &DynamicMessage) -> Result<DynamicMessage, AllocError>
     ensures { IfOk result (λ copied. message_stored copied ≡ message_stored message.now) }
 {
-    let mut fields = Sorted::new(message.slots.allocator());
-    for (number, entry) in message.slots.entries() {
+    let mut fields = SortedMap::new(message.fields.allocator());
+    for (number, entry) in message.fields.slots() {
         let copied = match entry {
-            Entry::Value(value) => Entry::Value(copy_value(value)?),
-            Entry::Unknown(unknown) => Entry::Unknown(unknown.clone()?),
-            Entry::Both(value, unknown) => {
+            FieldSlot::Value(value) => FieldSlot::Value(copy_value(value)?),
+            FieldSlot::Unknown(unknown) => FieldSlot::Unknown(unknown.clone()?),
+            FieldSlot::Both(value, unknown) => {
                 let value = copy_value(value)?;
-                Entry::Both(value, unknown.clone()?)
+                FieldSlot::Both(value, unknown.clone()?)
             }
         };
         fields.insert(*number, copied)?;
     }
-    let descriptor = message.slots.descriptor().clone()?;
+    let shared = message.fields.message_type().clone()?;
     Ok(DynamicMessage {
-        slots: Slots::from_entries(descriptor, fields),
+        fields: FieldSet::from_slots(shared, fields),
     })
 }

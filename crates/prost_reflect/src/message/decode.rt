@@ -7,21 +7,30 @@ ghost use Rattle.prost_reflect_wire.specs.Meaning.{decoded};
 ghost use Rattle.prost_reflect_wire.specs.Typing.{kept, WellStored};
 ghost use Rattle.prost_reflect_wire.specs.Fault.{StandsInMessage};
 ghost use Rattle.prost_reflect_wire.specs.Decoding.{Progress, Step, StandsBehindKey};
-ghost use Rattle.prost_reflect_descriptors.specs.Descriptors.{schema_at, type_at};
+ghost use Rattle.prost_reflect.specs.Named.{IsNamed, schema_named, type_named};
 ghost use Rattle.prost_reflect_fields.specs.Known.{known_of};
 ghost use Rattle.prost_reflect.specs.Scalars.{PlainField, StaysUnknown};
 ghost use Rattle.prost_reflect_tables.specs.Rows.{field_row};
-ghost use Rattle.prost_reflect_descriptors.specs.MapParts.{map_parts};
-ghost use Rattle.prost_reflect_descriptors.specs.Pools.{pool_rows};
+ghost use Rattle.prost_reflect_pool.specs.MapParts.{map_parts};
+ghost use Rattle.prost_reflect_pool.specs.SharedPools.{pool_rows};
 ghost use Rattle.prost_reflect.specs.Targets.{IsTarget, target_of, repeated_target_of, element_target_of, entry_target_of};
-ghost use Rattle.prost_reflect.specs.View.{content_of, descriptor_of};
+ghost use Rattle.prost_reflect.specs.View.{content_of, message_type_of};
 
+mod elements;
+mod enum_list;
+pub(crate) mod list;
+pub(crate) mod map;
+mod message_map;
+mod nested;
+pub(crate) mod scalar;
+
+use crate::descriptor::MessageDescriptor;
 use crate::message::DynamicMessage;
+use crate::message::decode::nested::MessageKind;
+use crate::message::decode::scalar::scalar_at;
 use crate::message::defaults::is_repeated;
 use crate::message::enums::is_stray;
-use crate::message::scalar::scalar_at;
-use prost_reflect_descriptors::MessageDescriptor;
-use prost_reflect_descriptors::rows::{field_table, map_parts};
+use prost_reflect_pool::PooledType;
 use prost_reflect_tables::{FieldTable, TableKind};
 use prost_reflect_wire::{
     DecodeError, FieldNumber, RECURSION_LIMIT, UnknownField, WireType, decode_key, value_at,
@@ -47,12 +56,12 @@ impl DynamicMessage {
         descriptor: MessageDescriptor,
         bytes: &[u8],
     ) -> Result<DynamicMessage, DecodeError>
-        ensures descriptor { IfOk result (λ message. descriptor_of message ≡ descriptor) }
-        ensures means { IfOk result (λ message. decoded (schema_at descriptor) LEVEL_LIMIT (type_at descriptor) bytes.now ≡ Some (kept (content_of message))) }
+        ensures message_type { IfOk result (λ message. IsNamed descriptor (message_type_of message)) }
+        ensures means { IfOk result (λ message. decoded (schema_named descriptor) LEVEL_LIMIT (type_named descriptor) bytes.now ≡ Some (kept (content_of message))) }
         ensures sound { IfOk result (λ message. WellStored (content_of message)) }
-        ensures accepts { IfOk result (λ _. Accepts (schema_at descriptor) LEVEL_LIMIT (type_at descriptor) bytes.now) }
-        ensures fault { IfErr result (λ e. e ≢ DecodeError.OutOfMemory → StandsInMessage (schema_at descriptor) (type_at descriptor) LEVEL_LIMIT e bytes.now) }
-        ensures accepted { IfErr result (λ e. Accepts (schema_at descriptor) LEVEL_LIMIT (type_at descriptor) bytes.now → e ≡ DecodeError.OutOfMemory) }
+        ensures accepts { IfOk result (λ _. Accepts (schema_named descriptor) LEVEL_LIMIT (type_named descriptor) bytes.now) }
+        ensures fault { IfErr result (λ e. e ≢ DecodeError.OutOfMemory → StandsInMessage (schema_named descriptor) (type_named descriptor) LEVEL_LIMIT e bytes.now) }
+        ensures accepted { IfErr result (λ e. Accepts (schema_named descriptor) LEVEL_LIMIT (type_named descriptor) bytes.now → e ≡ DecodeError.OutOfMemory) }
     {
         let mut message = DynamicMessage::new(alloc, descriptor);
         message.merge_records(alloc, bytes, RECURSION_LIMIT)?;
@@ -69,7 +78,7 @@ impl DynamicMessage {
     ) -> Result<(), DecodeError>
         requires sound { WellStored (content_of self.old) }
         ensures ok { IfOk result (λ _. Progress levels (content_of self.old) (content_of self.new) bytes.now []) }
-        ensures descriptor { descriptor_of self.new ≡ descriptor_of self.old }
+        ensures message_type { message_type_of self.new ≡ message_type_of self.old }
         ensures fault { IfErr result (λ e. e ≢ DecodeError.OutOfMemory → StandsInMessage (schema_of (content_of self.old)) (type_of (content_of self.old)) levels e bytes.now) }
     {
         let mut rest = bytes;
@@ -93,10 +102,10 @@ impl DynamicMessage {
     ) -> Result<&'a [u8], DecodeError>
         requires sound { WellStored (content_of self.old) }
         ensures ok { IfOk result (λ rest. Step levels number.value wire_type (content_of self.old) (content_of self.new) bytes.now rest.now) }
-        ensures descriptor { descriptor_of self.new ≡ descriptor_of self.old }
+        ensures message_type { message_type_of self.new ≡ message_type_of self.old }
         ensures fault { IfErr result (λ e. e ≢ DecodeError.OutOfMemory → StandsBehindKey (content_of self.old) levels number.value wire_type e bytes.now) }
     {
-        match target_at(self.descriptor(), number.get()) {
+        match target_at(self.message_type(), number.get()) {
             Target::Scalar(kind) => self.merge_scalar(
                 alloc, number, kind, wire_type, bytes, levels,
             ),
@@ -107,17 +116,11 @@ impl DynamicMessage {
             Target::Map(key, kind) => {
                 self.merge_map(alloc, number, (key, kind), wire_type, bytes, levels)
             }
-            Target::Message(place) => {
-                self.merge_message(alloc, number, place, wire_type, bytes, levels)
+            Target::Message(kind) => {
+                self.merge_message(alloc, number, kind, wire_type, bytes, levels)
             }
-            Target::Group(place) => self.merge_group(
-                alloc, number, place, wire_type, bytes, levels,
-            ),
-            Target::MessageElement(place) => {
-                self.merge_message_element(alloc, number, place, wire_type, bytes, levels)
-            }
-            Target::GroupElement(place) => {
-                self.merge_group_element(alloc, number, place, wire_type, bytes, levels)
+            Target::Element(kind) => {
+                self.merge_element(alloc, number, kind, wire_type, bytes, levels)
             }
             Target::MessageEntry(key, place) => {
                 self.merge_entry(alloc, number, key, place, wire_type, bytes, levels)
@@ -138,13 +141,13 @@ impl DynamicMessage {
         levels: u32,
     ) -> Result<&'a [u8], DecodeError>
         requires sound { WellStored (content_of self.old) }
-        requires field { PlainField (descriptor_of self.old) number.value kind }
+        requires field { PlainField (message_type_of self.old) number.value kind }
         ensures ok { IfOk result (λ rest. Step levels number.value wire_type (content_of self.old) (content_of self.new) bytes.now rest.now) }
-        ensures descriptor { descriptor_of self.new ≡ descriptor_of self.old }
+        ensures message_type { message_type_of self.new ≡ message_type_of self.old }
         ensures fault { IfErr result (λ e. e ≢ DecodeError.OutOfMemory → StandsBehindKey (content_of self.old) levels number.value wire_type e bytes.now) }
     {
         let (value, rest) = scalar_at(alloc, kind, wire_type, bytes)?;
-        if is_stray(self.descriptor(), kind, &value) {
+        if is_stray(self.message_type(), kind, &value) {
             return self.merge_unknown(alloc, number, wire_type, bytes, levels);
         }
         self.set_value(number.get(), value)?;
@@ -161,9 +164,9 @@ impl DynamicMessage {
         levels: u32,
     ) -> Result<&'a [u8], DecodeError>
         requires sound { WellStored (content_of self.old) }
-        requires unknown { StaysUnknown (known_of (descriptor_of self.old)) levels number.value wire_type bytes.now }
+        requires unknown { StaysUnknown (known_of (message_type_of self.old)) levels number.value wire_type bytes.now }
         ensures ok { IfOk result (λ rest. Step levels number.value wire_type (content_of self.old) (content_of self.new) bytes.now rest.now) }
-        ensures descriptor { descriptor_of self.new ≡ descriptor_of self.old }
+        ensures message_type { message_type_of self.new ≡ message_type_of self.old }
         ensures fault { IfErr result (λ e. e ≢ DecodeError.OutOfMemory → StandsBehindKey (content_of self.old) levels number.value wire_type e bytes.now) }
     {
         let (value, rest) = value_at(alloc, number, wire_type, bytes, levels)?;
@@ -185,34 +188,30 @@ pub(super) enum Target {
     Numbers(TableKind),
     /// An entry of a map whose keys and values are scalars of these kinds.
     Map(TableKind, TableKind),
-    /// A message of the type at the place.
-    Message(usize),
-    /// Likewise, written as a group.
-    Group(usize),
-    /// A message as an element of a list.
-    MessageElement(usize),
-    /// A group as an element of a list.
-    GroupElement(usize),
+    /// A message of the kind.
+    Message(MessageKind),
+    /// Such a message as an element of a list.
+    Element(MessageKind),
     /// An entry of a map whose keys are scalars of the kind, and whose values are messages of the type at the place.
     MessageEntry(TableKind, usize),
 }
 
 /// What a record of the number is read as.
-fn target_at(descriptor: &MessageDescriptor, number: u32) -> Target
-    ensures { IsTarget descriptor.now number result }
+fn target_at(message_type: &PooledType, number: u32) -> Target
+    ensures { IsTarget message_type.now number result }
 {
-    match field_table(descriptor, number) {
-        Some(field) if is_repeated(field.cardinality) => repeated_target(descriptor, field),
+    match message_type.field_table(number) {
+        Some(field) if is_repeated(field.cardinality) => repeated_target(message_type, field),
         Some(field) => value_target(field.kind, field.is_group),
         None => Target::Unknown,
     }
 }
 
 /// What a record of a repeated field is read as.
-fn repeated_target(descriptor: &MessageDescriptor, field: &FieldTable) -> Target
-    ensures { result ≡ repeated_target_of (map_parts (pool_rows descriptor.now.pool) (field_row field.now)) (field_row field.now).kind (field_row field.now).is_group }
+fn repeated_target(message_type: &PooledType, field: &FieldTable) -> Target
+    ensures { result ≡ repeated_target_of (map_parts (pool_rows message_type.now.pool) (field_row field.now)) (field_row field.now).kind (field_row field.now).is_group }
 {
-    match map_parts(descriptor, field) {
+    match message_type.map_parts(field) {
         Some((key, value)) => entry_target(key.kind, value.kind),
         None => element_target(field.kind, field.is_group),
     }
@@ -223,8 +222,7 @@ fn value_target(kind: TableKind, is_group: bool) -> Target
     ensures { result ≡ target_of kind is_group }
 {
     match kind {
-        TableKind::Message(place) if is_group => Target::Group(place),
-        TableKind::Message(place) => Target::Message(place),
+        TableKind::Message(place) => Target::Message(MessageKind { place, is_group }),
         _ => Target::Scalar(kind),
     }
 }
@@ -234,8 +232,7 @@ fn element_target(kind: TableKind, is_group: bool) -> Target
     ensures { result ≡ element_target_of kind is_group }
 {
     match kind {
-        TableKind::Message(place) if is_group => Target::GroupElement(place),
-        TableKind::Message(place) => Target::MessageElement(place),
+        TableKind::Message(place) => Target::Element(MessageKind { place, is_group }),
         TableKind::Enum(_) => Target::Numbers(kind),
         _ => Target::List(kind),
     }

@@ -4,21 +4,20 @@ ghost use Rattle.std.specs.Prelude.{◌≡◌, not, slice_get};
 ghost use Rattle.prost_reflect_wire.specs.Scalar.{is_declared};
 ghost use Rattle.prost_reflect_tables.specs.Rows.{enum_row};
 ghost use Rattle.prost_reflect_tables.specs.Shown.{enum_numbers};
-ghost use Rattle.prost_reflect_descriptors.specs.Enums.{first_of};
-ghost use Rattle.prost_reflect_descriptors.specs.Pools.{pool_rows};
+ghost use Rattle.prost_reflect_pool.specs.Enums.{first_of};
+ghost use Rattle.prost_reflect_pool.specs.SharedPools.{pool_rows};
 ghost use Rattle.prost_reflect.specs.Scalars.{is_stray_number};
 ghost use Rattle.prost_reflect.specs.View.{value_of};
 
 use crate::value::Value;
-use prost_reflect_descriptors::MessageDescriptor;
-use prost_reflect_descriptors::rows::enum_table;
+use prost_reflect_pool::PooledType;
 use prost_reflect_tables::{EnumTable, TableKind};
 
 /// The number of the first value of the enum at a place of the message type's pool.
-pub(crate) fn first_number(descriptor: &MessageDescriptor, place: usize) -> i32
-    ensures { result ≡ first_of (slice_get (pool_rows descriptor.now.pool).enums place) }
+pub(crate) fn first_number(message_type: &PooledType, place: usize) -> i32
+    ensures { result ≡ first_of (slice_get (pool_rows message_type.now.pool).enums place) }
 {
-    match enum_table(descriptor, place) {
+    match message_type.enum_table(place) {
         Some(table) if !table.numbers.is_empty() => table.numbers[0],
         _ => 0,
     }
@@ -33,12 +32,12 @@ fn lacks(table: &EnumTable, number: i32) -> bool
 
 /// Whether a value is a number that its kind, a closed enum of the message type's pool, does not declare. Its record
 /// stays an unknown field. The declared numbers are looked at one after another.
-pub(crate) fn is_stray(descriptor: &MessageDescriptor, kind: TableKind, value: &Value) -> bool
-    ensures { result ≡ is_stray_number (pool_rows descriptor.now.pool).enums kind (value_of value.now) }
+pub(crate) fn is_stray(message_type: &PooledType, kind: TableKind, value: &Value) -> bool
+    ensures { result ≡ is_stray_number (pool_rows message_type.now.pool).enums kind (value_of value.now) }
 {
     match (kind, value) {
         (TableKind::Enum(place), Value::EnumNumber(number)) => {
-            match enum_table(descriptor, place) {
+            match message_type.enum_table(place) {
                 Some(table) => lacks(table, *number),
                 None => false,
             }

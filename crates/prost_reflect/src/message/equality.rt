@@ -7,7 +7,7 @@ ghost use Rattle.prost_reflect.specs.View.{content_of, value_of};
 
 use crate::message::DynamicMessage;
 use crate::value::{MapKey, Value};
-use prost_reflect_fields::entry::Entry;
+use prost_reflect_fields::slot::FieldSlot;
 use std::collections::BTreeMap;
 
 impl PartialEq for Value {
@@ -100,11 +100,11 @@ fn are_equal_maps(a: &BTreeMap<MapKey, Value>, b: &BTreeMap<MapKey, Value>) -> b
 fn are_equal_messages(a: &DynamicMessage, b: &DynamicMessage) -> bool
     ensures { result ≡ equal_messages a.now b.now }
 {
-    if *a.slots.descriptor() != *b.slots.descriptor() {
+    if *a.fields.message_type() != *b.fields.message_type() {
         return false;
     }
-    let mut others = b.slots.entries().iter();
-    for (number, entry) in a.slots.entries() {
+    let mut others = b.fields.slots().iter();
+    for (number, entry) in a.fields.slots() {
         let Some((other_number, other)) = others.next() else {
             return false;
         };
@@ -112,9 +112,9 @@ fn are_equal_messages(a: &DynamicMessage, b: &DynamicMessage) -> bool
             return false;
         }
         let same = match (entry, other) {
-            (Entry::Value(a), Entry::Value(b)) => are_equal_values(a, b),
-            (Entry::Unknown(a), Entry::Unknown(b)) => a == b,
-            (Entry::Both(a, u), Entry::Both(b, t)) => are_equal_values(a, b) && u == t,
+            (FieldSlot::Value(a), FieldSlot::Value(b)) => are_equal_values(a, b),
+            (FieldSlot::Unknown(a), FieldSlot::Unknown(b)) => a == b,
+            (FieldSlot::Both(a, u), FieldSlot::Both(b, t)) => are_equal_values(a, b) && u == t,
             _ => false,
         };
         if !same {

@@ -10,9 +10,8 @@ ghost use Rattle.prost_reflect.specs.View.{value_of, content_of};
 use crate::message::DynamicMessage;
 use crate::message::defaults::is_field_default;
 use crate::value::Value;
-use prost_reflect_descriptors::MessageDescriptor;
-use prost_reflect_descriptors::rows::field_table;
-use prost_reflect_fields::entry::Entry;
+use prost_reflect_fields::slot::FieldSlot;
+use prost_reflect_pool::PooledType;
 use std::alloc::{AllocError, Global};
 
 /// A number at which a message has something.
@@ -36,8 +35,8 @@ impl DynamicMessage {
         ensures { IfOk result (λ numbers. numbers.items ≡ present_in (kept (content_of self.now))) }
     {
         let mut numbers = Vec::new(alloc);
-        for (number, entry) in self.entries() {
-            push_present(&mut numbers, self.descriptor(), *number, entry)?;
+        for (number, entry) in self.slots() {
+            push_present(&mut numbers, self.message_type(), *number, entry)?;
         }
         Ok(numbers)
     }
@@ -46,14 +45,14 @@ impl DynamicMessage {
 /// Adds what is present at a number.
 fn push_present(
     numbers: &mut Vec<PresentNumber>,
-    descriptor: &MessageDescriptor,
+    message_type: &PooledType,
     number: u32,
-    entry: &Entry<Value>,
+    entry: &FieldSlot<Value>,
 ) -> Result<(), AllocError>
-    ensures { OnOk result (numbers.new.items ≡ numbers.old.items ++ entry_present (known_of descriptor.now) number entry.now) }
+    ensures { OnOk result (numbers.new.items ≡ numbers.old.items ++ entry_present (known_of message_type.now) number entry.now) }
 {
     if let Some(value) = entry.value()
-        && let Some(present) = present_value(descriptor, number, value)
+        && let Some(present) = present_value(message_type, number, value)
     {
         numbers.push(present)?;
     }
@@ -66,15 +65,11 @@ fn push_present(
 }
 
 /// The number of a value, if the value is kept.
-fn present_value(
-    descriptor: &MessageDescriptor,
-    number: u32,
-    value: &Value,
-) -> Option<PresentNumber>
-    ensures { result ≡ value_present (known_of descriptor.now) number (kept_value (field_of (known_of descriptor.now) number) (kept_inside (value_of value.now))) }
+fn present_value(message_type: &PooledType, number: u32, value: &Value) -> Option<PresentNumber>
+    ensures { result ≡ value_present (known_of message_type.now) number (kept_value (field_of (known_of message_type.now) number) (kept_inside (value_of value.now))) }
 {
-    match field_table(descriptor, number) {
-        Some(field) if is_field_default(descriptor, field, value) => None,
+    match message_type.field_table(number) {
+        Some(field) if is_field_default(message_type, field, value) => None,
         Some(field) if field.is_extension => Some(PresentNumber::Extension(number)),
         _ => Some(PresentNumber::Field(number)),
     }

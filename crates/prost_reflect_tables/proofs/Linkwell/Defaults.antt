@@ -7,12 +7,12 @@ use Rattle.std.proofs.lemmas.Bool.{and_from, and_parts, or_left, lt-ltb}
 use Rattle.std.proofs.lemmas.Bool.Decides.{Decides-int_eq}
 use Rattle.std.proofs.lemmas.Option.{slice_get-map}
 use Rattle.prost_reflect_laws.proofs.Spelt.{text_bytes}
-use Rattle.prost_reflect_records.proofs.SoundFields.{text_valid}
+use Rattle.prost_reflect_types.proofs.SoundFields.{text_valid}
 use Rattle.prost_reflect_wire.specs.Scalar.{Scalar, Boolean, I32, I64, U32, U64, F32, F64, Text, Bytes, EnumNumber, ScalarKind, EnumNumbers, Open, Closed, in_i32, is_declared, kind_default, scalar_valid}
 use Rattle.prost_reflect_wire.specs.Scalar as scalars
 use Rattle.prost_reflect_wire.specs.Schema.{ScalarOf, Schema, kind_valid, default_valid}
-use Rattle.prost_reflect_records.specs.declared.FieldDescriptorProto.{FieldDescriptorProto}
-use Rattle.prost_reflect_records.specs.declared.EnumValueDescriptorProto.{EnumValueDescriptorProto}
+use Rattle.prost_reflect_types.specs.declared.FieldDescriptorProto.{FieldDescriptorProto}
+use Rattle.prost_reflect_types.specs.declared.EnumValueDescriptorProto.{EnumValueDescriptorProto}
 use Rattle.prost_reflect_tables.specs.declared.tables.TableKind.{TableKind}
 use Rattle.prost_reflect_tables.specs.declared.tables.TableKind.TheVariants as kinds
 use Rattle.prost_reflect_tables.specs.Rows.{EnumValueRow, EnumRow}

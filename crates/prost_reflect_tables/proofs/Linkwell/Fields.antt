@@ -9,7 +9,7 @@ use Rattle.prost_reflect_wire.specs.Scalar.{Scalar, ScalarKind, scalar_eq, kind_
 use Rattle.prost_reflect_wire.specs.Scalar as scalars
 use Rattle.prost_reflect_wire.specs.Schema as schemas
 use Rattle.prost_reflect_wire.specs.Schema.{Kind, ScalarOf, MessageOf, GroupOf, ValueType, Schema, message_type, kind_valid, is_packable_kind, is_bare, has_kind_default, message_has_presence, is_group}
-use Rattle.prost_reflect_records.specs.declared.FieldDescriptorProto.{FieldDescriptorProto}
+use Rattle.prost_reflect_types.specs.declared.FieldDescriptorProto.{FieldDescriptorProto}
 use Rattle.prost_reflect_tables.specs.declared.tables.Cardinality.{Cardinality}
 use Rattle.prost_reflect_tables.specs.declared.tables.Cardinality.TheVariants.{Optional, Required, Repeated}
 use Rattle.prost_reflect_tables.specs.declared.tables.TableKind.{TableKind}

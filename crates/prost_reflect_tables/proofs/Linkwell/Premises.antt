@@ -4,14 +4,16 @@ use Rattle.std.specs.List.{list_any, list_all}
 use Rattle.std.proofs.lemmas.Bool.{or_parts}
 use Rattle.std.proofs.lemmas.List.Folds.{list_all-map}
 use Rattle.prost_reflect_wire.specs.Scalar.{in_i32}
-use Rattle.prost_reflect_records.specs.declared.FileDescriptorProto.{FileDescriptorProto}
-use Rattle.prost_reflect_records.specs.declared.FieldDescriptorProto.{FieldDescriptorProto}
+use Rattle.prost_reflect_types.specs.declared.FileDescriptorProto.{FileDescriptorProto}
+use Rattle.prost_reflect_types.specs.declared.FieldDescriptorProto.{FieldDescriptorProto}
+use Rattle.prost_reflect_tables.specs.declared.error.PoolError.{PoolError}
+use Rattle.prost_reflect_tables.specs.declared.error.PoolError.TheVariants as errors
 use Rattle.prost_reflect_tables.specs.Flat.{DefinitionRow, FlatMessageRow, FlatEnumRow, FlatServiceRow, FlatRows}
-use Rattle.prost_reflect_tables.specs.Faults.{any_field, number_bad, type_missing, type_unknown, extendee_missing, extendee_unknown, repeated_member, is_member, has_oneof_outside, import_outside, enum_empty, extension_outside}
+use Rattle.prost_reflect_tables.specs.Faults.{any_field, number_bad, type_missing, type_unknown, extendee_missing, extendee_unknown, repeated_member, is_member, has_oneof_outside, import_outside, enum_empty, extension_outside, duplicate_number}
 use Rattle.prost_reflect_tables.specs.EntryFaults.{bad_map_entry, entry_bad, wrongly_of_entry, is_of_entry, method_of_entry}
 use Rattle.prost_reflect_tables.specs.DefaultFaults.{default_bad, default_misplaced}
 use Rattle.prost_reflect_tables.specs.Linking.{Links, links_of, value_number, linked_enum, linked_rows}
-use Rattle.prost_reflect_tables.specs.Checked.{Checked}
+use Rattle.prost_reflect_tables.specs.Checked.{has_fault, Checked}
 use Rattle.prost_reflect_tables.specs.InRange.{enum_in_range, in_range}
 use Rattle.prost_reflect_tables.proofs.Keeping.{passes_at}
 use Rattle.prost_reflect_tables.proofs.Linkwell.Items.{none_at}
@@ -20,6 +22,9 @@ use Rattle.prost_reflect_tables.proofs.Linkwell.Items.{none_at}
 pub record Sound (files : List FileDescriptorProto) (rows : FlatRows) : Type 0 where
   pub checked : Checked files rows
   pub range : in_range (linked_rows rows) ≡ true
+
+no_fault : {files : List FileDescriptorProto} {rows : FlatRows} → Sound files rows → (e : PoolError) → has_fault e files rows ≡ false
+no_fault s e = s.checked e
 
 pub record FieldChecked (rows : FlatRows) (d : DefinitionRow FieldDescriptorProto) : Type 0 where
   pub number : number_bad d ≡ false
@@ -44,6 +49,9 @@ pub record MessageChecked (m : FlatMessageRow) : Type 0 where
 pub record EnumChecked (e : FlatEnumRow) : Type 0 where
   pub some : enum_empty e ≡ false
   pub range : list_all (λ v. in_i32 (value_number v)) e.values ≡ true
+
+pub numbers_differ : {files : List FileDescriptorProto} (rows : FlatRows) → Sound files rows → duplicate_number rows ≡ false
+numbers_differ rows s = no_fault s errors.DuplicateNumber
 
 -- A test of all fields, at a field of a message and at an extension.
 field_at : (t : DefinitionRow FieldDescriptorProto → Bool) (rows : FlatRows) (T i : ℕ) (m : FlatMessageRow) (d : DefinitionRow FieldDescriptorProto) → any_field t rows ≡ false → slice_get rows.messages T ≡ Some m → slice_get m.fields i ≡ Some d → t d ≡ false
@@ -78,41 +86,41 @@ entry_parts rows h =
 
 pub message_checked : {files : List FileDescriptorProto} (rows : FlatRows) (T : ℕ) (m : FlatMessageRow) → Sound files rows → slice_get rows.messages T ≡ Some m → MessageChecked m
 message_checked {files} rows T m s at = record {
-  oneofs = none_at has_oneof_outside rows.messages T m (or_parts (list_any import_outside files) _ s.checked.own.indices).1 at;
-  entry = none_at entry_bad rows.messages T m (entry_parts rows s.checked.entries).0 at;
+  oneofs = none_at has_oneof_outside rows.messages T m (or_parts (list_any import_outside files) _ (no_fault s errors.BadIndex)).1 at;
+  entry = none_at entry_bad rows.messages T m (entry_parts rows (no_fault s errors.BadMapEntry)).0 at;
 }
 
 pub enum_checked : {files : List FileDescriptorProto} (rows : FlatRows) (E : ℕ) (e : FlatEnumRow) → Sound files rows → slice_get rows.enums E ≡ Some e → EnumChecked e
 enum_checked rows E e s at = record {
-  some = none_at enum_empty rows.enums E e s.checked.own.enums at;
+  some = none_at enum_empty rows.enums E e (no_fault s errors.EmptyEnum) at;
   range = sym (list_all-map in_i32 value_number e.values) ∙ passes_at (λ (x : FlatEnumRow). list_all in_i32 (map value_number x.values)) rows.enums E e (sym (list_all-map enum_in_range linked_enum rows.enums) ∙ s.range) at;
 }
 
 pub field_checked : {files : List FileDescriptorProto} (rows : FlatRows) (T i : ℕ) (m : FlatMessageRow) (d : DefinitionRow FieldDescriptorProto) → Sound files rows → slice_get rows.messages T ≡ Some m → slice_get m.fields i ≡ Some d → FieldChecked rows d
 field_checked rows T i m d s at there = record {
-  number = field_at number_bad rows T i m d s.checked.own.numbers at there;
-  type_there = field_at type_missing rows T i m d (three _ _ _ s.checked.own.types).0 at there;
-  type_found = field_at (type_unknown rows) rows T i m d (three _ _ _ s.checked.names_found).0 at there;
-  member = field_at repeated_member rows T i m d (or_parts _ _ s.checked.own.oneofs).0 at there;
-  entry = none_at (wrongly_of_entry rows) m.fields i d (none_at (λ (m : FlatMessageRow). list_any (wrongly_of_entry rows) m.fields) rows.messages T m (entry_parts rows s.checked.entries).1 at) there;
-  default = well_placed (links_of rows) d (field_at (default_bad (links_of rows)) rows T i m d s.checked.defaults at there);
+  number = field_at number_bad rows T i m d (no_fault s errors.BadNumber) at there;
+  type_there = field_at type_missing rows T i m d (three _ _ _ (no_fault s errors.MissingType)).0 at there;
+  type_found = field_at (type_unknown rows) rows T i m d (three _ _ _ (no_fault s errors.UnknownType)).0 at there;
+  member = field_at repeated_member rows T i m d (or_parts _ _ (no_fault s errors.BadOneof)).0 at there;
+  entry = none_at (wrongly_of_entry rows) m.fields i d (none_at (λ (m : FlatMessageRow). list_any (wrongly_of_entry rows) m.fields) rows.messages T m (entry_parts rows (no_fault s errors.BadMapEntry)).1 at) there;
+  default = well_placed (links_of rows) d (field_at (default_bad (links_of rows)) rows T i m d (no_fault s errors.BadDefault) at there);
 }
 
 pub extension_checked : {files : List FileDescriptorProto} (rows : FlatRows) (i : ℕ) (d : DefinitionRow FieldDescriptorProto) → Sound files rows → slice_get rows.extensions i ≡ Some d → ExtensionChecked rows d
 extension_checked rows i d s at =
-    let no_entry : is_of_entry rows d ≡ false = none_at (is_of_entry rows) rows.extensions i d (entry_parts rows s.checked.entries).2 at in
+    let no_entry : is_of_entry rows d ≡ false = none_at (is_of_entry rows) rows.extensions i d (entry_parts rows (no_fault s errors.BadMapEntry)).2 at in
     record {
       field = record {
-        number = extension_at number_bad rows i d s.checked.own.numbers at;
-        type_there = extension_at type_missing rows i d (three _ _ _ s.checked.own.types).0 at;
-        type_found = extension_at (type_unknown rows) rows i d (three _ _ _ s.checked.names_found).0 at;
-        member = extension_at repeated_member rows i d (or_parts _ _ s.checked.own.oneofs).0 at;
+        number = extension_at number_bad rows i d (no_fault s errors.BadNumber) at;
+        type_there = extension_at type_missing rows i d (three _ _ _ (no_fault s errors.MissingType)).0 at;
+        type_found = extension_at (type_unknown rows) rows i d (three _ _ _ (no_fault s errors.UnknownType)).0 at;
+        member = extension_at repeated_member rows i d (or_parts _ _ (no_fault s errors.BadOneof)).0 at;
         entry = wrong_needs_entry rows d no_entry;
-        default = well_placed (links_of rows) d (extension_at (default_bad (links_of rows)) rows i d s.checked.defaults at);
+        default = well_placed (links_of rows) d (extension_at (default_bad (links_of rows)) rows i d (no_fault s errors.BadDefault) at);
       };
-      extendee = none_at extendee_missing rows.extensions i d (three _ _ _ s.checked.own.types).1 at;
-      extendee_found = none_at (extendee_unknown rows) rows.extensions i d (three _ _ _ s.checked.names_found).1 at;
-      alone = none_at is_member rows.extensions i d (or_parts _ _ s.checked.own.oneofs).1 at;
+      extendee = none_at extendee_missing rows.extensions i d (three _ _ _ (no_fault s errors.MissingType)).1 at;
+      extendee_found = none_at (extendee_unknown rows) rows.extensions i d (three _ _ _ (no_fault s errors.UnknownType)).1 at;
+      alone = none_at is_member rows.extensions i d (or_parts _ _ (no_fault s errors.BadOneof)).1 at;
       no_entry = no_entry;
-      inside = none_at (extension_outside rows) rows.extensions i d s.checked.in_ranges at;
+      inside = none_at (extension_outside rows) rows.extensions i d (no_fault s errors.OutsideRange) at;
     }

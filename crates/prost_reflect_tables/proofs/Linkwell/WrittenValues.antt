@@ -9,7 +9,7 @@ use Rattle.std.proofs.Math.Nat.{pow-succ', mul-lt-mul_of_pos_right, mul-le-mul_r
 use Rattle.prost_reflect_wire.specs.Scalar.{in_i32, in_i64}
 use Rattle.prost_reflect_tables.specs.WrittenDefaults.{up_to, whole_number, signed, is_negative, behind, greatest_exponent, bits_at, whole_bits, magnitude_bits, float_bits, FloatFormat, binary32, binary64, Front, front, is_octal, octal_digit, octal, letter, escaped, front_byte, unescaped_in, unescaped, number_named}
 use Rattle.prost_reflect_wire.specs.Varint.{are_bytes}
-use Rattle.prost_reflect_records.specs.declared.EnumValueDescriptorProto.{EnumValueDescriptorProto}
+use Rattle.prost_reflect_types.specs.declared.EnumValueDescriptorProto.{EnumValueDescriptorProto}
 use Rattle.prost_reflect_tables.specs.Names.{text_or_empty}
 use Rattle.prost_reflect_tables.specs.Rows.{EnumValueRow}
 use Rattle.prost_reflect_tables.specs.Flat.{DefinitionRow}

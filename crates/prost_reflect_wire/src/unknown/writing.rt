@@ -1,83 +1,59 @@
 //! Writing fields that no descriptor knows, the last byte first (the encoding guide, "Message Structure" and "Groups").
 
-ghost use Rattle.std.specs.Prelude.{◌≡◌, ◌+◌, ◌≤◌, ◌^◌, ◌++◌, ◌∷◌, [], ℕ, List, true, length, map, OnOk, OnErr, IfErr};
-ghost use Rattle.prost_reflect_wire.specs.Record.{record_at, body_of, Spells, spelled, short_payload, valid, payload_valid};
+ghost use Rattle.std.specs.Prelude.{◌≡◌, ◌≤◌, ◌<◌, ◌^◌, ◌++◌, ◌∷◌, [], ℕ, List, true, length, OnOk, OnErr, IfErr};
+ghost use Rattle.std.specs.Option.{SomeIff};
+ghost use Rattle.prost_reflect_wire.specs.Record.{body_of, Spells, spelled, short_payload, valid, payload_valid};
 ghost use Rattle.prost_reflect_wire.specs.Front.{RecordFront};
 ghost use Rattle.prost_reflect_wire.specs.Buffer.{bytes_of, Prepended};
-ghost use Rattle.prost_reflect_wire.specs.Unknown.{payload_of, record_of, records_of, renumbered};
+ghost use Rattle.prost_reflect_wire.specs.Sinks.{Adds};
+ghost use Rattle.prost_reflect_wire.specs.Unknown.{payload_of, record_of, records_of};
 
 use crate::buffer::BackBuffer;
 use crate::error::EncodeError;
 use crate::key::{FieldNumber, WireType};
+use crate::sink::{ByteSink, LengthSink, Sink, write_key};
 use crate::unknown::{UnknownField, UnknownFieldSet, UnknownFieldValue};
 
 /// Adds the record of the field in front.
-///
-/// # Errors
-///
-/// `TooLong` if the whole passes the greatest `usize`, `OutOfMemory` if a growth is refused; a part of the record may
-/// then stand in front.
 #[cycle(writing)]
-pub fn prepend_field(field: &UnknownField, out: &mut BackBuffer) -> Result<(), EncodeError>
-    ensures ok { Prepended result (bytes_of out.old) (bytes_of out.new) (spelled (record_of field.now ∷ [])) }
-    ensures valid { OnOk result (valid (body_of (record_of field.now ∷ [])) ≡ true) }
+pub fn write_field<S: Sink>(sink: &mut S, field: &UnknownField)
+    ensures added { Adds S.added sink.old sink.new (spelled (record_of field.now ∷ [])) }
+    ensures valid { valid (body_of (record_of field.now ∷ [])) ≡ true }
 {
-    prepend_record(field.number, &field.value, out)
+    write_value(sink, field.number, &field.value);
+    write_key(sink, field.number.get(), field.value.wire_type());
 }
 
-/// Adds a key of the number, and the value behind it.
+/// Adds what stands behind the key of a field in front.
 #[cycle(writing)]
-fn prepend_record(
-    number: FieldNumber,
-    value: &UnknownFieldValue,
-    out: &mut BackBuffer,
-) -> Result<(), EncodeError>
-    ensures ok { Prepended result (bytes_of out.old) (bytes_of out.new) (spelled (record_at number.value (payload_of value.now) ∷ [])) }
-    ensures valid { OnOk result (valid (body_of (record_at number.value (payload_of value.now) ∷ [])) ≡ true) }
-{
-    prepend_value(number, value, out)?;
-    out.prepend_key(number, value.wire_type())
-}
-
-/// Adds what stands behind the key of a field.
-#[cycle(writing)]
-fn prepend_value(
-    number: FieldNumber,
-    value: &UnknownFieldValue,
-    out: &mut BackBuffer,
-) -> Result<(), EncodeError>
-    ensures ok { Prepended result (bytes_of out.old) (bytes_of out.new) (short_payload number.value (payload_of value.now)) }
-    ensures valid { OnOk result (payload_valid (payload_of value.now) ≡ true) }
+fn write_value<S: Sink>(sink: &mut S, number: FieldNumber, value: &UnknownFieldValue)
+    ensures added { Adds S.added sink.old sink.new (short_payload number.value (payload_of value.now)) }
+    ensures valid { payload_valid (payload_of value.now) ≡ true }
 {
     match value {
-        UnknownFieldValue::Varint(value) => out.prepend_varint(*value),
-        UnknownFieldValue::SixtyFourBit(payload) => out.prepend(payload),
+        UnknownFieldValue::Varint(value) => sink.prepend_varint(*value),
+        UnknownFieldValue::SixtyFourBit(payload) => sink.prepend(payload),
         UnknownFieldValue::LengthDelimited(payload) => {
-            out.prepend(payload)?;
-            out.prepend_varint(payload.len() as u64)
+            sink.prepend(payload);
+            sink.prepend_varint(payload.len() as u64);
         }
         UnknownFieldValue::Group(fields) => {
-            out.prepend_key(number, WireType::EndGroup)?;
-            prepend_fields(fields, out)
+            write_key(sink, number.get(), WireType::EndGroup);
+            write_fields(sink, fields);
         }
-        UnknownFieldValue::ThirtyTwoBit(payload) => out.prepend(payload),
+        UnknownFieldValue::ThirtyTwoBit(payload) => sink.prepend(payload),
     }
 }
 
 /// Adds the records of the fields in front, in their order.
-///
-/// # Errors
-///
-/// As `prepend_field`.
 #[cycle(writing)]
-pub fn prepend_fields(fields: &UnknownFieldSet, out: &mut BackBuffer) -> Result<(), EncodeError>
-    ensures ok { Prepended result (bytes_of out.old) (bytes_of out.new) (spelled (records_of fields.now)) }
-    ensures valid { OnOk result (valid (body_of (records_of fields.now)) ≡ true) }
+pub fn write_fields<S: Sink>(sink: &mut S, fields: &UnknownFieldSet)
+    ensures added { Adds S.added sink.old sink.new (spelled (records_of fields.now)) }
+    ensures valid { valid (body_of (records_of fields.now)) ≡ true }
 {
     for index in (0..fields.fields.len()).rev() {
-        prepend_field(&fields.fields[index], out)?;
+        write_field(sink, &fields.fields[index]);
     }
-    Ok(())
 }
 
 impl UnknownField {
@@ -92,10 +68,18 @@ impl UnknownField {
         ensures err { OnErr result (out.new.items ≡ out.old.items) }
         ensures too_long { IfErr result (λ e. e ≡ EncodeError.TooLong → 2 ^ 64 ≤ length (spelled (record_of self.now ∷ []))) }
     {
-        let mut buffer = BackBuffer::new(*out.allocator());
-        prepend_field(self, &mut buffer)?;
-        buffer.append_to(out)?;
-        Ok(())
+        let mut sink = ByteSink::new(*out.allocator());
+        write_field(&mut sink, self);
+        sink.append_to(out)
+    }
+
+    /// How many bytes `encode` appends; `None` if they are more than a `usize` counts.
+    pub fn encoded_len(&self) -> Option<usize>
+        ensures { let n = length (spelled (record_of self.now ∷ [])) in SomeIff result (n < 2 ^ 64) n }
+    {
+        let mut sink = LengthSink::new();
+        write_field(&mut sink, self);
+        sink.total()
     }
 }
 
@@ -111,28 +95,32 @@ impl UnknownFieldSet {
         ensures err { OnErr result (out.new.items ≡ out.old.items) }
         ensures too_long { IfErr result (λ e. e ≡ EncodeError.TooLong → 2 ^ 64 ≤ length (spelled (records_of self.now))) }
     {
-        let mut buffer = BackBuffer::new(*out.allocator());
-        prepend_fields(self, &mut buffer)?;
-        buffer.append_to(out)?;
-        Ok(())
+        let mut sink = ByteSink::new(*out.allocator());
+        write_fields(&mut sink, self);
+        sink.append_to(out)
+    }
+
+    /// How many bytes `encode` appends; `None` if they are more than a `usize` counts.
+    pub fn encoded_len(&self) -> Option<usize>
+        ensures { let n = length (spelled (records_of self.now)) in SomeIff result (n < 2 ^ 64) n }
+    {
+        let mut sink = LengthSink::new();
+        write_fields(&mut sink, self);
+        sink.total()
     }
 }
 
-/// Adds the records of the fields in front, in their order, each under this number in place of its own.
+/// Adds the records of the fields in front of a buffer, in their order.
 ///
 /// # Errors
 ///
-/// As `prepend_field`.
-pub fn prepend_fields_at(
-    number: FieldNumber,
-    fields: &UnknownFieldSet,
-    out: &mut BackBuffer,
-) -> Result<(), EncodeError>
-    ensures ok { Prepended result (bytes_of out.old) (bytes_of out.new) (spelled (renumbered number.value (records_of fields.now))) }
-    ensures valid { OnOk result (valid (body_of (renumbered number.value (records_of fields.now))) ≡ true) }
+/// `TooLong` if the whole passes the greatest `usize`, `OutOfMemory` if a growth is refused; a part of the records may
+/// then stand in front.
+pub fn prepend_fields(fields: &UnknownFieldSet, out: &mut BackBuffer) -> Result<(), EncodeError>
+    ensures ok { Prepended result (bytes_of out.old) (bytes_of out.new) (spelled (records_of fields.now)) }
+    ensures valid { OnOk result (valid (body_of (records_of fields.now)) ≡ true) }
 {
-    for index in (0..fields.fields.len()).rev() {
-        prepend_record(number, &fields.fields[index].value, out)?;
-    }
-    Ok(())
+    let mut sink = ByteSink::behind(out);
+    write_fields(&mut sink, fields);
+    sink.put_back(out)
 }

@@ -1,10 +1,10 @@
 use Rattle.std.proofs.Common.{◌≡◌, ◌++◌, [], ◌∷◌, None, Some, Option, Bor, ap, sym, ◌∙◌, subst, false}
 use Rattle.std.proofs.lemmas.Result.{on_ok_weaker, on_err_weaker}
 use Rattle.std.specs.Option.{option_copied, is_some}
-use Rattle.prost_reflect_fields.specs.Entries.{UnknownAdded, SameStored}
+use Rattle.prost_reflect_fields.specs.FieldSlots.{UnknownAdded, SameStored}
 use Rattle.prost_reflect_fields.specs.Items.{item_at}
 use Rattle.prost_reflect_wire.specs.Unknown.{record_of}
-use Rattle.prost_reflect_fields.proofs.EntryChanges.{added_first, added_beside, same_beside}
+use Rattle.prost_reflect_fields.proofs.SlotChanges.{added_first, added_beside, same_beside}
 use Rattle.prost_reflect_fields.proofs.stored.add_unknown.Goals as goal
 
 absent : {T : Type 0} (o : Option (Bor T)) (x : Option T) → option_copied o ≡ x → is_some o ≡ false → x ≡ None
@@ -24,7 +24,7 @@ returns-in-Some-clause-ok g c =
     let es = g.S.NumberMap.entries c.args.fields.now in
     let is = c.get_mut.follows.holds c.add_unknown.new.self in
     on_ok_weaker c.add_unknown.result
-    (λ added. subst (λ ds. UnknownAdded es ds (record_of c.args.field)) (sym is) (added_beside es c.args.number c.in-Some.entry.now c.add_unknown.new.self (record_of c.args.field) (sym c.in-Some.ensures.value) c.requires added))
+    (λ added. subst (λ ds. UnknownAdded es ds (record_of c.args.field)) (sym is) (added_beside es c.args.number c.in-Some.slot.now c.add_unknown.new.self (record_of c.args.field) (sym c.in-Some.ensures.value) c.requires added))
     c.add_unknown.ensures.ok
 
 pub returns-in-Some-clause-err : goal.returns-in-Some-clause-err
@@ -32,5 +32,5 @@ returns-in-Some-clause-err g c =
     let es = g.S.NumberMap.entries c.args.fields.now in
     let is = c.get_mut.follows.holds c.add_unknown.new.self in
     on_err_weaker c.add_unknown.result
-    (λ same. subst (λ ds. SameStored es ds) (sym is) (same_beside es c.args.number c.in-Some.entry.now c.add_unknown.new.self (sym c.in-Some.ensures.value) same))
+    (λ same. subst (λ ds. SameStored es ds) (sym is) (same_beside es c.args.number c.in-Some.slot.now c.add_unknown.new.self (sym c.in-Some.ensures.value) same))
     c.add_unknown.ensures.err

@@ -1,6 +1,6 @@
 use Rattle.std.proofs.Common.{◌+◌, sym, ◌∙◌, ap, drop, drop_of_length-le}
 use Rattle.std.proofs.lemmas.Bool.{eq-eqb, ne_eqb}
-use Rattle.prost_reflect_fields.specs.Entries.{without_values}
+use Rattle.prost_reflect_fields.specs.FieldSlots.{without_values}
 use Rattle.prost_reflect_fields.specs.Members.{is_member}
 use Rattle.prost_reflect_fields.proofs.MembersCleared.{first_cleared, first_own, first_apart, all_cleared, row_and_rest}
 use Rattle.prost_reflect_fields.proofs.stored.clear_members.Goals as goal

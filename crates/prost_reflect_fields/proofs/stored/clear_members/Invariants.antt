@@ -1,5 +1,5 @@
 use Rattle.std.proofs.Common.{◌≡◌, drop}
-use Rattle.prost_reflect_fields.specs.Entries.{without_values}
+use Rattle.prost_reflect_fields.specs.FieldSlots.{without_values}
 use Rattle.prost_reflect_fields.specs.Members.{is_member}
 use Rattle.prost_reflect_fields.proofs.stored.clear_members.Given as goal
 

@@ -3,18 +3,18 @@ use Rattle.std.proofs.lemmas.Map.Steps.{set_value_same}
 use Rattle.std.specs.BTreeMap.{is_at}
 use Rattle.std.specs.Ordering.{nat_cmp}
 use Rattle.std.specs.Option.{option_and_then}
-use Rattle.prost_reflect_fields.specs.Entries.{value_in, with_entry, revalued}
+use Rattle.prost_reflect_fields.specs.FieldSlots.{value_in, with_slot, revalued}
 use Rattle.prost_reflect_fields.proofs.stored.value_mut.Goals as goal
 
 pub returns-in-Some : goal.returns-in-Some
 returns-in-Some g c =
     let es = g.S.NumberMap.entries c.args.fields.now in
     let n = c.args.number in
-    let entry = c.in-Some.entry.now in (
+    let slot = c.in-Some.slot.now in (
       (
         refl,
-        (λ w. c.get_mut.follows.holds (revalued entry w) ∙ ap (with_entry es n w) c.in-Some.ensures.value),
-        c.get_mut.follows.holds entry ∙ set_value_same (is_at (nat_cmp n)) es entry (sym c.in-Some.ensures.value),
+        (λ w. c.get_mut.follows.holds (revalued slot w) ∙ ap (with_slot es n w) c.in-Some.ensures.value),
+        c.get_mut.follows.holds slot ∙ set_value_same (is_at (nat_cmp n)) es slot (sym c.in-Some.ensures.value),
       ),
       record { writes_back = tt; value = c.value_mut.ensures.value ∙ ap (option_and_then value_in) c.in-Some.ensures.value },
     )
@@ -22,6 +22,6 @@ returns-in-Some g c =
 pub returns-in-None : goal.returns-in-None
 returns-in-None g c =
     let es = g.S.NumberMap.entries c.args.fields.now in (
-      (refl, (λ w. ap (with_entry es c.args.number w) c.in-None.ensures.value), c.get_mut.follows.holds-at-none),
+      (refl, (λ w. ap (with_slot es c.args.number w) c.in-None.ensures.value), c.get_mut.follows.holds-at-none),
       record { writes_back = tt; value = ap (option_and_then value_in) c.in-None.ensures.value },
     )

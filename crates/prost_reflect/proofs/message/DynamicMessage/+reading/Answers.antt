@@ -1,30 +1,27 @@
-use Rattle.std.proofs.Common.{◌≡◌, ◌≤◌, subst, false, nat_eq, refl, ap, sym, ◌∙◌, ◌-◌, length, true≢false, arith}
+use Rattle.std.proofs.Common.{◌≡◌, ◌≤◌, subst, false, nat_eq, refl, ap, sym, ◌∙◌, length, true≢false, arith}
 use Rattle.std.proofs.lemmas.Bool.{eq-eqb, ne_eqb}
 use Rattle.prost_reflect.specs.View.{key_of}
 use Rattle.std.proofs.Common.{rules}
 use Rattle.std.proofs.lemmas.Result.{err_from_is_err_and, IfOk-weaker, IfErr-weaker}
 use Rattle.prost_reflect_wire.specs.Content.{MessageValue, empty, value_at, entries_of}
-use Rattle.prost_reflect_descriptors.specs.Descriptors.{schema_at}
+use Rattle.prost_reflect_pool.specs.MessageTypes.{schema_at}
 use Rattle.prost_reflect.specs.View.{value_of, content_of, written_at}
 use Rattle.prost_reflect.specs.Contents.{value_set}
 use Rattle.prost_reflect.proofs.Views.{value_of_message}
-use Rattle.prost_reflect_wire.specs.declared.key.WireType.TheVariants as wires
 use Rattle.prost_reflect_wire.specs.Front.{KeyFront}
-use Rattle.prost_reflect_wire.specs.Schema.{MessageOf, GroupOf}
 use Rattle.prost_reflect_laws.proofs.Progressing.{progress_start, progress_step, progress_no_key, progress_no_key_in, progress_no_record, progress_no_record_in, progress_other_end}
-use Rattle.prost_reflect.proofs.NestedReads.{lent_message, held_message, nested_refused, payload_refused, message_read_in, group_read_in, message_refused_in, group_refused_in, found_refused, inside_refused, in_group_refused, one_less}
-use Rattle.prost_reflect.proofs.ElementReads.{found_element, list_or_none, empty_element, element_step, group_element_step}
-use Rattle.prost_reflect_laws.proofs.MessageSteps.{nested_plain}
-use Rattle.prost_reflect_laws.proofs.NestedEntries.{value_plain}
+use Rattle.prost_reflect.proofs.NestedFaults.{nested_refused, group_read, message_read, group_refused, message_refused, body_refused}
+use Rattle.prost_reflect.proofs.NestedReads.{lent_message, held_message, read_in, refused_in}
+use Rattle.prost_reflect.proofs.ElementReads.{list_or_none, empty_element, element_step, element_refused}
 use Rattle.prost_reflect_wire.proofs.ByteLists.{bytes_below}
 use Rattle.prost_reflect_wire.specs.Content.{MapValue, schema_of, type_of}
 use Rattle.prost_reflect_wire.specs.Meaning.{put, pairs_in}
 use Rattle.prost_reflect.specs.Lists.{with_element}
-use Rattle.prost_reflect.proofs.NestedMaps.{value_not_here, value_not_inside, nested_start, nested_no_key_there, nested_key_there, nested_value_there, nested_other_there, nested_no_key_value, nested_no_value, nested_no_other, nested_mapped, nested_key_found, nested_entry_set, nested_entry_fault, nested_body_fault, nested_no_level}
+use Rattle.prost_reflect.proofs.NestedMaps.{nested_start, nested_no_key_there, nested_key_there, nested_value_there, nested_other_there, nested_no_key_value, nested_no_value, nested_no_other, nested_mapped, nested_key_found, nested_entry_set, nested_entry_fault, nested_body_fault, nested_no_level}
 use Rattle.prost_reflect.proofs.message.DynamicMessage.+reading.Goals as goal
 
 pub merge_records-loop-rest-init : goal.merge_records-loop-rest-init
-merge_records-loop-rest-init t c = record { progress = progress_start _ _ _ c.requires.sound; descriptor = refl }
+merge_records-loop-rest-init t c = record { progress = progress_start _ _ _ c.requires.sound; message_type = refl }
 
 pub merge_records-returns-in_err-number-clause-fault : goal.merge_records-returns-in_err-number-clause-fault
 merge_records-returns-in_err-number-clause-fault t c = let p = err_from_is_err_and c.from_residual.result c.from_residual.ensures.1 in
@@ -38,16 +35,16 @@ merge_records-returns-in_err-rest-clause-fault t c = let p = err_from_is_err_and
 pub merge_records-loop-rest-preserved : goal.merge_records-loop-rest-preserved
 merge_records-loop-rest-preserved t c = record {
   progress = progress_step _ _ _ _ _ _ _ _ _ _ c.loop-rest.invariant.progress c.in_ok-number.ensures.ok c.in_ok-rest.ensures.ok;
-  descriptor = c.merge_record.ensures.descriptor ∙ c.loop-rest.invariant.descriptor;
+  message_type = c.merge_record.ensures.message_type ∙ c.loop-rest.invariant.message_type;
 }
 
 pub merge_to_end-loop-key-init : goal.merge_to_end-loop-key-init
-merge_to_end-loop-key-init t c = record { progress = progress_start _ _ _ c.requires.sound; descriptor = refl }
+merge_to_end-loop-key-init t c = record { progress = progress_start _ _ _ c.requires.sound; message_type = refl }
 
 pub merge_to_end-loop-key-preserved : goal.merge_to_end-loop-key-preserved
 merge_to_end-loop-key-preserved t c = record {
   progress = progress_step _ _ _ _ _ _ _ _ _ _ c.loop-key.invariant.progress c.in_ok-key.ensures.ok c.in_ok-rest.ensures.ok;
-  descriptor = c.merge_record.ensures.descriptor ∙ c.loop-key.invariant.descriptor;
+  message_type = c.merge_record.ensures.message_type ∙ c.loop-key.invariant.message_type;
 }
 
 pub merge_to_end-returns-in_err-key-clause-fault : goal.merge_to_end-returns-in_err-key-clause-fault
@@ -63,161 +60,87 @@ pub merge_to_end-returns-in_err-rest-clause-fault : goal.merge_to_end-returns-in
 merge_to_end-returns-in_err-rest-clause-fault t c = let p = err_from_is_err_and c.from_residual-in_err-rest.result c.from_residual-in_err-rest.ensures.1 in
     rw (p.1, p.2) (λ ne. progress_no_record_in _ _ _ _ _ _ _ _ _ _ c.loop-key.invariant.progress c.in_ok-key.ensures.ok (λ is. absurd (c.in_default.not-EndGroup is)) (c.in_err-rest.ensures.fault ne))
 
-pub merge_to_end-returns-in_err-rest-clause-descriptor : goal.merge_to_end-returns-in_err-rest-clause-descriptor
-merge_to_end-returns-in_err-rest-clause-descriptor t c = c.merge_record.ensures.descriptor ∙ c.loop-key.invariant.descriptor
-
-pub merge_message-returns-in_err-check_nested-clause-fault : goal.merge_message-returns-in_err-check_nested-clause-fault
-merge_message-returns-in_err-check_nested-clause-fault t c = let p = err_from_is_err_and c.from_residual.result c.from_residual.ensures.1 in
-    rw (p.1, p.2) (λ ne. nested_refused c.args.self.now c.args.number.value c.args.place (MessageOf c.args.place) wires.LengthDelimited c.args.wire_type c.args.levels _ c.args.bytes.now c.requires.field refl (λ v. refl) refl c.in_err-check_nested.ensures.fault)
-
-pub merge_message-returns-in_err-body-clause-fault : goal.merge_message-returns-in_err-body-clause-fault
-merge_message-returns-in_err-body-clause-fault t c = let p = err_from_is_err_and c.from_residual-in_err-body.result c.from_residual-in_err-body.ensures.1 in
-    rw (p.1, p.2, c.in_ok-check_nested.ensures.wire) (λ ne. payload_refused c.args.self.now c.args.number.value c.args.place (MessageOf c.args.place) wires.LengthDelimited c.args.levels _ c.args.bytes.now c.requires.field refl c.in_err-body.ensures.fault)
+pub merge_to_end-returns-in_err-rest-clause-message_type : goal.merge_to_end-returns-in_err-rest-clause-message_type
+merge_to_end-returns-in_err-rest-clause-message_type t c = c.merge_record.ensures.message_type ∙ c.loop-key.invariant.message_type
 
 pub merge_message-merge_into-requires : goal.merge_message-merge_into-requires
 merge_message-merge_into-requires t c =
-    let lent = lent_message c.args.self.now c.args.number.value c.args.place (MessageOf c.args.place) c.in_ok-default.default c.in_ok-value.value.now c.requires.sound c.requires.field refl
-    (c.in_ok-default.ensures ∙ ap (λ d. MessageValue (empty (schema_at d) c.args.place)) c.descriptor.ensures) (rw c.get.ensures.value at c.in_ok-value.ensures.value) in
-    (search rules, held_message c.args.self.now c.args.number.value c.args.place c.in_ok-value.value.now lent)
+    let lent = lent_message c.args.self.now c.args.number.value c.args.kind.place c.args.kind.is_group c.in_ok-default.default c.in_ok-value.value.now c.requires.sound c.requires.field
+    (c.in_ok-default.ensures ∙ ap (λ d. MessageValue (empty (schema_at d) c.args.kind.place)) c.message_type.ensures) (rw c.get.ensures.value at c.in_ok-value.ensures.value) in
+    (search rules, held_message c.args.self.now c.args.number.value c.args.kind.place c.in_ok-value.value.now lent)
 
-pub merge_message-returns-in_err-merge_into-clause-fault : goal.merge_message-returns-in_err-merge_into-clause-fault
-merge_message-returns-in_err-merge_into-clause-fault t c =
-    let lent = lent_message c.args.self.now c.args.number.value c.args.place (MessageOf c.args.place) c.in_ok-default.default c.in_ok-value.value.now c.requires.sound c.requires.field refl
-    (c.in_ok-default.ensures ∙ ap (λ d. MessageValue (empty (schema_at d) c.args.place)) c.descriptor.ensures) (rw c.get.ensures.value at c.in_ok-value.ensures.value) in
-    let p = err_from_is_err_and c.from_residual-in_err-merge_into.result c.from_residual-in_err-merge_into.ensures.1 in
-    rw (p.1, p.2) (λ ne. message_refused_in c.args.self.now c.args.number.value c.args.place c.args.levels c.in_ok-value.value.now c.in_ok-check_nested.ensures.levels c.requires.sound lent _ c.args.wire_type c.args.bytes.now c.in_ok-body.body.now c.in_ok-body.rest.now
-    c.requires.field c.in_ok-check_nested.ensures.wire c.in_ok-body.ensures.ok (c.in_err-merge_into.ensures.fault ne))
+pub merge_message-returns-clause-fault : goal.merge_message-returns-clause-fault
+merge_message-returns-clause-fault t c =
+    let lent = lent_message c.args.self.now c.args.number.value c.args.kind.place c.args.kind.is_group c.in_ok-default.default c.in_ok-value.value.now c.requires.sound c.requires.field
+    (c.in_ok-default.ensures ∙ ap (λ d. MessageValue (empty (schema_at d) c.args.kind.place)) c.message_type.ensures) (rw c.get.ensures.value at c.in_ok-value.ensures.value) in
+    IfErr-weaker c.merge_into.result _ _
+    (λ e f ne. refused_in c.args.self.now c.args.number.value c.args.kind.place c.args.levels c.args.kind.is_group c.args.wire_type c.in_ok-value.value.now c.requires.sound c.requires.field lent e c.args.bytes.now (f ne))
+    c.merge_into.ensures.fault
 
 pub merge_message-returns-clause-ok : goal.merge_message-returns-clause-ok
 merge_message-returns-clause-ok t c =
-    let lent = lent_message c.args.self.now c.args.number.value c.args.place (MessageOf c.args.place) c.in_ok-default.default c.in_ok-value.value.now c.requires.sound c.requires.field refl
-    (c.in_ok-default.ensures ∙ ap (λ d. MessageValue (empty (schema_at d) c.args.place)) c.descriptor.ensures) (rw c.get.ensures.value at c.in_ok-value.ensures.value) in
-    message_read_in c.args.self.now c.args.number.value c.args.place c.args.levels c.in_ok-value.value.now c.in_ok-check_nested.ensures.levels c.requires.sound lent
-    (written_at c.args.self.now c.get.result c.in_ok-default.default c.merge_into.new.value) (value_of c.merge_into.new.value) c.args.wire_type c.args.bytes.now c.in_ok-body.body.now c.in_ok-body.rest.now
-    c.requires.field c.in_ok-check_nested.ensures.wire c.in_ok-body.ensures.ok c.in_ok-merge_into.ensures.ok
-    (c.in_ok-value.ensures.content c.merge_into.new.value ∙ ap (λ n. value_set n (value_of c.merge_into.new.value) (content_of c.args.self.now)) c.get.ensures.value)
-
-pub merge_group-returns-in_err-check_nested-clause-fault : goal.merge_group-returns-in_err-check_nested-clause-fault
-merge_group-returns-in_err-check_nested-clause-fault t c = let p = err_from_is_err_and c.from_residual.result c.from_residual.ensures.1 in
-    rw (p.1, p.2) (λ ne. nested_refused c.args.self.now c.args.number.value c.args.place (GroupOf c.args.place) wires.StartGroup c.args.wire_type c.args.levels _ c.args.bytes.now c.requires.field refl (λ v. refl) refl c.in_err-check_nested.ensures.fault)
-
-pub merge_group-merge_group_into-requires : goal.merge_group-merge_group_into-requires
-merge_group-merge_group_into-requires t c =
-    let lent = lent_message c.args.self.now c.args.number.value c.args.place (GroupOf c.args.place) c.in_ok-default.default c.in_ok-value.value.now c.requires.sound c.requires.field refl
-    (c.in_ok-default.ensures ∙ ap (λ d. MessageValue (empty (schema_at d) c.args.place)) c.descriptor.ensures) (rw c.get.ensures.value at c.in_ok-value.ensures.value) in
-    (search rules, held_message c.args.self.now c.args.number.value c.args.place c.in_ok-value.value.now lent)
-
-pub merge_group-returns-clause-fault : goal.merge_group-returns-clause-fault
-merge_group-returns-clause-fault t c =
-    let lent = lent_message c.args.self.now c.args.number.value c.args.place (GroupOf c.args.place) c.in_ok-default.default c.in_ok-value.value.now c.requires.sound c.requires.field refl
-    (c.in_ok-default.ensures ∙ ap (λ d. MessageValue (empty (schema_at d) c.args.place)) c.descriptor.ensures) (rw c.get.ensures.value at c.in_ok-value.ensures.value) in
-    IfErr-weaker c.merge_group_into.result _ _
-    (λ e f ne. group_refused_in c.args.self.now c.args.number.value c.args.place c.args.levels c.in_ok-value.value.now c.in_ok-check_nested.ensures.levels c.requires.sound lent e c.args.wire_type c.args.bytes.now c.requires.field c.in_ok-check_nested.ensures.wire (f ne))
-    c.merge_group_into.ensures.fault
-
-pub merge_group-returns-clause-ok : goal.merge_group-returns-clause-ok
-merge_group-returns-clause-ok t c =
-    let lent = lent_message c.args.self.now c.args.number.value c.args.place (GroupOf c.args.place) c.in_ok-default.default c.in_ok-value.value.now c.requires.sound c.requires.field refl
-    (c.in_ok-default.ensures ∙ ap (λ d. MessageValue (empty (schema_at d) c.args.place)) c.descriptor.ensures) (rw c.get.ensures.value at c.in_ok-value.ensures.value) in
-    IfOk-weaker c.merge_group_into.result _ _
-    (λ rest r. group_read_in c.args.self.now c.args.number.value c.args.place c.args.levels c.in_ok-value.value.now c.in_ok-check_nested.ensures.levels c.requires.sound lent
-    (written_at c.args.self.now c.get.result c.in_ok-default.default c.merge_group_into.new.value) (value_of c.merge_group_into.new.value) c.args.wire_type c.args.bytes.now rest.now c.requires.field c.in_ok-check_nested.ensures.wire r
-    (c.in_ok-value.ensures.content c.merge_group_into.new.value ∙ ap (λ n. value_set n (value_of c.merge_group_into.new.value) (content_of c.args.self.now)) c.get.ensures.value))
-    c.merge_group_into.ensures.ok
+    let lent = lent_message c.args.self.now c.args.number.value c.args.kind.place c.args.kind.is_group c.in_ok-default.default c.in_ok-value.value.now c.requires.sound c.requires.field
+    (c.in_ok-default.ensures ∙ ap (λ d. MessageValue (empty (schema_at d) c.args.kind.place)) c.message_type.ensures) (rw c.get.ensures.value at c.in_ok-value.ensures.value) in
+    IfOk-weaker c.merge_into.result _ _
+    (λ rest r. read_in c.args.self.now c.args.number.value c.args.kind.place c.args.levels c.args.kind.is_group c.args.wire_type c.in_ok-value.value.now c.requires.sound c.requires.field lent
+    (written_at c.args.self.now c.get.result c.in_ok-default.default c.merge_into.new.value) (value_of c.merge_into.new.value) c.args.bytes.now rest.now r
+    (c.in_ok-value.ensures.content c.merge_into.new.value ∙ ap (λ n. value_set n (value_of c.merge_into.new.value) (content_of c.args.self.now)) c.get.ensures.value))
+    c.merge_into.ensures.ok
 
 pub merge_into-returns-clause-ok : goal.merge_into-returns-clause-ok
 merge_into-returns-clause-ok t c =
-    IfOk-weaker c.merge_records.result _ _ (λ u done. record { before = c.in-Some.message.now; after = c.merge_records.new.self; was = sym c.in-Some.ensures.value; is = value_of_message c.merge_records.new.self; progress = done }) c.merge_records.ensures.ok
+    IfOk-weaker c.merge_nested.result _ _ (λ rest r. record { before = c.in-Some.message.now; after = c.merge_nested.new.self; was = sym c.in-Some.ensures.value; is = value_of_message c.merge_nested.new.self; read = r }) c.merge_nested.ensures.ok
 
 pub merge_into-returns-clause-fault : goal.merge_into-returns-clause-fault
-merge_into-returns-clause-fault t c = IfErr-weaker c.merge_records.result _ _ (λ e f ne. record { before = c.in-Some.message.now; was = sym c.in-Some.ensures.value; stands = f ne }) c.merge_records.ensures.fault
+merge_into-returns-clause-fault t c = IfErr-weaker c.merge_nested.result _ _ (λ e f ne. record { before = c.in-Some.message.now; was = sym c.in-Some.ensures.value; stands = f ne }) c.merge_nested.ensures.fault
 
-pub merge_group_into-returns-clause-ok : goal.merge_group_into-returns-clause-ok
-merge_group_into-returns-clause-ok t c =
-    IfOk-weaker c.merge_to_end.result _ _ (λ rest done. record { before = c.in-Some.message.now; after = c.merge_to_end.new.self; was = sym c.in-Some.ensures.value; is = value_of_message c.merge_to_end.new.self; progress = done }) c.merge_to_end.ensures.ok
+pub merge_nested-returns-in_err-check_nested-clause-fault : goal.merge_nested-returns-in_err-check_nested-clause-fault
+merge_nested-returns-in_err-check_nested-clause-fault t c = let p = err_from_is_err_and c.from_residual.result c.from_residual.ensures.1 in
+    rw (p.1, p.2) (λ ne. nested_refused (schema_of (content_of c.args.self.now)) c.args.levels c.args.number.value (type_of (content_of c.args.self.now)) c.args.is_group c.args.wire_type _ c.args.bytes.now c.in_err-check_nested.ensures.fault)
 
-pub merge_group_into-returns-clause-fault : goal.merge_group_into-returns-clause-fault
-merge_group_into-returns-clause-fault t c = IfErr-weaker c.merge_to_end.result _ _ (λ e f ne. record { before = c.in-Some.message.now; was = sym c.in-Some.ensures.value; stands = f ne }) c.merge_to_end.ensures.fault
+pub merge_nested-returns-then-is_group-clause-ok : goal.merge_nested-returns-then-is_group-clause-ok
+merge_nested-returns-then-is_group-clause-ok t c =
+    IfOk-weaker c.merge_to_end.result _ _ (λ rest done. group_read (content_of c.args.self.now) c.args.levels c.args.number.value c.args.is_group c.args.wire_type c.in_ok-check_nested.ensures.wire c.in_ok-check_nested.ensures.levels _ _ _ c.if-is_group.true done) c.merge_to_end.ensures.ok
 
-pub merge_message_element-returns-in_err-check_nested-clause-fault : goal.merge_message_element-returns-in_err-check_nested-clause-fault
-merge_message_element-returns-in_err-check_nested-clause-fault t c = let p = err_from_is_err_and c.from_residual.result c.from_residual.ensures.1 in
-    rw (p.1, p.2) (λ ne. found_refused c.args.self.now c.args.number.value c.args.place (MessageOf c.args.place) wires.LengthDelimited c.args.wire_type c.args.levels _ c.args.bytes.now
-    (found_element c.args.self.now c.args.number.value c.args.place (MessageOf c.args.place) c.requires.field refl) (λ v. refl) refl c.in_err-check_nested.ensures.fault)
+pub merge_nested-returns-then-is_group-clause-fault : goal.merge_nested-returns-then-is_group-clause-fault
+merge_nested-returns-then-is_group-clause-fault t c =
+    IfErr-weaker c.merge_to_end.result _ _ (λ e f ne. group_refused (content_of c.args.self.now) c.args.levels c.args.number.value c.args.is_group c.args.wire_type c.in_ok-check_nested.ensures.wire c.in_ok-check_nested.ensures.levels _ _ c.if-is_group.true (f ne)) c.merge_to_end.ensures.fault
 
-pub merge_message_element-returns-in_err-body-clause-fault : goal.merge_message_element-returns-in_err-body-clause-fault
-merge_message_element-returns-in_err-body-clause-fault t c = let p = err_from_is_err_and c.from_residual-in_err-body.result c.from_residual-in_err-body.ensures.1 in
-    rw (p.1, p.2, c.in_ok-check_nested.ensures.wire) (λ ne. nested_plain (content_of c.args.self.now) c.args.number.value c.args.place (MessageOf c.args.place)
-    (found_element c.args.self.now c.args.number.value c.args.place (MessageOf c.args.place) c.requires.field refl) c.args.levels wires.LengthDelimited _ c.args.bytes.now c.in_err-body.ensures.fault)
+pub merge_nested-returns-in_err-body-clause-fault : goal.merge_nested-returns-in_err-body-clause-fault
+merge_nested-returns-in_err-body-clause-fault t c = let p = err_from_is_err_and c.from_residual-in_err-body.result c.from_residual-in_err-body.ensures.1 in
+    rw (p.1, p.2) (λ ne. body_refused (content_of c.args.self.now) c.args.levels c.args.number.value c.args.is_group c.args.wire_type c.in_ok-check_nested.ensures.wire c.in_ok-check_nested.ensures.levels _ c.args.bytes.now c.if-is_group.false c.in_err-body.ensures.fault)
 
-pub merge_message_element-merge_records-requires : goal.merge_message_element-merge_records-requires
-merge_message_element-merge_records-requires t c =
-    let fresh = empty_element c.args.self.now c.in_ok-element.element c.args.place
-    (c.in_ok-element.ensures ∙ ap (λ d. empty (schema_at d) c.args.place) c.descriptor.ensures) in
+pub merge_nested-returns-in_err-merge_records-clause-fault : goal.merge_nested-returns-in_err-merge_records-clause-fault
+merge_nested-returns-in_err-merge_records-clause-fault t c = let p = err_from_is_err_and c.from_residual-in_err-merge_records.result c.from_residual-in_err-merge_records.ensures.1 in
+    rw (p.1, p.2) (λ ne. message_refused (content_of c.args.self.now) c.args.levels c.args.number.value c.args.is_group c.args.wire_type c.in_ok-check_nested.ensures.wire c.in_ok-check_nested.ensures.levels _ _ _ _ c.if-is_group.false c.in_ok-body.ensures.ok (c.in_err-merge_records.ensures.fault ne))
+
+pub merge_nested-returns-clause-ok : goal.merge_nested-returns-clause-ok
+merge_nested-returns-clause-ok t c = message_read (content_of c.args.self.now) c.args.levels c.args.number.value c.args.is_group c.args.wire_type c.in_ok-check_nested.ensures.wire c.in_ok-check_nested.ensures.levels _ _ _ _ c.if-is_group.false c.in_ok-body.ensures.ok c.in_ok-merge_records.ensures.ok
+
+pub merge_element-merge_nested-requires : goal.merge_element-merge_nested-requires
+merge_element-merge_nested-requires t c =
+    let fresh = empty_element c.args.self.now c.in_ok-element.element c.args.kind.place
+    (c.in_ok-element.ensures ∙ ap (λ d. empty (schema_at d) c.args.kind.place) c.message_type.ensures) in
     (search rules, fresh.sound)
 
-pub merge_message_element-returns-in_err-merge_records-clause-fault : goal.merge_message_element-returns-in_err-merge_records-clause-fault
-merge_message_element-returns-in_err-merge_records-clause-fault t c =
-    let fresh = empty_element c.args.self.now c.in_ok-element.element c.args.place
-    (c.in_ok-element.ensures ∙ ap (λ d. empty (schema_at d) c.args.place) c.descriptor.ensures) in
-    let p = err_from_is_err_and c.from_residual-in_err-merge_records.result c.from_residual-in_err-merge_records.ensures.1 in
-    rw (p.1, p.2, c.in_ok-check_nested.ensures.wire) (λ ne. inside_refused c.args.self.now c.in_ok-element.element c.args.number.value c.args.place fresh.schema_is fresh.type_is c.args.levels c.in_ok-check_nested.ensures.levels _
-    c.in_ok-body.body.now c.args.bytes.now c.in_ok-body.rest.now (found_element c.args.self.now c.args.number.value c.args.place (MessageOf c.args.place) c.requires.field refl) c.in_ok-body.ensures.ok (c.in_err-merge_records.ensures.fault ne))
-
-pub merge_message_element-push_element-requires-clause-list : goal.merge_message_element-push_element-requires-clause-list
-merge_message_element-push_element-requires-clause-list t c = rw c.get.ensures.value (list_or_none c.args.self.now c.args.number.value c.args.place (MessageOf c.args.place) c.requires.field refl c.requires.sound)
-
-pub merge_message_element-returns-clause-ok : goal.merge_message_element-returns-clause-ok
-merge_message_element-returns-clause-ok t c =
-    let fresh = empty_element c.args.self.now c.in_ok-element.element c.args.place
-    (c.in_ok-element.ensures ∙ ap (λ d. empty (schema_at d) c.args.place) c.descriptor.ensures) in
-    rw (c.in_ok-check_nested.ensures.wire, sym (one_less c.args.levels c.in_ok-check_nested.ensures.levels))
-    (element_step c.args.self.now c.in_ok-element.element c.merge_records.new.self c.push_element.new.self c.args.number.value c.args.place (c.args.levels - 1) c.requires.sound fresh
-    (c.in_ok-push_element.ensures.content ∙ ap (λ n. value_set n (with_element (value_at n (entries_of (content_of c.args.self.now))) (MessageValue (content_of c.merge_records.new.self))) (content_of c.args.self.now)) c.get.ensures.value)
-    c.args.bytes.now c.in_ok-body.body.now c.in_ok-body.rest.now c.requires.field c.in_ok-body.ensures.ok c.in_ok-merge_records.ensures.ok)
-
-pub merge_group_element-returns-in_err-check_nested-clause-fault : goal.merge_group_element-returns-in_err-check_nested-clause-fault
-merge_group_element-returns-in_err-check_nested-clause-fault t c = let p = err_from_is_err_and c.from_residual.result c.from_residual.ensures.1 in
-    rw (p.1, p.2) (λ ne. found_refused c.args.self.now c.args.number.value c.args.place (GroupOf c.args.place) wires.StartGroup c.args.wire_type c.args.levels _ c.args.bytes.now
-    (found_element c.args.self.now c.args.number.value c.args.place (GroupOf c.args.place) c.requires.field refl) (λ v. refl) refl c.in_err-check_nested.ensures.fault)
-
-pub merge_group_element-merge_to_end-requires : goal.merge_group_element-merge_to_end-requires
-merge_group_element-merge_to_end-requires t c =
-    let fresh = empty_element c.args.self.now c.in_ok-element.element c.args.place
-    (c.in_ok-element.ensures ∙ ap (λ d. empty (schema_at d) c.args.place) c.descriptor.ensures) in
-    (search rules, fresh.sound)
-
-pub merge_group_element-returns-in_err-rest-clause-fault : goal.merge_group_element-returns-in_err-rest-clause-fault
-merge_group_element-returns-in_err-rest-clause-fault t c =
-    let fresh = empty_element c.args.self.now c.in_ok-element.element c.args.place
-    (c.in_ok-element.ensures ∙ ap (λ d. empty (schema_at d) c.args.place) c.descriptor.ensures) in
+pub merge_element-returns-in_err-rest-clause-fault : goal.merge_element-returns-in_err-rest-clause-fault
+merge_element-returns-in_err-rest-clause-fault t c =
+    let fresh = empty_element c.args.self.now c.in_ok-element.element c.args.kind.place
+    (c.in_ok-element.ensures ∙ ap (λ d. empty (schema_at d) c.args.kind.place) c.message_type.ensures) in
     let p = err_from_is_err_and c.from_residual-in_err-rest.result c.from_residual-in_err-rest.ensures.1 in
-    rw (p.1, p.2, c.in_ok-check_nested.ensures.wire) (λ ne. in_group_refused c.args.self.now c.in_ok-element.element c.args.number.value c.args.place fresh.schema_is fresh.type_is c.args.levels c.in_ok-check_nested.ensures.levels _
-    c.args.bytes.now (found_element c.args.self.now c.args.number.value c.args.place (GroupOf c.args.place) c.requires.field refl) (c.in_err-rest.ensures.fault ne))
+    rw (p.1, p.2) (λ ne. element_refused c.args.self.now c.in_ok-element.element c.args.number.value c.args.kind.place c.args.levels c.args.kind.is_group c.args.wire_type c.requires.field fresh _ c.args.bytes.now (c.in_err-rest.ensures.fault ne))
 
-pub merge_group_element-push_element-requires-clause-list : goal.merge_group_element-push_element-requires-clause-list
-merge_group_element-push_element-requires-clause-list t c = rw c.get.ensures.value (list_or_none c.args.self.now c.args.number.value c.args.place (GroupOf c.args.place) c.requires.field refl c.requires.sound)
+pub merge_element-push_value-requires-clause-list : goal.merge_element-push_value-requires-clause-list
+merge_element-push_value-requires-clause-list t c = rw c.get.ensures.value (list_or_none c.args.self.now c.args.number.value c.args.kind.place c.args.kind.is_group c.requires.field c.requires.sound)
 
-pub merge_group_element-returns-clause-ok : goal.merge_group_element-returns-clause-ok
-merge_group_element-returns-clause-ok t c =
-    let fresh = empty_element c.args.self.now c.in_ok-element.element c.args.place
-    (c.in_ok-element.ensures ∙ ap (λ d. empty (schema_at d) c.args.place) c.descriptor.ensures) in
-    rw (c.in_ok-check_nested.ensures.wire, sym (one_less c.args.levels c.in_ok-check_nested.ensures.levels))
-    (group_element_step c.args.self.now c.in_ok-element.element c.merge_to_end.new.self c.push_element.new.self c.args.number.value c.args.place (c.args.levels - 1) c.requires.sound fresh
-    (c.in_ok-push_element.ensures.content ∙ ap (λ n. value_set n (with_element (value_at n (entries_of (content_of c.args.self.now))) (MessageValue (content_of c.merge_to_end.new.self))) (content_of c.args.self.now)) c.get.ensures.value)
-    c.args.bytes.now c.in_ok-rest.rest.now c.requires.field c.in_ok-rest.ensures.ok)
-
-pub merge_entry_value-returns-in_err-check_nested-clause-fault : goal.merge_entry_value-returns-in_err-check_nested-clause-fault
-merge_entry_value-returns-in_err-check_nested-clause-fault t c = let p = err_from_is_err_and c.from_residual.result c.from_residual.ensures.1 in
-    rw (p.1, p.2) (λ ne. value_not_here (schema_of (content_of c.args.self.now)) c.args.levels 2 (type_of (content_of c.args.self.now)) c.args.wire_type _ c.args.bytes.now c.in_err-check_nested.ensures.fault)
-
-pub merge_entry_value-returns-in_err-body-clause-fault : goal.merge_entry_value-returns-in_err-body-clause-fault
-merge_entry_value-returns-in_err-body-clause-fault t c = let p = err_from_is_err_and c.from_residual-in_err-body.result c.from_residual-in_err-body.ensures.1 in
-    rw (p.1, p.2, c.in_ok-check_nested.ensures.wire) (λ ne. value_plain (schema_of (content_of c.args.self.now)) 2 (type_of (content_of c.args.self.now)) c.args.levels wires.LengthDelimited _ c.args.bytes.now c.in_err-body.ensures.fault)
-
-pub merge_entry_value-returns-in_err-merge_records-clause-fault : goal.merge_entry_value-returns-in_err-merge_records-clause-fault
-merge_entry_value-returns-in_err-merge_records-clause-fault t c = let p = err_from_is_err_and c.from_residual-in_err-merge_records.result c.from_residual-in_err-merge_records.ensures.1 in
-    rw (p.1, p.2) (λ ne. value_not_inside (schema_of (content_of c.args.self.now)) c.args.levels 2 (type_of (content_of c.args.self.now)) c.in_ok-check_nested.ensures.levels c.args.wire_type _ c.in_ok-body.body.now c.args.bytes.now c.in_ok-body.rest.now
-    c.in_ok-check_nested.ensures.wire c.in_ok-body.ensures.ok (c.in_err-merge_records.ensures.fault ne))
+pub merge_element-returns-clause-ok : goal.merge_element-returns-clause-ok
+merge_element-returns-clause-ok t c =
+    let fresh = empty_element c.args.self.now c.in_ok-element.element c.args.kind.place
+    (c.in_ok-element.ensures ∙ ap (λ d. empty (schema_at d) c.args.kind.place) c.message_type.ensures) in
+    element_step c.args.self.now c.in_ok-element.element c.merge_nested.new.self c.push_value.new.self c.args.number.value c.args.kind.place c.args.levels c.args.kind.is_group c.args.wire_type c.requires.sound c.requires.field fresh
+    ((rw c.get.ensures.value at c.in_ok-push_value.ensures.content)
+    ∙ ap (λ v. value_set c.args.number.value (with_element (value_at c.args.number.value (entries_of (content_of c.args.self.now))) v) (content_of c.args.self.now)) (value_of_message c.merge_nested.new.self))
+    c.args.bytes.now c.in_ok-rest.rest.now c.in_ok-rest.ensures.ok
 
 pub merge_entry_body-loop-rest-init : goal.merge_entry_body-loop-rest-init
 merge_entry_body-loop-rest-init t c = nested_start _ _ _ _ _ c.requires.empty c.default_of-key.ensures
@@ -262,14 +185,14 @@ merge_entry-returns-then-levels-eq0-clause-fault t c = λ ne. nested_no_level c.
 
 pub merge_entry-returns-in_err-read-clause-fault : goal.merge_entry-returns-in_err-read-clause-fault
 merge_entry-returns-in_err-read-clause-fault t c =
-    let fresh = empty_element c.args.self.now c.in_ok-value.value c.args.place (c.in_ok-value.ensures ∙ ap (λ d. empty (schema_at d) c.args.place) c.descriptor.ensures) in
+    let fresh = empty_element c.args.self.now c.in_ok-value.value c.args.place (c.in_ok-value.ensures ∙ ap (λ d. empty (schema_at d) c.args.place) c.message_type.ensures) in
     let some : 1 ≤ c.args.levels = omega (arith, c.if-levels-eq0.false) in
     let p = err_from_is_err_and c.from_residual-in_err-read.result c.from_residual-in_err-read.ensures.1 in
     rw (p.1, p.2) (λ ne. nested_entry_fault c.args.self.now _ _ _ c.requires.field c.in_ok-value.value fresh c.args.levels some c.args.wire_type _ c.in_ok-body.body.now c.args.bytes.now c.in_ok-body.rest.now c.in_ok-body.ensures.ok.0 c.in_ok-body.ensures.ok.1 (c.in_err-read.ensures.fault ne))
 
 pub merge_entry-map_key-requires : goal.merge_entry-map_key-requires
 merge_entry-map_key-requires t c =
-    let fresh = empty_element c.args.self.now c.in_ok-value.value c.args.place (c.in_ok-value.ensures ∙ ap (λ d. empty (schema_at d) c.args.place) c.descriptor.ensures) in
+    let fresh = empty_element c.args.self.now c.in_ok-value.value c.args.place (c.in_ok-value.ensures ∙ ap (λ d. empty (schema_at d) c.args.place) c.message_type.ensures) in
     let some : 1 ≤ c.args.levels = omega (arith, c.if-levels-eq0.false) in
     nested_key_found c.args.self.now _ _ _ c.requires.field c.in_ok-value.value fresh c.args.levels some c.in_ok-read.read (content_of c.merge_entry_body.new.self) _ _ _ c.in_ok-read.ensures.ok (bytes_below _ c.type_inv.bytes) c.in_ok-body.ensures.ok.1
 
@@ -278,7 +201,7 @@ merge_entry-put_entry-requires-clause-mapped t c = rw c.get.ensures.value (neste
 
 pub merge_entry-returns-clause-ok : goal.merge_entry-returns-clause-ok
 merge_entry-returns-clause-ok t c =
-    let fresh = empty_element c.args.self.now c.in_ok-value.value c.args.place (c.in_ok-value.ensures ∙ ap (λ d. empty (schema_at d) c.args.place) c.descriptor.ensures) in
+    let fresh = empty_element c.args.self.now c.in_ok-value.value c.args.place (c.in_ok-value.ensures ∙ ap (λ d. empty (schema_at d) c.args.place) c.message_type.ensures) in
     let some : 1 ≤ c.args.levels = omega (arith, c.if-levels-eq0.false) in
     nested_entry_set c.args.self.now _ _ _ c.requires.field c.in_ok-value.value fresh c.args.levels some c.put_entry.new.self c.args.wire_type c.in_ok-read.read c.map_key.result (content_of c.merge_entry_body.new.self) _ _ _ c.requires.sound (bytes_below _ c.type_inv.bytes)
     c.in_ok-read.ensures.ok c.map_key.ensures c.in_ok-body.ensures.ok.0 c.in_ok-body.ensures.ok.1

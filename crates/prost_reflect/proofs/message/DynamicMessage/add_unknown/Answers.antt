@@ -6,9 +6,9 @@ use Rattle.prost_reflect.proofs.message.DynamicMessage.add_unknown.Goals as goal
 pub returns-clause-content : goal.returns-clause-content
 returns-clause-content c =
     let added = c.add_unknown.ensures in
-    on_ok_weaker c.add_unknown.result (message_added c.args.self.now c.add_unknown.new.self (record_of c.args.field) added.ascending added.descriptor) added.ok
+    on_ok_weaker c.add_unknown.result (message_added c.args.self.now c.add_unknown.new.self (record_of c.args.field) added.ascending added.message_type) added.ok
 
 pub returns-clause-err : goal.returns-clause-err
 returns-clause-err c =
     let added = c.add_unknown.ensures in
-    on_err_weaker c.add_unknown.result (message_same c.args.self.now c.add_unknown.new.self added.ascending added.descriptor) added.err
+    on_err_weaker c.add_unknown.result (message_same c.args.self.now c.add_unknown.new.self added.ascending added.message_type) added.err

@@ -3,7 +3,7 @@ use Rattle.prost_reflect_wire.specs.Grammar.{LEVEL_LIMIT}
 use Rattle.prost_reflect_wire.proofs.ByteLists.{bytes_below}
 use Rattle.prost_reflect_laws.proofs.FaultLaws.{accepted_only_memory}
 use Rattle.prost_reflect_laws.proofs.Progressing.{progress_decoded, progress_accepts}
-use Rattle.prost_reflect_descriptors.specs.Descriptors.{schema_at, type_at}
+use Rattle.prost_reflect.specs.Named.{schema_named, type_named}
 use Rattle.prost_reflect.proofs.message.DynamicMessage.decode.Goals as goal
 
 pub returns-clause-means : goal.returns-clause-means
@@ -14,4 +14,4 @@ returns-clause-accepts c = progress_accepts _ _ _ _ _ (rw c.new-message.ensures.
 
 pub returns-in_err-merge_records-clause-accepted : goal.returns-in_err-merge_records-clause-accepted
 returns-in_err-merge_records-clause-accepted c = let q = err_from_is_err_and c.from_residual.result c.from_residual.ensures.1 in
-    rw (q.1, q.2) (λ accepted. accepted_only_memory (schema_at c.args.descriptor) LEVEL_LIMIT (type_at c.args.descriptor) c.args.bytes.now (bytes_below _ c.type_inv.bytes) accepted _ (rw c.new-message.ensures.content at c.in_err-merge_records.ensures.fault))
+    rw (q.1, q.2) (λ accepted. accepted_only_memory (schema_named c.args.descriptor) LEVEL_LIMIT (type_named c.args.descriptor) c.args.bytes.now (bytes_below _ c.type_inv.bytes) accepted _ (rw c.new-message.ensures.content at c.in_err-merge_records.ensures.fault))

@@ -24,5 +24,5 @@ push_number-requires-clause-sound c =
     start.holds.sound
 
 pub returns-clause-ok : goal.returns-clause-ok
-returns-clause-ok c = number_taken_step c.args.self.now _ c.args.kind c.requires.field c.make_list.new.self c.push_number.new.self _ c.in_ok-value.value _ _ _ c.requires.sound c.in_ok-value.ensures.wire c.in_ok-value.ensures.ok c.make_list.ensures.descriptor
+returns-clause-ok c = number_taken_step c.args.self.now _ c.args.kind c.requires.field c.make_list.new.self c.push_number.new.self _ c.in_ok-value.value _ _ _ c.requires.sound c.in_ok-value.ensures.wire c.in_ok-value.ensures.ok c.make_list.ensures.message_type
     (rw c.get.ensures.value at c.in_ok-make_list.ensures.content) c.in_ok-push_number.ensures.content

@@ -1,8 +1,8 @@
 use Rattle.std.proofs.Common.{sym, ap, inr, ◌∙◌}
 use Rattle.std.proofs.lemmas.Result.{err_from_is_err_and}
 use Rattle.prost_reflect_wire.proofs.ByteLists.{bytes_below}
-use Rattle.prost_reflect_descriptors.specs.declared.message.MessageDescriptor.{MessageDescriptor}
-use Rattle.prost_reflect_descriptors.specs.Pools.{pool_rows}
+use Rattle.prost_reflect_pool.specs.declared.pooled_type.PooledType.{PooledType}
+use Rattle.prost_reflect_pool.specs.SharedPools.{pool_rows}
 use Rattle.prost_reflect.specs.Scalars.{is_stray_number}
 use Rattle.prost_reflect.specs.View.{value_of}
 use Rattle.prost_reflect.proofs.Merging.{scalar_set, scalar_stray, scalar_fault}
@@ -14,11 +14,11 @@ returns-in_err-value-clause-fault c = let p = err_from_is_err_and c.from_residua
 
 pub merge_unknown-requires-clause-unknown : goal.merge_unknown-requires-clause-unknown
 merge_unknown-requires-clause-unknown c =
-    let test = λ (d : MessageDescriptor). is_stray_number (pool_rows d.pool).enums c.args.kind (value_of c.in_ok-value.value) in
-    inr (scalar_stray c.args.self.now _ _ _ c.args.kind c.in_ok-value.value _ _ c.requires.field c.in_ok-value.ensures.ok (ap test (sym c.descriptor.ensures) ∙ sym c.is_stray.ensures ∙ c.if-is_stray.true))
+    let test = λ (d : PooledType). is_stray_number (pool_rows d.pool).enums c.args.kind (value_of c.in_ok-value.value) in
+    inr (scalar_stray c.args.self.now _ _ _ c.args.kind c.in_ok-value.value _ _ c.requires.field c.in_ok-value.ensures.ok (ap test (sym c.message_type.ensures) ∙ sym c.is_stray.ensures ∙ c.if-is_stray.true))
 
 pub returns-clause-ok : goal.returns-clause-ok
 returns-clause-ok c =
-    let test = λ (d : MessageDescriptor). is_stray_number (pool_rows d.pool).enums c.args.kind (value_of c.in_ok-value.value) in
+    let test = λ (d : PooledType). is_stray_number (pool_rows d.pool).enums c.args.kind (value_of c.in_ok-value.value) in
     scalar_set c.args.self.now c.set_value.new.self _ _ _ c.args.kind c.in_ok-value.value _ _ c.requires.sound c.requires.field (bytes_below _ c.type_inv.bytes) c.in_ok-value.ensures.ok
-    (ap test (sym c.descriptor.ensures) ∙ sym c.is_stray.ensures ∙ c.if-is_stray.false) (rw c.get.ensures.value at c.in_ok-set_value.ensures.content)
+    (ap test (sym c.message_type.ensures) ∙ sym c.is_stray.ensures ∙ c.if-is_stray.false) (rw c.get.ensures.value at c.in_ok-set_value.ensures.content)

@@ -8,7 +8,7 @@ use Rattle.prost_reflect.proofs.message.DynamicMessage.push_numbers.Goals as goa
 pub loop-rest-init : goal.loop-rest-init
 loop-rest-init c = record {
   taken = none_taken c.args.self.now c.args.number.value c.args.kind c.requires.field c.make_list.new.self _ c.requires.sound (rw c.get.ensures.value at c.in_ok-make_list.ensures.content);
-  descriptor = c.make_list.ensures.descriptor;
+  message_type = c.make_list.ensures.message_type;
 }
 
 pub returns-in_err-value-clause-fault : goal.returns-in_err-value-clause-fault
@@ -18,8 +18,8 @@ returns-in_err-value-clause-fault c = let p = err_from_is_err_and c.from_residua
 
 pub loop-rest-preserved : goal.loop-rest-preserved
 loop-rest-preserved c = record {
-  taken = taken_more c.loop-rest.self c.push_number.new.self _ _ _ _ c.in_ok-value.value _ _ _ c.loop-rest.invariant.descriptor c.loop-rest.invariant.taken c.in_ok-value.ensures.ok c.in_ok-push_number.ensures.content;
-  descriptor = c.push_number.ensures.descriptor ∙ c.loop-rest.invariant.descriptor;
+  taken = taken_more c.loop-rest.self c.push_number.new.self _ _ _ _ c.in_ok-value.value _ _ _ c.loop-rest.invariant.message_type c.loop-rest.invariant.taken c.in_ok-value.ensures.ok c.in_ok-push_number.ensures.content;
+  message_type = c.push_number.ensures.message_type ∙ c.loop-rest.invariant.message_type;
 }
 
 pub returns-clause-ok : goal.returns-clause-ok

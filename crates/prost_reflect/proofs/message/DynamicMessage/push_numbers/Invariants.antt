@@ -1,5 +1,5 @@
 use Rattle.std.proofs.Common.{◌≡◌, length}
-use Rattle.prost_reflect.specs.View.{content_of, descriptor_of}
+use Rattle.prost_reflect.specs.View.{content_of, message_type_of}
 use Rattle.prost_reflect.proofs.NumberMerging.{TakenSoFar}
 use Rattle.prost_reflect.proofs.message.DynamicMessage.push_numbers.Given as goal
 
@@ -8,6 +8,6 @@ decreases-loop-rest l = length l.rest
 
 abbrev pub invariant-loop-rest : goal.invariant-loop-rest
 invariant-loop-rest l = record {
-  taken : TakenSoFar (descriptor_of l.fn.self) l.number.value l.kind (content_of l.fn.self) (content_of l.self) l.body l.rest;
-  descriptor : descriptor_of l.self ≡ descriptor_of l.fn.self;
+  taken : TakenSoFar (message_type_of l.fn.self) l.number.value l.kind (content_of l.fn.self) (content_of l.self) l.body l.rest;
+  message_type : message_type_of l.self ≡ message_type_of l.fn.self;
 }

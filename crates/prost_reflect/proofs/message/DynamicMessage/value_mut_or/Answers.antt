@@ -10,7 +10,7 @@ returns c =
       record {
         writes_back = tt;
         value = IfOk-weaker c.get_mut_or.result _ _ (λ v. value_lent c.args.self.now c.args.number c.args.default v.now lent.ascending) lent.value;
-        descriptor = λ v. refl;
+        message_type = λ v. refl;
         content = λ v. content_written c.args.self.now c.args.number c.args.default v lent.ascending lent.sound c.requires;
       },
     )

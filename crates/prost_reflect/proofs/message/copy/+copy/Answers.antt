@@ -3,10 +3,10 @@ use Rattle.std.proofs.lemmas.List.Elements.{same_from_all_zip}
 use Rattle.std.specs.List.Sorted.{IsStrictlySortedBy}
 use Rattle.std.specs.Map.{keys_of}
 use Rattle.prost_reflect_wire.specs.Scalar.{Bytes}
-use Rattle.prost_reflect_descriptors.specs.Descriptors.{SameMessage}
+use Rattle.prost_reflect_pool.specs.MessageTypes.{SameMessage}
 use Rattle.prost_reflect_fields.specs.Items.{IsAscending}
-use Rattle.prost_reflect_descriptors.specs.declared.message.MessageDescriptor.{MessageDescriptor}
-use Rattle.prost_reflect_fields.specs.declared.entry.Entry.{Entry}
+use Rattle.prost_reflect_pool.specs.declared.pooled_type.PooledType.{PooledType}
+use Rattle.prost_reflect_fields.specs.declared.slot.FieldSlot.{FieldSlot}
 use Rattle.prost_reflect.specs.declared.value.MapKey.{MapKey}
 use Rattle.prost_reflect.specs.declared.value.Value.{Value}
 use Rattle.prost_reflect.specs.ContentLaws.{compare_keys}
@@ -18,35 +18,35 @@ use Rattle.prost_reflect.proofs.CopiedPairs.{pair_copied, map_copied}
 use Rattle.prost_reflect.proofs.message.copy.+copy.Goals as goal
 use Rattle.prost_reflect.proofs.message.copy.+copy.Goals.{copy_message-in-Value+in_ok-copy_value-in-Value, copy_message-in-Unknown+in_ok-clone-in-Unknown, copy_message-in-Both+in_ok-value-in-Both+in_ok-clone-in-Both}
 
-of_same : (a b c : MessageDescriptor) → b ≡ a → SameMessage b c → SameMessage a c
+of_same : (a b c : PooledType) → b ≡ a → SameMessage b c → SameMessage a c
 of_same a b c e h = subst (λ d. SameMessage d c) e h
 
-pub copy_message-from_entries-requires : goal.copy_message-from_entries-requires
-copy_message-from_entries-requires t c =
+pub copy_message-from_slots-requires : goal.copy_message-from_slots-requires
+copy_message-from_slots-requires t c =
     let message = c.args.message.now in
-    let entries = c.entries-number-items in
-    let copied = c.in_ok-descriptor.descriptor in
-    sound_copied message.slots.0 copied message.slots.1 c.loop-number.fields
-    (of_same message.slots.0 c.descriptor.result.now copied c.descriptor.ensures c.in_ok-descriptor.ensures.cases)
-    (all_copied c.loop-number.fields entries.result.now message.slots.1 c.loop-number.number-index entries.ensures.entries c.loop-number-test.false c.loop-number.invariant)
+    let entries = c.slots-number-items in
+    let copied = c.in_ok-shared.shared in
+    sound_copied message.fields.0 copied message.fields.1 c.loop-number.fields
+    (of_same message.fields.0 c.message_type.result.now copied c.message_type.ensures c.in_ok-shared.ensures.cases)
+    (all_copied c.loop-number.fields entries.result.now message.fields.1 c.loop-number.number-index entries.ensures.slots c.loop-number-test.false c.loop-number.invariant)
     entries.ensures.sound
 
 pub copy_message-returns : goal.copy_message-returns
 copy_message-returns t c =
     let message = c.args.message.now in
-    let entries = c.entries-number-items in
-    let copied = c.in_ok-descriptor.descriptor in
-    let same = of_same message.slots.0 c.descriptor.result.now copied c.descriptor.ensures c.in_ok-descriptor.ensures.cases in
-    let all = all_copied c.loop-number.fields entries.result.now message.slots.1 c.loop-number.number-index entries.ensures.entries c.loop-number-test.false c.loop-number.invariant in
-    let is = c.from_entries.ensures in
-    let kept = subst (λ (p : MessageDescriptor × List (ℕ × Entry Value)). SameMessage message.slots.0 p.0) (sym is) same in
-    message_copied message c.from_entries.result kept (ap (λ (p : MessageDescriptor × List (ℕ × Entry Value)). parts_of p.1) is ∙ all)
+    let entries = c.slots-number-items in
+    let copied = c.in_ok-shared.shared in
+    let same = of_same message.fields.0 c.message_type.result.now copied c.message_type.ensures c.in_ok-shared.ensures.cases in
+    let all = all_copied c.loop-number.fields entries.result.now message.fields.1 c.loop-number.number-index entries.ensures.slots c.loop-number-test.false c.loop-number.invariant in
+    let is = c.from_slots.ensures in
+    let kept = subst (λ (p : PooledType × List (ℕ × FieldSlot Value)). SameMessage message.fields.0 p.0) (sym is) same in
+    message_copied message c.from_slots.result kept (ap (λ (p : PooledType × List (ℕ × FieldSlot Value)). parts_of p.1) is ∙ all)
 
 pub copy_message-loop-number-preserved : goal.copy_message-loop-number-preserved
 copy_message-loop-number-preserved t c =
-    let entries = c.entries-number-items in
+    let entries = c.slots-number-items in
     let item = c.loop-number-item.result in
-    let ascending = subst IsAscending (sym entries.ensures.entries) entries.ensures.ascending in
+    let ascending = subst IsAscending (sym entries.ensures.slots) entries.ensures.ascending in
     let parts : entry_parts c.match-entry.copied ≡ entry_parts item.1 = elim c.match-entry.branch [
       | copy_message-in-Value+in_ok-copy_value-in-Value w ↦
           ap entry_parts w.copied-is ∙ value_copied w.in_ok-copy_value-in-Value.field-0 w.in-Value.value w.in_ok-copy_value-in-Value.ensures ∙ ap entry_parts (sym w.in-Value.is)

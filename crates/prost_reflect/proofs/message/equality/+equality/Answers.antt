@@ -34,22 +34,22 @@ are_equal_maps-loop-key-preserved t c =
 
 pub are_equal_messages-returns-then-ne : goal.are_equal_messages-returns-then-ne
 are_equal_messages-returns-then-ne t c =
-    let types = sym (types_equal c.descriptor.result.now c.descriptor-2.result.now) ∙ turned_true c.ne.result _ c.ne.ensures c.if-ne.true in
-    types_differ c.args.a.now c.args.b.now (sym (ap₂ same_type c.descriptor.ensures c.descriptor-2.ensures) ∙ types)
+    let types = sym (types_equal c.message_type.result.now c.message_type-2.result.now) ∙ turned_true c.ne.result _ c.ne.ensures c.if-ne.true in
+    types_differ c.args.a.now c.args.b.now (sym (ap₂ same_type c.message_type.ensures c.message_type-2.ensures) ∙ types)
 
 pub are_equal_messages-loop-number-init : goal.are_equal_messages-loop-number-init
 are_equal_messages-loop-number-init t c =
-    let types = sym (types_equal c.descriptor.result.now c.descriptor-2.result.now) ∙ turned_false c.ne.result _ c.ne.ensures c.if-ne.false in (
+    let types = sym (types_equal c.message_type.result.now c.message_type-2.result.now) ∙ turned_false c.ne.result _ c.ne.ensures c.if-ne.false in (
       tt,
       tt,
-      ap₂ (λ es ds. same_entries (stored_entries value_stored es) (stored_entries value_stored ds)) c.entries-number-items.ensures.entries (c.iter-others.ensures.rest ∙ c.entries.ensures.entries)
-          ∙ types_same c.args.a.now c.args.b.now (sym (ap₂ same_type c.descriptor.ensures c.descriptor-2.ensures) ∙ types),
+      ap₂ (λ es ds. same_entries (stored_entries value_stored es) (stored_entries value_stored ds)) c.slots-number-items.ensures.slots (c.iter-others.ensures.rest ∙ c.slots.ensures.slots)
+          ∙ types_same c.args.a.now c.args.b.now (sym (ap₂ same_type c.message_type.ensures c.message_type-2.ensures) ∙ types),
     )
 
 pub are_equal_messages-returns-in_default : goal.are_equal_messages-returns-in_default
 are_equal_messages-returns-in_default t c =
-    entry_alone c.entries-number-items.result.now _ c.loop-number.number-index c.loop-number-item.result _ c.loop-number-test.true c.loop-number-item.is c.in_default.ensures.steps.0 c.loop-number.invariant.2
+    entry_alone c.slots-number-items.result.now _ c.loop-number.number-index c.loop-number-item.result _ c.loop-number-test.true c.loop-number-item.is c.in_default.ensures.steps.0 c.loop-number.invariant.2
 
 pub are_equal_messages-returns-then-number-other_number : goal.are_equal_messages-returns-then-number-other_number
 are_equal_messages-returns-then-number-other_number t c =
-    numbers_differ c.entries-number-items.result.now _ _ c.loop-number.number-index c.loop-number-item.result c.in-Some.field-0.now _ c.loop-number-test.true c.loop-number-item.is c.in-Some.ensures.steps c.if-number-other_number.true c.loop-number.invariant.2
+    numbers_differ c.slots-number-items.result.now _ _ c.loop-number.number-index c.loop-number-item.result c.in-Some.field-0.now _ c.loop-number-test.true c.loop-number-item.is c.in-Some.ensures.steps c.if-number-other_number.true c.loop-number.invariant.2

@@ -1,5 +1,11 @@
-use Rattle.prost_reflect_wire.proofs.WrittenRecords.{spelled_front}
+use Rattle.std.proofs.Common.{ℕ, List, [], ◌∷◌, ◌++◌}
+use Rattle.prost_reflect_wire.specs.Record.{spelled}
+use Rattle.prost_reflect_wire.specs.Front.{RecordFront}
+use Rattle.prost_reflect_wire.specs.Unknown.{record_of}
+use Rattle.prost_reflect_wire.proofs.WrittenRecords.{spelled_front, on_ok}
 use Rattle.prost_reflect_wire.proofs.unknown.UnknownField.encode.Goals as goal
 
 pub returns-clause-first : goal.returns-clause-first
-returns-clause-first c = λ tail. spelled_front _ tail c.in_ok-prepend_field.ensures.valid
+returns-clause-first c =
+    let first : (tail : List ℕ) → RecordFront (record_of c.args.self.now) (spelled (record_of c.args.self.now ∷ []) ++ tail) tail = λ tail. spelled_front _ tail c.write_field.ensures.valid in
+    on_ok _ first

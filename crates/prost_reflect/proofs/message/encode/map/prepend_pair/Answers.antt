@@ -1,0 +1,12 @@
+use Rattle.std.proofs.Common.{arith, sym}
+use Rattle.std.proofs.lemmas.Grind.{common_steps}
+use Rattle.prost_reflect_tables.specs.Rows.{field_row}
+use Rattle.prost_reflect.specs.View.{value_of}
+use Rattle.prost_reflect.proofs.ScalarRefs.{takes_scalar}
+use Rattle.prost_reflect.proofs.message.encode.map.prepend_pair.Goals as goal
+
+pub scalar-requires : goal.scalar-requires
+scalar-requires c = takes_scalar (field_row c.args.value_field.now).kind (value_of c.args.value.now) c.requires.value
+
+pub returns : goal.returns
+returns c = rw (sym c.scalar.ensures, sym c.as_scalar.ensures) (grind (arith, common_steps))

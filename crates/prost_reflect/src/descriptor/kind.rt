@@ -1,0 +1,108 @@
+//! The types of fields.
+
+use crate::descriptor::{DescriptorPool, EnumDescriptor, MessageDescriptor};
+use crate::message::DynamicMessage;
+use crate::value::Value;
+use prost_reflect_tables::TableKind;
+use std::alloc::{AllocError, Global};
+
+/// The type of a field's values (the language guide, "Scalar Value Types"). A group is a message.
+#[derive(PartialEq, Eq, Debug, Drop)]
+pub enum Kind {
+    /// 64 bits of a floating-point number.
+    Double,
+    /// 32 bits of a floating-point number.
+    Float,
+    /// 32 bits with a sign, as a varint.
+    Int32,
+    /// 64 bits with a sign, as a varint.
+    Int64,
+    /// 32 bits, as a varint.
+    Uint32,
+    /// 64 bits, as a varint.
+    Uint64,
+    /// 32 bits with a sign, as a zigzag varint.
+    Sint32,
+    /// 64 bits with a sign, as a zigzag varint.
+    Sint64,
+    /// 32 bits, in four bytes.
+    Fixed32,
+    /// 64 bits, in eight bytes.
+    Fixed64,
+    /// 32 bits with a sign, in four bytes.
+    Sfixed32,
+    /// 64 bits with a sign, in eight bytes.
+    Sfixed64,
+    /// True or false.
+    Bool,
+    /// UTF-8 text.
+    String,
+    /// Any bytes.
+    Bytes,
+    /// A message, also one that is written as a group.
+    Message(MessageDescriptor),
+    /// An enum.
+    Enum(EnumDescriptor),
+}
+
+impl Kind {
+    ghost use Rattle.std.specs.Prelude.{◌≡◌, IsTrue, IfOk, length};
+    ghost use Rattle.prost_reflect_tables.specs.Linked.{kind_in_range};
+    ghost use Rattle.prost_reflect_pool.specs.SharedPools.{pool_rows};
+    ghost use Rattle.prost_reflect.specs.NamedKinds.{table_kind, IsAmong};
+    ghost use Rattle.prost_reflect.specs.NamedDefaults.{default_named};
+    ghost use Rattle.prost_reflect.specs.View.{value_of};
+
+    /// A kind of the tables, with descriptors for places.
+    pub(crate) fn from_table(pool: &DescriptorPool, kind: TableKind) -> Result<Kind, AllocError>
+        requires { IsTrue (kind_in_range (length (pool_rows pool.now.inner).messages) (length (pool_rows pool.now.inner).enums) kind) }
+        ensures kind { IfOk result (λ shown. table_kind shown ≡ kind) }
+        ensures pool { IfOk result (IsAmong pool.now) }
+    {
+        Ok(match kind {
+            TableKind::Double => Kind::Double,
+            TableKind::Float => Kind::Float,
+            TableKind::Int32 => Kind::Int32,
+            TableKind::Int64 => Kind::Int64,
+            TableKind::Uint32 => Kind::Uint32,
+            TableKind::Uint64 => Kind::Uint64,
+            TableKind::Sint32 => Kind::Sint32,
+            TableKind::Sint64 => Kind::Sint64,
+            TableKind::Fixed32 => Kind::Fixed32,
+            TableKind::Fixed64 => Kind::Fixed64,
+            TableKind::Sfixed32 => Kind::Sfixed32,
+            TableKind::Sfixed64 => Kind::Sfixed64,
+            TableKind::Bool => Kind::Bool,
+            TableKind::String => Kind::String,
+            TableKind::Bytes => Kind::Bytes,
+            TableKind::Message(index) => Kind::Message(MessageDescriptor::new(
+                pool.clone()?,
+                index,
+            )),
+            TableKind::Enum(index) => Kind::Enum(EnumDescriptor::new(pool.clone()?, index)),
+        })
+    }
+
+    /// The value that a field of the kind has where nothing is stored.
+    ///
+    /// # Errors
+    ///
+    /// `AllocError` if a clone of the pool is refused.
+    pub fn default_value(&self, alloc: Global) -> Result<Value, AllocError>
+        ensures { IfOk result (λ value. value_of value ≡ default_named self.now) }
+    {
+        Ok(match self {
+            Kind::Double => Value::F64(0),
+            Kind::Float => Value::F32(0),
+            Kind::Int32 | Kind::Sint32 | Kind::Sfixed32 => Value::I32(0),
+            Kind::Int64 | Kind::Sint64 | Kind::Sfixed64 => Value::I64(0),
+            Kind::Uint32 | Kind::Fixed32 => Value::U32(0),
+            Kind::Uint64 | Kind::Fixed64 => Value::U64(0),
+            Kind::Bool => Value::Bool(false),
+            Kind::String => Value::String(String::new(alloc)),
+            Kind::Bytes => Value::Bytes(Vec::new(alloc)),
+            Kind::Message(message) => Value::Message(DynamicMessage::new(alloc, message.clone()?)),
+            Kind::Enum(e) => Value::EnumNumber(e.first_number()),
+        })
+    }
+}

@@ -1,0 +1,122 @@
+//! Reading lists of scalars (the encoding guide, "Repeated Elements" and "Packed Repeated Fields").
+
+ghost use Rattle.std.specs.Prelude.{◌≡◌, ◌≢◌, true, IsSome, IsSomeAnd, IfOk, IfErr};
+ghost use Rattle.prost_reflect_wire.specs.Schema.{is_packable};
+ghost use Rattle.prost_reflect_wire.specs.Typing.{WellStored};
+ghost use Rattle.prost_reflect_wire.specs.Decoding.{Step, StandsBehindKey};
+ghost use Rattle.prost_reflect_fields.specs.Known.{known_of};
+ghost use Rattle.prost_reflect.specs.Lists.{AddsPacked, RefusesPacked, AddsElements, RefusesElements, JoinsElements, IsList, ListField};
+ghost use Rattle.prost_reflect.specs.Scalars.{plain_kind};
+ghost use Rattle.prost_reflect.specs.View.{value_of, content_of, message_type_of};
+
+use crate::message::DynamicMessage;
+use crate::message::decode::scalar::{scalar_at, wire_type_of};
+use crate::value::Value;
+use prost_reflect_tables::TableKind;
+use prost_reflect_wire::{DecodeError, FieldNumber, WireType, delimited_at};
+use std::alloc::Global;
+use std::mem;
+
+/// Whether a list of the kind takes packed records: of all kinds but string and bytes.
+pub(crate) fn is_packable(kind: TableKind) -> bool
+    requires { IsSome (plain_kind kind) }
+    ensures { IsSomeAnd (plain_kind kind) (λ k. is_packable k ≡ result) }
+{
+    !matches!(kind, TableKind::String | TableKind::Bytes)
+}
+
+/// Adds the elements of a packed record's body, which stand end to end.
+///
+/// # Errors
+///
+/// `Truncated` and `Varint` as an element's reader, `OutOfMemory` if a growth is refused; then some may have been added.
+fn push_packed(
+    alloc: Global,
+    values: &mut Vec<Value>,
+    kind: TableKind,
+    body: &[u8],
+) -> Result<(), DecodeError>
+    requires { IsSomeAnd (plain_kind kind) (λ k. is_packable k ≡ true) }
+    ensures ok { IfOk result (λ _. AddsPacked kind values.old.items values.new.items body.now) }
+    ensures fault { IfErr result (λ e. e ≢ DecodeError.OutOfMemory → RefusesPacked kind e body.now) }
+{
+    let wire_type = wire_type_of(kind);
+    let mut rest = body;
+    while !rest.is_empty() {
+        let (element, after) = scalar_at(alloc, kind, wire_type, rest)?;
+        values.push(element)?;
+        rest = after;
+    }
+    Ok(())
+}
+
+/// Adds the elements of a list's record behind its key, and gives the bytes behind them. A packed record and a single one are taken alike.
+///
+/// # Errors
+///
+/// As `scalar_at` and `push_packed`; on a refusal some may have been added.
+fn push_elements<'a>(
+    alloc: Global,
+    values: &mut Vec<Value>,
+    kind: TableKind,
+    wire_type: WireType,
+    bytes: &'a [u8],
+) -> Result<&'a [u8], DecodeError>
+    requires { IsSome (plain_kind kind) }
+    ensures ok { IfOk result (λ rest. AddsElements kind wire_type values.old.items values.new.items bytes.now rest.now) }
+    ensures fault { IfErr result (λ e. e ≢ DecodeError.OutOfMemory → RefusesElements kind wire_type e bytes.now) }
+{
+    if wire_type == WireType::LengthDelimited && is_packable(kind) {
+        let (body, rest) = delimited_at(bytes)?;
+        push_packed(alloc, values, kind, body)?;
+        return Ok(rest);
+    }
+    let (value, rest) = scalar_at(alloc, kind, wire_type, bytes)?;
+    values.push(value)?;
+    Ok(rest)
+}
+
+/// The same for a value that is a list.
+fn join_elements<'a>(
+    alloc: Global,
+    value: &mut Value,
+    kind: TableKind,
+    wire_type: WireType,
+    bytes: &'a [u8],
+) -> Result<&'a [u8], DecodeError>
+    requires scalar { IsSome (plain_kind kind) }
+    requires list { IsList (value_of value.old) }
+    ensures ok { IfOk result (λ rest. JoinsElements kind wire_type (value_of value.old) (value_of value.new) bytes.now rest.now) }
+    ensures fault { IfErr result (λ e. e ≢ DecodeError.OutOfMemory → RefusesElements kind wire_type e bytes.now) }
+{
+    match mem::replace(value, Value::Bool(false)) {
+        Value::List(mut values) => {
+            let result = push_elements(alloc, &mut values, kind, wire_type, bytes);
+            *value = Value::List(values);
+            result
+        }
+        _ => unreachable!(),
+    }
+}
+
+impl DynamicMessage {
+    /// Reads a record of a list behind its field's key: its elements go behind those that are there.
+    pub(crate) fn merge_list<'a>(
+        &mut self,
+        alloc: Global,
+        number: FieldNumber,
+        kind: TableKind,
+        wire_type: WireType,
+        bytes: &'a [u8],
+        levels: u32,
+    ) -> Result<&'a [u8], DecodeError>
+        requires sound { WellStored (content_of self.old) }
+        requires field { ListField (known_of (message_type_of self.old)) number.value kind }
+        ensures ok { IfOk result (λ rest. Step levels number.value wire_type (content_of self.old) (content_of self.new) bytes.now rest.now) }
+        ensures message_type { message_type_of self.new ≡ message_type_of self.old }
+        ensures fault { IfErr result (λ e. e ≢ DecodeError.OutOfMemory → StandsBehindKey (content_of self.old) levels number.value wire_type e bytes.now) }
+    {
+        let value = self.value_mut_or(number.get(), Value::List(Vec::new(alloc)))?;
+        join_elements(alloc, value, kind, wire_type, bytes)
+    }
+}

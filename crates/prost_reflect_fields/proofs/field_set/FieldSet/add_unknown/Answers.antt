@@ -1,0 +1,20 @@
+use Rattle.std.proofs.Common.{◌≡◌, true, sym, ◌∙◌, ap, subst, Ok, Err, Result}
+use Rattle.std.specs.Result.{OnOk, OnErr}
+use Rattle.prost_reflect_wire.specs.Unknown.{record_of}
+use Rattle.prost_reflect_fields.specs.Known.{known_of, keeps_unknown}
+use Rattle.prost_reflect_fields.proofs.SoundChanges.{sound_added, sound_stored}
+use Rattle.prost_reflect_fields.proofs.field_set.FieldSet.add_unknown.Goals as goal
+
+either : {T E P Q R : Type 0} (r : Result T E) → OnOk r P → OnErr r Q → (P → R) → (Q → R) → R
+either (Ok t) p q f h = f p
+either (Err e) p q f h = h q
+
+pub invariant_of-self : goal.invariant_of-self
+invariant_of-self g c =
+    let inside = c.self.inside in
+    let fields = known_of inside.message_type in
+    let added_record = record_of c.args.field in
+    let keeps : keeps_unknown fields added_record.number ≡ true = ap (keeps_unknown fields) c.requires.own ∙ subst (λ m. keeps_unknown (known_of m.0) c.args.number ≡ true) (sym c.self.view_is) c.requires.kept in
+    either c.add_unknown.result c.add_unknown.ensures.ok c.add_unknown.ensures.err
+    (λ added. sound_added fields inside.fields c.add_unknown.new.fields added_record added keeps c.self.invariant)
+    (λ same. sound_stored fields inside.fields c.add_unknown.new.fields same c.self.invariant)

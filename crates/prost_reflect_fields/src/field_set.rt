@@ -1,0 +1,186 @@
+//! The fields of one message.
+
+ghost use Rattle.std.specs.Prelude.{◌≡◌, [], true, OnOk, OnErr, IfOk, Some};
+ghost use Rattle.std.specs.Borrow.{Lends, LendsIf, LendsIfOk, sem};
+ghost use Rattle.std.specs.Option.{option_copied, option_copied_mut};
+ghost use Rattle.prost_reflect_wire.specs.Unknown.{record_of};
+ghost use Rattle.prost_reflect_fields.specs.contracts.field_set.FieldSet.{the_row};
+ghost use Rattle.prost_reflect_fields.specs.Items.{IsAscending};
+ghost use Rattle.prost_reflect_fields.specs.Known.{known_of, is_known, keeps_unknown};
+ghost use Rattle.prost_reflect_fields.specs.FieldSlots.{value_at, unknown_at, clear_value, with_value, UnknownAdded, SameStored};
+ghost use Rattle.prost_reflect_fields.specs.Sound.{IsSound, set_value_at, prepared};
+
+use crate::number_map::ascending;
+use crate::slot::FieldSlot;
+use crate::sorted_map::SortedMap;
+use crate::stored::{
+    add_unknown, set_value, take_value, unknown_at, value_at, value_mut, value_mut_or,
+};
+use prost_reflect_pool::PooledType;
+use prost_reflect_wire::{UnknownField, UnknownFieldSet};
+use std::alloc::{AllocError, Global};
+use std::marker::Model;
+
+/// The values of a message's fields and its unknown fields, by number.
+///
+/// Values stand at the numbers of fields and extensions alone, and at most one member of a oneof has one.
+/// Unknown fields stand at their own numbers: those that no field has, and those of fields whose values are numbers of a closed enum.
+#[derive(Debug, Drop)]
+pub struct FieldSet<V> {
+    message_type: PooledType,
+    fields: SortedMap<FieldSlot<V>>,
+}
+
+impl<V> Model for FieldSet<V> {
+    ghost use Rattle.std.specs.Prelude.{ℕ, List, ◌≡◌, true};
+    ghost use Rattle.prost_reflect_pool.specs.declared.pooled_type.PooledType.{PooledType};
+    ghost use Rattle.prost_reflect_fields.specs.declared.slot.FieldSlot.{FieldSlot};
+
+    ghost Value = { PooledType × List (ℕ × FieldSlot V) };
+
+    ghost use Rattle.prost_reflect_fields.specs.Codes.{field_set_code};
+
+    ghost coded = { field_set_code V.code };
+
+    ghost use Rattle.prost_reflect_fields.specs.Sound.{IsSound};
+
+    ghost view = { λ a. (a.message_type, a.fields) };
+
+    ghost invariant = { λ a. IsSound a.message_type a.fields };
+}
+
+impl<V> FieldSet<V> {
+    /// No values and no unknown fields.
+    pub fn new(alloc: Global, message_type: PooledType) -> FieldSet<V>
+        ensures { result ≡ (message_type, []) }
+    {
+        FieldSet {
+            message_type,
+            fields: SortedMap::new(alloc),
+        }
+    }
+
+    /// These values and unknown fields of a message of the type.
+    pub fn from_slots(message_type: PooledType, fields: SortedMap<FieldSlot<V>>) -> FieldSet<V>
+        requires { IsSound message_type fields }
+        ensures { result ≡ (message_type, fields) }
+    {
+        FieldSet {
+            message_type,
+            fields,
+        }
+    }
+
+    /// What the values and unknown fields are stored with.
+    pub fn allocator(&self) -> Global {
+        self.fields.allocator()
+    }
+
+    /// The message type.
+    pub fn message_type(&self) -> &PooledType
+        ensures { result.now ≡ self.now.0 }
+    {
+        &self.message_type
+    }
+
+    /// What stands at each number, in ascending order of the numbers.
+    pub fn slots(&self) -> &[(u32, FieldSlot<V>)]
+        ensures slots { result.now ≡ self.now.1 }
+        ensures ascending { IsAscending self.now.1 }
+        ensures sound { IsSound self.now.0 self.now.1 }
+    {
+        self.fields.as_slice()
+    }
+}
+
+impl<V: Drop> FieldSet<V> {
+    /// The value at the number.
+    pub fn get(&self, number: u32) -> Option<&V>
+        ensures value { option_copied result ≡ value_at self.now.1 number }
+        ensures ascending { IsAscending self.now.1 }
+        ensures sound { IsSound self.now.0 self.now.1 }
+    {
+        ascending(&self.fields);
+        value_at(&self.fields, number)
+    }
+
+    /// The unknown fields at the number.
+    pub fn unknown(&self, number: u32) -> Option<&UnknownFieldSet>
+        ensures { option_copied result ≡ unknown_at self.now.1 number }
+    {
+        unknown_at(&self.fields, number)
+    }
+
+    /// Takes the value at the number. The unknown fields stay.
+    pub fn take(&mut self, number: u32) -> Option<V>
+        ensures value { result ≡ value_at self.old.1 number }
+        ensures left { self.new ≡ (self.old.0, clear_value self.old.1 number) }
+        ensures ascending { IsAscending self.old.1 }
+    {
+        let alloc = self.fields.allocator();
+        take_value(&mut self.fields, alloc, number)
+    }
+
+    /// Removes the value at the number. The unknown fields stay.
+    pub fn clear(&mut self, number: u32)
+        ensures left { self.new ≡ (self.old.0, clear_value self.old.1 number) }
+        ensures ascending { IsAscending self.old.1 }
+    {
+        drop(self.take(number));
+    }
+
+    /// Removes all values and all unknown fields.
+    pub fn clear_all(&mut self)
+        ensures { self.new ≡ (self.old.0, []) }
+    {
+        let alloc = self.fields.allocator();
+        self.fields = SortedMap::new(alloc);
+    }
+
+    /// Sets the value at the number of a field or an extension, and removes those of the other members of its oneof.
+    /// The unknown fields stay. A refused growth changes nothing.
+    pub fn set(&mut self, number: u32, value: V) -> Result<(), AllocError>
+        requires { is_known (known_of self.old.0) number ≡ true }
+        ensures ok { OnOk result (self.new ≡ (self.old.0, set_value_at (known_of self.old.0) self.old.1 number value)) }
+        ensures err { OnErr result (self.new ≡ self.old) }
+        ensures ascending { IsAscending self.old.1 }
+    {
+        let alloc = self.fields.allocator();
+        set_value(&mut self.fields, alloc, &self.message_type, number, value)
+    }
+
+    /// Adds an unknown field behind those of its number, which is that of no field, or of one whose values are numbers of a closed enum.
+    /// A refused growth changes no value and no unknown field.
+    pub fn add_unknown(&mut self, number: u32, field: UnknownField) -> Result<(), AllocError>
+        requires own { (record_of field).number ≡ number }
+        requires kept { keeps_unknown (known_of self.old.0) number ≡ true }
+        ensures message_type { self.new.0 ≡ self.old.0 }
+        ensures ok { OnOk result (UnknownAdded self.old.1 self.new.1 (record_of field)) }
+        ensures err { OnErr result (SameStored self.old.1 self.new.1) }
+        ensures ascending { IsAscending self.old.1 }
+    {
+        let alloc = self.fields.allocator();
+        add_unknown(&mut self.fields, alloc, number, field)
+    }
+
+    /// The value at the number, for writing.
+    pub fn get_mut(&mut self, number: u32) -> Option<&mut V>
+        ensures* writes_back { sem 𝓛 (LendsIf (the_row V.row) V.row self.entry result (λ w. (self.old.0, with_value self.old.1 number w)) self.old) }
+        ensures value { option_copied_mut result ≡ value_at self.old.1 number }
+    {
+        value_mut(&mut self.fields, number)
+    }
+
+    /// The value at the number of a field or an extension, for writing. Where there is none it is first set to `default`.
+    /// A refused growth changes nothing.
+    pub fn get_mut_or(&mut self, number: u32, default: V) -> Result<&mut V, AllocError>
+        requires { is_known (known_of self.old.0) number ≡ true }
+        ensures* writes_back { sem 𝓛 (LendsIfOk (the_row V.row) V.row self.entry result (λ w. (self.old.0, with_value (prepared (known_of self.old.0) self.old.1 number default) number w)) self.old) }
+        ensures value { IfOk result (λ v. value_at (prepared (known_of self.old.0) self.old.1 number default) number ≡ Some v.now) }
+        ensures ascending { IsAscending self.old.1 }
+        ensures sound { IsSound self.old.0 self.old.1 }
+    {
+        let alloc = self.fields.allocator();
+        value_mut_or(&mut self.fields, alloc, &self.message_type, number, default)
+    }
+}

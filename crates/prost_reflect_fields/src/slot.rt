@@ -1,0 +1,106 @@
+//! What a message keeps at one number.
+
+ghost use Rattle.std.specs.Prelude.{◌≡◌, OnOk, OnErr};
+ghost use Rattle.std.specs.Borrow.{LendsIf, sem};
+ghost use Rattle.std.specs.Option.{option_copied, option_copied_mut};
+ghost use Rattle.prost_reflect_wire.specs.Unknown.{record_of};
+ghost use Rattle.prost_reflect_fields.specs.contracts.slot.FieldSlot.{the_row};
+ghost use Rattle.prost_reflect_fields.specs.FieldSlots.{value_in, unknown_in, with_value_in, revalued, value_beside, without_value_beside, AddedIn, SameIn};
+
+use prost_reflect_wire::{UnknownField, UnknownFieldSet};
+use std::alloc::{AllocError, Global};
+use std::mem;
+
+/// A value, unknown fields, or a value with unknown fields beside it.
+#[derive(Debug, Drop)]
+pub enum FieldSlot<V> {
+    /// The value of a field.
+    Value(V),
+    /// Unknown fields alone.
+    Unknown(UnknownFieldSet),
+    /// The value of a field, and the numbers that its closed enum does not declare.
+    Both(V, UnknownFieldSet),
+}
+
+impl<V> FieldSlot<V> {
+    /// The value.
+    pub fn value(&self) -> Option<&V>
+        ensures { option_copied result ≡ value_in self.now }
+    {
+        match self {
+            FieldSlot::Value(value) | FieldSlot::Both(value, _) => Some(value),
+            FieldSlot::Unknown(_) => None,
+        }
+    }
+
+    /// The unknown fields.
+    pub fn unknown(&self) -> Option<&UnknownFieldSet>
+        ensures { option_copied result ≡ unknown_in self.now }
+    {
+        match self {
+            FieldSlot::Unknown(unknown) | FieldSlot::Both(_, unknown) => Some(unknown),
+            FieldSlot::Value(_) => None,
+        }
+    }
+
+    /// The value, for writing.
+    pub fn value_mut(&mut self) -> Option<&mut V>
+        ensures* writes_back { sem 𝓛 (LendsIf (the_row V.row) V.row self.entry result (revalued self.old) self.old) }
+        ensures value { option_copied_mut result ≡ value_in self.old }
+    {
+        match self {
+            FieldSlot::Value(value) => Some(value),
+            FieldSlot::Both(value, _) => Some(value),
+            FieldSlot::Unknown(_) => None,
+        }
+    }
+}
+
+impl<V: Drop> FieldSlot<V> {
+    /// Puts a value beside the unknown fields, in place of one that is there.
+    pub fn put(&mut self, alloc: Global, value: V)
+        ensures { self.new ≡ with_value_in self.old value }
+    {
+        match mem::replace(self, FieldSlot::Unknown(UnknownFieldSet::new(alloc))) {
+            FieldSlot::Value(_) => *self = FieldSlot::Value(value),
+            FieldSlot::Unknown(unknown) => *self = FieldSlot::Both(value, unknown),
+            FieldSlot::Both(_, unknown) => *self = FieldSlot::Both(value, unknown),
+        }
+    }
+
+    /// Takes the value that stands beside unknown fields.
+    pub fn take_beside(&mut self, alloc: Global) -> Option<V>
+        ensures value { result ≡ value_beside self.old }
+        ensures left { self.new ≡ without_value_beside self.old }
+    {
+        match mem::replace(self, FieldSlot::Unknown(UnknownFieldSet::new(alloc))) {
+            FieldSlot::Both(value, unknown) => {
+                *self = FieldSlot::Unknown(unknown);
+                Some(value)
+            }
+            whole => {
+                *self = whole;
+                None
+            }
+        }
+    }
+
+    /// Adds an unknown field behind those that are there. A refused growth changes nothing.
+    pub fn add_unknown(&mut self, alloc: Global, field: UnknownField) -> Result<(), AllocError>
+        ensures ok { OnOk result (AddedIn self.old self.new (record_of field)) }
+        ensures err { OnErr result (SameIn self.old self.new) }
+    {
+        match self {
+            FieldSlot::Unknown(unknown) => return unknown.insert(field),
+            FieldSlot::Both(_, unknown) => return unknown.insert(field),
+            FieldSlot::Value(_) => {}
+        }
+        let mut unknown = UnknownFieldSet::new(alloc);
+        unknown.insert(field)?;
+        match mem::replace(self, FieldSlot::Unknown(UnknownFieldSet::new(alloc))) {
+            FieldSlot::Value(value) => *self = FieldSlot::Both(value, unknown),
+            whole => *self = whole,
+        }
+        Ok(())
+    }
+}

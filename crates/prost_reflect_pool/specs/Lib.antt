@@ -1,0 +1,11 @@
+pub mod FileNames
+pub mod Pools
+pub mod PoolFiles
+pub mod PoolEquality
+pub mod SharedPools
+pub mod MessageTypes
+pub mod Enums
+pub mod MapParts
+pub mod Builtin
+pub mod BuiltinRows
+pub mod BuiltinFiles

@@ -1,0 +1,15 @@
+//! Pools of message types, and descriptors: places in a shared pool.
+#![tactic(auto)]
+
+mod adding;
+mod builtin;
+mod files;
+mod laws;
+mod maps;
+mod pool;
+mod pooled_type;
+
+pub use builtin::builtin_pool;
+pub use files::FileDescriptorProtos;
+pub use pool::LinkedPool;
+pub use pooled_type::PooledType;

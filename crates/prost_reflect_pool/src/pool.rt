@@ -1,0 +1,73 @@
+//! Pools.
+
+ghost use Rattle.std.specs.Prelude.{◌≡◌, IsTrue};
+ghost use Rattle.prost_reflect_types.specs.DescriptorViews.{shared_files};
+ghost use Rattle.prost_reflect_tables.specs.Built.{AreTablesOf};
+ghost use Rattle.prost_reflect_tables.specs.Schema.{rows_of};
+ghost use Rattle.prost_reflect_pool.specs.FileNames.{names_differ};
+
+use prost_reflect_tables::Tables;
+use prost_reflect_types::FileDescriptorProto;
+use std::alloc::Global;
+use std::rc::Rc;
+
+/// What the clones of a pool share: files that pass all checks, no two of one name, and the tables that they link to.
+#[derive(Debug, Drop)]
+pub struct LinkedPool {
+    pub(crate) files: Vec<Rc<FileDescriptorProto>>,
+    pub(crate) tables: Tables,
+    pub ghost built: { AreTablesOf (shared_files files.items) (rows_of tables) },
+    pub ghost names: { IsTrue (names_differ (shared_files files.items)) },
+}
+
+impl PartialEq for LinkedPool {
+    ghost use Rattle.std.specs.Cmp.{on_per, partial_equiv_from_equiv};
+    ghost use Rattle.prost_reflect_pool.specs.PoolEquality.{contents_eq, contents_equivalence};
+    ghost use Rattle.prost_reflect_pool.specs.Pools.{contents_of};
+
+    ghost eq = { λ a b. contents_eq (contents_of (shared_files a.files.items)) (contents_of (shared_files b.files.items)) };
+
+    ghost laws = { on_per (λ inner. contents_of (shared_files inner.files.items)) (partial_equiv_from_equiv contents_equivalence) };
+
+    /// Whether the files hold the same, one by one; so their tables are the same, too.
+    fn eq(&self, other: &LinkedPool) -> bool {
+        self.files == other.files
+    }
+}
+
+impl Eq for LinkedPool {
+    ghost use Rattle.std.specs.Cmp.{on_equiv};
+    ghost use Rattle.prost_reflect_pool.specs.PoolEquality.{contents_equivalence};
+    ghost use Rattle.prost_reflect_pool.specs.Pools.{contents_of};
+
+    ghost laws = { on_equiv (λ inner. contents_of (shared_files inner.files.items)) contents_equivalence };
+}
+
+impl LinkedPool {
+    ghost use Rattle.std.specs.Prelude.{[]};
+    ghost use Rattle.prost_reflect_pool.specs.Pools.{IsPoolOf, pool_rows};
+
+    /// A pool without files.
+    pub fn new(alloc: Global) -> LinkedPool
+        ensures { IsPoolOf [] result }
+    {
+        let tables = Tables {
+            messages: Vec::new(alloc),
+            enums: Vec::new(alloc),
+        };
+        let files = Vec::new(alloc);
+        LinkedPool { files, tables }
+    }
+
+    /// The linked tables.
+    pub fn tables(&self) -> &Tables
+        ensures { rows_of result.now ≡ pool_rows self.now }
+    {
+        &self.tables
+    }
+
+    /// What the files are stored with.
+    pub fn allocator(&self) -> Global {
+        *self.files.allocator()
+    }
+}

@@ -1,0 +1,10 @@
+//! Tests of `prost_reflect_pool`, through its public calls. They stand in a crate of their own, so that the gate need
+//! not prove that one a second time with them.
+#![tactic(auto)]
+
+#[cfg(test)]
+mod builtin;
+#[cfg(test)]
+mod descriptors;
+#[cfg(test)]
+mod pools;

@@ -1,6 +1,0 @@
-use Rattle.std.proofs.Common.{drop, map}
-use Rattle.prost_reflect_records.proofs.NestedRecords.{NestedSoFar}
-use Rattle.prost_reflect_records.proofs.body.records.Given as goal
-
-abbrev pub invariant-loop-body : goal.invariant-loop-body
-invariant-loop-body g l = NestedSoFar l.levels g.T.FromBody.record_type (map g.T.FromBody.content l.records.items) (map (λ b. b.now) l.bodies) (map (λ b. b.now) (drop l.body-index l.bodies))

@@ -1,5 +1,0 @@
-use Rattle.prost_reflect_records.proofs.SameRecords.{decided_value}
-use Rattle.prost_reflect_records.proofs.equality.EnumReservedRangePartialEq.eq.Goals as goal
-
-pub returns-clause-value : goal.returns-clause-value
-returns-clause-value c = decided_value _ _ c.equals.result c.equals.ensures

@@ -1,5 +1,0 @@
-use Rattle.prost_reflect_records.proofs.SameFields.{raw_decided}
-use Rattle.prost_reflect_records.proofs.equality.equal_bytes.Goals as goal
-
-pub returns : goal.returns
-returns c = raw_decided c.args.a.now c.args.b.now c.eq.result c.eq.ensures

@@ -1,8 +1,0 @@
-pub mod DescriptorTable
-pub mod DescriptorMeaning
-pub mod DescriptorViews
-pub mod DescriptorSound
-pub mod DescriptorWriting
-pub mod Sinks
-pub mod DescriptorReading
-pub mod DescriptorExamples

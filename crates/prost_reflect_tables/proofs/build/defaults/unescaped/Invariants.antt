@@ -1,0 +1,10 @@
+use Rattle.std.proofs.Common.{◌≡◌, ◌++◌, length}
+use Rattle.std.specs.Prelude.{option_map}
+use Rattle.prost_reflect_tables.specs.WrittenDefaults.{unescaped}
+use Rattle.prost_reflect_tables.proofs.build.defaults.unescaped.Given as goal
+
+abbrev pub decreases-loop-first : goal.decreases-loop-first
+decreases-loop-first l = length l.rest
+
+abbrev pub invariant-loop-first : goal.invariant-loop-first
+invariant-loop-first l = option_map (λ bytes. l.bytes.items ++ bytes) (unescaped l.rest) ≡ unescaped l.fn.text

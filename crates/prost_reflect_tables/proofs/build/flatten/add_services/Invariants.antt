@@ -1,0 +1,7 @@
+use Rattle.std.proofs.Common.{◌≡◌, ◌++◌, map, drop}
+use Rattle.prost_reflect_tables.specs.Flat.{services_from}
+use Rattle.prost_reflect_tables.specs.FlatViews.{scope_row, service_row}
+use Rattle.prost_reflect_tables.proofs.build.flatten.add_services.Given as goal
+
+abbrev pub invariant-loop-place : goal.invariant-loop-place
+invariant-loop-place l = map service_row l.services.items ++ services_from (scope_row l.scope) l.number l.place (drop l.place l.protos) ≡ map service_row l.fn.services.items ++ services_from (scope_row l.scope) l.number 0 l.protos

@@ -1,0 +1,7 @@
+use Rattle.std.proofs.Common.{◌≡◌, ◌++◌, map, drop}
+use Rattle.prost_reflect_tables.specs.Flat.{defined_from, oneof_name}
+use Rattle.prost_reflect_tables.specs.FlatViews.{scope_row, definition_row}
+use Rattle.prost_reflect_tables.proofs.build.flatten.oneofs_in.Given as goal
+
+abbrev pub invariant-loop-place : goal.invariant-loop-place
+invariant-loop-place l = map definition_row l.oneofs.items ++ defined_from oneof_name (scope_row l.scope) 8 l.place (drop l.place l.protos) ≡ defined_from oneof_name (scope_row l.scope) 8 0 l.protos

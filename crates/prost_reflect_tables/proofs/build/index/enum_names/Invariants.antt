@@ -1,0 +1,6 @@
+use Rattle.std.proofs.Common.{◌≡◌, ◌++◌, map, drop}
+use Rattle.prost_reflect_tables.specs.FlatViews.{enum_row, text_list}
+use Rattle.prost_reflect_tables.proofs.build.index.enum_names.Given as goal
+
+abbrev pub invariant-loop-declared : goal.invariant-loop-declared
+invariant-loop-declared l = text_list l.names.items ++ map (λ e. e.definition.full_name) (map enum_row (drop l.declared-index l.enums)) ≡ map (λ e. e.definition.full_name) (map enum_row l.enums)

@@ -1,0 +1,8 @@
+use Rattle.std.proofs.Common.{map, take}
+use Rattle.prost_reflect_tables.specs.FlatViews.{enum_row}
+use Rattle.prost_reflect_tables.specs.Linking.{linked_value}
+use Rattle.prost_reflect_tables.specs.Indexed.{AreNumbersOf}
+use Rattle.prost_reflect_tables.proofs.build.index.numbers_by_enum.Given as goal
+
+abbrev pub invariant-loop-declared : goal.invariant-loop-declared
+invariant-loop-declared l = AreNumbersOf l.numbers.items (map (λ e. map linked_value e.values) (map enum_row (take l.declared-index l.enums)))

@@ -1,8 +1,0 @@
-use Rattle.std.proofs.Common.{◌≡◌, map, drop}
-use Rattle.std.specs.List.{list_any}
-use Rattle.prost_reflect_tables.specs.Faults.{oneof_outside}
-use Rattle.prost_reflect_tables.specs.FlatViews.{definition_row}
-use Rattle.prost_reflect_tables.proofs.checks.has_field_oneof_outside.Given as goal
-
-abbrev pub invariant-loop-field : goal.invariant-loop-field
-invariant-loop-field l = list_any (λ f. oneof_outside l.count f.proto.oneof_index) (map definition_row l.fields) ≡ list_any (λ f. oneof_outside l.count f.proto.oneof_index) (map definition_row (drop l.field-index l.fields))

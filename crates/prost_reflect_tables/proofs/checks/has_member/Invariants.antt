@@ -1,8 +1,0 @@
-use Rattle.std.proofs.Common.{◌≡◌, map, drop}
-use Rattle.std.specs.List.{list_any}
-use Rattle.prost_reflect_tables.specs.Faults.{is_member}
-use Rattle.prost_reflect_tables.specs.FlatViews.{definition_row}
-use Rattle.prost_reflect_tables.proofs.checks.has_member.Given as goal
-
-abbrev pub invariant-loop-extension : goal.invariant-loop-extension
-invariant-loop-extension l = list_any (is_member) (map definition_row l.extensions) ≡ list_any (is_member) (map definition_row (drop l.extension-index l.extensions))

@@ -1,8 +1,0 @@
-use Rattle.std.proofs.Common.{◌≡◌, drop}
-use Rattle.std.specs.List.{list_any}
-use Rattle.prost_reflect_tables.specs.Faults.{syntax_unknown}
-use Rattle.prost_reflect_tables.specs.FlatViews.{file_list}
-use Rattle.prost_reflect_tables.proofs.checks.has_unknown_syntax.Given as goal
-
-abbrev pub invariant-loop-file : goal.invariant-loop-file
-invariant-loop-file l = list_any (syntax_unknown) (file_list l.files) ≡ list_any (syntax_unknown) (file_list (drop l.file-index l.files))

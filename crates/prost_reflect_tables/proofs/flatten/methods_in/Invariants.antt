@@ -1,7 +1,0 @@
-use Rattle.std.proofs.Common.{◌≡◌, ◌++◌, map, drop}
-use Rattle.prost_reflect_tables.specs.Flat.{defined_from, method_name}
-use Rattle.prost_reflect_tables.specs.FlatViews.{scope_row, definition_row}
-use Rattle.prost_reflect_tables.proofs.flatten.methods_in.Given as goal
-
-abbrev pub invariant-loop-place : goal.invariant-loop-place
-invariant-loop-place l = map definition_row l.methods.items ++ defined_from method_name (scope_row l.scope) 2 l.place (drop l.place l.protos) ≡ defined_from method_name (scope_row l.scope) 2 0 l.protos

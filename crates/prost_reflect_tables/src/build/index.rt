@@ -1,0 +1,264 @@
+//! The full names of definitions, and which definition a text names.
+
+ghost use Rattle.std.specs.Prelude.{◌≡◌, [], ◌++◌, List, IfOk, OnOk, map};
+ghost use Rattle.std.specs.BTreeMap.{get_by_text};
+ghost use Rattle.prost_reflect_tables.specs.EntryFaults.{is_entry};
+ghost use Rattle.prost_reflect_tables.specs.Faults.{names_of, names_in_messages, names_in_enums, names_in_services, full_names, repeats, duplicate_name, message_names, enum_names, place_named};
+ghost use Rattle.prost_reflect_tables.specs.FlatViews.{definition_row, message_row, enum_row, service_row, flat_rows, text_list};
+ghost use Rattle.prost_reflect_tables.specs.Indexed.{IsIndexOf, IsNumbersOf, AreNumbersOf, IsIndex};
+ghost use Rattle.prost_reflect_tables.specs.WrittenDefaults.{number_named};
+ghost use Rattle.prost_reflect_tables.specs.Linking.{links_of, linked_value, values_of_kind};
+
+use crate::build::flatten::{Definition, Flat, FlatEnum, FlatMessage, FlatService};
+use crate::build::names::{text_or_empty, without_dot};
+use crate::build::options::is_entry;
+use crate::tables::TableKind;
+use prost_reflect_types::EnumValueDescriptorProto;
+use std::alloc::{AllocError, Global};
+use std::collections::{BTreeMap, BTreeSet};
+
+/// The places of messages and enums by their full names, the numbers of enum values by their names, and the flags of messages that are entries of maps.
+#[derive(Drop)]
+pub struct Index {
+    /// The places of messages.
+    pub messages: BTreeMap<String, usize>,
+    /// The places of enums.
+    pub enums: BTreeMap<String, usize>,
+    /// The numbers of each enum's values by their names.
+    pub numbers: Vec<BTreeMap<String, i32>>,
+    /// Whether each message is a map's entry.
+    pub entries: Vec<bool>,
+}
+
+// DUPLICATE NAMES
+
+fn add_names<'f, 'a, R>(
+    names: &mut Vec<&'f str>,
+    more: &'f [Definition<'a, R>],
+) -> Result<(), AllocError>
+    ensures { OnOk result (text_list names.new.items ≡ text_list names.old.items ++ names_of (map definition_row more.now)) }
+{
+    for definition in more {
+        names.push(definition.full_name.as_str())?;
+    }
+    Ok(())
+}
+
+fn add_names_in_messages<'f, 'a>(
+    names: &mut Vec<&'f str>,
+    messages: &'f [FlatMessage<'a>],
+) -> Result<(), AllocError>
+    ensures { OnOk result (text_list names.new.items ≡ text_list names.old.items ++ names_in_messages (map message_row messages.now)) }
+{
+    for message in messages {
+        names.push(message.definition.full_name.as_str())?;
+        add_names(names, message.fields.as_slice())?;
+        add_names(names, message.oneofs.as_slice())?;
+    }
+    Ok(())
+}
+
+fn add_names_in_enums<'f, 'a>(
+    names: &mut Vec<&'f str>,
+    enums: &'f [FlatEnum<'a>],
+) -> Result<(), AllocError>
+    ensures { OnOk result (text_list names.new.items ≡ text_list names.old.items ++ names_in_enums (map enum_row enums.now)) }
+{
+    for declared in enums {
+        names.push(declared.definition.full_name.as_str())?;
+        add_names(names, declared.values.as_slice())?;
+    }
+    Ok(())
+}
+
+fn add_names_in_services<'f, 'a>(
+    names: &mut Vec<&'f str>,
+    services: &'f [FlatService<'a>],
+) -> Result<(), AllocError>
+    ensures { OnOk result (text_list names.new.items ≡ text_list names.old.items ++ names_in_services (map service_row services.now)) }
+{
+    for service in services {
+        names.push(service.definition.full_name.as_str())?;
+        add_names(names, service.methods.as_slice())?;
+    }
+    Ok(())
+}
+
+fn full_names<'f, 'a>(alloc: Global, flat: &'f Flat<'a>) -> Result<Vec<&'f str>, AllocError>
+    ensures { IfOk result (λ v. text_list v.items ≡ full_names (flat_rows flat.now)) }
+{
+    let mut names = Vec::new(alloc);
+    add_names_in_messages(&mut names, flat.messages.as_slice())?;
+    add_names_in_enums(&mut names, flat.enums.as_slice())?;
+    add_names(&mut names, flat.extensions.as_slice())?;
+    add_names_in_services(&mut names, flat.services.as_slice())?;
+    Ok(names)
+}
+
+/// Whether a name stands among those before it.
+fn repeats(alloc: Global, names: &[&str]) -> Result<bool, AllocError>
+    ensures { IfOk result (λ b. b ≡ repeats [] (text_list names.now)) }
+{
+    let mut seen = BTreeSet::new(alloc);
+    for name in names {
+        if !seen.insert(String::from_str(alloc, name)?)? {
+            return Ok(true);
+        }
+    }
+    Ok(false)
+}
+
+/// Whether two definitions have one full name.
+///
+/// # Errors
+///
+/// `AllocError` if a growth was refused.
+pub fn has_duplicate_name(alloc: Global, flat: &Flat) -> Result<bool, AllocError>
+    ensures { IfOk result (λ b. b ≡ duplicate_name (flat_rows flat.now)) }
+{
+    let names = full_names(alloc, flat)?;
+    repeats(alloc, names.as_slice())
+}
+
+// INDICES OF NAMES
+
+/// The place of the first of each name.
+///
+/// # Errors
+///
+/// `AllocError` if a growth was refused.
+pub fn index_of(alloc: Global, names: &[&str]) -> Result<BTreeMap<String, usize>, AllocError>
+    ensures { IfOk result (λ m. IsIndexOf m (text_list names.now)) }
+{
+    let mut index = BTreeMap::new(alloc);
+    for (place, name) in names.iter().enumerate() {
+        index
+            .entry(String::from_str(alloc, name)?)?
+            .or_insert(place);
+    }
+    Ok(index)
+}
+
+fn message_names<'f, 'a>(
+    alloc: Global,
+    messages: &'f [FlatMessage<'a>],
+) -> Result<Vec<&'f str>, AllocError>
+    ensures { IfOk result (λ v. text_list v.items ≡ map (λ m. m.definition.full_name) (map message_row messages.now)) }
+{
+    let mut names = Vec::new(alloc);
+    for message in messages {
+        names.push(message.definition.full_name.as_str())?;
+    }
+    Ok(names)
+}
+
+fn enum_names<'f, 'a>(alloc: Global, enums: &'f [FlatEnum<'a>]) -> Result<Vec<&'f str>, AllocError>
+    ensures { IfOk result (λ v. text_list v.items ≡ map (λ e. e.definition.full_name) (map enum_row enums.now)) }
+{
+    let mut names = Vec::new(alloc);
+    for declared in enums {
+        names.push(declared.definition.full_name.as_str())?;
+    }
+    Ok(names)
+}
+
+/// The numbers of an enum's values by their names, where the first of each name counts.
+fn numbers_by_name(
+    alloc: Global,
+    values: &[Definition<EnumValueDescriptorProto>],
+) -> Result<BTreeMap<String, i32>, AllocError>
+    ensures { IfOk result (λ m. IsNumbersOf m (map linked_value (map definition_row values.now))) }
+{
+    let mut numbers = BTreeMap::new(alloc);
+    for value in values {
+        let name = String::from_str(alloc, text_or_empty(&value.proto.name))?;
+        let number = value.proto.number.unwrap_or(0);
+        numbers.entry(name)?.or_insert(number);
+    }
+    Ok(numbers)
+}
+
+/// The numbers of each enum's values by their names.
+fn numbers_by_enum(
+    alloc: Global,
+    enums: &[FlatEnum],
+) -> Result<Vec<BTreeMap<String, i32>>, AllocError>
+    ensures { IfOk result (λ v. AreNumbersOf v.items (map (λ e. map linked_value e.values) (map enum_row enums.now))) }
+{
+    let mut numbers = Vec::new(alloc);
+    for declared in enums {
+        numbers.push(numbers_by_name(alloc, declared.values.as_slice())?)?;
+    }
+    Ok(numbers)
+}
+
+/// Whether each message is a map's entry.
+fn entry_flags(alloc: Global, messages: &[FlatMessage]) -> Result<Vec<bool>, AllocError>
+    ensures { IfOk result (λ v. v.items ≡ map is_entry (map message_row messages.now)) }
+{
+    let mut flags = Vec::new(alloc);
+    for message in messages {
+        flags.push(is_entry(message))?;
+    }
+    Ok(flags)
+}
+
+/// The places of messages and enums by their full names, the numbers of enum values by their names, and the flags of messages that are entries of maps.
+///
+/// # Errors
+///
+/// `AllocError` if a growth was refused.
+pub fn indexed(alloc: Global, flat: &Flat) -> Result<Index, AllocError>
+    ensures { IfOk result (λ index. IsIndex index (flat_rows flat.now)) }
+{
+    let messages = message_names(alloc, flat.messages.as_slice())?;
+    let enums = enum_names(alloc, flat.enums.as_slice())?;
+    Ok(Index {
+        messages: index_of(alloc, messages.as_slice())?,
+        enums: index_of(alloc, enums.as_slice())?,
+        numbers: numbers_by_enum(alloc, flat.enums.as_slice())?,
+        entries: entry_flags(alloc, flat.messages.as_slice())?,
+    })
+}
+
+/// The place of the message that a text names: of the first one of that full name.
+pub fn message_place(index: &Index, flat: &Flat, text: &Option<String>) -> Option<usize>
+    requires { IsIndex index.now (flat_rows flat.now) }
+    ensures { result ≡ place_named (message_names (flat_rows flat.now)) text.now }
+{
+    match text {
+        Some(text) => index.messages.get(without_dot(text.as_str())).copied(),
+        None => None,
+    }
+}
+
+/// The place of the enum that a text names: of the first one of that full name.
+pub fn enum_place(index: &Index, flat: &Flat, text: &Option<String>) -> Option<usize>
+    requires { IsIndex index.now (flat_rows flat.now) }
+    ensures { result ≡ place_named (enum_names (flat_rows flat.now)) text.now }
+{
+    match text {
+        Some(text) => index.enums.get(without_dot(text.as_str())).copied(),
+        None => None,
+    }
+}
+
+fn number_in(numbers: &BTreeMap<String, i32>, name: &str) -> Option<i32>
+    ensures { result ≡ get_by_text numbers.now name.now }
+{
+    numbers.get(name).copied()
+}
+
+/// The number of the value that a text names, if the kind is an enum: of the enum's first value of that name.
+pub fn number_named(index: &Index, flat: &Flat, kind: TableKind, name: &str) -> Option<i32>
+    requires { IsIndex index.now (flat_rows flat.now) }
+    ensures { result ≡ number_named (values_of_kind (links_of (flat_rows flat.now)) kind) name.now }
+{
+    match kind {
+        TableKind::Enum(place) => match index.numbers.get(place) {
+            Some(numbers) => number_in(numbers, name),
+            None => None,
+        },
+        _ => None,
+    }
+}

@@ -1,0 +1,438 @@
+//! Linking: the tables that files in flat lists give.
+
+ghost use Rattle.std.specs.Prelude.{◌≡◌, ◌<◌, ◌++◌, length, IfOk, OnOk, map, option_map, string_bytes, true, false};
+ghost use Rattle.std.specs.List.{list_all};
+ghost use Rattle.std.specs.List.Sorted.{IsNonDecreasingBy};
+ghost use Rattle.prost_reflect_wire.specs.Scalar.{in_i32};
+ghost use Rattle.prost_reflect_tables.specs.Names.{text_or_empty};
+ghost use Rattle.prost_reflect_tables.specs.Rows.{field_row, oneof_row, message_row, enum_row, written_scalar, rows_from};
+ghost use Rattle.prost_reflect_tables.specs.declared.tables.FieldTable.{FieldTable};
+ghost use Rattle.prost_reflect_tables.specs.FlatViews.{definition_row, flat_rows};
+ghost use Rattle.prost_reflect_tables.specs.FlatViews as flat_views;
+ghost use Rattle.prost_reflect_tables.specs.Linking.{links_of, natural_or_zero, place_in, kind_of_code, linked_kind, is_message, is_packable, cardinality_of_label, linked_packed, linked_presence, linked_default, linked_field, in_order, fields_of_message, declared_fields, extended_place, oneof_place, member_place, oneofs_from, linked_message, messages_from, value_number, linked_value, linked_enum, linked_rows};
+ghost use Rattle.prost_reflect_tables.specs.InRange.{enum_in_range, in_range};
+ghost use Rattle.prost_reflect_tables.specs.Indexed.{IsIndex};
+ghost use Rattle.prost_reflect_tables.specs.Indexing.{empty_lists, with_item, grouped, list_rows, messages_with};
+
+use crate::build::defaults::written_default;
+use crate::build::flatten::{Definition, Flat, FlatEnum, FlatMessage};
+use crate::build::index::{Index, enum_place, message_place, number_named};
+use crate::build::names::text_or_empty;
+use crate::build::options::bool_option;
+use crate::tables::{
+    Cardinality, EnumTable, FieldTable, MessageTable, OneofTable, TableKind, WrittenDefault,
+};
+use prost_reflect_types::{EnumValueDescriptorProto, FieldDescriptorProto, OneofDescriptorProto};
+use std::alloc::{AllocError, Global};
+
+/// A number that is absent or negative counts as 0.
+pub fn natural_or_zero(number: Option<i32>) -> u32
+    ensures { result ≡ natural_or_zero number }
+{
+    match number {
+        Some(number) => u32::try_from(number).unwrap_or(0),
+        None => 0,
+    }
+}
+
+/// A place, unless it is absent or negative.
+fn place_in(index: Option<i32>) -> Option<usize>
+    ensures { result ≡ place_in index }
+{
+    match index {
+        Some(index) => usize::try_from(index).ok(),
+        None => None,
+    }
+}
+
+/// The kind of a type code, where a message or an enum has the place.
+fn kind_of_code(message: usize, enumeration: usize, code: u32) -> TableKind
+    ensures { result ≡ kind_of_code message enumeration code }
+{
+    match code {
+        2 => TableKind::Float,
+        3 => TableKind::Int64,
+        4 => TableKind::Uint64,
+        5 => TableKind::Int32,
+        6 => TableKind::Fixed64,
+        7 => TableKind::Fixed32,
+        8 => TableKind::Bool,
+        9 => TableKind::String,
+        10 | 11 => TableKind::Message(message),
+        12 => TableKind::Bytes,
+        13 => TableKind::Uint32,
+        14 => TableKind::Enum(enumeration),
+        15 => TableKind::Sfixed32,
+        16 => TableKind::Sfixed64,
+        17 => TableKind::Sint32,
+        18 => TableKind::Sint64,
+        _ => TableKind::Double,
+    }
+}
+
+/// The kind of a field.
+pub fn linked_kind(index: &Index, flat: &Flat, field: &FieldDescriptorProto) -> TableKind
+    requires { IsIndex index.now (flat_rows flat.now) }
+    ensures { result ≡ linked_kind (links_of (flat_rows flat.now)) field.now }
+{
+    let message = message_place(index, flat, &field.type_name).unwrap_or(0);
+    let enumeration = enum_place(index, flat, &field.type_name).unwrap_or(0);
+    kind_of_code(message, enumeration, natural_or_zero(field.type_))
+}
+
+fn is_message(kind: TableKind) -> bool
+    ensures { result ≡ is_message kind }
+{
+    matches!(kind, TableKind::Message(_))
+}
+
+fn is_packable(kind: TableKind) -> bool
+    ensures { result ≡ is_packable kind }
+{
+    !matches!(
+        kind,
+        TableKind::String | TableKind::Bytes | TableKind::Message(_)
+    )
+}
+
+fn cardinality_of_label(label: u32) -> Cardinality
+    ensures { result ≡ cardinality_of_label label }
+{
+    match label {
+        2 => Cardinality::Required,
+        3 => Cardinality::Repeated,
+        _ => Cardinality::Optional,
+    }
+}
+
+/// Whether the values of a field are written as one record.
+fn linked_packed(
+    is_proto3: bool,
+    field: &FieldDescriptorProto,
+    cardinality: Cardinality,
+    kind: TableKind,
+) -> bool
+    ensures { result ≡ linked_packed is_proto3 field.now cardinality kind }
+{
+    matches!(cardinality, Cardinality::Repeated)
+        && is_packable(kind)
+        && bool_option(2, &field.options).unwrap_or(is_proto3)
+}
+
+/// Whether a value of a field that was never set differs from the default.
+fn linked_presence(
+    is_proto3: bool,
+    is_extension: bool,
+    field: &FieldDescriptorProto,
+    cardinality: Cardinality,
+    kind: TableKind,
+) -> bool
+    ensures { result ≡ linked_presence is_proto3 is_extension field.now cardinality kind }
+{
+    !matches!(cardinality, Cardinality::Repeated)
+        && (!is_proto3
+            || is_extension
+            || is_message(kind)
+            || field.oneof_index.is_some()
+            || field.proto3_optional.unwrap_or(false))
+}
+
+/// The default that a field's definition writes.
+///
+/// # Errors
+///
+/// `AllocError` if a growth was refused.
+pub fn linked_default(
+    alloc: Global,
+    index: &Index,
+    flat: &Flat,
+    kind: TableKind,
+    text: &Option<String>,
+) -> Result<Option<WrittenDefault>, AllocError>
+    requires { IsIndex index.now (flat_rows flat.now) }
+    ensures { IfOk result (λ d. option_map written_scalar d ≡ linked_default (links_of (flat_rows flat.now)) kind text.now) }
+{
+    match text {
+        Some(text) => {
+            let number = number_named(index, flat, kind, text.as_str());
+            written_default(alloc, kind, number, text.as_str())
+        }
+        None => Ok(None),
+    }
+}
+
+/// A field or an extension.
+#[tactic(auto, unfolding(crate::specs::Linking::linked_field))]
+fn linked_field(
+    alloc: Global,
+    index: &Index,
+    flat: &Flat,
+    is_extension: bool,
+    definition: &Definition<FieldDescriptorProto>,
+) -> Result<FieldTable, AllocError>
+    requires { IsIndex index.now (flat_rows flat.now) }
+    ensures { IfOk result (λ f. field_row f ≡ linked_field (links_of (flat_rows flat.now)) is_extension (definition_row definition.now)) }
+{
+    let field = definition.proto;
+    let is_proto3 = definition.is_proto3;
+    let kind = linked_kind(index, flat, field);
+    let cardinality = cardinality_of_label(natural_or_zero(field.label));
+    Ok(FieldTable {
+        number: natural_or_zero(field.number),
+        name: String::from_str(alloc, text_or_empty(&field.name))?,
+        is_extension,
+        kind,
+        is_group: natural_or_zero(field.type_) == 10,
+        cardinality,
+        is_packed: linked_packed(is_proto3, field, cardinality, kind),
+        supports_presence: linked_presence(is_proto3, is_extension, field, cardinality, kind),
+        default: linked_default(alloc, index, flat, kind, &field.default_value)?,
+        oneof: place_in(field.oneof_index),
+    })
+}
+
+/// The fields that a message declares, in the order of their declaration.
+fn declared_fields(
+    alloc: Global,
+    index: &Index,
+    flat: &Flat,
+    definitions: &[Definition<FieldDescriptorProto>],
+) -> Result<Vec<FieldTable>, AllocError>
+    requires { IsIndex index.now (flat_rows flat.now) }
+    ensures { IfOk result (λ v. map field_row v.items ≡ declared_fields (links_of (flat_rows flat.now)) (map definition_row definitions.now)) }
+{
+    let mut fields = Vec::new(alloc);
+    for definition in definitions {
+        fields.push(linked_field(alloc, index, flat, false, definition)?)?;
+    }
+    Ok(fields)
+}
+
+/// The declared fields of each message.
+fn declared_by_message(
+    alloc: Global,
+    index: &Index,
+    flat: &Flat,
+    messages: &[FlatMessage],
+) -> Result<Vec<Vec<FieldTable>>, AllocError>
+    requires { IsIndex index.now (flat_rows flat.now) }
+    ensures { IfOk result (λ v. list_rows v.items ≡ map (λ m. declared_fields (links_of (flat_rows flat.now)) m.fields) (map flat_views.message_row messages.now)) }
+{
+    let mut lists = Vec::new(alloc);
+    for message in messages {
+        lists.push(declared_fields(alloc, index, flat, message.fields.as_slice())?)?;
+    }
+    Ok(lists)
+}
+
+/// So many empty lists.
+fn empty_lists<T: Drop>(alloc: Global, count: usize) -> Result<Vec<Vec<T>>, AllocError>
+    ensures { IfOk result (λ v. map (λ xs. xs.items) v.items ≡ empty_lists count) }
+{
+    let mut lists = Vec::new(alloc);
+    for _ in 0..count {
+        lists.push(Vec::new(alloc))?;
+    }
+    Ok(lists)
+}
+
+/// Adds an item to the list of a place, if there is one.
+fn add_item<T: Drop>(
+    lists: &mut Vec<Vec<T>>,
+    place: Option<usize>,
+    item: T,
+) -> Result<(), AllocError>
+    ensures { OnOk result (map (λ xs. xs.items) lists.new.items ≡ with_item place item 0 (map (λ xs. xs.items) lists.old.items)) }
+{
+    if let Some(place) = place {
+        if place < lists.len() {
+            lists[place].push(item)?;
+        }
+    }
+    Ok(())
+}
+
+/// Adds each extension to the fields of the message that it extends.
+fn add_extensions(
+    alloc: Global,
+    index: &Index,
+    flat: &Flat,
+    lists: &mut Vec<Vec<FieldTable>>,
+    extensions: &[Definition<FieldDescriptorProto>],
+) -> Result<(), AllocError>
+    requires { IsIndex index.now (flat_rows flat.now) }
+    ensures { OnOk result (list_rows lists.new.items ≡ grouped (extended_place (links_of (flat_rows flat.now))) (linked_field (links_of (flat_rows flat.now)) true) (map definition_row extensions.now) 0 (list_rows lists.old.items)) }
+{
+    for extension in extensions {
+        let place = message_place(index, flat, &extension.proto.extendee);
+        let field = linked_field(alloc, index, flat, true, extension)?;
+        add_item(lists, place, field)?;
+    }
+    Ok(())
+}
+
+/// Puts fields in ascending order of their numbers; those of one number stay in their order.
+fn sort_by_number(fields: &mut Vec<FieldTable>) -> Result<(), AllocError>
+    ensures sorted { OnOk result (map field_row fields.new.items ≡ in_order (map field_row fields.old.items)) }
+    ensures rising { OnOk result (IsNonDecreasingBy (λ f. f.number) fields.new.items) }
+{
+    fields.sort_by_key(|field| field.number)?;
+    Ok(())
+}
+
+/// The place of a field among fields in ascending order of their numbers: how many have a smaller number.
+fn member_place(fields: &[FieldTable], definition: &Definition<FieldDescriptorProto>) -> usize
+    requires { IsNonDecreasingBy (λ (f : FieldTable). f.number) fields.now }
+    ensures { result ≡ member_place (map field_row fields.now) (definition_row definition.now) }
+{
+    let number = natural_or_zero(definition.proto.number);
+    fields.partition_point(|field| field.number < number)
+}
+
+/// The members of each oneof in the order of their declaration, as places in the fields.
+fn members_by_oneof(
+    alloc: Global,
+    oneofs: usize,
+    fields: &[FieldTable],
+    declared: &[Definition<FieldDescriptorProto>],
+) -> Result<Vec<Vec<usize>>, AllocError>
+    requires { IsNonDecreasingBy (λ (f : FieldTable). f.number) fields.now }
+    ensures { IfOk result (λ v. map (λ xs. xs.items) v.items ≡ grouped oneof_place (member_place (map field_row fields.now)) (map definition_row declared.now) 0 (empty_lists oneofs)) }
+{
+    let mut lists = empty_lists(alloc, oneofs)?;
+    for definition in declared {
+        let place = place_in(definition.proto.oneof_index);
+        add_item(&mut lists, place, member_place(fields, definition))?;
+    }
+    Ok(lists)
+}
+
+fn linked_oneof(
+    alloc: Global,
+    definition: &Definition<OneofDescriptorProto>,
+    members: &[usize],
+) -> Result<OneofTable, AllocError>
+    ensures name { IfOk result (λ o. string_bytes o.name ≡ text_or_empty definition.now.proto.now.name) }
+    ensures members { IfOk result (λ o. o.fields.items ≡ members.now) }
+{
+    Ok(OneofTable {
+        name: String::from_str(alloc, text_or_empty(&definition.proto.name))?,
+        fields: members.to_vec(alloc)?,
+    })
+}
+
+/// The oneofs of a message with their members.
+fn linked_oneofs(
+    alloc: Global,
+    fields: &[FieldTable],
+    declared: &[Definition<FieldDescriptorProto>],
+    oneofs: &[Definition<OneofDescriptorProto>],
+) -> Result<Vec<OneofTable>, AllocError>
+    requires { IsNonDecreasingBy (λ (f : FieldTable). f.number) fields.now }
+    ensures { IfOk result (λ v. map oneof_row v.items ≡ oneofs_from (map field_row fields.now) (map definition_row declared.now) 0 (map definition_row oneofs.now)) }
+{
+    let count = oneofs.len();
+    let members = members_by_oneof(alloc, count, fields, declared)?;
+    let mut tables = Vec::new(alloc);
+    for (place, definition) in oneofs.iter().enumerate() {
+        let places = members[place].as_slice();
+        tables.push(linked_oneof(alloc, definition, places)?)?;
+    }
+    Ok(tables)
+}
+
+/// A message with its fields and extensions.
+#[tactic(auto, unfolding(crate::specs::Linking::linked_message))]
+fn linked_message(
+    alloc: Global,
+    message: &FlatMessage,
+    fields: Vec<FieldTable>,
+) -> Result<MessageTable, AllocError>
+    ensures { IfOk result (λ m. message_row m ≡ linked_message (map field_row fields.items) (flat_views.message_row message.now)) }
+{
+    let mut fields = fields;
+    sort_by_number(&mut fields)?;
+    let oneofs = linked_oneofs(
+        alloc,
+        fields.as_slice(),
+        message.fields.as_slice(),
+        message.oneofs.as_slice(),
+    )?;
+    Ok(MessageTable {
+        full_name: message.definition.full_name.clone()?,
+        is_map_entry: bool_option(7, &message.definition.proto.options).unwrap_or(false),
+        fields,
+        oneofs,
+    })
+}
+
+/// Each message with its fields and extensions.
+fn linked_messages(
+    alloc: Global,
+    lists: Vec<Vec<FieldTable>>,
+    messages: &[FlatMessage],
+) -> Result<Vec<MessageTable>, AllocError>
+    requires { length lists.items ≡ length messages.now }
+    ensures { IfOk result (λ v. map message_row v.items ≡ messages_with (list_rows lists.items) (map flat_views.message_row messages.now)) }
+{
+    let mut tables = Vec::new(alloc);
+    for (place, fields) in lists.into_iter().enumerate() {
+        tables.push(linked_message(alloc, &messages[place], fields)?)?;
+    }
+    Ok(tables)
+}
+
+/// The numbers of an enum's values, in the order of their declaration.
+fn value_numbers(
+    alloc: Global,
+    values: &[Definition<EnumValueDescriptorProto>],
+) -> Result<Vec<i32>, AllocError>
+    ensures numbers { IfOk result (λ v. v.items ≡ map value_number (map definition_row values.now)) }
+    ensures range { IfOk result (λ v. list_all in_i32 v.items ≡ true) }
+{
+    let mut numbers = Vec::new(alloc);
+    for value in values {
+        let number = value.proto.number.unwrap_or(0);
+        numbers.push(number)?;
+    }
+    Ok(numbers)
+}
+
+/// The enums.
+fn linked_enums(alloc: Global, enums: &[FlatEnum]) -> Result<Vec<EnumTable>, AllocError>
+    ensures rows { IfOk result (λ v. map enum_row v.items ≡ map linked_enum (map flat_views.enum_row enums.now)) }
+    ensures range { IfOk result (λ v. list_all enum_in_range (map enum_row v.items) ≡ true) }
+{
+    let mut tables = Vec::new(alloc);
+    for item in enums {
+        tables.push(EnumTable {
+            full_name: item.definition.full_name.clone()?,
+            numbers: value_numbers(alloc, item.values.as_slice())?,
+            is_closed: !item.definition.is_proto3,
+        })?;
+    }
+    Ok(tables)
+}
+
+/// The message types and enums that files in flat lists give.
+///
+/// The index is that of the files' names, which `check` gives. Messages and enums keep their places. The cost grows as n log n in the
+/// number of definitions.
+///
+/// # Errors
+///
+/// `AllocError` if a growth was refused.
+pub fn linked(
+    alloc: Global,
+    flat: &Flat,
+    index: &Index,
+) -> Result<(Vec<MessageTable>, Vec<EnumTable>), AllocError>
+    requires { IsIndex index.now (flat_rows flat.now) }
+    ensures rows { IfOk result (λ x. rows_from x.0.items x.1.items ≡ linked_rows (flat_rows flat.now)) }
+    ensures range { IfOk result (λ x. in_range (rows_from x.0.items x.1.items) ≡ true) }
+{
+    let mut lists = declared_by_message(alloc, index, flat, flat.messages.as_slice())?;
+    add_extensions(alloc, index, flat, &mut lists, flat.extensions.as_slice())?;
+    let messages = linked_messages(alloc, lists, flat.messages.as_slice())?;
+    Ok((messages, linked_enums(alloc, flat.enums.as_slice())?))
+}

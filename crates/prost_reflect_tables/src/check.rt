@@ -1,0 +1,130 @@
+//! All checks of files, one after another.
+
+ghost use Rattle.std.specs.Prelude.{◌≡◌, ◌≢◌, false, IfOk, IfErr, OnOk};
+ghost use Rattle.std.specs.List.{list_any};
+ghost use Rattle.prost_reflect_tables.specs.declared.error.PoolError.TheVariants as pool_errors;
+ghost use Rattle.prost_reflect_tables.specs.Checked.{has_fault, Checked, Stands};
+ghost use Rattle.prost_reflect_tables.specs.FlatViews.{file_list, flat_rows};
+ghost use Rattle.prost_reflect_tables.specs.Indexed.{IsIndex};
+
+mod defaults;
+mod entries;
+mod fields;
+mod indices;
+mod names;
+mod numbers;
+mod ranges;
+mod types;
+mod walk;
+
+use crate::build::flatten::Flat;
+use crate::build::index::{Index, has_duplicate_name, indexed};
+use crate::build::options::has_bad_options;
+use crate::check::defaults::{has_bad_default, has_float_default};
+use crate::check::entries::has_bad_map_entry;
+use crate::check::fields::{
+    has_bad_label, has_bad_number, has_bad_oneof, has_empty_enum, has_missing_type,
+};
+use crate::check::indices::has_bad_index;
+use crate::check::names::{has_missing_name, has_unknown_syntax};
+use crate::check::numbers::has_duplicate_number;
+use crate::check::ranges::{has_bad_range, has_outside_range};
+use crate::check::types::{has_missing_dependency, has_unknown_type};
+use crate::error::PoolError;
+use prost_reflect_types::FileDescriptorProto;
+use std::alloc::{AllocError, Global};
+
+/// The faults that files may have, in the order in which they are looked for.
+const FAULTS: [PoolError; 18] = [
+    PoolError::MissingName,
+    PoolError::UnknownSyntax,
+    PoolError::BadIndex,
+    PoolError::BadNumber,
+    PoolError::BadRange,
+    PoolError::MissingType,
+    PoolError::BadLabel,
+    PoolError::BadOneof,
+    PoolError::EmptyEnum,
+    PoolError::BadOptions,
+    PoolError::MissingDependency,
+    PoolError::DuplicateName,
+    PoolError::UnknownType,
+    PoolError::DuplicateNumber,
+    PoolError::OutsideRange,
+    PoolError::BadMapEntry,
+    PoolError::BadDefault,
+    PoolError::FloatDefault,
+];
+
+/// Whether files have the fault of this name.
+fn has_fault(
+    alloc: Global,
+    fault: PoolError,
+    files: &[&FileDescriptorProto],
+    flat: &Flat,
+    index: &Index,
+) -> Result<bool, AllocError>
+    requires { IsIndex index.now (flat_rows flat.now) }
+    ensures { IfOk result (λ b. b ≡ has_fault fault (file_list files.now) (flat_rows flat.now)) }
+{
+    match fault {
+        PoolError::MissingName => Ok(has_missing_name(files, flat)),
+        PoolError::UnknownSyntax => Ok(has_unknown_syntax(files)),
+        PoolError::BadIndex => Ok(has_bad_index(files, flat)),
+        PoolError::BadNumber => Ok(has_bad_number(flat)),
+        PoolError::BadRange => Ok(has_bad_range(flat)),
+        PoolError::MissingType => Ok(has_missing_type(flat)),
+        PoolError::BadLabel => Ok(has_bad_label(flat)),
+        PoolError::BadOneof => Ok(has_bad_oneof(flat)),
+        PoolError::EmptyEnum => Ok(has_empty_enum(flat)),
+        PoolError::BadOptions => Ok(has_bad_options(flat)),
+        PoolError::MissingDependency => has_missing_dependency(alloc, files),
+        PoolError::DuplicateName => has_duplicate_name(alloc, flat),
+        PoolError::UnknownType => Ok(has_unknown_type(index, flat)),
+        PoolError::DuplicateNumber => has_duplicate_number(alloc, index, flat),
+        PoolError::OutsideRange => has_outside_range(alloc, index, flat),
+        PoolError::BadMapEntry => Ok(has_bad_map_entry(index, flat)),
+        PoolError::BadDefault => has_bad_default(alloc, index, flat),
+        PoolError::FloatDefault => has_float_default(alloc, index, flat),
+        PoolError::Decode(_) | PoolError::OutOfMemory => Ok(false),
+    }
+}
+
+/// Looks for faults, one after another.
+fn check_faults(
+    alloc: Global,
+    faults: &[PoolError],
+    files: &[&FileDescriptorProto],
+    flat: &Flat,
+    index: &Index,
+) -> Result<(), PoolError>
+    requires { IsIndex index.now (flat_rows flat.now) }
+    ensures ok { OnOk result (list_any (λ e. has_fault e (file_list files.now) (flat_rows flat.now)) faults.now ≡ false) }
+    ensures stands { IfErr result (λ e. e ≢ pool_errors.OutOfMemory → Stands e (file_list files.now) (flat_rows flat.now)) }
+{
+    for fault in faults {
+        if has_fault(alloc, *fault, files, flat, index)? {
+            return Err(*fault);
+        }
+    }
+    Ok(())
+}
+
+/// Checks the definitions of files, and gives the places of their names.
+///
+/// # Errors
+///
+/// The name of a fault that stands in the files, or `OutOfMemory` if a growth was refused.
+pub fn check_files(
+    alloc: Global,
+    files: &[&FileDescriptorProto],
+    flat: &Flat,
+) -> Result<Index, PoolError>
+    ensures ok { OnOk result (Checked (file_list files.now) (flat_rows flat.now)) }
+    ensures index { IfOk result (λ index. IsIndex index (flat_rows flat.now)) }
+    ensures stands { IfErr result (λ e. e ≢ pool_errors.OutOfMemory → Stands e (file_list files.now) (flat_rows flat.now)) }
+{
+    let index = indexed(alloc, flat)?;
+    check_faults(alloc, &FAULTS, files, flat, &index)?;
+    Ok(index)
+}

@@ -1,0 +1,198 @@
+//! The check of map entries, and of what names them.
+
+ghost use Rattle.std.specs.Prelude.{◌≡◌, map};
+ghost use Rattle.std.specs.List.{list_any};
+ghost use Rattle.prost_reflect_tables.specs.EntryFaults.{is_key_type, is_plain, is_entry_key, is_entry_value, is_key_and_value, entry_bad, names_entry, is_of_entry, wrongly_of_entry, method_of_entry, bad_map_entry};
+ghost use Rattle.prost_reflect_tables.specs.FlatViews.{definition_row, message_row, service_row, flat_rows};
+ghost use Rattle.prost_reflect_tables.specs.Indexed.{IsIndex};
+
+use crate::build::flatten::{Definition, Flat, FlatMessage, FlatService};
+use crate::build::index::{Index, message_place};
+use crate::build::options::is_entry;
+use crate::check::fields::{is_code, is_message_type, is_type};
+use prost_reflect_types::{FieldDescriptorProto, MethodDescriptorProto};
+
+// KEYS AND VALUES
+
+fn is_key_type(code: Option<i32>) -> bool
+    ensures { result ≡ is_key_type code }
+{
+    is_type(code)
+        && !(is_code(1, code)
+            || is_code(2, code)
+            || is_message_type(code)
+            || is_code(12, code)
+            || is_code(14, code))
+}
+
+fn is_plain(field: &Definition<FieldDescriptorProto>) -> bool
+    ensures { result ≡ is_plain (definition_row field.now) }
+{
+    let proto = field.proto;
+    !is_code(3, proto.label) && proto.default_value.is_none() && proto.oneof_index.is_none()
+}
+
+fn is_entry_key(field: &Definition<FieldDescriptorProto>) -> bool
+    ensures { result ≡ is_entry_key (definition_row field.now) }
+{
+    is_code(1, field.proto.number) && is_plain(field) && is_key_type(field.proto.type_)
+}
+
+fn is_entry_value(field: &Definition<FieldDescriptorProto>) -> bool
+    ensures { result ≡ is_entry_value (definition_row field.now) }
+{
+    is_code(2, field.proto.number) && is_plain(field) && !is_code(10, field.proto.type_)
+}
+
+fn is_key_and_value(fields: &[Definition<FieldDescriptorProto>]) -> bool
+    ensures { result ≡ is_key_and_value (map definition_row fields.now) }
+{
+    match fields {
+        [first, second] => {
+            (is_entry_key(first) && is_entry_value(second))
+                || (is_entry_value(first) && is_entry_key(second))
+        }
+        _ => false,
+    }
+}
+
+fn is_entry_bad(message: &FlatMessage) -> bool
+    ensures { result ≡ entry_bad (message_row message.now) }
+{
+    is_entry(message)
+        && !(is_key_and_value(message.fields.as_slice())
+            && message.definition.proto.extension_range.is_empty())
+}
+
+fn has_bad_entry(messages: &[FlatMessage]) -> bool
+    ensures { result ≡ list_any (entry_bad) (map message_row messages.now) }
+{
+    for message in messages {
+        if is_entry_bad(message) {
+            return true;
+        }
+    }
+    false
+}
+
+// WHAT NAMES AN ENTRY
+
+fn names_entry(index: &Index, flat: &Flat, text: &Option<String>) -> bool
+    requires { IsIndex index.now (flat_rows flat.now) }
+    ensures { result ≡ names_entry (flat_rows flat.now) text.now }
+{
+    let Some(place) = message_place(index, flat, text) else {
+        return false;
+    };
+    index.entries.get(place).copied().unwrap_or(false)
+}
+
+fn is_of_entry(index: &Index, flat: &Flat, field: &Definition<FieldDescriptorProto>) -> bool
+    requires { IsIndex index.now (flat_rows flat.now) }
+    ensures { result ≡ is_of_entry (flat_rows flat.now) (definition_row field.now) }
+{
+    is_message_type(field.proto.type_) && names_entry(index, flat, &field.proto.type_name)
+}
+
+fn is_wrongly_of_entry(index: &Index, flat: &Flat, field: &Definition<FieldDescriptorProto>) -> bool
+    requires { IsIndex index.now (flat_rows flat.now) }
+    ensures { result ≡ wrongly_of_entry (flat_rows flat.now) (definition_row field.now) }
+{
+    is_of_entry(index, flat, field)
+        && !(is_code(3, field.proto.label) && is_code(11, field.proto.type_))
+}
+
+fn is_method_of_entry(
+    index: &Index,
+    flat: &Flat,
+    method: &Definition<MethodDescriptorProto>,
+) -> bool
+    requires { IsIndex index.now (flat_rows flat.now) }
+    ensures { result ≡ method_of_entry (flat_rows flat.now) (definition_row method.now) }
+{
+    names_entry(index, flat, &method.proto.input_type)
+        || names_entry(index, flat, &method.proto.output_type)
+}
+
+fn has_wrongly_of_entry_in(
+    index: &Index,
+    flat: &Flat,
+    fields: &[Definition<FieldDescriptorProto>],
+) -> bool
+    requires { IsIndex index.now (flat_rows flat.now) }
+    ensures { result ≡ list_any (wrongly_of_entry (flat_rows flat.now)) (map definition_row fields.now) }
+{
+    for field in fields {
+        if is_wrongly_of_entry(index, flat, field) {
+            return true;
+        }
+    }
+    false
+}
+
+fn has_wrongly_of_entry_of(index: &Index, flat: &Flat, messages: &[FlatMessage]) -> bool
+    requires { IsIndex index.now (flat_rows flat.now) }
+    ensures { result ≡ list_any (λ m. list_any (wrongly_of_entry (flat_rows flat.now)) m.fields) (map message_row messages.now) }
+{
+    for message in messages {
+        if has_wrongly_of_entry_in(index, flat, message.fields.as_slice()) {
+            return true;
+        }
+    }
+    false
+}
+
+fn has_extension_of_entry(
+    index: &Index,
+    flat: &Flat,
+    extensions: &[Definition<FieldDescriptorProto>],
+) -> bool
+    requires { IsIndex index.now (flat_rows flat.now) }
+    ensures { result ≡ list_any (is_of_entry (flat_rows flat.now)) (map definition_row extensions.now) }
+{
+    for extension in extensions {
+        if is_of_entry(index, flat, extension) {
+            return true;
+        }
+    }
+    false
+}
+
+fn has_method_of_entry_in(
+    index: &Index,
+    flat: &Flat,
+    methods: &[Definition<MethodDescriptorProto>],
+) -> bool
+    requires { IsIndex index.now (flat_rows flat.now) }
+    ensures { result ≡ list_any (method_of_entry (flat_rows flat.now)) (map definition_row methods.now) }
+{
+    for method in methods {
+        if is_method_of_entry(index, flat, method) {
+            return true;
+        }
+    }
+    false
+}
+
+fn has_method_of_entry_of(index: &Index, flat: &Flat, services: &[FlatService]) -> bool
+    requires { IsIndex index.now (flat_rows flat.now) }
+    ensures { result ≡ list_any (λ s. list_any (method_of_entry (flat_rows flat.now)) s.methods) (map service_row services.now) }
+{
+    for service in services {
+        if has_method_of_entry_in(index, flat, service.methods.as_slice()) {
+            return true;
+        }
+    }
+    false
+}
+
+/// Whether a message that the option `map_entry` marks is not a key and a value, or something other than a repeated message field names one.
+pub fn has_bad_map_entry(index: &Index, flat: &Flat) -> bool
+    requires { IsIndex index.now (flat_rows flat.now) }
+    ensures { result ≡ bad_map_entry (flat_rows flat.now) }
+{
+    has_bad_entry(flat.messages.as_slice())
+        || has_wrongly_of_entry_of(index, flat, flat.messages.as_slice())
+        || has_extension_of_entry(index, flat, flat.extensions.as_slice())
+        || has_method_of_entry_of(index, flat, flat.services.as_slice())
+}

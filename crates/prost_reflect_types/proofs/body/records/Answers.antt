@@ -1,0 +1,25 @@
+use Rattle.std.proofs.Common.{sym, ap, subst, ◌∙◌, map}
+use Rattle.std.proofs.lemmas.Result.{err_from_is_err_and}
+use Rattle.prost_reflect_types.specs.DescriptorReading.{all_decoded, records_at}
+use Rattle.prost_reflect_wire.proofs.Steps.{map_append}
+use Rattle.prost_reflect_types.proofs.NestedRecords.{NestedSoFar, nested_none, nested_more, nested_done, nested_refused, next_body, no_body}
+use Rattle.prost_reflect_types.proofs.body.records.Goals as goal
+
+pub returns-in_err-nested-clause-fault : goal.returns-in_err-nested-clause-fault
+returns-in_err-nested-clause-fault g c =
+    let p = err_from_is_err_and c.from_residual-in_err-nested.result c.from_residual-in_err-nested.ensures.1 in
+    rw (p.1, p.2) (λ ne. rw (← (c.in_ok-bodies.ensures), ← c.as_slice-bodies.ensures.value) (nested_refused _ _ _ _ _ _ _ (subst (NestedSoFar _ _ _ _) (next_body c.as_slice-bodies.result.now c.loop-body.body-index _ c.loop-body-test.true) c.loop-body.invariant) (c.in_err-nested.ensures.fault ne)))
+
+pub loop-body-init : goal.loop-body-init
+loop-body-init g c = rw c.new-records.ensures.items (nested_none _ _ _)
+
+pub loop-body-preserved : goal.loop-body-preserved
+loop-body-preserved g c =
+    nested_more _ _ _ _ _ _ _ _ (subst (NestedSoFar _ _ _ _) (next_body c.as_slice-bodies.result.now c.loop-body.body-index _ c.loop-body-test.true) c.loop-body.invariant) c.in_ok-nested.ensures.ok
+    (ap (map g.T.FromBody.content) c.in_ok-push.ensures.items ∙ map_append g.T.FromBody.content c.loop-body.records.items _)
+
+pub returns-clause-ok : goal.returns-clause-ok
+unfolding records_at
+returns-clause-ok g c =
+    ap (all_decoded c.args.levels g.T.FromBody.record_type) (sym c.in_ok-bodies.ensures ∙ ap (map (λ b. b.now)) (sym c.as_slice-bodies.ensures.value))
+    ∙ nested_done _ _ _ _ _ c.loop-body.invariant (no_body c.as_slice-bodies.result.now c.loop-body.body-index c.loop-body-test.false)

@@ -1,0 +1,21 @@
+use Rattle.std.proofs.Common.{◌≡◌, ℕ, ◌^◌, ◌<◌, ◌≤◌, List, length, Some}
+use Rattle.std.proofs.lemmas.Result.{on_ok_weaker}
+use Rattle.prost_reflect_wire.specs.Content.{Content}
+use Rattle.prost_reflect_wire.specs.Grammar.{LEVEL_LIMIT}
+use Rattle.prost_reflect_wire.specs.Levels.{levels}
+use Rattle.prost_reflect_wire.specs.Writing.{encoded}
+use Rattle.prost_reflect_wire.specs.Sinks.{Adds, written_since, HasNoBytes}
+use Rattle.prost_reflect_wire.specs.declared.sink.ByteSink.{ByteSink}
+use Rattle.prost_reflect_types.specs.DescriptorMeaning.{record_decoded}
+use Rattle.prost_reflect_types.specs.DescriptorSound.{RecordSound}
+use Rattle.prost_reflect_types.specs.declared.table.RecordType.{RecordType}
+use Rattle.prost_reflect_types.proofs.SoundRecords.{reads_back}
+use Rattle.prost_reflect_types.proofs.encoding.append.Goals as goal
+
+-- what fits is read back
+fits_reads : (t : RecordType) (m : Content) (new written : ByteSink) → RecordSound t m → HasNoBytes new → Adds written_since new written (encoded m) →
+    ((start : ByteSink) (front : List ℕ) → HasNoBytes start → Adds written_since start written front → length front < 2 ^ 64) → levels m ≤ LEVEL_LIMIT → record_decoded LEVEL_LIMIT t (encoded m) ≡ Some m
+fits_reads t m new written sound empty added fits low = reads_back t m sound (fits new (encoded m) empty added) low
+
+pub returns-clause-reads : goal.returns-clause-reads
+returns-clause-reads g c = on_ok_weaker _ (fits_reads g.R.DescriptorRecord.record_type _ _ c.write.new.sink c.write.ensures.sound c.new-sink.ensures c.write.ensures.added) c.append_to.ensures.fits

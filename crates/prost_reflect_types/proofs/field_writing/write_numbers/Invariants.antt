@@ -1,0 +1,15 @@
+use Rattle.std.proofs.Common.{map, drop}
+use Rattle.prost_reflect_wire.specs.Content.{ScalarValue}
+use Rattle.prost_reflect_wire.specs.Scalar.{I32}
+use Rattle.prost_reflect_wire.specs.Sinks.{Adds}
+use Rattle.prost_reflect_types.specs.declared.table.FieldKind.TheVariants as kinds
+use Rattle.prost_reflect_types.proofs.FieldBytes.{list_bytes}
+use Rattle.prost_reflect_types.proofs.SoundFields.{InRange}
+use Rattle.prost_reflect_types.proofs.field_writing.write_numbers.Given as goal
+
+-- the numbers from the index on are written
+abbrev pub invariant-loop-index : goal.invariant-loop-index
+invariant-loop-index g l = record {
+  added : Adds g.S.Sink.added l.fn.sink l.sink (list_bytes l.number kinds.Numbers (map (λ z. ScalarValue (I32 z)) (drop l.index l.values.items)));
+  range : InRange (drop l.index l.values.items);
+}

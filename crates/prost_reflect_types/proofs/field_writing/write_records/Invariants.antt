@@ -1,0 +1,14 @@
+use Rattle.std.proofs.Common.{map, drop}
+use Rattle.prost_reflect_wire.specs.Content.{MessageValue}
+use Rattle.prost_reflect_wire.specs.Sinks.{Adds}
+use Rattle.prost_reflect_types.specs.declared.table.FieldKind.TheVariants as kinds
+use Rattle.prost_reflect_types.proofs.FieldBytes.{list_bytes}
+use Rattle.prost_reflect_types.proofs.SoundFields.{AllSound}
+use Rattle.prost_reflect_types.proofs.field_writing.write_records.Given as goal
+
+-- the records from the index on are written
+abbrev pub invariant-loop-index : goal.invariant-loop-index
+invariant-loop-index g l = record {
+  added : Adds g.S.Sink.added l.fn.sink l.sink (list_bytes l.number (kinds.Records g.R.DescriptorRecord.record_type) (map (λ r. MessageValue (g.R.DescriptorRecord.content r)) (drop l.index l.records.items)));
+  sound : AllSound g.R.DescriptorRecord.record_type (map g.R.DescriptorRecord.content (drop l.index l.records.items));
+}

@@ -1,0 +1,6 @@
+use Rattle.std.proofs.Common.{◌≡◌, ◌++◌, drop, map}
+use Rattle.prost_reflect_types.specs.DescriptorReading.{all_found, at_number, record_in}
+use Rattle.prost_reflect_types.proofs.values.bodies.Given as goal
+
+abbrev pub invariant-loop-field : goal.invariant-loop-field
+invariant-loop-field l = at_number record_in l.number (all_found l.fields) ≡ map (λ b. b.now) l.bodies.items ++ at_number record_in l.number (all_found (drop l.field-index l.fields))

@@ -1,0 +1,10 @@
+use Rattle.std.proofs.Common.{◌≡◌, ◌++◌, drop, map, string_bytes}
+use Rattle.prost_reflect_wire.specs.Scalar.{Text}
+use Rattle.prost_reflect_wire.specs.Content.{ScalarValue}
+use Rattle.prost_reflect_types.specs.DescriptorReading.{all_found, at_number, text_in}
+use Rattle.prost_reflect_types.proofs.values.texts.Given as goal
+
+abbrev pub invariant-loop-field : goal.invariant-loop-field
+invariant-loop-field l =
+    map (λ x. ScalarValue (Text x)) (at_number text_in l.number (all_found l.fields))
+    ≡ map (λ t. ScalarValue (Text (string_bytes t))) l.texts.items ++ map (λ x. ScalarValue (Text x)) (at_number text_in l.number (all_found (drop l.field-index l.fields)))

@@ -1,0 +1,16 @@
+use Rattle.std.proofs.Common.{map, drop}
+use Rattle.prost_reflect_wire.specs.Content.{MessageValue}
+use Rattle.prost_reflect_types.specs.DescriptorViews.{of_message}
+use Rattle.prost_reflect_wire.specs.Sinks.{Adds}
+use Rattle.prost_reflect_types.specs.declared.table.FieldKind.TheVariants as kinds
+use Rattle.prost_reflect_types.specs.declared.table.RecordType.TheVariants as types
+use Rattle.prost_reflect_types.proofs.FieldBytes.{list_bytes}
+use Rattle.prost_reflect_types.proofs.SoundFields.{AllSound}
+use Rattle.prost_reflect_types.proofs.writing.+message_writing.Given as goal
+
+-- the messages from the index on are written
+abbrev pub invariant-write_messages-loop-index : goal.invariant-write_messages-loop-index
+invariant-write_messages-loop-index g l = record {
+  added : Adds g.S.Sink.added l.fn.sink l.sink (list_bytes l.number (kinds.Records types.Message) (map (λ m. MessageValue (of_message m)) (drop l.index l.messages.items)));
+  sound : AllSound types.Message (map of_message (drop l.index l.messages.items));
+}

@@ -1,0 +1,232 @@
+//! Reading descriptor records: the public calls.
+
+ghost use Rattle.std.specs.Prelude.{◌≡◌, ◌≢◌, Some, IfOk, IfErr};
+ghost use Rattle.prost_reflect_wire.specs.Grammar.{LEVEL_LIMIT, Accepts};
+ghost use Rattle.prost_reflect_wire.specs.Fault.{StandsInMessage};
+ghost use Rattle.prost_reflect_types.specs.DescriptorTable.{place_of, record_schema};
+ghost use Rattle.prost_reflect_types.specs.DescriptorMeaning.{record_decoded};
+ghost use Rattle.prost_reflect_types.specs.DescriptorViews.{of_enum, of_enum_reserved_range, of_enum_value, of_extension_range, of_field, of_file, of_file_set, of_message, of_method, of_oneof, of_reserved_range, of_service};
+ghost use Rattle.prost_reflect_types.specs.declared.table.RecordType.TheVariants as types;
+
+use crate::body::FromBody;
+use crate::{
+    DescriptorProto, EnumDescriptorProto, EnumReservedRange, EnumValueDescriptorProto,
+    ExtensionRange, FieldDescriptorProto, FileDescriptorProto, FileDescriptorSet,
+    MethodDescriptorProto, OneofDescriptorProto, ReservedRange, ServiceDescriptorProto,
+};
+use prost_reflect_wire::{DecodeError, RECURSION_LIMIT};
+use std::alloc::Global;
+
+/// Reads a record from all the bytes, within 100 levels.
+fn read<T: FromBody>(alloc: Global, bytes: &[u8]) -> Result<T, DecodeError>
+    ensures means { IfOk result (λ own. record_decoded LEVEL_LIMIT T.record_type bytes.now ≡ Some (T.content own)) }
+    ensures accepts { IfOk result (λ _. Accepts record_schema LEVEL_LIMIT (place_of T.record_type) bytes.now) }
+    ensures fault { IfErr result (λ e. e ≢ DecodeError.OutOfMemory → StandsInMessage record_schema (place_of T.record_type) LEVEL_LIMIT e bytes.now) }
+    ensures accepted { IfErr result (λ e. Accepts record_schema LEVEL_LIMIT (place_of T.record_type) bytes.now → e ≡ DecodeError.OutOfMemory) }
+{
+    T::from_body(alloc, bytes, RECURSION_LIMIT)
+}
+
+impl FileDescriptorSet {
+    /// Reads the files of a descriptor set from the bytes, within 100 levels, as the head of this crate says.
+    ///
+    /// # Errors
+    ///
+    /// `Truncated`, `Varint`, `Key`, `WireType`, `EndGroup`, `Utf8` or `Depth` where that fault stands in the bytes, and
+    /// only where they are no such record; `OutOfMemory` if a growth is refused.
+    pub fn decode(alloc: Global, bytes: &[u8]) -> Result<FileDescriptorSet, DecodeError>
+        ensures means { IfOk result (λ own. record_decoded LEVEL_LIMIT types.FileSet bytes.now ≡ Some (of_file_set own)) }
+        ensures accepts { IfOk result (λ _. Accepts record_schema LEVEL_LIMIT (place_of types.FileSet) bytes.now) }
+        ensures fault { IfErr result (λ e. e ≢ DecodeError.OutOfMemory → StandsInMessage record_schema (place_of types.FileSet) LEVEL_LIMIT e bytes.now) }
+        ensures accepted { IfErr result (λ e. Accepts record_schema LEVEL_LIMIT (place_of types.FileSet) bytes.now → e ≡ DecodeError.OutOfMemory) }
+    {
+        read(alloc, bytes)
+    }
+}
+
+impl FileDescriptorProto {
+    /// Reads a file's record from the bytes, within 100 levels, as the head of this crate says.
+    ///
+    /// # Errors
+    ///
+    /// `Truncated`, `Varint`, `Key`, `WireType`, `EndGroup`, `Utf8` or `Depth` where that fault stands in the bytes, and
+    /// only where they are no such record; `OutOfMemory` if a growth is refused.
+    pub fn decode(alloc: Global, bytes: &[u8]) -> Result<FileDescriptorProto, DecodeError>
+        ensures means { IfOk result (λ own. record_decoded LEVEL_LIMIT types.File bytes.now ≡ Some (of_file own)) }
+        ensures accepts { IfOk result (λ _. Accepts record_schema LEVEL_LIMIT (place_of types.File) bytes.now) }
+        ensures fault { IfErr result (λ e. e ≢ DecodeError.OutOfMemory → StandsInMessage record_schema (place_of types.File) LEVEL_LIMIT e bytes.now) }
+        ensures accepted { IfErr result (λ e. Accepts record_schema LEVEL_LIMIT (place_of types.File) bytes.now → e ≡ DecodeError.OutOfMemory) }
+    {
+        read(alloc, bytes)
+    }
+}
+
+impl DescriptorProto {
+    /// Reads a message's record from the bytes, within 100 levels, as the head of this crate says.
+    ///
+    /// # Errors
+    ///
+    /// `Truncated`, `Varint`, `Key`, `WireType`, `EndGroup`, `Utf8` or `Depth` where that fault stands in the bytes, and
+    /// only where they are no such record; `OutOfMemory` if a growth is refused.
+    pub fn decode(alloc: Global, bytes: &[u8]) -> Result<DescriptorProto, DecodeError>
+        ensures means { IfOk result (λ own. record_decoded LEVEL_LIMIT types.Message bytes.now ≡ Some (of_message own)) }
+        ensures accepts { IfOk result (λ _. Accepts record_schema LEVEL_LIMIT (place_of types.Message) bytes.now) }
+        ensures fault { IfErr result (λ e. e ≢ DecodeError.OutOfMemory → StandsInMessage record_schema (place_of types.Message) LEVEL_LIMIT e bytes.now) }
+        ensures accepted { IfErr result (λ e. Accepts record_schema LEVEL_LIMIT (place_of types.Message) bytes.now → e ≡ DecodeError.OutOfMemory) }
+    {
+        read(alloc, bytes)
+    }
+}
+
+impl ExtensionRange {
+    /// Reads a range of numbers for extensions from the bytes, within 100 levels, as the head of this crate says.
+    ///
+    /// # Errors
+    ///
+    /// `Truncated`, `Varint`, `Key`, `WireType`, `EndGroup`, `Utf8` or `Depth` where that fault stands in the bytes, and
+    /// only where they are no such record; `OutOfMemory` if a growth is refused.
+    pub fn decode(alloc: Global, bytes: &[u8]) -> Result<ExtensionRange, DecodeError>
+        ensures means { IfOk result (λ own. record_decoded LEVEL_LIMIT types.ExtensionRange bytes.now ≡ Some (of_extension_range own)) }
+        ensures accepts { IfOk result (λ _. Accepts record_schema LEVEL_LIMIT (place_of types.ExtensionRange) bytes.now) }
+        ensures fault { IfErr result (λ e. e ≢ DecodeError.OutOfMemory → StandsInMessage record_schema (place_of types.ExtensionRange) LEVEL_LIMIT e bytes.now) }
+        ensures accepted { IfErr result (λ e. Accepts record_schema LEVEL_LIMIT (place_of types.ExtensionRange) bytes.now → e ≡ DecodeError.OutOfMemory) }
+    {
+        read(alloc, bytes)
+    }
+}
+
+impl ReservedRange {
+    /// Reads a range of reserved numbers from the bytes, within 100 levels, as the head of this crate says.
+    ///
+    /// # Errors
+    ///
+    /// `Truncated`, `Varint`, `Key`, `WireType`, `EndGroup`, `Utf8` or `Depth` where that fault stands in the bytes, and
+    /// only where they are no such record; `OutOfMemory` if a growth is refused.
+    pub fn decode(alloc: Global, bytes: &[u8]) -> Result<ReservedRange, DecodeError>
+        ensures means { IfOk result (λ own. record_decoded LEVEL_LIMIT types.ReservedRange bytes.now ≡ Some (of_reserved_range own)) }
+        ensures accepts { IfOk result (λ _. Accepts record_schema LEVEL_LIMIT (place_of types.ReservedRange) bytes.now) }
+        ensures fault { IfErr result (λ e. e ≢ DecodeError.OutOfMemory → StandsInMessage record_schema (place_of types.ReservedRange) LEVEL_LIMIT e bytes.now) }
+        ensures accepted { IfErr result (λ e. Accepts record_schema LEVEL_LIMIT (place_of types.ReservedRange) bytes.now → e ≡ DecodeError.OutOfMemory) }
+    {
+        read(alloc, bytes)
+    }
+}
+
+impl FieldDescriptorProto {
+    /// Reads a field's record from the bytes, within 100 levels, as the head of this crate says.
+    ///
+    /// # Errors
+    ///
+    /// `Truncated`, `Varint`, `Key`, `WireType`, `EndGroup`, `Utf8` or `Depth` where that fault stands in the bytes, and
+    /// only where they are no such record; `OutOfMemory` if a growth is refused.
+    pub fn decode(alloc: Global, bytes: &[u8]) -> Result<FieldDescriptorProto, DecodeError>
+        ensures means { IfOk result (λ own. record_decoded LEVEL_LIMIT types.Field bytes.now ≡ Some (of_field own)) }
+        ensures accepts { IfOk result (λ _. Accepts record_schema LEVEL_LIMIT (place_of types.Field) bytes.now) }
+        ensures fault { IfErr result (λ e. e ≢ DecodeError.OutOfMemory → StandsInMessage record_schema (place_of types.Field) LEVEL_LIMIT e bytes.now) }
+        ensures accepted { IfErr result (λ e. Accepts record_schema LEVEL_LIMIT (place_of types.Field) bytes.now → e ≡ DecodeError.OutOfMemory) }
+    {
+        read(alloc, bytes)
+    }
+}
+
+impl OneofDescriptorProto {
+    /// Reads a oneof's record from the bytes, within 100 levels, as the head of this crate says.
+    ///
+    /// # Errors
+    ///
+    /// `Truncated`, `Varint`, `Key`, `WireType`, `EndGroup`, `Utf8` or `Depth` where that fault stands in the bytes, and
+    /// only where they are no such record; `OutOfMemory` if a growth is refused.
+    pub fn decode(alloc: Global, bytes: &[u8]) -> Result<OneofDescriptorProto, DecodeError>
+        ensures means { IfOk result (λ own. record_decoded LEVEL_LIMIT types.Oneof bytes.now ≡ Some (of_oneof own)) }
+        ensures accepts { IfOk result (λ _. Accepts record_schema LEVEL_LIMIT (place_of types.Oneof) bytes.now) }
+        ensures fault { IfErr result (λ e. e ≢ DecodeError.OutOfMemory → StandsInMessage record_schema (place_of types.Oneof) LEVEL_LIMIT e bytes.now) }
+        ensures accepted { IfErr result (λ e. Accepts record_schema LEVEL_LIMIT (place_of types.Oneof) bytes.now → e ≡ DecodeError.OutOfMemory) }
+    {
+        read(alloc, bytes)
+    }
+}
+
+impl EnumDescriptorProto {
+    /// Reads an enum's record from the bytes, within 100 levels, as the head of this crate says.
+    ///
+    /// # Errors
+    ///
+    /// `Truncated`, `Varint`, `Key`, `WireType`, `EndGroup`, `Utf8` or `Depth` where that fault stands in the bytes, and
+    /// only where they are no such record; `OutOfMemory` if a growth is refused.
+    pub fn decode(alloc: Global, bytes: &[u8]) -> Result<EnumDescriptorProto, DecodeError>
+        ensures means { IfOk result (λ own. record_decoded LEVEL_LIMIT types.Enum bytes.now ≡ Some (of_enum own)) }
+        ensures accepts { IfOk result (λ _. Accepts record_schema LEVEL_LIMIT (place_of types.Enum) bytes.now) }
+        ensures fault { IfErr result (λ e. e ≢ DecodeError.OutOfMemory → StandsInMessage record_schema (place_of types.Enum) LEVEL_LIMIT e bytes.now) }
+        ensures accepted { IfErr result (λ e. Accepts record_schema LEVEL_LIMIT (place_of types.Enum) bytes.now → e ≡ DecodeError.OutOfMemory) }
+    {
+        read(alloc, bytes)
+    }
+}
+
+impl EnumReservedRange {
+    /// Reads a range of reserved numbers from the bytes, within 100 levels, as the head of this crate says.
+    ///
+    /// # Errors
+    ///
+    /// `Truncated`, `Varint`, `Key`, `WireType`, `EndGroup`, `Utf8` or `Depth` where that fault stands in the bytes, and
+    /// only where they are no such record; `OutOfMemory` if a growth is refused.
+    pub fn decode(alloc: Global, bytes: &[u8]) -> Result<EnumReservedRange, DecodeError>
+        ensures means { IfOk result (λ own. record_decoded LEVEL_LIMIT types.EnumReservedRange bytes.now ≡ Some (of_enum_reserved_range own)) }
+        ensures accepts { IfOk result (λ _. Accepts record_schema LEVEL_LIMIT (place_of types.EnumReservedRange) bytes.now) }
+        ensures fault { IfErr result (λ e. e ≢ DecodeError.OutOfMemory → StandsInMessage record_schema (place_of types.EnumReservedRange) LEVEL_LIMIT e bytes.now) }
+        ensures accepted { IfErr result (λ e. Accepts record_schema LEVEL_LIMIT (place_of types.EnumReservedRange) bytes.now → e ≡ DecodeError.OutOfMemory) }
+    {
+        read(alloc, bytes)
+    }
+}
+
+impl EnumValueDescriptorProto {
+    /// Reads an enum value's record from the bytes, within 100 levels, as the head of this crate says.
+    ///
+    /// # Errors
+    ///
+    /// `Truncated`, `Varint`, `Key`, `WireType`, `EndGroup`, `Utf8` or `Depth` where that fault stands in the bytes, and
+    /// only where they are no such record; `OutOfMemory` if a growth is refused.
+    pub fn decode(alloc: Global, bytes: &[u8]) -> Result<EnumValueDescriptorProto, DecodeError>
+        ensures means { IfOk result (λ own. record_decoded LEVEL_LIMIT types.EnumValue bytes.now ≡ Some (of_enum_value own)) }
+        ensures accepts { IfOk result (λ _. Accepts record_schema LEVEL_LIMIT (place_of types.EnumValue) bytes.now) }
+        ensures fault { IfErr result (λ e. e ≢ DecodeError.OutOfMemory → StandsInMessage record_schema (place_of types.EnumValue) LEVEL_LIMIT e bytes.now) }
+        ensures accepted { IfErr result (λ e. Accepts record_schema LEVEL_LIMIT (place_of types.EnumValue) bytes.now → e ≡ DecodeError.OutOfMemory) }
+    {
+        read(alloc, bytes)
+    }
+}
+
+impl ServiceDescriptorProto {
+    /// Reads a service's record from the bytes, within 100 levels, as the head of this crate says.
+    ///
+    /// # Errors
+    ///
+    /// `Truncated`, `Varint`, `Key`, `WireType`, `EndGroup`, `Utf8` or `Depth` where that fault stands in the bytes, and
+    /// only where they are no such record; `OutOfMemory` if a growth is refused.
+    pub fn decode(alloc: Global, bytes: &[u8]) -> Result<ServiceDescriptorProto, DecodeError>
+        ensures means { IfOk result (λ own. record_decoded LEVEL_LIMIT types.Service bytes.now ≡ Some (of_service own)) }
+        ensures accepts { IfOk result (λ _. Accepts record_schema LEVEL_LIMIT (place_of types.Service) bytes.now) }
+        ensures fault { IfErr result (λ e. e ≢ DecodeError.OutOfMemory → StandsInMessage record_schema (place_of types.Service) LEVEL_LIMIT e bytes.now) }
+        ensures accepted { IfErr result (λ e. Accepts record_schema LEVEL_LIMIT (place_of types.Service) bytes.now → e ≡ DecodeError.OutOfMemory) }
+    {
+        read(alloc, bytes)
+    }
+}
+
+impl MethodDescriptorProto {
+    /// Reads a method's record from the bytes, within 100 levels, as the head of this crate says.
+    ///
+    /// # Errors
+    ///
+    /// `Truncated`, `Varint`, `Key`, `WireType`, `EndGroup`, `Utf8` or `Depth` where that fault stands in the bytes, and
+    /// only where they are no such record; `OutOfMemory` if a growth is refused.
+    pub fn decode(alloc: Global, bytes: &[u8]) -> Result<MethodDescriptorProto, DecodeError>
+        ensures means { IfOk result (λ own. record_decoded LEVEL_LIMIT types.Method bytes.now ≡ Some (of_method own)) }
+        ensures accepts { IfOk result (λ _. Accepts record_schema LEVEL_LIMIT (place_of types.Method) bytes.now) }
+        ensures fault { IfErr result (λ e. e ≢ DecodeError.OutOfMemory → StandsInMessage record_schema (place_of types.Method) LEVEL_LIMIT e bytes.now) }
+        ensures accepted { IfErr result (λ e. Accepts record_schema LEVEL_LIMIT (place_of types.Method) bytes.now → e ≡ DecodeError.OutOfMemory) }
+    {
+        read(alloc, bytes)
+    }
+}
