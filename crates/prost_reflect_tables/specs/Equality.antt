@@ -17,7 +17,7 @@ use Rattle.prost_reflect_tables.specs.contracts.tables.CardinalityPartialEq.TheI
 use Rattle.prost_reflect_tables.specs.contracts.tables.CardinalityEq.TheImpl.Laws as label_laws
 use Rattle.prost_reflect_tables.specs.contracts.tables.TableKindPartialEq.TheImpl as code_kinds
 use Rattle.prost_reflect_tables.specs.contracts.tables.TableKindEq.TheImpl.Laws as kind_laws
-use Rattle.prost_reflect_tables.specs.Rows.{FieldRow, OneofRow, MessageRow, EnumRow, TableRows}
+use Rattle.prost_reflect_tables.specs.Rows.{IdentityRow, FieldRow, OneofRow, MessageRow, EnumRow, TableRows}
 
 -- Kinds and labels as code compares them: by their variants, and by the places that they name.
 abbrev pub label_eq : Cardinality → Cardinality → Bool
@@ -25,6 +25,14 @@ label_eq = (code_labels.ghosts).eq
 
 abbrev pub kind_eq : TableKind → TableKind → Bool
 kind_eq = (code_kinds.ghosts).eq
+
+abbrev pub identity_eq : IdentityRow → IdentityRow → Bool
+identity_eq i j =
+    nat_eq i.file j.file
+    && (option_eq nat_eq i.parent j.parent
+    && (pointwise int_eq i.path j.path
+    && (pointwise nat_eq i.full_name j.full_name
+    && pointwise nat_eq i.name j.name)))
 
 abbrev pub field_eq : FieldRow → FieldRow → Bool
 field_eq f g =
@@ -154,6 +162,16 @@ pub scalar_decides : (a b : Scalar) → Decides (scalar_eq a b) (a ≡ b)
 scalar_decides = decided scalar_eq scalar_same scalar_itself
 
 -- ROWS
+
+identity_decides : (i j : IdentityRow) → Decides (identity_eq i j) (i ≡ j)
+identity_decides i j = Decides-like (identity_eq i j)
+    (λ h k. record { file = h.0 k; parent = h.1.0 k; path = h.1.1.0 k; full_name = h.1.1.1.0 k; name = h.1.1.1.1 k })
+    (λ e. (ap (λ (r : IdentityRow). r.file) e, (ap (λ (r : IdentityRow). r.parent) e, (ap (λ (r : IdentityRow). r.path) e, (ap (λ (r : IdentityRow). r.full_name) e, ap (λ (r : IdentityRow). r.name) e)))))
+    (Decides-and _ _ (unsigned_Decides i.file j.file)
+    (Decides-and _ _ (option_decides unsigned_Decides i.parent j.parent)
+    (Decides-and _ _ (list_decides signed_Decides i.path j.path)
+    (Decides-and _ _ (text_decides i.full_name j.full_name)
+    (text_decides i.name j.name)))))
 
 field_decides : (f g : FieldRow) → Decides (field_eq f g) (f ≡ g)
 field_decides f g = Decides-like (field_eq f g)

@@ -9,7 +9,7 @@ use Rattle.prost_reflect_tables.specs.declared.tables.Cardinality.{Cardinality}
 use Rattle.prost_reflect_tables.specs.declared.tables.Cardinality.TheVariants.{Optional, Required, Repeated}
 use Rattle.prost_reflect_tables.specs.declared.tables.TableKind.{TableKind}
 use Rattle.prost_reflect_tables.specs.declared.tables.TableKind.TheVariants.{Double, Float, Int32, Int64, Uint32, Uint64, Sint32, Sint64, Fixed32, Fixed64, Sfixed32, Sfixed64, Bool as BoolKind, String as StringKind, Bytes, Message, Enum}
-use Rattle.prost_reflect_tables.specs.Rows.{FieldRow, OneofRow, MessageRow, EnumValueRow, EnumRow, TableRows}
+use Rattle.prost_reflect_tables.specs.Rows.{IdentityRow, FieldRow, OneofRow, MessageRow, EnumValueRow, EnumRow, TableRows}
 use Rattle.prost_reflect_tables.specs.Names.{text_or_empty, bracketed}
 use Rattle.prost_reflect_tables.specs.Flat.{DefinitionRow, FlatMessageRow, FlatEnumRow, FlatRows}
 use Rattle.prost_reflect_tables.specs.Faults.{message_names, enum_names, place_named}
@@ -98,6 +98,12 @@ cardinality_of_label label = if nat_eq label 2 then Required else if nat_eq labe
 abbrev pub is_repeated : Cardinality → Bool
 is_repeated Repeated = true
 is_repeated c = false
+
+-- IDENTITIES
+
+-- Where a definition of this name stands.
+abbrev pub linked_identity : {R : Type 0} → (name : Option (String Global)) → DefinitionRow R → IdentityRow
+linked_identity name d = record { file = d.file; parent = d.parent; path = d.path; full_name = d.full_name; name = text_or_empty name }
 
 -- FIELDS
 

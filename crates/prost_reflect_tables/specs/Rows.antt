@@ -6,10 +6,19 @@ use Rattle.prost_reflect_tables.specs.declared.tables.Cardinality.{Cardinality}
 use Rattle.prost_reflect_tables.specs.declared.tables.TableKind.{TableKind}
 use Rattle.prost_reflect_tables.specs.declared.tables.WrittenDefault.{WrittenDefault}
 use Rattle.prost_reflect_tables.specs.declared.tables.WrittenDefault.TheVariants.{Bool as BoolDefault, I32, I64, U32, U64, F32, F64, String, Bytes, EnumNumber}
+use Rattle.prost_reflect_tables.specs.declared.tables.Identity.{Identity}
 use Rattle.prost_reflect_tables.specs.declared.tables.FieldTable.{FieldTable}
 use Rattle.prost_reflect_tables.specs.declared.tables.OneofTable.{OneofTable}
 use Rattle.prost_reflect_tables.specs.declared.tables.MessageTable.{MessageTable}
 use Rattle.prost_reflect_tables.specs.declared.tables.EnumTable.{EnumTable}
+
+-- Where a definition stands: the place of its file, the place of the message type around it, its path in the file, its full name and its own name.
+pub record IdentityRow : Type 0 where
+  pub file : ℕ
+  pub parent : Option ℕ
+  pub path : List ℤ
+  pub full_name : List ℕ
+  pub name : List ℕ
 
 pub record FieldRow : Type 0 where
   pub number : ℕ
@@ -57,6 +66,9 @@ written_scalar (F64 n) = scalars.F64 n
 written_scalar (String s) = scalars.Text (string_bytes s)
 written_scalar (Bytes v) = scalars.Bytes v.items
 written_scalar (EnumNumber z) = scalars.EnumNumber z
+
+abbrev pub identity_row : Identity → IdentityRow
+identity_row i = record { file = i.file; parent = i.parent; path = i.path.items; full_name = string_bytes i.full_name; name = string_bytes i.name }
 
 abbrev pub field_row : FieldTable → FieldRow
 field_row f = record {

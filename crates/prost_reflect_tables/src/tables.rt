@@ -81,6 +81,21 @@ pub enum WrittenDefault {
     EnumNumber(i32),
 }
 
+/// Where a definition stands.
+#[derive(PartialEq, Eq, Debug, Drop)]
+pub struct Identity {
+    /// The place of its file in the list of files.
+    pub file: usize,
+    /// The place of the message type around it, or none at the top of a file.
+    pub parent: Option<usize>,
+    /// The path in its file, as in `SourceCodeInfo.Location.path`.
+    pub path: Vec<i32>,
+    /// The package, the enclosing definitions and the name, joined by dots.
+    pub full_name: String,
+    /// The definition's own name, without its scope.
+    pub name: String,
+}
+
 /// A field or an extension of a message type.
 #[derive(PartialEq, Eq, Debug, Drop)]
 pub struct FieldTable {
