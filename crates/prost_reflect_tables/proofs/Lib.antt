@@ -14,6 +14,8 @@ mod Numbering
 mod OptionBytes
 mod Sorting
 mod Grouping
+mod Gathering
+mod Orders
 mod NamePlaces
 mod WorkedLinking
 mod Linkwell

@@ -24,6 +24,8 @@ pub mod Indexed
 pub mod Spans
 pub mod Options
 pub mod Linking
+pub mod Gathered
+pub mod Orders
 pub mod InRange
 pub mod Indexing
 pub mod LinkingExamples

@@ -13,11 +13,13 @@ use crate::error::PoolError;
 
 pub mod defaults;
 pub mod flatten;
+pub mod gather;
 pub mod identity;
 pub mod index;
 pub mod link;
 pub mod names;
 pub mod options;
+pub mod order;
 
 use crate::build::flatten::flattened;
 use crate::build::link::linked;

@@ -226,7 +226,7 @@ fn declared_by_message(
 }
 
 /// So many empty lists.
-fn empty_lists<T: Drop>(alloc: Global, count: usize) -> Result<Vec<Vec<T>>, AllocError>
+pub fn empty_lists<T: Drop>(alloc: Global, count: usize) -> Result<Vec<Vec<T>>, AllocError>
     ensures { IfOk result (λ v. map (λ xs. xs.items) v.items ≡ empty_lists count) }
 {
     let mut lists = Vec::new(alloc);
@@ -237,7 +237,7 @@ fn empty_lists<T: Drop>(alloc: Global, count: usize) -> Result<Vec<Vec<T>>, Allo
 }
 
 /// Adds an item to the list of a place, if there is one.
-fn add_item<T: Drop>(
+pub fn add_item<T: Drop>(
     lists: &mut Vec<Vec<T>>,
     place: Option<usize>,
     item: T,

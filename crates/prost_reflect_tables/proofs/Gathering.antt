@@ -1,0 +1,52 @@
+-- Places of items by what the items belong to.
+use Rattle.std.proofs.Common.{◌≡◌, ℕ, zero, suc, ◌+◌, ◌<◌, ◌≤◌, Bool, true, false, cond, List, [], ◌∷◌, ◌++◌, map, length, Option, refl, sym, ap, ◌∙◌, arith, append_assoc, append-nil, get_or, drop, drop-cons, add-one}
+use Rattle.std.proofs.lemmas.List.{drop_all}
+use Rattle.std.specs.Prelude.{slice_get, unwrap_or}
+use Rattle.prost_reflect_tables.specs.Linking.{is_place}
+use Rattle.prost_reflect_tables.specs.Indexing.{empty_lists, with_item}
+use Rattle.prost_reflect_tables.specs.Gathered.{places_from, places_of, gathered}
+
+-- Behind each list the places of the items that belong to its place, where the first item is at the place p and the first list at i.
+abbrev pub behind : {X : Type 0} → (X → Option ℕ) → ℕ → List X → ℕ → List (List ℕ) → List (List ℕ)
+behind owner p xs i [] = []
+behind owner p xs i (ys ∷ lists) = (ys ++ places_from (λ x. is_place i (owner x)) p xs) ∷ behind owner p xs (i + 1) lists
+
+behind_item : {X : Type 0} (owner : X → Option ℕ) (p : ℕ) (x : X) (xs : List X) (i : ℕ) (lists : List (List ℕ)) → behind owner (p + 1) xs i (with_item (owner x) p i lists) ≡ behind owner p (x ∷ xs) i lists
+behind_item owner p x xs i [] = refl
+behind_item owner p x xs i (ys ∷ lists) = rw (behind_item owner p x xs (i + 1) lists) (ap (λ l. l ∷ behind owner p (x ∷ xs) (i + 1) lists) (go (is_place i (owner x))))
+  where
+    go : (b : Bool) → cond b (ys ++ p ∷ []) ys ++ places_from (λ x. is_place i (owner x)) (p + 1) xs ≡ ys ++ cond b (p ∷ places_from (λ x. is_place i (owner x)) (p + 1) xs) (places_from (λ x. is_place i (owner x)) (p + 1) xs)
+    go true = append_assoc ys (p ∷ []) (places_from (λ x. is_place i (owner x)) (p + 1) xs)
+    go false = refl
+
+behind_none : {X : Type 0} (owner : X → Option ℕ) (p i : ℕ) (lists : List (List ℕ)) → behind owner p [] i lists ≡ lists
+behind_none owner p i [] = refl
+behind_none owner p i (ys ∷ lists) = rw (append-nil ys) (ap (λ l. ys ∷ l) (behind_none owner p (i + 1) lists))
+
+pub behind_empty : {X : Type 0} (owner : X → Option ℕ) (xs : List X) (T n : ℕ) → behind owner 0 xs T (empty_lists n) ≡ gathered owner xs T n
+behind_empty owner xs T zero = refl
+behind_empty owner xs T (suc n) = ap (λ l. places_of owner xs T ∷ l) (behind_empty owner xs (T + 1) n)
+
+-- One item more.
+pub gathered_more : {X : Type 0} (owner : X → Option ℕ) (xs : List X) (k : ℕ) (x : X) (place : Option ℕ) (old new : List (List ℕ)) →
+    k < length xs → x ≡ get_or xs k x → place ≡ owner x → new ≡ with_item place k 0 old → behind owner (k + 1) (drop (k + 1) xs) 0 new ≡ behind owner k (drop k xs) 0 old
+gathered_more owner xs k x place old new h is at e =
+    let front : drop k xs ≡ x ∷ drop (k + 1) xs = drop-cons xs k x h ∙ (ap (λ z. z ∷ drop (suc k) xs) (sym is) ∙ ap (λ j. x ∷ drop j xs) (sym (add-one k))) in
+    ap (behind owner (k + 1) (drop (k + 1) xs) 0) (e ∙ ap (λ p. with_item p k 0 old) at) ∙ (behind_item owner k x (drop (k + 1) xs) 0 old ∙ ap (λ zs. behind owner k zs 0 old) (sym front))
+
+pub gathered_all : {X : Type 0} (owner : X → Option ℕ) (xs : List X) (k : ℕ) (lists : List (List ℕ)) → length xs ≤ k → lists ≡ behind owner k (drop k xs) 0 lists
+gathered_all owner xs k lists h = sym (behind_none owner k 0 lists) ∙ ap (λ zs. behind owner k zs 0 lists) (sym (drop_all k xs h))
+
+-- The list of a place.
+at_from : {X : Type 0} (owner : X → Option ℕ) (xs : List X) (i n k : ℕ) → k < n → unwrap_or (slice_get (gathered owner xs i n) k) [] ≡ places_of owner xs (i + k)
+at_from owner xs i zero k h = absurd (omega arith)
+at_from owner xs i (suc n) zero h = ap (places_of owner xs) (omega arith)
+at_from owner xs i (suc n) (suc k) h = at_from owner xs (i + 1) n k (omega arith) ∙ ap (places_of owner xs) (omega arith)
+
+pub gathered_at : {X : Type 0} (owner : X → Option ℕ) (xs : List X) (n k : ℕ) → k < n → unwrap_or (slice_get (gathered owner xs 0 n) k) [] ≡ places_of owner xs k
+gathered_at owner xs n k h = at_from owner xs 0 n k h ∙ ap (places_of owner xs) (omega arith)
+
+-- Rows of items belong to what the items belong to.
+pub rows_from : {X Y : Type 0} (row : X → Y) (test : Y → Bool) (i : ℕ) (xs : List X) → places_from (λ x. test (row x)) i xs ≡ places_from test i (map row xs)
+rows_from row test i [] = refl
+rows_from row test i (x ∷ xs) = ap (λ l. cond (test (row x)) (i ∷ l) l) (rows_from row test (i + 1) xs)
