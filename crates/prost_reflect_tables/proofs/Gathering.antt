@@ -50,3 +50,15 @@ gathered_at owner xs n k h = at_from owner xs 0 n k h ∙ ap (places_of owner xs
 pub rows_from : {X Y : Type 0} (row : X → Y) (test : Y → Bool) (i : ℕ) (xs : List X) → places_from (λ x. test (row x)) i xs ≡ places_from test i (map row xs)
 rows_from row test i [] = refl
 rows_from row test i (x ∷ xs) = ap (λ l. cond (test (row x)) (i ∷ l) l) (rows_from row test (i + 1) xs)
+
+rows_gathered : {X Y : Type 0} (row : X → Y) (owner : Y → Option ℕ) (xs : List X) (T n : ℕ) → gathered (λ x. owner (row x)) xs T n ≡ gathered owner (map row xs) T n
+rows_gathered row owner xs T zero = refl
+rows_gathered row owner xs T (suc n) = ap (λ l. l ∷ gathered (λ x. owner (row x)) xs (T + 1) n) (rows_from row (λ y. is_place T (owner y)) 0 xs) ∙ ap (λ l. places_of owner (map row xs) T ∷ l) (rows_gathered row owner xs (T + 1) n)
+
+pub shown_gathered : {X Y : Type 0} (row : X → Y) (owner : Y → Option ℕ) (xs given : List X) (n count : ℕ) (lists : List (List ℕ)) → given ≡ xs → count ≡ n → lists ≡ gathered (λ x. owner (row x)) given 0 count → lists ≡ gathered owner (map row xs) 0 n
+shown_gathered row owner xs given n count lists is size e =
+    e ∙ (ap (λ zs. gathered (λ x. owner (row x)) zs 0 count) is ∙ (ap (gathered (λ x. owner (row x)) xs 0) size ∙ rows_gathered row owner xs 0 n))
+
+-- A copy of the list of a place.
+pub copied_at : {X : Type 0} (owner : X → Option ℕ) (xs : List X) (n k : ℕ) (lists : List (List ℕ)) (copy : List ℕ) → lists ≡ gathered owner xs 0 n → k < n → copy ≡ unwrap_or (slice_get lists k) [] → copy ≡ places_of owner xs k
+copied_at owner xs n k lists copy e h is = is ∙ (ap (λ (ls : List (List ℕ)). unwrap_or (slice_get ls k) []) e ∙ gathered_at owner xs n k h)

@@ -16,6 +16,7 @@ mod Sorting
 mod Grouping
 mod Gathering
 mod Orders
+mod CatalogParts
 mod NamePlaces
 mod WorkedLinking
 mod Linkwell

@@ -26,6 +26,9 @@ pub mod Options
 pub mod Linking
 pub mod Gathered
 pub mod Orders
+pub mod CatalogRows
+pub mod LinkedCatalog
+pub mod GatheredLists
 pub mod InRange
 pub mod Indexing
 pub mod LinkingExamples

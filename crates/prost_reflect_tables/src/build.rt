@@ -6,28 +6,36 @@ ghost use Rattle.prost_reflect_tables.specs.Built.{AreTablesOf};
 ghost use Rattle.prost_reflect_tables.specs.Checked.{Stands};
 ghost use Rattle.prost_reflect_tables.specs.Flat.{flattened};
 ghost use Rattle.prost_reflect_tables.specs.FlatViews.{file_list};
+ghost use Rattle.prost_reflect_tables.specs.LinkedCatalog.{IsCatalogOf};
 ghost use Rattle.prost_reflect_tables.specs.Schema.{rows_of};
 
 use crate::check::check_files;
 use crate::error::PoolError;
 
+pub mod catalog;
 pub mod defaults;
+pub mod extensions;
+pub mod files;
 pub mod flatten;
 pub mod gather;
 pub mod identity;
 pub mod index;
 pub mod link;
+pub mod lists;
 pub mod names;
 pub mod options;
 pub mod order;
+pub mod services;
 
+use crate::build::catalog::linked_catalog;
 use crate::build::flatten::flattened;
 use crate::build::link::linked;
+use crate::catalog::Catalog;
 use crate::tables::Tables;
 use prost_reflect_types::FileDescriptorProto;
 use std::alloc::Global;
 
-/// The tables of files: their message types, nested ones too, and their enums, by file and then by path.
+/// The tables of files: their message types, nested ones too, and their enums, by file and then by path; and their catalog.
 ///
 /// A type is named by its place in these lists, and each extension stands with the message that it extends, wherever it was declared.
 /// The files may stand in any order; each file that one depends on is among them. The cost grows as n log n in the number of
@@ -37,12 +45,18 @@ use std::alloc::Global;
 ///
 /// The name of a fault that stands in the files, as a type that is named and is not there, or `OutOfMemory` if a growth was refused.
 /// Where several faults stand, one of them is named. Never `Decode`, since the files are read already.
-pub fn build_tables(alloc: Global, files: &[&FileDescriptorProto]) -> Result<Tables, PoolError>
-    ensures tables { IfOk result (λ tables. AreTablesOf (file_list files.now) (rows_of tables)) }
+pub fn build_tables(
+    alloc: Global,
+    files: &[&FileDescriptorProto],
+) -> Result<(Tables, Catalog), PoolError>
+    ensures tables { IfOk result (λ t. AreTablesOf (file_list files.now) (rows_of t.0)) }
+    ensures catalog { IfOk result (λ t. IsCatalogOf (file_list files.now) t.1) }
     ensures stands { IfErr result (λ e. e ≢ pool_errors.OutOfMemory → Stands e (file_list files.now) (flattened (file_list files.now))) }
 {
     let flat = flattened(alloc, files)?;
     let index = check_files(alloc, files, &flat)?;
     let (messages, enums) = linked(alloc, &flat, &index)?;
-    Ok(Tables { messages, enums })
+    let tables = Tables { messages, enums };
+    let catalog = linked_catalog(alloc, files, &flat, &index, &tables)?;
+    Ok((tables, catalog))
 }

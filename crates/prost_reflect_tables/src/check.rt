@@ -14,7 +14,7 @@ mod indices;
 mod names;
 mod numbers;
 mod ranges;
-mod types;
+pub mod types;
 mod walk;
 
 use crate::build::flatten::Flat;

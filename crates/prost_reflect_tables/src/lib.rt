@@ -2,6 +2,7 @@
 #![tactic(auto)]
 
 mod build;
+mod catalog;
 mod check;
 mod error;
 mod examples;
@@ -15,6 +16,10 @@ pub use build::flatten::{Definition, Flat, FlatEnum, FlatMessage, FlatService, f
 pub use build::index::{Index, indexed};
 pub use build::link::linked;
 pub use build::names::text_or_empty;
+pub use catalog::{
+    Catalog, EnumLists, ExtensionTable, FileTable, MessageLists, MethodTable, ServiceTable,
+    SortedPlaces,
+};
 pub use check::check_files;
 pub use error::PoolError;
 pub use examples::{

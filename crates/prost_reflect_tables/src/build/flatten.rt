@@ -331,7 +331,7 @@ fn add_message<'a>(
     Ok(())
 }
 
-fn is_proto3(proto: &FileDescriptorProto) -> bool
+pub fn is_proto3(proto: &FileDescriptorProto) -> bool
     ensures { result ≡ is_proto3 proto.now }
 {
     text_or_empty(&proto.syntax) == "proto3"

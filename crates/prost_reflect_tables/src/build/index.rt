@@ -32,7 +32,7 @@ pub struct Index {
 
 // DUPLICATE NAMES
 
-fn add_names<'f, 'a, R>(
+pub fn add_names<'f, 'a, R>(
     names: &mut Vec<&'f str>,
     more: &'f [Definition<'a, R>],
 ) -> Result<(), AllocError>
@@ -139,7 +139,7 @@ pub fn index_of(alloc: Global, names: &[&str]) -> Result<BTreeMap<String, usize>
     Ok(index)
 }
 
-fn message_names<'f, 'a>(
+pub fn message_names<'f, 'a>(
     alloc: Global,
     messages: &'f [FlatMessage<'a>],
 ) -> Result<Vec<&'f str>, AllocError>
@@ -152,7 +152,7 @@ fn message_names<'f, 'a>(
     Ok(names)
 }
 
-fn enum_names<'f, 'a>(alloc: Global, enums: &'f [FlatEnum<'a>]) -> Result<Vec<&'f str>, AllocError>
+pub fn enum_names<'f, 'a>(alloc: Global, enums: &'f [FlatEnum<'a>]) -> Result<Vec<&'f str>, AllocError>
     ensures { IfOk result (λ v. text_list v.items ≡ map (λ e. e.definition.full_name) (map enum_row enums.now)) }
 {
     let mut names = Vec::new(alloc);

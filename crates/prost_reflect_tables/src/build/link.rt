@@ -36,7 +36,7 @@ pub fn natural_or_zero(number: Option<i32>) -> u32
 }
 
 /// A place, unless it is absent or negative.
-fn place_in(index: Option<i32>) -> Option<usize>
+pub fn place_in(index: Option<i32>) -> Option<usize>
     ensures { result ≡ place_in index }
 {
     match index {
@@ -383,7 +383,7 @@ fn linked_messages(
 }
 
 /// The numbers of an enum's values, in the order of their declaration.
-fn value_numbers(
+pub fn value_numbers(
     alloc: Global,
     values: &[Definition<EnumValueDescriptorProto>],
 ) -> Result<Vec<i32>, AllocError>

@@ -24,7 +24,7 @@ fn place_of(index: &BTreeMap<String, usize>, name: &str) -> Option<usize>
     index.get(name).copied()
 }
 
-fn file_names<'f>(
+pub fn file_names<'f>(
     alloc: Global,
     files: &[&'f FileDescriptorProto],
 ) -> Result<Vec<&'f str>, AllocError>

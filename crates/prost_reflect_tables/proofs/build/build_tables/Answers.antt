@@ -6,10 +6,11 @@ use Rattle.prost_reflect_tables.specs.Linked.{is_linked}
 use Rattle.prost_reflect_tables.specs.InRange.{in_range}
 use Rattle.prost_reflect_tables.proofs.LinksWell.{links_well}
 use Rattle.prost_reflect_tables.proofs.Built.{are_tables_of}
+use Rattle.prost_reflect_tables.proofs.CatalogParts.{is_catalog_of}
 use Rattle.prost_reflect_tables.proofs.build.build_tables.Goals as goal
 
-pub invariant_of-result : goal.invariant_of-result
-invariant_of-result c =
+pub invariant_of-tables : goal.invariant_of-tables
+invariant_of-tables c =
     let rows = flat_rows c.in_ok-flat.flat in
     let linked : rows_from c.in_ok-messages.messages.items c.in_ok-messages.enums.items ≡ linked_rows rows = c.in_ok-messages.ensures.rows in
     let range : in_range (linked_rows rows) ≡ true = ap in_range (sym linked) ∙ c.in_ok-messages.ensures.range in
@@ -20,3 +21,6 @@ returns-clause-tables c =
     let flat = flat_rows c.in_ok-flat.flat in
     let linked : rows_from c.in_ok-messages.messages.items c.in_ok-messages.enums.items ≡ linked_rows flat = c.in_ok-messages.ensures.rows in
     are_tables_of (file_list c.args.files.now) flat (rows_from c.in_ok-messages.messages.items c.in_ok-messages.enums.items) c.in_ok-flat.ensures c.in_ok-index.ensures.ok linked
+
+pub returns-clause-catalog : goal.returns-clause-catalog
+returns-clause-catalog c = is_catalog_of (file_list c.args.files.now) (flat_rows c.in_ok-flat.flat) c.in_ok-catalog.catalog c.in_ok-flat.ensures c.in_ok-catalog.ensures

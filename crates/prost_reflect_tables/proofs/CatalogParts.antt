@@ -1,0 +1,69 @@
+-- Rows of a catalog are equal where their parts are.
+use Rattle.std.proofs.Common.{◌≡◌, ℕ, ◌+◌, suc, Bool, List, [], ◌∷◌, length, refl, ap, ◌∙◌}
+use Rattle.prost_reflect_tables.specs.CatalogRows.{FileRow, MessageListsRow, EnumListsRow, ExtensionRow, ServiceRow, SortedRow, CatalogRows, catalog_row}
+use Rattle.prost_reflect_types.specs.declared.FileDescriptorProto.{FileDescriptorProto}
+use Rattle.prost_reflect_types.specs.declared.FieldDescriptorProto.{FieldDescriptorProto}
+use Rattle.prost_reflect_tables.specs.declared.catalog.Catalog.{Catalog}
+use Rattle.prost_reflect_tables.specs.Flat.{DefinitionRow, FlatMessageRow, FlatRows, flattened}
+use Rattle.prost_reflect_tables.specs.Linking.{Links, messages_from, links_of, linked_rows}
+use Rattle.prost_reflect_tables.specs.LinkedCatalog.{linked_catalog, IsCatalogOf}
+use Rattle.prost_reflect_tables.specs.Rows.{TableRows}
+
+abbrev make_same_file : List ℕ → List ℕ → List ℕ → List ℕ → List ℕ → List ℕ → Bool → FileRow
+make_same_file x0 x1 x2 x3 x4 x5 x6 = record { messages = x0; enums = x1; extensions = x2; services = x3; dependencies = x4; public_dependencies = x5; is_proto3 = x6 }
+
+pub same_file : (a b : FileRow) → a.messages ≡ b.messages → a.enums ≡ b.enums → a.extensions ≡ b.extensions → a.services ≡ b.services → a.dependencies ≡ b.dependencies → a.public_dependencies ≡ b.public_dependencies → a.is_proto3 ≡ b.is_proto3 → a ≡ b
+same_file a b p0 p1 p2 p3 p4 p5 p6 =
+    ap (λ v. make_same_file v a.enums a.extensions a.services a.dependencies a.public_dependencies a.is_proto3) p0
+    ∙ (ap (λ v. make_same_file b.messages v a.extensions a.services a.dependencies a.public_dependencies a.is_proto3) p1
+    ∙ (ap (λ v. make_same_file b.messages b.enums v a.services a.dependencies a.public_dependencies a.is_proto3) p2
+    ∙ (ap (λ v. make_same_file b.messages b.enums b.extensions v a.dependencies a.public_dependencies a.is_proto3) p3
+    ∙ (ap (λ v. make_same_file b.messages b.enums b.extensions b.services v a.public_dependencies a.is_proto3) p4
+    ∙ (ap (λ v. make_same_file b.messages b.enums b.extensions b.services b.dependencies v a.is_proto3) p5
+    ∙ (ap (λ v. make_same_file b.messages b.enums b.extensions b.services b.dependencies b.public_dependencies v) p6))))))
+
+abbrev make_same_lists : List ℕ → List ℕ → List ℕ → List ℕ → List ℕ → MessageListsRow
+make_same_lists x0 x1 x2 x3 x4 = record { messages = x0; enums = x1; extensions = x2; extending = x3; by_name = x4 }
+
+pub same_lists : (a b : MessageListsRow) → a.messages ≡ b.messages → a.enums ≡ b.enums → a.extensions ≡ b.extensions → a.extending ≡ b.extending → a.by_name ≡ b.by_name → a ≡ b
+same_lists a b p0 p1 p2 p3 p4 =
+    ap (λ v. make_same_lists v a.enums a.extensions a.extending a.by_name) p0
+    ∙ (ap (λ v. make_same_lists b.messages v a.extensions a.extending a.by_name) p1
+    ∙ (ap (λ v. make_same_lists b.messages b.enums v a.extending a.by_name) p2
+    ∙ (ap (λ v. make_same_lists b.messages b.enums b.extensions v a.by_name) p3
+    ∙ (ap (λ v. make_same_lists b.messages b.enums b.extensions b.extending v) p4))))
+
+abbrev make_same_sorted : List ℕ → List ℕ → List ℕ → List ℕ → List ℕ → SortedRow
+make_same_sorted x0 x1 x2 x3 x4 = record { files = x0; messages = x1; enums = x2; extensions = x3; services = x4 }
+
+pub same_sorted : (a b : SortedRow) → a.files ≡ b.files → a.messages ≡ b.messages → a.enums ≡ b.enums → a.extensions ≡ b.extensions → a.services ≡ b.services → a ≡ b
+same_sorted a b p0 p1 p2 p3 p4 =
+    ap (λ v. make_same_sorted v a.messages a.enums a.extensions a.services) p0
+    ∙ (ap (λ v. make_same_sorted b.files v a.enums a.extensions a.services) p1
+    ∙ (ap (λ v. make_same_sorted b.files b.messages v a.extensions a.services) p2
+    ∙ (ap (λ v. make_same_sorted b.files b.messages b.enums v a.services) p3
+    ∙ (ap (λ v. make_same_sorted b.files b.messages b.enums b.extensions v) p4))))
+
+abbrev make_same_catalog : List FileRow → List MessageListsRow → List EnumListsRow → List ExtensionRow → List ServiceRow → SortedRow → CatalogRows
+make_same_catalog x0 x1 x2 x3 x4 x5 = record { files = x0; messages = x1; enums = x2; extensions = x3; services = x4; by_name = x5 }
+
+pub same_catalog : (a b : CatalogRows) → a.files ≡ b.files → a.messages ≡ b.messages → a.enums ≡ b.enums → a.extensions ≡ b.extensions → a.services ≡ b.services → a.by_name ≡ b.by_name → a ≡ b
+same_catalog a b p0 p1 p2 p3 p4 p5 =
+    ap (λ v. make_same_catalog v a.messages a.enums a.extensions a.services a.by_name) p0
+    ∙ (ap (λ v. make_same_catalog b.files v a.enums a.extensions a.services a.by_name) p1
+    ∙ (ap (λ v. make_same_catalog b.files b.messages v a.extensions a.services a.by_name) p2
+    ∙ (ap (λ v. make_same_catalog b.files b.messages b.enums v a.services a.by_name) p3
+    ∙ (ap (λ v. make_same_catalog b.files b.messages b.enums b.extensions v a.by_name) p4
+    ∙ (ap (λ v. make_same_catalog b.files b.messages b.enums b.extensions b.services v) p5)))))
+
+messages_length : (links : Links) (extensions : List (DefinitionRow FieldDescriptorProto)) (T : ℕ) (ms : List FlatMessageRow) → length (messages_from links extensions T ms) ≡ length ms
+messages_length links extensions T [] = refl
+messages_length links extensions T (m ∷ ms) = ap suc (messages_length links extensions (T + 1) ms)
+
+-- As many messages are linked as there are.
+pub linked_length : (linked : TableRows) (rows : FlatRows) → linked ≡ linked_rows rows → length linked.messages ≡ length rows.messages
+linked_length linked rows e = ap (λ (r : TableRows). length r.messages) e ∙ messages_length (links_of rows) rows.extensions 0 rows.messages
+
+pub is_catalog_of : (files : List FileDescriptorProto) (flat : FlatRows) (catalog : Catalog) → flat ≡ flattened files → catalog_row catalog ≡ linked_catalog files flat → IsCatalogOf files catalog
+unfolding IsCatalogOf
+is_catalog_of files flat catalog given is = is ∙ ap (linked_catalog files) given
