@@ -4,7 +4,7 @@ use Rattle.std.proofs.lemmas.List.{drop_all}
 use Rattle.std.specs.Prelude.{slice_get, unwrap_or}
 use Rattle.prost_reflect_tables.specs.Linking.{is_place}
 use Rattle.prost_reflect_tables.specs.Indexing.{empty_lists, with_item}
-use Rattle.prost_reflect_tables.specs.Gathered.{places_from, places_of, gathered}
+use Rattle.prost_reflect_tables.specs.Gathered.{places_from, all_places, places_of, gathered}
 
 -- Behind each list the places of the items that belong to its place, where the first item is at the place p and the first list at i.
 abbrev pub behind : {X : Type 0} → (X → Option ℕ) → ℕ → List X → ℕ → List (List ℕ) → List (List ℕ)
@@ -62,3 +62,16 @@ shown_gathered row owner xs given n count lists is size e =
 -- A copy of the list of a place.
 pub copied_at : {X : Type 0} (owner : X → Option ℕ) (xs : List X) (n k : ℕ) (lists : List (List ℕ)) (copy : List ℕ) → lists ≡ gathered owner xs 0 n → k < n → copy ≡ unwrap_or (slice_get lists k) [] → copy ≡ places_of owner xs k
 copied_at owner xs n k lists copy e h is = is ∙ (ap (λ (ls : List (List ℕ)). unwrap_or (slice_get ls k) []) e ∙ gathered_at owner xs n k h)
+
+-- As many texts have as many places.
+places_shown : {X Y : Type 0} (row : X → Y) (i : ℕ) (xs : List X) → places_from (λ (x : X). true) i xs ≡ places_from (λ (y : Y). true) i (map row xs)
+places_shown row i [] = refl
+places_shown row i (x ∷ xs) = ap (λ l. i ∷ l) (places_shown row (i + 1) xs)
+
+pub all_shown : {X Y : Type 0} (row : X → Y) (xs : List X) → all_places xs ≡ all_places (map row xs)
+all_shown row xs = places_shown row 0 xs
+
+-- What items belong to may be listed first.
+pub keys_gathered : {X : Type 0} (owner : X → Option ℕ) (xs : List X) (keys : List (Option ℕ)) (n count : ℕ) (lists : List (List ℕ)) → keys ≡ map owner xs → count ≡ n → lists ≡ gathered (λ k. k) keys 0 count → lists ≡ gathered owner xs 0 n
+keys_gathered owner xs keys n count lists is size e =
+    e ∙ (ap (λ ks. gathered (λ k. k) ks 0 count) is ∙ (ap (gathered (λ k. k) (map owner xs) 0) size ∙ sym (rows_gathered owner (λ k. k) xs 0 n)))

@@ -33,11 +33,7 @@ pub fn gathered<T, F: Fn(&T) -> Option<usize>>(
 /// # Errors
 ///
 /// `AllocError` if a growth was refused.
-pub fn list_at(
-    alloc: Global,
-    lists: &[Vec<usize>],
-    place: usize,
-) -> Result<Vec<usize>, AllocError>
+pub fn list_at(alloc: Global, lists: &[Vec<usize>], place: usize) -> Result<Vec<usize>, AllocError>
     ensures { IfOk result (λ v. v.items ≡ unwrap_or (slice_get (map (λ l. l.items) lists.now) place) []) }
 {
     match lists.get(place) {

@@ -152,7 +152,10 @@ pub fn message_names<'f, 'a>(
     Ok(names)
 }
 
-pub fn enum_names<'f, 'a>(alloc: Global, enums: &'f [FlatEnum<'a>]) -> Result<Vec<&'f str>, AllocError>
+pub fn enum_names<'f, 'a>(
+    alloc: Global,
+    enums: &'f [FlatEnum<'a>],
+) -> Result<Vec<&'f str>, AllocError>
     ensures { IfOk result (λ v. text_list v.items ≡ map (λ e. e.definition.full_name) (map enum_row enums.now)) }
 {
     let mut names = Vec::new(alloc);

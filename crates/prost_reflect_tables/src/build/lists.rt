@@ -86,7 +86,7 @@ fn extending(alloc: Global, index: &Index, flat: &Flat) -> Result<Vec<Vec<usize>
 {
     let places = extended_places(alloc, index, flat, flat.extensions.as_slice())?;
     let owner = |place: &Option<usize>| *place;
-    gathered(alloc, flat.messages.len(), places.as_slice(), &owner)
+    Ok(gathered(alloc, flat.messages.len(), places.as_slice(), &owner)?)
 }
 
 fn inner_places(alloc: Global, index: &Index, flat: &Flat) -> Result<InnerPlaces, AllocError>

@@ -10,8 +10,8 @@ use Rattle.std.specs.Prelude.{List}
 use Rattle.prost_reflect_tables.proofs.CatalogParts.{same_catalog, linked_length}
 use Rattle.prost_reflect_tables.proofs.build.catalog.linked_catalog.Goals as goal
 
-pub lists_of_messages-requires-messages : goal.lists_of_messages-requires-messages
-lists_of_messages-requires-messages c =
+pub lists_of_messages-requires-clause-messages : goal.lists_of_messages-requires-clause-messages
+lists_of_messages-requires-clause-messages c =
     ap (λ (ms : List MessageTable). length ms) c.as_slice.ensures.value
     ∙ (sym (length-map c.args.tables.now.messages.items message_row) ∙ linked_length (rows_of c.args.tables.now) (flat_rows c.args.flat.now) c.requires.tables)
 
