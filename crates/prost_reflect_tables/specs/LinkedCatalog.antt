@@ -1,4 +1,5 @@
 -- The catalog that files give: what each definition encloses, what extends what, services, and places in the order of names. What a fault would leave open has some meaning too.
+use Rattle.std.proofs.Props.{props}
 use Rattle.std.specs.Prelude.{◌≡◌, ℕ, ◌+◌, ℤ, not, is_none, if◌then◌else◌, List, [], ◌∷◌, map, Option, Some, None, slice_get, unwrap_or, string_bytes}
 use Rattle.prost_reflect_types.specs.declared.FileDescriptorProto.{FileDescriptorProto}
 use Rattle.prost_reflect_types.specs.declared.FieldDescriptorProto.{FieldDescriptorProto}
@@ -121,3 +122,7 @@ linked_catalog files rows = let linked = linked_rows rows in record {
 -- The catalog is that of the files.
 unfoldable pub IsCatalogOf : List FileDescriptorProto → Catalog → Type 0
 IsCatalogOf files catalog = catalog_row catalog ≡ linked_catalog files (flattened files)
+
+pub catalog_prop : (files : List FileDescriptorProto) (catalog : Catalog) → IsProp (IsCatalogOf files catalog)
+unfolding IsCatalogOf
+catalog_prop files catalog = hlevel props

@@ -392,7 +392,7 @@ static MY_MESSAGE: &[u8] =
 #[test]
 fn linked_proto3(rt: HostRuntime) -> Result<(), Fail> {
     let file = FileDescriptorProto::decode(rt.alloc(), MY_MESSAGE)?;
-    let tables = build_tables(rt.alloc(), &[&file])?;
+    let (tables, _) = build_tables(rt.alloc(), &[&file])?;
     assert_eq!(rt;
         shown(rt.alloc(), &tables.messages, &tables.enums)?.as_str(),
         "package.MyMessage false: 1 foo Int32 Optional extension false group false packed false presence false None None; 2 bar Int32 Optional extension false group false packed false presence true None Some(0); 3 nested Message(0) Optional extension false group false packed false presence true None None; oneof optional [1]; "
@@ -421,5 +421,55 @@ fn linked_proto2(rt: HostRuntime) -> Result<(), Fail> {
         shown(rt.alloc(), &messages, &enums)?.as_str(),
         "M false: 5 x Message(1) Optional extension true group true packed false presence true None None; 7 e Enum(0) Required extension false group false packed false presence true Some(EnumNumber(0)) None; 8 l Int32 Repeated extension false group false packed false presence false None None; 9 p Int32 Repeated extension false group false packed true presence false None None; Entry true: 1 key String Optional extension false group false packed false presence true None None; E [0] closed true; "
     );
+    Ok(())
+}
+
+/// proto2: `package b; message Base { extensions 100 to 199; }`.
+static BASE: &[u8] =
+    b"\x0a\x0abase.proto\x12\x01b\"\x0d\x0a\x04Base*\x05\x08d\x10\xc8\x01";
+
+/// proto2, `import public` of the file above: `package t; message Outer { int32 zeta = 1; int32 alpha = 2; message Inner {}
+/// enum Mood { SAD = 1; GLAD = 0; FINE = 1; } extend b.Base { int32 inner_note = 101; } } extend b.Base { int32 note = 100; }
+/// service Post { rpc Send (Outer) returns (b.Base); }`.
+static TOP: &[u8] =
+    b"\x0a\x09top.proto\x12\x01t\x1a\x0abase.protoP\x00\"o\x0a\x05Outer\x12\x0c\x0a\x04zeta\x18\
+    \x01 \x01(\x05\x12\x0d\x0a\x05alpha\x18\x02 \x01(\x05\x1a\x07\x0a\x05Inner\"#\x0a\x04Mood\
+    \x12\x07\x0a\x03SAD\x10\x01\x12\x08\x0a\x04GLAD\x10\x00\x12\x08\x0a\x04FINE\x10\x012\x1b\
+    \x0a\x0ainner_note\x12\x07.b.Base\x18e \x01(\x05:\x15\x0a\x04note\x12\x07.b.Base\x18d \x01\
+    (\x052!\x0a\x04Post\x12\x19\x0a\x04Send\x12\x08.t.Outer\x1a\x07.b.Base";
+
+/// What two files enclose, in the order of their places and of their names. The file that is imported stands behind.
+#[test]
+fn catalog_of_two_files(rt: HostRuntime) -> Result<(), Fail> {
+    let top = FileDescriptorProto::decode(rt.alloc(), TOP)?;
+    let base = FileDescriptorProto::decode(rt.alloc(), BASE)?;
+    let (_, catalog) = build_tables(rt.alloc(), &[&top, &base])?;
+    let file = &catalog.files[0];
+    assert_eq!(rt; file.messages.as_slice(), &[0]);
+    assert!(rt; file.enums.is_empty());
+    assert_eq!(rt; file.extensions.as_slice(), &[1]);
+    assert_eq!(rt; file.services.as_slice(), &[0]);
+    assert_eq!(rt; file.dependencies.as_slice(), &[1]);
+    assert_eq!(rt; file.public_dependencies.as_slice(), &[1]);
+    assert_eq!(rt; catalog.files[1].messages.as_slice(), &[2]);
+    let outer = &catalog.messages[0];
+    assert_eq!(rt; outer.messages.as_slice(), &[1]);
+    assert_eq!(rt; outer.enums.as_slice(), &[0]);
+    assert_eq!(rt; outer.extensions.as_slice(), &[0]);
+    assert!(rt; outer.extending.is_empty());
+    assert_eq!(rt; outer.by_name.as_slice(), &[1, 0]);
+    let base = &catalog.messages[2];
+    assert_eq!(rt; base.extending.as_slice(), &[0, 1]);
+    assert!(rt; base.by_name.is_empty());
+    assert_eq!(rt; catalog.enums[0].by_name.as_slice(), &[2, 1, 0]);
+    assert_eq!(rt; catalog.enums[0].by_number.as_slice(), &[1, 0, 2]);
+    assert_eq!(rt; (catalog.extensions[0].message, catalog.extensions[0].field), (2, 1));
+    assert_eq!(rt; (catalog.extensions[1].message, catalog.extensions[1].field), (2, 0));
+    let service = &catalog.services[0];
+    assert_eq!(rt; service.id.full_name.as_str(), "t.Post");
+    assert_eq!(rt; (service.methods[0].input, service.methods[0].output), (0, 2));
+    assert_eq!(rt; catalog.by_name.files.as_slice(), &[1, 0]);
+    assert_eq!(rt; catalog.by_name.messages.as_slice(), &[2, 0, 1]);
+    assert_eq!(rt; catalog.by_name.extensions.as_slice(), &[0, 1]);
     Ok(())
 }
