@@ -1,7 +1,6 @@
 //! Pools.
 
 ghost use Rattle.std.specs.Prelude.{◌≡◌, [], IsTrue};
-ghost use Rattle.std.specs.Coded.{prop_coded};
 ghost use Rattle.prost_reflect_types.specs.DescriptorViews.{shared_files};
 ghost use Rattle.prost_reflect_tables.specs.Built.{AreTablesOf};
 ghost use Rattle.prost_reflect_tables.specs.LinkedCatalog.{IsCatalogOf, catalog_prop};
@@ -20,7 +19,7 @@ pub struct LinkedPool {
     pub(crate) tables: Tables,
     pub(crate) catalog: Catalog,
     pub ghost built: { AreTablesOf (shared_files files.items) (rows_of tables) },
-    pub ghost listed: { IsCatalogOf (shared_files files.items) catalog } by { prop_coded (catalog_prop (shared_files files.items) catalog) },
+    pub ghost listed: { IsCatalogOf (shared_files files.items) catalog } by { catalog_prop (shared_files files.items) catalog },
     pub ghost names: { IsTrue (names_differ (shared_files files.items)) },
 }
 
@@ -85,7 +84,6 @@ impl LinkedPool {
         *self.files.allocator()
     }
 }
-
 
 /// The catalog of no files.
 fn empty_catalog(alloc: Global) -> Catalog

@@ -425,8 +425,7 @@ fn linked_proto2(rt: HostRuntime) -> Result<(), Fail> {
 }
 
 /// proto2: `package b; message Base { extensions 100 to 199; }`.
-static BASE: &[u8] =
-    b"\x0a\x0abase.proto\x12\x01b\"\x0d\x0a\x04Base*\x05\x08d\x10\xc8\x01";
+static BASE: &[u8] = b"\x0a\x0abase.proto\x12\x01b\"\x0d\x0a\x04Base*\x05\x08d\x10\xc8\x01";
 
 /// proto2, `import public` of the file above: `package t; message Outer { int32 zeta = 1; int32 alpha = 2; message Inner {}
 /// enum Mood { SAD = 1; GLAD = 0; FINE = 1; } extend b.Base { int32 inner_note = 101; } } extend b.Base { int32 note = 100; }
@@ -463,11 +462,20 @@ fn catalog_of_two_files(rt: HostRuntime) -> Result<(), Fail> {
     assert!(rt; base.by_name.is_empty());
     assert_eq!(rt; catalog.enums[0].by_name.as_slice(), &[2, 1, 0]);
     assert_eq!(rt; catalog.enums[0].by_number.as_slice(), &[1, 0, 2]);
-    assert_eq!(rt; (catalog.extensions[0].message, catalog.extensions[0].field), (2, 1));
-    assert_eq!(rt; (catalog.extensions[1].message, catalog.extensions[1].field), (2, 0));
+    assert_eq!(rt;
+        (catalog.extensions[0].message, catalog.extensions[0].field),
+        (2, 1)
+    );
+    assert_eq!(rt;
+        (catalog.extensions[1].message, catalog.extensions[1].field),
+        (2, 0)
+    );
     let service = &catalog.services[0];
     assert_eq!(rt; service.id.full_name.as_str(), "t.Post");
-    assert_eq!(rt; (service.methods[0].input, service.methods[0].output), (0, 2));
+    assert_eq!(rt;
+        (service.methods[0].input, service.methods[0].output),
+        (0, 2)
+    );
     assert_eq!(rt; catalog.by_name.files.as_slice(), &[1, 0]);
     assert_eq!(rt; catalog.by_name.messages.as_slice(), &[2, 0, 1]);
     assert_eq!(rt; catalog.by_name.extensions.as_slice(), &[0, 1]);
