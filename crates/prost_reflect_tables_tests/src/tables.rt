@@ -444,24 +444,24 @@ fn catalog_of_two_files(rt: HostRuntime) -> Result<(), Fail> {
     let base = FileDescriptorProto::decode(rt.alloc(), BASE)?;
     let (_, catalog) = build_tables(rt.alloc(), &[&top, &base])?;
     let file = &catalog.files[0];
-    assert_eq!(rt; file.messages.as_slice(), &[0]);
+    assert_eq!(rt; file.messages.as_slice(), [0].as_slice());
     assert!(rt; file.enums.is_empty());
-    assert_eq!(rt; file.extensions.as_slice(), &[1]);
-    assert_eq!(rt; file.services.as_slice(), &[0]);
-    assert_eq!(rt; file.dependencies.as_slice(), &[1]);
-    assert_eq!(rt; file.public_dependencies.as_slice(), &[1]);
-    assert_eq!(rt; catalog.files[1].messages.as_slice(), &[2]);
+    assert_eq!(rt; file.extensions.as_slice(), [1].as_slice());
+    assert_eq!(rt; file.services.as_slice(), [0].as_slice());
+    assert_eq!(rt; file.dependencies.as_slice(), [1].as_slice());
+    assert_eq!(rt; file.public_dependencies.as_slice(), [1].as_slice());
+    assert_eq!(rt; catalog.files[1].messages.as_slice(), [2].as_slice());
     let outer = &catalog.messages[0];
-    assert_eq!(rt; outer.messages.as_slice(), &[1]);
-    assert_eq!(rt; outer.enums.as_slice(), &[0]);
-    assert_eq!(rt; outer.extensions.as_slice(), &[0]);
+    assert_eq!(rt; outer.messages.as_slice(), [1].as_slice());
+    assert_eq!(rt; outer.enums.as_slice(), [0].as_slice());
+    assert_eq!(rt; outer.extensions.as_slice(), [0].as_slice());
     assert!(rt; outer.extending.is_empty());
-    assert_eq!(rt; outer.by_name.as_slice(), &[1, 0]);
+    assert_eq!(rt; outer.by_name.as_slice(), [1, 0].as_slice());
     let base = &catalog.messages[2];
-    assert_eq!(rt; base.extending.as_slice(), &[0, 1]);
+    assert_eq!(rt; base.extending.as_slice(), [0, 1].as_slice());
     assert!(rt; base.by_name.is_empty());
-    assert_eq!(rt; catalog.enums[0].by_name.as_slice(), &[2, 1, 0]);
-    assert_eq!(rt; catalog.enums[0].by_number.as_slice(), &[1, 0, 2]);
+    assert_eq!(rt; catalog.enums[0].by_name.as_slice(), [2, 1, 0].as_slice());
+    assert_eq!(rt; catalog.enums[0].by_number.as_slice(), [1, 0, 2].as_slice());
     assert_eq!(rt;
         (catalog.extensions[0].message, catalog.extensions[0].field),
         (2, 1)
@@ -476,8 +476,8 @@ fn catalog_of_two_files(rt: HostRuntime) -> Result<(), Fail> {
         (service.methods[0].input, service.methods[0].output),
         (0, 2)
     );
-    assert_eq!(rt; catalog.by_name.files.as_slice(), &[1, 0]);
-    assert_eq!(rt; catalog.by_name.messages.as_slice(), &[2, 0, 1]);
-    assert_eq!(rt; catalog.by_name.extensions.as_slice(), &[0, 1]);
+    assert_eq!(rt; catalog.by_name.files.as_slice(), [1, 0].as_slice());
+    assert_eq!(rt; catalog.by_name.messages.as_slice(), [2, 0, 1].as_slice());
+    assert_eq!(rt; catalog.by_name.extensions.as_slice(), [0, 1].as_slice());
     Ok(())
 }
