@@ -1,5 +1,5 @@
 -- The built-in files, linked.
-use Rattle.std.proofs.Common.{◌≡◌, ℕ, ◌+◌, pos, Bool, true, false, not, ◌||◌, ◌&&◌, nat_eq, length, List, [], ◌∷◌, ◌++◌, map, Option, None, Vec, refl, sym, ap, ap₂, ◌∙◌}
+use Rattle.std.proofs.Common.{◌≡◌, ℕ, ◌+◌, pos, Bool, true, false, not, ◌||◌, ◌&&◌, nat_eq, length, List, [], ◌∷◌, ◌++◌, map, Option, None, Vec, refl, sym, ap, ap₂, ◌∙◌, subst}
 use Rattle.std.specs.Prelude.{unwrap_or, bytes_eq, codes}
 use Rattle.std.specs.List.{list_any}
 use Rattle.std.specs.declared.alloc.Global.{Global}
@@ -188,3 +188,7 @@ both_linked files are =
 pub rows_built : (old new : LinkedPool) (files : List FileDescriptorProto) → IsPoolOf [] old → AreBuiltin files → IsPoolOf (added (files_of old) files) new → pool_rows new ≡ builtin_rows
 rows_built old new files none are is =
     linked_of _ _ is.built ∙ (ap (λ (fs : List FileDescriptorProto). linked_rows (flattened fs)) (ap (λ (o : List FileDescriptorProto). added o files) none.holds ∙ both_added files are) ∙ both_linked files are)
+
+pub files_built : (old new : LinkedPool) (files : List FileDescriptorProto) → IsPoolOf [] old → AreBuiltin files → IsPoolOf (added (files_of old) files) new → AreBuiltin (files_of new)
+files_built old new files none are is =
+    subst AreBuiltin (sym (is.holds ∙ (ap (λ (o : List FileDescriptorProto). added o files) none.holds ∙ both_added files are))) are
