@@ -51,9 +51,6 @@ module _ (m : DynamicMessage) (v : Value) (is : v ≡ values.Message m) where
   pub element_encodable : ElementWritable (value_of v) → encodable (content_of m) ≡ true
   element_encodable w = writable w
 
-  pub element_shown : (n : ℕ) (g : Bool) → element_bytes n g (value_of v) ≡ nested_bytes n g (content_of m)
-  element_shown n g = ap (element_bytes n g) seen
-
 pub no_element : (v : Value) → ElementWritable (value_of v) → ((m : DynamicMessage) → v ≡ values.Message m → ⊥) → ⊥
 no_element v w none = true≢false (sym (element_is_message (value_of v) w) ∙ no_message_value v none)
 
