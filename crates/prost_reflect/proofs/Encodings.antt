@@ -2,8 +2,7 @@
 use Rattle.prost_reflect_wire.specs.Sinks.{Adds}
 use Rattle.prost_reflect_wire.proofs.SinkSteps.{adds_in_turn, adds_same}
 use Rattle.prost_reflect_wire.proofs.WrittenRecords.{cut_before}
-use Rattle.std.proofs.Common.{◌≡◌, ℕ, true, cond, List, [], ◌∷◌, ◌++◌, map, nat_eq, Option, Some, None, refl, sym, ap, ap₂, ◌∙◌, subst, zero, suc, ◌+◌, ◌-◌, ◌^◌, ◌≤◌, ◌<◌, length, drop, get_or, arith, append_assoc}
-use Rattle.std.proofs.lemmas.List.{length-append}
+use Rattle.std.proofs.Common.{◌≡◌, ℕ, true, cond, List, [], ◌∷◌, ◌++◌, map, nat_eq, Option, Some, None, refl, sym, ap, ap₂, ◌∙◌, subst, zero, suc, ◌-◌, ◌≤◌, ◌<◌, length, drop, get_or, arith, append_assoc}
 use Rattle.std.proofs.lemmas.Bool.{eqb-true}
 use Rattle.std.specs.List.{list_all}
 use Rattle.std.specs.List.Sorted.{IsStrictlySortedBy}

@@ -1,5 +1,5 @@
 -- What is written of a list of scalars.
-use Rattle.std.proofs.Common.{◌≡◌, ℕ, zero, suc, ◌+◌, ◌-◌, ◌^◌, ◌≤◌, ◌<◌, slice_index_or, Bool, true, false, List, [], ◌∷◌, ◌++◌, map, flat_map, drop, length, Some, refl, sym, ap, ap₂, ◌∙◌, subst, append_assoc, append-nil, true≢false, arith, length-append}
+use Rattle.std.proofs.Common.{◌≡◌, ℕ, zero, suc, ◌<◌, slice_index_or, Bool, true, false, List, [], ◌∷◌, ◌++◌, map, flat_map, length, Some, refl, sym, ap, ap₂, ◌∙◌, subst, append_assoc, append-nil, true≢false, arith}
 use Rattle.std.specs.Prelude.{IsSomeAnd, Vec}
 use Rattle.std.specs.List.{AllByRecursion}
 use Rattle.std.specs.declared.alloc.Global.{Global}

@@ -42,12 +42,7 @@ use std::collections::BTreeMap;
 
 /// Adds the record of a message in front, or of a group.
 #[cycle(writing)]
-fn write_message<S: Sink>(
-    sink: &mut S,
-    number: u32,
-    is_group: bool,
-    message: &DynamicMessage,
-)
+fn write_message<S: Sink>(sink: &mut S, number: u32, is_group: bool, message: &DynamicMessage)
     requires encodable { encodable (content_of message.now) ≡ true }
     ensures { Adds S.added sink.old sink.new (nested_bytes number is_group (content_of message.now)) }
 {
@@ -83,11 +78,7 @@ fn write_body<S: Sink>(sink: &mut S, message: &DynamicMessage)
 }
 
 /// Adds the unknown fields at a number in front.
-fn write_unknown<S: Sink>(
-    sink: &mut S,
-    number: u32,
-    entry: &FieldSlot<Value>,
-)
+fn write_unknown<S: Sink>(sink: &mut S, number: u32, entry: &FieldSlot<Value>)
     requires { OwnUnknown number entry.now }
     ensures { Adds S.added sink.old sink.new (unknown_bytes number (entry_slot entry.now)) }
 {
@@ -98,12 +89,7 @@ fn write_unknown<S: Sink>(
 
 /// Adds what is kept of a field's value in front.
 #[cycle(writing)]
-fn write_value<S: Sink>(
-    sink: &mut S,
-    message_type: &PooledType,
-    number: u32,
-    value: &Value,
-)
+fn write_value<S: Sink>(sink: &mut S, message_type: &PooledType, number: u32, value: &Value)
     requires writable { ValueWritable (known_of message_type.now) number (value_of value.now) }
     ensures { Adds S.added sink.old sink.new (value_bytes (known_of message_type.now) number (value_of value.now)) }
 {
@@ -171,12 +157,7 @@ fn write_elements<S: Sink>(
 
 /// Adds the records of messages, or of groups, in front, one for each.
 #[cycle(writing)]
-fn write_messages<S: Sink>(
-    sink: &mut S,
-    number: u32,
-    is_group: bool,
-    values: &Vec<Value>,
-)
+fn write_messages<S: Sink>(sink: &mut S, number: u32, is_group: bool, values: &Vec<Value>)
     requires { AreElements values.now.items }
     ensures { Adds S.added sink.old sink.new (elements_bytes number is_group values.now.items) }
 {

@@ -10,11 +10,7 @@ use prost_reflect_tables::{FieldTable, TableKind};
 use prost_reflect_wire::{Sink, WireType, write_key};
 
 /// Adds the payloads of scalars in front, end to end.
-fn write_payloads<S: Sink>(
-    sink: &mut S,
-    kind: TableKind,
-    values: &[Value],
-)
+fn write_payloads<S: Sink>(sink: &mut S, kind: TableKind, values: &[Value])
     requires { TakesScalars kind values.now }
     ensures { Adds S.added sink.old sink.new (payloads_bytes kind values.now) }
 {
@@ -24,12 +20,7 @@ fn write_payloads<S: Sink>(
 }
 
 /// Adds the records of scalars in front, one for each.
-fn write_records<S: Sink>(
-    sink: &mut S,
-    number: u32,
-    kind: TableKind,
-    values: &[Value],
-)
+fn write_records<S: Sink>(sink: &mut S, number: u32, kind: TableKind, values: &[Value])
     requires { TakesScalars kind values.now }
     ensures { Adds S.added sink.old sink.new (records_bytes number kind values.now) }
 {
@@ -39,12 +30,7 @@ fn write_records<S: Sink>(
 }
 
 /// Adds one record of all scalars in front.
-fn write_packed<S: Sink>(
-    sink: &mut S,
-    number: u32,
-    kind: TableKind,
-    values: &[Value],
-)
+fn write_packed<S: Sink>(sink: &mut S, number: u32, kind: TableKind, values: &[Value])
     requires { TakesScalars kind values.now }
     ensures { Adds S.added sink.old sink.new (packed_bytes number kind values.now) }
 {
@@ -55,12 +41,7 @@ fn write_packed<S: Sink>(
 }
 
 /// Adds what is written of a list in front: one record where it is packed, else one for each element; nothing of an empty one.
-pub(crate) fn write_list<S: Sink>(
-    sink: &mut S,
-    number: u32,
-    field: &FieldTable,
-    values: &[Value],
-)
+pub(crate) fn write_list<S: Sink>(sink: &mut S, number: u32, field: &FieldTable, values: &[Value])
     requires { TakesScalars (field_row field.now).kind values.now }
     ensures { Adds S.added sink.old sink.new (list_bytes number (field_row field.now).is_packed (field_row field.now).kind values.now) }
 {

@@ -1,4 +1,4 @@
-use Rattle.std.proofs.Common.{rules, ◌≡◌, refl, ◌∷◌, Some, ap, sym, subst, ◌∙◌, inl, inr, ◌⊎◌, arith, ◌-◌}
+use Rattle.std.proofs.Common.{rules, ◌≡◌, ◌∷◌, Some, ap, sym, subst, ◌∙◌, inl, inr, ◌⊎◌, arith, ◌-◌}
 use Rattle.prost_reflect_wire.proofs.SinkSteps.{adds_in_turn, adds_same}
 use Rattle.prost_reflect_tables.specs.Rows.{field_row}
 use Rattle.prost_reflect_pool.specs.SharedPools.{pool_rows}

@@ -1,4 +1,3 @@
-use Rattle.std.proofs.Common.{arith, sym}
 use Rattle.prost_reflect_tables.specs.Rows.{field_row}
 use Rattle.prost_reflect.specs.View.{value_of}
 use Rattle.prost_reflect.proofs.ScalarRefs.{takes_scalar}
