@@ -41,18 +41,11 @@ element_is_message (contents.ScalarValue s) w = absurd w
 element_is_message (ListValue vs) w = absurd w
 element_is_message (contents.MapValue ps) w = absurd w
 
-module _ (m : DynamicMessage) (v : Value) (is : v ≡ values.Message m) where
-  seen : value_of v ≡ MessageValue (content_of m)
-  seen = ap value_of is ∙ value_of_message m
-
-  writable : ElementWritable (value_of v) → ElementWritable (MessageValue (content_of m))
-  writable w = subst ElementWritable (ap value_of is ∙ value_of_message m) w
-
-  pub element_encodable : ElementWritable (value_of v) → encodable (content_of m) ≡ true
-  element_encodable w = writable w
-
-  pub element_shown : (n : ℕ) (g : Bool) → element_bytes n g (value_of v) ≡ nested_bytes n g (content_of m)
-  element_shown n g = ap (element_bytes n g) seen
+pub element_encodable : (m : DynamicMessage) (v : Value) → v ≡ values.Message m → ElementWritable (value_of v) → encodable (content_of m) ≡ true
+element_encodable m v is w = go (subst ElementWritable (ap value_of is ∙ value_of_message m) w)
+  where
+    go : ElementWritable (MessageValue (content_of m)) → encodable (content_of m) ≡ true
+    go w = w
 
 pub no_element : (v : Value) → ElementWritable (value_of v) → ((m : DynamicMessage) → v ≡ values.Message m → ⊥) → ⊥
 no_element v w none = true≢false (sym (element_is_message (value_of v) w) ∙ no_message_value v none)

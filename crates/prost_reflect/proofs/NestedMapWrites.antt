@@ -1,5 +1,5 @@
 -- What is written of a map of messages.
-use Rattle.std.proofs.Common.{◌≡◌, ℕ, ◌+◌, ◌^◌, ◌≤◌, true, false, ◌&&◌, List, [], ◌∷◌, ◌++◌, length, map, flat_map, Some, refl, sym, ap, ap₂, ◌∙◌, subst, append_assoc, append-nil, true≢false, arith, length-append}
+use Rattle.std.proofs.Common.{◌≡◌, ℕ, ◌≤◌, true, false, ◌&&◌, List, [], ◌∷◌, ◌++◌, map, Some, refl, sym, ap, ap₂, ◌∙◌, subst, append-nil, true≢false, arith}
 use denote.Param.Weighed.{most}
 use Rattle.std.specs.BTreeMap.{BTreeMap}
 use Rattle.prost_reflect_wire.specs.declared.key.WireType.TheVariants as wires
@@ -125,25 +125,6 @@ module _ (d : PooledType) (n : ℕ) (key value : FieldRow) (v : Value) (m : Nest
   nested_value_bytes pairs is = ap (value_bytes (known_of d) n) (ap value_of is ∙ value_of_map pairs) ∙ (nested_rows_written pairs is).bytes
 
 -- ENTRIES FROM THE LAST ON
-
-module _ {A : Type 0} (f : A → List ℕ) where
-  flat_behind : (xs ys : List A) → flat_map f (xs ++ ys) ≡ flat_map f xs ++ flat_map f ys
-  flat_behind [] ys = refl
-  flat_behind (x ∷ xs) ys = ap (λ l. f x ++ l) (flat_behind xs ys) ∙ sym (append_assoc (f x) (flat_map f xs) (flat_map f ys))
-
-  -- a length that is too great before the whole is written
-  pub flat_part_too_long : (items left done : List A) (x : A) (old mid : List ℕ) → items ≡ left ++ x ∷ done → mid ≡ flat_map f done ++ old → 2 ^ 64 ≤ length (f x) + length mid → 2 ^ 64 ≤ length (flat_map f items) + length old
-  flat_part_too_long items left done x old mid cut m h =
-      omega (
-        arith,
-        h,
-        ap length m,
-        length-append (flat_map f done) old,
-        ap (λ l. length (flat_map f l)) cut,
-        ap (λ (l : List ℕ). length l) (flat_behind left (x ∷ done)),
-        length-append (flat_map f left) (flat_map f (x ∷ done)),
-        length-append (f x) (flat_map f done),
-      )
 
 -- no item weighs more than the list
 most_among : {A B : Type 0} (f : A → B) (weight : B → ℕ) (left done : List A) (x : A) → weight (f x) ≤ most weight (map f (left ++ x ∷ done))

@@ -1,5 +1,5 @@
 -- What is written of a list of scalars.
-use Rattle.std.proofs.Common.{◌≡◌, ℕ, zero, suc, ◌+◌, ◌-◌, ◌^◌, ◌≤◌, ◌<◌, slice_index_or, Bool, true, false, List, [], ◌∷◌, ◌++◌, map, flat_map, drop, length, Some, refl, sym, ap, ap₂, ◌∙◌, subst, append_assoc, append-nil, true≢false, arith, length-append}
+use Rattle.std.proofs.Common.{◌≡◌, ℕ, zero, suc, ◌<◌, slice_index_or, Bool, true, false, List, [], ◌∷◌, ◌++◌, map, flat_map, length, Some, refl, sym, ap, ap₂, ◌∙◌, subst, append_assoc, append-nil, true≢false, arith}
 use Rattle.std.specs.Prelude.{IsSomeAnd, Vec}
 use Rattle.std.specs.List.{AllByRecursion}
 use Rattle.std.specs.declared.alloc.Global.{Global}
@@ -30,22 +30,6 @@ use Rattle.prost_reflect.proofs.WrittenValues.{passing}
 use Rattle.prost_reflect.specs.View.{value_of}
 use Rattle.prost_reflect.specs.Scalars.{plain_kind, scalar_bytes, scalar_record_bytes}
 use Rattle.prost_reflect.specs.Lists.{IsList, TakesScalars, list_bytes}
-
--- ITEMS FROM THE LAST ON
-
-module _ {A : Type 0} (f : A → List ℕ) where
-  pub flat_before : (items rest : List A) (x : A) (old mid new : List ℕ) → items ≡ x ∷ rest → mid ≡ flat_map f rest ++ old → new ≡ f x ++ mid → new ≡ flat_map f items ++ old
-  flat_before items rest x old mid new cut m n = n ∙ ap (λ l. f x ++ l) m ∙ sym (append_assoc (f x) (flat_map f rest) old) ∙ ap (λ items. flat_map f items ++ old) (sym cut)
-
-  flat_drop : (i : ℕ) (items : List A) → length (flat_map f (drop i items)) ≤ length (flat_map f items)
-  flat_drop zero items = omega arith
-  flat_drop (suc i) [] = omega arith
-  flat_drop (suc i) (x ∷ items) = omega (arith, flat_drop i items, length-append (f x) (flat_map f items))
-
-  -- a length that is too great before the whole is written
-  pub flat_too_long : (items : List A) (i : ℕ) (x : A) (old mid : List ℕ) → drop (i - 1) items ≡ x ∷ drop i items → mid ≡ flat_map f (drop i items) ++ old → 2 ^ 64 ≤ length (f x) + length mid → 2 ^ 64 ≤ length (flat_map f items) + length old
-  flat_too_long items i x old mid cut is h =
-      omega (arith, h, ap length is, length-append (flat_map f (drop i items)) old, ap (λ (l : List A). length (flat_map f l)) cut, length-append (f x) (flat_map f (drop i items)), flat_drop (i - 1) items)
 
 -- what holds of each holds of one
 pub holds_at : {A : Type 0} (P : A → Type 0) (xs : List A) (i : ℕ) (x : A) → i < length xs → x ≡ slice_index_or xs i x → AllByRecursion P xs → P x
