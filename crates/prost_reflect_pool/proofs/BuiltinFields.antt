@@ -40,6 +40,7 @@ pub record IsScalar (x : ℕ × List ℕ) (f : FieldDescriptorProto) : Type 0 wh
   pub no_default : f.default_value ≡ None
   pub no_options : f.options ≡ None
   pub no_oneof : f.oneof_index ≡ None
+  pub no_json_name : f.json_name ≡ None
   pub unmarked : f.proto3_optional ≡ None
 
 pub is_scalar : (f : FieldDescriptorProto) (x : ℕ × List ℕ) → field_view f ≡ scalar_view (pos x.0) x.1 → IsScalar x f
@@ -52,6 +53,7 @@ is_scalar f x e = record {
   no_default = text_none f.default_value (ap (λ (v : FieldView). v.default_value) e);
   no_options = bytes_none f.options (ap (λ (v : FieldView). v.options) e);
   no_oneof = ap (λ (v : FieldView). v.oneof_index) e;
+  no_json_name = text_none f.json_name (ap (λ (v : FieldView). v.json_name) e);
   unmarked = ap (λ (v : FieldView). v.proto3_optional) e;
 }
 

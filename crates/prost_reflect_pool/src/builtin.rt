@@ -41,7 +41,7 @@ pub fn builtin_pool(alloc: Global) -> Result<LinkedPool, PoolError>
     ensures files { IfOk result (λ pool. AreBuiltin (files_of pool)) }
     ensures rows { IfOk result (λ pool. pool_rows pool ≡ builtin_rows) }
     ensures schema { IfOk result (λ pool. schema_from (pool_rows pool) ≡ builtin_schema) }
-    ensures names { IfOk result (λ pool. map (λ m. m.full_name) (pool_rows pool).messages ≡ builtin_names) }
+    ensures names { IfOk result (λ pool. map (λ m. m.id.full_name) (pool_rows pool).messages ≡ builtin_names) }
     ensures refused { IfErr result (λ e. e ≡ pool_errors.OutOfMemory) }
 {
     let none = LinkedPool::new(alloc);

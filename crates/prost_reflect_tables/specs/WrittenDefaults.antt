@@ -142,7 +142,7 @@ unescaped text = unescaped_in (length text) text
 
 -- The number of the first value of a name.
 abbrev pub number_named : List EnumValueRow → List ℕ → Option ℤ
-number_named values name = option_map (λ v. v.number) (find (λ v. bytes_eq v.name name) values)
+number_named values name = option_map (λ v. v.number) (find (λ v. bytes_eq v.id.name name) values)
 
 -- ALL KINDS
 

@@ -13,6 +13,7 @@ use crate::error::PoolError;
 
 pub mod defaults;
 pub mod flatten;
+pub mod identity;
 pub mod index;
 pub mod link;
 pub mod names;

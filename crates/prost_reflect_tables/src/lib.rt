@@ -23,5 +23,6 @@ pub use examples::{
 };
 pub use laws::{equal_files, files_equality, tables_equality};
 pub use tables::{
-    Cardinality, EnumTable, FieldTable, MessageTable, OneofTable, TableKind, Tables, WrittenDefault,
+    Cardinality, EnumTable, EnumValueTable, FieldTable, Identity, MessageTable, OneofTable,
+    TableKind, Tables, WrittenDefault,
 };
