@@ -10,12 +10,12 @@ use Rattle.std.proofs.Math.Bool.{or-false, or-true}
 use Rattle.prost_reflect_wire.specs.Varint.{◌>>=◌}
 use Rattle.prost_reflect_wire.specs.Record.{Len, Var, Plain, Payload, Flat, Record, Records, items, payload_levels, body_of, spelled, payload_valid, valid, short_body}
 use Rattle.prost_reflect_wire.specs.Scalar.{Scalar, ScalarKind, Enum, written, is_undeclared}
-use Rattle.prost_reflect_wire.specs.Schema.{Kind, ScalarOf, MessageOf, GroupOf, ValueType, FieldForm, Singular, Repeated, MapFrom, Field, Schema, known, field_of, is_message, is_singular, is_key_kind, is_packable_kind, field_valid, schema_valid, passes}
+use Rattle.prost_reflect_wire.specs.Schema.{Kind, ScalarOf, MessageOf, GroupOf, ValueType, FieldForm, Singular, Repeated, MapFrom, Field, Schema, known, field_of, is_message, is_singular, is_key_kind, is_packable_kind, field_valid, schema_valid, passes, is_list}
 use Rattle.prost_reflect_wire.specs.Content.{Content, ContentOf, Entries, NoEntries, Stored, Unknown, Value, ScalarValue, MessageValue, ListValue, MapValue, Values, NoValues, Item, Pairs, NoPairs, Pair, schema_of, type_of}
 use Rattle.prost_reflect_wire.specs.Grammar.{or_none, fits, body, records_in, numbered, last, AllowsInside, is_len, one_allowed, packed_allowed, in_entry_allowed, has_level, field_allowed, record_allowed, nothing_inside, allows, is_stray, is_stray_entry}
 use Rattle.prost_reflect_wire.specs.Writing.{record_at, scalar_payload, message_payload, is_default_of, entry_record, end_to_end, list_payloads, records, entries_records, field_payloads, value_payload, element_payloads, pair_payload, pair_payloads, key_of}
 use Rattle.prost_reflect_wire.specs.Levels.{greatest_level, stray_levels, unknown_levels, levels, entries_levels, value_levels, values_levels, pairs_levels}
-use Rattle.prost_reflect_wire.specs.Typing.{kind_takes, is_list, element_valid, elements_valid, pairs_valid, value_valid, is_whole_stray, unknown_fits, entries_pass, value_passes, values_pass, pairs_pass, fit_test, encodable, is_of_type, Typed, EntriesTyped, ValueTyped, ValuesTyped, PairsTyped}
+use Rattle.prost_reflect_wire.specs.Typing.{kind_takes, element_valid, elements_valid, pairs_valid, value_valid, is_whole_stray, unknown_fits, entries_pass, value_passes, values_pass, pairs_pass, fit_test, encodable, is_of_type, Typed, EntriesTyped, ValueTyped, ValuesTyped, PairsTyped}
 use Rattle.prost_reflect_wire.proofs.Deeper.{flat_fits}
 use Rattle.prost_reflect_wire.proofs.Reading.{spelled_read}
 use Rattle.prost_reflect_wire.proofs.Shortest.{short_spells}

@@ -11,16 +11,17 @@ use Rattle.prost_reflect_wire.specs.declared.key.WireType.TheVariants as wires
 use Rattle.prost_reflect_wire.specs.Varint.{AreBytes}
 use Rattle.prost_reflect_wire.specs.Record.{Plain, Len, Records, NoRecords, record_at, Payload, Flat, Group, before, items, payload_levels, plain_wire, payload_wire, read}
 use Rattle.prost_reflect_wire.specs.Scalar.{ScalarKind, kind_wire}
-use Rattle.prost_reflect_wire.specs.Schema.{Kind, ScalarOf, MessageOf, GroupOf, ValueType, FieldForm, Singular, Repeated, MapFrom, Field, Schema, is_packable, is_message, passes}
+use Rattle.prost_reflect_wire.specs.Schema.{Kind, ScalarOf, MessageOf, GroupOf, ValueType, FieldForm, Singular, Repeated, MapFrom, Field, Schema, is_packable, is_message, passes, is_map}
 use Rattle.prost_reflect_wire.specs.Grammar.{AllowsInside, body, one_allowed, packed_allowed, has_level, in_entry_allowed, field_allowed, unpacked}
 use Rattle.prost_reflect_wire.specs.Front.{KeyFront, PlainFront, DelimitedFront, PayloadFront, KeyFault, PlainFault}
-use Rattle.prost_reflect_wire.specs.Fault.{Place, OfType, OfEntry, OfNothing, field_at, TextNext, PackedNext, same_wire, one_takes, packed_takes, takes, needs_level, opens_level, is_map, Stands, Here, Behind, InMessage, InGroup, InUnknown, InEntry}
+use Rattle.prost_reflect_wire.specs.Fault.{Place, OfType, OfEntry, OfNothing, field_at, TextNext, PackedNext, same_wire, one_takes, packed_takes, takes, needs_level, opens_level, Stands, Here, Behind, InMessage, InGroup, InUnknown, InEntry}
 use Rattle.prost_reflect_wire.proofs.Reading.{spelled_read}
 use Rattle.prost_reflect_wire.proofs.PlainFronts.{plain_delimited, delimited_plain}
 use Rattle.prost_reflect_wire.proofs.RecordFronts.{record_front, first_front, none_front, key_shorter, payload_no_longer}
 use Rattle.prost_reflect_laws.proofs.BodyFronts.{key_bytes, payload_bytes, delimited_bytes}
 use Rattle.prost_reflect_wire.proofs.PlaceFaults.{key_stands, end_stands, plain_stands}
-use Rattle.prost_reflect_laws.proofs.Places.{inner, payload_allowed, allowed_at, allows_at, Ended, Body, items_first, body_spells, passes_body, levels_outside, entry_same, len_no_end}
+use Rattle.prost_reflect_wire.proofs.Bodies.{items_before}
+use Rattle.prost_reflect_laws.proofs.Places.{inner, payload_allowed, allowed_at, allows_at, Ended, Body, body_spells, passes_body, levels_outside, entry_same, len_no_end}
 use Rattle.prost_reflect_laws.proofs.FrontOrFault.{SomeFault, SomeKey, key_or, SomePlain, plain_or}
 use Rattle.prost_reflect_laws.proofs.KindsAllowed.{same_is, kind_no_start, kind_no_end, BadText, wire_fits, one_field, packed_field, elements_or, element_name}
 
@@ -333,7 +334,7 @@ first_body schema place n p mid behind small key front allowed x = record {
     end = x.body.end;
     records = first_front (record_at n p) x.records place.bytes behind x.body.end (record_front n p place.bytes mid behind key front) x.body.records;
     ends = x.body.ends;
-    allowed = ap (list_all (allowed_at schema place)) (items_first n p x.records) ∙ ap₂ ◌&&◌ allowed x.body.allowed;
+    allowed = ap (list_all (allowed_at schema place)) (items_before (record_at n p) x.records) ∙ ap₂ ◌&&◌ allowed x.body.allowed;
   };
 }
 

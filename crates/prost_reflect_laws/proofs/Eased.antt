@@ -5,10 +5,10 @@ use Rattle.std.proofs.lemmas.Bool.{and_parts, and_from}
 use Rattle.std.proofs.Math.Bool.{or-true}
 use Rattle.prost_reflect_wire.specs.Record.{Payload, Record, spelled, payload_valid}
 use Rattle.prost_reflect_wire.specs.Scalar.{Scalar, Enum, Closed}
-use Rattle.prost_reflect_wire.specs.Schema.{Kind, ScalarOf, MessageOf, GroupOf, ValueType, FieldForm, Singular, Repeated, MapFrom, Field, MessageType, Schema, message_type, known, field_of, same_oneof, is_sibling, is_message, is_singular, is_bare, message_has_presence, kind_valid, form_valid, field_valid, numbers_differ, schema_valid, passes}
+use Rattle.prost_reflect_wire.specs.Schema.{Kind, ScalarOf, MessageOf, GroupOf, ValueType, FieldForm, Singular, Repeated, MapFrom, Field, MessageType, Schema, message_type, known, field_of, same_oneof, is_sibling, is_message, is_singular, is_bare, message_has_presence, kind_valid, form_valid, field_valid, numbers_differ, schema_valid, passes, is_list}
 use Rattle.prost_reflect_wire.specs.Content.{Content, ContentOf, Entries, NoEntries, Stored, Unknown, Value, ScalarValue, MessageValue, ListValue, MapValue, Values, NoValues, Item, Pairs, NoPairs, Pair, schema_of, type_of, comes_before, key_before, ordered, entries_ordered, value_ordered, values_ordered, pairs_ordered}
 use Rattle.prost_reflect_wire.specs.Writing.{record_at, message_payload, is_default_of, entry_payload, list_payloads, key_of, records, entries_records, field_payloads, value_payload, element_payloads, pair_payloads, encoded}
-use Rattle.prost_reflect_wire.specs.Typing.{kind_takes, is_list, element_valid, elements_valid, pairs_valid, value_valid, is_whole_stray, unknown_fits, EntryTest, everywhere, entries_pass, value_passes, values_pass, pairs_pass, fit_test, has_value_of, is_alone, alone_test, is_empty_value, is_stored_default, filled_test, default_test, kind_for, IsOf, Typed, EntriesTyped, ValueTyped, ValuesTyped, PairsTyped}
+use Rattle.prost_reflect_wire.specs.Typing.{kind_takes, element_valid, elements_valid, pairs_valid, value_valid, is_whole_stray, unknown_fits, EntryTest, everywhere, entries_pass, value_passes, values_pass, pairs_pass, fit_test, is_alone, alone_test, is_empty_value, is_stored_default, filled_test, default_test, kind_for, IsOf, Typed, EntriesTyped, ValueTyped, ValuesTyped, PairsTyped}
 use Rattle.prost_reflect_laws.specs.Laws.{Writable, Spellable}
 use Rattle.prost_reflect_laws.proofs.Checked.{CheckedField, checked_field, CheckedList, checked_list, CheckedMap, checked_map}
 use Rattle.prost_reflect_laws.proofs.Everywhere.{stored_passes}
@@ -212,17 +212,12 @@ fits_eased = record {
     unknown n p (Some f) h = ap (λ b. payload_valid p && b) (stray_same f p) ∙ h
 
 empty_same : (c : FieldForm) (v : Value) → is_empty_value c (eased_value v) ≡ is_empty_value c v
-empty_same Singular v = refl
-empty_same (Repeated packed) (ScalarValue v) = refl
-empty_same (Repeated packed) (MessageValue c) = refl
-empty_same (Repeated packed) (ListValue NoValues) = refl
-empty_same (Repeated packed) (ListValue (Item v vs)) = refl
-empty_same (Repeated packed) (MapValue ps) = refl
-empty_same (MapFrom key) (ScalarValue v) = refl
-empty_same (MapFrom key) (MessageValue c) = refl
-empty_same (MapFrom key) (ListValue vs) = refl
-empty_same (MapFrom key) (MapValue NoPairs) = refl
-empty_same (MapFrom key) (MapValue (Pair k v ps)) = refl
+empty_same c (ScalarValue v) = refl
+empty_same c (MessageValue d) = refl
+empty_same c (ListValue NoValues) = refl
+empty_same c (ListValue (Item v vs)) = refl
+empty_same c (MapValue NoPairs) = refl
+empty_same c (MapValue (Pair k v ps)) = refl
 
 filled_eased : Eases filled_test filled_test
 filled_eased = record {

@@ -6,11 +6,11 @@ use Rattle.prost_reflect_wire.specs.declared.key.WireType.TheVariants as wires
 use Rattle.prost_reflect_wire.specs.Varint.{◌>>=◌}
 use Rattle.prost_reflect_wire.specs.Record.{Len, Records, Record, Payload, Flat, Group, items, body_of, raw_levels}
 use Rattle.prost_reflect_wire.specs.Front.{KeyFront, DelimitedFront, ValueFront}
-use Rattle.prost_reflect_wire.specs.Schema.{Kind, ScalarOf, MessageOf, GroupOf, Repeated, Field, Schema, known, field_of, numbers_differ, passes}
+use Rattle.prost_reflect_wire.specs.Schema.{Kind, ScalarOf, MessageOf, GroupOf, Repeated, Field, Schema, known, field_of, numbers_differ, passes, is_list}
 use Rattle.prost_reflect_wire.specs.Content.{Content, ContentOf, Entries, Value, ScalarValue, MessageValue, ListValue, MapValue, Values, NoValues, Item, values_from, ◌and_then◌, value_at, slot_at, changed, empty, type_of, value_ordered, values_ordered}
 use Rattle.prost_reflect_wire.specs.Grammar.{body, or_none, records_in, is_stray, one_allowed, packed_allowed, field_allowed, element_payloads_in, value_payloads, stray_payloads}
 use Rattle.prost_reflect_wire.specs.Meaning.{MeansInside, element, present_list, values_in, value_joined, steps}
-use Rattle.prost_reflect_wire.specs.Typing.{kept, kept_value, kept_inside, kept_values, is_list, elements_valid, value_valid, EntryTest, value_passes, values_pass, fit_test, alone_test, kind_for, ValueTyped, ValuesTyped, WellStored, ValueStored}
+use Rattle.prost_reflect_wire.specs.Typing.{kept, kept_value, kept_inside, kept_values, elements_valid, value_valid, EntryTest, value_passes, values_pass, fit_test, alone_test, kind_for, ValueTyped, ValuesTyped, WellStored, ValueStored}
 use Rattle.prost_reflect_wire.specs.Edit.{message_of}
 use Rattle.prost_reflect_wire.specs.Levels.{greatest_level}
 use Rattle.prost_reflect_wire.specs.Storing.{with_stored}

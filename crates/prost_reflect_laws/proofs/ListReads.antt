@@ -7,11 +7,11 @@ use Rattle.prost_reflect_wire.specs.Varint.{AreBytes}
 use Rattle.prost_reflect_wire.specs.Record.{Payload, Flat, payload_valid, record_at}
 use Rattle.prost_reflect_wire.specs.Front.{ValueFront}
 use Rattle.prost_reflect_wire.specs.Scalar.{Scalar, ScalarKind, elem, is_undeclared, scalar_valid}
-use Rattle.prost_reflect_wire.specs.Schema.{Kind, ScalarOf, Repeated, Field, Schema, known, field_of, is_sibling, is_singular, numbers_differ, passes}
+use Rattle.prost_reflect_wire.specs.Schema.{Kind, ScalarOf, Repeated, Field, Schema, known, field_of, is_sibling, is_singular, numbers_differ, passes, is_list}
 use Rattle.prost_reflect_wire.specs.Content.{Content, ContentOf, Entries, Value, ScalarValue, MessageValue, ListValue, MapValue, Values, NoValues, Item, values_from, ◌and_then◌, Slot, schema_of, type_of, entries_of, value_at, unknowns_at, slot_at, changed, entries_ordered, values_ordered}
 use Rattle.prost_reflect_wire.specs.Grammar.{field_allowed, one_allowed, packed_allowed, element_payloads_in, is_stray, value_payloads, stray_payloads}
 use Rattle.prost_reflect_wire.specs.Meaning.{element, scalar_values, values_in}
-use Rattle.prost_reflect_wire.specs.Typing.{fit_test, alone_test, EntryTest, element_valid, elements_valid, value_valid, is_list, pairs_valid, value_passes, values_pass, entries_pass, kind_for, ValuesTyped, kept_values, ValueStored, WellStored}
+use Rattle.prost_reflect_wire.specs.Typing.{fit_test, alone_test, EntryTest, element_valid, elements_valid, value_valid, pairs_valid, value_passes, values_pass, entries_pass, kind_for, ValuesTyped, kept_values, ValueStored, WellStored}
 use Rattle.prost_reflect_wire.specs.Edit.{with_value}
 use Rattle.prost_reflect_wire.specs.Storing.{with_stored, joined_slot}
 use Rattle.prost_reflect_wire.specs.Decoding.{RecordRead, Step, ElementsRead, ElementsJoined, list_takes}

@@ -10,11 +10,11 @@ use Rattle.prost_reflect_wire.specs.Varint.{◌>>=◌}
 use Rattle.prost_reflect_wire.specs.Record.{Len, Records, Payload, Flat, items, body_of, Spells}
 use Rattle.prost_reflect_wire.specs.Front.{DelimitedFront, RecordsFront, PlainFault}
 use Rattle.prost_reflect_wire.specs.Scalar.{Scalar, scalar_lt, scalar_eq}
-use Rattle.prost_reflect_wire.specs.Schema.{Kind, ValueType, MapFrom, Field, Schema, known, field_of, is_singular, numbers_differ, passes}
+use Rattle.prost_reflect_wire.specs.Schema.{Kind, ValueType, MapFrom, Field, Schema, known, field_of, is_singular, numbers_differ, passes, is_list}
 use Rattle.prost_reflect_wire.specs.Content.{Content, ContentOf, Entries, Value, ScalarValue, MessageValue, ListValue, MapValue, Pairs, NoPairs, Pair, value_at, slot_at, changed, schema_of, type_of, entries_of, value_ordered, pairs_ordered}
 use Rattle.prost_reflect_wire.specs.Grammar.{AllowsInside, body, or_none, is_stray_entry, value_payloads, stray_payloads, has_level, in_entry_allowed, field_allowed}
 use Rattle.prost_reflect_wire.specs.Meaning.{MeansInside, entry_key, entry_value, put, present_map, pairs_in, value_joined}
-use Rattle.prost_reflect_wire.specs.Typing.{fit_test, alone_test, kind_takes, element_valid, pairs_valid, is_list, value_valid, value_passes, pairs_pass, kind_for, ValueTyped, PairsTyped, kept_inside, kept_pairs, WellStored, ValueStored}
+use Rattle.prost_reflect_wire.specs.Typing.{fit_test, alone_test, kind_takes, element_valid, pairs_valid, value_valid, value_passes, pairs_pass, kind_for, ValueTyped, PairsTyped, kept_inside, kept_pairs, WellStored, ValueStored}
 use Rattle.prost_reflect_wire.specs.Storing.{with_stored}
 use Rattle.prost_reflect_wire.specs.Decoding.{Step, StandsBehindKey}
 use Rattle.prost_reflect_wire.specs.Fault.{OfType, Stands, Here, InEntry, takes, same_wire}

@@ -6,10 +6,10 @@ use Rattle.prost_reflect_wire.specs.declared.key.WireType.{WireType}
 use Rattle.prost_reflect_wire.specs.declared.key.WireType.TheVariants as wires
 use Rattle.prost_reflect_wire.specs.Varint.{AreBytes}
 use Rattle.prost_reflect_wire.specs.Record.{Len, Records, Record, Payload, Flat, Group, items, raw_levels, payload_levels, wire_code, payload_wire}
-use Rattle.prost_reflect_wire.specs.Schema.{MessageOf, GroupOf, ValueType, MapFrom, Field, Schema, passes}
+use Rattle.prost_reflect_wire.specs.Schema.{MessageOf, GroupOf, ValueType, MapFrom, Field, Schema, passes, is_map}
 use Rattle.prost_reflect_wire.specs.Grammar.{body, in_entry_allowed, field_allowed, allows}
 use Rattle.prost_reflect_wire.specs.Front.{KeyFront, DelimitedFront, RecordFront, PayloadFront}
-use Rattle.prost_reflect_wire.specs.Fault.{Place, OfType, OfEntry, OfNothing, field_at, is_map, Comes, Stands, Here, Behind, InMessage, InGroup, InUnknown, InEntry}
+use Rattle.prost_reflect_wire.specs.Fault.{Place, OfType, OfEntry, OfNothing, field_at, Comes, Stands, Here, Behind, InMessage, InGroup, InUnknown, InEntry}
 use Rattle.prost_reflect_wire.proofs.KeyFronts.{key_once}
 use Rattle.prost_reflect_wire.proofs.RecordFronts.{payload_once, record_parts, RecordParts}
 use Rattle.prost_reflect_laws.proofs.BodyFronts.{payload_no_end, key_not_empty, key_bytes, delimited_bytes}

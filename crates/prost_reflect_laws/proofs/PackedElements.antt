@@ -11,11 +11,11 @@ use Rattle.prost_reflect_wire.specs.declared.key.WireType.TheVariants as wires
 use Rattle.prost_reflect_wire.specs.Record.{Plain, Var, Fix64, Len, Fix32, Flat}
 use Rattle.prost_reflect_wire.specs.Front.{DelimitedFront, PlainFault, PayloadEnds, PayloadPasses}
 use Rattle.prost_reflect_wire.specs.Scalar.{Scalar, ScalarKind, elem, kind_wire}
-use Rattle.prost_reflect_wire.specs.Schema.{ScalarOf, Repeated, Field, is_packable}
+use Rattle.prost_reflect_wire.specs.Schema.{ScalarOf, Repeated, Field, is_packable, is_map}
 use Rattle.prost_reflect_wire.specs.Content.{Value, ScalarValue}
 use Rattle.prost_reflect_wire.specs.Grammar.{or_none, unpacked, element_payloads_in, fits, packed_allowed}
 use Rattle.prost_reflect_wire.specs.Meaning.{scalar_values}
-use Rattle.prost_reflect_wire.specs.Fault.{ElementFault, ElementEnds, ElementPasses, PackedNext, is_map, takes, same_wire}
+use Rattle.prost_reflect_wire.specs.Fault.{ElementFault, ElementEnds, ElementPasses, PackedNext, takes, same_wire}
 use Rattle.prost_reflect_wire.specs.Decoding.{ScalarRead, ScalarFault, FieldFault, ElementsRead, packed_values}
 use Rattle.prost_reflect_wire.proofs.Sound.{bind_ok}
 use Rattle.prost_reflect_wire.proofs.Steps.{flat_append}

@@ -12,6 +12,7 @@ use Rattle.prost_reflect_wire.specs.Front.{KeyFront, RecordsFront, PayloadFront}
 use Rattle.prost_reflect_wire.specs.Fault.{Place, OfType, OfEntry, entry_field, field_at}
 use Rattle.prost_reflect_wire.proofs.Sound.{read_spells}
 use Rattle.prost_reflect_wire.proofs.RecordFronts.{record_parts, RecordParts, first_parts, FrontParts}
+use Rattle.prost_reflect_wire.proofs.Bodies.{items_before}
 use Rattle.prost_reflect_laws.proofs.BodyFronts.{none_first, key_bytes, payload_bytes}
 
 pub len_no_end : wires.LengthDelimited ≢ wires.EndGroup
@@ -70,10 +71,6 @@ pub data EndNext (place : Place) : Type 0 where
   AtEnd : place.bytes ≡ [] → place.open_group ≡ None → EndNext place
   AtStop : (n : ℕ) (rest : List ℕ) → place.open_group ≡ Some n → KeyFront n wires.EndGroup place.bytes rest → EndNext place
 
-pub items_first : (n : ℕ) (p : Payload) (rs : Records) → items (before (record_at n p) rs) ≡ record_at n p ∷ items rs
-items_first n (Flat p) rs = refl
-items_first n (Group inside) rs = refl
-
 pub record FirstOf (schema : Schema) (place : Place) (rest : List ℕ) : Type 0 where
   pub behind : List ℕ
   pub next : NextRecord schema place behind
@@ -88,7 +85,7 @@ first_behind : (schema : Schema) (place : Place) (n : ℕ) (p : Payload) (rs : R
 first_behind schema place n p rs rest b =
     let f : FrontParts (record_at n p) rs place.bytes b.end = first_parts (record_at n p) rs place.bytes b.end b.records in
     let r : RecordParts n p place.bytes f.mid = record_parts n p place.bytes f.mid f.first in
-    let allowed = and_parts (payload_allowed schema place n p) (list_all (allowed_at schema place) (items rs)) (ap (list_all (allowed_at schema place)) (sym (items_first n p rs)) ∙ b.allowed) in
+    let allowed = and_parts (payload_allowed schema place n p) (list_all (allowed_at schema place) (items rs)) (ap (list_all (allowed_at schema place)) (sym (items_before (record_at n p) rs)) ∙ b.allowed) in
     record {
       behind = f.mid;
       next = record { number = n; payload = p; behind_key = r.mid; key = r.key; front = r.payload; allowed = allowed.0 };

@@ -9,14 +9,14 @@ use Rattle.prost_reflect_wire.specs.Front.{DelimitedFront, RecordsFront}
 use Rattle.prost_reflect_wire.specs.Scalar.{Scalar, ScalarKind, kind_default, is_undeclared, scalar_eq, scalar_valid}
 use Rattle.prost_reflect_wire.specs.Schema.{ScalarOf, ValueType, MapFrom, Field, Schema, known, field_of, is_key_kind, default_valid, field_valid, numbers_differ, schema_valid, passes}
 use Rattle.prost_reflect_wire.specs.Content.{ContentOf, Entries, Value, ScalarValue, MapValue, value_at, changed}
-use Rattle.prost_reflect_wire.specs.Grammar.{AllowsInside, nothing_inside, numbered, last, body, or_none, is_stray, is_stray_entry, one_allowed, has_level, in_entry_allowed, field_allowed}
+use Rattle.prost_reflect_wire.specs.Grammar.{AllowsInside, nothing_inside, numbered, last, or_none, is_stray, is_stray_entry, one_allowed, has_level, in_entry_allowed, field_allowed}
 use Rattle.prost_reflect_wire.specs.Meaning.{MeansInside, empty_inside, last_or, entry_value, put, pairs_in}
 use Rattle.prost_reflect_wire.specs.Levels.{stray_levels}
 use Rattle.prost_reflect_wire.specs.Typing.{kind_takes, is_whole_stray, WellStored}
 use Rattle.prost_reflect_wire.specs.Storing.{with_stored}
 use Rattle.prost_reflect_wire.specs.Decoding.{Step}
 use Rattle.prost_reflect_wire.specs.EntryReading.{EntryTo, plain_type, ScalarEntryTo}
-use Rattle.prost_reflect_wire.proofs.ByteLists.{bytes_front, bytes_behind}
+use Rattle.prost_reflect_wire.proofs.ByteLists.{bytes_front}
 use Rattle.prost_reflect_laws.proofs.SpelledValid.{spelled_valid}
 use Rattle.prost_reflect_wire.proofs.Survivors.{field_number}
 use Rattle.prost_reflect_wire.specs.Deciding.{scalar_decides}

@@ -5,10 +5,10 @@ use Rattle.std.specs.List.{list_all}
 use Rattle.std.proofs.lemmas.Bool.{eqb-true, eq-eqb, and_parts, and_from}
 use Rattle.prost_reflect_wire.specs.Record.{Payload}
 use Rattle.prost_reflect_wire.specs.Scalar.{Scalar}
-use Rattle.prost_reflect_wire.specs.Schema.{Kind, ScalarOf, MessageOf, GroupOf, ValueType, Singular, Field, Schema, known, field_of, is_sibling, is_singular, is_message, numbers_differ, schema_valid}
+use Rattle.prost_reflect_wire.specs.Schema.{Kind, ScalarOf, MessageOf, GroupOf, ValueType, Singular, Field, Schema, known, field_of, is_sibling, is_singular, is_message, numbers_differ, schema_valid, is_list}
 use Rattle.prost_reflect_wire.specs.Content.{Content, ContentOf, Entries, Value, ScalarValue, MessageValue, ListValue, MapValue, Slot, value_at, slot_at, insert_number, numbers_in, empty, schema_of, type_of}
 use Rattle.prost_reflect_wire.specs.Levels.{levels, value_levels}
-use Rattle.prost_reflect_wire.specs.Typing.{kind_takes, is_list, elements_valid, pairs_valid, value_valid, fit_test, alone_test, filled_test, default_test, is_of_type, kind_for, ValueTyped, kept_value, kept_inside, ValueStored, WellTyped}
+use Rattle.prost_reflect_wire.specs.Typing.{kind_takes, elements_valid, pairs_valid, value_valid, fit_test, alone_test, filled_test, default_test, is_of_type, kind_for, ValueTyped, kept_value, kept_inside, ValueStored, WellTyped}
 use Rattle.prost_reflect_wire.specs.Edit.{with_value, with_field_value, set_field, default_of, default_value, value_or_default, in_message, in_field, set_at, message_of, PathTo}
 use Rattle.prost_reflect_laws.proofs.Everywhere.{both_tests, value_both}
 use Rattle.prost_reflect_wire.proofs.Numbers.{insert_ascending, entries_ascending}

@@ -1,11 +1,10 @@
 -- Entries said number by number: what stands at each number decides them.
-use Rattle.std.proofs.Common.{◌≡◌, ℕ, ◌<◌, ◌≤◌, ◌+◌, Bool, true, false, cond, ◌&&◌, List, ◌∷◌, length, nat_eq, Option, Some, None, refl, ap, sym, ◌∙◌, arith}
-use Rattle.std.proofs.lemmas.Bool.{ltb-true, leb-true, lt-ltb, le-leb, eqb-true, eq-eqb, and_parts, and_from, or_parts}
+use Rattle.std.proofs.Common.{◌≡◌, ℕ, ◌+◌, Bool, true, false, cond, ◌&&◌, List, ◌∷◌, length, nat_eq, Option, Some, None, refl, ap, sym, ◌∙◌, arith}
+use Rattle.std.proofs.lemmas.Bool.{eqb-true, eq-eqb, and_parts, or_parts}
 use Rattle.prost_reflect_wire.specs.Varint.{◌>>=◌}
-use Rattle.prost_reflect_wire.specs.Scalar.{Scalar}
-use Rattle.prost_reflect_wire.specs.Schema.{Field, field_of, known}
-use Rattle.prost_reflect_wire.specs.Content.{Content, ContentOf, Entries, NoEntries, Stored, Unknown, Value, ScalarValue, MessageValue, ListValue, MapValue, Values, NoValues, Item, Pairs, NoPairs, Pair, Slot, value_at, unknowns_at, slot_at, then_value, insert_number, numbers_in, changed, comes_before, ordered, entries_ordered, value_ordered, values_ordered, pairs_ordered, key_before}
-use Rattle.prost_reflect_wire.specs.Typing.{kept, kept_entries, kept_value, kept_inside, kept_values, kept_pairs, is_field_default}
+use Rattle.prost_reflect_wire.specs.Schema.{Field, field_of}
+use Rattle.prost_reflect_wire.specs.Content.{Entries, NoEntries, Stored, Unknown, Value, Slot, value_at, unknowns_at, slot_at, then_value, insert_number, numbers_in, changed, comes_before, entries_ordered, value_ordered}
+use Rattle.prost_reflect_wire.specs.Typing.{kept_entries, kept_value, kept_inside}
 use Rattle.prost_reflect_wire.proofs.Numbers.{empty_slot, is_in, in_insert, eqb-sym, insert_ascending, Covers, table_covers, table_same, slot_table, slots_same, entries_ascending, slot_outside}
 use Rattle.prost_reflect_laws.proofs.Rebuilt.{rebuilt, no_value_below}
 

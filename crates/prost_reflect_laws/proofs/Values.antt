@@ -2,7 +2,7 @@
 use Rattle.std.proofs.Common.{◌≡◌, ℕ, true, false, cond, not, List, [], ◌∷◌, map, filter, flat_map, Option, Some, None, refl, ap, ap₂, sym, ◌∙◌, true≢false, append-nil}
 use Rattle.std.proofs.lemmas.Bool.{eqb-true, and_parts}
 use Rattle.prost_reflect_wire.specs.Varint.{◌>>=◌}
-use Rattle.prost_reflect_wire.specs.Record.{Record, Records, Payload, Flat, Group, Len, items, before, body_of, valid, short_body, spelled}
+use Rattle.prost_reflect_wire.specs.Record.{Record, Records, Payload, Flat, Len, items, body_of, valid, short_body, spelled}
 use Rattle.prost_reflect_wire.specs.Scalar.{Scalar, ScalarKind, Enum, written, scalar_valid, is_undeclared}
 use Rattle.prost_reflect_wire.specs.Schema.{Kind, ScalarOf, MessageOf, GroupOf, FieldForm, Singular, Repeated, MapFrom, Field, field_of}
 use Rattle.prost_reflect_wire.specs.Content.{Content, Value, ScalarValue, MessageValue, type_of}

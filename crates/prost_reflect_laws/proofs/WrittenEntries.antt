@@ -34,7 +34,7 @@ spelled_append (r ∷ rs) qs = go r.payload (spelled_append rs qs)
 
 -- ONE NUMBER
 
-kept_unknowns : (fields : List Field) (n : ℕ) (ps : List Payload) (es : Entries) → kept_entries fields (then_unknowns n ps es) ≡ then_unknowns n ps (kept_entries fields es)
+pub kept_unknowns : (fields : List Field) (n : ℕ) (ps : List Payload) (es : Entries) → kept_entries fields (then_unknowns n ps es) ≡ then_unknowns n ps (kept_entries fields es)
 kept_unknowns fields n [] es = refl
 kept_unknowns fields n (p ∷ ps) es = ap (Unknown n p) (kept_unknowns fields n ps es)
 

@@ -18,8 +18,8 @@ use Rattle.prost_reflect_wire.specs.Varint.{◌>>=◌, guard}
 use Rattle.prost_reflect_wire.specs.Record.{Plain, Var, Record, record_at, Flat, body_of, payload_levels}
 use Rattle.prost_reflect_wire.specs.Front.{KeyFront, VarintFront, DelimitedFront, RecordFront, KeyFault, VarintFault}
 use Rattle.prost_reflect_wire.specs.Scalar.{Int32, low_32, low_i32}
-use Rattle.prost_reflect_wire.specs.Schema.{Schema, Field}
-use Rattle.prost_reflect_wire.specs.Fault.{Place, OfType, Stands, Here, Comes, field_at, ElementFault, ElementEnds, ElementPasses, StandsInMessage, ValueFault, PackedNext, TextNext, takes, is_map}
+use Rattle.prost_reflect_wire.specs.Schema.{Schema, Field, is_map}
+use Rattle.prost_reflect_wire.specs.Fault.{Place, OfType, Stands, Here, Comes, field_at, ElementFault, ElementEnds, ElementPasses, StandsInMessage, ValueFault, PackedNext, TextNext, takes}
 use Rattle.prost_reflect_wire.specs.Unknown.{SkipsValue}
 use Rattle.prost_reflect_types.specs.DescriptorTable.{rows, place_of, form_of, value_type_of, field_of_row, record_schema}
 use Rattle.prost_reflect_wire.specs.Decoding.{FieldFault}

@@ -1,5 +1,5 @@
 -- Equality of records, and of unknown fields by what they store, as tests that decide it.
-use Rattle.std.specs.Prelude.{◌≡◌, ℕ, Bool, true, false, ◌&&◌, List, [], ◌∷◌, nat_eq, refl}
+use Rattle.std.specs.Prelude.{◌≡◌, ℕ, Bool, true, false, ◌&&◌, nat_eq, refl}
 use Rattle.std.proofs.Common.{sym, ap, ap₂, ◌∙◌, true≢false}
 use Rattle.std.specs.Cmp.{IsPartialEquivalence, partial_equiv_from_equiv, on_per}
 use Rattle.std.specs.Cmp.Lexicographic.{pointwise}
