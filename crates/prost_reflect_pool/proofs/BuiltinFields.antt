@@ -8,7 +8,7 @@ use Rattle.prost_reflect_types.specs.declared.FieldDescriptorProto.{FieldDescrip
 use Rattle.prost_reflect_tables.specs.Names.{text_or_empty, joined}
 use Rattle.prost_reflect_tables.specs.Flat.{ScopeRow, DefinitionRow, FlatRows, defined_from, field_name}
 use Rattle.prost_reflect_tables.specs.Linking.{Links}
-use Rattle.prost_reflect_tables.specs.Faults.{is_unnamed, is_field_number, number_bad, is_type, is_code, is_message_type, is_enum_type, is_repeated, type_missing, label_bad, repeated_member, type_unknown}
+use Rattle.prost_reflect_tables.specs.Faults.{is_unnamed, is_field_number, number_bad, is_type, is_code, is_message_type, is_enum_type, has_repeated_label, type_missing, label_bad, repeated_member, type_unknown}
 use Rattle.prost_reflect_tables.specs.OptionFaults.{option_bad}
 use Rattle.prost_reflect_tables.specs.EntryFaults.{names_entry, is_of_entry, wrongly_of_entry}
 use Rattle.prost_reflect_tables.specs.DefaultFaults.{is_float_type, default_bad, float_default_bad}
@@ -104,7 +104,7 @@ unknown_given rows d x is =
 pub entry_given : (rows : FlatRows) → Gives (wrongly_of_entry rows) (λ x. false)
 entry_given rows d x is =
     let none : is_of_entry rows d ≡ false = and_right (is_message_type d.proto.type_) _ (ap (names_entry rows) is.no_type_name) in
-    ap (λ entry. entry && not (is_repeated d && is_code 11 d.proto.type_)) none
+    ap (λ entry. entry && not (has_repeated_label d && is_code 11 d.proto.type_)) none
 
 pub default_given : (links : Links) → Gives (default_bad links) (λ x. false)
 unfolding default_bad

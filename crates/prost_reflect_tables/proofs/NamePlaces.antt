@@ -23,10 +23,6 @@ pub repeats_more : (xs : List (Bor (List ℕ))) (i : ℕ) (d : Bor (List ℕ)) �
     repeats (text_list (take i xs)) (text_list (drop i xs)) ≡ repeats (text_list (take (i + 1) xs)) (text_list (drop (i + 1) xs))
 repeats_more xs i d h new = rw (texts_left xs i d h, texts_more xs i d h, new) refl
 
-pub not_true : (b : Bool) → not b ≡ true → b ≡ false
-not_true true e = sym e
-not_true false e = refl
-
 -- A set of names, with one name more.
 pub seen_more : (added name : List ℕ) {old new : Bool} (q : List ℕ) → added ≡ name → old ≡ new → cond (bytes_eq added q) true old ≡ (new || bytes_eq q name)
 seen_more added name {old} {new} q same kept = rw (same, kept) (grind (arith, bytes_eq-Decides name q, bytes_eq-Decides q name))
