@@ -14,7 +14,7 @@ use Rattle.prost_reflect_tables.specs.declared.tables.Cardinality.{Cardinality}
 use Rattle.prost_reflect_tables.specs.declared.tables.Cardinality.TheVariants.{Optional, Required, Repeated as RepeatedLabel}
 use Rattle.prost_reflect_tables.specs.declared.tables.TableKind.{TableKind}
 use Rattle.prost_reflect_tables.specs.declared.tables.TableKind.TheVariants as kinds
-use Rattle.prost_reflect_tables.specs.Rows.{FieldRow, MessageRow, EnumRow, TableRows}
+use Rattle.prost_reflect_tables.specs.Rows.{FieldRow, MessageRow, EnumRow, TableRows, value_numbers}
 use Rattle.prost_reflect_tables.specs.Shown.{first_number, enum_numbers, schema_kind, enum_kind, own_type, map_entry, value_type_of, form_of, schema_field}
 use Rattle.prost_reflect.specs.RowKinds.{is_plain, is_plain_kind, is_repeated, names_message}
 use Rattle.prost_reflect_pool.specs.Enums.{numbers_of}
@@ -223,7 +223,7 @@ number_stray first numbers (Fix32 bytes) v r = cc
 
 enum_stray : (o : Option EnumRow) (plain : Plain) (v : Scalar) → elem (enum_kind o) (Flat plain) ≡ Some v → is_undeclared (enum_kind o) (Flat plain) ≡ stray_of (numbers_of o) v
 enum_stray None plain v r = number_stray (pos 0) scalars.Open plain v r
-enum_stray (Some row) plain v r = number_stray (first_number row.numbers) (enum_numbers row) plain v r
+enum_stray (Some row) plain v r = number_stray (first_number (value_numbers row)) (enum_numbers row) plain v r
 
 stray_shown : (enums : List EnumRow) (E : ℕ) (v : Scalar) → stray_of (numbers_of (slice_get enums E)) v ≡ is_stray_number enums (kinds.Enum E) (ScalarValue v)
 stray_shown enums E (scalars.EnumNumber z) = refl

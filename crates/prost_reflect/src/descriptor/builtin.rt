@@ -22,7 +22,7 @@ pub fn builtin_pool(alloc: Global) -> Result<DescriptorPool, PoolError>
     ensures files { IfOk result (λ pool. AreBuiltin (files_of pool.inner)) }
     ensures rows { IfOk result (λ pool. pool_rows pool.inner ≡ builtin_rows) }
     ensures schema { IfOk result (λ pool. schema_from (pool_rows pool.inner) ≡ builtin_schema) }
-    ensures names { IfOk result (λ pool. map (λ m. m.full_name) (pool_rows pool.inner).messages ≡ builtin_names) }
+    ensures names { IfOk result (λ pool. map (λ m. m.id.full_name) (pool_rows pool.inner).messages ≡ builtin_names) }
     ensures refused { IfErr result (λ e. e ≡ pool_errors.OutOfMemory) }
 {
     let pool = prost_reflect_pool::builtin_pool(alloc)?;
