@@ -3,7 +3,7 @@ use Rattle.prost_reflect_wire.specs.Sinks.{Adds}
 use Rattle.prost_reflect_wire.proofs.SinkSteps.{adds_in_turn, adds_same}
 use Rattle.prost_reflect_wire.proofs.WrittenRecords.{cut_before}
 use Rattle.std.proofs.Common.{◌≡◌, ℕ, true, cond, List, [], ◌∷◌, ◌++◌, map, nat_eq, Option, Some, None, refl, sym, ap, ap₂, ◌∙◌, subst, zero, suc, ◌-◌, ◌≤◌, ◌<◌, length, drop, get_or, arith, append_assoc}
-use Rattle.std.proofs.lemmas.Bool.{eqb-true}
+use Rattle.std.proofs.lemmas.Bool.{eqb-true, and_parts}
 use Rattle.std.specs.List.{list_all}
 use Rattle.std.specs.List.Sorted.{IsStrictlySortedBy}
 use Rattle.std.specs.Option.{option_map, option_and_then}
@@ -18,7 +18,6 @@ use Rattle.prost_reflect_wire.specs.Typing.{EntryTest, fit_test, value_valid, va
 use Rattle.prost_reflect_wire.specs.Storing.{slot_bytes, value_bytes, stored_bytes}
 use Rattle.prost_reflect_wire.specs.Unknown.{records_of}
 use Rattle.prost_reflect_wire.specs.declared.unknown.UnknownFieldSet.{UnknownFieldSet}
-use Rattle.prost_reflect_wire.proofs.Deeper.{and_both}
 use Rattle.prost_reflect_laws.proofs.WrittenEntries.{written_store}
 use Rattle.prost_reflect_fields.specs.declared.slot.FieldSlot.{FieldSlot}
 use Rattle.prost_reflect_fields.specs.declared.slot.FieldSlot.TheVariants as entries
@@ -35,7 +34,7 @@ use Rattle.prost_reflect.proofs.Views.{shown, shown_entry, content_of_message}
 
 -- BYTES
 
-slot_shown : (e : FieldSlot Value) → slot_of (shown_entry e) ≡ entry_slot e
+slot_shown : (e : FieldSlot Value) → slot_of (λ v. v) (shown_entry e) ≡ entry_slot e
 slot_shown (entries.Value v) = refl
 slot_shown (entries.Unknown u) = refl
 slot_shown (entries.Both v u) = refl
@@ -43,7 +42,7 @@ slot_shown (entries.Both v u) = refl
 pub written_entries : (fields : List Field) (es : List (ℕ × FieldSlot Value)) → spelled (entries_records fields (kept_entries fields (entries_from (shown es)))) ≡ entries_bytes fields es
 written_entries fields [] = refl
 written_entries fields (e ∷ es) =
-    written_store fields e.0 (slot_of (shown_entry e.1)) (entries_from (shown es))
+    written_store fields e.0 (slot_of (λ v. v) (shown_entry e.1)) (entries_from (shown es))
     ∙ ap₂ (λ slot more. slot_bytes fields e.0 slot ++ more) (slot_shown e.1) (written_entries fields es)
 
 pub encoded_entries : (m : DynamicMessage) → encoded (kept (content_of m)) ≡ entries_bytes (known_of (message_type_of m)) (stored_in m)
@@ -53,7 +52,7 @@ encoded_entries m = ap (λ c. encoded (kept c)) (content_of_message m) ∙ writt
 pub own_records : (n : ℕ) (rs : List Record) → list_all (λ r. nat_eq r.number n) rs ≡ true → map (record_at n) (payloads_of rs) ≡ rs
 own_records n [] h = refl
 own_records n (r ∷ rs) h =
-    let (same, more) = and_both (nat_eq r.number n) (list_all (λ r. nat_eq r.number n) rs) h in
+    let (same, more) = and_parts (nat_eq r.number n) (list_all (λ r. nat_eq r.number n) rs) h in
     ap₂ (λ k l. record_at k r.payload ∷ l) (sym (eqb-true r.number n same)) (own_records n rs more)
 
 pub own_all : (n : ℕ) (rs : List Record) → are_records_of n rs ≡ true → map (record_at n) (payloads_of rs) ≡ rs
@@ -64,7 +63,7 @@ own_all n (r ∷ rs) h = own_records n (r ∷ rs) h
 
 behind_unknowns : (test : EntryTest) (fields : List Field) (n : ℕ) (ps : List Payload) (es : Entries) → entries_pass test fields (then_unknowns n ps es) ≡ true → entries_pass test fields es ≡ true
 behind_unknowns test fields n [] es h = h
-behind_unknowns test fields n (p ∷ ps) es h = behind_unknowns test fields n ps es (and_both (test.unknown fields n p) _ h).1
+behind_unknowns test fields n (p ∷ ps) es h = behind_unknowns test fields n ps es (and_parts (test.unknown fields n p) _ h).1
 
 -- the value of the first entry
 record FirstValue (fields : List Field) (n : ℕ) (o : Option contents.Value) : Type 0 where
@@ -73,13 +72,13 @@ record FirstValue (fields : List Field) (n : ℕ) (o : Option contents.Value) : 
 first_value : (fields : List Field) (n : ℕ) (o : Option contents.Value) (es : Entries) → entries_pass fit_test fields (then_value n o es) ≡ true → FirstValue fields n o
 first_value fields n None es h = record { writable = λ v e. cc }
 first_value fields n (Some w) es h =
-    let parts = and_both (passes (field_of fields n) (λ f. value_valid f w)) (value_passes fit_test w) (and_both _ (entries_pass fit_test fields es) h).0 in
+    let parts = and_parts (passes (field_of fields n) (λ f. value_valid f w)) (value_passes fit_test w) (and_parts _ (entries_pass fit_test fields es) h).0 in
     let own : ValueWritable fields n w = record { valid = parts.0; fits = parts.1 } in
     record { writable = λ v e. let same : w ≡ v = cc in subst (ValueWritable fields n) same own }
 
 behind_value : (test : EntryTest) (fields : List Field) (n : ℕ) (o : Option contents.Value) (es : Entries) → entries_pass test fields (then_value n o es) ≡ true → entries_pass test fields es ≡ true
 behind_value test fields n None es h = h
-behind_value test fields n (Some w) es h = (and_both _ (entries_pass test fields es) h).1
+behind_value test fields n (Some w) es h = (and_parts _ (entries_pass test fields es) h).1
 
 -- each entry has unknown records of its own number
 abbrev OwnRecords : List (ℕ × FieldSlot Value) → Type 0
@@ -92,24 +91,24 @@ own_in fields [] s kept = tt
 own_in fields (e ∷ es) s kept = (
   λ rs is.
       let here : records_at (e ∷ es) e.0 ≡ Some rs = ap (λ o. option_and_then records_in (cond (is_eq o) (Some e.1) (item_at es e.0))) (itself e.0) ∙ is in
-      (and_both (keeps_unknown fields e.0) (are_records_of e.0 rs) (ap (unknown_kept fields e.0) (sym here) ∙ kept e.0)).1,
+      (and_parts (keeps_unknown fields e.0) (are_records_of e.0 rs) (ap (unknown_kept fields e.0) (sym here) ∙ kept e.0)).1,
   own_in fields es s.1 (λ n. by_number n e.0 (λ same. behind n same) (λ apart. ap (λ b. unknown_kept fields n (option_and_then records_in (cond b (Some e.1) (item_at es n)))) (sym apart) ∙ kept n)),
 )
   where
     behind : (n : ℕ) → n ≡ e.0 → unknown_kept fields n (records_at es n) ≡ true
     behind n same = ap (λ o. unknown_kept fields n (option_and_then records_in o)) (subst (λ k. item_at es k ≡ None) (sym same) (none_above e.0 es s.0))
 
-shown_value : (e : FieldSlot Value) (v : Value) → value_in e ≡ Some v → (slot_of (shown_entry e)).value ≡ Some (value_of v)
+shown_value : (e : FieldSlot Value) (v : Value) → value_in e ≡ Some v → (slot_of (λ v. v) (shown_entry e)).value ≡ Some (value_of v)
 shown_value e v is = ap (λ (slot : Slot). slot.value) (slot_shown e) ∙ ap (option_map value_of) is
 
 writable_entries : (fields : List Field) (es : List (ℕ × FieldSlot Value)) → entries_pass fit_test fields (entries_from (shown es)) ≡ true → OwnRecords es → AreWritable fields es
 writable_entries fields [] h own = tt
 writable_entries fields (e ∷ es) h own = (
   record {
-    value = λ v is. (first_value fields e.0 (slot_of (shown_entry e.1)).value (then_unknowns e.0 (slot_of (shown_entry e.1)).unknowns (entries_from (shown es))) h).writable (value_of v) (shown_value e.1 v is);
+    value = λ v is. (first_value fields e.0 (slot_of (λ v. v) (shown_entry e.1)).value (then_unknowns e.0 (slot_of (λ v. v) (shown_entry e.1)).unknowns (entries_from (shown es))) h).writable (value_of v) (shown_value e.1 v is);
     own = own.0;
   },
-  writable_entries fields es (behind_unknowns fit_test fields e.0 (slot_of (shown_entry e.1)).unknowns (entries_from (shown es)) (behind_value fit_test fields e.0 (slot_of (shown_entry e.1)).value _ h)) own.1,
+  writable_entries fields es (behind_unknowns fit_test fields e.0 (slot_of (λ v. v) (shown_entry e.1)).unknowns (entries_from (shown es)) (behind_value fit_test fields e.0 (slot_of (λ v. v) (shown_entry e.1)).value _ h)) own.1,
 )
 
 pub writable_message : (m : DynamicMessage) → encodable (content_of m) ≡ true → IsAscending (stored_in m) → IsSound (message_type_of m) (stored_in m) → AreWritable (known_of (message_type_of m)) (stored_in m)

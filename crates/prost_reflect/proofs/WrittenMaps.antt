@@ -1,6 +1,7 @@
 -- What is written of a map of scalars.
 use Rattle.std.proofs.Common.{◌≡◌, ℕ, true, false, cond, ◌&&◌, List, [], ◌∷◌, ◌++◌, map, Some, refl, sym, ap, ap₂, ◌∙◌, subst, append_assoc, true≢false}
 use Rattle.std.specs.Prelude.{IsSomeAnd}
+use Rattle.std.proofs.lemmas.Bool.{and_parts}
 use Rattle.prost_reflect_wire.specs.declared.key.WireType.TheVariants as wires
 use Rattle.prost_reflect_wire.specs.Record.{Len, record_at, short_key, short_plain, spelled}
 use Rattle.prost_reflect_wire.specs.Scalar.{Scalar, ScalarKind, kind_wire, scalar_valid, written}
@@ -10,7 +11,6 @@ use Rattle.prost_reflect_wire.specs.Content.{ScalarValue, MessageValue, ListValu
 use Rattle.prost_reflect_wire.specs.Writing.{is_default_of, pair_payloads}
 use Rattle.prost_reflect_wire.specs.Typing.{kind_takes, element_valid, pairs_valid, value_valid}
 use Rattle.prost_reflect_wire.specs.Storing.{value_bytes}
-use Rattle.prost_reflect_wire.proofs.Deeper.{and_both}
 use Rattle.prost_reflect_laws.proofs.MapWritten.{part_bytes, pair_written, map_written}
 use Rattle.prost_reflect_tables.specs.declared.tables.TableKind.{TableKind}
 use Rattle.prost_reflect_tables.specs.Rows.{FieldRow, EnumRow}
@@ -70,15 +70,15 @@ module _ (n : ℕ) (enums : List EnumRow) (key value_row : FieldRow) (key_type v
   takes_pairs : (es : List (MapKey × Value)) → pairs_valid (MapFrom key_type) (ScalarOf kind) (pairs_shown es) ≡ true → TakesPairs key.kind value_row.kind es
   takes_pairs [] h = tt
   takes_pairs (e ∷ es) h =
-      let (one, more) = and_both (kind_takes key_type.kind (key_of e.0) && element_valid (ScalarOf kind) (value_of e.1)) (pairs_valid (MapFrom key_type) (ScalarOf kind) (pairs_shown es)) h in
-      let (a, b) = and_both (kind_takes key_type.kind (key_of e.0)) (element_valid (ScalarOf kind) (value_of e.1)) one in
+      let (one, more) = and_parts (kind_takes key_type.kind (key_of e.0) && element_valid (ScalarOf kind) (value_of e.1)) (pairs_valid (MapFrom key_type) (ScalarOf kind) (pairs_shown es)) h in
+      let (a, b) = and_parts (kind_takes key_type.kind (key_of e.0)) (element_valid (ScalarOf kind) (value_of e.1)) one in
       ((part_takes enums key key_type key_kind key_part_row (ScalarValue (key_of e.0)) (key_fits (key_of e.0) a), part_takes enums value_row value_type kind part_row (value_of e.1) b), takes_pairs es more)
 
   pairs_spelled : (es : List (MapKey × Value)) → pairs_valid (MapFrom key_type) (ScalarOf kind) (pairs_shown es) ≡ true → spelled (map (record_at n) (pair_payloads key_type value_type (pairs_shown es))) ≡ pairs_bytes n enums key value_row es
   pairs_spelled [] h = refl
   pairs_spelled (e ∷ es) h =
-      let (one, more) = and_both (kind_takes key_type.kind (key_of e.0) && element_valid (ScalarOf kind) (value_of e.1)) (pairs_valid (MapFrom key_type) (ScalarOf kind) (pairs_shown es)) h in
-      let (a, b) = and_both (kind_takes key_type.kind (key_of e.0)) (element_valid (ScalarOf kind) (value_of e.1)) one in
+      let (one, more) = and_parts (kind_takes key_type.kind (key_of e.0) && element_valid (ScalarOf kind) (value_of e.1)) (pairs_valid (MapFrom key_type) (ScalarOf kind) (pairs_shown es)) h in
+      let (a, b) = and_parts (kind_takes key_type.kind (key_of e.0)) (element_valid (ScalarOf kind) (value_of e.1)) one in
       go (value_of e.1) (key_fits (key_of e.0) a) b (pairs_spelled es more)
     where
       go : (c : contents.Value) → scalar_valid key_kind (key_of e.0) ≡ true → element_valid (ScalarOf kind) c ≡ true → spelled (map (record_at n) (pair_payloads key_type value_type (pairs_shown es))) ≡ pairs_bytes n enums key value_row es →

@@ -1,5 +1,5 @@
 -- The worked examples of the checks, by computing.
-use Rattle.std.proofs.Common.{◌≡◌, Bool, true, false, refl}
+use Rattle.std.proofs.Common.{◌≡◌, Bool, true, refl}
 use Rattle.std.specs.Prelude.{◌&&◌, ◌||◌}
 use Rattle.std.proofs.Math.Bool.{or-true}
 use Rattle.prost_reflect_wire.specs.Record.{read}

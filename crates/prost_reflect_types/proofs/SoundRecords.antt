@@ -1,17 +1,16 @@
 -- Descriptor records can be read back.
-use Rattle.std.proofs.Common.{◌≡◌, ℕ, ◌≤◌, ◌<◌, ◌^◌, Bool, true, false, not, ◌&&◌, ◌||◌, List, [], ◌∷◌, length, nat_eq, nat_lt, Option, Some, None, refl, sym, ap, ap₂, ◌∙◌, subst}
+use Rattle.std.proofs.Common.{◌≡◌, ℕ, ◌≤◌, ◌<◌, ◌^◌, Bool, true, not, ◌&&◌, List, [], ◌∷◌, length, nat_lt, Option, Some, None, refl, sym, ap, ap₂, ◌∙◌, subst}
 use Rattle.std.specs.Bool.{⊤}
-use Rattle.std.specs.List.{list_any}
 use Rattle.std.specs.Option.{option_map}
 use Rattle.std.specs.Str.{is_utf8, chars}
 use Rattle.std.proofs.lemmas.Bool.{and_parts, and_from}
-use Rattle.prost_reflect_wire.specs.Schema.{Field, Schema, known, field_of, is_sibling, same_oneof, passes, schema_valid}
-use Rattle.prost_reflect_wire.specs.Content.{Content, ContentOf, Entries, NoEntries, Stored, Unknown, Value, then_value, comes_before, entries_ordered}
+use Rattle.prost_reflect_wire.specs.Schema.{Field, Schema, known, field_of, is_sibling, passes, schema_valid}
+use Rattle.prost_reflect_wire.specs.Content.{Content, ContentOf, Entries, Stored, Value, then_value, comes_before, entries_ordered}
 use Rattle.prost_reflect_wire.specs.Grammar.{LEVEL_LIMIT}
 use Rattle.prost_reflect_wire.specs.Meaning.{decoded}
 use Rattle.prost_reflect_wire.specs.Writing.{encoded}
 use Rattle.prost_reflect_wire.specs.Levels.{levels}
-use Rattle.prost_reflect_wire.specs.Typing.{fit_test, alone_test, filled_test, default_test, entries_pass, has_value_of, is_alone, value_valid, is_empty_value, is_stored_default, kind_for, EntriesTyped, ValueTyped, WellTyped}
+use Rattle.prost_reflect_wire.specs.Typing.{fit_test, alone_test, filled_test, default_test, entries_pass, is_alone, value_valid, is_empty_value, is_stored_default, kind_for, EntriesTyped, ValueTyped, WellTyped}
 use Rattle.prost_reflect_laws.specs.Laws.{Writable}
 use Rattle.prost_reflect_types.specs.DescriptorTable.{rows, place_of, field_of_row, record_schema}
 use Rattle.prost_reflect_types.specs.DescriptorMeaning.{gathered, entries_gathered, record_decoded}

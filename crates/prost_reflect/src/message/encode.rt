@@ -10,7 +10,7 @@ ghost use Rattle.prost_reflect_wire.specs.Storing.{value_bytes};
 ghost use Rattle.prost_reflect_wire.specs.Sinks.{Adds};
 ghost use Rattle.prost_reflect_tables.specs.Rows.{field_row};
 ghost use Rattle.prost_reflect_tables.specs.Shown.{schema_field};
-ghost use Rattle.prost_reflect.specs.RowKinds.{is_repeated};
+ghost use Rattle.prost_reflect_tables.specs.Linking.{is_repeated};
 ghost use Rattle.prost_reflect.specs.Lists.{IsList, ElementWritable, AreElements, elements_bytes};
 ghost use Rattle.prost_reflect_pool.specs.MapParts.{map_parts};
 ghost use Rattle.prost_reflect.specs.Encoding.{entry_slot, unknown_bytes, nested_bytes, ValueWritable, OwnUnknown};
