@@ -3,14 +3,15 @@
 ghost use Rattle.std.specs.Prelude.{◌≡◌, IfOk, map, is_none, string_bytes};
 ghost use Rattle.std.specs.List.{list_any};
 ghost use Rattle.std.specs.BTreeMap.{get_by_text};
-ghost use Rattle.prost_reflect_tables.specs.Faults.{is_code, is_message_type, place_of, file_names, message_names, enum_names, dependency_missing, missing_dependency, names_nothing, type_unknown, extendee_unknown, method_type_unknown, unknown_type};
+ghost use Rattle.prost_reflect_tables.specs.Faults.{any_field, is_code, is_message_type, place_of, file_names, message_names, enum_names, dependency_missing, missing_dependency, names_nothing, type_unknown, extendee_unknown, method_type_unknown, unknown_type};
 ghost use Rattle.prost_reflect_tables.specs.FlatViews.{definition_row, file_list, message_row, service_row, flat_rows, text_list};
 ghost use Rattle.prost_reflect_tables.specs.Indexed.{IsIndexOf, IsIndex};
 
-use crate::build::flatten::{Definition, Flat, FlatMessage, FlatService};
+use crate::build::flatten::{Definition, Flat};
 use crate::build::index::{Index, enum_place, index_of, message_place};
 use crate::build::names::text_or_empty;
 use crate::check::fields::{is_code, is_message_type};
+use crate::check::walk::{any, any_definition, any_field, any_file, any_method};
 use prost_reflect_types::{FieldDescriptorProto, FileDescriptorProto, MethodDescriptorProto};
 use std::alloc::{AllocError, Global};
 use std::collections::BTreeMap;
@@ -37,22 +38,6 @@ fn file_names<'f>(
     Ok(names)
 }
 
-fn has_dependency_missing(
-    index: &BTreeMap<String, usize>,
-    files: &[&FileDescriptorProto],
-    dependencies: &[String],
-) -> bool
-    requires { IsIndexOf index.now (file_names (file_list files.now)) }
-    ensures { result ≡ list_any (λ d. is_none (place_of (file_names (file_list files.now)) (string_bytes d))) dependencies.now }
-{
-    for dependency in dependencies {
-        if place_of(index, dependency.as_str()).is_none() {
-            return true;
-        }
-    }
-    false
-}
-
 fn is_dependency_missing(
     index: &BTreeMap<String, usize>,
     files: &[&FileDescriptorProto],
@@ -61,19 +46,10 @@ fn is_dependency_missing(
     requires { IsIndexOf index.now (file_names (file_list files.now)) }
     ensures { result ≡ dependency_missing (file_names (file_list files.now)) file.now }
 {
-    has_dependency_missing(index, files, file.dependency.as_slice())
-}
-
-fn has_missing_among(index: &BTreeMap<String, usize>, files: &[&FileDescriptorProto]) -> bool
-    requires { IsIndexOf index.now (file_names (file_list files.now)) }
-    ensures { result ≡ missing_dependency (file_list files.now) }
-{
-    for file in files {
-        if is_dependency_missing(index, files, file) {
-            return true;
-        }
-    }
-    false
+    any(
+        file.dependency.as_slice(),
+        &|dependency| place_of(index, dependency.as_str()).is_none(),
+    )
 }
 
 /// Whether a file depends on one that is not there.
@@ -89,7 +65,7 @@ pub fn has_missing_dependency(
 {
     let names = file_names(alloc, files)?;
     let index = index_of(alloc, names.as_slice())?;
-    Ok(has_missing_among(&index, files))
+    Ok(any_file(files, &|file| is_dependency_missing(&index, files, file)))
 }
 
 // TYPES
@@ -129,76 +105,42 @@ fn is_method_type_unknown(
         || names_no_message(index, flat, &method.proto.output_type)
 }
 
-fn has_type_unknown_in(
+fn is_extendee_unknown(
     index: &Index,
     flat: &Flat,
-    fields: &[Definition<FieldDescriptorProto>],
+    extension: &Definition<FieldDescriptorProto>,
 ) -> bool
     requires { IsIndex index.now (flat_rows flat.now) }
-    ensures { result ≡ list_any (type_unknown (flat_rows flat.now)) (map definition_row fields.now) }
+    ensures { result ≡ extendee_unknown (flat_rows flat.now) (definition_row extension.now) }
 {
-    for field in fields {
-        if is_type_unknown(index, flat, field) {
-            return true;
-        }
-    }
-    false
+    names_no_message(index, flat, &extension.proto.extendee)
 }
 
-fn has_type_unknown_of(index: &Index, flat: &Flat, messages: &[FlatMessage]) -> bool
+fn has_type_unknown(index: &Index, flat: &Flat) -> bool
     requires { IsIndex index.now (flat_rows flat.now) }
-    ensures { result ≡ list_any (λ m. list_any (type_unknown (flat_rows flat.now)) m.fields) (map message_row messages.now) }
+    ensures { result ≡ any_field (type_unknown (flat_rows flat.now)) (flat_rows flat.now) }
 {
-    for message in messages {
-        if has_type_unknown_in(index, flat, message.fields.as_slice()) {
-            return true;
-        }
-    }
-    false
+    any_field(flat, &|field| is_type_unknown(index, flat, field))
 }
 
-fn has_extendee_unknown(
-    index: &Index,
-    flat: &Flat,
-    extensions: &[Definition<FieldDescriptorProto>],
-) -> bool
+fn has_extendee_unknown(index: &Index, flat: &Flat) -> bool
     requires { IsIndex index.now (flat_rows flat.now) }
-    ensures { result ≡ list_any (extendee_unknown (flat_rows flat.now)) (map definition_row extensions.now) }
+    ensures { result ≡ list_any (extendee_unknown (flat_rows flat.now)) (flat_rows flat.now).extensions }
 {
-    for extension in extensions {
-        if names_no_message(index, flat, &extension.proto.extendee) {
-            return true;
-        }
-    }
-    false
+    any_definition(
+        flat.extensions.as_slice(),
+        &|extension| is_extendee_unknown(index, flat, extension),
+    )
 }
 
-fn has_method_type_unknown_in(
-    index: &Index,
-    flat: &Flat,
-    methods: &[Definition<MethodDescriptorProto>],
-) -> bool
+fn has_method_type_unknown(index: &Index, flat: &Flat) -> bool
     requires { IsIndex index.now (flat_rows flat.now) }
-    ensures { result ≡ list_any (method_type_unknown (flat_rows flat.now)) (map definition_row methods.now) }
+    ensures { result ≡ list_any (λ s. list_any (method_type_unknown (flat_rows flat.now)) s.methods) (flat_rows flat.now).services }
 {
-    for method in methods {
-        if is_method_type_unknown(index, flat, method) {
-            return true;
-        }
-    }
-    false
-}
-
-fn has_method_type_unknown_of(index: &Index, flat: &Flat, services: &[FlatService]) -> bool
-    requires { IsIndex index.now (flat_rows flat.now) }
-    ensures { result ≡ list_any (λ s. list_any (method_type_unknown (flat_rows flat.now)) s.methods) (map service_row services.now) }
-{
-    for service in services {
-        if has_method_type_unknown_in(index, flat, service.methods.as_slice()) {
-            return true;
-        }
-    }
-    false
+    any_method(
+        flat.services.as_slice(),
+        &|method| is_method_type_unknown(index, flat, method),
+    )
 }
 
 /// Whether a type name, or what an extension extends, or what a method takes or answers, names nothing of its sort.
@@ -206,8 +148,7 @@ pub fn has_unknown_type(index: &Index, flat: &Flat) -> bool
     requires { IsIndex index.now (flat_rows flat.now) }
     ensures { result ≡ unknown_type (flat_rows flat.now) }
 {
-    has_type_unknown_of(index, flat, flat.messages.as_slice())
-        || has_type_unknown_in(index, flat, flat.extensions.as_slice())
-        || has_extendee_unknown(index, flat, flat.extensions.as_slice())
-        || has_method_type_unknown_of(index, flat, flat.services.as_slice())
+    has_type_unknown(index, flat)
+        || has_extendee_unknown(index, flat)
+        || has_method_type_unknown(index, flat)
 }

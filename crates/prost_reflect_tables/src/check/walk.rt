@@ -79,7 +79,7 @@ pub fn any_file<'a, F: Fn(&&'a FileDescriptorProto) -> bool>(
 }
 
 /// Whether a field of one of the messages passes the test.
-fn any_in_messages<'a, F: Fn(&Definition<'a, FieldDescriptorProto>) -> bool>(
+pub fn any_in_messages<'a, F: Fn(&Definition<'a, FieldDescriptorProto>) -> bool>(
     messages: &[FlatMessage<'a>],
     test: &F,
 ) -> bool
