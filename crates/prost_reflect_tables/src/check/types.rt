@@ -3,16 +3,19 @@
 ghost use Rattle.std.specs.Prelude.{◌≡◌, IfOk, map, is_none, string_bytes};
 ghost use Rattle.std.specs.List.{list_any};
 ghost use Rattle.std.specs.BTreeMap.{get_by_text};
-ghost use Rattle.prost_reflect_tables.specs.Faults.{any_field, is_code, is_message_type, place_of, file_names, message_names, enum_names, dependency_missing, missing_dependency, names_nothing, type_unknown, extendee_unknown, method_type_unknown, unknown_type};
-ghost use Rattle.prost_reflect_tables.specs.FlatViews.{definition_row, file_list, message_row, service_row, flat_rows, text_list};
+ghost use Rattle.prost_reflect_tables.specs.Faults.{any_field, is_code, is_message_type, place_of, file_names, message_names, dependency_missing, missing_dependency, names_nothing, type_unknown, extendee_unknown, method_type_unknown, unknown_type};
+ghost use Rattle.prost_reflect_tables.specs.FlatViews.{definition_row, file_list, flat_rows, text_list};
 ghost use Rattle.prost_reflect_tables.specs.Indexed.{IsIndexOf, IsIndex};
+ghost use Rattle.prost_reflect_tables.specs.Resolved.{resolved_row, IsResolved};
+ghost use Rattle.prost_reflect_tables.specs.ResolvedFaults.{unfound, type_unfound, extendee_unfound};
 
 use crate::build::flatten::{Definition, Flat};
-use crate::build::index::{Index, enum_place, index_of, message_place};
+use crate::build::index::{Index, index_of, message_place};
 use crate::build::names::text_or_empty;
+use crate::build::resolve::{Resolved, ResolvedField};
 use crate::check::fields::{is_code, is_message_type};
-use crate::check::walk::{any, any_definition, any_field, any_file, any_method};
-use prost_reflect_types::{FieldDescriptorProto, FileDescriptorProto, MethodDescriptorProto};
+use crate::check::walk::{any, any_file, any_method, any_resolved_extension, any_resolved_field};
+use prost_reflect_types::{FileDescriptorProto, MethodDescriptorProto};
 use std::alloc::{AllocError, Global};
 use std::collections::BTreeMap;
 
@@ -70,27 +73,32 @@ pub fn has_missing_dependency(
 
 // TYPES
 
+/// Whether there is a text, and its definition was not found.
+fn is_unfound(text: &Option<String>, place: Option<usize>) -> bool
+    ensures { result ≡ unfound text.now place }
+{
+    text.is_some() && place.is_none()
+}
+
+fn is_type_unfound(field: &ResolvedField) -> bool
+    ensures { result ≡ type_unfound (resolved_row field.now) }
+{
+    let proto = field.proto;
+    (is_message_type(proto.type_) && is_unfound(&proto.type_name, field.message))
+        || (is_code(14, proto.type_) && is_unfound(&proto.type_name, field.enumeration))
+}
+
+fn is_extendee_unfound(extension: &ResolvedField) -> bool
+    ensures { result ≡ extendee_unfound (resolved_row extension.now) }
+{
+    is_unfound(&extension.proto.extendee, extension.extendee)
+}
+
 fn names_no_message(index: &Index, flat: &Flat, text: &Option<String>) -> bool
     requires { IsIndex index.now (flat_rows flat.now) }
     ensures { result ≡ names_nothing (message_names (flat_rows flat.now)) text.now }
 {
     text.is_some() && message_place(index, flat, text).is_none()
-}
-
-fn names_no_enum(index: &Index, flat: &Flat, text: &Option<String>) -> bool
-    requires { IsIndex index.now (flat_rows flat.now) }
-    ensures { result ≡ names_nothing (enum_names (flat_rows flat.now)) text.now }
-{
-    text.is_some() && enum_place(index, flat, text).is_none()
-}
-
-fn is_type_unknown(index: &Index, flat: &Flat, field: &Definition<FieldDescriptorProto>) -> bool
-    requires { IsIndex index.now (flat_rows flat.now) }
-    ensures { result ≡ type_unknown (flat_rows flat.now) (definition_row field.now) }
-{
-    let proto = field.proto;
-    (is_message_type(proto.type_) && names_no_message(index, flat, &proto.type_name))
-        || (is_code(14, proto.type_) && names_no_enum(index, flat, &proto.type_name))
 }
 
 fn is_method_type_unknown(
@@ -105,34 +113,6 @@ fn is_method_type_unknown(
         || names_no_message(index, flat, &method.proto.output_type)
 }
 
-fn is_extendee_unknown(
-    index: &Index,
-    flat: &Flat,
-    extension: &Definition<FieldDescriptorProto>,
-) -> bool
-    requires { IsIndex index.now (flat_rows flat.now) }
-    ensures { result ≡ extendee_unknown (flat_rows flat.now) (definition_row extension.now) }
-{
-    names_no_message(index, flat, &extension.proto.extendee)
-}
-
-fn has_type_unknown(index: &Index, flat: &Flat) -> bool
-    requires { IsIndex index.now (flat_rows flat.now) }
-    ensures { result ≡ any_field (type_unknown (flat_rows flat.now)) (flat_rows flat.now) }
-{
-    any_field(flat, &|field| is_type_unknown(index, flat, field))
-}
-
-fn has_extendee_unknown(index: &Index, flat: &Flat) -> bool
-    requires { IsIndex index.now (flat_rows flat.now) }
-    ensures { result ≡ list_any (extendee_unknown (flat_rows flat.now)) (flat_rows flat.now).extensions }
-{
-    any_definition(
-        flat.extensions.as_slice(),
-        &|extension| is_extendee_unknown(index, flat, extension),
-    )
-}
-
 fn has_method_type_unknown(index: &Index, flat: &Flat) -> bool
     requires { IsIndex index.now (flat_rows flat.now) }
     ensures { result ≡ list_any (λ s. list_any (method_type_unknown (flat_rows flat.now)) s.methods) (flat_rows flat.now).services }
@@ -143,12 +123,27 @@ fn has_method_type_unknown(index: &Index, flat: &Flat) -> bool
     )
 }
 
+fn has_type_unknown(resolved: &Resolved, flat: &Flat) -> bool
+    requires { IsResolved resolved.now (flat_rows flat.now) }
+    ensures { result ≡ any_field (type_unknown (flat_rows flat.now)) (flat_rows flat.now) }
+{
+    any_resolved_field(resolved, flat, &is_type_unfound)
+        || any_resolved_extension(resolved, flat, &is_type_unfound)
+}
+
+fn has_extendee_unknown(resolved: &Resolved, flat: &Flat) -> bool
+    requires { IsResolved resolved.now (flat_rows flat.now) }
+    ensures { result ≡ list_any (extendee_unknown (flat_rows flat.now)) (flat_rows flat.now).extensions }
+{
+    any_resolved_extension(resolved, flat, &is_extendee_unfound)
+}
+
 /// Whether a type name, or what an extension extends, or what a method takes or answers, names nothing of its sort.
-pub fn has_unknown_type(index: &Index, flat: &Flat) -> bool
-    requires { IsIndex index.now (flat_rows flat.now) }
+pub fn has_unknown_type(resolved: &Resolved, flat: &Flat) -> bool
+    requires { IsResolved resolved.now (flat_rows flat.now) }
     ensures { result ≡ unknown_type (flat_rows flat.now) }
 {
-    has_type_unknown(index, flat)
-        || has_extendee_unknown(index, flat)
-        || has_method_type_unknown(index, flat)
+    has_type_unknown(resolved, flat)
+        || has_extendee_unknown(resolved, flat)
+        || has_method_type_unknown(&resolved.index, flat)
 }
