@@ -11,7 +11,7 @@ use Rattle.prost_reflect_types.proofs.EqualContents.{SameFile, file_same, zip_sa
 use Rattle.prost_reflect_tables.specs.declared.error.PoolError.{PoolError}
 use Rattle.prost_reflect_tables.specs.declared.error.PoolError.TheVariants.{BadMapEntry, BadOptions, BadDefault, FloatDefault, MissingName, UnknownSyntax, MissingDependency, BadIndex, BadNumber, BadRange, MissingType, BadLabel, BadOneof, EmptyEnum, DuplicateName, UnknownType, DuplicateNumber, OutsideRange}
 use Rattle.prost_reflect_tables.specs.Flat.{FlatRows, flattened}
-use Rattle.prost_reflect_tables.specs.Checked.{has_fault, Checked}
+use Rattle.prost_reflect_tables.specs.Checked.{has_fault}
 use Rattle.prost_reflect_tables.specs.FileLaws.{SameContents, EqualTables, EqualChecks, EqualRefusals}
 use Rattle.prost_reflect_tables.proofs.SameRows.{SameRows}
 use Rattle.prost_reflect_tables.proofs.SameFlat.{flattened_same}

@@ -1,6 +1,6 @@
 -- A number is in one of some ranges exactly where it is in the last of their spans in order that starts at it or below.
 use Rattle.std.proofs.Common.{◌≡◌, ℕ, zero, suc, ◌+◌, ◌<◌, ◌≤◌, ℤ, pos, negsuc, Bool, true, false, cond, ◌&&◌, ◌||◌, List, [], ◌∷◌, ◌++◌, map, length, take, get_or, Option, Some, None, slice_get, refl, sym, ap, ◌∙◌, subst, ◌-◌, arith, ⊎_elim}
-use Rattle.std.specs.Prelude.{nat_le, nat_lt, int_le, int_lt, not, option_and_then, Vec}
+use Rattle.std.specs.Prelude.{nat_le, nat_lt, int_le, int_lt, not, Vec}
 use Rattle.std.specs.List.{list_any}
 use Rattle.std.specs.List.Sorted.{IsNonDecreasingBy, IsPartitionPoint, IsPermutation}
 use Rattle.std.specs.declared.alloc.Global.{Global}
