@@ -26,6 +26,8 @@ pub mod Options
 pub mod Linking
 pub mod InRange
 pub mod Indexing
+pub mod Resolved
+pub mod ResolvedFaults
 pub mod LinkingExamples
 pub mod FileLaws
 pub mod FileExamples

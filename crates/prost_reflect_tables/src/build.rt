@@ -18,6 +18,7 @@ pub mod index;
 pub mod link;
 pub mod names;
 pub mod options;
+pub mod resolve;
 
 use crate::build::flatten::flattened;
 use crate::build::link::linked;
@@ -40,7 +41,7 @@ pub fn build_tables(alloc: Global, files: &[&FileDescriptorProto]) -> Result<Tab
     ensures stands { IfErr result (λ e. e ≢ pool_errors.OutOfMemory → Stands e (file_list files.now) (flattened (file_list files.now))) }
 {
     let flat = flattened(alloc, files)?;
-    let index = check_files(alloc, files, &flat)?;
-    let (messages, enums) = linked(alloc, &flat, &index)?;
+    let resolved = check_files(alloc, files, &flat)?;
+    let (messages, enums) = linked(alloc, &flat, &resolved.index)?;
     Ok(Tables { messages, enums })
 }

@@ -15,6 +15,7 @@ pub use build::flatten::{Definition, Flat, FlatEnum, FlatMessage, FlatService, f
 pub use build::index::{Index, indexed};
 pub use build::link::linked;
 pub use build::names::text_or_empty;
+pub use build::resolve::{Resolved, ResolvedField, all_resolved};
 pub use check::check_files;
 pub use error::PoolError;
 pub use examples::{
