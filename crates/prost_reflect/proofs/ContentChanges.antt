@@ -1,11 +1,12 @@
 -- Contents at each number after the operations of the field set.
 use Rattle.std.proofs.Common.{◌≡◌, ℕ, Bool, true, false, cond, nat_eq, Option, Some, None, refl, ap, sym, ◌∙◌, subst, arith}
 use Rattle.std.specs.Option.{option_map}
+use Rattle.std.proofs.lemmas.Bool.{or_parts}
 use Rattle.prost_reflect_wire.specs.Schema.{Schema, Field, known, is_sibling}
 use Rattle.prost_reflect_wire.specs.Content.{ContentOf, Entries, Slot, slot_at, table, changed, insert_number, numbers_in, entries_of, schema_of, type_of, entries_ordered, value_ordered}
 use Rattle.prost_reflect_wire.specs.Edit.{with_value, with_field_value}
 use Rattle.prost_reflect_wire.proofs.Numbers.{is_in, Covers, empty_slot, insert_ascending, entries_ascending, in_insert, slot_outside, slot_table}
-use Rattle.prost_reflect_wire.proofs.Survivors.{or_false, field_number}
+use Rattle.prost_reflect_wire.proofs.Survivors.{field_number}
 use Rattle.prost_reflect_laws.proofs.Arranged.{OrderedOption, table_ordered}
 use Rattle.prost_reflect.specs.declared.value.Value.{Value}
 use Rattle.prost_reflect_pool.specs.MessageTypes.{schema_at, type_at}
@@ -17,6 +18,7 @@ use Rattle.prost_reflect.specs.ContentLaws.{MessageSlots, MessageOrder, SlotsAft
 use Rattle.prost_reflect.proofs.Views.{shown, content_of_message}
 use Rattle.prost_reflect.proofs.Slots.{same_slots_same, from_keys, from_slots}
 use Rattle.prost_reflect.proofs.Stored.{ascending_shown, slot_stored, slot_of_message}
+use Rattle.prost_reflect.proofs.KeptSlots.{none_stays}
 
 -- the slots of entries that were changed
 pub slot_changed : (n : ℕ) (change : ℕ → Slot → Slot) (es : Entries) → ((k : ℕ) → nat_eq k n ≡ false → change k empty_slot ≡ empty_slot) → (k : ℕ) → slot_at (changed n change es) k ≡ change k (slot_at es k)
@@ -25,18 +27,14 @@ slot_changed n change es still k =
   where
     covers : Covers (λ m. change m (slot_at es m)) 0 (insert_number n (numbers_in es))
     covers k low out =
-        let (apart, outside) = or_false (nat_eq k n) (is_in k (numbers_in es)) (sym (in_insert k n (numbers_in es)) ∙ out) in
+        let (apart, outside) = or_parts (nat_eq k n) (is_in k (numbers_in es)) (sym (in_insert k n (numbers_in es)) ∙ out) in
         ap (change k) (slot_outside es k outside) ∙ still k apart
-
-nothing_cleared : (b : Bool) → cond b (with_value None empty_slot) empty_slot ≡ empty_slot
-nothing_cleared true = refl
-nothing_cleared false = refl
 
 pub slots_after_set : SlotsAfterSet
 slots_after_set (ContentOf schema T es) n v f found k =
     ap (λ (o : Option Field). slot_at (elim o [ None ↦ es | Some f ↦ with_field_value (known schema T) f (Some v) es ]) k) found
     ∙ slot_changed f.number (λ m slot. cond (nat_eq m f.number) (with_value (Some v) slot) (cond (is_sibling (known schema T) f m) (with_value None slot) slot)) es
-    (λ m apart. ap (λ b. cond b (with_value (Some v) empty_slot) (cond (is_sibling (known schema T) f m) (with_value None empty_slot) empty_slot)) apart ∙ nothing_cleared (is_sibling (known schema T) f m)) k
+    (λ m apart. ap (λ b. cond b (with_value (Some v) empty_slot) (cond (is_sibling (known schema T) f m) (with_value None empty_slot) empty_slot)) apart ∙ none_stays (is_sibling (known schema T) f m)) k
     ∙ ap (λ z. cond (nat_eq k z) (with_value (Some v) (slot_at es k)) (cond (is_sibling (known schema T) f k) (with_value None (slot_at es k)) (slot_at es k))) (field_number (known schema T) n f found)
 
 pub slots_after_clear : SlotsAfterClear

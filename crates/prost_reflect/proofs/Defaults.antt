@@ -1,7 +1,7 @@
 -- What a field has where nothing is stored, by its row and the value's own form.
 use Rattle.std.proofs.Common.{◌≡◌, ◌≢◌, true, false, List, [], ◌∷◌, length, map, Option, Some, None, refl, ap, ◌∙◌, arith, true≢false}
 use Rattle.std.specs.Prelude.{◌==◌, is_some, option_map}
-use Rattle.prost_reflect_wire.specs.Schema.{FieldForm}
+use Rattle.prost_reflect_wire.specs.Schema.{FieldForm, is_map}
 use Rattle.prost_reflect_wire.specs.Content.{Value, ListValue, MapValue, values_from}
 use Rattle.prost_reflect_tables.specs.declared.tables.Cardinality.{Cardinality}
 use Rattle.prost_reflect_tables.specs.declared.tables.Cardinality.TheVariants.{Optional, Required, Repeated as RepeatedLabel}
@@ -11,8 +11,7 @@ use Rattle.prost_reflect_tables.specs.Shown.{form_of, schema_field}
 use Rattle.prost_reflect_pool.specs.MapParts.{map_parts}
 use Rattle.prost_reflect.specs.View.{pairs_from}
 use Rattle.prost_reflect.specs.declared.value.MapKey.{MapKey}
-use Rattle.prost_reflect_wire.specs.Fault.{is_map}
-use Rattle.prost_reflect.specs.Defaults.{is_empty_value}
+use Rattle.prost_reflect_wire.specs.Typing.{is_empty_value}
 use Rattle.prost_reflect.proofs.RowKinds.{no_map}
 use Rattle.prost_reflect.proofs.MapRows.{shown_map}
 

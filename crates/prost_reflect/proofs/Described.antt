@@ -1,11 +1,10 @@
 -- The known fields of a descriptor's message type, and its schema.
 use Rattle.std.proofs.Common.{◌≡◌, ℕ, ◌<◌, true, length, map, Some, ap, subst}
-use Rattle.std.proofs.lemmas.Bool.{ltb-true}
+use Rattle.std.proofs.lemmas.Bool.{ltb-true, and_parts}
 use Rattle.std.specs.Prelude.{slice_get, option_map}
 use Rattle.std.proofs.lemmas.List.{length-map}
 use Rattle.prost_reflect_wire.specs.Schema.{Kind, ScalarOf, MessageOf, GroupOf, Field, known, field_of, kind_valid, field_valid, schema_valid}
 use Rattle.prost_reflect_wire.specs.Edit.{message_of}
-use Rattle.prost_reflect_wire.proofs.Deeper.{and_both}
 use Rattle.prost_reflect_laws.proofs.Checked.{known_valid, found_valid, checked_field}
 use Rattle.prost_reflect_tables.specs.Rows.{FieldRow}
 use Rattle.prost_reflect_tables.specs.Places.{row_of}
@@ -39,8 +38,8 @@ named_in_range m n f T found names =
   where
     named : (kind : Kind) → message_of kind ≡ Some T → kind_valid (schema_at m) kind ≡ true → T < length (schema_at m)
     named (ScalarOf kind) e h = cc
-    named (MessageOf U) e h = let same : U ≡ T = cc in subst (λ U. U < length (schema_at m)) same (ltb-true U (length (schema_at m)) (and_both _ _ h).0)
-    named (GroupOf U) e h = let same : U ≡ T = cc in subst (λ U. U < length (schema_at m)) same (ltb-true U (length (schema_at m)) (and_both _ _ h).0)
+    named (MessageOf U) e h = let same : U ≡ T = cc in subst (λ U. U < length (schema_at m)) same (ltb-true U (length (schema_at m)) (and_parts _ _ h).0)
+    named (GroupOf U) e h = let same : U ≡ T = cc in subst (λ U. U < length (schema_at m)) same (ltb-true U (length (schema_at m)) (and_parts _ _ h).0)
 
 -- The known fields are the rows, shown.
 pub known_at : (m : PooledType) → known (schema_at m) (type_at m) ≡ map (schema_field (pool_rows m.pool)) (fields_of m)

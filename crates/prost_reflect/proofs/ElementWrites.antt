@@ -2,24 +2,25 @@
 use Rattle.std.proofs.Common.{◌≡◌, ℕ, Bool, true, false, not, ◌||◌, List, [], ◌∷◌, ◌++◌, map, Some, refl, sym, ap, ◌∙◌, subst, true≢false}
 use Rattle.std.specs.Prelude.{Vec}
 use Rattle.std.specs.declared.alloc.Global.{Global}
+use Rattle.std.proofs.lemmas.Bool.{and_parts}
 use Rattle.prost_reflect_wire.specs.Record.{record_at, spelled}
 use Rattle.prost_reflect_wire.specs.Scalar.{Scalar}
-use Rattle.prost_reflect_wire.specs.Schema.{Kind, ScalarOf, MessageOf, GroupOf, Repeated, field_of, is_message, is_packable_kind, passes}
+use Rattle.prost_reflect_wire.specs.Schema.{Kind, ScalarOf, MessageOf, GroupOf, Repeated, field_of, is_message, is_packable_kind, passes, is_list}
 use Rattle.prost_reflect_wire.specs.Content as contents
 use Rattle.prost_reflect_wire.specs.Content.{MessageValue, ListValue, values_from, schema_of, type_of}
 use Rattle.prost_reflect_wire.specs.Writing.{element_payloads}
-use Rattle.prost_reflect_wire.specs.Typing.{is_repeated as is_list, encodable, kind_takes, element_valid, elements_valid, value_valid, value_passes, values_pass, fit_test, kept_values}
+use Rattle.prost_reflect_wire.specs.Typing.{encodable, kind_takes, element_valid, elements_valid, value_valid, value_passes, values_pass, fit_test, kept_values}
 use Rattle.prost_reflect_wire.specs.Storing.{value_bytes}
-use Rattle.prost_reflect_wire.proofs.Deeper.{and_both}
 use Rattle.prost_reflect_laws.proofs.Checked.{checked_field, checked_list}
 use Rattle.prost_reflect_laws.proofs.ListWritten.{messages_written}
 use Rattle.prost_reflect_tables.specs.Rows.{FieldRow}
 use Rattle.prost_reflect_tables.specs.Shown.{schema_kind, schema_field}
+use Rattle.prost_reflect_tables.specs.Linking.{is_repeated}
 use Rattle.prost_reflect_pool.specs.declared.pooled_type.PooledType.{PooledType}
 use Rattle.prost_reflect.specs.declared.message.DynamicMessage.{DynamicMessage}
 use Rattle.prost_reflect.specs.declared.value.Value.{Value}
 use Rattle.prost_reflect.specs.declared.value.Value as values
-use Rattle.prost_reflect.specs.RowKinds.{is_repeated, names_message}
+use Rattle.prost_reflect.specs.RowKinds.{names_message}
 use Rattle.prost_reflect_pool.specs.MessageTypes.{schema_at}
 use Rattle.prost_reflect.specs.Encoding.{ValueWritable, nested_bytes}
 use Rattle.prost_reflect_fields.specs.Known.{known_of}
@@ -41,18 +42,11 @@ element_is_message (contents.ScalarValue s) w = absurd w
 element_is_message (ListValue vs) w = absurd w
 element_is_message (contents.MapValue ps) w = absurd w
 
-module _ (m : DynamicMessage) (v : Value) (is : v ≡ values.Message m) where
-  seen : value_of v ≡ MessageValue (content_of m)
-  seen = ap value_of is ∙ value_of_message m
-
-  writable : ElementWritable (value_of v) → ElementWritable (MessageValue (content_of m))
-  writable w = subst ElementWritable (ap value_of is ∙ value_of_message m) w
-
-  pub element_encodable : ElementWritable (value_of v) → encodable (content_of m) ≡ true
-  element_encodable w = writable w
-
-  pub element_shown : (n : ℕ) (g : Bool) → element_bytes n g (value_of v) ≡ nested_bytes n g (content_of m)
-  element_shown n g = ap (element_bytes n g) seen
+pub element_encodable : (m : DynamicMessage) (v : Value) → v ≡ values.Message m → ElementWritable (value_of v) → encodable (content_of m) ≡ true
+element_encodable m v is w = go (subst ElementWritable (ap value_of is ∙ value_of_message m) w)
+  where
+    go : ElementWritable (MessageValue (content_of m)) → encodable (content_of m) ≡ true
+    go w = w
 
 pub no_element : (v : Value) → ElementWritable (value_of v) → ((m : DynamicMessage) → v ≡ values.Message m → ⊥) → ⊥
 no_element v w none = true≢false (sym (element_is_message (value_of v) w) ∙ no_message_value v none)
@@ -77,8 +71,8 @@ module _ (kind : Kind) (message : is_message kind ≡ true) where
   each_writable : (vs : List Value) → elements_valid kind (values_from (map value_of vs)) ≡ true → values_pass fit_test (values_from (map value_of vs)) ≡ true → AreElements vs
   each_writable [] h f = tt
   each_writable (v ∷ vs) h f =
-      let valid = and_both (element_valid kind (value_of v)) (elements_valid kind (values_from (map value_of vs))) h in
-      let fits = and_both (value_passes fit_test (value_of v)) (values_pass fit_test (values_from (map value_of vs))) f in
+      let valid = and_parts (element_valid kind (value_of v)) (elements_valid kind (values_from (map value_of vs))) h in
+      let fits = and_parts (value_passes fit_test (value_of v)) (values_pass fit_test (values_from (map value_of vs))) f in
       (go (value_of v) valid.0 fits.0, each_writable vs valid.1 fits.1)
     where
       scalar : (kind : Kind) (s : Scalar) → is_message kind ≡ true → kind_takes kind s ≡ true → ⊥
@@ -113,7 +107,7 @@ row_messages_written d n row v vs found many form names w is =
     let single : (schema_field (pool_rows d.pool) row).form ≡ Repeated false = form ∙ ap Repeated (not_packed row.is_packed (schema_field (pool_rows d.pool) row).value_type.kind message checked.packable) in
     let valid : value_valid (schema_field (pool_rows d.pool) row) (ListValue (values_from (map value_of vs.items))) ≡ true = passing (field_of (known_of d) n) (schema_field (pool_rows d.pool) row) (λ f. value_valid f (ListValue (values_from (map value_of vs.items)))) (sym found)
     (ap (λ v. passes (field_of (known_of d) n) (λ f. value_valid f v)) (sym seen) ∙ w.valid) in
-    let takes : AreElements vs.items = each_writable (schema_field (pool_rows d.pool) row).value_type.kind message vs.items (and_both _ _ valid).1 (ap (value_passes fit_test) (sym seen) ∙ w.fits) in
+    let takes : AreElements vs.items = each_writable (schema_field (pool_rows d.pool) row).value_type.kind message vs.items (and_parts _ _ valid).1 (ap (value_passes fit_test) (sym seen) ∙ w.fits) in
     record {
       takes = takes;
       bytes = ap (value_bytes (known_of d) n) seen

@@ -1,8 +1,9 @@
 -- The entries of a message that is encodable can be written, and their bytes are the encoding of its content.
+use Rattle.prost_reflect_wire.specs.Sinks.{Adds}
+use Rattle.prost_reflect_wire.proofs.SinkSteps.{adds_in_turn, adds_same}
 use Rattle.prost_reflect_wire.proofs.WrittenRecords.{cut_before}
-use Rattle.std.proofs.Common.{◌≡◌, ℕ, true, cond, List, [], ◌∷◌, ◌++◌, map, nat_eq, Option, Some, None, refl, sym, ap, ap₂, ◌∙◌, subst, zero, suc, ◌+◌, ◌-◌, ◌^◌, ◌≤◌, ◌<◌, length, drop, get_or, arith, append_assoc}
-use Rattle.std.proofs.lemmas.List.{length-append}
-use Rattle.std.proofs.lemmas.Bool.{eqb-true}
+use Rattle.std.proofs.Common.{◌≡◌, ℕ, true, cond, List, [], ◌∷◌, ◌++◌, map, nat_eq, Option, Some, None, refl, sym, ap, ap₂, ◌∙◌, subst, zero, suc, ◌-◌, ◌≤◌, ◌<◌, length, drop, get_or, arith, append_assoc}
+use Rattle.std.proofs.lemmas.Bool.{eqb-true, and_parts}
 use Rattle.std.specs.List.{list_all}
 use Rattle.std.specs.List.Sorted.{IsStrictlySortedBy}
 use Rattle.std.specs.Option.{option_map, option_and_then}
@@ -17,7 +18,6 @@ use Rattle.prost_reflect_wire.specs.Typing.{EntryTest, fit_test, value_valid, va
 use Rattle.prost_reflect_wire.specs.Storing.{slot_bytes, value_bytes, stored_bytes}
 use Rattle.prost_reflect_wire.specs.Unknown.{records_of}
 use Rattle.prost_reflect_wire.specs.declared.unknown.UnknownFieldSet.{UnknownFieldSet}
-use Rattle.prost_reflect_wire.proofs.Deeper.{and_both}
 use Rattle.prost_reflect_laws.proofs.WrittenEntries.{written_store}
 use Rattle.prost_reflect_fields.specs.declared.slot.FieldSlot.{FieldSlot}
 use Rattle.prost_reflect_fields.specs.declared.slot.FieldSlot.TheVariants as entries
@@ -34,7 +34,7 @@ use Rattle.prost_reflect.proofs.Views.{shown, shown_entry, content_of_message}
 
 -- BYTES
 
-slot_shown : (e : FieldSlot Value) → slot_of (shown_entry e) ≡ entry_slot e
+slot_shown : (e : FieldSlot Value) → slot_of (λ v. v) (shown_entry e) ≡ entry_slot e
 slot_shown (entries.Value v) = refl
 slot_shown (entries.Unknown u) = refl
 slot_shown (entries.Both v u) = refl
@@ -42,7 +42,7 @@ slot_shown (entries.Both v u) = refl
 pub written_entries : (fields : List Field) (es : List (ℕ × FieldSlot Value)) → spelled (entries_records fields (kept_entries fields (entries_from (shown es)))) ≡ entries_bytes fields es
 written_entries fields [] = refl
 written_entries fields (e ∷ es) =
-    written_store fields e.0 (slot_of (shown_entry e.1)) (entries_from (shown es))
+    written_store fields e.0 (slot_of (λ v. v) (shown_entry e.1)) (entries_from (shown es))
     ∙ ap₂ (λ slot more. slot_bytes fields e.0 slot ++ more) (slot_shown e.1) (written_entries fields es)
 
 pub encoded_entries : (m : DynamicMessage) → encoded (kept (content_of m)) ≡ entries_bytes (known_of (message_type_of m)) (stored_in m)
@@ -52,7 +52,7 @@ encoded_entries m = ap (λ c. encoded (kept c)) (content_of_message m) ∙ writt
 pub own_records : (n : ℕ) (rs : List Record) → list_all (λ r. nat_eq r.number n) rs ≡ true → map (record_at n) (payloads_of rs) ≡ rs
 own_records n [] h = refl
 own_records n (r ∷ rs) h =
-    let (same, more) = and_both (nat_eq r.number n) (list_all (λ r. nat_eq r.number n) rs) h in
+    let (same, more) = and_parts (nat_eq r.number n) (list_all (λ r. nat_eq r.number n) rs) h in
     ap₂ (λ k l. record_at k r.payload ∷ l) (sym (eqb-true r.number n same)) (own_records n rs more)
 
 pub own_all : (n : ℕ) (rs : List Record) → are_records_of n rs ≡ true → map (record_at n) (payloads_of rs) ≡ rs
@@ -63,7 +63,7 @@ own_all n (r ∷ rs) h = own_records n (r ∷ rs) h
 
 behind_unknowns : (test : EntryTest) (fields : List Field) (n : ℕ) (ps : List Payload) (es : Entries) → entries_pass test fields (then_unknowns n ps es) ≡ true → entries_pass test fields es ≡ true
 behind_unknowns test fields n [] es h = h
-behind_unknowns test fields n (p ∷ ps) es h = behind_unknowns test fields n ps es (and_both (test.unknown fields n p) _ h).1
+behind_unknowns test fields n (p ∷ ps) es h = behind_unknowns test fields n ps es (and_parts (test.unknown fields n p) _ h).1
 
 -- the value of the first entry
 record FirstValue (fields : List Field) (n : ℕ) (o : Option contents.Value) : Type 0 where
@@ -72,13 +72,13 @@ record FirstValue (fields : List Field) (n : ℕ) (o : Option contents.Value) : 
 first_value : (fields : List Field) (n : ℕ) (o : Option contents.Value) (es : Entries) → entries_pass fit_test fields (then_value n o es) ≡ true → FirstValue fields n o
 first_value fields n None es h = record { writable = λ v e. cc }
 first_value fields n (Some w) es h =
-    let parts = and_both (passes (field_of fields n) (λ f. value_valid f w)) (value_passes fit_test w) (and_both _ (entries_pass fit_test fields es) h).0 in
+    let parts = and_parts (passes (field_of fields n) (λ f. value_valid f w)) (value_passes fit_test w) (and_parts _ (entries_pass fit_test fields es) h).0 in
     let own : ValueWritable fields n w = record { valid = parts.0; fits = parts.1 } in
     record { writable = λ v e. let same : w ≡ v = cc in subst (ValueWritable fields n) same own }
 
 behind_value : (test : EntryTest) (fields : List Field) (n : ℕ) (o : Option contents.Value) (es : Entries) → entries_pass test fields (then_value n o es) ≡ true → entries_pass test fields es ≡ true
 behind_value test fields n None es h = h
-behind_value test fields n (Some w) es h = (and_both _ (entries_pass test fields es) h).1
+behind_value test fields n (Some w) es h = (and_parts _ (entries_pass test fields es) h).1
 
 -- each entry has unknown records of its own number
 abbrev OwnRecords : List (ℕ × FieldSlot Value) → Type 0
@@ -91,24 +91,24 @@ own_in fields [] s kept = tt
 own_in fields (e ∷ es) s kept = (
   λ rs is.
       let here : records_at (e ∷ es) e.0 ≡ Some rs = ap (λ o. option_and_then records_in (cond (is_eq o) (Some e.1) (item_at es e.0))) (itself e.0) ∙ is in
-      (and_both (keeps_unknown fields e.0) (are_records_of e.0 rs) (ap (unknown_kept fields e.0) (sym here) ∙ kept e.0)).1,
+      (and_parts (keeps_unknown fields e.0) (are_records_of e.0 rs) (ap (unknown_kept fields e.0) (sym here) ∙ kept e.0)).1,
   own_in fields es s.1 (λ n. by_number n e.0 (λ same. behind n same) (λ apart. ap (λ b. unknown_kept fields n (option_and_then records_in (cond b (Some e.1) (item_at es n)))) (sym apart) ∙ kept n)),
 )
   where
     behind : (n : ℕ) → n ≡ e.0 → unknown_kept fields n (records_at es n) ≡ true
     behind n same = ap (λ o. unknown_kept fields n (option_and_then records_in o)) (subst (λ k. item_at es k ≡ None) (sym same) (none_above e.0 es s.0))
 
-shown_value : (e : FieldSlot Value) (v : Value) → value_in e ≡ Some v → (slot_of (shown_entry e)).value ≡ Some (value_of v)
+shown_value : (e : FieldSlot Value) (v : Value) → value_in e ≡ Some v → (slot_of (λ v. v) (shown_entry e)).value ≡ Some (value_of v)
 shown_value e v is = ap (λ (slot : Slot). slot.value) (slot_shown e) ∙ ap (option_map value_of) is
 
 writable_entries : (fields : List Field) (es : List (ℕ × FieldSlot Value)) → entries_pass fit_test fields (entries_from (shown es)) ≡ true → OwnRecords es → AreWritable fields es
 writable_entries fields [] h own = tt
 writable_entries fields (e ∷ es) h own = (
   record {
-    value = λ v is. (first_value fields e.0 (slot_of (shown_entry e.1)).value (then_unknowns e.0 (slot_of (shown_entry e.1)).unknowns (entries_from (shown es))) h).writable (value_of v) (shown_value e.1 v is);
+    value = λ v is. (first_value fields e.0 (slot_of (λ v. v) (shown_entry e.1)).value (then_unknowns e.0 (slot_of (λ v. v) (shown_entry e.1)).unknowns (entries_from (shown es))) h).writable (value_of v) (shown_value e.1 v is);
     own = own.0;
   },
-  writable_entries fields es (behind_unknowns fit_test fields e.0 (slot_of (shown_entry e.1)).unknowns (entries_from (shown es)) (behind_value fit_test fields e.0 (slot_of (shown_entry e.1)).value _ h)) own.1,
+  writable_entries fields es (behind_unknowns fit_test fields e.0 (slot_of (λ v. v) (shown_entry e.1)).unknowns (entries_from (shown es)) (behind_value fit_test fields e.0 (slot_of (λ v. v) (shown_entry e.1)).value _ h)) own.1,
 )
 
 pub writable_message : (m : DynamicMessage) → encodable (content_of m) ≡ true → IsAscending (stored_in m) → IsSound (message_type_of m) (stored_in m) → AreWritable (known_of (message_type_of m)) (stored_in m)
@@ -126,72 +126,39 @@ unknown_nothing n e is = ap (λ o. spelled (map (record_at n) (payloads_of (unwr
 
 -- ENTRIES FROM THE BACK
 
-pub bytes_cons : (fields : List Field) (items rest : List (ℕ × FieldSlot Value)) (e : ℕ × FieldSlot Value) → items ≡ e ∷ rest → entries_bytes fields items ≡ slot_bytes fields e.0 (entry_slot e.1) ++ entries_bytes fields rest
-bytes_cons fields items rest e is = ap (entries_bytes fields) is
-
-bytes_drop : (fields : List Field) (i : ℕ) (items : List (ℕ × FieldSlot Value)) → length (entries_bytes fields (drop i items)) ≤ length (entries_bytes fields items)
-bytes_drop fields zero items = omega arith
-bytes_drop fields (suc i) [] = omega arith
-bytes_drop fields (suc i) (e ∷ items) = omega (arith, bytes_drop fields i items, length-append (slot_bytes fields e.0 (entry_slot e.1)) (entries_bytes fields items))
-
--- a length that is too great before the whole is written
-pub too_long_from : (fields : List Field) (items : List (ℕ × FieldSlot Value)) (i : ℕ) (e : ℕ × FieldSlot Value) (old mid : List ℕ) → drop (i - 1) items ≡ e ∷ drop i items → mid ≡ entries_bytes fields (drop i items) ++ old →
-    2 ^ 64 ≤ length (slot_bytes fields e.0 (entry_slot e.1)) + length mid → 2 ^ 64 ≤ length (entries_bytes fields items) + length old
-too_long_from fields items i e old mid cut is h =
-    omega (
-      arith,
-      h,
-      ap length is,
-      length-append (entries_bytes fields (drop i items)) old,
-      ap length (bytes_cons fields (drop (i - 1) items) (drop i items) e cut),
-      length-append (slot_bytes fields e.0 (entry_slot e.1)) (entries_bytes fields (drop i items)),
-      bytes_drop fields (i - 1) items,
-    )
-
 pub writable_at : (fields : List Field) (items : List (ℕ × FieldSlot Value)) (i : ℕ) (e : ℕ × FieldSlot Value) → i < length items → e ≡ get_or items i e → AreWritable fields items → IsWritable fields e.0 e.1
 writable_at fields [] i e l is h = absurd (omega arith)
 writable_at fields (x ∷ items) zero e l is h = subst (λ (x : ℕ × FieldSlot Value). IsWritable fields x.0 x.1) (sym is) h.0
 writable_at fields (x ∷ items) (suc i) e l is h = writable_at fields items i e (omega arith) is h.1
 
 -- the whole is written
-pub whole_written : (m : DynamicMessage) (i : ℕ) (old new : List ℕ) → i ≡ 0 → new ≡ entries_bytes (known_of (message_type_of m)) (drop i (stored_in m)) ++ old → new ≡ encoded (kept (content_of m)) ++ old
-whole_written m i old new first is = is ∙ ap (λ i. entries_bytes (known_of (message_type_of m)) (drop i (stored_in m)) ++ old) first ∙ ap (λ l. l ++ old) (sym (encoded_entries m))
+pub whole_written : (m : DynamicMessage) (i : ℕ) → i ≡ 0 → entries_bytes (known_of (message_type_of m)) (drop i (stored_in m)) ≡ encoded (kept (content_of m))
+whole_written m i first = ap (λ i. entries_bytes (known_of (message_type_of m)) (drop i (stored_in m))) first ∙ sym (encoded_entries m)
 
 module _ (m : DynamicMessage) (i : ℕ) (e : ℕ × FieldSlot Value) (some : 0 < i) (within : i ≤ length (stored_in m)) (at : e ≡ get_or (stored_in m) (i - 1) e) where
-  cut_here : drop (i - 1) (stored_in m) ≡ e ∷ drop i (stored_in m)
-  cut_here = cut_before (stored_in m) i e some within at
-
   pub entry_writable : encodable (content_of m) ≡ true → IsAscending (stored_in m) → IsSound (message_type_of m) (stored_in m) → IsWritable (known_of (message_type_of m)) e.0 e.1
   entry_writable h s sound = writable_at (known_of (message_type_of m)) (stored_in m) (i - 1) e (omega (arith, some, within)) at (writable_message m h s sound)
 
-  entry_too_long : (old mid : List ℕ) → mid ≡ entries_bytes (known_of (message_type_of m)) (drop i (stored_in m)) ++ old → 2 ^ 64 ≤ length (slot_bytes (known_of (message_type_of m)) e.0 (entry_slot e.1)) + length mid → 2 ^ 64 ≤ length (encoded (kept (content_of m))) + length old
-  entry_too_long old mid is h =
-      let all : 2 ^ 64 ≤ length (entries_bytes (known_of (message_type_of m)) (stored_in m)) + length old = too_long_from (known_of (message_type_of m)) (stored_in m) i e old mid cut_here is h in
-      omega (arith, all, ap length (encoded_entries m))
+  abbrev rest : List ℕ
+  rest = entries_bytes (known_of (message_type_of m)) (drop i (stored_in m))
 
-  pub unknown_too_long : (old mid : List ℕ) → mid ≡ entries_bytes (known_of (message_type_of m)) (drop i (stored_in m)) ++ old → 2 ^ 64 ≤ length (unknown_bytes e.0 (entry_slot e.1)) + length mid → 2 ^ 64 ≤ length (encoded (kept (content_of m))) + length old
-  unknown_too_long old mid is h =
-      let more = length-append (stored_bytes (known_of (message_type_of m)) e.0 (entry_slot e.1).value) (unknown_bytes e.0 (entry_slot e.1)) in
-      entry_too_long old mid is (omega (arith, h, more))
+  abbrev stored : List ℕ
+  stored = stored_bytes (known_of (message_type_of m)) e.0 (entry_slot e.1).value
 
-  stored_value : (v : Value) → value_in e.1 ≡ Some v → stored_bytes (known_of (message_type_of m)) e.0 (entry_slot e.1).value ≡ value_bytes (known_of (message_type_of m)) e.0 (value_of v)
-  stored_value v is = ap (λ o. stored_bytes (known_of (message_type_of m)) e.0 (option_map value_of o)) is
+  -- one entry more
+  entry_first : stored ++ (unknown_bytes e.0 (entry_slot e.1) ++ rest) ≡ entries_bytes (known_of (message_type_of m)) (drop (i - 1) (stored_in m))
+  entry_first = sym (append_assoc stored (unknown_bytes e.0 (entry_slot e.1)) rest) ∙ ap (entries_bytes (known_of (message_type_of m))) (sym (cut_before (stored_in m) i e some within at))
 
-  pub value_too_long : (v : Value) (old mid after : List ℕ) → value_in e.1 ≡ Some v → mid ≡ entries_bytes (known_of (message_type_of m)) (drop i (stored_in m)) ++ old → after ≡ unknown_bytes e.0 (entry_slot e.1) ++ mid →
-      2 ^ 64 ≤ length (value_bytes (known_of (message_type_of m)) e.0 (value_of v)) + length after → 2 ^ 64 ≤ length (encoded (kept (content_of m))) + length old
-  value_too_long v old mid after valued is behind h =
-      let more = length-append (stored_bytes (known_of (message_type_of m)) e.0 (entry_slot e.1).value) (unknown_bytes e.0 (entry_slot e.1)) in
-      entry_too_long old mid is (omega (arith, h, more, ap length (stored_value v valued), ap length behind, length-append (unknown_bytes e.0 (entry_slot e.1)) mid))
+  module _ {A : Type 0} (added : A → A → List ℕ → Type 0) where
+    -- its value in front of its unknown records
+    pub value_adds : (start old mid new : A) (v : Value) → value_in e.1 ≡ Some v → Adds added start old rest → Adds added old mid (unknown_bytes e.0 (entry_slot e.1)) → Adds added mid new (value_bytes (known_of (message_type_of m)) e.0 (value_of v)) →
+        Adds added start new (entries_bytes (known_of (message_type_of m)) (drop (i - 1) (stored_in m)))
+    value_adds start old mid new v is a b c =
+        let here : value_bytes (known_of (message_type_of m)) e.0 (value_of v) ≡ stored = ap (λ o. stored_bytes (known_of (message_type_of m)) e.0 (option_map value_of o)) (sym is) in
+        adds_same added start new _ _ (ap (λ l. l ++ (unknown_bytes e.0 (entry_slot e.1) ++ rest)) here ∙ entry_first) (adds_in_turn added start mid new _ _ (adds_in_turn added start old mid _ _ a b) c)
 
-  -- one entry more is written
-  pub entry_written : (old mid new : List ℕ) → mid ≡ entries_bytes (known_of (message_type_of m)) (drop i (stored_in m)) ++ old → new ≡ stored_bytes (known_of (message_type_of m)) e.0 (entry_slot e.1).value ++ (unknown_bytes e.0 (entry_slot e.1) ++ mid) →
-      new ≡ entries_bytes (known_of (message_type_of m)) (drop (i - 1) (stored_in m)) ++ old
-  entry_written old mid new is added =
-      added ∙ sym (append_assoc (stored_bytes (known_of (message_type_of m)) e.0 (entry_slot e.1).value) (unknown_bytes e.0 (entry_slot e.1)) mid)
-      ∙ ap (λ l. slot_bytes (known_of (message_type_of m)) e.0 (entry_slot e.1) ++ l) is
-      ∙ sym (append_assoc (slot_bytes (known_of (message_type_of m)) e.0 (entry_slot e.1)) (entries_bytes (known_of (message_type_of m)) (drop i (stored_in m))) old)
-      ∙ ap (λ l. entries_bytes (known_of (message_type_of m)) l ++ old) (sym cut_here)
-
-  pub value_added : (v : Value) (old mid after new : List ℕ) → value_in e.1 ≡ Some v → mid ≡ entries_bytes (known_of (message_type_of m)) (drop i (stored_in m)) ++ old → after ≡ unknown_bytes e.0 (entry_slot e.1) ++ mid →
-      new ≡ value_bytes (known_of (message_type_of m)) e.0 (value_of v) ++ after → new ≡ entries_bytes (known_of (message_type_of m)) (drop (i - 1) (stored_in m)) ++ old
-  value_added v old mid after new valued is behind added = entry_written old mid new is (added ∙ ap₂ ◌++◌ (sym (stored_value v valued)) behind)
+    -- no value
+    pub unknown_adds : (start old new : A) → value_in e.1 ≡ None → Adds added start old rest → Adds added old new (unknown_bytes e.0 (entry_slot e.1)) → Adds added start new (entries_bytes (known_of (message_type_of m)) (drop (i - 1) (stored_in m)))
+    unknown_adds start old new is a b =
+        let none : [] ≡ stored = ap (λ o. stored_bytes (known_of (message_type_of m)) e.0 (option_map value_of o)) (sym is) in
+        adds_same added start new _ _ (ap (λ l. l ++ (unknown_bytes e.0 (entry_slot e.1) ++ rest)) none ∙ entry_first) (adds_in_turn added start old new _ _ a b)

@@ -1,18 +1,18 @@
 -- What is kept of entries, number by number, and of entries that were changed.
 use Rattle.std.proofs.Common.{◌≡◌, ℕ, Bool, true, false, cond, not, ◌&&◌, ◌||◌, nat_eq, List, [], ◌∷◌, length, ◌+◌, Option, Some, None, unwrap_or, refl, ap, sym, ◌∙◌, arith, true≢false}
-use Rattle.std.proofs.lemmas.Bool.{eqb-true}
+use Rattle.std.proofs.lemmas.Bool.{eqb-true, and_parts, or_parts}
 use Rattle.std.specs.Option.{option_and_then}
 use Rattle.prost_reflect_wire.specs.Record.{Payload}
 use Rattle.prost_reflect_wire.specs.Scalar.{Scalar, scalar_eq}
 use Rattle.prost_reflect_wire.specs.Schema.{Kind, ScalarOf, MessageOf, GroupOf, ValueType, FieldForm, Singular, Repeated, MapFrom, Field, Schema, known, field_of, is_sibling, is_singular}
 use Rattle.prost_reflect_wire.specs.Content.{ContentOf, Entries, Unknown, Value, ScalarValue, MessageValue, ListValue, MapValue, NoValues, Item, NoPairs, Pair, Slot, value_at, slot_at, then_unknowns, then_value, store, table, insert_number, numbers_in, changed}
-use Rattle.prost_reflect_wire.specs.Typing.{kind_takes, value_valid, is_field_default, is_empty_of, kept, kept_entries, kept_inside, kept_value}
+use Rattle.prost_reflect_wire.specs.Typing.{kind_takes, value_valid, is_field_default, is_empty_value, kept, kept_entries, kept_inside, kept_value}
 use Rattle.prost_reflect_wire.specs.Writing.{is_default_of}
 use Rattle.prost_reflect_wire.specs.Edit.{with_value, with_field_value, set_field, default_of, default_value}
 use Rattle.prost_reflect_wire.proofs.Numbers.{is_in, Covers, empty_slot, insert_ascending, entries_ascending, in_insert, slot_outside, slot_table, table_same, table_covers}
-use Rattle.prost_reflect_wire.proofs.Survivors.{or_false, field_number}
-use Rattle.prost_reflect_wire.proofs.Deeper.{and_both}
-use Rattle.prost_reflect_laws.proofs.Order.{scalars_equal}
+use Rattle.prost_reflect_wire.proofs.Survivors.{field_number}
+use Rattle.prost_reflect_wire.specs.Deciding.{scalar_decides}
+use Rattle.prost_reflect_laws.proofs.WrittenEntries.{kept_unknowns}
 use Rattle.prost_reflect.specs.Contents.{with_unknown}
 use Rattle.prost_reflect.specs.KeptLaws.{Arranged, KeptAfterSet, KeptAfterClear, KeptAfterUnknown, KeptAfterClearAll, KeptAfterWriting}
 
@@ -22,17 +22,13 @@ kept_slot o slot = record { value = option_and_then (λ v. kept_value o (kept_in
 
 -- TABLES
 
-records_kept : (fields : List Field) (n : ℕ) (ps : List Payload) (es : Entries) → kept_entries fields (then_unknowns n ps es) ≡ then_unknowns n ps (kept_entries fields es)
-records_kept fields n [] es = refl
-records_kept fields n (p ∷ ps) es = ap (Unknown n p) (records_kept fields n ps es)
-
 store_kept : (fields : List Field) (n : ℕ) (slot : Slot) (es : Entries) → kept_entries fields (store n slot es) ≡ store n (kept_slot (field_of fields n) slot) (kept_entries fields es)
 store_kept fields n slot es = go slot.value
   where
     go : (o : Option Value) → kept_entries fields (then_value n o (then_unknowns n slot.unknowns es))
         ≡ then_value n (option_and_then (λ v. kept_value (field_of fields n) (kept_inside v)) o) (then_unknowns n slot.unknowns (kept_entries fields es))
-    go None = records_kept fields n slot.unknowns es
-    go (Some v) = ap (then_value n (kept_value (field_of fields n) (kept_inside v))) (records_kept fields n slot.unknowns es)
+    go None = kept_unknowns fields n slot.unknowns es
+    go (Some v) = ap (then_value n (kept_value (field_of fields n) (kept_inside v))) (kept_unknowns fields n slot.unknowns es)
 
 table_kept : (fields : List Field) (at : ℕ → Slot) (ns : List ℕ) → kept_entries fields (table at ns) ≡ table (λ n. kept_slot (field_of fields n) (at n)) ns
 table_kept fields at [] = refl
@@ -60,15 +56,16 @@ kept_changed fields n change by es a still same =
   where
     before : Covers (λ m. by m (slot_at (kept_entries fields es) m)) 0 (insert_number n (numbers_in es))
     before k low out =
-        let (apart, outside) = or_false (nat_eq k n) (is_in k (numbers_in es)) (sym (in_insert k n (numbers_in es)) ∙ out) in
+        let (apart, outside) = or_parts (nat_eq k n) (is_in k (numbers_in es)) (sym (in_insert k n (numbers_in es)) ∙ out) in
         ap (by k) (slot_kept fields es k a ∙ ap (kept_slot (field_of fields k)) (slot_outside es k outside)) ∙ still k apart
 
     after : Covers (λ m. by m (slot_at (kept_entries fields es) m)) 0 (insert_number n (numbers_in (kept_entries fields es)))
     after k low out =
-        let (apart, outside) = or_false (nat_eq k n) (is_in k (numbers_in (kept_entries fields es))) (sym (in_insert k n (numbers_in (kept_entries fields es))) ∙ out) in
+        let (apart, outside) = or_parts (nat_eq k n) (is_in k (numbers_in (kept_entries fields es))) (sym (in_insert k n (numbers_in (kept_entries fields es))) ∙ out) in
         ap (by k) (slot_outside (kept_entries fields es) k outside) ∙ still k apart
 
-none_stays : (b : Bool) → cond b (with_value None empty_slot) empty_slot ≡ empty_slot
+-- clearing an empty slot leaves it empty
+pub none_stays : (b : Bool) → cond b (with_value None empty_slot) empty_slot ≡ empty_slot
 none_stays true = refl
 none_stays false = refl
 
@@ -128,24 +125,28 @@ default_kept : (schema : Schema) (f : Field) (v : Value) → value_valid f v ≡
 default_kept schema f v valid h = go f.form f.value_type v valid h
   where
     scalar : (t : ValueType) (s : Scalar) (kind : Kind) → kind_takes kind s ≡ true → is_default_of t (ScalarValue s) ≡ true → ScalarValue s ≡ default_of schema t kind
-    scalar t s (ScalarOf kind) takes h = ap ScalarValue (scalars_equal s t.default (and_both (not t.presence) (scalar_eq s t.default) h).1)
+    scalar t s (ScalarOf kind) takes h = ap ScalarValue ((scalar_decides s t.default).0 (and_parts (not t.presence) (scalar_eq s t.default) h).1)
     scalar t s (MessageOf T) takes h = absurd (true≢false (sym takes))
     scalar t s (GroupOf T) takes h = absurd (true≢false (sym takes))
 
-    go : (form : FieldForm) (t : ValueType) (v : Value) → value_valid (record f { form = form; value_type = t }) v ≡ true → (is_empty_of form (kept_inside v) || (is_singular form && is_default_of t (kept_inside v))) ≡ true
+    go : (form : FieldForm) (t : ValueType) (v : Value) → value_valid (record f { form = form; value_type = t }) v ≡ true → (is_empty_value form (kept_inside v) || (is_singular form && is_default_of t (kept_inside v))) ≡ true
         → kept_inside v ≡ default_value schema form t
     go Singular t (ScalarValue s) valid h = scalar t s t.kind valid h
     go Singular t (MessageValue c) valid h = absurd (true≢false (sym h))
-    go Singular t (ListValue vs) valid h = absurd (true≢false (sym h))
-    go Singular t (MapValue ps) valid h = absurd (true≢false (sym h))
+    go Singular t (ListValue NoValues) valid h = absurd (true≢false (sym h))
+    go Singular t (ListValue (Item v vs)) valid h = absurd (true≢false (sym h))
+    go Singular t (MapValue NoPairs) valid h = absurd (true≢false (sym h))
+    go Singular t (MapValue (Pair k v ps)) valid h = absurd (true≢false (sym h))
     go (Repeated packed) t (ScalarValue s) valid h = absurd (true≢false (sym h))
     go (Repeated packed) t (MessageValue c) valid h = absurd (true≢false (sym h))
     go (Repeated packed) t (ListValue NoValues) valid h = refl
     go (Repeated packed) t (ListValue (Item v vs)) valid h = absurd (true≢false (sym h))
-    go (Repeated packed) t (MapValue ps) valid h = absurd (true≢false (sym h))
+    go (Repeated packed) t (MapValue NoPairs) valid h = absurd (true≢false (sym h))
+    go (Repeated packed) t (MapValue (Pair k v ps)) valid h = absurd (true≢false (sym h))
     go (MapFrom key) t (ScalarValue s) valid h = absurd (true≢false (sym h))
     go (MapFrom key) t (MessageValue c) valid h = absurd (true≢false (sym h))
-    go (MapFrom key) t (ListValue vs) valid h = absurd (true≢false (sym h))
+    go (MapFrom key) t (ListValue NoValues) valid h = absurd (true≢false (sym h))
+    go (MapFrom key) t (ListValue (Item v vs)) valid h = absurd (true≢false (sym h))
     go (MapFrom key) t (MapValue NoPairs) valid h = refl
     go (MapFrom key) t (MapValue (Pair k v ps)) valid h = absurd (true≢false (sym h))
 

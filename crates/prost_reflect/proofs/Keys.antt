@@ -15,7 +15,7 @@ use Rattle.std.specs.Ordering.{is_eq, match_ordering}
 use Rattle.std.specs.BTreeMap.{insert_entry}
 use Rattle.prost_reflect_wire.specs.Content.{Value, Pairs, Pair}
 use Rattle.prost_reflect_wire.specs.Meaning.{put}
-use Rattle.prost_reflect_laws.proofs.Order.{scalars_equal}
+use Rattle.prost_reflect_wire.specs.Deciding.{scalar_decides}
 use Rattle.prost_reflect.specs.ContentLaws.{MapInsert, pairs_shown, compare_keys}
 
 pub keys_compared : (a b : MapKey) → compare_keys a b ≡ scalar_cmp (key_of a) (key_of b)
@@ -76,14 +76,14 @@ keys_hashed (keys.U64 n) = refl
 keys_hashed (keys.String t) = refl
 
 pub keys_alike : (a b : MapKey) → scalar_eq (key_of a) (key_of b) ≡ true → hash_key a ≡ hash_key b
-keys_alike a b h = keys_hashed a ∙ ap key_writes (scalars_equal (key_of a) (key_of b) h) ∙ sym (keys_hashed b)
+keys_alike a b h = keys_hashed a ∙ ap key_writes ((scalar_decides (key_of a) (key_of b)).0 h) ∙ sym (keys_hashed b)
 
 -- MAPS
 
 put_shown : (o : Ordering) (k l : Scalar) (v w : Value) (ps : Pairs) → scalar_cmp k l ≡ o
     → match_ordering o (Pair k v (Pair l w ps)) (Pair l v ps) (Pair l w (put k v ps)) ≡ put k v (Pair l w ps)
 put_shown Less k l v w ps h = ap (λ o. cond (is_less o) (Pair k v (Pair l w ps)) (cond (is_eq o) (Pair k v ps) (Pair l w (put k v ps)))) (sym h)
-put_shown Equal k l v w ps h = ap (λ z. Pair z v ps) (sym (scalars_equal k l (ap is_eq h))) ∙ ap (λ o. cond (is_less o) (Pair k v (Pair l w ps)) (cond (is_eq o) (Pair k v ps) (Pair l w (put k v ps)))) (sym h)
+put_shown Equal k l v w ps h = ap (λ z. Pair z v ps) (sym ((scalar_decides k l).0 (ap is_eq h))) ∙ ap (λ o. cond (is_less o) (Pair k v (Pair l w ps)) (cond (is_eq o) (Pair k v ps) (Pair l w (put k v ps)))) (sym h)
 put_shown Greater k l v w ps h = ap (λ o. cond (is_less o) (Pair k v (Pair l w ps)) (cond (is_eq o) (Pair k v ps) (Pair l w (put k v ps)))) (sym h)
 
 pub map_insert : MapInsert

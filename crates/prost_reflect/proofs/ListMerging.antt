@@ -28,9 +28,10 @@ use Rattle.prost_reflect_pool.specs.MessageTypes.{schema_at}
 use Rattle.prost_reflect_fields.specs.Known.{known_of}
 use Rattle.prost_reflect.specs.View.{value_of, content_of, message_type_of}
 use Rattle.prost_reflect.specs.Contents.{value_set}
-use Rattle.prost_reflect.specs.RowKinds.{is_plain_kind, is_repeated}
+use Rattle.prost_reflect.specs.RowKinds.{is_plain_kind}
 use Rattle.prost_reflect_tables.specs.Rows.{FieldRow}
 use Rattle.prost_reflect_tables.specs.Shown.{schema_field}
+use Rattle.prost_reflect_tables.specs.Linking.{is_repeated}
 use Rattle.prost_reflect_pool.specs.SharedPools.{pool_rows}
 use Rattle.prost_reflect_pool.specs.declared.pooled_type.PooledType.{PooledType}
 use Rattle.prost_reflect.proofs.PlainKinds.{plain_row, list_row}

@@ -19,7 +19,8 @@ use Rattle.prost_reflect_wire.specs.Decoding.{Step, StandsBehindKey}
 use Rattle.prost_reflect_wire.specs.EntryReading.{IsMapped, ScalarEntryTo, BodyFault}
 use Rattle.prost_reflect_laws.proofs.EntryDefaults.{is_undeclared_value}
 use Rattle.prost_reflect_laws.proofs.MapSteps.{FoundMap, mapped_at, body_refused, entry_stands}
-use Rattle.prost_reflect_laws.proofs.ScalarEntries.{field_checked, map_keyed, delimited_bytes, key_read_valid, StaysWhole, scalar_entry_stays, scalar_entry_holds}
+use Rattle.prost_reflect_laws.proofs.ScalarEntries.{field_checked, map_keyed, key_read_valid, StaysWhole, scalar_entry_stays, scalar_entry_holds}
+use Rattle.prost_reflect_laws.proofs.BodyFronts.{delimited_bytes}
 use Rattle.prost_reflect_tables.specs.declared.tables.TableKind.{TableKind}
 use Rattle.prost_reflect_tables.specs.Rows.{EnumRow}
 use Rattle.prost_reflect.specs.declared.message.DynamicMessage.{DynamicMessage}

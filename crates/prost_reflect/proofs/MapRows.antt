@@ -2,13 +2,13 @@
 use Rattle.std.proofs.Common.{◌≡◌, ℕ, true, false, List, [], ◌∷◌, Option, Some, None, refl, sym, ap, ◌∙◌, subst, true≢false}
 use Rattle.std.specs.Prelude.{slice_get}
 use Rattle.std.specs.BTreeMap.{BTreeMap}
+use Rattle.std.proofs.lemmas.Bool.{and_parts}
 use Rattle.prost_reflect_wire.specs.Scalar.{Enum}
-use Rattle.prost_reflect_wire.specs.Schema.{Kind, ScalarOf, MessageOf, GroupOf, ValueType, MapFrom, Field, field_of, is_message, is_singular, is_key_kind, field_valid, passes}
+use Rattle.prost_reflect_wire.specs.Schema.{Kind, ScalarOf, MessageOf, GroupOf, ValueType, MapFrom, Field, field_of, is_message, is_singular, is_key_kind, field_valid, passes, is_list}
 use Rattle.prost_reflect_wire.specs.Content as contents
 use Rattle.prost_reflect_wire.specs.Content.{ScalarValue, MessageValue, ListValue, MapValue}
-use Rattle.prost_reflect_wire.specs.Typing.{value_valid, is_repeated as is_list}
+use Rattle.prost_reflect_wire.specs.Typing.{value_valid}
 use Rattle.prost_reflect_wire.specs.Storing.{value_bytes}
-use Rattle.prost_reflect_wire.proofs.Deeper.{and_both}
 use Rattle.prost_reflect_laws.proofs.ScalarEntries.{map_keyed}
 use Rattle.prost_reflect_tables.specs.declared.tables.Cardinality.{Cardinality}
 use Rattle.prost_reflect_tables.specs.declared.tables.Cardinality.TheVariants.{Optional, Required, Repeated as RepeatedLabel}
@@ -125,9 +125,9 @@ module _ (d : PooledType) (n : ℕ) (row key value : FieldRow) (found : Some (sc
 
 -- the value of a map is one
 pub is_map_value : (f : Field) (key_type : ValueType) (c : contents.Value) → f.form ≡ MapFrom key_type → value_valid f c ≡ true → IsMap c
-is_map_value f key_type (ScalarValue s) form h = absurd (true≢false (sym (and_both _ _ h).0 ∙ ap is_singular form))
-is_map_value f key_type (MessageValue m) form h = absurd (true≢false (sym (and_both _ _ h).0 ∙ ap is_singular form))
-is_map_value f key_type (ListValue vs) form h = absurd (true≢false (sym (and_both _ _ h).0 ∙ ap is_list form))
+is_map_value f key_type (ScalarValue s) form h = absurd (true≢false (sym (and_parts _ _ h).0 ∙ ap is_singular form))
+is_map_value f key_type (MessageValue m) form h = absurd (true≢false (sym (and_parts _ _ h).0 ∙ ap is_singular form))
+is_map_value f key_type (ListValue vs) form h = absurd (true≢false (sym (and_parts _ _ h).0 ∙ ap is_list form))
 is_map_value f key_type (MapValue ps) form h = tt
 
 pub valid_map_value : (d : PooledType) (n : ℕ) (key value : FieldRow) (c : contents.Value) → MapOfRows d n key value → passes (field_of (known_of d) n) (λ f. value_valid f c) ≡ true → IsMap c

@@ -24,6 +24,7 @@ use Rattle.prost_reflect_tables.specs.declared.tables.TableKind.{TableKind}
 use Rattle.prost_reflect_tables.specs.declared.tables.TableKind.TheVariants as kinds
 use Rattle.prost_reflect_tables.specs.Rows.{FieldRow}
 use Rattle.prost_reflect_tables.specs.Shown.{schema_kind, schema_field}
+use Rattle.prost_reflect_tables.specs.Linking.{is_repeated}
 use Rattle.prost_reflect_pool.specs.declared.pooled_type.PooledType.{PooledType}
 use Rattle.prost_reflect.specs.declared.message.DynamicMessage.{DynamicMessage}
 use Rattle.prost_reflect.specs.declared.value.Value.{Value}
@@ -38,7 +39,7 @@ use Rattle.prost_reflect.proofs.Views.{content_of_message}
 use Rattle.prost_reflect.proofs.PlainKinds.{SamePayloads, scalar_row, single_row, own_of, plain_payloads, stray_payload}
 use Rattle.prost_reflect_fields.proofs.Siblings.{known_differ}
 use Rattle.prost_reflect.specs.Contents.{value_set, unknown_added}
-use Rattle.prost_reflect.specs.RowKinds.{is_repeated, names_message}
+use Rattle.prost_reflect.specs.RowKinds.{names_message}
 use Rattle.prost_reflect.proofs.RowKinds.{message_kind, message_named}
 
 -- a scalar's value was set

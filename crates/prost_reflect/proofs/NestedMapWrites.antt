@@ -1,7 +1,8 @@
 -- What is written of a map of messages.
-use Rattle.std.proofs.Common.{◌≡◌, ℕ, ◌+◌, ◌^◌, ◌≤◌, true, false, ◌&&◌, List, [], ◌∷◌, ◌++◌, length, map, flat_map, Some, refl, sym, ap, ap₂, ◌∙◌, subst, append_assoc, append-nil, true≢false, arith, length-append}
+use Rattle.std.proofs.Common.{◌≡◌, ℕ, ◌≤◌, true, false, ◌&&◌, List, [], ◌∷◌, ◌++◌, map, Some, refl, sym, ap, ap₂, ◌∙◌, subst, append-nil, true≢false, arith}
 use denote.Param.Weighed.{most}
 use Rattle.std.specs.BTreeMap.{BTreeMap}
+use Rattle.std.proofs.lemmas.Bool.{and_parts}
 use Rattle.prost_reflect_wire.specs.declared.key.WireType.TheVariants as wires
 use Rattle.prost_reflect_wire.specs.Record.{Len, record_at, short_key, short_plain, spelled}
 use Rattle.prost_reflect_wire.specs.Scalar.{Scalar, scalar_valid}
@@ -11,7 +12,6 @@ use Rattle.prost_reflect_wire.specs.Content.{Content, ScalarValue, MessageValue,
 use Rattle.prost_reflect_wire.specs.Writing.{message_payload, records, entry_record, pair_payloads}
 use Rattle.prost_reflect_wire.specs.Typing.{fit_test, kind_takes, element_valid, pairs_valid, value_valid, value_passes, pairs_pass, kept, kept_pairs}
 use Rattle.prost_reflect_wire.specs.Storing.{value_bytes}
-use Rattle.prost_reflect_wire.proofs.Deeper.{and_both}
 use Rattle.prost_reflect_laws.proofs.MapWritten.{part_written, pair_front, map_kept_written}
 use Rattle.prost_reflect_tables.specs.declared.tables.TableKind.{TableKind}
 use Rattle.prost_reflect_tables.specs.declared.tables.TableKind.TheVariants as kinds
@@ -57,9 +57,9 @@ module _ (n : ℕ) (enums : List EnumRow) (key : FieldRow) (key_type value_type 
   entries_taken : (es : List (MapKey × Value)) → pairs_valid (MapFrom key_type) (MessageOf T) (pairs_shown es) ≡ true → pairs_pass fit_test (pairs_shown es) ≡ true → AreEntries key.kind es
   entries_taken [] h f = tt
   entries_taken (e ∷ es) h f =
-      let (one, more) = and_both (kind_takes key_type.kind (key_of e.0) && element_valid (MessageOf T) (value_of e.1)) (pairs_valid (MapFrom key_type) (MessageOf T) (pairs_shown es)) h in
-      let (a, b) = and_both (kind_takes key_type.kind (key_of e.0)) (element_valid (MessageOf T) (value_of e.1)) one in
-      let (fit, fits) = and_both (value_passes fit_test (value_of e.1)) (pairs_pass fit_test (pairs_shown es)) f in
+      let (one, more) = and_parts (kind_takes key_type.kind (key_of e.0) && element_valid (MessageOf T) (value_of e.1)) (pairs_valid (MapFrom key_type) (MessageOf T) (pairs_shown es)) h in
+      let (a, b) = and_parts (kind_takes key_type.kind (key_of e.0)) (element_valid (MessageOf T) (value_of e.1)) one in
+      let (fit, fits) = and_parts (value_passes fit_test (value_of e.1)) (pairs_pass fit_test (pairs_shown es)) f in
       ((part_takes enums key key_type row.kind row.part (ScalarValue (key_of e.0)) (key_fits (key_of e.0) a), message_takes (value_of e.1) b fit), entries_taken es more fits)
 
   message_part : (c : Content) → spelled (entry_record value_type 2 (MessageValue (kept c)) (message_payload value_type.kind (records (kept c)))) ≡ nested_bytes 2 false c
@@ -70,8 +70,8 @@ module _ (n : ℕ) (enums : List EnumRow) (key : FieldRow) (key_type value_type 
   entries_spelled : (es : List (MapKey × Value)) → pairs_valid (MapFrom key_type) (MessageOf T) (pairs_shown es) ≡ true → spelled (map (record_at n) (pair_payloads key_type value_type (kept_pairs (pairs_shown es)))) ≡ nested_pairs_bytes n enums key es
   entries_spelled [] h = refl
   entries_spelled (e ∷ es) h =
-      let (one, more) = and_both (kind_takes key_type.kind (key_of e.0) && element_valid (MessageOf T) (value_of e.1)) (pairs_valid (MapFrom key_type) (MessageOf T) (pairs_shown es)) h in
-      let (a, b) = and_both (kind_takes key_type.kind (key_of e.0)) (element_valid (MessageOf T) (value_of e.1)) one in
+      let (one, more) = and_parts (kind_takes key_type.kind (key_of e.0) && element_valid (MessageOf T) (value_of e.1)) (pairs_valid (MapFrom key_type) (MessageOf T) (pairs_shown es)) h in
+      let (a, b) = and_parts (kind_takes key_type.kind (key_of e.0)) (element_valid (MessageOf T) (value_of e.1)) one in
       go (value_of e.1) (key_fits (key_of e.0) a) b (entries_spelled es more)
     where
       go : (c : contents.Value) → scalar_valid row.kind (key_of e.0) ≡ true → element_valid (MessageOf T) c ≡ true →
@@ -125,25 +125,6 @@ module _ (d : PooledType) (n : ℕ) (key value : FieldRow) (v : Value) (m : Nest
   nested_value_bytes pairs is = ap (value_bytes (known_of d) n) (ap value_of is ∙ value_of_map pairs) ∙ (nested_rows_written pairs is).bytes
 
 -- ENTRIES FROM THE LAST ON
-
-module _ {A : Type 0} (f : A → List ℕ) where
-  flat_behind : (xs ys : List A) → flat_map f (xs ++ ys) ≡ flat_map f xs ++ flat_map f ys
-  flat_behind [] ys = refl
-  flat_behind (x ∷ xs) ys = ap (λ l. f x ++ l) (flat_behind xs ys) ∙ sym (append_assoc (f x) (flat_map f xs) (flat_map f ys))
-
-  -- a length that is too great before the whole is written
-  pub flat_part_too_long : (items left done : List A) (x : A) (old mid : List ℕ) → items ≡ left ++ x ∷ done → mid ≡ flat_map f done ++ old → 2 ^ 64 ≤ length (f x) + length mid → 2 ^ 64 ≤ length (flat_map f items) + length old
-  flat_part_too_long items left done x old mid cut m h =
-      omega (
-        arith,
-        h,
-        ap length m,
-        length-append (flat_map f done) old,
-        ap (λ l. length (flat_map f l)) cut,
-        ap (λ (l : List ℕ). length l) (flat_behind left (x ∷ done)),
-        length-append (flat_map f left) (flat_map f (x ∷ done)),
-        length-append (f x) (flat_map f done),
-      )
 
 -- no item weighs more than the list
 most_among : {A B : Type 0} (f : A → B) (weight : B → ℕ) (left done : List A) (x : A) → weight (f x) ≤ most weight (map f (left ++ x ∷ done))

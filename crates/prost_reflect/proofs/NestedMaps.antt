@@ -19,8 +19,9 @@ use Rattle.prost_reflect_wire.specs.Decoding.{Step, StandsBehindKey, ScalarRead,
 use Rattle.prost_reflect_wire.specs.EntryReading.{IsMapped, BodyFault}
 use Rattle.prost_reflect_wire.specs.MessageEntries.{nested_type, NestedEntryTo, NestedValueRead, NestedValueFault, StandsInNestedEntry}
 use Rattle.prost_reflect_laws.proofs.MapSteps.{FoundMap, mapped_at, body_refused, entry_stands}
-use Rattle.prost_reflect_laws.proofs.ScalarEntries.{field_checked, map_keyed, delimited_bytes, entry_key_valid}
+use Rattle.prost_reflect_laws.proofs.ScalarEntries.{field_checked, map_keyed, entry_key_valid}
 use Rattle.prost_reflect_laws.proofs.NestedEntries.{nested_entry_nothing, nested_no_key, nested_key_read, nested_value_read, nested_other_read, nested_key_refused, nested_value_refused, nested_other_refused, nested_level, nested_entry_holds, entry_depth}
+use Rattle.prost_reflect_laws.proofs.BodyFronts.{delimited_bytes}
 use Rattle.prost_reflect_tables.specs.declared.tables.TableKind.{TableKind}
 use Rattle.prost_reflect.specs.declared.message.DynamicMessage.{DynamicMessage}
 use Rattle.prost_reflect.specs.declared.value.MapKey.{MapKey}

@@ -5,12 +5,11 @@ use Rattle.prost_reflect_wire.specs.declared.key.WireType.{WireType}
 use Rattle.prost_reflect_wire.specs.declared.key.WireType.TheVariants as wires
 use Rattle.prost_reflect_wire.specs.declared.error.DecodeError.{DecodeError}
 use Rattle.prost_reflect_wire.specs.Front.{KeyFront}
-use Rattle.prost_reflect_wire.specs.Schema.{Field, known, field_of, numbers_differ}
+use Rattle.prost_reflect_wire.specs.Schema.{Field, known, field_of, numbers_differ, is_map}
 use Rattle.prost_reflect_wire.specs.Content.{Content, ContentOf, MessageValue, empty, value_at, schema_of, type_of, entries_of}
 use Rattle.prost_reflect_wire.specs.Content as contents
 use Rattle.prost_reflect_wire.specs.Typing.{WellStored}
 use Rattle.prost_reflect_wire.specs.Edit.{with_field_value, message_of}
-use Rattle.prost_reflect_wire.specs.Fault.{is_map}
 use Rattle.prost_reflect_wire.specs.Decoding.{Step, StandsBehindKey}
 use Rattle.prost_reflect_wire.proofs.Survivors.{field_number}
 use Rattle.prost_reflect_laws.proofs.MessageSteps.{OneMessage, ReadInto, Nested, FoundNested, nested_sound, message_holds, group_holds}

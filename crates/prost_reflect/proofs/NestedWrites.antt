@@ -1,5 +1,6 @@
 -- What is written of a message or a group in the place of its field.
 use Rattle.std.proofs.Common.{◌≡◌, ℕ, Bool, true, false, List, [], ◌∷◌, ◌++◌, ◌⊎◌, inl, inr, Some, refl, sym, ap, ◌∙◌, append-nil, append_assoc, true≢false}
+use Rattle.std.proofs.lemmas.Bool.{and_parts}
 use denote.Hole.Carrier as Carrier
 use Rattle.prost_reflect_wire.specs.declared.key.WireType.TheVariants as wires
 use Rattle.prost_reflect_wire.specs.Record.{Len, Record, short_key, short_plain, record_at, spelled}
@@ -9,12 +10,12 @@ use Rattle.prost_reflect_wire.specs.Content as contents
 use Rattle.prost_reflect_wire.specs.Writing.{records, message_payload}
 use Rattle.prost_reflect_wire.specs.Typing.{kept, encodable, value_valid, value_passes, fit_test}
 use Rattle.prost_reflect_wire.specs.Storing.{value_bytes}
-use Rattle.prost_reflect_wire.proofs.Deeper.{and_both}
 use Rattle.prost_reflect_laws.proofs.WrittenEntries.{message_written}
 use Rattle.prost_reflect_tables.specs.declared.tables.TableKind.{TableKind}
 use Rattle.prost_reflect_tables.specs.declared.tables.TableKind.TheVariants as kinds
 use Rattle.prost_reflect_tables.specs.Rows.{FieldRow, EnumRow}
 use Rattle.prost_reflect_tables.specs.Shown.{schema_kind, schema_field}
+use Rattle.prost_reflect_tables.specs.Linking.{is_repeated}
 use Rattle.prost_reflect_pool.specs.declared.pooled_type.PooledType.{PooledType}
 use Rattle.prost_reflect.specs.declared.message.DynamicMessage.{DynamicMessage}
 use Rattle.prost_reflect.specs.declared.value.Value.{Value}
@@ -24,7 +25,6 @@ use Rattle.prost_reflect.specs.declared.value.Value.TheViews.{roll-Value}
 use Rattle.prost_reflect.specs.declared.value.Value.TheFolds.{fold-roll-Value, ind-Value}
 use Rattle.prost_reflect_pool.specs.SharedPools.{pool_rows}
 use Rattle.prost_reflect_fields.specs.Known.{known_of}
-use Rattle.prost_reflect.specs.RowKinds.{is_repeated}
 use Rattle.prost_reflect.specs.Encoding.{ValueWritable, nested_bytes}
 use Rattle.prost_reflect.specs.View.{value_step, message_step, value_of, content_of}
 use Rattle.prost_reflect.proofs.PlainKinds.{single_row, own_of}
@@ -107,6 +107,6 @@ nested_written d n row v m one found writable is =
       fits = ap (value_passes fit_test) (sym seen) ∙ writable.fits;
       bytes = ap (value_bytes (known_of d) n) seen
           ∙ message_written (known_of d) n (schema_field (pool_rows d.pool) row) (content_of m) (sym found) single
-          ∙ kind_bytes n (schema_field (pool_rows d.pool) row).value_type.kind row.is_group (content_of m) (and_both (is_singular (schema_field (pool_rows d.pool) row).form) _ valid).1
+          ∙ kind_bytes n (schema_field (pool_rows d.pool) row).value_type.kind row.is_group (content_of m) (and_parts (is_singular (schema_field (pool_rows d.pool) row).form) _ valid).1
           (λ T e. shown_plain (pool_rows d.pool).enums row.kind row.is_group T (sym own ∙ e)) (λ T e. shown_group (pool_rows d.pool).enums row.kind row.is_group T (sym own ∙ e));
     }

@@ -9,15 +9,16 @@ use Rattle.prost_reflect_wire.specs.declared.error.DecodeError.TheVariants as er
 use Rattle.prost_reflect_wire.specs.Record.{Var, Payload, Flat, record_at}
 use Rattle.prost_reflect_wire.specs.Front.{VarintFront, DelimitedFront, VarintFault, PlainFault}
 use Rattle.prost_reflect_wire.specs.Scalar.{ScalarKind, EnumNumbers, Enum, Open, Closed, EnumNumber, low_i32, elem, is_undeclared}
-use Rattle.prost_reflect_wire.specs.Schema.{ScalarOf, Repeated, Field, known, field_of, numbers_differ}
+use Rattle.prost_reflect_wire.specs.Schema.{ScalarOf, Repeated, Field, known, field_of, numbers_differ, is_list}
 use Rattle.prost_reflect_wire.specs.Content as contents
 use Rattle.prost_reflect_wire.specs.Content.{Content, ContentOf, ScalarValue, ListValue, NoValues, schema_of, type_of, entries_of, value_at}
 use Rattle.prost_reflect_wire.specs.Meaning.{values_in}
-use Rattle.prost_reflect_wire.specs.Typing.{WellStored, is_repeated as is_list}
+use Rattle.prost_reflect_wire.specs.Typing.{WellStored}
 use Rattle.prost_reflect_wire.specs.Edit.{with_field_value}
 use Rattle.prost_reflect_wire.specs.Fault.{OfType, ElementFault, ElementEnds, ElementPasses, same_wire}
 use Rattle.prost_reflect_wire.specs.Decoding.{Step, NumbersJoined, BodyJoined, FieldFault, ScalarFault, StandsBehindKey}
 use Rattle.prost_reflect_wire.proofs.Survivors.{field_number}
+use Rattle.prost_reflect_wire.proofs.PlainFronts.{varint_plain}
 use Rattle.prost_reflect_types.proofs.FieldsFound.{field_stands}
 use Rattle.prost_reflect_laws.proofs.ListSteps.{IsListed}
 use Rattle.prost_reflect_laws.proofs.PackedElements.{packed_refused, delimited_refused, single_refused}
@@ -26,10 +27,11 @@ use Rattle.prost_reflect_tables.specs.declared.tables.TableKind.{TableKind}
 use Rattle.prost_reflect_tables.specs.declared.tables.TableKind.TheVariants as kinds
 use Rattle.prost_reflect_tables.specs.Rows.{FieldRow, EnumRow}
 use Rattle.prost_reflect_tables.specs.Shown.{schema_kind, enum_kind, schema_field}
+use Rattle.prost_reflect_tables.specs.Linking.{is_repeated}
 use Rattle.prost_reflect_pool.specs.declared.pooled_type.PooledType.{PooledType}
 use Rattle.prost_reflect.specs.declared.message.DynamicMessage.{DynamicMessage}
 use Rattle.prost_reflect.specs.Contents.{value_set, unknown_added}
-use Rattle.prost_reflect.specs.RowKinds.{is_repeated, names_message}
+use Rattle.prost_reflect.specs.RowKinds.{names_message}
 use Rattle.prost_reflect_pool.specs.Enums.{first_of, numbers_of}
 use Rattle.prost_reflect_fields.specs.Known.{known_of, keeps_unknown, keeps_unknown_beside, is_closed_enum}
 use Rattle.prost_reflect.specs.Lists.{IsListOrNone, with_element}
@@ -40,7 +42,6 @@ use Rattle.prost_reflect.specs.View.{content_of, message_type_of}
 use Rattle.prost_reflect.proofs.ListMerging.{listed_at, list_alone}
 use Rattle.prost_reflect.proofs.Merging.{known_in, differ_in, own_fault}
 use Rattle.prost_reflect.proofs.PlainKinds.{list_kind, scalars_row, stray_payload, enum_payloads}
-use Rattle.prost_reflect.proofs.ScalarReads.{varint_front}
 
 -- THE FIELD
 
@@ -157,7 +158,7 @@ module _ (m : DynamicMessage) (n : ℕ) (kind : TableKind) (list : NumberList (m
       number_read (ContentOf schema T es) d found sound differ joined =
           let number : list.field.number ≡ n = field_number (known schema T) n list.field found in
           subst (λ i. Step levels i wires.Varint (ContentOf schema T es) d bytes rest) number
-          (number_step schema T es sound levels list.field list.packed list.first list.numbers differ (ap (field_of (known schema T)) number ∙ found) list.form list.kind_is list.alone d value bytes rest joined (varint_front value bytes rest front))
+          (number_step schema T es sound levels list.field list.packed list.first list.numbers differ (ap (field_of (known schema T)) number ∙ found) list.form list.kind_is list.alone d value bytes rest joined (varint_plain value bytes rest front))
 
   -- a packed record
   pub body_taken_step : (new : DynamicMessage) (levels : ℕ) (w : WireType) (body bytes rest : List ℕ) → WellStored (content_of m) → w ≡ wires.LengthDelimited → DelimitedFront body bytes rest → BodyTaken (message_type_of m) n kind (content_of m) (content_of new) body →
@@ -196,7 +197,7 @@ taken_more m new d n kind old value body bytes rest same s front content =
     let list = s.list in
     record {
       list = list;
-      numbers = numbers_more list.field (Enum list.first list.numbers) old (content_of m) (content_of new) (Var value) body bytes rest s.numbers (varint_front value bytes rest front) refl
+      numbers = numbers_more list.field (Enum list.first list.numbers) old (content_of m) (content_of new) (Var value) body bytes rest s.numbers (varint_plain value bytes rest front) refl
           (one_taken n list.field list.packed (Enum list.first list.numbers) list.form list.kind_is list.alone old (content_of m) (content_of new) (map Flat s.numbers.plains) value
           (is_stray_number (pool_rows d.pool).enums kind (ScalarValue (EnumNumber (low_i32 value)))) list.first list.numbers refl (differ_in m)
           (ap (λ fields. field_of fields n) (known_in m) ∙ ap (λ d. field_of (known_of d) n) same ∙ list.found) front.varint.below (stray_is d n kind value list) s.numbers.joined

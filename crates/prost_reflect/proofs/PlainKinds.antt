@@ -1,22 +1,22 @@
 -- The kind of a field of one scalar, as the tables name it and as the definitions do. What an enum declares makes no difference to its payloads.
 use Rattle.std.proofs.Common.{◌≡◌, ℕ, ℤ, pos, Bool, true, false, not, List, Option, Some, None, refl, sym, ap, subst, ◌∙◌, true≢false}
 use Rattle.std.specs.Prelude.{slice_get}
+use Rattle.std.proofs.lemmas.Bool.{and_parts, and_from}
 use Rattle.prost_reflect_wire.specs.Record.{Payload, Plain, Var, Fix64, Len, Fix32, Flat, Group}
 use Rattle.prost_reflect_wire.specs.Scalar as scalars
 use Rattle.prost_reflect_wire.specs.Scalar.{Scalar, ScalarKind, EnumNumbers, low_i32, kind_wire, elem, written, scalar_valid, is_declared, is_undeclared, in_i32}
-use Rattle.prost_reflect_wire.specs.Schema.{Kind, ScalarOf, Singular, Repeated, is_message}
-use Rattle.prost_reflect_wire.specs.Typing.{is_repeated as is_list}
+use Rattle.prost_reflect_wire.specs.Schema.{Kind, ScalarOf, Singular, Repeated, is_message, is_list}
 use Rattle.prost_reflect_wire.specs.Content.{ScalarValue}
 use Rattle.prost_reflect_wire.specs.Grammar.{is_stray}
-use Rattle.prost_reflect_wire.proofs.Deeper.{and_both, both_true}
 use Rattle.prost_reflect_laws.proofs.EntryDefaults.{is_undeclared_value}
 use Rattle.prost_reflect_tables.specs.declared.tables.Cardinality.{Cardinality}
 use Rattle.prost_reflect_tables.specs.declared.tables.Cardinality.TheVariants.{Optional, Required, Repeated as RepeatedLabel}
 use Rattle.prost_reflect_tables.specs.declared.tables.TableKind.{TableKind}
 use Rattle.prost_reflect_tables.specs.declared.tables.TableKind.TheVariants as kinds
-use Rattle.prost_reflect_tables.specs.Rows.{FieldRow, MessageRow, EnumRow, TableRows}
+use Rattle.prost_reflect_tables.specs.Rows.{FieldRow, MessageRow, EnumRow, TableRows, value_numbers}
 use Rattle.prost_reflect_tables.specs.Shown.{first_number, enum_numbers, schema_kind, enum_kind, own_type, map_entry, value_type_of, form_of, schema_field}
-use Rattle.prost_reflect.specs.RowKinds.{is_plain, is_plain_kind, is_repeated, names_message}
+use Rattle.prost_reflect_tables.specs.Linking.{is_repeated}
+use Rattle.prost_reflect.specs.RowKinds.{is_plain, is_plain_kind, names_message}
 use Rattle.prost_reflect_pool.specs.Enums.{numbers_of}
 use Rattle.prost_reflect.specs.Scalars.{plain_kind, is_stray_number}
 use Rattle.prost_reflect.proofs.RowKinds as row_kinds
@@ -186,7 +186,7 @@ enum_payloads first numbers = record { wire = refl; text = λ t. cc; read = read
     write v = refl
 
     takes : (v : Scalar) → scalar_valid (scalars.Enum first numbers) v ≡ true → scalar_valid open_kind v ≡ true
-    takes (scalars.EnumNumber z) h = both_true (and_both (in_i32 z) (is_declared numbers z) h).0 refl
+    takes (scalars.EnumNumber z) h = and_from _ _ (and_parts (in_i32 z) (is_declared numbers z) h).0 refl
     takes v h = h
 
 abbrev scalar_of : Kind → Option ScalarKind
@@ -223,7 +223,7 @@ number_stray first numbers (Fix32 bytes) v r = cc
 
 enum_stray : (o : Option EnumRow) (plain : Plain) (v : Scalar) → elem (enum_kind o) (Flat plain) ≡ Some v → is_undeclared (enum_kind o) (Flat plain) ≡ stray_of (numbers_of o) v
 enum_stray None plain v r = number_stray (pos 0) scalars.Open plain v r
-enum_stray (Some row) plain v r = number_stray (first_number row.numbers) (enum_numbers row) plain v r
+enum_stray (Some row) plain v r = number_stray (first_number (value_numbers row)) (enum_numbers row) plain v r
 
 stray_shown : (enums : List EnumRow) (E : ℕ) (v : Scalar) → stray_of (numbers_of (slice_get enums E)) v ≡ is_stray_number enums (kinds.Enum E) (ScalarValue v)
 stray_shown enums E (scalars.EnumNumber z) = refl

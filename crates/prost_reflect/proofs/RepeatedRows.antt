@@ -8,8 +8,9 @@ use Rattle.prost_reflect_tables.specs.declared.tables.TableKind.{TableKind}
 use Rattle.prost_reflect_tables.specs.declared.tables.TableKind.TheVariants as kinds
 use Rattle.prost_reflect_tables.specs.Rows.{FieldRow}
 use Rattle.prost_reflect_tables.specs.Shown.{schema_kind, own_type, schema_field}
+use Rattle.prost_reflect_tables.specs.Linking.{is_repeated}
 use Rattle.prost_reflect_pool.specs.declared.pooled_type.PooledType.{PooledType}
-use Rattle.prost_reflect.specs.RowKinds.{is_repeated, names_message}
+use Rattle.prost_reflect.specs.RowKinds.{names_message}
 use Rattle.prost_reflect_pool.specs.MessageTypes.{schema_at}
 use Rattle.prost_reflect_fields.specs.Known.{known_of}
 use Rattle.prost_reflect_pool.specs.MapParts.{map_parts}

@@ -26,12 +26,6 @@ reads_element kind w v plain bytes rest is wire front = by_kind (plain_kind kind
     by_kind None e is = cc
     by_kind (Some k) e is = by_value k e (elem k (Flat plain)) refl is
 
-pub varint_front : (value : ℕ) (bytes rest : List ℕ) → VarintFront value bytes rest → PlainFront (Var value) bytes rest
-varint_front value bytes rest f = record { front = f.front; spelled = f.varint; parts = f.parts }
-
-pub delimited_front : (body bytes rest : List ℕ) → DelimitedFront body bytes rest → PlainFront (Len body) bytes rest
-delimited_front body bytes rest f = record { front = f.front; spelled = f.spelled; parts = f.parts }
-
 -- a text
 pub text_element : (kind : TableKind) (v : Value) (bytes text : List ℕ) → kind ≡ kinds.String → IsUtf8 bytes → text ≡ bytes → value_of v ≡ ScalarValue (Text text) → IsElement kind (Flat (Len bytes)) v
 text_element kind v bytes text is utf8 same value =

@@ -1,6 +1,6 @@
 -- The slots of the entries that a list of stored entries shows.
 use Rattle.std.proofs.Common.{◌≡◌, ℕ, suc, ◌+◌, ◌≤◌, false, cond, nat_eq, List, [], ◌∷◌, length, Option, Some, None, refl, ap, ap₂, sym, ◌∙◌, subst, arith, true≢false}
-use Rattle.std.proofs.lemmas.Bool.{ne_eqb, eqb-false}
+use Rattle.std.proofs.lemmas.Bool.{ne_eqb, eqb-false, or_parts}
 use Rattle.std.proofs.lemmas.Grind.{common_steps}
 use Rattle.std.specs.Ordering.{nat_cmp, is_eq}
 use Rattle.std.specs.declared.cmp.Ordering.TheVariants.{Less}
@@ -9,7 +9,6 @@ use Rattle.std.specs.List.Sorted.{IsStrictlySortedBy}
 use Rattle.std.specs.Map.{keys_of}
 use Rattle.prost_reflect_wire.specs.Content.{Entries, Value, Slot, slot_at, store, table, insert_number, numbers_in, changed}
 use Rattle.prost_reflect_wire.proofs.Numbers.{Ascending, is_in, Covers, empty_slot, table_same, table_covers, slots_same, value_apart, unknowns_apart, value_here, unknowns_here, insert_ascending, entries_ascending, in_insert, slot_outside}
-use Rattle.prost_reflect_wire.proofs.Survivors.{or_false}
 use Rattle.prost_reflect_laws.proofs.Rebuilt.{table_from}
 use Rattle.prost_reflect_fields.specs.declared.slot.FieldSlot.{FieldSlot}
 use Rattle.prost_reflect_fields.specs.Items.{IsAscending, item_at}
@@ -18,7 +17,7 @@ use Rattle.prost_reflect_fields.proofs.ItemChanges.{Apart, by_number, none_above
 
 abbrev pub slot_in : Option (FieldSlot Value) → Slot
 slot_in None = empty_slot
-slot_in (Some e) = slot_of e
+slot_in (Some e) = slot_of (λ v. v) e
 
 store_apart : (n k : ℕ) (slot : Slot) (es : Entries) → nat_eq n k ≡ false → slot_at (store n slot es) k ≡ slot_at es k
 store_apart n k slot es h = slots_same (slot_at (store n slot es) k) (slot_at es k) (value_apart n k slot es h) (unknowns_apart n k slot es h)
@@ -35,14 +34,14 @@ unfolding IsStrictlySortedBy
 slot_from [] k s = refl
 slot_from (e ∷ es) k s = by_number k e.0 (λ is. here is (slot_from es k s.1)) (λ apart. there apart (slot_from es k s.1))
   where
-    there : Apart k e.0 → slot_at (entries_from es) k ≡ slot_in (item_at es k) → slot_at (store e.0 (slot_of e.1) (entries_from es)) k ≡ slot_in (cond (is_eq (nat_cmp k e.0)) (Some e.1) (item_at es k))
-    there apart rest = store_apart e.0 k (slot_of e.1) (entries_from es) (differ e.0 k apart) ∙ rest ∙ ap (λ b. slot_in (cond b (Some e.1) (item_at es k))) (sym apart)
+    there : Apart k e.0 → slot_at (entries_from es) k ≡ slot_in (item_at es k) → slot_at (store e.0 (slot_of (λ v. v) e.1) (entries_from es)) k ≡ slot_in (cond (is_eq (nat_cmp k e.0)) (Some e.1) (item_at es k))
+    there apart rest = store_apart e.0 k (slot_of (λ v. v) e.1) (entries_from es) (differ e.0 k apart) ∙ rest ∙ ap (λ b. slot_in (cond b (Some e.1) (item_at es k))) (sym apart)
 
-    here : k ≡ e.0 → slot_at (entries_from es) k ≡ slot_in (item_at es k) → slot_at (store e.0 (slot_of e.1) (entries_from es)) k ≡ slot_in (cond (is_eq (nat_cmp k e.0)) (Some e.1) (item_at es k))
+    here : k ≡ e.0 → slot_at (entries_from es) k ≡ slot_in (item_at es k) → slot_at (store e.0 (slot_of (λ v. v) e.1) (entries_from es)) k ≡ slot_in (cond (is_eq (nat_cmp k e.0)) (Some e.1) (item_at es k))
     here is rest =
         let nothing : item_at es k ≡ None = subst (λ z. item_at es z ≡ None) (sym is) (none_above e.0 es s.0) in
         let behind : slot_at (entries_from es) e.0 ≡ empty_slot = subst (λ z. slot_at (entries_from es) z ≡ empty_slot) is (rest ∙ ap slot_in nothing) in
-        ap (slot_at (store e.0 (slot_of e.1) (entries_from es))) is ∙ store_here e.0 (slot_of e.1) (entries_from es) behind
+        ap (slot_at (store e.0 (slot_of (λ v. v) e.1) (entries_from es))) is ∙ store_here e.0 (slot_of (λ v. v) e.1) (entries_from es) behind
         ∙ ap (λ b. slot_in (cond b (Some e.1) (item_at es k))) (sym (ap is_eq (ap (nat_cmp k) (sym is) ∙ itself k)))
 
 -- ASCENDING ENTRIES ARE THE TABLE OF THEIR SLOTS
@@ -63,7 +62,7 @@ keys_ascending (e ∷ es) s = (omega arith, ascending_above e.0 (keys_of es) s.0
 pub not_among : {T : Type 0} (es : List (ℕ × T)) (k : ℕ) → is_in k (keys_of es) ≡ false → item_at es k ≡ None
 not_among [] k h = refl
 not_among (e ∷ es) k h =
-    let (apart, rest) = or_false (nat_eq k e.0) (is_in k (keys_of es)) h in
+    let (apart, rest) = or_parts (nat_eq k e.0) (is_in k (keys_of es)) h in
     ap (λ b. cond b (Some e.1) (item_at es k)) (is_apart apart) ∙ not_among es k rest
   where
     is_apart : nat_eq k e.0 ≡ false → Apart k e.0
@@ -73,10 +72,10 @@ from_table : (es : List (ℕ × FieldSlot Value)) → IsAscending es → entries
 unfolding IsStrictlySortedBy
 from_table [] s = refl
 from_table (e ∷ es) s =
-    let first : slot_at (entries_from (e ∷ es)) e.0 ≡ slot_of e.1 = slot_from (e ∷ es) e.0 s ∙ ap (λ o. slot_in (cond (is_eq o) (Some e.1) (item_at es e.0))) (itself e.0) in
+    let first : slot_at (entries_from (e ∷ es)) e.0 ≡ slot_of (λ v. v) e.1 = slot_from (e ∷ es) e.0 s ∙ ap (λ o. slot_in (cond (is_eq o) (Some e.1) (item_at es e.0))) (itself e.0) in
     ap₂ (store e.0) (sym first) (from_table es s.1
     ∙ table_from (slot_at (entries_from es)) (slot_at (entries_from (e ∷ es))) (suc e.0) (keys_of es) (ascending_above e.0 (keys_of es) s.0 s.1)
-    (λ n more. sym (store_apart e.0 n (slot_of e.1) (entries_from es) (ne_eqb e.0 n (λ same. omega (arith, same, more))))))
+    (λ n more. sym (store_apart e.0 n (slot_of (λ v. v) e.1) (entries_from es) (ne_eqb e.0 n (λ same. omega (arith, same, more))))))
 
 -- what holds of the table of the slots holds of the entries
 pub from_keys : (P : Entries → Type 0) (es : List (ℕ × FieldSlot Value)) → IsAscending es → ((ns : List ℕ) → Ascending 0 ns → P (table (slot_at (entries_from es)) ns)) → P (entries_from es)
@@ -103,5 +102,5 @@ changed_from es old n change s still same =
   where
     covers : Covers (λ k. change k (slot_at old k)) 0 (insert_number n (numbers_in old))
     covers k low out =
-        let (apart, outside) = or_false (nat_eq k n) (is_in k (numbers_in old)) (sym (in_insert k n (numbers_in old)) ∙ out) in
+        let (apart, outside) = or_parts (nat_eq k n) (is_in k (numbers_in old)) (sym (in_insert k n (numbers_in old)) ∙ out) in
         ap (change k) (slot_outside old k outside) ∙ still k apart

@@ -30,6 +30,7 @@ use Rattle.prost_reflect_fields.proofs.SlotChanges.{value_without, records_witho
 use Rattle.prost_reflect_fields.proofs.SoundChanges.{value_set_at, records_set_at, ascending_set_at, written_is_set, value_set as value_set_here}
 use Rattle.prost_reflect.proofs.Views.{shown, shown_entry, content_of_message, content_of_roll}
 use Rattle.prost_reflect.proofs.Slots.{slot_in, slot_from, same_slots_same, changed_from}
+use Rattle.prost_reflect.proofs.KeptSlots.{none_stays}
 
 keys_shown : (es : List (ℕ × FieldSlot Value)) → keys_of (shown es) ≡ keys_of es
 keys_shown [] = refl
@@ -80,11 +81,7 @@ module _ (d : PooledType) (es : List (ℕ × FieldSlot Value)) (n : ℕ) (v : Va
   ascending_set = ascending_without_values (are_siblings (known_of d) n) (put_value es n v) (ascending_put es n v s)
 
   set_still : (f : Field) (k : ℕ) → nat_eq k f.number ≡ false → cond (nat_eq k f.number) (with_value (Some (value_of v)) empty_slot) (cond (is_sibling (known_of d) f k) (with_value None empty_slot) empty_slot) ≡ empty_slot
-  set_still f k apart = ap (λ b. cond b (with_value (Some (value_of v)) empty_slot) (cond (is_sibling (known_of d) f k) (with_value None empty_slot) empty_slot)) apart ∙ cases (is_sibling (known_of d) f k)
-    where
-      cases : (b : Bool) → cond b (with_value None empty_slot) empty_slot ≡ empty_slot
-      cases true = refl
-      cases false = refl
+  set_still f k apart = ap (λ b. cond b (with_value (Some (value_of v)) empty_slot) (cond (is_sibling (known_of d) f k) (with_value None empty_slot) empty_slot)) apart ∙ none_stays (is_sibling (known_of d) f k)
 
   set_there : (f : Field) (k : ℕ) → field_of (known_of d) n ≡ Some f → slot_at (entries_from (shown (set_value_at (known_of d) es n v))) k
       ≡ cond (nat_eq k f.number) (with_value (Some (value_of v)) (slot_at (entries_from (shown es)) k)) (cond (is_sibling (known_of d) f k) (with_value None (slot_at (entries_from (shown es)) k)) (slot_at (entries_from (shown es)) k))

@@ -7,6 +7,7 @@ use Rattle.prost_reflect_wire.specs.Record.{Record, Payload, Flat, Group, items,
 use Rattle.prost_reflect_wire.specs.Unknown.{records_of}
 use Rattle.prost_reflect_wire.specs.Content as contents
 use Rattle.prost_reflect_wire.specs.Content.{Content, ContentOf, Entries, NoEntries, Values, NoValues, Item, Pairs, Pair, ScalarValue, MessageValue, ListValue, MapValue, values_from, store}
+use Rattle.prost_reflect_wire.proofs.Bodies.{items_body}
 use Rattle.prost_reflect_tables.specs.Shown.{schema_from}
 use Rattle.prost_reflect_pool.specs.SharedPools.{pool_rows}
 use Rattle.prost_reflect.specs.View.{value_step, message_step, value_of, content_of, entries_from, pairs_from, payloads_of, key_of}
@@ -47,14 +48,6 @@ mutual
   pairs_content : StoredPairs → Pairs
   pairs_content NoPairs = contents.NoPairs
   pairs_content (PairThen k v ps) = Pair k (value_content v) (pairs_content ps)
-
-items_body : (rs : List Record) → items (body_of rs) ≡ rs
-items_body [] = refl
-items_body (r ∷ rs) = first r.payload ∙ ap (λ qs. r ∷ qs) (items_body rs)
-  where
-    first : (p : Payload) → items (before (record_at r.number p) (body_of rs)) ≡ record_at r.number p ∷ items (body_of rs)
-    first (Flat p) = refl
-    first (Group inside) = refl
 
 -- ONE LAYER
 

@@ -1,8 +1,9 @@
 -- What is written of a list of scalars.
-use Rattle.std.proofs.Common.{◌≡◌, ℕ, zero, suc, ◌+◌, ◌-◌, ◌^◌, ◌≤◌, ◌<◌, slice_index_or, Bool, true, false, List, [], ◌∷◌, ◌++◌, map, flat_map, drop, length, Some, refl, sym, ap, ap₂, ◌∙◌, subst, append_assoc, append-nil, true≢false, arith, length-append}
+use Rattle.std.proofs.Common.{◌≡◌, ℕ, zero, suc, ◌<◌, slice_index_or, Bool, true, false, List, [], ◌∷◌, ◌++◌, map, flat_map, length, Some, refl, sym, ap, ap₂, ◌∙◌, subst, append_assoc, append-nil, true≢false, arith}
 use Rattle.std.specs.Prelude.{IsSomeAnd, Vec}
 use Rattle.std.specs.List.{AllByRecursion}
 use Rattle.std.specs.declared.alloc.Global.{Global}
+use Rattle.std.proofs.lemmas.Bool.{and_parts}
 use Rattle.prost_reflect_wire.specs.declared.key.WireType.TheVariants as wires
 use Rattle.prost_reflect_wire.specs.Record.{Len, record_at, short_key, short_plain, spelled}
 use Rattle.prost_reflect_wire.specs.Scalar.{ScalarKind, kind_wire, written}
@@ -12,16 +13,16 @@ use Rattle.prost_reflect_wire.specs.Content.{ScalarValue, MessageValue, ListValu
 use Rattle.prost_reflect_wire.specs.Writing.{end_to_end, list_payloads, element_payloads}
 use Rattle.prost_reflect_wire.specs.Typing.{element_valid, elements_valid, value_valid, pairs_valid}
 use Rattle.prost_reflect_wire.specs.Storing.{value_bytes}
-use Rattle.prost_reflect_wire.proofs.Deeper.{and_both}
 use Rattle.prost_reflect_laws.proofs.WrittenEntries.{written_wire}
 use Rattle.prost_reflect_laws.proofs.ListWritten.{list_written}
 use Rattle.prost_reflect_tables.specs.declared.tables.TableKind.{TableKind}
 use Rattle.prost_reflect_tables.specs.Rows.{FieldRow}
 use Rattle.prost_reflect_tables.specs.Shown.{schema_field}
+use Rattle.prost_reflect_tables.specs.Linking.{is_repeated}
 use Rattle.prost_reflect_pool.specs.declared.pooled_type.PooledType.{PooledType}
 use Rattle.prost_reflect.specs.declared.value.Value.{Value}
 use Rattle.prost_reflect.specs.declared.value.Value as values
-use Rattle.prost_reflect.specs.RowKinds.{is_repeated, names_message}
+use Rattle.prost_reflect.specs.RowKinds.{names_message}
 use Rattle.prost_reflect_fields.specs.Known.{known_of}
 use Rattle.prost_reflect_pool.specs.SharedPools.{pool_rows}
 use Rattle.prost_reflect.proofs.PlainKinds.{SamePayloads, scalars_row, scalars_kind, plain_of, plain_payloads}
@@ -30,22 +31,6 @@ use Rattle.prost_reflect.proofs.WrittenValues.{passing}
 use Rattle.prost_reflect.specs.View.{value_of}
 use Rattle.prost_reflect.specs.Scalars.{plain_kind, scalar_bytes, scalar_record_bytes}
 use Rattle.prost_reflect.specs.Lists.{IsList, TakesScalars, list_bytes}
-
--- ITEMS FROM THE LAST ON
-
-module _ {A : Type 0} (f : A → List ℕ) where
-  pub flat_before : (items rest : List A) (x : A) (old mid new : List ℕ) → items ≡ x ∷ rest → mid ≡ flat_map f rest ++ old → new ≡ f x ++ mid → new ≡ flat_map f items ++ old
-  flat_before items rest x old mid new cut m n = n ∙ ap (λ l. f x ++ l) m ∙ sym (append_assoc (f x) (flat_map f rest) old) ∙ ap (λ items. flat_map f items ++ old) (sym cut)
-
-  flat_drop : (i : ℕ) (items : List A) → length (flat_map f (drop i items)) ≤ length (flat_map f items)
-  flat_drop zero items = omega arith
-  flat_drop (suc i) [] = omega arith
-  flat_drop (suc i) (x ∷ items) = omega (arith, flat_drop i items, length-append (f x) (flat_map f items))
-
-  -- a length that is too great before the whole is written
-  pub flat_too_long : (items : List A) (i : ℕ) (x : A) (old mid : List ℕ) → drop (i - 1) items ≡ x ∷ drop i items → mid ≡ flat_map f (drop i items) ++ old → 2 ^ 64 ≤ length (f x) + length mid → 2 ^ 64 ≤ length (flat_map f items) + length old
-  flat_too_long items i x old mid cut is h =
-      omega (arith, h, ap length is, length-append (flat_map f (drop i items)) old, ap (λ (l : List A). length (flat_map f l)) cut, length-append (f x) (flat_map f (drop i items)), flat_drop (i - 1) items)
 
 -- what holds of each holds of one
 pub holds_at : {A : Type 0} (P : A → Type 0) (xs : List A) (i : ℕ) (x : A) → i < length xs → x ≡ slice_index_or xs i x → AllByRecursion P xs → P x
@@ -60,7 +45,7 @@ module _ (n : ℕ) (plain own : ScalarKind) (same : SamePayloads plain own) wher
   payloads_spelled : (vs : List Value) → elements_valid (ScalarOf own) (values_from (map value_of vs)) ≡ true → end_to_end (element_payloads (ScalarOf own) (values_from (map value_of vs))) ≡ flat_map (λ v. scalar_bytes (Some plain) (value_of v)) vs
   payloads_spelled [] h = refl
   payloads_spelled (v ∷ vs) h =
-      let (one, more) = and_both (element_valid (ScalarOf own) (value_of v)) (elements_valid (ScalarOf own) (values_from (map value_of vs))) h in
+      let (one, more) = and_parts (element_valid (ScalarOf own) (value_of v)) (elements_valid (ScalarOf own) (values_from (map value_of vs))) h in
       go (value_of v) one (payloads_spelled vs more)
     where
       go : (c : contents.Value) → element_valid (ScalarOf own) c ≡ true → end_to_end (element_payloads (ScalarOf own) (values_from (map value_of vs))) ≡ flat_map (λ v. scalar_bytes (Some plain) (value_of v)) vs →
@@ -74,7 +59,7 @@ module _ (n : ℕ) (plain own : ScalarKind) (same : SamePayloads plain own) wher
       spelled (map (record_at n) (element_payloads (ScalarOf own) (values_from (map value_of vs)))) ≡ flat_map (λ v. scalar_record_bytes n (Some plain) (value_of v)) vs
   records_spelled [] h = refl
   records_spelled (v ∷ vs) h =
-      let (one, more) = and_both (element_valid (ScalarOf own) (value_of v)) (elements_valid (ScalarOf own) (values_from (map value_of vs))) h in
+      let (one, more) = and_parts (element_valid (ScalarOf own) (value_of v)) (elements_valid (ScalarOf own) (values_from (map value_of vs))) h in
       go (value_of v) one (records_spelled vs more)
     where
       go : (c : contents.Value) → element_valid (ScalarOf own) c ≡ true → spelled (map (record_at n) (element_payloads (ScalarOf own) (values_from (map value_of vs)))) ≡ flat_map (λ v. scalar_record_bytes n (Some plain) (value_of v)) vs →
@@ -110,7 +95,7 @@ element_taken plain own (MapValue ps) same h = absurd (true≢false (sym h))
 takes_all : (kind : TableKind) (plain own : ScalarKind) (vs : List Value) → SamePayloads plain own → plain_kind kind ≡ Some plain → elements_valid (ScalarOf own) (values_from (map value_of vs)) ≡ true → TakesScalars kind vs
 takes_all kind plain own [] same e h = tt
 takes_all kind plain own (v ∷ vs) same e h =
-    let (one, more) = and_both (element_valid (ScalarOf own) (value_of v)) (elements_valid (ScalarOf own) (values_from (map value_of vs))) h in
+    let (one, more) = and_parts (element_valid (ScalarOf own) (value_of v)) (elements_valid (ScalarOf own) (values_from (map value_of vs))) h in
     (subst (λ o. IsSomeAnd o (λ k. element_valid (ScalarOf k) (value_of v) ≡ true)) (sym e) (element_taken plain own (value_of v) same one), takes_all kind plain own vs same e more)
 
 -- what the writer of a list needs to know, and what it has to write
@@ -121,7 +106,7 @@ pub record ListWritten (fields : List Field) (n : ℕ) (kind : TableKind) (packe
 list_of_kind : (fields : List Field) (n : ℕ) (f : Field) (packed : Bool) (kind : TableKind) (plain own : ScalarKind) (vs : List Value) → SamePayloads plain own → field_of fields n ≡ Some f → f.form ≡ Repeated packed → f.value_type.kind ≡ ScalarOf own → plain_kind kind ≡ Some plain →
     value_valid f (ListValue (values_from (map value_of vs))) ≡ true → ListWritten fields n kind packed vs
 list_of_kind fields n f packed kind plain own vs same found form is e h =
-    let valid : elements_valid (ScalarOf own) (values_from (map value_of vs)) ≡ true = ap (λ kind. elements_valid kind (values_from (map value_of vs))) (sym is) ∙ (and_both _ _ h).1 in
+    let valid : elements_valid (ScalarOf own) (values_from (map value_of vs)) ≡ true = ap (λ kind. elements_valid kind (values_from (map value_of vs))) (sym is) ∙ (and_parts _ _ h).1 in
     record { takes = takes_all kind plain own vs same e valid; bytes = list_written fields n f packed own (values_from (map value_of vs)) found form is valid ∙ list_spelled n plain own same kind packed vs e valid }
 
 -- ROWS
@@ -151,7 +136,7 @@ valid_list_value d n row c form found valid =
     go (schema_field (pool_rows d.pool) row) row.is_packed c form (passing (field_of (known_of d) n) (schema_field (pool_rows d.pool) row) (λ f. value_valid f c) (sym found) valid)
   where
     go : (f : Field) (packed : Bool) (c : contents.Value) → f.form ≡ Repeated packed → value_valid f c ≡ true → IsList c
-    go f packed (ScalarValue s) form h = absurd (true≢false (sym (and_both _ _ h).0 ∙ ap is_singular form))
-    go f packed (MessageValue m) form h = absurd (true≢false (sym (and_both _ _ h).0 ∙ ap is_singular form))
+    go f packed (ScalarValue s) form h = absurd (true≢false (sym (and_parts _ _ h).0 ∙ ap is_singular form))
+    go f packed (MessageValue m) form h = absurd (true≢false (sym (and_parts _ _ h).0 ∙ ap is_singular form))
     go f packed (ListValue vs) form h = tt
     go f packed (MapValue ps) form h = absurd (true≢false (sym h ∙ ap (λ form. pairs_valid form f.value_type.kind ps) form))

@@ -1,6 +1,7 @@
 -- What is written of a map of scalars.
-use Rattle.std.proofs.Common.{◌≡◌, ℕ, ◌+◌, ◌^◌, ◌≤◌, true, false, cond, ◌&&◌, List, [], ◌∷◌, ◌++◌, length, map, Some, refl, sym, ap, ap₂, ◌∙◌, subst, append_assoc, true≢false, arith, length-append}
+use Rattle.std.proofs.Common.{◌≡◌, ℕ, true, false, cond, ◌&&◌, List, [], ◌∷◌, ◌++◌, map, Some, refl, sym, ap, ap₂, ◌∙◌, subst, append_assoc, true≢false}
 use Rattle.std.specs.Prelude.{IsSomeAnd}
+use Rattle.std.proofs.lemmas.Bool.{and_parts}
 use Rattle.prost_reflect_wire.specs.declared.key.WireType.TheVariants as wires
 use Rattle.prost_reflect_wire.specs.Record.{Len, record_at, short_key, short_plain, spelled}
 use Rattle.prost_reflect_wire.specs.Scalar.{Scalar, ScalarKind, kind_wire, scalar_valid, written}
@@ -10,7 +11,6 @@ use Rattle.prost_reflect_wire.specs.Content.{ScalarValue, MessageValue, ListValu
 use Rattle.prost_reflect_wire.specs.Writing.{is_default_of, pair_payloads}
 use Rattle.prost_reflect_wire.specs.Typing.{kind_takes, element_valid, pairs_valid, value_valid}
 use Rattle.prost_reflect_wire.specs.Storing.{value_bytes}
-use Rattle.prost_reflect_wire.proofs.Deeper.{and_both}
 use Rattle.prost_reflect_laws.proofs.MapWritten.{part_bytes, pair_written, map_written}
 use Rattle.prost_reflect_tables.specs.declared.tables.TableKind.{TableKind}
 use Rattle.prost_reflect_tables.specs.Rows.{FieldRow, EnumRow}
@@ -70,15 +70,15 @@ module _ (n : ℕ) (enums : List EnumRow) (key value_row : FieldRow) (key_type v
   takes_pairs : (es : List (MapKey × Value)) → pairs_valid (MapFrom key_type) (ScalarOf kind) (pairs_shown es) ≡ true → TakesPairs key.kind value_row.kind es
   takes_pairs [] h = tt
   takes_pairs (e ∷ es) h =
-      let (one, more) = and_both (kind_takes key_type.kind (key_of e.0) && element_valid (ScalarOf kind) (value_of e.1)) (pairs_valid (MapFrom key_type) (ScalarOf kind) (pairs_shown es)) h in
-      let (a, b) = and_both (kind_takes key_type.kind (key_of e.0)) (element_valid (ScalarOf kind) (value_of e.1)) one in
+      let (one, more) = and_parts (kind_takes key_type.kind (key_of e.0) && element_valid (ScalarOf kind) (value_of e.1)) (pairs_valid (MapFrom key_type) (ScalarOf kind) (pairs_shown es)) h in
+      let (a, b) = and_parts (kind_takes key_type.kind (key_of e.0)) (element_valid (ScalarOf kind) (value_of e.1)) one in
       ((part_takes enums key key_type key_kind key_part_row (ScalarValue (key_of e.0)) (key_fits (key_of e.0) a), part_takes enums value_row value_type kind part_row (value_of e.1) b), takes_pairs es more)
 
   pairs_spelled : (es : List (MapKey × Value)) → pairs_valid (MapFrom key_type) (ScalarOf kind) (pairs_shown es) ≡ true → spelled (map (record_at n) (pair_payloads key_type value_type (pairs_shown es))) ≡ pairs_bytes n enums key value_row es
   pairs_spelled [] h = refl
   pairs_spelled (e ∷ es) h =
-      let (one, more) = and_both (kind_takes key_type.kind (key_of e.0) && element_valid (ScalarOf kind) (value_of e.1)) (pairs_valid (MapFrom key_type) (ScalarOf kind) (pairs_shown es)) h in
-      let (a, b) = and_both (kind_takes key_type.kind (key_of e.0)) (element_valid (ScalarOf kind) (value_of e.1)) one in
+      let (one, more) = and_parts (kind_takes key_type.kind (key_of e.0) && element_valid (ScalarOf kind) (value_of e.1)) (pairs_valid (MapFrom key_type) (ScalarOf kind) (pairs_shown es)) h in
+      let (a, b) = and_parts (kind_takes key_type.kind (key_of e.0)) (element_valid (ScalarOf kind) (value_of e.1)) one in
       go (value_of e.1) (key_fits (key_of e.0) a) b (pairs_spelled es more)
     where
       go : (c : contents.Value) → scalar_valid key_kind (key_of e.0) ≡ true → element_valid (ScalarOf kind) c ≡ true → spelled (map (record_at n) (pair_payloads key_type value_type (pairs_shown es))) ≡ pairs_bytes n enums key value_row es →
@@ -100,33 +100,6 @@ module _ (n : ℕ) (enums : List EnumRow) (key value_row : FieldRow) (key_type v
       }
 
 -- ENTRIES FROM THE LAST ON
-
-module _ (n : ℕ) (enums : List EnumRow) (key value_row : FieldRow) where
-  pairs_behind : (es ds : List (MapKey × Value)) → pairs_bytes n enums key value_row (es ++ ds) ≡ pairs_bytes n enums key value_row es ++ pairs_bytes n enums key value_row ds
-  pairs_behind [] ds = refl
-  pairs_behind (e ∷ es) ds =
-      ap (λ l. entry_bytes n enums key value_row (key_of e.0) (value_of e.1) ++ l) (pairs_behind es ds)
-      ∙ sym (append_assoc (entry_bytes n enums key value_row (key_of e.0) (value_of e.1)) (pairs_bytes n enums key value_row es) (pairs_bytes n enums key value_row ds))
-
-  -- one more in front of those that are written
-  pub pairs_more : (e : MapKey × Value) (done : List (MapKey × Value)) (old mid new : List ℕ) → mid ≡ pairs_bytes n enums key value_row done ++ old → new ≡ entry_bytes n enums key value_row (key_of e.0) (value_of e.1) ++ mid → new ≡ pairs_bytes n enums key value_row (e ∷ done) ++ old
-  pairs_more e done old mid new m h =
-      h ∙ ap (λ l. entry_bytes n enums key value_row (key_of e.0) (value_of e.1) ++ l) m ∙ sym (append_assoc (entry_bytes n enums key value_row (key_of e.0) (value_of e.1)) (pairs_bytes n enums key value_row done) old)
-
-  -- a length that is too great before the whole is written
-  pub pairs_too_long : (items left done : List (MapKey × Value)) (e : MapKey × Value) (old mid : List ℕ) → items ≡ left ++ e ∷ done → mid ≡ pairs_bytes n enums key value_row done ++ old →
-      2 ^ 64 ≤ length (entry_bytes n enums key value_row (key_of e.0) (value_of e.1)) + length mid → 2 ^ 64 ≤ length (pairs_bytes n enums key value_row items) + length old
-  pairs_too_long items left done e old mid cut m h =
-      omega (
-        arith,
-        h,
-        ap length m,
-        length-append (pairs_bytes n enums key value_row done) old,
-        ap (λ es. length (pairs_bytes n enums key value_row es)) cut,
-        ap (λ (l : List ℕ). length l) (pairs_behind left (e ∷ done)),
-        length-append (pairs_bytes n enums key value_row left) (pairs_bytes n enums key value_row (e ∷ done)),
-        length-append (entry_bytes n enums key value_row (key_of e.0) (value_of e.1)) (pairs_bytes n enums key value_row done),
-      )
 
 -- where the entries are cut
 pub cut_pairs : (items left rest done : List (MapKey × Value)) (e : MapKey × Value) → items ≡ left ++ done → left ≡ rest ++ e ∷ [] → items ≡ rest ++ e ∷ done

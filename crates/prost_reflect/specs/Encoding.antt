@@ -12,13 +12,12 @@ use Rattle.prost_reflect_wire.specs.Typing.{kept, value_valid, value_passes, fit
 use Rattle.prost_reflect_wire.specs.Storing.{slot_bytes}
 use Rattle.prost_reflect_fields.specs.FieldSlots.{value_in, records_in}
 use Rattle.prost_reflect_fields.specs.Known.{are_records_of}
-use Rattle.prost_reflect.specs.View.{value_of, payloads_of}
+use Rattle.prost_reflect.specs.View.{value_of, payloads_of, slot_of}
 use Rattle.prost_reflect_fields.specs.declared.slot.FieldSlot.{FieldSlot}
 use Rattle.prost_reflect.specs.declared.value.Value.{Value}
 
--- The slot of an entry: what its value is, and the payloads of its unknown records.
 abbrev pub entry_slot : FieldSlot Value → Slot
-entry_slot e = record { value = option_map value_of (value_in e); unknowns = payloads_of (unwrap_or (records_in e) []) }
+entry_slot e = slot_of value_of e
 
 -- The bytes of entries, one number after another.
 abbrev pub entries_bytes : List Field → List (ℕ × FieldSlot Value) → List ℕ

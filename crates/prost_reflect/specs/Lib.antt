@@ -22,6 +22,5 @@ pub mod NestedMaps
 pub mod Targets
 pub mod Nested
 pub mod Encoding
-pub mod Defaults
 pub mod Present
 pub mod Lists

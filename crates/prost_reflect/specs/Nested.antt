@@ -5,9 +5,9 @@ use Rattle.prost_reflect_wire.specs.declared.error.DecodeError.TheVariants as er
 use Rattle.prost_reflect_wire.specs.declared.key.WireType.{WireType}
 use Rattle.prost_reflect_wire.specs.declared.key.WireType.TheVariants as wires
 use Rattle.prost_reflect_wire.specs.Content.{Content, Value, MessageValue, schema_of, type_of}
-use Rattle.prost_reflect_wire.specs.Schema.{Kind, Field, Schema}
+use Rattle.prost_reflect_wire.specs.Schema.{Kind, Field, Schema, is_map}
 use Rattle.prost_reflect_wire.specs.Typing.{WellStored}
-use Rattle.prost_reflect_wire.specs.Fault.{KeyFront, Place, Stands, field_at, is_map, same_wire}
+use Rattle.prost_reflect_wire.specs.Fault.{KeyFront, Place, Stands, field_at, same_wire}
 use Rattle.prost_reflect_wire.specs.Decoding.{GroupProgress}
 use Rattle.prost_reflect_wire.specs.MessageEntries.{NestedValueRead}
 use Rattle.prost_reflect.specs.Targets.{nested_kind}

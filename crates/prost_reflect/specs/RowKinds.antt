@@ -1,9 +1,7 @@
--- Labels and kinds of the rows of fields.
+-- Kinds of the rows of fields.
 use Rattle.std.specs.Prelude.{Bool, true, false}
 use Rattle.prost_reflect_wire.specs.Scalar.{Enum}
 use Rattle.prost_reflect_wire.specs.Schema.{Kind, ScalarOf}
-use Rattle.prost_reflect_tables.specs.declared.tables.Cardinality.{Cardinality}
-use Rattle.prost_reflect_tables.specs.declared.tables.Cardinality.TheVariants.{Repeated}
 use Rattle.prost_reflect_tables.specs.declared.tables.TableKind.{TableKind}
 use Rattle.prost_reflect_tables.specs.declared.tables.TableKind.TheVariants.{Message, Enum as EnumAt}
 
@@ -14,10 +12,6 @@ is_plain (ScalarOf kind) = true
 is_plain kind = false
 
 -- AS THE ROWS SAY IT
-
-abbrev pub is_repeated : Cardinality → Bool
-is_repeated Repeated = true
-is_repeated c = false
 
 abbrev pub is_plain_kind : TableKind → Bool
 is_plain_kind (Message T) = false

@@ -3,9 +3,11 @@ use Rattle.std.specs.Prelude.{◌≡◌, Bool, true, false, ◌&&◌, nat_eq, re
 use Rattle.std.specs.Bool.{Decides}
 use Rattle.std.specs.Cmp.{IsPartialEquivalence, unsigned_Decides, partial_equiv_from_equiv, on_per}
 use Rattle.std.proofs.Common.{sym, ap, ap₂, ◌∙◌, true≢false}
+use Rattle.std.proofs.lemmas.Bool.{and_parts, and_from}
 use Rattle.prost_reflect_wire.specs.Scalar.{scalar_eq}
 use Rattle.prost_reflect_wire.specs.Equality.{records_eq, records_same, records_refl}
-use Rattle.prost_reflect_tables.specs.Equality.{rows_eq, rows_decide, scalar_decides, decided, equivalence}
+use Rattle.prost_reflect_wire.specs.Deciding.{decided, equivalence, scalar_decides}
+use Rattle.prost_reflect_tables.specs.Equality.{rows_eq, rows_decide}
 use Rattle.prost_reflect_pool.specs.PoolEquality.{contents_eq, contents_decide}
 use Rattle.prost_reflect.specs.Stored.{StoredMessage, MessageOf, StoredEntries, NothingStored, ValueAt, UnknownAt, BothAt, StoredValue, StoredScalar, StoredInside, StoredList, StoredMap, StoredItems, NoItems, ItemThen, StoredPairs, NoPairs, PairThen, value_stored, message_stored}
 use Rattle.prost_reflect.specs.declared.value.Value.{Value}
@@ -41,35 +43,28 @@ abbrev mutual
 
 -- EQUAL IS THE SAME
 
-and_both : (a b : Bool) → (a && b) ≡ true → (a ≡ true) × (b ≡ true)
-and_both true b h = (refl, h)
-and_both false b h = absurd (true≢false (sym h))
-
-both_true : {a b : Bool} → a ≡ true → b ≡ true → (a && b) ≡ true
-both_true {b} e f = ap (λ c. c && b) e ∙ f
-
 mutual
   message_same : (m n : StoredMessage) → same_message m n ≡ true → m ≡ n
   message_same (MessageOf fs r T es) (MessageOf gs s U ds) h =
-      let (types, rest) = and_both ((contents_eq fs gs && rows_eq r s) && nat_eq T U) (same_entries es ds) h in
-      let (pools, place) = and_both (contents_eq fs gs && rows_eq r s) (nat_eq T U) types in
-      let (files, rows) = and_both (contents_eq fs gs) (rows_eq r s) pools in
+      let (types, rest) = and_parts ((contents_eq fs gs && rows_eq r s) && nat_eq T U) (same_entries es ds) h in
+      let (pools, place) = and_parts (contents_eq fs gs && rows_eq r s) (nat_eq T U) types in
+      let (files, rows) = and_parts (contents_eq fs gs) (rows_eq r s) pools in
       λ i. MessageOf ((contents_decide fs gs).0 files i) ((rows_decide r s).0 rows i) ((unsigned_Decides T U).0 place i) (entries_same es ds rest i)
 
   entries_same : (es ds : StoredEntries) → same_entries es ds ≡ true → es ≡ ds
   entries_same NothingStored NothingStored h = refl
   entries_same (ValueAt n v es) (ValueAt m w ds) h =
-      let (first, rest) = and_both (nat_eq n m && same_value v w) (same_entries es ds) h in
-      let (number, value) = and_both (nat_eq n m) (same_value v w) first in
+      let (first, rest) = and_parts (nat_eq n m && same_value v w) (same_entries es ds) h in
+      let (number, value) = and_parts (nat_eq n m) (same_value v w) first in
       λ i. ValueAt ((unsigned_Decides n m).0 number i) (value_same v w value i) (entries_same es ds rest i)
   entries_same (UnknownAt n rs es) (UnknownAt m qs ds) h =
-      let (first, rest) = and_both (nat_eq n m && records_eq rs qs) (same_entries es ds) h in
-      let (number, records) = and_both (nat_eq n m) (records_eq rs qs) first in
+      let (first, rest) = and_parts (nat_eq n m && records_eq rs qs) (same_entries es ds) h in
+      let (number, records) = and_parts (nat_eq n m) (records_eq rs qs) first in
       λ i. UnknownAt ((unsigned_Decides n m).0 number i) (records_same rs qs records i) (entries_same es ds rest i)
   entries_same (BothAt n v rs es) (BothAt m w qs ds) h =
-      let (first, rest) = and_both (nat_eq n m && (same_value v w && records_eq rs qs)) (same_entries es ds) h in
-      let (number, parts) = and_both (nat_eq n m) (same_value v w && records_eq rs qs) first in
-      let (value, records) = and_both (same_value v w) (records_eq rs qs) parts in
+      let (first, rest) = and_parts (nat_eq n m && (same_value v w && records_eq rs qs)) (same_entries es ds) h in
+      let (number, parts) = and_parts (nat_eq n m) (same_value v w && records_eq rs qs) first in
+      let (value, records) = and_parts (same_value v w) (records_eq rs qs) parts in
       λ i. BothAt ((unsigned_Decides n m).0 number i) (value_same v w value i) (records_same rs qs records i) (entries_same es ds rest i)
   entries_same es ds h = absurd (true≢false (sym h))
 
@@ -83,27 +78,27 @@ mutual
   items_same : (vs ws : StoredItems) → same_items vs ws ≡ true → vs ≡ ws
   items_same NoItems NoItems h = refl
   items_same (ItemThen v vs) (ItemThen w ws) h =
-      let (first, rest) = and_both (same_value v w) (same_items vs ws) h in
+      let (first, rest) = and_parts (same_value v w) (same_items vs ws) h in
       ap₂ ItemThen (value_same v w first) (items_same vs ws rest)
   items_same vs ws h = absurd (true≢false (sym h))
 
   pairs_same : (ps qs : StoredPairs) → same_pairs ps qs ≡ true → ps ≡ qs
   pairs_same NoPairs NoPairs h = refl
   pairs_same (PairThen k v ps) (PairThen l w qs) h =
-      let (first, rest) = and_both (scalar_eq k l && same_value v w) (same_pairs ps qs) h in
-      let (key, value) = and_both (scalar_eq k l) (same_value v w) first in
+      let (first, rest) = and_parts (scalar_eq k l && same_value v w) (same_pairs ps qs) h in
+      let (key, value) = and_parts (scalar_eq k l) (same_value v w) first in
       λ i. PairThen ((scalar_decides k l).0 key i) (value_same v w value i) (pairs_same ps qs rest i)
   pairs_same ps qs h = absurd (true≢false (sym h))
 
 mutual
   message_itself : (m : StoredMessage) → same_message m m ≡ true
-  message_itself (MessageOf fs r T es) = both_true (both_true (both_true ((contents_decide fs fs).1 refl) ((rows_decide r r).1 refl)) ((unsigned_Decides T T).1 refl)) (entries_itself es)
+  message_itself (MessageOf fs r T es) = and_from _ _ (and_from _ _ (and_from _ _ ((contents_decide fs fs).1 refl) ((rows_decide r r).1 refl)) ((unsigned_Decides T T).1 refl)) (entries_itself es)
 
   entries_itself : (es : StoredEntries) → same_entries es es ≡ true
   entries_itself NothingStored = refl
-  entries_itself (ValueAt n v es) = both_true (both_true ((unsigned_Decides n n).1 refl) (value_itself v)) (entries_itself es)
-  entries_itself (UnknownAt n rs es) = both_true (both_true ((unsigned_Decides n n).1 refl) (records_refl rs)) (entries_itself es)
-  entries_itself (BothAt n v rs es) = both_true (both_true ((unsigned_Decides n n).1 refl) (both_true (value_itself v) (records_refl rs))) (entries_itself es)
+  entries_itself (ValueAt n v es) = and_from _ _ (and_from _ _ ((unsigned_Decides n n).1 refl) (value_itself v)) (entries_itself es)
+  entries_itself (UnknownAt n rs es) = and_from _ _ (and_from _ _ ((unsigned_Decides n n).1 refl) (records_refl rs)) (entries_itself es)
+  entries_itself (BothAt n v rs es) = and_from _ _ (and_from _ _ ((unsigned_Decides n n).1 refl) (and_from _ _ (value_itself v) (records_refl rs))) (entries_itself es)
 
   value_itself : (v : StoredValue) → same_value v v ≡ true
   value_itself (StoredScalar v) = (scalar_decides v v).1 refl
@@ -113,11 +108,11 @@ mutual
 
   items_itself : (vs : StoredItems) → same_items vs vs ≡ true
   items_itself NoItems = refl
-  items_itself (ItemThen v vs) = both_true (value_itself v) (items_itself vs)
+  items_itself (ItemThen v vs) = and_from _ _ (value_itself v) (items_itself vs)
 
   pairs_itself : (ps : StoredPairs) → same_pairs ps ps ≡ true
   pairs_itself NoPairs = refl
-  pairs_itself (PairThen k v ps) = both_true (both_true ((scalar_decides k k).1 refl) (value_itself v)) (pairs_itself ps)
+  pairs_itself (PairThen k v ps) = and_from _ _ (and_from _ _ ((scalar_decides k k).1 refl) (value_itself v)) (pairs_itself ps)
 
 pub message_decides : (m n : StoredMessage) → Decides (same_message m n) (m ≡ n)
 message_decides = decided same_message message_same message_itself

@@ -17,6 +17,7 @@ use Rattle.prost_reflect_tables.specs.declared.tables.TableKind.{TableKind}
 use Rattle.prost_reflect_tables.specs.declared.tables.TableKind.TheVariants.{Double, Float, Int32, Int64, Uint32, Uint64, Sint32, Sint64, Fixed32, Fixed64, Sfixed32, Sfixed64, Bool as BoolKind, String, Bytes, Message, Enum}
 use Rattle.prost_reflect_tables.specs.Rows.{FieldRow, EnumRow}
 use Rattle.prost_reflect_tables.specs.Shown.{schema_kind, own_type}
+pub use Rattle.prost_reflect_tables.specs.WrittenDefaults.{plain_kind}
 use Rattle.prost_reflect_pool.specs.SharedPools.{pool_rows}
 use Rattle.prost_reflect_fields.specs.Known.{known_of}
 use Rattle.prost_reflect_pool.specs.Enums.{numbers_of}
@@ -53,26 +54,6 @@ abbrev pub IsBlank : Scalar → Type 0
 IsBlank (scalars.Text x) = x ≡ []
 IsBlank (scalars.Bytes x) = x ≡ []
 IsBlank v = Unit {0}
-
--- The scalar kinds as payloads and values tell them: each enum as one that takes every number.
-abbrev pub plain_kind : TableKind → Option ScalarKind
-plain_kind Double = Some scalars.Double
-plain_kind Float = Some scalars.Float
-plain_kind Int32 = Some scalars.Int32
-plain_kind Int64 = Some scalars.Int64
-plain_kind Uint32 = Some scalars.Uint32
-plain_kind Uint64 = Some scalars.Uint64
-plain_kind Sint32 = Some scalars.Sint32
-plain_kind Sint64 = Some scalars.Sint64
-plain_kind Fixed32 = Some scalars.Fixed32
-plain_kind Fixed64 = Some scalars.Fixed64
-plain_kind Sfixed32 = Some scalars.Sfixed32
-plain_kind Sfixed64 = Some scalars.Sfixed64
-plain_kind BoolKind = Some scalars.BoolKind
-plain_kind String = Some scalars.StringKind
-plain_kind Bytes = Some scalars.BytesKind
-plain_kind (Message T) = None
-plain_kind (Enum E) = Some (scalars.Enum (pos 0) scalars.Open)
 
 -- The kind is a scalar kind of this wire type.
 abbrev pub HasWire : TableKind → WireType → Type 0

@@ -1,5 +1,5 @@
 -- What values and messages store, without where it lies in memory.
-use Rattle.std.specs.Prelude.{ℕ, List, [], ◌∷◌, map, string_bytes, unwrap_or}
+use Rattle.std.specs.Prelude.{ℕ, List, [], ◌∷◌, map, string_bytes, unwrap_or, option_map}
 use Rattle.prost_reflect_wire.specs.Record.{Record, Payload}
 use Rattle.prost_reflect_wire.specs.Scalar as scalars
 use Rattle.prost_reflect_wire.specs.Scalar.{Scalar}
@@ -32,13 +32,13 @@ pairs_from (e ∷ es) = Pair (key_of e.0) e.1 (pairs_from es)
 abbrev pub payloads_of : List Record → List Payload
 payloads_of rs = map (λ r. r.payload) rs
 
--- The slot of an entry: its value, and the payloads of its unknown records.
-abbrev pub slot_of : FieldSlot contents.Value → Slot
-slot_of e = record { value = value_in e; unknowns = payloads_of (unwrap_or (records_in e) []) }
+-- The slot of an entry: what its value is, and the payloads of its unknown records.
+abbrev pub slot_of : {V : Type 0} → (V → contents.Value) → FieldSlot V → Slot
+slot_of view e = record { value = option_map view (value_in e); unknowns = payloads_of (unwrap_or (records_in e) []) }
 
 abbrev pub entries_from : List (ℕ × FieldSlot contents.Value) → Entries
 entries_from [] = NoEntries
-entries_from (e ∷ es) = store e.0 (slot_of e.1) (entries_from es)
+entries_from (e ∷ es) = store e.0 (slot_of (λ v. v) e.1) (entries_from es)
 
 -- One step of each type, over what its parts are.
 abbrev pub value_step : Value-F contents.Value Content → contents.Value

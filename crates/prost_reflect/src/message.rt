@@ -22,7 +22,7 @@ mod copy;
 mod decode;
 pub(crate) mod defaults;
 mod encode;
-mod enums;
+pub(crate) mod enums;
 mod equality;
 mod present;
 

@@ -1,36 +1,28 @@
 -- What a change keeps of what a message's slots keep.
 use Rattle.std.proofs.Common.{◌≡◌, ◌++◌, unwrap_or, Bool, true, false, cond, ℕ, nat_eq, List, [], ◌∷◌, Option, None, Some, ap, sym, ◌∙◌, subst, refl, true≢false}
-use Rattle.std.proofs.lemmas.Bool.{eq-eqb, eqb-true, eqb-false}
+use Rattle.std.proofs.lemmas.Bool.{eq-eqb, eqb-true, eqb-false, and_parts, and_from, false_from_ne_true}
 use Rattle.std.specs.Option.{option_and_then, option_map, is_some}
 use Rattle.std.specs.List.{list_all}
 use Rattle.prost_reflect_wire.specs.Record.{Record}
 use Rattle.prost_reflect_wire.specs.Schema.{Field, numbers_differ}
-use Rattle.prost_reflect_wire.proofs.Deeper.{and_both, both_true, all_append}
+use Rattle.prost_reflect_wire.proofs.Deeper.{all_append}
 use Rattle.prost_reflect_fields.specs.declared.slot.FieldSlot.{FieldSlot}
 use Rattle.prost_reflect_fields.specs.Items.{IsAscending, item_at, with_item}
 use Rattle.prost_reflect_fields.specs.Known.{is_known, are_siblings, keeps_unknown, are_records_of}
 use Rattle.prost_reflect_fields.specs.FieldSlots.{value_in, records_in, value_at, records_at, has_value, revalued, put_value, without_values, with_value, with_slot, SameStored, UnknownAdded}
 use Rattle.prost_reflect_fields.specs.Sound.{Sound, unknown_kept, set_value_at, prepared}
-use Rattle.prost_reflect_fields.proofs.ItemChanges.{at_each, apart_of, with_same, with_apart}
+use Rattle.prost_reflect_fields.proofs.ItemChanges.{at_each, apart_of, with_same, with_apart, not_both}
 use Rattle.prost_reflect_fields.proofs.SlotChanges.{value_without, records_without, ascending_put, value_put, value_put_apart, records_put, same_values, same_records, value_kept, records_kept, ascending_without_values, ascending_with_value, value_written, value_written_apart, records_written}
 use Rattle.prost_reflect_fields.proofs.Siblings.{siblings_back, siblings_self}
 use Rattle.std.proofs.lemmas.Map.Steps.{set_value_same}
 use Rattle.std.specs.BTreeMap.{is_at}
 use Rattle.std.specs.Ordering.{nat_cmp}
 
-not_true : (b : Bool) → (b ≡ true → ⊥) → b ≡ false
-not_true true h = absurd (h refl)
-not_true false h = refl
-
-not_both : {P : Type 0} (b : Bool) → b ≡ true → b ≡ false → P
-not_both true t f = cc
-not_both false t f = cc
-
 added_kept : (fields : List Field) (n : ℕ) (r : Record) (o : Option (List Record)) → r.number ≡ n → keeps_unknown fields n ≡ true → unknown_kept fields n o ≡ true → unknown_kept fields n (Some (unwrap_or o [] ++ r ∷ [])) ≡ true
-added_kept fields n r o own keeps h = both_true keeps (cases o h)
+added_kept fields n r o own keeps h = and_from _ _ keeps (cases o h)
   where
     one : list_all (λ (r : Record). nat_eq r.number n) (r ∷ []) ≡ true
-    one = both_true (eq-eqb r.number n own) refl
+    one = and_from _ _ (eq-eqb r.number n own) refl
 
     all : (rs : List Record) → are_records_of n rs ≡ true → are_records_of n (rs ++ r ∷ []) ≡ true
     all [] h = cc
@@ -38,7 +30,7 @@ added_kept fields n r o own keeps h = both_true keeps (cases o h)
 
     cases : (o : Option (List Record)) → unknown_kept fields n o ≡ true → are_records_of n (unwrap_or o [] ++ r ∷ []) ≡ true
     cases None h = one
-    cases (Some rs) h = all rs (and_both (keeps_unknown fields n) (are_records_of n rs) h).1
+    cases (Some rs) h = all rs (and_parts (keeps_unknown fields n) (are_records_of n rs) h).1
 
 module _ {V : Type 0} where
   -- values at no more numbers, and the same unknown records
@@ -47,7 +39,7 @@ module _ {V : Type 0} where
     pub records : (k : ℕ) → records_at ds k ≡ records_at es k
 
   without : (ds es : List (ℕ × FieldSlot V)) (k : ℕ) → Fewer ds es → has_value es k ≡ false → has_value ds k ≡ false
-  without ds es k less h = not_true (has_value ds k) (λ t. not_both (has_value es k) (less.values k t) h)
+  without ds es k less h = false_from_ne_true (has_value ds k) (λ t. not_both (has_value es k) (less.values k t) h)
 
   pub sound_less : (fields : List Field) (ds es : List (ℕ × FieldSlot V)) → Fewer ds es → Sound fields es → Sound fields ds
   sound_less fields ds es less s = (

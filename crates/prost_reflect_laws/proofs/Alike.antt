@@ -2,10 +2,9 @@
 use Rattle.std.proofs.Common.{◌≡◌, ℕ, suc, length, Bool, true, false, cond, not, ◌&&◌, ◌||◌, ℤ, List, [], ◌∷◌, map, filter, Option, Some, None, refl, ap, ap₂, sym, ◌∙◌, true≢false}
 use Rattle.std.specs.Bool.{beq}
 use Rattle.std.specs.List.{list_any}
-use Rattle.std.specs.Ordering.{int_eq, int_cmp, is_eq}
-use Rattle.std.specs.declared.cmp.Ordering.{Ordering}
-use Rattle.std.specs.declared.cmp.Ordering.TheVariants.{Less, Equal, Greater}
-use Rattle.std.proofs.lemmas.Map.Lookups.{exact_signed}
+use Rattle.std.specs.Ordering.{int_eq}
+use Rattle.std.proofs.lemmas.Bool.{and_parts}
+use Rattle.std.specs.Cmp.{signed_Decides}
 use Rattle.prost_reflect_wire.specs.Record.{Plain, Var, Fix64, Len, Fix32, Payload, Flat, Group}
 use Rattle.prost_reflect_wire.specs.Scalar.{Scalar, ScalarKind, Double, Float, Int64, Uint64, Int32, Fixed64, Fixed32, BoolKind, StringKind, BytesKind, Uint32, Sfixed32, Sfixed64, Sint32, Sint64, Enum, EnumNumbers, Open, Closed, EnumNumber, elem, is_declared, is_undeclared, kind_default, kind_wire, scalar_eq, scalar_valid, in_i32, low_i32}
 use Rattle.prost_reflect_wire.specs.Schema.{Kind, ScalarOf, MessageOf, GroupOf, ValueType, FieldForm, Singular, Repeated, MapFrom, is_packable}
@@ -13,9 +12,8 @@ use Rattle.prost_reflect_wire.specs.Content.{ScalarValue}
 use Rattle.prost_reflect_wire.specs.Grammar.{or_none, plains_within, unpacked, numbered, last, records_in, element_payloads_in, is_stray, is_stray_entry, value_payloads, stray_payloads}
 use Rattle.prost_reflect_wire.specs.Writing.{is_default_of}
 use Rattle.prost_reflect_wire.specs.Reduction.{TypePairs, all_among, same_numbers, same_scalar_kind, same_kind, same_default, value_types_match, same_form}
-use Rattle.prost_reflect_wire.proofs.Deeper.{and_both}
 use Rattle.prost_reflect_wire.proofs.ListTests.{beq_same}
-use Rattle.prost_reflect_laws.proofs.Order.{scalars_equal}
+use Rattle.prost_reflect_wire.specs.Deciding.{scalar_decides}
 
 -- SCALAR KINDS
 
@@ -30,22 +28,14 @@ pub record Alike (k l : ScalarKind) : Type 0 where
 itself : (k : ScalarKind) → Alike k k
 itself k = record { reads = λ p. refl; strays = λ p. refl; default = refl; packable = refl; wire = refl; takes = λ v. refl }
 
-ints_equal : (x y : ℤ) → int_eq x y ≡ true → x ≡ y
-ints_equal x y h = go (int_cmp x y) refl h
-  where
-    go : (o : Ordering) → int_cmp x y ≡ o → is_eq o ≡ true → x ≡ y
-    go Equal e h = exact_signed x y e
-    go Less e h = absurd (true≢false (sym h))
-    go Greater e h = absurd (true≢false (sym h))
-
 among : (xs ys : List ℤ) (z : ℤ) → all_among xs ys ≡ true → list_any (int_eq z) xs ≡ true → list_any (int_eq z) ys ≡ true
 among [] ys z h e = absurd (true≢false (sym e))
 among (x ∷ xs) ys z h e =
-    let (one, more) = and_both (list_any (int_eq x) ys) (all_among xs ys) h in
+    let (one, more) = and_parts (list_any (int_eq x) ys) (all_among xs ys) h in
     go (int_eq z x) refl e one (among xs ys z more)
   where
     go : (b : Bool) → int_eq z x ≡ b → (b || list_any (int_eq z) xs) ≡ true → list_any (int_eq x) ys ≡ true → (list_any (int_eq z) xs ≡ true → list_any (int_eq z) ys ≡ true) → list_any (int_eq z) ys ≡ true
-    go true d e one more = ap (λ y. list_any (int_eq y) ys) (ints_equal z x d) ∙ one
+    go true d e one more = ap (λ y. list_any (int_eq y) ys) ((signed_Decides z x).0 d) ∙ one
     go false d e one more = more e
 
 both_ways : (a b : Bool) → (a ≡ true → b ≡ true) → (b ≡ true → a ≡ true) → b ≡ a
@@ -56,7 +46,7 @@ both_ways false true h k = sym (k refl)
 declared_alike : (e f : EnumNumbers) (z : ℤ) → same_numbers e f ≡ true → is_declared f z ≡ is_declared e z
 declared_alike Open Open z h = refl
 declared_alike (Closed xs) (Closed ys) z h =
-    let (there, back) = and_both (all_among xs ys) (all_among ys xs) h in
+    let (there, back) = and_parts (all_among xs ys) (all_among ys xs) h in
     both_ways (list_any (int_eq z) xs) (list_any (int_eq z) ys) (among xs ys z there) (among ys xs z back)
 declared_alike _ _ z h = absurd (true≢false (sym h))
 
@@ -83,8 +73,8 @@ enums_alike first first' e f same h = record { reads = reads; strays = strays; d
 
 pub alike : (k l : ScalarKind) → same_scalar_kind k l ≡ true → Alike k l
 alike (Enum first e) (Enum first' f) h =
-    let (same, numbers) = and_both (int_eq first first') (same_numbers e f) h in
-    enums_alike first first' e f (ints_equal first first' same) numbers
+    let (same, numbers) = and_parts (int_eq first first') (same_numbers e f) h in
+    enums_alike first first' e f ((signed_Decides first first').0 same) numbers
 alike Double Double h = itself Double
 alike Float Float h = itself Float
 alike Int64 Int64 h = itself Int64
@@ -111,9 +101,9 @@ pub record SameType (pairs : TypePairs) (s t : ValueType) : Type 0 where
 
 pub same_type : (pairs : TypePairs) (s t : ValueType) → value_types_match pairs s t ≡ true → SameType pairs s t
 same_type pairs s t h =
-    let (abc, d) = and_both (same_kind pairs s.kind t.kind && beq s.required t.required && beq s.presence t.presence) (same_default s.kind s.default t.default) h in
-    let (ab, c) = and_both (same_kind pairs s.kind t.kind && beq s.required t.required) (beq s.presence t.presence) abc in
-    let (a, b) = and_both (same_kind pairs s.kind t.kind) (beq s.required t.required) ab in
+    let (abc, d) = and_parts (same_kind pairs s.kind t.kind && beq s.required t.required && beq s.presence t.presence) (same_default s.kind s.default t.default) h in
+    let (ab, c) = and_parts (same_kind pairs s.kind t.kind && beq s.required t.required) (beq s.presence t.presence) abc in
+    let (a, b) = and_parts (same_kind pairs s.kind t.kind) (beq s.required t.required) ab in
     record { kind = a; presence = beq_same s.presence t.presence c; default = d }
 
 -- kinds that match have the same strays, and the same elements in a packed record
@@ -169,7 +159,7 @@ strays_alike pairs _ _ s t p c h = absurd (true≢false (sym c))
 
 -- the default of a scalar kind
 pub default_alike : (pairs : TypePairs) (s t : ValueType) (k : ScalarKind) → s.kind ≡ ScalarOf k → SameType pairs s t → t.default ≡ s.default
-default_alike pairs s t k e h = sym (scalars_equal s.default t.default (ap (λ x. same_default x s.default t.default) (sym e) ∙ h.default))
+default_alike pairs s t k e h = sym ((scalar_decides s.default t.default).0 (ap (λ x. same_default x s.default t.default) (sym e) ∙ h.default))
 
 pub default_of_alike : (pairs : TypePairs) (s t : ValueType) (k : ScalarKind) (v : Scalar) → s.kind ≡ ScalarOf k → SameType pairs s t → is_default_of t (ScalarValue v) ≡ is_default_of s (ScalarValue v)
 default_of_alike pairs s t k v e h = ap₂ (λ b d. not b && scalar_eq v d) h.presence (default_alike pairs s t k e h)

@@ -4,18 +4,19 @@ use Rattle.std.specs.Option.{is_some}
 use Rattle.std.specs.Bool.{⊤}
 use Rattle.std.specs.Prelude.{max}
 use Rattle.std.specs.List.{list_all}
-use Rattle.std.proofs.lemmas.Bool.{eqb-true, leb-true, le-leb, lt-ltb}
+use Rattle.std.proofs.lemmas.Bool.{eqb-true, leb-true, le-leb, lt-ltb, and_parts}
 use Rattle.std.proofs.lemmas.List.Folds.{list_all-append}
+use Rattle.std.proofs.Math.Bool.{or-false, or-true}
 use Rattle.prost_reflect_wire.specs.Varint.{◌>>=◌}
 use Rattle.prost_reflect_wire.specs.Record.{Len, Var, Plain, Payload, Flat, Record, Records, items, payload_levels, body_of, spelled, payload_valid, valid, short_body}
 use Rattle.prost_reflect_wire.specs.Scalar.{Scalar, ScalarKind, Enum, written, is_undeclared}
-use Rattle.prost_reflect_wire.specs.Schema.{Kind, ScalarOf, MessageOf, GroupOf, ValueType, FieldForm, Singular, Repeated, MapFrom, Field, Schema, known, field_of, is_message, is_singular, is_key_kind, is_packable_kind, field_valid, schema_valid, passes}
+use Rattle.prost_reflect_wire.specs.Schema.{Kind, ScalarOf, MessageOf, GroupOf, ValueType, FieldForm, Singular, Repeated, MapFrom, Field, Schema, known, field_of, is_message, is_singular, is_key_kind, is_packable_kind, field_valid, schema_valid, passes, is_list}
 use Rattle.prost_reflect_wire.specs.Content.{Content, ContentOf, Entries, NoEntries, Stored, Unknown, Value, ScalarValue, MessageValue, ListValue, MapValue, Values, NoValues, Item, Pairs, NoPairs, Pair, schema_of, type_of}
 use Rattle.prost_reflect_wire.specs.Grammar.{or_none, fits, body, records_in, numbered, last, AllowsInside, is_len, one_allowed, packed_allowed, in_entry_allowed, has_level, field_allowed, record_allowed, nothing_inside, allows, is_stray, is_stray_entry}
 use Rattle.prost_reflect_wire.specs.Writing.{record_at, scalar_payload, message_payload, is_default_of, entry_record, end_to_end, list_payloads, records, entries_records, field_payloads, value_payload, element_payloads, pair_payload, pair_payloads, key_of}
 use Rattle.prost_reflect_wire.specs.Levels.{greatest_level, stray_levels, unknown_levels, levels, entries_levels, value_levels, values_levels, pairs_levels}
-use Rattle.prost_reflect_wire.specs.Typing.{kind_takes, is_repeated, element_valid, elements_valid, pairs_valid, value_valid, is_whole_stray, unknown_fits, entries_pass, value_passes, values_pass, pairs_pass, fit_test, encodable, is_of_type, Typed, EntriesTyped, ValueTyped, ValuesTyped, PairsTyped}
-use Rattle.prost_reflect_wire.proofs.Deeper.{and_both, flat_fits}
+use Rattle.prost_reflect_wire.specs.Typing.{kind_takes, element_valid, elements_valid, pairs_valid, value_valid, is_whole_stray, unknown_fits, entries_pass, value_passes, values_pass, pairs_pass, fit_test, encodable, is_of_type, Typed, EntriesTyped, ValueTyped, ValuesTyped, PairsTyped}
+use Rattle.prost_reflect_wire.proofs.Deeper.{flat_fits}
 use Rattle.prost_reflect_wire.proofs.Reading.{spelled_read}
 use Rattle.prost_reflect_wire.proofs.Shortest.{short_spells}
 use Rattle.prost_reflect_laws.proofs.Table.{read_back}
@@ -63,14 +64,6 @@ max_within a b k = go (nat_le a k) (nat_le b k) refl refl
 
 within_zero : (k : ℕ) → true ≡ nat_le 0 k
 within_zero k = sym (le-leb 0 k (omega arith))
-
-or_true : (b : Bool) → (b || true) ≡ true
-or_true true = refl
-or_true false = refl
-
-or_nothing : (b : Bool) → (b || false) ≡ b
-or_nothing true = refl
-or_nothing false = refl
 
 and_true : (b : Bool) → (b && true) ≡ b
 and_true true = refl
@@ -135,7 +128,7 @@ block_allowed k inner fields n f (p ∷ ps) e =
 scalars_flat : (kind : ScalarKind) (vs : Values) → elements_valid (ScalarOf kind) vs ≡ true → values_levels vs ≡ 0
 scalars_flat kind NoValues h = refl
 scalars_flat kind (Item v vs) h =
-    let (one, more) = and_both (element_valid (ScalarOf kind) v) (elements_valid (ScalarOf kind) vs) h in
+    let (one, more) = and_parts (element_valid (ScalarOf kind) v) (elements_valid (ScalarOf kind) vs) h in
     ap (max (value_levels v)) (scalars_flat kind vs more) ∙ go v one
   where
     go : (v : Value) → element_valid (ScalarOf kind) v ≡ true → max (value_levels v) 0 ≡ 0
@@ -151,8 +144,8 @@ element_same inner k (ScalarOf kind) (ScalarValue v) fits h = ap (λ b. b || pac
 element_same inner k (ScalarOf kind) (MessageValue c) fits h = absurd (true≢false (sym fits))
 element_same inner k kind (ListValue vs) fits h = absurd (true≢false (sym fits))
 element_same inner k kind (MapValue ps) fits h = absurd (true≢false (sym fits))
-element_same inner k (MessageOf T) v fits h = or_nothing (one_allowed inner (MessageOf T) (value_payload (MessageOf T) v)) ∙ h
-element_same inner k (GroupOf T) v fits h = or_nothing (one_allowed inner (GroupOf T) (value_payload (GroupOf T) v)) ∙ h
+element_same inner k (MessageOf T) v fits h = or-false (one_allowed inner (MessageOf T) (value_payload (MessageOf T) v)) ∙ h
+element_same inner k (GroupOf T) v fits h = or-false (one_allowed inner (GroupOf T) (value_payload (GroupOf T) v)) ∙ h
 
 -- each element is allowed exactly within its levels
 abbrev Each : AllowsInside → ℕ → Kind → Values → Type 0
@@ -162,13 +155,13 @@ Each inner k kind (Item v vs) = (one_allowed inner kind (value_payload kind v) �
 elements_same : (inner : AllowsInside) (k : ℕ) (packed : Bool) (value_type : ValueType) (vs : Values) → elements_valid value_type.kind vs ≡ true → Each inner k value_type.kind vs → list_all (field_allowed k inner (Repeated packed) value_type) (element_payloads value_type.kind vs) ≡ nat_le (values_levels vs) k
 elements_same inner k packed value_type NoValues fits h = within_zero k
 elements_same inner k packed value_type (Item v vs) fits (one, more) =
-    let (a, b) = and_both (element_valid value_type.kind v) (elements_valid value_type.kind vs) fits in
+    let (a, b) = and_parts (element_valid value_type.kind v) (elements_valid value_type.kind vs) fits in
     ap₂ ◌&&◌ (element_same inner k value_type.kind v a one) (elements_same inner k packed value_type vs b more) ∙ max_within (value_levels v) (values_levels vs) k
 
 list_allowed : (inner : AllowsInside) (schema : Schema) (k : ℕ) (f : Field) (vs : Values) → CheckedField schema f → value_valid f (ListValue vs) ≡ true → list_all payload_valid (field_payloads (Some f) (ListValue vs)) ≡ true →
     (list_all payload_valid (element_payloads f.value_type.kind vs) ≡ true → Each inner k f.value_type.kind vs) → list_all (field_allowed k inner f.form f.value_type) (field_payloads (Some f) (ListValue vs)) ≡ nat_le (values_levels vs) k
 list_allowed inner schema k f vs checked takes spelt each =
-    let (a, b) = and_both (is_repeated f.form) (elements_valid f.value_type.kind vs) takes in
+    let (a, b) = and_parts (is_list f.form) (elements_valid f.value_type.kind vs) takes in
     let (packed, e) = repeated f.form a in
     go packed e vs b spelt each
   where
@@ -177,7 +170,7 @@ list_allowed inner schema k f vs checked takes spelt each =
     pack (ScalarOf kind) p vs fit =
         let bytes : List ℕ = end_to_end (element_payloads (ScalarOf kind) vs) in
         ap₂ (λ x (o : Option (List Plain)). (fits kind (Flat (Len bytes)) || (x && is_some o)) && true) p (unpacked_back kind vs p fit).0
-        ∙ ap (λ b. b && true) (or_true (fits kind (Flat (Len bytes)))) ∙ within_zero k ∙ ap (λ (n : ℕ). nat_le n k) (sym (scalars_flat kind vs fit))
+        ∙ ap (λ b. b && true) (or-true (fits kind (Flat (Len bytes)))) ∙ within_zero k ∙ ap (λ (n : ℕ). nat_le n k) (sym (scalars_flat kind vs fit))
     pack (MessageOf T) p vs fit = absurd (true≢false (sym p))
     pack (GroupOf T) p vs fit = absurd (true≢false (sym p))
 
@@ -237,7 +230,7 @@ pub entry_levels : (k g : ℕ) (inner : AllowsInside) (key value_type : ValueTyp
     list_all (in_entry_allowed g nothing_inside key value_type) rs ≡ true → list_all (in_entry_allowed k inner key value_type) rs ≡ nat_le (greatest_level rs) k
 entry_levels k g inner key value_type kind kind' [] d e h = within_zero k
 entry_levels k g inner key value_type kind kind' (r ∷ rs) d e h =
-    let (one, more) = and_both (in_entry_allowed g nothing_inside key value_type r) (list_all (in_entry_allowed g nothing_inside key value_type) rs) h in
+    let (one, more) = and_parts (in_entry_allowed g nothing_inside key value_type r) (list_all (in_entry_allowed g nothing_inside key value_type) rs) h in
     ap₂ ◌&&◌ (go (nat_eq r.number 1) (nat_eq r.number 2) one) (entry_levels k g inner key value_type kind kind' rs d e more) ∙ max_within (payload_levels r.payload) (greatest_level rs) k
   where
     own : (kd : Kind) (l : ScalarKind) → kd ≡ ScalarOf l → one_allowed nothing_inside kd r.payload ≡ true → one_allowed inner kd r.payload ≡ nat_le (payload_levels r.payload) k
@@ -278,11 +271,11 @@ key_kind (GroupOf T) h = absurd (true≢false (sym h))
 entry_within : (inner : AllowsInside) (k : ℕ) (key value_type : ValueType) (p : Payload) → is_key_kind key.kind ≡ true → is_whole_stray (MapFrom key) value_type p ≡ true → field_allowed k inner (MapFrom key) value_type p ≡ nat_le (stray_levels (MapFrom key) p) k
 entry_within inner k key value_type p h w =
     let g : ℕ = stray_levels (MapFrom key) p in
-    let (a, b) = and_both (is_stray_entry value_type p) (field_allowed g nothing_inside (MapFrom key) value_type p) w in
-    let (c, d) = and_both (is_len p && has_level g value_type.kind) (passes (body p) (list_all (in_entry_allowed g nothing_inside key value_type))) b in
+    let (a, b) = and_parts (is_stray_entry value_type p) (field_allowed g nothing_inside (MapFrom key) value_type p) w in
+    let (c, d) = and_parts (is_len p && has_level g value_type.kind) (passes (body p) (list_all (in_entry_allowed g nothing_inside key value_type))) b in
     let (kind, e) = key_kind key.kind h in
     let (kind', e') = stray_kind value_type p a in
-    ap₂ (λ x kd. (x && has_level k kd) && passes (body p) (list_all (in_entry_allowed k inner key value_type))) (and_both (is_len p) (has_level g value_type.kind) c).0 e'
+    ap₂ (λ x kd. (x && has_level k kd) && passes (body p) (list_all (in_entry_allowed k inner key value_type))) (and_parts (is_len p) (has_level g value_type.kind) c).0 e'
     ∙ go g kind kind' e e' (body p) d
   where
     go : (g : ℕ) (kind kind' : ScalarKind) → key.kind ≡ ScalarOf kind → value_type.kind ≡ ScalarOf kind' → (o : Option (List Record)) → passes o (list_all (in_entry_allowed g nothing_inside key value_type)) ≡ true →
@@ -301,7 +294,7 @@ unknown_within inner schema fields k n p g h = go (field_of fields n) refl h
 
     go : (o : Option Field) → field_of fields n ≡ o → unknown_fits o n p ≡ true → (elim o [ None ↦ nat_le (payload_levels p) k | Some f ↦ field_allowed k inner f.form f.value_type p ]) ≡ nat_le (unknown_levels o p) k
     go None e h = refl
-    go (Some f) e h = by f f.form (λ key c. (checked_map schema f key (checked_field schema f (found_valid schema fields n f g e)) c).keyed) (and_both (payload_valid p) (is_whole_stray f.form f.value_type p) h).1
+    go (Some f) e h = by f f.form (λ key c. (checked_map schema f key (checked_field schema f (found_valid schema fields n f g e)) c).keyed) (and_parts (payload_valid p) (is_whole_stray f.form f.value_type p) h).1
 
 -- ENTRIES
 
@@ -315,7 +308,7 @@ stored_within inner fields k n (Some f) v e h a = block_allowed k inner fields n
 
 scalar_field : (inner : AllowsInside) (k : ℕ) (f : Field) (v : Scalar) → value_valid f (ScalarValue v) ≡ true → OptionAllowed k inner (Some f) (ScalarValue v)
 scalar_field inner k f v h =
-    let (a, b) = and_both (is_singular f.form) (kind_takes f.value_type.kind v) h in
+    let (a, b) = and_parts (is_singular f.form) (kind_takes f.value_type.kind v) h in
     ap (λ c. field_allowed k inner c f.value_type (scalar_payload f.value_type.kind v) && true) (singular f.form a) ∙ and_true (one_allowed inner f.value_type.kind (scalar_payload f.value_type.kind v)) ∙ scalar_within inner f.value_type.kind v b ∙ within_zero k
 
 message_field : (inner : AllowsInside) (k : ℕ) (f : Field) (c : Content) → f.form ≡ Singular → is_of_type f.value_type.kind (type_of c) ≡ true → valid (body_of (records c)) ≡ true → inner (type_of c) (records c) ≡ nat_le (suc (levels c)) k → OptionAllowed k inner (Some f) (MessageValue c)
@@ -355,7 +348,7 @@ mutual
       (entries_within schema fields k es h g fit.behind types (behind_valid (map (record_at n) (field_payloads (field_of fields n) v)) (entries_records fields es) spelt))
       ∙ max_within (value_levels v) (entries_levels fields es) k
   entries_within schema fields k (Unknown n p es) h g takes types spelt =
-      let (fit, fit') = and_both (unknown_fits (field_of fields n) n p) (entries_pass fit_test fields es) takes in
+      let (fit, fit') = and_parts (unknown_fits (field_of fields n) n p) (entries_pass fit_test fields es) takes in
       ap₂ ◌&&◌ (unknown_within (inside schema k) schema fields k n p g fit) (entries_within schema fields k es h g fit' types (first_valid (record_at n p) (entries_records fields es) spelt).1)
       ∙ max_within (unknown_levels (field_of fields n) p) (entries_levels fields es) k
 
@@ -365,12 +358,12 @@ mutual
   value_within schema fields k n (Some f) (ScalarValue v) e h g takes fits types spelt = scalar_field (inside schema k) k f v takes
   value_within schema fields k n (Some f) (MessageValue c) e h g takes fits (of, types) spelt =
       let checked : schema_valid (schema_of c) ≡ true = ap schema_valid of.0 ∙ h in
-      let written : valid (body_of (records c)) ≡ true = inside_valid f.value_type.kind (records c) (content_sound c checked fits types) (and_both (payload_valid (message_payload f.value_type.kind (records c))) true spelt).0 in
-      message_field (inside schema k) k f c (singular f.form (and_both (is_singular f.form) (is_message f.value_type.kind) takes).0) of.1 written
+      let written : valid (body_of (records c)) ≡ true = inside_valid f.value_type.kind (records c) (content_sound c checked fits types) (and_parts (payload_valid (message_payload f.value_type.kind (records c))) true spelt).0 in
+      message_field (inside schema k) k f c (singular f.form (and_parts (is_singular f.form) (is_message f.value_type.kind) takes).0) of.1 written
       (inner_within schema k c of.0 (λ j. content_allowed j c checked fits types written))
   value_within schema fields k n (Some f) (ListValue vs) e h g takes fits types spelt =
       list_allowed (inside schema k) schema k f vs (checked_field schema f (found_valid schema fields n f g e)) takes spelt
-      (λ each. elements_within schema k f.value_type.kind vs h (and_both (is_repeated f.form) (elements_valid f.value_type.kind vs) takes).1 fits types each)
+      (λ each. elements_within schema k f.value_type.kind vs h (and_parts (is_list f.form) (elements_valid f.value_type.kind vs) takes).1 fits types each)
   value_within schema fields k n (Some f) (MapValue ps) e h g takes fits types spelt =
       map_field (inside schema k) k f ps takes
       (λ key c. pairs_within schema k key f.value_type ps h (ap (λ c. pairs_valid c f.value_type.kind ps) (sym c) ∙ takes) fits types (ap (λ c. list_all payload_valid (pair_payloads (key_of c f.value_type) f.value_type ps)) (sym c) ∙ spelt))
@@ -387,18 +380,18 @@ mutual
   elements_within : (schema : Schema) (k : ℕ) (kind : Kind) (vs : Values) → schema_valid schema ≡ true → elements_valid kind vs ≡ true → values_pass fit_test vs ≡ true → ValuesTyped schema (Some kind) vs → list_all payload_valid (element_payloads kind vs) ≡ true → Each (inside schema k) k kind vs
   elements_within schema k kind NoValues h takes fits types spelt = tt
   elements_within schema k kind (Item v vs) h takes fits (type, types) spelt =
-      let (deep, deep') = and_both (value_passes fit_test v) (values_pass fit_test vs) fits in
-      let (fit, fit') = and_both (element_valid kind v) (elements_valid kind vs) takes in
-      let (here, rest) = and_both (payload_valid (value_payload kind v)) (list_all payload_valid (element_payloads kind vs)) spelt in
+      let (deep, deep') = and_parts (value_passes fit_test v) (values_pass fit_test vs) fits in
+      let (fit, fit') = and_parts (element_valid kind v) (elements_valid kind vs) takes in
+      let (here, rest) = and_parts (payload_valid (value_payload kind v)) (list_all payload_valid (element_payloads kind vs)) spelt in
       (element_within schema k kind v h fit deep type (payload_spelt kind v here), elements_within schema k kind vs h fit' deep' types rest)
 
   pairs_within : (schema : Schema) (k : ℕ) (key value_type : ValueType) (ps : Pairs) → schema_valid schema ≡ true → pairs_valid (MapFrom key) value_type.kind ps ≡ true → pairs_pass fit_test ps ≡ true → PairsTyped schema (Some value_type.kind) ps → list_all payload_valid (pair_payloads key value_type ps) ≡ true → EachPair (inside schema k) k key value_type ps
   pairs_within schema k key value_type NoPairs h takes fits types spelt = tt
   pairs_within schema k key value_type (Pair x v ps) h takes fits (type, types) spelt =
-      let (deep, deep') = and_both (value_passes fit_test v) (pairs_pass fit_test ps) fits in
-      let (fit, fit') = and_both (kind_takes key.kind x && element_valid value_type.kind v) (pairs_valid (MapFrom key) value_type.kind ps) takes in
-      let (good, one) = and_both (kind_takes key.kind x) (element_valid value_type.kind v) fit in
-      let (here, rest) = and_both (payload_valid (pair_payload key value_type x v)) (list_all payload_valid (pair_payloads key value_type ps)) spelt in
+      let (deep, deep') = and_parts (value_passes fit_test v) (pairs_pass fit_test ps) fits in
+      let (fit, fit') = and_parts (kind_takes key.kind x && element_valid value_type.kind v) (pairs_valid (MapFrom key) value_type.kind ps) takes in
+      let (good, one) = and_parts (kind_takes key.kind x) (element_valid value_type.kind v) fit in
+      let (here, rest) = and_parts (payload_valid (pair_payload key value_type x v)) (list_all payload_valid (pair_payloads key value_type ps)) spelt in
       let first : List Record = entry_record key 1 (ScalarValue x) (scalar_payload key.kind x) in
       let second : List Record = entry_record value_type 2 v (value_payload value_type.kind v) in
       let written : valid (body_of (first ++ second)) ≡ true =

@@ -1,7 +1,7 @@
 -- What records mean has its numbers and keys in ascending order.
 use Rattle.std.proofs.Common.{◌≡◌, ℕ, zero, suc, ◌<◌, ◌≤◌, Bool, true, false, cond, not, ◌&&◌, List, [], ◌∷◌, ◌++◌, flat_map, Option, Some, None, refl, ap, ◌∙◌, arith}
 use Rattle.std.specs.Bool.{⊤}
-use Rattle.std.proofs.lemmas.Bool.{lt-ltb, le-leb}
+use Rattle.std.proofs.lemmas.Bool.{lt-ltb, le-leb, and_parts, and_from}
 use Rattle.prost_reflect_wire.specs.Varint.{◌>>=◌}
 use Rattle.prost_reflect_wire.specs.Record.{Record, Payload}
 use Rattle.prost_reflect_wire.specs.Scalar.{Scalar, elem, scalar_lt, scalar_eq}
@@ -9,9 +9,8 @@ use Rattle.prost_reflect_wire.specs.Schema.{Kind, ScalarOf, MessageOf, GroupOf, 
 use Rattle.prost_reflect_wire.specs.Content.{Entries, Value, ScalarValue, Values, NoValues, Item, Pairs, NoPairs, Pair, values_from, Slot, then_unknowns, then_value, table, comes_before, key_before, ordered, entries_ordered, value_ordered, values_ordered, pairs_ordered}
 use Rattle.prost_reflect_wire.specs.Grammar.{last, payloads, records_in, value_records}
 use Rattle.prost_reflect_wire.specs.Meaning.{numbers_of, survive, MeansInside, present, present_list, present_map, one_value, element, scalar_values, put, put_entry, put_entries, entry_key, entry_value, field_value, meaning_at, meaning_by, empty_inside, meaning}
-use Rattle.prost_reflect_wire.proofs.Deeper.{and_both, both_true}
 use Rattle.prost_reflect_wire.proofs.Numbers.{Ascending, numbers_ascending}
-use Rattle.prost_reflect_laws.proofs.Order.{scalars_equal}
+use Rattle.prost_reflect_wire.specs.Deciding.{scalar_decides}
 use Rattle.prost_reflect_laws.proofs.Putting.{otherwise, before_put}
 
 pub record AllOrdered (inner : MeansInside) : Type 0 where
@@ -24,17 +23,17 @@ OrderedOption (Some v) = value_ordered v ≡ true
 -- MAPS
 
 pub put_ordered : (k : Scalar) (v : Value) (ps : Pairs) → value_ordered v ≡ true → pairs_ordered ps ≡ true → pairs_ordered (put k v ps) ≡ true
-put_ordered k v NoPairs h o = both_true h refl
+put_ordered k v NoPairs h o = and_from _ _ h refl
 put_ordered k v (Pair l w ps) h o =
-    let (ab, rest) = and_both (key_before l ps && value_ordered w) (pairs_ordered ps) o in
-    let (b, wo) = and_both (key_before l ps) (value_ordered w) ab in
+    let (ab, rest) = and_parts (key_before l ps && value_ordered w) (pairs_ordered ps) o in
+    let (b, wo) = and_parts (key_before l ps) (value_ordered w) ab in
     go (scalar_lt k l) refl (scalar_eq k l) refl b wo rest (put_ordered k v ps h rest)
   where
     go : (x : Bool) → scalar_lt k l ≡ x → (y : Bool) → scalar_eq k l ≡ y → key_before l ps ≡ true → value_ordered w ≡ true → pairs_ordered ps ≡ true → pairs_ordered (put k v ps) ≡ true →
         pairs_ordered (cond x (Pair k v (Pair l w ps)) (cond y (Pair k v ps) (Pair l w (put k v ps)))) ≡ true
-    go true e y d b wo rest more = both_true (both_true e h) (both_true (both_true b wo) rest)
-    go false e true d b wo rest more = both_true (both_true (ap (λ x. key_before x ps) (scalars_equal k l d) ∙ b) h) rest
-    go false e false d b wo rest more = both_true (both_true (before_put l k v ps (otherwise k l e d) b) wo) more
+    go true e y d b wo rest more = and_from _ _ (and_from _ _ e h) (and_from _ _ (and_from _ _ b wo) rest)
+    go false e true d b wo rest more = and_from _ _ (and_from _ _ (ap (λ x. key_before x ps) ((scalar_decides k l).0 d) ∙ b) h) rest
+    go false e false d b wo rest more = and_from _ _ (and_from _ _ (before_put l k v ps (otherwise k l e d) b) wo) more
 
 -- VALUES
 
@@ -55,8 +54,8 @@ elements_ordered inner (ScalarOf kind) (p ∷ ps) a = go (elem kind p) (elements
     go : (o : Option Scalar) → values_ordered (values_from (flat_map (element inner (ScalarOf kind)) ps)) ≡ true → values_ordered (values_from (scalar_values o ++ flat_map (element inner (ScalarOf kind)) ps)) ≡ true
     go None more = more
     go (Some v) more = more
-elements_ordered inner (MessageOf T) (p ∷ ps) a = both_true (a.each T (records_in p)) (elements_ordered inner (MessageOf T) ps a)
-elements_ordered inner (GroupOf T) (p ∷ ps) a = both_true (a.each T (records_in p)) (elements_ordered inner (GroupOf T) ps a)
+elements_ordered inner (MessageOf T) (p ∷ ps) a = and_from _ _ (a.each T (records_in p)) (elements_ordered inner (MessageOf T) ps a)
+elements_ordered inner (GroupOf T) (p ∷ ps) a = and_from _ _ (a.each T (records_in p)) (elements_ordered inner (GroupOf T) ps a)
 
 list_ordered : (vs : Values) → values_ordered vs ≡ true → OrderedOption (present_list vs)
 list_ordered NoValues h = tt
@@ -106,7 +105,7 @@ table_before at n low (m ∷ ms) l (h, a) = go (at m).value (unknowns_before n m
 
 unknowns_ordered : (n : ℕ) (ps : List Payload) (es : Entries) → comes_before n es ≡ true → entries_ordered es ≡ true → entries_ordered (then_unknowns n ps es) ≡ true
 unknowns_ordered n [] es h o = o
-unknowns_ordered n (p ∷ ps) es h o = both_true (unknowns_before n n ps es (omega arith) h) (unknowns_ordered n ps es h o)
+unknowns_ordered n (p ∷ ps) es h o = and_from _ _ (unknowns_before n n ps es (omega arith) h) (unknowns_ordered n ps es h o)
 
 pub table_ordered : (at : ℕ → Slot) (low : ℕ) (ns : List ℕ) → Ascending low ns → ((n : ℕ) → OrderedOption (at n).value) → entries_ordered (table at ns) ≡ true
 table_ordered at low [] a h = refl
@@ -116,7 +115,7 @@ table_ordered at low (n ∷ ns) (l, a) h =
   where
     go : (o : Option Value) → OrderedOption o → comes_before n (then_unknowns n (at n).unknowns (table at ns)) ≡ true → entries_ordered (then_unknowns n (at n).unknowns (table at ns)) ≡ true → entries_ordered (then_value n o (then_unknowns n (at n).unknowns (table at ns))) ≡ true
     go None v b o = o
-    go (Some w) v b o = both_true (both_true b v) o
+    go (Some w) v b o = and_from _ _ (and_from _ _ b v) o
 
 ordered_by : (inner : MeansInside) (schema : Schema) (T : ℕ) (rs : List Record) → AllOrdered inner → ordered (meaning_by inner schema T rs) ≡ true
 ordered_by inner schema T rs a = table_ordered (meaning_at inner (known schema T) rs) 0 (numbers_of rs) (numbers_ascending rs) (λ n. go (field_of (known schema T) n))

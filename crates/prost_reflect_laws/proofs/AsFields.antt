@@ -2,10 +2,10 @@
 use Rattle.std.proofs.Common.{◌≡◌, ℕ, zero, suc, Bool, true, false, cond, not, ◌&&◌, ◌||◌, List, [], ◌∷◌, map, nat_eq, Option, Some, None, refl, ap, ap₂, sym, subst₂, ◌∙◌}
 use Rattle.std.specs.Bool.{beq}
 use Rattle.std.specs.List.{list_any, list_all}
+use Rattle.std.proofs.lemmas.Bool.{and_parts, and_from}
 use Rattle.prost_reflect_wire.specs.Schema.{Field, MessageType, Schema, message_type, known, field_of, same_oneof, is_sibling, passes}
 use Rattle.prost_reflect_wire.specs.Reduction.{TypePairs, same_form, value_types_match, same_siblings, is_known, has_no_fellow}
 use Rattle.prost_reflect_laws.specs.Passage.{as_field, with_fields, as_fields, ReducedAsFields}
-use Rattle.prost_reflect_wire.proofs.Deeper.{and_both, both_true}
 use Rattle.prost_reflect_laws.proofs.Matches.{TypesMatch, Relates, matching, has_like}
 
 -- LISTS
@@ -13,8 +13,8 @@ use Rattle.prost_reflect_laws.proofs.Matches.{TypesMatch, Relates, matching, has
 all_of_map : (t u : Field → Bool) (fields : List Field) → ((f : Field) → t (as_field f) ≡ true → u f ≡ true) → list_all t (map as_field fields) ≡ true → list_all u fields ≡ true
 all_of_map t u [] same h = refl
 all_of_map t u (f ∷ fields) same h =
-    let (one, more) = and_both (t (as_field f)) (list_all t (map as_field fields)) h in
-    both_true (same f one) (all_of_map t u fields same more)
+    let (one, more) = and_parts (t (as_field f)) (list_all t (map as_field fields)) h in
+    and_from _ _ (same f one) (all_of_map t u fields same more)
 
 any_of_map : (t u : Field → Bool) (fields : List Field) → ((f : Field) → t (as_field f) ≡ u f) → list_any t (map as_field fields) ≡ list_any u fields
 any_of_map t u [] same = refl
@@ -51,8 +51,8 @@ like_as pairs older newer f h = go (field_of newer f.number) (sym (ap (λ o. pas
     go : (o : Option Field) → passes (as_found o) test ≡ true → passes o (λ g. same_form pairs f.form g.form && value_types_match pairs f.value_type g.value_type && same_siblings older newer f g) ≡ true
     go None h = h
     go (Some g) h =
-        let (same, siblings) = and_both (same_form pairs f.form g.form && value_types_match pairs f.value_type g.value_type) (same_siblings (map as_field older) (map as_field newer) (as_field f) (as_field g)) h in
-        both_true same (siblings_as older newer f g siblings)
+        let (same, siblings) = and_parts (same_form pairs f.form g.form && value_types_match pairs f.value_type g.value_type) (same_siblings (map as_field older) (map as_field newer) (as_field f) (as_field g)) h in
+        and_from _ _ same (siblings_as older newer f g siblings)
 
 known_as : (fields : List Field) (n : ℕ) → is_known (map as_field fields) n ≡ is_known fields n
 known_as fields n = ap (λ o. passes o (λ f. true)) (found_as fields n) ∙ go (field_of fields n)

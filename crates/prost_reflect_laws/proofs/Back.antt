@@ -1,6 +1,7 @@
 -- The records of a content mean it.
 use Rattle.std.proofs.Common.{◌≡◌, ℕ, suc, Bool, true, false, cond, ◌&&◌, List, [], ◌∷◌, ◌++◌, map, filter, flat_map, nat_eq, Option, Some, None, refl, ap, ap₂, sym, ◌∙◌, arith, true≢false, length, ◌+◌, append-nil, append_assoc, ◌⊎◌, inl, inr}
-use Rattle.std.proofs.lemmas.Bool.{eqb-true}
+use Rattle.std.proofs.lemmas.Bool.{eqb-true, and_parts, or_parts}
+use Rattle.std.proofs.lemmas.Option.{none-some}
 use Rattle.prost_reflect_wire.specs.Varint.{◌>>=◌}
 use Rattle.prost_reflect_wire.specs.Record.{Record, Payload}
 use Rattle.prost_reflect_wire.specs.Schema.{Field, Schema, known, field_of, is_sibling}
@@ -11,10 +12,9 @@ use Rattle.prost_reflect_wire.specs.Writing.{records, record_at, entries_records
 use Rattle.prost_reflect_wire.specs.Typing.{has_value_of}
 use Rattle.prost_reflect_laws.specs.Laws.{block, ValueBack, EntriesBack}
 use Rattle.prost_reflect_wire.proofs.Numbers.{numbers_ascending, slots_same, table_same, table_covers, entries_ascending, slot_outside}
-use Rattle.prost_reflect_wire.proofs.Survivors.{field_number, or_false}
+use Rattle.prost_reflect_wire.proofs.Survivors.{field_number}
 use Rattle.prost_reflect_wire.proofs.Steps.{Joins, level_joins, flat_append, field_joins, field_nothing, surviving_value, value_all, unknowns_further, meaning_covers}
 use Rattle.prost_reflect_laws.proofs.Commuting.{steps_append, Inert, Clears, inert, effect}
-use Rattle.prost_reflect_wire.proofs.Deeper.{and_both}
 use Rattle.prost_reflect_laws.proofs.Rebuilt.{rebuilt, no_value_below}
 
 pub filter_block : (n m : ℕ) (ps : List Payload) → filter (has_number m) (map (record_at n) ps) ≡ cond (nat_eq n m) (map (record_at n) ps) []
@@ -78,15 +78,12 @@ after inner further fields f NoEntries o h lone none = refl
 after inner further fields f (Stored m v es) o (g, found, back, alone, h) lone none =
     ap (value_steps inner further fields f o) (value_records_first inner fields m g v es found back)
     ∙ steps_append inner further fields f o (block m back.sources) (flat_map (value_records fields) (entries_records fields es))
-    ∙ go (nat_eq m f.number) refl (or_false (is_sibling fields f m) (has_value_of (is_sibling fields f) es) lone) (after inner further fields f es o h)
+    ∙ go (nat_eq m f.number) refl (or_parts (is_sibling fields f m) (has_value_of (is_sibling fields f) es) lone) (after inner further fields f es o h)
   where
     go : (b : Bool) → nat_eq m f.number ≡ b → (is_sibling fields f m ≡ false) × (has_value_of (is_sibling fields f) es ≡ false) →
         (has_value_of (is_sibling fields f) es ≡ false → value_at f.number es ≡ None → value_steps inner further fields f o (flat_map (value_records fields) (entries_records fields es)) ≡ o) →
         value_steps inner further fields f (value_steps inner further fields f o (block m back.sources)) (flat_map (value_records fields) (entries_records fields es)) ≡ o
-    go true e l more = absurd (some_none (sym (ap (λ b. cond b (Some v) (value_at f.number es)) e) ∙ none))
-      where
-        some_none : {A : Type 0} {x : A} → Some x ≡ None → ⊥
-        some_none e = true≢false (ap (λ o. elim o [ None ↦ false | Some x ↦ true ]) e)
+    go true e l more = absurd (none-some _ (sym (sym (ap (λ b. cond b (Some v) (value_at f.number es)) e) ∙ none)))
     go false e l more = ap (λ o. value_steps inner further fields f o (flat_map (value_records fields) (entries_records fields es))) (inert inner further fields f m back.sources e l.0 o)
         ∙ more l.1 (sym (ap (λ b. cond b (Some v) (value_at f.number es)) e) ∙ none)
 after inner further fields f (Unknown m p es) o (back, h) lone none =
@@ -101,10 +98,10 @@ value_back inner further fields f NoEntries j h order found = refl
 value_back inner further fields f (Stored m v es) j (g, at, back, alone, h) order found =
     ap (value_steps inner further fields f None) (value_records_first inner fields m g v es at back)
     ∙ steps_append inner further fields f None (block m back.sources) (flat_map (value_records fields) (entries_records fields es))
-    ∙ go (nat_eq m f.number) refl (value_back inner further fields f es j h (and_both (comes_before m es && value_ordered v) (entries_ordered es) order).1 found)
+    ∙ go (nat_eq m f.number) refl (value_back inner further fields f es j h (and_parts (comes_before m es && value_ordered v) (entries_ordered es) order).1 found)
   where
     ordered_parts : ((comes_before m es && value_ordered v) ≡ true) × (entries_ordered es ≡ true)
-    ordered_parts = and_both (comes_before m es && value_ordered v) (entries_ordered es) order
+    ordered_parts = and_parts (comes_before m es && value_ordered v) (entries_ordered es) order
 
     run : Option Value → Option Value
     run o = value_steps inner further fields f o (flat_map (value_records fields) (entries_records fields es))
@@ -113,14 +110,14 @@ value_back inner further fields f (Stored m v es) j (g, at, back, alone, h) orde
     go true e more =
         let same : g ≡ f = found_same at (ap (field_of fields) (eqb-true m f.number e) ∙ found) in
         let number : f.number ≡ m = sym (eqb-true m f.number e) in
-        let none : value_at f.number es ≡ None = ap (λ (k : ℕ). value_at k es) number ∙ no_value_below m m es (and_both (comes_before m es) (value_ordered v) ordered_parts.0).0 ordered_parts.1 (omega arith) in
+        let none : value_at f.number es ≡ None = ap (λ (k : ℕ). value_at k es) number ∙ no_value_below m m es (and_parts (comes_before m es) (value_ordered v) ordered_parts.0).0 ordered_parts.1 (omega arith) in
         ap (λ o. run (value_steps inner further fields f o (block m back.sources))) (sym (field_nothing inner f.form f.value_type))
         ∙ ap run (own_block inner further fields f m [] back.sources j e ∙ ap (λ (x : Field). field_value inner x.form x.value_type back.sources) (sym same) ∙ back.value)
         ∙ after inner further fields f es (Some v) h (ap (λ (x : Field). has_value_of (is_sibling fields x) es) (sym same) ∙ alone) none
     go false e more = ap run (other_block inner further fields f m back.sources e) ∙ more
 value_back inner further fields f (Unknown m p es) j (back, h) order found =
     ap (λ l. value_steps inner further fields f None (l ++ flat_map (value_records fields) (entries_records fields es))) back.read
-    ∙ value_back inner further fields f es j h (and_both (comes_before m es) (entries_ordered es) order).1 found
+    ∙ value_back inner further fields f es j h (and_parts (comes_before m es) (entries_ordered es) order).1 found
 
 -- a number that is not known has no value
 no_field : (inner : MeansInside) (fields : List Field) (n : ℕ) (es : Entries) → EntriesBack inner fields es → field_of fields n ≡ None → value_at n es ≡ None

@@ -37,5 +37,5 @@ pub payload_bytes : (n : ℕ) (p : Payload) (bytes rest : List ℕ) → AreBytes
 payload_bytes n (Flat p) bytes rest small f = plain_bytes p bytes rest small f
 payload_bytes n (Group inside) bytes rest small f = key_bytes n wires.EndGroup f.end rest (bytes_behind f.records.front f.end (subst AreBytes f.records.parts small)) f.stop
 
-pub body_bytes : (body bytes rest : List ℕ) → AreBytes bytes → DelimitedFront body bytes rest → AreBytes body
-body_bytes body bytes rest small d = let (len, _, whole) = d.spelled in bytes_behind len body (subst AreBytes whole (bytes_front d.front rest (subst AreBytes d.parts small)))
+pub delimited_bytes : (body bytes rest : List ℕ) → AreBytes bytes → DelimitedFront body bytes rest → AreBytes body
+delimited_bytes body bytes rest small d = let (len, _, whole) = d.spelled in bytes_behind len body (subst AreBytes whole (bytes_front d.front rest (subst AreBytes d.parts small)))

@@ -2,7 +2,8 @@
 use Rattle.std.proofs.Common.{◌≡◌, ◌≢◌, ℕ, zero, suc, ◌<◌, ◌≤◌, Bool, true, false, ◌&&◌, ◌||◌, ◌⊎◌, inl, inr, List, [], ◌∷◌, length, nat_eq, nat_le, Option, Some, None, refl, sym, ap, ap₂, subst, ◌∙◌, arith, length-append, true≢false}
 use Rattle.std.specs.Option.{is_some}
 use Rattle.std.specs.List.{list_all}
-use Rattle.std.proofs.lemmas.Bool.{le-leb, eqb-true, eqb-false, ltb-false}
+use Rattle.std.proofs.lemmas.Bool.{le-leb, eqb-true, eqb-false, ltb-false, and_parts}
+use Rattle.std.proofs.lemmas.Option.{none-some}
 use Rattle.prost_reflect_wire.specs.declared.error.DecodeError.{DecodeError}
 use Rattle.prost_reflect_wire.specs.declared.error.DecodeError.TheVariants as errors
 use Rattle.prost_reflect_wire.specs.declared.key.WireType.{WireType}
@@ -10,17 +11,17 @@ use Rattle.prost_reflect_wire.specs.declared.key.WireType.TheVariants as wires
 use Rattle.prost_reflect_wire.specs.Varint.{AreBytes}
 use Rattle.prost_reflect_wire.specs.Record.{Plain, Len, Records, NoRecords, record_at, Payload, Flat, Group, before, items, payload_levels, plain_wire, payload_wire, read}
 use Rattle.prost_reflect_wire.specs.Scalar.{ScalarKind, kind_wire}
-use Rattle.prost_reflect_wire.specs.Schema.{Kind, ScalarOf, MessageOf, GroupOf, ValueType, FieldForm, Singular, Repeated, MapFrom, Field, Schema, is_packable, is_message, passes}
+use Rattle.prost_reflect_wire.specs.Schema.{Kind, ScalarOf, MessageOf, GroupOf, ValueType, FieldForm, Singular, Repeated, MapFrom, Field, Schema, is_packable, is_message, passes, is_map}
 use Rattle.prost_reflect_wire.specs.Grammar.{AllowsInside, body, one_allowed, packed_allowed, has_level, in_entry_allowed, field_allowed, unpacked}
 use Rattle.prost_reflect_wire.specs.Front.{KeyFront, PlainFront, DelimitedFront, PayloadFront, KeyFault, PlainFault}
-use Rattle.prost_reflect_wire.specs.Fault.{Place, OfType, OfEntry, OfNothing, field_at, TextNext, PackedNext, same_wire, one_takes, packed_takes, takes, needs_level, opens_level, is_map, Stands, Here, Behind, InMessage, InGroup, InUnknown, InEntry}
-use Rattle.prost_reflect_wire.proofs.Deeper.{and_both}
+use Rattle.prost_reflect_wire.specs.Fault.{Place, OfType, OfEntry, OfNothing, field_at, TextNext, PackedNext, same_wire, one_takes, packed_takes, takes, needs_level, opens_level, Stands, Here, Behind, InMessage, InGroup, InUnknown, InEntry}
 use Rattle.prost_reflect_wire.proofs.Reading.{spelled_read}
 use Rattle.prost_reflect_wire.proofs.PlainFronts.{plain_delimited, delimited_plain}
 use Rattle.prost_reflect_wire.proofs.RecordFronts.{record_front, first_front, none_front, key_shorter, payload_no_longer}
-use Rattle.prost_reflect_laws.proofs.BodyFronts.{key_bytes, payload_bytes, body_bytes}
+use Rattle.prost_reflect_laws.proofs.BodyFronts.{key_bytes, payload_bytes, delimited_bytes}
 use Rattle.prost_reflect_wire.proofs.PlaceFaults.{key_stands, end_stands, plain_stands}
-use Rattle.prost_reflect_laws.proofs.Places.{inner, payload_allowed, allowed_at, allows_at, Ended, Body, items_first, body_spells, passes_body, levels_outside, entry_same, len_no_end}
+use Rattle.prost_reflect_wire.proofs.Bodies.{items_before}
+use Rattle.prost_reflect_laws.proofs.Places.{inner, payload_allowed, allowed_at, allows_at, Ended, Body, body_spells, passes_body, levels_outside, entry_same, len_no_end}
 use Rattle.prost_reflect_laws.proofs.FrontOrFault.{SomeFault, SomeKey, key_or, SomePlain, plain_or}
 use Rattle.prost_reflect_laws.proofs.KindsAllowed.{same_is, kind_no_start, kind_no_end, BadText, wire_fits, one_field, packed_field, elements_or, element_name}
 
@@ -194,7 +195,7 @@ module _ (schema : Schema) (place : Place) (small : AreBytes place.bytes) (limit
     read_inside there opened x = spelled_read x.records there.bytes (body_spells schema there x.records x.rest opened x.body)
 
     message_inside : (k T : ℕ) (f : Field) → place.levels ≡ suc k → field_at schema place.inside n ≡ Some f → is_map f.form ≡ false → f.value_type.kind ≡ MessageOf T → SomeDelimited rest → Outcome wires.LengthDelimited
-    message_inside k T f left found m is d = elim (finds (record { bytes = d.body; inside = OfType T; levels = k; open_group = None }) (body_within d) (body_bytes d.body rest d.after small_rest d.front)) [
+    message_inside k T f left found m is d = elim (finds (record { bytes = d.body; inside = OfType T; levels = k; open_group = None }) (body_within d) (delimited_bytes d.body rest d.after small_rest d.front)) [
       | inr g ↦ inr (record { error = g.error; fault = InMessage n T k f d.body rest d.after found m is left key d.front g.fault })
       | inl x ↦
           let there : Place = record { bytes = d.body; inside = OfType T; levels = k; open_group = None } in
@@ -215,7 +216,7 @@ module _ (schema : Schema) (place : Place) (small : AreBytes place.bytes) (limit
         ap (λ c. field_allowed k inner c value_type (Flat (Len bytes))) is ∙ ap (λ b. b && passes (body (Flat (Len bytes))) (list_all (in_entry_allowed k inner key_type value_type))) level ∙ inside
 
     entry_inside : (f : Field) (key_type : ValueType) → field_at schema place.inside n ≡ Some f → f.form ≡ MapFrom key_type → has_level place.levels f.value_type.kind ≡ true → SomeDelimited rest → Outcome wires.LengthDelimited
-    entry_inside f key_type found is level d = elim (finds (record { bytes = d.body; inside = OfEntry key_type f.value_type; levels = place.levels; open_group = None }) (body_within d) (body_bytes d.body rest d.after small_rest d.front)) [
+    entry_inside f key_type found is level d = elim (finds (record { bytes = d.body; inside = OfEntry key_type f.value_type; levels = place.levels; open_group = None }) (body_within d) (delimited_bytes d.body rest d.after small_rest d.front)) [
       | inr g ↦ inr (record { error = g.error; fault = InEntry n f key_type d.body rest d.after found is level key d.front g.fault })
       | inl x ↦
           let there : Place = record { bytes = d.body; inside = OfEntry key_type f.value_type; levels = place.levels; open_group = None } in
@@ -239,7 +240,7 @@ module _ (schema : Schema) (place : Place) (small : AreBytes place.bytes) (limit
     packed_inside : (f : Field) (packed : Bool) (kind : ScalarKind) → field_at schema place.inside n ≡ Some f → f.form ≡ Repeated packed → f.value_type.kind ≡ ScalarOf kind → is_packable kind ≡ true → SomeDelimited rest → Outcome wires.LengthDelimited
     unfolding unpacked
     packed_inside f packed kind found form is packable d =
-        elim (elements_or (suc (length d.body)) (kind_wire kind) d.body (kind_no_start kind) (kind_no_end kind) (body_bytes d.body rest d.after small_rest d.front) (omega arith)) [
+        elim (elements_or (suc (length d.body)) (kind_wire kind) d.body (kind_no_start kind) (kind_no_end kind) (delimited_bytes d.body rest d.after small_rest d.front) (omega arith)) [
           | inr g ↦ inr (packed_fault schema place n wires.LengthDelimited rest key f found g.error (refl, (packed, form), (kind, is, packable, (d.body, d.after, d.front, g.fault))))
           | inl x ↦
               let some : packed_allowed (ScalarOf kind) (Flat (Len d.body)) ≡ true = ap₂ ◌&&◌ packable (ap is_some x.found) in
@@ -286,7 +287,7 @@ module _ (schema : Schema) (place : Place) (small : AreBytes place.bytes) (limit
 
   repeated_packed : (w : WireType) → KeyFront n w place.bytes rest → (packed : Bool) (kind : Kind) (f : Field) → field_at schema place.inside n ≡ Some f → f.form ≡ Repeated packed → f.value_type.kind ≡ kind → packed_takes kind w ≡ true → Outcome w
   repeated_packed w key packed (ScalarOf kind) f found form is h =
-      let (packable, same) = and_both (is_packable kind) (same_wire w wires.LengthDelimited) h in at_wire w wires.LengthDelimited key same (λ k. known_packed k f packed kind found form is packable)
+      let (packable, same) = and_parts (is_packable kind) (same_wire w wires.LengthDelimited) h in at_wire w wires.LengthDelimited key same (λ k. known_packed k f packed kind found form is packable)
   repeated_packed w key packed (MessageOf T) f found form is h = absurd (true≢false (sym h))
   repeated_packed w key packed (GroupOf T) f found form is h = absurd (true≢false (sym h))
 
@@ -333,7 +334,7 @@ first_body schema place n p mid behind small key front allowed x = record {
     end = x.body.end;
     records = first_front (record_at n p) x.records place.bytes behind x.body.end (record_front n p place.bytes mid behind key front) x.body.records;
     ends = x.body.ends;
-    allowed = ap (list_all (allowed_at schema place)) (items_first n p x.records) ∙ ap₂ ◌&&◌ allowed x.body.allowed;
+    allowed = ap (list_all (allowed_at schema place)) (items_before (record_at n p) x.records) ∙ ap₂ ◌&&◌ allowed x.body.allowed;
   };
 }
 
@@ -355,10 +356,7 @@ module _ (schema : Schema) (place : Place) (small : AreBytes place.bytes) (limit
 
   no_key : (bytes : List ℕ) → place.bytes ≡ bytes → (o : Option ℕ) → place.open_group ≡ o → SomeFault (λ e. KeyFault e place.bytes) → SomeBody schema place ⊎ Faulty schema place
   no_key [] empty None closed f = inl (at_end empty closed)
-  no_key [] empty (Some n) opened f = inr (record { error = f.error; fault = key_stands schema place f.error f.fault (λ _ none. absurd (some_none (sym opened ∙ none))) })
-    where
-      some_none : ◌≡◌ {A = Option ℕ} (Some n) None → ⊥
-      some_none e = cc
+  no_key [] empty (Some n) opened f = inr (record { error = f.error; fault = key_stands schema place f.error f.fault (λ _ none. absurd (none-some _ (sym (sym opened ∙ none)))) })
   no_key (b ∷ bytes) is o opened f = inr (record { error = f.error; fault = key_stands schema place f.error f.fault (λ empty. absurd (let both : ◌≡◌ {A = List ℕ} (b ∷ bytes) [] = sym is ∙ empty in cc)) })
 
   end_key : (n : ℕ) (rest : List ℕ) → KeyFront n wires.EndGroup place.bytes rest → (o : Option ℕ) → place.open_group ≡ o → SomeBody schema place ⊎ Faulty schema place

@@ -1,6 +1,6 @@
 -- The records of one number, in records and in what is written of a meaning.
 use Rattle.std.proofs.Common.{◌≡◌, ℕ, suc, Bool, true, false, cond, not, ◌&&◌, ◌||◌, List, [], ◌∷◌, ◌++◌, map, filter, flat_map, nat_eq, Option, Some, None, refl, ap, ap₂, sym, subst, ◌∙◌, arith, append-nil, append_assoc}
-use Rattle.std.proofs.lemmas.Bool.{eqb-true, eq-eqb}
+use Rattle.std.proofs.lemmas.Bool.{eqb-true, eq-eqb, and_parts, and_from, or_parts}
 use Rattle.std.specs.List.{list_any, list_all}
 use Rattle.std.proofs.lemmas.List.Folds.{list_all-append}
 use Rattle.prost_reflect_wire.specs.Record.{Record, Payload, Flat, Group, before, body_of, number_valid, payload_valid, plain_valid, valid}
@@ -11,10 +11,10 @@ use Rattle.prost_reflect_wire.specs.Meaning.{after_last, survive}
 use Rattle.prost_reflect_wire.specs.Writing.{record_at, entries_records, field_payloads}
 use Rattle.prost_reflect_laws.specs.Laws.{block}
 use Rattle.prost_reflect_wire.proofs.Numbers.{Ascending, is_in, not_in, Covers, eqb-sym}
-use Rattle.prost_reflect_wire.proofs.Survivors.{field_number, filter_append, or_false}
+use Rattle.prost_reflect_wire.proofs.Survivors.{field_number, filter_append}
 use Rattle.prost_reflect_wire.proofs.Steps.{map_append}
 use Rattle.prost_reflect_laws.proofs.Commuting.{value_records_block}
-use Rattle.prost_reflect_wire.proofs.Deeper.{and_both, both_true, all_after}
+use Rattle.prost_reflect_wire.proofs.Deeper.{all_after}
 use Rattle.prost_reflect_laws.proofs.Values.{value_records_known, unknown_known}
 use Rattle.prost_reflect_laws.proofs.Spelt.{Sound, sound_append}
 use Rattle.prost_reflect_laws.proofs.Back.{filter_block}
@@ -87,7 +87,7 @@ none_by_number test (r ∷ rs) h = go (test r.number) refl (none_by_number test 
 pub after_none : (test : Record → Bool) (rs : List Record) → list_any test rs ≡ false → after_last test rs ≡ rs
 after_none test [] e = refl
 after_none test (r ∷ rs) e =
-    let (one, more) = or_false (test r) (list_any test rs) e in
+    let (one, more) = or_parts (test r) (list_any test rs) e in
     ap₂ (λ b c. cond b (after_last test rs) (cond c rs (r ∷ rs))) more one
 
 -- a test of the payloads of a number
@@ -106,11 +106,11 @@ all_at_number test n (r ∷ rs) = go (nat_eq r.number n) (all_at_number test n r
 pub payloads_pass : (n : ℕ) (test : Record → Bool) (of : Payload → Bool) (rs : List Record) → ((r : Record) → nat_eq r.number n ≡ true → test r ≡ true → of r.payload ≡ true) → list_all test rs ≡ true → list_all of (numbered n rs) ≡ true
 payloads_pass n test of [] h all = refl
 payloads_pass n test of (r ∷ rs) h all =
-    let (one, more) = and_both (test r) (list_all test rs) all in
+    let (one, more) = and_parts (test r) (list_all test rs) all in
     go (nat_eq r.number n) refl one (payloads_pass n test of rs h more)
   where
     go : (b : Bool) → nat_eq r.number n ≡ b → test r ≡ true → list_all of (numbered n rs) ≡ true → list_all of (payloads (cond b (r ∷ filter (has_number n) rs) (filter (has_number n) rs))) ≡ true
-    go true e one more = both_true (h r e one) more
+    go true e one more = and_from _ _ (h r e one) more
     go false e one more = more
 
 -- what all payloads of a number pass, those that survive pass
@@ -197,7 +197,7 @@ table_records fields at ns n a covers = table_at fields at n 0 ns a ∙ go (is_i
 pub table_all : (test : Record → Bool) (fields : List Field) (at : ℕ → Slot) (ns : List ℕ) → ((n : ℕ) → list_all test (map (record_at n) (slot_payloads (field_of fields n) (at n))) ≡ true) → list_all test (entries_records fields (table at ns)) ≡ true
 table_all test fields at [] h = refl
 table_all test fields at (n ∷ ns) h =
-    ap (list_all test) (slot_first fields n (at n) (table at ns)) ∙ list_all-append test (map (record_at n) (slot_payloads (field_of fields n) (at n))) (entries_records fields (table at ns)) ∙ both_true (h n) (table_all test fields at ns h)
+    ap (list_all test) (slot_first fields n (at n) (table at ns)) ∙ list_all-append test (map (record_at n) (slot_payloads (field_of fields n) (at n))) (entries_records fields (table at ns)) ∙ and_from _ _ (h n) (table_all test fields at ns h)
 
 pub table_sound : (fields : List Field) (at : ℕ → Slot) (ns : List ℕ) → ((n : ℕ) → Sound (map (record_at n) (slot_payloads (field_of fields n) (at n)))) → Sound (entries_records fields (table at ns))
 table_sound fields at [] h = tt

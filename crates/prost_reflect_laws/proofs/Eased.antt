@@ -1,17 +1,19 @@
 -- Contents that fit, seen by types in which each single field has presence and no field is in a oneof: they are written as before, and are well-typed there.
 use Rattle.std.proofs.Common.{◌≡◌, ℕ, zero, suc, ◌^◌, ◌<◌, Bool, true, false, cond, not, ◌&&◌, ◌||◌, List, [], ◌∷◌, ◌++◌, map, length, nat_eq, nat_lt, Option, Some, None, refl, ap, ap₂, sym, ◌∙◌, subst, true≢false}
 use Rattle.std.specs.List.{list_any, list_all}
+use Rattle.std.proofs.lemmas.Bool.{and_parts, and_from}
+use Rattle.std.proofs.Math.Bool.{or-true}
 use Rattle.prost_reflect_wire.specs.Record.{Payload, Record, spelled, payload_valid}
 use Rattle.prost_reflect_wire.specs.Scalar.{Scalar, Enum, Closed}
-use Rattle.prost_reflect_wire.specs.Schema.{Kind, ScalarOf, MessageOf, GroupOf, ValueType, FieldForm, Singular, Repeated, MapFrom, Field, MessageType, Schema, message_type, known, field_of, same_oneof, is_sibling, is_message, is_singular, is_bare, message_has_presence, kind_valid, form_valid, field_valid, numbers_differ, schema_valid, passes}
+use Rattle.prost_reflect_wire.specs.Schema.{Kind, ScalarOf, MessageOf, GroupOf, ValueType, FieldForm, Singular, Repeated, MapFrom, Field, MessageType, Schema, message_type, known, field_of, same_oneof, is_sibling, is_message, is_singular, is_bare, message_has_presence, kind_valid, form_valid, field_valid, numbers_differ, schema_valid, passes, is_list}
 use Rattle.prost_reflect_wire.specs.Content.{Content, ContentOf, Entries, NoEntries, Stored, Unknown, Value, ScalarValue, MessageValue, ListValue, MapValue, Values, NoValues, Item, Pairs, NoPairs, Pair, schema_of, type_of, comes_before, key_before, ordered, entries_ordered, value_ordered, values_ordered, pairs_ordered}
 use Rattle.prost_reflect_wire.specs.Writing.{record_at, message_payload, is_default_of, entry_payload, list_payloads, key_of, records, entries_records, field_payloads, value_payload, element_payloads, pair_payloads, encoded}
-use Rattle.prost_reflect_wire.specs.Typing.{kind_takes, is_repeated, element_valid, elements_valid, pairs_valid, value_valid, is_whole_stray, unknown_fits, EntryTest, everywhere, entries_pass, value_passes, values_pass, pairs_pass, fit_test, has_value_of, is_alone, alone_test, is_empty_of, is_stored_default, filled_test, default_test, kind_for, IsOf, Typed, EntriesTyped, ValueTyped, ValuesTyped, PairsTyped}
+use Rattle.prost_reflect_wire.specs.Typing.{kind_takes, element_valid, elements_valid, pairs_valid, value_valid, is_whole_stray, unknown_fits, EntryTest, everywhere, entries_pass, value_passes, values_pass, pairs_pass, fit_test, is_alone, alone_test, is_empty_value, is_stored_default, filled_test, default_test, kind_for, IsOf, Typed, EntriesTyped, ValueTyped, ValuesTyped, PairsTyped}
 use Rattle.prost_reflect_laws.specs.Laws.{Writable, Spellable}
-use Rattle.prost_reflect_wire.proofs.Deeper.{and_both, both_true}
 use Rattle.prost_reflect_laws.proofs.Checked.{CheckedField, checked_field, CheckedList, checked_list, CheckedMap, checked_map}
 use Rattle.prost_reflect_laws.proofs.Everywhere.{stored_passes}
 use Rattle.prost_reflect_laws.proofs.Canonical.{canonicity}
+use Rattle.prost_reflect_laws.proofs.StoredSound.{no_value}
 
 -- TYPES
 
@@ -63,29 +65,25 @@ kind_eased schema (GroupOf T) = ap₂ (λ (n : ℕ) b. nat_lt T n && not b) (len
 form_eased : (schema : Schema) (f : Field) → CheckedField schema f → form_valid (eased_field f) f.form ≡ true
 form_eased schema f checked = go f.form refl
   where
-    or_true : (b : Bool) → (b || true) ≡ true
-    or_true true = refl
-    or_true false = refl
-
     go : (c : FieldForm) → f.form ≡ c → form_valid (eased_field f) c ≡ true
-    go Singular e = ap (λ c. not (is_message f.value_type.kind) || (is_singular c || f.value_type.presence)) e ∙ or_true (not (is_message f.value_type.kind))
+    go Singular e = ap (λ c. not (is_message f.value_type.kind) || (is_singular c || f.value_type.presence)) e ∙ or-true (not (is_message f.value_type.kind))
     go (Repeated packed) e =
         let l : CheckedList f packed = checked_list schema f packed checked e in
-        both_true (both_true refl (ap (λ c. is_bare (eased_type c f.value_type)) e ∙ l.bare)) l.packable
+        and_from _ _ (and_from _ _ refl (ap (λ c. is_bare (eased_type c f.value_type)) e ∙ l.bare)) l.packable
     go (MapFrom key) e =
         let m : CheckedMap f key = checked_map schema f key checked e in
-        both_true (both_true (both_true (both_true (both_true refl m.keyed) m.key_default) m.value_default) (ap (λ c. message_has_presence (eased_type c f.value_type)) e ∙ m.presence)) m.no_group
+        and_from _ _ (and_from _ _ (and_from _ _ (and_from _ _ (and_from _ _ refl m.keyed) m.key_default) m.value_default) (ap (λ c. message_has_presence (eased_type c f.value_type)) e ∙ m.presence)) m.no_group
 
 field_eased : (schema : Schema) (f : Field) → field_valid schema f ≡ true → field_valid (eased schema) (eased_field f) ≡ true
 field_eased schema f h =
     let c : CheckedField schema f = checked_field schema f h in
-    both_true (both_true (both_true (both_true c.number (kind_eased schema f.value_type.kind ∙ c.kind)) c.default) (form_eased schema f c)) refl
+    and_from _ _ (and_from _ _ (and_from _ _ (and_from _ _ c.number (kind_eased schema f.value_type.kind ∙ c.kind)) c.default) (form_eased schema f c)) refl
 
 fields_eased : (schema : Schema) (fields : List Field) → list_all (field_valid schema) fields ≡ true → list_all (field_valid (eased schema)) (map eased_field fields) ≡ true
 fields_eased schema [] h = refl
 fields_eased schema (f ∷ fields) h =
-    let (one, more) = and_both (field_valid schema f) (list_all (field_valid schema) fields) h in
-    both_true (field_eased schema f one) (fields_eased schema fields more)
+    let (one, more) = and_parts (field_valid schema f) (list_all (field_valid schema) fields) h in
+    and_from _ _ (field_eased schema f one) (fields_eased schema fields more)
 
 numbers_eased : (fields : List Field) (n : ℕ) → list_any (λ g. nat_eq g.number n) (map eased_field fields) ≡ list_any (λ g. nat_eq g.number n) fields
 numbers_eased [] n = refl
@@ -102,9 +100,9 @@ schema_eased schema h = go schema h
         → list_all (λ (m : MessageType). numbers_differ m.known && list_all (field_valid (eased schema)) m.known) (map eased_message types) ≡ true
     go [] h = refl
     go (m ∷ types) h =
-        let (here, more) = and_both (numbers_differ m.known && list_all (field_valid schema) m.known) (list_all (λ (m : MessageType). numbers_differ m.known && list_all (field_valid schema) m.known) types) h in
-        let (one, two) = and_both (numbers_differ m.known) (list_all (field_valid schema) m.known) here in
-        both_true (both_true (differ_eased m.known ∙ one) (fields_eased schema m.known two)) (go types more)
+        let (here, more) = and_parts (numbers_differ m.known && list_all (field_valid schema) m.known) (list_all (λ (m : MessageType). numbers_differ m.known && list_all (field_valid schema) m.known) types) h in
+        let (one, two) = and_parts (numbers_differ m.known) (list_all (field_valid schema) m.known) here in
+        and_from _ _ (and_from _ _ (differ_eased m.known ∙ one) (fields_eased schema m.known two)) (go types more)
 
 -- CONTENTS
 
@@ -146,10 +144,10 @@ mutual
   entries_eased a b fields NoEntries k h = refl
   entries_eased a b fields (Stored n v es) k h =
       let x = stored_passes a fields n v es h in
-      both_true (both_true (k.stored fields n v es x.here) (value_eased a b v k x.inside)) (entries_eased a b fields es k x.behind)
+      and_from _ _ (and_from _ _ (k.stored fields n v es x.here) (value_eased a b v k x.inside)) (entries_eased a b fields es k x.behind)
   entries_eased a b fields (Unknown n p es) k h =
-      let (here, rest) = and_both (a.unknown fields n p) (entries_pass a fields es) h in
-      both_true (k.unknown fields n p here) (entries_eased a b fields es k rest)
+      let (here, rest) = and_parts (a.unknown fields n p) (entries_pass a fields es) h in
+      and_from _ _ (k.unknown fields n p here) (entries_eased a b fields es k rest)
 
   value_eased : (a b : EntryTest) (v : Value) → Eases a b → value_passes a v ≡ true → value_passes b (eased_value v) ≡ true
   value_eased a b (ScalarValue v) k h = refl
@@ -160,14 +158,14 @@ mutual
   values_eased : (a b : EntryTest) (vs : Values) → Eases a b → values_pass a vs ≡ true → values_pass b (eased_values vs) ≡ true
   values_eased a b NoValues k h = refl
   values_eased a b (Item v vs) k h =
-      let (one, more) = and_both (value_passes a v) (values_pass a vs) h in
-      both_true (value_eased a b v k one) (values_eased a b vs k more)
+      let (one, more) = and_parts (value_passes a v) (values_pass a vs) h in
+      and_from _ _ (value_eased a b v k one) (values_eased a b vs k more)
 
   pairs_eased : (a b : EntryTest) (ps : Pairs) → Eases a b → pairs_pass a ps ≡ true → pairs_pass b (eased_pairs ps) ≡ true
   pairs_eased a b NoPairs k h = refl
   pairs_eased a b (Pair x v ps) k h =
-      let (one, more) = and_both (value_passes a v) (pairs_pass a ps) h in
-      both_true (value_eased a b v k one) (pairs_eased a b ps k more)
+      let (one, more) = and_parts (value_passes a v) (pairs_pass a ps) h in
+      and_from _ _ (value_eased a b v k one) (pairs_eased a b ps k more)
 
 element_same : (kind : Kind) (v : Value) → element_valid kind (eased_value v) ≡ element_valid kind v
 element_same kind (ScalarValue v) = refl
@@ -188,7 +186,7 @@ map_same (MapFrom key) kind (Pair k v ps) = ap₂ (λ a b. (kind_takes key.kind 
 valid_same : (f : Field) (v : Value) → value_valid (eased_field f) (eased_value v) ≡ value_valid f v
 valid_same f (ScalarValue v) = refl
 valid_same f (MessageValue c) = refl
-valid_same f (ListValue vs) = ap (λ b. is_repeated f.form && b) (elements_same f.value_type.kind vs)
+valid_same f (ListValue vs) = ap (λ b. is_list f.form && b) (elements_same f.value_type.kind vs)
 valid_same f (MapValue ps) = map_same f.form f.value_type.kind ps
 
 stray_same : (f : Field) (p : Payload) → is_whole_stray f.form (eased_type f.form f.value_type) p ≡ is_whole_stray f.form f.value_type p
@@ -213,26 +211,21 @@ fits_eased = record {
     unknown n p None h = h
     unknown n p (Some f) h = ap (λ b. payload_valid p && b) (stray_same f p) ∙ h
 
-empty_same : (c : FieldForm) (v : Value) → is_empty_of c (eased_value v) ≡ is_empty_of c v
-empty_same Singular v = refl
-empty_same (Repeated packed) (ScalarValue v) = refl
-empty_same (Repeated packed) (MessageValue c) = refl
-empty_same (Repeated packed) (ListValue NoValues) = refl
-empty_same (Repeated packed) (ListValue (Item v vs)) = refl
-empty_same (Repeated packed) (MapValue ps) = refl
-empty_same (MapFrom key) (ScalarValue v) = refl
-empty_same (MapFrom key) (MessageValue c) = refl
-empty_same (MapFrom key) (ListValue vs) = refl
-empty_same (MapFrom key) (MapValue NoPairs) = refl
-empty_same (MapFrom key) (MapValue (Pair k v ps)) = refl
+empty_same : (c : FieldForm) (v : Value) → is_empty_value c (eased_value v) ≡ is_empty_value c v
+empty_same c (ScalarValue v) = refl
+empty_same c (MessageValue d) = refl
+empty_same c (ListValue NoValues) = refl
+empty_same c (ListValue (Item v vs)) = refl
+empty_same c (MapValue NoPairs) = refl
+empty_same c (MapValue (Pair k v ps)) = refl
 
 filled_eased : Eases filled_test filled_test
 filled_eased = record {
-  stored = λ fields n v es h. ap (λ o. not (passes o (λ f. is_empty_of f.form (eased_value v)))) (found_eased fields n) ∙ stored v (field_of fields n) h;
+  stored = λ fields n v es h. ap (λ o. not (passes o (λ f. is_empty_value f.form (eased_value v)))) (found_eased fields n) ∙ stored v (field_of fields n) h;
   unknown = λ fields n p h. refl;
 }
   where
-    stored : (v : Value) (o : Option Field) → not (passes o (λ f. is_empty_of f.form v)) ≡ true → not (passes (eased_option o) (λ f. is_empty_of f.form (eased_value v))) ≡ true
+    stored : (v : Value) (o : Option Field) → not (passes o (λ f. is_empty_value f.form v)) ≡ true → not (passes (eased_option o) (λ f. is_empty_value f.form (eased_value v))) ≡ true
     stored v None h = h
     stored v (Some f) h = ap not (empty_same f.form v) ∙ h
 
@@ -247,11 +240,6 @@ no_sibling fields f m = ap (λ b. not (nat_eq m f.number) && b) (go fields) ∙ 
     go : (gs : List Field) → list_any (λ g. nat_eq g.number m && same_oneof g.oneof None) (map eased_field gs) ≡ false
     go [] = refl
     go (g ∷ gs) = ap (λ b. b || list_any (λ g. nat_eq g.number m && same_oneof g.oneof None) (map eased_field gs)) (none (nat_eq g.number m)) ∙ go gs
-
-no_value : (test : ℕ → Bool) (es : Entries) → ((n : ℕ) → test n ≡ false) → has_value_of test es ≡ false
-no_value test NoEntries h = refl
-no_value test (Stored n v es) h = ap (λ b. b || has_value_of test es) (h n) ∙ no_value test es h
-no_value test (Unknown n p es) h = no_value test es h
 
 members_eased : Eases fit_test alone_test
 members_eased = record {
@@ -381,7 +369,7 @@ mutual
   entries_same fields (Stored n v es) h =
       let x = stored_passes fit_test fields n v es h in
       ap₂ (λ ps rest. map (record_at n) ps ++ rest) (ap (λ o. field_payloads o (eased_value v)) (found_eased fields n) ∙ value_same (field_of fields n) v x.here x.inside) (entries_same fields es x.behind)
-  entries_same fields (Unknown n p es) h = ap (λ rest. record_at n p ∷ rest) (entries_same fields es (and_both (unknown_fits (field_of fields n) n p) (entries_pass fit_test fields es) h).1)
+  entries_same fields (Unknown n p es) h = ap (λ rest. record_at n p ∷ rest) (entries_same fields es (and_parts (unknown_fits (field_of fields n) n p) (entries_pass fit_test fields es) h).1)
 
   value_same : (o : Option Field) (v : Value) → passes o (λ f. value_valid f v) ≡ true → value_passes fit_test v ≡ true → field_payloads (eased_option o) (eased_value v) ≡ field_payloads o v
   value_same None v valid h = absurd (true≢false (sym valid))
@@ -399,7 +387,7 @@ mutual
   elements_written : (kind : Kind) (vs : Values) → values_pass fit_test vs ≡ true → element_payloads kind (eased_values vs) ≡ element_payloads kind vs
   elements_written kind NoValues h = refl
   elements_written kind (Item v vs) h =
-      let (one, more) = and_both (value_passes fit_test v) (values_pass fit_test vs) h in
+      let (one, more) = and_parts (value_passes fit_test v) (values_pass fit_test vs) h in
       ap₂ ◌∷◌ (payload_same kind v one) (elements_written kind vs more)
 
   map_written : (c : FieldForm) (value_type : ValueType) (ps : Pairs) → pairs_valid c value_type.kind ps ≡ true → pairs_pass fit_test ps ≡ true → pair_payloads (key_of c (eased_type c value_type)) (eased_type c value_type) (eased_pairs ps) ≡ pair_payloads (key_of c value_type) value_type ps
@@ -407,8 +395,8 @@ mutual
   map_written (Repeated packed) value_type ps valid h = absurd (true≢false (sym valid))
   map_written (MapFrom key) value_type NoPairs valid h = refl
   map_written (MapFrom key) value_type (Pair k v ps) valid h =
-      let (one, more) = and_both (value_passes fit_test v) (pairs_pass fit_test ps) h in
-      let (here, rest) = and_both (kind_takes key.kind k && element_valid value_type.kind v) (pairs_valid (MapFrom key) value_type.kind ps) valid in
+      let (one, more) = and_parts (value_passes fit_test v) (pairs_pass fit_test ps) h in
+      let (here, rest) = and_parts (kind_takes key.kind k && element_valid value_type.kind v) (pairs_valid (MapFrom key) value_type.kind ps) valid in
       ap₂ ◌∷◌ (entry_same key value_type k v (payload_same value_type.kind v one)) (map_written (MapFrom key) value_type ps rest more)
 
 -- BACK

@@ -1,20 +1,20 @@
 -- A message or a group as one more element of a list, read into a content that holds: its records are read into an empty message, which goes behind the elements that are there.
 use Rattle.std.proofs.Common.{◌≡◌, ℕ, suc, ◌≤◌, Bool, true, not, ◌||◌, List, [], ◌∷◌, filter, Option, Some, None, refl, ap, ap₂, sym, ◌∙◌, subst, arith}
+use Rattle.std.proofs.lemmas.Bool.{and_parts, and_from}
 use Rattle.prost_reflect_wire.specs.declared.key.WireType.{WireType}
 use Rattle.prost_reflect_wire.specs.declared.key.WireType.TheVariants as wires
 use Rattle.prost_reflect_wire.specs.Varint.{◌>>=◌}
 use Rattle.prost_reflect_wire.specs.Record.{Len, Records, Record, Payload, Flat, Group, items, body_of, raw_levels}
 use Rattle.prost_reflect_wire.specs.Front.{KeyFront, DelimitedFront, ValueFront}
-use Rattle.prost_reflect_wire.specs.Schema.{Kind, ScalarOf, MessageOf, GroupOf, Repeated, Field, Schema, known, field_of, numbers_differ, passes}
+use Rattle.prost_reflect_wire.specs.Schema.{Kind, ScalarOf, MessageOf, GroupOf, Repeated, Field, Schema, known, field_of, numbers_differ, passes, is_list}
 use Rattle.prost_reflect_wire.specs.Content.{Content, ContentOf, Entries, Value, ScalarValue, MessageValue, ListValue, MapValue, Values, NoValues, Item, values_from, ◌and_then◌, value_at, slot_at, changed, empty, type_of, value_ordered, values_ordered}
 use Rattle.prost_reflect_wire.specs.Grammar.{body, or_none, records_in, is_stray, one_allowed, packed_allowed, field_allowed, element_payloads_in, value_payloads, stray_payloads}
 use Rattle.prost_reflect_wire.specs.Meaning.{MeansInside, element, present_list, values_in, value_joined, steps}
-use Rattle.prost_reflect_wire.specs.Typing.{kept, kept_value, kept_inside, kept_values, is_repeated, elements_valid, value_valid, EntryTest, value_passes, values_pass, fit_test, alone_test, kind_for, ValueTyped, ValuesTyped, WellStored, ValueStored}
+use Rattle.prost_reflect_wire.specs.Typing.{kept, kept_value, kept_inside, kept_values, elements_valid, value_valid, EntryTest, value_passes, values_pass, fit_test, alone_test, kind_for, ValueTyped, ValuesTyped, WellStored, ValueStored}
 use Rattle.prost_reflect_wire.specs.Edit.{message_of}
 use Rattle.prost_reflect_wire.specs.Levels.{greatest_level}
 use Rattle.prost_reflect_wire.specs.Storing.{with_stored}
 use Rattle.prost_reflect_wire.specs.Decoding.{ReadTo, Holds, Step}
-use Rattle.prost_reflect_wire.proofs.Deeper.{and_both, both_true}
 use Rattle.prost_reflect_laws.proofs.Older.{items_level, allowed_levels}
 use Rattle.prost_reflect_wire.proofs.Reading.{spelled_read}
 use Rattle.prost_reflect_wire.proofs.Bodies.{items_body}
@@ -59,7 +59,7 @@ module _ (schema : Schema) (T : ℕ) (es : Entries) (sound : WellStored (Content
   value_elements : (w : Value) → value_valid f w ≡ true → value_passes fit_test w ≡ true → ValueTyped schema (kind_for (Some f) w) w → value_ordered w ≡ true → value_passes alone_test w ≡ true → ElementsAt schema f.value_type.kind (Some w)
   value_elements (ListValue vs) h fits types order members = record {
     listed = tt;
-    elements = record { valid = (and_both (is_repeated f.form) _ h).1; fits = fits; types = field_typed schema f (ListValue vs) h types; order = order; members = members };
+    elements = record { valid = (and_parts (is_list f.form) _ h).1; fits = fits; types = field_typed schema f (ListValue vs) h types; order = order; members = members };
   }
   value_elements (ScalarValue v) h fits types order members = absurd (let s = valid_list f packed (ScalarValue v) form h in s.listed)
   value_elements (MessageValue c) h fits types order members = absurd (let s = valid_list f packed (MessageValue c) form h in s.listed)
@@ -77,7 +77,7 @@ module _ (schema : Schema) (T : ℕ) (es : Entries) (sound : WellStored (Content
       go : (o : Option Value) → value_at n es ≡ o → ElementsAt schema f.value_type.kind o
       go None e = record { listed = tt; elements = record { valid = refl; fits = refl; types = tt; order = refl; members = refl } }
       go (Some w) e =
-          let fits = and_both (own n w) (value_passes fit_test w) (subst (OptionPasses fit_test (known schema T) own n) e fitting.value) in
+          let fits = and_parts (own n w) (value_passes fit_test w) (subst (OptionPasses fit_test (known schema T) own n) e fitting.value) in
           let types : ValueTyped schema (kind_for (field_of (known schema T) n) w) w = subst (OptionTyped schema (known schema T) n) e (typed_values schema (known schema T) es n sound.types) in
           value_elements w (ap (λ o. passes o (λ f. value_valid f w)) (sym found) ∙ fits.0) fits.1
           (subst (λ o. ValueTyped schema (kind_for o w) w) found types)
@@ -87,12 +87,12 @@ module _ (schema : Schema) (T : ℕ) (es : Entries) (sound : WellStored (Content
 -- ONE MORE ELEMENT
 
 pass_more : (test : EntryTest) (vs : Values) (w : Value) → values_pass test vs ≡ true → value_passes test w ≡ true → values_pass test (vs and_then Item w NoValues) ≡ true
-pass_more test NoValues w h g = both_true g refl
-pass_more test (Item v vs) w h g = let (one, more) = and_both (value_passes test v) (values_pass test vs) h in both_true one (pass_more test vs w more g)
+pass_more test NoValues w h g = and_from _ _ g refl
+pass_more test (Item v vs) w h g = let (one, more) = and_parts (value_passes test v) (values_pass test vs) h in and_from _ _ one (pass_more test vs w more g)
 
 ordered_more : (vs : Values) (w : Value) → values_ordered vs ≡ true → value_ordered w ≡ true → values_ordered (vs and_then Item w NoValues) ≡ true
-ordered_more NoValues w h g = both_true g refl
-ordered_more (Item v vs) w h g = let (one, more) = and_both (value_ordered v) (values_ordered vs) h in both_true one (ordered_more vs w more g)
+ordered_more NoValues w h g = and_from _ _ g refl
+ordered_more (Item v vs) w h g = let (one, more) = and_parts (value_ordered v) (values_ordered vs) h in and_from _ _ one (ordered_more vs w more g)
 
 typed_more : (schema : Schema) (kind : Option Kind) (vs : Values) (w : Value) → ValuesTyped schema kind vs → ValueTyped schema kind w → ValuesTyped schema kind (vs and_then Item w NoValues)
 typed_more schema kind NoValues w h g = (g, tt)
@@ -133,8 +133,8 @@ module _ (schema : Schema) (T : ℕ) (es : Entries) (sound : WellStored (Content
   stored_element =
       let w : WellStored d = holds.sound in
       let o : Elements schema f.value_type.kind (values_in (value_at f.number es)) = old.elements in
-      let valid : value_valid f (with_message (value_at f.number es) d) ≡ true = both_true (ap is_repeated many.form)
-      (elements_joined f.value_type.kind (values_in (value_at f.number es)) (Item (MessageValue d) NoValues) o.valid (both_true (message_kind f.value_type.kind U many.names) refl)) in
+      let valid : value_valid f (with_message (value_at f.number es) d) ≡ true = and_from _ _ (ap is_list many.form)
+      (elements_joined f.value_type.kind (values_in (value_at f.number es)) (Item (MessageValue d) NoValues) o.valid (and_from _ _ (message_kind f.value_type.kind U many.names) refl)) in
       record {
         valid = valid;
         fits = pass_more fit_test (values_in (value_at f.number es)) (MessageValue d) o.fits w.fits;

@@ -2,7 +2,7 @@
 use Rattle.std.proofs.Common.{◌≡◌, ℕ, nat_eq, nat_lt, nat_le, eq-eqb, Bool, true, false, cond, not, ◌&&◌, List, [], ◌∷◌, ◌++◌, Option, Some, None, refl, ap, ap₂, sym, subst, ◌∙◌, arith, true≢false}
 use Rattle.std.specs.Option.{is_some}
 use Rattle.std.specs.List.{list_all}
-use Rattle.std.proofs.lemmas.Bool.{eqb-true, ne_eqb}
+use Rattle.std.proofs.lemmas.Bool.{eqb-true, ne_eqb, and_parts, and_from, not-true}
 use Rattle.std.proofs.lemmas.List.Folds.{list_all-append}
 use Rattle.prost_reflect_wire.specs.Varint.{◌>>=◌}
 use Rattle.prost_reflect_wire.specs.Record.{Payload, Record, body_of, payload_levels, payload_valid, valid}
@@ -14,9 +14,8 @@ use Rattle.prost_reflect_wire.specs.Meaning.{MeansInside, joined, last_or, entry
 use Rattle.prost_reflect_wire.specs.Writing.{record_at, scalar_payload, is_default_of, entry_record, value_payload, pair_payload}
 use Rattle.prost_reflect_wire.specs.Typing.{kind_takes, is_of_type}
 use Rattle.prost_reflect_wire.specs.Reduction.{TypePairs, same_kind, same_default}
-use Rattle.prost_reflect_wire.proofs.Deeper.{and_both, both_true, passes_in}
-use Rattle.prost_reflect_wire.proofs.ListTests.{not_true}
-use Rattle.prost_reflect_laws.proofs.Order.{scalars_equal}
+use Rattle.prost_reflect_wire.proofs.Deeper.{passes_in}
+use Rattle.prost_reflect_wire.specs.Deciding.{scalar_decides}
 use Rattle.prost_reflect_laws.proofs.Table.{read_back}
 use Rattle.prost_reflect_laws.proofs.Values.{records_back}
 use Rattle.prost_reflect_laws.proofs.Spelt.{Sound, SoundPayload, sound_append, message_sound}
@@ -57,17 +56,17 @@ pub record Entry (k : ℕ) (a : AllowsInside) (key t : ValueType) (rs : List Rec
 
 pub entry_of : (k : ℕ) (a : AllowsInside) (key t : ValueType) (q : Payload) → map_source k a key t q ≡ true → Entry k a key t (records_in q)
 entry_of k a key t q h =
-    let (ok, rest) = and_both (payload_valid q) (field_allowed k a (MapFrom key) t q && not (is_stray_entry t q)) h in
-    let (allowed, stays) = and_both (field_allowed k a (MapFrom key) t q) (not (is_stray_entry t q)) rest in
-    let (shape, inside) = and_both (is_len q && has_level k t.kind) (passes (body q) (list_all (in_entry_allowed k a key t))) allowed in
+    let (ok, rest) = and_parts (payload_valid q) (field_allowed k a (MapFrom key) t q && not (is_stray_entry t q)) h in
+    let (allowed, stays) = and_parts (field_allowed k a (MapFrom key) t q) (not (is_stray_entry t q)) rest in
+    let (shape, inside) = and_parts (is_len q && has_level k t.kind) (passes (body q) (list_all (in_entry_allowed k a key t))) allowed in
     let each : list_all (in_entry_allowed k a key t) (records_in q) ≡ true = passes_in q (list_all (in_entry_allowed k a key t)) inside in
     let spelt : list_all record_valid (records_in q) ≡ true = sym (valid_all (records_in q)) ∙ inside_spelled q ok in
     record {
-      keys_valid = payloads_pass 1 record_valid payload_valid (records_in q) (λ r e v. (and_both _ (payload_valid r.payload) v).1) spelt;
-      values_valid = payloads_pass 2 record_valid payload_valid (records_in q) (λ r e v. (and_both _ (payload_valid r.payload) v).1) spelt;
+      keys_valid = payloads_pass 1 record_valid payload_valid (records_in q) (λ r e v. (and_parts _ (payload_valid r.payload) v).1) spelt;
+      values_valid = payloads_pass 2 record_valid payload_valid (records_in q) (λ r e v. (and_parts _ (payload_valid r.payload) v).1) spelt;
       values_allowed = payloads_pass 2 (in_entry_allowed k a key t) (one_allowed a t.kind) (records_in q) (value_allowed k a key t) each;
-      stays = not_true (is_stray_entry t q) stays;
-      level = (and_both (is_len q) (has_level k t.kind) shape).1;
+      stays = not-true (is_stray_entry t q) stays;
+      level = (and_parts (is_len q) (has_level k t.kind) shape).1;
     }
 
 -- KEYS
@@ -119,11 +118,11 @@ pub value_again : (pairs : TypePairs) (k : ℕ) (i : MeansInside) (a : AllowsIns
 value_again pairs k i a j tA tB (ScalarOf kA) (ScalarOf kB) rs c h default ok spelt allowed stays level =
     let ps : List Payload = numbered 2 rs in
     let v : Scalar = last_or kA tA.default (numbered 2 rs) in
-    let same : last_or kB tB.default (numbered 2 rs) ≡ last_or kA tA.default (numbered 2 rs) = last_or_same pairs kA kB tA.default tB.default ps h (sym (scalars_equal tA.default tB.default default)) in
+    let same : last_or kB tB.default (numbered 2 rs) ≡ last_or kA tA.default (numbered 2 rs) = last_or_same pairs kA kB tA.default tB.default ps h (sym ((scalar_decides tA.default tB.default).0 default)) in
     let good : scalar_valid kA (last_or kA tA.default (numbered 2 rs)) ≡ true = last_or_valid kA tA.default ps ok spelt (λ p. undeclared_last pairs kA kB ps p h stays) in
     record {
       again = subst (λ w. Again a j (ScalarOf kA) (ScalarOf kB) (ScalarValue v) (ScalarValue w)) (sym same) (scalar_again pairs a j kA kB v h good);
-      absent = λ d. ap ScalarValue (sym (scalars_equal tA.default tB.default default) ∙ sym (scalars_equal v tA.default (and_both (not tA.presence) (scalar_eq v tA.default) d).1) ∙ sym same);
+      absent = λ d. ap ScalarValue (sym ((scalar_decides tA.default tB.default).0 default) ∙ sym ((scalar_decides v tA.default).0 (and_parts (not tA.presence) (scalar_eq v tA.default) d).1) ∙ sym same);
     }
 value_again pairs k i a j tA tB (MessageOf A) (MessageOf B) rs c h default ok spelt allowed stays level = record {
   again = message_again pairs k i a j A B (joined (numbered 2 rs)) c h (joined_valid (numbered 2 rs) spelt) (message_records k a (MessageOf B) B (numbered 2 rs) c.join c.nothing level (eq-eqb B B refl) allowed);
@@ -173,11 +172,11 @@ second_reads k a j tA keyB tB v w front true d u spelt = record { stays = refl; 
 second_reads k a j tA keyB tB v w front false d u spelt =
     let q : Payload = value_payload tA.kind v in
     let r : ReadAs a j tA.kind tB.kind v w = u.again.read (first_valid (record_at 2 q) [] (behind_valid front (record_at 2 q ∷ []) spelt)).0 in
-    record { stays = r.stays; value = λ rs e. value_present j tB tB.kind w q rs r.means e; allowed = both_true r.allowed refl }
+    record { stays = r.stays; value = λ rs e. value_present j tB tB.kind w q rs r.means e; allowed = and_from _ _ r.allowed refl }
 
 first_allowed : (pairs : TypePairs) (k : ℕ) (a : AllowsInside) (keyA keyB tB : ValueType) (x : Scalar) (b : Bool) → same_kind pairs keyA.kind keyB.kind ≡ true → kind_takes keyA.kind x ≡ true → list_all (in_entry_allowed k a keyB tB) (cond b [] (record_at 1 (scalar_payload keyA.kind x) ∷ [])) ≡ true
 first_allowed pairs k a keyA keyB tB x true h takes = refl
-first_allowed pairs k a keyA keyB tB x false h takes = both_true (key_fits pairs a keyA.kind keyB.kind x h takes) refl
+first_allowed pairs k a keyA keyB tB x false h takes = and_from _ _ (key_fits pairs a keyA.kind keyB.kind x h takes) refl
 
 pub pair_again : (pairs : TypePairs) (k : ℕ) (a : AllowsInside) (j : MeansInside) (keyA tA keyB tB : ValueType) (x : Scalar) (v w : Value) → SameType pairs keyA keyB → is_key_kind keyA.kind ≡ true → has_kind_default keyA ≡ true → kind_takes keyA.kind x ≡ true → has_level k tB.kind ≡ true →
     ValueAgain a j tA tB tA.kind tB.kind v w → PairAgain k a j keyA tA keyB tB x v w
@@ -212,6 +211,6 @@ pair_again pairs k a j keyA tA keyB tB x v w same keyed default takes level u = 
           stays = ap (λ rs. stray (numbered 2 rs)) back ∙ ap stray two ∙ r.stays;
           key_read = ap (entry_key keyB) back ∙ key_same pairs keyA keyB (first ++ second) same keyed ∙ key_back keyA x (first ++ second) takes default one;
           value_read = ap (entry_value j tB tB.kind) back ∙ r.value (first ++ second) two;
-          allowed = both_true level (ap (λ o. passes o (list_all (in_entry_allowed k a keyB tB))) (len_body (first ++ second) ok)
-              ∙ list_all-append (in_entry_allowed k a keyB tB) first second ∙ both_true (first_allowed pairs k a keyA keyB tB x (is_default_of keyA (ScalarValue x)) same.kind takes) r.allowed);
+          allowed = and_from _ _ level (ap (λ o. passes o (list_all (in_entry_allowed k a keyB tB))) (len_body (first ++ second) ok)
+              ∙ list_all-append (in_entry_allowed k a keyB tB) first second ∙ and_from _ _ (first_allowed pairs k a keyA keyB tB x (is_default_of keyA (ScalarValue x)) same.kind takes) r.allowed);
         }

@@ -2,14 +2,15 @@
 use Rattle.std.proofs.Common.{◌≡◌, Bool, true, false, not, List, Option, Some, None, refl, ap, sym, ◌∙◌, true≢false}
 use Rattle.std.specs.List.{list_all}
 use Rattle.std.specs.Str.{is_utf8, chars}
+use Rattle.std.proofs.lemmas.Bool.{and_parts}
+use Rattle.std.proofs.lemmas.Option.{same_Some}
 use Rattle.prost_reflect_wire.specs.Varint.{◌>>=◌}
 use Rattle.prost_reflect_wire.specs.Record.{Payload, Var, Fix64, Len, Fix32, Flat, Group, payload_valid}
 use Rattle.prost_reflect_wire.specs.Scalar.{Scalar, EnumNumber, ScalarKind, Double, Float, StringKind, BytesKind, Enum, elem, kind_default, is_declared, is_undeclared, in_i32, scalar_valid}
 use Rattle.prost_reflect_wire.specs.Schema.{ScalarOf, is_key_kind}
 use Rattle.prost_reflect_wire.specs.Grammar.{last}
 use Rattle.prost_reflect_wire.specs.Meaning.{last_or}
-use Rattle.prost_reflect_wire.proofs.ListTests.{and_both, last_passes}
-use Rattle.prost_reflect_wire.proofs.Sound.{some_inside}
+use Rattle.prost_reflect_wire.proofs.ListTests.{last_passes}
 use Rattle.prost_reflect_laws.proofs.Declared.{read_valid}
 
 -- kinds of keys have valid defaults, and no strays
@@ -46,7 +47,7 @@ is_undeclared_value kind v = false
 
 -- a payload is undeclared where its value is
 read_undeclared : (kind : ScalarKind) (p : Payload) (v : Scalar) → elem kind p ≡ Some v → is_undeclared kind p ≡ is_undeclared_value kind v
-read_undeclared (Enum first numbers) (Flat (Var n)) v e = ap (is_undeclared_value (Enum first numbers)) (some_inside e)
+read_undeclared (Enum first numbers) (Flat (Var n)) v e = ap (is_undeclared_value (Enum first numbers)) (same_Some _ _ e)
 read_undeclared (Enum first numbers) (Flat (Fix64 bytes)) v e = cc
 read_undeclared (Enum first numbers) (Flat (Len bytes)) v e = cc
 read_undeclared (Enum first numbers) (Flat (Fix32 bytes)) v e = cc
@@ -60,7 +61,7 @@ unread_declared (Enum first numbers) p e = refl
 unread_declared _ p e = refl
 
 valid_declared : (kind : ScalarKind) (v : Scalar) → scalar_valid kind v ≡ true → is_undeclared_value kind v ≡ false
-valid_declared (Enum first numbers) (EnumNumber z) h = ap not (and_both (in_i32 z) (is_declared numbers z) h).1
+valid_declared (Enum first numbers) (EnumNumber z) h = ap not (and_parts (in_i32 z) (is_declared numbers z) h).1
 valid_declared kind v h = refl
 
 -- the last payload is undeclared where the value that it leaves is

@@ -1,7 +1,8 @@
 -- The records of an entry, read one behind another: each key and each value takes the place of the one before, and other records are passed over.
 use Rattle.std.proofs.Common.{◌≡◌, ◌≢◌, ℕ, Bool, true, false, cond, List, [], ◌∷◌, ◌++◌, nat_eq, nat_le, Option, Some, None, refl, ap, ap₂, sym, subst, ◌∙◌, append-nil}
 use Rattle.std.specs.Option.{is_some}
-use Rattle.std.proofs.lemmas.Bool.{eqb-true, le-leb}
+use Rattle.std.proofs.lemmas.Bool.{eqb-true, le-leb, and_from}
+use Rattle.std.proofs.lemmas.Option.{none-some}
 use Rattle.prost_reflect_wire.specs.declared.error.DecodeError.{DecodeError}
 use Rattle.prost_reflect_wire.specs.declared.key.WireType.{WireType}
 use Rattle.prost_reflect_wire.specs.Varint.{◌>>=◌}
@@ -16,7 +17,7 @@ use Rattle.prost_reflect_wire.specs.Unknown.{SkipsValue}
 use Rattle.prost_reflect_wire.specs.Fault.{Stands, entry_field, field_at, ValueFault}
 use Rattle.prost_reflect_wire.specs.Decoding.{ScalarRead, ScalarFault}
 use Rattle.prost_reflect_wire.specs.EntryReading.{EntryTo, EntryPlace, plain_type, ScalarEntryTo, StandsInEntry}
-use Rattle.prost_reflect_wire.proofs.ListTests.{both_true, all_append}
+use Rattle.prost_reflect_wire.proofs.ListTests.{all_append}
 use Rattle.prost_reflect_wire.proofs.Survivors.{filter_append}
 use Rattle.prost_reflect_wire.proofs.Steps.{map_append, last_append}
 use Rattle.prost_reflect_wire.proofs.RecordFronts.{record_front, last_front, none_front}
@@ -50,7 +51,7 @@ module _ (allow : AllowsInside) (inner : MeansInside) (levels : ℕ) (key value_
   entry_more k x v w bytes mid rest done r front allowed key_is value_is = record {
     records = done.records ++ r ∷ [];
     front = last_front done.records r bytes mid rest done.front front;
-    allowed = all_append (in_entry_allowed levels allow key value_type) done.records (r ∷ []) done.allowed (both_true allowed refl);
+    allowed = all_append (in_entry_allowed levels allow key value_type) done.records (r ∷ []) done.allowed (and_from _ _ allowed refl);
     key_is = key_is;
     value_is = value_is;
   }
@@ -66,9 +67,6 @@ one_two n e = ap (λ m. nat_eq m 2) (eqb-true n 1 e)
 
 pub two_one : (n : ℕ) → nat_eq n 2 ≡ true → nat_eq n 1 ≡ false
 two_one n e = ap (λ m. nat_eq m 1) (eqb-true n 2 e)
-
-pub no_group : {n : ℕ} → ◌≡◌ {A = Option ℕ} None (Some n) → ⊥
-no_group e = cc
 
 module _ (levels : ℕ) (key value_kind : ScalarKind) where
   pub scalar_entry_nothing : (bytes : List ℕ) → ScalarEntryTo levels key value_kind (kind_default key) (kind_default value_kind) bytes bytes
@@ -117,16 +115,16 @@ module _ (levels : ℕ) (key value_kind : ScalarKind) where
 
     pub key_refused : (e : DecodeError) → nat_eq n 1 ≡ true → ScalarFault key w e after → StandsInEntry levels key value_kind e bytes
     key_refused e is fault = λ schema one two a b. entry_behind nothing_inside (empty_inside []) levels (plain_type key) (plain_type value_kind) schema e k (ScalarValue v) bytes mid done one two
-        (scalar_stands schema e (EntryPlace one two levels mid) n w after (entry_field 1 one) key front (key_field schema one two is) refl a (λ _. no_group) fault)
+        (scalar_stands schema e (EntryPlace one two levels mid) n w after (entry_field 1 one) key front (key_field schema one two is) refl a (λ _. none-some _) fault)
 
     pub value_refused : (e : DecodeError) → nat_eq n 2 ≡ true → ScalarFault value_kind w e after → StandsInEntry levels key value_kind e bytes
     value_refused e is fault = λ schema one two a b. entry_behind nothing_inside (empty_inside []) levels (plain_type key) (plain_type value_kind) schema e k (ScalarValue v) bytes mid done one two
-        (scalar_stands schema e (EntryPlace one two levels mid) n w after (entry_field 2 two) value_kind front (value_field schema one two is) refl b (λ _. no_group) fault)
+        (scalar_stands schema e (EntryPlace one two levels mid) n w after (entry_field 2 two) value_kind front (value_field schema one two is) refl b (λ _. none-some _) fault)
 
     pub other_refused : (e : DecodeError) → nat_eq n 1 ≡ false → nat_eq n 2 ≡ false → ValueFault e n w levels after → StandsInEntry levels key value_kind e bytes
     other_refused e first second fault = λ schema one two a b. entry_behind nothing_inside (empty_inside []) levels (plain_type key) (plain_type value_kind) schema e k (ScalarValue v) bytes mid done one two
         (value_stands schema (EntryPlace one two levels mid) e n w after
-        (ap₂ (λ a b. cond a (Some (entry_field 1 one)) (cond b (Some (entry_field 2 two)) None)) first second) front (λ _. no_group) fault)
+        (ap₂ (λ a b. cond a (Some (entry_field 1 one)) (cond b (Some (entry_field 2 two)) None)) first second) front (λ _. none-some _) fault)
 
   -- no key is there
   pub no_key_read : (e : DecodeError) (k v : Scalar) (bytes mid : List ℕ) → ScalarEntryTo levels key value_kind k v bytes mid → mid ≢ [] → KeyFault e mid → StandsInEntry levels key value_kind e bytes

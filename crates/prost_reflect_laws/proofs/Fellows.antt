@@ -1,16 +1,15 @@
 -- The members of a oneof, in two message types of a reduction; and that one of them alone has a value.
 use Rattle.std.proofs.Common.{◌≡◌, ℕ, Bool, true, false, cond, not, ◌&&◌, ◌||◌, List, [], ◌∷◌, filter, nat_eq, Option, Some, None, refl, ap, ap₂, sym, ◌∙◌, true≢false}
-use Rattle.std.proofs.lemmas.Bool.{eqb-true, eq-eqb}
+use Rattle.std.proofs.lemmas.Bool.{eqb-true, eq-eqb, and_parts, or_parts, not-true}
 use Rattle.std.specs.Bool.{beq}
 use Rattle.std.specs.List.{list_any}
 use Rattle.prost_reflect_wire.specs.Record.{Record}
 use Rattle.prost_reflect_wire.specs.Schema.{Field, field_of, same_oneof, is_sibling, passes}
 use Rattle.prost_reflect_wire.specs.Meaning.{after_last}
 use Rattle.prost_reflect_wire.specs.Reduction.{TypePairs, is_known, has_no_fellow}
-use Rattle.prost_reflect_wire.proofs.Deeper.{and_both}
-use Rattle.prost_reflect_wire.proofs.ListTests.{not_true, beq_same}
+use Rattle.prost_reflect_wire.proofs.ListTests.{beq_same}
 use Rattle.prost_reflect_wire.proofs.Numbers.{eqb-sym}
-use Rattle.prost_reflect_wire.proofs.Survivors.{field_number, or_false, filter_none, survive_none, after_cons}
+use Rattle.prost_reflect_wire.proofs.Survivors.{field_number, filter_none, survive_none, after_cons}
 use Rattle.prost_reflect_laws.proofs.Matches.{found_passes, any_found, some_field, Passing, found_any, member_at, same_oneof_sym, TypesMatch, Like}
 
 not_known : (fields : List Field) (n : ℕ) (oneof : Option ℕ) → field_of fields n ≡ None → list_any (member_at n oneof) fields ≡ false
@@ -50,8 +49,8 @@ lone pairs older newer n m g t lacking found = go (is_sibling newer g m) refl
     go : (b : Bool) → is_sibling newer g m ≡ b → is_sibling newer g m ≡ false
     go false e = e
     go true e =
-        let p : Passing (member_at m g.oneof) newer = some_field (member_at m g.oneof) newer (and_both (not (nat_eq m g.number)) (list_any (member_at m g.oneof) newer) e).1 in
-        let number : p.field.number ≡ m = eqb-true p.field.number m (and_both (nat_eq p.field.number m) (same_oneof p.field.oneof g.oneof) p.passes).0 in
+        let p : Passing (member_at m g.oneof) newer = some_field (member_at m g.oneof) newer (and_parts (not (nat_eq m g.number)) (list_any (member_at m g.oneof) newer) e).1 in
+        let number : p.field.number ≡ m = eqb-true p.field.number m (and_parts (nat_eq p.field.number m) (same_oneof p.field.oneof g.oneof) p.passes).0 in
         ap (is_sibling newer g) (sym number) ∙ p.none (λ h. is_sibling newer g h.number) no_fellow
 
 -- a field and its like have the same siblings
@@ -61,16 +60,16 @@ fellows pairs older newer f g m t l = go (field_of older m) refl
     newer_none : field_of older m ≡ None → (b : Bool) → is_sibling newer g m ≡ b → is_sibling newer g m ≡ false
     newer_none lacking false e = e
     newer_none lacking true e =
-        let (other, some) = and_both (not (nat_eq m g.number)) (list_any (member_at m g.oneof) newer) e in
+        let (other, some) = and_parts (not (nat_eq m g.number)) (list_any (member_at m g.oneof) newer) e in
         let p : Passing (member_at m g.oneof) newer = some_field (member_at m g.oneof) newer some in
-        let (at, same) = and_both (nat_eq p.field.number m) (same_oneof p.field.oneof g.oneof) p.passes in
+        let (at, same) = and_parts (nat_eq p.field.number m) (same_oneof p.field.oneof g.oneof) p.passes in
         let number : p.field.number ≡ m = eqb-true p.field.number m at in
         let no_fellow : list_any (λ h. is_sibling newer p.field h.number) newer ≡ false =
         alone older newer p.field (p.all (has_no_fellow older newer) t.lacking) (ap (field_of older) number ∙ lacking) in
         absurd (true≢false (sym (back p.field number same other) ∙ any_found (λ h. is_sibling newer p.field h.number) newer f.number g no_fellow l.found))
       where
         back : (h : Field) → h.number ≡ m → same_oneof h.oneof g.oneof ≡ true → not (nat_eq m g.number) ≡ true → is_sibling newer h g.number ≡ true
-        back h number same other = ap (λ k. not k && list_any (member_at g.number h.oneof) newer) (ap (nat_eq g.number) number ∙ eqb-sym g.number m ∙ not_true (nat_eq m g.number) other)
+        back h number same other = ap (λ k. not k && list_any (member_at g.number h.oneof) newer) (ap (nat_eq g.number) number ∙ eqb-sym g.number m ∙ not-true (nat_eq m g.number) other)
             ∙ found_any (member_at g.number h.oneof) newer f.number g l.found (ap (λ b. b && same_oneof g.oneof h.oneof) (eq-eqb g.number g.number refl) ∙ same_oneof_sym g.oneof h.oneof ∙ same)
 
     go : (o : Option Field) → field_of older m ≡ o → is_sibling newer g m ≡ is_sibling older f m
@@ -86,7 +85,7 @@ fellows pairs older newer f g m t l = go (field_of older m) refl
 implied_none : (t u : Record → Bool) (rs : List Record) → ((r : Record) → t r ≡ true → u r ≡ true) → list_any u rs ≡ false → list_any t rs ≡ false
 implied_none t u [] h e = refl
 implied_none t u (r ∷ rs) h e =
-    let (one, more) = or_false (u r) (list_any u rs) e in
+    let (one, more) = or_parts (u r) (list_any u rs) e in
     go (t r) refl one (implied_none t u rs h more)
   where
     go : (b : Bool) → t r ≡ b → u r ≡ false → list_any t rs ≡ false → (t r || list_any t rs) ≡ false

@@ -2,13 +2,14 @@
 use Rattle.std.proofs.Common.{◌≡◌, ℕ, Bool, true, cond, not, ◌&&◌, ◌||◌, List, [], ◌∷◌, ◌++◌, filter, flat_map, Some, refl, ap, ap₂, sym, ◌∙◌, true≢false}
 use Rattle.std.specs.List.{list_all}
 use Rattle.std.proofs.lemmas.List.Folds.{list_all-append}
+use Rattle.std.proofs.lemmas.Bool.{and_parts, and_from}
 use Rattle.prost_reflect_wire.specs.Record.{Var, Payload, Flat, payload_valid}
 use Rattle.prost_reflect_wire.specs.Scalar.{ScalarKind, Enum, is_undeclared}
 use Rattle.prost_reflect_wire.specs.Schema.{Kind, ScalarOf, MessageOf, GroupOf, ValueType, FieldForm, Singular, Repeated, MapFrom, Field, Schema}
 use Rattle.prost_reflect_wire.specs.Grammar.{AllowsInside, fits, is_stray, is_stray_entry, element_payloads_in, value_payloads, stray_payloads, one_allowed, packed_allowed, field_allowed}
 use Rattle.prost_reflect_wire.specs.Meaning.{MeansInside, field_value}
 use Rattle.prost_reflect_wire.specs.Reduction.{TypePairs, same_form}
-use Rattle.prost_reflect_wire.proofs.Deeper.{and_both, both_true, all_filter, all_implied, source_allowed, value_records_allowed}
+use Rattle.prost_reflect_wire.proofs.Deeper.{all_filter, all_implied, source_allowed, value_records_allowed}
 use Rattle.prost_reflect_wire.proofs.ListTests.{filter_passes}
 use Rattle.prost_reflect_laws.proofs.Checked.{CheckedField, CheckedList, checked_list, CheckedMap, checked_map}
 use Rattle.prost_reflect_laws.proofs.Alike.{SameType, same_type}
@@ -38,15 +39,15 @@ strays_of (MapFrom key) t p = is_stray_entry t p
 all_three : {A : Type 0} (t u v : A → Bool) (xs : List A) → list_all t xs ≡ true → list_all u xs ≡ true → list_all v xs ≡ true → list_all (λ x. t x && (u x && v x)) xs ≡ true
 all_three t u v [] a b c = refl
 all_three t u v (x ∷ xs) a b c =
-    let (a', a'') = and_both (t x) (list_all t xs) a in
-    let (b', b'') = and_both (u x) (list_all u xs) b in
-    let (c', c'') = and_both (v x) (list_all v xs) c in
-    both_true (both_true a' (both_true b' c')) (all_three t u v xs a'' b'' c'')
+    let (a', a'') = and_parts (t x) (list_all t xs) a in
+    let (b', b'') = and_parts (u x) (list_all u xs) b in
+    let (c', c'') = and_parts (v x) (list_all v xs) c in
+    and_from _ _ (and_from _ _ a' (and_from _ _ b' c')) (all_three t u v xs a'' b'' c'')
 
 values_valid : (c : FieldForm) (t : ValueType) (p : Payload) → payload_valid p ≡ true → list_all payload_valid (value_payloads c t p) ≡ true
-values_valid Singular t p h = all_filter payload_valid (λ q. not (is_stray t.kind q)) (p ∷ []) (both_true h refl)
+values_valid Singular t p h = all_filter payload_valid (λ q. not (is_stray t.kind q)) (p ∷ []) (and_from _ _ h refl)
 values_valid (Repeated packed) t p h = all_filter payload_valid (λ q. not (is_stray t.kind q)) (element_payloads_in t.kind p) (elements_in_valid t.kind p h)
-values_valid (MapFrom key) t p h = all_filter payload_valid (λ q. not (is_stray_entry t q)) (p ∷ []) (both_true h refl)
+values_valid (MapFrom key) t p h = all_filter payload_valid (λ q. not (is_stray_entry t q)) (p ∷ []) (and_from _ _ h refl)
 
 -- what is taken of a payload that is allowed
 values_source : (k : ℕ) (a : AllowsInside) (c : FieldForm) (t : ValueType) (p : Payload) → payload_valid p ≡ true → field_allowed k a c t p ≡ true → list_all (source k a c t) (value_payloads c t p) ≡ true
@@ -57,9 +58,9 @@ values_source k a (MapFrom key) t p ok h = all_three payload_valid (source_allow
 pub all_sources : (k : ℕ) (a : AllowsInside) (c : FieldForm) (t : ValueType) (ps : List Payload) → list_all payload_valid ps ≡ true → list_all (field_allowed k a c t) ps ≡ true → list_all (source k a c t) (flat_map (value_payloads c t) ps) ≡ true
 all_sources k a c t [] ok h = refl
 all_sources k a c t (p ∷ ps) ok h =
-    let (a', a'') = and_both (payload_valid p) (list_all payload_valid ps) ok in
-    let (b', b'') = and_both (field_allowed k a c t p) (list_all (field_allowed k a c t) ps) h in
-    list_all-append (source k a c t) (value_payloads c t p) (flat_map (value_payloads c t) ps) ∙ both_true (values_source k a c t p a' b') (all_sources k a c t ps a'' b'')
+    let (a', a'') = and_parts (payload_valid p) (list_all payload_valid ps) ok in
+    let (b', b'') = and_parts (field_allowed k a c t p) (list_all (field_allowed k a c t) ps) h in
+    list_all-append (source k a c t) (value_payloads c t p) (flat_map (value_payloads c t) ps) ∙ and_from _ _ (values_source k a c t p a' b') (all_sources k a c t ps a'' b'')
 
 -- STRAYS
 
@@ -74,14 +75,14 @@ stray_allowed a (GroupOf T) p h = absurd (true≢false (sym h))
 
 -- what stays unknown of a payload that is allowed is allowed
 strays_allowed : (k : ℕ) (a : AllowsInside) (c : FieldForm) (t : ValueType) (p : Payload) → field_allowed k a c t p ≡ true → list_all (field_allowed k a c t) (stray_payloads c t p) ≡ true
-strays_allowed k a Singular t p h = all_filter (field_allowed k a Singular t) (is_stray t.kind) (p ∷ []) (both_true h refl)
+strays_allowed k a Singular t p h = all_filter (field_allowed k a Singular t) (is_stray t.kind) (p ∷ []) (and_from _ _ h refl)
 strays_allowed k a (Repeated packed) t p h = all_implied (is_stray t.kind) (field_allowed k a (Repeated packed) t) (stray_payloads (Repeated packed) t p) (stray_allowed a t.kind) (filter_passes (is_stray t.kind) (element_payloads_in t.kind p))
-strays_allowed k a (MapFrom key) t p h = all_filter (field_allowed k a (MapFrom key) t) (is_stray_entry t) (p ∷ []) (both_true h refl)
+strays_allowed k a (MapFrom key) t p h = all_filter (field_allowed k a (MapFrom key) t) (is_stray_entry t) (p ∷ []) (and_from _ _ h refl)
 
 strays_valid : (c : FieldForm) (t : ValueType) (p : Payload) → payload_valid p ≡ true → list_all payload_valid (stray_payloads c t p) ≡ true
-strays_valid Singular t p h = all_filter payload_valid (is_stray t.kind) (p ∷ []) (both_true h refl)
+strays_valid Singular t p h = all_filter payload_valid (is_stray t.kind) (p ∷ []) (and_from _ _ h refl)
 strays_valid (Repeated packed) t p h = all_filter payload_valid (is_stray t.kind) (element_payloads_in t.kind p) (elements_in_valid t.kind p h)
-strays_valid (MapFrom key) t p h = all_filter payload_valid (is_stray_entry t) (p ∷ []) (both_true h refl)
+strays_valid (MapFrom key) t p h = all_filter payload_valid (is_stray_entry t) (p ∷ []) (and_from _ _ h refl)
 
 strays_are : (c : FieldForm) (t : ValueType) (p : Payload) → list_all (strays_of c t) (stray_payloads c t p) ≡ true
 strays_are Singular t p = filter_passes (is_stray t.kind) (p ∷ [])
@@ -99,7 +100,7 @@ stray_stays (MapFrom key) t p h = (ap (λ b. cond b (p ∷ []) []) h, ap (λ b. 
 pub strays_stay : (c : FieldForm) (t : ValueType) (ps : List Payload) → list_all (strays_of c t) ps ≡ true → (flat_map (stray_payloads c t) ps ≡ ps) × (flat_map (value_payloads c t) ps ≡ [])
 strays_stay c t [] h = (refl, refl)
 strays_stay c t (p ∷ ps) h =
-    let (one, more) = and_both (strays_of c t p) (list_all (strays_of c t) ps) h in
+    let (one, more) = and_parts (strays_of c t p) (list_all (strays_of c t) ps) h in
     let (stray, value) = stray_stays c t p one in
     let (strays, values) = strays_stay c t ps more in
     (ap₂ ◌++◌ stray strays, ap₂ ◌++◌ value values)
@@ -113,13 +114,13 @@ pub record Strays (k : ℕ) (a : AllowsInside) (c : FieldForm) (t : ValueType) (
 pub all_strays : (k : ℕ) (a : AllowsInside) (c : FieldForm) (t : ValueType) (ps : List Payload) → list_all payload_valid ps ≡ true → list_all (field_allowed k a c t) ps ≡ true → Strays k a c t (flat_map (stray_payloads c t) ps)
 all_strays k a c t [] ok h = record { are = refl; valid = refl; allowed = refl }
 all_strays k a c t (p ∷ ps) ok h =
-    let (a', a'') = and_both (payload_valid p) (list_all payload_valid ps) ok in
-    let (b', b'') = and_both (field_allowed k a c t p) (list_all (field_allowed k a c t) ps) h in
+    let (a', a'') = and_parts (payload_valid p) (list_all payload_valid ps) ok in
+    let (b', b'') = and_parts (field_allowed k a c t p) (list_all (field_allowed k a c t) ps) h in
     let rest : Strays k a c t (flat_map (stray_payloads c t) ps) = all_strays k a c t ps a'' b'' in
     record {
-      are = list_all-append (strays_of c t) (stray_payloads c t p) (flat_map (stray_payloads c t) ps) ∙ both_true (strays_are c t p) rest.are;
-      valid = list_all-append payload_valid (stray_payloads c t p) (flat_map (stray_payloads c t) ps) ∙ both_true (strays_valid c t p a') rest.valid;
-      allowed = list_all-append (field_allowed k a c t) (stray_payloads c t p) (flat_map (stray_payloads c t) ps) ∙ both_true (strays_allowed k a c t p b') rest.allowed;
+      are = list_all-append (strays_of c t) (stray_payloads c t p) (flat_map (stray_payloads c t) ps) ∙ and_from _ _ (strays_are c t p) rest.are;
+      valid = list_all-append payload_valid (stray_payloads c t p) (flat_map (stray_payloads c t) ps) ∙ and_from _ _ (strays_valid c t p a') rest.valid;
+      allowed = list_all-append (field_allowed k a c t) (stray_payloads c t p) (flat_map (stray_payloads c t) ps) ∙ and_from _ _ (strays_allowed k a c t p b') rest.allowed;
     }
 
 -- THE FIELD

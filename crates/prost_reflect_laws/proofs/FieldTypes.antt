@@ -1,16 +1,16 @@
 -- What is known of a field from a value that fits it.
 use Rattle.std.proofs.Common.{◌≡◌, Bool, true, Option, Some, None, refl, sym, subst, true≢false}
-use Rattle.prost_reflect_wire.specs.Schema.{Kind, FieldForm, Singular, Repeated, MapFrom, Field, Schema, is_message, is_singular, passes}
+use Rattle.std.proofs.lemmas.Bool.{and_parts}
+use Rattle.prost_reflect_wire.specs.Schema.{Kind, FieldForm, Singular, Repeated, MapFrom, Field, Schema, is_message, is_singular, passes, is_list}
 use Rattle.prost_reflect_wire.specs.Content.{Value, ScalarValue, MessageValue, ListValue, MapValue}
-use Rattle.prost_reflect_wire.specs.Typing.{is_repeated, elements_valid, value_valid, own_kind, kind_for, ValueTyped}
-use Rattle.prost_reflect_wire.proofs.Deeper.{and_both}
+use Rattle.prost_reflect_wire.specs.Typing.{elements_valid, value_valid, own_kind, kind_for, ValueTyped}
 
 pub singular : (c : FieldForm) → is_singular c ≡ true → c ≡ Singular
 singular Singular h = refl
 singular (Repeated packed) h = absurd (true≢false (sym h))
 singular (MapFrom key) h = absurd (true≢false (sym h))
 
-pub repeated : (c : FieldForm) → is_repeated c ≡ true → (packed : Bool) × (c ≡ Repeated packed)
+pub repeated : (c : FieldForm) → is_list c ≡ true → (packed : Bool) × (c ≡ Repeated packed)
 repeated Singular h = absurd (true≢false (sym h))
 repeated (Repeated packed) h = (packed, refl)
 repeated (MapFrom key) h = absurd (true≢false (sym h))
@@ -22,8 +22,8 @@ kind_at (Some f) = Some f.value_type.kind
 -- the kind of its messages is its own
 pub field_typed : (schema : Schema) (f : Field) (v : Value) → value_valid f v ≡ true → ValueTyped schema (kind_for (Some f) v) v → ValueTyped schema (Some f.value_type.kind) v
 field_typed schema f (ScalarValue v) h t = tt
-field_typed schema f (MessageValue c) h t = subst (λ (x : FieldForm). ValueTyped schema (own_kind x f.value_type.kind) (MessageValue c)) (singular f.form (and_both (is_singular f.form) (is_message f.value_type.kind) h).0) t
-field_typed schema f (ListValue vs) h t = subst (λ (x : FieldForm). ValueTyped schema (own_kind x f.value_type.kind) (ListValue vs)) (repeated f.form (and_both (is_repeated f.form) (elements_valid f.value_type.kind vs) h).0).1 t
+field_typed schema f (MessageValue c) h t = subst (λ (x : FieldForm). ValueTyped schema (own_kind x f.value_type.kind) (MessageValue c)) (singular f.form (and_parts (is_singular f.form) (is_message f.value_type.kind) h).0) t
+field_typed schema f (ListValue vs) h t = subst (λ (x : FieldForm). ValueTyped schema (own_kind x f.value_type.kind) (ListValue vs)) (repeated f.form (and_parts (is_list f.form) (elements_valid f.value_type.kind vs) h).0).1 t
 field_typed schema f (MapValue ps) h t = t
 
 pub option_typed : (schema : Schema) (o : Option Field) (v : Value) → passes o (λ f. value_valid f v) ≡ true → ValueTyped schema (kind_for o v) v → ValueTyped schema (kind_at o) v
@@ -33,6 +33,6 @@ option_typed schema (Some f) v h t = field_typed schema f v h t
 -- and back
 pub typed_field : (schema : Schema) (f : Field) (v : Value) → value_valid f v ≡ true → ValueTyped schema (Some f.value_type.kind) v → ValueTyped schema (kind_for (Some f) v) v
 typed_field schema f (ScalarValue v) h t = tt
-typed_field schema f (MessageValue c) h t = subst (λ (x : FieldForm). ValueTyped schema (own_kind x f.value_type.kind) (MessageValue c)) (sym (singular f.form (and_both (is_singular f.form) (is_message f.value_type.kind) h).0)) t
-typed_field schema f (ListValue vs) h t = subst (λ (x : FieldForm). ValueTyped schema (own_kind x f.value_type.kind) (ListValue vs)) (sym (repeated f.form (and_both (is_repeated f.form) (elements_valid f.value_type.kind vs) h).0).1) t
+typed_field schema f (MessageValue c) h t = subst (λ (x : FieldForm). ValueTyped schema (own_kind x f.value_type.kind) (MessageValue c)) (sym (singular f.form (and_parts (is_singular f.form) (is_message f.value_type.kind) h).0)) t
+typed_field schema f (ListValue vs) h t = subst (λ (x : FieldForm). ValueTyped schema (own_kind x f.value_type.kind) (ListValue vs)) (sym (repeated f.form (and_parts (is_list f.form) (elements_valid f.value_type.kind vs) h).0).1) t
 typed_field schema f (MapValue ps) h t = t

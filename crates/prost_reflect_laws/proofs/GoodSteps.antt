@@ -1,7 +1,7 @@
 -- Records that are allowed keep a content well-typed and within the levels that are left.
 use Rattle.std.proofs.Common.{◌≡◌, ℕ, zero, suc, ◌≤◌, Bool, true, false, cond, not, ◌&&◌, List, [], ◌∷◌, map, nat_eq, nat_le, Option, Some, None, refl, ap, ap₂, sym, ◌∙◌, subst, arith, true≢false}
 use Rattle.std.specs.List.{list_all}
-use Rattle.std.proofs.lemmas.Bool.{eqb-true}
+use Rattle.std.proofs.lemmas.Bool.{eqb-true, and_parts, and_from}
 use Rattle.prost_reflect_wire.specs.Varint.{◌>>=◌}
 use Rattle.prost_reflect_wire.specs.Record.{Payload, Record, body_of, number_valid, valid, payload_valid, payload_levels}
 use Rattle.prost_reflect_wire.specs.Schema.{ValueType, FieldForm, Singular, Repeated, MapFrom, Field, Schema, known, field_of, is_sibling, numbers_differ, field_valid, schema_valid, passes}
@@ -11,7 +11,7 @@ use Rattle.prost_reflect_wire.specs.Meaning.{MeansInside, JoinsInside, value_ste
 use Rattle.prost_reflect_wire.specs.Levels.{levels}
 use Rattle.prost_reflect_wire.specs.Typing.{value_valid, WellTyped}
 use Rattle.prost_reflect_laws.specs.Laws.{block}
-use Rattle.prost_reflect_wire.proofs.Deeper.{and_both, both_true, all_append, source_allowed, element_allowed, elements_in_allowed, allows_append}
+use Rattle.prost_reflect_wire.proofs.Deeper.{all_append, source_allowed, element_allowed, elements_in_allowed, allows_append}
 use Rattle.prost_reflect_laws.proofs.Checked.{known_valid, known_differ, found_valid, checked_field, checked_map}
 use Rattle.prost_reflect_laws.proofs.Means.{first_valid}
 use Rattle.prost_reflect_wire.proofs.Numbers.{insert_ascending, entries_ascending, eqb-sym}
@@ -87,8 +87,8 @@ module _ (schema : Schema) (k : ℕ) (allow : AllowsInside) (inner : MeansInside
           go true a b x =
               let own : h ≡ f = its n h e (sym (field_number fields n h e) ∙ sym (eqb-true m h.number a)) in
               let source : source_good h.form h.value_type p ≡ true = ap (λ (y : Field). source_good y.form y.value_type p) own ∙ s in
-              let (one, two) = and_both (payload_valid p && source_allowed k allow h.form h.value_type p) (NoStray h.form h.value_type p) source in
-              let (spelt, allowed) = and_both (payload_valid p) (source_allowed k allow h.form h.value_type p) one in
+              let (one, two) = and_parts (payload_valid p && source_allowed k allow h.form h.value_type p) (NoStray h.form h.value_type p) source in
+              let (spelt, allowed) = and_parts (payload_valid p) (source_allowed k allow h.form h.value_type p) one in
               joined_good schema k allow inner further h (at n).value p v good (given at n h g e) spelt allowed two x
           go false a true x = absurd cc
           go false a false x = subst (λ (o : Option Field). GoodValue schema o k v) e (g.value n v x)
@@ -133,25 +133,25 @@ module _ (schema : Schema) (k : ℕ) (allow : AllowsInside) (inner : MeansInside
   block_behind : (at : ℕ → Slot) (m : ℕ) (f : Field) (ps : List Payload) → GoodSlots schema fields k at → field_of fields m ≡ Some f → list_all (source_good f.form f.value_type) ps ≡ true → GoodSlots schema fields k (slots_behind at (block m ps))
   block_behind at m f [] g found s = none_behind at g
   block_behind at m f (p ∷ ps) g found s =
-      let (one, more) = and_both (source_good f.form f.value_type p) (list_all (source_good f.form f.value_type) ps) s in
+      let (one, more) = and_parts (source_good f.form f.value_type p) (list_all (source_good f.form f.value_type) ps) s in
       good_same schema fields k (slots_behind (slots_behind at (record { number = m; payload = p } ∷ [])) (block m ps)) (slots_behind at (block m (p ∷ ps))) (behind_more at (record { number = m; payload = p }) (block m ps))
       (block_behind (slots_behind at (record { number = m; payload = p } ∷ [])) m f ps (one_behind at m f p g found one) found more)
 
   all_and : (t u : Payload → Bool) (ps : List Payload) → list_all t ps ≡ true → list_all u ps ≡ true → list_all (λ p. t p && u p) ps ≡ true
   all_and t u [] h i = refl
   all_and t u (p ∷ ps) h i =
-      let (a, b) = and_both (t p) (list_all t ps) h in
-      let (c, d) = and_both (u p) (list_all u ps) i in
-      both_true (both_true a c) (all_and t u ps b d)
+      let (a, b) = and_parts (t p) (list_all t ps) h in
+      let (c, d) = and_parts (u p) (list_all u ps) i in
+      and_from _ _ (and_from _ _ a c) (all_and t u ps b d)
 
   pub sources_good : (c : FieldForm) (value_type : ValueType) (p : Payload) → payload_valid p ≡ true → field_allowed k allow c value_type p ≡ true → list_all (source_good c value_type) (value_payloads c value_type p) ≡ true
   sources_good Singular value_type p v a =
-      all_filtered (source_good Singular value_type) (λ q. not (is_stray value_type.kind q)) (λ q. payload_valid q && source_allowed k allow Singular value_type q) (p ∷ []) (λ q s w. both_true w s) (both_true (both_true v a) refl)
+      all_filtered (source_good Singular value_type) (λ q. not (is_stray value_type.kind q)) (λ q. payload_valid q && source_allowed k allow Singular value_type q) (p ∷ []) (λ q s w. and_from _ _ w s) (and_from _ _ (and_from _ _ v a) refl)
   sources_good (Repeated packed) value_type p v a =
-      all_filtered (source_good (Repeated packed) value_type) (λ q. not (is_stray value_type.kind q)) (λ q. payload_valid q && element_allowed allow value_type.kind q) (element_payloads_in value_type.kind p) (λ q s w. both_true w s)
+      all_filtered (source_good (Repeated packed) value_type) (λ q. not (is_stray value_type.kind q)) (λ q. payload_valid q && element_allowed allow value_type.kind q) (element_payloads_in value_type.kind p) (λ q s w. and_from _ _ w s)
       (all_and payload_valid (element_allowed allow value_type.kind) (element_payloads_in value_type.kind p) (elements_in_valid value_type.kind p v) (elements_in_allowed allow value_type.kind p a))
   sources_good (MapFrom key) value_type p v a =
-      all_filtered (source_good (MapFrom key) value_type) (λ q. not (is_stray_entry value_type q)) (λ q. payload_valid q && source_allowed k allow (MapFrom key) value_type q) (p ∷ []) (λ q s w. both_true w s) (both_true (both_true v a) refl)
+      all_filtered (source_good (MapFrom key) value_type) (λ q. not (is_stray_entry value_type q)) (λ q. payload_valid q && source_allowed k allow (MapFrom key) value_type q) (p ∷ []) (λ q s w. and_from _ _ w s) (and_from _ _ (and_from _ _ v a) refl)
 
   values_behind : (at : ℕ → Slot) (r : Record) → GoodSlots schema fields k at → payload_valid r.payload ≡ true → record_allowed k allow fields r ≡ true → GoodSlots schema fields k (slots_behind at (value_records fields r))
   values_behind at r g v a = go (field_of fields r.number) refl a
@@ -195,7 +195,7 @@ by_records : (schema : Schema) (k T : ℕ) (allow : AllowsInside) (inner : Means
     valid (body_of rs) ≡ true → list_all (record_allowed k allow (known schema T)) rs ≡ true → Stepped k (ContentOf schema T es) (steps_by inner further (ContentOf schema T es) rs)
 by_records schema k T allow inner further es [] good h g v a = record { schema_same = refl; type_same = refl; good = g }
 by_records schema k T allow inner further es (r ∷ rs) good h g v a =
-    let (one, more) = and_both (record_allowed k allow (known schema T) r) (list_all (record_allowed k allow (known schema T)) rs) a in
+    let (one, more) = and_parts (record_allowed k allow (known schema T) r) (list_all (record_allowed k allow (known schema T)) rs) a in
     let (spelt, rest) = first_valid r rs v in
     let old : GoodEntries schema (known schema T) k es = record { deep = g.deep; types = g.types; order = g.order; low = g.low } in
     let new : GoodEntries schema (known schema T) k (changed r.number (slot_step inner further (known schema T) r) es) =

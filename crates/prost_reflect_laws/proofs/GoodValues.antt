@@ -2,24 +2,23 @@
 use Rattle.std.proofs.Common.{◌≡◌, ℕ, suc, ◌≤◌, ◌<◌, Bool, true, false, cond, not, ◌&&◌, List, [], ◌∷◌, ◌++◌, Option, Some, None, refl, ap, sym, ◌∙◌, subst, arith, true≢false}
 use Rattle.std.specs.Prelude.{max}
 use Rattle.std.specs.List.{list_all}
-use Rattle.std.proofs.lemmas.Bool.{eq-eqb, eqb-true, ltb-true}
+use Rattle.std.proofs.lemmas.Bool.{eq-eqb, eqb-true, ltb-true, and_parts, and_from, not-true}
 use Rattle.prost_reflect_wire.specs.Varint.{◌>>=◌}
 use Rattle.prost_reflect_wire.specs.Record.{Payload, Record, body_of, valid, payload_valid}
 use Rattle.prost_reflect_wire.specs.Scalar.{Scalar, ScalarKind, elem, scalar_lt, scalar_eq, scalar_valid, kind_default, is_undeclared}
-use Rattle.prost_reflect_wire.specs.Schema.{Kind, ScalarOf, MessageOf, GroupOf, ValueType, FieldForm, Singular, Repeated, MapFrom, Field, Schema, is_message, is_singular, is_key_kind, default_valid, passes}
+use Rattle.prost_reflect_wire.specs.Schema.{Kind, ScalarOf, MessageOf, GroupOf, ValueType, FieldForm, Singular, Repeated, MapFrom, Field, Schema, is_message, is_singular, is_key_kind, default_valid, passes, is_list}
 use Rattle.prost_reflect_wire.specs.Content.{Content, Value, ScalarValue, MessageValue, ListValue, MapValue, Values, NoValues, Item, Pairs, NoPairs, Pair, schema_of, type_of, values_from, ◌and_then◌, ordered, value_ordered, values_ordered, pairs_ordered}
 use Rattle.prost_reflect_wire.specs.Grammar.{AllowsInside, body, records_in, numbered, last, is_len, is_group_payload, one_allowed, has_level, in_entry_allowed, field_allowed, is_stray, is_stray_entry}
 use Rattle.prost_reflect_wire.specs.Meaning.{MeansInside, JoinsInside, present, present_list, present_map, joined, element, scalar_values, last_or, put, entry_key, entry_value, put_entry, content_in, values_in, pairs_in, one_joined, value_joined}
 use Rattle.prost_reflect_wire.specs.Levels.{levels, value_levels, values_levels, pairs_levels}
-use Rattle.prost_reflect_wire.specs.Typing.{kind_takes, is_repeated, element_valid, elements_valid, pairs_valid, value_valid, everywhere, value_passes, values_pass, pairs_pass, is_empty_of, is_of_type, Typed, ValueTyped, ValuesTyped, PairsTyped}
+use Rattle.prost_reflect_wire.specs.Typing.{kind_takes, element_valid, elements_valid, pairs_valid, value_valid, everywhere, value_passes, values_pass, pairs_pass, is_empty_value, is_of_type, Typed, ValueTyped, ValuesTyped, PairsTyped}
 use Rattle.prost_reflect_wire.specs.Writing.{is_default_of}
-use Rattle.prost_reflect_wire.proofs.Deeper.{and_both, both_true, passes_in, message_in, numbered_two, element_allowed, source_allowed}
+use Rattle.prost_reflect_wire.proofs.Deeper.{passes_in, message_in, numbered_two, element_allowed, source_allowed}
 use Rattle.prost_reflect_laws.proofs.Arranged.{put_ordered}
 use Rattle.prost_reflect_laws.proofs.Declared.{read_valid}
 use Rattle.prost_reflect_laws.proofs.FieldTypes.{field_typed, typed_field}
 use Rattle.prost_reflect_laws.proofs.Readable.{inside_spelled, numbered_valid}
 use Rattle.prost_reflect_laws.proofs.Slots.{deep_test, GoodValue}
-use Rattle.prost_reflect_wire.proofs.ListTests.{not_true}
 use Rattle.prost_reflect_laws.proofs.EntryDefaults.{default_valid_key, key_stays, last_or_valid}
 use Rattle.prost_reflect_laws.proofs.Inside.{joined_valid}
 
@@ -84,16 +83,16 @@ one_more : (schema : Schema) (kind : Kind) (k : ℕ) (v : Value) (vs : Values) �
 one_more schema kind k v vs g h =
     let a : value_levels v ≤ k = g.low in
     let b : values_levels vs ≤ k = h.low in
-    record { valid = both_true g.valid h.valid; deep = both_true g.deep h.deep; types = (g.types, h.types); order = both_true g.order h.order; low = omega arith }
+    record { valid = and_from _ _ g.valid h.valid; deep = and_from _ _ g.deep h.deep; types = (g.types, h.types); order = and_from _ _ g.order h.order; low = omega arith }
 
 first_element : (schema : Schema) (kind : Kind) (k : ℕ) (v : Value) (vs : Values) → GoodElements schema kind k (Item v vs) → GoodElement schema kind k v
 first_element schema kind k v vs g =
     let l : max (value_levels v) (values_levels vs) ≤ k = g.low in
     record {
-      valid = (and_both (element_valid kind v) (elements_valid kind vs) g.valid).0;
-      deep = (and_both (value_passes deep_test v) (values_pass deep_test vs) g.deep).0;
+      valid = (and_parts (element_valid kind v) (elements_valid kind vs) g.valid).0;
+      deep = (and_parts (value_passes deep_test v) (values_pass deep_test vs) g.deep).0;
       types = g.types.0;
-      order = (and_both (value_ordered v) (values_ordered vs) g.order).0;
+      order = (and_parts (value_ordered v) (values_ordered vs) g.order).0;
       low = omega arith;
     }
 
@@ -101,10 +100,10 @@ more_elements : (schema : Schema) (kind : Kind) (k : ℕ) (v : Value) (vs : Valu
 more_elements schema kind k v vs g =
     let l : max (value_levels v) (values_levels vs) ≤ k = g.low in
     record {
-      valid = (and_both (element_valid kind v) (elements_valid kind vs) g.valid).1;
-      deep = (and_both (value_passes deep_test v) (values_pass deep_test vs) g.deep).1;
+      valid = (and_parts (element_valid kind v) (elements_valid kind vs) g.valid).1;
+      deep = (and_parts (value_passes deep_test v) (values_pass deep_test vs) g.deep).1;
       types = g.types.1;
-      order = (and_both (value_ordered v) (values_ordered vs) g.order).1;
+      order = (and_parts (value_ordered v) (values_ordered vs) g.order).1;
       low = omega arith;
     }
 
@@ -143,14 +142,14 @@ one_pair : (schema : Schema) (key : ValueType) (kind : Kind) (k : ℕ) (x : Scal
 one_pair schema key kind k x v ps t g h =
     let a : value_levels v ≤ k = g.low in
     let b : pairs_levels ps ≤ k = h.low in
-    record { valid = both_true (both_true t g.valid) h.valid; deep = both_true g.deep h.deep; types = (g.types, h.types); low = omega arith }
+    record { valid = and_from _ _ (and_from _ _ t g.valid) h.valid; deep = and_from _ _ g.deep h.deep; types = (g.types, h.types); low = omega arith }
 
 put_parts : (schema : Schema) (key : ValueType) (kind : Kind) (k : ℕ) (x : Scalar) (v : Value) (ps : Pairs) → kind_takes key.kind x ≡ true → GoodElement schema kind k v → PairParts schema key kind k ps → PairParts schema key kind k (put x v ps)
 put_parts schema key kind k x v NoPairs t g h = one_pair schema key kind k x v NoPairs t g h
 put_parts schema key kind k x v (Pair y w ps) t g h =
-    let (ab, c) = and_both (kind_takes key.kind y && element_valid kind w) (pairs_valid (MapFrom key) kind ps) h.valid in
-    let (a, b) = and_both (kind_takes key.kind y) (element_valid kind w) ab in
-    let (d, e) = and_both (value_passes deep_test w) (pairs_pass deep_test ps) h.deep in
+    let (ab, c) = and_parts (kind_takes key.kind y && element_valid kind w) (pairs_valid (MapFrom key) kind ps) h.valid in
+    let (a, b) = and_parts (kind_takes key.kind y) (element_valid kind w) ab in
+    let (d, e) = and_parts (value_passes deep_test w) (pairs_pass deep_test ps) h.deep in
     let l : max (value_levels w) (pairs_levels ps) ≤ k = h.low in
     let low : value_levels w ≤ k = omega arith in
     let low' : pairs_levels ps ≤ k = omega arith in
@@ -161,7 +160,7 @@ put_parts schema key kind k x v (Pair y w ps) t g h =
     again : kind_takes key.kind y ≡ true → element_valid kind w ≡ true → value_passes deep_test w ≡ true → value_levels w ≤ k → PairParts schema key kind k (put x v ps) → PairParts schema key kind k (Pair y w (put x v ps))
     again a b d low more =
         let l : pairs_levels (put x v ps) ≤ k = more.low in
-        record { valid = both_true (both_true a b) more.valid; deep = both_true d more.deep; types = (h.types.0, more.types); low = omega arith }
+        record { valid = and_from _ _ (and_from _ _ a b) more.valid; deep = and_from _ _ d more.deep; types = (h.types.0, more.types); low = omega arith }
 
     go : (m n : Bool) → PairParts schema key kind k ps → PairParts schema key kind k (Pair y w (put x v ps)) → PairParts schema key kind k (cond m (Pair x v (Pair y w ps)) (cond n (Pair x v ps) (Pair y w (put x v ps))))
     go true n rest more = one_pair schema key kind k x v (Pair y w ps) t g h
@@ -185,7 +184,7 @@ joined_allowed : (schema : Schema) (k T : ℕ) (allow : AllowsInside) (inner : M
     list_all (λ p. shape p && passes (body p) (allow T)) ps ≡ true → allow T (joined ps) ≡ true
 joined_allowed schema k T allow inner further shape [] g z h = z
 joined_allowed schema k T allow inner further shape (p ∷ ps) g z h =
-    let (one, more) = and_both (shape p && passes (body p) (allow T)) (list_all (λ p. shape p && passes (body p) (allow T)) ps) h in
+    let (one, more) = and_parts (shape p && passes (body p) (allow T)) (list_all (λ p. shape p && passes (body p) (allow T)) ps) h in
     g.append T (records_in p) (joined ps) (message_in allow T shape p one) (joined_allowed schema k T allow inner further shape ps g z more)
 
 entry_value_good : (schema : Schema) (k : ℕ) (allow : AllowsInside) (inner : MeansInside) (further : JoinsInside) (value_type : ValueType) (kind : Kind) (rs : List Record) → GoodInside schema k allow inner further →
@@ -204,11 +203,11 @@ entry_good : (schema : Schema) (k : ℕ) (allow : AllowsInside) (inner : MeansIn
     is_key_kind key.kind ≡ true → default_valid value_type.kind value_type.default ≡ true → payload_valid p ≡ true → field_allowed k allow (MapFrom key) value_type p ≡ true → is_stray_entry value_type p ≡ false →
     GoodPairs schema key value_type.kind k ps → GoodPairs schema key value_type.kind k (put_entry inner key value_type p ps)
 entry_good schema k allow inner further key value_type p ps g h d v a s pairs =
-    let (shape, inside) = and_both (is_len p && has_level k value_type.kind) (passes (body p) (list_all (in_entry_allowed k allow key value_type))) a in
+    let (shape, inside) = and_parts (is_len p && has_level k value_type.kind) (passes (body p) (list_all (in_entry_allowed k allow key value_type))) a in
     let all : list_all (in_entry_allowed k allow key value_type) (records_in p) ≡ true = passes_in p (list_all (in_entry_allowed k allow key value_type)) inside in
     let spelt : valid (body_of (records_in p)) ≡ true = inside_spelled p v in
     put_good schema key value_type.kind k (entry_key key (records_in p)) (entry_value inner value_type value_type.kind (records_in p)) ps (key_good key (records_in p) h spelt)
-    (entry_value_good schema k allow inner further value_type value_type.kind (records_in p) g d (and_both (is_len p) (has_level k value_type.kind) shape).1 spelt (numbered_two k allow key value_type (records_in p) all) s) pairs
+    (entry_value_good schema k allow inner further value_type value_type.kind (records_in p) g d (and_parts (is_len p) (has_level k value_type.kind) shape).1 spelt (numbered_two k allow key value_type (records_in p) all) s) pairs
 
 -- A FIELD
 
@@ -221,8 +220,8 @@ pub record FieldGiven (schema : Schema) (k : ℕ) (f : Field) (old : Option Valu
 -- a single value of the field
 single_good : (schema : Schema) (k : ℕ) (f : Field) (v : Value) → f.form ≡ Singular → GoodElement schema f.value_type.kind k v → is_default_of f.value_type v ≡ false → GoodValue schema (Some f) k v
 single_good schema k f (ScalarValue v) s g d = record {
-  valid = both_true (ap is_singular s) g.valid;
-  filled = ap (λ c. not (is_empty_of c (ScalarValue v))) s;
+  valid = and_from _ _ (ap is_singular s) g.valid;
+  filled = ap (λ c. not (is_empty_value c (ScalarValue v))) s;
   default = ap (λ b. not (is_singular f.form && b)) d ∙ nothing (is_singular f.form);
   deep = g.deep;
   types = tt;
@@ -234,10 +233,10 @@ single_good schema k f (ScalarValue v) s g d = record {
     nothing true = refl
     nothing false = refl
 single_good schema k f (MessageValue c) s g d =
-    let valid : value_valid f (MessageValue c) ≡ true = both_true (ap is_singular s) g.valid in
+    let valid : value_valid f (MessageValue c) ≡ true = and_from _ _ (ap is_singular s) g.valid in
     record {
       valid = valid;
-      filled = ap (λ x. not (is_empty_of x (MessageValue c))) s;
+      filled = ap (λ x. not (is_empty_value x (MessageValue c))) s;
       default = nothing (is_singular f.form);
       deep = g.deep;
       types = typed_field schema f (MessageValue c) valid g.types;
@@ -301,15 +300,15 @@ values_good schema k f packed (Some (MessageValue c)) s old = no_elements schema
 values_good schema k f packed (Some (MapValue ps)) s old = no_elements schema f.value_type.kind k
 values_good schema k f packed (Some (ListValue vs)) s old =
     let here : GoodValue schema (Some f) k (ListValue vs) = old (ListValue vs) refl in
-    record { valid = (and_both (is_repeated f.form) (elements_valid f.value_type.kind vs) here.valid).1; deep = here.deep; types = field_typed schema f (ListValue vs) here.valid here.types; order = here.order; low = here.low }
+    record { valid = (and_parts (is_list f.form) (elements_valid f.value_type.kind vs) here.valid).1; deep = here.deep; types = field_typed schema f (ListValue vs) here.valid here.types; order = here.order; low = here.low }
 
 list_given : (schema : Schema) (k : ℕ) (f : Field) (packed : Bool) (vs : Values) (v : Value) → f.form ≡ Repeated packed → GoodElements schema f.value_type.kind k vs → present_list vs ≡ Some v → GoodValue schema (Some f) k v
 list_given schema k f packed NoValues v s g e = absurd cc
 list_given schema k f packed (Item w ws) v s g e =
-    let valid : value_valid f (ListValue (Item w ws)) ≡ true = both_true (ap is_repeated s) g.valid in
+    let valid : value_valid f (ListValue (Item w ws)) ≡ true = and_from _ _ (ap is_list s) g.valid in
     let it : GoodValue schema (Some f) k (ListValue (Item w ws)) = record {
       valid = valid;
-      filled = ap (λ c. not (is_empty_of c (ListValue (Item w ws)))) s;
+      filled = ap (λ c. not (is_empty_value c (ListValue (Item w ws)))) s;
       default = ap (λ c. not (is_singular c && is_default_of f.value_type (ListValue (Item w ws)))) s;
       deep = g.deep;
       types = typed_field schema f (ListValue (Item w ws)) valid g.types;
@@ -334,7 +333,7 @@ map_given schema k f key NoPairs v s g e = absurd cc
 map_given schema k f key (Pair x w ps) v s g e =
     let it : GoodValue schema (Some f) k (MapValue (Pair x w ps)) = record {
       valid = ap (λ c. pairs_valid c f.value_type.kind (Pair x w ps)) s ∙ g.valid;
-      filled = ap (λ c. not (is_empty_of c (MapValue (Pair x w ps)))) s;
+      filled = ap (λ c. not (is_empty_value c (MapValue (Pair x w ps)))) s;
       default = ap (λ c. not (is_singular c && is_default_of f.value_type (MapValue (Pair x w ps)))) s;
       deep = g.deep;
       types = g.types;
@@ -355,11 +354,11 @@ pub joined_good : (schema : Schema) (k : ℕ) (allow : AllowsInside) (inner : Me
 joined_good schema k allow inner further f old p v g given spelt a stray e = go f.form refl a stray e
   where
     go : (c : FieldForm) → f.form ≡ c → source_allowed k allow c f.value_type p ≡ true → NoStray c f.value_type p ≡ true → value_joined inner further c f.value_type old p ≡ Some v → GoodValue schema (Some f) k v
-    go Singular s a stray e = one_joined_good schema k allow inner further f old p v g given s spelt a (not_true (is_stray f.value_type.kind p) stray) e
+    go Singular s a stray e = one_joined_good schema k allow inner further f old p v g given s spelt a (not-true (is_stray f.value_type.kind p) stray) e
     go (Repeated packed) s a stray e =
         list_given schema k f packed (values_in old and_then values_from (element inner f.value_type.kind p)) v s
         (then_good schema f.value_type.kind k (values_in old) (values_from (element inner f.value_type.kind p)) (values_good schema k f packed old s given.old_good)
-        (element_good schema k allow inner further f.value_type.kind p g spelt a (not_true (is_stray f.value_type.kind p) stray))) e
+        (element_good schema k allow inner further f.value_type.kind p g spelt a (not-true (is_stray f.value_type.kind p) stray))) e
     go (MapFrom key) s a stray e =
         map_given schema k f key (put_entry inner key f.value_type p (pairs_in old)) v s
-        (entry_good schema k allow inner further key f.value_type p (pairs_in old) g (given.keyed key s) given.default spelt a (not_true (is_stray_entry f.value_type p) stray) (pairs_good schema k f key old s given.old_good)) e
+        (entry_good schema k allow inner further key f.value_type p (pairs_in old) g (given.keyed key s) given.default spelt a (not-true (is_stray_entry f.value_type p) stray) (pairs_good schema k f key old s given.old_good)) e

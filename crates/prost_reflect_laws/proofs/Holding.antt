@@ -15,8 +15,7 @@ use Rattle.prost_reflect_laws.specs.Laws.{UnknownBack}
 use Rattle.prost_reflect_wire.specs.Edit.{with_value}
 use Rattle.prost_reflect_wire.specs.Storing.{with_stored, with_unknown}
 use Rattle.prost_reflect_wire.specs.Decoding.{ScalarRead, Step}
-use Rattle.std.proofs.lemmas.Bool.{lt-ltb, le-leb}
-use Rattle.prost_reflect_wire.proofs.Deeper.{both_true}
+use Rattle.std.proofs.lemmas.Bool.{lt-ltb, le-leb, and_from}
 use Rattle.prost_reflect_wire.proofs.ByteLists.{bytes_front}
 use Rattle.prost_reflect_laws.proofs.SpelledValid.{spelled_plain_valid, spelled_valid}
 use Rattle.prost_reflect_wire.proofs.Survivors.{field_number}
@@ -25,7 +24,7 @@ use Rattle.prost_reflect_laws.proofs.Arranged.{OrderedOption, table_ordered}
 use Rattle.prost_reflect_laws.proofs.Slotwise.{slot_changed}
 use Rattle.prost_reflect_laws.proofs.StoredSteps.{Known, value_in_order}
 use Rattle.prost_reflect_laws.proofs.StoredPasses.{OptionPasses, SlotPasses, passes_slots}
-use Rattle.prost_reflect_laws.proofs.RecordReads.{scalar_record, unknown_record, unknown_allowed, scalar_read_fits}
+use Rattle.prost_reflect_laws.proofs.RecordReads.{scalar_record, unknown_record, unknown_allowed, scalar_read_fits, still_empty}
 use Rattle.prost_reflect_laws.proofs.Slots.{siblings_mutual}
 use Rattle.prost_reflect_laws.proofs.StoredSound.{value_sound, unknown_sound}
 use Rattle.prost_reflect_laws.proofs.Values.{unknown_back, stray_back}
@@ -57,7 +56,7 @@ payload_front_valid n (Group inside) bytes rest small f = let g = f.records in s
 
 -- a scalar that a field takes
 pub scalar_stored : (schema : Schema) (f : Field) (kind : ScalarKind) (v : Scalar) → f.form ≡ Singular → f.value_type.kind ≡ ScalarOf kind → scalar_valid kind v ≡ true → ValueStored schema f (ScalarValue v)
-scalar_stored schema f kind v form is fits = record { valid = both_true (ap is_singular form) (ap (λ k. kind_takes k v) is ∙ fits); fits = refl; types = tt; order = refl; members = refl }
+scalar_stored schema f kind v form is fits = record { valid = and_from _ _ (ap is_singular form) (ap (λ k. kind_takes k v) is ∙ fits); fits = refl; types = tt; order = refl; members = refl }
 
 -- the slots where a record that stays unknown was added
 pub added_slots : (es : Entries) (n : ℕ) (p : Payload) (m : ℕ) → slot_at (changed n (with_unknown n p) es) m ≡ with_unknown n p m (slot_at es m)
@@ -86,13 +85,8 @@ module _ (schema : Schema) (T : ℕ) (es : Entries) (differ : numbers_differ (kn
       change : ℕ → Slot → Slot
       change = with_stored (known schema T) f (ScalarValue v)
 
-      still : (m : ℕ) (b : Bool) → b ≡ false → (c : Bool) → cond b (with_value (Some (ScalarValue v)) empty_slot) (cond c (with_value None empty_slot) empty_slot) ≡ empty_slot
-      still m true e c = absurd (true≢false e)
-      still m false e true = refl
-      still m false e false = refl
-
       slots : (m : ℕ) → slot_at (changed f.number (with_stored (known schema T) f (ScalarValue v)) es) m ≡ with_stored (known schema T) f (ScalarValue v) m (slot_at es m)
-      slots m = slot_changed f.number m (with_stored (known schema T) f (ScalarValue v)) es (λ k apart. still k (nat_eq k f.number) (eqb-sym k f.number ∙ apart) (is_sibling (known schema T) f k))
+      slots m = slot_changed f.number m (with_stored (known schema T) f (ScalarValue v)) es (λ k apart. still_empty v (nat_eq k f.number) (eqb-sym k f.number ∙ apart) (is_sibling (known schema T) f k))
 
       each : (m : ℕ) (b c : Bool) → OrderedOption (cond b (with_value (Some (ScalarValue v)) (slot_at es m)) (cond c (with_value None (slot_at es m)) (slot_at es m))).value
       each m true c = refl
@@ -122,7 +116,7 @@ module _ (schema : Schema) (T : ℕ) (es : Entries) (differ : numbers_differ (kn
   pub unknown_holds : (k n : ℕ) (w : WireType) (p : Payload) (bytes rest : List ℕ) → field_of (known schema T) n ≡ None → 1 ≤ n → n < 2 ^ 29 → AreBytes bytes → ValueFront n w k p bytes rest →
       Step k n w (ContentOf schema T es) (ContentOf schema T (changed n (with_unknown n p) es)) bytes rest
   unknown_holds k n w p bytes rest absent some below small front = beside_holds k n w p bytes rest (unknown_allowed schema k T n p absent front.within) (unknown_back (known schema T) n p absent)
-      (ap (λ o. unknown_fits o n p) absent ∙ both_true (both_true (lt-ltb 0 n some) (lt-ltb n (2 ^ 29) below)) (payload_front_valid n p bytes rest small front.front)) front
+      (ap (λ o. unknown_fits o n p) absent ∙ and_from _ _ (and_from _ _ (lt-ltb 0 n some) (lt-ltb n (2 ^ 29) below)) (payload_front_valid n p bytes rest small front.front)) front
 
   -- at the number of a field, where it stays whole as a stray
   pub stray_holds : (k n : ℕ) (f : Field) (w : WireType) (p : Payload) (bytes rest : List ℕ) → schema_valid schema ≡ true → field_of (known schema T) n ≡ Some f → is_whole_stray f.form f.value_type p ≡ true → stray_levels f.form p ≤ k → AreBytes bytes →
@@ -132,4 +126,4 @@ module _ (schema : Schema) (T : ℕ) (es : Entries) (differ : numbers_differ (kn
       (stray_back (known schema T) n f p found whole) fits front
     where
       fits : unknown_fits (field_of (known schema T) n) n p ≡ true
-      fits = ap (λ o. unknown_fits o n p) found ∙ both_true (payload_front_valid n p bytes rest small front.front) whole
+      fits = ap (λ o. unknown_fits o n p) found ∙ and_from _ _ (payload_front_valid n p bytes rest small front.front) whole

@@ -1,5 +1,5 @@
 -- A record of a field, read into a content that holds: its payload joins the value that is there, and what comes of it is stored.
-use Rattle.std.proofs.Common.{◌≡◌, ℕ, Bool, true, false, cond, List, [], ◌∷◌, ◌++◌, nat_eq, Option, Some, None, refl, ap, sym, ◌∙◌, append-nil, map, true≢false}
+use Rattle.std.proofs.Common.{◌≡◌, ℕ, Bool, true, false, cond, List, [], ◌∷◌, ◌++◌, nat_eq, Option, Some, None, refl, ap, sym, ◌∙◌, map, true≢false}
 use Rattle.std.proofs.lemmas.Bool.{eqb-true, eq-eqb}
 use Rattle.prost_reflect_wire.specs.declared.key.WireType.{WireType}
 use Rattle.prost_reflect_wire.specs.Varint.{◌>>=◌}
@@ -21,7 +21,7 @@ use Rattle.prost_reflect_laws.proofs.Means.{below, further}
 use Rattle.prost_reflect_laws.proofs.Values.{value_records_known, unknown_known}
 use Rattle.prost_reflect_laws.proofs.Arranged.{OrderedOption}
 use Rattle.prost_reflect_laws.proofs.Slotwise.{slot_changed, kept_slot}
-use Rattle.prost_reflect_laws.proofs.StoredSteps.{Mutual, value_in_order, kept_cleared, none_either, kept_step_at}
+use Rattle.prost_reflect_laws.proofs.StoredSteps.{Mutual, value_in_order, kept_cleared, none_either, kept_step_at, no_more_unknown}
 use Rattle.prost_reflect_laws.proofs.StoredSound.{value_sound as stored_sound}
 use Rattle.prost_reflect_laws.proofs.Slots.{siblings_mutual}
 use Rattle.prost_reflect_laws.proofs.RecordReads.{allowed_record, one_step}
@@ -66,12 +66,8 @@ module _ (inner : MeansInside) (further : JoinsInside) (fields : List Field) whe
   joined_step f p v m slot r fellows known joins = slots_same _ _
       (ap (value_behind inner further fields m (kept_slot fields m slot).value) (value_records_known fields f.number f p r.found ∙ ap (map (record_at f.number)) r.read)
       ∙ joined_value f p v m slot (nat_eq m f.number) (field_of fields m) r fellows known joins refl refl)
-      (ap (λ (ps : List Payload). slot.unknowns ++ cond (nat_eq f.number m) ps []) (unknown_known fields f.number f p r.found ∙ r.stays) ∙ nothing (nat_eq f.number m) ∙ sym (unmoved (nat_eq m f.number) (is_sibling fields f m)))
+      (ap (λ (ps : List Payload). slot.unknowns ++ cond (nat_eq f.number m) ps []) (unknown_known fields f.number f p r.found ∙ r.stays) ∙ no_more_unknown inner further fields slot (nat_eq f.number m) ∙ sym (unmoved (nat_eq m f.number) (is_sibling fields f m)))
     where
-      nothing : (b : Bool) → slot.unknowns ++ cond {A = List Payload} b [] [] ≡ slot.unknowns
-      nothing true = append-nil slot.unknowns
-      nothing false = append-nil slot.unknowns
-
       unmoved : (b c : Bool) → (cond b (with_value (Some v) slot) (cond c (with_value None slot) slot)).unknowns ≡ slot.unknowns
       unmoved true c = refl
       unmoved false true = refl

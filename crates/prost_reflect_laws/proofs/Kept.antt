@@ -1,14 +1,12 @@
 -- What is kept of what is stored.
 use Rattle.std.proofs.Common.{◌≡◌, ℕ, ◌≤◌, ◌⊎◌, inl, inr, Bool, true, false, cond, not, ◌&&◌, ◌||◌, List, Option, Some, None, refl, ap, ap₂, sym, ◌∙◌, subst, arith, true≢false}
-use Rattle.std.proofs.lemmas.Bool.{ltb-true, lt-ltb, leb-true, le-leb}
+use Rattle.std.proofs.lemmas.Bool.{ltb-true, lt-ltb, leb-true, le-leb, and_parts, and_from, or_parts}
 use Rattle.prost_reflect_wire.specs.Record.{Payload}
 use Rattle.prost_reflect_wire.specs.Scalar.{Scalar}
-use Rattle.prost_reflect_wire.specs.Schema.{Kind, FieldForm, Singular, Repeated, MapFrom, Field, Schema, known, field_of, is_sibling, passes}
+use Rattle.prost_reflect_wire.specs.Schema.{Kind, FieldForm, Singular, Repeated, MapFrom, Field, Schema, known, field_of, is_sibling, passes, is_list}
 use Rattle.prost_reflect_wire.specs.Content.{Content, ContentOf, Entries, NoEntries, Stored, Unknown, Value, ScalarValue, MessageValue, ListValue, MapValue, Values, NoValues, Item, Pairs, NoPairs, Pair, then_value, schema_of, type_of, comes_before, key_before, ordered, entries_ordered, value_ordered, values_ordered, pairs_ordered}
-use Rattle.prost_reflect_wire.specs.Typing.{kind_takes, is_repeated, element_valid, elements_valid, pairs_valid, value_valid, EntryTest, everywhere, entries_pass, value_passes, values_pass, pairs_pass, fit_test, has_value_of, is_alone, alone_test, is_empty_of, is_stored_default, is_field_default, filled_test, default_test, kept_value, kept, kept_entries, kept_inside, kept_values, kept_pairs, kind_for, IsOf, Typed, EntriesTyped, ValueTyped, ValuesTyped, PairsTyped, WellStored, WellTyped}
-use Rattle.prost_reflect_wire.proofs.Deeper.{and_both, both_true}
+use Rattle.prost_reflect_wire.specs.Typing.{kind_takes, element_valid, elements_valid, pairs_valid, value_valid, EntryTest, everywhere, entries_pass, value_passes, values_pass, pairs_pass, fit_test, has_value_of, is_alone, alone_test, is_empty_value, is_stored_default, is_field_default, filled_test, default_test, kept_value, kept, kept_entries, kept_inside, kept_values, kept_pairs, kind_for, IsOf, Typed, EntriesTyped, ValueTyped, ValuesTyped, PairsTyped, WellStored, WellTyped}
 use Rattle.prost_reflect_laws.proofs.Everywhere.{stored_passes}
-use Rattle.prost_reflect_wire.proofs.Survivors.{or_false}
 
 -- ONE ENTRY
 
@@ -24,7 +22,7 @@ kept_cases (Some f) v = go (is_field_default f v)
 pub then_kept : (test : EntryTest) (fields : List Field) (n : ℕ) (v : Value) (o : Option Value) (es : Entries) → (o ≡ None) ⊎ (o ≡ Some v) → (o ≡ Some v → test.stored fields n v es ≡ true) → value_passes test v ≡ true → entries_pass test fields es ≡ true →
     entries_pass test fields (then_value n o es) ≡ true
 then_kept test fields n v o es (inl e) here inside behind = ap (λ o. entries_pass test fields (then_value n o es)) e ∙ behind
-then_kept test fields n v o es (inr e) here inside behind = ap (λ o. entries_pass test fields (then_value n o es)) e ∙ both_true (both_true (here e) inside) behind
+then_kept test fields n v o es (inr e) here inside behind = ap (λ o. entries_pass test fields (then_value n o es)) e ∙ and_from _ _ (and_from _ _ (here e) inside) behind
 
 -- TESTS
 
@@ -44,8 +42,8 @@ mutual
       then_kept b fields n (kept_inside v) (kept_value (field_of fields n) (kept_inside v)) (kept_entries fields es) (kept_cases (field_of fields n) (kept_inside v))
       (k.stored fields n v es x.here) (value_kept a b v k x.inside) (entries_kept a b fields es k x.behind)
   entries_kept a b fields (Unknown n p es) k h =
-      let (here, rest) = and_both (a.unknown fields n p) (entries_pass a fields es) h in
-      both_true (k.unknown fields n p here) (entries_kept a b fields es k rest)
+      let (here, rest) = and_parts (a.unknown fields n p) (entries_pass a fields es) h in
+      and_from _ _ (k.unknown fields n p here) (entries_kept a b fields es k rest)
 
   pub value_kept : (a b : EntryTest) (v : Value) → Keeps a b → value_passes a v ≡ true → value_passes b (kept_inside v) ≡ true
   value_kept a b (ScalarValue v) k h = refl
@@ -56,14 +54,14 @@ mutual
   values_kept : (a b : EntryTest) (vs : Values) → Keeps a b → values_pass a vs ≡ true → values_pass b (kept_values vs) ≡ true
   values_kept a b NoValues k h = refl
   values_kept a b (Item v vs) k h =
-      let (one, more) = and_both (value_passes a v) (values_pass a vs) h in
-      both_true (value_kept a b v k one) (values_kept a b vs k more)
+      let (one, more) = and_parts (value_passes a v) (values_pass a vs) h in
+      and_from _ _ (value_kept a b v k one) (values_kept a b vs k more)
 
   pairs_kept : (a b : EntryTest) (ps : Pairs) → Keeps a b → pairs_pass a ps ≡ true → pairs_pass b (kept_pairs ps) ≡ true
   pairs_kept a b NoPairs k h = refl
   pairs_kept a b (Pair x v ps) k h =
-      let (one, more) = and_both (value_passes a v) (pairs_pass a ps) h in
-      both_true (value_kept a b v k one) (pairs_kept a b ps k more)
+      let (one, more) = and_parts (value_passes a v) (pairs_pass a ps) h in
+      and_from _ _ (value_kept a b v k one) (pairs_kept a b ps k more)
 
 -- a value keeps its form and kinds
 element_kept : (kind : Kind) (v : Value) → element_valid kind (kept_inside v) ≡ element_valid kind v
@@ -85,7 +83,7 @@ map_kept (MapFrom key) kind (Pair k v ps) = ap₂ (λ a b. (kind_takes key.kind 
 pub valid_kept : (f : Field) (v : Value) → value_valid f (kept_inside v) ≡ value_valid f v
 valid_kept f (ScalarValue v) = refl
 valid_kept f (MessageValue c) = refl
-valid_kept f (ListValue vs) = ap (λ b. is_repeated f.form && b) (elements_kept f.value_type.kind vs)
+valid_kept f (ListValue vs) = ap (λ b. is_list f.form && b) (elements_kept f.value_type.kind vs)
 valid_kept f (MapValue ps) = map_kept f.form f.value_type.kind ps
 
 pub fits_kept : Keeps fit_test fit_test
@@ -99,7 +97,7 @@ fits_kept = record { stored = λ fields n v es h e. go v (field_of fields n) h; 
 values_gone : (test : ℕ → Bool) (fields : List Field) (es : Entries) → has_value_of test es ≡ false → has_value_of test (kept_entries fields es) ≡ false
 values_gone test fields NoEntries h = refl
 values_gone test fields (Stored n v es) h =
-    let (one, more) = or_false (test n) (has_value_of test es) h in
+    let (one, more) = or_parts (test n) (has_value_of test es) h in
     go (kept_cases (field_of fields n) (kept_inside v)) one (values_gone test fields es more)
   where
     go : {o : Option Value} {w : Value} → (o ≡ None) ⊎ (o ≡ Some w) → test n ≡ false → has_value_of test (kept_entries fields es) ≡ false → has_value_of test (then_value n o (kept_entries fields es)) ≡ false
@@ -119,9 +117,9 @@ members_kept = record { stored = λ fields n v es h e. go fields es (field_of fi
     go fields es (Some f) h = ap not (values_gone (is_sibling fields f) fields es (under (has_value_of (is_sibling fields f) es) h))
 
 -- what is kept says something
-pub said : (o : Option Field) (w : Value) → kept_value o w ≡ Some w → (not (passes o (λ f. is_empty_of f.form w)) ≡ true) × (not (passes o (λ f. is_stored_default f w)) ≡ true)
+pub said : (o : Option Field) (w : Value) → kept_value o w ≡ Some w → (not (passes o (λ f. is_empty_value f.form w)) ≡ true) × (not (passes o (λ f. is_stored_default f w)) ≡ true)
 said None w e = (refl, refl)
-said (Some f) w e = go (is_empty_of f.form w) (is_stored_default f w) e
+said (Some f) w e = go (is_empty_value f.form w) (is_stored_default f w) e
   where
     go : (a b : Bool) → cond (a || b) None (Some w) ≡ Some w → (not a ≡ true) × (not b ≡ true)
     go true b e = absurd cc
@@ -193,8 +191,8 @@ from_number n m (Unknown k p es) l h = le-leb n k (omega (arith, l, leb-true m k
 entries_before : (n : ℕ) (fields : List Field) (es : Entries) → comes_before n es ≡ true → entries_ordered es ≡ true → comes_before n (kept_entries fields es) ≡ true
 entries_before n fields NoEntries h o = refl
 entries_before n fields (Stored m v es) h o =
-    let (ab, rest) = and_both (comes_before m es && value_ordered v) (entries_ordered es) o in
-    go (kept_cases (field_of fields m) (kept_inside v)) (entries_before n fields es (from_number n m es (omega (arith, ltb-true n m h)) (and_both (comes_before m es) (value_ordered v) ab).0) rest)
+    let (ab, rest) = and_parts (comes_before m es && value_ordered v) (entries_ordered es) o in
+    go (kept_cases (field_of fields m) (kept_inside v)) (entries_before n fields es (from_number n m es (omega (arith, ltb-true n m h)) (and_parts (comes_before m es) (value_ordered v) ab).0) rest)
   where
     go : {o : Option Value} {w : Value} → (o ≡ None) ⊎ (o ≡ Some w) → comes_before n (kept_entries fields es) ≡ true → comes_before n (then_value m o (kept_entries fields es)) ≡ true
     go (inl e) more = ap (λ o. comes_before n (then_value m o (kept_entries fields es))) e ∙ more
@@ -207,47 +205,47 @@ key_kept k (Pair l v ps) = refl
 
 then_ordered : (n : ℕ) (v : Value) (o : Option Value) (es : Entries) → (o ≡ None) ⊎ (o ≡ Some v) → comes_before n es ≡ true → value_ordered v ≡ true → entries_ordered es ≡ true → entries_ordered (then_value n o es) ≡ true
 then_ordered n v o es (inl e) before here behind = ap (λ o. entries_ordered (then_value n o es)) e ∙ behind
-then_ordered n v o es (inr e) before here behind = ap (λ o. entries_ordered (then_value n o es)) e ∙ both_true (both_true before here) behind
+then_ordered n v o es (inr e) before here behind = ap (λ o. entries_ordered (then_value n o es)) e ∙ and_from _ _ (and_from _ _ before here) behind
 
 mutual
   pub kept_ordered : (c : Content) → ordered c ≡ true → ordered (kept c) ≡ true
-  kept_ordered (ContentOf schema T es) o = entries_in_order (known schema T) es o
+  kept_ordered (ContentOf schema T es) o = entries_kept_ordered (known schema T) es o
 
-  entries_in_order : (fields : List Field) (es : Entries) → entries_ordered es ≡ true → entries_ordered (kept_entries fields es) ≡ true
-  entries_in_order fields NoEntries o = refl
-  entries_in_order fields (Stored n v es) o =
-      let (ab, rest) = and_both (comes_before n es && value_ordered v) (entries_ordered es) o in
-      let (before, here) = and_both (comes_before n es) (value_ordered v) ab in
+  pub entries_kept_ordered : (fields : List Field) (es : Entries) → entries_ordered es ≡ true → entries_ordered (kept_entries fields es) ≡ true
+  entries_kept_ordered fields NoEntries o = refl
+  entries_kept_ordered fields (Stored n v es) o =
+      let (ab, rest) = and_parts (comes_before n es && value_ordered v) (entries_ordered es) o in
+      let (before, here) = and_parts (comes_before n es) (value_ordered v) ab in
       then_ordered n (kept_inside v) (kept_value (field_of fields n) (kept_inside v)) (kept_entries fields es) (kept_cases (field_of fields n) (kept_inside v))
-      (entries_before n fields es before rest) (value_in_order v here) (entries_in_order fields es rest)
-  entries_in_order fields (Unknown n p es) o =
-      let (before, rest) = and_both (comes_before n es) (entries_ordered es) o in
-      both_true (entries_before n fields es before rest) (entries_in_order fields es rest)
+      (entries_before n fields es before rest) (inside_kept_ordered v here) (entries_kept_ordered fields es rest)
+  entries_kept_ordered fields (Unknown n p es) o =
+      let (before, rest) = and_parts (comes_before n es) (entries_ordered es) o in
+      and_from _ _ (entries_before n fields es before rest) (entries_kept_ordered fields es rest)
 
-  pub value_in_order : (v : Value) → value_ordered v ≡ true → value_ordered (kept_inside v) ≡ true
-  value_in_order (ScalarValue v) o = refl
-  value_in_order (MessageValue c) o = kept_ordered c o
-  value_in_order (ListValue vs) o = values_in_order vs o
-  value_in_order (MapValue ps) o = pairs_in_order ps o
+  pub inside_kept_ordered : (v : Value) → value_ordered v ≡ true → value_ordered (kept_inside v) ≡ true
+  inside_kept_ordered (ScalarValue v) o = refl
+  inside_kept_ordered (MessageValue c) o = kept_ordered c o
+  inside_kept_ordered (ListValue vs) o = values_kept_ordered vs o
+  inside_kept_ordered (MapValue ps) o = pairs_kept_ordered ps o
 
-  values_in_order : (vs : Values) → values_ordered vs ≡ true → values_ordered (kept_values vs) ≡ true
-  values_in_order NoValues o = refl
-  values_in_order (Item v vs) o =
-      let (one, more) = and_both (value_ordered v) (values_ordered vs) o in
-      both_true (value_in_order v one) (values_in_order vs more)
+  values_kept_ordered : (vs : Values) → values_ordered vs ≡ true → values_ordered (kept_values vs) ≡ true
+  values_kept_ordered NoValues o = refl
+  values_kept_ordered (Item v vs) o =
+      let (one, more) = and_parts (value_ordered v) (values_ordered vs) o in
+      and_from _ _ (inside_kept_ordered v one) (values_kept_ordered vs more)
 
-  pairs_in_order : (ps : Pairs) → pairs_ordered ps ≡ true → pairs_ordered (kept_pairs ps) ≡ true
-  pairs_in_order NoPairs o = refl
-  pairs_in_order (Pair k v ps) o =
-      let (ab, rest) = and_both (key_before k ps && value_ordered v) (pairs_ordered ps) o in
-      let (before, here) = and_both (key_before k ps) (value_ordered v) ab in
-      both_true (both_true (key_kept k ps ∙ before) (value_in_order v here)) (pairs_in_order ps rest)
+  pairs_kept_ordered : (ps : Pairs) → pairs_ordered ps ≡ true → pairs_ordered (kept_pairs ps) ≡ true
+  pairs_kept_ordered NoPairs o = refl
+  pairs_kept_ordered (Pair k v ps) o =
+      let (ab, rest) = and_parts (key_before k ps && value_ordered v) (pairs_ordered ps) o in
+      let (before, here) = and_parts (key_before k ps) (value_ordered v) ab in
+      and_from _ _ (and_from _ _ (key_kept k ps ∙ before) (inside_kept_ordered v here)) (pairs_kept_ordered ps rest)
 
 -- WHAT SAYS NOTHING IS GONE
 
-said_whole : (o : Option Field) (v : Value) → not (passes o (λ f. is_empty_of f.form v)) ≡ true → not (passes o (λ f. is_stored_default f v)) ≡ true → kept_value o v ≡ Some v
+said_whole : (o : Option Field) (v : Value) → not (passes o (λ f. is_empty_value f.form v)) ≡ true → not (passes o (λ f. is_stored_default f v)) ≡ true → kept_value o v ≡ Some v
 said_whole None v h k = refl
-said_whole (Some f) v h k = go (is_empty_of f.form v) (is_stored_default f v) h k
+said_whole (Some f) v h k = go (is_empty_value f.form v) (is_stored_default f v) h k
   where
     go : (a b : Bool) → not a ≡ true → not b ≡ true → cond (a || b) None (Some v) ≡ Some v
     go true b h k = absurd (true≢false (sym h))
@@ -276,15 +274,15 @@ mutual
   values_same : (vs : Values) → values_pass filled_test vs ≡ true → values_pass default_test vs ≡ true → kept_values vs ≡ vs
   values_same NoValues h k = refl
   values_same (Item v vs) h k =
-      let (a, a') = and_both (value_passes filled_test v) (values_pass filled_test vs) h in
-      let (b, b') = and_both (value_passes default_test v) (values_pass default_test vs) k in
+      let (a, a') = and_parts (value_passes filled_test v) (values_pass filled_test vs) h in
+      let (b, b') = and_parts (value_passes default_test v) (values_pass default_test vs) k in
       ap₂ Item (inside_same v a b) (values_same vs a' b')
 
   pairs_same : (ps : Pairs) → pairs_pass filled_test ps ≡ true → pairs_pass default_test ps ≡ true → kept_pairs ps ≡ ps
   pairs_same NoPairs h k = refl
   pairs_same (Pair x v ps) h k =
-      let (a, a') = and_both (value_passes filled_test v) (pairs_pass filled_test ps) h in
-      let (b, b') = and_both (value_passes default_test v) (pairs_pass default_test ps) k in
+      let (a, a') = and_parts (value_passes filled_test v) (pairs_pass filled_test ps) h in
+      let (b, b') = and_parts (value_passes default_test v) (pairs_pass default_test ps) k in
       ap₂ (Pair x) (inside_same v a b) (pairs_same ps a' b')
 
 -- CONTENTS

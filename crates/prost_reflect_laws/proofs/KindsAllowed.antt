@@ -12,10 +12,10 @@ use Rattle.prost_reflect_wire.specs.Varint.{AreBytes, ◌>>=◌}
 use Rattle.prost_reflect_wire.specs.Record.{Plain, Var, Fix64, Len, Fix32, Payload, Flat, SpellsPlain, wire_code, wire_of, plain_wire, plain_at}
 use Rattle.prost_reflect_wire.specs.Scalar.{ScalarKind, Double, Float, Int64, Uint64, Int32, Fixed64, Fixed32, BoolKind, StringKind, BytesKind, Uint32, Enum, Sfixed32, Sfixed64, Sint32, Sint64, kind_wire}
 use Rattle.prost_reflect_wire.specs.Scalar as scalars
-use Rattle.prost_reflect_wire.specs.Schema.{ValueType, FieldForm, Singular, Repeated, MapFrom}
+use Rattle.prost_reflect_wire.specs.Schema.{ValueType, FieldForm, Singular, Repeated, MapFrom, is_map}
 use Rattle.prost_reflect_wire.specs.Grammar.{AllowsInside, fits, one_allowed, packed_allowed, field_allowed, plains_within}
 use Rattle.prost_reflect_wire.specs.Front.{PlainFront, PlainFault}
-use Rattle.prost_reflect_wire.specs.Fault.{ElementFault, ElementEnds, ElementPasses, BehindElement, same_wire, is_map}
+use Rattle.prost_reflect_wire.specs.Fault.{ElementFault, ElementEnds, ElementPasses, BehindElement, same_wire}
 use Rattle.prost_reflect_wire.proofs.Reading.{wire_known, plain_read, varint_some}
 use Rattle.prost_reflect_laws.proofs.BodyFronts.{plain_bytes}
 use Rattle.prost_reflect_laws.proofs.KindsTaken.{or_first, or_second}

@@ -4,14 +4,15 @@ use Rattle.std.specs.Option.{is_some}
 use Rattle.std.specs.Prelude.{if◌then◌else◌}
 use Rattle.std.specs.List.{list_all}
 use Rattle.std.specs.Str.{is_utf8}
+use Rattle.std.proofs.lemmas.Bool.{and_parts}
+use Rattle.std.proofs.Math.Bool.{or-false}
 use Rattle.prost_reflect_wire.specs.declared.key.WireType.TheVariants as wires
 use Rattle.prost_reflect_wire.specs.Record.{Var, Fix64, Len, Fix32, Records, Payload, Flat, Group, payload_wire}
 use Rattle.prost_reflect_wire.specs.Scalar.{ScalarKind, Double, Float, Int64, Uint64, Int32, Fixed64, Fixed32, BoolKind, StringKind, BytesKind, Uint32, Enum, Sfixed32, Sfixed64, Sint32, Sint64, kind_wire}
 use Rattle.prost_reflect_wire.specs.Scalar as scalars
-use Rattle.prost_reflect_wire.specs.Schema.{Kind, ScalarOf, MessageOf, GroupOf, ValueType, FieldForm, Singular, Repeated, MapFrom, is_packable, passes}
+use Rattle.prost_reflect_wire.specs.Schema.{Kind, ScalarOf, MessageOf, GroupOf, ValueType, FieldForm, Singular, Repeated, MapFrom, is_packable, passes, is_map}
 use Rattle.prost_reflect_wire.specs.Grammar.{AllowsInside, fits, body, is_len, is_group_payload, one_allowed, packed_allowed, has_level, in_entry_allowed, field_allowed, unpacked}
-use Rattle.prost_reflect_wire.specs.Fault.{same_wire, one_takes, packed_takes, takes, is_map}
-use Rattle.prost_reflect_wire.proofs.Deeper.{and_both}
+use Rattle.prost_reflect_wire.specs.Fault.{same_wire, one_takes, packed_takes, takes}
 use Rattle.prost_reflect_wire.proofs.RecordFronts.{plain_no_group}
 
 -- PAYLOADS BY THEIR WIRE TYPES
@@ -61,10 +62,6 @@ pub or_second : (a b : Bool) → b ≡ true → (a || b) ≡ true
 or_second true b e = refl
 or_second false b e = e
 
-or_nothing : (a : Bool) → (a || false) ≡ true → a ≡ true
-or_nothing true e = refl
-or_nothing false e = e
-
 or_other : (a b : Bool) → a ≡ false → (a || b) ≡ true → b ≡ true
 or_other true b e h = absurd (true≢false e)
 or_other false b e h = h
@@ -75,20 +72,20 @@ allowed_one k inner (Repeated packed) value_type p m h = h
 allowed_one k inner (MapFrom key) value_type p m h = absurd (true≢false m)
 
 pub message_allowed : (inner : AllowsInside) (T : ℕ) (p : Payload) → one_or_packed inner (MessageOf T) p ≡ true → (is_len p ≡ true) × (passes (body p) (inner T) ≡ true)
-message_allowed inner T p h = and_both (is_len p) (passes (body p) (inner T)) (or_nothing (is_len p && passes (body p) (inner T)) h)
+message_allowed inner T p h = and_parts (is_len p) (passes (body p) (inner T)) (sym (or-false (is_len p && passes (body p) (inner T))) ∙ h)
 
 pub group_allowed : (inner : AllowsInside) (T : ℕ) (p : Payload) → one_or_packed inner (GroupOf T) p ≡ true → (is_group_payload p ≡ true) × (passes (body p) (inner T) ≡ true)
-group_allowed inner T p h = and_both (is_group_payload p) (passes (body p) (inner T)) (or_nothing (is_group_payload p && passes (body p) (inner T)) h)
+group_allowed inner T p h = and_parts (is_group_payload p) (passes (body p) (inner T)) (sym (or-false (is_group_payload p && passes (body p) (inner T))) ∙ h)
 
 pub map_allowed : (k : ℕ) (inner : AllowsInside) (key value_type : ValueType) (p : Payload) → field_allowed k inner (MapFrom key) value_type p ≡ true →
     (is_len p ≡ true) × (has_level k value_type.kind ≡ true) × (passes (body p) (list_all (in_entry_allowed k inner key value_type)) ≡ true)
 map_allowed k inner key value_type p h =
-    let (both, inside) = and_both (is_len p && has_level k value_type.kind) (passes (body p) (list_all (in_entry_allowed k inner key value_type))) h in
-    let (len, level) = and_both (is_len p) (has_level k value_type.kind) both in
+    let (both, inside) = and_parts (is_len p && has_level k value_type.kind) (passes (body p) (list_all (in_entry_allowed k inner key value_type))) h in
+    let (len, level) = and_parts (is_len p) (has_level k value_type.kind) both in
     (len, level, inside)
 
 pub text_allowed : (inner : AllowsInside) (bytes : List ℕ) → one_or_packed inner (ScalarOf StringKind) (Flat (Len bytes)) ≡ true → is_utf8 bytes ≡ true
-text_allowed inner bytes h = go (is_utf8 bytes) refl (or_nothing (fits StringKind (Flat (Len bytes))) h)
+text_allowed inner bytes h = go (is_utf8 bytes) refl (sym (or-false (fits StringKind (Flat (Len bytes)))) ∙ h)
   where
     go : (b : Bool) → is_utf8 bytes ≡ b → fits StringKind (Flat (Len bytes)) ≡ true → is_utf8 bytes ≡ true
     go true e f = e
@@ -96,7 +93,7 @@ text_allowed inner bytes h = go (is_utf8 bytes) refl (or_nothing (fits StringKin
 
 pub unpacked_allowed : (inner : AllowsInside) (kind : ScalarKind) (bytes : List ℕ) → is_packable kind ≡ true → one_or_packed inner (ScalarOf kind) (Flat (Len bytes)) ≡ true → is_some (unpacked kind bytes) ≡ true
 unpacked_allowed inner kind bytes packable h =
-    (and_both (is_packable kind) (is_some (unpacked kind bytes)) (or_other (fits kind (Flat (Len bytes))) (packed_allowed (ScalarOf kind) (Flat (Len bytes))) (packable_no_len kind bytes packable) h)).1
+    (and_parts (is_packable kind) (is_some (unpacked kind bytes)) (or_other (fits kind (Flat (Len bytes))) (packed_allowed (ScalarOf kind) (Flat (Len bytes))) (packable_no_len kind bytes packable) h)).1
 
 -- WIRE TYPES THAT ARE TAKEN
 
@@ -110,11 +107,11 @@ group_wire p h = absurd (true≢false (sym h))
 
 one_taken : (inner : AllowsInside) (kind : Kind) (p : Payload) → one_allowed inner kind p ≡ true → one_takes kind (payload_wire p) ≡ true
 one_taken inner (ScalarOf kind) p h = fits_wire kind p h
-one_taken inner (MessageOf T) p h = len_wire p (and_both (is_len p) (passes (body p) (inner T)) h).0
-one_taken inner (GroupOf T) p h = group_wire p (and_both (is_group_payload p) (passes (body p) (inner T)) h).0
+one_taken inner (MessageOf T) p h = len_wire p (and_parts (is_len p) (passes (body p) (inner T)) h).0
+one_taken inner (GroupOf T) p h = group_wire p (and_parts (is_group_payload p) (passes (body p) (inner T)) h).0
 
 packed_taken : (kind : Kind) (p : Payload) → packed_allowed kind p ≡ true → packed_takes kind (payload_wire p) ≡ true
-packed_taken (ScalarOf kind) (Flat (Len bytes)) h = ap (λ b. b && true) (and_both (is_packable kind) (is_some (unpacked kind bytes)) h).0
+packed_taken (ScalarOf kind) (Flat (Len bytes)) h = ap (λ b. b && true) (and_parts (is_packable kind) (is_some (unpacked kind bytes)) h).0
 packed_taken kind p h = absurd (true≢false (sym h))
 
 either_taken : (inner : AllowsInside) (kind : Kind) (p : Payload) → one_or_packed inner kind p ≡ true → (one_takes kind (payload_wire p) || packed_takes kind (payload_wire p)) ≡ true

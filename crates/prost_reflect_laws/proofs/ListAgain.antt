@@ -3,6 +3,7 @@ use Rattle.std.proofs.Common.{◌≡◌, ℕ, Bool, true, false, cond, not, ◌&
 use Rattle.std.specs.Bool.{⊤}
 use Rattle.std.specs.Option.{is_some}
 use Rattle.std.specs.List.{list_all}
+use Rattle.std.proofs.lemmas.Bool.{and_parts, and_from, not-true}
 use Rattle.prost_reflect_wire.specs.Record.{Plain, Len, Payload, Flat, payload_valid}
 use Rattle.prost_reflect_wire.specs.Scalar.{Scalar, ScalarKind, elem, scalar_valid}
 use Rattle.prost_reflect_wire.specs.Schema.{Kind, ScalarOf, MessageOf, GroupOf, ValueType, Repeated, Field, is_packable, is_packable_kind}
@@ -12,8 +13,7 @@ use Rattle.prost_reflect_wire.specs.Meaning.{MeansInside, element, scalar_values
 use Rattle.prost_reflect_wire.specs.Writing.{end_to_end, list_payloads, value_payload, element_payloads}
 use Rattle.prost_reflect_wire.specs.Typing.{elements_valid}
 use Rattle.prost_reflect_wire.specs.Reduction.{TypePairs, same_kind}
-use Rattle.prost_reflect_wire.proofs.Deeper.{and_both, both_true, element_allowed}
-use Rattle.prost_reflect_wire.proofs.ListTests.{not_true}
+use Rattle.prost_reflect_wire.proofs.Deeper.{element_allowed}
 use Rattle.prost_reflect_laws.proofs.Packed.{unpacked_back}
 use Rattle.prost_reflect_laws.proofs.Spelt.{SoundPayloads}
 use Rattle.prost_reflect_laws.proofs.Valid.{scalar_sound, end_bytes, packed_sound}
@@ -46,7 +46,7 @@ each_sound a j kA kB (Item v vs) NoValues h = absurd h
 each_reads : (a : AllowsInside) (j : MeansInside) (kA kB : Kind) (vs ws : Values) → EachAgain a j kA kB vs ws → list_all payload_valid (element_payloads kA vs) ≡ true → EachReads a j kA kB vs ws
 each_reads a j kA kB NoValues NoValues h spelt = tt
 each_reads a j kA kB (Item v vs) (Item w ws) (one, more) spelt =
-    let (here, rest) = and_both (payload_valid (value_payload kA v)) (list_all payload_valid (element_payloads kA vs)) spelt in
+    let (here, rest) = and_parts (payload_valid (value_payload kA v)) (list_all payload_valid (element_payloads kA vs)) spelt in
     (one.read here, each_reads a j kA kB vs ws more rest)
 each_reads a j kA kB NoValues (Item w ws) h spelt = h
 each_reads a j kA kB (Item v vs) NoValues h spelt = h
@@ -89,15 +89,15 @@ record Sources (a : AllowsInside) (kB : Kind) (p : Payload) : Type 0 where
 
 source_parts : (a : AllowsInside) (kB : Kind) (p : Payload) → list_source a kB p ≡ true → Sources a kB p
 source_parts a kB p h =
-    let (ok, rest) = and_both (payload_valid p) (element_allowed a kB p && not (is_stray kB p)) h in
-    let (allowed, stays) = and_both (element_allowed a kB p) (not (is_stray kB p)) rest in
-    record { valid = ok; allowed = allowed; stays = not_true (is_stray kB p) stays }
+    let (ok, rest) = and_parts (payload_valid p) (element_allowed a kB p && not (is_stray kB p)) h in
+    let (allowed, stays) = and_parts (element_allowed a kB p) (not (is_stray kB p)) rest in
+    record { valid = ok; allowed = allowed; stays = not-true (is_stray kB p) stays }
 
 elements_again : (pairs : TypePairs) (k : ℕ) (i : MeansInside) (a : AllowsInside) (j : MeansInside) (kA kB : Kind) (ps : List Payload) → Carries pairs k i a j → same_kind pairs kA kB ≡ true → list_all (list_source a kB) ps ≡ true →
     EachAgain a j kA kB (values_from (flat_map (element i kA) ps)) (values_from (flat_map (element j kB) ps))
 elements_again pairs k i a j kA kB [] c h all = tt
 elements_again pairs k i a j (ScalarOf kA) (ScalarOf kB) (p ∷ ps) c h all =
-    let (one, more) = and_both (list_source a (ScalarOf kB) p) (list_all (list_source a (ScalarOf kB)) ps) all in
+    let (one, more) = and_parts (list_source a (ScalarOf kB) p) (list_all (list_source a (ScalarOf kB)) ps) all in
     let s : Sources a (ScalarOf kB) p = source_parts a (ScalarOf kB) p one in
     go s.valid s.stays (elem kA p) refl (elements_again pairs k i a j (ScalarOf kA) (ScalarOf kB) ps c h more)
   where
@@ -113,11 +113,11 @@ elements_again pairs k i a j (ScalarOf kA) (ScalarOf kB) (p ∷ ps) c h all =
     go ok stays (Some v) e more = subst (λ x. EachAgain a j (ScalarOf kA) (ScalarOf kB) (Item (ScalarValue v) (values_from older)) (values_from (scalar_values x ++ newer))) (sym ((alike kA kB h).reads p ∙ e))
         (scalar_again pairs a j kA kB v h (read_scalar_valid pairs kA kB p v h ok stays e), more)
 elements_again pairs k i a j (MessageOf A) (MessageOf B) (p ∷ ps) c h all =
-    let (one, more) = and_both (list_source a (MessageOf B) p) (list_all (list_source a (MessageOf B)) ps) all in
+    let (one, more) = and_parts (list_source a (MessageOf B) p) (list_all (list_source a (MessageOf B)) ps) all in
     let s : Sources a (MessageOf B) p = source_parts a (MessageOf B) p one in
     (message_again pairs k i a j A B (records_in p) c h (inside_spelled p s.valid) (message_inside a (MessageOf B) B p (eq-eqb B B refl) s.allowed), elements_again pairs k i a j (MessageOf A) (MessageOf B) ps c h more)
 elements_again pairs k i a j (GroupOf A) (GroupOf B) (p ∷ ps) c h all =
-    let (one, more) = and_both (list_source a (GroupOf B) p) (list_all (list_source a (GroupOf B)) ps) all in
+    let (one, more) = and_parts (list_source a (GroupOf B) p) (list_all (list_source a (GroupOf B)) ps) all in
     let s : Sources a (GroupOf B) p = source_parts a (GroupOf B) p one in
     (group_again pairs k i a j A B (records_in p) c h (inside_spelled p s.valid) (message_inside a (GroupOf B) B p (eq-eqb B B refl) s.allowed), elements_again pairs k i a j (GroupOf A) (GroupOf B) ps c h more)
 elements_again pairs k i a j _ _ (p ∷ ps) c h all = absurd (true≢false (sym h))
@@ -131,18 +131,18 @@ scalars_same pairs i j kA kB (p ∷ ps) h = ap₂ (λ o l. scalar_values o ++ l)
 scalars_valid : (pairs : TypePairs) (i : MeansInside) (a : AllowsInside) (kA kB : ScalarKind) (ps : List Payload) → same_kind pairs (ScalarOf kA) (ScalarOf kB) ≡ true → list_all (list_source a (ScalarOf kB)) ps ≡ true → elements_valid (ScalarOf kA) (values_from (flat_map (element i (ScalarOf kA)) ps)) ≡ true
 scalars_valid pairs i a kA kB [] h all = refl
 scalars_valid pairs i a kA kB (p ∷ ps) h all =
-    let (one, more) = and_both (list_source a (ScalarOf kB) p) (list_all (list_source a (ScalarOf kB)) ps) all in
+    let (one, more) = and_parts (list_source a (ScalarOf kB) p) (list_all (list_source a (ScalarOf kB)) ps) all in
     let s : Sources a (ScalarOf kB) p = source_parts a (ScalarOf kB) p one in
     go s.valid s.stays (elem kA p) refl (scalars_valid pairs i a kA kB ps h more)
   where
     go : payload_valid p ≡ true → is_stray (ScalarOf kB) p ≡ false → (o : Option Scalar) → elem kA p ≡ o → elements_valid (ScalarOf kA) (values_from (flat_map (element i (ScalarOf kA)) ps)) ≡ true → elements_valid (ScalarOf kA) (values_from (scalar_values o ++ flat_map (element i (ScalarOf kA)) ps)) ≡ true
     go ok stays None e more = more
-    go ok stays (Some v) e more = both_true (read_scalar_valid pairs kA kB p v h ok stays e) more
+    go ok stays (Some v) e more = and_from _ _ (read_scalar_valid pairs kA kB p v h ok stays e) more
 
 scalars_read : (pairs : TypePairs) (a : AllowsInside) (j : MeansInside) (kA kB : ScalarKind) (vs : Values) → same_kind pairs (ScalarOf kA) (ScalarOf kB) ≡ true → elements_valid (ScalarOf kA) vs ≡ true → EachReads a j (ScalarOf kA) (ScalarOf kB) vs vs
 scalars_read pairs a j kA kB NoValues h ok = tt
 scalars_read pairs a j kA kB (Item (ScalarValue v) vs) h ok =
-    let (one, more) = and_both (scalar_valid kA v) (elements_valid (ScalarOf kA) vs) ok in
+    let (one, more) = and_parts (scalar_valid kA v) (elements_valid (ScalarOf kA) vs) ok in
     (scalar_reads pairs a j kA kB v h one, scalars_read pairs a j kA kB vs h more)
 scalars_read pairs a j kA kB (Item (MessageValue c) vs) h ok = absurd (true≢false (sym ok))
 scalars_read pairs a j kA kB (Item (ListValue ws) vs) h ok = absurd (true≢false (sym ok))
@@ -193,7 +193,7 @@ one_by_one a j kA kB vs ws each = record {
 scalars_sound : (kA : ScalarKind) (vs : Values) → elements_valid (ScalarOf kA) vs ≡ true → SoundPayloads (element_payloads (ScalarOf kA) vs)
 scalars_sound kA NoValues ok = tt
 scalars_sound kA (Item (ScalarValue v) vs) ok =
-    let (one, more) = and_both (scalar_valid kA v) (elements_valid (ScalarOf kA) vs) ok in
+    let (one, more) = and_parts (scalar_valid kA v) (elements_valid (ScalarOf kA) vs) ok in
     (scalar_sound (ScalarOf kA) v one, scalars_sound kA vs more)
 scalars_sound kA (Item (MessageValue c) vs) ok = absurd (true≢false (sym ok))
 scalars_sound kA (Item (ListValue ws) vs) ok = absurd (true≢false (sym ok))
@@ -213,7 +213,7 @@ packed_again pairs a j kA kB (Item v vs) h p ok =
         strays = append-nil (filter (is_stray (ScalarOf kB)) (element_payloads_in (ScalarOf kB) (Flat (Len (end_to_end ps))))) ∙ ap (filter (is_stray (ScalarOf kB))) inside ∙ r.none;
         values = append-nil (filter (λ q. not (is_stray (ScalarOf kB) q)) (element_payloads_in (ScalarOf kB) (Flat (Len (end_to_end ps))))) ∙ ap (filter (λ q. not (is_stray (ScalarOf kB) q))) inside ∙ r.kept;
         means = r.means;
-        allowed = both_true (packed_takes pairs a kA kB (Item v vs) h p ok) refl;
+        allowed = and_from _ _ (packed_takes pairs a kA kB (Item v vs) h p ok) refl;
       };
     }
 
@@ -255,7 +255,7 @@ list_again pairs k i a j f x y tB ps c form h p all =
 scalars_each : (pairs : TypePairs) (a : AllowsInside) (j : MeansInside) (kA kB : ScalarKind) (vs : Values) → same_kind pairs (ScalarOf kA) (ScalarOf kB) ≡ true → elements_valid (ScalarOf kA) vs ≡ true → EachAgain a j (ScalarOf kA) (ScalarOf kB) vs vs
 scalars_each pairs a j kA kB NoValues h ok = tt
 scalars_each pairs a j kA kB (Item (ScalarValue v) vs) h ok =
-    let (one, more) = and_both (scalar_valid kA v) (elements_valid (ScalarOf kA) vs) ok in
+    let (one, more) = and_parts (scalar_valid kA v) (elements_valid (ScalarOf kA) vs) ok in
     (scalar_again pairs a j kA kB v h one, scalars_each pairs a j kA kB vs h more)
 scalars_each pairs a j kA kB (Item (MessageValue c) vs) h ok = absurd (true≢false (sym ok))
 scalars_each pairs a j kA kB (Item (ListValue ws) vs) h ok = absurd (true≢false (sym ok))

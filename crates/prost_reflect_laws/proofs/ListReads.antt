@@ -1,21 +1,20 @@
 -- A record of a list, read into a content that holds.
 use Rattle.std.proofs.Common.{◌≡◌, ℕ, Bool, true, false, cond, not, ◌||◌, List, [], ◌∷◌, ◌++◌, filter, flat_map, nat_eq, Option, Some, None, refl, ap, ap₂, sym, ◌∙◌, subst, append-nil, true≢false, arith}
 use Rattle.std.specs.List.{list_all}
-use Rattle.std.proofs.lemmas.Bool.{eqb-true}
+use Rattle.std.proofs.lemmas.Bool.{eqb-true, and_parts, and_from}
 use Rattle.prost_reflect_wire.specs.declared.key.WireType.{WireType}
 use Rattle.prost_reflect_wire.specs.Varint.{AreBytes}
 use Rattle.prost_reflect_wire.specs.Record.{Payload, Flat, payload_valid, record_at}
 use Rattle.prost_reflect_wire.specs.Front.{ValueFront}
 use Rattle.prost_reflect_wire.specs.Scalar.{Scalar, ScalarKind, elem, is_undeclared, scalar_valid}
-use Rattle.prost_reflect_wire.specs.Schema.{Kind, ScalarOf, Repeated, Field, Schema, known, field_of, is_sibling, is_singular, numbers_differ, passes}
+use Rattle.prost_reflect_wire.specs.Schema.{Kind, ScalarOf, Repeated, Field, Schema, known, field_of, is_sibling, is_singular, numbers_differ, passes, is_list}
 use Rattle.prost_reflect_wire.specs.Content.{Content, ContentOf, Entries, Value, ScalarValue, MessageValue, ListValue, MapValue, Values, NoValues, Item, values_from, ◌and_then◌, Slot, schema_of, type_of, entries_of, value_at, unknowns_at, slot_at, changed, entries_ordered, values_ordered}
 use Rattle.prost_reflect_wire.specs.Grammar.{field_allowed, one_allowed, packed_allowed, element_payloads_in, is_stray, value_payloads, stray_payloads}
 use Rattle.prost_reflect_wire.specs.Meaning.{element, scalar_values, values_in}
-use Rattle.prost_reflect_wire.specs.Typing.{fit_test, alone_test, EntryTest, element_valid, elements_valid, value_valid, is_repeated, pairs_valid, value_passes, values_pass, entries_pass, kind_for, ValuesTyped, kept_values, ValueStored, WellStored}
+use Rattle.prost_reflect_wire.specs.Typing.{fit_test, alone_test, EntryTest, element_valid, elements_valid, value_valid, pairs_valid, value_passes, values_pass, entries_pass, kind_for, ValuesTyped, kept_values, ValueStored, WellStored}
 use Rattle.prost_reflect_wire.specs.Edit.{with_value}
 use Rattle.prost_reflect_wire.specs.Storing.{with_stored, joined_slot}
 use Rattle.prost_reflect_wire.specs.Decoding.{RecordRead, Step, ElementsRead, ElementsJoined, list_takes}
-use Rattle.prost_reflect_wire.proofs.Deeper.{and_both, both_true}
 use Rattle.prost_reflect_wire.proofs.Survivors.{field_number}
 use Rattle.prost_reflect_wire.proofs.Numbers.{empty_slot, eqb-sym}
 use Rattle.prost_reflect_laws.proofs.Allowed.{inside}
@@ -65,7 +64,7 @@ pub record Scalars (vs : Values) : Type 0 where
 pub scalars_only : (kind : ScalarKind) (vs : Values) → elements_valid (ScalarOf kind) vs ≡ true → Scalars vs
 scalars_only kind NoValues h = record { passes = λ test. refl; typed = λ schema kind. tt; order = refl; kept = refl }
 scalars_only kind (Item (ScalarValue v) vs) h =
-    let more : Scalars vs = scalars_only kind vs (and_both (scalar_valid kind v) (elements_valid (ScalarOf kind) vs) h).1 in
+    let more : Scalars vs = scalars_only kind vs (and_parts (scalar_valid kind v) (elements_valid (ScalarOf kind) vs) h).1 in
     record { passes = more.passes; typed = λ schema kind. (tt, more.typed schema kind); order = more.order; kept = ap (Item (ScalarValue v)) more.kept }
 scalars_only kind (Item (MessageValue c) vs) h = absurd (true≢false (sym h))
 scalars_only kind (Item (ListValue ws) vs) h = absurd (true≢false (sym h))
@@ -75,7 +74,7 @@ pub list_stored : (schema : Schema) (f : Field) (packed : Bool) (kind : ScalarKi
 list_stored schema f packed kind vs form is h =
     let s : Scalars vs = scalars_only kind vs h in
     record {
-      valid = both_true (ap is_repeated form) (ap (λ kind. elements_valid kind vs) is ∙ h);
+      valid = and_from _ _ (ap is_list form) (ap (λ kind. elements_valid kind vs) is ∙ h);
       fits = s.passes fit_test;
       types = s.typed schema (kind_for (Some f) (ListValue vs));
       order = s.order;
@@ -84,7 +83,7 @@ list_stored schema f packed kind vs form is h =
 
 pub elements_joined : (kind : Kind) (vs ws : Values) → elements_valid kind vs ≡ true → elements_valid kind ws ≡ true → elements_valid kind (vs and_then ws) ≡ true
 elements_joined kind NoValues ws h g = g
-elements_joined kind (Item v vs) ws h g = let (one, more) = and_both (element_valid kind v) (elements_valid kind vs) h in both_true one (elements_joined kind vs ws more g)
+elements_joined kind (Item v vs) ws h g = let (one, more) = and_parts (element_valid kind v) (elements_valid kind vs) h in and_from _ _ one (elements_joined kind vs ws more g)
 
 -- what is stored of a list
 pub record StoredList (kind : Kind) (o : Option Value) : Type 0 where
@@ -92,9 +91,9 @@ pub record StoredList (kind : Kind) (o : Option Value) : Type 0 where
   pub valid : elements_valid kind (values_in o) ≡ true
 
 pub valid_list : (f : Field) (packed : Bool) (v : Value) → f.form ≡ Repeated packed → value_valid f v ≡ true → StoredList f.value_type.kind (Some v)
-valid_list f packed (ScalarValue v) form h = absurd (true≢false (sym (and_both _ _ h).0 ∙ ap is_singular form))
-valid_list f packed (MessageValue c) form h = absurd (true≢false (sym (and_both _ _ h).0 ∙ ap is_singular form))
-valid_list f packed (ListValue vs) form h = record { listed = tt; valid = (and_both _ _ h).1 }
+valid_list f packed (ScalarValue v) form h = absurd (true≢false (sym (and_parts _ _ h).0 ∙ ap is_singular form))
+valid_list f packed (MessageValue c) form h = absurd (true≢false (sym (and_parts _ _ h).0 ∙ ap is_singular form))
+valid_list f packed (ListValue vs) form h = record { listed = tt; valid = (and_parts _ _ h).1 }
 valid_list f packed (MapValue ps) form h = absurd (true≢false (sym h ∙ ap (λ form. pairs_valid form f.value_type.kind ps) form))
 
 pub stored_list : (fields : List Field) (es : Entries) (f : Field) (packed : Bool) → entries_pass fit_test fields es ≡ true → field_of fields f.number ≡ Some f → f.form ≡ Repeated packed → StoredList f.value_type.kind (value_at f.number es)
@@ -108,7 +107,7 @@ stored_list fields es f packed fits found form = go (value_at f.number es) at.va
 
     go : (o : Option Value) → OptionPasses fit_test fields own f.number o → StoredList f.value_type.kind o
     go None h = record { listed = tt; valid = refl }
-    go (Some v) h = valid_list f packed v form (ap (λ o. passes o (λ f. value_valid f v)) (sym found) ∙ (and_both (own f.number v) (value_passes fit_test v) h).0)
+    go (Some v) h = valid_list f packed v form (ap (λ o. passes o (λ f. value_valid f v)) (sym found) ∙ (and_parts (own f.number v) (value_passes fit_test v) h).0)
 
 -- LISTS OF SCALARS
 
@@ -126,12 +125,12 @@ none_left kind (p ∷ ps) whole = ap₂ (λ b l. cond b (p ∷ l) l) (whole.decl
 
 all_valid : (kind : ScalarKind) (ps : List Payload) → IsOpen kind → list_all payload_valid ps ≡ true → elements_valid (ScalarOf kind) (values_from (flat_map (λ q. scalar_values (elem kind q)) ps)) ≡ true
 all_valid kind [] whole h = refl
-all_valid kind (p ∷ ps) whole h = let (one, more) = and_both (payload_valid p) (list_all payload_valid ps) h in go (elem kind p) refl one (all_valid kind ps whole more)
+all_valid kind (p ∷ ps) whole h = let (one, more) = and_parts (payload_valid p) (list_all payload_valid ps) h in go (elem kind p) refl one (all_valid kind ps whole more)
   where
     go : (o : Option Scalar) → elem kind p ≡ o → payload_valid p ≡ true → elements_valid (ScalarOf kind) (values_from (flat_map (λ q. scalar_values (elem kind q)) ps)) ≡ true →
         elements_valid (ScalarOf kind) (values_from (scalar_values o ++ flat_map (λ q. scalar_values (elem kind q)) ps)) ≡ true
     go None e one more = more
-    go (Some v) e one more = both_true (read_valid kind p v one (whole.declared p) e) more
+    go (Some v) e one more = and_from _ _ (read_valid kind p v one (whole.declared p) e) more
 
 -- the elements that are read are values of the kind
 pub elements_read_valid : (kind : ScalarKind) (w : WireType) (vs : List Value) (bytes rest : List ℕ) → ElementsRead kind w vs bytes rest → IsOpen kind → AreBytes bytes → elements_valid (ScalarOf kind) (values_from vs) ≡ true

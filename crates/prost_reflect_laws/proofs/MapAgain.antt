@@ -2,6 +2,7 @@
 use Rattle.std.proofs.Common.{◌≡◌, ℕ, Bool, true, false, cond, not, ◌&&◌, List, [], ◌∷◌, ◌++◌, flat_map, Some, refl, ap, ap₂, sym, subst, ◌∙◌, true≢false}
 use Rattle.std.specs.Bool.{⊤}
 use Rattle.std.specs.List.{list_all}
+use Rattle.std.proofs.lemmas.Bool.{and_parts, and_from}
 use Rattle.prost_reflect_wire.specs.Record.{Payload, payload_valid}
 use Rattle.prost_reflect_wire.specs.Scalar.{Scalar, ScalarKind, scalar_lt, scalar_eq}
 use Rattle.prost_reflect_wire.specs.Schema.{ScalarOf, ValueType, MapFrom, Field, is_key_kind, has_kind_default, default_valid}
@@ -11,9 +12,8 @@ use Rattle.prost_reflect_wire.specs.Meaning.{MeansInside, entry_key, entry_value
 use Rattle.prost_reflect_wire.specs.Writing.{pair_payload, pair_payloads, key_of}
 use Rattle.prost_reflect_wire.specs.Typing.{kind_takes, element_valid, pairs_valid}
 use Rattle.prost_reflect_wire.specs.Reduction.{TypePairs, same_kind}
-use Rattle.prost_reflect_wire.proofs.Deeper.{and_both, both_true}
+use Rattle.prost_reflect_wire.specs.Deciding.{scalar_decides}
 use Rattle.prost_reflect_laws.proofs.Spelt.{SoundPayloads}
-use Rattle.prost_reflect_laws.proofs.Order.{scalars_equal}
 use Rattle.prost_reflect_laws.proofs.Alike.{SameType, default_alike}
 use Rattle.prost_reflect_laws.proofs.ByNumber.{stored_payloads}
 use Rattle.prost_reflect_laws.proofs.Again.{Carries, scalar_again, FieldAgain}
@@ -54,7 +54,7 @@ entries_again : (pairs : TypePairs) (k : ℕ) (i : MeansInside) (a : AllowsInsid
     PairsAgain k a j keyA tA keyB tB ps rs → PairsAgain k a j keyA tA keyB tB (put_entries i keyA tA qs ps) (put_entries j keyB tB qs rs)
 entries_again pairs k i a j keyA tA keyB tB [] ps rs c t all h = h
 entries_again pairs k i a j keyA tA keyB tB (q ∷ qs) ps rs c t all h =
-    let (one, more) = and_both (map_source k a keyB tB q) (list_all (map_source k a keyB tB) qs) all in
+    let (one, more) = and_parts (map_source k a keyB tB q) (list_all (map_source k a keyB tB) qs) all in
     let e : Entry k a keyB tB (records_in q) = entry_of k a keyB tB q one in
     let v : Value = entry_value i tA tA.kind (records_in q) in
     let w : Value = entry_value j tB tB.kind (records_in q) in
@@ -88,14 +88,14 @@ pairs_read k a j keyA tA keyB tB NoPairs (Pair y w qs) h spelt = absurd h
 pairs_read k a j keyA tA keyB tB (Pair x v ps) NoPairs h spelt = absurd h
 pairs_read k a j keyA tA keyB tB (Pair x v ps) (Pair y w qs) (e, one, more) spelt =
     let p : Payload = pair_payload keyA tA x v in
-    let (here, behind) = and_both (payload_valid (pair_payload keyA tA x v)) (list_all payload_valid (pair_payloads keyA tA ps)) spelt in
+    let (here, behind) = and_parts (payload_valid (pair_payload keyA tA x v)) (list_all payload_valid (pair_payloads keyA tA ps)) spelt in
     let r : PairReads k a j keyB tB (pair_payload keyA tA x v) x w = one.read here in
     let rest : PairsRead k a j keyB tB (pair_payloads keyA tA ps) qs = pairs_read k a j keyA tA keyB tB ps qs more behind in
     record {
       strays = ap₂ ◌++◌ (ap (λ b. cond b (p ∷ []) []) r.stays) rest.strays;
       values = ap₂ ◌++◌ (ap (λ b. cond (not b) (p ∷ []) []) r.stays) rest.values;
       puts = λ front. ap (put_entries j keyB tB (pair_payloads keyA tA ps)) (ap₂ (λ l u. put l u front) (r.key_read ∙ sym e) r.value_read) ∙ rest.puts (put y w front);
-      allowed = both_true r.allowed rest.allowed;
+      allowed = and_from _ _ r.allowed rest.allowed;
     }
 
 map_stored : (f : Field) (key : ValueType) (ps : Pairs) → f.form ≡ MapFrom key → stored_payloads (Some f) (present_map ps) ≡ pair_payloads key f.value_type ps
@@ -124,14 +124,14 @@ scalars_each : (pairs : TypePairs) (k : ℕ) (a : AllowsInside) (j : MeansInside
     pairs_valid (MapFrom keyA) (ScalarOf kA) ps ≡ true → PairsAgain k a j keyA tA keyB tB ps ps
 scalars_each pairs k a j keyA tA keyB tB kA kB NoPairs t eA eB h ok = tt
 scalars_each pairs k a j keyA tA keyB tB kA kB (Pair x v ps) t eA eB h ok =
-    let (here, behind) = and_both (kind_takes keyA.kind x && element_valid (ScalarOf kA) v) (pairs_valid (MapFrom keyA) (ScalarOf kA) ps) ok in
-    let (takes, fits) = and_both (kind_takes keyA.kind x) (element_valid (ScalarOf kA) v) here in
+    let (here, behind) = and_parts (kind_takes keyA.kind x && element_valid (ScalarOf kA) v) (pairs_valid (MapFrom keyA) (ScalarOf kA) ps) ok in
+    let (takes, fits) = and_parts (kind_takes keyA.kind x) (element_valid (ScalarOf kA) v) here in
     (refl, pair_again pairs k a j keyA tA keyB tB x v v t.key t.keyed t.key_default takes (ap (has_level k) eB) (go v fits), scalars_each pairs k a j keyA tA keyB tB kA kB ps t eA eB h behind)
   where
     go : (v : Value) → element_valid (ScalarOf kA) v ≡ true → ValueAgain a j tA tB tA.kind tB.kind v v
     go (ScalarValue s) fits =
         subst (λ kd. ValueAgain a j tA tB kd tB.kind (ScalarValue s) (ScalarValue s)) (sym eA) (subst (λ kd. ValueAgain a j tA tB (ScalarOf kA) kd (ScalarValue s) (ScalarValue s)) (sym eB)
-        (record { again = scalar_again pairs a j kA kB s h fits; absent = λ d. ap ScalarValue (default_alike pairs tA tB kA eA t.value ∙ sym (scalars_equal s tA.default (and_both (not tA.presence) (scalar_eq s tA.default) d).1)) }))
+        (record { again = scalar_again pairs a j kA kB s h fits; absent = λ d. ap ScalarValue (default_alike pairs tA tB kA eA t.value ∙ sym ((scalar_decides s tA.default).0 (and_parts (not tA.presence) (scalar_eq s tA.default) d).1)) }))
     go (MessageValue c) fits = absurd (true≢false (sym fits))
     go (ListValue vs) fits = absurd (true≢false (sym fits))
     go (MapValue qs) fits = absurd (true≢false (sym fits))

@@ -1,6 +1,7 @@
 -- An entry of a map, read into a content that holds: its key and its value are put among the pairs that are there.
 use Rattle.std.proofs.Common.{◌≡◌, ◌≢◌, ℕ, Bool, true, false, cond, not, ◌&&◌, List, [], ◌∷◌, Option, Some, None, refl, ap, ap₂, sym, ◌∙◌, subst, append-nil, inl, inr, arith, true≢false}
 use Rattle.std.specs.List.{list_all}
+use Rattle.std.proofs.lemmas.Bool.{and_parts, and_from}
 use Rattle.prost_reflect_wire.specs.declared.key.WireType.{WireType}
 use Rattle.prost_reflect_wire.specs.declared.key.WireType.TheVariants as wires
 use Rattle.prost_reflect_wire.specs.declared.error.DecodeError.{DecodeError}
@@ -9,16 +10,15 @@ use Rattle.prost_reflect_wire.specs.Varint.{◌>>=◌}
 use Rattle.prost_reflect_wire.specs.Record.{Len, Records, Payload, Flat, items, body_of, Spells}
 use Rattle.prost_reflect_wire.specs.Front.{DelimitedFront, RecordsFront, PlainFault}
 use Rattle.prost_reflect_wire.specs.Scalar.{Scalar, scalar_lt, scalar_eq}
-use Rattle.prost_reflect_wire.specs.Schema.{Kind, ValueType, MapFrom, Field, Schema, known, field_of, is_singular, numbers_differ, passes}
+use Rattle.prost_reflect_wire.specs.Schema.{Kind, ValueType, MapFrom, Field, Schema, known, field_of, is_singular, numbers_differ, passes, is_list}
 use Rattle.prost_reflect_wire.specs.Content.{Content, ContentOf, Entries, Value, ScalarValue, MessageValue, ListValue, MapValue, Pairs, NoPairs, Pair, value_at, slot_at, changed, schema_of, type_of, entries_of, value_ordered, pairs_ordered}
 use Rattle.prost_reflect_wire.specs.Grammar.{AllowsInside, body, or_none, is_stray_entry, value_payloads, stray_payloads, has_level, in_entry_allowed, field_allowed}
 use Rattle.prost_reflect_wire.specs.Meaning.{MeansInside, entry_key, entry_value, put, present_map, pairs_in, value_joined}
-use Rattle.prost_reflect_wire.specs.Typing.{fit_test, alone_test, kind_takes, element_valid, pairs_valid, is_repeated, value_valid, value_passes, pairs_pass, kind_for, ValueTyped, PairsTyped, kept_inside, kept_pairs, WellStored, ValueStored}
+use Rattle.prost_reflect_wire.specs.Typing.{fit_test, alone_test, kind_takes, element_valid, pairs_valid, value_valid, value_passes, pairs_pass, kind_for, ValueTyped, PairsTyped, kept_inside, kept_pairs, WellStored, ValueStored}
 use Rattle.prost_reflect_wire.specs.Storing.{with_stored}
 use Rattle.prost_reflect_wire.specs.Decoding.{Step, StandsBehindKey}
 use Rattle.prost_reflect_wire.specs.Fault.{OfType, Stands, Here, InEntry, takes, same_wire}
 use Rattle.prost_reflect_wire.specs.EntryReading.{IsMapped, EntryTo, EntryPlace, BodyFault}
-use Rattle.prost_reflect_wire.proofs.ListTests.{and_both, both_true}
 use Rattle.prost_reflect_wire.proofs.Reading.{spelled_read}
 use Rattle.prost_reflect_wire.proofs.Bodies.{items_body}
 use Rattle.prost_reflect_laws.proofs.Allowed.{inside}
@@ -69,18 +69,18 @@ module _ (schema : Schema) (key : ValueType) (kind : Kind) where
   no_pairs_stored = record { valid = refl; fits = refl; types = tt; members = refl }
 
   first_stored : (k : Scalar) (v : Value) (ps : Pairs) → PairStored schema key kind k v → PairsStored schema key kind ps → PairsStored schema key kind (Pair k v ps)
-  first_stored k v ps p s = record { valid = both_true (both_true p.key_taken p.valid) s.valid; fits = both_true p.fits s.fits; types = (p.types, s.types); members = both_true p.members s.members }
+  first_stored k v ps p s = record { valid = and_from _ _ (and_from _ _ p.key_taken p.valid) s.valid; fits = and_from _ _ p.fits s.fits; types = (p.types, s.types); members = and_from _ _ p.members s.members }
 
   put_stored : (k : Scalar) (v : Value) (ps : Pairs) → PairStored schema key kind k v → PairsStored schema key kind ps → PairsStored schema key kind (put k v ps)
   put_stored k v NoPairs p s = first_stored k v NoPairs p s
   put_stored k v (Pair l w ps) p s =
-      let (own, valid) = and_both (kind_takes key.kind l && element_valid kind w) (pairs_valid (MapFrom key) kind ps) s.valid in
-      let (fit, fits) = and_both (value_passes fit_test w) (pairs_pass fit_test ps) s.fits in
-      let (member, members) = and_both (value_passes alone_test w) (pairs_pass alone_test ps) s.members in
+      let (own, valid) = and_parts (kind_takes key.kind l && element_valid kind w) (pairs_valid (MapFrom key) kind ps) s.valid in
+      let (fit, fits) = and_parts (value_passes fit_test w) (pairs_pass fit_test ps) s.fits in
+      let (member, members) = and_parts (value_passes alone_test w) (pairs_pass alone_test ps) s.members in
       let rest : PairsStored schema key kind ps = record { valid = valid; fits = fits; types = s.types.1; members = members } in
       let more : PairsStored schema key kind (put k v ps) = put_stored k v ps p rest in
       go (scalar_lt k l) (scalar_eq k l) rest
-      (record { valid = both_true own more.valid; fits = both_true fit more.fits; types = (s.types.0, more.types); members = both_true member more.members })
+      (record { valid = and_from _ _ own more.valid; fits = and_from _ _ fit more.fits; types = (s.types.0, more.types); members = and_from _ _ member more.members })
     where
       go : (a b : Bool) → PairsStored schema key kind ps → PairsStored schema key kind (Pair l w (put k v ps)) → PairsStored schema key kind (cond a (Pair k v (Pair l w ps)) (cond b (Pair k v ps) (Pair l w (put k v ps))))
       go true b rest more = first_stored k v (Pair l w ps) p s
@@ -104,9 +104,9 @@ kept_mapped f key (Some (ListValue vs)) form m = absurd m
 
 module _ (schema : Schema) (f : Field) (key : ValueType) (form : f.form ≡ MapFrom key) where
   valid_map : (v : Value) → value_valid f v ≡ true → value_passes fit_test v ≡ true → ValueTyped schema (kind_for (Some f) v) v → value_ordered v ≡ true → value_passes alone_test v ≡ true → StoredMap schema key f.value_type.kind (Some v)
-  valid_map (ScalarValue v) h fits types o members = absurd (true≢false (sym (and_both _ _ h).0 ∙ ap is_singular form))
-  valid_map (MessageValue c) h fits types o members = absurd (true≢false (sym (and_both _ _ h).0 ∙ ap is_singular form))
-  valid_map (ListValue vs) h fits types o members = absurd (true≢false (sym (and_both _ _ h).0 ∙ ap is_repeated form))
+  valid_map (ScalarValue v) h fits types o members = absurd (true≢false (sym (and_parts _ _ h).0 ∙ ap is_singular form))
+  valid_map (MessageValue c) h fits types o members = absurd (true≢false (sym (and_parts _ _ h).0 ∙ ap is_singular form))
+  valid_map (ListValue vs) h fits types o members = absurd (true≢false (sym (and_parts _ _ h).0 ∙ ap is_list form))
   valid_map (MapValue ps) h fits types o members = record {
     mapped = tt;
     pairs = record { valid = ap (λ form. pairs_valid form f.value_type.kind ps) (sym form) ∙ h; fits = fits; types = types; members = members };
@@ -130,7 +130,7 @@ module _ (schema : Schema) (T : ℕ) (es : Entries) (sound : WellStored (Content
       go : (o : Option Value) → value_at n es ≡ o → StoredMap schema key f.value_type.kind o
       go None e = record { mapped = tt; pairs = no_pairs_stored schema key f.value_type.kind; order = refl }
       go (Some w) e =
-          let fits = and_both (own n w) (value_passes fit_test w) (subst (OptionPasses fit_test (known schema T) own n) e fitting.value) in
+          let fits = and_parts (own n w) (value_passes fit_test w) (subst (OptionPasses fit_test (known schema T) own n) e fitting.value) in
           let types : ValueTyped schema (kind_for (field_of (known schema T) n) w) w = subst (OptionTyped schema (known schema T) n) e (typed_values schema (known schema T) es n sound.types) in
           valid_map schema f key form w (ap (λ o. passes o (λ f. value_valid f w)) (sym found) ∙ fits.0) fits.1
           (subst (λ o. ValueTyped schema (kind_for o w) w) found types)
@@ -164,7 +164,7 @@ module _ (schema : Schema) (T : ℕ) (es : Entries) (sound : WellStored (Content
         read = ap (λ form. value_payloads form f.value_type p) form ∙ ap (λ b. cond (not b) (p ∷ []) []) stays;
         stays = ap (λ form. stray_payloads form f.value_type p) form ∙ ap (λ b. cond b (p ∷ []) []) stays;
       })
-      (ap (λ form. field_allowed k (inside schema k) form f.value_type p) form ∙ both_true level (ap (λ o. passes o (list_all (in_entry_allowed k (inside schema k) key f.value_type))) records ∙ done.allowed))
+      (ap (λ form. field_allowed k (inside schema k) form f.value_type p) form ∙ and_from _ _ level (ap (λ o. passes o (list_all (in_entry_allowed k (inside schema k) key f.value_type))) records ∙ done.allowed))
       (ap (λ form. value_joined (below schema k) (further k) form f.value_type (kept_old f (value_at f.number es)) p) form
       ∙ ap₂ (λ rs qs. present_map (put (entry_key key rs) (entry_value (below schema k) f.value_type f.value_type.kind rs) qs)) (ap or_none records) (kept_mapped f key (value_at f.number es) form old_map.mapped)
       ∙ ap₂ (λ x v. present_map (put x v (kept_pairs (pairs_in (value_at f.number es))))) done.key_is done.value_is

@@ -1,5 +1,6 @@
 -- What is written of a map, and of one of scalars.
 use Rattle.std.proofs.Common.{◌≡◌, ℕ, Bool, true, false, cond, not, ◌&&◌, List, [], ◌∷◌, ◌++◌, map, Some, refl, ap, ap₂, sym, ◌∙◌, append_assoc, append-nil, true≢false}
+use Rattle.std.proofs.lemmas.Bool.{and_parts}
 use Rattle.prost_reflect_wire.specs.declared.key.WireType.TheVariants as wires
 use Rattle.prost_reflect_wire.specs.Record.{Len, Payload, Record, record_at, short_key, short_plain, spelled}
 use Rattle.prost_reflect_wire.specs.Scalar.{Scalar, ScalarKind, kind_wire, scalar_eq, scalar_valid, written}
@@ -9,7 +10,6 @@ use Rattle.prost_reflect_wire.specs.Meaning.{present_map}
 use Rattle.prost_reflect_wire.specs.Writing.{key_of, scalar_payload, entry_record, entry_payload, field_payloads, pair_payloads}
 use Rattle.prost_reflect_wire.specs.Typing.{pairs_valid, kept_value, kept_pairs}
 use Rattle.prost_reflect_wire.specs.Storing.{kept_records, value_bytes}
-use Rattle.prost_reflect_wire.proofs.ListTests.{and_both}
 use Rattle.prost_reflect_laws.proofs.ValueCarried.{kept_map}
 use Rattle.prost_reflect_laws.proofs.WrittenEntries.{spelled_append, written_wire}
 
@@ -43,10 +43,10 @@ pair_written n key value_type key_kind kind k v ps key_is is key_fits fits =
 -- maps of scalars are kept as they are
 pub scalars_kept : (key : ValueType) (kind : ScalarKind) (ps : Pairs) → pairs_valid (MapFrom key) (ScalarOf kind) ps ≡ true → kept_pairs ps ≡ ps
 scalars_kept key kind NoPairs h = refl
-scalars_kept key kind (Pair k (ScalarValue v) ps) h = ap (Pair k (ScalarValue v)) (scalars_kept key kind ps (and_both _ (pairs_valid (MapFrom key) (ScalarOf kind) ps) h).1)
-scalars_kept key kind (Pair k (MessageValue c) ps) h = absurd (true≢false (sym (and_both _ _ (and_both _ (pairs_valid (MapFrom key) (ScalarOf kind) ps) h).0).1))
-scalars_kept key kind (Pair k (ListValue vs) ps) h = absurd (true≢false (sym (and_both _ _ (and_both _ (pairs_valid (MapFrom key) (ScalarOf kind) ps) h).0).1))
-scalars_kept key kind (Pair k (MapValue qs) ps) h = absurd (true≢false (sym (and_both _ _ (and_both _ (pairs_valid (MapFrom key) (ScalarOf kind) ps) h).0).1))
+scalars_kept key kind (Pair k (ScalarValue v) ps) h = ap (Pair k (ScalarValue v)) (scalars_kept key kind ps (and_parts _ (pairs_valid (MapFrom key) (ScalarOf kind) ps) h).1)
+scalars_kept key kind (Pair k (MessageValue c) ps) h = absurd (true≢false (sym (and_parts _ _ (and_parts _ (pairs_valid (MapFrom key) (ScalarOf kind) ps) h).0).1))
+scalars_kept key kind (Pair k (ListValue vs) ps) h = absurd (true≢false (sym (and_parts _ _ (and_parts _ (pairs_valid (MapFrom key) (ScalarOf kind) ps) h).0).1))
+scalars_kept key kind (Pair k (MapValue qs) ps) h = absurd (true≢false (sym (and_parts _ _ (and_parts _ (pairs_valid (MapFrom key) (ScalarOf kind) ps) h).0).1))
 
 -- what is written of a map is what is written of the pairs that are kept
 pub map_kept_written : (fields : List Field) (n : ℕ) (f : Field) (key : ValueType) (ps : Pairs) → field_of fields n ≡ Some f → f.form ≡ MapFrom key →

@@ -1,6 +1,6 @@
 -- The records of a map in ascending keys are read as it.
 use Rattle.std.proofs.Common.{◌≡◌, ℕ, Bool, true, false, cond, not, List, [], ◌∷◌, ◌++◌, map, flat_map, Option, Some, None, refl, ap, ap₂, sym, ◌∙◌, true≢false, append-nil}
-use Rattle.std.proofs.lemmas.Bool.{eqb-true}
+use Rattle.std.proofs.lemmas.Bool.{eqb-true, and_parts}
 use Rattle.std.specs.Bool.{⊤}
 use Rattle.prost_reflect_wire.specs.Record.{Payload, Flat, Record, body_of, valid}
 use Rattle.prost_reflect_wire.specs.Scalar.{Scalar, elem, written, scalar_eq, kind_default}
@@ -10,10 +10,9 @@ use Rattle.prost_reflect_wire.specs.Grammar.{numbered, last, records_in, is_stra
 use Rattle.prost_reflect_wire.specs.Meaning.{MeansInside, joined, element, scalar_values, last_or, put, entry_key, entry_value, put_entries, present_map, field_value}
 use Rattle.prost_reflect_wire.specs.Writing.{record_at, scalar_payload, is_default_of, entry_record, value_payload, pair_payload, pair_payloads, key_of, records, field_payloads}
 use Rattle.prost_reflect_wire.specs.Typing.{kind_takes, is_of_type}
+use Rattle.prost_reflect_wire.specs.Deciding.{scalar_decides}
 use Rattle.prost_reflect_laws.specs.Laws.{block, ValueBack, ElementBack, PairBack, PairsBack}
 use Rattle.prost_reflect_laws.proofs.Table.{read_back}
-use Rattle.prost_reflect_wire.proofs.Deeper.{and_both}
-use Rattle.prost_reflect_laws.proofs.Order.{scalars_equal}
 use Rattle.prost_reflect_laws.proofs.Values.{records_back, payload_back, value_records_known, unknown_known}
 use Rattle.prost_reflect_laws.proofs.Putting.{put_all, put_all_rising, pairs_rising}
 
@@ -56,7 +55,7 @@ map_back inner fields n f key k v ps found c back order = record {
 -- AN ENTRY
 
 default_same : (value_type : ValueType) (v : Scalar) → is_default_of value_type (ScalarValue v) ≡ true → v ≡ value_type.default
-default_same value_type v h = scalars_equal v value_type.default (and_both (not value_type.presence) (scalar_eq v value_type.default) h).1
+default_same value_type v h = (scalar_decides v value_type.default).0 (and_parts (not value_type.presence) (scalar_eq v value_type.default) h).1
 
 pub first_of : (a b : Bool) (p q : Payload) → numbered 1 (cond a [] (record_at 1 p ∷ []) ++ cond b [] (record_at 2 q ∷ [])) ≡ cond a [] (p ∷ [])
 first_of true true p q = refl
@@ -80,7 +79,7 @@ key_back key k rs takes h e = go key.kind refl takes h e
     go (ScalarOf kind) same takes h e = ap (last_or kind (kind_default kind)) e ∙ by (is_default_of key (ScalarValue k)) refl
       where
         by : (b : Bool) → is_default_of key (ScalarValue k) ≡ b → last_or kind (kind_default kind) (cond b [] (Flat (written kind k) ∷ [])) ≡ k
-        by true d = sym (default_same key k d ∙ scalars_equal key.default (kind_default kind) h)
+        by true d = sym (default_same key k d ∙ ((scalar_decides key.default (kind_default kind)).0 h))
         by false d = ap (λ (o : Option Scalar). elim o [ None ↦ kind_default kind | Some w ↦ w ]) (read_back kind k takes)
 
 -- the value of its own payload

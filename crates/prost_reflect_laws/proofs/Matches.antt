@@ -1,13 +1,12 @@
 -- What the fields of two message types of a reduction have in common.
 use Rattle.std.proofs.Common.{◌≡◌, ℕ, Bool, true, false, cond, ◌&&◌, ◌||◌, List, [], ◌∷◌, nat_eq, Option, Some, None, refl, ap, ap₂, sym, ◌∙◌, true≢false}
-use Rattle.std.proofs.lemmas.Bool.{eqb-true}
+use Rattle.std.proofs.lemmas.Bool.{eqb-true, and_parts, and_from, or_parts}
 use Rattle.std.specs.Bool.{beq}
 use Rattle.std.specs.List.{list_any, list_all}
 use Rattle.prost_reflect_wire.specs.Schema.{Field, Schema, message_type, known, field_of, same_oneof, passes}
 use Rattle.prost_reflect_wire.specs.Reduction.{TypePairs, holds, same_form, value_types_match, fields_match, same_siblings, has_match, has_no_fellow, entries_whole, types_match, all_match, Reduced}
-use Rattle.prost_reflect_wire.proofs.Deeper.{and_both, both_true, all_implied}
+use Rattle.prost_reflect_wire.proofs.Deeper.{all_implied}
 use Rattle.prost_reflect_wire.proofs.Numbers.{eqb-sym}
-use Rattle.prost_reflect_wire.proofs.Survivors.{or_false}
 use Rattle.prost_reflect_laws.proofs.Alike.{SameType, same_type}
 
 -- FIELDS OF A LIST
@@ -16,7 +15,7 @@ use Rattle.prost_reflect_laws.proofs.Alike.{SameType, same_type}
 pub found_passes : (test : Field → Bool) (fields : List Field) (n : ℕ) (f : Field) → list_all test fields ≡ true → field_of fields n ≡ Some f → test f ≡ true
 found_passes test [] n f h e = cc
 found_passes test (g ∷ fields) n f h e =
-    let (one, more) = and_both (test g) (list_all test fields) h in
+    let (one, more) = and_parts (test g) (list_all test fields) h in
     go (nat_eq g.number n) e one (found_passes test fields n f more)
   where
     go : (b : Bool) → cond b (Some g) (field_of fields n) ≡ Some f → test g ≡ true → (field_of fields n ≡ Some f → test f ≡ true) → test f ≡ true
@@ -27,7 +26,7 @@ found_passes test (g ∷ fields) n f h e =
 pub any_found : (test : Field → Bool) (fields : List Field) (n : ℕ) (f : Field) → list_any test fields ≡ false → field_of fields n ≡ Some f → test f ≡ false
 any_found test [] n f h e = cc
 any_found test (g ∷ fields) n f h e =
-    let (one, more) = or_false (test g) (list_any test fields) h in
+    let (one, more) = or_parts (test g) (list_any test fields) h in
     go (nat_eq g.number n) e one (any_found test fields n f more)
   where
     go : (b : Bool) → cond b (Some g) (field_of fields n) ≡ Some f → test g ≡ false → (field_of fields n ≡ Some f → test f ≡ false) → test f ≡ false
@@ -46,10 +45,10 @@ some_field test [] h = absurd (true≢false (sym h))
 some_field test (g ∷ fields) h = go (test g) refl h (some_field test fields)
   where
     go : (b : Bool) → test g ≡ b → (b || list_any test fields) ≡ true → (list_any test fields ≡ true → Passing test fields) → Passing test (g ∷ fields)
-    go true e h more = record { field = g; passes = e; all = λ other a. (and_both (other g) (list_all other fields) a).0; none = λ other a. (or_false (other g) (list_any other fields) a).0 }
+    go true e h more = record { field = g; passes = e; all = λ other a. (and_parts (other g) (list_all other fields) a).0; none = λ other a. (or_parts (other g) (list_any other fields) a).0 }
     go false e h more =
         let p : Passing test fields = more h in
-        record { field = p.field; passes = p.passes; all = λ other a. p.all other (and_both (other g) (list_all other fields) a).1; none = λ other a. p.none other (or_false (other g) (list_any other fields) a).1 }
+        record { field = p.field; passes = p.passes; all = λ other a. p.all other (and_parts (other g) (list_all other fields) a).1; none = λ other a. p.none other (or_parts (other g) (list_any other fields) a).1 }
 
 -- the one of a number is a field of the list
 pub found_any : (test : Field → Bool) (fields : List Field) (n : ℕ) (f : Field) → field_of fields n ≡ Some f → test f ≡ true → list_any test fields ≡ true
@@ -76,7 +75,7 @@ member_at n oneof g = nat_eq g.number n && same_oneof g.oneof oneof
 pub pair_matches : (pairs ps : TypePairs) (older newer : Schema) (A B : ℕ) → holds ps A B ≡ true → list_all (λ p. types_match pairs (message_type older p.0) (message_type newer p.1)) ps ≡ true → types_match pairs (message_type older A) (message_type newer B) ≡ true
 pair_matches pairs [] older newer A B h all = absurd (true≢false (sym h))
 pair_matches pairs (p ∷ ps) older newer A B h all =
-    let (one, more) = and_both (types_match pairs (message_type older p.0) (message_type newer p.1)) (list_all (λ p. types_match pairs (message_type older p.0) (message_type newer p.1)) ps) all in
+    let (one, more) = and_parts (types_match pairs (message_type older p.0) (message_type newer p.1)) (list_all (λ p. types_match pairs (message_type older p.0) (message_type newer p.1)) ps) all in
     go (nat_eq p.0 A) (nat_eq p.1 B) refl refl h one (λ e. pair_matches pairs ps older newer A B e more)
   where
     go : (b c : Bool) → nat_eq p.0 A ≡ b → nat_eq p.1 B ≡ c → ((b && c) || holds ps A B) ≡ true → types_match pairs (message_type older p.0) (message_type newer p.1) ≡ true →
@@ -104,15 +103,15 @@ like_of_match pairs older newer f h = go (field_of newer f.number) h
     go : (o : Option Field) → passes o (λ g. fields_match pairs f g && same_siblings older newer f g) ≡ true → passes o (λ g. same_form pairs f.form g.form && value_types_match pairs f.value_type g.value_type && same_siblings older newer f g) ≡ true
     go None h = h
     go (Some g) h =
-        let (abc, d) = and_both (fields_match pairs f g) (same_siblings older newer f g) h in
-        let (ab, c) = and_both (beq f.is_extension g.is_extension && same_form pairs f.form g.form) (value_types_match pairs f.value_type g.value_type) abc in
-        both_true (both_true (and_both (beq f.is_extension g.is_extension) (same_form pairs f.form g.form) ab).1 c) d
+        let (abc, d) = and_parts (fields_match pairs f g) (same_siblings older newer f g) h in
+        let (ab, c) = and_parts (beq f.is_extension g.is_extension && same_form pairs f.form g.form) (value_types_match pairs f.value_type g.value_type) abc in
+        and_from _ _ (and_from _ _ (and_parts (beq f.is_extension g.is_extension) (same_form pairs f.form g.form) ab).1 c) d
 
 pub matching : (pairs : TypePairs) (older newer : Schema) → all_match pairs older newer ≡ true → AllMatch pairs older newer
 matching pairs older newer all A B h =
     let m : types_match pairs (message_type older A) (message_type newer B) ≡ true = pair_matches pairs pairs older newer A B h all in
-    let (ab, c) = and_both (entries_whole (message_type older A) (message_type newer B) && list_all (has_match pairs (known older A) (known newer B)) (known older A)) (list_all (has_no_fellow (known older A) (known newer B)) (known newer B)) m in
-    let each : list_all (has_match pairs (known older A) (known newer B)) (known older A) ≡ true = (and_both (entries_whole (message_type older A) (message_type newer B)) (list_all (has_match pairs (known older A) (known newer B)) (known older A)) ab).1 in
+    let (ab, c) = and_parts (entries_whole (message_type older A) (message_type newer B) && list_all (has_match pairs (known older A) (known newer B)) (known older A)) (list_all (has_no_fellow (known older A) (known newer B)) (known newer B)) m in
+    let each : list_all (has_match pairs (known older A) (known newer B)) (known older A) ≡ true = (and_parts (entries_whole (message_type older A) (message_type newer B)) (list_all (has_match pairs (known older A) (known newer B)) (known older A)) ab).1 in
     record { each = all_implied (has_match pairs (known older A) (known newer B)) (has_like pairs (known older A) (known newer B)) (known older A) (like_of_match pairs (known older A) (known newer B)) each; lacking = c }
 
 -- an older and a newer type whose likes may be extensions
@@ -137,6 +136,6 @@ like pairs older newer n f m e = go (field_of newer f.number) refl (found_passes
     go : (o : Option Field) → field_of newer f.number ≡ o → passes o (λ g. same_form pairs f.form g.form && value_types_match pairs f.value_type g.value_type && same_siblings older newer f g) ≡ true → (g : Field) × Like pairs older newer f g
     go None found h = absurd (true≢false (sym h))
     go (Some g) found h =
-        let (ab, d) = and_both (same_form pairs f.form g.form && value_types_match pairs f.value_type g.value_type) (same_siblings older newer f g) h in
-        let (form, c) = and_both (same_form pairs f.form g.form) (value_types_match pairs f.value_type g.value_type) ab in
+        let (ab, d) = and_parts (same_form pairs f.form g.form && value_types_match pairs f.value_type g.value_type) (same_siblings older newer f g) h in
+        let (form, c) = and_parts (same_form pairs f.form g.form) (value_types_match pairs f.value_type g.value_type) ab in
         (g, record { found = found; form = form; type = same_type pairs f.value_type g.value_type c; siblings = d })

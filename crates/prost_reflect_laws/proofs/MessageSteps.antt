@@ -1,23 +1,23 @@
 -- A message or a group of one value, read into a content that holds: its records are read into the message that is there, or into an empty one.
-use Rattle.std.proofs.Common.{◌≡◌, ◌≢◌, ℕ, suc, ◌≤◌, Bool, true, false, ◌||◌, List, [], Option, Some, None, refl, ap, ap₂, sym, ◌∙◌, subst, arith, true≢false}
+use Rattle.std.proofs.Common.{◌≡◌, ℕ, suc, ◌≤◌, Bool, true, false, List, [], Option, Some, None, refl, ap, ap₂, sym, ◌∙◌, subst, arith, true≢false}
 use Rattle.std.specs.Prelude.{unwrap_or}
-use Rattle.std.proofs.lemmas.Bool.{eq-eqb}
+use Rattle.std.proofs.lemmas.Bool.{eq-eqb, and_parts, and_from}
+use Rattle.std.proofs.Math.Bool.{or-false}
 use Rattle.prost_reflect_wire.specs.declared.key.WireType.{WireType}
 use Rattle.prost_reflect_wire.specs.declared.key.WireType.TheVariants as wires
 use Rattle.prost_reflect_wire.specs.Varint.{◌>>=◌}
 use Rattle.prost_reflect_wire.specs.Record.{Len, Records, Record, Payload, Flat, Group, items, body_of, raw_levels}
 use Rattle.prost_reflect_wire.specs.Front.{KeyFront, DelimitedFront, ValueFront}
-use Rattle.prost_reflect_wire.specs.Schema.{Kind, ScalarOf, MessageOf, GroupOf, ValueType, FieldForm, Singular, Repeated, MapFrom, Field, Schema, known, field_of, is_message, is_singular, numbers_differ, passes}
+use Rattle.prost_reflect_wire.specs.Schema.{Kind, ScalarOf, MessageOf, GroupOf, ValueType, FieldForm, Singular, Repeated, MapFrom, Field, Schema, known, field_of, is_message, is_singular, numbers_differ, passes, is_list, is_map}
 use Rattle.prost_reflect_wire.specs.Content.{Content, ContentOf, Entries, Value, ScalarValue, MessageValue, ListValue, MapValue, value_at, slot_at, changed, empty, schema_of, type_of, value_ordered}
 use Rattle.prost_reflect_wire.specs.Grammar.{body, or_none, records_in, is_stray, one_allowed, field_allowed, allows}
 use Rattle.prost_reflect_wire.specs.Meaning.{MeansInside, JoinsInside, content_in, one_joined, value_joined, steps}
-use Rattle.prost_reflect_wire.specs.Typing.{kept, kept_value, kept_inside, kind_takes, is_repeated, pairs_valid, value_valid, value_passes, fit_test, alone_test, is_of_type, kind_for, ValueTyped, WellStored, ValueStored}
+use Rattle.prost_reflect_wire.specs.Typing.{kept, kept_value, kept_inside, kind_takes, pairs_valid, value_valid, value_passes, fit_test, alone_test, is_of_type, kind_for, ValueTyped, WellStored, ValueStored}
 use Rattle.prost_reflect_wire.specs.Edit.{message_of}
 use Rattle.prost_reflect_wire.specs.Levels.{greatest_level}
 use Rattle.prost_reflect_wire.specs.Storing.{with_stored}
 use Rattle.prost_reflect_wire.specs.Decoding.{ReadTo, Holds, Step}
-use Rattle.prost_reflect_wire.specs.Fault.{one_takes, takes, is_map, needs_level}
-use Rattle.prost_reflect_wire.proofs.Deeper.{and_both, both_true}
+use Rattle.prost_reflect_wire.specs.Fault.{one_takes, takes, needs_level}
 use Rattle.prost_reflect_laws.proofs.Older.{items_level, allowed_levels}
 use Rattle.prost_reflect_wire.proofs.Reading.{spelled_read}
 use Rattle.prost_reflect_wire.proofs.Bodies.{items_body}
@@ -83,7 +83,7 @@ empty_nested schema U = record { content = empty schema U; is = refl; schema_is 
 
 module _ (schema : Schema) (T : ℕ) (es : Entries) (sound : WellStored (ContentOf schema T es)) (differ : numbers_differ (known schema T) ≡ true) (n : ℕ) (f : Field) (found : field_of (known schema T) n ≡ Some f) (U : ℕ) (one : OneMessage f U) where
   valid_message : (w : Value) → value_valid f w ≡ true → value_passes fit_test w ≡ true → ValueTyped schema (kind_for (Some f) w) w → value_ordered w ≡ true → value_passes alone_test w ≡ true → Nested schema U w
-  valid_message (ScalarValue v) h fits types o members = absurd (no_scalar f.value_type.kind one.names (and_both (is_singular f.form) (kind_takes f.value_type.kind v) h).1)
+  valid_message (ScalarValue v) h fits types o members = absurd (no_scalar f.value_type.kind one.names (and_parts (is_singular f.form) (kind_takes f.value_type.kind v) h).1)
     where
       no_scalar : (kind : Kind) → message_of kind ≡ Some U → kind_takes kind v ≡ true → ⊥
       no_scalar (ScalarOf kind) e h = cc
@@ -92,7 +92,7 @@ module _ (schema : Schema) (T : ℕ) (es : Entries) (sound : WellStored (Content
   valid_message (MessageValue c) h fits types o members =
       let typed = field_typed schema f (MessageValue c) h types in
       record { content = c; is = refl; schema_is = typed.0.0; type_is = type_is f.value_type.kind U (type_of c) one.names typed.0.1; sound = record { fits = fits; types = typed.1; order = o; members = members } }
-  valid_message (ListValue vs) h fits types o members = absurd (true≢false (sym (and_both _ _ h).0 ∙ ap is_repeated one.form))
+  valid_message (ListValue vs) h fits types o members = absurd (true≢false (sym (and_parts _ _ h).0 ∙ ap is_list one.form))
   valid_message (MapValue ps) h fits types o members = absurd (true≢false (sym h ∙ ap (λ form. pairs_valid form f.value_type.kind ps) one.form))
 
   pub nested_sound : (v : Value) → unwrap_or (value_at n es) (MessageValue (empty schema U)) ≡ v → Nested schema U v
@@ -107,7 +107,7 @@ module _ (schema : Schema) (T : ℕ) (es : Entries) (sound : WellStored (Content
       go : (o : Option Value) → value_at n es ≡ o → Nested schema U (unwrap_or o (MessageValue (empty schema U)))
       go None e = empty_nested schema U
       go (Some w) e =
-          let fits = and_both (own n w) (value_passes fit_test w) (subst (OptionPasses fit_test (known schema T) own n) e fitting.value) in
+          let fits = and_parts (own n w) (value_passes fit_test w) (subst (OptionPasses fit_test (known schema T) own n) e fitting.value) in
           let types : ValueTyped schema (kind_for (field_of (known schema T) n) w) w = subst (OptionTyped schema (known schema T) n) e (typed_values schema (known schema T) es n sound.types) in
           valid_message w (ap (λ o. passes o (λ f. value_valid f w)) (sym found) ∙ fits.0) fits.1
           (subst (λ o. ValueTyped schema (kind_for o w) w) found types)
@@ -148,7 +148,7 @@ module _ (schema : Schema) (T : ℕ) (es : Entries) (sound : WellStored (Content
   stored_message : ValueStored schema f (MessageValue d)
   stored_message =
       let w : WellStored d = holds.sound in
-      let valid : value_valid f (MessageValue d) ≡ true = both_true (ap is_singular one.form) (message_kind f.value_type.kind U one.names) in
+      let valid : value_valid f (MessageValue d) ≡ true = and_from _ _ (ap is_singular one.form) (message_kind f.value_type.kind U one.names) in
       record {
         valid = valid;
         fits = w.fits;
@@ -205,15 +205,11 @@ pub record FoundNested (schema : Schema) (T n U : ℕ) (kind : Kind) : Type 0 wh
   pub kind_is : field.value_type.kind ≡ kind
   pub names : message_of kind ≡ Some U
 
-or_false : (b : Bool) → (b || false) ≡ b
-or_false true = refl
-or_false false = refl
-
 pub takes_nested : (form : FieldForm) (kind : Kind) (U : ℕ) (w : WireType) → is_map form ≡ false → message_of kind ≡ Some U → takes form kind w ≡ one_takes kind w
 takes_nested Singular kind U w form e = refl
 takes_nested (Repeated packed) (ScalarOf kind) U w form e = cc
-takes_nested (Repeated packed) (MessageOf V) U w form e = or_false (one_takes (MessageOf V) w)
-takes_nested (Repeated packed) (GroupOf V) U w form e = or_false (one_takes (GroupOf V) w)
+takes_nested (Repeated packed) (MessageOf V) U w form e = or-false (one_takes (MessageOf V) w)
+takes_nested (Repeated packed) (GroupOf V) U w form e = or-false (one_takes (GroupOf V) w)
 takes_nested (MapFrom key) kind U w form e = absurd (true≢false form)
 
 pub needs_nested : (form : FieldForm) (kind : Kind) (U : ℕ) (w : WireType) → is_map form ≡ false → message_of kind ≡ Some U → needs_level form kind w ≡ one_takes kind w

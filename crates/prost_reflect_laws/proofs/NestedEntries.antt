@@ -3,6 +3,7 @@ use Rattle.std.proofs.Common.{◌≡◌, ◌≢◌, ℕ, suc, Bool, true, false,
 use Rattle.std.specs.List.{list_all}
 use Rattle.std.specs.Option.{is_some}
 use Rattle.std.proofs.lemmas.Bool.{le-leb, lt-ltb}
+use Rattle.std.proofs.lemmas.Option.{none-some}
 use Rattle.prost_reflect_wire.specs.declared.error.DecodeError.{DecodeError}
 use Rattle.prost_reflect_wire.specs.declared.error.DecodeError.TheVariants as errors
 use Rattle.prost_reflect_wire.specs.declared.key.WireType.{WireType}
@@ -34,9 +35,10 @@ use Rattle.prost_reflect_wire.proofs.Survivors.{field_number}
 use Rattle.prost_reflect_laws.proofs.Allowed.{inside}
 use Rattle.prost_reflect_laws.proofs.Means.{below}
 use Rattle.prost_reflect_laws.proofs.MessageSteps.{is_its_type}
-use Rattle.prost_reflect_laws.proofs.EntryReads.{numbered_last, numbered_other, last_read, one_two, two_one, no_group, entry_more, entry_behind}
+use Rattle.prost_reflect_laws.proofs.EntryReads.{numbered_last, numbered_other, last_read, one_two, two_one, entry_more, entry_behind}
 use Rattle.prost_reflect_laws.proofs.MapSteps.{PairStored, FoundMap, entry_holds}
-use Rattle.prost_reflect_laws.proofs.ScalarEntries.{map_keyed, delimited_bytes, entry_key_valid}
+use Rattle.prost_reflect_laws.proofs.ScalarEntries.{map_keyed, entry_key_valid}
+use Rattle.prost_reflect_laws.proofs.BodyFronts.{delimited_bytes}
 
 -- the records of one value more are read behind those of the others
 joined_last : (n : ℕ) (rs : List Record) (r : Record) → nat_eq r.number n ≡ true → joined (numbered n (rs ++ r ∷ [])) ≡ joined (numbered n rs) ++ records_in r.payload
@@ -118,15 +120,15 @@ module _ (schema : Schema) (k U : ℕ) (key : ScalarKind) where
       -- what is refused of them
       pub nested_key_refused : (e : DecodeError) → nat_eq n 1 ≡ true → ScalarFault key w e after → StandsInNestedEntry schema (suc k) U key e bytes
       nested_key_refused e is fault = λ one two a b. behind_read e one two
-          (scalar_stands schema e (EntryPlace one two (suc k) mid) n w after (entry_field 1 one) key front (ap (λ b. cond b (Some (entry_field 1 one)) (cond (nat_eq n 2) (Some (entry_field 2 two)) None)) is) refl a (λ _. no_group) fault)
+          (scalar_stands schema e (EntryPlace one two (suc k) mid) n w after (entry_field 1 one) key front (ap (λ b. cond b (Some (entry_field 1 one)) (cond (nat_eq n 2) (Some (entry_field 2 two)) None)) is) refl a (λ _. none-some _) fault)
 
       pub nested_value_refused : (e : DecodeError) → nat_eq n 2 ≡ true → NestedValueFault schema (suc k) n U w e after → StandsInNestedEntry schema (suc k) U key e bytes
       nested_value_refused e is fault = λ one two a b. behind_read e one two
-          (fault (EntryPlace one two (suc k) mid) (entry_field 2 two) refl (ap₂ (λ a b. cond a (Some (entry_field 1 one)) (cond b (Some (entry_field 2 two)) None)) (two_one n is) is) refl b front (λ _. no_group))
+          (fault (EntryPlace one two (suc k) mid) (entry_field 2 two) refl (ap₂ (λ a b. cond a (Some (entry_field 1 one)) (cond b (Some (entry_field 2 two)) None)) (two_one n is) is) refl b front (λ _. none-some _))
 
       pub nested_other_refused : (e : DecodeError) → nat_eq n 1 ≡ false → nat_eq n 2 ≡ false → ValueFault e n w (suc k) after → StandsInNestedEntry schema (suc k) U key e bytes
       nested_other_refused e first second fault = λ one two a b. behind_read e one two
-          (value_stands schema (EntryPlace one two (suc k) mid) e n w after (ap₂ (λ a b. cond a (Some (entry_field 1 one)) (cond b (Some (entry_field 2 two)) None)) first second) front (λ _. no_group) fault)
+          (value_stands schema (EntryPlace one two (suc k) mid) e n w after (ap₂ (λ a b. cond a (Some (entry_field 1 one)) (cond b (Some (entry_field 2 two)) None)) first second) front (λ _. none-some _) fault)
 
 -- ONE ENTRY MORE
 

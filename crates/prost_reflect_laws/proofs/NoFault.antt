@@ -1,7 +1,8 @@
 -- Where a body stands, no fault stands.
 use Rattle.std.proofs.Common.{◌≡◌, ◌≢◌, ℕ, zero, suc, ◌<◌, ◌≤◌, Bool, true, false, inl, inr, List, [], ◌∷◌, ◌++◌, length, nat_le, Option, Some, None, refl, sym, ap, subst, ◌∙◌, arith, length-append, true≢false}
-use Rattle.std.proofs.lemmas.Bool.{leb-true}
+use Rattle.std.proofs.lemmas.Bool.{leb-true, and_parts}
 use Rattle.std.specs.Option.{is_some}
+use Rattle.std.proofs.lemmas.Option.{none-some}
 use Rattle.prost_reflect_wire.specs.declared.error.DecodeError.{DecodeError}
 use Rattle.prost_reflect_wire.specs.declared.error.DecodeError.TheVariants as errors
 use Rattle.prost_reflect_wire.specs.declared.key.WireType.{WireType}
@@ -9,15 +10,14 @@ use Rattle.prost_reflect_wire.specs.declared.key.WireType.TheVariants as wires
 use Rattle.prost_reflect_wire.specs.Varint.{AreBytes, Varint, ◌>>=◌}
 use Rattle.prost_reflect_wire.specs.Record.{Plain, Var, Fix64, Len, Fix32, Record, Payload, Flat, Group, payload_levels, wire_code, plain_wire, payload_wire, plain_at}
 use Rattle.prost_reflect_wire.specs.Scalar.{StringKind, kind_wire}
-use Rattle.prost_reflect_wire.specs.Schema.{Kind, ScalarOf, MessageOf, GroupOf, ValueType, FieldForm, Singular, Repeated, MapFrom, Field, Schema, is_message, passes}
+use Rattle.prost_reflect_wire.specs.Schema.{Kind, ScalarOf, MessageOf, GroupOf, ValueType, FieldForm, Singular, Repeated, MapFrom, Field, Schema, is_message, passes, is_map}
 use Rattle.prost_reflect_wire.specs.Grammar.{AllowsInside, body, has_level, field_allowed, nothing_inside, plains_within, unpacked}
 use Rattle.prost_reflect_wire.specs.Front.{KeyFront, PlainFront, DelimitedFront, PayloadFront, PayloadEnds, PayloadPasses, PlainFault, KeyFault, VarintPasses, NoKey}
-use Rattle.prost_reflect_wire.specs.Fault.{Place, field_at, Next, NextField, ElementFault, ElementEnds, ElementPasses, BehindElement, TextNext, PackedNext, same_wire, takes, needs_level, opens_level, is_map, Comes}
-use Rattle.prost_reflect_wire.proofs.Deeper.{and_both}
-use Rattle.prost_reflect_wire.proofs.Sound.{bind_ok, plain_sound, none_some}
+use Rattle.prost_reflect_wire.specs.Fault.{Place, field_at, Next, NextField, ElementFault, ElementEnds, ElementPasses, BehindElement, TextNext, PackedNext, same_wire, takes, needs_level, opens_level, Comes}
+use Rattle.prost_reflect_wire.proofs.Sound.{bind_ok, plain_sound}
 use Rattle.prost_reflect_wire.proofs.KeyFronts.{key_once, key_no_fault}
 use Rattle.prost_reflect_wire.proofs.PlainFronts.{plain_once, plain_no_fault, delimited_once, plain_delimited}
-use Rattle.prost_reflect_laws.proofs.BodyFronts.{payload_no_end, key_not_empty, key_bytes, plain_bytes, body_bytes}
+use Rattle.prost_reflect_laws.proofs.BodyFronts.{payload_no_end, key_not_empty, key_bytes, plain_bytes, delimited_bytes}
 use Rattle.prost_reflect_laws.proofs.Places.{inner, payload_allowed, NextRecord, EndNext, AtEnd, AtStop}
 use Rattle.prost_reflect_laws.proofs.KindsTaken.{not_both, one_or_packed, allowed_one, text_allowed, unpacked_allowed, map_allowed, message_allowed, group_allowed, field_taken}
 
@@ -63,7 +63,7 @@ none_passes wires.LengthDelimited h = past_end h
 none_passes w h = elim h [ ]
 
 elements_no_fault : (w : WireType) {e : DecodeError} {bytes : List ℕ} → ElementFault w e bytes → (fuel : ℕ) (ps : List Plain) → AreBytes bytes → plains_within fuel w bytes ≡ Some ps → ⊥
-elements_no_fault w f zero ps small h = none_some h
+elements_no_fault w f zero ps small h = none-some _ h
 elements_no_fault w (ElementEnds {b} {bytes} ends) (suc fuel) ps small h =
     let x : PlainsFirst fuel w (b ∷ bytes) = plains_first fuel w b bytes ps small h in front_no_fault errors.Truncated w (b ∷ bytes) x.plain x.rest x.front x.wire ends
 elements_no_fault w (ElementPasses {bytes} passes) (suc fuel) ps small h = go bytes passes small h
@@ -209,7 +209,7 @@ packed_no_fault e k inner f n p bytes rest small front allowed (w, (packed, form
   where
     go : (o : Option (List Plain)) → unpacked kind body ≡ o → is_some o ≡ true → ⊥
     go None e h = true≢false (sym h)
-    go (Some ps) e h = elements_no_fault (kind_wire kind) stands (suc (length body)) ps (body_bytes body bytes after small d) e
+    go (Some ps) e h = elements_no_fault (kind_wire kind) stands (suc (length body)) ps (delimited_bytes body bytes after small d) e
 
 nothing_passes : (o : Option (List Record)) (T : ℕ) → passes o (nothing_inside T) ≡ false
 nothing_passes None T = refl
@@ -239,7 +239,7 @@ deep_field : (form : FieldForm) (value_type : ValueType) (p : Payload) → field
 deep_field Singular value_type p h needs = deep_one value_type.kind p (message_needs value_type.kind (payload_wire p) needs) (allowed_one 0 nothing_inside Singular value_type p refl h)
 deep_field (Repeated packed) value_type p h needs = deep_one value_type.kind p (repeated_needs packed value_type.kind (payload_wire p) needs) h
 deep_field (MapFrom key) value_type p h needs =
-    deep_entry value_type.kind (and_both (is_message value_type.kind) (same_wire (payload_wire p) wires.LengthDelimited) needs).0 (map_allowed 0 nothing_inside key value_type p h).1
+    deep_entry value_type.kind (and_parts (is_message value_type.kind) (same_wire (payload_wire p) wires.LengthDelimited) needs).0 (map_allowed 0 nothing_inside key value_type p h).1
 
 start_code : (p : Payload) → same_wire (payload_wire p) wires.StartGroup ≡ true → 0 < payload_levels p
 start_code (Group inside) h = omega arith

@@ -6,13 +6,13 @@ use Rattle.prost_reflect_wire.specs.declared.key.WireType.{WireType}
 use Rattle.prost_reflect_wire.specs.declared.key.WireType.TheVariants as wires
 use Rattle.prost_reflect_wire.specs.Varint.{AreBytes}
 use Rattle.prost_reflect_wire.specs.Record.{Len, Records, Record, Payload, Flat, Group, items, raw_levels, payload_levels, wire_code, payload_wire}
-use Rattle.prost_reflect_wire.specs.Schema.{MessageOf, GroupOf, ValueType, MapFrom, Field, Schema, passes}
+use Rattle.prost_reflect_wire.specs.Schema.{MessageOf, GroupOf, ValueType, MapFrom, Field, Schema, passes, is_map}
 use Rattle.prost_reflect_wire.specs.Grammar.{body, in_entry_allowed, field_allowed, allows}
 use Rattle.prost_reflect_wire.specs.Front.{KeyFront, DelimitedFront, RecordFront, PayloadFront}
-use Rattle.prost_reflect_wire.specs.Fault.{Place, OfType, OfEntry, OfNothing, field_at, is_map, Comes, Stands, Here, Behind, InMessage, InGroup, InUnknown, InEntry}
+use Rattle.prost_reflect_wire.specs.Fault.{Place, OfType, OfEntry, OfNothing, field_at, Comes, Stands, Here, Behind, InMessage, InGroup, InUnknown, InEntry}
 use Rattle.prost_reflect_wire.proofs.KeyFronts.{key_once}
 use Rattle.prost_reflect_wire.proofs.RecordFronts.{payload_once, record_parts, RecordParts}
-use Rattle.prost_reflect_laws.proofs.BodyFronts.{payload_no_end, key_not_empty, key_bytes, body_bytes}
+use Rattle.prost_reflect_laws.proofs.BodyFronts.{payload_no_end, key_not_empty, key_bytes, delimited_bytes}
 use Rattle.prost_reflect_laws.proofs.Places.{inner, payload_allowed, allowed_at, allows_at, Ended, Body, NextRecord, EndNext, AtEnd, AtStop, FirstOf, first_of, read_body, Passed, body_passes, levels_inside, entry_same, len_no_end}
 use Rattle.prost_reflect_laws.proofs.KindsTaken.{message_allowed, group_allowed, map_allowed, group_payload}
 use Rattle.prost_reflect_laws.proofs.NoFault.{known_allowed, unknown_allowed, len_front, kind_allowed, end_no_fault, record_no_fault}
@@ -88,7 +88,7 @@ message_none schema place n T k f bytes rest after found m is left key d none rs
     let p : Passed bytes (inner schema place.levels T) = body_passes bytes (inner schema place.levels T)
     (ap (λ p. passes (body p) (inner schema place.levels T)) (sym same) ∙ (message_allowed (inner schema place.levels) T y.payload h).1) in
     let there : Place = record { bytes = bytes; inside = OfType T; levels = k; open_group = None } in
-    let small : AreBytes bytes = body_bytes bytes rest after (key_bytes n wires.LengthDelimited place.bytes rest b.small key) d in
+    let small : AreBytes bytes = delimited_bytes bytes rest after (key_bytes n wires.LengthDelimited place.bytes rest b.small key) d in
     none p.records [] (read_body schema there p.records small refl p.found (sym (allows_at schema there T (items p.records) refl) ∙ inside_allowed schema place.levels k T (items p.records) left p.holds))
 
 -- a group whose records are allowed inside
@@ -132,7 +132,7 @@ entry_none schema place n f key_type bytes rest after found form key d none rs e
     ap (λ c. field_allowed place.levels (inner schema place.levels) c f.value_type y.payload) (sym form) ∙ known_allowed schema place n y.payload f y.allowed found in
     let p : Passed bytes test = body_passes bytes test (ap (λ p. passes (body p) test) (sym same) ∙ (map_allowed place.levels (inner schema place.levels) key_type f.value_type y.payload h).2) in
     let there : Place = record { bytes = bytes; inside = OfEntry key_type f.value_type; levels = place.levels; open_group = None } in
-    let small : AreBytes bytes = body_bytes bytes rest after (key_bytes n wires.LengthDelimited place.bytes rest b.small key) d in
+    let small : AreBytes bytes = delimited_bytes bytes rest after (key_bytes n wires.LengthDelimited place.bytes rest b.small key) d in
     none p.records [] (read_body schema there p.records small refl p.found (sym (entry_same schema there key_type f.value_type (items p.records) refl) ∙ p.holds))
 
 -- A body and a fault cannot both stand at a place.

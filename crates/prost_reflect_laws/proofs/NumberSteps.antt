@@ -2,6 +2,7 @@
 use Rattle.std.proofs.Common.{◌≡◌, ℕ, ℤ, Bool, true, false, cond, not, List, [], ◌∷◌, ◌++◌, map, filter, flat_map, nat_eq, Option, Some, None, refl, ap, ap₂, sym, ◌∙◌, subst, append_assoc, append-nil, arith}
 use Rattle.std.specs.Option.{is_some}
 use Rattle.std.proofs.lemmas.List.{map-append}
+use Rattle.std.proofs.lemmas.Bool.{and_from}
 use Rattle.prost_reflect_wire.specs.declared.error.DecodeError.{DecodeError}
 use Rattle.prost_reflect_wire.specs.declared.key.WireType.TheVariants as wires
 use Rattle.prost_reflect_wire.specs.Record.{Plain, Var, Len, Payload, Flat, plain_wire, payload_valid}
@@ -15,7 +16,6 @@ use Rattle.prost_reflect_wire.specs.Typing.{kept_values, is_whole_stray, unknown
 use Rattle.prost_reflect_wire.specs.Fault.{ElementFault}
 use Rattle.prost_reflect_wire.specs.Storing.{with_stored, with_unknown, joined_slot}
 use Rattle.prost_reflect_wire.specs.Decoding.{Step, ElementsJoined, NumbersJoined, BodyJoined, declared_values}
-use Rattle.prost_reflect_wire.proofs.Deeper.{both_true}
 use Rattle.prost_reflect_laws.proofs.Declared.{read_valid}
 use Rattle.prost_reflect_wire.proofs.PlainFronts.{delimited_plain}
 use Rattle.prost_reflect_wire.proofs.Steps.{flat_append, values_append}
@@ -97,7 +97,7 @@ module _ (schema : Schema) (T : ℕ) (es : Entries) (f : Field) (packed : Bool) 
     }
       where
         b : ElementsJoined f (Item (ScalarValue v) NoValues) [] (ContentOf schema T es) (ContentOf schema T (changed f.number (with_stored (known schema T) f (ListValue (values_in (value_at f.number es) and_then Item (ScalarValue v) NoValues))) es))
-        b = values_behind schema T es j.holds.sound f packed kind (Item (ScalarValue v) NoValues) differ found form is alone (both_true (read_valid kind p v valid declared read) refl)
+        b = values_behind schema T es j.holds.sound f packed kind (Item (ScalarValue v) NoValues) differ found form is alone (and_from _ _ (read_valid kind p v valid declared read) refl)
 
     -- a stray
     pub stray_joined : is_undeclared kind p ≡ true → NumbersJoined f kind (ps ++ p ∷ []) old (ContentOf schema T (changed f.number (with_unknown f.number p) es))
@@ -109,7 +109,7 @@ module _ (schema : Schema) (T : ℕ) (es : Entries) (f : Field) (packed : Bool) 
         schema = j.holds.schema;
         type = j.holds.type;
         sound = unknown_sound schema T es (changed f.number (with_unknown f.number p) es) f.number p differ
-            (ap (λ o. unknown_fits o f.number p) found ∙ both_true valid (ap (λ form. is_whole_stray form f.value_type p) form ∙ ap (λ kind. is_stray kind p) is ∙ stray))
+            (ap (λ o. unknown_fits o f.number p) found ∙ and_from _ _ valid (ap (λ form. is_whole_stray form f.value_type p) form ∙ ap (λ kind. is_stray kind p) is ∙ stray))
             (added_ordered es f.number p j.holds.sound.order) (added_slots es f.number p) j.holds.sound;
       };
     }

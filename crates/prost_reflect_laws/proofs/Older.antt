@@ -3,13 +3,13 @@ use Rattle.std.proofs.Common.{◌≡◌, ℕ, zero, suc, ◌≤◌, nat_le, nat_
 use Rattle.std.specs.Prelude.{max}
 use Rattle.std.specs.Option.{is_some}
 use Rattle.std.specs.List.{list_all}
-use Rattle.std.proofs.lemmas.Bool.{leb-true, le-leb}
+use Rattle.std.proofs.lemmas.Bool.{leb-true, le-leb, and_parts, and_from}
 use Rattle.prost_reflect_wire.specs.Record.{Plain, Len, Records, NoRecords, PlainRecord, GroupRecord, Record, Payload, Flat, Group, items, raw_levels, payload_levels}
 use Rattle.prost_reflect_wire.specs.Schema.{Kind, ScalarOf, MessageOf, GroupOf, ValueType, FieldForm, Singular, Repeated, MapFrom, Field, Schema, known, field_of, passes}
 use Rattle.prost_reflect_wire.specs.Grammar.{AllowsInside, body, is_len, is_group_payload, one_allowed, packed_allowed, in_entry_allowed, has_level, field_allowed, record_allowed, nothing_inside, allows, Accepts}
 use Rattle.prost_reflect_wire.specs.Levels.{greatest_level}
 use Rattle.prost_reflect_wire.specs.Reduction.{TypePairs, holds, same_kind, same_form}
-use Rattle.prost_reflect_wire.proofs.Deeper.{and_both, both_true, all_implied, flat_fits}
+use Rattle.prost_reflect_wire.proofs.Deeper.{all_implied, flat_fits}
 use Rattle.prost_reflect_wire.proofs.ListTests.{passes_more, or_case}
 use Rattle.prost_reflect_wire.proofs.Survivors.{field_number}
 use Rattle.prost_reflect_laws.proofs.Alike.{Alike, alike, SameType, same_type, unpacked_alike}
@@ -32,7 +32,7 @@ len_flat (Group rs) h = absurd (true≢false (sym h))
 
 one_shallow : (k : ℕ) (inner : AllowsInside) (kind : Kind) (p : Payload) → Shallow k inner → one_allowed inner kind p ≡ true → payload_levels p ≤ k
 one_shallow k inner (ScalarOf kind) p s h = omega (arith, flat_fits kind p h)
-one_shallow k inner (MessageOf T) p s h = omega (arith, len_flat p (and_both (is_len p) (passes (body p) (inner T)) h).0)
+one_shallow k inner (MessageOf T) p s h = omega (arith, len_flat p (and_parts (is_len p) (passes (body p) (inner T)) h).0)
 one_shallow k inner (GroupOf T) (Flat p) s h = absurd (true≢false (sym h))
 one_shallow k inner (GroupOf T) (Group rs) s h =
     let l : suc (greatest_level (items rs)) ≤ k = s T (items rs) h in
@@ -52,8 +52,8 @@ field_shallow k inner (Repeated packed) t p s h = go (one_allowed inner t.kind p
     go true e h = one_shallow k inner t.kind p s e
     go false e h = omega (arith, packed_flat t.kind p h)
 field_shallow k inner (MapFrom key) t p s h =
-    let (ab, c) = and_both (is_len p && has_level k t.kind) (passes (body p) (list_all (in_entry_allowed k inner key t))) h in
-    omega (arith, len_flat p (and_both (is_len p) (has_level k t.kind) ab).0)
+    let (ab, c) = and_parts (is_len p && has_level k t.kind) (passes (body p) (list_all (in_entry_allowed k inner key t))) h in
+    omega (arith, len_flat p (and_parts (is_len p) (has_level k t.kind) ab).0)
 
 record_shallow : (k : ℕ) (inner : AllowsInside) (fields : List Field) (r : Record) → Shallow k inner → record_allowed k inner fields r ≡ true → payload_levels r.payload ≤ k
 record_shallow k inner fields r s = go (field_of fields r.number)
@@ -65,7 +65,7 @@ record_shallow k inner fields r s = go (field_of fields r.number)
 all_shallow : (k : ℕ) (inner : AllowsInside) (fields : List Field) (rs : List Record) → Shallow k inner → list_all (record_allowed k inner fields) rs ≡ true → greatest_level rs ≤ k
 all_shallow k inner fields [] s h = omega arith
 all_shallow k inner fields (r ∷ rs) s h =
-    let (one, more) = and_both (record_allowed k inner fields r) (list_all (record_allowed k inner fields) rs) h in
+    let (one, more) = and_parts (record_allowed k inner fields r) (list_all (record_allowed k inner fields) rs) h in
     let a : payload_levels r.payload ≤ k = record_shallow k inner fields r s one in
     let b : greatest_level rs ≤ k = all_shallow k inner fields rs s more in
     omega arith
@@ -84,8 +84,8 @@ pub record Smaller (pairs : TypePairs) (k : ℕ) (outer inner : AllowsInside) : 
 
 message_smaller : (shape : Bool) (o : Option (List Record)) (t u : List Record → Bool) → ((rs : List Record) → t rs ≡ true → u rs ≡ true) → (shape && passes o t) ≡ true → (shape && passes o u) ≡ true
 message_smaller shape o t u h e =
-    let (a, b) = and_both shape (passes o t) e in
-    both_true a (passes_more o t u h b)
+    let (a, b) = and_parts shape (passes o t) e in
+    and_from _ _ a (passes_more o t u h b)
 
 pub one_smaller : (pairs : TypePairs) (k : ℕ) (outer inner : AllowsInside) (kA kB : Kind) (p : Payload) → Smaller pairs k outer inner → same_kind pairs kA kB ≡ true → one_allowed inner kB p ≡ true → one_allowed outer kA p ≡ true
 one_smaller pairs k outer inner (ScalarOf kA) (ScalarOf kB) p s h e = ap is_some (sym ((alike kA kB h).reads p)) ∙ e
@@ -124,10 +124,10 @@ field_smaller pairs k outer inner Singular Singular tA tB p s c t e = one_smalle
 field_smaller pairs k outer inner (Repeated x) (Repeated y) tA tB p s c t e =
     or_case (one_allowed inner tB.kind p) (packed_allowed tB.kind p) (one_allowed outer tA.kind p) (packed_allowed tA.kind p) (one_smaller pairs k outer inner tA.kind tB.kind p s t) (packed_smaller pairs tA.kind tB.kind p t) e
 field_smaller pairs k outer inner (MapFrom keyA) (MapFrom keyB) tA tB p s c t e =
-    let (ab, inside) = and_both (is_len p && has_level k tB.kind) (passes (body p) (list_all (in_entry_allowed k inner keyB tB))) e in
-    let (shape, level) = and_both (is_len p) (has_level k tB.kind) ab in
+    let (ab, inside) = and_parts (is_len p && has_level k tB.kind) (passes (body p) (list_all (in_entry_allowed k inner keyB tB))) e in
+    let (shape, level) = and_parts (is_len p) (has_level k tB.kind) ab in
     let key : SameType pairs keyA keyB = same_type pairs keyA keyB c in
-    both_true (both_true shape (sym (level_same pairs k tA.kind tB.kind t) ∙ level))
+    and_from _ _ (and_from _ _ shape (sym (level_same pairs k tA.kind tB.kind t) ∙ level))
     (passes_more (body p) (list_all (in_entry_allowed k inner keyB tB)) (list_all (in_entry_allowed k outer keyA tA))
     (λ rs. all_implied (in_entry_allowed k inner keyB tB) (in_entry_allowed k outer keyA tA) rs (λ r. entry_smaller pairs k outer inner keyA tA keyB tB r s key.kind t)) inside)
 field_smaller pairs k outer inner _ _ tA tB p s c t e = absurd (true≢false (sym c))

@@ -1,7 +1,7 @@
 -- The records of lists of scalars are read as them, packed or not.
 use Rattle.std.proofs.Common.{◌≡◌, ℕ, zero, suc, ◌+◌, ◌^◌, ◌<◌, true, cond, not, List, [], ◌∷◌, ◌++◌, map, filter, flat_map, length, nat_eq, Option, Some, refl, ap, ap₂, sym, ◌∙◌, arith, true≢false, length-append, append-nil}
 use Rattle.std.specs.Bool.{⊤}
-use Rattle.std.proofs.lemmas.Bool.{ltb-true, eqb-true}
+use Rattle.std.proofs.lemmas.Bool.{ltb-true, eqb-true, and_parts}
 use Rattle.prost_reflect_wire.specs.Varint.{are_bytes, short, ◌>>=◌}
 use Rattle.prost_reflect_wire.specs.Record.{Plain, Var, Fix64, Len, Fix32, Payload, Flat, plain_wire, plain_at, SpellsPlain, short_plain, plain_valid}
 use Rattle.prost_reflect_wire.specs.Scalar.{Scalar, F64, F32, I64, U64, I32, U32, Boolean, Text, Bytes, EnumNumber, ScalarKind, Double, Float, Int64, Uint64, Int32, Fixed64, Fixed32, BoolKind, StringKind, BytesKind, Uint32, Sfixed32, Sfixed64, Sint32, Sint64, Enum, kind_wire, written, scalar_valid}
@@ -15,7 +15,6 @@ use Rattle.prost_reflect_laws.specs.Laws.{block, ValueBack, ElementBack, Element
 use Rattle.prost_reflect_wire.proofs.Reading.{plain_read, varint_some}
 use Rattle.prost_reflect_wire.proofs.Shortest.{short_plain_ok, short_varint}
 use Rattle.prost_reflect_laws.proofs.Table.{read_back, written_declared}
-use Rattle.prost_reflect_wire.proofs.Deeper.{and_both}
 use Rattle.prost_reflect_laws.proofs.Values.{value_records_known, unknown_known}
 use Rattle.prost_reflect_laws.proofs.Lists.{all_elements}
 use Rattle.prost_reflect_laws.proofs.Spelt.{written_valid}
@@ -48,7 +47,7 @@ scalar_element inner kind v h = record { one = written_alone kind v h; fits = wr
 pub scalars_back : (inner : MeansInside) (kind : ScalarKind) (vs : Values) → elements_valid (ScalarOf kind) vs ≡ true → ElementsBack inner (ScalarOf kind) vs
 scalars_back inner kind NoValues h = tt
 scalars_back inner kind (Item v vs) h =
-    let (one, more) = and_both (element_valid (ScalarOf kind) v) (elements_valid (ScalarOf kind) vs) h in
+    let (one, more) = and_parts (element_valid (ScalarOf kind) v) (elements_valid (ScalarOf kind) vs) h in
     (go v one, scalars_back inner kind vs more)
   where
     go : (v : Value) → element_valid (ScalarOf kind) v ≡ true → ElementBack inner (ScalarOf kind) v
@@ -89,12 +88,12 @@ AllPackable w (p ∷ ps) = Packable w p × AllPackable w ps
 
 some_bytes : (p : Plain) → plain_valid p ≡ true → 0 < length (short_plain p)
 some_bytes (Var v) h = varint_some v (short v) (short_varint v (ltb-true v (2 ^ 64) h))
-some_bytes (Fix64 eight) h = let e : length eight ≡ 8 = eqb-true (length eight) 8 (and_both (nat_eq (length eight) 8) (are_bytes eight) h).0 in omega arith
+some_bytes (Fix64 eight) h = let e : length eight ≡ 8 = eqb-true (length eight) 8 (and_parts (nat_eq (length eight) 8) (are_bytes eight) h).0 in omega arith
 some_bytes (Len body) h =
-    let l : length body < 2 ^ 64 = ltb-true (length body) (2 ^ 64) (and_both _ (are_bytes body) h).0 in
+    let l : length body < 2 ^ 64 = ltb-true (length body) (2 ^ 64) (and_parts _ (are_bytes body) h).0 in
     let s : 0 < length (short (length body)) = varint_some (length body) (short (length body)) (short_varint (length body) l) in
     omega (arith, s, length-append (short (length body)) body)
-some_bytes (Fix32 four) h = let e : length four ≡ 4 = eqb-true (length four) 4 (and_both (nat_eq (length four) 4) (are_bytes four) h).0 in omega arith
+some_bytes (Fix32 four) h = let e : length four ≡ 4 = eqb-true (length four) 4 (and_parts (nat_eq (length four) 4) (are_bytes four) h).0 in omega arith
 
 plains_read : (w : WireType) (ps : List Plain) (fuel : ℕ) → AllPackable w ps → length (end_to_end (map Flat ps)) < fuel → plains_within fuel w (end_to_end (map Flat ps)) ≡ Some ps
 unfolding AllPackable
@@ -124,7 +123,7 @@ plains_same : (kind : ScalarKind) (vs : Values) → is_packable kind ≡ true �
 unfolding plains_of AllPackable
 plains_same kind NoValues p h = (refl, tt)
 plains_same kind (Item (ScalarValue v) vs) p h =
-    let (one, more) = and_both (scalar_valid kind v) (elements_valid (ScalarOf kind) vs) h in
+    let (one, more) = and_parts (scalar_valid kind v) (elements_valid (ScalarOf kind) vs) h in
     let (same, all) = plains_same kind vs p more in
     (ap (λ l. Flat (written kind v) ∷ l) same, (packable kind v p one, all))
 plains_same kind (Item (MessageValue c) vs) p h = absurd (true≢false (sym h))

@@ -2,6 +2,8 @@
 use Rattle.std.proofs.Common.{◌≡◌, ◌≢◌, ℕ, Bool, true, false, ◌&&◌, ◌||◌, ◌⊎◌, cond, inl, inr, List, [], ◌∷◌, ◌++◌, map, flat_map, Option, Some, refl, ap, ap₂, sym, ◌∙◌, subst, append_assoc, append-nil, true≢false}
 use Rattle.prost_reflect_wire.specs.Varint.{◌>>=◌}
 use Rattle.std.specs.Option.{is_some}
+use Rattle.std.proofs.lemmas.Bool.{and_from}
+use Rattle.std.proofs.lemmas.Option.{same_Some}
 use Rattle.prost_reflect_wire.specs.declared.error.DecodeError.{DecodeError}
 use Rattle.prost_reflect_wire.specs.declared.error.DecodeError.TheVariants as errors
 use Rattle.prost_reflect_wire.specs.declared.key.WireType.{WireType}
@@ -9,14 +11,13 @@ use Rattle.prost_reflect_wire.specs.declared.key.WireType.TheVariants as wires
 use Rattle.prost_reflect_wire.specs.Record.{Plain, Var, Fix64, Len, Fix32, Flat}
 use Rattle.prost_reflect_wire.specs.Front.{DelimitedFront, PlainFault, PayloadEnds, PayloadPasses}
 use Rattle.prost_reflect_wire.specs.Scalar.{Scalar, ScalarKind, elem, kind_wire}
-use Rattle.prost_reflect_wire.specs.Schema.{ScalarOf, Repeated, Field, is_packable}
+use Rattle.prost_reflect_wire.specs.Schema.{ScalarOf, Repeated, Field, is_packable, is_map}
 use Rattle.prost_reflect_wire.specs.Content.{Value, ScalarValue}
 use Rattle.prost_reflect_wire.specs.Grammar.{or_none, unpacked, element_payloads_in, fits, packed_allowed}
 use Rattle.prost_reflect_wire.specs.Meaning.{scalar_values}
-use Rattle.prost_reflect_wire.specs.Fault.{ElementFault, ElementEnds, ElementPasses, PackedNext, is_map, takes, same_wire}
+use Rattle.prost_reflect_wire.specs.Fault.{ElementFault, ElementEnds, ElementPasses, PackedNext, takes, same_wire}
 use Rattle.prost_reflect_wire.specs.Decoding.{ScalarRead, ScalarFault, FieldFault, ElementsRead, packed_values}
-use Rattle.prost_reflect_wire.proofs.Sound.{some_inside, bind_ok}
-use Rattle.prost_reflect_wire.proofs.Deeper.{both_true}
+use Rattle.prost_reflect_wire.proofs.Sound.{bind_ok}
 use Rattle.prost_reflect_wire.proofs.Steps.{flat_append}
 use Rattle.prost_reflect_laws.proofs.KindsAllowed.{kind_no_end, element_name}
 use Rattle.prost_reflect_laws.proofs.KindsTaken.{not_both, packable_no_len, or_first, or_second}
@@ -87,10 +88,10 @@ packed_read kind w vs body bytes rest p wire front h =
       plain = Len body;
       wire = sym wire;
       front = delimited_plain body bytes rest front;
-      taken = or_second (fits kind (Flat (Len body))) (packed_allowed (ScalarOf kind) (Flat (Len body))) (both_true p (ap is_some whole));
+      taken = or_second (fits kind (Flat (Len body))) (packed_allowed (ScalarOf kind) (Flat (Len body))) (and_from _ _ p (ap is_some whole));
       values = sym (ap (λ b. flat_map (λ q. scalar_values (elem kind q)) (cond b (map Flat (or_none (unpacked kind body))) (Flat (Len body) ∷ []))) p
           ∙ ap (λ o. flat_map (λ q. scalar_values (elem kind q)) (map Flat (or_none o))) whole
-          ∙ flat_values kind plains ∙ some_inside values);
+          ∙ flat_values kind plains ∙ same_Some _ _ values);
     }
 
 -- a payload that the kind itself takes is one element

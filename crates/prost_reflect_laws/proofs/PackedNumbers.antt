@@ -1,5 +1,6 @@
 -- Payloads of one wire type, one behind another in bytes.
 use Rattle.std.proofs.Common.{◌≡◌, ℕ, zero, suc, ◌+◌, ◌-◌, ◌≤◌, List, [], ◌∷◌, ◌++◌, length, Option, Some, refl, sym, ap, subst, ◌∙◌, arith}
+use Rattle.std.proofs.lemmas.Option.{none-some}
 use Rattle.prost_reflect_wire.specs.declared.error.DecodeError.{DecodeError}
 use Rattle.prost_reflect_wire.specs.declared.key.WireType.{WireType}
 use Rattle.prost_reflect_wire.specs.Varint.{◌>>=◌}
@@ -9,7 +10,7 @@ use Rattle.prost_reflect_wire.specs.Grammar.{plains_within, unpacked}
 use Rattle.prost_reflect_wire.specs.Front.{PlainFront}
 use Rattle.prost_reflect_wire.specs.Fault.{ElementFault, BehindElement}
 use Rattle.prost_reflect_wire.proofs.Reading.{plain_read}
-use Rattle.prost_reflect_wire.proofs.Sound.{bind_ok, none_some}
+use Rattle.prost_reflect_wire.proofs.Sound.{bind_ok}
 use Rattle.prost_reflect_laws.proofs.KindsAllowed.{plain_shorter}
 
 -- the payloads stand in front of the rest
@@ -44,7 +45,7 @@ all_plains w (p ∷ ps) bytes (mid, front, own, f) = first_plain w (suc (length 
 
 -- more fuel reads the same
 more_fuel : (w : WireType) (fuel : ℕ) (bytes : List ℕ) (ps : List Plain) → plains_within fuel w bytes ≡ Some ps → plains_within (suc fuel) w bytes ≡ Some ps
-more_fuel w zero bytes ps h = absurd (none_some h)
+more_fuel w zero bytes ps h = absurd (none-some _ h)
 more_fuel w (suc fuel) [] ps h = h
 more_fuel w (suc fuel) (b ∷ bytes) ps h =
     let (p, m, g) = bind_ok (λ p. plains_within fuel w p.1 >>= λ rest. Some (p.0 ∷ rest)) (plain_at w (b ∷ bytes)) ps h in

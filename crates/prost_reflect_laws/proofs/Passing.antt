@@ -1,6 +1,7 @@
 -- Passage through a reduction, at all levels.
 use Rattle.std.proofs.Common.{◌≡◌, ℕ, zero, suc, ◌^◌, ◌<◌, true, List, length, Option, Some, refl, ap, sym, subst, ◌∙◌, true≢false}
 use Rattle.std.specs.List.{list_all}
+use Rattle.std.proofs.lemmas.Option.{same_Some}
 use Rattle.prost_reflect_wire.specs.Varint.{AreBytes, guard, ◌>>=◌}
 use Rattle.prost_reflect_wire.specs.Record.{Record, Records, Spells, items, read, body_of, valid}
 use Rattle.prost_reflect_wire.specs.Schema.{Schema, known, schema_valid}
@@ -24,7 +25,6 @@ use Rattle.prost_reflect_laws.proofs.Readable.{body_items}
 use Rattle.prost_reflect_laws.proofs.Again.{Carries}
 use Rattle.prost_reflect_laws.proofs.WrittenSlots.{BothSlots, Numbered, table_numbered, both_sound, both_allowed, both_read}
 use Rattle.prost_reflect_laws.proofs.Relaying.{Step, meaning_slots}
-use Rattle.prost_reflect_wire.proofs.Sound.{some_inside}
 
 step_of : (pairs : TypePairs) (k : ℕ) (i : MeansInside) (a : AllowsInside) (j : MeansInside) (older newer : Schema) (A B : ℕ) (rs : List Record) → schema_valid older ≡ true → AllMatch pairs older newer → Carries pairs k i a j → holds pairs A B ≡ true → valid (body_of rs) ≡ true →
     list_all (record_allowed k a (known newer B)) rs ≡ true → Step pairs k i a j older newer A B rs
@@ -108,7 +108,7 @@ written_read schema k T c d sound allowed same short =
 pub passage_related : (older newer : Schema) (k A B : ℕ) (bytes : List ℕ) (c : Content) → schema_valid older ≡ true → AreBytes bytes → Relates older A newer B → Accepts newer k B bytes →
     decoded older k A bytes ≡ Some c → length (encoded c) < 2 ^ 64 → Accepts newer k B (encoded c) × (decoded newer k B (encoded c) ≡ decoded newer k B bytes)
 passage_related older newer k A B bytes c checked small r a e short =
-    let same : meaning older k A (items a.records) ≡ c = some_inside (sym (older_decoded older newer k A B bytes r a) ∙ e) in
+    let same : meaning older k A (items a.records) ≡ c = same_Some _ _ (sym (older_decoded older newer k A B bytes r a) ∙ e) in
     subst (λ (c : Content). Accepts newer k B (encoded c) × (decoded newer k B (encoded c) ≡ decoded newer k B bytes)) same (relayed (subst (λ (c : Content). length (encoded c) < 2 ^ 64) (sym same) short))
   where
     carries : Carries r.pairs (suc k) (meaning older k) (allows newer k) (meaning newer k)

@@ -1,13 +1,13 @@
 -- A path to a field that takes a value leads there through a newer type of a reduction too.
 use Rattle.std.proofs.Common.{◌≡◌, ℕ, true, false, ◌&&◌, List, [], ◌∷◌, Option, Some, None, refl, ap, sym, ◌∙◌, true≢false}
+use Rattle.std.proofs.lemmas.Bool.{and_parts, and_from, or_parts}
 use Rattle.prost_reflect_wire.specs.Scalar.{Scalar}
-use Rattle.prost_reflect_wire.specs.Schema.{Kind, ScalarOf, MessageOf, GroupOf, ValueType, MapFrom, Field, Schema, known, field_of, is_singular}
+use Rattle.prost_reflect_wire.specs.Schema.{Kind, ScalarOf, MessageOf, GroupOf, ValueType, MapFrom, Field, Schema, known, field_of, is_singular, is_list}
 use Rattle.prost_reflect_wire.specs.Content.{Value, ScalarValue, MessageValue, ListValue, MapValue, Values, NoValues, Item, Pairs, NoPairs, Pair}
-use Rattle.prost_reflect_wire.specs.Typing.{kind_takes, is_repeated, element_valid, elements_valid, pairs_valid, value_valid, kind_for, ValueTyped, ValuesTyped, PairsTyped, ValueStored}
+use Rattle.prost_reflect_wire.specs.Typing.{kind_takes, element_valid, elements_valid, pairs_valid, value_valid, kind_for, ValueTyped, ValuesTyped, PairsTyped, ValueStored}
 use Rattle.prost_reflect_wire.specs.Edit.{message_of, PathTo, holds_message, values_hold_message, pairs_hold_message}
 use Rattle.prost_reflect_wire.specs.Reduction.{TypePairs, holds, same_kind, same_form}
-use Rattle.prost_reflect_wire.proofs.Survivors.{field_number, or_false}
-use Rattle.prost_reflect_wire.proofs.Deeper.{and_both, both_true}
+use Rattle.prost_reflect_wire.proofs.Survivors.{field_number}
 use Rattle.prost_reflect_laws.proofs.FieldTypes.{singular, repeated}
 use Rattle.prost_reflect_laws.proofs.Alike.{alike, SameType}
 use Rattle.prost_reflect_laws.proofs.Matches.{AllMatch, like}
@@ -31,28 +31,28 @@ element_like pairs k l (MapValue ps) h t none = absurd (true≢false (sym t))
 elements_like : (pairs : TypePairs) (k l : Kind) (vs : Values) → same_kind pairs k l ≡ true → elements_valid k vs ≡ true → values_hold_message vs ≡ false → elements_valid l vs ≡ true
 elements_like pairs k l NoValues h t none = refl
 elements_like pairs k l (Item v vs) h t none =
-    let (one, more) = and_both (element_valid k v) (elements_valid k vs) t in
-    let (a, b) = or_false (holds_message v) (values_hold_message vs) none in
-    both_true (element_like pairs k l v h one a) (elements_like pairs k l vs h more b)
+    let (one, more) = and_parts (element_valid k v) (elements_valid k vs) t in
+    let (a, b) = or_parts (holds_message v) (values_hold_message vs) none in
+    and_from _ _ (element_like pairs k l v h one a) (elements_like pairs k l vs h more b)
 
 pairs_like : (pairs : TypePairs) (keyA keyB : ValueType) (k l : Kind) (ps : Pairs) → SameType pairs keyA keyB → same_kind pairs k l ≡ true → pairs_valid (MapFrom keyA) k ps ≡ true → pairs_hold_message ps ≡ false → pairs_valid (MapFrom keyB) l ps ≡ true
 pairs_like pairs keyA keyB k l NoPairs key h t none = refl
 pairs_like pairs keyA keyB k l (Pair x v ps) key h t none =
-    let (here, more) = and_both (kind_takes keyA.kind x && element_valid k v) (pairs_valid (MapFrom keyA) k ps) t in
-    let (takes, fits) = and_both (kind_takes keyA.kind x) (element_valid k v) here in
-    let (a, b) = or_false (holds_message v) (pairs_hold_message ps) none in
-    both_true (both_true (takes_like pairs keyA.kind keyB.kind x key.kind takes) (element_like pairs k l v h fits a)) (pairs_like pairs keyA keyB k l ps key h more b)
+    let (here, more) = and_parts (kind_takes keyA.kind x && element_valid k v) (pairs_valid (MapFrom keyA) k ps) t in
+    let (takes, fits) = and_parts (kind_takes keyA.kind x) (element_valid k v) here in
+    let (a, b) = or_parts (holds_message v) (pairs_hold_message ps) none in
+    and_from _ _ (and_from _ _ (takes_like pairs keyA.kind keyB.kind x key.kind takes) (element_like pairs k l v h fits a)) (pairs_like pairs keyA keyB k l ps key h more b)
 
 valid_like : (pairs : TypePairs) (f g : Field) (v : Value) → same_form pairs f.form g.form ≡ true → SameType pairs f.value_type g.value_type → value_valid f v ≡ true → holds_message v ≡ false → value_valid g v ≡ true
 valid_like pairs f g (MessageValue c) form type t none = absurd (true≢false none)
 valid_like pairs f g (ScalarValue v) form type t none =
-    let (s, takes) = and_both (is_singular f.form) (kind_takes f.value_type.kind v) t in
-    both_true (ap is_singular (single_like pairs f.form g.form (singular f.form s) form)) (takes_like pairs f.value_type.kind g.value_type.kind v type.kind takes)
+    let (s, takes) = and_parts (is_singular f.form) (kind_takes f.value_type.kind v) t in
+    and_from _ _ (ap is_singular (single_like pairs f.form g.form (singular f.form s) form)) (takes_like pairs f.value_type.kind g.value_type.kind v type.kind takes)
 valid_like pairs f g (ListValue vs) form type t none =
-    let (r, fits) = and_both (is_repeated f.form) (elements_valid f.value_type.kind vs) t in
+    let (r, fits) = and_parts (is_list f.form) (elements_valid f.value_type.kind vs) t in
     let (x, is) = repeated f.form r in
     let (y, its) = list_like pairs f.form g.form x is form in
-    both_true (ap is_repeated its) (elements_like pairs f.value_type.kind g.value_type.kind vs type.kind fits none)
+    and_from _ _ (ap is_list its) (elements_like pairs f.value_type.kind g.value_type.kind vs type.kind fits none)
 valid_like pairs f g (MapValue ps) form type t none =
     let (keyA, is) = of_map f.form f.value_type.kind ps t in
     let (keyB, its, key) = map_like pairs f.form g.form keyA is form in
@@ -68,11 +68,11 @@ mutual
 
   no_types_list : (schema : Schema) (kind : Option Kind) (vs : Values) → values_hold_message vs ≡ false → ValuesTyped schema kind vs
   no_types_list schema kind NoValues none = tt
-  no_types_list schema kind (Item v vs) none = let (a, b) = or_false (holds_message v) (values_hold_message vs) none in (no_types schema kind v a, no_types_list schema kind vs b)
+  no_types_list schema kind (Item v vs) none = let (a, b) = or_parts (holds_message v) (values_hold_message vs) none in (no_types schema kind v a, no_types_list schema kind vs b)
 
   no_types_map : (schema : Schema) (kind : Option Kind) (ps : Pairs) → pairs_hold_message ps ≡ false → PairsTyped schema kind ps
   no_types_map schema kind NoPairs none = tt
-  no_types_map schema kind (Pair x v ps) none = let (a, b) = or_false (holds_message v) (pairs_hold_message ps) none in (no_types schema kind v a, no_types_map schema kind ps b)
+  no_types_map schema kind (Pair x v ps) none = let (a, b) = or_parts (holds_message v) (pairs_hold_message ps) none in (no_types schema kind v a, no_types_map schema kind ps b)
 
 stored_like : (pairs : TypePairs) (older newer : Schema) (f g : Field) (v : Value) → same_form pairs f.form g.form ≡ true → SameType pairs f.value_type g.value_type → holds_message v ≡ false → ValueStored older f v → ValueStored newer g v
 stored_like pairs older newer f g v form type none s = record {

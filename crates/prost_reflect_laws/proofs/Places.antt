@@ -2,7 +2,7 @@
 use Rattle.std.proofs.Common.{◌≡◌, ℕ, zero, suc, ◌≤◌, Bool, true, false, ◌&&◌, ◌⊎◌, inl, inr, List, [], ◌∷◌, ◌++◌, nat_eq, nat_le, Option, Some, None, refl, sym, ap, ap₂, subst, ◌∙◌, arith, append-nil, true≢false, ◌≢◌}
 use Rattle.std.specs.Prelude.{if◌then◌else◌}
 use Rattle.std.specs.List.{list_all}
-use Rattle.std.proofs.lemmas.Bool.{leb-true, le-leb}
+use Rattle.std.proofs.lemmas.Bool.{leb-true, le-leb, and_parts}
 use Rattle.prost_reflect_wire.specs.declared.key.WireType.TheVariants as wires
 use Rattle.prost_reflect_wire.specs.Varint.{AreBytes, ◌>>=◌}
 use Rattle.prost_reflect_wire.specs.Record.{Len, Records, NoRecords, PlainRecord, GroupRecord, Record, record_at, Payload, Flat, Group, before, items, raw_levels, payload_levels, payload_wire, Spells, read, wire_code}
@@ -10,9 +10,9 @@ use Rattle.prost_reflect_wire.specs.Schema.{Schema, ValueType, known, passes}
 use Rattle.prost_reflect_wire.specs.Grammar.{body, AllowsInside, nothing_inside, one_allowed, in_entry_allowed, field_allowed, record_allowed, allows}
 use Rattle.prost_reflect_wire.specs.Front.{KeyFront, RecordsFront, PayloadFront}
 use Rattle.prost_reflect_wire.specs.Fault.{Place, OfType, OfEntry, entry_field, field_at}
-use Rattle.prost_reflect_wire.proofs.Deeper.{and_both}
 use Rattle.prost_reflect_wire.proofs.Sound.{read_spells}
 use Rattle.prost_reflect_wire.proofs.RecordFronts.{record_parts, RecordParts, first_parts, FrontParts}
+use Rattle.prost_reflect_wire.proofs.Bodies.{items_before}
 use Rattle.prost_reflect_laws.proofs.BodyFronts.{none_first, key_bytes, payload_bytes}
 
 pub len_no_end : wires.LengthDelimited ≢ wires.EndGroup
@@ -71,10 +71,6 @@ pub data EndNext (place : Place) : Type 0 where
   AtEnd : place.bytes ≡ [] → place.open_group ≡ None → EndNext place
   AtStop : (n : ℕ) (rest : List ℕ) → place.open_group ≡ Some n → KeyFront n wires.EndGroup place.bytes rest → EndNext place
 
-pub items_first : (n : ℕ) (p : Payload) (rs : Records) → items (before (record_at n p) rs) ≡ record_at n p ∷ items rs
-items_first n (Flat p) rs = refl
-items_first n (Group inside) rs = refl
-
 pub record FirstOf (schema : Schema) (place : Place) (rest : List ℕ) : Type 0 where
   pub behind : List ℕ
   pub next : NextRecord schema place behind
@@ -89,7 +85,7 @@ first_behind : (schema : Schema) (place : Place) (n : ℕ) (p : Payload) (rs : R
 first_behind schema place n p rs rest b =
     let f : FrontParts (record_at n p) rs place.bytes b.end = first_parts (record_at n p) rs place.bytes b.end b.records in
     let r : RecordParts n p place.bytes f.mid = record_parts n p place.bytes f.mid f.first in
-    let allowed = and_both (payload_allowed schema place n p) (list_all (allowed_at schema place) (items rs)) (ap (list_all (allowed_at schema place)) (sym (items_first n p rs)) ∙ b.allowed) in
+    let allowed = and_parts (payload_allowed schema place n p) (list_all (allowed_at schema place) (items rs)) (ap (list_all (allowed_at schema place)) (sym (items_before (record_at n p) rs)) ∙ b.allowed) in
     record {
       behind = f.mid;
       next = record { number = n; payload = p; behind_key = r.mid; key = r.key; front = r.payload; allowed = allowed.0 };
@@ -146,9 +142,9 @@ levels_inside k (GroupRecord n inside rs) h = rw (le-leb (suc (raw_levels inside
 
 pub levels_outside : (k : ℕ) (rs : Records) → list_all (λ r. nat_le (payload_levels r.payload) k) (items rs) ≡ true → raw_levels rs ≤ k
 levels_outside k NoRecords h = omega arith
-levels_outside k (PlainRecord n p rs) h = levels_outside k rs (and_both (nat_le 0 k) (list_all (λ r. nat_le (payload_levels r.payload) k) (items rs)) h).1
+levels_outside k (PlainRecord n p rs) h = levels_outside k rs (and_parts (nat_le 0 k) (list_all (λ r. nat_le (payload_levels r.payload) k) (items rs)) h).1
 levels_outside k (GroupRecord n inside rs) h =
-    let (one, more) = and_both (nat_le (suc (raw_levels inside)) k) (list_all (λ r. nat_le (payload_levels r.payload) k) (items rs)) h in
+    let (one, more) = and_parts (nat_le (suc (raw_levels inside)) k) (list_all (λ r. nat_le (payload_levels r.payload) k) (items rs)) h in
     let here : suc (raw_levels inside) ≤ k = leb-true (suc (raw_levels inside)) k one in
     omega (arith, here, levels_outside k rs more)
 

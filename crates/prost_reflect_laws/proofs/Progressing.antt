@@ -1,5 +1,6 @@
 -- A message that is read record by record.
 use Rattle.std.proofs.Common.{◌≡◌, ◌≢◌, ℕ, List, [], Option, Some, None, refl, subst, ◌∙◌}
+use Rattle.std.proofs.lemmas.Option.{none-some}
 use Rattle.prost_reflect_wire.specs.declared.key.WireType.{WireType}
 use Rattle.prost_reflect_wire.specs.declared.key.WireType.TheVariants as wires
 use Rattle.prost_reflect_wire.specs.declared.error.DecodeError.{DecodeError}
@@ -48,12 +49,9 @@ progress_no_record_in levels n w old mid opened e bytes rest after done key clos
     stands_here levels old mid opened e bytes rest done (subst (λ T. Stands (schema_of old) e (record { bytes = rest; inside = OfType T; levels = levels; open_group = opened })) h.type
     (subst (λ s. Stands s e (record { bytes = rest; inside = OfType (type_of mid); levels = levels; open_group = opened })) h.schema (f rest opened key closes)))
 
-pub none_closes : {n : ℕ} → ◌≡◌ {A = Option ℕ} None (Some n) → ⊥
-none_closes e = cc
-
 pub progress_no_record : (levels n : ℕ) (w : WireType) (old mid : Content) (e : DecodeError) (bytes rest after : List ℕ) → Progress levels old mid bytes rest → KeyFront n w rest after → StandsBehindKey mid levels n w e after →
     StandsInMessage (schema_of old) (type_of old) levels e bytes
-progress_no_record levels n w old mid e bytes rest after done key f = progress_no_record_in levels n w old mid None e bytes rest after done key (λ _. none_closes) f
+progress_no_record levels n w old mid e bytes rest after done key f = progress_no_record_in levels n w old mid None e bytes rest after done key (λ _. none-some _) f
 
 -- in a group an end key of another number
 pub progress_other_end : (levels n m : ℕ) (old mid : Content) (bytes rest after : List ℕ) → Progress levels old mid bytes rest → KeyFront m wires.EndGroup rest after → n ≢ m → StandsInGroup old levels n errors.EndGroup bytes

@@ -4,11 +4,12 @@ use Rattle.std.specs.Bool.{⊤}
 use Rattle.std.specs.declared.cmp.Ordering.{Ordering}
 use Rattle.std.specs.declared.cmp.Ordering.TheVariants.{Less, Equal, Greater}
 use Rattle.std.specs.Ordering.{is_eq, ordering_reverse}
+use Rattle.std.proofs.lemmas.Bool.{and_parts}
 use Rattle.prost_reflect_wire.specs.Scalar.{Scalar, scalar_cmp, scalar_lt, scalar_eq, is_less}
 use Rattle.prost_reflect_wire.specs.Content.{Value, Pairs, NoPairs, Pair, key_before, value_ordered, pairs_ordered}
 use Rattle.prost_reflect_wire.specs.Meaning.{put}
-use Rattle.prost_reflect_laws.proofs.Order.{scalar_total, scalars_equal, less_less, not_below, not_same}
-use Rattle.prost_reflect_wire.proofs.Deeper.{and_both}
+use Rattle.prost_reflect_wire.specs.Deciding.{scalar_decides}
+use Rattle.prost_reflect_laws.proofs.Order.{scalar_total, less_less, not_below, not_same}
 
 -- KEYS IN ORDER
 
@@ -19,8 +20,8 @@ Rising (Pair k v ps) = (key_before k ps ≡ true) × Rising ps
 pub pairs_rising : (ps : Pairs) → pairs_ordered ps ≡ true → Rising ps
 pairs_rising NoPairs h = tt
 pairs_rising (Pair x v ps) h =
-    let (ab, rest) = and_both (key_before x ps && value_ordered v) (pairs_ordered ps) h in
-    ((and_both (key_before x ps) (value_ordered v) ab).0, pairs_rising ps rest)
+    let (ab, rest) = and_parts (key_before x ps && value_ordered v) (pairs_ordered ps) h in
+    ((and_parts (key_before x ps) (value_ordered v) ab).0, pairs_rising ps rest)
 
 pub otherwise : (k l : Scalar) → scalar_lt k l ≡ false → scalar_eq k l ≡ false → scalar_lt l k ≡ true
 otherwise k l h e = ap is_less (scalar_total.antisymm l k) ∙ go (scalar_cmp k l) h e
@@ -45,7 +46,7 @@ put_rising k v (Pair l w ps) (b, rest) = go (scalar_lt k l) refl (scalar_eq k l)
   where
     go : (x : Bool) → scalar_lt k l ≡ x → (y : Bool) → scalar_eq k l ≡ y → Rising (put k v ps) → Rising (cond x (Pair k v (Pair l w ps)) (cond y (Pair k v ps) (Pair l w (put k v ps))))
     go true e y d more = (e, (b, rest))
-    go false e true d more = (ap (λ x. key_before x ps) (scalars_equal k l d) ∙ b, rest)
+    go false e true d more = (ap (λ x. key_before x ps) ((scalar_decides k l).0 d) ∙ b, rest)
     go false e false d more = (before_put l k v ps (otherwise k l e d) b, more)
 
 -- PAIRS ONE AFTER ANOTHER

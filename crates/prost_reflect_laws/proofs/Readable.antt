@@ -1,14 +1,15 @@
 -- Records that are read of bytes have a spelling, and so have those in a payload that has one.
 use Rattle.std.proofs.Common.{◌≡◌, ℕ, zero, suc, ◌^◌, Bool, true, false, cond, ◌&&◌, List, [], ◌∷◌, ◌++◌, map, filter, length, nat_eq, nat_lt, Option, Some, None, refl, ap, sym, ◌∙◌, subst}
 use Rattle.std.specs.List.{list_all}
+use Rattle.std.proofs.lemmas.Bool.{and_parts, and_from}
+use Rattle.std.proofs.lemmas.Option.{none-some, same_Some}
 use Rattle.prost_reflect_wire.specs.Varint.{AreBytes, are_bytes, ◌>>=◌}
 use Rattle.prost_reflect_wire.specs.Record.{Plain, Var, Fix64, Len, Fix32, Records, NoRecords, PlainRecord, GroupRecord, Payload, Flat, Group, Record, items, before, body_of, plain_at, read, number_valid, plain_valid, valid, payload_valid}
 use Rattle.prost_reflect_wire.specs.Scalar.{kind_wire}
 use Rattle.prost_reflect_wire.specs.Schema.{Kind, ScalarOf, MessageOf, GroupOf, is_packable}
 use Rattle.prost_reflect_wire.specs.Grammar.{or_none, plains_within, unpacked, records_in, element_payloads_in, numbered, has_number, payloads}
 use Rattle.prost_reflect_wire.specs.declared.key.WireType.{WireType}
-use Rattle.prost_reflect_wire.proofs.Deeper.{and_both, both_true}
-use Rattle.prost_reflect_wire.proofs.Sound.{Front, plain_sound, bind_ok, some_inside, none_some, read_spells}
+use Rattle.prost_reflect_wire.proofs.Sound.{Front, plain_sound, bind_ok, read_spells}
 use Rattle.prost_reflect_laws.proofs.Means.{first_valid}
 use Rattle.prost_reflect_wire.proofs.ByteLists.{bytes_front, bytes_behind, test_bytes}
 use Rattle.prost_reflect_laws.proofs.SpelledValid.{spelled_plain_valid, spelled_valid}
@@ -30,7 +31,7 @@ inside_spelled (Flat (Len bytes)) h = go (read bytes) refl
     go : (o : Option Records) → read bytes ≡ o → valid (body_of (or_none (o >>= λ rs. Some (items rs)))) ≡ true
     go None e = refl
     go (Some rs) e =
-        let bytes_small : AreBytes bytes = test_bytes bytes (and_both (nat_lt (length bytes) (2 ^ 64)) (are_bytes bytes) h).1 in
+        let bytes_small : AreBytes bytes = test_bytes bytes (and_parts (nat_lt (length bytes) (2 ^ 64)) (are_bytes bytes) h).1 in
         ap valid (body_items rs) ∙ spelled_valid rs bytes bytes_small (read_spells bytes rs bytes_small e)
 
 pub append_valid : (rs qs : List Record) → valid (body_of rs) ≡ true → valid (body_of qs) ≡ true → valid (body_of (rs ++ qs)) ≡ true
@@ -39,20 +40,20 @@ append_valid (r ∷ rs) qs h k = go r.payload h (λ c. append_valid rs qs c k)
   where
     go : (p : Payload) → valid (before (record { number = r.number; payload = p }) (body_of rs)) ≡ true → (valid (body_of rs) ≡ true → valid (body_of (rs ++ qs)) ≡ true) → valid (before (record { number = r.number; payload = p }) (body_of (rs ++ qs))) ≡ true
     go (Flat p) h more =
-        let (a, bc) = and_both (number_valid r.number) (plain_valid p && valid (body_of rs)) h in
-        let (b, c) = and_both (plain_valid p) (valid (body_of rs)) bc in
-        both_true a (both_true b (more c))
+        let (a, bc) = and_parts (number_valid r.number) (plain_valid p && valid (body_of rs)) h in
+        let (b, c) = and_parts (plain_valid p) (valid (body_of rs)) bc in
+        and_from _ _ a (and_from _ _ b (more c))
     go (Group inside) h more =
-        let (a, bc) = and_both (number_valid r.number) (valid inside && valid (body_of rs)) h in
-        let (b, c) = and_both (valid inside) (valid (body_of rs)) bc in
-        both_true a (both_true b (more c))
+        let (a, bc) = and_parts (number_valid r.number) (valid inside && valid (body_of rs)) h in
+        let (b, c) = and_parts (valid inside) (valid (body_of rs)) bc in
+        and_from _ _ a (and_from _ _ b (more c))
 
 pub number_spelled : (r : Record) (rs : List Record) → valid (body_of (r ∷ rs)) ≡ true → number_valid r.number ≡ true
 number_spelled r rs h = go r.payload h
   where
     go : (p : Payload) → valid (before (record { number = r.number; payload = p }) (body_of rs)) ≡ true → number_valid r.number ≡ true
-    go (Flat p) h = (and_both (number_valid r.number) (plain_valid p && valid (body_of rs)) h).0
-    go (Group inside) h = (and_both (number_valid r.number) (valid inside && valid (body_of rs)) h).0
+    go (Flat p) h = (and_parts (number_valid r.number) (plain_valid p && valid (body_of rs)) h).0
+    go (Group inside) h = (and_parts (number_valid r.number) (valid inside && valid (body_of rs)) h).0
 
 -- the payloads of a number
 pub numbered_valid : (n : ℕ) (rs : List Record) → valid (body_of rs) ≡ true → list_all payload_valid (numbered n rs) ≡ true
@@ -62,33 +63,33 @@ numbered_valid n (r ∷ rs) h =
     go (nat_eq r.number n) one (numbered_valid n rs more)
   where
     go : (b : Bool) → payload_valid r.payload ≡ true → list_all payload_valid (numbered n rs) ≡ true → list_all payload_valid (payloads (cond b (r ∷ filter (has_number n) rs) (filter (has_number n) rs))) ≡ true
-    go true one more = both_true one more
+    go true one more = and_from _ _ one more
     go false one more = more
 
 -- PACKED ELEMENTS
 
 plains_valid : (fuel : ℕ) (wire : WireType) (bytes : List ℕ) (ps : List Plain) → AreBytes bytes → plains_within fuel wire bytes ≡ Some ps → list_all payload_valid (map Flat ps) ≡ true
-plains_valid zero wire bytes ps h e = absurd (none_some e)
-plains_valid (suc fuel) wire [] ps h e = ap (λ ps. list_all payload_valid (map Flat ps)) (sym (some_inside e))
+plains_valid zero wire bytes ps h e = absurd (none-some _ e)
+plains_valid (suc fuel) wire [] ps h e = ap (λ ps. list_all payload_valid (map Flat ps)) (sym (same_Some _ _ e))
 plains_valid (suc fuel) wire (b ∷ bytes) ps h e =
     let (p, m, f) = bind_ok (λ p. plains_within fuel wire p.1 >>= λ rest. Some (p.0 ∷ rest)) (plain_at wire (b ∷ bytes)) ps e in
     let (rest, k, g) = bind_ok (λ rest. Some (p.0 ∷ rest)) (plains_within fuel wire p.1) ps f in
     let s : Front wire (b ∷ bytes) p.0 p.1 = plain_sound wire (b ∷ bytes) p.0 p.1 h m in
     let all : AreBytes (s.front ++ p.1) = subst AreBytes s.whole h in
-    ap (λ ps. list_all payload_valid (map Flat ps)) (sym (some_inside g))
-    ∙ both_true (spelled_plain_valid p.0 s.front (bytes_front s.front p.1 all) s.spells) (plains_valid fuel wire p.1 rest (bytes_behind s.front p.1 all) k)
+    ap (λ ps. list_all payload_valid (map Flat ps)) (sym (same_Some _ _ g))
+    ∙ and_from _ _ (spelled_plain_valid p.0 s.front (bytes_front s.front p.1 all) s.spells) (plains_valid fuel wire p.1 rest (bytes_behind s.front p.1 all) k)
 
 pub elements_in_valid : (kind : Kind) (p : Payload) → payload_valid p ≡ true → list_all payload_valid (element_payloads_in kind p) ≡ true
 unfolding unpacked
 elements_in_valid (ScalarOf kind) (Flat (Len bytes)) h = go (is_packable kind) (unpacked kind bytes) refl
   where
     go : (b : Bool) (o : Option (List Plain)) → plains_within (suc (length bytes)) (kind_wire kind) bytes ≡ o → list_all payload_valid (cond b (map Flat (or_none o)) (Flat (Len bytes) ∷ [])) ≡ true
-    go false o e = both_true h refl
+    go false o e = and_from _ _ h refl
     go true None e = refl
-    go true (Some ps) e = plains_valid (suc (length bytes)) (kind_wire kind) bytes ps (test_bytes bytes (and_both (nat_lt (length bytes) (2 ^ 64)) (are_bytes bytes) h).1) e
-elements_in_valid (ScalarOf kind) (Flat (Var v)) h = both_true h refl
-elements_in_valid (ScalarOf kind) (Flat (Fix64 eight)) h = both_true h refl
-elements_in_valid (ScalarOf kind) (Flat (Fix32 four)) h = both_true h refl
-elements_in_valid (ScalarOf kind) (Group inside) h = both_true h refl
-elements_in_valid (MessageOf T) p h = both_true h refl
-elements_in_valid (GroupOf T) p h = both_true h refl
+    go true (Some ps) e = plains_valid (suc (length bytes)) (kind_wire kind) bytes ps (test_bytes bytes (and_parts (nat_lt (length bytes) (2 ^ 64)) (are_bytes bytes) h).1) e
+elements_in_valid (ScalarOf kind) (Flat (Var v)) h = and_from _ _ h refl
+elements_in_valid (ScalarOf kind) (Flat (Fix64 eight)) h = and_from _ _ h refl
+elements_in_valid (ScalarOf kind) (Flat (Fix32 four)) h = and_from _ _ h refl
+elements_in_valid (ScalarOf kind) (Group inside) h = and_from _ _ h refl
+elements_in_valid (MessageOf T) p h = and_from _ _ h refl
+elements_in_valid (GroupOf T) p h = and_from _ _ h refl

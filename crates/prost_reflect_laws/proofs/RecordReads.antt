@@ -1,6 +1,6 @@
 -- A scalar's record, and one that stays unknown, read into what a message stores.
 use Rattle.std.proofs.Common.{◌≡◌, ℕ, Bool, true, false, cond, List, [], ◌∷◌, nat_eq, nat_le, Some, None, refl, ap, sym, ◌∙◌, subst, arith, true≢false, ◌++◌, ◌≤◌}
-use Rattle.std.proofs.lemmas.Bool.{le-leb}
+use Rattle.std.proofs.lemmas.Bool.{le-leb, and_from}
 use Rattle.std.specs.Prelude.{is_some}
 use Rattle.prost_reflect_wire.specs.declared.key.WireType.{WireType}
 use Rattle.prost_reflect_wire.specs.Varint.{AreBytes}
@@ -16,7 +16,6 @@ use Rattle.prost_reflect_wire.specs.Typing.{kept}
 use Rattle.prost_reflect_wire.specs.Edit.{with_value}
 use Rattle.prost_reflect_wire.specs.Storing.{with_stored, with_unknown}
 use Rattle.prost_reflect_wire.specs.Decoding.{RecordRead, ScalarRead}
-use Rattle.prost_reflect_wire.proofs.Deeper.{both_true}
 use Rattle.prost_reflect_wire.proofs.Survivors.{field_number}
 use Rattle.prost_reflect_wire.proofs.Numbers.{empty_slot, eqb-sym}
 use Rattle.prost_reflect_laws.proofs.Allowed.{inside, allows_inside}
@@ -30,7 +29,7 @@ use Rattle.prost_reflect_laws.proofs.Readings.{steps_level, steps_one}
 
 -- one record alone
 pub one_allowed_record : (schema : Schema) (k T : ℕ) (r : Record) → record_allowed k (inside schema k) (known schema T) r ≡ true → allows schema k T (r ∷ []) ≡ true
-one_allowed_record schema k T r h = allows_inside schema k T (r ∷ []) ∙ both_true h refl
+one_allowed_record schema k T r h = allows_inside schema k T (r ∷ []) ∙ and_from _ _ h refl
 
 -- one record of a field
 pub allowed_record : (schema : Schema) (k T : ℕ) (f : Field) (p : Payload) → field_of (known schema T) f.number ≡ Some f → field_allowed k (inside schema k) f.form f.value_type p ≡ true → allows schema k T (record_at f.number p ∷ []) ≡ true
@@ -43,6 +42,12 @@ one_step schema k T es ds r h = sym (steps_one k (kept (ContentOf schema T es)) 
 
 abbrev Changed : List Field → Field → Value → Entries → Entries → Type 0
 Changed fields f v es ds = (m : ℕ) → slot_at ds m ≡ with_stored fields f v m (slot_at es m)
+
+-- storing at one number leaves an empty slot at another
+pub still_empty : (v : Scalar) (b : Bool) → b ≡ false → (c : Bool) → cond b (with_value (Some (ScalarValue v)) empty_slot) (cond c (with_value None empty_slot) empty_slot) ≡ empty_slot
+still_empty v true e c = absurd (true≢false e)
+still_empty v false e true = refl
+still_empty v false e false = refl
 
 scalar_itself : (schema : Schema) (k T : ℕ) (es ds : Entries) (f : Field) (kind : ScalarKind) (w : WireType) (v : Scalar) (bytes rest : List ℕ) → (read : ScalarRead kind w v bytes rest) → is_undeclared kind (Flat read.plain) ≡ false →
     field_of (known schema T) f.number ≡ Some f → f.form ≡ Singular → f.value_type.kind ≡ ScalarOf kind → Mutual (known schema T) f → Known (known schema T) es → entries_ordered es ≡ true → entries_ordered ds ≡ true →
@@ -58,16 +63,11 @@ scalar_itself schema k T es ds f kind w v bytes rest read declared found form is
   means = one_step schema k T es ds (record_at f.number p)
       (kept_step (below schema k) (further k) schema T es ds (record_at f.number p) (with_stored (known schema T) f (ScalarValue v)) o q slots
       (λ m slot absent. scalar_step (below schema k) (further k) (known schema T) f kind p v m slot (record { found = found; form = form; kind_is = is; declared = declared; read = read.value }) fellows absent)
-      (λ m apart. still m (nat_eq m f.number) (eqb-sym m f.number ∙ apart) (is_sibling (known schema T) f m)) values);
+      (λ m apart. still_empty v (nat_eq m f.number) (eqb-sym m f.number ∙ apart) (is_sibling (known schema T) f m)) values);
 }
   where
     p : Payload
     p = Flat read.plain
-
-    still : (m : ℕ) (b : Bool) → b ≡ false → (c : Bool) → cond b (with_value (Some (ScalarValue v)) empty_slot) (cond c (with_value None empty_slot) empty_slot) ≡ empty_slot
-    still m true e c = absurd (true≢false e)
-    still m false e true = refl
-    still m false e false = refl
 
 -- a scalar's record is read where its value was stored
 pub scalar_record : (schema : Schema) (k T : ℕ) (es ds : Entries) (n : ℕ) (f : Field) (kind : ScalarKind) (w : WireType) (v : Scalar) (bytes rest : List ℕ) → (read : ScalarRead kind w v bytes rest) → is_undeclared kind (Flat read.plain) ≡ false →

@@ -3,12 +3,12 @@ use Rattle.std.proofs.Common.{◌≡◌, ℕ, zero, suc, ◌≤◌, ◌<◌, ◌
 use Rattle.std.specs.Prelude.{IsTrue}
 use Rattle.std.specs.Bool.{beq}
 use Rattle.std.specs.List.{list_all}
-use Rattle.std.proofs.lemmas.Bool.{eqb-true, eqb-false, ltb-true}
+use Rattle.std.proofs.lemmas.Bool.{eqb-true, eqb-false, ltb-true, and_parts, and_from}
 use Rattle.std.proofs.lemmas.List.Folds.{list_any-append}
+use Rattle.std.proofs.Math.Bool.{or-true}
 use Rattle.prost_reflect_wire.specs.Schema.{Kind, ScalarOf, MessageOf, GroupOf, ValueType, FieldForm, Singular, Repeated, MapFrom, Field, Schema, message_type, known, field_of, is_key_kind, kind_valid, field_valid, schema_valid, passes}
 use Rattle.prost_reflect_wire.specs.Reduction.{TypePairs, holds, same_kind, same_default, value_types_match, same_form, fields_match, same_siblings, has_match, has_no_fellow, entries_whole, types_match, all_match, Reduced}
 use Rattle.prost_reflect_laws.specs.Reducing.{numbers_below, all_pairs, refined, refined_times, greatest_reduction, is_reduced}
-use Rattle.prost_reflect_wire.proofs.Deeper.{and_both, both_true}
 use Rattle.prost_reflect_wire.proofs.ListTests.{filter_passes}
 use Rattle.prost_reflect_laws.proofs.Checked.{known_valid, found_valid, CheckedField, checked_field, CheckedMap, checked_map}
 use Rattle.prost_reflect_laws.proofs.Matches.{pair_matches}
@@ -58,9 +58,9 @@ pub record Within (older newer : Schema) (pairs more : TypePairs) : Type 0 where
 kind_more : (older newer : Schema) (pairs more : TypePairs) (k l : Kind) → Within older newer pairs more → kind_valid older k ≡ true → kind_valid newer l ≡ true → same_kind pairs k l ≡ true → same_kind more k l ≡ true
 kind_more older newer pairs more (ScalarOf k) (ScalarOf l) w a b h = h
 kind_more older newer pairs more (MessageOf A) (MessageOf B) w a b h =
-    w.each A B (ltb-true A (length older) (and_both (nat_lt A (length older)) _ a).0) (ltb-true B (length newer) (and_both (nat_lt B (length newer)) _ b).0) h
+    w.each A B (ltb-true A (length older) (and_parts (nat_lt A (length older)) _ a).0) (ltb-true B (length newer) (and_parts (nat_lt B (length newer)) _ b).0) h
 kind_more older newer pairs more (GroupOf A) (GroupOf B) w a b h =
-    w.each A B (ltb-true A (length older) (and_both (nat_lt A (length older)) _ a).0) (ltb-true B (length newer) (and_both (nat_lt B (length newer)) _ b).0) h
+    w.each A B (ltb-true A (length older) (and_parts (nat_lt A (length older)) _ a).0) (ltb-true B (length newer) (and_parts (nat_lt B (length newer)) _ b).0) h
 kind_more older newer pairs more _ _ w a b h = absurd (true≢false (sym h))
 
 key_more : (pairs more : TypePairs) (k l : Kind) → is_key_kind k ≡ true → same_kind pairs k l ≡ true → same_kind more k l ≡ true
@@ -72,10 +72,10 @@ key_more pairs more (GroupOf A) l key h = absurd (true≢false (sym key))
 
 type_more : (pairs more : TypePairs) (s t : ValueType) → (same_kind pairs s.kind t.kind ≡ true → same_kind more s.kind t.kind ≡ true) → value_types_match pairs s t ≡ true → value_types_match more s t ≡ true
 type_more pairs more s t kind h =
-    let (abc, d) = and_both (same_kind pairs s.kind t.kind && beq s.required t.required && beq s.presence t.presence) (same_default s.kind s.default t.default) h in
-    let (ab, c) = and_both (same_kind pairs s.kind t.kind && beq s.required t.required) (beq s.presence t.presence) abc in
-    let (a, b) = and_both (same_kind pairs s.kind t.kind) (beq s.required t.required) ab in
-    both_true (both_true (both_true (kind a) b) c) d
+    let (abc, d) = and_parts (same_kind pairs s.kind t.kind && beq s.required t.required && beq s.presence t.presence) (same_default s.kind s.default t.default) h in
+    let (ab, c) = and_parts (same_kind pairs s.kind t.kind && beq s.required t.required) (beq s.presence t.presence) abc in
+    let (a, b) = and_parts (same_kind pairs s.kind t.kind) (beq s.required t.required) ab in
+    and_from _ _ (and_from _ _ (and_from _ _ (kind a) b) c) d
 
 form_more : (older : Schema) (pairs more : TypePairs) (f : Field) (c d : FieldForm) → f.form ≡ c → CheckedField older f → same_form pairs c d ≡ true → same_form more c d ≡ true
 form_more older pairs more f Singular Singular e checked h = refl
@@ -95,23 +95,23 @@ match_more older newer pairs more olders newers f w ok oks h = go (field_of newe
     go None e h = h
     go (Some g) e h =
         let like : CheckedField newer g = checked_field newer g (found_valid newer newers f.number g oks e) in
-        let (abc, d) = and_both (fields_match pairs f g) (same_siblings olders newers f g) h in
-        let (ab, c) = and_both (beq f.is_extension g.is_extension && same_form pairs f.form g.form) (value_types_match pairs f.value_type g.value_type) abc in
-        let (a, b) = and_both (beq f.is_extension g.is_extension) (same_form pairs f.form g.form) ab in
-        both_true (both_true (both_true a (form_more older pairs more f f.form g.form refl checked b)) (type_more pairs more f.value_type g.value_type (kind_more older newer pairs more f.value_type.kind g.value_type.kind w checked.kind like.kind) c)) d
+        let (abc, d) = and_parts (fields_match pairs f g) (same_siblings olders newers f g) h in
+        let (ab, c) = and_parts (beq f.is_extension g.is_extension && same_form pairs f.form g.form) (value_types_match pairs f.value_type g.value_type) abc in
+        let (a, b) = and_parts (beq f.is_extension g.is_extension) (same_form pairs f.form g.form) ab in
+        and_from _ _ (and_from _ _ (and_from _ _ a (form_more older pairs more f f.form g.form refl checked b)) (type_more pairs more f.value_type g.value_type (kind_more older newer pairs more f.value_type.kind g.value_type.kind w checked.kind like.kind) c)) d
 
 all_more : {A : Type 0} (valid test more : A → Bool) (xs : List A) → ((x : A) → valid x ≡ true → test x ≡ true → more x ≡ true) → list_all valid xs ≡ true → list_all test xs ≡ true → list_all more xs ≡ true
 all_more valid test more [] h a b = refl
 all_more valid test more (x ∷ xs) h a b =
-    let (a', a'') = and_both (valid x) (list_all valid xs) a in
-    let (b', b'') = and_both (test x) (list_all test xs) b in
-    both_true (h x a' b') (all_more valid test more xs h a'' b'')
+    let (a', a'') = and_parts (valid x) (list_all valid xs) a in
+    let (b', b'') = and_parts (test x) (list_all test xs) b in
+    and_from _ _ (h x a' b') (all_more valid test more xs h a'' b'')
 
 pub types_more : (older newer : Schema) (pairs more : TypePairs) (A B : ℕ) → Within older newer pairs more → schema_valid older ≡ true → schema_valid newer ≡ true → types_match pairs (message_type older A) (message_type newer B) ≡ true → types_match more (message_type older A) (message_type newer B) ≡ true
 types_more older newer pairs more A B w okA okB h =
-    let (ab, c) = and_both (entries_whole (message_type older A) (message_type newer B) && list_all (has_match pairs (known older A) (known newer B)) (known older A)) (list_all (has_no_fellow (known older A) (known newer B)) (known newer B)) h in
-    let (a, b) = and_both (entries_whole (message_type older A) (message_type newer B)) (list_all (has_match pairs (known older A) (known newer B)) (known older A)) ab in
-    both_true (both_true a (all_more (field_valid older) (has_match pairs (known older A) (known newer B)) (has_match more (known older A) (known newer B)) (known older A)
+    let (ab, c) = and_parts (entries_whole (message_type older A) (message_type newer B) && list_all (has_match pairs (known older A) (known newer B)) (known older A)) (list_all (has_no_fellow (known older A) (known newer B)) (known newer B)) h in
+    let (a, b) = and_parts (entries_whole (message_type older A) (message_type newer B)) (list_all (has_match pairs (known older A) (known newer B)) (known older A)) ab in
+    and_from _ _ (and_from _ _ a (all_more (field_valid older) (has_match pairs (known older A) (known newer B)) (has_match more (known older A) (known newer B)) (known older A)
     (λ f ok m. match_more older newer pairs more (known older A) (known newer B) f w ok (known_valid newer B okB) m) (known_valid older A okA) b)) c
 
 -- WHAT REDUCES STAYS
@@ -158,13 +158,9 @@ rows_hold A B (suc n) m a b = list_any-append (λ p. nat_eq p.0 A && nat_eq p.1 
     rest : TypePairs
     rest = flat_map (λ A. map (λ B. (A, B)) (numbers_below m)) (numbers_below n)
 
-    or_true : (b : Bool) → (b || true) ≡ true
-    or_true true = refl
-    or_true false = refl
-
     go : (c : Bool) → nat_eq n A ≡ c → (A < n → B < m → holds (flat_map (λ A. map (λ B. (A, B)) (numbers_below m)) (numbers_below n)) A B ≡ true) → (holds (map (λ B. (n, B)) (numbers_below m)) A B || holds (flat_map (λ A. map (λ B. (A, B)) (numbers_below m)) (numbers_below n)) A B) ≡ true
     go true e more = ap (λ (x : ℕ). holds (map (λ B. (x, B)) (numbers_below m)) A B || holds rest A B) (eqb-true n A e) ∙ ap (λ b. b || holds rest A B) (row_holds A B m b)
-    go false e more = ap (λ b. holds (map (λ B. (n, B)) (numbers_below m)) A B || b) (more (omega (arith, a, eqb-false n A e)) b) ∙ or_true (holds (map (λ B. (n, B)) (numbers_below m)) A B)
+    go false e more = ap (λ b. holds (map (λ B. (n, B)) (numbers_below m)) A B || b) (more (omega (arith, a, eqb-false n A e)) b) ∙ or-true (holds (map (λ B. (n, B)) (numbers_below m)) A B)
 
 -- THE TEST
 

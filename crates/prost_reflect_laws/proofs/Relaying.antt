@@ -1,7 +1,8 @@
 -- What records mean to an older type of a reduction, and what they mean to the newer one, number by number.
 use Rattle.std.proofs.Common.{◌≡◌, ℕ, nat_le, true, List, [], ◌∷◌, ◌++◌, map, filter, flat_map, Option, Some, None, refl, ap, ap₂, sym, subst, ◌∙◌}
 use Rattle.std.specs.List.{list_all}
-use Rattle.std.proofs.lemmas.Bool.{eqb-true}
+use Rattle.std.proofs.lemmas.Bool.{eqb-true, and_parts}
+use Rattle.std.proofs.lemmas.Option.{none-some}
 use Rattle.prost_reflect_wire.specs.Varint.{◌>>=◌}
 use Rattle.prost_reflect_wire.specs.Record.{Payload, Record, payload_levels, body_of, number_valid, payload_valid, valid}
 use Rattle.prost_reflect_wire.specs.Schema.{Field, Schema, known, field_of, is_sibling, field_valid, numbers_differ}
@@ -12,7 +13,7 @@ use Rattle.prost_reflect_wire.specs.Writing.{record_at}
 use Rattle.prost_reflect_wire.specs.Reduction.{TypePairs}
 use Rattle.prost_reflect_wire.proofs.Survivors.{field_number}
 use Rattle.prost_reflect_wire.proofs.Steps.{field_nothing, surviving_value}
-use Rattle.prost_reflect_wire.proofs.Deeper.{and_both, all_filter}
+use Rattle.prost_reflect_wire.proofs.Deeper.{all_filter}
 use Rattle.prost_reflect_laws.proofs.Checked.{checked_field, found_valid, known_number}
 use Rattle.prost_reflect_laws.proofs.Spelt.{Sound}
 use Rattle.prost_reflect_laws.proofs.Readable.{numbered_valid}
@@ -33,8 +34,8 @@ flat_same f g (x ∷ xs) h = ap₂ ◌++◌ (h x) (flat_same f g xs h)
 records_sound : (rs : List Record) → list_all record_valid rs ≡ true → Sound rs
 records_sound [] h = tt
 records_sound (r ∷ rs) h =
-    let (one, more) = and_both (record_valid r) (list_all record_valid rs) h in
-    let (number, payload) = and_both (number_valid r.number) (payload_valid r.payload) one in
+    let (one, more) = and_parts (record_valid r) (list_all record_valid rs) h in
+    let (number, payload) = and_parts (number_valid r.number) (payload_valid r.payload) one in
     (record { number = number; payload = record { sound = λ l. payload } }, records_sound rs more)
 
 -- records that the newer type of a pair allows, one level above what carries
@@ -123,11 +124,8 @@ sibling_none i fields rs n m f v differ found fm some =
     ∙ ap (λ l. field_value i h.form h.value_type (payloads l)) (one_survives (has_number f.number) (has_number h.number) (λ r. is_sibling fields f r.number) (λ r. is_sibling fields h r.number) (flat_map (value_records fields) rs)
     (λ r e. ap (is_sibling fields h) (eqb-true r.number f.number e ∙ field_number fields n f found) ∙ hn)
     (λ r e. ap (is_sibling fields f) (eqb-true r.number h.number e ∙ field_number fields m h found') ∙ fm)
-    (λ e. some_none (sym some ∙ value_found i fields rs n f found ∙ ap (λ l. field_value i f.form f.value_type (payloads l)) e ∙ field_nothing i f.form f.value_type)))
+    (λ e. none-some _ (sym (sym some ∙ value_found i fields rs n f found ∙ ap (λ l. field_value i f.form f.value_type (payloads l)) e ∙ field_nothing i f.form f.value_type))))
     ∙ field_nothing i h.form h.value_type
-  where
-    some_none : {A : Type 0} {x : A} → Some x ≡ None → ⊥
-    some_none e = cc
 
 -- what the records mean to both types
 pub meaning_slots : (pairs : TypePairs) (k : ℕ) (i : MeansInside) (a : AllowsInside) (j : MeansInside) (older newer : Schema) (A B : ℕ) (rs : List Record) → Step pairs k i a j older newer A B rs →

@@ -3,6 +3,7 @@ use Rattle.std.proofs.Common.{◌≡◌, ℕ, Bool, true, false, cond, ◌||◌,
 use Rattle.std.proofs.lemmas.Bool.{eqb-true}
 use Rattle.std.specs.List.{list_any}
 use Rattle.std.proofs.lemmas.List.Folds.{list_any-append}
+use Rattle.std.proofs.lemmas.Option.{none-some}
 use Rattle.prost_reflect_wire.specs.Record.{Record, Payload}
 use Rattle.prost_reflect_wire.specs.Schema.{Field, field_of, is_sibling}
 use Rattle.prost_reflect_wire.specs.Grammar.{has_number, value_records, value_payloads}
@@ -76,10 +77,7 @@ values_agree pairs older newer n f r m found = go (field_of older r.number) refl
         by ps b (nat_eq r.number n) refl
       where
         by : (ps : List Payload) → value_records newer r ≡ block r.number ps → (b : Bool) → nat_eq r.number n ≡ b → Agree (has_number n) (λ r. is_sibling older f r.number) (value_records newer r) (value_records older r)
-        by ps b true d = absurd (some_none (sym found ∙ ap (field_of older) (sym (eqb-true r.number n d)) ∙ e))
-          where
-            some_none : {A : Type 0} {x : A} → Some x ≡ None → ⊥
-            some_none e = cc
+        by ps b true d = absurd (none-some _ (sym (sym found ∙ ap (field_of older) (sym (eqb-true r.number n d)) ∙ e)))
         by ps b false d =
             let a : Agree (has_number n) (λ r. is_sibling older f r.number) (block r.number ps) [] = agree_none t p r.number ps (λ x. d) (λ x. unknown_no_sibling older f r.number e) in
             let none : value_records older r ≡ [] = ap taken e in

@@ -1,7 +1,7 @@
 -- An entry with a scalar key and a scalar value, read into a content that holds.
 use Rattle.std.proofs.Common.{◌≡◌, ◌≤◌, ℕ, true, false, cond, ◌&&◌, nat_eq, nat_le, List, [], Some, None, refl, ap, ap₂, sym, ◌∙◌, subst}
 use Rattle.std.specs.List.{list_all}
-use Rattle.std.proofs.lemmas.Bool.{leb-true}
+use Rattle.std.proofs.lemmas.Bool.{leb-true, and_parts, and_from}
 use Rattle.prost_reflect_wire.specs.declared.key.WireType.TheVariants as wires
 use Rattle.prost_reflect_wire.specs.Varint.{AreBytes}
 use Rattle.prost_reflect_wire.specs.Record.{Len, Record, Payload, Flat, body_of, payload_levels, payload_valid, valid}
@@ -9,18 +9,17 @@ use Rattle.prost_reflect_wire.specs.Front.{DelimitedFront, RecordsFront}
 use Rattle.prost_reflect_wire.specs.Scalar.{Scalar, ScalarKind, kind_default, is_undeclared, scalar_eq, scalar_valid}
 use Rattle.prost_reflect_wire.specs.Schema.{ScalarOf, ValueType, MapFrom, Field, Schema, known, field_of, is_key_kind, default_valid, field_valid, numbers_differ, schema_valid, passes}
 use Rattle.prost_reflect_wire.specs.Content.{ContentOf, Entries, Value, ScalarValue, MapValue, value_at, changed}
-use Rattle.prost_reflect_wire.specs.Grammar.{AllowsInside, nothing_inside, numbered, last, body, or_none, is_stray, is_stray_entry, one_allowed, has_level, in_entry_allowed, field_allowed}
+use Rattle.prost_reflect_wire.specs.Grammar.{AllowsInside, nothing_inside, numbered, last, or_none, is_stray, is_stray_entry, one_allowed, has_level, in_entry_allowed, field_allowed}
 use Rattle.prost_reflect_wire.specs.Meaning.{MeansInside, empty_inside, last_or, entry_value, put, pairs_in}
 use Rattle.prost_reflect_wire.specs.Levels.{stray_levels}
 use Rattle.prost_reflect_wire.specs.Typing.{kind_takes, is_whole_stray, WellStored}
 use Rattle.prost_reflect_wire.specs.Storing.{with_stored}
 use Rattle.prost_reflect_wire.specs.Decoding.{Step}
 use Rattle.prost_reflect_wire.specs.EntryReading.{EntryTo, plain_type, ScalarEntryTo}
-use Rattle.prost_reflect_wire.proofs.ListTests.{and_both, both_true}
-use Rattle.prost_reflect_wire.proofs.ByteLists.{bytes_front, bytes_behind}
+use Rattle.prost_reflect_wire.proofs.ByteLists.{bytes_front}
 use Rattle.prost_reflect_laws.proofs.SpelledValid.{spelled_valid}
 use Rattle.prost_reflect_wire.proofs.Survivors.{field_number}
-use Rattle.prost_reflect_laws.proofs.Order.{scalars_equal}
+use Rattle.prost_reflect_wire.specs.Deciding.{scalar_decides}
 use Rattle.prost_reflect_laws.proofs.Checked.{known_valid, found_valid, CheckedField, checked_field, CheckedMap, checked_map}
 use Rattle.prost_reflect_laws.proofs.EntryDefaults.{default_valid_key, key_stays, last_or_valid, is_undeclared_value, last_undeclared}
 use Rattle.prost_reflect_laws.proofs.Readable.{numbered_valid}
@@ -29,6 +28,7 @@ use Rattle.prost_reflect_laws.proofs.Means.{below}
 use Rattle.prost_reflect_laws.proofs.StraysStay.{entry_stays}
 use Rattle.prost_reflect_laws.proofs.Holding.{payload_front_valid}
 use Rattle.prost_reflect_laws.proofs.MapSteps.{entry_records, entry_holds}
+use Rattle.prost_reflect_laws.proofs.BodyFronts.{delimited_bytes}
 
 -- a field of a checked schema
 pub field_checked : (schema : Schema) (T n : ℕ) (f : Field) → schema_valid schema ≡ true → field_of (known schema T) n ≡ Some f → field_valid schema f ≡ true
@@ -40,19 +40,13 @@ map_keyed schema f key h form = (checked_map schema f key (checked_field schema 
 
 -- a default that is its kind's
 default_is : (value_type : ValueType) (kind : ScalarKind) → value_type.kind ≡ ScalarOf kind → (elim value_type.kind [ ScalarOf kind ↦ scalar_eq value_type.default (kind_default kind) | _ ↦ true ]) ≡ true → value_type.default ≡ kind_default kind
-default_is value_type kind is h = scalars_equal value_type.default (kind_default kind) (ap (λ kind. elim kind [ ScalarOf kind ↦ scalar_eq value_type.default (kind_default kind) | _ ↦ true ]) (sym is) ∙ h)
+default_is value_type kind is h = (scalar_decides value_type.default (kind_default kind)).0 (ap (λ kind. elim kind [ ScalarOf kind ↦ scalar_eq value_type.default (kind_default kind) | _ ↦ true ]) (sym is) ∙ h)
 
 -- what else the check of a map says
 pub map_key_default : (schema : Schema) (f : Field) (key : ValueType) (kind : ScalarKind) → field_valid schema f ≡ true → f.form ≡ MapFrom key → key.kind ≡ ScalarOf kind → key.default ≡ kind_default kind
 map_key_default schema f key kind h form is = default_is key kind is (checked_map schema f key (checked_field schema f h) form).key_default
 
 -- the bytes of a delimited payload are bytes
-pub delimited_bytes : (body bytes rest : List ℕ) → AreBytes bytes → DelimitedFront body bytes rest → AreBytes body
-delimited_bytes body bytes rest small front =
-    let whole : AreBytes front.front = bytes_front front.front rest (subst AreBytes front.parts small) in
-    let (len, varint, parts) = front.spelled in
-    bytes_behind len body (subst AreBytes parts whole)
-
 -- WHAT IS READ FITS
 
 -- the key of an entry, whatever its value is
@@ -121,11 +115,11 @@ module _ (schema : Schema) (f : Field) (checked : field_valid schema f ≡ true)
   -- an entry of an undeclared number stays whole
   pub scalar_entry_stays : (k : ℕ) (x v : Scalar) (inside_bytes bytes rest : List ℕ) → AreBytes bytes → ScalarEntryTo k key value_kind x v inside_bytes [] → is_undeclared_value value_kind v ≡ true → DelimitedFront inside_bytes bytes rest → StaysWhole f k (Flat (Len inside_bytes))
   scalar_entry_stays k x v inside_bytes bytes rest small done undeclared front =
-      let (whole, level) = and_both (payload_valid p && is_whole_stray (MapFrom key_type) f.value_type p) (nat_le (stray_levels (MapFrom key_type) p) k)
+      let (whole, level) = and_parts (payload_valid p && is_whole_stray (MapFrom key_type) f.value_type p) (nat_le (stray_levels (MapFrom key_type) p) k)
       (entry_stays k nothing_inside key_type f.value_type p map_checks.keyed (payload_front_valid 1 p bytes rest small (record { front = front.front; spelled = front.spelled; parts = front.parts })) allowed
       (typed_stray nothing_inside (empty_inside []) k key value_kind key_type f.value_type key_is value_is default x v inside_bytes (delimited_bytes inside_bytes bytes rest small front) taken done ∙ undeclared)) in
       record {
-        whole = ap (λ form. is_whole_stray form f.value_type p) form ∙ (and_both (payload_valid p) (is_whole_stray (MapFrom key_type) f.value_type p) whole).1;
+        whole = ap (λ form. is_whole_stray form f.value_type p) form ∙ (and_parts (payload_valid p) (is_whole_stray (MapFrom key_type) f.value_type p) whole).1;
         within = leb-true (stray_levels f.form p) k (ap (λ form. nat_le (stray_levels form p) k) form ∙ level);
       }
     where
@@ -134,7 +128,7 @@ module _ (schema : Schema) (f : Field) (checked : field_valid schema f ≡ true)
 
       allowed : field_allowed k nothing_inside (MapFrom key_type) f.value_type (Flat (Len inside_bytes)) ≡ true
       allowed = let typed : EntryTo nothing_inside (empty_inside []) k key_type f.value_type x (ScalarValue v) inside_bytes [] = entry_typed nothing_inside (empty_inside []) k key value_kind key_type f.value_type key_is value_is default x v inside_bytes [] done in
-          both_true (has_no_level k)
+          and_from _ _ (has_no_level k)
           (ap (λ o. passes o (list_all (in_entry_allowed k nothing_inside key_type f.value_type))) (entry_records nothing_inside (empty_inside []) k key_type f.value_type x (ScalarValue v) inside_bytes typed) ∙ typed.allowed)
 
   module _ (T : ℕ) (es : Entries) (sound : WellStored (ContentOf schema T es)) (differ : numbers_differ (known schema T) ≡ true) where

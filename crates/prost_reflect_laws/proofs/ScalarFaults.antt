@@ -6,8 +6,8 @@ use Rattle.prost_reflect_wire.specs.declared.error.DecodeError.{DecodeError}
 use Rattle.prost_reflect_wire.specs.declared.error.DecodeError.TheVariants as errors
 use Rattle.prost_reflect_wire.specs.Front.{KeyFront}
 use Rattle.prost_reflect_wire.specs.Scalar.{ScalarKind}
-use Rattle.prost_reflect_wire.specs.Schema.{ScalarOf, Singular, Field, Schema}
-use Rattle.prost_reflect_wire.specs.Fault.{Place, Stands, Here, field_at, takes, is_map}
+use Rattle.prost_reflect_wire.specs.Schema.{ScalarOf, Singular, Field, Schema, is_map}
+use Rattle.prost_reflect_wire.specs.Fault.{Place, Stands, Here, field_at, takes}
 use Rattle.prost_reflect_wire.specs.Decoding.{ScalarFault}
 
 pub scalar_stands : (schema : Schema) (e : DecodeError) (place : Place) (n : ℕ) (w : WireType) (rest : List ℕ) (f : Field) (kind : ScalarKind) → KeyFront n w place.bytes rest → field_at schema place.inside n ≡ Some f →

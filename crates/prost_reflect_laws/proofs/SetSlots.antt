@@ -1,6 +1,7 @@
 -- A value set at a number of an older type, and the same set at the number of its like.
 use Rattle.std.proofs.Common.{◌≡◌, ℕ, Bool, true, false, cond, List, nat_eq, Option, Some, None, refl, ap, ap₂, sym, subst, ◌∙◌, arith, true≢false}
-use Rattle.std.proofs.lemmas.Bool.{eqb-true}
+use Rattle.std.proofs.lemmas.Bool.{eqb-true, or_parts}
+use Rattle.std.proofs.lemmas.Option.{none-some}
 use Rattle.prost_reflect_wire.specs.Schema.{Field, field_of, is_sibling, numbers_differ}
 use Rattle.prost_reflect_wire.specs.Content.{Value, Slot, slot_at, table, insert_number, numbers_in}
 use Rattle.prost_reflect_wire.specs.Grammar.{AllowsInside}
@@ -8,7 +9,7 @@ use Rattle.prost_reflect_wire.specs.Meaning.{MeansInside}
 use Rattle.prost_reflect_wire.specs.Edit.{with_value, with_field_value}
 use Rattle.prost_reflect_wire.specs.Reduction.{TypePairs}
 use Rattle.prost_reflect_wire.proofs.Numbers.{Ascending, is_in, insert_ascending, in_insert, Covers, empty_slot, table_same, slot_table, entries_ascending, slot_outside}
-use Rattle.prost_reflect_wire.proofs.Survivors.{field_number, or_false}
+use Rattle.prost_reflect_wire.proofs.Survivors.{field_number}
 use Rattle.prost_reflect_laws.proofs.Slots.{sibling_back, not_own}
 use Rattle.prost_reflect_laws.proofs.Matches.{Like}
 use Rattle.prost_reflect_laws.proofs.Fellows.{fellows, unknown_no_sibling}
@@ -41,7 +42,7 @@ set_ascending f at ns = insert_ascending f.number 0 (numbers_in (table at ns)) (
 
 pub set_covers : (fields : List Field) (f : Field) (o : Option Value) (at : ℕ → Slot) (ns : List ℕ) → Ascending 0 ns → Covers at 0 ns → Covers (set_slot fields f o at) 0 (set_numbers f at ns)
 set_covers fields f o at ns a covers n l out =
-    let (other, outside) = or_false (nat_eq n f.number) (is_in n (numbers_in (table at ns))) (sym (in_insert n f.number (numbers_in (table at ns))) ∙ out) in
+    let (other, outside) = or_parts (nat_eq n f.number) (is_in n (numbers_in (table at ns))) (sym (in_insert n f.number (numbers_in (table at ns))) ∙ out) in
     let nothing : at n ≡ empty_slot = sym (slot_table at n ns a covers) ∙ slot_outside (table at ns) n outside in
     set_beside fields f o at n (is_sibling fields f n) other refl ∙ ap (λ (s : Slot). cond (is_sibling fields f n) (with_value None s) s) nothing ∙ go (is_sibling fields f n)
   where
@@ -108,10 +109,7 @@ set_both pairs k a j older newer at by n f g o p b differ found l again = record
       where
         other : (c : Bool) → nat_eq m f.number ≡ c → nat_eq m f.number ≡ false
         other false d = d
-        other true d = absurd (some_none (sym found ∙ ap (field_of older) (sym (eqb-true m f.number d ∙ own)) ∙ e))
-          where
-            some_none : {A : Type 0} {x : A} → Some x ≡ None → ⊥
-            some_none e = cc
+        other true d = absurd (none-some _ (sym (sym found ∙ ap (field_of older) (sym (eqb-true m f.number d ∙ own)) ∙ e)))
 
     alone : (m w : ℕ) (x : Field) (v : Value) → field_of older m ≡ Some x → is_sibling older x w ≡ true → (set_slot older f o at m).value ≡ Some v → (c : Bool) → nat_eq m f.number ≡ c → (s : Bool) → is_sibling older f m ≡ s →
         (d : Bool) → nat_eq w f.number ≡ d → (t : Bool) → is_sibling older f w ≡ t → (set_slot older f o at w).value ≡ None
@@ -119,10 +117,7 @@ set_both pairs k a j older newer at by n f g o p b differ found l again = record
         let same : x ≡ f = same_field older n m f x found e (eqb-true m f.number ec ∙ own) in
         let hf : is_sibling older f w ≡ true = ap (λ (z : Field). is_sibling older z w) (sym same) ∙ h in
         ap value_of (set_beside older f o at w true (not_own older f w hf) hf)
-    alone m w x v e h some false ec true es d ed t et = absurd (none_some (sym (ap value_of (set_beside older f o at m true ec es)) ∙ some))
-      where
-        none_some : {A : Type 0} {x : A} → None ≡ Some x → ⊥
-        none_some e = cc
+    alone m w x v e h some false ec true es d ed t et = absurd (none-some _ (sym (ap value_of (set_beside older f o at m true ec es)) ∙ some))
     alone m w x v e h some false ec false es true ed t et =
         let (y, at_w, back) = sibling_back older m w x differ e h in
         let same : y ≡ f = same_field older n w f y found at_w (eqb-true w f.number ed ∙ own) in

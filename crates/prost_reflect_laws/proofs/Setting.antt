@@ -2,19 +2,18 @@
 use Rattle.std.proofs.Common.{◌≡◌, ℕ, ◌≤◌, ◌⊎◌, inl, inr, Bool, true, false, cond, List, [], ◌∷◌, nat_eq, Option, Some, None, refl, ap, sym, ◌∙◌, subst, arith, true≢false}
 use Rattle.std.specs.Prelude.{max}
 use Rattle.std.specs.List.{list_all}
-use Rattle.std.proofs.lemmas.Bool.{eqb-true, eq-eqb}
+use Rattle.std.proofs.lemmas.Bool.{eqb-true, eq-eqb, and_parts, and_from}
 use Rattle.prost_reflect_wire.specs.Record.{Payload}
 use Rattle.prost_reflect_wire.specs.Scalar.{Scalar}
-use Rattle.prost_reflect_wire.specs.Schema.{Kind, ScalarOf, MessageOf, GroupOf, ValueType, Singular, Field, Schema, known, field_of, is_sibling, is_singular, is_message, numbers_differ, schema_valid}
+use Rattle.prost_reflect_wire.specs.Schema.{Kind, ScalarOf, MessageOf, GroupOf, ValueType, Singular, Field, Schema, known, field_of, is_sibling, is_singular, is_message, numbers_differ, schema_valid, is_list}
 use Rattle.prost_reflect_wire.specs.Content.{Content, ContentOf, Entries, Value, ScalarValue, MessageValue, ListValue, MapValue, Slot, value_at, slot_at, insert_number, numbers_in, empty, schema_of, type_of}
 use Rattle.prost_reflect_wire.specs.Levels.{levels, value_levels}
-use Rattle.prost_reflect_wire.specs.Typing.{kind_takes, is_repeated, elements_valid, pairs_valid, value_valid, fit_test, alone_test, filled_test, default_test, is_of_type, kind_for, ValueTyped, kept_value, kept_inside, ValueStored, WellTyped}
+use Rattle.prost_reflect_wire.specs.Typing.{kind_takes, elements_valid, pairs_valid, value_valid, fit_test, alone_test, filled_test, default_test, is_of_type, kind_for, ValueTyped, kept_value, kept_inside, ValueStored, WellTyped}
 use Rattle.prost_reflect_wire.specs.Edit.{with_value, with_field_value, set_field, default_of, default_value, value_or_default, in_message, in_field, set_at, message_of, PathTo}
-use Rattle.prost_reflect_wire.proofs.Deeper.{and_both, both_true}
 use Rattle.prost_reflect_laws.proofs.Everywhere.{both_tests, value_both}
 use Rattle.prost_reflect_wire.proofs.Numbers.{insert_ascending, entries_ascending}
 use Rattle.prost_reflect_wire.proofs.Survivors.{field_number}
-use Rattle.prost_reflect_laws.proofs.Kept.{kept_cases, value_kept, valid_kept, fits_kept, members_kept, filled_kept, default_kept, kind_kept, value_typed, value_in_order, said}
+use Rattle.prost_reflect_laws.proofs.Kept.{kept_cases, value_kept, valid_kept, fits_kept, members_kept, filled_kept, default_kept, kind_kept, value_typed, inside_kept_ordered, said}
 use Rattle.prost_reflect_laws.proofs.FieldTypes.{field_typed, typed_field}
 use Rattle.prost_reflect_laws.proofs.Checked.{known_differ}
 use Rattle.prost_reflect_laws.proofs.Slots.{GoodContent, GoodEntries, GoodValue, GoodSlots, slots_good, table_good, well_good, good_well, unknown_good, alone_changed, not_own}
@@ -72,7 +71,7 @@ kept_good schema k f v w s l e = go (kept_cases (Some f) (kept_inside v))
               (value_both alone_test (both_tests filled_test default_test) (kept_inside v) (value_kept alone_test alone_test v members_kept s.members)
               (value_both filled_test default_test (kept_inside v) (value_kept fit_test filled_test v filled_kept s.fits) (value_kept fit_test default_test v default_kept s.fits)));
           types = subst (λ (x : Option Kind). ValueTyped schema x (kept_inside v)) (sym (kind_kept (Some f) v)) (value_typed schema (kind_for (Some f) v) v s.types);
-          order = value_in_order v s.order;
+          order = inside_kept_ordered v s.order;
           low = l;
         } in
         subst (λ (x : Value). GoodValue schema (Some f) k x) same here
@@ -124,8 +123,8 @@ no_scalar (MessageOf V) U v e h = true≢false (sym h)
 no_scalar (GroupOf V) U v e h = true≢false (sym h)
 
 found_message : (schema : Schema) (f : Field) (k U : ℕ) (v : Value) → f.form ≡ Singular → message_of f.value_type.kind ≡ Some U → GoodValue schema (Some f) k v → FoundMessage schema f U v
-found_message schema f k U (ScalarValue v) s e g = absurd (no_scalar f.value_type.kind U v e (and_both (is_singular f.form) (kind_takes f.value_type.kind v) g.valid).1)
-found_message schema f k U (ListValue vs) s e g = absurd (true≢false (sym (and_both (is_repeated f.form) (elements_valid f.value_type.kind vs) g.valid).0 ∙ ap is_repeated s))
+found_message schema f k U (ScalarValue v) s e g = absurd (no_scalar f.value_type.kind U v e (and_parts (is_singular f.form) (kind_takes f.value_type.kind v) g.valid).1)
+found_message schema f k U (ListValue vs) s e g = absurd (true≢false (sym (and_parts (is_list f.form) (elements_valid f.value_type.kind vs) g.valid).0 ∙ ap is_list s))
 found_message schema f k U (MapValue ps) s e g = absurd (true≢false (sym g.valid ∙ ap (λ c. pairs_valid c f.value_type.kind ps) s))
 found_message schema f k U (MessageValue c) s e g =
     let (of, types) = field_typed schema f (MessageValue c) g.valid g.types in
@@ -165,7 +164,7 @@ message_stored schema f U c s e same type w = record {
     kind (GroupOf V) e = refl
 
     valid : value_valid f (MessageValue c) ≡ true
-    valid = both_true (ap is_singular s) (kind f.value_type.kind e)
+    valid = and_from _ _ (ap is_singular s) (kind f.value_type.kind e)
 
     of : (kd : Kind) → message_of kd ≡ Some U → is_of_type kd (type_of c) ≡ true
     of (ScalarOf x) e = cc

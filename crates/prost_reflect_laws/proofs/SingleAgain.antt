@@ -1,6 +1,7 @@
 -- A field of one value, carried through a reduction.
 use Rattle.std.proofs.Common.{◌≡◌, ℕ, Bool, true, false, cond, not, ◌&&◌, List, [], ◌∷◌, ◌++◌, eq-eqb, subst, Option, Some, None, refl, ap, ap₂, sym, ◌∙◌, true≢false, append-nil, ◌⊎◌, inl, inr}
 use Rattle.std.specs.List.{list_all}
+use Rattle.std.proofs.lemmas.Bool.{and_parts, and_from, not-true}
 use Rattle.prost_reflect_wire.specs.Varint.{◌>>=◌}
 use Rattle.prost_reflect_wire.specs.Record.{Payload, payload_valid}
 use Rattle.prost_reflect_wire.specs.Scalar.{Scalar, ScalarKind, elem, scalar_valid, scalar_eq}
@@ -10,9 +11,8 @@ use Rattle.prost_reflect_wire.specs.Grammar.{AllowsInside, last, is_stray, recor
 use Rattle.prost_reflect_wire.specs.Meaning.{MeansInside, present, joined, one_value, element, scalar_values}
 use Rattle.prost_reflect_wire.specs.Writing.{value_payload, field_payloads}
 use Rattle.prost_reflect_wire.specs.Reduction.{TypePairs, same_kind, same_default}
-use Rattle.prost_reflect_wire.proofs.Deeper.{and_both, both_true}
-use Rattle.prost_reflect_wire.proofs.ListTests.{not_true, last_passes}
-use Rattle.prost_reflect_laws.proofs.Order.{scalars_equal}
+use Rattle.prost_reflect_wire.proofs.ListTests.{last_passes}
+use Rattle.prost_reflect_wire.specs.Deciding.{scalar_decides}
 use Rattle.prost_reflect_laws.proofs.Alike.{alike, SameType}
 use Rattle.prost_reflect_laws.proofs.ByNumber.{stored_payloads}
 use Rattle.prost_reflect_laws.proofs.Inside.{joined_valid, joined_allowed}
@@ -51,7 +51,7 @@ scalar_single : (pairs : TypePairs) (i : MeansInside) (a : AllowsInside) (j : Me
 scalar_single pairs i a j tA tB kA kB ps h presence default sources = by_last (last ps) refl
   where
     shows : (v : Scalar) → present tB v ≡ present tA v
-    shows v = ap₂ (λ b d. cond (not b && scalar_eq v d) None (Some (ScalarValue v))) presence (sym (scalars_equal tA.default tB.default default))
+    shows v = ap₂ (λ b d. cond (not b && scalar_eq v d) None (Some (ScalarValue v))) presence (sym ((scalar_decides tA.default tB.default).0 default))
 
     by_present : (p : Payload) (v : Scalar) → scalar_valid kA v ≡ true → elem kB p ≡ Some v → (o : Option Value) → present tA v ≡ o → (elem kB p >>= present tB) ≡ present tB v → ((o ≡ None) × ((elem kB p >>= present tB) ≡ None)) ⊎ BothRead a j tB (ScalarOf kA) (ScalarOf kB) o (elem kB p >>= present tB)
     by_present p v ok found None e newer = inl (refl, newer ∙ shows v ∙ e)
@@ -67,8 +67,8 @@ scalar_single pairs i a j tA tB kA kB ps h presence default sources = by_last (l
     by_elem : (p : Payload) → single_source a (ScalarOf kB) p ≡ true → (o : Option Scalar) → elem kA p ≡ o → SingleRead a j tB (ScalarOf kA) (ScalarOf kB) (o >>= present tA) (elem kB p >>= present tB)
     by_elem p source None e = inl (refl, ap (λ o. o >>= present tB) ((alike kA kB h).reads p ∙ e))
     by_elem p source (Some v) e =
-        let (ok, rest) = and_both (payload_valid p) (one_allowed a (ScalarOf kB) p && not (is_stray (ScalarOf kB) p)) source in
-        let stays : is_stray (ScalarOf kB) p ≡ false = not_true (is_stray (ScalarOf kB) p) (and_both (one_allowed a (ScalarOf kB) p) (not (is_stray (ScalarOf kB) p)) rest).1 in
+        let (ok, rest) = and_parts (payload_valid p) (one_allowed a (ScalarOf kB) p && not (is_stray (ScalarOf kB) p)) source in
+        let stays : is_stray (ScalarOf kB) p ≡ false = not-true (is_stray (ScalarOf kB) p) (and_parts (one_allowed a (ScalarOf kB) p) (not (is_stray (ScalarOf kB) p)) rest).1 in
         let found : elem kB p ≡ Some v = (alike kA kB h).reads p ∙ e in
         by_present p v (read_scalar_valid pairs kA kB p v h ok stays e) found (present tA v) refl (ap (λ o. o >>= present tB) found)
 
@@ -80,10 +80,10 @@ scalar_single pairs i a j tA tB kA kB ps h presence default sources = by_last (l
 pub sources_valid : (a : AllowsInside) (kB : Kind) (ps : List Payload) → list_all (single_source a kB) ps ≡ true → (list_all payload_valid ps ≡ true) × (list_all (one_allowed a kB) ps ≡ true)
 sources_valid a kB [] h = (refl, refl)
 sources_valid a kB (p ∷ ps) h =
-    let (one, more) = and_both (single_source a kB p) (list_all (single_source a kB) ps) h in
-    let (ok, rest) = and_both (payload_valid p) (one_allowed a kB p && not (is_stray kB p)) one in
+    let (one, more) = and_parts (single_source a kB p) (list_all (single_source a kB) ps) h in
+    let (ok, rest) = and_parts (payload_valid p) (one_allowed a kB p && not (is_stray kB p)) one in
     let (all, all') = sources_valid a kB ps more in
-    (both_true ok all, both_true (and_both (one_allowed a kB p) (not (is_stray kB p)) rest).0 all')
+    (and_from _ _ ok all, and_from _ _ (and_parts (one_allowed a kB p) (not (is_stray kB p)) rest).0 all')
 
 pub single_read : (pairs : TypePairs) (k : ℕ) (i : MeansInside) (a : AllowsInside) (j : MeansInside) (tA tB : ValueType) (kA kB : Kind) (ps : List Payload) → Carries pairs k i a j → same_kind pairs kA kB ≡ true → tB.presence ≡ tA.presence → same_default kA tA.default tB.default ≡ true →
     list_all (single_source a kB) ps ≡ true → SingleRead a j tB kA kB (one_value i tA kA ps) (one_value j tB kB ps)
@@ -135,11 +135,11 @@ value_again k a j f tB v w single again =
     subst (λ (l : List Payload). FieldAgain k a j Singular tB l (shown tB w)) (sym (single_payload f v single)) (record {
       sound = (again.sound, tt);
       read = λ spelt.
-          let r : ReadAs a j f.value_type.kind tB.kind v w = again.read (and_both (payload_valid q) true spelt).0 in
+          let r : ReadAs a j f.value_type.kind tB.kind v w = again.read (and_parts (payload_valid q) true spelt).0 in
           record {
             strays = ap (λ b. cond b (q ∷ []) [] ++ []) r.stays;
             value = ap (λ b. one_value j tB tB.kind (cond (not b) (q ∷ []) [] ++ [])) r.stays ∙ alone_read j tB tB.kind q w r.means;
-            allowed = both_true r.allowed refl;
+            allowed = and_from _ _ r.allowed refl;
           };
     })
 

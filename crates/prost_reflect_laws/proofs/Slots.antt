@@ -1,13 +1,13 @@
 -- Contents that are well-typed and of so many levels, number by number.
 use Rattle.std.proofs.Common.{◌≡◌, ℕ, ◌≤◌, Bool, true, false, cond, not, ◌&&◌, ◌||◌, List, [], ◌∷◌, nat_eq, nat_le, Option, Some, None, refl, ap, sym, ◌∙◌, subst, arith, true≢false}
 use Rattle.std.specs.List.{list_any, list_all}
-use Rattle.std.proofs.lemmas.Bool.{eqb-true, eq-eqb, leb-true, le-leb}
+use Rattle.std.proofs.lemmas.Bool.{eqb-true, eq-eqb, leb-true, le-leb, and_parts, and_from}
+use Rattle.std.proofs.Math.Bool.{or-true}
 use Rattle.prost_reflect_wire.specs.Record.{Payload}
 use Rattle.prost_reflect_wire.specs.Schema.{Field, Schema, known, field_of, same_oneof, is_sibling, numbers_differ, passes}
 use Rattle.prost_reflect_wire.specs.Content.{Content, Entries, NoEntries, Stored, Unknown, Value, Slot, value_at, unknowns_at, slot_at, then_unknowns, then_value, table, numbers_in, ordered, comes_before, entries_ordered, value_ordered}
 use Rattle.prost_reflect_wire.specs.Levels.{unknown_levels, levels, entries_levels, value_levels}
-use Rattle.prost_reflect_wire.specs.Typing.{value_valid, unknown_fits, EntryTest, everywhere, entries_pass, value_passes, fit_test, has_value_of, is_alone, alone_test, is_empty_of, is_stored_default, filled_test, default_test, kind_for, Typed, EntriesTyped, ValueTyped, WellTyped}
-use Rattle.prost_reflect_wire.proofs.Deeper.{and_both, both_true}
+use Rattle.prost_reflect_wire.specs.Typing.{value_valid, unknown_fits, EntryTest, everywhere, entries_pass, value_passes, fit_test, has_value_of, is_alone, alone_test, is_empty_value, is_stored_default, filled_test, default_test, kind_for, Typed, EntriesTyped, ValueTyped, WellTyped}
 use Rattle.prost_reflect_laws.proofs.Everywhere.{stored_passes, both_tests, both_pass, both_parts, entries_parts}
 use Rattle.prost_reflect_wire.proofs.Numbers.{Ascending, eqb-sym, both_max}
 use Rattle.prost_reflect_wire.proofs.Survivors.{field_number}
@@ -35,7 +35,7 @@ pub record GoodEntries (schema : Schema) (fields : List Field) (k : ℕ) (es : E
 -- a value at a number
 pub record GoodValue (schema : Schema) (o : Option Field) (k : ℕ) (v : Value) : Type 0 where
   pub valid : passes o (λ f. value_valid f v) ≡ true
-  pub filled : not (passes o (λ f. is_empty_of f.form v)) ≡ true
+  pub filled : not (passes o (λ f. is_empty_value f.form v)) ≡ true
   pub default : not (passes o (λ f. is_stored_default f v)) ≡ true
   pub deep : value_passes deep_test v ≡ true
   pub types : ValueTyped schema (kind_for o v) v
@@ -64,11 +64,7 @@ has_any (g ∷ fields) n f test e h = go (nat_eq g.number n) e (has_any fields n
     go true e more =
         let same : g ≡ f = ap (λ (o : Option Field). elim o [ None ↦ g | Some x ↦ x ]) e in
         ap (λ b. b || list_any test fields) (ap test same ∙ h)
-    go false e more = ap (λ b. test g || b) (more e h) ∙ or_true (test g)
-      where
-        or_true : (b : Bool) → (b || true) ≡ true
-        or_true true = refl
-        or_true false = refl
+    go false e more = ap (λ b. test g || b) (more e h) ∙ or-true (test g)
 
 or_either : (a b : Bool) → (a || b) ≡ true → a ≡ false → b ≡ true
 or_either true b h e = absurd (true≢false e)
@@ -78,13 +74,13 @@ or_either false b h e = h
 found_there : (fields : List Field) (m : ℕ) (test : Field → Bool) → numbers_differ fields ≡ true → list_any (λ g. nat_eq g.number m && test g) fields ≡ true → (g : Field) × (field_of fields m ≡ Some g) × (test g ≡ true)
 found_there [] m test d h = absurd (true≢false (sym h))
 found_there (f ∷ fields) m test d h =
-    let (apart, rest) = and_both (not (list_any (λ g. nat_eq g.number f.number) fields)) (numbers_differ fields) d in
+    let (apart, rest) = and_parts (not (list_any (λ g. nat_eq g.number f.number) fields)) (numbers_differ fields) d in
     go (nat_eq f.number m && test f) refl apart (found_there fields m test rest)
   where
     go : (b : Bool) → (nat_eq f.number m && test f) ≡ b → not (list_any (λ g. nat_eq g.number f.number) fields) ≡ true
         → (list_any (λ g. nat_eq g.number m && test g) fields ≡ true → (g : Field) × (field_of fields m ≡ Some g) × (test g ≡ true)) → (g : Field) × (field_of (f ∷ fields) m ≡ Some g) × (test g ≡ true)
     go true e apart more =
-        let (a, b) = and_both (nat_eq f.number m) (test f) e in
+        let (a, b) = and_parts (nat_eq f.number m) (test f) e in
         (f, ap (λ b. cond b (Some f) (field_of fields m)) a, b)
     go false e apart more =
         let (g, found, t) = more (or_either (nat_eq f.number m && test f) (list_any (λ g. nat_eq g.number m && test g) fields) h e) in
@@ -105,17 +101,17 @@ same_oneof_back (Some a) None h = absurd (true≢false (sym h))
 -- a sibling has its sibling
 pub sibling_back : (fields : List Field) (n m : ℕ) (f : Field) → numbers_differ fields ≡ true → field_of fields n ≡ Some f → is_sibling fields f m ≡ true → (g : Field) × (field_of fields m ≡ Some g) × (is_sibling fields g n ≡ true)
 sibling_back fields n m f d e h =
-    let (apart, shares) = and_both (not (nat_eq m f.number)) (list_any (λ g. nat_eq g.number m && same_oneof g.oneof f.oneof) fields) h in
+    let (apart, shares) = and_parts (not (nat_eq m f.number)) (list_any (λ g. nat_eq g.number m && same_oneof g.oneof f.oneof) fields) h in
     let (g, found, same) = found_there fields m (λ g. same_oneof g.oneof f.oneof) d shares in (
       g,
       found,
-      both_true (ap not (ap (nat_eq n) (field_number fields m g found) ∙ eqb-sym n m ∙ ap (nat_eq m) (sym (field_number fields n f e))) ∙ apart)
-          (has_any fields n f (λ x. nat_eq x.number n && same_oneof x.oneof g.oneof) e (both_true (eq-eqb f.number n (field_number fields n f e)) (same_oneof_back g.oneof f.oneof same))),
+      and_from _ _ (ap not (ap (nat_eq n) (field_number fields m g found) ∙ eqb-sym n m ∙ ap (nat_eq m) (sym (field_number fields n f e))) ∙ apart)
+          (has_any fields n f (λ x. nat_eq x.number n && same_oneof x.oneof g.oneof) e (and_from _ _ (eq-eqb f.number n (field_number fields n f e)) (same_oneof_back g.oneof f.oneof same))),
     )
 
 -- no field is its own
 pub not_own : (fields : List Field) (f : Field) (m : ℕ) → is_sibling fields f m ≡ true → nat_eq m f.number ≡ false
-not_own fields f m h = go (nat_eq m f.number) (and_both (not (nat_eq m f.number)) (list_any (λ g. nat_eq g.number m && same_oneof g.oneof f.oneof) fields) h).0
+not_own fields f m h = go (nat_eq m f.number) (and_parts (not (nat_eq m f.number)) (list_any (λ g. nat_eq g.number m && same_oneof g.oneof f.oneof) fields) h).0
   where
     go : (b : Bool) → not b ≡ true → b ≡ false
     go true h = absurd (true≢false (sym h))
@@ -144,18 +140,18 @@ siblings_mutual fields f d found m g at = go (is_sibling fields g f.number) refl
 pub record DeepParts (fields : List Field) (n : ℕ) (v : Value) (es : Entries) : Type 0 where
   pub valid : passes (field_of fields n) (λ f. value_valid f v) ≡ true
   pub alone : is_alone fields (field_of fields n) es ≡ true
-  pub filled : not (passes (field_of fields n) (λ f. is_empty_of f.form v)) ≡ true
+  pub filled : not (passes (field_of fields n) (λ f. is_empty_value f.form v)) ≡ true
   pub default : not (passes (field_of fields n) (λ f. is_stored_default f v)) ≡ true
 
 deep_parts : (fields : List Field) (n : ℕ) (v : Value) (es : Entries) → deep_test.stored fields n v es ≡ true → DeepParts fields n v es
 deep_parts fields n v es h =
     let a : Bool = passes (field_of fields n) (λ f. value_valid f v) in
     let b : Bool = is_alone fields (field_of fields n) es in
-    let c : Bool = not (passes (field_of fields n) (λ f. is_empty_of f.form v)) in
+    let c : Bool = not (passes (field_of fields n) (λ f. is_empty_value f.form v)) in
     let d : Bool = not (passes (field_of fields n) (λ f. is_stored_default f v)) in
-    let (one, bcd) = and_both a (b && (c && d)) h in
-    let (two, cd) = and_both b (c && d) bcd in
-    let (three, four) = and_both c d cd in
+    let (one, bcd) = and_parts a (b && (c && d)) h in
+    let (two, cd) = and_parts b (c && d) bcd in
+    let (three, four) = and_parts c d cd in
     record { valid = one; alone = two; filled = three; default = four }
 
 pub record StoredGood (schema : Schema) (fields : List Field) (k n : ℕ) (v : Value) (es : Entries) : Type 0 where
@@ -167,10 +163,10 @@ stored_good : (schema : Schema) (fields : List Field) (k n : ℕ) (v : Value) (e
 stored_good schema fields k n v es g =
     let x = stored_passes deep_test fields n v es g.deep in
     let p : DeepParts fields n v es = deep_parts fields n v es x.here in
-    let (ab, rest) = and_both (comes_before n es && value_ordered v) (entries_ordered es) g.order in
+    let (ab, rest) = and_parts (comes_before n es && value_ordered v) (entries_ordered es) g.order in
     let (low, low') = both_max (value_levels v) (entries_levels fields es) k g.low in
     record {
-      here = record { valid = p.valid; filled = p.filled; default = p.default; deep = x.inside; types = g.types.0; order = (and_both (comes_before n es) (value_ordered v) ab).1; low = low };
+      here = record { valid = p.valid; filled = p.filled; default = p.default; deep = x.inside; types = g.types.0; order = (and_parts (comes_before n es) (value_ordered v) ab).1; low = low };
       alone = p.alone;
       behind = record { deep = x.behind; types = g.types.1; order = rest; low = low' };
     }
@@ -181,11 +177,11 @@ pub record UnknownGood (schema : Schema) (fields : List Field) (k n : ℕ) (p : 
 
 unknown_parts : (schema : Schema) (fields : List Field) (k n : ℕ) (p : Payload) (es : Entries) → GoodEntries schema fields k (Unknown n p es) → UnknownGood schema fields k n p es
 unknown_parts schema fields k n p es g =
-    let (here, behind) = and_both (deep_test.unknown fields n p) (entries_pass deep_test fields es) g.deep in
+    let (here, behind) = and_parts (deep_test.unknown fields n p) (entries_pass deep_test fields es) g.deep in
     let (low, low') = both_max (unknown_levels (field_of fields n) p) (entries_levels fields es) k g.low in
     record {
-      here = both_true (and_both (unknown_fits (field_of fields n) n p) true here).0 (le-leb (unknown_levels (field_of fields n) p) k low);
-      behind = record { deep = behind; types = g.types; order = (and_both (comes_before n es) (entries_ordered es) g.order).1; low = low' };
+      here = and_from _ _ (and_parts (unknown_fits (field_of fields n) n p) true here).0 (le-leb (unknown_levels (field_of fields n) p) k low);
+      behind = record { deep = behind; types = g.types; order = (and_parts (comes_before n es) (entries_ordered es) g.order).1; low = low' };
     }
 
 value_good : (schema : Schema) (fields : List Field) (k : ℕ) (es : Entries) (n : ℕ) (v : Value) → GoodEntries schema fields k es → value_at n es ≡ Some v → GoodValue schema (field_of fields n) k v
@@ -210,7 +206,7 @@ unknowns_good schema fields k (Unknown m p es) n g =
   where
     go : (b : Bool) → nat_eq m n ≡ b → unknown_good (field_of fields m) k m p ≡ true → list_all (unknown_good (field_of fields n) k n) (unknowns_at n es) ≡ true
         → list_all (unknown_good (field_of fields n) k n) (cond b (p ∷ unknowns_at n es) (unknowns_at n es)) ≡ true
-    go true e here more = both_true (ap (λ (x : ℕ). unknown_good (field_of fields x) k x p) (sym (eqb-true m n e)) ∙ here) more
+    go true e here more = and_from _ _ (ap (λ (x : ℕ). unknown_good (field_of fields x) k x p) (sym (eqb-true m n e)) ∙ here) more
     go false e here more = more
 
 -- a value that is there is among the values
@@ -218,13 +214,9 @@ there : (test : ℕ → Bool) (es : Entries) (n : ℕ) (v : Value) → value_at 
 there test NoEntries n v e h = absurd cc
 there test (Stored m w es) n v e h = go (nat_eq m n) refl e (there test es n v)
   where
-    or_true : (b : Bool) → (b || true) ≡ true
-    or_true true = refl
-    or_true false = refl
-
     go : (b : Bool) → nat_eq m n ≡ b → cond b (Some w) (value_at n es) ≡ Some v → (value_at n es ≡ Some v → test n ≡ true → has_value_of test es ≡ true) → (test m || has_value_of test es) ≡ true
     go true e f more = ap (λ b. b || has_value_of test es) (ap test (eqb-true m n e) ∙ h)
-    go false e f more = ap (λ b. test m || b) (more f h) ∙ or_true (test m)
+    go false e f more = ap (λ b. test m || b) (more f h) ∙ or-true (test m)
 there test (Unknown m p es) n v e h = there test es n v e h
 
 not_alone : (fields : List Field) (f : Field) (es : Entries) (o : Option Field) → o ≡ Some f → is_alone fields o es ≡ true → has_value_of (is_sibling fields f) es ≡ true → ⊥
@@ -250,7 +242,7 @@ members_apart fields (Stored l x es) d g n m f v w found h e e' =
     go false a p true b q alone more =
         let (g, other, back) = sibling_back fields n m f d found h in
         not_alone fields g es (field_of fields l) (ap (field_of fields) (eqb-true l m b) ∙ other) alone (there (is_sibling fields g) es n v p back)
-members_apart fields (Unknown l p es) d g n m f v w found h e e' = members_apart fields es d (and_both (alone_test.unknown fields l p) (entries_pass alone_test fields es) g).1 n m f v w found h e e'
+members_apart fields (Unknown l p es) d g n m f v w found h e e' = members_apart fields es d (and_parts (alone_test.unknown fields l p) (entries_pass alone_test fields es) g).1 n m f v w found h e e'
 
 pub slots_good : (schema : Schema) (fields : List Field) (k : ℕ) (es : Entries) → numbers_differ fields ≡ true → GoodEntries schema fields k es → GoodSlots schema fields k (slot_at es)
 slots_good schema fields k es d g = record {
@@ -265,8 +257,8 @@ slots_good schema fields k es d g = record {
 table_unknowns : (test : EntryTest) (fields : List Field) (n : ℕ) (ps : List Payload) (es : Entries) → list_all (test.unknown fields n) ps ≡ true → entries_pass test fields es ≡ true → entries_pass test fields (then_unknowns n ps es) ≡ true
 table_unknowns test fields n [] es h k = k
 table_unknowns test fields n (p ∷ ps) es h k =
-    let (one, more) = and_both (test.unknown fields n p) (list_all (test.unknown fields n) ps) h in
-    both_true one (table_unknowns test fields n ps es more k)
+    let (one, more) = and_parts (test.unknown fields n p) (list_all (test.unknown fields n) ps) h in
+    and_from _ _ one (table_unknowns test fields n ps es more k)
 
 pub table_passes : (test : EntryTest) (fields : List Field) (at : ℕ → Slot) (ns : List ℕ) → ((n : ℕ) (v : Value) (ms : List ℕ) → (at n).value ≡ Some v → test.stored fields n v (then_unknowns n (at n).unknowns (table at ms)) ≡ true) →
     ((n : ℕ) (v : Value) → (at n).value ≡ Some v → value_passes test v ≡ true) → ((n : ℕ) → list_all (test.unknown fields n) (at n).unknowns ≡ true) → entries_pass test fields (table at ns) ≡ true
@@ -276,7 +268,7 @@ table_passes test fields at (n ∷ ns) here inside unknown =
   where
     go : (o : Option Value) → (at n).value ≡ o → entries_pass test fields (then_unknowns n (at n).unknowns (table at ns)) ≡ true → entries_pass test fields (then_value n o (then_unknowns n (at n).unknowns (table at ns))) ≡ true
     go None e more = more
-    go (Some v) e more = both_true (both_true (here n v ns e) (inside n v e)) more
+    go (Some v) e more = and_from _ _ (and_from _ _ (here n v ns e) (inside n v e)) more
 
 table_alone : (at : ℕ → Slot) (test : ℕ → Bool) (ms : List ℕ) → ((m : ℕ) (w : Value) → test m ≡ true → (at m).value ≡ Some w → ⊥) → has_value_of test (table at ms) ≡ false
 table_alone at test [] h = refl
@@ -331,7 +323,7 @@ table_low fields k at (n ∷ ns) h u = go (at n).value refl (unknowns (at n).unk
     unknowns : (ps : List Payload) → list_all (λ p. nat_le (unknown_levels (field_of fields n) p) k) ps ≡ true → entries_levels fields (table at ns) ≤ k → entries_levels fields (then_unknowns n ps (table at ns)) ≤ k
     unknowns [] u l = l
     unknowns (p ∷ ps) u l =
-        let (one, more) = and_both (nat_le (unknown_levels (field_of fields n) p) k) (list_all (λ p. nat_le (unknown_levels (field_of fields n) p) k) ps) u in
+        let (one, more) = and_parts (nat_le (unknown_levels (field_of fields n) p) k) (list_all (λ p. nat_le (unknown_levels (field_of fields n) p) k) ps) u in
         let low : unknown_levels (field_of fields n) p ≤ k = leb-true (unknown_levels (field_of fields n) p) k one in
         let rest : entries_levels fields (then_unknowns n ps (table at ns)) ≤ k = unknowns ps more l in
         omega arith
@@ -351,14 +343,14 @@ table_good schema fields k at ns a g = record {
     fits : (n : ℕ) (ps : List Payload) → list_all (unknown_good (field_of fields n) k n) ps ≡ true → list_all (deep_test.unknown fields n) ps ≡ true
     fits n [] h = refl
     fits n (p ∷ ps) h =
-        let (one, more) = and_both (unknown_good (field_of fields n) k n p) (list_all (unknown_good (field_of fields n) k n) ps) h in
-        both_true (both_true (and_both (unknown_fits (field_of fields n) n p) (nat_le (unknown_levels (field_of fields n) p) k) one).0 refl) (fits n ps more)
+        let (one, more) = and_parts (unknown_good (field_of fields n) k n p) (list_all (unknown_good (field_of fields n) k n) ps) h in
+        and_from _ _ (and_from _ _ (and_parts (unknown_fits (field_of fields n) n p) (nat_le (unknown_levels (field_of fields n) p) k) one).0 refl) (fits n ps more)
 
     lows : (n : ℕ) (ps : List Payload) → list_all (unknown_good (field_of fields n) k n) ps ≡ true → list_all (λ p. nat_le (unknown_levels (field_of fields n) p) k) ps ≡ true
     lows n [] h = refl
     lows n (p ∷ ps) h =
-        let (one, more) = and_both (unknown_good (field_of fields n) k n p) (list_all (unknown_good (field_of fields n) k n) ps) h in
-        both_true (and_both (unknown_fits (field_of fields n) n p) (nat_le (unknown_levels (field_of fields n) p) k) one).1 (lows n ps more)
+        let (one, more) = and_parts (unknown_good (field_of fields n) k n p) (list_all (unknown_good (field_of fields n) k n) ps) h in
+        and_from _ _ (and_parts (unknown_fits (field_of fields n) n p) (nat_le (unknown_levels (field_of fields n) p) k) one).1 (lows n ps more)
 
     ordered_slot : (n : ℕ) (o : Option Value) → (at n).value ≡ o → OrderedOption o
     ordered_slot n None e = tt
@@ -367,7 +359,7 @@ table_good schema fields k at ns a g = record {
     stored : (n : ℕ) (v : Value) (ms : List ℕ) → (at n).value ≡ Some v → deep_test.stored fields n v (then_unknowns n (at n).unknowns (table at ms)) ≡ true
     stored n v ms e =
         let x = g.value n v e in
-        both_true x.valid (both_true (first_alone fields at g.alone n v ms e (field_of fields n) refl) (both_true x.filled x.default))
+        and_from _ _ x.valid (and_from _ _ (first_alone fields at g.alone n v ms e (field_of fields n) refl) (and_from _ _ x.filled x.default))
 
 -- CONTENTS
 

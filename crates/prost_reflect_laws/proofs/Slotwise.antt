@@ -1,13 +1,10 @@
 -- Entries said number by number: what stands at each number decides them.
-use Rattle.std.proofs.Common.{◌≡◌, ℕ, ◌<◌, ◌≤◌, ◌+◌, Bool, true, false, cond, ◌&&◌, List, ◌∷◌, length, nat_eq, Option, Some, None, refl, ap, sym, ◌∙◌, arith}
-use Rattle.std.proofs.lemmas.Bool.{ltb-true, leb-true, lt-ltb, le-leb, eqb-true, eq-eqb}
+use Rattle.std.proofs.Common.{◌≡◌, ℕ, ◌+◌, Bool, true, false, cond, ◌&&◌, List, ◌∷◌, length, nat_eq, Option, Some, None, refl, ap, sym, ◌∙◌, arith}
+use Rattle.std.proofs.lemmas.Bool.{eqb-true, eq-eqb, and_parts, or_parts}
 use Rattle.prost_reflect_wire.specs.Varint.{◌>>=◌}
-use Rattle.prost_reflect_wire.specs.Scalar.{Scalar}
-use Rattle.prost_reflect_wire.specs.Schema.{Field, field_of, known}
-use Rattle.prost_reflect_wire.specs.Content.{Content, ContentOf, Entries, NoEntries, Stored, Unknown, Value, ScalarValue, MessageValue, ListValue, MapValue, Values, NoValues, Item, Pairs, NoPairs, Pair, Slot, value_at, unknowns_at, slot_at, then_value, insert_number, numbers_in, changed, comes_before, ordered, entries_ordered, value_ordered, values_ordered, pairs_ordered, key_before}
-use Rattle.prost_reflect_wire.specs.Typing.{kept, kept_entries, kept_value, kept_inside, kept_values, kept_pairs, is_field_default}
-use Rattle.prost_reflect_wire.proofs.Deeper.{and_both, both_true}
-use Rattle.prost_reflect_wire.proofs.Survivors.{or_false}
+use Rattle.prost_reflect_wire.specs.Schema.{Field, field_of}
+use Rattle.prost_reflect_wire.specs.Content.{Entries, NoEntries, Stored, Unknown, Value, Slot, value_at, unknowns_at, slot_at, then_value, insert_number, numbers_in, changed, comes_before, entries_ordered, value_ordered}
+use Rattle.prost_reflect_wire.specs.Typing.{kept_entries, kept_value, kept_inside}
 use Rattle.prost_reflect_wire.proofs.Numbers.{empty_slot, is_in, in_insert, eqb-sym, insert_ascending, Covers, table_covers, table_same, slot_table, slots_same, entries_ascending, slot_outside}
 use Rattle.prost_reflect_laws.proofs.Rebuilt.{rebuilt, no_value_below}
 
@@ -26,7 +23,7 @@ slot_changed n m change es h = slot_table (λ k. change k (slot_at es k)) m (ins
   where
     covers : Covers (λ k. change k (slot_at es k)) 0 (insert_number n (numbers_in es))
     covers k l out =
-        let (other, rest) = or_false (nat_eq k n) (is_in k (numbers_in es)) (sym (in_insert k n (numbers_in es)) ∙ out) in
+        let (other, rest) = or_parts (nat_eq k n) (is_in k (numbers_in es)) (sym (in_insert k n (numbers_in es)) ∙ out) in
         ap (change k) (slot_outside es k rest) ∙ h k (eqb-sym n k ∙ other)
 
 -- WHAT IS KEPT
@@ -47,8 +44,8 @@ unknowns_kept fields n (Unknown m p es) = ap (λ ps. cond (nat_eq m n) (p ∷ ps
 value_kept : (fields : List Field) (n : ℕ) (es : Entries) → entries_ordered es ≡ true → value_at n (kept_entries fields es) ≡ (value_at n es >>= λ v. kept_value (field_of fields n) (kept_inside v))
 value_kept fields n NoEntries o = refl
 value_kept fields n (Stored m v es) o =
-    let (a, rest) = and_both (comes_before m es && value_ordered v) (entries_ordered es) o in
-    go (nat_eq m n) refl (and_both (comes_before m es) (value_ordered v) a).0 rest (value_kept fields n es rest)
+    let (a, rest) = and_parts (comes_before m es && value_ordered v) (entries_ordered es) o in
+    go (nat_eq m n) refl (and_parts (comes_before m es) (value_ordered v) a).0 rest (value_kept fields n es rest)
   where
     here : (k : ℕ) → m ≡ k → (o : Option Value) → value_at k (kept_entries fields es) ≡ None → value_at k (then_value m o (kept_entries fields es)) ≡ o
     here k e None h = h
@@ -68,75 +65,7 @@ value_kept fields n (Stored m v es) o =
     go false e c rest more =
         other (kept_value (field_of fields m) (kept_inside v)) e ∙ more
         ∙ sym (ap (λ b. cond b (Some v) (value_at n es) >>= λ v. kept_value (field_of fields n) (kept_inside v)) e)
-value_kept fields n (Unknown m p es) o = value_kept fields n es (and_both (comes_before m es) (entries_ordered es) o).1
+value_kept fields n (Unknown m p es) o = value_kept fields n es (and_parts (comes_before m es) (entries_ordered es) o).1
 
 pub slot_kept : (fields : List Field) (n : ℕ) (es : Entries) → entries_ordered es ≡ true → slot_at (kept_entries fields es) n ≡ kept_slot fields n (slot_at es n)
 slot_kept fields n es o = slots_same (slot_at (kept_entries fields es) n) (kept_slot fields n (slot_at es n)) (value_kept fields n es o) (unknowns_kept fields n es)
-
--- what comes after a greater number comes after a smaller one
-earlier : (n m : ℕ) (es : Entries) → n < m → comes_before m es ≡ true → comes_before n es ≡ true
-earlier n m NoEntries l c = refl
-earlier n m (Stored k v es) l c = let above : m < k = ltb-true m k c in lt-ltb n k (omega (arith, l, above))
-earlier n m (Unknown k p es) l c = let above : m ≤ k = leb-true m k c in le-leb n k (omega (arith, l, above))
-
-kept_before : (fields : List Field) (n : ℕ) (es : Entries) → entries_ordered es ≡ true → comes_before n es ≡ true → comes_before n (kept_entries fields es) ≡ true
-kept_before fields n NoEntries o c = refl
-kept_before fields n (Stored m v es) o c =
-    let (a, rest) = and_both (comes_before m es && value_ordered v) (entries_ordered es) o in
-    go (kept_value (field_of fields m) (kept_inside v)) (kept_before fields n es rest (earlier n m es (ltb-true n m c) (and_both (comes_before m es) (value_ordered v) a).0))
-  where
-    go : (o : Option Value) → comes_before n (kept_entries fields es) ≡ true → comes_before n (then_value m o (kept_entries fields es)) ≡ true
-    go None more = more
-    go (Some w) more = c
-kept_before fields n (Unknown m p es) o c = c
-
-key_kept : (k : Scalar) (ps : Pairs) → key_before k ps ≡ true → key_before k (kept_pairs ps) ≡ true
-key_kept k NoPairs h = refl
-key_kept k (Pair l v ps) h = h
-
-then_ordered : (n : ℕ) (o : Option Value) (es : Entries) → ((v : Value) → o ≡ Some v → value_ordered v ≡ true) → comes_before n es ≡ true → entries_ordered es ≡ true → entries_ordered (then_value n o es) ≡ true
-then_ordered n None es h c o = o
-then_ordered n (Some v) es h c o = both_true (both_true c (h v refl)) o
-
-kept_is : (o : Option Field) (v w : Value) → kept_value o v ≡ Some w → v ≡ w
-kept_is None v w e = cc
-kept_is (Some f) v w e = go (is_field_default f v) e
-  where
-    go : (b : Bool) → cond b None (Some v) ≡ Some w → v ≡ w
-    go true e = cc
-    go false e = cc
-
-mutual
-  -- what is kept is ordered as it was
-  pub kept_ordered : (c : Content) → ordered c ≡ true → ordered (kept c) ≡ true
-  kept_ordered (ContentOf schema T es) o = entries_kept_ordered (known schema T) es o
-
-  pub entries_kept_ordered : (fields : List Field) (es : Entries) → entries_ordered es ≡ true → entries_ordered (kept_entries fields es) ≡ true
-  entries_kept_ordered fields NoEntries o = refl
-  entries_kept_ordered fields (Stored n v es) o =
-      let (a, rest) = and_both (comes_before n es && value_ordered v) (entries_ordered es) o in
-      let (c, w) = and_both (comes_before n es) (value_ordered v) a in
-      let inside : value_ordered (kept_inside v) ≡ true = inside_kept_ordered v w in
-      then_ordered n (kept_value (field_of fields n) (kept_inside v)) (kept_entries fields es)
-      (λ u e. ap value_ordered (sym (kept_is (field_of fields n) (kept_inside v) u e)) ∙ inside)
-      (kept_before fields n es rest c) (entries_kept_ordered fields es rest)
-  entries_kept_ordered fields (Unknown n p es) o =
-      let (c, rest) = and_both (comes_before n es) (entries_ordered es) o in
-      both_true (kept_before fields n es rest c) (entries_kept_ordered fields es rest)
-
-  pub inside_kept_ordered : (v : Value) → value_ordered v ≡ true → value_ordered (kept_inside v) ≡ true
-  inside_kept_ordered (ScalarValue v) o = refl
-  inside_kept_ordered (MessageValue c) o = kept_ordered c o
-  inside_kept_ordered (ListValue vs) o = values_kept_ordered vs o
-  inside_kept_ordered (MapValue ps) o = pairs_kept_ordered ps o
-
-  values_kept_ordered : (vs : Values) → values_ordered vs ≡ true → values_ordered (kept_values vs) ≡ true
-  values_kept_ordered NoValues o = refl
-  values_kept_ordered (Item v vs) o = let (a, rest) = and_both (value_ordered v) (values_ordered vs) o in both_true (inside_kept_ordered v a) (values_kept_ordered vs rest)
-
-  pairs_kept_ordered : (ps : Pairs) → pairs_ordered ps ≡ true → pairs_ordered (kept_pairs ps) ≡ true
-  pairs_kept_ordered NoPairs o = refl
-  pairs_kept_ordered (Pair k v ps) o =
-      let (a, rest) = and_both (key_before k ps && value_ordered v) (pairs_ordered ps) o in
-      let (b, w) = and_both (key_before k ps) (value_ordered v) a in
-      both_true (both_true (key_kept k ps b) (inside_kept_ordered v w)) (pairs_kept_ordered ps rest)

@@ -1,6 +1,6 @@
 -- The records of a content that fits its type have a spelling, if its bytes have a length.
 use Rattle.std.proofs.Common.{◌≡◌, ℕ, zero, suc, ◌+◌, ◌/◌, ◌%◌, ◌^◌, ◌<◌, ◌≤◌, Bool, true, false, cond, ◌&&◌, ℤ, pos, negsuc, List, [], ◌∷◌, ◌++◌, length, nat_lt, nat_eq, refl, ap, sym, ◌∙◌, arith, true≢false, length-append, SFits, ◌⊎◌, inl, inr}
-use Rattle.std.proofs.lemmas.Bool.{lt-ltb, ltb-true}
+use Rattle.std.proofs.lemmas.Bool.{lt-ltb, ltb-true, and_parts, and_from}
 use Rattle.std.specs.Bool.{⊤}
 use Rattle.std.specs.Int.{w32, w64, to_le_bytes, bytes_low_first, byte_at, cast_unsigned}
 use Rattle.std.specs.Str.{is_utf8, IsUtf8}
@@ -12,7 +12,7 @@ use Rattle.prost_reflect_wire.specs.Record.{Plain, Var, Fix64, Len, Fix32, Recor
 use Rattle.prost_reflect_wire.specs.Scalar.{Scalar, F64, F32, I64, U64, I32, U32, Boolean, Text, Bytes, EnumNumber, ScalarKind, Double, Float, Int64, Uint64, Int32, Fixed64, Fixed32, BoolKind, StringKind, BytesKind, Uint32, Sfixed32, Sfixed64, Sint32, Sint64, Enum, written, zigzag, in_i32, is_declared, scalar_valid}
 use Rattle.prost_reflect_wire.proofs.Shortest.{short_varint, short_key_ok}
 use Rattle.prost_reflect_laws.proofs.Table.{fits_64, unsigned_64}
-use Rattle.prost_reflect_wire.proofs.Deeper.{and_both, both_true, all_append}
+use Rattle.prost_reflect_wire.proofs.Deeper.{all_append}
 use Rattle.prost_reflect_wire.specs.declared.key.WireType.{WireType}
 use Rattle.prost_reflect_wire.specs.declared.key.WireType.TheVariants as wires
 
@@ -22,7 +22,7 @@ bytes_append : (xs ys : List ℕ) → are_bytes xs ≡ true → are_bytes ys ≡
 bytes_append xs ys h k = all_append (λ b. nat_lt b 256) xs ys h k
 
 one_more : (b : ℕ) (bytes : List ℕ) → b < 256 → are_bytes bytes ≡ true → are_bytes (b ∷ bytes) ≡ true
-one_more b bytes h k = both_true (lt-ltb b 256 h) k
+one_more b bytes h k = and_from _ _ (lt-ltb b 256 h) k
 
 digits_bytes : (bytes : List ℕ) → AreDigits bytes → are_bytes bytes ≡ true
 digits_bytes [] d = refl
@@ -37,21 +37,21 @@ key_bytes n w h = digits_bytes (short_key n w) (short_key_ok n w h).varint.digit
 
 pub plain_bytes : (p : Plain) → plain_valid p ≡ true → are_bytes (short_plain p) ≡ true
 plain_bytes (Var v) h = short_bytes v (ltb-true v (2 ^ 64) h)
-plain_bytes (Fix64 eight) h = (and_both (nat_eq (length eight) 8) (are_bytes eight) h).1
+plain_bytes (Fix64 eight) h = (and_parts (nat_eq (length eight) 8) (are_bytes eight) h).1
 plain_bytes (Len body) h =
-    let (l, all) = and_both (nat_lt (length body) (2 ^ 64)) (are_bytes body) h in
+    let (l, all) = and_parts (nat_lt (length body) (2 ^ 64)) (are_bytes body) h in
     bytes_append (short (length body)) body (short_bytes (length body) (ltb-true (length body) (2 ^ 64) l)) all
-plain_bytes (Fix32 four) h = (and_both (nat_eq (length four) 4) (are_bytes four) h).1
+plain_bytes (Fix32 four) h = (and_parts (nat_eq (length four) 4) (are_bytes four) h).1
 
 pub body_bytes : (rs : Records) → valid rs ≡ true → are_bytes (short_body rs) ≡ true
 body_bytes NoRecords h = refl
 body_bytes (PlainRecord n p rest) h =
-    let (a, b) = and_both (number_valid n) (plain_valid p && valid rest) h in
-    let (c, d) = and_both (plain_valid p) (valid rest) b in
+    let (a, b) = and_parts (number_valid n) (plain_valid p && valid rest) h in
+    let (c, d) = and_parts (plain_valid p) (valid rest) b in
     bytes_append (short_key n (plain_wire p)) (short_plain p ++ short_body rest) (key_bytes n (plain_wire p) a) (bytes_append (short_plain p) (short_body rest) (plain_bytes p c) (body_bytes rest d))
 body_bytes (GroupRecord n inside rest) h =
-    let (a, b) = and_both (number_valid n) (valid inside && valid rest) h in
-    let (c, d) = and_both (valid inside) (valid rest) b in
+    let (a, b) = and_parts (number_valid n) (valid inside && valid rest) h in
+    let (c, d) = and_parts (valid inside) (valid rest) b in
     bytes_append (short_key n wires.StartGroup) (short_body inside ++ (short_key n wires.EndGroup ++ short_body rest)) (key_bytes n wires.StartGroup a)
     (bytes_append (short_body inside) (short_key n wires.EndGroup ++ short_body rest) (body_bytes inside c) (bytes_append (short_key n wires.EndGroup) (short_body rest) (key_bytes n wires.EndGroup a) (body_bytes rest d)))
 
@@ -80,7 +80,7 @@ char_bytes c h = go (nat_lt c 128) (nat_lt c 2048) (nat_lt c 65536) refl refl re
 chars_bytes : (cs : List ℕ) → scalars cs ≡ true → are_bytes (encodes cs) ≡ true
 chars_bytes [] h = refl
 chars_bytes (c ∷ cs) h =
-    let (one, more) = and_both (scalar c) (scalars cs) h in
+    let (one, more) = and_parts (scalar c) (scalars cs) h in
     bytes_append (encode_utf8 c) (encodes cs) (char_bytes c one) (chars_bytes cs more)
 
 pub text_bytes : (bytes : List ℕ) → is_utf8 bytes ≡ true → are_bytes bytes ≡ true
@@ -137,10 +137,10 @@ written_valid Fixed64 (U64 n) h l = eight_bytes n
 written_valid Fixed32 (U32 n) h l = four_bytes n
 written_valid BoolKind (Boolean true) h l = refl
 written_valid BoolKind (Boolean false) h l = refl
-written_valid StringKind (Text bytes) h l = both_true (lt-ltb (length bytes) (2 ^ 64) l) (text_bytes bytes h)
-written_valid BytesKind (Bytes bytes) h l = both_true (lt-ltb (length bytes) (2 ^ 64) l) h
+written_valid StringKind (Text bytes) h l = and_from _ _ (lt-ltb (length bytes) (2 ^ 64) l) (text_bytes bytes h)
+written_valid BytesKind (Bytes bytes) h l = and_from _ _ (lt-ltb (length bytes) (2 ^ 64) l) h
 written_valid Uint32 (U32 n) h l = let s : n < 2 ^ 32 = ltb-true n (2 ^ 32) h in lt-ltb n (2 ^ 64) (omega arith)
-written_valid (Enum first numbers) (EnumNumber z) h l = lt-ltb (cast_unsigned w64 z) (2 ^ 64) (unsigned_64 z (wide z (and_both (in_i32 z) (is_declared numbers z) h).0))
+written_valid (Enum first numbers) (EnumNumber z) h l = lt-ltb (cast_unsigned w64 z) (2 ^ 64) (unsigned_64 z (wide z (and_parts (in_i32 z) (is_declared numbers z) h).0))
 written_valid Sfixed32 (I32 z) h l = four_bytes (cast_unsigned w32 z)
 written_valid Sfixed64 (I64 z) h l = eight_bytes (cast_unsigned w64 z)
 written_valid Sint32 (I32 z) h l = lt-ltb (zigzag z) (2 ^ 64) (zigzag_small z (wide z h))
@@ -182,7 +182,7 @@ valid_if (r ∷ rs) (one, more) l = go r.payload one.payload.sound (valid_if rs 
         let whole : length (short_key r.number (plain_wire p) ++ (short_plain p ++ short_body (body_of rs))) < 2 ^ 64 = l in
         let e : length (short_key r.number (plain_wire p) ++ (short_plain p ++ short_body (body_of rs))) ≡ length (short_key r.number (plain_wire p)) + length (short_plain p ++ short_body (body_of rs)) = length-append (short_key r.number (plain_wire p)) (short_plain p ++ short_body (body_of rs)) in
         let d : length (short_plain p ++ short_body (body_of rs)) ≡ length (short_plain p) + length (short_body (body_of rs)) = length-append (short_plain p) (short_body (body_of rs)) in
-        both_true one.number (both_true (h (omega arith)) (further (omega arith)))
+        and_from _ _ one.number (and_from _ _ (h (omega arith)) (further (omega arith)))
     go (Group inside) h further l =
         let key : List ℕ = short_key r.number wires.StartGroup in
         let stop : List ℕ = short_key r.number wires.EndGroup in
@@ -191,12 +191,12 @@ valid_if (r ∷ rs) (one, more) l = go r.payload one.payload.sound (valid_if rs 
         let e : length (key ++ (short_body inside ++ (stop ++ rest))) ≡ length key + length (short_body inside ++ (stop ++ rest)) = length-append key (short_body inside ++ (stop ++ rest)) in
         let d : length (short_body inside ++ (stop ++ rest)) ≡ length (short_body inside) + length (stop ++ rest) = length-append (short_body inside) (stop ++ rest) in
         let a : length (stop ++ rest) ≡ length stop + length rest = length-append stop rest in
-        both_true one.number (both_true (h (omega arith)) (further (omega arith)))
+        and_from _ _ one.number (and_from _ _ (h (omega arith)) (further (omega arith)))
 
 -- a message's payload
 pub message_sound : (rs : List Record) → Sound rs → SoundPayload (Flat (Len (spelled rs)))
 message_sound rs s = record {
   sound = λ l.
       let small : length (spelled rs) < 2 ^ 64 = shorter (spelled rs) l in
-      both_true (lt-ltb (length (spelled rs)) (2 ^ 64) small) (body_bytes (body_of rs) (valid_if rs s small));
+      and_from _ _ (lt-ltb (length (spelled rs)) (2 ^ 64) small) (body_bytes (body_of rs) (valid_if rs s small));
 }

@@ -2,7 +2,7 @@
 use Rattle.std.proofs.Common.{◌≡◌, ℕ, zero, suc, ◌+◌, ◌-◌, ◌≤◌, ◌<◌, ◌^◌, Bool, true, false, cond, ◌&&◌, List, [], ◌∷◌, ◌++◌, length, map, nat_eq, nat_le, Option, Some, None, refl, ap, ap₂, sym, ◌∙◌, arith, true≢false}
 use Rattle.std.specs.Prelude.{max}
 use Rattle.std.specs.List.{list_all}
-use Rattle.std.proofs.lemmas.Bool.{eqb-true}
+use Rattle.std.proofs.lemmas.Bool.{eqb-true, and_parts}
 use Rattle.prost_reflect_wire.specs.Varint.{◌>>=◌}
 use Rattle.prost_reflect_wire.specs.Record.{Payload, Record, body_of, valid, payload_valid, payload_levels}
 use Rattle.prost_reflect_wire.specs.Schema.{Kind, ScalarOf, MessageOf, GroupOf, FieldForm, Singular, Repeated, MapFrom, Field, Schema, known, field_of, is_sibling, is_message, numbers_differ, field_valid, schema_valid, passes}
@@ -14,7 +14,7 @@ use Rattle.prost_reflect_wire.specs.Edit.{merged}
 use Rattle.prost_reflect_wire.specs.Writing.{records, encoded}
 use Rattle.prost_reflect_laws.specs.Laws.{block, StaysWell, Writable}
 use Rattle.prost_reflect_wire.specs.Typing.{is_of_type, WellTyped}
-use Rattle.prost_reflect_wire.proofs.Deeper.{and_both, passes_in, message_in, numbered_two, Agrees, element_agree, value_agree, source_allowed, allows_append, levels_free}
+use Rattle.prost_reflect_wire.proofs.Deeper.{passes_in, message_in, numbered_two, Agrees, element_agree, value_agree, source_allowed, allows_append, levels_free}
 use Rattle.prost_reflect_laws.proofs.Checked.{known_valid, known_differ}
 use Rattle.prost_reflect_laws.proofs.Means.{first_valid}
 use Rattle.prost_reflect_wire.proofs.Numbers.{table_same}
@@ -62,7 +62,7 @@ module _ (schema : Schema) (k : ℕ) (allow : AllowsInside) (inner : MeansInside
       go (Repeated packed) s a = ap (λ vs. present_list (values_in old and_then values_from vs)) (element_agree allow inner outer f.value_type.kind p same.agrees a)
       go (MapFrom key) s a =
           let inside : list_all (in_entry_allowed k allow key f.value_type) (records_in p) ≡ true =
-          passes_in p (list_all (in_entry_allowed k allow key f.value_type)) (and_both (is_len p && has_level k f.value_type.kind) (passes (body p) (list_all (in_entry_allowed k allow key f.value_type))) a).1 in
+          passes_in p (list_all (in_entry_allowed k allow key f.value_type)) (and_parts (is_len p && has_level k f.value_type.kind) (passes (body p) (list_all (in_entry_allowed k allow key f.value_type))) a).1 in
           ap (λ w. present_map (put (entry_key key (records_in p)) w (pairs_in old))) (value_agree allow inner outer f.value_type f.value_type.kind (records_in p) same.agrees (numbered_two k allow key f.value_type (records_in p) inside))
 
   -- the value at a number behind records of values
@@ -88,8 +88,8 @@ module _ (schema : Schema) (k : ℕ) (allow : AllowsInside) (inner : MeansInside
       by h e true d =
           let own : h ≡ f = its h e (sym (field_number fields n h e) ∙ sym (eqb-true m h.number d)) in
           let source : source_good schema k allow inner further fields same.good all differ h.form h.value_type p ≡ true = ap (λ (y : Field). source_good schema k allow inner further fields same.good all differ y.form y.value_type p) own ∙ s in
-          let (one, two) = and_both (payload_valid p && source_allowed k allow h.form h.value_type p) (NoStray h.form h.value_type p) source in
-          let (spelt, allowed) = and_both (payload_valid p) (source_allowed k allow h.form h.value_type p) one in
+          let (one, two) = and_parts (payload_valid p && source_allowed k allow h.form h.value_type p) (NoStray h.form h.value_type p) source in
+          let (spelt, allowed) = and_parts (payload_valid p) (source_allowed k allow h.form h.value_type p) one in
           value_same h (at n).value p (given schema k allow inner further fields same.good all differ at n h g e) spelt allowed
 
       go : (o : Option Field) → field_of fields n ≡ o → (o >>= λ h. value_step inner further fields h (at n).value (record { number = m; payload = p })) ≡ (o >>= λ h. value_step outer beyond fields h (at n).value (record { number = m; payload = p }))
@@ -101,7 +101,7 @@ module _ (schema : Schema) (k : ℕ) (allow : AllowsInside) (inner : MeansInside
   block_same at m f [] n g found s = refl
   block_same at m f (p ∷ ps) n g found s =
       let r : Record = record { number = m; payload = p } in
-      let (one, rest) = and_both (source_good schema k allow inner further fields same.good all differ f.form f.value_type p) (list_all (source_good schema k allow inner further fields same.good all differ f.form f.value_type) ps) s in
+      let (one, rest) = and_parts (source_good schema k allow inner further fields same.good all differ f.form f.value_type p) (list_all (source_good schema k allow inner further fields same.good all differ f.form f.value_type) ps) s in
       sym (more inner further at r (block m ps) n)
       ∙ block_same (behind inner further at (r ∷ [])) m f ps n (one_behind schema k allow inner further fields same.good all differ at m f p g found one) found rest
       ∙ ap (λ (slot : Slot). record { value = value_behind outer beyond fields n slot.value (block m ps); unknowns = slot.unknowns }) (one_same at m f p n g found one)
@@ -126,7 +126,7 @@ by_records : (schema : Schema) (k T : ℕ) (allow : AllowsInside) (inner : Means
     GoodContent k (ContentOf schema T es) → valid (body_of rs) ≡ true → list_all (record_allowed k allow (known schema T)) rs ≡ true → steps_by inner further (ContentOf schema T es) rs ≡ steps_by outer beyond (ContentOf schema T es) rs
 by_records schema k T allow inner further outer beyond es [] same h g v a = refl
 by_records schema k T allow inner further outer beyond es (r ∷ rs) same h g v a =
-    let (one, more) = and_both (record_allowed k allow (known schema T) r) (list_all (record_allowed k allow (known schema T)) rs) a in
+    let (one, more) = and_parts (record_allowed k allow (known schema T) r) (list_all (record_allowed k allow (known schema T)) rs) a in
     let (spelt, rest) = first_valid r rs v in
     let all : list_all (field_valid schema) (known schema T) ≡ true = known_valid schema T h in
     let differ : numbers_differ (known schema T) ≡ true = known_differ schema T h in

@@ -2,14 +2,14 @@
 use Rattle.std.proofs.Common.{◌≡◌, ℕ, Bool, true, false, cond, ◌&&◌, List, [], ◌∷◌, ◌++◌, nat_eq, Option, Some, None, refl, ap, subst, sym, ◌∙◌, arith, true≢false}
 use Rattle.std.specs.Bool.{⊤}
 use Rattle.std.specs.List.{list_all}
-use Rattle.std.proofs.lemmas.Bool.{eqb-true, eq-eqb}
+use Rattle.std.proofs.lemmas.Bool.{eqb-true, eq-eqb, and_parts, and_from}
 use Rattle.prost_reflect_wire.specs.Record.{Payload}
 use Rattle.prost_reflect_wire.specs.Schema.{Field, is_sibling}
 use Rattle.prost_reflect_wire.specs.Content.{Entries, NoEntries, Stored, Unknown, Value, Slot, value_at, unknowns_at, slot_at, comes_before, entries_ordered, value_ordered}
 use Rattle.prost_reflect_wire.specs.Typing.{EntryTest, entries_pass, value_passes}
 use Rattle.prost_reflect_wire.specs.Edit.{with_value}
 use Rattle.prost_reflect_wire.specs.Storing.{with_stored, with_unknown}
-use Rattle.prost_reflect_wire.proofs.Deeper.{and_both, both_true, all_append}
+use Rattle.prost_reflect_wire.proofs.Deeper.{all_append}
 use Rattle.prost_reflect_laws.proofs.Rebuilt.{no_value_below}
 
 -- the test of an entry, where it does not look at what stands behind
@@ -36,7 +36,7 @@ module _ (test : EntryTest) (fields : List Field) (own : ℕ → Value → Bool)
   pub passes_slots : ByItself test fields own → (es : Entries) (n : ℕ) → entries_pass test fields es ≡ true → SlotPasses n (slot_at es n)
   passes_slots by NoEntries n h = record { value = tt; unknowns = refl }
   passes_slots by (Stored m v es) n h =
-      let (a, rest) = and_both (test.stored fields m v es && value_passes test v) (entries_pass test fields es) h in
+      let (a, rest) = and_parts (test.stored fields m v es && value_passes test v) (entries_pass test fields es) h in
       let more : SlotPasses n (slot_at es n) = passes_slots by es n rest in
       record { value = go (nat_eq m n) refl (ap (λ b. b && value_passes test v) (sym (by.same m v es)) ∙ a) more.value; unknowns = more.unknowns }
     where
@@ -44,20 +44,20 @@ module _ (test : EntryTest) (fields : List Field) (own : ℕ → Value → Bool)
       go true e a more = ap (λ k. passes_at k v) (sym (eqb-true m n e)) ∙ a
       go false e a more = more
   passes_slots by (Unknown m p es) n h =
-      let (a, rest) = and_both (test.unknown fields m p) (entries_pass test fields es) h in
+      let (a, rest) = and_parts (test.unknown fields m p) (entries_pass test fields es) h in
       let more : SlotPasses n (slot_at es n) = passes_slots by es n rest in
       record { value = more.value; unknowns = go (nat_eq m n) refl a more.unknowns }
     where
       go : (b : Bool) → nat_eq m n ≡ b → test.unknown fields m p ≡ true → unknowns_pass n (unknowns_at n es) ≡ true → unknowns_pass n (cond b (p ∷ unknowns_at n es) (unknowns_at n es)) ≡ true
-      go true e a more = both_true (ap (λ k. test.unknown fields k p) (sym (eqb-true m n e)) ∙ a) more
+      go true e a more = and_from _ _ (ap (λ k. test.unknown fields k p) (sym (eqb-true m n e)) ∙ a) more
       go false e a more = more
 
   pub slots_pass : ByItself test fields own → (es : Entries) → entries_ordered es ≡ true → ((n : ℕ) → SlotPasses n (slot_at es n)) → entries_pass test fields es ≡ true
   slots_pass by NoEntries o h = refl
   slots_pass by (Stored m v es) o h =
-      let (a, rest) = and_both (comes_before m es && value_ordered v) (entries_ordered es) o in
-      let none : value_at m es ≡ None = no_value_below m m es (and_both (comes_before m es) (value_ordered v) a).0 rest (omega arith) in
-      both_true (ap (λ b. b && value_passes test v) (by.same m v es) ∙ here (nat_eq m m) (eq-eqb m m refl) (let s : SlotPasses m (slot_at (Stored m v es) m) = h m in s.value))
+      let (a, rest) = and_parts (comes_before m es && value_ordered v) (entries_ordered es) o in
+      let none : value_at m es ≡ None = no_value_below m m es (and_parts (comes_before m es) (value_ordered v) a).0 rest (omega arith) in
+      and_from _ _ (ap (λ b. b && value_passes test v) (by.same m v es) ∙ here (nat_eq m m) (eq-eqb m m refl) (let s : SlotPasses m (slot_at (Stored m v es) m) = h m in s.value))
       (slots_pass by es rest (λ n. let s : SlotPasses n (slot_at (Stored m v es) n) = h n in record { value = other n (nat_eq m n) refl none s.value; unknowns = s.unknowns }))
     where
       here : (b : Bool) → b ≡ true → OptionPasses m (cond b (Some v) (value_at m es)) → passes_at m v ≡ true
@@ -68,16 +68,16 @@ module _ (test : EntryTest) (fields : List Field) (own : ℕ → Value → Bool)
       other n true e none s = subst (OptionPasses n) (sym none ∙ ap (λ k. value_at k es) (eqb-true m n e)) tt
       other n false e none s = s
   slots_pass by (Unknown m p es) o h =
-      let (a, rest) = and_both (comes_before m es) (entries_ordered es) o in
-      both_true (here (nat_eq m m) (eq-eqb m m refl) (let s : SlotPasses m (slot_at (Unknown m p es) m) = h m in s.unknowns))
+      let (a, rest) = and_parts (comes_before m es) (entries_ordered es) o in
+      and_from _ _ (here (nat_eq m m) (eq-eqb m m refl) (let s : SlotPasses m (slot_at (Unknown m p es) m) = h m in s.unknowns))
       (slots_pass by es rest (λ n. let s : SlotPasses n (slot_at (Unknown m p es) n) = h n in record { value = s.value; unknowns = other n (nat_eq m n) s.unknowns }))
     where
       here : (b : Bool) → b ≡ true → unknowns_pass m (cond b (p ∷ unknowns_at m es) (unknowns_at m es)) ≡ true → test.unknown fields m p ≡ true
-      here true e s = (and_both (test.unknown fields m p) _ s).0
+      here true e s = (and_parts (test.unknown fields m p) _ s).0
       here false e s = absurd (true≢false (sym e))
 
       other : (n : ℕ) (b : Bool) → unknowns_pass n (cond b (p ∷ unknowns_at n es) (unknowns_at n es)) ≡ true → unknowns_pass n (unknowns_at n es) ≡ true
-      other n true s = (and_both (test.unknown fields n p) _ s).1
+      other n true s = (and_parts (test.unknown fields n p) _ s).1
       other n false s = s
 
   -- CHANGES
@@ -94,7 +94,7 @@ module _ (test : EntryTest) (fields : List Field) (own : ℕ → Value → Bool)
   unknown_passes n p m slot passes s = go (nat_eq m n) refl
     where
       go : (b : Bool) → nat_eq m n ≡ b → SlotPasses m (cond b (record { value = slot.value; unknowns = slot.unknowns ++ (p ∷ []) }) slot)
-      go true e = record { value = s.value; unknowns = all_append (test.unknown fields m) slot.unknowns (p ∷ []) s.unknowns (both_true (ap (λ k. test.unknown fields k p) (eqb-true m n e) ∙ passes) refl) }
+      go true e = record { value = s.value; unknowns = all_append (test.unknown fields m) slot.unknowns (p ∷ []) s.unknowns (and_from _ _ (ap (λ k. test.unknown fields k p) (eqb-true m n e) ∙ passes) refl) }
       go false e = s
 
   -- whole entries

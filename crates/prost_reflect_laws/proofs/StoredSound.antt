@@ -1,13 +1,13 @@
 -- What storing a value of a field, or an unknown record, keeps of a content.
 use Rattle.std.proofs.Common.{◌≡◌, ℕ, Bool, true, false, cond, not, ◌&&◌, ◌||◌, List, [], ◌∷◌, ◌++◌, nat_eq, Option, Some, None, refl, ap, ap₂, sym, subst, ◌∙◌}
 use Rattle.std.specs.List.{list_any}
+use Rattle.std.proofs.lemmas.Bool.{and_parts, and_from}
 use Rattle.prost_reflect_wire.specs.Record.{Payload}
 use Rattle.prost_reflect_wire.specs.Schema.{Field, Schema, known, field_of, same_oneof, is_sibling, numbers_differ, passes}
 use Rattle.prost_reflect_wire.specs.Content.{ContentOf, Entries, NoEntries, Stored, Unknown, Value, Slot, value_at, slot_at, entries_ordered}
-use Rattle.prost_reflect_wire.specs.Typing.{EntryTest, entries_pass, value_passes, fit_test, alone_test, value_valid, unknown_fits, ValueStored, WellStored}
+use Rattle.prost_reflect_wire.specs.Typing.{EntryTest, entries_pass, value_passes, fit_test, alone_test, value_valid, unknown_fits, ValueStored, WellStored, has_value_of}
 use Rattle.prost_reflect_wire.specs.Edit.{with_value}
 use Rattle.prost_reflect_wire.specs.Storing.{with_stored, with_unknown}
-use Rattle.prost_reflect_wire.proofs.Deeper.{and_both, both_true}
 use Rattle.prost_reflect_laws.proofs.Everywhere.{stored_passes}
 use Rattle.prost_reflect_laws.proofs.Slots.{not_own, members_apart, apart_members, alone_changed}
 use Rattle.prost_reflect_laws.proofs.StoredPasses.{entries_stored_pass, entries_unknown_pass}
@@ -36,6 +36,12 @@ no_sibling fields f n e = ap (λ b. not (nat_eq n f.number) && b) (all fields) �
     end true = refl
     end false = refl
 
+-- where no number is meant, no value is found
+pub no_value : (test : ℕ → Bool) (es : Entries) → ((n : ℕ) → test n ≡ false) → has_value_of test es ≡ false
+no_value test NoEntries h = refl
+no_value test (Stored n v es) h = ap (λ b. b || has_value_of test es) (h n) ∙ no_value test es h
+no_value test (Unknown n p es) h = no_value test es h
+
 -- MEMBERS OF ONEOFS
 
 -- what passes of entries passes in each of their values
@@ -46,7 +52,7 @@ inside_value test fields (Stored m w es) n v h e = let s = stored_passes test fi
     go : (b : Bool) → cond b (Some w) (value_at n es) ≡ Some v → value_passes test w ≡ true → (value_at n es ≡ Some v → value_passes test v ≡ true) → value_passes test v ≡ true
     go true e here more = let same : w ≡ v = cc in subst (λ (x : Value). value_passes test x ≡ true) same here
     go false e here more = more e
-inside_value test fields (Unknown m p es) n v h e = inside_value test fields es n v (and_both (test.unknown fields m p) (entries_pass test fields es) h).1 e
+inside_value test fields (Unknown m p es) n v h e = inside_value test fields es n v (and_parts (test.unknown fields m p) (entries_pass test fields es) h).1 e
 
 -- a set takes the siblings' values away
 members_set : (fields : List Field) (es ds : Entries) (f : Field) (v : Value) → numbers_differ fields ≡ true → field_of fields f.number ≡ Some f → value_passes alone_test v ≡ true → entries_ordered ds ≡ true →
@@ -87,7 +93,7 @@ pub value_sound : (schema : Schema) (T : ℕ) (es ds : Entries) (f : Field) (v :
     entries_ordered ds ≡ true → ((m : ℕ) → slot_at ds m ≡ with_stored (known schema T) f v m (slot_at es m)) → WellStored (ContentOf schema T es) → WellStored (ContentOf schema T ds)
 value_sound schema T es ds f v differ found s o slots w = record {
   fits = entries_stored_pass fit_test (known schema T) (λ n v. passes (field_of (known schema T) n) (λ f. value_valid f v)) (record { same = λ n v es. refl }) es ds f v
-      (both_true (ap (λ o. passes o (λ f. value_valid f v)) found ∙ s.valid) s.fits) o slots w.fits;
+      (and_from _ _ (ap (λ o. passes o (λ f. value_valid f v)) found ∙ s.valid) s.fits) o slots w.fits;
   types = value_stored_typed schema (known schema T) es ds f v found s.types o slots w.types;
   order = o;
   members = members_set (known schema T) es ds f v differ found s.members o slots w.members;

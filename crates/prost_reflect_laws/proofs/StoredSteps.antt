@@ -1,6 +1,6 @@
 -- What a record of a scalar field, or an unknown record, makes of what is kept: the step of the meaning.
 use Rattle.std.proofs.Common.{◌≡◌, ℕ, Bool, true, false, cond, ◌&&◌, ◌||◌, List, [], ◌∷◌, ◌++◌, nat_eq, Option, Some, None, refl, ap, sym, ◌∙◌, arith, append-nil, map, subst}
-use Rattle.std.proofs.lemmas.Bool.{eqb-true, eq-eqb}
+use Rattle.std.proofs.lemmas.Bool.{eqb-true, eq-eqb, and_parts}
 use Rattle.prost_reflect_wire.specs.Varint.{◌>>=◌}
 use Rattle.prost_reflect_wire.specs.Record.{Record, Payload}
 use Rattle.prost_reflect_wire.specs.Scalar.{Scalar, ScalarKind, elem, is_undeclared}
@@ -9,16 +9,16 @@ use Rattle.prost_reflect_wire.specs.Content.{ContentOf, Entries, NoEntries, Stor
 use Rattle.prost_reflect_wire.specs.Grammar.{value_records, unknown_payloads, is_stray}
 use Rattle.prost_reflect_wire.specs.Meaning.{MeansInside, JoinsInside, present, one_joined, value_joined, value_step, value_behind, slot_step, step_by}
 use Rattle.prost_reflect_wire.specs.Writing.{record_at, is_default_of}
-use Rattle.prost_reflect_wire.specs.Typing.{kept, kept_entries, kept_value, kept_inside, is_empty_of}
+use Rattle.prost_reflect_wire.specs.Typing.{kept, kept_entries, kept_value, kept_inside, is_empty_value}
 use Rattle.prost_reflect_wire.specs.Edit.{with_value}
 use Rattle.prost_reflect_laws.specs.Laws.{UnknownBack}
 use Rattle.prost_reflect_wire.specs.Storing.{with_stored, with_unknown}
-use Rattle.prost_reflect_wire.proofs.Deeper.{and_both}
 use Rattle.prost_reflect_wire.proofs.Numbers.{empty_slot, eqb-sym, insert_ascending, entries_ascending, slots_same}
 use Rattle.prost_reflect_wire.proofs.Survivors.{field_number}
 use Rattle.prost_reflect_laws.proofs.Values.{value_records_known, unknown_known, one_value_payload, no_stray_payload}
 use Rattle.prost_reflect_laws.proofs.Arranged.{OrderedOption, table_ordered}
-use Rattle.prost_reflect_laws.proofs.Slotwise.{entries_same, slot_changed, kept_slot, slot_kept, entries_kept_ordered}
+use Rattle.prost_reflect_laws.proofs.Slotwise.{entries_same, slot_changed, kept_slot, slot_kept}
+use Rattle.prost_reflect_laws.proofs.Kept.{entries_kept_ordered}
 
 -- VALUES IN ORDER
 
@@ -26,13 +26,13 @@ use Rattle.prost_reflect_laws.proofs.Slotwise.{entries_same, slot_changed, kept_
 pub value_in_order : (n : ℕ) (es : Entries) → entries_ordered es ≡ true → OrderedOption (value_at n es)
 value_in_order n NoEntries o = tt
 value_in_order n (Stored m v es) o =
-    let (a, rest) = and_both (comes_before m es && value_ordered v) (entries_ordered es) o in
-    go (nat_eq m n) (and_both (comes_before m es) (value_ordered v) a).1 (value_in_order n es rest)
+    let (a, rest) = and_parts (comes_before m es && value_ordered v) (entries_ordered es) o in
+    go (nat_eq m n) (and_parts (comes_before m es) (value_ordered v) a).1 (value_in_order n es rest)
   where
     go : (b : Bool) → value_ordered v ≡ true → OrderedOption (value_at n es) → OrderedOption (cond b (Some v) (value_at n es))
     go true w more = w
     go false w more = more
-value_in_order n (Unknown m p es) o = value_in_order n es (and_both (comes_before m es) (entries_ordered es) o).1
+value_in_order n (Unknown m p es) o = value_in_order n es (and_parts (comes_before m es) (entries_ordered es) o).1
 
 -- ONE RECORD
 
@@ -65,13 +65,17 @@ module _ (inner : MeansInside) (further : JoinsInside) (fields : List Field) whe
       ap (λ form. value_joined inner further form f.value_type old p) r.form
       ∙ ap (λ k. one_joined inner further f.value_type k old p) r.kind_is
       ∙ ap (λ (o : Option Scalar). o >>= present f.value_type) r.read
-      ∙ sym (ap (λ form. cond (is_empty_of form (ScalarValue v) || (is_singular form && is_default_of f.value_type (ScalarValue v))) None (Some (ScalarValue v))) r.form)
+      ∙ sym (ap (λ form. cond (is_empty_value form (ScalarValue v) || (is_singular form && is_default_of f.value_type (ScalarValue v))) None (Some (ScalarValue v))) r.form)
 
   -- what is kept of a slot whose value goes, or stays
   pub kept_cleared : (o : Option Field) (b : Bool) (slot : Slot) →
       ((cond b (with_value None slot) slot).value >>= λ v. kept_value o (kept_inside v)) ≡ cond b None (slot.value >>= λ v. kept_value o (kept_inside v))
   kept_cleared o true slot = refl
   kept_cleared o false slot = refl
+
+  pub no_more_unknown : (slot : Slot) (b : Bool) → slot.unknowns ++ cond {A = List Payload} b [] [] ≡ slot.unknowns
+  no_more_unknown slot true = append-nil slot.unknowns
+  no_more_unknown slot false = append-nil slot.unknowns
 
   pub none_either : (b : Bool) → cond {A = Option Value} b None None ≡ None
   none_either true = refl
@@ -105,12 +109,8 @@ module _ (inner : MeansInside) (further : JoinsInside) (fields : List Field) whe
   scalar_step f kind p v m slot r fellows known = slots_same _ _
       (ap (value_behind inner further fields m (kept_slot fields m slot).value) (scalar_read f kind p v r)
       ∙ scalar_value f kind p v m slot (nat_eq m f.number) (field_of fields m) r fellows known refl refl)
-      (ap (λ (ps : List Payload). slot.unknowns ++ cond (nat_eq f.number m) ps []) (scalar_unknowns f kind p v r) ∙ nothing (nat_eq f.number m) ∙ sym (unmoved (nat_eq m f.number) (is_sibling fields f m)))
+      (ap (λ (ps : List Payload). slot.unknowns ++ cond (nat_eq f.number m) ps []) (scalar_unknowns f kind p v r) ∙ no_more_unknown slot (nat_eq f.number m) ∙ sym (unmoved (nat_eq m f.number) (is_sibling fields f m)))
     where
-      nothing : (b : Bool) → slot.unknowns ++ cond {A = List Payload} b [] [] ≡ slot.unknowns
-      nothing true = append-nil slot.unknowns
-      nothing false = append-nil slot.unknowns
-
       unmoved : (b c : Bool) → (cond b (with_value (Some (ScalarValue v)) slot) (cond c (with_value None slot) slot)).unknowns ≡ slot.unknowns
       unmoved true c = refl
       unmoved false true = refl

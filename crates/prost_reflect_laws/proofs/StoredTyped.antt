@@ -1,14 +1,13 @@
 -- Typed entries, said number by number.
 use Rattle.std.proofs.Common.{◌≡◌, ℕ, Bool, true, false, cond, ◌&&◌, List, [], ◌∷◌, ◌++◌, nat_eq, Option, Some, None, refl, ap, subst, sym, ◌∙◌, arith, true≢false}
 use Rattle.std.specs.Bool.{⊤}
-use Rattle.std.proofs.lemmas.Bool.{eqb-true, eq-eqb}
+use Rattle.std.proofs.lemmas.Bool.{eqb-true, eq-eqb, and_parts}
 use Rattle.prost_reflect_wire.specs.Record.{Payload}
 use Rattle.prost_reflect_wire.specs.Schema.{Field, Schema, field_of, is_sibling}
 use Rattle.prost_reflect_wire.specs.Content.{Entries, NoEntries, Stored, Unknown, Value, Slot, value_at, unknowns_at, slot_at, comes_before, entries_ordered, value_ordered}
 use Rattle.prost_reflect_wire.specs.Typing.{EntriesTyped, ValueTyped, kind_for}
 use Rattle.prost_reflect_wire.specs.Edit.{with_value}
 use Rattle.prost_reflect_wire.specs.Storing.{with_stored, with_unknown}
-use Rattle.prost_reflect_wire.proofs.Deeper.{and_both}
 use Rattle.prost_reflect_laws.proofs.Rebuilt.{no_value_below}
 
 abbrev pub OptionTyped : Schema → List Field → ℕ → Option Value → Type 0
@@ -28,8 +27,8 @@ module _ (schema : Schema) (fields : List Field) where
   pub values_typed : (es : Entries) → entries_ordered es ≡ true → ((n : ℕ) → OptionTyped schema fields n (value_at n es)) → EntriesTyped schema fields es
   values_typed NoEntries o h = tt
   values_typed (Stored m v es) o h =
-      let (a, rest) = and_both (comes_before m es && value_ordered v) (entries_ordered es) o in
-      let none : value_at m es ≡ None = no_value_below m m es (and_both (comes_before m es) (value_ordered v) a).0 rest (omega arith) in
+      let (a, rest) = and_parts (comes_before m es && value_ordered v) (entries_ordered es) o in
+      let none : value_at m es ≡ None = no_value_below m m es (and_parts (comes_before m es) (value_ordered v) a).0 rest (omega arith) in
       (here (nat_eq m m) (eq-eqb m m refl) (h m), values_typed es rest (λ n. other n (nat_eq m n) refl none (h n)))
     where
       here : (b : Bool) → b ≡ true → OptionTyped schema fields m (cond b (Some v) (value_at m es)) → ValueTyped schema (kind_for (field_of fields m) v) v
@@ -39,7 +38,7 @@ module _ (schema : Schema) (fields : List Field) where
       other : (n : ℕ) (b : Bool) → nat_eq m n ≡ b → value_at m es ≡ None → OptionTyped schema fields n (cond b (Some v) (value_at n es)) → OptionTyped schema fields n (value_at n es)
       other n true e none s = subst (OptionTyped schema fields n) (sym none ∙ ap (λ k. value_at k es) (eqb-true m n e)) tt
       other n false e none s = s
-  values_typed (Unknown m p es) o h = values_typed es (and_both (comes_before m es) (entries_ordered es) o).1 h
+  values_typed (Unknown m p es) o h = values_typed es (and_parts (comes_before m es) (entries_ordered es) o).1 h
 
   -- a value of the field's types
   pub value_stored_typed : (es ds : Entries) (f : Field) (v : Value) → field_of fields f.number ≡ Some f → ValueTyped schema (kind_for (Some f) v) v → entries_ordered ds ≡ true → ((m : ℕ) → slot_at ds m ≡ with_stored fields f v m (slot_at es m)) →

@@ -1,15 +1,15 @@
 -- The records of a well-typed content have a spelling, if its bytes have a length.
 use Rattle.std.proofs.Common.{◌≡◌, ℕ, ◌+◌, ◌^◌, ◌<◌, Bool, true, false, cond, ◌&&◌, List, [], ◌∷◌, ◌++◌, map, length, nat_lt, Option, Some, None, refl, ap, sym, ◌∙◌, arith, true≢false, length-append}
 use Rattle.std.specs.List.{list_all}
-use Rattle.std.proofs.lemmas.Bool.{lt-ltb}
+use Rattle.std.proofs.lemmas.Bool.{lt-ltb, and_parts, and_from}
 use Rattle.prost_reflect_wire.specs.Varint.{are_bytes, short}
 use Rattle.prost_reflect_wire.specs.Record.{Len, Payload, Flat, Group, Record, body_of, spelled, number_valid, payload_valid, valid}
 use Rattle.prost_reflect_wire.specs.Scalar.{Scalar, written}
-use Rattle.prost_reflect_wire.specs.Schema.{Kind, ScalarOf, MessageOf, GroupOf, ValueType, FieldForm, Singular, Repeated, MapFrom, Field, Schema, known, field_of, is_singular, field_valid, schema_valid, passes}
+use Rattle.prost_reflect_wire.specs.Schema.{Kind, ScalarOf, MessageOf, GroupOf, ValueType, FieldForm, Singular, Repeated, MapFrom, Field, Schema, known, field_of, is_singular, field_valid, schema_valid, passes, is_list}
 use Rattle.prost_reflect_wire.specs.Content.{Content, ContentOf, Entries, NoEntries, Stored, Unknown, Value, ScalarValue, MessageValue, ListValue, MapValue, Values, NoValues, Item, Pairs, NoPairs, Pair, schema_of}
 use Rattle.prost_reflect_wire.specs.Writing.{record_at, scalar_payload, message_payload, is_default_of, entry_record, payload_bytes, end_to_end, list_payloads, key_of, records, entries_records, field_payloads, value_payload, element_payloads, pair_payloads}
-use Rattle.prost_reflect_wire.specs.Typing.{kind_takes, is_repeated, element_valid, elements_valid, pairs_valid, value_valid, is_whole_stray, unknown_fits, entries_pass, value_passes, values_pass, pairs_pass, fit_test, encodable, Typed, EntriesTyped, ValueTyped, ValuesTyped, PairsTyped}
-use Rattle.prost_reflect_wire.proofs.Deeper.{and_both, both_true, all_append}
+use Rattle.prost_reflect_wire.specs.Typing.{kind_takes, element_valid, elements_valid, pairs_valid, value_valid, is_whole_stray, unknown_fits, entries_pass, value_passes, values_pass, pairs_pass, fit_test, encodable, Typed, EntriesTyped, ValueTyped, ValuesTyped, PairsTyped}
+use Rattle.prost_reflect_wire.proofs.Deeper.{all_append}
 use Rattle.prost_reflect_laws.proofs.Checked.{known_valid, known_number}
 use Rattle.prost_reflect_laws.proofs.Everywhere.{stored_passes}
 use Rattle.prost_reflect_laws.proofs.FieldTypes.{kind_at, option_typed}
@@ -38,7 +38,7 @@ end_bytes (p ∷ ps) (one, more) l =
     go (Group inside) h l = refl
 
 pub packed_sound : (body : List ℕ) → (length body < 2 ^ 64 → are_bytes body ≡ true) → SoundPayload (Flat (Len body))
-packed_sound body h = record { sound = λ l. let small : length body < 2 ^ 64 = omega (arith, l, length-append (short (length body)) body) in both_true (lt-ltb (length body) (2 ^ 64) small) (h small) }
+packed_sound body h = record { sound = λ l. let small : length body < 2 ^ 64 = omega (arith, l, length-append (short (length body)) body) in and_from _ _ (lt-ltb (length body) (2 ^ 64) small) (h small) }
 
 list_sound : (c : FieldForm) (ps : List Payload) → SoundPayloads ps → SoundPayloads (list_payloads c ps)
 list_sound Singular [] h = tt
@@ -64,8 +64,8 @@ unknown_number : (schema : Schema) (fields : List Field) (n : ℕ) (p : Payload)
 unknown_number schema fields n p h u = go (field_of fields n) refl u
   where
     go : (o : Option Field) → field_of fields n ≡ o → unknown_fits o n p ≡ true → (number_valid n ≡ true) × (payload_valid p ≡ true)
-    go None e u = and_both (number_valid n) (payload_valid p) u
-    go (Some f) e u = (known_number schema fields n f h e, (and_both (payload_valid p) (is_whole_stray f.form f.value_type p) u).0)
+    go None e u = and_parts (number_valid n) (payload_valid p) u
+    go (Some f) e u = (known_number schema fields n f h e, (and_parts (payload_valid p) (is_whole_stray f.form f.value_type p) u).0)
 
 -- CONTENTS
 
@@ -87,15 +87,15 @@ mutual
       sound_append (map (record_at n) (field_payloads (field_of fields n) v)) (entries_records fields es)
       (stored_sound schema fields n (field_of fields n) v refl g (value_sound schema (field_of fields n) v h fit.here fit.inside (option_typed schema (field_of fields n) v fit.here one))) (entries_sound schema fields es h g fit.behind more)
   entries_sound schema fields (Unknown n p es) h g fits types =
-      let (here, rest) = and_both (unknown_fits (field_of fields n) n p) (entries_pass fit_test fields es) fits in
+      let (here, rest) = and_parts (unknown_fits (field_of fields n) n p) (entries_pass fit_test fields es) fits in
       let (number, payload) = unknown_number schema fields n p g here in
       (record { number = number; payload = record { sound = λ l. payload } }, entries_sound schema fields es h g rest types)
 
   value_sound : (schema : Schema) (o : Option Field) (v : Value) → schema_valid schema ≡ true → passes o (λ f. value_valid f v) ≡ true → value_passes fit_test v ≡ true → ValueTyped schema (kind_at o) v → SoundPayloads (field_payloads o v)
   value_sound schema None v h valid fits types = absurd (true≢false (sym valid))
-  value_sound schema (Some f) (ScalarValue v) h valid fits types = (scalar_sound f.value_type.kind v (and_both (is_singular f.form) (kind_takes f.value_type.kind v) valid).1, tt)
+  value_sound schema (Some f) (ScalarValue v) h valid fits types = (scalar_sound f.value_type.kind v (and_parts (is_singular f.form) (kind_takes f.value_type.kind v) valid).1, tt)
   value_sound schema (Some f) (MessageValue c) h valid fits (of, types) = (inside_sound f.value_type.kind (records c) (content_sound c (ap schema_valid of.0 ∙ h) fits types), tt)
-  value_sound schema (Some f) (ListValue vs) h valid fits types = list_sound f.form (element_payloads f.value_type.kind vs) (elements_sound schema f.value_type.kind vs h (and_both (is_repeated f.form) (elements_valid f.value_type.kind vs) valid).1 fits types)
+  value_sound schema (Some f) (ListValue vs) h valid fits types = list_sound f.form (element_payloads f.value_type.kind vs) (elements_sound schema f.value_type.kind vs h (and_parts (is_list f.form) (elements_valid f.value_type.kind vs) valid).1 fits types)
   value_sound schema (Some f) (MapValue ps) h valid fits types = map_sound schema f.form f.value_type ps h valid fits types
 
   pub element_sound : (schema : Schema) (kind : Kind) (v : Value) → schema_valid schema ≡ true → element_valid kind v ≡ true → value_passes fit_test v ≡ true → ValueTyped schema (Some kind) v → SoundPayload (value_payload kind v)
@@ -107,8 +107,8 @@ mutual
   elements_sound : (schema : Schema) (kind : Kind) (vs : Values) → schema_valid schema ≡ true → elements_valid kind vs ≡ true → values_pass fit_test vs ≡ true → ValuesTyped schema (Some kind) vs → SoundPayloads (element_payloads kind vs)
   elements_sound schema kind NoValues h valid fits types = tt
   elements_sound schema kind (Item v vs) h valid fits (one, more) =
-      let (here, rest) = and_both (element_valid kind v) (elements_valid kind vs) valid in
-      let (fit, fit') = and_both (value_passes fit_test v) (values_pass fit_test vs) fits in
+      let (here, rest) = and_parts (element_valid kind v) (elements_valid kind vs) valid in
+      let (fit, fit') = and_parts (value_passes fit_test v) (values_pass fit_test vs) fits in
       (element_sound schema kind v h here fit one, elements_sound schema kind vs h rest fit' more)
 
   map_sound : (schema : Schema) (c : FieldForm) (value_type : ValueType) (ps : Pairs) → schema_valid schema ≡ true → pairs_valid c value_type.kind ps ≡ true → pairs_pass fit_test ps ≡ true → PairsTyped schema (Some value_type.kind) ps → SoundPayloads (pair_payloads (key_of c value_type) value_type ps)
@@ -116,9 +116,9 @@ mutual
   map_sound schema (Repeated packed) value_type ps h valid fits types = absurd (true≢false (sym valid))
   map_sound schema (MapFrom key) value_type NoPairs h valid fits types = tt
   map_sound schema (MapFrom key) value_type (Pair k v ps) h valid fits (one, more) =
-      let (here, rest) = and_both (kind_takes key.kind k && element_valid value_type.kind v) (pairs_valid (MapFrom key) value_type.kind ps) valid in
-      let (takes, fit) = and_both (kind_takes key.kind k) (element_valid value_type.kind v) here in
-      let (deep, deep') = and_both (value_passes fit_test v) (pairs_pass fit_test ps) fits in (
+      let (here, rest) = and_parts (kind_takes key.kind k && element_valid value_type.kind v) (pairs_valid (MapFrom key) value_type.kind ps) valid in
+      let (takes, fit) = and_parts (kind_takes key.kind k) (element_valid value_type.kind v) here in
+      let (deep, deep') = and_parts (value_passes fit_test v) (pairs_pass fit_test ps) fits in (
         message_sound (entry_record key 1 (ScalarValue k) (scalar_payload key.kind k) ++ entry_record value_type 2 v (value_payload value_type.kind v))
             (sound_append (entry_record key 1 (ScalarValue k) (scalar_payload key.kind k)) (entry_record value_type 2 v (value_payload value_type.kind v))
             (entry_sound key 1 (ScalarValue k) (scalar_payload key.kind k) refl (scalar_sound key.kind k takes)) (entry_sound value_type 2 v (value_payload value_type.kind v) refl (element_sound schema value_type.kind v h fit deep one))),

@@ -1,16 +1,15 @@
 -- A value without messages that is set through an older type of a reduction.
 use Rattle.std.proofs.Common.{◌≡◌, ℕ, Bool, true, false, cond, not, ◌&&◌, ◌||◌, Option, Some, None, refl, ap, ap₂, sym, subst, ◌∙◌, true≢false}
+use Rattle.std.proofs.lemmas.Bool.{and_parts, or_parts}
 use Rattle.prost_reflect_wire.specs.Scalar.{Scalar, ScalarKind}
-use Rattle.prost_reflect_wire.specs.Schema.{Kind, ScalarOf, MessageOf, GroupOf, ValueType, FieldForm, Singular, Repeated, MapFrom, Field, Schema, is_singular, is_packable_kind}
+use Rattle.prost_reflect_wire.specs.Schema.{Kind, ScalarOf, MessageOf, GroupOf, ValueType, FieldForm, Singular, Repeated, MapFrom, Field, Schema, is_singular, is_packable_kind, is_list}
 use Rattle.prost_reflect_wire.specs.Content.{Value, ScalarValue, MessageValue, ListValue, MapValue, Values, NoValues, Item, Pairs, NoPairs, Pair, value_ordered, pairs_ordered}
 use Rattle.prost_reflect_wire.specs.Grammar.{AllowsInside}
 use Rattle.prost_reflect_wire.specs.Meaning.{MeansInside, present, present_list, present_map}
 use Rattle.prost_reflect_wire.specs.Writing.{is_default_of}
-use Rattle.prost_reflect_wire.specs.Typing.{kind_takes, is_repeated, element_valid, elements_valid, pairs_valid, value_valid, is_empty_of, kept_value, kept_inside, kept_values, kept_pairs}
+use Rattle.prost_reflect_wire.specs.Typing.{kind_takes, element_valid, elements_valid, pairs_valid, value_valid, is_empty_value, kept_value, kept_inside, kept_values, kept_pairs}
 use Rattle.prost_reflect_wire.specs.Edit.{holds_message, values_hold_message, pairs_hold_message}
 use Rattle.prost_reflect_wire.specs.Reduction.{TypePairs, same_kind, same_form}
-use Rattle.prost_reflect_wire.proofs.Survivors.{or_false}
-use Rattle.prost_reflect_wire.proofs.Deeper.{and_both}
 use Rattle.prost_reflect_laws.proofs.Checked.{CheckedField, CheckedList, checked_list, CheckedMap, checked_map}
 use Rattle.prost_reflect_laws.proofs.FieldTypes.{singular, repeated}
 use Rattle.prost_reflect_laws.proofs.Alike.{SameType, same_type, default_of_alike}
@@ -31,13 +30,13 @@ mutual
   values_kept : (vs : Values) → values_hold_message vs ≡ false → kept_values vs ≡ vs
   values_kept NoValues h = refl
   values_kept (Item v vs) h =
-      let (one, more) = or_false (holds_message v) (values_hold_message vs) h in
+      let (one, more) = or_parts (holds_message v) (values_hold_message vs) h in
       ap₂ Item (all_kept v one) (values_kept vs more)
 
   pairs_kept : (ps : Pairs) → pairs_hold_message ps ≡ false → kept_pairs ps ≡ ps
   pairs_kept NoPairs h = refl
   pairs_kept (Pair k v ps) h =
-      let (one, more) = or_false (holds_message v) (pairs_hold_message ps) h in
+      let (one, more) = or_parts (holds_message v) (pairs_hold_message ps) h in
       ap₂ (Pair k) (all_kept v one) (pairs_kept ps more)
 
 -- FORMS
@@ -97,8 +96,8 @@ element_kinds pairs k l (MapValue ps) h t none = absurd (true≢false (sym t))
 
 -- WHAT IS KEPT
 
-pub kept_by : (f : Field) (c : FieldForm) (v : Value) → f.form ≡ c → kept_value (Some f) v ≡ cond (is_empty_of c v || (is_singular c && is_default_of f.value_type v)) None (Some v)
-kept_by f c v e = ap (λ c. cond (is_empty_of c v || (is_singular c && is_default_of f.value_type v)) None (Some v)) e
+pub kept_by : (f : Field) (c : FieldForm) (v : Value) → f.form ≡ c → kept_value (Some f) v ≡ cond (is_empty_value c v || (is_singular c && is_default_of f.value_type v)) None (Some v)
+kept_by f c v e = ap (λ c. cond (is_empty_value c v || (is_singular c && is_default_of f.value_type v)) None (Some v)) e
 
 pub kept_list : (f : Field) (x : Bool) (vs : Values) → f.form ≡ Repeated x → kept_value (Some f) (ListValue vs) ≡ present_list vs
 kept_list f x NoValues e = kept_by f (Repeated x) (ListValue NoValues) e
@@ -135,7 +134,7 @@ list_carried : (pairs : TypePairs) (k : ℕ) (a : AllowsInside) (j : MeansInside
 list_carried pairs k a j older f g x y NoValues type checked form ok none = nothing_again k a j (Repeated y) g.value_type
 list_carried pairs k a j older f g x y (Item v vs) type checked form ok none =
     let kinds : ScalarKinds pairs f.value_type.kind g.value_type.kind =
-    element_kinds pairs f.value_type.kind g.value_type.kind v type.kind (and_both (element_valid f.value_type.kind v) (elements_valid f.value_type.kind vs) ok).0 (or_false (holds_message v) (values_hold_message vs) none).0 in
+    element_kinds pairs f.value_type.kind g.value_type.kind v type.kind (and_parts (element_valid f.value_type.kind v) (elements_valid f.value_type.kind vs) ok).0 (or_parts (holds_message v) (values_hold_message vs) none).0 in
     let l : CheckedList f x = checked_list older f x checked form in
     scalar_list_again pairs k a j f x y g.value_type kinds.older kinds.newer (Item v vs) form kinds.older_is kinds.newer_is kinds.same
     (ap (λ kd. not x || is_packable_kind kd) (sym kinds.older_is) ∙ l.packable) (ap (λ kd. elements_valid kd (Item v vs)) (sym kinds.older_is) ∙ ok)
@@ -144,9 +143,9 @@ map_carried : (pairs : TypePairs) (k : ℕ) (a : AllowsInside) (j : MeansInside)
     pairs_valid (MapFrom keyA) f.value_type.kind ps ≡ true → pairs_hold_message ps ≡ false → pairs_ordered ps ≡ true → Carried k a j f g (MapFrom keyB) (present_map ps) (present_map ps)
 map_carried pairs k a j older f g keyA keyB NoPairs type key checked form ok none order = nothing_again k a j (MapFrom keyB) g.value_type
 map_carried pairs k a j older f g keyA keyB (Pair x v ps) type key checked form ok none order =
-    let here : (kind_takes keyA.kind x && element_valid f.value_type.kind v) ≡ true = (and_both (kind_takes keyA.kind x && element_valid f.value_type.kind v) (pairs_valid (MapFrom keyA) f.value_type.kind ps) ok).0 in
+    let here : (kind_takes keyA.kind x && element_valid f.value_type.kind v) ≡ true = (and_parts (kind_takes keyA.kind x && element_valid f.value_type.kind v) (pairs_valid (MapFrom keyA) f.value_type.kind ps) ok).0 in
     let kinds : ScalarKinds pairs f.value_type.kind g.value_type.kind =
-    element_kinds pairs f.value_type.kind g.value_type.kind v type.kind (and_both (kind_takes keyA.kind x) (element_valid f.value_type.kind v) here).1 (or_false (holds_message v) (pairs_hold_message ps) none).0 in
+    element_kinds pairs f.value_type.kind g.value_type.kind v type.kind (and_parts (kind_takes keyA.kind x) (element_valid f.value_type.kind v) here).1 (or_parts (holds_message v) (pairs_hold_message ps) none).0 in
     let m : CheckedMap f keyA = checked_map older f keyA checked form in
     scalar_map_again pairs k a j f keyA keyB g.value_type kinds.older kinds.newer (Pair x v ps) form (record { key = key; value = type; keyed = m.keyed; key_default = m.key_default; default = checked.default }) kinds.older_is kinds.newer_is kinds.same
     (ap (λ kd. pairs_valid (MapFrom keyA) kd (Pair x v ps)) (sym kinds.older_is) ∙ ok) order
@@ -162,12 +161,12 @@ pub value_carried : (pairs : TypePairs) (k : ℕ) (a : AllowsInside) (j : MeansI
     value_valid f v ≡ true → value_ordered v ≡ true → holds_message v ≡ false → FieldAgain k a j g.form g.value_type (stored_payloads (Some f) (kept_value (Some f) v)) (kept_value (Some g) v)
 value_carried pairs k a j older f g (MessageValue c) form type checked ok order none = absurd (true≢false none)
 value_carried pairs k a j older f g (ScalarValue v) form type checked ok order none =
-    let (s, takes) = and_both (is_singular f.form) (kind_takes f.value_type.kind v) ok in
+    let (s, takes) = and_parts (is_singular f.form) (kind_takes f.value_type.kind v) ok in
     let is : f.form ≡ Singular = singular f.form s in
     let like : g.form ≡ Singular = single_like pairs f.form g.form is form in
     moved k a j f g Singular (ScalarValue v) (present f.value_type v) (present g.value_type v) like (kept_by f Singular (ScalarValue v) is) (kept_by g Singular (ScalarValue v) like) (scalar_carried pairs k a j f g v type takes)
 value_carried pairs k a j older f g (ListValue vs) form type checked ok order none =
-    let (r, valid) = and_both (is_repeated f.form) (elements_valid f.value_type.kind vs) ok in
+    let (r, valid) = and_parts (is_list f.form) (elements_valid f.value_type.kind vs) ok in
     let (x, is) = repeated f.form r in
     let (y, like) = list_like pairs f.form g.form x is form in
     moved k a j f g (Repeated y) (ListValue vs) (present_list vs) (present_list vs) like (kept_list f x vs is) (kept_list g y vs like) (list_carried pairs k a j older f g x y vs type checked is valid none)

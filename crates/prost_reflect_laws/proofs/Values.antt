@@ -1,8 +1,8 @@
 -- The records of one value are read as it: scalars, messages, lists that are not packed; and what stays unknown.
 use Rattle.std.proofs.Common.{◌≡◌, ℕ, true, false, cond, not, List, [], ◌∷◌, map, filter, flat_map, Option, Some, None, refl, ap, ap₂, sym, ◌∙◌, true≢false, append-nil}
-use Rattle.std.proofs.lemmas.Bool.{eqb-true}
+use Rattle.std.proofs.lemmas.Bool.{eqb-true, and_parts}
 use Rattle.prost_reflect_wire.specs.Varint.{◌>>=◌}
-use Rattle.prost_reflect_wire.specs.Record.{Record, Records, Payload, Flat, Group, Len, items, before, body_of, valid, short_body, spelled}
+use Rattle.prost_reflect_wire.specs.Record.{Record, Records, Payload, Flat, Len, items, body_of, valid, short_body, spelled}
 use Rattle.prost_reflect_wire.specs.Scalar.{Scalar, ScalarKind, Enum, written, scalar_valid, is_undeclared}
 use Rattle.prost_reflect_wire.specs.Schema.{Kind, ScalarOf, MessageOf, GroupOf, FieldForm, Singular, Repeated, MapFrom, Field, field_of}
 use Rattle.prost_reflect_wire.specs.Content.{Content, Value, ScalarValue, MessageValue, type_of}
@@ -15,7 +15,6 @@ use Rattle.prost_reflect_wire.proofs.Bodies.{items_body}
 use Rattle.prost_reflect_wire.proofs.Reading.{spelled_read}
 use Rattle.prost_reflect_wire.proofs.Shortest.{short_spells}
 use Rattle.prost_reflect_laws.proofs.Table.{read_back, written_declared}
-use Rattle.prost_reflect_wire.proofs.Deeper.{and_both}
 
 -- a message's payload has the records that it was written from
 pub records_back : (rs : List Record) → valid (body_of rs) ≡ true → records_in (Flat (Len (spelled rs))) ≡ rs
@@ -103,9 +102,9 @@ stray_back fields n f p found h = record {
     none : (c : FieldForm) → is_whole_stray c f.value_type p ≡ true → value_payloads c f.value_type p ≡ []
     none Singular h = ap (λ b. cond (not b) (p ∷ []) []) h
     none (Repeated packed) h = ap (filter (λ q. not (is_stray f.value_type.kind q))) (elements_in_stray f.value_type.kind p h) ∙ ap (λ b. cond (not b) (p ∷ []) []) h
-    none (MapFrom key) h = ap (λ b. cond (not b) (p ∷ []) []) (and_both (is_stray_entry f.value_type p) _ h).0
+    none (MapFrom key) h = ap (λ b. cond (not b) (p ∷ []) []) (and_parts (is_stray_entry f.value_type p) _ h).0
 
     all : (c : FieldForm) → is_whole_stray c f.value_type p ≡ true → stray_payloads c f.value_type p ≡ p ∷ []
     all Singular h = ap (λ b. cond b (p ∷ []) []) h
     all (Repeated packed) h = ap (filter (is_stray f.value_type.kind)) (elements_in_stray f.value_type.kind p h) ∙ ap (λ b. cond b (p ∷ []) []) h
-    all (MapFrom key) h = ap (λ b. cond b (p ∷ []) []) (and_both (is_stray_entry f.value_type p) _ h).0
+    all (MapFrom key) h = ap (λ b. cond b (p ∷ []) []) (and_parts (is_stray_entry f.value_type p) _ h).0

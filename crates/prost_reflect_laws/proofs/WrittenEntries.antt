@@ -8,7 +8,7 @@ use Rattle.prost_reflect_wire.specs.Schema.{ScalarOf, Singular, Field, field_of,
 use Rattle.prost_reflect_wire.specs.Content.{Entries, Unknown, Value, ScalarValue, Slot, then_unknowns, then_value, store, Content, MessageValue}
 use Rattle.prost_reflect_wire.specs.Writing.{record_at, is_default_of, field_payloads, entries_records, scalar_payload, records, message_payload}
 use Rattle.prost_reflect_wire.specs.Storing.{kept_records, value_bytes, stored_bytes, slot_bytes}
-use Rattle.prost_reflect_wire.specs.Typing.{kept_value, kept_inside, kept_entries, is_empty_of, kept}
+use Rattle.prost_reflect_wire.specs.Typing.{kept_value, kept_inside, kept_entries, is_empty_value, kept}
 use Rattle.prost_reflect_laws.proofs.ByNumber.{unknowns_first}
 
 pub spelled_append : (rs qs : List Record) → spelled (rs ++ qs) ≡ spelled rs ++ spelled qs
@@ -34,7 +34,7 @@ spelled_append (r ∷ rs) qs = go r.payload (spelled_append rs qs)
 
 -- ONE NUMBER
 
-kept_unknowns : (fields : List Field) (n : ℕ) (ps : List Payload) (es : Entries) → kept_entries fields (then_unknowns n ps es) ≡ then_unknowns n ps (kept_entries fields es)
+pub kept_unknowns : (fields : List Field) (n : ℕ) (ps : List Payload) (es : Entries) → kept_entries fields (then_unknowns n ps es) ≡ then_unknowns n ps (kept_entries fields es)
 kept_unknowns fields n [] es = refl
 kept_unknowns fields n (p ∷ ps) es = ap (Unknown n p) (kept_unknowns fields n ps es)
 
@@ -106,7 +106,7 @@ pub scalar_written : (fields : List Field) (n : ℕ) (f : Field) (kind : ScalarK
     ≡ cond (not f.value_type.presence && scalar_eq v f.value_type.default) [] (short_key n (kind_wire kind) ++ short_plain (written kind v))
 scalar_written fields n f kind v found form is fits =
     ap (λ o. spelled (kept_records fields n (kept_value o (ScalarValue v)))) found
-    ∙ ap (λ form. spelled (kept_records fields n (cond (is_empty_of form (ScalarValue v) || (is_singular form && is_default_of f.value_type (ScalarValue v))) None (Some (ScalarValue v))))) form
+    ∙ ap (λ form. spelled (kept_records fields n (cond (is_empty_value form (ScalarValue v) || (is_singular form && is_default_of f.value_type (ScalarValue v))) None (Some (ScalarValue v))))) form
     ∙ go (not f.value_type.presence && scalar_eq v f.value_type.default)
   where
     go : (b : Bool) → spelled (kept_records fields n (cond b None (Some (ScalarValue v)))) ≡ cond b [] (short_key n (kind_wire kind) ++ short_plain (written kind v))
@@ -123,5 +123,5 @@ scalar_written fields n f kind v found form is fits =
 pub message_written : (fields : List Field) (n : ℕ) (f : Field) (c : Content) → field_of fields n ≡ Some f → f.form ≡ Singular → value_bytes fields n (MessageValue c) ≡ spelled (record_at n (message_payload f.value_type.kind (records (kept c))) ∷ [])
 message_written fields n f c found form =
     ap (λ o. spelled (kept_records fields n (kept_value o (MessageValue (kept c))))) found
-    ∙ ap (λ form. spelled (kept_records fields n (cond (is_empty_of form (MessageValue (kept c)) || (is_singular form && is_default_of f.value_type (MessageValue (kept c)))) None (Some (MessageValue (kept c)))))) form
+    ∙ ap (λ form. spelled (kept_records fields n (cond (is_empty_value form (MessageValue (kept c)) || (is_singular form && is_default_of f.value_type (MessageValue (kept c)))) None (Some (MessageValue (kept c)))))) form
     ∙ ap (λ o. spelled (map (record_at n) (field_payloads o (MessageValue (kept c))))) found

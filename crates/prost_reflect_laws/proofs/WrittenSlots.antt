@@ -2,6 +2,7 @@
 use Rattle.std.proofs.Common.{◌≡◌, ℕ, ◌+◌, Bool, true, false, cond, ◌||◌, List, [], ◌∷◌, ◌++◌, map, filter, flat_map, length, Option, Some, None, refl, ap, ap₂, sym, subst, ◌∙◌, arith, true≢false, append-nil}
 use Rattle.std.specs.List.{list_any, list_all}
 use Rattle.std.proofs.lemmas.List.Folds.{list_all-append}
+use Rattle.std.proofs.lemmas.Bool.{and_parts, and_from}
 use Rattle.prost_reflect_wire.specs.Varint.{◌>>=◌}
 use Rattle.prost_reflect_wire.specs.Record.{Payload, Record, body_of, number_valid, payload_valid, valid}
 use Rattle.prost_reflect_wire.specs.Schema.{Field, Schema, known, field_of, is_sibling}
@@ -14,7 +15,6 @@ use Rattle.prost_reflect_laws.specs.Laws.{block}
 use Rattle.prost_reflect_wire.proofs.Numbers.{Ascending, Covers, numbers_ascending, table_same, table_covers, slots_same}
 use Rattle.prost_reflect_wire.proofs.Survivors.{field_number, survive_none}
 use Rattle.prost_reflect_wire.proofs.Steps.{flat_append, surviving_value, meaning_covers}
-use Rattle.prost_reflect_wire.proofs.Deeper.{and_both, both_true}
 use Rattle.prost_reflect_laws.proofs.Spelt.{SoundPayloads, Sound}
 use Rattle.prost_reflect_laws.proofs.Readable.{numbered_valid}
 use Rattle.prost_reflect_laws.proofs.Matches.{TypesMatch, Like, like}
@@ -33,7 +33,7 @@ payloads_append (p ∷ ps) qs (one, more) k = (one, payloads_append ps qs more k
 
 valid_sound : (ps : List Payload) → list_all payload_valid ps ≡ true → SoundPayloads ps
 valid_sound [] h = tt
-valid_sound (p ∷ ps) h = let (one, more) = and_both (payload_valid p) (list_all payload_valid ps) h in (record { sound = λ l. one }, valid_sound ps more)
+valid_sound (p ∷ ps) h = let (one, more) = and_parts (payload_valid p) (list_all payload_valid ps) h in (record { sound = λ l. one }, valid_sound ps more)
 
 none_filtered : {A : Type 0} (test : A → Bool) (xs : List A) → filter test xs ≡ [] → list_any test xs ≡ false
 none_filtered test [] e = refl
@@ -101,9 +101,9 @@ slot_allowed pairs k a j older newer at by n b = go (field_of older n) refl
         let (g, l) = like pairs older newer n f b.match e in
         let s : KnownSlot k a j newer n f g (at n) (by n) = b.known n f g e l in
         let stored : List Payload = stored_payloads (Some f) (at n).value in
-        let (ok', ok'') = and_both (list_all payload_valid stored) (list_all payload_valid (at n).unknowns) (sym (list_all-append payload_valid stored (at n).unknowns) ∙ ok) in
+        let (ok', ok'') = and_parts (list_all payload_valid stored) (list_all payload_valid (at n).unknowns) (sym (list_all-append payload_valid stored (at n).unknowns) ∙ ok) in
         block_allowed k a newer n g (slot_payloads (Some f) (at n)) s.found
-        ∙ list_all-append (field_allowed k a g.form g.value_type) stored (at n).unknowns ∙ both_true (s.stored.read ok').allowed s.strays.allowed
+        ∙ list_all-append (field_allowed k a g.form g.value_type) stored (at n).unknowns ∙ and_from _ _ (s.stored.read ok').allowed s.strays.allowed
 
 -- what the newer type takes of what is written at a known number
 record Taken (j : MeansInside) (f g : Field) (s t : Slot) : Type 0 where
@@ -114,7 +114,7 @@ record Taken (j : MeansInside) (f g : Field) (s t : Slot) : Type 0 where
 taken : (k : ℕ) (a : AllowsInside) (j : MeansInside) (newer : List Field) (n : ℕ) (f g : Field) (s t : Slot) → KnownSlot k a j newer n f g s t → list_all payload_valid (slot_payloads (Some f) s) ≡ true → Taken j f g s t
 taken k a j newer n f g s t b ok =
     let stored : List Payload = stored_payloads (Some f) s.value in
-    let (ok', ok'') = and_both (list_all payload_valid stored) (list_all payload_valid s.unknowns) (sym (list_all-append payload_valid stored s.unknowns) ∙ ok) in
+    let (ok', ok'') = and_parts (list_all payload_valid stored) (list_all payload_valid s.unknowns) (sym (list_all-append payload_valid stored s.unknowns) ∙ ok) in
     let r : FieldReads k a j g.form g.value_type (stored_payloads (Some f) s.value) t.value = b.stored.read ok' in
     let (stay, gone) = strays_stay g.form g.value_type s.unknowns b.strays.are in
     record {

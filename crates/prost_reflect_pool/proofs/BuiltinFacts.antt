@@ -26,6 +26,6 @@ linked_alike rows e = ap is_linked e ∙ builtin_linked
 pub shown_alike : (rows : TableRows) → rows ≡ builtin_rows → schema_from rows ≡ builtin_schema
 shown_alike rows e = ap schema_from e ∙ builtin_shown
 
-pub named_alike : (rows : TableRows) → rows ≡ builtin_rows → map (λ m. m.full_name) rows.messages ≡ builtin_names
+pub named_alike : (rows : TableRows) → rows ≡ builtin_rows → map (λ m. m.id.full_name) rows.messages ≡ builtin_names
 unfolding builtin_messages
-named_alike rows e = ap (λ (x : TableRows). map (λ (m : MessageRow). m.full_name) x.messages) e
+named_alike rows e = ap (λ (x : TableRows). map (λ (m : MessageRow). m.id.full_name) x.messages) e

@@ -8,7 +8,7 @@ use Rattle.prost_reflect_types.specs.declared.FieldDescriptorProto.{FieldDescrip
 use Rattle.prost_reflect_tables.specs.Names.{text_or_empty, joined}
 use Rattle.prost_reflect_tables.specs.Flat.{ScopeRow, DefinitionRow, FlatRows, defined_from, field_name}
 use Rattle.prost_reflect_tables.specs.Linking.{Links}
-use Rattle.prost_reflect_tables.specs.Faults.{is_unnamed, is_field_number, number_bad, is_type, is_code, is_message_type, is_enum_type, is_repeated, type_missing, label_bad, repeated_member, type_unknown}
+use Rattle.prost_reflect_tables.specs.Faults.{is_unnamed, is_field_number, number_bad, is_type, is_code, is_message_type, is_enum_type, has_repeated_label, type_missing, label_bad, repeated_member, type_unknown}
 use Rattle.prost_reflect_tables.specs.OptionFaults.{option_bad}
 use Rattle.prost_reflect_tables.specs.EntryFaults.{names_entry, is_of_entry, wrongly_of_entry}
 use Rattle.prost_reflect_tables.specs.DefaultFaults.{is_float_type, default_bad, float_default_bad}
@@ -40,6 +40,7 @@ pub record IsScalar (x : ℕ × List ℕ) (f : FieldDescriptorProto) : Type 0 wh
   pub no_default : f.default_value ≡ None
   pub no_options : f.options ≡ None
   pub no_oneof : f.oneof_index ≡ None
+  pub no_json_name : f.json_name ≡ None
   pub unmarked : f.proto3_optional ≡ None
 
 pub is_scalar : (f : FieldDescriptorProto) (x : ℕ × List ℕ) → field_view f ≡ scalar_view (pos x.0) x.1 → IsScalar x f
@@ -52,6 +53,7 @@ is_scalar f x e = record {
   no_default = text_none f.default_value (ap (λ (v : FieldView). v.default_value) e);
   no_options = bytes_none f.options (ap (λ (v : FieldView). v.options) e);
   no_oneof = ap (λ (v : FieldView). v.oneof_index) e;
+  no_json_name = text_none f.json_name (ap (λ (v : FieldView). v.json_name) e);
   unmarked = ap (λ (v : FieldView). v.proto3_optional) e;
 }
 
@@ -102,7 +104,7 @@ unknown_given rows d x is =
 pub entry_given : (rows : FlatRows) → Gives (wrongly_of_entry rows) (λ x. false)
 entry_given rows d x is =
     let none : is_of_entry rows d ≡ false = and_right (is_message_type d.proto.type_) _ (ap (names_entry rows) is.no_type_name) in
-    ap (λ entry. entry && not (is_repeated d && is_code 11 d.proto.type_)) none
+    ap (λ entry. entry && not (has_repeated_label d && is_code 11 d.proto.type_)) none
 
 pub default_given : (links : Links) → Gives (default_bad links) (λ x. false)
 unfolding default_bad

@@ -1,5 +1,5 @@
 -- The built-in files, linked.
-use Rattle.std.proofs.Common.{◌≡◌, ℕ, ◌+◌, pos, Bool, true, false, not, ◌||◌, ◌&&◌, nat_eq, length, List, [], ◌∷◌, ◌++◌, map, Option, None, Vec, refl, sym, ap, ap₂, ◌∙◌}
+use Rattle.std.proofs.Common.{◌≡◌, ℕ, ◌+◌, pos, Bool, true, false, not, ◌||◌, ◌&&◌, nat_eq, length, List, [], ◌∷◌, ◌++◌, map, Option, Some, None, Vec, refl, sym, ap, ap₂, ◌∙◌, subst}
 use Rattle.std.specs.Prelude.{unwrap_or, bytes_eq, codes}
 use Rattle.std.specs.List.{list_any}
 use Rattle.std.specs.declared.alloc.Global.{Global}
@@ -12,42 +12,53 @@ use Rattle.prost_reflect_types.specs.declared.DescriptorProto.{DescriptorProto}
 use Rattle.prost_reflect_types.specs.declared.DescriptorProto.TheViews.{out-DescriptorProto}
 use Rattle.prost_reflect_types.specs.declared.DescriptorProto.TheFolds.{fold_out-DescriptorProto}
 use Rattle.prost_reflect_tables.specs.declared.tables.Cardinality.TheVariants.{Optional}
-use Rattle.prost_reflect_tables.specs.Rows.{FieldRow, MessageRow}
+use Rattle.prost_reflect_tables.specs.Rows.{IdentityRow, FieldRow, MessageRow}
 use Rattle.prost_reflect_tables.specs.Names.{text_or_empty, joined}
 use Rattle.prost_reflect_tables.specs.Flat.{ScopeRow, DefinitionRow, FlatMessageRow, FlatRows, Given, Placed, all_from, inside, own_message, enums_from, services_from, defined, defined_from, field_name, oneof_name, message_step, message_at, is_proto3, file_scope, file_at, behind, files_from, flattened}
 use Rattle.prost_reflect_tables.specs.Options.{bool_option}
-use Rattle.prost_reflect_tables.specs.Linking.{Links, links_of, kind_of_code, is_message, is_group_code, place_or_first, linked_field, in_order, declared_fields, oneofs_from, linked_message, linked_rows}
+use Rattle.prost_reflect_tables.specs.Linking.{Links, links_of, kind_of_code, is_message, is_group_code, place_or_first, linked_identity, linked_field, in_order, declared_fields, oneofs_from, linked_message, linked_rows}
 use Rattle.prost_reflect_tables.specs.Adding.{is_named, is_there, added}
 use Rattle.prost_reflect_tables.proofs.Adding.{taken, none_added}
 use Rattle.prost_reflect_tables.proofs.Built.{linked_of}
 use Rattle.prost_reflect_pool.specs.Pools.{IsPoolOf, pool_rows, files_of}
 use Rattle.prost_reflect_pool.specs.declared.pool.LinkedPool.{LinkedPool}
 use Rattle.prost_reflect_pool.specs.BuiltinFiles.{field_view, scalar_view, scalar_names, IsScalarMessage, IsScalarFile, AreBuiltin}
-use Rattle.prost_reflect_pool.specs.BuiltinRows.{scalar_rows, scalar_message_row, builtin_messages, builtin_rows}
+use Rattle.prost_reflect_pool.specs.BuiltinRows.{message_id, scalar_rows, scalar_message_row, builtin_messages, builtin_rows}
 use Rattle.prost_reflect_pool.proofs.BuiltinFields.{is_scalar}
 
 -- FIELDS
 
+-- Where the field of a place in the list of a scope stands.
+abbrev id_in : ScopeRow → ℕ → List ℕ → IdentityRow
+id_in scope i name = record { file = scope.file; parent = scope.parent; path = scope.path ++ pos 2 ∷ pos i ∷ []; full_name = joined scope.name name; name = name }
+
 -- The row of a field of such a view, by what would be the first message and the first enum.
-abbrev row : (a b : ℕ) → Bool → ℕ × List ℕ → FieldRow
-row a b is_proto3 x = record {
+abbrev row : (a b : ℕ) → ScopeRow → ℕ → ℕ × List ℕ → FieldRow
+row a b scope i x = record {
+  id = id_in scope i x.1;
+  json_name = x.1;
   number = x.0;
-  name = x.1;
   is_extension = false;
   kind = kind_of_code a b x.0;
   is_group = is_group_code x.0;
   cardinality = Optional;
   is_packed = false;
-  supports_presence = not is_proto3 || false || is_message (kind_of_code a b x.0) || false || false;
+  supports_presence = not scope.is_proto3 || false || is_message (kind_of_code a b x.0) || false || false;
   default = None;
   oneof = None;
 }
 
-field_linked : (links : Links) (d : DefinitionRow FieldDescriptorProto) (x : ℕ × List ℕ) → field_view d.proto ≡ scalar_view (pos x.0) x.1 →
-    linked_field links false d ≡ row (place_or_first links.messages None) (place_or_first links.enums None) d.is_proto3 x
+-- Those of a list, whose first one is at the place.
+abbrev rows_in : (a b : ℕ) → ScopeRow → ℕ → List (ℕ × List ℕ) → List FieldRow
+rows_in a b scope i [] = []
+rows_in a b scope i (x ∷ xs) = row a b scope i x ∷ rows_in a b scope (i + 1) xs
+
+field_linked : (links : Links) (scope : ScopeRow) (i : ℕ) (f : FieldDescriptorProto) (x : ℕ × List ℕ) → field_view f ≡ scalar_view (pos x.0) x.1 →
+    linked_field links false (defined scope 2 i f.name f) ≡ row (place_or_first links.messages None) (place_or_first links.enums None) scope i x
 unfolding linked_field
-field_linked links d x e =
-    let is = is_scalar d.proto x e in
+field_linked links scope i f x e =
+    let is = is_scalar f x e in
+    let json = is.no_json_name in
     let number = is.number in
     let label = is.label in
     let type_ = is.type_ in
@@ -56,22 +67,26 @@ field_linked links d x e =
     let default = is.no_default in
     let oneof = is.no_oneof in
     let marked = is.unmarked in
-    rw (number, label, type_, named, type_name, default, oneof, marked) refl
+    rw (json, number, label, type_, named, type_name, default, oneof, marked) refl
 
 fields_linked : (links : Links) (scope : ScopeRow) (i : ℕ) (fs : List FieldDescriptorProto) (xs : List (ℕ × List ℕ)) → map field_view fs ≡ map (λ (x : ℕ × List ℕ). scalar_view (pos x.0) x.1) xs →
-    declared_fields links (defined_from field_name scope 2 i fs) ≡ map (row (place_or_first links.messages None) (place_or_first links.enums None) scope.is_proto3) xs
+    declared_fields links (defined_from field_name scope 2 i fs) ≡ rows_in (place_or_first links.messages None) (place_or_first links.enums None) scope i xs
 fields_linked links scope i [] [] e = refl
 fields_linked links scope i [] (x ∷ xs) e = cc
 fields_linked links scope i (f ∷ fs) [] e = cc
 fields_linked links scope i (f ∷ fs) (x ∷ xs) e =
     let head : field_view f ≡ scalar_view (pos x.0) x.1 = cc in
     let tail : map field_view fs ≡ map (λ (x : ℕ × List ℕ). scalar_view (pos x.0) x.1) xs = cc in
-    ap₂ (λ (r : FieldRow) (rs : List FieldRow). r ∷ rs) (field_linked links (defined scope 2 i f.name f) x head) (fields_linked links scope (i + 1) fs xs tail)
+    ap₂ (λ (r : FieldRow) (rs : List FieldRow). r ∷ rs) (field_linked links scope i f x head) (fields_linked links scope (i + 1) fs xs tail)
 
-rows_sorted : (a b : ℕ) (p : Bool) → in_order (map (row a b p) scalar_names ++ []) ≡ scalar_rows (not p)
+-- The scope in the message type of a name, alone in the file of a place.
+abbrev scope_in : ℕ → List ℕ → Bool → ScopeRow
+scope_in file name is_proto3 = record { name = joined (codes "builtin") name; path = pos 4 ∷ pos 0 ∷ []; file = file; is_proto3 = is_proto3; parent = Some file }
+
+rows_sorted : (a b n : ℕ) (name : List ℕ) (p : Bool) → in_order (rows_in a b (scope_in n name p) 0 scalar_names ++ []) ≡ scalar_rows (message_id n name) (not p)
 unfolding scalar_names
-rows_sorted a b true = refl
-rows_sorted a b false = refl
+rows_sorted a b n name true = refl
+rows_sorted a b n name false = refl
 
 -- MESSAGES
 
@@ -99,30 +114,32 @@ message_given name m scope n is =
     ∙ (ap (λ es. shape o [] es (out-DescriptorProto m).extension.items within n) is.no_enums
     ∙ ap (λ xs. shape o [] [] xs within n) is.no_extensions))
 
-abbrev linked_shape : List ℕ → Option (Vec ℕ Global) → List FieldRow → List (DefinitionRow FieldDescriptorProto) → List (DefinitionRow OneofDescriptorProto) → MessageRow
-linked_shape full_name options all fields oneofs = record {
-  full_name = full_name;
+abbrev linked_shape : IdentityRow → Option (Vec ℕ Global) → List FieldRow → List (DefinitionRow FieldDescriptorProto) → List (DefinitionRow OneofDescriptorProto) → MessageRow
+linked_shape id options all fields oneofs = record {
+  id = id;
   is_map_entry = unwrap_or (bool_option 7 options) false;
   fields = in_order all;
   oneofs = oneofs_from (in_order all) fields 0 oneofs;
 }
 
-message_linked : (links : Links) (name : List ℕ) (m : DescriptorProto) (scope : ScopeRow) (n : ℕ) (p : Bool) → IsScalarMessage name m → scope.name ≡ codes "builtin" → scope.is_proto3 ≡ p →
-    linked_message (declared_fields links (own m scope n).fields ++ []) (own m scope n) ≡ scalar_message_row (joined (codes "builtin") name) (not p)
+message_linked : (links : Links) (name : List ℕ) (m : DescriptorProto) (f : FileDescriptorProto) (n : ℕ) (p : Bool) → IsScalarMessage name m → text_or_empty f.«package» ≡ codes "builtin" → is_proto3 f ≡ p →
+    linked_message (declared_fields links (own m (file_scope f n) n).fields ++ []) (own m (file_scope f n) n) ≡ scalar_message_row n name (not p)
 unfolding linked_message
-message_linked links name m scope n p is within syntax =
-    let o = own m scope n in
+message_linked links name m f n p is within syntax =
+    let o = own m (file_scope f n) n in
     let full : o.definition.full_name ≡ joined (codes "builtin") name = ap (λ (s : List ℕ). joined s (text_or_empty (out-DescriptorProto m).name)) within ∙ ap (joined (codes "builtin")) is.named in
     let a = place_or_first links.messages None in
     let b = place_or_first links.enums None in
-    let all : declared_fields links o.fields ++ [] ≡ map (row a b p) scalar_names ++ [] =
-    ap (λ l. l ++ []) (fields_linked links (inside o.definition n) 0 (out-DescriptorProto m).field.items scalar_names is.fields ∙ ap (λ q. map (row a b q) scalar_names) syntax) in
+    let id : linked_identity (out-DescriptorProto m).name o.definition ≡ message_id n name = λ i. record { file = n; parent = None; path = pos 4 ∷ pos 0 ∷ []; full_name = full i; name = is.named i } in
+    let scope : inside o.definition n ≡ scope_in n name p = λ i. record { name = full i; path = pos 4 ∷ pos 0 ∷ []; file = n; is_proto3 = syntax i; parent = Some n } in
+    let all : declared_fields links o.fields ++ [] ≡ rows_in a b (scope_in n name p) 0 scalar_names ++ [] =
+    ap (λ l. l ++ []) (fields_linked links (inside o.definition n) 0 (out-DescriptorProto m).field.items scalar_names is.fields ∙ ap (λ s. rows_in a b s 0 scalar_names) scope) in
     let oneofs : o.oneofs ≡ [] = ap (defined_from oneof_name (inside o.definition n) 8 0) is.no_oneofs in
-    ap (λ x. linked_shape x o.definition.proto.options (declared_fields links o.fields ++ []) o.fields o.oneofs) full
-    ∙ (ap (λ x. linked_shape (joined (codes "builtin") name) x (declared_fields links o.fields ++ []) o.fields o.oneofs) is.no_options
-    ∙ (ap (λ x. linked_shape (joined (codes "builtin") name) None x o.fields o.oneofs) all
-    ∙ (ap (λ x. linked_shape (joined (codes "builtin") name) None (map (row a b p) scalar_names ++ []) o.fields x) oneofs
-    ∙ ap (λ x. record { full_name = joined (codes "builtin") name; is_map_entry = false; fields = x; oneofs = [] }) (rows_sorted a b p))))
+    ap (λ x. linked_shape x o.definition.proto.options (declared_fields links o.fields ++ []) o.fields o.oneofs) id
+    ∙ (ap (λ x. linked_shape (message_id n name) x (declared_fields links o.fields ++ []) o.fields o.oneofs) is.no_options
+    ∙ (ap (λ x. linked_shape (message_id n name) None x o.fields o.oneofs) all
+    ∙ (ap (λ x. linked_shape (message_id n name) None (rows_in a b (scope_in n name p) 0 scalar_names ++ []) o.fields x) oneofs
+    ∙ ap (λ x. record { id = message_id n name; is_map_entry = false; fields = x; oneofs = [] }) (rows_sorted a b n name p))))
 
 -- FILES
 
@@ -178,8 +195,8 @@ both_linked files are =
     let links = links_of (two o q) in
     let plain3 : is_proto3 are.plain ≡ true = ap (λ (s : List ℕ). bytes_eq s (codes "proto3")) are.is_plain.of_syntax in
     let kept2 : is_proto3 are.kept ≡ false = ap (λ (s : List ℕ). bytes_eq s (codes "proto3")) are.is_kept.of_syntax in
-    let first = message_linked links (codes "Plain") are.is_plain.proto (file_scope are.plain 0) 0 true are.is_plain.is_message are.is_plain.in_package plain3 in
-    let second = message_linked links (codes "Kept") are.is_kept.proto (file_scope are.kept 1) 1 false are.is_kept.is_message are.is_kept.in_package kept2 in
+    let first = message_linked links (codes "Plain") are.is_plain.proto are.plain 0 true are.is_plain.is_message are.is_plain.in_package plain3 in
+    let second = message_linked links (codes "Kept") are.is_kept.proto are.kept 1 false are.is_kept.is_message are.is_kept.in_package kept2 in
     ap linked_rows (both_given files are)
     ∙ ap₂ (λ (a b : MessageRow). record { messages = a ∷ b ∷ []; enums = [] }) first second
 
@@ -188,3 +205,7 @@ both_linked files are =
 pub rows_built : (old new : LinkedPool) (files : List FileDescriptorProto) → IsPoolOf [] old → AreBuiltin files → IsPoolOf (added (files_of old) files) new → pool_rows new ≡ builtin_rows
 rows_built old new files none are is =
     linked_of _ _ is.built ∙ (ap (λ (fs : List FileDescriptorProto). linked_rows (flattened fs)) (ap (λ (o : List FileDescriptorProto). added o files) none.holds ∙ both_added files are) ∙ both_linked files are)
+
+pub files_built : (old new : LinkedPool) (files : List FileDescriptorProto) → IsPoolOf [] old → AreBuiltin files → IsPoolOf (added (files_of old) files) new → AreBuiltin (files_of new)
+files_built old new files none are is =
+    subst AreBuiltin (sym (is.holds ∙ (ap (λ (o : List FileDescriptorProto). added o files) none.holds ∙ both_added files are))) are

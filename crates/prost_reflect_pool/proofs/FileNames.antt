@@ -2,11 +2,10 @@
 use Rattle.std.proofs.Common.{◌≡◌, Bool, true, false, not, ◌&&◌, ◌||◌, List, [], ◌∷◌, ◌++◌, filter, length, nat_eq, refl, ap, ap₂, ◌∙◌}
 use Rattle.std.specs.Str.{bytes_eq}
 use Rattle.std.specs.List.{AllZip, list_any}
-use Rattle.prost_reflect_wire.proofs.ListTests.{and_both}
+use Rattle.std.proofs.lemmas.Bool.{and_parts, not-true}
 use Rattle.prost_reflect_types.specs.declared.FileDescriptorProto.{FileDescriptorProto}
 use Rattle.prost_reflect_types.proofs.EqualContents.{SameFile}
 use Rattle.prost_reflect_tables.specs.Adding.{have_one_name, first_of_name, is_there, added}
-use Rattle.prost_reflect_tables.proofs.Adding.{not_true}
 use Rattle.prost_reflect_tables.proofs.SameRows.{zip_any, text_same}
 use Rattle.prost_reflect_pool.specs.FileNames.{names_differ}
 
@@ -28,9 +27,9 @@ pub differ_more : (files : List FileDescriptorProto) (f : FileDescriptorProto) �
 unfolding names_differ
 differ_more [] f new h = refl
 differ_more (g ∷ files) f new h =
-    let (alone, rest) = and_both _ _ h in
+    let (alone, rest) = and_parts _ _ h in
     let (other, new_behind) = neither (have_one_name g f) (is_there files f) new in
-    rw (any_push (have_one_name g) files f (not_true _ alone) other) (differ_more files f new_behind rest)
+    rw (any_push (have_one_name g) files f (not-true _ alone) other) (differ_more files f new_behind rest)
 
 -- ALL ARE TAKEN
 
@@ -46,9 +45,9 @@ all_first : (files : List FileDescriptorProto) → names_differ files ≡ true �
 unfolding names_differ
 all_first [] h = refl
 all_first (f ∷ files) h =
-    let (alone, rest) = and_both _ _ h in
+    let (alone, rest) = and_parts _ _ h in
     ap (λ l. f ∷ filter (λ g. not (have_one_name f g)) l) (all_first files rest)
-    ∙ ap (λ l. f ∷ l) (none_left_out (have_one_name f) files (not_true _ alone))
+    ∙ ap (λ l. f ∷ l) (none_left_out (have_one_name f) files (not-true _ alone))
 
 pub all_taken : (files : List FileDescriptorProto) → names_differ files ≡ true → added [] files ≡ files
 all_taken files h =

@@ -73,6 +73,7 @@ pub record HasScalars (name : List ℕ) (m : DescriptorProto-F DescriptorProto) 
   pub no_options : m.options ≡ None
   pub no_oneofs : m.oneof_decl.items ≡ []
   pub no_reserved_ranges : m.reserved_range.items ≡ []
+  pub no_reserved_names : m.reserved_name.items ≡ []
 
 abbrev pub IsScalarMessage : List ℕ → DescriptorProto → Type 0
 IsScalarMessage name m = HasScalars name (out-DescriptorProto m)
@@ -91,6 +92,8 @@ pub record IsScalarFile (name message syntax : List ℕ) (f : FileDescriptorProt
   pub no_extensions : f.extension.items ≡ []
   pub no_public : f.public_dependency.items ≡ []
   pub no_weak : f.weak_dependency.items ≡ []
+  pub no_options : f.options ≡ None
+  pub no_source : f.source_code_info ≡ None
 
 -- `plain.proto` of proto3 with `Plain`, and `kept.proto` of proto2 with `Kept`.
 pub record AreBuiltin (files : List FileDescriptorProto) : Type 0 where

@@ -1,12 +1,11 @@
 -- When pools are equal: a test that decides whether their files hold the same.
-use Rattle.std.specs.Prelude.{◌≡◌, Bool, List, refl}
+use Rattle.std.specs.Prelude.{◌≡◌, Bool, List}
 use Rattle.std.specs.Bool.{Decides}
 use Rattle.std.specs.Cmp.{IsEquivalence}
 use Rattle.std.specs.Cmp.Lexicographic.{pointwise}
-use Rattle.std.proofs.lemmas.Slice.Eq.{slice_eq-Decides}
 use Rattle.prost_reflect_wire.specs.Content.{Content}
-use Rattle.prost_reflect_wire.specs.ContentEquality.{content_eq, content_same, content_refl}
-use Rattle.prost_reflect_tables.specs.Equality.{decided, equivalence}
+use Rattle.prost_reflect_wire.specs.Deciding.{list_decides, equivalence}
+use Rattle.prost_reflect_wire.specs.ContentEquality.{content_eq, content_decides}
 
 -- As many contents, equal one by one.
 unfoldable pub contents_eq : List Content → List Content → Bool
@@ -14,7 +13,7 @@ contents_eq = pointwise content_eq
 
 pub contents_decide : (cs ds : List Content) → Decides (contents_eq cs ds) (cs ≡ ds)
 unfolding contents_eq
-contents_decide cs ds = slice_eq-Decides (decided content_eq content_same content_refl) cs ds (contents_eq cs ds) refl
+contents_decide = list_decides content_decides
 
 pub contents_equivalence : IsEquivalence contents_eq
 contents_equivalence = equivalence contents_eq contents_decide

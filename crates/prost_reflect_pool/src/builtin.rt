@@ -3,7 +3,7 @@
 ghost use Rattle.std.specs.Prelude.{◌≡◌, IfOk, IfErr, codes, map};
 ghost use Rattle.prost_reflect_tables.specs.Shown.{schema_from};
 ghost use Rattle.prost_reflect_tables.specs.declared.error.PoolError.TheVariants as pool_errors;
-ghost use Rattle.prost_reflect_pool.specs.Pools.{pool_rows};
+ghost use Rattle.prost_reflect_pool.specs.Pools.{files_of, pool_rows};
 ghost use Rattle.prost_reflect_pool.specs.Builtin.{builtin_schema, builtin_names};
 ghost use Rattle.prost_reflect_pool.specs.BuiltinFiles.{field_view, scalar_view, IsScalarMessage, IsScalarFile, AreBuiltin};
 ghost use Rattle.prost_reflect_pool.specs.BuiltinRows.{builtin_rows};
@@ -38,9 +38,10 @@ const SCALAR_FIELDS: [(i32, &str); 15] = [
 ///
 /// `OutOfMemory` if a growth is refused.
 pub fn builtin_pool(alloc: Global) -> Result<LinkedPool, PoolError>
+    ensures files { IfOk result (λ pool. AreBuiltin (files_of pool)) }
     ensures rows { IfOk result (λ pool. pool_rows pool ≡ builtin_rows) }
     ensures schema { IfOk result (λ pool. schema_from (pool_rows pool) ≡ builtin_schema) }
-    ensures names { IfOk result (λ pool. map (λ m. m.full_name) (pool_rows pool).messages ≡ builtin_names) }
+    ensures names { IfOk result (λ pool. map (λ m. m.id.full_name) (pool_rows pool).messages ≡ builtin_names) }
     ensures refused { IfErr result (λ e. e ≡ pool_errors.OutOfMemory) }
 {
     let none = LinkedPool::new(alloc);

@@ -12,14 +12,6 @@ use Rattle.prost_reflect_tables.specs.Faults.{is_unnamed}
 use Rattle.prost_reflect_tables.specs.Adding.{is_named, have_one_name, first_of_name, is_there, unskipped, added, AreNamesOf}
 use Rattle.prost_reflect_tables.proofs.NamePlaces.{list_any_push}
 
-pub not_true : (b : Bool) → not b ≡ true → b ≡ false
-not_true true e = sym e
-not_true false e = refl
-
-pub not_false : (b : Bool) → not b ≡ false → b ≡ true
-not_false true e = refl
-not_false false e = sym e
-
 pub no_length : (l : List ℕ) → (length l == 0) ≡ true → l ≡ []
 no_length [] e = refl
 no_length (b ∷ l) e = absurd (grind arith)

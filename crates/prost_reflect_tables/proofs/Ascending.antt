@@ -1,29 +1,21 @@
 -- Fields in ascending order of their numbers, and the place of a number among them.
-use Rattle.std.proofs.Common.{⊎_elim, ◌≡◌, ◌≢◌, ℕ, zero, suc, add-zero, ◌+◌, ◌<◌, ◌≤◌, ◌^◌, Bool, true, false, ◌&&◌, List, [], ◌∷◌, length, get_or, map, Some, None, refl, sym, ◌∙◌, ap, arith}
+use Rattle.std.proofs.Common.{⊎_elim, ◌≡◌, ◌≢◌, ℕ, zero, suc, add-zero, ◌+◌, ◌<◌, ◌≤◌, ◌^◌, true, ◌&&◌, List, [], ◌∷◌, length, get_or, map, Some, None, refl, sym, ◌∙◌, ap, arith}
 use Rattle.std.specs.Prelude.{slice_get, option_map, nat_lt, ◌==◌}
 use Rattle.std.specs.List.{position_from}
 use Rattle.std.proofs.lemmas.Iterator.Adapters.{position_from-zero}
 use Rattle.std.proofs.lemmas.List.{length-map}
 use Rattle.std.proofs.lemmas.Option.{slice_get-map, slice_get-get_or, slice_get_within}
-use Rattle.std.proofs.lemmas.Bool.{cases_lt, ltb-true, eq-eqb, ne_eqb}
+use Rattle.std.proofs.lemmas.Bool.{cases_lt, ltb-true, eq-eqb, ne_eqb, and_parts}
 use Rattle.prost_reflect_tables.specs.Rows.{FieldRow, field_row}
 use Rattle.prost_reflect_tables.specs.Places.{place_of}
 use Rattle.prost_reflect_tables.specs.Linked.{ascending_from}
 use Rattle.prost_reflect_tables.specs.declared.tables.FieldTable.{FieldTable}
 
-and_left : (a b : Bool) → a && b ≡ true → a ≡ true
-and_left true b h = refl
-and_left false b h = h
-
-and_right : (a b : Bool) → a && b ≡ true → b ≡ true
-and_right true b h = h
-and_right false b h = cc
-
 rises : (low : ℕ) (g : FieldRow) (fields : List FieldRow) → ascending_from low (g ∷ fields) ≡ true → low < g.number
-rises low g fields h = ltb-true low g.number (and_left (nat_lt low g.number) (nat_lt g.number (2 ^ 29)) (and_left (nat_lt low g.number && nat_lt g.number (2 ^ 29)) (ascending_from g.number fields) h))
+rises low g fields h = ltb-true low g.number (and_parts (nat_lt low g.number) (nat_lt g.number (2 ^ 29)) (and_parts (nat_lt low g.number && nat_lt g.number (2 ^ 29)) (ascending_from g.number fields) h).0).0
 
 onward : (low : ℕ) (g : FieldRow) (fields : List FieldRow) → ascending_from low (g ∷ fields) ≡ true → ascending_from g.number fields ≡ true
-onward low g fields h = and_right (nat_lt low g.number && nat_lt g.number (2 ^ 29)) (ascending_from g.number fields) h
+onward low g fields h = (and_parts (nat_lt low g.number && nat_lt g.number (2 ^ 29)) (ascending_from g.number fields) h).1
 
 pub numbers_above : (low : ℕ) (fields : List FieldRow) (i : ℕ) (f : FieldRow) → ascending_from low fields ≡ true → slice_get fields i ≡ Some f → low < f.number
 numbers_above low [] i f h e = cc

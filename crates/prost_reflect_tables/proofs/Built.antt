@@ -1,7 +1,6 @@
 -- What shows that rows are the tables of files.
-use Rattle.std.proofs.Common.{◌≡◌, List, [], refl, ap, sym, ◌∙◌, subst}
+use Rattle.std.proofs.Common.{◌≡◌, List, [], refl, ap, ◌∙◌, subst}
 use Rattle.prost_reflect_types.specs.declared.FileDescriptorProto.{FileDescriptorProto}
-use Rattle.prost_reflect_tables.specs.declared.error.PoolError.{PoolError}
 use Rattle.prost_reflect_tables.specs.declared.error.PoolError.TheVariants as errors
 use Rattle.prost_reflect_tables.specs.declared.tables.MessageTable.{MessageTable}
 use Rattle.prost_reflect_tables.specs.declared.tables.EnumTable.{EnumTable}

@@ -19,16 +19,16 @@ use Rattle.prost_reflect_tables.proofs.NamePlaces.{or_else}
 -- ONE ENUM
 
 abbrev is_named : List ℕ → EnumValueRow → Bool
-is_named name v = bytes_eq v.name name
+is_named name v = bytes_eq v.id.name name
 
 abbrev number_of : Option EnumValueRow → Option ℤ
 number_of v = option_map (λ v. v.number) v
 
-number_push : (name : List ℕ) (vs : List EnumValueRow) (v : EnumValueRow) → number_named (vs ++ v ∷ []) name ≡ or_else (number_named vs name) (cond (bytes_eq v.name name) (Some v.number) None)
-number_push name [] v = elim (bytes_eq v.name name) as (λ b. number_of (cond b (Some v) None) ≡ cond b (Some v.number) None) [ true ↦ refl | false ↦ refl ]
+number_push : (name : List ℕ) (vs : List EnumValueRow) (v : EnumValueRow) → number_named (vs ++ v ∷ []) name ≡ or_else (number_named vs name) (cond (bytes_eq v.id.name name) (Some v.number) None)
+number_push name [] v = elim (bytes_eq v.id.name name) as (λ b. number_of (cond b (Some v) None) ≡ cond b (Some v.number) None) [ true ↦ refl | false ↦ refl ]
 number_push name (w ∷ vs) v =
-    elim (bytes_eq w.name name)
-    as (λ b. number_of (cond b (Some w) (find (is_named name) (vs ++ v ∷ []))) ≡ or_else (number_of (cond b (Some w) (find (is_named name) vs))) (cond (bytes_eq v.name name) (Some v.number) None))
+    elim (bytes_eq w.id.name name)
+    as (λ b. number_of (cond b (Some w) (find (is_named name) (vs ++ v ∷ []))) ≡ or_else (number_of (cond b (Some w) (find (is_named name) vs))) (cond (bytes_eq v.id.name name) (Some v.number) None))
     [ true ↦ refl | false ↦ number_push name vs v ]
 
 rows_more : (ds : List (Definition EnumValueDescriptorProto)) (i : ℕ) (d : Definition EnumValueDescriptorProto) → i < length ds → d ≡ get_or ds i d →

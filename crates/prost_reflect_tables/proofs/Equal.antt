@@ -12,6 +12,8 @@ use Rattle.prost_reflect_tables.specs.declared.tables.MessageTable.{MessageTable
 use Rattle.prost_reflect_tables.specs.declared.tables.FieldTable.{FieldTable}
 use Rattle.prost_reflect_tables.specs.declared.tables.OneofTable.{OneofTable}
 use Rattle.prost_reflect_tables.specs.declared.tables.EnumTable.{EnumTable}
+use Rattle.prost_reflect_tables.specs.declared.tables.EnumValueTable.{EnumValueTable}
+use Rattle.prost_reflect_tables.specs.declared.tables.Identity.{Identity}
 use Rattle.prost_reflect_tables.specs.declared.tables.WrittenDefault.{WrittenDefault}
 use Rattle.prost_reflect_tables.specs.declared.tables.WrittenDefault.TheVariants as defaults
 use Rattle.prost_reflect_tables.specs.contracts.tables.TablesPartialEq.TheImpl as tables_code
@@ -19,10 +21,12 @@ use Rattle.prost_reflect_tables.specs.contracts.tables.MessageTablePartialEq.The
 use Rattle.prost_reflect_tables.specs.contracts.tables.FieldTablePartialEq.TheImpl as field_code
 use Rattle.prost_reflect_tables.specs.contracts.tables.OneofTablePartialEq.TheImpl as oneof_code
 use Rattle.prost_reflect_tables.specs.contracts.tables.EnumTablePartialEq.TheImpl as enum_code
+use Rattle.prost_reflect_tables.specs.contracts.tables.EnumValueTablePartialEq.TheImpl as value_code
+use Rattle.prost_reflect_tables.specs.contracts.tables.IdentityPartialEq.TheImpl as identity_code
 use Rattle.prost_reflect_tables.specs.contracts.tables.WrittenDefaultPartialEq.TheImpl as default_code
-use Rattle.prost_reflect_tables.specs.Rows.{written_scalar, field_row, oneof_row, message_row, enum_row}
+use Rattle.prost_reflect_tables.specs.Rows.{written_scalar, identity_row, field_row, oneof_row, message_row, enum_value_row, enum_row}
 use Rattle.prost_reflect_tables.specs.Schema.{rows_of}
-use Rattle.prost_reflect_tables.specs.Equality.{label_eq, kind_eq, field_eq, oneof_eq, message_eq, enum_eq, rows_eq, rows_decide}
+use Rattle.prost_reflect_tables.specs.Equality.{label_eq, kind_eq, identity_eq, field_eq, oneof_eq, message_eq, enum_value_eq, enum_eq, rows_eq, rows_decide}
 
 abbrev same_default : WrittenDefault → WrittenDefault → Bool
 same_default = (default_code.ghosts).eq
@@ -53,10 +57,17 @@ defaults_equal None None = refl
 listed_equal : {X Y : Type 0} (h : X → Y) (E : X → X → Bool) (F : Y → Y → Bool) → ((a b : X) → E a b ≡ F (h a) (h b)) → (xs ys : List X) → pointwise E xs ys ≡ pointwise F (map h xs) (map h ys)
 listed_equal h E F each xs ys = (λ i. pointwise (λ a b. each a b i) xs ys) ∙ sym (pointwise-map h F xs ys)
 
+abbrev same_identity : Identity → Identity → Bool
+same_identity = (identity_code.ghosts).eq
+
+identity_equal : (i j : Identity) → same_identity i j ≡ identity_eq (identity_row i) (identity_row j)
+identity_equal i j = refl
+
 field_equal : (f g : FieldTable) → (field_code.ghosts).eq f g ≡ field_eq (field_row f) (field_row g)
 field_equal f g = λ i.
-    nat_eq f.number g.number
-    && (pointwise nat_eq f.name.bytes.items g.name.bytes.items
+    identity_equal f.id g.id i
+    && (pointwise nat_eq f.json_name.bytes.items g.json_name.bytes.items
+    && (nat_eq f.number g.number
     && (beq f.is_extension g.is_extension
     && (kind_eq f.kind g.kind
     && (beq f.is_group g.is_group
@@ -64,20 +75,26 @@ field_equal f g = λ i.
     && (beq f.is_packed g.is_packed
     && (beq f.supports_presence g.supports_presence
     && (defaults_equal f.default g.default i
-    && option_eq nat_eq f.oneof g.oneof))))))))
+    && option_eq nat_eq f.oneof g.oneof)))))))))
 
 oneof_equal : (o p : OneofTable) → (oneof_code.ghosts).eq o p ≡ oneof_eq (oneof_row o) (oneof_row p)
 oneof_equal o p = refl
 
 message_equal : (m n : MessageTable) → (message_code.ghosts).eq m n ≡ message_eq (message_row m) (message_row n)
 message_equal m n = λ i.
-    pointwise nat_eq m.full_name.bytes.items n.full_name.bytes.items
+    identity_equal m.id n.id i
     && (beq m.is_map_entry n.is_map_entry
     && (listed_equal field_row (field_code.ghosts).eq field_eq field_equal m.fields.items n.fields.items i
     && listed_equal oneof_row (oneof_code.ghosts).eq oneof_eq oneof_equal m.oneofs.items n.oneofs.items i))
 
+value_equal : (v w : EnumValueTable) → (value_code.ghosts).eq v w ≡ enum_value_eq (enum_value_row v) (enum_value_row w)
+value_equal v w = refl
+
 enum_equal : (e d : EnumTable) → (enum_code.ghosts).eq e d ≡ enum_eq (enum_row e) (enum_row d)
-enum_equal e d = refl
+enum_equal e d = λ i.
+    identity_equal e.id d.id i
+    && (listed_equal enum_value_row (value_code.ghosts).eq enum_value_eq value_equal e.values.items d.values.items i
+    && beq e.is_closed d.is_closed)
 
 pub tables_equal : (a b : Tables) → (tables_code.ghosts).eq a b ≡ rows_eq (rows_of a) (rows_of b)
 tables_equal a b = λ i.

@@ -2,16 +2,16 @@
 use Rattle.std.proofs.Common.{◌≡◌, ◌↔◌, IsTrue, List, [], ◌∷◌, map, refl, sym, ap, ap₂, ◌∙◌, true≢false}
 use Rattle.std.specs.List.{AllZip}
 use Rattle.std.specs.Cmp.Lexicographic.{pointwise}
+use Rattle.std.proofs.lemmas.Bool.{and_parts, and_from}
 use Rattle.prost_reflect_wire.specs.Content.{Content}
 use Rattle.prost_reflect_wire.specs.ContentEquality.{content_eq, content_same, content_refl}
-use Rattle.prost_reflect_wire.proofs.ListTests.{and_both, both_true}
 use Rattle.prost_reflect_types.specs.declared.FileDescriptorProto.{FileDescriptorProto}
 use Rattle.prost_reflect_types.specs.DescriptorViews.{of_file}
 use Rattle.prost_reflect_types.proofs.EqualContents.{SameFile, file_same, zip_same}
 use Rattle.prost_reflect_tables.specs.declared.error.PoolError.{PoolError}
 use Rattle.prost_reflect_tables.specs.declared.error.PoolError.TheVariants.{BadMapEntry, BadOptions, BadDefault, FloatDefault, MissingName, UnknownSyntax, MissingDependency, BadIndex, BadNumber, BadRange, MissingType, BadLabel, BadOneof, EmptyEnum, DuplicateName, UnknownType, DuplicateNumber, OutsideRange}
 use Rattle.prost_reflect_tables.specs.Flat.{FlatRows, flattened}
-use Rattle.prost_reflect_tables.specs.Checked.{has_fault, Checked}
+use Rattle.prost_reflect_tables.specs.Checked.{has_fault}
 use Rattle.prost_reflect_tables.specs.FileLaws.{SameContents, EqualTables, EqualChecks, EqualRefusals}
 use Rattle.prost_reflect_tables.proofs.SameRows.{SameRows}
 use Rattle.prost_reflect_tables.proofs.SameFlat.{flattened_same}
@@ -68,9 +68,9 @@ contents_decided [] [] = (λ yes. refl, λ e. refl)
 contents_decided [] (g ∷ gs) = (λ yes. absurd (true≢false (sym yes)), λ e. cc)
 contents_decided (f ∷ fs) [] = (λ yes. absurd (true≢false (sym yes)), λ e. cc)
 contents_decided (f ∷ fs) (g ∷ gs) = (
-  λ yes. let (one, more) = and_both (content_eq (of_file f) (of_file g)) (pointwise (λ f g. content_eq (of_file f) (of_file g)) fs gs) yes in
+  λ yes. let (one, more) = and_parts (content_eq (of_file f) (of_file g)) (pointwise (λ f g. content_eq (of_file f) (of_file g)) fs gs) yes in
       ap₂ (λ (c : Content) (cs : List Content). c ∷ cs) (content_same (of_file f) (of_file g) one) ((contents_decided fs gs).0 more),
   λ e. let one : of_file f ≡ of_file g = cc in
       let more : map of_file fs ≡ map of_file gs = cc in
-      both_true (ap (content_eq (of_file f)) (sym one) ∙ content_refl (of_file f)) ((contents_decided fs gs).1 more),
+      and_from _ _ (ap (content_eq (of_file f)) (sym one) ∙ content_refl (of_file f)) ((contents_decided fs gs).1 more),
 )

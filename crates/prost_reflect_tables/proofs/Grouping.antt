@@ -1,12 +1,12 @@
 -- Lists of items, each list at its place.
-use Rattle.std.proofs.Common.{◌≡◌, ℕ, zero, suc, ◌+◌, ◌<◌, ◌≤◌, Bool, true, false, cond, List, [], ◌∷◌, ◌++◌, map, length, Option, Some, None, refl, sym, ap, ◌∙◌, arith, append_assoc, append-nil, get_or, drop, drop-cons, add-one, ◌≢◌, ◌⊎◌, ⊎_elim, inl, inr, Vec, Global, string_bytes}
+use Rattle.std.proofs.Common.{◌≡◌, ℕ, zero, suc, ◌+◌, ◌<◌, ◌≤◌, Bool, true, false, cond, List, [], ◌∷◌, ◌++◌, map, length, Option, Some, None, refl, sym, ap, ◌∙◌, arith, append_assoc, append-nil, get_or, drop, drop-cons, add-one, ◌≢◌, ◌⊎◌, ⊎_elim, inl, inr, Vec, Global}
 use Rattle.std.proofs.lemmas.List.{map-append, drop_all, length-map}
 use Rattle.std.specs.Prelude.{filter, nat_lt}
 use Rattle.std.specs.List.{slice_set}
 use Rattle.std.proofs.lemmas.Bool.{eq-eqb, ne_eqb}
 use Rattle.prost_reflect_tables.specs.Linking.{Links, is_place, belonging, linked_field, declared_fields, fields_of_message, extended_place, linked_message, messages_from, linked_oneof, oneof_place, oneofs_from, links_of, linked_enum, linked_rows}
 use Rattle.prost_reflect_tables.specs.declared.tables.FieldTable.{FieldTable}
-use Rattle.prost_reflect_tables.specs.Rows.{FieldRow, OneofRow, MessageRow, EnumRow, field_row, oneof_row, enum_row, rows_from, message_row as table_row}
+use Rattle.prost_reflect_tables.specs.Rows.{IdentityRow, FieldRow, OneofRow, MessageRow, EnumRow, identity_row, field_row, oneof_row, enum_row, rows_from, message_row as table_row}
 use Rattle.prost_reflect_types.specs.declared.FieldDescriptorProto.{FieldDescriptorProto}
 use Rattle.prost_reflect_types.specs.declared.OneofDescriptorProto.{OneofDescriptorProto}
 use Rattle.prost_reflect_tables.specs.declared.build.flatten.Definition.{Definition}
@@ -170,8 +170,8 @@ smaller_count n k fields h point = count_at (λ (f : FieldTable). nat_lt f.numbe
 
 -- ONEOFS
 
-pub same_oneof : (t : OneofTable) (name : List ℕ) (members : List ℕ) → string_bytes t.name ≡ name → t.fields.items ≡ members → oneof_row t ≡ record { name = name; fields = members }
-same_oneof t name members n e = ap (λ (l : List ℕ). record (oneof_row t) { name = l }) n ∙ ap (λ (l : List ℕ). record (oneof_row t) { name = name; fields = l }) e
+pub same_oneof : (t : OneofTable) (id : IdentityRow) (members : List ℕ) → identity_row t.id ≡ id → t.fields.items ≡ members → oneof_row t ≡ record { id = id; fields = members }
+same_oneof t id members n e = ap (λ (r : IdentityRow). record (oneof_row t) { id = r }) n ∙ ap (λ (l : List ℕ). record (oneof_row t) { id = id; fields = l }) e
 
 pub oneof_more : (fields : List FieldRow) (declared : List (DefinitionRow FieldDescriptorProto)) (tables : List OneofTable) (t : OneofTable) (ds : List (Definition OneofDescriptorProto)) (k : ℕ) (d : Definition OneofDescriptorProto) →
     k < length ds → d ≡ get_or ds k d → oneof_row t ≡ linked_oneof fields (belonging oneof_place declared k) (definition_row d) →

@@ -1,4 +1,5 @@
 mod Walks
+mod Resolving
 mod Ascending
 mod Positions
 pub mod Keeping

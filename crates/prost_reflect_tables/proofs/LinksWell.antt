@@ -12,7 +12,7 @@ use Rattle.prost_reflect_tables.specs.Linked.{kind_in_range, oneof_in_range, fie
 use Rattle.prost_reflect_tables.specs.Flat.{DefinitionRow, FlatMessageRow, FlatEnumRow, FlatRows}
 use Rattle.prost_reflect_tables.specs.Faults.{oneof_outside, all_numbered}
 use Rattle.prost_reflect_tables.specs.EntryFaults.{is_entry}
-use Rattle.prost_reflect_tables.specs.Linking.{links_of, place_in, linked_field, linked_message, linked_enum, linked_rows, value_number, in_order, oneofs_from, fields_of_message}
+use Rattle.prost_reflect_tables.specs.Linking.{links_of, place_in, linked_field, linked_message, linked_enum, linked_rows, linked_value, in_order, oneofs_from, fields_of_message}
 use Rattle.prost_reflect_tables.proofs.Linkwell.Items.{none_at, all_from, messages_all}
 use Rattle.prost_reflect_tables.proofs.Linkwell.Numbers.{counted_once}
 use Rattle.prost_reflect_tables.proofs.Linkwell.Premises.{Sound, FieldChecked, numbers_differ, field_checked, extension_checked, message_checked, enum_checked}
@@ -71,7 +71,7 @@ enums_there : {files : List FileDescriptorProto} (rows : FlatRows) → Sound fil
 enums_there rows s = list_all-map enum_linked linked_enum rows.enums ∙ all_from (λ (e : FlatEnumRow). enum_linked (linked_enum e)) rows.enums (λ E e at. some e (enum_checked rows E e s at).some)
   where
     some : (e : FlatEnumRow) → nat_eq (length e.values) 0 ≡ false → enum_linked (linked_enum e) ≡ true
-    some e h = lt-ltb 0 (length (map value_number e.values)) (omega (arith, eqb-false (length e.values) 0 h, length-map e.values value_number))
+    some e h = lt-ltb 0 (length (map linked_value e.values)) (omega (arith, eqb-false (length e.values) 0 h, length-map e.values linked_value))
 
 pub links_well : {files : List FileDescriptorProto} (rows : FlatRows) → Sound files rows → is_linked (linked_rows rows) ≡ true
 links_well rows s =

@@ -1,5 +1,5 @@
 -- How sets and maps of names grow, name by name.
-use Rattle.std.proofs.Common.{◌≡◌, ℕ, ◌+◌, ◌<◌, Bool, true, false, not, cond, ◌||◌, List, [], ◌∷◌, ◌++◌, length, take, drop, get_or, Option, Some, None, refl, sym, ap, ◌∙◌, arith, add-zero, zero-add, drop-cons, add-one}
+use Rattle.std.proofs.Common.{◌≡◌, ℕ, ◌+◌, ◌<◌, Bool, true, false, not, cond, ◌||◌, List, [], ◌∷◌, ◌++◌, length, take, drop, get_or, Option, Some, None, refl, ap, ◌∙◌, arith, add-zero, zero-add, drop-cons, add-one}
 use denote.Bor.{Bor}
 use Rattle.std.specs.Str.{bytes_eq}
 use Rattle.std.specs.List.{list_any, position_from}
@@ -22,10 +22,6 @@ list_any_push p (y ∷ xs) x = elim (p y) as (λ b. (b || list_any p (xs ++ x �
 pub repeats_more : (xs : List (Bor (List ℕ))) (i : ℕ) (d : Bor (List ℕ)) → i < length xs → list_any (bytes_eq (get_or xs i d).now) (text_list (take i xs)) ≡ false →
     repeats (text_list (take i xs)) (text_list (drop i xs)) ≡ repeats (text_list (take (i + 1) xs)) (text_list (drop (i + 1) xs))
 repeats_more xs i d h new = rw (texts_left xs i d h, texts_more xs i d h, new) refl
-
-pub not_true : (b : Bool) → not b ≡ true → b ≡ false
-not_true true e = sym e
-not_true false e = refl
 
 -- A set of names, with one name more.
 pub seen_more : (added name : List ℕ) {old new : Bool} (q : List ℕ) → added ≡ name → old ≡ new → cond (bytes_eq added q) true old ≡ (new || bytes_eq q name)

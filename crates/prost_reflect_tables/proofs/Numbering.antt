@@ -49,10 +49,6 @@ pub number_repeats_found : (xs : List (ℕ × ℤ)) (i : ℕ) (d : ℕ × ℤ) �
     number_repeats (numbered_list (take i xs)) (numbered_list (drop i xs)) ≡ true
 number_repeats_found xs i d h found = rw (numbers_left xs i d h, found) refl
 
-pub not_false : (b : Bool) → not b ≡ false → b ≡ true
-not_false true e = refl
-not_false false e = sym e
-
 -- A set with one number more.
 pub number_seen : {old new : Bool} (k q : ℕ × ℤ) → old ≡ new → cond (is_eq (ordering_then (nat_cmp k.0 q.0) (int_cmp k.1 q.1))) true old ≡ (new || same_numbered (numbered q) (numbered k))
 number_seen {old} {new} k q kept = rw (kept, same_is k q) (either (same_numbered (numbered q) (numbered k)) new)

@@ -18,6 +18,7 @@ use Rattle.prost_reflect_laws.proofs.BodyFronts.{key_not_empty}
 use Rattle.prost_reflect_wire.proofs.VarintFronts.{varint_once, varint_no_fault}
 use Rattle.prost_reflect_wire.proofs.RecordFronts.{record_parts, first_front, first_parts, record_once, record_front, levels_first}
 use Rattle.prost_reflect_wire.proofs.FieldFaults.{field_no_fault}
+use Rattle.prost_reflect_wire.proofs.Bodies.{items_before}
 use Rattle.prost_reflect_tables.specs.Options.{bool_of, bool_among, bool_in}
 use Rattle.prost_reflect_tables.specs.OptionFaults.{suits_option, records_suit_option, bytes_suit_option}
 
@@ -77,10 +78,6 @@ read_before n p bytes rest small f = go (read rest) refl (read bytes) refl
     go None e (Some (PlainRecord m q qs)) d = absurd (none_first (read rest) qs e (behind_first n m p (Flat q) qs bytes rest f (read_spells bytes (PlainRecord m q qs) small d)))
     go None e (Some (GroupRecord m inside qs)) d = absurd (none_first (read rest) qs e (behind_first n m p (Group inside) qs bytes rest f (read_spells bytes (GroupRecord m inside qs) small d)))
 
-items_before : (n : ℕ) (p : Payload) (rs : Records) → items (before (record_at n p) rs) ≡ record_at n p ∷ items rs
-items_before n (Flat p) rs = refl
-items_before n (Group inside) rs = refl
-
 within_more : (a b limit : ℕ) → a ≤ limit → nat_le (max a b) limit ≡ nat_le b limit
 within_more a b limit h = grind arith
 
@@ -90,7 +87,7 @@ bool_step number n p found bytes rest small f low = ap (bool_among number found)
   where
     go : (o : Option Records) → bool_among number found (option_map (before (record_at n p)) o) ≡ bool_among number (cond (nat_eq n number) (bool_of p) found) o
     go None = refl
-    go (Some rs) = rw (items_before n p rs, levels_first (record_at n p) rs, within_more (payload_levels p) (raw_levels rs) LEVEL_LIMIT low) refl
+    go (Some rs) = rw (items_before (record_at n p) rs, levels_first (record_at n p) rs, within_more (payload_levels p) (raw_levels rs) LEVEL_LIMIT low) refl
 
 -- Where a fault stands at the front, no records within the limit are there.
 
@@ -163,7 +160,7 @@ suit_step number n p bytes rest small f low = ap (records_suit_option number) (r
     go : (o : Option Records) → records_suit_option number (option_map (before (record_at n p)) o) ≡ (suits_option number (record_at n p) && records_suit_option number o)
     go None = and_false (suits_option number (record_at n p))
     go (Some rs) =
-        rw (items_before n p rs, levels_first (record_at n p) rs, within_more (payload_levels p) (raw_levels rs) LEVEL_LIMIT low)
+        rw (items_before (record_at n p) rs, levels_first (record_at n p) rs, within_more (payload_levels p) (raw_levels rs) LEVEL_LIMIT low)
         (and_swap (suits_option number (record_at n p)) (nat_le (raw_levels rs) LEVEL_LIMIT) (list_all (suits_option number) (items rs)))
 
 suit_here : (number n : ℕ) (w : WireType) (p : Payload) (bytes after rest : List ℕ) → AreBytes bytes → KeyFront n w bytes after → ValueFront n w LEVEL_LIMIT p after rest → (b : Bool) → b ≡ suits_option number (record_at n p) →

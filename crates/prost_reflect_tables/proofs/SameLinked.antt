@@ -1,22 +1,38 @@
 -- Rows that hold the same are linked to the same tables.
-use Rattle.std.proofs.Common.{◌≡◌, ℕ, ◌+◌, Bool, true, false, List, [], ◌∷◌, ◌++◌, map, Option, None, String, Vec, refl, ap, ap₂, ◌∙◌}
+use Rattle.std.proofs.Common.{◌≡◌, ℕ, ◌+◌, Bool, true, false, List, [], ◌∷◌, ◌++◌, map, Option, Some, None, String, Vec, refl, ap, ap₂, ◌∙◌}
 use Rattle.std.specs.List.{AllZip}
 use Rattle.std.specs.declared.alloc.Global.{Global}
 use Rattle.prost_reflect_types.specs.declared.FieldDescriptorProto.{FieldDescriptorProto}
 use Rattle.prost_reflect_types.specs.declared.OneofDescriptorProto.{OneofDescriptorProto}
 use Rattle.prost_reflect_types.specs.declared.EnumValueDescriptorProto.{EnumValueDescriptorProto}
-use Rattle.prost_reflect_types.proofs.EqualContents.{SameText, SameBytes, SameField, SameOneof, SameEnumValue}
+use Rattle.prost_reflect_types.proofs.EqualContents.{SameText, SameBytes, SameField, SameOneof, SameEnumValue, SameEnum}
 use Rattle.prost_reflect_tables.specs.declared.tables.TableKind.{TableKind}
-use Rattle.prost_reflect_tables.specs.Names.{without_dot}
+use Rattle.prost_reflect_tables.specs.Names.{bracketed, without_dot}
 use Rattle.prost_reflect_tables.specs.Options.{bool_option, bool_in}
 use Rattle.prost_reflect_tables.specs.WrittenDefaults.{field_default}
 use Rattle.prost_reflect_tables.specs.Rows.{FieldRow, OneofRow, MessageRow}
 use Rattle.prost_reflect_tables.specs.Flat.{DefinitionRow, FlatMessageRow, FlatEnumRow, FlatRows}
 use Rattle.prost_reflect_tables.specs.Faults.{place_of, place_named, message_names, enum_names}
-use Rattle.prost_reflect_tables.specs.Linking.{Links, links_of, value_number, linked_value, linked_kind, linked_default, values_of_kind, linked_field, in_order, extended_place, is_place, belonging, fields_of_message, oneof_place, member_place, linked_oneof, oneofs_from, linked_message, messages_from, linked_enum, linked_rows}
-use Rattle.prost_reflect_tables.proofs.SameRows.{zip_map, zip_filter, by_text, by_bytes, text_same, SameRow, SameMessageRow, SameEnumRow, SameRows}
+use Rattle.prost_reflect_tables.specs.Linking.{Links, links_of, json_name_or, json_name, linked_identity, linked_value, linked_kind, linked_default, values_of_kind, linked_field, in_order, extended_place, is_place, belonging, fields_of_message, oneof_place, member_place, linked_oneof, oneofs_from, linked_message, messages_from, linked_enum, linked_rows}
+use Rattle.prost_reflect_tables.proofs.SameRows.{zip_map, zip_filter, by_text, by_bytes, text_same, SameRow, SameParts, SameMessageRow, SameEnumRow, SameRows}
+
+-- IDENTITIES
+
+pub identity_same : {R : Type 0} (Same : R → R → Type 0) (d e : DefinitionRow R) (a b : Option (String Global)) → SameRow Same d e → SameText a b → linked_identity a d ≡ linked_identity b e
+identity_same Same d e a b r name = λ i. record { file = r.file i; parent = r.parent i; path = r.path i; full_name = r.full_name i; name = text_same a b name i }
 
 -- FIELDS
+
+names_alike : (json a b : Option (String Global)) → SameText a b → json_name_or json a ≡ json_name_or json b
+names_alike None a b h = text_same a b h
+names_alike (Some s) a b h = refl
+
+json_names_same : (j k a b : Option (String Global)) → SameText j k → SameText a b → json_name_or j a ≡ json_name_or k b
+json_names_same j k a b json name = by_text (λ (l : Option (String Global)). json_name_or l a) (λ bytes. bytes) (λ s. refl) j k json ∙ names_alike k a b name
+
+json_name_same : (x : Bool) (d e : DefinitionRow FieldDescriptorProto) → SameRow SameField d e → json_name x d ≡ json_name x e
+json_name_same true d e r = ap bracketed r.full_name
+json_name_same false d e r = json_names_same d.proto.json_name e.proto.json_name d.proto.name e.proto.name r.proto.json_name r.proto.name
 
 pub place_same : (names : List (List ℕ)) (a b : Option (String Global)) → SameText a b → place_named names a ≡ place_named names b
 place_same names = by_text (place_named names) (λ bytes. place_of names (without_dot bytes)) (λ s. refl)
@@ -36,12 +52,13 @@ field_linked links x d e r =
     let oneof = r.proto.oneof_index in
     let optional = r.proto.proto3_optional in
     let proto3 = r.is_proto3 in
-    let name = text_same d.proto.name e.proto.name r.proto.name in
+    let id = identity_same SameField d e d.proto.name e.proto.name r r.proto.name in
+    let json = json_name_same x d e r in
     let message = place_same links.messages d.proto.type_name e.proto.type_name r.proto.type_name in
     let enum = place_same links.enums d.proto.type_name e.proto.type_name r.proto.type_name in
     let packed = option_same 2 d.proto.options e.proto.options r.proto.options in
     let default = default_same links (linked_kind links e.proto) d.proto.default_value e.proto.default_value r.proto.default_value in
-    rw (number, label, code, oneof, optional, proto3, name, message, enum, packed, default)
+    rw (id, json, number, label, code, oneof, optional, proto3, message, enum, packed, default)
 
 fields_linked : (links : Links) (x : Bool) (ds es : List (DefinitionRow FieldDescriptorProto)) → AllZip (SameRow SameField) ds es → map (linked_field links x) ds ≡ map (linked_field links x) es
 fields_linked links x = zip_map (SameRow SameField) (linked_field links x) (field_linked links x)
@@ -63,9 +80,9 @@ member_same fields d e r = let number = r.proto.number in rw number
 
 oneof_linked : (fields : List FieldRow) (ds es : List (DefinitionRow FieldDescriptorProto)) (o p : DefinitionRow OneofDescriptorProto) → AllZip (SameRow SameField) ds es → SameRow SameOneof o p → linked_oneof fields ds o ≡ linked_oneof fields es p
 oneof_linked fields ds es o p members r =
-    let name = text_same o.proto.name p.proto.name r.proto.name in
+    let id = identity_same SameOneof o p o.proto.name p.proto.name r r.proto.name in
     let places = zip_map (SameRow SameField) (member_place fields) (member_same fields) ds es members in
-    rw (name, places)
+    rw (id, places)
 
 oneofs_linked : (fields : List FieldRow) (ds es : List (DefinitionRow FieldDescriptorProto)) (o : ℕ) (os ps : List (DefinitionRow OneofDescriptorProto)) → AllZip (SameRow SameField) ds es → AllZip (SameRow SameOneof) os ps →
     oneofs_from fields ds o os ≡ oneofs_from fields es o ps
@@ -81,10 +98,10 @@ oneofs_linked fields ds es o (q ∷ qs) (p ∷ ps) declared h = ap₂ (λ (r : O
 message_linked : (fields : List FieldRow) (m n : FlatMessageRow) → SameMessageRow m n → linked_message fields m ≡ linked_message fields n
 unfolding linked_message
 message_linked fields m n r =
-    let name = r.definition.full_name in
+    let id = identity_same SameParts m.definition n.definition m.definition.proto.name n.definition.proto.name r.definition r.definition.proto.name in
     let entry = option_same 7 m.definition.proto.options n.definition.proto.options r.definition.proto.options in
     let oneofs = oneofs_linked (in_order fields) m.fields n.fields 0 m.oneofs n.oneofs r.fields r.oneofs in
-    rw (name, entry, oneofs)
+    rw (id, entry, oneofs)
 
 messages_linked : (links : Links) (ds es : List (DefinitionRow FieldDescriptorProto)) (T : ℕ) (ms ns : List FlatMessageRow) → AllZip (SameRow SameField) ds es → AllZip SameMessageRow ms ns → messages_from links ds T ms ≡ messages_from links es T ns
 messages_linked links ds es T [] [] extensions h = refl
@@ -96,16 +113,16 @@ messages_linked links ds es T (m ∷ ms) (n ∷ ns) extensions h = ap₂ (λ (r 
 
 value_linked : (v w : DefinitionRow EnumValueDescriptorProto) → SameRow SameEnumValue v w → linked_value v ≡ linked_value w
 value_linked v w r =
-    let name = text_same v.proto.name w.proto.name r.proto.name in
+    let id = identity_same SameEnumValue v w v.proto.name w.proto.name r r.proto.name in
     let number = r.proto.number in
-    rw (name, number)
+    rw (id, number)
 
 enum_linked : (d e : FlatEnumRow) → SameEnumRow d e → linked_enum d ≡ linked_enum e
 enum_linked d e r =
-    let name = r.definition.full_name in
+    let id = identity_same SameEnum d.definition e.definition d.definition.proto.name e.definition.proto.name r.definition r.definition.proto.name in
     let proto3 = r.definition.is_proto3 in
-    let numbers = zip_map (SameRow SameEnumValue) value_number (λ v w h. let number = h.proto.number in rw number) d.values e.values r.values in
-    rw (name, proto3, numbers)
+    let values = zip_map (SameRow SameEnumValue) linked_value value_linked d.values e.values r.values in
+    rw (id, proto3, values)
 
 -- ALL
 

@@ -1,6 +1,6 @@
 -- A number is in one of some ranges exactly where it is in the last of their spans in order that starts at it or below.
 use Rattle.std.proofs.Common.{◌≡◌, ℕ, zero, suc, ◌+◌, ◌<◌, ◌≤◌, ℤ, pos, negsuc, Bool, true, false, cond, ◌&&◌, ◌||◌, List, [], ◌∷◌, ◌++◌, map, length, take, get_or, Option, Some, None, slice_get, refl, sym, ap, ◌∙◌, subst, ◌-◌, arith, ⊎_elim}
-use Rattle.std.specs.Prelude.{nat_le, nat_lt, int_le, int_lt, not, option_and_then, Vec}
+use Rattle.std.specs.Prelude.{nat_le, nat_lt, int_le, int_lt, not, Vec}
 use Rattle.std.specs.List.{list_any}
 use Rattle.std.specs.List.Sorted.{IsNonDecreasingBy, IsPartitionPoint, IsPermutation}
 use Rattle.std.specs.declared.alloc.Global.{Global}
@@ -9,12 +9,12 @@ use Rattle.std.proofs.lemmas.List.Sorted.{list_any-IsPermutation}
 use Rattle.std.proofs.lemmas.List.Folds.{list_any_at}
 use Rattle.std.proofs.lemmas.Bool.{cases_lt}
 use Rattle.prost_reflect_types.specs.declared.ExtensionRange.{ExtensionRange}
-use Rattle.prost_reflect_types.specs.declared.FieldDescriptorProto.{FieldDescriptorProto}
 use Rattle.prost_reflect_tables.specs.declared.build.flatten.Flat.{Flat}
 use Rattle.prost_reflect_tables.specs.declared.build.flatten.FlatMessage.{FlatMessage}
-use Rattle.prost_reflect_tables.specs.Flat.{DefinitionRow, FlatMessageRow}
+use Rattle.prost_reflect_tables.specs.Flat.{FlatMessageRow}
 use Rattle.prost_reflect_tables.specs.FlatViews.{message_row, flat_rows}
-use Rattle.prost_reflect_tables.specs.Faults.{is_in_range, is_out_of, number_or_zero, place_named, message_names, extension_outside}
+use Rattle.prost_reflect_tables.specs.Faults.{is_in_range, is_out_of, number_or_zero}
+use Rattle.prost_reflect_tables.specs.ResolvedFaults.{message_of}
 use Rattle.prost_reflect_tables.specs.Linking.{natural_or_zero}
 use Rattle.prost_reflect_tables.specs.Spans.{is_in_span, span_of, greater, reaching, AreSpansOf, AreSpansOfAll}
 use Rattle.prost_reflect_tables.proofs.Sorting.{Rising, rising_from}
@@ -183,12 +183,12 @@ message_at (b ∷ ms) zero m lt = refl
 message_at (b ∷ ms) (suc i) m lt = message_at ms i m (omega (arith, lt))
 
 -- What an extension's number is looked for in, once the message is found.
-pub outside_is : (flat : Flat) (d : DefinitionRow FieldDescriptorProto) (i : ℕ) (m : FlatMessage) → place_named (message_names (flat_rows flat)) d.proto.extendee ≡ Some i → i < length flat.messages.items → m ≡ get_or flat.messages.items i m →
-    extension_outside (flat_rows flat) d ≡ not (list_any (is_in_range (number_or_zero d.proto.number)) (message_row m).definition.proto.extension_range)
-outside_is flat d i m named lt e =
-    ap (λ o. is_out_of (number_or_zero d.proto.number) (option_and_then (λ place. slice_get (flat_rows flat).messages place) o)) named
-    ∙ ap (is_out_of (number_or_zero d.proto.number)) (message_at flat.messages.items i m lt)
-    ∙ ap (λ (n : FlatMessage). is_out_of (number_or_zero d.proto.number) (Some (message_row n))) (sym e)
+pub outside_is : (flat : Flat) (number : ℤ) (place : Option ℕ) (i : ℕ) (m : FlatMessage) → place ≡ Some i → i < length flat.messages.items → m ≡ get_or flat.messages.items i m →
+    is_out_of number (message_of (flat_rows flat) place) ≡ not (list_any (is_in_range number) (message_row m).definition.proto.extension_range)
+outside_is flat number place i m named lt e =
+    ap (λ o. is_out_of number (message_of (flat_rows flat) o)) named
+    ∙ ap (is_out_of number) (message_at flat.messages.items i m lt)
+    ∙ ap (λ (n : FlatMessage). is_out_of number (Some (message_row n))) (sym e)
 
 -- SEARCHING
 

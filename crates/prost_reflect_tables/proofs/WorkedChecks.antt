@@ -1,6 +1,7 @@
 -- The worked examples of the checks, by computing.
-use Rattle.std.proofs.Common.{◌≡◌, Bool, true, false, refl}
+use Rattle.std.proofs.Common.{◌≡◌, Bool, true, refl}
 use Rattle.std.specs.Prelude.{◌&&◌, ◌||◌}
+use Rattle.std.proofs.Math.Bool.{or-true}
 use Rattle.prost_reflect_wire.specs.Record.{read}
 use Rattle.prost_reflect_tables.specs.EntryFaults.{is_entry_key, is_entry_value}
 use Rattle.prost_reflect_tables.specs.CheckExamples.{CheckedOptions, KeysAndValues}
@@ -23,12 +24,8 @@ checked_options = record {
   opened = refl;
 }
 
-or_true : (a : Bool) → (a || true) ≡ true
-or_true true = refl
-or_true false = refl
-
 second_order : (a b c d : Bool) → a ≡ true → b ≡ true → ((c && d) || (b && a)) ≡ true
-second_order a b c d p q = rw (p, q) (or_true (c && d))
+second_order a b c d p q = rw (p, q) (or-true (c && d))
 
 pub keys_and_values : KeysAndValues
 keys_and_values = record {

@@ -2,15 +2,16 @@
 use Rattle.std.specs.Prelude.{◌≡◌, ℕ, pos, negsuc, true, false, List, [], ◌∷◌, Option, Some, None, codes}
 use Rattle.prost_reflect_wire.specs.Scalar.{Scalar, Boolean, I32, I64, U32, U64, F32, F64, Text, Bytes, EnumNumber, Double, Float, Int64, Uint64, Int32, Fixed64, Fixed32, BoolKind, StringKind, BytesKind, Uint32, Sfixed32, Sfixed64, Sint32, Sint64, Enum, Open, ScalarKind}
 use Rattle.prost_reflect_tables.specs.Rows.{EnumValueRow}
+use Rattle.prost_reflect_tables.specs.Examples.{named}
 use Rattle.prost_reflect_tables.specs.WrittenDefaults.{written_default}
 
 -- enum { ONE = 1; UNO = 1; MINUS = -2; ONE_AGAIN = 7; }, with a second value of the name UNO.
 abbrev pub values : List EnumValueRow
 values =
-    record { name = codes "ONE"; number = pos 1 }
-    ∷ record { name = codes "UNO"; number = pos 1 }
-    ∷ record { name = codes "MINUS"; number = negsuc 1 }
-    ∷ record { name = codes "UNO"; number = pos 7 }
+    record { id = named (codes "ONE"); number = pos 1 }
+    ∷ record { id = named (codes "UNO"); number = pos 1 }
+    ∷ record { id = named (codes "MINUS"); number = negsuc 1 }
+    ∷ record { id = named (codes "UNO"); number = pos 7 }
     ∷ []
 
 abbrev pub default : ScalarKind → List ℕ → Option Scalar

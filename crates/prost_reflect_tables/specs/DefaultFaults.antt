@@ -3,11 +3,11 @@ use Rattle.std.specs.Prelude.{ℤ, Bool, not, ◌&&◌, ◌||◌, Option, is_som
 use Rattle.prost_reflect_types.specs.declared.FieldDescriptorProto.{FieldDescriptorProto}
 use Rattle.prost_reflect_tables.specs.Flat.{DefinitionRow, FlatRows}
 use Rattle.prost_reflect_tables.specs.Linking.{Links, links_of, linked_kind, linked_default}
-use Rattle.prost_reflect_tables.specs.Faults.{any_field, is_code, is_message_type, is_repeated}
+use Rattle.prost_reflect_tables.specs.Faults.{any_field, is_code, is_message_type, has_repeated_label}
 
 -- Neither lists nor messages have one, nor has a field of proto3.
 abbrev pub default_misplaced : DefinitionRow FieldDescriptorProto → Bool
-default_misplaced d = is_some d.proto.default_value && (is_repeated d || is_message_type d.proto.type_ || d.is_proto3)
+default_misplaced d = is_some d.proto.default_value && (has_repeated_label d || is_message_type d.proto.type_ || d.is_proto3)
 
 -- The text gives no value of the field's kind.
 abbrev pub default_unread : Links → DefinitionRow FieldDescriptorProto → Bool

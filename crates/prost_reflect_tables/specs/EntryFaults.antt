@@ -6,7 +6,7 @@ use Rattle.prost_reflect_types.specs.declared.FieldDescriptorProto.{FieldDescrip
 use Rattle.prost_reflect_types.specs.declared.MethodDescriptorProto.{MethodDescriptorProto}
 use Rattle.prost_reflect_tables.specs.Flat.{DefinitionRow, FlatMessageRow, FlatRows}
 use Rattle.prost_reflect_tables.specs.Options.{bool_option}
-use Rattle.prost_reflect_tables.specs.Faults.{number_or_zero, is_type, is_code, is_message_type, is_enum_type, is_repeated, is_member, message_named}
+use Rattle.prost_reflect_tables.specs.Faults.{number_or_zero, is_type, is_code, is_message_type, is_enum_type, has_repeated_label, is_member, message_named}
 
 abbrev pub is_entry : FlatMessageRow → Bool
 is_entry m = unwrap_or (bool_option 7 m.definition.proto.options) false
@@ -19,7 +19,7 @@ is_key_type code = is_type (number_or_zero code) && not (is_code 1 code || is_co
 
 -- One value, without a written default, in no oneof.
 abbrev pub is_plain : DefinitionRow FieldDescriptorProto → Bool
-is_plain d = not (is_repeated d) && is_none d.proto.default_value && not (is_member d)
+is_plain d = not (has_repeated_label d) && is_none d.proto.default_value && not (is_member d)
 
 abbrev pub is_entry_key : DefinitionRow FieldDescriptorProto → Bool
 is_entry_key d = is_code 1 d.proto.number && is_plain d && is_key_type d.proto.type_
@@ -52,7 +52,7 @@ is_of_entry rows d = is_message_type d.proto.type_ && names_entry rows d.proto.t
 
 -- A map field is a repeated message (11).
 abbrev pub wrongly_of_entry : FlatRows → DefinitionRow FieldDescriptorProto → Bool
-wrongly_of_entry rows d = is_of_entry rows d && not (is_repeated d && is_code 11 d.proto.type_)
+wrongly_of_entry rows d = is_of_entry rows d && not (has_repeated_label d && is_code 11 d.proto.type_)
 
 abbrev pub method_of_entry : FlatRows → DefinitionRow MethodDescriptorProto → Bool
 method_of_entry rows d = names_entry rows d.proto.input_type || names_entry rows d.proto.output_type

@@ -1,14 +1,14 @@
 -- Equality of rows, as tests that decide it.
-use Rattle.std.specs.Prelude.{◌≡◌, ℕ, Bool, true, false, ◌&&◌, nat_eq, List, Option, Some, None, refl}
+use Rattle.std.specs.Prelude.{◌≡◌, Bool, true, false, ◌&&◌, nat_eq, refl}
 use Rattle.std.specs.Bool.{Decides, beq}
 use Rattle.std.specs.Option.{option_eq}
-use Rattle.std.specs.Ordering.{nat_cmp, int_eq, eq_by_cmp}
-use Rattle.std.specs.Cmp.{IsEquivalence, both_ways, unsigned_Decides, signed_Decides, booleans_Decides, unsigned_ties}
-use Rattle.std.specs.Cmp.Lexicographic.{pointwise, slice_cmp, texts_ties}
-use Rattle.std.proofs.Common.{sym, ap, ◌∙◌, true≢false}
+use Rattle.std.specs.Ordering.{int_eq}
+use Rattle.std.specs.Cmp.{IsEquivalence, unsigned_Decides, signed_Decides, booleans_Decides}
+use Rattle.std.specs.Cmp.Lexicographic.{pointwise}
+use Rattle.std.proofs.Common.{sym, ap, true≢false}
 use Rattle.std.proofs.lemmas.Bool.Decides.{Decides-and, Decides-like}
-use Rattle.std.proofs.lemmas.Slice.Eq.{slice_eq-Decides}
-use Rattle.prost_reflect_wire.specs.Scalar.{Scalar, Boolean, I32, I64, U32, U64, F32, F64, Text, Bytes, EnumNumber, scalar_eq}
+use Rattle.prost_reflect_wire.specs.Scalar.{scalar_eq}
+use Rattle.prost_reflect_wire.specs.Deciding.{decided, equivalence, list_decides, option_decides, text_decides, scalar_decides}
 use Rattle.prost_reflect_tables.specs.declared.tables.Cardinality.{Cardinality}
 use Rattle.prost_reflect_tables.specs.declared.tables.Cardinality.TheVariants as labels
 use Rattle.prost_reflect_tables.specs.declared.tables.TableKind.{TableKind}
@@ -17,7 +17,7 @@ use Rattle.prost_reflect_tables.specs.contracts.tables.CardinalityPartialEq.TheI
 use Rattle.prost_reflect_tables.specs.contracts.tables.CardinalityEq.TheImpl.Laws as label_laws
 use Rattle.prost_reflect_tables.specs.contracts.tables.TableKindPartialEq.TheImpl as code_kinds
 use Rattle.prost_reflect_tables.specs.contracts.tables.TableKindEq.TheImpl.Laws as kind_laws
-use Rattle.prost_reflect_tables.specs.Rows.{IdentityRow, FieldRow, OneofRow, MessageRow, EnumRow, TableRows}
+use Rattle.prost_reflect_tables.specs.Rows.{IdentityRow, FieldRow, OneofRow, MessageRow, EnumValueRow, EnumRow, TableRows}
 
 -- Kinds and labels as code compares them: by their variants, and by the places that they name.
 abbrev pub label_eq : Cardinality → Cardinality → Bool
@@ -36,8 +36,9 @@ identity_eq i j =
 
 abbrev pub field_eq : FieldRow → FieldRow → Bool
 field_eq f g =
-    nat_eq f.number g.number
-    && (pointwise nat_eq f.name g.name
+    identity_eq f.id g.id
+    && (pointwise nat_eq f.json_name g.json_name
+    && (nat_eq f.number g.number
     && (beq f.is_extension g.is_extension
     && (kind_eq f.kind g.kind
     && (beq f.is_group g.is_group
@@ -45,20 +46,23 @@ field_eq f g =
     && (beq f.is_packed g.is_packed
     && (beq f.supports_presence g.supports_presence
     && (option_eq scalar_eq f.default g.default
-    && option_eq nat_eq f.oneof g.oneof))))))))
+    && option_eq nat_eq f.oneof g.oneof)))))))))
 
 abbrev pub oneof_eq : OneofRow → OneofRow → Bool
-oneof_eq o p = pointwise nat_eq o.name p.name && pointwise nat_eq o.fields p.fields
+oneof_eq o p = identity_eq o.id p.id && pointwise nat_eq o.fields p.fields
 
 abbrev pub message_eq : MessageRow → MessageRow → Bool
 message_eq m n =
-    pointwise nat_eq m.full_name n.full_name
+    identity_eq m.id n.id
     && (beq m.is_map_entry n.is_map_entry
     && (pointwise field_eq m.fields n.fields
     && pointwise oneof_eq m.oneofs n.oneofs))
 
+abbrev pub enum_value_eq : EnumValueRow → EnumValueRow → Bool
+enum_value_eq v w = identity_eq v.id w.id && int_eq v.number w.number
+
 abbrev pub enum_eq : EnumRow → EnumRow → Bool
-enum_eq e d = pointwise nat_eq e.full_name d.full_name && (pointwise int_eq e.numbers d.numbers && beq e.is_closed d.is_closed)
+enum_eq e d = identity_eq e.id d.id && (pointwise enum_value_eq e.values d.values && beq e.is_closed d.is_closed)
 
 abbrev pub rows_eq : TableRows → TableRows → Bool
 rows_eq r s = pointwise message_eq r.messages s.messages && pointwise enum_eq r.enums s.enums
@@ -91,75 +95,11 @@ kind_same (kinds.Message T) (kinds.Message U) h = ap kinds.Message ((unsigned_De
 kind_same (kinds.Enum E) (kinds.Enum F) h = ap kinds.Enum ((unsigned_Decides E F).0 h)
 kind_same a b h = absurd (true≢false (sym h))
 
--- a test that holds of equals alone, and of each value and itself
-pub decided : {K : Type 0} (E : K → K → Bool) → ((x y : K) → E x y ≡ true → x ≡ y) → ((x : K) → E x x ≡ true) → (x y : K) → Decides (E x y) (x ≡ y)
-decided {K} E same itself x y = (same x y, λ e. ap (λ (z : K). E z y) e ∙ itself y)
-
 label_decides : (a b : Cardinality) → Decides (label_eq a b) (a ≡ b)
 label_decides = decided label_eq label_same (label_laws.laws-law).refl
 
 kind_decides : (a b : TableKind) → Decides (kind_eq a b) (a ≡ b)
 kind_decides = decided kind_eq kind_same (kind_laws.laws-law).refl
-
-list_decides : {A : Type 0} {E : A → A → Bool} → ((a b : A) → Decides (E a b) (a ≡ b)) → (xs ys : List A) → Decides (pointwise E xs ys) (xs ≡ ys)
-list_decides {E} each xs ys = slice_eq-Decides each xs ys (pointwise E xs ys) refl
-
-option_decides : {A : Type 0} {E : A → A → Bool} → ((a b : A) → Decides (E a b) (a ≡ b)) → (o p : Option A) → Decides (option_eq E o p) (o ≡ p)
-option_decides {A} {E} each = decided (option_eq E) same itself
-  where
-    same : (o p : Option A) → option_eq E o p ≡ true → o ≡ p
-    same None None h = refl
-    same (Some a) (Some b) h = ap Some ((each a b).0 h)
-    same o p h = absurd (true≢false (sym h))
-
-    itself : (o : Option A) → option_eq E o o ≡ true
-    itself None = refl
-    itself (Some a) = (each a a).1 refl
-
-pub text_decides : (xs ys : List ℕ) → Decides (pointwise nat_eq xs ys) (xs ≡ ys)
-text_decides = list_decides unsigned_Decides
-
-number_same : (a b : ℕ) → eq_by_cmp nat_cmp a b ≡ true → a ≡ b
-number_same a b h = (unsigned_Decides a b).0 (unsigned_ties a b ∙ h)
-
-number_itself : (a : ℕ) → eq_by_cmp nat_cmp a a ≡ true
-number_itself a = sym (unsigned_ties a a) ∙ (unsigned_Decides a a).1 refl
-
-text_same : (x y : List ℕ) → eq_by_cmp (slice_cmp nat_cmp) x y ≡ true → x ≡ y
-text_same x y h = (text_decides x y).0 (texts_ties x y ∙ h)
-
-text_itself : (x : List ℕ) → eq_by_cmp (slice_cmp nat_cmp) x x ≡ true
-text_itself x = sym (texts_ties x x) ∙ (text_decides x x).1 refl
-
-scalar_same : (a b : Scalar) → scalar_eq a b ≡ true → a ≡ b
-scalar_same (Boolean true) (Boolean true) h = refl
-scalar_same (Boolean false) (Boolean false) h = refl
-scalar_same (I32 a) (I32 b) h = ap I32 ((signed_Decides a b).0 h)
-scalar_same (I64 a) (I64 b) h = ap I64 ((signed_Decides a b).0 h)
-scalar_same (U32 a) (U32 b) h = ap U32 (number_same a b h)
-scalar_same (U64 a) (U64 b) h = ap U64 (number_same a b h)
-scalar_same (F32 a) (F32 b) h = ap F32 (number_same a b h)
-scalar_same (F64 a) (F64 b) h = ap F64 (number_same a b h)
-scalar_same (Text x) (Text y) h = ap Text (text_same x y h)
-scalar_same (Bytes x) (Bytes y) h = ap Bytes (text_same x y h)
-scalar_same (EnumNumber a) (EnumNumber b) h = ap EnumNumber ((signed_Decides a b).0 h)
-scalar_same a b h = absurd (true≢false (sym h))
-
-scalar_itself : (a : Scalar) → scalar_eq a a ≡ true
-scalar_itself (Boolean true) = refl
-scalar_itself (Boolean false) = refl
-scalar_itself (I32 a) = (signed_Decides a a).1 refl
-scalar_itself (I64 a) = (signed_Decides a a).1 refl
-scalar_itself (U32 a) = number_itself a
-scalar_itself (U64 a) = number_itself a
-scalar_itself (F32 a) = number_itself a
-scalar_itself (F64 a) = number_itself a
-scalar_itself (Text x) = text_itself x
-scalar_itself (Bytes x) = text_itself x
-scalar_itself (EnumNumber a) = (signed_Decides a a).1 refl
-
-pub scalar_decides : (a b : Scalar) → Decides (scalar_eq a b) (a ≡ b)
-scalar_decides = decided scalar_eq scalar_same scalar_itself
 
 -- ROWS
 
@@ -175,10 +115,11 @@ identity_decides i j = Decides-like (identity_eq i j)
 
 field_decides : (f g : FieldRow) → Decides (field_eq f g) (f ≡ g)
 field_decides f g = Decides-like (field_eq f g)
-    (λ h i. record { number = h.0 i; name = h.1.0 i; is_extension = h.1.1.0 i; kind = h.1.1.1.0 i; is_group = h.1.1.1.1.0 i; cardinality = h.1.1.1.1.1.0 i; is_packed = h.1.1.1.1.1.1.0 i; supports_presence = h.1.1.1.1.1.1.1.0 i; default = h.1.1.1.1.1.1.1.1.0 i; oneof = h.1.1.1.1.1.1.1.1.1 i })
-    (λ e. (ap (λ (r : FieldRow). r.number) e, (ap (λ (r : FieldRow). r.name) e, (ap (λ (r : FieldRow). r.is_extension) e, (ap (λ (r : FieldRow). r.kind) e, (ap (λ (r : FieldRow). r.is_group) e, (ap (λ (r : FieldRow). r.cardinality) e, (ap (λ (r : FieldRow). r.is_packed) e, (ap (λ (r : FieldRow). r.supports_presence) e, (ap (λ (r : FieldRow). r.default) e, ap (λ (r : FieldRow). r.oneof) e))))))))))
+    (λ h i. record { id = h.0 i; json_name = h.1.0 i; number = h.1.1.0 i; is_extension = h.1.1.1.0 i; kind = h.1.1.1.1.0 i; is_group = h.1.1.1.1.1.0 i; cardinality = h.1.1.1.1.1.1.0 i; is_packed = h.1.1.1.1.1.1.1.0 i; supports_presence = h.1.1.1.1.1.1.1.1.0 i; default = h.1.1.1.1.1.1.1.1.1.0 i; oneof = h.1.1.1.1.1.1.1.1.1.1 i })
+    (λ e. (ap (λ (r : FieldRow). r.id) e, (ap (λ (r : FieldRow). r.json_name) e, (ap (λ (r : FieldRow). r.number) e, (ap (λ (r : FieldRow). r.is_extension) e, (ap (λ (r : FieldRow). r.kind) e, (ap (λ (r : FieldRow). r.is_group) e, (ap (λ (r : FieldRow). r.cardinality) e, (ap (λ (r : FieldRow). r.is_packed) e, (ap (λ (r : FieldRow). r.supports_presence) e, (ap (λ (r : FieldRow). r.default) e, ap (λ (r : FieldRow). r.oneof) e)))))))))))
+    (Decides-and _ _ (identity_decides f.id g.id)
+    (Decides-and _ _ (text_decides f.json_name g.json_name)
     (Decides-and _ _ (unsigned_Decides f.number g.number)
-    (Decides-and _ _ (text_decides f.name g.name)
     (Decides-and _ _ (booleans_Decides f.is_extension g.is_extension)
     (Decides-and _ _ (kind_decides f.kind g.kind)
     (Decides-and _ _ (booleans_Decides f.is_group g.is_group)
@@ -186,27 +127,31 @@ field_decides f g = Decides-like (field_eq f g)
     (Decides-and _ _ (booleans_Decides f.is_packed g.is_packed)
     (Decides-and _ _ (booleans_Decides f.supports_presence g.supports_presence)
     (Decides-and _ _ (option_decides scalar_decides f.default g.default)
-    (option_decides unsigned_Decides f.oneof g.oneof))))))))))
+    (option_decides unsigned_Decides f.oneof g.oneof)))))))))))
 
 oneof_decides : (o p : OneofRow) → Decides (oneof_eq o p) (o ≡ p)
-oneof_decides o p = Decides-like (oneof_eq o p) (λ h i. record { name = h.0 i; fields = h.1 i }) (λ e. (ap (λ (r : OneofRow). r.name) e, ap (λ (r : OneofRow). r.fields) e))
-    (Decides-and _ _ (text_decides o.name p.name) (list_decides unsigned_Decides o.fields p.fields))
+oneof_decides o p = Decides-like (oneof_eq o p) (λ h i. record { id = h.0 i; fields = h.1 i }) (λ e. (ap (λ (r : OneofRow). r.id) e, ap (λ (r : OneofRow). r.fields) e))
+    (Decides-and _ _ (identity_decides o.id p.id) (list_decides unsigned_Decides o.fields p.fields))
 
 message_decides : (m n : MessageRow) → Decides (message_eq m n) (m ≡ n)
 message_decides m n = Decides-like (message_eq m n)
-    (λ h i. record { full_name = h.0 i; is_map_entry = h.1.0 i; fields = h.1.1.0 i; oneofs = h.1.1.1 i })
-    (λ e. (ap (λ (r : MessageRow). r.full_name) e, (ap (λ (r : MessageRow). r.is_map_entry) e, (ap (λ (r : MessageRow). r.fields) e, ap (λ (r : MessageRow). r.oneofs) e))))
-    (Decides-and _ _ (text_decides m.full_name n.full_name)
+    (λ h i. record { id = h.0 i; is_map_entry = h.1.0 i; fields = h.1.1.0 i; oneofs = h.1.1.1 i })
+    (λ e. (ap (λ (r : MessageRow). r.id) e, (ap (λ (r : MessageRow). r.is_map_entry) e, (ap (λ (r : MessageRow). r.fields) e, ap (λ (r : MessageRow). r.oneofs) e))))
+    (Decides-and _ _ (identity_decides m.id n.id)
     (Decides-and _ _ (booleans_Decides m.is_map_entry n.is_map_entry)
     (Decides-and _ _ (list_decides field_decides m.fields n.fields)
     (list_decides oneof_decides m.oneofs n.oneofs))))
 
+value_decides : (v w : EnumValueRow) → Decides (enum_value_eq v w) (v ≡ w)
+value_decides v w = Decides-like (enum_value_eq v w) (λ h i. record { id = h.0 i; number = h.1 i }) (λ e. (ap (λ (r : EnumValueRow). r.id) e, ap (λ (r : EnumValueRow). r.number) e))
+    (Decides-and _ _ (identity_decides v.id w.id) (signed_Decides v.number w.number))
+
 enum_decides : (e d : EnumRow) → Decides (enum_eq e d) (e ≡ d)
 enum_decides e d = Decides-like (enum_eq e d)
-    (λ h i. record { full_name = h.0 i; numbers = h.1.0 i; is_closed = h.1.1 i })
-    (λ s. (ap (λ (r : EnumRow). r.full_name) s, (ap (λ (r : EnumRow). r.numbers) s, ap (λ (r : EnumRow). r.is_closed) s)))
-    (Decides-and _ _ (text_decides e.full_name d.full_name)
-    (Decides-and _ _ (list_decides signed_Decides e.numbers d.numbers)
+    (λ h i. record { id = h.0 i; values = h.1.0 i; is_closed = h.1.1 i })
+    (λ s. (ap (λ (r : EnumRow). r.id) s, (ap (λ (r : EnumRow). r.values) s, ap (λ (r : EnumRow). r.is_closed) s)))
+    (Decides-and _ _ (identity_decides e.id d.id)
+    (Decides-and _ _ (list_decides value_decides e.values d.values)
     (booleans_Decides e.is_closed d.is_closed)))
 
 pub rows_decide : (r s : TableRows) → Decides (rows_eq r s) (r ≡ s)
@@ -214,14 +159,6 @@ rows_decide r s = Decides-like (rows_eq r s) (λ h i. record { messages = h.0 i;
     (Decides-and _ _ (list_decides message_decides r.messages s.messages) (list_decides enum_decides r.enums s.enums))
 
 -- LAWS
-
--- A test that decides equality is an equivalence.
-pub equivalence : {K : Type 0} (E : K → K → Bool) → ((x y : K) → Decides (E x y) (x ≡ y)) → IsEquivalence E
-equivalence {K} E decides = record {
-  refl = λ x. (decides x x).1 refl;
-  symm = λ x y. both_ways (E x y) (E y x) (λ h. (decides y x).1 (sym ((decides x y).0 h))) (λ h. (decides x y).1 (sym ((decides y x).0 h)));
-  congr = λ x y z h. ap (λ (w : K). E w z) ((decides x y).0 h);
-}
 
 pub rows_equivalence : IsEquivalence rows_eq
 rows_equivalence = equivalence rows_eq rows_decide

@@ -1,20 +1,28 @@
 -- Tables with a field of each form, the schema that they give, and tables that are not linked.
-use Rattle.std.specs.Prelude.{◌≡◌, ℕ, ◌^◌, true, false, pos, List, [], ◌∷◌, Some, None, codes}
+use Rattle.std.specs.Prelude.{◌≡◌, ℕ, ◌^◌, true, false, ℤ, pos, List, [], ◌∷◌, Some, None, codes}
 use Rattle.prost_reflect_wire.specs.Scalar.{I32, Text, Enum as EnumKind, Open, Closed}
 use Rattle.prost_reflect_wire.specs.Schema.{MessageOf, GroupOf, ValueType, Singular, Repeated as ListOf, MapFrom, Schema}
 use Rattle.prost_reflect_laws.specs.Examples.Schemas.{scalar_value_type, message_value_type, field, list, extension, member, message, int32, text, required_int32}
 use Rattle.prost_reflect_tables.specs.declared.tables.Cardinality.TheVariants.{Optional, Required, Repeated}
 use Rattle.prost_reflect_tables.specs.declared.tables.TableKind.{TableKind}
 use Rattle.prost_reflect_tables.specs.declared.tables.TableKind.TheVariants.{Int32, String, Message, Enum}
-use Rattle.prost_reflect_tables.specs.Rows.{FieldRow, MessageRow, TableRows}
+use Rattle.prost_reflect_tables.specs.Rows.{IdentityRow, FieldRow, MessageRow, EnumValueRow, TableRows}
 use Rattle.prost_reflect_tables.specs.Shown.{schema_from}
 use Rattle.prost_reflect_tables.specs.Linked.{is_linked}
+
+-- The first definition of a file without a package, of this name.
+abbrev pub named : List ℕ → IdentityRow
+named name = record { file = 0; parent = None; path = []; full_name = name; name = name }
+
+abbrev pub value : ℤ → EnumValueRow
+value number = record { id = named (codes "V"); number = number }
 
 -- A singular field without presence, as of a proto3 file.
 abbrev pub single : ℕ → TableKind → FieldRow
 single n kind = record {
+  id = named (codes "f");
+  json_name = codes "f";
   number = n;
-  name = codes "f";
   is_extension = false;
   kind = kind;
   is_group = false;
@@ -32,12 +40,12 @@ abbrev pub repeated : ℕ → TableKind → FieldRow
 repeated n kind = record (single n kind) { cardinality = Repeated }
 
 abbrev pub type_of_fields : List FieldRow → MessageRow
-type_of_fields fields = record { full_name = codes "M"; is_map_entry = false; fields = fields; oneofs = [] }
+type_of_fields fields = record { id = named (codes "M"); is_map_entry = false; fields = fields; oneofs = [] }
 
 abbrev pub rows : List MessageRow → TableRows
 rows messages = record {
   messages = messages;
-  enums = record { full_name = codes "Closed"; numbers = pos 1 ∷ pos 0 ∷ []; is_closed = true } ∷ record { full_name = codes "Open"; numbers = pos 0 ∷ []; is_closed = false } ∷ [];
+  enums = record { id = named (codes "Closed"); values = value (pos 1) ∷ value (pos 0) ∷ []; is_closed = true } ∷ record { id = named (codes "Open"); values = value (pos 0) ∷ []; is_closed = false } ∷ [];
 }
 
 -- proto2: { required int32 a = 1; optional string b = 2 [default = "x"]; optional Closed c = 3; } and extend { repeated int32 d = 100 [packed = true]; }
@@ -57,7 +65,7 @@ forms = record (type_of_fields
     ∷ record (present 3 Int32) { oneof = Some 0 }
     ∷ record (present 4 (Message 0)) { oneof = Some 0 }
     ∷ record (repeated 5 (Message 0)) { is_group = true }
-    ∷ [])) { oneofs = record { name = codes "o"; fields = 2 ∷ 3 ∷ [] } ∷ [] }
+    ∷ [])) { oneofs = record { id = named (codes "o"); fields = 2 ∷ 3 ∷ [] } ∷ [] }
 
 -- The map's entries, without presence as in a proto3 file.
 abbrev pub entry : MessageRow

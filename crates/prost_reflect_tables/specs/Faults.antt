@@ -134,14 +134,14 @@ bad_label rows = any_field label_bad rows
 
 -- BadOneof: no member of a oneof is repeated, and no extension is a member.
 
-abbrev pub is_repeated : DefinitionRow FieldDescriptorProto → Bool
-is_repeated d = is_code 3 d.proto.label
+abbrev pub has_repeated_label : DefinitionRow FieldDescriptorProto → Bool
+has_repeated_label d = is_code 3 d.proto.label
 
 abbrev pub is_member : DefinitionRow FieldDescriptorProto → Bool
 is_member d = is_some d.proto.oneof_index
 
 abbrev pub repeated_member : DefinitionRow FieldDescriptorProto → Bool
-repeated_member d = is_member d && is_repeated d
+repeated_member d = is_member d && has_repeated_label d
 
 abbrev pub bad_oneof : FlatRows → Bool
 bad_oneof rows = any_field repeated_member rows || list_any is_member rows.extensions

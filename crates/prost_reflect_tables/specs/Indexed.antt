@@ -1,4 +1,4 @@
--- What the indices of names say, and the flags of entries.
+-- What the indices of names say.
 use Rattle.std.specs.Prelude.{◌≡◌, ⊤, ℕ, ℤ, List, [], ◌∷◌, map, String}
 use Rattle.std.specs.BTreeMap.{BTreeMap, get_by_text}
 use Rattle.std.specs.declared.alloc.Global.{Global}
@@ -7,7 +7,6 @@ use Rattle.prost_reflect_tables.specs.Rows.{EnumValueRow}
 use Rattle.prost_reflect_tables.specs.WrittenDefaults.{number_named}
 use Rattle.prost_reflect_tables.specs.Flat.{FlatRows}
 use Rattle.prost_reflect_tables.specs.Faults.{place_of, message_names, enum_names, Numbered}
-use Rattle.prost_reflect_tables.specs.EntryFaults.{is_entry}
 use Rattle.prost_reflect_tables.specs.Linking.{links_of}
 
 -- Looking a name up gives the place of the first of that name.
@@ -28,7 +27,6 @@ pub record IsIndex (index : Index) (rows : FlatRows) : Type 0 where
   pub messages : IsIndexOf index.messages (message_names rows)
   pub enums : IsIndexOf index.enums (enum_names rows)
   pub numbers : AreNumbersOf index.numbers.items (links_of rows).values
-  pub entries : index.entries.items ≡ map is_entry rows.messages
 
 -- Fields and extensions as pairs of the place of their message and their number.
 abbrev pub numbered : ℕ × ℤ → Numbered

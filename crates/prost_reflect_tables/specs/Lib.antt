@@ -31,6 +31,8 @@ pub mod LinkedCatalog
 pub mod GatheredLists
 pub mod InRange
 pub mod Indexing
+pub mod Resolved
+pub mod ResolvedFaults
 pub mod LinkingExamples
 pub mod FileLaws
 pub mod FileExamples

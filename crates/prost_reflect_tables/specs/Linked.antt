@@ -42,7 +42,7 @@ message_linked messages enums m =
 
 -- An enum has a first value.
 abbrev pub enum_linked : EnumRow → Bool
-enum_linked e = nat_lt 0 (length e.numbers)
+enum_linked e = nat_lt 0 (length e.values)
 
 -- Each place is there, numbers ascend, and the schema is one of a checked pool.
 abbrev pub is_linked : TableRows → Bool

@@ -52,7 +52,10 @@ linked_file names rows F f = record {
 -- MESSAGES AND ENUMS
 
 abbrev pub field_names : List FieldRow → List (List ℕ)
-field_names fields = map (λ f. f.name) fields
+field_names fields = map (λ f. f.id.name) fields
+
+abbrev pub json_names : List FieldRow → List (List ℕ)
+json_names fields = map (λ f. f.json_name) fields
 
 abbrev pub own_fields : List FieldRow → List ℕ
 own_fields fields = places_where (λ f. not f.is_extension) fields
@@ -64,6 +67,7 @@ linked_lists rows T m = record {
   extensions = places_of (λ d. d.parent) rows.extensions T;
   extending = places_of (extended_place (links_of rows)) rows.extensions T;
   by_name = by_text (field_names m.fields) (own_fields m.fields);
+  by_json_name = by_text (json_names m.fields) (own_fields m.fields);
 }
 
 abbrev pub value_names : List (DefinitionRow EnumValueDescriptorProto) → List (List ℕ)

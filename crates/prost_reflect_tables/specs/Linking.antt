@@ -34,6 +34,12 @@ abbrev pub is_place : ℕ → Option ℕ → Bool
 is_place i None = false
 is_place i (Some j) = nat_eq i j
 
+-- IDENTITIES
+
+-- Where a definition of this name stands.
+abbrev pub linked_identity : {R : Type 0} → (name : Option (String Global)) → DefinitionRow R → IdentityRow
+linked_identity name d = record { file = d.file; parent = d.parent; path = d.path; full_name = d.full_name; name = text_or_empty name }
+
 -- NAMES
 
 -- The full names of messages and enums, each at its place, and the values of the enums.
@@ -47,7 +53,7 @@ abbrev pub value_number : DefinitionRow EnumValueDescriptorProto → ℤ
 value_number v = unwrap_or v.proto.number (pos 0)
 
 abbrev pub linked_value : DefinitionRow EnumValueDescriptorProto → EnumValueRow
-linked_value v = record { name = text_or_empty v.proto.name; number = value_number v }
+linked_value v = record { id = linked_identity v.proto.name v; number = value_number v }
 
 abbrev pub links_of : FlatRows → Links
 links_of rows = record {
@@ -99,11 +105,17 @@ abbrev pub is_repeated : Cardinality → Bool
 is_repeated Repeated = true
 is_repeated c = false
 
--- IDENTITIES
+-- NAMES IN JSON
 
--- Where a definition of this name stands.
-abbrev pub linked_identity : {R : Type 0} → (name : Option (String Global)) → DefinitionRow R → IdentityRow
-linked_identity name d = record { file = d.file; parent = d.parent; path = d.path; full_name = d.full_name; name = text_or_empty name }
+-- That of a field's record, or the field's name where the record has none.
+abbrev pub json_name_or : Option (String Global) → (name : Option (String Global)) → List ℕ
+json_name_or None name = text_or_empty name
+json_name_or (Some s) name = string_bytes s
+
+-- An extension has its full name in brackets.
+abbrev pub json_name : (is_extension : Bool) → DefinitionRow FieldDescriptorProto → List ℕ
+json_name false d = json_name_or d.proto.json_name d.proto.name
+json_name true d = bracketed d.full_name
 
 -- FIELDS
 
@@ -132,8 +144,9 @@ linked_field links is_extension d =
     let kind = linked_kind links f in
     let cardinality = cardinality_of_label (natural_or_zero f.label) in
     record {
+      id = linked_identity f.name d;
+      json_name = json_name is_extension d;
       number = natural_or_zero f.number;
-      name = text_or_empty f.name;
       is_extension = is_extension;
       kind = kind;
       is_group = is_group_code (natural_or_zero f.type_);
@@ -143,18 +156,6 @@ linked_field links is_extension d =
       default = linked_default links kind f.default_value;
       oneof = place_in f.oneof_index;
     }
-
--- NAMES IN JSON
-
--- That of a field's record, or the field's name where the record has none.
-abbrev pub json_name_or : Option (String Global) → (name : Option (String Global)) → List ℕ
-json_name_or None name = text_or_empty name
-json_name_or (Some s) name = string_bytes s
-
--- An extension has its full name in brackets.
-abbrev pub json_name : (is_extension : Bool) → DefinitionRow FieldDescriptorProto → List ℕ
-json_name false d = json_name_or d.proto.json_name d.proto.name
-json_name true d = bracketed d.full_name
 
 -- ORDER
 
@@ -193,7 +194,7 @@ abbrev pub member_place : List FieldRow → DefinitionRow FieldDescriptorProto �
 member_place fields d = length (filter (λ f. nat_lt f.number (natural_or_zero d.proto.number)) fields)
 
 abbrev pub linked_oneof : List FieldRow → (members : List (DefinitionRow FieldDescriptorProto)) → DefinitionRow OneofDescriptorProto → OneofRow
-linked_oneof fields members d = record { name = text_or_empty d.proto.name; fields = map (member_place fields) members }
+linked_oneof fields members d = record { id = linked_identity d.proto.name d; fields = map (member_place fields) members }
 
 -- Oneofs with their members in the order of their declaration; the first oneof is at the place.
 abbrev pub oneofs_from : List FieldRow → List (DefinitionRow FieldDescriptorProto) → ℕ → List (DefinitionRow OneofDescriptorProto) → List OneofRow
@@ -207,7 +208,7 @@ unfoldable pub linked_message : List FieldRow → FlatMessageRow → MessageRow
 linked_message all m =
     let fields = in_order all in
     record {
-      full_name = m.definition.full_name;
+      id = linked_identity m.definition.proto.name m.definition;
       is_map_entry = unwrap_or (bool_option 7 m.definition.proto.options) false;
       fields = fields;
       oneofs = oneofs_from fields m.fields 0 m.oneofs;
@@ -220,7 +221,7 @@ messages_from links extensions T (m ∷ ms) = linked_message (fields_of_message 
 
 -- An enum is closed in proto2.
 abbrev pub linked_enum : FlatEnumRow → EnumRow
-linked_enum e = record { full_name = e.definition.full_name; numbers = map value_number e.values; is_closed = not e.definition.is_proto3 }
+linked_enum e = record { id = linked_identity e.definition.proto.name e.definition; values = map linked_value e.values; is_closed = not e.definition.is_proto3 }
 
 abbrev pub linked_rows : FlatRows → TableRows
 linked_rows rows = record { messages = messages_from (links_of rows) rows.extensions 0 rows.messages; enums = map linked_enum rows.enums }

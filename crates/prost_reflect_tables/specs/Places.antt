@@ -20,4 +20,4 @@ place_of fields n = position (λ f. f.number == n) fields
 
 -- The place of the first message type of a full name.
 abbrev pub message_place : TableRows → List ℕ → Option ℕ
-message_place rows full_name = position (λ m. bytes_eq m.full_name full_name) rows.messages
+message_place rows full_name = position (λ m. bytes_eq m.id.full_name full_name) rows.messages

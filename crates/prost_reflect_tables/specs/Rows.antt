@@ -10,6 +10,7 @@ use Rattle.prost_reflect_tables.specs.declared.tables.Identity.{Identity}
 use Rattle.prost_reflect_tables.specs.declared.tables.FieldTable.{FieldTable}
 use Rattle.prost_reflect_tables.specs.declared.tables.OneofTable.{OneofTable}
 use Rattle.prost_reflect_tables.specs.declared.tables.MessageTable.{MessageTable}
+use Rattle.prost_reflect_tables.specs.declared.tables.EnumValueTable.{EnumValueTable}
 use Rattle.prost_reflect_tables.specs.declared.tables.EnumTable.{EnumTable}
 
 -- Where a definition stands: the place of its file, the place of the message type around it, its path in the file, its full name and its own name.
@@ -21,8 +22,9 @@ pub record IdentityRow : Type 0 where
   pub name : List ℕ
 
 pub record FieldRow : Type 0 where
+  pub id : IdentityRow
+  pub json_name : List ℕ
   pub number : ℕ
-  pub name : List ℕ
   pub is_extension : Bool
   pub kind : TableKind
   pub is_group : Bool
@@ -33,27 +35,31 @@ pub record FieldRow : Type 0 where
   pub oneof : Option ℕ
 
 pub record OneofRow : Type 0 where
-  pub name : List ℕ
+  pub id : IdentityRow
   pub fields : List ℕ
 
 pub record MessageRow : Type 0 where
-  pub full_name : List ℕ
+  pub id : IdentityRow
   pub is_map_entry : Bool
   pub fields : List FieldRow
   pub oneofs : List OneofRow
 
 pub record EnumValueRow : Type 0 where
-  pub name : List ℕ
+  pub id : IdentityRow
   pub number : ℤ
 
 pub record EnumRow : Type 0 where
-  pub full_name : List ℕ
-  pub numbers : List ℤ
+  pub id : IdentityRow
+  pub values : List EnumValueRow
   pub is_closed : Bool
 
 pub record TableRows : Type 0 where
   pub messages : List MessageRow
   pub enums : List EnumRow
+
+-- The numbers of an enum's values.
+abbrev pub value_numbers : EnumRow → List ℤ
+value_numbers e = map (λ v. v.number) e.values
 
 abbrev pub written_scalar : WrittenDefault → Scalar
 written_scalar (BoolDefault b) = scalars.Boolean b
@@ -72,8 +78,9 @@ identity_row i = record { file = i.file; parent = i.parent; path = i.path.items;
 
 abbrev pub field_row : FieldTable → FieldRow
 field_row f = record {
+  id = identity_row f.id;
+  json_name = string_bytes f.json_name;
   number = f.number;
-  name = string_bytes f.name;
   is_extension = f.is_extension;
   kind = f.kind;
   is_group = f.is_group;
@@ -85,13 +92,16 @@ field_row f = record {
 }
 
 abbrev pub oneof_row : OneofTable → OneofRow
-oneof_row o = record { name = string_bytes o.name; fields = o.fields.items }
+oneof_row o = record { id = identity_row o.id; fields = o.fields.items }
 
 abbrev pub message_row : MessageTable → MessageRow
-message_row m = record { full_name = string_bytes m.full_name; is_map_entry = m.is_map_entry; fields = map field_row m.fields.items; oneofs = map oneof_row m.oneofs.items }
+message_row m = record { id = identity_row m.id; is_map_entry = m.is_map_entry; fields = map field_row m.fields.items; oneofs = map oneof_row m.oneofs.items }
+
+abbrev pub enum_value_row : EnumValueTable → EnumValueRow
+enum_value_row v = record { id = identity_row v.id; number = v.number }
 
 abbrev pub enum_row : EnumTable → EnumRow
-enum_row e = record { full_name = string_bytes e.full_name; numbers = e.numbers.items; is_closed = e.is_closed }
+enum_row e = record { id = identity_row e.id; values = map enum_value_row e.values.items; is_closed = e.is_closed }
 
 abbrev pub rows_from : List MessageTable → List EnumTable → TableRows
 rows_from messages enums = record { messages = map message_row messages; enums = map enum_row enums }

@@ -7,19 +7,19 @@ use Rattle.prost_reflect_tables.specs.declared.tables.Cardinality.{Cardinality}
 use Rattle.prost_reflect_tables.specs.declared.tables.Cardinality.TheVariants.{Required, Repeated as RepeatedLabel}
 use Rattle.prost_reflect_tables.specs.declared.tables.TableKind.{TableKind}
 use Rattle.prost_reflect_tables.specs.declared.tables.TableKind.TheVariants.{Double, Float, Int32, Int64, Uint32, Uint64, Sint32, Sint64, Fixed32, Fixed64, Sfixed32, Sfixed64, Bool as BoolKind, String, Bytes, Message, Enum}
-use Rattle.prost_reflect_tables.specs.Rows.{FieldRow, MessageRow, EnumRow, TableRows}
+use Rattle.prost_reflect_tables.specs.Rows.{FieldRow, MessageRow, EnumRow, TableRows, value_numbers}
 
 abbrev pub first_number : List ℤ → ℤ
 first_number [] = pos 0
 first_number (z ∷ numbers) = z
 
 abbrev pub enum_numbers : EnumRow → EnumNumbers
-enum_numbers e = if e.is_closed then scalars.Closed e.numbers else scalars.Open
+enum_numbers e = if e.is_closed then scalars.Closed (value_numbers e) else scalars.Open
 
 -- Nothing is meant by an enum that is not there.
 abbrev pub enum_kind : Option EnumRow → ScalarKind
 enum_kind None = scalars.Enum (pos 0) scalars.Open
-enum_kind (Some e) = scalars.Enum (first_number e.numbers) (enum_numbers e)
+enum_kind (Some e) = scalars.Enum (first_number (value_numbers e)) (enum_numbers e)
 
 abbrev pub schema_kind : List EnumRow → TableKind → (is_group : Bool) → Kind
 schema_kind enums Double g = ScalarOf scalars.Double

@@ -142,7 +142,7 @@ unescaped text = unescaped_in (length text) text
 
 -- The number of the first value of a name.
 abbrev pub number_named : List EnumValueRow → List ℕ → Option ℤ
-number_named values name = option_map (λ v. v.number) (find (λ v. bytes_eq v.name name) values)
+number_named values name = option_map (λ v. v.number) (find (λ v. bytes_eq v.id.name name) values)
 
 -- ALL KINDS
 
@@ -170,26 +170,26 @@ written_default (Enum first numbers) values text = option_map EnumNumber (number
 
 -- FIELDS
 
--- The scalar kind of a field; none of a message. A default asks nothing of the numbers that a closed enum declares.
-abbrev pub default_kind : TableKind → Option ScalarKind
-default_kind kinds.Double = Some Double
-default_kind kinds.Float = Some Float
-default_kind kinds.Int32 = Some Int32
-default_kind kinds.Int64 = Some Int64
-default_kind kinds.Uint32 = Some Uint32
-default_kind kinds.Uint64 = Some Uint64
-default_kind kinds.Sint32 = Some Sint32
-default_kind kinds.Sint64 = Some Sint64
-default_kind kinds.Fixed32 = Some Fixed32
-default_kind kinds.Fixed64 = Some Fixed64
-default_kind kinds.Sfixed32 = Some Sfixed32
-default_kind kinds.Sfixed64 = Some Sfixed64
-default_kind kinds.Bool = Some BoolKind
-default_kind kinds.String = Some StringKind
-default_kind kinds.Bytes = Some BytesKind
-default_kind (kinds.Enum E) = Some (Enum (pos 0) Open)
-default_kind (kinds.Message T) = None
+-- The scalar kinds as payloads, values and written defaults tell them: each enum as one that takes every number. A message has none.
+abbrev pub plain_kind : TableKind → Option ScalarKind
+plain_kind kinds.Double = Some Double
+plain_kind kinds.Float = Some Float
+plain_kind kinds.Int32 = Some Int32
+plain_kind kinds.Int64 = Some Int64
+plain_kind kinds.Uint32 = Some Uint32
+plain_kind kinds.Uint64 = Some Uint64
+plain_kind kinds.Sint32 = Some Sint32
+plain_kind kinds.Sint64 = Some Sint64
+plain_kind kinds.Fixed32 = Some Fixed32
+plain_kind kinds.Fixed64 = Some Fixed64
+plain_kind kinds.Sfixed32 = Some Sfixed32
+plain_kind kinds.Sfixed64 = Some Sfixed64
+plain_kind kinds.Bool = Some BoolKind
+plain_kind kinds.String = Some StringKind
+plain_kind kinds.Bytes = Some BytesKind
+plain_kind (kinds.Enum E) = Some (Enum (pos 0) Open)
+plain_kind (kinds.Message T) = None
 
 -- The default of a singular field of a kind, which may be an enum of these values.
 abbrev pub field_default : TableKind → List EnumValueRow → List ℕ → Option Scalar
-field_default kind values text = option_and_then (λ k. written_default k values text) (default_kind kind)
+field_default kind values text = option_and_then (λ k. written_default k values text) (plain_kind kind)

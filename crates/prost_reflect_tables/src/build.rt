@@ -25,6 +25,7 @@ pub mod lists;
 pub mod names;
 pub mod options;
 pub mod order;
+pub mod resolve;
 pub mod services;
 
 use crate::build::catalog::linked_catalog;
@@ -54,9 +55,9 @@ pub fn build_tables(
     ensures stands { IfErr result (λ e. e ≢ pool_errors.OutOfMemory → Stands e (file_list files.now) (flattened (file_list files.now))) }
 {
     let flat = flattened(alloc, files)?;
-    let index = check_files(alloc, files, &flat)?;
-    let (messages, enums) = linked(alloc, &flat, &index)?;
+    let resolved = check_files(alloc, files, &flat)?;
+    let (messages, enums) = linked(alloc, &flat, &resolved.index)?;
     let tables = Tables { messages, enums };
-    let catalog = linked_catalog(alloc, files, &flat, &index, &tables)?;
+    let catalog = linked_catalog(alloc, files, &flat, &resolved.index, &tables)?;
     Ok((tables, catalog))
 }

@@ -34,6 +34,8 @@ pub struct MessageLists {
     pub extending: Vec<usize>,
     /// The places of its fields without extensions, by their names.
     pub by_name: Vec<usize>,
+    /// The same places by the names in JSON; fields of one such name in ascending order of their numbers.
+    pub by_json_name: Vec<usize>,
 }
 
 /// What is looked up in an enum.

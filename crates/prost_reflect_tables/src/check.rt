@@ -5,7 +5,7 @@ ghost use Rattle.std.specs.List.{list_any};
 ghost use Rattle.prost_reflect_tables.specs.declared.error.PoolError.TheVariants as pool_errors;
 ghost use Rattle.prost_reflect_tables.specs.Checked.{has_fault, Checked, Stands};
 ghost use Rattle.prost_reflect_tables.specs.FlatViews.{file_list, flat_rows};
-ghost use Rattle.prost_reflect_tables.specs.Indexed.{IsIndex};
+ghost use Rattle.prost_reflect_tables.specs.Resolved.{IsResolved};
 
 mod defaults;
 mod entries;
@@ -18,8 +18,9 @@ pub mod types;
 mod walk;
 
 use crate::build::flatten::Flat;
-use crate::build::index::{Index, has_duplicate_name, indexed};
+use crate::build::index::has_duplicate_name;
 use crate::build::options::has_bad_options;
+use crate::build::resolve::{Resolved, all_resolved};
 use crate::check::defaults::{has_bad_default, has_float_default};
 use crate::check::entries::has_bad_map_entry;
 use crate::check::fields::{
@@ -62,9 +63,9 @@ fn has_fault(
     fault: PoolError,
     files: &[&FileDescriptorProto],
     flat: &Flat,
-    index: &Index,
+    resolved: &Resolved,
 ) -> Result<bool, AllocError>
-    requires { IsIndex index.now (flat_rows flat.now) }
+    requires { IsResolved resolved.now (flat_rows flat.now) }
     ensures { IfOk result (λ b. b ≡ has_fault fault (file_list files.now) (flat_rows flat.now)) }
 {
     match fault {
@@ -80,12 +81,12 @@ fn has_fault(
         PoolError::BadOptions => Ok(has_bad_options(flat)),
         PoolError::MissingDependency => has_missing_dependency(alloc, files),
         PoolError::DuplicateName => has_duplicate_name(alloc, flat),
-        PoolError::UnknownType => Ok(has_unknown_type(index, flat)),
-        PoolError::DuplicateNumber => has_duplicate_number(alloc, index, flat),
-        PoolError::OutsideRange => has_outside_range(alloc, index, flat),
-        PoolError::BadMapEntry => Ok(has_bad_map_entry(index, flat)),
-        PoolError::BadDefault => has_bad_default(alloc, index, flat),
-        PoolError::FloatDefault => has_float_default(alloc, index, flat),
+        PoolError::UnknownType => Ok(has_unknown_type(resolved, flat)),
+        PoolError::DuplicateNumber => has_duplicate_number(alloc, resolved, flat),
+        PoolError::OutsideRange => has_outside_range(alloc, resolved, flat),
+        PoolError::BadMapEntry => Ok(has_bad_map_entry(resolved, flat)),
+        PoolError::BadDefault => Ok(has_bad_default(resolved, flat)),
+        PoolError::FloatDefault => Ok(has_float_default(resolved, flat)),
         PoolError::Decode(_) | PoolError::OutOfMemory => Ok(false),
     }
 }
@@ -96,35 +97,35 @@ fn check_faults(
     faults: &[PoolError],
     files: &[&FileDescriptorProto],
     flat: &Flat,
-    index: &Index,
+    resolved: &Resolved,
 ) -> Result<(), PoolError>
-    requires { IsIndex index.now (flat_rows flat.now) }
+    requires { IsResolved resolved.now (flat_rows flat.now) }
     ensures ok { OnOk result (list_any (λ e. has_fault e (file_list files.now) (flat_rows flat.now)) faults.now ≡ false) }
     ensures stands { IfErr result (λ e. e ≢ pool_errors.OutOfMemory → Stands e (file_list files.now) (flat_rows flat.now)) }
 {
     for fault in faults {
-        if has_fault(alloc, *fault, files, flat, index)? {
+        if has_fault(alloc, *fault, files, flat, resolved)? {
             return Err(*fault);
         }
     }
     Ok(())
 }
 
-/// Checks the definitions of files, and gives the places of their names.
+/// Checks the definitions of files, and gives the fields and extensions with what their texts mean.
 ///
 /// # Errors
 ///
 /// The name of a fault that stands in the files, or `OutOfMemory` if a growth was refused.
-pub fn check_files(
+pub fn check_files<'a>(
     alloc: Global,
     files: &[&FileDescriptorProto],
-    flat: &Flat,
-) -> Result<Index, PoolError>
+    flat: &Flat<'a>,
+) -> Result<Resolved<'a>, PoolError>
     ensures ok { OnOk result (Checked (file_list files.now) (flat_rows flat.now)) }
-    ensures index { IfOk result (λ index. IsIndex index (flat_rows flat.now)) }
+    ensures resolved { IfOk result (λ resolved. IsResolved resolved (flat_rows flat.now)) }
     ensures stands { IfErr result (λ e. e ≢ pool_errors.OutOfMemory → Stands e (file_list files.now) (flat_rows flat.now)) }
 {
-    let index = indexed(alloc, flat)?;
-    check_faults(alloc, &FAULTS, files, flat, &index)?;
-    Ok(index)
+    let resolved = all_resolved(alloc, flat)?;
+    check_faults(alloc, &FAULTS, files, flat, &resolved)?;
+    Ok(resolved)
 }

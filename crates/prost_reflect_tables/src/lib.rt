@@ -16,6 +16,7 @@ pub use build::flatten::{Definition, Flat, FlatEnum, FlatMessage, FlatService, f
 pub use build::index::{Index, indexed};
 pub use build::link::linked;
 pub use build::names::text_or_empty;
+pub use build::resolve::{Resolved, ResolvedField, all_resolved};
 pub use catalog::{
     Catalog, EnumLists, ExtensionTable, FileTable, MessageLists, MethodTable, ServiceTable,
     SortedPlaces,
@@ -28,6 +29,6 @@ pub use examples::{
 };
 pub use laws::{equal_files, files_equality, tables_equality};
 pub use tables::{
-    Cardinality, EnumTable, FieldTable, Identity, MessageTable, OneofTable, TableKind, Tables,
-    WrittenDefault,
+    Cardinality, EnumTable, EnumValueTable, FieldTable, Identity, MessageTable, OneofTable,
+    TableKind, Tables, WrittenDefault,
 };

@@ -54,13 +54,13 @@ ghost use Rattle.prost_reflect_tables.specs.Places.{place_of};
 ghost use Rattle.prost_reflect_tables.specs.Linked.{ascending_from};
 
 fn is_named(message: &MessageTable, full_name: &str) -> bool
-    ensures { result ≡ bytes_eq (string_bytes message.now.full_name) full_name.now }
+    ensures { result ≡ bytes_eq (string_bytes message.now.id.full_name) full_name.now }
 {
-    message.full_name.as_str() == full_name
+    message.id.full_name.as_str() == full_name
 }
 
 fn place_named(messages: &[MessageTable], full_name: &str) -> Option<usize>
-    ensures { result ≡ position (λ m. bytes_eq (string_bytes m.full_name) full_name.now) messages.now }
+    ensures { result ≡ position (λ m. bytes_eq (string_bytes m.id.full_name) full_name.now) messages.now }
 {
     messages
         .iter()

@@ -99,10 +99,12 @@ pub struct Identity {
 /// A field or an extension of a message type.
 #[derive(PartialEq, Eq, Debug, Drop)]
 pub struct FieldTable {
+    /// Where the field stands. The message type around an extension is the one in which it is declared, if it is declared in one.
+    pub id: Identity,
+    /// The name in JSON: of an extension the full name in brackets, of another field the name that its record gives, or else its own name.
+    pub json_name: String,
     /// The field number, from 1 to 536870911.
     pub number: u32,
-    /// The field's own name, without its scope.
-    pub name: String,
     /// Whether the field is declared outside its message type, by `extend`.
     pub is_extension: bool,
     /// The type of one value.
@@ -124,8 +126,8 @@ pub struct FieldTable {
 /// A oneof of a message type.
 #[derive(PartialEq, Eq, Debug, Drop)]
 pub struct OneofTable {
-    /// The oneof's own name, without its scope.
-    pub name: String,
+    /// Where the oneof stands.
+    pub id: Identity,
     /// The members in the order of their declaration, as places in the message type's list of fields.
     pub fields: Vec<usize>,
 }
@@ -133,8 +135,8 @@ pub struct OneofTable {
 /// A message type.
 #[derive(PartialEq, Eq, Debug, Drop)]
 pub struct MessageTable {
-    /// The package, the enclosing message types and the name, joined by dots.
-    pub full_name: String,
+    /// Where the message type stands.
+    pub id: Identity,
     /// Whether the type is that of a map's entries.
     pub is_map_entry: bool,
     /// The fields and extensions, in ascending order of their numbers.
@@ -143,13 +145,22 @@ pub struct MessageTable {
     pub oneofs: Vec<OneofTable>,
 }
 
+/// A value of an enum.
+#[derive(PartialEq, Eq, Debug, Drop)]
+pub struct EnumValueTable {
+    /// Where the value stands. Its full name stands in the scope around its enum.
+    pub id: Identity,
+    /// The number, 0 where the definition gives none.
+    pub number: i32,
+}
+
 /// An enum.
 #[derive(PartialEq, Eq, Debug, Drop)]
 pub struct EnumTable {
-    /// The package, the enclosing message types and the name, joined by dots.
-    pub full_name: String,
-    /// The numbers of the values in the order of their declaration; the first is the default.
-    pub numbers: Vec<i32>,
+    /// Where the enum stands.
+    pub id: Identity,
+    /// The values in the order of their declaration; the number of the first is the default.
+    pub values: Vec<EnumValueTable>,
     /// Whether a number that no value has is kept as an unknown field.
     pub is_closed: bool,
 }

@@ -1,8 +1,8 @@
 //! Calls with ample memory, whose contracts leave want of memory open. The files are written as descriptor records.
 
 use prost_reflect_tables::{
-    EnumTable, FieldTable, Flat, FlatMessage, MessageTable, PoolError, TableKind, WrittenDefault,
-    build_tables, check_files, flattened, indexed, linked, written_default,
+    EnumTable, FieldTable, Flat, FlatMessage, Identity, MessageTable, PoolError, TableKind, Tables,
+    WrittenDefault, build_tables, check_files, flattened, indexed, linked, written_default,
 };
 use prost_reflect_types::FileDescriptorProto;
 use std::alloc::{AllocError, Global};
@@ -340,7 +340,7 @@ fn show_field(seen: &mut String, field: &FieldTable) -> Result<(), Fail> {
     write!(
         seen,
         "{} {} {:?} {:?} ",
-        field.number, field.name, field.kind, field.cardinality
+        field.number, field.id.name, field.kind, field.cardinality
     )?;
     show_flags(seen, field)?;
     write!(seen, "{:?} {:?}; ", field.default, field.oneof)?;
@@ -357,12 +357,12 @@ fn show_flags(seen: &mut String, field: &FieldTable) -> Result<(), Fail> {
 }
 
 fn show_message(seen: &mut String, message: &MessageTable) -> Result<(), Fail> {
-    write!(seen, "{} {}: ", message.full_name, message.is_map_entry)?;
+    write!(seen, "{} {}: ", message.id.full_name, message.is_map_entry)?;
     for field in &message.fields {
         show_field(seen, field)?;
     }
     for oneof in &message.oneofs {
-        write!(seen, "oneof {} {:?}; ", oneof.name, oneof.fields)?;
+        write!(seen, "oneof {} {:?}; ", oneof.id.name, oneof.fields)?;
     }
     Ok(())
 }
@@ -373,11 +373,11 @@ fn shown(alloc: Global, messages: &[MessageTable], enums: &[EnumTable]) -> Resul
         show_message(&mut seen, message)?;
     }
     for item in enums {
-        write!(
-            seen,
-            "{} {:?} closed {}; ",
-            item.full_name, item.numbers, item.is_closed
-        )?;
+        write!(seen, "{} ", item.id.full_name)?;
+        for value in &item.values {
+            write!(seen, "{} ", value.number)?;
+        }
+        write!(seen, "closed {}; ", item.is_closed)?;
     }
     Ok(seen)
 }
@@ -419,7 +419,69 @@ fn linked_proto2(rt: HostRuntime) -> Result<(), Fail> {
     let (messages, enums) = linked(rt.alloc(), &flat, &index)?;
     assert_eq!(rt;
         shown(rt.alloc(), &messages, &enums)?.as_str(),
-        "M false: 5 x Message(1) Optional extension true group true packed false presence true None None; 7 e Enum(0) Required extension false group false packed false presence true Some(EnumNumber(0)) None; 8 l Int32 Repeated extension false group false packed false presence false None None; 9 p Int32 Repeated extension false group false packed true presence false None None; Entry true: 1 key String Optional extension false group false packed false presence true None None; E [0] closed true; "
+        "M false: 5 x Message(1) Optional extension true group true packed false presence true None None; 7 e Enum(0) Required extension false group false packed false presence true Some(EnumNumber(0)) None; 8 l Int32 Repeated extension false group false packed false presence false None None; 9 p Int32 Repeated extension false group false packed true presence false None None; Entry true: 1 key String Optional extension false group false packed false presence true None None; E 0 closed true; "
+    );
+    Ok(())
+}
+
+/// The place of the file, that of the message around it, the path, the full name and the name.
+fn show_identity(seen: &mut String, id: &Identity) -> Result<(), Fail> {
+    write!(seen, "{} {:?} {:?} ", id.file, id.parent, id.path)?;
+    write!(seen, "{} {}", id.full_name, id.name)?;
+    Ok(())
+}
+
+/// A message type with its fields, which have a name in JSON too, and its oneofs.
+fn show_identities(seen: &mut String, message: &MessageTable) -> Result<(), Fail> {
+    show_identity(seen, &message.id)?;
+    for field in &message.fields {
+        seen.push_str("; ")?;
+        show_identity(seen, &field.id)?;
+        write!(seen, " {}", field.json_name)?;
+    }
+    for oneof in &message.oneofs {
+        seen.push_str("; ")?;
+        show_identity(seen, &oneof.id)?;
+    }
+    Ok(())
+}
+
+fn shown_identities(alloc: Global, tables: &Tables) -> Result<String, Fail> {
+    let mut seen = String::new(alloc);
+    for message in &tables.messages {
+        show_identities(&mut seen, message)?;
+        seen.push_str("; ")?;
+    }
+    for item in &tables.enums {
+        show_identity(&mut seen, &item.id)?;
+        for value in &item.values {
+            seen.push_str("; ")?;
+            show_identity(&mut seen, &value.id)?;
+        }
+    }
+    Ok(seen)
+}
+
+/// `message M {}`.
+static FIRST: &[u8] = b"\x0a\x07m.proto\x22\x03\x0a\x01M";
+
+/// `package p; message A { message B { optional int32 my_field = 1 [json_name = "other"]; oneof choice { int32 member = 2; }
+/// enum E { ZERO = 0; } extensions 100; } extend B { optional int32 x = 100; } }`.
+static SECOND: &[u8] = b"\x0a\x07p.proto\x12\x01p\x22\x65\x0a\x01A\x1a\x4d\x0a\x01B\
+    \x12\x17\x0a\x08my_field\x18\x01\x20\x01\x28\x05\x52\x05other\
+    \x12\x10\x0a\x06member\x18\x02\x20\x01\x28\x05\x48\x00\
+    \x22\x0d\x0a\x01E\x12\x08\x0a\x04ZERO\x10\x00\x2a\x04\x08\x64\x10\x65\
+    \x42\x08\x0a\x06choice\x32\x11\x0a\x01x\x12\x06.p.A.B\x18\x64\x20\x01\x28\x05";
+
+/// A nested message, its fields, an extension that is declared around it, a oneof, an enum and a value of the second file.
+#[test]
+fn linked_identities(rt: HostRuntime) -> Result<(), Fail> {
+    let first = FileDescriptorProto::decode(rt.alloc(), FIRST)?;
+    let second = FileDescriptorProto::decode(rt.alloc(), SECOND)?;
+    let (tables, _) = build_tables(rt.alloc(), &[&first, &second])?;
+    assert_eq!(rt;
+        shown_identities(rt.alloc(), &tables)?.as_str(),
+        "0 None [4, 0] M M; 1 None [4, 0] p.A A; 1 Some(1) [4, 0, 3, 0] p.A.B B; 1 Some(2) [4, 0, 3, 0, 2, 0] p.A.B.my_field my_field other; 1 Some(2) [4, 0, 3, 0, 2, 1] p.A.B.member member member; 1 Some(1) [4, 0, 6, 0] p.A.x x [p.A.x]; 1 Some(2) [4, 0, 3, 0, 8, 0] p.A.B.choice choice; 1 Some(2) [4, 0, 3, 0, 4, 0] p.A.B.E E; 1 Some(2) [4, 0, 3, 0, 4, 0, 2, 0] p.A.B.ZERO ZERO"
     );
     Ok(())
 }
@@ -457,6 +519,7 @@ fn catalog_of_two_files(rt: HostRuntime) -> Result<(), Fail> {
     assert_eq!(rt; outer.extensions.as_slice(), [0].as_slice());
     assert!(rt; outer.extending.is_empty());
     assert_eq!(rt; outer.by_name.as_slice(), [1, 0].as_slice());
+    assert_eq!(rt; outer.by_json_name.as_slice(), [1, 0].as_slice());
     let base = &catalog.messages[2];
     assert_eq!(rt; base.extending.as_slice(), [0, 1].as_slice());
     assert!(rt; base.by_name.is_empty());

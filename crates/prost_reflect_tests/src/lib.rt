@@ -11,6 +11,10 @@ mod equality;
 #[cfg(test)]
 mod fields;
 #[cfg(test)]
+mod forms;
+#[cfg(test)]
+mod lengths;
+#[cfg(test)]
 mod messages;
 #[cfg(test)]
 mod present;

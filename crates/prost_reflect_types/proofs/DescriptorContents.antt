@@ -1,9 +1,10 @@
 -- A descriptor record is accepted and means its fields, where each of these is what was found at its number.
 use Rattle.std.proofs.Common.{◌≡◌, ℕ, zero, suc, ◌+◌, Bool, true, false, cond, ◌||◌, List, [], ◌∷◌, ◌++◌, map, flat_map, length, Option, Some, None, option_map, nat_eq, nat_le, refl, ap, ap₂, sym, subst, ◌∙◌, arith, append-nil, lit≤}
-use Rattle.std.proofs.lemmas.Bool.{eqb-true, eq-eqb}
+use Rattle.std.proofs.lemmas.Bool.{eqb-true, eq-eqb, and_from, or_parts}
 use Rattle.std.specs.List.{list_all}
 use Rattle.std.specs.Option.{is_some}
 use Rattle.std.specs.Str.{is_utf8}
+use Rattle.std.proofs.lemmas.Option.{none-some, same_Some}
 use Rattle.prost_reflect_wire.specs.Varint.{◌>>=◌, guard}
 use Rattle.prost_reflect_wire.specs.Record.{Var, Len, Payload, Flat, Record, Records, items, body_of, payload_levels, Spells}
 use Rattle.prost_reflect_wire.specs.Front.{RecordsFront}
@@ -22,9 +23,7 @@ use Rattle.prost_reflect_types.specs.declared.table.RecordType.TheVariants as ty
 use Rattle.prost_reflect_types.specs.declared.table.FieldKind.{FieldKind}
 use Rattle.prost_reflect_types.specs.declared.table.FieldKind.TheVariants as kinds
 use Rattle.prost_reflect_wire.proofs.Numbers.{Ascending, is_in, Covers, eqb-sym, numbers_ascending, table_covers}
-use Rattle.prost_reflect_wire.proofs.Sound.{some_inside, none_some, bind_ok, guard_ok}
-use Rattle.prost_reflect_wire.proofs.Survivors.{or_false}
-use Rattle.prost_reflect_wire.proofs.Deeper.{both_true}
+use Rattle.prost_reflect_wire.proofs.Sound.{bind_ok, guard_ok}
 use Rattle.prost_reflect_laws.proofs.Allowed.{inside, allows_inside}
 use Rattle.prost_reflect_wire.proofs.Steps.{meaning_covers}
 use Rattle.prost_reflect_laws.proofs.Means.{below, meaning_below}
@@ -73,7 +72,7 @@ rows_found types.Method = (refl, (refl, (refl, (refl, (refl, (refl, tt))))))
 no_row : (rs : List (ℕ × FieldKind)) (n : ℕ) → is_in n (map (λ row. row.0) rs) ≡ false → kind_at rs n ≡ None
 no_row [] n h = refl
 no_row (row ∷ rs) n h =
-    let (other, rest) = or_false (nat_eq n row.0) (is_in n (map (λ row. row.0) rs)) h in
+    let (other, rest) = or_parts (nat_eq n row.0) (is_in n (map (λ row. row.0) rs)) h in
     ap (λ b. cond b (Some row.1) (kind_at rs n)) (eqb-sym row.0 n ∙ other) ∙ no_row rs n rest
 
 -- FIELDS OF A RECORD
@@ -85,12 +84,12 @@ SlotsOf levels fields (row ∷ rs) (slot ∷ slots) = (row.0 ≡ slot.0) × (Slo
 SlotsOf levels fields rs slots = ⊥
 
 slot_found : (levels : ℕ) (fields : List (ℕ × Found)) (n : ℕ) (kind : FieldKind) (rs : List (ℕ × FieldKind)) (slots : List (ℕ × Option Value)) → SlotsOf levels fields rs slots → kind_at rs n ≡ Some kind → (v : Option Value) × SlotOf levels kind n fields v
-slot_found levels fields n kind [] slots s h = absurd (none_some h)
+slot_found levels fields n kind [] slots s h = absurd (none-some _ h)
 slot_found levels fields n kind (row ∷ rs) [] s h = absurd s
 slot_found levels fields n kind (row ∷ rs) (slot ∷ slots) (e, (s, more)) h = go (nat_eq row.0 n) refl h (slot_found levels fields n kind rs slots more)
   where
     go : (b : Bool) → nat_eq row.0 n ≡ b → cond b (Some row.1) (kind_at rs n) ≡ Some kind → (kind_at rs n ≡ Some kind → (v : Option Value) × SlotOf levels kind n fields v) → (v : Option Value) × SlotOf levels kind n fields v
-    go true same h more = (slot.1, subst (λ k. SlotOf levels k n fields slot.1) (some_inside h) (subst (λ (m : ℕ). SlotOf levels row.1 m fields slot.1) (eqb-true row.0 n same) s))
+    go true same h more = (slot.1, subst (λ k. SlotOf levels k n fields slot.1) (same_Some _ _ h) (subst (λ (m : ℕ). SlotOf levels row.1 m fields slot.1) (eqb-true row.0 n same) s))
     go false other h more = more h
 
 -- WHAT IS ALLOWED
@@ -109,7 +108,7 @@ bodies_behind a t (x ∷ xs) ys (one, more) = bodies_behind a t xs ys more
 
 decoded_allowed : (levels : ℕ) (t : RecordType) (bytes : List ℕ) (c : Content) → nested_decoded levels t bytes ≡ Some c → passes (body (Flat (Len bytes))) (inside record_schema levels (place_of t)) ≡ true
 unfolding inside
-decoded_allowed zero t bytes c h = absurd (none_some h)
+decoded_allowed zero t bytes c h = absurd (none-some _ h)
 decoded_allowed (suc k) t bytes c h =
     let d = decoded_parts (suc k) t bytes c h in
     let same : k ≡ d.inner = omega (arith, d.left) in
@@ -137,7 +136,7 @@ text_allowed bytes own h = go (is_utf8 bytes) h
   where
     go : (b : Bool) → cond b (Some (FoundText bytes ∷ [])) None ≡ Some own → is_some (cond b (Some (Text bytes)) None) ≡ true
     go true h = refl
-    go false h = absurd (none_some h)
+    go false h = absurd (none-some _ h)
 
 -- what is found of a payload, its field allows
 kind_allowed : (levels : ℕ) (a : AllowsInside) (kind : FieldKind) (p : Payload) (own : List Found) → found_in kind p ≡ Some own →
@@ -151,10 +150,10 @@ kind_allowed levels a kinds.Numbers (Flat (Len bytes)) own h nested =
 kind_allowed levels a kinds.Flag (Flat (Var v)) own h nested = refl
 kind_allowed levels a kinds.Bytes (Flat (Len bytes)) own h nested = refl
 kind_allowed levels a (kinds.Records t) (Flat (Len bytes)) own h nested =
-    let own_is : FoundRecord bytes ∷ [] ≡ own = some_inside h in
+    let own_is : FoundRecord bytes ∷ [] ≡ own = same_Some _ _ h in
     let bodies : BodiesAllowed a t (picked record_in (FoundRecord bytes ∷ [])) = subst (λ own. BodiesAllowed a t (picked record_in own)) (sym own_is) (nested t refl) in
     ap (λ b. b || false) bodies.0
-kind_allowed levels a kind p own h nested = absurd (none_some h)
+kind_allowed levels a kind p own h nested = absurd (none-some _ h)
 
 one_allowed : (levels : ℕ) (a : AllowsInside) (t : RecordType) (r : Record) (own : List Found) → found_in_record levels (rows t) r ≡ Some own →
     ((u : RecordType) → kind_at (rows t) r.number ≡ Some (kinds.Records u) → BodiesAllowed a u (picked record_in own)) → record_allowed levels a (known record_schema (place_of t)) r ≡ true
@@ -174,7 +173,7 @@ all_allowed : (levels : ℕ) (a : AllowsInside) (t : RecordType) (records : List
 all_allowed levels a t [] fields h nested = refl
 all_allowed levels a t (r ∷ records) fields h nested =
     let f = first_record levels (rows t) r records fields h in
-    both_true (one_allowed levels a t r f.own f.first (own_nested f)) (all_allowed levels a t records f.more f.others (more_nested f))
+    and_from _ _ (one_allowed levels a t r f.own f.first (own_nested f)) (all_allowed levels a t records f.more f.others (more_nested f))
   where
     split : (f : FirstRecord levels (rows t) r records fields) (n : ℕ) → at_number record_in n fields ≡ cond (nat_eq r.number n) (picked record_in f.own ++ at_number record_in n f.more) (at_number record_in n f.more)
     split f n = ap (at_number record_in n) f.whole ∙ at_under record_in n r.number f.own f.more

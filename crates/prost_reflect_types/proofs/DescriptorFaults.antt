@@ -1,6 +1,7 @@
 -- What a nested record is refused for stands in the record around it.
 use Rattle.std.proofs.Common.{◌≡◌, ◌⊎◌, inl, inr, ℕ, zero, suc, Bool, true, false, cond, List, [], ◌∷◌, ◌++◌, Option, Some, nat_eq, refl, ap, sym, subst, ◌∙◌}
 use Rattle.std.proofs.lemmas.Bool.{eqb-true}
+use Rattle.std.proofs.lemmas.Option.{none-some, same_Some}
 use Rattle.prost_reflect_wire.specs.declared.error.DecodeError.{DecodeError}
 use Rattle.prost_reflect_wire.specs.declared.key.WireType.TheVariants as wires
 use Rattle.prost_reflect_types.specs.declared.table.RecordType.{RecordType}
@@ -11,7 +12,6 @@ use Rattle.prost_reflect_wire.specs.Schema.{Field, field_of, known as wire_known
 use Rattle.prost_reflect_wire.specs.Fault.{Here, Behind, InMessage, StandsInMessage, opens_level}
 use Rattle.prost_reflect_types.specs.DescriptorTable.{rows, place_of, field_of_row, record_schema}
 use Rattle.prost_reflect_types.specs.DescriptorReading.{Found, FoundRecord, Fields, kind_at, found_in, found_in_records, at_number, record_in, StandsInNested, StandsAmong}
-use Rattle.prost_reflect_wire.proofs.Sound.{some_inside, none_some}
 use Rattle.prost_reflect_wire.proofs.PlainFronts.{plain_delimited}
 use Rattle.prost_reflect_wire.proofs.RecordFronts.{record_parts, first_parts, FrontParts}
 use Rattle.prost_reflect_types.proofs.DescriptorRows.{known_field}
@@ -37,12 +37,12 @@ module _ (t u : RecordType) (n : ℕ) (known : kind_at (rows t) n ≡ Some (kind
   payload_stands levels e (Flat (Len body)) own bytes rest h front s = go (subst (λ own. StandsAmong levels u e (picked record_in own)) (sym own_is) s)
     where
       own_is : FoundRecord body ∷ [] ≡ own
-      own_is = some_inside h
+      own_is = same_Some _ _ h
 
       go : StandsInNested levels u e body ⊎ ⊥ → StandsInMessage record_schema (place_of t) levels e bytes
       go (inl s) = body_stands levels e body bytes rest front s
       go (inr none) = absurd none
-  payload_stands levels e p own bytes rest h front s = absurd (none_some h)
+  payload_stands levels e p own bytes rest h front s = absurd (none-some _ h)
 
   among_append : (levels : ℕ) (e : DecodeError) (xs ys : List (List ℕ)) → StandsAmong levels u e (xs ++ ys) → StandsAmong levels u e xs ⊎ StandsAmong levels u e ys
   among_append levels e [] ys s = inr s
@@ -51,7 +51,7 @@ module _ (t u : RecordType) (n : ℕ) (known : kind_at (rows t) n ≡ Some (kind
 
   among_records : (levels : ℕ) (e : DecodeError) (records : List Record) (fields : List (ℕ × Found)) (bytes rest : List ℕ) → RecordsFront (body_of records) bytes rest → found_in_records levels (rows t) records ≡ Some fields →
       StandsAmong levels u e (at_number record_in n fields) → StandsInMessage record_schema (place_of t) levels e bytes
-  among_records levels e [] fields bytes rest front h s = absurd (subst (λ fields. StandsAmong levels u e (at_number record_in n fields)) (sym (some_inside h)) s)
+  among_records levels e [] fields bytes rest front h s = absurd (subst (λ fields. StandsAmong levels u e (at_number record_in n fields)) (sym (same_Some _ _ h)) s)
   among_records levels e (r ∷ records) fields bytes rest front h s =
       let f = first_record levels (rows t) r records fields h in
       let g = first_parts r (body_of records) bytes rest front in

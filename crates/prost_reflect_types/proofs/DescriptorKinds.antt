@@ -1,6 +1,7 @@
 -- What is found of the payloads of a field is what they mean, for each kind of field.
 use Rattle.std.proofs.Common.{◌≡◌, ℕ, zero, suc, Bool, true, false, cond, not, ℤ, List, [], ◌∷◌, ◌++◌, map, filter, flat_map, Option, Some, None, option_map, nat_eq, refl, ap, ap₂, sym, ◌∙◌, append_assoc, arith}
 use Rattle.std.specs.Str.{is_utf8}
+use Rattle.std.proofs.lemmas.Option.{none-some, same_Some}
 use Rattle.prost_reflect_wire.specs.Varint.{◌>>=◌, guard}
 use Rattle.prost_reflect_wire.specs.Record.{Plain, Var, Fix64, Len, Fix32, Payload, Flat, Records, items, read}
 use Rattle.prost_reflect_wire.specs.Scalar.{Scalar, Boolean, I32, Text, Bytes, ScalarKind, StringKind, BytesKind, Int32, BoolKind, elem, low_i32}
@@ -14,7 +15,7 @@ use Rattle.prost_reflect_types.specs.DescriptorReading.{Found, FoundText, FoundN
 use Rattle.prost_reflect_types.specs.declared.table.RecordType.{RecordType}
 use Rattle.prost_reflect_types.specs.declared.table.FieldKind.{FieldKind}
 use Rattle.prost_reflect_types.specs.declared.table.FieldKind.TheVariants as kinds
-use Rattle.prost_reflect_wire.proofs.Sound.{some_inside, none_some, bind_ok, guard_ok}
+use Rattle.prost_reflect_wire.proofs.Sound.{bind_ok, guard_ok}
 use Rattle.prost_reflect_wire.proofs.Steps.{map_append, flat_append}
 use Rattle.prost_reflect_laws.proofs.Means.{below}
 
@@ -47,7 +48,7 @@ first_found : (kind : FieldKind) (p : Payload) (ps : List Payload) (xs : List Fo
 first_found kind p ps xs h =
     let (own, f, rest) = bind_ok (λ own. all_in kind ps >>= λ more. Some (own ++ more)) (found_in kind p) xs h in
     let (more, o, whole) = bind_ok (λ more. Some (own ++ more)) (all_in kind ps) xs rest in
-    record { own = own; more = more; first = f; others = o; whole = sym (some_inside whole) }
+    record { own = own; more = more; first = f; others = o; whole = sym (same_Some _ _ whole) }
 
 -- ONE VALUE
 
@@ -59,7 +60,7 @@ record Single (read : Payload → Option Value) (of : Found → Option Value) (p
 -- where each payload has one value, the last payload has the last value
 last_single : (kind : FieldKind) (read : Payload → Option Value) (of : Found → Option Value) → ((p : Payload) (own : List Found) → found_in kind p ≡ Some own → Single read of p own) →
     (ps : List Payload) (xs : List Found) → all_in kind ps ≡ Some xs → (last ps >>= read) ≡ (last_of None xs >>= of)
-last_single kind read of one [] xs h = ap (λ xs. last_of None xs >>= of) (some_inside h)
+last_single kind read of one [] xs h = ap (λ xs. last_of None xs >>= of) (same_Some _ _ h)
 last_single kind read of one (p ∷ ps) xs h =
     let f = first_found kind p ps xs h in
     let s = one p f.own f.first in
@@ -67,7 +68,7 @@ last_single kind read of one (p ∷ ps) xs h =
     ∙ ap (λ xs. last_of None xs >>= of) (sym (f.whole ∙ ap (λ own. own ++ f.more) s.own_is))
   where
     behind : (ps : List Payload) (more : List Found) → all_in kind ps ≡ Some more → (last ps >>= read) ≡ (last_of None more >>= of) → (x : Found) → read p ≡ of x → (last (p ∷ ps) >>= read) ≡ (last_of (Some x) more >>= of)
-    behind [] more h others x value = value ∙ ap (λ more. last_of (Some x) more >>= of) (some_inside h)
+    behind [] more h others x value = value ∙ ap (λ more. last_of (Some x) more >>= of) (same_Some _ _ h)
     behind (q ∷ qs) more h others x value =
         let f = first_found kind q qs more h in
         let s = one q f.own f.first in
@@ -78,24 +79,24 @@ text_single : (p : Payload) (own : List Found) → found_in kinds.Text p ≡ Som
 text_single (Flat (Len bytes)) own h = go (is_utf8 bytes) refl h
   where
     go : (b : Bool) → is_utf8 bytes ≡ b → cond b (Some (FoundText bytes ∷ [])) None ≡ Some own → Single (λ p. elem StringKind p >>= λ v. Some (ScalarValue v)) (λ x. option_map (λ t. ScalarValue (Text t)) (text_in x)) (Flat (Len bytes)) own
-    go true e h = record { found = FoundText bytes; own_is = sym (some_inside h); value = ap (λ b. cond b (Some (Text bytes)) None >>= λ v. Some (ScalarValue v)) e }
-    go false e h = absurd (none_some h)
-text_single p own h = absurd (none_some h)
+    go true e h = record { found = FoundText bytes; own_is = sym (same_Some _ _ h); value = ap (λ b. cond b (Some (Text bytes)) None >>= λ v. Some (ScalarValue v)) e }
+    go false e h = absurd (none-some _ h)
+text_single p own h = absurd (none-some _ h)
 
 number_single : (p : Payload) (own : List Found) → found_in kinds.Number p ≡ Some own → Single (λ p. elem Int32 p >>= λ v. Some (ScalarValue v)) (λ x. option_map (λ z. ScalarValue (I32 z)) (number_in x)) p own
-number_single (Flat (Var v)) own h = record { found = FoundNumber (low_i32 v); own_is = sym (some_inside h); value = refl }
-number_single p own h = absurd (none_some h)
+number_single (Flat (Var v)) own h = record { found = FoundNumber (low_i32 v); own_is = sym (same_Some _ _ h); value = refl }
+number_single p own h = absurd (none-some _ h)
 
 flag_single : (p : Payload) (own : List Found) → found_in kinds.Flag p ≡ Some own → Single (λ p. elem BoolKind p >>= λ v. Some (ScalarValue v)) (λ x. option_map (λ b. ScalarValue (Boolean b)) (flag_in x)) p own
-flag_single (Flat (Var v)) own h = record { found = FoundFlag (not (nat_eq v 0)); own_is = sym (some_inside h); value = refl }
-flag_single p own h = absurd (none_some h)
+flag_single (Flat (Var v)) own h = record { found = FoundFlag (not (nat_eq v 0)); own_is = sym (same_Some _ _ h); value = refl }
+flag_single p own h = absurd (none-some _ h)
 
 -- LISTS
 
 -- where each payload has the values that were found of it, all have
 all_listed : {A : Type 0} (kind : FieldKind) (values : Payload → List Value) (of : Found → Option A) (to : A → Value) → ((p : Payload) (own : List Found) → found_in kind p ≡ Some own → values p ≡ map to (picked of own)) →
     (ps : List Payload) (xs : List Found) → all_in kind ps ≡ Some xs → flat_map values ps ≡ map to (picked of xs)
-all_listed kind values of to each [] xs h = ap (λ xs. map to (picked of xs)) (some_inside h)
+all_listed kind values of to each [] xs h = ap (λ xs. map to (picked of xs)) (same_Some _ _ h)
 all_listed kind values of to each (p ∷ ps) xs h =
     let f = first_found kind p ps xs h in
     ap₂ ◌++◌ (each p f.own f.first) (all_listed kind values of to each ps f.more f.others)
@@ -187,9 +188,9 @@ texts_each inner (Flat (Len bytes)) own h = go (is_utf8 bytes) refl h
   where
     go : (b : Bool) → is_utf8 bytes ≡ b → cond b (Some (FoundText bytes ∷ [])) None ≡ Some own →
         flat_map (element inner (ScalarOf StringKind)) (value_payloads (Repeated false) (value_type_of kinds.Texts) (Flat (Len bytes))) ≡ map (λ t. ScalarValue (Text t)) (picked text_in own)
-    go true e h = ap (λ b. scalar_values (cond b (Some (Text bytes)) None) ++ []) e ∙ ap (λ own. map (λ t. ScalarValue (Text t)) (picked text_in own)) (some_inside h)
-    go false e h = absurd (none_some h)
-texts_each inner p own h = absurd (none_some h)
+    go true e h = ap (λ b. scalar_values (cond b (Some (Text bytes)) None) ++ []) e ∙ ap (λ own. map (λ t. ScalarValue (Text t)) (picked text_in own)) (same_Some _ _ h)
+    go false e h = absurd (none-some _ h)
+texts_each inner p own h = absurd (none-some _ h)
 
 plain_number : (inner : MeansInside) (p : Plain) → element inner (ScalarOf Int32) (Flat p) ≡ map (λ z. ScalarValue (I32 z)) (picked number_in (number_in_plain p))
 plain_number inner (Var v) = refl
@@ -206,13 +207,13 @@ packed_numbers inner (p ∷ ps) =
 
 numbers_each : (inner : MeansInside) (p : Payload) (own : List Found) → found_in kinds.Numbers p ≡ Some own →
     flat_map (element inner (ScalarOf Int32)) (value_payloads (Repeated false) (value_type_of kinds.Numbers) p) ≡ map (λ z. ScalarValue (I32 z)) (picked number_in own)
-numbers_each inner (Flat (Var v)) own h = ap (λ own. map (λ z. ScalarValue (I32 z)) (picked number_in own)) (some_inside h)
+numbers_each inner (Flat (Var v)) own h = ap (λ own. map (λ z. ScalarValue (I32 z)) (picked number_in own)) (same_Some _ _ h)
 numbers_each inner (Flat (Len bytes)) own h =
     let (ps, found, whole) = bind_ok (λ ps. Some (flat_map number_in_plain ps)) (unpacked Int32 bytes) own h in
     ap (λ (o : Option (List Plain)). flat_map (element inner (ScalarOf Int32)) (filter (λ q. true) (map Flat (or_none o)))) found
     ∙ packed_numbers inner ps
-    ∙ ap (λ own. map (λ z. ScalarValue (I32 z)) (picked number_in own)) (some_inside whole)
-numbers_each inner p own h = absurd (none_some h)
+    ∙ ap (λ own. map (λ z. ScalarValue (I32 z)) (picked number_in own)) (same_Some _ _ whole)
+numbers_each inner p own h = absurd (none-some _ h)
 
 texts_kept : (ts : List (List ℕ)) → values_gathered (values_from (map (λ t. ScalarValue (Text t)) ts)) ≡ values_from (map (λ t. ScalarValue (Text t)) ts)
 texts_kept [] = refl
@@ -234,8 +235,8 @@ numbers_mean inner ps xs h = list_value inner kinds.Numbers number_in (λ z. Sca
 
 bytes_each : (inner : MeansInside) (p : Payload) (own : List Found) → found_in kinds.Bytes p ≡ Some own →
     flat_map (element inner (ScalarOf BytesKind)) (value_payloads (Repeated false) (value_type_of kinds.Bytes) p) ≡ map (λ b. ScalarValue (Bytes b)) (picked bytes_in own)
-bytes_each inner (Flat (Len bytes)) own h = ap (λ own. map (λ b. ScalarValue (Bytes b)) (picked bytes_in own)) (some_inside h)
-bytes_each inner p own h = absurd (none_some h)
+bytes_each inner (Flat (Len bytes)) own h = ap (λ own. map (λ b. ScalarValue (Bytes b)) (picked bytes_in own)) (same_Some _ _ h)
+bytes_each inner p own h = absurd (none-some _ h)
 
 joined_front : (y x : List ℕ) (bs : List (List ℕ)) → joined_to (Some (y ++ x)) bs ≡ option_map (λ z. y ++ z) (joined_to (Some x) bs)
 joined_front y x [] = refl
@@ -272,8 +273,8 @@ means_inside inner t bytes = MessageValue (inner (place_of t) (records_in (Flat 
 
 records_each : (inner : MeansInside) (t : RecordType) (p : Payload) (own : List Found) → found_in (kinds.Records t) p ≡ Some own →
     flat_map (element inner (MessageOf (place_of t))) (value_payloads (Repeated false) (value_type_of (kinds.Records t)) p) ≡ map (means_inside inner t) (picked record_in own)
-records_each inner t (Flat (Len bytes)) own h = ap (λ own. map (means_inside inner t) (picked record_in own)) (some_inside h)
-records_each inner t p own h = absurd (none_some h)
+records_each inner t (Flat (Len bytes)) own h = ap (λ own. map (means_inside inner t) (picked record_in own)) (same_Some _ _ h)
+records_each inner t p own h = absurd (none-some _ h)
 
 pub record Decoded (levels : ℕ) (t : RecordType) (bytes : List ℕ) (c : Content) : Type 0 where
   pub records : Records
@@ -284,11 +285,11 @@ pub record Decoded (levels : ℕ) (t : RecordType) (bytes : List ℕ) (c : Conte
   pub means : gathered (meaning record_schema inner (place_of t) (items records)) ≡ c
 
 option_inside : {A B : Type 0} (f : A → B) (o : Option A) (y : B) → option_map f o ≡ Some y → (x : A) × (o ≡ Some x) × (f x ≡ y)
-option_inside f None y h = absurd (none_some h)
-option_inside f (Some x) y h = (x, refl, some_inside h)
+option_inside f None y h = absurd (none-some _ h)
+option_inside f (Some x) y h = (x, refl, same_Some _ _ h)
 
 pub decoded_parts : (levels : ℕ) (t : RecordType) (bytes : List ℕ) (c : Content) → nested_decoded levels t bytes ≡ Some c → Decoded levels t bytes c
-decoded_parts zero t bytes c h = absurd (none_some h)
+decoded_parts zero t bytes c h = absurd (none-some _ h)
 decoded_parts (suc k) t bytes c h =
     let (d, decoded, gathers) = option_inside gathered (read bytes >>= λ rs. guard (allows record_schema k (place_of t) (items rs)) (meaning record_schema k (place_of t) (items rs))) c h in
     let (rs, is, guarded) = bind_ok (λ rs. guard (allows record_schema k (place_of t) (items rs)) (meaning record_schema k (place_of t) (items rs))) (read bytes) d decoded in
@@ -297,7 +298,7 @@ decoded_parts (suc k) t bytes c h =
 
 nested_means : (levels : ℕ) (t : RecordType) (bytes : List ℕ) (c : Content) → nested_decoded levels t bytes ≡ Some c → value_gathered (means_inside (below record_schema levels) t bytes) ≡ MessageValue c
 unfolding below
-nested_means zero t bytes c h = absurd (none_some h)
+nested_means zero t bytes c h = absurd (none-some _ h)
 nested_means (suc k) t bytes c h =
     let d = decoded_parts (suc k) t bytes c h in
     let same : k ≡ d.inner = omega (arith, d.left) in
@@ -306,11 +307,11 @@ nested_means (suc k) t bytes c h =
     ∙ ap MessageValue d.means
 
 all_nested : (levels : ℕ) (t : RecordType) (bodies : List (List ℕ)) (cs : List Content) → all_decoded levels t bodies ≡ Some cs → values_gathered (values_from (map (means_inside (below record_schema levels) t) bodies)) ≡ values_from (map MessageValue cs)
-all_nested levels t [] cs h = ap (λ cs. values_from (map MessageValue cs)) (some_inside h)
+all_nested levels t [] cs h = ap (λ cs. values_from (map MessageValue cs)) (same_Some _ _ h)
 all_nested levels t (b ∷ bodies) cs h =
     let (c, one, rest) = bind_ok (λ c. all_decoded levels t bodies >>= λ cs. Some (c ∷ cs)) (nested_decoded levels t b) cs h in
     let (ds, more, whole) = bind_ok (λ cs. Some (c ∷ cs)) (all_decoded levels t bodies) cs rest in
-    ap₂ in_front_of (nested_means levels t b c one) (all_nested levels t bodies ds more) ∙ ap (λ cs. values_from (map MessageValue cs)) (some_inside whole)
+    ap₂ in_front_of (nested_means levels t b c one) (all_nested levels t bodies ds more) ∙ ap (λ cs. values_from (map MessageValue cs)) (same_Some _ _ whole)
 
 pub records_mean : (levels : ℕ) (t : RecordType) (ps : List Payload) (xs : List Found) (cs : List Content) → all_in (kinds.Records t) ps ≡ Some xs → all_decoded levels t (picked record_in xs) ≡ Some cs →
     option_map value_gathered (field_value (below record_schema levels) (Repeated false) (value_type_of (kinds.Records t)) (flat_map (value_payloads (Repeated false) (value_type_of (kinds.Records t))) ps)) ≡ present_list (values_from (map MessageValue cs))

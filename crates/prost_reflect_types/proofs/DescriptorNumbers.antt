@@ -2,6 +2,7 @@
 use Rattle.std.proofs.Common.{◌≡◌, ℕ, Bool, true, false, cond, ◌||◌, List, [], ◌∷◌, ◌++◌, map, filter, flat_map, Option, Some, None, option_map, nat_eq, nat_le, refl, ap, ap₂, sym, ◌∙◌}
 use Rattle.std.proofs.lemmas.Bool.{eqb-true}
 use Rattle.std.specs.List.{list_any}
+use Rattle.std.proofs.lemmas.Option.{same_Some}
 use Rattle.prost_reflect_wire.specs.Varint.{◌>>=◌, guard}
 use Rattle.prost_reflect_wire.specs.Record.{Payload, Record, payload_levels}
 use Rattle.prost_reflect_wire.specs.Schema.{Field, field_of, is_sibling, known}
@@ -16,7 +17,7 @@ use Rattle.prost_reflect_types.specs.DescriptorReading.{Found, kind_at, found_in
 use Rattle.prost_reflect_types.specs.declared.table.RecordType.{RecordType}
 use Rattle.prost_reflect_types.specs.declared.table.FieldKind.{FieldKind}
 use Rattle.prost_reflect_types.specs.declared.table.FieldKind.TheVariants as kinds
-use Rattle.prost_reflect_wire.proofs.Sound.{some_inside, bind_ok}
+use Rattle.prost_reflect_wire.proofs.Sound.{bind_ok}
 use Rattle.prost_reflect_laws.proofs.Means.{below}
 use Rattle.prost_reflect_laws.proofs.StoredSound.{no_sibling}
 use Rattle.prost_reflect_laws.proofs.ByNumber.{block_payloads, numbered_records, values_of_block, filter_values, after_none}
@@ -64,7 +65,7 @@ pub first_record : (levels : ℕ) (rs : List (ℕ × FieldKind)) (r : Record) (r
 first_record levels rs r records fields h =
     let (own, f, rest) = bind_ok (λ own. found_in_records levels rs records >>= λ others. Some (under r.number own ++ others)) (found_in_record levels rs r) fields h in
     let (more, o, whole) = bind_ok (λ others. Some (under r.number own ++ others)) (found_in_records levels rs records) fields rest in
-    record { own = own; more = more; first = f; others = o; whole = sym (some_inside whole) }
+    record { own = own; more = more; first = f; others = o; whole = sym (same_Some _ _ whole) }
 
 -- a record of a known number has what its kind finds
 pub known_found : (levels : ℕ) (rs : List (ℕ × FieldKind)) (r : Record) (kind : FieldKind) (own : List Found) → kind_at rs r.number ≡ Some kind → found_in_record levels rs r ≡ Some own → found_in kind r.payload ≡ Some own
@@ -78,7 +79,7 @@ unknown_found levels rs r own unknown h =
 
 found_numbered : (levels : ℕ) (rs : List (ℕ × FieldKind)) (n : ℕ) (kind : FieldKind) → kind_at rs n ≡ Some kind → (records : List Record) (fields : List (ℕ × Found)) → found_in_records levels rs records ≡ Some fields →
     all_in kind (numbered n records) ≡ Some (at_number (λ x. Some x) n fields)
-found_numbered levels rs n kind known [] fields h = ap (λ fields. Some (at_number (λ x. Some x) n fields)) (some_inside h)
+found_numbered levels rs n kind known [] fields h = ap (λ fields. Some (at_number (λ x. Some x) n fields)) (same_Some _ _ h)
 found_numbered levels rs n kind known (r ∷ records) fields h =
     let f = first_record levels rs r records fields h in
     go (nat_eq r.number n) refl f.own f.more f.first (found_numbered levels rs n kind known records f.more f.others)

@@ -5,6 +5,7 @@ use Rattle.std.proofs.lemmas.Int.{to_z-of_z}
 use Rattle.std.proofs.Math.Facts.{sfits_to_z}
 use Rattle.std.specs.Str.{is_utf8}
 use Rattle.std.proofs.lemmas.Bool.{le-leb}
+use Rattle.std.proofs.lemmas.Option.{same_Some, none-some}
 use Rattle.prost_reflect_wire.specs.declared.error.DecodeError.{DecodeError}
 use Rattle.prost_reflect_wire.specs.declared.error.DecodeError.TheVariants as errors
 use Rattle.prost_reflect_wire.specs.declared.key.WireType.{WireType}
@@ -17,13 +18,13 @@ use Rattle.prost_reflect_wire.specs.Varint.{◌>>=◌, guard}
 use Rattle.prost_reflect_wire.specs.Record.{Plain, Var, Record, record_at, Flat, body_of, payload_levels}
 use Rattle.prost_reflect_wire.specs.Front.{KeyFront, VarintFront, DelimitedFront, RecordFront, KeyFault, VarintFault}
 use Rattle.prost_reflect_wire.specs.Scalar.{Int32, low_32, low_i32}
-use Rattle.prost_reflect_wire.specs.Schema.{Schema, Field}
-use Rattle.prost_reflect_wire.specs.Fault.{Place, OfType, Stands, Here, Comes, field_at, ElementFault, ElementEnds, ElementPasses, StandsInMessage, ValueFault, PackedNext, TextNext, takes, is_map}
+use Rattle.prost_reflect_wire.specs.Schema.{Schema, Field, is_map}
+use Rattle.prost_reflect_wire.specs.Fault.{Place, OfType, Stands, Here, Comes, field_at, ElementFault, ElementEnds, ElementPasses, StandsInMessage, ValueFault, PackedNext, TextNext, takes}
 use Rattle.prost_reflect_wire.specs.Unknown.{SkipsValue}
 use Rattle.prost_reflect_types.specs.DescriptorTable.{rows, place_of, form_of, value_type_of, field_of_row, record_schema}
 use Rattle.prost_reflect_wire.specs.Decoding.{FieldFault}
 use Rattle.prost_reflect_types.specs.DescriptorReading.{Found, FoundNumber, Fields, FieldRead, DelimitedFault, PackedRead, kind_at, found_in, found_in_record, found_in_records, number_in_plain, under, found_at, all_found}
-use Rattle.prost_reflect_wire.proofs.Sound.{some_inside, bind_ok}
+use Rattle.prost_reflect_wire.proofs.Sound.{bind_ok}
 use Rattle.prost_reflect_wire.proofs.Steps.{map_append}
 use Rattle.prost_reflect_laws.proofs.KindsAllowed.{element_name}
 use Rattle.prost_reflect_wire.proofs.PlainFronts.{varint_plain}
@@ -81,9 +82,6 @@ pub packed_fault : (n : ℕ) (old new : List (ℕ × Found)) (e : DecodeError) (
 packed_fault n old new e body rest s some f = fault_behind wires.Varint e s.plains body rest s.front (element_fault e rest some f)
 
 -- WHAT KEEPS A FIELD FROM BEING READ
-
-some_none : {n : ℕ} → ◌≡◌ {A = Option ℕ} None (Some n) → ⊥
-some_none e = cc
 
 field_comes : (schema : Schema) (e : DecodeError) (place : Place) (n : ℕ) (w : WireType) (rest : List ℕ) (f : Field) → KeyFront n w place.bytes rest → field_at schema place.inside n ≡ Some f →
     (w ≡ wires.EndGroup → place.open_group ≢ Some n) → FieldFault e f w rest → Comes schema e place
@@ -143,13 +141,13 @@ found_append : (levels : ℕ) (rs : List (ℕ × FieldKind)) (records : List Rec
     found_in_records levels rs records ≡ Some fields → found_in_record levels rs r ≡ Some own → found_in_records levels rs (records ++ r ∷ []) ≡ Some (fields ++ under r.number own)
 found_append levels rs [] r fields own h g =
     ap (λ (o : Option (List Found)). o >>= λ own. Some (under r.number own ++ [])) g
-    ∙ ap Some (append-nil (under r.number own) ∙ ap (λ l. l ++ under r.number own) (some_inside h))
+    ∙ ap Some (append-nil (under r.number own) ∙ ap (λ l. l ++ under r.number own) (same_Some _ _ h))
 found_append levels rs (q ∷ records) r fields own h g =
     let (first, f, rest) = bind_ok (λ own. found_in_records levels rs records >>= λ others. Some (under q.number own ++ others)) (found_in_record levels rs q) fields h in
     let (others, o, whole) = bind_ok (λ others. Some (under q.number first ++ others)) (found_in_records levels rs records) fields rest in
     ap (λ (o : Option (List Found)). o >>= λ own. found_in_records levels rs (records ++ r ∷ []) >>= λ others. Some (under q.number own ++ others)) f
     ∙ ap (λ (o : Option (List (ℕ × Found))). o >>= λ others. Some (under q.number first ++ others)) (found_append levels rs records r others own o g)
-    ∙ ap Some (sym (append_assoc (under q.number first) others (under r.number own)) ∙ ap (λ l. l ++ under r.number own) (some_inside whole))
+    ∙ ap Some (sym (append_assoc (under q.number first) others (under r.number own)) ∙ ap (λ l. l ++ under r.number own) (same_Some _ _ whole))
 
 module _ (levels : ℕ) (t : RecordType) (fields : List (ℕ × Found)) (body mid : List ℕ) (done : Fields levels t fields body mid) where
   one_more : (r : Record) (rest : List ℕ) (own : List Found) → RecordFront r mid rest → found_in_record levels (rows t) r ≡ Some own → Fields levels t (fields ++ under r.number own) body rest
@@ -187,7 +185,7 @@ module _ (levels : ℕ) (t : RecordType) (fields : List (ℕ × Found)) (body mi
   no_key e some f = behind e (key_stands record_schema (record Here_at { bytes = mid }) e f (λ none. absurd (some none)))
 
   pub no_unknown : (e : DecodeError) (n : ℕ) (w : WireType) (after : List ℕ) → KeyFront n w mid after → None ≡ kind_at (rows t) n → ValueFault e n w levels after → StandsInMessage record_schema (place_of t) levels e body
-  no_unknown e n w after key unknown f = behind e (value_stands record_schema (record Here_at { bytes = mid }) e n w after (unknown_field t n (sym unknown)) key (λ _ same. some_none same) f)
+  no_unknown e n w after key unknown f = behind e (value_stands record_schema (record Here_at { bytes = mid }) e n w after (unknown_field t n (sym unknown)) key (λ _ same. none-some _ same) f)
 
   pub no_known : (e : DecodeError) (n : ℕ) (w : WireType) (after : List ℕ) (kind : FieldKind) → KeyFront n w mid after → Some kind ≡ kind_at (rows t) n → FieldFault e (field_of_row (n, kind)) w after → StandsInMessage record_schema (place_of t) levels e body
-  no_known e n w after kind key known f = behind e (field_stands record_schema e (record Here_at { bytes = mid }) n w after (field_of_row (n, kind)) key (known_field t n kind (sym known)) (λ _. some_none) f)
+  no_known e n w after kind key known f = behind e (field_stands record_schema e (record Here_at { bytes = mid }) n w after (field_of_row (n, kind)) key (known_field t n kind (sym known)) (λ _. none-some _) f)

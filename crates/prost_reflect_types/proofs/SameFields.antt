@@ -11,11 +11,11 @@ use Rattle.std.specs.Cmp.{signed_Decides, booleans_Decides}
 use Rattle.std.proofs.Math.Bool.{beq}
 use Rattle.std.proofs.lemmas.Cmp.{nat_list_eq_equiv}
 use Rattle.std.proofs.lemmas.List.{take_all}
+use Rattle.std.proofs.lemmas.Bool.{and_parts, and_from}
 use Rattle.prost_reflect_wire.specs.Scalar.{Boolean, I32, Text, Bytes}
 use Rattle.prost_reflect_wire.specs.Content.{Content, Value, ScalarValue, MessageValue, ListValue, NoValues, Item, values_from}
 use Rattle.prost_reflect_wire.specs.Meaning.{present_list}
 use Rattle.prost_reflect_types.specs.DescriptorViews.{of_text, of_number, of_flag, of_bytes, of_texts, of_numbers, of_records}
-use Rattle.prost_reflect_wire.proofs.Deeper.{and_both, both_true}
 
 -- OPTIONS AND LISTS
 
@@ -30,8 +30,8 @@ pointwise_agree E view each [] [] = (λ _. refl, λ _. refl)
 pointwise_agree E view each [] (y ∷ ys) = (λ yes. absurd (true≢false (sym yes)), λ e. cc)
 pointwise_agree E view each (x ∷ xs) [] = (λ yes. absurd (true≢false (sym yes)), λ e. cc)
 pointwise_agree E view each (x ∷ xs) (y ∷ ys) = (
-  λ yes. let (a, b) = and_both (E x y) (pointwise E xs ys) yes in ap₂ (λ (v : Value) (vs : List Value). v ∷ vs) ((each x y).0 a) ((pointwise_agree E view each xs ys).0 b),
-  λ e. let h : view x ≡ view y = cc in let t : map view xs ≡ map view ys = cc in both_true ((each x y).1 h) ((pointwise_agree E view each xs ys).1 t),
+  λ yes. let (a, b) = and_parts (E x y) (pointwise E xs ys) yes in ap₂ (λ (v : Value) (vs : List Value). v ∷ vs) ((each x y).0 a) ((pointwise_agree E view each xs ys).0 b),
+  λ e. let h : view x ≡ view y = cc in let t : map view xs ≡ map view ys = cc in and_from _ _ ((each x y).1 h) ((pointwise_agree E view each xs ys).1 t),
 )
 
 values_same : (vs ws : List Value) → values_from vs ≡ values_from ws → vs ≡ ws

@@ -1,13 +1,12 @@
 -- Two records of a type hold the same exactly where each field does.
 use Rattle.std.proofs.Common.{◌≡◌, ◌↔◌, ℕ, Bool, true, false, cond, not, ◌&&◌, [], ◌∷◌, Option, Some, None, IsTrue, nat_eq, refl, sym, ap, ◌∙◌}
 use Rattle.std.specs.Bool.{⊤}
-use Rattle.std.proofs.lemmas.Bool.{eq-eqb, eqb-true}
+use Rattle.std.proofs.lemmas.Bool.{eq-eqb, eqb-true, and_parts}
 use Rattle.prost_reflect_wire.specs.Content.{Content, ContentOf, Entries, Value, entries_of, then_value, value_at}
 use Rattle.prost_reflect_wire.specs.ContentEquality.{content_eq, content_same, content_refl}
 use Rattle.prost_reflect_types.specs.DescriptorTable.{place_of, record_schema}
 use Rattle.prost_reflect_types.specs.DescriptorViews.{entries_from, record_of}
 use Rattle.prost_reflect_types.specs.declared.table.RecordType.{RecordType}
-use Rattle.prost_reflect_wire.proofs.Deeper.{and_both}
 use Rattle.prost_reflect_types.proofs.RecordSlots.{Slots}
 
 -- field by field, behind what is known of those before
@@ -39,7 +38,7 @@ aligned (x ∷ xs) (y ∷ ys) = nat_eq x.0 y.0 && (absent x.0 xs && (absent x.0 
 
 value_absent : (n : ℕ) (xs : Slots) → absent n xs ≡ true → value_at n (entries_from xs) ≡ None
 value_absent n [] h = refl
-value_absent n (x ∷ xs) h = go x.1 (nat_eq x.0 n) refl (and_both (not (nat_eq x.0 n)) (absent n xs) h).0 (value_absent n xs (and_both (not (nat_eq x.0 n)) (absent n xs) h).1)
+value_absent n (x ∷ xs) h = go x.1 (nat_eq x.0 n) refl (and_parts (not (nat_eq x.0 n)) (absent n xs) h).0 (value_absent n xs (and_parts (not (nat_eq x.0 n)) (absent n xs) h).1)
   where
     go : (o : Option Value) (b : Bool) → nat_eq x.0 n ≡ b → not (nat_eq x.0 n) ≡ true → value_at n (entries_from xs) ≡ None → value_at n (then_value x.0 o (entries_from xs)) ≡ None
     go None b is other rest = rest
@@ -59,9 +58,9 @@ each_same [] [] P al e p = p
 each_same [] (y ∷ ys) P al e p = cc
 each_same (x ∷ xs) [] P al e p = cc
 each_same (x ∷ xs) (y ∷ ys) P al e p =
-    let (number, rest) = and_both (nat_eq x.0 y.0) _ al in
-    let (mine, others) = and_both (absent x.0 xs) _ rest in
-    let (yours, more) = and_both (absent x.0 ys) _ others in
+    let (number, rest) = and_parts (nat_eq x.0 y.0) _ al in
+    let (mine, others) = and_parts (absent x.0 xs) _ rest in
+    let (yours, more) = and_parts (absent x.0 ys) _ others in
     let here : then_value x.0 x.1 (entries_from xs) ≡ then_value x.0 y.1 (entries_from ys) = e ∙ ap (λ n. then_value n y.1 (entries_from ys)) (sym (eqb-true x.0 y.0 number)) in
     let first : x.1 ≡ y.1 = sym (value_here x.0 x.1 (entries_from xs) (value_absent x.0 xs mine)) ∙ ap (value_at x.0) here ∙ value_here x.0 y.1 (entries_from ys) (value_absent x.0 ys yours) in
     each_same xs ys (P × (x.1 ≡ y.1)) more (behind_same x.0 x.1 (entries_from xs) (entries_from ys) (here ∙ ap (λ o. then_value x.0 o (entries_from ys)) (sym first))) (p, first)
@@ -71,8 +70,8 @@ all_same [] [] P al s = (s, refl)
 all_same [] (y ∷ ys) P al s = absurd s
 all_same (x ∷ xs) [] P al s = absurd s
 all_same (x ∷ xs) (y ∷ ys) P al s =
-    let (number, rest) = and_both (nat_eq x.0 y.0) _ al in
-    let more = (and_both (absent x.0 ys) _ (and_both (absent x.0 xs) _ rest).1).1 in
+    let (number, rest) = and_parts (nat_eq x.0 y.0) _ al in
+    let more = (and_parts (absent x.0 ys) _ (and_parts (absent x.0 xs) _ rest).1).1 in
     let both = all_same xs ys (P × (x.1 ≡ y.1)) more s in
     (both.0.0, ap (λ n. then_value n x.1 (entries_from xs)) (eqb-true x.0 y.0 number) ∙ ap (λ o. then_value y.0 o (entries_from xs)) both.0.1 ∙ ap (then_value y.0 y.1) both.1)
 

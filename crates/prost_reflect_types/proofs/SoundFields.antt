@@ -4,7 +4,7 @@ use Rattle.std.specs.Bool.{⊤}
 use Rattle.std.specs.declared.alloc.Global.{Global}
 use Rattle.std.proofs.lemmas.Str.{IsUtf8-string_bytes, is_utf8-from_IsUtf8}
 use Rattle.std.specs.Str.{is_utf8}
-use Rattle.std.proofs.lemmas.Bool.{eq-eqb}
+use Rattle.std.proofs.lemmas.Bool.{eq-eqb, and_from}
 use Rattle.prost_reflect_wire.specs.Varint.{are_bytes}
 use Rattle.prost_reflect_wire.specs.Scalar.{I32, Text, in_i32}
 use Rattle.prost_reflect_wire.specs.Schema.{MessageOf}
@@ -17,7 +17,6 @@ use Rattle.prost_reflect_types.specs.DescriptorViews.{of_text, of_number, of_fla
 use Rattle.prost_reflect_types.specs.DescriptorSound.{sound_test, RecordSound, FieldSound}
 use Rattle.prost_reflect_types.specs.declared.table.FieldKind.TheVariants as kinds
 use Rattle.prost_reflect_types.specs.declared.table.RecordType.{RecordType}
-use Rattle.prost_reflect_wire.proofs.Deeper.{both_true}
 
 pub text_valid : (t : String Global) → is_utf8 (string_bytes t) ≡ true
 text_valid t = is_utf8-from_IsUtf8 (string_bytes t) (IsUtf8-string_bytes t)
@@ -47,7 +46,7 @@ number_absent o is = subst (λ o. FieldSound kinds.Number (of_number o)) (sym is
 
 raw_here : (b : Vec ℕ Global) → are_bytes b.items ≡ true → FieldSound kinds.Bytes (of_bytes (Some b))
 unfolding of_bytes
-raw_here b h = record { fits = both_true h refl; nonempty = refl; says = refl; passes = refl; types = (tt, tt); order = refl; whole = refl }
+raw_here b h = record { fits = and_from _ _ h refl; nonempty = refl; says = refl; passes = refl; types = (tt, tt); order = refl; whole = refl }
 
 pub raw_sound : (o : Option (Vec ℕ Global)) (b : Vec ℕ Global) (payload : List ℕ) → o ≡ Some b → payload ≡ b.items → are_bytes payload ≡ true → FieldSound kinds.Bytes (of_bytes o)
 raw_sound o b payload is e h = subst (λ o. FieldSound kinds.Bytes (of_bytes o)) (sym is) (raw_here b (ap are_bytes (sym e) ∙ h))
@@ -67,7 +66,7 @@ texts_sound texts = go texts.items
   where
     fits : (ts : List (String Global)) → elements_valid (value_type_of kinds.Texts).kind (values_from (map text_value ts)) ≡ true
     fits [] = refl
-    fits (t ∷ ts) = both_true (text_valid t) (fits ts)
+    fits (t ∷ ts) = and_from _ _ (text_valid t) (fits ts)
 
     passes : (ts : List (String Global)) → values_pass sound_test (values_from (map text_value ts)) ≡ true
     passes [] = refl
@@ -102,7 +101,7 @@ numbers_sound numbers = go numbers.items
   where
     fits : (ts : List ℤ) → InRange ts → elements_valid (value_type_of kinds.Numbers).kind (values_from (map number_value ts)) ≡ true
     fits [] h = refl
-    fits (t ∷ ts) h = both_true h.0 (fits ts h.1)
+    fits (t ∷ ts) h = and_from _ _ h.0 (fits ts h.1)
 
     passes : (ts : List ℤ) → values_pass sound_test (values_from (map number_value ts)) ≡ true
     passes [] = refl
@@ -138,11 +137,11 @@ records_sound t = go
 
     passes : (cs : List Content) → AllSound t cs → values_pass sound_test (values_from (map MessageValue cs)) ≡ true
     passes [] h = refl
-    passes (c ∷ cs) h = both_true h.0.passes (passes cs h.1)
+    passes (c ∷ cs) h = and_from _ _ h.0.passes (passes cs h.1)
 
     order : (cs : List Content) → AllSound t cs → values_ordered (values_from (map MessageValue cs)) ≡ true
     order [] h = refl
-    order (c ∷ cs) h = both_true h.0.order (order cs h.1)
+    order (c ∷ cs) h = and_from _ _ h.0.order (order cs h.1)
 
     types : (cs : List Content) → AllSound t cs → ValuesTyped record_schema (Some (MessageOf (place_of t))) (values_from (map MessageValue cs))
     types [] h = tt

@@ -1,16 +1,16 @@
 -- Descriptor records can be read back.
-use Rattle.std.proofs.Common.{◌≡◌, ℕ, ◌≤◌, ◌<◌, ◌^◌, Bool, true, false, not, ◌&&◌, ◌||◌, List, [], ◌∷◌, length, nat_eq, nat_lt, Option, Some, None, refl, sym, ap, ap₂, ◌∙◌, subst}
+use Rattle.std.proofs.Common.{◌≡◌, ℕ, ◌≤◌, ◌<◌, ◌^◌, Bool, true, not, ◌&&◌, List, [], ◌∷◌, length, nat_lt, Option, Some, None, refl, sym, ap, ap₂, ◌∙◌, subst}
 use Rattle.std.specs.Bool.{⊤}
-use Rattle.std.specs.List.{list_any}
 use Rattle.std.specs.Option.{option_map}
 use Rattle.std.specs.Str.{is_utf8, chars}
-use Rattle.prost_reflect_wire.specs.Schema.{Field, Schema, known, field_of, is_sibling, same_oneof, passes, schema_valid}
-use Rattle.prost_reflect_wire.specs.Content.{Content, ContentOf, Entries, NoEntries, Stored, Unknown, Value, then_value, comes_before, entries_ordered}
+use Rattle.std.proofs.lemmas.Bool.{and_parts, and_from}
+use Rattle.prost_reflect_wire.specs.Schema.{Field, Schema, known, field_of, is_sibling, passes, schema_valid}
+use Rattle.prost_reflect_wire.specs.Content.{Content, ContentOf, Entries, Stored, Value, then_value, comes_before, entries_ordered}
 use Rattle.prost_reflect_wire.specs.Grammar.{LEVEL_LIMIT}
 use Rattle.prost_reflect_wire.specs.Meaning.{decoded}
 use Rattle.prost_reflect_wire.specs.Writing.{encoded}
 use Rattle.prost_reflect_wire.specs.Levels.{levels}
-use Rattle.prost_reflect_wire.specs.Typing.{fit_test, alone_test, filled_test, default_test, entries_pass, has_value_of, is_alone, value_valid, is_empty_of, is_stored_default, kind_for, EntriesTyped, ValueTyped, WellTyped}
+use Rattle.prost_reflect_wire.specs.Typing.{fit_test, alone_test, filled_test, default_test, entries_pass, is_alone, value_valid, is_empty_value, is_stored_default, kind_for, EntriesTyped, ValueTyped, WellTyped}
 use Rattle.prost_reflect_laws.specs.Laws.{Writable}
 use Rattle.prost_reflect_types.specs.DescriptorTable.{rows, place_of, field_of_row, record_schema}
 use Rattle.prost_reflect_types.specs.DescriptorMeaning.{gathered, entries_gathered, record_decoded}
@@ -18,32 +18,10 @@ use Rattle.prost_reflect_types.specs.DescriptorViews.{entries_from, record_of}
 use Rattle.prost_reflect_types.specs.DescriptorSound.{sound_test, RecordSound, ValueSound, FieldSound}
 use Rattle.prost_reflect_types.specs.declared.table.FieldKind.{FieldKind}
 use Rattle.prost_reflect_types.specs.declared.table.RecordType.{RecordType}
-use Rattle.prost_reflect_wire.proofs.Deeper.{and_both, both_true}
 use Rattle.prost_reflect_laws.proofs.Everywhere.{both_tests, both_parts}
 use Rattle.prost_reflect_laws.proofs.RoundTrip.{written_decoded}
+use Rattle.prost_reflect_laws.proofs.StoredSound.{no_sibling, no_value}
 use Rattle.prost_reflect_types.proofs.RecordSlots.{Slots, AllFound, SameNumbers, rows_found}
-
--- NO ONEOFS
-
-no_sibling : (fields : List Field) (f : Field) (m : ℕ) → f.oneof ≡ None → is_sibling fields f m ≡ false
-no_sibling fields f m none = ap (λ b. not (nat_eq m f.number) && b) (go fields) ∙ last (not (nat_eq m f.number))
-  where
-    last : (b : Bool) → (b && false) ≡ false
-    last true = refl
-    last false = refl
-
-    apart : (o : Option ℕ) → same_oneof o None ≡ false
-    apart None = refl
-    apart (Some a) = refl
-
-    go : (gs : List Field) → list_any (λ g. nat_eq g.number m && same_oneof g.oneof f.oneof) gs ≡ false
-    go [] = refl
-    go (g ∷ gs) = ap₂ (λ o (b : Bool). (nat_eq g.number m && same_oneof g.oneof o) || b) none (go gs) ∙ ap (λ b. (nat_eq g.number m && b) || false) (apart g.oneof) ∙ ap (λ b. b || false) (last (nat_eq g.number m))
-
-none_behind : (test : ℕ → Bool) (es : Entries) → ((m : ℕ) → test m ≡ false) → has_value_of test es ≡ false
-none_behind test NoEntries h = refl
-none_behind test (Stored n v es) h = ap₂ (λ a b. a || b) (h n) (none_behind test es h)
-none_behind test (Unknown n p es) h = none_behind test es h
 
 -- ENTRY BY ENTRY
 
@@ -68,7 +46,7 @@ FieldsSound (row ∷ rows) (slot ∷ slots) = FieldSound row.1 slot.1 × FieldsS
 
 before_rest : (n : ℕ) (xs : Slots) → above n xs ≡ true → comes_before n (entries_from xs) ≡ true
 before_rest n [] h = refl
-before_rest n (x ∷ xs) h = let (here, more) = and_both (nat_lt n x.0) (above n xs) h in go x.1 here (before_rest n xs more)
+before_rest n (x ∷ xs) h = let (here, more) = and_parts (nat_lt n x.0) (above n xs) h in go x.1 here (before_rest n xs more)
   where
     go : (o : Option Value) → nat_lt n x.0 ≡ true → comes_before n (entries_from xs) ≡ true → comes_before n (then_value x.0 o (entries_from xs)) ≡ true
     go None here more = more
@@ -76,15 +54,15 @@ before_rest n (x ∷ xs) h = let (here, more) = and_both (nat_lt n x.0) (above n
 
 stored_sound : (fields : List Field) (row : ℕ × FieldKind) (n : ℕ) (v : Value) (es : Entries) → field_of fields row.0 ≡ Some (field_of_row row) → row.0 ≡ n → ValueSound row.1 v → sound_test.stored fields n v es ≡ true
 stored_sound fields row n v es found same s = subst (λ n. sound_test.stored fields n v es ≡ true) same (
-    subst (λ o. (passes o (λ f. value_valid f v) && (is_alone fields o es && (not (passes o (λ f. is_empty_of f.form v)) && not (passes o (λ f. is_stored_default f v))))) ≡ true) (sym found)
-    (both_true s.fits (both_true (ap not (none_behind (is_sibling fields (field_of_row row)) es (λ m. no_sibling fields (field_of_row row) m refl))) (both_true (ap not s.nonempty) (ap not s.says)))))
+    subst (λ o. (passes o (λ f. value_valid f v) && (is_alone fields o es && (not (passes o (λ f. is_empty_value f.form v)) && not (passes o (λ f. is_stored_default f v))))) ≡ true) (sym found)
+    (and_from _ _ s.fits (and_from _ _ (ap not (no_value (is_sibling fields (field_of_row row)) es (λ m. no_sibling fields (field_of_row row) m refl))) (and_from _ _ (ap not s.nonempty) (ap not s.says)))))
 
 first_sound : (fields : List Field) (row : ℕ × FieldKind) (n : ℕ) (o : Option Value) (es : Entries) → field_of fields row.0 ≡ Some (field_of_row row) → row.0 ≡ n → FieldSound row.1 o → comes_before n es ≡ true → EntriesSound fields es → EntriesSound fields (then_value n o es)
 first_sound fields row n None es found same s before rest = rest
 first_sound fields row n (Some v) es found same s before rest = record {
-  passes = both_true (both_true (stored_sound fields row n v es found same s) s.passes) rest.passes;
+  passes = and_from _ _ (and_from _ _ (stored_sound fields row n v es found same s) s.passes) rest.passes;
   types = (subst (λ o. ValueTyped record_schema (kind_for o v) v) (sym (ap (field_of fields) (sym same) ∙ found)) s.types, rest.types);
-  order = both_true (both_true before s.order) rest.order;
+  order = and_from _ _ (and_from _ _ before s.order) rest.order;
   whole = ap₂ (λ (v : Value) (es : Entries). Stored n v es) s.whole rest.whole;
 }
 
@@ -93,7 +71,7 @@ all_sound fields [] [] found same up s = record { passes = refl; types = tt; ord
 all_sound fields [] (slot ∷ slots) found same up s = absurd same
 all_sound fields (row ∷ rows) [] found same up s = absurd same
 all_sound fields (row ∷ rows) (slot ∷ slots) found same up s =
-    let (here, more) = and_both (above slot.0 slots) (ascending slots) up in
+    let (here, more) = and_parts (above slot.0 slots) (ascending slots) up in
     first_sound fields row slot.0 slot.1 (entries_from slots) found.0 same.0 s.0 (before_rest slot.0 slots here) (all_sound fields rows slots found.1 same.1 more s.1)
 
 pub record_sound : (t : RecordType) (slots : Slots) → SameNumbers (rows t) slots → ascending slots ≡ true → FieldsSound (rows t) slots → RecordSound t (record_of t slots)

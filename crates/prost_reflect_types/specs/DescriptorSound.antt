@@ -2,7 +2,7 @@
 use Rattle.std.specs.Prelude.{◌≡◌, ⊤, true, false, ◌&&◌, Option, Some, None}
 use Rattle.prost_reflect_wire.specs.Content.{Content, Value, schema_of, type_of, ordered, value_ordered}
 use Rattle.prost_reflect_wire.specs.Schema.{Field}
-use Rattle.prost_reflect_wire.specs.Typing.{EntryTest, fit_test, alone_test, filled_test, default_test, everywhere, value_passes, value_valid, is_empty_of, is_stored_default, kind_for, Typed, ValueTyped}
+use Rattle.prost_reflect_wire.specs.Typing.{EntryTest, fit_test, alone_test, filled_test, default_test, everywhere, value_passes, value_valid, is_empty_value, is_stored_default, kind_for, Typed, ValueTyped}
 use Rattle.prost_reflect_types.specs.DescriptorTable.{place_of, record_schema, field_of_row}
 use Rattle.prost_reflect_types.specs.DescriptorMeaning.{gathered, value_gathered}
 use Rattle.prost_reflect_types.specs.declared.table.FieldKind.{FieldKind}
@@ -30,7 +30,7 @@ field_of_kind kind = field_of_row (0, kind)
 -- So is a value of a kind.
 pub record ValueSound (kind : FieldKind) (v : Value) : Type 0 where
   pub fits : value_valid (field_of_kind kind) v ≡ true
-  pub nonempty : is_empty_of (field_of_kind kind).form v ≡ false
+  pub nonempty : is_empty_value (field_of_kind kind).form v ≡ false
   pub says : is_stored_default (field_of_kind kind) v ≡ false
   pub passes : value_passes sound_test v ≡ true
   pub types : ValueTyped record_schema (kind_for (Some (field_of_kind kind)) v) v

@@ -2,7 +2,7 @@
 use Rattle.std.proofs.Common.{◌≡◌, List, [], ◌∷◌, refl, ap, ◌∙◌}
 use Rattle.prost_reflect_wire.specs.Record.{Record, Records, Payload, Flat, Group, items, before, body_of}
 
-items_before : (r : Record) (rest : Records) → items (before r rest) ≡ r ∷ items rest
+pub items_before : (r : Record) (rest : Records) → items (before r rest) ≡ r ∷ items rest
 items_before r rest = go r.payload
   where
     go : (p : Payload) → items (before (record { number = r.number; payload = p }) rest) ≡ record { number = r.number; payload = p } ∷ items rest

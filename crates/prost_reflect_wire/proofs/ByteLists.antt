@@ -1,12 +1,11 @@
 -- Elements of a list of bytes.
 use Rattle.std.proofs.Common.{◌≡◌, ℕ, suc, true, List, [], ◌∷◌, ◌++◌, get_or, nat_lt, refl, Fits, w8}
-use Rattle.std.proofs.lemmas.Bool.{lt-ltb, ltb-true}
+use Rattle.std.proofs.lemmas.Bool.{lt-ltb, ltb-true, and_parts, and_from}
 use Rattle.prost_reflect_wire.specs.Varint.{AreBytes, are_bytes}
-use Rattle.prost_reflect_wire.proofs.ListTests.{and_both, both_true}
 
 pub bytes_by_index : (bytes : List ℕ) → ((i : ℕ) → Fits w8 (get_or bytes i 0)) → are_bytes bytes ≡ true
 bytes_by_index [] h = refl
-bytes_by_index (b ∷ bytes) h = both_true (lt-ltb b 256 (let first = h 0 in first.fits)) (bytes_by_index bytes (λ i. h (suc i)))
+bytes_by_index (b ∷ bytes) h = and_from _ _ (lt-ltb b 256 (let first = h 0 in first.fits)) (bytes_by_index bytes (λ i. h (suc i)))
 
 pub bytes_below : (bytes : List ℕ) → ((i : ℕ) → Fits w8 (get_or bytes i 0)) → AreBytes bytes
 bytes_below [] h = tt
@@ -14,11 +13,11 @@ bytes_below (b ∷ bytes) h = ((let first = h 0 in first.fits), bytes_below byte
 
 pub bytes_test : (bytes : List ℕ) → AreBytes bytes → are_bytes bytes ≡ true
 bytes_test [] h = refl
-bytes_test (b ∷ bytes) h = both_true (lt-ltb b 256 h.0) (bytes_test bytes h.1)
+bytes_test (b ∷ bytes) h = and_from _ _ (lt-ltb b 256 h.0) (bytes_test bytes h.1)
 
 pub test_bytes : (bytes : List ℕ) → are_bytes bytes ≡ true → AreBytes bytes
 test_bytes [] h = tt
-test_bytes (b ∷ bytes) h = let (one, more) = and_both (nat_lt b 256) (are_bytes bytes) h in (ltb-true b 256 one, test_bytes bytes more)
+test_bytes (b ∷ bytes) h = let (one, more) = and_parts (nat_lt b 256) (are_bytes bytes) h in (ltb-true b 256 one, test_bytes bytes more)
 
 pub bytes_front : (front rest : List ℕ) → AreBytes (front ++ rest) → AreBytes front
 bytes_front [] rest h = tt

@@ -1,5 +1,6 @@
 -- What the readers of the wire refuse stands at the place where they read.
 use Rattle.std.proofs.Common.{◌≡◌, ◌≢◌, ℕ, List, [], ◌∷◌, ◌++◌, Option, Some, None, true, refl, sym, ap, subst, ◌∙◌, inl, inr, ◌<◌, ◌-◌, arith}
+use Rattle.std.proofs.lemmas.Option.{none-some}
 use Rattle.prost_reflect_wire.specs.declared.error.DecodeError.{DecodeError}
 use Rattle.prost_reflect_wire.specs.declared.error.DecodeError.TheVariants as errors
 use Rattle.prost_reflect_wire.specs.declared.key.WireType.{WireType}
@@ -9,7 +10,6 @@ use Rattle.prost_reflect_wire.specs.Schema.{Schema, Field}
 use Rattle.prost_reflect_wire.specs.Front.{KeyFront, RecordsFront, KeyFault, PlainFault}
 use Rattle.prost_reflect_wire.specs.Fault.{Place, OfNothing, field_at, opens_level, NextField, Comes, Stands, Here, Behind, InMessage, InGroup, InUnknown, InEntry, FieldPlace, StandsInField, StandsInValue, ValueComes, ValueFault}
 use Rattle.prost_reflect_wire.proofs.RecordFronts.{first_parts}
-use Rattle.prost_reflect_wire.proofs.Sound.{none_some}
 
 -- AT A KEY
 
@@ -130,7 +130,7 @@ key_stands_in_field errors.Key levels bytes f = inl f
 key_stands_in_field e levels bytes f = absurd f
 
 pub value_stands_in_field : (e : DecodeError) (levels n : ℕ) (w : WireType) (bytes rest : List ℕ) → KeyFront n w bytes rest → ValueFault e n w levels rest → StandsInField levels e bytes
-value_stands_in_field e levels n w bytes rest k (inl f) = inl (value_comes [] (FieldPlace levels bytes) e n w rest refl k (λ _. none_some) f)
+value_stands_in_field e levels n w bytes rest k (inl f) = inl (value_comes [] (FieldPlace levels bytes) e n w rest refl k (λ _. none-some _) f)
 value_stands_in_field e levels n w bytes rest k (inr f) = inr (inr (record { number = n; wire = w; rest = rest; key = k; behind = f }))
 
 pub value_stands_in_value : (e : DecodeError) (levels n : ℕ) (w : WireType) (bytes : List ℕ) → KeyFront n w (short_key n w ++ bytes) bytes → ValueFault e n w levels bytes → StandsInValue levels n w e bytes

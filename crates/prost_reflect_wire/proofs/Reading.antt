@@ -1,12 +1,11 @@
 -- What spells records is read as those records.
 use Rattle.std.proofs.Common.{◌≡◌, ℕ, zero, suc, ◌+◌, ◌*◌, ◌/◌, ◌%◌, ◌^◌, ◌<◌, ◌≤◌, Bool, true, ◌&&◌, List, [], ◌∷◌, ◌++◌, length, take, drop, Option, Some, None, nat_lt, refl, ap, sym, ◌∙◌, arith, append_assoc, append-nil, length-append}
 use Rattle.std.proofs.Math.Seq.{take-append_seam, drop-append_seam}
-use Rattle.std.proofs.lemmas.Bool.{lt-ltb, le-ltb, le-leb, eq-eqb}
+use Rattle.std.proofs.lemmas.Bool.{lt-ltb, le-ltb, le-leb, eq-eqb, and_from}
 use Rattle.prost_reflect_wire.specs.Varint.{AreDigits, digits_value, Varint, digits_at, varint_at, guard, ◌>>=◌, front_at}
 use Rattle.prost_reflect_wire.specs.Record.{Key, key_at, wire_code, plain_wire, wire_of, plain_at, Plain, Var, Fix64, Len, Fix32, SpellsPlain, Records, NoRecords, PlainRecord, GroupRecord, Spells, Body, body_at, after_key, close, read}
 use Rattle.prost_reflect_wire.specs.declared.key.WireType.{WireType}
 use Rattle.prost_reflect_wire.specs.declared.key.WireType.TheVariants as wires
-use Rattle.prost_reflect_wire.proofs.ListTests.{both_true}
 
 bind_some : {A B : Type 0} (f : A → Option B) {m : Option A} {x : A} → m ≡ Some x → (m >>= f) ≡ f x
 bind_some f e = ap (λ o. o >>= f) e
@@ -52,7 +51,7 @@ key_read n wire bytes tail r =
     let small : 8 * n + w < 2 ^ 32 = omega (arith, r.below, h) in
     bind_some (λ key. wire_of (key.0 % 8) >>= λ wire. guard (nat_lt key.0 (2 ^ 32) && nat_lt 0 (key.0 / 8)) (key.0 / 8, wire, key.1)) (varint_read (8 * n + w) bytes tail r.varint)
     ∙ bind_some (λ wire. guard (nat_lt (8 * n + w) (2 ^ 32) && nat_lt 0 ((8 * n + w) / 8)) ((8 * n + w) / 8, wire, tail)) (ap wire_of m ∙ wire_known wire)
-    ∙ guard_true ((8 * n + w) / 8, wire, tail) (both_true (lt-ltb (8 * n + w) (2 ^ 32) small) (lt-ltb 0 ((8 * n + w) / 8) (omega (arith, q, r.from_one))))
+    ∙ guard_true ((8 * n + w) / 8, wire, tail) (and_from _ _ (lt-ltb (8 * n + w) (2 ^ 32) small) (lt-ltb 0 ((8 * n + w) / 8) (omega (arith, q, r.from_one))))
     ∙ ap (λ (x : ℕ). Some (x, wire, tail)) q
 
 pub front_read : (n : ℕ) (front tail : List ℕ) → length front ≡ n → front_at n (front ++ tail) ≡ Some (front, tail)

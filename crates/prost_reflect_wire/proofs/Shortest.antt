@@ -1,12 +1,11 @@
 -- The short spelling spells.
 use Rattle.std.proofs.Common.{◌≡◌, ℕ, zero, suc, ◌+◌, ◌*◌, ◌/◌, ◌%◌, ◌^◌, ◌<◌, ◌≤◌, Bool, true, false, List, length, nat_lt, nat_eq, refl, arith, pow-suc, div-lt_iff_lt-mul, lit≤, lt_of_lt_of_le, ◌&&◌}
-use Rattle.std.proofs.lemmas.Bool.{ltb-true, ltb-false, eqb-true}
+use Rattle.std.proofs.lemmas.Bool.{ltb-true, ltb-false, eqb-true, and_parts}
 use Rattle.prost_reflect_wire.specs.Varint.{are_bytes, AreDigits, digits_value, Varint, short, short_within}
 use Rattle.prost_reflect_wire.specs.Record.{Key, wire_code, plain_wire, short_key, short_plain, short_body, Plain, Var, Fix64, Len, Fix32, SpellsPlain, Records, NoRecords, PlainRecord, GroupRecord, Spells, number_valid, plain_valid, valid}
 use Rattle.prost_reflect_wire.proofs.Reading.{wire_small, digits_cons}
 use Rattle.prost_reflect_wire.specs.declared.key.WireType.{WireType}
 use Rattle.prost_reflect_wire.specs.declared.key.WireType.TheVariants as wires
-use Rattle.prost_reflect_wire.proofs.ListTests.{and_both}
 
 record Short (more value : ℕ) (bytes : List ℕ) : Type 0 where
   digits : AreDigits bytes
@@ -35,23 +34,23 @@ short_varint v h =
 
 pub short_key_ok : (n : ℕ) (w : WireType) → number_valid n ≡ true → Key n w (short_key n w)
 short_key_ok n w h =
-    let (a, b) = and_both (nat_lt 0 n) (nat_lt n (2 ^ 29)) h in
+    let (a, b) = and_parts (nat_lt 0 n) (nat_lt n (2 ^ 29)) h in
     let below : n < 2 ^ 29 = ltb-true n (2 ^ 29) b in
     record { from_one = ltb-true 0 n a; below = below; varint = short_varint (8 * n + wire_code w) (omega (arith, below, wire_small w)) }
 
 pub short_plain_ok : (p : Plain) → plain_valid p ≡ true → SpellsPlain p (short_plain p)
 short_plain_ok (Var v) h = short_varint v (ltb-true v (2 ^ 64) h)
-short_plain_ok (Fix64 bytes) h = (eqb-true (length bytes) 8 (and_both (nat_eq (length bytes) 8) (are_bytes bytes) h).0, refl)
-short_plain_ok (Len body) h = (short (length body), short_varint (length body) (ltb-true (length body) (2 ^ 64) (and_both (nat_lt (length body) (2 ^ 64)) (are_bytes body) h).0), refl)
-short_plain_ok (Fix32 bytes) h = (eqb-true (length bytes) 4 (and_both (nat_eq (length bytes) 4) (are_bytes bytes) h).0, refl)
+short_plain_ok (Fix64 bytes) h = (eqb-true (length bytes) 8 (and_parts (nat_eq (length bytes) 8) (are_bytes bytes) h).0, refl)
+short_plain_ok (Len body) h = (short (length body), short_varint (length body) (ltb-true (length body) (2 ^ 64) (and_parts (nat_lt (length body) (2 ^ 64)) (are_bytes body) h).0), refl)
+short_plain_ok (Fix32 bytes) h = (eqb-true (length bytes) 4 (and_parts (nat_eq (length bytes) 4) (are_bytes bytes) h).0, refl)
 
 pub short_spells : (rs : Records) → valid rs ≡ true → Spells rs (short_body rs)
 short_spells NoRecords h = refl
 short_spells (PlainRecord n p rest) h =
-    let (a, b) = and_both (number_valid n) (plain_valid p && valid rest) h in
-    let (c, d) = and_both (plain_valid p) (valid rest) b in
+    let (a, b) = and_parts (number_valid n) (plain_valid p && valid rest) h in
+    let (c, d) = and_parts (plain_valid p) (valid rest) b in
     (short_key n (plain_wire p), short_plain p, short_body rest, short_key_ok n (plain_wire p) a, short_plain_ok p c, short_spells rest d, refl)
 short_spells (GroupRecord n inside rest) h =
-    let (a, b) = and_both (number_valid n) (valid inside && valid rest) h in
-    let (c, d) = and_both (valid inside) (valid rest) b in
+    let (a, b) = and_parts (number_valid n) (valid inside && valid rest) h in
+    let (c, d) = and_parts (valid inside) (valid rest) b in
     (short_key n wires.StartGroup, short_body inside, short_key n wires.EndGroup, short_body rest, short_key_ok n wires.StartGroup a, short_spells inside c, short_key_ok n wires.EndGroup a, short_spells rest d, refl)

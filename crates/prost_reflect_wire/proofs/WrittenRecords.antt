@@ -1,12 +1,11 @@
 -- Records are written one in front of another.
 use Rattle.std.proofs.Common.{◌≡◌, ◌<◌, ◌≤◌, ℕ, zero, suc, ◌-◌, ◌^◌, true, List, [], ◌∷◌, ◌++◌, length, get_or, drop, Result, Ok, Err, refl, sym, ap, ◌∙◌, arith, append_assoc, append-nil, drop-cons, OnOk}
-use Rattle.std.proofs.lemmas.Bool.{eq-eqb, lt-ltb}
+use Rattle.std.proofs.lemmas.Bool.{eq-eqb, lt-ltb, and_parts, and_from}
 use Rattle.prost_reflect_wire.specs.Varint.{are_bytes}
 use Rattle.prost_reflect_wire.specs.declared.error.EncodeError.{EncodeError}
 use Rattle.prost_reflect_wire.specs.Record.{record_at, Record, Payload, Fix64, Len, Fix32, Flat, Group, body_of, payload_wire, short_key, short_payload, spelled, valid, number_valid, payload_valid}
 use Rattle.prost_reflect_wire.specs.Front.{RecordFront}
 use Rattle.prost_reflect_wire.proofs.Shortest.{short_spells}
-use Rattle.prost_reflect_wire.proofs.Deeper.{and_both, both_true}
 
 abbrev Answer : Type 0
 Answer = Result (Unit {0}) EncodeError
@@ -21,24 +20,24 @@ pub spelled_more : (r : Record) (rs : List Record) → spelled (r ∷ rs) ≡ sp
 spelled_more r rs = spelled_first r.number r.payload rs ∙ ap (λ (l : List ℕ). l ++ spelled rs) (sym (spelled_first r.number r.payload [] ∙ append-nil (short_key r.number (payload_wire r.payload) ++ short_payload r.number r.payload)))
 
 pub valid_first : (n : ℕ) (p : Payload) (rs : List Record) → number_valid n ≡ true → payload_valid p ≡ true → valid (body_of rs) ≡ true → valid (body_of (record_at n p ∷ rs)) ≡ true
-valid_first n (Flat p) rs h g k = both_true h (both_true g k)
-valid_first n (Group inside) rs h g k = both_true h (both_true g k)
+valid_first n (Flat p) rs h g k = and_from _ _ h (and_from _ _ g k)
+valid_first n (Group inside) rs h g k = and_from _ _ h (and_from _ _ g k)
 
 pub valid_more : (r : Record) (rs : List Record) → valid (body_of (r ∷ [])) ≡ true → valid (body_of rs) ≡ true → valid (body_of (r ∷ rs)) ≡ true
 valid_more r rs h k = go r.payload h
   where
     go : (p : Payload) → valid (body_of (record_at r.number p ∷ [])) ≡ true → valid (body_of (record_at r.number p ∷ rs)) ≡ true
-    go (Flat p) h = let (a, b) = and_both _ _ h in both_true a (both_true (and_both _ _ b).0 k)
-    go (Group inside) h = let (a, b) = and_both _ _ h in both_true a (both_true (and_both _ _ b).0 k)
+    go (Flat p) h = let (a, b) = and_parts _ _ h in and_from _ _ a (and_from _ _ (and_parts _ _ b).0 k)
+    go (Group inside) h = let (a, b) = and_parts _ _ h in and_from _ _ a (and_from _ _ (and_parts _ _ b).0 k)
 
 pub fixed64_valid : (bytes : List ℕ) → length bytes ≡ 8 → are_bytes bytes ≡ true → payload_valid (Flat (Fix64 bytes)) ≡ true
-fixed64_valid bytes len small = both_true (eq-eqb (length bytes) 8 len) small
+fixed64_valid bytes len small = and_from _ _ (eq-eqb (length bytes) 8 len) small
 
 pub fixed32_valid : (bytes : List ℕ) → length bytes ≡ 4 → are_bytes bytes ≡ true → payload_valid (Flat (Fix32 bytes)) ≡ true
-fixed32_valid bytes len small = both_true (eq-eqb (length bytes) 4 len) small
+fixed32_valid bytes len small = and_from _ _ (eq-eqb (length bytes) 4 len) small
 
 pub delimited_valid : (bytes : List ℕ) → length bytes < 2 ^ 64 → are_bytes bytes ≡ true → payload_valid (Flat (Len bytes)) ≡ true
-delimited_valid bytes fits small = both_true (lt-ltb (length bytes) (2 ^ 64) fits) small
+delimited_valid bytes fits small = and_from _ _ (lt-ltb (length bytes) (2 ^ 64) fits) small
 
 pub on_ok : {P : Type 0} (r : Answer) → P → OnOk r P
 on_ok (Ok u) p = p

@@ -1,13 +1,14 @@
 -- Equality of records, and of unknown fields by what they store, as tests that decide it.
-use Rattle.std.specs.Prelude.{◌≡◌, ℕ, Bool, true, false, ◌&&◌, List, [], ◌∷◌, nat_eq, refl}
+use Rattle.std.specs.Prelude.{◌≡◌, ℕ, Bool, true, false, ◌&&◌, nat_eq, refl}
 use Rattle.std.proofs.Common.{sym, ap, ap₂, ◌∙◌, true≢false}
-use Rattle.std.specs.Cmp.{IsEquivalence, IsPartialEquivalence, both_ways, partial_equiv_from_equiv, on_per}
+use Rattle.std.specs.Cmp.{IsPartialEquivalence, partial_equiv_from_equiv, on_per}
 use Rattle.std.specs.Cmp.Lexicographic.{pointwise}
-use Rattle.std.proofs.lemmas.Bool.{eq-eqb, eqb-true}
+use Rattle.std.proofs.lemmas.Bool.{eq-eqb, eqb-true, and_parts, and_from}
 use Rattle.prost_reflect_wire.specs.Record.{Plain, Var, Fix64, Len, Fix32, Records, NoRecords, PlainRecord, GroupRecord, Record, record_at, Payload, Flat, Group, body_of}
 use Rattle.prost_reflect_wire.specs.declared.unknown.UnknownField.{UnknownField}
 use Rattle.prost_reflect_wire.specs.declared.unknown.UnknownFieldSet.{UnknownFieldSet}
 use Rattle.prost_reflect_wire.specs.declared.unknown.UnknownFieldValue.{UnknownFieldValue}
+use Rattle.prost_reflect_wire.specs.Deciding.{decided, text_decides, equivalence}
 use Rattle.prost_reflect_wire.specs.Unknown.{payload_of, record_of, records_of}
 
 abbrev pub plain_eq : Plain → Plain → Bool
@@ -41,58 +42,37 @@ value_eq v w = payload_eq (payload_of v) (payload_of w)
 abbrev pub set_eq : UnknownFieldSet → UnknownFieldSet → Bool
 set_eq s t = records_eq (body_of (records_of s)) (body_of (records_of t))
 
--- BOTH HOLD
-
-and_both : (a b : Bool) → (a && b) ≡ true → (a ≡ true) × (b ≡ true)
-and_both true b h = (refl, h)
-and_both false b h = absurd (true≢false (sym h))
-
-both_true : {a b : Bool} → a ≡ true → b ≡ true → (a && b) ≡ true
-both_true {b} e f = ap (λ c. c && b) e ∙ f
-
--- LISTS OF NUMBERS
-
-numbers_same : (x y : List ℕ) → pointwise nat_eq x y ≡ true → x ≡ y
-numbers_same [] [] h = refl
-numbers_same [] (b ∷ y) h = absurd (true≢false (sym h))
-numbers_same (a ∷ x) [] h = absurd (true≢false (sym h))
-numbers_same (a ∷ x) (b ∷ y) h = let (first, more) = and_both (nat_eq a b) (pointwise nat_eq x y) h in ap₂ (λ (n : ℕ) (l : List ℕ). n ∷ l) (eqb-true a b first) (numbers_same x y more)
-
-numbers_refl : (x : List ℕ) → pointwise nat_eq x x ≡ true
-numbers_refl [] = refl
-numbers_refl (a ∷ x) = both_true (eq-eqb a a refl) (numbers_refl x)
-
 -- RECORDS
 
 plain_same : (p q : Plain) → plain_eq p q ≡ true → p ≡ q
 plain_same (Var v) (Var w) h = ap Var (eqb-true v w h)
-plain_same (Fix64 x) (Fix64 y) h = ap Fix64 (numbers_same x y h)
-plain_same (Len x) (Len y) h = ap Len (numbers_same x y h)
-plain_same (Fix32 x) (Fix32 y) h = ap Fix32 (numbers_same x y h)
+plain_same (Fix64 x) (Fix64 y) h = ap Fix64 ((text_decides x y).0 h)
+plain_same (Len x) (Len y) h = ap Len ((text_decides x y).0 h)
+plain_same (Fix32 x) (Fix32 y) h = ap Fix32 ((text_decides x y).0 h)
 plain_same p q h = absurd (true≢false (sym h))
 
 plain_refl : (p : Plain) → plain_eq p p ≡ true
 plain_refl (Var v) = eq-eqb v v refl
-plain_refl (Fix64 x) = numbers_refl x
-plain_refl (Len x) = numbers_refl x
-plain_refl (Fix32 x) = numbers_refl x
+plain_refl (Fix64 x) = (text_decides x x).1 refl
+plain_refl (Len x) = (text_decides x x).1 refl
+plain_refl (Fix32 x) = (text_decides x x).1 refl
 
 pub records_same : (rs qs : Records) → records_eq rs qs ≡ true → rs ≡ qs
 records_same NoRecords NoRecords h = refl
 records_same (PlainRecord n p rs) (PlainRecord m q qs) h =
-    let (a, b) = and_both (nat_eq n m) (plain_eq p q && records_eq rs qs) h in
-    let (c, d) = and_both (plain_eq p q) (records_eq rs qs) b in
+    let (a, b) = and_parts (nat_eq n m) (plain_eq p q && records_eq rs qs) h in
+    let (c, d) = and_parts (plain_eq p q) (records_eq rs qs) b in
     ap₂ (λ (k : ℕ) (x : Plain). PlainRecord k x rs) (eqb-true n m a) (plain_same p q c) ∙ ap (PlainRecord m q) (records_same rs qs d)
 records_same (GroupRecord n i rs) (GroupRecord m j qs) h =
-    let (a, b) = and_both (nat_eq n m) (records_eq i j && records_eq rs qs) h in
-    let (c, d) = and_both (records_eq i j) (records_eq rs qs) b in
+    let (a, b) = and_parts (nat_eq n m) (records_eq i j && records_eq rs qs) h in
+    let (c, d) = and_parts (records_eq i j) (records_eq rs qs) b in
     ap₂ (λ (k : ℕ) (x : Records). GroupRecord k x rs) (eqb-true n m a) (records_same i j c) ∙ ap (GroupRecord m j) (records_same rs qs d)
 records_same rs qs h = absurd (true≢false (sym h))
 
 pub records_refl : (rs : Records) → records_eq rs rs ≡ true
 records_refl NoRecords = refl
-records_refl (PlainRecord n p rs) = both_true (eq-eqb n n refl) (both_true (plain_refl p) (records_refl rs))
-records_refl (GroupRecord n i rs) = both_true (eq-eqb n n refl) (both_true (records_refl i) (records_refl rs))
+records_refl (PlainRecord n p rs) = and_from _ _ (eq-eqb n n refl) (and_from _ _ (plain_refl p) (records_refl rs))
+records_refl (GroupRecord n i rs) = and_from _ _ (eq-eqb n n refl) (and_from _ _ (records_refl i) (records_refl rs))
 
 pub payload_same : (p q : Payload) → payload_eq p q ≡ true → p ≡ q
 payload_same (Flat p) (Flat q) h = ap Flat (plain_same p q h)
@@ -105,27 +85,19 @@ payload_refl (Group i) = records_refl i
 
 pub record_same : (r s : Record) → record_eq r s ≡ true → r ≡ s
 record_same r s h =
-    let (a, b) = and_both (nat_eq r.number s.number) (payload_eq r.payload s.payload) h in
+    let (a, b) = and_parts (nat_eq r.number s.number) (payload_eq r.payload s.payload) h in
     ap₂ record_at (eqb-true r.number s.number a) (payload_same r.payload s.payload b)
 
 pub record_refl : (r : Record) → record_eq r r ≡ true
-record_refl r = both_true (eq-eqb r.number r.number refl) (payload_refl r.payload)
+record_refl r = and_from _ _ (eq-eqb r.number r.number refl) (payload_refl r.payload)
 
 -- LAWS
 
--- a test that decides equality
-equivalence : {K : Type 0} (E : K → K → Bool) → ((x y : K) → E x y ≡ true → x ≡ y) → ((x : K) → E x x ≡ true) → IsEquivalence E
-equivalence {K} E same itself = record {
-  refl = itself;
-  symm = λ x y. both_ways (E x y) (E y x) (λ h. ap (λ (z : K). E z x) (sym (same x y h)) ∙ itself x) (λ h. ap (λ (z : K). E z y) (sym (same y x h)) ∙ itself y);
-  congr = λ x y z h. ap (λ (w : K). E w z) (same x y h);
-}
-
 pub field_eq_laws : IsPartialEquivalence field_eq
-field_eq_laws = on_per record_of (partial_equiv_from_equiv (equivalence record_eq record_same record_refl))
+field_eq_laws = on_per record_of (partial_equiv_from_equiv (equivalence record_eq (decided record_eq record_same record_refl)))
 
 pub value_eq_laws : IsPartialEquivalence value_eq
-value_eq_laws = on_per payload_of (partial_equiv_from_equiv (equivalence payload_eq payload_same payload_refl))
+value_eq_laws = on_per payload_of (partial_equiv_from_equiv (equivalence payload_eq (decided payload_eq payload_same payload_refl)))
 
 pub set_eq_laws : IsPartialEquivalence set_eq
-set_eq_laws = on_per (λ s. body_of (records_of s)) (partial_equiv_from_equiv (equivalence records_eq records_same records_refl))
+set_eq_laws = on_per (λ s. body_of (records_of s)) (partial_equiv_from_equiv (equivalence records_eq (decided records_eq records_same records_refl)))

@@ -3,7 +3,7 @@ use Rattle.std.specs.Prelude.{◌≡◌, ◌≢◌, ℕ, suc, ◌⊎◌, Bool, t
 use Rattle.std.specs.Str.{is_utf8}
 use Rattle.prost_reflect_wire.specs.Record.{Plain, Record, wire_code, plain_wire, short_key}
 use Rattle.prost_reflect_wire.specs.Scalar.{ScalarKind, StringKind, kind_wire}
-use Rattle.prost_reflect_wire.specs.Schema.{Kind, ScalarOf, MessageOf, GroupOf, ValueType, FieldForm, Singular, Repeated, MapFrom, Field, Schema, known, field_of, is_packable, is_message}
+use Rattle.prost_reflect_wire.specs.Schema.{Kind, ScalarOf, MessageOf, GroupOf, ValueType, FieldForm, Singular, Repeated, MapFrom, Field, Schema, known, field_of, is_packable, is_message, is_map}
 use Rattle.prost_reflect_wire.specs.Grammar.{has_level}
 use Rattle.prost_reflect_wire.specs.declared.key.WireType.{WireType}
 use Rattle.prost_reflect_wire.specs.declared.key.WireType.TheVariants as wires
@@ -50,10 +50,6 @@ abbrev pub takes : FieldForm → Kind → WireType → Bool
 takes Singular kind w = one_takes kind w
 takes (Repeated packed) kind w = one_takes kind w || packed_takes kind w
 takes (MapFrom key) kind w = same_wire w wires.LengthDelimited
-
-abbrev pub is_map : FieldForm → Bool
-is_map (MapFrom key) = true
-is_map c = false
 
 -- A message or a group comes next, or a map record with message values.
 abbrev pub needs_level : FieldForm → Kind → WireType → Bool

@@ -4,8 +4,9 @@ pub mod Front
 pub mod Buffer
 pub mod Sinks
 pub mod Unknown
-pub mod Equality
 pub mod Scalar
+pub mod Deciding
+pub mod Equality
 pub mod Schema
 pub mod Content
 pub mod Grammar

@@ -5,12 +5,12 @@ use Rattle.prost_reflect_wire.specs.declared.key.WireType.{WireType}
 use Rattle.prost_reflect_wire.specs.declared.key.WireType.TheVariants as wires
 use Rattle.prost_reflect_wire.specs.Front.{KeyFront, DelimitedFront}
 use Rattle.prost_reflect_wire.specs.Scalar.{Scalar, ScalarKind, Boolean}
-use Rattle.prost_reflect_wire.specs.Schema.{ScalarOf, MessageOf, ValueType, Field, Schema}
+use Rattle.prost_reflect_wire.specs.Schema.{ScalarOf, MessageOf, ValueType, Field, Schema, is_map}
 use Rattle.prost_reflect_wire.specs.Content.{Content, MessageValue, empty}
 use Rattle.prost_reflect_wire.specs.Grammar.{allows}
 use Rattle.prost_reflect_wire.specs.Meaning.{meaning}
 use Rattle.prost_reflect_wire.specs.Typing.{kept}
-use Rattle.prost_reflect_wire.specs.Fault.{Place, Stands, field_at, is_map}
+use Rattle.prost_reflect_wire.specs.Fault.{Place, Stands, field_at}
 use Rattle.prost_reflect_wire.specs.Decoding.{Holds, Progress}
 use Rattle.prost_reflect_wire.specs.EntryReading.{EntryTo, EntryPlace, plain_type}
 

@@ -1,11 +1,13 @@
 -- What the program writes.
-use Rattle.std.specs.Prelude.{ℕ, List, [], ◌∷◌, ◌++◌, Option, string_bytes}
+use Rattle.std.specs.Prelude.{ℕ, List, [], ◌∷◌, ◌++◌, Option, codes, string_bytes}
 use Rattle.std.specs.Io.KnownBytes.{Appends}
 use Rattle.protorelay.specs.declared.command.Command.{Command}
 use Rattle.protorelay.specs.declared.command.Command.TheVariants.{Relay, Show}
 use Rattle.protorelay.specs.CommandLine.{AsksFor}
-use Rattle.protorelay.specs.Relaying.{IsRelayed}
+use Rattle.protorelay.specs.Reading.{Refuses}
+use Rattle.protorelay.specs.Relaying.{IsRelayed, RefusesRelay}
 use Rattle.protorelay.specs.Showing.{IsShown}
+use Rattle.protorelay.specs.declared.refusal.Refusal.{Refusal}
 
 -- A line behind what a writer holds, where that is known.
 abbrev pub AppendsLine : Option (List ℕ) → Option (List ℕ) → List ℕ → Type 0
@@ -21,3 +23,18 @@ pub record AnswersWords (words : List (List ℕ)) (text : List ℕ) : Type 0 whe
   pub command : Command
   pub asked : AsksFor words command
   pub answered : Answers command text
+
+-- The first step of the command that fails.
+abbrev pub RefusesCommand : Command → Refusal → Type 0
+RefusesCommand (Relay set name digits) refusal = RefusesRelay (string_bytes set.now) (string_bytes name.now) (string_bytes digits.now) refusal
+RefusesCommand (Show set name digits) refusal = Refuses (string_bytes set.now) (string_bytes name.now) (string_bytes digits.now) refusal
+
+-- The words ask for a command that is refused for this reason.
+pub record RefusesWords (words : List (List ℕ)) (refusal : Refusal) : Type 0 where
+  pub command : Command
+  pub asked : AsksFor words command
+  pub refused : RefusesCommand command refusal
+
+-- The line that any other command line gets.
+abbrev pub usage_line : List ℕ
+usage_line = codes "usage: protorelay relay|show SET NAME HEX"

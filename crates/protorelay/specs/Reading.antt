@@ -19,8 +19,8 @@ use Rattle.prost_reflect_tables.specs.declared.error.PoolError.TheVariants as po
 use Rattle.prost_reflect_pool.specs.declared.pool.LinkedPool.{LinkedPool}
 use Rattle.prost_reflect_pool.specs.Pools.{pool_rows}
 use Rattle.protorelay.specs.Sets.{IsPoolOfSet, RefusesSet, IsNoSet}
-use Rattle.protorelay.specs.declared.reading.Refusal.{Refusal}
-use Rattle.protorelay.specs.declared.reading.Refusal.TheVariants.{Set, Pool, Name, Hex, Decode, Encode, Memory}
+use Rattle.protorelay.specs.declared.refusal.Refusal.{Refusal}
+use Rattle.protorelay.specs.declared.refusal.Refusal.TheVariants.{Set, Pool, Name, Hex, Decode, Encode, Memory}
 
 -- The schema of a pool's message types.
 abbrev pub pool_schema : LinkedPool → Schema

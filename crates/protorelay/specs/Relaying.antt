@@ -5,8 +5,8 @@ use Rattle.prost_reflect_wire.specs.Content.{Content}
 use Rattle.prost_reflect_wire.specs.Writing.{encoded}
 use Rattle.prost_reflect_wire.specs.declared.error.EncodeError.TheVariants.{TooLong}
 use Rattle.protorelay.specs.Reading.{IsRead, Refuses}
-use Rattle.protorelay.specs.declared.reading.Refusal.{Refusal}
-use Rattle.protorelay.specs.declared.reading.Refusal.TheVariants.{Encode}
+use Rattle.protorelay.specs.declared.refusal.Refusal.{Refusal}
+use Rattle.protorelay.specs.declared.refusal.Refusal.TheVariants.{Encode}
 
 -- A line of the digits, in lower case, of the bytes that the message is written as again.
 pub record IsRelayed (set name digits text : List ℕ) : Type 0 where

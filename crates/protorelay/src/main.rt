@@ -3,6 +3,7 @@
 
 mod command;
 mod reading;
+mod refusal;
 mod relay;
 pub mod run;
 mod show;

@@ -7,95 +7,12 @@ ghost use Rattle.prost_reflect.specs.Named.{schema_named, type_named};
 ghost use Rattle.prost_reflect_tables.specs.Places.{message_place};
 ghost use Rattle.prost_reflect.specs.View.{content_of};
 ghost use Rattle.protorelay.specs.Sets.{IsPoolOfSet};
-ghost use Rattle.protorelay.specs.Reading.{pool_schema, IsRead, IsReadIn, RefusesPool, RefusesIn, Refuses, hex_refusal, pool_refusal, decode_refusal, encode_refusal};
-ghost use Rattle.protorelay.specs.declared.reading.Refusal.TheVariants as refusals;
+ghost use Rattle.protorelay.specs.Reading.{pool_schema, IsRead, IsReadIn, RefusesPool, RefusesIn, Refuses};
+ghost use Rattle.protorelay.specs.declared.refusal.Refusal.TheVariants as refusals;
 
-use hex::FromHexError;
-use prost_reflect::{
-    DecodeError, DescriptorPool, DynamicMessage, EncodeError, MessageDescriptor, PoolError,
-    builtin_pool,
-};
-use std::alloc::{AllocError, Global};
-use thiserror::Error;
-
-/// Why a command is not carried out. The text is the line that the program prints.
-#[derive(Clone, Copy, Debug, PartialEq, Eq, Error)]
-pub enum Refusal {
-    /// The bytes of the descriptor set are none. Want of memory is `Memory`.
-    #[error("refused pool Decode {0:?}")]
-    Set(DecodeError),
-    /// The files of the descriptor set make no pool. Want of memory is `Memory`, and bytes that are no set are `Set`.
-    #[error("refused pool {0:?}")]
-    Pool(PoolError),
-    /// No message type has the name.
-    #[error("refused name")]
-    Name,
-    /// The digits of the set, or of the message, are not pairs of hex digits.
-    #[error("refused hex")]
-    Hex,
-    /// The type does not accept the bytes. Want of memory is `Memory`.
-    #[error("refused decode {0:?}")]
-    Decode(DecodeError),
-    /// The message is not written. Want of memory is `Memory`.
-    #[error("refused encode {0:?}")]
-    Encode(EncodeError),
-    /// A growth was refused.
-    #[error("refused memory")]
-    Memory,
-}
-
-impl From<AllocError> for Refusal {
-    ghost from_gives = { λ _ refusal. refusal ≡ refusals.Memory };
-
-    fn from(_error: AllocError) -> Refusal {
-        Refusal::Memory
-    }
-}
-
-impl From<FromHexError> for Refusal {
-    ghost from_gives = { λ error refusal. refusal ≡ hex_refusal error };
-
-    fn from(error: FromHexError) -> Refusal {
-        match error {
-            FromHexError::OutOfMemory => Refusal::Memory,
-            _ => Refusal::Hex,
-        }
-    }
-}
-
-impl From<PoolError> for Refusal {
-    ghost from_gives = { λ error refusal. refusal ≡ pool_refusal error };
-
-    fn from(error: PoolError) -> Refusal {
-        match error {
-            PoolError::OutOfMemory => Refusal::Memory,
-            PoolError::Decode(fault) => Refusal::Set(fault),
-            fault => Refusal::Pool(fault),
-        }
-    }
-}
-
-impl From<DecodeError> for Refusal {
-    ghost from_gives = { λ error refusal. refusal ≡ decode_refusal error };
-
-    fn from(error: DecodeError) -> Refusal {
-        match error {
-            DecodeError::OutOfMemory => Refusal::Memory,
-            fault => Refusal::Decode(fault),
-        }
-    }
-}
-
-impl From<EncodeError> for Refusal {
-    ghost from_gives = { λ error refusal. refusal ≡ encode_refusal error };
-
-    fn from(error: EncodeError) -> Refusal {
-        match error {
-            EncodeError::OutOfMemory => Refusal::Memory,
-            EncodeError::TooLong => Refusal::Encode(EncodeError::TooLong),
-        }
-    }
-}
+use crate::refusal::Refusal;
+use prost_reflect::{DescriptorPool, DynamicMessage, MessageDescriptor, builtin_pool};
+use std::alloc::Global;
 
 /// The message that the hex digits spell, read by the message type of the name in the descriptor set. The set is `-`, for the built-in one, or in hex digits too.
 ///

@@ -3,7 +3,8 @@
 ghost use Rattle.std.specs.Prelude.{IfOk, IfErr, string_bytes};
 ghost use Rattle.protorelay.specs.Relaying.{IsRelayed, RefusesRelay};
 
-use crate::reading::{Refusal, read};
+use crate::reading::read;
+use crate::refusal::Refusal;
 use std::alloc::Global;
 
 /// The message that the hex digits spell, read by the message type of the name in the descriptor set and written again, as a line of lower-case hex digits.

@@ -1,14 +1,19 @@
 //! Carries out a command line over two writers.
 
-ghost use Rattle.std.specs.Prelude.{◌≡◌, ◌≢◌, ◌⊎◌, ℕ, List, map, string_bytes, IfSome, IfOk, OnOk, IsOk};
+ghost use Rattle.std.specs.Prelude.{◌≡◌, ◌≢◌, ◌⊎◌, ℕ, List, map, string_bytes, IfSome, IfOk, IfErr, OnOk};
 ghost use Rattle.std.specs.Fmt.{with_newline};
 ghost use Rattle.std.specs.Io.KnownBytes.{Appends};
 ghost use Rattle.std.specs.IoError.{error_kind};
 ghost use Rattle.protorelay.specs.CommandLine.{AsksForNone};
-ghost use Rattle.protorelay.specs.Printing.{AppendsLine, Answers, AnswersWords};
+ghost use Rattle.protorelay.specs.Printing.{AppendsLine, Answers, AnswersWords, RefusesCommand, RefusesWords, usage_line};
+ghost use Rattle.protorelay.specs.Refusals.{refusal_line};
+ghost use Rattle.protorelay.specs.declared.refusal.Refusal.{Refusal};
+ghost use Rattle.protorelay.specs.Statuses.{status_of};
+ghost use Rattle.protorelay.specs.declared.refusal.Refusal.TheVariants as refusals;
+ghost use Rattle.protorelay.specs.declared.run.Outcome.TheVariants as outcomes;
 
 use crate::command::Command;
-use crate::reading::Refusal;
+use crate::refusal::Refusal;
 use crate::relay::relay;
 use crate::show::show;
 use std::fmt::Display;
@@ -18,41 +23,80 @@ use std::io::{ErrorKind, Write};
 #[cfg(test)]
 mod tests;
 
-/// The status of a command line that is carried out.
-const DONE: u8 = 0;
-
-/// The status of refused data, and of a write that fails.
-const REFUSED: u8 = 1;
-
-/// The status of any other command line.
-const MISUSED: u8 = 2;
+/// How a command line ends whose answer was written.
+#[derive(Clone, Copy, PartialEq, Eq, Debug)]
+pub enum Outcome {
+    /// The command was carried out.
+    Done,
+    /// The data were refused.
+    Refused,
+    /// The words ask for no command.
+    Misused,
+}
 
 const USAGE: &str = "usage: protorelay relay|show SET NAME HEX";
 
 /// Carries out a command line, given without the program's name, and answers the status that the program ends with.
 ///
-/// `relay SET NAME HEX` writes the message again as a line of lower-case hex digits on `out`, and `show SET NAME HEX` a line for each number that is present in it, with status 0. Refused data leave `out` as it was and are named by a line on `err`, with status 1. Any other command line leaves `out` as it was and gets a line on the usage on `err`, with status 2. Where a write fails the status is 1.
+/// As `carry_out`, with status 0 for `Done`, 1 for `Refused` and for a write that fails, and 2 for `Misused`.
 pub fn run<O: Write, E: Write>(words: &[String], out: &mut O, err: &mut E) -> u8
-    ensures done { result ≡ DONE → (err.new ≡ err.old) × ((text : List ℕ)
+    ensures done { result ≡ 0 → (err.new ≡ err.old) × ((text : List ℕ)
         × AnswersWords (map string_bytes words.now) text
         × Appends (O.contents out.old) (O.contents out.new) text) }
-    ensures misused { result ≡ MISUSED → AsksForNone (map string_bytes words.now)
-        × AppendsLine (E.contents err.old) (E.contents err.new) USAGE.now }
-    ensures refused { result ≢ DONE → result ≢ MISUSED → result ≡ REFUSED }
+    ensures misused { result ≡ 2 → AsksForNone (map string_bytes words.now)
+        × (out.new ≡ out.old)
+        × AppendsLine (E.contents err.old) (E.contents err.new) usage_line }
+    ensures refused { result ≢ 0 → result ≢ 2 → result ≡ 1 }
+    ensures out { (out.new ≡ out.old) ⊎ ((text : List ℕ) × AnswersWords (map string_bytes words.now) text) }
+{
+    status_of(carry_out(words, out, err))
+}
+
+/// Carries out a command line, given without the program's name.
+///
+/// `relay SET NAME HEX` writes the message again as a line of lower-case hex digits on `out`, and `show SET NAME HEX` a line for each number that is present in it. Refused data leave `out` as it was and are named by a line on `err`. Any other command line leaves `out` as it was and gets a line on the usage on `err`.
+///
+/// # Errors
+///
+/// That of a write that fails.
+pub fn carry_out<O: Write, E: Write>(
+    words: &[String],
+    out: &mut O,
+    err: &mut E,
+) -> io::Result<Outcome>
+    ensures done { IfOk result (λ outcome. outcome ≡ outcomes.Done → (err.new ≡ err.old) × ((text : List ℕ)
+        × AnswersWords (map string_bytes words.now) text
+        × Appends (O.contents out.old) (O.contents out.new) text)) }
+    ensures refused { IfOk result (λ outcome. outcome ≡ outcomes.Refused → (out.new ≡ out.old) × ((refusal : Refusal)
+        × RefusesWords (map string_bytes words.now) refusal
+        × AppendsLine (E.contents err.old) (E.contents err.new) (refusal_line refusal))) }
+    ensures misused { IfOk result (λ outcome. outcome ≡ outcomes.Misused → AsksForNone (map string_bytes words.now)
+        × (out.new ≡ out.old)
+        × AppendsLine (E.contents err.old) (E.contents err.new) usage_line) }
     ensures out { (out.new ≡ out.old) ⊎ ((text : List ℕ) × AnswersWords (map string_bytes words.now) text) }
 {
     match Command::parse(words) {
         Some(command) => match answer(command) {
-            Ok(text) => status_of(write_text(out, text.as_str()), DONE),
-            Err(refusal) => status_of(write_line(err, refusal), REFUSED),
+            Ok(text) => {
+                write_text(out, text.as_str())?;
+                Ok(Outcome::Done)
+            }
+            Err(refusal) => {
+                write_line(err, refusal)?;
+                Ok(Outcome::Refused)
+            }
         },
-        None => status_of(write_line(err, USAGE), MISUSED),
+        None => {
+            write_line(err, USAGE)?;
+            Ok(Outcome::Misused)
+        }
     }
 }
 
 /// The text that answers the command. Its growths use the allocator of the words.
 fn answer(command: Command<'_>) -> Result<String, Refusal>
     ensures answered { IfOk result (λ text. Answers command.entry (string_bytes text)) }
+    ensures refused { IfErr result (RefusesCommand command.entry) }
 {
     match command {
         Command::Relay { set, name, digits } => relay(
@@ -70,27 +114,39 @@ fn answer(command: Command<'_>) -> Result<String, Refusal>
     }
 }
 
-/// Names on `err` why the words of the command line can't be had, and answers the status: for want of memory 1, and where a word is no text that of any other command line.
+/// Names on `err` why the words of the command line can't be had, and answers the status: out of memory 1, and where a word is no text that of any other command line.
 pub fn refuse_words<E: Write>(error: &io::Error, err: &mut E) -> u8
-    ensures misused { result ≡ MISUSED → (error_kind error.now ≢ ErrorKind.OutOfMemory)
-        × AppendsLine (E.contents err.old) (E.contents err.new) USAGE.now }
-    ensures refused { result ≢ MISUSED → result ≡ REFUSED }
+    ensures misused { result ≡ 2 → (error_kind error.now ≢ ErrorKind.OutOfMemory)
+        × AppendsLine (E.contents err.old) (E.contents err.new) usage_line }
+    ensures refused { result ≢ 2 → result ≡ 1 }
 {
-    if error.kind() == ErrorKind::OutOfMemory {
-        status_of(write_line(err, Refusal::Memory), REFUSED)
-    } else {
-        status_of(write_line(err, USAGE), MISUSED)
-    }
+    status_of(name_refused_words(error, err))
 }
 
-/// The status, or that of a write that fails.
-fn status_of(written: io::Result<()>, status: u8) -> u8
-    ensures written { result ≢ REFUSED → (result ≡ status) × IsOk written }
-    ensures failed { result ≢ status → result ≡ REFUSED }
+/// Names on `err` why the words of the command line can't be had.
+fn name_refused_words<E: Write>(error: &io::Error, err: &mut E) -> io::Result<Outcome>
+    ensures undone { IfOk result (λ outcome. outcome ≢ outcomes.Done) }
+    ensures refused { IfOk result (λ outcome. outcome ≡ outcomes.Refused → (error_kind error.now ≡ ErrorKind.OutOfMemory)
+        × AppendsLine (E.contents err.old) (E.contents err.new) (refusal_line refusals.Memory)) }
+    ensures misused { IfOk result (λ outcome. outcome ≡ outcomes.Misused → (error_kind error.now ≢ ErrorKind.OutOfMemory)
+        × AppendsLine (E.contents err.old) (E.contents err.new) usage_line) }
 {
-    match written {
-        Ok(()) => status,
-        Err(_) => REFUSED,
+    if error.kind() == ErrorKind::OutOfMemory {
+        write_line(err, Refusal::Memory)?;
+        return Ok(Outcome::Refused);
+    }
+    write_line(err, USAGE)?;
+    Ok(Outcome::Misused)
+}
+
+/// The status that the program ends with; 1, if a write failed.
+fn status_of(ended: io::Result<Outcome>) -> u8
+    ensures { result ≡ status_of ended }
+{
+    match ended {
+        Ok(Outcome::Done) => 0,
+        Ok(Outcome::Misused) => 2,
+        Ok(Outcome::Refused) | Err(_) => 1,
     }
 }
 

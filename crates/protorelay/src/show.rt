@@ -4,7 +4,8 @@ ghost use Rattle.std.specs.Prelude.{◌≡◌, ◌++◌, IfOk, IfErr, OnOk, stri
 ghost use Rattle.protorelay.specs.Reading.{Refuses};
 ghost use Rattle.protorelay.specs.Showing.{IsShown, line, lines};
 
-use crate::reading::{Refusal, read};
+use crate::reading::read;
+use crate::refusal::Refusal;
 use prost_reflect::PresentNumber;
 use std::alloc::{AllocError, Global};
 

@@ -4,8 +4,9 @@ ghost use Rattle.std.specs.Prelude.{◌≡◌, IfOk, IfErr, map};
 ghost use Rattle.prost_reflect_tables.specs.Shown.{schema_from};
 ghost use Rattle.prost_reflect_pool.specs.Builtin.{builtin_schema, builtin_names};
 ghost use Rattle.prost_reflect_tables.specs.declared.error.PoolError.TheVariants as pool_errors;
+ghost use Rattle.prost_reflect_pool.specs.BuiltinFiles.{AreBuiltin};
 ghost use Rattle.prost_reflect_pool.specs.BuiltinRows.{builtin_rows};
-ghost use Rattle.prost_reflect_pool.specs.SharedPools.{pool_rows};
+ghost use Rattle.prost_reflect_pool.specs.SharedPools.{files_of, pool_rows};
 
 use crate::descriptor::DescriptorPool;
 use prost_reflect_tables::PoolError;
@@ -18,9 +19,10 @@ use std::rc::Rc;
 ///
 /// `OutOfMemory` if a growth is refused.
 pub fn builtin_pool(alloc: Global) -> Result<DescriptorPool, PoolError>
+    ensures files { IfOk result (λ pool. AreBuiltin (files_of pool.inner)) }
     ensures rows { IfOk result (λ pool. pool_rows pool.inner ≡ builtin_rows) }
     ensures schema { IfOk result (λ pool. schema_from (pool_rows pool.inner) ≡ builtin_schema) }
-    ensures names { IfOk result (λ pool. map (λ m. m.full_name) (pool_rows pool.inner).messages ≡ builtin_names) }
+    ensures names { IfOk result (λ pool. map (λ m. m.id.full_name) (pool_rows pool.inner).messages ≡ builtin_names) }
     ensures refused { IfErr result (λ e. e ≡ pool_errors.OutOfMemory) }
 {
     let pool = prost_reflect_pool::builtin_pool(alloc)?;

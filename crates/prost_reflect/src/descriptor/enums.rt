@@ -4,6 +4,7 @@ ghost use Rattle.std.specs.Prelude.{◌≡◌, ◌<◌, length};
 ghost use Rattle.prost_reflect_pool.specs.SharedPools.{pool_rows};
 
 use crate::descriptor::DescriptorPool;
+use crate::message::enums::first_in;
 use prost_reflect_tables::EnumTable;
 use std::alloc::AllocError;
 
@@ -52,9 +53,9 @@ impl EnumDescriptor {
 
     /// The package, the enclosing message types and the name, joined by dots.
     pub fn full_name(&self) -> &str
-        ensures { option_map (λ e. e.full_name) (enum_row_at self.now) ≡ Some result.now }
+        ensures { option_map (λ e. e.id.full_name) (enum_row_at self.now) ≡ Some result.now }
     {
-        self.table().full_name.as_str()
+        self.table().id.full_name.as_str()
     }
 
     /// Whether a number that no value has is kept as an unknown field.
@@ -75,10 +76,6 @@ impl EnumDescriptor {
     pub(crate) fn first_number(&self) -> i32
         ensures { result ≡ first_of (enum_row_at self.now) }
     {
-        let table = self.table();
-        if table.numbers.is_empty() {
-            return 0;
-        }
-        table.numbers[0]
+        first_in(self.table())
     }
 }

@@ -54,9 +54,9 @@ impl FieldDescriptor {
 
     /// The field's own name, without its scope.
     pub fn name(&self) -> &str
-        ensures { option_map (λ field. field.name) (row_at self.now) ≡ Some result.now }
+        ensures { option_map (λ field. field.id.name) (row_at self.now) ≡ Some result.now }
     {
-        self.table().name.as_str()
+        self.table().id.name.as_str()
     }
 
     /// The field number, from 1 to 536870911.

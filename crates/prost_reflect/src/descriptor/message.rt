@@ -69,9 +69,9 @@ impl MessageDescriptor {
 
     /// The package, the enclosing message types and the name, joined by dots.
     pub fn full_name(&self) -> &str
-        ensures { option_map (λ message. message.full_name) (message_row_named self.now) ≡ Some result.now }
+        ensures { option_map (λ message. message.id.full_name) (message_row_named self.now) ≡ Some result.now }
     {
-        self.table().full_name.as_str()
+        self.table().id.full_name.as_str()
     }
 
     /// Whether the type is that of a map's entries.

@@ -1,14 +1,12 @@
 //! What fields have where nothing is stored (the guide on field presence).
 
 ghost use Rattle.std.specs.Prelude.{◌≡◌, true, false, IsSome, None};
-ghost use Rattle.prost_reflect_wire.specs.Schema.{field_valid};
+ghost use Rattle.prost_reflect_wire.specs.Schema.{field_valid, is_list, is_map};
 ghost use Rattle.prost_reflect_wire.specs.Scalar.{scalar_eq};
-ghost use Rattle.prost_reflect_wire.specs.Typing.{is_field_default, is_repeated, kept_inside};
+ghost use Rattle.prost_reflect_wire.specs.Typing.{is_empty_value, is_field_default, kept_inside};
+ghost use Rattle.prost_reflect_tables.specs.Linking.{is_repeated};
 ghost use Rattle.prost_reflect_tables.specs.Rows.{field_row};
 ghost use Rattle.prost_reflect_tables.specs.Shown.{schema_field, schema_kind, schema_default, own_type};
-ghost use Rattle.prost_reflect_wire.specs.Fault.{is_map};
-ghost use Rattle.prost_reflect.specs.RowKinds.{is_repeated as is_labelled};
-ghost use Rattle.prost_reflect.specs.Defaults.{is_empty_value};
 ghost use Rattle.prost_reflect_pool.specs.MessageTypes.{schema_at};
 ghost use Rattle.prost_reflect_pool.specs.SharedPools.{pool_rows};
 ghost use Rattle.prost_reflect.specs.Scalars.{plain_kind, scalar_of};
@@ -49,14 +47,14 @@ fn is_empty(message_type: &PooledType, field: &FieldTable, value: &Value) -> boo
 
 /// Whether a field of the label has a list of values, or a map.
 pub(crate) fn is_repeated(cardinality: Cardinality) -> bool
-    ensures { result ≡ is_labelled cardinality }
+    ensures { result ≡ is_repeated cardinality }
 {
     matches!(cardinality, Cardinality::Repeated)
 }
 
 /// Whether a field is a list, and no map.
 fn is_list(message_type: &PooledType, field: &FieldTable) -> bool
-    ensures { result ≡ is_repeated (schema_field (pool_rows message_type.now.pool) (field_row field.now)).form }
+    ensures { result ≡ is_list (schema_field (pool_rows message_type.now.pool) (field_row field.now)).form }
 {
     is_repeated(field.cardinality) && !is_map(message_type, field)
 }

@@ -1,15 +1,16 @@
 //! Writing messages, the last byte first, so that a length is written once what it counts is there.
 
-ghost use Rattle.std.specs.Prelude.{◌≡◌, ◌≤◌, ◌^◌, ◌++◌, true, Some, None, length, IfOk, IfErr, OnOk, OnErr};
+ghost use Rattle.std.specs.Option.{SomeIff};
+ghost use Rattle.std.specs.Prelude.{◌≡◌, ◌≤◌, ◌<◌, ◌^◌, ◌++◌, true, Some, None, length, IfOk, IfErr, OnOk, OnErr};
 ghost use Rattle.prost_reflect_wire.specs.declared.key.WireType.TheVariants as wires;
 ghost use Rattle.prost_reflect_wire.specs.Schema.{field_of, passes};
 ghost use Rattle.prost_reflect_wire.specs.Writing.{encoded};
 ghost use Rattle.prost_reflect_wire.specs.Typing.{kept, encodable};
 ghost use Rattle.prost_reflect_wire.specs.Storing.{value_bytes};
-ghost use Rattle.prost_reflect_wire.specs.Buffer.{bytes_of, Prepended};
+ghost use Rattle.prost_reflect_wire.specs.Sinks.{Adds};
 ghost use Rattle.prost_reflect_tables.specs.Rows.{field_row};
 ghost use Rattle.prost_reflect_tables.specs.Shown.{schema_field};
-ghost use Rattle.prost_reflect.specs.RowKinds.{is_repeated};
+ghost use Rattle.prost_reflect_tables.specs.Linking.{is_repeated};
 ghost use Rattle.prost_reflect.specs.Lists.{IsList, ElementWritable, AreElements, elements_bytes};
 ghost use Rattle.prost_reflect_pool.specs.MapParts.{map_parts};
 ghost use Rattle.prost_reflect.specs.Encoding.{entry_slot, unknown_bytes, nested_bytes, ValueWritable, OwnUnknown};
@@ -26,93 +27,79 @@ pub(crate) mod scalar;
 
 use crate::message::DynamicMessage;
 use crate::message::defaults::is_repeated;
-use crate::message::encode::list::prepend_list;
-use crate::message::encode::map::prepend_map;
-use crate::message::encode::scalar::{prepend_kept_scalar, prepend_key, prepend_length};
+use crate::message::encode::list::write_list;
+use crate::message::encode::map::write_map;
+use crate::message::encode::scalar::write_kept_scalar;
 use crate::value::{MapKey, Value};
 use prost_reflect_fields::slot::FieldSlot;
 use prost_reflect_pool::PooledType;
 use prost_reflect_tables::{FieldTable, TableKind};
-use prost_reflect_wire::{BackBuffer, EncodeError, WireType, prepend_fields};
+use prost_reflect_wire::{
+    ByteSink, EncodeError, LengthSink, Sink, WireType, write_fields, write_key,
+};
 use std::alloc::Global;
 use std::collections::BTreeMap;
 
 /// Adds the record of a message in front, or of a group.
 #[cycle(writing)]
-fn prepend_message(
-    buffer: &mut BackBuffer,
-    number: u32,
-    is_group: bool,
-    message: &DynamicMessage,
-) -> Result<(), EncodeError>
+fn write_message<S: Sink>(sink: &mut S, number: u32, is_group: bool, message: &DynamicMessage)
     requires encodable { encodable (content_of message.now) ≡ true }
-    ensures { Prepended result (bytes_of buffer.old) (bytes_of buffer.new) (nested_bytes number is_group (content_of message.now)) }
+    ensures { Adds S.added sink.old sink.new (nested_bytes number is_group (content_of message.now)) }
 {
     if is_group {
-        prepend_key(buffer, number, WireType::EndGroup)?;
-        prepend_body(buffer, message)?;
-        return prepend_key(buffer, number, WireType::StartGroup);
+        write_key(sink, number, WireType::EndGroup);
+        write_body(sink, message);
+        write_key(sink, number, WireType::StartGroup);
+        return;
     }
-    let behind = buffer.len();
-    prepend_body(buffer, message)?;
-    let len = buffer.len() - behind;
-    buffer.prepend_varint(len as u64)?;
-    prepend_key(buffer, number, WireType::LengthDelimited)
+    let before = sink.len();
+    write_body(sink, message);
+    sink.prepend_len_since(before);
+    write_key(sink, number, WireType::LengthDelimited);
 }
 
 /// Adds what is written of a message in front: at each number what is kept of the value, and then the unknown fields.
 #[cycle(writing)]
-fn prepend_body(buffer: &mut BackBuffer, message: &DynamicMessage) -> Result<(), EncodeError>
+fn write_body<S: Sink>(sink: &mut S, message: &DynamicMessage)
     requires encodable { encodable (content_of message.now) ≡ true }
-    ensures { Prepended result (bytes_of buffer.old) (bytes_of buffer.new) (encoded (kept (content_of message.now))) }
+    ensures { Adds S.added sink.old sink.new (encoded (kept (content_of message.now))) }
 {
     let slots = message.fields.slots();
     for index in (0..slots.len()).rev() {
         let entry = &slots[index];
-        prepend_unknown(buffer, entry.0, &entry.1)?;
+        write_unknown(sink, entry.0, &entry.1);
         match &entry.1 {
             FieldSlot::Value(value) | FieldSlot::Both(value, _) => {
-                prepend_value(buffer, message.fields.message_type(), entry.0, value)?;
+                write_value(sink, message.fields.message_type(), entry.0, value);
             }
             FieldSlot::Unknown(_) => {}
         }
     }
-    Ok(())
 }
 
 /// Adds the unknown fields at a number in front.
-fn prepend_unknown(
-    buffer: &mut BackBuffer,
-    number: u32,
-    entry: &FieldSlot<Value>,
-) -> Result<(), EncodeError>
+fn write_unknown<S: Sink>(sink: &mut S, number: u32, entry: &FieldSlot<Value>)
     requires { OwnUnknown number entry.now }
-    ensures { Prepended result (bytes_of buffer.old) (bytes_of buffer.new) (unknown_bytes number (entry_slot entry.now)) }
+    ensures { Adds S.added sink.old sink.new (unknown_bytes number (entry_slot entry.now)) }
 {
-    match entry.unknown() {
-        Some(unknown) => prepend_fields(unknown, buffer),
-        None => Ok(()),
+    if let Some(unknown) = entry.unknown() {
+        write_fields(sink, unknown);
     }
 }
 
 /// Adds what is kept of a field's value in front.
 #[cycle(writing)]
-fn prepend_value(
-    buffer: &mut BackBuffer,
-    message_type: &PooledType,
-    number: u32,
-    value: &Value,
-) -> Result<(), EncodeError>
+fn write_value<S: Sink>(sink: &mut S, message_type: &PooledType, number: u32, value: &Value)
     requires writable { ValueWritable (known_of message_type.now) number (value_of value.now) }
-    ensures { Prepended result (bytes_of buffer.old) (bytes_of buffer.new) (value_bytes (known_of message_type.now) number (value_of value.now)) }
+    ensures { Adds S.added sink.old sink.new (value_bytes (known_of message_type.now) number (value_of value.now)) }
 {
     match message_type.field_table(number) {
         Some(field) if is_repeated(field.cardinality) => {
-            prepend_repeated(buffer, message_type, number, field, value)
+            write_repeated(sink, message_type, number, field, value);
         }
         Some(field) => match value {
-            Value::Message(message) => prepend_message(buffer, number, field.is_group, message),
-            _ => prepend_kept_scalar(buffer, message_type, number, field, value.scalar()),
+            Value::Message(message) => write_message(sink, number, field.is_group, message),
+            _ => write_kept_scalar(sink, message_type, number, field, value.scalar()),
         },
         None => unreachable!(),
     }
@@ -120,49 +107,49 @@ fn prepend_value(
 
 /// Adds what is kept of the list or the map of a repeated field in front.
 #[cycle(writing)]
-fn prepend_repeated(
-    buffer: &mut BackBuffer,
+fn write_repeated<S: Sink>(
+    sink: &mut S,
     message_type: &PooledType,
     number: u32,
     field: &FieldTable,
     value: &Value,
-) -> Result<(), EncodeError>
+)
     requires field { Some (schema_field (pool_rows message_type.now.pool) (field_row field.now)) ≡ field_of (known_of message_type.now) number }
     requires repeated { is_repeated (field_row field.now).cardinality ≡ true }
     requires writable { ValueWritable (known_of message_type.now) number (value_of value.now) }
-    ensures { Prepended result (bytes_of buffer.old) (bytes_of buffer.new) (value_bytes (known_of message_type.now) number (value_of value.now)) }
+    ensures { Adds S.added sink.old sink.new (value_bytes (known_of message_type.now) number (value_of value.now)) }
 {
     match message_type.map_parts(field) {
         Some((key, element)) => match element.kind {
             TableKind::Message(_) => {
-                prepend_nested_map(buffer, message_type, number, key, element, value)
+                write_nested_map(sink, message_type, number, key, element, value);
             }
-            _ => prepend_map(buffer, message_type, number, key, element, value),
+            _ => write_map(sink, message_type, number, key, element, value),
         },
-        None => prepend_elements(buffer, message_type, number, field, value),
+        None => write_elements(sink, message_type, number, field, value),
     }
 }
 
 /// Adds what is kept of the list of a field that is no map in front.
 #[cycle(writing)]
-fn prepend_elements(
-    buffer: &mut BackBuffer,
+fn write_elements<S: Sink>(
+    sink: &mut S,
     message_type: &PooledType,
     number: u32,
     field: &FieldTable,
     value: &Value,
-) -> Result<(), EncodeError>
+)
     requires field { Some (schema_field (pool_rows message_type.now.pool) (field_row field.now)) ≡ field_of (known_of message_type.now) number }
     requires repeated { is_repeated (field_row field.now).cardinality ≡ true }
     requires no_map { None ≡ map_parts (pool_rows message_type.now.pool) (field_row field.now) }
     requires writable { ValueWritable (known_of message_type.now) number (value_of value.now) }
     requires list { IsList (value_of value.now) }
-    ensures { Prepended result (bytes_of buffer.old) (bytes_of buffer.new) (value_bytes (known_of message_type.now) number (value_of value.now)) }
+    ensures { Adds S.added sink.old sink.new (value_bytes (known_of message_type.now) number (value_of value.now)) }
 {
     match value {
         Value::List(values) => match field.kind {
-            TableKind::Message(_) => prepend_messages(buffer, number, field.is_group, values),
-            _ => prepend_list(buffer, number, field, values),
+            TableKind::Message(_) => write_messages(sink, number, field.is_group, values),
+            _ => write_list(sink, number, field, values),
         },
         _ => unreachable!(),
     }
@@ -170,84 +157,77 @@ fn prepend_elements(
 
 /// Adds the records of messages, or of groups, in front, one for each.
 #[cycle(writing)]
-fn prepend_messages(
-    buffer: &mut BackBuffer,
-    number: u32,
-    is_group: bool,
-    values: &Vec<Value>,
-) -> Result<(), EncodeError>
+fn write_messages<S: Sink>(sink: &mut S, number: u32, is_group: bool, values: &Vec<Value>)
     requires { AreElements values.now.items }
-    ensures { Prepended result (bytes_of buffer.old) (bytes_of buffer.new) (elements_bytes number is_group values.now.items) }
+    ensures { Adds S.added sink.old sink.new (elements_bytes number is_group values.now.items) }
 {
     for index in (0..values.len()).rev() {
         match &values[index] {
-            Value::Message(message) => prepend_message(buffer, number, is_group, message)?,
+            Value::Message(message) => write_message(sink, number, is_group, message),
             _ => unreachable!(),
         }
     }
-    Ok(())
 }
 
 /// Adds what is kept of the map of a field in front, whose keys have this row and whose values are messages.
 #[cycle(writing)]
-fn prepend_nested_map(
-    buffer: &mut BackBuffer,
+fn write_nested_map<S: Sink>(
+    sink: &mut S,
     message_type: &PooledType,
     number: u32,
     key_field: &FieldTable,
     value_field: &FieldTable,
     value: &Value,
-) -> Result<(), EncodeError>
+)
     requires rows { NestedMapOfRows message_type.now number (field_row key_field.now) (field_row value_field.now) }
     requires writable { ValueWritable (known_of message_type.now) number (value_of value.now) }
-    ensures { Prepended result (bytes_of buffer.old) (bytes_of buffer.new) (value_bytes (known_of message_type.now) number (value_of value.now)) }
+    ensures { Adds S.added sink.old sink.new (value_bytes (known_of message_type.now) number (value_of value.now)) }
 {
     match value {
-        Value::Map(pairs) => prepend_entries(buffer, message_type, number, key_field, pairs),
+        Value::Map(pairs) => write_entries(sink, message_type, number, key_field, pairs),
         _ => unreachable!(),
     }
 }
 
 /// Adds the records of entries in front, in ascending order of their keys.
 #[cycle(writing)]
-fn prepend_entries(
-    buffer: &mut BackBuffer,
+fn write_entries<S: Sink>(
+    sink: &mut S,
     message_type: &PooledType,
     number: u32,
     key_field: &FieldTable,
     pairs: &BTreeMap<MapKey, Value>,
-) -> Result<(), EncodeError>
+)
     requires { AreEntries (field_row key_field.now).kind pairs.now.entries }
-    ensures { Prepended result (bytes_of buffer.old) (bytes_of buffer.new) (nested_pairs_bytes number (pool_rows message_type.now.pool).enums (field_row key_field.now) pairs.now.entries) }
+    ensures { Adds S.added sink.old sink.new (nested_pairs_bytes number (pool_rows message_type.now.pool).enums (field_row key_field.now) pairs.now.entries) }
 {
     for (key, value) in pairs.iter().rev() {
-        prepend_entry(buffer, message_type, number, key_field, key, value)?;
+        write_entry(sink, message_type, number, key_field, key, value);
     }
-    Ok(())
 }
 
 /// Adds the record of an entry in front.
 #[cycle(writing)]
-fn prepend_entry(
-    buffer: &mut BackBuffer,
+fn write_entry<S: Sink>(
+    sink: &mut S,
     message_type: &PooledType,
     number: u32,
     key_field: &FieldTable,
     key: &MapKey,
     value: &Value,
-) -> Result<(), EncodeError>
+)
     requires key { TakesScalar (field_row key_field.now).kind (ScalarValue (key_of key.now)) }
     requires message { ElementWritable (value_of value.now) }
-    ensures { Prepended result (bytes_of buffer.old) (bytes_of buffer.new) (nested_entry_bytes number (pool_rows message_type.now.pool).enums (field_row key_field.now) (key_of key.now) (value_of value.now)) }
+    ensures { Adds S.added sink.old sink.new (nested_entry_bytes number (pool_rows message_type.now.pool).enums (field_row key_field.now) (key_of key.now) (value_of value.now)) }
 {
-    let behind = buffer.len();
+    let before = sink.len();
     match value {
-        Value::Message(message) => prepend_message(buffer, 2, false, message)?,
+        Value::Message(message) => write_message(sink, 2, false, message),
         _ => unreachable!(),
     }
-    prepend_kept_scalar(buffer, message_type, 1, key_field, key.as_scalar())?;
-    let length = buffer.len() - behind;
-    prepend_length(buffer, number, length)
+    write_kept_scalar(sink, message_type, 1, key_field, key.as_scalar());
+    sink.prepend_len_since(before);
+    write_key(sink, number, WireType::LengthDelimited);
 }
 
 impl DynamicMessage {
@@ -265,10 +245,19 @@ impl DynamicMessage {
         ensures err { OnErr result (out.new.items ≡ out.old.items) }
         ensures too_long { IfErr result (λ e. e ≡ EncodeError.TooLong → 2 ^ 64 ≤ length (encoded (kept (content_of self.now)))) }
     {
-        let mut buffer = BackBuffer::new(*out.allocator());
-        prepend_body(&mut buffer, self)?;
-        buffer.append_to(out)?;
-        Ok(())
+        let mut sink = ByteSink::new(*out.allocator());
+        write_body(&mut sink, self);
+        sink.append_to(out)
+    }
+
+    /// How many bytes `encode` appends; `None` if they are more than a `usize` counts. No memory is taken.
+    pub fn encoded_len(&self) -> Option<usize>
+        requires encodable { encodable (content_of self.now) ≡ true }
+        ensures { let n = length (encoded (kept (content_of self.now))) in SomeIff result (n < 2 ^ 64) n }
+    {
+        let mut sink = LengthSink::new();
+        write_body(&mut sink, self);
+        sink.total()
     }
 
     /// The encoding of the message, as `encode` appends it.

@@ -1,9 +1,11 @@
 //! What enums declare (the page "Enum Behavior").
 
-ghost use Rattle.std.specs.Prelude.{◌≡◌, not, slice_get};
+ghost use Rattle.std.specs.Prelude.{◌≡◌, not, map, slice_get};
+ghost use Rattle.std.specs.List.{list_any};
+ghost use Rattle.std.specs.Ordering.{int_eq};
 ghost use Rattle.prost_reflect_wire.specs.Scalar.{is_declared};
-ghost use Rattle.prost_reflect_tables.specs.Rows.{enum_row};
-ghost use Rattle.prost_reflect_tables.specs.Shown.{enum_numbers};
+ghost use Rattle.prost_reflect_tables.specs.Rows.{enum_row, enum_value_row, value_numbers};
+ghost use Rattle.prost_reflect_tables.specs.Shown.{first_number, enum_numbers};
 ghost use Rattle.prost_reflect_pool.specs.Enums.{first_of};
 ghost use Rattle.prost_reflect_pool.specs.SharedPools.{pool_rows};
 ghost use Rattle.prost_reflect.specs.Scalars.{is_stray_number};
@@ -11,23 +13,45 @@ ghost use Rattle.prost_reflect.specs.View.{value_of};
 
 use crate::value::Value;
 use prost_reflect_pool::PooledType;
-use prost_reflect_tables::{EnumTable, TableKind};
+use prost_reflect_tables::{EnumTable, EnumValueTable, TableKind};
+
+/// The number of an enum's first value.
+pub(crate) fn first_in(table: &EnumTable) -> i32
+    ensures { result ≡ first_number (value_numbers (enum_row table.now)) }
+{
+    match table.values.first() {
+        Some(value) => value.number,
+        None => 0,
+    }
+}
 
 /// The number of the first value of the enum at a place of the message type's pool.
 pub(crate) fn first_number(message_type: &PooledType, place: usize) -> i32
     ensures { result ≡ first_of (slice_get (pool_rows message_type.now.pool).enums place) }
 {
     match message_type.enum_table(place) {
-        Some(table) if !table.numbers.is_empty() => table.numbers[0],
-        _ => 0,
+        Some(table) => first_in(table),
+        None => 0,
     }
+}
+
+/// Whether one of the values has the number.
+fn has_number(values: &[EnumValueTable], number: i32) -> bool
+    ensures { result ≡ list_any (int_eq number) (map (λ v. v.number) (map enum_value_row values.now)) }
+{
+    for value in values {
+        if number == value.number {
+            return true;
+        }
+    }
+    false
 }
 
 /// Whether an enum is closed and does not declare the number.
 fn lacks(table: &EnumTable, number: i32) -> bool
     ensures { result ≡ not (is_declared (enum_numbers (enum_row table.now)) number) }
 {
-    table.is_closed && !table.numbers.contains(&number)
+    table.is_closed && !has_number(table.values.as_slice(), number)
 }
 
 /// Whether a value is a number that its kind, a closed enum of the message type's pool, does not declare. Its record

@@ -1,7 +1,8 @@
 -- The worked examples of faults.
-use Rattle.std.proofs.Common.{◌≡◌, ◌≢◌, ℕ, ◌+◌, ◌*◌, ◌<◌, ◌^◌, true, false, List, [], ◌∷◌, Option, Some, None, refl, inl, inr, arith, lit<, lit≤, true≢false, ap}
+use Rattle.std.proofs.Common.{sym, ◌≡◌, ◌≢◌, ℕ, ◌+◌, ◌*◌, ◌<◌, ◌^◌, true, false, List, [], ◌∷◌, Option, Some, None, refl, inl, inr, arith, lit<, lit≤, ap}
 use Rattle.std.specs.Str.{is_utf8, chars}
 use Rattle.std.specs.Char.{encode_utf8}
+use Rattle.std.proofs.lemmas.Option.{none-some}
 use Rattle.prost_reflect_wire.specs.Varint.{Varint}
 use Rattle.prost_reflect_wire.specs.Record.{Var, Flat, wire_code}
 use Rattle.prost_reflect_wire.specs.Scalar.{Int32}
@@ -14,7 +15,6 @@ use Rattle.prost_reflect_wire.specs.declared.error.DecodeError.{DecodeError}
 use Rattle.prost_reflect_wire.specs.declared.error.DecodeError.TheVariants as errors
 use Rattle.prost_reflect_wire.specs.declared.key.WireType.{WireType}
 use Rattle.prost_reflect_wire.specs.declared.key.WireType.TheVariants as wires
-use Rattle.prost_reflect_wire.proofs.Sound.{none_some}
 
 pub one_byte : (v : ℕ) → v < 128 → Varint v (v ∷ [])
 one_byte v h = record { below = omega (arith, h); digits = h; few = omega arith; means = omega (arith, h) }
@@ -104,11 +104,11 @@ faults = record {
       (Here (record { number = 3; wire = wires.Varint; field = field 3 Singular (message_value_type (MessageOf 0)); rest = 0x00 ∷ []; key = key 3 wires.Varint (0x00 ∷ []) (lit< tt) (lit< tt); found = refl; behind = (no_end, refl) }));
   entry_key = in_entry errors.WireType (0x08 ∷ 0x01 ∷ []) (0x02 ∷ 0x08 ∷ 0x01 ∷ []) (delimited 2 0x08 0x01)
       (Here (record { number = 1; wire = wires.Varint; field = entry_field 1 (text false); rest = 0x01 ∷ []; key = key 1 wires.Varint (0x01 ∷ []) (lit< tt) (lit< tt); found = refl; behind = (no_end, refl) }));
-  end_alone = Here (record { number = 1; wire = wires.EndGroup; rest = []; key = key 1 wires.EndGroup [] (lit< tt) (lit< tt); behind = (refl, none_some) });
+  end_alone = Here (record { number = 1; wire = wires.EndGroup; rest = []; key = key 1 wires.EndGroup [] (lit< tt) (lit< tt); behind = (refl, none-some _) });
   other_end = InGroup 1 11 99 (list 1 false (message_value_type (GroupOf 11))) (0x08 ∷ 0x01 ∷ 0x14 ∷ []) refl refl refl refl (key 1 wires.StartGroup (0x08 ∷ 0x01 ∷ 0x14 ∷ []) (lit< tt) (lit< tt))
       (Behind (record { number = 1; payload = Flat (Var 1) }) (0x14 ∷ []) (first_one (0x14 ∷ []))
       (Here (record { number = 2; wire = wires.EndGroup; rest = []; key = key 2 wires.EndGroup [] (lit< tt) (lit< tt); behind = (refl, one_two) })));
-  group_unended = InUnknown 5 99 [] refl refl (key 5 wires.StartGroup [] (lit< tt) (lit< tt)) (Here (inr (inl (refl, some_none))));
+  group_unended = InUnknown 5 99 [] refl refl (key 5 wires.StartGroup [] (lit< tt) (lit< tt)) (Here (inr (inl (refl, λ e. none-some _ (sym e)))));
   bad_text = Here (record {
     number = 1;
     wire = wires.LengthDelimited;
@@ -138,6 +138,3 @@ faults = record {
   where
     no_end : wires.Varint ≡ wires.EndGroup → ⊥
     no_end e = let k : ◌≡◌ {A = ℕ} 0 4 = ap wire_code e in omega (arith, k)
-
-    some_none : ◌≡◌ {A = Option ℕ} (Some 5) None → ⊥
-    some_none e = true≢false (ap (λ (o : Option ℕ). elim o [ None ↦ false | Some x ↦ true ]) e)

@@ -2,6 +2,7 @@
 use Rattle.std.proofs.Common.{◌≡◌, ℕ, ◌<◌, ◌++◌, List, [], ◌∷◌, length, refl, sym, ap, subst, arith}
 use Rattle.std.specs.Str.{is_utf8, chars}
 use Rattle.std.specs.Char.{encode_utf8}
+use Rattle.std.proofs.lemmas.Option.{same_Some}
 use Rattle.prost_reflect_wire.specs.Varint.{AreDigits, short}
 use Rattle.prost_reflect_wire.specs.Record.{Records, Spells, read}
 use Rattle.prost_reflect_wire.specs.Grammar.{unpacked, allows}
@@ -9,7 +10,6 @@ use Rattle.prost_reflect_wire.specs.Meaning.{meaning, steps}
 use Rattle.prost_reflect_laws.specs.Examples.Instances.{one}
 use Rattle.prost_reflect_laws.specs.Examples.NearbyReading.{no_bytes, NotOfRecords, NotOfScalars}
 use Rattle.prost_reflect_wire.proofs.Reading.{spelled_read}
-use Rattle.prost_reflect_wire.proofs.Sound.{some_inside}
 
 abbrev pub first : List ℕ → ℕ
 first [] = 0
@@ -32,7 +32,7 @@ not_of_records = record {
   one_spelling = refl;
   others = λ e. absurd (omega (arith, ap length e));
   read_is_spells = (refl, one_not_spelled);
-  accepts_is_test = (refl, λ a. one_not_spelled (is_one a.records a.spelled (some_inside (sym (spelled_read a.records no_bytes a.spelled)))));
+  accepts_is_test = (refl, λ a. one_not_spelled (is_one a.records a.spelled (same_Some _ _ (sym (spelled_read a.records no_bytes a.spelled)))));
   written_spells = (refl, λ s. absurd (omega (arith, (s.3).from_one)));
 }
   where

@@ -22,7 +22,7 @@ use Rattle.prost_reflect_tables.specs.Flat.{DefinitionRow, FlatEnumRow, FlatRows
 use Rattle.prost_reflect_tables.specs.Linking.{links_of, linked_kind, linked_default, linked_value, linked_enum, linked_rows, value_number, values_of_kind}
 use Rattle.prost_reflect_tables.proofs.Linkwell.Premises.{EnumChecked}
 use Rattle.prost_reflect_tables.proofs.Linkwell.Kinds.{is_scalar, FieldKind, NamesMessage, NamesEnum, IsScalar}
-use Rattle.prost_reflect_tables.proofs.Linkwell.WrittenValues.{up_to_limit, signed_i32, signed_i64, float_32, float_64, unescaped_are_bytes, named_number}
+use Rattle.prost_reflect_tables.proofs.Linkwell.WrittenValues.{numbers_of, up_to_limit, signed_i32, signed_i64, float_32, float_64, unescaped_are_bytes, named_number}
 
 -- SCALARS
 
@@ -82,23 +82,20 @@ zero_valid es (kinds.Enum E) g is = absurd cc
 
 -- ENUMS
 
-abbrev numbers_of : FlatEnumRow → List ℤ
-numbers_of e = map value_number e.values
-
 -- An enum's first number, and each of its numbers.
 pub record DeclaredBy (e : FlatEnumRow) (z : ℤ) : Type 0 where
   pub range : in_i32 z ≡ true
-  pub declared : list_any (int_eq z) (numbers_of e) ≡ true
+  pub declared : list_any (int_eq z) (numbers_of e.values) ≡ true
 
-first_declared : (e : FlatEnumRow) → EnumChecked e → DeclaredBy e (first_number (numbers_of e))
+first_declared : (e : FlatEnumRow) → EnumChecked e → DeclaredBy e (first_number (numbers_of e.values))
 first_declared e h = record { range = (go e.values h.some h.range).0; declared = (go e.values h.some h.range).1 }
   where
     go : (vs : List (DefinitionRow EnumValueDescriptorProto)) → nat_eq (length vs) 0 ≡ false → list_all (λ v. in_i32 (value_number v)) vs ≡ true →
-        (in_i32 (first_number (map value_number vs)) ≡ true) × (list_any (int_eq (first_number (map value_number vs))) (map value_number vs) ≡ true)
+        (in_i32 (first_number (numbers_of vs)) ≡ true) × (list_any (int_eq (first_number (numbers_of vs))) (numbers_of vs) ≡ true)
     go [] some range = absurd cc
     go (v ∷ vs) some range = (
       (and_parts (in_i32 (value_number v)) (list_all (λ v. in_i32 (value_number v)) vs) range).0,
-      or_left (int_eq (value_number v) (value_number v)) (list_any (int_eq (value_number v)) (map value_number vs)) (grind (arith, Decides-int_eq (value_number v) (value_number v))),
+      or_left (int_eq (value_number v) (value_number v)) (list_any (int_eq (value_number v)) (numbers_of vs)) (grind (arith, Decides-int_eq (value_number v) (value_number v))),
     )
 
 abbrev pub enum_scalar : FlatEnumRow → ScalarKind
@@ -110,14 +107,14 @@ with_numbers first closed numbers = scalars.Enum first (cond closed (Closed numb
 number_valid : (e : FlatEnumRow) (z : ℤ) → DeclaredBy e z → scalar_valid (enum_scalar e) (EnumNumber z) ≡ true
 number_valid e z h = go (not e.definition.is_proto3)
   where
-    go : (b : Bool) → scalar_valid (with_numbers (first_number (numbers_of e)) b (numbers_of e)) (EnumNumber z) ≡ true
-    go true = and_from (in_i32 z) (list_any (int_eq z) (numbers_of e)) h.range h.declared
+    go : (b : Bool) → scalar_valid (with_numbers (first_number (numbers_of e.values)) b (numbers_of e.values)) (EnumNumber z) ≡ true
+    go true = and_from (in_i32 z) (list_any (int_eq z) (numbers_of e.values)) h.range h.declared
     go false = and_from (in_i32 z) true h.range refl
 
 pub enum_kind_valid : (schema : Schema) (e : FlatEnumRow) → EnumChecked e → kind_valid schema (ScalarOf (enum_scalar e)) ≡ true
 enum_kind_valid schema e h = go (not e.definition.is_proto3)
   where
-    go : (b : Bool) → kind_valid schema (ScalarOf (with_numbers (first_number (numbers_of e)) b (numbers_of e))) ≡ true
+    go : (b : Bool) → kind_valid schema (ScalarOf (with_numbers (first_number (numbers_of e.values)) b (numbers_of e.values))) ≡ true
     go true = (first_declared e h).declared
     go false = refl
 
@@ -142,8 +139,8 @@ unfolding written_default
 of_enum rows text g E e at h =
     subst (λ (o : Option EnumRow). default_valid (ScalarOf (enum_kind o)) (schema_default (linked_default (links_of rows) (kinds.Enum E) text) (ScalarOf (enum_kind o))) ≡ true) (sym (enum_shown rows E e at)) (by_text text)
   where
-    first : scalar_valid (enum_scalar e) (EnumNumber (first_number (numbers_of e))) ≡ true
-    first = number_valid e (first_number (numbers_of e)) (first_declared e h)
+    first : scalar_valid (enum_scalar e) (EnumNumber (first_number (numbers_of e.values))) ≡ true
+    first = number_valid e (first_number (numbers_of e.values)) (first_declared e h)
 
     by_number : (name : List ℕ) (o : Option ℤ) → number_named (map linked_value e.values) name ≡ o → default_valid (ScalarOf (enum_scalar e)) (schema_default (option_map EnumNumber o) (ScalarOf (enum_scalar e))) ≡ true
     by_number name None is = first

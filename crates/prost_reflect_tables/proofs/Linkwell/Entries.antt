@@ -129,11 +129,11 @@ entry_numbers rows T m e = ap has_entry_numbers e.shown ∙ rw (key_number (link
 
 -- WHAT THEY SHOW
 
-plain_parts : (d : DefinitionRow FieldDescriptorProto) → is_plain d ≡ true → (faults.is_repeated d ≡ false) × (is_some d.proto.default_value ≡ false) × (is_member d ≡ false)
+plain_parts : (d : DefinitionRow FieldDescriptorProto) → is_plain d ≡ true → (faults.has_repeated_label d ≡ false) × (is_some d.proto.default_value ≡ false) × (is_member d ≡ false)
 plain_parts d h =
-    let member = and_parts (not (faults.is_repeated d) && is_none d.proto.default_value) (not (is_member d)) h in
-    let one = and_parts (not (faults.is_repeated d)) (is_none d.proto.default_value) member.0 in
-    (not-true (faults.is_repeated d) one.0, none_is d.proto.default_value one.1, not-true (is_member d) member.1)
+    let member = and_parts (not (faults.has_repeated_label d) && is_none d.proto.default_value) (not (is_member d)) h in
+    let one = and_parts (not (faults.has_repeated_label d)) (is_none d.proto.default_value) member.0 in
+    (not-true (faults.has_repeated_label d) one.0, none_is d.proto.default_value one.1, not-true (is_member d) member.1)
   where
     none_is : {X : Type 0} (o : Option X) → is_none o ≡ true → is_some o ≡ false
     none_is None h = refl
@@ -203,8 +203,8 @@ no_group_row rows x d h =
     ∙ no_group (linked_rows rows).enums (linked_field (links_of rows) x d).kind
 
 -- A single field of an entry would be wrong.
-single_no_entry : (rows : FlatRows) (d : DefinitionRow FieldDescriptorProto) → wrongly_of_entry rows d ≡ false → faults.is_repeated d ≡ false → is_of_entry rows d ≡ false
-single_no_entry rows d h one = go (is_of_entry rows d) (faults.is_repeated d) h one
+single_no_entry : (rows : FlatRows) (d : DefinitionRow FieldDescriptorProto) → wrongly_of_entry rows d ≡ false → faults.has_repeated_label d ≡ false → is_of_entry rows d ≡ false
+single_no_entry rows d h one = go (is_of_entry rows d) (faults.has_repeated_label d) h one
   where
     go : (a b : Bool) → (a && not (b && is_code 11 d.proto.type_)) ≡ false → b ≡ false → a ≡ false
     go false b h one = refl

@@ -59,7 +59,7 @@ label_shown (Some (pos n)) = go (nat_eq n 2) (nat_eq n 3) refl refl
     go false true e f = refl
     go false false e f = refl
 
-pub repeated_shown : (links : Links) (x : Bool) (d : DefinitionRow FieldDescriptorProto) → is_repeated (linked_field links x d).cardinality ≡ faults.is_repeated d
+pub repeated_shown : (links : Links) (x : Bool) (d : DefinitionRow FieldDescriptorProto) → is_repeated (linked_field links x d).cardinality ≡ faults.has_repeated_label d
 unfolding linked_field
 repeated_shown links x d = label_shown d.proto.label
 
@@ -122,8 +122,8 @@ unfolding linked_field
 no_default links x d h = no_text links (linked_kind links d.proto) d.proto.default_value h
 
 -- A repeated field writes no default.
-list_default : (d : DefinitionRow FieldDescriptorProto) → default_misplaced d ≡ false → faults.is_repeated d ≡ true → is_some d.proto.default_value ≡ false
-list_default d h rep = go (is_some d.proto.default_value) (faults.is_repeated d) h rep
+list_default : (d : DefinitionRow FieldDescriptorProto) → default_misplaced d ≡ false → faults.has_repeated_label d ≡ true → is_some d.proto.default_value ≡ false
+list_default d h rep = go (is_some d.proto.default_value) (faults.has_repeated_label d) h rep
   where
     go : (a b : Bool) → (a && (b || is_message_type d.proto.type_ || d.is_proto3)) ≡ false → b ≡ true → a ≡ false
     go false b h rep = refl
@@ -189,7 +189,7 @@ row_sound schema rows x d h kind alone enums =
       single = λ one. rw (message_kind_shown es k f.is_group) (presence_of_message (is_repeated c) (is_message k) (not d.is_proto3) x (is_some d.proto.oneof_index) _ one);
       member = λ some.
           let member : is_member d ≡ true = placed_member d.proto.oneof_index some in
-          let one : is_repeated c ≡ false = label_shown d.proto.label ∙ single_member (is_member d) (faults.is_repeated d) h.member member in
+          let one : is_repeated c ≡ false = label_shown d.proto.label ∙ single_member (is_member d) (faults.has_repeated_label d) h.member member in
           (one, presence_of_member (is_repeated c) (is_message k) (not d.is_proto3) x (is_some d.proto.oneof_index) _ one (no_extension x (is_member d) alone member) member);
       list = λ many. (
         bare es f (listed (is_repeated c) _ many) (never_required c many) (no_default links x d (list_default d h.default (sym (label_shown d.proto.label) ∙ many))),

@@ -5,6 +5,7 @@ use Rattle.std.specs.List.{list_all}
 use Rattle.std.proofs.lemmas.Bool.{and_from, eqb-true, eq-eqb, ltb-true, lt-ltb}
 use Rattle.std.proofs.lemmas.Bool.Decides.{Decides-int_eq}
 use Rattle.std.proofs.lemmas.List.Folds.{list_all-append, list_all-map}
+use Rattle.prost_reflect_wire.proofs.Survivors.{filter_append}
 use Rattle.prost_reflect_types.specs.declared.FieldDescriptorProto.{FieldDescriptorProto}
 use Rattle.prost_reflect_types.specs.declared.OneofDescriptorProto.{OneofDescriptorProto}
 use Rattle.prost_reflect_tables.specs.Rows.{FieldRow}
@@ -14,7 +15,7 @@ use Rattle.prost_reflect_tables.specs.Faults.{number_or_zero, number_bad, messag
 use Rattle.prost_reflect_tables.specs.Linking.{Links, links_of, natural_or_zero, is_place, belonging, extended_place, linked_field, declared_fields, fields_of_message, in_order, oneof_place, member_place, oneofs_from}
 use Rattle.prost_reflect_tables.proofs.Sorting.{with_number, order_there}
 use Rattle.prost_reflect_tables.proofs.Linkwell.Items.{all_from, all_belonging, all_in_order}
-use Rattle.prost_reflect_tables.proofs.Linkwell.Numbers.{number_of, in_number_range, AtMostOne, order_ascends, count_same, count_append, filter_append}
+use Rattle.prost_reflect_tables.proofs.Linkwell.Numbers.{number_of, in_number_range, AtMostOne, order_ascends, count_same, count_append}
 use Rattle.prost_reflect_tables.proofs.Linkwell.Fields.{number_is_natural, number_in_range, number_shown}
 
 -- A test of each field and of each extension of a message, in order.

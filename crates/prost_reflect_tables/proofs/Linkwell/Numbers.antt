@@ -4,6 +4,7 @@ use Rattle.std.specs.Prelude.{nat_lt, nat_eq}
 use Rattle.std.specs.List.{list_any, list_all}
 use Rattle.std.proofs.lemmas.Bool.{or_parts, and_from, and_parts, eq-eqb, ne_eqb, ltb-true, lt-ltb}
 use Rattle.std.proofs.lemmas.Bool.Decides.{Decides-int_eq}
+use Rattle.prost_reflect_wire.proofs.Survivors.{filter_append}
 use Rattle.prost_reflect_tables.specs.Rows.{FieldRow}
 use Rattle.prost_reflect_tables.specs.Linked.{ascending_from}
 use Rattle.prost_reflect_tables.specs.Linking.{in_order}
@@ -67,14 +68,6 @@ order_ascends fields one range =
 -- How many are the same as one.
 abbrev pub count_same : Numbered → List Numbered → ℕ
 count_same n ns = length (filter (same_numbered n) ns)
-
-pub filter_append : {X : Type 0} (p : X → Bool) (xs ys : List X) → filter p (xs ++ ys) ≡ filter p xs ++ filter p ys
-filter_append p [] ys = refl
-filter_append p (x ∷ xs) ys = go (p x) (filter_append p xs ys)
-  where
-    go : (b : Bool) → filter p (xs ++ ys) ≡ filter p xs ++ filter p ys → cond b (x ∷ filter p (xs ++ ys)) (filter p (xs ++ ys)) ≡ cond b (x ∷ filter p xs) (filter p xs) ++ filter p ys
-    go true e = ap (λ l. x ∷ l) e
-    go false e = e
 
 pub count_append : (n : Numbered) (xs ys : List Numbered) → count_same n (xs ++ ys) ≡ count_same n xs + count_same n ys
 count_append n xs ys = ap length (filter_append (same_numbered n) xs ys) ∙ length-append (filter (same_numbered n) xs) (filter (same_numbered n) ys)

@@ -12,8 +12,9 @@ use Rattle.prost_reflect_tables.specs.Flat.{DefinitionRow, FlatMessageRow, FlatE
 use Rattle.prost_reflect_tables.specs.Faults.{any_field, number_bad, type_missing, type_unknown, extendee_missing, extendee_unknown, repeated_member, is_member, has_oneof_outside, import_outside, enum_empty, extension_outside, duplicate_number}
 use Rattle.prost_reflect_tables.specs.EntryFaults.{bad_map_entry, entry_bad, wrongly_of_entry, is_of_entry, method_of_entry}
 use Rattle.prost_reflect_tables.specs.DefaultFaults.{default_bad, default_misplaced}
-use Rattle.prost_reflect_tables.specs.Linking.{Links, links_of, value_number, linked_enum, linked_rows}
+use Rattle.prost_reflect_tables.specs.Linking.{Links, links_of, value_number, linked_value, linked_enum, linked_rows}
 use Rattle.prost_reflect_tables.specs.Checked.{has_fault, Checked}
+use Rattle.prost_reflect_tables.specs.Rows.{EnumValueRow}
 use Rattle.prost_reflect_tables.specs.InRange.{enum_in_range, in_range}
 use Rattle.prost_reflect_tables.proofs.Keeping.{passes_at}
 use Rattle.prost_reflect_tables.proofs.Linkwell.Items.{none_at}
@@ -93,7 +94,7 @@ message_checked {files} rows T m s at = record {
 pub enum_checked : {files : List FileDescriptorProto} (rows : FlatRows) (E : ℕ) (e : FlatEnumRow) → Sound files rows → slice_get rows.enums E ≡ Some e → EnumChecked e
 enum_checked rows E e s at = record {
   some = none_at enum_empty rows.enums E e (no_fault s errors.EmptyEnum) at;
-  range = sym (list_all-map in_i32 value_number e.values) ∙ passes_at (λ (x : FlatEnumRow). list_all in_i32 (map value_number x.values)) rows.enums E e (sym (list_all-map enum_in_range linked_enum rows.enums) ∙ s.range) at;
+  range = sym (list_all-map in_i32 (λ (v : EnumValueRow). v.number) (map linked_value e.values) ∙ list_all-map (λ (v : EnumValueRow). in_i32 v.number) linked_value e.values) ∙ passes_at (λ (x : FlatEnumRow). enum_in_range (linked_enum x)) rows.enums E e (sym (list_all-map enum_in_range linked_enum rows.enums) ∙ s.range) at;
 }
 
 pub field_checked : {files : List FileDescriptorProto} (rows : FlatRows) (T i : ℕ) (m : FlatMessageRow) (d : DefinitionRow FieldDescriptorProto) → Sound files rows → slice_get rows.messages T ≡ Some m → slice_get m.fields i ≡ Some d → FieldChecked rows d

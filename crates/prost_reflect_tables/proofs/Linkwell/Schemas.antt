@@ -89,7 +89,7 @@ field_shown_valid {files} rows x d s h alone = by_kind kind
     as_map : (T : ℕ) (m : FlatMessageRow) → linked_kind (links_of rows) d.proto ≡ kinds.Message T → slice_get rows.messages T ≡ Some m → is_of_entry rows d ≡ true → is_entry m ≡ true → field_valid (schema_from (linked_rows rows)) (schema_field (linked_rows rows) (linked_field (links_of rows) x d)) ≡ true
     as_map T m is at of_entry entry =
         let f = linked_field (links_of rows) x d in
-        let right = right_entry (is_of_entry rows d) (faults.is_repeated d) (is_code 11 d.proto.type_) h.entry of_entry in
+        let right = right_entry (is_of_entry rows d) (faults.has_repeated_label d) (is_code 11 d.proto.type_) h.entry of_entry in
         let label : f.cardinality ≡ Repeated = is_repeated_label f.cardinality (repeated_shown (links_of rows) x d ∙ right.0) in
         let e : EntryFields rows T m = entry_fields rows T m at (message_checked rows T m s at).entry entry (λ i d there. (extension_checked rows i d s there).inside) in
         let key = field_checked rows T e.key_place m e.key s at e.key_at in

@@ -232,15 +232,18 @@ unescaped_are_bytes text bytes h e = unescaped_bytes (length text) text bytes h 
 
 -- ENUM VALUES
 
+abbrev pub numbers_of : List (DefinitionRow EnumValueDescriptorProto) → List ℤ
+numbers_of vs = map (λ (v : EnumValueRow). v.number) (map linked_value vs)
+
 -- A number of a value that has a name is among the numbers.
-pub named_number : (name : List ℕ) (vs : List (DefinitionRow EnumValueDescriptorProto)) (z : ℤ) → list_all (λ v. in_i32 (value_number v)) vs ≡ true → number_named (map linked_value vs) name ≡ Some z → (in_i32 z ≡ true) × (list_any (int_eq z) (map value_number vs) ≡ true)
+pub named_number : (name : List ℕ) (vs : List (DefinitionRow EnumValueDescriptorProto)) (z : ℤ) → list_all (λ v. in_i32 (value_number v)) vs ≡ true → number_named (map linked_value vs) name ≡ Some z → (in_i32 z ≡ true) × (list_any (int_eq z) (numbers_of vs) ≡ true)
 named_number name [] z h e = cc
 named_number name (v ∷ vs) z h e = go (bytes_eq (text_or_empty v.proto.name) name) e (and_parts (in_i32 (value_number v)) (list_all (λ v. in_i32 (value_number v)) vs) h) (λ more rest. named_number name vs z more rest)
   where
-    go : (b : Bool) → option_map (λ (w : EnumValueRow). w.number) (cond b (Some (linked_value v)) (find (λ (w : EnumValueRow). bytes_eq w.name name) (map linked_value vs))) ≡ Some z → (in_i32 (value_number v) ≡ true) × (list_all (λ v. in_i32 (value_number v)) vs ≡ true) →
-        (list_all (λ v. in_i32 (value_number v)) vs ≡ true → number_named (map linked_value vs) name ≡ Some z → (in_i32 z ≡ true) × (list_any (int_eq z) (map value_number vs) ≡ true)) →
-        (in_i32 z ≡ true) × (list_any (int_eq z) (map value_number (v ∷ vs)) ≡ true)
+    go : (b : Bool) → option_map (λ (w : EnumValueRow). w.number) (cond b (Some (linked_value v)) (find (λ (w : EnumValueRow). bytes_eq w.id.name name) (map linked_value vs))) ≡ Some z → (in_i32 (value_number v) ≡ true) × (list_all (λ v. in_i32 (value_number v)) vs ≡ true) →
+        (list_all (λ v. in_i32 (value_number v)) vs ≡ true → number_named (map linked_value vs) name ≡ Some z → (in_i32 z ≡ true) × (list_any (int_eq z) (numbers_of vs) ≡ true)) →
+        (in_i32 z ≡ true) × (list_any (int_eq z) (numbers_of (v ∷ vs)) ≡ true)
     go true e parts more =
         let same : value_number v ≡ z = cc in
-        (subst (λ (y : ℤ). in_i32 y ≡ true) same parts.0, or_left (int_eq z (value_number v)) (list_any (int_eq z) (map value_number vs)) (grind (arith, Decides-int_eq z (value_number v))))
-    go false e parts more = let rest = more parts.1 e in (rest.0, or_right (int_eq z (value_number v)) (list_any (int_eq z) (map value_number vs)) rest.1)
+        (subst (λ (y : ℤ). in_i32 y ≡ true) same parts.0, or_left (int_eq z (value_number v)) (list_any (int_eq z) (numbers_of vs)) (grind (arith, Decides-int_eq z (value_number v))))
+    go false e parts more = let rest = more parts.1 e in (rest.0, or_right (int_eq z (value_number v)) (list_any (int_eq z) (numbers_of vs)) rest.1)

@@ -1,13 +1,15 @@
 //! Where definitions stand, as rows of the tables say it.
 
-ghost use Rattle.std.specs.Prelude.{◌≡◌, IfOk};
+ghost use Rattle.std.specs.Prelude.{◌≡◌, IfOk, string_bytes};
 ghost use Rattle.prost_reflect_tables.specs.Rows.{identity_row};
 ghost use Rattle.prost_reflect_tables.specs.FlatViews.{definition_row};
-ghost use Rattle.prost_reflect_tables.specs.Linking.{linked_identity};
+ghost use Rattle.prost_reflect_tables.specs.Linking.{linked_identity, json_name};
+ghost use Rattle.prost_reflect_tables.specs.Names.{bracketed};
 
 use crate::build::flatten::Definition;
 use crate::build::names::text_or_empty;
 use crate::tables::Identity;
+use prost_reflect_types::FieldDescriptorProto;
 use std::alloc::{AllocError, Global};
 
 /// Where a definition of this name stands.
@@ -29,4 +31,34 @@ pub fn linked_identity<R>(
         full_name: definition.full_name.clone()?,
         name: String::from_str(alloc, text_or_empty(name))?,
     })
+}
+
+fn bracketed(alloc: Global, full_name: &str) -> Result<String, AllocError>
+    ensures { IfOk result (λ s. string_bytes s ≡ bracketed full_name.now) }
+{
+    let mut name = String::from_str(alloc, "[")?;
+    name.push_str(full_name)?;
+    name.push_str("]")?;
+    Ok(name)
+}
+
+/// The name of a field or an extension in JSON.
+///
+/// # Errors
+///
+/// `AllocError` if a growth was refused.
+pub fn json_name(
+    alloc: Global,
+    is_extension: bool,
+    definition: &Definition<FieldDescriptorProto>,
+) -> Result<String, AllocError>
+    ensures { IfOk result (λ s. string_bytes s ≡ json_name is_extension (definition_row definition.now)) }
+{
+    if is_extension {
+        return bracketed(alloc, definition.full_name.as_str());
+    }
+    match &definition.proto.json_name {
+        Some(name) => name.clone(),
+        None => String::from_str(alloc, text_or_empty(&definition.proto.name)),
+    }
 }

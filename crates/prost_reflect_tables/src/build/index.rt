@@ -2,7 +2,6 @@
 
 ghost use Rattle.std.specs.Prelude.{◌≡◌, [], ◌++◌, List, IfOk, OnOk, map};
 ghost use Rattle.std.specs.BTreeMap.{get_by_text};
-ghost use Rattle.prost_reflect_tables.specs.EntryFaults.{is_entry};
 ghost use Rattle.prost_reflect_tables.specs.Faults.{names_of, names_in_messages, names_in_enums, names_in_services, full_names, repeats, duplicate_name, message_names, enum_names, place_named};
 ghost use Rattle.prost_reflect_tables.specs.FlatViews.{definition_row, message_row, enum_row, service_row, flat_rows, text_list};
 ghost use Rattle.prost_reflect_tables.specs.Indexed.{IsIndexOf, IsNumbersOf, AreNumbersOf, IsIndex};
@@ -11,13 +10,12 @@ ghost use Rattle.prost_reflect_tables.specs.Linking.{links_of, linked_value, val
 
 use crate::build::flatten::{Definition, Flat, FlatEnum, FlatMessage, FlatService};
 use crate::build::names::{text_or_empty, without_dot};
-use crate::build::options::is_entry;
 use crate::tables::TableKind;
 use prost_reflect_types::EnumValueDescriptorProto;
 use std::alloc::{AllocError, Global};
 use std::collections::{BTreeMap, BTreeSet};
 
-/// The places of messages and enums by their full names, the numbers of enum values by their names, and the flags of messages that are entries of maps.
+/// The places of messages and enums by their full names, and the numbers of enum values by their names.
 #[derive(Drop)]
 pub struct Index {
     /// The places of messages.
@@ -26,8 +24,6 @@ pub struct Index {
     pub enums: BTreeMap<String, usize>,
     /// The numbers of each enum's values by their names.
     pub numbers: Vec<BTreeMap<String, i32>>,
-    /// Whether each message is a map's entry.
-    pub entries: Vec<bool>,
 }
 
 // DUPLICATE NAMES
@@ -195,18 +191,7 @@ fn numbers_by_enum(
     Ok(numbers)
 }
 
-/// Whether each message is a map's entry.
-fn entry_flags(alloc: Global, messages: &[FlatMessage]) -> Result<Vec<bool>, AllocError>
-    ensures { IfOk result (λ v. v.items ≡ map is_entry (map message_row messages.now)) }
-{
-    let mut flags = Vec::new(alloc);
-    for message in messages {
-        flags.push(is_entry(message))?;
-    }
-    Ok(flags)
-}
-
-/// The places of messages and enums by their full names, the numbers of enum values by their names, and the flags of messages that are entries of maps.
+/// The places of messages and enums by their full names, and the numbers of enum values by their names.
 ///
 /// # Errors
 ///
@@ -220,7 +205,6 @@ pub fn indexed(alloc: Global, flat: &Flat) -> Result<Index, AllocError>
         messages: index_of(alloc, messages.as_slice())?,
         enums: index_of(alloc, enums.as_slice())?,
         numbers: numbers_by_enum(alloc, flat.enums.as_slice())?,
-        entries: entry_flags(alloc, flat.messages.as_slice())?,
     })
 }
 

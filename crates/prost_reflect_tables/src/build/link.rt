@@ -1,26 +1,26 @@
 //! Linking: the tables that files in flat lists give.
 
-ghost use Rattle.std.specs.Prelude.{◌≡◌, ◌<◌, ◌++◌, length, IfOk, OnOk, map, option_map, string_bytes, true, false};
+ghost use Rattle.std.specs.Prelude.{◌≡◌, ◌<◌, ◌++◌, length, IfOk, OnOk, map, option_map, true, false};
 ghost use Rattle.std.specs.List.{list_all};
 ghost use Rattle.std.specs.List.Sorted.{IsNonDecreasingBy};
 ghost use Rattle.prost_reflect_wire.specs.Scalar.{in_i32};
-ghost use Rattle.prost_reflect_tables.specs.Names.{text_or_empty};
-ghost use Rattle.prost_reflect_tables.specs.Rows.{field_row, oneof_row, message_row, enum_row, written_scalar, rows_from};
+ghost use Rattle.prost_reflect_tables.specs.Rows.{identity_row, field_row, oneof_row, message_row, enum_value_row, enum_row, written_scalar, rows_from};
 ghost use Rattle.prost_reflect_tables.specs.declared.tables.FieldTable.{FieldTable};
 ghost use Rattle.prost_reflect_tables.specs.FlatViews.{definition_row, flat_rows};
 ghost use Rattle.prost_reflect_tables.specs.FlatViews as flat_views;
-ghost use Rattle.prost_reflect_tables.specs.Linking.{links_of, natural_or_zero, place_in, kind_of_code, linked_kind, is_message, is_packable, cardinality_of_label, linked_packed, linked_presence, linked_default, linked_field, in_order, fields_of_message, declared_fields, extended_place, oneof_place, member_place, oneofs_from, linked_message, messages_from, value_number, linked_value, linked_enum, linked_rows};
+ghost use Rattle.prost_reflect_tables.specs.Linking.{links_of, natural_or_zero, place_in, kind_of_code, linked_kind, is_message, is_packable, cardinality_of_label, linked_packed, linked_presence, linked_default, linked_identity, linked_field, in_order, fields_of_message, declared_fields, extended_place, oneof_place, member_place, oneofs_from, linked_message, messages_from, linked_value, linked_enum, linked_rows};
 ghost use Rattle.prost_reflect_tables.specs.InRange.{enum_in_range, in_range};
 ghost use Rattle.prost_reflect_tables.specs.Indexed.{IsIndex};
 ghost use Rattle.prost_reflect_tables.specs.Indexing.{empty_lists, with_item, grouped, list_rows, messages_with};
 
 use crate::build::defaults::written_default;
 use crate::build::flatten::{Definition, Flat, FlatEnum, FlatMessage};
+use crate::build::identity::{json_name, linked_identity};
 use crate::build::index::{Index, enum_place, message_place, number_named};
-use crate::build::names::text_or_empty;
 use crate::build::options::bool_option;
 use crate::tables::{
-    Cardinality, EnumTable, FieldTable, MessageTable, OneofTable, TableKind, WrittenDefault,
+    Cardinality, EnumTable, EnumValueTable, FieldTable, MessageTable, OneofTable, TableKind,
+    WrittenDefault,
 };
 use prost_reflect_types::{EnumValueDescriptorProto, FieldDescriptorProto, OneofDescriptorProto};
 use std::alloc::{AllocError, Global};
@@ -178,8 +178,9 @@ fn linked_field(
     let kind = linked_kind(index, flat, field);
     let cardinality = cardinality_of_label(natural_or_zero(field.label));
     Ok(FieldTable {
+        id: linked_identity(alloc, definition, &field.name)?,
+        json_name: json_name(alloc, is_extension, definition)?,
         number: natural_or_zero(field.number),
-        name: String::from_str(alloc, text_or_empty(&field.name))?,
         is_extension,
         kind,
         is_group: natural_or_zero(field.type_) == 10,
@@ -312,11 +313,11 @@ fn linked_oneof(
     definition: &Definition<OneofDescriptorProto>,
     members: &[usize],
 ) -> Result<OneofTable, AllocError>
-    ensures name { IfOk result (λ o. string_bytes o.name ≡ text_or_empty definition.now.proto.now.name) }
+    ensures id { IfOk result (λ o. identity_row o.id ≡ linked_identity definition.now.proto.now.name (definition_row definition.now)) }
     ensures members { IfOk result (λ o. o.fields.items ≡ members.now) }
 {
     Ok(OneofTable {
-        name: String::from_str(alloc, text_or_empty(&definition.proto.name))?,
+        id: linked_identity(alloc, definition, &definition.proto.name)?,
         fields: members.to_vec(alloc)?,
     })
 }
@@ -358,9 +359,10 @@ fn linked_message(
         message.fields.as_slice(),
         message.oneofs.as_slice(),
     )?;
+    let definition = &message.definition;
     Ok(MessageTable {
-        full_name: message.definition.full_name.clone()?,
-        is_map_entry: bool_option(7, &message.definition.proto.options).unwrap_or(false),
+        id: linked_identity(alloc, definition, &definition.proto.name)?,
+        is_map_entry: bool_option(7, &definition.proto.options).unwrap_or(false),
         fields,
         oneofs,
     })
@@ -382,20 +384,33 @@ fn linked_messages(
     Ok(tables)
 }
 
-/// The numbers of an enum's values, in the order of their declaration.
-pub fn value_numbers(
+/// A value of an enum.
+fn linked_value(
+    alloc: Global,
+    definition: &Definition<EnumValueDescriptorProto>,
+) -> Result<EnumValueTable, AllocError>
+    ensures row { IfOk result (λ v. enum_value_row v ≡ linked_value (definition_row definition.now)) }
+    ensures range { IfOk result (λ v. in_i32 v.number ≡ true) }
+{
+    Ok(EnumValueTable {
+        id: linked_identity(alloc, definition, &definition.proto.name)?,
+        number: definition.proto.number.unwrap_or(0),
+    })
+}
+
+/// The values of an enum, in the order of their declaration.
+fn linked_values(
     alloc: Global,
     values: &[Definition<EnumValueDescriptorProto>],
-) -> Result<Vec<i32>, AllocError>
-    ensures numbers { IfOk result (λ v. v.items ≡ map value_number (map definition_row values.now)) }
-    ensures range { IfOk result (λ v. list_all in_i32 v.items ≡ true) }
+) -> Result<Vec<EnumValueTable>, AllocError>
+    ensures rows { IfOk result (λ v. map enum_value_row v.items ≡ map linked_value (map definition_row values.now)) }
+    ensures range { IfOk result (λ v. list_all in_i32 (map (λ w. w.number) (map enum_value_row v.items)) ≡ true) }
 {
-    let mut numbers = Vec::new(alloc);
+    let mut tables = Vec::new(alloc);
     for value in values {
-        let number = value.proto.number.unwrap_or(0);
-        numbers.push(number)?;
+        tables.push(linked_value(alloc, value)?)?;
     }
-    Ok(numbers)
+    Ok(tables)
 }
 
 /// The enums.
@@ -406,8 +421,8 @@ fn linked_enums(alloc: Global, enums: &[FlatEnum]) -> Result<Vec<EnumTable>, All
     let mut tables = Vec::new(alloc);
     for item in enums {
         tables.push(EnumTable {
-            full_name: item.definition.full_name.clone()?,
-            numbers: value_numbers(alloc, item.values.as_slice())?,
+            id: linked_identity(alloc, &item.definition, &item.definition.proto.name)?,
+            values: linked_values(alloc, item.values.as_slice())?,
             is_closed: !item.definition.is_proto3,
         })?;
     }

@@ -7,15 +7,14 @@ ghost use Rattle.prost_reflect_tables.specs.FlatViews.{definition_row, flat_rows
 ghost use Rattle.prost_reflect_tables.specs.Gathered.{gathered};
 ghost use Rattle.prost_reflect_tables.specs.GatheredLists.{AreInner};
 ghost use Rattle.prost_reflect_tables.specs.Indexed.{IsIndex};
-ghost use Rattle.prost_reflect_tables.specs.LinkedCatalog.{each_from, field_names, own_fields, linked_lists, value_names, enum_lists};
-ghost use Rattle.prost_reflect_tables.specs.Linking.{links_of, extended_place};
+ghost use Rattle.prost_reflect_tables.specs.LinkedCatalog.{each_from, field_names, json_names, own_fields, linked_lists, value_names, enum_lists};
+ghost use Rattle.prost_reflect_tables.specs.Linking.{links_of, extended_place, value_number};
 ghost use Rattle.prost_reflect_tables.specs.Orders.{by_text};
 ghost use Rattle.prost_reflect_tables.specs.Rows.{field_row, message_row};
 
 use crate::build::flatten::{Definition, Flat, FlatEnum, FlatMessage};
 use crate::build::gather::{gathered, list_at};
 use crate::build::index::{Index, message_place};
-use crate::build::link::value_numbers;
 use crate::build::names::text_or_empty;
 use crate::build::order::{ordered_numbers, ordered_texts, sort_by_text};
 use crate::catalog::{EnumLists, MessageLists};
@@ -106,7 +105,17 @@ fn field_names<'f>(alloc: Global, fields: &'f [FieldTable]) -> Result<Vec<&'f st
 {
     let mut names = Vec::new(alloc);
     for field in fields {
-        names.push(field.name.as_str())?;
+        names.push(field.id.name.as_str())?;
+    }
+    Ok(names)
+}
+
+fn json_names<'f>(alloc: Global, fields: &'f [FieldTable]) -> Result<Vec<&'f str>, AllocError>
+    ensures { IfOk result (λ v. text_list v.items ≡ json_names (map field_row fields.now)) }
+{
+    let mut names = Vec::new(alloc);
+    for field in fields {
+        names.push(field.json_name.as_str())?;
     }
     Ok(names)
 }
@@ -124,13 +133,31 @@ fn own_fields(alloc: Global, fields: &[FieldTable]) -> Result<Vec<usize>, AllocE
     Ok(places)
 }
 
+/// The places of fields without extensions, in the order of these names of all fields.
+fn fields_by(
+    alloc: Global,
+    fields: &[FieldTable],
+    names: &[&str],
+) -> Result<Vec<usize>, AllocError>
+    ensures { IfOk result (λ v. v.items ≡ by_text (text_list names.now) (own_fields (map field_row fields.now))) }
+{
+    let mut places = own_fields(alloc, fields)?;
+    sort_by_text(names, &mut places)?;
+    Ok(places)
+}
+
 fn fields_by_name(alloc: Global, fields: &[FieldTable]) -> Result<Vec<usize>, AllocError>
     ensures { IfOk result (λ v. v.items ≡ by_text (field_names (map field_row fields.now)) (own_fields (map field_row fields.now))) }
 {
     let names = field_names(alloc, fields)?;
-    let mut places = own_fields(alloc, fields)?;
-    sort_by_text(names.as_slice(), &mut places)?;
-    Ok(places)
+    Ok(fields_by(alloc, fields, names.as_slice())?)
+}
+
+fn fields_by_json_name(alloc: Global, fields: &[FieldTable]) -> Result<Vec<usize>, AllocError>
+    ensures { IfOk result (λ v. v.items ≡ by_text (json_names (map field_row fields.now)) (own_fields (map field_row fields.now))) }
+{
+    let names = json_names(alloc, fields)?;
+    Ok(fields_by(alloc, fields, names.as_slice())?)
 }
 
 fn message_lists(
@@ -150,6 +177,7 @@ fn message_lists(
         extensions: list_at(alloc, inner.extensions.as_slice(), place)?,
         extending: list_at(alloc, inner.extending.as_slice(), place)?,
         by_name: fields_by_name(alloc, message.fields.as_slice())?,
+        by_json_name: fields_by_json_name(alloc, message.fields.as_slice())?,
     })
 }
 
@@ -189,6 +217,20 @@ fn value_names<'f>(
         names.push(text_or_empty(&value.proto.name))?;
     }
     Ok(names)
+}
+
+fn value_numbers(
+    alloc: Global,
+    values: &[Definition<EnumValueDescriptorProto>],
+) -> Result<Vec<i32>, AllocError>
+    ensures { IfOk result (λ v. v.items ≡ map value_number (map definition_row values.now)) }
+{
+    let mut numbers = Vec::new(alloc);
+    for value in values {
+        let number = value.proto.number.unwrap_or(0);
+        numbers.push(number)?;
+    }
+    Ok(numbers)
 }
 
 fn enum_lists(alloc: Global, declared: &FlatEnum) -> Result<EnumLists, AllocError>

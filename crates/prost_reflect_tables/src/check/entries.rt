@@ -2,14 +2,17 @@
 
 ghost use Rattle.std.specs.Prelude.{◌≡◌, map};
 ghost use Rattle.std.specs.List.{list_any};
-ghost use Rattle.prost_reflect_tables.specs.EntryFaults.{is_key_type, is_plain, is_entry_key, is_entry_value, is_key_and_value, entry_bad, names_entry, is_of_entry, wrongly_of_entry, method_of_entry, bad_map_entry};
-ghost use Rattle.prost_reflect_tables.specs.FlatViews.{definition_row, message_row, service_row, flat_rows};
-ghost use Rattle.prost_reflect_tables.specs.Indexed.{IsIndex};
+ghost use Rattle.prost_reflect_tables.specs.EntryFaults.{is_key_type, is_plain, is_entry_key, is_entry_value, is_key_and_value, entry_bad, is_entry_message, names_entry, is_of_entry, wrongly_of_entry, method_of_entry, bad_map_entry};
+ghost use Rattle.prost_reflect_tables.specs.FlatViews.{definition_row, message_row, flat_rows};
+ghost use Rattle.prost_reflect_tables.specs.Resolved.{resolved_row, IsResolved};
+ghost use Rattle.prost_reflect_tables.specs.ResolvedFaults.{message_of, found_of_entry, wrongly_found};
 
-use crate::build::flatten::{Definition, Flat, FlatMessage, FlatService};
-use crate::build::index::{Index, message_place};
+use crate::build::flatten::{Definition, Flat, FlatMessage};
+use crate::build::index::message_place;
 use crate::build::options::is_entry;
+use crate::build::resolve::{Resolved, ResolvedField};
 use crate::check::fields::{is_code, is_message_type, is_type};
+use crate::check::walk::{any_message, any_method, any_resolved_extension, any_resolved_field};
 use prost_reflect_types::{FieldDescriptorProto, MethodDescriptorProto};
 
 // KEYS AND VALUES
@@ -64,135 +67,91 @@ fn is_entry_bad(message: &FlatMessage) -> bool
             && message.definition.proto.extension_range.is_empty())
 }
 
-fn has_bad_entry(messages: &[FlatMessage]) -> bool
-    ensures { result ≡ list_any (entry_bad) (map message_row messages.now) }
-{
-    for message in messages {
-        if is_entry_bad(message) {
-            return true;
-        }
-    }
-    false
-}
-
 // WHAT NAMES AN ENTRY
 
-fn names_entry(index: &Index, flat: &Flat, text: &Option<String>) -> bool
-    requires { IsIndex index.now (flat_rows flat.now) }
-    ensures { result ≡ names_entry (flat_rows flat.now) text.now }
+fn is_entry_at(resolved: &Resolved, flat: &Flat, place: Option<usize>) -> bool
+    requires { IsResolved resolved.now (flat_rows flat.now) }
+    ensures { result ≡ is_entry_message (message_of (flat_rows flat.now) place) }
 {
-    let Some(place) = message_place(index, flat, text) else {
+    let Some(place) = place else {
         return false;
     };
-    index.entries.get(place).copied().unwrap_or(false)
+    resolved.entries.get(place).copied().unwrap_or(false)
 }
 
-fn is_of_entry(index: &Index, flat: &Flat, field: &Definition<FieldDescriptorProto>) -> bool
-    requires { IsIndex index.now (flat_rows flat.now) }
-    ensures { result ≡ is_of_entry (flat_rows flat.now) (definition_row field.now) }
+fn names_entry(resolved: &Resolved, flat: &Flat, text: &Option<String>) -> bool
+    requires { IsResolved resolved.now (flat_rows flat.now) }
+    ensures { result ≡ names_entry (flat_rows flat.now) text.now }
 {
-    is_message_type(field.proto.type_) && names_entry(index, flat, &field.proto.type_name)
+    is_entry_at(resolved, flat, message_place(&resolved.index, flat, text))
 }
 
-fn is_wrongly_of_entry(index: &Index, flat: &Flat, field: &Definition<FieldDescriptorProto>) -> bool
-    requires { IsIndex index.now (flat_rows flat.now) }
-    ensures { result ≡ wrongly_of_entry (flat_rows flat.now) (definition_row field.now) }
+fn is_of_entry(resolved: &Resolved, flat: &Flat, field: &ResolvedField) -> bool
+    requires { IsResolved resolved.now (flat_rows flat.now) }
+    ensures { result ≡ found_of_entry (flat_rows flat.now) (resolved_row field.now) }
 {
-    is_of_entry(index, flat, field)
+    is_message_type(field.proto.type_) && is_entry_at(resolved, flat, field.message)
+}
+
+fn is_wrongly_of_entry(resolved: &Resolved, flat: &Flat, field: &ResolvedField) -> bool
+    requires { IsResolved resolved.now (flat_rows flat.now) }
+    ensures { result ≡ wrongly_found (flat_rows flat.now) (resolved_row field.now) }
+{
+    is_of_entry(resolved, flat, field)
         && !(is_code(3, field.proto.label) && is_code(11, field.proto.type_))
 }
 
 fn is_method_of_entry(
-    index: &Index,
+    resolved: &Resolved,
     flat: &Flat,
     method: &Definition<MethodDescriptorProto>,
 ) -> bool
-    requires { IsIndex index.now (flat_rows flat.now) }
+    requires { IsResolved resolved.now (flat_rows flat.now) }
     ensures { result ≡ method_of_entry (flat_rows flat.now) (definition_row method.now) }
 {
-    names_entry(index, flat, &method.proto.input_type)
-        || names_entry(index, flat, &method.proto.output_type)
+    names_entry(resolved, flat, &method.proto.input_type)
+        || names_entry(resolved, flat, &method.proto.output_type)
 }
 
-fn has_wrongly_of_entry_in(
-    index: &Index,
-    flat: &Flat,
-    fields: &[Definition<FieldDescriptorProto>],
-) -> bool
-    requires { IsIndex index.now (flat_rows flat.now) }
-    ensures { result ≡ list_any (wrongly_of_entry (flat_rows flat.now)) (map definition_row fields.now) }
+fn has_wrongly_of_entry(resolved: &Resolved, flat: &Flat) -> bool
+    requires { IsResolved resolved.now (flat_rows flat.now) }
+    ensures { result ≡ list_any (λ m. list_any (wrongly_of_entry (flat_rows flat.now)) m.fields) (flat_rows flat.now).messages }
 {
-    for field in fields {
-        if is_wrongly_of_entry(index, flat, field) {
-            return true;
-        }
-    }
-    false
+    any_resolved_field(
+        resolved,
+        flat,
+        &|field| is_wrongly_of_entry(resolved, flat, field),
+    )
 }
 
-fn has_wrongly_of_entry_of(index: &Index, flat: &Flat, messages: &[FlatMessage]) -> bool
-    requires { IsIndex index.now (flat_rows flat.now) }
-    ensures { result ≡ list_any (λ m. list_any (wrongly_of_entry (flat_rows flat.now)) m.fields) (map message_row messages.now) }
+fn has_extension_of_entry(resolved: &Resolved, flat: &Flat) -> bool
+    requires { IsResolved resolved.now (flat_rows flat.now) }
+    ensures { result ≡ list_any (is_of_entry (flat_rows flat.now)) (flat_rows flat.now).extensions }
 {
-    for message in messages {
-        if has_wrongly_of_entry_in(index, flat, message.fields.as_slice()) {
-            return true;
-        }
-    }
-    false
+    any_resolved_extension(
+        resolved,
+        flat,
+        &|extension| is_of_entry(resolved, flat, extension),
+    )
 }
 
-fn has_extension_of_entry(
-    index: &Index,
-    flat: &Flat,
-    extensions: &[Definition<FieldDescriptorProto>],
-) -> bool
-    requires { IsIndex index.now (flat_rows flat.now) }
-    ensures { result ≡ list_any (is_of_entry (flat_rows flat.now)) (map definition_row extensions.now) }
+fn has_method_of_entry(resolved: &Resolved, flat: &Flat) -> bool
+    requires { IsResolved resolved.now (flat_rows flat.now) }
+    ensures { result ≡ list_any (λ s. list_any (method_of_entry (flat_rows flat.now)) s.methods) (flat_rows flat.now).services }
 {
-    for extension in extensions {
-        if is_of_entry(index, flat, extension) {
-            return true;
-        }
-    }
-    false
-}
-
-fn has_method_of_entry_in(
-    index: &Index,
-    flat: &Flat,
-    methods: &[Definition<MethodDescriptorProto>],
-) -> bool
-    requires { IsIndex index.now (flat_rows flat.now) }
-    ensures { result ≡ list_any (method_of_entry (flat_rows flat.now)) (map definition_row methods.now) }
-{
-    for method in methods {
-        if is_method_of_entry(index, flat, method) {
-            return true;
-        }
-    }
-    false
-}
-
-fn has_method_of_entry_of(index: &Index, flat: &Flat, services: &[FlatService]) -> bool
-    requires { IsIndex index.now (flat_rows flat.now) }
-    ensures { result ≡ list_any (λ s. list_any (method_of_entry (flat_rows flat.now)) s.methods) (map service_row services.now) }
-{
-    for service in services {
-        if has_method_of_entry_in(index, flat, service.methods.as_slice()) {
-            return true;
-        }
-    }
-    false
+    any_method(
+        flat.services.as_slice(),
+        &|method| is_method_of_entry(resolved, flat, method),
+    )
 }
 
 /// Whether a message that the option `map_entry` marks is not a key and a value, or something other than a repeated message field names one.
-pub fn has_bad_map_entry(index: &Index, flat: &Flat) -> bool
-    requires { IsIndex index.now (flat_rows flat.now) }
+pub fn has_bad_map_entry(resolved: &Resolved, flat: &Flat) -> bool
+    requires { IsResolved resolved.now (flat_rows flat.now) }
     ensures { result ≡ bad_map_entry (flat_rows flat.now) }
 {
-    has_bad_entry(flat.messages.as_slice())
-        || has_wrongly_of_entry_of(index, flat, flat.messages.as_slice())
-        || has_extension_of_entry(index, flat, flat.extensions.as_slice())
-        || has_method_of_entry_of(index, flat, flat.services.as_slice())
+    any_message(flat.messages.as_slice(), &is_entry_bad)
+        || has_wrongly_of_entry(resolved, flat)
+        || has_extension_of_entry(resolved, flat)
+        || has_method_of_entry(resolved, flat)
 }

@@ -1,12 +1,14 @@
 //! The check that the fields and extensions of a message have different numbers.
 
 ghost use Rattle.std.specs.Prelude.{◌≡◌, [], ◌++◌, length, IfOk, OnOk, map};
-ghost use Rattle.prost_reflect_tables.specs.Faults.{number_or_zero, numbered_fields, numbered_in, numbered_extensions, all_numbered, number_repeats, duplicate_number};
+ghost use Rattle.prost_reflect_tables.specs.Faults.{number_or_zero, numbered_fields, numbered_in, all_numbered, number_repeats, duplicate_number};
 ghost use Rattle.prost_reflect_tables.specs.FlatViews.{definition_row, message_row, flat_rows};
-ghost use Rattle.prost_reflect_tables.specs.Indexed.{IsIndex, numbered_list};
+ghost use Rattle.prost_reflect_tables.specs.Indexed.{numbered_list};
+ghost use Rattle.prost_reflect_tables.specs.Resolved.{resolved_row, IsResolved};
+ghost use Rattle.prost_reflect_tables.specs.ResolvedFaults.{numbered_found};
 
 use crate::build::flatten::{Definition, Flat, FlatMessage};
-use crate::build::index::{Index, message_place};
+use crate::build::resolve::{Resolved, ResolvedField};
 use prost_reflect_types::FieldDescriptorProto;
 use std::alloc::{AllocError, Global};
 use std::collections::BTreeSet;
@@ -48,15 +50,12 @@ fn add_messages(numbers: &mut Vec<(usize, i32)>, messages: &[FlatMessage]) -> Re
 
 fn add_extensions(
     numbers: &mut Vec<(usize, i32)>,
-    index: &Index,
-    flat: &Flat,
-    extensions: &[Definition<FieldDescriptorProto>],
+    extensions: &[ResolvedField],
 ) -> Result<(), AllocError>
-    requires { IsIndex index.now (flat_rows flat.now) }
-    ensures { OnOk result (numbered_list numbers.new.items ≡ numbered_list numbers.old.items ++ numbered_extensions (flat_rows flat.now) (map definition_row extensions.now)) }
+    ensures { OnOk result (numbered_list numbers.new.items ≡ numbered_list numbers.old.items ++ numbered_found (map resolved_row extensions.now)) }
 {
     for extension in extensions {
-        if let Some(place) = message_place(index, flat, &extension.proto.extendee) {
+        if let Some(place) = extension.extendee {
             numbers.push((place, extension.proto.number.unwrap_or(0)))?;
         }
     }
@@ -68,12 +67,16 @@ fn add_extensions(
 /// # Errors
 ///
 /// `AllocError` if a growth was refused.
-pub fn has_duplicate_number(alloc: Global, index: &Index, flat: &Flat) -> Result<bool, AllocError>
-    requires { IsIndex index.now (flat_rows flat.now) }
+pub fn has_duplicate_number(
+    alloc: Global,
+    resolved: &Resolved,
+    flat: &Flat,
+) -> Result<bool, AllocError>
+    requires { IsResolved resolved.now (flat_rows flat.now) }
     ensures { IfOk result (λ b. b ≡ duplicate_number (flat_rows flat.now)) }
 {
     let mut numbers = Vec::new(alloc);
     add_messages(&mut numbers, flat.messages.as_slice())?;
-    add_extensions(&mut numbers, index, flat, flat.extensions.as_slice())?;
+    add_extensions(&mut numbers, resolved.extensions.as_slice())?;
     repeats(alloc, numbers.as_slice())
 }

@@ -5,16 +5,17 @@
 ghost use Rattle.std.specs.Prelude.{◌≡◌, IfOk, map};
 ghost use Rattle.std.specs.List.{list_any};
 ghost use Rattle.std.specs.List.Sorted.{IsNonDecreasingBy};
-ghost use Rattle.prost_reflect_tables.specs.Faults.{range_bad, message_range_bad, enum_range_bad, bad_range, is_in_range, extension_outside, outside_range};
-ghost use Rattle.prost_reflect_tables.specs.FlatViews.{definition_row, message_row, enum_row, flat_rows};
-ghost use Rattle.prost_reflect_tables.specs.Indexed.{IsIndex};
+ghost use Rattle.prost_reflect_tables.specs.Faults.{range_bad, message_range_bad, enum_range_bad, bad_range, is_in_range, outside_range};
+ghost use Rattle.prost_reflect_tables.specs.FlatViews.{message_row, enum_row, flat_rows};
+ghost use Rattle.prost_reflect_tables.specs.Resolved.{resolved_row, IsResolved};
+ghost use Rattle.prost_reflect_tables.specs.ResolvedFaults.{found_outside};
 ghost use Rattle.prost_reflect_tables.specs.Spans.{is_in_span, span_of, reaching, AreSpansOf, AreSpansOfAll};
 
-use crate::build::flatten::{Definition, Flat, FlatEnum, FlatMessage};
-use crate::build::index::{Index, message_place};
+use crate::build::flatten::{Flat, FlatEnum, FlatMessage};
 use crate::build::link::natural_or_zero;
-use crate::check::walk::{any, any_definition, any_enum, any_message};
-use prost_reflect_types::{ExtensionRange, FieldDescriptorProto};
+use crate::build::resolve::{Resolved, ResolvedField};
+use crate::check::walk::{any, any_enum, any_message, any_resolved_extension};
+use prost_reflect_types::ExtensionRange;
 use std::alloc::{AllocError, Global};
 
 // EMPTY RANGES
@@ -137,17 +138,11 @@ fn is_covered(number: i32, ranges: &[ExtensionRange], spans: &[(u32, u32)]) -> b
     }
 }
 
-fn is_extension_outside(
-    index: &Index,
-    flat: &Flat,
-    spans: &[Vec<(u32, u32)>],
-    extension: &Definition<FieldDescriptorProto>,
-) -> bool
-    requires index { IsIndex index.now (flat_rows flat.now) }
-    requires spans { AreSpansOfAll spans.now (flat_rows flat.now).messages }
-    ensures { result ≡ extension_outside (flat_rows flat.now) (definition_row extension.now) }
+fn is_extension_outside(flat: &Flat, spans: &[Vec<(u32, u32)>], extension: &ResolvedField) -> bool
+    requires { AreSpansOfAll spans.now (flat_rows flat.now).messages }
+    ensures { result ≡ found_outside (flat_rows flat.now) (resolved_row extension.now) }
 {
-    let Some(place) = message_place(index, flat, &extension.proto.extendee) else {
+    let Some(place) = extension.extendee else {
         return false;
     };
     let Some(message) = flat.messages.get(place) else {
@@ -169,14 +164,19 @@ fn is_extension_outside(
 /// # Errors
 ///
 /// `AllocError` if a growth was refused.
-pub fn has_outside_range(alloc: Global, index: &Index, flat: &Flat) -> Result<bool, AllocError>
-    requires { IsIndex index.now (flat_rows flat.now) }
+pub fn has_outside_range(
+    alloc: Global,
+    resolved: &Resolved,
+    flat: &Flat,
+) -> Result<bool, AllocError>
+    requires { IsResolved resolved.now (flat_rows flat.now) }
     ensures { IfOk result (λ b. b ≡ outside_range (flat_rows flat.now)) }
 {
     let spans = spans_of_all(alloc, flat.messages.as_slice())?;
     let spans = spans.as_slice();
-    Ok(any_definition(
-        flat.extensions.as_slice(),
-        &|extension| { is_extension_outside(index, flat, spans, extension) },
+    Ok(any_resolved_extension(
+        resolved,
+        flat,
+        &|extension| { is_extension_outside(flat, spans, extension) },
     ))
 }

@@ -8,9 +8,12 @@ ghost use Rattle.prost_reflect_types.specs.declared.MethodDescriptorProto.{Metho
 ghost use Rattle.prost_reflect_tables.specs.Faults.{any_field};
 ghost use Rattle.prost_reflect_tables.specs.Flat.{DefinitionRow, FlatMessageRow, FlatEnumRow, FlatServiceRow};
 ghost use Rattle.prost_reflect_tables.specs.FlatViews.{definition_row, file_list, message_row, enum_row, service_row, flat_rows};
+ghost use Rattle.prost_reflect_tables.specs.Linking.{links_of};
+ghost use Rattle.prost_reflect_tables.specs.Resolved.{ResolvedRow, resolve, resolved_row, resolved_lists, IsResolved};
 ghost use Rattle.prost_reflect_tables.specs.Walks.{Computes};
 
 use crate::build::flatten::{Definition, Flat, FlatEnum, FlatMessage, FlatService};
+use crate::build::resolve::{Resolved, ResolvedField};
 use prost_reflect_types::{FieldDescriptorProto, FileDescriptorProto, MethodDescriptorProto};
 
 /// Whether one of the items passes the test.
@@ -120,4 +123,57 @@ pub fn any_method<'a, F: Fn(&Definition<'a, MethodDescriptorProto>) -> bool>(
         }
     }
     false
+}
+
+// FIELDS WHOSE TEXTS WERE LOOKED UP
+
+fn any_resolved<'a, F: Fn(&ResolvedField<'a>) -> bool>(
+    fields: &[ResolvedField<'a>],
+    test: &F,
+) -> bool
+    requires { F.IsAlwaysCallable test.now }
+    ensures { (p : ResolvedRow → Bool) → Computes F.Fn test.now (λ f. p (resolved_row f)) → result ≡ list_any p (map resolved_row fields.now) }
+{
+    any(fields, test)
+}
+
+fn any_resolved_in<'a, F: Fn(&ResolvedField<'a>) -> bool>(
+    lists: &[Vec<ResolvedField<'a>>],
+    test: &F,
+) -> bool
+    requires { F.IsAlwaysCallable test.now }
+    ensures { (p : ResolvedRow → Bool) → Computes F.Fn test.now (λ f. p (resolved_row f)) → result ≡ list_any (λ fs. list_any p fs) (resolved_lists lists.now) }
+{
+    for fields in lists {
+        if any_resolved(fields.as_slice(), test) {
+            return true;
+        }
+    }
+    false
+}
+
+/// Whether a resolved field of one of the messages passes the test.
+pub fn any_resolved_field<'a, F: Fn(&ResolvedField<'a>) -> bool>(
+    resolved: &Resolved<'a>,
+    flat: &Flat,
+    test: &F,
+) -> bool
+    requires callable { F.IsAlwaysCallable test.now }
+    requires resolved { IsResolved resolved.now (flat_rows flat.now) }
+    ensures { (p : ResolvedRow → Bool) (q : DefinitionRow FieldDescriptorProto → Bool) → Computes F.Fn test.now (λ f. p (resolved_row f)) → ((d : DefinitionRow FieldDescriptorProto) → p (resolve (links_of (flat_rows flat.now)) d) ≡ q d) → result ≡ list_any (λ m. list_any q m.fields) (flat_rows flat.now).messages }
+{
+    any_resolved_in(resolved.fields.as_slice(), test)
+}
+
+/// Whether a resolved extension passes the test.
+pub fn any_resolved_extension<'a, F: Fn(&ResolvedField<'a>) -> bool>(
+    resolved: &Resolved<'a>,
+    flat: &Flat,
+    test: &F,
+) -> bool
+    requires callable { F.IsAlwaysCallable test.now }
+    requires resolved { IsResolved resolved.now (flat_rows flat.now) }
+    ensures { (p : ResolvedRow → Bool) (q : DefinitionRow FieldDescriptorProto → Bool) → Computes F.Fn test.now (λ f. p (resolved_row f)) → ((d : DefinitionRow FieldDescriptorProto) → p (resolve (links_of (flat_rows flat.now)) d) ≡ q d) → result ≡ list_any q (flat_rows flat.now).extensions }
+{
+    any_resolved(resolved.extensions.as_slice(), test)
 }

@@ -1,8 +1,11 @@
 use Rattle.std.proofs.lemmas.Result.{err_from_is_err_and}
 use Rattle.prost_reflect_pool.proofs.BuiltinFacts.{shown_alike, named_alike}
 use Rattle.prost_reflect_pool.proofs.BuiltinChecked.{refused_for_memory}
-use Rattle.prost_reflect_pool.proofs.BuiltinLinks.{rows_built}
+use Rattle.prost_reflect_pool.proofs.BuiltinLinks.{rows_built, files_built}
 use Rattle.prost_reflect_pool.proofs.builtin.builtin_pool.Goals as goal
+
+pub returns-clause-files : goal.returns-clause-files
+returns-clause-files c = files_built c.new-none.result _ c.in_ok-builtin_files.field-0.items c.new-none.ensures c.in_ok-builtin_files.ensures c.in_ok-pool.ensures.ok
 
 pub returns-clause-rows : goal.returns-clause-rows
 returns-clause-rows c = rows_built c.new-none.result _ c.in_ok-builtin_files.field-0.items c.new-none.ensures c.in_ok-builtin_files.ensures c.in_ok-pool.ensures.ok

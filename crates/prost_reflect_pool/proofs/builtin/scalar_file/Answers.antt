@@ -1,4 +1,4 @@
-use Rattle.std.proofs.Common.{◌++◌, ◌∷◌, [], ap, ◌∙◌}
+use Rattle.std.proofs.Common.{◌++◌, ◌∷◌, [], refl, ap, ◌∙◌}
 use Rattle.prost_reflect_pool.proofs.builtin.scalar_file.Goals as goal
 
 pub returns : goal.returns
@@ -15,4 +15,6 @@ returns c = record {
   no_extensions = c.new-4.ensures.items;
   no_public = c.new-5.ensures.items;
   no_weak = c.new-6.ensures.items;
+  no_options = refl;
+  no_source = refl;
 }

@@ -30,4 +30,5 @@ returns c =
       no_options = refl;
       no_oneofs = c.new-5.ensures.items;
       no_reserved_ranges = c.new-6.ensures.items;
+      no_reserved_names = c.new-7.ensures.items;
     })

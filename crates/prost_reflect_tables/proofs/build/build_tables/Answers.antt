@@ -14,13 +14,13 @@ invariant_of-tables c =
     let rows = flat_rows c.in_ok-flat.flat in
     let linked : rows_from c.in_ok-messages.messages.items c.in_ok-messages.enums.items ≡ linked_rows rows = c.in_ok-messages.ensures.rows in
     let range : in_range (linked_rows rows) ≡ true = ap in_range (sym linked) ∙ c.in_ok-messages.ensures.range in
-    record { linked = ap is_linked linked ∙ links_well rows (record { checked = c.in_ok-index.ensures.ok; range = range }) }
+    record { linked = ap is_linked linked ∙ links_well rows (record { checked = c.in_ok-resolved.ensures.ok; range = range }) }
 
 pub returns-clause-tables : goal.returns-clause-tables
 returns-clause-tables c =
     let flat = flat_rows c.in_ok-flat.flat in
     let linked : rows_from c.in_ok-messages.messages.items c.in_ok-messages.enums.items ≡ linked_rows flat = c.in_ok-messages.ensures.rows in
-    are_tables_of (file_list c.args.files.now) flat (rows_from c.in_ok-messages.messages.items c.in_ok-messages.enums.items) c.in_ok-flat.ensures c.in_ok-index.ensures.ok linked
+    are_tables_of (file_list c.args.files.now) flat (rows_from c.in_ok-messages.messages.items c.in_ok-messages.enums.items) c.in_ok-flat.ensures c.in_ok-resolved.ensures.ok linked
 
 pub returns-clause-catalog : goal.returns-clause-catalog
 returns-clause-catalog c = is_catalog_of (file_list c.args.files.now) (flat_rows c.in_ok-flat.flat) c.in_ok-catalog.catalog c.in_ok-flat.ensures c.in_ok-catalog.ensures

@@ -5,7 +5,7 @@ use Rattle.prost_reflect_pool.specs.SharedPools.{pool_rows}
 use Rattle.prost_reflect.specs.NestedMaps.{nested_pairs_bytes}
 use Rattle.prost_reflect.specs.declared.value.MapKey.{MapKey}
 use Rattle.prost_reflect.specs.declared.value.Value.{Value}
-use Rattle.prost_reflect_wire.specs.Buffer.{bytes_of}
+use Rattle.prost_reflect_wire.specs.Sinks.{Adds}
 use Rattle.prost_reflect_fields.specs.Known.{known_of}
 use Rattle.prost_reflect.specs.View.{message_type_of, stored_in}
 use Rattle.prost_reflect.specs.Encoding.{entries_bytes}
@@ -13,14 +13,14 @@ use Rattle.prost_reflect.specs.Lists.{elements_bytes}
 use Rattle.prost_reflect.proofs.message.encode.+writing.Given as goal
 
 -- the entries from the index on are written
-abbrev pub invariant-prepend_body-loop-index : goal.invariant-prepend_body-loop-index
-invariant-prepend_body-loop-index l = bytes_of l.buffer ≡ entries_bytes (known_of (message_type_of l.message)) (drop l.index (stored_in l.message)) ++ bytes_of l.fn.buffer
+abbrev pub invariant-write_body-loop-index : goal.invariant-write_body-loop-index
+invariant-write_body-loop-index g l = Adds g.S.Sink.added l.fn.sink l.sink (entries_bytes (known_of (message_type_of l.message)) (drop l.index (stored_in l.message)))
 
 -- the elements from the index on are written
-abbrev pub invariant-prepend_messages-loop-index : goal.invariant-prepend_messages-loop-index
-invariant-prepend_messages-loop-index l = bytes_of l.buffer ≡ elements_bytes l.number l.is_group (drop l.index l.values.items) ++ bytes_of l.fn.buffer
+abbrev pub invariant-write_messages-loop-index : goal.invariant-write_messages-loop-index
+invariant-write_messages-loop-index g l = Adds g.S.Sink.added l.fn.sink l.sink (elements_bytes l.number l.is_group (drop l.index l.values.items))
 
 -- the entries behind those that are left are written
-abbrev pub invariant-prepend_entries-loop-key : goal.invariant-prepend_entries-loop-key
-invariant-prepend_entries-loop-key l = (done : List (MapKey × Value)) × (l.pairs.entries ≡ rev_source l.key-iterator ++ done)
-    × (bytes_of l.buffer ≡ nested_pairs_bytes l.number (pool_rows l.message_type.pool).enums (field_row l.key_field) done ++ bytes_of l.fn.buffer)
+abbrev pub invariant-write_entries-loop-key : goal.invariant-write_entries-loop-key
+invariant-write_entries-loop-key g l = (done : List (MapKey × Value)) × (l.pairs.entries ≡ rev_source l.key-iterator ++ done)
+    × Adds g.S.Sink.added l.fn.sink l.sink (nested_pairs_bytes l.number (pool_rows l.message_type.pool).enums (field_row l.key_field) done)

@@ -18,6 +18,6 @@ loop-place-preserved c =
     let members : c.as_slice-places.result.now ≡ map (member_place fields) (belonging oneof_place declared place) =
     c.as_slice-places.ensures.value ∙ group_of oneof_place (member_place fields) declared (length c.args.oneofs.now) place c.in_ok-members.members.items c.index.result.now c.in_ok-members.ensures c.loop-place-test.true c.index.ensures in
     let is : oneof_row c.in_ok-linked_oneof.field-0 ≡ linked_oneof fields (belonging oneof_place declared place) (definition_row d) =
-    same_oneof c.in_ok-linked_oneof.field-0 _ _ c.in_ok-linked_oneof.ensures.name (c.in_ok-linked_oneof.ensures.members ∙ members) in
+    same_oneof c.in_ok-linked_oneof.field-0 _ _ c.in_ok-linked_oneof.ensures.id (c.in_ok-linked_oneof.ensures.members ∙ members) in
     ap (λ (ts : List OneofTable). map oneof_row ts ++ oneofs_from fields declared (place + 1) (map definition_row (drop (place + 1) c.args.oneofs.now))) c.in_ok-push.ensures.items
     ∙ (oneof_more fields declared c.loop-place.tables.items c.in_ok-linked_oneof.field-0 c.args.oneofs.now place d c.loop-place-test.true c.index-oneofs-place.is is ∙ c.loop-place.invariant)

@@ -21,3 +21,4 @@ returns c =
     (copied_at (λ (d : DefinitionRow FieldDescriptorProto). d.parent) rows.extensions n place (list_items inner.extensions) _ c.requires.inner.extensions at (search rules))
     (copied_at (extended_place (links_of rows)) rows.extensions n place (list_items inner.extending) _ c.requires.inner.extending at (search rules))
     (search rules)
+    (search rules)

@@ -7,4 +7,4 @@ use Rattle.prost_reflect_tables.proofs.tables.Tables.message_place.Goals as goal
 pub returns : goal.returns
 returns c =
     let first = rw c.deref.ensures.value at c.place_named.ensures in
-    first ∙ sym (position-map message_row (λ (m : MessageRow). bytes_eq m.full_name c.args.full_name.now) c.args.self.now.messages.items)
+    first ∙ sym (position-map message_row (λ (m : MessageRow). bytes_eq m.id.full_name c.args.full_name.now) c.args.self.now.messages.items)

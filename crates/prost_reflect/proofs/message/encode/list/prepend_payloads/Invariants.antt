@@ -1,8 +1,0 @@
-use Rattle.std.proofs.Common.{◌≡◌, ◌++◌, drop}
-use Rattle.prost_reflect_wire.specs.Buffer.{bytes_of}
-use Rattle.prost_reflect.specs.Lists.{payloads_bytes}
-use Rattle.prost_reflect.proofs.message.encode.list.prepend_payloads.Given as goal
-
--- the scalars from the index on are written
-abbrev pub invariant-loop-index : goal.invariant-loop-index
-invariant-loop-index l = bytes_of l.buffer ≡ payloads_bytes l.kind (drop l.index l.values) ++ bytes_of l.fn.buffer

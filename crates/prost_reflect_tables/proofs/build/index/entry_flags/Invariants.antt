@@ -1,7 +1,0 @@
-use Rattle.std.proofs.Common.{◌≡◌, ◌++◌, map, drop}
-use Rattle.prost_reflect_tables.specs.EntryFaults.{is_entry}
-use Rattle.prost_reflect_tables.specs.FlatViews.{message_row}
-use Rattle.prost_reflect_tables.proofs.build.index.entry_flags.Given as goal
-
-abbrev pub invariant-loop-message : goal.invariant-loop-message
-invariant-loop-message l = l.flags.items ++ map is_entry (map message_row (drop l.message-index l.messages)) ≡ map is_entry (map message_row l.messages)

@@ -1,0 +1,10 @@
+use Rattle.std.proofs.Common.{◌≡◌, ◌++◌, drop, map}
+use Rattle.prost_reflect_tables.specs.FlatViews.{message_row, flat_rows}
+use Rattle.prost_reflect_tables.specs.Linking.{links_of}
+use Rattle.prost_reflect_tables.specs.Resolved.{resolve, resolved_lists}
+use Rattle.prost_reflect_tables.proofs.build.resolve.resolved_fields.Given as goal
+
+abbrev pub invariant-loop-message : goal.invariant-loop-message
+invariant-loop-message l =
+    resolved_lists l.lists.items ++ map (λ m. map (resolve (links_of (flat_rows l.flat))) m.fields) (map message_row (drop l.message-index l.messages))
+    ≡ map (λ m. map (resolve (links_of (flat_rows l.flat))) m.fields) (map message_row l.messages)

@@ -1,0 +1,134 @@
+//! Fields and extensions with what their texts mean: each text is looked up or read once, for the checks and for linking.
+
+ghost use Rattle.std.specs.Prelude.{◌≡◌, IfOk, map};
+ghost use Rattle.prost_reflect_tables.specs.EntryFaults.{is_entry};
+ghost use Rattle.prost_reflect_tables.specs.FlatViews.{definition_row, message_row, flat_rows};
+ghost use Rattle.prost_reflect_tables.specs.Indexed.{IsIndex};
+ghost use Rattle.prost_reflect_tables.specs.Linking.{links_of};
+ghost use Rattle.prost_reflect_tables.specs.Resolved.{resolve, resolved_row, resolved_lists, IsResolved};
+
+use crate::build::flatten::{Definition, Flat, FlatMessage};
+use crate::build::index::{Index, enum_place, indexed, message_place};
+use crate::build::link::{linked_default, linked_kind};
+use crate::build::options::is_entry;
+use crate::tables::{TableKind, WrittenDefault};
+use prost_reflect_types::FieldDescriptorProto;
+use std::alloc::{AllocError, Global};
+
+/// A field or an extension with what its texts mean.
+#[derive(Drop)]
+pub struct ResolvedField<'a> {
+    /// The record.
+    pub proto: &'a FieldDescriptorProto,
+    /// Whether the file is of proto3.
+    pub is_proto3: bool,
+    /// The place of the message that it extends.
+    pub extendee: Option<usize>,
+    /// The place of the message that its type's name names.
+    pub message: Option<usize>,
+    /// The place of the enum that its type's name names.
+    pub enumeration: Option<usize>,
+    /// The kind; a name that names nothing stands for the first of its sort.
+    pub kind: TableKind,
+    /// The default that its text gives, if it gives one.
+    pub default: Option<WrittenDefault>,
+}
+
+/// The fields of each message and the extensions, with what their texts mean.
+#[derive(Drop)]
+pub struct Resolved<'a> {
+    /// The places of names.
+    pub index: Index,
+    /// Whether each message is a map's entry.
+    pub entries: Vec<bool>,
+    /// The fields of each message.
+    pub fields: Vec<Vec<ResolvedField<'a>>>,
+    /// The extensions.
+    pub extensions: Vec<ResolvedField<'a>>,
+}
+
+#[tactic(auto, unfolding(crate::specs::Resolved::resolve))]
+fn resolved_field<'a>(
+    alloc: Global,
+    index: &Index,
+    flat: &Flat,
+    definition: &Definition<'a, FieldDescriptorProto>,
+) -> Result<ResolvedField<'a>, AllocError>
+    requires { IsIndex index.now (flat_rows flat.now) }
+    ensures { IfOk result (λ f. resolved_row f ≡ resolve (links_of (flat_rows flat.now)) (definition_row definition.now)) }
+{
+    let proto = definition.proto;
+    let kind = linked_kind(index, flat, proto);
+    Ok(ResolvedField {
+        proto,
+        is_proto3: definition.is_proto3,
+        extendee: message_place(index, flat, &proto.extendee),
+        message: message_place(index, flat, &proto.type_name),
+        enumeration: enum_place(index, flat, &proto.type_name),
+        kind,
+        default: linked_default(alloc, index, flat, kind, &proto.default_value)?,
+    })
+}
+
+fn resolved_list<'a>(
+    alloc: Global,
+    index: &Index,
+    flat: &Flat,
+    definitions: &[Definition<'a, FieldDescriptorProto>],
+) -> Result<Vec<ResolvedField<'a>>, AllocError>
+    requires { IsIndex index.now (flat_rows flat.now) }
+    ensures { IfOk result (λ v. map resolved_row v.items ≡ map (resolve (links_of (flat_rows flat.now))) (map definition_row definitions.now)) }
+{
+    let mut fields = Vec::new(alloc);
+    for definition in definitions {
+        fields.push(resolved_field(alloc, index, flat, definition)?)?;
+    }
+    Ok(fields)
+}
+
+/// The fields of each message.
+fn resolved_fields<'a>(
+    alloc: Global,
+    index: &Index,
+    flat: &Flat,
+    messages: &[FlatMessage<'a>],
+) -> Result<Vec<Vec<ResolvedField<'a>>>, AllocError>
+    requires { IsIndex index.now (flat_rows flat.now) }
+    ensures { IfOk result (λ v. resolved_lists v.items ≡ map (λ m. map (resolve (links_of (flat_rows flat.now))) m.fields) (map message_row messages.now)) }
+{
+    let mut lists = Vec::new(alloc);
+    for message in messages {
+        lists.push(resolved_list(alloc, index, flat, message.fields.as_slice())?)?;
+    }
+    Ok(lists)
+}
+
+/// Whether each message is a map's entry.
+fn entry_flags(alloc: Global, messages: &[FlatMessage]) -> Result<Vec<bool>, AllocError>
+    ensures { IfOk result (λ v. v.items ≡ map is_entry (map message_row messages.now)) }
+{
+    let mut flags = Vec::new(alloc);
+    for message in messages {
+        flags.push(is_entry(message))?;
+    }
+    Ok(flags)
+}
+
+/// The fields of each message and the extensions, with what their texts mean.
+///
+/// # Errors
+///
+/// `AllocError` if a growth was refused.
+pub fn all_resolved<'a>(alloc: Global, flat: &Flat<'a>) -> Result<Resolved<'a>, AllocError>
+    ensures { IfOk result (λ resolved. IsResolved resolved (flat_rows flat.now)) }
+{
+    let index = indexed(alloc, flat)?;
+    let fields = resolved_fields(alloc, &index, flat, flat.messages.as_slice())?;
+    let extensions = resolved_list(alloc, &index, flat, flat.extensions.as_slice())?;
+    Ok(Resolved {
+        entries: entry_flags(alloc, flat.messages.as_slice())?,
+        index,
+        fields,
+        extensions,
+    })
+}
