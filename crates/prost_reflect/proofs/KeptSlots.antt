@@ -2,10 +2,9 @@
 use Rattle.std.proofs.Common.{◌≡◌, ℕ, Bool, true, false, cond, not, ◌&&◌, ◌||◌, nat_eq, List, [], ◌∷◌, length, ◌+◌, Option, Some, None, unwrap_or, refl, ap, sym, ◌∙◌, arith, true≢false}
 use Rattle.std.proofs.lemmas.Bool.{eqb-true, and_parts, or_parts}
 use Rattle.std.specs.Option.{option_and_then}
-use Rattle.prost_reflect_wire.specs.Record.{Payload}
 use Rattle.prost_reflect_wire.specs.Scalar.{Scalar, scalar_eq}
 use Rattle.prost_reflect_wire.specs.Schema.{Kind, ScalarOf, MessageOf, GroupOf, ValueType, FieldForm, Singular, Repeated, MapFrom, Field, Schema, known, field_of, is_sibling, is_singular}
-use Rattle.prost_reflect_wire.specs.Content.{ContentOf, Entries, Unknown, Value, ScalarValue, MessageValue, ListValue, MapValue, NoValues, Item, NoPairs, Pair, Slot, value_at, slot_at, then_unknowns, then_value, store, table, insert_number, numbers_in, changed}
+use Rattle.prost_reflect_wire.specs.Content.{ContentOf, Entries, Value, ScalarValue, MessageValue, ListValue, MapValue, NoValues, Item, NoPairs, Pair, Slot, value_at, slot_at, then_unknowns, then_value, store, table, insert_number, numbers_in, changed}
 use Rattle.prost_reflect_wire.specs.Typing.{kind_takes, value_valid, is_field_default, is_empty_value, kept, kept_entries, kept_inside, kept_value}
 use Rattle.prost_reflect_wire.specs.Writing.{is_default_of}
 use Rattle.prost_reflect_wire.specs.Edit.{with_value, with_field_value, set_field, default_of, default_value}

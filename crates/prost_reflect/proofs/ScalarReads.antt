@@ -5,8 +5,8 @@ use Rattle.std.proofs.lemmas.Str.{IsUtf8-from_is_utf8, is_utf8-from_IsUtf8}
 use Rattle.std.proofs.lemmas.Bool.{false_from_ne_true}
 use Rattle.std.specs.Prelude.{option_map, option_and_then}
 use Rattle.prost_reflect_wire.specs.declared.key.WireType.{WireType}
-use Rattle.prost_reflect_wire.specs.Record.{Plain, Var, Len, Flat, plain_wire}
-use Rattle.prost_reflect_wire.specs.Front.{VarintFront, PlainFront, DelimitedFront}
+use Rattle.prost_reflect_wire.specs.Record.{Plain, Len, Flat, plain_wire}
+use Rattle.prost_reflect_wire.specs.Front.{PlainFront}
 use Rattle.prost_reflect_wire.specs.Scalar.{Scalar, Text, ScalarKind, elem}
 use Rattle.prost_reflect_wire.specs.Content.{ScalarValue}
 use Rattle.prost_reflect_tables.specs.declared.tables.TableKind.{TableKind}

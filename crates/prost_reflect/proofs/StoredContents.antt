@@ -3,7 +3,7 @@ use Rattle.std.proofs.Common.{◌≡◌, ℕ, List, [], ◌∷◌, map, Some, No
 use Rattle.std.specs.Prelude.{Result, Ok, Err, IfOk, MatchResult}
 use Rattle.std.specs.declared.alloc.AllocError.{AllocError}
 use mathlib.Core.Former.{this}
-use Rattle.prost_reflect_wire.specs.Record.{Record, Payload, Flat, Group, items, body_of, before, record_at}
+use Rattle.prost_reflect_wire.specs.Record.{items}
 use Rattle.prost_reflect_wire.specs.Unknown.{records_of}
 use Rattle.prost_reflect_wire.specs.Content as contents
 use Rattle.prost_reflect_wire.specs.Content.{Content, ContentOf, Entries, NoEntries, Values, NoValues, Item, Pairs, Pair, ScalarValue, MessageValue, ListValue, MapValue, values_from, store}

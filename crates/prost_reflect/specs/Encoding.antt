@@ -1,5 +1,5 @@
 -- What is written of the entries of a message.
-use Rattle.std.specs.Prelude.{◌≡◌, ℕ, Bool, true, false, List, [], ◌∷◌, ◌++◌, map, option_map, unwrap_or}
+use Rattle.std.specs.Prelude.{◌≡◌, ℕ, Bool, true, false, List, [], ◌∷◌, ◌++◌, map}
 use Rattle.std.specs.Option.{ForSome}
 use Rattle.std.specs.List.{AllByRecursion}
 use Rattle.prost_reflect_wire.specs.declared.key.WireType.TheVariants as wires
@@ -12,7 +12,7 @@ use Rattle.prost_reflect_wire.specs.Typing.{kept, value_valid, value_passes, fit
 use Rattle.prost_reflect_wire.specs.Storing.{slot_bytes}
 use Rattle.prost_reflect_fields.specs.FieldSlots.{value_in, records_in}
 use Rattle.prost_reflect_fields.specs.Known.{are_records_of}
-use Rattle.prost_reflect.specs.View.{value_of, payloads_of, slot_of}
+use Rattle.prost_reflect.specs.View.{value_of, slot_of}
 use Rattle.prost_reflect_fields.specs.declared.slot.FieldSlot.{FieldSlot}
 use Rattle.prost_reflect.specs.declared.value.Value.{Value}
 

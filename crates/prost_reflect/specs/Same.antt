@@ -2,7 +2,7 @@
 use Rattle.std.specs.Prelude.{◌≡◌, Bool, true, false, ◌&&◌, nat_eq, refl}
 use Rattle.std.specs.Bool.{Decides}
 use Rattle.std.specs.Cmp.{IsPartialEquivalence, unsigned_Decides, partial_equiv_from_equiv, on_per}
-use Rattle.std.proofs.Common.{sym, ap, ap₂, ◌∙◌, true≢false}
+use Rattle.std.proofs.Common.{sym, ap, ap₂, true≢false}
 use Rattle.std.proofs.lemmas.Bool.{and_parts, and_from}
 use Rattle.prost_reflect_wire.specs.Scalar.{scalar_eq}
 use Rattle.prost_reflect_wire.specs.Equality.{records_eq, records_same, records_refl}

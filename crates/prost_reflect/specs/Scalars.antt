@@ -1,5 +1,5 @@
 -- Scalar kinds of the tables, their payloads and values.
-use Rattle.std.specs.Prelude.{◌≡◌, ◌⊎◌, ◌≤◌, ℕ, Bool, pos, true, false, not, List, [], ◌++◌, Option, Some, None, option_map, option_and_then, slice_get, IsSomeAnd, if◌then◌else◌}
+use Rattle.std.specs.Prelude.{◌≡◌, ◌⊎◌, ◌≤◌, ℕ, Bool, true, false, not, List, [], ◌++◌, Option, Some, None, option_map, option_and_then, slice_get, IsSomeAnd, if◌then◌else◌}
 use Rattle.prost_reflect_wire.specs.declared.key.WireType.{WireType}
 use Rattle.prost_reflect_wire.specs.declared.error.DecodeError.{DecodeError}
 use Rattle.prost_reflect_wire.specs.Record.{Payload, short_key, short_plain}
@@ -14,7 +14,7 @@ use Rattle.prost_reflect_wire.specs.Levels.{stray_levels}
 use Rattle.prost_reflect_wire.specs.Front.{ValueFront}
 use Rattle.prost_reflect_wire.specs.Decoding.{ScalarRead, ScalarFault}
 use Rattle.prost_reflect_tables.specs.declared.tables.TableKind.{TableKind}
-use Rattle.prost_reflect_tables.specs.declared.tables.TableKind.TheVariants.{Double, Float, Int32, Int64, Uint32, Uint64, Sint32, Sint64, Fixed32, Fixed64, Sfixed32, Sfixed64, Bool as BoolKind, String, Bytes, Message, Enum}
+use Rattle.prost_reflect_tables.specs.declared.tables.TableKind.TheVariants.{Enum}
 use Rattle.prost_reflect_tables.specs.Rows.{FieldRow, EnumRow}
 use Rattle.prost_reflect_tables.specs.Shown.{schema_kind, own_type}
 pub use Rattle.prost_reflect_tables.specs.WrittenDefaults.{plain_kind}
