@@ -1,8 +1,9 @@
 //! Calls with ample memory, whose contracts leave want of memory open. The files are written as descriptor records.
 
 use prost_reflect_tables::{
-    EnumTable, FieldTable, Flat, FlatMessage, Identity, MessageTable, PoolError, TableKind, Tables,
-    WrittenDefault, build_tables, check_files, flattened, indexed, linked, written_default,
+    Catalog, EnumTable, FieldTable, Flat, FlatMessage, Identity, MessageTable, PoolError,
+    TableKind, Tables, WrittenDefault, build_tables, check_files, flattened, indexed, linked,
+    written_default,
 };
 use prost_reflect_types::FileDescriptorProto;
 use std::alloc::{AllocError, Global};
@@ -499,48 +500,67 @@ static TOP: &[u8] =
     \x0a\x0ainner_note\x12\x07.b.Base\x18e \x01(\x05:\x15\x0a\x04note\x12\x07.b.Base\x18d \x01\
     (\x052!\x0a\x04Post\x12\x19\x0a\x04Send\x12\x08.t.Outer\x1a\x07.b.Base";
 
-/// What two files enclose, in the order of their places and of their names. The file that is imported stands behind.
+/// The catalog of both files; the one that is imported stands behind.
+fn both_files(alloc: Global) -> Result<Catalog, Fail> {
+    let top = FileDescriptorProto::decode(alloc, TOP)?;
+    let base = FileDescriptorProto::decode(alloc, BASE)?;
+    let (_, catalog) = build_tables(alloc, &[&top, &base])?;
+    Ok(catalog)
+}
+
 #[test]
-fn catalog_of_two_files(rt: HostRuntime) -> Result<(), Fail> {
-    let top = FileDescriptorProto::decode(rt.alloc(), TOP)?;
-    let base = FileDescriptorProto::decode(rt.alloc(), BASE)?;
-    let (_, catalog) = build_tables(rt.alloc(), &[&top, &base])?;
-    let file = &catalog.files[0];
-    assert_eq!(rt; file.messages.as_slice(), [0].as_slice());
-    assert!(rt; file.enums.is_empty());
-    assert_eq!(rt; file.extensions.as_slice(), [1].as_slice());
-    assert_eq!(rt; file.services.as_slice(), [0].as_slice());
-    assert_eq!(rt; file.dependencies.as_slice(), [1].as_slice());
-    assert_eq!(rt; file.public_dependencies.as_slice(), [1].as_slice());
-    assert_eq!(rt; catalog.files[1].messages.as_slice(), [2].as_slice());
-    let outer = &catalog.messages[0];
+fn catalog_lists_what_files_hold(rt: HostRuntime) -> Result<(), Fail> {
+    let catalog = both_files(rt.alloc())?;
+    let top = catalog.files.get(0).ok_or("no file")?;
+    assert_eq!(rt; top.messages.as_slice(), [0].as_slice());
+    assert!(rt; top.enums.is_empty());
+    assert_eq!(rt; top.extensions.as_slice(), [1].as_slice());
+    assert_eq!(rt; top.services.as_slice(), [0].as_slice());
+    assert_eq!(rt; top.dependencies.as_slice(), [1].as_slice());
+    assert_eq!(rt; top.public_dependencies.as_slice(), [1].as_slice());
+    let base = catalog.files.get(1).ok_or("no second file")?;
+    assert_eq!(rt; base.messages.as_slice(), [2].as_slice());
+    Ok(())
+}
+
+#[test]
+fn catalog_lists_what_messages_hold(rt: HostRuntime) -> Result<(), Fail> {
+    let catalog = both_files(rt.alloc())?;
+    let outer = catalog.messages.get(0).ok_or("no message")?;
     assert_eq!(rt; outer.messages.as_slice(), [1].as_slice());
     assert_eq!(rt; outer.enums.as_slice(), [0].as_slice());
     assert_eq!(rt; outer.extensions.as_slice(), [0].as_slice());
     assert!(rt; outer.extending.is_empty());
     assert_eq!(rt; outer.by_name.as_slice(), [1, 0].as_slice());
     assert_eq!(rt; outer.by_json_name.as_slice(), [1, 0].as_slice());
-    let base = &catalog.messages[2];
+    let base = catalog.messages.get(2).ok_or("no third message")?;
     assert_eq!(rt; base.extending.as_slice(), [0, 1].as_slice());
     assert!(rt; base.by_name.is_empty());
-    assert_eq!(rt; catalog.enums[0].by_name.as_slice(), [2, 1, 0].as_slice());
-    assert_eq!(rt; catalog.enums[0].by_number.as_slice(), [1, 0, 2].as_slice());
-    assert_eq!(rt;
-        (catalog.extensions[0].message, catalog.extensions[0].field),
-        (2, 1)
-    );
-    assert_eq!(rt;
-        (catalog.extensions[1].message, catalog.extensions[1].field),
-        (2, 0)
-    );
-    let service = &catalog.services[0];
-    assert_eq!(rt; service.id.full_name.as_str(), "t.Post");
-    assert_eq!(rt;
-        (service.methods[0].input, service.methods[0].output),
-        (0, 2)
-    );
+    Ok(())
+}
+
+#[test]
+fn catalog_orders_by_names_and_numbers(rt: HostRuntime) -> Result<(), Fail> {
+    let catalog = both_files(rt.alloc())?;
+    let mood = catalog.enums.get(0).ok_or("no enum")?;
+    assert_eq!(rt; mood.by_name.as_slice(), [2, 1, 0].as_slice());
+    assert_eq!(rt; mood.by_number.as_slice(), [1, 0, 2].as_slice());
     assert_eq!(rt; catalog.by_name.files.as_slice(), [1, 0].as_slice());
     assert_eq!(rt; catalog.by_name.messages.as_slice(), [2, 0, 1].as_slice());
     assert_eq!(rt; catalog.by_name.extensions.as_slice(), [0, 1].as_slice());
+    Ok(())
+}
+
+#[test]
+fn catalog_says_what_is_extended_and_called(rt: HostRuntime) -> Result<(), Fail> {
+    let catalog = both_files(rt.alloc())?;
+    let inner_note = catalog.extensions.get(0).ok_or("no extension")?;
+    assert_eq!(rt; (inner_note.message, inner_note.field), (2, 1));
+    let note = catalog.extensions.get(1).ok_or("no second extension")?;
+    assert_eq!(rt; (note.message, note.field), (2, 0));
+    let post = catalog.services.get(0).ok_or("no service")?;
+    assert_eq!(rt; post.id.full_name.as_str(), "t.Post");
+    let send = post.methods.get(0).ok_or("no method")?;
+    assert_eq!(rt; (send.input, send.output), (0, 2));
     Ok(())
 }
