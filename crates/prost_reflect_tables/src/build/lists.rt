@@ -134,11 +134,7 @@ fn own_fields(alloc: Global, fields: &[FieldTable]) -> Result<Vec<usize>, AllocE
 }
 
 /// The places of fields without extensions, in the order of these names of all fields.
-fn fields_by(
-    alloc: Global,
-    fields: &[FieldTable],
-    names: &[&str],
-) -> Result<Vec<usize>, AllocError>
+fn fields_by(alloc: Global, fields: &[FieldTable], names: &[&str]) -> Result<Vec<usize>, AllocError>
     ensures { IfOk result (λ v. v.items ≡ by_text (text_list names.now) (own_fields (map field_row fields.now))) }
 {
     let mut places = own_fields(alloc, fields)?;
