@@ -1,7 +1,15 @@
--- The tables without rows are linked.
+-- The tables without rows are linked, and the catalog without rows is that of no files.
 use Rattle.std.proofs.Common.{◌≡◌, true, List, [], refl}
 use Rattle.prost_reflect_tables.specs.declared.tables.MessageTable.{MessageTable}
 use Rattle.prost_reflect_tables.specs.declared.tables.EnumTable.{EnumTable}
+use Rattle.prost_reflect_tables.specs.declared.catalog.FileTable.{FileTable}
+use Rattle.prost_reflect_tables.specs.declared.catalog.MessageLists.{MessageLists}
+use Rattle.prost_reflect_tables.specs.declared.catalog.EnumLists.{EnumLists}
+use Rattle.prost_reflect_tables.specs.declared.catalog.ExtensionTable.{ExtensionTable}
+use Rattle.prost_reflect_tables.specs.declared.catalog.ServiceTable.{ServiceTable}
+use Rattle.std.specs.Prelude.{ℕ, Vec}
+use Rattle.std.specs.declared.alloc.Global.{Global}
+use Rattle.prost_reflect_tables.specs.LinkedCatalog.{IsCatalogOf}
 use Rattle.prost_reflect_tables.specs.Linked.{is_linked}
 use Rattle.prost_reflect_tables.specs.Rows.{rows_from}
 use Rattle.prost_reflect_tables.specs.Shown.{schema_from}
@@ -9,3 +17,9 @@ use Rattle.prost_reflect_tables.specs.Shown.{schema_from}
 pub none_linked : (messages : List MessageTable) (enums : List EnumTable) → messages ≡ [] → enums ≡ [] → is_linked (rows_from messages enums) ≡ true
 unfolding schema_from
 none_linked messages enums m e = rw (m, e) refl
+
+pub none_listed : (files : Vec FileTable Global) (messages : Vec MessageLists Global) (enums : Vec EnumLists Global) (extensions : Vec ExtensionTable Global) (services : Vec ServiceTable Global) (f2 m2 e2 x2 s2 : Vec ℕ Global) →
+    files.items ≡ [] → messages.items ≡ [] → enums.items ≡ [] → extensions.items ≡ [] → services.items ≡ [] → f2.items ≡ [] → m2.items ≡ [] → e2.items ≡ [] → x2.items ≡ [] → s2.items ≡ [] →
+    IsCatalogOf [] (record { files = files; messages = messages; enums = enums; extensions = extensions; services = services; by_name = record { files = f2; messages = m2; enums = e2; extensions = x2; services = s2 } })
+unfolding IsCatalogOf
+none_listed files messages enums extensions services f2 m2 e2 x2 s2 a b c d e f g h i j = rw (a, b, c, d, e, f, g, h, i, j) refl

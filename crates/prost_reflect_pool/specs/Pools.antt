@@ -11,11 +11,13 @@ use Rattle.prost_reflect_wire.specs.declared.error.DecodeError.{DecodeError}
 use Rattle.prost_reflect_types.specs.declared.FileDescriptorProto.{FileDescriptorProto}
 use Rattle.prost_reflect_types.specs.declared.table.RecordType.{RecordType}
 use Rattle.prost_reflect_types.specs.declared.table.RecordType.TheVariants as types
+use Rattle.prost_reflect_tables.specs.CatalogRows.{CatalogRows, catalog_row}
 use Rattle.prost_reflect_tables.specs.Rows.{TableRows}
 use Rattle.prost_reflect_tables.specs.Schema.{rows_of}
 use Rattle.prost_reflect_tables.specs.Flat.{flattened}
 use Rattle.prost_reflect_tables.specs.Checked.{Checked, Stands}
 use Rattle.prost_reflect_tables.specs.Built.{AreTablesOf}
+use Rattle.prost_reflect_tables.specs.LinkedCatalog.{IsCatalogOf}
 use Rattle.prost_reflect_tables.specs.Adding.{added}
 use Rattle.prost_reflect_tables.specs.declared.error.PoolError.{PoolError}
 use Rattle.prost_reflect_tables.specs.declared.error.PoolError.TheVariants.{Decode, OutOfMemory}
@@ -24,6 +26,10 @@ use Rattle.prost_reflect_pool.specs.declared.pool.LinkedPool.{LinkedPool}
 -- The rows of the pool's message types and enums.
 abbrev pub pool_rows : LinkedPool → TableRows
 pool_rows pool = rows_of pool.tables
+
+-- What each definition of the pool encloses, its services, and places in the order of names.
+abbrev pub pool_catalog : LinkedPool → CatalogRows
+pool_catalog pool = catalog_row pool.catalog
 
 -- The records of the pool's files, in the order in which they were added.
 abbrev pub files_of : LinkedPool → List FileDescriptorProto
@@ -36,10 +42,11 @@ contents_of files = map of_file files
 abbrev pub pool_contents : LinkedPool → List Content
 pool_contents pool = contents_of (files_of pool)
 
--- The pool has these files, and its tables are theirs.
+-- The pool has these files, and its tables and its catalog are theirs.
 pub record IsPoolOf (files : List FileDescriptorProto) (pool : LinkedPool) : Type 0 where
   pub holds : files_of pool ≡ files
   pub built : AreTablesOf files (pool_rows pool)
+  pub listed : IsCatalogOf files pool.catalog
 
 -- The files make no pool: the fault stands in them, and so they do not pass all checks. Want of memory may come anywhere.
 pub record RefusesFiles (files : List FileDescriptorProto) (e : PoolError) : Type 0 where

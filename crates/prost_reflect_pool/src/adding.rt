@@ -8,13 +8,14 @@ ghost use Rattle.prost_reflect_tables.specs.Built.{AreTablesOf};
 ghost use Rattle.prost_reflect_tables.specs.Checked.{Stands};
 ghost use Rattle.prost_reflect_tables.specs.Flat.{flattened};
 ghost use Rattle.prost_reflect_tables.specs.FlatViews.{file_list};
+ghost use Rattle.prost_reflect_tables.specs.LinkedCatalog.{IsCatalogOf};
 ghost use Rattle.prost_reflect_tables.specs.Schema.{rows_of};
 ghost use Rattle.prost_reflect_tables.specs.declared.error.PoolError.TheVariants as pool_errors;
 ghost use Rattle.prost_reflect_pool.specs.FileNames.{names_differ};
 ghost use Rattle.prost_reflect_pool.specs.Pools.{files_of, IsPoolOf, RefusesFiles};
 
 use crate::LinkedPool;
-use prost_reflect_tables::{PoolError, Tables, build_tables, text_or_empty};
+use prost_reflect_tables::{Catalog, PoolError, Tables, build_tables, text_or_empty};
 use prost_reflect_types::FileDescriptorProto;
 use std::alloc::{AllocError, Global};
 use std::collections::BTreeSet;
@@ -117,14 +118,17 @@ fn add_files(
     Ok(())
 }
 
-/// The tables of the files, if they pass all checks.
-fn tables_of(alloc: Global, files: &[Rc<FileDescriptorProto>]) -> Result<Tables, PoolError>
-    ensures tables { IfOk result (λ tables. AreTablesOf (shared_files files.now) (rows_of tables)) }
+/// The tables of the files and their catalog, if they pass all checks.
+fn tables_of(
+    alloc: Global,
+    files: &[Rc<FileDescriptorProto>],
+) -> Result<(Tables, Catalog), PoolError>
+    ensures tables { IfOk result (λ t. AreTablesOf (shared_files files.now) (rows_of t.0)) }
+    ensures catalog { IfOk result (λ t. IsCatalogOf (shared_files files.now) t.1) }
     ensures stands { IfErr result (λ e. e ≢ pool_errors.OutOfMemory → Stands e (shared_files files.now) (flattened (shared_files files.now))) }
 {
     let lent = lent(alloc, files)?;
-    let (tables, _) = build_tables(alloc, lent.as_slice())?;
-    Ok(tables)
+    build_tables(alloc, lent.as_slice())
 }
 
 /// The files with their tables, if they pass all checks; no two have one name.
@@ -133,8 +137,12 @@ fn inner_of(alloc: Global, files: Vec<Rc<FileDescriptorProto>>) -> Result<Linked
     ensures files { IfOk result (λ inner. shared_files inner.files.items ≡ shared_files files.items) }
     ensures stands { IfErr result (λ e. e ≢ pool_errors.OutOfMemory → Stands e (shared_files files.items) (flattened (shared_files files.items))) }
 {
-    let tables = tables_of(alloc, files.as_slice())?;
-    Ok(LinkedPool { files, tables })
+    let (tables, catalog) = tables_of(alloc, files.as_slice())?;
+    Ok(LinkedPool {
+        files,
+        tables,
+        catalog,
+    })
 }
 
 impl LinkedPool {

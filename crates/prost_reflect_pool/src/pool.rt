@@ -1,22 +1,25 @@
 //! Pools.
 
-ghost use Rattle.std.specs.Prelude.{◌≡◌, IsTrue};
+ghost use Rattle.std.specs.Prelude.{◌≡◌, [], IsTrue};
 ghost use Rattle.prost_reflect_types.specs.DescriptorViews.{shared_files};
 ghost use Rattle.prost_reflect_tables.specs.Built.{AreTablesOf};
+ghost use Rattle.prost_reflect_tables.specs.LinkedCatalog.{IsCatalogOf, catalog_prop};
 ghost use Rattle.prost_reflect_tables.specs.Schema.{rows_of};
 ghost use Rattle.prost_reflect_pool.specs.FileNames.{names_differ};
 
-use prost_reflect_tables::Tables;
+use prost_reflect_tables::{Catalog, SortedPlaces, Tables};
 use prost_reflect_types::FileDescriptorProto;
 use std::alloc::Global;
 use std::rc::Rc;
 
-/// What the clones of a pool share: files that pass all checks, no two of one name, and the tables that they link to.
+/// What the clones of a pool share: files that pass all checks, no two of one name, the tables that they link to, and their catalog.
 #[derive(Debug, Drop)]
 pub struct LinkedPool {
     pub(crate) files: Vec<Rc<FileDescriptorProto>>,
     pub(crate) tables: Tables,
+    pub(crate) catalog: Catalog,
     pub ghost built: { AreTablesOf (shared_files files.items) (rows_of tables) },
+    pub ghost listed: { IsCatalogOf (shared_files files.items) catalog } by { catalog_prop (shared_files files.items) catalog },
     pub ghost names: { IsTrue (names_differ (shared_files files.items)) },
 }
 
@@ -44,7 +47,6 @@ impl Eq for LinkedPool {
 }
 
 impl LinkedPool {
-    ghost use Rattle.std.specs.Prelude.{[]};
     ghost use Rattle.prost_reflect_pool.specs.Pools.{IsPoolOf, pool_rows};
 
     /// A pool without files.
@@ -56,7 +58,11 @@ impl LinkedPool {
             enums: Vec::new(alloc),
         };
         let files = Vec::new(alloc);
-        LinkedPool { files, tables }
+        LinkedPool {
+            files,
+            tables,
+            catalog: empty_catalog(alloc),
+        }
     }
 
     /// The linked tables.
@@ -66,8 +72,35 @@ impl LinkedPool {
         &self.tables
     }
 
+    /// What descriptors tell besides the tables.
+    pub fn catalog(&self) -> &Catalog
+        ensures { result.now ≡ self.now.catalog }
+    {
+        &self.catalog
+    }
+
     /// What the files are stored with.
     pub fn allocator(&self) -> Global {
         *self.files.allocator()
+    }
+}
+
+/// The catalog of no files.
+fn empty_catalog(alloc: Global) -> Catalog
+    ensures { IsCatalogOf [] result }
+{
+    Catalog {
+        files: Vec::new(alloc),
+        messages: Vec::new(alloc),
+        enums: Vec::new(alloc),
+        extensions: Vec::new(alloc),
+        services: Vec::new(alloc),
+        by_name: SortedPlaces {
+            files: Vec::new(alloc),
+            messages: Vec::new(alloc),
+            enums: Vec::new(alloc),
+            extensions: Vec::new(alloc),
+            services: Vec::new(alloc),
+        },
     }
 }
