@@ -22,17 +22,18 @@ same_file a b p0 p1 p2 p3 p4 p5 p6 =
     ∙ (ap (λ v. make_same_file b.messages b.enums b.extensions b.services b.dependencies v a.is_proto3) p5
     ∙ (ap (λ v. make_same_file b.messages b.enums b.extensions b.services b.dependencies b.public_dependencies v) p6))))))
 
-abbrev make_same_lists : List ℕ → List ℕ → List ℕ → List ℕ → List ℕ → List ℕ → MessageListsRow
-make_same_lists x0 x1 x2 x3 x4 x5 = record { messages = x0; enums = x1; extensions = x2; extending = x3; by_name = x4; by_json_name = x5 }
+abbrev make_same_lists : List ℕ → List ℕ → List ℕ → List ℕ → List ℕ → List ℕ → List ℕ → MessageListsRow
+make_same_lists x0 x1 x2 x3 x4 x5 x6 = record { messages = x0; enums = x1; extensions = x2; extending = x3; fields = x4; by_name = x5; by_json_name = x6 }
 
-pub same_lists : (a b : MessageListsRow) → a.messages ≡ b.messages → a.enums ≡ b.enums → a.extensions ≡ b.extensions → a.extending ≡ b.extending → a.by_name ≡ b.by_name → a.by_json_name ≡ b.by_json_name → a ≡ b
-same_lists a b p0 p1 p2 p3 p4 p5 =
-    ap (λ v. make_same_lists v a.enums a.extensions a.extending a.by_name a.by_json_name) p0
-    ∙ (ap (λ v. make_same_lists b.messages v a.extensions a.extending a.by_name a.by_json_name) p1
-    ∙ (ap (λ v. make_same_lists b.messages b.enums v a.extending a.by_name a.by_json_name) p2
-    ∙ (ap (λ v. make_same_lists b.messages b.enums b.extensions v a.by_name a.by_json_name) p3
-    ∙ (ap (λ v. make_same_lists b.messages b.enums b.extensions b.extending v a.by_json_name) p4
-    ∙ (ap (λ v. make_same_lists b.messages b.enums b.extensions b.extending b.by_name v) p5)))))
+pub same_lists : (a b : MessageListsRow) → a.messages ≡ b.messages → a.enums ≡ b.enums → a.extensions ≡ b.extensions → a.extending ≡ b.extending → a.fields ≡ b.fields → a.by_name ≡ b.by_name → a.by_json_name ≡ b.by_json_name → a ≡ b
+same_lists a b p0 p1 p2 p3 p4 p5 p6 =
+    ap (λ v. make_same_lists v a.enums a.extensions a.extending a.fields a.by_name a.by_json_name) p0
+    ∙ (ap (λ v. make_same_lists b.messages v a.extensions a.extending a.fields a.by_name a.by_json_name) p1
+    ∙ (ap (λ v. make_same_lists b.messages b.enums v a.extending a.fields a.by_name a.by_json_name) p2
+    ∙ (ap (λ v. make_same_lists b.messages b.enums b.extensions v a.fields a.by_name a.by_json_name) p3
+    ∙ (ap (λ v. make_same_lists b.messages b.enums b.extensions b.extending v a.by_name a.by_json_name) p4
+    ∙ (ap (λ v. make_same_lists b.messages b.enums b.extensions b.extending b.fields v a.by_json_name) p5
+    ∙ (ap (λ v. make_same_lists b.messages b.enums b.extensions b.extending b.fields b.by_name v) p6))))))
 
 abbrev make_same_sorted : List ℕ → List ℕ → List ℕ → List ℕ → List ℕ → SortedRow
 make_same_sorted x0 x1 x2 x3 x4 = record { files = x0; messages = x1; enums = x2; extensions = x3; services = x4 }

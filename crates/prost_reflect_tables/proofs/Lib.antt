@@ -23,8 +23,11 @@ mod WorkedLinking
 mod Linkwell
 mod WorkedChecks
 mod LinksWell
+pub mod CatalogLinks
 pub mod SameRows
 mod SameFlat
+pub mod FlatRanges
+pub mod CatalogRanges
 mod SameLinked
 mod SameChecks
 mod SameOptions

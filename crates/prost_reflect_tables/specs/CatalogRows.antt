@@ -24,6 +24,7 @@ pub record MessageListsRow : Type 0 where
   pub enums : List ℕ
   pub extensions : List ℕ
   pub extending : List ℕ
+  pub fields : List ℕ
   pub by_name : List ℕ
   pub by_json_name : List ℕ
 
@@ -63,7 +64,7 @@ abbrev pub file_table_row : FileTable → FileRow
 file_table_row f = record { messages = f.messages.items; enums = f.enums.items; extensions = f.extensions.items; services = f.services.items; dependencies = f.dependencies.items; public_dependencies = f.public_dependencies.items; is_proto3 = f.is_proto3 }
 
 abbrev pub message_lists_row : MessageLists → MessageListsRow
-message_lists_row m = record { messages = m.messages.items; enums = m.enums.items; extensions = m.extensions.items; extending = m.extending.items; by_name = m.by_name.items; by_json_name = m.by_json_name.items }
+message_lists_row m = record { messages = m.messages.items; enums = m.enums.items; extensions = m.extensions.items; extending = m.extending.items; fields = m.fields.items; by_name = m.by_name.items; by_json_name = m.by_json_name.items }
 
 abbrev pub enum_lists_row : EnumLists → EnumListsRow
 enum_lists_row e = record { by_name = e.by_name.items; by_number = e.by_number.items }

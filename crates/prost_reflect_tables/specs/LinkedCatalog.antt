@@ -66,6 +66,7 @@ linked_lists rows T m = record {
   enums = places_of (λ e. e.definition.parent) rows.enums T;
   extensions = places_of (λ d. d.parent) rows.extensions T;
   extending = places_of (extended_place (links_of rows)) rows.extensions T;
+  fields = own_fields m.fields;
   by_name = by_text (field_names m.fields) (own_fields m.fields);
   by_json_name = by_text (json_names m.fields) (own_fields m.fields);
 }

@@ -32,7 +32,9 @@ pub struct MessageLists {
     pub extensions: Vec<usize>,
     /// The extensions of this message type, wherever they are declared, as places in the pool's list, in its order.
     pub extending: Vec<usize>,
-    /// The places of its fields without extensions, by their names.
+    /// The places of its fields without extensions, in ascending order of their numbers.
+    pub fields: Vec<usize>,
+    /// The same places by the names of the fields.
     pub by_name: Vec<usize>,
     /// The same places by the names in JSON; fields of one such name in ascending order of their numbers.
     pub by_json_name: Vec<usize>,

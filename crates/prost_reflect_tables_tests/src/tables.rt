@@ -531,6 +531,7 @@ fn catalog_lists_what_messages_hold(rt: HostRuntime) -> Result<(), Fail> {
     assert_eq!(rt; outer.enums.as_slice(), [0].as_slice());
     assert_eq!(rt; outer.extensions.as_slice(), [0].as_slice());
     assert!(rt; outer.extending.is_empty());
+    assert_eq!(rt; outer.fields.as_slice(), [0, 1].as_slice());
     assert_eq!(rt; outer.by_name.as_slice(), [1, 0].as_slice());
     assert_eq!(rt; outer.by_json_name.as_slice(), [1, 0].as_slice());
     let base = catalog.messages.get(2).ok_or("no third message")?;

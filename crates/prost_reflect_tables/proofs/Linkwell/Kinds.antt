@@ -100,7 +100,7 @@ pub record FoundIn {X : Type 0} (name_of : X → List ℕ) (xs : List X) (o : Op
   pub item : X
   pub at : slice_get xs place ≡ Some item
 
-position_at : {X : Type 0} (t : List ℕ → Bool) (name_of : X → List ℕ) (i : ℕ) (xs : List X) (p : ℕ) → position_from t i (map name_of xs) ≡ Some p → (k : ℕ) × (x : X) × (p ≡ i + k) × (slice_get xs k ≡ Some x)
+pub position_at : {X : Type 0} (t : List ℕ → Bool) (name_of : X → List ℕ) (i : ℕ) (xs : List X) (p : ℕ) → position_from t i (map name_of xs) ≡ Some p → (k : ℕ) × (x : X) × (p ≡ i + k) × (slice_get xs k ≡ Some x)
 position_at t name_of i [] p e = absurd cc
 position_at t name_of i (x ∷ xs) p e = go (t (name_of x)) e (position_at t name_of (i + 1) xs p)
   where
@@ -139,7 +139,7 @@ needed true b c h some = h
 needed false true c h some = h
 needed false false c h some = ⊎_elim (λ e. absurd cc) (λ e. absurd cc) some
 
-first_place : {X : Type 0} (name_of : X → List ℕ) (xs : List X) (o : Option (String Global)) (f : FoundIn name_of xs o) → place_or_first (map name_of xs) o ≡ f.place
+pub first_place : {X : Type 0} (name_of : X → List ℕ) (xs : List X) (o : Option (String Global)) (f : FoundIn name_of xs o) → place_or_first (map name_of xs) o ≡ f.place
 first_place name_of xs o f =
     ap (place_or_first (map name_of xs)) f.is ∙ ap (λ (p : Option ℕ). unwrap_or p 0) f.found
 

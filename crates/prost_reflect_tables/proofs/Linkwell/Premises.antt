@@ -69,7 +69,7 @@ wrong_needs_entry : (rows : FlatRows) (d : DefinitionRow FieldDescriptorProto) �
 wrong_needs_entry rows d h = rw h refl
 
 -- The parts of tests that are joined by `||`.
-three : (a b c : Bool) → (a || b || c) ≡ false → (a ≡ false) × (b ≡ false) × (c ≡ false)
+pub three : (a b c : Bool) → (a || b || c) ≡ false → (a ≡ false) × (b ≡ false) × (c ≡ false)
 three false false c h = (refl, refl, h)
 three true b c h = absurd cc
 three false true c h = absurd cc

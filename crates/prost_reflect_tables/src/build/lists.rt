@@ -172,6 +172,7 @@ fn message_lists(
         enums: list_at(alloc, inner.enums.as_slice(), place)?,
         extensions: list_at(alloc, inner.extensions.as_slice(), place)?,
         extending: list_at(alloc, inner.extending.as_slice(), place)?,
+        fields: own_fields(alloc, message.fields.as_slice())?,
         by_name: fields_by_name(alloc, message.fields.as_slice())?,
         by_json_name: fields_by_json_name(alloc, message.fields.as_slice())?,
     })

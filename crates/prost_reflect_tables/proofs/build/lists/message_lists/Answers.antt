@@ -22,3 +22,4 @@ returns c =
     (copied_at (extended_place (links_of rows)) rows.extensions n place (list_items inner.extending) _ c.requires.inner.extending at (search rules))
     (search rules)
     (search rules)
+    (search rules)
