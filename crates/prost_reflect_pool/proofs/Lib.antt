@@ -1,3 +1,6 @@
+mod PathWalks
+mod RecordPaths
+mod NamedRecords
 mod BuiltinFacts
 mod NoFiles
 mod BuiltinFields
@@ -5,7 +8,12 @@ mod BuiltinLinks
 mod BuiltinMessages
 mod BuiltinChecked
 pub mod OneFile
+pub mod PoolLinks
 mod FileNames
+mod Searching
+mod InOrder
+mod InCatalog
 mod OwnEncoding
 pub mod EqualDescriptors
 pub mod EqualTypes
+pub mod PoolRanges

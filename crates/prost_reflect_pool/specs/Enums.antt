@@ -1,7 +1,7 @@
 -- What an enum declares.
-use Rattle.std.specs.Prelude.{ℤ, pos, Option, None, Some}
+use Rattle.std.specs.Prelude.{ℕ, ℤ, pos, List, [], Option, None, Some, slice_get}
 use Rattle.prost_reflect_wire.specs.Scalar.{EnumNumbers, Open}
-use Rattle.prost_reflect_tables.specs.Rows.{EnumRow, value_numbers}
+use Rattle.prost_reflect_tables.specs.Rows.{EnumValueRow, EnumRow, TableRows, value_numbers}
 use Rattle.prost_reflect_tables.specs.Shown.{first_number, enum_numbers}
 
 -- The number of the enum's first value. Nothing is meant by an enum that is not there.
@@ -13,3 +13,11 @@ first_of (Some e) = first_number (value_numbers e)
 abbrev pub numbers_of : Option EnumRow → EnumNumbers
 numbers_of None = Open
 numbers_of (Some e) = enum_numbers e
+
+abbrev pub values_or_none : Option EnumRow → List EnumValueRow
+values_or_none None = []
+values_or_none (Some e) = e.values
+
+-- The values of the enum of a place; none where there is no such enum.
+abbrev pub values_at : TableRows → ℕ → List EnumValueRow
+values_at rows E = values_or_none (slice_get rows.enums E)

@@ -1,11 +1,14 @@
 pub mod FileNames
 pub mod Pools
+pub mod Listed
 pub mod PoolFiles
 pub mod PoolEquality
 pub mod SharedPools
 pub mod MessageTypes
 pub mod Enums
 pub mod MapParts
+pub mod RecordPaths
+pub mod RecordViews
 pub mod Builtin
 pub mod BuiltinRows
 pub mod BuiltinFiles

@@ -5,9 +5,13 @@ mod adding;
 mod builtin;
 mod files;
 mod laws;
+mod linking;
+mod listing;
+mod lookup;
 mod maps;
 mod pool;
 mod pooled_type;
+mod records;
 
 pub use builtin::builtin_pool;
 pub use files::FileDescriptorProtos;

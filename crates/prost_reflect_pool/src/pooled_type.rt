@@ -4,8 +4,7 @@ ghost use Rattle.std.specs.Prelude.{◌≡◌, ◌<◌, length};
 ghost use Rattle.prost_reflect_pool.specs.SharedPools.{pool_rows};
 
 use crate::LinkedPool;
-use crate::maps::entry_parts;
-use prost_reflect_tables::{Cardinality, EnumTable, FieldTable, TableKind, Tables};
+use prost_reflect_tables::{EnumTable, FieldTable, Tables};
 use std::alloc::AllocError;
 use std::rc::Rc;
 
@@ -119,14 +118,6 @@ impl PooledType {
     pub fn map_parts<'a>(&'a self, field: &FieldTable) -> Option<(&'a FieldTable, &'a FieldTable)>
         ensures { option_map (λ parts. (field_row parts.0.now, field_row parts.1.now)) result ≡ map_parts (pool_rows self.now.pool) (field_row field.now) }
     {
-        match (field.cardinality, field.kind) {
-            (Cardinality::Repeated, TableKind::Message(place)) if !field.is_group => {
-                match self.tables().messages.get(place) {
-                    Some(message) => entry_parts(message),
-                    None => None,
-                }
-            }
-            _ => None,
-        }
+        self.pool.map_parts(field)
     }
 }

@@ -1,0 +1,13 @@
+use Rattle.std.proofs.Common.{◌<◌, ℕ, length}
+use Rattle.std.proofs.lemmas.List.Elements.{All-same}
+use Rattle.prost_reflect_tables.specs.CatalogRows.{file_table_row}
+use Rattle.prost_reflect_pool.specs.Pools.{files_of}
+use Rattle.prost_reflect_pool.proofs.PoolLinks.{imports_of}
+use Rattle.prost_reflect_pool.proofs.pool.LinkedPool.dependencies_of.Goals as goal
+
+pub returns-clause-there : goal.returns-clause-there
+returns-clause-there c =
+    let pool = c.args.self.now in
+    let file = c.file_table.result.now in
+    let there = imports_of pool c.args.index (file_table_row file) c.file_table.ensures.row in
+    All-same (λ (d : ℕ). d < length (files_of pool)) c.as_slice.result.now file.dependencies.items c.as_slice.ensures.value there.dependencies
