@@ -3,14 +3,15 @@ use Rattle.std.proofs.Common.{◌≡◌, ℕ, Bool, true, false, cond, not, ◌&
 use Rattle.std.proofs.lemmas.Bool.{eqb-true, and_parts, or_parts}
 use Rattle.std.specs.Option.{option_and_then}
 use Rattle.prost_reflect_wire.specs.Scalar.{Scalar, scalar_eq}
-use Rattle.prost_reflect_wire.specs.Schema.{Kind, ScalarOf, MessageOf, GroupOf, ValueType, FieldForm, Singular, Repeated, MapFrom, Field, Schema, known, field_of, is_sibling, is_singular}
+use Rattle.prost_reflect_wire.specs.Schema.{Kind, ScalarOf, MessageOf, GroupOf, ValueType, FieldForm, Singular, Repeated, MapFrom, Field, Schema, known, field_of, is_sibling, is_singular, is_message, message_has_presence, form_valid, field_valid}
 use Rattle.prost_reflect_wire.specs.Content.{ContentOf, Entries, Value, ScalarValue, MessageValue, ListValue, MapValue, NoValues, Item, NoPairs, Pair, Slot, value_at, slot_at, then_unknowns, then_value, store, table, insert_number, numbers_in, changed}
-use Rattle.prost_reflect_wire.specs.Typing.{kind_takes, value_valid, is_field_default, is_empty_value, kept, kept_entries, kept_inside, kept_value}
+use Rattle.prost_reflect_wire.specs.Typing.{is_field_default, is_empty_value, kept, kept_entries, kept_inside, kept_value}
 use Rattle.prost_reflect_wire.specs.Writing.{is_default_of}
 use Rattle.prost_reflect_wire.specs.Edit.{with_value, with_field_value, set_field, default_of, default_value}
 use Rattle.prost_reflect_wire.proofs.Numbers.{is_in, Covers, empty_slot, insert_ascending, entries_ascending, in_insert, slot_outside, slot_table, table_same, table_covers}
 use Rattle.prost_reflect_wire.proofs.Survivors.{field_number}
 use Rattle.prost_reflect_wire.specs.Deciding.{scalar_decides}
+use Rattle.prost_reflect_laws.proofs.Checked.{checked_field}
 use Rattle.prost_reflect_laws.proofs.WrittenEntries.{kept_unknowns}
 use Rattle.prost_reflect.specs.Contents.{with_unknown}
 use Rattle.prost_reflect.specs.KeptLaws.{Arranged, KeptAfterSet, KeptAfterClear, KeptAfterUnknown, KeptAfterClearAll, KeptAfterWriting}
@@ -120,17 +121,17 @@ kept_after_clear_all (ContentOf schema T es) = refl
 -- WRITING ACCESS
 
 -- a value that says nothing is the default of its field
-default_kept : (schema : Schema) (f : Field) (v : Value) → value_valid f v ≡ true → is_field_default f (kept_inside v) ≡ true → kept_inside v ≡ default_value schema f.form f.value_type
-default_kept schema f v valid h = go f.form f.value_type v valid h
+pub default_kept : (schema : Schema) (f : Field) (v : Value) → field_valid schema f ≡ true → is_field_default f (kept_inside v) ≡ true → kept_inside v ≡ default_value schema f.form f.value_type
+default_kept schema f v valid h = go f.form f.value_type v (λ single. ap (form_valid f) (sym single) ∙ (checked_field schema f valid).form) h
   where
-    scalar : (t : ValueType) (s : Scalar) (kind : Kind) → kind_takes kind s ≡ true → is_default_of t (ScalarValue s) ≡ true → ScalarValue s ≡ default_of schema t kind
-    scalar t s (ScalarOf kind) takes h = ap ScalarValue ((scalar_decides s t.default).0 (and_parts (not t.presence) (scalar_eq s t.default) h).1)
-    scalar t s (MessageOf T) takes h = absurd (true≢false (sym takes))
-    scalar t s (GroupOf T) takes h = absurd (true≢false (sym takes))
+    scalar : (t : ValueType) (s : Scalar) (kind : Kind) → (not (is_message kind) || t.presence) ≡ true → is_default_of t (ScalarValue s) ≡ true → ScalarValue s ≡ default_of schema t kind
+    scalar t s (ScalarOf kind) present h = ap ScalarValue ((scalar_decides s t.default).0 (and_parts (not t.presence) (scalar_eq s t.default) h).1)
+    scalar t s (MessageOf T) present h = absurd (true≢false (sym (and_parts (not t.presence) (scalar_eq s t.default) h).0 ∙ ap not present))
+    scalar t s (GroupOf T) present h = absurd (true≢false (sym (and_parts (not t.presence) (scalar_eq s t.default) h).0 ∙ ap not present))
 
-    go : (form : FieldForm) (t : ValueType) (v : Value) → value_valid (record f { form = form; value_type = t }) v ≡ true → (is_empty_value form (kept_inside v) || (is_singular form && is_default_of t (kept_inside v))) ≡ true
+    go : (form : FieldForm) (t : ValueType) (v : Value) → (form ≡ Singular → message_has_presence t ≡ true) → (is_empty_value form (kept_inside v) || (is_singular form && is_default_of t (kept_inside v))) ≡ true
         → kept_inside v ≡ default_value schema form t
-    go Singular t (ScalarValue s) valid h = scalar t s t.kind valid h
+    go Singular t (ScalarValue s) valid h = scalar t s t.kind (valid refl) h
     go Singular t (MessageValue c) valid h = absurd (true≢false (sym h))
     go Singular t (ListValue NoValues) valid h = absurd (true≢false (sym h))
     go Singular t (ListValue (Item v vs)) valid h = absurd (true≢false (sym h))
@@ -149,13 +150,13 @@ default_kept schema f v valid h = go f.form f.value_type v valid h
     go (MapFrom key) t (MapValue NoPairs) valid h = refl
     go (MapFrom key) t (MapValue (Pair k v ps)) valid h = absurd (true≢false (sym h))
 
-lent_is : (schema : Schema) (f : Field) (default : Value) (o : Option Value) → kept_inside default ≡ default_value schema f.form f.value_type → ((v : Value) → o ≡ Some v → value_valid f v ≡ true)
+lent_is : (schema : Schema) (f : Field) (default : Value) (o : Option Value) → kept_inside default ≡ default_value schema f.form f.value_type → field_valid schema f ≡ true
     → kept_inside (unwrap_or o default) ≡ unwrap_or (option_and_then (λ v. kept_value (Some f) (kept_inside v)) o) (default_value schema f.form f.value_type)
 lent_is schema f default None is valid = is
 lent_is schema f default (Some v) is valid = go (is_field_default f (kept_inside v)) refl
   where
     go : (b : Bool) → is_field_default f (kept_inside v) ≡ b → kept_inside v ≡ unwrap_or (cond b None (Some (kept_inside v))) (default_value schema f.form f.value_type)
-    go true h = default_kept schema f v (valid v refl) h
+    go true h = default_kept schema f v valid h
     go false h = refl
 
 unwrapped : (schema : Schema) (f : Field) (o : Option Value) → unwrap_or o (default_value schema f.form f.value_type) ≡ elim o [ None ↦ default_value schema f.form f.value_type | Some v ↦ v ]

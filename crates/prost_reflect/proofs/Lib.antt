@@ -34,3 +34,11 @@ mod ListElements
 mod ListMerging
 mod NumberMerging
 mod WrittenLists
+pub mod PlaceRanges
+pub mod Had
+pub mod OwnFields
+pub mod FieldDefaults
+pub mod Shows
+pub mod LentWriting
+pub mod UnknownLists
+pub mod OwnRows

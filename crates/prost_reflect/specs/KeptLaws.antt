@@ -1,9 +1,9 @@
 -- Laws of what is kept of a content, its defaults without presence left out: each operation of the field set is the definitions' operation on it.
 use Rattle.std.specs.Prelude.{◌≡◌, ℕ, true, List, Some, unwrap_or}
 use Rattle.prost_reflect_wire.specs.Record.{Record}
-use Rattle.prost_reflect_wire.specs.Schema.{Field, known, field_of}
+use Rattle.prost_reflect_wire.specs.Schema.{Field, known, field_of, field_valid}
 use Rattle.prost_reflect_wire.specs.Content.{Content, Entries, Value, schema_of, type_of, entries_of, value_at, slot_at, table, numbers_in}
-use Rattle.prost_reflect_wire.specs.Typing.{value_valid, kept, kept_inside}
+use Rattle.prost_reflect_wire.specs.Typing.{kept, kept_inside}
 use Rattle.prost_reflect_wire.specs.Edit.{set_field, clear_field, cleared, default_value, WritingAccess, in_field}
 use Rattle.prost_reflect_fields.specs.Items.{IsAscending}
 use Rattle.prost_reflect.specs.View.{content_of, stored_in}
@@ -38,8 +38,8 @@ KeptAfterUnknown = (c : Content) (r : Record) → Arranged (entries_of c) → ke
 abbrev pub KeptAfterClearAll : Type 0
 KeptAfterClearAll = (c : Content) → kept (cleared c) ≡ cleared (kept c)
 
--- Writing access to a field that has a valid value or none, and is first set to its default where it has none: what is lent, and what is left where w was written there.
+-- Writing access to a field that is first set to its default where it has no value: what is lent, and what is left where w was written there.
 abbrev pub KeptAfterWriting : Type 0
 KeptAfterWriting = (c : Content) (n : ℕ) (default w : Value) (f : Field) → Arranged (entries_of c) → field_of (fields_in c) n ≡ Some f
-    → kept_inside default ≡ default_value (schema_of c) f.form f.value_type → ((v : Value) → value_at n (entries_of c) ≡ Some v → value_valid f v ≡ true)
+    → kept_inside default ≡ default_value (schema_of c) f.form f.value_type → field_valid (schema_of c) f ≡ true
     → WritingAccess (schema_of c) (fields_in c) f (entries_of (kept c)) (unwrap_or (value_at n (entries_of c)) default) w (entries_of (kept (value_set n w c)))

@@ -24,3 +24,15 @@ pub mod Nested
 pub mod Encoding
 pub mod Present
 pub mod Lists
+pub mod NamedExtensions
+pub mod NamedFiles
+pub mod NamedLists
+pub mod NamedMethods
+pub mod NamedOneofs
+pub mod NamedRecords
+pub mod NamedServices
+pub mod NamedValues
+pub mod Places
+pub mod Reserved
+pub mod Access
+pub mod UnknownLists

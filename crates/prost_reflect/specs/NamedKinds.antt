@@ -1,8 +1,13 @@
 -- What kinds name.
-use Rattle.std.specs.Prelude.{◌≡◌, ⊤}
+use Rattle.std.specs.Prelude.{◌≡◌, ⊤, Option, None, Some}
+use Rattle.prost_reflect_wire.specs.declared.key.WireType.{WireType}
+use Rattle.prost_reflect_wire.specs.declared.key.WireType.TheVariants.{Varint, SixtyFourBit, LengthDelimited, ThirtyTwoBit}
+use Rattle.prost_reflect_pool.specs.declared.pool.LinkedPool.{LinkedPool}
 use Rattle.prost_reflect_tables.specs.declared.tables.TableKind.{TableKind}
 use Rattle.prost_reflect_tables.specs.declared.tables.TableKind.TheVariants as places
 use Rattle.prost_reflect.specs.declared.descriptor.pool.DescriptorPool.{DescriptorPool}
+use Rattle.prost_reflect.specs.declared.descriptor.message.MessageDescriptor.{MessageDescriptor}
+use Rattle.prost_reflect.specs.declared.descriptor.enums.EnumDescriptor.{EnumDescriptor}
 use Rattle.prost_reflect.specs.declared.descriptor.kind.Kind.{Kind}
 use Rattle.prost_reflect.specs.declared.descriptor.kind.Kind.TheVariants.{Double, Float, Int32, Int64, Uint32, Uint64, Sint32, Sint64, Fixed32, Fixed64, Sfixed32, Sfixed64, Bool, String, Bytes, Message, Enum}
 
@@ -31,3 +36,34 @@ abbrev pub IsAmong : DescriptorPool → Kind → Type 0
 IsAmong pool (Message message) = message.pool.inner.value ≡ pool.inner.value
 IsAmong pool (Enum e) = e.pool.inner.value ≡ pool.inner.value
 IsAmong pool kind = ⊤
+
+abbrev pub message_of : Kind → Option MessageDescriptor
+message_of (Message message) = Some message
+message_of kind = None
+
+abbrev pub enum_of : Kind → Option EnumDescriptor
+enum_of (Enum e) = Some e
+enum_of kind = None
+
+-- The wire type of a record of one value; a message's is that of a delimited one.
+abbrev pub wire_type_of : Kind → WireType
+wire_type_of Double = SixtyFourBit
+wire_type_of Float = ThirtyTwoBit
+wire_type_of Fixed32 = ThirtyTwoBit
+wire_type_of Fixed64 = SixtyFourBit
+wire_type_of Sfixed32 = ThirtyTwoBit
+wire_type_of Sfixed64 = SixtyFourBit
+wire_type_of String = LengthDelimited
+wire_type_of Bytes = LengthDelimited
+wire_type_of (Message message) = LengthDelimited
+wire_type_of kind = Varint
+
+-- The pool of the type that the kind names.
+abbrev pub pool_of : Kind → Option LinkedPool
+pool_of (Message message) = Some message.pool.inner.value
+pool_of (Enum e) = Some e.pool.inner.value
+pool_of kind = None
+
+-- Two kinds that are one.
+abbrev pub SameKind : Kind → Kind → Type 0
+SameKind a b = (table_kind b ≡ table_kind a) × (pool_of b ≡ pool_of a)

@@ -1,5 +1,5 @@
 -- Which numbers of a message are present (the guide on field presence): those of values, which the defaults of fields without presence are none of, and those of unknown fields.
-use Rattle.std.specs.Prelude.{ℕ, ◌++◌, if◌then◌else◌, List, [], ◌∷◌, length, flat_map, Option, Some, None, option_and_then, option_to_list}
+use Rattle.std.specs.Prelude.{ℕ, Bool, true, false, ◌++◌, if◌then◌else◌, List, [], ◌∷◌, length, flat_map, Option, Some, None, option_and_then, option_to_list}
 use Rattle.prost_reflect_wire.specs.Record.{Payload}
 use Rattle.prost_reflect_wire.specs.Schema.{Field, known, field_of, passes}
 use Rattle.prost_reflect_wire.specs.Content as content
@@ -28,6 +28,12 @@ slot_present fields n slot = option_to_list (value_present fields n slot.value) 
 -- What is present in a content, in ascending number.
 abbrev pub present_in : Content → List PresentNumber
 present_in (ContentOf schema T es) = flat_map (λ n. slot_present (known schema T) n (slot_at es n)) (numbers_in es)
+
+-- The number of an extension, or that of a field; nothing of others.
+abbrev pub number_listed : (of_extensions : Bool) → PresentNumber → List ℕ
+number_listed true (ExtensionNumber n) = n ∷ []
+number_listed false (FieldNumber n) = n ∷ []
+number_listed of_extensions number = []
 
 -- ENTRY BY ENTRY
 

@@ -2,6 +2,7 @@
 
 ghost use Rattle.prost_reflect.specs.ContentLaws.{ValueViews, MessageSlots, MessageOrder, SlotsAfterSet, SlotsAfterClear, SlotsAfterUnknown, SlotsDetermine, MapInsert};
 ghost use Rattle.prost_reflect.specs.KeptLaws.{MessageArranged, KeptAfterSet, KeptAfterClear, KeptAfterUnknown, KeptAfterClearAll, KeptAfterWriting};
+ghost use Rattle.prost_reflect.specs.Access.{HadContent, NumberFound, NumberMissing, ShownContent};
 ghost use Rattle.std.specs.Prelude.{◌≡◌, true};
 ghost use Rattle.prost_reflect_wire.specs.Scalar.{scalar_cmp, scalar_eq};
 ghost use Rattle.prost_reflect.specs.View.{key_of};
@@ -39,6 +40,22 @@ pub fn slots_after_clear()
 /// What each number has after an unknown record was added.
 pub fn slots_after_unknown()
     ensures { SlotsAfterUnknown }
+{}
+
+/// A call by number is the call by the field that the look-up of the number finds, if it finds one.
+pub fn number_found()
+    ensures found { NumberFound }
+    ensures missing { NumberMissing }
+{}
+
+/// A message has at a number, as it is stored, what its content has there.
+pub fn had_content()
+    ensures { HadContent }
+{}
+
+/// What is got of a field is the value of its content, or else the default.
+pub fn shown_content()
+    ensures { ShownContent }
 {}
 
 /// The content of a message is arranged.

@@ -7,9 +7,14 @@ mod message;
 mod value;
 
 pub use descriptor::{
-    DescriptorPool, EnumDescriptor, FieldDescriptor, Kind, MessageDescriptor, builtin_pool,
+    DescriptorPool, Descriptors, EnumDescriptor, EnumDescriptors, EnumReservedRanges,
+    EnumValueDescriptor, EnumValueDescriptors, ExtensionDescriptor, ExtensionDescriptors,
+    ExtensionRanges, FieldDescriptor, FieldDescriptors, FileDescriptor, FileDescriptors, Kind,
+    MessageDescriptor, MessageDescriptors, MethodDescriptor, MethodDescriptors, OneofDescriptor,
+    OneofDescriptors, Placed, Places, ReservedNames, ReservedRanges, ServiceDescriptor,
+    ServiceDescriptors, Syntax, builtin_pool,
 };
-pub use message::{DynamicMessage, PresentNumber};
+pub use message::{DynamicMessage, PresentNumber, UnknownFields};
 pub use prost_reflect_pool::FileDescriptorProtos;
 pub use prost_reflect_tables::{Cardinality, PoolError};
 pub use prost_reflect_types::{

@@ -11,20 +11,23 @@ ghost use Rattle.prost_reflect.specs.contracts.value.Value as value;
 ghost use Rattle.prost_reflect_pool.specs.MessageTypes.{schema_at, type_at};
 ghost use Rattle.prost_reflect_fields.specs.Items.{IsAscending};
 ghost use Rattle.prost_reflect_fields.specs.Known.{known_of, is_known, keeps_unknown};
-ghost use Rattle.prost_reflect_fields.specs.FieldSlots.{records_at};
+ghost use Rattle.prost_reflect_fields.specs.FieldSlots.{value_at as stored_at, records_at};
 ghost use Rattle.prost_reflect_fields.specs.Sound.{IsSound};
 ghost use Rattle.prost_reflect.specs.declared.value.Value.{Value};
 ghost use Rattle.prost_reflect.specs.View.{content_of, value_of, message_type_of, stored_in, written_at};
 ghost use Rattle.prost_reflect.specs.Named.{IsNamed, NamesSame, schema_named, type_named};
 ghost use Rattle.prost_reflect.specs.Contents.{value_set, value_cleared, unknown_added};
 
+mod access;
 mod copy;
 mod decode;
 pub(crate) mod defaults;
 mod encode;
 pub(crate) mod enums;
 mod equality;
+mod lists;
 mod present;
+mod unknowns;
 
 use crate::descriptor::MessageDescriptor;
 use crate::value::Value;
@@ -34,6 +37,7 @@ use prost_reflect_fields::slot::FieldSlot;
 use prost_reflect_pool::PooledType;
 use prost_reflect_wire::{UnknownField, UnknownFieldSet};
 use std::alloc::{AllocError, Global};
+pub use unknowns::UnknownFields;
 
 /// A message of a type that is known only at run time: the values of its fields and extensions, and its unknown fields.
 #[cycle(value)]
@@ -98,7 +102,9 @@ impl DynamicMessage {
 
     /// The value that is stored at the number.
     pub(crate) fn stored_value(&self, number: u32) -> Option<&Value>
-        ensures { option_map value_of (option_copied result) ≡ value_at number (entries_of (content_of self.now)) }
+        ensures stored { option_copied result ≡ stored_at (stored_in self.now) number }
+        ensures value { option_map value_of (option_copied result) ≡ value_at number (entries_of (content_of self.now)) }
+        ensures ascending { IsAscending (stored_in self.now) }
     {
         self.fields.get(number)
     }
@@ -124,8 +130,10 @@ impl DynamicMessage {
     /// Takes the value at the number. The unknown fields stay.
     pub(crate) fn take_value(&mut self, number: u32) -> Option<Value>
         ensures message_type { message_type_of self.new ≡ message_type_of self.old }
+        ensures stored { result ≡ stored_at (stored_in self.old) number }
         ensures value { option_map value_of result ≡ value_at number (entries_of (content_of self.old)) }
         ensures content { content_of self.new ≡ value_cleared number (content_of self.old) }
+        ensures ascending { IsAscending (stored_in self.old) }
     {
         self.fields.take(number)
     }
@@ -162,6 +170,7 @@ impl DynamicMessage {
         ensures value { IfOk result (λ lent. value_of lent.now ≡ unwrap_or (value_at number (entries_of (content_of self.old))) (value_of default)) }
         ensures message_type { (v : Value) → message_type_of (written_at self.old number default v) ≡ message_type_of self.old }
         ensures content { (v : Value) → content_of (written_at self.old number default v) ≡ value_set number (value_of v) (content_of self.old) }
+        ensures ascending { IsAscending (stored_in self.old) }
     {
         self.fields.get_mut_or(number, default)
     }

@@ -3,9 +3,15 @@
 ghost use Rattle.std.specs.Prelude.{◌≡◌, ◌<◌, length};
 ghost use Rattle.prost_reflect_pool.specs.SharedPools.{pool_rows};
 
-use crate::descriptor::DescriptorPool;
+use crate::descriptor::message::message_at;
+use crate::descriptor::places::Places;
+use crate::descriptor::{
+    DescriptorPool, Descriptors, EnumReservedRanges, EnumValueDescriptor, FileDescriptor,
+    MessageDescriptor, Placed, ReservedNames,
+};
 use crate::message::enums::first_in;
-use prost_reflect_tables::EnumTable;
+use prost_reflect_tables::{EnumLists, EnumTable, text_or_empty};
+use prost_reflect_types::{EnumDescriptorProto, FileDescriptorProto};
 use std::alloc::AllocError;
 
 /// An enum of a pool.
@@ -29,8 +35,29 @@ impl Clone for EnumDescriptor {
     }
 }
 
+impl Placed<DescriptorPool> for EnumDescriptor {
+    ghost use Rattle.std.specs.Prelude.{nat_lt};
+
+    ghost is_place = { λ pool i. nat_lt i (length (pool_rows pool.inner).enums) };
+
+    ghost stands = { λ pool i e. (e.pool.inner.value ≡ pool.inner.value) × (e.index ≡ i) };
+
+    fn at(pool: &DescriptorPool, index: usize) -> Result<EnumDescriptor, AllocError> {
+        Ok(EnumDescriptor::new(pool.clone()?, index))
+    }
+}
+
 impl EnumDescriptor {
-    ghost use Rattle.std.specs.Prelude.{Some, option_map};
+    ghost use Rattle.std.specs.Prelude.{All, Some, IfOk, IfSome, option_map, option_and_then, slice_get};
+    ghost use Rattle.prost_reflect_tables.specs.CatalogRows.{enum_lists_row};
+    ghost use Rattle.prost_reflect_tables.specs.Names.{text_or_empty};
+    ghost use Rattle.prost_reflect_pool.specs.SharedPools.{files_of};
+    ghost use Rattle.prost_reflect.specs.NamedEnums.{enum_lists_at, SameEnum};
+    ghost use Rattle.prost_reflect.specs.NamedLists.{values_of};
+    ghost use Rattle.prost_reflect.specs.NamedRecords.{enum_record_named, enum_reserved_in, names_in};
+    ghost use Rattle.prost_reflect.specs.Reserved.{enum_reserved_left, names_left};
+    ghost use Rattle.prost_reflect_pool.specs.RecordPaths.{EnumRecord};
+    ghost use Rattle.prost_reflect.specs.Places.{places_left};
     ghost use Rattle.prost_reflect_tables.specs.Rows.{enum_row};
     ghost use Rattle.prost_reflect_pool.specs.Enums.{first_of};
     ghost use Rattle.prost_reflect.specs.NamedEnums.{enum_row_at};
@@ -58,6 +85,110 @@ impl EnumDescriptor {
         self.table().id.full_name.as_str()
     }
 
+    /// The file that declares the enum.
+    ///
+    /// # Errors
+    ///
+    /// `AllocError` if a clone of the pool is refused.
+    pub fn parent_file(&self) -> Result<FileDescriptor, AllocError>
+        ensures file { IfOk result (λ file. option_map (λ e. e.id.file) (enum_row_at self.now) ≡ Some file.index) }
+        ensures pool { IfOk result (λ file. file.pool.inner.value ≡ self.now.pool.inner.value) }
+    {
+        FileDescriptor::at(&self.pool, self.table().id.file)
+    }
+
+    /// The message type around the enum, or none at the top of a file.
+    ///
+    /// # Errors
+    ///
+    /// `AllocError` if a clone of the pool is refused.
+    pub fn parent_message(&self) -> Result<Option<MessageDescriptor>, AllocError>
+        ensures parent { IfOk result (λ parent. option_map (λ e. e.id.parent) (enum_row_at self.now) ≡ Some (option_map (λ message. message.index) parent)) }
+        ensures pool { IfOk result (λ parent. IfSome parent (λ message. message.pool.inner.value ≡ self.now.pool.inner.value)) }
+    {
+        message_at(&self.pool, self.table().id.parent)
+    }
+
+    /// The enum's own name, without its scope.
+    pub fn name(&self) -> &str
+        ensures { option_map (λ e. e.id.name) (enum_row_at self.now) ≡ Some result.now }
+    {
+        self.table().id.name.as_str()
+    }
+
+    /// The package of the file, empty where it has none.
+    pub fn package_name(&self) -> &str
+        ensures { option_map (λ file. text_or_empty file.package) (option_and_then (λ e. slice_get (files_of self.now.pool.inner) e.id.file) (enum_row_at self.now)) ≡ Some result.now }
+    {
+        text_or_empty(&self.parent_file_descriptor_proto().package)
+    }
+
+    /// The path in the file, as in `SourceCodeInfo.Location.path`.
+    pub fn path(&self) -> &[i32]
+        ensures { option_map (λ e. e.id.path) (enum_row_at self.now) ≡ Some result.now }
+    {
+        self.table().id.path.as_slice()
+    }
+
+    /// The record of the file that declares the enum.
+    pub fn parent_file_descriptor_proto(&self) -> &FileDescriptorProto
+        ensures { option_and_then (λ e. slice_get (files_of self.now.pool.inner) e.id.file) (enum_row_at self.now) ≡ Some result.now }
+    {
+        self.pool.inner.file_record(self.table().id.file)
+    }
+
+    /// The values, in ascending order of their numbers; values of one number in the order of their declaration.
+    pub fn values(&self) -> Descriptors<'_, EnumDescriptor, EnumValueDescriptor>
+        ensures parent { result.parent.now ≡ self.now }
+        ensures places { option_map (λ lists. lists.by_number) (enum_lists_at self.now) ≡ Some (places_left result.places) }
+    {
+        Descriptors::new(self, Places::Listed(self.lists().by_number.as_slice()))
+    }
+
+    /// The default: the value that is declared first.
+    ///
+    /// # Errors
+    ///
+    /// `AllocError` if a clone of the pool is refused.
+    pub fn default_value(&self) -> Result<EnumValueDescriptor, AllocError>
+        ensures first { IfOk result (λ value. value.index ≡ 0) }
+        ensures parent { IfOk result (λ value. SameEnum self.now value.parent) }
+    {
+        EnumValueDescriptor::at(self, 0)
+    }
+
+    /// The enum's record.
+    pub fn enum_descriptor_proto(&self) -> &EnumDescriptorProto
+        ensures { enum_record_named self.now ≡ Some (EnumRecord result.now) }
+    {
+        self.pool.inner.enum_record(self.index)
+    }
+
+    /// The ranges of numbers that no value may have, in the order of the record.
+    pub fn reserved_ranges(&self) -> EnumReservedRanges<'_>
+        ensures { enum_reserved_in (enum_record_named self.now) ≡ Some (enum_reserved_left result) }
+    {
+        EnumReservedRanges {
+            records: self.enum_descriptor_proto().reserved_range.as_slice(),
+        }
+    }
+
+    /// The names that no value may have, in the order of the record.
+    pub fn reserved_names(&self) -> ReservedNames<'_>
+        ensures { names_in (enum_record_named self.now) ≡ Some (names_left result) }
+    {
+        ReservedNames {
+            names: self.enum_descriptor_proto().reserved_name.as_slice(),
+        }
+    }
+
+    /// The enum's place in its pool.
+    pub(crate) fn place(&self) -> usize
+        ensures { result ≡ self.now.index }
+    {
+        self.index
+    }
+
     /// Whether a number that no value has is kept as an unknown field.
     pub fn is_closed(&self) -> bool
         ensures { option_map (λ e. e.is_closed) (enum_row_at self.now) ≡ Some result }
@@ -65,11 +196,21 @@ impl EnumDescriptor {
         self.table().is_closed
     }
 
+    /// What is looked up in the enum.
+    fn lists(&self) -> &EnumLists
+        ensures row { enum_lists_at self.now ≡ Some (enum_lists_row result.now) }
+        ensures by_number { All (λ i. i < length (values_of self.now)) result.now.by_number.items }
+    {
+        self.pool.inner.enum_lists(self.index)
+    }
+
     /// The enum's table.
     pub(crate) fn table(&self) -> &EnumTable
-        ensures { enum_row_at self.now ≡ Some (enum_row result.now) }
+        ensures row { enum_row_at self.now ≡ Some (enum_row result.now) }
+        ensures file { result.now.id.file < length (files_of self.now.pool.inner) }
+        ensures parent { IfSome result.now.id.parent (λ p. p < length (pool_rows self.now.pool.inner).messages) }
     {
-        &self.pool.inner.tables().enums[self.index]
+        self.pool.inner.enum_table(self.index)
     }
 
     /// The number of the first value.

@@ -3,8 +3,12 @@
 ghost use Rattle.std.specs.Prelude.{◌≡◌, IsTrue};
 ghost use Rattle.prost_reflect.specs.NamedFields.{fields_of, is_declared_at};
 
-use crate::descriptor::{Kind, MessageDescriptor};
+use crate::descriptor::forms::{is_list, is_map};
+use crate::descriptor::{
+    DescriptorPool, FileDescriptor, Kind, MessageDescriptor, OneofDescriptor, Placed,
+};
 use prost_reflect_tables::{Cardinality, FieldTable};
+use prost_reflect_types::FieldDescriptorProto;
 use std::alloc::AllocError;
 
 /// A field of a message type.
@@ -28,10 +32,26 @@ impl Clone for FieldDescriptor {
     }
 }
 
+impl Placed<MessageDescriptor> for FieldDescriptor {
+    ghost use Rattle.prost_reflect.specs.Named.{SameMessage};
+
+    ghost is_place = { λ message i. is_declared_at (fields_of message) i };
+
+    ghost stands = { λ message i field. SameMessage message field.message × (field.index ≡ i) };
+
+    fn at(message: &MessageDescriptor, index: usize) -> Result<FieldDescriptor, AllocError> {
+        Ok(FieldDescriptor::new(message.clone()?, index))
+    }
+}
+
 impl FieldDescriptor {
-    ghost use Rattle.std.specs.Prelude.{Some, IfOk, option_map};
+    ghost use Rattle.std.specs.Prelude.{Some, IfOk, IfSome, option_and_then, option_map};
+    ghost use Rattle.prost_reflect_wire.specs.Schema.{is_list, is_map};
+    ghost use Rattle.prost_reflect_tables.specs.Shown.{schema_field, is_required};
+    ghost use Rattle.prost_reflect.specs.Named.{message_row_named};
     ghost use Rattle.prost_reflect_tables.specs.Rows.{field_row};
-    ghost use Rattle.prost_reflect_pool.specs.SharedPools.{pool_rows};
+    ghost use Rattle.prost_reflect_pool.specs.RecordPaths.{FieldRecord, record_of};
+    ghost use Rattle.prost_reflect_pool.specs.SharedPools.{files_of, pool_rows};
     ghost use Rattle.prost_reflect.specs.Named.{SameMessage};
     ghost use Rattle.prost_reflect.specs.NamedField.{row_at};
     ghost use Rattle.prost_reflect.specs.NamedKinds.{table_kind, IsAmong};
@@ -43,6 +63,25 @@ impl FieldDescriptor {
         ensures index { result.index ≡ index }
     {
         FieldDescriptor { message, index }
+    }
+
+    /// The pool that the field is of.
+    pub fn parent_pool(&self) -> &DescriptorPool
+        ensures { result.now ≡ self.now.message.pool }
+    {
+        self.message.parent_pool()
+    }
+
+    /// The file that declares the field.
+    ///
+    /// # Errors
+    ///
+    /// `AllocError` if a clone of the pool is refused.
+    pub fn parent_file(&self) -> Result<FileDescriptor, AllocError>
+        ensures file { IfOk result (λ file. option_map (λ message. message.id.file) (message_row_named self.now.message) ≡ Some file.index) }
+        ensures pool { IfOk result (λ file. file.pool.inner.value ≡ self.now.message.pool.inner.value) }
+    {
+        self.message.parent_file()
     }
 
     /// The message type that the field is of.
@@ -59,6 +98,35 @@ impl FieldDescriptor {
         self.table().id.name.as_str()
     }
 
+    /// The full name of the message type and the field's name, joined by a dot.
+    pub fn full_name(&self) -> &str
+        ensures { option_map (λ field. field.id.full_name) (row_at self.now) ≡ Some result.now }
+    {
+        self.table().id.full_name.as_str()
+    }
+
+    /// The path in the file, as in `SourceCodeInfo.Location.path`.
+    pub fn path(&self) -> &[i32]
+        ensures { option_map (λ field. field.id.path) (row_at self.now) ≡ Some result.now }
+    {
+        self.table().id.path.as_slice()
+    }
+
+    /// The field's record.
+    pub fn field_descriptor_proto(&self) -> &FieldDescriptorProto
+        ensures { option_and_then (λ field. record_of (files_of self.now.message.pool.inner) field.id) (row_at self.now) ≡ Some (FieldRecord result.now) }
+    {
+        let pool = &self.message.parent_pool().inner;
+        pool.field_record(self.message.place(), self.index)
+    }
+
+    /// The name in JSON: the one that the field's record gives, or else its own name.
+    pub fn json_name(&self) -> &str
+        ensures { option_map (λ field. field.json_name) (row_at self.now) ≡ Some result.now }
+    {
+        self.table().json_name.as_str()
+    }
+
     /// The field number, from 1 to 536870911.
     pub fn number(&self) -> u32
         ensures { option_map (λ field. field.number) (row_at self.now) ≡ Some result }
@@ -71,6 +139,27 @@ impl FieldDescriptor {
         ensures { option_map (λ field. field.cardinality) (row_at self.now) ≡ Some result }
     {
         self.table().cardinality
+    }
+
+    /// Whether the label is `required`.
+    pub fn is_required(&self) -> bool
+        ensures { option_map (λ field. is_required field.cardinality) (row_at self.now) ≡ Some result }
+    {
+        matches!(self.cardinality(), Cardinality::Required)
+    }
+
+    /// Whether the field has a list of values, and is no map.
+    pub fn is_list(&self) -> bool
+        ensures { option_map (λ field. is_list (schema_field (pool_rows self.now.message.pool.inner) field).form) (row_at self.now) ≡ Some result }
+    {
+        is_list(&self.parent_pool().inner, self.table())
+    }
+
+    /// Whether the field is a map.
+    pub fn is_map(&self) -> bool
+        ensures { option_map (λ field. is_map (schema_field (pool_rows self.now.message.pool.inner) field).form) (row_at self.now) ≡ Some result }
+    {
+        is_map(&self.parent_pool().inner, self.table())
     }
 
     /// Whether a value that was never set differs from the default.
@@ -104,6 +193,21 @@ impl FieldDescriptor {
         ensures pool { IfOk result (IsAmong self.now.message.pool) }
     {
         Kind::from_table(self.message.parent_pool(), self.table().kind)
+    }
+
+    /// The oneof that the field is a member of, if it is one of one.
+    ///
+    /// # Errors
+    ///
+    /// `AllocError` if a clone of the pool is refused.
+    pub fn containing_oneof(&self) -> Result<Option<OneofDescriptor>, AllocError>
+        ensures oneof { IfOk result (λ oneof. option_map (λ field. field.oneof) (row_at self.now) ≡ Some (option_map (λ o. o.index) oneof)) }
+        ensures message { IfOk result (λ oneof. IfSome oneof (λ o. SameMessage self.now.message o.message)) }
+    {
+        match self.table().oneof {
+            Some(index) => Ok(Some(OneofDescriptor::at(&self.message, index)?)),
+            None => Ok(None),
+        }
     }
 
     /// The field's row.

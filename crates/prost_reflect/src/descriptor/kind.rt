@@ -4,6 +4,7 @@ use crate::descriptor::{DescriptorPool, EnumDescriptor, MessageDescriptor};
 use crate::message::DynamicMessage;
 use crate::value::Value;
 use prost_reflect_tables::TableKind;
+use prost_reflect_wire::WireType;
 use std::alloc::{AllocError, Global};
 
 /// The type of a field's values (the language guide, "Scalar Value Types"). A group is a message.
@@ -45,11 +46,40 @@ pub enum Kind {
     Enum(EnumDescriptor),
 }
 
+impl Clone for Kind {
+    ghost use Rattle.prost_reflect.specs.NamedKinds.{SameKind};
+
+    ghost is_clone = { SameKind };
+
+    fn clone(&self) -> Result<Kind, AllocError> {
+        Ok(match self {
+            Kind::Double => Kind::Double,
+            Kind::Float => Kind::Float,
+            Kind::Int32 => Kind::Int32,
+            Kind::Int64 => Kind::Int64,
+            Kind::Uint32 => Kind::Uint32,
+            Kind::Uint64 => Kind::Uint64,
+            Kind::Sint32 => Kind::Sint32,
+            Kind::Sint64 => Kind::Sint64,
+            Kind::Fixed32 => Kind::Fixed32,
+            Kind::Fixed64 => Kind::Fixed64,
+            Kind::Sfixed32 => Kind::Sfixed32,
+            Kind::Sfixed64 => Kind::Sfixed64,
+            Kind::Bool => Kind::Bool,
+            Kind::String => Kind::String,
+            Kind::Bytes => Kind::Bytes,
+            Kind::Message(message) => Kind::Message(message.clone()?),
+            Kind::Enum(e) => Kind::Enum(e.clone()?),
+        })
+    }
+}
+
 impl Kind {
     ghost use Rattle.std.specs.Prelude.{◌≡◌, IsTrue, IfOk, length};
     ghost use Rattle.prost_reflect_tables.specs.Linked.{kind_in_range};
     ghost use Rattle.prost_reflect_pool.specs.SharedPools.{pool_rows};
-    ghost use Rattle.prost_reflect.specs.NamedKinds.{table_kind, IsAmong};
+    ghost use Rattle.prost_reflect.specs.NamedKinds.{table_kind, IsAmong, message_of, enum_of, wire_type_of};
+    ghost use Rattle.std.specs.Option.{option_copied};
     ghost use Rattle.prost_reflect.specs.NamedDefaults.{default_named};
     ghost use Rattle.prost_reflect.specs.View.{value_of};
 
@@ -81,6 +111,39 @@ impl Kind {
             )),
             TableKind::Enum(index) => Kind::Enum(EnumDescriptor::new(pool.clone()?, index)),
         })
+    }
+
+    /// The message type, if the kind is one.
+    pub fn as_message(&self) -> Option<&MessageDescriptor>
+        ensures { option_copied result ≡ message_of self.now }
+    {
+        match self {
+            Kind::Message(message) => Some(message),
+            _ => None,
+        }
+    }
+
+    /// The enum, if the kind is one.
+    pub fn as_enum(&self) -> Option<&EnumDescriptor>
+        ensures { option_copied result ≡ enum_of self.now }
+    {
+        match self {
+            Kind::Enum(e) => Some(e),
+            _ => None,
+        }
+    }
+
+    /// The wire type of a record of one value, not packed (the encoding guide, "Message Structure"). A message's is
+    /// `LengthDelimited`, also where its field is written as a group.
+    pub fn wire_type(&self) -> WireType
+        ensures { result ≡ wire_type_of self.now }
+    {
+        match self {
+            Kind::Double | Kind::Fixed64 | Kind::Sfixed64 => WireType::SixtyFourBit,
+            Kind::Float | Kind::Fixed32 | Kind::Sfixed32 => WireType::ThirtyTwoBit,
+            Kind::String | Kind::Bytes | Kind::Message(_) => WireType::LengthDelimited,
+            _ => WireType::Varint,
+        }
     }
 
     /// The value that a field of the kind has where nothing is stored.

@@ -1,6 +1,10 @@
 //! Pools.
 
-use crate::descriptor::MessageDescriptor;
+use crate::descriptor::places::Places;
+use crate::descriptor::{
+    Descriptors, EnumDescriptor, ExtensionDescriptor, FileDescriptor, MessageDescriptor,
+    ServiceDescriptor,
+};
 use prost_reflect_pool::LinkedPool;
 use std::alloc::AllocError;
 use std::rc::Rc;
@@ -24,9 +28,50 @@ impl Clone for DescriptorPool {
 }
 
 impl DescriptorPool {
-    ghost use Rattle.std.specs.Prelude.{◌≡◌, IfOk, IfSome, option_map};
+    ghost use Rattle.std.specs.Prelude.{◌≡◌, IfOk, IfSome, length, option_map};
     ghost use Rattle.prost_reflect_tables.specs.Places.{message_place};
-    ghost use Rattle.prost_reflect_pool.specs.SharedPools.{pool_rows};
+    ghost use Rattle.prost_reflect_pool.specs.SharedPools.{files_of, pool_rows, pool_catalog};
+    ghost use Rattle.prost_reflect.specs.Places.{places_from, places_left};
+
+    /// The files, in the order in which they were added.
+    pub fn files(&self) -> Descriptors<'_, DescriptorPool, FileDescriptor>
+        ensures pool { result.parent.now ≡ self.now }
+        ensures places { places_left result.places ≡ places_from 0 (length (files_of self.now.inner)) }
+    {
+        Descriptors::new(self, Places::up_to(self.inner.file_count()))
+    }
+
+    /// The services, by file and then by path.
+    pub fn services(&self) -> Descriptors<'_, DescriptorPool, ServiceDescriptor>
+        ensures pool { result.parent.now ≡ self.now }
+        ensures places { places_left result.places ≡ places_from 0 (length (pool_catalog self.now.inner).services) }
+    {
+        Descriptors::new(self, Places::up_to(self.inner.service_count()))
+    }
+
+    /// The message types, nested ones too, by file and then by path.
+    pub fn all_messages(&self) -> Descriptors<'_, DescriptorPool, MessageDescriptor>
+        ensures pool { result.parent.now ≡ self.now }
+        ensures places { places_left result.places ≡ places_from 0 (length (pool_rows self.now.inner).messages) }
+    {
+        Descriptors::new(self, Places::up_to(self.inner.message_count()))
+    }
+
+    /// The enums, nested ones too, by file and then by path.
+    pub fn all_enums(&self) -> Descriptors<'_, DescriptorPool, EnumDescriptor>
+        ensures pool { result.parent.now ≡ self.now }
+        ensures places { places_left result.places ≡ places_from 0 (length (pool_rows self.now.inner).enums) }
+    {
+        Descriptors::new(self, Places::up_to(self.inner.enum_count()))
+    }
+
+    /// The extensions, wherever they are declared, by file and then by path.
+    pub fn all_extensions(&self) -> Descriptors<'_, DescriptorPool, ExtensionDescriptor>
+        ensures pool { result.parent.now ≡ self.now }
+        ensures places { places_left result.places ≡ places_from 0 (length (pool_catalog self.now.inner).extensions) }
+    {
+        Descriptors::new(self, Places::up_to(self.inner.extension_count()))
+    }
 
     /// The message type of a full name, as `my.package.MyMessage`, or none where no message type has it.
     ///
@@ -37,7 +82,7 @@ impl DescriptorPool {
         ensures found { IfOk result (λ found. option_map (λ message. message.index) found ≡ message_place (pool_rows self.now.inner) name.now) }
         ensures pool { IfOk result (λ found. IfSome found (λ message. message.pool.inner.value ≡ self.now.inner.value)) }
     {
-        match self.inner.tables().message_place(name) {
+        match self.inner.message_place(name) {
             Some(index) => Ok(Some(MessageDescriptor::new(self.clone()?, index))),
             None => Ok(None),
         }

@@ -21,7 +21,7 @@ mod enum_list;
 pub(crate) mod list;
 pub(crate) mod map;
 mod message_map;
-mod nested;
+pub(crate) mod nested;
 pub(crate) mod scalar;
 
 use crate::descriptor::MessageDescriptor;

@@ -1,6 +1,7 @@
 //! What fields have where nothing is stored (the guide on field presence).
 
-ghost use Rattle.std.specs.Prelude.{◌≡◌, true, false, IsSome, None};
+ghost use Rattle.std.specs.Prelude.{◌≡◌, true, false, IfOk, IsSome, None};
+ghost use Rattle.prost_reflect_wire.specs.Edit.{default_value};
 ghost use Rattle.prost_reflect_wire.specs.Schema.{field_valid, is_list, is_map};
 ghost use Rattle.prost_reflect_wire.specs.Scalar.{scalar_eq};
 ghost use Rattle.prost_reflect_wire.specs.Typing.{is_empty_value, is_field_default, kept_inside};
@@ -12,11 +13,14 @@ ghost use Rattle.prost_reflect_pool.specs.SharedPools.{pool_rows};
 ghost use Rattle.prost_reflect.specs.Scalars.{plain_kind, scalar_of};
 ghost use Rattle.prost_reflect.specs.View.{value_of};
 
+use crate::message::decode::nested::empty_value;
 use crate::message::enums::first_number;
 use crate::value::Value;
 use crate::value::scalar::ScalarRef;
 use prost_reflect_pool::PooledType;
 use prost_reflect_tables::{Cardinality, FieldTable, TableKind};
+use std::alloc::{AllocError, Global};
+use std::collections::BTreeMap;
 
 /// Whether a value, of any form, is what its field has where nothing is stored: an empty list or map, or the default of a
 /// field of one value without presence.
@@ -31,6 +35,27 @@ pub(crate) fn is_field_default(message_type: &PooledType, field: &FieldTable, va
                 && is_default(message_type, field, scalar)
         }
         None => is_empty(message_type, field, value),
+    }
+}
+
+/// What a field has where nothing is stored: an empty list or map, an empty message, or the default of its scalars.
+pub(crate) fn default_value(
+    alloc: Global,
+    message_type: &PooledType,
+    field: &FieldTable,
+) -> Result<Value, AllocError>
+    requires { field_valid (schema_at message_type.now) (schema_field (pool_rows message_type.now.pool) (field_row field.now)) ≡ true }
+    ensures { IfOk result (λ v. value_of v ≡ default_value (schema_at message_type.now) (schema_field (pool_rows message_type.now.pool) (field_row field.now)).form (schema_field (pool_rows message_type.now.pool) (field_row field.now)).value_type) }
+{
+    if is_map(message_type, field) {
+        return Ok(Value::Map(BTreeMap::new(alloc)));
+    }
+    if is_repeated(field.cardinality) {
+        return Ok(Value::List(Vec::new(alloc)));
+    }
+    match field.kind {
+        TableKind::Message(place) => empty_value(alloc, message_type, place),
+        _ => scalar_default(message_type, field).to_value(alloc),
     }
 }
 
@@ -76,9 +101,17 @@ pub(crate) fn is_default(
     requires { IsSome (plain_kind (field_row field.now).kind) }
     ensures { result ≡ scalar_eq (scalar_of scalar.entry) (own_type (pool_rows message_type.now.pool).enums (field_row field.now)).default }
 {
+    scalar.equals(scalar_default(message_type, field))
+}
+
+/// The default of a field of scalars: the one that the definition writes, else that of the kind.
+fn scalar_default<'a>(message_type: &PooledType, field: &'a FieldTable) -> ScalarRef<'a>
+    requires { IsSome (plain_kind (field_row field.now).kind) }
+    ensures { scalar_of result ≡ (own_type (pool_rows message_type.now.pool).enums (field_row field.now)).default }
+{
     match &field.default {
-        Some(default) => scalar.equals(ScalarRef::written(default)),
-        None => scalar.equals(kind_default(message_type, field.kind)),
+        Some(default) => ScalarRef::written(default),
+        None => kind_default(message_type, field.kind),
     }
 }
 

@@ -1,6 +1,6 @@
 //! Scalars, wherever they are kept.
 
-ghost use Rattle.std.specs.Prelude.{◌≡◌, option_map, IsSome, IsSomeAnd};
+ghost use Rattle.std.specs.Prelude.{◌≡◌, option_map, IsSome, IsSomeAnd, IfOk};
 ghost use Rattle.prost_reflect_wire.specs.Content.{ScalarValue};
 ghost use Rattle.prost_reflect_wire.specs.Scalar.{kind_default, scalar_eq};
 ghost use Rattle.prost_reflect_tables.specs.Rows.{written_scalar};
@@ -9,7 +9,7 @@ ghost use Rattle.prost_reflect.specs.View.{key_of, value_of};
 
 use crate::value::{MapKey, Value};
 use prost_reflect_tables::{TableKind, WrittenDefault};
-use std::alloc::Global;
+use std::alloc::{AllocError, Global};
 
 /// A scalar, borrowed from a value, a key of a map or a written default. Floating-point numbers are bits.
 #[derive(Clone, Copy)]
@@ -92,6 +92,24 @@ impl<'a> ScalarRef<'a> {
             ScalarRef::Bytes(_) => Value::Bytes(Vec::new(alloc)),
             ScalarRef::EnumNumber(number) => Value::EnumNumber(number),
         }
+    }
+
+    /// The value of a scalar; text and bytes are copied.
+    pub(crate) fn to_value(self, alloc: Global) -> Result<Value, AllocError>
+        ensures { IfOk result (λ v. value_of v ≡ ScalarValue (scalar_of self.entry)) }
+    {
+        Ok(match self {
+            ScalarRef::Bool(value) => Value::Bool(value),
+            ScalarRef::I32(value) => Value::I32(value),
+            ScalarRef::I64(value) => Value::I64(value),
+            ScalarRef::U32(value) => Value::U32(value),
+            ScalarRef::U64(value) => Value::U64(value),
+            ScalarRef::F32(bits) => Value::F32(bits),
+            ScalarRef::F64(bits) => Value::F64(bits),
+            ScalarRef::String(text) => Value::String(String::from_str(alloc, text)?),
+            ScalarRef::Bytes(bytes) => Value::Bytes(Vec::from_slice(alloc, bytes)?),
+            ScalarRef::EnumNumber(number) => Value::EnumNumber(number),
+        })
     }
 
     /// Whether the other is of the same variant, and its value the same; floating-point numbers bit by bit.

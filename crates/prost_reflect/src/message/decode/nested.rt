@@ -160,7 +160,11 @@ fn check_nested(is_group: bool, wire_type: WireType, levels: u32) -> Result<(), 
 }
 
 /// The value that is an empty message of the type at the place of a descriptor's pool.
-fn empty_value(alloc: Global, message_type: &PooledType, place: usize) -> Result<Value, AllocError>
+pub(crate) fn empty_value(
+    alloc: Global,
+    message_type: &PooledType,
+    place: usize,
+) -> Result<Value, AllocError>
     requires { place < length (pool_rows message_type.now.pool).messages }
     ensures { IfOk result (λ v. value_of v ≡ MessageValue (empty (schema_at message_type.now) place)) }
 {

@@ -12,5 +12,6 @@ returns c =
         value = IfOk-weaker c.get_mut_or.result _ _ (λ v. value_lent c.args.self.now c.args.number c.args.default v.now lent.ascending) lent.value;
         message_type = λ v. refl;
         content = λ v. content_written c.args.self.now c.args.number c.args.default v lent.ascending lent.sound c.requires;
+        ascending = lent.ascending;
       },
     )

@@ -1,0 +1,103 @@
+-- Fields of a message's own type, and what their numbers are to it.
+use Rattle.std.proofs.Common.{◌≡◌, ℕ, Bool, true, false, cond, List, Option, Some, None, refl, ap, ap₂, sym, ◌∙◌, subst, unwrap_or, true≢false}
+use Rattle.std.specs.Option.{option_map, option_and_then, is_some}
+use Rattle.std.specs.Prelude.{slice_get}
+use Rattle.prost_reflect_wire.specs.Schema.{Field, known, field_of}
+use Rattle.prost_reflect_tables.specs.Rows.{FieldRow}
+use Rattle.prost_reflect_tables.specs.Places.{fields_at, row_of, place_of}
+use Rattle.prost_reflect_tables.specs.Shown.{schema_field}
+use Rattle.prost_reflect_pool.specs.SharedPools.{pool_rows}
+use Rattle.prost_reflect_pool.specs.MessageTypes.{schema_at, type_at, fields_of}
+use Rattle.prost_reflect_pool.specs.declared.pooled_type.PooledType.{PooledType}
+use Rattle.prost_reflect_pool.proofs.EqualTypes.{rows_same}
+use Rattle.prost_reflect_fields.specs.Known.{known_of, is_known}
+use Rattle.prost_reflect_tables.proofs.Fields.{row_at_place, row_of_number, no_row}
+use Rattle.prost_reflect.specs.Access.{IsOwnField, is_field_number, NumberFound, NumberMissing}
+use Rattle.prost_reflect.specs.Named.{NamesEqual}
+use Rattle.prost_reflect.specs.NamedFields as named
+use Rattle.prost_reflect.specs.declared.descriptor.message.MessageDescriptor.{MessageDescriptor}
+use Rattle.prost_reflect.specs.NamedField.{row_at}
+use Rattle.prost_reflect.specs.NamedFields.{is_declared, is_declared_at, declared_place}
+use Rattle.prost_reflect.specs.declared.descriptor.field.FieldDescriptor.{FieldDescriptor}
+use Rattle.prost_reflect.proofs.Described.{known_of_row, field_at_number}
+
+-- the row of an own field is one of the message type's
+own_row : (t : PooledType) (field : FieldDescriptor) → IsOwnField t field → row_at field ≡ slice_get (fields_of t) field.index
+own_row t field own = (λ i. slice_get (fields_at (rows_same field.message.pool.inner t.pool own.0 i) (own.1 i)) field.index)
+
+-- and it is known by its number
+pub own_found : (t : PooledType) (field : FieldDescriptor) (n : ℕ) → IsOwnField t field → option_map (λ f. f.number) (row_at field) ≡ Some n
+    → field_of (known_of t) n ≡ option_map (schema_field (pool_rows field.message.pool.inner)) (row_at field)
+own_found t field n own h = go (row_at field) refl h
+  where
+    go : (o : Option FieldRow) → row_at field ≡ o → option_map (λ f. f.number) o ≡ Some n → field_of (known_of t) n ≡ option_map (schema_field (pool_rows field.message.pool.inner)) o
+    go None at h = cc
+    go (Some f) at h =
+        let same : f.number ≡ n = cc in
+        ap (field_of (known_of t)) (sym same) ∙ known_of_row t field.index f (sym (own_row t field own) ∙ at)
+        ∙ ap (λ rows. Some (schema_field rows f)) (sym (rows_same field.message.pool.inner t.pool own.0))
+
+some_known : {A B : Type 0} (f : A → B) (o : Option A) (p : Option B) → p ≡ option_map f o → is_some o ≡ true → is_some p ≡ true
+some_known f None p e h = absurd (true≢false (sym h))
+some_known f (Some x) p e h = ap is_some e
+
+numbered : (o : Option FieldRow) (n : ℕ) → option_map (λ f. f.number) o ≡ Some n → is_some o ≡ true
+numbered None n h = cc
+numbered (Some f) n h = refl
+
+pub own_known : (t : PooledType) (field : FieldDescriptor) (n : ℕ) → IsOwnField t field → option_map (λ f. f.number) (row_at field) ≡ Some n → is_known (known_of t) n ≡ true
+own_known t field n own h = some_known (schema_field (pool_rows field.message.pool.inner)) (row_at field) (field_of (known_of t) n) (own_found t field n own h) (numbered (row_at field) n h)
+
+-- the number of a field is known
+pub number_known : (t : PooledType) (n : ℕ) → is_field_number t n ≡ true → is_known (known_of t) n ≡ true
+number_known t n h = some_known (schema_field (pool_rows t.pool)) (row_of (fields_of t) n) (field_of (known_of t) n) (field_at_number t n) (declared (row_of (fields_of t) n) h)
+  where
+    declared : (o : Option FieldRow) → is_declared o ≡ true → is_some o ≡ true
+    declared None h = absurd (true≢false (sym h))
+    declared (Some f) h = refl
+
+-- LOOKING UP
+
+found_declared : (fields : List FieldRow) (n : ℕ) → is_some (declared_place fields n) ≡ is_declared (row_of fields n)
+found_declared fields n = go (place_of fields n) refl
+  where
+    test : (b : Bool) (i : ℕ) → is_some (cond b (Some i) None) ≡ b
+    test true i = refl
+    test false i = refl
+
+    go : (o : Option ℕ) → place_of fields n ≡ o → is_some (option_and_then (λ i. cond (is_declared_at fields i) (Some i) None) o) ≡ is_declared (row_of fields n)
+    go None at = sym (ap is_declared (no_row fields n at))
+    go (Some i) at = test (is_declared_at fields i) i ∙ ap is_declared (row_at_place fields n i at)
+
+found_place : (fields : List FieldRow) (n i : ℕ) → declared_place fields n ≡ Some i → place_of fields n ≡ Some i
+found_place fields n i h = go (place_of fields n) h
+  where
+    test : (b : Bool) (j : ℕ) → cond b (Some j) None ≡ Some i → Some j ≡ Some i
+    test true j h = h
+    test false j h = cc
+
+    go : (o : Option ℕ) → option_and_then (λ j. cond (is_declared_at fields j) (Some j) None) o ≡ Some i → o ≡ Some i
+    go None h = cc
+    go (Some j) h = test (is_declared_at fields j) j h
+
+numbered_at : (fields : List FieldRow) (n i : ℕ) → declared_place fields n ≡ Some i → unwrap_or (option_map (λ f. f.number) (slice_get fields i)) 0 ≡ n
+numbered_at fields n i h = go (slice_get fields i) refl
+  where
+    declared : is_declared (slice_get fields i) ≡ true
+    declared = ap is_declared (row_at_place fields n i (found_place fields n i h)) ∙ sym (found_declared fields n) ∙ ap is_some h
+
+    go : (o : Option FieldRow) → slice_get fields i ≡ o → unwrap_or (option_map (λ f. f.number) o) 0 ≡ n
+    go None at = absurd (true≢false (sym declared ∙ ap is_declared at))
+    go (Some f) at = row_of_number fields n i f (found_place fields n i h) at
+
+own_fields : (d : MessageDescriptor) (t : PooledType) → NamesEqual d t → named.fields_of d ≡ fields_of t
+own_fields d t own = λ i. fields_at (rows_same d.pool.inner t.pool own.0 i) (own.1 i)
+
+pub number_found : NumberFound
+number_found t field n own h = (
+  numbered_at (named.fields_of field.message) n field.index h,
+  ap (λ fields. is_declared (row_of fields n)) (sym (own_fields field.message t own)) ∙ sym (found_declared (named.fields_of field.message) n) ∙ ap is_some h,
+)
+
+pub number_missing : NumberMissing
+number_missing t d n own h = ap (λ fields. is_declared (row_of fields n)) (sym (own_fields d t own)) ∙ sym (found_declared (named.fields_of d) n) ∙ ap is_some h

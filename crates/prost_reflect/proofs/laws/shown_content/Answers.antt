@@ -1,0 +1,5 @@
+use Rattle.prost_reflect.proofs.Shows.{shown_content}
+use Rattle.prost_reflect.proofs.laws.shown_content.Goals as goal
+
+pub returns : goal.returns
+returns c = shown_content

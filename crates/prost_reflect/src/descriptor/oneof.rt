@@ -1,0 +1,117 @@
+//! Oneofs as places of a message type.
+
+ghost use Rattle.std.specs.Prelude.{◌≡◌, ◌<◌, length};
+ghost use Rattle.prost_reflect.specs.NamedLists.{oneofs_of};
+
+use crate::descriptor::{DescriptorPool, FileDescriptor, MessageDescriptor, Placed};
+use prost_reflect_tables::OneofTable;
+use prost_reflect_types::OneofDescriptorProto;
+use std::alloc::AllocError;
+
+/// A oneof of a message type (the proto3 guide, "Oneof").
+#[derive(PartialEq, Eq, Debug, Drop)]
+pub struct OneofDescriptor {
+    message: MessageDescriptor,
+    index: usize,
+    pub ghost in_range: { index < length (oneofs_of message) },
+}
+
+impl Clone for OneofDescriptor {
+    ghost use Rattle.prost_reflect.specs.NamedOneofs.{SameOneof};
+
+    ghost is_clone = { SameOneof };
+
+    fn clone(&self) -> Result<OneofDescriptor, AllocError> {
+        Ok(OneofDescriptor {
+            message: self.message.clone()?,
+            index: self.index,
+        })
+    }
+}
+
+impl Placed<MessageDescriptor> for OneofDescriptor {
+    ghost use Rattle.std.specs.Prelude.{nat_lt};
+    ghost use Rattle.prost_reflect.specs.Named.{SameMessage};
+
+    ghost is_place = { λ message i. nat_lt i (length (oneofs_of message)) };
+
+    ghost stands = { λ message i oneof. SameMessage message oneof.message × (oneof.index ≡ i) };
+
+    fn at(message: &MessageDescriptor, index: usize) -> Result<OneofDescriptor, AllocError> {
+        Ok(OneofDescriptor {
+            message: message.clone()?,
+            index,
+        })
+    }
+}
+
+impl OneofDescriptor {
+    ghost use Rattle.std.specs.Prelude.{Some, IfOk, option_and_then, option_map};
+    ghost use Rattle.prost_reflect_tables.specs.Rows.{oneof_row};
+    ghost use Rattle.prost_reflect_pool.specs.RecordPaths.{OneofRecord, record_of};
+    ghost use Rattle.prost_reflect_pool.specs.SharedPools.{files_of};
+    ghost use Rattle.prost_reflect.specs.Named.{message_row_named};
+    ghost use Rattle.prost_reflect.specs.NamedOneofs.{oneof_row_named};
+
+    /// The pool that the oneof is of.
+    pub fn parent_pool(&self) -> &DescriptorPool
+        ensures { result.now ≡ self.now.message.pool }
+    {
+        self.message.parent_pool()
+    }
+
+    /// The file that declares the oneof.
+    ///
+    /// # Errors
+    ///
+    /// `AllocError` if a clone of the pool is refused.
+    pub fn parent_file(&self) -> Result<FileDescriptor, AllocError>
+        ensures file { IfOk result (λ file. option_map (λ message. message.id.file) (message_row_named self.now.message) ≡ Some file.index) }
+        ensures pool { IfOk result (λ file. file.pool.inner.value ≡ self.now.message.pool.inner.value) }
+    {
+        self.message.parent_file()
+    }
+
+    /// The message type that the oneof is of.
+    pub fn parent_message(&self) -> &MessageDescriptor
+        ensures { result.now ≡ self.now.message }
+    {
+        &self.message
+    }
+
+    /// The oneof's own name, without its scope.
+    pub fn name(&self) -> &str
+        ensures { option_map (λ oneof. oneof.id.name) (oneof_row_named self.now) ≡ Some result.now }
+    {
+        self.table().id.name.as_str()
+    }
+
+    /// The full name of the message type and the oneof's name, joined by a dot.
+    pub fn full_name(&self) -> &str
+        ensures { option_map (λ oneof. oneof.id.full_name) (oneof_row_named self.now) ≡ Some result.now }
+    {
+        self.table().id.full_name.as_str()
+    }
+
+    /// The path in the file, as in `SourceCodeInfo.Location.path`.
+    pub fn path(&self) -> &[i32]
+        ensures { option_map (λ oneof. oneof.id.path) (oneof_row_named self.now) ≡ Some result.now }
+    {
+        self.table().id.path.as_slice()
+    }
+
+    /// The oneof's record.
+    pub fn oneof_descriptor_proto(&self) -> &OneofDescriptorProto
+        ensures { option_and_then (λ oneof. record_of (files_of self.now.message.pool.inner) oneof.id) (oneof_row_named self.now) ≡ Some (OneofRecord result.now) }
+    {
+        let pool = &self.message.parent_pool().inner;
+        pool.oneof_record(self.message.place(), self.index)
+    }
+
+    /// The oneof's row.
+    fn table(&self) -> &OneofTable
+        ensures { oneof_row_named self.now ≡ Some (oneof_row result.now) }
+    {
+        &self.message.table().oneofs[self.index]
+    }
+}

@@ -1,0 +1,87 @@
+//! The unknown fields of messages.
+
+ghost use Rattle.std.specs.Prelude.{◌≡◌, [], map};
+ghost use Rattle.prost_reflect_wire.specs.Content.{entries_of};
+ghost use Rattle.prost_reflect_wire.specs.Unknown.{record_of};
+ghost use Rattle.prost_reflect_fields.specs.FieldSlots.{unknown_in};
+ghost use Rattle.prost_reflect.specs.UnknownLists.{fields_or_none, all_unknown, unknown_left, unknown_records};
+ghost use Rattle.prost_reflect.specs.View.{content_of, stored_in};
+
+use crate::message::DynamicMessage;
+use crate::value::Value;
+use prost_reflect_fields::slot::FieldSlot;
+use prost_reflect_wire::UnknownField;
+
+/// The unknown fields of a message, in ascending number; those of one number in the order in which they were read or added.
+#[derive(Drop)]
+pub struct UnknownFields<'a> {
+    pub(crate) fields: &'a [UnknownField],
+    pub(crate) slots: &'a [(u32, FieldSlot<Value>)],
+}
+
+impl<'a> Iterator for UnknownFields<'a> {
+    type Item = &'a UnknownField;
+
+    ghost use Rattle.std.specs.Iterator.{YieldsFirstRef, item_count};
+    ghost use Rattle.prost_reflect.specs.UnknownLists.{unknown_left};
+
+    ghost next_gives = { YieldsFirstRef unknown_left };
+
+    ghost remaining = { item_count unknown_left };
+
+    fn next(&mut self) -> Option<&'a UnknownField> {
+        self.fill();
+        match self.fields.split_first() {
+            Some((field, rest)) => {
+                self.fields = rest;
+                Some(field)
+            }
+            None => None,
+        }
+    }
+}
+
+impl<'a> UnknownFields<'a> {
+    /// Goes on to the next number that has unknown fields, where all of the last one were given.
+    fn fill(&mut self)
+        ensures left { unknown_left self.new ≡ unknown_left self.old }
+        ensures ready { self.new.fields.now ≡ [] → self.new.slots.now ≡ [] }
+    {
+        let mut fields = self.fields;
+        let mut slots = self.slots;
+        while fields.is_empty() {
+            match slots.split_first() {
+                Some((slot, rest)) => {
+                    fields = unknown_of(&slot.1);
+                    slots = rest;
+                }
+                None => break,
+            }
+        }
+        self.fields = fields;
+        self.slots = slots;
+    }
+}
+
+/// The unknown fields that a slot keeps.
+fn unknown_of(slot: &FieldSlot<Value>) -> &[UnknownField]
+    ensures { result.now ≡ fields_or_none (unknown_in slot.now) }
+{
+    match slot.unknown() {
+        Some(set) => set.iter().as_slice(),
+        None => &[],
+    }
+}
+
+impl DynamicMessage {
+    /// All unknown fields in ascending number, also those of fields whose closed enum does not declare them.
+    pub fn unknown_fields(&self) -> UnknownFields<'_>
+        ensures left { unknown_left result ≡ all_unknown (stored_in self.now) }
+        ensures content { map record_of (unknown_left result) ≡ unknown_records (entries_of (content_of self.now)) }
+    {
+        UnknownFields {
+            fields: &[],
+            slots: self.slots(),
+        }
+    }
+}
