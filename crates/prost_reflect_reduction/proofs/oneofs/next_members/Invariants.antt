@@ -1,0 +1,15 @@
+use Rattle.std.proofs.Common.{◌≡◌, ◌≤◌, drop, length}
+use Rattle.prost_reflect_reduction.specs.Merging.{fields_of, next_members, AreFirst}
+use Rattle.prost_reflect_reduction.proofs.oneofs.next_members.Given as goal
+
+abbrev pub invariant-loop-place : goal.invariant-loop-place
+invariant-loop-place l = record {
+  within : l.place ≤ length l.fields;
+  next : length l.next.items ≡ length l.fields;
+  first : length l.first.items ≡ l.oneofs;
+  are : AreFirst l.first.items (fields_of l.tables (drop l.place l.fields));
+  done : drop l.place l.next.items ≡ next_members (fields_of l.tables (drop l.place l.fields));
+}
+
+abbrev pub decreases-loop-place : goal.decreases-loop-place
+decreases-loop-place l = l.place

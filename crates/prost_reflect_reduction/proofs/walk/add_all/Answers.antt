@@ -1,0 +1,22 @@
+use Rattle.std.proofs.Common.{◌+◌, map, flat_map, drop, ap, sym, ◌∙◌}
+use Rattle.prost_reflect_wire.specs.Schema.{known}
+use Rattle.prost_reflect_tables.specs.Shown.{schema_field}
+use Rattle.prost_reflect_tables.specs.Rows.{field_row}
+use Rattle.prost_reflect_tables.specs.Schema.{rows_of, schema_of}
+use Rattle.prost_reflect_reduction.specs.Reaching.{field_asks}
+use Rattle.prost_reflect_reduction.specs.Walking.{joined}
+use Rattle.prost_reflect_reduction.proofs.Walking.{joined_next, joined_done}
+use Rattle.prost_reflect_reduction.proofs.walk.add_all.Goals as goal
+
+pub loop-field-preserved : goal.loop-field-preserved
+loop-field-preserved c =
+    let g = field_asks (known (schema_of c.args.newer.now) c.args.newer_place) in
+    let s = schema_field (rows_of c.args.older.now) in
+    record {
+      set = c.in_ok-add_listed.ensures.set;
+      left = ap (λ ps. joined ps (flat_map g (map s (map field_row (drop (c.loop-field.field-index + 1) c.args.fields.now))))) (c.in_ok-add_listed.ensures.pairs ∙ ap (joined c.loop-field.pairs.items) c.field_asks.ensures) ∙ (joined_next c.loop-field.pairs.items g s c.args.fields.now c.loop-field.field-index c.field-item.result c.loop-field-test.true c.field-item.is ∙ c.loop-field.invariant.left);
+    }
+
+pub returns-clause-pairs : goal.returns-clause-pairs
+returns-clause-pairs c =
+    sym (joined_done c.loop-field.pairs.items (field_asks (known (schema_of c.args.newer.now) c.args.newer_place)) (schema_field (rows_of c.args.older.now)) c.args.fields.now c.loop-field.field-index c.loop-field-test.false) ∙ c.loop-field.invariant.left

@@ -1,0 +1,15 @@
+use Rattle.std.proofs.Common.{◌≡◌, map, drop, flat_map}
+use Rattle.prost_reflect_wire.specs.Schema.{known}
+use Rattle.prost_reflect_tables.specs.Rows.{field_row}
+use Rattle.prost_reflect_tables.specs.Shown.{schema_field}
+use Rattle.prost_reflect_tables.specs.Schema.{rows_of, schema_of}
+use Rattle.prost_reflect_reduction.specs.Reaching.{field_asks}
+use Rattle.prost_reflect_reduction.specs.Walking.{joined, IsSetOf}
+use Rattle.prost_reflect_reduction.proofs.walk.add_all.Given as goal
+
+abbrev pub invariant-loop-field : goal.invariant-loop-field
+invariant-loop-field l = record {
+  set : IsSetOf l.set l.pairs.items;
+  left : joined l.pairs.items (flat_map (field_asks (known (schema_of l.newer) l.newer_place)) (map (schema_field (rows_of l.older)) (map field_row (drop l.field-index l.fields))))
+      ≡ joined l.fn.pairs.items (flat_map (field_asks (known (schema_of l.newer) l.newer_place)) (map (schema_field (rows_of l.older)) (map field_row l.fields)));
+}

@@ -1,0 +1,4 @@
+pub mod Merging
+pub mod Kinds
+pub mod Reaching
+pub mod Walking

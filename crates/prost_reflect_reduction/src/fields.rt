@@ -1,0 +1,143 @@
+//! Which fields of two tables are alike, by themselves.
+
+ghost use Rattle.std.specs.Prelude.{◌≡◌, Some, List, IfOk, OnOk, option_map, slice_get};
+ghost use Rattle.prost_reflect_tables.specs.Rows.{EnumRow, field_row, message_row};
+ghost use Rattle.prost_reflect_tables.specs.Schema.{rows_of};
+ghost use Rattle.prost_reflect_tables.specs.Shown.{schema_field, own_type, type_or, entry_at, map_entry, form_of};
+ghost use Rattle.prost_reflect_tables.specs.declared.tables.Cardinality.TheVariants.{Repeated as RepeatedLabel};
+ghost use Rattle.prost_reflect_reduction.specs.Kinds.{AreSameEnums};
+ghost use Rattle.prost_reflect_reduction.specs.Reaching.{forms_alike, fields_alike};
+
+use crate::values::{keys_match, values_alike};
+use prost_reflect_tables::{Cardinality, FieldTable, MessageTable, TableKind, Tables};
+use std::alloc::{AllocError, Global};
+use std::collections::BTreeSet;
+
+/// The type of a map's entries, if a repeated field is a map.
+fn entry_of<'a>(tables: &'a Tables, field: &FieldTable) -> Option<&'a MessageTable>
+    ensures { option_map (λ m. message_row m.now) result ≡ map_entry (rows_of tables.now).messages (field_row field.now) RepeatedLabel }
+{
+    match field.kind {
+        TableKind::Message(place) if !field.is_group => match tables.messages.get(place) {
+            Some(message) if message.is_map_entry => Some(message),
+            _ => None,
+        },
+        _ => None,
+    }
+}
+
+/// The field at a place of an entry; the map itself where there is none.
+fn part_or<'a>(entry: &'a MessageTable, place: usize, field: &'a FieldTable) -> &'a FieldTable
+    ensures { (enums : List EnumRow) → own_type enums (field_row result.now) ≡ type_or enums (field_row field.now) (slice_get (message_row entry.now).fields place) }
+{
+    match entry.fields.get(place) {
+        Some(part) => part,
+        None => field,
+    }
+}
+
+/// The field whose values are those of a field; of a map, that of the values in it.
+pub(crate) fn value_field<'a>(tables: &'a Tables, field: &'a FieldTable) -> &'a FieldTable
+    ensures { own_type (rows_of tables.now).enums (field_row result.now) ≡ (schema_field (rows_of tables.now) (field_row field.now)).value_type }
+{
+    match field.cardinality {
+        Cardinality::Repeated => match entry_of(tables, field) {
+            Some(entry) => part_or(entry, 1, field),
+            None => field,
+        },
+        Cardinality::Optional | Cardinality::Required => field,
+    }
+}
+
+/// Whether two repeated fields are both lists, or both maps whose keys match.
+fn lists_alike(
+    alloc: Global,
+    same_enums: &mut BTreeSet<(usize, usize)>,
+    older: &Tables,
+    field: &FieldTable,
+    newer: &Tables,
+    like: &FieldTable,
+) -> Result<bool, AllocError>
+    requires enums { AreSameEnums same_enums.old (rows_of older.now).enums (rows_of newer.now).enums }
+    ensures enums { OnOk result (AreSameEnums same_enums.new (rows_of older.now).enums (rows_of newer.now).enums) }
+    ensures alike { IfOk result (λ alike. alike ≡ forms_alike (form_of (rows_of older.now).enums (field_row field.now) RepeatedLabel (map_entry (rows_of older.now).messages (field_row field.now) RepeatedLabel)) (form_of (rows_of newer.now).enums (field_row like.now) RepeatedLabel (map_entry (rows_of newer.now).messages (field_row like.now) RepeatedLabel))) }
+{
+    match entry_of(older, field) {
+        Some(entry) => match entry_of(newer, like) {
+            Some(other) => keys_match(
+                alloc,
+                same_enums,
+                older,
+                part_or(entry, 0, field),
+                newer,
+                part_or(other, 0, like),
+            ),
+            None => Ok(false),
+        },
+        None => match entry_of(newer, like) {
+            Some(_) => Ok(false),
+            None => Ok(true),
+        },
+    }
+}
+
+/// Whether two fields have one value each, or are both lists, or both maps whose keys match.
+fn forms_alike(
+    alloc: Global,
+    same_enums: &mut BTreeSet<(usize, usize)>,
+    older: &Tables,
+    field: &FieldTable,
+    newer: &Tables,
+    like: &FieldTable,
+) -> Result<bool, AllocError>
+    requires enums { AreSameEnums same_enums.old (rows_of older.now).enums (rows_of newer.now).enums }
+    ensures enums { OnOk result (AreSameEnums same_enums.new (rows_of older.now).enums (rows_of newer.now).enums) }
+    ensures alike { IfOk result (λ alike. alike ≡ forms_alike (schema_field (rows_of older.now) (field_row field.now)).form (schema_field (rows_of newer.now) (field_row like.now)).form) }
+{
+    match field.cardinality {
+        Cardinality::Repeated => match like.cardinality {
+            Cardinality::Repeated => lists_alike(alloc, same_enums, older, field, newer, like),
+            Cardinality::Optional => Ok(false),
+            Cardinality::Required => Ok(false),
+        },
+        Cardinality::Optional => match like.cardinality {
+            Cardinality::Repeated => Ok(false),
+            Cardinality::Optional => Ok(true),
+            Cardinality::Required => Ok(true),
+        },
+        Cardinality::Required => match like.cardinality {
+            Cardinality::Repeated => Ok(false),
+            Cardinality::Optional => Ok(true),
+            Cardinality::Required => Ok(true),
+        },
+    }
+}
+
+/// Whether two fields are alike, where any two message types are.
+pub(crate) fn fields_alike(
+    alloc: Global,
+    same_enums: &mut BTreeSet<(usize, usize)>,
+    older: &Tables,
+    field: &FieldTable,
+    newer: &Tables,
+    like: &FieldTable,
+) -> Result<bool, AllocError>
+    requires enums { AreSameEnums same_enums.old (rows_of older.now).enums (rows_of newer.now).enums }
+    ensures enums { OnOk result (AreSameEnums same_enums.new (rows_of older.now).enums (rows_of newer.now).enums) }
+    ensures alike { IfOk result (λ alike. alike ≡ fields_alike (schema_field (rows_of older.now) (field_row field.now)) (schema_field (rows_of newer.now) (field_row like.now))) }
+{
+    if field.is_extension != like.is_extension {
+        return Ok(false);
+    }
+    if !forms_alike(alloc, same_enums, older, field, newer, like)? {
+        return Ok(false);
+    }
+    values_alike(
+        alloc,
+        same_enums,
+        older,
+        value_field(older, field),
+        newer,
+        value_field(newer, like),
+    )
+}
