@@ -1,8 +1,8 @@
 -- What is first among places in order is first among them as they stand.
-use Rattle.std.proofs.Common.{◌≡◌, ℕ, zero, suc, ◌+◌, ◌<◌, ◌≤◌, ℤ, Bool, true, false, cond, ◌&&◌, List, [], ◌∷◌, map, length, get_or, Option, Some, None, refl, sym, ap, subst, ◌∙◌, arith, true≢false}
+use Rattle.std.proofs.Common.{◌≡◌, ℕ, zero, suc, ◌+◌, ◌<◌, ◌≤◌, ℤ, pos, Bool, true, false, cond, ◌&&◌, List, [], ◌∷◌, map, length, get_or, Option, Some, refl, sym, ap, subst, ◌∙◌, arith, true≢false}
 use Rattle.std.specs.Prelude.{find, position, slice_get, unwrap_or, option_map}
 use Rattle.std.specs.Str.{bytes_eq}
-use Rattle.std.specs.Ordering.{is_lt, is_eq, ordering_index, ordering_reverse, nat_cmp, int_cmp}
+use Rattle.std.specs.Ordering.{is_lt, is_eq, ordering_index, ordering_reverse, nat_cmp, int_cmp, int_eq}
 use Rattle.std.specs.Cmp.{IsTotalOrder}
 use Rattle.std.specs.Cmp.Lexicographic.{slice_cmp}
 use Rattle.std.specs.declared.cmp.Ordering.{Ordering}
@@ -14,7 +14,7 @@ use Rattle.std.proofs.lemmas.Map.Text.{is_eq-slice_cmp}
 use Rattle.std.proofs.lemmas.Option.{slice_get-map}
 use Rattle.std.proofs.lemmas.Iterator.Adapters.{position_from-zero}
 use Rattle.prost_reflect_tables.specs.Gathered.{places_from, places_where, all_places}
-use Rattle.prost_reflect_tables.specs.Orders.{put_by, sorted_by, text_at, text_before, by_text, number_at, number_before, by_number}
+use Rattle.prost_reflect_tables.specs.Orders.{put_by, sorted_by, text_at, by_text, number_at, by_number}
 
 -- THE FIRST THAT PASSES
 
@@ -201,3 +201,16 @@ named_found {X} text xs w places r e h = text_found text (λ (x : X). true) xs w
 
 abbrev pub number_order : List ℤ → ℤ → ℕ → Ordering
 number_order numbers w p = int_cmp (number_at numbers p) w
+
+number_here : {X : Type 0} (number : X → ℤ) (xs : List X) (w : ℤ) (i : ℕ) (x : X) → slice_get xs i ≡ Some x → is_eq (number_order (map number xs) w i) ≡ int_eq (number x) w
+number_here number xs w i x at =
+    let there : number_at (map number xs) i ≡ number x = ap (λ o. unwrap_or o (pos 0)) (slice_get-map number xs i ∙ ap (option_map number) at) in
+    ap (λ z. is_eq (int_cmp z w)) there
+
+-- The first item of a number.
+pub numbered_found : {X : Type 0} (number : X → ℤ) (xs : List X) (w : ℤ) (places : List ℕ) (r : Option ℕ) → places ≡ by_number (map number xs) (all_places (map number xs)) →
+    (IsNonDecreasingBy (λ p. ordering_index (number_order (map number xs) w p)) places → r ≡ find (λ p. is_eq (number_order (map number xs) w p)) places) → r ≡ position (λ x. int_eq (number x) w) xs
+numbered_found {X} number xs w places r e h =
+    key_found int_cmp int_cmp_total (number_at (map number xs)) w (places_where (λ (x : X). true) xs) places r (e ∙ ap (by_number (map number xs)) (shown_places number 0 xs)) h
+    ∙ (places_found (λ (x : X). true) (λ x. int_eq (number x) w) (λ p. is_eq (number_order (map number xs) w p)) 0 xs (λ i x at. ap (λ j. is_eq (number_order (map number xs) w j)) (omega arith) ∙ number_here number xs w i x at)
+    ∙ sym (position_from-zero (λ x. int_eq (number x) w) xs))

@@ -1,18 +1,16 @@
 -- What stands at a place of a pool has its record in the pool's files.
-use Rattle.std.proofs.Common.{◌≡◌, ℕ, ◌+◌, Bool, true, false, List, [], ◌∷◌, ◌++◌, map, length, Option, None, Some, refl, sym, ap, ◌∙◌, subst, arith}
+use Rattle.std.proofs.Common.{◌≡◌, ℕ, ◌+◌, Bool, true, false, List, [], ◌∷◌, map, Option, None, Some, refl, sym, ◌∙◌, subst}
 use Rattle.std.specs.Prelude.{slice_get}
 use Rattle.std.specs.List.{All}
 use Rattle.std.proofs.lemmas.List.Elements.{All-nil, All-cons, All-head, All-tail, All-append, All-map, All-filter, All-weaker}
 use Rattle.prost_reflect_types.specs.declared.FieldDescriptorProto.{FieldDescriptorProto}
 use Rattle.prost_reflect_types.specs.declared.OneofDescriptorProto.{OneofDescriptorProto}
 use Rattle.prost_reflect_types.specs.declared.FileDescriptorProto.{FileDescriptorProto}
-use Rattle.prost_reflect_tables.specs.declared.catalog.Catalog.{Catalog}
 use Rattle.prost_reflect_tables.specs.Rows.{FieldRow, OneofRow, MessageRow, EnumValueRow, EnumRow, TableRows}
-use Rattle.prost_reflect_tables.specs.CatalogRows.{MethodRow, ServiceRow, CatalogRows, catalog_row}
+use Rattle.prost_reflect_tables.specs.CatalogRows.{MethodRow, ServiceRow, CatalogRows}
 use Rattle.prost_reflect_tables.specs.Flat.{DefinitionRow, FlatMessageRow, FlatEnumRow, FlatServiceRow, flattened}
-use Rattle.prost_reflect_tables.specs.Linking.{Links, links_of, belonging, linked_field, in_order, extended_place, fields_of_message, declared_fields, linked_oneof, oneof_place, oneofs_from, linked_message, messages_from, linked_value, linked_enum, linked_rows}
-use Rattle.prost_reflect_tables.specs.LinkedCatalog.{linked_method, linked_service, linked_catalog, IsCatalogOf}
-use Rattle.prost_reflect_tables.specs.Built.{AreTablesOf}
+use Rattle.prost_reflect_tables.specs.Linking.{Links, links_of, belonging, linked_field, in_order, extended_place, fields_of_message, declared_fields, linked_oneof, oneof_place, oneofs_from, linked_message, messages_from, linked_value, linked_enum}
+use Rattle.prost_reflect_tables.specs.LinkedCatalog.{linked_method, linked_service, IsCatalogOf}
 use Rattle.prost_reflect_tables.specs.Places.{fields_at, fields_or_none}
 use Rattle.prost_reflect_tables.proofs.Built.{linked_of}
 use Rattle.prost_reflect_tables.proofs.CatalogRanges.{in_order_all, holds_at}

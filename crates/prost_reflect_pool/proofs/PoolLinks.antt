@@ -1,17 +1,20 @@
 -- What the catalog of a pool names is there.
-use Rattle.std.proofs.Common.{◌≡◌, ◌<◌, ℕ, true, List, Some, length, map, get_or, refl, sym, ap, ◌∙◌, subst, arith, slice_get, option_map}
-use Rattle.std.specs.List.{All}
+use Rattle.std.proofs.Common.{◌≡◌, ◌<◌, ℕ, true, List, Option, None, Some, length, map, get_or, refl, sym, ap, ◌∙◌, subst, arith, slice_get, option_map}
+use Rattle.std.specs.List.{All, list_all}
 use Rattle.std.proofs.lemmas.List.{length-map}
 use Rattle.std.proofs.lemmas.Option.{slice_get-get_or, slice_get-map, slice_get_read, get_or_from_slice_get}
-use Rattle.prost_reflect_tables.specs.CatalogRows.{FileRow, ExtensionRow, ServiceRow, method_table_row, service_table_row}
+use Rattle.prost_reflect_tables.specs.CatalogRows.{FileRow, ExtensionRow, method_table_row, service_table_row}
 use Rattle.prost_reflect_tables.specs.Linking.{links_of, linked_field}
 use Rattle.prost_reflect_tables.specs.Flat.{flattened}
-use Rattle.prost_reflect_tables.specs.Places.{fields_at}
-use Rattle.prost_reflect_tables.specs.Rows.{FieldRow}
+use Rattle.prost_reflect_tables.specs.Places.{fields_at, fields_or_none, is_declared_at}
+use Rattle.prost_reflect_tables.specs.Rows.{FieldRow, OneofRow, MessageRow}
 use Rattle.prost_reflect_tables.specs.declared.catalog.MethodTable.{MethodTable}
 use Rattle.prost_reflect_tables.specs.declared.catalog.ServiceTable.{ServiceTable}
+use Rattle.prost_reflect_tables.proofs.Keeping.{passes_at}
+use Rattle.prost_reflect_tables.proofs.DeclaredFields.{members_declared, oneof_members}
 use Rattle.prost_reflect_tables.proofs.CatalogLinks.{ExtensionThere, extension_there, marked_extension, MethodThere, methods_there, ImportsThere, imports_there}
 use Rattle.prost_reflect_pool.specs.Pools.{files_of, pool_rows, pool_catalog}
+use Rattle.prost_reflect_pool.specs.RecordPaths.{oneofs_at, oneofs_or_none}
 use Rattle.prost_reflect_pool.specs.declared.pool.LinkedPool.{LinkedPool}
 
 -- The row of an item that was read.
@@ -28,6 +31,14 @@ of_rows P v xs h k d within =
     let x = get_or xs k d in
     let at : slice_get (map v xs) k ≡ Some (v x) = slice_get-map v xs k ∙ ap (option_map v) (slice_get-get_or xs k d within) in
     subst P (get_or_from_slice_get (map v xs) k (v x) (v d) at) (h k (v d) (omega (arith, within, length-map xs v)))
+
+-- What the members of a oneof are.
+pub members_of : (pool : LinkedPool) (T i : ℕ) (o : OneofRow) → slice_get (oneofs_at (pool_rows pool) T) i ≡ Some o → list_all (is_declared_at (fields_at (pool_rows pool) T)) o.fields ≡ true
+members_of pool T i o found = of (slice_get (pool_rows pool).messages T) refl found
+  where
+    of : (m : Option MessageRow) → slice_get (pool_rows pool).messages T ≡ m → slice_get (oneofs_or_none m) i ≡ Some o → list_all (is_declared_at (fields_or_none m)) o.fields ≡ true
+    of None at e = absurd cc
+    of (Some m) at e = passes_at (λ (r : OneofRow). list_all (is_declared_at m.fields) r.fields) m.oneofs i o (passes_at members_declared (pool_rows pool).messages T m (oneof_members (files_of pool) (pool_rows pool) pool.built pool.tables.linked) at) e
 
 pub extension_of : (pool : LinkedPool) (i : ℕ) (x : ExtensionRow) → slice_get (pool_catalog pool).extensions i ≡ Some x → ExtensionThere (flattened (files_of pool)) (pool_rows pool) i x
 extension_of pool i x at = extension_there (files_of pool) (pool_rows pool) pool.catalog i x pool.built pool.tables.linked pool.listed at

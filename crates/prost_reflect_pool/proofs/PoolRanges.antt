@@ -8,7 +8,7 @@ use Rattle.prost_reflect_tables.specs.declared.tables.EnumTable.{EnumTable}
 use Rattle.prost_reflect_tables.specs.declared.catalog.FileTable.{FileTable}
 use Rattle.prost_reflect_tables.specs.declared.catalog.MessageLists.{MessageLists}
 use Rattle.prost_reflect_tables.specs.declared.catalog.EnumLists.{EnumLists}
-use Rattle.prost_reflect_tables.specs.Rows.{EnumRow, MessageRow, message_row, enum_row}
+use Rattle.prost_reflect_tables.specs.Rows.{EnumRow, message_row, enum_row}
 use Rattle.prost_reflect_tables.specs.CatalogRows.{file_table_row, message_lists_row, enum_lists_row}
 use Rattle.prost_reflect_tables.proofs.CatalogRanges.{CatalogWithin, IdentityWithin, MessageRowWithin, EnumRowWithin, FileRowWithin, ListsWithin, EnumListsWithin, holds_at, catalog_within}
 use Rattle.prost_reflect_pool.specs.Enums.{values_at, values_or_none}

@@ -1,5 +1,5 @@
 -- What a binary search finds among places that compare in their order with what is looked for.
-use Rattle.std.proofs.Common.{◌≡◌, ℕ, zero, suc, ◌+◌, ◌<◌, ◌≤◌, Bool, true, false, cond, List, [], ◌∷◌, length, get_or, Option, Some, None, refl, sym, ap, subst, ◌∙◌, arith, true≢false}
+use Rattle.std.proofs.Common.{◌≡◌, ℕ, zero, suc, ◌+◌, ◌<◌, ◌≤◌, Bool, true, false, cond, List, [], ◌∷◌, length, get_or, drop, Some, None, refl, sym, ap, ◌∙◌, arith, true≢false, drop-cons, add-one}
 use Rattle.std.specs.Prelude.{find}
 use Rattle.std.specs.Ordering.{is_lt, is_eq, ordering_index}
 use Rattle.std.specs.declared.cmp.Ordering.{Ordering}
@@ -80,3 +80,15 @@ differs o xs low high x up b ends h is e =
     split_at k low (is_eq (o (get_or xs k 0)) ≡ false)
     (λ lower. less_differs (o (get_or xs k 0)) (b.below k lower))
     (λ higher. greater_differs (o (get_or xs k 0)) (let le : ordering_index (o (get_or xs low 0)) ≤ ordering_index (o (get_or xs k 0)) = up low k 0 higher less in omega arith))))
+
+-- ONE AFTER ANOTHER
+
+find_from : {X : Type 0} (p : X → Bool) (xs : List X) (i : ℕ) (d : X) → i < length xs → find p (drop i xs) ≡ cond (p (get_or xs i d)) (Some (get_or xs i d)) (find p (drop (i + 1) xs))
+find_from p xs i d h = rw (drop-cons xs i d h, add-one i) refl
+
+-- An item that passes is found, and one that does not is left behind.
+pub find_here : {X : Type 0} (p : X → Bool) (xs : List X) (i : ℕ) (d : X) → i < length xs → p (get_or xs i d) ≡ true → find p (drop i xs) ≡ Some (get_or xs i d)
+find_here p xs i d h passes = find_from p xs i d h ∙ ap (λ b. cond b (Some (get_or xs i d)) (find p (drop (i + 1) xs))) passes
+
+pub find_left : {X : Type 0} (p : X → Bool) (xs : List X) (i : ℕ) (d : X) → i < length xs → p (get_or xs i d) ≡ false → find p (drop i xs) ≡ find p (drop (i + 1) xs)
+find_left p xs i d h fails = find_from p xs i d h ∙ ap (λ b. cond b (Some (get_or xs i d)) (find p (drop (i + 1) xs))) fails

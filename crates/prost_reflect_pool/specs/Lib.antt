@@ -6,6 +6,7 @@ pub mod PoolEquality
 pub mod SharedPools
 pub mod MessageTypes
 pub mod Enums
+pub mod Lookups
 pub mod MapParts
 pub mod RecordPaths
 pub mod RecordViews

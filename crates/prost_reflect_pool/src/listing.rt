@@ -1,17 +1,18 @@
 //! What stands at a place of a pool's tables and of its catalog; each place that is named there is there.
 
-ghost use Rattle.std.specs.Prelude.{◌≡◌, ◌<◌, length, Some, IfSome, slice_get};
-ghost use Rattle.std.specs.List.{All};
+ghost use Rattle.std.specs.Prelude.{◌≡◌, ◌<◌, IsTrue, length, Some, IfSome, slice_get};
+ghost use Rattle.std.specs.List.{All, list_all};
 ghost use Rattle.prost_reflect_tables.specs.CatalogRows.{file_table_row, message_lists_row, enum_lists_row, sorted_row};
 ghost use Rattle.prost_reflect_tables.specs.LinkedCatalog.{own_fields};
-ghost use Rattle.prost_reflect_tables.specs.Places.{fields_at};
-ghost use Rattle.prost_reflect_tables.specs.Rows.{message_row, enum_row};
+ghost use Rattle.prost_reflect_tables.specs.Places.{fields_at, is_declared_at};
+ghost use Rattle.prost_reflect_tables.specs.Rows.{message_row, oneof_row, enum_row};
 ghost use Rattle.prost_reflect_pool.specs.Enums.{values_at};
 ghost use Rattle.prost_reflect_pool.specs.Pools.{files_of, pool_rows, pool_catalog};
+ghost use Rattle.prost_reflect_pool.specs.RecordPaths.{oneofs_at};
 
 use crate::LinkedPool;
 use prost_reflect_tables::{
-    EnumLists, EnumTable, FileTable, MessageLists, MessageTable, SortedPlaces,
+    EnumLists, EnumTable, FileTable, MessageLists, MessageTable, OneofTable, SortedPlaces,
 };
 
 /// How many there are of each sort.
@@ -62,6 +63,16 @@ impl LinkedPool {
         ensures parent { IfSome result.now.id.parent (λ p. p < length (pool_rows self.now).messages) }
     {
         &self.tables.messages[index]
+    }
+
+    /// The oneof at a place among those of a message type. Its members are fields of that type, and no extensions.
+    pub fn oneof_table(&self, message: usize, oneof: usize) -> &OneofTable
+        requires message { message < length (pool_rows self.now).messages }
+        requires oneof { oneof < length (oneofs_at (pool_rows self.now) message) }
+        ensures row { slice_get (oneofs_at (pool_rows self.now) message) oneof ≡ Some (oneof_row result.now) }
+        ensures members { IsTrue (list_all (is_declared_at (fields_at (pool_rows self.now) message)) result.now.fields.items) }
+    {
+        &self.message_table(message).oneofs[oneof]
     }
 
     /// The enum at a place.

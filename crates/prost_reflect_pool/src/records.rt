@@ -3,16 +3,14 @@
 ghost use Rattle.std.specs.Prelude.{◌≡◌, ◌<◌, length, option_map, option_and_then, slice_get, Some};
 ghost use Rattle.prost_reflect_tables.specs.CatalogRows.{service_table_row, method_table_row};
 ghost use Rattle.prost_reflect_tables.specs.Places.{fields_at};
-ghost use Rattle.prost_reflect_tables.specs.Rows.{identity_row, field_row, oneof_row, enum_value_row};
+ghost use Rattle.prost_reflect_tables.specs.Rows.{identity_row, field_row, enum_value_row};
 ghost use Rattle.prost_reflect_pool.specs.Enums.{values_at};
 ghost use Rattle.prost_reflect_pool.specs.Pools.{files_of, pool_rows, pool_catalog};
 ghost use Rattle.prost_reflect_pool.specs.RecordPaths.{MessageRecord, FieldRecord, OneofRecord, EnumRecord, ValueRecord, ServiceRecord, MethodRecord, item, in_file, in_message, in_enum, in_service, member, record_below, record_of, oneofs_at, methods_at, Found};
 ghost use Rattle.prost_reflect_pool.specs.RecordViews.{record_view};
 
 use crate::LinkedPool;
-use prost_reflect_tables::{
-    EnumValueTable, FieldTable, Identity, MethodTable, OneofTable, ServiceTable,
-};
+use prost_reflect_tables::{EnumValueTable, FieldTable, Identity, MethodTable, ServiceTable};
 use prost_reflect_types::{
     DescriptorProto, EnumDescriptorProto, EnumValueDescriptorProto, FieldDescriptorProto,
     FileDescriptorProto, MethodDescriptorProto, OneofDescriptorProto, ServiceDescriptorProto,
@@ -194,14 +192,6 @@ fn field_at(pool: &LinkedPool, message: usize, field: usize) -> &FieldTable
     &pool.tables.field_tables(message)[field]
 }
 
-fn oneof_at(pool: &LinkedPool, message: usize, oneof: usize) -> &OneofTable
-    requires message { message < length (pool_rows pool.now).messages }
-    requires oneof { oneof < length (oneofs_at (pool_rows pool.now) message) }
-    ensures { slice_get (oneofs_at (pool_rows pool.now) message) oneof ≡ Some (oneof_row result.now) }
-{
-    &pool.message_table(message).oneofs[oneof]
-}
-
 fn value_at(pool: &LinkedPool, e: usize, value: usize) -> &EnumValueTable
     requires e { e < length (pool_rows pool.now).enums }
     requires value { value < length (values_at (pool_rows pool.now) e) }
@@ -266,7 +256,7 @@ impl LinkedPool {
         requires oneof { oneof < length (oneofs_at (pool_rows self.now) message) }
         ensures { option_and_then (λ o. record_of (files_of self.now) o.id) (slice_get (oneofs_at (pool_rows self.now) message) oneof) ≡ Some (OneofRecord result.now) }
     {
-        the_oneof(self.record_of(&oneof_at(self, message, oneof).id))
+        the_oneof(self.record_of(&self.oneof_table(message, oneof).id))
     }
 
     /// The record of the enum at a place.

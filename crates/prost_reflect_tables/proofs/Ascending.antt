@@ -11,10 +11,10 @@ use Rattle.prost_reflect_tables.specs.Places.{place_of}
 use Rattle.prost_reflect_tables.specs.Linked.{ascending_from}
 use Rattle.prost_reflect_tables.specs.declared.tables.FieldTable.{FieldTable}
 
-rises : (low : ℕ) (g : FieldRow) (fields : List FieldRow) → ascending_from low (g ∷ fields) ≡ true → low < g.number
+pub rises : (low : ℕ) (g : FieldRow) (fields : List FieldRow) → ascending_from low (g ∷ fields) ≡ true → low < g.number
 rises low g fields h = ltb-true low g.number (and_parts (nat_lt low g.number) (nat_lt g.number (2 ^ 29)) (and_parts (nat_lt low g.number && nat_lt g.number (2 ^ 29)) (ascending_from g.number fields) h).0).0
 
-onward : (low : ℕ) (g : FieldRow) (fields : List FieldRow) → ascending_from low (g ∷ fields) ≡ true → ascending_from g.number fields ≡ true
+pub onward : (low : ℕ) (g : FieldRow) (fields : List FieldRow) → ascending_from low (g ∷ fields) ≡ true → ascending_from g.number fields ≡ true
 onward low g fields h = (and_parts (nat_lt low g.number && nat_lt g.number (2 ^ 29)) (ascending_from g.number fields) h).1
 
 pub numbers_above : (low : ℕ) (fields : List FieldRow) (i : ℕ) (f : FieldRow) → ascending_from low fields ≡ true → slice_get fields i ≡ Some f → low < f.number

@@ -34,7 +34,7 @@ every : {X : Type 0} (P : X → Type 0) (xs : List X) → ((i : ℕ) (x : X) →
 every P xs h k d within = h k (get_or xs k d) (slice_get-get_or xs k d within)
 
 -- What stands in a list that was mapped is made of what stands there.
-mapped_at : {X Y : Type 0} (v : X → Y) (xs : List X) (i : ℕ) (y : Y) → slice_get (map v xs) i ≡ Some y → (x : X) × (slice_get xs i ≡ Some x) × (v x ≡ y)
+pub mapped_at : {X Y : Type 0} (v : X → Y) (xs : List X) (i : ℕ) (y : Y) → slice_get (map v xs) i ≡ Some y → (x : X) × (slice_get xs i ≡ Some x) × (v x ≡ y)
 mapped_at v [] i y e = absurd cc
 mapped_at v (x ∷ xs) zero y e = (x, refl, cc)
 mapped_at v (x ∷ xs) (suc i) y e = mapped_at v xs i y e
@@ -72,7 +72,7 @@ place_within name_of xs name some = go (place_of (map name_of xs) name) refl som
 -- WHERE FIELDS STAND
 
 -- A row of the fields, at some place.
-abbrev HasRow : List FieldRow → FieldRow → Type 0
+abbrev pub HasRow : List FieldRow → FieldRow → Type 0
 HasRow fields f = (i : ℕ) × (slice_get fields i ≡ Some f)
 
 put_there : (f : FieldRow) (fields : List FieldRow) → HasRow (put_in_order f fields) f
@@ -96,7 +96,7 @@ put_keeps f h (g ∷ fields) (suc i) at = go (nat_le f.number g.number) (put_kee
     go true more = (suc (suc i), at)
     go false more = (suc more.0, more.1)
 
-order_keeps : (fields : List FieldRow) (h : FieldRow) (i : ℕ) → slice_get fields i ≡ Some h → HasRow (in_order fields) h
+pub order_keeps : (fields : List FieldRow) (h : FieldRow) (i : ℕ) → slice_get fields i ≡ Some h → HasRow (in_order fields) h
 order_keeps [] h i at = absurd cc
 order_keeps (f ∷ fields) h zero at = let same : f ≡ h = cc in subst (HasRow (put_in_order f (in_order fields))) same (put_there f (in_order fields))
 order_keeps (f ∷ fields) h (suc i) at =
@@ -121,7 +121,7 @@ belonging_has links T (x ∷ ds) (suc i) d at is = go (is_place T (extended_plac
     go true more = (suc more.0, more.1)
     go false more = more
 
-fields_shown : (fields : List FieldRow) (m : FlatMessageRow) → (linked_message fields m).fields ≡ in_order fields
+pub fields_shown : (fields : List FieldRow) (m : FlatMessageRow) → (linked_message fields m).fields ≡ in_order fields
 unfolding linked_message
 fields_shown fields m = refl
 

@@ -1,7 +1,6 @@
 mod Walks
 mod Resolving
 mod Ascending
-mod Positions
 pub mod Keeping
 pub mod Fields
 mod Worked
@@ -24,6 +23,7 @@ mod Linkwell
 mod WorkedChecks
 mod LinksWell
 pub mod CatalogLinks
+pub mod DeclaredFields
 pub mod SameRows
 mod SameFlat
 pub mod FlatRanges

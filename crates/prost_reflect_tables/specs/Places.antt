@@ -1,5 +1,5 @@
 -- What stands at a place of the rows.
-use Rattle.std.specs.Prelude.{ℕ, ◌==◌, List, [], Option, Some, None, find, position, slice_get}
+use Rattle.std.specs.Prelude.{ℕ, ◌==◌, Bool, false, not, List, [], Option, Some, None, find, position, slice_get}
 use Rattle.std.specs.Str.{bytes_eq}
 use Rattle.prost_reflect_tables.specs.Rows.{FieldRow, MessageRow, TableRows}
 
@@ -21,3 +21,11 @@ place_of fields n = position (λ f. f.number == n) fields
 -- The place of the first message type of a full name.
 abbrev pub message_place : TableRows → List ℕ → Option ℕ
 message_place rows full_name = position (λ m. bytes_eq m.id.full_name full_name) rows.messages
+
+abbrev pub is_declared : Option FieldRow → Bool
+is_declared None = false
+is_declared (Some f) = not f.is_extension
+
+-- A field, and no extension, stands at the place.
+abbrev pub is_declared_at : List FieldRow → ℕ → Bool
+is_declared_at fields i = is_declared (slice_get fields i)

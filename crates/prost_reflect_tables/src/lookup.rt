@@ -1,21 +1,14 @@
 //! What stands at a place of the tables, and the place of a field number.
 
-use crate::tables::{FieldTable, MessageTable, Tables};
+use crate::tables::{FieldTable, Tables};
 
 impl Tables {
     ghost use Rattle.std.specs.Prelude.{◌≡◌, ◌<◌, length, map, option_map};
     ghost use Rattle.prost_reflect_wire.specs.Schema.{known, field_of};
     ghost use Rattle.prost_reflect_tables.specs.Rows.{field_row};
-    ghost use Rattle.prost_reflect_tables.specs.Places.{fields_at, row_of, place_of, message_place};
+    ghost use Rattle.prost_reflect_tables.specs.Places.{fields_at, row_of, place_of};
     ghost use Rattle.prost_reflect_tables.specs.Shown.{schema_field};
     ghost use Rattle.prost_reflect_tables.specs.Schema.{rows_of, schema_of};
-
-    /// The place of the first message type of a full name, or none where no message type has it.
-    pub fn message_place(&self, full_name: &str) -> Option<usize>
-        ensures { result ≡ message_place (rows_of self.now) full_name.now }
-    {
-        place_named(&self.messages, full_name)
-    }
 
     /// The fields and extensions of the message type at a place, in ascending order of their numbers.
     pub fn field_tables(&self, message: usize) -> &[FieldTable]
@@ -47,25 +40,10 @@ impl Tables {
     }
 }
 
-ghost use Rattle.std.specs.Prelude.{◌≡◌, IsTrue, map, position, string_bytes};
-ghost use Rattle.std.specs.Str.{bytes_eq};
+ghost use Rattle.std.specs.Prelude.{◌≡◌, IsTrue, map};
 ghost use Rattle.prost_reflect_tables.specs.Rows.{field_row};
 ghost use Rattle.prost_reflect_tables.specs.Places.{place_of};
 ghost use Rattle.prost_reflect_tables.specs.Linked.{ascending_from};
-
-fn is_named(message: &MessageTable, full_name: &str) -> bool
-    ensures { result ≡ bytes_eq (string_bytes message.now.id.full_name) full_name.now }
-{
-    message.id.full_name.as_str() == full_name
-}
-
-fn place_named(messages: &[MessageTable], full_name: &str) -> Option<usize>
-    ensures { result ≡ position (λ m. bytes_eq (string_bytes m.id.full_name) full_name.now) messages.now }
-{
-    messages
-        .iter()
-        .position(|message| is_named(message, full_name))
-}
 
 /// The place of a number among fields of ascending numbers, by binary search.
 fn place_among(fields: &[FieldTable], number: u32) -> Option<usize>

@@ -85,10 +85,13 @@ entry_parts rows h =
     let parts = four (list_any entry_bad rows.messages) (list_any (λ (m : FlatMessageRow). list_any (wrongly_of_entry rows) m.fields) rows.messages) (list_any (is_of_entry rows) rows.extensions) (list_any (λ (s : FlatServiceRow). list_any (method_of_entry rows) s.methods) rows.services) h in
     (parts.0, parts.1, parts.2)
 
+pub entry_checked : {files : List FileDescriptorProto} (rows : FlatRows) (T : ℕ) (m : FlatMessageRow) → Checked files rows → slice_get rows.messages T ≡ Some m → entry_bad m ≡ false
+entry_checked rows T m checked at = none_at entry_bad rows.messages T m (entry_parts rows (checked errors.BadMapEntry)).0 at
+
 pub message_checked : {files : List FileDescriptorProto} (rows : FlatRows) (T : ℕ) (m : FlatMessageRow) → Sound files rows → slice_get rows.messages T ≡ Some m → MessageChecked m
 message_checked {files} rows T m s at = record {
   oneofs = none_at has_oneof_outside rows.messages T m (or_parts (list_any import_outside files) _ (no_fault s errors.BadIndex)).1 at;
-  entry = none_at entry_bad rows.messages T m (entry_parts rows (no_fault s errors.BadMapEntry)).0 at;
+  entry = entry_checked rows T m s.checked at;
 }
 
 pub enum_checked : {files : List FileDescriptorProto} (rows : FlatRows) (E : ℕ) (e : FlatEnumRow) → Sound files rows → slice_get rows.enums E ≡ Some e → EnumChecked e
@@ -107,6 +110,9 @@ field_checked rows T i m d s at there = record {
   default = well_placed (links_of rows) d (field_at (default_bad (links_of rows)) rows T i m d (no_fault s errors.BadDefault) at there);
 }
 
+pub extension_inside : {files : List FileDescriptorProto} (rows : FlatRows) (i : ℕ) (d : DefinitionRow FieldDescriptorProto) → Checked files rows → slice_get rows.extensions i ≡ Some d → extension_outside rows d ≡ false
+extension_inside rows i d checked at = none_at (extension_outside rows) rows.extensions i d (checked errors.OutsideRange) at
+
 pub extension_checked : {files : List FileDescriptorProto} (rows : FlatRows) (i : ℕ) (d : DefinitionRow FieldDescriptorProto) → Sound files rows → slice_get rows.extensions i ≡ Some d → ExtensionChecked rows d
 extension_checked rows i d s at =
     let no_entry : is_of_entry rows d ≡ false = none_at (is_of_entry rows) rows.extensions i d (entry_parts rows (no_fault s errors.BadMapEntry)).2 at in
@@ -123,5 +129,5 @@ extension_checked rows i d s at =
       extendee_found = none_at (extendee_unknown rows) rows.extensions i d (three _ _ _ (no_fault s errors.UnknownType)).1 at;
       alone = none_at is_member rows.extensions i d (or_parts _ _ (no_fault s errors.BadOneof)).1 at;
       no_entry = no_entry;
-      inside = none_at (extension_outside rows) rows.extensions i d (no_fault s errors.OutsideRange) at;
+      inside = extension_inside rows i d s.checked at;
     }

@@ -1,4 +1,3 @@
-use Rattle.prost_reflect_tables.specs.LinkedCatalog.{IsCatalogOf}
 use Rattle.prost_reflect_pool.proofs.NoFiles.{none_listed}
 use Rattle.prost_reflect_pool.proofs.pool.empty_catalog.Goals as goal
 

@@ -1,0 +1,10 @@
+use Rattle.std.proofs.Common.{rules, map, not}
+use Rattle.prost_reflect_tables.specs.Rows.{FieldRow, field_row}
+use Rattle.prost_reflect_pool.proofs.InOrder.{text_found, text_order}
+use Rattle.prost_reflect_pool.proofs.lookup.json_named_among.Goals as goal
+
+pub returns : goal.returns
+returns c =
+    let rows = map field_row c.args.fields.now in
+    text_found (λ (f : FieldRow). f.json_name) (λ (f : FieldRow). not f.is_extension) rows c.args.name.now _ _ c.requires
+    (c.first_equal.ensures (text_order (map (λ (f : FieldRow). f.json_name) rows) c.args.name.now) (λ x r h. search rules))

@@ -1,0 +1,12 @@
+use Rattle.std.proofs.Common.{rules, ◌∙◌}
+use Rattle.prost_reflect_tables.specs.CatalogRows.{service_table_row}
+use Rattle.prost_reflect_pool.proofs.InCatalog.{service_name, text_there, no_text}
+use Rattle.prost_reflect_pool.proofs.pool.LinkedPool.service_name.Goals as goal
+
+pub returns-in-Some : goal.returns-in-Some
+returns-in-Some c =
+    let h = c.in-Some.ensures.lookup.3 in
+    c.as_str.ensures.value ∙ text_there service_table_row service_name c.args.self.now.catalog.services.items _ c.args.place c.in-Some.service.now c.deref.ensures.value h.0 (h.1 c.in-Some.service.now)
+
+pub returns-in-None : goal.returns-in-None
+returns-in-None c = no_text service_table_row service_name c.args.self.now.catalog.services.items c.deref.result.now c.args.place c.deref.ensures.value (let h = c.in-None.ensures.lookup in search rules)
