@@ -22,6 +22,28 @@ use Rattle.prost_reflect_laws.proofs.StraysStay.{all_filtered, unknown_stays}
 use Rattle.prost_reflect_laws.proofs.Slots.{good_well, GoodContent, GoodEntries, GoodValue, GoodSlots, unknown_good, slots_good, table_good, alone_changed, sibling_back, not_own}
 use Rattle.prost_reflect_laws.proofs.GoodValues.{Inside, GoodInside, FieldGiven, NoStray, joined_good}
 
+-- SOURCES
+
+-- a payload that is read as a value of the field
+abbrev pub source_good : ℕ → AllowsInside → FieldForm → ValueType → Payload → Bool
+source_good k allow c value_type p = (payload_valid p && source_allowed k allow c value_type p) && NoStray c value_type p
+
+all_and : (t u : Payload → Bool) (ps : List Payload) → list_all t ps ≡ true → list_all u ps ≡ true → list_all (λ p. t p && u p) ps ≡ true
+all_and t u [] h i = refl
+all_and t u (p ∷ ps) h i =
+    let (a, b) = and_parts (t p) (list_all t ps) h in
+    let (c, d) = and_parts (u p) (list_all u ps) i in
+    and_from _ _ (and_from _ _ a c) (all_and t u ps b d)
+
+pub sources_good : (k : ℕ) (allow : AllowsInside) (c : FieldForm) (value_type : ValueType) (p : Payload) → payload_valid p ≡ true → field_allowed k allow c value_type p ≡ true → list_all (source_good k allow c value_type) (value_payloads c value_type p) ≡ true
+sources_good k allow Singular value_type p v a =
+    all_filtered (source_good k allow Singular value_type) (λ q. not (is_stray value_type.kind q)) (λ q. payload_valid q && source_allowed k allow Singular value_type q) (p ∷ []) (λ q s w. and_from _ _ w s) (and_from _ _ (and_from _ _ v a) refl)
+sources_good k allow (Repeated packed) value_type p v a =
+    all_filtered (source_good k allow (Repeated packed) value_type) (λ q. not (is_stray value_type.kind q)) (λ q. payload_valid q && element_allowed allow value_type.kind q) (element_payloads_in value_type.kind p) (λ q s w. and_from _ _ w s)
+    (all_and payload_valid (element_allowed allow value_type.kind) (element_payloads_in value_type.kind p) (elements_in_valid value_type.kind p v) (elements_in_allowed allow value_type.kind p a))
+sources_good k allow (MapFrom key) value_type p v a =
+    all_filtered (source_good k allow (MapFrom key) value_type) (λ q. not (is_stray_entry value_type q)) (λ q. payload_valid q && source_allowed k allow (MapFrom key) value_type q) (p ∷ []) (λ q s w. and_from _ _ w s) (and_from _ _ (and_from _ _ v a) refl)
+
 -- SLOTS
 
 -- slots that are equal are as good
@@ -41,10 +63,6 @@ known_alone schema fields k at n g e = go (at n).value refl
     go (Some v) h = absurd (true≢false (sym (g.value n v h).valid ∙ ap (λ (o : Option Field). passes o (λ f. value_valid f v)) e))
 
 module _ (schema : Schema) (k : ℕ) (allow : AllowsInside) (inner : MeansInside) (further : JoinsInside) (fields : List Field) (good : GoodInside schema k allow inner further) (all : list_all (field_valid schema) fields ≡ true) (differ : numbers_differ fields ≡ true) where
-  -- a payload that is read as a value of the field
-  abbrev pub source_good : FieldForm → ValueType → Payload → Bool
-  source_good c value_type p = (payload_valid p && source_allowed k allow c value_type p) && NoStray c value_type p
-
   -- the slots behind one record of values
   abbrev pub slots_behind : (ℕ → Slot) → List Record → ℕ → Slot
   slots_behind at rs n = record { value = value_behind inner further fields n (at n).value rs; unknowns = (at n).unknowns }
@@ -66,7 +84,7 @@ module _ (schema : Schema) (k : ℕ) (allow : AllowsInside) (inner : MeansInside
         old_good = λ v e. subst (λ (o : Option Field). GoodValue schema o k v) found (g.value n v e);
       }
 
-  pub one_behind : (at : ℕ → Slot) (m : ℕ) (f : Field) (p : Payload) → GoodSlots schema fields k at → field_of fields m ≡ Some f → source_good f.form f.value_type p ≡ true → GoodSlots schema fields k (slots_behind at (record { number = m; payload = p } ∷ []))
+  pub one_behind : (at : ℕ → Slot) (m : ℕ) (f : Field) (p : Payload) → GoodSlots schema fields k at → field_of fields m ≡ Some f → source_good k allow f.form f.value_type p ≡ true → GoodSlots schema fields k (slots_behind at (record { number = m; payload = p } ∷ []))
   one_behind at m f p g found s = record {
     value = λ n v e. value n (field_of fields n) refl v e;
     unknown = g.unknown;
@@ -86,7 +104,7 @@ module _ (schema : Schema) (k : ℕ) (allow : AllowsInside) (inner : MeansInside
           go : (a : Bool) → nat_eq m h.number ≡ a → (b : Bool) → cond a (value_joined inner further h.form h.value_type (at n).value p) (cond b None (at n).value) ≡ Some v → GoodValue schema (Some h) k v
           go true a b x =
               let own : h ≡ f = its n h e (sym (field_number fields n h e) ∙ sym (eqb-true m h.number a)) in
-              let source : source_good h.form h.value_type p ≡ true = ap (λ (y : Field). source_good y.form y.value_type p) own ∙ s in
+              let source : source_good k allow h.form h.value_type p ≡ true = ap (λ (y : Field). source_good k allow y.form y.value_type p) own ∙ s in
               let (one, two) = and_parts (payload_valid p && source_allowed k allow h.form h.value_type p) (NoStray h.form h.value_type p) source in
               let (spelt, allowed) = and_parts (payload_valid p) (source_allowed k allow h.form h.value_type p) one in
               joined_good schema k allow inner further h (at n).value p v good (given at n h g e) spelt allowed two x
@@ -130,28 +148,12 @@ module _ (schema : Schema) (k : ℕ) (allow : AllowsInside) (inner : MeansInside
       go None = refl
       go (Some f) = refl
 
-  block_behind : (at : ℕ → Slot) (m : ℕ) (f : Field) (ps : List Payload) → GoodSlots schema fields k at → field_of fields m ≡ Some f → list_all (source_good f.form f.value_type) ps ≡ true → GoodSlots schema fields k (slots_behind at (block m ps))
+  block_behind : (at : ℕ → Slot) (m : ℕ) (f : Field) (ps : List Payload) → GoodSlots schema fields k at → field_of fields m ≡ Some f → list_all (source_good k allow f.form f.value_type) ps ≡ true → GoodSlots schema fields k (slots_behind at (block m ps))
   block_behind at m f [] g found s = none_behind at g
   block_behind at m f (p ∷ ps) g found s =
-      let (one, more) = and_parts (source_good f.form f.value_type p) (list_all (source_good f.form f.value_type) ps) s in
+      let (one, more) = and_parts (source_good k allow f.form f.value_type p) (list_all (source_good k allow f.form f.value_type) ps) s in
       good_same schema fields k (slots_behind (slots_behind at (record { number = m; payload = p } ∷ [])) (block m ps)) (slots_behind at (block m (p ∷ ps))) (behind_more at (record { number = m; payload = p }) (block m ps))
       (block_behind (slots_behind at (record { number = m; payload = p } ∷ [])) m f ps (one_behind at m f p g found one) found more)
-
-  all_and : (t u : Payload → Bool) (ps : List Payload) → list_all t ps ≡ true → list_all u ps ≡ true → list_all (λ p. t p && u p) ps ≡ true
-  all_and t u [] h i = refl
-  all_and t u (p ∷ ps) h i =
-      let (a, b) = and_parts (t p) (list_all t ps) h in
-      let (c, d) = and_parts (u p) (list_all u ps) i in
-      and_from _ _ (and_from _ _ a c) (all_and t u ps b d)
-
-  pub sources_good : (c : FieldForm) (value_type : ValueType) (p : Payload) → payload_valid p ≡ true → field_allowed k allow c value_type p ≡ true → list_all (source_good c value_type) (value_payloads c value_type p) ≡ true
-  sources_good Singular value_type p v a =
-      all_filtered (source_good Singular value_type) (λ q. not (is_stray value_type.kind q)) (λ q. payload_valid q && source_allowed k allow Singular value_type q) (p ∷ []) (λ q s w. and_from _ _ w s) (and_from _ _ (and_from _ _ v a) refl)
-  sources_good (Repeated packed) value_type p v a =
-      all_filtered (source_good (Repeated packed) value_type) (λ q. not (is_stray value_type.kind q)) (λ q. payload_valid q && element_allowed allow value_type.kind q) (element_payloads_in value_type.kind p) (λ q s w. and_from _ _ w s)
-      (all_and payload_valid (element_allowed allow value_type.kind) (element_payloads_in value_type.kind p) (elements_in_valid value_type.kind p v) (elements_in_allowed allow value_type.kind p a))
-  sources_good (MapFrom key) value_type p v a =
-      all_filtered (source_good (MapFrom key) value_type) (λ q. not (is_stray_entry value_type q)) (λ q. payload_valid q && source_allowed k allow (MapFrom key) value_type q) (p ∷ []) (λ q s w. and_from _ _ w s) (and_from _ _ (and_from _ _ v a) refl)
 
   values_behind : (at : ℕ → Slot) (r : Record) → GoodSlots schema fields k at → payload_valid r.payload ≡ true → record_allowed k allow fields r ≡ true → GoodSlots schema fields k (slots_behind at (value_records fields r))
   values_behind at r g v a = go (field_of fields r.number) refl a
@@ -159,7 +161,7 @@ module _ (schema : Schema) (k : ℕ) (allow : AllowsInside) (inner : MeansInside
       go : (o : Option Field) → field_of fields r.number ≡ o → (elim o [ None ↦ nat_le (payload_levels r.payload) k | Some f ↦ field_allowed k allow f.form f.value_type r.payload ]) ≡ true
           → GoodSlots schema fields k (slots_behind at (elim o [ None ↦ [] | Some f ↦ map (λ p. record { number = r.number; payload = p }) (value_payloads f.form f.value_type r.payload) ]))
       go None e a = none_behind at g
-      go (Some f) e a = block_behind at r.number f (value_payloads f.form f.value_type r.payload) g e (sources_good f.form f.value_type r.payload v a)
+      go (Some f) e a = block_behind at r.number f (value_payloads f.form f.value_type r.payload) g e (sources_good k allow f.form f.value_type r.payload v a)
 
   -- with what stays unknown
   slots_step : (at : ℕ → Slot) (r : Record) → GoodSlots schema fields k at → number_valid r.number ≡ true → payload_valid r.payload ≡ true → record_allowed k allow fields r ≡ true → GoodSlots schema fields k (λ n. slot_step inner further fields r n (at n))

@@ -12,7 +12,7 @@ pub mod SpelledValid
 mod Accepted
 mod Commuting
 pub mod Rebuilt
-mod Back
+pub mod Back
 mod Examples
 mod Lists
 pub mod Order
@@ -26,7 +26,7 @@ pub mod Means
 mod Canonical
 pub mod Allowed
 pub mod RoundTrip
-mod Pieces
+pub mod Pieces
 mod Declared
 pub mod EntryDefaults
 pub mod Arranged
@@ -54,22 +54,22 @@ mod MapAgain
 mod FieldAgain
 mod SameSurvivors
 mod WrittenSlots
-mod Relaying
+pub mod Relaying
 pub mod Passing
-mod SetSlots
+pub mod SetSlots
 mod ValueCarried
 pub mod ListSteps
 pub mod ListReads
 pub mod ListWritten
-mod PathLike
+pub mod PathLike
 pub mod Editing
 mod AsFields
 pub mod PassageLaws
 pub mod Refining
 mod WorkedReductions
-mod Kept
-mod Slots
-mod Setting
+pub mod Kept
+pub mod Slots
+pub mod Setting
 pub mod StoredSound
 pub mod Progressing
 pub mod Holding
@@ -81,15 +81,15 @@ pub mod ScalarEntries
 pub mod MapWritten
 pub mod ElementSteps
 pub mod NestedEntries
-mod Readable
+pub mod Readable
 mod StraysStay
 mod GoodValues
-mod GoodSteps
-mod NormalForms
-mod StepsFree
-mod Eased
+pub mod GoodSteps
+pub mod NormalForms
+pub mod StepsFree
+pub mod Eased
 pub mod PackedNumbers
 pub mod PackedElements
 pub mod NumberSteps
 pub mod Values
-mod Table
+pub mod Table

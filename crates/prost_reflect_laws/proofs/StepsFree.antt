@@ -1,5 +1,5 @@
 -- More levels than are left change nothing of what records make of a content.
-use Rattle.std.proofs.Common.{◌≡◌, ℕ, zero, suc, ◌+◌, ◌-◌, ◌≤◌, ◌<◌, ◌^◌, Bool, true, false, cond, ◌&&◌, List, [], ◌∷◌, ◌++◌, length, map, nat_eq, nat_le, Option, Some, None, refl, ap, ap₂, sym, ◌∙◌, arith, true≢false}
+use Rattle.std.proofs.Common.{◌≡◌, ℕ, zero, suc, ◌≤◌, ◌<◌, ◌^◌, Bool, true, false, cond, ◌&&◌, List, [], ◌∷◌, ◌++◌, length, map, nat_eq, nat_le, Option, Some, None, refl, ap, ap₂, sym, ◌∙◌, arith, true≢false}
 use Rattle.std.specs.Prelude.{max}
 use Rattle.std.specs.List.{list_all}
 use Rattle.std.proofs.lemmas.Bool.{eqb-true, and_parts}
@@ -14,7 +14,7 @@ use Rattle.prost_reflect_wire.specs.Edit.{merged}
 use Rattle.prost_reflect_wire.specs.Writing.{records, encoded}
 use Rattle.prost_reflect_laws.specs.Laws.{block, StaysWell, Writable}
 use Rattle.prost_reflect_wire.specs.Typing.{is_of_type, WellTyped}
-use Rattle.prost_reflect_wire.proofs.Deeper.{passes_in, message_in, numbered_two, Agrees, element_agree, value_agree, source_allowed, allows_append, levels_free}
+use Rattle.prost_reflect_wire.proofs.Deeper.{passes_in, message_in, numbered_two, Agrees, element_agree, value_agree, source_allowed, allows_append}
 use Rattle.prost_reflect_laws.proofs.Checked.{known_valid, known_differ}
 use Rattle.prost_reflect_laws.proofs.Means.{first_valid}
 use Rattle.prost_reflect_wire.proofs.Numbers.{table_same}
@@ -25,15 +25,16 @@ use Rattle.prost_reflect_laws.proofs.Pieces.{pieces_join, allowed_within, levels
 use Rattle.prost_reflect_laws.proofs.Readable.{number_spelled, inside_spelled}
 use Rattle.prost_reflect_laws.proofs.Slots.{well_good, GoodContent, GoodEntries, GoodSlots, slots_good}
 use Rattle.prost_reflect_laws.proofs.GoodValues.{Inside, GoodInside, FieldGiven, NoStray, content_good}
-use Rattle.prost_reflect_laws.proofs.GoodSteps.{source_good, given, one_behind, sources_good, entries_step, no_level, one_level, steps_good, meaning_good, meaning_typed}
+use Rattle.prost_reflect_laws.proofs.GoodSteps.{source_good, given, one_behind, sources_good, entries_step, one_level, steps_good, meaning_good, meaning_typed}
 use Rattle.prost_reflect_laws.proofs.NormalForms.{meaning_schema, meaning_type, merged_well}
 use Rattle.prost_reflect_laws.proofs.Readings.{steps_behind}
 
--- what is read and joined one level down is the same for two
-pub record SameInside (schema : Schema) (k : ℕ) (allow : AllowsInside) (inner : MeansInside) (further : JoinsInside) (outer : MeansInside) (beyond : JoinsInside) : Type 0 where
-  pub good : GoodInside schema k allow inner further
+-- what is read and joined one level down is the same with more levels, with which it stays well-typed
+pub record SameInside (schema : Schema) (j : ℕ) (allow : AllowsInside) (inner : MeansInside) (further : JoinsInside) (wide : AllowsInside) (outer : MeansInside) (beyond : JoinsInside) : Type 0 where
+  pub good : GoodInside schema j wide outer beyond
+  pub widens : (T : ℕ) (rs : List Record) → allow T rs ≡ true → wide T rs ≡ true
   pub agrees : Agrees allow inner outer
-  pub join : (T : ℕ) (c : Content) (rs : List Record) → Inside schema k T c → valid (body_of rs) ≡ true → allow T rs ≡ true → further c rs ≡ beyond c rs
+  pub join : (T : ℕ) (c : Content) (rs : List Record) → Inside schema j T c → valid (body_of rs) ≡ true → allow T rs ≡ true → further c rs ≡ beyond c rs
 
 content_same : (allow : AllowsInside) (inner outer : MeansInside) (T : ℕ) (old : Option Value) → Agrees allow inner outer → content_in inner T old ≡ content_in outer T old
 content_same allow inner outer T None a = a.none T
@@ -42,14 +43,14 @@ content_same allow inner outer T (Some (ListValue vs)) a = a.none T
 content_same allow inner outer T (Some (MapValue ps)) a = a.none T
 content_same allow inner outer T (Some (MessageValue c)) a = refl
 
-module _ (schema : Schema) (k : ℕ) (allow : AllowsInside) (inner : MeansInside) (further : JoinsInside) (outer : MeansInside) (beyond : JoinsInside) (fields : List Field) (same : SameInside schema k allow inner further outer beyond) (all : list_all (field_valid schema) fields ≡ true) (differ : numbers_differ fields ≡ true) where
-  message_same : (f : Field) (old : Option Value) (T : ℕ) (rs : List Record) → FieldGiven schema k f old → f.form ≡ Singular → is_message f.value_type.kind ≡ true → ((U : ℕ) → is_of_type f.value_type.kind U ≡ true → U ≡ T) → valid (body_of rs) ≡ true → allow T rs ≡ true →
+module _ (schema : Schema) (k j : ℕ) (allow : AllowsInside) (inner : MeansInside) (further : JoinsInside) (wide : AllowsInside) (outer : MeansInside) (beyond : JoinsInside) (fields : List Field) (same : SameInside schema j allow inner further wide outer beyond) (all : list_all (field_valid schema) fields ≡ true) (differ : numbers_differ fields ≡ true) where
+  message_same : (f : Field) (old : Option Value) (T : ℕ) (rs : List Record) → FieldGiven schema j f old → f.form ≡ Singular → is_message f.value_type.kind ≡ true → ((U : ℕ) → is_of_type f.value_type.kind U ≡ true → U ≡ T) → valid (body_of rs) ≡ true → allow T rs ≡ true →
       further (content_in inner T old) rs ≡ beyond (content_in outer T old) rs
   message_same f old T rs given s m t v a =
-      same.join T (content_in inner T old) rs (content_good schema k T allow inner further f old rs same.good s m t given.old_good a) v a
-      ∙ ap (λ c. beyond c rs) (content_same allow inner outer T old same.agrees)
+      ap (λ c. further c rs) (content_same allow inner outer T old same.agrees)
+      ∙ same.join T (content_in outer T old) rs (content_good schema j T wide outer beyond f old rs same.good s m t given.old_good (same.widens T rs a)) v a
 
-  value_same : (f : Field) (old : Option Value) (p : Payload) → FieldGiven schema k f old → payload_valid p ≡ true → source_allowed k allow f.form f.value_type p ≡ true → value_joined inner further f.form f.value_type old p ≡ value_joined outer beyond f.form f.value_type old p
+  value_same : (f : Field) (old : Option Value) (p : Payload) → FieldGiven schema j f old → payload_valid p ≡ true → source_allowed k allow f.form f.value_type p ≡ true → value_joined inner further f.form f.value_type old p ≡ value_joined outer beyond f.form f.value_type old p
   value_same f old p given v a = go f.form refl a
     where
       one : f.form ≡ Singular → (kind : Kind) → f.value_type.kind ≡ kind → source_allowed k allow Singular (record f.value_type { kind = kind }) p ≡ true → one_joined inner further f.value_type kind old p ≡ one_joined outer beyond f.value_type kind old p
@@ -76,7 +77,7 @@ module _ (schema : Schema) (k : ℕ) (allow : AllowsInside) (inner : MeansInside
       go None = refl
       go (Some f) = refl
 
-  one_same : (at : ℕ → Slot) (m : ℕ) (f : Field) (p : Payload) (n : ℕ) → GoodSlots schema fields k at → field_of fields m ≡ Some f → source_good schema k allow inner further fields same.good all differ f.form f.value_type p ≡ true →
+  one_same : (at : ℕ → Slot) (m : ℕ) (f : Field) (p : Payload) (n : ℕ) → GoodSlots schema fields j at → field_of fields m ≡ Some f → source_good k allow f.form f.value_type p ≡ true →
       behind inner further at (record { number = m; payload = p } ∷ []) n ≡ behind outer beyond at (record { number = m; payload = p } ∷ []) n
   one_same at m f p n g found s = ap (λ (o : Option Value). record { value = o; unknowns = (at n).unknowns }) (go (field_of fields n) refl)
     where
@@ -87,95 +88,102 @@ module _ (schema : Schema) (k : ℕ) (allow : AllowsInside) (inner : MeansInside
       by h e false d = refl
       by h e true d =
           let own : h ≡ f = its h e (sym (field_number fields n h e) ∙ sym (eqb-true m h.number d)) in
-          let source : source_good schema k allow inner further fields same.good all differ h.form h.value_type p ≡ true = ap (λ (y : Field). source_good schema k allow inner further fields same.good all differ y.form y.value_type p) own ∙ s in
+          let source : source_good k allow h.form h.value_type p ≡ true = ap (λ (y : Field). source_good k allow y.form y.value_type p) own ∙ s in
           let (one, two) = and_parts (payload_valid p && source_allowed k allow h.form h.value_type p) (NoStray h.form h.value_type p) source in
           let (spelt, allowed) = and_parts (payload_valid p) (source_allowed k allow h.form h.value_type p) one in
-          value_same h (at n).value p (given schema k allow inner further fields same.good all differ at n h g e) spelt allowed
+          value_same h (at n).value p (given schema j wide outer beyond fields same.good all differ at n h g e) spelt allowed
 
       go : (o : Option Field) → field_of fields n ≡ o → (o >>= λ h. value_step inner further fields h (at n).value (record { number = m; payload = p })) ≡ (o >>= λ h. value_step outer beyond fields h (at n).value (record { number = m; payload = p }))
       go None e = refl
       go (Some h) e = by h e (nat_eq m h.number) refl
 
-  block_same : (at : ℕ → Slot) (m : ℕ) (f : Field) (ps : List Payload) (n : ℕ) → GoodSlots schema fields k at → field_of fields m ≡ Some f → list_all (source_good schema k allow inner further fields same.good all differ f.form f.value_type) ps ≡ true →
+  block_same : (at : ℕ → Slot) (m : ℕ) (f : Field) (ps : List Payload) (n : ℕ) → GoodSlots schema fields j at → field_of fields m ≡ Some f → list_all (source_good k allow f.form f.value_type) ps ≡ true → list_all (source_good j wide f.form f.value_type) ps ≡ true →
       behind inner further at (block m ps) n ≡ behind outer beyond at (block m ps) n
-  block_same at m f [] n g found s = refl
-  block_same at m f (p ∷ ps) n g found s =
+  block_same at m f [] n g found s w = refl
+  block_same at m f (p ∷ ps) n g found s w =
       let r : Record = record { number = m; payload = p } in
-      let (one, rest) = and_parts (source_good schema k allow inner further fields same.good all differ f.form f.value_type p) (list_all (source_good schema k allow inner further fields same.good all differ f.form f.value_type) ps) s in
+      let (one, rest) = and_parts (source_good k allow f.form f.value_type p) (list_all (source_good k allow f.form f.value_type) ps) s in
+      let (wide_one, wide_rest) = and_parts (source_good j wide f.form f.value_type p) (list_all (source_good j wide f.form f.value_type) ps) w in
       sym (more inner further at r (block m ps) n)
-      ∙ block_same (behind inner further at (r ∷ [])) m f ps n (one_behind schema k allow inner further fields same.good all differ at m f p g found one) found rest
-      ∙ ap (λ (slot : Slot). record { value = value_behind outer beyond fields n slot.value (block m ps); unknowns = slot.unknowns }) (one_same at m f p n g found one)
+      ∙ ap (λ (slot : Slot). record { value = value_behind inner further fields n slot.value (block m ps); unknowns = slot.unknowns }) (one_same at m f p n g found one)
+      ∙ block_same (behind outer beyond at (r ∷ [])) m f ps n (one_behind schema j wide outer beyond fields same.good all differ at m f p g found wide_one) found rest wide_rest
       ∙ more outer beyond at r (block m ps) n
 
-  slot_same : (at : ℕ → Slot) (r : Record) (n : ℕ) → GoodSlots schema fields k at → payload_valid r.payload ≡ true → record_allowed k allow fields r ≡ true → slot_step inner further fields r n (at n) ≡ slot_step outer beyond fields r n (at n)
-  slot_same at r n g v a =
-      ap (λ (slot : Slot). record { value = slot.value; unknowns = (at n).unknowns ++ cond (nat_eq r.number n) (unknown_payloads fields r) [] }) (go (field_of fields r.number) refl a)
+  slot_same : (at : ℕ → Slot) (r : Record) (n : ℕ) → GoodSlots schema fields j at → payload_valid r.payload ≡ true → record_allowed k allow fields r ≡ true → record_allowed j wide fields r ≡ true → slot_step inner further fields r n (at n) ≡ slot_step outer beyond fields r n (at n)
+  slot_same at r n g v a w =
+      ap (λ (slot : Slot). record { value = slot.value; unknowns = (at n).unknowns ++ cond (nat_eq r.number n) (unknown_payloads fields r) [] }) (go (field_of fields r.number) refl a w)
     where
       go : (o : Option Field) → field_of fields r.number ≡ o → (elim o [ None ↦ nat_le (payload_levels r.payload) k | Some f ↦ field_allowed k allow f.form f.value_type r.payload ]) ≡ true
+          → (elim o [ None ↦ nat_le (payload_levels r.payload) j | Some f ↦ field_allowed j wide f.form f.value_type r.payload ]) ≡ true
           → behind inner further at (elim o [ None ↦ [] | Some f ↦ map (λ p. record { number = r.number; payload = p }) (value_payloads f.form f.value_type r.payload) ]) n
           ≡ behind outer beyond at (elim o [ None ↦ [] | Some f ↦ map (λ p. record { number = r.number; payload = p }) (value_payloads f.form f.value_type r.payload) ]) n
-      go None e a = refl
-      go (Some f) e a = block_same at r.number f (value_payloads f.form f.value_type r.payload) n g e (sources_good schema k allow inner further fields same.good all differ f.form f.value_type r.payload v a)
+      go None e a w = refl
+      go (Some f) e a w = block_same at r.number f (value_payloads f.form f.value_type r.payload) n g e (sources_good k allow f.form f.value_type r.payload v a) (sources_good j wide f.form f.value_type r.payload v w)
 
-  pub entries_same : (es : Entries) (r : Record) → GoodEntries schema fields k es → payload_valid r.payload ≡ true → record_allowed k allow fields r ≡ true → changed r.number (slot_step inner further fields r) es ≡ changed r.number (slot_step outer beyond fields r) es
-  entries_same es r g v a = table_same (λ n. slot_step inner further fields r n (slot_at es n)) (λ n. slot_step outer beyond fields r n (slot_at es n)) (insert_number r.number (numbers_in es)) (λ n. slot_same (slot_at es) r n (slots_good schema fields k es differ g) v a)
+  pub entries_same : (es : Entries) (r : Record) → GoodEntries schema fields j es → payload_valid r.payload ≡ true → record_allowed k allow fields r ≡ true → record_allowed j wide fields r ≡ true → changed r.number (slot_step inner further fields r) es ≡ changed r.number (slot_step outer beyond fields r) es
+  entries_same es r g v a w = table_same (λ n. slot_step inner further fields r n (slot_at es n)) (λ n. slot_step outer beyond fields r n (slot_at es n)) (insert_number r.number (numbers_in es)) (λ n. slot_same (slot_at es) r n (slots_good schema fields j es differ g) v a w)
 
 -- CONTENTS
 
-by_records : (schema : Schema) (k T : ℕ) (allow : AllowsInside) (inner : MeansInside) (further : JoinsInside) (outer : MeansInside) (beyond : JoinsInside) (es : Entries) (rs : List Record) → SameInside schema k allow inner further outer beyond → schema_valid schema ≡ true →
-    GoodContent k (ContentOf schema T es) → valid (body_of rs) ≡ true → list_all (record_allowed k allow (known schema T)) rs ≡ true → steps_by inner further (ContentOf schema T es) rs ≡ steps_by outer beyond (ContentOf schema T es) rs
-by_records schema k T allow inner further outer beyond es [] same h g v a = refl
-by_records schema k T allow inner further outer beyond es (r ∷ rs) same h g v a =
+by_records : (schema : Schema) (k j T : ℕ) (allow : AllowsInside) (inner : MeansInside) (further : JoinsInside) (wide : AllowsInside) (outer : MeansInside) (beyond : JoinsInside) (es : Entries) (rs : List Record) → SameInside schema j allow inner further wide outer beyond → schema_valid schema ≡ true →
+    GoodContent j (ContentOf schema T es) → valid (body_of rs) ≡ true → list_all (record_allowed k allow (known schema T)) rs ≡ true → list_all (record_allowed j wide (known schema T)) rs ≡ true → steps_by inner further (ContentOf schema T es) rs ≡ steps_by outer beyond (ContentOf schema T es) rs
+by_records schema k j T allow inner further wide outer beyond es [] same h g v a w = refl
+by_records schema k j T allow inner further wide outer beyond es (r ∷ rs) same h g v a w =
     let (one, more) = and_parts (record_allowed k allow (known schema T) r) (list_all (record_allowed k allow (known schema T)) rs) a in
+    let (wide_one, wide_more) = and_parts (record_allowed j wide (known schema T) r) (list_all (record_allowed j wide (known schema T)) rs) w in
     let (spelt, rest) = first_valid r rs v in
     let all : list_all (field_valid schema) (known schema T) ≡ true = known_valid schema T h in
     let differ : numbers_differ (known schema T) ≡ true = known_differ schema T h in
-    let old : GoodEntries schema (known schema T) k es = record { deep = g.deep; types = g.types; order = g.order; low = g.low } in
-    let new : GoodEntries schema (known schema T) k (changed r.number (slot_step inner further (known schema T) r) es) =
-    entries_step schema k allow inner further (known schema T) same.good all differ es r old (number_spelled r rs v) spelt one in
-    by_records schema k T allow inner further outer beyond (changed r.number (slot_step inner further (known schema T) r) es) rs same h (record { deep = new.deep; types = new.types; order = new.order; low = new.low }) rest more
-    ∙ ap (λ es. steps_by outer beyond (ContentOf schema T es) rs) (entries_same schema k allow inner further outer beyond (known schema T) same all differ es r old spelt one)
+    let old : GoodEntries schema (known schema T) j es = record { deep = g.deep; types = g.types; order = g.order; low = g.low } in
+    let new : GoodEntries schema (known schema T) j (changed r.number (slot_step outer beyond (known schema T) r) es) =
+    entries_step schema j wide outer beyond (known schema T) same.good all differ es r old (number_spelled r rs v) spelt wide_one in
+    ap (λ es. steps_by inner further (ContentOf schema T es) rs) (entries_same schema k j allow inner further wide outer beyond (known schema T) same all differ es r old spelt one wide_one)
+    ∙ by_records schema k j T allow inner further wide outer beyond (changed r.number (slot_step outer beyond (known schema T) r) es) rs same h (record { deep = new.deep; types = new.types; order = new.order; low = new.low }) rest more wide_more
 
-abbrev Free : ℕ → Type 0
-Free k = (c : Content) (rs : List Record) → schema_valid (schema_of c) ≡ true → GoodContent k c → valid (body_of rs) ≡ true → allows (schema_of c) k (type_of c) rs ≡ true → steps k c rs ≡ steps (suc k) c rs
+-- with so many levels, and with those of the content where it has more
+abbrev Free : ℕ → ℕ → Type 0
+Free k j = (c : Content) (rs : List Record) → schema_valid (schema_of c) ≡ true → GoodContent j c → valid (body_of rs) ≡ true → allows (schema_of c) k (type_of c) rs ≡ true → k ≤ j → steps k c rs ≡ steps j c rs
 
-no_level_same : (schema : Schema) → SameInside schema 0 nothing_inside (empty_inside schema) joins_nothing (meaning schema 0) (steps 0)
-no_level_same schema = record {
-  good = no_level schema;
-  agrees = record { same = λ T rs a. absurd (true≢false (sym a)); join = λ T xs ys a b. a; none = λ T. sym (meaning_empty schema 0 T) };
+no_level_same : (schema : Schema) (j : ℕ) → schema_valid schema ≡ true → SameInside schema (suc j) nothing_inside (empty_inside schema) joins_nothing (allows schema j) (meaning schema j) (steps j)
+no_level_same schema j h = record {
+  good = one_level schema j h (steps_good j);
+  widens = λ T rs a. absurd (true≢false (sym a));
+  agrees = record { same = λ T rs a. absurd (true≢false (sym a)); join = λ T xs ys a b. a; none = λ T. sym (meaning_empty schema j T) };
   join = λ T c rs i v a. absurd (true≢false (sym a));
 }
 
-level_same : (schema : Schema) (k : ℕ) → schema_valid schema ≡ true → Free k → SameInside schema (suc k) (allows schema k) (meaning schema k) (steps k) (meaning schema (suc k)) (steps (suc k))
-level_same schema k h free = record {
-  good = one_level schema k h (steps_good k);
-  agrees = record { same = levels_free schema k; join = allows_append schema k; none = λ T. meaning_empty schema k T ∙ sym (meaning_empty schema (suc k) T) };
-  join = λ T c rs i v a. free c rs (ap schema_valid i.schema_same ∙ h) (record { deep = i.deep; types = i.types; order = i.order; low = pred (levels c) k i.low }) v (ap₂ (λ s t. allows s k t rs) i.schema_same i.type_same ∙ a);
+level_same : (schema : Schema) (k j : ℕ) → schema_valid schema ≡ true → Free k j → k ≤ j → SameInside schema (suc j) (allows schema k) (meaning schema k) (steps k) (allows schema j) (meaning schema j) (steps j)
+level_same schema k j h free l = record {
+  good = one_level schema j h (steps_good j);
+  widens = λ T rs a. allowed_within schema k j T rs a l;
+  agrees = record { same = λ T rs a. levels_within schema k j T rs a l; join = allows_append schema k; none = λ T. meaning_empty schema k T ∙ sym (meaning_empty schema j T) };
+  join = λ T c rs i v a. free c rs (ap schema_valid i.schema_same ∙ h) (record { deep = i.deep; types = i.types; order = i.order; low = pred (levels c) j i.low }) v (ap₂ (λ s t. allows s k t rs) i.schema_same i.type_same ∙ a) l;
 }
   where
     pred : (a b : ℕ) → suc a ≤ suc b → a ≤ b
     pred a b l = omega arith
 
-pub steps_free : (k : ℕ) → Free k
+-- the same as wide as the second number
+widened : (schema : Schema) (k j T : ℕ) (rs : List Record) → allows schema k T rs ≡ true → k ≤ j → allows schema j T rs ≡ true
+widened schema k j T rs a l = allowed_within schema k j T rs a l
+
+free : (k j : ℕ) → Free k j
 unfolding steps allows
-steps_free zero (ContentOf schema T es) rs h g v a = by_records schema 0 T nothing_inside (empty_inside schema) joins_nothing (meaning schema 0) (steps 0) es rs (no_level_same schema) h g v a
-steps_free (suc k) (ContentOf schema T es) rs h g v a = by_records schema (suc k) T (allows schema k) (meaning schema k) (steps k) (meaning schema (suc k)) (steps (suc k)) es rs (level_same schema k h (steps_free k)) h g v a
+free zero zero c rs h g v a l = refl
+free zero (suc j) (ContentOf schema T es) rs h g v a l =
+    by_records schema 0 (suc j) T nothing_inside (empty_inside schema) joins_nothing (allows schema j) (meaning schema j) (steps j) es rs (no_level_same schema j h) h g v a (widened schema 0 (suc j) T rs a l)
+free (suc k) zero c rs h g v a l = absurd (omega (arith, l))
+free (suc k) (suc j) (ContentOf schema T es) rs h g v a l =
+    by_records schema (suc k) (suc j) T (allows schema k) (meaning schema k) (steps k) (allows schema j) (meaning schema j) (steps j) es rs (level_same schema k j h (free k j) (omega (arith, l))) h g v a (widened schema (suc k) (suc j) T rs a l)
 
--- any number of further levels
-more_steps : (k d m : ℕ) (c : Content) (rs : List Record) → m ≡ d + k → schema_valid (schema_of c) ≡ true → GoodContent k c → valid (body_of rs) ≡ true → allows (schema_of c) k (type_of c) rs ≡ true → steps k c rs ≡ steps m c rs
-more_steps k zero m c rs e h g v a = let same : k ≡ m = omega arith in ap (λ (n : ℕ). steps n c rs) same
-more_steps k (suc d) m c rs e h g v a =
-    let low : levels c ≤ k = g.low in
-    let f : suc (d + k) ≡ m = omega arith in
-    more_steps k d (d + k) c rs refl h g v a
-    ∙ steps_free (d + k) c rs h (record { deep = g.deep; types = g.types; order = g.order; low = omega arith }) v (allowed_within (schema_of c) k (d + k) (type_of c) rs a (omega arith))
-    ∙ ap (λ (n : ℕ). steps n c rs) f
+-- whatever levels the content has
+within : (k m j : ℕ) (c : Content) (rs : List Record) → schema_valid (schema_of c) ≡ true → GoodContent j c → valid (body_of rs) ≡ true → allows (schema_of c) k (type_of c) rs ≡ true → k ≤ m → m ≤ j → steps k c rs ≡ steps m c rs
+within k m j c rs h g v a l u = free k j c rs h g v a (omega arith) ∙ sym (free m j c rs h g v (allowed_within (schema_of c) k m (type_of c) rs a l) u)
 
-pub steps_within : (k m : ℕ) (c : Content) (rs : List Record) → schema_valid (schema_of c) ≡ true → GoodContent k c → valid (body_of rs) ≡ true → allows (schema_of c) k (type_of c) rs ≡ true → k ≤ m → steps k c rs ≡ steps m c rs
-steps_within k m c rs h g v a l = more_steps k (m - k) m c rs (omega arith) h g v a
-
-pub steps_levels : (k m : ℕ) (c : Content) (rs : List Record) → schema_valid (schema_of c) ≡ true → WellTyped c → levels c ≤ k → valid (body_of rs) ≡ true → allows (schema_of c) k (type_of c) rs ≡ true → k ≤ m → steps k c rs ≡ steps m c rs
-steps_levels k m c rs h w low v a l = steps_within k m c rs h (well_good k c w low) v a l
+pub steps_within : (k m : ℕ) (c : Content) (rs : List Record) → schema_valid (schema_of c) ≡ true → WellTyped c → valid (body_of rs) ≡ true → allows (schema_of c) k (type_of c) rs ≡ true → k ≤ m → steps k c rs ≡ steps m c rs
+steps_within k m c rs h w v a l =
+    let j : ℕ = max (levels c) m in
+    within k m j c rs h (well_good j c w (omega arith)) v a l (omega arith)
 
 pub pieces : (schema : Schema) (k m T : ℕ) (front behind : List Record) → schema_valid schema ≡ true → valid (body_of front) ≡ true → allows schema k T front ≡ true → valid (body_of behind) ≡ true → allows schema LEVEL_LIMIT T behind ≡ true → k ≤ m → LEVEL_LIMIT ≤ m →
     merged (meaning schema k T front) behind ≡ meaning schema m T (front ++ behind)
@@ -184,7 +192,7 @@ pieces schema k m T front behind h v a v' a' l l' =
     let g : GoodContent k (meaning schema k T front) = meaning_good schema k T front h v a in
     let low : levels (meaning schema k T front) ≤ k = g.low in
     let j : ℕ = max (levels (meaning schema k T front)) LEVEL_LIMIT in
-    steps_within j m (meaning schema k T front) behind (ap schema_valid (meaning_schema schema k T front) ∙ h) (record { deep = g.deep; types = g.types; order = g.order; low = omega arith }) v'
+    steps_within j m (meaning schema k T front) behind (ap schema_valid (meaning_schema schema k T front) ∙ h) (meaning_typed schema k T front h v a) v'
     (ap₂ (λ s t. allows s j t behind) (meaning_schema schema k T front) (meaning_type schema k T front) ∙ allowed_within schema LEVEL_LIMIT j T behind a' (omega arith)) (omega arith)
     ∙ pieces_join schema k m T front behind a l
 
@@ -195,7 +203,7 @@ merges_join c front behind h w v a v' a' =
     let s : StaysWell (max (levels c) LEVEL_LIMIT) c (merged c front) = merged_well c front h w v a in
     let low : levels (merged c front) ≤ max (levels c) LEVEL_LIMIT = s.low in
     let j : ℕ = max (levels (merged c front)) LEVEL_LIMIT in
-    steps_levels j (max (levels c) LEVEL_LIMIT) (merged c front) behind (ap schema_valid s.schema_same ∙ h) s.typed (omega arith) v'
+    steps_within j (max (levels c) LEVEL_LIMIT) (merged c front) behind (ap schema_valid s.schema_same ∙ h) s.typed v'
     (ap₂ (λ s t. allows s j t behind) s.schema_same s.type_same ∙ allowed_within (schema_of c) LEVEL_LIMIT j (type_of c) behind a' (omega arith)) (omega arith)
     ∙ sym (steps_behind (max (levels c) LEVEL_LIMIT) c (merged c front) front behind refl s.schema_same)
 

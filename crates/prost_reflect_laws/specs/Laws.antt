@@ -86,9 +86,9 @@ StepsWell = (k : ℕ) (c : Content) (rs : List Record) → schema_valid (schema_
 abbrev pub MergedWell : Type 0
 MergedWell = (c : Content) (rs : List Record) → schema_valid (schema_of c) ≡ true → WellTyped c → valid (body_of rs) ≡ true → allows (schema_of c) LEVEL_LIMIT (type_of c) rs ≡ true → StaysWell (max (levels c) LEVEL_LIMIT) c (merged c rs)
 
--- More levels change nothing of what allowed records make of a content.
+-- More levels change nothing of what allowed records make of a content, however deep that nests.
 abbrev pub StepsFree : Type 0
-StepsFree = (k m : ℕ) (c : Content) (rs : List Record) → schema_valid (schema_of c) ≡ true → WellTyped c → levels c ≤ k → valid (body_of rs) ≡ true → allows (schema_of c) k (type_of c) rs ≡ true → k ≤ m → steps k c rs ≡ steps m c rs
+StepsFree = (k m : ℕ) (c : Content) (rs : List Record) → schema_valid (schema_of c) ≡ true → WellTyped c → valid (body_of rs) ≡ true → allows (schema_of c) k (type_of c) rs ≡ true → k ≤ m → steps k c rs ≡ steps m c rs
 
 -- Pieces, at any depth: records that the limit allows, merged into what any allowed records mean, mean what all of them mean.
 abbrev pub Pieces : Type 0

@@ -12,7 +12,7 @@ ghost use Rattle.prost_reflect_laws.specs.Examples.Contents.{Schemas, Validity, 
 ghost use Rattle.prost_reflect_laws.specs.Examples.Editing.{Merging, OneNumber, Access, Paths};
 ghost use Rattle.prost_reflect_laws.specs.Examples.Reductions.{Reductions, NoReductions, Passing};
 ghost use Rattle.prost_reflect_laws.specs.Examples.Faults.{Faults};
-ghost use Rattle.prost_reflect_laws.specs.Laws.{OneReading, ReadIsSpells, WrittenSpells, AcceptsIsTest, MeaningBySteps, Commute, SameBehind, LevelsFree, AllowedFurther, WrittenIsRead, EntriesMean, ScalarBack, MessageBack, ListBack, PackedBack, MapBack, RecordsMean, EncodedSpells, Canonicity, RecordsAllowed, RoundTrip, MergedMeans, PiecesJoin, ReadIsValid, MeaningOrdered, StrayBack, KeptWell, KeptContent, SetWell, MeaningTyped, MeaningLevels, NormalForm, StepsWell, MergedWell, StepsFree, Pieces, MergesJoin, WrittenPieces, DecodedWell};
+ghost use Rattle.prost_reflect_laws.specs.Laws.{OneReading, ReadIsSpells, WrittenSpells, AcceptsIsTest, MeaningBySteps, Commute, SameBehind, LevelsFree, AllowedFurther, WrittenIsRead, EntriesMean, ScalarBack, MessageBack, ListBack, PackedBack, MapBack, RecordsMean, EncodedSpells, RecordsAllowed, MergedMeans, PiecesJoin, ReadIsValid, MeaningOrdered, StrayBack, KeptWell, KeptContent, SetWell, MeaningTyped, MeaningLevels, StepsWell, MergedWell, StepsFree, MergesJoin, WrittenPieces, DecodedWell};
 
 pub mod faults;
 pub mod instances;
@@ -112,19 +112,9 @@ pub fn encoded_spells()
     ensures { EncodedSpells }
 {}
 
-/// Contents of one type are written equally only if they are equal.
-pub fn canonicity()
-    ensures { Canonicity }
-{}
-
 /// The records of a content are allowed exactly within its levels.
 pub fn records_allowed()
     ensures { RecordsAllowed }
-{}
-
-/// Bytes that were written are accepted exactly within so many levels, and mean what was written.
-pub fn round_trip()
-    ensures { RoundTrip }
 {}
 
 /// Records merged into a content mean what they mean behind its own.
@@ -253,11 +243,6 @@ pub fn meaning_levels()
     ensures { MeaningLevels }
 {}
 
-/// What was read is written so that it is read as the same.
-pub fn normal_form()
-    ensures { NormalForm }
-{}
-
 /// Records that are allowed keep a content well-typed, and of the levels that are left.
 pub fn steps_well()
     ensures { StepsWell }
@@ -271,11 +256,6 @@ pub fn merged_well()
 /// More levels change nothing of what allowed records make of a content.
 pub fn steps_free()
     ensures { StepsFree }
-{}
-
-/// Records merged into what others mean are read behind them, at any depth.
-pub fn pieces()
-    ensures { Pieces }
 {}
 
 /// Pieces merged one behind the other are merged as one.

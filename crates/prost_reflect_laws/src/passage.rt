@@ -1,27 +1,16 @@
 //! What is proved of reduction: each function has no body, and its contract is a law.
 
-ghost use Rattle.prost_reflect_laws.specs.Passage.{OlderAccepts, Passage, EditPassage, AcrossExtensions};
+ghost use Rattle.prost_reflect_laws.specs.Passage.{EditPassage, AcrossExtensions};
 ghost use Rattle.prost_reflect_laws.specs.Reducing.{ReducedIsTest};
 ghost use Rattle.prost_reflect_laws.specs.ReducingExamples.{WorkedReductions};
 ghost use Rattle.prost_reflect_laws.specs.Examples.Passages.{Passages, EditPassages, Tested, FailedPassages, ExtensionAgainstField};
-
-/// What a newer message type accepts, a compatible reduction of it accepts.
-pub fn older_accepts()
-    ensures { OlderAccepts }
-{}
-
-/// What the bytes of a newer type mean to a reduction of it is written as bytes that mean the same to
-/// the newer one.
-pub fn passage()
-    ensures { Passage }
-{}
 
 /// A value that is set at a path through a reduction is set there in what the newer type reads.
 pub fn edit_passage()
     ensures { EditPassage }
 {}
 
-/// What `older_accepts`, `passage` and `edit_passage` say holds also where fields of one type are extensions
+/// What is said of passage and of edits holds also where fields of one type are extensions
 /// to the other, if it would be a reduction were they all fields.
 pub fn across_extensions()
     ensures { AcrossExtensions }

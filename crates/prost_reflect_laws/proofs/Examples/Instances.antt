@@ -18,7 +18,7 @@ use Rattle.prost_reflect_wire.proofs.Sound.{read_spells}
 use Rattle.prost_reflect_laws.proofs.Accepted.{accepts_is_test}
 use Rattle.prost_reflect_laws.proofs.GoodSteps.{meaning_typed, meaning_levels}
 use Rattle.prost_reflect_laws.proofs.NormalForms.{steps_well, merged_well, normal_form, decoded_well}
-use Rattle.prost_reflect_laws.proofs.StepsFree.{steps_levels, pieces, merges_join, written_pieces}
+use Rattle.prost_reflect_laws.proofs.StepsFree.{steps_within, pieces, merges_join, written_pieces}
 use Rattle.prost_reflect_laws.proofs.Pieces.{pieces_join, merged_means}
 use Rattle.prost_reflect_laws.proofs.Kept.{kept_well}
 use Rattle.prost_reflect_laws.proofs.Setting.{set_well}
@@ -94,7 +94,7 @@ of_meaning = record {
   stepped = steps_well 1 sample behind refl sample_typed (lit≤ tt) refl refl;
   merged_well = (sample_low, behind_limit);
   merged_stays = merged_well sample behind refl sample_typed refl refl;
-  steps_free = steps_levels 1 2 sample behind refl sample_typed (lit≤ tt) refl refl (lit≤ tt);
+  steps_free = steps_within 1 2 sample behind refl sample_typed refl refl (lit≤ tt);
   pieces = (front_taken, behind_limit, lit≤ tt, lit≤ tt);
   pieces_merged = pieces examples 1 LEVEL_LIMIT my_message front behind refl refl refl refl refl (lit≤ tt) (lit≤ tt);
   pieces_join = pieces_join examples 1 LEVEL_LIMIT my_message front behind refl (lit≤ tt);

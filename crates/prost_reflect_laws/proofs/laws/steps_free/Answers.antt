@@ -1,5 +1,5 @@
-use Rattle.prost_reflect_laws.proofs.StepsFree.{steps_levels}
+use Rattle.prost_reflect_laws.proofs.StepsFree.{steps_within}
 use Rattle.prost_reflect_laws.proofs.laws.steps_free.Goals as goal
 
 pub returns : goal.returns
-returns c = steps_levels
+returns c = steps_within
