@@ -1,24 +1,34 @@
 -- What a field has where nothing is stored, by its row.
-use Rattle.std.proofs.Common.{◌≡◌, ℕ, ◌<◌, Bool, true, false, Option, Some, None, length, refl, ap, sym, ◌∙◌, subst, true≢false}
+use Rattle.std.proofs.Common.{◌≡◌, ℕ, ◌<◌, Bool, true, false, cond, IsTrue, Option, Some, None, length, refl, ap, sym, ◌∙◌, subst, true≢false}
 use Rattle.std.proofs.lemmas.Bool.{ltb-true, and_parts}
 use Rattle.std.proofs.lemmas.List.{length-map}
-use Rattle.std.specs.Prelude.{IsSome}
+use Rattle.std.specs.Prelude.{◌↔◌, IsSome, slice_get}
+use Rattle.std.specs.declared.alloc.Global.{Global}
+use Rattle.std.specs.declared.rc.Rc.{Rc}
 use Rattle.prost_reflect_wire.specs.Scalar.{Scalar}
-use Rattle.prost_reflect_wire.specs.Schema.{Kind, ScalarOf, MessageOf, GroupOf, ValueType, FieldForm, Singular, Repeated, MapFrom, Field, Schema, kind_valid, field_valid, is_message, is_map}
-use Rattle.prost_reflect_wire.specs.Content.{Value, ScalarValue, MessageValue, ListValue, MapValue, NoValues, NoPairs, empty}
+use Rattle.prost_reflect_wire.specs.Schema.{Kind, ScalarOf, MessageOf, GroupOf, ValueType, FieldForm, Singular, Repeated, MapFrom, Field, Schema, known, kind_valid, field_valid, default_valid, is_map, is_singular}
+use Rattle.prost_reflect_wire.specs.Content.{Value, ScalarValue, MessageValue, ListValue, MapValue, NoValues, Item, NoPairs, Pair, empty}
 use Rattle.prost_reflect_wire.specs.Edit.{default_of, default_value}
-use Rattle.prost_reflect_laws.proofs.Checked.{checked_field}
+use Rattle.prost_reflect_wire.specs.Typing.{is_empty_value, value_valid}
+use Rattle.prost_reflect_laws.proofs.Checked.{checked_field, found_valid, known_valid}
+use Rattle.prost_reflect_tables.proofs.Fields.{known_row}
+use Rattle.prost_reflect_tables.proofs.Keeping.{schema_is_valid}
 use Rattle.prost_reflect_tables.specs.declared.tables.Cardinality.{Cardinality}
 use Rattle.prost_reflect_tables.specs.declared.tables.Cardinality.TheVariants.{Optional, Required, Repeated as RepeatedLabel}
 use Rattle.prost_reflect_tables.specs.declared.tables.TableKind.{TableKind}
 use Rattle.prost_reflect_tables.specs.declared.tables.TableKind.TheVariants as kinds
+use Rattle.prost_reflect_tables.specs.Linked.{is_linked}
 use Rattle.prost_reflect_tables.specs.Linking.{is_repeated}
-use Rattle.prost_reflect_tables.specs.Rows.{FieldRow, MessageRow, EnumRow, TableRows}
+use Rattle.prost_reflect_tables.specs.Places.{fields_at}
+use Rattle.prost_reflect_tables.specs.Rows.{FieldRow, MessageRow, TableRows}
 use Rattle.prost_reflect_tables.specs.Shown.{schema_from, schema_field, schema_kind, own_type, form_of, map_entry}
 use Rattle.prost_reflect_pool.specs.SharedPools.{pool_rows}
-use Rattle.prost_reflect_pool.specs.MessageTypes.{schema_at}
-use Rattle.prost_reflect_pool.specs.declared.pooled_type.PooledType.{PooledType}
+use Rattle.prost_reflect_pool.specs.declared.pool.LinkedPool.{LinkedPool}
+use Rattle.prost_reflect.specs.Defaults.{row_default, single_place, place_named, IsDefaultBy, IsEmptyOf, IsRowDefault}
 use Rattle.prost_reflect.specs.Scalars.{plain_kind}
+use Rattle.prost_reflect.specs.Variants.{message_in}
+use Rattle.prost_reflect.specs.View.{value_of}
+use Rattle.prost_reflect.specs.declared.value.Value.{Value as Owned, out-Value}
 use Rattle.prost_reflect.proofs.PlainKinds.{single_row, own_of}
 
 -- LISTS AND MAPS
@@ -59,16 +69,107 @@ module _ (schema : Schema) (rows : TableRows) (row : FieldRow) (single : is_repe
       go t kind some = refl
 
 -- the message type that a field of one message names stands in the rows
-pub place_in_range : (t : PooledType) (row : FieldRow) (T : ℕ) → field_valid (schema_at t) (schema_field (pool_rows t.pool) row) ≡ true → is_repeated row.cardinality ≡ false → row.kind ≡ kinds.Message T
-    → T < length (pool_rows t.pool).messages
+pub place_in_range : (rows : TableRows) (row : FieldRow) (T : ℕ) → field_valid (schema_from rows) (schema_field rows row) ≡ true → is_repeated row.cardinality ≡ false → row.kind ≡ kinds.Message T → T < length rows.messages
 unfolding schema_from
-place_in_range t row T valid single is =
-    let checked = checked_field (schema_at t) (schema_field (pool_rows t.pool) row) valid in
-    let within : T < length (schema_at t) = go row.is_group
-    (ap (λ kind. kind_valid (schema_at t) (schema_kind (pool_rows t.pool).enums kind row.is_group)) (sym is)
-    ∙ ap (λ (v : ValueType). kind_valid (schema_at t) v.kind) (sym (own_of (pool_rows t.pool) row (single_row (pool_rows t.pool) row single))) ∙ checked.kind) in
+place_in_range rows row T valid single is =
+    let checked = checked_field (schema_from rows) (schema_field rows row) valid in
+    let within : T < length (schema_from rows) = go row.is_group
+    (ap (λ kind. kind_valid (schema_from rows) (schema_kind rows.enums kind row.is_group)) (sym is)
+    ∙ ap (λ (v : ValueType). kind_valid (schema_from rows) v.kind) (sym (own_of rows row (single_row rows row single))) ∙ checked.kind) in
     rw length-map at within
   where
-    go : (g : Bool) → kind_valid (schema_at t) (schema_kind (pool_rows t.pool).enums (kinds.Message T) g) ≡ true → T < length (schema_at t)
-    go true h = ltb-true T (length (schema_at t)) (and_parts _ _ h).0
-    go false h = ltb-true T (length (schema_at t)) (and_parts _ _ h).0
+    go : (g : Bool) → kind_valid (schema_from rows) (schema_kind rows.enums (kinds.Message T) g) ≡ true → T < length (schema_from rows)
+    go true h = ltb-true T (length (schema_from rows)) (and_parts _ _ h).0
+    go false h = ltb-true T (length (schema_from rows)) (and_parts _ _ h).0
+
+-- A ROW'S DEFAULT
+
+pub row_checked : (rows : TableRows) (T i : ℕ) (row : FieldRow) → is_linked rows ≡ true → slice_get (fields_at rows T) i ≡ Some row → field_valid (schema_from rows) (schema_field rows row) ≡ true
+row_checked rows T i row linked at = found_valid (schema_from rows) (known (schema_from rows) T) row.number (schema_field rows row) (known_valid (schema_from rows) T (schema_is_valid rows linked)) (known_row rows T i row linked at)
+
+pub elements_default : (rows : TableRows) (row : FieldRow) (v : Value) → is_repeated row.cardinality ≡ true → (is_map (schema_field rows row).form ≡ true → v ≡ MapValue NoPairs) → (is_map (schema_field rows row).form ≡ false → v ≡ ListValue NoValues) → v ≡ row_default rows row
+elements_default rows row v many map list = go (is_map (schema_field rows row).form) refl
+  where
+    go : (b : Bool) → is_map (schema_field rows row).form ≡ b → v ≡ row_default rows row
+    go true e = map e ∙ sym (map_default (schema_from rows) (schema_field rows row).form (schema_field rows row).value_type e)
+    go false e = list e ∙ sym (list_default (schema_from rows) rows row e many)
+
+-- a default fits its field
+pub default_fits : (schema : Schema) (f : Field) → field_valid schema f ≡ true → value_valid f (default_value schema f.form f.value_type) ≡ true
+default_fits schema f valid = go f.form f.value_type.kind refl refl
+  where
+    go : (form : FieldForm) (kind : Kind) → f.form ≡ form → f.value_type.kind ≡ kind → value_valid f (default_value schema f.form f.value_type) ≡ true
+    go Singular (ScalarOf k) e h = rw (e, h) (ap (λ kind. default_valid kind f.value_type.default) (sym h) ∙ (checked_field schema f valid).default)
+    go Singular (MessageOf T) e h = rw (e, h) refl
+    go Singular (GroupOf T) e h = rw (e, h) refl
+    go (Repeated packed) kind e h = rw e refl
+    go (MapFrom key) kind e h = rw e refl
+
+-- an empty value is the default of a list or a map
+pub empty_is : (schema : Schema) (form : FieldForm) (t : ValueType) (v : Value) → is_singular form ≡ false → IsTrue (is_empty_value form v) ↔ (v ≡ default_value schema form t)
+empty_is schema Singular t v h = absurd (true≢false h)
+empty_is schema (Repeated packed) t (ListValue NoValues) h = (λ yes. refl, λ is. refl)
+empty_is schema (Repeated packed) t (ListValue (Item v vs)) h = (λ yes. absurd (true≢false (sym yes)), λ is. cc)
+empty_is schema (Repeated packed) t (MapValue NoPairs) h = (λ yes. absurd (true≢false (sym yes)), λ is. cc)
+empty_is schema (Repeated packed) t (MapValue (Pair k v ps)) h = (λ yes. absurd (true≢false (sym yes)), λ is. cc)
+empty_is schema (Repeated packed) t (ScalarValue s) h = (λ yes. absurd (true≢false (sym yes)), λ is. cc)
+empty_is schema (Repeated packed) t (MessageValue c) h = (λ yes. absurd (true≢false (sym yes)), λ is. cc)
+empty_is schema (MapFrom key) t (ListValue NoValues) h = (λ yes. absurd (true≢false (sym yes)), λ is. cc)
+empty_is schema (MapFrom key) t (ListValue (Item v vs)) h = (λ yes. absurd (true≢false (sym yes)), λ is. cc)
+empty_is schema (MapFrom key) t (MapValue NoPairs) h = (λ yes. refl, λ is. refl)
+empty_is schema (MapFrom key) t (MapValue (Pair k v ps)) h = (λ yes. absurd (true≢false (sym yes)), λ is. cc)
+empty_is schema (MapFrom key) t (ScalarValue s) h = (λ yes. absurd (true≢false (sym yes)), λ is. cc)
+empty_is schema (MapFrom key) t (MessageValue c) h = (λ yes. absurd (true≢false (sym yes)), λ is. cc)
+
+pub many_form : (rows : TableRows) (row : FieldRow) → is_repeated row.cardinality ≡ true → is_singular (schema_field rows row).form ≡ false
+many_form rows row many = go row.cardinality (map_entry rows.messages row row.cardinality) many
+  where
+    go : (c : Cardinality) (entry : Option MessageRow) → is_repeated c ≡ true → is_singular (form_of rows.enums row c entry) ≡ false
+    go Optional entry many = absurd (true≢false (sym many))
+    go Required entry many = absurd (true≢false (sym many))
+    go RepeatedLabel None many = refl
+    go RepeatedLabel (Some m) many = refl
+
+-- WHICH VALUES ARE A ROW'S DEFAULT
+
+module _ (pool : Rc LinkedPool Global) (row : FieldRow) (v : Owned) where
+  abbrev By : Option ℕ → Type 0
+  By o = IsDefaultBy pool o (row_default (pool_rows pool) row) v
+
+  many_place : is_repeated row.cardinality ≡ true → single_place row ≡ None
+  many_place many = ap (λ b. cond b None (place_named row.kind)) many
+
+  message_place : (T : ℕ) → is_repeated row.cardinality ≡ false → row.kind ≡ kinds.Message T → single_place row ≡ Some T
+  message_place T single is = ap (λ b. cond b None (place_named row.kind)) single ∙ ap place_named is
+
+  scalar_place : is_repeated row.cardinality ≡ false → IsSome (plain_kind row.kind) → single_place row ≡ None
+  scalar_place single some = ap (λ b. cond b None (place_named row.kind)) single ∙ go row.kind some
+    where
+      go : (kind : TableKind) → IsSome (plain_kind kind) → place_named kind ≡ None
+      go (kinds.Message T) some = absurd (true≢false (sym some))
+      go kind some = refl
+
+  -- made
+  pub elements_are : is_repeated row.cardinality ≡ true → value_of v ≡ row_default (pool_rows pool) row → IsRowDefault pool row v
+  elements_are many is = subst By (sym (many_place many)) is
+
+  pub message_is : (T : ℕ) → is_repeated row.cardinality ≡ false → row.kind ≡ kinds.Message T → IsEmptyOf pool T (message_in (out-Value v)) → IsRowDefault pool row v
+  message_is T single kind is = subst By (sym (message_place T single kind)) is
+
+  pub scalar_is : is_repeated row.cardinality ≡ false → IsSome (plain_kind row.kind) → value_of v ≡ row_default (pool_rows pool) row → IsRowDefault pool row v
+  scalar_is single some is = subst By (sym (scalar_place single some)) is
+
+  -- tested
+  pub elements_tested : (b : Bool) → is_repeated row.cardinality ≡ true → b ≡ is_empty_value (schema_field (pool_rows pool) row).form (value_of v) → IsTrue b ↔ IsRowDefault pool row v
+  elements_tested b many is =
+      let rows = pool_rows pool in
+      let test = empty_is (schema_from rows) (schema_field rows row).form (schema_field rows row).value_type (value_of v) (many_form rows row many) in
+      (λ yes. elements_are many (test.0 (sym is ∙ yes)), λ h. is ∙ test.1 (subst By (many_place many) h))
+
+  pub message_tested : (T : ℕ) (b : Bool) → is_repeated row.cardinality ≡ false → row.kind ≡ kinds.Message T → IsTrue b ↔ IsEmptyOf pool T (message_in (out-Value v)) → IsTrue b ↔ IsRowDefault pool row v
+  message_tested T b single kind is = (λ yes. message_is T single kind (is.0 yes), λ h. is.1 (subst By (message_place T single kind) h))
+
+  pub scalar_tested : (s : Scalar) (b : Bool) → is_repeated row.cardinality ≡ false → IsSome (plain_kind row.kind) → s ≡ (own_type (pool_rows pool).enums row).default → IsTrue b ↔ (value_of v ≡ ScalarValue s) → IsTrue b ↔ IsRowDefault pool row v
+  scalar_tested s b single some default is =
+      let same : ScalarValue s ≡ row_default (pool_rows pool) row = ap ScalarValue default ∙ sym (scalar_default (schema_from (pool_rows pool)) (pool_rows pool) row single some) in
+      (λ yes. scalar_is single some (is.0 yes ∙ same), λ h. is.1 (subst By (scalar_place single some) h ∙ sym same))

@@ -2,7 +2,6 @@
 use Rattle.std.proofs.Common.{◌≡◌, ℕ, Bool, true, false, cond, List, Option, Some, None, refl, ap, sym, ◌∙◌}
 use Rattle.std.specs.Option.{option_map, option_and_then, is_some}
 use Rattle.prost_reflect_wire.specs.Schema.{Field, field_of, passes}
-use Rattle.prost_reflect_wire.specs.Content as contents
 use Rattle.prost_reflect_wire.specs.Content.{Slot, entries_of, value_at}
 use Rattle.prost_reflect_wire.specs.Typing.{kept, kept_inside, kept_value, is_field_default}
 use Rattle.prost_reflect_fields.specs.declared.slot.FieldSlot.{FieldSlot}

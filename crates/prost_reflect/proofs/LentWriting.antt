@@ -5,7 +5,7 @@ use Rattle.std.specs.Prelude.{unwrap_or}
 use Rattle.prost_reflect_wire.specs.Schema.{Field}
 use Rattle.prost_reflect_fields.specs.declared.slot.FieldSlot.{FieldSlot}
 use Rattle.prost_reflect_fields.specs.declared.slot.FieldSlot.TheVariants.{Value as ValueSlot, Unknown, Both}
-use Rattle.prost_reflect_fields.specs.FieldSlots.{has_value, with_value_in, revalued, left_in, put_slot, put_value, without_values, with_slot, with_value}
+use Rattle.prost_reflect_fields.specs.FieldSlots.{has_value, with_value_in, revalued, left_in, put_slot, put_value, with_slot, with_value}
 use Rattle.prost_reflect_fields.specs.Items.{IsAscending, item_at}
 use Rattle.prost_reflect_fields.specs.Known.{known_of, are_siblings}
 use Rattle.prost_reflect_fields.specs.Sound.{set_value_at, prepared}

@@ -26,6 +26,7 @@ pub mod Encodings
 pub mod Present
 pub mod Defaults
 pub mod Keys
+pub mod Valid
 pub mod Copied
 pub mod CopiedPairs
 pub mod StoredViews
@@ -37,8 +38,13 @@ mod WrittenLists
 pub mod PlaceRanges
 pub mod Had
 pub mod OwnFields
+mod OwnExtensions
 pub mod FieldDefaults
+pub mod OwnDefaults
 pub mod Shows
 pub mod LentWriting
 pub mod UnknownLists
 pub mod OwnRows
+mod ReadBack
+mod MergedBytes
+mod Passing

@@ -177,7 +177,7 @@ scalar_fault m levels n w kind e rest field refused =
     scalar_refused (content_of m) levels n w e rest field.field field.scalar_kind (ap (λ fields. field_of fields n) (known_in m) ∙ field.found) field.form field.kind_is
     (own_fault refused.scalar_kind field.scalar_kind w e rest (plain_payloads (pool_rows (message_type_of m).pool).enums kind refused.scalar_kind field.scalar_kind refused.plain field.named) refused.fault)
 
--- only a want of memory keeps a stray from being read
+-- only being out of memory keeps a stray from being read
 pub unknown_fault : (m : DynamicMessage) (levels n : ℕ) (w : WireType) (e : DecodeError) (rest : List ℕ) → StaysUnknown (known_of (message_type_of m)) levels n w rest → ValueFault e n w levels rest →
     ((p : Payload) (after : List ℕ) → ValueFront n w levels p rest after → e ≡ errors.OutOfMemory) → e ≢ errors.OutOfMemory → StandsBehindKey (content_of m) levels n w e rest
 unknown_fault m levels n w e rest (inl absent) fault only not_memory = unknown_refused (content_of m) levels n w e rest (ap (λ fields. field_of fields n) (known_in m) ∙ absent) fault

@@ -1,18 +1,19 @@
 -- Fields of a message's own type, and what their numbers are to it.
-use Rattle.std.proofs.Common.{◌≡◌, ℕ, Bool, true, false, cond, List, Option, Some, None, refl, ap, ap₂, sym, ◌∙◌, subst, unwrap_or, true≢false}
+use Rattle.std.proofs.Common.{◌≡◌, ℕ, Bool, true, false, cond, List, Option, Some, None, refl, ap, sym, ◌∙◌, unwrap_or, true≢false}
 use Rattle.std.specs.Option.{option_map, option_and_then, is_some}
 use Rattle.std.specs.Prelude.{slice_get}
-use Rattle.prost_reflect_wire.specs.Schema.{Field, known, field_of}
+use Rattle.prost_reflect_wire.specs.Schema.{field_of}
 use Rattle.prost_reflect_tables.specs.Rows.{FieldRow}
 use Rattle.prost_reflect_tables.specs.Places.{fields_at, row_of, place_of}
 use Rattle.prost_reflect_tables.specs.Shown.{schema_field}
+use Rattle.prost_reflect_pool.specs.Lookups.{named_field}
 use Rattle.prost_reflect_pool.specs.SharedPools.{pool_rows}
-use Rattle.prost_reflect_pool.specs.MessageTypes.{schema_at, type_at, fields_of}
+use Rattle.prost_reflect_pool.specs.MessageTypes.{fields_of}
 use Rattle.prost_reflect_pool.specs.declared.pooled_type.PooledType.{PooledType}
 use Rattle.prost_reflect_pool.proofs.EqualTypes.{rows_same}
 use Rattle.prost_reflect_fields.specs.Known.{known_of, is_known}
 use Rattle.prost_reflect_tables.proofs.Fields.{row_at_place, row_of_number, no_row}
-use Rattle.prost_reflect.specs.Access.{IsOwnField, is_field_number, NumberFound, NumberMissing}
+use Rattle.prost_reflect.specs.Access.{IsOwnField, is_field_number, number_named, NumberFound, NumberMissing}
 use Rattle.prost_reflect.specs.Named.{NamesEqual}
 use Rattle.prost_reflect.specs.NamedFields as named
 use Rattle.prost_reflect.specs.declared.descriptor.message.MessageDescriptor.{MessageDescriptor}
@@ -55,6 +56,20 @@ number_known t n h = some_known (schema_field (pool_rows t.pool)) (row_of (field
     declared : (o : Option FieldRow) → is_declared o ≡ true → is_some o ≡ true
     declared None h = absurd (true≢false (sym h))
     declared (Some f) h = refl
+
+-- so is that of a field that a name finds
+pub named_known : (t : PooledType) (name : List ℕ) (n : ℕ) → number_named t name ≡ Some n → is_known (known_of t) n ≡ true
+named_known t name n h = go (named_field (fields_of t) name) h
+  where
+    there : (i : ℕ) (o : Option FieldRow) → slice_get (fields_of t) i ≡ o → option_map (λ f. f.number) o ≡ Some n → is_known (known_of t) n ≡ true
+    there i None at e = cc
+    there i (Some f) at e =
+        let same : f.number ≡ n = cc in
+        ap is_some (ap (field_of (known_of t)) (sym same) ∙ known_of_row t i f at)
+
+    go : (o : Option ℕ) → option_and_then (λ i. option_map (λ f. f.number) (slice_get (fields_of t) i)) o ≡ Some n → is_known (known_of t) n ≡ true
+    go None e = cc
+    go (Some i) e = there i (slice_get (fields_of t) i) refl e
 
 -- LOOKING UP
 

@@ -1,7 +1,8 @@
 -- Scalars that are borrowed from values.
-use Rattle.std.proofs.Common.{◌≡◌, true, false, List, Option, Some, None, refl, ap, sym, ◌∙◌, subst, true≢false}
-use Rattle.std.specs.Prelude.{IsSome, IsSomeAnd}
-use Rattle.prost_reflect_wire.specs.Scalar.{Scalar, ScalarKind, StringKind, BytesKind, kind_default}
+use Rattle.std.proofs.Common.{◌≡◌, true, false, Bool, IsTrue, List, Option, Some, None, refl, ap, sym, ◌∙◌, subst, true≢false}
+use Rattle.std.specs.Prelude.{◌↔◌, IsSome, IsSomeAnd}
+use Rattle.prost_reflect_wire.specs.Scalar.{Scalar, ScalarKind, StringKind, BytesKind, kind_default, scalar_eq}
+use Rattle.prost_reflect_wire.specs.Deciding.{scalar_decides}
 use Rattle.prost_reflect_wire.specs.Schema.{Kind, ScalarOf, MessageOf, GroupOf}
 use Rattle.prost_reflect_wire.specs.Content.{Value, ScalarValue, MessageValue, ListValue, MapValue}
 use Rattle.prost_reflect_wire.specs.Typing.{element_valid}
@@ -61,3 +62,23 @@ kind_blank (GroupOf T) s h = subst IsBlank (sym h) tt
 pub kind_shown : (enums : List EnumRow) (kind : TableKind) (s : Scalar) (v : OwnedValue) → IsSome (plain_kind kind) → s ≡ schema_default None (schema_kind enums kind false) → value_of v ≡ ScalarValue s → IsKindDefault (schema_kind enums kind false) v
 kind_shown enums (kinds.Message T) s v some h is = absurd (true≢false (sym some))
 kind_shown enums kind s v some h is = is ∙ ap ScalarValue h
+
+-- TESTS
+
+-- a value is a scalar where what it holds is equal to it
+pub scalar_tested : (v : Value) (s t : Scalar) (b : Bool) → Some s ≡ scalar_in v → b ≡ scalar_eq s t → IsTrue b ↔ (v ≡ ScalarValue t)
+scalar_tested v s t b held is =
+    let seen : ScalarValue s ≡ v = scalar_seen v s held in
+    (λ yes. sym seen ∙ ap ScalarValue ((scalar_decides s t).0 (sym is ∙ yes)), λ same. is ∙ (scalar_decides s t).1 (held_same s t (seen ∙ same)))
+  where
+    held_same : (s t : Scalar) → ScalarValue s ≡ ScalarValue t → s ≡ t
+    held_same s t h = cc
+
+pub no_scalar_tested : (v : Value) (t : Scalar) → None ≡ scalar_in v → IsTrue false ↔ (v ≡ ScalarValue t)
+no_scalar_tested v t none = (λ yes. absurd (true≢false (sym yes)), λ same. absurd (scalar_there v none (subst IsScalar (sym same) tt)))
+
+-- a key is a scalar where it is equal to it
+pub key_tested : (k s t : Scalar) (d : Value) (b : Bool) → s ≡ k → ScalarValue t ≡ d → b ≡ scalar_eq s t → IsTrue b ↔ (ScalarValue k ≡ d)
+key_tested k s t d b same default is =
+    let test = scalar_tested (ScalarValue k) s t b (ap Some same) is in
+    (λ yes. test.0 yes ∙ default, λ equal. test.1 (equal ∙ sym default))

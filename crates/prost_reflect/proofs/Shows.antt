@@ -1,22 +1,19 @@
 -- What a message shows at a number is what its content has there, or else the field's default.
-use Rattle.std.proofs.Common.{◌≡◌, ℕ, Bool, true, false, cond, Option, Some, None, unwrap_or, refl, ap, sym, ◌∙◌}
+use Rattle.std.proofs.Common.{◌≡◌, Bool, true, false, cond, Option, Some, None, refl, ap, sym, ◌∙◌}
 use Rattle.std.specs.Cow.{cow_value}
-use Rattle.std.specs.declared.borrow.Cow.{Cow}
 use Rattle.std.specs.Prelude.{IfSome}
-use Rattle.std.specs.Option.{option_map, option_and_then}
+use Rattle.std.specs.Option.{option_map}
 use Rattle.prost_reflect_wire.specs.Schema.{Kind, ScalarOf, MessageOf, GroupOf, FieldForm, Singular, Repeated, MapFrom, Field, Schema, field_of, field_valid, passes}
 use Rattle.prost_reflect_wire.specs.Content as contents
 use Rattle.prost_reflect_wire.specs.Content.{entries_of, value_at}
-use Rattle.prost_reflect_wire.specs.Edit.{default_value, value_or_default}
+use Rattle.prost_reflect_wire.specs.Edit.{default_value}
 use Rattle.prost_reflect_wire.specs.Typing.{kept, kept_inside, is_field_default}
 use Rattle.prost_reflect_wire.proofs.Survivors.{field_number}
 use Rattle.prost_reflect_pool.specs.MessageTypes.{schema_at}
 use Rattle.prost_reflect_fields.specs.FieldSlots.{value_at as stored_at}
-use Rattle.prost_reflect_fields.specs.Items.{IsAscending}
 use Rattle.prost_reflect_fields.specs.Known.{known_of}
-use Rattle.prost_reflect.specs.Access.{saying, ShowsOr, IsDefaultAt, ShownContent}
+use Rattle.prost_reflect.specs.Access.{ShowsOr, IsDefaultAt, ShownContent}
 use Rattle.prost_reflect.specs.View.{value_of, content_of, message_type_of, stored_in}
-use Rattle.prost_reflect.specs.declared.message.DynamicMessage.{DynamicMessage}
 use Rattle.prost_reflect.specs.declared.value.Value.{Value}
 use Rattle.prost_reflect.proofs.Described.{found_checked}
 use Rattle.prost_reflect.proofs.Had.{kept_found}

@@ -1,5 +1,5 @@
 -- The unknown fields of a message are the unknown records of its content.
-use Rattle.std.proofs.Common.{◌≡◌, ℕ, Bool, true, false, cond, ◌++◌, nat_eq, List, [], ◌∷◌, map, Option, Some, None, unwrap_or, refl, ap, ap₂, sym, ◌∙◌, subst}
+use Rattle.std.proofs.Common.{◌≡◌, ℕ, true, cond, ◌++◌, nat_eq, List, [], ◌∷◌, map, Option, Some, None, refl, ap, ap₂, sym, ◌∙◌, subst}
 use Rattle.std.proofs.lemmas.Bool.{eqb-true, and_parts}
 use Rattle.std.specs.List.{list_all}
 use Rattle.std.specs.List.Sorted.{IsStrictlySortedBy}
@@ -9,7 +9,7 @@ use Rattle.prost_reflect_wire.specs.Record.{Record, Payload, record_at}
 use Rattle.prost_reflect_wire.specs.Schema.{Field}
 use Rattle.prost_reflect_wire.specs.Content as contents
 use Rattle.prost_reflect_wire.specs.Content.{Entries, Slot, entries_of, store, then_value, then_unknowns}
-use Rattle.prost_reflect_wire.specs.Unknown.{record_of, records_of, fields_of}
+use Rattle.prost_reflect_wire.specs.Unknown.{record_of, records_of}
 use Rattle.prost_reflect_wire.proofs.UnknownViews.{records_of_out}
 use Rattle.prost_reflect_fields.specs.FieldSlots.{records_in, unknown_in, records_at}
 use Rattle.prost_reflect_fields.specs.Items.{IsAscending, item_at}

@@ -1,5 +1,5 @@
 -- What a message has at a number, and which fields are its own (the guide on field presence).
-use Rattle.std.specs.Prelude.{◌≡◌, ℕ, Bool, if◌then◌else◌, List, Option, Some, None, is_some, option_map, unwrap_or, true, false, IfSome}
+use Rattle.std.specs.Prelude.{◌≡◌, ℕ, Bool, if◌then◌else◌, List, Option, Some, None, is_some, option_map, option_and_then, unwrap_or, slice_get, true, false, IfSome}
 use Rattle.std.specs.Cow.{cow_value, IsBorrowed}
 use Rattle.std.specs.declared.borrow.Cow.{Cow}
 use Rattle.prost_reflect_wire.specs.Schema.{Field, field_of, passes}
@@ -9,6 +9,7 @@ use Rattle.prost_reflect_wire.specs.Edit.{default_value, value_or_default}
 use Rattle.prost_reflect_wire.specs.Typing.{kept, kept_inside, is_field_default, value_valid}
 use Rattle.prost_reflect_tables.specs.Places.{row_of}
 use Rattle.prost_reflect_tables.specs.Shown.{schema_field}
+use Rattle.prost_reflect_pool.specs.Lookups.{named_field}
 use Rattle.prost_reflect_pool.specs.SharedPools.{pool_rows}
 use Rattle.prost_reflect_pool.specs.MessageTypes.{schema_at, fields_of}
 use Rattle.prost_reflect_pool.specs.declared.pooled_type.PooledType.{PooledType}
@@ -37,6 +38,10 @@ number_of field = unwrap_or (option_map (λ f. f.number) (row_at field)) 0
 -- The number is that of a field, and no extension's.
 abbrev pub is_field_number : PooledType → ℕ → Bool
 is_field_number t n = is_declared (row_of (fields_of t) n)
+
+-- The number of the field of a name; an extension is no field.
+abbrev pub number_named : PooledType → List ℕ → Option ℕ
+number_named t name = option_and_then (λ i. option_map (λ f. f.number) (slice_get (fields_of t) i)) (named_field (fields_of t) name)
 
 -- The value fits the field, by its form and its kind.
 abbrev pub takes : FieldDescriptor → Value → Bool
@@ -79,6 +84,12 @@ Shows m n shown = ShowsOr (IsDefaultAt (message_type_of m) n) (stored_at (stored
 abbrev pub ShowsIf : Bool → DynamicMessage → ℕ → Option (Cow Value) → Type 0
 ShowsIf b m n None = b ≡ false
 ShowsIf b m n (Some shown) = (b ≡ true) × Shows m n shown
+
+-- It is shown where a number is found, and nothing where none is.
+abbrev pub ShowsFound : Option ℕ → DynamicMessage → Option (Cow Value) → Type 0
+ShowsFound None m shown = shown ≡ None
+ShowsFound (Some n) m None = ⊥
+ShowsFound (Some n) m (Some shown) = Shows m n shown
 
 -- WHAT IS LENT FOR WRITING
 

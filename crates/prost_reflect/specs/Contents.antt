@@ -1,5 +1,5 @@
 -- What the operations of the field set make of a message's content.
-use Rattle.std.specs.Prelude.{ℕ, nat_eq, if◌then◌else◌, [], ◌∷◌, ◌++◌, Some}
+use Rattle.std.specs.Prelude.{ℕ, nat_eq, if◌then◌else◌, [], ◌∷◌, ◌++◌, Option, None, Some}
 use Rattle.prost_reflect_wire.specs.Record.{Payload, Record}
 use Rattle.prost_reflect_wire.specs.Content.{Content, ContentOf, Entries, Value, Slot, changed}
 use Rattle.prost_reflect_wire.specs.Edit.{with_field_value, clear_field, in_field}
@@ -14,6 +14,15 @@ value_set n v c = in_field n (λ schema fields f es. with_field_value fields f (
 -- A number has no value.
 abbrev pub value_cleared : ℕ → Content → Content
 value_cleared n c = in_entries (clear_field n) c
+
+-- The same at a number that is found; where none is, nothing changes.
+abbrev pub set_if : Option ℕ → Value → Content → Content
+set_if None v c = c
+set_if (Some n) v c = value_set n v c
+
+abbrev pub cleared_if : Option ℕ → Content → Content
+cleared_if None c = c
+cleared_if (Some n) c = value_cleared n c
 
 -- A slot with an unknown record behind those that it has.
 abbrev pub with_unknown : Payload → Slot → Slot

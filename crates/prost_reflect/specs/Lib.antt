@@ -23,6 +23,8 @@ pub mod Targets
 pub mod Nested
 pub mod Encoding
 pub mod Present
+pub mod Defaults
+pub mod Valid
 pub mod Lists
 pub mod NamedExtensions
 pub mod NamedFiles
@@ -30,9 +32,15 @@ pub mod NamedLists
 pub mod NamedMethods
 pub mod NamedOneofs
 pub mod NamedRecords
+pub mod Options
 pub mod NamedServices
 pub mod NamedValues
 pub mod Places
 pub mod Reserved
 pub mod Access
+pub mod ExtensionAccess
+pub mod Setting
 pub mod UnknownLists
+pub mod Merged
+pub mod ReadBack
+pub mod Relaying

@@ -1,21 +1,14 @@
 -- The fields of a message type that a descriptor names.
-use Rattle.std.specs.Prelude.{ℕ, Bool, false, not, if◌then◌else◌, List, Option, Some, None, option_and_then, slice_get}
+use Rattle.std.specs.Prelude.{ℕ, if◌then◌else◌, List, Option, Some, None, option_and_then}
 use Rattle.prost_reflect_tables.specs.Rows.{FieldRow}
 use Rattle.prost_reflect_tables.specs.Places.{fields_at, place_of}
+pub use Rattle.prost_reflect_tables.specs.Places.{is_declared, is_declared_at}
 use Rattle.prost_reflect_pool.specs.SharedPools.{pool_rows}
 use Rattle.prost_reflect.specs.declared.descriptor.message.MessageDescriptor.{MessageDescriptor}
 
 -- The rows of the message type's fields and extensions.
 abbrev pub fields_of : MessageDescriptor → List FieldRow
 fields_of message = fields_at (pool_rows message.pool.inner) message.index
-
-abbrev pub is_declared : Option FieldRow → Bool
-is_declared None = false
-is_declared (Some f) = not f.is_extension
-
--- A field, and no extension, stands at the place.
-abbrev pub is_declared_at : List FieldRow → ℕ → Bool
-is_declared_at fields i = is_declared (slice_get fields i)
 
 -- The place of a number, if it is no extension's.
 abbrev pub declared_place : List FieldRow → ℕ → Option ℕ

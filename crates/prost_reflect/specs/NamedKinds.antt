@@ -1,10 +1,16 @@
 -- What kinds name.
-use Rattle.std.specs.Prelude.{◌≡◌, ⊤, Option, None, Some}
+use Rattle.std.specs.Prelude.{◌≡◌, ⊤, true, false, List, [], Option, None, Some}
+use Rattle.std.specs.Prelude as bits
+use Rattle.prost_reflect_wire.specs.Schema as schemas
 use Rattle.prost_reflect_wire.specs.declared.key.WireType.{WireType}
 use Rattle.prost_reflect_wire.specs.declared.key.WireType.TheVariants.{Varint, SixtyFourBit, LengthDelimited, ThirtyTwoBit}
+use Rattle.prost_reflect_tables.specs.Rows.{EnumRow, EnumValueRow}
+use Rattle.prost_reflect_tables.specs.Shown.{schema_kind}
+use Rattle.prost_reflect_pool.specs.SharedPools.{pool_rows}
 use Rattle.prost_reflect_pool.specs.declared.pool.LinkedPool.{LinkedPool}
 use Rattle.prost_reflect_tables.specs.declared.tables.TableKind.{TableKind}
 use Rattle.prost_reflect_tables.specs.declared.tables.TableKind.TheVariants as places
+use Rattle.prost_reflect.specs.NamedLists.{values_of}
 use Rattle.prost_reflect.specs.declared.descriptor.pool.DescriptorPool.{DescriptorPool}
 use Rattle.prost_reflect.specs.declared.descriptor.message.MessageDescriptor.{MessageDescriptor}
 use Rattle.prost_reflect.specs.declared.descriptor.enums.EnumDescriptor.{EnumDescriptor}
@@ -37,6 +43,16 @@ IsAmong pool (Message message) = message.pool.inner.value ≡ pool.inner.value
 IsAmong pool (Enum e) = e.pool.inner.value ≡ pool.inner.value
 IsAmong pool kind = ⊤
 
+-- The enums of the pool of the type that the kind names.
+abbrev pub enums_named : Kind → List EnumRow
+enums_named (Message message) = (pool_rows message.pool.inner).enums
+enums_named (Enum e) = (pool_rows e.pool.inner).enums
+enums_named kind = []
+
+-- The kind as its schema has it, where a group is a message.
+abbrev pub kind_named : Kind → schemas.Kind
+kind_named kind = schema_kind (enums_named kind) (table_kind kind) false
+
 abbrev pub message_of : Kind → Option MessageDescriptor
 message_of (Message message) = Some message
 message_of kind = None
@@ -67,3 +83,17 @@ pool_of kind = None
 -- Two kinds that are one.
 abbrev pub SameKind : Kind → Kind → Type 0
 SameKind a b = (table_kind b ≡ table_kind a) × (pool_of b ≡ pool_of a)
+
+-- The values of the enum that the kind names.
+abbrev pub values_named : Kind → List EnumValueRow
+values_named (Enum e) = values_of e
+values_named kind = []
+
+-- The keys of maps may be of the kind: an integer kind, bool or string.
+abbrev pub is_key_kind : Kind → bits.Bool
+is_key_kind Double = false
+is_key_kind Float = false
+is_key_kind Bytes = false
+is_key_kind (Message message) = false
+is_key_kind (Enum e) = false
+is_key_kind kind = true

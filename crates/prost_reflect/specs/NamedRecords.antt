@@ -1,8 +1,8 @@
 -- The records of definitions that descriptors name, each found by the path of its row in its file.
-use Rattle.std.specs.Prelude.{ℕ, ℤ, Bool, false, List, Option, Some, None, map, option_map, option_and_then, slice_get, unwrap_or, string_bytes}
+use Rattle.std.specs.Prelude.{ℕ, ℤ, Bool, false, List, Option, Some, None, map, option_and_then, slice_get, unwrap_or, string_bytes}
 use Rattle.prost_reflect_types.specs.declared.DescriptorProto.TheViews.{out-DescriptorProto}
 use Rattle.prost_reflect_types.specs.declared.FileDescriptorProto.{FileDescriptorProto}
-use Rattle.prost_reflect_pool.specs.RecordPaths.{AnyRecord, MessageRecord, FieldRecord, EnumRecord, MethodRecord, record_of}
+use Rattle.prost_reflect_pool.specs.RecordPaths.{AnyRecord, MessageRecord, EnumRecord, MethodRecord, record_of}
 use Rattle.prost_reflect_pool.specs.SharedPools.{files_of}
 use Rattle.prost_reflect.specs.Named.{message_row_named}
 use Rattle.prost_reflect.specs.NamedEnums.{enum_row_at}

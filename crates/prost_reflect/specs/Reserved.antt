@@ -1,5 +1,5 @@
 -- The numbers and names that definitions reserve, and the numbers that message types keep for extensions.
-use Rattle.std.specs.Prelude.{ℕ, ℤ, List, map, Option, unwrap_or, pos, string_bytes}
+use Rattle.std.specs.Prelude.{ℕ, ℤ, List, map, unwrap_or, pos, string_bytes}
 use Rattle.prost_reflect_types.specs.declared.ExtensionRange.{ExtensionRange}
 use Rattle.prost_reflect_types.specs.declared.ReservedRange.{ReservedRange}
 use Rattle.prost_reflect_types.specs.declared.EnumReservedRange.{EnumReservedRange}

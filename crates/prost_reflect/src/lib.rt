@@ -11,10 +11,11 @@ pub use descriptor::{
     EnumValueDescriptor, EnumValueDescriptors, ExtensionDescriptor, ExtensionDescriptors,
     ExtensionRanges, FieldDescriptor, FieldDescriptors, FileDescriptor, FileDescriptors, Kind,
     MessageDescriptor, MessageDescriptors, MethodDescriptor, MethodDescriptors, OneofDescriptor,
-    OneofDescriptors, Placed, Places, ReservedNames, ReservedRanges, ServiceDescriptor,
-    ServiceDescriptors, Syntax, builtin_pool,
+    OneofDescriptors, OptionsError, Placed, Places, ReservedNames, ReservedRanges,
+    ServiceDescriptor, ServiceDescriptors, Syntax, builtin_pool,
 };
-pub use message::{DynamicMessage, PresentNumber, UnknownFields};
+pub use message::relay::{RelayError, RelayHexError, relay, relay_hex};
+pub use message::{DynamicMessage, PresentNumber, SetFieldError, UnknownFields};
 pub use prost_reflect_pool::FileDescriptorProtos;
 pub use prost_reflect_tables::{Cardinality, PoolError};
 pub use prost_reflect_types::{

@@ -1,6 +1,6 @@
 //! Messages whose types are known only at run time.
 
-ghost use Rattle.std.specs.Prelude.{◌≡◌, true, OnOk, OnErr, IfOk, option_map, unwrap_or};
+ghost use Rattle.std.specs.Prelude.{◌≡◌, ◌↔◌, true, [], IsTrue, Some, OnOk, OnErr, IfOk, option_map, unwrap_or};
 ghost use Rattle.std.specs.Borrow.{LendsIfOk, sem};
 ghost use Rattle.std.specs.Option.{option_copied};
 ghost use Rattle.prost_reflect_wire.specs.Unknown.{record_of, records_of};
@@ -9,6 +9,7 @@ ghost use Rattle.prost_reflect_wire.specs.Edit.{cleared};
 ghost use Rattle.prost_reflect.specs.contracts.message.DynamicMessage.{the_row};
 ghost use Rattle.prost_reflect.specs.contracts.value.Value as value;
 ghost use Rattle.prost_reflect_pool.specs.MessageTypes.{schema_at, type_at};
+ghost use Rattle.prost_reflect_pool.specs.SharedPools.{pool_contents};
 ghost use Rattle.prost_reflect_fields.specs.Items.{IsAscending};
 ghost use Rattle.prost_reflect_fields.specs.Known.{known_of, is_known, keeps_unknown};
 ghost use Rattle.prost_reflect_fields.specs.FieldSlots.{value_at as stored_at, records_at};
@@ -17,6 +18,7 @@ ghost use Rattle.prost_reflect.specs.declared.value.Value.{Value};
 ghost use Rattle.prost_reflect.specs.View.{content_of, value_of, message_type_of, stored_in, written_at};
 ghost use Rattle.prost_reflect.specs.Named.{IsNamed, NamesSame, schema_named, type_named};
 ghost use Rattle.prost_reflect.specs.Contents.{value_set, value_cleared, unknown_added};
+ghost use Rattle.prost_reflect.specs.Defaults.{IsEmptyOf};
 
 mod access;
 mod copy;
@@ -25,8 +27,12 @@ pub(crate) mod defaults;
 mod encode;
 pub(crate) mod enums;
 mod equality;
+mod extensions;
 mod lists;
+mod merge;
 mod present;
+pub(crate) mod relay;
+mod setting;
 mod unknowns;
 
 use crate::descriptor::MessageDescriptor;
@@ -34,9 +40,11 @@ use crate::value::Value;
 pub use present::PresentNumber;
 use prost_reflect_fields::field_set::FieldSet;
 use prost_reflect_fields::slot::FieldSlot;
-use prost_reflect_pool::PooledType;
+use prost_reflect_pool::{LinkedPool, PooledType};
 use prost_reflect_wire::{UnknownField, UnknownFieldSet};
+pub use setting::SetFieldError;
 use std::alloc::{AllocError, Global};
+use std::rc::Rc;
 pub use unknowns::UnknownFields;
 
 /// A message of a type that is known only at run time: the values of its fields and extensions, and its unknown fields.
@@ -51,6 +59,7 @@ impl DynamicMessage {
     pub fn new(alloc: Global, descriptor: MessageDescriptor) -> DynamicMessage
         ensures message_type { IsNamed descriptor (message_type_of result) }
         ensures content { content_of result ≡ empty (schema_named descriptor) (type_named descriptor) }
+        ensures nothing { stored_in result ≡ [] }
     {
         DynamicMessage::of_type(alloc, descriptor.into_type())
     }
@@ -59,6 +68,7 @@ impl DynamicMessage {
     pub(crate) fn of_type(alloc: Global, message_type: PooledType) -> DynamicMessage
         ensures message_type { message_type_of result ≡ message_type }
         ensures content { content_of result ≡ empty (schema_at message_type) (type_at message_type) }
+        ensures nothing { stored_in result ≡ [] }
     {
         DynamicMessage {
             fields: FieldSet::new(alloc, message_type),
@@ -81,6 +91,14 @@ impl DynamicMessage {
         ensures { result.now ≡ message_type_of self.now }
     {
         self.fields.message_type()
+    }
+
+    /// Whether the message stores neither values nor unknown fields, and is of the type at a place of the pool, or of the type there
+    /// of a pool whose files hold the same.
+    pub(crate) fn is_empty_of(&self, pool: &Rc<LinkedPool>, place: usize) -> bool
+        ensures { IsTrue result ↔ IsEmptyOf pool.now place (Some self.now) }
+    {
+        stands_at(self.message_type(), pool, place) && self.slots().is_empty()
     }
 
     /// Removes all values and all unknown fields. The type stays.
@@ -174,4 +192,11 @@ impl DynamicMessage {
     {
         self.fields.get_mut_or(number, default)
     }
+}
+
+/// Whether a message type is the one at a place of the pool, or of a pool whose files hold the same.
+fn stands_at(message_type: &PooledType, pool: &Rc<LinkedPool>, place: usize) -> bool
+    ensures { IsTrue result ↔ ((pool_contents pool.now ≡ pool_contents message_type.now.pool) × (place ≡ message_type.now.index)) }
+{
+    place == message_type.index() && *pool == *message_type.pool()
 }

@@ -2,9 +2,12 @@
 
 mod access;
 mod access_mut;
+pub(crate) mod defaults;
 mod key_access;
 mod keys;
 pub(crate) mod scalar;
+mod text;
+pub(crate) mod valid;
 
 use crate::message::DynamicMessage;
 use std::alloc::AllocError;

@@ -3,6 +3,7 @@
 ghost use Rattle.std.specs.Prelude.{◌≡◌, ◌∷◌, [], IfOk, IfErr, OnOk, OnErr};
 ghost use Rattle.prost_reflect_types.specs.declared.table.RecordType.TheVariants as types;
 ghost use Rattle.prost_reflect_tables.specs.Adding.{added};
+ghost use Rattle.prost_reflect_tables.specs.declared.error.PoolError.TheVariants as pool_errors;
 ghost use Rattle.prost_reflect_pool.specs.Pools.{IsPoolOf, RefusesFiles, IsPoolOfBytes, Refuses};
 ghost use Rattle.prost_reflect_pool.specs.SharedPools.{files_of};
 
@@ -10,7 +11,7 @@ use crate::descriptor::DescriptorPool;
 use prost_reflect_pool::LinkedPool;
 use prost_reflect_tables::PoolError;
 use prost_reflect_types::{FileDescriptorProto, FileDescriptorSet};
-use std::alloc::{AllocError, Global};
+use std::alloc::Global;
 use std::rc::Rc;
 
 impl DescriptorPool {
@@ -18,9 +19,10 @@ impl DescriptorPool {
     ///
     /// # Errors
     ///
-    /// `AllocError` if a growth is refused.
-    pub fn new(alloc: Global) -> Result<DescriptorPool, AllocError>
-        ensures { IfOk result (λ pool. IsPoolOf [] pool.inner.value) }
+    /// `OutOfMemory` if a growth is refused.
+    pub fn new(alloc: Global) -> Result<DescriptorPool, PoolError>
+        ensures made { IfOk result (λ pool. IsPoolOf [] pool.inner.value) }
+        ensures refused { IfErr result (λ e. e ≡ pool_errors.OutOfMemory) }
     {
         Ok(DescriptorPool {
             inner: Rc::new(alloc, LinkedPool::new(alloc))?,

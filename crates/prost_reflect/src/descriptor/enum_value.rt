@@ -3,7 +3,9 @@
 ghost use Rattle.std.specs.Prelude.{◌≡◌, ◌<◌, length};
 ghost use Rattle.prost_reflect.specs.NamedLists.{values_of};
 
+use crate::descriptor::options::{OptionsError, options_by};
 use crate::descriptor::{DescriptorPool, EnumDescriptor, FileDescriptor, Placed};
+use crate::message::DynamicMessage;
 use prost_reflect_tables::EnumValueTable;
 use prost_reflect_types::EnumValueDescriptorProto;
 use std::alloc::AllocError;
@@ -52,6 +54,7 @@ impl EnumValueDescriptor {
     ghost use Rattle.prost_reflect_pool.specs.SharedPools.{files_of};
     ghost use Rattle.prost_reflect.specs.NamedEnums.{enum_row_at};
     ghost use Rattle.prost_reflect.specs.NamedValues.{value_row_named};
+    ghost use Rattle.prost_reflect.specs.Options.{OptionsOf};
 
     /// The pool that the value is of.
     pub fn parent_pool(&self) -> &DescriptorPool
@@ -106,6 +109,23 @@ impl EnumValueDescriptor {
     {
         let pool = &self.parent.parent_pool().inner;
         pool.value_record(self.parent.place(), self.index)
+    }
+
+    /// The value's options: what its record stores, read by the pool's `google.protobuf.EnumValueOptions`.
+    /// Where it stores none, the message is empty.
+    ///
+    /// # Errors
+    ///
+    /// `NoOptionsMessage` if the pool has no such message type; `Decode` with a fault that stands in the stored bytes, where
+    /// that does not accept them; `OutOfMemory` if a growth is refused.
+    pub fn options(&self) -> Result<DynamicMessage, OptionsError>
+        ensures { OptionsOf self.now.parent.pool.inner (option_and_then (λ value. record_of (files_of self.now.parent.pool.inner) value.id) (value_row_named self.now)) result }
+    {
+        options_by(
+            self.parent_pool(),
+            "google.protobuf.EnumValueOptions",
+            &self.enum_value_descriptor_proto().options,
+        )
     }
 
     /// The number; several values may have the same one.

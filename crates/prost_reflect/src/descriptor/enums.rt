@@ -4,11 +4,13 @@ ghost use Rattle.std.specs.Prelude.{◌≡◌, ◌<◌, length};
 ghost use Rattle.prost_reflect_pool.specs.SharedPools.{pool_rows};
 
 use crate::descriptor::message::message_at;
+use crate::descriptor::options::{OptionsError, options_by};
 use crate::descriptor::places::Places;
 use crate::descriptor::{
     DescriptorPool, Descriptors, EnumReservedRanges, EnumValueDescriptor, FileDescriptor,
     MessageDescriptor, Placed, ReservedNames,
 };
+use crate::message::DynamicMessage;
 use crate::message::enums::first_in;
 use prost_reflect_tables::{EnumLists, EnumTable, text_or_empty};
 use prost_reflect_types::{EnumDescriptorProto, FileDescriptorProto};
@@ -53,14 +55,17 @@ impl EnumDescriptor {
     ghost use Rattle.prost_reflect_tables.specs.Names.{text_or_empty};
     ghost use Rattle.prost_reflect_pool.specs.SharedPools.{files_of};
     ghost use Rattle.prost_reflect.specs.NamedEnums.{enum_lists_at, SameEnum};
+    ghost use Rattle.prost_reflect_pool.specs.Lookups.{named_value, numbered_value};
     ghost use Rattle.prost_reflect.specs.NamedLists.{values_of};
     ghost use Rattle.prost_reflect.specs.NamedRecords.{enum_record_named, enum_reserved_in, names_in};
     ghost use Rattle.prost_reflect.specs.Reserved.{enum_reserved_left, names_left};
     ghost use Rattle.prost_reflect_pool.specs.RecordPaths.{EnumRecord};
     ghost use Rattle.prost_reflect.specs.Places.{places_left};
     ghost use Rattle.prost_reflect_tables.specs.Rows.{enum_row};
+    ghost use Rattle.prost_reflect_tables.specs.WrittenDefaults.{number_named};
     ghost use Rattle.prost_reflect_pool.specs.Enums.{first_of};
     ghost use Rattle.prost_reflect.specs.NamedEnums.{enum_row_at};
+    ghost use Rattle.prost_reflect.specs.Options.{OptionsOf};
 
     /// The enum at a place of a pool.
     pub(crate) fn new(pool: DescriptorPool, index: usize) -> EnumDescriptor
@@ -145,6 +150,42 @@ impl EnumDescriptor {
         Descriptors::new(self, Places::Listed(self.lists().by_number.as_slice()))
     }
 
+    /// The value of a name, or none where no value has it.
+    ///
+    /// # Errors
+    ///
+    /// `AllocError` if a clone of the pool is refused.
+    pub fn get_value_by_name(&self, name: &str) -> Result<Option<EnumValueDescriptor>, AllocError>
+        ensures found { IfOk result (λ found. option_map (λ value. value.index) found ≡ named_value (values_of self.now) name.now) }
+        ensures parent { IfOk result (λ found. IfSome found (λ value. SameEnum self.now value.parent)) }
+    {
+        self.value_at(self.pool.inner.value_place_by_name(self.index, name))
+    }
+
+    /// The first declared value of a number, or none where no value has it.
+    ///
+    /// # Errors
+    ///
+    /// `AllocError` if a clone of the pool is refused.
+    pub fn get_value(&self, number: i32) -> Result<Option<EnumValueDescriptor>, AllocError>
+        ensures found { IfOk result (λ found. option_map (λ value. value.index) found ≡ numbered_value (values_of self.now) number) }
+        ensures parent { IfOk result (λ found. IfSome found (λ value. SameEnum self.now value.parent)) }
+    {
+        self.value_at(self.pool.inner.value_place_by_number(self.index, number))
+    }
+
+    /// The value at a place, if there is one.
+    fn value_at(&self, place: Option<usize>) -> Result<Option<EnumValueDescriptor>, AllocError>
+        requires { IfSome place (λ i. i < length (values_of self.now)) }
+        ensures found { IfOk result (λ found. option_map (λ value. value.index) found ≡ place) }
+        ensures parent { IfOk result (λ found. IfSome found (λ value. SameEnum self.now value.parent)) }
+    {
+        match place {
+            Some(index) => Ok(Some(EnumValueDescriptor::at(self, index)?)),
+            None => Ok(None),
+        }
+    }
+
     /// The default: the value that is declared first.
     ///
     /// # Errors
@@ -162,6 +203,23 @@ impl EnumDescriptor {
         ensures { enum_record_named self.now ≡ Some (EnumRecord result.now) }
     {
         self.pool.inner.enum_record(self.index)
+    }
+
+    /// The enum's options: what its record stores, read by the pool's `google.protobuf.EnumOptions`.
+    /// Where it stores none, the message is empty.
+    ///
+    /// # Errors
+    ///
+    /// `NoOptionsMessage` if the pool has no such message type; `Decode` with a fault that stands in the stored bytes, where
+    /// that does not accept them; `OutOfMemory` if a growth is refused.
+    pub fn options(&self) -> Result<DynamicMessage, OptionsError>
+        ensures { OptionsOf self.now.pool.inner (enum_record_named self.now) result }
+    {
+        options_by(
+            &self.pool,
+            "google.protobuf.EnumOptions",
+            &self.enum_descriptor_proto().options,
+        )
     }
 
     /// The ranges of numbers that no value may have, in the order of the record.
@@ -211,6 +269,26 @@ impl EnumDescriptor {
         ensures parent { IfSome result.now.id.parent (λ p. p < length (pool_rows self.now.pool.inner).messages) }
     {
         self.pool.inner.enum_table(self.index)
+    }
+
+    /// The number of the first value of a name.
+    pub(crate) fn number_named(&self, name: &str) -> Option<i32>
+        ensures { result ≡ number_named (values_of self.now) name.now }
+    {
+        match self.pool.inner.value_place_by_name(self.index, name) {
+            Some(place) => self.number_at(place),
+            None => None,
+        }
+    }
+
+    /// The number of the value at a place.
+    fn number_at(&self, place: usize) -> Option<i32>
+        ensures { result ≡ option_map (λ value. value.number) (slice_get (values_of self.now) place) }
+    {
+        match self.table().values.get(place) {
+            Some(value) => Some(value.number),
+            None => None,
+        }
     }
 
     /// The number of the first value.

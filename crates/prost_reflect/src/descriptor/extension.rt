@@ -1,14 +1,19 @@
 //! Extensions as places of a pool.
 
-ghost use Rattle.std.specs.Prelude.{◌≡◌, ◌<◌, length};
+ghost use Rattle.std.specs.Prelude.{◌≡◌, ◌<◌, IfOk, IfSome, length, option_map};
 ghost use Rattle.prost_reflect_pool.specs.SharedPools.{pool_catalog};
 
 use crate::descriptor::forms::{is_list, is_map};
 use crate::descriptor::message::message_at;
+use crate::descriptor::options::{OptionsError, options_by};
 use crate::descriptor::{DescriptorPool, FileDescriptor, Kind, MessageDescriptor, Placed};
+use crate::message::DynamicMessage;
+use crate::value::Value;
+use crate::value::defaults::default_value;
+use prost_reflect_pool::PooledType;
 use prost_reflect_tables::{Cardinality, FieldTable, text_or_empty};
 use prost_reflect_types::{FieldDescriptorProto, FileDescriptorProto};
-use std::alloc::AllocError;
+use std::alloc::{AllocError, Global};
 
 /// An extension of a message type (the proto2 guide, "Extensions").
 #[derive(PartialEq, Eq, Debug, Drop)]
@@ -47,7 +52,7 @@ impl Placed<DescriptorPool> for ExtensionDescriptor {
 }
 
 impl ExtensionDescriptor {
-    ghost use Rattle.std.specs.Prelude.{Some, IfOk, IfSome, IsTrue, option_map, option_and_then, slice_get};
+    ghost use Rattle.std.specs.Prelude.{◌↔◌, true, Some, IsTrue, option_and_then, slice_get};
     ghost use Rattle.prost_reflect_wire.specs.Schema.{is_list, is_map};
     ghost use Rattle.prost_reflect_tables.specs.Linked.{kind_in_range};
     ghost use Rattle.prost_reflect_tables.specs.Names.{text_or_empty};
@@ -55,8 +60,12 @@ impl ExtensionDescriptor {
     ghost use Rattle.prost_reflect_tables.specs.Shown.{schema_field};
     ghost use Rattle.prost_reflect_pool.specs.RecordPaths.{FieldRecord, record_of};
     ghost use Rattle.prost_reflect_pool.specs.SharedPools.{files_of, pool_rows};
+    ghost use Rattle.prost_reflect.specs.ExtensionAccess.{IsOwnExtension, extension_takes};
     ghost use Rattle.prost_reflect.specs.NamedExtensions.{extension_named, extension_row_named};
     ghost use Rattle.prost_reflect.specs.NamedKinds.{table_kind, IsAmong};
+    ghost use Rattle.prost_reflect.specs.Options.{OptionsOf};
+    ghost use Rattle.prost_reflect.specs.Defaults.{extension_default, IsExtensionDefault};
+    ghost use Rattle.prost_reflect.specs.View.{value_of};
 
     /// The pool that the extension is of.
     pub fn parent_pool(&self) -> &DescriptorPool
@@ -147,6 +156,23 @@ impl ExtensionDescriptor {
         self.pool.inner.field_record(stands.message, stands.field)
     }
 
+    /// The extension's options: what its record stores, read by the pool's `google.protobuf.FieldOptions`.
+    /// Where it stores none, the message is empty.
+    ///
+    /// # Errors
+    ///
+    /// `NoOptionsMessage` if the pool has no such message type; `Decode` with a fault that stands in the stored bytes, where
+    /// that does not accept them; `OutOfMemory` if a growth is refused.
+    pub fn options(&self) -> Result<DynamicMessage, OptionsError>
+        ensures { OptionsOf self.now.pool.inner (option_and_then (λ field. record_of (files_of self.now.pool.inner) field.id) (extension_row_named self.now)) result }
+    {
+        options_by(
+            &self.pool,
+            "google.protobuf.FieldOptions",
+            &self.field_descriptor_proto().options,
+        )
+    }
+
     /// The field number, from 1 to 536870911.
     pub fn number(&self) -> u32
         ensures { option_map (λ field. field.number) (extension_row_named self.now) ≡ Some result }
@@ -215,6 +241,33 @@ impl ExtensionDescriptor {
         Kind::from_table(&self.pool, self.table().kind)
     }
 
+    /// What the extension has where nothing is stored, as `FieldDescriptor::default_value` says it of a field.
+    ///
+    /// # Errors
+    ///
+    /// `AllocError` if a copy of a written text, or a clone of a message's pool, is refused.
+    pub fn default_value(&self, alloc: Global) -> Result<Value, AllocError>
+        ensures value { IfOk result (λ value. Some (value_of value) ≡ extension_default self.now) }
+        ensures default { IfOk result (IsExtensionDefault self.now) }
+        ensures valid { IfOk result (λ value. extension_takes self.now value ≡ true) }
+    {
+        default_value(alloc, &self.pool.inner, self.table())
+    }
+
+    /// Whether the extension extends the message type, or an equal one of another pool.
+    pub(crate) fn extends(&self, message_type: &PooledType) -> bool
+        ensures { IsTrue result ↔ IsOwnExtension message_type.now self.now }
+    {
+        self.extended_place() == message_type.index() && self.pool.inner == *message_type.pool()
+    }
+
+    /// The place of the message type that the extension extends.
+    fn extended_place(&self) -> usize
+        ensures { option_map (λ extension. extension.message) (extension_named self.now) ≡ Some result }
+    {
+        self.pool.inner.extension_table(self.index).message
+    }
+
     /// The extension's row.
     pub(crate) fn table(&self) -> &FieldTable
         ensures row { extension_row_named self.now ≡ Some (field_row result.now) }
@@ -223,5 +276,20 @@ impl ExtensionDescriptor {
         ensures kind { IsTrue (kind_in_range (length (pool_rows self.now.pool.inner).messages) (length (pool_rows self.now.pool.inner).enums) result.now.kind) }
     {
         self.pool.inner.extension_field(self.index)
+    }
+}
+
+/// The extension at a place of a pool, if there is one.
+pub(crate) fn extension_at(
+    pool: &DescriptorPool,
+    place: Option<usize>,
+) -> Result<Option<ExtensionDescriptor>, AllocError>
+    requires { IfSome place (λ i. i < length (pool_catalog pool.now.inner).extensions) }
+    ensures place { IfOk result (λ found. option_map (λ extension. extension.index) found ≡ place) }
+    ensures pool { IfOk result (λ found. IfSome found (λ extension. extension.pool.inner.value ≡ pool.now.inner.value)) }
+{
+    match place {
+        Some(index) => Ok(Some(ExtensionDescriptor::at(pool, index)?)),
+        None => Ok(None),
     }
 }

@@ -4,12 +4,16 @@ ghost use Rattle.std.specs.Prelude.{◌≡◌, IsTrue};
 ghost use Rattle.prost_reflect.specs.NamedFields.{fields_of, is_declared_at};
 
 use crate::descriptor::forms::{is_list, is_map};
+use crate::descriptor::options::{OptionsError, options_by};
 use crate::descriptor::{
     DescriptorPool, FileDescriptor, Kind, MessageDescriptor, OneofDescriptor, Placed,
 };
+use crate::message::DynamicMessage;
+use crate::value::Value;
+use crate::value::defaults::default_value;
 use prost_reflect_tables::{Cardinality, FieldTable};
 use prost_reflect_types::FieldDescriptorProto;
-use std::alloc::AllocError;
+use std::alloc::{AllocError, Global};
 
 /// A field of a message type.
 #[derive(PartialEq, Eq, Debug, Drop)]
@@ -45,7 +49,7 @@ impl Placed<MessageDescriptor> for FieldDescriptor {
 }
 
 impl FieldDescriptor {
-    ghost use Rattle.std.specs.Prelude.{Some, IfOk, IfSome, option_and_then, option_map};
+    ghost use Rattle.std.specs.Prelude.{Some, true, IfOk, IfSome, option_and_then, option_map};
     ghost use Rattle.prost_reflect_wire.specs.Schema.{is_list, is_map};
     ghost use Rattle.prost_reflect_tables.specs.Shown.{schema_field, is_required};
     ghost use Rattle.prost_reflect.specs.Named.{message_row_named};
@@ -55,6 +59,10 @@ impl FieldDescriptor {
     ghost use Rattle.prost_reflect.specs.Named.{SameMessage};
     ghost use Rattle.prost_reflect.specs.NamedField.{row_at};
     ghost use Rattle.prost_reflect.specs.NamedKinds.{table_kind, IsAmong};
+    ghost use Rattle.prost_reflect.specs.Options.{OptionsOf};
+    ghost use Rattle.prost_reflect.specs.Access.{takes};
+    ghost use Rattle.prost_reflect.specs.Defaults.{field_default, IsFieldDefault};
+    ghost use Rattle.prost_reflect.specs.View.{value_of};
 
     /// The field at a place of a message type.
     pub(crate) fn new(message: MessageDescriptor, index: usize) -> FieldDescriptor
@@ -118,6 +126,23 @@ impl FieldDescriptor {
     {
         let pool = &self.message.parent_pool().inner;
         pool.field_record(self.message.place(), self.index)
+    }
+
+    /// The field's options: what its record stores, read by the pool's `google.protobuf.FieldOptions`.
+    /// Where it stores none, the message is empty.
+    ///
+    /// # Errors
+    ///
+    /// `NoOptionsMessage` if the pool has no such message type; `Decode` with a fault that stands in the stored bytes, where
+    /// that does not accept them; `OutOfMemory` if a growth is refused.
+    pub fn options(&self) -> Result<DynamicMessage, OptionsError>
+        ensures { OptionsOf self.now.message.pool.inner (option_and_then (λ field. record_of (files_of self.now.message.pool.inner) field.id) (row_at self.now)) result }
+    {
+        options_by(
+            self.parent_pool(),
+            "google.protobuf.FieldOptions",
+            &self.field_descriptor_proto().options,
+        )
     }
 
     /// The name in JSON: the one that the field's record gives, or else its own name.
@@ -208,6 +233,22 @@ impl FieldDescriptor {
             Some(index) => Ok(Some(OneofDescriptor::at(&self.message, index)?)),
             None => Ok(None),
         }
+    }
+
+    /// What the field has where nothing is stored: an empty list or map, the default that the field's definition writes, or else
+    /// that of its kind.
+    ///
+    /// So a field `optional int32 count = 1 [default = 7]` has `Value::I32(7)`.
+    ///
+    /// # Errors
+    ///
+    /// `AllocError` if a copy of a written text, or a clone of a message's pool, is refused.
+    pub fn default_value(&self, alloc: Global) -> Result<Value, AllocError>
+        ensures value { IfOk result (λ value. Some (value_of value) ≡ field_default self.now) }
+        ensures default { IfOk result (IsFieldDefault self.now) }
+        ensures valid { IfOk result (λ value. takes self.now value ≡ true) }
+    {
+        default_value(alloc, &self.parent_pool().inner, self.table())
     }
 
     /// The field's row.

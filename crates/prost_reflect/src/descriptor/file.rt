@@ -3,11 +3,13 @@
 ghost use Rattle.std.specs.Prelude.{◌≡◌, ◌<◌, length};
 ghost use Rattle.prost_reflect_pool.specs.SharedPools.{files_of};
 
+use crate::descriptor::options::{OptionsError, options_by};
 use crate::descriptor::places::Places;
 use crate::descriptor::{
     DescriptorPool, Descriptors, EnumDescriptor, ExtensionDescriptor, MessageDescriptor, Placed,
     ServiceDescriptor,
 };
+use crate::message::DynamicMessage;
 use prost_reflect_tables::{FileTable, text_or_empty};
 use prost_reflect_types::FileDescriptorProto;
 use prost_reflect_wire::EncodeError;
@@ -61,9 +63,11 @@ impl FileDescriptor {
     ghost use Rattle.prost_reflect_types.specs.DescriptorViews.{of_file};
     ghost use Rattle.prost_reflect_tables.specs.CatalogRows.{file_table_row};
     ghost use Rattle.prost_reflect_tables.specs.Names.{text_or_empty};
+    ghost use Rattle.prost_reflect_pool.specs.RecordPaths.{FileRecord};
     ghost use Rattle.prost_reflect_pool.specs.SharedPools.{pool_rows, pool_catalog};
     ghost use Rattle.prost_reflect.specs.NamedFiles.{file_record_at, file_row_at, syntax_of};
     ghost use Rattle.prost_reflect.specs.Places.{places_left};
+    ghost use Rattle.prost_reflect.specs.Options.{OptionsOf};
 
     /// The file at a place of a pool.
     pub fn new(pool: DescriptorPool, index: usize) -> FileDescriptor
@@ -172,6 +176,23 @@ impl FileDescriptor {
         ensures { file_record_at self.now ≡ Some result.now }
     {
         self.pool.inner.file_record(self.index)
+    }
+
+    /// The file's options: what its record stores, read by the pool's `google.protobuf.FileOptions`.
+    /// Where it stores none, the message is empty.
+    ///
+    /// # Errors
+    ///
+    /// `NoOptionsMessage` if the pool has no such message type; `Decode` with a fault that stands in the stored bytes, where
+    /// that does not accept them; `OutOfMemory` if a growth is refused.
+    pub fn options(&self) -> Result<DynamicMessage, OptionsError>
+        ensures { OptionsOf self.now.pool.inner (option_map FileRecord (file_record_at self.now)) result }
+    {
+        options_by(
+            &self.pool,
+            "google.protobuf.FileOptions",
+            &self.file_descriptor_proto().options,
+        )
     }
 
     /// Appends the encoding of the file's record.

@@ -2,13 +2,20 @@
 
 ghost use Rattle.std.specs.Prelude.{◌≡◌};
 ghost use Rattle.prost_reflect_wire.specs.Schema.{is_list, is_map};
+ghost use Rattle.prost_reflect_tables.specs.Linking.{is_repeated};
 ghost use Rattle.prost_reflect_tables.specs.Rows.{field_row};
 ghost use Rattle.prost_reflect_tables.specs.Shown.{schema_field};
 ghost use Rattle.prost_reflect_pool.specs.Pools.{pool_rows};
 
-use crate::message::defaults::is_repeated;
 use prost_reflect_pool::LinkedPool;
-use prost_reflect_tables::FieldTable;
+use prost_reflect_tables::{Cardinality, FieldTable};
+
+/// Whether a field of the label has a list of values, or a map.
+pub(crate) fn is_repeated(cardinality: Cardinality) -> bool
+    ensures { result ≡ is_repeated cardinality }
+{
+    matches!(cardinality, Cardinality::Repeated)
+}
 
 /// Whether a field has a list of values, and is no map.
 pub(crate) fn is_list(pool: &LinkedPool, field: &FieldTable) -> bool

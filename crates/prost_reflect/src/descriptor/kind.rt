@@ -3,7 +3,8 @@
 use crate::descriptor::{DescriptorPool, EnumDescriptor, MessageDescriptor};
 use crate::message::DynamicMessage;
 use crate::value::Value;
-use prost_reflect_tables::TableKind;
+use crate::value::scalar::ScalarRef;
+use prost_reflect_tables::{EnumTable, TableKind};
 use prost_reflect_wire::WireType;
 use std::alloc::{AllocError, Global};
 
@@ -75,12 +76,16 @@ impl Clone for Kind {
 }
 
 impl Kind {
-    ghost use Rattle.std.specs.Prelude.{◌≡◌, IsTrue, IfOk, length};
+    ghost use Rattle.std.specs.Prelude.{◌≡◌, IsTrue, IfOk, length, map};
+    ghost use Rattle.prost_reflect_tables.specs.Rows.{enum_row};
     ghost use Rattle.prost_reflect_tables.specs.Linked.{kind_in_range};
     ghost use Rattle.prost_reflect_pool.specs.SharedPools.{pool_rows};
-    ghost use Rattle.prost_reflect.specs.NamedKinds.{table_kind, IsAmong, message_of, enum_of, wire_type_of};
+    ghost use Rattle.prost_reflect.specs.NamedKinds.{table_kind, enums_named, IsAmong, message_of, enum_of, wire_type_of};
     ghost use Rattle.std.specs.Option.{option_copied};
+    ghost use Rattle.prost_reflect_wire.specs.Content.{ScalarValue};
+    ghost use Rattle.prost_reflect.specs.Defaults.{IsKindDefault};
     ghost use Rattle.prost_reflect.specs.NamedDefaults.{default_named};
+    ghost use Rattle.prost_reflect.specs.Scalars.{scalar_of, IsScalar};
     ghost use Rattle.prost_reflect.specs.View.{value_of};
 
     /// A kind of the tables, with descriptors for places.
@@ -111,6 +116,42 @@ impl Kind {
             )),
             TableKind::Enum(index) => Kind::Enum(EnumDescriptor::new(pool.clone()?, index)),
         })
+    }
+
+    /// The kind of the tables, with places for descriptors.
+    pub(crate) fn to_table(&self) -> TableKind
+        ensures { result ≡ table_kind self.now }
+    {
+        match self {
+            Kind::Double => TableKind::Double,
+            Kind::Float => TableKind::Float,
+            Kind::Int32 => TableKind::Int32,
+            Kind::Int64 => TableKind::Int64,
+            Kind::Uint32 => TableKind::Uint32,
+            Kind::Uint64 => TableKind::Uint64,
+            Kind::Sint32 => TableKind::Sint32,
+            Kind::Sint64 => TableKind::Sint64,
+            Kind::Fixed32 => TableKind::Fixed32,
+            Kind::Fixed64 => TableKind::Fixed64,
+            Kind::Sfixed32 => TableKind::Sfixed32,
+            Kind::Sfixed64 => TableKind::Sfixed64,
+            Kind::Bool => TableKind::Bool,
+            Kind::String => TableKind::String,
+            Kind::Bytes => TableKind::Bytes,
+            Kind::Message(message) => TableKind::Message(message.place()),
+            Kind::Enum(e) => TableKind::Enum(e.place()),
+        }
+    }
+
+    /// The rows of the enums of the pool of the type that the kind names, or none where it names no type.
+    pub(crate) fn enum_tables(&self) -> &[EnumTable]
+        ensures { map enum_row result.now ≡ enums_named self.now }
+    {
+        match self {
+            Kind::Message(message) => message.parent_pool().enum_tables(),
+            Kind::Enum(e) => e.parent_pool().enum_tables(),
+            _ => &[],
+        }
     }
 
     /// The message type, if the kind is one.
@@ -146,26 +187,43 @@ impl Kind {
         }
     }
 
-    /// The value that a field of the kind has where nothing is stored.
+    /// The value that a field of the kind has where nothing is stored: zero, false or empty, the first declared number of an enum, or
+    /// an empty message.
+    ///
+    /// So `Kind::Sint32.default_value(alloc)` is `Value::I32(0)`.
     ///
     /// # Errors
     ///
-    /// `AllocError` if a clone of the pool is refused.
+    /// `AllocError` if a clone of a message's pool is refused.
     pub fn default_value(&self, alloc: Global) -> Result<Value, AllocError>
-        ensures { IfOk result (λ value. value_of value ≡ default_named self.now) }
+        ensures value { IfOk result (λ value. value_of value ≡ default_named self.now) }
+        ensures default { IfOk result (IsKindDefault self.now) }
     {
-        Ok(match self {
-            Kind::Double => Value::F64(0),
-            Kind::Float => Value::F32(0),
-            Kind::Int32 | Kind::Sint32 | Kind::Sfixed32 => Value::I32(0),
-            Kind::Int64 | Kind::Sint64 | Kind::Sfixed64 => Value::I64(0),
-            Kind::Uint32 | Kind::Fixed32 => Value::U32(0),
-            Kind::Uint64 | Kind::Fixed64 => Value::U64(0),
-            Kind::Bool => Value::Bool(false),
-            Kind::String => Value::String(String::new(alloc)),
-            Kind::Bytes => Value::Bytes(Vec::new(alloc)),
-            Kind::Message(message) => Value::Message(DynamicMessage::new(alloc, message.clone()?)),
-            Kind::Enum(e) => Value::EnumNumber(e.first_number()),
-        })
+        match self {
+            Kind::Message(message) => {
+                Ok(Value::Message(DynamicMessage::new(alloc, message.clone()?)))
+            }
+            _ => self.scalar_default().to_value(alloc),
+        }
+    }
+
+    /// The default of a kind that is none of messages.
+    pub(crate) fn scalar_default(&self) -> ScalarRef<'static>
+        requires { IsScalar (default_named self.now) }
+        ensures { ScalarValue (scalar_of result) ≡ default_named self.now }
+    {
+        match self {
+            Kind::Double => ScalarRef::F64(0),
+            Kind::Float => ScalarRef::F32(0),
+            Kind::Int32 | Kind::Sint32 | Kind::Sfixed32 => ScalarRef::I32(0),
+            Kind::Int64 | Kind::Sint64 | Kind::Sfixed64 => ScalarRef::I64(0),
+            Kind::Uint32 | Kind::Fixed32 => ScalarRef::U32(0),
+            Kind::Uint64 | Kind::Fixed64 => ScalarRef::U64(0),
+            Kind::Bool => ScalarRef::Bool(false),
+            Kind::String => ScalarRef::String(""),
+            Kind::Bytes => ScalarRef::Bytes(&[]),
+            Kind::Enum(e) => ScalarRef::EnumNumber(e.first_number()),
+            Kind::Message(_) => unreachable!(),
+        }
     }
 }

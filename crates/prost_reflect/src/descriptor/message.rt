@@ -3,11 +3,14 @@
 ghost use Rattle.std.specs.Prelude.{◌≡◌, ◌<◌, IfOk, IfSome, length, option_map};
 ghost use Rattle.prost_reflect_pool.specs.SharedPools.{pool_rows};
 
+use crate::descriptor::extension::extension_at;
+use crate::descriptor::options::{OptionsError, options_by};
 use crate::descriptor::places::Places;
 use crate::descriptor::{
     DescriptorPool, Descriptors, EnumDescriptor, ExtensionDescriptor, ExtensionRanges,
     FieldDescriptor, FileDescriptor, OneofDescriptor, Placed, ReservedNames, ReservedRanges,
 };
+use crate::message::DynamicMessage;
 use prost_reflect_pool::PooledType;
 use prost_reflect_tables::{FieldTable, MessageLists, MessageTable, text_or_empty};
 use prost_reflect_types::{DescriptorProto, FileDescriptorProto};
@@ -47,7 +50,8 @@ impl Placed<DescriptorPool> for MessageDescriptor {
 }
 
 impl MessageDescriptor {
-    ghost use Rattle.std.specs.Prelude.{◌↔◌, All, IsTrue, Some, map};
+    ghost use Rattle.std.specs.Prelude.{◌↔◌, ◌==◌, All, IsTrue, Some, map, true};
+    ghost use Rattle.std.specs.Str.{bytes_eq};
     ghost use Rattle.prost_reflect_tables.specs.CatalogRows.{message_lists_row};
     ghost use Rattle.prost_reflect_tables.specs.Names.{text_or_empty};
     ghost use Rattle.prost_reflect_tables.specs.LinkedCatalog.{own_fields};
@@ -56,11 +60,13 @@ impl MessageDescriptor {
     ghost use Rattle.prost_reflect.specs.NamedRecords.{file_of_message, message_record_named, reserved_in, extensible_in, names_in};
     ghost use Rattle.prost_reflect.specs.Reserved.{reserved_left, extensible_left, names_left};
     ghost use Rattle.prost_reflect_pool.specs.RecordPaths.{MessageRecord};
+    ghost use Rattle.prost_reflect_pool.specs.Lookups.{named_field, json_named_field, extension_where};
     ghost use Rattle.prost_reflect.specs.Named.{lists_named};
     ghost use Rattle.prost_reflect_tables.specs.Rows.{field_row, message_row};
     ghost use Rattle.prost_reflect_tables.specs.Places.{place_of};
     ghost use Rattle.prost_reflect.specs.Named.{IsNamed, NamesEqual, NamesSame, SameMessage, message_row_named};
     ghost use Rattle.prost_reflect.specs.NamedFields.{fields_of, declared_place, is_declared_at};
+    ghost use Rattle.prost_reflect.specs.Options.{OptionsOf};
 
     /// The message type at a place of a pool.
     pub(crate) fn new(pool: DescriptorPool, index: usize) -> MessageDescriptor
@@ -166,6 +172,34 @@ impl MessageDescriptor {
         self.table().is_map_entry
     }
 
+    /// The field of the keys of a map's entries, which has the number 1 (the language guide, "Maps"). The type is that of a
+    /// map's entries, as `is_map_entry` tells.
+    ///
+    /// # Errors
+    ///
+    /// `AllocError` if a clone of the pool is refused.
+    pub fn map_entry_key_field(&self) -> Result<FieldDescriptor, AllocError>
+        requires { option_map (λ message. message.is_map_entry) (message_row_named self.now) ≡ Some true }
+        ensures place { IfOk result (λ field. declared_place (fields_of self.now) 1 ≡ Some field.index) }
+        ensures message { IfOk result (λ field. SameMessage self.now field.message) }
+    {
+        FieldDescriptor::at(self, 0)
+    }
+
+    /// The field of the values of a map's entries, which has the number 2. The type is that of a map's entries, as
+    /// `is_map_entry` tells.
+    ///
+    /// # Errors
+    ///
+    /// `AllocError` if a clone of the pool is refused.
+    pub fn map_entry_value_field(&self) -> Result<FieldDescriptor, AllocError>
+        requires { option_map (λ message. message.is_map_entry) (message_row_named self.now) ≡ Some true }
+        ensures place { IfOk result (λ field. declared_place (fields_of self.now) 2 ≡ Some field.index) }
+        ensures message { IfOk result (λ field. SameMessage self.now field.message) }
+    {
+        FieldDescriptor::at(self, 1)
+    }
+
     /// The fields, in ascending order of their numbers; extensions are none of them.
     pub fn fields(&self) -> Descriptors<'_, MessageDescriptor, FieldDescriptor>
         ensures message { result.parent.now ≡ self.now }
@@ -225,6 +259,23 @@ impl MessageDescriptor {
         ensures { message_record_named self.now ≡ Some (MessageRecord result.now) }
     {
         self.pool.inner.message_record(self.index)
+    }
+
+    /// The message type's options: what its record stores, read by the pool's `google.protobuf.MessageOptions`.
+    /// Where it stores none, the message is empty.
+    ///
+    /// # Errors
+    ///
+    /// `NoOptionsMessage` if the pool has no such message type; `Decode` with a fault that stands in the stored bytes, where
+    /// that does not accept them; `OutOfMemory` if a growth is refused.
+    pub fn options(&self) -> Result<DynamicMessage, OptionsError>
+        ensures { OptionsOf self.now.pool.inner (message_record_named self.now) result }
+    {
+        options_by(
+            &self.pool,
+            "google.protobuf.MessageOptions",
+            &self.descriptor_proto().options,
+        )
     }
 
     /// The ranges of numbers that no field may have, in the order of the record.
@@ -291,10 +342,104 @@ impl MessageDescriptor {
         ensures found { IfOk result (λ found. option_map (λ field. field.index) found ≡ declared_place (fields_of self.now) number) }
         ensures message { IfOk result (λ found. IfSome found (λ field. SameMessage self.now field.message)) }
     {
-        match self.declared_place(number) {
-            Some(index) => Ok(Some(FieldDescriptor::new(self.clone()?, index))),
+        self.field_at(self.declared_place(number))
+    }
+
+    /// The field of a name, or none where no field has it; an extension's finds none.
+    ///
+    /// # Errors
+    ///
+    /// `AllocError` if a clone of the pool is refused.
+    pub fn get_field_by_name(&self, name: &str) -> Result<Option<FieldDescriptor>, AllocError>
+        ensures found { IfOk result (λ found. option_map (λ field. field.index) found ≡ named_field (fields_of self.now) name.now) }
+        ensures message { IfOk result (λ found. IfSome found (λ field. SameMessage self.now field.message)) }
+    {
+        self.field_at(self.pool.inner.field_place_by_name(self.index, name))
+    }
+
+    /// The field of a name in JSON, or none where no field has it; of several, the one of the least number.
+    ///
+    /// # Errors
+    ///
+    /// `AllocError` if a clone of the pool is refused.
+    pub fn get_field_by_json_name(
+        &self,
+        json_name: &str,
+    ) -> Result<Option<FieldDescriptor>, AllocError>
+        ensures found { IfOk result (λ found. option_map (λ field. field.index) found ≡ json_named_field (fields_of self.now) json_name.now) }
+        ensures message { IfOk result (λ found. IfSome found (λ field. SameMessage self.now field.message)) }
+    {
+        self.field_at(
+            self.pool
+                .inner
+                .field_place_by_json_name(self.index, json_name),
+        )
+    }
+
+    /// The field at a place, if there is one.
+    fn field_at(&self, place: Option<usize>) -> Result<Option<FieldDescriptor>, AllocError>
+        requires { IfSome place (λ i. IsTrue (is_declared_at (fields_of self.now) i)) }
+        ensures found { IfOk result (λ found. option_map (λ field. field.index) found ≡ place) }
+        ensures message { IfOk result (λ found. IfSome found (λ field. SameMessage self.now field.message)) }
+    {
+        match place {
+            Some(index) => Ok(Some(FieldDescriptor::at(self, index)?)),
             None => Ok(None),
         }
+    }
+
+    /// The extension of a number, or none where no extension of the message type has it; the number of a field finds none.
+    ///
+    /// # Errors
+    ///
+    /// `AllocError` if a clone of the pool is refused.
+    pub fn get_extension(&self, number: u32) -> Result<Option<ExtensionDescriptor>, AllocError>
+        ensures found { IfOk result (λ found. option_map (λ extension. extension.index) found ≡ extension_where self.now.pool.inner.value self.now.index (λ f. f.number == number)) }
+        ensures pool { IfOk result (λ found. IfSome found (λ extension. extension.pool.inner.value ≡ self.now.pool.inner.value)) }
+    {
+        let pool = &self.pool.inner;
+        extension_at(
+            &self.pool,
+            pool.extension_place_by_number(self.index, number),
+        )
+    }
+
+    /// The extension of a full name, as `my.package.my_extension`, or none where no extension of the message type has it.
+    ///
+    /// # Errors
+    ///
+    /// `AllocError` if a clone of the pool is refused.
+    pub fn get_extension_by_full_name(
+        &self,
+        name: &str,
+    ) -> Result<Option<ExtensionDescriptor>, AllocError>
+        ensures found { IfOk result (λ found. option_map (λ extension. extension.index) found ≡ extension_where self.now.pool.inner.value self.now.index (λ f. bytes_eq f.id.full_name name.now)) }
+        ensures pool { IfOk result (λ found. IfSome found (λ extension. extension.pool.inner.value ≡ self.now.pool.inner.value)) }
+    {
+        let pool = &self.pool.inner;
+        extension_at(
+            &self.pool,
+            pool.extension_place_by_full_name(self.index, name),
+        )
+    }
+
+    /// The extension of a name in JSON, as `[my.package.my_extension]`, or none where no extension of the message type has it.
+    ///
+    /// # Errors
+    ///
+    /// `AllocError` if a clone of the pool is refused.
+    pub fn get_extension_by_json_name(
+        &self,
+        name: &str,
+    ) -> Result<Option<ExtensionDescriptor>, AllocError>
+        ensures found { IfOk result (λ found. option_map (λ extension. extension.index) found ≡ extension_where self.now.pool.inner.value self.now.index (λ f. bytes_eq f.json_name name.now)) }
+        ensures pool { IfOk result (λ found. IfSome found (λ extension. extension.pool.inner.value ≡ self.now.pool.inner.value)) }
+    {
+        let pool = &self.pool.inner;
+        extension_at(
+            &self.pool,
+            pool.extension_place_by_json_name(self.index, name),
+        )
     }
 
     /// The place of the field of a number; the number of an extension finds none.

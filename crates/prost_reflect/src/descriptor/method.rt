@@ -3,9 +3,11 @@
 ghost use Rattle.std.specs.Prelude.{◌≡◌, ◌<◌, length};
 ghost use Rattle.prost_reflect.specs.NamedServices.{methods_of};
 
+use crate::descriptor::options::{OptionsError, options_by};
 use crate::descriptor::{
     DescriptorPool, FileDescriptor, MessageDescriptor, Placed, ServiceDescriptor,
 };
+use crate::message::DynamicMessage;
 use prost_reflect_tables::MethodTable;
 use prost_reflect_types::MethodDescriptorProto;
 use std::alloc::AllocError;
@@ -52,6 +54,7 @@ impl MethodDescriptor {
     ghost use Rattle.prost_reflect.specs.NamedMethods.{method_row_named, record_named};
     ghost use Rattle.prost_reflect.specs.NamedRecords.{client_streams, server_streams};
     ghost use Rattle.prost_reflect.specs.NamedServices.{service_row_named};
+    ghost use Rattle.prost_reflect.specs.Options.{OptionsOf};
 
     /// The method at a place of a service.
     pub fn new(service: ServiceDescriptor, index: usize) -> MethodDescriptor
@@ -122,6 +125,23 @@ impl MethodDescriptor {
     {
         let pool = &self.service.parent_pool().inner;
         pool.method_record(self.service.index(), self.index)
+    }
+
+    /// The method's options: what its record stores, read by the pool's `google.protobuf.MethodOptions`.
+    /// Where it stores none, the message is empty.
+    ///
+    /// # Errors
+    ///
+    /// `NoOptionsMessage` if the pool has no such message type; `Decode` with a fault that stands in the stored bytes, where
+    /// that does not accept them; `OutOfMemory` if a growth is refused.
+    pub fn options(&self) -> Result<DynamicMessage, OptionsError>
+        ensures { OptionsOf self.now.service.pool.inner (record_named self.now) result }
+    {
+        options_by(
+            self.parent_pool(),
+            "google.protobuf.MethodOptions",
+            &self.method_descriptor_proto().options,
+        )
     }
 
     /// Whether the client sends more than one message.

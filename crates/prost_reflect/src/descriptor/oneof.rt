@@ -3,7 +3,12 @@
 ghost use Rattle.std.specs.Prelude.{◌≡◌, ◌<◌, length};
 ghost use Rattle.prost_reflect.specs.NamedLists.{oneofs_of};
 
-use crate::descriptor::{DescriptorPool, FileDescriptor, MessageDescriptor, Placed};
+use crate::descriptor::options::{OptionsError, options_by};
+use crate::descriptor::places::Places;
+use crate::descriptor::{
+    DescriptorPool, Descriptors, FieldDescriptor, FileDescriptor, MessageDescriptor, Placed,
+};
+use crate::message::DynamicMessage;
 use prost_reflect_tables::OneofTable;
 use prost_reflect_types::OneofDescriptorProto;
 use std::alloc::AllocError;
@@ -46,12 +51,16 @@ impl Placed<MessageDescriptor> for OneofDescriptor {
 }
 
 impl OneofDescriptor {
-    ghost use Rattle.std.specs.Prelude.{Some, IfOk, option_and_then, option_map};
+    ghost use Rattle.std.specs.List.{list_all};
+    ghost use Rattle.std.specs.Prelude.{IsTrue, Some, IfOk, option_and_then, option_map};
     ghost use Rattle.prost_reflect_tables.specs.Rows.{oneof_row};
     ghost use Rattle.prost_reflect_pool.specs.RecordPaths.{OneofRecord, record_of};
     ghost use Rattle.prost_reflect_pool.specs.SharedPools.{files_of};
     ghost use Rattle.prost_reflect.specs.Named.{message_row_named};
-    ghost use Rattle.prost_reflect.specs.NamedOneofs.{oneof_row_named};
+    ghost use Rattle.prost_reflect.specs.NamedFields.{fields_of, is_declared_at};
+    ghost use Rattle.prost_reflect.specs.NamedOneofs.{is_synthetic_in, oneof_row_named};
+    ghost use Rattle.prost_reflect.specs.Places.{places_left};
+    ghost use Rattle.prost_reflect.specs.Options.{OptionsOf};
 
     /// The pool that the oneof is of.
     pub fn parent_pool(&self) -> &DescriptorPool
@@ -108,10 +117,54 @@ impl OneofDescriptor {
         pool.oneof_record(self.message.place(), self.index)
     }
 
+    /// The oneof's options: what its record stores, read by the pool's `google.protobuf.OneofOptions`.
+    /// Where it stores none, the message is empty.
+    ///
+    /// # Errors
+    ///
+    /// `NoOptionsMessage` if the pool has no such message type; `Decode` with a fault that stands in the stored bytes, where
+    /// that does not accept them; `OutOfMemory` if a growth is refused.
+    pub fn options(&self) -> Result<DynamicMessage, OptionsError>
+        ensures { OptionsOf self.now.message.pool.inner (option_and_then (λ oneof. record_of (files_of self.now.message.pool.inner) oneof.id) (oneof_row_named self.now)) result }
+    {
+        options_by(
+            self.parent_pool(),
+            "google.protobuf.OneofOptions",
+            &self.oneof_descriptor_proto().options,
+        )
+    }
+
+    /// The members, in the order of their declaration.
+    pub fn fields(&self) -> Descriptors<'_, MessageDescriptor, FieldDescriptor>
+        ensures message { result.parent.now ≡ self.now.message }
+        ensures places { option_map (λ oneof. oneof.fields) (oneof_row_named self.now) ≡ Some (places_left result.places) }
+    {
+        Descriptors::new(
+            &self.message,
+            Places::Listed(self.table().fields.as_slice()),
+        )
+    }
+
+    /// Whether the oneof has one member alone, and that one's record says `proto3_optional`: no source text declares it.
+    pub fn is_synthetic(&self) -> bool
+        ensures { option_map (λ oneof. is_synthetic_in (files_of self.now.message.pool.inner) (fields_of self.now.message) oneof.fields) (oneof_row_named self.now) ≡ Some result }
+    {
+        let pool = &self.message.parent_pool().inner;
+        match self.table().fields.as_slice() {
+            [field] => pool
+                .field_record(self.message.place(), *field)
+                .proto3_optional
+                .unwrap_or(false),
+            _ => false,
+        }
+    }
+
     /// The oneof's row.
     fn table(&self) -> &OneofTable
-        ensures { oneof_row_named self.now ≡ Some (oneof_row result.now) }
+        ensures row { oneof_row_named self.now ≡ Some (oneof_row result.now) }
+        ensures members { IsTrue (list_all (is_declared_at (fields_of self.now.message)) result.now.fields.items) }
     {
-        &self.message.table().oneofs[self.index]
+        let pool = &self.message.parent_pool().inner;
+        pool.oneof_table(self.message.place(), self.index)
     }
 }

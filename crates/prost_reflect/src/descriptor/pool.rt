@@ -2,10 +2,11 @@
 
 use crate::descriptor::places::Places;
 use crate::descriptor::{
-    Descriptors, EnumDescriptor, ExtensionDescriptor, FileDescriptor, MessageDescriptor,
+    Descriptors, EnumDescriptor, ExtensionDescriptor, FileDescriptor, MessageDescriptor, Placed,
     ServiceDescriptor,
 };
 use prost_reflect_pool::LinkedPool;
+use prost_reflect_tables::EnumTable;
 use std::alloc::AllocError;
 use std::rc::Rc;
 
@@ -28,9 +29,11 @@ impl Clone for DescriptorPool {
 }
 
 impl DescriptorPool {
-    ghost use Rattle.std.specs.Prelude.{◌≡◌, IfOk, IfSome, length, option_map};
+    ghost use Rattle.std.specs.Prelude.{◌≡◌, IfOk, IfSome, length, map, option_map};
+    ghost use Rattle.prost_reflect_tables.specs.Rows.{enum_row};
     ghost use Rattle.prost_reflect_tables.specs.Places.{message_place};
     ghost use Rattle.prost_reflect_pool.specs.SharedPools.{files_of, pool_rows, pool_catalog};
+    ghost use Rattle.prost_reflect_pool.specs.Lookups.{file_place, enum_place, extension_place, service_place};
     ghost use Rattle.prost_reflect.specs.Places.{places_from, places_left};
 
     /// The files, in the order in which they were added.
@@ -73,6 +76,21 @@ impl DescriptorPool {
         Descriptors::new(self, Places::up_to(self.inner.extension_count()))
     }
 
+    /// The file of a name, as `my/package/file.proto`, or none where no file has it.
+    ///
+    /// # Errors
+    ///
+    /// `AllocError` if a clone of the pool is refused.
+    pub fn get_file_by_name(&self, name: &str) -> Result<Option<FileDescriptor>, AllocError>
+        ensures found { IfOk result (λ found. option_map (λ file. file.index) found ≡ file_place (files_of self.now.inner) name.now) }
+        ensures pool { IfOk result (λ found. IfSome found (λ file. file.pool.inner.value ≡ self.now.inner.value)) }
+    {
+        match self.inner.file_place(name) {
+            Some(index) => Ok(Some(FileDescriptor::new(self.clone()?, index))),
+            None => Ok(None),
+        }
+    }
+
     /// The message type of a full name, as `my.package.MyMessage`, or none where no message type has it.
     ///
     /// # Errors
@@ -84,6 +102,61 @@ impl DescriptorPool {
     {
         match self.inner.message_place(name) {
             Some(index) => Ok(Some(MessageDescriptor::new(self.clone()?, index))),
+            None => Ok(None),
+        }
+    }
+
+    /// The enum of a full name, or none where no enum has it.
+    ///
+    /// # Errors
+    ///
+    /// `AllocError` if a clone of the pool is refused.
+    pub fn get_enum_by_name(&self, name: &str) -> Result<Option<EnumDescriptor>, AllocError>
+        ensures found { IfOk result (λ found. option_map (λ e. e.index) found ≡ enum_place (pool_rows self.now.inner) name.now) }
+        ensures pool { IfOk result (λ found. IfSome found (λ e. e.pool.inner.value ≡ self.now.inner.value)) }
+    {
+        match self.inner.enum_place(name) {
+            Some(index) => Ok(Some(EnumDescriptor::new(self.clone()?, index))),
+            None => Ok(None),
+        }
+    }
+
+    /// The extension of a full name, or none where no extension has it.
+    ///
+    /// # Errors
+    ///
+    /// `AllocError` if a clone of the pool is refused.
+    pub fn get_extension_by_name(
+        &self,
+        name: &str,
+    ) -> Result<Option<ExtensionDescriptor>, AllocError>
+        ensures found { IfOk result (λ found. option_map (λ extension. extension.index) found ≡ extension_place (pool_rows self.now.inner) (pool_catalog self.now.inner) name.now) }
+        ensures pool { IfOk result (λ found. IfSome found (λ extension. extension.pool.inner.value ≡ self.now.inner.value)) }
+    {
+        match self.inner.extension_place(name) {
+            Some(index) => Ok(Some(ExtensionDescriptor::at(self, index)?)),
+            None => Ok(None),
+        }
+    }
+
+    /// The rows of the pool's enums.
+    pub(crate) fn enum_tables(&self) -> &[EnumTable]
+        ensures { map enum_row result.now ≡ (pool_rows self.now.inner).enums }
+    {
+        self.inner.tables().enums.as_slice()
+    }
+
+    /// The service of a full name, or none where no service has it.
+    ///
+    /// # Errors
+    ///
+    /// `AllocError` if a clone of the pool is refused.
+    pub fn get_service_by_name(&self, name: &str) -> Result<Option<ServiceDescriptor>, AllocError>
+        ensures found { IfOk result (λ found. option_map (λ service. service.index) found ≡ service_place (pool_catalog self.now.inner) name.now) }
+        ensures pool { IfOk result (λ found. IfSome found (λ service. service.pool.inner.value ≡ self.now.inner.value)) }
+    {
+        match self.inner.service_place(name) {
+            Some(index) => Ok(Some(ServiceDescriptor::new(self.clone()?, index))),
             None => Ok(None),
         }
     }

@@ -3,8 +3,10 @@
 ghost use Rattle.std.specs.Prelude.{◌≡◌, ◌<◌, length};
 ghost use Rattle.prost_reflect_pool.specs.SharedPools.{pool_catalog};
 
+use crate::descriptor::options::{OptionsError, options_by};
 use crate::descriptor::places::Places;
 use crate::descriptor::{DescriptorPool, Descriptors, FileDescriptor, MethodDescriptor, Placed};
+use crate::message::DynamicMessage;
 use prost_reflect_tables::{ServiceTable, text_or_empty};
 use prost_reflect_types::{FileDescriptorProto, ServiceDescriptorProto};
 use std::alloc::AllocError;
@@ -50,6 +52,7 @@ impl ServiceDescriptor {
     ghost use Rattle.prost_reflect_pool.specs.SharedPools.{files_of, pool_rows};
     ghost use Rattle.prost_reflect.specs.NamedServices.{service_row_named, methods_of};
     ghost use Rattle.prost_reflect.specs.Places.{places_from, places_left};
+    ghost use Rattle.prost_reflect.specs.Options.{OptionsOf};
 
     /// The service at a place of a pool.
     pub fn new(pool: DescriptorPool, index: usize) -> ServiceDescriptor
@@ -126,6 +129,23 @@ impl ServiceDescriptor {
         ensures { option_and_then (λ service. record_of (files_of self.now.pool.inner) service.id) (service_row_named self.now) ≡ Some (ServiceRecord result.now) }
     {
         self.pool.inner.service_record(self.index)
+    }
+
+    /// The service's options: what its record stores, read by the pool's `google.protobuf.ServiceOptions`.
+    /// Where it stores none, the message is empty.
+    ///
+    /// # Errors
+    ///
+    /// `NoOptionsMessage` if the pool has no such message type; `Decode` with a fault that stands in the stored bytes, where
+    /// that does not accept them; `OutOfMemory` if a growth is refused.
+    pub fn options(&self) -> Result<DynamicMessage, OptionsError>
+        ensures { OptionsOf self.now.pool.inner (option_and_then (λ service. record_of (files_of self.now.pool.inner) service.id) (service_row_named self.now)) result }
+    {
+        options_by(
+            &self.pool,
+            "google.protobuf.ServiceOptions",
+            &self.service_descriptor_proto().options,
+        )
     }
 
     /// The methods, in the order of their declaration.

@@ -14,6 +14,8 @@ ghost use Rattle.prost_reflect.specs.Access.{IsOwnField, number_of, is_field_num
 ghost use Rattle.prost_reflect.specs.Contents.{value_set, value_cleared};
 ghost use Rattle.prost_reflect.specs.View.{value_of, content_of, message_type_of};
 
+mod by_name;
+
 use crate::descriptor::FieldDescriptor;
 use crate::message::DynamicMessage;
 use crate::message::defaults::{default_value, is_field_default};
@@ -189,7 +191,11 @@ impl DynamicMessage {
     }
 
     /// The value at the number of a field or an extension: the one that is stored, lent, or else the default.
-    fn value_or_default(&self, alloc: Global, number: u32) -> Result<Cow<'_, Value>, AllocError>
+    pub(super) fn value_or_default(
+        &self,
+        alloc: Global,
+        number: u32,
+    ) -> Result<Cow<'_, Value>, AllocError>
         requires { is_known (known_of (message_type_of self.now)) number ≡ true }
         ensures { IfOk result (Shows self.now number) }
     {
@@ -200,7 +206,11 @@ impl DynamicMessage {
     }
 
     /// The value at the number of a field or an extension, for writing; where there is none, it is first set to the default.
-    fn value_or_default_mut(&mut self, alloc: Global, number: u32) -> Result<&mut Value, AllocError>
+    pub(super) fn value_or_default_mut(
+        &mut self,
+        alloc: Global,
+        number: u32,
+    ) -> Result<&mut Value, AllocError>
         requires { is_known (known_of (message_type_of self.old)) number ≡ true }
         ensures* writes_back { sem 𝓛 (LendsIfOk the_row value.the_row self.entry result (left_at self.old number) self.old) }
         ensures value { IfOk result (λ lent. IsLentOf self.old number lent.now) }
@@ -225,7 +235,7 @@ impl DynamicMessage {
     }
 
     /// The value at the number, if the message has it.
-    fn had_value(&self, number: u32) -> Option<&Value>
+    pub(super) fn had_value(&self, number: u32) -> Option<&Value>
         ensures value { option_copied result ≡ had_at number self.now }
         ensures has { is_some result ≡ has_at number (content_of self.now) }
     {
@@ -242,7 +252,7 @@ impl DynamicMessage {
     }
 
     /// Takes the value at the number, and answers it if the message had it.
-    fn take_had(&mut self, number: u32) -> Option<Value>
+    pub(super) fn take_had(&mut self, number: u32) -> Option<Value>
         ensures value { result ≡ had_at number self.old }
         ensures message_type { message_type_of self.new ≡ message_type_of self.old }
         ensures content { content_of self.new ≡ value_cleared number (content_of self.old) }

@@ -1,9 +1,10 @@
 //! Reading messages (the encoding guide, "Message Structure", "Last One Wins" and "Unknown Fields").
 
-ghost use Rattle.std.specs.Prelude.{◌≡◌, ◌≢◌, [], Some, None, IfOk, IfErr};
+ghost use Rattle.std.specs.Prelude.{◌≡◌, ◌≢◌, ◌<◌, ◌^◌, [], length, Some, None, IfOk, IfErr};
 ghost use Rattle.prost_reflect_wire.specs.Content.{schema_of, type_of};
 ghost use Rattle.prost_reflect_wire.specs.Grammar.{LEVEL_LIMIT, Accepts};
 ghost use Rattle.prost_reflect_wire.specs.Meaning.{decoded};
+ghost use Rattle.prost_reflect_wire.specs.Writing.{encoded};
 ghost use Rattle.prost_reflect_wire.specs.Typing.{kept, WellStored};
 ghost use Rattle.prost_reflect_wire.specs.Fault.{StandsInMessage};
 ghost use Rattle.prost_reflect_wire.specs.Decoding.{Progress, Step, StandsBehindKey};
@@ -15,6 +16,7 @@ ghost use Rattle.prost_reflect_pool.specs.MapParts.{map_parts};
 ghost use Rattle.prost_reflect_pool.specs.SharedPools.{pool_rows};
 ghost use Rattle.prost_reflect.specs.Targets.{IsTarget, target_of, repeated_target_of, element_target_of, entry_target_of};
 ghost use Rattle.prost_reflect.specs.View.{content_of, message_type_of};
+ghost use Rattle.prost_reflect.specs.ReadBack.{MeansSame};
 
 mod elements;
 mod enum_list;
@@ -25,10 +27,10 @@ pub(crate) mod nested;
 pub(crate) mod scalar;
 
 use crate::descriptor::MessageDescriptor;
+use crate::descriptor::forms::is_repeated;
 use crate::message::DynamicMessage;
 use crate::message::decode::nested::MessageKind;
 use crate::message::decode::scalar::scalar_at;
-use crate::message::defaults::is_repeated;
 use crate::message::enums::is_stray;
 use prost_reflect_pool::PooledType;
 use prost_reflect_tables::{FieldTable, TableKind};
@@ -59,6 +61,7 @@ impl DynamicMessage {
         ensures message_type { IfOk result (λ message. IsNamed descriptor (message_type_of message)) }
         ensures means { IfOk result (λ message. decoded (schema_named descriptor) LEVEL_LIMIT (type_named descriptor) bytes.now ≡ Some (kept (content_of message))) }
         ensures sound { IfOk result (λ message. WellStored (content_of message)) }
+        ensures again { IfOk result (λ message. length (encoded (kept (content_of message))) < 2 ^ 64 → MeansSame (schema_named descriptor) (type_named descriptor) bytes.now (encoded (kept (content_of message)))) }
         ensures accepts { IfOk result (λ _. Accepts (schema_named descriptor) LEVEL_LIMIT (type_named descriptor) bytes.now) }
         ensures fault { IfErr result (λ e. e ≢ DecodeError.OutOfMemory → StandsInMessage (schema_named descriptor) (type_named descriptor) LEVEL_LIMIT e bytes.now) }
         ensures accepted { IfErr result (λ e. Accepts (schema_named descriptor) LEVEL_LIMIT (type_named descriptor) bytes.now → e ≡ DecodeError.OutOfMemory) }

@@ -1,11 +1,10 @@
-//! What fields have where nothing is stored (the guide on field presence).
+//! What fields of a message have where nothing is stored (the guide on field presence).
 
 ghost use Rattle.std.specs.Prelude.{◌≡◌, true, false, IfOk, IsSome, None};
 ghost use Rattle.prost_reflect_wire.specs.Edit.{default_value};
-ghost use Rattle.prost_reflect_wire.specs.Schema.{field_valid, is_list, is_map};
+ghost use Rattle.prost_reflect_wire.specs.Schema.{field_valid};
 ghost use Rattle.prost_reflect_wire.specs.Scalar.{scalar_eq};
-ghost use Rattle.prost_reflect_wire.specs.Typing.{is_empty_value, is_field_default, kept_inside};
-ghost use Rattle.prost_reflect_tables.specs.Linking.{is_repeated};
+ghost use Rattle.prost_reflect_wire.specs.Typing.{is_field_default, kept_inside};
 ghost use Rattle.prost_reflect_tables.specs.Rows.{field_row};
 ghost use Rattle.prost_reflect_tables.specs.Shown.{schema_field, schema_kind, schema_default, own_type};
 ghost use Rattle.prost_reflect_pool.specs.MessageTypes.{schema_at};
@@ -13,14 +12,12 @@ ghost use Rattle.prost_reflect_pool.specs.SharedPools.{pool_rows};
 ghost use Rattle.prost_reflect.specs.Scalars.{plain_kind, scalar_of};
 ghost use Rattle.prost_reflect.specs.View.{value_of};
 
-use crate::message::decode::nested::empty_value;
-use crate::message::enums::first_number;
-use crate::value::Value;
+use crate::descriptor::forms::is_repeated;
 use crate::value::scalar::ScalarRef;
+use crate::value::{Value, defaults};
 use prost_reflect_pool::PooledType;
-use prost_reflect_tables::{Cardinality, FieldTable, TableKind};
+use prost_reflect_tables::{FieldTable, TableKind};
 use std::alloc::{AllocError, Global};
-use std::collections::BTreeMap;
 
 /// Whether a value, of any form, is what its field has where nothing is stored: an empty list or map, or the default of a
 /// field of one value without presence.
@@ -34,7 +31,7 @@ pub(crate) fn is_field_default(message_type: &PooledType, field: &FieldTable, va
                 && !field.supports_presence
                 && is_default(message_type, field, scalar)
         }
-        None => is_empty(message_type, field, value),
+        None => defaults::is_empty(message_type.pool(), field, value),
     }
 }
 
@@ -47,48 +44,7 @@ pub(crate) fn default_value(
     requires { field_valid (schema_at message_type.now) (schema_field (pool_rows message_type.now.pool) (field_row field.now)) ≡ true }
     ensures { IfOk result (λ v. value_of v ≡ default_value (schema_at message_type.now) (schema_field (pool_rows message_type.now.pool) (field_row field.now)).form (schema_field (pool_rows message_type.now.pool) (field_row field.now)).value_type) }
 {
-    if is_map(message_type, field) {
-        return Ok(Value::Map(BTreeMap::new(alloc)));
-    }
-    if is_repeated(field.cardinality) {
-        return Ok(Value::List(Vec::new(alloc)));
-    }
-    match field.kind {
-        TableKind::Message(place) => empty_value(alloc, message_type, place),
-        _ => scalar_default(message_type, field).to_value(alloc),
-    }
-}
-
-/// Whether a value is an empty list of a list field, or an empty map of a map field.
-fn is_empty(message_type: &PooledType, field: &FieldTable, value: &Value) -> bool
-    ensures { result ≡ is_empty_value (schema_field (pool_rows message_type.now.pool) (field_row field.now)).form (value_of value.now) }
-{
-    match value {
-        Value::List(values) => values.is_empty() && is_list(message_type, field),
-        Value::Map(pairs) => pairs.is_empty() && is_map(message_type, field),
-        _ => false,
-    }
-}
-
-/// Whether a field of the label has a list of values, or a map.
-pub(crate) fn is_repeated(cardinality: Cardinality) -> bool
-    ensures { result ≡ is_repeated cardinality }
-{
-    matches!(cardinality, Cardinality::Repeated)
-}
-
-/// Whether a field is a list, and no map.
-fn is_list(message_type: &PooledType, field: &FieldTable) -> bool
-    ensures { result ≡ is_list (schema_field (pool_rows message_type.now.pool) (field_row field.now)).form }
-{
-    is_repeated(field.cardinality) && !is_map(message_type, field)
-}
-
-/// Whether a field is a map.
-fn is_map(message_type: &PooledType, field: &FieldTable) -> bool
-    ensures { result ≡ is_map (schema_field (pool_rows message_type.now.pool) (field_row field.now)).form }
-{
-    message_type.map_parts(field).is_some()
+    defaults::default_value(alloc, message_type.pool(), field)
 }
 
 /// Whether a scalar is the default of its field: the one that the definition writes, else that of the kind. A scalar that
@@ -101,18 +57,7 @@ pub(crate) fn is_default(
     requires { IsSome (plain_kind (field_row field.now).kind) }
     ensures { result ≡ scalar_eq (scalar_of scalar.entry) (own_type (pool_rows message_type.now.pool).enums (field_row field.now)).default }
 {
-    scalar.equals(scalar_default(message_type, field))
-}
-
-/// The default of a field of scalars: the one that the definition writes, else that of the kind.
-fn scalar_default<'a>(message_type: &PooledType, field: &'a FieldTable) -> ScalarRef<'a>
-    requires { IsSome (plain_kind (field_row field.now).kind) }
-    ensures { scalar_of result ≡ (own_type (pool_rows message_type.now.pool).enums (field_row field.now)).default }
-{
-    match &field.default {
-        Some(default) => ScalarRef::written(default),
-        None => kind_default(message_type, field.kind),
-    }
+    scalar.equals(defaults::scalar_default(message_type.pool(), field))
 }
 
 /// The default of a scalar kind: the first number of an enum, else zero, false or empty.
@@ -120,8 +65,5 @@ pub(crate) fn kind_default(message_type: &PooledType, kind: TableKind) -> Scalar
     requires { IsSome (plain_kind kind) }
     ensures { scalar_of result ≡ schema_default None (schema_kind (pool_rows message_type.now.pool).enums kind false) }
 {
-    match kind {
-        TableKind::Enum(place) => ScalarRef::EnumNumber(first_number(message_type, place)),
-        _ => ScalarRef::zero(kind),
-    }
+    defaults::kind_default(message_type.pool(), kind)
 }

@@ -5,7 +5,7 @@ ghost use Rattle.std.specs.Prelude.{◌≡◌, ◌≤◌, ◌<◌, ◌^◌, ◌+
 ghost use Rattle.prost_reflect_wire.specs.declared.key.WireType.TheVariants as wires;
 ghost use Rattle.prost_reflect_wire.specs.Schema.{field_of, passes};
 ghost use Rattle.prost_reflect_wire.specs.Writing.{encoded};
-ghost use Rattle.prost_reflect_wire.specs.Typing.{kept, encodable};
+ghost use Rattle.prost_reflect_wire.specs.Typing.{kept, encodable, WellStored};
 ghost use Rattle.prost_reflect_wire.specs.Storing.{value_bytes};
 ghost use Rattle.prost_reflect_wire.specs.Sinks.{Adds};
 ghost use Rattle.prost_reflect_tables.specs.Rows.{field_row};
@@ -20,13 +20,14 @@ ghost use Rattle.prost_reflect.specs.NestedMaps.{NestedMapOfRows, AreEntries, ne
 ghost use Rattle.prost_reflect_wire.specs.Content.{ScalarValue};
 ghost use Rattle.prost_reflect.specs.View.{key_of, value_of, content_of};
 ghost use Rattle.prost_reflect.specs.Scalars.{TakesScalar};
+ghost use Rattle.prost_reflect.specs.ReadBack.{ReadsBack, IsOnlyOf};
 
 mod list;
 mod map;
 pub(crate) mod scalar;
 
+use crate::descriptor::forms::is_repeated;
 use crate::message::DynamicMessage;
-use crate::message::defaults::is_repeated;
 use crate::message::encode::list::write_list;
 use crate::message::encode::map::write_map;
 use crate::message::encode::scalar::write_kept_scalar;
@@ -242,6 +243,9 @@ impl DynamicMessage {
     pub fn encode(&self, out: &mut Vec<u8>) -> Result<(), EncodeError>
         requires encodable { encodable (content_of self.now) ≡ true }
         ensures ok { OnOk result (out.new.items ≡ out.old.items ++ encoded (kept (content_of self.now))) }
+        ensures fits { OnOk result (length (encoded (kept (content_of self.now))) < 2 ^ 64) }
+        ensures reads_back { OnOk result (WellStored (content_of self.now) → ReadsBack (kept (content_of self.now)) (encoded (kept (content_of self.now)))) }
+        ensures canonical { OnOk result (WellStored (content_of self.now) → IsOnlyOf (kept (content_of self.now)) (encoded (kept (content_of self.now)))) }
         ensures err { OnErr result (out.new.items ≡ out.old.items) }
         ensures too_long { IfErr result (λ e. e ≡ EncodeError.TooLong → 2 ^ 64 ≤ length (encoded (kept (content_of self.now)))) }
     {
@@ -268,6 +272,9 @@ impl DynamicMessage {
     pub fn encode_to_vec(&self, alloc: Global) -> Result<Vec<u8>, EncodeError>
         requires encodable { encodable (content_of self.now) ≡ true }
         ensures ok { IfOk result (λ out. out.items ≡ encoded (kept (content_of self.now))) }
+        ensures fits { IfOk result (λ out. length out.items < 2 ^ 64) }
+        ensures reads_back { IfOk result (λ out. WellStored (content_of self.now) → ReadsBack (kept (content_of self.now)) out.items) }
+        ensures canonical { IfOk result (λ out. WellStored (content_of self.now) → IsOnlyOf (kept (content_of self.now)) out.items) }
         ensures too_long { IfErr result (λ e. e ≡ EncodeError.TooLong → 2 ^ 64 ≤ length (encoded (kept (content_of self.now)))) }
     {
         let mut out = Vec::new(alloc);

@@ -6,7 +6,7 @@ ghost use Rattle.std.specs.Ordering.{int_eq};
 ghost use Rattle.prost_reflect_wire.specs.Scalar.{is_declared};
 ghost use Rattle.prost_reflect_tables.specs.Rows.{enum_row, enum_value_row, value_numbers};
 ghost use Rattle.prost_reflect_tables.specs.Shown.{first_number, enum_numbers};
-ghost use Rattle.prost_reflect_pool.specs.Enums.{first_of};
+ghost use Rattle.prost_reflect_pool.specs.Enums.{numbers_of};
 ghost use Rattle.prost_reflect_pool.specs.SharedPools.{pool_rows};
 ghost use Rattle.prost_reflect.specs.Scalars.{is_stray_number};
 ghost use Rattle.prost_reflect.specs.View.{value_of};
@@ -21,16 +21,6 @@ pub(crate) fn first_in(table: &EnumTable) -> i32
 {
     match table.values.first() {
         Some(value) => value.number,
-        None => 0,
-    }
-}
-
-/// The number of the first value of the enum at a place of the message type's pool.
-pub(crate) fn first_number(message_type: &PooledType, place: usize) -> i32
-    ensures { result ≡ first_of (slice_get (pool_rows message_type.now.pool).enums place) }
-{
-    match message_type.enum_table(place) {
-        Some(table) => first_in(table),
         None => 0,
     }
 }
@@ -52,6 +42,16 @@ fn lacks(table: &EnumTable, number: i32) -> bool
     ensures { result ≡ not (is_declared (enum_numbers (enum_row table.now)) number) }
 {
     table.is_closed && !has_number(table.values.as_slice(), number)
+}
+
+/// Whether the enum at a place takes the number: an open one takes each, a closed one those that it declares.
+pub(crate) fn takes_number(enums: &[EnumTable], place: usize, number: i32) -> bool
+    ensures { result ≡ is_declared (numbers_of (slice_get (map enum_row enums.now) place)) number }
+{
+    match enums.get(place) {
+        Some(table) => !lacks(table, number),
+        None => true,
+    }
 }
 
 /// Whether a value is a number that its kind, a closed enum of the message type's pool, does not declare. Its record

@@ -1,4 +1,4 @@
-use Rattle.std.proofs.Common.{ap, sym, ◌∙◌}
+use Rattle.std.proofs.Common.{ap, ◌∙◌}
 use Rattle.std.proofs.Common.{map}
 use Rattle.prost_reflect_wire.specs.Unknown.{record_of}
 use Rattle.prost_reflect.specs.UnknownLists.{all_unknown}

@@ -1,4 +1,4 @@
-use Rattle.std.proofs.Common.{◌-◌, ◌≤◌, arith}
+use Rattle.std.proofs.Common.{◌-◌, arith}
 use Rattle.prost_reflect.proofs.PlaceRanges.{range_within}
 use Rattle.prost_reflect.proofs.descriptor.places.Places.up_to.Goals as goal
 

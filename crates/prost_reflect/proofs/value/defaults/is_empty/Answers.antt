@@ -3,7 +3,7 @@ use Rattle.std.specs.Prelude.{◌==◌}
 use Rattle.prost_reflect.specs.View.{value_of}
 use Rattle.prost_reflect.proofs.Views.{value_of_list, value_of_map}
 use Rattle.prost_reflect.proofs.Defaults.{some_items, no_pairs, some_pairs}
-use Rattle.prost_reflect.proofs.message.defaults.is_empty.Goals as goal
+use Rattle.prost_reflect.proofs.value.defaults.is_empty.Goals as goal
 
 pub returns-else-is_empty : goal.returns-else-is_empty
 returns-else-is_empty c = let vs = c.in-List.values in

@@ -1,0 +1,17 @@
+use Rattle.std.proofs.Common.{ℕ, List}
+use Rattle.std.proofs.lemmas.Result.{on_ok_weaker}
+use Rattle.prost_reflect_wire.specs.Writing.{encoded}
+use Rattle.prost_reflect_wire.specs.Typing.{kept}
+use Rattle.prost_reflect.specs.View.{content_of}
+use Rattle.prost_reflect.proofs.ReadBack.{reads_back, only_of}
+use Rattle.prost_reflect.proofs.message.DynamicMessage.encode.Goals as goal
+
+pub returns-clause-reads_back : goal.returns-clause-reads_back
+returns-clause-reads_back c =
+    let written : List ℕ = encoded (kept (content_of c.args.self.now)) in
+    on_ok_weaker c.append_to.result (λ fits stored. reads_back c.args.self.now stored (fits c.new-sink.result written c.new-sink.ensures c.write_body.ensures)) c.append_to.ensures.fits
+
+pub returns-clause-canonical : goal.returns-clause-canonical
+returns-clause-canonical c =
+    let written : List ℕ = encoded (kept (content_of c.args.self.now)) in
+    on_ok_weaker c.append_to.result (λ fits stored. only_of c.args.self.now stored (fits c.new-sink.result written c.new-sink.ensures c.write_body.ensures)) c.append_to.ensures.fits

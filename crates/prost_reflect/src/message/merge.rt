@@ -1,0 +1,47 @@
+//! Merging bytes into messages (the encoding guide, "Last One Wins").
+
+ghost use Rattle.std.specs.Prelude.{◌≡◌, ◌≢◌, IfOk, IfErr};
+ghost use Rattle.prost_reflect_wire.specs.Content.{schema_of, type_of};
+ghost use Rattle.prost_reflect_wire.specs.Grammar.{LEVEL_LIMIT, Accepts};
+ghost use Rattle.prost_reflect_wire.specs.Typing.{WellStored};
+ghost use Rattle.prost_reflect_wire.specs.Fault.{StandsInMessage};
+ghost use Rattle.prost_reflect_wire.specs.Decoding.{Holds};
+ghost use Rattle.prost_reflect_pool.specs.MessageTypes.{SameMessage};
+ghost use Rattle.prost_reflect.specs.Merged.{IsMerged};
+ghost use Rattle.prost_reflect.specs.View.{content_of, message_type_of};
+
+use crate::message::DynamicMessage;
+use prost_reflect_wire::{DecodeError, RECURSION_LIMIT};
+
+impl DynamicMessage {
+    /// Reads the records of the bytes behind those of the message, in at most 100 levels of messages and groups.
+    ///
+    /// A scalar replaces the one that is there, a message or group is read into the one that is there, the elements of a
+    /// list stand behind those that are there, and an entry of a map takes the place of the one with an equal key; the
+    /// other members of a oneof go, and unknown fields stand behind those that are there (the encoding guide, "Last One
+    /// Wins", "Oneofs", "Packed Repeated Fields" and "Maps"). So merging the pieces of a message one by one gives what
+    /// all of them mean, read as one.
+    ///
+    /// # Errors
+    ///
+    /// `Truncated`, `Varint`, `Key`, `WireType`, `EndGroup`, `Utf8` or `Depth` where that fault stands in the bytes, and
+    /// only where the type does not accept them; `OutOfMemory` if a growth is refused. A refusal leaves the message as it
+    /// was.
+    pub fn merge(&mut self, bytes: &[u8]) -> Result<(), DecodeError>
+        requires sound { WellStored (content_of self.old) }
+        ensures merged { IfOk result (λ _. IsMerged bytes.now (content_of self.old) (content_of self.new)) }
+        ensures holds { IfOk result (λ _. Holds (content_of self.old) (content_of self.new)) }
+        ensures message_type { SameMessage (message_type_of self.old) (message_type_of self.new) }
+        ensures accepts { IfOk result (λ _. Accepts (schema_of (content_of self.old)) LEVEL_LIMIT (type_of (content_of self.old)) bytes.now) }
+        ensures fault { IfErr result (λ e. e ≢ DecodeError.OutOfMemory → StandsInMessage (schema_of (content_of self.old)) (type_of (content_of self.old)) LEVEL_LIMIT e bytes.now) }
+        ensures accepted { IfErr result (λ e. Accepts (schema_of (content_of self.old)) LEVEL_LIMIT (type_of (content_of self.old)) bytes.now → e ≡ DecodeError.OutOfMemory) }
+        ensures unchanged { IfErr result (λ _. self.new ≡ self.old) }
+        ensures sound { WellStored (content_of self.new) }
+    {
+        let alloc = self.fields.allocator();
+        let mut merged = self.clone()?;
+        merged.merge_records(alloc, bytes, RECURSION_LIMIT)?;
+        *self = merged;
+        Ok(())
+    }
+}
