@@ -5,7 +5,7 @@ use std::test::Fail;
 
 /// `k.proto`, of proto2: `message M { optional E e = 1; map<string, int32> m = 2; } enum E { ZERO = 0; }` in `k`. And
 /// `o.proto`, of proto3: `message M { E e = 1; } enum E { ZERO = 0; }` in `o`.
-static K_AND_O: &[u8] =
+pub(crate) static K_AND_O: &[u8] =
     b"\x0as\x0a\x07k.proto\x12\x01k\"V\x0a\x01M\x12\x0f\x0a\x01e\x18\x01 \x01(\x0e2\x04.k.E\x12\x16\
     \x0a\x01m\x18\x02 \x03(\x0b2\x0b.k.M.MEntry\x1a(\x0a\x06MEntry\x12\x0b\x0a\x03key\x18\x01 \x01\
     (\x09\x12\x0d\x0a\x05value\x18\x02 \x01(\x05:\x028\x01*\x0d\x0a\x01E\x12\x08\x0a\x04ZERO\x10\x00\

@@ -5,6 +5,12 @@
 #[cfg(test)]
 mod builtin;
 #[cfg(test)]
+mod described;
+#[cfg(test)]
 mod descriptors;
 #[cfg(test)]
+mod lookups;
+#[cfg(test)]
 mod pools;
+#[cfg(test)]
+mod reductions;

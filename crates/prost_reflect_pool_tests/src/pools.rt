@@ -8,7 +8,7 @@ use std::alloc::{AllocError, Global};
 use std::test::Fail;
 
 /// `m.proto`, of proto3: `message MyMessage { int32 foo = 1; oneof optional { int32 bar = 2; } MyMessage nested = 3; }` in `package`.
-static SET_M: &[u8] =
+pub(crate) static SET_M: &[u8] =
     b"\x0as\x0a\x07m.proto\x12\x07package\"W\x0a\x09MyMessage\x12\x0b\x0a\x03foo\x18\x01 \x01(\x05\x12\
     \x0d\x0a\x03bar\x18\x02 \x01(\x05H\x00\x12\"\x0a\x06nested\x18\x03 \x01(\x0b2\x12.package.MyMess\
     ageB\x0a\x0a\x08optionalb\x06proto3";

@@ -27,7 +27,7 @@ pub fn choices_descriptor(alloc: Global) -> Result<MessageDescriptor, Fail> {
 pub fn choices(alloc: Global) -> Result<PooledType, Fail> {
     let set = FileDescriptorSet::decode(alloc, CHOICES)?;
     let pool = LinkedPool::new(alloc).with_files(set.file)?;
-    match pool.tables().message_place("Choices") {
+    match pool.message_place("Choices") {
         Some(index) => Ok(PooledType::new(Rc::new(alloc, pool)?, index)),
         None => Err(Fail::from("no such message type")),
     }

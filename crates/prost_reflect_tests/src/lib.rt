@@ -3,9 +3,13 @@
 #![tactic(auto)]
 
 #[cfg(test)]
+mod by_name;
+#[cfg(test)]
 mod changes;
 #[cfg(test)]
 mod choices;
+#[cfg(test)]
+mod defaults;
 #[cfg(test)]
 mod equality;
 #[cfg(test)]
@@ -13,10 +17,24 @@ mod fields;
 #[cfg(test)]
 mod forms;
 #[cfg(test)]
+mod kinds;
+#[cfg(test)]
 mod lengths;
+#[cfg(test)]
+mod merges;
 #[cfg(test)]
 mod messages;
 #[cfg(test)]
+mod options;
+#[cfg(test)]
 mod present;
+#[cfg(test)]
+mod relay;
+#[cfg(test)]
+mod setting;
+#[cfg(test)]
+mod texts;
+#[cfg(test)]
+mod validity;
 #[cfg(test)]
 mod values;

@@ -10,7 +10,6 @@ use Rattle.prost_reflect_wire.specs.Meaning.{decoded}
 use Rattle.prost_reflect_wire.specs.Fault.{StandsInMessage}
 use Rattle.prost_reflect_wire.specs.declared.error.DecodeError.{DecodeError}
 use Rattle.prost_reflect_wire.specs.declared.error.DecodeError.TheVariants as decode_errors
-use Rattle.prost_reflect_wire.specs.declared.error.EncodeError.{EncodeError}
 use Rattle.prost_reflect_wire.specs.declared.error.EncodeError.TheVariants as encode_errors
 use Rattle.prost_reflect_tables.specs.Places.{message_place}
 use Rattle.prost_reflect_tables.specs.Shown.{schema_from}
@@ -18,6 +17,9 @@ use Rattle.prost_reflect_tables.specs.declared.error.PoolError.{PoolError}
 use Rattle.prost_reflect_tables.specs.declared.error.PoolError.TheVariants as pool_errors
 use Rattle.prost_reflect_pool.specs.declared.pool.LinkedPool.{LinkedPool}
 use Rattle.prost_reflect_pool.specs.Pools.{pool_rows}
+use Rattle.prost_reflect.specs.declared.message.relay.RelayError.TheVariants as relays
+use Rattle.prost_reflect.specs.declared.message.relay.RelayHexError.{RelayHexError}
+use Rattle.prost_reflect.specs.declared.message.relay.RelayHexError.TheVariants as hex_relays
 use Rattle.protorelay.specs.Sets.{IsPoolOfSet, RefusesSet, IsNoSet}
 use Rattle.protorelay.specs.declared.refusal.Refusal.{Refusal}
 use Rattle.protorelay.specs.declared.refusal.Refusal.TheVariants.{Set, Pool, Name, Hex, Decode, Encode, Memory}
@@ -55,7 +57,7 @@ pub record RefusesBytes (pool : LinkedPool) (name digits : List ℕ) (e : Decode
   pub asked : IsAsked pool name digits message_type bytes
   pub stands : StandsInMessage (pool_schema pool) message_type LEVEL_LIMIT e bytes
 
--- The first step that fails in the pool. Want of memory may come anywhere.
+-- The first step that fails in the pool. Being out of memory may come anywhere.
 abbrev pub RefusesIn : LinkedPool → (name digits : List ℕ) → Refusal → Type 0
 RefusesIn pool name digits Name = message_place (pool_rows pool) name ≡ None
 RefusesIn pool name digits Hex = (message_place (pool_rows pool) name ≢ None) × IsErr (decode_of digits)
@@ -98,6 +100,9 @@ abbrev pub decode_refusal : DecodeError → Refusal
 decode_refusal decode_errors.OutOfMemory = Memory
 decode_refusal e = Decode e
 
-abbrev pub encode_refusal : EncodeError → Refusal
-encode_refusal encode_errors.OutOfMemory = Memory
-encode_refusal encode_errors.TooLong = Encode encode_errors.TooLong
+abbrev pub relay_refusal : RelayHexError → Refusal
+relay_refusal hex_relays.Hex = Hex
+relay_refusal (hex_relays.Relay (relays.Decode e)) = decode_refusal e
+relay_refusal (hex_relays.Relay (relays.Encode encode_errors.TooLong)) = Encode encode_errors.TooLong
+relay_refusal (hex_relays.Relay (relays.Encode encode_errors.OutOfMemory)) = Memory
+relay_refusal hex_relays.OutOfMemory = Memory

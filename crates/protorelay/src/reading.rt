@@ -29,7 +29,7 @@ pub fn read(alloc: Global, set: &str, name: &str, digits: &str) -> Result<Dynami
 }
 
 /// The pool that the word for a descriptor set stands for.
-fn pool_of(alloc: Global, set: &str) -> Result<DescriptorPool, Refusal>
+pub fn pool_of(alloc: Global, set: &str) -> Result<DescriptorPool, Refusal>
     ensures made { IfOk result (λ pool. IsPoolOfSet set.now pool.inner.value) }
     ensures refused { IfErr result (RefusesPool set.now) }
 {
@@ -57,7 +57,7 @@ fn read_in(
 }
 
 /// The message type of the name in the pool.
-fn message_type(pool: &DescriptorPool, name: &str) -> Result<MessageDescriptor, Refusal>
+pub fn message_type(pool: &DescriptorPool, name: &str) -> Result<MessageDescriptor, Refusal>
     ensures found { IfOk result (λ message.
         message_place (pool_rows pool.now.inner.value) name.now ≡ Some (type_named message)) }
     ensures schema { IfOk result (λ message. schema_named message ≡ pool_schema pool.now.inner.value) }

@@ -1,12 +1,12 @@
 //! Why a command is refused, and the lines that say so.
 
 ghost use Rattle.std.specs.Prelude.{◌≡◌, Some};
-ghost use Rattle.protorelay.specs.Reading.{hex_refusal, pool_refusal, decode_refusal, encode_refusal};
+ghost use Rattle.protorelay.specs.Reading.{hex_refusal, pool_refusal, decode_refusal, relay_refusal};
 ghost use Rattle.protorelay.specs.Refusals.{decode_name, encode_name, pool_name, refusal_line};
 ghost use Rattle.protorelay.specs.declared.refusal.Refusal.TheVariants as refusals;
 
 use hex::FromHexError;
-use prost_reflect::{DecodeError, EncodeError, PoolError};
+use prost_reflect::{DecodeError, EncodeError, PoolError, RelayError, RelayHexError};
 use std::alloc::AllocError;
 use std::fmt;
 
@@ -87,13 +87,18 @@ impl From<DecodeError> for Refusal {
     }
 }
 
-impl From<EncodeError> for Refusal {
-    ghost from_gives = { λ error refusal. refusal ≡ encode_refusal error };
+impl From<RelayHexError> for Refusal {
+    ghost from_gives = { λ error refusal. refusal ≡ relay_refusal error };
 
-    fn from(error: EncodeError) -> Refusal {
+    fn from(error: RelayHexError) -> Refusal {
         match error {
-            EncodeError::OutOfMemory => Refusal::Memory,
-            EncodeError::TooLong => Refusal::Encode(EncodeError::TooLong),
+            RelayHexError::Hex => Refusal::Hex,
+            RelayHexError::Relay(RelayError::Decode(fault)) => Refusal::from(fault),
+            RelayHexError::Relay(RelayError::Encode(EncodeError::TooLong)) => {
+                Refusal::Encode(EncodeError::TooLong)
+            }
+            RelayHexError::Relay(RelayError::Encode(EncodeError::OutOfMemory))
+            | RelayHexError::OutOfMemory => Refusal::Memory,
         }
     }
 }

@@ -1,0 +1,95 @@
+//! Which message types are reductions of which.
+
+use prost_reflect::{DescriptorPool, MessageDescriptor};
+use std::test::Fail;
+
+/// `t.proto`, of proto3, with the package `t`:
+///
+///     message M { int32 foo = 1; oneof optional { int32 bar = 2; } M nested = 3; }
+///     message WithoutBar { int32 foo = 1; WithoutBar nested = 3; }
+///     message TextBelow { int32 foo = 1; oneof optional { int32 bar = 2; } Text nested = 3; }
+///     message Text { string foo = 1; oneof optional { int32 bar = 2; } Text nested = 3; }
+///     message P { map<string, int32> m = 1; map<int32, M> q = 2; P p = 3; }
+///     message WithoutQ { map<string, int32> m = 1; WithoutQ p = 3; }
+///     message Q { oneof c { int32 a = 1; M b = 2; } }
+///     message Empty {}
+///     message Foo { repeated int32 values = 1; }
+///
+/// And `s.proto`, of proto2, with the package `s`:
+///
+///     message Foo { repeated int32 values = 1; extensions 100 to 199; }
+///     message C { enum E { A = 0; B = 1; } optional E e = 1; }
+///     message Fewer { enum E { A = 0; } optional E e = 1; }
+///     message Turned { enum E { B = 1; A = 0; } optional E e = 1; }
+///     message Declared { optional int32 x = 1; }
+///     message Extended { extensions 1; }
+///     extend Foo { repeated int32 ext_values = 100; }
+///     extend Extended { optional int32 x = 1; }
+static TYPES: &[u8] =
+    b"\x0a\x80\x05\x0a\x07t.proto\x12\x01t\"A\x0a\x01M\x12\x0b\x0a\x03foo\x18\x01 \x01(\x05\x12\x0d\
+    \x0a\x03bar\x18\x02 \x01(\x05H\x00\x12\x14\x0a\x06nested\x18\x03 \x01(\x0b2\x04.t.MB\x0a\x0a\
+    \x08optional\"8\x0a\x0aWithoutBar\x12\x0b\x0a\x03foo\x18\x01 \x01(\x05\x12\x1d\x0a\x06nested\
+    \x18\x03 \x01(\x0b2\x0d.t.WithoutBar\"L\x0a\x09TextBelow\x12\x0b\x0a\x03foo\x18\x01 \x01(\x05\
+    \x12\x0d\x0a\x03bar\x18\x02 \x01(\x05H\x00\x12\x17\x0a\x06nested\x18\x03 \x01(\x0b2\x07.t.Text\
+    B\x0a\x0a\x08optional\"G\x0a\x04Text\x12\x0b\x0a\x03foo\x18\x01 \x01(\x09\x12\x0d\x0a\x03bar\
+    \x18\x02 \x01(\x05H\x00\x12\x17\x0a\x06nested\x18\x03 \x01(\x0b2\x07.t.TextB\x0a\x0a\x08option\
+    al\"\x9e\x01\x0a\x01P\x12\x16\x0a\x01m\x18\x01 \x03(\x0b2\x0b.t.P.MEntry\x12\x16\x0a\x01q\x18\
+    \x02 \x03(\x0b2\x0b.t.P.QEntry\x12\x0f\x0a\x01p\x18\x03 \x01(\x0b2\x04.t.P\x1a(\x0a\x06MEntry\
+    \x12\x0b\x0a\x03key\x18\x01 \x01(\x09\x12\x0d\x0a\x05value\x18\x02 \x01(\x05:\x028\x01\x1a.\
+    \x0a\x06QEntry\x12\x0b\x0a\x03key\x18\x01 \x01(\x05\x12\x13\x0a\x05value\x18\x02 \x01(\x0b2\
+    \x04.t.M:\x028\x01\"k\x0a\x08WithoutQ\x12\x1d\x0a\x01m\x18\x01 \x03(\x0b2\x12.t.WithoutQ.MEntr\
+    y\x12\x16\x0a\x01p\x18\x03 \x01(\x0b2\x0b.t.WithoutQ\x1a(\x0a\x06MEntry\x12\x0b\x0a\x03key\x18\
+    \x01 \x01(\x09\x12\x0d\x0a\x05value\x18\x02 \x01(\x05:\x028\x01\"(\x0a\x01Q\x12\x0b\x0a\x01a\
+    \x18\x01 \x01(\x05H\x00\x12\x11\x0a\x01b\x18\x02 \x01(\x0b2\x04.t.MH\x00B\x03\x0a\x01c\"\x07\
+    \x0a\x05Empty\"\x15\x0a\x03Foo\x12\x0e\x0a\x06values\x18\x01 \x03(\x05b\x06proto3\x0a\x93\x02\
+    \x0a\x07s.proto\x12\x01s\"\x1c\x0a\x03Foo\x12\x0e\x0a\x06values\x18\x01 \x03(\x05*\x05\x08d\
+    \x10\xc8\x01\")\x0a\x01C\x12\x11\x0a\x01e\x18\x01 \x01(\x0e2\x06.s.C.E\"\x11\x0a\x01E\x12\x05\
+    \x0a\x01A\x10\x00\x12\x05\x0a\x01B\x10\x01\"*\x0a\x05Fewer\x12\x15\x0a\x01e\x18\x01 \x01(\x0e2\
+    \x0a.s.Fewer.E\"\x0a\x0a\x01E\x12\x05\x0a\x01A\x10\x00\"3\x0a\x06Turned\x12\x16\x0a\x01e\x18\
+    \x01 \x01(\x0e2\x0b.s.Turned.E\"\x11\x0a\x01E\x12\x05\x0a\x01B\x10\x01\x12\x05\x0a\x01A\x10\
+    \x00\"\x15\x0a\x08Declared\x12\x09\x0a\x01x\x18\x01 \x01(\x05\"\x10\x0a\x08Extended*\x04\x08\
+    \x01\x10\x02:\x1a\x0a\x0aext_values\x12\x06.s.Foo\x18d \x03(\x05:\x16\x0a\x01x\x12\x0b.s.Exten\
+    ded\x18\x01 \x01(\x05";
+/// An older type, a newer one, and whether the older one is a reduction of the newer.
+static ROWS: [(&str, &str, bool); 24] = [
+    ("t.M", "t.M", true),
+    ("t.WithoutBar", "t.M", true),
+    ("t.M", "t.WithoutBar", false),
+    ("t.TextBelow", "t.M", false),
+    ("t.Text", "t.M", false),
+    ("t.TextBelow", "t.TextBelow", true),
+    ("t.P", "t.P", true),
+    ("t.WithoutQ", "t.P", true),
+    ("t.P", "t.WithoutQ", false),
+    ("t.WithoutQ.MEntry", "t.P.MEntry", true),
+    ("t.Empty", "t.P.MEntry", false),
+    ("t.Q", "t.Q", true),
+    ("t.Empty", "t.Q", false),
+    ("t.Empty", "t.M", true),
+    ("t.Foo", "s.Foo", true),
+    ("s.Foo", "t.Foo", false),
+    ("s.Foo", "s.Foo", true),
+    ("s.C", "s.C", true),
+    ("s.Fewer", "s.C", false),
+    ("s.C", "s.Fewer", false),
+    ("s.Turned", "s.C", false),
+    ("s.Declared", "s.Extended", false),
+    ("s.Extended", "s.Declared", false),
+    ("s.Extended", "s.Extended", true),
+];
+
+fn type_of(pool: &DescriptorPool, full_name: &str) -> Result<MessageDescriptor, Fail> {
+    let found = pool.get_message_by_name(full_name)?;
+    Ok(found.ok_or("no such type")?)
+}
+
+#[test]
+fn a_type_with_fields_left_out_is_a_reduction(rt: HostRuntime) -> Result<(), Fail> {
+    let pool = DescriptorPool::decode(rt.alloc(), TYPES)?;
+    for (older, newer, answer) in &ROWS {
+        let older = type_of(&pool, older)?;
+        let newer = type_of(&pool, newer)?;
+        assert_eq!(rt; older.is_reduction_of(&newer)?, *answer);
+    }
+    Ok(())
+}

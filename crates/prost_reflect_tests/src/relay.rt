@@ -1,0 +1,117 @@
+//! What older message types relay, and what newer ones read of it.
+
+use prost_reflect::{
+    DecodeError, DescriptorPool, DynamicMessage, MessageDescriptor, RelayError, RelayHexError,
+    relay, relay_hex,
+};
+use std::alloc::Global;
+use std::test::Fail;
+
+/// `a`, of proto3, and `b`, of proto2:
+///
+///     message MyMessage { oneof optional { int32 bar = 2; } MyMessage nested = 3; }
+///     message P { map<int32, MyMessage> q = 2; P p = 3; }
+///     message Q {}
+///     message Foo { repeated int32 values = 1; }
+///
+///     message C { optional E e = 1; }
+///     enum E { A = 0; }
+pub(crate) static OLDER: &[u8] =
+    b"\x0a\xcb\x01\x0a\x01a\"B\x0a\x09MyMessage\x12\x0d\x0a\x03bar\x18\x02 \x01(\x05H\x00\x12\x1a\
+    \x0a\x06nested\x18\x03 \x01(\x0b2\x0a.MyMessageB\x0a\x0a\x08optional\"^\x0a\x01P\x12\x14\x0a\
+    \x01q\x18\x02 \x03(\x0b2\x09.P.QEntry\x12\x0d\x0a\x01p\x18\x03 \x01(\x0b2\x02.P\x1a4\x0a\x06QE\
+    ntry\x12\x0b\x0a\x03key\x18\x01 \x01(\x05\x12\x19\x0a\x05value\x18\x02 \x01(\x0b2\x0a.MyMessag\
+    e:\x028\x01\"\x03\x0a\x01Q\"\x15\x0a\x03Foo\x12\x0e\x0a\x06values\x18\x01 \x03(\x05b\x06proto3\
+    \x0a#\x0a\x01b\"\x12\x0a\x01C\x12\x0d\x0a\x01e\x18\x01 \x01(\x0e2\x02.E*\x0a\x0a\x01E\x12\x05\
+    \x0a\x01A\x10\x00";
+
+/// `a`, of proto3, and `b`, of proto2:
+///
+///     message MyMessage { int32 foo = 1; oneof optional { int32 bar = 2; } MyMessage nested = 3; }
+///     message P { map<string, int32> m = 1; map<int32, MyMessage> q = 2; P p = 3; }
+///     message Q { oneof c { int32 a = 1; MyMessage b = 2; } }
+///
+///     message Foo { repeated int32 values = 1; extensions 100 to 199; }
+///     extend Foo { repeated int32 ext_values = 100; }
+///     message C { optional E e = 1; }
+///     enum E { A = 0; B = 1; }
+pub(crate) static NEWER: &[u8] =
+    b"\x0a\xad\x02\x0a\x01a\"O\x0a\x09MyMessage\x12\x0b\x0a\x03foo\x18\x01 \x01(\x05\x12\x0d\x0a\
+    \x03bar\x18\x02 \x01(\x05H\x00\x12\x1a\x0a\x06nested\x18\x03 \x01(\x0b2\x0a.MyMessageB\x0a\x0a\
+    \x08optional\"\x9e\x01\x0a\x01P\x12\x14\x0a\x01m\x18\x01 \x03(\x0b2\x09.P.MEntry\x12\x14\x0a\
+    \x01q\x18\x02 \x03(\x0b2\x09.P.QEntry\x12\x0d\x0a\x01p\x18\x03 \x01(\x0b2\x02.P\x1a(\x0a\x06ME\
+    ntry\x12\x0b\x0a\x03key\x18\x01 \x01(\x09\x12\x0d\x0a\x05value\x18\x02 \x01(\x05:\x028\x01\x1a\
+    4\x0a\x06QEntry\x12\x0b\x0a\x03key\x18\x01 \x01(\x05\x12\x19\x0a\x05value\x18\x02 \x01(\x0b2\
+    \x0a.MyMessage:\x028\x01\".\x0a\x01Q\x12\x0b\x0a\x01a\x18\x01 \x01(\x05H\x00\x12\x17\x0a\x01b\
+    \x18\x02 \x01(\x0b2\x0a.MyMessageH\x00B\x03\x0a\x01cb\x06proto3\x0ab\x0a\x01b\"\x1c\x0a\x03Foo\
+    \x12\x0e\x0a\x06values\x18\x01 \x03(\x05*\x05\x08d\x10\xc8\x01\"\x12\x0a\x01C\x12\x0d\x0a\x01e\
+    \x18\x01 \x01(\x0e2\x02.E*\x11\x0a\x01E\x12\x05\x0a\x01A\x10\x00\x12\x05\x0a\x01B\x10\x01:\x18\
+    \x0a\x0aext_values\x12\x04.Foo\x18d \x03(\x05";
+
+/// A message type, the digits of bytes, those of what its older form relays them as, and whether its newer form reads the
+/// same from both. The older forms of `Q` and `C` are no reductions: members of a oneof are missing, and a number of a closed
+/// enum.
+static ROWS: [(&str, &str, &str, bool); 6] = [
+    ("MyMessage", "1a0410420805", "1a0408051042", true),
+    ("MyMessage", "1A0410420805", "1a0408051042", true),
+    ("P", "12000a00", "0a0012021200", true),
+    ("Foo", "08010802", "0a020102", true),
+    ("Q", "12000801", "08011200", false),
+    ("C", "08010800", "08000801", false),
+];
+
+/// Texts that `MyMessage` in its older form does not relay.
+static REFUSED: [(&str, RelayHexError); 3] = [
+    ("1a0", RelayHexError::Hex),
+    ("1x", RelayHexError::Hex),
+    (
+        "1a04104208",
+        RelayHexError::Relay(RelayError::Decode(DecodeError::Truncated)),
+    ),
+];
+
+pub(crate) fn message_type(
+    alloc: Global,
+    set: &[u8],
+    name: &str,
+) -> Result<MessageDescriptor, Fail> {
+    let found = DescriptorPool::decode(alloc, set)?.get_message_by_name(name)?;
+    Ok(found.ok_or("no such message type")?)
+}
+
+fn newer(alloc: Global, name: &str, digits: &str) -> Result<DynamicMessage, Fail> {
+    let bytes = hex::decode(alloc, digits)?;
+    let newer = message_type(alloc, NEWER, name)?;
+    Ok(DynamicMessage::decode(alloc, newer, bytes.as_slice())?)
+}
+
+#[test]
+fn messages_pass_through_older_types(rt: HostRuntime) -> Result<(), Fail> {
+    let alloc = rt.alloc();
+    for (name, digits, relayed, passes) in ROWS {
+        let older = message_type(alloc, OLDER, name)?;
+        assert_eq!(rt; relay_hex(alloc, &older, digits)?.as_str(), relayed);
+        let same = newer(alloc, name, digits)? == newer(alloc, name, relayed)?;
+        assert_eq!(rt; same, passes);
+    }
+    Ok(())
+}
+
+#[test]
+fn what_is_not_relayed_is_named(rt: HostRuntime) -> Result<(), Fail> {
+    let alloc = rt.alloc();
+    let older = message_type(alloc, OLDER, "MyMessage")?;
+    for (digits, refusal) in REFUSED {
+        assert_eq!(rt; relay_hex(alloc, &older, digits).err(), Some(refusal));
+    }
+    Ok(())
+}
+
+#[test]
+fn bytes_are_relayed(rt: HostRuntime) -> Result<(), Fail> {
+    let alloc = rt.alloc();
+    let older = message_type(alloc, OLDER, "Foo")?;
+    let written = relay(alloc, &older, &[8, 1, 8, 2])?;
+    assert!(rt; written.as_slice() == [0x0a, 2, 1, 2].as_slice());
+    Ok(())
+}

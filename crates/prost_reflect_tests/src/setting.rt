@@ -1,0 +1,72 @@
+//! Setting fields to values that may not fit, and the texts of refusals.
+
+use crate::kinds::{kinds_descriptor, kinds_field, kinds_pool};
+use prost_reflect::{DescriptorPool, DynamicMessage, SetFieldError, Value};
+use std::alloc::Global;
+use std::test::Fail;
+
+/// A field, and the text of the refusal of a value that does not fit it.
+static TEXTS: &[(&str, &str)] = &[
+    ("n", "expected a value of type 'int32'"),
+    ("values", "expected a value of type 'repeated int32'"),
+    ("m", "expected a value of type 'map<string, int32>'"),
+    ("e", "expected a value of type 'v.E'"),
+    ("v", "expected a value of type 'v.V'"),
+    ("b", "expected a value of type 'bytes'"),
+];
+
+fn refusal(
+    alloc: Global,
+    pool: &DescriptorPool,
+    name: &str,
+) -> Result<Option<SetFieldError>, Fail> {
+    let field = kinds_field(pool, name)?;
+    let mut message = DynamicMessage::new(alloc, kinds_descriptor(pool)?);
+    if !message.owns_field(&field) {
+        return Err(Fail::from("a field of another type"));
+    }
+    Ok(message.try_set_field(&field, Value::U32(5)).err())
+}
+
+#[test]
+fn refusals_name_the_type(rt: HostRuntime) -> Result<(), Fail> {
+    let pool = kinds_pool(rt.alloc())?;
+    for row in TEXTS {
+        let refused = refusal(rt.alloc(), &pool, row.0)?.ok_or("not refused")?;
+        assert!(rt; format!(in rt.alloc(); "{refused}")?.as_str() == row.1);
+    }
+    let missing = SetFieldError::NotFound;
+    assert!(rt; format!(in rt.alloc(); "{missing}")?.as_str() == "field not found");
+    let memory = SetFieldError::OutOfMemory;
+    assert!(rt; format!(in rt.alloc(); "{memory}")?.as_str() == "out of memory");
+    Ok(())
+}
+
+#[test]
+fn what_fits_is_set(rt: HostRuntime) -> Result<(), Fail> {
+    let pool = kinds_pool(rt.alloc())?;
+    let field = kinds_field(&pool, "n")?;
+    let mut message = DynamicMessage::new(rt.alloc(), kinds_descriptor(&pool)?);
+    if !message.owns_field(&field) {
+        return Err(Fail::from("a field of another type"));
+    }
+    assert!(rt; message.try_set_field(&field, Value::I32(7)).is_ok());
+    assert!(rt; message.try_set_field(&field, Value::I64(8)).is_err());
+    let read = DynamicMessage::decode(rt.alloc(), kinds_descriptor(&pool)?, &[0x30, 7])?;
+    assert!(rt; message == read);
+    Ok(())
+}
+
+/// The refusal hands back the field and the value.
+#[test]
+fn what_does_not_fit_is_handed_back(rt: HostRuntime) -> Result<(), Fail> {
+    let pool = kinds_pool(rt.alloc())?;
+    match refusal(rt.alloc(), &pool, "n")? {
+        Some(SetFieldError::InvalidType { field, value }) => {
+            assert!(rt; field == kinds_field(&pool, "n")?);
+            assert!(rt; value == Value::U32(5));
+        }
+        _ => return Err(Fail::from("not refused so")),
+    }
+    Ok(())
+}
