@@ -1,5 +1,5 @@
 -- Why relaying is refused.
-use Rattle.std.proofs.Common.{◌≡◌, ◌≢◌, ◌⊎◌, inl, inr, subst, ℕ, List, Option, Some, None, Result, Ok, Err, IsErr, refl, sym, ◌∙◌}
+use Rattle.std.proofs.Common.{◌≡◌, ◌⊎◌, inl, inr, subst, ℕ, List, Some, None, Result, Ok, Err, IsErr, refl, sym}
 use Rattle.hex.specs.Hex.{decode_of}
 use Rattle.hex.specs.declared.error.FromHexError.{FromHexError}
 use Rattle.hex.proofs.HexLemmas.{decode_of-ok}
@@ -12,12 +12,11 @@ use Rattle.prost_reflect_tables.specs.Places.{message_place}
 use Rattle.prost_reflect_pool.specs.declared.pool.LinkedPool.{LinkedPool}
 use Rattle.prost_reflect_pool.specs.Pools.{pool_rows}
 use Rattle.prost_reflect.specs.Relaying.{IsHex, RefusesHex}
-use Rattle.prost_reflect.specs.declared.message.relay.RelayError.{RelayError}
 use Rattle.prost_reflect.specs.declared.message.relay.RelayError.TheVariants as relays
 use Rattle.prost_reflect.specs.declared.message.relay.RelayHexError.{RelayHexError}
 use Rattle.prost_reflect.specs.declared.message.relay.RelayHexError.TheVariants as hex_relays
 use Rattle.protorelay.specs.Sets.{IsPoolOfSet}
-use Rattle.protorelay.specs.Reading.{pool_schema, RefusesPool, decode_refusal, relay_refusal}
+use Rattle.protorelay.specs.Reading.{pool_schema, RefusesPool, relay_refusal}
 use Rattle.protorelay.specs.Relaying.{RefusesRelay}
 use Rattle.protorelay.specs.declared.refusal.Refusal.{Refusal}
 use Rattle.protorelay.specs.declared.refusal.Refusal.TheVariants as refusals
