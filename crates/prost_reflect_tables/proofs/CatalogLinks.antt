@@ -1,5 +1,5 @@
 -- What the catalog of checked files names is there: the rows of extensions, the message types of methods, and the files that files import.
-use Rattle.std.proofs.Common.{◌≡◌, ℕ, zero, suc, ◌+◌, ◌<◌, ℤ, pos, negsuc, Bool, true, false, cond, ◌||◌, List, [], ◌∷◌, ◌++◌, length, map, get_or, Option, Some, None, is_none, unwrap_or, refl, sym, ap, ◌∙◌, subst, arith, slice_get, bytes_eq, nat_eq, nat_le, String, Global, string_bytes}
+use Rattle.std.proofs.Common.{◌≡◌, ℕ, zero, suc, ◌+◌, ◌<◌, ℤ, pos, negsuc, Bool, true, false, cond, List, [], ◌∷◌, ◌++◌, length, map, get_or, Option, Some, None, is_none, unwrap_or, refl, sym, ap, ◌∙◌, subst, arith, slice_get, bytes_eq, nat_le, String, Global, string_bytes}
 use Rattle.std.specs.List.{All, list_any}
 use Rattle.std.proofs.lemmas.Bool.{or_parts, eq-eqb, leb-false, ltb-true}
 use Rattle.std.proofs.lemmas.List.{length-map}
@@ -10,7 +10,7 @@ use Rattle.prost_reflect_types.specs.declared.MethodDescriptorProto.{MethodDescr
 use Rattle.prost_reflect_tables.specs.declared.error.PoolError.TheVariants as errors
 use Rattle.prost_reflect_tables.specs.declared.catalog.Catalog.{Catalog}
 use Rattle.prost_reflect_tables.specs.Names.{text_or_empty}
-use Rattle.prost_reflect_tables.specs.Rows.{FieldRow, MessageRow, TableRows}
+use Rattle.prost_reflect_tables.specs.Rows.{FieldRow, TableRows}
 use Rattle.prost_reflect_tables.specs.Places as places
 use Rattle.prost_reflect_tables.specs.Places.{fields_at, fields_or_none}
 use Rattle.prost_reflect_tables.specs.Linked.{is_linked}
@@ -26,7 +26,7 @@ use Rattle.prost_reflect_tables.proofs.Keeping.{fields_ascend}
 use Rattle.prost_reflect_tables.proofs.Linkwell.Items.{none_at}
 use Rattle.prost_reflect_tables.proofs.Linkwell.Premises.{three}
 use Rattle.prost_reflect_tables.proofs.Linkwell.Kinds.{FoundIn, found_in, first_place, message_name, position_at}
-use Rattle.prost_reflect_tables.proofs.Linkwell.Fields.{number_shown, linked_at, linked_there, message_there}
+use Rattle.prost_reflect_tables.proofs.Linkwell.Fields.{number_shown, linked_there, message_there}
 
 -- ITEMS
 

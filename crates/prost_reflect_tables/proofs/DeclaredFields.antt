@@ -1,5 +1,5 @@
 -- Members of oneofs, and the keys and values of map entries, are fields of their message type, and none of them is an extension.
-use Rattle.std.proofs.Common.{◌≡◌, ℕ, zero, suc, ◌+◌, ◌≤◌, Bool, true, false, not, ◌&&◌, ◌||◌, List, [], ◌∷◌, ◌++◌, length, map, filter, nat_lt, Option, Some, None, refl, sym, ap, ◌∙◌, subst, arith, slice_get}
+use Rattle.std.proofs.Common.{◌≡◌, ℕ, zero, suc, ◌+◌, ◌≤◌, Bool, true, false, not, ◌&&◌, ◌||◌, List, [], ◌∷◌, ◌++◌, length, map, filter, nat_lt, Some, refl, sym, ap, ◌∙◌, arith, slice_get}
 use Rattle.std.specs.List.{list_all}
 use Rattle.std.proofs.lemmas.Bool.{and_from, lt-ltb, le-ltb}
 use Rattle.std.proofs.lemmas.List.Folds.{list_all-map}
@@ -12,11 +12,11 @@ use Rattle.prost_reflect_tables.specs.Linked.{is_linked, ascending_from}
 use Rattle.prost_reflect_tables.specs.EntryFaults.{is_entry}
 use Rattle.prost_reflect_tables.specs.Flat.{DefinitionRow, FlatMessageRow, FlatRows, flattened}
 use Rattle.prost_reflect_tables.specs.Checked.{Checked}
-use Rattle.prost_reflect_tables.specs.Linking.{Links, links_of, natural_or_zero, belonging, extended_place, linked_field, declared_fields, fields_of_message, linked_message, in_order, oneof_place, member_place, oneofs_from, messages_from, linked_rows}
+use Rattle.prost_reflect_tables.specs.Linking.{Links, links_of, natural_or_zero, belonging, extended_place, linked_field, declared_fields, fields_of_message, linked_message, in_order, oneof_place, member_place, oneofs_from, linked_rows}
 use Rattle.prost_reflect_tables.specs.Built.{AreTablesOf}
 use Rattle.prost_reflect_tables.proofs.Ascending.{rises, onward, numbers_above}
 use Rattle.prost_reflect_tables.proofs.Built.{checked_of, linked_of}
-use Rattle.prost_reflect_tables.proofs.CatalogLinks.{HasRow, order_keeps, fields_shown}
+use Rattle.prost_reflect_tables.proofs.CatalogLinks.{HasRow, order_keeps}
 use Rattle.prost_reflect_tables.proofs.Keeping.{fields_ascend}
 use Rattle.prost_reflect_tables.proofs.Linkwell.Fields.{number_shown, linked_there}
 use Rattle.prost_reflect_tables.proofs.Linkwell.Entries.{EntryFields, entry_fields}

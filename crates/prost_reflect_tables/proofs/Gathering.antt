@@ -51,7 +51,7 @@ pub rows_from : {X Y : Type 0} (row : X → Y) (test : Y → Bool) (i : ℕ) (xs
 rows_from row test i [] = refl
 rows_from row test i (x ∷ xs) = ap (λ l. cond (test (row x)) (i ∷ l) l) (rows_from row test (i + 1) xs)
 
-rows_gathered : {X Y : Type 0} (row : X → Y) (owner : Y → Option ℕ) (xs : List X) (T n : ℕ) → gathered (λ x. owner (row x)) xs T n ≡ gathered owner (map row xs) T n
+pub rows_gathered : {X Y : Type 0} (row : X → Y) (owner : Y → Option ℕ) (xs : List X) (T n : ℕ) → gathered (λ x. owner (row x)) xs T n ≡ gathered owner (map row xs) T n
 rows_gathered row owner xs T zero = refl
 rows_gathered row owner xs T (suc n) = ap (λ l. l ∷ gathered (λ x. owner (row x)) xs (T + 1) n) (rows_from row (λ y. is_place T (owner y)) 0 xs) ∙ ap (λ l. places_of owner (map row xs) T ∷ l) (rows_gathered row owner xs (T + 1) n)
 
@@ -70,8 +70,3 @@ places_shown row i (x ∷ xs) = ap (λ l. i ∷ l) (places_shown row (i + 1) xs)
 
 pub all_shown : {X Y : Type 0} (row : X → Y) (xs : List X) → all_places xs ≡ all_places (map row xs)
 all_shown row xs = places_shown row 0 xs
-
--- What items belong to may be listed first.
-pub keys_gathered : {X : Type 0} (owner : X → Option ℕ) (xs : List X) (keys : List (Option ℕ)) (n count : ℕ) (lists : List (List ℕ)) → keys ≡ map owner xs → count ≡ n → lists ≡ gathered (λ k. k) keys 0 count → lists ≡ gathered owner xs 0 n
-keys_gathered owner xs keys n count lists is size e =
-    e ∙ (ap (λ ks. gathered (λ k. k) ks 0 count) is ∙ (ap (gathered (λ k. k) (map owner xs) 0) size ∙ sym (rows_gathered owner (λ k. k) xs 0 n)))

@@ -5,6 +5,7 @@ use Rattle.prost_reflect_types.specs.declared.FileDescriptorProto.{FileDescripto
 use Rattle.prost_reflect_types.specs.declared.DescriptorProto.TheViews.{out-DescriptorProto}
 use Rattle.prost_reflect_tables.specs.declared.build.flatten.Scope.{Scope}
 use Rattle.prost_reflect_tables.specs.declared.build.flatten.Definition.{Definition}
+use Rattle.prost_reflect_tables.specs.declared.build.flatten.DefinitionRef.{DefinitionRef}
 use Rattle.prost_reflect_tables.specs.declared.build.flatten.FlatMessage.{FlatMessage}
 use Rattle.prost_reflect_tables.specs.declared.build.flatten.FlatEnum.{FlatEnum}
 use Rattle.prost_reflect_tables.specs.declared.build.flatten.FlatService.{FlatService}
@@ -16,6 +17,9 @@ scope_row s = record { name = s.name.now; path = s.path.now; file = s.file; is_p
 
 abbrev pub definition_row : {R : Type 0} → Definition R → DefinitionRow R
 definition_row d = record { full_name = string_bytes d.full_name; path = d.path.items; file = d.file; is_proto3 = d.is_proto3; parent = d.parent; proto = d.proto.now }
+
+abbrev pub lent_row : {R : Type 0} → DefinitionRef R → DefinitionRow R
+lent_row d = record { full_name = d.full_name.now; path = d.path.now; file = d.file; is_proto3 = d.is_proto3; parent = d.parent; proto = d.proto.now }
 
 abbrev pub message_row : FlatMessage → FlatMessageRow
 message_row m = record {

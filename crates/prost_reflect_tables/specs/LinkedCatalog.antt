@@ -85,10 +85,13 @@ enum_lists e =
 
 -- EXTENSIONS AND SERVICES
 
-abbrev pub linked_extension : Links → TableRows → DefinitionRow FieldDescriptorProto → ExtensionRow
-linked_extension links linked d =
-    let message = place_or_first links.messages d.proto.extendee in
+-- The message that an extension extends, and the place of its number's row there.
+abbrev pub extension_of : TableRows → (message : ℕ) → DefinitionRow FieldDescriptorProto → ExtensionRow
+extension_of linked message d =
     record { message = message; field = unwrap_or (places.place_of (places.fields_at linked message) (natural_or_zero d.proto.number)) 0 }
+
+abbrev pub linked_extension : Links → TableRows → DefinitionRow FieldDescriptorProto → ExtensionRow
+linked_extension links linked d = extension_of linked (place_or_first links.messages d.proto.extendee) d
 
 abbrev pub linked_method : Links → DefinitionRow MethodDescriptorProto → MethodRow
 linked_method links d = record {

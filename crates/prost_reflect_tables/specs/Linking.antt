@@ -138,10 +138,10 @@ abbrev pub linked_default : Links → TableKind → Option (String Global) → O
 linked_default links kind None = None
 linked_default links kind (Some text) = field_default kind (values_of_kind links kind) (string_bytes text)
 
-unfoldable pub linked_field : Links → (is_extension : Bool) → DefinitionRow FieldDescriptorProto → FieldRow
-linked_field links is_extension d =
+-- With this kind and this default.
+abbrev pub field_with : (is_extension : Bool) → DefinitionRow FieldDescriptorProto → TableKind → (default : Option Scalar) → FieldRow
+field_with is_extension d kind default =
     let f = d.proto in
-    let kind = linked_kind links f in
     let cardinality = cardinality_of_label (natural_or_zero f.label) in
     record {
       id = linked_identity f.name d;
@@ -153,9 +153,12 @@ linked_field links is_extension d =
       cardinality = cardinality;
       is_packed = linked_packed d.is_proto3 f cardinality kind;
       supports_presence = linked_presence d.is_proto3 is_extension f cardinality kind;
-      default = linked_default links kind f.default_value;
+      default = default;
       oneof = place_in f.oneof_index;
     }
+
+unfoldable pub linked_field : Links → (is_extension : Bool) → DefinitionRow FieldDescriptorProto → FieldRow
+linked_field links is_extension d = field_with is_extension d (linked_kind links d.proto) (linked_default links (linked_kind links d.proto) d.proto.default_value)
 
 -- ORDER
 

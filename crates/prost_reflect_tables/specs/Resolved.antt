@@ -1,22 +1,24 @@
 -- Fields and extensions with what their texts mean, each text looked up once.
-use Rattle.std.specs.Prelude.{◌≡◌, ℕ, Bool, List, map, Option, option_map, Vec}
+use Rattle.std.specs.Prelude.{◌≡◌, ℕ, Bool, List, map, Option, option_map, unwrap_or, Vec}
 use Rattle.std.specs.declared.alloc.Global.{Global}
 use Rattle.prost_reflect_types.specs.declared.FieldDescriptorProto.{FieldDescriptorProto}
 use Rattle.prost_reflect_wire.specs.Scalar.{Scalar}
 use Rattle.prost_reflect_tables.specs.declared.tables.TableKind.{TableKind}
 use Rattle.prost_reflect_tables.specs.declared.build.resolve.ResolvedField.{ResolvedField}
 use Rattle.prost_reflect_tables.specs.declared.build.resolve.Resolved.{Resolved}
-use Rattle.prost_reflect_tables.specs.Rows.{written_scalar}
+use Rattle.prost_reflect_tables.specs.Rows.{FieldRow, TableRows, written_scalar}
+use Rattle.prost_reflect_tables.specs.CatalogRows.{ExtensionRow}
+use Rattle.prost_reflect_tables.specs.LinkedCatalog.{extension_of}
 use Rattle.prost_reflect_tables.specs.Flat.{DefinitionRow, FlatRows}
 use Rattle.prost_reflect_tables.specs.Faults.{place_named}
 use Rattle.prost_reflect_tables.specs.EntryFaults.{is_entry}
-use Rattle.prost_reflect_tables.specs.Linking.{Links, links_of, extended_place, linked_kind, linked_default}
+use Rattle.prost_reflect_tables.specs.FlatViews.{lent_row}
+use Rattle.prost_reflect_tables.specs.Linking.{Links, links_of, extended_place, field_with, linked_kind, linked_default}
 use Rattle.prost_reflect_tables.specs.Indexed.{IsIndex}
 
--- A record, the places of the messages and the enum that its texts name, its kind and its default.
+-- A definition, the places of the messages and the enum that its texts name, its kind and its default.
 pub record ResolvedRow : Type 0 where
-  pub proto : FieldDescriptorProto
-  pub is_proto3 : Bool
+  pub definition : DefinitionRow FieldDescriptorProto
   pub extendee : Option ℕ
   pub message : Option ℕ
   pub enumeration : Option ℕ
@@ -25,8 +27,7 @@ pub record ResolvedRow : Type 0 where
 
 unfoldable pub resolve : Links → DefinitionRow FieldDescriptorProto → ResolvedRow
 resolve links d = record {
-  proto = d.proto;
-  is_proto3 = d.is_proto3;
+  definition = d;
   extendee = extended_place links d;
   message = place_named links.messages d.proto.type_name;
   enumeration = place_named links.enums d.proto.type_name;
@@ -36,8 +37,7 @@ resolve links d = record {
 
 abbrev pub resolved_row : ResolvedField → ResolvedRow
 resolved_row f = record {
-  proto = f.proto.now;
-  is_proto3 = f.is_proto3;
+  definition = lent_row f.definition;
   extendee = f.extendee;
   message = f.message;
   enumeration = f.enumeration;
@@ -47,6 +47,14 @@ resolved_row f = record {
 
 abbrev pub resolved_lists : List (Vec ResolvedField Global) → List (List ResolvedRow)
 resolved_lists lists = map (λ fields. map resolved_row fields.items) lists
+
+-- The row that it gives.
+unfoldable pub resolved_field : (is_extension : Bool) → ResolvedRow → FieldRow
+resolved_field is_extension r = field_with is_extension r.definition r.kind r.default
+
+-- Where that of an extension stands; one that extends nothing counts as of the first message.
+abbrev pub resolved_extension : TableRows → ResolvedRow → ExtensionRow
+resolved_extension linked r = extension_of linked (unwrap_or r.extendee 0) r.definition
 
 -- The index of names, the flags of entries, and the fields of each message and the extensions, resolved.
 pub record IsResolved (resolved : Resolved) (rows : FlatRows) : Type 0 where

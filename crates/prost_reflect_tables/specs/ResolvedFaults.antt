@@ -12,36 +12,36 @@ abbrev pub unfound : Option (String Global) → Option ℕ → Bool
 unfound text place = is_some text && is_none place
 
 abbrev pub type_unfound : ResolvedRow → Bool
-type_unfound f = (is_message_type f.proto.type_ && unfound f.proto.type_name f.message) || (is_enum_type f.proto.type_ && unfound f.proto.type_name f.enumeration)
+type_unfound f = (is_message_type f.definition.proto.type_ && unfound f.definition.proto.type_name f.message) || (is_enum_type f.definition.proto.type_ && unfound f.definition.proto.type_name f.enumeration)
 
 abbrev pub extendee_unfound : ResolvedRow → Bool
-extendee_unfound f = unfound f.proto.extendee f.extendee
+extendee_unfound f = unfound f.definition.proto.extendee f.extendee
 
 abbrev pub message_of : FlatRows → Option ℕ → Option FlatMessageRow
 message_of rows place = option_and_then (λ p. slice_get rows.messages p) place
 
 abbrev pub found_outside : FlatRows → ResolvedRow → Bool
-found_outside rows f = is_out_of (number_or_zero f.proto.number) (message_of rows f.extendee)
+found_outside rows f = is_out_of (number_or_zero f.definition.proto.number) (message_of rows f.extendee)
 
 -- The extensions whose message was found, each with its number.
 abbrev pub numbered_found : List ResolvedRow → List Numbered
 numbered_found [] = []
-numbered_found (f ∷ fs) = numbered_at (number_or_zero f.proto.number) f.extendee ++ numbered_found fs
+numbered_found (f ∷ fs) = numbered_at (number_or_zero f.definition.proto.number) f.extendee ++ numbered_found fs
 
 abbrev pub found_of_entry : FlatRows → ResolvedRow → Bool
-found_of_entry rows f = is_message_type f.proto.type_ && is_entry_message (message_of rows f.message)
+found_of_entry rows f = is_message_type f.definition.proto.type_ && is_entry_message (message_of rows f.message)
 
 abbrev pub wrongly_found : FlatRows → ResolvedRow → Bool
-wrongly_found rows f = found_of_entry rows f && not (is_code 3 f.proto.label && is_code 11 f.proto.type_)
+wrongly_found rows f = found_of_entry rows f && not (is_code 3 f.definition.proto.label && is_code 11 f.definition.proto.type_)
 
 abbrev pub misplaced : ResolvedRow → Bool
-misplaced f = is_some f.proto.default_value && (is_code 3 f.proto.label || is_message_type f.proto.type_ || f.is_proto3)
+misplaced f = is_some f.definition.proto.default_value && (is_code 3 f.definition.proto.label || is_message_type f.definition.proto.type_ || f.definition.is_proto3)
 
 abbrev pub unread : ResolvedRow → Bool
-unread f = is_some f.proto.default_value && is_none f.default
+unread f = is_some f.definition.proto.default_value && is_none f.default
 
 abbrev pub bad_read : ResolvedRow → Bool
-bad_read f = misplaced f || (not (is_float_type f.proto.type_) && unread f)
+bad_read f = misplaced f || (not (is_float_type f.definition.proto.type_) && unread f)
 
 abbrev pub bad_float : ResolvedRow → Bool
-bad_float f = is_float_type f.proto.type_ && unread f
+bad_float f = is_float_type f.definition.proto.type_ && unread f

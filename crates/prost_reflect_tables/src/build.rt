@@ -56,8 +56,8 @@ pub fn build_tables(
 {
     let flat = flattened(alloc, files)?;
     let resolved = check_files(alloc, files, &flat)?;
-    let (messages, enums) = linked(alloc, &flat, &resolved.index)?;
+    let (messages, enums) = linked(alloc, &flat, &resolved)?;
     let tables = Tables { messages, enums };
-    let catalog = linked_catalog(alloc, files, &flat, &resolved.index, &tables)?;
+    let catalog = linked_catalog(alloc, files, &flat, &resolved, &tables)?;
     Ok((tables, catalog))
 }

@@ -116,11 +116,11 @@ fn check_faults(
 /// # Errors
 ///
 /// The name of a fault that stands in the files, or `OutOfMemory` if a growth was refused.
-pub fn check_files<'a>(
+pub fn check_files<'f, 'a>(
     alloc: Global,
     files: &[&FileDescriptorProto],
-    flat: &Flat<'a>,
-) -> Result<Resolved<'a>, PoolError>
+    flat: &'f Flat<'a>,
+) -> Result<Resolved<'f>, PoolError>
     ensures ok { OnOk result (Checked (file_list files.now) (flat_rows flat.now)) }
     ensures resolved { IfOk result (λ resolved. IsResolved resolved (flat_rows flat.now)) }
     ensures stands { IfErr result (λ e. e ≢ pool_errors.OutOfMemory → Stands e (file_list files.now) (flat_rows flat.now)) }

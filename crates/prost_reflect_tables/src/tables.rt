@@ -6,6 +6,8 @@ ghost use Rattle.std.specs.Prelude.{IsTrue};
 ghost use Rattle.prost_reflect_tables.specs.Rows.{rows_from};
 ghost use Rattle.prost_reflect_tables.specs.Linked.{is_linked};
 
+use std::alloc::AllocError;
+
 /// How many values a field has, as its label says (the proto2 guide, "Field Labels").
 #[derive(Clone, Copy, PartialEq, Eq, Debug)]
 pub enum Cardinality {
@@ -79,6 +81,28 @@ pub enum WrittenDefault {
     Bytes(Vec<u8>),
     /// Of an enum field.
     EnumNumber(i32),
+}
+
+impl Clone for WrittenDefault {
+    ghost use Rattle.std.specs.Prelude.{◌≡◌};
+    ghost use Rattle.prost_reflect_tables.specs.Rows.{written_scalar};
+
+    ghost is_clone = { λ default copied. written_scalar copied ≡ written_scalar default };
+
+    fn clone(&self) -> Result<WrittenDefault, AllocError> {
+        match self {
+            WrittenDefault::Bool(value) => Ok(WrittenDefault::Bool(*value)),
+            WrittenDefault::I32(value) => Ok(WrittenDefault::I32(*value)),
+            WrittenDefault::I64(value) => Ok(WrittenDefault::I64(*value)),
+            WrittenDefault::U32(value) => Ok(WrittenDefault::U32(*value)),
+            WrittenDefault::U64(value) => Ok(WrittenDefault::U64(*value)),
+            WrittenDefault::F32(bits) => Ok(WrittenDefault::F32(*bits)),
+            WrittenDefault::F64(bits) => Ok(WrittenDefault::F64(*bits)),
+            WrittenDefault::String(text) => Ok(WrittenDefault::String(text.clone()?)),
+            WrittenDefault::Bytes(bytes) => Ok(WrittenDefault::Bytes(bytes.clone()?)),
+            WrittenDefault::EnumNumber(number) => Ok(WrittenDefault::EnumNumber(*number)),
+        }
+    }
 }
 
 /// Where a definition stands.

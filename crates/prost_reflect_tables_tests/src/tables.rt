@@ -2,7 +2,7 @@
 
 use prost_reflect_tables::{
     Catalog, EnumTable, FieldTable, Flat, FlatMessage, Identity, MessageTable, PoolError,
-    TableKind, Tables, WrittenDefault, build_tables, check_files, flattened, indexed, linked,
+    TableKind, Tables, WrittenDefault, build_tables, check_files, flattened, all_resolved, linked,
     written_default,
 };
 use prost_reflect_types::FileDescriptorProto;
@@ -416,8 +416,8 @@ static FORMS: &[u8] =
 fn linked_proto2(rt: HostRuntime) -> Result<(), Fail> {
     let file = FileDescriptorProto::decode(rt.alloc(), FORMS)?;
     let flat = flattened(rt.alloc(), &[&file])?;
-    let index = indexed(rt.alloc(), &flat)?;
-    let (messages, enums) = linked(rt.alloc(), &flat, &index)?;
+    let resolved = all_resolved(rt.alloc(), &flat)?;
+    let (messages, enums) = linked(rt.alloc(), &flat, &resolved)?;
     assert_eq!(rt;
         shown(rt.alloc(), &messages, &enums)?.as_str(),
         "M false: 5 x Message(1) Optional extension true group true packed false presence true None None; 7 e Enum(0) Required extension false group false packed false presence true Some(EnumNumber(0)) None; 8 l Int32 Repeated extension false group false packed false presence false None None; 9 p Int32 Repeated extension false group false packed true presence false None None; Entry true: 1 key String Optional extension false group false packed false presence true None None; E 0 closed true; "

@@ -4,7 +4,7 @@ ghost use Rattle.std.specs.Prelude.{◌≡◌, IfOk, map};
 ghost use Rattle.prost_reflect_tables.specs.CatalogRows.{sorted_row, catalog_row};
 ghost use Rattle.prost_reflect_tables.specs.Faults.{names_of};
 ghost use Rattle.prost_reflect_tables.specs.FlatViews.{definition_row, file_list, flat_rows, service_row, text_list};
-ghost use Rattle.prost_reflect_tables.specs.Indexed.{IsIndex};
+ghost use Rattle.prost_reflect_tables.specs.Resolved.{IsResolved};
 ghost use Rattle.prost_reflect_tables.specs.LinkedCatalog.{sorted_places, linked_catalog};
 ghost use Rattle.prost_reflect_tables.specs.Linking.{linked_rows};
 ghost use Rattle.prost_reflect_tables.specs.Schema.{rows_of};
@@ -12,9 +12,10 @@ ghost use Rattle.prost_reflect_tables.specs.Schema.{rows_of};
 use crate::build::extensions::linked_extensions;
 use crate::build::files::linked_files;
 use crate::build::flatten::{Definition, Flat, FlatService};
-use crate::build::index::{Index, add_names, enum_names, message_names};
+use crate::build::index::{add_names, enum_names, message_names};
 use crate::build::lists::{lists_of_enums, lists_of_messages};
 use crate::build::order::ordered_texts;
+use crate::build::resolve::Resolved;
 use crate::build::services::linked_services;
 use crate::catalog::{Catalog, SortedPlaces};
 use crate::check::types::file_names;
@@ -76,19 +77,19 @@ pub fn linked_catalog(
     alloc: Global,
     files: &[&FileDescriptorProto],
     flat: &Flat,
-    index: &Index,
+    resolved: &Resolved,
     tables: &Tables,
 ) -> Result<Catalog, AllocError>
-    requires index { IsIndex index.now (flat_rows flat.now) }
+    requires resolved { IsResolved resolved.now (flat_rows flat.now) }
     requires tables { rows_of tables.now ≡ linked_rows (flat_rows flat.now) }
     ensures { IfOk result (λ c. catalog_row c ≡ linked_catalog (file_list files.now) (flat_rows flat.now)) }
 {
     Ok(Catalog {
         files: linked_files(alloc, files, flat)?,
-        messages: lists_of_messages(alloc, index, flat, tables.messages.as_slice())?,
+        messages: lists_of_messages(alloc, resolved, flat, tables.messages.as_slice())?,
         enums: lists_of_enums(alloc, flat.enums.as_slice())?,
-        extensions: linked_extensions(alloc, index, flat, tables, flat.extensions.as_slice())?,
-        services: linked_services(alloc, index, flat, flat.services.as_slice())?,
+        extensions: linked_extensions(alloc, tables, resolved.extensions.as_slice())?,
+        services: linked_services(alloc, &resolved.index, flat, flat.services.as_slice())?,
         by_name: sorted_places(alloc, files, flat)?,
     })
 }

@@ -3,7 +3,7 @@
 ghost use Rattle.std.specs.Prelude.{◌≡◌, ◌++◌, ◌∷◌, [], pos, length, IfOk, OnOk, map};
 ghost use Rattle.prost_reflect_types.specs.declared.DescriptorProto.TheViews.{out-DescriptorProto};
 ghost use Rattle.prost_reflect_tables.specs.Flat.{inside, defined, defined_from, field_name, oneof_name, value_name, method_name, enum_at, enums_from, service_at, services_from, own_message, message_at, with_given, is_proto3, behind, file_at, flattened};
-ghost use Rattle.prost_reflect_tables.specs.FlatViews.{scope_row, definition_row, message_row, enum_row, service_row, flat_rows};
+ghost use Rattle.prost_reflect_tables.specs.FlatViews.{scope_row, definition_row, lent_row, message_row, enum_row, service_row, flat_rows};
 
 use crate::build::names::{joined, text_or_empty};
 use prost_reflect_types::{
@@ -42,6 +42,39 @@ pub struct Definition<'a, R> {
     pub parent: Option<usize>,
     /// The record.
     pub proto: &'a R,
+}
+
+/// A definition that is lent.
+#[derive(Drop)]
+pub struct DefinitionRef<'f, R> {
+    /// Its full name.
+    pub full_name: &'f str,
+    /// Its path.
+    pub path: &'f [i32],
+    /// The place of the file.
+    pub file: usize,
+    /// Whether the file is of proto3.
+    pub is_proto3: bool,
+    /// The place of the message around it.
+    pub parent: Option<usize>,
+    /// The record.
+    pub proto: &'f R,
+}
+
+impl<'a, R> Definition<'a, R> {
+    /// Lends the definition.
+    pub fn lend<'f>(&'f self) -> DefinitionRef<'f, R>
+        ensures { lent_row result ≡ definition_row self.now }
+    {
+        DefinitionRef {
+            full_name: self.full_name.as_str(),
+            path: self.path.as_slice(),
+            file: self.file,
+            is_proto3: self.is_proto3,
+            parent: self.parent,
+            proto: self.proto,
+        }
+    }
 }
 
 /// A message with the definitions in it that no other message has.

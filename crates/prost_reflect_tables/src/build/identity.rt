@@ -2,11 +2,11 @@
 
 ghost use Rattle.std.specs.Prelude.{◌≡◌, IfOk, string_bytes};
 ghost use Rattle.prost_reflect_tables.specs.Rows.{identity_row};
-ghost use Rattle.prost_reflect_tables.specs.FlatViews.{definition_row};
+ghost use Rattle.prost_reflect_tables.specs.FlatViews.{definition_row, lent_row};
 ghost use Rattle.prost_reflect_tables.specs.Linking.{linked_identity, json_name};
 ghost use Rattle.prost_reflect_tables.specs.Names.{bracketed};
 
-use crate::build::flatten::Definition;
+use crate::build::flatten::{Definition, DefinitionRef};
 use crate::build::names::text_or_empty;
 use crate::tables::Identity;
 use prost_reflect_types::FieldDescriptorProto;
@@ -24,11 +24,26 @@ pub fn linked_identity<R>(
 ) -> Result<Identity, AllocError>
     ensures { IfOk result (λ i. identity_row i ≡ linked_identity name.now (definition_row definition.now)) }
 {
+    lent_identity(alloc, &definition.lend(), name)
+}
+
+/// The same of a definition that is lent.
+///
+/// # Errors
+///
+/// `AllocError` if a growth was refused.
+pub fn lent_identity<R>(
+    alloc: Global,
+    definition: &DefinitionRef<R>,
+    name: &Option<String>,
+) -> Result<Identity, AllocError>
+    ensures { IfOk result (λ i. identity_row i ≡ linked_identity name.now (lent_row definition.now)) }
+{
     Ok(Identity {
         file: definition.file,
         parent: definition.parent,
         path: definition.path.to_vec(alloc)?,
-        full_name: definition.full_name.clone()?,
+        full_name: String::from_str(alloc, definition.full_name)?,
         name: String::from_str(alloc, text_or_empty(name))?,
     })
 }
@@ -50,12 +65,12 @@ fn bracketed(alloc: Global, full_name: &str) -> Result<String, AllocError>
 pub fn json_name(
     alloc: Global,
     is_extension: bool,
-    definition: &Definition<FieldDescriptorProto>,
+    definition: &DefinitionRef<FieldDescriptorProto>,
 ) -> Result<String, AllocError>
-    ensures { IfOk result (λ s. string_bytes s ≡ json_name is_extension (definition_row definition.now)) }
+    ensures { IfOk result (λ s. string_bytes s ≡ json_name is_extension (lent_row definition.now)) }
 {
     if is_extension {
-        return bracketed(alloc, definition.full_name.as_str());
+        return bracketed(alloc, definition.full_name);
     }
     match &definition.proto.json_name {
         Some(name) => name.clone(),

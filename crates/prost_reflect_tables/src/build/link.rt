@@ -11,13 +11,15 @@ ghost use Rattle.prost_reflect_tables.specs.FlatViews as flat_views;
 ghost use Rattle.prost_reflect_tables.specs.Linking.{links_of, natural_or_zero, place_in, kind_of_code, linked_kind, is_message, is_packable, cardinality_of_label, linked_packed, linked_presence, linked_default, linked_identity, linked_field, in_order, fields_of_message, declared_fields, extended_place, oneof_place, member_place, oneofs_from, linked_message, messages_from, linked_value, linked_enum, linked_rows};
 ghost use Rattle.prost_reflect_tables.specs.InRange.{enum_in_range, in_range};
 ghost use Rattle.prost_reflect_tables.specs.Indexed.{IsIndex};
+ghost use Rattle.prost_reflect_tables.specs.Resolved.{resolved_row, resolved_lists, resolved_field, IsResolved};
 ghost use Rattle.prost_reflect_tables.specs.Indexing.{empty_lists, with_item, grouped, list_rows, messages_with};
 
 use crate::build::defaults::written_default;
 use crate::build::flatten::{Definition, Flat, FlatEnum, FlatMessage};
-use crate::build::identity::{json_name, linked_identity};
+use crate::build::identity::{json_name, lent_identity, linked_identity};
 use crate::build::index::{Index, enum_place, message_place, number_named};
 use crate::build::options::bool_option;
+use crate::build::resolve::{Resolved, ResolvedField};
 use crate::tables::{
     Cardinality, EnumTable, EnumValueTable, FieldTable, MessageTable, OneofTable, TableKind,
     WrittenDefault,
@@ -162,23 +164,21 @@ pub fn linked_default(
 }
 
 /// A field or an extension.
-#[tactic(auto, unfolding(crate::specs::Linking::linked_field))]
+#[tactic(auto, unfolding(crate::specs::Resolved::resolved_field))]
 fn linked_field(
     alloc: Global,
-    index: &Index,
-    flat: &Flat,
     is_extension: bool,
-    definition: &Definition<FieldDescriptorProto>,
+    resolved: &ResolvedField,
 ) -> Result<FieldTable, AllocError>
-    requires { IsIndex index.now (flat_rows flat.now) }
-    ensures { IfOk result (λ f. field_row f ≡ linked_field (links_of (flat_rows flat.now)) is_extension (definition_row definition.now)) }
+    ensures { IfOk result (λ f. field_row f ≡ resolved_field is_extension (resolved_row resolved.now)) }
 {
+    let definition = &resolved.definition;
     let field = definition.proto;
     let is_proto3 = definition.is_proto3;
-    let kind = linked_kind(index, flat, field);
+    let kind = resolved.kind;
     let cardinality = cardinality_of_label(natural_or_zero(field.label));
     Ok(FieldTable {
-        id: linked_identity(alloc, definition, &field.name)?,
+        id: lent_identity(alloc, definition, &field.name)?,
         json_name: json_name(alloc, is_extension, definition)?,
         number: natural_or_zero(field.number),
         is_extension,
@@ -187,24 +187,18 @@ fn linked_field(
         cardinality,
         is_packed: linked_packed(is_proto3, field, cardinality, kind),
         supports_presence: linked_presence(is_proto3, is_extension, field, cardinality, kind),
-        default: linked_default(alloc, index, flat, kind, &field.default_value)?,
+        default: resolved.default.clone()?,
         oneof: place_in(field.oneof_index),
     })
 }
 
 /// The fields that a message declares, in the order of their declaration.
-fn declared_fields(
-    alloc: Global,
-    index: &Index,
-    flat: &Flat,
-    definitions: &[Definition<FieldDescriptorProto>],
-) -> Result<Vec<FieldTable>, AllocError>
-    requires { IsIndex index.now (flat_rows flat.now) }
-    ensures { IfOk result (λ v. map field_row v.items ≡ declared_fields (links_of (flat_rows flat.now)) (map definition_row definitions.now)) }
+fn declared_fields(alloc: Global, resolved: &[ResolvedField]) -> Result<Vec<FieldTable>, AllocError>
+    ensures { IfOk result (λ v. map field_row v.items ≡ map (resolved_field false) (map resolved_row resolved.now)) }
 {
     let mut fields = Vec::new(alloc);
-    for definition in definitions {
-        fields.push(linked_field(alloc, index, flat, false, definition)?)?;
+    for field in resolved {
+        fields.push(linked_field(alloc, false, field)?)?;
     }
     Ok(fields)
 }
@@ -212,16 +206,13 @@ fn declared_fields(
 /// The declared fields of each message.
 fn declared_by_message(
     alloc: Global,
-    index: &Index,
-    flat: &Flat,
-    messages: &[FlatMessage],
+    resolved: &[Vec<ResolvedField>],
 ) -> Result<Vec<Vec<FieldTable>>, AllocError>
-    requires { IsIndex index.now (flat_rows flat.now) }
-    ensures { IfOk result (λ v. list_rows v.items ≡ map (λ m. declared_fields (links_of (flat_rows flat.now)) m.fields) (map flat_views.message_row messages.now)) }
+    ensures { IfOk result (λ v. list_rows v.items ≡ map (λ fields. map (resolved_field false) fields) (resolved_lists resolved.now)) }
 {
     let mut lists = Vec::new(alloc);
-    for message in messages {
-        lists.push(declared_fields(alloc, index, flat, message.fields.as_slice())?)?;
+    for fields in resolved {
+        lists.push(declared_fields(alloc, fields.as_slice())?)?;
     }
     Ok(lists)
 }
@@ -256,18 +247,14 @@ pub fn add_item<T: Drop>(
 /// Adds each extension to the fields of the message that it extends.
 fn add_extensions(
     alloc: Global,
-    index: &Index,
-    flat: &Flat,
     lists: &mut Vec<Vec<FieldTable>>,
-    extensions: &[Definition<FieldDescriptorProto>],
+    extensions: &[ResolvedField],
 ) -> Result<(), AllocError>
-    requires { IsIndex index.now (flat_rows flat.now) }
-    ensures { OnOk result (list_rows lists.new.items ≡ grouped (extended_place (links_of (flat_rows flat.now))) (linked_field (links_of (flat_rows flat.now)) true) (map definition_row extensions.now) 0 (list_rows lists.old.items)) }
+    ensures { OnOk result (list_rows lists.new.items ≡ grouped (λ r. r.extendee) (resolved_field true) (map resolved_row extensions.now) 0 (list_rows lists.old.items)) }
 {
     for extension in extensions {
-        let place = message_place(index, flat, &extension.proto.extendee);
-        let field = linked_field(alloc, index, flat, true, extension)?;
-        add_item(lists, place, field)?;
+        let field = linked_field(alloc, true, extension)?;
+        add_item(lists, extension.extendee, field)?;
     }
     Ok(())
 }
@@ -431,8 +418,8 @@ fn linked_enums(alloc: Global, enums: &[FlatEnum]) -> Result<Vec<EnumTable>, All
 
 /// The message types and enums that files in flat lists give.
 ///
-/// The index is that of the files' names, which `check` gives. Messages and enums keep their places. The cost grows as n log n in the
-/// number of definitions.
+/// What the texts of their fields mean was looked up by `check_files`. Messages and enums keep their places. The cost grows as n log n
+/// in the number of definitions.
 ///
 /// # Errors
 ///
@@ -440,14 +427,14 @@ fn linked_enums(alloc: Global, enums: &[FlatEnum]) -> Result<Vec<EnumTable>, All
 pub fn linked(
     alloc: Global,
     flat: &Flat,
-    index: &Index,
+    resolved: &Resolved,
 ) -> Result<(Vec<MessageTable>, Vec<EnumTable>), AllocError>
-    requires { IsIndex index.now (flat_rows flat.now) }
+    requires { IsResolved resolved.now (flat_rows flat.now) }
     ensures rows { IfOk result (λ x. rows_from x.0.items x.1.items ≡ linked_rows (flat_rows flat.now)) }
     ensures range { IfOk result (λ x. in_range (rows_from x.0.items x.1.items) ≡ true) }
 {
-    let mut lists = declared_by_message(alloc, index, flat, flat.messages.as_slice())?;
-    add_extensions(alloc, index, flat, &mut lists, flat.extensions.as_slice())?;
+    let mut lists = declared_by_message(alloc, resolved.fields.as_slice())?;
+    add_extensions(alloc, &mut lists, resolved.extensions.as_slice())?;
     let messages = linked_messages(alloc, lists, flat.messages.as_slice())?;
     Ok((messages, linked_enums(alloc, flat.enums.as_slice())?))
 }

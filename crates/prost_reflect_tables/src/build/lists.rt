@@ -6,17 +6,17 @@ ghost use Rattle.prost_reflect_tables.specs.FlatViews as flat_views;
 ghost use Rattle.prost_reflect_tables.specs.FlatViews.{definition_row, flat_rows, text_list};
 ghost use Rattle.prost_reflect_tables.specs.Gathered.{gathered};
 ghost use Rattle.prost_reflect_tables.specs.GatheredLists.{AreInner};
-ghost use Rattle.prost_reflect_tables.specs.Indexed.{IsIndex};
 ghost use Rattle.prost_reflect_tables.specs.LinkedCatalog.{each_from, field_names, json_names, own_fields, linked_lists, value_names, enum_lists};
 ghost use Rattle.prost_reflect_tables.specs.Linking.{links_of, extended_place, value_number};
 ghost use Rattle.prost_reflect_tables.specs.Orders.{by_text};
+ghost use Rattle.prost_reflect_tables.specs.Resolved.{resolved_row, IsResolved};
 ghost use Rattle.prost_reflect_tables.specs.Rows.{field_row, message_row};
 
 use crate::build::flatten::{Definition, Flat, FlatEnum, FlatMessage};
 use crate::build::gather::{gathered, list_at};
-use crate::build::index::{Index, message_place};
 use crate::build::names::text_or_empty;
 use crate::build::order::{ordered_numbers, ordered_texts, sort_by_text};
+use crate::build::resolve::{Resolved, ResolvedField};
 use crate::catalog::{EnumLists, MessageLists};
 use crate::tables::{FieldTable, MessageTable};
 use prost_reflect_types::{EnumValueDescriptorProto, FieldDescriptorProto};
@@ -63,40 +63,28 @@ fn inner_extensions(alloc: Global, flat: &Flat) -> Result<Vec<Vec<usize>>, Alloc
     )?)
 }
 
-fn extended_places(
-    alloc: Global,
-    index: &Index,
-    flat: &Flat,
-    extensions: &[Definition<FieldDescriptorProto>],
-) -> Result<Vec<Option<usize>>, AllocError>
-    requires { IsIndex index.now (flat_rows flat.now) }
-    ensures { IfOk result (λ v. v.items ≡ map (extended_place (links_of (flat_rows flat.now))) (map definition_row extensions.now)) }
-{
-    let mut places = Vec::new(alloc);
-    for extension in extensions {
-        places.push(message_place(index, flat, &extension.proto.extendee))?;
-    }
-    Ok(places)
-}
-
-fn extending(alloc: Global, index: &Index, flat: &Flat) -> Result<Vec<Vec<usize>>, AllocError>
-    requires { IsIndex index.now (flat_rows flat.now) }
+fn extending(alloc: Global, resolved: &Resolved, flat: &Flat) -> Result<Vec<Vec<usize>>, AllocError>
+    requires { IsResolved resolved.now (flat_rows flat.now) }
     ensures { IfOk result (λ v. map (λ l. l.items) v.items ≡ gathered (extended_place (links_of (flat_rows flat.now))) (flat_rows flat.now).extensions 0 (length (flat_rows flat.now).messages)) }
 {
-    let places = extended_places(alloc, index, flat, flat.extensions.as_slice())?;
-    let owner = |place: &Option<usize>| *place;
-    Ok(gathered(alloc, flat.messages.len(), places.as_slice(), &owner)?)
+    let owner = |extension: &ResolvedField| extension.extendee;
+    Ok(gathered(
+        alloc,
+        flat.messages.len(),
+        resolved.extensions.as_slice(),
+        &owner,
+    )?)
 }
 
-fn inner_places(alloc: Global, index: &Index, flat: &Flat) -> Result<InnerPlaces, AllocError>
-    requires { IsIndex index.now (flat_rows flat.now) }
+fn inner_places(alloc: Global, resolved: &Resolved, flat: &Flat) -> Result<InnerPlaces, AllocError>
+    requires { IsResolved resolved.now (flat_rows flat.now) }
     ensures { IfOk result (λ inner. AreInner inner (flat_rows flat.now)) }
 {
     Ok(InnerPlaces {
         messages: inner_messages(alloc, flat)?,
         enums: inner_enums(alloc, flat)?,
         extensions: inner_extensions(alloc, flat)?,
-        extending: extending(alloc, index, flat)?,
+        extending: extending(alloc, resolved, flat)?,
     })
 }
 
@@ -185,15 +173,15 @@ fn message_lists(
 /// `AllocError` if a growth was refused.
 pub fn lists_of_messages(
     alloc: Global,
-    index: &Index,
+    resolved: &Resolved,
     flat: &Flat,
     messages: &[MessageTable],
 ) -> Result<Vec<MessageLists>, AllocError>
-    requires index { IsIndex index.now (flat_rows flat.now) }
+    requires resolved { IsResolved resolved.now (flat_rows flat.now) }
     requires messages { length messages.now ≡ length (flat_rows flat.now).messages }
     ensures { IfOk result (λ v. map message_lists_row v.items ≡ each_from (linked_lists (flat_rows flat.now)) 0 (map message_row messages.now)) }
 {
-    let inner = inner_places(alloc, index, flat)?;
+    let inner = inner_places(alloc, resolved, flat)?;
     let mut lists = Vec::new(alloc);
     for (place, message) in messages.iter().enumerate() {
         lists.push(message_lists(alloc, flat, &inner, place, message)?)?;

@@ -7,7 +7,7 @@ ghost use Rattle.prost_reflect_tables.specs.Indexed.{IsIndex};
 ghost use Rattle.prost_reflect_tables.specs.Linking.{links_of};
 ghost use Rattle.prost_reflect_tables.specs.Resolved.{resolve, resolved_row, resolved_lists, IsResolved};
 
-use crate::build::flatten::{Definition, Flat, FlatMessage};
+use crate::build::flatten::{Definition, DefinitionRef, Flat, FlatMessage};
 use crate::build::index::{Index, enum_place, indexed, message_place};
 use crate::build::link::{linked_default, linked_kind};
 use crate::build::options::is_entry;
@@ -17,11 +17,9 @@ use std::alloc::{AllocError, Global};
 
 /// A field or an extension with what its texts mean.
 #[derive(Drop)]
-pub struct ResolvedField<'a> {
-    /// The record.
-    pub proto: &'a FieldDescriptorProto,
-    /// Whether the file is of proto3.
-    pub is_proto3: bool,
+pub struct ResolvedField<'f> {
+    /// The definition.
+    pub definition: DefinitionRef<'f, FieldDescriptorProto>,
     /// The place of the message that it extends.
     pub extendee: Option<usize>,
     /// The place of the message that its type's name names.
@@ -36,32 +34,31 @@ pub struct ResolvedField<'a> {
 
 /// The fields of each message and the extensions, with what their texts mean.
 #[derive(Drop)]
-pub struct Resolved<'a> {
+pub struct Resolved<'f> {
     /// The places of names.
     pub index: Index,
     /// Whether each message is a map's entry.
     pub entries: Vec<bool>,
     /// The fields of each message.
-    pub fields: Vec<Vec<ResolvedField<'a>>>,
+    pub fields: Vec<Vec<ResolvedField<'f>>>,
     /// The extensions.
-    pub extensions: Vec<ResolvedField<'a>>,
+    pub extensions: Vec<ResolvedField<'f>>,
 }
 
 #[tactic(auto, unfolding(crate::specs::Resolved::resolve))]
-fn resolved_field<'a>(
+fn resolved_field<'f, 'a>(
     alloc: Global,
     index: &Index,
     flat: &Flat,
-    definition: &Definition<'a, FieldDescriptorProto>,
-) -> Result<ResolvedField<'a>, AllocError>
+    definition: &'f Definition<'a, FieldDescriptorProto>,
+) -> Result<ResolvedField<'f>, AllocError>
     requires { IsIndex index.now (flat_rows flat.now) }
     ensures { IfOk result (λ f. resolved_row f ≡ resolve (links_of (flat_rows flat.now)) (definition_row definition.now)) }
 {
     let proto = definition.proto;
     let kind = linked_kind(index, flat, proto);
     Ok(ResolvedField {
-        proto,
-        is_proto3: definition.is_proto3,
+        definition: definition.lend(),
         extendee: message_place(index, flat, &proto.extendee),
         message: message_place(index, flat, &proto.type_name),
         enumeration: enum_place(index, flat, &proto.type_name),
@@ -70,12 +67,12 @@ fn resolved_field<'a>(
     })
 }
 
-fn resolved_list<'a>(
+fn resolved_list<'f, 'a>(
     alloc: Global,
     index: &Index,
     flat: &Flat,
-    definitions: &[Definition<'a, FieldDescriptorProto>],
-) -> Result<Vec<ResolvedField<'a>>, AllocError>
+    definitions: &'f [Definition<'a, FieldDescriptorProto>],
+) -> Result<Vec<ResolvedField<'f>>, AllocError>
     requires { IsIndex index.now (flat_rows flat.now) }
     ensures { IfOk result (λ v. map resolved_row v.items ≡ map (resolve (links_of (flat_rows flat.now))) (map definition_row definitions.now)) }
 {
@@ -87,12 +84,12 @@ fn resolved_list<'a>(
 }
 
 /// The fields of each message.
-fn resolved_fields<'a>(
+fn resolved_fields<'f, 'a>(
     alloc: Global,
     index: &Index,
     flat: &Flat,
-    messages: &[FlatMessage<'a>],
-) -> Result<Vec<Vec<ResolvedField<'a>>>, AllocError>
+    messages: &'f [FlatMessage<'a>],
+) -> Result<Vec<Vec<ResolvedField<'f>>>, AllocError>
     requires { IsIndex index.now (flat_rows flat.now) }
     ensures { IfOk result (λ v. resolved_lists v.items ≡ map (λ m. map (resolve (links_of (flat_rows flat.now))) m.fields) (map message_row messages.now)) }
 {
@@ -119,7 +116,7 @@ fn entry_flags(alloc: Global, messages: &[FlatMessage]) -> Result<Vec<bool>, All
 /// # Errors
 ///
 /// `AllocError` if a growth was refused.
-pub fn all_resolved<'a>(alloc: Global, flat: &Flat<'a>) -> Result<Resolved<'a>, AllocError>
+pub fn all_resolved<'f, 'a>(alloc: Global, flat: &'f Flat<'a>) -> Result<Resolved<'f>, AllocError>
     ensures { IfOk result (λ resolved. IsResolved resolved (flat_rows flat.now)) }
 {
     let index = indexed(alloc, flat)?;

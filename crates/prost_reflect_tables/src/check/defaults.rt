@@ -15,16 +15,16 @@ use crate::check::walk::{any_resolved_extension, any_resolved_field};
 fn is_default_misplaced(field: &ResolvedField) -> bool
     ensures { result ≡ misplaced (resolved_row field.now) }
 {
-    let proto = field.proto;
+    let proto = field.definition.proto;
     proto.default_value.is_some()
-        && (is_code(3, proto.label) || is_message_type(proto.type_) || field.is_proto3)
+        && (is_code(3, proto.label) || is_message_type(proto.type_) || field.definition.is_proto3)
 }
 
 /// Whether a default's text gives no value of the field's kind.
 fn is_default_unread(field: &ResolvedField) -> bool
     ensures { result ≡ unread (resolved_row field.now) }
 {
-    field.proto.default_value.is_some() && field.default.is_none()
+    field.definition.proto.default_value.is_some() && field.default.is_none()
 }
 
 fn is_float_type(code: Option<i32>) -> bool
@@ -36,7 +36,8 @@ fn is_float_type(code: Option<i32>) -> bool
 fn is_default_bad(field: &ResolvedField) -> bool
     ensures { result ≡ bad_read (resolved_row field.now) }
 {
-    is_default_misplaced(field) || (!is_float_type(field.proto.type_) && is_default_unread(field))
+    is_default_misplaced(field)
+        || (!is_float_type(field.definition.proto.type_) && is_default_unread(field))
 }
 
 /// Whether a default stands at a list, at a message or in a proto3 file, or, floats and doubles aside, gives no value of its field's kind.
@@ -51,7 +52,7 @@ pub fn has_bad_default(resolved: &Resolved, flat: &Flat) -> bool
 fn is_float_default_bad(field: &ResolvedField) -> bool
     ensures { result ≡ bad_float (resolved_row field.now) }
 {
-    is_float_type(field.proto.type_) && is_default_unread(field)
+    is_float_type(field.definition.proto.type_) && is_default_unread(field)
 }
 
 /// Whether the default of a float or a double is neither `inf`, `-inf`, `nan` nor a whole number up to 2^24 or 2^53.

@@ -90,7 +90,7 @@ fn is_of_entry(resolved: &Resolved, flat: &Flat, field: &ResolvedField) -> bool
     requires { IsResolved resolved.now (flat_rows flat.now) }
     ensures { result ≡ found_of_entry (flat_rows flat.now) (resolved_row field.now) }
 {
-    is_message_type(field.proto.type_) && is_entry_at(resolved, flat, field.message)
+    is_message_type(field.definition.proto.type_) && is_entry_at(resolved, flat, field.message)
 }
 
 fn is_wrongly_of_entry(resolved: &Resolved, flat: &Flat, field: &ResolvedField) -> bool
@@ -98,7 +98,7 @@ fn is_wrongly_of_entry(resolved: &Resolved, flat: &Flat, field: &ResolvedField) 
     ensures { result ≡ wrongly_found (flat_rows flat.now) (resolved_row field.now) }
 {
     is_of_entry(resolved, flat, field)
-        && !(is_code(3, field.proto.label) && is_code(11, field.proto.type_))
+        && !(is_code(3, field.definition.proto.label) && is_code(11, field.definition.proto.type_))
 }
 
 fn is_method_of_entry(

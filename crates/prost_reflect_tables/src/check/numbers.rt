@@ -56,7 +56,7 @@ fn add_extensions(
 {
     for extension in extensions {
         if let Some(place) = extension.extendee {
-            numbers.push((place, extension.proto.number.unwrap_or(0)))?;
+            numbers.push((place, extension.definition.proto.number.unwrap_or(0)))?;
         }
     }
     Ok(())

@@ -153,7 +153,7 @@ fn is_extension_outside(flat: &Flat, spans: &[Vec<(u32, u32)>], extension: &Reso
     };
     let ranges = message.definition.proto.extension_range.as_slice();
     !is_covered(
-        extension.proto.number.unwrap_or(0),
+        extension.definition.proto.number.unwrap_or(0),
         ranges,
         spans.as_slice(),
     )

@@ -83,7 +83,7 @@ fn is_unfound(text: &Option<String>, place: Option<usize>) -> bool
 fn is_type_unfound(field: &ResolvedField) -> bool
     ensures { result ≡ type_unfound (resolved_row field.now) }
 {
-    let proto = field.proto;
+    let proto = field.definition.proto;
     (is_message_type(proto.type_) && is_unfound(&proto.type_name, field.message))
         || (is_code(14, proto.type_) && is_unfound(&proto.type_name, field.enumeration))
 }
@@ -91,7 +91,7 @@ fn is_type_unfound(field: &ResolvedField) -> bool
 fn is_extendee_unfound(extension: &ResolvedField) -> bool
     ensures { result ≡ extendee_unfound (resolved_row extension.now) }
 {
-    is_unfound(&extension.proto.extendee, extension.extendee)
+    is_unfound(&extension.definition.proto.extendee, extension.extendee)
 }
 
 fn names_no_message(index: &Index, flat: &Flat, text: &Option<String>) -> bool

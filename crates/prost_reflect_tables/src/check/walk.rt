@@ -127,8 +127,8 @@ pub fn any_method<'a, F: Fn(&Definition<'a, MethodDescriptorProto>) -> bool>(
 
 // FIELDS WHOSE TEXTS WERE LOOKED UP
 
-fn any_resolved<'a, F: Fn(&ResolvedField<'a>) -> bool>(
-    fields: &[ResolvedField<'a>],
+fn any_resolved<'f, F: Fn(&ResolvedField<'f>) -> bool>(
+    fields: &[ResolvedField<'f>],
     test: &F,
 ) -> bool
     requires { F.IsAlwaysCallable test.now }
@@ -137,8 +137,8 @@ fn any_resolved<'a, F: Fn(&ResolvedField<'a>) -> bool>(
     any(fields, test)
 }
 
-fn any_resolved_in<'a, F: Fn(&ResolvedField<'a>) -> bool>(
-    lists: &[Vec<ResolvedField<'a>>],
+fn any_resolved_in<'f, F: Fn(&ResolvedField<'f>) -> bool>(
+    lists: &[Vec<ResolvedField<'f>>],
     test: &F,
 ) -> bool
     requires { F.IsAlwaysCallable test.now }
@@ -153,8 +153,8 @@ fn any_resolved_in<'a, F: Fn(&ResolvedField<'a>) -> bool>(
 }
 
 /// Whether a resolved field of one of the messages passes the test.
-pub fn any_resolved_field<'a, F: Fn(&ResolvedField<'a>) -> bool>(
-    resolved: &Resolved<'a>,
+pub fn any_resolved_field<'f, F: Fn(&ResolvedField<'f>) -> bool>(
+    resolved: &Resolved<'f>,
     flat: &Flat,
     test: &F,
 ) -> bool
@@ -166,8 +166,8 @@ pub fn any_resolved_field<'a, F: Fn(&ResolvedField<'a>) -> bool>(
 }
 
 /// Whether a resolved extension passes the test.
-pub fn any_resolved_extension<'a, F: Fn(&ResolvedField<'a>) -> bool>(
-    resolved: &Resolved<'a>,
+pub fn any_resolved_extension<'f, F: Fn(&ResolvedField<'f>) -> bool>(
+    resolved: &Resolved<'f>,
     flat: &Flat,
     test: &F,
 ) -> bool

@@ -1,12 +1,11 @@
-use Rattle.std.proofs.Common.{◌≡◌, List, length, map, ap, sym, ◌∙◌, rules}
+use Rattle.std.proofs.Common.{◌≡◌, length, map, ap, ◌∙◌, rules}
 use Rattle.std.specs.Prelude.{String, string_bytes}
 use Rattle.std.specs.declared.alloc.Global.{Global}
 use Rattle.prost_reflect_tables.specs.Faults.{file_names}
 use Rattle.prost_reflect_tables.specs.Flat.{FlatMessageRow, FlatEnumRow, FlatServiceRow}
 use Rattle.prost_reflect_tables.specs.FlatViews.{file_list, flat_rows}
-use Rattle.prost_reflect_tables.specs.Gathered.{gathered}
 use Rattle.prost_reflect_tables.specs.GatheredLists.{list_items}
-use Rattle.prost_reflect_tables.specs.LinkedCatalog.{top_file, file_place, import_at}
+use Rattle.prost_reflect_tables.specs.LinkedCatalog.{top_file, file_place}
 use Rattle.prost_reflect_tables.proofs.Gathering.{copied_at}
 use Rattle.prost_reflect_tables.proofs.CatalogParts.{same_file}
 use Rattle.prost_reflect_tables.proofs.build.files.file_table.Goals as goal

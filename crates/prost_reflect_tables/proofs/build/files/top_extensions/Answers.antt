@@ -1,4 +1,4 @@
-use Rattle.std.proofs.Common.{rules, refl, arith, map, length, sym, ◌∙◌}
+use Rattle.std.proofs.Common.{rules, refl}
 use Rattle.prost_reflect_tables.specs.FlatViews.{definition_row}
 use Rattle.prost_reflect_tables.specs.LinkedCatalog.{top_file}
 use Rattle.prost_reflect_tables.proofs.Gathering.{shown_gathered}

@@ -1,4 +1,4 @@
-use Rattle.std.proofs.Common.{rules, refl, arith, map, length, sym, ◌∙◌}
+use Rattle.std.proofs.Common.{rules, refl}
 use Rattle.prost_reflect_tables.specs.FlatViews.{service_row}
 use Rattle.prost_reflect_tables.specs.Flat.{FlatServiceRow}
 use Rattle.prost_reflect_tables.specs.LinkedCatalog.{top_file}

@@ -1,4 +1,4 @@
-use Rattle.std.proofs.Common.{rules, refl, arith, map, length, sym, ◌∙◌}
+use Rattle.std.proofs.Common.{rules, arith, map, length}
 use Rattle.std.proofs.lemmas.List.{length-map}
 use Rattle.prost_reflect_tables.specs.FlatViews.{message_row}
 use Rattle.prost_reflect_tables.specs.Flat.{FlatMessageRow}

@@ -18,7 +18,7 @@ returns c =
     let message = c.in-Some-get.message.now in
     let flat = c.args.flat.now in
     let same = c.deref.ensures.value in
-    let outside = outside_is flat (number_or_zero c.args.extension.now.proto.now.number) c.args.extension.now.extendee place message c.in-Some.is (omega (arith, c.in-Some-get.ensures.lookup.3.0, ap length same)) (c.in-Some-get.ensures.lookup.1 ∙ ap (λ l. get_or l place message) same) in
+    let outside = outside_is flat (number_or_zero c.args.extension.now.definition.proto.now.number) c.args.extension.now.extendee place message c.in-Some.is (omega (arith, c.in-Some-get.ensures.lookup.3.0, ap length same)) (c.in-Some-get.ensures.lookup.1 ∙ ap (λ l. get_or l place message) same) in
     search (rules, outside)
 
 pub returns-in_default-get-2 : goal.returns-in_default-get-2
