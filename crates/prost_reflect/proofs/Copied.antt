@@ -49,6 +49,12 @@ take_next (y ∷ ys) (suc i) x l h = ap (λ j. take j (y ∷ ys)) (plus i) ∙ a
     plus : (i : ℕ) → suc i + 1 ≡ suc (i + 1)
     plus i = omega arith
 
+pub take_all : {A : Type 0} (xs : List A) (i : ℕ) → length xs ≤ i → take i xs ≡ xs
+take_all [] zero l = refl
+take_all [] (suc i) l = refl
+take_all (x ∷ xs) zero l = absurd (omega arith)
+take_all (x ∷ xs) (suc i) l = ap (λ ys. x ∷ ys) (take_all xs i (omega arith))
+
 pub taken_and_rest : {A : Type 0} (xs : List A) (i : ℕ) (x : A) → i < length xs → x ≡ get_or xs i x → xs ≡ take i xs ++ x ∷ drop (i + 1) xs
 taken_and_rest [] i x l h = absurd (omega arith)
 taken_and_rest (y ∷ ys) zero x l h = ap (λ z. z ∷ ys) (sym h)
@@ -175,9 +181,3 @@ message_copied m p d h = stored_roll (record { fields = p }) ∙ (λ i. MessageO
 -- all entries are copied
 pub all_copied : (fields items es : List (ℕ × FieldSlot Value)) (i : ℕ) → items ≡ es → length items ≤ i → parts_of fields ≡ parts_of (take i items) → parts_of fields ≡ parts_of es
 all_copied fields items es i same past done = done ∙ ap parts_of (take_all items i past) ∙ ap parts_of same
-  where
-    take_all : {A : Type 0} (xs : List A) (i : ℕ) → length xs ≤ i → take i xs ≡ xs
-    take_all [] zero l = refl
-    take_all [] (suc i) l = refl
-    take_all (x ∷ xs) zero l = absurd (omega arith)
-    take_all (x ∷ xs) (suc i) l = ap (λ ys. x ∷ ys) (take_all xs i (omega arith))

@@ -47,4 +47,7 @@ pub mod UnknownLists
 pub mod OwnRows
 mod ReadBack
 mod MergedBytes
+mod JoinedContents
+mod ChangedNumbers
+mod MessageParts
 mod Passing

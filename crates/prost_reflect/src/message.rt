@@ -8,10 +8,11 @@ ghost use Rattle.prost_reflect_wire.specs.Content.{empty, entries_of, value_at};
 ghost use Rattle.prost_reflect_wire.specs.Edit.{cleared};
 ghost use Rattle.prost_reflect.specs.contracts.message.DynamicMessage.{the_row};
 ghost use Rattle.prost_reflect.specs.contracts.value.Value as value;
-ghost use Rattle.prost_reflect_pool.specs.MessageTypes.{schema_at, type_at};
+ghost use Rattle.prost_reflect_pool.specs.MessageTypes.{schema_at, type_at, SameMessage};
 ghost use Rattle.prost_reflect_pool.specs.SharedPools.{pool_contents};
 ghost use Rattle.prost_reflect_fields.specs.Items.{IsAscending};
 ghost use Rattle.prost_reflect_fields.specs.Known.{known_of, is_known, keeps_unknown};
+ghost use Rattle.prost_reflect_fields.specs.NumberSets.{has, HasWholeOneofs};
 ghost use Rattle.prost_reflect_fields.specs.FieldSlots.{value_at as stored_at, records_at};
 ghost use Rattle.prost_reflect_fields.specs.Sound.{IsSound};
 ghost use Rattle.prost_reflect.specs.declared.value.Value.{Value};
@@ -19,6 +20,7 @@ ghost use Rattle.prost_reflect.specs.View.{content_of, value_of, message_type_of
 ghost use Rattle.prost_reflect.specs.Named.{IsNamed, NamesSame, schema_named, type_named};
 ghost use Rattle.prost_reflect.specs.Contents.{value_set, value_cleared, unknown_added};
 ghost use Rattle.prost_reflect.specs.Defaults.{IsEmptyOf};
+ghost use Rattle.prost_reflect.specs.Merged.{IsJoined};
 
 mod access;
 mod copy;
@@ -44,6 +46,7 @@ use prost_reflect_pool::{LinkedPool, PooledType};
 use prost_reflect_wire::{UnknownField, UnknownFieldSet};
 pub use setting::SetFieldError;
 use std::alloc::{AllocError, Global};
+use std::collections::BTreeSet;
 use std::rc::Rc;
 pub use unknowns::UnknownFields;
 
@@ -174,6 +177,22 @@ impl DynamicMessage {
         ensures err { OnErr result (content_of self.new ≡ content_of self.old) }
     {
         self.fields.add_unknown(number, field)
+    }
+
+    /// Puts what another message of the type has at the numbers in place of what is there. A refused growth changes nothing.
+    pub(crate) fn replace_at(
+        &mut self,
+        numbers: &BTreeSet<u32>,
+        others: DynamicMessage,
+    ) -> Result<(), AllocError>
+        requires message_type { SameMessage (message_type_of self.old) (message_type_of others) }
+        requires whole { HasWholeOneofs (known_of (message_type_of self.old)) numbers.now }
+        ensures message_type { message_type_of self.new ≡ message_type_of self.old }
+        ensures content { OnOk result (IsJoined (has numbers.now) (content_of self.old) (content_of others) (content_of self.new)) }
+        ensures err { OnErr result (self.new ≡ self.old) }
+    {
+        let DynamicMessage { fields } = others;
+        self.fields.replace(numbers, fields)
     }
 
     /// The value at the number of a field or an extension, for writing. Where there is none it is first set to `default`.

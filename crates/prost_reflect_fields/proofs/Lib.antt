@@ -5,3 +5,5 @@ pub mod SlotChanges
 pub mod Siblings
 pub mod SoundChanges
 mod MembersCleared
+pub mod Replaced
+mod WholeOneofs

@@ -71,6 +71,13 @@ any_shown : (p : Field → Bool) (rows : TableRows) (table : List FieldTable) �
 any_shown p rows [] = refl
 any_shown p rows (f ∷ table) = ap (λ b. p (schema_field rows (field_row f)) || b) (any_shown p rows table)
 
+-- a oneof has the same members among the rows and the fields
+pub members_known : (d : PooledType) (table : List FieldTable) (oneof : Option ℕ) (k : ℕ) → map field_row table ≡ fields_of d
+    → list_any (λ f. nat_eq f.number k && same_oneof f.oneof oneof) table ≡ list_any (λ g. nat_eq g.number k && same_oneof g.oneof oneof) (known_of d)
+members_known d table oneof k rows =
+    sym (any_shown (λ g. nat_eq g.number k && same_oneof g.oneof oneof) (pool_rows d.pool) table)
+    ∙ ap (list_any (λ g. nat_eq g.number k && same_oneof g.oneof oneof)) (sym (known_rows (pool_rows d.pool) d.index ∙ ap (map (schema_field (pool_rows d.pool))) (sym rows)))
+
 -- the siblings of a number are the members of its oneof among the rows
 pub siblings_are_members : (d : PooledType) (table : List FieldTable) (n : ℕ) (o : Option Field) (oneof : Option ℕ) → map field_row table ≡ fields_of d → field_of (known_of d) n ≡ o
     → oneof ≡ option_and_then (λ f. f.oneof) o → (k : ℕ) → is_member table oneof n k ≡ are_siblings (known_of d) n k

@@ -34,7 +34,7 @@ none_numbered n p (f ∷ fields) h =
     ap (λ b. (b && p f) || list_any (numbered n p) fields) here ∙ none_numbered n p fields rest
 
 -- where numbers differ, a field that passes is the one of its number
-found_passes : (k : ℕ) (p : Field → Bool) (fields : List Field) → numbers_differ fields ≡ true → list_any (numbered k p) fields ≡ true → passes (field_of fields k) p ≡ true
+pub found_passes : (k : ℕ) (p : Field → Bool) (fields : List Field) → numbers_differ fields ≡ true → list_any (numbered k p) fields ≡ true → passes (field_of fields k) p ≡ true
 found_passes k p [] d h = cc
 found_passes k p (f ∷ fields) d h = cases (nat_eq f.number k) refl h (found_passes k p fields (and_parts (not (list_any (λ g. nat_eq g.number f.number) fields)) (numbers_differ fields) d).1)
   where

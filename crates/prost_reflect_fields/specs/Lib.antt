@@ -4,5 +4,6 @@ pub mod Known
 pub mod Sound
 pub mod Members
 pub mod Lending
+pub mod NumberSets
 pub mod Codes
 pub mod formers

@@ -7,6 +7,7 @@ ghost use Rattle.prost_reflect_wire.specs.Unknown.{record_of};
 ghost use Rattle.prost_reflect_fields.specs.contracts.field_set.FieldSet.{the_row};
 ghost use Rattle.prost_reflect_fields.specs.Items.{IsAscending};
 ghost use Rattle.prost_reflect_fields.specs.Known.{known_of, is_known, keeps_unknown};
+ghost use Rattle.prost_reflect_fields.specs.NumberSets.{HasWholeOneofs, AreReplaced};
 ghost use Rattle.prost_reflect_fields.specs.FieldSlots.{value_at, unknown_at, clear_value, with_value, UnknownAdded, SameStored};
 ghost use Rattle.prost_reflect_fields.specs.Sound.{IsSound, set_value_at, prepared};
 
@@ -19,6 +20,7 @@ use crate::stored::{
 use prost_reflect_pool::PooledType;
 use prost_reflect_wire::{UnknownField, UnknownFieldSet};
 use std::alloc::{AllocError, Global};
+use std::collections::BTreeSet;
 use std::marker::Model;
 
 /// The values of a message's fields and its unknown fields, by number.
@@ -161,6 +163,26 @@ impl<V: Drop> FieldSet<V> {
     {
         let alloc = self.fields.allocator();
         add_unknown(&mut self.fields, alloc, number, field)
+    }
+
+    /// Puts what the other set has at the numbers in place of what is there. A refused growth changes nothing.
+    pub fn replace(
+        &mut self,
+        numbers: &BTreeSet<u32>,
+        others: FieldSet<V>,
+    ) -> Result<(), AllocError>
+        requires message_type { known_of others.0 ≡ known_of self.old.0 }
+        requires whole { HasWholeOneofs (known_of self.old.0) numbers.now }
+        ensures message_type { self.new.0 ≡ self.old.0 }
+        ensures ok { OnOk result (AreReplaced numbers.now self.old.1 others.1 self.new.1) }
+        ensures err { OnErr result (self.new ≡ self.old) }
+    {
+        let FieldSet {
+            message_type,
+            fields,
+        } = others;
+        drop(message_type);
+        self.fields.replace(numbers, fields)
     }
 
     /// The value at the number, for writing.

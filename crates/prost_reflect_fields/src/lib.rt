@@ -3,6 +3,7 @@
 
 pub mod field_set;
 pub mod number_map;
+pub mod number_sets;
 pub mod slot;
 pub mod sorted_map;
 pub mod stored;

@@ -1,6 +1,6 @@
 //! A map from numbers as a sorted vector.
 
-ghost use Rattle.std.specs.Prelude.{◌≡◌, ◌<◌, ℕ, List, [], length, OnOk, OnErr, Some, slice_get};
+ghost use Rattle.std.specs.Prelude.{◌≡◌, ◌+◌, ◌<◌, ◌≤◌, ℕ, List, [], length, IsOk, OnOk, OnErr, Some, slice_get, vec_len, vec_capacity};
 ghost use Rattle.std.specs.Map.{values_of};
 ghost use Rattle.std.specs.Borrow.{Lends, LendsIf, sem};
 ghost use Rattle.std.specs.Option.{option_copied, option_copied_mut, option_map};
@@ -9,10 +9,13 @@ ghost use Rattle.std_collections.specs.Layout.BTreeMap.{seek, index_of};
 ghost use Rattle.std_collections.specs.Layout.Columns.{set_value_at};
 ghost use Rattle.prost_reflect_fields.specs.contracts.sorted_map.SortedMap.{the_row};
 ghost use Rattle.prost_reflect_fields.specs.Items.{IsAscending, item_at, with_item, put_item, without_item, first_from, last_below};
+ghost use Rattle.prost_reflect_fields.specs.NumberSets.{is_chosen, put_chosen, AreReplaced};
 
 use crate::number_map::NumberMap;
 use std::alloc::{AllocError, Global};
+use std::collections::BTreeSet;
 use std::marker::Model;
+use std::mem;
 
 /// A map from numbers as a sorted vector.
 #[derive(Debug, Drop)]
@@ -58,7 +61,7 @@ impl<T> SortedMap<T> {
         ensures place { result ≡ seek (nat_cmp number) self.now }
         ensures ascending { IsAscending self.now }
     {
-        self.items.binary_search_by_key(&number, |item| item.0)
+        place_in(&self.items, number)
     }
 
     pub fn get(&self, number: u32) -> Option<&T>
@@ -139,10 +142,26 @@ impl<T: Drop> SortedMap<T> {
         ensures ok { OnOk result (self.new ≡ put_item self.old number item) }
         ensures err { OnErr result (self.new ≡ self.old) }
     {
-        match self.place(number) {
-            Ok(index) => self.items[index] = (number, item),
-            Err(index) => self.items.insert(index, (number, item))?,
-        }
+        put(&mut self.items, number, item)
+    }
+
+    /// Puts what the other map has at the numbers of the set in place of what is there. A refused growth changes nothing.
+    pub fn replace(
+        &mut self,
+        numbers: &BTreeSet<u32>,
+        others: SortedMap<T>,
+    ) -> Result<(), AllocError>
+        ensures ok { OnOk result (AreReplaced numbers.now self.old others self.new) }
+        ensures err { OnErr result (self.new ≡ self.old) }
+    {
+        let alloc = self.allocator();
+        let SortedMap { items: news } = others;
+        let mut items = Vec::with_capacity(alloc, news.len())?;
+        put_all(&mut items, news, numbers, true);
+        items.reserve(self.items.len())?;
+        let olds = mem::replace(&mut self.items, Vec::new(alloc));
+        put_all(&mut items, olds, numbers, false);
+        self.items = items;
         Ok(())
     }
 
@@ -153,6 +172,51 @@ impl<T: Drop> SortedMap<T> {
         match self.place(number) {
             Ok(index) => Some(self.items.remove(index).1),
             Err(_) => None,
+        }
+    }
+}
+
+/// Where the number stands among ascending ones, or where it would go.
+fn place_in<T>(items: &[(u32, T)], number: u32) -> Result<usize, usize>
+    requires { IsAscending items.now }
+    ensures { result ≡ seek (nat_cmp number) items.now }
+{
+    items.binary_search_by_key(&number, |item| item.0)
+}
+
+/// Puts the item at the number, in place of one that is there. A refused growth changes nothing; where there is room, none is refused.
+fn put<T: Drop>(items: &mut Vec<(u32, T)>, number: u32, item: T) -> Result<(), AllocError>
+    requires { IsAscending items.old.items }
+    ensures ok { OnOk result (items.new.items ≡ put_item items.old.items number item) }
+    ensures err { OnErr result (items.new.items ≡ items.old.items) }
+    ensures length { vec_len items.new ≤ vec_len items.old + 1 }
+    ensures capacity { vec_capacity items.old ≤ vec_capacity items.new }
+    ensures room { vec_len items.old < vec_capacity items.old → IsOk result }
+{
+    match place_in(items, number) {
+        Ok(index) => items[index] = (number, item),
+        Err(index) => items.insert(index, (number, item))?,
+    }
+    Ok(())
+}
+
+/// Puts the others in whose numbers are in the set, or those whose numbers are not. There is room for all.
+fn put_all<T: Drop>(
+    items: &mut Vec<(u32, T)>,
+    others: Vec<(u32, T)>,
+    numbers: &BTreeSet<u32>,
+    inside: bool,
+)
+    requires ascending { IsAscending items.old.items }
+    requires room { vec_len items.old + vec_len others ≤ vec_capacity items.old }
+    ensures { items.new.items ≡ put_chosen (is_chosen numbers.now inside) items.old.items others.items }
+{
+    for (number, item) in others {
+        if numbers.contains(&number) == inside {
+            match put(items, number, item) {
+                Ok(()) => {}
+                Err(_) => unreachable!(),
+            }
         }
     }
 }

@@ -181,7 +181,7 @@ fn set_default<V: Drop, S: NumberMap<FieldSlot<V>>>(
 }
 
 /// The oneof of the number's field.
-fn oneof_of(message_type: &PooledType, number: u32) -> Option<usize>
+pub(crate) fn oneof_of(message_type: &PooledType, number: u32) -> Option<usize>
     ensures { result ≡ oneof_of (known_of message_type.now) number }
 {
     match message_type.field_table(number) {
@@ -205,7 +205,7 @@ fn clear_siblings<V: Drop, S: NumberMap<FieldSlot<V>>>(
 }
 
 /// Whether two fields are members of one oneof.
-fn is_same_oneof(left: Option<usize>, right: Option<usize>) -> bool
+pub(crate) fn is_same_oneof(left: Option<usize>, right: Option<usize>) -> bool
     ensures { result ≡ same_oneof left right }
 {
     match (left, right) {

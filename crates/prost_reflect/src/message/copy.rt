@@ -1,7 +1,12 @@
 //! Copies of values and messages.
 
 ghost use Rattle.std.specs.Prelude.{◌≡◌, IfOk, map};
-ghost use Rattle.prost_reflect.specs.Copies.{SameStored, SameStoring, pairs_seen};
+ghost use Rattle.prost_reflect_wire.specs.Edit.{cleared};
+ghost use Rattle.prost_reflect_pool.specs.MessageTypes.{SameMessage};
+ghost use Rattle.prost_reflect_fields.specs.NumberSets.{has};
+ghost use Rattle.prost_reflect.specs.View.{content_of, message_type_of};
+ghost use Rattle.prost_reflect.specs.Merged.{IsJoined};
+ghost use Rattle.prost_reflect.specs.Copies.{SameStored, SameStoring, SameSlot, pairs_seen};
 ghost use Rattle.prost_reflect.specs.Stored.{value_stored, message_stored};
 
 use crate::message::DynamicMessage;
@@ -10,7 +15,7 @@ use prost_reflect_fields::field_set::FieldSet;
 use prost_reflect_fields::slot::FieldSlot;
 use prost_reflect_fields::sorted_map::SortedMap;
 use std::alloc::AllocError;
-use std::collections::BTreeMap;
+use std::collections::{BTreeMap, BTreeSet};
 use std::default::Emptied;
 
 impl Clone for Value {
@@ -26,6 +31,39 @@ impl Clone for DynamicMessage {
 
     fn clone(&self) -> Result<DynamicMessage, AllocError> {
         copy_message(self)
+    }
+}
+
+impl DynamicMessage {
+    /// A message of the same type, with copies of what stands at the numbers.
+    pub(super) fn clone_at(&self, numbers: &BTreeSet<u32>) -> Result<DynamicMessage, AllocError>
+        ensures message_type { IfOk result (λ part. SameMessage (message_type_of self.now) (message_type_of part)) }
+        ensures content { IfOk result (λ part. IsJoined (has numbers.now) (cleared (content_of self.now)) (content_of self.now) (content_of part)) }
+    {
+        let mut fields = SortedMap::new(self.fields.allocator());
+        for (number, slot) in self.fields.slots() {
+            if numbers.contains(number) {
+                fields.insert(*number, copy_slot(slot)?)?;
+            }
+        }
+        let shared = self.fields.message_type().clone()?;
+        Ok(DynamicMessage {
+            fields: FieldSet::from_slots(shared, fields),
+        })
+    }
+}
+
+/// What a message keeps at one number, once more.
+fn copy_slot(slot: &FieldSlot<Value>) -> Result<FieldSlot<Value>, AllocError>
+    ensures { IfOk result (λ copied. SameSlot slot.now copied) }
+{
+    match slot {
+        FieldSlot::Value(value) => Ok(FieldSlot::Value(copy_value(value)?)),
+        FieldSlot::Unknown(unknown) => Ok(FieldSlot::Unknown(unknown.clone()?)),
+        FieldSlot::Both(value, unknown) => {
+            let value = copy_value(value)?;
+            Ok(FieldSlot::Both(value, unknown.clone()?))
+        }
     }
 }
 

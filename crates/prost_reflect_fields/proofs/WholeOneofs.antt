@@ -1,0 +1,144 @@
+-- Numbers added to a set with the members of their oneofs.
+use Rattle.std.proofs.Common.{◌≡◌, ℕ, ◌+◌, ◌<◌, ◌≤◌, length, drop, drop_of_length-le, get_or, Bool, true, false, cond, not, ◌&&◌, ◌||◌, nat_eq, List, [], ◌∷◌, map, Option, Some, None, refl, ap, ap₂, sym, subst, ◌∙◌, true≢false}
+use Rattle.std.proofs.lemmas.Bool.{eqb-true, eq-eqb, ne_eqb, and_parts}
+use Rattle.std.specs.List.{list_any}
+use Rattle.std.specs.Option.{option_and_then}
+use Rattle.std.specs.Ordering.{nat_cmp, is_eq}
+use Rattle.std.specs.BTreeSet.{BTreeSet, contains}
+use Rattle.prost_reflect_wire.specs.Schema.{Field, field_of, is_sibling, same_oneof, passes, numbers_differ}
+use Rattle.prost_reflect_tables.specs.declared.tables.FieldTable.{FieldTable}
+use Rattle.prost_reflect_tables.specs.Rows.{field_row}
+use Rattle.prost_reflect_pool.specs.declared.pooled_type.PooledType.{PooledType}
+use Rattle.prost_reflect_pool.specs.MessageTypes.{fields_of}
+use Rattle.prost_reflect_fields.specs.Known.{known_of, oneof_of, are_siblings}
+use Rattle.prost_reflect_fields.specs.NumberSets.{has, HasWholeOneofs, is_in_oneof}
+use Rattle.prost_reflect_fields.proofs.ItemChanges.{by_number, itself}
+use Rattle.prost_reflect_fields.proofs.Siblings.{known_differ, found_passes}
+use Rattle.prost_reflect_fields.proofs.MembersCleared.{row_and_rest, members_known}
+
+-- ONE NUMBER MORE
+
+same_number : (n q : ℕ) → is_eq (nat_cmp n q) ≡ nat_eq n q
+same_number n q = by_number n q (λ e. ap is_eq (ap (nat_cmp n) (sym e) ∙ itself n) ∙ sym (eq-eqb n q e)) (λ a. a ∙ sym (ne_eqb n q (λ e. true≢false (sym (ap is_eq (ap (nat_cmp n) (sym e) ∙ itself n)) ∙ a))))
+
+abbrev pub Updated : BTreeSet ℕ → BTreeSet ℕ → ℕ → Type 0
+Updated old new n = (q : ℕ) → contains nat_cmp new q ≡ cond (is_eq (nat_cmp n q)) true (contains nat_cmp old q)
+
+pub inserted : (old new : BTreeSet ℕ) (n : ℕ) → Updated old new n → (q : ℕ) → has new q ≡ (nat_eq n q || has old q)
+inserted old new n updates q = updates q ∙ ap (λ b. cond b true (has old q)) (same_number n q) ∙ either (nat_eq n q)
+  where
+    either : (b : Bool) → cond b true (has old q) ≡ (b || has old q)
+    either true = refl
+    either false = refl
+
+-- a number that was there
+pub there_already : (old new : BTreeSet ℕ) (n : ℕ) → Updated old new n → has old n ≡ true → (q : ℕ) → has new q ≡ has old q
+there_already old new n updates is q = inserted old new n updates q ∙ cases (nat_eq n q) refl
+  where
+    cases : (b : Bool) → nat_eq n q ≡ b → (b || has old q) ≡ has old q
+    cases true e = sym is ∙ ap (has old) (eqb-true n q e)
+    cases false e = refl
+
+pub not_false : (b : Bool) → false ≡ not b → b ≡ true
+not_false true h = refl
+not_false false h = absurd (true≢false (sym h))
+
+pub whole_same : (fields : List Field) (old new : BTreeSet ℕ) → ((q : ℕ) → has new q ≡ has old q) → HasWholeOneofs fields old → HasWholeOneofs fields new
+whole_same fields old new same whole n k h siblings = same k ∙ whole n k (sym (same n) ∙ h) siblings
+
+-- MEMBERS
+
+abbrev pub in_oneof : List Field → Option ℕ → ℕ → Bool
+in_oneof fields oneof k = list_any (λ g. nat_eq g.number k && same_oneof g.oneof oneof) fields
+
+same_is : (a b : Option ℕ) → same_oneof a b ≡ true → a ≡ b
+same_is None b h = absurd (true≢false (sym h))
+same_is (Some i) None h = absurd (true≢false (sym h))
+same_is (Some i) (Some j) h = ap Some (eqb-true i j h)
+
+-- the siblings of a member are members
+member_siblings : (fields : List Field) (oneof : Option ℕ) (n k : ℕ) → numbers_differ fields ≡ true → in_oneof fields oneof n ≡ true → are_siblings fields n k ≡ true → in_oneof fields oneof k ≡ true
+member_siblings fields oneof n k differ member siblings = cases (field_of fields n) (found_passes n (λ g. same_oneof g.oneof oneof) fields differ member) siblings
+  where
+    cases : (o : Option Field) → passes o (λ g. same_oneof g.oneof oneof) ≡ true → passes o (λ f. is_sibling fields f k) ≡ true → in_oneof fields oneof k ≡ true
+    cases None same h = absurd (true≢false (sym h))
+    cases (Some g) same h = ap (λ x. in_oneof fields x k) (sym (same_is g.oneof oneof same)) ∙ (and_parts (not (nat_eq k g.number)) (in_oneof fields g.oneof k) h).1
+
+-- the siblings of a number are members of its oneof
+own_siblings : (fields : List Field) (n k : ℕ) → are_siblings fields n k ≡ true → in_oneof fields (oneof_of fields n) k ≡ true
+own_siblings fields n k h = cases (field_of fields n) h
+  where
+    cases : (o : Option Field) → passes o (λ f. is_sibling fields f k) ≡ true → in_oneof fields (option_and_then (λ f. f.oneof) o) k ≡ true
+    cases None h = absurd (true≢false (sym h))
+    cases (Some g) h = (and_parts (not (nat_eq k g.number)) (in_oneof fields g.oneof k) h).1
+
+or_left : (a b : Bool) → a ≡ true → (a || b) ≡ true
+or_left true b h = refl
+or_left false b h = absurd (true≢false (sym h))
+
+or_right : (a b : Bool) → b ≡ true → (a || b) ≡ true
+or_right true b h = refl
+or_right false b h = h
+
+or_either : {P : Type 0} (a b : Bool) → (a || b) ≡ true → (a ≡ true → P) → (b ≡ true → P) → P
+or_either true b h f g = f refl
+or_either false b h f g = g h
+
+-- a number and the members of its oneof
+module _ (d : PooledType) (old mid new : BTreeSet ℕ) (n : ℕ) (table : List FieldTable) (oneof : Option ℕ) (rows : map field_row table ≡ fields_of d) (is : oneof ≡ oneof_of (known_of d) n)
+    (updates : Updated old mid n) (members : (k : ℕ) → has new k ≡ (has mid k || is_in_oneof table oneof k)) where
+  in_known : (k : ℕ) → is_in_oneof table oneof k ≡ in_oneof (known_of d) oneof k
+  in_known k = members_known d table oneof k rows
+
+  from_mid : (k : ℕ) → has mid k ≡ true → has new k ≡ true
+  from_mid k h = members k ∙ or_left (has mid k) (is_in_oneof table oneof k) h
+
+  from_members : (k : ℕ) → in_oneof (known_of d) oneof k ≡ true → has new k ≡ true
+  from_members k h = members k ∙ or_right (has mid k) (is_in_oneof table oneof k) (in_known k ∙ h)
+
+  pub number_added : has new n ≡ true
+  number_added = from_mid n (inserted old mid n updates n ∙ or_left (nat_eq n n) (has old n) (eq-eqb n n refl))
+
+  pub numbers_stay : (k : ℕ) → has old k ≡ true → has new k ≡ true
+  numbers_stay k h = from_mid k (inserted old mid n updates k ∙ or_right (nat_eq n k) (has old k) h)
+
+  pub whole_added : HasWholeOneofs (known_of d) old → HasWholeOneofs (known_of d) new
+  whole_added whole m k h siblings = or_either (has mid m) (is_in_oneof table oneof m) (sym (members m) ∙ h)
+      (λ x. or_either (nat_eq n m) (has old m) (sym (inserted old mid n updates m) ∙ x)
+      (λ e. from_members k (ap (λ o. in_oneof (known_of d) o k) is ∙ own_siblings (known_of d) n k (subst (λ z. are_siblings (known_of d) z k ≡ true) (sym (eqb-true n m e)) siblings)))
+      (λ y. numbers_stay k (whole m k y siblings)))
+      (λ x. from_members k (member_siblings (known_of d) oneof m k (known_differ d) (sym (in_known m) ∙ x) siblings))
+
+-- ROW BY ROW
+
+module _ (table : List FieldTable) (oneof : Option ℕ) (i : ℕ) (f : FieldTable) (within : i < length table) (is : f ≡ get_or table i f) where
+  rows : (k : ℕ) → is_in_oneof (drop i table) oneof k ≡ ((nat_eq f.number k && same_oneof f.oneof oneof) || is_in_oneof (drop (i + 1) table) oneof k)
+  rows k = ap (λ fs. is_in_oneof fs oneof k) (row_and_rest table i f within is)
+
+  pub member_more : (old new : BTreeSet ℕ) → same_oneof f.oneof oneof ≡ true → Updated old new f.number → (k : ℕ) → (has new k || is_in_oneof (drop (i + 1) table) oneof k) ≡ (has old k || is_in_oneof (drop i table) oneof k)
+  member_more old new same updates k =
+      ap (λ b. b || rest) (inserted old new f.number updates k) ∙ cases (nat_eq f.number k) (has old k) ∙ ap (λ b. has old k || ((nat_eq f.number k && b) || rest)) (sym same) ∙ ap (λ b. has old k || b) (sym (rows k))
+    where
+      rest : Bool
+      rest = is_in_oneof (drop (i + 1) table) oneof k
+
+      cases : (a b : Bool) → ((a || b) || is_in_oneof (drop (i + 1) table) oneof k) ≡ (b || ((a && true) || is_in_oneof (drop (i + 1) table) oneof k))
+      cases true true = refl
+      cases true false = refl
+      cases false true = refl
+      cases false false = refl
+
+  pub member_passed : (numbers : BTreeSet ℕ) → same_oneof f.oneof oneof ≡ false → (k : ℕ) → (has numbers k || is_in_oneof (drop (i + 1) table) oneof k) ≡ (has numbers k || is_in_oneof (drop i table) oneof k)
+  member_passed numbers apart k = cases (nat_eq f.number k) ∙ ap (λ b. has numbers k || ((nat_eq f.number k && b) || is_in_oneof (drop (i + 1) table) oneof k)) (sym apart) ∙ ap (λ b. has numbers k || b) (sym (rows k))
+    where
+      cases : (a : Bool) → (has numbers k || is_in_oneof (drop (i + 1) table) oneof k) ≡ (has numbers k || ((a && false) || is_in_oneof (drop (i + 1) table) oneof k))
+      cases true = refl
+      cases false = refl
+
+-- no row is left
+pub members_done : (numbers : BTreeSet ℕ) (table : List FieldTable) (oneof : Option ℕ) (i : ℕ) → length table ≤ i → (k : ℕ) → has numbers k ≡ (has numbers k || is_in_oneof (drop i table) oneof k)
+members_done numbers table oneof i past k = cases (has numbers k) ∙ ap (λ fs. has numbers k || is_in_oneof fs oneof k) (sym (drop_of_length-le table past))
+  where
+    cases : (b : Bool) → b ≡ (b || false)
+    cases true = refl
+    cases false = refl

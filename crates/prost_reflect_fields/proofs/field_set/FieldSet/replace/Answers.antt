@@ -1,0 +1,28 @@
+use Rattle.std.proofs.Common.{◌≡◌, ℕ, List, sym, ◌∙◌, ap, subst, Ok, Err, Result}
+use Rattle.std.specs.Result.{OnOk, OnErr}
+use Rattle.prost_reflect_pool.specs.declared.pooled_type.PooledType.{PooledType}
+use Rattle.prost_reflect_fields.specs.declared.slot.FieldSlot.{FieldSlot}
+use Rattle.prost_reflect_fields.specs.Known.{known_of}
+use Rattle.prost_reflect_fields.specs.Sound.{Sound}
+use Rattle.prost_reflect_fields.specs.NumberSets.{HasWholeOneofs}
+use Rattle.prost_reflect_fields.proofs.Siblings.{known_differ}
+use Rattle.prost_reflect_fields.proofs.Replaced.{sound_replaced}
+use Rattle.prost_reflect_fields.proofs.field_set.FieldSet.replace.Goals as goal
+
+either : {T E P Q R : Type 0} (r : Result T E) → OnOk r P → OnErr r Q → (P → R) → (Q → R) → R
+either (Ok t) p q f h = f p
+either (Err e) p q f h = h q
+
+pub invariant_of-self : goal.invariant_of-self
+invariant_of-self g c =
+    let inside = c.self.inside in
+    let others = c.others.inside in
+    let fields = known_of inside.message_type in
+    let known : PooledType × List (ℕ × FieldSlot g.row.V.Denot) → Type 0 = λ m. HasWholeOneofs (known_of m.0) c.args.numbers.now in
+    let same : known_of others.message_type ≡ fields =
+    ap (λ (m : PooledType × List (ℕ × FieldSlot g.row.V.Denot)). known_of m.0) c.others.view_is ∙ c.requires.message_type ∙ sym (ap (λ (m : PooledType × List (ℕ × FieldSlot g.row.V.Denot)). known_of m.0) c.self.view_is) in
+    either c.replace.result c.replace.ensures.ok c.replace.ensures.err
+    (λ replaced.
+    sound_replaced c.args.numbers.now inside.fields others.fields c.replace.new.self replaced fields (known_differ inside.message_type) (subst known (sym c.self.view_is) c.requires.whole) c.self.invariant
+    (subst (λ known. Sound known others.fields) same c.others.invariant))
+    (λ is. subst (Sound fields) (sym is) c.self.invariant)

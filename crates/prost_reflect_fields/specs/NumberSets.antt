@@ -1,0 +1,37 @@
+-- Sets of numbers, and maps with what others have at such numbers.
+use Rattle.std.specs.Prelude.{◌≡◌, ℕ, Bool, true, not, ◌&&◌, nat_eq, if◌then◌else◌, List, [], ◌∷◌, Option}
+use Rattle.std.specs.List.{list_any}
+use Rattle.std.specs.Ordering.{nat_cmp}
+use Rattle.std.specs.BTreeSet.{BTreeSet, contains}
+use Rattle.prost_reflect_wire.specs.Schema.{Field, same_oneof}
+use Rattle.prost_reflect_tables.specs.declared.tables.FieldTable.{FieldTable}
+use Rattle.prost_reflect_fields.specs.Items.{IsAscending, item_at, put_item}
+use Rattle.prost_reflect_fields.specs.Known.{are_siblings}
+
+abbrev pub has : BTreeSet ℕ → ℕ → Bool
+has numbers n = contains nat_cmp numbers n
+
+-- With a number the set has the other members of its field's oneof.
+abbrev pub HasWholeOneofs : List Field → BTreeSet ℕ → Type 0
+HasWholeOneofs fields numbers = (n k : ℕ) → has numbers n ≡ true → are_siblings fields n k ≡ true → has numbers k ≡ true
+
+-- The number of a member of the oneof.
+abbrev pub is_in_oneof : List FieldTable → Option ℕ → ℕ → Bool
+is_in_oneof table oneof k = list_any (λ f. nat_eq f.number k && same_oneof f.oneof oneof) table
+
+-- In the set, or outside of it.
+abbrev pub is_chosen : BTreeSet ℕ → Bool → ℕ → Bool
+is_chosen numbers inside n = if inside then has numbers n else not (has numbers n)
+
+module _ {T : Type 0} where
+  -- The items of numbers that pass put at these numbers, one after another.
+  abbrev pub put_chosen : (ℕ → Bool) → List (ℕ × T) → List (ℕ × T) → List (ℕ × T)
+  put_chosen test es [] = es
+  put_chosen test es (d ∷ ds) = put_chosen test (if test d.0 then put_item es d.0 d.1 else es) ds
+
+  -- At the numbers of the set what others have, and elsewhere what was there.
+  pub record AreReplaced (numbers : BTreeSet ℕ) (old others new : List (ℕ × T)) : Type 0 where
+    pub at : (n : ℕ) → item_at new n ≡ (if has numbers n then item_at others n else item_at old n)
+    pub old_ascends : IsAscending old
+    pub others_ascend : IsAscending others
+    pub ascends : IsAscending new
