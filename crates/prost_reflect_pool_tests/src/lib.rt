@@ -3,14 +3,26 @@
 #![tactic(auto)]
 
 #[cfg(test)]
+mod additions;
+#[cfg(test)]
 mod builtin;
+#[cfg(test)]
+mod describe;
 #[cfg(test)]
 mod described;
 #[cfg(test)]
 mod descriptors;
 #[cfg(test)]
+mod found;
+#[cfg(test)]
 mod lookups;
+#[cfg(test)]
+mod origins;
 #[cfg(test)]
 mod pools;
 #[cfg(test)]
 mod reductions;
+#[cfg(test)]
+mod schema;
+#[cfg(test)]
+mod whole;

@@ -21,6 +21,8 @@ mod kinds;
 #[cfg(test)]
 mod lengths;
 #[cfg(test)]
+mod levels;
+#[cfg(test)]
 mod merges;
 #[cfg(test)]
 mod messages;
@@ -28,6 +30,8 @@ mod messages;
 mod options;
 #[cfg(test)]
 mod present;
+#[cfg(test)]
+mod refusals;
 #[cfg(test)]
 mod relay;
 #[cfg(test)]
@@ -38,3 +42,7 @@ mod texts;
 mod validity;
 #[cfg(test)]
 mod values;
+#[cfg(test)]
+mod worked;
+#[cfg(test)]
+mod worked_values;

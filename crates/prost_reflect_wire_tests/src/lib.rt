@@ -10,3 +10,5 @@ mod memory;
 mod records;
 #[cfg(test)]
 mod unknown;
+#[cfg(test)]
+mod worked;

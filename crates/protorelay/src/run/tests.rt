@@ -136,8 +136,30 @@ const CUT: &str = "0a1b0a0173220e0a015312090a0161180120012805620670726f746f";
 
 const PROTO4: &str = "0a1b0a0173220e0a015312090a0161180120012805620670726f746f34";
 
+/// The set of the file `m.proto` in proto3 with `message MyMessage { int32 foo = 1; oneof optional { int32 bar = 2; } MyMessage nested = 3; }` in `package`.
+const SET_M: &str =
+    "0a730a076d2e70726f746f12077061636b61676522570a094d794d657373616765120b0a03666f6f180120012805120d0a03626172180220012805480012220a066e657374656418032001280b32122e7061636b6167652e4d794d657373616765420a0a086f7074696f6e616c620670726f746f33";
+
 /// Command lines with a set, and their statuses and what is printed.
-static WITH_SETS: [([&str; 4], u8, &str, &str); 14] = [
+static WITH_SETS: [([&str; 4], u8, &str, &str); 17] = [
+    (
+        ["show", SET_M, "package.MyMessage", "0896011a0210422a002801"],
+        0,
+        "field 1\nfield 3\nunknown 5 2\n",
+        "",
+    ),
+    (
+        ["show", SET_M, "package.Other", "0801"],
+        1,
+        "",
+        "refused name\n",
+    ),
+    (
+        ["relay", SET_M, "package.Other", "0801"],
+        1,
+        "",
+        "refused name\n",
+    ),
     (["relay", SMALL, "S", "0896011002"], 0, "0896011002\n", ""),
     (
         ["show", SMALL, "S", "0896011002"],
@@ -362,7 +384,7 @@ const CLOSED: &str =
     "0a2a0a016622120a0143120d0a016518012001280e32022e452a110a014512050a0141100012050a01421001";
 
 /// Sets, names and messages, and what is shown of them.
-static SHOWN: [(&str, &str, &str, &str); 7] = [
+static SHOWN: [(&str, &str, &str, &str); 8] = [
     // Unknown fields are counted, in whatever order they came.
     (
         "-",
@@ -383,6 +405,7 @@ static SHOWN: [(&str, &str, &str, &str); 7] = [
     // A number that the enum does not declare stands beside one that it does, or alone.
     (CLOSED, "C", "080108070800", "field 1\nunknown 1 1\n"),
     (CLOSED, "C", "0807", "unknown 1 1\n"),
+    (NUMBERS, "C", "080108070800", "field 1\nunknown 1 1\n"),
 ];
 
 #[test]

@@ -1,0 +1,133 @@
+//! By which names and numbers the definitions of a whole set are found, and that nothing is found by others.
+
+use crate::whole::WHOLE;
+use prost_reflect::{DescriptorPool, EnumDescriptor, Kind, MessageDescriptor};
+use std::alloc::AllocError;
+use std::test::Fail;
+
+/// A name, and whether a file, a message type, an enum, an extension and a service are found by it.
+static NAMES: [(&str, [bool; 5]); 13] = [
+    ("whole.proto", [true, false, false, false, false]),
+    ("Plain", [false, true, false, false, false]),
+    ("w.x.A.B.C.Item", [false, true, false, false, false]),
+    ("w.x.A.B.C.State", [false, false, true, false, false]),
+    ("base.Level", [false, false, true, false, false]),
+    ("w.x.A.B.C.c", [false, false, false, true, false]),
+    ("w.x.S", [false, false, false, false, true]),
+    // A field, a value, a method and a package are none of these, nor is a name with a dot in front, or none.
+    ("w.x.A.text", [false; 5]),
+    ("w.x.A.B.C.OFF", [false; 5]),
+    ("w.x.S.Go", [false; 5]),
+    ("w.x", [false; 5]),
+    (".w.x.A", [false; 5]),
+    ("", [false; 5]),
+];
+
+fn found_in_pool(pool: &DescriptorPool, name: &str) -> Result<[bool; 5], AllocError> {
+    let file = pool.get_file_by_name(name)?.is_some();
+    let message = pool.get_message_by_name(name)?.is_some();
+    let found = pool.get_enum_by_name(name)?.is_some();
+    let extension = pool.get_extension_by_name(name)?.is_some();
+    let service = pool.get_service_by_name(name)?.is_some();
+    Ok([file, message, found, extension, service])
+}
+
+/// A name, and whether a field of `w.x.A` is found by it, a field by its name in JSON, an extension by its full name, and an
+/// extension by its name in JSON.
+static MEMBERS: [(&str, [bool; 4]); 6] = [
+    ("level", [true, true, false, false]),
+    ("w.x.marks", [false, false, true, false]),
+    ("[w.x.marks]", [false, false, false, true]),
+    ("w.x.A.level", [false; 4]),
+    ("choice", [false; 4]),
+    ("gone", [false; 4]),
+];
+
+fn found_in_message(message: &MessageDescriptor, name: &str) -> Result<[bool; 4], AllocError> {
+    let field = message.get_field_by_name(name)?.is_some();
+    let json = message.get_field_by_json_name(name)?.is_some();
+    let extension = message.get_extension_by_full_name(name)?.is_some();
+    let bracketed = message.get_extension_by_json_name(name)?.is_some();
+    Ok([field, json, extension, bracketed])
+}
+
+/// A number, and whether a field and an extension of `w.x.A` are found by it.
+static NUMBERS: [(u32, [bool; 2]); 7] = [
+    (2, [true, false]),
+    (7, [true, false]),
+    (101, [false, true]),
+    (0, [false; 2]),
+    (4, [false; 2]),
+    (100, [false; 2]),
+    (u32::MAX, [false; 2]),
+];
+
+fn found_by_number(message: &MessageDescriptor, number: u32) -> Result<[bool; 2], AllocError> {
+    let field = message.get_field(number)?.is_some();
+    let extension = message.get_extension(number)?.is_some();
+    Ok([field, extension])
+}
+
+/// A value's name and its number in `w.x.A.B.C.State`, and whether values are found by them.
+static VALUES: [(&str, i32, [bool; 2]); 4] = [
+    ("UP", 1, [true; 2]),
+    ("OFF", 2, [true; 2]),
+    ("w.x.A.B.C.OFF", 0, [false; 2]),
+    ("off", -1, [false; 2]),
+];
+
+fn found_in_enum(e: &EnumDescriptor, name: &str, number: i32) -> Result<[bool; 2], AllocError> {
+    let named = e.get_value_by_name(name)?.is_some();
+    let numbered = e.get_value(number)?.is_some();
+    Ok([named, numbered])
+}
+
+#[test]
+fn definitions_are_found_by_their_names_alone(rt: HostRuntime) -> Result<(), Fail> {
+    let pool = DescriptorPool::decode(rt.alloc(), WHOLE)?;
+    for (name, found) in NAMES {
+        assert!(rt; found_in_pool(&pool, name)? == found, "{name}");
+    }
+    Ok(())
+}
+
+#[test]
+fn members_are_found_by_their_names_and_numbers(rt: HostRuntime) -> Result<(), Fail> {
+    let pool = DescriptorPool::decode(rt.alloc(), WHOLE)?;
+    let message = pool.get_message_by_name("w.x.A")?.ok_or("no w.x.A")?;
+    for (name, found) in MEMBERS {
+        assert!(rt; found_in_message(&message, name)? == found, "{name}");
+    }
+    for (number, found) in NUMBERS {
+        assert!(rt; found_by_number(&message, number)? == found, "{number}");
+    }
+    let e = pool.get_enum_by_name("w.x.A.B.C.State")?.ok_or("no State")?;
+    for (name, number, found) in VALUES {
+        assert!(rt; found_in_enum(&e, name, number)? == found, "{name}");
+    }
+    Ok(())
+}
+
+/// The kind of the field of the number.
+fn kind_of(message: &MessageDescriptor, number: u32) -> Result<Kind, Fail> {
+    Ok(message.get_field(number)?.ok_or("no such field")?.kind()?)
+}
+
+/// A kind leads to its message type, or to its enum, and a scalar kind to neither; a copy to the same.
+#[test]
+fn kinds_lead_to_their_types(rt: HostRuntime) -> Result<(), Fail> {
+    let pool = DescriptorPool::decode(rt.alloc(), WHOLE)?;
+    let message = pool.get_message_by_name("w.x.A")?.ok_or("no w.x.A")?;
+    let (of_enum, of_entry, of_text) = (
+        kind_of(&message, 2)?,
+        kind_of(&message, 3)?,
+        kind_of(&message, 7)?,
+    );
+    assert!(rt; of_enum.as_enum().ok_or("no enum")?.full_name() == "base.Level");
+    assert!(rt; of_entry.as_message().ok_or("no message")?.full_name() == "w.x.A.BsEntry");
+    assert!(rt; of_enum.as_message().is_none() && of_entry.as_enum().is_none());
+    assert!(rt; of_text.as_message().is_none() && of_text.as_enum().is_none());
+    assert!(rt; of_enum.clone()? == of_enum && of_entry.clone()? == of_entry);
+    assert!(rt; of_text.clone()? == of_text && of_text != of_enum);
+    Ok(())
+}

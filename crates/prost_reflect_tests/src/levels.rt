@@ -1,0 +1,124 @@
+//! Messages and groups that nest as deep as is allowed, and one level deeper; and a thousand entries of one key.
+
+use crate::worked::worked_type;
+use prost_reflect::{DecodeError, DynamicMessage};
+use std::alloc::{AllocError, Global};
+use std::test::Fail;
+
+/// The bytes as the field 3.
+fn as_field(alloc: Global, body: &[u8]) -> Result<Vec<u8>, AllocError> {
+    let mut bytes = Vec::new(alloc);
+    bytes.push(0x1a)?;
+    if body.len() < 128 {
+        bytes.push(body.len() as u8)?;
+    } else {
+        bytes.push((body.len() % 128) as u8 + 128)?;
+        bytes.push((body.len() / 128 % 128) as u8)?;
+    }
+    bytes.extend_from_slice(body)?;
+    Ok(bytes)
+}
+
+/// The digits' bytes as the field 3 of so many messages inside one another.
+pub(crate) fn in_messages(alloc: Global, levels: usize, digits: &str) -> Result<Vec<u8>, Fail> {
+    let mut bytes = hex::decode(alloc, digits)?;
+    for _ in 0..levels {
+        bytes = as_field(alloc, bytes.as_slice())?;
+    }
+    Ok(bytes)
+}
+
+/// So many groups inside one another, by the bytes that open and that close one.
+pub(crate) fn in_groups(
+    alloc: Global,
+    levels: usize,
+    open: u8,
+    close: u8,
+) -> Result<Vec<u8>, AllocError> {
+    let mut bytes = vec![in alloc; open; levels]?;
+    bytes.extend_from_slice(vec![in alloc; close; levels]?.as_slice())?;
+    Ok(bytes)
+}
+
+/// What is written of the message that the bytes mean.
+fn written(alloc: Global, name: &str, bytes: &[u8]) -> Result<Vec<u8>, Fail> {
+    let message = DynamicMessage::decode(alloc, worked_type(alloc, name)?, bytes)?;
+    Ok(message.encode_to_vec(alloc)?)
+}
+
+fn is_too_deep(alloc: Global, name: &str, bytes: &[u8]) -> Result<bool, Fail> {
+    let read = DynamicMessage::decode(alloc, worked_type(alloc, name)?, bytes);
+    Ok(read.is_err_and(|error| error == DecodeError::Depth))
+}
+
+/// A message type with a message of its own as the field 3, how many of these stand inside one another, the digits inside
+/// the last, and those that are written again there.
+static DEEP: [(&str, usize, &str, &str); 3] = [
+    ("package.MyMessage", 100, "", ""),
+    // The empty message of an entry is the hundredth level, and an unknown group.
+    ("a.P", 99, "1200", "12021200"),
+    ("package.MyMessage", 99, "2b2c", "2b2c"),
+];
+
+/// Likewise, with one level too many.
+static TOO_DEEP: [(&str, usize, &str); 3] = [
+    ("package.MyMessage", 101, ""),
+    ("a.P", 100, "1200"),
+    ("package.MyMessage", 99, "2b2b2c2c"),
+];
+
+#[test]
+fn a_hundred_levels_of_messages_are_read(rt: HostRuntime) -> Result<(), Fail> {
+    let alloc = rt.alloc();
+    for (name, levels, inside, again) in &DEEP {
+        let bytes = in_messages(alloc, *levels, inside)?;
+        let expected = in_messages(alloc, *levels, again)?;
+        assert!(rt; written(alloc, name, bytes.as_slice())?.as_slice() == expected.as_slice());
+    }
+    for (name, levels, inside) in &TOO_DEEP {
+        let bytes = in_messages(alloc, *levels, inside)?;
+        assert!(rt; is_too_deep(alloc, name, bytes.as_slice())?);
+    }
+    Ok(())
+}
+
+/// Empty messages inside one another take two bytes each, and three from the length 128 on.
+#[test]
+fn lengths_of_levels_are_written(rt: HostRuntime) -> Result<(), Fail> {
+    assert_eq!(rt; in_messages(rt.alloc(), 100, "")?.len(), 236);
+    assert_eq!(rt; in_messages(rt.alloc(), 101, "")?.len(), 239);
+    Ok(())
+}
+
+/// A message type, and the bytes that open and that close a group there: an unknown one, and one of a field.
+static GROUPS: [(&str, u8, u8); 2] = [("package.MyMessage", 0x2b, 0x2c), ("b.L", 0x0b, 0x0c)];
+
+#[test]
+fn a_hundred_levels_of_groups_are_read(rt: HostRuntime) -> Result<(), Fail> {
+    let alloc = rt.alloc();
+    for (name, open, close) in &GROUPS {
+        let bytes = in_groups(alloc, 100, *open, *close)?;
+        assert!(rt; written(alloc, name, bytes.as_slice())?.as_slice() == bytes.as_slice());
+        let bytes = in_groups(alloc, 101, *open, *close)?;
+        assert!(rt; is_too_deep(alloc, name, bytes.as_slice())?);
+    }
+    Ok(())
+}
+
+/// Entries of the key `a` with the values from 1 to 1000.
+fn entries(alloc: Global) -> Result<Vec<u8>, AllocError> {
+    let mut bytes = Vec::new(alloc);
+    for value in 1..1001_u32 {
+        let (low, high) = ((value % 128) as u8, (value / 128 % 128) as u8);
+        bytes.extend_from_slice(&[0x0a, 6, 0x0a, 1, b'a', 0x10, low + 128, high])?;
+    }
+    Ok(bytes)
+}
+
+#[test]
+fn the_last_of_a_thousand_entries_counts(rt: HostRuntime) -> Result<(), Fail> {
+    let bytes = entries(rt.alloc())?;
+    let again = written(rt.alloc(), "a.P", bytes.as_slice())?;
+    assert!(rt; again.as_slice() == [0x0a, 6, 0x0a, 1, b'a', 0x10, 0xe8, 7].as_slice());
+    Ok(())
+}

@@ -1,0 +1,109 @@
+//! Worked bytes that are refused, and worked messages that end too early.
+
+use crate::levels::{in_groups, in_messages};
+use crate::worked::{WRITTEN, worked_type};
+use prost_reflect::{DecodeError, DynamicMessage};
+use std::alloc::Global;
+use std::test::Fail;
+
+/// A message type, the digits of bytes, and why they are refused.
+static REFUSED: [(&str, &str, DecodeError); 21] = [
+    // A tenth byte above 1, and an eleventh byte.
+    (
+        "package.MyMessage",
+        "08ffffffffffffffffff02",
+        DecodeError::Varint,
+    ),
+    (
+        "package.MyMessage",
+        "088080808080808080808000",
+        DecodeError::Varint,
+    ),
+    // No number, no such wire type, and a key past 32 bits.
+    ("package.MyMessage", "00", DecodeError::Key),
+    ("package.MyMessage", "0e", DecodeError::Key),
+    ("package.MyMessage", "8080808010", DecodeError::Key),
+    // A number for a map, and for its entry's key; a message for a group.
+    ("a.P", "0805", DecodeError::WireType),
+    ("a.P", "0a020801", DecodeError::WireType),
+    ("b.G", "0a020801", DecodeError::WireType),
+    ("package.MyMessage", "1b1c", DecodeError::WireType),
+    // A group is closed by its own number, where it stands.
+    ("b.G", "0b080114", DecodeError::EndGroup),
+    ("package.MyMessage", "0c", DecodeError::EndGroup),
+    ("package.MyMessage", "1a010c", DecodeError::EndGroup),
+    ("package.MyMessage", "2b34", DecodeError::EndGroup),
+    ("a.S", "0a01ff", DecodeError::Utf8),
+    // A text, a number, a message and a group that end too early, and a message that ends inside a record.
+    ("a.S", "0a0561", DecodeError::Truncated),
+    ("package.MyMessage", "0896", DecodeError::Truncated),
+    ("package.MyMessage", "1a05", DecodeError::Truncated),
+    (
+        "package.MyMessage",
+        "1affffffffffffffffff01",
+        DecodeError::Truncated,
+    ),
+    (
+        "package.MyMessage",
+        "1a031a05080801",
+        DecodeError::Truncated,
+    ),
+    ("package.MyMessage", "2b", DecodeError::Truncated),
+    ("b.Foo", "0a0180", DecodeError::Truncated),
+];
+
+#[test]
+fn worked_bytes_are_refused(rt: HostRuntime) -> Result<(), Fail> {
+    for (name, digits, fault) in &REFUSED {
+        let bytes = hex::decode(rt.alloc(), digits)?;
+        let descriptor = worked_type(rt.alloc(), name)?;
+        let read = DynamicMessage::decode(rt.alloc(), descriptor, bytes.as_slice());
+        assert!(rt; read.is_err_and(|error| error == *fault), "{digits}");
+    }
+    Ok(())
+}
+
+/// Whether each part in front of the end of the bytes is a message, or ends too early.
+fn parts_are_read(alloc: Global, name: &str, bytes: &[u8]) -> Result<bool, Fail> {
+    let descriptor = worked_type(alloc, name)?;
+    for len in 0..bytes.len() {
+        let read = DynamicMessage::decode(alloc, descriptor.clone()?, &bytes[..len]);
+        if read.is_err_and(|error| error != DecodeError::Truncated) {
+            return Ok(false);
+        }
+    }
+    Ok(true)
+}
+
+#[test]
+fn a_part_of_a_message_is_read_or_ends_too_early(rt: HostRuntime) -> Result<(), Fail> {
+    for (name, digits, _, _) in &WRITTEN {
+        let bytes = hex::decode(rt.alloc(), digits)?;
+        assert!(rt;
+            parts_are_read(rt.alloc(), name, bytes.as_slice())?,
+            "{digits}"
+        );
+    }
+    Ok(())
+}
+
+#[test]
+fn so_is_a_part_of_a_hundred_levels(rt: HostRuntime) -> Result<(), Fail> {
+    let messages = in_messages(rt.alloc(), 100, "")?;
+    let groups = in_groups(rt.alloc(), 100, 0x2b, 0x2c)?;
+    assert!(rt; parts_are_read(rt.alloc(), "package.MyMessage", messages.as_slice())?);
+    assert!(rt; parts_are_read(rt.alloc(), "package.MyMessage", groups.as_slice())?);
+    Ok(())
+}
+
+/// A part that ends between records is read.
+#[test]
+fn a_message_ends_between_its_records(rt: HostRuntime) -> Result<(), Fail> {
+    let bytes = [0x08, 0x96, 0x01, 0x1a, 0x02, 0x10, 0x42];
+    let descriptor = worked_type(rt.alloc(), "package.MyMessage")?;
+    for len in 0..7 {
+        let read = DynamicMessage::decode(rt.alloc(), descriptor.clone()?, &bytes[..len]);
+        assert_eq!(rt; read.is_ok(), len == 0 || len == 3);
+    }
+    Ok(())
+}

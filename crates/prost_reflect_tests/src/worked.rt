@@ -1,0 +1,214 @@
+//! Worked messages of each form: what is written of them again, and what is present in them.
+
+use prost_reflect::{DescriptorPool, DynamicMessage, MessageDescriptor, PresentNumber};
+use std::alloc::{AllocError, Global};
+use std::test::Fail;
+
+/// What protoc writes for `package`, of proto3:
+///
+///     message MyMessage { int32 foo = 1; oneof optional { int32 bar = 2; } MyMessage nested = 3; }
+///
+/// for `a`, of proto3:
+///
+///     message Foo { repeated int32 values = 1; }
+///     message P { map<string, int32> m = 1; map<int32, package.MyMessage> q = 2; P p = 3; }
+///     message Q { oneof c { int32 a = 1; package.MyMessage b = 2; } }
+///     message S { string s = 1; }
+///     message F { float f = 1; }
+///     enum E { A = 0; B = 1; }
+///
+/// for `b`, of proto2, but that the field `l` is a group here:
+///
+///     message Foo { repeated int32 values = 1; extensions 100 to 199; }
+///     extend Foo { repeated int32 ext_values = 100; }
+///     message G { repeated group Item = 1 { optional int32 x = 1; } }
+///     message L { optional L l = 1; }
+///     message T { map<string, int32> m = 1; }
+///     message X { extensions 100 to 199; }
+///     extend X { optional int32 x = 100; }
+///     message C { optional a.E e = 1; repeated a.E r = 2 [packed = true]; map<string, a.E> m = 3; oneof o { a.E x = 4; int32 y = 5; } }
+///
+/// and for a file of proto2 without a package:
+///
+///     enum E { A = 0; B = 1; }
+///     message C { optional E e = 1; repeated E r = 2 [packed = true]; map<string, E> m = 3; oneof o { E x = 4; int32 y = 5; } }
+pub(crate) static WORKED: &[u8] =
+    b"\x0a\x85\x01\x0a\x07m.proto\x12\x07package\"i\x0a\x09MyMessage\x12\x10\x0a\x03foo\x18\x01 \
+    \x01(\x05R\x03foo\x12\x12\x0a\x03bar\x18\x02 \x01(\x05H\x00R\x03bar\x12*\x0a\x06nested\x18\x03 \
+    \x01(\x0b2\x12.package.MyMessageR\x06nestedB\x0a\x0a\x08optionalb\x06proto3\x0a\x83\x03\x0a\x07\
+    a.proto\x12\x01a\x1a\x07m.proto\"\x1d\x0a\x03Foo\x12\x16\x0a\x06values\x18\x01 \x03(\x05R\x06va\
+    lues\"\xcd\x01\x0a\x01P\x12\x19\x0a\x01m\x18\x01 \x03(\x0b2\x0b.a.P.MEntryR\x01m\x12\x19\x0a\
+    \x01q\x18\x02 \x03(\x0b2\x0b.a.P.QEntryR\x01q\x12\x12\x0a\x01p\x18\x03 \x01(\x0b2\x04.a.PR\x01p\
+    \x1a4\x0a\x06MEntry\x12\x10\x0a\x03key\x18\x01 \x01(\x09R\x03key\x12\x14\x0a\x05value\x18\x02 \
+    \x01(\x05R\x05value:\x028\x01\x1aH\x0a\x06QEntry\x12\x10\x0a\x03key\x18\x01 \x01(\x05R\x03key\
+    \x12(\x0a\x05value\x18\x02 \x01(\x0b2\x12.package.MyMessageR\x05value:\x028\x01\"<\x0a\x01Q\x12\
+    \x0e\x0a\x01a\x18\x01 \x01(\x05H\x00R\x01a\x12\"\x0a\x01b\x18\x02 \x01(\x0b2\x12.package.MyMess\
+    ageH\x00R\x01bB\x03\x0a\x01c\"\x11\x0a\x01S\x12\x0c\x0a\x01s\x18\x01 \x01(\x09R\x01s\"\x11\x0a\
+    \x01F\x12\x0c\x0a\x01f\x18\x01 \x01(\x02R\x01f*\x11\x0a\x01E\x12\x05\x0a\x01A\x10\x00\x12\x05\
+    \x0a\x01B\x10\x01b\x06proto3\x0a\xdf\x03\x0a\x07b.proto\x12\x01b\x1a\x07a.proto\"$\x0a\x03Foo\
+    \x12\x16\x0a\x06values\x18\x01 \x03(\x05R\x06values*\x05\x08d\x10\xc8\x01\"8\x0a\x01G\x12\x1d\
+    \x0a\x04item\x18\x01 \x03(\x0a2\x09.b.G.ItemR\x04item\x1a\x14\x0a\x04Item\x12\x0c\x0a\x01x\x18\
+    \x01 \x01(\x05R\x01x\"\x17\x0a\x01L\x12\x12\x0a\x01l\x18\x01 \x01(\x0a2\x04.b.LR\x01l\"T\x0a\
+    \x01T\x12\x19\x0a\x01m\x18\x01 \x03(\x0b2\x0b.b.T.MEntryR\x01m\x1a4\x0a\x06MEntry\x12\x10\x0a\
+    \x03key\x18\x01 \x01(\x09R\x03key\x12\x14\x0a\x05value\x18\x02 \x01(\x05R\x05value:\x028\x01\"\
+    \x0a\x0a\x01X*\x05\x08d\x10\xc8\x01\"\xb1\x01\x0a\x01C\x12\x12\x0a\x01e\x18\x01 \x01(\x0e2\x04.\
+    a.ER\x01e\x12\x16\x0a\x01r\x18\x02 \x03(\x0e2\x04.a.EB\x02\x10\x01R\x01r\x12\x19\x0a\x01m\x18\
+    \x03 \x03(\x0b2\x0b.b.C.MEntryR\x01m\x12\x14\x0a\x01x\x18\x04 \x01(\x0e2\x04.a.EH\x00R\x01x\x12\
+    \x0e\x0a\x01y\x18\x05 \x01(\x05H\x00R\x01y\x1a:\x0a\x06MEntry\x12\x10\x0a\x03key\x18\x01 \x01(\
+    \x09R\x03key\x12\x1a\x0a\x05value\x18\x02 \x01(\x0e2\x04.a.ER\x05value:\x028\x01B\x03\x0a\x01o:\
+    %\x0a\x0aext_values\x12\x06.b.Foo\x18d \x03(\x05R\x09extValues:\x12\x0a\x01x\x12\x04.b.X\x18d \
+    \x01(\x05R\x01x\x0a\xc6\x01\x0a\x07c.proto\"\xa7\x01\x0a\x01C\x12\x10\x0a\x01e\x18\x01 \x01(\
+    \x0e2\x02.ER\x01e\x12\x14\x0a\x01r\x18\x02 \x03(\x0e2\x02.EB\x02\x10\x01R\x01r\x12\x17\x0a\x01m\
+    \x18\x03 \x03(\x0b2\x09.C.MEntryR\x01m\x12\x12\x0a\x01x\x18\x04 \x01(\x0e2\x02.EH\x00R\x01x\x12\
+    \x0e\x0a\x01y\x18\x05 \x01(\x05H\x00R\x01y\x1a8\x0a\x06MEntry\x12\x10\x0a\x03key\x18\x01 \x01(\
+    \x09R\x03key\x12\x18\x0a\x05value\x18\x02 \x01(\x0e2\x02.ER\x05value:\x028\x01B\x03\x0a\x01o*\
+    \x11\x0a\x01E\x12\x05\x0a\x01A\x10\x00\x12\x05\x0a\x01B\x10\x01";
+
+/// `b.X` of a pool without the extension.
+pub(crate) static WITHOUT_EXTENSION: &[u8] =
+    b"\x0a\x1c\x0a\x0bolder.proto\x12\x01b\"\x0a\x0a\x01X*\x05\x08d\x10\xc8\x01";
+
+/// The type of the name in the pool of `WORKED`.
+pub(crate) fn worked_type(alloc: Global, name: &str) -> Result<MessageDescriptor, Fail> {
+    let found = DescriptorPool::decode(alloc, WORKED)?.get_message_by_name(name)?;
+    Ok(found.ok_or("no such message type")?)
+}
+
+/// A message type, the digits of bytes, those of what is written again, and the numbers that are present: fields, extensions
+/// in brackets, and unknown numbers with how many records they have.
+pub(crate) static WRITTEN: [(&str, &str, &str, &str); 35] = [
+    ("package.MyMessage", "", "", ""),
+    ("package.MyMessage", "089601", "089601", "1 "),
+    ("package.MyMessage", "0800", "", ""),
+    // A member of a oneof has presence, and `foo` has none.
+    ("package.MyMessage", "08001000", "1000", "2 "),
+    // The records of one number are those of one message, which may be empty.
+    (
+        "package.MyMessage",
+        "1a0208051a021042",
+        "1a0408051042",
+        "3 ",
+    ),
+    ("package.MyMessage", "1a0208051a020800", "1a00", "3 "),
+    ("package.MyMessage", "1a0410420805", "1a0408051042", "3 "),
+    // A negative number is written in ten bytes, whatever it is read from.
+    (
+        "package.MyMessage",
+        "08ffffffff0f",
+        "08ffffffffffffffffff01",
+        "1 ",
+    ),
+    // Needless digits of a value and of a key are read, and not written.
+    ("package.MyMessage", "0880808080808080808000", "", ""),
+    ("package.MyMessage", "8880808080808080800005", "0805", "1 "),
+    // The greatest number is of no field.
+    (
+        "package.MyMessage",
+        "f8ffffff0f00",
+        "f8ffffff0f00",
+        "536870911?1 ",
+    ),
+    (
+        "package.MyMessage",
+        "0896011a0210422a002801",
+        "0896011a0210422a002801",
+        "1 3 5?2 ",
+    ),
+    // A list is read packed or not. Proto2 writes a record for each element, proto3 one for all.
+    ("b.Foo", "0a020102", "08010802", "1 "),
+    ("b.Foo", "10050807", "08071005", "1 2?1 "),
+    (
+        "a.Foo",
+        "0a0b01ffffffffffffffffff01",
+        "0a0b01ffffffffffffffffff01",
+        "1 ",
+    ),
+    // The last entry of a key counts. What an entry lacks is zero or empty, and what is none of both is dropped.
+    (
+        "a.P",
+        "0a050a016110010a050a01611002",
+        "0a050a01611002",
+        "1 ",
+    ),
+    (
+        "a.P",
+        "0a050a016210010a050a01611002",
+        "0a050a016110020a050a01621001",
+        "1 ",
+    ),
+    ("a.P", "0a00", "0a00", "1 "),
+    ("a.P", "0a0418031001", "0a021001", "1 "),
+    ("a.P", "0a025354", "0a00", "1 "),
+    ("a.P", "1200", "12021200", "2 "),
+    // In proto2 the key and the value of an entry have presence.
+    ("b.T", "0a00", "0a040a001000", "1 "),
+    // A member clears the others of its oneof.
+    ("a.Q", "12020805080112021042", "12021042", "2 "),
+    ("a.Q", "12000801", "0801", "1 "),
+    ("b.G", "0b08010c", "0b08010c", "1 "),
+    // The zero with a sign is no default.
+    ("a.F", "0d00000080", "0d00000080", "1 "),
+    ("a.F", "0d00000000", "", ""),
+    ("b.X", "a00607", "a00607", "[100] "),
+    // A number that a closed enum does not declare stays unknown, behind the value, and clears no sibling.
+    ("C", "0807", "0807", "1?1 "),
+    ("C", "080108070800", "08000807", "1 1?1 "),
+    ("C", "120401070009", "1202010010071009", "2 2?2 "),
+    ("C", "28052007", "20072805", "4?1 5 "),
+    // All 64 bits of it are kept; the low 32 bits say which number it is.
+    ("C", "08ffffffff0f", "08ffffffff0f", "1?1 "),
+    ("C", "088080808010", "0800", "1 "),
+    // An enum of proto3 takes any number, in a message of proto2 too.
+    ("b.C", "0807", "0807", "1 "),
+];
+
+fn present(alloc: Global, message: &DynamicMessage) -> Result<String, AllocError> {
+    let mut text = String::new(alloc);
+    for number in message.present_numbers(alloc)?.iter() {
+        match number {
+            PresentNumber::Field(number) => write!(&mut text, "{number} ")?,
+            PresentNumber::Extension(number) => write!(&mut text, "[{number}] ")?,
+            PresentNumber::Unknown(number, count) => write!(&mut text, "{number}?{count} ")?,
+        }
+    }
+    Ok(text)
+}
+
+/// What is present in the message that the digits mean, and the digits of what is written of it, whose length is foretold.
+fn relayed(
+    alloc: Global,
+    descriptor: MessageDescriptor,
+    digits: &str,
+) -> Result<(String, String), Fail> {
+    let bytes = hex::decode(alloc, digits)?;
+    let message = DynamicMessage::decode(alloc, descriptor, bytes.as_slice())?;
+    let present = present(alloc, &message)?;
+    let len = message.encoded_len();
+    let written = message.encode_to_vec(alloc)?;
+    if len != Some(written.len()) {
+        return Err(Fail::from("another length"));
+    }
+    Ok((present, hex::encode(alloc, written.as_slice())?))
+}
+
+#[test]
+fn worked_messages_are_written_again(rt: HostRuntime) -> Result<(), Fail> {
+    for (name, digits, again, numbers) in &WRITTEN {
+        let descriptor = worked_type(rt.alloc(), name)?;
+        let (present, written) = relayed(rt.alloc(), descriptor, digits)?;
+        assert_eq!(rt; written.as_str(), *again);
+        assert_eq!(rt; present.as_str(), *numbers);
+    }
+    Ok(())
+}
+
+/// Where a pool lacks the extension, its record is unknown.
+#[test]
+fn an_extension_that_is_not_known_stays(rt: HostRuntime) -> Result<(), Fail> {
+    let pool = DescriptorPool::decode(rt.alloc(), WITHOUT_EXTENSION)?;
+    let descriptor = pool.get_message_by_name("b.X")?.ok_or("no b.X")?;
+    let (present, written) = relayed(rt.alloc(), descriptor, "a00607")?;
+    assert_eq!(rt; present.as_str(), "100?1 ");
+    assert_eq!(rt; written.as_str(), "a00607");
+    Ok(())
+}
