@@ -10,9 +10,7 @@ use Rattle.prost_reflect_wire.specs.Schema.{Kind, ScalarOf, MessageOf, GroupOf, 
 use Rattle.prost_reflect_wire.specs.Content.{Value, ScalarValue, MessageValue, ListValue, MapValue, NoValues, Item, NoPairs, Pair, empty}
 use Rattle.prost_reflect_wire.specs.Edit.{default_of, default_value}
 use Rattle.prost_reflect_wire.specs.Typing.{is_empty_value, value_valid}
-use Rattle.prost_reflect_laws.proofs.Checked.{checked_field, found_valid, known_valid}
-use Rattle.prost_reflect_tables.proofs.Fields.{known_row}
-use Rattle.prost_reflect_tables.proofs.Keeping.{schema_is_valid}
+use Rattle.prost_reflect_laws.proofs.Checked.{checked_field}
 use Rattle.prost_reflect_tables.specs.declared.tables.Cardinality.{Cardinality}
 use Rattle.prost_reflect_tables.specs.declared.tables.Cardinality.TheVariants.{Optional, Required, Repeated as RepeatedLabel}
 use Rattle.prost_reflect_tables.specs.declared.tables.TableKind.{TableKind}
@@ -24,6 +22,7 @@ use Rattle.prost_reflect_tables.specs.Rows.{FieldRow, MessageRow, TableRows}
 use Rattle.prost_reflect_tables.specs.Shown.{schema_from, schema_field, schema_kind, own_type, form_of, map_entry}
 use Rattle.prost_reflect_pool.specs.SharedPools.{pool_rows}
 use Rattle.prost_reflect_pool.specs.declared.pool.LinkedPool.{LinkedPool}
+pub use Rattle.prost_reflect.specs.RowLawProofs.{row_checked, default_fits}
 use Rattle.prost_reflect.specs.Defaults.{row_default, single_place, place_named, IsDefaultBy, IsEmptyOf, IsRowDefault}
 use Rattle.prost_reflect.specs.Scalars.{plain_kind}
 use Rattle.prost_reflect.specs.Variants.{message_in}
@@ -84,26 +83,12 @@ place_in_range rows row T valid single is =
 
 -- A ROW'S DEFAULT
 
-pub row_checked : (rows : TableRows) (T i : ℕ) (row : FieldRow) → is_linked rows ≡ true → slice_get (fields_at rows T) i ≡ Some row → field_valid (schema_from rows) (schema_field rows row) ≡ true
-row_checked rows T i row linked at = found_valid (schema_from rows) (known (schema_from rows) T) row.number (schema_field rows row) (known_valid (schema_from rows) T (schema_is_valid rows linked)) (known_row rows T i row linked at)
-
 pub elements_default : (rows : TableRows) (row : FieldRow) (v : Value) → is_repeated row.cardinality ≡ true → (is_map (schema_field rows row).form ≡ true → v ≡ MapValue NoPairs) → (is_map (schema_field rows row).form ≡ false → v ≡ ListValue NoValues) → v ≡ row_default rows row
 elements_default rows row v many map list = go (is_map (schema_field rows row).form) refl
   where
     go : (b : Bool) → is_map (schema_field rows row).form ≡ b → v ≡ row_default rows row
     go true e = map e ∙ sym (map_default (schema_from rows) (schema_field rows row).form (schema_field rows row).value_type e)
     go false e = list e ∙ sym (list_default (schema_from rows) rows row e many)
-
--- a default fits its field
-pub default_fits : (schema : Schema) (f : Field) → field_valid schema f ≡ true → value_valid f (default_value schema f.form f.value_type) ≡ true
-default_fits schema f valid = go f.form f.value_type.kind refl refl
-  where
-    go : (form : FieldForm) (kind : Kind) → f.form ≡ form → f.value_type.kind ≡ kind → value_valid f (default_value schema f.form f.value_type) ≡ true
-    go Singular (ScalarOf k) e h = rw (e, h) (ap (λ kind. default_valid kind f.value_type.default) (sym h) ∙ (checked_field schema f valid).default)
-    go Singular (MessageOf T) e h = rw (e, h) refl
-    go Singular (GroupOf T) e h = rw (e, h) refl
-    go (Repeated packed) kind e h = rw e refl
-    go (MapFrom key) kind e h = rw e refl
 
 -- an empty value is the default of a list or a map
 pub empty_is : (schema : Schema) (form : FieldForm) (t : ValueType) (v : Value) → is_singular form ≡ false → IsTrue (is_empty_value form v) ↔ (v ≡ default_value schema form t)

@@ -1,5 +1,5 @@
 -- Keys compare as the scalars that they are.
-use Rattle.std.proofs.Common.{◌≡◌, Bool, true, cond, [], ◌∷◌, refl, ap, sym, ◌∙◌}
+use Rattle.std.proofs.Common.{◌≡◌, Bool, true, cond, [], ◌∷◌, Some, refl, ap, sym, ◌∙◌}
 use Rattle.std.specs.declared.cmp.Ordering.{Ordering}
 use Rattle.std.specs.declared.cmp.Ordering.TheVariants.{Less, Equal, Greater}
 use Rattle.prost_reflect_wire.specs.Scalar.{Scalar, scalar_cmp, scalar_eq, is_less}
@@ -11,9 +11,10 @@ use Rattle.prost_reflect.specs.contracts.value.MapKeyPartialEq.TheImpl as key_eq
 use Rattle.prost_reflect.specs.contracts.value.MapKeyHash.TheImpl as key_hash
 use Rattle.std.specs.Hash.{HashWrites}
 use Rattle.prost_reflect.specs.Keys.{key_writes}
+use Rattle.prost_reflect.specs.Variants.{key_in}
 use Rattle.std.specs.Ordering.{is_eq, match_ordering}
 use Rattle.std.specs.BTreeMap.{insert_entry}
-use Rattle.prost_reflect_wire.specs.Content.{Value, Pairs, Pair}
+use Rattle.prost_reflect_wire.specs.Content.{Value, ScalarValue, Pairs, Pair}
 use Rattle.prost_reflect_wire.specs.Meaning.{put}
 use Rattle.prost_reflect_wire.specs.Deciding.{scalar_decides}
 use Rattle.prost_reflect.specs.ContentLaws.{MapInsert, pairs_shown, compare_keys}
@@ -77,6 +78,19 @@ keys_hashed (keys.String t) = refl
 
 pub keys_alike : (a b : MapKey) → scalar_eq (key_of a) (key_of b) ≡ true → hash_key a ≡ hash_key b
 keys_alike a b h = keys_hashed a ∙ ap key_writes ((scalar_decides (key_of a) (key_of b)).0 h) ∙ sym (keys_hashed b)
+
+-- KEYS AS VALUES
+
+pub keys_again : (key : MapKey) → key_in (ScalarValue (key_of key)) ≡ Some (key_of key)
+keys_again (keys.Bool b) = refl
+keys_again (keys.I32 z) = refl
+keys_again (keys.I64 z) = refl
+keys_again (keys.U32 n) = refl
+keys_again (keys.U64 n) = refl
+keys_again (keys.String t) = refl
+
+pub keys_same : (a b : MapKey) → key_of a ≡ key_of b → eq_key a b ≡ true
+keys_same a b h = keys_equal a b ∙ (scalar_decides (key_of a) (key_of b)).1 h
 
 -- MAPS
 

@@ -45,6 +45,8 @@ pub mod Shows
 pub mod LentWriting
 pub mod UnknownLists
 pub mod OwnRows
+pub mod RowLaws
+pub mod KindDefaults
 mod ReadBack
 mod MergedBytes
 mod JoinedContents

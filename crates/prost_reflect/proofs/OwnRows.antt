@@ -19,6 +19,7 @@ use Rattle.prost_reflect_pool.specs.Pools.{files_of, pool_rows}
 use Rattle.prost_reflect_pool.specs.RecordPaths.{oneofs_at, oneofs_or_none}
 use Rattle.prost_reflect_pool.specs.declared.pool.LinkedPool.{LinkedPool}
 use Rattle.prost_reflect.specs.NamedFields.{declared_place, is_declared, is_declared_at}
+use Rattle.prost_reflect.specs.RowLawProofs.{some_there}
 
 own_from : (all : List FieldRow) (i : ℕ) (xs : List FieldRow) → ((k : ℕ) (x : FieldRow) → slice_get xs k ≡ Some x → slice_get all (i + k) ≡ Some x) → list_all (is_declared_at all) (places_from (λ f. not f.is_extension) i xs) ≡ true
 own_from all i [] h = refl
@@ -54,11 +55,6 @@ first_member fields (i ∷ places) declared some = go (slice_get fields i) refl 
     go : (o : Option FieldRow) → slice_get fields i ≡ o → is_declared o ≡ true → i < length fields
     go None at is = absurd cc
     go (Some f) at is = slice_get_within fields i f at
-
-some_there : {X : Type 0} (xs : List X) (i : ℕ) → i < length xs → slice_get xs i ≡ None → ⊥
-some_there [] i less none = omega arith
-some_there (x ∷ xs) zero less none = cc
-some_there (x ∷ xs) (suc i) less none = some_there xs i (omega arith) none
 
 -- An enum has a first value.
 pub first_there : (rows : TableRows) (E : ℕ) → is_linked rows ≡ true → E < length rows.enums → IsTrue (nat_lt 0 (length (values_at rows E)))

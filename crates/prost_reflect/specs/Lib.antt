@@ -25,6 +25,8 @@ pub mod Encoding
 pub mod Present
 pub mod Defaults
 pub mod Valid
+pub mod RowLaws
+pub mod RowLawProofs
 pub mod Lists
 pub mod NamedExtensions
 pub mod NamedFiles

@@ -12,6 +12,7 @@ pub(crate) mod forms;
 mod iter;
 mod kind;
 mod laws;
+mod like;
 mod message;
 mod method;
 mod oneof;
@@ -34,6 +35,7 @@ pub use iter::{
     ServiceDescriptors,
 };
 pub use kind::Kind;
+pub use like::FieldDescriptorLike;
 pub use message::MessageDescriptor;
 pub use method::MethodDescriptor;
 pub use oneof::OneofDescriptor;

@@ -3,10 +3,12 @@
 ghost use Rattle.prost_reflect.specs.ContentLaws.{ValueViews, MessageSlots, MessageOrder, SlotsAfterSet, SlotsAfterClear, SlotsAfterUnknown, SlotsDetermine, MapInsert};
 ghost use Rattle.prost_reflect.specs.KeptLaws.{MessageArranged, KeptAfterSet, KeptAfterClear, KeptAfterUnknown, KeptAfterClearAll, KeptAfterWriting};
 ghost use Rattle.prost_reflect.specs.Access.{HadContent, NumberFound, NumberMissing, ShownContent};
-ghost use Rattle.std.specs.Prelude.{◌≡◌, true};
+ghost use Rattle.std.specs.Prelude.{◌≡◌, true, Some};
+ghost use Rattle.prost_reflect_wire.specs.Content.{ScalarValue};
 ghost use Rattle.prost_reflect_wire.specs.Scalar.{scalar_cmp, scalar_eq};
 ghost use Rattle.prost_reflect.specs.View.{key_of};
 ghost use Rattle.prost_reflect.specs.Keys.{key_writes};
+ghost use Rattle.prost_reflect.specs.Variants.{key_in};
 ghost use Rattle.prost_reflect.specs.declared.value.MapKey.{MapKey};
 
 use crate::value::MapKey;
@@ -99,6 +101,12 @@ pub fn key_order()
     ensures equality { (a : MapKey) (b : MapKey) → ⟦<MapKey as PartialEq>⟧.eq a b ≡ scalar_eq (key_of a) (key_of b) }
     ensures hash { (a : MapKey) → ⟦<MapKey as Hash>⟧.hash_input a ≡ key_writes (key_of a) }
     ensures alike { (a : MapKey) (b : MapKey) → scalar_eq (key_of a) (key_of b) ≡ true → ⟦<MapKey as Hash>⟧.hash_input a ≡ ⟦<MapKey as Hash>⟧.hash_input b }
+{}
+
+/// The value of a key becomes that key again by `Value::into_map_key`: as the same scalar, and keys that are one scalar are equal.
+pub fn key_again()
+    ensures again { (key : MapKey) → key_in (ScalarValue (key_of key)) ≡ Some (key_of key) }
+    ensures equal { (a : MapKey) (b : MapKey) → key_of a ≡ key_of b → ⟦<MapKey as PartialEq>⟧.eq a b ≡ true }
 {}
 
 /// An entry put into a map is put among its pairs.

@@ -9,10 +9,10 @@ mod value;
 pub use descriptor::{
     DescriptorPool, Descriptors, EnumDescriptor, EnumDescriptors, EnumReservedRanges,
     EnumValueDescriptor, EnumValueDescriptors, ExtensionDescriptor, ExtensionDescriptors,
-    ExtensionRanges, FieldDescriptor, FieldDescriptors, FileDescriptor, FileDescriptors, Kind,
-    MessageDescriptor, MessageDescriptors, MethodDescriptor, MethodDescriptors, OneofDescriptor,
-    OneofDescriptors, OptionsError, Placed, Places, ReservedNames, ReservedRanges,
-    ServiceDescriptor, ServiceDescriptors, Syntax, builtin_pool,
+    ExtensionRanges, FieldDescriptor, FieldDescriptorLike, FieldDescriptors, FileDescriptor,
+    FileDescriptors, Kind, MessageDescriptor, MessageDescriptors, MethodDescriptor,
+    MethodDescriptors, OneofDescriptor, OneofDescriptors, OptionsError, Placed, Places,
+    ReservedNames, ReservedRanges, ServiceDescriptor, ServiceDescriptors, Syntax, builtin_pool,
 };
 pub use message::relay::{RelayError, RelayHexError, relay, relay_hex};
 pub use message::{DynamicMessage, PresentNumber, SetFieldError, UnknownFields};

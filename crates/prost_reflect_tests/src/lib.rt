@@ -23,6 +23,8 @@ mod lengths;
 #[cfg(test)]
 mod levels;
 #[cfg(test)]
+mod like;
+#[cfg(test)]
 mod merges;
 #[cfg(test)]
 mod messages;

@@ -156,6 +156,16 @@ fn a_key_becomes_a_value_and_a_key_again(rt: HostRuntime) -> Result<(), Fail> {
     Ok(())
 }
 
+#[test]
+fn some_values_become_keys(rt: HostRuntime) -> Result<(), Fail> {
+    let text = Value::String(String::from_str(rt.alloc(), "foo")?);
+    assert!(rt; Value::I32(5).into_map_key() == Some(MapKey::I32(5)));
+    assert!(rt; text.into_map_key().ok_or("no key")?.as_str() == Some("foo"));
+    assert!(rt; Value::Bytes(Vec::new(rt.alloc())).into_map_key().is_none());
+    assert!(rt; Value::F32(0).into_map_key().is_none());
+    Ok(())
+}
+
 /// Writes to a key through the accessor that finds something.
 fn overwrite_key(key: &mut MapKey) -> Result<(), AllocError> {
     if let Some(flag) = key.as_bool_mut() {

@@ -50,7 +50,8 @@ impl Placed<DescriptorPool> for EnumDescriptor {
 }
 
 impl EnumDescriptor {
-    ghost use Rattle.std.specs.Prelude.{All, Some, IfOk, IfSome, option_map, option_and_then, slice_get};
+    ghost use Rattle.std.specs.Prelude.{All, true, Some, IfOk, IfSome, option_map, option_and_then, slice_get};
+    ghost use Rattle.prost_reflect_wire.specs.Scalar.{in_i32};
     ghost use Rattle.prost_reflect_tables.specs.CatalogRows.{enum_lists_row};
     ghost use Rattle.prost_reflect_tables.specs.Names.{text_or_empty};
     ghost use Rattle.prost_reflect_pool.specs.SharedPools.{files_of};
@@ -293,7 +294,8 @@ impl EnumDescriptor {
 
     /// The number of the first value.
     pub(crate) fn first_number(&self) -> i32
-        ensures { result ≡ first_of (enum_row_at self.now) }
+        ensures first { result ≡ first_of (enum_row_at self.now) }
+        ensures range { in_i32 result ≡ true }
     {
         first_in(self.table())
     }

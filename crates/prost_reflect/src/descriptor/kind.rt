@@ -76,13 +76,14 @@ impl Clone for Kind {
 }
 
 impl Kind {
-    ghost use Rattle.std.specs.Prelude.{◌≡◌, IsTrue, IfOk, length, map};
+    ghost use Rattle.std.specs.Prelude.{◌≡◌, true, IsTrue, IfOk, length, map};
     ghost use Rattle.prost_reflect_tables.specs.Rows.{enum_row};
     ghost use Rattle.prost_reflect_tables.specs.Linked.{kind_in_range};
     ghost use Rattle.prost_reflect_pool.specs.SharedPools.{pool_rows};
-    ghost use Rattle.prost_reflect.specs.NamedKinds.{table_kind, enums_named, IsAmong, message_of, enum_of, wire_type_of};
+    ghost use Rattle.prost_reflect.specs.NamedKinds.{table_kind, kind_named, enums_named, IsAmong, message_of, enum_of, wire_type_of};
     ghost use Rattle.std.specs.Option.{option_copied};
     ghost use Rattle.prost_reflect_wire.specs.Content.{ScalarValue};
+    ghost use Rattle.prost_reflect_wire.specs.Typing.{element_valid, kind_takes};
     ghost use Rattle.prost_reflect.specs.Defaults.{IsKindDefault};
     ghost use Rattle.prost_reflect.specs.NamedDefaults.{default_named};
     ghost use Rattle.prost_reflect.specs.Scalars.{scalar_of, IsScalar};
@@ -198,6 +199,7 @@ impl Kind {
     pub fn default_value(&self, alloc: Global) -> Result<Value, AllocError>
         ensures value { IfOk result (λ value. value_of value ≡ default_named self.now) }
         ensures default { IfOk result (IsKindDefault self.now) }
+        ensures valid { IfOk result (λ value. element_valid (kind_named self.now) (value_of value) ≡ true) }
     {
         match self {
             Kind::Message(message) => {
@@ -210,20 +212,12 @@ impl Kind {
     /// The default of a kind that is none of messages.
     pub(crate) fn scalar_default(&self) -> ScalarRef<'static>
         requires { IsScalar (default_named self.now) }
-        ensures { ScalarValue (scalar_of result) ≡ default_named self.now }
+        ensures default { ScalarValue (scalar_of result) ≡ default_named self.now }
+        ensures valid { kind_takes (kind_named self.now) (scalar_of result) ≡ true }
     {
         match self {
-            Kind::Double => ScalarRef::F64(0),
-            Kind::Float => ScalarRef::F32(0),
-            Kind::Int32 | Kind::Sint32 | Kind::Sfixed32 => ScalarRef::I32(0),
-            Kind::Int64 | Kind::Sint64 | Kind::Sfixed64 => ScalarRef::I64(0),
-            Kind::Uint32 | Kind::Fixed32 => ScalarRef::U32(0),
-            Kind::Uint64 | Kind::Fixed64 => ScalarRef::U64(0),
-            Kind::Bool => ScalarRef::Bool(false),
-            Kind::String => ScalarRef::String(""),
-            Kind::Bytes => ScalarRef::Bytes(&[]),
             Kind::Enum(e) => ScalarRef::EnumNumber(e.first_number()),
-            Kind::Message(_) => unreachable!(),
+            _ => ScalarRef::zero(self.to_table()),
         }
     }
 }

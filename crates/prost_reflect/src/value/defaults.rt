@@ -3,7 +3,7 @@
 ghost use Rattle.std.specs.Prelude.{◌≡◌, ◌<◌, ◌↔◌, true, false, IsTrue, IfOk, IsSome, None, Some, length, option_map, slice_get};
 ghost use Rattle.prost_reflect_wire.specs.Content.{MessageValue, ScalarValue, empty};
 ghost use Rattle.prost_reflect_wire.specs.Schema.{field_valid};
-ghost use Rattle.prost_reflect_wire.specs.Typing.{is_empty_value};
+ghost use Rattle.prost_reflect_wire.specs.Typing.{element_valid, is_empty_value, kind_takes};
 ghost use Rattle.prost_reflect_tables.specs.Linking.{is_repeated};
 ghost use Rattle.prost_reflect_tables.specs.Rows.{enum_row, field_row};
 ghost use Rattle.prost_reflect_tables.specs.Shown.{schema_from, schema_field, schema_kind, schema_default, own_type};
@@ -14,7 +14,7 @@ ghost use Rattle.prost_reflect.specs.Access.{takes};
 ghost use Rattle.prost_reflect.specs.ExtensionAccess.{extension_takes};
 ghost use Rattle.prost_reflect.specs.Defaults.{row_default, IsEmptyOf, IsRowDefault, IsKindDefault, IsFieldDefault, IsExtensionDefault, field_default, extension_default};
 ghost use Rattle.prost_reflect.specs.NamedDefaults.{default_named};
-ghost use Rattle.prost_reflect.specs.NamedKinds.{is_key_kind};
+ghost use Rattle.prost_reflect.specs.NamedKinds.{is_key_kind, kind_named};
 ghost use Rattle.prost_reflect.specs.Scalars.{plain_kind, scalar_of};
 ghost use Rattle.prost_reflect.specs.Variants.{message_in};
 ghost use Rattle.prost_reflect.specs.declared.value.Value.{out-Value};
@@ -43,6 +43,7 @@ impl Value {
     pub fn default_value(alloc: Global, kind: &Kind) -> Result<Value, AllocError>
         ensures value { IfOk result (λ value. value_of value ≡ default_named kind.now) }
         ensures default { IfOk result (IsKindDefault kind.now) }
+        ensures valid { IfOk result (λ value. element_valid (kind_named kind.now) (value_of value) ≡ true) }
     {
         kind.default_value(alloc)
     }
@@ -117,15 +118,16 @@ impl MapKey {
     /// So that of `Kind::Sint32` is `MapKey::I32(0)`.
     pub fn default_value(alloc: Global, kind: &Kind) -> MapKey
         requires { IsTrue (is_key_kind kind.now) }
-        ensures { ScalarValue (key_of result) ≡ default_named kind.now }
+        ensures default { ScalarValue (key_of result) ≡ default_named kind.now }
+        ensures valid { kind_takes (kind_named kind.now) (key_of result) ≡ true }
     {
-        match kind {
-            Kind::Int32 | Kind::Sint32 | Kind::Sfixed32 => MapKey::I32(0),
-            Kind::Int64 | Kind::Sint64 | Kind::Sfixed64 => MapKey::I64(0),
-            Kind::Uint32 | Kind::Fixed32 => MapKey::U32(0),
-            Kind::Uint64 | Kind::Fixed64 => MapKey::U64(0),
-            Kind::Bool => MapKey::Bool(false),
-            Kind::String => MapKey::String(String::new(alloc)),
+        match kind.scalar_default() {
+            ScalarRef::Bool(value) => MapKey::Bool(value),
+            ScalarRef::I32(value) => MapKey::I32(value),
+            ScalarRef::I64(value) => MapKey::I64(value),
+            ScalarRef::U32(value) => MapKey::U32(value),
+            ScalarRef::U64(value) => MapKey::U64(value),
+            ScalarRef::String(_) => MapKey::String(String::new(alloc)),
             _ => unreachable!(),
         }
     }

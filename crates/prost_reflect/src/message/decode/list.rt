@@ -9,6 +9,7 @@ ghost use Rattle.prost_reflect.specs.Lists.{AddsPacked, RefusesPacked, AddsEleme
 ghost use Rattle.prost_reflect.specs.Scalars.{plain_kind};
 ghost use Rattle.prost_reflect.specs.View.{value_of, content_of, message_type_of};
 
+use crate::descriptor::forms::is_packable;
 use crate::message::DynamicMessage;
 use crate::message::decode::scalar::{scalar_at, wire_type_of};
 use crate::value::Value;
@@ -16,14 +17,6 @@ use prost_reflect_tables::TableKind;
 use prost_reflect_wire::{DecodeError, FieldNumber, WireType, delimited_at};
 use std::alloc::Global;
 use std::mem;
-
-/// Whether a list of the kind takes packed records: of all kinds but string and bytes.
-pub(crate) fn is_packable(kind: TableKind) -> bool
-    requires { IsSome (plain_kind kind) }
-    ensures { IsSomeAnd (plain_kind kind) (λ k. is_packable k ≡ result) }
-{
-    !matches!(kind, TableKind::String | TableKind::Bytes)
-}
 
 /// Adds the elements of a packed record's body, which stand end to end.
 ///

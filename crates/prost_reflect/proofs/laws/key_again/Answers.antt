@@ -1,0 +1,5 @@
+use Rattle.prost_reflect.proofs.Keys.{keys_again, keys_same}
+use Rattle.prost_reflect.proofs.laws.key_again.Goals as goal
+
+pub returns : goal.returns
+returns c = record { again = keys_again; equal = keys_same }
