@@ -2,9 +2,11 @@
 use Rattle.std.proofs.Common.{◌≡◌, ℕ, Bool, true, false, cond, List, Option, Some, None, refl, ap, sym, ◌∙◌, unwrap_or, true≢false}
 use Rattle.std.specs.Option.{option_map, option_and_then, is_some}
 use Rattle.std.specs.Prelude.{slice_get}
+use Rattle.std.specs.Str.{bytes_eq}
 use Rattle.prost_reflect_wire.specs.Schema.{field_of}
 use Rattle.prost_reflect_tables.specs.Rows.{FieldRow}
 use Rattle.prost_reflect_tables.specs.Places.{fields_at, row_of, place_of}
+use Rattle.prost_reflect_tables.specs.Schema.{rows_of}
 use Rattle.prost_reflect_tables.specs.Shown.{schema_field}
 use Rattle.prost_reflect_pool.specs.Lookups.{named_field}
 use Rattle.prost_reflect_pool.specs.SharedPools.{pool_rows}
@@ -12,15 +14,18 @@ use Rattle.prost_reflect_pool.specs.MessageTypes.{fields_of}
 use Rattle.prost_reflect_pool.specs.declared.pooled_type.PooledType.{PooledType}
 use Rattle.prost_reflect_pool.proofs.EqualTypes.{rows_same}
 use Rattle.prost_reflect_fields.specs.Known.{known_of, is_known}
-use Rattle.prost_reflect_tables.proofs.Fields.{row_at_place, row_of_number, no_row}
+use Rattle.prost_reflect_tables.proofs.Fields.{row_at_number, row_at_place, row_of_number, no_row}
+use Rattle.prost_reflect_tables.proofs.Keeping.{fields_ascend}
 use Rattle.prost_reflect.specs.Access.{IsOwnField, is_field_number, number_named, NumberFound, NumberMissing}
-use Rattle.prost_reflect.specs.Named.{NamesEqual}
+use Rattle.prost_reflect.specs.Named.{NamesEqual, NamesSame, SameMessage}
 use Rattle.prost_reflect.specs.NamedFields as named
 use Rattle.prost_reflect.specs.declared.descriptor.message.MessageDescriptor.{MessageDescriptor}
 use Rattle.prost_reflect.specs.NamedField.{row_at}
 use Rattle.prost_reflect.specs.NamedFields.{is_declared, is_declared_at, declared_place}
 use Rattle.prost_reflect.specs.declared.descriptor.field.FieldDescriptor.{FieldDescriptor}
+use Rattle.prost_reflect.specs.Setting.{DescribesField}
 use Rattle.prost_reflect.proofs.Described.{known_of_row, field_at_number}
+use Rattle.prost_reflect.proofs.OwnRows.{fields_found}
 
 -- the row of an own field is one of the message type's
 own_row : (t : PooledType) (field : FieldDescriptor) → IsOwnField t field → row_at field ≡ slice_get (fields_of t) field.index
@@ -71,6 +76,20 @@ named_known t name n h = go (named_field (fields_of t) name) h
     go None e = cc
     go (Some i) e = there i (slice_get (fields_of t) i) refl e
 
+-- which is no extension
+pub named_declared : (t : PooledType) (name : List ℕ) (n : ℕ) → number_named t name ≡ Some n → is_field_number t n ≡ true
+named_declared t name n h = go (named_field (fields_of t) name) refl h
+  where
+    there : (i : ℕ) (o : Option FieldRow) → slice_get (fields_of t) i ≡ o → is_declared o ≡ true → option_map (λ f. f.number) o ≡ Some n → is_declared (row_of (fields_of t) n) ≡ true
+    there i None at d e = cc
+    there i (Some f) at d e =
+        let same : f.number ≡ n = cc in
+        ap is_declared (ap (row_of (fields_of t)) (sym same) ∙ row_at_number (fields_of t) i f (fields_ascend (pool_rows t.pool) t.index t.pool.value.tables.linked) at) ∙ d
+
+    go : (o : Option ℕ) → named_field (fields_of t) name ≡ o → option_and_then (λ i. option_map (λ f. f.number) (slice_get (fields_of t) i)) o ≡ Some n → is_declared (row_of (fields_of t) n) ≡ true
+    go None at e = cc
+    go (Some i) at e = there i (slice_get (fields_of t) i) refl (fields_found (λ (f : FieldRow). bytes_eq f.id.name name) (fields_of t) (Some i) (sym at)) e
+
 -- LOOKING UP
 
 found_declared : (fields : List FieldRow) (n : ℕ) → is_some (declared_place fields n) ≡ is_declared (row_of fields n)
@@ -116,3 +135,14 @@ number_found t field n own h = (
 
 pub number_missing : NumberMissing
 number_missing t d n own h = ap (λ fields. is_declared (row_of fields n)) (sym (own_fields d t own)) ∙ sym (found_declared (named.fields_of d) n) ∙ ap is_some h
+
+-- The look-up in a descriptor of the message type itself.
+same_fields : (d : MessageDescriptor) (t : PooledType) → NamesSame d t → named.fields_of d ≡ fields_of t
+same_fields d t names = λ i. fields_at (rows_of (names.0 i).tables) (names.1 i)
+
+pub field_described : (t : PooledType) (d : MessageDescriptor) (field : FieldDescriptor) (n : ℕ) → NamesSame d t → SameMessage d field.message → Some field.index ≡ declared_place (named.fields_of d) n → DescribesField t n field
+field_described t d field n names same at = ((same.0 ∙ names.0, same.1 ∙ names.1), ap (λ fields. declared_place fields n) (sym (same_fields d t names)) ∙ sym at)
+
+pub field_there : (t : PooledType) (d : MessageDescriptor) (n : ℕ) → NamesSame d t → is_field_number t n ≡ true → None ≡ declared_place (named.fields_of d) n → ⊥
+field_there t d n names is none =
+    true≢false (sym is ∙ ap (λ fields. is_declared (row_of fields n)) (sym (same_fields d t names)) ∙ sym (found_declared (named.fields_of d) n) ∙ ap is_some (sym none))

@@ -1,27 +1,33 @@
 -- The unknown fields of a message are the unknown records of its content.
-use Rattle.std.proofs.Common.{◌≡◌, ℕ, true, cond, ◌++◌, nat_eq, List, [], ◌∷◌, map, Option, Some, None, refl, ap, ap₂, sym, ◌∙◌, subst}
+use Rattle.std.proofs.Common.{◌≡◌, ℕ, true, cond, ◌++◌, nat_eq, List, [], ◌∷◌, map, flat_map, Option, Some, None, refl, ap, ap₂, sym, ◌∙◌, subst}
 use Rattle.std.proofs.lemmas.Bool.{eqb-true, and_parts}
 use Rattle.std.specs.List.{list_all}
 use Rattle.std.specs.List.Sorted.{IsStrictlySortedBy}
-use Rattle.std.specs.Option.{option_and_then}
+use Rattle.std.specs.Option.{option_and_then, option_to_list}
 use Rattle.std.specs.Ordering.{is_eq}
 use Rattle.prost_reflect_wire.specs.Record.{Record, Payload, record_at}
 use Rattle.prost_reflect_wire.specs.Schema.{Field}
 use Rattle.prost_reflect_wire.specs.Content as contents
 use Rattle.prost_reflect_wire.specs.Content.{Entries, Slot, entries_of, store, then_value, then_unknowns}
-use Rattle.prost_reflect_wire.specs.Unknown.{record_of, records_of}
+use Rattle.prost_reflect_wire.specs.Unknown.{fields_of, record_of, records_of}
+use Rattle.prost_reflect_wire.specs.declared.unknown.UnknownFieldSet.{UnknownFieldSet}
 use Rattle.prost_reflect_wire.proofs.UnknownViews.{records_of_out}
-use Rattle.prost_reflect_fields.specs.FieldSlots.{records_in, unknown_in, records_at}
+use Rattle.prost_reflect_fields.specs.FieldSlots.{records_in, unknown_in, records_at, unknown_sets, value_alone, values_alone}
 use Rattle.prost_reflect_fields.specs.Items.{IsAscending, item_at}
 use Rattle.prost_reflect_fields.specs.Known.{known_of, keeps_unknown, are_records_of}
 use Rattle.prost_reflect_fields.specs.Sound.{unknown_kept}
 use Rattle.prost_reflect_fields.specs.declared.slot.FieldSlot.{FieldSlot}
 use Rattle.prost_reflect_fields.specs.declared.slot.FieldSlot.TheVariants as entries
 use Rattle.prost_reflect_fields.proofs.ItemChanges.{by_number, itself, none_above}
-use Rattle.prost_reflect.specs.UnknownLists.{fields_or_none, all_unknown, unknown_records, UnknownListed}
-use Rattle.prost_reflect.specs.View.{message_type_of, stored_in, payloads_of, slot_of, entries_from}
+use Rattle.prost_reflect_pool.specs.MessageTypes.{schema_at, type_at}
+use Rattle.prost_reflect_pool.specs.declared.pooled_type.PooledType.{PooledType}
+use Rattle.prost_reflect.specs.Contents.{in_entries}
+use Rattle.prost_reflect.specs.UnknownLists.{fields_or_none, all_unknown, unknown_records, without_unknown, UnknownListed}
+use Rattle.prost_reflect.specs.View.{value_of, content_of, message_type_of, stored_in, payloads_of, slot_of, entries_from}
+use Rattle.prost_reflect.specs.declared.message.DynamicMessage.{DynamicMessage}
+use Rattle.prost_reflect.specs.declared.value.Value.TheViews.{roll-DynamicMessage}
 use Rattle.prost_reflect.specs.declared.value.Value.{Value}
-use Rattle.prost_reflect.proofs.Views.{shown, shown_entry, content_of_message}
+use Rattle.prost_reflect.proofs.Views.{shown, shown_entry, content_of_message, content_of_roll}
 
 -- ONE NUMBER
 
@@ -76,3 +82,41 @@ listed fields (e ∷ es) s own =
 
 pub unknown_listed : UnknownListed
 unknown_listed m s sound = listed (known_of (message_type_of m)) (stored_in m) s sound.1 ∙ ap (λ c. unknown_records (entries_of c)) (sym (content_of_message m))
+
+-- WHAT IS TAKEN, AND WHAT IS LEFT
+
+set_taken : (o : Option UnknownFieldSet) (us : List UnknownFieldSet) → flat_map fields_of (option_to_list o ++ us) ≡ fields_or_none o ++ flat_map fields_of us
+set_taken None us = refl
+set_taken (Some u) us = refl
+
+pub all_taken : (es : List (ℕ × FieldSlot Value)) → flat_map fields_of (unknown_sets es) ≡ all_unknown es
+all_taken [] = refl
+all_taken (e ∷ es) = set_taken (unknown_in e.1) (unknown_sets es) ∙ ap (λ us. fields_or_none (unknown_in e.1) ++ us) (all_taken es)
+
+without_then : (n : ℕ) (ps : List Payload) (es : Entries) → without_unknown (then_unknowns n ps es) ≡ without_unknown es
+without_then n [] es = refl
+without_then n (p ∷ ps) es = without_then n ps es
+
+without_store : (n : ℕ) (slot : Slot) (es : Entries) → without_unknown (store n slot es) ≡ then_value n slot.value (without_unknown es)
+without_store n slot es = go slot.value
+  where
+    go : (o : Option contents.Value) → without_unknown (then_value n o (then_unknowns n slot.unknowns es)) ≡ then_value n o (without_unknown es)
+    go None = without_then n slot.unknowns es
+    go (Some v) = ap (contents.Stored n v) (without_then n slot.unknowns es)
+
+values_left : (es : List (ℕ × FieldSlot Value)) → entries_from (shown (values_alone es)) ≡ without_unknown (entries_from (shown es))
+values_left [] = refl
+values_left (e ∷ es) = in_front e.1 (values_left es) ∙ sym (without_store e.0 (slot_of (λ v. v) (shown_entry e.1)) (entries_from (shown es)))
+  where
+    in_front : (slot : FieldSlot Value) → entries_from (shown (values_alone es)) ≡ without_unknown (entries_from (shown es))
+        → entries_from (shown (value_alone (e.0, slot) ++ values_alone es)) ≡ then_value e.0 (slot_of (λ v. v) (shown_entry slot)).value (without_unknown (entries_from (shown es)))
+    in_front (entries.Value v) rest = ap (contents.Stored e.0 (value_of v)) rest
+    in_front (entries.Unknown u) rest = rest
+    in_front (entries.Both v u) rest = ap (contents.Stored e.0 (value_of v)) rest
+
+pub message_left : (m : DynamicMessage) (p : PooledType × List (ℕ × FieldSlot Value)) → p ≡ (m.fields.0, values_alone m.fields.1) → content_of (roll-DynamicMessage (record { fields = p })) ≡ in_entries without_unknown (content_of m)
+message_left m p is =
+    content_of_roll (record { fields = p })
+    ∙ ap (λ (q : PooledType × List (ℕ × FieldSlot Value)). contents.ContentOf (schema_at q.0) (type_at q.0) (entries_from (shown q.1))) is
+    ∙ ap (contents.ContentOf (schema_at m.fields.0) (type_at m.fields.0)) (values_left m.fields.1)
+    ∙ ap (in_entries without_unknown) (sym (content_of_message m))

@@ -39,6 +39,10 @@ number_of field = unwrap_or (option_map (λ f. f.number) (row_at field)) 0
 abbrev pub is_field_number : PooledType → ℕ → Bool
 is_field_number t n = is_declared (row_of (fields_of t) n)
 
+-- The number, if it is that of a field.
+abbrev pub number_declared : PooledType → ℕ → Option ℕ
+number_declared t n = if is_field_number t n then Some n else None
+
 -- The number of the field of a name; an extension is no field.
 abbrev pub number_named : PooledType → List ℕ → Option ℕ
 number_named t name = option_and_then (λ i. option_map (λ f. f.number) (slice_get (fields_of t) i)) (named_field (fields_of t) name)
@@ -104,6 +108,16 @@ IsLentOf m n lent = IsStoredOr (message_type_of m) n (value_at n (entries_of (co
 -- The message in which the value was left behind the reference: in the place of what is stored there, or else set.
 abbrev pub left_at : DynamicMessage → ℕ → Value → DynamicMessage
 left_at m n v = written_at m n v v
+
+-- The same at a number that is found; where none is, nothing changes.
+abbrev pub left_if : Option ℕ → DynamicMessage → Value → DynamicMessage
+left_if None m v = m
+left_if (Some n) m v = left_at m n v
+
+-- It is lent where a number is found.
+abbrev pub IsLentIf : Option ℕ → DynamicMessage → Value → Type 0
+IsLentIf None m lent = ⊥
+IsLentIf (Some n) m lent = IsLentOf m n lent
 
 -- LAWS
 

@@ -42,6 +42,7 @@ pub mod Reserved
 pub mod Access
 pub mod ExtensionAccess
 pub mod Setting
+pub mod Lending
 pub mod UnknownLists
 pub mod Merged
 pub mod ReadBack

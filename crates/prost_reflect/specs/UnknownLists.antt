@@ -1,5 +1,6 @@
 -- The unknown fields of a message, those of all numbers one behind another.
 use Rattle.std.specs.Prelude.{◌≡◌, ℕ, ◌++◌, List, [], ◌∷◌, map, flat_map, Option, Some, None}
+use Rattle.std.specs.Vec.Iter.{into_iter_items}
 use Rattle.prost_reflect_wire.specs.Record.{Record, record_at}
 use Rattle.prost_reflect_wire.specs.Content.{Entries, NoEntries, Stored, Unknown, entries_of}
 use Rattle.prost_reflect_wire.specs.Unknown.{record_of, fields_of}
@@ -11,6 +12,7 @@ use Rattle.prost_reflect_fields.specs.Sound.{IsSound}
 use Rattle.prost_reflect_fields.specs.declared.slot.FieldSlot.{FieldSlot}
 use Rattle.prost_reflect.specs.View.{content_of, message_type_of, stored_in}
 use Rattle.prost_reflect.specs.declared.message.DynamicMessage.{DynamicMessage}
+use Rattle.prost_reflect.specs.declared.message.unknowns.TakenUnknownFields.{TakenUnknownFields}
 use Rattle.prost_reflect.specs.declared.message.unknowns.UnknownFields.{UnknownFields}
 use Rattle.prost_reflect.specs.declared.value.Value.{Value}
 
@@ -26,11 +28,21 @@ all_unknown es = flat_map (λ e. fields_or_none (unknown_in e.1)) es
 abbrev pub unknown_left : UnknownFields → List UnknownField
 unknown_left it = it.fields.now ++ all_unknown it.slots.now
 
+-- Those that an iterator over taken ones has left.
+abbrev pub taken_left : TakenUnknownFields → List UnknownField
+taken_left it = into_iter_items it.fields ++ flat_map fields_of (into_iter_items it.sets)
+
 -- The unknown records of a content, in ascending number.
 abbrev pub unknown_records : Entries → List Record
 unknown_records NoEntries = []
 unknown_records (Stored n v es) = unknown_records es
 unknown_records (Unknown n p es) = record_at n p ∷ unknown_records es
+
+-- A content without its unknown records.
+abbrev pub without_unknown : Entries → Entries
+without_unknown NoEntries = NoEntries
+without_unknown (Stored n v es) = Stored n v (without_unknown es)
+without_unknown (Unknown n p es) = without_unknown es
 
 -- The unknown fields of a message are the unknown records of its content.
 abbrev pub UnknownListed : Type 0

@@ -15,7 +15,9 @@ pub use descriptor::{
     ReservedNames, ReservedRanges, ServiceDescriptor, ServiceDescriptors, Syntax, builtin_pool,
 };
 pub use message::relay::{RelayError, RelayHexError, relay, relay_hex};
-pub use message::{DynamicMessage, PresentNumber, SetFieldError, UnknownFields};
+pub use message::{
+    DynamicMessage, GetFieldError, PresentNumber, SetFieldError, TakenUnknownFields, UnknownFields,
+};
 pub use prost_reflect_pool::FileDescriptorProtos;
 pub use prost_reflect_tables::{Cardinality, PoolError};
 pub use prost_reflect_types::{

@@ -30,6 +30,7 @@ mod encode;
 pub(crate) mod enums;
 mod equality;
 mod extensions;
+mod lending;
 mod lists;
 mod merge;
 mod present;
@@ -39,6 +40,7 @@ mod unknowns;
 
 use crate::descriptor::MessageDescriptor;
 use crate::value::Value;
+pub use lending::GetFieldError;
 pub use present::PresentNumber;
 use prost_reflect_fields::field_set::FieldSet;
 use prost_reflect_fields::slot::FieldSlot;
@@ -48,7 +50,7 @@ pub use setting::SetFieldError;
 use std::alloc::{AllocError, Global};
 use std::collections::BTreeSet;
 use std::rc::Rc;
-pub use unknowns::UnknownFields;
+pub use unknowns::{TakenUnknownFields, UnknownFields};
 
 /// A message of a type that is known only at run time: the values of its fields and extensions, and its unknown fields.
 #[cycle(value)]

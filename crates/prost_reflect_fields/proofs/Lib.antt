@@ -4,6 +4,7 @@ pub mod ItemChanges
 pub mod SlotChanges
 pub mod Siblings
 pub mod SoundChanges
+pub mod ValuesAlone
 mod MembersCleared
 pub mod Replaced
 mod WholeOneofs

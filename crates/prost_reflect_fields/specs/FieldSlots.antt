@@ -1,5 +1,5 @@
 -- What is stored at each number.
-use Rattle.std.specs.Prelude.{◌≡◌, ◌≢◌, ℕ, Bool, List, [], ◌∷◌, ◌++◌, Option, None, Some, option_and_then, option_map, unwrap_or, is_some, nat_eq, if◌then◌else◌}
+use Rattle.std.specs.Prelude.{◌≡◌, ◌≢◌, ℕ, Bool, List, [], ◌∷◌, ◌++◌, Option, None, Some, option_and_then, option_map, option_to_list, flat_map, unwrap_or, is_some, nat_eq, if◌then◌else◌}
 use Rattle.prost_reflect_wire.specs.Record.{Record}
 use Rattle.prost_reflect_wire.specs.Unknown.{records_of}
 use Rattle.prost_reflect_wire.specs.declared.unknown.UnknownFieldSet.{UnknownFieldSet}
@@ -82,6 +82,20 @@ module _ {V : Type 0} where
 
   abbrev pub clear_value : List (ℕ × FieldSlot V) → ℕ → List (ℕ × FieldSlot V)
   clear_value es n = without_values (nat_eq n) es
+
+  -- The value of an entry alone, if it has one, and those of all entries.
+  abbrev pub value_alone : ℕ × FieldSlot V → List (ℕ × FieldSlot V)
+  value_alone e = option_to_list (option_map (λ v. (e.0, Value v)) (value_in e.1))
+
+  abbrev pub values_alone : List (ℕ × FieldSlot V) → List (ℕ × FieldSlot V)
+  values_alone es = flat_map value_alone es
+
+  -- The unknown fields of an entry, if it has some, and those of all entries.
+  abbrev pub unknown_in_slot : ℕ × FieldSlot V → List UnknownFieldSet
+  unknown_in_slot e = option_to_list (unknown_in e.1)
+
+  abbrev pub unknown_sets : List (ℕ × FieldSlot V) → List UnknownFieldSet
+  unknown_sets es = flat_map unknown_in_slot es
 
   abbrev pub with_slot : List (ℕ × FieldSlot V) → ℕ → V → Option (FieldSlot V) → List (ℕ × FieldSlot V)
   with_slot es n v None = es

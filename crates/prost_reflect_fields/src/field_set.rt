@@ -8,7 +8,7 @@ ghost use Rattle.prost_reflect_fields.specs.contracts.field_set.FieldSet.{the_ro
 ghost use Rattle.prost_reflect_fields.specs.Items.{IsAscending};
 ghost use Rattle.prost_reflect_fields.specs.Known.{known_of, is_known, keeps_unknown};
 ghost use Rattle.prost_reflect_fields.specs.NumberSets.{HasWholeOneofs, AreReplaced};
-ghost use Rattle.prost_reflect_fields.specs.FieldSlots.{value_at, unknown_at, clear_value, with_value, UnknownAdded, SameStored};
+ghost use Rattle.prost_reflect_fields.specs.FieldSlots.{value_at, unknown_at, clear_value, with_value, UnknownAdded, SameStored, unknown_sets, values_alone};
 ghost use Rattle.prost_reflect_fields.specs.Sound.{IsSound, set_value_at, prepared};
 
 use crate::number_map::ascending;
@@ -17,6 +17,7 @@ use crate::sorted_map::SortedMap;
 use crate::stored::{
     add_unknown, set_value, take_value, unknown_at, value_at, value_mut, value_mut_or,
 };
+use crate::taking::take_unknown;
 use prost_reflect_pool::PooledType;
 use prost_reflect_wire::{UnknownField, UnknownFieldSet};
 use std::alloc::{AllocError, Global};
@@ -137,6 +138,18 @@ impl<V: Drop> FieldSet<V> {
     {
         let alloc = self.fields.allocator();
         self.fields = SortedMap::new(alloc);
+    }
+
+    /// Takes the unknown fields of all numbers, those of each as one set, in ascending order. The values stay.
+    /// A refused growth changes nothing.
+    pub fn take_unknown(&mut self, alloc: Global) -> Result<Vec<UnknownFieldSet>, AllocError>
+        ensures sets { IfOk result (λ sets. sets.items ≡ unknown_sets self.old.1) }
+        ensures ok { OnOk result (self.new ≡ (self.old.0, values_alone self.old.1)) }
+        ensures err { OnErr result (self.new ≡ self.old) }
+        ensures ascending { IsAscending self.old.1 }
+        ensures sound { IsSound self.old.0 self.old.1 }
+    {
+        take_unknown(&mut self.fields, alloc)
     }
 
     /// Sets the value at the number of a field or an extension, and removes those of the other members of its oneof.

@@ -7,3 +7,4 @@ pub mod number_sets;
 pub mod slot;
 pub mod sorted_map;
 pub mod stored;
+mod taking;

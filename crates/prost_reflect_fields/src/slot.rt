@@ -43,6 +43,18 @@ impl<V> FieldSlot<V> {
         }
     }
 
+    /// The value and the unknown fields.
+    pub fn into_parts(self) -> (Option<V>, Option<UnknownFieldSet>)
+        ensures value { result.0 ≡ value_in self }
+        ensures unknown { result.1 ≡ unknown_in self }
+    {
+        match self {
+            FieldSlot::Value(value) => (Some(value), None),
+            FieldSlot::Unknown(unknown) => (None, Some(unknown)),
+            FieldSlot::Both(value, unknown) => (Some(value), Some(unknown)),
+        }
+    }
+
     /// The value, for writing.
     pub fn value_mut(&mut self) -> Option<&mut V>
         ensures* writes_back { sem 𝓛 (LendsIf (the_row V.row) V.row self.entry result (revalued self.old) self.old) }

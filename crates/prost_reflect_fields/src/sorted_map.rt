@@ -43,6 +43,25 @@ impl<T> SortedMap<T> {
         }
     }
 
+    /// These items, whose numbers ascend.
+    pub fn from_items(items: Vec<(u32, T)>) -> SortedMap<T>
+        requires { IsAscending items.items }
+        ensures { result ≡ items.items }
+    {
+        SortedMap { items }
+    }
+
+    /// Takes all items with their numbers, ascending.
+    pub fn take_items(&mut self) -> Vec<(u32, T)>
+        ensures items { result.items ≡ self.old }
+        ensures len { vec_len result ≡ length self.old }
+        ensures left { self.new ≡ [] }
+        ensures ascending { IsAscending self.old }
+    {
+        let alloc = self.allocator();
+        mem::replace(&mut self.items, Vec::new(alloc))
+    }
+
     /// What the items are stored with.
     pub fn allocator(&self) -> Global {
         *self.items.allocator()

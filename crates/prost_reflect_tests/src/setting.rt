@@ -1,6 +1,7 @@
 //! Setting fields to values that may not fit, and the texts of refusals.
 
 use crate::kinds::{kinds_descriptor, kinds_field, kinds_pool};
+use crate::relay::{NEWER, message_type};
 use prost_reflect::{DescriptorPool, DynamicMessage, SetFieldError, Value};
 use std::alloc::Global;
 use std::test::Fail;
@@ -68,5 +69,74 @@ fn what_does_not_fit_is_handed_back(rt: HostRuntime) -> Result<(), Fail> {
         }
         _ => return Err(Fail::from("not refused so")),
     }
+    Ok(())
+}
+
+/// A message whose `foo`, of the number 1, is 5.
+fn with_foo(alloc: Global) -> Result<DynamicMessage, Fail> {
+    let descriptor = message_type(alloc, NEWER, "MyMessage")?;
+    Ok(DynamicMessage::decode(alloc, descriptor, &[0x08, 5])?)
+}
+
+/// Whether the refusal is of `foo` and of the text `bar`.
+fn is_of_foo(refusal: &Option<SetFieldError>) -> bool {
+    match refusal {
+        Some(SetFieldError::InvalidType { field, value }) => {
+            field.name() == "foo" && value.as_str() == Some("bar")
+        }
+        _ => false,
+    }
+}
+
+fn text(alloc: Global) -> Result<Value, Fail> {
+    Ok(Value::String(String::from_str(alloc, "bar")?))
+}
+
+#[test]
+fn what_does_not_fit_a_number_or_a_name_is_refused(rt: HostRuntime) -> Result<(), Fail> {
+    let mut message = with_foo(rt.alloc())?;
+    let by_number = message.try_set_field_by_number(1, text(rt.alloc())?);
+    assert!(rt; is_of_foo(&by_number.err()));
+    let by_name = message.try_set_field_by_name("foo", text(rt.alloc())?);
+    assert!(rt; is_of_foo(&by_name.err()));
+    assert!(rt; message == with_foo(rt.alloc())?);
+    Ok(())
+}
+
+#[test]
+fn what_does_not_fit_a_field_is_refused(rt: HostRuntime) -> Result<(), Fail> {
+    let mut message = with_foo(rt.alloc())?;
+    let found = message.descriptor()?.get_field(1)?;
+    let foo = found.ok_or("no foo")?;
+    if !message.owns_field(&foo) {
+        return Err(Fail::from("a field of another type"));
+    }
+    let refusal = message.try_set_field(&foo, text(rt.alloc())?).err();
+    assert!(rt; is_of_foo(&refusal));
+    assert!(rt; message == with_foo(rt.alloc())?);
+    Ok(())
+}
+
+#[test]
+fn a_number_or_a_name_of_no_field_is_not_found(rt: HostRuntime) -> Result<(), Fail> {
+    let mut message = with_foo(rt.alloc())?;
+    let by_number = message.try_set_field_by_number(42, Value::I32(5)).err();
+    assert!(rt; by_number == Some(SetFieldError::NotFound));
+    let by_name = message
+        .try_set_field_by_name("notfound", Value::I32(5))
+        .err();
+    assert!(rt; by_name == Some(SetFieldError::NotFound));
+    assert!(rt; message == with_foo(rt.alloc())?);
+    Ok(())
+}
+
+#[test]
+fn what_fits_is_set_by_number_and_by_name(rt: HostRuntime) -> Result<(), Fail> {
+    let mut message = with_foo(rt.alloc())?;
+    assert!(rt; message.try_set_field_by_number(2, Value::I32(66)).is_ok());
+    assert!(rt; message.try_set_field_by_name("foo", Value::I32(7)).is_ok());
+    let descriptor = message_type(rt.alloc(), NEWER, "MyMessage")?;
+    let read = DynamicMessage::decode(rt.alloc(), descriptor, &[0x08, 7, 0x10, 66])?;
+    assert!(rt; message == read);
     Ok(())
 }

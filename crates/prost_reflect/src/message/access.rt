@@ -181,7 +181,7 @@ impl DynamicMessage {
     }
 
     /// Whether the number is that of a field; that of an extension is not.
-    fn is_field_number(&self, number: u32) -> bool
+    pub(super) fn is_field_number(&self, number: u32) -> bool
         ensures { result ≡ is_field_number (message_type_of self.now) number }
     {
         match self.message_type().field_table(number) {

@@ -1,9 +1,10 @@
 //! Setting fields to values that may not fit them.
 
-ghost use Rattle.std.specs.Prelude.{◌≡◌, true, IfErr, IsOk, OnErr, OnOk};
-ghost use Rattle.prost_reflect.specs.Access.{IsOwnField, number_of, takes};
-ghost use Rattle.prost_reflect.specs.Contents.{value_set};
-ghost use Rattle.prost_reflect.specs.Setting.{RefusesValue};
+ghost use Rattle.std.specs.Prelude.{◌≡◌, true, IfErr, IfOk, IsOk, OnErr, OnOk, Some};
+ghost use Rattle.prost_reflect_wire.specs.Schema.{passes};
+ghost use Rattle.prost_reflect.specs.Access.{IsOwnField, number_of, takes, is_field_number, number_declared, number_named, takes_at};
+ghost use Rattle.prost_reflect.specs.Contents.{set_if, value_set};
+ghost use Rattle.prost_reflect.specs.Setting.{DescribesField, RefusesFound, RefusesValue};
 ghost use Rattle.prost_reflect.specs.View.{value_of, content_of, message_type_of};
 ghost use Rattle.prost_reflect.specs.declared.message.setting.SetFieldError.TheVariants as refusals;
 
@@ -11,6 +12,7 @@ use crate::descriptor::FieldDescriptor;
 use crate::descriptor::forms::is_repeated;
 use crate::message::DynamicMessage;
 use crate::value::Value;
+use crate::value::valid::value_valid;
 use prost_reflect_pool::LinkedPool;
 use prost_reflect_tables::{FieldTable, TableKind};
 use std::alloc::AllocError;
@@ -136,6 +138,89 @@ impl DynamicMessage {
         } else {
             let field = field.clone()?;
             Err(SetFieldError::InvalidType { field, value })
+        }
+    }
+
+    /// Sets the field of a number to the value if the value fits it, and then removes the values of the other members of its oneof.
+    ///
+    /// # Errors
+    ///
+    /// Nothing changes where one is answered: `NotFound` if no field has the number, which an extension may have; `InvalidType`,
+    /// with the field and the value, if the value does not fit the field; and `OutOfMemory` if a growth, or a clone of the pool, is refused.
+    pub fn try_set_field_by_number(
+        &mut self,
+        number: u32,
+        value: Value,
+    ) -> Result<(), SetFieldError>
+        ensures message_type { message_type_of self.new ≡ message_type_of self.old }
+        ensures content { OnOk result (content_of self.new ≡ set_if (number_declared (message_type_of self.old) number) (value_of value) (content_of self.old)) }
+        ensures valid { IsOk result → passes (number_declared (message_type_of self.old) number) (λ n. takes_at (message_type_of self.old) n value) ≡ true }
+        ensures err { OnErr result (self.new ≡ self.old) }
+        ensures refused { IfErr result (RefusesFound (message_type_of self.old) (number_declared (message_type_of self.old) number) value) }
+    {
+        if self.is_field_number(number) {
+            self.try_set_value(number, value)
+        } else {
+            Err(SetFieldError::NotFound)
+        }
+    }
+
+    /// Sets the field of a name to the value if the value fits it, and then removes the values of the other members of its oneof.
+    ///
+    /// # Errors
+    ///
+    /// Nothing changes where one is answered: `NotFound` if no field has the name, which an extension may have; `InvalidType`,
+    /// with the field and the value, if the value does not fit the field; and `OutOfMemory` if a growth, or a clone of the pool, is refused.
+    pub fn try_set_field_by_name(&mut self, name: &str, value: Value) -> Result<(), SetFieldError>
+        ensures message_type { message_type_of self.new ≡ message_type_of self.old }
+        ensures content { OnOk result (content_of self.new ≡ set_if (number_named (message_type_of self.old) name.now) (value_of value) (content_of self.old)) }
+        ensures valid { IsOk result → passes (number_named (message_type_of self.old) name.now) (λ n. takes_at (message_type_of self.old) n value) ≡ true }
+        ensures err { OnErr result (self.new ≡ self.old) }
+        ensures refused { IfErr result (RefusesFound (message_type_of self.old) (number_named (message_type_of self.old) name.now) value) }
+    {
+        match self.number_named(name) {
+            Some(number) => self.try_set_value(number, value),
+            None => Err(SetFieldError::NotFound),
+        }
+    }
+
+    /// Sets the field of a number to the value if the value fits it. Where an error is answered nothing changes.
+    fn try_set_value(&mut self, number: u32, value: Value) -> Result<(), SetFieldError>
+        requires { is_field_number (message_type_of self.old) number ≡ true }
+        ensures message_type { message_type_of self.new ≡ message_type_of self.old }
+        ensures content { OnOk result (content_of self.new ≡ value_set number (value_of value) (content_of self.old)) }
+        ensures valid { IsOk result → takes_at (message_type_of self.old) number value ≡ true }
+        ensures err { OnErr result (self.new ≡ self.old) }
+        ensures refused { IfErr result (RefusesFound (message_type_of self.old) (Some number) value) }
+    {
+        if self.takes_at(number, &value) {
+            self.set_value(number, value)?;
+            Ok(())
+        } else {
+            let field = self.field_at(number)?;
+            Err(SetFieldError::InvalidType { field, value })
+        }
+    }
+
+    /// Whether the field or extension of a number takes the value, by its form and its kind.
+    fn takes_at(&self, number: u32, value: &Value) -> bool
+        ensures { result ≡ takes_at (message_type_of self.now) number value.now }
+    {
+        let message_type = self.message_type();
+        match message_type.field_table(number) {
+            Some(field) => value_valid(message_type.pool(), field, value),
+            None => false,
+        }
+    }
+
+    /// The field of a number.
+    fn field_at(&self, number: u32) -> Result<FieldDescriptor, AllocError>
+        requires { is_field_number (message_type_of self.now) number ≡ true }
+        ensures { IfOk result (DescribesField (message_type_of self.now) number) }
+    {
+        match self.descriptor()?.get_field(number)? {
+            Some(field) => Ok(field),
+            None => unreachable!(),
         }
     }
 }

@@ -85,7 +85,7 @@ impl DynamicMessage {
     }
 
     /// The number of the field of a name; the name of an extension finds none.
-    fn number_named(&self, name: &str) -> Option<u32>
+    pub(crate) fn number_named(&self, name: &str) -> Option<u32>
         ensures { result ≡ number_named (message_type_of self.now) name.now }
     {
         let message_type = self.message_type();

@@ -1,0 +1,11 @@
+use Rattle.std.proofs.Common.{◌≡◌, ◌++◌, ◌∙◌, ap₂, subst, sym}
+use Rattle.prost_reflect_fields.specs.FieldSlots.{values_alone}
+use Rattle.prost_reflect_fields.specs.Items.{IsAscending}
+use Rattle.prost_reflect_fields.proofs.ValuesAlone.{ascending_alone}
+use Rattle.prost_reflect_fields.proofs.taking.take_unknown.Goals as goal
+
+pub from_items-requires : goal.from_items-requires
+from_items-requires g c =
+    let all : c.part_all.new.values.items ≡ values_alone c.args.fields.now =
+    c.part_all.ensures.values ∙ ap₂ (λ xs ys. xs ++ values_alone ys) c.in_ok-values.ensures.items c.take_items-slots.ensures.items in
+    subst IsAscending (sym all) (ascending_alone c.args.fields.now c.len-count.ensures.ascending)
