@@ -24,7 +24,7 @@ use Rattle.prost_reflect_fields.specs.declared.slot.FieldSlot.TheVariants as ent
 use Rattle.prost_reflect.specs.declared.message.DynamicMessage.{DynamicMessage}
 use Rattle.prost_reflect.specs.declared.value.Value.{Value}
 use Rattle.prost_reflect_fields.specs.Items.{IsAscending, item_at}
-use Rattle.prost_reflect_fields.specs.Known.{known_of, are_records_of, keeps_unknown}
+use Rattle.prost_reflect_fields.specs.Known.{known_of, are_records_of, all_kept}
 use Rattle.prost_reflect_fields.specs.FieldSlots.{value_in, unknown_in, records_in, records_at}
 use Rattle.prost_reflect_fields.specs.Sound.{IsSound, UnknownKept, unknown_kept}
 use Rattle.prost_reflect.specs.View.{value_of, content_of, message_type_of, stored_in, slot_of, entries_from, payloads_of}
@@ -80,23 +80,30 @@ behind_value : (test : EntryTest) (fields : List Field) (n : ℕ) (o : Option co
 behind_value test fields n None es h = h
 behind_value test fields n (Some w) es h = (and_parts _ (entries_pass test fields es) h).1
 
--- each entry has unknown records of its own number
-abbrev OwnRecords : List (ℕ × FieldSlot Value) → Type 0
-OwnRecords [] = Unit {0}
-OwnRecords (e ∷ es) = ((rs : List Record) → records_in e.1 ≡ Some rs → are_records_of e.0 rs ≡ true) × OwnRecords es
+-- each entry has unknown records that may stand at its number
+abbrev pub KeptRecords : List Field → List (ℕ × FieldSlot Value) → Type 0
+KeptRecords fields [] = Unit {0}
+KeptRecords fields (e ∷ es) = (unknown_kept fields e.0 (records_in e.1) ≡ true) × KeptRecords fields es
 
-own_in : (fields : List Field) (es : List (ℕ × FieldSlot Value)) → IsAscending es → UnknownKept fields es → OwnRecords es
+pub kept_in : (fields : List Field) (es : List (ℕ × FieldSlot Value)) → IsAscending es → UnknownKept fields es → KeptRecords fields es
 unfolding IsStrictlySortedBy
-own_in fields [] s kept = tt
-own_in fields (e ∷ es) s kept = (
-  λ rs is.
-      let here : records_at (e ∷ es) e.0 ≡ Some rs = ap (λ o. option_and_then records_in (cond (is_eq o) (Some e.1) (item_at es e.0))) (itself e.0) ∙ is in
-      (and_parts (keeps_unknown fields e.0) (are_records_of e.0 rs) (ap (unknown_kept fields e.0) (sym here) ∙ kept e.0)).1,
-  own_in fields es s.1 (λ n. by_number n e.0 (λ same. behind n same) (λ apart. ap (λ b. unknown_kept fields n (option_and_then records_in (cond b (Some e.1) (item_at es n)))) (sym apart) ∙ kept n)),
+kept_in fields [] s kept = tt
+kept_in fields (e ∷ es) s kept = (
+  ap (λ o. unknown_kept fields e.0 (option_and_then records_in (cond (is_eq o) (Some e.1) (item_at es e.0)))) (sym (itself e.0)) ∙ kept e.0,
+  kept_in fields es s.1 (λ n. by_number n e.0 (λ same. behind n same) (λ apart. ap (λ b. unknown_kept fields n (option_and_then records_in (cond b (Some e.1) (item_at es n)))) (sym apart) ∙ kept n)),
 )
   where
     behind : (n : ℕ) → n ≡ e.0 → unknown_kept fields n (records_at es n) ≡ true
     behind n same = ap (λ o. unknown_kept fields n (option_and_then records_in o)) (subst (λ k. item_at es k ≡ None) (sym same) (none_above e.0 es s.0))
+
+-- so they are of its own number
+abbrev OwnRecords : List (ℕ × FieldSlot Value) → Type 0
+OwnRecords [] = Unit {0}
+OwnRecords (e ∷ es) = ((rs : List Record) → records_in e.1 ≡ Some rs → are_records_of e.0 rs ≡ true) × OwnRecords es
+
+own_in : (fields : List Field) (es : List (ℕ × FieldSlot Value)) → KeptRecords fields es → OwnRecords es
+own_in fields [] kept = tt
+own_in fields (e ∷ es) kept = (λ rs is. (and_parts (all_kept fields e.0 rs) (are_records_of e.0 rs) (ap (unknown_kept fields e.0) (sym is) ∙ kept.0)).1, own_in fields es kept.1)
 
 shown_value : (e : FieldSlot Value) (v : Value) → value_in e ≡ Some v → (slot_of (λ v. v) (shown_entry e)).value ≡ Some (value_of v)
 shown_value e v is = ap (λ (slot : Slot). slot.value) (slot_shown e) ∙ ap (option_map value_of) is
@@ -113,7 +120,7 @@ writable_entries fields (e ∷ es) h own = (
 
 pub writable_message : (m : DynamicMessage) → encodable (content_of m) ≡ true → IsAscending (stored_in m) → IsSound (message_type_of m) (stored_in m) → AreWritable (known_of (message_type_of m)) (stored_in m)
 writable_message m h s sound =
-    writable_entries (known_of (message_type_of m)) (stored_in m) (ap encodable (sym (content_of_message m)) ∙ h) (own_in (known_of (message_type_of m)) (stored_in m) s sound.1)
+    writable_entries (known_of (message_type_of m)) (stored_in m) (ap encodable (sym (content_of_message m)) ∙ h) (own_in (known_of (message_type_of m)) (stored_in m) (kept_in (known_of (message_type_of m)) (stored_in m) s sound.1))
 
 -- ONE ENTRY
 

@@ -23,6 +23,7 @@ pub mod ElementReads
 pub mod NestedMaps
 pub mod ElementWrites
 pub mod Encodings
+mod Encodables
 pub mod Present
 pub mod Defaults
 pub mod Keys
@@ -31,6 +32,7 @@ pub mod Copied
 pub mod CopiedPairs
 pub mod StoredViews
 pub mod StoredContents
+mod DeepTypes
 mod ListElements
 mod ListMerging
 mod NumberMerging

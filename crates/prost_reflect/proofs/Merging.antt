@@ -1,5 +1,6 @@
 -- Records read into a message.
 use Rattle.std.proofs.Common.{◌≡◌, ◌≢◌, inl, inr, arith, ℕ, Bool, List, Option, Some, None, refl, sym, ap, ap₂, ◌∙◌, subst, ◌≤◌, ◌<◌, ◌^◌, true, false, true≢false}
+use Rattle.std.proofs.lemmas.Bool.{and_from, lt-ltb}
 use Rattle.prost_reflect_wire.specs.declared.key.WireType.{WireType}
 use Rattle.prost_reflect_wire.specs.declared.error.DecodeError.{DecodeError}
 use Rattle.prost_reflect_wire.specs.declared.error.DecodeError.TheVariants as errors
@@ -10,14 +11,14 @@ use Rattle.prost_reflect_wire.specs.Scalar.{Scalar, ScalarKind, is_undeclared}
 use Rattle.prost_reflect_wire.specs.Schema.{ScalarOf, ValueType, Singular, Field, known, field_of, numbers_differ, is_message, schema_valid}
 use Rattle.prost_reflect_wire.specs.Content.{Content, ContentOf, ScalarValue, schema_of, type_of}
 use Rattle.prost_reflect_wire.specs.Content as contents
-use Rattle.prost_reflect_wire.specs.Typing.{is_whole_stray, WellStored}
+use Rattle.prost_reflect_wire.specs.Typing.{is_whole_stray, unknown_fits, WellStored}
 use Rattle.prost_reflect_wire.specs.Edit.{with_field_value, message_of}
 use Rattle.prost_reflect_wire.specs.Grammar.{is_stray}
 use Rattle.prost_reflect_wire.specs.Levels.{stray_levels}
 use Rattle.prost_reflect_wire.specs.Fault.{OfType, ValueFault, same_wire}
 use Rattle.prost_reflect_wire.specs.Decoding.{Step, ScalarRead, ScalarFault, StandsBehindKey}
 use Rattle.prost_reflect_wire.proofs.RecordFronts.{value_once}
-use Rattle.prost_reflect_laws.proofs.Holding.{scalar_holds, unknown_holds, stray_holds}
+use Rattle.prost_reflect_laws.proofs.Holding.{scalar_holds, unknown_holds, stray_holds, payload_front_valid}
 use Rattle.prost_reflect_laws.proofs.ScalarFaults.{scalar_stands}
 use Rattle.prost_reflect_wire.proofs.PlaceFaults.{value_stands}
 use Rattle.prost_reflect_tables.specs.declared.tables.TableKind.{TableKind}
@@ -30,7 +31,7 @@ use Rattle.prost_reflect.specs.declared.message.DynamicMessage.{DynamicMessage}
 use Rattle.prost_reflect.specs.declared.value.Value.{Value}
 use Rattle.prost_reflect.specs.declared.message.decode.Target.TheVariants as targets
 use Rattle.prost_reflect_pool.specs.SharedPools.{pool_rows}
-use Rattle.prost_reflect_fields.specs.Known.{known_of}
+use Rattle.prost_reflect_fields.specs.Known.{known_of, keeps_unknown}
 use Rattle.prost_reflect.specs.View.{value_of, content_of, message_type_of}
 use Rattle.prost_reflect.specs.Scalars.{PlainField, ReadsScalar, RefusesScalar, ReadsStray, StaysUnknown, is_stray_number}
 use Rattle.prost_reflect.specs.Targets.{nested_kind, NestedField, IsTarget, target_of}
@@ -151,6 +152,14 @@ unknown_set m new levels n w p bytes rest sound (inr s) some below small front c
     let (same, more) = value_once n w levels s.payload p bytes s.rest rest s.front front in
     stray_step levels n w (content_of m) (content_of new) s.field p bytes rest (valid_in m) sound (differ_in m) (ap (λ fields. field_of fields n) (known_in m) ∙ s.found)
     (ap (is_whole_stray s.field.form s.field.value_type) (sym same) ∙ s.whole) (subst (λ q. stray_levels s.field.form q ≤ levels) same s.within) small front content
+
+-- so it may stand at its number
+pub unknown_stands : (d : PooledType) (levels n : ℕ) (w : WireType) (p : Payload) (bytes rest : List ℕ) → StaysUnknown (known_of d) levels n w bytes → 1 ≤ n → n < 2 ^ 29 → AreBytes bytes → ValueFront n w levels p bytes rest → keeps_unknown (known_of d) n p ≡ true
+unknown_stands d levels n w p bytes rest (inl absent) some below small front =
+    ap (λ o. unknown_fits o n p) absent ∙ and_from _ _ (and_from _ _ (lt-ltb 0 n some) (lt-ltb n (2 ^ 29) below)) (payload_front_valid n p bytes rest small front.front)
+unknown_stands d levels n w p bytes rest (inr s) some below small front =
+    let (same, more) = value_once n w levels s.payload p bytes s.rest rest s.front front in
+    ap (λ o. unknown_fits o n p) s.found ∙ and_from _ _ (payload_front_valid n p bytes rest small front.front) (ap (is_whole_stray s.field.form s.field.value_type) (sym same) ∙ s.whole)
 
 -- REFUSALS
 

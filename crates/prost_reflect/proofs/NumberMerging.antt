@@ -1,19 +1,20 @@
 -- Records of lists of enum numbers read into a message.
 use Rattle.std.proofs.Common.{◌≡◌, ◌≢◌, ◌<◌, ◌^◌, ℕ, ℤ, pos, Bool, true, false, cond, List, [], ◌∷◌, ◌++◌, map, Option, Some, None, refl, sym, ap, ◌∙◌, subst, unwrap_or, true≢false}
 use Rattle.std.specs.Prelude.{slice_get}
-use Rattle.std.proofs.lemmas.Bool.{lt-ltb}
+use Rattle.std.proofs.lemmas.Bool.{lt-ltb, and_from}
 use Rattle.prost_reflect_wire.specs.declared.key.WireType.{WireType}
 use Rattle.prost_reflect_wire.specs.declared.key.WireType.TheVariants as wires
 use Rattle.prost_reflect_wire.specs.declared.error.DecodeError.{DecodeError}
 use Rattle.prost_reflect_wire.specs.declared.error.DecodeError.TheVariants as errors
 use Rattle.prost_reflect_wire.specs.Record.{Var, Payload, Flat, record_at}
 use Rattle.prost_reflect_wire.specs.Front.{VarintFront, DelimitedFront, VarintFault, PlainFault}
-use Rattle.prost_reflect_wire.specs.Scalar.{ScalarKind, EnumNumbers, Enum, Open, Closed, EnumNumber, low_i32, elem, is_undeclared}
+use Rattle.prost_reflect_wire.specs.Scalar.{ScalarKind, EnumNumbers, Enum, Open, EnumNumber, low_i32, elem, is_undeclared}
 use Rattle.prost_reflect_wire.specs.Schema.{ScalarOf, Repeated, Field, known, field_of, numbers_differ, is_list}
 use Rattle.prost_reflect_wire.specs.Content as contents
 use Rattle.prost_reflect_wire.specs.Content.{Content, ContentOf, ScalarValue, ListValue, NoValues, schema_of, type_of, entries_of, value_at}
 use Rattle.prost_reflect_wire.specs.Meaning.{values_in}
-use Rattle.prost_reflect_wire.specs.Typing.{WellStored}
+use Rattle.prost_reflect_wire.specs.Grammar.{is_stray}
+use Rattle.prost_reflect_wire.specs.Typing.{WellStored, unknown_fits, is_whole_stray}
 use Rattle.prost_reflect_wire.specs.Edit.{with_field_value}
 use Rattle.prost_reflect_wire.specs.Fault.{OfType, ElementFault, ElementEnds, ElementPasses, same_wire}
 use Rattle.prost_reflect_wire.specs.Decoding.{Step, NumbersJoined, BodyJoined, FieldFault, ScalarFault, StandsBehindKey}
@@ -33,7 +34,7 @@ use Rattle.prost_reflect.specs.declared.message.DynamicMessage.{DynamicMessage}
 use Rattle.prost_reflect.specs.Contents.{value_set, unknown_added}
 use Rattle.prost_reflect.specs.RowKinds.{names_message}
 use Rattle.prost_reflect_pool.specs.Enums.{first_of, numbers_of}
-use Rattle.prost_reflect_fields.specs.Known.{known_of, keeps_unknown, keeps_unknown_beside, is_closed_enum}
+use Rattle.prost_reflect_fields.specs.Known.{known_of, keeps_unknown}
 use Rattle.prost_reflect.specs.Lists.{IsListOrNone, with_element}
 use Rattle.prost_reflect.specs.Numbers.{NumberList, BodyTaken, number_taken}
 use Rattle.prost_reflect_pool.specs.SharedPools.{pool_rows}
@@ -69,14 +70,11 @@ number_list d n row E found many is =
 stray_is : (d : PooledType) (n : ℕ) (kind : TableKind) (value : ℕ) (list : NumberList d n kind) → is_undeclared (Enum list.first list.numbers) (Flat (Var value)) ≡ is_stray_number (pool_rows d.pool).enums kind (ScalarValue (EnumNumber (low_i32 value)))
 stray_is d n kind value list = stray_payload (pool_rows d.pool).enums kind (Enum list.first list.numbers) (Var value) (EnumNumber (low_i32 value)) list.named refl
 
--- only a closed enum has strays, so an unknown record may stand beside the list
-pub stray_kept : (d : PooledType) (n : ℕ) (kind : TableKind) (value : ℕ) → NumberList d n kind → is_stray_number (pool_rows d.pool).enums kind (ScalarValue (EnumNumber (low_i32 value))) ≡ true → keeps_unknown (known_of d) n ≡ true
-stray_kept d n kind value list stray =
-    ap keeps_unknown_beside list.found ∙ ap is_closed_enum list.kind_is ∙ closed list.numbers (stray_is d n kind value list ∙ stray)
-  where
-    closed : (numbers : EnumNumbers) → is_undeclared (Enum list.first numbers) (Flat (Var value)) ≡ true → is_closed_enum (ScalarOf (Enum list.first numbers)) ≡ true
-    closed Open h = absurd (true≢false (sym h))
-    closed (Closed zs) h = refl
+-- a stray may stand beside the list
+pub stray_kept : (d : PooledType) (n : ℕ) (kind : TableKind) (value : ℕ) → NumberList d n kind → value < 2 ^ 64 → is_stray_number (pool_rows d.pool).enums kind (ScalarValue (EnumNumber (low_i32 value))) ≡ true → keeps_unknown (known_of d) n (Flat (Var value)) ≡ true
+stray_kept d n kind value list small stray =
+    ap (λ o. unknown_fits o n (Flat (Var value))) list.found
+    ∙ and_from _ _ (lt-ltb value (2 ^ 64) small) (ap (λ form. is_whole_stray form list.field.value_type (Flat (Var value))) list.form ∙ ap (λ kind. is_stray kind (Flat (Var value))) list.kind_is ∙ stray_is d n kind value list ∙ stray)
 
 -- CONTENTS
 

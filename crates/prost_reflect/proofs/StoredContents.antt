@@ -25,27 +25,27 @@ use Rattle.prost_reflect.proofs.StoredViews.{same_types}
 
 -- CONTENTS OF WHAT IS STORED
 
-mutual
-  content_from : StoredMessage → Content
+unfoldable mutual
+  pub content_from : StoredMessage → Content
   content_from (MessageOf files rows T es) = ContentOf (schema_from rows) T (entries_content es)
 
-  entries_content : StoredEntries → Entries
+  pub entries_content : StoredEntries → Entries
   entries_content NothingStored = NoEntries
   entries_content (ValueAt n v es) = store n (record { value = Some (value_content v); unknowns = [] }) (entries_content es)
   entries_content (UnknownAt n rs es) = store n (record { value = None; unknowns = payloads_of (items rs) }) (entries_content es)
   entries_content (BothAt n v rs es) = store n (record { value = Some (value_content v); unknowns = payloads_of (items rs) }) (entries_content es)
 
-  value_content : StoredValue → contents.Value
+  pub value_content : StoredValue → contents.Value
   value_content (StoredScalar v) = ScalarValue v
   value_content (StoredInside m) = MessageValue (content_from m)
   value_content (StoredList vs) = ListValue (items_content vs)
   value_content (StoredMap ps) = MapValue (pairs_content ps)
 
-  items_content : StoredItems → Values
+  pub items_content : StoredItems → Values
   items_content NoItems = NoValues
   items_content (ItemThen v vs) = Item (value_content v) (items_content vs)
 
-  pairs_content : StoredPairs → Pairs
+  pub pairs_content : StoredPairs → Pairs
   pairs_content NoPairs = contents.NoPairs
   pairs_content (PairThen k v ps) = Pair k (value_content v) (pairs_content ps)
 
@@ -154,7 +154,7 @@ value_follows = ind-Value ValueFollows MessageFollows
     (λ x y is. ap value_content (fold-roll-Value StoredValue StoredMessage stored_step stored_message_step x) ∙ value_layers x y is ∙ sym (fold-roll-Value contents.Value Content value_step message_step x))
     (λ x y is. ap content_from (fold-roll-DynamicMessage StoredValue StoredMessage stored_step stored_message_step x) ∙ message_layers x y is ∙ sym (fold-roll-DynamicMessage contents.Value Content value_step message_step x))
 
-message_follows : (m : DynamicMessage) → MessageFollows m
+pub message_follows : (m : DynamicMessage) → MessageFollows m
 unfolding stored_of shown_of message_stored_of message_shown_of
 message_follows = ind-DynamicMessage ValueFollows MessageFollows
     (λ x y is. ap value_content (fold-roll-Value StoredValue StoredMessage stored_step stored_message_step x) ∙ value_layers x y is ∙ sym (fold-roll-Value contents.Value Content value_step message_step x))

@@ -14,7 +14,7 @@ use Rattle.prost_reflect_wire.specs.declared.unknown.UnknownFieldSet.{UnknownFie
 use Rattle.prost_reflect_wire.proofs.UnknownViews.{records_of_out}
 use Rattle.prost_reflect_fields.specs.FieldSlots.{records_in, unknown_in, records_at, unknown_sets, value_alone, values_alone}
 use Rattle.prost_reflect_fields.specs.Items.{IsAscending, item_at}
-use Rattle.prost_reflect_fields.specs.Known.{known_of, keeps_unknown, are_records_of}
+use Rattle.prost_reflect_fields.specs.Known.{known_of, all_kept, are_records_of}
 use Rattle.prost_reflect_fields.specs.Sound.{unknown_kept}
 use Rattle.prost_reflect_fields.specs.declared.slot.FieldSlot.{FieldSlot}
 use Rattle.prost_reflect_fields.specs.declared.slot.FieldSlot.TheVariants as entries
@@ -39,7 +39,7 @@ records_back n (r ∷ rs) h =
 
 own_records : (fields : List Field) (n : ℕ) (rs : List Record) → unknown_kept fields n (Some rs) ≡ true → map (record_at n) (payloads_of rs) ≡ rs
 own_records fields n [] h = refl
-own_records fields n (r ∷ rs) h = records_back n (r ∷ rs) (and_parts (keeps_unknown fields n) (are_records_of n (r ∷ rs)) h).1
+own_records fields n (r ∷ rs) h = records_back n (r ∷ rs) (and_parts (all_kept fields n (r ∷ rs)) (are_records_of n (r ∷ rs)) h).1
 
 slot_records : (fields : List Field) (n : ℕ) (e : FieldSlot Value) → unknown_kept fields n (records_in e) ≡ true
     → map record_of (fields_or_none (unknown_in e)) ≡ map (record_at n) (slot_of (λ v. v) (shown_entry e)).unknowns

@@ -22,8 +22,10 @@ pub mod NestedMaps
 pub mod Targets
 pub mod Nested
 pub mod Encoding
+pub mod Encodables
 pub mod Present
 pub mod Defaults
+pub mod DeepTypes
 pub mod Valid
 pub mod RowLaws
 pub mod RowLawProofs

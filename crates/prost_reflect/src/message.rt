@@ -26,6 +26,7 @@ mod access;
 mod copy;
 mod decode;
 pub(crate) mod defaults;
+mod encodable;
 mod encode;
 pub(crate) mod enums;
 mod equality;
@@ -36,6 +37,7 @@ mod merge;
 mod present;
 pub(crate) mod relay;
 mod setting;
+mod typed;
 mod unknowns;
 
 use crate::descriptor::MessageDescriptor;
@@ -169,11 +171,11 @@ impl DynamicMessage {
         self.fields.clear(number);
     }
 
-    /// Adds an unknown field behind those of its number, which is that of no field, or of one whose values are numbers of a closed enum.
-    /// A refused growth changes no value and no unknown field.
+    /// Adds an unknown field behind those of its number, which is that of no field, or of one that takes no value from it, since a
+    /// closed enum does not declare its number. A refused growth changes no value and no unknown field.
     pub(crate) fn add_unknown(&mut self, number: u32, field: UnknownField) -> Result<(), AllocError>
         requires own { (record_of field).number ≡ number }
-        requires kept { keeps_unknown (known_of (message_type_of self.old)) number ≡ true }
+        requires kept { keeps_unknown (known_of (message_type_of self.old)) number (record_of field).payload ≡ true }
         ensures message_type { message_type_of self.new ≡ message_type_of self.old }
         ensures content { OnOk result (content_of self.new ≡ unknown_added (record_of field) (content_of self.old)) }
         ensures err { OnErr result (content_of self.new ≡ content_of self.old) }

@@ -8,7 +8,7 @@ use Rattle.prost_reflect_wire.specs.Schema.{Field, numbers_differ}
 use Rattle.prost_reflect_wire.proofs.Deeper.{all_append}
 use Rattle.prost_reflect_fields.specs.declared.slot.FieldSlot.{FieldSlot}
 use Rattle.prost_reflect_fields.specs.Items.{IsAscending, item_at, with_item}
-use Rattle.prost_reflect_fields.specs.Known.{is_known, are_siblings, keeps_unknown, are_records_of}
+use Rattle.prost_reflect_fields.specs.Known.{is_known, are_siblings, keeps_unknown, all_kept, are_records_of}
 use Rattle.prost_reflect_fields.specs.FieldSlots.{value_in, records_in, value_at, records_at, has_value, revalued, put_value, without_values, with_value, with_slot, SameStored, UnknownAdded}
 use Rattle.prost_reflect_fields.specs.Sound.{Sound, unknown_kept, set_value_at, prepared}
 use Rattle.prost_reflect_fields.proofs.ItemChanges.{at_each, apart_of, with_same, with_apart, not_both}
@@ -18,19 +18,24 @@ use Rattle.std.proofs.lemmas.Map.Steps.{set_value_same}
 use Rattle.std.specs.BTreeMap.{is_at}
 use Rattle.std.specs.Ordering.{nat_cmp}
 
-added_kept : (fields : List Field) (n : ℕ) (r : Record) (o : Option (List Record)) → r.number ≡ n → keeps_unknown fields n ≡ true → unknown_kept fields n o ≡ true → unknown_kept fields n (Some (unwrap_or o [] ++ r ∷ [])) ≡ true
-added_kept fields n r o own keeps h = and_from _ _ keeps (cases o h)
+added_kept : (fields : List Field) (n : ℕ) (r : Record) (o : Option (List Record)) → r.number ≡ n → keeps_unknown fields n r.payload ≡ true → unknown_kept fields n o ≡ true → unknown_kept fields n (Some (unwrap_or o [] ++ r ∷ [])) ≡ true
+added_kept fields n r o own keeps h = cases o h
   where
     one : list_all (λ (r : Record). nat_eq r.number n) (r ∷ []) ≡ true
     one = and_from _ _ (eq-eqb r.number n own) refl
+
+    one_kept : all_kept fields n (r ∷ []) ≡ true
+    one_kept = and_from _ _ keeps refl
 
     all : (rs : List Record) → are_records_of n rs ≡ true → are_records_of n (rs ++ r ∷ []) ≡ true
     all [] h = cc
     all (q ∷ rs) h = all_append (λ (r : Record). nat_eq r.number n) (q ∷ rs) (r ∷ []) h one
 
-    cases : (o : Option (List Record)) → unknown_kept fields n o ≡ true → are_records_of n (unwrap_or o [] ++ r ∷ []) ≡ true
-    cases None h = one
-    cases (Some rs) h = all rs (and_parts (keeps_unknown fields n) (are_records_of n rs) h).1
+    cases : (o : Option (List Record)) → unknown_kept fields n o ≡ true → unknown_kept fields n (Some (unwrap_or o [] ++ r ∷ [])) ≡ true
+    cases None h = and_from _ _ one_kept one
+    cases (Some rs) h =
+        let (kept, of_number) = and_parts (all_kept fields n rs) (are_records_of n rs) h in
+        and_from _ _ (all_append (λ (r : Record). keeps_unknown fields n r.payload) rs (r ∷ []) kept one_kept) (all rs of_number)
 
 module _ {V : Type 0} where
   -- values at no more numbers, and the same unknown records
@@ -196,7 +201,7 @@ module _ {V : Type 0} where
   pub sound_stored : (fields : List Field) (es ds : List (ℕ × FieldSlot V)) → SameStored es ds → Sound fields es → Sound fields ds
   sound_stored fields es ds same = sound_less fields ds es (record { values = λ k h. ap is_some (sym (same.values k)) ∙ h; records = same.records })
 
-  pub sound_added : (fields : List Field) (es ds : List (ℕ × FieldSlot V)) (r : Record) → UnknownAdded es ds r → keeps_unknown fields r.number ≡ true → Sound fields es → Sound fields ds
+  pub sound_added : (fields : List Field) (es ds : List (ℕ × FieldSlot V)) (r : Record) → UnknownAdded es ds r → keeps_unknown fields r.number r.payload ≡ true → Sound fields es → Sound fields ds
   sound_added fields es ds r added keeps sound = (
     λ n v. sound.0 n (ap is_some (sym (added.values n)) ∙ v),
     λ n. cases n (nat_eq n r.number) refl,

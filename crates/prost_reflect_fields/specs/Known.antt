@@ -1,9 +1,9 @@
 -- What a message type says of a number.
-use Rattle.std.specs.Prelude.{ℕ, Bool, true, false, nat_eq, List, [], ◌∷◌, Option, Some, None, is_some, option_and_then}
+use Rattle.std.specs.Prelude.{ℕ, Bool, false, nat_eq, List, [], ◌∷◌, Option, is_some, option_and_then}
 use Rattle.std.specs.List.{list_all}
-use Rattle.prost_reflect_wire.specs.Record.{Record}
-use Rattle.prost_reflect_wire.specs.Scalar.{Enum, Closed}
-use Rattle.prost_reflect_wire.specs.Schema.{Kind, ScalarOf, Field, known, field_of, is_sibling, passes}
+use Rattle.prost_reflect_wire.specs.Record.{Record, Payload}
+use Rattle.prost_reflect_wire.specs.Schema.{Field, known, field_of, is_sibling, passes}
+use Rattle.prost_reflect_wire.specs.Typing.{unknown_fits}
 use Rattle.prost_reflect_pool.specs.MessageTypes.{schema_at, type_at}
 use Rattle.prost_reflect_pool.specs.declared.pooled_type.PooledType.{PooledType}
 
@@ -21,17 +21,12 @@ oneof_of fields n = option_and_then (λ f. f.oneof) (field_of fields n)
 abbrev pub are_siblings : List Field → ℕ → ℕ → Bool
 are_siblings fields n k = passes (field_of fields n) (λ f. is_sibling fields f k)
 
-abbrev pub is_closed_enum : Kind → Bool
-is_closed_enum (ScalarOf (Enum first (Closed numbers))) = true
-is_closed_enum kind = false
+-- Any unknown record stands at an unknown number, and at that of a field one that gives no value, since a closed enum does not declare its number.
+abbrev pub keeps_unknown : List Field → ℕ → Payload → Bool
+keeps_unknown fields n p = unknown_fits (field_of fields n) n p
 
-abbrev pub keeps_unknown_beside : Option Field → Bool
-keeps_unknown_beside None = true
-keeps_unknown_beside (Some f) = is_closed_enum f.value_type.kind
-
--- Unknown fields stand at unknown numbers, and where values are numbers of a closed enum.
-abbrev pub keeps_unknown : List Field → ℕ → Bool
-keeps_unknown fields n = keeps_unknown_beside (field_of fields n)
+abbrev pub all_kept : List Field → ℕ → List Record → Bool
+all_kept fields n rs = list_all (λ (r : Record). keeps_unknown fields n r.payload) rs
 
 -- Records of one number, one at least.
 abbrev pub are_records_of : ℕ → List Record → Bool

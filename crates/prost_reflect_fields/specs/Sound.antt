@@ -2,7 +2,7 @@
 use Rattle.std.specs.Prelude.{◌≡◌, ℕ, Bool, true, false, ◌&&◌, List, Option, None, Some, if◌then◌else◌}
 use Rattle.prost_reflect_wire.specs.Record.{Record}
 use Rattle.prost_reflect_wire.specs.Schema.{Field}
-use Rattle.prost_reflect_fields.specs.Known.{known_of, is_known, are_siblings, keeps_unknown, are_records_of}
+use Rattle.prost_reflect_fields.specs.Known.{known_of, is_known, are_siblings, all_kept, are_records_of}
 use Rattle.prost_reflect_fields.specs.FieldSlots.{has_value, records_at, put_value, without_values}
 use Rattle.prost_reflect_pool.specs.declared.pooled_type.PooledType.{PooledType}
 use Rattle.prost_reflect_fields.specs.declared.slot.FieldSlot.{FieldSlot}
@@ -10,7 +10,7 @@ use Rattle.prost_reflect_fields.specs.declared.slot.FieldSlot.{FieldSlot}
 -- Unknown fields where they may stand, each at its own number.
 abbrev pub unknown_kept : List Field → ℕ → Option (List Record) → Bool
 unknown_kept fields n None = true
-unknown_kept fields n (Some rs) = keeps_unknown fields n && are_records_of n rs
+unknown_kept fields n (Some rs) = all_kept fields n rs && are_records_of n rs
 
 module _ {V : Type 0} where
   abbrev pub ValuesKnown : List Field → List (ℕ × FieldSlot V) → Type 0

@@ -27,7 +27,8 @@ use std::marker::Model;
 /// The values of a message's fields and its unknown fields, by number.
 ///
 /// Values stand at the numbers of fields and extensions alone, and at most one member of a oneof has one.
-/// Unknown fields stand at their own numbers: those that no field has, and those of fields whose values are numbers of a closed enum.
+/// Unknown fields stand at their own numbers: at one that no field has any, and at that of a field those that give it no value, since
+/// a closed enum does not declare their number.
 #[derive(Debug, Drop)]
 pub struct FieldSet<V> {
     message_type: PooledType,
@@ -164,11 +165,11 @@ impl<V: Drop> FieldSet<V> {
         set_value(&mut self.fields, alloc, &self.message_type, number, value)
     }
 
-    /// Adds an unknown field behind those of its number, which is that of no field, or of one whose values are numbers of a closed enum.
-    /// A refused growth changes no value and no unknown field.
+    /// Adds an unknown field behind those of its number, which is that of no field, or of one that takes no value from it, since a
+    /// closed enum does not declare its number. A refused growth changes no value and no unknown field.
     pub fn add_unknown(&mut self, number: u32, field: UnknownField) -> Result<(), AllocError>
         requires own { (record_of field).number ≡ number }
-        requires kept { keeps_unknown (known_of self.old.0) number ≡ true }
+        requires kept { keeps_unknown (known_of self.old.0) number (record_of field).payload ≡ true }
         ensures message_type { self.new.0 ≡ self.old.0 }
         ensures ok { OnOk result (UnknownAdded self.old.1 self.new.1 (record_of field)) }
         ensures err { OnErr result (SameStored self.old.1 self.new.1) }

@@ -41,6 +41,8 @@ mod setting;
 #[cfg(test)]
 mod texts;
 #[cfg(test)]
+mod typed;
+#[cfg(test)]
 mod unknowns;
 #[cfg(test)]
 mod validity;

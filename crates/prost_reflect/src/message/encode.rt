@@ -234,7 +234,7 @@ fn write_entry<S: Sink>(
 impl DynamicMessage {
     /// Appends the encoding of the message: fields and unknown fields in ascending order of their numbers, without the
     /// defaults of fields that have no presence (the encoding guide, "Message Structure"). Each stored value has to fit its
-    /// field, as in every message that `decode` gives. A message inside is written by its own type.
+    /// field, as in every message that `decode` gives; `is_encodable` tells. A message inside is written by its own type.
     ///
     /// # Errors
     ///
@@ -254,7 +254,8 @@ impl DynamicMessage {
         sink.append_to(out)
     }
 
-    /// How many bytes `encode` appends; `None` if they are more than a `usize` counts. No memory is taken.
+    /// How many bytes `encode` appends, which asks the same of the message; `None` if they are more than a `usize` counts. No memory
+    /// is taken.
     pub fn encoded_len(&self) -> Option<usize>
         requires encodable { encodable (content_of self.now) ≡ true }
         ensures { let n = length (encoded (kept (content_of self.now))) in SomeIff result (n < 2 ^ 64) n }

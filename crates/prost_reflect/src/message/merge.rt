@@ -30,6 +30,9 @@ impl DynamicMessage {
     /// Wins", "Oneofs", "Packed Repeated Fields" and "Maps"). So merging the pieces of a message one by one gives what
     /// all of them mean, read as one.
     ///
+    /// The values of the message have to fit their fields, and the messages inside have to be of their fields' types, as in every
+    /// message that `decode` gives: `is_encodable` and `is_typed` tell. So they do afterwards.
+    ///
     /// # Errors
     ///
     /// `Truncated`, `Varint`, `Key`, `WireType`, `EndGroup`, `Utf8` or `Depth` where that fault stands in the bytes, and

@@ -14,7 +14,7 @@ invariant_of-self g c =
     let inside = c.self.inside in
     let fields = known_of inside.message_type in
     let added_record = record_of c.args.field in
-    let keeps : keeps_unknown fields added_record.number ≡ true = ap (keeps_unknown fields) c.requires.own ∙ subst (λ m. keeps_unknown (known_of m.0) c.args.number ≡ true) (sym c.self.view_is) c.requires.kept in
+    let keeps : keeps_unknown fields added_record.number added_record.payload ≡ true = ap (λ n. keeps_unknown fields n added_record.payload) c.requires.own ∙ subst (λ m. keeps_unknown (known_of m.0) c.args.number added_record.payload ≡ true) (sym c.self.view_is) c.requires.kept in
     either c.add_unknown.result c.add_unknown.ensures.ok c.add_unknown.ensures.err
     (λ added. sound_added fields inside.fields c.add_unknown.new.fields added_record added keeps c.self.invariant)
     (λ same. sound_stored fields inside.fields c.add_unknown.new.fields same c.self.invariant)

@@ -1,0 +1,41 @@
+use Rattle.std.proofs.Common.{rules, ◌≡◌, true, ap, sym, ◌∙◌, refl}
+use Rattle.std.proofs.lemmas.List.{drop_all}
+use Rattle.prost_reflect_wire.specs.Typing.{fit_test, value_passes}
+use Rattle.prost_reflect_fields.specs.Known.{known_of}
+use Rattle.prost_reflect.specs.Encodables.{fits_at, slots_pass, items_pass, entries_pass, value_arranged}
+use Rattle.prost_reflect.specs.View.{message_type_of, value_of}
+use Rattle.prost_reflect.proofs.Encodables.{encodable_slots, items_are, entries_are, items_arranged, entries_arranged, slots_arranged}
+use Rattle.prost_reflect.proofs.Views.{value_of_list, value_of_map}
+use Rattle.prost_reflect.proofs.message.encodable.+fitting.Goals as goal
+
+pub message_fits-loop-number-init : goal.message_fits-loop-number-init
+message_fits-loop-number-init t c =
+    let slots = c.slots-number-items.ensures in
+    (ap (slots_pass (fits_at (known_of (message_type_of c.args.message.now)))) slots.slots ∙ encodable_slots c.args.message.now slots.ascending slots.sound, refl)
+
+pub inside_fits-returns-in-List-clause-fits : goal.inside_fits-returns-in-List-clause-fits
+inside_fits-returns-in-List-clause-fits t c = c.items_fit.ensures.fits ∙ items_are fit_test c.in-List.values.items ∙ ap (value_passes fit_test) (sym (ap value_of c.in-List.is ∙ value_of_list c.in-List.values))
+
+pub inside_fits-returns-in-List-clause-arranged : goal.inside_fits-returns-in-List-clause-arranged
+inside_fits-returns-in-List-clause-arranged t c = λ yes. ap value_arranged (ap value_of c.in-List.is ∙ value_of_list c.in-List.values) ∙ c.items_fit.ensures.arranged yes
+
+pub inside_fits-returns-in-Map-clause-fits : goal.inside_fits-returns-in-Map-clause-fits
+inside_fits-returns-in-Map-clause-fits t c = c.entries_fit.ensures.fits ∙ entries_are fit_test c.in-Map.pairs.entries ∙ ap (value_passes fit_test) (sym (ap value_of c.in-Map.is ∙ value_of_map c.in-Map.pairs))
+
+pub inside_fits-returns-in-Map-clause-arranged : goal.inside_fits-returns-in-Map-clause-arranged
+inside_fits-returns-in-Map-clause-arranged t c = λ yes. ap value_arranged (ap value_of c.in-Map.is ∙ value_of_map c.in-Map.pairs) ∙ c.entries_fit.ensures.arranged yes
+
+pub message_fits-returns-clause-arranged : goal.message_fits-returns-clause-arranged
+message_fits-returns-clause-arranged t c =
+    let slots = c.slots-number-items.ensures in
+    λ yes. slots_arranged c.args.message.now slots.ascending slots.sound
+    (ap (slots_pass (λ n v. value_arranged v)) (sym slots.slots) ∙ sym c.loop-number.invariant.1 ∙ ap (slots_pass (λ n v. value_arranged v)) (drop_all c.loop-number.number-index c.slots-number-items.result.now c.loop-number-test.false))
+
+pub items_fit-returns-clause-arranged : goal.items_fit-returns-clause-arranged
+items_fit-returns-clause-arranged t c =
+    λ yes. items_arranged c.args.values.now.items (sym c.loop-value.invariant.1 ∙ ap (items_pass value_arranged) (drop_all c.loop-value.value-index _ c.loop-value-test.false))
+
+pub entries_fit-returns-clause-arranged : goal.entries_fit-returns-clause-arranged
+entries_fit-returns-clause-arranged t c =
+    let all : entries_pass value_arranged c.args.pairs.now.entries ≡ true = search rules in
+    λ yes. entries_arranged c.args.pairs.now.entries c.iter-value-items.ensures.ordered all

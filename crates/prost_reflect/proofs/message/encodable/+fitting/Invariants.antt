@@ -1,0 +1,22 @@
+use Rattle.std.proofs.Common.{◌≡◌, drop}
+use Rattle.prost_reflect_wire.specs.Typing.{fit_test, value_passes, encodable}
+use Rattle.prost_reflect_fields.specs.Known.{known_of}
+use Rattle.prost_reflect.specs.Encodables.{fits_at, slots_pass, items_pass, entries_pass, value_arranged}
+use Rattle.prost_reflect.specs.View.{content_of, message_type_of}
+use Rattle.prost_reflect.proofs.message.encodable.+fitting.Given as goal
+
+-- all fit, and are in order, where those that are left are
+abbrev pub invariant-message_fits-loop-number : goal.invariant-message_fits-loop-number
+invariant-message_fits-loop-number l =
+    (slots_pass (fits_at (known_of (message_type_of l.message))) (drop l.number-index l.number-items) ≡ encodable (content_of l.message)) ×
+    (slots_pass (λ n v. value_arranged v) (drop l.number-index l.number-items) ≡ slots_pass (λ n v. value_arranged v) l.number-items)
+
+abbrev pub invariant-items_fit-loop-value : goal.invariant-items_fit-loop-value
+invariant-items_fit-loop-value l =
+    (items_pass (value_passes fit_test) (drop l.value-index l.value-items) ≡ items_pass (value_passes fit_test) l.values.items) ×
+    (items_pass value_arranged (drop l.value-index l.value-items) ≡ items_pass value_arranged l.values.items)
+
+abbrev pub invariant-entries_fit-loop-value : goal.invariant-entries_fit-loop-value
+invariant-entries_fit-loop-value l =
+    (entries_pass (value_passes fit_test) l.value-iterator ≡ entries_pass (value_passes fit_test) l.pairs.entries) ×
+    (entries_pass value_arranged l.value-iterator ≡ entries_pass value_arranged l.pairs.entries)
