@@ -2,7 +2,7 @@
 
 use prost_reflect_tables::{
     Catalog, EnumTable, FieldTable, Flat, FlatMessage, Identity, MessageTable, PoolError,
-    TableKind, Tables, WrittenDefault, build_tables, check_files, flattened, all_resolved, linked,
+    TableKind, Tables, WrittenDefault, all_resolved, build_tables, check_files, flattened, linked,
     written_default,
 };
 use prost_reflect_types::FileDescriptorProto;
