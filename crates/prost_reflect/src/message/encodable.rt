@@ -100,7 +100,7 @@ fn entries_fit(pairs: &BTreeMap<MapKey, Value>) -> bool
 }
 
 /// Whether the message type has a field or an extension of the number that takes the value. No message is looked into.
-fn takes_value(message_type: &PooledType, number: u32, value: &Value) -> bool
+pub(super) fn takes_value(message_type: &PooledType, number: u32, value: &Value) -> bool
     ensures { result ≡ passes (field_of (known_of message_type.now) number) (λ f. value_valid f (value_of value.now)) }
 {
     match message_type.field_table(number) {

@@ -11,8 +11,8 @@ ghost use Rattle.prost_reflect.specs.declared.message.setting.SetFieldError.TheV
 use crate::descriptor::FieldDescriptor;
 use crate::descriptor::forms::is_repeated;
 use crate::message::DynamicMessage;
+use crate::message::encodable::takes_value;
 use crate::value::Value;
-use crate::value::valid::value_valid;
 use prost_reflect_pool::LinkedPool;
 use prost_reflect_tables::{FieldTable, TableKind};
 use std::alloc::AllocError;
@@ -193,23 +193,12 @@ impl DynamicMessage {
         ensures err { OnErr result (self.new ≡ self.old) }
         ensures refused { IfErr result (RefusesFound (message_type_of self.old) (Some number) value) }
     {
-        if self.takes_at(number, &value) {
+        if takes_value(self.message_type(), number, &value) {
             self.set_value(number, value)?;
             Ok(())
         } else {
             let field = self.field_at(number)?;
             Err(SetFieldError::InvalidType { field, value })
-        }
-    }
-
-    /// Whether the field or extension of a number takes the value, by its form and its kind.
-    fn takes_at(&self, number: u32, value: &Value) -> bool
-        ensures { result ≡ takes_at (message_type_of self.now) number value.now }
-    {
-        let message_type = self.message_type();
-        match message_type.field_table(number) {
-            Some(field) => value_valid(message_type.pool(), field, value),
-            None => false,
         }
     }
 
