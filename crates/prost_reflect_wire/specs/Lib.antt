@@ -2,6 +2,7 @@ pub mod Varint
 pub mod Record
 pub mod Front
 pub mod Buffer
+pub mod Blocks
 pub mod Sinks
 pub mod Unknown
 pub mod Scalar

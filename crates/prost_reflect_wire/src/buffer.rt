@@ -5,7 +5,9 @@ ghost use Rattle.std.specs.Prelude.{◌≤◌, length};
 use crate::error::EncodeError;
 use crate::key::{FieldNumber, WireType, key_value};
 use std::alloc::{AllocError, Global};
-use std::mem;
+
+/// The least room that a growth gives.
+const LEAST_CAPACITY: usize = 64;
 
 /// Bytes to which more are added in front.
 #[derive(Drop)]
@@ -16,7 +18,7 @@ pub struct BackBuffer {
 }
 
 impl BackBuffer {
-    ghost use Rattle.std.specs.Prelude.{◌≡◌, ◌+◌, ◌*◌, ◌<◌, ◌^◌, ◌++◌, [], true, OnOk, OnErr, IfErr};
+    ghost use Rattle.std.specs.Prelude.{◌≡◌, ◌+◌, ◌*◌, ◌<◌, ◌^◌, ◌++◌, [], true, OnOk, OnErr, IfOk, IfErr};
     ghost use Rattle.prost_reflect_wire.specs.Varint.{are_bytes, short};
     ghost use Rattle.prost_reflect_wire.specs.Record.{short_key};
     ghost use Rattle.prost_reflect_wire.specs.Buffer.{bytes_of, Prepended};
@@ -31,6 +33,34 @@ impl BackBuffer {
         }
     }
 
+    /// No bytes, and room for so many.
+    ///
+    /// # Errors
+    ///
+    /// `AllocError` if the memory is refused.
+    pub(crate) fn with_capacity(alloc: Global, capacity: usize) -> Result<BackBuffer, AllocError>
+        ensures { IfOk result (λ buffer. bytes_of buffer ≡ []) }
+    {
+        Ok(BackBuffer {
+            bytes: Vec::from_elem(alloc, 0, capacity)?,
+            start: capacity,
+        })
+    }
+
+    /// These bytes, and no room for more.
+    ///
+    /// # Errors
+    ///
+    /// `AllocError` if the memory is refused.
+    pub(crate) fn from_slice(alloc: Global, bytes: &[u8]) -> Result<BackBuffer, AllocError>
+        ensures { IfOk result (λ buffer. bytes_of buffer ≡ bytes.now) }
+    {
+        Ok(BackBuffer {
+            bytes: Vec::from_slice(alloc, bytes)?,
+            start: 0,
+        })
+    }
+
     /// The bytes, those added last first.
     pub fn as_slice(&self) -> &[u8]
         ensures { result.now ≡ bytes_of self.now }
@@ -38,16 +68,19 @@ impl BackBuffer {
         &self.bytes[self.start..]
     }
 
-    /// The bytes, which the buffer gives away.
-    pub(crate) fn take(&mut self) -> BackBuffer
-        ensures taken { bytes_of result ≡ bytes_of self.old }
-        ensures left { bytes_of self.new ≡ [] }
-    {
-        let empty = BackBuffer::new(*self.bytes.allocator());
-        mem::replace(self, empty)
+    /// What the bytes are stored with.
+    pub(crate) fn allocator(&self) -> Global {
+        *self.bytes.allocator()
+    }
+
+    /// How many bytes can be added before the buffer grows.
+    #[inline]
+    pub(crate) fn room(&self) -> usize {
+        self.start
     }
 
     /// How many bytes were added.
+    #[inline]
     pub fn len(&self) -> usize
         ensures { result ≡ length (bytes_of self.now) }
     {
@@ -55,20 +88,19 @@ impl BackBuffer {
     }
 
     /// Makes room for so many bytes in front, at least doubling what is there.
+    #[cold]
+    #[inline(never)]
     fn reserve(&mut self, additional: usize) -> Result<(), EncodeError>
         ensures same { bytes_of self.new ≡ bytes_of self.old }
         ensures ok { OnOk result (additional ≤ self.new.start) }
         ensures too_long { IfErr result (λ e. e ≡ EncodeError.TooLong → 2 ^ 64 ≤ additional + length (bytes_of self.old)) }
     {
-        if additional <= self.start {
-            return Ok(());
-        }
         let used = self.len();
         let Some(needed) = used.checked_add(additional) else {
             return Err(EncodeError::TooLong);
         };
-        let doubled = 2 * self.bytes.len();
-        let size = if needed < doubled { doubled } else { needed };
+        let doubled = (2 * self.bytes.len()).max(LEAST_CAPACITY);
+        let size = needed.max(doubled);
         let mut grown = Vec::from_elem(*self.bytes.allocator(), 0, size)?;
         let start = size - used;
         grown[start..].copy_from_slice(self.as_slice());
@@ -82,12 +114,15 @@ impl BackBuffer {
     /// # Errors
     ///
     /// `TooLong` if the whole passes the greatest `usize`, `OutOfMemory` if a growth is refused; the buffer stays.
+    #[inline]
     pub fn prepend(&mut self, front: &[u8]) -> Result<(), EncodeError>
         ensures ok { Prepended result (bytes_of self.old) (bytes_of self.new) front.now }
         ensures bytes { are_bytes front.now ≡ true }
         ensures err { OnErr result (bytes_of self.new ≡ bytes_of self.old) }
     {
-        self.reserve(front.len())?;
+        if self.start < front.len() {
+            self.reserve(front.len())?;
+        }
         let start = self.start - front.len();
         self.bytes[start..self.start].copy_from_slice(front);
         self.start = start;
@@ -99,12 +134,16 @@ impl BackBuffer {
     /// # Errors
     ///
     /// As `prepend`.
+    #[inline]
     pub fn prepend_varint(&mut self, value: u64) -> Result<(), EncodeError>
         ensures ok { Prepended result (bytes_of self.old) (bytes_of self.new) (short value) }
         ensures err { OnErr result (bytes_of self.new ≡ bytes_of self.old) }
     {
         if value < 0x80 {
             return self.prepend(&[value as u8]);
+        }
+        if value < 0x4000 {
+            return self.prepend(&[(0x80 + value % 0x80) as u8, (value / 0x80) as u8]);
         }
         self.prepend_digits(value)
     }

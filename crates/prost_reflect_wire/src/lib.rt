@@ -1,6 +1,7 @@
 //! The wire format of Protocol Buffers: definitions, readers and writers.
 #![tactic(auto)]
 
+mod blocks;
 mod buffer;
 mod error;
 mod key;

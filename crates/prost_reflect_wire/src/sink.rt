@@ -5,7 +5,7 @@ ghost use Rattle.prost_reflect_wire.specs.Varint.{are_bytes, short};
 ghost use Rattle.prost_reflect_wire.specs.Record.{short_key};
 ghost use Rattle.prost_reflect_wire.specs.Sinks.{Adds};
 
-use crate::buffer::BackBuffer;
+use crate::blocks::Blocks;
 use crate::error::EncodeError;
 use crate::key::{WireType, key_value};
 use crate::varint::varint_len;
@@ -39,7 +39,7 @@ pub trait Sink {
 /// Bytes from the last on, and whether all of them were taken.
 #[derive(Drop)]
 pub struct ByteSink {
-    pub(crate) buffer: BackBuffer,
+    pub(crate) blocks: Blocks,
     pub(crate) outcome: Result<(), EncodeError>,
 }
 
@@ -58,7 +58,6 @@ pub fn write_key<S: Sink>(sink: &mut S, number: u32, wire_type: WireType)
 
 impl ByteSink {
     ghost use Rattle.std.specs.Prelude.{◌≤◌, ◌<◌, ◌^◌, Ok, OnOk, OnErr, IfErr};
-    ghost use Rattle.prost_reflect_wire.specs.Buffer.{bytes_of};
     ghost use Rattle.prost_reflect_wire.specs.Sinks.{HasNoBytes, written_since};
 
     /// No bytes, none of which was refused.
@@ -66,30 +65,9 @@ impl ByteSink {
         ensures { HasNoBytes result }
     {
         ByteSink {
-            buffer: BackBuffer::new(alloc),
+            blocks: Blocks::new(alloc),
             outcome: Ok(()),
         }
-    }
-
-    /// The bytes of a buffer, which is left empty.
-    pub(crate) fn behind(buffer: &mut BackBuffer) -> ByteSink
-        ensures bytes { bytes_of result.buffer ≡ bytes_of buffer.old }
-        ensures outcome { result.outcome ≡ Ok tt }
-    {
-        let buffer = buffer.take();
-        ByteSink {
-            buffer,
-            outcome: Ok(()),
-        }
-    }
-
-    /// Puts the bytes back into a buffer, and says whether all were taken.
-    pub(crate) fn put_back(self, buffer: &mut BackBuffer) -> Result<(), EncodeError>
-        ensures bytes { bytes_of buffer.new ≡ bytes_of self.buffer }
-        ensures outcome { result ≡ self.outcome }
-    {
-        *buffer = self.buffer;
-        self.outcome
     }
 
     /// Appends the bytes to the output, in one growth.
@@ -104,7 +82,7 @@ impl ByteSink {
         ensures too_long { IfErr result (λ e. e ≡ EncodeError.TooLong → (start : ByteSink) (front : List ℕ) → HasNoBytes start → Adds written_since start self front → 2 ^ 64 ≤ length front) }
     {
         self.outcome?;
-        self.buffer.append_to(out)?;
+        self.blocks.append_to(out)?;
         Ok(())
     }
 }
@@ -130,31 +108,35 @@ impl LengthSink {
 }
 
 impl Sink for ByteSink {
-    ghost use Rattle.prost_reflect_wire.specs.Buffer.{bytes_of};
+    ghost use Rattle.prost_reflect_wire.specs.Blocks.{bytes_in};
     ghost use Rattle.prost_reflect_wire.specs.Sinks.{written_since};
 
     ghost added = { written_since };
 
-    ghost held = { λ w. length (bytes_of w.buffer) };
+    ghost held = { λ w. length (bytes_in w.blocks) };
 
+    #[inline]
     fn len(&self) -> usize {
-        self.buffer.len()
+        self.blocks.len()
     }
 
+    #[inline]
     fn prepend(&mut self, front: &[u8]) {
         if self.outcome.is_ok() {
-            self.outcome = self.buffer.prepend(front);
+            self.outcome = self.blocks.prepend(front);
         }
     }
 
+    #[inline]
     fn prepend_varint(&mut self, value: u64) {
         if self.outcome.is_ok() {
-            self.outcome = self.buffer.prepend_varint(value);
+            self.outcome = self.blocks.prepend_varint(value);
         }
     }
 
+    #[inline]
     fn prepend_len_since(&mut self, before: usize) {
-        let len = self.buffer.len().saturating_sub(before);
+        let len = self.blocks.len().saturating_sub(before);
         self.prepend_varint(len as u64);
     }
 }

@@ -114,13 +114,15 @@ impl UnknownFieldSet {
 ///
 /// # Errors
 ///
-/// `TooLong` if the whole passes the greatest `usize`, `OutOfMemory` if a growth is refused; a part of the records may
-/// then stand in front.
+/// `TooLong` if the whole passes the greatest `usize`, `OutOfMemory` if a growth is refused; the buffer stays.
 pub fn prepend_fields(fields: &UnknownFieldSet, out: &mut BackBuffer) -> Result<(), EncodeError>
     ensures ok { Prepended result (bytes_of out.old) (bytes_of out.new) (spelled (records_of fields.now)) }
     ensures valid { OnOk result (valid (body_of (records_of fields.now)) ≡ true) }
+    ensures err { OnErr result (bytes_of out.new ≡ bytes_of out.old) }
 {
-    let mut sink = ByteSink::behind(out);
+    let mut sink = ByteSink::new(out.allocator());
     write_fields(&mut sink, fields);
-    sink.put_back(out)
+    let mut bytes = Vec::new(out.allocator());
+    sink.append_to(&mut bytes)?;
+    out.prepend(bytes.as_slice())
 }

@@ -1,5 +1,9 @@
-use Rattle.prost_reflect_wire.proofs.SinkSteps.{written_behind}
+use Rattle.std.proofs.Common.{List, ℕ, ◌++◌, ap, ◌∙◌}
+use Rattle.prost_reflect_wire.specs.Record.{spelled}
+use Rattle.prost_reflect_wire.specs.Unknown.{records_of}
 use Rattle.prost_reflect_wire.proofs.unknown.writing.prepend_fields.Goals as goal
 
 pub returns-clause-ok : goal.returns-clause-ok
-returns-clause-ok c = let w = written_behind _ _ _ c.behind-sink.ensures.outcome c.write_fields.ensures.added in rw (c.put_back.ensures.outcome, c.put_back.ensures.bytes) (rw c.behind-sink.ensures.bytes at w)
+returns-clause-ok c =
+    let written = c.in_ok-append_to.ensures.ok _ _ c.new-sink.ensures c.write_fields.ensures.added in
+    rw (c.as_slice.ensures.value ∙ written ∙ ap (λ (l : List ℕ). l ++ spelled (records_of c.args.fields.now)) c.new-bytes.ensures.items) at c.prepend.ensures.ok

@@ -1,0 +1,29 @@
+-- Buffers in front of one another.
+use Rattle.std.proofs.Common.{◌≡◌, ℕ, ◌+◌, ◌^◌, ◌<◌, List, [], ◌∷◌, ◌++◌, length, sym, ap, ◌∙◌, arith, append_assoc, append-nil, length-append}
+use Rattle.std.proofs.lemmas.List.{length-drop}
+use Rattle.prost_reflect_wire.specs.declared.buffer.BackBuffer.{BackBuffer}
+use Rattle.prost_reflect_wire.specs.declared.blocks.Blocks.{Blocks}
+use Rattle.prost_reflect_wire.specs.Buffer.{bytes_of, joined}
+use Rattle.prost_reflect_wire.specs.Blocks.{bytes_in}
+
+pub buffer_small : (b : BackBuffer) → length (bytes_of b) < 2 ^ 63
+buffer_small b = let v = b.bytes in omega (arith, length-drop b.start v.items, v.ok.0, v.ok.1, v.small)
+
+-- fewer bytes than a usize counts
+pub blocks_fit : (b : Blocks) → length (bytes_in b) < 2 ^ 64
+blocks_fit b = omega (arith, length-append (bytes_of b.front) (joined b.behind.items), buffer_small b.front, b.counted, b.small)
+
+-- one buffer more, in front of the others
+pub joined_more : (bs : List BackBuffer) (b : BackBuffer) → joined (bs ++ b ∷ []) ≡ bytes_of b ++ joined bs
+joined_more [] b = sym (append-nil (bytes_of b))
+joined_more (a ∷ bs) b = ap (λ (l : List ℕ). l ++ bytes_of a) (joined_more bs b) ∙ append_assoc (bytes_of b) (joined bs) (bytes_of a)
+
+-- A FURTHER BUFFER
+
+pub put_counted : (old : Blocks) (full : BackBuffer) (news : List BackBuffer) (len : ℕ) → len ≡ length (bytes_in old) → full ≡ old.front → news ≡ old.behind.items ++ full ∷ [] → len ≡ length (joined news)
+put_counted old full news len counted is items = counted ∙ ap length (sym (ap joined items ∙ joined_more old.behind.items full ∙ ap (λ (b : BackBuffer). bytes_of b ++ joined old.behind.items) is))
+
+pub put_bytes : (old : Blocks) (full first next : BackBuffer) (news : List BackBuffer) → first ≡ next → full ≡ old.front → news ≡ old.behind.items ++ full ∷ [] → bytes_of first ++ joined news ≡ bytes_of next ++ bytes_in old
+put_bytes old full first next news same is items =
+    ap (λ (b : BackBuffer). bytes_of b ++ joined news) same
+    ∙ ap (λ (l : List ℕ). bytes_of next ++ l) (ap joined items ∙ joined_more old.behind.items full ∙ ap (λ (b : BackBuffer). bytes_of b ++ joined old.behind.items) is)
