@@ -58,7 +58,7 @@ apart_of n k h = by_number n k (λ e. absurd (h (sym e))) (λ a. a)
 pub at_each : (P : ℕ → Type 0) (n : ℕ) → P n → ((k : ℕ) → Apart n k → P k) → (k : ℕ) → P k
 at_each P n here apart k = by_number n k (λ e. subst P e here) (apart k)
 
-all_later : (n m : ℕ) (ks : List ℕ) → nat_cmp n m ≡ Less → AllByRecursion (λ y. nat_cmp m y ≡ Less) ks → AllByRecursion (λ y. nat_cmp n y ≡ Less) ks
+pub all_later : (n m : ℕ) (ks : List ℕ) → nat_cmp n m ≡ Less → AllByRecursion (λ y. nat_cmp m y ≡ Less) ks → AllByRecursion (λ y. nat_cmp n y ≡ Less) ks
 all_later n m [] l all = tt
 all_later n m (k ∷ ks) l all = (nat_cmp_total.trans n m k l all.0, all_later n m ks l all.1)
 
@@ -96,7 +96,7 @@ module _ {T : Type 0} where
       cases true at rest = none_above n es (subst (λ z. AllByRecursion (λ y. nat_cmp z y ≡ Less) (keys_of es)) (sym (exact_unsigned n e.0 (equal_is _ at))) s.0)
       cases false at rest = rw at rest
 
-  all_without : (P : ℕ → Type 0) (es : List (ℕ × T)) (n : ℕ) → AllByRecursion P (keys_of es) → AllByRecursion P (keys_of (without_item es n))
+  pub all_without : (P : ℕ → Type 0) (es : List (ℕ × T)) (n : ℕ) → AllByRecursion P (keys_of es) → AllByRecursion P (keys_of (without_item es n))
   all_without P [] n a = a
   all_without P (e ∷ es) n a = cases (is_eq (nat_cmp n e.0)) (all_without P es n a.1)
     where
@@ -125,7 +125,7 @@ module _ {T : Type 0} where
   pub without_apart : (es : List (ℕ × T)) (n k : ℕ) → Apart n k → item_at (without_item es n) k ≡ item_at es k
   without_apart es n k a = lookup-remove_entry_apart (is_at (nat_cmp n)) (is_at (nat_cmp k)) (apart_tests n k a) es
 
-  all_put : (P : ℕ → Type 0) (es : List (ℕ × T)) (n : ℕ) (t : T) → P n → AllByRecursion P (keys_of es) → AllByRecursion P (keys_of (put_item es n t))
+  pub all_put : (P : ℕ → Type 0) (es : List (ℕ × T)) (n : ℕ) (t : T) → P n → AllByRecursion P (keys_of es) → AllByRecursion P (keys_of (put_item es n t))
   all_put P [] n t p all = (p, tt)
   all_put P (e ∷ es) n t p all = cases (nat_cmp n e.0) (all_put P es n t p all.1)
     where

@@ -7,4 +7,5 @@ pub mod SoundChanges
 pub mod ValuesAlone
 mod MembersCleared
 pub mod Replaced
+mod Weaving
 mod WholeOneofs

@@ -1,16 +1,14 @@
 -- Maps with what others have at the numbers of a set.
-use Rattle.std.proofs.Common.{◌≡◌, ℕ, Bool, true, false, cond, not, List, [], ◌∷◌, ◌++◌, Option, Some, None, refl, ap, ap₂, sym, subst, ◌∙◌, true≢false}
-use mathlib.Core.Bool.{beq}
+use Rattle.std.proofs.Common.{◌≡◌, ℕ, Bool, true, false, cond, List, [], ◌∷◌, ◌++◌, Option, Some, None, refl, ap, ap₂, sym, subst, ◌∙◌, true≢false}
 use Rattle.std.specs.Option.{option_and_then, is_some}
 use Rattle.std.specs.Ordering.{nat_cmp, is_eq}
 use Rattle.std.specs.BTreeSet.{BTreeSet}
 use Rattle.std.specs.List.Sorted.{IsStrictlySortedBy}
-use Rattle.prost_reflect_wire.specs.Record.{Record}
 use Rattle.prost_reflect_wire.specs.Schema.{Field, numbers_differ}
 use Rattle.prost_reflect_fields.specs.declared.slot.FieldSlot.{FieldSlot}
 use Rattle.prost_reflect_fields.specs.Items.{IsAscending, item_at, put_item}
 use Rattle.prost_reflect_fields.specs.Known.{is_known, are_siblings}
-use Rattle.prost_reflect_fields.specs.FieldSlots.{value_in, records_in, value_at, records_at, has_value}
+use Rattle.prost_reflect_fields.specs.FieldSlots.{value_in, records_in, value_at, records_at}
 use Rattle.prost_reflect_fields.specs.Sound.{Sound, unknown_kept}
 use Rattle.prost_reflect_fields.specs.NumberSets.{has, HasWholeOneofs, is_chosen, put_chosen, AreReplaced}
 use Rattle.prost_reflect_fields.proofs.ItemChanges.{Apart, by_number, put_same, put_apart, none_above, ascending_put_item, itself}
@@ -67,17 +65,6 @@ module _ {T : Type 0} where
       cases true = ascending_put_item es d.0 d.1 s
       cases false = s
 
-  -- an item of a number that passes
-  pub chosen_put : (numbers : BTreeSet ℕ) (inside : Bool) (es ds : List (ℕ × T)) (n : ℕ) (t : T) (b : Bool) → b ≡ has numbers n → beq b inside ≡ true →
-      put_chosen (is_chosen numbers inside) (put_item es n t) ds ≡ put_chosen (is_chosen numbers inside) es ((n, t) ∷ ds)
-  chosen_put numbers inside es ds n t b is same = ap (λ b. put_chosen (is_chosen numbers inside) (cond b (put_item es n t) es) ds) (sym (ap (λ a. cond inside a (not a)) (sym is) ∙ cases b inside same))
-    where
-      cases : (a c : Bool) → beq a c ≡ true → cond c a (not a) ≡ true
-      cases true true h = refl
-      cases true false h = absurd (true≢false (sym h))
-      cases false true h = absurd (true≢false (sym h))
-      cases false false h = refl
-
   -- one more at the end
   pub chosen_last : (test : ℕ → Bool) (es ds : List (ℕ × T)) (d : ℕ × T) → put_chosen test es (ds ++ d ∷ []) ≡ chosen test (put_chosen test es ds) d
   chosen_last test es [] d = refl
@@ -98,23 +85,6 @@ module _ {T : Type 0} where
       cases : (n : ℕ) (b : Bool) → cond b (else_at (item_at es n) None) None ≡ cond b (item_at es n) None
       cases n true = else_none (item_at es n)
       cases n false = refl
-
-  -- those of the set among the others, and those outside of it among the old ones
-  pub all_replaced : (numbers : BTreeSet ℕ) (old others none : List (ℕ × T)) → IsAscending old → IsAscending others → none ≡ []
-      → AreReplaced numbers old others (put_chosen (is_chosen numbers false) (put_chosen (is_chosen numbers true) none others) old)
-  all_replaced numbers old others none s r e = record {
-    at = λ n.
-        chosen_at (is_chosen numbers false) (put_chosen (is_chosen numbers true) none others) old n s
-        ∙ ap (λ q. cond (not (has numbers n)) (else_at (item_at old n) q) q) (chosen_at (is_chosen numbers true) none others n r ∙ ap (λ es. cond (has numbers n) (else_at (item_at others n) (item_at es n)) (item_at es n)) e)
-        ∙ cases n (has numbers n);
-    old_ascends = s;
-    others_ascend = r;
-    ascends = ascending_chosen (is_chosen numbers false) (put_chosen (is_chosen numbers true) none others) old (ascending_chosen (is_chosen numbers true) none others (empty_ascends none e));
-  }
-    where
-      cases : (n : ℕ) (b : Bool) → cond (not b) (else_at (item_at old n) (cond b (else_at (item_at others n) None) None)) (cond b (else_at (item_at others n) None) None) ≡ cond b (item_at others n) (item_at old n)
-      cases n true = else_none (item_at others n)
-      cases n false = else_none (item_at old n)
 
 -- WHAT A MESSAGE'S SLOTS KEEP
 

@@ -1,6 +1,6 @@
 //! A map from numbers as a sorted vector.
 
-ghost use Rattle.std.specs.Prelude.{◌≡◌, ◌+◌, ◌<◌, ◌≤◌, ℕ, List, [], length, IsOk, OnOk, OnErr, Some, slice_get, vec_len, vec_capacity};
+ghost use Rattle.std.specs.Prelude.{◌≡◌, ◌+◌, ◌<◌, ◌≤◌, ◌++◌, ◌∷◌, ℕ, List, [], length, OnOk, OnErr, IfNone, Some, slice_get, vec_len, vec_capacity};
 ghost use Rattle.std.specs.Map.{values_of};
 ghost use Rattle.std.specs.Borrow.{Lends, LendsIf, sem};
 ghost use Rattle.std.specs.Option.{option_copied, option_copied_mut, option_map};
@@ -9,13 +9,16 @@ ghost use Rattle.std_collections.specs.Layout.BTreeMap.{seek, index_of};
 ghost use Rattle.std_collections.specs.Layout.Columns.{set_value_at};
 ghost use Rattle.prost_reflect_fields.specs.contracts.sorted_map.SortedMap.{the_row};
 ghost use Rattle.prost_reflect_fields.specs.Items.{IsAscending, item_at, with_item, put_item, without_item, first_from, last_below};
-ghost use Rattle.prost_reflect_fields.specs.NumberSets.{is_chosen, put_chosen, AreReplaced};
+ghost use Rattle.std.specs.Option.{option_to_list};
+ghost use Rattle.std.specs.Vec.Iter.{into_iter_items, into_iter_len};
+ghost use Rattle.prost_reflect_fields.specs.NumberSets.{has, is_up_to, chosen_up_to, left_beyond, AreReplaced};
 
 use crate::number_map::NumberMap;
 use std::alloc::{AllocError, Global};
 use std::collections::BTreeSet;
 use std::marker::Model;
 use std::mem;
+use std::vec::IntoIter;
 
 /// A map from numbers as a sorted vector.
 #[derive(Debug, Drop)]
@@ -173,13 +176,14 @@ impl<T: Drop> SortedMap<T> {
         ensures ok { OnOk result (AreReplaced numbers.now self.old others self.new) }
         ensures err { OnErr result (self.new ≡ self.old) }
     {
-        let alloc = self.allocator();
         let SortedMap { items: news } = others;
-        let mut items = Vec::with_capacity(alloc, news.len())?;
-        put_all(&mut items, news, numbers, true);
-        items.reserve(self.items.len())?;
+        let Some(count) = self.items.len().checked_add(news.len()) else {
+            return Err(AllocError);
+        };
+        let alloc = self.allocator();
+        let mut items = Vec::with_capacity(alloc, count)?;
         let olds = mem::replace(&mut self.items, Vec::new(alloc));
-        put_all(&mut items, olds, numbers, false);
+        weave(&mut items, olds, news, numbers);
         self.items = items;
         Ok(())
     }
@@ -203,14 +207,11 @@ fn place_in<T>(items: &[(u32, T)], number: u32) -> Result<usize, usize>
     items.binary_search_by_key(&number, |item| item.0)
 }
 
-/// Puts the item at the number, in place of one that is there. A refused growth changes nothing; where there is room, none is refused.
+/// Puts the item at the number, in place of one that is there. A refused growth changes nothing.
 fn put<T: Drop>(items: &mut Vec<(u32, T)>, number: u32, item: T) -> Result<(), AllocError>
     requires { IsAscending items.old.items }
     ensures ok { OnOk result (items.new.items ≡ put_item items.old.items number item) }
     ensures err { OnErr result (items.new.items ≡ items.old.items) }
-    ensures length { vec_len items.new ≤ vec_len items.old + 1 }
-    ensures capacity { vec_capacity items.old ≤ vec_capacity items.new }
-    ensures room { vec_len items.old < vec_capacity items.old → IsOk result }
 {
     match place_in(items, number) {
         Ok(index) => items[index] = (number, item),
@@ -219,24 +220,81 @@ fn put<T: Drop>(items: &mut Vec<(u32, T)>, number: u32, item: T) -> Result<(), A
     Ok(())
 }
 
-/// Puts the others in whose numbers are in the set, or those whose numbers are not. There is room for all.
-fn put_all<T: Drop>(
+/// Puts behind `items`, which are none yet, the others whose numbers are in the set and the old ones whose numbers are not, in one
+/// walk over both in ascending order. There is room for all.
+fn weave<T: Drop>(
     items: &mut Vec<(u32, T)>,
+    olds: Vec<(u32, T)>,
     others: Vec<(u32, T)>,
     numbers: &BTreeSet<u32>,
-    inside: bool,
 )
-    requires ascending { IsAscending items.old.items }
-    requires room { vec_len items.old + vec_len others ≤ vec_capacity items.old }
-    ensures { items.new.items ≡ put_chosen (is_chosen numbers.now inside) items.old.items others.items }
+    requires empty { items.old.items ≡ [] }
+    requires room { vec_len olds + vec_len others ≤ vec_capacity items.old }
+    requires olds { IsAscending olds.items }
+    requires others { IsAscending others.items }
+    ensures { AreReplaced numbers.now olds.items others.items items.new.items }
 {
-    for (number, item) in others {
-        if numbers.contains(&number) == inside {
-            match put(items, number, item) {
-                Ok(()) => {}
-                Err(_) => unreachable!(),
-            }
+    let mut others = others.into_iter();
+    let mut next = others.next();
+    for (number, item) in olds {
+        if !numbers.contains(&number) {
+            next = push_up_to(items, next, &mut others, Some(number), numbers);
+            push_last(items, (number, item));
         }
+    }
+    drop(push_up_to(items, next, &mut others, None, numbers));
+}
+
+/// Puts the others up to the bound, or all where there is none, behind `items`: those whose numbers are in the set. Answers the
+/// first that is beyond the bound. There is room for all.
+fn push_up_to<T: Drop>(
+    items: &mut Vec<(u32, T)>,
+    next: Option<(u32, T)>,
+    others: &mut IntoIter<(u32, T), Global>,
+    bound: Option<u32>,
+    numbers: &BTreeSet<u32>,
+) -> Option<(u32, T)>
+    requires room { vec_len items.old + (length (option_to_list next) + into_iter_len others.old) ≤ vec_capacity items.old }
+    requires ended { IfNone next (into_iter_items others.old ≡ []) }
+    ensures items { items.new.items ≡ items.old.items ++ chosen_up_to (has numbers.now) bound (option_to_list next ++ into_iter_items others.old) }
+    ensures left { option_to_list result ++ into_iter_items others.new ≡ left_beyond bound (option_to_list next ++ into_iter_items others.old) }
+    ensures ended { IfNone result (into_iter_items others.new ≡ []) }
+    ensures room { vec_len items.new + (length (option_to_list result) + into_iter_len others.new) ≤ vec_len items.old + (length (option_to_list next) + into_iter_len others.old) }
+    ensures capacity { vec_capacity items.old ≤ vec_capacity items.new }
+{
+    let mut next = next;
+    while let Some((number, item)) = next {
+        if !is_up_to(number, bound) {
+            return Some((number, item));
+        }
+        if numbers.contains(&number) {
+            push_last(items, (number, item));
+        }
+        next = others.next();
+    }
+    None
+}
+
+/// Whether the number is not beyond the bound, if there is one.
+fn is_up_to(number: u32, bound: Option<u32>) -> bool
+    ensures { result ≡ is_up_to bound number }
+{
+    match bound {
+        Some(bound) => number <= bound,
+        None => true,
+    }
+}
+
+/// Puts an item behind those that are there, for which there is room.
+pub(crate) fn push_last<T: Drop>(items: &mut Vec<T>, item: T)
+    requires { vec_len items.old < vec_capacity items.old }
+    ensures items { items.new.items ≡ items.old.items ++ item ∷ [] }
+    ensures len { vec_len items.new ≡ vec_len items.old + 1 }
+    ensures capacity { vec_capacity items.old ≤ vec_capacity items.new }
+{
+    match items.push(item) {
+        Ok(()) => {}
+        Err(_) => unreachable!(),
     }
 }
 

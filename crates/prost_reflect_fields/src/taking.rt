@@ -5,7 +5,7 @@ ghost use Rattle.prost_reflect_fields.specs.Items.{IsAscending};
 ghost use Rattle.prost_reflect_fields.specs.FieldSlots.{unknown_in_slot, unknown_sets, value_alone, values_alone};
 
 use crate::slot::FieldSlot;
-use crate::sorted_map::SortedMap;
+use crate::sorted_map::{SortedMap, push_last};
 use prost_reflect_wire::UnknownFieldSet;
 use std::alloc::{AllocError, Global};
 
@@ -63,22 +63,9 @@ fn part<V: Drop>(
 {
     let (value, unknown) = slot.into_parts();
     if let Some(value) = value {
-        put_last(values, (number, FieldSlot::Value(value)));
+        push_last(values, (number, FieldSlot::Value(value)));
     }
     if let Some(unknown) = unknown {
-        put_last(sets, unknown);
-    }
-}
-
-/// Puts an item at the end of a list that has room for it.
-fn put_last<T: Drop>(items: &mut Vec<T>, item: T)
-    requires { vec_len items.old < vec_capacity items.old }
-    ensures items { items.new.items ≡ items.old.items ++ item ∷ [] }
-    ensures len { vec_len items.new ≡ vec_len items.old + 1 }
-    ensures capacity { vec_capacity items.old ≤ vec_capacity items.new }
-{
-    match items.push(item) {
-        Ok(()) => {}
-        Err(_) => unreachable!(),
+        push_last(sets, unknown);
     }
 }
