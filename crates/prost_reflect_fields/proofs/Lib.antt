@@ -5,6 +5,7 @@ pub mod SlotChanges
 pub mod Siblings
 pub mod SoundChanges
 pub mod ValuesAlone
+mod OneofPlaces
 mod MembersCleared
 pub mod Replaced
 mod Weaving

@@ -1,5 +1,5 @@
 -- Numbers added to a set with the members of their oneofs.
-use Rattle.std.proofs.Common.{◌≡◌, ℕ, ◌+◌, ◌<◌, ◌≤◌, length, drop, drop_of_length-le, get_or, Bool, true, false, cond, not, ◌&&◌, ◌||◌, nat_eq, List, [], ◌∷◌, map, Option, Some, None, refl, ap, ap₂, sym, subst, ◌∙◌, true≢false}
+use Rattle.std.proofs.Common.{◌≡◌, ℕ, Bool, true, false, cond, not, ◌&&◌, ◌||◌, nat_eq, List, [], ◌∷◌, map, Option, Some, None, refl, ap, sym, subst, ◌∙◌, true≢false}
 use Rattle.std.proofs.lemmas.Bool.{eqb-true, eq-eqb, ne_eqb, and_parts}
 use Rattle.std.specs.List.{list_any}
 use Rattle.std.specs.Option.{option_and_then}
@@ -11,10 +11,11 @@ use Rattle.prost_reflect_tables.specs.Rows.{field_row}
 use Rattle.prost_reflect_pool.specs.declared.pooled_type.PooledType.{PooledType}
 use Rattle.prost_reflect_pool.specs.MessageTypes.{fields_of}
 use Rattle.prost_reflect_fields.specs.Known.{known_of, oneof_of, are_siblings}
+use Rattle.prost_reflect_fields.specs.Members.{rows_at, HasMembers}
 use Rattle.prost_reflect_fields.specs.NumberSets.{has, HasWholeOneofs, is_in_oneof}
 use Rattle.prost_reflect_fields.proofs.ItemChanges.{by_number, itself}
 use Rattle.prost_reflect_fields.proofs.Siblings.{known_differ, found_passes}
-use Rattle.prost_reflect_fields.proofs.MembersCleared.{row_and_rest, members_known}
+use Rattle.prost_reflect_fields.proofs.MembersCleared.{members_known}
 
 -- ONE NUMBER MORE
 
@@ -85,16 +86,16 @@ or_either true b h f g = f refl
 or_either false b h f g = g h
 
 -- a number and the members of its oneof
-module _ (d : PooledType) (old mid new : BTreeSet ℕ) (n : ℕ) (table : List FieldTable) (oneof : Option ℕ) (rows : map field_row table ≡ fields_of d) (is : oneof ≡ oneof_of (known_of d) n)
-    (updates : Updated old mid n) (members : (k : ℕ) → has new k ≡ (has mid k || is_in_oneof table oneof k)) where
-  in_known : (k : ℕ) → is_in_oneof table oneof k ≡ in_oneof (known_of d) oneof k
-  in_known k = members_known d table oneof k rows
+module _ (d : PooledType) (old mid new : BTreeSet ℕ) (n : ℕ) (table : List FieldTable) (places : List ℕ) (oneof : Option ℕ) (rows : map field_row table ≡ fields_of d) (all : HasMembers (fields_of d) oneof places) (is : oneof ≡ oneof_of (known_of d) n)
+    (updates : Updated old mid n) (members : (k : ℕ) → has new k ≡ (has mid k || is_in_oneof (rows_at table places) oneof k)) where
+  in_known : (k : ℕ) → is_in_oneof (rows_at table places) oneof k ≡ in_oneof (known_of d) oneof k
+  in_known k = members_known d table places oneof k rows all
 
   from_mid : (k : ℕ) → has mid k ≡ true → has new k ≡ true
-  from_mid k h = members k ∙ or_left (has mid k) (is_in_oneof table oneof k) h
+  from_mid k h = members k ∙ or_left (has mid k) (is_in_oneof (rows_at table places) oneof k) h
 
   from_members : (k : ℕ) → in_oneof (known_of d) oneof k ≡ true → has new k ≡ true
-  from_members k h = members k ∙ or_right (has mid k) (is_in_oneof table oneof k) (in_known k ∙ h)
+  from_members k h = members k ∙ or_right (has mid k) (is_in_oneof (rows_at table places) oneof k) (in_known k ∙ h)
 
   pub number_added : has new n ≡ true
   number_added = from_mid n (inserted old mid n updates n ∙ or_left (nat_eq n n) (has old n) (eq-eqb n n refl))
@@ -103,7 +104,7 @@ module _ (d : PooledType) (old mid new : BTreeSet ℕ) (n : ℕ) (table : List F
   numbers_stay k h = from_mid k (inserted old mid n updates k ∙ or_right (nat_eq n k) (has old k) h)
 
   pub whole_added : HasWholeOneofs (known_of d) old → HasWholeOneofs (known_of d) new
-  whole_added whole m k h siblings = or_either (has mid m) (is_in_oneof table oneof m) (sym (members m) ∙ h)
+  whole_added whole m k h siblings = or_either (has mid m) (is_in_oneof (rows_at table places) oneof m) (sym (members m) ∙ h)
       (λ x. or_either (nat_eq n m) (has old m) (sym (inserted old mid n updates m) ∙ x)
       (λ e. from_members k (ap (λ o. in_oneof (known_of d) o k) is ∙ own_siblings (known_of d) n k (subst (λ z. are_siblings (known_of d) z k ≡ true) (sym (eqb-true n m e)) siblings)))
       (λ y. numbers_stay k (whole m k y siblings)))
@@ -111,33 +112,36 @@ module _ (d : PooledType) (old mid new : BTreeSet ℕ) (n : ℕ) (table : List F
 
 -- ROW BY ROW
 
-module _ (table : List FieldTable) (oneof : Option ℕ) (i : ℕ) (f : FieldTable) (within : i < length table) (is : f ≡ get_or table i f) where
-  rows : (k : ℕ) → is_in_oneof (drop i table) oneof k ≡ ((nat_eq f.number k && same_oneof f.oneof oneof) || is_in_oneof (drop (i + 1) table) oneof k)
-  rows k = ap (λ fs. is_in_oneof fs oneof k) (row_and_rest table i f within is)
-
-  pub member_more : (old new : BTreeSet ℕ) → same_oneof f.oneof oneof ≡ true → Updated old new f.number → (k : ℕ) → (has new k || is_in_oneof (drop (i + 1) table) oneof k) ≡ (has old k || is_in_oneof (drop i table) oneof k)
-  member_more old new same updates k =
-      ap (λ b. b || rest) (inserted old new f.number updates k) ∙ cases (nat_eq f.number k) (has old k) ∙ ap (λ b. has old k || ((nat_eq f.number k && b) || rest)) (sym same) ∙ ap (λ b. has old k || b) (sym (rows k))
+module _ (f : FieldTable) (oneof : Option ℕ) where
+  -- the number of a member
+  pub one_added : (old new : BTreeSet ℕ) → same_oneof f.oneof oneof ≡ true → Updated old new f.number → (k : ℕ) → has new k ≡ (has old k || is_in_oneof (f ∷ []) oneof k)
+  one_added old new same updates k = inserted old new f.number updates k ∙ cases (nat_eq f.number k) (has old k) ∙ ap (λ b. has old k || ((nat_eq f.number k && b) || false)) (sym same)
     where
-      rest : Bool
-      rest = is_in_oneof (drop (i + 1) table) oneof k
-
-      cases : (a b : Bool) → ((a || b) || is_in_oneof (drop (i + 1) table) oneof k) ≡ (b || ((a && true) || is_in_oneof (drop (i + 1) table) oneof k))
+      cases : (a b : Bool) → (a || b) ≡ (b || ((a && true) || false))
       cases true true = refl
       cases true false = refl
       cases false true = refl
       cases false false = refl
 
-  pub member_passed : (numbers : BTreeSet ℕ) → same_oneof f.oneof oneof ≡ false → (k : ℕ) → (has numbers k || is_in_oneof (drop (i + 1) table) oneof k) ≡ (has numbers k || is_in_oneof (drop i table) oneof k)
-  member_passed numbers apart k = cases (nat_eq f.number k) ∙ ap (λ b. has numbers k || ((nat_eq f.number k && b) || is_in_oneof (drop (i + 1) table) oneof k)) (sym apart) ∙ ap (λ b. has numbers k || b) (sym (rows k))
+  pub none_added : (numbers : BTreeSet ℕ) → same_oneof f.oneof oneof ≡ false → (k : ℕ) → has numbers k ≡ (has numbers k || is_in_oneof (f ∷ []) oneof k)
+  none_added numbers apart k = cases (has numbers k) (nat_eq f.number k) ∙ ap (λ b. has numbers k || ((nat_eq f.number k && b) || false)) (sym apart)
     where
-      cases : (a : Bool) → (has numbers k || is_in_oneof (drop (i + 1) table) oneof k) ≡ (has numbers k || ((a && false) || is_in_oneof (drop (i + 1) table) oneof k))
-      cases true = refl
-      cases false = refl
+      cases : (a b : Bool) → a ≡ (a || ((b && false) || false))
+      cases true b = refl
+      cases false true = refl
+      cases false false = refl
+
+  pub then_added : (old new : BTreeSet ℕ) (rest : List FieldTable) (k : ℕ) → has new k ≡ (has old k || is_in_oneof (f ∷ []) oneof k) → (has new k || is_in_oneof rest oneof k) ≡ (has old k || is_in_oneof (f ∷ rest) oneof k)
+  then_added old new rest k is = ap (λ b. b || is_in_oneof rest oneof k) is ∙ cases (has old k) (nat_eq f.number k && same_oneof f.oneof oneof) (is_in_oneof rest oneof k)
+    where
+      cases : (a b c : Bool) → ((a || (b || false)) || c) ≡ (a || (b || c))
+      cases true b c = refl
+      cases false true c = refl
+      cases false false c = refl
 
 -- no row is left
-pub members_done : (numbers : BTreeSet ℕ) (table : List FieldTable) (oneof : Option ℕ) (i : ℕ) → length table ≤ i → (k : ℕ) → has numbers k ≡ (has numbers k || is_in_oneof (drop i table) oneof k)
-members_done numbers table oneof i past k = cases (has numbers k) ∙ ap (λ fs. has numbers k || is_in_oneof fs oneof k) (sym (drop_of_length-le table past))
+pub members_done : (numbers : BTreeSet ℕ) (oneof : Option ℕ) (k : ℕ) → has numbers k ≡ (has numbers k || is_in_oneof [] oneof k)
+members_done numbers oneof k = cases (has numbers k)
   where
     cases : (b : Bool) → b ≡ (b || false)
     cases true = refl

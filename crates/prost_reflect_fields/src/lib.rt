@@ -2,6 +2,7 @@
 #![tactic(auto)]
 
 pub mod field_set;
+mod members;
 pub mod number_map;
 pub mod number_sets;
 pub mod slot;

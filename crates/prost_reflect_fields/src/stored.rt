@@ -1,6 +1,6 @@
 //! Values and unknown fields in a map from numbers to slots.
 
-ghost use Rattle.std.specs.Prelude.{◌≡◌, Some, OnOk, OnErr, IfOk};
+ghost use Rattle.std.specs.Prelude.{◌≡◌, ◌∷◌, [], Some, OnOk, OnErr, IfOk};
 ghost use Rattle.std.specs.Borrow.{LendsSo, sem};
 ghost use Rattle.std.specs.Option.{option_copied, option_copied_mut};
 ghost use Rattle.prost_reflect_wire.specs.Unknown.{record_of};
@@ -9,9 +9,10 @@ ghost use Rattle.prost_reflect_fields.specs.Items.{IsAscending};
 ghost use Rattle.prost_reflect_fields.specs.Known.{known_of, oneof_of, are_siblings};
 ghost use Rattle.prost_reflect_fields.specs.FieldSlots.{value_at, unknown_at, put_value, clear_value, with_value, without_values, UnknownAdded, SameStored};
 ghost use Rattle.prost_reflect_fields.specs.Sound.{set_value_at, prepared};
-ghost use Rattle.prost_reflect_fields.specs.Members.{is_member};
+ghost use Rattle.prost_reflect_fields.specs.Members.{is_member, rows_at};
 ghost use Rattle.prost_reflect_fields.specs.Lending.{LendsOrStays};
 
+use crate::members::member_places;
 use crate::number_map::{NumberMap, ascending};
 use crate::slot::FieldSlot;
 use prost_reflect_pool::PooledType;
@@ -201,7 +202,15 @@ fn clear_siblings<V: Drop, S: NumberMap<FieldSlot<V>>>(
     ensures ascending { IsAscending (S.entries fields.old) }
 {
     let oneof = oneof_of(message_type, number);
-    clear_members(fields, alloc, message_type.field_tables(), oneof, number);
+    let places = member_places(message_type, oneof);
+    clear_members(
+        fields,
+        alloc,
+        message_type.field_tables(),
+        places,
+        oneof,
+        number,
+    );
 }
 
 /// Whether two fields are members of one oneof.
@@ -214,21 +223,39 @@ pub(crate) fn is_same_oneof(left: Option<usize>, right: Option<usize>) -> bool
     }
 }
 
-/// Removes the values of the members of the oneof, but that of the number.
+/// Removes the values of the members of the oneof at these places, but that of the number.
 fn clear_members<V: Drop, S: NumberMap<FieldSlot<V>>>(
     fields: &mut S,
     alloc: Global,
     table: &[FieldTable],
+    places: &[usize],
     oneof: Option<usize>,
     number: u32,
 )
-    ensures cleared { S.entries fields.new ≡ without_values (is_member table.now oneof number) (S.entries fields.old) }
+    ensures cleared { S.entries fields.new ≡ without_values (is_member (rows_at table.now places.now) oneof number) (S.entries fields.old) }
     ensures ascending { IsAscending (S.entries fields.old) }
 {
     ascending(fields);
-    for field in table {
-        if field.number != number && is_same_oneof(field.oneof, oneof) {
-            drop(take_value(fields, alloc, field.number));
+    for place in places {
+        if let Some(field) = table.get(*place) {
+            clear_member(fields, alloc, field, oneof, number);
         }
+    }
+}
+
+/// Removes the value of the field where it is a member of the oneof, but not that of the number.
+fn clear_member<V: Drop, S: NumberMap<FieldSlot<V>>>(
+    fields: &mut S,
+    alloc: Global,
+    field: &FieldTable,
+    oneof: Option<usize>,
+    number: u32,
+)
+    ensures cleared { S.entries fields.new ≡ without_values (is_member (field.now ∷ []) oneof number) (S.entries fields.old) }
+    ensures ascending { IsAscending (S.entries fields.old) }
+{
+    ascending(fields);
+    if field.number != number && is_same_oneof(field.oneof, oneof) {
+        drop(take_value(fields, alloc, field.number));
     }
 }

@@ -1,36 +1,41 @@
-use Rattle.std.proofs.Common.{◌+◌, sym, ◌∙◌, ap, drop, drop_of_length-le}
-use Rattle.std.proofs.lemmas.Bool.{eq-eqb, ne_eqb}
+use Rattle.std.proofs.Common.{◌≡◌, ◌+◌, sym, ◌∙◌, ap, Some, None, drop, drop_of_length-le, get_or, refl, length}
+use Rattle.std.specs.Prelude.{slice_get}
+use Rattle.std.proofs.lemmas.Option.{slice_get_read, slice_get_past}
 use Rattle.prost_reflect_fields.specs.FieldSlots.{without_values}
-use Rattle.prost_reflect_fields.specs.Members.{is_member}
-use Rattle.prost_reflect_fields.proofs.MembersCleared.{first_cleared, first_own, first_apart, all_cleared, row_and_rest}
+use Rattle.prost_reflect_fields.specs.Members.{is_member, rows_at}
+use Rattle.prost_reflect_fields.proofs.MembersCleared.{then_cleared, all_cleared, row_and_rest, no_row_and_rest}
 use Rattle.prost_reflect_fields.proofs.stored.clear_members.Goals as goal
-use Rattle.prost_reflect_fields.proofs.stored.clear_members.Goals.{then-field-number+then-is_same_oneof, else-field-number, else-field-number-via-then-field-number+else-is_same_oneof, else-field-number-via-else-field-number}
+use Rattle.prost_reflect_fields.proofs.stored.clear_members.Goals.{in-Some, in_default}
 
-pub loop-field-preserved : goal.loop-field-preserved
-loop-field-preserved g c =
+pub loop-place-preserved : goal.loop-place-preserved
+loop-place-preserved g c =
     let entries = g.S.NumberMap.entries in
-    let field = c.field-item.result in
     let table = c.args.table.now in
+    let places = c.args.places.now in
     let oneof = c.args.oneof in
     let number = c.args.number in
-    let before = entries c.loop-field.fields in
-    let rest = drop (c.loop-field.field-index + 1) table in
-    let rows = row_and_rest table c.loop-field.field-index field c.loop-field-test.true c.field-item.is in
-    let whole = ap (λ fs. without_values (is_member fs oneof number) before) (sym rows) ∙ c.loop-field.invariant in
-    elim c.if-field-number.branch [
-      | then-field-number+then-is_same_oneof w ↦
-          ap (λ s. without_values (is_member rest oneof number) (entries s)) w.fields-is ∙ ap (without_values (is_member rest oneof number)) w.take_value.ensures.entries
-          ∙ first_cleared field rest oneof number before w.take_value.ensures.ascending (ne_eqb field.number number w.if-field-number.true) (sym w.is_same_oneof.ensures ∙ w.if-is_same_oneof.true) ∙ whole
-      | else-field-number w ↦
-          ap (λ s. without_values (is_member rest oneof number) (entries s)) w.fields-is ∙ elim w.else-field-number.branch [
-            | else-field-number-via-then-field-number+else-is_same_oneof u ↦ first_apart field rest oneof number before (sym u.is_same_oneof.ensures ∙ u.if-is_same_oneof.false) ∙ whole
-            | else-field-number-via-else-field-number u ↦ first_own field rest oneof number before (eq-eqb field.number number u.if-field-number.false) ∙ whole
-          ]
+    let i = c.loop-place.place-index in
+    let before = entries c.loop-place.fields in
+    let rest = rows_at table (drop (i + 1) places) in
+    elim c.match-get.branch [
+      | in-Some w ↦
+          let field = w.in-Some.field.now in
+          let at : slice_get table (get_or places i 0) ≡ Some field = slice_get_read table (length table) (get_or places i 0) field refl w.in-Some.ensures.lookup.3.0 w.in-Some.ensures.lookup.1 in
+          ap (λ s. without_values (is_member rest oneof number) (entries s)) w.fields-is
+          ∙ ap (without_values (is_member rest oneof number)) w.clear_member.ensures.cleared
+          ∙ then_cleared field oneof number rest before w.clear_member.ensures.ascending
+          ∙ ap (λ fs. without_values (is_member fs oneof number) before) (sym (row_and_rest table places i field c.loop-place-test.true at))
+          ∙ c.loop-place.invariant
+      | in_default w ↦
+          let none : slice_get table (get_or places i 0) ≡ None = slice_get_past table (get_or places i 0) w.in_default.ensures.lookup.3 in
+          ap (λ s. without_values (is_member rest oneof number) (entries s)) w.fields-is
+          ∙ ap (λ fs. without_values (is_member fs oneof number) before) (sym (no_row_and_rest table places i c.loop-place-test.true none))
+          ∙ c.loop-place.invariant
     ]
 
 pub returns-clause-cleared : goal.returns-clause-cleared
 returns-clause-cleared g c =
-    let last = g.S.NumberMap.entries c.loop-field.fields in
+    let last = g.S.NumberMap.entries c.loop-place.fields in
     sym (all_cleared c.args.oneof c.args.number last)
-    ∙ ap (λ fs. without_values (is_member fs c.args.oneof c.args.number) last) (sym (drop_of_length-le c.args.table.now c.loop-field-test.false))
-    ∙ c.loop-field.invariant
+    ∙ ap (λ is. without_values (is_member (rows_at c.args.table.now is) c.args.oneof c.args.number) last) (sym (drop_of_length-le c.args.places.now c.loop-place-test.false))
+    ∙ c.loop-place.invariant
