@@ -26,6 +26,7 @@ pub mod Encodings
 mod Encodables
 pub mod Present
 pub mod Defaults
+mod DeclaredNumbers
 pub mod Keys
 pub mod Valid
 pub mod Copied

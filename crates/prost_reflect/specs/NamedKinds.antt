@@ -6,7 +6,7 @@ use Rattle.prost_reflect_wire.specs.declared.key.WireType.{WireType}
 use Rattle.prost_reflect_wire.specs.declared.key.WireType.TheVariants.{Varint, SixtyFourBit, LengthDelimited, ThirtyTwoBit}
 use Rattle.prost_reflect_tables.specs.Rows.{EnumRow, EnumValueRow}
 use Rattle.prost_reflect_tables.specs.Shown.{schema_kind}
-use Rattle.prost_reflect_pool.specs.SharedPools.{pool_rows}
+use Rattle.prost_reflect_pool.specs.Pools.{pool_rows}
 use Rattle.prost_reflect_pool.specs.declared.pool.LinkedPool.{LinkedPool}
 use Rattle.prost_reflect_tables.specs.declared.tables.TableKind.{TableKind}
 use Rattle.prost_reflect_tables.specs.declared.tables.TableKind.TheVariants as places
@@ -43,11 +43,20 @@ IsAmong pool (Message message) = message.pool.inner.value ≡ pool.inner.value
 IsAmong pool (Enum e) = e.pool.inner.value ≡ pool.inner.value
 IsAmong pool kind = ⊤
 
+-- The pool of the type that the kind names.
+abbrev pub pool_of : Kind → Option LinkedPool
+pool_of (Message message) = Some message.pool.inner.value
+pool_of (Enum e) = Some e.pool.inner.value
+pool_of kind = None
+
+-- The enums of a pool; none where there is none.
+abbrev pub enums_in : Option LinkedPool → List EnumRow
+enums_in None = []
+enums_in (Some pool) = (pool_rows pool).enums
+
 -- The enums of the pool of the type that the kind names.
 abbrev pub enums_named : Kind → List EnumRow
-enums_named (Message message) = (pool_rows message.pool.inner).enums
-enums_named (Enum e) = (pool_rows e.pool.inner).enums
-enums_named kind = []
+enums_named kind = enums_in (pool_of kind)
 
 -- The kind as its schema has it, where a group is a message.
 abbrev pub kind_named : Kind → schemas.Kind
@@ -73,12 +82,6 @@ wire_type_of String = LengthDelimited
 wire_type_of Bytes = LengthDelimited
 wire_type_of (Message message) = LengthDelimited
 wire_type_of kind = Varint
-
--- The pool of the type that the kind names.
-abbrev pub pool_of : Kind → Option LinkedPool
-pool_of (Message message) = Some message.pool.inner.value
-pool_of (Enum e) = Some e.pool.inner.value
-pool_of kind = None
 
 -- Two kinds that are one.
 abbrev pub SameKind : Kind → Kind → Type 0

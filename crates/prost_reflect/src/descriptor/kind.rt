@@ -4,7 +4,8 @@ use crate::descriptor::{DescriptorPool, EnumDescriptor, MessageDescriptor};
 use crate::message::DynamicMessage;
 use crate::value::Value;
 use crate::value::scalar::ScalarRef;
-use prost_reflect_tables::{EnumTable, TableKind};
+use prost_reflect_pool::LinkedPool;
+use prost_reflect_tables::TableKind;
 use prost_reflect_wire::WireType;
 use std::alloc::{AllocError, Global};
 
@@ -76,11 +77,10 @@ impl Clone for Kind {
 }
 
 impl Kind {
-    ghost use Rattle.std.specs.Prelude.{◌≡◌, true, IsTrue, IfOk, length, map};
-    ghost use Rattle.prost_reflect_tables.specs.Rows.{enum_row};
+    ghost use Rattle.std.specs.Prelude.{◌≡◌, true, IsTrue, IfOk, length};
     ghost use Rattle.prost_reflect_tables.specs.Linked.{kind_in_range};
     ghost use Rattle.prost_reflect_pool.specs.SharedPools.{pool_rows};
-    ghost use Rattle.prost_reflect.specs.NamedKinds.{table_kind, kind_named, enums_named, IsAmong, message_of, enum_of, wire_type_of};
+    ghost use Rattle.prost_reflect.specs.NamedKinds.{table_kind, kind_named, pool_of, IsAmong, message_of, enum_of, wire_type_of};
     ghost use Rattle.std.specs.Option.{option_copied};
     ghost use Rattle.prost_reflect_wire.specs.Content.{ScalarValue};
     ghost use Rattle.prost_reflect_wire.specs.Typing.{element_valid, kind_takes};
@@ -144,14 +144,14 @@ impl Kind {
         }
     }
 
-    /// The rows of the enums of the pool of the type that the kind names, or none where it names no type.
-    pub(crate) fn enum_tables(&self) -> &[EnumTable]
-        ensures { map enum_row result.now ≡ enums_named self.now }
+    /// The pool of the type that the kind names, or none where it names no type.
+    pub(crate) fn pool(&self) -> Option<&LinkedPool>
+        ensures { option_copied result ≡ pool_of self.now }
     {
         match self {
-            Kind::Message(message) => message.parent_pool().enum_tables(),
-            Kind::Enum(e) => e.parent_pool().enum_tables(),
-            _ => &[],
+            Kind::Message(message) => Some(message.parent_pool().linked()),
+            Kind::Enum(e) => Some(e.parent_pool().linked()),
+            _ => None,
         }
     }
 

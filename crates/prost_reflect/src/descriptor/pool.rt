@@ -6,7 +6,6 @@ use crate::descriptor::{
     ServiceDescriptor,
 };
 use prost_reflect_pool::LinkedPool;
-use prost_reflect_tables::EnumTable;
 use std::alloc::AllocError;
 use std::rc::Rc;
 
@@ -29,8 +28,7 @@ impl Clone for DescriptorPool {
 }
 
 impl DescriptorPool {
-    ghost use Rattle.std.specs.Prelude.{◌≡◌, IfOk, IfSome, length, map, option_map};
-    ghost use Rattle.prost_reflect_tables.specs.Rows.{enum_row};
+    ghost use Rattle.std.specs.Prelude.{◌≡◌, IfOk, IfSome, length, option_map};
     ghost use Rattle.prost_reflect_tables.specs.Places.{message_place};
     ghost use Rattle.prost_reflect_pool.specs.SharedPools.{files_of, pool_rows, pool_catalog};
     ghost use Rattle.prost_reflect_pool.specs.Lookups.{file_place, enum_place, extension_place, service_place};
@@ -139,11 +137,11 @@ impl DescriptorPool {
         }
     }
 
-    /// The rows of the pool's enums.
-    pub(crate) fn enum_tables(&self) -> &[EnumTable]
-        ensures { map enum_row result.now ≡ (pool_rows self.now.inner).enums }
+    /// What the clones of the pool share.
+    pub(crate) fn linked(&self) -> &LinkedPool
+        ensures { result.now ≡ self.now.inner.value }
     {
-        self.inner.tables().enums.as_slice()
+        &self.inner
     }
 
     /// The service of a full name, or none where no service has it.

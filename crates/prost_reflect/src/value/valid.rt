@@ -1,17 +1,18 @@
 //! Which values kinds and fields take.
 
-ghost use Rattle.std.specs.Prelude.{◌≡◌, ◌^◌, map, nat_lt, false, true};
+ghost use Rattle.std.specs.Prelude.{◌≡◌, ◌^◌, nat_lt, false, true};
+ghost use Rattle.std.specs.Option.{option_copied};
 ghost use Rattle.std.specs.Str.{is_utf8};
 ghost use Rattle.std.specs.List.{list_all};
 ghost use Rattle.prost_reflect_wire.specs.Varint.{are_bytes};
 ghost use Rattle.prost_reflect_wire.specs.Scalar.{in_i32, in_i64};
 ghost use Rattle.prost_reflect_wire.specs.Typing.{kind_takes, element_valid, value_valid};
-ghost use Rattle.prost_reflect_tables.specs.Rows.{enum_row, field_row};
+ghost use Rattle.prost_reflect_tables.specs.Rows.{field_row};
 ghost use Rattle.prost_reflect_tables.specs.Shown.{schema_field, schema_kind};
 ghost use Rattle.prost_reflect_pool.specs.Pools.{pool_rows};
 ghost use Rattle.prost_reflect.specs.Access.{takes};
 ghost use Rattle.prost_reflect.specs.ExtensionAccess.{extension_takes};
-ghost use Rattle.prost_reflect.specs.NamedKinds.{kind_named};
+ghost use Rattle.prost_reflect.specs.NamedKinds.{enums_in, kind_named};
 ghost use Rattle.prost_reflect.specs.Scalars.{scalar_of};
 ghost use Rattle.prost_reflect.specs.Valid.{list_fits, map_fits, pair_fits};
 ghost use Rattle.prost_reflect.specs.View.{key_of, value_of};
@@ -22,7 +23,7 @@ use crate::message::enums::takes_number;
 use crate::value::scalar::ScalarRef;
 use crate::value::{MapKey, Value};
 use prost_reflect_pool::LinkedPool;
-use prost_reflect_tables::{EnumTable, FieldTable, TableKind};
+use prost_reflect_tables::{FieldTable, TableKind};
 use std::collections::BTreeMap;
 
 impl Value {
@@ -33,7 +34,7 @@ impl Value {
     pub fn is_valid(&self, kind: &Kind) -> bool
         ensures { result ≡ element_valid (kind_named kind.now) (value_of self.now) }
     {
-        element_valid(kind.enum_tables(), kind.to_table(), self)
+        element_valid(kind.pool(), kind.to_table(), self)
     }
 
     /// Whether the field takes the value: one value of its kind, or a list of such where the field is a list, or a map
@@ -61,7 +62,7 @@ impl MapKey {
     pub fn is_valid(&self, kind: &Kind) -> bool
         ensures { result ≡ kind_takes (kind_named kind.now) (key_of self.now) }
     {
-        scalar_valid(kind.enum_tables(), kind.to_table(), self.as_scalar())
+        scalar_valid(kind.pool(), kind.to_table(), self.as_scalar())
     }
 }
 
@@ -69,49 +70,41 @@ impl MapKey {
 pub(crate) fn value_valid(pool: &LinkedPool, field: &FieldTable, value: &Value) -> bool
     ensures { result ≡ value_valid (schema_field (pool_rows pool.now) (field_row field.now)) (value_of value.now) }
 {
-    let enums = enum_tables(pool);
     if !is_repeated(field.cardinality) {
-        return element_valid(enums, field.kind, value);
+        return element_valid(Some(pool), field.kind, value);
     }
     match pool.map_parts(field) {
-        Some((key, part)) => map_fits(enums, key, part, value),
-        None => list_fits(enums, field.kind, value),
+        Some((key, part)) => map_fits(Some(pool), key, part, value),
+        None => list_fits(Some(pool), field.kind, value),
     }
-}
-
-/// The rows of the pool's enums.
-fn enum_tables(pool: &LinkedPool) -> &[EnumTable]
-    ensures { map enum_row result.now ≡ (pool_rows pool.now).enums }
-{
-    pool.tables().enums.as_slice()
 }
 
 /// Whether a value is a list of values of the kind.
-fn list_fits(enums: &[EnumTable], kind: TableKind, value: &Value) -> bool
-    ensures { result ≡ list_fits (schema_kind (map enum_row enums.now) kind false) (value_of value.now) }
+fn list_fits(pool: Option<&LinkedPool>, kind: TableKind, value: &Value) -> bool
+    ensures { result ≡ list_fits (schema_kind (enums_in (option_copied pool.entry)) kind false) (value_of value.now) }
 {
     match value {
-        Value::List(values) => elements_valid(enums, kind, values.as_slice()),
+        Value::List(values) => elements_valid(pool, kind, values.as_slice()),
         _ => false,
     }
 }
 
 /// Whether a value is a map whose keys and values are those of two rows.
-fn map_fits(enums: &[EnumTable], key: &FieldTable, part: &FieldTable, value: &Value) -> bool
-    ensures { result ≡ map_fits (schema_kind (map enum_row enums.now) (field_row key.now).kind false) (schema_kind (map enum_row enums.now) (field_row part.now).kind false) (value_of value.now) }
+fn map_fits(pool: Option<&LinkedPool>, key: &FieldTable, part: &FieldTable, value: &Value) -> bool
+    ensures { result ≡ map_fits (schema_kind (enums_in (option_copied pool.entry)) (field_row key.now).kind false) (schema_kind (enums_in (option_copied pool.entry)) (field_row part.now).kind false) (value_of value.now) }
 {
     match value {
-        Value::Map(pairs) => pairs_valid(enums, key.kind, part.kind, pairs),
+        Value::Map(pairs) => pairs_valid(pool, key.kind, part.kind, pairs),
         _ => false,
     }
 }
 
 /// Whether each value is one of the kind.
-fn elements_valid(enums: &[EnumTable], kind: TableKind, values: &[Value]) -> bool
-    ensures { result ≡ list_all (λ v. element_valid (schema_kind (map enum_row enums.now) kind false) (value_of v)) values.now }
+fn elements_valid(pool: Option<&LinkedPool>, kind: TableKind, values: &[Value]) -> bool
+    ensures { result ≡ list_all (λ v. element_valid (schema_kind (enums_in (option_copied pool.entry)) kind false) (value_of v)) values.now }
 {
     for value in values {
-        if !element_valid(enums, kind, value) {
+        if !element_valid(pool, kind, value) {
             return false;
         }
     }
@@ -120,15 +113,15 @@ fn elements_valid(enums: &[EnumTable], kind: TableKind, values: &[Value]) -> boo
 
 /// Whether each key and each value is one of its kind.
 fn pairs_valid(
-    enums: &[EnumTable],
+    pool: Option<&LinkedPool>,
     key_kind: TableKind,
     kind: TableKind,
     pairs: &BTreeMap<MapKey, Value>,
 ) -> bool
-    ensures { result ≡ list_all (pair_fits (schema_kind (map enum_row enums.now) key_kind false) (schema_kind (map enum_row enums.now) kind false)) pairs.now.entries }
+    ensures { result ≡ list_all (pair_fits (schema_kind (enums_in (option_copied pool.entry)) key_kind false) (schema_kind (enums_in (option_copied pool.entry)) kind false)) pairs.now.entries }
 {
     for (key, value) in pairs.iter() {
-        if !pair_valid(enums, key_kind, kind, key, value) {
+        if !pair_valid(pool, key_kind, kind, key, value) {
             return false;
         }
     }
@@ -137,32 +130,32 @@ fn pairs_valid(
 
 /// Whether a key and a value are each of its kind.
 fn pair_valid(
-    enums: &[EnumTable],
+    pool: Option<&LinkedPool>,
     key_kind: TableKind,
     kind: TableKind,
     key: &MapKey,
     value: &Value,
 ) -> bool
-    ensures { result ≡ pair_fits (schema_kind (map enum_row enums.now) key_kind false) (schema_kind (map enum_row enums.now) kind false) (key.now, value.now) }
+    ensures { result ≡ pair_fits (schema_kind (enums_in (option_copied pool.entry)) key_kind false) (schema_kind (enums_in (option_copied pool.entry)) kind false) (key.now, value.now) }
 {
-    scalar_valid(enums, key_kind, key.as_scalar()) && element_valid(enums, kind, value)
+    scalar_valid(pool, key_kind, key.as_scalar()) && element_valid(pool, kind, value)
 }
 
 /// Whether a value is one of the kind.
-pub(crate) fn element_valid(enums: &[EnumTable], kind: TableKind, value: &Value) -> bool
-    ensures { result ≡ element_valid (schema_kind (map enum_row enums.now) kind false) (value_of value.now) }
+pub(crate) fn element_valid(pool: Option<&LinkedPool>, kind: TableKind, value: &Value) -> bool
+    ensures { result ≡ element_valid (schema_kind (enums_in (option_copied pool.entry)) kind false) (value_of value.now) }
 {
     match value {
         Value::Message(_) => matches!(kind, TableKind::Message(_)),
         Value::List(_) => false,
         Value::Map(_) => false,
-        _ => scalar_valid(enums, kind, value.scalar()),
+        _ => scalar_valid(pool, kind, value.scalar()),
     }
 }
 
 /// Whether a scalar is one of the kind.
-pub(crate) fn scalar_valid(enums: &[EnumTable], kind: TableKind, scalar: ScalarRef<'_>) -> bool
-    ensures { result ≡ kind_takes (schema_kind (map enum_row enums.now) kind false) (scalar_of scalar.entry) }
+pub(crate) fn scalar_valid(pool: Option<&LinkedPool>, kind: TableKind, scalar: ScalarRef<'_>) -> bool
+    ensures { result ≡ kind_takes (schema_kind (enums_in (option_copied pool.entry)) kind false) (scalar_of scalar.entry) }
 {
     match (kind, scalar) {
         (TableKind::Double, ScalarRef::F64(bits)) => fits_u64(bits),
@@ -181,7 +174,7 @@ pub(crate) fn scalar_valid(enums: &[EnumTable], kind: TableKind, scalar: ScalarR
         (TableKind::String, ScalarRef::String(text)) => is_text(text),
         (TableKind::Bytes, ScalarRef::Bytes(bytes)) => are_bytes(bytes),
         (TableKind::Enum(place), ScalarRef::EnumNumber(number)) => {
-            fits_i32(number) && takes_number(enums, place, number)
+            fits_i32(number) && takes_number(pool, place, number)
         }
         _ => false,
     }

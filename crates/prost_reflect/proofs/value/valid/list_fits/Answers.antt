@@ -1,8 +1,9 @@
-use Rattle.std.proofs.Common.{◌∙◌, ap, false, map}
+use Rattle.std.proofs.Common.{◌∙◌, ap, false}
 use Rattle.std.specs.List.{list_all}
+use Rattle.std.specs.Option.{option_copied}
 use Rattle.prost_reflect_wire.specs.Typing.{element_valid}
-use Rattle.prost_reflect_tables.specs.Rows.{enum_row}
 use Rattle.prost_reflect_tables.specs.Shown.{schema_kind}
+use Rattle.prost_reflect.specs.NamedKinds.{enums_in}
 use Rattle.prost_reflect.specs.View.{value_of}
 use Rattle.prost_reflect.proofs.Views.{value_of_list}
 use Rattle.prost_reflect.proofs.Valid.{elements_are}
@@ -10,4 +11,5 @@ use Rattle.prost_reflect.proofs.value.valid.list_fits.Goals as goal
 
 pub returns-in-List : goal.returns-in-List
 returns-in-List c =
-    rw (c.in-List.is, value_of_list) (c.elements_valid.ensures ∙ ap (list_all (λ v. element_valid (schema_kind (map enum_row c.args.enums.now) c.args.kind false) (value_of v))) c.as_slice.ensures.value ∙ elements_are (schema_kind (map enum_row c.args.enums.now) c.args.kind false) c.in-List.values.items)
+    let enums = enums_in (option_copied c.args.pool) in
+    rw (c.in-List.is, value_of_list) (c.elements_valid.ensures ∙ ap (list_all (λ v. element_valid (schema_kind enums c.args.kind false) (value_of v))) c.as_slice.ensures.value ∙ elements_are (schema_kind enums c.args.kind false) c.in-List.values.items)

@@ -1,8 +1,6 @@
-use Rattle.std.proofs.Common.{ap, sym, ◌∙◌, false}
+use Rattle.std.proofs.Common.{sym, ◌∙◌}
 use Rattle.prost_reflect_tables.specs.Rows.{field_row}
-use Rattle.prost_reflect_tables.specs.Shown.{schema_kind}
 use Rattle.prost_reflect_pool.specs.Pools.{pool_rows}
-use Rattle.prost_reflect.specs.Valid.{list_fits, map_fits}
 use Rattle.prost_reflect.specs.View.{value_of}
 use Rattle.prost_reflect.proofs.Valid.{list_valid, map_valid}
 use Rattle.prost_reflect.proofs.value.valid.value_valid.Goals as goal
@@ -10,11 +8,9 @@ use Rattle.prost_reflect.proofs.value.valid.value_valid.Goals as goal
 pub returns-in-Some : goal.returns-in-Some
 returns-in-Some c =
     c.map_fits.ensures
-    ∙ ap (λ enums. map_fits (schema_kind enums (field_row c.in-Some.key.now).kind false) (schema_kind enums (field_row c.in-Some.part.now).kind false) (value_of c.args.value.now)) c.enum_tables-enums.ensures
     ∙ map_valid (pool_rows c.args.pool.now) (field_row c.args.field.now) (field_row c.in-Some.key.now) (field_row c.in-Some.part.now) (value_of c.args.value.now) (sym c.in-Some.ensures)
 
 pub returns-in-None : goal.returns-in-None
 returns-in-None c =
     c.list_fits.ensures
-    ∙ ap (λ enums. list_fits (schema_kind enums (field_row c.args.field.now).kind false) (value_of c.args.value.now)) c.enum_tables-enums.ensures
     ∙ list_valid (pool_rows c.args.pool.now) (field_row c.args.field.now) (value_of c.args.value.now) c.args.pool.now.tables.linked (sym c.is_repeated.ensures ∙ c.if-not-is_repeated.false) c.in-None.ensures
