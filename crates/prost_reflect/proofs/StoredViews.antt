@@ -2,7 +2,7 @@
 use Rattle.std.proofs.Common.{◌≡◌, ℕ, Bool, true, false, not, ◌&&◌, nat_eq, List, [], ◌∷◌, map, refl, ap, ap₂, sym, ◌∙◌, string_bytes, ◌+◌, ◌<◌, length, get_or, drop, add-one, drop-cons, true≢false, arith}
 use Rattle.std.proofs.lemmas.Bool.{ne_eqb}
 use Rattle.std.specs.declared.alloc.Global.{Global}
-use Rattle.std.specs.Prelude.{Vec, String as Text}
+use Rattle.std.specs.Prelude.{◌↔◌, IsTrue, Vec, String as Text}
 use Rattle.std.specs.BTreeMap.{BTreeMap}
 use Rattle.std.specs.Cmp.Lexicographic.{pointwise, texts_ties}
 use mathlib.Core.Former.{this}
@@ -18,7 +18,7 @@ use Rattle.prost_reflect_tables.specs.Equality.{rows_eq}
 use Rattle.prost_reflect_pool.specs.SharedPools.{pool_rows, pool_contents}
 use Rattle.prost_reflect_pool.specs.PoolEquality.{contents_eq}
 use Rattle.prost_reflect_pool.specs.MessageTypes.{SameMessage}
-use Rattle.prost_reflect_pool.proofs.EqualTypes.{rows_follow}
+use Rattle.prost_reflect_pool.proofs.EqualTypes.{rows_follow, types_decide}
 use Rattle.prost_reflect_pool.specs.declared.pooled_type.PooledType.{PooledType}
 use Rattle.prost_reflect_pool.specs.contracts.pooled_type.PooledTypePartialEq.TheImpl as descriptor_code
 use Rattle.prost_reflect.specs.contracts.value.MapKeyPartialEq.TheImpl as key_eq
@@ -121,8 +121,23 @@ maps_equal v w a b r va wb is = is ∙ by_views v w (values.Map a) (values.Map b
 abbrev pub same_type : PooledType → PooledType → Bool
 same_type a b = (contents_eq (pool_contents a.pool) (pool_contents b.pool) && rows_eq (pool_rows a.pool) (pool_rows b.pool)) && nat_eq a.index b.index
 
-pub types_equal : (a b : PooledType) → (descriptor_code.ghosts).eq a b ≡ same_type a b
+types_equal : (a b : PooledType) → (descriptor_code.ghosts).eq a b ≡ same_type a b
 types_equal a b = ap (λ t. t && nat_eq a.index b.index) (rows_follow a.pool b.pool)
+
+-- what is told of the pools' contents and the places is that test
+pub type_same : (a b : PooledType) (r : Bool) → (IsTrue r ↔ ((pool_contents b.pool ≡ pool_contents a.pool) × (b.index ≡ a.index))) → r ≡ same_type a b
+type_same a b r h = go r (same_type a b) refl refl
+  where
+    there : r ≡ true → same_type a b ≡ true
+    there same = let parts = h.0 same in sym (types_equal a b) ∙ (types_decide a b).1 (sym parts.0, sym parts.1)
+
+    back : same_type a b ≡ true → r ≡ true
+    back same = let parts = (types_decide a b).0 (types_equal a b ∙ same) in h.1 (sym parts.0, sym parts.1)
+
+    go : (x y : Bool) → r ≡ x → same_type a b ≡ y → r ≡ same_type a b
+    go true y is other = is ∙ sym (there is)
+    go false true is other = absurd (true≢false (sym (back other) ∙ is))
+    go false false is other = is ∙ sym other
 
 opened : (m n : DynamicMessage) → equal_messages m n ≡ (same_type (message_type_of m) (message_type_of n) && same_entries (stored_entries value_stored (stored_in m)) (stored_entries value_stored (stored_in n)))
 opened m n = λ i. same_message (stored_message m i) (stored_message n i)

@@ -154,7 +154,11 @@ pub(crate) fn element_valid(pool: Option<&LinkedPool>, kind: TableKind, value: &
 }
 
 /// Whether a scalar is one of the kind.
-pub(crate) fn scalar_valid(pool: Option<&LinkedPool>, kind: TableKind, scalar: ScalarRef<'_>) -> bool
+pub(crate) fn scalar_valid(
+    pool: Option<&LinkedPool>,
+    kind: TableKind,
+    scalar: ScalarRef<'_>,
+) -> bool
     ensures { result ≡ kind_takes (schema_kind (enums_in (option_copied pool.entry)) kind false) (scalar_of scalar.entry) }
 {
     match (kind, scalar) {

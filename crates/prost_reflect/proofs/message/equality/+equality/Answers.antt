@@ -1,7 +1,7 @@
 use Rattle.std.proofs.Common.{sym, ap₂, ◌∙◌}
 use Rattle.prost_reflect.specs.Stored.{value_stored, stored_entries}
 use Rattle.prost_reflect.specs.Same.{same_entries}
-use Rattle.prost_reflect.proofs.StoredViews.{texts_equal, bytes_equal, lists_equal, maps_equal, same_type, types_equal, types_differ, types_same, numbers_differ, entry_alone, keys_differ, values_differ, pair_passed, turned_true, turned_false}
+use Rattle.prost_reflect.proofs.StoredViews.{texts_equal, bytes_equal, lists_equal, maps_equal, same_type, type_same, types_differ, types_same, numbers_differ, entry_alone, keys_differ, values_differ, pair_passed, turned_true, turned_false}
 use Rattle.prost_reflect.proofs.message.equality.+equality.Goals as goal
 use Rattle.prost_reflect.proofs.message.equality.+equality.Goals.{are_equal_maps-then-ne-via-then-ne, are_equal_maps-then-ne-via-else-ne+then-not-are_equal_values}
 
@@ -32,14 +32,14 @@ are_equal_maps-loop-key-preserved t c =
     let mine = c.in-Some in let others = c.in-Some-next in
     pair_passed mine.key.now others.other_key.now mine.value.now others.other.now _ _ _ _ _ mine.ensures.steps others.ensures.steps (turned_false c.ne.result _ c.ne.ensures c.if-ne.false) (sym c.are_equal_values.ensures ∙ c.if-not-are_equal_values.false) c.loop-key.invariant
 
-pub are_equal_messages-returns-then-ne : goal.are_equal_messages-returns-then-ne
-are_equal_messages-returns-then-ne t c =
-    let types = sym (types_equal c.message_type.result.now c.message_type-2.result.now) ∙ turned_true c.ne.result _ c.ne.ensures c.if-ne.true in
+pub are_equal_messages-returns-then-not-are_equal_types : goal.are_equal_messages-returns-then-not-are_equal_types
+are_equal_messages-returns-then-not-are_equal_types t c =
+    let types = sym (type_same c.message_type.result.now c.message_type-2.result.now c.are_equal_types.result c.are_equal_types.ensures) ∙ c.if-not-are_equal_types.true in
     types_differ c.args.a.now c.args.b.now (sym (ap₂ same_type c.message_type.ensures c.message_type-2.ensures) ∙ types)
 
 pub are_equal_messages-loop-number-init : goal.are_equal_messages-loop-number-init
 are_equal_messages-loop-number-init t c =
-    let types = sym (types_equal c.message_type.result.now c.message_type-2.result.now) ∙ turned_false c.ne.result _ c.ne.ensures c.if-ne.false in (
+    let types = sym (type_same c.message_type.result.now c.message_type-2.result.now c.are_equal_types.result c.are_equal_types.ensures) ∙ c.if-not-are_equal_types.false in (
       tt,
       tt,
       ap₂ (λ es ds. same_entries (stored_entries value_stored es) (stored_entries value_stored ds)) c.slots-number-items.ensures.slots (c.iter-others.ensures.rest ∙ c.slots.ensures.slots)
