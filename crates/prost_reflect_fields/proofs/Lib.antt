@@ -5,6 +5,7 @@ pub mod SlotChanges
 pub mod Siblings
 pub mod SoundChanges
 pub mod ValuesAlone
+mod SlotsParted
 mod OneofPlaces
 mod MembersCleared
 pub mod Replaced

@@ -80,6 +80,14 @@ module _ {V : Type 0} where
   without_values test [] = []
   without_values test (e ∷ es) = then_slot e.0 (if test e.0 then left_in e.1 else Some e.1) (without_values test es)
 
+  abbrev pub numbered : ℕ → Option V → List (ℕ × V)
+  numbered n None = []
+  numbered n (Some v) = (n, v) ∷ []
+
+  -- The values at the numbers that pass, each with its number.
+  abbrev pub values_where : (ℕ → Bool) → List (ℕ × FieldSlot V) → List (ℕ × V)
+  values_where test es = flat_map (λ e. numbered e.0 (if test e.0 then value_in e.1 else None)) es
+
   abbrev pub clear_value : List (ℕ × FieldSlot V) → ℕ → List (ℕ × FieldSlot V)
   clear_value es n = without_values (nat_eq n) es
 

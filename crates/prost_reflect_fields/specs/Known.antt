@@ -1,5 +1,6 @@
 -- What a message type says of a number.
 use Rattle.std.specs.Prelude.{ℕ, Bool, false, nat_eq, List, [], ◌∷◌, Option, is_some, option_and_then}
+use Rattle.std.specs.Bool.{beq}
 use Rattle.std.specs.List.{list_all}
 use Rattle.prost_reflect_wire.specs.Record.{Record, Payload}
 use Rattle.prost_reflect_wire.specs.Schema.{Field, known, field_of, is_sibling, passes}
@@ -13,6 +14,10 @@ known_of d = known (schema_at d) (type_at d)
 
 abbrev pub is_known : List Field → ℕ → Bool
 is_known fields n = is_some (field_of fields n)
+
+-- The number is that of a field, or that of an extension.
+abbrev pub is_listed : (of_extensions : Bool) → List Field → ℕ → Bool
+is_listed of_extensions fields n = passes (field_of fields n) (λ f. beq of_extensions f.is_extension)
 
 abbrev pub oneof_of : List Field → ℕ → Option ℕ
 oneof_of fields n = option_and_then (λ f. f.oneof) (field_of fields n)

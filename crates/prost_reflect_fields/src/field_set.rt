@@ -6,12 +6,13 @@ ghost use Rattle.std.specs.Option.{option_copied, option_copied_mut};
 ghost use Rattle.prost_reflect_wire.specs.Unknown.{record_of};
 ghost use Rattle.prost_reflect_fields.specs.contracts.field_set.FieldSet.{the_row};
 ghost use Rattle.prost_reflect_fields.specs.Items.{IsAscending};
-ghost use Rattle.prost_reflect_fields.specs.Known.{known_of, is_known, keeps_unknown};
+ghost use Rattle.prost_reflect_fields.specs.Known.{known_of, is_known, is_listed, keeps_unknown};
 ghost use Rattle.prost_reflect_fields.specs.NumberSets.{HasWholeOneofs, AreReplaced};
-ghost use Rattle.prost_reflect_fields.specs.FieldSlots.{value_at, unknown_at, clear_value, with_value, UnknownAdded, SameStored, unknown_sets, values_alone};
+ghost use Rattle.prost_reflect_fields.specs.FieldSlots.{value_at, unknown_at, clear_value, without_values, values_where, with_value, UnknownAdded, SameStored, unknown_sets, values_alone};
 ghost use Rattle.prost_reflect_fields.specs.Sound.{IsSound, set_value_at, prepared};
 
 use crate::number_map::ascending;
+use crate::parting::parted;
 use crate::slot::FieldSlot;
 use crate::sorted_map::SortedMap;
 use crate::stored::{
@@ -123,6 +124,26 @@ impl<V: Drop> FieldSet<V> {
     {
         let alloc = self.fields.allocator();
         take_value(&mut self.fields, alloc, number)
+    }
+
+    /// Takes the values of all fields, or those of all extensions, each with its number. The unknown fields stay.
+    /// A refused growth changes nothing.
+    pub fn take_listed(&mut self, of_extensions: bool) -> Result<Vec<(u32, V)>, AllocError>
+        ensures values { IfOk result (λ taken. taken.items ≡ values_where (is_listed of_extensions (known_of self.old.0)) self.old.1) }
+        ensures left { OnOk result (self.new ≡ (self.old.0, without_values (is_listed of_extensions (known_of self.old.0)) self.old.1)) }
+        ensures err { OnErr result (self.new ≡ self.old) }
+        ensures ascending { IsAscending self.old.1 }
+        ensures sound { IsSound self.old.0 self.old.1 }
+    {
+        ascending(&self.fields);
+        let alloc = self.fields.allocator();
+        let room = self.fields.len();
+        let taken = Vec::with_capacity(alloc, room)?;
+        let kept = Vec::with_capacity(alloc, room)?;
+        let slots = self.fields.take_items();
+        let (taken, kept) = parted(&self.message_type, of_extensions, slots, taken, kept);
+        self.fields = SortedMap::from_items(kept);
+        Ok(taken)
     }
 
     /// Removes the value at the number. The unknown fields stay.

@@ -286,7 +286,7 @@ fn is_up_to(number: u32, bound: Option<u32>) -> bool
 }
 
 /// Puts an item behind those that are there, for which there is room.
-pub(crate) fn push_last<T: Drop>(items: &mut Vec<T>, item: T)
+pub fn push_last<T: Drop>(items: &mut Vec<T>, item: T)
     requires { vec_len items.old < vec_capacity items.old }
     ensures items { items.new.items ≡ items.old.items ++ item ∷ [] }
     ensures len { vec_len items.new ≡ vec_len items.old + 1 }
