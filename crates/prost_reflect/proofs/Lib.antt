@@ -45,6 +45,10 @@ mod OwnExtensions
 pub mod FieldDefaults
 pub mod OwnDefaults
 pub mod Shows
+mod ValueLists
+mod TakenValues
+mod ExtensionPlaces
+mod ListedNumbers
 pub mod LentWriting
 pub mod UnknownLists
 pub mod OwnRows

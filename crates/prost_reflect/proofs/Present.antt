@@ -77,35 +77,35 @@ module _ {A : Type 0} where
 -- ENTRIES
 
 -- the slot of an entry, or of none
-abbrev slot_of_item : Option (FieldSlot Value) → Slot
+abbrev pub slot_of_item : Option (FieldSlot Value) → Slot
 slot_of_item o = record { value = option_map value_of (option_and_then value_in o); unknowns = payloads_of (unwrap_or (option_and_then records_in o) []) }
 
-abbrev present_of_item : List Field → ℕ → Option (FieldSlot Value) → List PresentNumber
+abbrev pub present_of_item : List Field → ℕ → Option (FieldSlot Value) → List PresentNumber
 present_of_item fields n o = slot_present fields n (kept_slot fields n (slot_of_item o))
 
-present_by_keys : (fields : List Field) (es : List (ℕ × FieldSlot Value)) → IsAscending es
-    → flat_map (λ n. present_of_item fields n (item_at es n)) (keys_of es) ≡ flat_map (λ e. entry_present fields e.0 e.1) es
-unfolding IsStrictlySortedBy
-present_by_keys fields [] s = refl
-present_by_keys fields (e ∷ es) s = ap₂ (λ xs ys. xs ++ ys) here (behind ∙ present_by_keys fields es s.1)
-  where
-    here : present_of_item fields e.0 (item_at (e ∷ es) e.0) ≡ entry_present fields e.0 e.1
-    here = ap (λ o. present_of_item fields e.0 (cond (is_eq o) (Some e.1) (item_at es e.0))) (itself e.0)
+module _ {A : Type 0} (at : ℕ → Option (FieldSlot Value) → List A) where
+  -- what the items of all numbers give is what the entries give, one after another
+  pub by_keys : (es : List (ℕ × FieldSlot Value)) → IsAscending es → flat_map (λ n. at n (item_at es n)) (keys_of es) ≡ flat_map (λ e. at e.0 (Some e.1)) es
+  unfolding IsStrictlySortedBy
+  by_keys [] s = refl
+  by_keys (e ∷ es) s = ap₂ (λ xs ys. xs ++ ys) here (behind ∙ by_keys es s.1)
+    where
+      here : at e.0 (item_at (e ∷ es) e.0) ≡ at e.0 (Some e.1)
+      here = ap (λ o. at e.0 (cond (is_eq o) (Some e.1) (item_at es e.0))) (itself e.0)
 
-    above : Ascending (suc e.0) (keys_of es)
-    above = (keys_ascending (e ∷ es) s).1
+      above : Ascending (suc e.0) (keys_of es)
+      above = (keys_ascending (e ∷ es) s).1
 
-    behind : flat_map (λ n. present_of_item fields n (item_at (e ∷ es) n)) (keys_of es) ≡ flat_map (λ n. present_of_item fields n (item_at es n)) (keys_of es)
-    behind = flat_from _ _ (suc e.0) (keys_of es) above (λ n more. ap (λ b. present_of_item fields n (cond b (Some e.1) (item_at es n))) (apart_of n e.0 (λ same. omega (arith, same, more))))
+      behind : flat_map (λ n. at n (item_at (e ∷ es) n)) (keys_of es) ≡ flat_map (λ n. at n (item_at es n)) (keys_of es)
+      behind = flat_from _ _ (suc e.0) (keys_of es) above (λ n more. ap (λ b. at n (cond b (Some e.1) (item_at es n))) (apart_of n e.0 (λ same. omega (arith, same, more))))
 
-present_entries : (m : DynamicMessage) → IsAscending (stored_in m) → present_in (kept (content_of m)) ≡ flat_map (λ e. entry_present (known_of (message_type_of m)) e.0 e.1) (stored_in m)
-present_entries m s =
+pub present_items : (m : DynamicMessage) → IsAscending (stored_in m) → present_in (kept (content_of m)) ≡ flat_map (λ n. present_of_item (known_of (message_type_of m)) n (item_at (stored_in m) n)) (keys_of (stored_in m))
+present_items m s =
     ap (λ c. present_in (kept c)) (content_of_message m)
     ∙ flat_within at (length (numbers_in left) + length (keys_of es)) 0 (numbers_in left) (keys_of es) (omega arith) (entries_ascending left) (keys_ascending es s)
     (λ k low out. ap (slot_present fields k) (slot_outside left k out))
     (λ k low out. same k ∙ ap (present_of_item fields k) (not_among es k out))
     ∙ flat_from at (λ n. present_of_item fields n (item_at es n)) 0 (keys_of es) (keys_ascending es s) (λ n low. same n)
-    ∙ present_by_keys fields es s
   where
     es : List (ℕ × FieldSlot Value)
     es = stored_in m
@@ -121,6 +121,9 @@ present_entries m s =
 
     same : (k : ℕ) → at k ≡ present_of_item fields k (item_at es k)
     same k = ap (slot_present fields k) (slot_kept fields (entries_from (shown es)) k (rw (sym (ap entries_of (content_of_message m))) (message_arranged m s)) ∙ ap (kept_slot fields k) (slot_stored es k s))
+
+present_entries : (m : DynamicMessage) → IsAscending (stored_in m) → present_in (kept (content_of m)) ≡ flat_map (λ e. entry_present (known_of (message_type_of m)) e.0 e.1) (stored_in m)
+present_entries m s = present_items m s ∙ by_keys (present_of_item (known_of (message_type_of m))) (stored_in m) s
 
 -- a walk over all entries has found it
 pub all_present : (m : DynamicMessage) (items : List (ℕ × FieldSlot Value)) (i : ℕ) (numbers : List PresentNumber) → IsAscending (stored_in m) → items ≡ stored_in m → length items ≤ i

@@ -41,6 +41,7 @@ pub mod NamedServices
 pub mod NamedValues
 pub mod Places
 pub mod Reserved
+pub mod ValueLists
 pub mod Access
 pub mod ExtensionAccess
 pub mod Setting

@@ -18,7 +18,7 @@ GivesPlace old None new = (places_left old ≡ []) × (places_left new ≡ [])
 GivesPlace old (Some place) new = places_left old ≡ place ∷ places_left new
 
 -- What stands at the first place is given, or a refused clone; nothing where no place is left.
-abbrev pub GivesNext : {X : Type 0} → (ℕ → X → Type 0) → List ℕ → Option (Result X AllocError) → List ℕ → Type 0
+abbrev pub GivesNext : {A X : Type 0} → (A → X → Type 0) → List A → Option (Result X AllocError) → List A → Type 0
 GivesNext stands old None new = (old ≡ []) × (new ≡ old)
 GivesNext stands [] (Some given) new = ⊥
 GivesNext stands (place ∷ old) (Some given) new = (new ≡ old) × IfOk given (stands place)

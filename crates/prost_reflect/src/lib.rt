@@ -16,7 +16,8 @@ pub use descriptor::{
 };
 pub use message::relay::{RelayError, RelayHexError, relay, relay_hex};
 pub use message::{
-    DynamicMessage, GetFieldError, PresentNumber, SetFieldError, TakenUnknownFields, UnknownFields,
+    DynamicMessage, Extensions, Fields, GetFieldError, PresentNumber, SetFieldError,
+    TakenExtensions, TakenFields, TakenUnknownFields, UnknownFields,
 };
 pub use prost_reflect_pool::FileDescriptorProtos;
 pub use prost_reflect_tables::{Cardinality, PoolError};

@@ -5,8 +5,14 @@ ghost use Rattle.prost_reflect_wire.specs.Typing.{kept};
 ghost use Rattle.prost_reflect.specs.Present.{present_in, number_listed};
 ghost use Rattle.prost_reflect.specs.View.{content_of};
 
+mod descriptors;
+mod had;
+mod taking;
+
 use crate::message::{DynamicMessage, PresentNumber};
+pub use had::{Extensions, Fields};
 use std::alloc::{AllocError, Global};
+pub use taking::{TakenExtensions, TakenFields};
 
 impl DynamicMessage {
     /// The numbers of the fields that the message has, in ascending order.
