@@ -3,6 +3,8 @@
 #![tactic(auto)]
 
 #[cfg(test)]
+mod access;
+#[cfg(test)]
 mod by_name;
 #[cfg(test)]
 mod changes;
@@ -24,6 +26,8 @@ mod lengths;
 mod levels;
 #[cfg(test)]
 mod like;
+#[cfg(test)]
+mod lists;
 #[cfg(test)]
 mod merges;
 #[cfg(test)]

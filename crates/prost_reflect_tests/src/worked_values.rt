@@ -59,7 +59,8 @@ fn text_of(alloc: Global, value: &Value) -> Result<String, AllocError> {
     Ok(out)
 }
 
-fn decoded(alloc: Global, name: &str, digits: &str) -> Result<DynamicMessage, Fail> {
+/// The message that the digits mean to the type of the name.
+pub(crate) fn decoded(alloc: Global, name: &str, digits: &str) -> Result<DynamicMessage, Fail> {
     let bytes = hex::decode(alloc, digits)?;
     let descriptor = worked_type(alloc, name)?;
     Ok(DynamicMessage::decode(alloc, descriptor, bytes.as_slice())?)
