@@ -1,24 +1,21 @@
 -- The descriptors that are found by numbers of fields and extensions which a message type lists.
 use Rattle.std.proofs.Common.{◌≡◌, ℕ, ◌==◌, Bool, true, false, not, Option, Some, None, refl, sym, ap, ◌∙◌, unwrap_or, true≢false}
 use Rattle.std.specs.Bool.{beq}
-use Rattle.std.specs.Option.{option_map, option_and_then, is_some}
-use Rattle.std.specs.Prelude.{slice_get}
-use Rattle.prost_reflect_wire.specs.Schema.{field_of, passes}
-use Rattle.prost_reflect_tables.specs.CatalogRows.{ExtensionRow, catalog_row}
+use Rattle.std.specs.Option.{option_map, is_some}
+use Rattle.prost_reflect_wire.specs.Schema.{passes}
+use Rattle.prost_reflect_tables.specs.CatalogRows.{ExtensionRow}
 use Rattle.prost_reflect_tables.specs.Places.{fields_at, row_of, is_declared}
 use Rattle.prost_reflect_tables.specs.Rows.{FieldRow}
 use Rattle.prost_reflect_tables.specs.Shown.{schema_field}
 use Rattle.prost_reflect_pool.specs.Lookups.{extension_where}
 use Rattle.prost_reflect_pool.specs.MessageTypes.{fields_of}
 use Rattle.prost_reflect_pool.specs.Pools.{pool_rows as rows_in, pool_contents as contents_in}
-use Rattle.prost_reflect_pool.specs.SharedPools.{pool_rows, pool_contents}
-use Rattle.prost_reflect_pool.specs.declared.pool.LinkedPool.{LinkedPool}
+use Rattle.prost_reflect_pool.specs.SharedPools.{pool_rows}
 use Rattle.prost_reflect_pool.specs.declared.pooled_type.PooledType.{PooledType}
 use Rattle.prost_reflect_fields.specs.Known.{known_of, is_listed}
 use Rattle.prost_reflect.specs.Access.{IsOwnField, number_of, is_field_number}
 use Rattle.prost_reflect.specs.ExtensionAccess.{IsOwnExtension, extension_number}
 use Rattle.prost_reflect.specs.Named.{NamesEqual, NamesSame, SameMessage}
-use Rattle.prost_reflect.specs.NamedExtensions.{extension_named, extension_row_named}
 use Rattle.prost_reflect.specs.NamedFields.{declared_place}
 use Rattle.prost_reflect.specs.NamedFields as named
 use Rattle.prost_reflect.specs.declared.descriptor.extension.ExtensionDescriptor.{ExtensionDescriptor}

@@ -1,9 +1,8 @@
 -- The content that is left where the values of all fields, or of all extensions, were taken.
-use Rattle.std.proofs.Common.{◌≡◌, ℕ, Bool, true, false, cond, List, [], ◌∷◌, Option, Some, None, refl, ap, sym, ◌∙◌}
+use Rattle.std.proofs.Common.{◌≡◌, ℕ, Bool, true, false, cond, List, [], ◌∷◌, Some, refl, ap, sym, ◌∙◌}
 use Rattle.prost_reflect_wire.specs.Record.{Payload}
 use Rattle.prost_reflect_wire.specs.Content as contents
-use Rattle.prost_reflect_wire.specs.Content.{ContentOf, Entries, Slot, store, then_value, then_unknowns}
-use Rattle.prost_reflect_wire.specs.Schema.{known}
+use Rattle.prost_reflect_wire.specs.Content.{ContentOf, Entries, store, then_unknowns}
 use Rattle.prost_reflect_wire.specs.Unknown.{records_of}
 use Rattle.prost_reflect_pool.specs.MessageTypes.{schema_at, type_at}
 use Rattle.prost_reflect_pool.specs.declared.pooled_type.PooledType.{PooledType}

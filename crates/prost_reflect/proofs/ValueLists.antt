@@ -8,17 +8,17 @@ use Rattle.std.proofs.lemmas.List.Elements.{All-nil, All-cons, All-head, All-tai
 use Rattle.prost_reflect_wire.specs.Content as contents
 use Rattle.prost_reflect_wire.specs.Record.{Payload}
 use Rattle.prost_reflect_wire.specs.Schema.{Field, field_of, passes}
-use Rattle.prost_reflect_wire.specs.Typing.{kept, kept_inside, kept_value, is_field_default}
+use Rattle.prost_reflect_wire.specs.Typing.{kept_inside, kept_value, is_field_default}
 use Rattle.prost_reflect_fields.specs.declared.slot.FieldSlot.{FieldSlot}
 use Rattle.prost_reflect_fields.specs.declared.slot.FieldSlot.TheVariants as entries
-use Rattle.prost_reflect_fields.specs.FieldSlots.{value_in, value_at, records_in, has_value, numbered, values_where}
+use Rattle.prost_reflect_fields.specs.FieldSlots.{value_in, value_at, numbered, values_where}
 use Rattle.prost_reflect_fields.specs.Items.{IsAscending, item_at}
 use Rattle.prost_reflect_fields.specs.Known.{known_of, is_known, is_listed}
 use Rattle.prost_reflect_fields.specs.Sound.{IsSound}
 use Rattle.prost_reflect.specs.Access.{had_at, saying}
-use Rattle.prost_reflect.specs.Present.{value_present, unknown_present, present_in, number_listed}
-use Rattle.prost_reflect.specs.ValueLists.{had_numbers, had_pairs, had_in, had_values, said}
-use Rattle.prost_reflect.specs.View.{value_of, content_of, message_type_of, stored_in, payloads_of}
+use Rattle.prost_reflect.specs.Present.{value_present, unknown_present, number_listed}
+use Rattle.prost_reflect.specs.ValueLists.{had_pairs, had_in, had_values, said}
+use Rattle.prost_reflect.specs.View.{value_of, message_type_of, stored_in, payloads_of}
 use Rattle.prost_reflect.specs.declared.message.DynamicMessage.{DynamicMessage}
 use Rattle.prost_reflect.specs.declared.message.present.PresentNumber.{PresentNumber}
 use Rattle.prost_reflect.specs.declared.message.present.PresentNumber.TheVariants.{Field as FieldNumber, Extension as ExtensionNumber}
