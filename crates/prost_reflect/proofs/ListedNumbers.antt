@@ -78,8 +78,7 @@ extension_missed t d n same h none = of (row_of (fields_of t) n) refl (sym (list
 
 pub extension_own : (t : PooledType) (d : MessageDescriptor) (x : ExtensionDescriptor) (n : ℕ) → NamesSame d t → x.pool.inner.value ≡ d.pool.inner.value → extension_where d.pool.inner.value d.index (λ f. f.number == n) ≡ Some x.index → IsOwnExtension t x × (extension_number x ≡ n)
 extension_own t d x n same pool at =
-    let e : FoundExtension x.pool.inner.value d.index n x.index = extension_found x.pool.inner.value d.index n x.index ((λ i. extension_where (pool i) d.index (λ f. f.number == n)) ∙ at) in
-    (
+    let e : FoundExtension x.pool.inner.value d.index n x.index = extension_found x.pool.inner.value d.index n x.index ((λ i. extension_where (pool i) d.index (λ f. f.number == n)) ∙ at) in (
       (ap contents_in (pool ∙ same.0), ap (option_map (λ (e : ExtensionRow). e.message)) e.at ∙ ap Some (e.message ∙ same.1)),
       ap (λ (o : Option FieldRow). unwrap_or (option_map (λ f. f.number) o) 0) e.stands ∙ e.number,
     )

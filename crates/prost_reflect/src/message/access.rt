@@ -274,11 +274,7 @@ fn default_at(alloc: Global, message_type: &PooledType, number: u32) -> Result<V
 }
 
 /// The value, unless it says nothing.
-pub(super) fn saying(
-    message_type: &PooledType,
-    number: u32,
-    value: Option<Value>,
-) -> Option<Value>
+pub(super) fn saying(message_type: &PooledType, number: u32, value: Option<Value>) -> Option<Value>
     ensures { result ≡ option_and_then (saying (known_of message_type.now) number) value }
 {
     let value = value?;

@@ -10,7 +10,10 @@ use prost_reflect_pool::PooledType;
 use std::alloc::AllocError;
 
 /// The field of a number of the message type.
-pub(super) fn field_at(message_type: &PooledType, number: u32) -> Result<FieldDescriptor, AllocError>
+pub(super) fn field_at(
+    message_type: &PooledType,
+    number: u32,
+) -> Result<FieldDescriptor, AllocError>
     requires { is_listed false (known_of message_type.now) number ≡ true }
     ensures own { IfOk result (λ field. IsOwnField message_type.now field) }
     ensures number { IfOk result (λ field. number_of field ≡ number) }
