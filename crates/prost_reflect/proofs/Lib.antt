@@ -53,6 +53,11 @@ pub mod LentWriting
 pub mod UnknownLists
 pub mod OwnRows
 pub mod RowLaws
+pub mod Paths
+mod SetPaths
+mod PlainValues
+mod Edits
+mod LentPaths
 pub mod KindDefaults
 mod ReadBack
 mod MergedBytes

@@ -45,6 +45,8 @@ pub mod ValueLists
 pub mod Access
 pub mod ExtensionAccess
 pub mod Setting
+pub mod Paths
+pub mod Edits
 pub mod Lending
 pub mod UnknownLists
 pub mod Merged

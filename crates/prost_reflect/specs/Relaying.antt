@@ -8,9 +8,10 @@ use Rattle.prost_reflect_wire.specs.declared.error.DecodeError.{DecodeError}
 use Rattle.prost_reflect_wire.specs.declared.error.DecodeError.TheVariants as decode_errors
 use Rattle.prost_reflect_wire.specs.declared.error.EncodeError.TheVariants as encode_errors
 use Rattle.prost_reflect_wire.specs.Schema.{Schema}
-use Rattle.prost_reflect_wire.specs.Content.{Content}
+use Rattle.prost_reflect_wire.specs.Content.{Content, schema_of, type_of}
 use Rattle.prost_reflect_wire.specs.Grammar.{LEVEL_LIMIT, Accepts}
 use Rattle.prost_reflect_wire.specs.Meaning.{decoded}
+use Rattle.prost_reflect_wire.specs.Typing.{kept, WellStored}
 use Rattle.prost_reflect_wire.specs.Writing.{encoded}
 use Rattle.prost_reflect_wire.specs.Fault.{StandsInMessage}
 use Rattle.prost_reflect_wire.specs.Reduction.{Reduced}
@@ -21,6 +22,14 @@ use Rattle.prost_reflect.specs.declared.message.relay.RelayHexError.{RelayHexErr
 use Rattle.prost_reflect.specs.declared.message.relay.RelayHexError.TheVariants.{Hex, Relay, OutOfMemory}
 
 -- BYTES
+
+-- The type accepts the bytes, and they mean what is kept of this content, which is of the type and well-stored.
+pub record IsReadBy (schema : Schema) (T : ℕ) (bytes : List ℕ) (stored : Content) : Type 0 where
+  pub accepts : Accepts schema LEVEL_LIMIT T bytes
+  pub means : decoded schema LEVEL_LIMIT T bytes ≡ Some (kept stored)
+  pub schema_is : schema_of stored ≡ schema
+  pub type_is : type_of stored ≡ T
+  pub sound : WellStored stored
 
 -- The type accepts the bytes, and these are the encoding of what they mean.
 pub record IsRelayed (schema : Schema) (T : ℕ) (bytes written : List ℕ) : Type 0 where

@@ -14,7 +14,7 @@ pub use descriptor::{
     MethodDescriptors, OneofDescriptor, OneofDescriptors, OptionsError, Placed, Places,
     ReservedNames, ReservedRanges, ServiceDescriptor, ServiceDescriptors, Syntax, builtin_pool,
 };
-pub use message::relay::{RelayError, RelayHexError, relay, relay_hex};
+pub use message::relay::{RelayError, RelayHexError, RelayWithError, relay, relay_hex, relay_with};
 pub use message::{
     DynamicMessage, Extensions, Fields, GetFieldError, PresentNumber, SetFieldError,
     TakenExtensions, TakenFields, TakenUnknownFields, UnknownFields,

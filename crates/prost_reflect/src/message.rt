@@ -34,6 +34,7 @@ mod extensions;
 mod lending;
 mod lists;
 mod merge;
+mod path;
 mod present;
 pub(crate) mod relay;
 mod setting;

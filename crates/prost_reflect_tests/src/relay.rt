@@ -2,7 +2,7 @@
 
 use prost_reflect::{
     DecodeError, DescriptorPool, DynamicMessage, MessageDescriptor, RelayError, RelayHexError,
-    relay, relay_hex,
+    RelayWithError, Value, relay, relay_hex, relay_with,
 };
 use std::alloc::Global;
 use std::test::Fail;
@@ -113,5 +113,109 @@ fn bytes_are_relayed(rt: HostRuntime) -> Result<(), Fail> {
     let older = message_type(alloc, OLDER, "Foo")?;
     let written = relay(alloc, &older, &[8, 1, 8, 2])?;
     assert!(rt; written.as_slice() == [0x0a, 2, 1, 2].as_slice());
+    Ok(())
+}
+
+/// `message G { repeated group Item = 1 { optional int32 x = 1; } }`, of proto2.
+static GROUPS: &[u8] =
+    b"\x0aA\x0a\x07f.proto\"6\x0a\x01G\x12\x1b\x0a\x04item\x18\x01 \x03(\x0a2\x07.G.ItemR\x04item\x1a\x14\
+    \x0a\x04Item\x12\x0c\x0a\x01x\x18\x01 \x01(\x05R\x01x";
+
+/// The digits of what is written of bytes with a value set at a path.
+fn edited(
+    alloc: Global,
+    set: &[u8],
+    name: &str,
+    digits: &str,
+    path: &[u32],
+    value: Value,
+) -> Result<String, Fail> {
+    let older = message_type(alloc, set, name)?;
+    let bytes = hex::decode(alloc, digits)?;
+    let written = relay_with(alloc, &older, bytes.as_slice(), path, value)?;
+    Ok(hex::encode(alloc, written.as_slice())?)
+}
+
+/// Why none is.
+fn refusal(
+    alloc: Global,
+    name: &str,
+    digits: &str,
+    path: &[u32],
+    value: Value,
+) -> Result<Option<RelayWithError>, Fail> {
+    let older = message_type(alloc, NEWER, name)?;
+    let bytes = hex::decode(alloc, digits)?;
+    Ok(relay_with(alloc, &older, bytes.as_slice(), path, value).err())
+}
+
+#[test]
+fn values_are_set_through_older_types(rt: HostRuntime) -> Result<(), Fail> {
+    let alloc = rt.alloc();
+    let written = edited(alloc, OLDER, "MyMessage", "08051042", &[2], Value::I32(7))?;
+    assert_eq!(rt; written.as_str(), "08051007");
+    let same = newer(alloc, "MyMessage", written.as_str())? == newer(alloc, "MyMessage", "10070805")?;
+    assert!(rt; same);
+    let written = edited(alloc, OLDER, "MyMessage", "1a0408051042", &[3, 2], Value::I32(7))?;
+    assert_eq!(rt; written.as_str(), "1a0408051007");
+    let written = edited(alloc, OLDER, "MyMessage", "", &[3, 3, 2], Value::I32(0))?;
+    assert_eq!(rt; written.as_str(), "1a041a021000");
+    Ok(())
+}
+
+#[test]
+fn values_take_the_place_of_others(rt: HostRuntime) -> Result<(), Fail> {
+    let alloc = rt.alloc();
+    let written = edited(alloc, NEWER, "Q", "12021042", &[1], Value::I32(0))?;
+    assert_eq!(rt; written.as_str(), "0800");
+    let written = edited(alloc, NEWER, "C", "0807", &[1], Value::EnumNumber(1))?;
+    assert_eq!(rt; written.as_str(), "08010807");
+    let none = Value::List(Vec::new(alloc));
+    let written = edited(alloc, GROUPS, "G", "0b08010c", &[1], none)?;
+    assert_eq!(rt; written.as_str(), "");
+    Ok(())
+}
+
+#[test]
+fn a_path_goes_down_a_hundred_levels(rt: HostRuntime) -> Result<(), Fail> {
+    let alloc = rt.alloc();
+    let mut path = [3; 101];
+    path[100] = 2;
+    let written = edited(alloc, NEWER, "MyMessage", "", path.as_slice(), Value::I32(0))?;
+    let read = newer(alloc, "MyMessage", written.as_str())?;
+    assert!(rt; read.has_field_by_number(3));
+    let mut path = [3; 102];
+    path[101] = 2;
+    let refused = refusal(alloc, "MyMessage", "", path.as_slice(), Value::I32(0))?;
+    assert_eq!(rt; refused, Some(RelayWithError::NotFound));
+    Ok(())
+}
+
+#[test]
+fn what_is_not_set_is_named(rt: HostRuntime) -> Result<(), Fail> {
+    let alloc = rt.alloc();
+    let refused = refusal(alloc, "MyMessage", "", &[], Value::I32(0))?;
+    assert_eq!(rt; refused, Some(RelayWithError::NotFound));
+    let refused = refusal(alloc, "MyMessage", "08", &[42], Value::I32(0))?;
+    assert_eq!(rt; refused, Some(RelayWithError::NotFound));
+    let refused = refusal(alloc, "MyMessage", "08", &[1, 1], Value::I32(0))?;
+    assert_eq!(rt; refused, Some(RelayWithError::NotFound));
+    let refused = refusal(alloc, "Foo", "", &[100], Value::List(Vec::new(alloc)))?;
+    assert_eq!(rt; refused, Some(RelayWithError::NotFound));
+    let refused = refusal(alloc, "C", "0807", &[1], Value::EnumNumber(7))?;
+    assert_eq!(rt; refused, Some(RelayWithError::InvalidType));
+    let refused = refusal(alloc, "MyMessage", "08", &[1], Value::I32(5))?;
+    assert_eq!(rt; refused, Some(RelayWithError::Decode(DecodeError::Truncated)));
+    Ok(())
+}
+
+#[test]
+fn messages_are_not_set(rt: HostRuntime) -> Result<(), Fail> {
+    let alloc = rt.alloc();
+    for digits in ["", "08"] {
+        let message = Value::Message(newer(alloc, "MyMessage", "")?);
+        let refused = refusal(alloc, "MyMessage", digits, &[3], message)?;
+        assert_eq!(rt; refused, Some(RelayWithError::HoldsMessage));
+    }
     Ok(())
 }

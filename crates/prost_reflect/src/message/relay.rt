@@ -1,15 +1,19 @@
 //! Relaying: bytes are read by an older message type, and written again.
 
-ghost use Rattle.std.specs.Prelude.{◌≡◌, IfOk, IfErr, string_bytes};
+ghost use Rattle.std.specs.Prelude.{◌≡◌, ◌≢◌, IfOk, IfErr, string_bytes};
 ghost use Rattle.hex.specs.declared.error.FromHexError.TheVariants as hex_errors;
 ghost use Rattle.prost_reflect_wire.specs.declared.error.DecodeError.TheVariants as decode_errors;
 ghost use Rattle.prost_reflect.specs.declared.message.relay.RelayError.TheVariants as relay_errors;
 ghost use Rattle.prost_reflect.specs.declared.message.relay.RelayHexError.TheVariants as relay_hex_errors;
 ghost use Rattle.prost_reflect.specs.Named.{schema_named, type_named};
-ghost use Rattle.prost_reflect.specs.Relaying.{IsRelayed, RefusesRelay, OlderAccepts, Passes, IsRelayedHex, RefusesHex, hex_refusal};
+ghost use Rattle.prost_reflect.specs.Relaying.{IsReadBy, IsFaulty, IsRelayed, RefusesRelay, OlderAccepts, Passes, IsRelayedHex, RefusesHex, hex_refusal};
+ghost use Rattle.prost_reflect.specs.View.{content_of};
+
+mod edit;
 
 use crate::descriptor::MessageDescriptor;
 use crate::message::DynamicMessage;
+pub use edit::{RelayWithError, relay_with};
 use hex::FromHexError;
 use prost_reflect_wire::{DecodeError, EncodeError};
 use std::alloc::{AllocError, Global};
@@ -24,14 +28,6 @@ pub enum RelayError {
     /// What was read is not written.
     #[error("the message is not written: {0}")]
     Encode(EncodeError),
-}
-
-impl From<AllocError> for RelayError {
-    ghost from_gives = { λ _ e. e ≡ relay_errors.Decode decode_errors.OutOfMemory };
-
-    fn from(_error: AllocError) -> RelayError {
-        RelayError::Decode(DecodeError::OutOfMemory)
-    }
 }
 
 impl From<DecodeError> for RelayError {
@@ -105,10 +101,22 @@ pub fn relay(alloc: Global, older: &MessageDescriptor, bytes: &[u8]) -> Result<V
     ensures older_accepts { OlderAccepts (schema_named older.now) (type_named older.now) bytes.now }
     ensures passes { IfOk result (λ written. Passes (schema_named older.now) (type_named older.now) bytes.now written.items) }
 {
-    let descriptor = older.clone()?;
-    let message = DynamicMessage::decode(alloc, descriptor, bytes)?;
+    let message = decode_by(alloc, older, bytes)?;
     let written = message.encode_to_vec(alloc)?;
     Ok(written)
+}
+
+/// What the bytes mean to the older type.
+fn decode_by(
+    alloc: Global,
+    older: &MessageDescriptor,
+    bytes: &[u8],
+) -> Result<DynamicMessage, DecodeError>
+    ensures read { IfOk result (λ message. IsReadBy (schema_named older.now) (type_named older.now) bytes.now (content_of message)) }
+    ensures refused { IfErr result (λ e. e ≢ decode_errors.OutOfMemory → IsFaulty (schema_named older.now) (type_named older.now) e bytes.now) }
+{
+    let descriptor = older.clone()?;
+    DynamicMessage::decode(alloc, descriptor, bytes)
 }
 
 /// `relay` of the bytes that hex digits of either case spell, as lower-case hex digits.

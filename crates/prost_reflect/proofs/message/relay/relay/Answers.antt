@@ -4,9 +4,6 @@ use Rattle.prost_reflect.specs.Named.{schema_named, type_named}
 use Rattle.prost_reflect.proofs.Passing.{older_accepts, passes}
 use Rattle.prost_reflect.proofs.message.relay.relay.Goals as goal
 
-pub returns-in_err-descriptor-clause-older_accepts : goal.returns-in_err-descriptor-clause-older_accepts
-returns-in_err-descriptor-clause-older_accepts c = older_accepts (schema_named c.args.older.now) (type_named c.args.older.now) c.args.bytes.now
-
 pub returns-in_err-message-clause-older_accepts : goal.returns-in_err-message-clause-older_accepts
 returns-in_err-message-clause-older_accepts c = older_accepts (schema_named c.args.older.now) (type_named c.args.older.now) c.args.bytes.now
 

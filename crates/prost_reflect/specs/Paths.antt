@@ -1,0 +1,48 @@
+-- Paths of numbers: the field that one leads to, and what is set there (the encoding guide, "Submessages", for what is in what).
+use Rattle.std.specs.Prelude.{◌≡◌, ℕ, if◌then◌else◌, List, [], ◌∷◌, Option, Some, None}
+use Rattle.prost_reflect_wire.specs.Varint.{◌>>=◌}
+use Rattle.prost_reflect_wire.specs.Schema.{Field, Schema, known, field_of, is_singular}
+use Rattle.prost_reflect_wire.specs.Content.{Content, Value, MessageValue, schema_of, type_of}
+use Rattle.prost_reflect_wire.specs.Typing.{kept, WellStored}
+use Rattle.prost_reflect_wire.specs.Edit.{set_at, message_of, PathTo}
+use Rattle.prost_reflect_wire.specs.Decoding.{Holds}
+use Rattle.prost_reflect.specs.View.{content_of}
+use Rattle.prost_reflect.specs.declared.message.DynamicMessage.{DynamicMessage}
+
+-- FIELDS
+
+-- The field of a number; an extension is none.
+abbrev pub own_field : List Field → ℕ → Option Field
+own_field fields n = field_of fields n >>= λ f. if f.is_extension then None else Some f
+
+-- The message type of a field of one message or group.
+abbrev pub message_inside : Field → Option ℕ
+message_inside f = if is_singular f.form then message_of f.value_type.kind else None
+
+-- The field that a path leads to: the last number's, in the message type of the fields before it.
+abbrev pub field_at : Schema → ℕ → List ℕ → Option Field
+field_at schema T [] = None
+field_at schema T (n ∷ []) = own_field (known schema T) n
+field_at schema T (n ∷ m ∷ path) = own_field (known schema T) n >>= λ f. message_inside f >>= λ U. field_at schema U (m ∷ path)
+
+-- SETTING
+
+-- The value is set at the path in what was stored, which is of the same type and well-stored.
+pub record IsSetAt (path : List ℕ) (v : Value) (old new : Content) : Type 0 where
+  pub set : kept new ≡ set_at path v (kept old)
+  pub holds : Holds old new
+
+-- A value holds a message, well-stored, in which the path leads to a field that takes the value.
+pub record HeldPath (path : List ℕ) (v : Value) (held : Option DynamicMessage) : Type 0 where
+  pub message : DynamicMessage
+  pub is : held ≡ Some message
+  pub sound : WellStored (content_of message)
+  pub leads : PathTo (schema_of (content_of message)) (type_of (content_of message)) path v
+
+-- It was set in the message that was held, and the value is what came of it.
+pub record SetInHeld (path : List ℕ) (v : Value) (held : Option DynamicMessage) (new : Value) : Type 0 where
+  pub before : DynamicMessage
+  pub after : DynamicMessage
+  pub was : held ≡ Some before
+  pub is : new ≡ MessageValue (content_of after)
+  pub set : IsSetAt path v (content_of before) (content_of after)
