@@ -154,9 +154,17 @@ fn values_are_set_through_older_types(rt: HostRuntime) -> Result<(), Fail> {
     let alloc = rt.alloc();
     let written = edited(alloc, OLDER, "MyMessage", "08051042", &[2], Value::I32(7))?;
     assert_eq!(rt; written.as_str(), "08051007");
-    let same = newer(alloc, "MyMessage", written.as_str())? == newer(alloc, "MyMessage", "10070805")?;
+    let same = newer(alloc, "MyMessage", written.as_str())?
+        == newer(alloc, "MyMessage", "10070805")?;
     assert!(rt; same);
-    let written = edited(alloc, OLDER, "MyMessage", "1a0408051042", &[3, 2], Value::I32(7))?;
+    let written = edited(
+        alloc,
+        OLDER,
+        "MyMessage",
+        "1a0408051042",
+        &[3, 2],
+        Value::I32(7),
+    )?;
     assert_eq!(rt; written.as_str(), "1a0408051007");
     let written = edited(alloc, OLDER, "MyMessage", "", &[3, 3, 2], Value::I32(0))?;
     assert_eq!(rt; written.as_str(), "1a041a021000");
@@ -181,7 +189,14 @@ fn a_path_goes_down_a_hundred_levels(rt: HostRuntime) -> Result<(), Fail> {
     let alloc = rt.alloc();
     let mut path = [3; 101];
     path[100] = 2;
-    let written = edited(alloc, NEWER, "MyMessage", "", path.as_slice(), Value::I32(0))?;
+    let written = edited(
+        alloc,
+        NEWER,
+        "MyMessage",
+        "",
+        path.as_slice(),
+        Value::I32(0),
+    )?;
     let read = newer(alloc, "MyMessage", written.as_str())?;
     assert!(rt; read.has_field_by_number(3));
     let mut path = [3; 102];
@@ -205,7 +220,10 @@ fn what_is_not_set_is_named(rt: HostRuntime) -> Result<(), Fail> {
     let refused = refusal(alloc, "C", "0807", &[1], Value::EnumNumber(7))?;
     assert_eq!(rt; refused, Some(RelayWithError::InvalidType));
     let refused = refusal(alloc, "MyMessage", "08", &[1], Value::I32(5))?;
-    assert_eq!(rt; refused, Some(RelayWithError::Decode(DecodeError::Truncated)));
+    assert_eq!(rt;
+        refused,
+        Some(RelayWithError::Decode(DecodeError::Truncated))
+    );
     Ok(())
 }
 
