@@ -3,9 +3,9 @@
 #![tactic(auto)]
 
 #[cfg(test)]
-mod encodings;
+mod copies;
 #[cfg(test)]
-mod memory;
+mod encodings;
 #[cfg(test)]
 mod records;
 #[cfg(test)]

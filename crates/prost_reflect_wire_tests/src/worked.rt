@@ -97,3 +97,27 @@ fn fields_have_their_values(rt: HostRuntime) -> Result<(), Fail> {
     }
     Ok(())
 }
+
+/// The bytes of a delimited field, its number, and what is delimited.
+static DELIMITED: [(&[u8], u32, &[u8]); 2] = [
+    (
+        b"\x7a\x07\x69\xa6\xbe\x6d\xb6\xff\x58",
+        15,
+        b"\x69\xa6\xbe\x6d\xb6\xff\x58",
+    ),
+    (b"\x1a\x02\x10\x42", 3, b"\x10\x42"),
+];
+
+#[test]
+fn delimited_fields_have_their_bytes(rt: HostRuntime) -> Result<(), Fail> {
+    for (bytes, number, inside) in DELIMITED {
+        let mut cursor = bytes;
+        let field = UnknownField::decode(rt.alloc(), &mut cursor, RECURSION_LIMIT)?;
+        assert_eq!(rt; field.number(), number);
+        match field.value() {
+            UnknownFieldValue::LengthDelimited(held) => assert_eq!(rt; held.as_slice(), inside),
+            _ => return Err(Fail::from("not delimited")),
+        }
+    }
+    Ok(())
+}
