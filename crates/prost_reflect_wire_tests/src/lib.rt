@@ -7,8 +7,6 @@ mod copies;
 #[cfg(test)]
 mod encodings;
 #[cfg(test)]
-mod memory;
-#[cfg(test)]
 mod records;
 #[cfg(test)]
 mod unknown;
