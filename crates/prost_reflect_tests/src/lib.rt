@@ -7,6 +7,8 @@ mod access;
 #[cfg(test)]
 mod by_name;
 #[cfg(test)]
+mod canonical;
+#[cfg(test)]
 mod changes;
 #[cfg(test)]
 mod choices;
@@ -20,6 +22,8 @@ mod fields;
 mod forms;
 #[cfg(test)]
 mod kinds;
+#[cfg(test)]
+mod large;
 #[cfg(test)]
 mod lengths;
 #[cfg(test)]

@@ -7,7 +7,7 @@ use std::alloc::Global;
 use std::test::Fail;
 
 /// A message type, the digits of bytes, and why they are refused.
-static REFUSED: [(&str, &str, DecodeError); 21] = [
+static REFUSED: [(&str, &str, DecodeError); 22] = [
     // A tenth byte above 1, and an eleventh byte.
     (
         "package.MyMessage",
@@ -23,10 +23,11 @@ static REFUSED: [(&str, &str, DecodeError); 21] = [
     ("package.MyMessage", "00", DecodeError::Key),
     ("package.MyMessage", "0e", DecodeError::Key),
     ("package.MyMessage", "8080808010", DecodeError::Key),
-    // A number for a map, and for its entry's key; a message for a group.
+    // A number for a map, and for its entry's key; a message for a group, and four bytes for a number.
     ("a.P", "0805", DecodeError::WireType),
     ("a.P", "0a020801", DecodeError::WireType),
     ("b.G", "0a020801", DecodeError::WireType),
+    ("b.Foo", "0d00000000", DecodeError::WireType),
     ("package.MyMessage", "1b1c", DecodeError::WireType),
     // A group is closed by its own number, where it stands.
     ("b.G", "0b080114", DecodeError::EndGroup),

@@ -76,7 +76,7 @@ pub(crate) fn worked_type(alloc: Global, name: &str) -> Result<MessageDescriptor
 
 /// A message type, the digits of bytes, those of what is written again, and the numbers that are present: fields, extensions
 /// in brackets, and unknown numbers with how many records they have.
-pub(crate) static WRITTEN: [(&str, &str, &str, &str); 35] = [
+pub(crate) static WRITTEN: [(&str, &str, &str, &str); 43] = [
     ("package.MyMessage", "", "", ""),
     ("package.MyMessage", "089601", "089601", "1 "),
     ("package.MyMessage", "0800", "", ""),
@@ -114,6 +114,13 @@ pub(crate) static WRITTEN: [(&str, &str, &str, &str); 35] = [
         "0896011a0210422a002801",
         "1 3 5?2 ",
     ),
+    // Unknown fields stand in ascending order of their numbers, those of one number in the order in which they came.
+    (
+        "package.MyMessage",
+        "300128022801",
+        "280228013001",
+        "5?2 6?1 ",
+    ),
     // A list is read packed or not. Proto2 writes a record for each element, proto3 one for all.
     ("b.Foo", "0a020102", "08010802", "1 "),
     ("b.Foo", "10050807", "08071005", "1 2?1 "),
@@ -123,6 +130,8 @@ pub(crate) static WRITTEN: [(&str, &str, &str, &str); 35] = [
         "0a0b01ffffffffffffffffff01",
         "1 ",
     ),
+    ("a.Foo", "08010a02020308040a00", "0a0401020304", "1 "),
+    ("a.Foo", "0a00", "", ""),
     // The last entry of a key counts. What an entry lacks is zero or empty, and what is none of both is dropped.
     (
         "a.P",
@@ -140,11 +149,25 @@ pub(crate) static WRITTEN: [(&str, &str, &str, &str); 35] = [
     ("a.P", "0a0418031001", "0a021001", "1 "),
     ("a.P", "0a025354", "0a00", "1 "),
     ("a.P", "1200", "12021200", "2 "),
+    // Keys ascend as numbers, and the records of an entry's message are those of one message.
+    (
+        "a.P",
+        "12020801120b08ffffffffffffffffff01",
+        "120d08ffffffffffffffffff011200120408011200",
+        "2 ",
+    ),
+    (
+        "a.P",
+        "120a08011202080512021042",
+        "12080801120408051042",
+        "2 ",
+    ),
     // In proto2 the key and the value of an entry have presence.
     ("b.T", "0a00", "0a040a001000", "1 "),
     // A member clears the others of its oneof.
     ("a.Q", "12020805080112021042", "12021042", "2 "),
     ("a.Q", "12000801", "0801", "1 "),
+    ("a.Q", "08011200", "1200", "2 "),
     ("b.G", "0b08010c", "0b08010c", "1 "),
     // The zero with a sign is no default.
     ("a.F", "0d00000080", "0d00000080", "1 "),
@@ -154,6 +177,14 @@ pub(crate) static WRITTEN: [(&str, &str, &str, &str); 35] = [
     ("C", "0807", "0807", "1?1 "),
     ("C", "080108070800", "08000807", "1 1?1 "),
     ("C", "120401070009", "1202010010071009", "2 2?2 "),
+    ("C", "120107", "1007", "2?1 "),
+    // An entry with such a number stays unknown whole.
+    (
+        "C",
+        "1a050a016110011a050a01611007",
+        "1a050a016110011a050a01611007",
+        "3 3?1 ",
+    ),
     ("C", "28052007", "20072805", "4?1 5 "),
     // All 64 bits of it are kept; the low 32 bits say which number it is.
     ("C", "08ffffffff0f", "08ffffffff0f", "1?1 "),

@@ -7,12 +7,13 @@ use std::alloc::{AllocError, Global};
 use std::test::Fail;
 
 /// A message type, the digits of bytes, a number, and its value: numbers are split by commas, a key and a value by a colon.
-static VALUES: [(&str, &str, u32, &str); 14] = [
+static VALUES: [(&str, &str, u32, &str); 15] = [
     ("package.MyMessage", "089601", 1, "150"),
     ("package.MyMessage", "08ffffffff0f", 1, "-1"),
     ("b.Foo", "0a020102", 1, "1,2"),
     ("b.Foo", "10050807", 1, "7"),
     ("a.Foo", "0a0b01ffffffffffffffffff01", 1, "1,-1"),
+    ("a.Foo", "08010a02020308040a00", 1, "1,2,3,4"),
     ("a.P", "0a050a016110010a050a01611002", 1, "a:2"),
     ("a.P", "0a00", 1, ":0"),
     ("a.P", "0a0418031001", 1, ":1"),
@@ -165,13 +166,30 @@ fn a_list_is_set(rt: HostRuntime) -> Result<(), Fail> {
     Ok(())
 }
 
-/// A message type, the field 1 of which refuses a text, and what the refusal says.
-static REFUSALS: [(&str, &str); 4] = [
-    ("package.MyMessage", "expected a value of type 'int32'"),
-    ("b.Foo", "expected a value of type 'repeated int32'"),
-    ("a.P", "expected a value of type 'map<string, int32>'"),
-    ("C", "expected a value of type 'E'"),
+/// A message type, a value that its field 1 refuses, and what the refusal says.
+static REFUSALS: [(&str, &str, &str); 4] = [
+    (
+        "package.MyMessage",
+        "bar",
+        "expected a value of type 'int32'",
+    ),
+    ("b.Foo", "i32", "expected a value of type 'repeated int32'"),
+    (
+        "a.P",
+        "i32",
+        "expected a value of type 'map<string, int32>'",
+    ),
+    ("C", "number 7", "expected a value of type 'E'"),
 ];
+
+/// The value that a word of the rows stands for.
+fn misfit(alloc: Global, word: &str) -> Result<Value, Fail> {
+    match word {
+        "i32" => Ok(Value::I32(1)),
+        "number 7" => Ok(Value::EnumNumber(7)),
+        text => Ok(Value::String(String::from_str(alloc, text)?)),
+    }
+}
 
 fn refusal(alloc: Global, field: &FieldDescriptor, value: Value) -> Result<SetFieldError, Fail> {
     let descriptor = field.parent_message().clone()?;
@@ -189,11 +207,10 @@ fn refusal(alloc: Global, field: &FieldDescriptor, value: Value) -> Result<SetFi
 
 #[test]
 fn a_worked_refusal_names_the_type(rt: HostRuntime) -> Result<(), Fail> {
-    for (name, text) in &REFUSALS {
+    for (name, word, text) in &REFUSALS {
         let field = worked_type(rt.alloc(), name)?.get_field(1)?;
         let field = field.ok_or("no field 1")?;
-        let value = Value::String(String::from_str(rt.alloc(), "bar")?);
-        let refused = refusal(rt.alloc(), &field, value)?;
+        let refused = refusal(rt.alloc(), &field, misfit(rt.alloc(), word)?)?;
         assert!(rt; format!(in rt.alloc(); "{refused}")?.as_str() == *text);
     }
     Ok(())
