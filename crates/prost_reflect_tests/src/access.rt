@@ -8,29 +8,39 @@ use std::borrow::Cow;
 use std::test::Fail;
 
 /// A message type, the digits of a message, the number of a field of the kind int32, whether the message has it, and its value;
-/// and the digits of the message where that value is set, and where it is taken away.
-static FIELDS: [(&str, &str, u32, bool, i32, &str, &str); 6] = [
-    ("package.MyMessage", "0805", 1, true, 5, "0805", ""),
-    ("package.MyMessage", "0800", 1, false, 0, "0800", ""),
-    ("package.MyMessage", "0805", 2, false, 0, "08051000", "0805"),
+/// and the digits of the message where that value is taken away, where it is then set, and where it is cleared again.
+static FIELDS: [(&str, &str, u32, bool, i32, &str, &str, &str); 6] = [
+    ("package.MyMessage", "0805", 1, true, 5, "", "0805", ""),
+    ("package.MyMessage", "0800", 1, false, 0, "", "0800", ""),
+    (
+        "package.MyMessage",
+        "0805",
+        2,
+        false,
+        0,
+        "0805",
+        "08051000",
+        "0805",
+    ),
     (
         "package.MyMessage",
         "08051000",
         2,
         true,
         0,
+        "0805",
         "08051000",
         "0805",
     ),
-    ("C", "20072805", 5, true, 5, "20072805", "2007"),
-    ("C", "20012007", 5, false, 0, "20072800", "20012007"),
+    ("C", "20072805", 5, true, 5, "2007", "20072805", "2007"),
+    ("C", "20012007", 5, false, 0, "20012007", "20072800", "2007"),
 ];
 
-/// The same of extensions.
+/// The same of extensions, which leave when they are cleared what is left where they are taken.
 static EXTENSIONS: [(&str, &str, u32, bool, i32, &str, &str); 3] = [
-    ("b.X", "a00607", 100, true, 7, "a00607", ""),
-    ("b.X", "a00600", 100, true, 0, "a00600", ""),
-    ("b.X", "08aa01", 100, false, 0, "08aa01a00600", "08aa01"),
+    ("b.X", "a00607", 100, true, 7, "", "a00607"),
+    ("b.X", "a00600", 100, true, 0, "", "a00600"),
+    ("b.X", "08aa01", 100, false, 0, "08aa01", "08aa01a00600"),
 ];
 
 /// Whether the value is the number, and is lent if it is stored.
@@ -53,7 +63,7 @@ fn is_taken(value: &Option<Value>, number: i32, had: bool) -> bool {
 #[test]
 fn fields_are_asked_set_and_taken(rt: HostRuntime) -> Result<(), Fail> {
     let alloc = rt.alloc();
-    for (name, digits, number, had, value, set, left) in &FIELDS {
+    for (name, digits, number, had, value, left, set, cleared) in &FIELDS {
         let found = worked_type(alloc, name)?.get_field(*number)?;
         let field = found.ok_or("no such field")?;
         let mut message = decoded(alloc, name, digits)?;
@@ -68,7 +78,7 @@ fn fields_are_asked_set_and_taken(rt: HostRuntime) -> Result<(), Fail> {
         assert!(rt; message == decoded(alloc, name, set)?);
         assert!(rt; message.owns_field(&field));
         message.clear_field(&field);
-        assert!(rt; message == decoded(alloc, name, left)?);
+        assert!(rt; message == decoded(alloc, name, cleared)?);
     }
     Ok(())
 }
@@ -76,7 +86,7 @@ fn fields_are_asked_set_and_taken(rt: HostRuntime) -> Result<(), Fail> {
 #[test]
 fn extensions_are_asked_set_and_taken(rt: HostRuntime) -> Result<(), Fail> {
     let alloc = rt.alloc();
-    for (name, digits, number, had, value, set, left) in &EXTENSIONS {
+    for (name, digits, number, had, value, left, set) in &EXTENSIONS {
         let found = worked_type(alloc, name)?.get_extension(*number)?;
         let extension = found.ok_or("no such extension")?;
         let mut message = decoded(alloc, name, digits)?;
