@@ -1,1 +1,4 @@
 pub mod RelayRefusals
+pub mod Paths
+pub mod Changes
+pub mod EditRefusals

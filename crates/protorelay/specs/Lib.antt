@@ -3,6 +3,7 @@ pub mod Sets
 pub mod Reading
 pub mod Refusals
 pub mod Relaying
+pub mod Editing
 pub mod Showing
 pub mod Printing
 pub mod Statuses

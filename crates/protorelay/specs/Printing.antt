@@ -2,10 +2,11 @@
 use Rattle.std.specs.Prelude.{ℕ, List, [], ◌∷◌, ◌++◌, Option, codes, string_bytes}
 use Rattle.std.specs.Io.KnownBytes.{Appends}
 use Rattle.protorelay.specs.declared.command.Command.{Command}
-use Rattle.protorelay.specs.declared.command.Command.TheVariants.{Relay, Show}
+use Rattle.protorelay.specs.declared.command.Command.TheVariants.{Relay, Show, Edit}
 use Rattle.protorelay.specs.CommandLine.{AsksFor}
 use Rattle.protorelay.specs.Reading.{Refuses}
 use Rattle.protorelay.specs.Relaying.{IsRelayed, RefusesRelay}
+use Rattle.protorelay.specs.Editing.{IsEdited, RefusesEdit}
 use Rattle.protorelay.specs.Showing.{IsShown}
 use Rattle.protorelay.specs.declared.refusal.Refusal.{Refusal}
 
@@ -17,6 +18,7 @@ AppendsLine old new text = Appends old new (text ++ 10 ∷ [])
 abbrev pub Answers : Command → List ℕ → Type 0
 Answers (Relay set name digits) text = IsRelayed (string_bytes set.now) (string_bytes name.now) (string_bytes digits.now) text
 Answers (Show set name digits) text = IsShown (string_bytes set.now) (string_bytes name.now) (string_bytes digits.now) text
+Answers (Edit set name digits path spelled) text = IsEdited (string_bytes set.now) (string_bytes name.now) (string_bytes digits.now) (string_bytes path.now) (string_bytes spelled.now) text
 
 -- The words ask for a command that the text answers.
 pub record AnswersWords (words : List (List ℕ)) (text : List ℕ) : Type 0 where
@@ -28,6 +30,7 @@ pub record AnswersWords (words : List (List ℕ)) (text : List ℕ) : Type 0 whe
 abbrev pub RefusesCommand : Command → Refusal → Type 0
 RefusesCommand (Relay set name digits) refusal = RefusesRelay (string_bytes set.now) (string_bytes name.now) (string_bytes digits.now) refusal
 RefusesCommand (Show set name digits) refusal = Refuses (string_bytes set.now) (string_bytes name.now) (string_bytes digits.now) refusal
+RefusesCommand (Edit set name digits path text) refusal = RefusesEdit (string_bytes set.now) (string_bytes name.now) (string_bytes digits.now) (string_bytes path.now) (string_bytes text.now) refusal
 
 -- The words ask for a command that is refused for this reason.
 pub record RefusesWords (words : List (List ℕ)) (refusal : Refusal) : Type 0 where
@@ -37,4 +40,4 @@ pub record RefusesWords (words : List (List ℕ)) (refusal : Refusal) : Type 0 w
 
 -- The line that any other command line gets.
 abbrev pub usage_line : List ℕ
-usage_line = codes "usage: protorelay relay|show SET NAME HEX"
+usage_line = codes "usage: protorelay relay|show SET NAME HEX | edit SET NAME HEX PATH TEXT"

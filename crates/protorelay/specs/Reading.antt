@@ -10,6 +10,7 @@ use Rattle.prost_reflect_wire.specs.Meaning.{decoded}
 use Rattle.prost_reflect_wire.specs.Fault.{StandsInMessage}
 use Rattle.prost_reflect_wire.specs.declared.error.DecodeError.{DecodeError}
 use Rattle.prost_reflect_wire.specs.declared.error.DecodeError.TheVariants as decode_errors
+use Rattle.prost_reflect_wire.specs.declared.error.EncodeError.{EncodeError}
 use Rattle.prost_reflect_wire.specs.declared.error.EncodeError.TheVariants as encode_errors
 use Rattle.prost_reflect_tables.specs.Places.{message_place}
 use Rattle.prost_reflect_tables.specs.Shown.{schema_from}
@@ -100,9 +101,12 @@ abbrev pub decode_refusal : DecodeError → Refusal
 decode_refusal decode_errors.OutOfMemory = Memory
 decode_refusal e = Decode e
 
+abbrev pub encode_refusal : EncodeError → Refusal
+encode_refusal encode_errors.OutOfMemory = Memory
+encode_refusal e = Encode e
+
 abbrev pub relay_refusal : RelayHexError → Refusal
 relay_refusal hex_relays.Hex = Hex
 relay_refusal (hex_relays.Relay (relays.Decode e)) = decode_refusal e
-relay_refusal (hex_relays.Relay (relays.Encode encode_errors.TooLong)) = Encode encode_errors.TooLong
-relay_refusal (hex_relays.Relay (relays.Encode encode_errors.OutOfMemory)) = Memory
+relay_refusal (hex_relays.Relay (relays.Encode e)) = encode_refusal e
 relay_refusal hex_relays.OutOfMemory = Memory

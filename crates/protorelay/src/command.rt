@@ -18,6 +18,14 @@ pub enum Command<'a> {
         name: &'a String,
         digits: &'a String,
     },
+    /// Read them likewise, set the value that the text spells at the path, and write the message again.
+    Edit {
+        set: &'a String,
+        name: &'a String,
+        digits: &'a String,
+        path: &'a String,
+        text: &'a String,
+    },
 }
 
 impl<'a> Command<'a> {
@@ -26,12 +34,21 @@ impl<'a> Command<'a> {
         ensures found { IfSome result (AsksFor (map string_bytes words.now)) }
         ensures none { IfNone result (AsksForNone (map string_bytes words.now)) }
     {
-        let [verb, set, name, digits] = words else {
-            return None;
-        };
-        match verb.as_str() {
-            "relay" => Some(Command::Relay { set, name, digits }),
-            "show" => Some(Command::Show { set, name, digits }),
+        match words {
+            [verb, set, name, digits] => match verb.as_str() {
+                "relay" => Some(Command::Relay { set, name, digits }),
+                "show" => Some(Command::Show { set, name, digits }),
+                _ => None,
+            },
+            [verb, set, name, digits, path, text] if verb.as_str() == "edit" => {
+                Some(Command::Edit {
+                    set,
+                    name,
+                    digits,
+                    path,
+                    text,
+                })
+            }
             _ => None,
         }
     }

@@ -1,7 +1,9 @@
-//! Reads a message by the name of its type, and writes it again or names what is present: `protorelay relay|show SET NAME HEX`.
+//! Reads a message by the name of its type, and writes it again, with a value set in it or without, or names what is present: `protorelay relay|show SET NAME HEX | edit SET NAME HEX PATH TEXT`.
 #![tactic(auto)]
 
 mod command;
+mod edit;
+mod path;
 mod reading;
 mod refusal;
 mod relay;

@@ -60,6 +60,7 @@ fn read_in(
 pub fn message_type(pool: &DescriptorPool, name: &str) -> Result<MessageDescriptor, Refusal>
     ensures found { IfOk result (λ message.
         message_place (pool_rows pool.now.inner.value) name.now ≡ Some (type_named message)) }
+    ensures pool { IfOk result (λ message. message.pool.inner.value ≡ pool.now.inner.value) }
     ensures schema { IfOk result (λ message. schema_named message ≡ pool_schema pool.now.inner.value) }
     ensures refused { IfErr result (λ refusal.
         ((refusal ≡ refusals.Name) × (message_place (pool_rows pool.now.inner.value) name.now ≡ None))

@@ -1,12 +1,15 @@
 //! Why a command is refused, and the lines that say so.
 
 ghost use Rattle.std.specs.Prelude.{◌≡◌, Some};
-ghost use Rattle.protorelay.specs.Reading.{hex_refusal, pool_refusal, decode_refusal, relay_refusal};
+ghost use Rattle.protorelay.specs.Reading.{hex_refusal, pool_refusal, decode_refusal, encode_refusal, relay_refusal};
+ghost use Rattle.protorelay.specs.Editing.{edit_refusal};
 ghost use Rattle.protorelay.specs.Refusals.{decode_name, encode_name, pool_name, refusal_line};
 ghost use Rattle.protorelay.specs.declared.refusal.Refusal.TheVariants as refusals;
 
 use hex::FromHexError;
-use prost_reflect::{DecodeError, EncodeError, PoolError, RelayError, RelayHexError};
+use prost_reflect::{
+    DecodeError, EncodeError, PoolError, RelayError, RelayHexError, RelayWithError,
+};
 use std::alloc::AllocError;
 use std::fmt;
 
@@ -21,6 +24,10 @@ pub enum Refusal {
     Name,
     /// The digits of the set, or of the message, are not pairs of hex digits.
     Hex,
+    /// The path is not numbers joined by dots, or leads to no field.
+    Number,
+    /// The text spells no value that the field takes; none is one that a list, a map, a message or a group takes.
+    Value,
     /// The type does not accept the bytes. Out of memory is `Memory`.
     Decode(DecodeError),
     /// The message is not written. Out of memory is `Memory`.
@@ -38,6 +45,8 @@ impl fmt::Display for Refusal {
             Refusal::Pool(fault) => write!(f, "refused pool {}", pool_name(fault)),
             Refusal::Name => write!(f, "refused name"),
             Refusal::Hex => write!(f, "refused hex"),
+            Refusal::Number => write!(f, "refused number"),
+            Refusal::Value => write!(f, "refused value"),
             Refusal::Decode(fault) => write!(f, "refused decode {}", decode_name(fault)),
             Refusal::Encode(fault) => write!(f, "refused encode {}", encode_name(fault)),
             Refusal::Memory => write!(f, "refused memory"),
@@ -87,6 +96,17 @@ impl From<DecodeError> for Refusal {
     }
 }
 
+impl From<EncodeError> for Refusal {
+    ghost from_gives = { λ error refusal. refusal ≡ encode_refusal error };
+
+    fn from(error: EncodeError) -> Refusal {
+        match error {
+            EncodeError::OutOfMemory => Refusal::Memory,
+            fault => Refusal::Encode(fault),
+        }
+    }
+}
+
 impl From<RelayHexError> for Refusal {
     ghost from_gives = { λ error refusal. refusal ≡ relay_refusal error };
 
@@ -94,11 +114,22 @@ impl From<RelayHexError> for Refusal {
         match error {
             RelayHexError::Hex => Refusal::Hex,
             RelayHexError::Relay(RelayError::Decode(fault)) => Refusal::from(fault),
-            RelayHexError::Relay(RelayError::Encode(EncodeError::TooLong)) => {
-                Refusal::Encode(EncodeError::TooLong)
-            }
-            RelayHexError::Relay(RelayError::Encode(EncodeError::OutOfMemory))
-            | RelayHexError::OutOfMemory => Refusal::Memory,
+            RelayHexError::Relay(RelayError::Encode(fault)) => Refusal::from(fault),
+            RelayHexError::OutOfMemory => Refusal::Memory,
+        }
+    }
+}
+
+impl From<RelayWithError> for Refusal {
+    ghost from_gives = { λ error refusal. refusal ≡ edit_refusal error };
+
+    fn from(error: RelayWithError) -> Refusal {
+        match error {
+            RelayWithError::NotFound => Refusal::Number,
+            RelayWithError::InvalidType | RelayWithError::HoldsMessage => Refusal::Value,
+            RelayWithError::Decode(fault) => Refusal::from(fault),
+            RelayWithError::Encode(fault) => Refusal::from(fault),
+            RelayWithError::OutOfMemory => Refusal::Memory,
         }
     }
 }

@@ -13,6 +13,7 @@ ghost use Rattle.protorelay.specs.declared.refusal.Refusal.TheVariants as refusa
 ghost use Rattle.protorelay.specs.declared.run.Outcome.TheVariants as outcomes;
 
 use crate::command::Command;
+use crate::edit::edit;
 use crate::refusal::Refusal;
 use crate::relay::relay;
 use crate::show::show;
@@ -34,7 +35,7 @@ pub enum Outcome {
     Misused,
 }
 
-const USAGE: &str = "usage: protorelay relay|show SET NAME HEX";
+const USAGE: &str = "usage: protorelay relay|show SET NAME HEX | edit SET NAME HEX PATH TEXT";
 
 /// Carries out a command line, given without the program's name, and answers the status that the program ends with.
 ///
@@ -54,7 +55,7 @@ pub fn run<O: Write, E: Write>(words: &[String], out: &mut O, err: &mut E) -> u8
 
 /// Carries out a command line, given without the program's name.
 ///
-/// `relay SET NAME HEX` writes the message again as a line of lower-case hex digits on `out`, and `show SET NAME HEX` a line for each number that is present in it. Refused data leave `out` as it was and are named by a line on `err`. Any other command line leaves `out` as it was and gets a line on the usage on `err`.
+/// `relay SET NAME HEX` writes the message again as a line of lower-case hex digits on `out`, `show SET NAME HEX` a line for each number that is present in it, and `edit SET NAME HEX PATH TEXT` the line of `relay` for the message with the value that the text spells set at the path. Refused data leave `out` as it was and are named by a line on `err`. Any other command line leaves `out` as it was and gets a line on the usage on `err`.
 ///
 /// # Errors
 ///
@@ -110,6 +111,20 @@ fn answer(command: Command<'_>) -> Result<String, Refusal>
             set.as_str(),
             name.as_str(),
             digits.as_str(),
+        ),
+        Command::Edit {
+            set,
+            name,
+            digits,
+            path,
+            text,
+        } => edit(
+            *name.allocator(),
+            set.as_str(),
+            name.as_str(),
+            digits.as_str(),
+            path.as_str(),
+            text.as_str(),
         ),
     }
 }

@@ -27,6 +27,14 @@ fn four_words(alloc: Global, words: &[&str; 4]) -> Result<Vec<String>, AllocErro
         .try_collect(alloc)
 }
 
+/// The words of a command line of six.
+fn six_words(alloc: Global, words: &[&str; 6]) -> Result<Vec<String>, AllocError> {
+    words
+        .iter()
+        .map(|word| word.to_string(alloc))
+        .try_collect(alloc)
+}
+
 /// The words are answered by this status, and by what is printed on the one stream and on the other.
 fn answered(rt: &impl Abort, alloc: Global, words: &[String], status: u8, out: &str, err: &str) {
     let mut printed = Vec::new(alloc);
@@ -417,7 +425,176 @@ fn shows_what_is_present(rt: HostRuntime) -> Result<(), Fail> {
     Ok(())
 }
 
-const USAGE: &str = "usage: protorelay relay|show SET NAME HEX\n";
+/// Sets, names, messages, paths and texts, and their statuses and what is printed.
+static EDITED: [([&str; 6], u8, &str, &str); 21] = [
+    (
+        ["edit", SET_M, "package.MyMessage", "1a021042", "1", "5"],
+        0,
+        "08051a021042\n",
+        "",
+    ),
+    // A default without presence is none; unknown fields stay.
+    (
+        ["edit", SET_M, "package.MyMessage", "0896015003", "1", "0"],
+        0,
+        "5003\n",
+        "",
+    ),
+    (
+        [
+            "edit",
+            SET_M,
+            "package.MyMessage",
+            "1a0210422801",
+            "3.1",
+            "7",
+        ],
+        0,
+        "1a04080710422801\n",
+        "",
+    ),
+    // The other members of a oneof go.
+    (
+        ["edit", MEMBERS, "package.Q", "12021042", "1", "0"],
+        0,
+        "0800\n",
+        "",
+    ),
+    // An undeclared number stays beside the one that is set.
+    (
+        ["edit", NUMBERS, "C", "0807", "1", "B"],
+        0,
+        "08010807\n",
+        "",
+    ),
+    // A message, a text that spells no number, a list and a map.
+    (
+        ["edit", SET_M, "package.MyMessage", "0896015003", "3", "0"],
+        1,
+        "",
+        "refused value\n",
+    ),
+    (
+        ["edit", SET_M, "package.MyMessage", "0896015003", "1", "x"],
+        1,
+        "",
+        "refused value\n",
+    ),
+    (
+        ["edit", LISTS, "Foo", "", "1", "5"],
+        1,
+        "",
+        "refused value\n",
+    ),
+    (["edit", MAPS, "M", "", "1", "5"], 1, "", "refused value\n"),
+    // No field; an extension is none, and a path leads through messages alone.
+    (
+        ["edit", SET_M, "package.MyMessage", "0896015003", "42", "0"],
+        1,
+        "",
+        "refused number\n",
+    ),
+    (
+        ["edit", EXTENDED, "E", "", "100", "5"],
+        1,
+        "",
+        "refused number\n",
+    ),
+    (
+        ["edit", SET_M, "package.MyMessage", "", "1.1", "0"],
+        1,
+        "",
+        "refused number\n",
+    ),
+    // Digits alone between dots, and no number past the greatest u32.
+    (["edit", "-", PLAIN, "", "", "1"], 1, "", "refused number\n"),
+    (
+        ["edit", "-", PLAIN, "", "5.", "1"],
+        1,
+        "",
+        "refused number\n",
+    ),
+    (
+        ["edit", "-", PLAIN, "", "+5", "1"],
+        1,
+        "",
+        "refused number\n",
+    ),
+    (
+        ["edit", "-", PLAIN, "", "4294967301", "1"],
+        1,
+        "",
+        "refused number\n",
+    ),
+    // The first refusal is named.
+    (
+        ["edit", "-", "builtin.None", "2x", "x", "y"],
+        1,
+        "",
+        "refused name\n",
+    ),
+    (["edit", "-", PLAIN, "2x", "x", "y"], 1, "", "refused hex\n"),
+    (
+        ["edit", "-", PLAIN, "28", "x", "y"],
+        1,
+        "",
+        "refused number\n",
+    ),
+    (
+        ["edit", "-", PLAIN, "28", "5", "y"],
+        1,
+        "",
+        "refused value\n",
+    ),
+    (
+        ["edit", "-", PLAIN, "28", "5", "1"],
+        1,
+        "",
+        "refused decode Truncated\n",
+    ),
+];
+
+#[test]
+fn sets_values_at_paths(rt: HostRuntime) -> Result<(), Fail> {
+    for (line, status, out, err) in &EDITED {
+        let words = six_words(rt.alloc(), line)?;
+        answered(&rt, rt.alloc(), words.as_slice(), *status, out, err);
+    }
+    Ok(())
+}
+
+/// A path goes through a hundred messages, and no more.
+#[test]
+fn sets_a_value_a_hundred_messages_deep(rt: HostRuntime) -> Result<(), Fail> {
+    let alloc = rt.alloc();
+    let deep = threes(alloc, 100)?;
+    let words = six_words(
+        alloc,
+        &["edit", SET_M, "package.MyMessage", "", deep.as_str(), "0"],
+    )?;
+    let mut printed = Vec::new(alloc);
+    let mut warned = Vec::new(alloc);
+    assert_eq!(rt; run(words.as_slice(), &mut printed, &mut warned), 0);
+    let deep = threes(alloc, 101)?;
+    let words = six_words(
+        alloc,
+        &["edit", SET_M, "package.MyMessage", "", deep.as_str(), "0"],
+    )?;
+    answered(&rt, alloc, words.as_slice(), 1, "", "refused number\n");
+    Ok(())
+}
+
+/// So many times the number 3, and then 2.
+fn threes(alloc: Global, levels: usize) -> Result<String, AllocError> {
+    let mut path = String::new(alloc);
+    for _ in 0..levels {
+        path.push_str("3.")?;
+    }
+    path.push_str("2")?;
+    Ok(path)
+}
+
+const USAGE: &str = "usage: protorelay relay|show SET NAME HEX | edit SET NAME HEX PATH TEXT\n";
 
 #[test]
 fn prints_the_usage_for_any_other_command_line(rt: HostRuntime) -> Result<(), Fail> {
@@ -430,6 +607,9 @@ fn prints_the_usage_for_any_other_command_line(rt: HostRuntime) -> Result<(), Fa
         "show - builtin.Plain",
         "show - builtin.Plain 2800 ",
         "edit - builtin.Plain 2800",
+        "edit - builtin.Plain 2800 5",
+        "edit - builtin.Plain 2800 5 1 ",
+        "relay - builtin.Plain 2800 5 1",
     ];
     for text in rows {
         let words = words(rt.alloc(), text)?;
@@ -484,7 +664,7 @@ fn answers_1_where_a_write_fails(rt: HostRuntime) -> Result<(), Fail> {
         ("relay - builtin.Plain 4001", 5, 0),
         ("show - builtin.Plain 4001", 8, 0),
         ("relay - none 4001", 13, 1),
-        ("", 42, 2),
+        ("", 72, 2),
     ];
     for (text, length, status) in rows {
         let words = words(rt.alloc(), text)?;
