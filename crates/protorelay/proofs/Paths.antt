@@ -1,6 +1,6 @@
 -- Paths of numbers, and the fields to which they lead.
 use Rattle.std.proofs.Common.{◌≡◌, ℕ, ◌+◌, ◌<◌, Bool, true, false, cond, not, List, [], ◌∷◌, ◌++◌, length, drop, get_or, nat_eq, Option, Some, None, option_map, refl, ap, sym, ◌∙◌, append-nil, append_assoc, drop_of_length-le, arith, true≢false}
-use Rattle.std.specs.Prelude.{slice_get, IfSome}
+use Rattle.std.specs.Prelude.{slice_get, IfSome, option_and_then}
 use Rattle.std.proofs.lemmas.Bool.{eqb-true}
 use Rattle.std.proofs.lemmas.List.{at_drop_more}
 use Rattle.prost_reflect_wire.specs.Varint.{◌>>=◌}
@@ -62,7 +62,7 @@ behind_none (Some path) = refl
 
 one_more : (numbers : List ℕ) (n : ℕ) (o : Option (List ℕ)) → option_map (λ rest. numbers ++ rest) (option_map (λ path. n ∷ path) o) ≡ option_map (λ rest. (numbers ++ n ∷ []) ++ rest) o
 one_more numbers n None = refl
-one_more numbers n (Some path) = ap Some (sym (append_assoc {xs = numbers} {ys = n ∷ []} {zs = path}))
+one_more numbers n (Some path) = ap Some (sym (append_assoc numbers (n ∷ []) path))
 
 at_piece : (pieces : List (List ℕ)) (i : ℕ) (piece : List ℕ) → i < length pieces → piece ≡ get_or pieces i piece → numbers_spelled (drop i pieces) ≡ (number_spelled piece >>= λ n. option_map (λ path. n ∷ path) (numbers_spelled (drop (i + 1) pieces)))
 at_piece pieces i piece within at = at_drop_more numbers_spelled pieces i piece within ∙ ap (λ p. number_spelled p >>= λ n. option_map (λ path. n ∷ path) (numbers_spelled (drop (i + 1) pieces))) (sym at)
@@ -106,7 +106,7 @@ own_place fields n i h = go (place_of fields n) refl h
         ap (slice_get fields) same ∙ sym (declared_row (slice_get fields j) d) ∙ ap (λ o. o >>= λ f. cond f.is_extension None (Some f)) (row_at_place fields n j place)
     at j place false d e = absurd cc
 
-    go : (o : Option ℕ) → place_of fields n ≡ o → Some i ≡ (o >>= λ j. cond (is_declared_at fields j) (Some j) None) → slice_get fields i ≡ own_row fields n
+    go : (o : Option ℕ) → place_of fields n ≡ o → Some i ≡ option_and_then (λ j. cond (is_declared_at fields j) (Some j) None) o → slice_get fields i ≡ own_row fields n
     go None place e = absurd cc
     go (Some j) place e = at j place (is_declared_at fields j) refl e
 
@@ -117,7 +117,7 @@ no_place fields n h = go (place_of fields n) refl h
     at j place true d e = absurd cc
     at j place false d e = ap (λ o. o >>= λ f. cond f.is_extension None (Some f)) (sym (row_at_place fields n j place)) ∙ undeclared_row (slice_get fields j) d
 
-    go : (o : Option ℕ) → place_of fields n ≡ o → None ≡ (o >>= λ j. cond (is_declared_at fields j) (Some j) None) → own_row fields n ≡ None
+    go : (o : Option ℕ) → place_of fields n ≡ o → None ≡ option_and_then (λ j. cond (is_declared_at fields j) (Some j) None) o → own_row fields n ≡ None
     go None place e = ap (λ o. o >>= λ f. cond f.is_extension None (Some f)) (no_row fields n place)
     go (Some j) place e = at j place (is_declared_at fields j) refl e
 

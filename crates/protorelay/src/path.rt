@@ -1,7 +1,7 @@
 //! Paths of numbers, the fields that they lead to, and the values of those that texts spell.
 
 ghost use Rattle.std.specs.Prelude.{◌≡◌, IfOk, IfSome, option_map};
-ghost use Rattle.prost_reflect_wire.specs.Varint.{◌>>=◌};
+ghost use Rattle.prost_reflect_wire.specs.Varint.{◌>>=◌ as and_then};
 ghost use Rattle.prost_reflect_pool.specs.SharedPools.{pool_rows};
 ghost use Rattle.prost_reflect.specs.Named.{type_named};
 ghost use Rattle.prost_reflect.specs.NamedField as named;
@@ -56,7 +56,7 @@ pub fn field_at(
     message: &MessageDescriptor,
     path: &[u32],
 ) -> Result<Option<FieldDescriptor>, AllocError>
-    ensures row { IfOk result (λ found. (found >>= named.row_at) ≡ row_at (pool_rows message.now.pool.inner) (type_named message.now) path.now) }
+    ensures row { IfOk result (λ found. and_then found named.row_at ≡ row_at (pool_rows message.now.pool.inner) (type_named message.now) path.now) }
     ensures pool { IfOk result (λ found. IfSome found (λ field. field.message.pool.inner.value ≡ message.now.pool.inner.value)) }
 {
     if path.len() > PATH_LIMIT {
@@ -70,7 +70,7 @@ fn field_behind(
     message: &MessageDescriptor,
     path: &[u32],
 ) -> Result<Option<FieldDescriptor>, AllocError>
-    ensures row { IfOk result (λ found. (found >>= named.row_at) ≡ row_led (pool_rows message.now.pool.inner) (type_named message.now) path.now) }
+    ensures row { IfOk result (λ found. and_then found named.row_at ≡ row_led (pool_rows message.now.pool.inner) (type_named message.now) path.now) }
     ensures pool { IfOk result (λ found. IfSome found (λ field. field.message.pool.inner.value ≡ message.now.pool.inner.value)) }
 {
     let Some((number, rest)) = path.split_first() else {
@@ -92,7 +92,7 @@ fn field_behind(
 
 /// The message type of a field of one message or group.
 fn message_inside(field: &FieldDescriptor) -> Result<Option<MessageDescriptor>, AllocError>
-    ensures place { IfOk result (λ inside. option_map type_named inside ≡ (named.row_at field.now >>= row_inside)) }
+    ensures place { IfOk result (λ inside. option_map type_named inside ≡ and_then (named.row_at field.now) row_inside) }
     ensures pool { IfOk result (λ inside. IfSome inside (λ message. message.pool.inner.value ≡ field.now.message.pool.inner.value)) }
 {
     if field.cardinality() == Cardinality::Repeated {
@@ -110,7 +110,7 @@ pub fn value_for(
     field: &FieldDescriptor,
     text: &str,
 ) -> Result<Option<Value>, AllocError>
-    ensures { IfOk result (λ value. option_map value_of value ≡ (named.row_at field.now >>= λ f. text_value (pool_rows field.now.message.pool.inner) f text.now)) }
+    ensures { IfOk result (λ value. option_map value_of value ≡ and_then (named.row_at field.now) (λ f. text_value (pool_rows field.now.message.pool.inner) f text.now)) }
 {
     let kind = field.kind()?;
     let read = Value::from_text(alloc, &kind, text)?;
