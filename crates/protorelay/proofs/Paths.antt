@@ -20,7 +20,7 @@ use Rattle.prost_reflect_tables.specs.declared.tables.WrittenDefault.TheVariants
 use Rattle.prost_reflect_tables.proofs.Fields.{field_of_number, row_at_place, no_row}
 use Rattle.prost_reflect_pool.specs.SharedPools.{pool_rows}
 use Rattle.prost_reflect_pool.specs.declared.pool.LinkedPool.{LinkedPool}
-use Rattle.prost_reflect.specs.Named.{SameMessage}
+use Rattle.prost_reflect.specs.Named.{SameMessage, type_named}
 use Rattle.prost_reflect.specs.NamedField as named
 use Rattle.prost_reflect.specs.NamedFields.{fields_of, declared_place}
 use Rattle.prost_reflect.specs.NamedKinds.{table_kind}
@@ -185,6 +185,18 @@ led_inside rows T n U path rest o e some own inside = ap (λ (p : Option ℕ). p
 
 pub led_outside : (rows : TableRows) (T n : ℕ) (path rest : List ℕ) (o : Option FieldRow) → path ≡ n ∷ rest → nat_eq (length rest) 0 ≡ false → own_row (fields_at rows T) n ≡ o → (o >>= row_inside) ≡ None → None ≡ row_led rows T path
 led_outside rows T n path rest o e some own outside = ap (λ (p : Option ℕ). p >>= λ V. row_led rows V rest) (sym outside) ∙ led_then rows T n path rest o e some own
+
+-- a descriptor goes on from the field that it finds
+pub led_on : (m : MessageDescriptor) (n : ℕ) (path rest : List ℕ) (field : FieldDescriptor) (inside : MessageDescriptor) → path ≡ n ∷ rest → nat_eq (length rest) 0 ≡ false → Some field.index ≡ declared_place (fields_of m) n → SameMessage m field.message →
+    Some (type_named inside) ≡ (named.row_at field >>= row_inside) → inside.pool.inner.value ≡ field.message.pool.inner.value → row_led (pool_rows inside.pool.inner) (type_named inside) rest ≡ row_led (pool_rows m.pool.inner) (type_named m) path
+led_on m n path rest field inside e some at same place pool =
+    ap (λ (p : LinkedPool). row_led (rows_of p.tables) (type_named inside) rest) (pool ∙ same.0)
+    ∙ led_inside (pool_rows m.pool.inner) (type_named m) n (type_named inside) path rest (named.row_at field) e some (sym (found_row m n field at same)) (sym place)
+
+pub led_off : (m : MessageDescriptor) (n : ℕ) (path rest : List ℕ) (field : FieldDescriptor) → path ≡ n ∷ rest → nat_eq (length rest) 0 ≡ false → Some field.index ≡ declared_place (fields_of m) n → SameMessage m field.message →
+    None ≡ (named.row_at field >>= row_inside) → None ≡ row_led (pool_rows m.pool.inner) (type_named m) path
+led_off m n path rest field e some at same place =
+    led_outside (pool_rows m.pool.inner) (type_named m) n path rest (named.row_at field) e some (sym (found_row m n field at same)) (sym place)
 
 -- the rows lead to what the schema's fields lead to
 own_shown : (rows : TableRows) (T n : ℕ) → own_field (known (schema_from rows) T) n ≡ option_map (schema_field rows) (own_row (fields_at rows T) n)

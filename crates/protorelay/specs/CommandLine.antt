@@ -17,8 +17,16 @@ AsksFor words (Relay set name digits) = AreOf (codes "relay") words (string_byte
 AsksFor words (Show set name digits) = AreOf (codes "show") words (string_bytes set.now) (string_bytes name.now) (string_bytes digits.now)
 AsksFor words (Edit set name digits path text) = AreOfEdit words (string_bytes set.now) (string_bytes name.now) (string_bytes digits.now) (string_bytes path.now) (string_bytes text.now)
 
--- They ask for none.
-pub record AsksForNone (words : List (List ℕ)) : Type 0 where
+-- They ask for no message to be relayed or shown.
+pub record AsksForNoReading (words : List (List ℕ)) : Type 0 where
   pub no_relay : (set name digits : List ℕ) → AreOf (codes "relay") words set name digits → ⊥
   pub no_show : (set name digits : List ℕ) → AreOf (codes "show") words set name digits → ⊥
-  pub no_edit : (set name digits path text : List ℕ) → AreOfEdit words set name digits path text → ⊥
+
+-- They ask for none to be edited.
+abbrev pub AsksForNoEdit : List (List ℕ) → Type 0
+AsksForNoEdit words = (set name digits path text : List ℕ) → AreOfEdit words set name digits path text → ⊥
+
+-- They ask for nothing.
+pub record AsksForNone (words : List (List ℕ)) : Type 0 where
+  pub no_reading : AsksForNoReading words
+  pub no_edit : AsksForNoEdit words

@@ -1,7 +1,7 @@
 //! What a command line asks for.
 
 ghost use Rattle.std.specs.Prelude.{IfSome, IfNone, map, string_bytes};
-ghost use Rattle.protorelay.specs.CommandLine.{AsksFor, AsksForNone};
+ghost use Rattle.protorelay.specs.CommandLine.{AsksFor, AsksForNone, AsksForNoReading, AsksForNoEdit};
 
 /// What a command line asks for.
 #[derive(Clone, Copy)]
@@ -34,22 +34,45 @@ impl<'a> Command<'a> {
         ensures found { IfSome result (AsksFor (map string_bytes words.now)) }
         ensures none { IfNone result (AsksForNone (map string_bytes words.now)) }
     {
-        match words {
-            [verb, set, name, digits] => match verb.as_str() {
-                "relay" => Some(Command::Relay { set, name, digits }),
-                "show" => Some(Command::Show { set, name, digits }),
-                _ => None,
-            },
-            [verb, set, name, digits, path, text] if verb.as_str() == "edit" => {
-                Some(Command::Edit {
-                    set,
-                    name,
-                    digits,
-                    path,
-                    text,
-                })
-            }
+        if let Some(command) = Command::parse_edit(words) {
+            return Some(command);
+        }
+        Command::parse_reading(words)
+    }
+
+    /// What a verb that only reads, and three words behind it, ask for.
+    fn parse_reading(words: &'a [String]) -> Option<Command<'a>>
+        ensures found { IfSome result (AsksFor (map string_bytes words.now)) }
+        ensures none { IfNone result (AsksForNoReading (map string_bytes words.now)) }
+    {
+        let [verb, set, name, digits] = words else {
+            return None;
+        };
+        match verb.as_str() {
+            "relay" => Some(Command::Relay { set, name, digits }),
+            "show" => Some(Command::Show { set, name, digits }),
             _ => None,
+        }
+    }
+
+    /// What `edit` and five words behind it ask for.
+    fn parse_edit(words: &'a [String]) -> Option<Command<'a>>
+        ensures found { IfSome result (AsksFor (map string_bytes words.now)) }
+        ensures none { IfNone result (AsksForNoEdit (map string_bytes words.now)) }
+    {
+        let [verb, set, name, digits, path, text] = words else {
+            return None;
+        };
+        if verb.as_str() == "edit" {
+            Some(Command::Edit {
+                set,
+                name,
+                digits,
+                path,
+                text,
+            })
+        } else {
+            None
         }
     }
 }
