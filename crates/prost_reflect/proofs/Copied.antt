@@ -1,5 +1,6 @@
 -- What copies store.
-use Rattle.std.proofs.Common.{◌≡◌, ℕ, zero, suc, ◌+◌, ◌<◌, ◌≤◌, Bool, true, false, cond, List, [], ◌∷◌, ◌++◌, map, length, take, drop, get_or, Option, None, Some, refl, ap, ap₂, sym, ◌∙◌, subst, arith}
+use Rattle.std.proofs.Common.{◌≡◌, ℕ, Bool, true, false, cond, List, [], ◌∷◌, ◌++◌, map, Option, None, Some, refl, ap, ap₂, sym, ◌∙◌, subst, append_assoc}
+use Rattle.std.proofs.lemmas.List.{append-nil}
 use Rattle.std.specs.Option.{option_map, option_and_then, is_some}
 use Rattle.std.specs.Ordering.{nat_cmp, ordering_reverse, match_ordering}
 use Rattle.std.specs.declared.cmp.Ordering.{Ordering}
@@ -41,28 +42,6 @@ parts_of es = map (λ e. (e.0, entry_parts e.1)) es
 
 -- LISTS
 
-pub take_next : {A : Type 0} (xs : List A) (i : ℕ) (x : A) → i < length xs → x ≡ get_or xs i x → take (i + 1) xs ≡ take i xs ++ x ∷ []
-take_next [] i x l h = absurd (omega arith)
-take_next (y ∷ ys) zero x l h = ap (λ z. z ∷ []) (sym h)
-take_next (y ∷ ys) (suc i) x l h = ap (λ j. take j (y ∷ ys)) (plus i) ∙ ap (λ zs. y ∷ zs) (take_next ys i x (omega arith) h)
-  where
-    plus : (i : ℕ) → suc i + 1 ≡ suc (i + 1)
-    plus i = omega arith
-
-pub take_all : {A : Type 0} (xs : List A) (i : ℕ) → length xs ≤ i → take i xs ≡ xs
-take_all [] zero l = refl
-take_all [] (suc i) l = refl
-take_all (x ∷ xs) zero l = absurd (omega arith)
-take_all (x ∷ xs) (suc i) l = ap (λ ys. x ∷ ys) (take_all xs i (omega arith))
-
-pub taken_and_rest : {A : Type 0} (xs : List A) (i : ℕ) (x : A) → i < length xs → x ≡ get_or xs i x → xs ≡ take i xs ++ x ∷ drop (i + 1) xs
-taken_and_rest [] i x l h = absurd (omega arith)
-taken_and_rest (y ∷ ys) zero x l h = ap (λ z. z ∷ ys) (sym h)
-taken_and_rest (y ∷ ys) (suc i) x l h = ap (λ zs. y ∷ zs) (taken_and_rest ys i x (omega arith) h) ∙ ap (λ j. y ∷ (take i ys ++ x ∷ drop j (y ∷ ys))) (plus i)
-  where
-    plus : (i : ℕ) → suc (i + 1) ≡ suc i + 1
-    plus i = omega arith
-
 parts_appended : (es ds : List (ℕ × FieldSlot Value)) → parts_of (es ++ ds) ≡ parts_of es ++ parts_of ds
 parts_appended [] ds = refl
 parts_appended (e ∷ es) ds = ap (λ ps. (e.0, entry_parts e.1) ∷ ps) (parts_appended es ds)
@@ -92,15 +71,14 @@ insert_last R total (e ∷ es) k t rest s =
     ap (λ o. match_ordering o ((k, t) ∷ e ∷ es) ((e.0, t) ∷ es) (e ∷ insert_entry R es k t)) above ∙ ap (λ ds. e ∷ ds) (insert_last R total es k t rest s.1)
 
 -- one more entry copied
-pub copied_next : (fields items : List (ℕ × FieldSlot Value)) (i n : ℕ) (e d : FieldSlot Value) → IsAscending items → i < length items → (n, e) ≡ get_or items i (n, e)
-    → parts_of fields ≡ parts_of (take i items) → entry_parts d ≡ entry_parts e → parts_of (put_item fields n d) ≡ parts_of (take (i + 1) items)
-copied_next fields items i n e d s l at done same =
-    let keys : keys_of fields ≡ keys_of (take i items) = sym (keys_of_parts fields) ∙ ap keys_of done ∙ keys_of_parts (take i items) in
-    let whole : keys_of items ≡ keys_of fields ++ n ∷ keys_of (drop (i + 1) items) =
-    ap keys_of (taken_and_rest items i (n, e) l at) ∙ keys_appended (take i items) ((n, e) ∷ drop (i + 1) items) ∙ ap (λ ks. ks ++ n ∷ keys_of (drop (i + 1) items)) (sym keys) in
-    ap parts_of (insert_last nat_cmp nat_cmp_total fields n d (keys_of (drop (i + 1) items)) (subst (IsStrictlySortedBy nat_cmp) whole s))
-    ∙ parts_appended fields ((n, d) ∷ []) ∙ ap₂ (λ ps (q : Parts). ps ++ (n, q) ∷ []) done same
-    ∙ sym (parts_appended (take i items) ((n, e) ∷ [])) ∙ ap parts_of (sym (take_next items i (n, e) l at))
+pub copied_next : (fields done rest : List (ℕ × FieldSlot Value)) (n : ℕ) (e d : FieldSlot Value) → IsAscending (done ++ (n, e) ∷ rest)
+    → parts_of fields ≡ parts_of done → entry_parts d ≡ entry_parts e → parts_of (put_item fields n d) ≡ parts_of (done ++ (n, e) ∷ [])
+copied_next fields done rest n e d s all same =
+    let keys : keys_of fields ≡ keys_of done = sym (keys_of_parts fields) ∙ ap keys_of all ∙ keys_of_parts done in
+    let whole : keys_of (done ++ (n, e) ∷ rest) ≡ keys_of fields ++ n ∷ keys_of rest = keys_appended done ((n, e) ∷ rest) ∙ ap (λ ks. ks ++ n ∷ keys_of rest) (sym keys) in
+    ap parts_of (insert_last nat_cmp nat_cmp_total fields n d (keys_of rest) (subst (IsStrictlySortedBy nat_cmp) whole s))
+    ∙ parts_appended fields ((n, d) ∷ []) ∙ ap₂ (λ ps (q : Parts). ps ++ (n, q) ∷ []) all same
+    ∙ sym (parts_appended done ((n, e) ∷ []))
 
 -- ENTRIES
 
@@ -178,6 +156,10 @@ from_parts (e ∷ es) = cases e.1 ∙ ap (entry_of_parts e.0 (entry_parts e.1).0
 pub message_copied : (m : DynamicMessage) (p : PooledType × List (ℕ × FieldSlot Value)) → SameMessage m.fields.0 p.0 → parts_of p.1 ≡ parts_of m.fields.1 → message_stored (roll-DynamicMessage (record { fields = p })) ≡ message_stored m
 message_copied m p d h = stored_roll (record { fields = p }) ∙ (λ i. MessageOf (d.0 i) (d.1 i) (d.2 i) ((from_parts p.1 ∙ ap entries_of_parts h ∙ sym (from_parts m.fields.1)) i)) ∙ sym (stored_message m)
 
--- all entries are copied
-pub all_copied : (fields items es : List (ℕ × FieldSlot Value)) (i : ℕ) → items ≡ es → length items ≤ i → parts_of fields ≡ parts_of (take i items) → parts_of fields ≡ parts_of es
-all_copied fields items es i same past done = done ∙ ap parts_of (take_all items i past) ∙ ap parts_of same
+-- nothing is left
+pub all_given : {A : Type 0} (es done left : List A) → es ≡ done ++ left → left ≡ [] → done ≡ es
+all_given es done left cut none = sym (append-nil done) ∙ ap (λ l. done ++ l) (sym none) ∙ sym cut
+
+-- one more is given
+pub one_given : {A : Type 0} (es done : List A) (x : A) (left rest : List A) → es ≡ done ++ left → left ≡ x ∷ rest → es ≡ (done ++ x ∷ []) ++ rest
+one_given es done x left rest cut first = cut ∙ ap (λ l. done ++ l) first ∙ sym (append_assoc done (x ∷ []) rest)

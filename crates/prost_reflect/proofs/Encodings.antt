@@ -1,7 +1,6 @@
 -- The entries of a message that is encodable can be written, and their bytes are the encoding of its content.
 use Rattle.prost_reflect_wire.specs.Sinks.{Adds}
 use Rattle.prost_reflect_wire.proofs.SinkSteps.{adds_in_turn, adds_same}
-use Rattle.prost_reflect_wire.proofs.WrittenRecords.{cut_before}
 use Rattle.std.proofs.Common.{◌≡◌, ℕ, true, cond, List, [], ◌∷◌, ◌++◌, map, nat_eq, Option, Some, None, refl, sym, ap, ap₂, ◌∙◌, subst, zero, suc, ◌-◌, ◌≤◌, ◌<◌, length, drop, get_or, arith, append_assoc}
 use Rattle.std.proofs.lemmas.Bool.{eqb-true, and_parts}
 use Rattle.std.specs.List.{list_all}
@@ -133,39 +132,38 @@ unknown_nothing n e is = ap (λ o. spelled (map (record_at n) (payloads_of (unwr
 
 -- ENTRIES FROM THE BACK
 
-pub writable_at : (fields : List Field) (items : List (ℕ × FieldSlot Value)) (i : ℕ) (e : ℕ × FieldSlot Value) → i < length items → e ≡ get_or items i e → AreWritable fields items → IsWritable fields e.0 e.1
-writable_at fields [] i e l is h = absurd (omega arith)
-writable_at fields (x ∷ items) zero e l is h = subst (λ (x : ℕ × FieldSlot Value). IsWritable fields x.0 x.1) (sym is) h.0
-writable_at fields (x ∷ items) (suc i) e l is h = writable_at fields items i e (omega arith) is h.1
+pub writable_at : (fields : List Field) (left done : List (ℕ × FieldSlot Value)) (e : ℕ × FieldSlot Value) → AreWritable fields (left ++ e ∷ done) → IsWritable fields e.0 e.1
+writable_at fields [] done e h = h.0
+writable_at fields (x ∷ left) done e h = writable_at fields left done e h.1
 
 -- the whole is written
-pub whole_written : (m : DynamicMessage) (i : ℕ) → i ≡ 0 → entries_bytes (known_of (message_type_of m)) (drop i (stored_in m)) ≡ encoded (kept (content_of m))
-whole_written m i first = ap (λ i. entries_bytes (known_of (message_type_of m)) (drop i (stored_in m))) first ∙ sym (encoded_entries m)
+pub whole_written : (m : DynamicMessage) (left done : List (ℕ × FieldSlot Value)) → stored_in m ≡ left ++ done → left ≡ [] → entries_bytes (known_of (message_type_of m)) done ≡ encoded (kept (content_of m))
+whole_written m left done cut none = ap (entries_bytes (known_of (message_type_of m))) (sym (cut ∙ ap (λ l. l ++ done) none)) ∙ sym (encoded_entries m)
 
-module _ (m : DynamicMessage) (i : ℕ) (e : ℕ × FieldSlot Value) (some : 0 < i) (within : i ≤ length (stored_in m)) (at : e ≡ get_or (stored_in m) (i - 1) e) where
+module _ (m : DynamicMessage) (left done : List (ℕ × FieldSlot Value)) (e : ℕ × FieldSlot Value) (cut : stored_in m ≡ left ++ e ∷ done) where
   pub entry_writable : encodable (content_of m) ≡ true → IsAscending (stored_in m) → IsSound (message_type_of m) (stored_in m) → IsWritable (known_of (message_type_of m)) e.0 e.1
-  entry_writable h s sound = writable_at (known_of (message_type_of m)) (stored_in m) (i - 1) e (omega (arith, some, within)) at (writable_message m h s sound)
+  entry_writable h s sound = writable_at (known_of (message_type_of m)) left done e (subst (AreWritable (known_of (message_type_of m))) cut (writable_message m h s sound))
 
   abbrev rest : List ℕ
-  rest = entries_bytes (known_of (message_type_of m)) (drop i (stored_in m))
+  rest = entries_bytes (known_of (message_type_of m)) done
 
   abbrev stored : List ℕ
   stored = stored_bytes (known_of (message_type_of m)) e.0 (entry_slot e.1).value
 
   -- one entry more
-  entry_first : stored ++ (unknown_bytes e.0 (entry_slot e.1) ++ rest) ≡ entries_bytes (known_of (message_type_of m)) (drop (i - 1) (stored_in m))
-  entry_first = sym (append_assoc stored (unknown_bytes e.0 (entry_slot e.1)) rest) ∙ ap (entries_bytes (known_of (message_type_of m))) (sym (cut_before (stored_in m) i e some within at))
+  entry_first : stored ++ (unknown_bytes e.0 (entry_slot e.1) ++ rest) ≡ entries_bytes (known_of (message_type_of m)) (e ∷ done)
+  entry_first = sym (append_assoc stored (unknown_bytes e.0 (entry_slot e.1)) rest)
 
   module _ {A : Type 0} (added : A → A → List ℕ → Type 0) where
     -- its value in front of its unknown records
     pub value_adds : (start old mid new : A) (v : Value) → value_in e.1 ≡ Some v → Adds added start old rest → Adds added old mid (unknown_bytes e.0 (entry_slot e.1)) → Adds added mid new (value_bytes (known_of (message_type_of m)) e.0 (value_of v)) →
-        Adds added start new (entries_bytes (known_of (message_type_of m)) (drop (i - 1) (stored_in m)))
+        Adds added start new (entries_bytes (known_of (message_type_of m)) (e ∷ done))
     value_adds start old mid new v is a b c =
         let here : value_bytes (known_of (message_type_of m)) e.0 (value_of v) ≡ stored = ap (λ o. stored_bytes (known_of (message_type_of m)) e.0 (option_map value_of o)) (sym is) in
         adds_same added start new _ _ (ap (λ l. l ++ (unknown_bytes e.0 (entry_slot e.1) ++ rest)) here ∙ entry_first) (adds_in_turn added start mid new _ _ (adds_in_turn added start old mid _ _ a b) c)
 
     -- no value
-    pub unknown_adds : (start old new : A) → value_in e.1 ≡ None → Adds added start old rest → Adds added old new (unknown_bytes e.0 (entry_slot e.1)) → Adds added start new (entries_bytes (known_of (message_type_of m)) (drop (i - 1) (stored_in m)))
+    pub unknown_adds : (start old new : A) → value_in e.1 ≡ None → Adds added start old rest → Adds added old new (unknown_bytes e.0 (entry_slot e.1)) → Adds added start new (entries_bytes (known_of (message_type_of m)) (e ∷ done))
     unknown_adds start old new is a b =
         let none : [] ≡ stored = ap (λ o. stored_bytes (known_of (message_type_of m)) e.0 (option_map value_of o)) (sym is) in
         adds_same added start new _ _ (ap (λ l. l ++ (unknown_bytes e.0 (entry_slot e.1) ++ rest)) none ∙ entry_first) (adds_in_turn added start old new _ _ a b)

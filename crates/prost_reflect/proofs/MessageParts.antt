@@ -1,5 +1,5 @@
 -- Parts of messages, copied and put back.
-use Rattle.std.proofs.Common.{◌≡◌, ℕ, ◌+◌, ◌<◌, ◌≤◌, length, take, get_or, Bool, true, false, cond, not, List, [], ◌∷◌, ◌++◌, map, Option, Some, None, refl, ap, ap₂, sym, subst, ◌∙◌, unwrap_or}
+use Rattle.std.proofs.Common.{◌≡◌, ℕ, Bool, true, false, cond, not, List, [], ◌∷◌, ◌++◌, map, Option, Some, None, refl, ap, ap₂, sym, subst, ◌∙◌, unwrap_or}
 use Rattle.std.specs.Option.{option_map}
 use Rattle.std.specs.Ordering.{match_ordering, nat_cmp}
 use Rattle.std.specs.declared.cmp.Ordering.{Ordering}
@@ -36,7 +36,7 @@ use Rattle.prost_reflect.specs.Merged.{HasNumbersOf, IsJoined}
 use Rattle.prost_reflect.proofs.Views.{shown, content_of_message, content_of_roll}
 use Rattle.prost_reflect.proofs.Slots.{from_keys}
 use Rattle.prost_reflect.proofs.Stored.{ascending_shown, stored_slot, slot_stored}
-use Rattle.prost_reflect.proofs.Copied.{Parts, entry_parts, parts_of, take_next, take_all, sound_copied, message_copied}
+use Rattle.prost_reflect.proofs.Copied.{Parts, entry_parts, parts_of, sound_copied, message_copied}
 use Rattle.prost_reflect.proofs.StoredContents.{contents_shown}
 use Rattle.prost_reflect.proofs.Merging.{known_in, differ_in}
 use Rattle.prost_reflect.proofs.JoinedContents.{Closed, part_sound, joined_read}
@@ -110,22 +110,19 @@ parts_put (d ∷ es) n e = cases (nat_cmp n d.0) (parts_put es n e)
 same_parts : (e d : FieldSlot Value) → SameSlot e d → entry_parts d ≡ entry_parts e
 same_parts e d same = λ i. (same.value i, same.records i)
 
-module _ (numbers : BTreeSet ℕ) (fields items : Slots) (i n : ℕ) (e : FieldSlot Value) (l : i < length items) (at : (n, e) ≡ get_or items i (n, e)) (done : parts_of fields ≡ parts_of (part numbers (take i items))) where
-  more : part numbers (take (i + 1) items) ≡ cond (has numbers n) (put_item (part numbers (take i items)) n e) (part numbers (take i items))
-  more = ap (part numbers) (take_next items i (n, e) l at) ∙ chosen_last (is_chosen numbers true) [] (take i items) (n, e)
+module _ (numbers : BTreeSet ℕ) (fields done : Slots) (n : ℕ) (e : FieldSlot Value) (all : parts_of fields ≡ parts_of (part numbers done)) where
+  more : part numbers (done ++ (n, e) ∷ []) ≡ cond (has numbers n) (put_item (part numbers done) n e) (part numbers done)
+  more = chosen_last (is_chosen numbers true) [] done (n, e)
 
   -- a slot was copied
-  pub slot_copied : (d : FieldSlot Value) → has numbers n ≡ true → SameSlot e d → parts_of (put_item fields n d) ≡ parts_of (part numbers (take (i + 1) items))
+  pub slot_copied : (d : FieldSlot Value) → has numbers n ≡ true → SameSlot e d → parts_of (put_item fields n d) ≡ parts_of (part numbers (done ++ (n, e) ∷ []))
   slot_copied d is same =
-      parts_put fields n d ∙ ap₂ (λ ps (q : Parts). put_item ps n q) done (same_parts e d same) ∙ sym (parts_put (part numbers (take i items)) n e)
-      ∙ ap parts_of (sym (more ∙ ap (λ b. cond b (put_item (part numbers (take i items)) n e) (part numbers (take i items))) is))
+      parts_put fields n d ∙ ap₂ (λ ps (q : Parts). put_item ps n q) all (same_parts e d same) ∙ sym (parts_put (part numbers done) n e)
+      ∙ ap parts_of (sym (more ∙ ap (λ b. cond b (put_item (part numbers done) n e) (part numbers done)) is))
 
   -- or passed
-  pub slot_passed : has numbers n ≡ false → parts_of fields ≡ parts_of (part numbers (take (i + 1) items))
-  slot_passed is = done ∙ ap parts_of (sym (more ∙ ap (λ b. cond b (put_item (part numbers (take i items)) n e) (part numbers (take i items))) is))
-
-pub all_passed : (numbers : BTreeSet ℕ) (fields items es : Slots) (i : ℕ) → items ≡ es → length items ≤ i → parts_of fields ≡ parts_of (part numbers (take i items)) → parts_of fields ≡ parts_of (part numbers es)
-all_passed numbers fields items es i same past done = done ∙ ap (λ l. parts_of (part numbers l)) (take_all items i past ∙ same)
+  pub slot_passed : has numbers n ≡ false → parts_of fields ≡ parts_of (part numbers (done ++ (n, e) ∷ []))
+  slot_passed is = all ∙ ap parts_of (sym (more ∙ ap (λ b. cond b (put_item (part numbers done) n e) (part numbers done)) is))
 
 -- what the copied slots keep
 pub part_kept : (numbers : BTreeSet ℕ) (a b : PooledType) (es fields : Slots) → SameMessage a b → IsAscending es → parts_of fields ≡ parts_of (part numbers es) → Sound (known_of a) es → Sound (known_of b) fields

@@ -126,11 +126,11 @@ present_entries : (m : DynamicMessage) → IsAscending (stored_in m) → present
 present_entries m s = present_items m s ∙ by_keys (present_of_item (known_of (message_type_of m))) (stored_in m) s
 
 -- a walk over all entries has found it
-pub all_present : (m : DynamicMessage) (items : List (ℕ × FieldSlot Value)) (i : ℕ) (numbers : List PresentNumber) → IsAscending (stored_in m) → items ≡ stored_in m → length items ≤ i
-    → flat_map (λ e. entry_present (known_of (message_type_of m)) e.0 e.1) items ≡ numbers ++ flat_map (λ e. entry_present (known_of (message_type_of m)) e.0 e.1) (drop i items)
+pub all_present : (m : DynamicMessage) (left : List (ℕ × FieldSlot Value)) (numbers : List PresentNumber) → IsAscending (stored_in m) → left ≡ []
+    → flat_map (λ e. entry_present (known_of (message_type_of m)) e.0 e.1) (stored_in m) ≡ numbers ++ flat_map (λ e. entry_present (known_of (message_type_of m)) e.0 e.1) left
     → numbers ≡ present_in (kept (content_of m))
-all_present m items i numbers s is past h =
-    sym (append-nil numbers) ∙ ap (λ ds. numbers ++ flat_map by ds) (sym (drop_of_length-le items past)) ∙ sym h ∙ ap (flat_map by) is ∙ sym (present_entries m s)
+all_present m left numbers s none h =
+    sym (append-nil numbers) ∙ ap (λ ds. numbers ++ flat_map by ds) (sym none) ∙ sym h ∙ sym (present_entries m s)
   where
     by : ℕ × FieldSlot Value → List PresentNumber
     by e = entry_present (known_of (message_type_of m)) e.0 e.1

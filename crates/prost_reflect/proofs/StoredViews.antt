@@ -169,21 +169,16 @@ alone n (entries.Value v) es = refl
 alone n (entries.Unknown u) es = refl
 alone n (entries.Both v u) es = refl
 
-cut : {A : Type 0} (xs : List A) (i : ℕ) (x : A) → i < length xs → x ≡ get_or xs i x → drop i xs ≡ x ∷ drop (i + 1) xs
-cut xs i x l is = rw (add-one, drop-cons xs i x, ← is) refl
-
-abbrev left : Entries → ℕ → Entries → Bool
-left es i ds = same_entries (stored_entries value_stored (drop i es)) (stored_entries value_stored ds)
+abbrev left : Entries → Entries → Bool
+left es ds = same_entries (stored_entries value_stored es) (stored_entries value_stored ds)
 
 -- what is left differs in its first number, or one side has an entry more
-pub numbers_differ : (es ds rest : Entries) (i : ℕ) (e d : ℕ × FieldSlot Value) (b : Bool) → i < length es → e ≡ get_or es i e → ds ≡ d ∷ rest → (e.0 ≡ d.0 → ⊥) → left es i ds ≡ b → false ≡ b
-numbers_differ es ds rest i e d b l is from differ same =
-    sym (apart e.0 d.0 e.1 d.1 (stored_entries value_stored (drop (i + 1) es)) (stored_entries value_stored rest) (ne_eqb e.0 d.0 differ))
-    ∙ sym (ap₂ (λ (xs ys : Entries). same_entries (stored_entries value_stored xs) (stored_entries value_stored ys)) (cut es i e l is) from) ∙ same
+pub numbers_differ : (es ds more rest : Entries) (e d : ℕ × FieldSlot Value) (b : Bool) → es ≡ e ∷ more → ds ≡ d ∷ rest → (e.0 ≡ d.0 → ⊥) → left es ds ≡ b → false ≡ b
+numbers_differ es ds more rest e d b first other differ same =
+    sym (apart e.0 d.0 e.1 d.1 (stored_entries value_stored more) (stored_entries value_stored rest) (ne_eqb e.0 d.0 differ)) ∙ sym (ap₂ left first other) ∙ same
 
-pub entry_alone : (es ds : Entries) (i : ℕ) (e : ℕ × FieldSlot Value) (b : Bool) → i < length es → e ≡ get_or es i e → length ds ≡ 0 → left es i ds ≡ b → false ≡ b
-entry_alone es (d ∷ ds) i e b l is none same = absurd (omega arith)
-entry_alone es [] i e b l is none same = sym (alone e.0 e.1 (stored_entries value_stored (drop (i + 1) es))) ∙ sym (ap (λ (xs : Entries). same_entries (stored_entries value_stored xs) NothingStored) (cut es i e l is)) ∙ same
+pub entry_alone : (es ds more : Entries) (e : ℕ × FieldSlot Value) (b : Bool) → es ≡ e ∷ more → ds ≡ [] → left es ds ≡ b → false ≡ b
+entry_alone es ds more e b first none same = sym (alone e.0 e.1 (stored_entries value_stored more)) ∙ sym (ap₂ left first none) ∙ same
 
 -- PAIRS
 

@@ -102,7 +102,7 @@ module _ (n : ℕ) (enums : List EnumRow) (key value_row : FieldRow) (key_type v
 -- ENTRIES FROM THE LAST ON
 
 -- where the entries are cut
-pub cut_pairs : (items left rest done : List (MapKey × Value)) (e : MapKey × Value) → items ≡ left ++ done → left ≡ rest ++ e ∷ [] → items ≡ rest ++ e ∷ done
+pub cut_pairs : {A : Type 0} (items left rest done : List A) (e : A) → items ≡ left ++ done → left ≡ rest ++ e ∷ [] → items ≡ rest ++ e ∷ done
 cut_pairs items left rest done e all cut = all ∙ ap (λ l. l ++ done) cut ∙ append_assoc rest (e ∷ []) done
 
 -- each entry is taken

@@ -8,6 +8,7 @@ use Rattle.prost_reflect_wire.specs.declared.unknown.UnknownField.{UnknownField}
 use Rattle.prost_reflect_wire.specs.declared.unknown.UnknownFieldSet.{UnknownFieldSet}
 use Rattle.prost_reflect_fields.specs.FieldSlots.{unknown_in}
 use Rattle.prost_reflect_fields.specs.Items.{IsAscending}
+use Rattle.prost_reflect_fields.specs.ItemsLeft.{items_left}
 use Rattle.prost_reflect_fields.specs.Sound.{IsSound}
 use Rattle.prost_reflect_fields.specs.declared.slot.FieldSlot.{FieldSlot}
 use Rattle.prost_reflect.specs.View.{content_of, message_type_of, stored_in}
@@ -26,7 +27,7 @@ all_unknown es = flat_map (λ e. fields_or_none (unknown_in e.1)) es
 
 -- Those that an iterator has left.
 abbrev pub unknown_left : UnknownFields → List UnknownField
-unknown_left it = it.fields.now ++ all_unknown it.slots.now
+unknown_left it = it.fields.now ++ all_unknown (items_left it.slots)
 
 -- Those that an iterator over taken ones has left.
 abbrev pub taken_left : TakenUnknownFields → List UnknownField

@@ -4,6 +4,7 @@ use Rattle.std.specs.Borrow.{Bor}
 use Rattle.prost_reflect_wire.specs.Schema.{Field}
 use Rattle.prost_reflect_wire.specs.Typing.{kept}
 use Rattle.prost_reflect_pool.specs.declared.pooled_type.PooledType.{PooledType}
+use Rattle.prost_reflect_fields.specs.ItemsLeft.{items_left}
 use Rattle.prost_reflect_fields.specs.Known.{known_of, is_listed}
 use Rattle.prost_reflect_fields.specs.FieldSlots.{value_in, numbered}
 use Rattle.prost_reflect_fields.specs.declared.slot.FieldSlot.{FieldSlot}
@@ -43,7 +44,7 @@ said fields ps = flat_map (λ p. numbered p.0 (saying fields p.0 p.1)) ps
 -- WHAT ITERATORS HAVE LEFT
 
 abbrev pub values_left : (of_extensions : Bool) → HadValues → List (ℕ × Value)
-values_left of_extensions it = had_values of_extensions (known_of it.message_type.now) it.slots.now
+values_left of_extensions it = had_values of_extensions (known_of it.message_type.now) (items_left it.slots)
 
 abbrev pub fields_left : Fields → List (ℕ × Value)
 fields_left it = values_left false it.values

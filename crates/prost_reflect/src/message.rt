@@ -11,6 +11,7 @@ ghost use Rattle.prost_reflect.specs.contracts.value.Value as value;
 ghost use Rattle.prost_reflect_pool.specs.MessageTypes.{schema_at, type_at, SameMessage};
 ghost use Rattle.prost_reflect_pool.specs.SharedPools.{pool_contents};
 ghost use Rattle.prost_reflect_fields.specs.Items.{IsAscending};
+ghost use Rattle.prost_reflect_fields.specs.ItemsLeft.{items_left};
 ghost use Rattle.prost_reflect_fields.specs.Known.{known_of, is_known, keeps_unknown};
 ghost use Rattle.prost_reflect_fields.specs.NumberSets.{has, HasWholeOneofs};
 ghost use Rattle.prost_reflect_fields.specs.FieldSlots.{value_at as stored_at, records_at};
@@ -48,6 +49,7 @@ pub use lists::{Extensions, Fields, TakenExtensions, TakenFields};
 pub use present::PresentNumber;
 use prost_reflect_fields::field_set::FieldSet;
 use prost_reflect_fields::slot::FieldSlot;
+use prost_reflect_fields::sorted_map::Items;
 use prost_reflect_pool::{LinkedPool, PooledType};
 use prost_reflect_wire::{UnknownField, UnknownFieldSet};
 pub use setting::SetFieldError;
@@ -107,7 +109,7 @@ impl DynamicMessage {
     pub(crate) fn is_empty_of(&self, pool: &Rc<LinkedPool>, place: usize) -> bool
         ensures { IsTrue result ↔ IsEmptyOf pool.now place (Some self.now) }
     {
-        stands_at(self.message_type(), pool, place) && self.slots().is_empty()
+        stands_at(self.message_type(), pool, place) && self.slots().next().is_none()
     }
 
     /// Removes all values and all unknown fields. The type stays.
@@ -119,8 +121,8 @@ impl DynamicMessage {
     }
 
     /// What the message keeps at each number, in ascending order of the numbers.
-    pub(crate) fn slots(&self) -> &[(u32, FieldSlot<Value>)]
-        ensures slots { result.now ≡ stored_in self.now }
+    pub(crate) fn slots(&self) -> Items<'_, FieldSlot<Value>>
+        ensures slots { items_left result ≡ stored_in self.now }
         ensures ascending { IsAscending (stored_in self.now) }
         ensures sound { IsSound (message_type_of self.now) (stored_in self.now) }
     {

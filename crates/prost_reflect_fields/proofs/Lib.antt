@@ -1,5 +1,4 @@
 mod Places
-mod Walks
 pub mod ItemChanges
 pub mod SlotChanges
 pub mod Siblings
@@ -10,4 +9,5 @@ mod OneofPlaces
 mod MembersCleared
 pub mod Replaced
 mod Weaving
+mod RunChanges
 mod WholeOneofs

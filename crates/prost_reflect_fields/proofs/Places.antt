@@ -17,7 +17,7 @@ use Rattle.std_collections.specs.Layout.BTreeMap.{seek, index_of, one_further}
 use Rattle.std_collections.specs.Layout.Columns.{set_value_at}
 use Rattle.std.proofs.lemmas.Grind.{common_steps}
 use Rattle.std.specs.Ordering.{match_ordering}
-use Rattle.prost_reflect_fields.specs.Items.{first_from, IsAscending, item_at, with_item, put_item, without_item}
+use Rattle.prost_reflect_fields.specs.Items.{IsAscending, item_at, with_item, put_item, without_item}
 
 flipped : (x y : ℕ) (o : Ordering) → nat_cmp x y ≡ o → nat_cmp y x ≡ ordering_reverse o
 flipped x y o h = nat_cmp_total.antisymm y x ∙ ap ordering_reverse h
@@ -64,7 +64,7 @@ pub place_is : {T : Type 0} (n : ℕ) (es : List (ℕ × T)) (r : Result ℕ ℕ
 place_is n es (Ok i) s within h = sym (found n es i s within h)
 place_is n es (Err i) s within h = let parts = h (non_decreasing n es s) in sym (missing n es i within parts.0 parts.1)
 
-keys-set : {T : Type 0} (es : List (ℕ × T)) (i : ℕ) (x : ℕ × T) → x.0 ≡ (slice_index_or es i x).0 → keys_of (slice_set es i x) ≡ keys_of es
+pub keys-set : {T : Type 0} (es : List (ℕ × T)) (i : ℕ) (x : ℕ × T) → x.0 ≡ (slice_index_or es i x).0 → keys_of (slice_set es i x) ≡ keys_of es
 keys-set [] i x h = refl
 keys-set (e ∷ es) zero x h = ap (λ k. k ∷ keys_of es) h
 keys-set (e ∷ es) (suc i) x h = ap (λ ks. e.0 ∷ ks) (keys-set es i x h)
@@ -176,16 +176,6 @@ ascending_inserted n es ds i w s h e = subst IsAscending (sym e) (ascending_inse
 pub further : (r : Result ℕ ℕ) → index_of (one_further r) ≡ suc (index_of r)
 further (Ok i) = refl
 further (Err i) = refl
-
-pub first_is : {T : Type 0} (n : ℕ) (es : List (ℕ × T)) → first_from es n ≡ slice_get es (index_of (seek (nat_cmp n) es))
-first_is n [] = refl
-first_is n (e ∷ es) = cases (nat_cmp n e.0) refl (first_is n es)
-  where
-    cases : (o : Ordering) → nat_cmp n e.0 ≡ o → first_from es n ≡ slice_get es (index_of (seek (nat_cmp n) es))
-        → cond (nat_lt e.0 n) (first_from es n) (Some e) ≡ slice_get (e ∷ es) (index_of (match_ordering o (Err 0) (Ok 0) (one_further (seek (nat_cmp n) es))))
-    cases Less at rest = let no : nat_lt e.0 n ≡ false = grind (arith, common_steps, at) in rw no refl
-    cases Equal at rest = let no : nat_lt e.0 n ≡ false = grind (arith, common_steps, at) in rw no refl
-    cases Greater at rest = let yes : nat_lt e.0 n ≡ true = grind (arith, common_steps, at) in rw (yes, further (seek (nat_cmp n) es)) rest
 
 pub slice_got : {T : Type 0} (xs : List T) (i : ℕ) (x : T) → true ≡ nat_lt i (length xs) → x ≡ slice_index_or xs i x → slice_get xs i ≡ Some x
 slice_got [] i x l h = grind (arith, l)

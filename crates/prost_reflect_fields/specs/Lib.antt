@@ -1,4 +1,6 @@
 pub mod Items
+pub mod Runs
+pub mod ItemsLeft
 pub mod FieldSlots
 pub mod Known
 pub mod Sound

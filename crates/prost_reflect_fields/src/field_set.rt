@@ -10,11 +10,12 @@ ghost use Rattle.prost_reflect_fields.specs.Known.{known_of, is_known, is_listed
 ghost use Rattle.prost_reflect_fields.specs.NumberSets.{HasWholeOneofs, AreReplaced};
 ghost use Rattle.prost_reflect_fields.specs.FieldSlots.{value_at, unknown_at, clear_value, without_values, values_where, with_value, UnknownAdded, SameStored, unknown_sets, values_alone};
 ghost use Rattle.prost_reflect_fields.specs.Sound.{IsSound, set_value_at, prepared};
+ghost use Rattle.prost_reflect_fields.specs.ItemsLeft.{items_left, items_left_back};
 
 use crate::number_map::ascending;
 use crate::parting::parted;
 use crate::slot::FieldSlot;
-use crate::sorted_map::SortedMap;
+use crate::sorted_map::{Items, ItemsBack, SortedMap};
 use crate::stored::{
     add_unknown, set_value, take_value, unknown_at, value_at, value_mut, value_mut_or,
 };
@@ -89,12 +90,21 @@ impl<V> FieldSet<V> {
     }
 
     /// What stands at each number, in ascending order of the numbers.
-    pub fn slots(&self) -> &[(u32, FieldSlot<V>)]
-        ensures slots { result.now ≡ self.now.1 }
+    pub fn slots(&self) -> Items<'_, FieldSlot<V>>
+        ensures slots { items_left result ≡ self.now.1 }
         ensures ascending { IsAscending self.now.1 }
         ensures sound { IsSound self.now.0 self.now.1 }
     {
-        self.fields.as_slice()
+        self.fields.iter()
+    }
+
+    /// What stands at each number, in descending order of the numbers.
+    pub fn slots_back(&self) -> ItemsBack<'_, FieldSlot<V>>
+        ensures slots { items_left_back result ≡ self.now.1 }
+        ensures ascending { IsAscending self.now.1 }
+        ensures sound { IsSound self.now.0 self.now.1 }
+    {
+        self.fields.iter_back()
     }
 }
 
@@ -137,12 +147,16 @@ impl<V: Drop> FieldSet<V> {
     {
         ascending(&self.fields);
         let alloc = self.fields.allocator();
-        let room = self.fields.len();
-        let taken = Vec::with_capacity(alloc, room)?;
-        let kept = Vec::with_capacity(alloc, room)?;
-        let slots = self.fields.take_items();
+        let Some(count) = self.fields.count() else {
+            return Err(AllocError);
+        };
+        let runs = Vec::with_capacity(alloc, 1)?;
+        let mut slots = Vec::with_capacity(alloc, count)?;
+        let taken = Vec::with_capacity(alloc, count)?;
+        let kept = Vec::with_capacity(alloc, count)?;
+        self.fields.move_items(&mut slots);
         let (taken, kept) = parted(&self.message_type, of_extensions, slots, taken, kept);
-        self.fields = SortedMap::from_items(kept);
+        self.fields = SortedMap::from_items(runs, kept);
         Ok(taken)
     }
 

@@ -1,21 +1,20 @@
 //! Maps from numbers.
 
-ghost use Rattle.std.specs.Prelude.{◌≡◌, ◌<◌, ℕ, List, length, OnOk, OnErr};
+ghost use Rattle.std.specs.Prelude.{◌≡◌, ℕ, List, OnOk, OnErr};
 ghost use Rattle.std.specs.Borrow.{LendsSo, sem};
-ghost use Rattle.std.specs.Option.{option_copied, option_copied_mut, option_map};
-ghost use Rattle.prost_reflect_fields.specs.Items.{IsAscending, item_at, with_item, put_item, without_item, first_from, last_below};
+ghost use Rattle.std.specs.Option.{option_copied, option_copied_mut};
+ghost use Rattle.prost_reflect_fields.specs.Items.{IsAscending, item_at, with_item, put_item, without_item};
 
 use std::alloc::AllocError;
 use std::collections::BTreeMap;
 
-/// A map from numbers, which can be walked from any number in ascending and in descending order.
+/// A map from numbers.
 pub trait NumberMap<T> {
     ghost entries: { Self → List (ℕ × T) };
 
-    /// How many numbers have an item.
-    fn len(&self) -> usize
-        ensures len { result ≡ length (entries self.now) }
-        ensures ascending { IsAscending (entries self.now) };
+    /// The numbers ascend. A call does nothing, but its caller may then count on it.
+    fn ascends(&self)
+        ensures { IsAscending (entries self.now) };
 
     /// The item at the number.
     fn get(&self, number: u32) -> Option<&T>
@@ -35,28 +34,20 @@ pub trait NumberMap<T> {
     fn remove(&mut self, number: u32) -> Option<T>
         ensures removed { result ≡ item_at (entries self.old) number }
         ensures entries { entries self.new ≡ without_item (entries self.old) number };
-
-    /// The first item at the number or above it.
-    fn first_from(&self, number: u32) -> Option<(u32, &T)>
-        ensures { option_map (λ p. (p.0, p.1.now)) result ≡ first_from (entries self.now) number };
-
-    /// The last item below the number.
-    fn last_below(&self, number: u32) -> Option<(u32, &T)>
-        ensures { option_map (λ p. (p.0, p.1.now)) result ≡ last_below (entries self.now) number };
 }
 
 /// The numbers of a map ascend. A call does nothing, but its caller may then count on it.
 pub fn ascending<T, S: NumberMap<T>>(map: &S)
     ensures { IsAscending (S.entries map.now) }
 {
-    let _ = map.len();
+    map.ascends();
 }
 
 impl<T: Drop> NumberMap<T> for BTreeMap<u32, T> {
     ghost entries = { λ m. m.entries };
 
-    fn len(&self) -> usize {
-        self.len()
+    fn ascends(&self) {
+        let _ = self.len();
     }
 
     fn get(&self, number: u32) -> Option<&T> {
@@ -74,19 +65,5 @@ impl<T: Drop> NumberMap<T> for BTreeMap<u32, T> {
 
     fn remove(&mut self, number: u32) -> Option<T> {
         self.remove(&number)
-    }
-
-    fn first_from(&self, number: u32) -> Option<(u32, &T)> {
-        match self.range(number..).next() {
-            Some((found, item)) => Some((*found, item)),
-            None => None,
-        }
-    }
-
-    fn last_below(&self, number: u32) -> Option<(u32, &T)> {
-        match self.range(..number).next_back() {
-            Some((found, item)) => Some((*found, item)),
-            None => None,
-        }
     }
 }

@@ -1,17 +1,16 @@
-//! A map from numbers as a sorted vector.
+//! A map from numbers, as runs of items in ascending order.
 
-ghost use Rattle.std.specs.Prelude.{◌≡◌, ◌+◌, ◌<◌, ◌≤◌, ◌++◌, ◌∷◌, ℕ, List, [], length, OnOk, OnErr, IfNone, Some, slice_get, vec_len, vec_capacity};
-ghost use Rattle.std.specs.Map.{values_of};
-ghost use Rattle.std.specs.Borrow.{Lends, LendsIf, sem};
-ghost use Rattle.std.specs.Option.{option_copied, option_copied_mut, option_map};
+ghost use Rattle.std.specs.Prelude.{◌≡◌, ◌+◌, ◌<◌, ◌≤◌, ◌++◌, ◌∷◌, ℕ, List, [], length, OnOk, OnErr, IfSome, IfNone, Some, None, vec_len, vec_capacity};
+ghost use Rattle.std.specs.Borrow.{LendsIf, sem};
+ghost use Rattle.std.specs.Option.{option_copied, option_copied_mut, option_to_list};
 ghost use Rattle.std.specs.Ordering.{nat_cmp};
-ghost use Rattle.std_collections.specs.Layout.BTreeMap.{seek, index_of};
-ghost use Rattle.std_collections.specs.Layout.Columns.{set_value_at};
-ghost use Rattle.prost_reflect_fields.specs.contracts.sorted_map.SortedMap.{the_row};
-ghost use Rattle.prost_reflect_fields.specs.Items.{IsAscending, item_at, with_item, put_item, without_item, first_from, last_below};
-ghost use Rattle.std.specs.Option.{option_to_list};
 ghost use Rattle.std.specs.Vec.Iter.{into_iter_items, into_iter_len};
+ghost use Rattle.std_collections.specs.Layout.BTreeMap.{seek};
+ghost use Rattle.prost_reflect_fields.specs.contracts.sorted_map.SortedMap.{the_row};
+ghost use Rattle.prost_reflect_fields.specs.Items.{IsAscending, item_at, with_item, put_item, without_item};
 ghost use Rattle.prost_reflect_fields.specs.NumberSets.{has, is_up_to, chosen_up_to, left_beyond, AreReplaced};
+ghost use Rattle.prost_reflect_fields.specs.Runs.{flat, IsLaid, run_at};
+ghost use Rattle.prost_reflect_fields.specs.ItemsLeft.{items_left, items_left_back};
 
 use crate::number_map::NumberMap;
 use std::alloc::{AllocError, Global};
@@ -20,21 +19,28 @@ use std::marker::Model;
 use std::mem;
 use std::vec::IntoIter;
 
-/// A map from numbers as a sorted vector.
+/// A run of so many items is parted before it takes a further one.
+const FULL: usize = 128;
+
+/// A map from numbers, as runs of items in ascending order. With each run stands a number that is above all items in front of it, and
+/// not above its own.
+///
+/// An item goes into its run, and a run that is full is parted first. So items whose numbers come in any order cost n log n, and few
+/// items are one run.
 #[derive(Debug, Drop)]
 pub struct SortedMap<T> {
-    items: Vec<(u32, T)>,
+    runs: Vec<(u32, Vec<(u32, T)>)>,
 }
 
 impl<T> Model for SortedMap<T> {
     ghost use Rattle.std.specs.Prelude.{ℕ, List};
-    ghost use Rattle.prost_reflect_fields.specs.Items.{IsAscending};
+    ghost use Rattle.prost_reflect_fields.specs.Runs.{flat, IsLaid};
 
     ghost Value = { List (ℕ × T) };
 
-    ghost view = { λ a. a.items.items };
+    ghost view = { λ a. flat a.runs.items };
 
-    ghost invariant = { λ a. IsAscending a.items.items };
+    ghost invariant = { λ a. IsLaid a.runs.items };
 }
 
 impl<T> SortedMap<T> {
@@ -42,119 +48,99 @@ impl<T> SortedMap<T> {
         ensures { result ≡ [] }
     {
         SortedMap {
-            items: Vec::new(alloc),
+            runs: Vec::new(alloc),
         }
     }
 
-    /// These items, whose numbers ascend.
-    pub fn from_items(items: Vec<(u32, T)>) -> SortedMap<T>
-        requires { IsAscending items.items }
+    /// These items, whose numbers ascend, as one run. There is room for it.
+    pub(crate) fn from_items(runs: Vec<(u32, Vec<(u32, T)>)>, items: Vec<(u32, T)>) -> SortedMap<T>
+        requires empty { runs.items ≡ [] }
+        requires room { vec_len runs < vec_capacity runs }
+        requires ascending { IsAscending items.items }
         ensures { result ≡ items.items }
     {
-        SortedMap { items }
+        let mut runs = runs;
+        match runs.push((0, items)) {
+            Ok(()) => {}
+            Err(_) => unreachable!(),
+        }
+        SortedMap { runs }
     }
 
-    /// Takes all items with their numbers, ascending.
-    pub fn take_items(&mut self) -> Vec<(u32, T)>
-        ensures items { result.items ≡ self.old }
-        ensures len { vec_len result ≡ length self.old }
+    /// Puts all items behind those that are there, for which there is room.
+    pub(crate) fn move_items(&mut self, items: &mut Vec<(u32, T)>)
+    where
+        T: Drop,
+        requires room { vec_len items.old + length self.old ≤ vec_capacity items.old }
+        ensures items { items.new.items ≡ items.old.items ++ self.old }
         ensures left { self.new ≡ [] }
         ensures ascending { IsAscending self.old }
     {
         let alloc = self.allocator();
-        mem::replace(&mut self.items, Vec::new(alloc))
+        join_runs(mem::replace(&mut self.runs, Vec::new(alloc)), items);
     }
 
     /// What the items are stored with.
     pub fn allocator(&self) -> Global {
-        *self.items.allocator()
+        *self.runs.allocator()
     }
 
-    /// How many numbers have an item.
-    pub fn len(&self) -> usize
-        ensures len { result ≡ length self.now }
-        ensures ascending { IsAscending self.now }
+    /// How many numbers have an item, unless no `usize` is so large.
+    pub(crate) fn count(&self) -> Option<usize>
+        ensures { IfSome result (λ count. count ≡ length self.now) }
     {
-        self.items.len()
+        count_items(&self.runs)
     }
 
-    /// Where the number stands, or where it would go.
-    fn place(&self, number: u32) -> Result<usize, usize>
-        ensures place { result ≡ seek (nat_cmp number) self.now }
-        ensures ascending { IsAscending self.now }
+    /// The numbers ascend. A call does nothing, but its caller may then count on it.
+    pub fn ascends(&self)
+        ensures { IsAscending self.now }
     {
-        place_in(&self.items, number)
+        let _ = self.runs.len();
     }
 
     pub fn get(&self, number: u32) -> Option<&T>
         ensures { option_copied result ≡ item_at self.now number }
     {
-        match self.place(number) {
-            Ok(index) => Some(&self.items[index].1),
-            Err(_) => None,
-        }
-    }
-
-    /// How many items stand below the number.
-    fn start(&self, number: u32) -> usize
-        ensures start { result ≡ index_of (seek (nat_cmp number) self.now) }
-        ensures ascending { IsAscending self.now }
-    {
-        match self.place(number) {
-            Ok(index) => index,
-            Err(index) => index,
-        }
-    }
-
-    /// The first item at the number or above it.
-    pub fn first_from(&self, number: u32) -> Option<(u32, &T)>
-        ensures { option_map (λ p. (p.0, p.1.now)) result ≡ first_from self.now number }
-    {
-        let start = self.start(number);
-        match self.items.get(start) {
-            Some(item) => Some((item.0, &item.1)),
-            None => None,
-        }
-    }
-
-    /// The last item below the number.
-    pub fn last_below(&self, number: u32) -> Option<(u32, &T)>
-        ensures { option_map (λ p. (p.0, p.1.now)) result ≡ last_below self.now number }
-    {
-        let start = self.start(number);
-        if start == 0 {
-            return None;
-        }
-        match self.items.get(start - 1) {
-            Some(item) => Some((item.0, &item.1)),
-            None => None,
-        }
+        get_in(&self.runs, number)
     }
 
     /// The items with their numbers, ascending.
-    pub fn as_slice(&self) -> &[(u32, T)]
-        ensures items { result.now ≡ self.now }
+    pub fn iter(&self) -> Items<'_, T>
+        ensures items { items_left result ≡ self.now }
         ensures ascending { IsAscending self.now }
     {
-        &self.items
+        Items {
+            run: &[],
+            runs: &self.runs,
+        }
     }
 
-    fn item_mut(&mut self, index: usize) -> &mut T
-        requires { index < length self.old }
-        ensures* writes_back { sem 𝓛 (Lends (the_row T.row) T.row self.entry result (set_value_at self.old index)) }
-        ensures value { slice_get (values_of self.old) index ≡ Some result.now }
+    /// The items with their numbers, the last one first.
+    pub fn iter_back(&self) -> ItemsBack<'_, T>
+        ensures items { items_left_back result ≡ self.now }
+        ensures ascending { IsAscending self.now }
     {
-        let item = &mut self.items[index];
-        &mut item.1
+        ItemsBack {
+            runs: &self.runs,
+            run: &[],
+        }
     }
 
     pub fn get_mut(&mut self, number: u32) -> Option<&mut T>
         ensures* writes_back { sem 𝓛 (LendsIf (the_row T.row) T.row self.entry result (with_item self.old number) self.old) }
         ensures value { option_copied_mut result ≡ item_at self.old number }
     {
-        match self.place(number) {
-            Ok(index) => Some(self.item_mut(index)),
-            Err(_) => None,
+        match run_of(&self.runs, number) {
+            Some(index) => match place_in(&self.runs[index].1, number) {
+                Ok(place) => {
+                    let run = &mut self.runs[index];
+                    let item = &mut run.1[place];
+                    Some(&mut item.1)
+                }
+                Err(_) => None,
+            },
+            None => None,
         }
     }
 }
@@ -164,7 +150,8 @@ impl<T: Drop> SortedMap<T> {
         ensures ok { OnOk result (self.new ≡ put_item self.old number item) }
         ensures err { OnErr result (self.new ≡ self.old) }
     {
-        put(&mut self.items, number, item)
+        make_room(&mut self.runs, number)?;
+        put_in(&mut self.runs, number, item)
     }
 
     /// Puts what the other map has at the numbers of the set in place of what is there. A refused growth changes nothing.
@@ -176,15 +163,25 @@ impl<T: Drop> SortedMap<T> {
         ensures ok { OnOk result (AreReplaced numbers.now self.old others self.new) }
         ensures err { OnErr result (self.new ≡ self.old) }
     {
-        let SortedMap { items: news } = others;
-        let Some(count) = self.items.len().checked_add(news.len()) else {
+        let mut others = others;
+        let Some(old_count) = self.count() else {
+            return Err(AllocError);
+        };
+        let Some(new_count) = others.count() else {
+            return Err(AllocError);
+        };
+        let Some(count) = old_count.checked_add(new_count) else {
             return Err(AllocError);
         };
         let alloc = self.allocator();
+        let mut olds = Vec::with_capacity(alloc, old_count)?;
+        let mut news = Vec::with_capacity(alloc, new_count)?;
         let mut items = Vec::with_capacity(alloc, count)?;
-        let olds = mem::replace(&mut self.items, Vec::new(alloc));
+        let runs = Vec::with_capacity(alloc, 1)?;
+        self.move_items(&mut olds);
+        others.move_items(&mut news);
         weave(&mut items, olds, news, numbers);
-        self.items = items;
+        *self = SortedMap::from_items(runs, items);
         Ok(())
     }
 
@@ -192,10 +189,109 @@ impl<T: Drop> SortedMap<T> {
         ensures removed { result ≡ item_at self.old number }
         ensures entries { self.new ≡ without_item self.old number }
     {
-        match self.place(number) {
-            Ok(index) => Some(self.items.remove(index).1),
-            Err(_) => None,
+        remove_in(&mut self.runs, number)
+    }
+}
+
+/// The items of a map with their numbers, ascending.
+#[derive(Drop)]
+pub struct Items<'a, T> {
+    run: &'a [(u32, T)],
+    runs: &'a [(u32, Vec<(u32, T)>)],
+}
+
+impl<'a, T> Iterator for Items<'a, T> {
+    type Item = &'a (u32, T);
+
+    ghost use Rattle.std.specs.Iterator.{YieldsFirstRef, item_count};
+    ghost use Rattle.prost_reflect_fields.specs.ItemsLeft.{items_left};
+
+    ghost next_gives = { YieldsFirstRef items_left };
+
+    ghost remaining = { item_count items_left };
+
+    fn next(&mut self) -> Option<&'a (u32, T)> {
+        self.fill();
+        match self.run.split_first() {
+            Some((item, rest)) => {
+                self.run = rest;
+                Some(item)
+            }
+            None => None,
         }
+    }
+}
+
+impl<'a, T> Items<'a, T> {
+    /// Goes on to the next run that has items, where all of the last one were given.
+    fn fill(&mut self)
+        ensures left { items_left self.new ≡ items_left self.old }
+        ensures ready { self.new.run.now ≡ [] → self.new.runs.now ≡ [] }
+    {
+        let mut run = self.run;
+        let mut runs = self.runs;
+        while run.is_empty() {
+            match runs.split_first() {
+                Some((first, rest)) => {
+                    run = &first.1;
+                    runs = rest;
+                }
+                None => break,
+            }
+        }
+        self.run = run;
+        self.runs = runs;
+    }
+}
+
+/// The items of a map with their numbers, the last one first.
+#[derive(Drop)]
+pub struct ItemsBack<'a, T> {
+    runs: &'a [(u32, Vec<(u32, T)>)],
+    run: &'a [(u32, T)],
+}
+
+impl<'a, T> Iterator for ItemsBack<'a, T> {
+    type Item = &'a (u32, T);
+
+    ghost use Rattle.std.specs.Iterator.{YieldsLastRef, item_count};
+    ghost use Rattle.prost_reflect_fields.specs.ItemsLeft.{items_left_back};
+
+    ghost next_gives = { YieldsLastRef items_left_back };
+
+    ghost remaining = { item_count items_left_back };
+
+    fn next(&mut self) -> Option<&'a (u32, T)> {
+        self.fill();
+        match self.run.split_last() {
+            Some((item, rest)) => {
+                self.run = rest;
+                Some(item)
+            }
+            None => None,
+        }
+    }
+}
+
+impl<'a, T> ItemsBack<'a, T> {
+    /// Goes back to the next run that has items, where all of the last one were given.
+    fn fill(&mut self)
+        ensures left { items_left_back self.new ≡ items_left_back self.old }
+        ensures ready { self.new.run.now ≡ [] → self.new.runs.now ≡ [] }
+    {
+        let mut run = self.run;
+        let mut runs = self.runs;
+        while run.is_empty() {
+            match runs.split_last() {
+                Some((last, rest)) => {
+                    run = &last.1;
+                    runs = rest;
+                }
+                None => break,
+            }
+        }
+        self.run = run;
+        self.runs = runs;
     }
 }
 
@@ -205,6 +301,118 @@ fn place_in<T>(items: &[(u32, T)], number: u32) -> Result<usize, usize>
     ensures { result ≡ seek (nat_cmp number) items.now }
 {
     items.binary_search_by_key(&number, |item| item.0)
+}
+
+/// The place of the run to which the number belongs: the last one whose items may have it.
+fn run_of<T>(runs: &[(u32, Vec<(u32, T)>)], number: u32) -> Option<usize>
+    requires { IsLaid runs.now }
+    ensures run { result ≡ run_at (seek (nat_cmp number) runs.now) }
+    ensures within { IfSome result (λ index. index < length runs.now) }
+{
+    match place_in(runs, number) {
+        Ok(index) => Some(index),
+        Err(0) => None,
+        Err(index) => Some(index - 1),
+    }
+}
+
+/// The item at the number in its run.
+fn get_in<T>(runs: &[(u32, Vec<(u32, T)>)], number: u32) -> Option<&T>
+    requires { IsLaid runs.now }
+    ensures { option_copied result ≡ item_at (flat runs.now) number }
+{
+    match run_of(runs, number) {
+        Some(index) => get_at(&runs[index].1, number),
+        None => None,
+    }
+}
+
+fn get_at<T>(items: &[(u32, T)], number: u32) -> Option<&T>
+    requires { IsAscending items.now }
+    ensures { option_copied result ≡ item_at items.now number }
+{
+    match place_in(items, number) {
+        Ok(place) => Some(&items[place].1),
+        Err(_) => None,
+    }
+}
+
+fn count_items<T>(runs: &[(u32, Vec<(u32, T)>)]) -> Option<usize>
+    ensures { IfSome result (λ count. count ≡ length (flat runs.now)) }
+{
+    let mut count: usize = 0;
+    for run in runs {
+        count = count.checked_add(run.1.len())?;
+    }
+    Some(count)
+}
+
+/// Parts the run to which the number belongs, where it is full. A refused growth changes no item.
+fn make_room<T: Drop>(runs: &mut Vec<(u32, Vec<(u32, T)>)>, number: u32) -> Result<(), AllocError>
+    requires { IsLaid runs.old.items }
+    ensures laid { IsLaid runs.new.items }
+    ensures items { flat runs.new.items ≡ flat runs.old.items }
+{
+    match run_of(runs, number) {
+        Some(index) if FULL <= runs[index].1.len() => part_run(runs, index),
+        _ => Ok(()),
+    }
+}
+
+/// Parts a run in the middle. A refused growth changes no item.
+fn part_run<T: Drop>(runs: &mut Vec<(u32, Vec<(u32, T)>)>, index: usize) -> Result<(), AllocError>
+    requires laid { IsLaid runs.old.items }
+    requires index { index < vec_len runs.old }
+    ensures laid { IsLaid runs.new.items }
+    ensures items { flat runs.new.items ≡ flat runs.old.items }
+{
+    runs.reserve(1)?;
+    let run = &mut runs[index].1;
+    let middle = run.len() / 2;
+    if middle == 0 {
+        return Ok(());
+    }
+    let number = run[middle].0;
+    let high = run.split_off(middle)?;
+    match runs.insert(index + 1, (number, high)) {
+        Ok(()) => Ok(()),
+        Err(_) => unreachable!(),
+    }
+}
+
+/// Puts the item at the number, in place of one that is there. A refused growth changes no item.
+fn put_in<T: Drop>(
+    runs: &mut Vec<(u32, Vec<(u32, T)>)>,
+    number: u32,
+    item: T,
+) -> Result<(), AllocError>
+    requires { IsLaid runs.old.items }
+    ensures laid { IsLaid runs.new.items }
+    ensures ok { OnOk result (flat runs.new.items ≡ put_item (flat runs.old.items) number item) }
+    ensures err { OnErr result (flat runs.new.items ≡ flat runs.old.items) }
+{
+    match run_of(runs, number) {
+        Some(index) => put(&mut runs[index].1, number, item),
+        None => put_first(runs, number, item),
+    }
+}
+
+/// Puts the item in front of all others, in a run of its own. A refused growth changes nothing.
+fn put_first<T: Drop>(
+    runs: &mut Vec<(u32, Vec<(u32, T)>)>,
+    number: u32,
+    item: T,
+) -> Result<(), AllocError>
+    requires laid { IsLaid runs.old.items }
+    requires first { run_at (seek (nat_cmp number) runs.old.items) ≡ None }
+    ensures laid { IsLaid runs.new.items }
+    ensures ok { OnOk result (flat runs.new.items ≡ put_item (flat runs.old.items) number item) }
+    ensures err { OnErr result (flat runs.new.items ≡ flat runs.old.items) }
+{
+    let mut run = Vec::new(*runs.allocator());
+    run.push((number, item))?;
+    runs.insert(0, (0, run))?;
+    Ok(())
 }
 
 /// Puts the item at the number, in place of one that is there. A refused growth changes nothing.
@@ -218,6 +426,53 @@ fn put<T: Drop>(items: &mut Vec<(u32, T)>, number: u32, item: T) -> Result<(), A
         Err(index) => items.insert(index, (number, item))?,
     }
     Ok(())
+}
+
+/// Takes the item at the number from its run.
+fn remove_in<T: Drop>(runs: &mut Vec<(u32, Vec<(u32, T)>)>, number: u32) -> Option<T>
+    requires { IsLaid runs.old.items }
+    ensures laid { IsLaid runs.new.items }
+    ensures removed { result ≡ item_at (flat runs.old.items) number }
+    ensures items { flat runs.new.items ≡ without_item (flat runs.old.items) number }
+{
+    match run_of(runs, number) {
+        Some(index) => remove_at(&mut runs[index].1, number),
+        None => None,
+    }
+}
+
+fn remove_at<T: Drop>(items: &mut Vec<(u32, T)>, number: u32) -> Option<T>
+    requires { IsAscending items.old.items }
+    ensures removed { result ≡ item_at items.old.items number }
+    ensures items { items.new.items ≡ without_item items.old.items number }
+{
+    match place_in(items, number) {
+        Ok(place) => Some(items.remove(place).1),
+        Err(_) => None,
+    }
+}
+
+/// Puts the items of all runs behind those that are there, for which there is room.
+fn join_runs<T: Drop>(runs: Vec<(u32, Vec<(u32, T)>)>, items: &mut Vec<(u32, T)>)
+    requires { vec_len items.old + length (flat runs.items) ≤ vec_capacity items.old }
+    ensures { items.new.items ≡ items.old.items ++ flat runs.items }
+{
+    for (_, run) in runs {
+        join_run(run, items);
+    }
+}
+
+fn join_run<T: Drop>(run: Vec<(u32, T)>, items: &mut Vec<(u32, T)>)
+    requires { vec_len items.old + length run.items ≤ vec_capacity items.old }
+    ensures items { items.new.items ≡ items.old.items ++ run.items }
+    ensures len { vec_len items.new ≡ vec_len items.old + length run.items }
+    ensures capacity { vec_capacity items.old ≤ vec_capacity items.new }
+{
+    let mut run = run;
+    match items.append(&mut run) {
+        Ok(()) => {}
+        Err(_) => unreachable!(),
+    }
 }
 
 /// Puts behind `items`, which are none yet, the others whose numbers are in the set and the old ones whose numbers are not, in one
@@ -301,8 +556,8 @@ pub fn push_last<T: Drop>(items: &mut Vec<T>, item: T)
 impl<T: Drop> NumberMap<T> for SortedMap<T> {
     ghost entries = { λ m. m };
 
-    fn len(&self) -> usize {
-        self.len()
+    fn ascends(&self) {
+        self.ascends();
     }
 
     fn get(&self, number: u32) -> Option<&T> {
@@ -319,13 +574,5 @@ impl<T: Drop> NumberMap<T> for SortedMap<T> {
 
     fn remove(&mut self, number: u32) -> Option<T> {
         self.remove(number)
-    }
-
-    fn first_from(&self, number: u32) -> Option<(u32, &T)> {
-        self.first_from(number)
-    }
-
-    fn last_below(&self, number: u32) -> Option<(u32, &T)> {
-        self.last_below(number)
     }
 }

@@ -20,12 +20,17 @@ pub(crate) fn take_unknown<V: Drop>(
     ensures err { OnErr result (fields.new ≡ fields.old) }
     ensures ascending { IsAscending fields.old }
 {
-    let count = fields.len();
+    fields.ascends();
+    let Some(count) = fields.count() else {
+        return Err(AllocError);
+    };
+    let runs = Vec::with_capacity(fields.allocator(), 1)?;
+    let mut slots = Vec::with_capacity(fields.allocator(), count)?;
     let mut values = Vec::with_capacity(fields.allocator(), count)?;
     let mut sets = Vec::with_capacity(alloc, count)?;
-    let slots = fields.take_items();
+    fields.move_items(&mut slots);
     part_all(slots, &mut values, &mut sets);
-    *fields = SortedMap::from_items(values);
+    *fields = SortedMap::from_items(runs, values);
     Ok(sets)
 }
 

@@ -41,6 +41,8 @@ mod options;
 #[cfg(test)]
 mod present;
 #[cfg(test)]
+mod runs;
+#[cfg(test)]
 mod refusals;
 #[cfg(test)]
 mod relay;

@@ -65,9 +65,7 @@ fn write_body<S: Sink>(sink: &mut S, message: &DynamicMessage)
     requires encodable { encodable (content_of message.now) ≡ true }
     ensures { Adds S.added sink.old sink.new (encoded (kept (content_of message.now))) }
 {
-    let slots = message.fields.slots();
-    for index in (0..slots.len()).rev() {
-        let entry = &slots[index];
+    for entry in message.fields.slots_back() {
         write_unknown(sink, entry.0, &entry.1);
         match &entry.1 {
             FieldSlot::Value(value) | FieldSlot::Both(value, _) => {

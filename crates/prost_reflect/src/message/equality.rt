@@ -105,7 +105,7 @@ fn are_equal_messages(a: &DynamicMessage, b: &DynamicMessage) -> bool
     if !are_equal_types(a.fields.message_type(), b.fields.message_type()) {
         return false;
     }
-    let mut others = b.fields.slots().iter();
+    let mut others = b.fields.slots();
     for (number, entry) in a.fields.slots() {
         let Some((other_number, other)) = others.next() else {
             return false;

@@ -4,6 +4,7 @@ ghost use Rattle.std.specs.Prelude.{◌≡◌, [], map, IfOk, OnErr, OnOk};
 ghost use Rattle.prost_reflect_wire.specs.Content.{entries_of};
 ghost use Rattle.prost_reflect_wire.specs.Unknown.{record_of};
 ghost use Rattle.prost_reflect_fields.specs.FieldSlots.{unknown_in, values_alone};
+ghost use Rattle.prost_reflect_fields.specs.ItemsLeft.{items_left};
 ghost use Rattle.prost_reflect.specs.Contents.{in_entries};
 ghost use Rattle.prost_reflect.specs.UnknownLists.{fields_or_none, all_unknown, taken_left, unknown_left, unknown_records, without_unknown};
 ghost use Rattle.prost_reflect.specs.View.{content_of, message_type_of, stored_in};
@@ -11,6 +12,7 @@ ghost use Rattle.prost_reflect.specs.View.{content_of, message_type_of, stored_i
 use crate::message::DynamicMessage;
 use crate::value::Value;
 use prost_reflect_fields::slot::FieldSlot;
+use prost_reflect_fields::sorted_map::Items;
 use prost_reflect_wire::{UnknownField, UnknownFieldSet};
 use std::alloc::{AllocError, Global};
 use std::vec::IntoIter;
@@ -19,7 +21,7 @@ use std::vec::IntoIter;
 #[derive(Drop)]
 pub struct UnknownFields<'a> {
     pub(crate) fields: &'a [UnknownField],
-    pub(crate) slots: &'a [(u32, FieldSlot<Value>)],
+    pub(crate) slots: Items<'a, FieldSlot<Value>>,
 }
 
 impl<'a> Iterator for UnknownFields<'a> {
@@ -48,21 +50,14 @@ impl<'a> UnknownFields<'a> {
     /// Goes on to the next number that has unknown fields, where all of the last one were given.
     fn fill(&mut self)
         ensures left { unknown_left self.new ≡ unknown_left self.old }
-        ensures ready { self.new.fields.now ≡ [] → self.new.slots.now ≡ [] }
+        ensures ready { self.new.fields.now ≡ [] → items_left self.new.slots ≡ [] }
     {
-        let mut fields = self.fields;
-        let mut slots = self.slots;
-        while fields.is_empty() {
-            match slots.split_first() {
-                Some((slot, rest)) => {
-                    fields = unknown_of(&slot.1);
-                    slots = rest;
-                }
+        while self.fields.is_empty() {
+            match self.slots.next() {
+                Some(slot) => self.fields = unknown_of(&slot.1),
                 None => break,
             }
         }
-        self.fields = fields;
-        self.slots = slots;
     }
 }
 

@@ -13,6 +13,7 @@ use crate::message::defaults::is_field_default;
 use crate::message::lists::descriptors::{extension_at, field_at};
 use crate::value::Value;
 use prost_reflect_fields::slot::FieldSlot;
+use prost_reflect_fields::sorted_map::Items;
 use prost_reflect_pool::PooledType;
 use std::alloc::AllocError;
 
@@ -20,7 +21,7 @@ use std::alloc::AllocError;
 #[derive(Drop)]
 pub struct HadValues<'a> {
     pub(crate) message_type: &'a PooledType,
-    pub(crate) slots: &'a [(u32, FieldSlot<Value>)],
+    pub(crate) slots: Items<'a, FieldSlot<Value>>,
 }
 
 impl<'a> HadValues<'a> {
@@ -30,15 +31,11 @@ impl<'a> HadValues<'a> {
         ensures listed { IfSome result (λ p. is_listed of_extensions (known_of self.old.message_type.now) p.0 ≡ true) }
         ensures message_type { self.new.message_type ≡ self.old.message_type }
     {
-        let mut slots = self.slots;
-        while let Some((slot, rest)) = slots.split_first() {
-            slots = rest;
+        while let Some(slot) = self.slots.next() {
             if let Some(value) = had_in(self.message_type, of_extensions, slot.0, &slot.1) {
-                self.slots = slots;
                 return Some((slot.0, value));
             }
         }
-        self.slots = slots;
         None
     }
 }

@@ -13,7 +13,7 @@ use Rattle.prost_reflect.specs.ContentLaws.{compare_keys}
 use Rattle.prost_reflect.specs.Copies.{pairs_seen}
 use Rattle.prost_reflect.specs.Stored.{StoredScalar, value_stored}
 use Rattle.prost_reflect.proofs.StoredViews.{stored_bytes}
-use Rattle.prost_reflect.proofs.Copied.{parts_of, entry_parts, copied_next, all_copied, sound_copied, message_copied, keys_appended, value_copied, unknown_copied, both_copied}
+use Rattle.prost_reflect.proofs.Copied.{parts_of, entry_parts, copied_next, all_given, one_given, sound_copied, message_copied, keys_appended, value_copied, unknown_copied, both_copied}
 use Rattle.prost_reflect.proofs.CopiedPairs.{pair_copied, map_copied}
 use Rattle.prost_reflect.proofs.message.copy.+copy.Goals as goal
 use Rattle.prost_reflect.proofs.message.copy.+copy.Goals.{copy_message-in-Value+in_ok-copy_value-in-Value, copy_message-in-Unknown+in_ok-clone-in-Unknown, copy_message-in-Both+in_ok-value-in-Both+in_ok-clone-in-Both}
@@ -24,29 +24,30 @@ of_same a b c e h = subst (λ d. SameMessage d c) e h
 pub copy_message-from_slots-requires : goal.copy_message-from_slots-requires
 copy_message-from_slots-requires t c =
     let message = c.args.message.now in
-    let entries = c.slots-number-items in
     let copied = c.in_ok-shared.shared in
+    let l = c.loop-number.invariant in
     sound_copied message.fields.0 copied message.fields.1 c.loop-number.fields
     (of_same message.fields.0 c.message_type.result.now copied c.message_type.ensures c.in_ok-shared.ensures.cases)
-    (all_copied c.loop-number.fields entries.result.now message.fields.1 c.loop-number.number-index entries.ensures.slots c.loop-number-test.false c.loop-number.invariant)
-    entries.ensures.sound
+    (l.2 ∙ ap parts_of (all_given message.fields.1 l.0 _ l.1 c.in-None.ensures.steps.0))
+    c.slots-number-items.ensures.sound
 
 pub copy_message-returns : goal.copy_message-returns
 copy_message-returns t c =
     let message = c.args.message.now in
-    let entries = c.slots-number-items in
     let copied = c.in_ok-shared.shared in
+    let l = c.loop-number.invariant in
     let same = of_same message.fields.0 c.message_type.result.now copied c.message_type.ensures c.in_ok-shared.ensures.cases in
-    let all = all_copied c.loop-number.fields entries.result.now message.fields.1 c.loop-number.number-index entries.ensures.slots c.loop-number-test.false c.loop-number.invariant in
+    let all = l.2 ∙ ap parts_of (all_given message.fields.1 l.0 _ l.1 c.in-None.ensures.steps.0) in
     let is = c.from_slots.ensures in
     let kept = subst (λ (p : PooledType × List (ℕ × FieldSlot Value)). SameMessage message.fields.0 p.0) (sym is) same in
     message_copied message c.from_slots.result kept (ap (λ (p : PooledType × List (ℕ × FieldSlot Value)). parts_of p.1) is ∙ all)
 
 pub copy_message-loop-number-preserved : goal.copy_message-loop-number-preserved
 copy_message-loop-number-preserved t c =
-    let entries = c.slots-number-items in
-    let item = c.loop-number-item.result in
-    let ascending = subst IsAscending (sym entries.ensures.slots) entries.ensures.ascending in
+    let l = c.loop-number.invariant in
+    let item = c.in-Some.field-0.now in
+    let cut = one_given _ l.0 item _ _ l.1 c.in-Some.ensures.steps in
+    let ascending = subst IsAscending (cut ∙ append_assoc l.0 (item ∷ []) _) c.slots-number-items.ensures.ascending in
     let parts : entry_parts c.match-entry.copied ≡ entry_parts item.1 = elim c.match-entry.branch [
       | copy_message-in-Value+in_ok-copy_value-in-Value w ↦
           ap entry_parts w.copied-is ∙ value_copied w.in_ok-copy_value-in-Value.field-0 w.in-Value.value w.in_ok-copy_value-in-Value.ensures ∙ ap entry_parts (sym w.in-Value.is)
@@ -57,7 +58,7 @@ copy_message-loop-number-preserved t c =
           ∙ both_copied w.in_ok-value-in-Both.value w.in-Both.value w.in_ok-clone-in-Both.field-0 w.in-Both.unknown w.in_ok-value-in-Both.ensures w.in_ok-clone-in-Both.ensures.cases
           ∙ ap entry_parts (sym w.in-Both.is)
     ] in
-    ap parts_of c.in_ok-insert.ensures.ok ∙ copied_next c.loop-number.fields entries.result.now c.loop-number.number-index item.0 item.1 c.match-entry.copied ascending c.loop-number-test.true c.loop-number-item.is c.loop-number.invariant parts
+    (l.0 ++ item ∷ [], cut, ap parts_of c.in_ok-insert.ensures.ok ∙ copied_next c.loop-number.fields l.0 _ item.0 item.1 c.match-entry.copied ascending l.2 parts)
 
 pub copy_pairs-loop-key-preserved : goal.copy_pairs-loop-key-preserved
 copy_pairs-loop-key-preserved t c =

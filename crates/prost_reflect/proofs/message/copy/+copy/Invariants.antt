@@ -1,4 +1,7 @@
-use Rattle.std.proofs.Common.{◌≡◌, List, ◌++◌, map, take}
+use Rattle.std.proofs.Common.{◌≡◌, ℕ, List, ◌++◌, map, take}
+use Rattle.prost_reflect_fields.specs.ItemsLeft.{items_left}
+use Rattle.prost_reflect_fields.specs.declared.slot.FieldSlot.{FieldSlot}
+use Rattle.prost_reflect.specs.View.{stored_in}
 use Rattle.prost_reflect.specs.declared.value.MapKey.{MapKey}
 use Rattle.prost_reflect.specs.declared.value.Value.{Value}
 use Rattle.prost_reflect.specs.Copies.{pairs_seen}
@@ -7,7 +10,7 @@ use Rattle.prost_reflect.proofs.Copied.{parts_of}
 use Rattle.prost_reflect.proofs.message.copy.+copy.Given as goal
 
 abbrev pub invariant-copy_message-loop-number : goal.invariant-copy_message-loop-number
-invariant-copy_message-loop-number l = parts_of l.fields ≡ parts_of (take l.number-index l.number-items)
+invariant-copy_message-loop-number l = (done : List (ℕ × FieldSlot Value)) × (stored_in l.message ≡ done ++ items_left l.number-iterator) × (parts_of l.fields ≡ parts_of done)
 
 abbrev pub invariant-copy_pairs-loop-key : goal.invariant-copy_pairs-loop-key
 invariant-copy_pairs-loop-key l = (done : List (MapKey × Value)) × (l.pairs.entries ≡ done ++ l.key-iterator) × (pairs_seen l.copied.entries ≡ pairs_seen done)

@@ -1,7 +1,8 @@
-use Rattle.std.proofs.Common.{rules, ◌≡◌, true, ap, sym, ◌∙◌, refl}
+use Rattle.std.proofs.Common.{rules, ◌≡◌, true, [], ap, sym, ◌∙◌, refl}
 use Rattle.std.proofs.lemmas.List.{drop_all}
 use Rattle.prost_reflect_wire.specs.Typing.{fit_test, value_passes}
 use Rattle.prost_reflect_fields.specs.Known.{known_of}
+use Rattle.prost_reflect_fields.specs.ItemsLeft.{items_left}
 use Rattle.prost_reflect.specs.Encodables.{fits_at, slots_pass, items_pass, entries_pass, value_arranged}
 use Rattle.prost_reflect.specs.View.{message_type_of, value_of}
 use Rattle.prost_reflect.proofs.Encodables.{encodable_slots, items_are, entries_are, items_arranged, entries_arranged, slots_arranged}
@@ -11,7 +12,11 @@ use Rattle.prost_reflect.proofs.message.encodable.+fitting.Goals as goal
 pub message_fits-loop-number-init : goal.message_fits-loop-number-init
 message_fits-loop-number-init t c =
     let slots = c.slots-number-items.ensures in
-    (ap (slots_pass (fits_at (known_of (message_type_of c.args.message.now)))) slots.slots ∙ encodable_slots c.args.message.now slots.ascending slots.sound, refl)
+    let all = ap items_left c.into_iter-number-iterator.ensures.into_iter_gives ∙ slots.slots in (
+      ap (slots_pass (fits_at (known_of (message_type_of c.args.message.now)))) all ∙ encodable_slots c.args.message.now slots.ascending slots.sound,
+      ap (slots_pass (λ n v. value_arranged v)) all,
+      ([], sym all),
+    )
 
 pub inside_fits-returns-in-List-clause-fits : goal.inside_fits-returns-in-List-clause-fits
 inside_fits-returns-in-List-clause-fits t c = c.items_fit.ensures.fits ∙ items_are fit_test c.in-List.values.items ∙ ap (value_passes fit_test) (sym (ap value_of c.in-List.is ∙ value_of_list c.in-List.values))
@@ -29,7 +34,7 @@ pub message_fits-returns-clause-arranged : goal.message_fits-returns-clause-arra
 message_fits-returns-clause-arranged t c =
     let slots = c.slots-number-items.ensures in
     λ yes. slots_arranged c.args.message.now slots.ascending slots.sound
-    (ap (slots_pass (λ n v. value_arranged v)) (sym slots.slots) ∙ sym c.loop-number.invariant.1 ∙ ap (slots_pass (λ n v. value_arranged v)) (drop_all c.loop-number.number-index c.slots-number-items.result.now c.loop-number-test.false))
+    (sym c.loop-number.invariant.1 ∙ ap (slots_pass (λ n v. value_arranged v)) c.in-None.ensures.steps.0)
 
 pub items_fit-returns-clause-arranged : goal.items_fit-returns-clause-arranged
 items_fit-returns-clause-arranged t c =

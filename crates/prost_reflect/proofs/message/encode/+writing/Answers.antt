@@ -1,4 +1,4 @@
-use Rattle.std.proofs.Common.{rules, ◌≡◌, ◌∷◌, Some, ap, sym, subst, ◌∙◌, inl, inr, ◌⊎◌, arith, ◌-◌}
+use Rattle.std.proofs.Common.{rules, ◌≡◌, ℕ, ◌∷◌, Some, ap, sym, subst, ◌∙◌, inl, inr, ◌⊎◌, arith, ◌-◌}
 use Rattle.prost_reflect_wire.proofs.SinkSteps.{adds_in_turn, adds_same}
 use Rattle.prost_reflect_tables.specs.Rows.{field_row}
 use Rattle.prost_reflect_pool.specs.SharedPools.{pool_rows}
@@ -34,33 +34,37 @@ one_value e v (inr both) = ap value_in both.1
 
 pub write_body-write_unknown-requires : goal.write_body-write_unknown-requires
 write_body-write_unknown-requires g t c =
-    let within = rw c.slots-slots.ensures.slots at c.loop-index.auto.index in
-    let at = rw c.slots-slots.ensures.slots at c.index-slots-index.is in
-    (entry_writable c.args.message.now c.loop-index.index c.index-slots-index.result c.loop-index-test.true within at c.requires.encodable c.slots-slots.ensures.ascending c.slots-slots.ensures.sound).own
+    let e : ℕ × FieldSlot Value = c.in-Some.entry.now in
+    let done = c.loop-entry.invariant.0 in
+    let cut = cut_pairs _ _ _ _ e c.loop-entry.invariant.1 c.in-Some.ensures.steps in
+    (entry_writable c.args.message.now _ done e cut c.requires.encodable c.slots_back-entry-items.ensures.ascending c.slots_back-entry-items.ensures.sound).own
 
 pub write_body-write_value-requires : goal.write_body-write_value-requires
 write_body-write_value-requires g t c =
-    let within = rw c.slots-slots.ensures.slots at c.loop-index.auto.index in
-    let at = rw c.slots-slots.ensures.slots at c.index-slots-index.is in
-    let w = entry_writable c.args.message.now c.loop-index.index c.index-slots-index.result c.loop-index-test.true within at c.requires.encodable c.slots-slots.ensures.ascending c.slots-slots.ensures.sound in
-    let v = w.value c.in-Value.value (one_value c.index-slots-index.result.1 c.in-Value.value c.in-Value.is) in
+    let e : ℕ × FieldSlot Value = c.in-Some.entry.now in
+    let done = c.loop-entry.invariant.0 in
+    let cut = cut_pairs _ _ _ _ e c.loop-entry.invariant.1 c.in-Some.ensures.steps in
+    let w = entry_writable c.args.message.now _ done e cut c.requires.encodable c.slots_back-entry-items.ensures.ascending c.slots_back-entry-items.ensures.sound in
+    let v = w.value c.in-Value.value (one_value e.1 c.in-Value.value c.in-Value.is) in
     λ κs long. (elim c.in-Value.is [ inl is ↦ search (rules, the_lemmas) | inr both ↦ search (rules, the_lemmas) ], (long, rw c.message_type.ensures v))
 
-pub write_body-loop-index-preserved : goal.write_body-loop-index-preserved
-write_body-loop-index-preserved g t c =
-    let within = rw c.slots-slots.ensures.slots at c.loop-index.auto.index in
-    let at = rw c.slots-slots.ensures.slots at c.index-slots-index.is in
-    let valued = one_value c.index-slots-index.result.1 c.in-Value.value c.in-Value.is in
-    value_adds c.args.message.now c.loop-index.index c.index-slots-index.result c.loop-index-test.true within at g.S.Sink.added _ _ _ _ c.in-Value.value valued c.loop-index.invariant c.write_unknown.ensures (rw c.message_type.ensures at c.write_value.ensures)
+pub write_body-loop-entry-preserved : goal.write_body-loop-entry-preserved
+write_body-loop-entry-preserved g t c =
+    let e : ℕ × FieldSlot Value = c.in-Some.entry.now in
+    let done = c.loop-entry.invariant.0 in
+    let cut = cut_pairs _ _ _ _ e c.loop-entry.invariant.1 c.in-Some.ensures.steps in
+    let valued = one_value e.1 c.in-Value.value c.in-Value.is in
+    (e ∷ done, cut, value_adds c.args.message.now _ done e cut g.S.Sink.added _ _ _ _ c.in-Value.value valued c.loop-entry.invariant.2 c.write_unknown.ensures (rw c.message_type.ensures at c.write_value.ensures))
 
-pub write_body-loop-index-preserved-in-Unknown-1 : goal.write_body-loop-index-preserved-in-Unknown-1
-write_body-loop-index-preserved-in-Unknown-1 g t c =
-    let within = rw c.slots-slots.ensures.slots at c.loop-index.auto.index in
-    let at = rw c.slots-slots.ensures.slots at c.index-slots-index.is in
-    unknown_adds c.args.message.now c.loop-index.index c.index-slots-index.result c.loop-index-test.true within at g.S.Sink.added _ _ _ (ap value_in c.in-Unknown.is) c.loop-index.invariant c.write_unknown.ensures
+pub write_body-loop-entry-preserved-in-Unknown-1 : goal.write_body-loop-entry-preserved-in-Unknown-1
+write_body-loop-entry-preserved-in-Unknown-1 g t c =
+    let e : ℕ × FieldSlot Value = c.in-Some.entry.now in
+    let done = c.loop-entry.invariant.0 in
+    let cut = cut_pairs _ _ _ _ e c.loop-entry.invariant.1 c.in-Some.ensures.steps in
+    (e ∷ done, cut, unknown_adds c.args.message.now _ done e cut g.S.Sink.added _ _ _ (ap value_in c.in-Unknown.is) c.loop-entry.invariant.2 c.write_unknown.ensures)
 
 pub write_body-returns : goal.write_body-returns
-write_body-returns g t c = adds_same g.S.Sink.added _ _ _ _ (whole_written c.args.message.now c.loop-index.index (omega (arith, c.loop-index-test.false))) c.loop-index.invariant
+write_body-returns g t c = adds_same g.S.Sink.added _ _ _ _ (whole_written c.args.message.now _ c.loop-entry.invariant.0 c.loop-entry.invariant.1 c.in-None.ensures.steps.0) c.loop-entry.invariant.2
 
 pub write_value-write_repeated-requires : goal.write_value-write_repeated-requires
 write_value-write_repeated-requires g t c =

@@ -1,4 +1,4 @@
-use Rattle.std.proofs.Common.{◌≡◌, List, ◌++◌, drop}
+use Rattle.std.proofs.Common.{◌≡◌, ℕ, List, ◌++◌, drop}
 use Rattle.std.specs.Iterator.Adapters.{rev_source}
 use Rattle.prost_reflect_tables.specs.Rows.{field_row}
 use Rattle.prost_reflect_pool.specs.SharedPools.{pool_rows}
@@ -7,14 +7,17 @@ use Rattle.prost_reflect.specs.declared.value.MapKey.{MapKey}
 use Rattle.prost_reflect.specs.declared.value.Value.{Value}
 use Rattle.prost_reflect_wire.specs.Sinks.{Adds}
 use Rattle.prost_reflect_fields.specs.Known.{known_of}
+use Rattle.prost_reflect_fields.specs.ItemsLeft.{items_left_back}
+use Rattle.prost_reflect_fields.specs.declared.slot.FieldSlot.{FieldSlot}
 use Rattle.prost_reflect.specs.View.{message_type_of, stored_in}
 use Rattle.prost_reflect.specs.Encoding.{entries_bytes}
 use Rattle.prost_reflect.specs.Lists.{elements_bytes}
 use Rattle.prost_reflect.proofs.message.encode.+writing.Given as goal
 
--- the entries from the index on are written
-abbrev pub invariant-write_body-loop-index : goal.invariant-write_body-loop-index
-invariant-write_body-loop-index g l = Adds g.S.Sink.added l.fn.sink l.sink (entries_bytes (known_of (message_type_of l.message)) (drop l.index (stored_in l.message)))
+-- the slots behind those that are left are written
+abbrev pub invariant-write_body-loop-entry : goal.invariant-write_body-loop-entry
+invariant-write_body-loop-entry g l = (done : List (ℕ × FieldSlot Value)) × (stored_in l.message ≡ items_left_back l.entry-iterator ++ done)
+    × Adds g.S.Sink.added l.fn.sink l.sink (entries_bytes (known_of (message_type_of l.message)) done)
 
 -- the elements from the index on are written
 abbrev pub invariant-write_messages-loop-index : goal.invariant-write_messages-loop-index

@@ -1,4 +1,5 @@
-use Rattle.std.proofs.Common.{sym, ap₂, ◌∙◌}
+use Rattle.std.proofs.Common.{[], sym, ap, ap₂, ◌∙◌}
+use Rattle.prost_reflect_fields.specs.ItemsLeft.{items_left}
 use Rattle.prost_reflect.specs.Stored.{value_stored, stored_entries}
 use Rattle.prost_reflect.specs.Same.{same_entries}
 use Rattle.prost_reflect.proofs.StoredViews.{texts_equal, bytes_equal, lists_equal, maps_equal, same_type, type_same, types_differ, types_same, numbers_differ, entry_alone, keys_differ, values_differ, pair_passed, turned_true, turned_false}
@@ -40,16 +41,16 @@ are_equal_messages-returns-then-not-are_equal_types t c =
 pub are_equal_messages-loop-number-init : goal.are_equal_messages-loop-number-init
 are_equal_messages-loop-number-init t c =
     let types = sym (type_same c.message_type.result.now c.message_type-2.result.now c.are_equal_types.result c.are_equal_types.ensures) ∙ c.if-not-are_equal_types.false in (
-      tt,
-      tt,
-      ap₂ (λ es ds. same_entries (stored_entries value_stored es) (stored_entries value_stored ds)) c.slots-number-items.ensures.slots (c.iter-others.ensures.rest ∙ c.slots.ensures.slots)
+      ap₂ (λ es ds. same_entries (stored_entries value_stored es) (stored_entries value_stored ds)) (ap items_left c.into_iter-number-iterator.ensures.into_iter_gives ∙ c.slots-number-items.ensures.slots) c.slots-others.ensures.slots
           ∙ types_same c.args.a.now c.args.b.now (sym (ap₂ same_type c.message_type.ensures c.message_type-2.ensures) ∙ types),
+      ([], sym (ap items_left c.into_iter-number-iterator.ensures.into_iter_gives ∙ c.slots-number-items.ensures.slots)),
+      ([], sym c.slots-others.ensures.slots),
     )
 
 pub are_equal_messages-returns-in_default : goal.are_equal_messages-returns-in_default
 are_equal_messages-returns-in_default t c =
-    entry_alone c.slots-number-items.result.now _ c.loop-number.number-index c.loop-number-item.result _ c.loop-number-test.true c.loop-number-item.is c.in_default.ensures.steps.0 c.loop-number.invariant.2
+    entry_alone _ _ _ c.in-Some.field-0.now _ c.in-Some.ensures.steps c.in_default.ensures.steps.0 c.loop-number.invariant.0
 
 pub are_equal_messages-returns-then-number-other_number : goal.are_equal_messages-returns-then-number-other_number
 are_equal_messages-returns-then-number-other_number t c =
-    numbers_differ c.slots-number-items.result.now _ _ c.loop-number.number-index c.loop-number-item.result c.in-Some.field-0.now _ c.loop-number-test.true c.loop-number-item.is c.in-Some.ensures.steps c.if-number-other_number.true c.loop-number.invariant.2
+    numbers_differ _ _ _ _ c.in-Some.field-0.now c.in-Some-next.field-0.now _ c.in-Some.ensures.steps c.in-Some-next.ensures.steps c.if-number-other_number.true c.loop-number.invariant.0

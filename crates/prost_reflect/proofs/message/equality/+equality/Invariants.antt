@@ -1,4 +1,8 @@
-use Rattle.std.proofs.Common.{◌≡◌, drop}
+use Rattle.std.proofs.Common.{◌≡◌, ℕ, List, ◌++◌, drop}
+use Rattle.prost_reflect_fields.specs.ItemsLeft.{items_left}
+use Rattle.prost_reflect_fields.specs.declared.slot.FieldSlot.{FieldSlot}
+use Rattle.prost_reflect.specs.declared.value.Value.{Value}
+use Rattle.prost_reflect.specs.View.{stored_in}
 use Rattle.std.specs.Slice.Iter.{iter_rest}
 use Rattle.prost_reflect.specs.Stored.{stored_items, stored_pairs, stored_entries, value_stored}
 use Rattle.prost_reflect.specs.Same.{same_items, same_pairs, same_entries, equal_messages}
@@ -16,6 +20,6 @@ invariant-are_equal_maps-loop-key l = same_pairs (stored_pairs value_stored l.ke
 
 abbrev pub invariant-are_equal_messages-loop-number : goal.invariant-are_equal_messages-loop-number
 invariant-are_equal_messages-loop-number l =
-    (goal.iterator-are_equal_messages-loop-number).can_next l.others ×
-    (goal.iterator-are_equal_messages-loop-number).is_finite l.others ×
-    (same_entries (stored_entries value_stored (drop l.number-index l.number-items)) (stored_entries value_stored (iter_rest l.others)) ≡ equal_messages l.a l.b)
+    (same_entries (stored_entries value_stored (items_left l.number-iterator)) (stored_entries value_stored (items_left l.others)) ≡ equal_messages l.a l.b) ×
+    ((done : List (ℕ × FieldSlot Value)) × (stored_in l.a ≡ done ++ items_left l.number-iterator)) ×
+    ((done : List (ℕ × FieldSlot Value)) × (stored_in l.b ≡ done ++ items_left l.others))

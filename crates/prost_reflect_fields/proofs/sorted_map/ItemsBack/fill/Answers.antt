@@ -1,0 +1,12 @@
+use Rattle.std.proofs.Common.{rules, ◌≡◌, ◌++◌, length, sym, ap, ◌∙◌}
+use Rattle.std.proofs.lemmas.List.{append-nil}
+use Rattle.prost_reflect_fields.specs.Runs.{flat}
+use Rattle.prost_reflect_fields.proofs.Weaving.{none_of}
+use Rattle.prost_reflect_fields.proofs.RunChanges.{last_run}
+use Rattle.prost_reflect_fields.proofs.sorted_map.ItemsBack.fill.Goals as goal
+
+pub loop-run-preserved : goal.loop-run-preserved
+loop-run-preserved g c =
+    let none : length c.loop-run.run.now ≡ 0 = search rules in
+    ap (λ l. flat c.in-Some.rest.now ++ l) c.deref-run.ensures.value ∙ sym (last_run c.loop-run.runs.now c.in-Some.rest.now c.in-Some.last.now c.in-Some.ensures.cases.0) ∙ sym (append-nil (flat c.loop-run.runs.now))
+    ∙ ap (λ l. flat c.loop-run.runs.now ++ l) (sym (none_of _ none)) ∙ c.loop-run.invariant
