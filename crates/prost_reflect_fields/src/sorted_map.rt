@@ -25,8 +25,8 @@ const FULL: usize = 128;
 /// A map from numbers, as runs of items in ascending order. With each run stands a number that is above all items in front of it, and
 /// not above its own.
 ///
-/// An item goes into its run, and a run that is full is parted first. So items whose numbers come in any order cost n log n, and few
-/// items are one run.
+/// An item goes into its run, and a run that is full is parted first. So an item moves no more than those of its run, whatever the
+/// order in which the numbers come, and few items are one run.
 #[derive(Debug, Drop)]
 pub struct SortedMap<T> {
     runs: Vec<(u32, Vec<(u32, T)>)>,
@@ -397,7 +397,7 @@ fn put_in<T: Drop>(
     }
 }
 
-/// Puts the item in front of all others, in a run of its own. A refused growth changes nothing.
+/// Puts the item in front of all others, in a run of its own. A refused growth changes no item.
 fn put_first<T: Drop>(
     runs: &mut Vec<(u32, Vec<(u32, T)>)>,
     number: u32,
@@ -409,6 +409,7 @@ fn put_first<T: Drop>(
     ensures ok { OnOk result (flat runs.new.items ≡ put_item (flat runs.old.items) number item) }
     ensures err { OnErr result (flat runs.new.items ≡ flat runs.old.items) }
 {
+    runs.reserve_exact(1)?;
     let mut run = Vec::new(*runs.allocator());
     run.push((number, item))?;
     runs.insert(0, (0, run))?;

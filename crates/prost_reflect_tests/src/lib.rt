@@ -41,11 +41,11 @@ mod options;
 #[cfg(test)]
 mod present;
 #[cfg(test)]
-mod runs;
-#[cfg(test)]
 mod refusals;
 #[cfg(test)]
 mod relay;
+#[cfg(test)]
+mod runs;
 #[cfg(test)]
 mod setting;
 #[cfg(test)]

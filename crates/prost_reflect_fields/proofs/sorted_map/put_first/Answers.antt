@@ -1,4 +1,4 @@
-use Rattle.std.proofs.Common.{◌≡◌, ℕ, [], ◌∷◌, ◌++◌, sym, subst, ap, ◌∙◌}
+use Rattle.std.proofs.Common.{◌≡◌, ℕ, [], ◌∷◌, ◌++◌, insert, sym, subst, ap, ◌∙◌}
 use Rattle.prost_reflect_fields.specs.Runs.{flat, IsLaid}
 use Rattle.prost_reflect_fields.proofs.RunChanges.{none_found, put_ahead, laid_ahead, insert_first}
 use Rattle.prost_reflect_fields.proofs.sorted_map.put_first.Goals as goal
@@ -9,7 +9,8 @@ returns-clause-laid g c =
     let runs = c.args.runs.now.items in
     let e : ℕ × g.row.T.Denot = (n, c.args.item) in
     let one = c.in_ok-push.ensures.items ∙ ap (λ l. l ++ e ∷ []) c.new-run.ensures.items in
-    subst IsLaid (sym (c.in_ok-insert.ensures.items ∙ insert_first runs (0, c.push.new.self))) (laid_ahead n c.args.item c.push.new.self runs c.requires.laid (none_found n runs (sym c.requires.first)) one)
+    let is = c.in_ok-insert.ensures.items ∙ ap (λ rs. insert rs 0 (0, c.push.new.self)) c.in_ok-reserve_exact.ensures.items ∙ insert_first runs (0, c.push.new.self) in
+    subst IsLaid (sym is) (laid_ahead n c.args.item c.push.new.self runs c.requires.laid (none_found n runs (sym c.requires.first)) one)
 
 pub returns-clause-ok : goal.returns-clause-ok
 returns-clause-ok g c =
@@ -17,4 +18,5 @@ returns-clause-ok g c =
     let runs = c.args.runs.now.items in
     let e : ℕ × g.row.T.Denot = (n, c.args.item) in
     let one = c.in_ok-push.ensures.items ∙ ap (λ l. l ++ e ∷ []) c.new-run.ensures.items in
-    ap flat (c.in_ok-insert.ensures.items ∙ insert_first runs (0, c.push.new.self)) ∙ ap (λ l. l ++ flat runs) one ∙ put_ahead n c.args.item runs c.requires.laid (none_found n runs (sym c.requires.first))
+    let is = c.in_ok-insert.ensures.items ∙ ap (λ rs. insert rs 0 (0, c.push.new.self)) c.in_ok-reserve_exact.ensures.items ∙ insert_first runs (0, c.push.new.self) in
+    ap flat is ∙ ap (λ l. l ++ flat runs) one ∙ put_ahead n c.args.item runs c.requires.laid (none_found n runs (sym c.requires.first))

@@ -6,8 +6,8 @@ use Rattle.prost_reflect.proofs.message.lists.had.HadValues.next_had.Goals as go
 
 pub returns-in-Some-had_in-clause-left : goal.returns-in-Some-had_in-clause-left
 returns-in-Some-had_in-clause-left c =
-    had_here c.args.of_extensions (known_of c.loop-slot.self.message_type.now) c.in-Some.slot.now c.in-Some-had_in.value.now c.loop-slot.slots.now c.in-Some.rest.now (values_left c.args.of_extensions c.args.self.now)
-    c.in-Some.ensures.cases.0 c.in-Some-had_in.ensures.value c.loop-slot.invariant.left
+    had_here c.args.of_extensions (known_of c.loop-slot.self.message_type.now) c.in-Some.slot.now c.in-Some-had_in.value.now _ _ (values_left c.args.of_extensions c.args.self.now)
+    c.in-Some.ensures.steps c.in-Some-had_in.ensures.value c.loop-slot.invariant.left
 
 pub returns-in-Some-had_in-clause-listed : goal.returns-in-Some-had_in-clause-listed
 returns-in-Some-had_in-clause-listed c =
