@@ -23,6 +23,8 @@ use Rattle.prost_reflect_pool.specs.SharedPools.{pool_rows, pool_contents}
 use Rattle.prost_reflect_pool.specs.declared.pooled_type.PooledType.{PooledType}
 use Rattle.prost_reflect_pool.proofs.EqualTypes.{rows_follow}
 use Rattle.prost_reflect_fields.specs.Known.{known_of}
+use Rattle.prost_reflect_fields.specs.declared.slot.FieldSlot.{FieldSlot}
+use Rattle.prost_reflect_fields.specs.declared.slot.FieldSlot.TheVariants as slots
 use Rattle.prost_reflect.specs.declared.message.DynamicMessage.{DynamicMessage}
 use Rattle.prost_reflect.specs.declared.value.MapKey.{MapKey}
 use Rattle.prost_reflect.specs.declared.value.Value.{Value}
@@ -31,7 +33,7 @@ use Rattle.prost_reflect.specs.declared.value.Value.TheOpen.{Value-F}
 use Rattle.prost_reflect.specs.declared.value.Value.TheViews.{roll-Value}
 use Rattle.prost_reflect.specs.declared.value.Value.TheFolds.{fold-roll-Value, ind-Value}
 use Rattle.prost_reflect.specs.DeepTypes.{kind_place, place_named, stored_kind, place_for, stands_there, all_typed, entries_typed, value_typed, items_typed, pairs_typed}
-use Rattle.prost_reflect.specs.Stored.{StoredMessage, MessageOf as StoredOf, StoredEntries, NothingStored, ValueAt, UnknownAt, BothAt, StoredValue, StoredScalar, StoredInside, StoredList, StoredMap, StoredItems, NoItems, ItemThen, StoredPairs, NoPairs, PairThen, stored_entries, stored_step, stored_message_step, value_stored, message_stored}
+use Rattle.prost_reflect.specs.Stored.{StoredMessage, MessageOf as StoredOf, StoredEntries, NothingStored, ValueAt, UnknownAt, BothAt, StoredValue, StoredScalar, StoredInside, StoredList, StoredMap, StoredItems, NoItems, ItemThen, StoredPairs, NoPairs, PairThen, stored_entry, stored_entries, stored_step, stored_message_step, value_stored, message_stored}
 use Rattle.prost_reflect.specs.View.{content_of, message_type_of, stored_in, payloads_of}
 use Rattle.prost_reflect.proofs.MapRows.{shown_map}
 use Rattle.prost_reflect.proofs.RowKinds.{no_map}
@@ -42,6 +44,25 @@ use Rattle.prost_reflect.proofs.StoredViews.{stored_message}
 
 pub typed_message : (m : DynamicMessage) → entries_typed (pool_contents (message_type_of m).pool) (pool_rows (message_type_of m).pool) (known_of (message_type_of m)) (stored_entries value_stored (stored_in m)) ≡ all_typed (message_stored m)
 typed_message m = sym (ap all_typed (stored_message m))
+
+-- The messages in a slot are of the type of its number's field.
+abbrev pub slot_typed : PooledType → ℕ → FieldSlot Value → Bool
+slot_typed d n (slots.Value v) = value_typed (pool_contents d.pool) (pool_rows d.pool) (place_for (field_of (known_of d) n) (value_stored v)) (value_stored v)
+slot_typed d n (slots.Unknown u) = true
+slot_typed d n (slots.Both v u) = value_typed (pool_contents d.pool) (pool_rows d.pool) (place_for (field_of (known_of d) n) (value_stored v)) (value_stored v)
+
+abbrev left_typed : PooledType → StoredEntries → Bool
+left_typed d es = entries_typed (pool_contents d.pool) (pool_rows d.pool) (known_of d) es
+
+slot_first : (d : PooledType) (n : ℕ) (e : FieldSlot Value) (es : StoredEntries) → slot_typed d n e ≡ true → left_typed d (stored_entry value_stored n e es) ≡ left_typed d es
+slot_first d n (slots.Value v) es typed = ap (λ b. b && left_typed d es) typed
+slot_first d n (slots.Unknown u) es typed = refl
+slot_first d n (slots.Both v u) es typed = ap (λ b. b && left_typed d es) typed
+
+-- such a slot may be left out
+pub slot_passed : (d : PooledType) (es more : List (ℕ × FieldSlot Value)) (e : ℕ × FieldSlot Value) (b : Bool) → es ≡ e ∷ more → slot_typed d e.0 e.1 ≡ true → left_typed d (stored_entries value_stored es) ≡ b → left_typed d (stored_entries value_stored more) ≡ b
+slot_passed d es more e b first typed whole =
+    sym (slot_first d e.0 e.1 (stored_entries value_stored more) typed) ∙ sym (ap (λ (l : List (ℕ × FieldSlot Value)). left_typed d (stored_entries value_stored l)) first) ∙ whole
 
 -- whether it stands at a place is a matter of its place and of what its pool's files hold
 pub stands_is : (d : PooledType) (place : Option ℕ) (m : DynamicMessage) → (passes place (nat_eq (message_type_of m).index) && contents_eq (pool_contents d.pool) (pool_contents (message_type_of m).pool)) ≡ stands_there (pool_contents d.pool) (pool_rows d.pool) place (message_stored m)

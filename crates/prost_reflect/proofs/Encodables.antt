@@ -54,6 +54,10 @@ slots_are fields (e ∷ es) kept = cases e.1 kept.0 (slots_are fields es kept.1)
     cases (entries.Unknown u) own rest = rest ∙ behind (entries.Unknown u) (records_of u) refl own
     cases (entries.Both v u) own rest = ap (λ b. fits_at fields e.0 (value_of v) && b) (rest ∙ behind (entries.Both v u) (records_of u) refl own)
 
+-- a slot that passes may be left out
+pub slot_passed : (test : ℕ → contents.Value → Bool) (es more : List (ℕ × FieldSlot Value)) (e : ℕ × FieldSlot Value) (b : Bool) → es ≡ e ∷ more → slot_passes test e.0 e.1 ≡ true → slots_pass test es ≡ b → slots_pass test more ≡ b
+slot_passed test es more e b first passes whole = sym (ap (λ x. x && slots_pass test more) passes) ∙ sym (ap (slots_pass test) first) ∙ whole
+
 -- a message is encodable where its values fit
 pub encodable_slots : (m : DynamicMessage) → IsAscending (stored_in m) → IsSound (message_type_of m) (stored_in m) → slots_pass (fits_at (known_of (message_type_of m))) (stored_in m) ≡ encodable (content_of m)
 encodable_slots m s sound = slots_are (known_of (message_type_of m)) (stored_in m) (kept_in (known_of (message_type_of m)) (stored_in m) s sound.1) ∙ sym (ap encodable (content_of_message m))

@@ -4,6 +4,7 @@ use Rattle.std.proofs.lemmas.Bool.{ne_eqb}
 use Rattle.std.specs.declared.alloc.Global.{Global}
 use Rattle.std.specs.Prelude.{◌↔◌, IsTrue, Vec, String as Text}
 use Rattle.std.specs.BTreeMap.{BTreeMap}
+use Rattle.std.specs.Cmp.{unsigned_Decides}
 use Rattle.std.specs.Cmp.Lexicographic.{pointwise, texts_ties}
 use mathlib.Core.Former.{this}
 use denote.Hole.Carrier as Carrier
@@ -179,6 +180,29 @@ numbers_differ es ds more rest e d b first other differ same =
 
 pub entry_alone : (es ds more : Entries) (e : ℕ × FieldSlot Value) (b : Bool) → es ≡ e ∷ more → ds ≡ [] → left es ds ≡ b → false ≡ b
 entry_alone es ds more e b first none same = sym (alone e.0 e.1 (stored_entries value_stored more)) ∙ sym (ap₂ left first none) ∙ same
+
+-- whether two slots store the same
+abbrev pub same_slot : FieldSlot Value → FieldSlot Value → Bool
+same_slot (entries.Value v) (entries.Value w) = equal_values v w
+same_slot (entries.Unknown u) (entries.Unknown t) = records_eq (body_of (records_of u)) (body_of (records_of t))
+same_slot (entries.Both v u) (entries.Both w t) = equal_values v w && records_eq (body_of (records_of u)) (body_of (records_of t))
+same_slot e d = false
+
+slots_same : (n m : ℕ) (e d : FieldSlot Value) (es ds : StoredEntries) → nat_eq n m ≡ true → same_slot e d ≡ true → same_entries (stored_entry value_stored n e es) (stored_entry value_stored m d ds) ≡ same_entries es ds
+slots_same n m (entries.Value v) (entries.Value w) es ds number same = ap₂ (λ x y. (x && y) && same_entries es ds) number same
+slots_same n m (entries.Unknown u) (entries.Unknown t) es ds number same = ap₂ (λ x y. (x && y) && same_entries es ds) number same
+slots_same n m (entries.Both v u) (entries.Both w t) es ds number same = ap₂ (λ x y. (x && y) && same_entries es ds) number same
+slots_same n m (entries.Value v) (entries.Unknown t) es ds number same = absurd (true≢false (sym same))
+slots_same n m (entries.Value v) (entries.Both w t) es ds number same = absurd (true≢false (sym same))
+slots_same n m (entries.Unknown u) (entries.Value w) es ds number same = absurd (true≢false (sym same))
+slots_same n m (entries.Unknown u) (entries.Both w t) es ds number same = absurd (true≢false (sym same))
+slots_same n m (entries.Both v u) (entries.Value w) es ds number same = absurd (true≢false (sym same))
+slots_same n m (entries.Both v u) (entries.Unknown t) es ds number same = absurd (true≢false (sym same))
+
+-- an equal slot may be left out
+pub slot_passed : (es ds more rest : Entries) (e d : ℕ × FieldSlot Value) (b : Bool) → es ≡ e ∷ more → ds ≡ d ∷ rest → e.0 ≡ d.0 → same_slot e.1 d.1 ≡ true → left es ds ≡ b → left more rest ≡ b
+slot_passed es ds more rest e d b first other number same whole =
+    sym (slots_same e.0 d.0 e.1 d.1 (stored_entries value_stored more) (stored_entries value_stored rest) ((unsigned_Decides e.0 d.0).1 number) same) ∙ sym (ap₂ left first other) ∙ whole
 
 -- PAIRS
 

@@ -1,13 +1,16 @@
-use Rattle.std.proofs.Common.{rules, ◌≡◌, true, [], ap, sym, ◌∙◌, refl}
+use Rattle.std.proofs.Common.{rules, ◌≡◌, true, [], ◌∷◌, ◌++◌, ap, sym, ◌∙◌}
 use Rattle.std.proofs.lemmas.List.{drop_all}
 use Rattle.prost_reflect_wire.specs.Typing.{fit_test, value_passes}
 use Rattle.prost_reflect_fields.specs.Known.{known_of}
 use Rattle.prost_reflect_fields.specs.ItemsLeft.{items_left}
-use Rattle.prost_reflect.specs.Encodables.{fits_at, slots_pass, items_pass, entries_pass, value_arranged}
+use Rattle.prost_reflect_fields.specs.declared.slot.FieldSlot.TheVariants as slots
+use Rattle.prost_reflect.specs.Encodables.{fits_at, slot_passes, slots_pass, items_pass, entries_pass, value_arranged}
 use Rattle.prost_reflect.specs.View.{message_type_of, value_of}
-use Rattle.prost_reflect.proofs.Encodables.{encodable_slots, items_are, entries_are, items_arranged, entries_arranged, slots_arranged}
+use Rattle.prost_reflect.proofs.Copied.{one_given}
+use Rattle.prost_reflect.proofs.Encodables.{encodable_slots, slot_passed, items_are, entries_are, items_arranged, entries_arranged, slots_arranged}
 use Rattle.prost_reflect.proofs.Views.{value_of_list, value_of_map}
 use Rattle.prost_reflect.proofs.message.encodable.+fitting.Goals as goal
+use Rattle.prost_reflect.proofs.message.encodable.+fitting.Goals.{message_fits-in-Value, message_fits-in-Both, message_fits-in-Unknown}
 
 pub message_fits-loop-number-init : goal.message_fits-loop-number-init
 message_fits-loop-number-init t c =
@@ -16,6 +19,29 @@ message_fits-loop-number-init t c =
       ap (slots_pass (fits_at (known_of (message_type_of c.args.message.now)))) all ∙ encodable_slots c.args.message.now slots.ascending slots.sound,
       ap (slots_pass (λ n v. value_arranged v)) all,
       ([], sym all),
+    )
+
+pub message_fits-loop-number-preserved : goal.message_fits-loop-number-preserved
+message_fits-loop-number-preserved t c =
+    let l = c.loop-number.invariant in
+    let item = c.in-Some.field-0.now in
+    let d = message_type_of c.args.message.now in
+    let fits : slot_passes (fits_at (known_of d)) item.0 item.1 ≡ true = elim c.match-slot.branch [
+      | message_fits-in-Value w ↦
+          ap (slot_passes (fits_at (known_of d)) item.0) w.in-Value.is ∙ ap (λ d. fits_at (known_of d) item.0 (value_of w.in-Value.value)) (sym w.message_type.ensures) ∙ sym w.value_fits-fits.ensures.fits ∙ sym w.fits-is ∙ c.if-not-fits.false
+      | message_fits-in-Both w ↦
+          ap (slot_passes (fits_at (known_of d)) item.0) w.in-Both.is ∙ ap (λ d. fits_at (known_of d) item.0 (value_of w.in-Both.value)) (sym w.message_type-in-Both.ensures) ∙ sym w.value_fits-fits-in-Both.ensures.fits ∙ sym w.fits-is
+          ∙ c.if-not-fits.false
+      | message_fits-in-Unknown w ↦ ap (slot_passes (fits_at (known_of d)) item.0) w.in-Unknown.is
+    ] in
+    let arranged : slot_passes (λ n v. value_arranged v) item.0 item.1 ≡ true = elim c.match-slot.branch [
+      | message_fits-in-Value w ↦ ap (slot_passes (λ n v. value_arranged v) item.0) w.in-Value.is ∙ w.value_fits-fits.ensures.arranged (sym w.fits-is ∙ c.if-not-fits.false)
+      | message_fits-in-Both w ↦ ap (slot_passes (λ n v. value_arranged v) item.0) w.in-Both.is ∙ w.value_fits-fits-in-Both.ensures.arranged (sym w.fits-is ∙ c.if-not-fits.false)
+      | message_fits-in-Unknown w ↦ ap (slot_passes (λ n v. value_arranged v) item.0) w.in-Unknown.is
+    ] in (
+      slot_passed (fits_at (known_of d)) _ _ item _ c.in-Some.ensures.steps fits l.0,
+      slot_passed (λ n v. value_arranged v) _ _ item _ c.in-Some.ensures.steps arranged l.1,
+      (l.2.0 ++ item ∷ [], one_given _ l.2.0 item _ _ l.2.1 c.in-Some.ensures.steps),
     )
 
 pub inside_fits-returns-in-List-clause-fits : goal.inside_fits-returns-in-List-clause-fits

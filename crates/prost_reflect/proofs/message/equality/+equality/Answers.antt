@@ -1,10 +1,11 @@
-use Rattle.std.proofs.Common.{[], sym, ap, ap₂, ◌∙◌}
+use Rattle.std.proofs.Common.{◌≡◌, true, ◌&&◌, true≢false, [], ◌∷◌, ◌++◌, sym, ap, ap₂, ◌∙◌}
 use Rattle.prost_reflect_fields.specs.ItemsLeft.{items_left}
 use Rattle.prost_reflect.specs.Stored.{value_stored, stored_entries}
 use Rattle.prost_reflect.specs.Same.{same_entries}
-use Rattle.prost_reflect.proofs.StoredViews.{texts_equal, bytes_equal, lists_equal, maps_equal, same_type, type_same, types_differ, types_same, numbers_differ, entry_alone, keys_differ, values_differ, pair_passed, turned_true, turned_false}
+use Rattle.prost_reflect.proofs.StoredViews.{texts_equal, bytes_equal, lists_equal, maps_equal, same_type, type_same, types_differ, types_same, numbers_differ, entry_alone, same_slot, slot_passed, keys_differ, values_differ, pair_passed, turned_true, turned_false}
+use Rattle.prost_reflect.proofs.Copied.{one_given}
 use Rattle.prost_reflect.proofs.message.equality.+equality.Goals as goal
-use Rattle.prost_reflect.proofs.message.equality.+equality.Goals.{are_equal_maps-then-ne-via-then-ne, are_equal_maps-then-ne-via-else-ne+then-not-are_equal_values}
+use Rattle.prost_reflect.proofs.message.equality.+equality.Goals.{are_equal_maps-then-ne-via-then-ne, are_equal_maps-then-ne-via-else-ne+then-not-are_equal_values, are_equal_messages-in-Value-Value, are_equal_messages-in-Unknown-Unknown, are_equal_messages-in-Both-Both+then-are_equal_values, are_equal_messages-in-Both-Both+else-are_equal_values, are_equal_messages-in_default-2, are_equal_messages-in_default-2-2, are_equal_messages-in_default-2-3}
 
 pub are_equal_values-returns-in-String-String : goal.are_equal_values-returns-in-String-String
 are_equal_values-returns-in-String-String t c = texts_equal c.args.a.now c.args.b.now c.in-String-String.a c.in-String-String.b c.eq.result c.in-String-String.is-0 c.in-String-String.is-1 c.eq.ensures
@@ -54,3 +55,26 @@ are_equal_messages-returns-in_default t c =
 pub are_equal_messages-returns-then-number-other_number : goal.are_equal_messages-returns-then-number-other_number
 are_equal_messages-returns-then-number-other_number t c =
     numbers_differ _ _ _ _ c.in-Some.field-0.now c.in-Some-next.field-0.now _ c.in-Some.ensures.steps c.in-Some-next.ensures.steps c.if-number-other_number.true c.loop-number.invariant.0
+
+pub are_equal_messages-loop-number-preserved : goal.are_equal_messages-loop-number-preserved
+are_equal_messages-loop-number-preserved t c =
+    let l = c.loop-number.invariant in
+    let mine = c.in-Some.field-0.now in
+    let others = c.in-Some-next.field-0.now in
+    let same : same_slot mine.1 others.1 ≡ true = elim c.match-entry.branch [
+      | are_equal_messages-in-Value-Value w ↦
+          ap₂ same_slot w.in-Value-Value.is-0 w.in-Value-Value.is-1 ∙ sym w.are_equal_values-same.ensures ∙ sym w.same-is ∙ c.if-not-same.false
+      | are_equal_messages-in-Unknown-Unknown w ↦
+          ap₂ same_slot w.in-Unknown-Unknown.is-0 w.in-Unknown-Unknown.is-1 ∙ sym w.eq-same.ensures ∙ sym w.same-is ∙ c.if-not-same.false
+      | are_equal_messages-in-Both-Both+then-are_equal_values w ↦
+          ap₂ same_slot w.in-Both-Both.is-0 w.in-Both-Both.is-1
+          ∙ ap₂ (λ x y. x && y) (sym w.are_equal_values.ensures ∙ w.if-are_equal_values.true) (sym w.eq.ensures ∙ sym w.same-is ∙ c.if-not-same.false)
+      | are_equal_messages-in-Both-Both+else-are_equal_values w ↦ absurd (true≢false (sym c.if-not-same.false ∙ w.same-is ∙ w.if-are_equal_values.false))
+      | are_equal_messages-in_default-2 w ↦ absurd (true≢false (sym c.if-not-same.false ∙ w.same-is))
+      | are_equal_messages-in_default-2-2 w ↦ absurd (true≢false (sym c.if-not-same.false ∙ w.same-is))
+      | are_equal_messages-in_default-2-3 w ↦ absurd (true≢false (sym c.if-not-same.false ∙ w.same-is))
+    ] in (
+      slot_passed _ _ _ _ mine others _ c.in-Some.ensures.steps c.in-Some-next.ensures.steps c.if-number-other_number.false same l.0,
+      (l.1.0 ++ mine ∷ [], one_given _ l.1.0 mine _ _ l.1.1 c.in-Some.ensures.steps),
+      (l.2.0 ++ others ∷ [], one_given _ l.2.0 others _ _ l.2.1 c.in-Some-next.ensures.steps),
+    )
