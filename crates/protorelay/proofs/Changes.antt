@@ -1,4 +1,4 @@
--- The value that a text spells for a field, and what is set of it.
+-- What is set of a text at a path: nothing keeps it from being set.
 use Rattle.std.proofs.Common.{◌≡◌, ℕ, Bool, true, false, cond, List, length, nat_le, Option, Some, None, option_map, refl, ap, sym, ◌∙◌}
 use Rattle.prost_reflect_wire.specs.Varint.{◌>>=◌}
 use Rattle.prost_reflect_wire.specs.Scalar.{Scalar}
@@ -25,42 +25,6 @@ use Rattle.prost_reflect.specs.declared.message.relay.edit.RelayWithError.{Relay
 use Rattle.prost_reflect.specs.declared.message.relay.edit.RelayWithError.TheVariants.{NotFound, InvalidType, HoldsMessage}
 use Rattle.protorelay.specs.Editing.{path_spelled, row_led, row_at, field_found, values_in, text_value, value_found, IsChange}
 use Rattle.protorelay.proofs.Paths.{leads_shown}
-
--- VALUES
-
-pub values_is : (pool : DescriptorPool) (kind : Kind) → IsAmong pool kind → values_named kind ≡ values_in (pool_rows pool.inner) (table_kind kind)
-values_is pool (Enum e) same = ap (λ (shared : LinkedPool). values_at (rows_of shared.tables) e.index) same
-values_is pool kind same = refl
-
--- of a field's row, by its kind
-pub spelled_value : (rows : TableRows) (o : Option FieldRow) (kind : TableKind) (values : List EnumValueRow) (text : List ℕ) → option_map (λ f. f.kind) o ≡ Some kind → values ≡ values_in rows kind →
-    (o >>= λ f. text_value rows f text) ≡ (option_map ScalarValue (field_default kind values text) >>= λ v. cond (passes (option_map (schema_field rows) o) (λ f. value_valid f v)) (Some v) None)
-spelled_value rows None kind values text is e = cc
-spelled_value rows (Some f) kind values text is e =
-    let same : f.kind ≡ kind = cc in
-    ap (λ (k : TableKind). option_map ScalarValue (field_default k (values_in rows k) text) >>= λ v. cond (value_valid (schema_field rows f) v) (Some v) None) same
-    ∙ ap (λ (vs : List EnumValueRow). option_map ScalarValue (field_default kind vs text) >>= λ v. cond (value_valid (schema_field rows f) v) (Some v) None) (sym e)
-
-pub value_missing : (rows : TableRows) (o : Option FieldRow) (spelled : Option Value) → None ≡ spelled → None ≡ (spelled >>= λ v. cond (passes (option_map (schema_field rows) o) (λ f. value_valid f v)) (Some v) None)
-value_missing rows o spelled e = ap (λ s. s >>= λ v. cond (passes (option_map (schema_field rows) o) (λ f. value_valid f v)) (Some v) None) e
-
-pub value_taken : (rows : TableRows) (o : Option FieldRow) (spelled : Option Value) (v : Value) → Some v ≡ spelled → passes (option_map (schema_field rows) o) (λ f. value_valid f v) ≡ true →
-    Some v ≡ (spelled >>= λ v. cond (passes (option_map (schema_field rows) o) (λ f. value_valid f v)) (Some v) None)
-value_taken rows o spelled v e taken =
-    sym (ap (λ b. cond b (Some v) None) taken) ∙ ap (λ s. s >>= λ v. cond (passes (option_map (schema_field rows) o) (λ f. value_valid f v)) (Some v) None) e
-
-pub value_refused : (rows : TableRows) (o : Option FieldRow) (spelled : Option Value) (v : Value) → Some v ≡ spelled → passes (option_map (schema_field rows) o) (λ f. value_valid f v) ≡ false →
-    None ≡ (spelled >>= λ v. cond (passes (option_map (schema_field rows) o) (λ f. value_valid f v)) (Some v) None)
-value_refused rows o spelled v e refused =
-    sym (ap (λ b. cond b (Some v) None) refused) ∙ ap (λ s. s >>= λ v. cond (passes (option_map (schema_field rows) o) (λ f. value_valid f v)) (Some v) None) e
-
--- WHAT IS SET
-
-pub found_at : (rows : TableRows) (T : ℕ) (path numbers : List ℕ) (o : Option FieldRow) → Some numbers ≡ path_spelled path → o ≡ row_at rows T numbers → field_found rows T path ≡ o
-found_at rows T path numbers o spelled at = ap (λ s. s >>= λ numbers. row_at rows T numbers) (sym spelled) ∙ sym at
-
-pub none_spelled : (rows : TableRows) (T : ℕ) (path : List ℕ) → None ≡ path_spelled path → field_found rows T path ≡ None
-none_spelled rows T path none = ap (λ s. s >>= λ numbers. row_at rows T numbers) (sym none)
 
 -- the row of the field, and its value
 record Led (rows : TableRows) (T : ℕ) (text numbers : List ℕ) (value : Value) : Type 0 where

@@ -56,10 +56,6 @@ number_missing digits e = no_number (number_spelled digits) e
 abbrev pub behind : List ℕ → List (List ℕ) → Option (List ℕ)
 behind numbers pieces = option_map (λ rest. numbers ++ rest) (numbers_spelled pieces)
 
-pub behind_none : (o : Option (List ℕ)) → o ≡ option_map (λ rest. [] ++ rest) o
-behind_none None = refl
-behind_none (Some path) = refl
-
 one_more : (numbers : List ℕ) (n : ℕ) (o : Option (List ℕ)) → option_map (λ rest. numbers ++ rest) (option_map (λ path. n ∷ path) o) ≡ option_map (λ rest. (numbers ++ n ∷ []) ++ rest) o
 one_more numbers n None = refl
 one_more numbers n (Some path) = ap Some (sym (append_assoc numbers (n ∷ []) path))
@@ -131,34 +127,10 @@ found_row m n field at same =
 pub found_none : (m : MessageDescriptor) (n : ℕ) → None ≡ declared_place (fields_of m) n → own_row (fields_of m) n ≡ None
 found_none m n none = no_place (fields_of m) n none
 
-pub row_found : (m : MessageDescriptor) (n : ℕ) (found : Option FieldDescriptor) → option_map (λ field. field.index) found ≡ declared_place (fields_of m) n → IfSome found (λ field. SameMessage m field.message) → (found >>= named.row_at) ≡ own_row (fields_of m) n
-row_found m n None at same = sym (found_none m n at)
-row_found m n (Some field) at same = found_row m n field at same
-
--- the message type inside
-pub inside_repeated : (o : Option FieldRow) (c : Cardinality) → option_map (λ f. f.cardinality) o ≡ Some c → is_repeated c ≡ true → None ≡ (o >>= row_inside)
-inside_repeated None c at is = cc
-inside_repeated (Some f) c at is = let same : f.cardinality ≡ c = cc in sym (ap (λ b. cond b None (message_named f.kind)) (ap is_repeated same ∙ is))
-
-pub inside_single : (o : Option FieldRow) (c : Cardinality) (k : TableKind) → option_map (λ f. f.cardinality) o ≡ Some c → is_repeated c ≡ false → option_map (λ f. f.kind) o ≡ Some k → message_named k ≡ (o >>= row_inside)
-inside_single None c k at is kind = cc
-inside_single (Some f) c k at is kind =
-    let same : f.cardinality ≡ c = cc in
-    let kinds : f.kind ≡ k = cc in
-    sym (ap (λ b. cond b None (message_named f.kind)) (ap is_repeated same ∙ is) ∙ ap message_named kinds)
-
-pub other_kind : (k : Kind) → ((m : MessageDescriptor) → k ≡ Message m → ⊥) → None ≡ message_named (table_kind k)
-other_kind (Message m) other = absurd (other m refl)
-other_kind k other = refl
-
 -- PATHS
 
 not_empty : (n : ℕ) (rest : List ℕ) → nat_eq (length (n ∷ rest)) 0 ≡ true → ⊥
 not_empty n rest h = let none : length (n ∷ rest) ≡ 0 = eqb-true (length (n ∷ rest)) 0 h in cc
-
-pub led_none : (rows : TableRows) (T : ℕ) (path : List ℕ) → length path ≡ 0 → None ≡ row_led rows T path
-led_none rows T [] h = refl
-led_none rows T (n ∷ path) h = cc
 
 pub led_missing : (rows : TableRows) (T n : ℕ) (path rest : List ℕ) → path ≡ n ∷ rest → own_row (fields_at rows T) n ≡ None → None ≡ row_led rows T path
 led_missing rows T n path [] e none = sym (ap (row_led rows T) e ∙ none)
