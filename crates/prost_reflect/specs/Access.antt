@@ -8,9 +8,7 @@ use Rattle.prost_reflect_wire.specs.Content.{Content, value_at, entries_of}
 use Rattle.prost_reflect_wire.specs.Edit.{default_value, value_or_default}
 use Rattle.prost_reflect_wire.specs.Typing.{kept, kept_inside, is_field_default, value_valid}
 use Rattle.prost_reflect_tables.specs.Places.{row_of}
-use Rattle.prost_reflect_tables.specs.Shown.{schema_field}
 use Rattle.prost_reflect_pool.specs.Lookups.{named_field}
-use Rattle.prost_reflect_pool.specs.SharedPools.{pool_rows}
 use Rattle.prost_reflect_pool.specs.MessageTypes.{schema_at, fields_of}
 use Rattle.prost_reflect_pool.specs.declared.pooled_type.PooledType.{PooledType}
 use Rattle.prost_reflect_fields.specs.Items.{IsAscending}
@@ -20,6 +18,7 @@ use Rattle.prost_reflect.specs.Named.{NamesEqual}
 use Rattle.prost_reflect.specs.NamedField.{row_at}
 use Rattle.prost_reflect.specs.NamedFields as named
 use Rattle.prost_reflect.specs.NamedFields.{is_declared, declared_place}
+use Rattle.prost_reflect.specs.RowLaws.{takes_by_row}
 use Rattle.prost_reflect.specs.View.{value_of, content_of, message_type_of, stored_in, written_at}
 use Rattle.prost_reflect.specs.declared.descriptor.message.MessageDescriptor.{MessageDescriptor}
 use Rattle.prost_reflect.specs.declared.descriptor.field.FieldDescriptor.{FieldDescriptor}
@@ -49,7 +48,7 @@ number_named t name = option_and_then (λ i. option_map (λ f. f.number) (slice_
 
 -- The value fits the field, by its form and its kind.
 abbrev pub takes : FieldDescriptor → Value → Bool
-takes field v = passes (option_map (schema_field (pool_rows field.message.pool.inner)) (row_at field)) (λ f. value_valid f (value_of v))
+takes field v = takes_by_row field.message.pool (row_at field) v
 
 -- The value fits the field of the number.
 abbrev pub takes_at : PooledType → ℕ → Value → Bool

@@ -16,6 +16,7 @@ use Rattle.prost_reflect.specs.NamedExtensions.{extension_row_named}
 use Rattle.prost_reflect.specs.NamedField.{row_at}
 use Rattle.prost_reflect.specs.Variants.{message_in}
 use Rattle.prost_reflect.specs.View.{value_of, message_type_of, stored_in}
+use Rattle.prost_reflect.specs.declared.descriptor.pool.DescriptorPool.{DescriptorPool}
 use Rattle.prost_reflect.specs.declared.descriptor.kind.Kind.{Kind}
 use Rattle.prost_reflect.specs.declared.descriptor.kind.Kind.TheVariants as kinds
 use Rattle.prost_reflect.specs.declared.descriptor.field.FieldDescriptor.{FieldDescriptor}
@@ -29,11 +30,14 @@ use Rattle.prost_reflect.specs.declared.message.DynamicMessage.{DynamicMessage}
 abbrev pub row_default : TableRows → FieldRow → contents.Value
 row_default rows row = default_value (schema_from rows) (schema_field rows row).form (schema_field rows row).value_type
 
+abbrev pub default_by_row : DescriptorPool → Option FieldRow → Option contents.Value
+default_by_row pool row = option_map (row_default (pool_rows pool.inner)) row
+
 abbrev pub field_default : FieldDescriptor → Option contents.Value
-field_default field = option_map (row_default (pool_rows field.message.pool.inner)) (row_at field)
+field_default field = default_by_row field.message.pool (row_at field)
 
 abbrev pub extension_default : ExtensionDescriptor → Option contents.Value
-extension_default x = option_map (row_default (pool_rows x.pool.inner)) (extension_row_named x)
+extension_default x = default_by_row x.pool (extension_row_named x)
 
 -- WHICH VALUES ARE DEFAULTS
 
@@ -58,11 +62,14 @@ single_place row = if is_repeated row.cardinality then None else place_named row
 abbrev pub IsRowDefault : Rc LinkedPool Global → FieldRow → Value → Type 0
 IsRowDefault pool row v = IsDefaultBy pool (single_place row) (row_default (pool_rows pool) row) v
 
+abbrev pub IsDefaultByRow : DescriptorPool → Option FieldRow → Value → Type 0
+IsDefaultByRow pool row v = IsSomeAnd row (λ f. IsRowDefault pool.inner f v)
+
 abbrev pub IsFieldDefault : FieldDescriptor → Value → Type 0
-IsFieldDefault field v = IsSomeAnd (row_at field) (λ row. IsRowDefault field.message.pool.inner row v)
+IsFieldDefault field v = IsDefaultByRow field.message.pool (row_at field) v
 
 abbrev pub IsExtensionDefault : ExtensionDescriptor → Value → Type 0
-IsExtensionDefault x v = IsSomeAnd (extension_row_named x) (λ row. IsRowDefault x.pool.inner row v)
+IsExtensionDefault x v = IsDefaultByRow x.pool (extension_row_named x) v
 
 abbrev pub IsKindDefault : Kind → Value → Type 0
 IsKindDefault (kinds.Message d) v = IsEmptyOf d.pool.inner d.index (message_in (out-Value v))

@@ -1,12 +1,9 @@
 -- Which extensions are a message's own.
 use Rattle.std.specs.Prelude.{◌≡◌, ℕ, Bool, Some, option_map, unwrap_or}
-use Rattle.prost_reflect_wire.specs.Schema.{passes}
-use Rattle.prost_reflect_wire.specs.Typing.{value_valid}
-use Rattle.prost_reflect_tables.specs.Shown.{schema_field}
-use Rattle.prost_reflect_pool.specs.SharedPools.{pool_rows, pool_contents}
+use Rattle.prost_reflect_pool.specs.SharedPools.{pool_contents}
 use Rattle.prost_reflect_pool.specs.declared.pooled_type.PooledType.{PooledType}
 use Rattle.prost_reflect.specs.NamedExtensions.{extension_named, extension_row_named}
-use Rattle.prost_reflect.specs.View.{value_of}
+use Rattle.prost_reflect.specs.RowLaws.{takes_by_row}
 use Rattle.prost_reflect.specs.declared.descriptor.extension.ExtensionDescriptor.{ExtensionDescriptor}
 use Rattle.prost_reflect.specs.declared.value.Value.{Value}
 
@@ -19,4 +16,4 @@ extension_number x = unwrap_or (option_map (λ f. f.number) (extension_row_named
 
 -- The value fits the extension, by its form and its kind.
 abbrev pub extension_takes : ExtensionDescriptor → Value → Bool
-extension_takes x v = passes (option_map (schema_field (pool_rows x.pool.inner)) (extension_row_named x)) (λ f. value_valid f (value_of v))
+extension_takes x v = takes_by_row x.pool (extension_row_named x) v

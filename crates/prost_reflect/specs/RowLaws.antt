@@ -1,6 +1,5 @@
 -- What is said of fields and extensions alike, each by its pool and by its row there; and their laws.
-use Rattle.std.specs.Prelude.{◌≡◌, ◌<◌, ◌^◌, ◌⊎◌, ℕ, Bool, true, false, Option, is_some, option_map, IsSomeAnd}
-use Rattle.prost_reflect_wire.specs.Content as contents
+use Rattle.std.specs.Prelude.{◌≡◌, ◌<◌, ◌^◌, ◌⊎◌, Bool, true, false, Option, is_some, option_map, IsSomeAnd}
 use Rattle.prost_reflect_wire.specs.Schema.{FieldForm, is_list, is_singular, passes}
 use Rattle.prost_reflect_wire.specs.Typing.{value_valid}
 use Rattle.prost_reflect_tables.specs.Linking.{is_packable}
@@ -13,13 +12,6 @@ use Rattle.prost_reflect.specs.declared.descriptor.pool.DescriptorPool.{Descript
 use Rattle.prost_reflect.specs.declared.value.Value.{Value}
 
 -- VALUES
-
--- What is had where nothing is stored.
-abbrev pub default_by_row : DescriptorPool → Option FieldRow → Option contents.Value
-default_by_row pool row = option_map (row_default (pool_rows pool.inner)) row
-
-abbrev pub IsDefaultByRow : DescriptorPool → Option FieldRow → Value → Type 0
-IsDefaultByRow pool row v = IsSomeAnd row (λ f. IsRowDefault pool.inner f v)
 
 -- The value fits, by the form and the kind.
 abbrev pub takes_by_row : DescriptorPool → Option FieldRow → Value → Bool

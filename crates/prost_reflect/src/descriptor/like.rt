@@ -5,7 +5,8 @@ ghost use Rattle.prost_reflect_wire.specs.Schema.{is_list, is_map};
 ghost use Rattle.prost_reflect_tables.specs.Linking.{is_packable};
 ghost use Rattle.prost_reflect_tables.specs.Rows.{FieldRow};
 ghost use Rattle.prost_reflect.specs.NamedKinds.{table_kind, IsAmong};
-ghost use Rattle.prost_reflect.specs.RowLaws.{default_by_row, takes_by_row, row_form, IsDefaultByRow, HasByRow, NumberInRange, DefaultFits, RepeatedWithoutPresence, PackedAsList, MemberWithPresence};
+ghost use Rattle.prost_reflect.specs.Defaults.{default_by_row, IsDefaultByRow};
+ghost use Rattle.prost_reflect.specs.RowLaws.{takes_by_row, row_form, HasByRow, NumberInRange, DefaultFits, RepeatedWithoutPresence, PackedAsList, MemberWithPresence};
 ghost use Rattle.prost_reflect.specs.View.{value_of};
 ghost use Rattle.prost_reflect.specs.declared.descriptor.pool.DescriptorPool.{DescriptorPool};
 
