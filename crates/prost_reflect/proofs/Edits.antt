@@ -14,10 +14,10 @@ use Rattle.prost_reflect_wire.specs.declared.error.EncodeError.TheVariants as en
 use Rattle.prost_reflect_laws.proofs.PassageLaws as laws
 use Rattle.prost_reflect.specs.declared.descriptor.message.MessageDescriptor.{MessageDescriptor}
 use Rattle.prost_reflect.specs.declared.message.relay.edit.RelayWithError.{RelayWithError}
-use Rattle.prost_reflect.specs.declared.message.relay.edit.RelayWithError.TheVariants.{NotFound, InvalidType, HoldsMessage, Encode}
-use Rattle.prost_reflect.specs.Edits.{PATH_LIMIT, value_refusal, edit_refusal, IsEdited, RefusesEdit, PassesEdit}
+use Rattle.prost_reflect.specs.declared.message.relay.edit.RelayWithError.TheVariants.{InvalidType, HoldsMessage, Encode}
+use Rattle.prost_reflect.specs.Edits.{value_refusal, edit_refusal, IsEdited, RefusesEdit, PassesEdit}
 use Rattle.prost_reflect.specs.Named.{schema_named, type_named}
-use Rattle.prost_reflect.specs.Paths.{field_at, IsSetAt}
+use Rattle.prost_reflect.specs.Paths.{PATH_LIMIT, field_at, IsSetAt}
 use Rattle.prost_reflect.specs.Relaying.{IsReadBy}
 use Rattle.prost_reflect.proofs.Paths.{stored_plain, path_to}
 use Rattle.prost_reflect.proofs.ReadBack.{named_valid}
@@ -45,7 +45,7 @@ may_be_set schema T path v e = go (nat_le (length path) PATH_LIMIT) refl e
     found l None h e = absurd cc
     found l (Some f) h e = let (valid, plain) = fitting f (value_valid f v) refl e in record { field = f; within = leb-true (length path) PATH_LIMIT l; found = h; valid = valid; plain = plain }
 
-    go : (b : Bool) → nat_le (length path) PATH_LIMIT ≡ b → cond b (value_refusal (field_at schema T path) v) (Some NotFound) ≡ None → MayBeSet schema T path v
+    go : (b : Bool) → nat_le (length path) PATH_LIMIT ≡ b → value_refusal (cond b (field_at schema T path) None) v ≡ None → MayBeSet schema T path v
     go false l e = absurd cc
     go true l e = found l (field_at schema T path) refl e
 

@@ -1,5 +1,5 @@
 -- What editing through an older message type answers: a value is set at a path in what bytes mean to it, and what newer types read of what is written (the encoding guide's account of unknown fields, "Updating A Message Type").
-use Rattle.std.specs.Prelude.{◌≡◌, ◌≤◌, ◌^◌, ℕ, suc, Bool, true, false, nat_le, if◌then◌else◌, List, length, Option, Some, None, ⊤}
+use Rattle.std.specs.Prelude.{◌≡◌, ◌≤◌, ◌^◌, ℕ, Bool, true, false, if◌then◌else◌, List, length, Option, Some, None, ⊤}
 use Rattle.prost_reflect_wire.specs.declared.error.DecodeError.TheVariants as decode_errors
 use Rattle.prost_reflect_wire.specs.declared.error.EncodeError.TheVariants as encode_errors
 use Rattle.prost_reflect_wire.specs.Varint.{◌>>=◌}
@@ -10,16 +10,12 @@ use Rattle.prost_reflect_wire.specs.Meaning.{decoded}
 use Rattle.prost_reflect_wire.specs.Typing.{value_valid}
 use Rattle.prost_reflect_wire.specs.Edit.{set_at, holds_message, edited}
 use Rattle.prost_reflect_wire.specs.Reduction.{Reduced}
-use Rattle.prost_reflect.specs.Paths.{field_at}
+use Rattle.prost_reflect.specs.Paths.{field_led}
 use Rattle.prost_reflect.specs.Relaying.{IsFaulty}
 use Rattle.prost_reflect.specs.declared.message.relay.edit.RelayWithError.{RelayWithError}
 use Rattle.prost_reflect.specs.declared.message.relay.edit.RelayWithError.TheVariants.{NotFound, InvalidType, HoldsMessage, Decode, Encode, OutOfMemory}
 
 -- BEFORE A BYTE IS READ
-
--- A path has a number for each level that is read, and one for the field.
-abbrev pub PATH_LIMIT : ℕ
-PATH_LIMIT = suc LEVEL_LIMIT
 
 -- Why a value is not set at a field, or where none is found.
 abbrev pub value_refusal : Option Field → Value → Option RelayWithError
@@ -28,7 +24,7 @@ value_refusal (Some f) v = if value_valid f v then (if holds_message v then Some
 
 -- Why it is not set at a path: the first of no field, a value that doesn't fit it, and one that holds a message.
 abbrev pub edit_refusal : Schema → ℕ → List ℕ → Value → Option RelayWithError
-edit_refusal schema T path v = if nat_le (length path) PATH_LIMIT then value_refusal (field_at schema T path) v else Some NotFound
+edit_refusal schema T path v = value_refusal (field_led schema T path) v
 
 abbrev pub is_message : Value → Bool
 is_message (MessageValue c) = true

@@ -17,6 +17,7 @@ mod message;
 mod method;
 mod oneof;
 mod options;
+pub(crate) mod path;
 mod places;
 mod pool;
 mod ranges;

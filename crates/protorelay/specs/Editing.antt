@@ -1,5 +1,5 @@
 -- What editing makes of a descriptor set, the name of a message type, hex digits, a path of numbers and a text.
-use Rattle.std.specs.Prelude.{◌≡◌, ◌≢◌, ◌≤◌, ◌-◌, ◌^◌, ◌==◌, ℕ, nat_le, if◌then◌else◌, List, [], ◌∷◌, ◌++◌, length, Option, Some, None, option_map, ⊤}
+use Rattle.std.specs.Prelude.{◌≡◌, ◌≢◌, ◌≤◌, ◌-◌, ◌^◌, ◌==◌, ℕ, if◌then◌else◌, List, [], ◌∷◌, ◌++◌, length, Option, Some, None, option_map, ⊤}
 use Rattle.std.specs.List.{slice_split}
 use Rattle.hex.specs.Hex.{encode_lower}
 use Rattle.prost_reflect_wire.specs.Varint.{◌>>=◌}
@@ -10,19 +10,18 @@ use Rattle.prost_reflect_wire.specs.Fault.{StandsInMessage}
 use Rattle.prost_reflect_wire.specs.declared.error.DecodeError.{DecodeError}
 use Rattle.prost_reflect_wire.specs.declared.error.EncodeError.TheVariants.{TooLong}
 use Rattle.prost_reflect_tables.specs.Rows.{EnumValueRow, FieldRow, TableRows}
-use Rattle.prost_reflect_tables.specs.Places.{fields_at, row_of}
-use Rattle.prost_reflect_tables.specs.Linking.{is_repeated}
 use Rattle.prost_reflect_tables.specs.Shown.{schema_from, schema_field}
 use Rattle.prost_reflect_tables.specs.WrittenDefaults.{whole_number, up_to, field_default}
 use Rattle.prost_reflect_tables.specs.declared.tables.WrittenDefault.{WrittenDefault}
 use Rattle.prost_reflect_tables.specs.declared.tables.WrittenDefault.TheVariants.{U32}
 use Rattle.prost_reflect_tables.specs.declared.tables.TableKind.{TableKind}
-use Rattle.prost_reflect_tables.specs.declared.tables.TableKind.TheVariants.{Message, Enum}
+use Rattle.prost_reflect_tables.specs.declared.tables.TableKind.TheVariants.{Enum}
 use Rattle.prost_reflect_pool.specs.Enums.{values_at}
 use Rattle.prost_reflect_pool.specs.Pools.{pool_rows}
 use Rattle.prost_reflect_pool.specs.declared.pool.LinkedPool.{LinkedPool}
-use Rattle.prost_reflect.specs.Edits.{PATH_LIMIT, EditPassesLength, PassesEdit}
+use Rattle.prost_reflect.specs.Edits.{EditPassesLength, PassesEdit}
 use Rattle.prost_reflect.specs.Edits as edits
+use Rattle.prost_reflect.specs.Paths.{row_led}
 use Rattle.prost_reflect.specs.declared.message.relay.edit.RelayWithError.{RelayWithError}
 use Rattle.prost_reflect.specs.declared.message.relay.edit.RelayWithError.TheVariants as relays
 use Rattle.protorelay.specs.Sets.{IsPoolOfSet}
@@ -49,33 +48,9 @@ numbers_spelled (digits ∷ more) = number_spelled digits >>= λ n. option_map (
 abbrev pub path_spelled : List ℕ → Option (List ℕ)
 path_spelled text = numbers_spelled (slice_split (λ b. b == 46) text)
 
--- FIELDS
-
--- The field of a number; an extension is none.
-abbrev pub own_row : List FieldRow → ℕ → Option FieldRow
-own_row fields n = row_of fields n >>= λ f. if f.is_extension then None else Some f
-
--- The message type that a kind names.
-abbrev pub message_named : TableKind → Option ℕ
-message_named (Message T) = Some T
-message_named kind = None
-
--- The message type of a field of one message or group.
-abbrev pub row_inside : FieldRow → Option ℕ
-row_inside f = if is_repeated f.cardinality then None else message_named f.kind
-
--- The field that numbers lead to: the last number's, in the message type of the fields before it.
-abbrev pub row_led : TableRows → ℕ → List ℕ → Option FieldRow
-row_led rows T [] = None
-row_led rows T (n ∷ []) = own_row (fields_at rows T) n
-row_led rows T (n ∷ m ∷ path) = own_row (fields_at rows T) n >>= λ f. row_inside f >>= λ U. row_led rows U (m ∷ path)
-
--- There is a number for each level that is read, and one for the field.
-abbrev pub row_at : TableRows → ℕ → List ℕ → Option FieldRow
-row_at rows T path = if nat_le (length path) PATH_LIMIT then row_led rows T path else None
-
+-- The field that the numbers lead to.
 abbrev pub field_found : TableRows → ℕ → (path : List ℕ) → Option FieldRow
-field_found rows T path = path_spelled path >>= λ numbers. row_at rows T numbers
+field_found rows T path = path_spelled path >>= λ numbers. row_led rows T numbers
 
 -- VALUES
 

@@ -6,7 +6,7 @@ ghost use Rattle.prost_reflect.specs.Named.{type_named};
 ghost use Rattle.prost_reflect.specs.View.{value_of};
 ghost use Rattle.protorelay.specs.Editing.{IsChange, IsEdited, IsEditedIn, RefusesChange, RefusesEdit, RefusesEditIn};
 
-use crate::path::{field_at, numbers_of, value_for};
+use crate::path::{numbers_of, value_for};
 use crate::reading::{message_type, pool_of};
 use crate::refusal::Refusal;
 use prost_reflect::{MessageDescriptor, Value, relay_with};
@@ -68,7 +68,7 @@ fn change(
     let Some(numbers) = spelled else {
         return Err(Refusal::Number);
     };
-    let found = field_at(older, numbers.as_slice())?;
+    let found = older.get_field_by_path(numbers.as_slice())?;
     let Some(field) = found else {
         return Err(Refusal::Number);
     };

@@ -5,6 +5,7 @@ ghost use Rattle.prost_reflect_pool.specs.SharedPools.{pool_rows};
 
 use crate::descriptor::extension::extension_at;
 use crate::descriptor::options::{OptionsError, options_by};
+use crate::descriptor::path::declared_place;
 use crate::descriptor::places::Places;
 use crate::descriptor::{
     DescriptorPool, Descriptors, EnumDescriptor, ExtensionDescriptor, ExtensionRanges,
@@ -63,7 +64,6 @@ impl MessageDescriptor {
     ghost use Rattle.prost_reflect_pool.specs.Lookups.{named_field, json_named_field, extension_where};
     ghost use Rattle.prost_reflect.specs.Named.{lists_named};
     ghost use Rattle.prost_reflect_tables.specs.Rows.{field_row, message_row};
-    ghost use Rattle.prost_reflect_tables.specs.Places.{place_of};
     ghost use Rattle.prost_reflect.specs.Named.{IsNamed, NamesEqual, NamesSame, SameMessage, message_row_named};
     ghost use Rattle.prost_reflect.specs.NamedFields.{fields_of, declared_place, is_declared_at};
     ghost use Rattle.prost_reflect.specs.Options.{OptionsOf};
@@ -447,10 +447,7 @@ impl MessageDescriptor {
         ensures place { result ≡ declared_place (fields_of self.now) number }
         ensures declared { IfSome result (λ i. IsTrue (is_declared_at (fields_of self.now) i)) }
     {
-        match self.field_place(number) {
-            Some(index) if !self.field_tables()[index].is_extension => Some(index),
-            _ => None,
-        }
+        declared_place(&self.pool.inner, self.index, number)
     }
 
     /// The rows of the fields and extensions, in ascending order of their numbers.
@@ -458,13 +455,6 @@ impl MessageDescriptor {
         ensures { map field_row result.now ≡ fields_of self.now }
     {
         self.pool.inner.tables().field_tables(self.index)
-    }
-
-    /// The place of the field or extension of a number.
-    fn field_place(&self, number: u32) -> Option<usize>
-        ensures { result ≡ place_of (fields_of self.now) number }
-    {
-        self.pool.inner.tables().field_place(self.index, number)
     }
 }
 

@@ -15,7 +15,7 @@ ghost use Rattle.prost_reflect.specs.View.{value_of};
 ghost use Rattle.prost_reflect.specs.declared.message.relay.edit.RelayWithError.TheVariants as errors;
 
 use crate::descriptor::MessageDescriptor;
-use crate::message::path::field_at;
+use crate::descriptor::path::field_led;
 use crate::message::relay::decode_by;
 use crate::value::valid::value_valid;
 use crate::value::{MapKey, Value};
@@ -71,9 +71,6 @@ impl From<EncodeError> for RelayWithError {
     }
 }
 
-/// The most numbers of a path: one for each level of messages that is read, and one for the field.
-const PATH_LIMIT: usize = 101;
-
 /// What the bytes mean to the older type with the value set at the path, written again.
 ///
 /// The path names a field of the older type by its number, behind the numbers of the fields of one message or group that
@@ -116,11 +113,8 @@ fn refusal_of(older: &MessageDescriptor, path: &[u32], value: &Value) -> Option<
     ensures refusal { result ≡ edit_refusal (schema_named older.now) (type_named older.now) path.now (value_of value.now) }
     ensures ordered { result ≡ None → value_ordered (value_of value.now) ≡ true }
 {
-    if path.len() > PATH_LIMIT {
-        return Some(RelayWithError::NotFound);
-    }
     let pool = &older.parent_pool().inner;
-    let Some(field) = field_at(pool, older.place(), path) else {
+    let Some(field) = field_led(pool, older.place(), path) else {
         return Some(RelayWithError::NotFound);
     };
     if !value_valid(pool, field, value) {
