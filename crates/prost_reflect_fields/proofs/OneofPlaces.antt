@@ -18,43 +18,13 @@ use Rattle.prost_reflect_tables.specs.Linking.{Links, links_of, is_place, belong
 use Rattle.prost_reflect_tables.specs.Built.{AreTablesOf}
 use Rattle.prost_reflect_tables.proofs.Built.{linked_of}
 use Rattle.prost_reflect_tables.proofs.CatalogRanges.{in_order_all, holds_at}
+use Rattle.prost_reflect_tables.proofs.DeclaredFields.{smaller_before}
 use Rattle.prost_reflect_tables.proofs.Fields.{known_rows}
 use Rattle.prost_reflect_tables.proofs.Keeping.{passes_at, fields_ascend, schema_is_valid}
 use Rattle.prost_reflect_pool.specs.MessageTypes.{fields_of}
 use Rattle.prost_reflect_pool.specs.SharedPools.{pool_rows, files_of}
 use Rattle.prost_reflect_pool.specs.declared.pooled_type.PooledType.{PooledType}
 use Rattle.prost_reflect_fields.specs.Members.{HasMembers}
-
--- HOW MANY HAVE A SMALLER NUMBER
-
-rises : (low : ℕ) (g : FieldRow) (fields : List FieldRow) → ascending_from low (g ∷ fields) ≡ true → (low < g.number) × (ascending_from g.number fields ≡ true)
-rises low g fields h = let parts = and_parts _ _ h in (ltb-true low g.number (and_parts _ _ parts.0).0, parts.1)
-
-none_smaller : (low n : ℕ) (fields : List FieldRow) → ascending_from low fields ≡ true → n ≤ low → length (filter (λ (f : FieldRow). nat_lt f.number n) fields) ≡ 0
-none_smaller low n [] h le = refl
-none_smaller low n (g ∷ fields) h le =
-    let r = rises low g fields h in
-    rw (le-ltb g.number n (omega arith)) (none_smaller g.number n fields r.1 (omega arith))
-
-above : (low : ℕ) (fields : List FieldRow) (i : ℕ) (f : FieldRow) → ascending_from low fields ≡ true → slice_get fields i ≡ Some f → low < f.number
-above low [] i f h at = absurd cc
-above low (g ∷ fields) zero f h at = let r = rises low g fields h in omega (arith, ap (λ (x : FieldRow). x.number) (same_Some g f at))
-above low (g ∷ fields) (suc i) f h at =
-    let r = rises low g fields h in
-    let more = above g.number fields i f r.1 at in
-    omega arith
-
--- Among ascending numbers a field stands behind as many as have a smaller one.
-smaller_before : (low : ℕ) (fields : List FieldRow) (i : ℕ) (f : FieldRow) → ascending_from low fields ≡ true → slice_get fields i ≡ Some f → length (filter (λ (g : FieldRow). nat_lt g.number f.number) fields) ≡ i
-smaller_before low [] i f h at = absurd cc
-smaller_before low (g ∷ fields) zero f h at =
-    let same : g.number ≡ f.number = ap (λ (x : FieldRow). x.number) (same_Some g f at) in
-    let r = rises low g fields h in
-    rw (le-ltb g.number f.number (omega arith)) (none_smaller g.number f.number fields r.1 (omega arith))
-smaller_before low (g ∷ fields) (suc i) f h at =
-    let r = rises low g fields h in
-    let less = above g.number fields i f r.1 at in
-    rw (lt-ltb g.number f.number less) (ap suc (smaller_before g.number fields i f r.1 at))
 
 -- MEMBERS AND THEIR PLACES
 
@@ -122,7 +92,7 @@ message_listed links extensions T m ascends o i r f at there own is =
     (All-append (Listed fields o places) (declared_fields links m.fields) (map (linked_field links true) (belonging (extended_place links) extensions T)) (declared_listed links fields o m.fields) (extensions_listed links fields o places (belonging (extended_place links) extensions T))) in
     let found : list_any (nat_eq (smaller fields f.number)) places ≡ true = holds_at (Listed fields o places) fields i f each there own is in
     let here : 0 + o ≡ o = omega arith in
-    ap (list_any (nat_eq i)) (oneof_at fields m.fields 0 o m.oneofs r at ∙ ap (λ (q : ℕ). places_in fields q m.fields) here) ∙ (ap (λ (j : ℕ). list_any (nat_eq j) places) (sym (smaller_before 0 fields i f ascends there)) ∙ found)
+    ap (list_any (nat_eq i)) (oneof_at fields m.fields 0 o m.oneofs r at ∙ ap (λ (q : ℕ). places_in fields q m.fields) here) ∙ (ap (λ (j : ℕ). list_any (nat_eq j) places) (sym (smaller_before 0 f.number fields i f ascends there refl)) ∙ found)
 
 messages_listed : (links : Links) (extensions : List (DefinitionRow FieldDescriptorProto)) (first i : ℕ) (ms : List FlatMessageRow) (m : MessageRow) → slice_get (messages_from links extensions first ms) i ≡ Some m → ascending_from 0 m.fields ≡ true → MembersListed m
 messages_listed links extensions first i [] m at ascends = absurd cc

@@ -32,7 +32,7 @@ none_smaller low n (g ∷ fields) h le =
     rw (le-ltb g.number n (omega arith)) (none_smaller g.number n fields (onward low g fields h) (omega arith))
 
 -- Among ascending numbers a field stands behind as many as have a smaller one.
-smaller_before : (low n : ℕ) (fields : List FieldRow) (i : ℕ) (f : FieldRow) → ascending_from low fields ≡ true → slice_get fields i ≡ Some f → f.number ≡ n → length (filter (λ (g : FieldRow). nat_lt g.number n) fields) ≡ i
+pub smaller_before : (low n : ℕ) (fields : List FieldRow) (i : ℕ) (f : FieldRow) → ascending_from low fields ≡ true → slice_get fields i ≡ Some f → f.number ≡ n → length (filter (λ (g : FieldRow). nat_lt g.number n) fields) ≡ i
 smaller_before low n [] i f h at is = absurd cc
 smaller_before low n (g ∷ fields) zero f h at is =
     let same : g ≡ f = cc in
