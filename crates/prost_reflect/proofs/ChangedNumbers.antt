@@ -12,15 +12,10 @@ use Rattle.prost_reflect_wire.specs.Grammar.{LEVEL_LIMIT, allows}
 use Rattle.prost_reflect_wire.proofs.Bodies.{items_body}
 use Rattle.prost_reflect_wire.proofs.RecordFronts.{record_parts, first_parts, levels_first, field_front, field_once, key_shorter, payload_no_longer}
 use Rattle.prost_reflect_laws.proofs.Older.{allowed_levels, items_level}
+use Rattle.prost_reflect_tables.proofs.OptionBytes.{whole_front, front_whole}
 use Rattle.prost_reflect_wire.specs.Levels.{greatest_level}
 use Rattle.prost_reflect_fields.specs.NumberSets.{has}
 use Rattle.prost_reflect.specs.Merged.{BeginsWith, HasNumbersOf}
-
-whole_front : (rs : Records) (bytes : List ℕ) → Spells rs bytes → RecordsFront rs bytes []
-whole_front rs bytes s = record { front = bytes; spelled = s; parts = sym (append-nil bytes) }
-
-front_whole : (rs : Records) (bytes : List ℕ) → RecordsFront rs bytes [] → Spells rs bytes
-front_whole rs bytes f = subst (λ (l : List ℕ). Spells rs l) (sym (f.parts ∙ append-nil f.front)) f.spelled
 
 -- What is left of the records of the bytes spells the rest, and the numbers of the others are in the set.
 pub record Left (rest : List ℕ) (numbers : BTreeSet ℕ) (rs : List Record) : Type 0 where

@@ -11,7 +11,7 @@ mod Escapes
 mod WorkedDefaults
 mod Flattening
 mod Numbering
-mod OptionBytes
+pub mod OptionBytes
 mod Sorting
 mod Grouping
 mod Gathering

@@ -43,10 +43,10 @@ bool_of_fault n levels (Group inside) e bytes rest f g = refl
 
 -- RECORDS
 
-whole_front : (rs : Records) (bytes : List ℕ) → Spells rs bytes → RecordsFront rs bytes []
+pub whole_front : (rs : Records) (bytes : List ℕ) → Spells rs bytes → RecordsFront rs bytes []
 whole_front rs bytes s = record { front = bytes; spelled = s; parts = sym (append-nil bytes) }
 
-front_whole : (rs : Records) (bytes : List ℕ) → RecordsFront rs bytes [] → Spells rs bytes
+pub front_whole : (rs : Records) (bytes : List ℕ) → RecordsFront rs bytes [] → Spells rs bytes
 front_whole rs bytes f = subst (λ (l : List ℕ). Spells rs l) (sym (f.parts ∙ append-nil f.front)) f.spelled
 
 bytes_left : (r : Record) (bytes rest : List ℕ) → AreBytes bytes → RecordFront r bytes rest → AreBytes rest

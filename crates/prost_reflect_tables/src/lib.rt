@@ -14,7 +14,7 @@ pub use build::build_tables;
 pub use build::defaults::written_default;
 pub use build::flatten::{Definition, Flat, FlatEnum, FlatMessage, FlatService, flattened};
 pub use build::index::{Index, indexed};
-pub use build::link::{linked, natural_or_zero};
+pub use build::link::{is_packable, linked, natural_or_zero};
 pub use build::names::text_or_empty;
 pub use build::resolve::{Resolved, ResolvedField, all_resolved};
 pub use catalog::{

@@ -1,15 +1,14 @@
 //! The forms of fields: one value, a list, or a map.
 
-ghost use Rattle.std.specs.Prelude.{◌≡◌, IsSome, IsSomeAnd};
-ghost use Rattle.prost_reflect_wire.specs.Schema.{is_list, is_map, is_packable as scalar_packable};
-ghost use Rattle.prost_reflect_tables.specs.Linking.{is_packable, is_repeated};
+ghost use Rattle.std.specs.Prelude.{◌≡◌};
+ghost use Rattle.prost_reflect_wire.specs.Schema.{is_list, is_map};
+ghost use Rattle.prost_reflect_tables.specs.Linking.{is_repeated};
 ghost use Rattle.prost_reflect_tables.specs.Rows.{field_row};
 ghost use Rattle.prost_reflect_tables.specs.Shown.{schema_field};
 ghost use Rattle.prost_reflect_pool.specs.Pools.{pool_rows};
-ghost use Rattle.prost_reflect.specs.Scalars.{plain_kind};
 
 use prost_reflect_pool::LinkedPool;
-use prost_reflect_tables::{Cardinality, FieldTable, TableKind};
+use prost_reflect_tables::{Cardinality, FieldTable};
 
 /// Whether a field of the label has a list of values, or a map.
 pub(crate) fn is_repeated(cardinality: Cardinality) -> bool
@@ -30,15 +29,4 @@ pub(crate) fn is_map(pool: &LinkedPool, field: &FieldTable) -> bool
     ensures { result ≡ is_map (schema_field (pool_rows pool.now) (field_row field.now)).form }
 {
     pool.map_parts(field).is_some()
-}
-
-/// Whether a list of the kind may be written as one record: of all kinds but string, bytes and messages.
-pub(crate) fn is_packable(kind: TableKind) -> bool
-    ensures kind { result ≡ is_packable kind }
-    ensures scalar { IsSome (plain_kind kind) → IsSomeAnd (plain_kind kind) (λ k. scalar_packable k ≡ result) }
-{
-    !matches!(
-        kind,
-        TableKind::String | TableKind::Bytes | TableKind::Message(_)
-    )
 }

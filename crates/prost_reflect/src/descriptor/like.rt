@@ -10,9 +10,9 @@ ghost use Rattle.prost_reflect.specs.RowLaws.{takes_by_row, row_form, HasByRow, 
 ghost use Rattle.prost_reflect.specs.View.{value_of};
 ghost use Rattle.prost_reflect.specs.declared.descriptor.pool.DescriptorPool.{DescriptorPool};
 
-use crate::descriptor::forms::is_packable;
 use crate::descriptor::{ExtensionDescriptor, FieldDescriptor, Kind, OneofDescriptor};
 use crate::value::Value;
+use prost_reflect_tables::is_packable;
 use std::alloc::{AllocError, Global};
 
 /// A field of a message type, or an extension of one: what is asked of either alike.

@@ -1,9 +1,10 @@
 //! Linking: the tables that files in flat lists give.
 
-ghost use Rattle.std.specs.Prelude.{◌≡◌, ◌<◌, ◌++◌, length, IfOk, OnOk, map, option_map, true, false};
+ghost use Rattle.std.specs.Prelude.{◌≡◌, ◌<◌, ◌++◌, length, IfOk, IsSome, IsSomeAnd, OnOk, map, option_map, true, false};
 ghost use Rattle.std.specs.List.{list_all};
 ghost use Rattle.std.specs.List.Sorted.{IsNonDecreasingBy};
 ghost use Rattle.prost_reflect_wire.specs.Scalar.{in_i32};
+ghost use Rattle.prost_reflect_wire.specs.Schema.{is_packable as scalar_packable};
 ghost use Rattle.prost_reflect_tables.specs.Rows.{identity_row, field_row, oneof_row, message_row, enum_value_row, enum_row, written_scalar, rows_from};
 ghost use Rattle.prost_reflect_tables.specs.declared.tables.FieldTable.{FieldTable};
 ghost use Rattle.prost_reflect_tables.specs.FlatViews.{definition_row, flat_rows};
@@ -13,6 +14,7 @@ ghost use Rattle.prost_reflect_tables.specs.InRange.{enum_in_range, in_range};
 ghost use Rattle.prost_reflect_tables.specs.Indexed.{IsIndex};
 ghost use Rattle.prost_reflect_tables.specs.Resolved.{resolved_row, resolved_lists, resolved_field, IsResolved};
 ghost use Rattle.prost_reflect_tables.specs.Indexing.{empty_lists, with_item, grouped, list_rows, messages_with};
+ghost use Rattle.prost_reflect_tables.specs.WrittenDefaults.{plain_kind};
 
 use crate::build::defaults::written_default;
 use crate::build::flatten::{Definition, Flat, FlatEnum, FlatMessage};
@@ -88,8 +90,10 @@ fn is_message(kind: TableKind) -> bool
     matches!(kind, TableKind::Message(_))
 }
 
-fn is_packable(kind: TableKind) -> bool
-    ensures { result ≡ is_packable kind }
+/// Whether a list of the kind may be written as one record: of all kinds but string, bytes and messages.
+pub fn is_packable(kind: TableKind) -> bool
+    ensures kind { result ≡ is_packable kind }
+    ensures scalar { IsSome (plain_kind kind) → IsSomeAnd (plain_kind kind) (λ k. scalar_packable k ≡ result) }
 {
     !matches!(
         kind,

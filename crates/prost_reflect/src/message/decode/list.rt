@@ -9,11 +9,10 @@ ghost use Rattle.prost_reflect.specs.Lists.{AddsPacked, RefusesPacked, AddsEleme
 ghost use Rattle.prost_reflect.specs.Scalars.{plain_kind};
 ghost use Rattle.prost_reflect.specs.View.{value_of, content_of, message_type_of};
 
-use crate::descriptor::forms::is_packable;
 use crate::message::DynamicMessage;
 use crate::message::decode::scalar::{scalar_at, wire_type_of};
 use crate::value::Value;
-use prost_reflect_tables::TableKind;
+use prost_reflect_tables::{TableKind, is_packable};
 use prost_reflect_wire::{DecodeError, FieldNumber, WireType, delimited_at};
 use std::alloc::Global;
 use std::mem;
