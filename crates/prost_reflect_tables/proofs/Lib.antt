@@ -1,5 +1,6 @@
 mod Walks
 mod Resolving
+mod EntryFlags
 mod Ascending
 pub mod Keeping
 pub mod Fields

@@ -10,6 +10,7 @@ ghost use Rattle.prost_reflect_tables.specs.declared.tables.FieldTable.{FieldTab
 ghost use Rattle.prost_reflect_tables.specs.FlatViews.{definition_row, flat_rows};
 ghost use Rattle.prost_reflect_tables.specs.FlatViews as flat_views;
 ghost use Rattle.prost_reflect_tables.specs.Linking.{links_of, natural_or_zero, place_in, kind_of_code, linked_kind, is_message, is_packable, cardinality_of_label, linked_packed, linked_presence, linked_default, linked_identity, linked_field, in_order, fields_of_message, declared_fields, extended_place, oneof_place, member_place, oneofs_from, linked_message, messages_from, linked_value, linked_enum, linked_rows};
+ghost use Rattle.prost_reflect_tables.specs.EntryFaults.{is_entry};
 ghost use Rattle.prost_reflect_tables.specs.InRange.{enum_in_range, in_range};
 ghost use Rattle.prost_reflect_tables.specs.Indexed.{IsIndex};
 ghost use Rattle.prost_reflect_tables.specs.Resolved.{resolved_row, resolved_lists, resolved_field, IsResolved};
@@ -338,8 +339,10 @@ fn linked_oneofs(
 fn linked_message(
     alloc: Global,
     message: &FlatMessage,
+    is_map_entry: bool,
     fields: Vec<FieldTable>,
 ) -> Result<MessageTable, AllocError>
+    requires { is_map_entry ≡ is_entry (flat_views.message_row message.now) }
     ensures { IfOk result (λ m. message_row m ≡ linked_message (map field_row fields.items) (flat_views.message_row message.now)) }
 {
     let mut fields = fields;
@@ -353,24 +356,27 @@ fn linked_message(
     let definition = &message.definition;
     Ok(MessageTable {
         id: linked_identity(alloc, definition, &definition.proto.name)?,
-        is_map_entry: bool_option(7, &definition.proto.options).unwrap_or(false),
+        is_map_entry,
         fields,
         oneofs,
     })
 }
 
-/// Each message with its fields and extensions.
+/// Each message with its fields and extensions; the flags say which are entries of maps.
 fn linked_messages(
     alloc: Global,
     lists: Vec<Vec<FieldTable>>,
     messages: &[FlatMessage],
+    entries: &[bool],
 ) -> Result<Vec<MessageTable>, AllocError>
-    requires { length lists.items ≡ length messages.now }
+    requires lists { length lists.items ≡ length messages.now }
+    requires entries { entries.now ≡ map is_entry (map flat_views.message_row messages.now) }
     ensures { IfOk result (λ v. map message_row v.items ≡ messages_with (list_rows lists.items) (map flat_views.message_row messages.now)) }
 {
     let mut tables = Vec::new(alloc);
     for (place, fields) in lists.into_iter().enumerate() {
-        tables.push(linked_message(alloc, &messages[place], fields)?)?;
+        let is_map_entry = entries[place];
+        tables.push(linked_message(alloc, &messages[place], is_map_entry, fields)?)?;
     }
     Ok(tables)
 }
@@ -439,6 +445,11 @@ pub fn linked(
 {
     let mut lists = declared_by_message(alloc, resolved.fields.as_slice())?;
     add_extensions(alloc, &mut lists, resolved.extensions.as_slice())?;
-    let messages = linked_messages(alloc, lists, flat.messages.as_slice())?;
+    let messages = linked_messages(
+        alloc,
+        lists,
+        flat.messages.as_slice(),
+        resolved.entries.as_slice(),
+    )?;
     Ok((messages, linked_enums(alloc, flat.enums.as_slice())?))
 }

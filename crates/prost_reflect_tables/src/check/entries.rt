@@ -2,17 +2,16 @@
 
 ghost use Rattle.std.specs.Prelude.{◌≡◌, map};
 ghost use Rattle.std.specs.List.{list_any};
-ghost use Rattle.prost_reflect_tables.specs.EntryFaults.{is_key_type, is_plain, is_entry_key, is_entry_value, is_key_and_value, entry_bad, is_entry_message, names_entry, is_of_entry, wrongly_of_entry, method_of_entry, bad_map_entry};
+ghost use Rattle.prost_reflect_tables.specs.EntryFaults.{is_entry, is_key_type, is_plain, is_entry_key, is_entry_value, is_key_and_value, entry_bad, is_entry_message, names_entry, is_of_entry, wrongly_of_entry, method_of_entry, bad_map_entry};
 ghost use Rattle.prost_reflect_tables.specs.FlatViews.{definition_row, message_row, flat_rows};
 ghost use Rattle.prost_reflect_tables.specs.Resolved.{resolved_row, IsResolved};
 ghost use Rattle.prost_reflect_tables.specs.ResolvedFaults.{message_of, found_of_entry, wrongly_found};
 
 use crate::build::flatten::{Definition, Flat, FlatMessage};
 use crate::build::index::message_place;
-use crate::build::options::is_entry;
 use crate::build::resolve::{Resolved, ResolvedField};
 use crate::check::fields::{is_code, is_message_type, is_type};
-use crate::check::walk::{any_message, any_method, any_resolved_extension, any_resolved_field};
+use crate::check::walk::{any_method, any_resolved_extension, any_resolved_field};
 use prost_reflect_types::{FieldDescriptorProto, MethodDescriptorProto};
 
 // KEYS AND VALUES
@@ -59,12 +58,26 @@ fn is_key_and_value(fields: &[Definition<FieldDescriptorProto>]) -> bool
     }
 }
 
-fn is_entry_bad(message: &FlatMessage) -> bool
+/// Whether a message is a map's entry, as the flag says, and not a key and a value alone.
+fn is_entry_bad(is_marked: bool, message: &FlatMessage) -> bool
+    requires { is_marked ≡ is_entry (message_row message.now) }
     ensures { result ≡ entry_bad (message_row message.now) }
 {
-    is_entry(message)
+    is_marked
         && !(is_key_and_value(message.fields.as_slice())
             && message.definition.proto.extension_range.is_empty())
+}
+
+fn has_entry_bad(resolved: &Resolved, flat: &Flat) -> bool
+    requires { IsResolved resolved.now (flat_rows flat.now) }
+    ensures { result ≡ list_any entry_bad (flat_rows flat.now).messages }
+{
+    for (place, message) in flat.messages.iter().enumerate() {
+        if is_entry_bad(resolved.entries[place], message) {
+            return true;
+        }
+    }
+    false
 }
 
 // WHAT NAMES AN ENTRY
@@ -150,7 +163,7 @@ pub fn has_bad_map_entry(resolved: &Resolved, flat: &Flat) -> bool
     requires { IsResolved resolved.now (flat_rows flat.now) }
     ensures { result ≡ bad_map_entry (flat_rows flat.now) }
 {
-    any_message(flat.messages.as_slice(), &is_entry_bad)
+    has_entry_bad(resolved, flat)
         || has_wrongly_of_entry(resolved, flat)
         || has_extension_of_entry(resolved, flat)
         || has_method_of_entry(resolved, flat)

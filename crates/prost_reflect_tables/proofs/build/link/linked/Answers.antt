@@ -11,8 +11,8 @@ use Rattle.prost_reflect_tables.proofs.Grouping.{lists_length, messages_linked, 
 use Rattle.prost_reflect_tables.proofs.Resolving.{lists_are, grouped_are}
 use Rattle.prost_reflect_tables.proofs.build.link.linked.Goals as goal
 
-pub linked_messages-requires : goal.linked_messages-requires
-linked_messages-requires c =
+pub linked_messages-requires-clause-lists : goal.linked_messages-requires-clause-lists
+linked_messages-requires-clause-lists c =
     let flat = c.args.flat.now in
     let rows = flat_rows flat in
     let links = links_of rows in
@@ -45,4 +45,4 @@ returns-clause-rows c =
     let messages = c.in_ok-messages.ensures ∙ ap (λ (ms : List FlatMessage). messages_with (list_rows new) (map message_row ms)) c.as_slice-3.ensures.value in
     rows_linked c.in_ok-messages.messages.items c.in_ok-linked_enums.field-0.items rows
     (messages_linked links rows.extensions rows.messages old new c.in_ok-messages.messages.items declared extended messages)
-    (c.in_ok-linked_enums.ensures.rows ∙ ap (λ (es : List FlatEnum). map linked_enum (map enum_row es)) c.as_slice-4.ensures.value)
+    (c.in_ok-linked_enums.ensures.rows ∙ ap (λ (es : List FlatEnum). map linked_enum (map enum_row es)) c.as_slice-5.ensures.value)
