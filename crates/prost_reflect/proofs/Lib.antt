@@ -34,6 +34,8 @@ pub mod CopiedPairs
 pub mod StoredViews
 pub mod StoredContents
 mod DeepTypes
+mod TypedSteps
+mod TypedValues
 mod ListElements
 mod ListMerging
 mod NumberMerging

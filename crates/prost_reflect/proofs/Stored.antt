@@ -193,7 +193,8 @@ module _ (m : DynamicMessage) (p : Kept) where
 
 -- WRITING ACCESS
 
-prepared_value : (fields : List Field) (es : List (ℕ × FieldSlot Value)) (n : ℕ) (default v : Value) → IsAscending es → value_at (prepared fields es n default) n ≡ Some v → v ≡ unwrap_or (value_at es n) default
+-- what is lent is what was stored, or the default
+pub prepared_value : (fields : List Field) (es : List (ℕ × FieldSlot Value)) (n : ℕ) (default v : Value) → IsAscending es → value_at (prepared fields es n default) n ≡ Some v → v ≡ unwrap_or (value_at es n) default
 prepared_value fields es n default v s h = cases (value_at es n) refl h
   where
     one : (x y : Value) → Some x ≡ Some y → y ≡ x

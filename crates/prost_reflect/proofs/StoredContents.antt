@@ -148,7 +148,7 @@ value_layers x y is = subst (λ z. value_content (stored_of z) ≡ shown_of z) i
 message_layers : (x : MessageLayer) (y : DynamicMessage-F Values-Such Messages-Such) → map-DynamicMessage Values-Such Messages-Such Value DynamicMessage value_in message_in y ≡ x → content_from (message_stored_of x) ≡ message_shown_of x
 message_layers x y is = subst (λ z. content_from (message_stored_of z) ≡ message_shown_of z) is (message_layer_follows y)
 
-value_follows : (v : Value) → ValueFollows v
+pub value_follows : (v : Value) → ValueFollows v
 unfolding stored_of shown_of message_stored_of message_shown_of
 value_follows = ind-Value ValueFollows MessageFollows
     (λ x y is. ap value_content (fold-roll-Value StoredValue StoredMessage stored_step stored_message_step x) ∙ value_layers x y is ∙ sym (fold-roll-Value contents.Value Content value_step message_step x))

@@ -35,7 +35,7 @@ use Rattle.prost_reflect.specs.declared.value.Value.TheFolds.{fold-roll-Value, f
 use Rattle.prost_reflect.specs.declared.message.DynamicMessage.{DynamicMessage}
 use Rattle.prost_reflect_fields.specs.formers.field_set.FieldSet.{slot_former}
 use Rattle.prost_reflect.specs.View.{message_type_of, stored_in, key_of}
-use Rattle.prost_reflect.specs.Stored.{StoredMessage, MessageOf, StoredEntries, NothingStored, StoredValue, StoredScalar, StoredList, StoredMap, ItemThen, PairThen, stored_items, stored_pairs, stored_entry, stored_entries, stored_step, stored_message_step, value_stored, message_stored}
+use Rattle.prost_reflect.specs.Stored.{StoredMessage, MessageOf, StoredEntries, NothingStored, StoredValue, StoredScalar, StoredInside, StoredList, StoredMap, ItemThen, PairThen, stored_items, stored_pairs, stored_entry, stored_entries, stored_step, stored_message_step, value_stored, message_stored}
 use Rattle.prost_reflect.specs.Same.{same_message, same_value, same_items, same_pairs, same_entries, equal_values, equal_messages}
 
 -- LISTS OF VALUES
@@ -47,7 +47,7 @@ items_mapped : (vs : List Value) → stored_items seen (map value_stored vs) ≡
 items_mapped [] = refl
 items_mapped (v ∷ vs) = ap (ItemThen (value_stored v)) (items_mapped vs)
 
-pairs_mapped : (es : List (MapKey × Value)) → stored_pairs seen (map (λ (e : MapKey × Value). (e.0, value_stored e.1)) es) ≡ stored_pairs value_stored es
+pub pairs_mapped : (es : List (MapKey × Value)) → stored_pairs seen (map (λ (e : MapKey × Value). (e.0, value_stored e.1)) es) ≡ stored_pairs value_stored es
 pairs_mapped [] = refl
 pairs_mapped (e ∷ es) = ap (PairThen (key_of e.0) (value_stored e.1)) (pairs_mapped es)
 
@@ -72,6 +72,10 @@ stored_text text = fold-roll-Value StoredValue StoredMessage stored_step stored_
 pub stored_bytes : (bytes : Vec ℕ Global) → value_stored (values.Bytes bytes) ≡ StoredScalar (scalars.Bytes bytes.items)
 unfolding roll-Value Carrier.roll
 stored_bytes bytes = fold-roll-Value StoredValue StoredMessage stored_step stored_message_step (Value-F.Bytes bytes)
+
+pub stored_inside : (m : DynamicMessage) → value_stored (values.Message m) ≡ StoredInside (message_stored m)
+unfolding roll-Value Carrier.roll
+stored_inside m = fold-roll-Value StoredValue StoredMessage stored_step stored_message_step (Value-F.Message m)
 
 pub stored_list : (vs : Vec Value Global) → value_stored (values.List vs) ≡ StoredList (stored_items value_stored vs.items)
 unfolding roll-Value Carrier.roll

@@ -26,6 +26,7 @@ pub mod Encodables
 pub mod Present
 pub mod Defaults
 pub mod DeepTypes
+pub mod TypedSteps
 pub mod Valid
 pub mod RowLaws
 pub mod RowLawProofs

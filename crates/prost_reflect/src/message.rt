@@ -22,6 +22,9 @@ ghost use Rattle.prost_reflect.specs.Named.{IsNamed, NamesSame, schema_named, ty
 ghost use Rattle.prost_reflect.specs.Contents.{value_set, value_cleared, unknown_added};
 ghost use Rattle.prost_reflect.specs.Defaults.{IsEmptyOf};
 ghost use Rattle.prost_reflect.specs.Merged.{IsJoined};
+ghost use Rattle.prost_reflect.specs.DeepTypes.{all_typed};
+ghost use Rattle.prost_reflect.specs.Stored.{message_stored, value_stored};
+ghost use Rattle.prost_reflect.specs.TypedSteps.{typed_at, StaysTyped};
 
 mod access;
 mod copy;
@@ -71,6 +74,7 @@ impl DynamicMessage {
         ensures message_type { IsNamed descriptor (message_type_of result) }
         ensures content { content_of result ≡ empty (schema_named descriptor) (type_named descriptor) }
         ensures nothing { stored_in result ≡ [] }
+        ensures typed { all_typed (message_stored result) ≡ true }
     {
         DynamicMessage::of_type(alloc, descriptor.into_type())
     }
@@ -151,6 +155,7 @@ impl DynamicMessage {
         requires { is_known (known_of (message_type_of self.old)) number ≡ true }
         ensures message_type { message_type_of self.new ≡ message_type_of self.old }
         ensures content { OnOk result (content_of self.new ≡ value_set number (value_of value) (content_of self.old)) }
+        ensures typed { OnOk result (typed_at (message_type_of self.old) number (value_stored value) ≡ true → StaysTyped self.old self.new) }
         ensures err { OnErr result (self.new ≡ self.old) }
     {
         self.fields.set(number, value)
@@ -182,6 +187,7 @@ impl DynamicMessage {
         requires kept { keeps_unknown (known_of (message_type_of self.old)) number (record_of field).payload ≡ true }
         ensures message_type { message_type_of self.new ≡ message_type_of self.old }
         ensures content { OnOk result (content_of self.new ≡ unknown_added (record_of field) (content_of self.old)) }
+        ensures typed { OnOk result (StaysTyped self.old self.new) }
         ensures err { OnErr result (content_of self.new ≡ content_of self.old) }
     {
         self.fields.add_unknown(number, field)
@@ -197,6 +203,7 @@ impl DynamicMessage {
         requires whole { HasWholeOneofs (known_of (message_type_of self.old)) numbers.now }
         ensures message_type { message_type_of self.new ≡ message_type_of self.old }
         ensures content { OnOk result (IsJoined (has numbers.now) (content_of self.old) (content_of others) (content_of self.new)) }
+        ensures typed { OnOk result (all_typed (message_stored others) ≡ true → StaysTyped self.old self.new) }
         ensures err { OnErr result (self.new ≡ self.old) }
     {
         let DynamicMessage { fields } = others;
@@ -212,6 +219,7 @@ impl DynamicMessage {
     ) -> Result<&mut Value, AllocError>
         requires { is_known (known_of (message_type_of self.old)) number ≡ true }
         ensures* writes_back { sem 𝓛 (LendsIfOk the_row value.the_row self.entry result (written_at self.old number default) self.old) }
+        ensures stored { IfOk result (λ lent. lent.now ≡ unwrap_or (stored_at (stored_in self.old) number) default) }
         ensures value { IfOk result (λ lent. value_of lent.now ≡ unwrap_or (value_at number (entries_of (content_of self.old))) (value_of default)) }
         ensures message_type { (v : Value) → message_type_of (written_at self.old number default v) ≡ message_type_of self.old }
         ensures content { (v : Value) → content_of (written_at self.old number default v) ≡ value_set number (value_of v) (content_of self.old) }

@@ -8,6 +8,7 @@ ghost use Rattle.prost_reflect.specs.View.{content_of, message_type_of};
 ghost use Rattle.prost_reflect.specs.Merged.{IsJoined};
 ghost use Rattle.prost_reflect.specs.Copies.{SameStored, SameStoring, SameSlot, pairs_seen};
 ghost use Rattle.prost_reflect.specs.Stored.{value_stored, message_stored};
+ghost use Rattle.prost_reflect.specs.TypedSteps.{StaysTyped};
 
 use crate::message::DynamicMessage;
 use crate::value::{MapKey, Value};
@@ -39,6 +40,7 @@ impl DynamicMessage {
     pub(super) fn clone_at(&self, numbers: &BTreeSet<u32>) -> Result<DynamicMessage, AllocError>
         ensures message_type { IfOk result (λ part. SameMessage (message_type_of self.now) (message_type_of part)) }
         ensures content { IfOk result (λ part. IsJoined (has numbers.now) (cleared (content_of self.now)) (content_of self.now) (content_of part)) }
+        ensures typed { IfOk result (λ part. StaysTyped self.now part) }
     {
         let mut fields = SortedMap::new(self.fields.allocator());
         for (number, slot) in self.fields.slots() {

@@ -1,6 +1,6 @@
 //! Reading messages (the encoding guide, "Message Structure", "Last One Wins" and "Unknown Fields").
 
-ghost use Rattle.std.specs.Prelude.{◌≡◌, ◌≢◌, ◌<◌, ◌^◌, [], length, Some, None, IfOk, IfErr};
+ghost use Rattle.std.specs.Prelude.{◌≡◌, ◌≢◌, ◌<◌, ◌^◌, true, [], length, Some, None, IfOk, IfErr};
 ghost use Rattle.prost_reflect_wire.specs.Content.{schema_of, type_of};
 ghost use Rattle.prost_reflect_wire.specs.Grammar.{LEVEL_LIMIT, Accepts};
 ghost use Rattle.prost_reflect_wire.specs.Meaning.{decoded};
@@ -17,6 +17,9 @@ ghost use Rattle.prost_reflect_pool.specs.SharedPools.{pool_rows};
 ghost use Rattle.prost_reflect.specs.Targets.{IsTarget, target_of, repeated_target_of, element_target_of, entry_target_of};
 ghost use Rattle.prost_reflect.specs.View.{content_of, message_type_of};
 ghost use Rattle.prost_reflect.specs.ReadBack.{MeansSame};
+ghost use Rattle.prost_reflect.specs.DeepTypes.{all_typed};
+ghost use Rattle.prost_reflect.specs.Stored.{message_stored};
+ghost use Rattle.prost_reflect.specs.TypedSteps.{StaysTyped};
 
 mod elements;
 mod enum_list;
@@ -61,6 +64,7 @@ impl DynamicMessage {
         ensures message_type { IfOk result (λ message. IsNamed descriptor (message_type_of message)) }
         ensures means { IfOk result (λ message. decoded (schema_named descriptor) LEVEL_LIMIT (type_named descriptor) bytes.now ≡ Some (kept (content_of message))) }
         ensures sound { IfOk result (λ message. WellStored (content_of message)) }
+        ensures typed { IfOk result (λ message. all_typed (message_stored message) ≡ true) }
         ensures again { IfOk result (λ message. length (encoded (kept (content_of message))) < 2 ^ 64 → MeansSame (schema_named descriptor) (type_named descriptor) bytes.now (encoded (kept (content_of message)))) }
         ensures accepts { IfOk result (λ _. Accepts (schema_named descriptor) LEVEL_LIMIT (type_named descriptor) bytes.now) }
         ensures fault { IfErr result (λ e. e ≢ DecodeError.OutOfMemory → StandsInMessage (schema_named descriptor) (type_named descriptor) LEVEL_LIMIT e bytes.now) }
@@ -82,6 +86,7 @@ impl DynamicMessage {
         requires sound { WellStored (content_of self.old) }
         ensures ok { IfOk result (λ _. Progress levels (content_of self.old) (content_of self.new) bytes.now []) }
         ensures message_type { message_type_of self.new ≡ message_type_of self.old }
+        ensures typed { IfOk result (λ _. StaysTyped self.old self.new) }
         ensures fault { IfErr result (λ e. e ≢ DecodeError.OutOfMemory → StandsInMessage (schema_of (content_of self.old)) (type_of (content_of self.old)) levels e bytes.now) }
     {
         let mut rest = bytes;
@@ -106,6 +111,7 @@ impl DynamicMessage {
         requires sound { WellStored (content_of self.old) }
         ensures ok { IfOk result (λ rest. Step levels number.value wire_type (content_of self.old) (content_of self.new) bytes.now rest.now) }
         ensures message_type { message_type_of self.new ≡ message_type_of self.old }
+        ensures typed { IfOk result (λ _. StaysTyped self.old self.new) }
         ensures fault { IfErr result (λ e. e ≢ DecodeError.OutOfMemory → StandsBehindKey (content_of self.old) levels number.value wire_type e bytes.now) }
     {
         match target_at(self.message_type(), number.get()) {
@@ -147,6 +153,7 @@ impl DynamicMessage {
         requires field { PlainField (message_type_of self.old) number.value kind }
         ensures ok { IfOk result (λ rest. Step levels number.value wire_type (content_of self.old) (content_of self.new) bytes.now rest.now) }
         ensures message_type { message_type_of self.new ≡ message_type_of self.old }
+        ensures typed { IfOk result (λ _. StaysTyped self.old self.new) }
         ensures fault { IfErr result (λ e. e ≢ DecodeError.OutOfMemory → StandsBehindKey (content_of self.old) levels number.value wire_type e bytes.now) }
     {
         let (value, rest) = scalar_at(alloc, kind, wire_type, bytes)?;
@@ -170,6 +177,7 @@ impl DynamicMessage {
         requires unknown { StaysUnknown (known_of (message_type_of self.old)) levels number.value wire_type bytes.now }
         ensures ok { IfOk result (λ rest. Step levels number.value wire_type (content_of self.old) (content_of self.new) bytes.now rest.now) }
         ensures message_type { message_type_of self.new ≡ message_type_of self.old }
+        ensures typed { IfOk result (λ _. StaysTyped self.old self.new) }
         ensures fault { IfErr result (λ e. e ≢ DecodeError.OutOfMemory → StandsBehindKey (content_of self.old) levels number.value wire_type e bytes.now) }
     {
         let (value, rest) = value_at(alloc, number, wire_type, bytes, levels)?;

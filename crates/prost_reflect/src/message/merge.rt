@@ -1,6 +1,6 @@
 //! Merging bytes into messages (the encoding guide, "Last One Wins").
 
-ghost use Rattle.std.specs.Prelude.{◌≡◌, ◌≢◌, ℕ, List, IfOk, IfErr, IfSome, IfNone};
+ghost use Rattle.std.specs.Prelude.{◌≡◌, ◌≢◌, ℕ, true, List, IfOk, IfErr, IfSome, IfNone};
 ghost use Rattle.prost_reflect_wire.specs.Record.{Record};
 ghost use Rattle.prost_reflect_wire.specs.Front.{FieldFront};
 ghost use Rattle.prost_reflect_wire.specs.Content.{schema_of, type_of};
@@ -13,6 +13,8 @@ ghost use Rattle.prost_reflect_fields.specs.Known.{known_of};
 ghost use Rattle.prost_reflect_fields.specs.NumberSets.{HasWholeOneofs};
 ghost use Rattle.prost_reflect.specs.Merged.{IsMerged, HasNumbersOf, BeginsWith};
 ghost use Rattle.prost_reflect.specs.View.{content_of, message_type_of};
+ghost use Rattle.prost_reflect.specs.DeepTypes.{all_typed};
+ghost use Rattle.prost_reflect.specs.Stored.{message_stored};
 
 use crate::message::DynamicMessage;
 use prost_reflect_fields::number_sets::add_number;
@@ -48,6 +50,7 @@ impl DynamicMessage {
         ensures accepted { IfErr result (λ e. Accepts (schema_of (content_of self.old)) LEVEL_LIMIT (type_of (content_of self.old)) bytes.now → e ≡ DecodeError.OutOfMemory) }
         ensures unchanged { IfErr result (λ _. self.new ≡ self.old) }
         ensures sound { WellStored (content_of self.new) }
+        ensures typed { all_typed (message_stored self.old) ≡ true → all_typed (message_stored self.new) ≡ true }
     {
         let alloc = self.fields.allocator();
         let numbers = numbers_in(alloc, self.message_type(), bytes)?;

@@ -10,6 +10,8 @@ ghost use Rattle.prost_reflect_fields.specs.Known.{known_of, is_known};
 ghost use Rattle.prost_reflect.specs.Lists.{IsList, IsListOrNone, with_element};
 ghost use Rattle.prost_reflect.specs.Targets.{NestedList};
 ghost use Rattle.prost_reflect.specs.View.{value_of, content_of, message_type_of};
+ghost use Rattle.prost_reflect.specs.Stored.{value_stored};
+ghost use Rattle.prost_reflect.specs.TypedSteps.{element_typed, item_added, StaysTyped};
 
 use crate::message::DynamicMessage;
 use crate::message::decode::nested::{MessageKind, empty_message};
@@ -34,6 +36,7 @@ impl DynamicMessage {
         requires field { NestedList (message_type_of self.old) number.value kind.place kind.is_group }
         ensures ok { IfOk result (λ rest. Step levels number.value wire_type (content_of self.old) (content_of self.new) bytes.now rest.now) }
         ensures message_type { message_type_of self.new ≡ message_type_of self.old }
+        ensures typed { IfOk result (λ _. StaysTyped self.old self.new) }
         ensures fault { IfErr result (λ e. e ≢ DecodeError.OutOfMemory → StandsBehindKey (content_of self.old) levels number.value wire_type e bytes.now) }
     {
         let mut element = empty_message(alloc, self.message_type(), kind.place)?;
@@ -53,6 +56,7 @@ impl DynamicMessage {
         requires list { IsListOrNone (value_at number (entries_of (content_of self.old))) }
         ensures message_type { message_type_of self.new ≡ message_type_of self.old }
         ensures content { IfOk result (λ _. content_of self.new ≡ value_set number (with_element (value_at number (entries_of (content_of self.old))) (value_of element)) (content_of self.old)) }
+        ensures typed { IfOk result (λ _. element_typed (message_type_of self.old) number (value_stored element) ≡ true → StaysTyped self.old self.new) }
     {
         let value = self.value_mut_or(number, Value::List(Vec::new(alloc)))?;
         push_item(value, element)
@@ -62,7 +66,8 @@ impl DynamicMessage {
 /// Adds a value behind the elements of the list that a value is.
 fn push_item(value: &mut Value, element: Value) -> Result<(), AllocError>
     requires { IsList (value_of value.old) }
-    ensures { IfOk result (λ _. value_of value.new ≡ with_element (Some (value_of value.old)) (value_of element)) }
+    ensures value { IfOk result (λ _. value_of value.new ≡ with_element (Some (value_of value.old)) (value_of element)) }
+    ensures stored { IfOk result (λ _. value_stored value.new ≡ item_added (value_stored value.old) (value_stored element)) }
 {
     match mem::replace(value, Value::Bool(false)) {
         Value::List(mut values) => {

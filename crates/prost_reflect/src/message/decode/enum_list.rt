@@ -14,6 +14,7 @@ ghost use Rattle.prost_reflect_fields.specs.Known.{known_of, is_known};
 ghost use Rattle.prost_reflect.specs.Numbers.{NumberList, BodyTaken, number_taken};
 ghost use Rattle.prost_reflect_pool.specs.SharedPools.{pool_rows};
 ghost use Rattle.prost_reflect.specs.View.{content_of, message_type_of};
+ghost use Rattle.prost_reflect.specs.TypedSteps.{StaysTyped};
 
 use crate::message::DynamicMessage;
 use crate::message::enums::is_stray;
@@ -58,6 +59,7 @@ impl DynamicMessage {
         requires field { NumberList (message_type_of self.old) number.value kind }
         ensures ok { IfOk result (λ rest. Step levels number.value wire_type (content_of self.old) (content_of self.new) bytes.now rest.now) }
         ensures message_type { message_type_of self.new ≡ message_type_of self.old }
+        ensures typed { IfOk result (λ _. StaysTyped self.old self.new) }
         ensures fault { IfErr result (λ e. e ≢ DecodeError.OutOfMemory → StandsBehindKey (content_of self.old) levels number.value wire_type e bytes.now) }
     {
         if wire_type == WireType::LengthDelimited {
@@ -87,6 +89,7 @@ impl DynamicMessage {
         requires field { NumberList (message_type_of self.old) number.value kind }
         ensures ok { IfOk result (λ _. BodyTaken (message_type_of self.old) number.value kind (content_of self.old) (content_of self.new) body.now) }
         ensures message_type { message_type_of self.new ≡ message_type_of self.old }
+        ensures typed { IfOk result (λ _. StaysTyped self.old self.new) }
         ensures fault { IfErr result (λ e. e ≢ DecodeError.OutOfMemory → ElementFault wires.Varint e body.now) }
     {
         self.make_list(alloc, number.get())?;
@@ -110,6 +113,7 @@ impl DynamicMessage {
         requires sound { WellStored (content_of self.old) }
         requires field { NumberList (message_type_of self.old) number.value kind }
         ensures message_type { message_type_of self.new ≡ message_type_of self.old }
+        ensures typed { IfOk result (λ _. StaysTyped self.old self.new) }
         ensures content { IfOk result (λ _. content_of self.new ≡ number_taken (pool_rows (message_type_of self.old).pool).enums number.value kind value (content_of self.old)) }
     {
         let element = Value::EnumNumber(low_i32(value));
@@ -124,6 +128,7 @@ impl DynamicMessage {
     fn make_list(&mut self, alloc: Global, number: u32) -> Result<(), AllocError>
         requires known { is_known (known_of (message_type_of self.old)) number ≡ true }
         ensures message_type { message_type_of self.new ≡ message_type_of self.old }
+        ensures typed { IfOk result (λ _. StaysTyped self.old self.new) }
         ensures content { IfOk result (λ _. content_of self.new ≡ value_set number (unwrap_or (value_at number (entries_of (content_of self.old))) (ListValue NoValues)) (content_of self.old)) }
     {
         self.value_mut_or(number, Value::List(Vec::new(alloc)))?;

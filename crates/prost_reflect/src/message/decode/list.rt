@@ -8,6 +8,7 @@ ghost use Rattle.prost_reflect_fields.specs.Known.{known_of};
 ghost use Rattle.prost_reflect.specs.Lists.{AddsPacked, RefusesPacked, AddsElements, RefusesElements, JoinsElements, IsList, ListField};
 ghost use Rattle.prost_reflect.specs.Scalars.{plain_kind};
 ghost use Rattle.prost_reflect.specs.View.{value_of, content_of, message_type_of};
+ghost use Rattle.prost_reflect.specs.TypedSteps.{StaysTyped};
 
 use crate::message::DynamicMessage;
 use crate::message::decode::scalar::{scalar_at, wire_type_of};
@@ -106,6 +107,7 @@ impl DynamicMessage {
         requires field { ListField (known_of (message_type_of self.old)) number.value kind }
         ensures ok { IfOk result (λ rest. Step levels number.value wire_type (content_of self.old) (content_of self.new) bytes.now rest.now) }
         ensures message_type { message_type_of self.new ≡ message_type_of self.old }
+        ensures typed { IfOk result (λ _. StaysTyped self.old self.new) }
         ensures fault { IfErr result (λ e. e ≢ DecodeError.OutOfMemory → StandsBehindKey (content_of self.old) levels number.value wire_type e bytes.now) }
     {
         let value = self.value_mut_or(number.get(), Value::List(Vec::new(alloc)))?;

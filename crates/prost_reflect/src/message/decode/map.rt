@@ -15,6 +15,8 @@ ghost use Rattle.prost_reflect_pool.specs.SharedPools.{pool_rows};
 ghost use Rattle.prost_reflect.specs.Scalars.{plain_kind};
 ghost use Rattle.prost_reflect.specs.Variants.{key_in};
 ghost use Rattle.prost_reflect.specs.View.{key_of, value_of, content_of, message_type_of};
+ghost use Rattle.prost_reflect.specs.Stored.{value_stored};
+ghost use Rattle.prost_reflect.specs.TypedSteps.{entry_typed, StaysTyped};
 
 use crate::message::DynamicMessage;
 use crate::message::decode::scalar::scalar_at;
@@ -133,6 +135,7 @@ impl DynamicMessage {
         requires field { ScalarMap (message_type_of self.old) number.value kinds.0 kinds.1 }
         ensures ok { IfOk result (λ rest. Step levels number.value wire_type (content_of self.old) (content_of self.new) bytes.now rest.now) }
         ensures message_type { message_type_of self.new ≡ message_type_of self.old }
+        ensures typed { IfOk result (λ _. StaysTyped self.old self.new) }
         ensures fault { IfErr result (λ e. e ≢ DecodeError.OutOfMemory → StandsBehindKey (content_of self.old) levels number.value wire_type e bytes.now) }
     {
         let (body, rest) = entry_body(wire_type, bytes)?;
@@ -157,6 +160,7 @@ impl DynamicMessage {
         requires mapped { IsMapped (value_at number (entries_of (content_of self.old))) }
         ensures message_type { message_type_of self.new ≡ message_type_of self.old }
         ensures content { OnOk result (content_of self.new ≡ value_set number (MapValue (put (key_of key) (value_of value) (pairs_in (value_at number (entries_of (content_of self.old)))))) (content_of self.old)) }
+        ensures typed { OnOk result (entry_typed (message_type_of self.old) number (value_stored value) ≡ true → StaysTyped self.old self.new) }
     {
         let map = self.value_mut_or(number, Value::Map(BTreeMap::new(alloc)))?;
         match map.as_map_mut() {

@@ -7,6 +7,7 @@ ghost use Rattle.prost_reflect_wire.specs.Decoding.{Step, StandsBehindKey};
 ghost use Rattle.prost_reflect.specs.NestedMaps.{NestedMap, ReadsNestedEntry, RefusesNestedEntry};
 ghost use Rattle.prost_reflect.specs.Scalars.{plain_kind};
 ghost use Rattle.prost_reflect.specs.View.{content_of, message_type_of};
+ghost use Rattle.prost_reflect.specs.TypedSteps.{StaysTyped};
 
 use crate::message::DynamicMessage;
 use crate::message::decode::map::{default_of, entry_body, map_key};
@@ -35,6 +36,7 @@ impl DynamicMessage {
         requires field { NestedMap (message_type_of self.old) number.value key place }
         ensures ok { IfOk result (λ rest. Step levels number.value wire_type (content_of self.old) (content_of self.new) bytes.now rest.now) }
         ensures message_type { message_type_of self.new ≡ message_type_of self.old }
+        ensures typed { IfOk result (λ _. StaysTyped self.old self.new) }
         ensures fault { IfErr result (λ e. e ≢ DecodeError.OutOfMemory → StandsBehindKey (content_of self.old) levels number.value wire_type e bytes.now) }
     {
         let (body, rest) = entry_body(wire_type, bytes)?;
@@ -61,6 +63,8 @@ impl DynamicMessage {
         requires key { IsSome (plain_kind key_kind) }
         requires some { 1 ≤ levels }
         ensures ok { IfOk result (λ key. ReadsNestedEntry (levels - 1) key_kind key (content_of self.old) (content_of self.new) body.now []) }
+        ensures message_type { message_type_of self.new ≡ message_type_of self.old }
+        ensures typed { IfOk result (λ _. StaysTyped self.old self.new) }
         ensures fault { IfErr result (λ e. e ≢ DecodeError.OutOfMemory → RefusesNestedEntry (schema_of (content_of self.old)) levels (type_of (content_of self.old)) key_kind e body.now) }
     {
         let mut key = default_of(alloc, key_kind);

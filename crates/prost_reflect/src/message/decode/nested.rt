@@ -1,7 +1,7 @@
 //! Reading messages and groups (the encoding guide, "Submessages", "Groups" and "Last One Wins": the records of several
 //! messages of one field are read as those of one message).
 
-ghost use Rattle.std.specs.Prelude.{◌≡◌, ◌≢◌, ◌≤◌, ◌<◌, length, IfOk, IfErr, OnOk};
+ghost use Rattle.std.specs.Prelude.{◌≡◌, ◌≢◌, ◌≤◌, ◌<◌, true, length, Some, IfOk, IfErr, OnOk};
 ghost use Rattle.prost_reflect_wire.specs.Content.{MessageValue, empty, schema_of, type_of};
 ghost use Rattle.prost_reflect_wire.specs.Typing.{WellStored};
 ghost use Rattle.prost_reflect_wire.specs.Decoding.{GroupProgress, Step, StandsBehindKey, StandsInGroup};
@@ -12,6 +12,8 @@ ghost use Rattle.prost_reflect.specs.Targets.{NestedField, nested_kind};
 ghost use Rattle.prost_reflect.specs.Variants.{message_in};
 ghost use Rattle.prost_reflect.specs.declared.value.Value.{out-Value};
 ghost use Rattle.prost_reflect.specs.View.{value_of, content_of, message_type_of};
+ghost use Rattle.prost_reflect.specs.Stored.{StoredInside, message_stored, value_stored};
+ghost use Rattle.prost_reflect.specs.TypedSteps.{typed_as, StaysTyped, ValueStaysTyped};
 
 use crate::message::DynamicMessage;
 use crate::value::Value;
@@ -44,6 +46,7 @@ impl DynamicMessage {
         requires field { NestedField (message_type_of self.old) number.value kind.place kind.is_group }
         ensures ok { IfOk result (λ rest. Step levels number.value wire_type (content_of self.old) (content_of self.new) bytes.now rest.now) }
         ensures message_type { message_type_of self.new ≡ message_type_of self.old }
+        ensures typed { IfOk result (λ _. StaysTyped self.old self.new) }
         ensures fault { IfErr result (λ e. e ≢ DecodeError.OutOfMemory → StandsBehindKey (content_of self.old) levels number.value wire_type e bytes.now) }
     {
         let default = empty_value(alloc, self.message_type(), kind.place)?;
@@ -72,6 +75,7 @@ impl DynamicMessage {
     ) -> Result<&'a [u8], DecodeError>
         requires { HeldMessage (message_in (out-Value value.old)) }
         ensures ok { IfOk result (λ rest. ReadIntoHeld is_group levels number.value wire_type (message_in (out-Value value.old)) (value_of value.new) bytes.now rest.now) }
+        ensures typed { IfOk result (λ _. ValueStaysTyped value.old value.new) }
         ensures fault { IfErr result (λ e. e ≢ DecodeError.OutOfMemory → StandsInHeld is_group levels number.value wire_type (message_in (out-Value value.old)) e bytes.now) }
     {
         match value.as_message_mut() {
@@ -97,6 +101,7 @@ impl DynamicMessage {
         requires sound { WellStored (content_of self.old) }
         ensures ok { IfOk result (λ rest. NestedRead is_group levels number.value wire_type (content_of self.old) (content_of self.new) bytes.now rest.now) }
         ensures message_type { message_type_of self.new ≡ message_type_of self.old }
+        ensures typed { IfOk result (λ _. StaysTyped self.old self.new) }
         ensures fault { IfErr result (λ e. e ≢ DecodeError.OutOfMemory → StandsBehindNested (schema_of (content_of self.old)) levels number.value (nested_kind is_group (type_of (content_of self.old))) wire_type e bytes.now) }
     {
         check_nested(is_group, wire_type, levels)?;
@@ -121,6 +126,7 @@ impl DynamicMessage {
         requires sound { WellStored (content_of self.old) }
         ensures ok { IfOk result (λ rest. GroupProgress levels number.value (content_of self.old) (content_of self.new) bytes.now rest.now) }
         ensures message_type { message_type_of self.new ≡ message_type_of self.old }
+        ensures typed { IfOk result (λ _. StaysTyped self.old self.new) }
         ensures fault { IfErr result (λ e. e ≢ DecodeError.OutOfMemory → StandsInGroup (content_of self.old) levels number.value e bytes.now) }
     {
         let mut rest = bytes;
@@ -166,7 +172,8 @@ pub(crate) fn empty_value(
     place: usize,
 ) -> Result<Value, AllocError>
     requires { place < length (pool_rows message_type.now.pool).messages }
-    ensures { IfOk result (λ v. value_of v ≡ MessageValue (empty (schema_at message_type.now) place)) }
+    ensures content { IfOk result (λ v. value_of v ≡ MessageValue (empty (schema_at message_type.now) place)) }
+    ensures typed { IfOk result (λ v. typed_as message_type.now (Some place) (value_stored v) ≡ true) }
 {
     Ok(Value::Message(empty_message(alloc, message_type, place)?))
 }
@@ -178,7 +185,8 @@ pub(super) fn empty_message(
     place: usize,
 ) -> Result<DynamicMessage, AllocError>
     requires { place < length (pool_rows message_type.now.pool).messages }
-    ensures { IfOk result (λ m. content_of m ≡ empty (schema_at message_type.now) place) }
+    ensures content { IfOk result (λ m. content_of m ≡ empty (schema_at message_type.now) place) }
+    ensures typed { IfOk result (λ m. typed_as message_type.now (Some place) (StoredInside (message_stored m)) ≡ true) }
 {
     Ok(DynamicMessage::of_type(alloc, message_type.at(place)?))
 }

@@ -2,6 +2,7 @@ use Rattle.std.proofs.Common.{◌≡◌, ◌+◌, ◌*◌, ◌-◌, length}
 use Rattle.prost_reflect_wire.specs.Decoding.{Progress}
 use Rattle.prost_reflect.specs.NestedMaps.{ReadsNestedEntry}
 use Rattle.prost_reflect.specs.View.{content_of, message_type_of}
+use Rattle.prost_reflect.specs.TypedSteps.{StaysTyped}
 use Rattle.prost_reflect.proofs.message.DynamicMessage.+reading.Given as goal
 
 abbrev pub decreases-merge_into : goal.decreases-merge_into
@@ -26,6 +27,7 @@ abbrev pub invariant-merge_records-loop-rest : goal.invariant-merge_records-loop
 invariant-merge_records-loop-rest l = record {
   progress : Progress l.levels (content_of l.fn.self) (content_of l.self) l.bytes l.rest;
   message_type : message_type_of l.self ≡ message_type_of l.fn.self;
+  typed : StaysTyped l.fn.self l.self;
 }
 
 abbrev pub decreases-merge_to_end-loop-key : goal.decreases-merge_to_end-loop-key
@@ -35,6 +37,7 @@ abbrev pub invariant-merge_to_end-loop-key : goal.invariant-merge_to_end-loop-ke
 invariant-merge_to_end-loop-key l = record {
   progress : Progress l.levels (content_of l.fn.self) (content_of l.self) l.bytes l.rest;
   message_type : message_type_of l.self ≡ message_type_of l.fn.self;
+  typed : StaysTyped l.fn.self l.self;
 }
 
 abbrev pub decreases-merge_element : goal.decreases-merge_element
@@ -53,4 +56,8 @@ abbrev pub decreases-merge_entry_body-loop-rest : goal.decreases-merge_entry_bod
 decreases-merge_entry_body-loop-rest l = length l.rest
 
 abbrev pub invariant-merge_entry_body-loop-rest : goal.invariant-merge_entry_body-loop-rest
-invariant-merge_entry_body-loop-rest l = ReadsNestedEntry (l.levels - 1) l.key_kind l.key (content_of l.fn.self) (content_of l.self) l.body l.rest
+invariant-merge_entry_body-loop-rest l = record {
+  read : ReadsNestedEntry (l.levels - 1) l.key_kind l.key (content_of l.fn.self) (content_of l.self) l.body l.rest;
+  message_type : message_type_of l.self ≡ message_type_of l.fn.self;
+  typed : StaysTyped l.fn.self l.self;
+}

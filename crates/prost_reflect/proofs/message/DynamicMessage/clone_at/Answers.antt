@@ -6,6 +6,7 @@ use Rattle.prost_reflect_fields.specs.declared.slot.FieldSlot.{FieldSlot}
 use Rattle.prost_reflect.specs.declared.value.Value.{Value}
 use Rattle.prost_reflect.proofs.Copied.{parts_of, all_given, one_given}
 use Rattle.prost_reflect.proofs.MessageParts.{part, part_kept, message_part, slot_copied, slot_passed}
+use Rattle.prost_reflect.proofs.TypedSteps.{part_typed}
 use Rattle.prost_reflect.proofs.message.DynamicMessage.clone_at.Goals as goal
 
 of_same : (a b c : PooledType) → b ≡ a → SameMessage b c → SameMessage a c
@@ -45,3 +46,13 @@ loop-number-preserved c =
     let l = c.loop-number.invariant in
     let item = c.in-Some.field-0.now in
     (l.0 ++ item ∷ [], one_given _ l.0 item _ _ l.1 c.in-Some.ensures.steps, slot_passed c.args.numbers.now c.loop-number.fields l.0 item.0 item.1 l.2 (sym c.contains.ensures ∙ c.if-contains.false))
+
+pub returns-clause-typed : goal.returns-clause-typed
+returns-clause-typed c =
+    let message = c.args.self.now in
+    let l = c.loop-number.invariant in
+    let same = of_same message.fields.0 c.message_type.result.now c.in_ok-shared.shared c.message_type.ensures c.in_ok-shared.ensures.cases in
+    let all = l.2 ∙ ap (λ es. parts_of (part c.args.numbers.now es)) (all_given message.fields.1 l.0 _ l.1 c.in-None.ensures.steps.0) in
+    let is = c.from_slots.ensures in
+    let kept = subst (λ (p : PooledType × List (ℕ × FieldSlot Value)). SameMessage message.fields.0 p.0) (sym is) same in
+    part_typed c.args.numbers.now message c.from_slots.result kept c.slots-number-items.ensures.ascending (ap (λ (p : PooledType × List (ℕ × FieldSlot Value)). parts_of p.1) is ∙ all)

@@ -22,3 +22,6 @@ returns-in_err-merge_records-clause-accepted c = let q = err_from_is_err_and c.f
 pub returns-clause-again : goal.returns-clause-again
 returns-clause-again c = λ l. decoded_again (schema_named c.args.descriptor) (type_named c.args.descriptor) c.args.bytes.now (kept (content_of c.merge_records.new.self)) (bytes_below _ c.type_inv.bytes) (named_valid c.args.descriptor)
     (progress_decoded _ _ _ _ _ (rw c.new-message.ensures.content at c.in_ok-merge_records.ensures.ok)) l
+
+pub returns-clause-typed : goal.returns-clause-typed
+returns-clause-typed c = c.in_ok-merge_records.ensures.typed.typed c.new-message.ensures.typed

@@ -63,3 +63,6 @@ returns-clause-sound c =
     let progress =
     message_read c.in_ok-numbers.numbers c.args.self.now c.in_ok-part.part whole c.requires.sound c.in_ok-part.ensures.content c.merge_records.new.self c.replace_at.new.self c.args.bytes.now c.in_ok-numbers.ensures.numbers c.in_ok-merge_records.ensures.ok c.in_ok-replace_at.ensures.content in
     progress.holds.sound
+
+pub returns-clause-typed : goal.returns-clause-typed
+returns-clause-typed c = λ typed. let stays = c.in_ok-replace_at.ensures.typed (c.in_ok-merge_records.ensures.typed.typed (c.in_ok-part.ensures.typed.typed typed)) in stays.typed typed

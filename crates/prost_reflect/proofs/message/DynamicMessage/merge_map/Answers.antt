@@ -4,8 +4,9 @@ use Rattle.prost_reflect_wire.proofs.ByteLists.{bytes_below}
 use Rattle.prost_reflect_pool.specs.declared.pooled_type.PooledType.{PooledType}
 use Rattle.prost_reflect_pool.specs.SharedPools.{pool_rows}
 use Rattle.prost_reflect.specs.Scalars.{is_stray_number}
-use Rattle.prost_reflect.specs.View.{value_of}
+use Rattle.prost_reflect.specs.View.{value_of, message_type_of}
 use Rattle.prost_reflect.proofs.MapMerging.{mapped_in, key_found, entry_set, entry_stray, body_fault, entry_fault}
+use Rattle.prost_reflect.proofs.TypedValues.{scalar_entry}
 use Rattle.prost_reflect.proofs.message.DynamicMessage.merge_map.Goals as goal
 
 pub returns-in_err-body-clause-fault : goal.returns-in_err-body-clause-fault
@@ -33,3 +34,6 @@ returns-clause-ok c =
     let test = λ (d : PooledType). is_stray_number (pool_rows d.pool).enums c.args.kinds.1 (value_of c.in_ok-key.value) in
     entry_set c.args.self.now _ _ _ c.requires.field _ _ c.in_ok-key.key c.in_ok-key.value _ _ _ (bytes_below _ c.type_inv.bytes) (rw c.message_type.ensures at c.in_ok-key.ensures.ok) c.in_ok-body.ensures.ok.0 c.in_ok-body.ensures.ok.1
     c.put_entry.new.self c.map_key.result c.requires.sound (ap test (sym c.message_type-2.ensures) ∙ sym c.is_stray.ensures ∙ c.if-is_stray.false) c.map_key.ensures (rw c.get.ensures.value at c.in_ok-put_entry.ensures.content)
+
+pub returns-clause-typed : goal.returns-clause-typed
+returns-clause-typed c = c.in_ok-put_entry.ensures.typed (scalar_entry (message_type_of c.args.self.now) c.get.result c.in_ok-key.value c.in_ok-key.ensures.ok.value_read c.in_ok-key.ensures.ok.value_is)

@@ -1,6 +1,7 @@
 use Rattle.std.proofs.Common.{rules}
 use Rattle.std.proofs.lemmas.Result.{err_from_is_err_and}
 use Rattle.prost_reflect.proofs.NumberMerging.{made, number_taken_step, body_taken_step, length_refused, body_refused, number_refused}
+use Rattle.prost_reflect.proofs.TypedSteps.{still_typed}
 use Rattle.prost_reflect.proofs.message.DynamicMessage.merge_numbers.Goals as goal
 
 pub returns-in_err-body-clause-fault : goal.returns-in_err-body-clause-fault
@@ -26,3 +27,6 @@ push_number-requires-clause-sound c =
 pub returns-clause-ok : goal.returns-clause-ok
 returns-clause-ok c = number_taken_step c.args.self.now _ c.args.kind c.requires.field c.make_list.new.self c.push_number.new.self _ c.in_ok-value.value _ _ _ c.requires.sound c.in_ok-value.ensures.wire c.in_ok-value.ensures.ok c.make_list.ensures.message_type
     (rw c.get.ensures.value at c.in_ok-make_list.ensures.content) c.in_ok-push_number.ensures.content
+
+pub returns-clause-typed : goal.returns-clause-typed
+returns-clause-typed c = still_typed _ _ _ c.in_ok-make_list.ensures.typed c.in_ok-push_number.ensures.typed

@@ -3,12 +3,14 @@ use Rattle.std.proofs.lemmas.Bool.{eqb-true}
 use Rattle.std.proofs.lemmas.List.{nil_from_length}
 use Rattle.std.proofs.lemmas.Result.{err_from_is_err_and}
 use Rattle.prost_reflect.proofs.NumberMerging.{none_taken, taken_more, taken_done, taken_fault}
+use Rattle.prost_reflect.proofs.TypedSteps.{still_typed}
 use Rattle.prost_reflect.proofs.message.DynamicMessage.push_numbers.Goals as goal
 
 pub loop-rest-init : goal.loop-rest-init
 loop-rest-init c = record {
   taken = none_taken c.args.self.now c.args.number.value c.args.kind c.requires.field c.make_list.new.self _ c.requires.sound (rw c.get.ensures.value at c.in_ok-make_list.ensures.content);
   message_type = c.make_list.ensures.message_type;
+  typed = c.in_ok-make_list.ensures.typed;
 }
 
 pub returns-in_err-value-clause-fault : goal.returns-in_err-value-clause-fault
@@ -20,6 +22,7 @@ pub loop-rest-preserved : goal.loop-rest-preserved
 loop-rest-preserved c = record {
   taken = taken_more c.loop-rest.self c.push_number.new.self _ _ _ _ c.in_ok-value.value _ _ _ c.loop-rest.invariant.message_type c.loop-rest.invariant.taken c.in_ok-value.ensures.ok c.in_ok-push_number.ensures.content;
   message_type = c.push_number.ensures.message_type ∙ c.loop-rest.invariant.message_type;
+  typed = still_typed _ _ _ c.loop-rest.invariant.typed c.in_ok-push_number.ensures.typed;
 }
 
 pub returns-clause-ok : goal.returns-clause-ok
