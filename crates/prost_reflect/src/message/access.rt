@@ -13,6 +13,8 @@ ghost use Rattle.prost_reflect_fields.specs.Known.{known_of, is_known};
 ghost use Rattle.prost_reflect.specs.Access.{IsOwnField, number_of, is_field_number, takes, takes_at, has_at, had_at, saying, IsDefaultAt, Shows, ShowsIf, IsLentOf, left_at};
 ghost use Rattle.prost_reflect.specs.Contents.{value_set, value_cleared};
 ghost use Rattle.prost_reflect.specs.View.{value_of, content_of, message_type_of};
+ghost use Rattle.prost_reflect.specs.Stored.{value_stored};
+ghost use Rattle.prost_reflect.specs.TypedSteps.{typed_at, StaysTyped};
 
 mod by_name;
 
@@ -156,6 +158,7 @@ impl DynamicMessage {
         requires valid { takes field.now value ≡ true }
         ensures message_type { message_type_of self.new ≡ message_type_of self.old }
         ensures content { OnOk result (content_of self.new ≡ value_set (number_of field.now) (value_of value) (content_of self.old)) }
+        ensures typed { OnOk result (typed_at (message_type_of self.old) (number_of field.now) (value_stored value) ≡ true → StaysTyped self.old self.new) }
         ensures err { OnErr result (self.new ≡ self.old) }
     {
         self.set_value(field.number(), value)
@@ -170,6 +173,7 @@ impl DynamicMessage {
         requires { is_field_number (message_type_of self.old) number ≡ true → takes_at (message_type_of self.old) number value ≡ true }
         ensures message_type { message_type_of self.new ≡ message_type_of self.old }
         ensures content { OnOk result (content_of self.new ≡ (if is_field_number (message_type_of self.old) number then value_set number (value_of value) (content_of self.old) else content_of self.old)) }
+        ensures typed { OnOk result (typed_at (message_type_of self.old) number (value_stored value) ≡ true → StaysTyped self.old self.new) }
         ensures missing { is_field_number (message_type_of self.old) number ≡ false → IsOk result × (self.new ≡ self.old) }
         ensures err { OnErr result (self.new ≡ self.old) }
     {

@@ -52,6 +52,9 @@ impl DynamicMessage {
     /// One Wins", "Oneofs", "Packed Repeated Fields" and "Maps"; the language guide, "Unknown Fields"; the page "Enum
     /// Behavior").
     ///
+    /// The values of the message fit their fields, and the messages inside are of their fields' types, as `is_encodable` and
+    /// `is_typed` tell; so it may be encoded, and bytes may be merged into it.
+    ///
     /// # Errors
     ///
     /// `Truncated`, `Varint`, `Key`, `WireType`, `EndGroup`, `Utf8` or `Depth` where that fault stands in the bytes, and

@@ -9,6 +9,8 @@ ghost use Rattle.prost_reflect.specs.Access.{has_at, had_at, Shows, IsLentOf, le
 ghost use Rattle.prost_reflect.specs.Contents.{value_set, value_cleared};
 ghost use Rattle.prost_reflect.specs.ExtensionAccess.{IsOwnExtension, extension_number, extension_takes};
 ghost use Rattle.prost_reflect.specs.View.{value_of, content_of, message_type_of};
+ghost use Rattle.prost_reflect.specs.Stored.{value_stored};
+ghost use Rattle.prost_reflect.specs.TypedSteps.{typed_at, StaysTyped};
 
 use crate::descriptor::ExtensionDescriptor;
 use crate::message::DynamicMessage;
@@ -100,6 +102,7 @@ impl DynamicMessage {
         requires valid { extension_takes extension.now value ≡ true }
         ensures message_type { message_type_of self.new ≡ message_type_of self.old }
         ensures content { OnOk result (content_of self.new ≡ value_set (extension_number extension.now) (value_of value) (content_of self.old)) }
+        ensures typed { OnOk result (typed_at (message_type_of self.old) (extension_number extension.now) (value_stored value) ≡ true → StaysTyped self.old self.new) }
         ensures err { OnErr result (self.new ≡ self.old) }
     {
         self.set_value(extension.number(), value)

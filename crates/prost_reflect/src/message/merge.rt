@@ -33,7 +33,8 @@ impl DynamicMessage {
     /// all of them mean, read as one.
     ///
     /// The values of the message have to fit their fields, and the messages inside have to be of their fields' types, as in every
-    /// message that `decode` gives: `is_encodable` and `is_typed` tell. So they do afterwards.
+    /// message that `decode` gives: `is_encodable` and `is_typed` tell. So they do afterwards, and where `is_typed` told it of the
+    /// message, it tells it of the merged one; no test is needed between two calls.
     ///
     /// # Errors
     ///

@@ -1,11 +1,13 @@
 //! Setting fields to values that may not fit them.
 
-ghost use Rattle.std.specs.Prelude.{◌≡◌, true, IfErr, IfOk, IsOk, OnErr, OnOk, Some};
+ghost use Rattle.std.specs.Prelude.{◌≡◌, true, IfErr, IfOk, IfSome, IsOk, OnErr, OnOk, Some};
 ghost use Rattle.prost_reflect_wire.specs.Schema.{passes};
 ghost use Rattle.prost_reflect.specs.Access.{IsOwnField, number_of, takes, is_field_number, number_declared, number_named, takes_at};
 ghost use Rattle.prost_reflect.specs.Contents.{set_if, value_set};
 ghost use Rattle.prost_reflect.specs.Setting.{DescribesField, RefusesFound, RefusesValue};
 ghost use Rattle.prost_reflect.specs.View.{value_of, content_of, message_type_of};
+ghost use Rattle.prost_reflect.specs.Stored.{value_stored};
+ghost use Rattle.prost_reflect.specs.TypedSteps.{typed_at, StaysTyped};
 ghost use Rattle.prost_reflect.specs.declared.message.setting.SetFieldError.TheVariants as refusals;
 
 use crate::descriptor::FieldDescriptor;
@@ -128,6 +130,7 @@ impl DynamicMessage {
         requires { IsOwnField (message_type_of self.old) field.now }
         ensures message_type { message_type_of self.new ≡ message_type_of self.old }
         ensures content { OnOk result (content_of self.new ≡ value_set (number_of field.now) (value_of value) (content_of self.old)) }
+        ensures typed { OnOk result (typed_at (message_type_of self.old) (number_of field.now) (value_stored value) ≡ true → StaysTyped self.old self.new) }
         ensures valid { IsOk result → takes field.now value ≡ true }
         ensures err { OnErr result (self.new ≡ self.old) }
         ensures refused { IfErr result (RefusesValue field.now value) }
@@ -154,6 +157,7 @@ impl DynamicMessage {
     ) -> Result<(), SetFieldError>
         ensures message_type { message_type_of self.new ≡ message_type_of self.old }
         ensures content { OnOk result (content_of self.new ≡ set_if (number_declared (message_type_of self.old) number) (value_of value) (content_of self.old)) }
+        ensures typed { OnOk result (typed_at (message_type_of self.old) number (value_stored value) ≡ true → StaysTyped self.old self.new) }
         ensures valid { IsOk result → passes (number_declared (message_type_of self.old) number) (λ n. takes_at (message_type_of self.old) n value) ≡ true }
         ensures err { OnErr result (self.new ≡ self.old) }
         ensures refused { IfErr result (RefusesFound (message_type_of self.old) (number_declared (message_type_of self.old) number) value) }
@@ -174,6 +178,7 @@ impl DynamicMessage {
     pub fn try_set_field_by_name(&mut self, name: &str, value: Value) -> Result<(), SetFieldError>
         ensures message_type { message_type_of self.new ≡ message_type_of self.old }
         ensures content { OnOk result (content_of self.new ≡ set_if (number_named (message_type_of self.old) name.now) (value_of value) (content_of self.old)) }
+        ensures typed { OnOk result (IfSome (number_named (message_type_of self.old) name.now) (λ n. typed_at (message_type_of self.old) n (value_stored value) ≡ true) → StaysTyped self.old self.new) }
         ensures valid { IsOk result → passes (number_named (message_type_of self.old) name.now) (λ n. takes_at (message_type_of self.old) n value) ≡ true }
         ensures err { OnErr result (self.new ≡ self.old) }
         ensures refused { IfErr result (RefusesFound (message_type_of self.old) (number_named (message_type_of self.old) name.now) value) }
@@ -189,6 +194,7 @@ impl DynamicMessage {
         requires { is_field_number (message_type_of self.old) number ≡ true }
         ensures message_type { message_type_of self.new ≡ message_type_of self.old }
         ensures content { OnOk result (content_of self.new ≡ value_set number (value_of value) (content_of self.old)) }
+        ensures typed { OnOk result (typed_at (message_type_of self.old) number (value_stored value) ≡ true → StaysTyped self.old self.new) }
         ensures valid { IsOk result → takes_at (message_type_of self.old) number value ≡ true }
         ensures err { OnErr result (self.new ≡ self.old) }
         ensures refused { IfErr result (RefusesFound (message_type_of self.old) (Some number) value) }

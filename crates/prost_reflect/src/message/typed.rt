@@ -23,6 +23,9 @@ impl DynamicMessage {
     /// that of the field's type, so it stands at that place in a pool whose files hold the same. A message that stands by itself in a map
     /// field, or at a number that is not known, is of no field's type.
     ///
+    /// So it is in a message that `new` or `decode` gives, and it stays so where bytes are merged, and where a value is set whose
+    /// messages are of the field's type, as one is that holds none. A value that is left behind a loan may hold any.
+    ///
     /// Nothing is said of values that are no messages: `is_encodable` asks for those.
     pub fn is_typed(&self) -> bool
         ensures typed { result ≡ all_typed (message_stored self.now) }

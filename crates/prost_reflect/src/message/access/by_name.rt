@@ -5,6 +5,8 @@ ghost use Rattle.prost_reflect_wire.specs.Schema.{passes};
 ghost use Rattle.prost_reflect.specs.Access.{number_named, takes_at, has_at, had_at, ShowsFound};
 ghost use Rattle.prost_reflect.specs.Contents.{set_if, cleared_if};
 ghost use Rattle.prost_reflect.specs.View.{value_of, content_of, message_type_of};
+ghost use Rattle.prost_reflect.specs.Stored.{value_stored};
+ghost use Rattle.prost_reflect.specs.TypedSteps.{typed_at, StaysTyped};
 
 use crate::message::DynamicMessage;
 use crate::value::Value;
@@ -75,6 +77,7 @@ impl DynamicMessage {
         requires { IfSome (number_named (message_type_of self.old) name.now) (λ n. takes_at (message_type_of self.old) n value ≡ true) }
         ensures message_type { message_type_of self.new ≡ message_type_of self.old }
         ensures content { OnOk result (content_of self.new ≡ set_if (number_named (message_type_of self.old) name.now) (value_of value) (content_of self.old)) }
+        ensures typed { OnOk result (IfSome (number_named (message_type_of self.old) name.now) (λ n. typed_at (message_type_of self.old) n (value_stored value) ≡ true) → StaysTyped self.old self.new) }
         ensures missing { number_named (message_type_of self.old) name.now ≡ None → IsOk result × (self.new ≡ self.old) }
         ensures err { OnErr result (self.new ≡ self.old) }
     {
