@@ -1,5 +1,5 @@
 -- Changes of a message's slots that keep the messages inside of their fields' types.
-use Rattle.std.proofs.Common.{◌≡◌, ℕ, Bool, true, false, cond, ◌&&◌, nat_eq, List, [], ◌∷◌, Option, None, Some, refl, sym, ap, ◌∙◌, subst, unwrap_or, true≢false}
+use Rattle.std.proofs.Common.{◌≡◌, ℕ, Bool, true, false, cond, nat_eq, List, [], ◌∷◌, Option, None, Some, refl, sym, ap, ◌∙◌, subst, unwrap_or, true≢false}
 use Rattle.std.proofs.lemmas.Bool.{and_parts, and_from, eqb-true}
 use Rattle.std.specs.Option.{option_and_then, option_map}
 use Rattle.std.specs.Ordering.{nat_cmp, is_eq}
@@ -8,10 +8,8 @@ use Rattle.std.specs.BTreeSet.{BTreeSet}
 use Rattle.std.specs.List.{AllByRecursion}
 use Rattle.std.specs.List.Sorted.{IsStrictlySortedBy}
 use Rattle.std.specs.Map.{keys_of}
-use Rattle.prost_reflect_wire.specs.Content.{Content}
 use Rattle.prost_reflect_wire.specs.Record.{Record}
-use Rattle.prost_reflect_wire.specs.Schema.{Field, field_of, known}
-use Rattle.prost_reflect_tables.specs.Rows.{TableRows}
+use Rattle.prost_reflect_wire.specs.Schema.{field_of, known}
 use Rattle.prost_reflect_tables.specs.Shown.{schema_from}
 use Rattle.prost_reflect_pool.specs.MessageTypes.{SameMessage}
 use Rattle.prost_reflect_pool.specs.SharedPools.{pool_contents, pool_rows}
@@ -20,7 +18,7 @@ use Rattle.prost_reflect_fields.specs.declared.slot.FieldSlot.{FieldSlot}
 use Rattle.prost_reflect_fields.specs.declared.slot.FieldSlot.TheVariants as entries
 use Rattle.prost_reflect_fields.specs.Items.{IsAscending, item_at}
 use Rattle.prost_reflect_fields.specs.Known.{known_of, are_siblings}
-use Rattle.prost_reflect_fields.specs.FieldSlots.{value_in, value_at, has_value, with_value, UnknownAdded}
+use Rattle.prost_reflect_fields.specs.FieldSlots.{value_in, value_at, has_value, UnknownAdded}
 use Rattle.prost_reflect_fields.specs.NumberSets.{has, AreReplaced}
 use Rattle.prost_reflect_fields.specs.Sound.{set_value_at, prepared}
 use Rattle.prost_reflect_fields.proofs.ItemChanges.{Apart, by_number, at_each, itself, none_above}

@@ -1,5 +1,5 @@
 -- Values whose messages are of their fields' types: scalars, lists, maps, and messages that are read into.
-use Rattle.std.proofs.Common.{◌≡◌, ℕ, Bool, true, false, ◌&&◌, nat_eq, List, [], ◌∷◌, ◌++◌, Option, None, Some, refl, sym, ap, ap₂, ◌∙◌, subst, unwrap_or, true≢false}
+use Rattle.std.proofs.Common.{◌≡◌, ℕ, Bool, true, false, ◌&&◌, nat_eq, List, [], ◌∷◌, ◌++◌, Option, None, Some, refl, sym, ap, ◌∙◌, subst, unwrap_or, true≢false}
 use Rattle.std.specs.Prelude.{Vec}
 use Rattle.std.specs.declared.alloc.Global.{Global}
 use Rattle.std.proofs.lemmas.Bool.{and_parts, and_from, eq-eqb}
@@ -12,7 +12,7 @@ use Rattle.prost_reflect_wire.specs.Content as contents
 use Rattle.prost_reflect_wire.specs.Content.{Content, ContentOf, ScalarValue, schema_of, type_of, entries_of}
 use Rattle.prost_reflect_wire.specs.Meaning.{values_in}
 use Rattle.prost_reflect_wire.specs.Scalar.{Scalar, ScalarKind}
-use Rattle.prost_reflect_wire.specs.Schema.{Kind, ScalarOf, MessageOf, GroupOf, FieldForm, Singular, Repeated, MapFrom, Field, known, field_of, passes}
+use Rattle.prost_reflect_wire.specs.Schema.{Kind, ScalarOf, FieldForm, Repeated, Field, known, field_of, passes}
 use Rattle.prost_reflect_wire.specs.Typing.{own_kind, element_valid, elements_valid, WellStored}
 use Rattle.prost_reflect_wire.proofs.Survivors.{field_number}
 use Rattle.prost_reflect_laws.proofs.ListReads.{StoredList as ListFits, stored_list as list_fits}
@@ -35,17 +35,17 @@ use Rattle.prost_reflect.specs.declared.value.Value.{Value, out-Value}
 use Rattle.prost_reflect.specs.declared.value.Value as values
 use Rattle.prost_reflect.specs.declared.value.Value.TheOpen.{Value-F}
 use Rattle.prost_reflect.specs.declared.value.Value.TheFolds.{fold_out-Value, map-Value}
-use Rattle.prost_reflect.specs.DeepTypes.{kind_place, place_for, stored_kind, stands_there, all_typed, value_typed, items_typed, pairs_typed}
+use Rattle.prost_reflect.specs.DeepTypes.{kind_place, place_for, stands_there, all_typed, value_typed, items_typed, pairs_typed}
 use Rattle.prost_reflect.specs.Lists.{ListField}
 use Rattle.prost_reflect.specs.NestedMaps.{NestedMap}
-use Rattle.prost_reflect.specs.Stored.{StoredMessage, MessageOf as StoredOf, StoredValue, StoredScalar, StoredInside, StoredList, StoredMap, StoredItems, NoItems, ItemThen, StoredPairs, NoPairs, PairThen, stored_items, stored_pairs, stored_entries, stored_step, stored_message_step, value_stored, message_stored}
+use Rattle.prost_reflect.specs.Stored.{StoredMessage, StoredValue, StoredScalar, StoredInside, StoredList, StoredMap, StoredItems, NoItems, ItemThen, StoredPairs, NoPairs, stored_items, stored_pairs, stored_step, stored_message_step, value_stored, message_stored}
 use Rattle.prost_reflect.specs.Targets.{nested_kind, NestedField, NestedList}
 use Rattle.prost_reflect.specs.TypedSteps.{typed_as, typed_at, element_typed, entry_typed, StaysTyped, ValueStaysTyped, item_last, item_added}
 use Rattle.prost_reflect.specs.Variants.{message_in, pairs_in}
 use Rattle.prost_reflect.specs.View.{value_of, content_of, message_type_of, stored_in, written_at}
 use Rattle.prost_reflect.proofs.Merging.{known_in}
 use Rattle.prost_reflect.proofs.Stored.{value_of_message}
-use Rattle.prost_reflect.proofs.StoredContents.{value_content, items_content, pairs_content, value_follows}
+use Rattle.prost_reflect.proofs.StoredContents.{value_content, items_content, value_follows}
 use Rattle.prost_reflect.proofs.StoredViews.{stored_inside, stored_list, stored_map, stored_message, pairs_mapped}
 use Rattle.prost_reflect.proofs.TypedSteps.{TypedAt, nothing_typed, ascending_written, written_typed, lent_step}
 

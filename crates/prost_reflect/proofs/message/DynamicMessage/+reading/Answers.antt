@@ -18,7 +18,6 @@ use Rattle.prost_reflect_wire.specs.Content.{MapValue, schema_of, type_of}
 use Rattle.prost_reflect_wire.specs.Meaning.{put, pairs_in}
 use Rattle.prost_reflect.specs.Lists.{with_element}
 use Rattle.prost_reflect.proofs.NestedMaps.{nested_start, nested_no_key_there, nested_key_there, nested_value_there, nested_other_there, nested_no_key_value, nested_no_value, nested_no_other, nested_mapped, nested_key_found, nested_entry_set, nested_entry_fault, nested_body_fault, nested_no_level}
-use Rattle.prost_reflect_pool.specs.SharedPools.{pool_contents, pool_rows}
 use Rattle.prost_reflect.specs.Stored.{StoredInside, message_stored, value_stored}
 use Rattle.prost_reflect.specs.Targets.{NestedField, NestedList}
 use Rattle.prost_reflect.specs.NestedMaps.{NestedMap}
