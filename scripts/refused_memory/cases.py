@@ -202,15 +202,19 @@ def rows():
         yield f"`DynamicMessage::{call}`", [(f"Message::{call}", BYTES, 0, "x")]
     for call in "extension_numbers", "take_unknown_fields":
         yield f"`DynamicMessage::{call}`", [(f"Message::{call}", BYTES, 0, "x")]
+    for call in "fields", "extensions", "take_fields", "take_extensions":
+        yield f"`DynamicMessage::{call}`", [(f"List::{call}", BYTES, 0, "x")]
     for call in "get_field", "get_field_by_number", "get_field_by_name":
         yield f"`{call}`", [(f"Access::{call}", b"", n, "x") for n in VALUES]
         yield f"`{call}_mut`", [(f"Access::{call}_mut", VALUES[31] + number(45, 1), n, "x") for n in VALUES if n != 31]
-    for call in "set_field", "try_set_field", "try_set_field_by_number", "try_set_field_by_name":
-        yield f"`{call}`", [(f"Setting::{call}", VALUES[n], n, "x") for n in VALUES]
+    for form in "", "_by_number", "_by_name":
+        for call in "set_field", "try_set_field":
+            yield f"`{call}{form}`", [(f"Setting::{call}{form}", VALUES[n], n, "x") for n in VALUES]
     for call in "get_extension", "get_extension_mut", "set_extension":
         yield f"`{call}`", [(f"Extension::{call}", BYTES, n, "x") for n in (100, 101)]
     for call in "relay", "relay_hex", "is_reduction_of":
         yield f"`{call}`", [(f"Relay::{call}", BYTES, 0, "x")]
+    yield "`relay_with`", [("Relay::relay_with", BYTES, 0, "a_text_that_is_set")]
 
 
 def commands():
@@ -219,6 +223,8 @@ def commands():
     yield "`show - builtin.Plain 508300289601`", ["show", "-", "builtin.Plain", "508300289601"]
     for command in "relay", "show":
         yield f"`{command} SET every.Every HEX`", [command, SET.hex(), "every.Every", BYTES.hex()]
+    yield "`edit - builtin.Plain 508300289601 5 7`", ["edit", "-", "builtin.Plain", "508300289601", "5", "7"]
+    yield "`edit SET every.Every HEX PATH TEXT`", ["edit", SET.hex(), "every.Every", BYTES.hex(), "32.11.10.2", "a text that is set"]
     yield "a command line that is none", ["relay"]
 
 

@@ -112,11 +112,11 @@ from_append : (vs : List contents.Value) (w : contents.Value) → values_from (v
 from_append [] w = refl
 from_append (v ∷ vs) w = ap (contents.Item v) (from_append vs w)
 
-pub element_pushed : (v : Value) (olds news : Vec Value Global) (w : Value) → v ≡ values.List olds → news.items ≡ olds.items ++ w ∷ [] → value_of (values.List news) ≡ with_element (Some (value_of v)) (value_of w)
+pub element_pushed : (v : Value) (olds : List Value) (news : Vec Value Global) (w : Value) → value_of v ≡ ListValue (values_from (map value_of olds)) → news.items ≡ olds ++ w ∷ [] → value_of (values.List news) ≡ with_element (Some (value_of v)) (value_of w)
 element_pushed v olds news w is e =
-    value_of_list news ∙ ap (λ l. ListValue (values_from l)) (ap (map value_of) e ∙ map-append value_of olds.items (w ∷ []))
-    ∙ ap ListValue (from_append (map value_of olds.items) (value_of w))
-    ∙ ap (λ v. with_element (Some v) (value_of w)) (sym (ap value_of is ∙ value_of_list olds))
+    value_of_list news ∙ ap (λ l. ListValue (values_from l)) (ap (map value_of) e ∙ map-append value_of olds (w ∷ []))
+    ∙ ap ListValue (from_append (map value_of olds) (value_of w))
+    ∙ ap (λ v. with_element (Some v) (value_of w)) (sym is)
 
 -- THE ELEMENT
 

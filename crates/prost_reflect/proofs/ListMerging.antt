@@ -46,14 +46,14 @@ from_append : (vs ws : List contents.Value) → values_from (vs ++ ws) ≡ (valu
 from_append [] ws = refl
 from_append (v ∷ vs) ws = ap (Item v) (from_append vs ws)
 
-pub list_joined : (kind : TableKind) (w : WireType) (v : Value) (olds news : Vec Value Global) (bytes rest : List ℕ) → v ≡ values.List olds → AddsElements kind w olds.items news.items bytes rest →
+pub list_joined : (kind : TableKind) (w : WireType) (v : Value) (olds : List Value) (news : Vec Value Global) (bytes rest : List ℕ) → value_of v ≡ ListValue (values_from (map value_of olds)) → AddsElements kind w olds news.items bytes rest →
     JoinsElements kind w (value_of v) (value_of (values.List news)) bytes rest
 list_joined kind w v olds news bytes rest is a = record {
   scalar_kind = a.scalar_kind;
   plain = a.plain;
   added = a.added;
-  joined = value_of_list news ∙ ap (λ l. ListValue (values_from l)) a.appended ∙ ap ListValue (from_append (map value_of olds.items) a.added)
-      ∙ ap (λ v. ListValue (values_in (Some v) and_then values_from a.added)) (sym (ap value_of is ∙ value_of_list olds));
+  joined = value_of_list news ∙ ap (λ l. ListValue (values_from l)) a.appended ∙ ap ListValue (from_append (map value_of olds) a.added)
+      ∙ ap (λ v. ListValue (values_in (Some v) and_then values_from a.added)) (sym is);
   read = a.read;
 }
 

@@ -43,7 +43,7 @@ use Rattle.prost_reflect.specs.Same.{same_message, same_value, same_items, same_
 abbrev seen : StoredValue → StoredValue
 seen v = v
 
-items_mapped : (vs : List Value) → stored_items seen (map value_stored vs) ≡ stored_items value_stored vs
+pub items_mapped : (vs : List Value) → stored_items seen (map value_stored vs) ≡ stored_items value_stored vs
 items_mapped [] = refl
 items_mapped (v ∷ vs) = ap (ItemThen (value_stored v)) (items_mapped vs)
 

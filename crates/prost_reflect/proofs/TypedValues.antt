@@ -41,12 +41,12 @@ use Rattle.prost_reflect.specs.NestedMaps.{NestedMap}
 use Rattle.prost_reflect.specs.Stored.{StoredMessage, StoredValue, StoredScalar, StoredInside, StoredList, StoredMap, StoredItems, NoItems, ItemThen, StoredPairs, NoPairs, stored_items, stored_pairs, stored_step, stored_message_step, value_stored, message_stored}
 use Rattle.prost_reflect.specs.Targets.{nested_kind, NestedField, NestedList}
 use Rattle.prost_reflect.specs.TypedSteps.{typed_as, typed_at, element_typed, entry_typed, StaysTyped, ValueStaysTyped, item_last, item_added}
-use Rattle.prost_reflect.specs.Variants.{message_in, pairs_in}
+use Rattle.prost_reflect.specs.Variants.{list_in, message_in, pairs_in}
 use Rattle.prost_reflect.specs.View.{value_of, content_of, message_type_of, stored_in, written_at}
 use Rattle.prost_reflect.proofs.Merging.{known_in}
 use Rattle.prost_reflect.proofs.Stored.{value_of_message}
 use Rattle.prost_reflect.proofs.StoredContents.{value_content, items_content, value_follows}
-use Rattle.prost_reflect.proofs.StoredViews.{stored_inside, stored_list, stored_map, stored_message, pairs_mapped}
+use Rattle.prost_reflect.proofs.StoredViews.{items_mapped, stored_inside, stored_list, stored_map, stored_message, pairs_mapped}
 use Rattle.prost_reflect.proofs.TypedSteps.{TypedAt, nothing_typed, ascending_written, written_typed, lent_step}
 
 -- SCALARS
@@ -142,10 +142,29 @@ items_last : (vs : List Value) (w : Value) → stored_items value_stored (vs ++ 
 items_last [] w = refl
 items_last (v ∷ vs) w = ap (ItemThen (value_stored v)) (items_last vs w)
 
-pub item_pushed : (v : Value) (olds news : Vec Value Global) (w : Value) → v ≡ values.List olds → news.items ≡ olds.items ++ w ∷ [] → value_stored (values.List news) ≡ item_added (value_stored v) (value_stored w)
+-- what a value stores that holds these elements
+list_held : (v : Value) (es : List Value) → list_in (out-Value v) ≡ Some es → value_stored v ≡ StoredList (stored_items value_stored es)
+list_held v es h = fold_out-Value StoredValue StoredMessage stored_step stored_message_step v ∙ go (out-Value v) h
+  where
+    go : (x : Value-F Value DynamicMessage) → list_in x ≡ Some es → stored_step (map-Value Value DynamicMessage StoredValue StoredMessage value_stored message_stored x) ≡ StoredList (stored_items value_stored es)
+    go (Value-F.List vs) h = ap StoredList (items_mapped vs.items) ∙ ap (λ (o : Option (List Value)). StoredList (stored_items value_stored (unwrap_or o []))) h
+    go (Value-F.Bool b) h = cc
+    go (Value-F.I32 z) h = cc
+    go (Value-F.I64 z) h = cc
+    go (Value-F.U32 n) h = cc
+    go (Value-F.U64 n) h = cc
+    go (Value-F.F32 n) h = cc
+    go (Value-F.F64 n) h = cc
+    go (Value-F.String text) h = cc
+    go (Value-F.Bytes bytes) h = cc
+    go (Value-F.EnumNumber z) h = cc
+    go (Value-F.Message m) h = cc
+    go (Value-F.Map ps) h = cc
+
+pub item_pushed : (v : Value) (olds : List Value) (news : Vec Value Global) (w : Value) → list_in (out-Value v) ≡ Some olds → news.items ≡ olds ++ w ∷ [] → value_stored (values.List news) ≡ item_added (value_stored v) (value_stored w)
 item_pushed v olds news w is pushed =
-    stored_list news ∙ ap (λ vs. StoredList (stored_items value_stored vs)) pushed ∙ ap StoredList (items_last olds.items w)
-    ∙ sym (ap (λ s. item_added s (value_stored w)) (ap value_stored is ∙ stored_list olds))
+    stored_list news ∙ ap (λ vs. StoredList (stored_items value_stored vs)) pushed ∙ ap StoredList (items_last olds w)
+    ∙ sym (ap (λ s. item_added s (value_stored w)) (list_held v olds is))
 
 pub empty_list_typed : (d : PooledType) (n : ℕ) (vs : Vec Value Global) → vs.items ≡ [] → typed_at d n (value_stored (values.List vs)) ≡ true
 empty_list_typed d n vs none = ap (typed_at d n) (stored_list vs ∙ ap (λ l. StoredList (stored_items value_stored l)) none)

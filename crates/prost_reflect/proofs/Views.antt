@@ -1,5 +1,5 @@
 -- The equations of the views, one for each variant.
-use Rattle.std.proofs.Common.{◌≡◌, ℕ, ℤ, Bool, List, [], ◌∷◌, map, refl, ap, ◌∙◌, string_bytes}
+use Rattle.std.proofs.Common.{◌≡◌, ℕ, ℤ, Bool, List, [], ◌∷◌, map, Option, Some, unwrap_or, refl, ap, ◌∙◌, string_bytes}
 use Rattle.std.specs.declared.alloc.Global.{Global}
 use Rattle.std.specs.Prelude.{Vec, String as Text}
 use Rattle.std.specs.BTreeMap.{BTreeMap}
@@ -12,14 +12,15 @@ use Rattle.prost_reflect_pool.specs.MessageTypes.{schema_at, type_at}
 use Rattle.prost_reflect_fields.specs.declared.slot.FieldSlot.{FieldSlot}
 use Rattle.prost_reflect_fields.specs.declared.slot.FieldSlot.TheVariants as entries
 use Rattle.prost_reflect.specs.declared.value.MapKey.{MapKey}
-use Rattle.prost_reflect.specs.declared.value.Value.{Value}
+use Rattle.prost_reflect.specs.declared.value.Value.{Value, out-Value}
 use Rattle.prost_reflect.specs.declared.value.Value as values
 use Rattle.prost_reflect.specs.declared.value.Value.TheOpen.{Value-F, DynamicMessage-F}
 use Rattle.prost_reflect.specs.declared.value.Value.TheViews.{roll-Value, roll-DynamicMessage}
-use Rattle.prost_reflect.specs.declared.value.Value.TheFolds.{fold-roll-Value, fold-roll-DynamicMessage, fold_out-DynamicMessage}
+use Rattle.prost_reflect.specs.declared.value.Value.TheFolds.{fold-roll-Value, fold-roll-DynamicMessage, fold_out-Value, fold_out-DynamicMessage, map-Value}
 use Rattle.prost_reflect.specs.declared.message.DynamicMessage.{DynamicMessage}
 use Rattle.prost_reflect_fields.specs.formers.field_set.FieldSet.{slot_former}
 use Rattle.prost_reflect.specs.ContentLaws.{ValueViews}
+use Rattle.prost_reflect.specs.Variants.{list_in}
 use Rattle.prost_reflect.specs.View.{value_step, message_step, value_of, content_of, entries_from, pairs_from}
 
 -- A MESSAGE
@@ -121,3 +122,22 @@ value_views = record {
   list = value_of_list;
   pairs = value_of_map;
 }
+
+-- what holds these elements is their list
+pub list_viewed : (v : Value) (es : List Value) → list_in (out-Value v) ≡ Some es → value_of v ≡ ListValue (values_from (map value_of es))
+list_viewed v es h = fold_out-Value contents.Value Content value_step message_step v ∙ go (out-Value v) h
+  where
+    go : (x : Value-F Value DynamicMessage) → list_in x ≡ Some es → value_step (map-Value Value DynamicMessage contents.Value Content value_of content_of x) ≡ ListValue (values_from (map value_of es))
+    go (Value-F.List vs) h = ap (λ (o : Option (List Value)). ListValue (values_from (map value_of (unwrap_or o [])))) h
+    go (Value-F.Bool b) h = cc
+    go (Value-F.I32 z) h = cc
+    go (Value-F.I64 z) h = cc
+    go (Value-F.U32 n) h = cc
+    go (Value-F.U64 n) h = cc
+    go (Value-F.F32 n) h = cc
+    go (Value-F.F64 n) h = cc
+    go (Value-F.String text) h = cc
+    go (Value-F.Bytes bytes) h = cc
+    go (Value-F.EnumNumber z) h = cc
+    go (Value-F.Message m) h = cc
+    go (Value-F.Map m) h = cc

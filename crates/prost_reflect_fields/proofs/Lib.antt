@@ -1,3 +1,4 @@
+mod Results
 mod Places
 pub mod ItemChanges
 pub mod SlotChanges
@@ -7,6 +8,7 @@ pub mod ValuesAlone
 mod SlotsParted
 mod OneofPlaces
 mod MembersCleared
+mod PresentSiblings
 pub mod Replaced
 mod Weaving
 mod RunChanges

@@ -1,5 +1,5 @@
 -- Where a number stands among ascending numbers.
-use Rattle.std.proofs.Common.{◌≡◌, true, ℕ, zero, suc, ◌<◌, ◌≤◌, List, [], ◌∷◌, length, slice_index_or, slice_set, None, Some, arith, ap, sym, ◌∙◌, subst, refl, slice_get, cond, nat_lt, false}
+use Rattle.std.proofs.Common.{◌≡◌, true, ℕ, zero, suc, ◌<◌, ◌≤◌, List, [], ◌∷◌, length, slice_index_or, slice_set, None, Some, arith, ap, sym, ◌∙◌, subst, refl, slice_get, nat_lt, false}
 use Rattle.std.proofs.lemmas.Map.Lookups.{exact_unsigned}
 use Rattle.std.specs.Cmp.{nat_cmp_total}
 use Rattle.std.specs.Ordering.{nat_cmp, ordering_index, ordering_reverse, is_le}
@@ -15,8 +15,6 @@ use Rattle.std_collections.proofs.Seek.{AnswersAt, found_at, seek-Ok, seek_err, 
 use Rattle.std_collections.proofs.Entries.{NonePasses, remove_entry_none, lookup-none, set_value_none}
 use Rattle.std_collections.specs.Layout.BTreeMap.{seek, index_of, one_further}
 use Rattle.std_collections.specs.Layout.Columns.{set_value_at}
-use Rattle.std.proofs.lemmas.Grind.{common_steps}
-use Rattle.std.specs.Ordering.{match_ordering}
 use Rattle.prost_reflect_fields.specs.Items.{IsAscending, item_at, with_item, put_item, without_item}
 
 flipped : (x y : ℕ) (o : Ordering) → nat_cmp x y ≡ o → nat_cmp y x ≡ ordering_reverse o

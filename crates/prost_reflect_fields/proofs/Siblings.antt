@@ -49,7 +49,7 @@ found_passes k p (f ∷ fields) d h = cases (nat_eq f.number k) refl h (found_pa
     cases true at h rest = without (p f) (list_any (numbered k p) fields) h (none_numbered k p fields (ap (λ n. list_any (λ g. nat_eq g.number n) fields) (sym (eqb-true f.number k at)) ∙ not-true (list_any (λ g. nat_eq g.number f.number) fields) alone))
     cases false at h rest = rest h
 
-passes_found : (k : ℕ) (p : Field → Bool) (fields : List Field) (g : Field) → field_of fields k ≡ Some g → p g ≡ true → list_any (numbered k p) fields ≡ true
+pub passes_found : (k : ℕ) (p : Field → Bool) (fields : List Field) (g : Field) → field_of fields k ≡ Some g → p g ≡ true → list_any (numbered k p) fields ≡ true
 passes_found k p [] g e h = cc
 passes_found k p (f ∷ fields) g e h = cases (nat_eq f.number k) refl e (λ e. passes_found k p fields g e h)
   where

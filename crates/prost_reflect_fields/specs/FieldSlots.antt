@@ -1,5 +1,5 @@
 -- What is stored at each number.
-use Rattle.std.specs.Prelude.{◌≡◌, ◌≢◌, ℕ, Bool, List, [], ◌∷◌, ◌++◌, Option, None, Some, option_and_then, option_map, option_to_list, flat_map, unwrap_or, is_some, nat_eq, if◌then◌else◌}
+use Rattle.std.specs.Prelude.{◌≡◌, ◌≢◌, ℕ, Bool, List, [], ◌∷◌, ◌++◌, Option, None, Some, option_and_then, option_map, option_to_list, flat_map, unwrap_or, is_some, nat_eq, ◌&&◌, if◌then◌else◌}
 use Rattle.prost_reflect_wire.specs.Record.{Record}
 use Rattle.prost_reflect_wire.specs.Unknown.{records_of}
 use Rattle.prost_reflect_wire.specs.declared.unknown.UnknownFieldSet.{UnknownFieldSet}
@@ -87,6 +87,11 @@ module _ {V : Type 0} where
   -- The values at the numbers that pass, each with its number.
   abbrev pub values_where : (ℕ → Bool) → List (ℕ × FieldSlot V) → List (ℕ × V)
   values_where test es = flat_map (λ e. numbered e.0 (if test e.0 then value_in e.1 else None)) es
+
+  -- The first of the numbers that pass at which there is a value.
+  abbrev pub first_value : (ℕ → Bool) → List (ℕ × FieldSlot V) → Option ℕ
+  first_value test [] = None
+  first_value test (e ∷ es) = if is_some (value_in e.1) && test e.0 then Some e.0 else first_value test es
 
   abbrev pub clear_value : List (ℕ × FieldSlot V) → ℕ → List (ℕ × FieldSlot V)
   clear_value es n = without_values (nat_eq n) es

@@ -1,9 +1,9 @@
 -- What a message type says of a number.
-use Rattle.std.specs.Prelude.{ℕ, Bool, false, nat_eq, List, [], ◌∷◌, Option, is_some, option_and_then}
+use Rattle.std.specs.Prelude.{ℕ, Bool, false, not, ◌&&◌, nat_eq, List, [], ◌∷◌, Option, is_some, option_and_then}
 use Rattle.std.specs.Bool.{beq}
 use Rattle.std.specs.List.{list_all}
 use Rattle.prost_reflect_wire.specs.Record.{Record, Payload}
-use Rattle.prost_reflect_wire.specs.Schema.{Field, known, field_of, is_sibling, passes}
+use Rattle.prost_reflect_wire.specs.Schema.{Field, known, field_of, is_sibling, same_oneof, passes}
 use Rattle.prost_reflect_wire.specs.Typing.{unknown_fits}
 use Rattle.prost_reflect_pool.specs.MessageTypes.{schema_at, type_at}
 use Rattle.prost_reflect_pool.specs.declared.pooled_type.PooledType.{PooledType}
@@ -25,6 +25,10 @@ oneof_of fields n = option_and_then (λ f. f.oneof) (field_of fields n)
 -- Another member of the oneof of a number's field.
 abbrev pub are_siblings : List Field → ℕ → ℕ → Bool
 are_siblings fields n k = passes (field_of fields n) (λ f. is_sibling fields f k)
+
+-- A number whose field is a member of the oneof, but not n.
+abbrev pub is_other_member : List Field → Option ℕ → ℕ → ℕ → Bool
+is_other_member fields oneof n k = not (nat_eq k n) && same_oneof (oneof_of fields k) oneof
 
 -- Any unknown record stands at an unknown number, and at that of a field one that gives no value, since a closed enum does not declare its number.
 abbrev pub keeps_unknown : List Field → ℕ → Payload → Bool

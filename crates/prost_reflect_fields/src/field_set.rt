@@ -12,6 +12,8 @@ ghost use Rattle.prost_reflect_fields.specs.FieldSlots.{value_at, unknown_at, cl
 ghost use Rattle.prost_reflect_fields.specs.Sound.{IsSound, set_value_at, prepared};
 ghost use Rattle.prost_reflect_fields.specs.ItemsLeft.{items_left, items_left_back};
 
+use crate::boxed::Boxed;
+use crate::items::ItemList;
 use crate::number_map::ascending;
 use crate::parting::parted;
 use crate::slot::FieldSlot;
@@ -55,14 +57,23 @@ impl<V> Model for FieldSet<V> {
     ghost invariant = { λ a. IsSound a.message_type a.fields };
 }
 
+/// For how many numbers a message makes room with the first: for those of its fields, or for eight. Only speed rests on it.
+fn first_room(message_type: &PooledType) -> usize {
+    match message_type.field_tables().len() {
+        count @ 1..=8 => count,
+        _ => 8,
+    }
+}
+
 impl<V> FieldSet<V> {
     /// No values and no unknown fields.
     pub fn new(alloc: Global, message_type: PooledType) -> FieldSet<V>
         ensures { result ≡ (message_type, []) }
     {
+        let room = first_room(&message_type);
         FieldSet {
             message_type,
-            fields: SortedMap::new(alloc),
+            fields: SortedMap::with_room(alloc, room),
         }
     }
 
@@ -150,13 +161,13 @@ impl<V: Drop> FieldSet<V> {
         let Some(count) = self.fields.count() else {
             return Err(AllocError);
         };
-        let runs = Vec::with_capacity(alloc, 1)?;
+        let list = Boxed::new(alloc, ItemList::new(alloc))?;
         let mut slots = Vec::with_capacity(alloc, count)?;
         let taken = Vec::with_capacity(alloc, count)?;
         let kept = Vec::with_capacity(alloc, count)?;
         self.fields.move_items(&mut slots);
         let (taken, kept) = parted(&self.message_type, of_extensions, slots, taken, kept);
-        self.fields = SortedMap::from_items(runs, kept);
+        self.fields = SortedMap::from_items(list, kept);
         Ok(taken)
     }
 

@@ -1,6 +1,6 @@
 //! Maps from numbers.
 
-ghost use Rattle.std.specs.Prelude.{◌≡◌, ℕ, List, OnOk, OnErr};
+ghost use Rattle.std.specs.Prelude.{◌≡◌, ℕ, List, OnOk, OnErr, IfSome};
 ghost use Rattle.std.specs.Borrow.{LendsSo, sem};
 ghost use Rattle.std.specs.Option.{option_copied, option_copied_mut};
 ghost use Rattle.prost_reflect_fields.specs.Items.{IsAscending, item_at, with_item, put_item, without_item};
@@ -15,6 +15,10 @@ pub trait NumberMap<T> {
     /// The numbers ascend. A call does nothing, but its caller may then count on it.
     fn ascends(&self)
         ensures { IsAscending (entries self.now) };
+
+    /// All items, where they stand in one list.
+    fn listed(&self) -> Option<&[(u32, T)]>
+        ensures { IfSome result (λ items. items.now ≡ entries self.now) };
 
     /// The item at the number.
     fn get(&self, number: u32) -> Option<&T>
@@ -48,6 +52,10 @@ impl<T: Drop> NumberMap<T> for BTreeMap<u32, T> {
 
     fn ascends(&self) {
         let _ = self.len();
+    }
+
+    fn listed(&self) -> Option<&[(u32, T)]> {
+        None
     }
 
     fn get(&self, number: u32) -> Option<&T> {

@@ -4,8 +4,8 @@ ghost use Rattle.std.specs.Prelude.{◌≡◌, ◌+◌, ◌<◌, ◌≤◌, ◌+
 ghost use Rattle.prost_reflect_fields.specs.Known.{known_of, is_listed};
 ghost use Rattle.prost_reflect_fields.specs.FieldSlots.{left_in, numbered, value_in, values_where, without_values};
 
+use crate::items::push_last;
 use crate::slot::FieldSlot;
-use crate::sorted_map::push_last;
 use prost_reflect_pool::PooledType;
 
 /// The values at the numbers of fields, or those at the numbers of extensions, and the slots that are left. There is room for both.
@@ -44,7 +44,10 @@ fn split<V: Drop>(slot: FieldSlot<V>, takes: bool) -> (Option<V>, Option<FieldSl
     match slot {
         FieldSlot::Value(value) => (Some(value), None),
         FieldSlot::Unknown(unknown) => (None, Some(FieldSlot::Unknown(unknown))),
-        FieldSlot::Both(value, unknown) => (Some(value), Some(FieldSlot::Unknown(unknown))),
+        FieldSlot::Both(value, unknown) => (
+            Some(value),
+            Some(FieldSlot::Unknown(unknown.into_inner())),
+        ),
     }
 }
 

@@ -7,6 +7,7 @@ ghost use Rattle.prost_reflect_wire.specs.Unknown.{record_of};
 ghost use Rattle.prost_reflect_fields.specs.contracts.slot.FieldSlot.{the_row};
 ghost use Rattle.prost_reflect_fields.specs.FieldSlots.{value_in, unknown_in, with_value_in, revalued, value_beside, without_value_beside, AddedIn, SameIn};
 
+use crate::boxed::Boxed;
 use prost_reflect_wire::{UnknownField, UnknownFieldSet};
 use std::alloc::{AllocError, Global};
 use std::mem;
@@ -18,8 +19,8 @@ pub enum FieldSlot<V> {
     Value(V),
     /// Unknown fields alone.
     Unknown(UnknownFieldSet),
-    /// The value of a field, and the numbers that its closed enum does not declare.
-    Both(V, UnknownFieldSet),
+    /// The value of a field, and the numbers that its closed enum does not declare. There are seldom any, so they are on the heap.
+    Both(V, Boxed<UnknownFieldSet>),
 }
 
 impl<V> FieldSlot<V> {
@@ -38,7 +39,8 @@ impl<V> FieldSlot<V> {
         ensures { option_copied result ≡ unknown_in self.now }
     {
         match self {
-            FieldSlot::Unknown(unknown) | FieldSlot::Both(_, unknown) => Some(unknown),
+            FieldSlot::Unknown(unknown) => Some(unknown),
+            FieldSlot::Both(_, unknown) => Some(unknown.get()),
             FieldSlot::Value(_) => None,
         }
     }
@@ -51,7 +53,7 @@ impl<V> FieldSlot<V> {
         match self {
             FieldSlot::Value(value) => (Some(value), None),
             FieldSlot::Unknown(unknown) => (None, Some(unknown)),
-            FieldSlot::Both(value, unknown) => (Some(value), Some(unknown)),
+            FieldSlot::Both(value, unknown) => (Some(value), Some(unknown.into_inner())),
         }
     }
 
@@ -69,13 +71,33 @@ impl<V> FieldSlot<V> {
 }
 
 impl<V: Drop> FieldSlot<V> {
-    /// Puts a value beside the unknown fields, in place of one that is there.
-    pub fn put(&mut self, alloc: Global, value: V)
+    /// Puts a value beside the unknown fields, in place of one that is there. A refused growth changes nothing.
+    pub fn put(&mut self, alloc: Global, value: V) -> Result<(), AllocError>
+        ensures ok { OnOk result (self.new ≡ with_value_in self.old value) }
+        ensures err { OnErr result (self.new ≡ self.old) }
+    {
+        match self {
+            FieldSlot::Value(old) => *old = value,
+            FieldSlot::Both(old, _) => *old = value,
+            FieldSlot::Unknown(_) => {
+                let beside = Boxed::new(alloc, UnknownFieldSet::new(alloc))?;
+                self.put_beside(alloc, value, beside);
+            }
+        }
+        Ok(())
+    }
+
+    /// Puts a value beside the unknown fields, which move into a set that is there already.
+    fn put_beside(&mut self, alloc: Global, value: V, beside: Boxed<UnknownFieldSet>)
         ensures { self.new ≡ with_value_in self.old value }
     {
+        let mut beside = beside;
         match mem::replace(self, FieldSlot::Unknown(UnknownFieldSet::new(alloc))) {
             FieldSlot::Value(_) => *self = FieldSlot::Value(value),
-            FieldSlot::Unknown(unknown) => *self = FieldSlot::Both(value, unknown),
+            FieldSlot::Unknown(unknown) => {
+                *beside.get_mut() = unknown;
+                *self = FieldSlot::Both(value, beside);
+            }
             FieldSlot::Both(_, unknown) => *self = FieldSlot::Both(value, unknown),
         }
     }
@@ -87,7 +109,7 @@ impl<V: Drop> FieldSlot<V> {
     {
         match mem::replace(self, FieldSlot::Unknown(UnknownFieldSet::new(alloc))) {
             FieldSlot::Both(value, unknown) => {
-                *self = FieldSlot::Unknown(unknown);
+                *self = FieldSlot::Unknown(unknown.into_inner());
                 Some(value)
             }
             whole => {
@@ -104,11 +126,11 @@ impl<V: Drop> FieldSlot<V> {
     {
         match self {
             FieldSlot::Unknown(unknown) => return unknown.insert(field),
-            FieldSlot::Both(_, unknown) => return unknown.insert(field),
+            FieldSlot::Both(_, unknown) => return unknown.get_mut().insert(field),
             FieldSlot::Value(_) => {}
         }
-        let mut unknown = UnknownFieldSet::new(alloc);
-        unknown.insert(field)?;
+        let mut unknown = Boxed::new(alloc, UnknownFieldSet::new(alloc))?;
+        unknown.get_mut().insert(field)?;
         match mem::replace(self, FieldSlot::Unknown(UnknownFieldSet::new(alloc))) {
             FieldSlot::Value(value) => *self = FieldSlot::Both(value, unknown),
             whole => *self = whole,

@@ -1,70 +1,82 @@
-//! A map from numbers, as runs of items in ascending order.
+//! A map from numbers.
 
-ghost use Rattle.std.specs.Prelude.{◌≡◌, ◌+◌, ◌<◌, ◌≤◌, ◌++◌, ◌∷◌, ℕ, List, [], length, OnOk, OnErr, IfSome, IfNone, Some, None, vec_len, vec_capacity};
+ghost use Rattle.std.specs.Prelude.{◌≡◌, ◌+◌, ◌<◌, ◌≤◌, ◌++◌, ◌^◌, ◌∷◌, ℕ, List, [], length, OnOk, OnErr, IfOk, IfSome, IfNone, vec_len, vec_capacity};
 ghost use Rattle.std.specs.Borrow.{LendsIf, sem};
 ghost use Rattle.std.specs.Option.{option_copied, option_copied_mut, option_to_list};
-ghost use Rattle.std.specs.Ordering.{nat_cmp};
 ghost use Rattle.std.specs.Vec.Iter.{into_iter_items, into_iter_len};
-ghost use Rattle.std_collections.specs.Layout.BTreeMap.{seek};
 ghost use Rattle.prost_reflect_fields.specs.contracts.sorted_map.SortedMap.{the_row};
 ghost use Rattle.prost_reflect_fields.specs.Items.{IsAscending, item_at, with_item, put_item, without_item};
 ghost use Rattle.prost_reflect_fields.specs.NumberSets.{has, is_up_to, chosen_up_to, left_beyond, AreReplaced};
-ghost use Rattle.prost_reflect_fields.specs.Runs.{flat, IsLaid, run_at};
 ghost use Rattle.prost_reflect_fields.specs.ItemsLeft.{items_left, items_left_back};
 
+use crate::boxed::Boxed;
+use crate::items::{ItemList, join, push_last};
 use crate::number_map::NumberMap;
+use crate::runs::{FULL, RunMap};
 use std::alloc::{AllocError, Global};
 use std::collections::BTreeSet;
 use std::marker::Model;
 use std::mem;
 use std::vec::IntoIter;
 
-/// A run of so many items is parted before it takes a further one.
-const FULL: usize = 128;
+/// How many items a map has room for at first, unless it is told.
+const FIRST_ROOM: usize = 4;
 
-/// A map from numbers, as runs of items in ascending order. With each run stands a number that is above all items in front of it, and
-/// not above its own.
-///
-/// An item goes into its run, and a run that is full is parted first. So an item moves no more than those of its run, whatever the
-/// order in which the numbers come, and few items are one run.
+/// A map from numbers. Few items stand in one list, and many in runs, so that an item moves few others, whatever the order in which
+/// the numbers come.
 #[derive(Debug, Drop)]
 pub struct SortedMap<T> {
-    runs: Vec<(u32, Vec<(u32, T)>)>,
+    held: Held<T>,
+}
+
+/// Where the items of a map stand. They are on the heap, so that a map is no larger than it has to be where it stands itself.
+#[derive(Debug, Drop)]
+pub enum Held<T> {
+    /// There are none. The first list has room for so many.
+    Empty(Global, usize),
+    /// In one list.
+    Listed(Boxed<ItemList<T>>),
+    /// In runs.
+    Laid(Boxed<RunMap<T>>),
 }
 
 impl<T> Model for SortedMap<T> {
     ghost use Rattle.std.specs.Prelude.{ℕ, List};
-    ghost use Rattle.prost_reflect_fields.specs.Runs.{flat, IsLaid};
+    ghost use Rattle.prost_reflect_fields.specs.Held.{held_items};
 
     ghost Value = { List (ℕ × T) };
 
-    ghost view = { λ a. flat a.runs.items };
-
-    ghost invariant = { λ a. IsLaid a.runs.items };
+    ghost view = { λ a. held_items a.held };
 }
 
 impl<T> SortedMap<T> {
     pub fn new(alloc: Global) -> SortedMap<T>
         ensures { result ≡ [] }
     {
+        SortedMap::with_room(alloc, FIRST_ROOM)
+    }
+
+    /// No items. The first that is put in makes room for so many.
+    pub fn with_room(alloc: Global, room: usize) -> SortedMap<T>
+        ensures { result ≡ [] }
+    {
         SortedMap {
-            runs: Vec::new(alloc),
+            held: Held::Empty(alloc, room),
         }
     }
 
-    /// These items, whose numbers ascend, as one run. There is room for it.
-    pub(crate) fn from_items(runs: Vec<(u32, Vec<(u32, T)>)>, items: Vec<(u32, T)>) -> SortedMap<T>
-        requires empty { runs.items ≡ [] }
-        requires room { vec_len runs < vec_capacity runs }
-        requires ascending { IsAscending items.items }
+    /// These items, whose numbers ascend, in a list that is there already.
+    pub(crate) fn from_items(list: Boxed<ItemList<T>>, items: Vec<(u32, T)>) -> SortedMap<T>
+    where
+        T: Drop,
+        requires { IsAscending items.items }
         ensures { result ≡ items.items }
     {
-        let mut runs = runs;
-        match runs.push((0, items)) {
-            Ok(()) => {}
-            Err(_) => unreachable!(),
+        let mut list = list;
+        *list.get_mut() = ItemList::from_items(items);
+        SortedMap {
+            held: Held::Listed(list),
         }
-        SortedMap { runs }
     }
 
     /// Puts all items behind those that are there, for which there is room.
@@ -76,33 +88,66 @@ impl<T> SortedMap<T> {
         ensures left { self.new ≡ [] }
         ensures ascending { IsAscending self.old }
     {
+        self.ascends();
         let alloc = self.allocator();
-        join_runs(mem::replace(&mut self.runs, Vec::new(alloc)), items);
+        match mem::replace(&mut self.held, Held::Empty(alloc, FIRST_ROOM)) {
+            Held::Empty(_, _) => {}
+            Held::Listed(list) => join(list.into_inner().into_items(), items),
+            Held::Laid(map) => map.into_inner().move_items(items),
+        }
     }
 
     /// What the items are stored with.
     pub fn allocator(&self) -> Global {
-        *self.runs.allocator()
+        match &self.held {
+            Held::Empty(alloc, _) => *alloc,
+            Held::Listed(list) => list.get().allocator(),
+            Held::Laid(map) => map.get().allocator(),
+        }
     }
 
     /// How many numbers have an item, unless no `usize` is so large.
     pub(crate) fn count(&self) -> Option<usize>
-        ensures { IfSome result (λ count. count ≡ length self.now) }
+        ensures count { IfSome result (λ count. count ≡ length self.now) }
+        ensures none { IfNone result (2 ^ 64 ≤ length self.now) }
     {
-        count_items(&self.runs)
+        match &self.held {
+            Held::Empty(_, _) => Some(0),
+            Held::Listed(list) => Some(list.get().items().len()),
+            Held::Laid(map) => map.get().count(),
+        }
     }
 
     /// The numbers ascend. A call does nothing, but its caller may then count on it.
     pub fn ascends(&self)
         ensures { IsAscending self.now }
     {
-        let _ = self.runs.len();
+        match &self.held {
+            Held::Empty(_, _) => {}
+            Held::Listed(list) => drop(list.get().items()),
+            Held::Laid(map) => map.get().ascends(),
+        }
+    }
+
+    /// All items, where they stand in one list.
+    pub fn listed(&self) -> Option<&[(u32, T)]>
+        ensures { IfSome result (λ items. items.now ≡ self.now) }
+    {
+        match &self.held {
+            Held::Empty(_, _) => Some(&[]),
+            Held::Listed(list) => Some(list.get().items()),
+            Held::Laid(_) => None,
+        }
     }
 
     pub fn get(&self, number: u32) -> Option<&T>
         ensures { option_copied result ≡ item_at self.now number }
     {
-        get_in(&self.runs, number)
+        match &self.held {
+            Held::Empty(_, _) => None,
+            Held::Listed(list) => list.get().get(number),
+            Held::Laid(map) => map.get().get(number),
+        }
     }
 
     /// The items with their numbers, ascending.
@@ -110,9 +155,19 @@ impl<T> SortedMap<T> {
         ensures items { items_left result ≡ self.now }
         ensures ascending { IsAscending self.now }
     {
-        Items {
-            run: &[],
-            runs: &self.runs,
+        match &self.held {
+            Held::Empty(_, _) => Items {
+                run: &[],
+                runs: &[],
+            },
+            Held::Listed(list) => Items {
+                run: list.get().items(),
+                runs: &[],
+            },
+            Held::Laid(map) => Items {
+                run: &[],
+                runs: map.get().runs(),
+            },
         }
     }
 
@@ -121,9 +176,19 @@ impl<T> SortedMap<T> {
         ensures items { items_left_back result ≡ self.now }
         ensures ascending { IsAscending self.now }
     {
-        ItemsBack {
-            runs: &self.runs,
-            run: &[],
+        match &self.held {
+            Held::Empty(_, _) => ItemsBack {
+                runs: &[],
+                run: &[],
+            },
+            Held::Listed(list) => ItemsBack {
+                runs: &[],
+                run: list.get().items(),
+            },
+            Held::Laid(map) => ItemsBack {
+                runs: map.get().runs(),
+                run: &[],
+            },
         }
     }
 
@@ -131,16 +196,10 @@ impl<T> SortedMap<T> {
         ensures* writes_back { sem 𝓛 (LendsIf (the_row T.row) T.row self.entry result (with_item self.old number) self.old) }
         ensures value { option_copied_mut result ≡ item_at self.old number }
     {
-        match run_of(&self.runs, number) {
-            Some(index) => match place_in(&self.runs[index].1, number) {
-                Ok(place) => {
-                    let run = &mut self.runs[index];
-                    let item = &mut run.1[place];
-                    Some(&mut item.1)
-                }
-                Err(_) => None,
-            },
-            None => None,
+        match &mut self.held {
+            Held::Empty(_, _) => None,
+            Held::Listed(list) => list.get_mut().get_mut(number),
+            Held::Laid(map) => map.get_mut().get_mut(number),
         }
     }
 }
@@ -150,8 +209,38 @@ impl<T: Drop> SortedMap<T> {
         ensures ok { OnOk result (self.new ≡ put_item self.old number item) }
         ensures err { OnErr result (self.new ≡ self.old) }
     {
-        make_room(&mut self.runs, number)?;
-        put_in(&mut self.runs, number, item)
+        self.lay()?;
+        if let Held::Empty(alloc, room) = &self.held {
+            let list = list_of(*alloc, *room, number, item)?;
+            self.held = Held::Listed(list);
+            return Ok(());
+        }
+        match &mut self.held {
+            Held::Empty(_, _) => unreachable!(),
+            Held::Listed(list) => list.get_mut().insert(number, item),
+            Held::Laid(map) => map.get_mut().insert(number, item),
+        }
+    }
+
+    /// Lays the items in runs, if a list has as many as a run may have. A refused growth changes nothing.
+    fn lay(&mut self) -> Result<(), AllocError>
+        ensures { self.new ≡ self.old }
+    {
+        match &self.held {
+            Held::Listed(list) if FULL <= list.get().items().len() => {}
+            _ => return Ok(()),
+        }
+        let alloc = self.allocator();
+        let runs = Vec::with_capacity(alloc, 1)?;
+        let mut map = Boxed::new(alloc, RunMap::new(alloc))?;
+        match mem::replace(&mut self.held, Held::Empty(alloc, FIRST_ROOM)) {
+            Held::Listed(list) => {
+                *map.get_mut() = RunMap::from_items(runs, list.into_inner().into_items());
+                self.held = Held::Laid(map);
+            }
+            whole => self.held = whole,
+        }
+        Ok(())
     }
 
     /// Puts what the other map has at the numbers of the set in place of what is there. A refused growth changes nothing.
@@ -177,11 +266,11 @@ impl<T: Drop> SortedMap<T> {
         let mut olds = Vec::with_capacity(alloc, old_count)?;
         let mut news = Vec::with_capacity(alloc, new_count)?;
         let mut items = Vec::with_capacity(alloc, count)?;
-        let runs = Vec::with_capacity(alloc, 1)?;
+        let list = Boxed::new(alloc, ItemList::new(alloc))?;
         self.move_items(&mut olds);
         others.move_items(&mut news);
         weave(&mut items, olds, news, numbers);
-        *self = SortedMap::from_items(runs, items);
+        *self = SortedMap::from_items(list, items);
         Ok(())
     }
 
@@ -189,7 +278,11 @@ impl<T: Drop> SortedMap<T> {
         ensures removed { result ≡ item_at self.old number }
         ensures entries { self.new ≡ without_item self.old number }
     {
-        remove_in(&mut self.runs, number)
+        match &mut self.held {
+            Held::Empty(_, _) => None,
+            Held::Listed(list) => list.get_mut().remove(number),
+            Held::Laid(map) => map.get_mut().remove(number),
+        }
     }
 }
 
@@ -295,185 +388,18 @@ impl<'a, T> ItemsBack<'a, T> {
     }
 }
 
-/// Where the number stands among ascending ones, or where it would go.
-fn place_in<T>(items: &[(u32, T)], number: u32) -> Result<usize, usize>
-    requires { IsAscending items.now }
-    ensures { result ≡ seek (nat_cmp number) items.now }
-{
-    items.binary_search_by_key(&number, |item| item.0)
-}
-
-/// The place of the run to which the number belongs: the last one whose items may have it.
-fn run_of<T>(runs: &[(u32, Vec<(u32, T)>)], number: u32) -> Option<usize>
-    requires { IsLaid runs.now }
-    ensures run { result ≡ run_at (seek (nat_cmp number) runs.now) }
-    ensures within { IfSome result (λ index. index < length runs.now) }
-{
-    match place_in(runs, number) {
-        Ok(index) => Some(index),
-        Err(0) => None,
-        Err(index) => Some(index - 1),
-    }
-}
-
-/// The item at the number in its run.
-fn get_in<T>(runs: &[(u32, Vec<(u32, T)>)], number: u32) -> Option<&T>
-    requires { IsLaid runs.now }
-    ensures { option_copied result ≡ item_at (flat runs.now) number }
-{
-    match run_of(runs, number) {
-        Some(index) => get_at(&runs[index].1, number),
-        None => None,
-    }
-}
-
-fn get_at<T>(items: &[(u32, T)], number: u32) -> Option<&T>
-    requires { IsAscending items.now }
-    ensures { option_copied result ≡ item_at items.now number }
-{
-    match place_in(items, number) {
-        Ok(place) => Some(&items[place].1),
-        Err(_) => None,
-    }
-}
-
-fn count_items<T>(runs: &[(u32, Vec<(u32, T)>)]) -> Option<usize>
-    ensures { IfSome result (λ count. count ≡ length (flat runs.now)) }
-{
-    let mut count: usize = 0;
-    for run in runs {
-        count = count.checked_add(run.1.len())?;
-    }
-    Some(count)
-}
-
-/// Parts the run to which the number belongs, where it is full. A refused growth changes no item.
-fn make_room<T: Drop>(runs: &mut Vec<(u32, Vec<(u32, T)>)>, number: u32) -> Result<(), AllocError>
-    requires { IsLaid runs.old.items }
-    ensures laid { IsLaid runs.new.items }
-    ensures items { flat runs.new.items ≡ flat runs.old.items }
-{
-    match run_of(runs, number) {
-        Some(index) if FULL <= runs[index].1.len() => part_run(runs, index),
-        _ => Ok(()),
-    }
-}
-
-/// Parts a run in the middle. A refused growth changes no item.
-fn part_run<T: Drop>(runs: &mut Vec<(u32, Vec<(u32, T)>)>, index: usize) -> Result<(), AllocError>
-    requires laid { IsLaid runs.old.items }
-    requires index { index < vec_len runs.old }
-    ensures laid { IsLaid runs.new.items }
-    ensures items { flat runs.new.items ≡ flat runs.old.items }
-{
-    runs.reserve(1)?;
-    let run = &mut runs[index].1;
-    let middle = run.len() / 2;
-    if middle == 0 {
-        return Ok(());
-    }
-    let number = run[middle].0;
-    let high = run.split_off(middle)?;
-    match runs.insert(index + 1, (number, high)) {
-        Ok(()) => Ok(()),
-        Err(_) => unreachable!(),
-    }
-}
-
-/// Puts the item at the number, in place of one that is there. A refused growth changes no item.
-fn put_in<T: Drop>(
-    runs: &mut Vec<(u32, Vec<(u32, T)>)>,
+/// A list of one item, with room for so many.
+fn list_of<T: Drop>(
+    alloc: Global,
+    room: usize,
     number: u32,
     item: T,
-) -> Result<(), AllocError>
-    requires { IsLaid runs.old.items }
-    ensures laid { IsLaid runs.new.items }
-    ensures ok { OnOk result (flat runs.new.items ≡ put_item (flat runs.old.items) number item) }
-    ensures err { OnErr result (flat runs.new.items ≡ flat runs.old.items) }
+) -> Result<Boxed<ItemList<T>>, AllocError>
+    ensures { IfOk result (λ list. list ≡ (number, item) ∷ []) }
 {
-    match run_of(runs, number) {
-        Some(index) => put(&mut runs[index].1, number, item),
-        None => put_first(runs, number, item),
-    }
-}
-
-/// Puts the item in front of all others, in a run of its own. A refused growth changes no item.
-fn put_first<T: Drop>(
-    runs: &mut Vec<(u32, Vec<(u32, T)>)>,
-    number: u32,
-    item: T,
-) -> Result<(), AllocError>
-    requires laid { IsLaid runs.old.items }
-    requires first { run_at (seek (nat_cmp number) runs.old.items) ≡ None }
-    ensures laid { IsLaid runs.new.items }
-    ensures ok { OnOk result (flat runs.new.items ≡ put_item (flat runs.old.items) number item) }
-    ensures err { OnErr result (flat runs.new.items ≡ flat runs.old.items) }
-{
-    runs.reserve_exact(1)?;
-    let mut run = Vec::new(*runs.allocator());
-    run.push((number, item))?;
-    runs.insert(0, (0, run))?;
-    Ok(())
-}
-
-/// Puts the item at the number, in place of one that is there. A refused growth changes nothing.
-fn put<T: Drop>(items: &mut Vec<(u32, T)>, number: u32, item: T) -> Result<(), AllocError>
-    requires { IsAscending items.old.items }
-    ensures ok { OnOk result (items.new.items ≡ put_item items.old.items number item) }
-    ensures err { OnErr result (items.new.items ≡ items.old.items) }
-{
-    match place_in(items, number) {
-        Ok(index) => items[index] = (number, item),
-        Err(index) => items.insert(index, (number, item))?,
-    }
-    Ok(())
-}
-
-/// Takes the item at the number from its run.
-fn remove_in<T: Drop>(runs: &mut Vec<(u32, Vec<(u32, T)>)>, number: u32) -> Option<T>
-    requires { IsLaid runs.old.items }
-    ensures laid { IsLaid runs.new.items }
-    ensures removed { result ≡ item_at (flat runs.old.items) number }
-    ensures items { flat runs.new.items ≡ without_item (flat runs.old.items) number }
-{
-    match run_of(runs, number) {
-        Some(index) => remove_at(&mut runs[index].1, number),
-        None => None,
-    }
-}
-
-fn remove_at<T: Drop>(items: &mut Vec<(u32, T)>, number: u32) -> Option<T>
-    requires { IsAscending items.old.items }
-    ensures removed { result ≡ item_at items.old.items number }
-    ensures items { items.new.items ≡ without_item items.old.items number }
-{
-    match place_in(items, number) {
-        Ok(place) => Some(items.remove(place).1),
-        Err(_) => None,
-    }
-}
-
-/// Puts the items of all runs behind those that are there, for which there is room.
-fn join_runs<T: Drop>(runs: Vec<(u32, Vec<(u32, T)>)>, items: &mut Vec<(u32, T)>)
-    requires { vec_len items.old + length (flat runs.items) ≤ vec_capacity items.old }
-    ensures { items.new.items ≡ items.old.items ++ flat runs.items }
-{
-    for (_, run) in runs {
-        join_run(run, items);
-    }
-}
-
-fn join_run<T: Drop>(run: Vec<(u32, T)>, items: &mut Vec<(u32, T)>)
-    requires { vec_len items.old + length run.items ≤ vec_capacity items.old }
-    ensures items { items.new.items ≡ items.old.items ++ run.items }
-    ensures len { vec_len items.new ≡ vec_len items.old + length run.items }
-    ensures capacity { vec_capacity items.old ≤ vec_capacity items.new }
-{
-    let mut run = run;
-    match items.append(&mut run) {
-        Ok(()) => {}
-        Err(_) => unreachable!(),
-    }
+    let mut list = ItemList::from_items(Vec::with_capacity(alloc, room)?);
+    list.insert(number, item)?;
+    Boxed::new(alloc, list)
 }
 
 /// Puts behind `items`, which are none yet, the others whose numbers are in the set and the old ones whose numbers are not, in one
@@ -541,24 +467,15 @@ fn is_up_to(number: u32, bound: Option<u32>) -> bool
     }
 }
 
-/// Puts an item behind those that are there, for which there is room.
-pub fn push_last<T: Drop>(items: &mut Vec<T>, item: T)
-    requires { vec_len items.old < vec_capacity items.old }
-    ensures items { items.new.items ≡ items.old.items ++ item ∷ [] }
-    ensures len { vec_len items.new ≡ vec_len items.old + 1 }
-    ensures capacity { vec_capacity items.old ≤ vec_capacity items.new }
-{
-    match items.push(item) {
-        Ok(()) => {}
-        Err(_) => unreachable!(),
-    }
-}
-
 impl<T: Drop> NumberMap<T> for SortedMap<T> {
     ghost entries = { λ m. m };
 
     fn ascends(&self) {
         self.ascends();
+    }
+
+    fn listed(&self) -> Option<&[(u32, T)]> {
+        self.listed()
     }
 
     fn get(&self, number: u32) -> Option<&T> {

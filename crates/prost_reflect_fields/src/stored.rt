@@ -1,13 +1,13 @@
 //! Values and unknown fields in a map from numbers to slots.
 
-ghost use Rattle.std.specs.Prelude.{◌≡◌, ◌∷◌, [], Some, OnOk, OnErr, IfOk};
+ghost use Rattle.std.specs.Prelude.{◌≡◌, ◌∷◌, [], Some, OnOk, OnErr, IfOk, IfSome, true};
 ghost use Rattle.std.specs.Borrow.{LendsSo, sem};
 ghost use Rattle.std.specs.Option.{option_copied, option_copied_mut};
 ghost use Rattle.prost_reflect_wire.specs.Unknown.{record_of};
 ghost use Rattle.prost_reflect_wire.specs.Schema.{same_oneof};
 ghost use Rattle.prost_reflect_fields.specs.Items.{IsAscending};
-ghost use Rattle.prost_reflect_fields.specs.Known.{known_of, oneof_of, are_siblings};
-ghost use Rattle.prost_reflect_fields.specs.FieldSlots.{value_at, unknown_at, put_value, clear_value, with_value, without_values, UnknownAdded, SameStored};
+ghost use Rattle.prost_reflect_fields.specs.Known.{known_of, oneof_of, are_siblings, is_other_member};
+ghost use Rattle.prost_reflect_fields.specs.FieldSlots.{value_at, unknown_at, put_value, clear_value, with_value, without_values, first_value, UnknownAdded, SameStored};
 ghost use Rattle.prost_reflect_fields.specs.Sound.{set_value_at, prepared};
 ghost use Rattle.prost_reflect_fields.specs.Members.{is_member, rows_at};
 ghost use Rattle.prost_reflect_fields.specs.Lending.{LendsOrStays};
@@ -58,10 +58,10 @@ pub fn put_value<V: Drop, S: NumberMap<FieldSlot<V>>>(
     if fields.get(number).is_none() {
         return fields.insert(number, FieldSlot::Value(value));
     }
-    if let Some(slot) = fields.get_mut(number) {
-        slot.put(alloc, value);
+    match fields.get_mut(number) {
+        Some(slot) => slot.put(alloc, value),
+        None => Ok(()),
     }
-    Ok(())
 }
 
 /// Takes the value at the number, where the unknown fields stay.
@@ -203,14 +203,74 @@ fn clear_siblings<V: Drop, S: NumberMap<FieldSlot<V>>>(
 {
     let oneof = oneof_of(message_type, number);
     let places = member_places(message_type, oneof);
-    clear_members(
-        fields,
-        alloc,
-        message_type.field_tables(),
-        places,
-        oneof,
-        number,
-    );
+    if !clear_listed(fields, alloc, message_type, oneof, number, places.len()) {
+        clear_members(
+            fields,
+            alloc,
+            message_type.field_tables(),
+            places,
+            oneof,
+            number,
+        );
+    }
+}
+
+/// Removes the values of the members of the oneof, but that of the number, where all items stand in a list that is shorter than the
+/// list of its members. Answers whether it did; if not, some may still be there.
+fn clear_listed<V: Drop, S: NumberMap<FieldSlot<V>>>(
+    fields: &mut S,
+    alloc: Global,
+    message_type: &PooledType,
+    oneof: Option<usize>,
+    number: u32,
+    members: usize,
+) -> bool
+    ensures cleared { result ≡ true → S.entries fields.new ≡ without_values (is_other_member (known_of message_type.now) oneof number) (S.entries fields.old) }
+    ensures left { without_values (is_other_member (known_of message_type.now) oneof number) (S.entries fields.new) ≡ without_values (is_other_member (known_of message_type.now) oneof number) (S.entries fields.old) }
+    ensures ascending { IsAscending (S.entries fields.old) }
+{
+    ascending(fields);
+    while let Some(items) = shorter_list(fields, members) {
+        match member_among(items, message_type, oneof, number) {
+            Some(member) => drop(take_value(fields, alloc, member)),
+            None => return true,
+        }
+    }
+    false
+}
+
+/// All items, where they stand in one list that is shorter than the limit.
+fn shorter_list<T, S: NumberMap<T>>(fields: &S, limit: usize) -> Option<&[(u32, T)]>
+    ensures { IfSome result (λ items. items.now ≡ S.entries fields.now) }
+{
+    match fields.listed() {
+        Some(items) if items.len() < limit => Some(items),
+        _ => None,
+    }
+}
+
+/// The first member of the oneof, but not the number, that has a value among the items.
+fn member_among<V>(
+    items: &[(u32, FieldSlot<V>)],
+    message_type: &PooledType,
+    oneof: Option<usize>,
+    number: u32,
+) -> Option<u32>
+    ensures { result ≡ first_value (is_other_member (known_of message_type.now) oneof number) items.now }
+{
+    for item in items {
+        if item.1.value().is_some() && is_other_member(message_type, oneof, number, item.0) {
+            return Some(item.0);
+        }
+    }
+    None
+}
+
+/// Whether the other number is that of a member of the oneof, but not the number.
+fn is_other_member(message_type: &PooledType, oneof: Option<usize>, number: u32, other: u32) -> bool
+    ensures { result ≡ is_other_member (known_of message_type.now) oneof number other }
+{
+    other != number && is_same_oneof(oneof_of(message_type, other), oneof)
 }
 
 /// Whether two fields are members of one oneof.

@@ -4,8 +4,10 @@ ghost use Rattle.std.specs.Prelude.{◌≡◌, ◌++◌, ◌<◌, ◌≤◌, ◌
 ghost use Rattle.prost_reflect_fields.specs.Items.{IsAscending};
 ghost use Rattle.prost_reflect_fields.specs.FieldSlots.{unknown_in_slot, unknown_sets, value_alone, values_alone};
 
+use crate::boxed::Boxed;
+use crate::items::{ItemList, push_last};
 use crate::slot::FieldSlot;
-use crate::sorted_map::{SortedMap, push_last};
+use crate::sorted_map::SortedMap;
 use prost_reflect_wire::UnknownFieldSet;
 use std::alloc::{AllocError, Global};
 
@@ -24,13 +26,13 @@ pub(crate) fn take_unknown<V: Drop>(
     let Some(count) = fields.count() else {
         return Err(AllocError);
     };
-    let runs = Vec::with_capacity(fields.allocator(), 1)?;
+    let list = Boxed::new(fields.allocator(), ItemList::new(fields.allocator()))?;
     let mut slots = Vec::with_capacity(fields.allocator(), count)?;
     let mut values = Vec::with_capacity(fields.allocator(), count)?;
     let mut sets = Vec::with_capacity(alloc, count)?;
     fields.move_items(&mut slots);
     part_all(slots, &mut values, &mut sets);
-    *fields = SortedMap::from_items(runs, values);
+    *fields = SortedMap::from_items(list, values);
     Ok(sets)
 }
 

@@ -39,6 +39,8 @@ mod messages;
 #[cfg(test)]
 mod options;
 #[cfg(test)]
+mod paths;
+#[cfg(test)]
 mod present;
 #[cfg(test)]
 mod refusals;

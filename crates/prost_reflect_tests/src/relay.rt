@@ -117,7 +117,7 @@ fn bytes_are_relayed(rt: HostRuntime) -> Result<(), Fail> {
 }
 
 /// `message G { repeated group Item = 1 { optional int32 x = 1; } }`, of proto2.
-static GROUPS: &[u8] =
+pub(crate) static GROUPS: &[u8] =
     b"\x0aA\x0a\x07f.proto\"6\x0a\x01G\x12\x1b\x0a\x04item\x18\x01 \x03(\x0a2\x07.G.ItemR\x04item\x1a\x14\
     \x0a\x04Item\x12\x0c\x0a\x01x\x18\x01 \x01(\x05R\x01x";
 

@@ -4,7 +4,11 @@ use prost_reflect::{DynamicMessage, MapKey, Value, builtin_pool};
 use std::alloc::{AllocError, Global};
 use std::collections::BTreeMap;
 use std::hash::{DefaultHasher, Hash, Hasher};
+use std::mem::size_of;
 use std::test::Fail;
+
+// A list of a million numbers takes a million of these.
+const _: () = prove!(size_of::<Value>() == 40);
 
 /// Writes to a number, or to a bool, through the accessor that finds something.
 fn overwrite_scalar(value: &mut Value) {

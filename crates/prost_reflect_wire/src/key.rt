@@ -78,6 +78,7 @@ impl FieldNumber {
 ///
 /// `Truncated` if the bytes end inside the varint, `Varint` if its tenth byte is above 1, `Key` if it is 2^32 or more,
 /// or has the number 0, or the wire type 6 or 7.
+#[inline]
 pub fn decode_key(bytes: &[u8]) -> Result<(FieldNumber, WireType, &[u8]), DecodeError>
     ensures ok { IfOk result (λ x. KeyFront x.0.value x.1 bytes.now x.2.now) }
     ensures only { (n : ℕ) (w : Wire) (rest : List ℕ) → KeyFront n w bytes.now rest →

@@ -51,6 +51,7 @@ pub fn fixed32_at(bytes: &[u8]) -> Result<([u8; 4], &[u8]), DecodeError>
 ///
 /// `Truncated` if the bytes end inside the length, or the length passes their end; `Varint` if the tenth byte of the
 /// length is above 1.
+#[inline]
 pub fn delimited_at(bytes: &[u8]) -> Result<(&[u8], &[u8]), DecodeError>
     ensures ok { IfOk result (λ x. DelimitedFront x.0.now bytes.now x.1.now) }
     ensures only { (body rest : List ℕ) → DelimitedFront body bytes.now rest →

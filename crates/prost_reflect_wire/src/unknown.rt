@@ -24,6 +24,9 @@ pub use reading::{RECURSION_LIMIT, value_at};
 pub use skipping::skip_value;
 pub use writing::{prepend_fields, write_field, write_fields};
 
+/// How many fields a set has room for at first. Most groups have few fields, and most messages few of one number.
+const FIRST_ROOM: usize = 2;
+
 /// A field that its message does not know.
 #[derive(Debug, Drop)]
 #[cycle(unknown)]
@@ -146,6 +149,9 @@ impl UnknownFieldSet {
         ensures records { OnOk result (records_of self.new ≡ records_of self.old ++ record_of field ∷ []) }
         ensures err { OnErr result (fields_of self.new ≡ fields_of self.old) }
     {
+        if self.fields.capacity() == 0 {
+            self.fields.reserve_exact(FIRST_ROOM)?;
+        }
         self.fields.push(field)?;
         Ok(())
     }

@@ -13,6 +13,7 @@ use crate::error::DecodeError;
 /// # Errors
 ///
 /// `Truncated` if the bytes end inside the varint, `Varint` if its tenth byte is above 1.
+#[inline]
 pub fn decode_varint(bytes: &[u8]) -> Result<(u64, &[u8]), DecodeError>
     ensures ok { IfOk result (λ x. VarintFront x.0 bytes.now x.1.now) }
     ensures only { (value : ℕ) (rest : List ℕ) → VarintFront value bytes.now rest →
@@ -26,6 +27,7 @@ pub fn decode_varint(bytes: &[u8]) -> Result<(u64, &[u8]), DecodeError>
 }
 
 /// The same in at most ten steps. A loop of so many is unrolled, and each digit's scale is then a constant.
+#[inline(never)]
 fn decode_steps(bytes: &[u8]) -> Result<(u64, &[u8]), DecodeError>
     ensures ok { IfOk result (λ x. VarintFront x.0 bytes.now x.1.now) }
     ensures fault { IfErr result (λ e. VarintFault e bytes.now) }

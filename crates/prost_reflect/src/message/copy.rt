@@ -12,10 +12,11 @@ ghost use Rattle.prost_reflect.specs.TypedSteps.{StaysTyped};
 
 use crate::message::DynamicMessage;
 use crate::value::{MapKey, Value};
+use prost_reflect_fields::boxed::Boxed;
 use prost_reflect_fields::field_set::FieldSet;
 use prost_reflect_fields::slot::FieldSlot;
 use prost_reflect_fields::sorted_map::SortedMap;
-use std::alloc::AllocError;
+use std::alloc::{AllocError, Global};
 use std::collections::{BTreeMap, BTreeSet};
 use std::default::Emptied;
 
@@ -42,10 +43,11 @@ impl DynamicMessage {
         ensures content { IfOk result (λ part. IsJoined (has numbers.now) (cleared (content_of self.now)) (content_of self.now) (content_of part)) }
         ensures typed { IfOk result (λ part. StaysTyped self.now part) }
     {
-        let mut fields = SortedMap::new(self.fields.allocator());
+        let alloc = self.fields.allocator();
+        let mut fields = SortedMap::new(alloc);
         for (number, slot) in self.fields.slots() {
             if numbers.contains(number) {
-                fields.insert(*number, copy_slot(slot)?)?;
+                fields.insert(*number, copy_slot(alloc, slot)?)?;
             }
         }
         let shared = self.fields.message_type().clone()?;
@@ -56,7 +58,7 @@ impl DynamicMessage {
 }
 
 /// What a message keeps at one number, once more.
-fn copy_slot(slot: &FieldSlot<Value>) -> Result<FieldSlot<Value>, AllocError>
+fn copy_slot(alloc: Global, slot: &FieldSlot<Value>) -> Result<FieldSlot<Value>, AllocError>
     ensures { IfOk result (λ copied. SameSlot slot.now copied) }
 {
     match slot {
@@ -64,7 +66,8 @@ fn copy_slot(slot: &FieldSlot<Value>) -> Result<FieldSlot<Value>, AllocError>
         FieldSlot::Unknown(unknown) => Ok(FieldSlot::Unknown(unknown.clone()?)),
         FieldSlot::Both(value, unknown) => {
             let value = copy_value(value)?;
-            Ok(FieldSlot::Both(value, unknown.clone()?))
+            let unknown = Boxed::new(alloc, unknown.get().clone()?)?;
+            Ok(FieldSlot::Both(value, unknown))
         }
     }
 }
@@ -117,14 +120,16 @@ fn copy_pairs(pairs: &BTreeMap<MapKey, Value>) -> Result<BTreeMap<MapKey, Value>
 fn copy_message(message: &DynamicMessage) -> Result<DynamicMessage, AllocError>
     ensures { IfOk result (λ copied. message_stored copied ≡ message_stored message.now) }
 {
-    let mut fields = SortedMap::new(message.fields.allocator());
+    let alloc = message.fields.allocator();
+    let mut fields = SortedMap::new(alloc);
     for (number, entry) in message.fields.slots() {
         let copied = match entry {
             FieldSlot::Value(value) => FieldSlot::Value(copy_value(value)?),
             FieldSlot::Unknown(unknown) => FieldSlot::Unknown(unknown.clone()?),
             FieldSlot::Both(value, unknown) => {
                 let value = copy_value(value)?;
-                FieldSlot::Both(value, unknown.clone()?)
+                let unknown = Boxed::new(alloc, unknown.get().clone()?)?;
+                FieldSlot::Both(value, unknown)
             }
         };
         fields.insert(*number, copied)?;

@@ -116,7 +116,8 @@ fn are_equal_messages(a: &DynamicMessage, b: &DynamicMessage) -> bool
         let same = match (entry, other) {
             (FieldSlot::Value(a), FieldSlot::Value(b)) => are_equal_values(a, b),
             (FieldSlot::Unknown(a), FieldSlot::Unknown(b)) => a == b,
-            (FieldSlot::Both(a, u), FieldSlot::Both(b, t)) => are_equal_values(a, b) && u == t,
+            (FieldSlot::Both(a, u), FieldSlot::Both(b, t)) => are_equal_values(a, b)
+                && u.get() == t.get(),
             _ => false,
         };
         if !same {

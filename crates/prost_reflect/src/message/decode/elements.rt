@@ -18,7 +18,6 @@ use crate::message::decode::nested::{MessageKind, empty_message};
 use crate::value::Value;
 use prost_reflect_wire::{DecodeError, FieldNumber, WireType};
 use std::alloc::{AllocError, Global};
-use std::mem;
 
 impl DynamicMessage {
     /// Reads a message or a group behind its field's key, and adds it behind the elements of the list.
@@ -69,13 +68,9 @@ fn push_item(value: &mut Value, element: Value) -> Result<(), AllocError>
     ensures value { IfOk result (λ _. value_of value.new ≡ with_element (Some (value_of value.old)) (value_of element)) }
     ensures stored { IfOk result (λ _. value_stored value.new ≡ item_added (value_stored value.old) (value_stored element)) }
 {
-    match mem::replace(value, Value::Bool(false)) {
-        Value::List(mut values) => {
-            let result = push_last(&mut values, element);
-            *value = Value::List(values);
-            result
-        }
-        _ => unreachable!(),
+    match value.as_list_mut() {
+        Some(values) => push_last(values, element),
+        None => unreachable!(),
     }
 }
 

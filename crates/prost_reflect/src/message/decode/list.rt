@@ -16,9 +16,27 @@ use crate::value::Value;
 use prost_reflect_tables::{TableKind, is_packable};
 use prost_reflect_wire::{DecodeError, FieldNumber, WireType, delimited_at};
 use std::alloc::Global;
-use std::mem;
 
-/// Adds the elements of a packed record's body, which stand end to end.
+/// How many elements a packed record's body has, if it has nothing else. Only speed rests on it.
+fn elements_in(wire_type: WireType, body: &[u8]) -> usize {
+    match wire_type {
+        WireType::SixtyFourBit => body.len() / 8,
+        WireType::ThirtyTwoBit => body.len() / 4,
+        _ => last_digits(body),
+    }
+}
+
+/// How many bytes are the last of a varint.
+fn last_digits(body: &[u8]) -> usize {
+    let mut count = 0usize;
+    for byte in body {
+        count = count.wrapping_add(usize::from(*byte < 0x80));
+    }
+    count
+}
+
+/// Adds the elements of a packed record's body, which stand end to end. The loop is made once for each of the kinds that many
+/// elements have most often.
 ///
 /// # Errors
 ///
@@ -33,7 +51,29 @@ fn push_packed(
     ensures ok { IfOk result (λ _. AddsPacked kind values.old.items values.new.items body.now) }
     ensures fault { IfErr result (λ e. e ≢ DecodeError.OutOfMemory → RefusesPacked kind e body.now) }
 {
+    match kind {
+        TableKind::Int32 => push_all(alloc, values, TableKind::Int32, body),
+        TableKind::Uint32 => push_all(alloc, values, TableKind::Uint32, body),
+        TableKind::Fixed64 => push_all(alloc, values, TableKind::Fixed64, body),
+        TableKind::Double => push_all(alloc, values, TableKind::Double, body),
+        _ => push_all(alloc, values, kind, body),
+    }
+}
+
+/// The same. Where it is inlined into an arm of one kind, its loop is made for that kind.
+#[inline(always)]
+fn push_all(
+    alloc: Global,
+    values: &mut Vec<Value>,
+    kind: TableKind,
+    body: &[u8],
+) -> Result<(), DecodeError>
+    requires { IsSomeAnd (plain_kind kind) (λ k. is_packable k ≡ true) }
+    ensures ok { IfOk result (λ _. AddsPacked kind values.old.items values.new.items body.now) }
+    ensures fault { IfErr result (λ e. e ≢ DecodeError.OutOfMemory → RefusesPacked kind e body.now) }
+{
     let wire_type = wire_type_of(kind);
+    values.reserve(elements_in(wire_type, body))?;
     let mut rest = body;
     while !rest.is_empty() {
         let (element, after) = scalar_at(alloc, kind, wire_type, rest)?;
@@ -82,13 +122,9 @@ fn join_elements<'a>(
     ensures ok { IfOk result (λ rest. JoinsElements kind wire_type (value_of value.old) (value_of value.new) bytes.now rest.now) }
     ensures fault { IfErr result (λ e. e ≢ DecodeError.OutOfMemory → RefusesElements kind wire_type e bytes.now) }
 {
-    match mem::replace(value, Value::Bool(false)) {
-        Value::List(mut values) => {
-            let result = push_elements(alloc, &mut values, kind, wire_type, bytes);
-            *value = Value::List(values);
-            result
-        }
-        _ => unreachable!(),
+    match value.as_list_mut() {
+        Some(values) => push_elements(alloc, values, kind, wire_type, bytes),
+        None => unreachable!(),
     }
 }
 

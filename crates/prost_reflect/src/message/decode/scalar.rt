@@ -29,6 +29,7 @@ pub(crate) fn wire_type_of(kind: TableKind) -> WireType
 }
 
 /// The value of a varint.
+#[inline(always)]
 fn varint_value(kind: TableKind, value: u64) -> Value
     requires { HasWire kind wires.Varint }
     ensures { IsElement kind (Flat (Var value)) result }
@@ -75,6 +76,7 @@ fn fixed32_value(kind: TableKind, bytes: [u8; 4]) -> Value
 }
 
 /// The value of delimited bytes.
+#[inline(never)]
 fn delimited_value(alloc: Global, kind: TableKind, bytes: &[u8]) -> Result<Value, DecodeError>
     requires { HasWire kind wires.LengthDelimited }
     ensures ok { IfOk result (λ v. IsElement kind (Flat (Len bytes.now)) v) }
@@ -96,6 +98,7 @@ fn delimited_value(alloc: Global, kind: TableKind, bytes: &[u8]) -> Result<Value
 ///
 /// `WireType` if the kind's payloads have another wire type, `EndGroup` at an end key, `Truncated` and `Varint` as the
 /// payload's reader, `Utf8` if the kind is a string and the bytes are no text, `OutOfMemory` if a growth is refused.
+#[inline(always)]
 pub(crate) fn scalar_at(
     alloc: Global,
     kind: TableKind,

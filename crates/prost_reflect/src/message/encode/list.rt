@@ -9,8 +9,24 @@ use crate::value::Value;
 use prost_reflect_tables::{FieldTable, TableKind};
 use prost_reflect_wire::{Sink, WireType, write_key};
 
-/// Adds the payloads of scalars in front, end to end.
+/// Adds the payloads of scalars in front, end to end. The loop is made once for each of the kinds that many elements have most
+/// often.
 fn write_payloads<S: Sink>(sink: &mut S, kind: TableKind, values: &[Value])
+    requires { TakesScalars kind values.now }
+    ensures { Adds S.added sink.old sink.new (payloads_bytes kind values.now) }
+{
+    match kind {
+        TableKind::Int32 => write_all(sink, TableKind::Int32, values),
+        TableKind::Uint32 => write_all(sink, TableKind::Uint32, values),
+        TableKind::Fixed64 => write_all(sink, TableKind::Fixed64, values),
+        TableKind::Double => write_all(sink, TableKind::Double, values),
+        _ => write_all(sink, kind, values),
+    }
+}
+
+/// The same. Where it is inlined into an arm of one kind, its loop is made for that kind.
+#[inline(always)]
+fn write_all<S: Sink>(sink: &mut S, kind: TableKind, values: &[Value])
     requires { TakesScalars kind values.now }
     ensures { Adds S.added sink.old sink.new (payloads_bytes kind values.now) }
 {

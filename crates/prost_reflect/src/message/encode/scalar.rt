@@ -15,6 +15,7 @@ use prost_reflect_tables::{FieldTable, TableKind};
 use prost_reflect_wire::{Sink, WireType, sign_extended, write_key, zigzag32, zigzag64};
 
 /// Adds the payload of a scalar in front.
+#[inline(always)]
 pub(super) fn write_scalar<S: Sink>(sink: &mut S, kind: TableKind, scalar: ScalarRef<'_>)
     requires { TakesScalar kind (ScalarValue (scalar_of scalar)) }
     ensures { Adds S.added sink.old sink.new (scalar_bytes (plain_kind kind) (ScalarValue (scalar_of scalar.entry))) }

@@ -14,7 +14,7 @@ use crate::message::DynamicMessage;
 use crate::message::access::saying;
 use crate::message::lists::descriptors::{extension_at, field_at};
 use crate::value::Value;
-use prost_reflect_fields::sorted_map::push_last;
+use prost_reflect_fields::items::push_last;
 use prost_reflect_pool::PooledType;
 use std::alloc::{AllocError, Global};
 use std::vec::IntoIter;

@@ -1,4 +1,8 @@
-use Rattle.std.proofs.Common.{ap, ◌∙◌}
+use Rattle.std.proofs.Common.{ap, sym, ◌∙◌}
+use Rattle.std.proofs.lemmas.Map.Steps.{set_value_same}
+use Rattle.std.proofs.lemmas.Result.{on_ok_weaker, on_err_weaker}
+use Rattle.std.specs.BTreeMap.{is_at}
+use Rattle.std.specs.Ordering.{nat_cmp}
 use Rattle.prost_reflect_fields.specs.FieldSlots.{put_slot}
 use Rattle.prost_reflect_fields.specs.Items.{with_item}
 use Rattle.prost_reflect_fields.proofs.stored.put_value.Goals as goal
@@ -6,4 +10,9 @@ use Rattle.prost_reflect_fields.proofs.stored.put_value.Goals as goal
 pub returns-in-Some-clause-ok : goal.returns-in-Some-clause-ok
 returns-in-Some-clause-ok g c =
     let es = g.S.NumberMap.entries c.args.fields.now in
-    c.get_mut.follows.holds c.put.new.self ∙ ap (with_item es c.args.number) c.put.ensures ∙ ap (put_slot es c.args.number c.args.value) c.in-Some.ensures.value
+    on_ok_weaker c.put.result (λ is. c.get_mut.follows.holds c.put.new.self ∙ ap (with_item es c.args.number) is ∙ ap (put_slot es c.args.number c.args.value) c.in-Some.ensures.value) c.put.ensures.ok
+
+pub returns-in-Some-clause-err : goal.returns-in-Some-clause-err
+returns-in-Some-clause-err g c =
+    let es = g.S.NumberMap.entries c.args.fields.now in
+    on_err_weaker c.put.result (λ is. c.get_mut.follows.holds c.put.new.self ∙ ap (with_item es c.args.number) is ∙ set_value_same (is_at (nat_cmp c.args.number)) es c.in-Some.slot.now (sym c.in-Some.ensures.value)) c.put.ensures.err

@@ -1,11 +1,11 @@
-use Rattle.std.proofs.Common.{arith, ◌≡◌, ◌++◌, ◌∙◌, ap, ap₂, subst, sym, length}
+use Rattle.std.proofs.Common.{◌≡◌, ◌++◌, ◌∙◌, ap, ap₂, subst, sym}
 use Rattle.prost_reflect_fields.specs.FieldSlots.{values_alone}
 use Rattle.prost_reflect_fields.specs.Items.{IsAscending}
 use Rattle.prost_reflect_fields.proofs.ValuesAlone.{ascending_alone}
 use Rattle.prost_reflect_fields.proofs.taking.take_unknown.Goals as goal
 
-pub from_items-requires-clause-ascending : goal.from_items-requires-clause-ascending
-from_items-requires-clause-ascending g c =
+pub from_items-requires : goal.from_items-requires
+from_items-requires g c =
     let slots = c.move_items.ensures.items ∙ ap (λ l. l ++ c.args.fields.now) c.in_ok-slots.ensures.items in
     let all : c.part_all.new.values.items ≡ values_alone c.args.fields.now =
     c.part_all.ensures.values ∙ ap₂ (λ xs ys. xs ++ values_alone ys) c.in_ok-values.ensures.items slots in

@@ -1,32 +1,29 @@
 -- `SortedMap` as a type that may hold the type that holds it.
-use Rattle.std.specs.Prelude.{◌≡◌, ℕ, true, List, [], ◌∷◌, ◌++◌, map, Vec}
-use mathlib.Core.Path.{refl, sym, ap, ap₂, ◌∙◌, subst}
-use mathlib.Core.Bool.{Bool-set}
-use mathlib.Core.HLevel.{Unit-prop}
-use mathlib.Core.Former.{Former, Count, none_left, Row, this, const, pair, list, via}
+use Rattle.std.specs.Prelude.{◌≡◌, ℕ, List, [], map}
+use mathlib.Core.Path.{refl, sym, ap}
+use mathlib.Core.Logic.{◌⊎◌, inl, inr}
+use mathlib.Core.Former.{Former, none_left, this, const, pair, or, list, via}
 use base.Stored.{gcons, gnum, code_map, Gv}
 use denote.RattleType.{RattleType}
 use denote.HoleLaws.{Alike}
-use denote.HolePlaces.{Recodes, struct_places, laid, stays}
+use denote.HolePlaces.{Recodes, struct_places, enum_places, eachs, laid}
 use denote.Hole.Fix.{over}
 use denote.Param.Weighed.{Weighed, w_const, w_pair, w_list}
-use denote.Model.Placed.{Held, held, view_places}
-use denote.Struct.Tuple.{tuple_type, Tuple}
-use Rattle.std.specs.formers.vec.Vec as vec
-use Rattle.std.specs.contracts.vec.Vec as vecs
+use denote.Model.Placed.{Held as Placed, view_places}
 use Rattle.std.specs.declared.alloc.Global.{Global}
-use Rattle.std.specs.contracts.alloc.Global as heap
-use Rattle.std.specs.contracts.impls.GlobalAllocator.TheImpl.{ghosts}
-use Rattle.std.specs.Map.{keys_of}
-use Rattle.std.specs.Ordering.{nat_cmp, is_le, Ordering-set}
-use Rattle.std.specs.Borrow.{u32}
-use Rattle.std.specs.List.{AllByRecursion, AllByRecursion-prop}
-use Rattle.std.specs.List.Sorted.{IsStrictlySortedBy-prop}
+use Rattle.prost_reflect_fields.specs.Held.{held_items}
+use Rattle.prost_reflect_fields.specs.formers.boxed.Boxed as boxed
+use Rattle.prost_reflect_fields.specs.formers.items.ItemList as item_list
+use Rattle.prost_reflect_fields.specs.formers.runs.RunMap as run_map
+use Rattle.prost_reflect_fields.specs.declared.sorted_map.Held.{Held}
+use Rattle.prost_reflect_fields.specs.declared.sorted_map.Held.TheVariants.{Empty, Listed, Laid}
 use Rattle.prost_reflect_fields.specs.declared.sorted_map.SortedMap.TheInside.{Inside}
 use Rattle.prost_reflect_fields.specs.declared.sorted_map.SortedMap.TheView.{view, invariant}
+use Rattle.prost_reflect_fields.specs.contracts.items.ItemList as L
+use Rattle.prost_reflect_fields.specs.contracts.runs.RunMap as M
+use Rattle.prost_reflect_fields.specs.contracts.sorted_map.Held as H
 use Rattle.prost_reflect_fields.specs.contracts.sorted_map.SortedMap as C
 use Rattle.prost_reflect_fields.specs.contracts.sorted_map.SortedMap.TheInside as I
-use Rattle.prost_reflect_fields.specs.Runs.{Marks, IsAhead, InRuns, Runs, marks, flat}
 
 abbrev pub the_former : Former {0} → Former {0}
 the_former g = list (pair (const ℕ) g)
@@ -40,84 +37,76 @@ the_empty = []
 abbrev item : Former {0}
 item = pair (const ℕ) this
 
-abbrev run : Former {0}
-run = pair (const ℕ) (vec.the_former item Global)
+-- the variants of what a map holds
+abbrev Parts : Type 0 → Type 0
+Parts X = (Global × ℕ) ⊎ (List (ℕ × X) ⊎ List (ℕ × X))
+
+module _ {X : Type 0} where
+  abbrev parted : Held X → Parts X
+  parted (Empty alloc room) = inl (alloc, room)
+  parted (Listed es) = inr (inl es)
+  parted (Laid es) = inr (inr es)
+
+  abbrev joined : Parts X → Held X
+  joined (inl p) = Empty p.0 p.1
+  joined (inr (inl es)) = Listed es
+  joined (inr (inr es)) = Laid es
+
+  joined-parted : (d : Held X) → joined (parted d) ≡ d
+  joined-parted (Empty alloc room) = refl
+  joined-parted (Listed es) = refl
+  joined-parted (Laid es) = refl
+
+  parted-joined : (p : Parts X) → parted (joined p) ≡ p
+  parted-joined (inl p) = refl
+  parted-joined (inr (inl es)) = refl
+  parted-joined (inr (inr es)) = refl
+
+abbrev held : Former {0}
+held = via (or (const (Global × ℕ)) (or (list item) (list item))) (λ X. Held X) (λ X. parted) (λ X. joined) (λ X. joined-parted) (λ X. parted-joined)
 
 abbrev fields : Former {0}
-fields = via (vec.the_former run Global) Inside (λ X a. a.runs) (λ X v. record { runs = v }) (λ X a. refl) (λ X v. refl)
-
-behind : {a b c : Gv} → a ≡ b → gcons c a ≡ gcons c b
-behind {c = c} e = λ i. gcons c (e i)
-
--- the items of all runs are what the runs hold
-module _ (X : Type 0) where
-  held_appended : (xs ys : List (ℕ × X)) (n : Count) (t : Row X n)
-      → ◌≡◌ {A = Held X} ((list item).count (map (item.shape X) (xs ++ ys)) n, (list item).put X (xs ++ ys) n t)
-      ((list item).count (map (item.shape X) xs) ((list item).count (map (item.shape X) ys) n), (list item).put X xs ((list item).count (map (item.shape X) ys) n) ((list item).put X ys n t))
-  held_appended [] ys n t = refl
-  held_appended (x ∷ xs) ys n t = ap (λ (e : Held X). (item.count (item.shape X x) e.0, item.put X x e.0 e.1)) (held_appended xs ys n t)
-
-  held_runs : (rs : Runs X) (n : Count) (t : Row X n)
-      → ◌≡◌ {A = Held X} ((list item).count (map (item.shape X) (flat rs)) n, (list item).put X (flat rs) n t) ((list run).count (map (run.shape X) rs) n, (list run).put X rs n t)
-  held_runs [] n t = refl
-  held_runs (r ∷ rs) n t = held_appended r.1.items (flat rs) n t ∙ ap (λ (e : Held X). ((list item).count (map (item.shape X) r.1.items) e.0, (list item).put X r.1.items e.0 e.1)) (held_runs rs n t)
-
--- that the numbers stand in runs is a proposition
-IsAhead-prop : (n : ℕ) (rs : Marks) → IsProp (IsAhead n rs)
-IsAhead-prop n [] = Unit-prop
-IsAhead-prop n (r ∷ rs) = Ordering-set _ _
-
-InRuns-prop : (rs : Marks) → IsProp (InRuns rs)
-InRuns-prop [] = Unit-prop
-InRuns-prop (r ∷ rs) = λ a b i. (
-  IsStrictlySortedBy-prop nat_cmp r.1 a.0 b.0 i,
-  AllByRecursion-prop (λ k. is_le (nat_cmp r.0 k) ≡ true) (λ k. Bool-set _ _) r.1 a.1 b.1 i,
-  IsAhead-prop r.0 rs a.2 b.2 i,
-  AllByRecursion-prop (λ k. IsAhead k rs) (λ k. IsAhead-prop k rs) r.1 a.3 b.3 i,
-  InRuns-prop rs a.4 b.4 i,
-)
+fields = via held Inside (λ X a. a.held) (λ X v. record { held = v }) (λ X a. refl) (λ X v. refl)
 
 module _ {X Y : Type 0} (h : X → Y) where
   abbrev over_item : ℕ × X → ℕ × Y
   over_item p = (p.0, h p.1)
 
-  abbrev over_run : ℕ × Vec (ℕ × X) Global → ℕ × Vec (ℕ × Y) Global
-  over_run r = (r.0, vec.mapped over_item r.1)
+  abbrev over_held : Held X → Held Y
+  over_held = held.map X Y h
 
-  over_appended : (xs ys : List (ℕ × X)) → map over_item (xs ++ ys) ≡ map over_item xs ++ map over_item ys
-  over_appended [] ys = refl
-  over_appended (x ∷ xs) ys = ap (λ l. over_item x ∷ l) (over_appended xs ys)
+  items_over : (d : Held X) → held_items (over_held d) ≡ map over_item (held_items d)
+  items_over (Empty alloc room) = refl
+  items_over (Listed es) = refl
+  items_over (Laid es) = refl
 
-  over_flat : (rs : Runs X) → flat (map over_run rs) ≡ map over_item (flat rs)
-  over_flat [] = refl
-  over_flat (r ∷ rs) = ap (λ l. map over_item r.1.items ++ l) (over_flat rs) ∙ sym (over_appended r.1.items (flat rs))
-
-  same_keys : (es : List (ℕ × X)) → keys_of (map over_item es) ≡ keys_of es
-  same_keys [] = refl
-  same_keys (e ∷ es) = ap (λ ks. e.0 ∷ ks) (same_keys es)
-
-  same_marks : (rs : Runs X) → marks (map over_run rs) ≡ marks rs
-  same_marks [] = refl
-  same_marks (r ∷ rs) = ap₂ (λ ks ms. (r.0, ks) ∷ ms) (same_keys r.1.items) (same_marks rs)
+module _ (X : Type 0) where
+  held_same : (d : Held X) → ◌≡◌ {A = Placed X} ((list item).count (map (item.shape X) (held_items d)) none_left, (list item).put X (held_items d) none_left tt) (held.count (held.shape X d) none_left, held.put X d none_left tt)
+  held_same (Empty alloc room) = refl
+  held_same (Listed es) = refl
+  held_same (Laid es) = refl
 
 module _ (R S : RattleType) (h : R.Denot → S.Denot) where
-  abbrev run_type : RattleType → RattleType
-  run_type T = vecs.the_row (Tuple (u32 ∷ T ∷ [])) heap.the_row ghosts
+  variant : (d : Held R.Denot) → (H.enum S).as_values (over_held h d)
+      ≡ eachs (H.enum R).parts (H.enum S).parts (((λ a. a), ((λ n. n), tt)), ((map (over_item h), tt), ((map (over_item h), tt), tt))) ((H.enum R).as_values d)
+  variant (Empty alloc room) = refl
+  variant (Listed es) = refl
+  variant (Laid es) = refl
 
-  item_places : Alike R S h → Alike (Tuple (u32 ∷ R ∷ [])) (Tuple (u32 ∷ S ∷ [])) (over_item h)
-  item_places a = struct_places (tuple_type (u32 ∷ R ∷ [])) (tuple_type (u32 ∷ S ∷ [])) ((λ n. n), (h, tt)) (over_item h) (λ d. refl) refl (stays u32, (laid R S h a, tt))
-
-  run_places : Alike R S h → Alike (Tuple (u32 ∷ run_type R ∷ [])) (Tuple (u32 ∷ run_type S ∷ [])) (over_run h)
-  run_places a = struct_places (tuple_type (u32 ∷ run_type R ∷ [])) (tuple_type (u32 ∷ run_type S ∷ [])) ((λ n. n), (vec.mapped (over_item h), tt)) (over_run h) (λ d. refl) refl
-      (stays u32, (laid _ _ _ (vec.the_places heap.the_row ghosts (Tuple (u32 ∷ R ∷ [])) (Tuple (u32 ∷ S ∷ [])) (over_item h) (item_places a)), tt))
+  held_places : Alike R S h → Alike (H.the_row R) (H.the_row S) (over_held h)
+  held_places a = enum_places (H.enum R) (H.enum S) (((λ a. a), ((λ n. n), tt)), ((map (over_item h), tt), ((map (over_item h), tt), tt))) (over_held h) variant refl (
+    ((refl, (λ n. refl, λ n. refl)), ((refl, (λ n. refl, λ n. refl)), tt)),
+    (
+      (laid _ _ _ (boxed.the_places (L.the_row R) (L.the_row S) (map (over_item h)) (item_list.the_places R S h a)), tt),
+      ((laid _ _ _ (boxed.the_places (M.the_row R) (M.the_row S) (map (over_item h)) (run_map.the_places R S h a)), tt), tt),
+    ),
+  )
 
   pub the_places : Alike R S h → Alike (C.the_row R) (C.the_row S) ((the_former this).map R.Denot S.Denot h)
-  the_places a = view_places fields (the_former this) view (λ X Y k u. over_flat k u.runs.items) (λ X u. held_runs X u.runs.items none_left tt) R.Denot S.Denot h (C.the_row R).coded (C.the_row S).coded
-      (invariant R.Denot) (invariant S.Denot) (λ u. InRuns-prop (marks u.runs.items)) (λ u. InRuns-prop (marks u.runs.items))
-      (λ u s. subst InRuns (sym (same_marks h u.runs.items)) s) (λ u s. subst InRuns (same_marks h u.runs.items) s)
+  the_places a = view_places fields (the_former this) view (λ X Y k u. items_over k u.held) (λ X u. held_same X u.held) R.Denot S.Denot h (C.the_row R).coded (C.the_row S).coded
+      (invariant R.Denot) (invariant S.Denot) (λ u p q. refl) (λ u p q. refl) (λ u e. tt) (λ u e. tt)
       (over (I.the_row R)) (over (I.the_row S))
-      (struct_places (I.the_type R) (I.the_type S) (vec.mapped (over_run h), tt) _ (λ d. refl) refl
-      (laid _ _ _ (vec.the_places heap.the_row ghosts (Tuple (u32 ∷ run_type R ∷ [])) (Tuple (u32 ∷ run_type S ∷ [])) (over_run h) (run_places a)), tt))
+      (struct_places (I.the_type R) (I.the_type S) (over_held h, tt) _ (λ d. refl) refl (laid _ _ _ (held_places a), tt))
 
   abbrev item_code : (T : RattleType) → ℕ × T.Denot → Gv
   item_code T p = gcons (gnum p.0) (T.coded.code p.1)

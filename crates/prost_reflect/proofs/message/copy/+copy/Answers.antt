@@ -3,6 +3,7 @@ use Rattle.std.proofs.lemmas.List.Elements.{same_from_all_zip}
 use Rattle.std.specs.List.Sorted.{IsStrictlySortedBy}
 use Rattle.std.specs.Map.{keys_of}
 use Rattle.prost_reflect_wire.specs.Scalar.{Bytes}
+use Rattle.prost_reflect_wire.specs.Unknown.{records_of}
 use Rattle.prost_reflect_pool.specs.MessageTypes.{SameMessage}
 use Rattle.prost_reflect_fields.specs.Items.{IsAscending}
 use Rattle.prost_reflect_pool.specs.declared.pooled_type.PooledType.{PooledType}
@@ -16,7 +17,7 @@ use Rattle.prost_reflect.proofs.StoredViews.{stored_bytes}
 use Rattle.prost_reflect.proofs.Copied.{parts_of, entry_parts, copied_next, all_given, one_given, sound_copied, message_copied, keys_appended, value_copied, unknown_copied, both_copied}
 use Rattle.prost_reflect.proofs.CopiedPairs.{pair_copied, map_copied}
 use Rattle.prost_reflect.proofs.message.copy.+copy.Goals as goal
-use Rattle.prost_reflect.proofs.message.copy.+copy.Goals.{copy_message-in-Value+in_ok-copy_value-in-Value, copy_message-in-Unknown+in_ok-clone-in-Unknown, copy_message-in-Both+in_ok-value-in-Both+in_ok-clone-in-Both}
+use Rattle.prost_reflect.proofs.message.copy.+copy.Goals.{copy_message-in-Value+in_ok-copy_value-in-Value, copy_message-in-Unknown+in_ok-clone-in-Unknown, copy_message-in-Both+in_ok-value-in-Both+in_ok-clone-in-Both+in_ok-unknown-in-Both}
 
 of_same : (a b c : PooledType) → b ≡ a → SameMessage b c → SameMessage a c
 of_same a b c e h = subst (λ d. SameMessage d c) e h
@@ -53,9 +54,10 @@ copy_message-loop-number-preserved t c =
           ap entry_parts w.copied-is ∙ value_copied w.in_ok-copy_value-in-Value.field-0 w.in-Value.value w.in_ok-copy_value-in-Value.ensures ∙ ap entry_parts (sym w.in-Value.is)
       | copy_message-in-Unknown+in_ok-clone-in-Unknown w ↦
           ap entry_parts w.copied-is ∙ unknown_copied w.in_ok-clone-in-Unknown.field-0 w.in-Unknown.unknown w.in_ok-clone-in-Unknown.ensures.cases ∙ ap entry_parts (sym w.in-Unknown.is)
-      | copy_message-in-Both+in_ok-value-in-Both+in_ok-clone-in-Both w ↦
+      | copy_message-in-Both+in_ok-value-in-Both+in_ok-clone-in-Both+in_ok-unknown-in-Both w ↦
           ap entry_parts w.copied-is
-          ∙ both_copied w.in_ok-value-in-Both.value w.in-Both.value w.in_ok-clone-in-Both.field-0 w.in-Both.unknown w.in_ok-value-in-Both.ensures w.in_ok-clone-in-Both.ensures.cases
+          ∙ both_copied w.in_ok-value-in-Both.value w.in-Both.value w.in_ok-unknown-in-Both.unknown w.in-Both.unknown w.in_ok-value-in-Both.ensures
+          (ap records_of w.in_ok-unknown-in-Both.ensures ∙ w.in_ok-clone-in-Both.ensures.cases ∙ ap records_of w.get.ensures)
           ∙ ap entry_parts (sym w.in-Both.is)
     ] in
     (l.0 ++ item ∷ [], cut, ap parts_of c.in_ok-insert.ensures.ok ∙ copied_next c.loop-number.fields l.0 _ item.0 item.1 c.match-entry.copied ascending l.2 parts)

@@ -1,4 +1,5 @@
 use Rattle.std.proofs.Common.{◌≡◌, true, ◌&&◌, true≢false, [], ◌∷◌, ◌++◌, sym, ap, ap₂, ◌∙◌}
+use Rattle.prost_reflect_wire.specs.Equality.{set_eq}
 use Rattle.prost_reflect_fields.specs.ItemsLeft.{items_left}
 use Rattle.prost_reflect.specs.Stored.{value_stored, stored_entries}
 use Rattle.prost_reflect.specs.Same.{same_entries}
@@ -68,7 +69,7 @@ are_equal_messages-loop-number-preserved t c =
           ap₂ same_slot w.in-Unknown-Unknown.is-0 w.in-Unknown-Unknown.is-1 ∙ sym w.eq-same.ensures ∙ sym w.same-is ∙ c.if-not-same.false
       | are_equal_messages-in-Both-Both+then-are_equal_values w ↦
           ap₂ same_slot w.in-Both-Both.is-0 w.in-Both-Both.is-1
-          ∙ ap₂ (λ x y. x && y) (sym w.are_equal_values.ensures ∙ w.if-are_equal_values.true) (sym w.eq.ensures ∙ sym w.same-is ∙ c.if-not-same.false)
+          ∙ ap₂ (λ x y. x && y) (sym w.are_equal_values.ensures ∙ w.if-are_equal_values.true) (ap₂ set_eq (sym w.get.ensures) (sym w.get-then-are_equal_values.ensures) ∙ sym w.eq.ensures ∙ sym w.same-is ∙ c.if-not-same.false)
       | are_equal_messages-in-Both-Both+else-are_equal_values w ↦ absurd (true≢false (sym c.if-not-same.false ∙ w.same-is ∙ w.if-are_equal_values.false))
       | are_equal_messages-in_default-2 w ↦ absurd (true≢false (sym c.if-not-same.false ∙ w.same-is))
       | are_equal_messages-in_default-2-2 w ↦ absurd (true≢false (sym c.if-not-same.false ∙ w.same-is))

@@ -1,13 +1,9 @@
-use Rattle.std.proofs.Common.{◌≡◌, true, sym, ◌∙◌, ap, subst, Ok, Err, Result}
-use Rattle.std.specs.Result.{OnOk, OnErr}
+use Rattle.std.proofs.Common.{◌≡◌, true, sym, ◌∙◌, ap, subst}
 use Rattle.prost_reflect_wire.specs.Unknown.{record_of}
 use Rattle.prost_reflect_fields.specs.Known.{known_of, keeps_unknown}
 use Rattle.prost_reflect_fields.proofs.SoundChanges.{sound_added, sound_stored}
+use Rattle.prost_reflect_fields.proofs.Results.{either}
 use Rattle.prost_reflect_fields.proofs.field_set.FieldSet.add_unknown.Goals as goal
-
-either : {T E P Q R : Type 0} (r : Result T E) → OnOk r P → OnErr r Q → (P → R) → (Q → R) → R
-either (Ok t) p q f h = f p
-either (Err e) p q f h = h q
 
 pub invariant_of-self : goal.invariant_of-self
 invariant_of-self g c =

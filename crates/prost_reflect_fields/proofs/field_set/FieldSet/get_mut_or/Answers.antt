@@ -11,11 +11,8 @@ use Rattle.prost_reflect_fields.specs.Known.{known_of, is_known}
 use Rattle.prost_reflect_fields.specs.Sound.{Sound, prepared}
 use Rattle.prost_reflect_fields.proofs.Siblings.{known_differ}
 use Rattle.prost_reflect_fields.proofs.SoundChanges.{sound_written, sound_prepared}
+use Rattle.prost_reflect_fields.proofs.Results.{either}
 use Rattle.prost_reflect_fields.proofs.field_set.FieldSet.get_mut_or.Goals as goal
-
-either : {T E P Q R : Type 0} (r : Result T E) → OnOk r P → OnErr r Q → (P → R) → (Q → R) → R
-either (Ok t) p q f h = f p
-either (Err e) p q f h = h q
 
 pub invariant_of-self-lent : goal.invariant_of-self-lent
 invariant_of-self-lent g c =

@@ -1,5 +1,4 @@
-use Rattle.std.proofs.Common.{◌≡◌, ℕ, List, sym, ◌∙◌, ap, subst, Ok, Err, Result}
-use Rattle.std.specs.Result.{OnOk, OnErr}
+use Rattle.std.proofs.Common.{◌≡◌, ℕ, List, sym, ◌∙◌, ap, subst}
 use Rattle.prost_reflect_pool.specs.declared.pooled_type.PooledType.{PooledType}
 use Rattle.prost_reflect_fields.specs.declared.slot.FieldSlot.{FieldSlot}
 use Rattle.prost_reflect_fields.specs.Known.{known_of}
@@ -7,11 +6,8 @@ use Rattle.prost_reflect_fields.specs.Sound.{Sound}
 use Rattle.prost_reflect_fields.specs.NumberSets.{HasWholeOneofs}
 use Rattle.prost_reflect_fields.proofs.Siblings.{known_differ}
 use Rattle.prost_reflect_fields.proofs.Replaced.{sound_replaced}
+use Rattle.prost_reflect_fields.proofs.Results.{either}
 use Rattle.prost_reflect_fields.proofs.field_set.FieldSet.replace.Goals as goal
-
-either : {T E P Q R : Type 0} (r : Result T E) → OnOk r P → OnErr r Q → (P → R) → (Q → R) → R
-either (Ok t) p q f h = f p
-either (Err e) p q f h = h q
 
 pub invariant_of-self : goal.invariant_of-self
 invariant_of-self g c =

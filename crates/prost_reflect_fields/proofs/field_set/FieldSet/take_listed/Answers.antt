@@ -8,13 +8,13 @@ use Rattle.prost_reflect_fields.proofs.SoundChanges.{sound_without}
 use Rattle.prost_reflect_fields.proofs.field_set.FieldSet.take_listed.Goals as goal
 
 pub parted-taken-requires-clause-taken_room : goal.parted-taken-requires-clause-taken_room
-parted-taken-requires-clause-taken_room g c = omega (arith, c.in_ok-taken.ensures.len, c.in_ok-taken.ensures.exact, ap length (c.move_items.ensures.items ∙ ap (λ l. l ++ c.self.inside.fields) c.in_ok-slots.ensures.items))
+parted-taken-requires-clause-taken_room g c = omega (arith, c.in-Some.ensures.count, c.in_ok-taken.ensures.len, c.in_ok-taken.ensures.exact, ap length (c.move_items.ensures.items ∙ ap (λ l. l ++ c.self.inside.fields) c.in_ok-slots.ensures.items))
 
 pub parted-taken-requires-clause-kept_room : goal.parted-taken-requires-clause-kept_room
-parted-taken-requires-clause-kept_room g c = omega (arith, c.in_ok-kept.ensures.len, c.in_ok-kept.ensures.exact, ap length (c.move_items.ensures.items ∙ ap (λ l. l ++ c.self.inside.fields) c.in_ok-slots.ensures.items))
+parted-taken-requires-clause-kept_room g c = omega (arith, c.in-Some.ensures.count, c.in_ok-kept.ensures.len, c.in_ok-kept.ensures.exact, ap length (c.move_items.ensures.items ∙ ap (λ l. l ++ c.self.inside.fields) c.in_ok-slots.ensures.items))
 
-pub from_items-requires-clause-ascending : goal.from_items-requires-clause-ascending
-from_items-requires-clause-ascending g c =
+pub from_items-requires : goal.from_items-requires
+from_items-requires g c =
     let inside = c.self.inside in
     let test = is_listed c.args.of_extensions (known_of inside.message_type) in
     subst IsAscending (sym (c.parted-taken.ensures.kept ∙ ap (without_values test) (c.move_items.ensures.items ∙ ap (λ l. l ++ inside.fields) c.in_ok-slots.ensures.items))) (ascending_without_values test inside.fields c.move_items.ensures.ascending)

@@ -1,0 +1,7 @@
+-- What holds of an answer in both cases.
+use Rattle.std.proofs.Common.{Result, Ok, Err}
+use Rattle.std.specs.Result.{OnOk, OnErr}
+
+pub either : {T E P Q R : Type 0} (r : Result T E) → OnOk r P → OnErr r Q → (P → R) → (Q → R) → R
+either (Ok t) p q f h = f p
+either (Err e) p q f h = h q

@@ -1,0 +1,6 @@
+use Rattle.std.proofs.Common.{subst}
+use Rattle.prost_reflect_fields.specs.Items.{IsAscending}
+use Rattle.prost_reflect_fields.proofs.items.ItemList.items.Goals as goal
+
+pub returns-clause-ascending : goal.returns-clause-ascending
+returns-clause-ascending g c = subst IsAscending c.self.view_is c.self.invariant

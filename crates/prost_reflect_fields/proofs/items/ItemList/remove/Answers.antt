@@ -1,0 +1,7 @@
+use Rattle.std.proofs.Common.{subst, sym}
+use Rattle.prost_reflect_fields.specs.Items.{IsAscending}
+use Rattle.prost_reflect_fields.proofs.ItemChanges.{ascending_without}
+use Rattle.prost_reflect_fields.proofs.items.ItemList.remove.Goals as goal
+
+pub invariant_of-self : goal.invariant_of-self
+invariant_of-self g c = subst IsAscending (sym c.remove_at.ensures.items) (ascending_without c.self.inside.items.items c.args.number c.self.invariant)

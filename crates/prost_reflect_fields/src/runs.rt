@@ -1,0 +1,272 @@
+//! Many items, in runs.
+
+ghost use Rattle.std.specs.Prelude.{◌≡◌, ◌+◌, ◌<◌, ◌≤◌, ◌++◌, ◌^◌, [], length, OnOk, OnErr, IfNone, IfSome, Some, None, vec_len, vec_capacity};
+ghost use Rattle.std.specs.Borrow.{LendsIf, sem};
+ghost use Rattle.std.specs.Option.{option_copied, option_copied_mut};
+ghost use Rattle.std.specs.Ordering.{nat_cmp};
+ghost use Rattle.std_collections.specs.Layout.BTreeMap.{seek};
+ghost use Rattle.prost_reflect_fields.specs.contracts.runs.RunMap.{the_row};
+ghost use Rattle.prost_reflect_fields.specs.Items.{IsAscending, item_at, with_item, put_item, without_item};
+ghost use Rattle.prost_reflect_fields.specs.Runs.{flat, IsLaid, run_at};
+
+use crate::items::{get_at, join, place_in, put, remove_at};
+use std::alloc::{AllocError, Global};
+use std::marker::Model;
+
+/// A run of so many items is parted before it takes a further one.
+pub(crate) const FULL: usize = 128;
+
+/// A map from numbers, as runs of items in ascending order. With each run stands a number that is above all items in front of it, and
+/// not above its own.
+///
+/// An item goes into its run, and a run that is full is parted first. So an item moves no more than those of its run, whatever the
+/// order in which the numbers come.
+#[derive(Debug, Drop)]
+pub struct RunMap<T> {
+    runs: Vec<(u32, Vec<(u32, T)>)>,
+}
+
+impl<T> Model for RunMap<T> {
+    ghost use Rattle.std.specs.Prelude.{ℕ, List};
+    ghost use Rattle.prost_reflect_fields.specs.Runs.{flat, IsLaid};
+
+    ghost Value = { List (ℕ × T) };
+
+    ghost view = { λ a. flat a.runs.items };
+
+    ghost invariant = { λ a. IsLaid a.runs.items };
+}
+
+impl<T> RunMap<T> {
+    pub(crate) fn new(alloc: Global) -> RunMap<T>
+        ensures { result ≡ [] }
+    {
+        RunMap {
+            runs: Vec::new(alloc),
+        }
+    }
+
+    /// These items, whose numbers ascend, as one run. There is room for it.
+    pub(crate) fn from_items(runs: Vec<(u32, Vec<(u32, T)>)>, items: Vec<(u32, T)>) -> RunMap<T>
+        requires empty { runs.items ≡ [] }
+        requires room { vec_len runs < vec_capacity runs }
+        requires ascending { IsAscending items.items }
+        ensures { result ≡ items.items }
+    {
+        let mut runs = runs;
+        match runs.push((0, items)) {
+            Ok(()) => {}
+            Err(_) => unreachable!(),
+        }
+        RunMap { runs }
+    }
+
+    /// Puts all items behind those that are there, for which there is room.
+    pub(crate) fn move_items(self, items: &mut Vec<(u32, T)>)
+    where
+        T: Drop,
+        requires room { vec_len items.old + length self ≤ vec_capacity items.old }
+        ensures items { items.new.items ≡ items.old.items ++ self }
+        ensures ascending { IsAscending self }
+    {
+        let RunMap { runs } = self;
+        join_runs(runs, items);
+    }
+
+    /// What the items are stored with.
+    pub(crate) fn allocator(&self) -> Global {
+        *self.runs.allocator()
+    }
+
+    /// How many numbers have an item, unless no `usize` is so large.
+    pub(crate) fn count(&self) -> Option<usize>
+        ensures count { IfSome result (λ count. count ≡ length self.now) }
+        ensures none { IfNone result (2 ^ 64 ≤ length self.now) }
+    {
+        count_items(&self.runs)
+    }
+
+    /// The numbers ascend. A call does nothing, but its caller may then count on it.
+    pub(crate) fn ascends(&self)
+        ensures { IsAscending self.now }
+    {
+        let _ = self.runs.len();
+    }
+
+    /// The runs, whose items are all that there are.
+    pub(crate) fn runs(&self) -> &[(u32, Vec<(u32, T)>)]
+        ensures items { flat result.now ≡ self.now }
+        ensures ascending { IsAscending self.now }
+    {
+        &self.runs
+    }
+
+    pub(crate) fn get(&self, number: u32) -> Option<&T>
+        ensures { option_copied result ≡ item_at self.now number }
+    {
+        get_in(&self.runs, number)
+    }
+
+    pub(crate) fn get_mut(&mut self, number: u32) -> Option<&mut T>
+        ensures* writes_back { sem 𝓛 (LendsIf (the_row T.row) T.row self.entry result (with_item self.old number) self.old) }
+        ensures value { option_copied_mut result ≡ item_at self.old number }
+    {
+        match run_of(&self.runs, number) {
+            Some(index) => match place_in(&self.runs[index].1, number) {
+                Ok(place) => {
+                    let run = &mut self.runs[index];
+                    let item = &mut run.1[place];
+                    Some(&mut item.1)
+                }
+                Err(_) => None,
+            },
+            None => None,
+        }
+    }
+}
+
+impl<T: Drop> RunMap<T> {
+    /// Puts the item at the number, in place of one that is there. A refused growth changes nothing.
+    pub(crate) fn insert(&mut self, number: u32, item: T) -> Result<(), AllocError>
+        ensures ok { OnOk result (self.new ≡ put_item self.old number item) }
+        ensures err { OnErr result (self.new ≡ self.old) }
+    {
+        make_room(&mut self.runs, number)?;
+        put_in(&mut self.runs, number, item)
+    }
+
+    /// Takes the item at the number.
+    pub(crate) fn remove(&mut self, number: u32) -> Option<T>
+        ensures removed { result ≡ item_at self.old number }
+        ensures entries { self.new ≡ without_item self.old number }
+    {
+        remove_in(&mut self.runs, number)
+    }
+}
+
+/// The place of the run to which the number belongs: the last one whose items may have it.
+fn run_of<T>(runs: &[(u32, Vec<(u32, T)>)], number: u32) -> Option<usize>
+    requires { IsLaid runs.now }
+    ensures run { result ≡ run_at (seek (nat_cmp number) runs.now) }
+    ensures within { IfSome result (λ index. index < length runs.now) }
+{
+    match place_in(runs, number) {
+        Ok(index) => Some(index),
+        Err(0) => None,
+        Err(index) => Some(index - 1),
+    }
+}
+
+/// The item at the number in its run.
+fn get_in<T>(runs: &[(u32, Vec<(u32, T)>)], number: u32) -> Option<&T>
+    requires { IsLaid runs.now }
+    ensures { option_copied result ≡ item_at (flat runs.now) number }
+{
+    match run_of(runs, number) {
+        Some(index) => get_at(&runs[index].1, number),
+        None => None,
+    }
+}
+
+fn count_items<T>(runs: &[(u32, Vec<(u32, T)>)]) -> Option<usize>
+    ensures count { IfSome result (λ count. count ≡ length (flat runs.now)) }
+    ensures none { IfNone result (2 ^ 64 ≤ length (flat runs.now)) }
+{
+    let mut count: usize = 0;
+    for run in runs {
+        count = count.checked_add(run.1.len())?;
+    }
+    Some(count)
+}
+
+/// Parts the run to which the number belongs, where it is full. A refused growth changes no item.
+fn make_room<T: Drop>(runs: &mut Vec<(u32, Vec<(u32, T)>)>, number: u32) -> Result<(), AllocError>
+    requires { IsLaid runs.old.items }
+    ensures laid { IsLaid runs.new.items }
+    ensures items { flat runs.new.items ≡ flat runs.old.items }
+{
+    match run_of(runs, number) {
+        Some(index) if FULL <= runs[index].1.len() => part_run(runs, index),
+        _ => Ok(()),
+    }
+}
+
+/// Parts a run in the middle. A refused growth changes no item.
+fn part_run<T: Drop>(runs: &mut Vec<(u32, Vec<(u32, T)>)>, index: usize) -> Result<(), AllocError>
+    requires laid { IsLaid runs.old.items }
+    requires index { index < vec_len runs.old }
+    ensures laid { IsLaid runs.new.items }
+    ensures items { flat runs.new.items ≡ flat runs.old.items }
+{
+    runs.reserve(1)?;
+    let run = &mut runs[index].1;
+    let middle = run.len() / 2;
+    if middle == 0 {
+        return Ok(());
+    }
+    let number = run[middle].0;
+    let high = run.split_off(middle)?;
+    match runs.insert(index + 1, (number, high)) {
+        Ok(()) => Ok(()),
+        Err(_) => unreachable!(),
+    }
+}
+
+/// Puts the item at the number, in place of one that is there. A refused growth changes no item.
+fn put_in<T: Drop>(
+    runs: &mut Vec<(u32, Vec<(u32, T)>)>,
+    number: u32,
+    item: T,
+) -> Result<(), AllocError>
+    requires { IsLaid runs.old.items }
+    ensures laid { IsLaid runs.new.items }
+    ensures ok { OnOk result (flat runs.new.items ≡ put_item (flat runs.old.items) number item) }
+    ensures err { OnErr result (flat runs.new.items ≡ flat runs.old.items) }
+{
+    match run_of(runs, number) {
+        Some(index) => put(&mut runs[index].1, number, item),
+        None => put_first(runs, number, item),
+    }
+}
+
+/// Puts the item in front of all others, in a run of its own. A refused growth changes no item.
+fn put_first<T: Drop>(
+    runs: &mut Vec<(u32, Vec<(u32, T)>)>,
+    number: u32,
+    item: T,
+) -> Result<(), AllocError>
+    requires laid { IsLaid runs.old.items }
+    requires first { run_at (seek (nat_cmp number) runs.old.items) ≡ None }
+    ensures laid { IsLaid runs.new.items }
+    ensures ok { OnOk result (flat runs.new.items ≡ put_item (flat runs.old.items) number item) }
+    ensures err { OnErr result (flat runs.new.items ≡ flat runs.old.items) }
+{
+    runs.reserve_exact(1)?;
+    let mut run = Vec::new(*runs.allocator());
+    run.push((number, item))?;
+    runs.insert(0, (0, run))?;
+    Ok(())
+}
+
+/// Takes the item at the number from its run.
+fn remove_in<T: Drop>(runs: &mut Vec<(u32, Vec<(u32, T)>)>, number: u32) -> Option<T>
+    requires { IsLaid runs.old.items }
+    ensures laid { IsLaid runs.new.items }
+    ensures removed { result ≡ item_at (flat runs.old.items) number }
+    ensures items { flat runs.new.items ≡ without_item (flat runs.old.items) number }
+{
+    match run_of(runs, number) {
+        Some(index) => remove_at(&mut runs[index].1, number),
+        None => None,
+    }
+}
+
+/// Puts the items of all runs behind those that are there, for which there is room.
+fn join_runs<T: Drop>(runs: Vec<(u32, Vec<(u32, T)>)>, items: &mut Vec<(u32, T)>)
+    requires { vec_len items.old + length (flat runs.items) ≤ vec_capacity items.old }
+    ensures { items.new.items ≡ items.old.items ++ flat runs.items }
+{
+    for (_, run) in runs {
+        join(run, items);
+    }
+}
