@@ -7,29 +7,10 @@ import subprocess
 import sys
 import tempfile
 
+import wire
+from wire import delimited, group, number, varint
+
 calls, protorelay, library = map(os.path.abspath, sys.argv[1:])
-START, END = 3, 4
-
-
-def varint(n):
-    out, n = b"", n % 2**64
-    while n > 127:
-        out += bytes([n & 127 | 128])
-        n >>= 7
-    return out + bytes([n])
-
-
-def number(n, value):
-    return varint(8 * n) + varint(value)
-
-
-def delimited(n, body):
-    body = body.encode() if isinstance(body, str) else body
-    return varint(8 * n + 2) + varint(len(body)) + body
-
-
-def group(n, body):
-    return varint(8 * n + START) + body + varint(8 * n + END)
 
 
 def fixed(n, wire_type, size):
@@ -39,20 +20,8 @@ def fixed(n, wire_type, size):
 NOTE = delimited(1000, "a note that is read as an option")
 
 
-def field(name, n, label, kind, type_name=None, default=None, oneof=None, extendee=None, options=b""):
-    out = delimited(1, name)
-    if extendee:
-        out += delimited(2, extendee)
-    out += number(3, n) + number(4, label) + number(5, kind)
-    if type_name:
-        out += delimited(6, type_name)
-    if default:
-        out += delimited(7, default)
-    if options:
-        out += delimited(8, options)
-    if oneof is not None:
-        out += number(9, oneof)
-    return out + delimited(10, name + "Json")
+def field(name, *rest, **named):
+    return wire.field(name, *rest, **named) + delimited(10, name + "Json")
 
 
 def entry(name, key, value, type_name=None):
@@ -155,7 +124,7 @@ RECORDS = {
     "DescriptorProto": EVERY,
     "ExtensionRange": EXTENSION_RANGE,
     "ReservedRange": range_of(4, 5),
-    "FieldDescriptorProto": field("f", 1, 1, 9, ".every.Every", "default", 0, ".every.Every", NOTE) + number(17, 1),
+    "FieldDescriptorProto": field("f", 1, 1, 9, ".every.Every", "default", NOTE, 0, ".every.Every") + number(17, 1),
     "OneofDescriptorProto": ONEOF,
     "EnumDescriptorProto": CLOSED,
     "EnumReservedRange": range_of(-5, -3),

@@ -6,42 +6,21 @@ what that is given. `made` gives the type's full name and the bytes, which are t
 import random
 import struct
 
+import wire
+from wire import delimited, group, number, varint
+
 DOUBLE, INT64, INT32, FIXED64, STRING, MESSAGE, BYTES, UINT32, SINT64, BOOL = 1, 3, 5, 6, 9, 11, 12, 13, 18, 8
 OPTIONAL, REPEATED = 1, 3
-
-
-def varint(n):
-    n &= (1 << 64) - 1
-    out = b""
-    while n > 127:
-        out += bytes([n & 127 | 128])
-        n >>= 7
-    return out + bytes([n])
-
-
-def number(n, value):
-    return varint(8 * n) + varint(value)
-
-
-def delimited(n, body):
-    body = body.encode() if isinstance(body, str) else body
-    return varint(8 * n + 2) + varint(len(body)) + body
 
 
 def double(n, value):
     return varint(8 * n + 1) + struct.pack("<d", value)
 
 
-def group(n, body):
-    return varint(8 * n + 3) + body + varint(8 * n + 4)
-
-
 def field(name, n, kind, label=OPTIONAL, rest=b""):
     """The definition of a field; its kind is a scalar's, or the name of a message type."""
-    type_name = b""
-    if isinstance(kind, str):
-        kind, type_name = MESSAGE, delimited(6, ".speed." + kind)
-    return delimited(2, delimited(1, name) + number(3, n) + number(4, label) + number(5, kind) + type_name + rest)
+    kind, type_name = (MESSAGE, ".speed." + kind) if isinstance(kind, str) else (kind, None)
+    return delimited(2, wire.field(name, n, label, kind, type_name) + rest)
 
 
 def message(name, *parts):
