@@ -23,7 +23,11 @@ static V_AND_W: &[u8] =
     \x18\x01 \x03(\x05B\x02\x18\x01R\x06values*\x05\x08d\x10\xc8\x012'\x0a\x0aext_values\x12\
     \x04.w.W\x18d \x03(\x05B\x02\x18\x01R\x09extValuesb\x06proto3";
 
-fn message_of(pool: &DescriptorPool, full_name: &str) -> Result<MessageDescriptor, Fail> {
+/// The message type of the name.
+pub(crate) fn message_of(
+    pool: &DescriptorPool,
+    full_name: &str,
+) -> Result<MessageDescriptor, Fail> {
     Ok(pool.get_message_by_name(full_name)?.ok_or("no such type")?)
 }
 

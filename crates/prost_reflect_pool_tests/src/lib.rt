@@ -17,6 +17,8 @@ mod found;
 #[cfg(test)]
 mod lookups;
 #[cfg(test)]
+mod options;
+#[cfg(test)]
 mod origins;
 #[cfg(test)]
 mod pools;

@@ -1,7 +1,8 @@
 //! The schema of descriptor sets, and what its descriptors say.
 
 use crate::describe::describe;
-use prost_reflect::DescriptorPool;
+use crate::described::message_of;
+use prost_reflect::{DescriptorPool, relay};
 use std::test::Fail;
 
 /// What protoc 3.21 writes for `google/protobuf/descriptor.proto`.
@@ -158,5 +159,15 @@ fn the_schema_of_descriptor_sets_is_told(rt: HostRuntime) -> Result<(), Fail> {
     for line in LINES {
         assert!(rt; text.as_str().contains(line), "{line}");
     }
+    Ok(())
+}
+
+/// It is itself a message of the type that it defines for descriptor sets.
+#[test]
+fn the_schema_of_descriptor_sets_relays_itself(rt: HostRuntime) -> Result<(), Fail> {
+    let pool = DescriptorPool::decode(rt.alloc(), SCHEMA)?;
+    let set = message_of(&pool, "google.protobuf.FileDescriptorSet")?;
+    let bytes = relay(rt.alloc(), &set, SCHEMA)?;
+    assert!(rt; bytes.as_slice() == SCHEMA);
     Ok(())
 }

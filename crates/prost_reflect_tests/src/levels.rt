@@ -1,6 +1,6 @@
 //! Messages and groups that nest as deep as is allowed, and one level deeper; and a thousand entries of one key.
 
-use crate::worked::worked_type;
+use crate::worked::{relayed, worked_type, written};
 use prost_reflect::{DecodeError, DynamicMessage};
 use std::alloc::{AllocError, Global};
 use std::test::Fail;
@@ -29,21 +29,10 @@ pub(crate) fn in_messages(alloc: Global, levels: usize, digits: &str) -> Result<
 }
 
 /// So many groups inside one another, by the bytes that open and that close one.
-pub(crate) fn in_groups(
-    alloc: Global,
-    levels: usize,
-    open: u8,
-    close: u8,
-) -> Result<Vec<u8>, AllocError> {
+fn in_groups(alloc: Global, levels: usize, open: u8, close: u8) -> Result<Vec<u8>, AllocError> {
     let mut bytes = vec![in alloc; open; levels]?;
     bytes.extend_from_slice(vec![in alloc; close; levels]?.as_slice())?;
     Ok(bytes)
-}
-
-/// What is written of the message that the bytes mean.
-fn written(alloc: Global, name: &str, bytes: &[u8]) -> Result<Vec<u8>, Fail> {
-    let message = DynamicMessage::decode(alloc, worked_type(alloc, name)?, bytes)?;
-    Ok(message.encode_to_vec(alloc)?)
 }
 
 fn is_too_deep(alloc: Global, name: &str, bytes: &[u8]) -> Result<bool, Fail> {
@@ -73,7 +62,8 @@ fn a_hundred_levels_of_messages_are_read(rt: HostRuntime) -> Result<(), Fail> {
     for (name, levels, inside, again) in &DEEP {
         let bytes = in_messages(alloc, *levels, inside)?;
         let expected = in_messages(alloc, *levels, again)?;
-        assert!(rt; written(alloc, name, bytes.as_slice())?.as_slice() == expected.as_slice());
+        let (_, written) = relayed(alloc, worked_type(alloc, name)?, bytes.as_slice())?;
+        assert!(rt; written.as_slice() == expected.as_slice());
     }
     for (name, levels, inside) in &TOO_DEEP {
         let bytes = in_messages(alloc, *levels, inside)?;
@@ -98,7 +88,8 @@ fn a_hundred_levels_of_groups_are_read(rt: HostRuntime) -> Result<(), Fail> {
     let alloc = rt.alloc();
     for (name, open, close) in &GROUPS {
         let bytes = in_groups(alloc, 100, *open, *close)?;
-        assert!(rt; written(alloc, name, bytes.as_slice())?.as_slice() == bytes.as_slice());
+        let (_, written) = relayed(alloc, worked_type(alloc, name)?, bytes.as_slice())?;
+        assert!(rt; written.as_slice() == bytes.as_slice());
         let bytes = in_groups(alloc, 101, *open, *close)?;
         assert!(rt; is_too_deep(alloc, name, bytes.as_slice())?);
     }
@@ -118,7 +109,9 @@ fn entries(alloc: Global) -> Result<Vec<u8>, AllocError> {
 #[test]
 fn the_last_of_a_thousand_entries_counts(rt: HostRuntime) -> Result<(), Fail> {
     let bytes = entries(rt.alloc())?;
-    let again = written(rt.alloc(), "a.P", bytes.as_slice())?;
+    let descriptor = worked_type(rt.alloc(), "a.P")?;
+    let message = DynamicMessage::decode(rt.alloc(), descriptor, bytes.as_slice())?;
+    let again = written(rt.alloc(), &message)?;
     assert!(rt; again.as_slice() == [0x0a, 6, 0x0a, 1, b'a', 0x10, 0xe8, 7].as_slice());
     Ok(())
 }

@@ -13,6 +13,8 @@ mod changes;
 #[cfg(test)]
 mod choices;
 #[cfg(test)]
+mod contents;
+#[cfg(test)]
 mod defaults;
 #[cfg(test)]
 mod equality;
@@ -36,8 +38,6 @@ mod lists;
 mod merges;
 #[cfg(test)]
 mod messages;
-#[cfg(test)]
-mod options;
 #[cfg(test)]
 mod paths;
 #[cfg(test)]

@@ -1,9 +1,7 @@
-//! Worked bytes that are refused, and worked messages that end too early.
+//! Worked bytes that are refused, and a worked message that ends too early.
 
-use crate::levels::{in_groups, in_messages};
-use crate::worked::{WRITTEN, worked_type};
+use crate::worked::worked_type;
 use prost_reflect::{DecodeError, DynamicMessage};
-use std::alloc::Global;
 use std::test::Fail;
 
 /// A message type, the digits of bytes, and why they are refused.
@@ -64,39 +62,6 @@ fn worked_bytes_are_refused(rt: HostRuntime) -> Result<(), Fail> {
     Ok(())
 }
 
-/// Whether each part in front of the end of the bytes is a message, or ends too early.
-fn parts_are_read(alloc: Global, name: &str, bytes: &[u8]) -> Result<bool, Fail> {
-    let descriptor = worked_type(alloc, name)?;
-    for len in 0..bytes.len() {
-        let read = DynamicMessage::decode(alloc, descriptor.clone()?, &bytes[..len]);
-        if read.is_err_and(|error| error != DecodeError::Truncated) {
-            return Ok(false);
-        }
-    }
-    Ok(true)
-}
-
-#[test]
-fn a_part_of_a_message_is_read_or_ends_too_early(rt: HostRuntime) -> Result<(), Fail> {
-    for (name, digits, _, _) in &WRITTEN {
-        let bytes = hex::decode(rt.alloc(), digits)?;
-        assert!(rt;
-            parts_are_read(rt.alloc(), name, bytes.as_slice())?,
-            "{digits}"
-        );
-    }
-    Ok(())
-}
-
-#[test]
-fn so_is_a_part_of_a_hundred_levels(rt: HostRuntime) -> Result<(), Fail> {
-    let messages = in_messages(rt.alloc(), 100, "")?;
-    let groups = in_groups(rt.alloc(), 100, 0x2b, 0x2c)?;
-    assert!(rt; parts_are_read(rt.alloc(), "package.MyMessage", messages.as_slice())?);
-    assert!(rt; parts_are_read(rt.alloc(), "package.MyMessage", groups.as_slice())?);
-    Ok(())
-}
-
 /// A part that ends between records is read.
 #[test]
 fn a_message_ends_between_its_records(rt: HostRuntime) -> Result<(), Fail> {
@@ -104,7 +69,8 @@ fn a_message_ends_between_its_records(rt: HostRuntime) -> Result<(), Fail> {
     let descriptor = worked_type(rt.alloc(), "package.MyMessage")?;
     for len in 0..7 {
         let read = DynamicMessage::decode(rt.alloc(), descriptor.clone()?, &bytes[..len]);
-        assert_eq!(rt; read.is_ok(), len == 0 || len == 3);
+        let is_cut = len != 0 && len != 3;
+        assert_eq!(rt; read.err(), is_cut.then_some(DecodeError::Truncated));
     }
     Ok(())
 }

@@ -1,5 +1,8 @@
 //! What older message types relay, and what newer ones read of it.
 
+use crate::contents::shown;
+use crate::levels::in_messages;
+use crate::worked::relayed;
 use prost_reflect::{
     DecodeError, DescriptorPool, DynamicMessage, MessageDescriptor, RelayError, RelayHexError,
     RelayWithError, Value, relay, relay_hex, relay_with,
@@ -48,16 +51,33 @@ pub(crate) static NEWER: &[u8] =
     \x18\x01 \x01(\x0e2\x02.E*\x11\x0a\x01E\x12\x05\x0a\x01A\x10\x00\x12\x05\x0a\x01B\x10\x01:\x18\
     \x0a\x0aext_values\x12\x04.Foo\x18d \x03(\x05";
 
-/// A message type, the digits of bytes, those of what its older form relays them as, and whether its newer form reads the
-/// same from both. The older forms of `Q` and `C` are no reductions: members of a oneof are missing, and a number of a closed
-/// enum.
-static ROWS: [(&str, &str, &str, bool); 6] = [
-    ("MyMessage", "1a0410420805", "1a0408051042", true),
-    ("MyMessage", "1A0410420805", "1a0408051042", true),
-    ("P", "12000a00", "0a0012021200", true),
-    ("Foo", "08010802", "0a020102", true),
-    ("Q", "12000801", "08011200", false),
-    ("C", "08010800", "08000801", false),
+/// A message type, the digits of bytes, those of what its older form relays them as, and what its newer form shows of both.
+/// The older forms of `Q` and `C` are no reductions: members of a oneof are missing, and a number of a closed enum.
+static ROWS: [(&str, &str, &str, &str, &str); 6] = [
+    (
+        "MyMessage",
+        "1a0410420805",
+        "1a0408051042",
+        "3={1=5 2=66 } ",
+        "3={1=5 2=66 } ",
+    ),
+    (
+        "MyMessage",
+        "1A0410420805",
+        "1a0408051042",
+        "3={1=5 2=66 } ",
+        "3={1=5 2=66 } ",
+    ),
+    (
+        "P",
+        "12000a00",
+        "0a0012021200",
+        "1=(:0 ) 2=(0:{} ) ",
+        "1=(:0 ) 2=(0:{} ) ",
+    ),
+    ("Foo", "08010802", "0a020102", "1=[1 2 ] ", "1=[1 2 ] "),
+    ("Q", "12000801", "08011200", "1=1 ", "2={} "),
+    ("C", "08010800", "08000801", "1=0 ", "1=1 "),
 ];
 
 /// Texts that `MyMessage` in its older form does not relay.
@@ -79,20 +99,40 @@ pub(crate) fn message_type(
     Ok(found.ok_or("no such message type")?)
 }
 
-fn newer(alloc: Global, name: &str, digits: &str) -> Result<DynamicMessage, Fail> {
+pub(crate) fn newer(alloc: Global, name: &str, digits: &str) -> Result<DynamicMessage, Fail> {
     let bytes = hex::decode(alloc, digits)?;
     let newer = message_type(alloc, NEWER, name)?;
     Ok(DynamicMessage::decode(alloc, newer, bytes.as_slice())?)
 }
 
+/// What the newer form of a type shows of the digits' bytes.
+fn shown_by_newer(alloc: Global, name: &str, digits: &str) -> Result<String, Fail> {
+    shown(alloc, &newer(alloc, name, digits)?)
+}
+
+/// Whether the bytes are relayed as others by an older type, as they are read and written by it.
+fn relays(
+    alloc: Global,
+    older: MessageDescriptor,
+    bytes: &[u8],
+    again: &[u8],
+) -> Result<bool, Fail> {
+    let passed = relay(alloc, &older, bytes)?;
+    let (_, written) = relayed(alloc, older, bytes)?;
+    Ok(passed.as_slice() == again && written.as_slice() == again)
+}
+
 #[test]
 fn messages_pass_through_older_types(rt: HostRuntime) -> Result<(), Fail> {
     let alloc = rt.alloc();
-    for (name, digits, relayed, passes) in ROWS {
+    for (name, digits, again, first, second) in ROWS {
         let older = message_type(alloc, OLDER, name)?;
-        assert_eq!(rt; relay_hex(alloc, &older, digits)?.as_str(), relayed);
-        let same = newer(alloc, name, digits)? == newer(alloc, name, relayed)?;
-        assert_eq!(rt; same, passes);
+        assert_eq!(rt; relay_hex(alloc, &older, digits)?.as_str(), again);
+        let bytes = hex::decode(alloc, digits)?;
+        let expected = hex::decode(alloc, again)?;
+        assert!(rt; relays(alloc, older, bytes.as_slice(), expected.as_slice())?);
+        assert_eq!(rt; shown_by_newer(alloc, name, digits)?.as_str(), first);
+        assert_eq!(rt; shown_by_newer(alloc, name, again)?.as_str(), second);
     }
     Ok(())
 }
@@ -104,15 +144,6 @@ fn what_is_not_relayed_is_named(rt: HostRuntime) -> Result<(), Fail> {
     for (digits, refusal) in REFUSED {
         assert_eq!(rt; relay_hex(alloc, &older, digits).err(), Some(refusal));
     }
-    Ok(())
-}
-
-#[test]
-fn bytes_are_relayed(rt: HostRuntime) -> Result<(), Fail> {
-    let alloc = rt.alloc();
-    let older = message_type(alloc, OLDER, "Foo")?;
-    let written = relay(alloc, &older, &[8, 1, 8, 2])?;
-    assert!(rt; written.as_slice() == [0x0a, 2, 1, 2].as_slice());
     Ok(())
 }
 
@@ -154,9 +185,8 @@ fn values_are_set_through_older_types(rt: HostRuntime) -> Result<(), Fail> {
     let alloc = rt.alloc();
     let written = edited(alloc, OLDER, "MyMessage", "08051042", &[2], Value::I32(7))?;
     assert_eq!(rt; written.as_str(), "08051007");
-    let same = newer(alloc, "MyMessage", written.as_str())?
-        == newer(alloc, "MyMessage", "10070805")?;
-    assert!(rt; same);
+    let text = shown_by_newer(alloc, "MyMessage", written.as_str())?;
+    assert_eq!(rt; text.as_str(), "1=5 2=7 ");
     let written = edited(
         alloc,
         OLDER,
@@ -187,21 +217,14 @@ fn values_take_the_place_of_others(rt: HostRuntime) -> Result<(), Fail> {
 #[test]
 fn a_path_goes_down_a_hundred_levels(rt: HostRuntime) -> Result<(), Fail> {
     let alloc = rt.alloc();
-    let mut path = [3; 101];
-    path[100] = 2;
-    let written = edited(
-        alloc,
-        NEWER,
-        "MyMessage",
-        "",
-        path.as_slice(),
-        Value::I32(0),
-    )?;
-    let read = newer(alloc, "MyMessage", written.as_str())?;
-    assert!(rt; read.has_field_by_number(3));
+    let older = message_type(alloc, OLDER, "MyMessage")?;
     let mut path = [3; 102];
     path[101] = 2;
-    let refused = refusal(alloc, "MyMessage", "", path.as_slice(), Value::I32(0))?;
+    let written = relay_with(alloc, &older, &[], &path[1..], Value::I32(0))?;
+    assert!(rt; written.as_slice() == in_messages(alloc, 100, "1000")?.as_slice());
+    let newer = message_type(alloc, NEWER, "MyMessage")?;
+    assert!(rt; DynamicMessage::decode(alloc, newer, written.as_slice())?.has_field_by_number(3));
+    let refused = relay_with(alloc, &older, &[], &path, Value::I32(0)).err();
     assert_eq!(rt; refused, Some(RelayWithError::NotFound));
     Ok(())
 }

@@ -1,156 +1,16 @@
-//! What the fields of worked messages are, which values they take, and which types are reductions.
+//! Which values the fields of worked messages take, and which types are reductions.
 
 use crate::relay::{NEWER, OLDER, message_type};
-use crate::worked::worked_type;
+use crate::worked::{worked_type, written};
 use prost_reflect::{DynamicMessage, FieldDescriptor, MapKey, SetFieldError, Value};
-use std::alloc::{AllocError, Global};
+use std::alloc::Global;
 use std::test::Fail;
-
-/// A message type, the digits of bytes, a number, and its value: numbers are split by commas, a key and a value by a colon.
-static VALUES: [(&str, &str, u32, &str); 15] = [
-    ("package.MyMessage", "089601", 1, "150"),
-    ("package.MyMessage", "08ffffffff0f", 1, "-1"),
-    ("b.Foo", "0a020102", 1, "1,2"),
-    ("b.Foo", "10050807", 1, "7"),
-    ("a.Foo", "0a0b01ffffffffffffffffff01", 1, "1,-1"),
-    ("a.Foo", "08010a02020308040a00", 1, "1,2,3,4"),
-    ("a.P", "0a050a016110010a050a01611002", 1, "a:2"),
-    ("a.P", "0a00", 1, ":0"),
-    ("a.P", "0a0418031001", 1, ":1"),
-    ("b.T", "0a00", 1, ":0"),
-    ("a.F", "0d00000080", 1, "2147483648"),
-    ("C", "080108070800", 1, "0"),
-    ("C", "120401070009", 2, "1,0"),
-    ("C", "28052007", 5, "5"),
-    ("b.C", "0807", 1, "7"),
-];
-
-/// Writes a number, or the bits of one.
-fn write_number(out: &mut String, value: &Value) -> Result<(), AllocError> {
-    match value {
-        Value::I32(number) | Value::EnumNumber(number) => write!(out, "{number}"),
-        Value::F32(bits) => write!(out, "{bits}"),
-        _ => out.push('?'),
-    }
-}
-
-fn write_list(out: &mut String, items: &[Value]) -> Result<(), AllocError> {
-    for item in items.iter() {
-        if !out.is_empty() {
-            out.push(',')?;
-        }
-        write_number(out, item)?;
-    }
-    Ok(())
-}
-
-fn text_of(alloc: Global, value: &Value) -> Result<String, AllocError> {
-    let mut out = String::new(alloc);
-    if let Some(items) = value.as_list() {
-        write_list(&mut out, items)?;
-    } else if let Some(pairs) = value.as_map() {
-        for (key, value) in pairs.iter() {
-            out.push_str(key.as_str().unwrap_or("?"))?;
-            out.push(':')?;
-            write_number(&mut out, value)?;
-        }
-    } else {
-        write_number(&mut out, value)?;
-    }
-    Ok(out)
-}
 
 /// The message that the digits mean to the type of the name.
 pub(crate) fn decoded(alloc: Global, name: &str, digits: &str) -> Result<DynamicMessage, Fail> {
     let bytes = hex::decode(alloc, digits)?;
     let descriptor = worked_type(alloc, name)?;
     Ok(DynamicMessage::decode(alloc, descriptor, bytes.as_slice())?)
-}
-
-#[test]
-fn worked_fields_have_values(rt: HostRuntime) -> Result<(), Fail> {
-    for (name, digits, number, text) in &VALUES {
-        let message = decoded(rt.alloc(), name, digits)?;
-        let value = message.get_field_by_number(rt.alloc(), *number)?;
-        let value = value.ok_or("no such field")?;
-        assert_eq!(rt; text_of(rt.alloc(), &value)?.as_str(), *text);
-    }
-    Ok(())
-}
-
-/// A message type, the digits of bytes, a number, and the message that is its value, or the one in its list or map: its type
-/// and digits that mean it.
-static MESSAGES: [(&str, &str, u32, &str, &str); 5] = [
-    (
-        "package.MyMessage",
-        "1a0208051a021042",
-        3,
-        "package.MyMessage",
-        "08051042",
-    ),
-    (
-        "package.MyMessage",
-        "1a0208051a020800",
-        3,
-        "package.MyMessage",
-        "0800",
-    ),
-    (
-        "a.Q",
-        "12020805080112021042",
-        2,
-        "package.MyMessage",
-        "1042",
-    ),
-    ("b.G", "0b08010c", 1, "b.G.Item", "0801"),
-    ("a.P", "1200", 2, "package.MyMessage", ""),
-];
-
-fn is_message(value: &Value, message: &DynamicMessage) -> bool {
-    match value.as_message() {
-        Some(found) => *found == *message,
-        None => false,
-    }
-}
-
-/// Whether the message is the one element of the list, or the value of the key 0, which is the only one.
-fn is_only_message(value: &Value, message: &DynamicMessage) -> bool {
-    if let Some([item]) = value.as_list() {
-        return is_message(item, message);
-    }
-    let Some(pairs) = value.as_map() else {
-        return false;
-    };
-    match pairs.get(&MapKey::I32(0)) {
-        Some(value) => pairs.len() == 1 && is_message(value, message),
-        None => false,
-    }
-}
-
-#[test]
-fn worked_fields_have_messages(rt: HostRuntime) -> Result<(), Fail> {
-    for (name, digits, number, inner, inside) in &MESSAGES {
-        let message = decoded(rt.alloc(), name, digits)?;
-        let value = message.get_field_by_number(rt.alloc(), *number)?;
-        let value = value.ok_or("no such field")?;
-        let inside = decoded(rt.alloc(), inner, inside)?;
-        assert!(rt;
-            is_message(&value, &inside) || is_only_message(&value, &inside),
-            "{digits}"
-        );
-    }
-    Ok(())
-}
-
-#[test]
-fn a_worked_extension_has_its_value(rt: HostRuntime) -> Result<(), Fail> {
-    let message = decoded(rt.alloc(), "b.X", "a00607")?;
-    let extension = worked_type(rt.alloc(), "b.X")?.get_extension(100)?;
-    let extension = extension.ok_or("no x")?;
-    assert!(rt; message.owns_extension(&extension));
-    let value = message.get_extension(rt.alloc(), &extension)?;
-    assert!(rt; value.as_i32() == Some(7));
-    Ok(())
 }
 
 /// A list that is set is written as one that is read.
@@ -162,7 +22,10 @@ fn a_list_is_set(rt: HostRuntime) -> Result<(), Fail> {
     assert!(rt; message.owns_field(&field));
     let items = vec![in rt.alloc(); Value::I32(1), Value::I32(-1)]?;
     assert!(rt; message.try_set_field(&field, Value::List(items)).is_ok());
-    assert!(rt; message == decoded(rt.alloc(), "a.Foo", "0a0b01ffffffffffffffffff01")?);
+    let bytes = written(rt.alloc(), &message)?;
+    let digits = hex::encode(rt.alloc(), bytes.as_slice())?;
+    assert_eq!(rt; digits.as_str(), "0a0b01ffffffffffffffffff01");
+    assert!(rt; message == decoded(rt.alloc(), "a.Foo", digits.as_str())?);
     Ok(())
 }
 

@@ -157,7 +157,7 @@ static WITH_SETS: [([&str; 4], u8, &str, &str); 17] = [
         "",
     ),
     (
-        ["show", SET_M, "package.Other", "0801"],
+        ["show", SET_M, "package.Other", "0896011a0210422a002801"],
         1,
         "",
         "refused name\n",

@@ -1,0 +1,140 @@
+//! Options of definitions, read by the types of the schema of descriptor sets, or by one that has few of them.
+
+use crate::described::message_of;
+use crate::schema::SCHEMA;
+use prost_reflect::{DecodeError, DescriptorPool, DynamicMessage, OptionsError, Value};
+use std::alloc::{AllocError, Global};
+use std::test::Fail;
+
+/// What protoc writes for `o.proto`, of proto2, in `o`, which imports the schema of descriptor sets:
+///
+///     option java_package = "j";
+///     extend google.protobuf.OneofOptions { optional int32 note = 50001; }
+///     message M {
+///       option deprecated = true;
+///       optional int32 f = 1 [deprecated = true];
+///       oneof c { option (note) = 7; int32 g = 2; }
+///       extensions 100 to 199;
+///     }
+///     extend M { optional int32 x = 100 [deprecated = false]; }
+///     enum E { option deprecated = true; A = 0 [deprecated = true]; }
+///     service S {
+///       option deprecated = true;
+///       rpc R(M) returns (M) { option idempotency_level = NO_SIDE_EFFECTS; }
+///     }
+static O_PROTO: &[u8] =
+    b"\x0a\xf1\x01\x0a\x07o.proto\x12\x01o\x1a google/protobuf/descriptor.proto\";\x0a\x01M\x12\
+    \x10\x0a\x01f\x18\x01 \x01(\x05B\x02\x18\x01R\x01f\x12\x0e\x0a\x01g\x18\x02 \x01(\x05H\x00R\
+    \x01g*\x05\x08d\x10\xc8\x01:\x02\x18\x01B\x09\x0a\x01c\x12\x04\x88\xb5\x18\x07*\x12\x0a\x01E\
+    \x12\x09\x0a\x01A\x10\x00\x1a\x02\x08\x01\x1a\x02\x18\x012\x1e\x0a\x01S\x12\x14\x0a\x01R\x12\
+    \x04.o.M\x1a\x04.o.M\"\x03\x90\x02\x01\x1a\x03\x88\x02\x01:3\x0a\x04note\x12\x1d.google.protob\
+    uf.OneofOptions\x18\xd1\x86\x03 \x01(\x05R\x04note:\x16\x0a\x01x\x12\x04.o.M\x18d \x01(\x05B\
+    \x02\x18\x00R\x01xB\x03\x0a\x01j";
+
+/// A definition of `o.proto`, and the type of its options, with the names and the values of those that are set.
+static ANSWERS: [(&str, &str); 10] = [
+    ("o.proto", "FileOptions java_package=j"),
+    ("M", "MessageOptions deprecated=true"),
+    ("f", "FieldOptions deprecated=true"),
+    ("g", "FieldOptions"),
+    ("x", "FieldOptions deprecated=false"),
+    ("c", "OneofOptions note=7"),
+    ("E", "EnumOptions deprecated=true"),
+    ("A", "EnumValueOptions deprecated=true"),
+    ("S", "ServiceOptions deprecated=true"),
+    ("R", "MethodOptions idempotency_level=1"),
+];
+
+/// The options of the definition.
+fn options_of(pool: &DescriptorPool, name: &str) -> Result<DynamicMessage, Fail> {
+    let message = message_of(pool, "o.M")?;
+    let e = pool.get_enum_by_name("o.E")?.ok_or("no o.E")?;
+    let service = pool.get_service_by_name("o.S")?.ok_or("no o.S")?;
+    let options = match name {
+        "M" => message.options(),
+        "f" => message.get_field(1)?.ok_or("no f")?.options(),
+        "g" => message.get_field(2)?.ok_or("no g")?.options(),
+        "c" => message.oneofs().next().ok_or("no c")??.options(),
+        "x" => message.get_extension(100)?.ok_or("no x")?.options(),
+        "E" => e.options(),
+        "A" => e.default_value()?.options(),
+        "S" => service.options(),
+        "R" => service.methods().next().ok_or("no R")??.options(),
+        file => pool.get_file_by_name(file)?.ok_or("no file")?.options(),
+    };
+    Ok(options?)
+}
+
+/// The name of the options' type, and the names and the values of those that are set.
+fn shown(alloc: Global, options: &DynamicMessage) -> Result<String, Fail> {
+    let mut out = String::new(alloc);
+    out.push_str(options.descriptor()?.name())?;
+    for item in options.fields() {
+        let (field, value) = item?;
+        write_option(&mut out, field.name(), value)?;
+    }
+    for item in options.extensions() {
+        let (extension, value) = item?;
+        write_option(&mut out, extension.name(), value)?;
+    }
+    Ok(out)
+}
+
+fn write_option(out: &mut String, name: &str, value: &Value) -> Result<(), AllocError> {
+    match value {
+        Value::Bool(true) => write!(out, " {name}=true"),
+        Value::Bool(false) => write!(out, " {name}=false"),
+        Value::I32(number) | Value::EnumNumber(number) => write!(out, " {name}={number}"),
+        Value::String(text) => write!(out, " {name}={text}"),
+        _ => write!(out, " {name}=?"),
+    }
+}
+
+#[test]
+fn options_are_those_of_each_definition(rt: HostRuntime) -> Result<(), Fail> {
+    let mut pool = DescriptorPool::decode(rt.alloc(), SCHEMA)?;
+    pool.decode_file_descriptor_set(O_PROTO)?;
+    for (name, text) in ANSWERS {
+        let options = options_of(&pool, name)?;
+        assert_eq!(rt; shown(rt.alloc(), &options)?.as_str(), text);
+    }
+    Ok(())
+}
+
+/// `message M { option deprecated = true; optional int32 a = 1; }` in `p`.
+static USER: &[u8] =
+    b"\x0a&\x0a\x0auser.proto\x12\x01p\"\x15\x0a\x01M\x12\x0c\x0a\x01a\x18\x01 \x01(\x05R\x01a:\x02\
+    \x18\x01";
+
+/// A file with a message type `google.protobuf.MessageOptions`, whose field 3 is a bool or a string, or no file; and why the
+/// options of `p.M` are not read beside it.
+static ROWS: [(&[u8], Option<OptionsError>); 3] = [
+    (
+        b"\x0aL\x0a\x07a.proto\x12\x0fgoogle.protobuf\"0\x0a\x0eMessageOptions\x12\x1e\x0a\x0adeprecate\
+    d\x18\x03 \x01(\x08R\x0adeprecated",
+        None,
+    ),
+    (b"", Some(OptionsError::NoOptionsMessage)),
+    (
+        b"\x0aL\x0a\x07b.proto\x12\x0fgoogle.protobuf\"0\x0a\x0eMessageOptions\x12\x1e\x0a\x0adeprecate\
+    d\x18\x03 \x01(\x09R\x0adeprecated",
+        Some(OptionsError::Decode(DecodeError::WireType)),
+    ),
+];
+
+#[test]
+fn options_are_read_by_the_pool_alone(rt: HostRuntime) -> Result<(), Fail> {
+    for (file, refusal) in ROWS {
+        let mut pool = DescriptorPool::decode(rt.alloc(), USER)?;
+        pool.decode_file_descriptor_set(file)?;
+        match message_of(&pool, "p.M")?.options() {
+            Ok(options) => {
+                assert_eq!(rt; refusal, None);
+                let text = shown(rt.alloc(), &options)?;
+                assert_eq!(rt; text.as_str(), "MessageOptions deprecated=true");
+            }
+            Err(error) => assert_eq!(rt; Some(error), refusal),
+        }
+    }
+    Ok(())
+}
