@@ -44,7 +44,7 @@ static EXTENSIONS: [(&str, &str, u32, bool, i32, &str, &str); 3] = [
 ];
 
 /// Whether the value is the number, and is lent if it is stored.
-fn is_shown(value: &Cow<'_, Value>, number: i32, is_stored: bool) -> bool {
+pub(crate) fn is_shown(value: &Cow<'_, Value>, number: i32, is_stored: bool) -> bool {
     let is_lent = match value {
         Cow::Borrowed(_) => true,
         Cow::Owned(_) => false,
@@ -80,6 +80,23 @@ fn fields_are_asked_set_and_taken(rt: HostRuntime) -> Result<(), Fail> {
         message.clear_field(&field);
         assert!(rt; message == decoded(alloc, name, cleared)?);
     }
+    Ok(())
+}
+
+/// A default that is set is no value of a field without presence, and is removed where it is taken.
+#[test]
+fn a_default_that_is_set_is_not_taken(rt: HostRuntime) -> Result<(), Fail> {
+    let alloc = rt.alloc();
+    let descriptor = worked_type(alloc, "package.MyMessage")?;
+    let foo = descriptor.get_field(1)?.ok_or("no foo")?;
+    let mut message = DynamicMessage::new(alloc, descriptor.clone()?);
+    let value = Value::I32(0);
+    assert!(rt; message.owns_field(&foo));
+    assert!(rt; value.is_valid_for_field(&foo));
+    message.set_field(&foo, value)?;
+    assert!(rt; message == decoded(alloc, "package.MyMessage", "0800")?);
+    assert!(rt; message.take_field(&foo).is_none());
+    assert!(rt; message == DynamicMessage::new(alloc, descriptor));
     Ok(())
 }
 
@@ -119,15 +136,27 @@ fn an_extension_is_lent_for_writing(rt: HostRuntime) -> Result<(), Fail> {
     Ok(())
 }
 
-/// A member of a oneof that is lent takes the other one's place, and is empty at first.
+/// A member of a oneof that is lent takes the place of the one that was set, and is empty at first.
 #[test]
 fn a_member_that_is_lent_replaces_another(rt: HostRuntime) -> Result<(), Fail> {
     let alloc = rt.alloc();
-    let mut message = decoded(alloc, "a.Q", "0805")?;
-    let lent = message.get_field_by_number_mut(alloc, 2)?;
+    let descriptor = worked_type(alloc, "a.Q")?;
+    let a = descriptor.get_field(1)?.ok_or("no a")?;
+    let b = descriptor.get_field(2)?.ok_or("no b")?;
+    let mut message = DynamicMessage::new(alloc, descriptor);
+    let value = Value::I32(5);
+    assert!(rt; message.owns_field(&a));
+    assert!(rt; value.is_valid_for_field(&a));
+    message.set_field(&a, value)?;
+    assert!(rt; message == decoded(alloc, "a.Q", "0805")?);
+    assert!(rt; message.owns_field(&b));
+    let lent = message.get_field_mut(alloc, &b)?;
     let inner = lent.as_message().ok_or("no message")?;
     assert!(rt; *inner == decoded(alloc, "package.MyMessage", "")?);
-    assert!(rt; !message.has_field_by_number(1));
+    assert!(rt; message.owns_field(&a));
+    assert!(rt; !message.has_field(&a));
+    assert!(rt; message.owns_field(&b));
+    assert!(rt; message.has_field(&b));
     assert!(rt; message == decoded(alloc, "a.Q", "1200")?);
     Ok(())
 }

@@ -33,6 +33,8 @@ mod like;
 #[cfg(test)]
 mod lists;
 #[cfg(test)]
+mod many_calls;
+#[cfg(test)]
 mod merges;
 #[cfg(test)]
 mod messages;
