@@ -52,6 +52,14 @@ pub(crate) fn is_shown(value: &Cow<'_, Value>, number: i32, is_stored: bool) -> 
     is_lent == is_stored && value.as_i32() == Some(number)
 }
 
+/// Whether there is a value, which is the number, and is lent if it is stored.
+fn is_found(value: &Option<Cow<'_, Value>>, number: i32, is_stored: bool) -> bool {
+    match value {
+        Some(value) => is_shown(value, number, is_stored),
+        None => false,
+    }
+}
+
 /// Whether the value that was taken is the number, or there is none if the message did not have it.
 fn is_taken(value: &Option<Value>, number: i32, had: bool) -> bool {
     match value {
@@ -79,6 +87,71 @@ fn fields_are_asked_set_and_taken(rt: HostRuntime) -> Result<(), Fail> {
         assert!(rt; message.owns_field(&field));
         message.clear_field(&field);
         assert!(rt; message == decoded(alloc, name, cleared)?);
+    }
+    Ok(())
+}
+
+/// Sets the field of a number anew, which takes the value since it took it before.
+fn set_by_number(message: &mut DynamicMessage, number: u32, value: i32) -> Result<(), Fail> {
+    message.try_set_field_by_number(number, Value::I32(value))?;
+    message.clear_field_by_number(number);
+    message.set_field_by_number(number, Value::I32(value))?;
+    Ok(())
+}
+
+/// The same by a name.
+fn set_by_name(message: &mut DynamicMessage, name: &str, value: i32) -> Result<(), Fail> {
+    message.try_set_field_by_name(name, Value::I32(value))?;
+    message.clear_field_by_name(name);
+    message.set_field_by_name(name, Value::I32(value))?;
+    Ok(())
+}
+
+#[test]
+fn fields_are_asked_set_and_taken_by_number(rt: HostRuntime) -> Result<(), Fail> {
+    let alloc = rt.alloc();
+    for (name, digits, number, had, value, left, set, cleared) in &FIELDS {
+        let mut message = decoded(alloc, name, digits)?;
+        assert!(rt; message.has_field_by_number(*number) == *had);
+        let is_stored = digits == set;
+        assert!(rt;
+            is_found(
+                &message.get_field_by_number(alloc, *number)?,
+                *value,
+                is_stored
+            )
+        );
+        assert!(rt; is_taken(&message.take_field_by_number(*number), *value, *had));
+        assert!(rt; message == decoded(alloc, name, left)?);
+        message.try_set_field_by_number(*number, Value::I32(*value))?;
+        assert!(rt; message == decoded(alloc, name, set)?);
+        message.clear_field_by_number(*number);
+        assert!(rt; message == decoded(alloc, name, cleared)?);
+        set_by_number(&mut message, *number, *value)?;
+        assert!(rt; message == decoded(alloc, name, set)?);
+    }
+    Ok(())
+}
+
+#[test]
+fn fields_are_asked_set_and_taken_by_name(rt: HostRuntime) -> Result<(), Fail> {
+    let alloc = rt.alloc();
+    for (name, digits, number, had, value, left, set, cleared) in &FIELDS {
+        let found = worked_type(alloc, name)?.get_field(*number)?;
+        let descriptor = found.ok_or("no such field")?;
+        let field = descriptor.name();
+        let mut message = decoded(alloc, name, digits)?;
+        assert!(rt; message.has_field_by_name(field) == *had);
+        let is_stored = digits == set;
+        assert!(rt; is_found(&message.get_field_by_name(alloc, field)?, *value, is_stored));
+        assert!(rt; is_taken(&message.take_field_by_name(field), *value, *had));
+        assert!(rt; message == decoded(alloc, name, left)?);
+        message.try_set_field_by_name(field, Value::I32(*value))?;
+        assert!(rt; message == decoded(alloc, name, set)?);
+        message.clear_field_by_name(field);
+        assert!(rt; message == decoded(alloc, name, cleared)?);
+        set_by_name(&mut message, field, *value)?;
+        assert!(rt; message == decoded(alloc, name, set)?);
     }
     Ok(())
 }
