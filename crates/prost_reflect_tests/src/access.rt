@@ -44,12 +44,20 @@ static EXTENSIONS: [(&str, &str, u32, bool, i32, &str, &str); 3] = [
 ];
 
 /// Whether the value is the number, and is lent if it is stored.
-fn is_shown(value: &Cow<'_, Value>, number: i32, is_stored: bool) -> bool {
+pub(crate) fn is_shown(value: &Cow<'_, Value>, number: i32, is_stored: bool) -> bool {
     let is_lent = match value {
         Cow::Borrowed(_) => true,
         Cow::Owned(_) => false,
     };
     is_lent == is_stored && value.as_i32() == Some(number)
+}
+
+/// Whether there is a value, which is the number, and is lent if it is stored.
+fn is_found(value: &Option<Cow<'_, Value>>, number: i32, is_stored: bool) -> bool {
+    match value {
+        Some(value) => is_shown(value, number, is_stored),
+        None => false,
+    }
 }
 
 /// Whether the value that was taken is the number, or there is none if the message did not have it.
@@ -80,6 +88,88 @@ fn fields_are_asked_set_and_taken(rt: HostRuntime) -> Result<(), Fail> {
         message.clear_field(&field);
         assert!(rt; message == decoded(alloc, name, cleared)?);
     }
+    Ok(())
+}
+
+/// Sets the field of a number anew, which takes the value since it took it before.
+fn set_by_number(message: &mut DynamicMessage, number: u32, value: i32) -> Result<(), Fail> {
+    message.try_set_field_by_number(number, Value::I32(value))?;
+    message.clear_field_by_number(number);
+    message.set_field_by_number(number, Value::I32(value))?;
+    Ok(())
+}
+
+/// The same by a name.
+fn set_by_name(message: &mut DynamicMessage, name: &str, value: i32) -> Result<(), Fail> {
+    message.try_set_field_by_name(name, Value::I32(value))?;
+    message.clear_field_by_name(name);
+    message.set_field_by_name(name, Value::I32(value))?;
+    Ok(())
+}
+
+#[test]
+fn fields_are_asked_set_and_taken_by_number(rt: HostRuntime) -> Result<(), Fail> {
+    let alloc = rt.alloc();
+    for (name, digits, number, had, value, left, set, cleared) in &FIELDS {
+        let mut message = decoded(alloc, name, digits)?;
+        assert!(rt; message.has_field_by_number(*number) == *had);
+        let is_stored = digits == set;
+        assert!(rt;
+            is_found(
+                &message.get_field_by_number(alloc, *number)?,
+                *value,
+                is_stored
+            )
+        );
+        assert!(rt; is_taken(&message.take_field_by_number(*number), *value, *had));
+        assert!(rt; message == decoded(alloc, name, left)?);
+        message.try_set_field_by_number(*number, Value::I32(*value))?;
+        assert!(rt; message == decoded(alloc, name, set)?);
+        message.clear_field_by_number(*number);
+        assert!(rt; message == decoded(alloc, name, cleared)?);
+        set_by_number(&mut message, *number, *value)?;
+        assert!(rt; message == decoded(alloc, name, set)?);
+    }
+    Ok(())
+}
+
+#[test]
+fn fields_are_asked_set_and_taken_by_name(rt: HostRuntime) -> Result<(), Fail> {
+    let alloc = rt.alloc();
+    for (name, digits, number, had, value, left, set, cleared) in &FIELDS {
+        let found = worked_type(alloc, name)?.get_field(*number)?;
+        let descriptor = found.ok_or("no such field")?;
+        let field = descriptor.name();
+        let mut message = decoded(alloc, name, digits)?;
+        assert!(rt; message.has_field_by_name(field) == *had);
+        let is_stored = digits == set;
+        assert!(rt; is_found(&message.get_field_by_name(alloc, field)?, *value, is_stored));
+        assert!(rt; is_taken(&message.take_field_by_name(field), *value, *had));
+        assert!(rt; message == decoded(alloc, name, left)?);
+        message.try_set_field_by_name(field, Value::I32(*value))?;
+        assert!(rt; message == decoded(alloc, name, set)?);
+        message.clear_field_by_name(field);
+        assert!(rt; message == decoded(alloc, name, cleared)?);
+        set_by_name(&mut message, field, *value)?;
+        assert!(rt; message == decoded(alloc, name, set)?);
+    }
+    Ok(())
+}
+
+/// A default that is set is no value of a field without presence, and is removed where it is taken.
+#[test]
+fn a_default_that_is_set_is_not_taken(rt: HostRuntime) -> Result<(), Fail> {
+    let alloc = rt.alloc();
+    let descriptor = worked_type(alloc, "package.MyMessage")?;
+    let foo = descriptor.get_field(1)?.ok_or("no foo")?;
+    let mut message = DynamicMessage::new(alloc, descriptor.clone()?);
+    let value = Value::I32(0);
+    assert!(rt; message.owns_field(&foo));
+    assert!(rt; value.is_valid_for_field(&foo));
+    message.set_field(&foo, value)?;
+    assert!(rt; message == decoded(alloc, "package.MyMessage", "0800")?);
+    assert!(rt; message.take_field(&foo).is_none());
+    assert!(rt; message == DynamicMessage::new(alloc, descriptor));
     Ok(())
 }
 
@@ -119,15 +209,27 @@ fn an_extension_is_lent_for_writing(rt: HostRuntime) -> Result<(), Fail> {
     Ok(())
 }
 
-/// A member of a oneof that is lent takes the other one's place, and is empty at first.
+/// A member of a oneof that is lent takes the place of the one that was set, and is empty at first.
 #[test]
 fn a_member_that_is_lent_replaces_another(rt: HostRuntime) -> Result<(), Fail> {
     let alloc = rt.alloc();
-    let mut message = decoded(alloc, "a.Q", "0805")?;
-    let lent = message.get_field_by_number_mut(alloc, 2)?;
+    let descriptor = worked_type(alloc, "a.Q")?;
+    let a = descriptor.get_field(1)?.ok_or("no a")?;
+    let b = descriptor.get_field(2)?.ok_or("no b")?;
+    let mut message = DynamicMessage::new(alloc, descriptor);
+    let value = Value::I32(5);
+    assert!(rt; message.owns_field(&a));
+    assert!(rt; value.is_valid_for_field(&a));
+    message.set_field(&a, value)?;
+    assert!(rt; message == decoded(alloc, "a.Q", "0805")?);
+    assert!(rt; message.owns_field(&b));
+    let lent = message.get_field_mut(alloc, &b)?;
     let inner = lent.as_message().ok_or("no message")?;
     assert!(rt; *inner == decoded(alloc, "package.MyMessage", "")?);
-    assert!(rt; !message.has_field_by_number(1));
+    assert!(rt; message.owns_field(&a));
+    assert!(rt; !message.has_field(&a));
+    assert!(rt; message.owns_field(&b));
+    assert!(rt; message.has_field(&b));
     assert!(rt; message == decoded(alloc, "a.Q", "1200")?);
     Ok(())
 }

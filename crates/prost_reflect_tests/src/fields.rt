@@ -14,7 +14,7 @@ use std::collections::BTreeMap;
 use std::test::Fail;
 
 #[derive(Clone, Copy)]
-enum Call {
+pub(crate) enum Call {
     Set(u32, u32),
     Clear(u32),
     Take(u32),
@@ -23,7 +23,7 @@ enum Call {
 }
 
 impl Call {
-    fn number(self) -> u32 {
+    pub(crate) fn number(self) -> u32 {
         match self {
             Call::Set(number, _) | Call::Write(number, _) => number,
             Call::Clear(number) | Call::Take(number) => number,
@@ -38,7 +38,7 @@ type Answer = Option<u32>;
 type Seen = (u32, Option<u32>, usize);
 
 /// Five hundred calls of the four forms on the numbers 1 to 12.
-fn calls(alloc: Global) -> Result<Vec<Call>, AllocError> {
+pub(crate) fn calls(alloc: Global) -> Result<Vec<Call>, AllocError> {
     let mut calls = Vec::new(alloc);
     let mut state: u64 = 20_251_122;
     for step in 0..500_u32 {

@@ -35,6 +35,8 @@ mod like;
 #[cfg(test)]
 mod lists;
 #[cfg(test)]
+mod many_calls;
+#[cfg(test)]
 mod merges;
 #[cfg(test)]
 mod messages;

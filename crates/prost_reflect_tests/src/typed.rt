@@ -60,7 +60,10 @@ fn with_pair(alloc: Global, name: &str, key: MapKey, value: Value) -> Result<Dyn
 fn a_value_that_does_not_fit_is_found(rt: HostRuntime) -> Result<(), Fail> {
     let mut message = with_text(rt.alloc())?;
     assert!(rt; asked(&message) == (false, true));
-    message.clear_field_by_name("foo");
+    let found = message.descriptor()?.get_field(1)?;
+    let foo = found.ok_or("no foo")?;
+    assert!(rt; message.owns_field(&foo));
+    message.clear_field(&foo);
     assert!(rt; asked(&message) == (true, true));
     let outer = around(rt.alloc(), with_text(rt.alloc())?)?;
     assert!(rt; asked(&outer) == (false, true));
