@@ -14,6 +14,7 @@ mod RepeatedRows
 mod NestedMapWrites
 pub mod ContentChanges
 mod KeptSlots
+mod LawInstances
 pub mod Described
 pub mod ScalarRefs
 pub mod WrittenValues

@@ -9,6 +9,7 @@ pub mod Keys
 pub mod Contents
 pub mod ContentLaws
 pub mod KeptLaws
+pub mod LawInstances
 pub mod Copies
 pub mod Variants
 pub mod Lent

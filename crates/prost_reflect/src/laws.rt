@@ -1,6 +1,7 @@
 //! Laws of the views of messages: each function has no body, and its contract is a law.
 
 ghost use Rattle.prost_reflect.specs.ContentLaws.{ValueViews, MessageSlots, MessageOrder, SlotsAfterSet, SlotsAfterClear, SlotsAfterUnknown, SlotsDetermine, MapInsert};
+ghost use Rattle.prost_reflect.specs.LawInstances.{OfContentLaws, OfKeptLaws, OfDepth};
 ghost use Rattle.prost_reflect.specs.KeptLaws.{MessageArranged, KeptAfterSet, KeptAfterClear, KeptAfterUnknown, KeptAfterClearAll, KeptAfterWriting};
 ghost use Rattle.prost_reflect.specs.Access.{HadContent, NumberFound, NumberMissing, ShownContent};
 ghost use Rattle.std.specs.Prelude.{◌≡◌, true, Some};
@@ -112,4 +113,11 @@ pub fn key_again()
 /// An entry put into a map is put among its pairs.
 pub fn map_insert()
     ensures { MapInsert }
+{}
+
+/// The premises of these laws, and of the one on fields that nest too deep, hold at worked examples.
+pub fn worked_instances()
+    ensures contents { OfContentLaws }
+    ensures kept { OfKeptLaws }
+    ensures depth { OfDepth }
 {}
