@@ -12,15 +12,15 @@ use Rattle.prost_reflect_wire.specs.Edit.{set_at, holds_message, PathTo}
 use Rattle.prost_reflect_wire.specs.declared.error.EncodeError.{EncodeError}
 use Rattle.prost_reflect_wire.specs.declared.error.EncodeError.TheVariants as encode_errors
 use Rattle.prost_reflect_laws.proofs.PassageLaws as laws
-use Rattle.prost_reflect.specs.declared.descriptor.message.MessageDescriptor.{MessageDescriptor}
-use Rattle.prost_reflect.specs.declared.message.relay.edit.RelayWithError.{RelayWithError}
-use Rattle.prost_reflect.specs.declared.message.relay.edit.RelayWithError.TheVariants.{InvalidType, HoldsMessage, Encode}
+use Rattle.prost_reflect_dynamic.specs.declared.descriptor.message.MessageDescriptor.{MessageDescriptor}
+use Rattle.prost_reflect.specs.declared.relay.edit.RelayWithError.{RelayWithError}
+use Rattle.prost_reflect.specs.declared.relay.edit.RelayWithError.TheVariants.{InvalidType, HoldsMessage, Encode}
 use Rattle.prost_reflect.specs.Edits.{value_refusal, edit_refusal, IsEdited, RefusesEdit, PassesEdit}
-use Rattle.prost_reflect.specs.Named.{schema_named, type_named}
-use Rattle.prost_reflect.specs.Paths.{PATH_LIMIT, field_at, IsSetAt}
+use Rattle.prost_reflect_dynamic.specs.Named.{schema_named, type_named}
+use Rattle.prost_reflect_dynamic.specs.Paths.{PATH_LIMIT, field_at, IsSetAt}
 use Rattle.prost_reflect.specs.Relaying.{IsReadBy}
-use Rattle.prost_reflect.proofs.Paths.{stored_plain, path_to}
-use Rattle.prost_reflect.proofs.ReadBack.{named_valid}
+use Rattle.prost_reflect_dynamic.proofs.Paths.{stored_plain, path_to}
+use Rattle.prost_reflect_dynamic.proofs.ReadBack.{named_valid}
 
 -- nothing keeps the value from being set at the path
 pub record MayBeSet (schema : Schema) (T : ℕ) (path : List ℕ) (v : Value) : Type 0 where

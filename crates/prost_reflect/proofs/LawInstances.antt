@@ -12,12 +12,12 @@ use Rattle.prost_reflect_wire.specs.declared.error.DecodeError.TheVariants as er
 use Rattle.prost_reflect_fields.specs.Items.{IsAscending}
 use Rattle.prost_reflect_fields.specs.FieldSlots.{value_in, value_at}
 use Rattle.prost_reflect_fields.specs.declared.slot.FieldSlot.TheVariants as slots
-use Rattle.prost_reflect.specs.View.{value_of, stored_in}
-use Rattle.prost_reflect.proofs.Views.{value_views}
+use Rattle.prost_reflect_dynamic.specs.View.{value_of, stored_in}
+use Rattle.prost_reflect_dynamic.proofs.Views.{value_views}
 use Rattle.prost_reflect.specs.LawInstances.{OfContentLaws, OfKeptLaws, OfDepth, StoresTwo, StoresFive, empty_group}
-use Rattle.prost_reflect.specs.declared.value.Value.{Value}
-use Rattle.prost_reflect.specs.declared.value.Value as values
-use Rattle.prost_reflect.specs.declared.message.DynamicMessage.{DynamicMessage}
+use Rattle.prost_reflect_dynamic.specs.declared.value.Value.{Value}
+use Rattle.prost_reflect_dynamic.specs.declared.value.Value as values
+use Rattle.prost_reflect_dynamic.specs.declared.message.DynamicMessage.{DynamicMessage}
 
 two_ascend : (m : DynamicMessage) → StoresTwo m → IsAscending (stored_in m)
 unfolding IsStrictlySortedBy
@@ -59,7 +59,9 @@ of_depth = record { only_too_deep = (front, stands, lit< tt) }
   where
     start : Key 5 wires.StartGroup (0x2b ∷ [])
     start = small_key 5 wires.StartGroup (lit< tt) (lit< tt)
+
     front : RecordFront empty_group (0x2b ∷ 0x2c ∷ []) []
     front = record { front = 0x2b ∷ 0x2c ∷ []; spelled = (0x2b ∷ [], [], 0x2c ∷ [], [], start, refl, small_key 5 wires.EndGroup (lit< tt) (lit< tt), refl, refl); parts = refl }
+
     stands : StandsInField 0 errors.Depth (0x2b ∷ 0x2c ∷ [])
     stands = inl (refl, record { number = 5; wire = wires.StartGroup; rest = 0x2c ∷ []; key = record { front = 0x2b ∷ []; key = start; parts = refl }; behind = refl })

@@ -8,10 +8,10 @@ use Rattle.prost_reflect_wire.specs.Varint.{AreBytes}
 use Rattle.prost_reflect_wire.specs.Schema.{Schema}
 use Rattle.prost_reflect_wire.specs.Grammar.{LEVEL_LIMIT}
 use Rattle.prost_reflect_laws.proofs.PassageLaws as laws
-use Rattle.prost_reflect.specs.declared.descriptor.message.MessageDescriptor.{MessageDescriptor}
-use Rattle.prost_reflect.specs.Named.{schema_named, type_named}
+use Rattle.prost_reflect_dynamic.specs.declared.descriptor.message.MessageDescriptor.{MessageDescriptor}
+use Rattle.prost_reflect_dynamic.specs.Named.{schema_named, type_named}
 use Rattle.prost_reflect.specs.Relaying.{IsRelayed, OlderAccepts, Passes, IsHex, SpellsBytes, RefusesHex, hex_refusal}
-use Rattle.prost_reflect.proofs.ReadBack.{named_valid}
+use Rattle.prost_reflect_dynamic.proofs.ReadBack.{named_valid}
 
 pub older_accepts : (older : Schema) (A : ℕ) (bytes : List ℕ) → OlderAccepts older A bytes
 older_accepts older A bytes newer B reduced accepts = laws.older_accepts older newer LEVEL_LIMIT A B bytes reduced accepts

@@ -9,13 +9,13 @@ use Rattle.prost_reflect_wire.specs.Content as contents
 use Rattle.prost_reflect_wire.specs.Content.{ScalarValue, MessageValue, ListValue, MapValue, value_ordered, values_from}
 use Rattle.prost_reflect_wire.specs.Typing.{alone_test, value_passes, kind_takes, element_valid, elements_valid, pairs_valid, value_valid}
 use Rattle.prost_reflect_wire.specs.Edit.{holds_message, values_hold_message, pairs_hold_message}
-use Rattle.prost_reflect.specs.ContentLaws.{pairs_shown, compare_keys}
+use Rattle.prost_reflect_dynamic.specs.ContentLaws.{pairs_shown, compare_keys}
 use Rattle.prost_reflect.specs.Edits.{is_message}
-use Rattle.prost_reflect.specs.Encodables.{items_pass, entries_pass, value_arranged}
-use Rattle.prost_reflect.specs.View.{key_of, value_of}
-use Rattle.prost_reflect.specs.declared.value.MapKey.{MapKey}
-use Rattle.prost_reflect.specs.declared.value.Value.{Value}
-use Rattle.prost_reflect.proofs.Encodables.{items_arranged, entries_arranged}
+use Rattle.prost_reflect_dynamic.specs.Encodables.{items_pass, entries_pass, value_arranged}
+use Rattle.prost_reflect_dynamic.specs.View.{key_of, value_of}
+use Rattle.prost_reflect_dynamic.specs.declared.value.MapKey.{MapKey}
+use Rattle.prost_reflect_dynamic.specs.declared.value.Value.{Value}
+use Rattle.prost_reflect_dynamic.proofs.Encodables.{items_arranged, entries_arranged}
 
 -- ONE ITEM
 

@@ -12,12 +12,12 @@ use Rattle.prost_reflect_wire.proofs.Survivors.{field_number}
 use Rattle.prost_reflect_pool.specs.MessageTypes.{schema_at}
 use Rattle.prost_reflect_fields.specs.FieldSlots.{value_at as stored_at}
 use Rattle.prost_reflect_fields.specs.Known.{known_of}
-use Rattle.prost_reflect.specs.Access.{ShowsOr, IsDefaultAt, ShownContent}
-use Rattle.prost_reflect.specs.View.{value_of, content_of, message_type_of, stored_in}
-use Rattle.prost_reflect.specs.declared.value.Value.{Value}
-use Rattle.prost_reflect.proofs.Described.{found_checked}
-use Rattle.prost_reflect.proofs.Had.{kept_found}
-use Rattle.prost_reflect.proofs.KeptSlots.{default_kept}
+use Rattle.prost_reflect_dynamic.specs.Access.{ShowsOr, IsDefaultAt, ShownContent}
+use Rattle.prost_reflect_dynamic.specs.View.{value_of, content_of, message_type_of, stored_in}
+use Rattle.prost_reflect_dynamic.specs.declared.value.Value.{Value}
+use Rattle.prost_reflect_dynamic.proofs.Described.{found_checked}
+use Rattle.prost_reflect_dynamic.proofs.Had.{kept_found}
+use Rattle.prost_reflect_dynamic.proofs.KeptSlots.{default_kept}
 
 -- a default of the definitions holds nothing that is left out
 default_bare : (schema : Schema) (f : Field) → kept_inside (default_value schema f.form f.value_type) ≡ default_value schema f.form f.value_type

@@ -16,11 +16,11 @@ use Rattle.prost_reflect_fields.specs.Items.{IsAscending}
 use Rattle.prost_reflect_fields.specs.FieldSlots.{value_at}
 use Rattle.prost_reflect_fields.specs.declared.slot.FieldSlot.{FieldSlot}
 use Rattle.prost_reflect_fields.specs.declared.slot.FieldSlot.TheVariants as slots
-use Rattle.prost_reflect.specs.View.{value_of, content_of, stored_in}
-use Rattle.prost_reflect.specs.KeptLaws.{Arranged, fields_in}
-use Rattle.prost_reflect.specs.declared.value.Value.{Value}
-use Rattle.prost_reflect.specs.declared.value.Value as values
-use Rattle.prost_reflect.specs.declared.message.DynamicMessage.{DynamicMessage}
+use Rattle.prost_reflect_dynamic.specs.View.{value_of, content_of, stored_in}
+use Rattle.prost_reflect_dynamic.specs.KeptLaws.{Arranged, fields_in}
+use Rattle.prost_reflect_dynamic.specs.declared.value.Value.{Value}
+use Rattle.prost_reflect_dynamic.specs.declared.value.Value as values
+use Rattle.prost_reflect_dynamic.specs.declared.message.DynamicMessage.{DynamicMessage}
 
 -- A message that stores slots at 1 and at 3, and one that stores a number at 1.
 abbrev pub StoresTwo : DynamicMessage → Type 0

@@ -4,7 +4,6 @@ use Rattle.std.specs.List.{AllPass}
 use Rattle.hex.specs.Hex.{decode_of, encode_lower, is_hex_digit}
 use Rattle.hex.specs.declared.error.FromHexError.{FromHexError}
 use Rattle.hex.specs.declared.error.FromHexError.TheVariants as hex_errors
-use Rattle.prost_reflect_wire.specs.declared.error.DecodeError.{DecodeError}
 use Rattle.prost_reflect_wire.specs.declared.error.DecodeError.TheVariants as decode_errors
 use Rattle.prost_reflect_wire.specs.declared.error.EncodeError.TheVariants as encode_errors
 use Rattle.prost_reflect_wire.specs.Schema.{Schema}
@@ -13,13 +12,12 @@ use Rattle.prost_reflect_wire.specs.Grammar.{LEVEL_LIMIT, Accepts}
 use Rattle.prost_reflect_wire.specs.Meaning.{decoded}
 use Rattle.prost_reflect_wire.specs.Typing.{kept, WellStored}
 use Rattle.prost_reflect_wire.specs.Writing.{encoded}
-use Rattle.prost_reflect_wire.specs.Fault.{StandsInMessage}
 use Rattle.prost_reflect_wire.specs.Reduction.{Reduced}
-use Rattle.prost_reflect.specs.ReadBack.{MeansSame}
-use Rattle.prost_reflect.specs.declared.message.relay.RelayError.{RelayError}
-use Rattle.prost_reflect.specs.declared.message.relay.RelayError.TheVariants.{Decode, Encode}
-use Rattle.prost_reflect.specs.declared.message.relay.RelayHexError.{RelayHexError}
-use Rattle.prost_reflect.specs.declared.message.relay.RelayHexError.TheVariants.{Hex, Relay, OutOfMemory}
+use Rattle.prost_reflect_dynamic.specs.ReadBack.{IsFaulty, MeansSame}
+use Rattle.prost_reflect.specs.declared.relay.RelayError.{RelayError}
+use Rattle.prost_reflect.specs.declared.relay.RelayError.TheVariants.{Decode, Encode}
+use Rattle.prost_reflect.specs.declared.relay.RelayHexError.{RelayHexError}
+use Rattle.prost_reflect.specs.declared.relay.RelayHexError.TheVariants.{Hex, Relay, OutOfMemory}
 
 -- BYTES
 
@@ -43,11 +41,6 @@ pub record PassesLength (schema : Schema) (T : ℕ) (bytes : List ℕ) : Type 0 
   pub written : List ℕ
   pub relayed : IsRelayed schema T bytes written
   pub passes : 2 ^ 64 ≤ length written
-
--- A fault stands in the bytes, so the type does not accept them.
-pub record IsFaulty (schema : Schema) (T : ℕ) (e : DecodeError) (bytes : List ℕ) : Type 0 where
-  pub stands : StandsInMessage schema T LEVEL_LIMIT e bytes
-  pub refused : Accepts schema LEVEL_LIMIT T bytes → ⊥
 
 -- Why bytes are not relayed. Out of memory may come anywhere.
 abbrev pub RefusesRelay : Schema → ℕ → List ℕ → RelayError → Type 0

@@ -1,18 +1,20 @@
 //! Laws of the views of messages: each function has no body, and its contract is a law.
 
-ghost use Rattle.prost_reflect.specs.ContentLaws.{ValueViews, MessageSlots, MessageOrder, SlotsAfterSet, SlotsAfterClear, SlotsAfterUnknown, SlotsDetermine, MapInsert};
+ghost use Rattle.prost_reflect_dynamic.specs.ContentLaws.{ValueViews, MessageSlots, MessageOrder, SlotsAfterSet, SlotsAfterClear, SlotsAfterUnknown, SlotsDetermine, MapInsert};
 ghost use Rattle.prost_reflect.specs.LawInstances.{OfContentLaws, OfKeptLaws, OfDepth};
-ghost use Rattle.prost_reflect.specs.KeptLaws.{MessageArranged, KeptAfterSet, KeptAfterClear, KeptAfterUnknown, KeptAfterClearAll, KeptAfterWriting};
-ghost use Rattle.prost_reflect.specs.Access.{HadContent, NumberFound, NumberMissing, ShownContent};
+ghost use Rattle.prost_reflect_dynamic.specs.KeptLaws.{MessageArranged, KeptAfterSet, KeptAfterClear, KeptAfterUnknown, KeptAfterClearAll, KeptAfterWriting};
+ghost use Rattle.prost_reflect_dynamic.specs.Access.{HadContent, NumberFound, NumberMissing, ShownContent};
 ghost use Rattle.std.specs.Prelude.{◌≡◌, true, Some};
 ghost use Rattle.prost_reflect_wire.specs.Content.{ScalarValue};
 ghost use Rattle.prost_reflect_wire.specs.Scalar.{scalar_cmp, scalar_eq};
-ghost use Rattle.prost_reflect.specs.View.{key_of};
-ghost use Rattle.prost_reflect.specs.Keys.{key_writes};
-ghost use Rattle.prost_reflect.specs.Variants.{key_in};
-ghost use Rattle.prost_reflect.specs.declared.value.MapKey.{MapKey};
+ghost use Rattle.prost_reflect_dynamic.specs.View.{key_of};
+ghost use Rattle.prost_reflect_dynamic.specs.Keys.{key_writes};
+ghost use Rattle.prost_reflect_dynamic.specs.Variants.{key_in};
+ghost use Rattle.prost_reflect_dynamic.specs.declared.value.MapKey.{MapKey};
 
-use crate::value::MapKey;
+mod descriptors;
+
+use prost_reflect_dynamic::MapKey;
 use std::hash::Hash;
 
 /// What each variant of a value is in the definitions.

@@ -1,23 +1,20 @@
 //! Protocol Buffers messages whose types are known only at run time.
 #![tactic(auto)]
 
-mod descriptor;
 mod laws;
-mod message;
-mod value;
+mod like;
+mod relay;
 
-pub use descriptor::{
-    DescriptorPool, Descriptors, EnumDescriptor, EnumDescriptors, EnumReservedRanges,
-    EnumValueDescriptor, EnumValueDescriptors, ExtensionDescriptor, ExtensionDescriptors,
-    ExtensionRanges, FieldDescriptor, FieldDescriptorLike, FieldDescriptors, FileDescriptor,
-    FileDescriptors, Kind, MessageDescriptor, MessageDescriptors, MethodDescriptor,
-    MethodDescriptors, OneofDescriptor, OneofDescriptors, OptionsError, Placed, Places,
-    ReservedNames, ReservedRanges, ServiceDescriptor, ServiceDescriptors, Syntax, builtin_pool,
-};
-pub use message::relay::{RelayError, RelayHexError, RelayWithError, relay, relay_hex, relay_with};
-pub use message::{
-    DynamicMessage, Extensions, Fields, GetFieldError, PresentNumber, SetFieldError,
-    TakenExtensions, TakenFields, TakenUnknownFields, UnknownFields,
+pub use like::FieldDescriptorLike;
+pub use prost_reflect_dynamic::{
+    DescriptorPool, Descriptors, DynamicMessage, EnumDescriptor, EnumDescriptors,
+    EnumReservedRanges, EnumValueDescriptor, EnumValueDescriptors, ExtensionDescriptor,
+    ExtensionDescriptors, ExtensionRanges, Extensions, FieldDescriptor, FieldDescriptors, Fields,
+    FileDescriptor, FileDescriptors, GetFieldError, Kind, MapKey, MessageDescriptor,
+    MessageDescriptors, MethodDescriptor, MethodDescriptors, OneofDescriptor, OneofDescriptors,
+    OptionsError, Placed, Places, PresentNumber, ReservedNames, ReservedRanges, ServiceDescriptor,
+    ServiceDescriptors, SetFieldError, Syntax, TakenExtensions, TakenFields, TakenUnknownFields,
+    UnknownFields, Value, builtin_pool,
 };
 pub use prost_reflect_pool::FileDescriptorProtos;
 pub use prost_reflect_tables::{Cardinality, PoolError};
@@ -30,4 +27,4 @@ pub use prost_reflect_wire::{
     DecodeError, EncodeError, FieldNumber, RECURSION_LIMIT, UnknownField, UnknownFieldSet,
     UnknownFieldValue, WireType,
 };
-pub use value::{MapKey, Value};
+pub use relay::{RelayError, RelayHexError, RelayWithError, relay, relay_hex, relay_with};

@@ -57,7 +57,8 @@ impl<V> Model for FieldSet<V> {
     ghost invariant = { λ a. IsSound a.message_type a.fields };
 }
 
-/// For how many numbers a message makes room with the first: for those of its fields, or for eight. Only speed rests on it.
+/// For how many numbers a message makes room with the first: for those of its fields and extensions, or for eight. Only speed
+/// rests on it.
 fn first_room(message_type: &PooledType) -> usize {
     match message_type.field_tables().len() {
         count @ 1..=8 => count,

@@ -1,4 +1,4 @@
-//! Pools of message types, and descriptors: places in a shared pool.
+//! Pools as files with their tables, and message types as places of a shared one.
 #![tactic(auto)]
 
 mod adding;

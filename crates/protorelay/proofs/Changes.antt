@@ -11,10 +11,10 @@ use Rattle.prost_reflect_tables.specs.Shown.{schema_from, schema_field}
 use Rattle.prost_reflect_tables.specs.WrittenDefaults.{field_default}
 use Rattle.prost_reflect.specs.Edits.{value_refusal}
 use Rattle.prost_reflect.specs.Edits as edits
-use Rattle.prost_reflect.specs.Paths.{row_led}
-use Rattle.prost_reflect.specs.declared.message.relay.edit.RelayWithError.{RelayWithError}
-use Rattle.prost_reflect.specs.declared.message.relay.edit.RelayWithError.TheVariants.{InvalidType, HoldsMessage}
-use Rattle.prost_reflect.proofs.Paths.{row_shown}
+use Rattle.prost_reflect_dynamic.specs.Paths.{row_led}
+use Rattle.prost_reflect.specs.declared.relay.edit.RelayWithError.{RelayWithError}
+use Rattle.prost_reflect.specs.declared.relay.edit.RelayWithError.TheVariants.{InvalidType, HoldsMessage}
+use Rattle.prost_reflect_dynamic.proofs.Paths.{row_shown}
 use Rattle.protorelay.specs.Editing.{path_spelled, values_in, text_value, IsChange}
 
 -- the row of the field, and its value

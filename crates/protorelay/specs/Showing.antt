@@ -1,9 +1,9 @@
 -- What showing prints of a descriptor set, the name of a message type and hex digits.
 use Rattle.std.specs.Prelude.{◌≡◌, ℕ, List, [], ◌∷◌, ◌++◌, flat_map, codes, decimal}
 use Rattle.prost_reflect_wire.specs.Content.{Content}
-use Rattle.prost_reflect.specs.Present.{present_in}
-use Rattle.prost_reflect.specs.declared.message.present.PresentNumber.{PresentNumber}
-use Rattle.prost_reflect.specs.declared.message.present.PresentNumber.TheVariants.{Field, Extension, Unknown}
+use Rattle.prost_reflect_dynamic.specs.Present.{present_in}
+use Rattle.prost_reflect_dynamic.specs.declared.message.present.PresentNumber.{PresentNumber}
+use Rattle.prost_reflect_dynamic.specs.declared.message.present.PresentNumber.TheVariants.{Field, Extension, Unknown}
 use Rattle.protorelay.specs.Reading.{IsRead}
 
 -- The line of a number that is present.

@@ -2,8 +2,8 @@
 
 ghost use Rattle.std.specs.Prelude.{IfOk, IfErr, string_bytes};
 ghost use Rattle.prost_reflect_pool.specs.SharedPools.{pool_rows};
-ghost use Rattle.prost_reflect.specs.Named.{type_named};
-ghost use Rattle.prost_reflect.specs.View.{value_of};
+ghost use Rattle.prost_reflect_dynamic.specs.Named.{type_named};
+ghost use Rattle.prost_reflect_dynamic.specs.View.{value_of};
 ghost use Rattle.protorelay.specs.Editing.{IsChange, IsEdited, IsEditedIn, RefusesChange, RefusesEdit, RefusesEditIn};
 
 use crate::path::{numbers_of, value_for};

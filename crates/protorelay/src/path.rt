@@ -3,8 +3,8 @@
 ghost use Rattle.std.specs.Prelude.{◌≡◌, IfOk, option_map};
 ghost use Rattle.prost_reflect_wire.specs.Varint.{◌>>=◌ as and_then};
 ghost use Rattle.prost_reflect_pool.specs.SharedPools.{pool_rows};
-ghost use Rattle.prost_reflect.specs.NamedField as named;
-ghost use Rattle.prost_reflect.specs.View.{value_of};
+ghost use Rattle.prost_reflect_dynamic.specs.NamedField as named;
+ghost use Rattle.prost_reflect_dynamic.specs.View.{value_of};
 ghost use Rattle.protorelay.specs.Editing.{number_in, number_spelled, path_spelled, text_value};
 
 use prost_reflect::{FieldDescriptor, Value};

@@ -3,9 +3,9 @@
 ghost use Rattle.std.specs.Prelude.{◌≡◌, ◌⊎◌, Some, None, true, IfOk, IfErr};
 ghost use Rattle.prost_reflect_wire.specs.Typing.{kept, encodable};
 ghost use Rattle.prost_reflect_pool.specs.Pools.{pool_rows};
-ghost use Rattle.prost_reflect.specs.Named.{schema_named, type_named};
+ghost use Rattle.prost_reflect_dynamic.specs.Named.{schema_named, type_named};
 ghost use Rattle.prost_reflect_tables.specs.Places.{message_place};
-ghost use Rattle.prost_reflect.specs.View.{content_of};
+ghost use Rattle.prost_reflect_dynamic.specs.View.{content_of};
 ghost use Rattle.protorelay.specs.Sets.{IsPoolOfSet};
 ghost use Rattle.protorelay.specs.Reading.{pool_schema, IsRead, IsReadIn, RefusesPool, RefusesIn, Refuses};
 ghost use Rattle.protorelay.specs.declared.refusal.Refusal.TheVariants as refusals;

@@ -1,4 +1,4 @@
-use Rattle.prost_reflect.proofs.Keys.{keys_again, keys_same}
+use Rattle.prost_reflect_dynamic.proofs.Keys.{keys_again, keys_same}
 use Rattle.prost_reflect.proofs.laws.key_again.Goals as goal
 
 pub returns : goal.returns

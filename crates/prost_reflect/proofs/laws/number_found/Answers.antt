@@ -1,4 +1,4 @@
-use Rattle.prost_reflect.proofs.OwnFields as own
+use Rattle.prost_reflect_dynamic.proofs.OwnFields as own
 use Rattle.prost_reflect.proofs.laws.number_found.Goals as goal
 
 pub returns-clause-found : goal.returns-clause-found

@@ -1,4 +1,4 @@
-use Rattle.prost_reflect.proofs.ContentChanges.{slots_after_clear}
+use Rattle.prost_reflect_dynamic.proofs.ContentChanges.{slots_after_clear}
 use Rattle.prost_reflect.proofs.laws.slots_after_clear.Goals as goal
 
 pub returns : goal.returns

@@ -1,5 +1,5 @@
 use Rattle.std.proofs.lemmas.Result.{err_from_is_err_and, IfOk-weaker, IfErr-weaker}
-use Rattle.prost_reflect.specs.Named.{type_named}
+use Rattle.prost_reflect_dynamic.specs.Named.{type_named}
 use Rattle.protorelay.proofs.EditRefusals.{pool_refused, name_refused, hex_refused, edited_asked, refused_asked}
 use Rattle.std.proofs.Common.{string_bytes}
 use Rattle.protorelay.proofs.edit.edit.Goals as goal

@@ -1,7 +1,7 @@
 use Rattle.std.proofs.lemmas.Result.{err_from_is_err_and}
 use Rattle.prost_reflect_pool.specs.SharedPools.{pool_rows}
-use Rattle.prost_reflect.specs.Named.{type_named}
-use Rattle.prost_reflect.specs.View.{value_of}
+use Rattle.prost_reflect_dynamic.specs.Named.{type_named}
+use Rattle.prost_reflect_dynamic.specs.View.{value_of}
 use Rattle.protorelay.proofs.EditRefusals.{relay_refused}
 use Rattle.protorelay.proofs.edit.edit_bytes.Goals as goal
 

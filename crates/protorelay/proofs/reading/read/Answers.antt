@@ -1,8 +1,8 @@
 use Rattle.std.proofs.Common.{inr}
 use Rattle.std.proofs.lemmas.Result.{IfOk-weaker, IfErr-weaker}
 use Rattle.prost_reflect_wire.specs.Typing.{kept}
-use Rattle.prost_reflect.specs.View.{content_of}
-use Rattle.prost_reflect.specs.declared.message.DynamicMessage.{DynamicMessage}
+use Rattle.prost_reflect_dynamic.specs.View.{content_of}
+use Rattle.prost_reflect_dynamic.specs.declared.message.DynamicMessage.{DynamicMessage}
 use Rattle.protorelay.specs.Reading.{IsRead, IsReadIn}
 use Rattle.protorelay.proofs.reading.read.Goals as goal
 

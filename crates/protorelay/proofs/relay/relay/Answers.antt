@@ -1,6 +1,6 @@
 use Rattle.std.proofs.Common.{string_bytes}
 use Rattle.std.proofs.lemmas.Result.{err_from_is_err_and}
-use Rattle.prost_reflect.specs.Named.{type_named}
+use Rattle.prost_reflect_dynamic.specs.Named.{type_named}
 use Rattle.protorelay.proofs.RelayRefusals.{name_refused, relay_refused}
 use Rattle.protorelay.proofs.relay.relay.Goals as goal
 

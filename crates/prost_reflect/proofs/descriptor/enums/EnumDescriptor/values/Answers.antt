@@ -1,7 +1,0 @@
-use Rattle.std.proofs.Common.{length}
-use Rattle.prost_reflect.specs.NamedLists.{values_of}
-use Rattle.prost_reflect.proofs.PlaceRanges.{listed_below}
-use Rattle.prost_reflect.proofs.descriptor.enums.EnumDescriptor.values.Goals as goal
-
-pub new-requires : goal.new-requires
-new-requires c = listed_below (length (values_of c.args.self.now)) _ _ c.as_slice.ensures.value c.lists.ensures.by_number

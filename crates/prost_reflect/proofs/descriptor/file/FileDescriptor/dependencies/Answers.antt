@@ -1,7 +1,0 @@
-use Rattle.std.proofs.Common.{length}
-use Rattle.prost_reflect_pool.specs.SharedPools.{files_of}
-use Rattle.prost_reflect.proofs.PlaceRanges.{all_below}
-use Rattle.prost_reflect.proofs.descriptor.file.FileDescriptor.dependencies.Goals as goal
-
-pub new-requires : goal.new-requires
-new-requires c = all_below (length (files_of c.args.self.now.pool.inner)) c.dependencies_listed.result.now c.dependencies_listed.ensures.there

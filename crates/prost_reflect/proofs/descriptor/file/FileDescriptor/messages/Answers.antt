@@ -1,7 +1,0 @@
-use Rattle.std.proofs.Common.{length}
-use Rattle.prost_reflect_pool.specs.SharedPools.{pool_rows}
-use Rattle.prost_reflect.proofs.PlaceRanges.{listed_below}
-use Rattle.prost_reflect.proofs.descriptor.file.FileDescriptor.messages.Goals as goal
-
-pub new-requires : goal.new-requires
-new-requires c = listed_below (length (pool_rows c.args.self.now.pool.inner).messages) _ _ c.as_slice.ensures.value c.table.ensures.messages

@@ -1,7 +1,0 @@
-use Rattle.std.proofs.Common.{◌∙◌}
-use Rattle.prost_reflect.specs.NamedFields.{fields_of}
-use Rattle.prost_reflect.proofs.OwnRows.{own_declared}
-use Rattle.prost_reflect.proofs.descriptor.message.MessageDescriptor.fields.Goals as goal
-
-pub new-requires : goal.new-requires
-new-requires c = own_declared (fields_of c.args.self.now) c.as_slice.result.now (c.as_slice.ensures.value ∙ c.lists.ensures.fields)

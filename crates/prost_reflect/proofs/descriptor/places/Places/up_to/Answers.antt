@@ -1,6 +1,0 @@
-use Rattle.std.proofs.Common.{◌-◌, arith}
-use Rattle.prost_reflect.proofs.PlaceRanges.{range_within}
-use Rattle.prost_reflect.proofs.descriptor.places.Places.up_to.Goals as goal
-
-pub returns-clause-within : goal.returns-clause-within
-returns-clause-within c = range_within c.args.count 0 (c.args.count - 0) (omega arith)

@@ -1,0 +1,68 @@
+use Rattle.std.proofs.Common.{◌≡◌, ap, ℕ, Bool, nat_eq, ◌&&◌}
+use Rattle.std.specs.Prelude.{IsTrue}
+use Rattle.std.specs.Bool.{Decides}
+use Rattle.std.specs.Cmp.{unsigned_Decides}
+use Rattle.std.proofs.lemmas.Bool.Decides.{Decides-and}
+use Rattle.prost_reflect_tables.specs.Shown.{schema_from}
+use Rattle.prost_reflect_pool.specs.Pools.{contents_of}
+use Rattle.prost_reflect_pool.specs.PoolEquality.{contents_eq, contents_decide}
+use Rattle.prost_reflect_pool.specs.SharedPools.{pool_contents}
+use Rattle.prost_reflect_pool.proofs.EqualTypes.{rows_same}
+use Rattle.prost_reflect_dynamic.specs.declared.descriptor.pool.DescriptorPool.{DescriptorPool}
+use Rattle.prost_reflect_dynamic.specs.contracts.descriptor.message.MessageDescriptorPartialEq.TheImpl as message_code
+use Rattle.prost_reflect_dynamic.specs.contracts.descriptor.enums.EnumDescriptorPartialEq.TheImpl as enum_code
+use Rattle.prost_reflect_dynamic.specs.contracts.descriptor.service.ServiceDescriptorPartialEq.TheImpl as service_code
+use Rattle.prost_reflect.proofs.laws.descriptors.descriptor_equality.Goals as goal
+
+-- Of two pools and places in them.
+in_pools : (p q : DescriptorPool) (i j : ℕ) → Decides (contents_eq (pool_contents p.inner) (pool_contents q.inner) && nat_eq i j) ((pool_contents p.inner ≡ pool_contents q.inner) × (i ≡ j))
+in_pools p q i j = Decides-and (contents_eq (pool_contents p.inner) (pool_contents q.inner)) (nat_eq i j) (contents_decide (pool_contents p.inner) (pool_contents q.inner)) (unsigned_Decides i j)
+
+-- Of places in what is compared already.
+inside : (is_equal : Bool) (i j : ℕ) → Decides (is_equal && nat_eq i j) (IsTrue is_equal × (i ≡ j))
+inside is_equal i j = Decides-and is_equal (nat_eq i j) (λ yes. yes, λ yes. yes) (unsigned_Decides i j)
+
+pub returns-clause-pool : goal.returns-clause-pool
+unfolding contents_of
+returns-clause-pool c = λ a b. contents_decide (pool_contents a.inner) (pool_contents b.inner)
+
+pub returns-clause-tables : goal.returns-clause-tables
+returns-clause-tables c = λ a b h. rows_same a.inner b.inner ((contents_decide (pool_contents a.inner) (pool_contents b.inner)).0 h)
+
+pub returns-clause-message : goal.returns-clause-message
+unfolding contents_of
+returns-clause-message c = λ a b. in_pools a.pool b.pool a.index b.index
+
+pub returns-clause-an_enum : goal.returns-clause-an_enum
+unfolding contents_of
+returns-clause-an_enum c = λ a b. in_pools a.pool b.pool a.index b.index
+
+pub returns-clause-file : goal.returns-clause-file
+unfolding contents_of
+returns-clause-file c = λ a b. in_pools a.pool b.pool a.index b.index
+
+pub returns-clause-extension : goal.returns-clause-extension
+unfolding contents_of
+returns-clause-extension c = λ a b. in_pools a.pool b.pool a.index b.index
+
+pub returns-clause-service : goal.returns-clause-service
+unfolding contents_of
+returns-clause-service c = λ a b. in_pools a.pool b.pool a.index b.index
+
+pub returns-clause-field : goal.returns-clause-field
+returns-clause-field c = λ a b. inside ((message_code.ghosts).eq a.message b.message) a.index b.index
+
+pub returns-clause-oneof : goal.returns-clause-oneof
+returns-clause-oneof c = λ a b. inside ((message_code.ghosts).eq a.message b.message) a.index b.index
+
+pub returns-clause-value : goal.returns-clause-value
+returns-clause-value c = λ a b. inside ((enum_code.ghosts).eq a.parent b.parent) a.index b.index
+
+pub returns-clause-method : goal.returns-clause-method
+returns-clause-method c = λ a b. inside ((service_code.ghosts).eq a.service b.service) a.index b.index
+
+pub returns-clause-schema : goal.returns-clause-schema
+returns-clause-schema c = λ a b h. ap schema_from (rows_same a.pool.inner b.pool.inner ((in_pools a.pool b.pool a.index b.index).0 h).0)
+
+pub returns-clause-place : goal.returns-clause-place
+returns-clause-place c = λ a b h. ((in_pools a.pool b.pool a.index b.index).0 h).1

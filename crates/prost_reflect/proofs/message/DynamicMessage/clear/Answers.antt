@@ -1,5 +1,0 @@
-use Rattle.prost_reflect.proofs.Stored.{message_emptied}
-use Rattle.prost_reflect.proofs.message.DynamicMessage.clear.Goals as goal
-
-pub returns-clause-content : goal.returns-clause-content
-returns-clause-content c = message_emptied c.args.self.now c.clear_all.new.self c.clear_all.ensures

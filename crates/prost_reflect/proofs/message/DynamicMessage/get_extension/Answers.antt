@@ -1,6 +1,0 @@
-use Rattle.prost_reflect.specs.View.{message_type_of}
-use Rattle.prost_reflect.proofs.OwnExtensions.{extension_known}
-use Rattle.prost_reflect.proofs.message.DynamicMessage.get_extension.Goals as goal
-
-pub value_or_default-requires : goal.value_or_default-requires
-value_or_default-requires c = extension_known (message_type_of c.args.self.now) c.args.extension.now c.number.result c.requires c.number.ensures

@@ -1,6 +1,0 @@
-use Rattle.std.proofs.Common.{sym, ◌∙◌}
-use Rattle.prost_reflect.proofs.DeepTypes.{typed_content}
-use Rattle.prost_reflect.proofs.message.DynamicMessage.is_typed.Goals as goal
-
-pub returns-clause-types : goal.returns-clause-types
-returns-clause-types c = λ yes. typed_content c.args.self.now (sym c.message_typed.ensures ∙ yes)

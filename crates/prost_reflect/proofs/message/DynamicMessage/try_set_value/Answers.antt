@@ -1,6 +1,0 @@
-use Rattle.prost_reflect.specs.View.{message_type_of}
-use Rattle.prost_reflect.proofs.OwnFields.{number_known}
-use Rattle.prost_reflect.proofs.message.DynamicMessage.try_set_value.Goals as goal
-
-pub set_value-requires : goal.set_value-requires
-set_value-requires c = number_known (message_type_of c.args.self.now) c.args.number c.requires

@@ -1,5 +1,0 @@
-use Rattle.prost_reflect.proofs.StoredContents.{messages_copied}
-use Rattle.prost_reflect.proofs.message.copy.DynamicMessageClone.clone.Goals as goal
-
-pub returns : goal.returns
-returns c = record { cases = messages_copied c.args.self.now c.copy_message.result c.copy_message.ensures (λ e h. h) }

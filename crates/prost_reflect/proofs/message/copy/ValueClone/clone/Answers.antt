@@ -1,5 +1,0 @@
-use Rattle.prost_reflect.proofs.StoredContents.{values_copied}
-use Rattle.prost_reflect.proofs.message.copy.ValueClone.clone.Goals as goal
-
-pub returns : goal.returns
-returns c = record { cases = values_copied c.args.self.now c.copy_value.result c.copy_value.ensures (λ e h. h) }

@@ -1,6 +1,0 @@
-use Rattle.prost_reflect.proofs.Merging.{scalar_target, no_message_kind}
-use Rattle.std.proofs.Common.{sym}
-use Rattle.prost_reflect.proofs.message.decode.value_target.Goals as goal
-
-pub returns-in_default : goal.returns-in_default
-returns-in_default c = sym (scalar_target c.args.kind c.args.is_group (no_message_kind c.args.kind c.in_default.not-Message))

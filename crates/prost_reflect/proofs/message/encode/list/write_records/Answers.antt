@@ -1,9 +1,0 @@
-use Rattle.std.proofs.Common.{arith, ◌-◌}
-use Rattle.prost_reflect.specs.Scalars.{TakesScalar}
-use Rattle.prost_reflect.specs.View.{value_of}
-use Rattle.prost_reflect.proofs.ScalarRefs.{takes_scalar}
-use Rattle.prost_reflect.proofs.WrittenLists.{holds_at}
-use Rattle.prost_reflect.proofs.message.encode.list.write_records.Goals as goal
-
-pub scalar-requires : goal.scalar-requires
-scalar-requires g c = takes_scalar c.args.kind (value_of c.index-values-index.result) (holds_at (λ v. TakesScalar c.args.kind (value_of v)) c.args.values.now (c.loop-index.index - 1) c.index-values-index.result (omega arith) c.index-values-index.is c.requires)

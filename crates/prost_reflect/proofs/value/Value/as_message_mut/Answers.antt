@@ -1,7 +1,0 @@
-use Rattle.std.proofs.Common.{rules}
-use Rattle.prost_reflect.proofs.value.Value.as_message_mut.Goals as goal
-
--- The search reaches its limits unless it is told that the value is a message, and may look into the layout of values.
-pub returns-in-Message : goal.returns-in-Message
-unfolding Rattle.prost_reflect.specs.declared.value.Value.TheViews.out-Value Rattle.prost_reflect.specs.declared.value.Value.TheBlock.shape-the_row-Value-0 Rattle.prost_reflect.specs.declared.value.Value.TheBlock.hidden-the_row-Value-0 denote.Hole.Carrier.out
-returns-in-Message c = rw (c.in-Message.is) (search rules)

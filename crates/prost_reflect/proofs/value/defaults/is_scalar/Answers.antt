@@ -1,7 +1,0 @@
-use Rattle.prost_reflect.specs.Scalars.{scalar_of}
-use Rattle.prost_reflect.specs.View.{value_of}
-use Rattle.prost_reflect.proofs.ScalarRefs.{scalar_tested}
-use Rattle.prost_reflect.proofs.value.defaults.is_scalar.Goals as goal
-
-pub returns-in-Some : goal.returns-in-Some
-returns-in-Some c = scalar_tested (value_of c.args.value.now) (scalar_of c.in-Some.own) (scalar_of c.args.scalar) c.equals.result c.in-Some.ensures c.equals.ensures

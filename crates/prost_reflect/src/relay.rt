@@ -1,0 +1,140 @@
+//! Relaying: bytes are read by an older message type, and written again.
+
+ghost use Rattle.std.specs.Prelude.{◌≡◌, ◌≢◌, IfOk, IfErr, string_bytes};
+ghost use Rattle.hex.specs.declared.error.FromHexError.TheVariants as hex_errors;
+ghost use Rattle.prost_reflect_wire.specs.declared.error.DecodeError.TheVariants as decode_errors;
+ghost use Rattle.prost_reflect.specs.declared.relay.RelayError.TheVariants as relay_errors;
+ghost use Rattle.prost_reflect.specs.declared.relay.RelayHexError.TheVariants as relay_hex_errors;
+ghost use Rattle.prost_reflect_dynamic.specs.ReadBack.{IsFaulty};
+ghost use Rattle.prost_reflect_dynamic.specs.Named.{schema_named, type_named};
+ghost use Rattle.prost_reflect.specs.Relaying.{IsReadBy, IsRelayed, RefusesRelay, OlderAccepts, Passes, IsRelayedHex, RefusesHex, hex_refusal};
+ghost use Rattle.prost_reflect_dynamic.specs.View.{content_of};
+
+mod edit;
+
+pub use edit::{RelayWithError, relay_with};
+use hex::FromHexError;
+use prost_reflect_dynamic::{DynamicMessage, MessageDescriptor};
+use prost_reflect_wire::{DecodeError, EncodeError};
+use std::alloc::{AllocError, Global};
+use thiserror::Error;
+
+/// Why bytes are not relayed.
+#[derive(Clone, Copy, Debug, PartialEq, Eq, Error)]
+pub enum RelayError {
+    /// The older type does not accept the bytes, or a growth was refused.
+    #[error("the bytes are not read: {0}")]
+    Decode(DecodeError),
+    /// What was read is not written.
+    #[error("the message is not written: {0}")]
+    Encode(EncodeError),
+}
+
+impl From<DecodeError> for RelayError {
+    ghost from_gives = { λ error e. e ≡ relay_errors.Decode error };
+
+    fn from(error: DecodeError) -> RelayError {
+        RelayError::Decode(error)
+    }
+}
+
+impl From<EncodeError> for RelayError {
+    ghost from_gives = { λ error e. e ≡ relay_errors.Encode error };
+
+    fn from(error: EncodeError) -> RelayError {
+        RelayError::Encode(error)
+    }
+}
+
+/// Why a text of hex digits is not relayed.
+#[derive(Clone, Copy, Debug, PartialEq, Eq, Error)]
+pub enum RelayHexError {
+    /// The text is not an even number of hex digits.
+    #[error("the text is not an even number of hex digits")]
+    Hex,
+    /// The bytes that it spells are not relayed.
+    #[error("{0}")]
+    Relay(RelayError),
+    /// A growth was refused.
+    #[error("out of memory")]
+    OutOfMemory,
+}
+
+impl From<FromHexError> for RelayHexError {
+    ghost from_gives = { λ error e. e ≡ hex_refusal error };
+
+    fn from(error: FromHexError) -> RelayHexError {
+        match error {
+            FromHexError::OutOfMemory => RelayHexError::OutOfMemory,
+            _ => RelayHexError::Hex,
+        }
+    }
+}
+
+impl From<RelayError> for RelayHexError {
+    ghost from_gives = { λ error e. e ≡ relay_hex_errors.Relay error };
+
+    fn from(error: RelayError) -> RelayHexError {
+        RelayHexError::Relay(error)
+    }
+}
+
+impl From<AllocError> for RelayHexError {
+    ghost from_gives = { λ _ e. e ≡ relay_hex_errors.OutOfMemory };
+
+    fn from(_error: AllocError) -> RelayHexError {
+        RelayHexError::OutOfMemory
+    }
+}
+
+/// What the bytes mean to the older type, written again. What that type does not know stays as unknown fields, so a newer
+/// type that it is a reduction of, and that accepts the bytes, reads the same from what is written (the encoding guide,
+/// "Updating A Message Type").
+///
+/// # Errors
+///
+/// `Decode` where that fault stands in the bytes, and only where the older type does not accept them; `Encode` with
+/// `TooLong` if what is written passes the greatest `usize`; either with `OutOfMemory` if a growth is refused.
+pub fn relay(alloc: Global, older: &MessageDescriptor, bytes: &[u8]) -> Result<Vec<u8>, RelayError>
+    ensures relayed { IfOk result (λ written. IsRelayed (schema_named older.now) (type_named older.now) bytes.now written.items) }
+    ensures refused { IfErr result (RefusesRelay (schema_named older.now) (type_named older.now) bytes.now) }
+    ensures older_accepts { OlderAccepts (schema_named older.now) (type_named older.now) bytes.now }
+    ensures passes { IfOk result (λ written. Passes (schema_named older.now) (type_named older.now) bytes.now written.items) }
+{
+    let message = decode_by(alloc, older, bytes)?;
+    let written = message.encode_to_vec(alloc)?;
+    Ok(written)
+}
+
+/// What the bytes mean to the older type.
+fn decode_by(
+    alloc: Global,
+    older: &MessageDescriptor,
+    bytes: &[u8],
+) -> Result<DynamicMessage, DecodeError>
+    ensures read { IfOk result (λ message. IsReadBy (schema_named older.now) (type_named older.now) bytes.now (content_of message)) }
+    ensures refused { IfErr result (λ e. e ≢ decode_errors.OutOfMemory → IsFaulty (schema_named older.now) (type_named older.now) e bytes.now) }
+{
+    let descriptor = older.clone()?;
+    DynamicMessage::decode(alloc, descriptor, bytes)
+}
+
+/// `relay` of the bytes that hex digits of either case spell, as lower-case hex digits.
+///
+/// # Errors
+///
+/// `Hex` if the text is not an even number of hex digits; `Relay` as `relay` refuses the bytes; `OutOfMemory` if a growth
+/// is refused.
+pub fn relay_hex(
+    alloc: Global,
+    older: &MessageDescriptor,
+    text: &str,
+) -> Result<String, RelayHexError>
+    ensures relayed { IfOk result (λ digits. IsRelayedHex (schema_named older.now) (type_named older.now) text.now (string_bytes digits)) }
+    ensures refused { IfErr result (RefusesHex (schema_named older.now) (type_named older.now) text.now) }
+{
+    let bytes = hex::decode(alloc, text)?;
+    let written = relay(alloc, older, bytes.as_slice())?;
+    let digits = hex::encode(alloc, written.as_slice())?;
+    Ok(digits)
+}

@@ -1,0 +1,97 @@
+-- The default of a kind is one of its values.
+use Rattle.std.proofs.Common.{◌≡◌, ℤ, pos, Bool, true, false, cond, ◌||◌, List, [], ◌∷◌, length, map, nat_lt, IsTrue, Option, Some, None, refl, ap, sym, ◌∙◌, subst, true≢false}
+use Rattle.std.specs.Prelude.{IsSome, IsSomeAnd, slice_get}
+use Rattle.std.specs.Str.{is_utf8, chars}
+use Rattle.std.proofs.lemmas.Bool.{and_from}
+use Rattle.std.proofs.lemmas.Bool.Decides.{Decides-int_eq}
+use Rattle.std.specs.Ordering.{int_eq}
+use Rattle.std.specs.List.{list_any}
+use Rattle.prost_reflect_wire.specs.Scalar as scalars
+use Rattle.prost_reflect_wire.specs.Scalar.{Scalar, ScalarKind, Closed, Open, kind_default, in_i32, is_declared, scalar_valid}
+use Rattle.prost_reflect_wire.specs.Schema.{ScalarOf}
+use Rattle.prost_reflect_wire.specs.Content.{Value, ScalarValue, MessageValue, ListValue, MapValue}
+use Rattle.prost_reflect_wire.specs.Typing.{kind_takes}
+use Rattle.prost_reflect_tables.specs.Rows.{EnumRow, EnumValueRow}
+use Rattle.prost_reflect_tables.specs.Shown.{enum_kind, first_number}
+use Rattle.prost_reflect_pool.specs.Enums.{first_of, numbers_of, values_at, values_or_none}
+use Rattle.prost_reflect_pool.specs.SharedPools.{pool_rows}
+use Rattle.prost_reflect_dynamic.specs.NamedDefaults.{default_named}
+use Rattle.prost_reflect_dynamic.specs.NamedEnums.{enum_row_at}
+use Rattle.prost_reflect_dynamic.specs.NamedKinds.{is_key_kind, kind_named, table_kind}
+use Rattle.prost_reflect_dynamic.specs.Scalars.{plain_kind, IsBlank, IsScalar}
+use Rattle.prost_reflect_dynamic.specs.Variants.{key_among}
+use Rattle.prost_reflect_dynamic.specs.declared.descriptor.enums.EnumDescriptor.{EnumDescriptor}
+use Rattle.prost_reflect_dynamic.specs.declared.descriptor.kind.Kind.{Kind}
+use Rattle.prost_reflect_dynamic.specs.declared.descriptor.kind.Kind.TheVariants as kinds
+use Rattle.prost_reflect_dynamic.proofs.OwnRows.{first_there}
+
+-- ENUMS
+
+-- an enum declares its first number
+first_declared : (e : EnumDescriptor) → is_declared (numbers_of (enum_row_at e)) (first_of (enum_row_at e)) ≡ true
+first_declared e = of (enum_row_at e) (first_there (pool_rows e.pool.inner) e.index e.pool.inner.value.tables.linked e.in_range)
+  where
+    either : (a b : Bool) → a ≡ true → (a || b) ≡ true
+    either true b h = refl
+    either false b h = absurd (true≢false (sym h))
+
+    among : (closed : Bool) (values : List EnumValueRow) → nat_lt 0 (length values) ≡ true →
+        is_declared (cond closed (Closed (map (λ (v : EnumValueRow). v.number) values)) Open) (first_number (map (λ (v : EnumValueRow). v.number) values)) ≡ true
+    among false values some = refl
+    among true [] some = absurd (true≢false (sym some))
+    among true (v ∷ values) some = either (int_eq v.number v.number) (list_any (int_eq v.number) (map (λ (v : EnumValueRow). v.number) values)) ((Decides-int_eq v.number v.number).1 refl)
+
+    of : (o : Option EnumRow) → IsTrue (nat_lt 0 (length (values_or_none o))) → is_declared (numbers_of o) (first_of o) ≡ true
+    of None some = refl
+    of (Some row) some = among row.is_closed row.values some
+
+number_taken : (o : Option EnumRow) (z : ℤ) → in_i32 z ≡ true → is_declared (numbers_of o) z ≡ true → kind_takes (ScalarOf (enum_kind o)) (scalars.EnumNumber z) ≡ true
+number_taken None z range declared = and_from (in_i32 z) true range refl
+number_taken (Some row) z range declared = and_from (in_i32 z) (is_declared (numbers_of (Some row)) z) range declared
+
+pub first_taken : (e : EnumDescriptor) (z : ℤ) → z ≡ first_of (enum_row_at e) → in_i32 z ≡ true → kind_takes (kind_named (kinds.Enum e)) (scalars.EnumNumber z) ≡ true
+first_taken e z is range = number_taken (enum_row_at e) z range (ap (is_declared (numbers_of (enum_row_at e))) is ∙ first_declared e)
+
+-- OTHER KINDS
+
+-- zero, false or empty, by a kind that is none of enums
+pub record ZeroOf (kind : Kind) (s : Scalar) : Type 0 where
+  pub named : ScalarValue s ≡ default_named kind
+  pub taken : kind_takes (kind_named kind) s ≡ true
+
+pub zero_of : (kind : Kind) (s : Scalar) → IsSomeAnd (plain_kind (table_kind kind)) (λ k. s ≡ kind_default k) → ((e : EnumDescriptor) → kind ≡ kinds.Enum e → ⊥) → ZeroOf kind s
+unfolding is_utf8 chars
+zero_of (kinds.Message message) s is other = absurd is
+zero_of (kinds.Enum e) s is other = absurd (other e refl)
+zero_of kind s is other = record { named = ap ScalarValue is; taken = ap (kind_takes (kind_named kind)) is }
+
+pub scalar_kind : (kind : Kind) → IsScalar (default_named kind) → IsSome (plain_kind (table_kind kind))
+scalar_kind (kinds.Message message) h = absurd h
+scalar_kind kind h = refl
+
+-- KEYS
+
+-- the default of a kind of keys is a key without text
+pub record KeyDefault (s : Scalar) : Type 0 where
+  pub blank : IsBlank s
+  pub key : key_among s ≡ Some s
+
+pub key_default : (kind : Kind) (s : Scalar) → is_key_kind kind ≡ true → ScalarValue s ≡ default_named kind → KeyDefault s
+key_default kind s h is = go kind h is
+  where
+    at : (t : Scalar) → ScalarValue s ≡ ScalarValue t → KeyDefault t → KeyDefault s
+    at t same shown = let equal : s ≡ t = cc in subst KeyDefault (sym equal) shown
+
+    go : (kind : Kind) → is_key_kind kind ≡ true → ScalarValue s ≡ default_named kind → KeyDefault s
+    go kinds.Double h is = absurd (true≢false (sym h))
+    go kinds.Float h is = absurd (true≢false (sym h))
+    go kinds.Bytes h is = absurd (true≢false (sym h))
+    go (kinds.Message message) h is = absurd (true≢false (sym h))
+    go (kinds.Enum e) h is = absurd (true≢false (sym h))
+    go kinds.Bool h is = at (scalars.Boolean false) is (record { blank = tt; key = refl })
+    go kinds.String h is = at (scalars.Text []) is (record { blank = refl; key = refl })
+    go kind h is = at _ is (record { blank = tt; key = refl })
+
+pub key_scalar : (kind : Kind) → is_key_kind kind ≡ true → IsScalar (default_named kind)
+key_scalar (kinds.Message message) h = absurd (true≢false (sym h))
+key_scalar kind h = tt

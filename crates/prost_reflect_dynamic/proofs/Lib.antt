@@ -1,0 +1,64 @@
+pub mod ScalarReads
+pub mod RowKinds
+pub mod PlainKinds
+pub mod Views
+pub mod Slots
+pub mod Stored
+pub mod Merging
+pub mod NestedFaults
+pub mod NestedReads
+pub mod MapEntries
+pub mod MapMerging
+pub mod MapRows
+mod RepeatedRows
+mod NestedMapWrites
+pub mod ContentChanges
+pub mod KeptSlots
+pub mod Described
+pub mod ScalarRefs
+pub mod WrittenValues
+pub mod NestedWrites
+pub mod WrittenMaps
+pub mod ElementReads
+pub mod NestedMaps
+pub mod ElementWrites
+pub mod Encodings
+pub mod Encodables
+pub mod Present
+pub mod Defaults
+mod DeclaredNumbers
+pub mod Keys
+pub mod Valid
+pub mod Copied
+pub mod CopiedPairs
+pub mod StoredViews
+pub mod StoredContents
+mod DeepTypes
+mod TypedSteps
+mod TypedValues
+mod ListElements
+mod ListMerging
+mod NumberMerging
+mod WrittenLists
+pub mod PlaceRanges
+pub mod Had
+pub mod OwnFields
+mod OwnExtensions
+pub mod FieldDefaults
+pub mod OwnDefaults
+mod ValueLists
+mod TakenValues
+mod ExtensionPlaces
+mod ListedNumbers
+pub mod LentWriting
+pub mod UnknownLists
+pub mod OwnRows
+pub mod Paths
+mod SetPaths
+mod LentPaths
+pub mod KindDefaults
+pub mod ReadBack
+mod MergedBytes
+mod JoinedContents
+mod ChangedNumbers
+mod MessageParts

@@ -1,0 +1,99 @@
+-- Elements of lists, read and put behind others.
+use Rattle.std.proofs.Common.{◌≡◌, ◌≢◌, ℕ, true, false, ◌&&◌, List, [], ◌∷◌, ◌++◌, map, Option, Some, None, refl, sym, ap, ◌∙◌, subst}
+use Rattle.std.specs.Prelude.{IsSomeAnd}
+use Rattle.prost_reflect_wire.specs.declared.key.WireType.{WireType}
+use Rattle.prost_reflect_wire.specs.declared.key.WireType.TheVariants as wires
+use Rattle.prost_reflect_wire.specs.declared.error.DecodeError.{DecodeError}
+use Rattle.prost_reflect_wire.specs.Front.{DelimitedFront, PlainFault}
+use Rattle.prost_reflect_wire.specs.Scalar.{ScalarKind, kind_wire}
+use Rattle.prost_reflect_wire.specs.Schema.{is_packable}
+use Rattle.prost_reflect_wire.specs.Content.{ScalarValue}
+use Rattle.prost_reflect_wire.specs.Fault.{same_wire}
+use Rattle.prost_reflect_wire.specs.Decoding.{ScalarRead, ScalarFault}
+use Rattle.std.proofs.lemmas.List.{map-append}
+use Rattle.prost_reflect_laws.proofs.PackedElements.{ElementsSoFar, elements_none, elements_more, elements_done, elements_fault, packed_read, single_read, packed_refused, delimited_refused, single_refused}
+use Rattle.prost_reflect_tables.specs.declared.tables.TableKind.{TableKind}
+use Rattle.prost_reflect_dynamic.specs.declared.value.Value.{Value}
+use Rattle.prost_reflect_dynamic.specs.View.{value_of}
+use Rattle.prost_reflect_dynamic.specs.Scalars.{plain_kind, HasWire, ReadsScalar, RefusesScalar}
+use Rattle.prost_reflect_dynamic.proofs.Merging.{same_kind}
+use Rattle.prost_reflect_dynamic.specs.Lists.{AddsPacked, RefusesPacked, AddsElements, RefusesElements}
+
+-- PACKED
+
+pub record PackedSoFar (kind : TableKind) (old new : List Value) (body rest : List ℕ) : Type 0 where
+  pub scalar_kind : ScalarKind
+  pub plain : plain_kind kind ≡ Some scalar_kind
+  pub packable : is_packable scalar_kind ≡ true
+  pub elements : ElementsSoFar scalar_kind (map value_of old) (map value_of new) body rest
+
+pub packed_none : (kind : TableKind) (old : List Value) (body : List ℕ) → IsSomeAnd (plain_kind kind) (λ k. is_packable k ≡ true) → PackedSoFar kind old old body body
+packed_none kind old body h = go (plain_kind kind) refl h
+  where
+    go : (o : Option ScalarKind) → plain_kind kind ≡ o → IsSomeAnd o (λ k. is_packable k ≡ true) → PackedSoFar kind old old body body
+    go None e h = absurd h
+    go (Some k) e h = record { scalar_kind = k; plain = e; packable = h; elements = elements_none k (map value_of old) body }
+
+has_wire : (kind : TableKind) (k : ScalarKind) (w : WireType) → plain_kind kind ≡ Some k → HasWire kind w → kind_wire k ≡ w
+has_wire kind k w e h = subst (λ o. IsSomeAnd o (λ k. kind_wire k ≡ w)) e h
+
+pub packed_more : (kind : TableKind) (w : WireType) (v : Value) (old new newer : List Value) (body mid rest : List ℕ) → PackedSoFar kind old new body mid → HasWire kind w → ReadsScalar kind w v mid rest → newer ≡ new ++ v ∷ [] → PackedSoFar kind old newer body rest
+packed_more kind w v old new newer body mid rest s h r e =
+    let own : r.scalar_kind ≡ s.scalar_kind = same_kind r.plain s.plain in
+    record {
+      scalar_kind = s.scalar_kind;
+      plain = s.plain;
+      packable = s.packable;
+      elements = elements_more s.scalar_kind r.scalar (map value_of old) (map value_of new) (map value_of newer) body mid rest s.elements
+          (subst (λ w. ScalarRead s.scalar_kind w r.scalar mid rest) (sym (has_wire kind s.scalar_kind w s.plain h)) (subst (λ k. ScalarRead k w r.scalar mid rest) own r.read))
+          (ap (map value_of) e ∙ map-append value_of new (v ∷ []) ∙ ap (λ v. map value_of new ++ v ∷ []) r.value);
+    }
+
+pub packed_done : (kind : TableKind) (old new : List Value) (body rest : List ℕ) → PackedSoFar kind old new body rest → rest ≡ [] → AddsPacked kind old new body
+packed_done kind old new body rest s e =
+    let (vs, read, appended) = elements_done s.scalar_kind (map value_of old) (map value_of new) body rest s.elements e in
+    record { scalar_kind = s.scalar_kind; plain = s.plain; added = vs; appended = appended; read = read }
+
+pub packed_fault : (kind : TableKind) (w : WireType) (e : DecodeError) (old new : List Value) (body rest : List ℕ) → PackedSoFar kind old new body rest → HasWire kind w → rest ≢ [] → RefusesScalar kind w e rest → RefusesPacked kind e body
+packed_fault kind w e old new body rest s h some r =
+    let own : r.scalar_kind ≡ s.scalar_kind = same_kind r.plain s.plain in
+    record {
+      scalar_kind = s.scalar_kind;
+      plain = s.plain;
+      fault = elements_fault s.scalar_kind (map value_of old) (map value_of new) e body rest s.packable s.elements some
+          (subst (λ w. ScalarFault s.scalar_kind w e rest) (sym (has_wire kind s.scalar_kind w s.plain h)) (subst (λ k. ScalarFault k w e rest) own r.fault));
+    }
+
+-- A RECORD
+
+pub packed_added : (kind : TableKind) (w : WireType) (old new : List Value) (body bytes rest : List ℕ) → w ≡ wires.LengthDelimited → IsSomeAnd (plain_kind kind) (λ k. is_packable k ≡ true) → DelimitedFront body bytes rest → AddsPacked kind old new body →
+    AddsElements kind w old new bytes rest
+packed_added kind w old new body bytes rest wire h front a =
+    let packable : is_packable a.scalar_kind ≡ true = subst (λ o. IsSomeAnd o (λ k. is_packable k ≡ true)) a.plain h in
+    record { scalar_kind = a.scalar_kind; plain = a.plain; added = a.added; appended = a.appended; read = packed_read a.scalar_kind w a.added body bytes rest packable wire front a.read }
+
+pub single_added : (kind : TableKind) (w : WireType) (v : Value) (old new : List Value) (bytes rest : List ℕ) → ReadsScalar kind w v bytes rest → new ≡ old ++ v ∷ [] → AddsElements kind w old new bytes rest
+single_added kind w v old new bytes rest r e = record {
+  scalar_kind = r.scalar_kind;
+  plain = r.plain;
+  added = ScalarValue r.scalar ∷ [];
+  appended = ap (map value_of) e ∙ map-append value_of old (v ∷ []) ∙ ap (λ v. map value_of old ++ v ∷ []) r.value;
+  read = single_read r.scalar_kind w r.scalar bytes rest r.read;
+}
+
+pub length_refused : (kind : TableKind) (w : WireType) (e : DecodeError) (bytes : List ℕ) → w ≡ wires.LengthDelimited → IsSomeAnd (plain_kind kind) (λ k. is_packable k ≡ true) → PlainFault e wires.LengthDelimited bytes → RefusesElements kind w e bytes
+length_refused kind w e bytes wire h fault = go (plain_kind kind) refl h
+  where
+    go : (o : Option ScalarKind) → plain_kind kind ≡ o → IsSomeAnd o (λ k. is_packable k ≡ true) → RefusesElements kind w e bytes
+    go None is h = absurd h
+    go (Some k) is h = record { scalar_kind = k; plain = is; fault = λ f packed form kind_is. delimited_refused f w e bytes wire fault }
+
+pub body_refused : (kind : TableKind) (w : WireType) (e : DecodeError) (body bytes rest : List ℕ) → w ≡ wires.LengthDelimited → IsSomeAnd (plain_kind kind) (λ k. is_packable k ≡ true) → DelimitedFront body bytes rest → RefusesPacked kind e body → RefusesElements kind w e bytes
+body_refused kind w e body bytes rest wire h front r =
+    let packable : is_packable r.scalar_kind ≡ true = subst (λ o. IsSomeAnd o (λ k. is_packable k ≡ true)) r.plain h in
+    record { scalar_kind = r.scalar_kind; plain = r.plain; fault = λ f packed form is. packed_refused r.scalar_kind f packed w e body bytes rest form is packable wire front r.fault }
+
+pub one_refused : (kind : TableKind) (w : WireType) (e : DecodeError) (bytes : List ℕ) → IsSomeAnd (plain_kind kind) (λ k. (is_packable k && same_wire w wires.LengthDelimited) ≡ false) → RefusesScalar kind w e bytes → RefusesElements kind w e bytes
+one_refused kind w e bytes h r =
+    let one : (is_packable r.scalar_kind && same_wire w wires.LengthDelimited) ≡ false = subst (λ o. IsSomeAnd o (λ k. (is_packable k && same_wire w wires.LengthDelimited) ≡ false)) r.plain h in
+    record { scalar_kind = r.scalar_kind; plain = r.plain; fault = λ f packed form is. single_refused r.scalar_kind f packed w e bytes form is one r.fault }

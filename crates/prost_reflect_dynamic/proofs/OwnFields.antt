@@ -1,0 +1,148 @@
+-- Fields of a message's own type, and what their numbers are to it.
+use Rattle.std.proofs.Common.{◌≡◌, ℕ, Bool, true, false, cond, List, Option, Some, None, refl, ap, sym, ◌∙◌, unwrap_or, true≢false}
+use Rattle.std.specs.Option.{option_map, option_and_then, is_some}
+use Rattle.std.specs.Prelude.{slice_get}
+use Rattle.std.specs.Str.{bytes_eq}
+use Rattle.prost_reflect_wire.specs.Schema.{field_of}
+use Rattle.prost_reflect_tables.specs.Rows.{FieldRow}
+use Rattle.prost_reflect_tables.specs.Places.{fields_at, row_of, place_of}
+use Rattle.prost_reflect_tables.specs.Schema.{rows_of}
+use Rattle.prost_reflect_tables.specs.Shown.{schema_field}
+use Rattle.prost_reflect_pool.specs.Lookups.{named_field}
+use Rattle.prost_reflect_pool.specs.SharedPools.{pool_rows}
+use Rattle.prost_reflect_pool.specs.MessageTypes.{fields_of}
+use Rattle.prost_reflect_pool.specs.declared.pooled_type.PooledType.{PooledType}
+use Rattle.prost_reflect_pool.proofs.EqualTypes.{rows_same}
+use Rattle.prost_reflect_fields.specs.Known.{known_of, is_known}
+use Rattle.prost_reflect_tables.proofs.Fields.{row_at_number, row_at_place, row_of_number, no_row}
+use Rattle.prost_reflect_tables.proofs.Keeping.{fields_ascend}
+use Rattle.prost_reflect_dynamic.specs.Access.{IsOwnField, is_field_number, number_named, NumberFound, NumberMissing}
+use Rattle.prost_reflect_dynamic.specs.Named.{NamesEqual, NamesSame, SameMessage}
+use Rattle.prost_reflect_dynamic.specs.NamedFields as named
+use Rattle.prost_reflect_dynamic.specs.declared.descriptor.message.MessageDescriptor.{MessageDescriptor}
+use Rattle.prost_reflect_dynamic.specs.NamedField.{row_at}
+use Rattle.prost_reflect_dynamic.specs.NamedFields.{is_declared, is_declared_at, declared_place}
+use Rattle.prost_reflect_dynamic.specs.declared.descriptor.field.FieldDescriptor.{FieldDescriptor}
+use Rattle.prost_reflect_dynamic.specs.Setting.{DescribesField}
+use Rattle.prost_reflect_dynamic.proofs.Described.{known_of_row, field_at_number}
+use Rattle.prost_reflect_dynamic.proofs.OwnRows.{fields_found}
+
+-- the row of an own field is one of the message type's
+own_row : (t : PooledType) (field : FieldDescriptor) → IsOwnField t field → row_at field ≡ slice_get (fields_of t) field.index
+own_row t field own = (λ i. slice_get (fields_at (rows_same field.message.pool.inner t.pool own.0 i) (own.1 i)) field.index)
+
+-- and it is known by its number
+pub own_found : (t : PooledType) (field : FieldDescriptor) (n : ℕ) → IsOwnField t field → option_map (λ f. f.number) (row_at field) ≡ Some n
+    → field_of (known_of t) n ≡ option_map (schema_field (pool_rows field.message.pool.inner)) (row_at field)
+own_found t field n own h = go (row_at field) refl h
+  where
+    go : (o : Option FieldRow) → row_at field ≡ o → option_map (λ f. f.number) o ≡ Some n → field_of (known_of t) n ≡ option_map (schema_field (pool_rows field.message.pool.inner)) o
+    go None at h = cc
+    go (Some f) at h =
+        let same : f.number ≡ n = cc in
+        ap (field_of (known_of t)) (sym same) ∙ known_of_row t field.index f (sym (own_row t field own) ∙ at)
+        ∙ ap (λ rows. Some (schema_field rows f)) (sym (rows_same field.message.pool.inner t.pool own.0))
+
+some_known : {A B : Type 0} (f : A → B) (o : Option A) (p : Option B) → p ≡ option_map f o → is_some o ≡ true → is_some p ≡ true
+some_known f None p e h = absurd (true≢false (sym h))
+some_known f (Some x) p e h = ap is_some e
+
+numbered : (o : Option FieldRow) (n : ℕ) → option_map (λ f. f.number) o ≡ Some n → is_some o ≡ true
+numbered None n h = cc
+numbered (Some f) n h = refl
+
+pub own_known : (t : PooledType) (field : FieldDescriptor) (n : ℕ) → IsOwnField t field → option_map (λ f. f.number) (row_at field) ≡ Some n → is_known (known_of t) n ≡ true
+own_known t field n own h = some_known (schema_field (pool_rows field.message.pool.inner)) (row_at field) (field_of (known_of t) n) (own_found t field n own h) (numbered (row_at field) n h)
+
+-- the number of a field is known
+pub number_known : (t : PooledType) (n : ℕ) → is_field_number t n ≡ true → is_known (known_of t) n ≡ true
+number_known t n h = some_known (schema_field (pool_rows t.pool)) (row_of (fields_of t) n) (field_of (known_of t) n) (field_at_number t n) (declared (row_of (fields_of t) n) h)
+  where
+    declared : (o : Option FieldRow) → is_declared o ≡ true → is_some o ≡ true
+    declared None h = absurd (true≢false (sym h))
+    declared (Some f) h = refl
+
+-- so is that of a field that a name finds
+pub named_known : (t : PooledType) (name : List ℕ) (n : ℕ) → number_named t name ≡ Some n → is_known (known_of t) n ≡ true
+named_known t name n h = go (named_field (fields_of t) name) h
+  where
+    there : (i : ℕ) (o : Option FieldRow) → slice_get (fields_of t) i ≡ o → option_map (λ f. f.number) o ≡ Some n → is_known (known_of t) n ≡ true
+    there i None at e = cc
+    there i (Some f) at e =
+        let same : f.number ≡ n = cc in
+        ap is_some (ap (field_of (known_of t)) (sym same) ∙ known_of_row t i f at)
+
+    go : (o : Option ℕ) → option_and_then (λ i. option_map (λ f. f.number) (slice_get (fields_of t) i)) o ≡ Some n → is_known (known_of t) n ≡ true
+    go None e = cc
+    go (Some i) e = there i (slice_get (fields_of t) i) refl e
+
+-- which is no extension
+pub named_declared : (t : PooledType) (name : List ℕ) (n : ℕ) → number_named t name ≡ Some n → is_field_number t n ≡ true
+named_declared t name n h = go (named_field (fields_of t) name) refl h
+  where
+    there : (i : ℕ) (o : Option FieldRow) → slice_get (fields_of t) i ≡ o → is_declared o ≡ true → option_map (λ f. f.number) o ≡ Some n → is_declared (row_of (fields_of t) n) ≡ true
+    there i None at d e = cc
+    there i (Some f) at d e =
+        let same : f.number ≡ n = cc in
+        ap is_declared (ap (row_of (fields_of t)) (sym same) ∙ row_at_number (fields_of t) i f (fields_ascend (pool_rows t.pool) t.index t.pool.value.tables.linked) at) ∙ d
+
+    go : (o : Option ℕ) → named_field (fields_of t) name ≡ o → option_and_then (λ i. option_map (λ f. f.number) (slice_get (fields_of t) i)) o ≡ Some n → is_declared (row_of (fields_of t) n) ≡ true
+    go None at e = cc
+    go (Some i) at e = there i (slice_get (fields_of t) i) refl (fields_found (λ (f : FieldRow). bytes_eq f.id.name name) (fields_of t) (Some i) (sym at)) e
+
+-- LOOKING UP
+
+found_declared : (fields : List FieldRow) (n : ℕ) → is_some (declared_place fields n) ≡ is_declared (row_of fields n)
+found_declared fields n = go (place_of fields n) refl
+  where
+    test : (b : Bool) (i : ℕ) → is_some (cond b (Some i) None) ≡ b
+    test true i = refl
+    test false i = refl
+
+    go : (o : Option ℕ) → place_of fields n ≡ o → is_some (option_and_then (λ i. cond (is_declared_at fields i) (Some i) None) o) ≡ is_declared (row_of fields n)
+    go None at = sym (ap is_declared (no_row fields n at))
+    go (Some i) at = test (is_declared_at fields i) i ∙ ap is_declared (row_at_place fields n i at)
+
+found_place : (fields : List FieldRow) (n i : ℕ) → declared_place fields n ≡ Some i → place_of fields n ≡ Some i
+found_place fields n i h = go (place_of fields n) h
+  where
+    test : (b : Bool) (j : ℕ) → cond b (Some j) None ≡ Some i → Some j ≡ Some i
+    test true j h = h
+    test false j h = cc
+
+    go : (o : Option ℕ) → option_and_then (λ j. cond (is_declared_at fields j) (Some j) None) o ≡ Some i → o ≡ Some i
+    go None h = cc
+    go (Some j) h = test (is_declared_at fields j) j h
+
+numbered_at : (fields : List FieldRow) (n i : ℕ) → declared_place fields n ≡ Some i → unwrap_or (option_map (λ f. f.number) (slice_get fields i)) 0 ≡ n
+numbered_at fields n i h = go (slice_get fields i) refl
+  where
+    declared : is_declared (slice_get fields i) ≡ true
+    declared = ap is_declared (row_at_place fields n i (found_place fields n i h)) ∙ sym (found_declared fields n) ∙ ap is_some h
+
+    go : (o : Option FieldRow) → slice_get fields i ≡ o → unwrap_or (option_map (λ f. f.number) o) 0 ≡ n
+    go None at = absurd (true≢false (sym declared ∙ ap is_declared at))
+    go (Some f) at = row_of_number fields n i f (found_place fields n i h) at
+
+own_fields : (d : MessageDescriptor) (t : PooledType) → NamesEqual d t → named.fields_of d ≡ fields_of t
+own_fields d t own = λ i. fields_at (rows_same d.pool.inner t.pool own.0 i) (own.1 i)
+
+pub number_found : NumberFound
+number_found t field n own h = (
+  numbered_at (named.fields_of field.message) n field.index h,
+  ap (λ fields. is_declared (row_of fields n)) (sym (own_fields field.message t own)) ∙ sym (found_declared (named.fields_of field.message) n) ∙ ap is_some h,
+)
+
+pub number_missing : NumberMissing
+number_missing t d n own h = ap (λ fields. is_declared (row_of fields n)) (sym (own_fields d t own)) ∙ sym (found_declared (named.fields_of d) n) ∙ ap is_some h
+
+-- The look-up in a descriptor of the message type itself.
+same_fields : (d : MessageDescriptor) (t : PooledType) → NamesSame d t → named.fields_of d ≡ fields_of t
+same_fields d t names = λ i. fields_at (rows_of (names.0 i).tables) (names.1 i)
+
+pub field_described : (t : PooledType) (d : MessageDescriptor) (field : FieldDescriptor) (n : ℕ) → NamesSame d t → SameMessage d field.message → Some field.index ≡ declared_place (named.fields_of d) n → DescribesField t n field
+field_described t d field n names same at = ((same.0 ∙ names.0, same.1 ∙ names.1), ap (λ fields. declared_place fields n) (sym (same_fields d t names)) ∙ sym at)
+
+pub field_there : (t : PooledType) (d : MessageDescriptor) (n : ℕ) → NamesSame d t → is_field_number t n ≡ true → None ≡ declared_place (named.fields_of d) n → ⊥
+field_there t d n names is none =
+    true≢false (sym is ∙ ap (λ fields. is_declared (row_of fields n)) (sym (same_fields d t names)) ∙ sym (found_declared (named.fields_of d) n) ∙ ap is_some (sym none))

@@ -1,0 +1,15 @@
+use Rattle.std.proofs.Common.{◌≡◌, ap, ◌∙◌, ℤ, rules, w32, to_z, of_z}
+use Rattle.std.proofs.Math.Facts.{to_z-of_z}
+use Rattle.std.proofs.lemmas.Result.{IfOk-weaker}
+use Rattle.prost_reflect_pool.specs.Enums.{values_at}
+use Rattle.prost_reflect_pool.specs.Lookups.{numbered_value}
+use Rattle.prost_reflect_pool.specs.Pools.{pool_rows}
+use Rattle.prost_reflect_pool.specs.declared.pool.LinkedPool.{LinkedPool}
+use Rattle.prost_reflect_dynamic.specs.NamedLists.{values_of}
+use Rattle.prost_reflect_dynamic.proofs.descriptor.enums.EnumDescriptor.get_value.Goals as goal
+
+pub returns-clause-found : goal.returns-clause-found
+returns-clause-found c =
+    let same : to_z w32 (of_z w32 c.args.number) ≡ c.args.number = search (rules, to_z-of_z) in
+    let there = ap (λ (pool : LinkedPool). values_at (pool_rows pool) c.args.self.now.index) c.deref.ensures in
+    IfOk-weaker c.value_at.result _ _ (λ found is. is ∙ (c.value_place_by_number.ensures ∙ (ap (λ values. numbered_value values (to_z w32 (of_z w32 c.args.number))) there ∙ ap (λ (z : ℤ). numbered_value (values_of c.args.self.now) z) same))) c.value_at.ensures.found

@@ -1,0 +1,19 @@
+use Rattle.std.proofs.lemmas.Result.{IfOk-weaker}
+use Rattle.prost_reflect_tables.specs.Rows.{field_row}
+use Rattle.prost_reflect_dynamic.specs.NamedExtensions.{extension_row_named}
+use Rattle.prost_reflect_dynamic.specs.RowLawProofs.{extension_default_fits}
+use Rattle.prost_reflect_dynamic.specs.declared.value.Value.{Value}
+use Rattle.prost_reflect_dynamic.proofs.OwnDefaults.{extension_checked, default_is, is_default, default_taken}
+use Rattle.prost_reflect_dynamic.proofs.descriptor.extension.ExtensionDescriptor.default_value.Goals as goal
+
+pub default_value-requires : goal.default_value-requires
+default_value-requires c = extension_checked c.args.self.now (field_row c.table.result.now) c.table.ensures.row
+
+pub returns-clause-value : goal.returns-clause-value
+returns-clause-value c = IfOk-weaker c.default_value.result _ _ (λ (v : Value) is. default_is c.args.self.now.pool (field_row c.table.result.now) (extension_row_named c.args.self.now) v c.table.ensures.row is) c.default_value.ensures.value
+
+pub returns-clause-default : goal.returns-clause-default
+returns-clause-default c = IfOk-weaker c.default_value.result _ _ (λ (v : Value) is. is_default c.args.self.now.pool (field_row c.table.result.now) (extension_row_named c.args.self.now) v c.table.ensures.row is) c.default_value.ensures.default
+
+pub returns-clause-valid : goal.returns-clause-valid
+returns-clause-valid c = IfOk-weaker c.default_value.result _ _ (λ (v : Value) is. default_taken c.args.self.now.pool (field_row c.table.result.now) (extension_row_named c.args.self.now) v c.table.ensures.row (extension_default_fits c.args.self.now) is) c.default_value.ensures.value

@@ -1,0 +1,30 @@
+use Rattle.std.proofs.Common.{◌≡◌, subst}
+use Rattle.std.proofs.lemmas.Result.{IfOk-weaker}
+use Rattle.prost_reflect_tables.specs.Rows.{field_row}
+use Rattle.prost_reflect_pool.specs.SharedPools.{pool_rows}
+use Rattle.prost_reflect_dynamic.specs.Defaults.{row_default, IsRowDefault}
+use Rattle.prost_reflect_dynamic.specs.NamedField.{row_at}
+use Rattle.prost_reflect_dynamic.specs.RowLawProofs.{field_default_fits}
+use Rattle.prost_reflect_dynamic.specs.View.{value_of}
+use Rattle.prost_reflect_dynamic.specs.declared.descriptor.pool.DescriptorPool.{DescriptorPool}
+use Rattle.prost_reflect_dynamic.specs.declared.value.Value.{Value}
+use Rattle.prost_reflect_dynamic.proofs.OwnDefaults.{field_requires, default_is, is_default, default_taken}
+use Rattle.prost_reflect_dynamic.proofs.descriptor.field.FieldDescriptor.default_value.Goals as goal
+
+pub default_value-requires : goal.default_value-requires
+default_value-requires c = field_requires c.args.self.now c.parent_pool.result.now (field_row c.table.result.now) c.parent_pool.ensures c.table.ensures
+
+pub returns-clause-value : goal.returns-clause-value
+returns-clause-value c =
+    let row = field_row c.table.result.now in
+    IfOk-weaker c.default_value.result _ _ (λ (v : Value) is. default_is c.args.self.now.message.pool row (row_at c.args.self.now) v c.table.ensures (subst (λ (pool : DescriptorPool). value_of v ≡ row_default (pool_rows pool.inner) row) c.parent_pool.ensures is)) c.default_value.ensures.value
+
+pub returns-clause-default : goal.returns-clause-default
+returns-clause-default c =
+    let row = field_row c.table.result.now in
+    IfOk-weaker c.default_value.result _ _ (λ (v : Value) is. is_default c.args.self.now.message.pool row (row_at c.args.self.now) v c.table.ensures (subst (λ (pool : DescriptorPool). IsRowDefault pool.inner row v) c.parent_pool.ensures is)) c.default_value.ensures.default
+
+pub returns-clause-valid : goal.returns-clause-valid
+returns-clause-valid c =
+    let row = field_row c.table.result.now in
+    IfOk-weaker c.default_value.result _ _ (λ (v : Value) is. default_taken c.args.self.now.message.pool row (row_at c.args.self.now) v c.table.ensures (field_default_fits c.args.self.now) (subst (λ (pool : DescriptorPool). value_of v ≡ row_default (pool_rows pool.inner) row) c.parent_pool.ensures is)) c.default_value.ensures.value

@@ -1,0 +1,7 @@
+use Rattle.std.proofs.Common.{length}
+use Rattle.prost_reflect_pool.specs.SharedPools.{pool_rows}
+use Rattle.prost_reflect_dynamic.proofs.PlaceRanges.{listed_below}
+use Rattle.prost_reflect_dynamic.proofs.descriptor.file.FileDescriptor.enums.Goals as goal
+
+pub new-requires : goal.new-requires
+new-requires c = listed_below (length (pool_rows c.args.self.now.pool.inner).enums) _ _ c.as_slice.ensures.value c.table.ensures.enums

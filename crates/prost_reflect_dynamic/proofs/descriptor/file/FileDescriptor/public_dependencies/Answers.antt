@@ -1,0 +1,7 @@
+use Rattle.std.proofs.Common.{length}
+use Rattle.prost_reflect_pool.specs.SharedPools.{files_of}
+use Rattle.prost_reflect_dynamic.proofs.PlaceRanges.{all_below}
+use Rattle.prost_reflect_dynamic.proofs.descriptor.file.FileDescriptor.public_dependencies.Goals as goal
+
+pub new-requires : goal.new-requires
+new-requires c = all_below (length (files_of c.args.self.now.pool.inner)) c.public_dependencies_listed.result.now c.public_dependencies_listed.ensures.there

@@ -1,0 +1,7 @@
+use Rattle.std.proofs.Common.{length}
+use Rattle.prost_reflect_pool.specs.SharedPools.{pool_catalog}
+use Rattle.prost_reflect_dynamic.proofs.PlaceRanges.{listed_below}
+use Rattle.prost_reflect_dynamic.proofs.descriptor.file.FileDescriptor.services.Goals as goal
+
+pub new-requires : goal.new-requires
+new-requires c = listed_below (length (pool_catalog c.args.self.now.pool.inner).services) _ _ c.as_slice.ensures.value c.table.ensures.services

@@ -1,0 +1,10 @@
+use Rattle.std.proofs.Common.{◌≡◌, ap, sym, ◌∙◌}
+use Rattle.prost_reflect_pool.specs.PoolEquality.{contents_eq, contents_decide}
+use Rattle.prost_reflect_pool.specs.SharedPools.{pool_contents}
+use Rattle.prost_reflect_dynamic.proofs.descriptor.message.MessageDescriptor.names.Goals as goal
+
+pub returns-then-self-index : goal.returns-then-self-index
+returns-then-self-index c =
+    let same : c.eq.result ≡ contents_eq (pool_contents c.args.self.now.pool.inner) (pool_contents c.args.message_type.now.pool) = c.eq.ensures ∙ ap (λ pool. contents_eq (pool_contents c.args.self.now.pool.inner) (pool_contents pool)) c.pool.ensures in
+    let decides = contents_decide (pool_contents c.args.self.now.pool.inner) (pool_contents c.args.message_type.now.pool) in
+    (λ yes. (decides.0 (sym same ∙ yes), c.if-self-index.true ∙ c.index.ensures), λ is. same ∙ decides.1 is.0)

@@ -1,0 +1,7 @@
+use Rattle.std.proofs.Common.{sym, ◌∙◌}
+use Rattle.prost_reflect_dynamic.specs.View.{message_type_of}
+use Rattle.prost_reflect_dynamic.proofs.OwnFields.{number_known}
+use Rattle.prost_reflect_dynamic.proofs.message.DynamicMessage.get_field_by_number_mut.Goals as goal
+
+pub value_or_default_mut-requires : goal.value_or_default_mut-requires
+value_or_default_mut-requires c = number_known (message_type_of c.args.self.now) c.args.number (sym c.is_field_number.ensures ∙ c.if-is_field_number.true)

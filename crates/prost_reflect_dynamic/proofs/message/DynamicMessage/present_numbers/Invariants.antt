@@ -1,0 +1,12 @@
+use Rattle.std.proofs.Common.{◌≡◌, ◌++◌}
+use Rattle.std.specs.Prelude.{flat_map}
+use Rattle.prost_reflect_fields.specs.Known.{known_of}
+use Rattle.prost_reflect_dynamic.specs.View.{message_type_of, stored_in}
+use Rattle.prost_reflect_fields.specs.ItemsLeft.{items_left}
+use Rattle.prost_reflect_dynamic.specs.Present.{entry_present}
+use Rattle.prost_reflect_dynamic.proofs.message.DynamicMessage.present_numbers.Given as goal
+
+-- what is present in all entries was found, or is in those that are left
+abbrev pub invariant-loop-number : goal.invariant-loop-number
+invariant-loop-number l =
+    flat_map (λ e. entry_present (known_of (message_type_of l.self)) e.0 e.1) (stored_in l.self) ≡ l.numbers.items ++ flat_map (λ e. entry_present (known_of (message_type_of l.self)) e.0 e.1) (items_left l.number-iterator)

@@ -1,0 +1,17 @@
+use Rattle.std.proofs.Common.{map, true, sym, ap, subst, ◌∙◌}
+use Rattle.std.specs.Prelude.{All}
+use Rattle.prost_reflect_dynamic.specs.ExtensionAccess.{IsOwnExtension, extension_number}
+use Rattle.prost_reflect_dynamic.specs.ValueLists.{had_pairs}
+use Rattle.prost_reflect_dynamic.specs.View.{message_type_of}
+use Rattle.prost_reflect_dynamic.proofs.ValueLists.{numbers_zipped, all_zipped}
+use Rattle.prost_reflect_dynamic.proofs.message.DynamicMessage.take_extensions.Goals as goal
+
+pub returns-clause-pairs : goal.returns-clause-pairs
+returns-clause-pairs c =
+    ap (map (λ p. (extension_number p.0, p.1))) (c.into_iter.ensures.rest ∙ c.in_ok-taken.ensures.pairs)
+    ∙ numbers_zipped extension_number c.in_ok-extensions.extensions.items (had_pairs true c.args.self.now) c.in_ok-extensions.ensures.numbers
+
+pub returns-clause-own : goal.returns-clause-own
+returns-clause-own c =
+    subst (All (λ p. IsOwnExtension (message_type_of c.args.self.now) p.0)) (sym (c.into_iter.ensures.rest ∙ c.in_ok-taken.ensures.pairs))
+    (all_zipped (IsOwnExtension (message_type_of c.args.self.now)) c.in_ok-extensions.extensions.items (map (λ p. p.1) (had_pairs true c.args.self.now)) c.in_ok-extensions.ensures.own)

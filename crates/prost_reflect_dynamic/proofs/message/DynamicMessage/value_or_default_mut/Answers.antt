@@ -1,0 +1,29 @@
+use Rattle.std.proofs.Common.{◌≡◌, ap, refl, sym, ◌∙◌, Result, Ok, Err}
+use Rattle.std.specs.Result.{OnOk}
+use Rattle.std.specs.Borrow.{name_if_ok}
+use Rattle.std.proofs.lemmas.Result.{IfOk-weaker}
+use borrow.Follows.Closed.{read_of}
+use Rattle.prost_reflect_wire.specs.Content.{entries_of, value_at}
+use Rattle.prost_reflect_dynamic.specs.View.{value_of, content_of, message_type_of, written_at}
+use Rattle.prost_reflect_dynamic.specs.declared.value.Value.{Value}
+use Rattle.prost_reflect_dynamic.proofs.LentWriting.{written_over, lent_or_default}
+use Rattle.prost_reflect_dynamic.proofs.message.DynamicMessage.value_or_default_mut.Goals as goal
+
+always : {T E P : Type 0} (r : Result T E) → P → OnOk r P
+always (Ok x) p = p
+always (Err e) p = tt
+
+pub returns-in-Ok : goal.returns-in-Ok
+returns-in-Ok c =
+    let m = c.args.self.now in
+    let n = c.args.number in
+    let lent = c.value_mut_or.ensures in
+    let over : (w : Value) → written_at m n c.in-Ok.default w ≡ written_at m n w w = λ w. written_over m n c.in-Ok.default w lent.ascending in (
+      λ i. read_of (name_if_ok (λ x. x.ghost_name) c.value_mut_or.result) (λ w. over w i) m,
+      record {
+        writes_back = tt;
+        value = IfOk-weaker c.value_mut_or.result _ _ (λ v is. lent_or_default (message_type_of m) n (value_at n (entries_of (content_of m))) (value_of v.now) (value_of c.in-Ok.default) is c.in-Ok.ensures) lent.value;
+        message_type = λ v. refl;
+        content = always c.value_mut_or.result (λ v. ap content_of (sym (over v)) ∙ lent.content v);
+      },
+    )

@@ -1,0 +1,6 @@
+use Rattle.std.proofs.Common.{sym}
+use Rattle.prost_reflect_dynamic.proofs.Described.{found_checked}
+use Rattle.prost_reflect_dynamic.proofs.message.access.says_nothing.Goals as goal
+
+pub is_field_default-requires : goal.is_field_default-requires
+is_field_default-requires c = found_checked c.args.message_type.now c.args.number _ (sym c.in-Some.ensures.field)

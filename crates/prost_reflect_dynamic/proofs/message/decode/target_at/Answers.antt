@@ -1,0 +1,16 @@
+use Rattle.std.proofs.Common.{subst, sym, ◌∙◌}
+use Rattle.prost_reflect_tables.specs.Rows.{field_row}
+use Rattle.prost_reflect_dynamic.specs.Targets.{IsTarget}
+use Rattle.prost_reflect_dynamic.proofs.RepeatedRows.{repeated_is}
+use Rattle.prost_reflect_dynamic.proofs.Merging.{target_is}
+use Rattle.prost_reflect_dynamic.proofs.message.decode.target_at.Goals as goal
+
+pub returns-in-Some : goal.returns-in-Some
+returns-in-Some c =
+    subst (IsTarget c.args.message_type.now c.args.number) (sym c.repeated_target.ensures)
+    (repeated_is c.args.message_type.now c.args.number (field_row c.in-Some.field.now) c.in-Some.ensures.field (sym c.is_repeated.ensures ∙ c.if-is_repeated.true))
+
+pub returns-in-Some-2 : goal.returns-in-Some-2
+returns-in-Some-2 c =
+    subst (IsTarget c.args.message_type.now c.args.number) (sym c.value_target.ensures)
+    (target_is c.args.message_type.now c.args.number (field_row c.in-Some.field.now) (sym c.is_repeated.ensures ∙ c.if-is_repeated.false) (sym c.in-Some.ensures.field))

@@ -1,0 +1,29 @@
+use Rattle.std.proofs.Common.{◌≡◌, ℕ, List, ◌++◌, drop}
+use Rattle.std.specs.Iterator.Adapters.{rev_source}
+use Rattle.prost_reflect_tables.specs.Rows.{field_row}
+use Rattle.prost_reflect_pool.specs.SharedPools.{pool_rows}
+use Rattle.prost_reflect_dynamic.specs.NestedMaps.{nested_pairs_bytes}
+use Rattle.prost_reflect_dynamic.specs.declared.value.MapKey.{MapKey}
+use Rattle.prost_reflect_dynamic.specs.declared.value.Value.{Value}
+use Rattle.prost_reflect_wire.specs.Sinks.{Adds}
+use Rattle.prost_reflect_fields.specs.Known.{known_of}
+use Rattle.prost_reflect_fields.specs.ItemsLeft.{items_left_back}
+use Rattle.prost_reflect_fields.specs.declared.slot.FieldSlot.{FieldSlot}
+use Rattle.prost_reflect_dynamic.specs.View.{message_type_of, stored_in}
+use Rattle.prost_reflect_dynamic.specs.Encoding.{entries_bytes}
+use Rattle.prost_reflect_dynamic.specs.Lists.{elements_bytes}
+use Rattle.prost_reflect_dynamic.proofs.message.encode.+writing.Given as goal
+
+-- the slots behind those that are left are written
+abbrev pub invariant-write_body-loop-entry : goal.invariant-write_body-loop-entry
+invariant-write_body-loop-entry g l = (done : List (ℕ × FieldSlot Value)) × (stored_in l.message ≡ items_left_back l.entry-iterator ++ done)
+    × Adds g.S.Sink.added l.fn.sink l.sink (entries_bytes (known_of (message_type_of l.message)) done)
+
+-- the elements from the index on are written
+abbrev pub invariant-write_messages-loop-index : goal.invariant-write_messages-loop-index
+invariant-write_messages-loop-index g l = Adds g.S.Sink.added l.fn.sink l.sink (elements_bytes l.number l.is_group (drop l.index l.values.items))
+
+-- the entries behind those that are left are written
+abbrev pub invariant-write_entries-loop-key : goal.invariant-write_entries-loop-key
+invariant-write_entries-loop-key g l = (done : List (MapKey × Value)) × (l.pairs.entries ≡ rev_source l.key-iterator ++ done)
+    × Adds g.S.Sink.added l.fn.sink l.sink (nested_pairs_bytes l.number (pool_rows l.message_type.pool).enums (field_row l.key_field) done)

@@ -1,0 +1,14 @@
+use Rattle.std.proofs.Common.{length}
+use Rattle.prost_reflect_fields.specs.Known.{known_of}
+use Rattle.prost_reflect_fields.specs.NumberSets.{HasWholeOneofs}
+use Rattle.prost_reflect_dynamic.proofs.ChangedNumbers.{Noted}
+use Rattle.prost_reflect_dynamic.proofs.message.merge.numbers_in.Given as goal
+
+abbrev pub decreases-loop-number : goal.decreases-loop-number
+decreases-loop-number l = length l.rest
+
+abbrev pub invariant-loop-number : goal.invariant-loop-number
+invariant-loop-number l = record {
+  whole : HasWholeOneofs (known_of l.message_type) l.numbers;
+  noted : Noted l.bytes l.rest l.numbers;
+}

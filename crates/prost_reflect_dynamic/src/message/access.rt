@@ -1,0 +1,300 @@
+//! Asking, reading, setting, clearing and taking fields.
+
+ghost use Rattle.std.specs.Prelude.{◌≡◌, ◌↔◌, ◌&&◌, IsTrue, true, false, None, is_some, option_and_then, if◌then◌else◌, OnOk, OnErr, IfOk, IsOk};
+ghost use Rattle.std.specs.Borrow.{LendsIfOk, sem};
+ghost use Rattle.std.specs.Option.{option_copied};
+ghost use Rattle.prost_reflect_wire.specs.Content.{entries_of, value_at};
+ghost use Rattle.prost_reflect_dynamic.specs.contracts.message.DynamicMessage.{the_row};
+ghost use Rattle.prost_reflect_dynamic.specs.contracts.value.Value as value;
+ghost use Rattle.prost_reflect_dynamic.specs.declared.value.Value.{Value};
+ghost use Rattle.prost_reflect_wire.specs.Schema.{field_of, passes};
+ghost use Rattle.prost_reflect_wire.specs.Typing.{kept_inside, is_field_default};
+ghost use Rattle.prost_reflect_fields.specs.Known.{known_of, is_known};
+ghost use Rattle.prost_reflect_dynamic.specs.Access.{IsOwnField, number_of, is_field_number, takes, takes_at, has_at, had_at, saying, IsDefaultAt, Shows, ShowsIf, IsLentOf, left_at};
+ghost use Rattle.prost_reflect_dynamic.specs.Contents.{value_set, value_cleared};
+ghost use Rattle.prost_reflect_dynamic.specs.View.{value_of, content_of, message_type_of};
+ghost use Rattle.prost_reflect_dynamic.specs.Stored.{value_stored};
+ghost use Rattle.prost_reflect_dynamic.specs.TypedSteps.{typed_at, StaysTyped};
+
+mod by_name;
+
+use crate::descriptor::FieldDescriptor;
+use crate::message::DynamicMessage;
+use crate::message::defaults::{default_value, is_field_default};
+use crate::value::Value;
+use prost_reflect_pool::PooledType;
+use std::alloc::{AllocError, Global};
+use std::borrow::Cow;
+
+impl DynamicMessage {
+    /// Whether the field is one of the message's own type: their pools hold the same files, and it is the same message type there.
+    pub fn owns_field(&self, field: &FieldDescriptor) -> bool
+        ensures { IsTrue result ↔ IsOwnField (message_type_of self.now) field.now }
+    {
+        field.parent_message().names(self.message_type())
+    }
+
+    /// Whether the message has a value of the field. The default of a field without presence is none, nor is an empty list or an empty map.
+    pub fn has_field(&self, field: &FieldDescriptor) -> bool
+        requires { IsOwnField (message_type_of self.now) field.now }
+        ensures { result ≡ has_at (number_of field.now) (content_of self.now) }
+    {
+        self.had_value(field.number()).is_some()
+    }
+
+    /// Whether the message has a value of the field of a number; it has none where no field has the number.
+    pub fn has_field_by_number(&self, number: u32) -> bool
+        ensures { result ≡ (is_field_number (message_type_of self.now) number && has_at number (content_of self.now)) }
+    {
+        self.is_field_number(number) && self.had_value(number).is_some()
+    }
+
+    /// The value of the field: the one that is stored, lent, or else the default.
+    ///
+    /// # Errors
+    ///
+    /// `AllocError` if the default needs memory that is refused.
+    pub fn get_field(
+        &self,
+        alloc: Global,
+        field: &FieldDescriptor,
+    ) -> Result<Cow<'_, Value>, AllocError>
+        requires { IsOwnField (message_type_of self.now) field.now }
+        ensures { IfOk result (Shows self.now (number_of field.now)) }
+    {
+        self.value_or_default(alloc, field.number())
+    }
+
+    /// The value of the field of a number: the one that is stored, lent, or else the default. There is none where no field has the number.
+    ///
+    /// # Errors
+    ///
+    /// `AllocError` if the default needs memory that is refused.
+    pub fn get_field_by_number(
+        &self,
+        alloc: Global,
+        number: u32,
+    ) -> Result<Option<Cow<'_, Value>>, AllocError>
+        ensures shown { IfOk result (ShowsIf (is_field_number (message_type_of self.now) number) self.now number) }
+        ensures missing { is_field_number (message_type_of self.now) number ≡ false → IsOk result }
+    {
+        if self.is_field_number(number) {
+            Ok(Some(self.value_or_default(alloc, number)?))
+        } else {
+            Ok(None)
+        }
+    }
+
+    /// The value of the field for writing; where there is none, it is first set to the default. Once the loan is over, the message is as if what was left behind the reference had been set.
+    ///
+    /// # Errors
+    ///
+    /// `AllocError` if a growth is refused, or if the default needs memory that is; then nothing changes.
+    pub fn get_field_mut(
+        &mut self,
+        alloc: Global,
+        field: &FieldDescriptor,
+    ) -> Result<&mut Value, AllocError>
+        requires { IsOwnField (message_type_of self.old) field.now }
+        ensures* writes_back { sem 𝓛 (LendsIfOk the_row value.the_row self.entry result (left_at self.old (number_of field.now)) self.old) }
+        ensures value { IfOk result (λ lent. IsLentOf self.old (number_of field.now) lent.now) }
+        ensures message_type { (v : Value) → message_type_of (left_at self.old (number_of field.now) v) ≡ message_type_of self.old }
+        ensures content { OnOk result ((v : Value) → content_of (left_at self.old (number_of field.now) v) ≡ value_set (number_of field.now) (value_of v) (content_of self.old)) }
+    {
+        self.value_or_default_mut(alloc, field.number())
+    }
+
+    /// Removes the value of the field. Unknown fields of its number stay.
+    pub fn clear_field(&mut self, field: &FieldDescriptor)
+        requires { IsOwnField (message_type_of self.old) field.now }
+        ensures message_type { message_type_of self.new ≡ message_type_of self.old }
+        ensures content { content_of self.new ≡ value_cleared (number_of field.now) (content_of self.old) }
+    {
+        self.clear_value(field.number());
+    }
+
+    /// Removes the value of the field of a number. Nothing changes where no field has the number.
+    pub fn clear_field_by_number(&mut self, number: u32)
+        ensures message_type { message_type_of self.new ≡ message_type_of self.old }
+        ensures content { content_of self.new ≡ (if is_field_number (message_type_of self.old) number then value_cleared number (content_of self.old) else content_of self.old) }
+        ensures unchanged { is_field_number (message_type_of self.old) number ≡ false → self.new ≡ self.old }
+    {
+        if self.is_field_number(number) {
+            self.clear_value(number);
+        }
+    }
+
+    /// Takes the value of the field, and answers it if the message had it. A stored default is removed, too. Unknown fields of the number stay.
+    pub fn take_field(&mut self, field: &FieldDescriptor) -> Option<Value>
+        requires { IsOwnField (message_type_of self.old) field.now }
+        ensures value { result ≡ had_at (number_of field.now) self.old }
+        ensures message_type { message_type_of self.new ≡ message_type_of self.old }
+        ensures content { content_of self.new ≡ value_cleared (number_of field.now) (content_of self.old) }
+    {
+        self.take_had(field.number())
+    }
+
+    /// Takes the value of the field of a number. There is none, and nothing changes, where no field has the number.
+    pub fn take_field_by_number(&mut self, number: u32) -> Option<Value>
+        ensures value { result ≡ (if is_field_number (message_type_of self.old) number then had_at number self.old else None) }
+        ensures message_type { message_type_of self.new ≡ message_type_of self.old }
+        ensures content { content_of self.new ≡ (if is_field_number (message_type_of self.old) number then value_cleared number (content_of self.old) else content_of self.old) }
+        ensures unchanged { is_field_number (message_type_of self.old) number ≡ false → self.new ≡ self.old }
+    {
+        if self.is_field_number(number) {
+            self.take_had(number)
+        } else {
+            None
+        }
+    }
+
+    /// Sets the field to a value that fits it, and removes the values of the other members of its oneof.
+    ///
+    /// # Errors
+    ///
+    /// `AllocError` if a growth is refused; then nothing changes.
+    pub fn set_field(&mut self, field: &FieldDescriptor, value: Value) -> Result<(), AllocError>
+        requires own { IsOwnField (message_type_of self.old) field.now }
+        requires valid { takes field.now value ≡ true }
+        ensures message_type { message_type_of self.new ≡ message_type_of self.old }
+        ensures content { OnOk result (content_of self.new ≡ value_set (number_of field.now) (value_of value) (content_of self.old)) }
+        ensures typed { OnOk result (typed_at (message_type_of self.old) (number_of field.now) (value_stored value) ≡ true → StaysTyped self.old self.new) }
+        ensures err { OnErr result (self.new ≡ self.old) }
+    {
+        self.set_value(field.number(), value)
+    }
+
+    /// Sets the field of a number to a value that fits it, and removes the values of the other members of its oneof. Nothing changes where no field has the number.
+    ///
+    /// # Errors
+    ///
+    /// `AllocError` if a growth is refused; then nothing changes.
+    pub fn set_field_by_number(&mut self, number: u32, value: Value) -> Result<(), AllocError>
+        requires { is_field_number (message_type_of self.old) number ≡ true → takes_at (message_type_of self.old) number value ≡ true }
+        ensures message_type { message_type_of self.new ≡ message_type_of self.old }
+        ensures content { OnOk result (content_of self.new ≡ (if is_field_number (message_type_of self.old) number then value_set number (value_of value) (content_of self.old) else content_of self.old)) }
+        ensures typed { OnOk result (typed_at (message_type_of self.old) number (value_stored value) ≡ true → StaysTyped self.old self.new) }
+        ensures missing { is_field_number (message_type_of self.old) number ≡ false → IsOk result × (self.new ≡ self.old) }
+        ensures err { OnErr result (self.new ≡ self.old) }
+    {
+        if self.is_field_number(number) {
+            self.set_value(number, value)
+        } else {
+            Ok(())
+        }
+    }
+
+    /// Whether the number is that of a field; that of an extension is not.
+    pub(super) fn is_field_number(&self, number: u32) -> bool
+        ensures { result ≡ is_field_number (message_type_of self.now) number }
+    {
+        match self.message_type().field_table(number) {
+            Some(field) => !field.is_extension,
+            None => false,
+        }
+    }
+
+    /// The value at the number of a field or an extension: the one that is stored, lent, or else the default.
+    pub(super) fn value_or_default(
+        &self,
+        alloc: Global,
+        number: u32,
+    ) -> Result<Cow<'_, Value>, AllocError>
+        requires { is_known (known_of (message_type_of self.now)) number ≡ true }
+        ensures { IfOk result (Shows self.now number) }
+    {
+        match self.stored_value(number) {
+            Some(value) => Ok(Cow::Borrowed(value)),
+            None => Ok(Cow::Owned(default_at(alloc, self.message_type(), number)?)),
+        }
+    }
+
+    /// The value at the number of a field or an extension, for writing; where there is none, it is first set to the default.
+    pub(super) fn value_or_default_mut(
+        &mut self,
+        alloc: Global,
+        number: u32,
+    ) -> Result<&mut Value, AllocError>
+        requires { is_known (known_of (message_type_of self.old)) number ≡ true }
+        ensures* writes_back { sem 𝓛 (LendsIfOk the_row value.the_row self.entry result (left_at self.old number) self.old) }
+        ensures value { IfOk result (λ lent. IsLentOf self.old number lent.now) }
+        ensures message_type { (v : Value) → message_type_of (left_at self.old number v) ≡ message_type_of self.old }
+        ensures content { OnOk result ((v : Value) → content_of (left_at self.old number v) ≡ value_set number (value_of v) (content_of self.old)) }
+    {
+        match self.default_if_absent(alloc, number) {
+            Ok(default) => self.value_mut_or(number, default),
+            Err(refused) => Err(refused),
+        }
+    }
+
+    /// The default of the field or extension of a number where nothing is stored, and any value where something is.
+    fn default_if_absent(&self, alloc: Global, number: u32) -> Result<Value, AllocError>
+        requires { is_known (known_of (message_type_of self.now)) number ≡ true }
+        ensures { IfOk result (λ v. value_at number (entries_of (content_of self.now)) ≡ None → IsDefaultAt (message_type_of self.now) number v) }
+    {
+        match self.stored_value(number) {
+            Some(_) => Ok(Value::Bool(false)),
+            None => default_at(alloc, self.message_type(), number),
+        }
+    }
+
+    /// The value at the number, if the message has it.
+    pub(super) fn had_value(&self, number: u32) -> Option<&Value>
+        ensures value { option_copied result ≡ had_at number self.now }
+        ensures has { is_some result ≡ has_at number (content_of self.now) }
+    {
+        match self.stored_value(number) {
+            Some(value) => {
+                if says_nothing(self.message_type(), number, value) {
+                    None
+                } else {
+                    Some(value)
+                }
+            }
+            None => None,
+        }
+    }
+
+    /// Takes the value at the number, and answers it if the message had it.
+    pub(super) fn take_had(&mut self, number: u32) -> Option<Value>
+        ensures value { result ≡ had_at number self.old }
+        ensures message_type { message_type_of self.new ≡ message_type_of self.old }
+        ensures content { content_of self.new ≡ value_cleared number (content_of self.old) }
+    {
+        let value = self.take_value(number);
+        saying(self.message_type(), number, value)
+    }
+}
+
+/// What the field or extension of a number has where nothing is stored.
+fn default_at(alloc: Global, message_type: &PooledType, number: u32) -> Result<Value, AllocError>
+    requires { is_known (known_of message_type.now) number ≡ true }
+    ensures { IfOk result (IsDefaultAt message_type.now number) }
+{
+    match message_type.field_table(number) {
+        Some(field) => default_value(alloc, message_type, field),
+        None => unreachable!(),
+    }
+}
+
+/// The value, unless it says nothing.
+pub(super) fn saying(message_type: &PooledType, number: u32, value: Option<Value>) -> Option<Value>
+    ensures { result ≡ option_and_then (saying (known_of message_type.now) number) value }
+{
+    let value = value?;
+    if says_nothing(message_type, number, &value) {
+        None
+    } else {
+        Some(value)
+    }
+}
+
+/// Whether a value is what the field of the number has where nothing is stored, and so no value of the message.
+fn says_nothing(message_type: &PooledType, number: u32, value: &Value) -> bool
+    ensures { result ≡ passes (field_of (known_of message_type.now) number) (λ f. is_field_default f (kept_inside (value_of value.now))) }
+{
+    match message_type.field_table(number) {
+        Some(field) => is_field_default(message_type, field, value),
+        None => false,
+    }
+}

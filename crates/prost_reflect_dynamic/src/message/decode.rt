@@ -1,0 +1,263 @@
+//! Reading messages (the encoding guide, "Message Structure", "Last One Wins" and "Unknown Fields").
+
+ghost use Rattle.std.specs.Prelude.{◌≡◌, ◌≢◌, ◌<◌, ◌^◌, true, [], length, Some, None, IfOk, IfErr};
+ghost use Rattle.prost_reflect_wire.specs.Content.{schema_of, type_of};
+ghost use Rattle.prost_reflect_wire.specs.Grammar.{LEVEL_LIMIT, Accepts};
+ghost use Rattle.prost_reflect_wire.specs.Meaning.{decoded};
+ghost use Rattle.prost_reflect_wire.specs.Writing.{encoded};
+ghost use Rattle.prost_reflect_wire.specs.Typing.{kept, WellStored};
+ghost use Rattle.prost_reflect_wire.specs.Fault.{StandsInMessage};
+ghost use Rattle.prost_reflect_wire.specs.Decoding.{Progress, Step, StandsBehindKey};
+ghost use Rattle.prost_reflect_dynamic.specs.Named.{IsNamed, schema_named, type_named};
+ghost use Rattle.prost_reflect_fields.specs.Known.{known_of};
+ghost use Rattle.prost_reflect_dynamic.specs.Scalars.{PlainField, StaysUnknown};
+ghost use Rattle.prost_reflect_tables.specs.Rows.{field_row};
+ghost use Rattle.prost_reflect_pool.specs.MapParts.{map_parts};
+ghost use Rattle.prost_reflect_pool.specs.SharedPools.{pool_rows};
+ghost use Rattle.prost_reflect_dynamic.specs.Targets.{IsTarget, target_of, repeated_target_of, element_target_of, entry_target_of};
+ghost use Rattle.prost_reflect_dynamic.specs.View.{content_of, message_type_of};
+ghost use Rattle.prost_reflect_dynamic.specs.ReadBack.{MeansSame};
+ghost use Rattle.prost_reflect_dynamic.specs.DeepTypes.{all_typed};
+ghost use Rattle.prost_reflect_dynamic.specs.Stored.{message_stored};
+ghost use Rattle.prost_reflect_dynamic.specs.TypedSteps.{StaysTyped};
+
+mod elements;
+mod enum_list;
+pub(crate) mod list;
+pub(crate) mod map;
+mod message_map;
+pub(crate) mod nested;
+pub(crate) mod scalar;
+
+use crate::descriptor::MessageDescriptor;
+use crate::descriptor::forms::is_repeated;
+use crate::message::DynamicMessage;
+use crate::message::decode::nested::MessageKind;
+use crate::message::decode::scalar::scalar_at;
+use crate::message::enums::is_stray;
+use prost_reflect_pool::PooledType;
+use prost_reflect_tables::{FieldTable, TableKind};
+use prost_reflect_wire::{
+    DecodeError, FieldNumber, RECURSION_LIMIT, UnknownField, WireType, decode_key, value_at,
+};
+use std::alloc::Global;
+
+impl DynamicMessage {
+    /// Reads a message of the type from the bytes, in at most 100 levels of messages and groups.
+    ///
+    /// A later scalar of a field replaces an earlier one, a later message or group is read into the earlier one, and the
+    /// values of the other members of its oneof go. The elements of a list's records stand one behind another, packed or
+    /// not, and an entry of a map takes the place of one whose key is equal. Records of numbers that the type lacks become
+    /// unknown fields, in their order, and so do the numbers that a closed enum does not declare (the encoding guide, "Last
+    /// One Wins", "Oneofs", "Packed Repeated Fields" and "Maps"; the language guide, "Unknown Fields"; the page "Enum
+    /// Behavior").
+    ///
+    /// The values of the message fit their fields, and the messages inside are of their fields' types, as `is_encodable` and
+    /// `is_typed` tell; so it may be encoded, and bytes may be merged into it.
+    ///
+    /// # Errors
+    ///
+    /// `Truncated`, `Varint`, `Key`, `WireType`, `EndGroup`, `Utf8` or `Depth` where that fault stands in the bytes, and
+    /// only where the type does not accept them; `OutOfMemory` if a growth is refused.
+    pub fn decode(
+        alloc: Global,
+        descriptor: MessageDescriptor,
+        bytes: &[u8],
+    ) -> Result<DynamicMessage, DecodeError>
+        ensures message_type { IfOk result (λ message. IsNamed descriptor (message_type_of message)) }
+        ensures means { IfOk result (λ message. decoded (schema_named descriptor) LEVEL_LIMIT (type_named descriptor) bytes.now ≡ Some (kept (content_of message))) }
+        ensures sound { IfOk result (λ message. WellStored (content_of message)) }
+        ensures typed { IfOk result (λ message. all_typed (message_stored message) ≡ true) }
+        ensures again { IfOk result (λ message. length (encoded (kept (content_of message))) < 2 ^ 64 → MeansSame (schema_named descriptor) (type_named descriptor) bytes.now (encoded (kept (content_of message)))) }
+        ensures accepts { IfOk result (λ _. Accepts (schema_named descriptor) LEVEL_LIMIT (type_named descriptor) bytes.now) }
+        ensures fault { IfErr result (λ e. e ≢ DecodeError.OutOfMemory → StandsInMessage (schema_named descriptor) (type_named descriptor) LEVEL_LIMIT e bytes.now) }
+        ensures accepted { IfErr result (λ e. Accepts (schema_named descriptor) LEVEL_LIMIT (type_named descriptor) bytes.now → e ≡ DecodeError.OutOfMemory) }
+    {
+        let mut message = DynamicMessage::new(alloc, descriptor);
+        message.merge_records(alloc, bytes, RECURSION_LIMIT)?;
+        Ok(message)
+    }
+
+    /// Reads the records of the bytes into the message. A refusal leaves a part of them read.
+    #[cycle(reading)]
+    pub(super) fn merge_records(
+        &mut self,
+        alloc: Global,
+        bytes: &[u8],
+        levels: u32,
+    ) -> Result<(), DecodeError>
+        requires sound { WellStored (content_of self.old) }
+        ensures ok { IfOk result (λ _. Progress levels (content_of self.old) (content_of self.new) bytes.now []) }
+        ensures message_type { message_type_of self.new ≡ message_type_of self.old }
+        ensures typed { IfOk result (λ _. StaysTyped self.old self.new) }
+        ensures fault { IfErr result (λ e. e ≢ DecodeError.OutOfMemory → StandsInMessage (schema_of (content_of self.old)) (type_of (content_of self.old)) levels e bytes.now) }
+    {
+        let mut rest = bytes;
+        while !rest.is_empty() {
+            let (number, wire_type, after) = decode_key(rest)?;
+            rest = self.merge_record(alloc, number, wire_type, after, levels)?;
+        }
+        Ok(())
+    }
+
+    /// Reads the record behind a key into the message, and gives the bytes behind it. A refusal leaves a part of a nested
+    /// message read.
+    #[cycle(reading)]
+    pub(super) fn merge_record<'a>(
+        &mut self,
+        alloc: Global,
+        number: FieldNumber,
+        wire_type: WireType,
+        bytes: &'a [u8],
+        levels: u32,
+    ) -> Result<&'a [u8], DecodeError>
+        requires sound { WellStored (content_of self.old) }
+        ensures ok { IfOk result (λ rest. Step levels number.value wire_type (content_of self.old) (content_of self.new) bytes.now rest.now) }
+        ensures message_type { message_type_of self.new ≡ message_type_of self.old }
+        ensures typed { IfOk result (λ _. StaysTyped self.old self.new) }
+        ensures fault { IfErr result (λ e. e ≢ DecodeError.OutOfMemory → StandsBehindKey (content_of self.old) levels number.value wire_type e bytes.now) }
+    {
+        match target_at(self.message_type(), number.get()) {
+            Target::Scalar(kind) => self.merge_scalar(
+                alloc, number, kind, wire_type, bytes, levels,
+            ),
+            Target::List(kind) => self.merge_list(alloc, number, kind, wire_type, bytes, levels),
+            Target::Numbers(kind) => {
+                self.merge_numbers(alloc, number, kind, wire_type, bytes, levels)
+            }
+            Target::Map(key, kind) => {
+                self.merge_map(alloc, number, (key, kind), wire_type, bytes, levels)
+            }
+            Target::Message(kind) => {
+                self.merge_message(alloc, number, kind, wire_type, bytes, levels)
+            }
+            Target::Element(kind) => {
+                self.merge_element(alloc, number, kind, wire_type, bytes, levels)
+            }
+            Target::MessageEntry(key, place) => {
+                self.merge_entry(alloc, number, key, place, wire_type, bytes, levels)
+            }
+            Target::Unknown => self.merge_unknown(alloc, number, wire_type, bytes, levels),
+        }
+    }
+
+    /// Reads a scalar behind its field's key, which replaces the value that is there. A number that a closed enum does not
+    /// declare becomes an unknown field instead, with all of its bits.
+    fn merge_scalar<'a>(
+        &mut self,
+        alloc: Global,
+        number: FieldNumber,
+        kind: TableKind,
+        wire_type: WireType,
+        bytes: &'a [u8],
+        levels: u32,
+    ) -> Result<&'a [u8], DecodeError>
+        requires sound { WellStored (content_of self.old) }
+        requires field { PlainField (message_type_of self.old) number.value kind }
+        ensures ok { IfOk result (λ rest. Step levels number.value wire_type (content_of self.old) (content_of self.new) bytes.now rest.now) }
+        ensures message_type { message_type_of self.new ≡ message_type_of self.old }
+        ensures typed { IfOk result (λ _. StaysTyped self.old self.new) }
+        ensures fault { IfErr result (λ e. e ≢ DecodeError.OutOfMemory → StandsBehindKey (content_of self.old) levels number.value wire_type e bytes.now) }
+    {
+        let (value, rest) = scalar_at(alloc, kind, wire_type, bytes)?;
+        if is_stray(self.message_type(), kind, &value) {
+            return self.merge_unknown(alloc, number, wire_type, bytes, levels);
+        }
+        self.set_value(number.get(), value)?;
+        Ok(rest)
+    }
+
+    /// Reads a record that stays unknown behind its key, and adds it behind those of its number.
+    pub(super) fn merge_unknown<'a>(
+        &mut self,
+        alloc: Global,
+        number: FieldNumber,
+        wire_type: WireType,
+        bytes: &'a [u8],
+        levels: u32,
+    ) -> Result<&'a [u8], DecodeError>
+        requires sound { WellStored (content_of self.old) }
+        requires unknown { StaysUnknown (known_of (message_type_of self.old)) levels number.value wire_type bytes.now }
+        ensures ok { IfOk result (λ rest. Step levels number.value wire_type (content_of self.old) (content_of self.new) bytes.now rest.now) }
+        ensures message_type { message_type_of self.new ≡ message_type_of self.old }
+        ensures typed { IfOk result (λ _. StaysTyped self.old self.new) }
+        ensures fault { IfErr result (λ e. e ≢ DecodeError.OutOfMemory → StandsBehindKey (content_of self.old) levels number.value wire_type e bytes.now) }
+    {
+        let (value, rest) = value_at(alloc, number, wire_type, bytes, levels)?;
+        self.add_unknown(number.get(), UnknownField::new(number, value))?;
+        Ok(rest)
+    }
+}
+
+/// What the record behind a key is read as.
+#[derive(Clone, Copy)]
+pub(super) enum Target {
+    /// An unknown field.
+    Unknown,
+    /// A scalar of the kind.
+    Scalar(TableKind),
+    /// Elements of a list of such scalars.
+    List(TableKind),
+    /// Elements of a list of numbers of this enum.
+    Numbers(TableKind),
+    /// An entry of a map whose keys and values are scalars of these kinds.
+    Map(TableKind, TableKind),
+    /// A message of the kind.
+    Message(MessageKind),
+    /// Such a message as an element of a list.
+    Element(MessageKind),
+    /// An entry of a map whose keys are scalars of the kind, and whose values are messages of the type at the place.
+    MessageEntry(TableKind, usize),
+}
+
+/// What a record of the number is read as.
+fn target_at(message_type: &PooledType, number: u32) -> Target
+    ensures { IsTarget message_type.now number result }
+{
+    match message_type.field_table(number) {
+        Some(field) if is_repeated(field.cardinality) => repeated_target(message_type, field),
+        Some(field) => value_target(field.kind, field.is_group),
+        None => Target::Unknown,
+    }
+}
+
+/// What a record of a repeated field is read as.
+fn repeated_target(message_type: &PooledType, field: &FieldTable) -> Target
+    ensures { result ≡ repeated_target_of (map_parts (pool_rows message_type.now.pool) (field_row field.now)) (field_row field.now).kind (field_row field.now).is_group }
+{
+    match message_type.map_parts(field) {
+        Some((key, value)) => entry_target(key.kind, value.kind),
+        None => element_target(field.kind, field.is_group),
+    }
+}
+
+/// What a record of a field of one value is read as.
+fn value_target(kind: TableKind, is_group: bool) -> Target
+    ensures { result ≡ target_of kind is_group }
+{
+    match kind {
+        TableKind::Message(place) => Target::Message(MessageKind { place, is_group }),
+        _ => Target::Scalar(kind),
+    }
+}
+
+/// What a record of a list is read as.
+fn element_target(kind: TableKind, is_group: bool) -> Target
+    ensures { result ≡ element_target_of kind is_group }
+{
+    match kind {
+        TableKind::Message(place) => Target::Element(MessageKind { place, is_group }),
+        TableKind::Enum(_) => Target::Numbers(kind),
+        _ => Target::List(kind),
+    }
+}
+
+/// What a record of a map is read as, by the kinds of its keys and values.
+fn entry_target(key: TableKind, kind: TableKind) -> Target
+    ensures { result ≡ entry_target_of key kind }
+{
+    match kind {
+        TableKind::Message(place) => Target::MessageEntry(key, place),
+        _ => Target::Map(key, kind),
+    }
+}

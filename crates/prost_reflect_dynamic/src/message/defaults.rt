@@ -1,0 +1,69 @@
+//! What fields of a message have where nothing is stored (the guide on field presence).
+
+ghost use Rattle.std.specs.Prelude.{◌≡◌, true, false, IfOk, IsSome, None};
+ghost use Rattle.prost_reflect_wire.specs.Edit.{default_value};
+ghost use Rattle.prost_reflect_wire.specs.Schema.{field_valid};
+ghost use Rattle.prost_reflect_wire.specs.Scalar.{scalar_eq};
+ghost use Rattle.prost_reflect_wire.specs.Typing.{is_field_default, kept_inside};
+ghost use Rattle.prost_reflect_tables.specs.Rows.{field_row};
+ghost use Rattle.prost_reflect_tables.specs.Shown.{schema_field, schema_kind, schema_default, own_type};
+ghost use Rattle.prost_reflect_pool.specs.MessageTypes.{schema_at};
+ghost use Rattle.prost_reflect_pool.specs.SharedPools.{pool_rows};
+ghost use Rattle.prost_reflect_dynamic.specs.Scalars.{plain_kind, scalar_of};
+ghost use Rattle.prost_reflect_dynamic.specs.View.{value_of};
+
+use crate::descriptor::forms::is_repeated;
+use crate::value::scalar::ScalarRef;
+use crate::value::{Value, defaults};
+use prost_reflect_pool::PooledType;
+use prost_reflect_tables::{FieldTable, TableKind};
+use std::alloc::{AllocError, Global};
+
+/// Whether a value, of any form, is what its field has where nothing is stored: an empty list or map, or the default of a
+/// field of one value without presence.
+pub(crate) fn is_field_default(message_type: &PooledType, field: &FieldTable, value: &Value) -> bool
+    requires { field_valid (schema_at message_type.now) (schema_field (pool_rows message_type.now.pool) (field_row field.now)) ≡ true }
+    ensures { result ≡ is_field_default (schema_field (pool_rows message_type.now.pool) (field_row field.now)) (kept_inside (value_of value.now)) }
+{
+    match value.as_scalar() {
+        Some(scalar) => {
+            !is_repeated(field.cardinality)
+                && !field.supports_presence
+                && is_default(message_type, field, scalar)
+        }
+        None => defaults::is_empty(message_type.pool(), field, value),
+    }
+}
+
+/// What a field has where nothing is stored: an empty list or map, an empty message, or the default of its scalars.
+pub(crate) fn default_value(
+    alloc: Global,
+    message_type: &PooledType,
+    field: &FieldTable,
+) -> Result<Value, AllocError>
+    requires { field_valid (schema_at message_type.now) (schema_field (pool_rows message_type.now.pool) (field_row field.now)) ≡ true }
+    ensures { IfOk result (λ v. value_of v ≡ default_value (schema_at message_type.now) (schema_field (pool_rows message_type.now.pool) (field_row field.now)).form (schema_field (pool_rows message_type.now.pool) (field_row field.now)).value_type) }
+{
+    defaults::default_value(alloc, message_type.pool(), field)
+}
+
+/// Whether a scalar is the default of its field: the one that the definition writes, else that of the kind. A scalar that
+/// is not of the kind is none.
+pub(crate) fn is_default(
+    message_type: &PooledType,
+    field: &FieldTable,
+    scalar: ScalarRef<'_>,
+) -> bool
+    requires { IsSome (plain_kind (field_row field.now).kind) }
+    ensures { result ≡ scalar_eq (scalar_of scalar.entry) (own_type (pool_rows message_type.now.pool).enums (field_row field.now)).default }
+{
+    scalar.equals(defaults::scalar_default(message_type.pool(), field))
+}
+
+/// The default of a scalar kind: the first number of an enum, else zero, false or empty.
+pub(crate) fn kind_default(message_type: &PooledType, kind: TableKind) -> ScalarRef<'static>
+    requires { IsSome (plain_kind kind) }
+    ensures { scalar_of result ≡ schema_default None (schema_kind (pool_rows message_type.now.pool).enums kind false) }
+{
+    defaults::kind_default(message_type.pool(), kind)
+}

@@ -1,0 +1,86 @@
+//! What enums declare (the page "Enum Behavior").
+
+ghost use Rattle.std.specs.Prelude.{◌≡◌, not, Some, slice_get};
+ghost use Rattle.std.specs.List.{list_any};
+ghost use Rattle.std.specs.Option.{option_copied, option_map};
+ghost use Rattle.std.specs.Ordering.{int_eq};
+ghost use Rattle.prost_reflect_wire.specs.Scalar.{is_declared};
+ghost use Rattle.prost_reflect_tables.specs.Rows.{enum_row, value_numbers};
+ghost use Rattle.prost_reflect_tables.specs.Shown.{first_number, enum_numbers};
+ghost use Rattle.prost_reflect_pool.specs.Enums.{numbers_of};
+ghost use Rattle.prost_reflect_pool.specs.Pools.{pool_rows};
+ghost use Rattle.prost_reflect_pool.specs.SharedPools.{pool_rows as shared_rows};
+ghost use Rattle.prost_reflect_dynamic.specs.NamedKinds.{enums_in};
+ghost use Rattle.prost_reflect_dynamic.specs.Scalars.{is_stray_number};
+ghost use Rattle.prost_reflect_dynamic.specs.View.{value_of};
+
+use crate::value::Value;
+use prost_reflect_pool::{LinkedPool, PooledType};
+use prost_reflect_tables::{EnumTable, TableKind};
+
+/// The number of an enum's first value.
+pub(crate) fn first_in(table: &EnumTable) -> i32
+    ensures { result ≡ first_number (value_numbers (enum_row table.now)) }
+{
+    match table.values.first() {
+        Some(value) => value.number,
+        None => 0,
+    }
+}
+
+/// The row of the enum at a place of the pool, or none where no enum stands there.
+fn enum_at(pool: &LinkedPool, place: usize) -> Option<&EnumTable>
+    ensures { option_map (λ e. enum_row e.now) result ≡ slice_get (pool_rows pool.now).enums place }
+{
+    pool.tables().enums.get(place)
+}
+
+/// Whether one of the values of the enum at a place of the pool has the number, by binary search.
+fn has_number(pool: &LinkedPool, table: &EnumTable, place: usize, number: i32) -> bool
+    requires { slice_get (pool_rows pool.now).enums place ≡ Some (enum_row table.now) }
+    ensures { result ≡ list_any (int_eq number) (value_numbers (enum_row table.now)) }
+{
+    pool.value_place_by_number(place, number).is_some()
+}
+
+/// Whether the enum at a place of the pool is closed and does not declare the number.
+fn lacks(pool: &LinkedPool, table: &EnumTable, place: usize, number: i32) -> bool
+    requires { slice_get (pool_rows pool.now).enums place ≡ Some (enum_row table.now) }
+    ensures { result ≡ not (is_declared (enum_numbers (enum_row table.now)) number) }
+{
+    table.is_closed && !has_number(pool, table, place, number)
+}
+
+/// The same, where an enum that is not there lacks no number.
+fn is_undeclared(pool: &LinkedPool, place: usize, number: i32) -> bool
+    ensures { result ≡ not (is_declared (numbers_of (slice_get (pool_rows pool.now).enums place)) number) }
+{
+    match enum_at(pool, place) {
+        Some(table) => lacks(pool, table, place, number),
+        None => false,
+    }
+}
+
+/// Whether the enum at a place takes the number: an open one takes each, a closed one those that it declares. Where there is
+/// no pool there is no enum.
+pub(crate) fn takes_number(pool: Option<&LinkedPool>, place: usize, number: i32) -> bool
+    ensures { result ≡ is_declared (numbers_of (slice_get (enums_in (option_copied pool.entry)) place)) number }
+{
+    match pool {
+        Some(pool) => !is_undeclared(pool, place, number),
+        None => true,
+    }
+}
+
+/// Whether a value is a number that its kind, a closed enum of the message type's pool, does not declare. Its record
+/// stays an unknown field.
+pub(crate) fn is_stray(message_type: &PooledType, kind: TableKind, value: &Value) -> bool
+    ensures { result ≡ is_stray_number (shared_rows message_type.now.pool).enums kind (value_of value.now) }
+{
+    match (kind, value) {
+        (TableKind::Enum(place), Value::EnumNumber(number)) => {
+            is_undeclared(message_type.pool(), place, *number)
+        }
+        _ => false,
+    }
+}

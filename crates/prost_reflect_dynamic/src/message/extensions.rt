@@ -1,0 +1,110 @@
+//! Asking, reading, setting, clearing and taking extensions (the proto2 guide, "Extensions").
+
+ghost use Rattle.std.specs.Prelude.{◌≡◌, ◌↔◌, IsTrue, true, OnOk, OnErr, IfOk};
+ghost use Rattle.std.specs.Borrow.{LendsIfOk, sem};
+ghost use Rattle.prost_reflect_dynamic.specs.contracts.message.DynamicMessage.{the_row};
+ghost use Rattle.prost_reflect_dynamic.specs.contracts.value.Value as value;
+ghost use Rattle.prost_reflect_dynamic.specs.declared.value.Value.{Value};
+ghost use Rattle.prost_reflect_dynamic.specs.Access.{has_at, had_at, Shows, IsLentOf, left_at};
+ghost use Rattle.prost_reflect_dynamic.specs.Contents.{value_set, value_cleared};
+ghost use Rattle.prost_reflect_dynamic.specs.ExtensionAccess.{IsOwnExtension, extension_number, extension_takes};
+ghost use Rattle.prost_reflect_dynamic.specs.View.{value_of, content_of, message_type_of};
+ghost use Rattle.prost_reflect_dynamic.specs.Stored.{value_stored};
+ghost use Rattle.prost_reflect_dynamic.specs.TypedSteps.{typed_at, StaysTyped};
+
+use crate::descriptor::ExtensionDescriptor;
+use crate::message::DynamicMessage;
+use crate::value::Value;
+use std::alloc::{AllocError, Global};
+use std::borrow::Cow;
+
+impl DynamicMessage {
+    /// Whether the extension extends the message's own type: their pools hold the same files, and it is the same message type there.
+    pub fn owns_extension(&self, extension: &ExtensionDescriptor) -> bool
+        ensures { IsTrue result ↔ IsOwnExtension (message_type_of self.now) extension.now }
+    {
+        extension.extends(self.message_type())
+    }
+
+    /// Whether the message has a value of the extension. An empty list or an empty map is none.
+    pub fn has_extension(&self, extension: &ExtensionDescriptor) -> bool
+        requires { IsOwnExtension (message_type_of self.now) extension.now }
+        ensures { result ≡ has_at (extension_number extension.now) (content_of self.now) }
+    {
+        self.had_value(extension.number()).is_some()
+    }
+
+    /// The value of the extension: the one that is stored, lent, or else the default.
+    ///
+    /// # Errors
+    ///
+    /// `AllocError` if the default needs memory that is refused.
+    pub fn get_extension(
+        &self,
+        alloc: Global,
+        extension: &ExtensionDescriptor,
+    ) -> Result<Cow<'_, Value>, AllocError>
+        requires { IsOwnExtension (message_type_of self.now) extension.now }
+        ensures { IfOk result (Shows self.now (extension_number extension.now)) }
+    {
+        self.value_or_default(alloc, extension.number())
+    }
+
+    /// The value of the extension for writing; where there is none, it is first set to the default. Once the loan is over, the message is as if what was left behind the reference had been set.
+    ///
+    /// # Errors
+    ///
+    /// `AllocError` if a growth is refused, or if the default needs memory that is; then nothing changes.
+    pub fn get_extension_mut(
+        &mut self,
+        alloc: Global,
+        extension: &ExtensionDescriptor,
+    ) -> Result<&mut Value, AllocError>
+        requires { IsOwnExtension (message_type_of self.old) extension.now }
+        ensures* writes_back { sem 𝓛 (LendsIfOk the_row value.the_row self.entry result (left_at self.old (extension_number extension.now)) self.old) }
+        ensures value { IfOk result (λ lent. IsLentOf self.old (extension_number extension.now) lent.now) }
+        ensures message_type { (v : Value) → message_type_of (left_at self.old (extension_number extension.now) v) ≡ message_type_of self.old }
+        ensures content { OnOk result ((v : Value) → content_of (left_at self.old (extension_number extension.now) v) ≡ value_set (extension_number extension.now) (value_of v) (content_of self.old)) }
+    {
+        self.value_or_default_mut(alloc, extension.number())
+    }
+
+    /// Removes the value of the extension. Unknown fields of its number stay.
+    pub fn clear_extension(&mut self, extension: &ExtensionDescriptor)
+        requires { IsOwnExtension (message_type_of self.old) extension.now }
+        ensures message_type { message_type_of self.new ≡ message_type_of self.old }
+        ensures content { content_of self.new ≡ value_cleared (extension_number extension.now) (content_of self.old) }
+    {
+        self.clear_value(extension.number());
+    }
+
+    /// Takes the value of the extension, and answers it if the message had it. An empty list or map that is stored is removed, too. Unknown fields of the number stay.
+    pub fn take_extension(&mut self, extension: &ExtensionDescriptor) -> Option<Value>
+        requires { IsOwnExtension (message_type_of self.old) extension.now }
+        ensures value { result ≡ had_at (extension_number extension.now) self.old }
+        ensures message_type { message_type_of self.new ≡ message_type_of self.old }
+        ensures content { content_of self.new ≡ value_cleared (extension_number extension.now) (content_of self.old) }
+    {
+        self.take_had(extension.number())
+    }
+
+    /// Sets the extension to a value that fits it.
+    ///
+    /// # Errors
+    ///
+    /// `AllocError` if a growth is refused; then nothing changes.
+    pub fn set_extension(
+        &mut self,
+        extension: &ExtensionDescriptor,
+        value: Value,
+    ) -> Result<(), AllocError>
+        requires own { IsOwnExtension (message_type_of self.old) extension.now }
+        requires valid { extension_takes extension.now value ≡ true }
+        ensures message_type { message_type_of self.new ≡ message_type_of self.old }
+        ensures content { OnOk result (content_of self.new ≡ value_set (extension_number extension.now) (value_of value) (content_of self.old)) }
+        ensures typed { OnOk result (typed_at (message_type_of self.old) (extension_number extension.now) (value_stored value) ≡ true → StaysTyped self.old self.new) }
+        ensures err { OnErr result (self.new ≡ self.old) }
+    {
+        self.set_value(extension.number(), value)
+    }
+}

@@ -1,0 +1,82 @@
+//! Fields that are lent for writing by their numbers and by their names.
+
+ghost use Rattle.std.specs.Prelude.{◌≡◌, IfErr, IfOk, OnOk};
+ghost use Rattle.std.specs.Borrow.{LendsIfOk, sem};
+ghost use Rattle.prost_reflect_dynamic.specs.contracts.message.DynamicMessage.{the_row};
+ghost use Rattle.prost_reflect_dynamic.specs.contracts.value.Value as value;
+ghost use Rattle.prost_reflect_dynamic.specs.declared.value.Value.{Value};
+ghost use Rattle.prost_reflect_dynamic.specs.Access.{number_declared, number_named, IsLentIf, left_if};
+ghost use Rattle.prost_reflect_dynamic.specs.Contents.{set_if};
+ghost use Rattle.prost_reflect_dynamic.specs.Lending.{RefusesLoan};
+ghost use Rattle.prost_reflect_dynamic.specs.View.{value_of, content_of, message_type_of};
+
+use crate::message::DynamicMessage;
+use crate::value::Value;
+use std::alloc::Global;
+use thiserror::Error;
+
+/// Why a field is not lent for writing.
+#[derive(Clone, Copy, Debug, PartialEq, Eq, Error)]
+pub enum GetFieldError {
+    /// The message type has no such field.
+    #[error("field not found")]
+    NotFound,
+    /// A growth was refused.
+    #[error("out of memory")]
+    OutOfMemory,
+}
+
+impl DynamicMessage {
+    /// The value of the field of a number for writing; where there is none, it is first set to the default. Once the loan is over, the message is as if what was left behind the reference had been set.
+    ///
+    /// # Errors
+    ///
+    /// Nothing changes where one is answered: `NotFound` if no field has the number, which an extension may have; and `OutOfMemory`
+    /// if a growth is refused, or if the default needs memory that is.
+    pub fn get_field_by_number_mut(
+        &mut self,
+        alloc: Global,
+        number: u32,
+    ) -> Result<&mut Value, GetFieldError>
+        ensures* writes_back { sem 𝓛 (LendsIfOk the_row value.the_row self.entry result (left_if (number_declared (message_type_of self.old) number) self.old) self.old) }
+        ensures value { IfOk result (λ lent. IsLentIf (number_declared (message_type_of self.old) number) self.old lent.now) }
+        ensures message_type { (v : Value) → message_type_of (left_if (number_declared (message_type_of self.old) number) self.old v) ≡ message_type_of self.old }
+        ensures content { OnOk result ((v : Value) → content_of (left_if (number_declared (message_type_of self.old) number) self.old v) ≡ set_if (number_declared (message_type_of self.old) number) (value_of v) (content_of self.old)) }
+        ensures refused { IfErr result (RefusesLoan (number_declared (message_type_of self.old) number)) }
+    {
+        if self.is_field_number(number) {
+            match self.value_or_default_mut(alloc, number) {
+                Ok(value) => Ok(value),
+                Err(_) => Err(GetFieldError::OutOfMemory),
+            }
+        } else {
+            Err(GetFieldError::NotFound)
+        }
+    }
+
+    /// The value of the field of a name for writing; where there is none, it is first set to the default. Once the loan is over, the message is as if what was left behind the reference had been set.
+    ///
+    /// # Errors
+    ///
+    /// Nothing changes where one is answered: `NotFound` if no field has the name, which an extension may have; and `OutOfMemory`
+    /// if a growth is refused, or if the default needs memory that is.
+    pub fn get_field_by_name_mut(
+        &mut self,
+        alloc: Global,
+        name: &str,
+    ) -> Result<&mut Value, GetFieldError>
+        ensures* writes_back { sem 𝓛 (LendsIfOk the_row value.the_row self.entry result (left_if (number_named (message_type_of self.old) name.now) self.old) self.old) }
+        ensures value { IfOk result (λ lent. IsLentIf (number_named (message_type_of self.old) name.now) self.old lent.now) }
+        ensures message_type { (v : Value) → message_type_of (left_if (number_named (message_type_of self.old) name.now) self.old v) ≡ message_type_of self.old }
+        ensures content { OnOk result ((v : Value) → content_of (left_if (number_named (message_type_of self.old) name.now) self.old v) ≡ set_if (number_named (message_type_of self.old) name.now) (value_of v) (content_of self.old)) }
+        ensures refused { IfErr result (RefusesLoan (number_named (message_type_of self.old) name.now)) }
+    {
+        match self.number_named(name) {
+            Some(number) => match self.value_or_default_mut(alloc, number) {
+                Ok(value) => Ok(value),
+                Err(_) => Err(GetFieldError::OutOfMemory),
+            },
+            None => Err(GetFieldError::NotFound),
+        }
+    }
+}

@@ -1,0 +1,95 @@
+//! Merging bytes into messages (the encoding guide, "Last One Wins").
+
+ghost use Rattle.std.specs.Prelude.{◌≡◌, ◌≢◌, ℕ, true, List, IfOk, IfErr, IfSome, IfNone};
+ghost use Rattle.prost_reflect_wire.specs.Record.{Record};
+ghost use Rattle.prost_reflect_wire.specs.Front.{FieldFront};
+ghost use Rattle.prost_reflect_wire.specs.Content.{schema_of, type_of};
+ghost use Rattle.prost_reflect_wire.specs.Grammar.{LEVEL_LIMIT, Accepts};
+ghost use Rattle.prost_reflect_wire.specs.Typing.{WellStored};
+ghost use Rattle.prost_reflect_wire.specs.Fault.{StandsInMessage};
+ghost use Rattle.prost_reflect_wire.specs.Decoding.{Holds};
+ghost use Rattle.prost_reflect_pool.specs.MessageTypes.{SameMessage};
+ghost use Rattle.prost_reflect_fields.specs.Known.{known_of};
+ghost use Rattle.prost_reflect_fields.specs.NumberSets.{HasWholeOneofs};
+ghost use Rattle.prost_reflect_dynamic.specs.Merged.{IsMerged, HasNumbersOf, BeginsWith};
+ghost use Rattle.prost_reflect_dynamic.specs.View.{content_of, message_type_of};
+ghost use Rattle.prost_reflect_dynamic.specs.DeepTypes.{all_typed};
+ghost use Rattle.prost_reflect_dynamic.specs.Stored.{message_stored};
+
+use crate::message::DynamicMessage;
+use prost_reflect_fields::number_sets::add_number;
+use prost_reflect_pool::PooledType;
+use prost_reflect_wire::{DecodeError, RECURSION_LIMIT, decode_key, skip_value};
+use std::alloc::{AllocError, Global};
+use std::collections::BTreeSet;
+
+impl DynamicMessage {
+    /// Reads the records of the bytes behind those of the message, in at most 100 levels of messages and groups.
+    ///
+    /// A scalar replaces the one that is there, a message or group is read into the one that is there, the elements of a
+    /// list stand behind those that are there, and an entry of a map takes the place of the one with an equal key; the
+    /// other members of a oneof go, and unknown fields stand behind those that are there (the encoding guide, "Last One
+    /// Wins", "Oneofs", "Packed Repeated Fields" and "Maps"). So merging the pieces of a message one by one gives what
+    /// all of them mean, read as one.
+    ///
+    /// The values of the message have to fit their fields, and the messages inside have to be of their fields' types, as in every
+    /// message that `decode` gives: `is_encodable` and `is_typed` tell. So they do afterwards, and where `is_typed` told it of the
+    /// message, it tells it of the merged one; no test is needed between two calls.
+    ///
+    /// # Errors
+    ///
+    /// `Truncated`, `Varint`, `Key`, `WireType`, `EndGroup`, `Utf8` or `Depth` where that fault stands in the bytes, and
+    /// only where the type does not accept them; `OutOfMemory` if a growth is refused. A refusal leaves the message as it
+    /// was.
+    pub fn merge(&mut self, bytes: &[u8]) -> Result<(), DecodeError>
+        requires sound { WellStored (content_of self.old) }
+        ensures merged { IfOk result (λ _. IsMerged bytes.now (content_of self.old) (content_of self.new)) }
+        ensures holds { IfOk result (λ _. Holds (content_of self.old) (content_of self.new)) }
+        ensures message_type { SameMessage (message_type_of self.old) (message_type_of self.new) }
+        ensures accepts { IfOk result (λ _. Accepts (schema_of (content_of self.old)) LEVEL_LIMIT (type_of (content_of self.old)) bytes.now) }
+        ensures fault { IfErr result (λ e. e ≢ DecodeError.OutOfMemory → StandsInMessage (schema_of (content_of self.old)) (type_of (content_of self.old)) LEVEL_LIMIT e bytes.now) }
+        ensures accepted { IfErr result (λ e. Accepts (schema_of (content_of self.old)) LEVEL_LIMIT (type_of (content_of self.old)) bytes.now → e ≡ DecodeError.OutOfMemory) }
+        ensures unchanged { IfErr result (λ _. self.new ≡ self.old) }
+        ensures sound { WellStored (content_of self.new) }
+        ensures typed { all_typed (message_stored self.old) ≡ true → all_typed (message_stored self.new) ≡ true }
+    {
+        let alloc = self.fields.allocator();
+        let numbers = numbers_in(alloc, self.message_type(), bytes)?;
+        let mut part = self.clone_at(&numbers)?;
+        part.merge_records(alloc, bytes, RECURSION_LIMIT)?;
+        self.replace_at(&numbers, part)?;
+        Ok(())
+    }
+}
+
+/// The numbers of the records that the bytes begin with, and the other members of their fields' oneofs: what reading them may change.
+fn numbers_in(
+    alloc: Global,
+    message_type: &PooledType,
+    bytes: &[u8],
+) -> Result<BTreeSet<u32>, AllocError>
+    ensures whole { IfOk result (λ numbers. HasWholeOneofs (known_of message_type.now) numbers) }
+    ensures numbers { IfOk result (λ numbers. HasNumbersOf bytes.now numbers) }
+{
+    let mut numbers = BTreeSet::new(alloc);
+    let mut rest = bytes;
+    while let Some((number, after)) = first_number(rest) {
+        add_number(&mut numbers, message_type, number)?;
+        rest = after;
+    }
+    Ok(numbers)
+}
+
+/// The number of the record that the bytes begin with, and what follows it.
+fn first_number(bytes: &[u8]) -> Option<(u32, &[u8])>
+    ensures some { IfSome result (λ x. BeginsWith x.0 bytes.now x.1.now) }
+    ensures none { IfNone result ((r : Record) (rest : List ℕ) → FieldFront LEVEL_LIMIT r bytes.now rest → ⊥) }
+{
+    let Ok((number, wire_type, after)) = decode_key(bytes) else {
+        return None;
+    };
+    let Ok(rest) = skip_value(number, wire_type, after, RECURSION_LIMIT) else {
+        return None;
+    };
+    Some((number.get(), rest))
+}

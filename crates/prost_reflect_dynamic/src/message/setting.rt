@@ -1,0 +1,221 @@
+//! Setting fields to values that may not fit them.
+
+ghost use Rattle.std.specs.Prelude.{◌≡◌, true, IfErr, IfOk, IfSome, IsOk, OnErr, OnOk, Some};
+ghost use Rattle.prost_reflect_wire.specs.Schema.{passes};
+ghost use Rattle.prost_reflect_dynamic.specs.Access.{IsOwnField, number_of, takes, is_field_number, number_declared, number_named, takes_at};
+ghost use Rattle.prost_reflect_dynamic.specs.Contents.{set_if, value_set};
+ghost use Rattle.prost_reflect_dynamic.specs.Setting.{DescribesField, RefusesFound, RefusesValue};
+ghost use Rattle.prost_reflect_dynamic.specs.View.{value_of, content_of, message_type_of};
+ghost use Rattle.prost_reflect_dynamic.specs.Stored.{value_stored};
+ghost use Rattle.prost_reflect_dynamic.specs.TypedSteps.{typed_at, StaysTyped};
+ghost use Rattle.prost_reflect_dynamic.specs.declared.message.setting.SetFieldError.TheVariants as refusals;
+
+use crate::descriptor::FieldDescriptor;
+use crate::descriptor::forms::is_repeated;
+use crate::message::DynamicMessage;
+use crate::message::encodable::takes_value;
+use crate::value::Value;
+use prost_reflect_pool::LinkedPool;
+use prost_reflect_tables::{FieldTable, TableKind};
+use std::alloc::AllocError;
+use std::error::Error;
+use std::fmt;
+
+/// Why a field is not set.
+///
+/// Its text is `field not found`, `expected a value of type 'T'` or `out of memory`. `T` is the name of the field's kind, as `int32`
+/// or the full name of its message type or enum; that of a list is as `repeated int32`, and that of a map as `map<string, int32>`.
+#[derive(Debug, PartialEq, Drop)]
+pub enum SetFieldError {
+    /// The message type has no such field.
+    NotFound,
+    /// The field does not take the value.
+    InvalidType {
+        /// The field that was to be set.
+        field: FieldDescriptor,
+        /// The value that does not fit it.
+        value: Value,
+    },
+    /// A growth was refused.
+    OutOfMemory,
+}
+
+impl From<AllocError> for SetFieldError {
+    ghost from_gives = { λ _ e. e ≡ refusals.OutOfMemory };
+
+    fn from(_error: AllocError) -> SetFieldError {
+        SetFieldError::OutOfMemory
+    }
+}
+
+impl fmt::Display for SetFieldError {
+    fn fmt<W: fmt::Write>(&self, f: &mut fmt::Formatter<W>) -> fmt::Result {
+        match self {
+            SetFieldError::NotFound => f.write_str("field not found"),
+            SetFieldError::InvalidType { field, .. } => {
+                f.write_str("expected a value of type '")?;
+                write_type(f, &field.parent_pool().inner, field.table())?;
+                f.write_str("'")
+            }
+            SetFieldError::OutOfMemory => f.write_str("out of memory"),
+        }
+    }
+}
+
+impl Error for SetFieldError {}
+
+/// Writes the type of a field: its kind's name, `repeated` and that name for a list, or `map` with the names of both kinds for a map.
+fn write_type<W: fmt::Write>(
+    f: &mut fmt::Formatter<W>,
+    pool: &LinkedPool,
+    field: &FieldTable,
+) -> fmt::Result {
+    match pool.map_parts(field) {
+        Some((key, value)) => write!(
+            f,
+            "map<{}, {}>",
+            kind_name(pool, key.kind),
+            kind_name(pool, value.kind)
+        ),
+        None => {
+            if is_repeated(field.cardinality) {
+                f.write_str("repeated ")?;
+            }
+            f.write_str(kind_name(pool, field.kind))
+        }
+    }
+}
+
+/// The name of a kind (the language guide, "Scalar Value Types"), or the full name of its message type or enum.
+fn kind_name(pool: &LinkedPool, kind: TableKind) -> &str {
+    match kind {
+        TableKind::Double => "double",
+        TableKind::Float => "float",
+        TableKind::Int32 => "int32",
+        TableKind::Int64 => "int64",
+        TableKind::Uint32 => "uint32",
+        TableKind::Uint64 => "uint64",
+        TableKind::Sint32 => "sint32",
+        TableKind::Sint64 => "sint64",
+        TableKind::Fixed32 => "fixed32",
+        TableKind::Fixed64 => "fixed64",
+        TableKind::Sfixed32 => "sfixed32",
+        TableKind::Sfixed64 => "sfixed64",
+        TableKind::Bool => "bool",
+        TableKind::String => "string",
+        TableKind::Bytes => "bytes",
+        TableKind::Message(place) => match pool.tables().messages.get(place) {
+            Some(message) => message.id.full_name.as_str(),
+            None => "",
+        },
+        TableKind::Enum(place) => match pool.tables().enums.get(place) {
+            Some(table) => table.id.full_name.as_str(),
+            None => "",
+        },
+    }
+}
+
+impl DynamicMessage {
+    /// Sets the field to the value if the value fits it, and then removes the values of the other members of its oneof.
+    ///
+    /// # Errors
+    ///
+    /// Nothing changes where one is answered: `InvalidType`, with the field and the value, if the value does not fit the field, as
+    /// `Value::is_valid_for_field` says; and `OutOfMemory` if a growth, or a clone of the field's pool, is refused.
+    pub fn try_set_field(
+        &mut self,
+        field: &FieldDescriptor,
+        value: Value,
+    ) -> Result<(), SetFieldError>
+        requires { IsOwnField (message_type_of self.old) field.now }
+        ensures message_type { message_type_of self.new ≡ message_type_of self.old }
+        ensures content { OnOk result (content_of self.new ≡ value_set (number_of field.now) (value_of value) (content_of self.old)) }
+        ensures typed { OnOk result (typed_at (message_type_of self.old) (number_of field.now) (value_stored value) ≡ true → StaysTyped self.old self.new) }
+        ensures valid { IsOk result → takes field.now value ≡ true }
+        ensures err { OnErr result (self.new ≡ self.old) }
+        ensures refused { IfErr result (RefusesValue field.now value) }
+    {
+        if value.is_valid_for_field(field) {
+            self.set_field(field, value)?;
+            Ok(())
+        } else {
+            let field = field.clone()?;
+            Err(SetFieldError::InvalidType { field, value })
+        }
+    }
+
+    /// Sets the field of a number to the value if the value fits it, and then removes the values of the other members of its oneof.
+    ///
+    /// # Errors
+    ///
+    /// Nothing changes where one is answered: `NotFound` if no field has the number, which an extension may have; `InvalidType`,
+    /// with the field and the value, if the value does not fit the field; and `OutOfMemory` if a growth, or a clone of the pool, is refused.
+    pub fn try_set_field_by_number(
+        &mut self,
+        number: u32,
+        value: Value,
+    ) -> Result<(), SetFieldError>
+        ensures message_type { message_type_of self.new ≡ message_type_of self.old }
+        ensures content { OnOk result (content_of self.new ≡ set_if (number_declared (message_type_of self.old) number) (value_of value) (content_of self.old)) }
+        ensures typed { OnOk result (typed_at (message_type_of self.old) number (value_stored value) ≡ true → StaysTyped self.old self.new) }
+        ensures valid { IsOk result → passes (number_declared (message_type_of self.old) number) (λ n. takes_at (message_type_of self.old) n value) ≡ true }
+        ensures err { OnErr result (self.new ≡ self.old) }
+        ensures refused { IfErr result (RefusesFound (message_type_of self.old) (number_declared (message_type_of self.old) number) value) }
+    {
+        if self.is_field_number(number) {
+            self.try_set_value(number, value)
+        } else {
+            Err(SetFieldError::NotFound)
+        }
+    }
+
+    /// Sets the field of a name to the value if the value fits it, and then removes the values of the other members of its oneof.
+    ///
+    /// # Errors
+    ///
+    /// Nothing changes where one is answered: `NotFound` if no field has the name, which an extension may have; `InvalidType`,
+    /// with the field and the value, if the value does not fit the field; and `OutOfMemory` if a growth, or a clone of the pool, is refused.
+    pub fn try_set_field_by_name(&mut self, name: &str, value: Value) -> Result<(), SetFieldError>
+        ensures message_type { message_type_of self.new ≡ message_type_of self.old }
+        ensures content { OnOk result (content_of self.new ≡ set_if (number_named (message_type_of self.old) name.now) (value_of value) (content_of self.old)) }
+        ensures typed { OnOk result (IfSome (number_named (message_type_of self.old) name.now) (λ n. typed_at (message_type_of self.old) n (value_stored value) ≡ true) → StaysTyped self.old self.new) }
+        ensures valid { IsOk result → passes (number_named (message_type_of self.old) name.now) (λ n. takes_at (message_type_of self.old) n value) ≡ true }
+        ensures err { OnErr result (self.new ≡ self.old) }
+        ensures refused { IfErr result (RefusesFound (message_type_of self.old) (number_named (message_type_of self.old) name.now) value) }
+    {
+        match self.number_named(name) {
+            Some(number) => self.try_set_value(number, value),
+            None => Err(SetFieldError::NotFound),
+        }
+    }
+
+    /// Sets the field of a number to the value if the value fits it. Where an error is answered nothing changes.
+    fn try_set_value(&mut self, number: u32, value: Value) -> Result<(), SetFieldError>
+        requires { is_field_number (message_type_of self.old) number ≡ true }
+        ensures message_type { message_type_of self.new ≡ message_type_of self.old }
+        ensures content { OnOk result (content_of self.new ≡ value_set number (value_of value) (content_of self.old)) }
+        ensures typed { OnOk result (typed_at (message_type_of self.old) number (value_stored value) ≡ true → StaysTyped self.old self.new) }
+        ensures valid { IsOk result → takes_at (message_type_of self.old) number value ≡ true }
+        ensures err { OnErr result (self.new ≡ self.old) }
+        ensures refused { IfErr result (RefusesFound (message_type_of self.old) (Some number) value) }
+    {
+        if takes_value(self.message_type(), number, &value) {
+            self.set_value(number, value)?;
+            Ok(())
+        } else {
+            let field = self.field_at(number)?;
+            Err(SetFieldError::InvalidType { field, value })
+        }
+    }
+
+    /// The field of a number.
+    fn field_at(&self, number: u32) -> Result<FieldDescriptor, AllocError>
+        requires { is_field_number (message_type_of self.now) number ≡ true }
+        ensures { IfOk result (DescribesField (message_type_of self.now) number) }
+    {
+        match self.descriptor()?.get_field(number)? {
+            Some(field) => Ok(field),
+            None => unreachable!(),
+        }
+    }
+}

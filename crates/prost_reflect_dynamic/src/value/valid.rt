@@ -1,0 +1,233 @@
+//! Which values kinds and fields take.
+
+ghost use Rattle.std.specs.Prelude.{◌≡◌, ◌^◌, nat_lt, false, true};
+ghost use Rattle.std.specs.Option.{option_copied};
+ghost use Rattle.std.specs.Str.{is_utf8};
+ghost use Rattle.std.specs.List.{list_all};
+ghost use Rattle.prost_reflect_wire.specs.Varint.{are_bytes};
+ghost use Rattle.prost_reflect_wire.specs.Scalar.{in_i32, in_i64};
+ghost use Rattle.prost_reflect_wire.specs.Typing.{kind_takes, element_valid, value_valid};
+ghost use Rattle.prost_reflect_tables.specs.Rows.{field_row};
+ghost use Rattle.prost_reflect_tables.specs.Shown.{schema_field, schema_kind};
+ghost use Rattle.prost_reflect_pool.specs.Pools.{pool_rows};
+ghost use Rattle.prost_reflect_dynamic.specs.Access.{takes};
+ghost use Rattle.prost_reflect_dynamic.specs.ExtensionAccess.{extension_takes};
+ghost use Rattle.prost_reflect_dynamic.specs.NamedKinds.{enums_in, kind_named};
+ghost use Rattle.prost_reflect_dynamic.specs.Scalars.{scalar_of};
+ghost use Rattle.prost_reflect_dynamic.specs.Valid.{list_fits, map_fits, pair_fits};
+ghost use Rattle.prost_reflect_dynamic.specs.View.{key_of, value_of};
+
+use crate::descriptor::forms::is_repeated;
+use crate::descriptor::{ExtensionDescriptor, FieldDescriptor, Kind};
+use crate::message::enums::takes_number;
+use crate::value::scalar::ScalarRef;
+use crate::value::{MapKey, Value};
+use prost_reflect_pool::LinkedPool;
+use prost_reflect_tables::{FieldTable, TableKind};
+use std::collections::BTreeMap;
+
+impl Value {
+    /// Whether the value is one of the kind: a scalar of the kind, which is a declared number where the kind is a closed
+    /// enum, or any message where it is a message kind. A list or a map is of no kind.
+    ///
+    /// So `Value::I32(5).is_valid(&Kind::Sint32)` holds, and `Value::U32(5).is_valid(&Kind::Sint32)` does not.
+    pub fn is_valid(&self, kind: &Kind) -> bool
+        ensures { result ≡ element_valid (kind_named kind.now) (value_of self.now) }
+    {
+        element_valid(kind.pool(), kind.to_table(), self)
+    }
+
+    /// Whether the field takes the value: one value of its kind, or a list of such where the field is a list, or a map
+    /// whose keys and values are of the kinds of its entries where it is a map. No message is looked into.
+    ///
+    /// A value for which this holds may be handed to `DynamicMessage::set_field`.
+    pub fn is_valid_for_field(&self, field: &FieldDescriptor) -> bool
+        ensures { result ≡ takes field.now self.now }
+    {
+        value_valid(&field.parent_pool().inner, field.table(), self)
+    }
+
+    /// Whether the extension takes the value, as `is_valid_for_field` says it of a field.
+    pub fn is_valid_for_extension(&self, extension: &ExtensionDescriptor) -> bool
+        ensures { result ≡ extension_takes extension.now self.now }
+    {
+        value_valid(&extension.parent_pool().inner, extension.table(), self)
+    }
+}
+
+impl MapKey {
+    /// Whether the key is a value of the kind.
+    ///
+    /// So `MapKey::Bool(true).is_valid(&Kind::Bool)` holds. No key is of a floating-point kind, of bytes, of an enum or of a message kind.
+    pub fn is_valid(&self, kind: &Kind) -> bool
+        ensures { result ≡ kind_takes (kind_named kind.now) (key_of self.now) }
+    {
+        scalar_valid(kind.pool(), kind.to_table(), self.as_scalar())
+    }
+}
+
+/// Whether a field of the pool takes a value, by its form and its kind. No message is looked into.
+pub(crate) fn value_valid(pool: &LinkedPool, field: &FieldTable, value: &Value) -> bool
+    ensures { result ≡ value_valid (schema_field (pool_rows pool.now) (field_row field.now)) (value_of value.now) }
+{
+    if !is_repeated(field.cardinality) {
+        return element_valid(Some(pool), field.kind, value);
+    }
+    match pool.map_parts(field) {
+        Some((key, part)) => map_fits(Some(pool), key, part, value),
+        None => list_fits(Some(pool), field.kind, value),
+    }
+}
+
+/// Whether a value is a list of values of the kind.
+fn list_fits(pool: Option<&LinkedPool>, kind: TableKind, value: &Value) -> bool
+    ensures { result ≡ list_fits (schema_kind (enums_in (option_copied pool.entry)) kind false) (value_of value.now) }
+{
+    match value {
+        Value::List(values) => elements_valid(pool, kind, values.as_slice()),
+        _ => false,
+    }
+}
+
+/// Whether a value is a map whose keys and values are those of two rows.
+fn map_fits(pool: Option<&LinkedPool>, key: &FieldTable, part: &FieldTable, value: &Value) -> bool
+    ensures { result ≡ map_fits (schema_kind (enums_in (option_copied pool.entry)) (field_row key.now).kind false) (schema_kind (enums_in (option_copied pool.entry)) (field_row part.now).kind false) (value_of value.now) }
+{
+    match value {
+        Value::Map(pairs) => pairs_valid(pool, key.kind, part.kind, pairs),
+        _ => false,
+    }
+}
+
+/// Whether each value is one of the kind.
+fn elements_valid(pool: Option<&LinkedPool>, kind: TableKind, values: &[Value]) -> bool
+    ensures { result ≡ list_all (λ v. element_valid (schema_kind (enums_in (option_copied pool.entry)) kind false) (value_of v)) values.now }
+{
+    for value in values {
+        if !element_valid(pool, kind, value) {
+            return false;
+        }
+    }
+    true
+}
+
+/// Whether each key and each value is one of its kind.
+fn pairs_valid(
+    pool: Option<&LinkedPool>,
+    key_kind: TableKind,
+    kind: TableKind,
+    pairs: &BTreeMap<MapKey, Value>,
+) -> bool
+    ensures { result ≡ list_all (pair_fits (schema_kind (enums_in (option_copied pool.entry)) key_kind false) (schema_kind (enums_in (option_copied pool.entry)) kind false)) pairs.now.entries }
+{
+    for (key, value) in pairs.iter() {
+        if !pair_valid(pool, key_kind, kind, key, value) {
+            return false;
+        }
+    }
+    true
+}
+
+/// Whether a key and a value are each of its kind.
+fn pair_valid(
+    pool: Option<&LinkedPool>,
+    key_kind: TableKind,
+    kind: TableKind,
+    key: &MapKey,
+    value: &Value,
+) -> bool
+    ensures { result ≡ pair_fits (schema_kind (enums_in (option_copied pool.entry)) key_kind false) (schema_kind (enums_in (option_copied pool.entry)) kind false) (key.now, value.now) }
+{
+    scalar_valid(pool, key_kind, key.as_scalar()) && element_valid(pool, kind, value)
+}
+
+/// Whether a value is one of the kind.
+pub(crate) fn element_valid(pool: Option<&LinkedPool>, kind: TableKind, value: &Value) -> bool
+    ensures { result ≡ element_valid (schema_kind (enums_in (option_copied pool.entry)) kind false) (value_of value.now) }
+{
+    match value {
+        Value::Message(_) => matches!(kind, TableKind::Message(_)),
+        Value::List(_) => false,
+        Value::Map(_) => false,
+        _ => scalar_valid(pool, kind, value.scalar()),
+    }
+}
+
+/// Whether a scalar is one of the kind.
+pub(crate) fn scalar_valid(
+    pool: Option<&LinkedPool>,
+    kind: TableKind,
+    scalar: ScalarRef<'_>,
+) -> bool
+    ensures { result ≡ kind_takes (schema_kind (enums_in (option_copied pool.entry)) kind false) (scalar_of scalar.entry) }
+{
+    match (kind, scalar) {
+        (TableKind::Double, ScalarRef::F64(bits)) => fits_u64(bits),
+        (TableKind::Float, ScalarRef::F32(bits)) => fits_u32(bits),
+        (TableKind::Int32, ScalarRef::I32(number)) => fits_i32(number),
+        (TableKind::Sint32, ScalarRef::I32(number)) => fits_i32(number),
+        (TableKind::Sfixed32, ScalarRef::I32(number)) => fits_i32(number),
+        (TableKind::Int64, ScalarRef::I64(number)) => fits_i64(number),
+        (TableKind::Sint64, ScalarRef::I64(number)) => fits_i64(number),
+        (TableKind::Sfixed64, ScalarRef::I64(number)) => fits_i64(number),
+        (TableKind::Uint32, ScalarRef::U32(number)) => fits_u32(number),
+        (TableKind::Fixed32, ScalarRef::U32(number)) => fits_u32(number),
+        (TableKind::Uint64, ScalarRef::U64(number)) => fits_u64(number),
+        (TableKind::Fixed64, ScalarRef::U64(number)) => fits_u64(number),
+        (TableKind::Bool, ScalarRef::Bool(_)) => true,
+        (TableKind::String, ScalarRef::String(text)) => is_text(text),
+        (TableKind::Bytes, ScalarRef::Bytes(bytes)) => are_bytes(bytes),
+        (TableKind::Enum(place), ScalarRef::EnumNumber(number)) => {
+            fits_i32(number) && takes_number(pool, place, number)
+        }
+        _ => false,
+    }
+}
+
+/// Every i32 is in range.
+fn fits_i32(_number: i32) -> bool
+    ensures result { result ≡ true }
+    ensures range { in_i32 _number ≡ true }
+{
+    true
+}
+
+/// Every i64 is in range.
+fn fits_i64(_number: i64) -> bool
+    ensures result { result ≡ true }
+    ensures range { in_i64 _number ≡ true }
+{
+    true
+}
+
+/// Every u32 is in range.
+fn fits_u32(_number: u32) -> bool
+    ensures result { result ≡ true }
+    ensures range { nat_lt _number (2 ^ 32) ≡ true }
+{
+    true
+}
+
+/// Every u64 is in range.
+fn fits_u64(_number: u64) -> bool
+    ensures result { result ≡ true }
+    ensures range { nat_lt _number (2 ^ 64) ≡ true }
+{
+    true
+}
+
+/// Every text is UTF-8.
+fn is_text(_text: &str) -> bool
+    ensures result { result ≡ true }
+    ensures utf8 { is_utf8 _text.now ≡ true }
+{
+    true
+}
+
+/// Every u8 is a byte.
+fn are_bytes(_bytes: &[u8]) -> bool
+    ensures result { result ≡ true }
+    ensures range { are_bytes _bytes.now ≡ true }
+{
+    true
+}
