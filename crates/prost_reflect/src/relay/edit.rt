@@ -110,11 +110,16 @@ fn refusal_of(older: &MessageDescriptor, path: &[u32], value: &Value) -> Option<
     ensures refusal { result ≡ edit_refusal (schema_named older.now) (type_named older.now) path.now (value_of value.now) }
     ensures ordered { result ≡ None → value_ordered (value_of value.now) ≡ true }
 {
-    match takes_at_path(older, path, value) {
-        None => Some(RelayWithError::NotFound),
-        Some(false) => Some(RelayWithError::InvalidType),
-        Some(true) if holds_message(value) => Some(RelayWithError::HoldsMessage),
-        Some(true) => None,
+    let Some(takes) = takes_at_path(older, path, value) else {
+        return Some(RelayWithError::NotFound);
+    };
+    if !takes {
+        return Some(RelayWithError::InvalidType);
+    }
+    if holds_message(value) {
+        Some(RelayWithError::HoldsMessage)
+    } else {
+        None
     }
 }
 
