@@ -13,8 +13,8 @@ use Rattle.prost_reflect_wire.specs.declared.error.EncodeError.{EncodeError}
 use Rattle.prost_reflect_wire.specs.declared.error.EncodeError.TheVariants as encode_errors
 use Rattle.prost_reflect_laws.proofs.PassageLaws as laws
 use Rattle.prost_reflect_dynamic.specs.declared.descriptor.message.MessageDescriptor.{MessageDescriptor}
-use Rattle.prost_reflect.specs.declared.relay.edit.RelayWithError.{RelayWithError}
-use Rattle.prost_reflect.specs.declared.relay.edit.RelayWithError.TheVariants.{NotFound, InvalidType, HoldsMessage, Encode}
+use Rattle.prost_reflect.specs.declared.relaying.edit.RelayWithError.{RelayWithError}
+use Rattle.prost_reflect.specs.declared.relaying.edit.RelayWithError.TheVariants.{NotFound, InvalidType, HoldsMessage, Encode}
 use Rattle.prost_reflect.specs.Edits.{value_refusal, edit_refusal, IsEdited, RefusesEdit, PassesEdit}
 use Rattle.prost_reflect_dynamic.specs.Named.{schema_named, type_named}
 use Rattle.prost_reflect_dynamic.specs.Paths.{PATH_LIMIT, field_at, IsSetAt}

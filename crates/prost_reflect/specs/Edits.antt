@@ -12,8 +12,8 @@ use Rattle.prost_reflect_wire.specs.Edit.{set_at, holds_message, edited}
 use Rattle.prost_reflect_wire.specs.Reduction.{Reduced}
 use Rattle.prost_reflect_dynamic.specs.Paths.{field_led}
 use Rattle.prost_reflect_dynamic.specs.ReadBack.{IsFaulty}
-use Rattle.prost_reflect.specs.declared.relay.edit.RelayWithError.{RelayWithError}
-use Rattle.prost_reflect.specs.declared.relay.edit.RelayWithError.TheVariants.{NotFound, InvalidType, HoldsMessage, Decode, Encode, OutOfMemory}
+use Rattle.prost_reflect.specs.declared.relaying.edit.RelayWithError.{RelayWithError}
+use Rattle.prost_reflect.specs.declared.relaying.edit.RelayWithError.TheVariants.{NotFound, InvalidType, HoldsMessage, Decode, Encode, OutOfMemory}
 
 -- BEFORE A BYTE IS READ
 

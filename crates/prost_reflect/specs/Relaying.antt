@@ -14,10 +14,10 @@ use Rattle.prost_reflect_wire.specs.Typing.{kept, WellStored}
 use Rattle.prost_reflect_wire.specs.Writing.{encoded}
 use Rattle.prost_reflect_wire.specs.Reduction.{Reduced}
 use Rattle.prost_reflect_dynamic.specs.ReadBack.{IsFaulty, MeansSame}
-use Rattle.prost_reflect.specs.declared.relay.RelayError.{RelayError}
-use Rattle.prost_reflect.specs.declared.relay.RelayError.TheVariants.{Decode, Encode}
-use Rattle.prost_reflect.specs.declared.relay.RelayHexError.{RelayHexError}
-use Rattle.prost_reflect.specs.declared.relay.RelayHexError.TheVariants.{Hex, Relay, OutOfMemory}
+use Rattle.prost_reflect.specs.declared.relaying.RelayError.{RelayError}
+use Rattle.prost_reflect.specs.declared.relaying.RelayError.TheVariants.{Decode, Encode}
+use Rattle.prost_reflect.specs.declared.relaying.RelayHexError.{RelayHexError}
+use Rattle.prost_reflect.specs.declared.relaying.RelayHexError.TheVariants.{Hex, Relay, OutOfMemory}
 
 -- BYTES
 

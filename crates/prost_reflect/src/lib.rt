@@ -3,7 +3,7 @@
 
 mod laws;
 mod like;
-mod relay;
+mod relaying;
 
 pub use like::FieldDescriptorLike;
 pub use prost_reflect_dynamic::{
@@ -27,4 +27,4 @@ pub use prost_reflect_wire::{
     DecodeError, EncodeError, FieldNumber, RECURSION_LIMIT, UnknownField, UnknownFieldSet,
     UnknownFieldValue, WireType,
 };
-pub use relay::{RelayError, RelayHexError, RelayWithError, relay, relay_hex, relay_with};
+pub use relaying::{RelayError, RelayHexError, RelayWithError, relay, relay_hex, relay_with};

@@ -14,8 +14,8 @@ use Rattle.prost_reflect_tables.specs.Shown.{schema_from}
 use Rattle.prost_reflect_pool.specs.declared.pool.LinkedPool.{LinkedPool}
 use Rattle.prost_reflect_pool.specs.Pools.{pool_rows}
 use Rattle.prost_reflect.specs.Edits as edits
-use Rattle.prost_reflect.specs.declared.relay.edit.RelayWithError.{RelayWithError}
-use Rattle.prost_reflect.specs.declared.relay.edit.RelayWithError.TheVariants as relays
+use Rattle.prost_reflect.specs.declared.relaying.edit.RelayWithError.{RelayWithError}
+use Rattle.prost_reflect.specs.declared.relaying.edit.RelayWithError.TheVariants as relays
 use Rattle.protorelay.specs.Sets.{IsPoolOfSet}
 use Rattle.protorelay.specs.Reading.{IsAsked, RefusesPool, hex_refusal}
 use Rattle.protorelay.specs.Editing.{value_found, IsChange, IsEditedIn, IsEdited, RefusesEditIn, RefusesEdit, edit_refusal}

@@ -12,9 +12,9 @@ use Rattle.prost_reflect_tables.specs.Places.{message_place}
 use Rattle.prost_reflect_pool.specs.declared.pool.LinkedPool.{LinkedPool}
 use Rattle.prost_reflect_pool.specs.Pools.{pool_rows}
 use Rattle.prost_reflect.specs.Relaying.{IsHex, RefusesHex}
-use Rattle.prost_reflect.specs.declared.relay.RelayError.TheVariants as relays
-use Rattle.prost_reflect.specs.declared.relay.RelayHexError.{RelayHexError}
-use Rattle.prost_reflect.specs.declared.relay.RelayHexError.TheVariants as hex_relays
+use Rattle.prost_reflect.specs.declared.relaying.RelayError.TheVariants as relays
+use Rattle.prost_reflect.specs.declared.relaying.RelayHexError.{RelayHexError}
+use Rattle.prost_reflect.specs.declared.relaying.RelayHexError.TheVariants as hex_relays
 use Rattle.protorelay.specs.Sets.{IsPoolOfSet}
 use Rattle.protorelay.specs.Reading.{pool_schema, RefusesPool, relay_refusal}
 use Rattle.protorelay.specs.Relaying.{RefusesRelay}

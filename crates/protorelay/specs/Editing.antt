@@ -22,8 +22,8 @@ use Rattle.prost_reflect_pool.specs.declared.pool.LinkedPool.{LinkedPool}
 use Rattle.prost_reflect.specs.Edits.{EditPassesLength, PassesEdit}
 use Rattle.prost_reflect.specs.Edits as edits
 use Rattle.prost_reflect_dynamic.specs.Paths.{row_led}
-use Rattle.prost_reflect.specs.declared.relay.edit.RelayWithError.{RelayWithError}
-use Rattle.prost_reflect.specs.declared.relay.edit.RelayWithError.TheVariants as relays
+use Rattle.prost_reflect.specs.declared.relaying.edit.RelayWithError.{RelayWithError}
+use Rattle.prost_reflect.specs.declared.relaying.edit.RelayWithError.TheVariants as relays
 use Rattle.protorelay.specs.Sets.{IsPoolOfSet}
 use Rattle.protorelay.specs.Reading.{IsAsked, Refuses, decode_refusal, encode_refusal}
 use Rattle.protorelay.specs.declared.refusal.Refusal.{Refusal}

@@ -18,9 +18,9 @@ use Rattle.prost_reflect_tables.specs.declared.error.PoolError.{PoolError}
 use Rattle.prost_reflect_tables.specs.declared.error.PoolError.TheVariants as pool_errors
 use Rattle.prost_reflect_pool.specs.declared.pool.LinkedPool.{LinkedPool}
 use Rattle.prost_reflect_pool.specs.Pools.{pool_rows}
-use Rattle.prost_reflect.specs.declared.relay.RelayError.TheVariants as relays
-use Rattle.prost_reflect.specs.declared.relay.RelayHexError.{RelayHexError}
-use Rattle.prost_reflect.specs.declared.relay.RelayHexError.TheVariants as hex_relays
+use Rattle.prost_reflect.specs.declared.relaying.RelayError.TheVariants as relays
+use Rattle.prost_reflect.specs.declared.relaying.RelayHexError.{RelayHexError}
+use Rattle.prost_reflect.specs.declared.relaying.RelayHexError.TheVariants as hex_relays
 use Rattle.protorelay.specs.Sets.{IsPoolOfSet, RefusesSet, IsNoSet}
 use Rattle.protorelay.specs.declared.refusal.Refusal.{Refusal}
 use Rattle.protorelay.specs.declared.refusal.Refusal.TheVariants.{Set, Pool, Name, Hex, Decode, Encode, Memory}

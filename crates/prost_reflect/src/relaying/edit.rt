@@ -12,9 +12,9 @@ ghost use Rattle.prost_reflect.specs.Edits.{edit_refusal, is_message, IsEdited, 
 ghost use Rattle.prost_reflect_dynamic.specs.Named.{schema_named, type_named};
 ghost use Rattle.prost_reflect.specs.Relaying.{OlderAccepts};
 ghost use Rattle.prost_reflect_dynamic.specs.View.{value_of};
-ghost use Rattle.prost_reflect.specs.declared.relay.edit.RelayWithError.TheVariants as errors;
+ghost use Rattle.prost_reflect.specs.declared.relaying.edit.RelayWithError.TheVariants as errors;
 
-use crate::relay::decode_by;
+use crate::relaying::decode_by;
 use prost_reflect_dynamic::{MapKey, MessageDescriptor, Value, set_at_path, takes_at_path};
 use prost_reflect_wire::{DecodeError, EncodeError};
 use std::alloc::{AllocError, Global};

@@ -3,8 +3,8 @@
 ghost use Rattle.std.specs.Prelude.{◌≡◌, ◌≢◌, IfOk, IfErr, string_bytes};
 ghost use Rattle.hex.specs.declared.error.FromHexError.TheVariants as hex_errors;
 ghost use Rattle.prost_reflect_wire.specs.declared.error.DecodeError.TheVariants as decode_errors;
-ghost use Rattle.prost_reflect.specs.declared.relay.RelayError.TheVariants as relay_errors;
-ghost use Rattle.prost_reflect.specs.declared.relay.RelayHexError.TheVariants as relay_hex_errors;
+ghost use Rattle.prost_reflect.specs.declared.relaying.RelayError.TheVariants as relay_errors;
+ghost use Rattle.prost_reflect.specs.declared.relaying.RelayHexError.TheVariants as relay_hex_errors;
 ghost use Rattle.prost_reflect_dynamic.specs.ReadBack.{IsFaulty};
 ghost use Rattle.prost_reflect_dynamic.specs.Named.{schema_named, type_named};
 ghost use Rattle.prost_reflect.specs.Relaying.{IsReadBy, IsRelayed, RefusesRelay, OlderAccepts, Passes, IsRelayedHex, RefusesHex, hex_refusal};

@@ -5,7 +5,7 @@ use Rattle.prost_reflect_dynamic.specs.Named.{schema_named, type_named}
 use Rattle.prost_reflect_dynamic.specs.View.{value_of, content_of}
 use Rattle.prost_reflect.proofs.Edits.{leads_in, is_edited, edit_too_long, passes_edit}
 use Rattle.prost_reflect.proofs.Passing.{older_accepts}
-use Rattle.prost_reflect.proofs.relay.edit.relay_with.Goals as goal
+use Rattle.prost_reflect.proofs.relaying.edit.relay_with.Goals as goal
 
 pub returns-in-Some-clause-older_accepts : goal.returns-in-Some-clause-older_accepts
 returns-in-Some-clause-older_accepts c = older_accepts (schema_named c.args.older.now) (type_named c.args.older.now) c.args.bytes.now

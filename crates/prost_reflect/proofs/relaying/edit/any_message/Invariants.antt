@@ -2,7 +2,7 @@ use Rattle.std.proofs.Common.{◌≡◌, drop}
 use Rattle.std.specs.List.{list_any}
 use Rattle.prost_reflect.specs.Edits.{is_message}
 use Rattle.prost_reflect_dynamic.specs.View.{value_of}
-use Rattle.prost_reflect.proofs.relay.edit.any_message.Given as goal
+use Rattle.prost_reflect.proofs.relaying.edit.any_message.Given as goal
 
 -- one is a message where one of those that are left is
 abbrev pub invariant-loop-value : goal.invariant-loop-value

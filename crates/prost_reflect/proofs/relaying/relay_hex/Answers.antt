@@ -1,7 +1,7 @@
 use Rattle.std.proofs.lemmas.Result.{err_from_is_err_and}
 use Rattle.prost_reflect_dynamic.specs.Named.{schema_named, type_named}
 use Rattle.prost_reflect.proofs.Passing.{spells_bytes, refuses_hex}
-use Rattle.prost_reflect.proofs.relay.relay_hex.Goals as goal
+use Rattle.prost_reflect.proofs.relaying.relay_hex.Goals as goal
 
 pub returns-in_err-bytes-clause-refused : goal.returns-in_err-bytes-clause-refused
 returns-in_err-bytes-clause-refused c = let q = err_from_is_err_and c.from_residual.result c.from_residual.ensures.1 in

@@ -4,7 +4,7 @@ use Rattle.prost_reflect.specs.Edits.{is_message}
 use Rattle.prost_reflect_dynamic.specs.View.{value_of}
 use Rattle.prost_reflect.proofs.PlainValues.{list_holds, list_ordered, map_holds, map_ordered}
 use Rattle.prost_reflect_dynamic.proofs.Views.{value_of_list, value_of_map}
-use Rattle.prost_reflect.proofs.relay.edit.holds_message.Goals as goal
+use Rattle.prost_reflect.proofs.relaying.edit.holds_message.Goals as goal
 
 pub returns-in-List-clause-holds : goal.returns-in-List-clause-holds
 returns-in-List-clause-holds c = λ f valid.
