@@ -1,5 +1,5 @@
 -- What is edited by an older type, and what newer types read of it.
-use Rattle.std.proofs.Common.{◌≡◌, ◌≤◌, ◌<◌, ◌^◌, ℕ, suc, Bool, true, false, cond, List, [], ◌∷◌, map, length, nat_le, Option, Some, None, option_map, refl, ap, sym, ◌∙◌, subst, true≢false}
+use Rattle.std.proofs.Common.{◌≡◌, ◌≤◌, ◌<◌, ◌^◌, ℕ, suc, Bool, true, false, cond, List, [], ◌∷◌, map, length, nat_le, Option, Some, None, refl, ap, sym, ◌∙◌, subst, true≢false}
 use Rattle.std.specs.List.{list_any}
 use Rattle.std.proofs.lemmas.Bool.{leb-true}
 use Rattle.prost_reflect_wire.specs.Varint.{AreBytes, ◌>>=◌}
@@ -14,30 +14,13 @@ use Rattle.prost_reflect_wire.specs.declared.error.EncodeError.TheVariants as en
 use Rattle.prost_reflect_laws.proofs.PassageLaws as laws
 use Rattle.prost_reflect_dynamic.specs.declared.descriptor.message.MessageDescriptor.{MessageDescriptor}
 use Rattle.prost_reflect.specs.declared.relaying.edit.RelayWithError.{RelayWithError}
-use Rattle.prost_reflect.specs.declared.relaying.edit.RelayWithError.TheVariants.{NotFound, InvalidType, HoldsMessage, Encode}
+use Rattle.prost_reflect.specs.declared.relaying.edit.RelayWithError.TheVariants.{InvalidType, HoldsMessage, Encode}
 use Rattle.prost_reflect.specs.Edits.{value_refusal, edit_refusal, IsEdited, RefusesEdit, PassesEdit}
 use Rattle.prost_reflect_dynamic.specs.Named.{schema_named, type_named}
 use Rattle.prost_reflect_dynamic.specs.Paths.{PATH_LIMIT, field_at, IsSetAt}
 use Rattle.prost_reflect.specs.Relaying.{IsReadBy}
 use Rattle.prost_reflect_dynamic.proofs.Paths.{stored_plain, path_to}
 use Rattle.prost_reflect_dynamic.proofs.ReadBack.{named_valid}
-
--- the field that takes the value, or does not
-pub taken_by : (o : Option Field) (v : Value) (takes : Bool) → Some takes ≡ option_map (λ f. value_valid f v) o → (f : Field) × (o ≡ Some f) × (takes ≡ value_valid f v)
-taken_by None v takes e = absurd cc
-taken_by (Some f) v takes e = (f, refl, cc)
-
-pub refused_unfound : (o : Option Field) (v : Value) → None ≡ option_map (λ f. value_valid f v) o → Some NotFound ≡ value_refusal o v
-refused_unfound None v e = refl
-refused_unfound (Some f) v e = absurd cc
-
-pub refused_untaken : (o : Option Field) (v : Value) → Some false ≡ option_map (λ f. value_valid f v) o → Some InvalidType ≡ value_refusal o v
-refused_untaken o v e = let (f, found, not_taken) = taken_by o v false e in
-    sym (ap (λ o. value_refusal o v) found ∙ ap (λ b. cond b (cond (holds_message v) (Some HoldsMessage) None) (Some InvalidType)) (sym not_taken))
-
-pub refused_taken : (o : Option Field) (v : Value) (holds : Bool) → Some true ≡ option_map (λ f. value_valid f v) o → ((f : Field) → value_valid f v ≡ true → holds ≡ holds_message v) → cond holds (Some HoldsMessage) None ≡ value_refusal o v
-refused_taken o v holds e h = let (f, found, taken) = taken_by o v true e in
-    sym (ap (λ o. value_refusal o v) found ∙ ap (λ b. cond b (cond (holds_message v) (Some HoldsMessage) None) (Some InvalidType)) (sym taken) ∙ ap (λ b. cond b (Some HoldsMessage) None) (sym (h f (sym taken))))
 
 -- nothing keeps the value from being set at the path
 pub record MayBeSet (schema : Schema) (T : ℕ) (path : List ℕ) (v : Value) : Type 0 where
