@@ -1,9 +1,9 @@
 -- Worked examples at which the premises of laws hold at once, so that none of them is empty. A law without premises has none here.
-use Rattle.std.specs.Prelude.{◌≡◌, ℕ, ◌<◌, pos, true, List, [], ◌∷◌, Some}
+use Rattle.std.specs.Prelude.{◌≡◌, ℕ, ◌<◌, pos, true, [], ◌∷◌, Some}
 use Rattle.prost_reflect_wire.specs.Record.{Record, NoRecords, Group, record_at, payload_levels}
 use Rattle.prost_reflect_wire.specs.Scalar.{I32}
 use Rattle.prost_reflect_wire.specs.Schema.{Field, field_of, field_valid}
-use Rattle.prost_reflect_wire.specs.Content.{ScalarValue, Content, schema_of, type_of, entries_of, slot_at, value_ordered}
+use Rattle.prost_reflect_wire.specs.Content.{ScalarValue, entries_of, slot_at, value_ordered}
 use Rattle.prost_reflect_wire.specs.Typing.{kept_inside}
 use Rattle.prost_reflect_wire.specs.Edit.{default_value}
 use Rattle.prost_reflect_wire.specs.Front.{RecordFront}

@@ -1,12 +1,11 @@
 -- The numbers of the records of bytes, noted one by one.
-use Rattle.std.proofs.Common.{◌≡◌, ℕ, ◌+◌, ◌<◌, ◌≤◌, max, Bool, true, List, [], ◌∷◌, ◌++◌, length, refl, ap, sym, subst, ◌∙◌, arith, append-nil}
-use Rattle.std.specs.Prelude.{◌&&◌}
+use Rattle.std.proofs.Common.{◌≡◌, ℕ, ◌<◌, ◌≤◌, max, Bool, true, List, [], ◌∷◌, length, refl, ap, sym, subst, ◌∙◌, arith}
 use Rattle.std.specs.List.{list_all}
 use Rattle.std.specs.BTreeSet.{BTreeSet}
 use Rattle.std.proofs.lemmas.Bool.{and_from}
 use Rattle.prost_reflect_wire.specs.declared.key.WireType.{WireType}
-use Rattle.prost_reflect_wire.specs.Record.{Payload, Record, record_at, Records, Spells, body_of, raw_levels, payload_wire, payload_levels}
-use Rattle.prost_reflect_wire.specs.Front.{KeyFront, ValueFront, RecordsFront, FieldFront}
+use Rattle.prost_reflect_wire.specs.Record.{Payload, Record, record_at, Spells, body_of, raw_levels, payload_wire, payload_levels}
+use Rattle.prost_reflect_wire.specs.Front.{KeyFront, ValueFront, FieldFront}
 use Rattle.prost_reflect_wire.specs.Schema.{Schema}
 use Rattle.prost_reflect_wire.specs.Grammar.{LEVEL_LIMIT, allows}
 use Rattle.prost_reflect_wire.proofs.Bodies.{items_body}

@@ -1,5 +1,5 @@
 -- The types of the messages inside a message: what the tables say of them, and what follows for its content.
-use Rattle.std.proofs.Common.{◌≡◌, ℕ, Bool, true, false, ◌&&◌, nat_eq, List, [], ◌∷◌, ◌⊎◌, inl, inr, Option, Some, None, refl, sym, ap, ap₂, ◌∙◌, subst, true≢false}
+use Rattle.std.proofs.Common.{◌≡◌, ℕ, Bool, true, false, ◌&&◌, nat_eq, List, [], ◌∷◌, ◌⊎◌, inl, inr, Option, Some, None, refl, sym, ap, ◌∙◌, subst, true≢false}
 use Rattle.std.proofs.lemmas.Bool.{and_parts}
 use Rattle.std.specs.BTreeMap.{BTreeMap}
 use Rattle.std.specs.Option.{option_and_then}
@@ -16,7 +16,7 @@ use Rattle.prost_reflect_tables.specs.declared.tables.TableKind.TheVariants as k
 use Rattle.prost_reflect_tables.specs.Equality.{rows_eq, rows_decide}
 use Rattle.prost_reflect_tables.specs.Linked.{is_linked}
 use Rattle.prost_reflect_tables.specs.Rows.{FieldRow, EnumRow, MessageRow, TableRows}
-use Rattle.prost_reflect_tables.specs.Shown.{map_entry, schema_kind, value_type_of, form_of, schema_field, schema_from}
+use Rattle.prost_reflect_tables.specs.Shown.{schema_kind, value_type_of, form_of, schema_field, schema_from}
 use Rattle.prost_reflect_pool.specs.MapParts.{map_parts}
 use Rattle.prost_reflect_pool.specs.PoolEquality.{contents_eq}
 use Rattle.prost_reflect_pool.specs.SharedPools.{pool_rows, pool_contents}

@@ -1,7 +1,6 @@
 -- A message is encodable where the values of its slots fit, and what is stored at every depth is in order.
-use Rattle.std.proofs.Common.{◌≡◌, ℕ, ◌≤◌, Bool, true, false, cond, ◌&&◌, List, [], ◌∷◌, map, length, drop, Option, Some, None, refl, sym, ap, ◌∙◌, subst, unwrap_or, true≢false, zero, suc, arith}
+use Rattle.std.proofs.Common.{◌≡◌, ℕ, Bool, true, false, cond, ◌&&◌, List, [], ◌∷◌, map, Option, Some, None, refl, sym, ap, ◌∙◌, subst, true≢false}
 use Rattle.std.proofs.lemmas.Bool.{and_parts, and_from}
-use Rattle.std.specs.List.{list_all}
 use Rattle.std.specs.List.Sorted.{IsStrictlySortedBy}
 use Rattle.std.specs.Map.{keys_of}
 use Rattle.std.specs.Option.{option_map, option_and_then, is_some}
@@ -9,7 +8,7 @@ use Rattle.std.specs.Ordering.{nat_cmp, is_eq}
 use Rattle.prost_reflect_wire.specs.Record.{Record}
 use Rattle.prost_reflect_wire.specs.Unknown.{records_of}
 use Rattle.prost_reflect_wire.specs.Scalar.{is_less}
-use Rattle.prost_reflect_wire.specs.Schema.{Field, field_of, passes, is_sibling}
+use Rattle.prost_reflect_wire.specs.Schema.{Field, passes, is_sibling}
 use Rattle.prost_reflect_wire.specs.Content as contents
 use Rattle.prost_reflect_wire.specs.Content.{Entries, Slot, ListValue, MapValue, slot_at, entries_of, then_unknowns, ordered, value_ordered, values_ordered, pairs_ordered, values_from}
 use Rattle.prost_reflect_wire.specs.Typing as typing

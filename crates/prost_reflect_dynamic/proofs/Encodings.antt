@@ -1,7 +1,7 @@
 -- The entries of a message that is encodable can be written, and their bytes are the encoding of its content.
 use Rattle.prost_reflect_wire.specs.Sinks.{Adds}
 use Rattle.prost_reflect_wire.proofs.SinkSteps.{adds_in_turn, adds_same}
-use Rattle.std.proofs.Common.{◌≡◌, ℕ, true, cond, List, [], ◌∷◌, ◌++◌, map, nat_eq, Option, Some, None, refl, sym, ap, ap₂, ◌∙◌, subst, zero, suc, ◌-◌, ◌≤◌, ◌<◌, length, drop, get_or, arith, append_assoc}
+use Rattle.std.proofs.Common.{◌≡◌, ℕ, true, cond, List, [], ◌∷◌, ◌++◌, map, nat_eq, Option, Some, None, refl, sym, ap, ap₂, ◌∙◌, subst, append_assoc}
 use Rattle.std.proofs.lemmas.Bool.{eqb-true, and_parts}
 use Rattle.std.specs.List.{list_all}
 use Rattle.std.specs.List.Sorted.{IsStrictlySortedBy}

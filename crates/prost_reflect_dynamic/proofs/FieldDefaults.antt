@@ -2,22 +2,20 @@
 use Rattle.std.proofs.Common.{◌≡◌, ℕ, ◌<◌, Bool, true, false, cond, IsTrue, Option, Some, None, length, refl, ap, sym, ◌∙◌, subst, true≢false}
 use Rattle.std.proofs.lemmas.Bool.{ltb-true, and_parts}
 use Rattle.std.proofs.lemmas.List.{length-map}
-use Rattle.std.specs.Prelude.{◌↔◌, IsSome, slice_get}
+use Rattle.std.specs.Prelude.{◌↔◌, IsSome}
 use Rattle.std.specs.declared.alloc.Global.{Global}
 use Rattle.std.specs.declared.rc.Rc.{Rc}
 use Rattle.prost_reflect_wire.specs.Scalar.{Scalar}
-use Rattle.prost_reflect_wire.specs.Schema.{Kind, ScalarOf, MessageOf, GroupOf, ValueType, FieldForm, Singular, Repeated, MapFrom, Field, Schema, known, kind_valid, field_valid, default_valid, is_map, is_singular}
+use Rattle.prost_reflect_wire.specs.Schema.{ValueType, FieldForm, Singular, Repeated, MapFrom, Schema, kind_valid, field_valid, is_map, is_singular}
 use Rattle.prost_reflect_wire.specs.Content.{Value, ScalarValue, MessageValue, ListValue, MapValue, NoValues, Item, NoPairs, Pair, empty}
 use Rattle.prost_reflect_wire.specs.Edit.{default_of, default_value}
-use Rattle.prost_reflect_wire.specs.Typing.{is_empty_value, value_valid}
+use Rattle.prost_reflect_wire.specs.Typing.{is_empty_value}
 use Rattle.prost_reflect_laws.proofs.Checked.{checked_field}
 use Rattle.prost_reflect_tables.specs.declared.tables.Cardinality.{Cardinality}
 use Rattle.prost_reflect_tables.specs.declared.tables.Cardinality.TheVariants.{Optional, Required, Repeated as RepeatedLabel}
 use Rattle.prost_reflect_tables.specs.declared.tables.TableKind.{TableKind}
 use Rattle.prost_reflect_tables.specs.declared.tables.TableKind.TheVariants as kinds
-use Rattle.prost_reflect_tables.specs.Linked.{is_linked}
 use Rattle.prost_reflect_tables.specs.Linking.{is_repeated}
-use Rattle.prost_reflect_tables.specs.Places.{fields_at}
 use Rattle.prost_reflect_tables.specs.Rows.{FieldRow, MessageRow, TableRows}
 use Rattle.prost_reflect_tables.specs.Shown.{schema_from, schema_field, schema_kind, own_type, form_of, map_entry}
 use Rattle.prost_reflect_pool.specs.SharedPools.{pool_rows}

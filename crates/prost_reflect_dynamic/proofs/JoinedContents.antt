@@ -1,6 +1,5 @@
 -- Contents that have at some numbers what another content has: records of these numbers make of both the same.
 use Rattle.std.proofs.Common.{◌≡◌, ℕ, zero, suc, Bool, true, false, cond, List, [], ◌∷◌, ◌++◌, map, nat_eq, Option, Some, None, refl, ap, sym, subst, ◌∙◌, arith, append-nil, true≢false}
-use Rattle.std.specs.Prelude.{◌&&◌}
 use Rattle.std.specs.List.{list_all}
 use Rattle.std.proofs.lemmas.Bool.{eqb-true, and_parts}
 use Rattle.prost_reflect_wire.specs.Varint.{◌>>=◌}
@@ -9,7 +8,7 @@ use Rattle.prost_reflect_wire.specs.Schema.{Field, Schema, known, field_of, is_s
 use Rattle.prost_reflect_wire.specs.Content.{Content, ContentOf, Entries, NoEntries, Value, Slot, value_at, slot_at, changed, insert_number, numbers_in, entries_of, schema_of, type_of, ordered, entries_ordered}
 use Rattle.prost_reflect_wire.specs.Grammar.{value_records, value_payloads, unknown_payloads}
 use Rattle.prost_reflect_wire.specs.Meaning.{MeansInside, JoinsInside, value_joined, value_steps, slot_step, steps_by, empty_inside, joins_nothing, meaning, steps}
-use Rattle.prost_reflect_wire.specs.Typing.{EntryTest, entries_pass, value_passes, fit_test, alone_test, value_valid, kept, kept_entries, kept_value, kept_inside, WellStored, Typed, EntriesTyped}
+use Rattle.prost_reflect_wire.specs.Typing.{value_passes, fit_test, alone_test, value_valid, kept, kept_entries, kept_value, kept_inside, WellStored}
 use Rattle.prost_reflect_wire.specs.Edit.{cleared}
 use Rattle.prost_reflect_wire.specs.Decoding.{Progress}
 use Rattle.prost_reflect_wire.proofs.Numbers.{empty_slot, insert_ascending, entries_ascending, slots_same}

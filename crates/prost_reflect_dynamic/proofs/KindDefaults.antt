@@ -1,6 +1,6 @@
 -- The default of a kind is one of its values.
-use Rattle.std.proofs.Common.{◌≡◌, ℤ, pos, Bool, true, false, cond, ◌||◌, List, [], ◌∷◌, length, map, nat_lt, IsTrue, Option, Some, None, refl, ap, sym, ◌∙◌, subst, true≢false}
-use Rattle.std.specs.Prelude.{IsSome, IsSomeAnd, slice_get}
+use Rattle.std.proofs.Common.{◌≡◌, ℤ, Bool, true, false, cond, ◌||◌, List, [], ◌∷◌, length, map, nat_lt, IsTrue, Option, Some, None, refl, ap, sym, ◌∙◌, subst, true≢false}
+use Rattle.std.specs.Prelude.{IsSome, IsSomeAnd}
 use Rattle.std.specs.Str.{is_utf8, chars}
 use Rattle.std.proofs.lemmas.Bool.{and_from}
 use Rattle.std.proofs.lemmas.Bool.Decides.{Decides-int_eq}
@@ -9,11 +9,11 @@ use Rattle.std.specs.List.{list_any}
 use Rattle.prost_reflect_wire.specs.Scalar as scalars
 use Rattle.prost_reflect_wire.specs.Scalar.{Scalar, ScalarKind, Closed, Open, kind_default, in_i32, is_declared, scalar_valid}
 use Rattle.prost_reflect_wire.specs.Schema.{ScalarOf}
-use Rattle.prost_reflect_wire.specs.Content.{Value, ScalarValue, MessageValue, ListValue, MapValue}
+use Rattle.prost_reflect_wire.specs.Content.{ScalarValue}
 use Rattle.prost_reflect_wire.specs.Typing.{kind_takes}
 use Rattle.prost_reflect_tables.specs.Rows.{EnumRow, EnumValueRow}
 use Rattle.prost_reflect_tables.specs.Shown.{enum_kind, first_number}
-use Rattle.prost_reflect_pool.specs.Enums.{first_of, numbers_of, values_at, values_or_none}
+use Rattle.prost_reflect_pool.specs.Enums.{first_of, numbers_of, values_or_none}
 use Rattle.prost_reflect_pool.specs.SharedPools.{pool_rows}
 use Rattle.prost_reflect_dynamic.specs.NamedDefaults.{default_named}
 use Rattle.prost_reflect_dynamic.specs.NamedEnums.{enum_row_at}

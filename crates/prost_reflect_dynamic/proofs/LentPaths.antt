@@ -1,5 +1,5 @@
 -- A value set at a path through the message that a lent value holds.
-use Rattle.std.proofs.Common.{◌≡◌, ℕ, true, false, List, [], ◌∷◌, length, nat_eq, Option, Some, None, refl, ap, sym, ◌∙◌, subst, true≢false}
+use Rattle.std.proofs.Common.{◌≡◌, ℕ, true, false, List, [], ◌∷◌, length, nat_eq, Option, Some, None, ap, sym, ◌∙◌, subst, true≢false}
 use Rattle.std.specs.Prelude.{unwrap_or, IfSome, is_some}
 use Rattle.prost_reflect_wire.specs.Schema.{Singular, Field, known, field_of, schema_valid}
 use Rattle.prost_reflect_wire.specs.Content as contents

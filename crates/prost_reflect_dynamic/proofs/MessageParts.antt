@@ -1,13 +1,12 @@
 -- Parts of messages, copied and put back.
-use Rattle.std.proofs.Common.{◌≡◌, ℕ, Bool, true, false, cond, not, List, [], ◌∷◌, ◌++◌, map, Option, Some, None, refl, ap, ap₂, sym, subst, ◌∙◌, unwrap_or}
+use Rattle.std.proofs.Common.{◌≡◌, ℕ, Bool, true, false, cond, List, [], ◌∷◌, ◌++◌, refl, ap, ap₂, sym, subst, ◌∙◌, unwrap_or}
 use Rattle.std.specs.Option.{option_map}
 use Rattle.std.specs.Ordering.{match_ordering, nat_cmp}
 use Rattle.std.specs.declared.cmp.Ordering.{Ordering}
 use Rattle.std.specs.declared.cmp.Ordering.TheVariants.{Less, Equal, Greater}
 use Rattle.std.specs.BTreeSet.{BTreeSet}
-use Rattle.prost_reflect_wire.specs.Record.{Record}
-use Rattle.prost_reflect_wire.specs.Schema.{Field, known, field_of, is_sibling, passes, numbers_differ}
-use Rattle.prost_reflect_wire.specs.Content.{Content, ContentOf, Entries, Slot, schema_of, type_of, slot_at, entries_of, ordered, entries_ordered}
+use Rattle.prost_reflect_wire.specs.Schema.{Field, known, is_sibling, passes, numbers_differ}
+use Rattle.prost_reflect_wire.specs.Content.{Content, ContentOf, Slot, schema_of, type_of, slot_at, entries_of, ordered, entries_ordered}
 use Rattle.prost_reflect_wire.specs.Grammar.{LEVEL_LIMIT}
 use Rattle.prost_reflect_wire.specs.Typing.{WellStored}
 use Rattle.prost_reflect_wire.specs.Fault.{StandsInMessage}

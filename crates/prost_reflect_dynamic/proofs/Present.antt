@@ -1,5 +1,5 @@
 -- What is present in a message's content is what is present in its entries, one after another.
-use Rattle.std.proofs.Common.{◌≡◌, ℕ, zero, suc, Bool, true, false, cond, ◌||◌, ◌++◌, ◌+◌, ◌≤◌, ◌<◌, List, [], ◌∷◌, length, nat_lt, Option, Some, unwrap_or, refl, ap, ap₂, sym, ◌∙◌, append-nil, drop, drop_of_length-le, arith}
+use Rattle.std.proofs.Common.{◌≡◌, ℕ, zero, suc, Bool, true, false, cond, ◌||◌, ◌++◌, ◌+◌, ◌≤◌, ◌<◌, List, [], ◌∷◌, length, nat_lt, Option, Some, unwrap_or, refl, ap, ap₂, sym, ◌∙◌, append-nil, arith}
 use Rattle.std.specs.Prelude.{flat_map}
 use Rattle.std.proofs.lemmas.Bool.{ltb-true, ltb-false, ne_eqb}
 use Rattle.std.specs.Option.{option_map, option_and_then}

@@ -1,5 +1,5 @@
 -- What values and messages store, by variant, and the content that follows from it.
-use Rattle.std.proofs.Common.{◌≡◌, ℕ, Bool, true, false, not, ◌&&◌, nat_eq, List, [], ◌∷◌, map, refl, ap, ap₂, sym, ◌∙◌, string_bytes, ◌+◌, ◌<◌, length, get_or, drop, add-one, drop-cons, true≢false, arith}
+use Rattle.std.proofs.Common.{◌≡◌, ℕ, Bool, true, false, not, ◌&&◌, nat_eq, List, [], ◌∷◌, map, refl, ap, ap₂, sym, ◌∙◌, string_bytes, true≢false}
 use Rattle.std.proofs.lemmas.Bool.{ne_eqb}
 use Rattle.std.specs.declared.alloc.Global.{Global}
 use Rattle.std.specs.Prelude.{◌↔◌, IsTrue, Vec, String as Text}

@@ -2,7 +2,6 @@ use Rattle.std.proofs.Common.{sym, subst}
 use Rattle.std.proofs.lemmas.Result.{err_from_is_err_and}
 use Rattle.prost_reflect_wire.specs.Content.{schema_of, type_of}
 use Rattle.prost_reflect_wire.specs.Grammar.{LEVEL_LIMIT}
-use Rattle.prost_reflect_wire.specs.Fault.{StandsInMessage}
 use Rattle.prost_reflect_wire.proofs.ByteLists.{bytes_below}
 use Rattle.prost_reflect_laws.proofs.FaultLaws.{accepted_only_memory}
 use Rattle.prost_reflect_pool.specs.MessageTypes.{SameMessage}

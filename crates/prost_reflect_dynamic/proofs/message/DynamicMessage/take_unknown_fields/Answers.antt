@@ -1,7 +1,5 @@
-use Rattle.std.proofs.Common.{◌≡◌, ◌++◌, ap, ap₂, flat_map, map, sym, ◌∙◌}
-use Rattle.std.proofs.lemmas.Result.{on_ok_weaker}
+use Rattle.std.proofs.Common.{◌++◌, ap, ap₂, flat_map, map, ◌∙◌}
 use Rattle.prost_reflect_wire.specs.Unknown.{fields_of, record_of}
-use Rattle.prost_reflect_dynamic.specs.UnknownLists.{all_unknown, taken_left}
 use Rattle.prost_reflect_dynamic.specs.View.{stored_in}
 use Rattle.prost_reflect_dynamic.proofs.UnknownLists.{all_taken, message_left, unknown_listed}
 use Rattle.prost_reflect_dynamic.proofs.message.DynamicMessage.take_unknown_fields.Goals as goal

@@ -3,7 +3,6 @@ use Rattle.std.proofs.lemmas.List.{drop_all}
 use Rattle.prost_reflect_wire.specs.Typing.{fit_test, value_passes}
 use Rattle.prost_reflect_fields.specs.Known.{known_of}
 use Rattle.prost_reflect_fields.specs.ItemsLeft.{items_left}
-use Rattle.prost_reflect_fields.specs.declared.slot.FieldSlot.TheVariants as slots
 use Rattle.prost_reflect_dynamic.specs.Encodables.{fits_at, slot_passes, slots_pass, items_pass, entries_pass, value_arranged}
 use Rattle.prost_reflect_dynamic.specs.View.{message_type_of, value_of}
 use Rattle.prost_reflect_dynamic.proofs.Copied.{one_given}

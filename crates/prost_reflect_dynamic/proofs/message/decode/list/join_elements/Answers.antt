@@ -1,4 +1,4 @@
-use Rattle.std.proofs.Common.{sym, ◌∙◌}
+use Rattle.std.proofs.Common.{sym}
 use Rattle.std.proofs.lemmas.Result.{IfOk-weaker}
 use Rattle.prost_reflect_dynamic.proofs.ListMerging.{list_joined}
 use Rattle.prost_reflect_dynamic.proofs.Views.{list_viewed}
