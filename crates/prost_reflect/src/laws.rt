@@ -12,8 +12,6 @@ ghost use Rattle.prost_reflect_dynamic.specs.Keys.{key_writes};
 ghost use Rattle.prost_reflect_dynamic.specs.Variants.{key_in};
 ghost use Rattle.prost_reflect_dynamic.specs.declared.value.MapKey.{MapKey};
 
-mod descriptors;
-
 use prost_reflect_dynamic::MapKey;
 use std::hash::Hash;
 

@@ -11,6 +11,7 @@ mod files;
 pub(crate) mod forms;
 mod iter;
 mod kind;
+mod laws;
 mod message;
 mod method;
 mod oneof;

@@ -12,7 +12,7 @@ use Rattle.prost_reflect_dynamic.specs.declared.descriptor.pool.DescriptorPool.{
 use Rattle.prost_reflect_dynamic.specs.contracts.descriptor.message.MessageDescriptorPartialEq.TheImpl as message_code
 use Rattle.prost_reflect_dynamic.specs.contracts.descriptor.enums.EnumDescriptorPartialEq.TheImpl as enum_code
 use Rattle.prost_reflect_dynamic.specs.contracts.descriptor.service.ServiceDescriptorPartialEq.TheImpl as service_code
-use Rattle.prost_reflect.proofs.laws.descriptors.descriptor_equality.Goals as goal
+use Rattle.prost_reflect_dynamic.proofs.descriptor.laws.descriptor_equality.Goals as goal
 
 -- Of two pools and places in them.
 in_pools : (p q : DescriptorPool) (i j : ℕ) → Decides (contents_eq (pool_contents p.inner) (pool_contents q.inner) && nat_eq i j) ((pool_contents p.inner ≡ pool_contents q.inner) × (i ≡ j))

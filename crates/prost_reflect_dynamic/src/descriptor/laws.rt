@@ -15,7 +15,7 @@ ghost use Rattle.prost_reflect_dynamic.specs.declared.descriptor.enum_value.Enum
 ghost use Rattle.prost_reflect_dynamic.specs.declared.descriptor.service.ServiceDescriptor.{ServiceDescriptor};
 ghost use Rattle.prost_reflect_dynamic.specs.declared.descriptor.method.MethodDescriptor.{MethodDescriptor};
 
-use prost_reflect_dynamic::{
+use crate::descriptor::{
     DescriptorPool, EnumDescriptor, EnumValueDescriptor, ExtensionDescriptor, FieldDescriptor,
     FileDescriptor, MessageDescriptor, MethodDescriptor, OneofDescriptor, ServiceDescriptor,
 };
