@@ -33,6 +33,7 @@ pub fn takes_at_path(descriptor: &MessageDescriptor, path: &[u32], value: &Value
 /// # Errors
 ///
 /// `AllocError` if a growth was refused, which leaves what was made.
+#[cycle(path)]
 pub fn set_at_path(
     message: &mut DynamicMessage,
     alloc: Global,
@@ -43,37 +44,29 @@ pub fn set_at_path(
     requires path { PathTo (schema_of (content_of message.old)) (type_of (content_of message.old)) path.now (value_of value) }
     ensures { IfOk result (λ _. IsSetAt path.now (value_of value) (content_of message.old) (content_of message.new)) }
 {
-    message.set_at(alloc, path, value)
+    let Some((number, rest)) = path.split_first() else {
+        unreachable!()
+    };
+    if rest.is_empty() {
+        return message.set_value(*number, value);
+    }
+    let lent = message.value_or_default_mut(alloc, *number)?;
+    set_in_held(lent, alloc, rest, value)
 }
 
-impl DynamicMessage {
-    /// Sets the value at the path. A message that is not there is made on the way, and at each number the other members of
-    /// its oneof go. A refused growth leaves what was made.
-    #[cycle(path)]
-    fn set_at(&mut self, alloc: Global, path: &[u32], value: Value) -> Result<(), AllocError>
-        requires sound { WellStored (content_of self.old) }
-        requires path { PathTo (schema_of (content_of self.old)) (type_of (content_of self.old)) path.now (value_of value) }
-        ensures { IfOk result (λ _. IsSetAt path.now (value_of value) (content_of self.old) (content_of self.new)) }
-    {
-        let Some((number, rest)) = path.split_first() else {
-            unreachable!()
-        };
-        if rest.is_empty() {
-            return self.set_value(*number, value);
-        }
-        let lent = self.value_or_default_mut(alloc, *number)?;
-        DynamicMessage::set_in(lent, alloc, rest, value)
-    }
-
-    /// Sets the value at the path in the message that a value holds.
-    #[cycle(path)]
-    fn set_in(lent: &mut Value, alloc: Global, path: &[u32], value: Value) -> Result<(), AllocError>
-        requires { HeldPath path.now (value_of value) (message_in (out-Value lent.old)) }
-        ensures { IfOk result (λ _. SetInHeld path.now (value_of value) (message_in (out-Value lent.old)) (value_of lent.new)) }
-    {
-        match lent.as_message_mut() {
-            Some(message) => message.set_at(alloc, path, value),
-            None => unreachable!(),
-        }
+/// Sets the value at the path in the message that a value holds.
+#[cycle(path)]
+fn set_in_held(
+    lent: &mut Value,
+    alloc: Global,
+    path: &[u32],
+    value: Value,
+) -> Result<(), AllocError>
+    requires { HeldPath path.now (value_of value) (message_in (out-Value lent.old)) }
+    ensures { IfOk result (λ _. SetInHeld path.now (value_of value) (message_in (out-Value lent.old)) (value_of lent.new)) }
+{
+    match lent.as_message_mut() {
+        Some(message) => set_at_path(message, alloc, path, value),
+        None => unreachable!(),
     }
 }

@@ -1,0 +1,216 @@
+//! Many calls on a message with oneofs, beside a table of what it then has.
+
+use crate::access::is_shown;
+use prost_reflect::{DescriptorPool, DynamicMessage, FieldDescriptor, UnknownFieldValue, Value};
+use prost_reflect_samples::calls::{Call, calls};
+use std::alloc::{AllocError, Global};
+use std::test::Fail;
+
+/// `spread.proto`, of proto3: `f30` to `f360` are fields of int32, whose numbers are 30 times those from 1 to 12. The fields 60,
+/// 120, 180, 240 and 300 are of one oneof, and 90, 150 and 210 of another.
+static SPREAD: &[u8] =
+    b"\x0a\xf1\x01\x0a\x0cspread.proto\"\xd8\x01\x0a\x06Spread\x12\x0b\x0a\x03f30\x18\x1e \x01(\
+    \x05\x12\x0d\x0a\x03f60\x18< \x01(\x05H\x00\x12\x0d\x0a\x03f90\x18Z \x01(\x05H\x01\x12\x0e\x0a\
+    \x04f120\x18x \x01(\x05H\x00\x12\x0f\x0a\x04f150\x18\x96\x01 \x01(\x05H\x01\x12\x0f\x0a\x04f18\
+    0\x18\xb4\x01 \x01(\x05H\x00\x12\x0f\x0a\x04f210\x18\xd2\x01 \x01(\x05H\x01\x12\x0f\x0a\x04f24\
+    0\x18\xf0\x01 \x01(\x05H\x00\x12\x0d\x0a\x04f270\x18\x8e\x02 \x01(\x05\x12\x0f\x0a\x04f300\x18\
+    \xac\x02 \x01(\x05H\x00\x12\x0d\x0a\x04f330\x18\xca\x02 \x01(\x05\x12\x0d\x0a\x04f360\x18\xe8\
+    \x02 \x01(\x05B\x07\x0a\x05firstB\x08\x0a\x06secondb\x06proto3";
+
+/// The field for a number from 1 to 12.
+fn field_for(message: &DynamicMessage, number: u32) -> Result<FieldDescriptor, Fail> {
+    let found = message.descriptor()?.get_field(number.wrapping_mul(30))?;
+    Ok(found.ok_or("no such field")?)
+}
+
+/// A value from 0 to 4.
+fn small(amount: u32) -> i32 {
+    (amount % 5) as i32
+}
+
+/// Makes a call on the message, and gives what it took or wrote.
+fn apply(alloc: Global, message: &mut DynamicMessage, call: Call) -> Result<Option<i32>, Fail> {
+    let field = field_for(message, call.number())?;
+    if !message.owns_field(&field) {
+        return Err(Fail::from("a field of another type"));
+    }
+    match call {
+        Call::Set(_, amount) => {
+            let value = Value::I32(small(amount));
+            if !value.is_valid_for_field(&field) {
+                return Err(Fail::from("a field of another kind"));
+            }
+            message.set_field(&field, value)?;
+            Ok(None)
+        }
+        Call::Write(_, amount) => {
+            let lent = message.get_field_mut(alloc, &field)?;
+            let number = lent.as_i32().ok_or("no int32")?;
+            let written = number.wrapping_add(small(amount));
+            *lent = Value::I32(written);
+            Ok(Some(written))
+        }
+        Call::Clear(_) => {
+            message.clear_field(&field);
+            Ok(None)
+        }
+        Call::Take(_) => match message.take_field(&field) {
+            Some(value) => Ok(value.as_i32()),
+            None => Ok(None),
+        },
+    }
+}
+
+/// What a table says that is stored for each number.
+#[derive(Drop)]
+struct Table {
+    values: [Option<i32>; 13],
+}
+
+impl Table {
+    /// The oneof of a number, and 0 for none.
+    fn oneof(number: u32) -> u32 {
+        match number {
+            2 | 4 | 6 | 8 | 10 => 1,
+            3 | 5 | 7 => 2,
+            _ => 0,
+        }
+    }
+
+    /// The value of a number: a stored 0 is none but in a oneof.
+    fn had(&self, number: u32) -> Option<i32> {
+        let stored = self.values[number as usize % 13];
+        if stored == Some(0) && Table::oneof(number) == 0 {
+            None
+        } else {
+            stored
+        }
+    }
+
+    fn set(&mut self, number: u32, value: i32) {
+        let oneof = Table::oneof(number);
+        for other in 1..13_u32 {
+            if oneof > 0 && Table::oneof(other) == oneof {
+                self.values[other as usize % 13] = None;
+            }
+        }
+        self.values[number as usize % 13] = Some(value);
+    }
+
+    /// Makes a call, and gives what it takes or writes.
+    fn apply(&mut self, call: Call) -> Option<i32> {
+        let number = call.number();
+        let place = number as usize % 13;
+        let had = self.had(number);
+        match call {
+            Call::Set(_, amount) => {
+                self.set(number, small(amount));
+                None
+            }
+            Call::Write(_, amount) => {
+                let written = had.unwrap_or(0).wrapping_add(small(amount));
+                self.set(number, written);
+                Some(written)
+            }
+            Call::Clear(_) => {
+                self.values[place] = None;
+                None
+            }
+            Call::Take(_) => {
+                self.values[place] = None;
+                had
+            }
+        }
+    }
+}
+
+/// Whether the message has at each field what the table says, and lends what is stored.
+fn agrees(alloc: Global, message: &DynamicMessage, table: &Table) -> Result<bool, Fail> {
+    for number in 1..13_u32 {
+        let field = field_for(message, number)?;
+        if !message.owns_field(&field) {
+            return Err(Fail::from("a field of another type"));
+        }
+        let stored = table.values[number as usize % 13];
+        let shown = message.get_field(alloc, &field)?;
+        if !is_shown(&shown, stored.unwrap_or(0), stored.is_some()) {
+            return Ok(false);
+        }
+        if message.has_field(&field) != table.had(number).is_some() {
+            return Ok(false);
+        }
+    }
+    Ok(true)
+}
+
+/// How many calls agree with a table, up to the first that does not.
+fn agreeing_calls(alloc: Global, message: &mut DynamicMessage) -> Result<usize, Fail> {
+    let mut table = Table { values: [None; 13] };
+    let calls = calls(alloc)?;
+    for (step, call) in calls.iter().enumerate() {
+        if apply(alloc, message, *call)? != table.apply(*call) {
+            return Ok(step);
+        }
+        if !agrees(alloc, message, &table)? {
+            return Ok(step);
+        }
+    }
+    Ok(calls.len())
+}
+
+/// How many of these fields the message has.
+fn present(message: &DynamicMessage, numbers: &[u32]) -> u32 {
+    let mut count: u32 = 0;
+    for number in numbers {
+        if message.has_field_by_number(*number) {
+            count = count.wrapping_add(1);
+        }
+    }
+    count
+}
+
+/// So many unknown records, which are varints of the odd numbers from 17 on: 0, 1 and so on.
+fn unknown_records(alloc: Global, count: u32) -> Result<Vec<u8>, AllocError> {
+    let mut bytes = Vec::new(alloc);
+    for step in 0..count {
+        let key = (step % 200 * 2 + 17) * 8;
+        let record = [
+            (key % 128 + 128) as u8,
+            (key / 128) as u8,
+            (step % 128) as u8,
+        ];
+        bytes.extend_from_slice(&record)?;
+    }
+    Ok(bytes)
+}
+
+/// How many unknown fields the message has, if they are those of such records.
+fn unknown_count(message: &DynamicMessage) -> Result<u32, Fail> {
+    let mut count: u32 = 0;
+    for field in message.unknown_fields() {
+        let number = count.wrapping_mul(2).wrapping_add(17);
+        let value = UnknownFieldValue::Varint((count % 128) as u64);
+        if field.number() != number || *field.value() != value {
+            return Err(Fail::from("another unknown field"));
+        }
+        count = count.wrapping_add(1);
+    }
+    Ok(count)
+}
+
+/// What a message stores stands in one list, and in runs where it is much. 200 unknown fields stand between the others.
+#[test]
+fn calls_on_a_message_agree_with_a_table(rt: HostRuntime) -> Result<(), Fail> {
+    let alloc = rt.alloc();
+    for count in [0, 200] {
+        let found = DescriptorPool::decode(alloc, SPREAD)?.get_message_by_name("Spread")?;
+        let descriptor = found.ok_or("no such message type")?;
+        let records = unknown_records(alloc, count)?;
+        let mut message = DynamicMessage::decode(alloc, descriptor, records.as_slice())?;
+        assert_eq!(rt; agreeing_calls(alloc, &mut message)?, 500);
+        assert!(rt; present(&message, &[60, 120, 180, 240, 300]) <= 1);
+        assert!(rt; present(&message, &[90, 150, 210]) <= 1);
+        assert_eq!(rt; unknown_count(&message)?, count);
+    }
+    Ok(())
+}
