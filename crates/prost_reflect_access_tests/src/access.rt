@@ -1,6 +1,6 @@
 //! Fields and extensions of messages by their descriptors.
 
-use crate::types::{decoded, worked_type};
+use crate::types::{decoded, is_message, worked_type};
 use prost_reflect::{DecodeError, DynamicMessage, FieldDescriptor, Value};
 use std::alloc::Global;
 use std::borrow::Cow;
@@ -67,25 +67,68 @@ fn is_taken(value: &Option<Value>, number: i32, had: bool) -> bool {
     }
 }
 
+/// Whether the message has the field or not, and shows the value.
+fn is_asked(
+    alloc: Global,
+    message: &DynamicMessage,
+    field: &FieldDescriptor,
+    (had, value, is_stored): (bool, i32, bool),
+) -> Result<bool, Fail> {
+    if !message.owns_field(field) {
+        return Err(Fail::from("a field of another type"));
+    }
+    let shown = message.get_field(alloc, field)?;
+    Ok(message.has_field(field) == had && is_shown(&shown, value, is_stored))
+}
+
+/// Whether the value that is taken of the field is the number, or there is none if the message did not have it.
+fn takes(
+    message: &mut DynamicMessage,
+    field: &FieldDescriptor,
+    value: i32,
+    had: bool,
+) -> Result<bool, Fail> {
+    if !message.owns_field(field) {
+        return Err(Fail::from("a field of another type"));
+    }
+    Ok(is_taken(&message.take_field(field), value, had))
+}
+
+/// Sets the field, which takes the number.
+fn set(message: &mut DynamicMessage, field: &FieldDescriptor, value: i32) -> Result<(), Fail> {
+    let value = Value::I32(value);
+    if !message.owns_field(field) {
+        return Err(Fail::from("a field of another type"));
+    }
+    if !value.is_valid_for_field(field) {
+        return Err(Fail::from("a field of another kind"));
+    }
+    message.set_field(field, value)?;
+    Ok(())
+}
+
+fn clear(message: &mut DynamicMessage, field: &FieldDescriptor) -> Result<(), Fail> {
+    if !message.owns_field(field) {
+        return Err(Fail::from("a field of another type"));
+    }
+    message.clear_field(field);
+    Ok(())
+}
+
 #[test]
 fn fields_are_asked_set_and_taken(rt: HostRuntime) -> Result<(), Fail> {
     let alloc = rt.alloc();
-    for (name, digits, number, had, value, left, set, cleared) in &FIELDS {
+    for (name, digits, number, had, value, left, written, cleared) in &FIELDS {
         let found = worked_type(alloc, name)?.get_field(*number)?;
         let field = found.ok_or("no such field")?;
         let mut message = decoded(alloc, name, digits)?;
-        assert!(rt; message.owns_field(&field));
-        assert!(rt; message.has_field(&field) == *had);
-        assert!(rt; is_shown(&message.get_field(alloc, &field)?, *value, digits == set));
-        assert!(rt; is_taken(&message.take_field(&field), *value, *had));
-        assert!(rt; message == decoded(alloc, name, left)?);
-        let value = Value::I32(*value);
-        assert!(rt; value.is_valid_for_field(&field));
-        message.set_field(&field, value)?;
-        assert!(rt; message == decoded(alloc, name, set)?);
-        assert!(rt; message.owns_field(&field));
-        message.clear_field(&field);
-        assert!(rt; message == decoded(alloc, name, cleared)?);
+        assert!(rt; is_asked(alloc, &message, &field, (*had, *value, digits == written))?);
+        assert!(rt; takes(&mut message, &field, *value, *had)?);
+        assert!(rt; is_message(alloc, &message, name, left)?);
+        set(&mut message, &field, *value)?;
+        assert!(rt; is_message(alloc, &message, name, written)?);
+        clear(&mut message, &field)?;
+        assert!(rt; is_message(alloc, &message, name, cleared)?);
     }
     Ok(())
 }
@@ -121,13 +164,13 @@ fn fields_are_asked_set_and_taken_by_number(rt: HostRuntime) -> Result<(), Fail>
             )
         );
         assert!(rt; is_taken(&message.take_field_by_number(*number), *value, *had));
-        assert!(rt; message == decoded(alloc, name, left)?);
+        assert!(rt; is_message(alloc, &message, name, left)?);
         message.try_set_field_by_number(*number, Value::I32(*value))?;
-        assert!(rt; message == decoded(alloc, name, set)?);
+        assert!(rt; is_message(alloc, &message, name, set)?);
         message.clear_field_by_number(*number);
-        assert!(rt; message == decoded(alloc, name, cleared)?);
+        assert!(rt; is_message(alloc, &message, name, cleared)?);
         set_by_number(&mut message, *number, *value)?;
-        assert!(rt; message == decoded(alloc, name, set)?);
+        assert!(rt; is_message(alloc, &message, name, set)?);
     }
     Ok(())
 }
@@ -144,13 +187,13 @@ fn fields_are_asked_set_and_taken_by_name(rt: HostRuntime) -> Result<(), Fail> {
         let is_stored = digits == set;
         assert!(rt; is_found(&message.get_field_by_name(alloc, field)?, *value, is_stored));
         assert!(rt; is_taken(&message.take_field_by_name(field), *value, *had));
-        assert!(rt; message == decoded(alloc, name, left)?);
+        assert!(rt; is_message(alloc, &message, name, left)?);
         message.try_set_field_by_name(field, Value::I32(*value))?;
-        assert!(rt; message == decoded(alloc, name, set)?);
+        assert!(rt; is_message(alloc, &message, name, set)?);
         message.clear_field_by_name(field);
-        assert!(rt; message == decoded(alloc, name, cleared)?);
+        assert!(rt; is_message(alloc, &message, name, cleared)?);
         set_by_name(&mut message, field, *value)?;
-        assert!(rt; message == decoded(alloc, name, set)?);
+        assert!(rt; is_message(alloc, &message, name, set)?);
     }
     Ok(())
 }
@@ -162,12 +205,9 @@ fn a_default_that_is_set_is_not_taken(rt: HostRuntime) -> Result<(), Fail> {
     let descriptor = worked_type(alloc, "package.MyMessage")?;
     let foo = descriptor.get_field(1)?.ok_or("no foo")?;
     let mut message = DynamicMessage::new(alloc, descriptor.clone()?);
-    let value = Value::I32(0);
-    assert!(rt; message.owns_field(&foo));
-    assert!(rt; value.is_valid_for_field(&foo));
-    message.set_field(&foo, value)?;
-    assert!(rt; message == decoded(alloc, "package.MyMessage", "0800")?);
-    assert!(rt; message.take_field(&foo).is_none());
+    set(&mut message, &foo, 0)?;
+    assert!(rt; is_message(alloc, &message, "package.MyMessage", "0800")?);
+    assert!(rt; takes(&mut message, &foo, 0, false)?);
     assert!(rt; message == DynamicMessage::new(alloc, descriptor));
     Ok(())
 }
@@ -183,14 +223,14 @@ fn extensions_are_asked_set_and_taken(rt: HostRuntime) -> Result<(), Fail> {
         assert!(rt; message.has_extension(&extension) == *had);
         assert!(rt; is_shown(&message.get_extension(alloc, &extension)?, *value, *had));
         assert!(rt; is_taken(&message.take_extension(&extension), *value, *had));
-        assert!(rt; message == decoded(alloc, name, left)?);
+        assert!(rt; is_message(alloc, &message, name, left)?);
         let value = Value::I32(*value);
         assert!(rt; value.is_valid_for_extension(&extension));
         message.set_extension(&extension, value)?;
-        assert!(rt; message == decoded(alloc, name, set)?);
+        assert!(rt; is_message(alloc, &message, name, set)?);
         assert!(rt; message.owns_extension(&extension));
         message.clear_extension(&extension);
-        assert!(rt; message == decoded(alloc, name, left)?);
+        assert!(rt; is_message(alloc, &message, name, left)?);
     }
     Ok(())
 }
@@ -204,8 +244,30 @@ fn an_extension_is_lent_for_writing(rt: HostRuntime) -> Result<(), Fail> {
     let mut message = decoded(alloc, "b.X", "")?;
     assert!(rt; message.owns_extension(&extension));
     *message.get_extension_mut(alloc, &extension)? = Value::I32(7);
-    assert!(rt; message == decoded(alloc, "b.X", "a00607")?);
+    assert!(rt; is_message(alloc, &message, "b.X", "a00607")?);
     Ok(())
+}
+
+/// Whether the field is lent for writing as an empty message.
+fn lends_empty(
+    alloc: Global,
+    message: &mut DynamicMessage,
+    field: &FieldDescriptor,
+) -> Result<bool, Fail> {
+    if !message.owns_field(field) {
+        return Err(Fail::from("a field of another type"));
+    }
+    let lent = message.get_field_mut(alloc, field)?;
+    let inner = lent.as_message().ok_or("no message")?;
+    is_message(alloc, inner, "package.MyMessage", "")
+}
+
+/// Whether the message has the field.
+fn has(message: &DynamicMessage, field: &FieldDescriptor) -> Result<bool, Fail> {
+    if !message.owns_field(field) {
+        return Err(Fail::from("a field of another type"));
+    }
+    Ok(message.has_field(field))
 }
 
 /// A member of a oneof that is lent takes the place of the one that was set, and is empty at first.
@@ -216,20 +278,12 @@ fn a_member_that_is_lent_replaces_another(rt: HostRuntime) -> Result<(), Fail> {
     let a = descriptor.get_field(1)?.ok_or("no a")?;
     let b = descriptor.get_field(2)?.ok_or("no b")?;
     let mut message = DynamicMessage::new(alloc, descriptor);
-    let value = Value::I32(5);
-    assert!(rt; message.owns_field(&a));
-    assert!(rt; value.is_valid_for_field(&a));
-    message.set_field(&a, value)?;
-    assert!(rt; message == decoded(alloc, "a.Q", "0805")?);
-    assert!(rt; message.owns_field(&b));
-    let lent = message.get_field_mut(alloc, &b)?;
-    let inner = lent.as_message().ok_or("no message")?;
-    assert!(rt; *inner == decoded(alloc, "package.MyMessage", "")?);
-    assert!(rt; message.owns_field(&a));
-    assert!(rt; !message.has_field(&a));
-    assert!(rt; message.owns_field(&b));
-    assert!(rt; message.has_field(&b));
-    assert!(rt; message == decoded(alloc, "a.Q", "1200")?);
+    set(&mut message, &a, 5)?;
+    assert!(rt; is_message(alloc, &message, "a.Q", "0805")?);
+    assert!(rt; lends_empty(alloc, &mut message, &b)?);
+    assert!(rt; !has(&message, &a)?);
+    assert!(rt; has(&message, &b)?);
+    assert!(rt; is_message(alloc, &message, "a.Q", "1200")?);
     Ok(())
 }
 

@@ -25,3 +25,13 @@ pub(crate) fn decoded(alloc: Global, name: &str, digits: &str) -> Result<Dynamic
     let bytes = hex::decode(alloc, digits)?;
     Ok(DynamicMessage::decode(alloc, worked_type(alloc, name)?, bytes.as_slice())?)
 }
+
+/// Whether the message is the one that the digits mean to the type of a name in `worked`.
+pub(crate) fn is_message(
+    alloc: Global,
+    message: &DynamicMessage,
+    name: &str,
+    digits: &str,
+) -> Result<bool, Fail> {
+    Ok(*message == decoded(alloc, name, digits)?)
+}

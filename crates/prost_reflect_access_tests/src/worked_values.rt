@@ -15,6 +15,7 @@ fn a_list_is_set(rt: HostRuntime) -> Result<(), Fail> {
     assert!(rt; message.owns_field(&field));
     let items = vec![in rt.alloc(); Value::I32(1), Value::I32(-1)]?;
     assert!(rt; message.try_set_field(&field, Value::List(items)).is_ok());
+    assert!(rt; message.is_encodable());
     let bytes = message.encode_to_vec(rt.alloc())?;
     let digits = hex::encode(rt.alloc(), bytes.as_slice())?;
     assert_eq!(rt; digits.as_str(), "0a0b01ffffffffffffffffff01");
