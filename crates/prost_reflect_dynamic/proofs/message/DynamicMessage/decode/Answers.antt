@@ -25,3 +25,10 @@ returns-clause-again c = λ l. decoded_again (schema_named c.args.descriptor) (t
 
 pub returns-clause-typed : goal.returns-clause-typed
 returns-clause-typed c = c.in_ok-merge_records.ensures.typed.typed c.new-message.ensures.typed
+
+pub returns-in_err-merge_records-clause-fault : goal.returns-in_err-merge_records-clause-fault
+returns-in_err-merge_records-clause-fault c = let q = err_from_is_err_and c.from_residual.result c.from_residual.ensures.1 in
+    rw (q.1, q.2) (rw c.new-message.ensures.content at c.in_err-merge_records.ensures.fault)
+
+pub returns-clause-message_type : goal.returns-clause-message_type
+returns-clause-message_type c = rw c.in_ok-merge_records.ensures.message_type c.new-message.ensures.message_type
