@@ -39,3 +39,4 @@ mod Spans
 pub mod Adding
 pub mod Refusing
 pub mod Built
+pub mod Pushing
