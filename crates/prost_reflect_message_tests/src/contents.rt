@@ -1,9 +1,11 @@
 //! What messages have, as texts.
 
 use prost_reflect::{
-    DynamicMessage, MapKey, PresentNumber, UnknownField, UnknownFieldValue, UnknownFields, Value,
+    DynamicMessage, ExtensionDescriptor, MapKey, PresentNumber, UnknownField, UnknownFieldValue,
+    UnknownFields, Value,
 };
 use std::alloc::{AllocError, Global};
+use std::collections::BTreeMap;
 use std::test::Fail;
 
 /// What is present in a message, in ascending order of the numbers, a space behind each: `1=` and the value of a field,
@@ -13,38 +15,78 @@ use std::test::Fail;
 /// their digits.
 pub(crate) fn shown(alloc: Global, message: &DynamicMessage) -> Result<String, Fail> {
     let mut out = String::new(alloc);
+    let numbers = message.present_numbers(alloc)?;
+    write_present(&mut out, message, numbers.as_slice())?;
+    Ok(out)
+}
+
+/// Whether this text is shown of the message.
+pub(crate) fn is_shown(alloc: Global, message: &DynamicMessage, text: &str) -> Result<bool, Fail> {
+    Ok(shown(alloc, message)?.as_str() == text)
+}
+
+/// Writes what the message has at the numbers, which have to be all that are present.
+fn write_present(
+    out: &mut String,
+    message: &DynamicMessage,
+    numbers: &[PresentNumber],
+) -> Result<(), Fail> {
     let mut unknown = message.unknown_fields();
-    for present in message.present_numbers(alloc)?.iter() {
-        match present {
-            PresentNumber::Field(number) => {
-                let value = message.get_field_by_number(alloc, *number)?;
-                let value = value.ok_or("no such field")?;
-                write!(&mut out, "{number}=")?;
-                write_value(&mut out, &value)?;
-            }
-            PresentNumber::Extension(number) => write_extension(&mut out, message, *number)?,
+    for present in numbers {
+        match *present {
+            PresentNumber::Field(number) => write_field(out, message, number)?,
+            PresentNumber::Extension(number) => write_extension(out, message, number)?,
             PresentNumber::Unknown(number, count) => {
-                for _ in 0..*count {
-                    write_next(&mut out, &mut unknown, *number)?;
-                }
+                write_unknowns(out, &mut unknown, number, count)?
             }
         }
     }
     if unknown.next().is_some() {
         return Err(Fail::from("more unknown fields than are present"));
     }
-    Ok(out)
+    Ok(())
+}
+
+fn write_field(out: &mut String, message: &DynamicMessage, number: u32) -> Result<(), Fail> {
+    write!(out, "{number}=")?;
+    match message.get_field_by_number(*out.allocator(), number)? {
+        Some(value) => Ok(write_value(out, &value)?),
+        None => Err(Fail::from("no such field")),
+    }
 }
 
 fn write_extension(out: &mut String, message: &DynamicMessage, number: u32) -> Result<(), Fail> {
-    let found = message.descriptor()?.get_extension(number)?;
-    let extension = found.ok_or("no such extension")?;
-    if !message.owns_extension(&extension) {
+    write!(out, "[{number}]=")?;
+    let descriptor = message.descriptor()?;
+    match descriptor.get_extension(number)? {
+        Some(extension) => write_value_of(out, message, &extension),
+        None => Err(Fail::from("no such extension")),
+    }
+}
+
+/// Writes the value of an extension, which has to be one of the message's type.
+fn write_value_of(
+    out: &mut String,
+    message: &DynamicMessage,
+    extension: &ExtensionDescriptor,
+) -> Result<(), Fail> {
+    if !message.owns_extension(extension) {
         return Err(Fail::from("an extension of another type"));
     }
-    let value = message.get_extension(*out.allocator(), &extension)?;
-    write!(out, "[{number}]=")?;
-    write_value(out, &value)?;
+    let value = message.get_extension(*out.allocator(), extension)?;
+    Ok(write_value(out, &value)?)
+}
+
+/// Writes so many of the next unknown fields.
+fn write_unknowns(
+    out: &mut String,
+    unknown: &mut UnknownFields<'_>,
+    number: u32,
+    count: usize,
+) -> Result<(), Fail> {
+    for _ in 0..count {
+        write_next(out, unknown, number)?;
+    }
     Ok(())
 }
 
@@ -60,34 +102,45 @@ fn write_next(out: &mut String, unknown: &mut UnknownFields<'_>, number: u32) ->
 
 fn write_unknown(out: &mut String, field: &UnknownField) -> Result<(), AllocError> {
     let number = field.number();
+    write!(out, "{number}?")?;
     match field.value() {
-        UnknownFieldValue::Varint(value) => write!(out, "{number}?{value} "),
-        UnknownFieldValue::LengthDelimited(bytes) => {
-            let digits = hex::encode(*out.allocator(), bytes.as_slice())?;
-            write!(out, "{number}?x{digits} ")
-        }
-        _ => write!(out, "{number}?? "),
+        UnknownFieldValue::Varint(value) => write!(out, "{value} "),
+        UnknownFieldValue::LengthDelimited(bytes) => write_digits(out, bytes.as_slice()),
+        _ => out.push_str("? "),
     }
+}
+
+fn write_digits(out: &mut String, bytes: &[u8]) -> Result<(), AllocError> {
+    let digits = hex::encode(*out.allocator(), bytes)?;
+    write!(out, "x{digits} ")
 }
 
 /// Writes a value, a space behind it.
 fn write_value(out: &mut String, value: &Value) -> Result<(), AllocError> {
     if let Some(items) = value.as_list() {
-        out.push('[')?;
-        for item in items.iter() {
-            write_item(out, item)?;
-        }
-        out.push_str("] ")
+        write_list(out, items)
     } else if let Some(pairs) = value.as_map() {
-        out.push('(')?;
-        for (key, value) in pairs.iter() {
-            write_key(out, key)?;
-            write_item(out, value)?;
-        }
-        out.push_str(") ")
+        write_map(out, pairs)
     } else {
         write_item(out, value)
     }
+}
+
+fn write_list(out: &mut String, items: &[Value]) -> Result<(), AllocError> {
+    out.push('[')?;
+    for item in items {
+        write_item(out, item)?;
+    }
+    out.push_str("] ")
+}
+
+fn write_map(out: &mut String, pairs: &BTreeMap<MapKey, Value>) -> Result<(), AllocError> {
+    out.push('(')?;
+    for (key, value) in pairs.iter() {
+        write_key(out, key)?;
+        write_item(out, value)?;
+    }
+    out.push_str(") ")
 }
 
 fn write_key(out: &mut String, key: &MapKey) -> Result<(), AllocError> {
@@ -100,20 +153,27 @@ fn write_key(out: &mut String, key: &MapKey) -> Result<(), AllocError> {
 
 /// Writes a value that is no list and no map, a space behind it.
 fn write_item(out: &mut String, value: &Value) -> Result<(), AllocError> {
-    let Some(message) = value.as_message() else {
-        return write_scalar(out, value);
-    };
+    match value.as_message() {
+        Some(message) => write_message(out, message),
+        None => write_scalar(out, value),
+    }
+}
+
+fn write_message(out: &mut String, message: &DynamicMessage) -> Result<(), AllocError> {
     out.push('{')?;
     for item in message.fields() {
         let (field, value) = item?;
-        let number = field.number();
-        write!(out, "{number}=")?;
-        write_scalar(out, value)?;
+        write_member(out, field.number(), value)?;
     }
     for field in message.unknown_fields() {
         write_unknown(out, field)?;
     }
     out.push_str("} ")
+}
+
+fn write_member(out: &mut String, number: u32, value: &Value) -> Result<(), AllocError> {
+    write!(out, "{number}=")?;
+    write_scalar(out, value)
 }
 
 fn write_scalar(out: &mut String, value: &Value) -> Result<(), AllocError> {

@@ -1,10 +1,10 @@
 //! Bytes that are merged into messages.
 
-use crate::relay::{message_type, newer};
-use crate::worked::written;
+use crate::relay::newer;
+use crate::worked::{is_written_as, message_type};
 use prost_reflect::{DecodeError, DynamicMessage};
 use prost_reflect_samples::sets;
-use std::alloc::Global;
+use std::alloc::{AllocError, Global};
 use std::test::Fail;
 
 /// A message type, the digits of what is merged into a new message of it and of what is merged behind that, and those of what
@@ -40,46 +40,98 @@ static REFUSALS: [(&str, &str, &str, DecodeError); 3] = [
     ("MyMessage", "0805", "00", DecodeError::Key),
 ];
 
-/// A new message into which some digits' bytes are merged and then others, and why the latter are refused.
-fn merged(
+/// Merges the digits' bytes into the message, and answers why they are refused, if they are.
+fn merge_digits(
+    alloc: Global,
+    message: &mut DynamicMessage,
+    digits: &str,
+) -> Result<Option<DecodeError>, Fail> {
+    if !message.is_encodable() || !message.is_typed() {
+        return Err(Fail::from("not as the fields want it"));
+    }
+    let bytes = hex::decode(alloc, digits)?;
+    Ok(message.merge(bytes.as_slice()).err())
+}
+
+/// Merges some digits' bytes into the message, and then others, and answers whether the former are read, and the latter
+/// refused for this reason.
+fn merges(
+    alloc: Global,
+    message: &mut DynamicMessage,
+    front: &str,
+    behind: &str,
+    refusal: Option<DecodeError>,
+) -> Result<bool, Fail> {
+    Ok(
+        merge_digits(alloc, message, front)?.is_none()
+            && merge_digits(alloc, message, behind)? == refusal,
+    )
+}
+
+/// Whether the message is the one that the digits' bytes mean.
+fn is_meant(
+    alloc: Global,
+    message: &DynamicMessage,
+    name: &str,
+    digits: &str,
+) -> Result<bool, Fail> {
+    let meant = newer(alloc, name, digits)?;
+    Ok(*message == meant)
+}
+
+/// The digits behind one another.
+fn joined(alloc: Global, front: &str, behind: &str) -> Result<String, AllocError> {
+    let mut both = String::from_str(alloc, front)?;
+    both.push_str(behind)?;
+    Ok(both)
+}
+
+/// Whether a new message is the one that some digits' bytes mean, and written as others, once the bytes in front are merged
+/// into it and those behind are, or are refused for this reason.
+fn becomes(
+    alloc: Global,
+    name: &str,
+    pieces: (&str, &str, Option<DecodeError>),
+    meant: &str,
+    again: &str,
+) -> Result<bool, Fail> {
+    let (front, behind, refusal) = pieces;
+    let mut message = DynamicMessage::new(alloc, message_type(alloc, sets::newer(), name)?);
+    Ok(
+        merges(alloc, &mut message, front, behind, refusal)?
+            && is_meant(alloc, &message, name, meant)?
+            && is_written_as(alloc, &message, again)?,
+    )
+}
+
+/// Whether pieces that are merged mean what they mean as one, and are written as these digits.
+fn mean_one(
     alloc: Global,
     name: &str,
     front: &str,
     behind: &str,
-) -> Result<(DynamicMessage, Option<DecodeError>), Fail> {
-    let mut message = DynamicMessage::new(alloc, message_type(alloc, sets::newer(), name)?);
-    if !message.is_encodable() || !message.is_typed() {
-        return Err(Fail::from("not as the fields want it"));
-    }
-    message.merge(hex::decode(alloc, front)?.as_slice())?;
-    let refusal = message.merge(hex::decode(alloc, behind)?.as_slice()).err();
-    Ok((message, refusal))
+    again: &str,
+) -> Result<bool, Fail> {
+    let both = joined(alloc, front, behind)?;
+    becomes(alloc, name, (front, behind, None), both.as_str(), again)
 }
 
-/// Pieces mean what they mean as one.
 #[test]
 fn pieces_are_merged(rt: HostRuntime) -> Result<(), Fail> {
-    let alloc = rt.alloc();
-    for (name, front, behind, digits) in MERGES {
-        let (message, refusal) = merged(alloc, name, front, behind)?;
-        assert_eq!(rt; refusal, None);
-        let both = format!(in alloc; "{front}{behind}")?;
-        assert!(rt; message == newer(alloc, name, both.as_str())?);
-        let bytes = written(alloc, &message)?;
-        assert_eq!(rt; hex::encode(alloc, bytes.as_slice())?.as_str(), digits);
+    for (name, front, behind, again) in &MERGES {
+        assert!(rt;
+            mean_one(rt.alloc(), name, front, behind, again)?,
+            "{front}"
+        );
     }
     Ok(())
 }
 
 #[test]
 fn a_refused_merge_changes_nothing(rt: HostRuntime) -> Result<(), Fail> {
-    let alloc = rt.alloc();
-    for (name, front, behind, fault) in REFUSALS {
-        let (message, refusal) = merged(alloc, name, front, behind)?;
-        assert_eq!(rt; refusal, Some(fault));
-        assert!(rt; message == newer(alloc, name, front)?);
-        let bytes = written(alloc, &message)?;
-        assert_eq!(rt; hex::encode(alloc, bytes.as_slice())?.as_str(), front);
+    for (name, front, behind, fault) in &REFUSALS {
+        let pieces: (&str, &str, Option<DecodeError>) = (front, behind, Some(*fault));
+        assert!(rt; becomes(rt.alloc(), name, pieces, front, front)?, "{front}");
     }
     Ok(())
 }

@@ -1,8 +1,9 @@
 //! The fields that paths of numbers lead to.
 
-use crate::relay::message_type;
+use crate::worked::message_type;
+use prost_reflect::MessageDescriptor;
 use prost_reflect_samples::sets;
-use std::alloc::Global;
+use std::alloc::{AllocError, Global};
 use std::test::Fail;
 
 /// A message type, a path, and the full name of the field that it leads to, or none: a number that no field has, that of an
@@ -20,31 +21,48 @@ static ROWS: [(&str, &[u32], &str); 10] = [
     ("Foo", &[100], ""),
 ];
 
-/// The full name of the field that a path leads to, or none.
-fn led(alloc: Global, set: &[u8], name: &str, path: &[u32]) -> Result<String, Fail> {
-    match message_type(alloc, set, name)?.get_field_by_path(path)? {
-        Some(field) => Ok(String::from_str(alloc, field.full_name())?),
-        None => Ok(String::new(alloc)),
+/// Whether a path leads to the field of the full name, or to none where that is empty.
+fn leads(
+    descriptor: &MessageDescriptor,
+    path: &[u32],
+    full_name: &str,
+) -> Result<bool, AllocError> {
+    match descriptor.get_field_by_path(path)? {
+        Some(field) => Ok(field.full_name() == full_name),
+        None => Ok(full_name.is_empty()),
     }
+}
+
+/// Likewise, from the type of the name in the descriptor set.
+fn leads_from(
+    alloc: Global,
+    set: &[u8],
+    name: &str,
+    path: &[u32],
+    full_name: &str,
+) -> Result<bool, Fail> {
+    let descriptor = message_type(alloc, set, name)?;
+    Ok(leads(&descriptor, path, full_name)?)
 }
 
 #[test]
 fn paths_lead_to_fields(rt: HostRuntime) -> Result<(), Fail> {
     let alloc = rt.alloc();
-    for (name, path, full_name) in ROWS {
-        assert_eq!(rt; led(alloc, sets::newer(), name, path)?.as_str(), full_name);
+    for (name, path, full_name) in &ROWS {
+        assert!(rt;
+            leads_from(alloc, sets::newer(), name, path, full_name)?,
+            "{full_name}"
+        );
     }
-    assert_eq!(rt; led(alloc, sets::groups(), "G", &[1])?.as_str(), "G.item");
-    assert_eq!(rt; led(alloc, sets::groups(), "G", &[1, 1])?.as_str(), "");
+    assert!(rt; leads_from(alloc, sets::groups(), "G", &[1], "G.item")?);
+    assert!(rt; leads_from(alloc, sets::groups(), "G", &[1, 1], "")?);
     Ok(())
 }
 
 #[test]
 fn paths_have_a_number_for_each_level_and_one_for_the_field(rt: HostRuntime) -> Result<(), Fail> {
-    let alloc = rt.alloc();
-    let parent = message_type(alloc, sets::newer(), "P")?;
     let path = [3; 102];
-    assert!(rt; parent.get_field_by_path(&path[..101])?.is_some());
-    assert!(rt; parent.get_field_by_path(&path)?.is_none());
+    assert!(rt; leads_from(rt.alloc(), sets::newer(), "P", &path[..101], "P.p")?);
+    assert!(rt; leads_from(rt.alloc(), sets::newer(), "P", &path, "")?);
     Ok(())
 }

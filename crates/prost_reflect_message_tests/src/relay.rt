@@ -1,11 +1,11 @@
 //! What older message types relay, and what newer ones read of it.
 
-use crate::contents::shown;
+use crate::contents::is_shown;
 use crate::levels::in_messages;
-use crate::worked::relayed;
+use crate::worked::{message_type, passes};
 use prost_reflect::{
-    DecodeError, DescriptorPool, DynamicMessage, MessageDescriptor, RelayError, RelayHexError,
-    RelayWithError, Value, relay, relay_hex, relay_with,
+    DecodeError, DynamicMessage, MessageDescriptor, RelayError, RelayHexError, RelayWithError,
+    Value, relay, relay_hex, relay_with,
 };
 use prost_reflect_samples::sets;
 use std::alloc::Global;
@@ -50,49 +50,74 @@ static REFUSED: [(&str, RelayHexError); 3] = [
     ),
 ];
 
-pub(crate) fn message_type(
-    alloc: Global,
-    set: &[u8],
-    name: &str,
-) -> Result<MessageDescriptor, Fail> {
-    let found = DescriptorPool::decode(alloc, set)?.get_message_by_name(name)?;
-    Ok(found.ok_or("no such message type")?)
-}
-
 pub(crate) fn newer(alloc: Global, name: &str, digits: &str) -> Result<DynamicMessage, Fail> {
     let bytes = hex::decode(alloc, digits)?;
     let newer = message_type(alloc, sets::newer(), name)?;
     Ok(DynamicMessage::decode(alloc, newer, bytes.as_slice())?)
 }
 
-/// What the newer form of a type shows of the digits' bytes.
-fn shown_by_newer(alloc: Global, name: &str, digits: &str) -> Result<String, Fail> {
-    shown(alloc, &newer(alloc, name, digits)?)
+/// Whether the newer form of a type shows this text of the digits' bytes.
+fn is_shown_by_newer(alloc: Global, name: &str, digits: &str, text: &str) -> Result<bool, Fail> {
+    let message = newer(alloc, name, digits)?;
+    is_shown(alloc, &message, text)
 }
 
-/// Whether the bytes are relayed as others by an older type, as they are read and written by it.
-fn relays(
+/// Whether the bytes are relayed as others by an older type.
+fn relays_bytes(
     alloc: Global,
-    older: MessageDescriptor,
+    older: &MessageDescriptor,
     bytes: &[u8],
     again: &[u8],
 ) -> Result<bool, Fail> {
-    let passed = relay(alloc, &older, bytes)?;
-    let (_, written) = relayed(alloc, older, bytes)?;
-    Ok(passed.as_slice() == again && written.as_slice() == again)
+    Ok(relay(alloc, older, bytes)?.as_slice() == again)
+}
+
+/// Whether the digits are relayed as others by an older type.
+fn relays_digits(
+    alloc: Global,
+    older: &MessageDescriptor,
+    digits: &str,
+    again: &str,
+) -> Result<bool, Fail> {
+    Ok(relay_hex(alloc, older, digits)?.as_str() == again)
+}
+
+/// Whether the digits, and the bytes that they spell, are relayed as others by an older type, as they are read and written
+/// by it.
+fn relays(
+    alloc: Global,
+    older: &MessageDescriptor,
+    digits: &str,
+    again: &str,
+) -> Result<bool, Fail> {
+    let bytes = hex::decode(alloc, digits)?;
+    let expected = hex::decode(alloc, again)?;
+    Ok(
+        relays_digits(alloc, older, digits, again)?
+            && relays_bytes(alloc, older, bytes.as_slice(), expected.as_slice())?
+            && passes(alloc, older, bytes.as_slice(), expected.as_slice())?,
+    )
+}
+
+/// Whether the older form of a type relays the digits as others.
+fn older_relays(alloc: Global, name: &str, digits: &str, again: &str) -> Result<bool, Fail> {
+    let older = message_type(alloc, sets::older(), name)?;
+    relays(alloc, &older, digits, again)
 }
 
 #[test]
 fn messages_pass_through_older_types(rt: HostRuntime) -> Result<(), Fail> {
-    let alloc = rt.alloc();
-    for (name, digits, again, first, second) in ROWS {
-        let older = message_type(alloc, sets::older(), name)?;
-        assert_eq!(rt; relay_hex(alloc, &older, digits)?.as_str(), again);
-        let bytes = hex::decode(alloc, digits)?;
-        let expected = hex::decode(alloc, again)?;
-        assert!(rt; relays(alloc, older, bytes.as_slice(), expected.as_slice())?);
-        assert_eq!(rt; shown_by_newer(alloc, name, digits)?.as_str(), first);
-        assert_eq!(rt; shown_by_newer(alloc, name, again)?.as_str(), second);
+    for (name, digits, again, _, _) in &ROWS {
+        assert!(rt; older_relays(rt.alloc(), name, digits, again)?, "{digits}");
+    }
+    Ok(())
+}
+
+#[test]
+fn newer_types_read_what_is_relayed(rt: HostRuntime) -> Result<(), Fail> {
+    for (name, digits, again, first, second) in &ROWS {
+        assert!(rt; is_shown_by_newer(rt.alloc(), name, digits, first)?);
+        assert!(rt; is_shown_by_newer(rt.alloc(), name, again, second)?);
     }
     Ok(())
 }
@@ -102,92 +127,124 @@ fn what_is_not_relayed_is_named(rt: HostRuntime) -> Result<(), Fail> {
     let alloc = rt.alloc();
     let older = message_type(alloc, sets::older(), "MyMessage")?;
     for (digits, refusal) in REFUSED {
-        assert_eq!(rt; relay_hex(alloc, &older, digits).err(), Some(refusal));
+        let found = relay_hex(alloc, &older, digits).err();
+        assert!(rt; found == Some(refusal), "{digits}");
     }
     Ok(())
 }
 
-/// The digits of what is written of bytes with a value set at a path.
-fn edited(
-    alloc: Global,
-    set: &[u8],
-    name: &str,
-    digits: &str,
-    path: &[u32],
-    value: Value,
-) -> Result<String, Fail> {
-    let older = message_type(alloc, set, name)?;
-    let bytes = hex::decode(alloc, digits)?;
-    let written = relay_with(alloc, &older, bytes.as_slice(), path, value)?;
-    Ok(hex::encode(alloc, written.as_slice())?)
+/// A value to set.
+#[derive(Clone, Copy)]
+enum Setting {
+    I32(i32),
+    EnumNumber(i32),
+    EmptyList,
 }
 
-/// Why none is.
+fn value_of(alloc: Global, setting: Setting) -> Value {
+    match setting {
+        Setting::I32(number) => Value::I32(number),
+        Setting::EnumNumber(number) => Value::EnumNumber(number),
+        Setting::EmptyList => Value::List(Vec::new(alloc)),
+    }
+}
+
+/// Whether the bytes with a value set at a path are written as others.
+fn edits(
+    alloc: Global,
+    older: &MessageDescriptor,
+    bytes: &[u8],
+    path: &[u32],
+    setting: Setting,
+    again: &[u8],
+) -> Result<bool, Fail> {
+    let written = relay_with(alloc, older, bytes, path, value_of(alloc, setting))?;
+    Ok(written.as_slice() == again)
+}
+
+/// Why a value is not set at a path in the bytes, if it is not.
 fn refusal(
     alloc: Global,
-    name: &str,
-    digits: &str,
+    older: &MessageDescriptor,
+    bytes: &[u8],
     path: &[u32],
-    value: Value,
-) -> Result<Option<RelayWithError>, Fail> {
-    let older = message_type(alloc, sets::newer(), name)?;
+    setting: Setting,
+) -> Option<RelayWithError> {
+    relay_with(alloc, older, bytes, path, value_of(alloc, setting)).err()
+}
+
+/// A message type, the digits of bytes, a path, the value that is set there, and the digits of what is written then.
+type Edit = (
+    &'static str,
+    &'static str,
+    &'static [u32],
+    Setting,
+    &'static str,
+);
+
+/// Edits through the older types.
+static OLDER_EDITS: [Edit; 3] = [
+    ("MyMessage", "08051042", &[2], Setting::I32(7), "08051007"),
+    (
+        "MyMessage",
+        "1a0408051042",
+        &[3, 2],
+        Setting::I32(7),
+        "1a0408051007",
+    ),
+    ("MyMessage", "", &[3, 3, 2], Setting::I32(0), "1a041a021000"),
+];
+
+/// Edits through the newer types.
+static NEWER_EDITS: [Edit; 2] = [
+    ("Q", "12021042", &[1], Setting::I32(0), "0800"),
+    ("C", "0807", &[1], Setting::EnumNumber(1), "08010807"),
+];
+
+static GROUP_EDITS: [Edit; 1] = [("G", "0b08010c", &[1], Setting::EmptyList, "")];
+
+/// Whether the bytes of the digits are edited as the row says by the type in the descriptor set.
+fn is_edited(alloc: Global, set: &[u8], edit: &Edit) -> Result<bool, Fail> {
+    let (name, digits, path, setting, again) = *edit;
     let bytes = hex::decode(alloc, digits)?;
-    Ok(relay_with(alloc, &older, bytes.as_slice(), path, value).err())
+    let again = hex::decode(alloc, again)?;
+    let older = message_type(alloc, set, name)?;
+    edits(
+        alloc,
+        &older,
+        bytes.as_slice(),
+        path,
+        setting,
+        again.as_slice(),
+    )
 }
 
 #[test]
 fn values_are_set_through_older_types(rt: HostRuntime) -> Result<(), Fail> {
     let alloc = rt.alloc();
-    let written = edited(
-        alloc,
-        sets::older(),
-        "MyMessage",
-        "08051042",
-        &[2],
-        Value::I32(7),
-    )?;
-    assert_eq!(rt; written.as_str(), "08051007");
-    let text = shown_by_newer(alloc, "MyMessage", written.as_str())?;
-    assert_eq!(rt; text.as_str(), "1=5 2=7 ");
-    let written = edited(
-        alloc,
-        sets::older(),
-        "MyMessage",
-        "1a0408051042",
-        &[3, 2],
-        Value::I32(7),
-    )?;
-    assert_eq!(rt; written.as_str(), "1a0408051007");
-    let written = edited(
-        alloc,
-        sets::older(),
-        "MyMessage",
-        "",
-        &[3, 3, 2],
-        Value::I32(0),
-    )?;
-    assert_eq!(rt; written.as_str(), "1a041a021000");
+    for edit in &OLDER_EDITS {
+        assert!(rt; is_edited(alloc, sets::older(), edit)?);
+    }
+    assert!(rt; is_shown_by_newer(alloc, "MyMessage", "08051007", "1=5 2=7 ")?);
     Ok(())
 }
 
 #[test]
 fn values_take_the_place_of_others(rt: HostRuntime) -> Result<(), Fail> {
     let alloc = rt.alloc();
-    let written = edited(alloc, sets::newer(), "Q", "12021042", &[1], Value::I32(0))?;
-    assert_eq!(rt; written.as_str(), "0800");
-    let written = edited(
-        alloc,
-        sets::newer(),
-        "C",
-        "0807",
-        &[1],
-        Value::EnumNumber(1),
-    )?;
-    assert_eq!(rt; written.as_str(), "08010807");
-    let none = Value::List(Vec::new(alloc));
-    let written = edited(alloc, sets::groups(), "G", "0b08010c", &[1], none)?;
-    assert_eq!(rt; written.as_str(), "");
+    for edit in &NEWER_EDITS {
+        assert!(rt; is_edited(alloc, sets::newer(), edit)?);
+    }
+    for edit in &GROUP_EDITS {
+        assert!(rt; is_edited(alloc, sets::groups(), edit)?);
+    }
     Ok(())
+}
+
+/// Whether the newer form of `MyMessage` reads the bytes, and has a message in it.
+fn newer_has_nested(alloc: Global, bytes: &[u8]) -> Result<bool, Fail> {
+    let newer = message_type(alloc, sets::newer(), "MyMessage")?;
+    Ok(DynamicMessage::decode(alloc, newer, bytes)?.has_field_by_number(3))
 }
 
 #[test]
@@ -196,43 +253,94 @@ fn a_path_goes_down_a_hundred_levels(rt: HostRuntime) -> Result<(), Fail> {
     let older = message_type(alloc, sets::older(), "MyMessage")?;
     let mut path = [3; 102];
     path[101] = 2;
-    let written = relay_with(alloc, &older, &[], &path[1..], Value::I32(0))?;
-    assert!(rt; written.as_slice() == in_messages(alloc, 100, "1000")?.as_slice());
-    let newer = message_type(alloc, sets::newer(), "MyMessage")?;
-    assert!(rt; DynamicMessage::decode(alloc, newer, written.as_slice())?.has_field_by_number(3));
-    let refused = relay_with(alloc, &older, &[], &path, Value::I32(0)).err();
-    assert_eq!(rt; refused, Some(RelayWithError::NotFound));
+    let expected = in_messages(alloc, 100, "1000")?;
+    let zero = Setting::I32(0);
+    assert!(rt; edits(alloc, &older, &[], &path[1..], zero, expected.as_slice())?);
+    assert!(rt; newer_has_nested(alloc, expected.as_slice())?);
+    let refused = refusal(alloc, &older, &[], &path, zero);
+    assert!(rt; refused == Some(RelayWithError::NotFound));
     Ok(())
+}
+
+/// A newer message type, the digits of bytes, a path, a value, and why it is not set there.
+static NOT_SET: [(&str, &str, &[u32], Setting, RelayWithError); 6] = [
+    (
+        "MyMessage",
+        "",
+        &[],
+        Setting::I32(0),
+        RelayWithError::NotFound,
+    ),
+    (
+        "MyMessage",
+        "08",
+        &[42],
+        Setting::I32(0),
+        RelayWithError::NotFound,
+    ),
+    (
+        "MyMessage",
+        "08",
+        &[1, 1],
+        Setting::I32(0),
+        RelayWithError::NotFound,
+    ),
+    (
+        "Foo",
+        "",
+        &[100],
+        Setting::EmptyList,
+        RelayWithError::NotFound,
+    ),
+    (
+        "C",
+        "0807",
+        &[1],
+        Setting::EnumNumber(7),
+        RelayWithError::InvalidType,
+    ),
+    (
+        "MyMessage",
+        "08",
+        &[1],
+        Setting::I32(5),
+        RelayWithError::Decode(DecodeError::Truncated),
+    ),
+];
+
+/// Why a value is not set at a path in the digits' bytes by the newer type of the name, if it is not.
+fn refusal_by_newer(
+    alloc: Global,
+    name: &str,
+    digits: &str,
+    path: &[u32],
+    setting: Setting,
+) -> Result<Option<RelayWithError>, Fail> {
+    let bytes = hex::decode(alloc, digits)?;
+    let newer = message_type(alloc, sets::newer(), name)?;
+    Ok(refusal(alloc, &newer, bytes.as_slice(), path, setting))
 }
 
 #[test]
 fn what_is_not_set_is_named(rt: HostRuntime) -> Result<(), Fail> {
-    let alloc = rt.alloc();
-    let refused = refusal(alloc, "MyMessage", "", &[], Value::I32(0))?;
-    assert_eq!(rt; refused, Some(RelayWithError::NotFound));
-    let refused = refusal(alloc, "MyMessage", "08", &[42], Value::I32(0))?;
-    assert_eq!(rt; refused, Some(RelayWithError::NotFound));
-    let refused = refusal(alloc, "MyMessage", "08", &[1, 1], Value::I32(0))?;
-    assert_eq!(rt; refused, Some(RelayWithError::NotFound));
-    let refused = refusal(alloc, "Foo", "", &[100], Value::List(Vec::new(alloc)))?;
-    assert_eq!(rt; refused, Some(RelayWithError::NotFound));
-    let refused = refusal(alloc, "C", "0807", &[1], Value::EnumNumber(7))?;
-    assert_eq!(rt; refused, Some(RelayWithError::InvalidType));
-    let refused = refusal(alloc, "MyMessage", "08", &[1], Value::I32(5))?;
-    assert_eq!(rt;
-        refused,
-        Some(RelayWithError::Decode(DecodeError::Truncated))
-    );
+    for (name, digits, path, setting, refused) in &NOT_SET {
+        let found = refusal_by_newer(rt.alloc(), name, digits, path, *setting)?;
+        assert!(rt; found == Some(*refused), "{name} {digits}");
+    }
     Ok(())
+}
+
+/// Why an empty message is not set at the field 3 in the bytes, if it is not.
+fn message_refusal(alloc: Global, bytes: &[u8]) -> Result<Option<RelayWithError>, Fail> {
+    let descriptor = message_type(alloc, sets::newer(), "MyMessage")?;
+    let message = Value::Message(newer(alloc, "MyMessage", "")?);
+    Ok(relay_with(alloc, &descriptor, bytes, &[3], message).err())
 }
 
 #[test]
 fn messages_are_not_set(rt: HostRuntime) -> Result<(), Fail> {
-    let alloc = rt.alloc();
-    for digits in ["", "08"] {
-        let message = Value::Message(newer(alloc, "MyMessage", "")?);
-        let refused = refusal(alloc, "MyMessage", digits, &[3], message)?;
-        assert_eq!(rt; refused, Some(RelayWithError::HoldsMessage));
-    }
+    let refused = Some(RelayWithError::HoldsMessage);
+    assert!(rt; message_refusal(rt.alloc(), b"")? == refused);
+    assert!(rt; message_refusal(rt.alloc(), b"\x08")? == refused);
     Ok(())
 }

@@ -1,6 +1,6 @@
 //! Worked messages of each form: what is written of them again, and what is present in them.
 
-use crate::contents::shown;
+use crate::contents::{is_shown, shown};
 use prost_reflect::{DecodeError, DescriptorPool, DynamicMessage, MessageDescriptor, builtin_pool};
 use prost_reflect_samples::sets;
 use std::alloc::Global;
@@ -10,15 +10,37 @@ use std::test::Fail;
 pub(crate) static WITHOUT_EXTENSION: &[u8] =
     b"\x0a\x1c\x0a\x0bolder.proto\x12\x01b\"\x0a\x0a\x01X*\x05\x08d\x10\xc8\x01";
 
+/// The type of the name in the pool.
+pub(crate) fn type_in(pool: &DescriptorPool, name: &str) -> Result<MessageDescriptor, Fail> {
+    match pool.get_message_by_name(name)? {
+        Some(found) => Ok(found),
+        None => Err(Fail::from("no such message type")),
+    }
+}
+
+/// The type of the name in the descriptor set.
+pub(crate) fn message_type(
+    alloc: Global,
+    set: &[u8],
+    name: &str,
+) -> Result<MessageDescriptor, Fail> {
+    let pool = DescriptorPool::decode(alloc, set)?;
+    type_in(&pool, name)
+}
+
+/// The built-in type of the name.
+fn builtin_type(alloc: Global, name: &str) -> Result<MessageDescriptor, Fail> {
+    let pool = builtin_pool(alloc)?;
+    type_in(&pool, name)
+}
+
 /// The type of the name in `worked`, or the built-in one.
 pub(crate) fn worked_type(alloc: Global, name: &str) -> Result<MessageDescriptor, Fail> {
-    let pool = if name.starts_with("builtin.") {
-        builtin_pool(alloc)?
+    if name.starts_with("builtin.") {
+        builtin_type(alloc, name)
     } else {
-        DescriptorPool::decode(alloc, sets::worked())?
-    };
-    let found = pool.get_message_by_name(name)?;
-    Ok(found.ok_or("no such message type")?)
+        message_type(alloc, sets::worked(), name)
+    }
 }
 
 /// A message type, the digits of bytes, those of what is written again, and what is shown of the message.
@@ -159,44 +181,116 @@ static WRITTEN: [(&str, &str, &str, &str); 47] = [
     ("builtin.Kept", "2800", "2800", "5=0 "),
 ];
 
-/// What is written of a message, whose length is foretold.
-pub(crate) fn written(alloc: Global, message: &DynamicMessage) -> Result<Vec<u8>, Fail> {
+/// Whether the message is written as these bytes, whose length is foretold.
+pub(crate) fn is_written(
+    alloc: Global,
+    message: &DynamicMessage,
+    bytes: &[u8],
+) -> Result<bool, Fail> {
     if !message.is_encodable() {
         return Err(Fail::from("a value that does not fit"));
     }
-    let len = message.encoded_len();
-    let bytes = message.encode_to_vec(alloc)?;
-    if len != Some(bytes.len()) {
-        return Err(Fail::from("another length"));
-    }
-    Ok(bytes)
+    let written = message.encode_to_vec(alloc)?;
+    Ok(written.as_slice() == bytes && message.encoded_len() == Some(bytes.len()))
 }
 
-/// What is shown of the message that the bytes mean, and what is written of it. Each part in front of the bytes' end is read
-/// too, or ends too early.
-pub(crate) fn relayed(
+/// Whether the message is written as the bytes of these digits.
+pub(crate) fn is_written_as(
+    alloc: Global,
+    message: &DynamicMessage,
+    digits: &str,
+) -> Result<bool, Fail> {
+    let bytes = hex::decode(alloc, digits)?;
+    is_written(alloc, message, bytes.as_slice())
+}
+
+/// Why the bytes are no message of the type, if they are none.
+pub(crate) fn fault(
     alloc: Global,
     descriptor: MessageDescriptor,
     bytes: &[u8],
-) -> Result<(String, Vec<u8>), Fail> {
+) -> Option<DecodeError> {
+    DynamicMessage::decode(alloc, descriptor, bytes).err()
+}
+
+/// The message that the bytes mean. Each part in front of their end is read too, or ends too early.
+pub(crate) fn read(
+    alloc: Global,
+    descriptor: &MessageDescriptor,
+    bytes: &[u8],
+) -> Result<DynamicMessage, Fail> {
     for len in 0..bytes.len() {
-        let read = DynamicMessage::decode(alloc, descriptor.clone()?, &bytes[..len]);
-        if read.is_err_and(|error| error != DecodeError::Truncated) {
+        let fault = fault(alloc, descriptor.clone()?, &bytes[..len]);
+        if fault.is_some_and(|fault| fault != DecodeError::Truncated) {
             return Err(Fail::from("a part with another fault"));
         }
     }
-    let message = DynamicMessage::decode(alloc, descriptor, bytes)?;
-    Ok((shown(alloc, &message)?, written(alloc, &message)?))
+    Ok(DynamicMessage::decode(alloc, descriptor.clone()?, bytes)?)
+}
+
+/// Whether the message of the worked type that the bytes mean is written as the others.
+pub(crate) fn is_rewritten(
+    alloc: Global,
+    name: &str,
+    bytes: &[u8],
+    again: &[u8],
+) -> Result<bool, Fail> {
+    let message = DynamicMessage::decode(alloc, worked_type(alloc, name)?, bytes)?;
+    is_written(alloc, &message, again)
+}
+
+/// Whether the message that the bytes mean is written as the others, and something is shown of it.
+pub(crate) fn passes(
+    alloc: Global,
+    descriptor: &MessageDescriptor,
+    bytes: &[u8],
+    again: &[u8],
+) -> Result<bool, Fail> {
+    let message = read(alloc, descriptor, bytes)?;
+    Ok(is_written(alloc, &message, again)? && !shown(alloc, &message)?.is_empty())
+}
+
+/// The message of the type that the digits' bytes mean.
+fn read_digits(
+    alloc: Global,
+    descriptor: &MessageDescriptor,
+    digits: &str,
+) -> Result<DynamicMessage, Fail> {
+    let bytes = hex::decode(alloc, digits)?;
+    read(alloc, descriptor, bytes.as_slice())
+}
+
+/// Whether the message that the digits' bytes mean is written as those of the others, and shown as the text.
+fn is_worked(
+    alloc: Global,
+    descriptor: &MessageDescriptor,
+    digits: &str,
+    again: &str,
+    text: &str,
+) -> Result<bool, Fail> {
+    let message = read_digits(alloc, descriptor, digits)?;
+    Ok(is_written_as(alloc, &message, again)? && is_shown(alloc, &message, text)?)
+}
+
+/// Likewise, of the worked type of the name.
+fn is_worked_of(
+    alloc: Global,
+    name: &str,
+    digits: &str,
+    again: &str,
+    text: &str,
+) -> Result<bool, Fail> {
+    let descriptor = worked_type(alloc, name)?;
+    is_worked(alloc, &descriptor, digits, again, text)
 }
 
 #[test]
 fn worked_messages_are_written_again(rt: HostRuntime) -> Result<(), Fail> {
-    let alloc = rt.alloc();
     for (name, digits, again, text) in &WRITTEN {
-        let bytes = hex::decode(alloc, digits)?;
-        let (shown, written) = relayed(alloc, worked_type(alloc, name)?, bytes.as_slice())?;
-        assert_eq!(rt; shown.as_str(), *text);
-        assert_eq!(rt; hex::encode(alloc, written.as_slice())?.as_str(), *again);
+        assert!(rt;
+            is_worked_of(rt.alloc(), name, digits, again, text)?,
+            "{digits}"
+        );
     }
     Ok(())
 }
@@ -204,11 +298,7 @@ fn worked_messages_are_written_again(rt: HostRuntime) -> Result<(), Fail> {
 /// Where a pool lacks the extension, its record is unknown.
 #[test]
 fn an_extension_that_is_not_known_stays(rt: HostRuntime) -> Result<(), Fail> {
-    let pool = DescriptorPool::decode(rt.alloc(), WITHOUT_EXTENSION)?;
-    let descriptor = pool.get_message_by_name("b.X")?.ok_or("no b.X")?;
-    let bytes = [0xa0, 6, 7];
-    let (shown, written) = relayed(rt.alloc(), descriptor, &bytes)?;
-    assert_eq!(rt; shown.as_str(), "100?7 ");
-    assert!(rt; written.as_slice() == bytes.as_slice());
+    let descriptor = message_type(rt.alloc(), WITHOUT_EXTENSION, "b.X")?;
+    assert!(rt; is_worked(rt.alloc(), &descriptor, "a00607", "a00607", "100?7 ")?);
     Ok(())
 }
