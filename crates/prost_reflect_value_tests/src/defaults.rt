@@ -1,41 +1,52 @@
 //! What kinds, fields and extensions have where nothing is stored.
 
-use crate::types::{kinds_descriptor, kinds_field, kinds_kind, kinds_pool};
-use prost_reflect::{DynamicMessage, Kind, MapKey, Value};
+use crate::types::{
+    kinds_descriptor, kinds_extension, kinds_field, kinds_kind, kinds_pool, message_of,
+};
+use prost_reflect::{DescriptorPool, DynamicMessage, ExtensionDescriptor, Kind, MapKey, Value};
+use std::alloc::Global;
 use std::test::Fail;
+
+/// Whether the field of a name of `V` has this default, and it is told as one.
+fn field_has_default(alloc: Global, name: &str, expected: Value) -> Result<bool, Fail> {
+    let field = kinds_field(&kinds_pool(alloc)?, name)?;
+    let default = Value::default_value_for_field(alloc, &field)?;
+    Ok(default == expected && default.is_default_for_field(&field))
+}
 
 #[test]
 fn fields_have_defaults(rt: HostRuntime) -> Result<(), Fail> {
-    let pool = kinds_pool(rt.alloc())?;
-    let rows = [
-        ("f", Value::F32(1_065_353_216)),
-        ("g", Value::F32(0)),
-        ("n", Value::I32(0)),
-        ("e", Value::EnumNumber(1)),
-        ("open", Value::EnumNumber(0)),
-    ];
-    for (name, expected) in rows {
-        let field = kinds_field(&pool, name)?;
-        let default = Value::default_value_for_field(rt.alloc(), &field)?;
-        assert!(rt; default == expected);
-        assert!(rt; default.is_default_for_field(&field));
-    }
-    let bytes = kinds_field(&pool, "b")?.default_value(rt.alloc())?;
+    let alloc = rt.alloc();
+    assert!(rt; field_has_default(alloc, "f", Value::F32(1_065_353_216))?);
+    assert!(rt; field_has_default(alloc, "g", Value::F32(0))?);
+    assert!(rt; field_has_default(alloc, "n", Value::I32(0))?);
+    assert!(rt; field_has_default(alloc, "e", Value::EnumNumber(1))?);
+    assert!(rt; field_has_default(alloc, "open", Value::EnumNumber(0))?);
+    let bytes = kinds_field(&kinds_pool(alloc)?, "b")?.default_value(alloc)?;
     assert!(rt; bytes.as_bytes() == Some(b"A2".as_slice()));
     Ok(())
+}
+
+/// Whether the field of a name of `V` has a default that is told as one, and a number is none.
+fn is_empty_by_default(alloc: Global, name: &str) -> Result<bool, Fail> {
+    let field = kinds_field(&kinds_pool(alloc)?, name)?;
+    let default = field.default_value(alloc)?;
+    Ok(default.is_default_for_field(&field) && !Value::I32(0).is_default_for_field(&field))
 }
 
 /// The default of a list, of a map and of a message is empty; other values are none.
 #[test]
 fn empty_values_are_defaults(rt: HostRuntime) -> Result<(), Fail> {
-    let pool = kinds_pool(rt.alloc())?;
     for name in ["values", "m", "v"] {
-        let field = kinds_field(&pool, name)?;
-        let default = field.default_value(rt.alloc())?;
-        assert!(rt; default.is_default_for_field(&field));
-        assert!(rt; !Value::I32(0).is_default_for_field(&field));
+        assert!(rt; is_empty_by_default(rt.alloc(), name)?);
     }
     Ok(())
+}
+
+/// A message of `V` that stores 0 in its field `n`.
+fn storing_a_default(alloc: Global, pool: &DescriptorPool) -> Result<Value, Fail> {
+    let descriptor = kinds_descriptor(pool)?;
+    Ok(Value::Message(DynamicMessage::decode(alloc, descriptor, &[0x30, 0])?))
 }
 
 /// A message is the default of its own type alone, and only where it stores nothing.
@@ -43,30 +54,33 @@ fn empty_values_are_defaults(rt: HostRuntime) -> Result<(), Fail> {
 fn a_message_is_the_default_of_its_type(rt: HostRuntime) -> Result<(), Fail> {
     let pool = kinds_pool(rt.alloc())?;
     let kind = kinds_kind(&pool, "v")?;
-    let descriptor = kinds_descriptor(&pool)?;
-    let stored = DynamicMessage::decode(rt.alloc(), descriptor, &[0x30, 0])?;
-    let other = pool.get_message_by_name("o.W")?.ok_or("no o.W")?;
-    let other = DynamicMessage::new(rt.alloc(), other);
     assert!(rt; Value::default_value(rt.alloc(), &kind)?.is_default(&kind));
-    assert!(rt; !Value::Message(stored).is_default(&kind));
-    assert!(rt; !Value::Message(other).is_default(&kind));
+    assert!(rt; !storing_a_default(rt.alloc(), &pool)?.is_default(&kind));
+    assert!(rt; !message_of(rt.alloc(), &pool, "o.W")?.is_default(&kind));
     Ok(())
 }
 
 #[test]
-fn kinds_and_extensions_have_defaults(rt: HostRuntime) -> Result<(), Fail> {
-    let pool = kinds_pool(rt.alloc())?;
+fn kinds_have_defaults(rt: HostRuntime) -> Result<(), Fail> {
     assert!(rt; Value::F32(0).is_default(&Kind::Float));
     assert!(rt; !Value::F32(2_147_483_648).is_default(&Kind::Float));
     assert!(rt; Kind::Uint64.default_value(rt.alloc())? == Value::U64(0));
     assert!(rt; MapKey::default_value(rt.alloc(), &Kind::Sint32) == MapKey::I32(0));
     assert!(rt; MapKey::Bool(false).is_default(&Kind::Bool));
     assert!(rt; !MapKey::U32(0).is_default(&Kind::Int32));
-    let found = kinds_descriptor(&pool)?.get_extension(100)?;
-    let extension = found.ok_or("no extension")?;
-    let default = Value::default_value_for_extension(rt.alloc(), &extension)?;
-    assert!(rt; default == Value::I64(-3));
-    assert!(rt; default.is_default_for_extension(&extension));
+    Ok(())
+}
+
+/// Whether the extension has -3 as its default, and it is told as one.
+fn has_its_default(alloc: Global, extension: &ExtensionDescriptor) -> Result<bool, Fail> {
+    let default = Value::default_value_for_extension(alloc, extension)?;
+    Ok(default == Value::I64(-3) && default.is_default_for_extension(extension))
+}
+
+#[test]
+fn extensions_have_defaults(rt: HostRuntime) -> Result<(), Fail> {
+    let extension = kinds_extension(&kinds_pool(rt.alloc())?)?;
+    assert!(rt; has_its_default(rt.alloc(), &extension)?);
     assert!(rt; !Value::I64(0).is_default_for_extension(&extension));
     Ok(())
 }

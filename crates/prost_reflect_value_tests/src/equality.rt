@@ -1,30 +1,22 @@
 //! Which messages and values are equal.
 
-mod samples;
-
-use prost_reflect::{
-    DescriptorPool, DynamicMessage, MapKey, MessageDescriptor, Value, builtin_pool,
-};
-use samples::sample_pool;
+use crate::types::{decoded, insert, named_type, text_key};
+use prost_reflect::{DynamicMessage, Value, builtin_pool};
+use prost_reflect_samples::sets;
 use std::alloc::Global;
 use std::collections::BTreeMap;
 use std::test::Fail;
 
-fn message_type(pool: &DescriptorPool, full_name: &str) -> Result<MessageDescriptor, Fail> {
-    let found = pool.get_message_by_name(full_name)?;
-    Ok(found.ok_or("no such message type")?)
-}
-
-fn sample(alloc: Global, full_name: &str, bytes: &[u8]) -> Result<DynamicMessage, Fail> {
-    let descriptor = message_type(&sample_pool(alloc)?, full_name)?;
-    Ok(DynamicMessage::decode(alloc, descriptor, bytes)?)
+/// The message that the bytes mean to the type of a name in the newer set.
+fn sample(alloc: Global, name: &str, bytes: &[u8]) -> Result<DynamicMessage, Fail> {
+    decoded(alloc, sets::newer(), name, bytes)
 }
 
 /// A stored default of a field without presence is unequal to none.
 #[test]
 fn a_stored_default_counts(rt: HostRuntime) -> Result<(), Fail> {
-    let fresh = sample(rt.alloc(), "package.MyMessage", &[])?;
-    let mut message = sample(rt.alloc(), "package.MyMessage", &[0x08, 0])?;
+    let fresh = sample(rt.alloc(), "MyMessage", &[])?;
+    let mut message = sample(rt.alloc(), "MyMessage", &[0x08, 0])?;
     assert!(rt; message != fresh);
     message.clear();
     assert!(rt; message == fresh);
@@ -34,7 +26,7 @@ fn a_stored_default_counts(rt: HostRuntime) -> Result<(), Fail> {
 /// A message of `MyMessage` with `foo`, in so many lists.
 fn nested(alloc: Global, depth: u32, foo: u8) -> Result<Value, Fail> {
     let bytes = [0x08, foo];
-    let mut value = Value::Message(sample(alloc, "package.MyMessage", &bytes)?);
+    let mut value = Value::Message(sample(alloc, "MyMessage", &bytes)?);
     for _ in 0..depth {
         let mut items = Vec::new(alloc);
         items.push(value)?;
@@ -51,22 +43,19 @@ fn a_value_150_deep_is_copied_and_compared(rt: HostRuntime) -> Result<(), Fail> 
     Ok(())
 }
 
-fn counts(alloc: Global, pairs: &[(&str, i32)]) -> Result<Value, Fail> {
+/// A map with the two numbers at the texts, put in this order.
+fn counts(alloc: Global, first: (&str, i32), second: (&str, i32)) -> Result<Value, Fail> {
     let mut map = BTreeMap::new(alloc);
-    for (key, count) in pairs {
-        drop(map.insert(
-            MapKey::String(String::from_str(alloc, key)?),
-            Value::I32(*count),
-        )?);
-    }
+    insert(&mut map, text_key(alloc, first.0)?, Value::I32(first.1))?;
+    insert(&mut map, text_key(alloc, second.0)?, Value::I32(second.1))?;
     Ok(Value::Map(map))
 }
 
 #[test]
 fn entries_are_equal_in_any_order_of_putting(rt: HostRuntime) -> Result<(), Fail> {
-    let map = counts(rt.alloc(), &[("a", 1), ("b", 2)])?;
-    assert!(rt; map == counts(rt.alloc(), &[("b", 2), ("a", 1)])?);
-    assert!(rt; map != counts(rt.alloc(), &[("a", 2), ("b", 1)])?);
+    let map = counts(rt.alloc(), ("a", 1), ("b", 2))?;
+    assert!(rt; map == counts(rt.alloc(), ("b", 2), ("a", 1))?);
+    assert!(rt; map != counts(rt.alloc(), ("a", 2), ("b", 1))?);
     Ok(())
 }
 
@@ -78,7 +67,7 @@ fn values_are_equal_by_bits(rt: HostRuntime) {
 }
 
 fn kept(alloc: Global, bytes: &[u8]) -> Result<DynamicMessage, Fail> {
-    let descriptor = message_type(&builtin_pool(alloc)?, "builtin.Kept")?;
+    let descriptor = named_type(&builtin_pool(alloc)?, "builtin.Kept")?;
     Ok(DynamicMessage::decode(alloc, descriptor, bytes)?)
 }
 
@@ -94,8 +83,8 @@ fn unknown_fields_count(rt: HostRuntime) -> Result<(), Fail> {
 /// Pools that were made apart show the same, and types are told apart by their places.
 #[test]
 fn types_count(rt: HostRuntime) -> Result<(), Fail> {
-    let message = sample(rt.alloc(), "package.MyMessage", &[])?;
-    assert!(rt; message == sample(rt.alloc(), "package.MyMessage", &[])?);
-    assert!(rt; message != sample(rt.alloc(), "package.P", &[])?);
+    let message = sample(rt.alloc(), "MyMessage", &[])?;
+    assert!(rt; message == sample(rt.alloc(), "MyMessage", &[])?);
+    assert!(rt; message != sample(rt.alloc(), "P", &[])?);
     Ok(())
 }

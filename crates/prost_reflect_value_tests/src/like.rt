@@ -1,7 +1,7 @@
 //! What is asked of fields and of extensions alike, through their trait.
 
-use crate::types::{kinds_descriptor, kinds_field, kinds_pool, message_type};
-use prost_reflect::{DescriptorPool, ExtensionDescriptor, FieldDescriptorLike, Kind, Value};
+use crate::types::{kinds_extension, kinds_field, kinds_pool, message_type, named_field};
+use prost_reflect::{FieldDescriptor, FieldDescriptorLike, Kind, MessageDescriptor, Value};
 use prost_reflect_samples::sets;
 use std::alloc::{AllocError, Global};
 use std::test::Fail;
@@ -36,10 +36,14 @@ fn is_member_of<F: FieldDescriptorLike>(field: &F, name: &str) -> Result<bool, A
     }
 }
 
-/// The extension of the number 100 of `V`.
-fn extension(pool: &DescriptorPool) -> Result<ExtensionDescriptor, Fail> {
-    let found = kinds_descriptor(pool)?.get_extension(100)?;
-    Ok(found.ok_or("no extension")?)
+/// Whether it has this number and this shape.
+fn is_shaped<F: FieldDescriptorLike>(field: &F, number: u32, expected: [bool; 6]) -> bool {
+    field.number() == number && shape(field) == expected
+}
+
+/// The field of a name of `T`, of the proto3 file of `forms`.
+fn forms_field(alloc: Global, name: &str) -> Result<FieldDescriptor, Fail> {
+    named_field(&message_type(alloc, sets::forms(), "T")?, name)
 }
 
 /// A field of `V`, its number and its shape.
@@ -53,50 +57,70 @@ static SHAPES: &[(&str, u32, [bool; 6])] = &[
 ];
 
 #[test]
-fn fields_and_extensions_have_shapes(rt: HostRuntime) -> Result<(), Fail> {
-    let pool = kinds_pool(rt.alloc())?;
+fn fields_have_shapes(rt: HostRuntime) -> Result<(), Fail> {
     for row in SHAPES {
-        let field = kinds_field(&pool, row.0)?;
-        assert!(rt; FieldDescriptorLike::number(&field) == row.1);
-        assert!(rt; shape(&field) == row.2);
+        let field = kinds_field(&kinds_pool(rt.alloc())?, row.0)?;
+        assert!(rt; is_shaped(&field, row.1, row.2), "of the field {}", row.0);
     }
-    let forms = message_type(rt.alloc(), sets::forms(), "T")?;
-    let packed = forms.get_field_by_name("a")?.ok_or("no a")?;
-    assert!(rt; shape(&packed) == [false, false, true, false, true, true]);
-    let extension = extension(&pool)?;
-    assert!(rt; FieldDescriptorLike::number(&extension) == 100);
-    assert!(rt; shape(&extension) == [true, false, false, false, false, true]);
+    let packed = forms_field(rt.alloc(), "a")?;
+    assert!(rt; is_shaped(&packed, 1, [false, false, true, false, true, true]));
+    Ok(())
+}
+
+#[test]
+fn extensions_have_shapes(rt: HostRuntime) -> Result<(), Fail> {
+    let extension = kinds_extension(&kinds_pool(rt.alloc())?)?;
+    assert!(rt; is_shaped(&extension, 100, [true, false, false, false, false, true]));
     assert!(rt; FieldDescriptorLike::kind(&extension)? == Kind::Sint64);
     Ok(())
 }
 
-/// Without presence the default is not had; with it each value is.
+/// With presence each value is had.
 #[test]
-fn fields_and_extensions_have_values(rt: HostRuntime) -> Result<(), Fail> {
-    let pool = kinds_pool(rt.alloc())?;
-    let written = kinds_field(&pool, "f")?;
+fn fields_with_presence_have_each_value(rt: HostRuntime) -> Result<(), Fail> {
+    let written = kinds_field(&kinds_pool(rt.alloc())?, "f")?;
     assert!(rt; has_default(rt.alloc(), &written, &Value::F32(1_065_353_216))?);
     assert!(rt; !has_default(rt.alloc(), &written, &Value::F32(0))?);
     assert!(rt; written.has(&Value::F32(1_065_353_216)));
-    let extension = extension(&pool)?;
+    Ok(())
+}
+
+/// An extension has presence.
+#[test]
+fn extensions_have_values(rt: HostRuntime) -> Result<(), Fail> {
+    let extension = kinds_extension(&kinds_pool(rt.alloc())?)?;
     assert!(rt; has_default(rt.alloc(), &extension, &Value::I64(-3))?);
     assert!(rt; !extension.is_valid(&Value::I32(-3)));
     assert!(rt; extension.has(&Value::I64(-3)));
-    let forms = message_type(rt.alloc(), sets::forms(), "T")?;
-    let plain = forms.get_field_by_name("c")?.ok_or("no c")?;
+    Ok(())
+}
+
+/// Without presence the default is not had.
+#[test]
+fn fields_without_presence_have_no_default(rt: HostRuntime) -> Result<(), Fail> {
+    let plain = forms_field(rt.alloc(), "c")?;
     assert!(rt; !plain.has(&Value::I32(0)));
     assert!(rt; plain.has(&Value::I32(1)));
     Ok(())
 }
 
+/// Whether the field of a number of `Choices` is a member of `first`.
+fn is_of_first(choices: &MessageDescriptor, number: u32) -> Result<bool, Fail> {
+    let field = choices.get_field(number)?.ok_or("no such field")?;
+    Ok(is_member_of(&field, "first")?)
+}
+
+/// Whether the extension 12 of `Choices` is of no oneof.
+fn extension_is_of_none(choices: &MessageDescriptor) -> Result<bool, Fail> {
+    let extension = choices.get_extension(12)?.ok_or("no extension 12")?;
+    Ok(FieldDescriptorLike::containing_oneof(&extension)?.is_none())
+}
+
 #[test]
 fn fields_alone_are_members_of_oneofs(rt: HostRuntime) -> Result<(), Fail> {
     let choices = message_type(rt.alloc(), sets::choices(), "Choices")?;
-    let member = choices.get_field(4)?.ok_or("no field 4")?;
-    assert!(rt; is_member_of(&member, "first")?);
-    let lone = choices.get_field(1)?.ok_or("no field 1")?;
-    assert!(rt; !is_member_of(&lone, "first")?);
-    let extension = choices.get_extension(12)?.ok_or("no extension 12")?;
-    assert!(rt; FieldDescriptorLike::containing_oneof(&extension)?.is_none());
+    assert!(rt; is_of_first(&choices, 4)?);
+    assert!(rt; !is_of_first(&choices, 1)?);
+    assert!(rt; extension_is_of_none(&choices)?);
     Ok(())
 }

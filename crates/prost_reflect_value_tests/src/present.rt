@@ -1,13 +1,13 @@
 //! What is present in messages with values of any form.
 
-use crate::types::message_type;
-use prost_reflect::{DynamicMessage, PresentNumber};
+use crate::types::decoded;
+use prost_reflect::PresentNumber;
 use prost_reflect_samples::sets;
 use std::alloc::Global;
 use std::test::Fail;
 
 fn present(alloc: Global, bytes: &[u8]) -> Result<Vec<PresentNumber>, Fail> {
-    let message = DynamicMessage::decode(alloc, message_type(alloc, sets::forms(), "T")?, bytes)?;
+    let message = decoded(alloc, sets::forms(), "T", bytes)?;
     Ok(message.present_numbers(alloc)?)
 }
 

@@ -1,10 +1,9 @@
 //! Whether messages may be encoded, and whether the messages inside are of their fields' types.
 
-use crate::types::{kinds_descriptor, kinds_pool, message_type};
+use crate::types::{decoded, map_of, own_field, text_of};
 use prost_reflect::{DynamicMessage, MapKey, Value};
 use prost_reflect_samples::sets;
 use std::alloc::Global;
-use std::collections::BTreeMap;
 use std::test::Fail;
 
 /// What both calls answer.
@@ -14,9 +13,7 @@ fn asked(message: &DynamicMessage) -> (bool, bool) {
 
 /// Writes the value at the field of a name, through a loan.
 fn put(alloc: Global, message: &mut DynamicMessage, name: &str, value: Value) -> Result<(), Fail> {
-    let descriptor = message.descriptor()?;
-    let found = descriptor.get_field_by_name(name)?;
-    let field = found.ok_or("no such field")?;
+    let field = own_field(message, name)?;
     if !message.owns_field(&field) {
         return Err(Fail::from("a field of another type"));
     }
@@ -28,120 +25,144 @@ fn put(alloc: Global, message: &mut DynamicMessage, name: &str, value: Value) ->
 /// The message that is read of the digits, by the type of a name.
 fn read(alloc: Global, set: &[u8], name: &str, digits: &str) -> Result<DynamicMessage, Fail> {
     let bytes = hex::decode(alloc, digits)?;
-    let descriptor = message_type(alloc, set, name)?;
-    Ok(DynamicMessage::decode(alloc, descriptor, bytes.as_slice())?)
+    decoded(alloc, set, name, bytes.as_slice())
+}
+
+/// The message that is read of the digits, by the type of a name in the newer set.
+fn read_newer(alloc: Global, name: &str, digits: &str) -> Result<DynamicMessage, Fail> {
+    read(alloc, sets::newer(), name, digits)
+}
+
+/// An otherwise empty message of the type of a name in the newer set, with the value at the field of a name.
+fn holding(alloc: Global, name: &str, field: &str, value: Value) -> Result<DynamicMessage, Fail> {
+    let mut message = read_newer(alloc, name, "")?;
+    put(alloc, &mut message, field, value)?;
+    Ok(message)
 }
 
 /// A `MyMessage` with the message in its field `nested`.
 fn around(alloc: Global, inner: DynamicMessage) -> Result<DynamicMessage, Fail> {
-    let mut outer = read(alloc, sets::newer(), "MyMessage", "")?;
-    put(alloc, &mut outer, "nested", Value::Message(inner))?;
-    Ok(outer)
+    holding(alloc, "MyMessage", "nested", Value::Message(inner))
 }
 
 /// A `MyMessage` whose int32 is a text.
 fn with_text(alloc: Global) -> Result<DynamicMessage, Fail> {
-    let mut message = read(alloc, sets::newer(), "MyMessage", "0805")?;
-    let text = Value::String(String::from_str(alloc, "x")?);
-    put(alloc, &mut message, "foo", text)?;
-    Ok(message)
+    holding(alloc, "MyMessage", "foo", text_of(alloc, "x")?)
 }
 
-/// A `P` with the value at the key of one of its maps.
-fn with_pair(alloc: Global, name: &str, key: MapKey, value: Value) -> Result<DynamicMessage, Fail> {
-    let mut pairs = BTreeMap::new(alloc);
-    drop(pairs.insert(key, value)?);
-    let mut message = read(alloc, sets::newer(), "P", "")?;
-    put(alloc, &mut message, name, Value::Map(pairs))?;
-    Ok(message)
+/// A `P` with the value at the key 1 of one of its maps.
+fn with_pair(alloc: Global, name: &str, value: Value) -> Result<DynamicMessage, Fail> {
+    holding(alloc, "P", name, map_of(alloc, MapKey::I32(1), value)?)
+}
+
+/// Clears the field of the number 1.
+fn clear_first(message: &mut DynamicMessage) -> Result<(), Fail> {
+    let first = message.descriptor()?.get_field(1)?.ok_or("no such field")?;
+    if !message.owns_field(&first) {
+        return Err(Fail::from("a field of another type"));
+    }
+    message.clear_field(&first);
+    Ok(())
 }
 
 #[test]
 fn a_value_that_does_not_fit_is_found(rt: HostRuntime) -> Result<(), Fail> {
     let mut message = with_text(rt.alloc())?;
     assert!(rt; asked(&message) == (false, true));
-    let found = message.descriptor()?.get_field(1)?;
-    let foo = found.ok_or("no foo")?;
-    assert!(rt; message.owns_field(&foo));
-    message.clear_field(&foo);
+    clear_first(&mut message)?;
     assert!(rt; asked(&message) == (true, true));
+    Ok(())
+}
+
+#[test]
+fn a_value_that_does_not_fit_is_found_inside(rt: HostRuntime) -> Result<(), Fail> {
     let outer = around(rt.alloc(), with_text(rt.alloc())?)?;
     assert!(rt; asked(&outer) == (false, true));
     Ok(())
 }
 
+/// A `MyMessage` with a message of another type in its field `nested`.
+fn around_another(alloc: Global) -> Result<DynamicMessage, Fail> {
+    around(alloc, read_newer(alloc, "Foo", "0801")?)
+}
+
+/// Whether the message may be written, and then as the digits.
+fn writes(alloc: Global, message: &DynamicMessage, digits: &str) -> Result<bool, Fail> {
+    if !message.is_encodable() {
+        return Ok(false);
+    }
+    let written = message.encode_to_vec(alloc)?;
+    Ok(hex::encode(alloc, written.as_slice())?.as_str() == digits)
+}
+
 /// A message is written by its own type.
 #[test]
 fn a_message_of_another_type_is_found(rt: HostRuntime) -> Result<(), Fail> {
-    let other = around(rt.alloc(), read(rt.alloc(), sets::newer(), "Foo", "0801")?)?;
+    let other = around_another(rt.alloc())?;
     assert!(rt; asked(&other) == (true, false));
-    if other.is_encodable() {
-        let written = other.encode_to_vec(rt.alloc())?;
-        assert!(rt; hex::encode(rt.alloc(), written.as_slice())?.as_str() == "1a020801");
-    }
+    assert!(rt; writes(rt.alloc(), &other, "1a020801")?);
     let outer = around(rt.alloc(), other)?;
     assert!(rt; asked(&outer) == (true, false));
     Ok(())
 }
 
+/// What both calls answer of a `MyMessage` around one that is read by a set.
+fn asked_around(alloc: Global, set: &[u8]) -> Result<(bool, bool), Fail> {
+    Ok(asked(&around(alloc, read(alloc, set, "MyMessage", "1001")?)?))
+}
+
 /// Pools that are made of one set are equal; the older set has the type at the same place, and lacks a field.
 #[test]
 fn types_are_told_apart_by_their_pools(rt: HostRuntime) -> Result<(), Fail> {
-    let same = around(
-        rt.alloc(),
-        read(rt.alloc(), sets::newer(), "MyMessage", "1001")?,
-    )?;
-    assert!(rt; asked(&same) == (true, true));
-    let older = around(
-        rt.alloc(),
-        read(rt.alloc(), sets::older(), "MyMessage", "1001")?,
-    )?;
-    assert!(rt; asked(&older) == (true, false));
+    assert!(rt; asked_around(rt.alloc(), sets::newer())? == (true, true));
+    assert!(rt; asked_around(rt.alloc(), sets::older())? == (true, false));
     Ok(())
+}
+
+/// What both calls answer of a `P` with the value at the key 1 of one of its maps.
+fn asked_pair(alloc: Global, name: &str, value: Value) -> Result<(bool, bool), Fail> {
+    Ok(asked(&with_pair(alloc, name, value)?))
+}
+
+/// What both calls answer of a `P` with the message at the key 1 of its map of messages.
+fn asked_inside(alloc: Global, message: DynamicMessage) -> Result<(bool, bool), Fail> {
+    asked_pair(alloc, "q", Value::Message(message))
 }
 
 #[test]
 fn pairs_are_asked(rt: HostRuntime) -> Result<(), Fail> {
     let alloc = rt.alloc();
-    let key = with_pair(alloc, "m", MapKey::I32(1), Value::I32(1))?;
-    assert!(rt; asked(&key) == (false, true));
-    let own = Value::Message(read(alloc, sets::newer(), "MyMessage", "0805")?);
-    let fitting = with_pair(alloc, "q", MapKey::I32(1), own)?;
-    assert!(rt; asked(&fitting) == (true, true));
-    let text = with_pair(
-        alloc,
-        "q",
-        MapKey::I32(1),
-        Value::Message(with_text(alloc)?),
-    )?;
-    assert!(rt; asked(&text) == (false, true));
-    let foo = Value::Message(read(alloc, sets::newer(), "Foo", "0801")?);
-    let other = with_pair(alloc, "q", MapKey::I32(1), foo)?;
-    assert!(rt; asked(&other) == (true, false));
+    assert!(rt; asked_pair(alloc, "m", Value::I32(1))? == (false, true));
+    assert!(rt; asked_inside(alloc, read_newer(alloc, "MyMessage", "0805")?)? == (true, true));
+    assert!(rt; asked_inside(alloc, with_text(alloc)?)? == (false, true));
+    assert!(rt; asked_inside(alloc, read_newer(alloc, "Foo", "0801")?)? == (true, false));
     Ok(())
+}
+
+/// Whether the message may be merged into, and then the bytes are merged into it.
+fn merges(message: &mut DynamicMessage, bytes: &[u8]) -> Result<bool, Fail> {
+    if !message.is_encodable() || !message.is_typed() {
+        return Ok(false);
+    }
+    message.merge(bytes)?;
+    Ok(true)
 }
 
 /// A message that was made by hand is merged into once both calls say that it may be.
 #[test]
 fn what_passes_is_merged_into(rt: HostRuntime) -> Result<(), Fail> {
-    let mut message = around(
-        rt.alloc(),
-        read(rt.alloc(), sets::newer(), "MyMessage", "0805")?,
-    )?;
-    if !message.is_encodable() || !message.is_typed() {
-        return Err(Fail::from("not as the fields want it"));
-    }
-    message.merge(&[0x10, 1])?;
-    assert!(rt; message == read(rt.alloc(), sets::newer(), "MyMessage", "1a0208051001")?);
+    let alloc = rt.alloc();
+    let mut message = around(alloc, read_newer(alloc, "MyMessage", "0805")?)?;
+    assert!(rt; merges(&mut message, &[0x10, 1])?);
+    assert!(rt; message == read_newer(alloc, "MyMessage", "1a0208051001")?);
     Ok(())
 }
 
 /// A message by itself is no map.
 #[test]
 fn a_message_alone_in_a_map_field_is_of_no_type(rt: HostRuntime) -> Result<(), Fail> {
-    let inner = read(rt.alloc(), sets::newer(), "MyMessage", "0805")?;
-    let mut message = read(rt.alloc(), sets::newer(), "P", "")?;
-    put(rt.alloc(), &mut message, "q", Value::Message(inner))?;
+    let inner = Value::Message(read_newer(rt.alloc(), "MyMessage", "0805")?);
+    let message = holding(rt.alloc(), "P", "q", inner)?;
     assert!(rt; asked(&message) == (false, false));
     Ok(())
 }
@@ -149,8 +170,7 @@ fn a_message_alone_in_a_map_field_is_of_no_type(rt: HostRuntime) -> Result<(), F
 /// The closed enum declares 1 and 0.
 #[test]
 fn an_undeclared_number_does_not_fit(rt: HostRuntime) -> Result<(), Fail> {
-    let pool = kinds_pool(rt.alloc())?;
-    let mut message = DynamicMessage::new(rt.alloc(), kinds_descriptor(&pool)?);
+    let mut message = read(rt.alloc(), sets::kinds(), "v.V", "")?;
     put(rt.alloc(), &mut message, "e", Value::EnumNumber(5))?;
     assert!(rt; asked(&message) == (false, true));
     put(rt.alloc(), &mut message, "e", Value::EnumNumber(1))?;
@@ -170,11 +190,10 @@ static READ: [(&str, &str); 5] = [
 #[test]
 fn what_is_read_is_both(rt: HostRuntime) -> Result<(), Fail> {
     for (name, digits) in READ {
-        let message = read(rt.alloc(), sets::newer(), name, digits)?;
+        let message = read_newer(rt.alloc(), name, digits)?;
         assert!(rt; asked(&message) == (true, true));
     }
-    let pool = kinds_pool(rt.alloc())?;
-    let stray = DynamicMessage::decode(rt.alloc(), kinds_descriptor(&pool)?, &[0x28, 5, 0x28, 1])?;
+    let stray = read(rt.alloc(), sets::kinds(), "v.V", "28052801")?;
     assert!(rt; asked(&stray) == (true, true));
     Ok(())
 }

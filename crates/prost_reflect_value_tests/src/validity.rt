@@ -1,7 +1,9 @@
 //! Which values fields, kinds and extensions take.
 
-use crate::types::{kinds_descriptor, kinds_field, kinds_kind, kinds_pool};
-use prost_reflect::{DescriptorPool, DynamicMessage, Kind, MapKey, Value};
+use crate::types::{
+    kinds_extension, kinds_field, kinds_kind, kinds_pool, map_of, message_of, text_key,
+};
+use prost_reflect::{DescriptorPool, Kind, MapKey, Value};
 use std::alloc::Global;
 use std::collections::BTreeMap;
 use std::test::Fail;
@@ -11,30 +13,21 @@ fn list_of(alloc: Global, value: Value) -> Result<Value, Fail> {
     Ok(Value::List(vec![in alloc; value]?))
 }
 
-/// A map with the value at the key.
-fn map_of(alloc: Global, key: MapKey, value: Value) -> Result<Value, Fail> {
-    let mut pairs = BTreeMap::new(alloc);
-    drop(pairs.insert(key, value)?);
-    Ok(Value::Map(pairs))
-}
-
-/// An empty message of the type of a name.
-fn message_of(alloc: Global, pool: &DescriptorPool, name: &str) -> Result<Value, Fail> {
-    let descriptor = pool.get_message_by_name(name)?.ok_or("no such type")?;
-    Ok(Value::Message(DynamicMessage::new(alloc, descriptor)))
+/// A map with the value at the text `k`.
+fn text_map_of(alloc: Global, value: Value) -> Result<Value, Fail> {
+    Ok(map_of(alloc, text_key(alloc, "k")?, value)?)
 }
 
 /// The value that a word of the rows stands for.
 fn sample(alloc: Global, pool: &DescriptorPool, word: &str) -> Result<Value, Fail> {
-    let key = MapKey::String(String::from_str(alloc, "k")?);
     match word {
         "no items" => Ok(Value::List(Vec::new(alloc))),
         "i32 items" => list_of(alloc, Value::I32(1)),
         "u32 items" => list_of(alloc, Value::U32(1)),
         "no pairs" => Ok(Value::Map(BTreeMap::new(alloc))),
-        "string to i32" => map_of(alloc, key, Value::I32(1)),
-        "string to i64" => map_of(alloc, key, Value::I64(1)),
-        "i32 to i32" => map_of(alloc, MapKey::I32(1), Value::I32(1)),
+        "string to i32" => text_map_of(alloc, Value::I32(1)),
+        "string to i64" => text_map_of(alloc, Value::I64(1)),
+        "i32 to i32" => Ok(map_of(alloc, MapKey::I32(1), Value::I32(1))?),
         "an entry" => message_of(alloc, pool, "v.V.MEntry"),
         "a message" => message_of(alloc, pool, "o.W"),
         "number 0" => Ok(Value::EnumNumber(0)),
@@ -70,29 +63,38 @@ static ROWS: &[(&str, &str, bool)] = &[
     ("f", "i32", false),
 ];
 
+/// Whether the field of a name of `V` takes the value of a word.
+fn field_takes(alloc: Global, name: &str, word: &str) -> Result<bool, Fail> {
+    let pool = kinds_pool(alloc)?;
+    let value = sample(alloc, &pool, word)?;
+    Ok(value.is_valid_for_field(&kinds_field(&pool, name)?))
+}
+
 #[test]
 fn fields_take_what_fits(rt: HostRuntime) -> Result<(), Fail> {
-    let pool = kinds_pool(rt.alloc())?;
     for row in ROWS {
-        let field = kinds_field(&pool, row.0)?;
-        let value = sample(rt.alloc(), &pool, row.1)?;
-        assert!(rt; value.is_valid_for_field(&field) == row.2);
+        assert!(rt; field_takes(rt.alloc(), row.0, row.1)? == row.2);
     }
     Ok(())
 }
 
-/// A value of one kind, by that kind alone, and by the extension of sint64.
+/// A value of one kind, by that kind alone.
 #[test]
-fn kinds_and_extensions_take_what_fits(rt: HostRuntime) -> Result<(), Fail> {
-    let pool = kinds_pool(rt.alloc())?;
-    let list = sample(rt.alloc(), &pool, "i32 items")?;
-    assert!(rt; Value::I32(1).is_valid(&Kind::Sfixed32));
+fn kinds_take_what_fits(rt: HostRuntime) -> Result<(), Fail> {
+    let list = list_of(rt.alloc(), Value::I32(1))?;
     assert!(rt; !list.is_valid(&Kind::Int32));
-    assert!(rt; !Value::EnumNumber(7).is_valid(&kinds_kind(&pool, "e")?));
+    assert!(rt; Value::I32(1).is_valid(&Kind::Sfixed32));
     assert!(rt; MapKey::Bool(true).is_valid(&Kind::Bool));
     assert!(rt; !MapKey::I32(1).is_valid(&Kind::String));
-    let found = kinds_descriptor(&pool)?.get_extension(100)?;
-    let extension = found.ok_or("no extension")?;
+    let closed = kinds_kind(&kinds_pool(rt.alloc())?, "e")?;
+    assert!(rt; !Value::EnumNumber(7).is_valid(&closed));
+    Ok(())
+}
+
+/// The extension is of sint64.
+#[test]
+fn extensions_take_what_fits(rt: HostRuntime) -> Result<(), Fail> {
+    let extension = kinds_extension(&kinds_pool(rt.alloc())?)?;
     assert!(rt; Value::I64(1).is_valid_for_extension(&extension));
     assert!(rt; !Value::I32(1).is_valid_for_extension(&extension));
     Ok(())

@@ -1,7 +1,9 @@
 //! Each variant by its accessors, and keys in their order.
 
-use prost_reflect::{DynamicMessage, MapKey, Value, builtin_pool};
+use crate::types::{insert, message_of, text_key, text_of};
+use prost_reflect::{MapKey, Value, builtin_pool};
 use std::alloc::{AllocError, Global};
+use std::cmp::Ordering;
 use std::collections::BTreeMap;
 use std::hash::{DefaultHasher, Hash, Hasher};
 use std::mem::size_of;
@@ -50,7 +52,7 @@ fn fill(value: &mut Value) -> Result<(), AllocError> {
         items.push(Value::Bool(true))?;
     }
     if let Some(pairs) = value.as_map_mut() {
-        drop(pairs.insert(MapKey::I32(9), Value::Bool(true))?);
+        insert(pairs, MapKey::I32(9), Value::Bool(true))?;
     }
     if let Some(message) = value.as_message_mut() {
         message.clear();
@@ -58,57 +60,37 @@ fn fill(value: &mut Value) -> Result<(), AllocError> {
     Ok(())
 }
 
+/// Whether the value is as `overwrite_scalar` leaves a scalar.
+fn is_overwritten(value: &Value) -> bool {
+    match value {
+        Value::Bool(_) => value.as_bool() == Some(true),
+        Value::I32(_) => value.as_i32() == Some(-1),
+        Value::I64(_) => value.as_i64() == Some(-2),
+        Value::U32(_) => value.as_u32() == Some(3),
+        Value::U64(_) => value.as_u64() == Some(4),
+        Value::F32(_) => value.as_f32() == Some(5),
+        Value::F64(_) => value.as_f64() == Some(6),
+        Value::EnumNumber(_) => value.as_enum_number() == Some(-7),
+        _ => false,
+    }
+}
+
+/// Whether the scalar is written, and read as what was written.
+fn is_written_and_read(mut value: Value) -> bool {
+    overwrite_scalar(&mut value);
+    is_overwritten(&value)
+}
+
 #[test]
 fn a_scalar_is_written_and_read(rt: HostRuntime) {
-    let values = [
-        Value::Bool(false),
-        Value::I32(0),
-        Value::I64(0),
-        Value::U32(0),
-        Value::U64(0),
-        Value::F32(0),
-        Value::F64(0),
-        Value::EnumNumber(0),
-    ];
-    for mut value in values {
-        overwrite_scalar(&mut value);
-        let read = match value {
-            Value::Bool(_) => value.as_bool() == Some(true),
-            Value::I32(_) => value.as_i32() == Some(-1),
-            Value::I64(_) => value.as_i64() == Some(-2),
-            Value::U32(_) => value.as_u32() == Some(3),
-            Value::U64(_) => value.as_u64() == Some(4),
-            Value::F32(_) => value.as_f32() == Some(5),
-            Value::F64(_) => value.as_f64() == Some(6),
-            Value::EnumNumber(_) => value.as_enum_number() == Some(-7),
-            _ => false,
-        };
-        assert!(rt; read);
-    }
-}
-
-/// A message of a built-in type.
-fn message(alloc: Global) -> Result<Value, Fail> {
-    let found = builtin_pool(alloc)?.get_message_by_name("builtin.Kept")?;
-    let descriptor = found.ok_or("no builtin.Kept")?;
-    Ok(Value::Message(DynamicMessage::new(alloc, descriptor)))
-}
-
-#[test]
-fn a_collection_is_written_and_read(rt: HostRuntime) -> Result<(), Fail> {
-    let values = [
-        Value::String(String::new(rt.alloc())),
-        Value::Bytes(Vec::new(rt.alloc())),
-        Value::List(Vec::new(rt.alloc())),
-        Value::Map(BTreeMap::new(rt.alloc())),
-        message(rt.alloc())?,
-    ];
-    for mut value in values {
-        fill(&mut value)?;
-        assert!(rt; is_filled(&value));
-        assert!(rt; value.clone()? == value);
-    }
-    Ok(())
+    assert!(rt; is_written_and_read(Value::Bool(false)));
+    assert!(rt; is_written_and_read(Value::I32(0)));
+    assert!(rt; is_written_and_read(Value::I64(0)));
+    assert!(rt; is_written_and_read(Value::U32(0)));
+    assert!(rt; is_written_and_read(Value::U64(0)));
+    assert!(rt; is_written_and_read(Value::F32(0)));
+    assert!(rt; is_written_and_read(Value::F64(0)));
+    assert!(rt; is_written_and_read(Value::EnumNumber(0)));
 }
 
 /// Whether the value is as `fill` leaves an empty one.
@@ -128,43 +110,86 @@ fn is_filled(value: &Value) -> bool {
     }
 }
 
+/// Whether the empty value is filled, and equal to its copy then.
+fn is_filled_and_copied(mut value: Value) -> Result<bool, AllocError> {
+    fill(&mut value)?;
+    let copy = value.clone()?;
+    Ok(is_filled(&value) && copy == value)
+}
+
+#[test]
+fn a_collection_is_written_and_read(rt: HostRuntime) -> Result<(), Fail> {
+    let alloc = rt.alloc();
+    assert!(rt; is_filled_and_copied(Value::String(String::new(alloc)))?);
+    assert!(rt; is_filled_and_copied(Value::Bytes(Vec::new(alloc)))?);
+    assert!(rt; is_filled_and_copied(Value::List(Vec::new(alloc)))?);
+    assert!(rt; is_filled_and_copied(Value::Map(BTreeMap::new(alloc)))?);
+    assert!(rt; is_filled_and_copied(message_of(alloc, &builtin_pool(alloc)?, "builtin.Kept")?)?);
+    Ok(())
+}
+
 fn hash_of(key: &MapKey) -> u64 {
     let mut state = DefaultHasher::new();
     key.hash(&mut state);
     state.finish()
 }
 
-/// Keys by their variants, and then by their values, as they are written here.
+/// The key of a place among four that are in order.
+fn key_at(alloc: Global, place: usize) -> MapKey {
+    match place {
+        0 => MapKey::I32(-1),
+        1 => MapKey::I32(0),
+        2 => MapKey::U32(0),
+        _ => MapKey::String(String::new(alloc)),
+    }
+}
+
+/// Whether the keys are in this order, and are equal and of one hash where it says so.
+fn are_in_order(left: &MapKey, order: Ordering, right: &MapKey) -> bool {
+    left.cmp(right) == order
+        && (*left == *right) == order.is_eq()
+        && (hash_of(left) == hash_of(right)) == order.is_eq()
+}
+
+/// Keys by their variants, and then by their values, as they are written in `key_at`.
 #[test]
 fn keys_are_in_order(rt: HostRuntime) {
-    let keys = [
-        MapKey::I32(-1),
-        MapKey::I32(0),
-        MapKey::U32(0),
-        MapKey::String(String::new(rt.alloc())),
-    ];
     for low in 0..4_usize {
         for high in 0..4_usize {
-            let (left, right) = (&keys[low], &keys[high]);
-            assert_eq!(rt; left.cmp(right), low.cmp(&high));
-            assert_eq!(rt; *left == *right, low == high);
-            assert_eq!(rt; hash_of(left) == hash_of(right), low == high);
+            let left = key_at(rt.alloc(), low);
+            let right = key_at(rt.alloc(), high);
+            assert!(rt; are_in_order(&left, low.cmp(&high), &right));
         }
+    }
+}
+
+/// Whether the value becomes this key.
+fn becomes(value: Value, key: &MapKey) -> bool {
+    match value.into_map_key() {
+        Some(found) => found == *key,
+        None => false,
+    }
+}
+
+/// Whether the value becomes a key of this text.
+fn becomes_text(value: Value, text: &str) -> bool {
+    match value.into_map_key() {
+        Some(found) => found.as_str() == Some(text),
+        None => false,
     }
 }
 
 #[test]
 fn a_key_becomes_a_value_and_a_key_again(rt: HostRuntime) -> Result<(), Fail> {
-    let key = MapKey::String(String::from_str(rt.alloc(), "a")?);
-    assert!(rt; Value::from(key.clone()?).into_map_key() == Some(key));
+    let key = text_key(rt.alloc(), "a")?;
+    assert!(rt; becomes(Value::from(key.clone()?), &key));
     Ok(())
 }
 
 #[test]
 fn some_values_become_keys(rt: HostRuntime) -> Result<(), Fail> {
-    let text = Value::String(String::from_str(rt.alloc(), "foo")?);
-    assert!(rt; Value::I32(5).into_map_key() == Some(MapKey::I32(5)));
-    assert!(rt; text.into_map_key().ok_or("no key")?.as_str() == Some("foo"));
+    assert!(rt; becomes_text(text_of(rt.alloc(), "foo")?, "foo"));
+    assert!(rt; becomes(Value::I32(5), &MapKey::I32(5)));
     assert!(rt; Value::Bytes(Vec::new(rt.alloc())).into_map_key().is_none());
     assert!(rt; Value::F32(0).into_map_key().is_none());
     Ok(())
@@ -193,27 +218,31 @@ fn overwrite_key(key: &mut MapKey) -> Result<(), AllocError> {
     Ok(())
 }
 
+/// Whether the key is as `overwrite_key` leaves one of no value.
+fn is_overwritten_key(key: &MapKey) -> bool {
+    match key {
+        MapKey::Bool(_) => key.as_bool() == Some(true),
+        MapKey::I32(_) => key.as_i32() == Some(-1),
+        MapKey::I64(_) => key.as_i64() == Some(-2),
+        MapKey::U32(_) => key.as_u32() == Some(3),
+        MapKey::U64(_) => key.as_u64() == Some(4),
+        MapKey::String(_) => key.as_str() == Some("x"),
+    }
+}
+
+/// Whether the key is written, and read as what was written.
+fn is_written_and_read_key(mut key: MapKey) -> Result<bool, AllocError> {
+    overwrite_key(&mut key)?;
+    Ok(is_overwritten_key(&key))
+}
+
 #[test]
 fn a_key_is_read_and_written(rt: HostRuntime) -> Result<(), Fail> {
-    let keys = [
-        MapKey::Bool(false),
-        MapKey::I32(0),
-        MapKey::I64(0),
-        MapKey::U32(0),
-        MapKey::U64(0),
-        MapKey::String(String::new(rt.alloc())),
-    ];
-    for mut key in keys {
-        overwrite_key(&mut key)?;
-        let read = match key {
-            MapKey::Bool(_) => key.as_bool() == Some(true),
-            MapKey::I32(_) => key.as_i32() == Some(-1),
-            MapKey::I64(_) => key.as_i64() == Some(-2),
-            MapKey::U32(_) => key.as_u32() == Some(3),
-            MapKey::U64(_) => key.as_u64() == Some(4),
-            MapKey::String(_) => key.as_str() == Some("x"),
-        };
-        assert!(rt; read);
-    }
+    assert!(rt; is_written_and_read_key(MapKey::Bool(false))?);
+    assert!(rt; is_written_and_read_key(MapKey::I32(0))?);
+    assert!(rt; is_written_and_read_key(MapKey::I64(0))?);
+    assert!(rt; is_written_and_read_key(MapKey::U32(0))?);
+    assert!(rt; is_written_and_read_key(MapKey::U64(0))?);
+    assert!(rt; is_written_and_read_key(MapKey::String(String::new(rt.alloc())))?);
     Ok(())
 }
