@@ -1,14 +1,25 @@
 //! Fields and extensions of messages by their descriptors.
 
-use crate::types::{decoded, is_message, worked_type};
-use prost_reflect::{DecodeError, DynamicMessage, FieldDescriptor, Value};
-use std::alloc::Global;
+use crate::types::{decoded, empty, is_message, worked_field, worked_type};
+use prost_reflect::{DecodeError, DynamicMessage, ExtensionDescriptor, FieldDescriptor, Value};
+use std::alloc::{AllocError, Global};
 use std::borrow::Cow;
 use std::test::Fail;
 
 /// A message type, the digits of a message, the number of a field of the kind int32, whether the message has it, and its value;
 /// and the digits of the message where that value is taken away, where it is then set, and where it is cleared again.
-static FIELDS: [(&str, &str, u32, bool, i32, &str, &str, &str); 6] = [
+type FieldRow = (
+    &'static str,
+    &'static str,
+    u32,
+    bool,
+    i32,
+    &'static str,
+    &'static str,
+    &'static str,
+);
+
+static FIELDS: [FieldRow; 6] = [
     ("package.MyMessage", "0805", 1, true, 5, "", "0805", ""),
     ("package.MyMessage", "0800", 1, false, 0, "", "0800", ""),
     (
@@ -36,7 +47,17 @@ static FIELDS: [(&str, &str, u32, bool, i32, &str, &str, &str); 6] = [
 ];
 
 /// The same of extensions, which leave when they are cleared what is left where they are taken.
-static EXTENSIONS: [(&str, &str, u32, bool, i32, &str, &str); 3] = [
+type ExtensionRow = (
+    &'static str,
+    &'static str,
+    u32,
+    bool,
+    i32,
+    &'static str,
+    &'static str,
+);
+
+static EXTENSIONS: [ExtensionRow; 3] = [
     ("b.X", "a00607", 100, true, 7, "", "a00607"),
     ("b.X", "a00600", 100, true, 0, "", "a00600"),
     ("b.X", "08aa01", 100, false, 0, "08aa01", "08aa01a00600"),
@@ -60,263 +81,369 @@ fn is_found(value: &Option<Cow<'_, Value>>, number: i32, is_stored: bool) -> boo
 }
 
 /// Whether the value that was taken is the number, or there is none if the message did not have it.
-fn is_taken(value: &Option<Value>, number: i32, had: bool) -> bool {
+pub(crate) fn is_taken(value: &Option<Value>, number: i32, had: bool) -> bool {
     match value {
         Some(value) => had && value.as_i32() == Some(number),
         None => !had,
     }
 }
 
-/// Whether the message has the field or not, and shows the value.
-fn is_asked(
+/// Whether the field is the message's own, and the message has it or not, and shows the value.
+pub(crate) fn is_asked(
     alloc: Global,
     message: &DynamicMessage,
     field: &FieldDescriptor,
     (had, value, is_stored): (bool, i32, bool),
-) -> Result<bool, Fail> {
-    if !message.owns_field(field) {
-        return Err(Fail::from("a field of another type"));
-    }
-    let shown = message.get_field(alloc, field)?;
-    Ok(message.has_field(field) == had && is_shown(&shown, value, is_stored))
+) -> Result<bool, AllocError> {
+    Ok(
+        message.owns_field(field)
+            && message.has_field(field) == had
+            && is_shown(&message.get_field(alloc, field)?, value, is_stored),
+    )
 }
 
-/// Whether the value that is taken of the field is the number, or there is none if the message did not have it.
-fn takes(
+/// Whether the field is the message's own, and what is taken of it is the number, or there is none if the message did not have it.
+pub(crate) fn takes(
     message: &mut DynamicMessage,
     field: &FieldDescriptor,
     value: i32,
     had: bool,
+) -> bool {
+    message.owns_field(field) && is_taken(&message.take_field(field), value, had)
+}
+
+/// Whether the field is the message's own, takes the number, and is set to it.
+pub(crate) fn sets(message: &mut DynamicMessage, field: &FieldDescriptor, value: i32) -> bool {
+    message.owns_field(field)
+        && Value::I32(value).is_valid_for_field(field)
+        && message.set_field(field, Value::I32(value)).is_ok()
+}
+
+/// Whether the field is the message's own, and so is cleared.
+pub(crate) fn clears(message: &mut DynamicMessage, field: &FieldDescriptor) -> bool {
+    let is_own = message.owns_field(field);
+    if is_own {
+        message.clear_field(field);
+    }
+    is_own
+}
+
+/// Whether the message is what the row says at each step, where its field is asked, taken, set and cleared.
+fn follows(
+    alloc: Global,
+    message: &mut DynamicMessage,
+    field: &FieldDescriptor,
+    row: &FieldRow,
 ) -> Result<bool, Fail> {
-    if !message.owns_field(field) {
-        return Err(Fail::from("a field of another type"));
-    }
-    Ok(is_taken(&message.take_field(field), value, had))
-}
-
-/// Sets the field, which takes the number.
-fn set(message: &mut DynamicMessage, field: &FieldDescriptor, value: i32) -> Result<(), Fail> {
-    let value = Value::I32(value);
-    if !message.owns_field(field) {
-        return Err(Fail::from("a field of another type"));
-    }
-    if !value.is_valid_for_field(field) {
-        return Err(Fail::from("a field of another kind"));
-    }
-    message.set_field(field, value)?;
-    Ok(())
-}
-
-fn clear(message: &mut DynamicMessage, field: &FieldDescriptor) -> Result<(), Fail> {
-    if !message.owns_field(field) {
-        return Err(Fail::from("a field of another type"));
-    }
-    message.clear_field(field);
-    Ok(())
+    let (name, digits, _, had, value, left, written, cleared) = row;
+    Ok(
+        is_asked(alloc, message, field, (*had, *value, digits == written))?
+            && takes(message, field, *value, *had)
+            && is_message(alloc, message, name, left)?
+            && sets(message, field, *value)
+            && is_message(alloc, message, name, written)?
+            && clears(message, field)
+            && is_message(alloc, message, name, cleared)?,
+    )
 }
 
 #[test]
 fn fields_are_asked_set_and_taken(rt: HostRuntime) -> Result<(), Fail> {
-    let alloc = rt.alloc();
-    for (name, digits, number, had, value, left, written, cleared) in &FIELDS {
-        let found = worked_type(alloc, name)?.get_field(*number)?;
-        let field = found.ok_or("no such field")?;
-        let mut message = decoded(alloc, name, digits)?;
-        assert!(rt; is_asked(alloc, &message, &field, (*had, *value, digits == written))?);
-        assert!(rt; takes(&mut message, &field, *value, *had)?);
-        assert!(rt; is_message(alloc, &message, name, left)?);
-        set(&mut message, &field, *value)?;
-        assert!(rt; is_message(alloc, &message, name, written)?);
-        clear(&mut message, &field)?;
-        assert!(rt; is_message(alloc, &message, name, cleared)?);
+    for row in &FIELDS {
+        let field = worked_field(rt.alloc(), row.0, row.2)?;
+        let mut message = decoded(rt.alloc(), row.0, row.1)?;
+        assert!(rt; follows(rt.alloc(), &mut message, &field, row)?);
     }
     Ok(())
 }
 
-/// Sets the field of a number anew, which takes the value since it took it before.
-fn set_by_number(message: &mut DynamicMessage, number: u32, value: i32) -> Result<(), Fail> {
-    message.try_set_field_by_number(number, Value::I32(value))?;
-    message.clear_field_by_number(number);
-    message.set_field_by_number(number, Value::I32(value))?;
-    Ok(())
+/// Whether the message is what the row says, where its field is asked and taken by the number.
+fn takes_by_number(
+    alloc: Global,
+    message: &mut DynamicMessage,
+    row: &FieldRow,
+) -> Result<bool, Fail> {
+    let (name, digits, number, had, value, left, written, _) = row;
+    Ok(
+        message.has_field_by_number(*number) == *had
+            && is_found(
+                &message.get_field_by_number(alloc, *number)?,
+                *value,
+                digits == written,
+            )
+            && is_taken(&message.take_field_by_number(*number), *value, *had)
+            && is_message(alloc, message, name, left)?,
+    )
 }
 
-/// The same by a name.
-fn set_by_name(message: &mut DynamicMessage, name: &str, value: i32) -> Result<(), Fail> {
-    message.try_set_field_by_name(name, Value::I32(value))?;
-    message.clear_field_by_name(name);
-    message.set_field_by_name(name, Value::I32(value))?;
-    Ok(())
+/// Whether the message is what the row says, where its field is set by the number, cleared, and set anew to the value that it took.
+fn sets_by_number(
+    alloc: Global,
+    message: &mut DynamicMessage,
+    row: &FieldRow,
+) -> Result<bool, Fail> {
+    let (name, _, number, _, value, _, written, cleared) = row;
+    let tried = message.try_set_field_by_number(*number, Value::I32(*value));
+    if tried.is_err() {
+        return Ok(false);
+    }
+    let is_set = is_message(alloc, message, name, written)?;
+    message.clear_field_by_number(*number);
+    let is_cleared = is_message(alloc, message, name, cleared)?;
+    message.set_field_by_number(*number, Value::I32(*value))?;
+    Ok(is_set && is_cleared && is_message(alloc, message, name, written)?)
 }
 
 #[test]
 fn fields_are_asked_set_and_taken_by_number(rt: HostRuntime) -> Result<(), Fail> {
-    let alloc = rt.alloc();
-    for (name, digits, number, had, value, left, set, cleared) in &FIELDS {
-        let mut message = decoded(alloc, name, digits)?;
-        assert!(rt; message.has_field_by_number(*number) == *had);
-        let is_stored = digits == set;
-        assert!(rt;
-            is_found(
-                &message.get_field_by_number(alloc, *number)?,
-                *value,
-                is_stored
-            )
-        );
-        assert!(rt; is_taken(&message.take_field_by_number(*number), *value, *had));
-        assert!(rt; is_message(alloc, &message, name, left)?);
-        message.try_set_field_by_number(*number, Value::I32(*value))?;
-        assert!(rt; is_message(alloc, &message, name, set)?);
-        message.clear_field_by_number(*number);
-        assert!(rt; is_message(alloc, &message, name, cleared)?);
-        set_by_number(&mut message, *number, *value)?;
-        assert!(rt; is_message(alloc, &message, name, set)?);
+    for row in &FIELDS {
+        let mut message = decoded(rt.alloc(), row.0, row.1)?;
+        assert!(rt; takes_by_number(rt.alloc(), &mut message, row)?);
+        assert!(rt; sets_by_number(rt.alloc(), &mut message, row)?);
     }
     Ok(())
 }
 
+/// Whether the message is what the row says, where the field of the name is asked and taken by it.
+fn takes_by_name(
+    alloc: Global,
+    message: &mut DynamicMessage,
+    field: &str,
+    row: &FieldRow,
+) -> Result<bool, Fail> {
+    let (name, digits, _, had, value, left, written, _) = row;
+    Ok(
+        message.has_field_by_name(field) == *had
+            && is_found(
+                &message.get_field_by_name(alloc, field)?,
+                *value,
+                digits == written,
+            )
+            && is_taken(&message.take_field_by_name(field), *value, *had)
+            && is_message(alloc, message, name, left)?,
+    )
+}
+
+/// Whether the message is what the row says, where the field of the name is set by it, cleared, and set anew to the value that it took.
+fn sets_by_name(
+    alloc: Global,
+    message: &mut DynamicMessage,
+    field: &str,
+    row: &FieldRow,
+) -> Result<bool, Fail> {
+    let (name, _, _, _, value, _, written, cleared) = row;
+    let tried = message.try_set_field_by_name(field, Value::I32(*value));
+    if tried.is_err() {
+        return Ok(false);
+    }
+    let is_set = is_message(alloc, message, name, written)?;
+    message.clear_field_by_name(field);
+    let is_cleared = is_message(alloc, message, name, cleared)?;
+    message.set_field_by_name(field, Value::I32(*value))?;
+    Ok(is_set && is_cleared && is_message(alloc, message, name, written)?)
+}
+
 #[test]
 fn fields_are_asked_set_and_taken_by_name(rt: HostRuntime) -> Result<(), Fail> {
-    let alloc = rt.alloc();
-    for (name, digits, number, had, value, left, set, cleared) in &FIELDS {
-        let found = worked_type(alloc, name)?.get_field(*number)?;
-        let descriptor = found.ok_or("no such field")?;
-        let field = descriptor.name();
-        let mut message = decoded(alloc, name, digits)?;
-        assert!(rt; message.has_field_by_name(field) == *had);
-        let is_stored = digits == set;
-        assert!(rt; is_found(&message.get_field_by_name(alloc, field)?, *value, is_stored));
-        assert!(rt; is_taken(&message.take_field_by_name(field), *value, *had));
-        assert!(rt; is_message(alloc, &message, name, left)?);
-        message.try_set_field_by_name(field, Value::I32(*value))?;
-        assert!(rt; is_message(alloc, &message, name, set)?);
-        message.clear_field_by_name(field);
-        assert!(rt; is_message(alloc, &message, name, cleared)?);
-        set_by_name(&mut message, field, *value)?;
-        assert!(rt; is_message(alloc, &message, name, set)?);
+    for row in &FIELDS {
+        let field = worked_field(rt.alloc(), row.0, row.2)?;
+        let mut message = decoded(rt.alloc(), row.0, row.1)?;
+        assert!(rt; takes_by_name(rt.alloc(), &mut message, field.name(), row)?);
+        assert!(rt; sets_by_name(rt.alloc(), &mut message, field.name(), row)?);
     }
     Ok(())
+}
+
+/// Whether a 0 that `foo` is set to is written and not taken, and leaves nothing.
+fn drops_default(
+    alloc: Global,
+    message: &mut DynamicMessage,
+    foo: &FieldDescriptor,
+) -> Result<bool, Fail> {
+    Ok(
+        sets(message, foo, 0)
+            && is_message(alloc, message, "package.MyMessage", "0800")?
+            && takes(message, foo, 0, false)
+            && *message == empty(alloc, "package.MyMessage")?,
+    )
 }
 
 /// A default that is set is no value of a field without presence, and is removed where it is taken.
 #[test]
 fn a_default_that_is_set_is_not_taken(rt: HostRuntime) -> Result<(), Fail> {
-    let alloc = rt.alloc();
-    let descriptor = worked_type(alloc, "package.MyMessage")?;
-    let foo = descriptor.get_field(1)?.ok_or("no foo")?;
-    let mut message = DynamicMessage::new(alloc, descriptor.clone()?);
-    set(&mut message, &foo, 0)?;
-    assert!(rt; is_message(alloc, &message, "package.MyMessage", "0800")?);
-    assert!(rt; takes(&mut message, &foo, 0, false)?);
-    assert!(rt; message == DynamicMessage::new(alloc, descriptor));
+    let foo = worked_field(rt.alloc(), "package.MyMessage", 1)?;
+    let mut message = empty(rt.alloc(), "package.MyMessage")?;
+    assert!(rt; drops_default(rt.alloc(), &mut message, &foo)?);
     Ok(())
+}
+
+/// The extension of a number of the message type of a name in `worked`.
+fn worked_extension(alloc: Global, name: &str, number: u32) -> Result<ExtensionDescriptor, Fail> {
+    let found = worked_type(alloc, name)?.get_extension(number)?;
+    Ok(found.ok_or("no such extension")?)
+}
+
+/// Whether the message is what the row says, where its extension is asked and taken.
+fn takes_extension(
+    alloc: Global,
+    message: &mut DynamicMessage,
+    extension: &ExtensionDescriptor,
+    row: &ExtensionRow,
+) -> Result<bool, Fail> {
+    let (name, _, _, had, value, left, _) = row;
+    Ok(
+        message.owns_extension(extension)
+            && message.has_extension(extension) == *had
+            && is_shown(&message.get_extension(alloc, extension)?, *value, *had)
+            && is_taken(&message.take_extension(extension), *value, *had)
+            && is_message(alloc, message, name, left)?,
+    )
+}
+
+/// Whether the message is what the row says, where its extension is set, and then cleared.
+fn sets_extension(
+    alloc: Global,
+    message: &mut DynamicMessage,
+    extension: &ExtensionDescriptor,
+    row: &ExtensionRow,
+) -> Result<bool, Fail> {
+    let (name, _, _, _, value, left, written) = row;
+    if !message.owns_extension(extension) || !Value::I32(*value).is_valid_for_extension(extension) {
+        return Ok(false);
+    }
+    message.set_extension(extension, Value::I32(*value))?;
+    let is_set = is_message(alloc, message, name, written)?;
+    message.clear_extension(extension);
+    Ok(is_set && is_message(alloc, message, name, left)?)
 }
 
 #[test]
 fn extensions_are_asked_set_and_taken(rt: HostRuntime) -> Result<(), Fail> {
-    let alloc = rt.alloc();
-    for (name, digits, number, had, value, left, set) in &EXTENSIONS {
-        let found = worked_type(alloc, name)?.get_extension(*number)?;
-        let extension = found.ok_or("no such extension")?;
-        let mut message = decoded(alloc, name, digits)?;
-        assert!(rt; message.owns_extension(&extension));
-        assert!(rt; message.has_extension(&extension) == *had);
-        assert!(rt; is_shown(&message.get_extension(alloc, &extension)?, *value, *had));
-        assert!(rt; is_taken(&message.take_extension(&extension), *value, *had));
-        assert!(rt; is_message(alloc, &message, name, left)?);
-        let value = Value::I32(*value);
-        assert!(rt; value.is_valid_for_extension(&extension));
-        message.set_extension(&extension, value)?;
-        assert!(rt; is_message(alloc, &message, name, set)?);
-        assert!(rt; message.owns_extension(&extension));
-        message.clear_extension(&extension);
-        assert!(rt; is_message(alloc, &message, name, left)?);
+    for row in &EXTENSIONS {
+        let extension = worked_extension(rt.alloc(), row.0, row.2)?;
+        let mut message = decoded(rt.alloc(), row.0, row.1)?;
+        assert!(rt; takes_extension(rt.alloc(), &mut message, &extension, row)?);
+        assert!(rt; sets_extension(rt.alloc(), &mut message, &extension, row)?);
     }
     Ok(())
+}
+
+/// Whether the extension is the message's own, and the number is written through its loan.
+fn lends_extension(
+    alloc: Global,
+    message: &mut DynamicMessage,
+    extension: &ExtensionDescriptor,
+    value: i32,
+) -> Result<bool, AllocError> {
+    let is_own = message.owns_extension(extension);
+    if is_own {
+        *message.get_extension_mut(alloc, extension)? = Value::I32(value);
+    }
+    Ok(is_own)
 }
 
 /// What is written through the loan is what the message has afterwards.
 #[test]
 fn an_extension_is_lent_for_writing(rt: HostRuntime) -> Result<(), Fail> {
-    let alloc = rt.alloc();
-    let found = worked_type(alloc, "b.X")?.get_extension(100)?;
-    let extension = found.ok_or("no x")?;
-    let mut message = decoded(alloc, "b.X", "")?;
-    assert!(rt; message.owns_extension(&extension));
-    *message.get_extension_mut(alloc, &extension)? = Value::I32(7);
-    assert!(rt; is_message(alloc, &message, "b.X", "a00607")?);
+    let extension = worked_extension(rt.alloc(), "b.X", 100)?;
+    let mut message = decoded(rt.alloc(), "b.X", "")?;
+    assert!(rt; lends_extension(rt.alloc(), &mut message, &extension, 7)?);
+    assert!(rt; is_message(rt.alloc(), &message, "b.X", "a00607")?);
     Ok(())
 }
 
-/// Whether the field is lent for writing as an empty message.
+/// Whether the field is the message's own, and is lent for writing as an empty message.
 fn lends_empty(
     alloc: Global,
     message: &mut DynamicMessage,
     field: &FieldDescriptor,
 ) -> Result<bool, Fail> {
     if !message.owns_field(field) {
-        return Err(Fail::from("a field of another type"));
+        return Ok(false);
     }
-    let lent = message.get_field_mut(alloc, field)?;
-    let inner = lent.as_message().ok_or("no message")?;
-    is_message(alloc, inner, "package.MyMessage", "")
+    match message.get_field_mut(alloc, field)?.as_message() {
+        Some(inner) => is_message(alloc, inner, "package.MyMessage", ""),
+        None => Ok(false),
+    }
 }
 
-/// Whether the message has the field.
-fn has(message: &DynamicMessage, field: &FieldDescriptor) -> Result<bool, Fail> {
-    if !message.owns_field(field) {
-        return Err(Fail::from("a field of another type"));
-    }
-    Ok(message.has_field(field))
+/// Whether the field is the message's own, and the message has it or not.
+fn is_had(message: &DynamicMessage, field: &FieldDescriptor, had: bool) -> bool {
+    message.owns_field(field) && message.has_field(field) == had
+}
+
+/// Whether `a` is set in the message, and `b` takes its place where it is lent.
+fn replaces(
+    alloc: Global,
+    message: &mut DynamicMessage,
+    a: &FieldDescriptor,
+    b: &FieldDescriptor,
+) -> Result<bool, Fail> {
+    Ok(
+        sets(message, a, 5)
+            && is_message(alloc, message, "a.Q", "0805")?
+            && lends_empty(alloc, message, b)?
+            && is_had(message, a, false)
+            && is_had(message, b, true)
+            && is_message(alloc, message, "a.Q", "1200")?,
+    )
 }
 
 /// A member of a oneof that is lent takes the place of the one that was set, and is empty at first.
 #[test]
 fn a_member_that_is_lent_replaces_another(rt: HostRuntime) -> Result<(), Fail> {
-    let alloc = rt.alloc();
-    let descriptor = worked_type(alloc, "a.Q")?;
-    let a = descriptor.get_field(1)?.ok_or("no a")?;
-    let b = descriptor.get_field(2)?.ok_or("no b")?;
-    let mut message = DynamicMessage::new(alloc, descriptor);
-    set(&mut message, &a, 5)?;
-    assert!(rt; is_message(alloc, &message, "a.Q", "0805")?);
-    assert!(rt; lends_empty(alloc, &mut message, &b)?);
-    assert!(rt; !has(&message, &a)?);
-    assert!(rt; has(&message, &b)?);
-    assert!(rt; is_message(alloc, &message, "a.Q", "1200")?);
+    let a = worked_field(rt.alloc(), "a.Q", 1)?;
+    let b = worked_field(rt.alloc(), "a.Q", 2)?;
+    let mut message = empty(rt.alloc(), "a.Q")?;
+    assert!(rt; replaces(rt.alloc(), &mut message, &a, &b)?);
     Ok(())
+}
+
+/// A message of `MyMessage` whose field `nested` is the message.
+fn around(
+    alloc: Global,
+    nested: &FieldDescriptor,
+    message: DynamicMessage,
+) -> Result<DynamicMessage, Fail> {
+    let mut outer = decoded(alloc, "package.MyMessage", "")?;
+    if !outer.owns_field(nested) {
+        return Err(Fail::from("a field of another type"));
+    }
+    outer.try_set_field(nested, Value::Message(message))?;
+    Ok(outer)
 }
 
 /// A message of `MyMessage` in so many others, each in the field `nested`.
 fn nested(alloc: Global, levels: u32) -> Result<DynamicMessage, Fail> {
-    let found = worked_type(alloc, "package.MyMessage")?.get_field(3)?;
-    let field: FieldDescriptor = found.ok_or("no nested")?;
+    let field = worked_field(alloc, "package.MyMessage", 3)?;
     let mut message = decoded(alloc, "package.MyMessage", "")?;
     for _ in 0..levels {
-        let mut outer = decoded(alloc, "package.MyMessage", "")?;
-        if !outer.owns_field(&field) {
-            return Err(Fail::from("a field of another type"));
-        }
-        outer.try_set_field(&field, Value::Message(message))?;
-        message = outer;
+        message = around(alloc, &field, message)?;
     }
     Ok(message)
+}
+
+/// Whether the message is written in so many bytes, and these are refused or not.
+fn is_refused(
+    alloc: Global,
+    message: &DynamicMessage,
+    length: usize,
+    fault: Option<DecodeError>,
+) -> Result<bool, Fail> {
+    if !message.is_encodable() {
+        return Ok(false);
+    }
+    let bytes = message.encode_to_vec(alloc)?;
+    let read = DynamicMessage::decode(alloc, message.descriptor()?, bytes.as_slice());
+    Ok(bytes.len() == length && read.err() == fault)
 }
 
 /// Messages that were made by hand nest deeper than those that are read, and are written.
 #[test]
 fn what_is_written_may_nest_deeper(rt: HostRuntime) -> Result<(), Fail> {
-    let alloc = rt.alloc();
     for (levels, length) in [(100, 236), (150, 386), (1000, 2936)] {
-        let message = nested(alloc, levels)?;
-        if !message.is_encodable() {
-            return Err(Fail::from("a message that fits its fields"));
-        }
-        let bytes = message.encode_to_vec(alloc)?;
-        assert_eq!(rt; bytes.len(), length);
-        let descriptor = message.descriptor()?;
-        let read = DynamicMessage::decode(alloc, descriptor, bytes.as_slice());
-        assert_eq!(rt; read.err(), (levels > 100).then_some(DecodeError::Depth));
+        let fault = (levels > 100).then_some(DecodeError::Depth);
+        assert!(rt; is_refused(rt.alloc(), &nested(rt.alloc(), levels)?, length, fault)?);
     }
     Ok(())
 }

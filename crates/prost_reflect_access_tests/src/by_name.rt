@@ -1,114 +1,143 @@
 //! Fields of messages by their numbers and by their names.
 
-use crate::types::message_type;
+use crate::access::is_taken;
+use crate::types::{choices, my_message};
 use prost_reflect::{DynamicMessage, GetFieldError, Value};
-use prost_reflect_samples::sets;
-use std::alloc::Global;
+use std::alloc::{AllocError, Global};
 use std::borrow::Cow;
 use std::test::Fail;
 
 /// 5 in the field `f1`, and 7 in the extension `f12`.
 const BYTES: [u8; 4] = [0x08, 5, 0x60, 7];
 
-fn decoded(alloc: Global) -> Result<DynamicMessage, Fail> {
-    let descriptor = message_type(alloc, sets::choices(), "Choices")?;
-    Ok(DynamicMessage::decode(alloc, descriptor, &BYTES)?)
+/// Whether the value is lent, and is this number.
+fn is_lent(value: &Option<Cow<'_, Value>>, number: i32) -> bool {
+    match value {
+        Some(Cow::Borrowed(value)) => value.as_i32() == Some(number),
+        _ => false,
+    }
 }
 
-/// Whether the field's value is lent, and is this number.
-fn is_lent(message: &DynamicMessage, alloc: Global, name: &str, number: i32) -> Result<bool, Fail> {
-    match message.get_field_by_name(alloc, name)? {
-        Some(Cow::Borrowed(value)) => Ok(value.as_i32() == Some(number)),
-        _ => Ok(false),
-    }
+/// Whether `f1` alone is there by its name, and is lent. An extension, as `f12`, is no field of its name.
+fn has_f1_alone(alloc: Global, message: &DynamicMessage) -> Result<bool, AllocError> {
+    Ok(
+        message.has_field_by_name("f1")
+            && !message.has_field_by_name("f2")
+            && is_lent(&message.get_field_by_name(alloc, "f1")?, 5)
+            && !message.has_field_by_name("f12")
+            && message.get_field_by_name(alloc, "f12")?.is_none(),
+    )
 }
 
 #[test]
 fn fields_are_asked_by_name(rt: HostRuntime) -> Result<(), Fail> {
-    let message = decoded(rt.alloc())?;
-    assert!(rt; message.has_field_by_name("f1"));
-    assert!(rt; !message.has_field_by_name("f2"));
-    assert!(rt; is_lent(&message, rt.alloc(), "f1", 5)?);
+    let message = choices(rt.alloc(), &BYTES)?;
+    assert!(rt; has_f1_alone(rt.alloc(), &message)?);
     Ok(())
 }
 
-/// An extension is no field of its name.
-#[test]
-fn extensions_are_not_asked_by_name(rt: HostRuntime) -> Result<(), Fail> {
-    let message = decoded(rt.alloc())?;
-    assert!(rt; !message.has_field_by_name("f12"));
-    assert!(rt; message.get_field_by_name(rt.alloc(), "f12")?.is_none());
-    Ok(())
+/// Whether `f1` is taken by its name, and `f12` stays where it is cleared by its name.
+fn gives_f1(alloc: Global, message: &mut DynamicMessage) -> Result<bool, Fail> {
+    message.clear_field_by_name("f12");
+    Ok(
+        is_taken(&message.take_field_by_name("f1"), 5, true)
+            && *message == choices(alloc, &[0x60, 7])?,
+    )
 }
 
 #[test]
 fn a_field_is_taken_by_name(rt: HostRuntime) -> Result<(), Fail> {
-    let mut message = decoded(rt.alloc())?;
-    message.clear_field_by_name("f12");
-    let taken = message.take_field_by_name("f1").ok_or("no f1")?;
-    assert!(rt; taken == Value::I32(5));
-    let descriptor = message_type(rt.alloc(), sets::choices(), "Choices")?;
-    assert!(rt; message == DynamicMessage::decode(rt.alloc(), descriptor, &[0x60, 7])?);
+    let mut message = choices(rt.alloc(), &BYTES)?;
+    assert!(rt; gives_f1(rt.alloc(), &mut message)?);
     Ok(())
+}
+
+/// Whether nothing is taken by the name of a field that was cleared, or of an extension.
+fn gives_nothing(message: &mut DynamicMessage) -> bool {
+    message.clear_field_by_name("f1");
+    message.take_field_by_name("f1").is_none() && message.take_field_by_name("f12").is_none()
 }
 
 #[test]
 fn a_field_is_cleared_by_name(rt: HostRuntime) -> Result<(), Fail> {
-    let mut message = decoded(rt.alloc())?;
-    message.clear_field_by_name("f1");
-    assert!(rt; message.take_field_by_name("f1").is_none());
-    assert!(rt; message.take_field_by_name("f12").is_none());
+    let mut message = choices(rt.alloc(), &BYTES)?;
+    assert!(rt; gives_nothing(&mut message));
     Ok(())
 }
 
-/// A message whose `foo`, of the number 1, is 5.
-fn with_foo(alloc: Global) -> Result<DynamicMessage, Fail> {
-    let descriptor = message_type(alloc, sets::newer(), "MyMessage")?;
-    Ok(DynamicMessage::decode(alloc, descriptor, &[0x08, 5])?)
+/// Whether the message has, lends for writing and gives nothing by a number that no field has.
+fn lacks_number(alloc: Global, message: &mut DynamicMessage, number: u32) -> bool {
+    !message.has_field_by_number(number)
+        && message.get_field_by_number_mut(alloc, number).err() == Some(GetFieldError::NotFound)
+        && message.take_field_by_number(number).is_none()
+}
+
+/// Whether the message shows nothing by a number that no field has, by which it is cleared and set.
+fn ignores_number(
+    alloc: Global,
+    message: &mut DynamicMessage,
+    number: u32,
+) -> Result<bool, AllocError> {
+    message.clear_field_by_number(number);
+    let is_none = message.get_field_by_number(alloc, number)?.is_none();
+    if is_none {
+        message.set_field_by_number(number, Value::I32(5))?;
+    }
+    Ok(is_none)
 }
 
 /// No field has the number 42.
 #[test]
 fn a_number_of_no_field_changes_nothing(rt: HostRuntime) -> Result<(), Fail> {
-    let mut message = with_foo(rt.alloc())?;
-    assert!(rt; !message.has_field_by_number(42));
-    let lent = message.get_field_by_number_mut(rt.alloc(), 42).err();
-    assert_eq!(rt; lent, Some(GetFieldError::NotFound));
-    assert!(rt; message.take_field_by_number(42).is_none());
-    message.clear_field_by_number(42);
-    match message.get_field_by_number(rt.alloc(), 42)? {
-        None => message.set_field_by_number(42, Value::I32(5))?,
-        Some(_) => return Err(Fail::from("a field of the number 42")),
-    }
-    assert!(rt; message == with_foo(rt.alloc())?);
+    let mut message = my_message(rt.alloc(), &[0x08, 5])?;
+    assert!(rt; lacks_number(rt.alloc(), &mut message, 42));
+    assert!(rt; ignores_number(rt.alloc(), &mut message, 42)?);
+    assert!(rt; message == my_message(rt.alloc(), &[0x08, 5])?);
     Ok(())
+}
+
+/// Whether the message has, lends for writing and gives nothing by a name that no field has.
+fn lacks_name(alloc: Global, message: &mut DynamicMessage, name: &str) -> bool {
+    !message.has_field_by_name(name)
+        && message.get_field_by_name_mut(alloc, name).err() == Some(GetFieldError::NotFound)
+        && message.take_field_by_name(name).is_none()
+}
+
+/// Whether the message shows nothing by a name that no field has, by which it is cleared and set.
+fn ignores_name(
+    alloc: Global,
+    message: &mut DynamicMessage,
+    name: &str,
+) -> Result<bool, AllocError> {
+    message.clear_field_by_name(name);
+    let is_none = message.get_field_by_name(alloc, name)?.is_none();
+    if is_none {
+        message.set_field_by_name(name, Value::I32(5))?;
+    }
+    Ok(is_none)
 }
 
 /// No field has the name.
 #[test]
 fn a_name_of_no_field_changes_nothing(rt: HostRuntime) -> Result<(), Fail> {
-    let mut message = with_foo(rt.alloc())?;
-    assert!(rt; !message.has_field_by_name("notfound"));
-    let lent = message.get_field_by_name_mut(rt.alloc(), "notfound").err();
-    assert_eq!(rt; lent, Some(GetFieldError::NotFound));
-    assert!(rt; message.take_field_by_name("notfound").is_none());
-    message.clear_field_by_name("notfound");
-    match message.get_field_by_name(rt.alloc(), "notfound")? {
-        None => message.set_field_by_name("notfound", Value::I32(5))?,
-        Some(_) => return Err(Fail::from("a field of the name")),
-    }
-    assert!(rt; message == with_foo(rt.alloc())?);
+    let mut message = my_message(rt.alloc(), &[0x08, 5])?;
+    assert!(rt; lacks_name(rt.alloc(), &mut message, "notfound"));
+    assert!(rt; ignores_name(rt.alloc(), &mut message, "notfound")?);
+    assert!(rt; message == my_message(rt.alloc(), &[0x08, 5])?);
     Ok(())
 }
 
-/// `foo` is written over, and `bar`, of the number 2, is made first.
+/// Writes `foo` over, and `bar`, of the number 2, which is made first.
+fn write_both(alloc: Global, message: &mut DynamicMessage) -> Result<(), Fail> {
+    *message.get_field_by_number_mut(alloc, 1)? = Value::I32(7);
+    *message.get_field_by_name_mut(alloc, "bar")? = Value::I32(66);
+    Ok(())
+}
+
 #[test]
 fn a_field_is_lent_for_writing(rt: HostRuntime) -> Result<(), Fail> {
-    let mut message = with_foo(rt.alloc())?;
-    *message.get_field_by_number_mut(rt.alloc(), 1)? = Value::I32(7);
-    *message.get_field_by_name_mut(rt.alloc(), "bar")? = Value::I32(66);
-    let descriptor = message_type(rt.alloc(), sets::newer(), "MyMessage")?;
-    let read = DynamicMessage::decode(rt.alloc(), descriptor, &[0x08, 7, 0x10, 66])?;
-    assert!(rt; message == read);
+    let mut message = my_message(rt.alloc(), &[0x08, 5])?;
+    write_both(rt.alloc(), &mut message)?;
+    assert!(rt; message == my_message(rt.alloc(), &[0x08, 7, 0x10, 66])?);
     Ok(())
 }

@@ -1,79 +1,87 @@
 //! The fields and extensions of messages as lists, and taking them all.
 
-use crate::types::{message_type, worked_type};
-use prost_reflect::{DynamicMessage, TakenExtensions, TakenFields};
+use crate::types::{choices, empty, message_of};
+use prost_reflect::{DynamicMessage, TakenExtensions, TakenFields, Value};
 use prost_reflect_samples::sets;
+use std::alloc::{AllocError, Global};
 use std::test::Fail;
 
-/// Whether the message has these fields, each with its number.
-fn has_fields(message: &DynamicMessage, expected: &[(u32, i32)]) -> Result<bool, Fail> {
-    let mut count = 0;
-    for item in message.fields() {
-        let (field, value) = item?;
-        match expected.get(count) {
-            Some(pair) if field.number() == pair.0 && value.as_i32() == Some(pair.1) => count += 1,
-            _ => return Ok(false),
-        }
+/// A number of a field or an extension, and its value.
+type Row = (u32, i32);
+
+/// Whether there is a row of the number and the value.
+fn is_row(row: Option<&Row>, number: u32, value: &Value) -> bool {
+    match row {
+        Some(row) => row.0 == number && value.as_i32() == Some(row.1),
+        None => false,
     }
-    Ok(count == expected.len())
 }
 
-fn has_extensions(message: &DynamicMessage, expected: &[(u32, i32)]) -> Result<bool, Fail> {
-    let mut count = 0;
+/// Whether the message has these fields, each with its number.
+fn has_fields(message: &DynamicMessage, expected: &[Row]) -> Result<bool, AllocError> {
+    let mut rows = expected.iter();
+    let mut all = true;
+    for item in message.fields() {
+        let (field, value) = item?;
+        all = is_row(rows.next(), field.number(), &value) && all;
+    }
+    Ok(all && rows.next().is_none())
+}
+
+fn has_extensions(message: &DynamicMessage, expected: &[Row]) -> Result<bool, AllocError> {
+    let mut rows = expected.iter();
+    let mut all = true;
     for item in message.extensions() {
         let (extension, value) = item?;
-        match expected.get(count) {
-            Some(pair) if extension.number() == pair.0 && value.as_i32() == Some(pair.1) => {
-                count += 1
-            }
-            _ => return Ok(false),
-        }
+        all = is_row(rows.next(), extension.number(), &value) && all;
     }
-    Ok(count == expected.len())
+    Ok(all && rows.next().is_none())
 }
 
 /// Whether these fields were taken, each with its number.
-fn are_fields(taken: TakenFields, expected: &[(u32, i32)]) -> bool {
-    let mut count = 0;
+fn are_fields(taken: TakenFields, expected: &[Row]) -> bool {
+    let mut rows = expected.iter();
+    let mut all = true;
     for (field, value) in taken {
-        match expected.get(count) {
-            Some(pair) if field.number() == pair.0 && value.as_i32() == Some(pair.1) => count += 1,
-            _ => return false,
-        }
+        all = is_row(rows.next(), field.number(), &value) && all;
     }
-    count == expected.len()
+    all && rows.next().is_none()
 }
 
-fn are_extensions(taken: TakenExtensions, expected: &[(u32, i32)]) -> bool {
-    let mut count = 0;
+fn are_extensions(taken: TakenExtensions, expected: &[Row]) -> bool {
+    let mut rows = expected.iter();
+    let mut all = true;
     for (extension, value) in taken {
-        match expected.get(count) {
-            Some(pair) if extension.number() == pair.0 && value.as_i32() == Some(pair.1) => {
-                count += 1
-            }
-            _ => return false,
-        }
+        all = is_row(rows.next(), extension.number(), &value) && all;
     }
-    count == expected.len()
+    all && rows.next().is_none()
 }
 
 /// The bytes of a message, and the fields that it has: 0 has presence in a oneof, and a stored 0 has none elsewhere.
-static ROWS: &[(&[u8], &[(u32, i32)])] = &[
+static ROWS: &[(&[u8], &[Row])] = &[
     (b"\x08\x96\x01\x10\x00", &[(1, 150), (2, 0)]),
     (b"\x08\x00\x10\x00", &[(2, 0)]),
     (b"\x08\x00", &[]),
 ];
 
+/// Whether these fields are listed and taken, and nothing is left.
+fn gives_all_fields(
+    alloc: Global,
+    message: &mut DynamicMessage,
+    expected: &[Row],
+) -> Result<bool, Fail> {
+    Ok(
+        has_fields(message, expected)?
+            && are_fields(message.take_fields(alloc)?, expected)
+            && *message == empty(alloc, "package.MyMessage")?,
+    )
+}
+
 #[test]
 fn all_fields_are_taken(rt: HostRuntime) -> Result<(), Fail> {
-    let alloc = rt.alloc();
     for row in ROWS {
-        let found = worked_type(alloc, "package.MyMessage")?;
-        let mut message = DynamicMessage::decode(alloc, found.clone()?, row.0)?;
-        assert!(rt; has_fields(&message, row.1)?);
-        let taken = message.take_fields(alloc)?;
-        assert!(rt; are_fields(taken, row.1));
-        assert!(rt; message == DynamicMessage::new(alloc, found));
+        let mut message = message_of(rt.alloc(), sets::worked(), "package.MyMessage", row.0)?;
+        assert!(rt; gives_all_fields(rt.alloc(), &mut message, row.1)?);
     }
     Ok(())
 }
@@ -81,47 +89,71 @@ fn all_fields_are_taken(rt: HostRuntime) -> Result<(), Fail> {
 /// 5 in the field `f1`, an undeclared number of the closed enum in `f5`, 7 in the extension `f12`, and an unknown field of the number 20.
 const MIXED: &[u8] = &[0x08, 5, 0x28, 7, 0x60, 7, 0xa0, 1, 3];
 
+/// Whether `f1` alone is listed as a field, and `f12` alone as an extension.
+fn lists_apart(alloc: Global, message: &DynamicMessage) -> Result<bool, AllocError> {
+    Ok(
+        has_fields(message, &[(1, 5)])?
+            && has_extensions(message, &[(12, 7)])?
+            && message.field_numbers(alloc)?.as_slice() == [1].as_slice()
+            && message.extension_numbers(alloc)?.as_slice() == [12].as_slice(),
+    )
+}
+
 #[test]
 fn fields_and_extensions_are_listed_apart(rt: HostRuntime) -> Result<(), Fail> {
-    let alloc = rt.alloc();
-    let message = DynamicMessage::decode(
-        alloc,
-        message_type(alloc, sets::choices(), "Choices")?,
-        MIXED,
-    )?;
-    assert!(rt; has_fields(&message, &[(1, 5)])?);
-    assert!(rt; has_extensions(&message, &[(12, 7)])?);
-    assert!(rt; message.field_numbers(alloc)?.as_slice() == [1].as_slice());
-    assert!(rt; message.extension_numbers(alloc)?.as_slice() == [12].as_slice());
+    let message = choices(rt.alloc(), MIXED)?;
+    assert!(rt; lists_apart(rt.alloc(), &message)?);
     Ok(())
+}
+
+/// Whether `f12` alone is taken where the extensions are.
+fn gives_extensions(alloc: Global, message: &mut DynamicMessage) -> Result<bool, Fail> {
+    Ok(
+        are_extensions(message.take_extensions(alloc)?, &[(12, 7)])
+            && *message == choices(alloc, &[0x08, 5, 0x28, 7, 0xa0, 1, 3])?,
+    )
+}
+
+/// Whether `f1` alone is taken where the fields are.
+fn gives_fields(alloc: Global, message: &mut DynamicMessage) -> Result<bool, Fail> {
+    Ok(
+        are_fields(message.take_fields(alloc)?, &[(1, 5)])
+            && *message == choices(alloc, &[0x28, 7, 0x60, 7, 0xa0, 1, 3])?,
+    )
 }
 
 #[test]
 fn what_is_not_taken_stays(rt: HostRuntime) -> Result<(), Fail> {
-    let alloc = rt.alloc();
-    let found = message_type(alloc, sets::choices(), "Choices")?;
-    let mut message = DynamicMessage::decode(alloc, found.clone()?, MIXED)?;
-    assert!(rt; are_extensions(message.take_extensions(alloc)?, &[(12, 7)]));
-    let left = [0x08, 5, 0x28, 7, 0xa0, 1, 3];
-    assert!(rt; message == DynamicMessage::decode(alloc, found.clone()?, &left)?);
-    let mut message = DynamicMessage::decode(alloc, found.clone()?, MIXED)?;
-    assert!(rt; are_fields(message.take_fields(alloc)?, &[(1, 5)]));
-    let left = [0x28, 7, 0x60, 7, 0xa0, 1, 3];
-    assert!(rt; message == DynamicMessage::decode(alloc, found, &left)?);
+    assert!(rt; gives_extensions(rt.alloc(), &mut choices(rt.alloc(), MIXED)?)?);
+    assert!(rt; gives_fields(rt.alloc(), &mut choices(rt.alloc(), MIXED)?)?);
     Ok(())
+}
+
+/// The message of `Foo` that the bytes mean.
+fn foo(alloc: Global, bytes: &[u8]) -> Result<DynamicMessage, Fail> {
+    message_of(alloc, sets::worked(), "b.Foo", bytes)
+}
+
+/// Whether no field and no extension is listed.
+fn lists_nothing(message: &DynamicMessage) -> Result<bool, AllocError> {
+    Ok(has_fields(message, &[])? && has_extensions(message, &[])?)
+}
+
+/// Whether nothing is taken, and the empty list of the extension goes, and then that of the field.
+fn gives_no_lists(alloc: Global, message: &mut DynamicMessage) -> Result<bool, Fail> {
+    Ok(
+        are_extensions(message.take_extensions(alloc)?, &[])
+            && *message == foo(alloc, b"\x0a\x00")?
+            && are_fields(message.take_fields(alloc)?, &[])
+            && *message == empty(alloc, "b.Foo")?,
+    )
 }
 
 /// A packed record without numbers stores an empty list, which is no value and is taken away with the others.
 #[test]
 fn empty_lists_are_not_answered(rt: HostRuntime) -> Result<(), Fail> {
-    let alloc = rt.alloc();
-    let found = worked_type(alloc, "b.Foo")?;
-    let mut message = DynamicMessage::decode(alloc, found.clone()?, b"\x0a\x00\xa2\x06\x00")?;
-    assert!(rt; has_fields(&message, &[])?);
-    assert!(rt; has_extensions(&message, &[])?);
-    assert!(rt; are_extensions(message.take_extensions(alloc)?, &[]));
-    assert!(rt; message == DynamicMessage::decode(alloc, found.clone()?, b"\x0a\x00")?);
-    assert!(rt; are_fields(message.take_fields(alloc)?, &[]));
-    assert!(rt; message == DynamicMessage::new(alloc, found));
+    let mut message = foo(rt.alloc(), b"\x0a\x00\xa2\x06\x00")?;
+    assert!(rt; lists_nothing(&message)?);
+    assert!(rt; gives_no_lists(rt.alloc(), &mut message)?);
     Ok(())
 }

@@ -1,7 +1,9 @@
 //! Many calls on a message with oneofs, beside a table of what it then has.
 
-use crate::access::is_shown;
-use prost_reflect::{DescriptorPool, DynamicMessage, FieldDescriptor, UnknownFieldValue, Value};
+use crate::access::{clears, is_asked, sets, takes};
+use crate::types::message_of;
+use crate::unknowns::is_varint;
+use prost_reflect::{DynamicMessage, FieldDescriptor, Value};
 use prost_reflect_samples::calls::{Call, calls};
 use std::alloc::{AllocError, Global};
 use std::test::Fail;
@@ -28,36 +30,38 @@ fn small(amount: u32) -> i32 {
     (amount % 5) as i32
 }
 
-/// Makes a call on the message, and gives what it took or wrote.
-fn apply(alloc: Global, message: &mut DynamicMessage, call: Call) -> Result<Option<i32>, Fail> {
-    let field = field_for(message, call.number())?;
-    if !message.owns_field(&field) {
-        return Err(Fail::from("a field of another type"));
+/// Whether the field is the message's own, and what is written is the number expected, where the amount is added to the value lent.
+fn writes(
+    alloc: Global,
+    message: &mut DynamicMessage,
+    field: &FieldDescriptor,
+    amount: i32,
+    expected: Option<i32>,
+) -> Result<bool, AllocError> {
+    if !message.owns_field(field) {
+        return Ok(false);
     }
+    let lent = message.get_field_mut(alloc, field)?;
+    let written = lent.as_i32().map(|number| number.wrapping_add(amount));
+    if let Some(number) = written {
+        *lent = Value::I32(number);
+    }
+    Ok(written.is_some() && written == expected)
+}
+
+/// Makes a call on the field of the message. Whether it takes or writes what is expected.
+fn gives(
+    alloc: Global,
+    message: &mut DynamicMessage,
+    field: &FieldDescriptor,
+    call: Call,
+    expected: Option<i32>,
+) -> Result<bool, AllocError> {
     match call {
-        Call::Set(_, amount) => {
-            let value = Value::I32(small(amount));
-            if !value.is_valid_for_field(&field) {
-                return Err(Fail::from("a field of another kind"));
-            }
-            message.set_field(&field, value)?;
-            Ok(None)
-        }
-        Call::Write(_, amount) => {
-            let lent = message.get_field_mut(alloc, &field)?;
-            let number = lent.as_i32().ok_or("no int32")?;
-            let written = number.wrapping_add(small(amount));
-            *lent = Value::I32(written);
-            Ok(Some(written))
-        }
-        Call::Clear(_) => {
-            message.clear_field(&field);
-            Ok(None)
-        }
-        Call::Take(_) => match message.take_field(&field) {
-            Some(value) => Ok(value.as_i32()),
-            None => Ok(None),
-        },
+        Call::Set(_, amount) => Ok(sets(message, field, small(amount)) && expected.is_none()),
+        Call::Write(_, amount) => writes(alloc, message, field, small(amount), expected),
+        Call::Clear(_) => Ok(clears(message, field) && expected.is_none()),
+        Call::Take(_) => Ok(takes(message, field, expected.unwrap_or(0), expected.is_some())),
     }
 }
 
@@ -127,31 +131,37 @@ impl Table {
 /// Whether the message has at each field what the table says, and lends what is stored.
 fn agrees(alloc: Global, message: &DynamicMessage, table: &Table) -> Result<bool, Fail> {
     for number in 1..13_u32 {
-        let field = field_for(message, number)?;
-        if !message.owns_field(&field) {
-            return Err(Fail::from("a field of another type"));
-        }
         let stored = table.values[number as usize % 13];
-        let shown = message.get_field(alloc, &field)?;
-        if !is_shown(&shown, stored.unwrap_or(0), stored.is_some()) {
-            return Ok(false);
-        }
-        if message.has_field(&field) != table.had(number).is_some() {
+        let had = table.had(number).is_some();
+        let expected = (had, stored.unwrap_or(0), stored.is_some());
+        if !is_asked(alloc, message, &field_for(message, number)?, expected)? {
             return Ok(false);
         }
     }
     Ok(true)
 }
 
+/// Whether the call gives on the message what it gives on the table, and both then agree.
+fn is_made(
+    alloc: Global,
+    message: &mut DynamicMessage,
+    table: &mut Table,
+    call: Call,
+) -> Result<bool, Fail> {
+    let expected = table.apply(call);
+    let field = field_for(message, call.number())?;
+    Ok(gives(alloc, message, &field, call, expected)? && agrees(alloc, message, table)?)
+}
+
 /// How many calls agree with a table, up to the first that does not.
-fn agreeing_calls(alloc: Global, message: &mut DynamicMessage) -> Result<usize, Fail> {
+fn agreeing_calls(
+    alloc: Global,
+    message: &mut DynamicMessage,
+    calls: &[Call],
+) -> Result<usize, Fail> {
     let mut table = Table { values: [None; 13] };
-    let calls = calls(alloc)?;
     for (step, call) in calls.iter().enumerate() {
-        if apply(alloc, message, *call)? != table.apply(*call) {
-            return Ok(step);
-        }
-        if !agrees(alloc, message, &table)? {
+        if !is_made(alloc, message, &mut table, *call)? {
             return Ok(step);
         }
     }
@@ -185,32 +195,34 @@ fn unknown_records(alloc: Global, count: u32) -> Result<Vec<u8>, AllocError> {
 }
 
 /// How many unknown fields the message has, if they are those of such records.
-fn unknown_count(message: &DynamicMessage) -> Result<u32, Fail> {
+fn unknown_count(message: &DynamicMessage) -> Option<u32> {
     let mut count: u32 = 0;
+    let mut all = true;
     for field in message.unknown_fields() {
         let number = count.wrapping_mul(2).wrapping_add(17);
-        let value = UnknownFieldValue::Varint((count % 128) as u64);
-        if field.number() != number || *field.value() != value {
-            return Err(Fail::from("another unknown field"));
-        }
+        all = is_varint(field, Some(&(number, (count % 128) as u64))) && all;
         count = count.wrapping_add(1);
     }
-    Ok(count)
+    all.then_some(count)
+}
+
+/// Whether of each oneof at most one field is there, and the unknown fields are so many.
+fn is_left(message: &DynamicMessage, count: u32) -> bool {
+    present(message, &[60, 120, 180, 240, 300]) <= 1
+        && present(message, &[90, 150, 210]) <= 1
+        && unknown_count(message) == Some(count)
 }
 
 /// What a message stores stands in one list, and in runs where it is much. 200 unknown fields stand between the others.
 #[test]
 fn calls_on_a_message_agree_with_a_table(rt: HostRuntime) -> Result<(), Fail> {
     let alloc = rt.alloc();
+    let calls = calls(alloc)?;
     for count in [0, 200] {
-        let found = DescriptorPool::decode(alloc, SPREAD)?.get_message_by_name("Spread")?;
-        let descriptor = found.ok_or("no such message type")?;
         let records = unknown_records(alloc, count)?;
-        let mut message = DynamicMessage::decode(alloc, descriptor, records.as_slice())?;
-        assert_eq!(rt; agreeing_calls(alloc, &mut message)?, 500);
-        assert!(rt; present(&message, &[60, 120, 180, 240, 300]) <= 1);
-        assert!(rt; present(&message, &[90, 150, 210]) <= 1);
-        assert_eq!(rt; unknown_count(&message)?, count);
+        let mut message = message_of(alloc, SPREAD, "Spread", records.as_slice())?;
+        assert_eq!(rt; agreeing_calls(alloc, &mut message, calls.as_slice())?, 500);
+        assert!(rt; is_left(&message, count));
     }
     Ok(())
 }

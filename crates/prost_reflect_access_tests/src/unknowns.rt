@@ -1,8 +1,8 @@
 //! Unknown fields, listed and taken.
 
-use crate::types::message_type;
+use crate::types::{is_written, message_of, message_type, my_message};
 use prost_reflect::{
-    DescriptorPool, DynamicMessage, MessageDescriptor, UnknownField, UnknownFieldValue, Value,
+    DynamicMessage, TakenUnknownFields, UnknownField, UnknownFieldValue, UnknownFields, Value,
 };
 use prost_reflect_samples::sets;
 use std::alloc::Global;
@@ -20,73 +20,103 @@ const BYTES: [u8; 6] = [0x30, 1, 0x28, 2, 0x28, 1];
 /// The same in ascending number.
 static ROWS: [(u32, u64); 3] = [(5, 2), (5, 1), (6, 1)];
 
-fn closed(alloc: Global) -> Result<MessageDescriptor, Fail> {
-    let found = DescriptorPool::decode(alloc, CLOSED)?.get_message_by_name("C")?;
-    Ok(found.ok_or("no C")?)
+/// The message of `C` that the bytes mean.
+fn closed(alloc: Global, bytes: &[u8]) -> Result<DynamicMessage, Fail> {
+    message_of(alloc, CLOSED, "C", bytes)
 }
 
-/// Whether the field is a varint of the number and the value.
-fn is_varint(field: &UnknownField, row: (u32, u64)) -> bool {
-    match field.value() {
-        UnknownFieldValue::Varint(value) => field.number() == row.0 && *value == row.1,
+/// Whether there is a row, and the field is a varint of its number and its value.
+pub(crate) fn is_varint(field: &UnknownField, row: Option<&(u32, u64)>) -> bool {
+    match (field.value(), row) {
+        (UnknownFieldValue::Varint(value), Some(row)) => {
+            field.number() == row.0 && *value == row.1
+        }
         _ => false,
     }
 }
 
+/// Whether these unknown fields are varints of the numbers and the values.
+fn are_varints(fields: UnknownFields<'_>, expected: &[(u32, u64)]) -> bool {
+    let mut rows = expected.iter();
+    let mut all = true;
+    for field in fields {
+        all = is_varint(field, rows.next()) && all;
+    }
+    all && rows.next().is_none()
+}
+
+/// The same of fields that were taken.
+fn are_taken_varints(fields: TakenUnknownFields, expected: &[(u32, u64)]) -> bool {
+    let mut rows = expected.iter();
+    let mut all = true;
+    for field in fields {
+        all = is_varint(&field, rows.next()) && all;
+    }
+    all && rows.next().is_none()
+}
+
 #[test]
 fn unknown_fields_are_listed_in_ascending_number(rt: HostRuntime) -> Result<(), Fail> {
-    let descriptor = message_type(rt.alloc(), sets::newer(), "MyMessage")?;
-    let message = DynamicMessage::decode(rt.alloc(), descriptor, &BYTES)?;
-    let mut fields = message.unknown_fields();
-    for row in ROWS {
-        let field = fields.next().ok_or("too few")?;
-        assert!(rt; is_varint(field, row));
-    }
-    assert!(rt; fields.next().is_none());
-    let written = message.encode_to_vec(rt.alloc())?;
-    assert!(rt; written.as_slice() == [0x28, 2, 0x28, 1, 0x30, 1].as_slice());
+    let message = my_message(rt.alloc(), &BYTES)?;
+    assert!(rt; are_varints(message.unknown_fields(), &ROWS));
+    assert!(rt; is_written(rt.alloc(), &message, &[0x28, 2, 0x28, 1, 0x30, 1])?);
     Ok(())
+}
+
+/// Whether the message is empty once its unknown fields are taken, and these are the rows.
+fn gives_unknown(alloc: Global, message: &mut DynamicMessage) -> Result<bool, Fail> {
+    let taken = message.take_unknown_fields(alloc)?;
+    let empty = DynamicMessage::new(alloc, message_type(alloc, sets::newer(), "MyMessage")?);
+    Ok(*message == empty && are_taken_varints(taken, &ROWS))
 }
 
 #[test]
 fn unknown_fields_are_taken_at_the_call(rt: HostRuntime) -> Result<(), Fail> {
-    let descriptor = message_type(rt.alloc(), sets::newer(), "MyMessage")?;
-    let mut message = DynamicMessage::decode(rt.alloc(), descriptor.clone()?, &BYTES)?;
-    let mut fields = message.take_unknown_fields(rt.alloc())?;
-    assert!(rt; message == DynamicMessage::new(rt.alloc(), descriptor));
-    for row in ROWS {
-        let field = fields.next().ok_or("too few")?;
-        assert!(rt; is_varint(&field, row));
-    }
-    assert!(rt; fields.next().is_none());
+    let mut message = my_message(rt.alloc(), &BYTES)?;
+    assert!(rt; gives_unknown(rt.alloc(), &mut message)?);
     Ok(())
+}
+
+/// Whether a stored default of `foo` stays.
+fn keeps_default(alloc: Global, message: &mut DynamicMessage) -> Result<bool, Fail> {
+    drop(message.take_unknown_fields(alloc)?);
+    Ok(*message == my_message(alloc, &[0x08, 0])?)
+}
+
+/// Whether a 7 that is a stray of `x` is taken, and a 1 stays.
+fn gives_stray(alloc: Global, message: &mut DynamicMessage) -> Result<bool, Fail> {
+    Ok(
+        are_taken_varints(message.take_unknown_fields(alloc)?, &[(4, 7)])
+            && *message == closed(alloc, &[0x20, 1])?,
+    )
 }
 
 /// A stored default and a value beside a stray are no unknown fields.
 #[test]
 fn values_stay_where_unknown_fields_are_taken(rt: HostRuntime) -> Result<(), Fail> {
-    let descriptor = message_type(rt.alloc(), sets::newer(), "MyMessage")?;
-    let mut message = DynamicMessage::decode(rt.alloc(), descriptor.clone()?, &[0x28, 2, 0x08, 0])?;
-    drop(message.take_unknown_fields(rt.alloc())?);
-    assert!(rt; message == DynamicMessage::decode(rt.alloc(), descriptor, &[0x08, 0])?);
-    let mut message = DynamicMessage::decode(rt.alloc(), closed(rt.alloc())?, &[0x20, 7, 0x20, 1])?;
-    let field = message
-        .take_unknown_fields(rt.alloc())?
-        .next()
-        .ok_or("no stray")?;
-    assert!(rt; is_varint(&field, (4, 7)));
-    assert!(rt; message == DynamicMessage::decode(rt.alloc(), closed(rt.alloc())?, &[0x20, 1])?);
+    assert!(rt;
+        keeps_default(
+            rt.alloc(),
+            &mut my_message(rt.alloc(), &[0x28, 2, 0x08, 0])?
+        )?
+    );
+    assert!(rt; gives_stray(rt.alloc(), &mut closed(rt.alloc(), &[0x20, 7, 0x20, 1])?)?);
     Ok(())
+}
+
+/// Whether a stray of 7 stays where `y` is set to what it is.
+fn keeps_stray(alloc: Global, message: &mut DynamicMessage) -> Result<bool, Fail> {
+    Ok(
+        message.try_set_field_by_name("y", Value::I32(5)).is_ok()
+            && are_varints(message.unknown_fields(), &[(4, 7)])
+            && *message == closed(alloc, &[0x20, 7, 0x28, 5])?,
+    )
 }
 
 /// A number that the enum of `x` does not declare stays where `y`, of the same oneof, is set.
 #[test]
 fn a_stray_stays_beside_a_sibling(rt: HostRuntime) -> Result<(), Fail> {
-    let bytes = [0x20, 7, 0x28, 5];
-    let mut message = DynamicMessage::decode(rt.alloc(), closed(rt.alloc())?, &bytes)?;
-    assert!(rt; message.try_set_field_by_name("y", Value::I32(5)).is_ok());
-    let field = message.unknown_fields().next().ok_or("no stray")?;
-    assert!(rt; is_varint(field, (4, 7)));
-    assert!(rt; message == DynamicMessage::decode(rt.alloc(), closed(rt.alloc())?, &bytes)?);
+    let mut message = closed(rt.alloc(), &[0x20, 7, 0x28, 5])?;
+    assert!(rt; keeps_stray(rt.alloc(), &mut message)?);
     Ok(())
 }

@@ -1,25 +1,39 @@
 //! Which values the fields of worked messages take, and which types are reductions.
 
-use crate::types::{decoded, message_type, worked_type};
+use crate::types::{empty, is_message, is_written, message_type, worked_field};
 use prost_reflect::{DynamicMessage, FieldDescriptor, MapKey, SetFieldError, Value};
 use prost_reflect_samples::sets;
-use std::alloc::Global;
+use std::alloc::{AllocError, Global};
 use std::test::Fail;
+
+/// Whether the field is the message's own, and takes the value or refuses it.
+fn tries(
+    message: &mut DynamicMessage,
+    field: &FieldDescriptor,
+    value: Value,
+    is_taken: bool,
+) -> bool {
+    if !message.owns_field(field) {
+        return false;
+    }
+    message.try_set_field(field, value).is_ok() == is_taken
+}
+
+/// The list of 1 and -1.
+fn list(alloc: Global) -> Result<Value, AllocError> {
+    let items = vec![in alloc; Value::I32(1), Value::I32(-1)]?;
+    Ok(Value::List(items))
+}
 
 /// A list that is set is written as one that is read.
 #[test]
 fn a_list_is_set(rt: HostRuntime) -> Result<(), Fail> {
-    let descriptor = worked_type(rt.alloc(), "a.Foo")?;
-    let field = descriptor.get_field(1)?.ok_or("no values")?;
-    let mut message = DynamicMessage::new(rt.alloc(), descriptor);
-    assert!(rt; message.owns_field(&field));
-    let items = vec![in rt.alloc(); Value::I32(1), Value::I32(-1)]?;
-    assert!(rt; message.try_set_field(&field, Value::List(items)).is_ok());
-    assert!(rt; message.is_encodable());
-    let bytes = message.encode_to_vec(rt.alloc())?;
-    let digits = hex::encode(rt.alloc(), bytes.as_slice())?;
-    assert_eq!(rt; digits.as_str(), "0a0b01ffffffffffffffffff01");
-    assert!(rt; message == decoded(rt.alloc(), "a.Foo", digits.as_str())?);
+    let values = worked_field(rt.alloc(), "a.Foo", 1)?;
+    let mut message = empty(rt.alloc(), "a.Foo")?;
+    assert!(rt; tries(&mut message, &values, list(rt.alloc())?, true));
+    let written = hex::decode(rt.alloc(), "0a0b01ffffffffffffffffff01")?;
+    assert!(rt; is_written(rt.alloc(), &message, written.as_slice())?);
+    assert!(rt; is_message(rt.alloc(), &message, "a.Foo", "0a0b01ffffffffffffffffff01")?);
     Ok(())
 }
 
@@ -48,53 +62,83 @@ fn misfit(alloc: Global, word: &str) -> Result<Value, Fail> {
     }
 }
 
-fn refusal(alloc: Global, field: &FieldDescriptor, value: Value) -> Result<SetFieldError, Fail> {
-    let descriptor = field.parent_message().clone()?;
-    let mut message = DynamicMessage::new(alloc, descriptor);
+/// Whether the refusal says the text.
+fn says(alloc: Global, refused: &SetFieldError, text: &str) -> Result<bool, AllocError> {
+    Ok(format!(in alloc; "{refused}")?.as_str() == text)
+}
+
+/// Whether the field is the message's own, and refuses the value with the text.
+fn refuses(
+    alloc: Global,
+    message: &mut DynamicMessage,
+    field: &FieldDescriptor,
+    value: Value,
+    text: &str,
+) -> Result<bool, AllocError> {
     if !message.owns_field(field) {
-        return Err(Fail::from("a field of another type"));
+        return Ok(false);
     }
-    Ok(
-        message
-            .try_set_field(field, value)
-            .err()
-            .ok_or("not refused")?,
-    )
+    match message.try_set_field(field, value) {
+        Ok(()) => Ok(false),
+        Err(refused) => says(alloc, &refused, text),
+    }
 }
 
 #[test]
 fn a_worked_refusal_names_the_type(rt: HostRuntime) -> Result<(), Fail> {
+    let alloc = rt.alloc();
     for (name, word, text) in &REFUSALS {
-        let field = worked_type(rt.alloc(), name)?.get_field(1)?;
-        let field = field.ok_or("no field 1")?;
-        let refused = refusal(rt.alloc(), &field, misfit(rt.alloc(), word)?)?;
-        assert!(rt; format!(in rt.alloc(); "{refused}")?.as_str() == *text);
+        let field = worked_field(alloc, name, 1)?;
+        let mut message = DynamicMessage::new(alloc, field.parent_message().clone()?);
+        assert!(rt; refuses(alloc, &mut message, &field, misfit(alloc, word)?, text)?);
     }
     Ok(())
+}
+
+/// Whether the message is that of a 5 where the field takes a 5 and then refuses a text.
+fn keeps_value(
+    alloc: Global,
+    message: &mut DynamicMessage,
+    field: &FieldDescriptor,
+) -> Result<bool, Fail> {
+    Ok(
+        tries(message, field, Value::I32(5), true)
+            && tries(message, field, misfit(alloc, "bar")?, false)
+            && is_message(alloc, message, "package.MyMessage", "0805")?,
+    )
 }
 
 /// A refused value leaves the one that is there.
 #[test]
 fn a_refused_value_changes_nothing(rt: HostRuntime) -> Result<(), Fail> {
-    let descriptor = worked_type(rt.alloc(), "package.MyMessage")?;
-    let field = descriptor.get_field(1)?.ok_or("no foo")?;
-    let mut message = DynamicMessage::new(rt.alloc(), descriptor);
-    assert!(rt; message.owns_field(&field));
-    assert!(rt; message.try_set_field(&field, Value::I32(5)).is_ok());
-    let value = Value::String(String::from_str(rt.alloc(), "bar")?);
-    assert!(rt; message.try_set_field(&field, value).is_err());
-    assert!(rt; message == decoded(rt.alloc(), "package.MyMessage", "0805")?);
+    let foo = worked_field(rt.alloc(), "package.MyMessage", 1)?;
+    let mut message = empty(rt.alloc(), "package.MyMessage")?;
+    assert!(rt; keeps_value(rt.alloc(), &mut message, &foo)?);
     Ok(())
+}
+
+/// Whether there is a key, which is the text.
+fn is_text(key: &Option<MapKey>, text: &str) -> bool {
+    match key {
+        Some(key) => key.as_str() == Some(text),
+        None => false,
+    }
 }
 
 #[test]
 fn values_become_keys(rt: HostRuntime) -> Result<(), Fail> {
-    let text = String::from_str(rt.alloc(), "foo")?;
-    let key = Value::String(text).into_map_key().ok_or("no key")?;
-    assert!(rt; key.as_str() == Some("foo"));
+    let text = Value::String(String::from_str(rt.alloc(), "foo")?);
+    assert!(rt; is_text(&text.into_map_key(), "foo"));
     assert!(rt; Value::I32(5).into_map_key() == Some(MapKey::I32(5)));
     assert!(rt; Value::Bytes(Vec::new(rt.alloc())).into_map_key().is_none());
     Ok(())
+}
+
+/// Whether the older type of the name is a reduction of the newer one.
+fn is_reduction(alloc: Global, name: &str) -> Result<bool, Fail> {
+    let older = message_type(alloc, sets::older(), name)?;
+    let newer = message_type(alloc, sets::newer(), name)?;
+    Ok(older.is_reduction_of(&newer)?)
 }
 
 /// A type without a field is a reduction, and one without the members of a oneof is none.
@@ -107,9 +151,7 @@ fn older_types_are_reductions_or_not(rt: HostRuntime) -> Result<(), Fail> {
         ("Q", false),
         ("C", false),
     ] {
-        let older = message_type(rt.alloc(), sets::older(), name)?;
-        let newer = message_type(rt.alloc(), sets::newer(), name)?;
-        assert_eq!(rt; older.is_reduction_of(&newer)?, answer, "{name}");
+        assert_eq!(rt; is_reduction(rt.alloc(), name)?, answer, "{name}");
     }
     Ok(())
 }
