@@ -1,39 +1,68 @@
 //! Files that protoc wrote, added in each way, and written again.
 
-use crate::pools::SET_M;
+use crate::named::{file_of, message_of};
+use crate::pools::{SET_M, is_written_as, joined, refusal};
 use crate::schema::SCHEMA;
 use crate::whole::WHOLE;
-use prost_reflect::{DecodeError, DescriptorPool, FileDescriptorSet, PoolError};
+use prost_reflect::{
+    DecodeError, DescriptorPool, FileDescriptor, FileDescriptorSet, MessageDescriptor, PoolError,
+};
+use std::alloc::Global;
 use std::test::Fail;
 
 /// Where the record of the last file of `WHOLE` begins, which ends with it.
 const LAST: usize = 374;
 
+/// A pool to which a set is added.
+fn of_set(alloc: Global, bytes: &[u8]) -> Result<DescriptorPool, Fail> {
+    let mut pool = DescriptorPool::new(alloc)?;
+    pool.add_file_descriptor_set(FileDescriptorSet::decode(alloc, bytes)?)?;
+    Ok(pool)
+}
+
+/// A pool to which a set is added, and then the list of the files of another.
+fn of_set_and_list(alloc: Global, bytes: &[u8], list: &[u8]) -> Result<DescriptorPool, Fail> {
+    let mut pool = of_set(alloc, bytes)?;
+    pool.add_file_descriptor_protos(FileDescriptorSet::decode(alloc, list)?.file)?;
+    Ok(pool)
+}
+
+/// Whether a pool of the bytes is equal, and these are written of the pool.
+fn is_read_and_written(alloc: Global, pool: &DescriptorPool, bytes: &[u8]) -> Result<bool, Fail> {
+    let is_equal = *pool == DescriptorPool::decode(alloc, bytes)?;
+    let mut written = Vec::new(alloc);
+    pool.encode(&mut written)?;
+    Ok(is_equal && written.as_slice() == bytes)
+}
+
 /// Records are added as a set and as a list, and a pool of the bytes of both is equal.
 #[test]
 fn records_are_added(rt: HostRuntime) -> Result<(), Fail> {
-    let mut pool = DescriptorPool::new(rt.alloc())?;
-    pool.add_file_descriptor_set(FileDescriptorSet::decode(rt.alloc(), SCHEMA)?)?;
-    assert_eq!(rt; pool.encode_to_vec(rt.alloc())?.as_slice(), SCHEMA);
-    let set = FileDescriptorSet::decode(rt.alloc(), WHOLE)?;
-    pool.add_file_descriptor_protos(set.file)?;
-    let mut bytes = Vec::from_slice(rt.alloc(), SCHEMA)?;
-    bytes.extend_from_slice(WHOLE)?;
-    assert!(rt; pool == DescriptorPool::decode(rt.alloc(), &bytes)?);
-    let mut written = Vec::new(rt.alloc());
-    pool.encode(&mut written)?;
-    assert_eq!(rt; written.as_slice(), bytes.as_slice());
+    let pool = of_set(rt.alloc(), SCHEMA)?;
+    assert!(rt; is_written_as(rt.alloc(), &pool, SCHEMA)?);
+    let both = joined(rt.alloc(), SCHEMA, WHOLE)?;
+    let pool = of_set_and_list(rt.alloc(), SCHEMA, WHOLE)?;
+    assert!(rt; is_read_and_written(rt.alloc(), &pool, &both)?);
     Ok(())
+}
+
+fn whole_file(alloc: Global) -> Result<FileDescriptor, Fail> {
+    let pool = DescriptorPool::decode(alloc, WHOLE)?;
+    file_of(&pool, "whole.proto")
+}
+
+/// The bytes in front, and the file behind them.
+fn with_file(alloc: Global, front: &[u8], file: &FileDescriptor) -> Result<Vec<u8>, Fail> {
+    let mut written = Vec::from_slice(alloc, front)?;
+    file.encode(&mut written)?;
+    Ok(written)
 }
 
 #[test]
 fn a_file_is_written_again(rt: HostRuntime) -> Result<(), Fail> {
-    let pool = DescriptorPool::decode(rt.alloc(), WHOLE)?;
-    let file = pool.get_file_by_name("whole.proto")?.ok_or("no file")?;
-    assert_eq!(rt; file.encode_to_vec(rt.alloc())?.as_slice(), &WHOLE[LAST..]);
-    let mut written = Vec::from_slice(rt.alloc(), &WHOLE[..LAST])?;
-    file.encode(&mut written)?;
-    assert_eq!(rt; written.as_slice(), WHOLE);
+    let file = whole_file(rt.alloc())?;
+    assert!(rt; file.encode_to_vec(rt.alloc())?.as_slice() == &WHOLE[LAST..]);
+    assert!(rt; with_file(rt.alloc(), &WHOLE[..LAST], &file)?.as_slice() == WHOLE);
     Ok(())
 }
 
@@ -43,29 +72,49 @@ fn a_set_that_ends_early_is_refused(rt: HostRuntime) -> Result<(), Fail> {
     let none = DescriptorPool::decode(rt.alloc(), &[])?;
     assert!(rt; none.files().next().is_none());
     for len in 1..SET_M.len() {
-        let refused = DescriptorPool::decode(rt.alloc(), &SET_M[..len]);
-        let fault = PoolError::Decode(DecodeError::Truncated);
-        assert!(rt; refused.is_err_and(|error| error == fault), "{len}");
+        let refused = refusal(rt.alloc(), &SET_M[..len]);
+        assert!(rt;
+            refused == Some(PoolError::Decode(DecodeError::Truncated)),
+            "{len}"
+        );
     }
     Ok(())
+}
+
+/// How many files there are, and how many are left behind the first.
+fn file_counts(pool: &DescriptorPool) -> [usize; 2] {
+    let mut files = pool.files();
+    let count = files.len();
+    drop(files.next());
+    [count, files.len()]
+}
+
+/// How many message types, enums, extensions and services there are.
+fn counts(pool: &DescriptorPool) -> [usize; 4] {
+    [
+        pool.all_messages().len(),
+        pool.all_enums().len(),
+        pool.all_extensions().len(),
+        pool.services().len(),
+    ]
+}
+
+/// How many fields the message type has, and how many ranges and names it keeps.
+fn member_counts(message: &MessageDescriptor) -> [usize; 4] {
+    [
+        message.fields().len(),
+        message.reserved_ranges().len(),
+        message.extension_ranges().len(),
+        message.reserved_names().len(),
+    ]
 }
 
 /// How many definitions the lists have is known before they are walked, and while they are.
 #[test]
 fn lists_are_of_known_length(rt: HostRuntime) -> Result<(), Fail> {
     let pool = DescriptorPool::decode(rt.alloc(), WHOLE)?;
-    let mut files = pool.files();
-    assert_eq!(rt; files.len(), 3);
-    drop(files.next());
-    assert_eq!(rt; files.len(), 2);
-    assert_eq!(rt; pool.all_messages().len(), 9);
-    assert_eq!(rt; pool.all_enums().len(), 2);
-    assert_eq!(rt; pool.all_extensions().len(), 2);
-    assert_eq!(rt; pool.services().len(), 1);
-    let message = pool.get_message_by_name("w.x.A")?.ok_or("no w.x.A")?;
-    assert_eq!(rt; message.fields().len(), 3);
-    assert_eq!(rt; message.reserved_ranges().len(), 2);
-    assert_eq!(rt; message.extension_ranges().len(), 2);
-    assert_eq!(rt; message.reserved_names().len(), 1);
+    assert!(rt; file_counts(&pool) == [3, 2]);
+    assert!(rt; counts(&pool) == [9, 2, 2, 1]);
+    assert!(rt; member_counts(&message_of(&pool, "w.x.A")?) == [3, 2, 2, 1]);
     Ok(())
 }

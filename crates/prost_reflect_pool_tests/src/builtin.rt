@@ -1,30 +1,44 @@
 //! The built-in message types, found by name and by number.
 
-use prost_reflect::{Kind, builtin_pool};
+use crate::named::message_of;
+use prost_reflect::{FieldDescriptor, Kind, MessageDescriptor, builtin_pool};
 use prost_reflect_tables::Cardinality;
+use std::alloc::{AllocError, Global};
 use std::test::Fail;
+
+fn builtin(alloc: Global, name: &str) -> Result<MessageDescriptor, Fail> {
+    let pool = builtin_pool(alloc)?;
+    message_of(&pool, name)
+}
+
+/// Whether a copy of the message type is equal.
+fn is_its_copy(message: &MessageDescriptor) -> Result<bool, AllocError> {
+    Ok(*message == message.clone()?)
+}
 
 #[test]
 fn message_types_are_found_by_name(rt: HostRuntime) -> Result<(), Fail> {
-    let pool = builtin_pool(rt.alloc())?;
-    let plain = pool
-        .get_message_by_name("builtin.Plain")?
-        .ok_or("no builtin.Plain")?;
-    assert_eq!(rt; plain.full_name(), "builtin.Plain");
-    assert!(rt; plain == plain.clone()?);
+    let plain = builtin(rt.alloc(), "builtin.Plain")?;
+    assert!(rt; plain.full_name() == "builtin.Plain");
+    assert!(rt; is_its_copy(&plain)?);
     Ok(())
+}
+
+/// The field of the number.
+fn kept_field(alloc: Global, number: u32) -> Result<FieldDescriptor, Fail> {
+    let kept = builtin(alloc, "builtin.Kept")?;
+    Ok(kept.get_field(number)?.ok_or("no such field")?)
+}
+
+fn is_f_sint32(field: &FieldDescriptor) -> Result<bool, AllocError> {
+    let is_sint32 = field.kind()? == Kind::Sint32;
+    let is_optional = field.cardinality() == Cardinality::Optional && field.supports_presence();
+    Ok(is_sint32 && is_optional && field.number() == 17 && field.name() == "f_sint32")
 }
 
 #[test]
 fn fields_are_found_by_number(rt: HostRuntime) -> Result<(), Fail> {
-    let kept = builtin_pool(rt.alloc())?
-        .get_message_by_name("builtin.Kept")?
-        .ok_or("no builtin.Kept")?;
-    let field = kept.get_field(17)?.ok_or("no field 17")?;
-    assert_eq!(rt; field.number(), 17);
-    assert_eq!(rt; field.name(), "f_sint32");
-    assert_eq!(rt; field.cardinality(), Cardinality::Optional);
-    assert!(rt; field.kind()? == Kind::Sint32);
-    assert!(rt; field.supports_presence());
+    let field = kept_field(rt.alloc(), 17)?;
+    assert!(rt; is_f_sint32(&field)?);
     Ok(())
 }

@@ -3,6 +3,7 @@
 mod enums;
 mod fields;
 mod files;
+mod lists;
 mod messages;
 mod words;
 
@@ -10,16 +11,21 @@ use crate::describe::enums::write_enums;
 use crate::describe::fields::write_extensions;
 use crate::describe::files::{write_files, write_services};
 use crate::describe::messages::write_messages;
+use crate::describe::words::Lines;
 use prost_reflect::DescriptorPool;
 use std::alloc::{AllocError, Global};
 
 /// A line for each definition of the pool.
 pub fn describe(alloc: Global, pool: &DescriptorPool) -> Result<String, AllocError> {
-    let mut out = String::new(alloc);
-    write_files(alloc, &mut out, pool)?;
-    write_messages(alloc, &mut out, pool)?;
-    write_extensions(alloc, &mut out, pool)?;
-    write_enums(alloc, &mut out, pool)?;
-    write_services(alloc, &mut out, pool)?;
-    Ok(out)
+    let mut lines = Lines::new(alloc);
+    write_pool(&mut lines, pool)?;
+    lines.finish()
+}
+
+fn write_pool(lines: &mut Lines, pool: &DescriptorPool) -> Result<(), AllocError> {
+    write_files(lines, pool)?;
+    write_messages(lines, pool)?;
+    write_extensions(lines, pool)?;
+    write_enums(lines, pool)?;
+    write_services(lines, pool)
 }

@@ -1,8 +1,13 @@
 //! What descriptors say of definitions: names, paths, orders, labels and streams.
 
 use crate::descriptors::K_AND_O;
+use crate::named::{message_of, method_of, oneof_of};
 use crate::pools::SET_M;
-use prost_reflect::{DescriptorPool, EnumDescriptor, EnumValueDescriptors, MessageDescriptor};
+use prost_reflect::{
+    DescriptorPool, EnumDescriptor, EnumValueDescriptors, ExtensionDescriptor, FieldDescriptor,
+    FieldDescriptors, MessageDescriptor, MethodDescriptor, OneofDescriptor,
+};
+use std::alloc::{AllocError, Global};
 use std::test::Fail;
 
 /// What protoc writes for `s.proto`, of proto2: `message M { enum E { option allow_alias = true; B = 2; A = 1; C = 1; }
@@ -23,15 +28,9 @@ static V_AND_W: &[u8] =
     \x18\x01 \x03(\x05B\x02\x18\x01R\x06values*\x05\x08d\x10\xc8\x012'\x0a\x0aext_values\x12\
     \x04.w.W\x18d \x03(\x05B\x02\x18\x01R\x09extValuesb\x06proto3";
 
-/// The message type of the name.
-pub(crate) fn message_of(
-    pool: &DescriptorPool,
-    full_name: &str,
-) -> Result<MessageDescriptor, Fail> {
-    Ok(pool.get_message_by_name(full_name)?.ok_or("no such type")?)
-}
-
-fn enum_of(pool: &DescriptorPool) -> Result<EnumDescriptor, Fail> {
+/// The only enum of `SET_S`.
+fn enum_e(alloc: Global) -> Result<EnumDescriptor, Fail> {
+    let pool = DescriptorPool::decode(alloc, SET_S)?;
     Ok(pool.all_enums().next().ok_or("no enum")??)
 }
 
@@ -41,95 +40,122 @@ fn next_is(values: &mut EnumValueDescriptors<'_>, name: &str) -> Result<bool, Fa
     Ok(value.name() == name)
 }
 
+/// Whether the values are `A`, `C` and `B`.
+fn are_a_c_b(mut values: EnumValueDescriptors<'_>) -> Result<bool, Fail> {
+    let a = next_is(&mut values, "A")?;
+    let c = next_is(&mut values, "C")?;
+    let b = next_is(&mut values, "B")?;
+    Ok(a && c && b && values.next().is_none())
+}
+
+fn default_is(e: &EnumDescriptor, name: &str) -> Result<bool, AllocError> {
+    Ok(e.default_value()?.name() == name)
+}
+
+/// Whether the value 1 is `A`, the second declared.
+fn finds_a(e: &EnumDescriptor) -> Result<bool, Fail> {
+    let first = e.get_value(1)?.ok_or("no value 1")?;
+    let is_named = first.name() == "A" && first.full_name() == "p.M.A";
+    Ok(is_named && first.path() == [4, 0, 4, 0, 2, 1].as_slice())
+}
+
 /// Values stand in ascending order of their numbers, those of one number as they were declared, and the first of them is
 /// found by the number; the default is the first declared one.
 #[test]
 fn values_are_listed_by_number(rt: HostRuntime) -> Result<(), Fail> {
-    let pool = DescriptorPool::decode(rt.alloc(), SET_S)?;
-    let e = enum_of(&pool)?;
-    let mut values = e.values();
-    assert!(rt; next_is(&mut values, "A")?);
-    assert!(rt; next_is(&mut values, "C")?);
-    assert!(rt; next_is(&mut values, "B")?);
-    assert!(rt; values.next().is_none());
-    assert_eq!(rt; e.default_value()?.name(), "B");
-    let first = e.get_value(1)?.ok_or("no value 1")?;
-    assert_eq!(rt; first.name(), "A");
-    assert_eq!(rt; first.full_name(), "p.M.A");
-    assert_eq!(rt; first.path(), [4, 0, 4, 0, 2, 1].as_slice());
+    let e = enum_e(rt.alloc())?;
+    assert!(rt; are_a_c_b(e.values())?);
+    assert!(rt; default_is(&e, "B")?);
+    assert!(rt; finds_a(&e)?);
     Ok(())
+}
+
+fn is_extension_x(extension: &ExtensionDescriptor) -> bool {
+    extension.json_name() == "[p.M.x]" && extension.path() == [4, 0, 6, 0].as_slice()
 }
 
 #[test]
 fn an_extension_has_its_name_in_brackets_in_json(rt: HostRuntime) -> Result<(), Fail> {
     let pool = DescriptorPool::decode(rt.alloc(), SET_S)?;
     let extension = pool.all_extensions().next().ok_or("no extension")??;
-    assert_eq!(rt; extension.json_name(), "[p.M.x]");
-    assert_eq!(rt; extension.path(), [4, 0, 6, 0].as_slice());
+    assert!(rt; is_extension_x(&extension));
     Ok(())
+}
+
+fn is_method_go(method: &MethodDescriptor) -> bool {
+    method.full_name() == "p.S.Go"
+        && method.path() == [6, 0, 2, 0].as_slice()
+        && method.is_client_streaming()
+        && !method.is_server_streaming()
 }
 
 #[test]
 fn a_method_says_what_is_streamed(rt: HostRuntime) -> Result<(), Fail> {
     let pool = DescriptorPool::decode(rt.alloc(), SET_S)?;
-    let service = pool.get_service_by_name("p.S")?.ok_or("no p.S")?;
-    let method = service.methods().next().ok_or("no method")??;
-    assert_eq!(rt; method.full_name(), "p.S.Go");
-    assert_eq!(rt; method.path(), [6, 0, 2, 0].as_slice());
-    assert!(rt; method.is_client_streaming());
-    assert!(rt; !method.is_server_streaming());
+    assert!(rt; is_method_go(&method_of(&pool, "p.S")?));
     Ok(())
+}
+
+/// Whether the field `nested` is declared third, and has presence.
+fn has_nested(message: &MessageDescriptor) -> Result<bool, Fail> {
+    let nested = message.get_field_by_name("nested")?.ok_or("no nested")?;
+    let is_named = nested.full_name() == "package.MyMessage.nested";
+    let is_third = nested.path() == [4, 0, 2, 2].as_slice();
+    Ok(is_named && is_third && nested.supports_presence())
+}
+
+fn is_optional(oneof: &OneofDescriptor) -> bool {
+    oneof.name() == "optional" && oneof.path() == [4, 0, 8, 0].as_slice() && !oneof.is_synthetic()
+}
+
+/// Whether the only field is `bar`.
+fn is_bar_alone(mut members: FieldDescriptors<'_>) -> Result<bool, Fail> {
+    let is_bar = members.next().ok_or("no member")??.name() == "bar";
+    Ok(is_bar && members.next().is_none())
 }
 
 #[test]
 fn a_oneof_lists_its_fields(rt: HostRuntime) -> Result<(), Fail> {
     let pool = DescriptorPool::decode(rt.alloc(), SET_M)?;
     let message = message_of(&pool, "package.MyMessage")?;
-    let nested = message.get_field_by_name("nested")?.ok_or("no nested")?;
-    assert_eq!(rt; nested.full_name(), "package.MyMessage.nested");
-    assert_eq!(rt; nested.path(), [4, 0, 2, 2].as_slice());
-    assert!(rt; nested.supports_presence());
-    let oneof = message.oneofs().next().ok_or("no oneof")??;
-    assert_eq!(rt; oneof.name(), "optional");
-    assert_eq!(rt; oneof.path(), [4, 0, 8, 0].as_slice());
-    assert!(rt; !oneof.is_synthetic());
-    let mut members = oneof.fields();
-    assert_eq!(rt; members.next().ok_or("no member")??.name(), "bar");
-    assert!(rt; members.next().is_none());
+    assert!(rt; has_nested(&message)?);
+    let oneof = oneof_of(&message)?;
+    assert!(rt; is_optional(&oneof));
+    assert!(rt; is_bar_alone(oneof.fields())?);
     Ok(())
 }
 
-/// Whether the list 1 of the type is packed as said, and so is its extension of the number 100.
-fn is_packed_as(message: &MessageDescriptor, is_packed: bool) -> Result<bool, Fail> {
-    let field = message.get_field(1)?.ok_or("no field 1")?;
+/// Whether the list 1 of the type, and its extension of the number 100, are packed.
+fn are_packed(message: &MessageDescriptor) -> Result<[bool; 2], Fail> {
+    let field = message.get_field(1)?.ok_or("no field 1")?.is_packed();
     let extension = message.get_extension(100)?.ok_or("no extension 100")?;
-    Ok(field.is_packed() == is_packed && extension.is_packed() == is_packed)
+    Ok([field, extension.is_packed()])
 }
 
 /// Options that say nothing of packing leave it to the syntax.
 #[test]
 fn lists_are_packed_in_proto3(rt: HostRuntime) -> Result<(), Fail> {
     let pool = DescriptorPool::decode(rt.alloc(), V_AND_W)?;
-    assert!(rt; is_packed_as(&message_of(&pool, "v.V")?, false)?);
-    assert!(rt; is_packed_as(&message_of(&pool, "w.W")?, true)?);
+    assert!(rt; are_packed(&message_of(&pool, "v.V")?)? == [false; 2]);
+    assert!(rt; are_packed(&message_of(&pool, "w.W")?)? == [true; 2]);
     Ok(())
 }
 
-/// Whether the type is that of a map's entries, and its fields 1 and 2 are its key and its value.
-fn is_entry(message: &MessageDescriptor) -> Result<bool, Fail> {
+/// Of a type of a map's entries, whether its fields 1 and 2 are its key and its value; none of any other type.
+fn key_and_value(message: &MessageDescriptor) -> Result<Option<bool>, AllocError> {
     if message.is_map_entry() {
-        let key = message.map_entry_key_field()?;
-        let value = message.map_entry_value_field()?;
-        Ok(key.name() == "key" && value.name() == "value")
+        let has_key = message.map_entry_key_field()?.name() == "key";
+        let has_value = message.map_entry_value_field()?.name() == "value";
+        Ok(Some(has_key && has_value))
     } else {
-        Ok(false)
+        Ok(None)
     }
 }
 
 #[test]
 fn an_entry_has_a_key_and_a_value(rt: HostRuntime) -> Result<(), Fail> {
     let pool = DescriptorPool::decode(rt.alloc(), K_AND_O)?;
-    assert!(rt; is_entry(&message_of(&pool, "k.M.MEntry")?)?);
-    assert!(rt; !is_entry(&message_of(&pool, "k.M")?)?);
+    assert!(rt; key_and_value(&message_of(&pool, "k.M.MEntry")?)? == Some(true));
+    assert!(rt; key_and_value(&message_of(&pool, "k.M")?)? == None);
     Ok(())
 }

@@ -1,6 +1,7 @@
-//! What descriptors answer: where they stand, which enums are closed, and which types are those of a map's entries.
+//! What descriptors answer: where they stand, and which enums are closed.
 
-use prost_reflect::{DescriptorPool, Kind};
+use crate::named::field_of;
+use prost_reflect::{DescriptorPool, FieldDescriptor, Kind};
 use std::test::Fail;
 
 /// `k.proto`, of proto2: `message M { optional E e = 1; map<string, int32> m = 2; } enum E { ZERO = 0; }` in `k`. And
@@ -12,33 +13,17 @@ pub(crate) static K_AND_O: &[u8] =
     \x0a9\x0a\x07o.proto\x12\x01o\"\x14\x0a\x01M\x12\x0f\x0a\x01e\x18\x01 \x01(\x0e2\x04.o.E*\x0d\
     \x0a\x01E\x12\x08\x0a\x04ZERO\x10\x00b\x06proto3";
 
+/// Whether the field stands in the message type of the pool.
+fn stands_in(field: &FieldDescriptor, pool: &DescriptorPool, message: &str) -> bool {
+    let parent = field.parent_message();
+    parent.full_name() == message && *parent.parent_pool() == *pool
+}
+
 #[test]
 fn a_field_stands_in_its_message(rt: HostRuntime) -> Result<(), Fail> {
     let pool = DescriptorPool::decode(rt.alloc(), K_AND_O)?;
-    let message = pool.get_message_by_name("k.M")?.ok_or("no k.M")?;
-    let field = message.get_field(2)?.ok_or("no field 2")?;
-    assert_eq!(rt; field.parent_message().full_name(), "k.M");
-    assert!(rt; *field.parent_message().parent_pool() == pool);
+    assert!(rt; stands_in(&field_of(&pool, "k.M", 2)?, &pool, "k.M"));
     Ok(())
-}
-
-#[test]
-fn the_type_of_a_maps_entries_is_told(rt: HostRuntime) -> Result<(), Fail> {
-    let pool = DescriptorPool::decode(rt.alloc(), K_AND_O)?;
-    let message = pool.get_message_by_name("k.M")?.ok_or("no k.M")?;
-    let entry = pool
-        .get_message_by_name("k.M.MEntry")?
-        .ok_or("no k.M.MEntry")?;
-    assert!(rt; !message.is_map_entry());
-    assert!(rt; entry.is_map_entry());
-    Ok(())
-}
-
-/// The kind of the field 1 of a message type.
-fn kind_of(pool: &DescriptorPool, message: &str) -> Result<Kind, Fail> {
-    let message = pool.get_message_by_name(message)?.ok_or("no such type")?;
-    let field = message.get_field(1)?.ok_or("no field 1")?;
-    Ok(field.kind()?)
 }
 
 /// Whether the kind is an enum of the pool with the name, and closed or not.
@@ -53,13 +38,22 @@ fn is_enum(kind: &Kind, pool: &DescriptorPool, full_name: &str, is_closed: bool)
     }
 }
 
+/// Whether the kind of the field 1 of the message type is that enum.
+fn has_enum(
+    pool: &DescriptorPool,
+    message: &str,
+    full_name: &str,
+    is_closed: bool,
+) -> Result<bool, Fail> {
+    let kind = field_of(pool, message, 1)?.kind()?;
+    Ok(is_enum(&kind, pool, full_name, is_closed))
+}
+
 /// An enum of proto2 is closed, one of proto3 is not.
 #[test]
 fn enums_are_closed_or_open(rt: HostRuntime) -> Result<(), Fail> {
     let pool = DescriptorPool::decode(rt.alloc(), K_AND_O)?;
-    let closed = kind_of(&pool, "k.M")?;
-    let open = kind_of(&pool, "o.M")?;
-    assert!(rt; is_enum(&closed, &pool, "k.E", true));
-    assert!(rt; is_enum(&open, &pool, "o.E", false));
+    assert!(rt; has_enum(&pool, "k.M", "k.E", true)?);
+    assert!(rt; has_enum(&pool, "o.M", "o.E", false)?);
     Ok(())
 }

@@ -1,8 +1,10 @@
 //! By which names and numbers the definitions of a whole set are found, and that nothing is found by others.
 
+use crate::named::{enum_of, field_of, message_of};
 use crate::whole::WHOLE;
 use prost_reflect::{DescriptorPool, EnumDescriptor, Kind, MessageDescriptor};
 use std::alloc::AllocError;
+use std::process::Abort;
 use std::test::Fail;
 
 /// A name, and whether a file, a message type, an enum, an extension and a service are found by it.
@@ -91,43 +93,73 @@ fn definitions_are_found_by_their_names_alone(rt: HostRuntime) -> Result<(), Fai
     Ok(())
 }
 
-#[test]
-fn members_are_found_by_their_names_and_numbers(rt: HostRuntime) -> Result<(), Fail> {
-    let pool = DescriptorPool::decode(rt.alloc(), WHOLE)?;
-    let message = pool.get_message_by_name("w.x.A")?.ok_or("no w.x.A")?;
+fn members_are_found(rt: &impl Abort, message: &MessageDescriptor) -> Result<(), AllocError> {
     for (name, found) in MEMBERS {
-        assert!(rt; found_in_message(&message, name)? == found, "{name}");
+        assert!(rt; found_in_message(message, name)? == found, "{name}");
     }
     for (number, found) in NUMBERS {
-        assert!(rt; found_by_number(&message, number)? == found, "{number}");
-    }
-    let e = pool.get_enum_by_name("w.x.A.B.C.State")?.ok_or("no State")?;
-    for (name, number, found) in VALUES {
-        assert!(rt; found_in_enum(&e, name, number)? == found, "{name}");
+        assert!(rt; found_by_number(message, number)? == found, "{number}");
     }
     Ok(())
 }
 
-/// The kind of the field of the number.
-fn kind_of(message: &MessageDescriptor, number: u32) -> Result<Kind, Fail> {
-    Ok(message.get_field(number)?.ok_or("no such field")?.kind()?)
+fn values_are_found(rt: &impl Abort, e: &EnumDescriptor) -> Result<(), AllocError> {
+    for (name, number, found) in VALUES {
+        assert!(rt; found_in_enum(e, name, number)? == found, "{name}");
+    }
+    Ok(())
+}
+
+#[test]
+fn members_are_found_by_their_names_and_numbers(rt: HostRuntime) -> Result<(), Fail> {
+    let pool = DescriptorPool::decode(rt.alloc(), WHOLE)?;
+    members_are_found(&rt, &message_of(&pool, "w.x.A")?)?;
+    values_are_found(&rt, &enum_of(&pool, "w.x.A.B.C.State")?)?;
+    Ok(())
+}
+
+/// The kind of the field of `w.x.A` of the number.
+fn kind_of(pool: &DescriptorPool, number: u32) -> Result<Kind, Fail> {
+    Ok(field_of(pool, "w.x.A", number)?.kind()?)
+}
+
+/// Whether the kind leads to the message type alone.
+fn leads_to_message(kind: &Kind, full_name: &str) -> bool {
+    match kind.as_message() {
+        Some(message) => message.full_name() == full_name && kind.as_enum().is_none(),
+        None => false,
+    }
+}
+
+/// Whether the kind leads to the enum alone.
+fn leads_to_enum(kind: &Kind, full_name: &str) -> bool {
+    match kind.as_enum() {
+        Some(found) => found.full_name() == full_name && kind.as_message().is_none(),
+        None => false,
+    }
+}
+
+fn leads_nowhere(kind: &Kind) -> bool {
+    kind.as_message().is_none() && kind.as_enum().is_none()
+}
+
+/// Whether a copy of the kind is equal, and the other kind is not.
+fn is_its_copy(kind: &Kind, other: &Kind) -> Result<bool, AllocError> {
+    Ok(kind.clone()? == *kind && *kind != *other)
 }
 
 /// A kind leads to its message type, or to its enum, and a scalar kind to neither; a copy to the same.
 #[test]
 fn kinds_lead_to_their_types(rt: HostRuntime) -> Result<(), Fail> {
     let pool = DescriptorPool::decode(rt.alloc(), WHOLE)?;
-    let message = pool.get_message_by_name("w.x.A")?.ok_or("no w.x.A")?;
-    let (of_enum, of_entry, of_text) = (
-        kind_of(&message, 2)?,
-        kind_of(&message, 3)?,
-        kind_of(&message, 7)?,
-    );
-    assert!(rt; of_enum.as_enum().ok_or("no enum")?.full_name() == "base.Level");
-    assert!(rt; of_entry.as_message().ok_or("no message")?.full_name() == "w.x.A.BsEntry");
-    assert!(rt; of_enum.as_message().is_none() && of_entry.as_enum().is_none());
-    assert!(rt; of_text.as_message().is_none() && of_text.as_enum().is_none());
-    assert!(rt; of_enum.clone()? == of_enum && of_entry.clone()? == of_entry);
-    assert!(rt; of_text.clone()? == of_text && of_text != of_enum);
+    let of_enum = kind_of(&pool, 2)?;
+    let of_entry = kind_of(&pool, 3)?;
+    let of_text = kind_of(&pool, 7)?;
+    assert!(rt; leads_to_enum(&of_enum, "base.Level"));
+    assert!(rt; leads_to_message(&of_entry, "w.x.A.BsEntry"));
+    assert!(rt; leads_nowhere(&of_text));
+    assert!(rt; is_its_copy(&of_enum, &of_entry)?);
+    assert!(rt; is_its_copy(&of_entry, &of_text)?);
+    assert!(rt; is_its_copy(&of_text, &of_enum)?);
     Ok(())
 }

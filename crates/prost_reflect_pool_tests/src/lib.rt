@@ -17,6 +17,8 @@ mod found;
 #[cfg(test)]
 mod lookups;
 #[cfg(test)]
+mod named;
+#[cfg(test)]
 mod options;
 #[cfg(test)]
 mod origins;

@@ -1,10 +1,11 @@
 //! What is found by names and numbers, and what is not.
 
+use crate::named::{enum_of, message_of};
 use prost_reflect::{
     DescriptorPool, EnumDescriptor, EnumValueDescriptor, ExtensionDescriptor, FieldDescriptor,
-    MessageDescriptor,
+    FileDescriptor, MessageDescriptor, ServiceDescriptor,
 };
-use std::alloc::Global;
+use std::alloc::{AllocError, Global};
 use std::test::Fail;
 
 /// `s.proto`, of proto2: in `p`
@@ -29,105 +30,154 @@ static SET_S: &[u8] =
 
 fn message(alloc: Global, name: &str) -> Result<MessageDescriptor, Fail> {
     let pool = DescriptorPool::decode(alloc, SET_S)?;
-    Ok(
-        pool.get_message_by_name(name)?
-            .ok_or("no such message type")?,
-    )
+    message_of(&pool, name)
 }
 
 fn enum_of_m(alloc: Global) -> Result<EnumDescriptor, Fail> {
     let pool = DescriptorPool::decode(alloc, SET_S)?;
-    Ok(pool.get_enum_by_name("p.M.E")?.ok_or("no such enum")?)
+    enum_of(&pool, "p.M.E")
 }
 
-fn is_field(found: &Option<FieldDescriptor>, number: u32) -> bool {
+fn is_file(found: Option<FileDescriptor>, name: &str) -> bool {
+    match found {
+        Some(file) => file.name() == name,
+        None => false,
+    }
+}
+
+fn is_service(found: Option<ServiceDescriptor>, full_name: &str) -> bool {
+    match found {
+        Some(service) => service.full_name() == full_name,
+        None => false,
+    }
+}
+
+fn is_message(found: Option<MessageDescriptor>, full_name: &str) -> bool {
+    match found {
+        Some(message) => message.full_name() == full_name,
+        None => false,
+    }
+}
+
+fn is_enum(found: Option<EnumDescriptor>, full_name: &str) -> bool {
+    match found {
+        Some(found) => found.full_name() == full_name,
+        None => false,
+    }
+}
+
+fn is_field(found: Option<FieldDescriptor>, number: u32) -> bool {
     match found {
         Some(field) => field.number() == number,
         None => false,
     }
 }
 
-fn is_extension(found: &Option<ExtensionDescriptor>, full_name: &str) -> bool {
+fn is_extension(found: Option<ExtensionDescriptor>, full_name: &str) -> bool {
     match found {
         Some(extension) => extension.full_name() == full_name,
         None => false,
     }
 }
 
-fn is_value(found: &Option<EnumValueDescriptor>, name: &str) -> bool {
+fn is_value(found: Option<EnumValueDescriptor>, name: &str) -> bool {
     match found {
         Some(value) => value.name() == name,
         None => false,
     }
 }
 
-#[test]
-fn files_and_services_are_found(rt: HostRuntime) -> Result<(), Fail> {
-    let pool = DescriptorPool::decode(rt.alloc(), SET_S)?;
-    let file = pool.get_file_by_name("s.proto")?.ok_or("no s.proto")?;
-    let service = pool.get_service_by_name("p.S")?.ok_or("no p.S")?;
-    assert_eq!(rt; file.name(), "s.proto");
-    assert_eq!(rt; service.full_name(), "p.S");
-    assert!(rt; pool.get_file_by_name("p")?.is_none());
-    assert!(rt; pool.get_service_by_name("p.M")?.is_none());
-    Ok(())
+fn finds_files(pool: &DescriptorPool) -> Result<[bool; 2], AllocError> {
+    let file = is_file(pool.get_file_by_name("s.proto")?, "s.proto");
+    let no_file = pool.get_file_by_name("p")?.is_none();
+    Ok([file, no_file])
 }
 
-#[test]
-fn message_types_and_enums_are_found(rt: HostRuntime) -> Result<(), Fail> {
-    let pool = DescriptorPool::decode(rt.alloc(), SET_S)?;
-    let message = pool.get_message_by_name("p.N")?.ok_or("no p.N")?;
-    let found = pool.get_enum_by_name("p.M.E")?.ok_or("no p.M.E")?;
-    assert_eq!(rt; message.full_name(), "p.N");
-    assert_eq!(rt; found.full_name(), "p.M.E");
-    assert!(rt; pool.get_message_by_name("p.M.E")?.is_none());
-    assert!(rt; pool.get_enum_by_name("p.E")?.is_none());
-    Ok(())
+fn finds_services(pool: &DescriptorPool) -> Result<[bool; 2], AllocError> {
+    let service = is_service(pool.get_service_by_name("p.S")?, "p.S");
+    let no_service = pool.get_service_by_name("p.M")?.is_none();
+    Ok([service, no_service])
+}
+
+fn finds_messages(pool: &DescriptorPool) -> Result<[bool; 2], AllocError> {
+    let message = is_message(pool.get_message_by_name("p.N")?, "p.N");
+    let no_message = pool.get_message_by_name("p.M.E")?.is_none();
+    Ok([message, no_message])
+}
+
+fn finds_enums(pool: &DescriptorPool) -> Result<[bool; 2], AllocError> {
+    let found = is_enum(pool.get_enum_by_name("p.M.E")?, "p.M.E");
+    let no_enum = pool.get_enum_by_name("p.E")?.is_none();
+    Ok([found, no_enum])
 }
 
 /// An extension has the scope in which it is declared, whatever it extends.
+fn finds_extensions(pool: &DescriptorPool) -> Result<[bool; 4], AllocError> {
+    let inner = is_extension(pool.get_extension_by_name("p.M.x")?, "p.M.x");
+    let outer = is_extension(pool.get_extension_by_name("p.z")?, "p.z");
+    let no_field = pool.get_extension_by_name("p.M.a")?.is_none();
+    let not_out_of_scope = pool.get_extension_by_name("p.x")?.is_none();
+    Ok([inner, outer, no_field, not_out_of_scope])
+}
+
 #[test]
-fn extensions_are_found(rt: HostRuntime) -> Result<(), Fail> {
+fn definitions_are_found_in_a_pool(rt: HostRuntime) -> Result<(), Fail> {
     let pool = DescriptorPool::decode(rt.alloc(), SET_S)?;
-    assert!(rt; is_extension(&pool.get_extension_by_name("p.M.x")?, "p.M.x"));
-    assert!(rt; is_extension(&pool.get_extension_by_name("p.z")?, "p.z"));
-    assert!(rt; pool.get_extension_by_name("p.M.a")?.is_none());
-    assert!(rt; pool.get_extension_by_name("p.x")?.is_none());
+    assert!(rt; finds_files(&pool)? == [true; 2]);
+    assert!(rt; finds_services(&pool)? == [true; 2]);
+    assert!(rt; finds_messages(&pool)? == [true; 2]);
+    assert!(rt; finds_enums(&pool)? == [true; 2]);
+    assert!(rt; finds_extensions(&pool)? == [true; 4]);
     Ok(())
 }
 
 /// Of two fields with one name in JSON the lower number is found; an extension is no field.
-#[test]
-fn fields_are_found(rt: HostRuntime) -> Result<(), Fail> {
-    let message = message(rt.alloc(), "p.M")?;
-    assert!(rt; is_field(&message.get_field_by_name("a")?, 5));
-    assert!(rt; is_field(&message.get_field_by_json_name("n")?, 3));
-    assert!(rt; message.get_field_by_name("x")?.is_none());
-    assert!(rt; message.get_field_by_json_name("a")?.is_none());
-    Ok(())
+fn finds_fields(message: &MessageDescriptor) -> Result<[bool; 4], AllocError> {
+    let named = is_field(message.get_field_by_name("a")?, 5);
+    let json = is_field(message.get_field_by_json_name("n")?, 3);
+    let no_extension = message.get_field_by_name("x")?.is_none();
+    let no_other_name = message.get_field_by_json_name("a")?.is_none();
+    Ok([named, json, no_extension, no_other_name])
 }
 
-/// A message type finds its own extensions, wherever they are declared, and no others.
+/// A message type finds its own extensions, wherever they are declared.
+fn finds_own_extensions(message: &MessageDescriptor) -> Result<[bool; 3], AllocError> {
+    let numbered = is_extension(message.get_extension(100)?, "p.M.x");
+    let named = is_extension(message.get_extension_by_full_name("p.z")?, "p.z");
+    let json = is_extension(message.get_extension_by_json_name("[p.M.x]")?, "p.M.x");
+    Ok([numbered, named, json])
+}
+
+/// It finds no others.
+fn finds_no_others(message: &MessageDescriptor) -> Result<[bool; 3], AllocError> {
+    let numbered = message.get_extension(7)?.is_none();
+    let named = message.get_extension_by_full_name("p.y")?.is_none();
+    let json = message.get_extension_by_json_name("p.z")?.is_none();
+    Ok([numbered, named, json])
+}
+
 #[test]
-fn extensions_of_a_message_type_are_found(rt: HostRuntime) -> Result<(), Fail> {
+fn fields_and_extensions_of_a_message_type_are_found(rt: HostRuntime) -> Result<(), Fail> {
     let message = message(rt.alloc(), "p.M")?;
-    assert!(rt; is_extension(&message.get_extension(100)?, "p.M.x"));
-    assert!(rt; is_extension(&message.get_extension_by_full_name("p.z")?, "p.z"));
-    assert!(rt; is_extension(&message.get_extension_by_json_name("[p.M.x]")?, "p.M.x"));
-    assert!(rt; message.get_extension(7)?.is_none());
-    assert!(rt; message.get_extension_by_full_name("p.y")?.is_none());
-    assert!(rt; message.get_extension_by_json_name("p.z")?.is_none());
+    assert!(rt; finds_fields(&message)? == [true; 4]);
+    assert!(rt; finds_own_extensions(&message)? == [true; 3]);
+    assert!(rt; finds_no_others(&message)? == [true; 3]);
     Ok(())
 }
 
 /// Of two values of one number the first declared is found.
+fn finds_values(found: &EnumDescriptor) -> Result<[bool; 5], AllocError> {
+    let first = is_value(found.get_value(1)?, "A");
+    let alone = is_value(found.get_value(2)?, "B");
+    let named = is_value(found.get_value_by_name("C")?, "C");
+    let no_number = found.get_value(0)?.is_none();
+    let no_full_name = found.get_value_by_name("p.M.A")?.is_none();
+    Ok([first, alone, named, no_number, no_full_name])
+}
+
 #[test]
 fn values_are_found(rt: HostRuntime) -> Result<(), Fail> {
     let found = enum_of_m(rt.alloc())?;
-    assert!(rt; is_value(&found.get_value(1)?, "A"));
-    assert!(rt; is_value(&found.get_value(2)?, "B"));
-    assert!(rt; is_value(&found.get_value_by_name("C")?, "C"));
-    assert!(rt; found.get_value(0)?.is_none());
-    assert!(rt; found.get_value_by_name("p.M.A")?.is_none());
+    assert!(rt; finds_values(&found)? == [true; 5]);
     Ok(())
 }

@@ -1,8 +1,10 @@
 //! Options of definitions, read by the types of the schema of descriptor sets, or by one that has few of them.
 
-use crate::described::message_of;
+use crate::named::{enum_of, file_of, message_of, method_of, oneof_of, service_of};
 use crate::schema::SCHEMA;
-use prost_reflect::{DecodeError, DescriptorPool, DynamicMessage, OptionsError, Value};
+use prost_reflect::{
+    DecodeError, DescriptorPool, DynamicMessage, MessageDescriptor, OptionsError, Value,
+};
 use std::alloc::{AllocError, Global};
 use std::test::Fail;
 
@@ -47,56 +49,75 @@ static ANSWERS: [(&str, &str); 10] = [
 
 /// The options of the definition.
 fn options_of(pool: &DescriptorPool, name: &str) -> Result<DynamicMessage, Fail> {
-    let message = message_of(pool, "o.M")?;
-    let e = pool.get_enum_by_name("o.E")?.ok_or("no o.E")?;
-    let service = pool.get_service_by_name("o.S")?.ok_or("no o.S")?;
-    let options = match name {
-        "M" => message.options(),
-        "f" => message.get_field(1)?.ok_or("no f")?.options(),
-        "g" => message.get_field(2)?.ok_or("no g")?.options(),
-        "c" => message.oneofs().next().ok_or("no c")??.options(),
-        "x" => message.get_extension(100)?.ok_or("no x")?.options(),
-        "E" => e.options(),
-        "A" => e.default_value()?.options(),
-        "S" => service.options(),
-        "R" => service.methods().next().ok_or("no R")??.options(),
-        file => pool.get_file_by_name(file)?.ok_or("no file")?.options(),
-    };
-    Ok(options?)
+    match name {
+        "E" => Ok(enum_of(pool, "o.E")?.options()?),
+        "A" => Ok(enum_of(pool, "o.E")?.default_value()?.options()?),
+        "S" => Ok(service_of(pool, "o.S")?.options()?),
+        "R" => Ok(method_of(pool, "o.S")?.options()?),
+        "M" | "f" | "g" | "c" | "x" => options_in(&message_of(pool, "o.M")?, name),
+        file => Ok(file_of(pool, file)?.options()?),
+    }
 }
 
-/// The name of the options' type, and the names and the values of those that are set.
-fn shown(alloc: Global, options: &DynamicMessage) -> Result<String, Fail> {
+/// The options of the message type, or of what is declared for it.
+fn options_in(message: &MessageDescriptor, name: &str) -> Result<DynamicMessage, Fail> {
+    match name {
+        "M" => Ok(message.options()?),
+        "f" => Ok(message.get_field(1)?.ok_or("no f")?.options()?),
+        "g" => Ok(message.get_field(2)?.ok_or("no g")?.options()?),
+        "c" => Ok(oneof_of(message)?.options()?),
+        _ => Ok(message.get_extension(100)?.ok_or("no x")?.options()?),
+    }
+}
+
+/// Whether the name of the options' type, and the names and the values of those that are set, are the text.
+fn are_shown_as(alloc: Global, options: &DynamicMessage, text: &str) -> Result<bool, Fail> {
     let mut out = String::new(alloc);
     out.push_str(options.descriptor()?.name())?;
+    write_fields(&mut out, options)?;
+    write_extensions(&mut out, options)?;
+    Ok(out.as_str() == text)
+}
+
+fn write_fields(out: &mut String, options: &DynamicMessage) -> Result<(), Fail> {
     for item in options.fields() {
         let (field, value) = item?;
-        write_option(&mut out, field.name(), value)?;
+        write_option(out, field.name(), value)?;
     }
+    Ok(())
+}
+
+fn write_extensions(out: &mut String, options: &DynamicMessage) -> Result<(), Fail> {
     for item in options.extensions() {
         let (extension, value) = item?;
-        write_option(&mut out, extension.name(), value)?;
+        write_option(out, extension.name(), value)?;
     }
-    Ok(out)
+    Ok(())
 }
 
 fn write_option(out: &mut String, name: &str, value: &Value) -> Result<(), AllocError> {
+    write!(out, " {name}=")?;
     match value {
-        Value::Bool(true) => write!(out, " {name}=true"),
-        Value::Bool(false) => write!(out, " {name}=false"),
-        Value::I32(number) | Value::EnumNumber(number) => write!(out, " {name}={number}"),
-        Value::String(text) => write!(out, " {name}={text}"),
-        _ => write!(out, " {name}=?"),
+        Value::Bool(flag) => write!(out, "{flag}"),
+        Value::I32(number) | Value::EnumNumber(number) => write!(out, "{number}"),
+        Value::String(text) => out.push_str(text.as_str()),
+        _ => out.push_str("?"),
     }
+}
+
+/// A pool of two sets.
+fn pool_of(alloc: Global, first: &[u8], second: &[u8]) -> Result<DescriptorPool, Fail> {
+    let mut pool = DescriptorPool::decode(alloc, first)?;
+    pool.decode_file_descriptor_set(second)?;
+    Ok(pool)
 }
 
 #[test]
 fn options_are_those_of_each_definition(rt: HostRuntime) -> Result<(), Fail> {
-    let mut pool = DescriptorPool::decode(rt.alloc(), SCHEMA)?;
-    pool.decode_file_descriptor_set(O_PROTO)?;
+    let pool = pool_of(rt.alloc(), SCHEMA, O_PROTO)?;
     for (name, text) in ANSWERS {
         let options = options_of(&pool, name)?;
-        assert_eq!(rt; shown(rt.alloc(), &options)?.as_str(), text);
+        assert!(rt; are_shown_as(rt.alloc(), &options, text)?, "{name}");
     }
     Ok(())
 }
@@ -122,16 +143,22 @@ static ROWS: [(&[u8], Option<OptionsError>); 3] = [
     ),
 ];
 
+/// The options of `p.M` beside the file.
+fn options_beside(
+    alloc: Global,
+    file: &[u8],
+) -> Result<Result<DynamicMessage, OptionsError>, Fail> {
+    let pool = pool_of(alloc, USER, file)?;
+    Ok(message_of(&pool, "p.M")?.options())
+}
+
 #[test]
 fn options_are_read_by_the_pool_alone(rt: HostRuntime) -> Result<(), Fail> {
     for (file, refusal) in ROWS {
-        let mut pool = DescriptorPool::decode(rt.alloc(), USER)?;
-        pool.decode_file_descriptor_set(file)?;
-        match message_of(&pool, "p.M")?.options() {
+        match options_beside(rt.alloc(), file)? {
             Ok(options) => {
-                assert_eq!(rt; refusal, None);
-                let text = shown(rt.alloc(), &options)?;
-                assert_eq!(rt; text.as_str(), "MessageOptions deprecated=true");
+                assert!(rt; refusal.is_none());
+                assert!(rt; are_shown_as(rt.alloc(), &options, "MessageOptions deprecated=true")?);
             }
             Err(error) => assert_eq!(rt; Some(error), refusal),
         }

@@ -1,9 +1,10 @@
 //! Pools that are made of descriptor sets, and what is added to them.
 
+use crate::named::message_of;
 use prost_reflect::DescriptorPool;
 use prost_reflect_tables::PoolError;
 use prost_reflect_types::{FileDescriptorProto, FileDescriptorSet};
-use prost_reflect_wire::DecodeError;
+use prost_reflect_wire::{DecodeError, EncodeError};
 use std::alloc::{AllocError, Global};
 use std::test::Fail;
 
@@ -28,11 +29,41 @@ static B_AND_A: &[u8] =
 static SOUND_AND_EDITIONS: &[u8] =
     b"\x0a\x16\x0a\x0bsound.proto\"\x07\x0a\x05Sound\x0a\x1a\x0a\x0eeditions.protob\x08editions";
 
+/// Whether the pool is written as these bytes.
+pub(crate) fn is_written_as(
+    alloc: Global,
+    pool: &DescriptorPool,
+    bytes: &[u8],
+) -> Result<bool, EncodeError> {
+    Ok(pool.encode_to_vec(alloc)?.as_slice() == bytes)
+}
+
+/// The bytes of both, one behind the other.
+pub(crate) fn joined(alloc: Global, front: &[u8], rest: &[u8]) -> Result<Vec<u8>, AllocError> {
+    let mut bytes = Vec::from_slice(alloc, front)?;
+    bytes.extend_from_slice(rest)?;
+    Ok(bytes)
+}
+
+/// Why no pool is made of the bytes.
+pub(crate) fn refusal(alloc: Global, bytes: &[u8]) -> Option<PoolError> {
+    match DescriptorPool::decode(alloc, bytes) {
+        Ok(_) => None,
+        Err(error) => Some(error),
+    }
+}
+
+/// A pool of the set, to which another one is added.
+fn with_added(alloc: Global, set: &[u8], added: &[u8]) -> Result<DescriptorPool, PoolError> {
+    let mut pool = DescriptorPool::decode(alloc, set)?;
+    pool.decode_file_descriptor_set(added)?;
+    Ok(pool)
+}
+
 #[test]
 fn a_set_is_encoded_as_it_was_read(rt: HostRuntime) -> Result<(), Fail> {
-    let mut pool = DescriptorPool::decode(rt.alloc(), SET_M)?;
-    pool.decode_file_descriptor_set(SET_M)?;
-    assert_eq!(rt; pool.encode_to_vec(rt.alloc())?.as_slice(), SET_M);
+    let pool = with_added(rt.alloc(), SET_M, SET_M)?;
+    assert!(rt; is_written_as(rt.alloc(), &pool, SET_M)?);
     assert!(rt; pool == DescriptorPool::decode(rt.alloc(), SET_M)?);
     Ok(())
 }
@@ -41,25 +72,29 @@ fn a_set_is_encoded_as_it_was_read(rt: HostRuntime) -> Result<(), Fail> {
 fn a_set_makes_a_pool(rt: HostRuntime) -> Result<(), Fail> {
     let set = FileDescriptorSet::decode(rt.alloc(), A_AND_B)?;
     let pool = DescriptorPool::from_file_descriptor_set(rt.alloc(), set)?;
-    assert_eq!(rt; pool.encode_to_vec(rt.alloc())?.as_slice(), A_AND_B);
+    assert!(rt; is_written_as(rt.alloc(), &pool, A_AND_B)?);
     Ok(())
+}
+
+/// A pool to which a file is added.
+fn of_file(alloc: Global, bytes: &[u8]) -> Result<DescriptorPool, Fail> {
+    let mut pool = DescriptorPool::new(alloc)?;
+    pool.add_file_descriptor_proto(FileDescriptorProto::decode(alloc, bytes)?)?;
+    Ok(pool)
+}
+
+/// A pool to which a file is read and added.
+fn of_read_file(alloc: Global, bytes: &[u8]) -> Result<DescriptorPool, PoolError> {
+    let mut pool = DescriptorPool::new(alloc)?;
+    pool.decode_file_descriptor_proto(bytes)?;
+    Ok(pool)
 }
 
 /// The file of the set stands behind a key and a length of a byte each.
 #[test]
 fn a_file_is_added(rt: HostRuntime) -> Result<(), Fail> {
-    let file = FileDescriptorProto::decode(rt.alloc(), &SET_M[2..])?;
-    let mut pool = DescriptorPool::new(rt.alloc())?;
-    pool.add_file_descriptor_proto(file)?;
-    assert_eq!(rt; pool.encode_to_vec(rt.alloc())?.as_slice(), SET_M);
-    Ok(())
-}
-
-#[test]
-fn a_file_is_read_and_added(rt: HostRuntime) -> Result<(), Fail> {
-    let mut pool = DescriptorPool::new(rt.alloc())?;
-    pool.decode_file_descriptor_proto(&SET_M[2..])?;
-    assert_eq!(rt; pool.encode_to_vec(rt.alloc())?.as_slice(), SET_M);
+    assert!(rt; is_written_as(rt.alloc(), &of_file(rt.alloc(), &SET_M[2..])?, SET_M)?);
+    assert!(rt; is_written_as(rt.alloc(), &of_read_file(rt.alloc(), &SET_M[2..])?, SET_M)?);
     Ok(())
 }
 
@@ -67,43 +102,59 @@ fn a_file_is_read_and_added(rt: HostRuntime) -> Result<(), Fail> {
 fn files_are_lent(rt: HostRuntime) -> Result<(), Fail> {
     let pool = DescriptorPool::decode(rt.alloc(), SET_M)?;
     let files = pool.file_descriptor_protos();
-    assert_eq!(rt; files.len(), 1);
+    assert!(rt; files.len() == 1);
     for file in files {
-        assert_eq!(rt; file.message_type.len(), 1);
+        assert!(rt; file.message_type.len() == 1);
     }
     Ok(())
+}
+
+/// Whether the pool has two files, and a message type `A`.
+fn has_a_among_two_files(pool: &DescriptorPool) -> Result<bool, AllocError> {
+    let is_found = pool.get_message_by_name("A")?.is_some();
+    Ok(is_found && pool.file_descriptor_protos().len() == 2)
 }
 
 #[test]
 fn files_may_come_in_any_order(rt: HostRuntime) -> Result<(), Fail> {
     for bytes in [A_AND_B, B_AND_A] {
         let pool = DescriptorPool::decode(rt.alloc(), bytes)?;
-        assert_eq!(rt; pool.file_descriptor_protos().len(), 2);
-        assert!(rt; pool.get_message_by_name("A")?.is_some());
+        assert!(rt; has_a_among_two_files(&pool)?);
     }
     Ok(())
+}
+
+/// Whether the set is refused by this fault, and adds nothing to the empty pool.
+fn adds_nothing(pool: &mut DescriptorPool, set: &[u8], fault: PoolError) -> bool {
+    let refused = pool.decode_file_descriptor_set(set) == Err(fault);
+    refused && pool.file_descriptor_protos().len() == 0
 }
 
 #[test]
 fn a_refused_batch_adds_nothing(rt: HostRuntime) -> Result<(), Fail> {
     let mut pool = DescriptorPool::new(rt.alloc())?;
-    let refused = pool.decode_file_descriptor_set(SOUND_AND_EDITIONS);
-    assert!(rt; refused == Err(PoolError::UnknownSyntax));
-    assert_eq!(rt; pool.file_descriptor_protos().len(), 0);
+    assert!(rt; adds_nothing(&mut pool, SOUND_AND_EDITIONS, PoolError::UnknownSyntax));
     Ok(())
+}
+
+/// How many files the pool has, how many a copy of it from before an addition, and how many the pool of a descriptor from
+/// before it.
+fn counts_after_addition(pool: &mut DescriptorPool) -> Result<[usize; 3], Fail> {
+    let descriptor = message_of(pool, "package.MyMessage")?;
+    let copy = pool.clone()?;
+    pool.decode_file_descriptor_set(A_AND_B)?;
+    Ok([
+        pool.file_descriptor_protos().len(),
+        copy.file_descriptor_protos().len(),
+        descriptor.parent_pool().file_descriptor_protos().len(),
+    ])
 }
 
 /// A descriptor and a copy keep the pool as it was before an addition.
 #[test]
 fn an_addition_changes_no_descriptor(rt: HostRuntime) -> Result<(), Fail> {
     let mut pool = DescriptorPool::decode(rt.alloc(), SET_M)?;
-    let found = pool.get_message_by_name("package.MyMessage")?;
-    let descriptor = found.ok_or("no package.MyMessage")?;
-    let copy = pool.clone()?;
-    pool.decode_file_descriptor_set(A_AND_B)?;
-    assert_eq!(rt; pool.file_descriptor_protos().len(), 3);
-    assert_eq!(rt; copy.file_descriptor_protos().len(), 1);
-    assert_eq!(rt; descriptor.parent_pool().file_descriptor_protos().len(), 1);
+    assert!(rt; counts_after_addition(&mut pool)? == [3, 1, 1]);
     Ok(())
 }
 
@@ -113,13 +164,11 @@ static M_OF_EDITIONS: &[u8] = b"\x0a\x13\x0a\x07m.protob\x08editions";
 /// Of files of one name the first counts, and the others are not looked at.
 #[test]
 fn the_first_file_of_a_name_counts(rt: HostRuntime) -> Result<(), Fail> {
-    let mut pool = DescriptorPool::decode(rt.alloc(), SET_M)?;
-    pool.decode_file_descriptor_set(M_OF_EDITIONS)?;
-    assert_eq!(rt; pool.encode_to_vec(rt.alloc())?.as_slice(), SET_M);
-    let mut both = Vec::from_slice(rt.alloc(), SET_M)?;
-    both.extend_from_slice(M_OF_EDITIONS)?;
+    let pool = with_added(rt.alloc(), SET_M, M_OF_EDITIONS)?;
+    assert!(rt; is_written_as(rt.alloc(), &pool, SET_M)?);
+    let both = joined(rt.alloc(), SET_M, M_OF_EDITIONS)?;
     let pool = DescriptorPool::decode(rt.alloc(), &both)?;
-    assert_eq!(rt; pool.encode_to_vec(rt.alloc())?.as_slice(), SET_M);
+    assert!(rt; is_written_as(rt.alloc(), &pool, SET_M)?);
     Ok(())
 }
 
@@ -130,10 +179,8 @@ static NAMELESS: &[u8] = b"\x0a\x05\x22\x03\x0a\x01Z";
 #[test]
 fn a_file_without_a_name_is_not_skipped(rt: HostRuntime) -> Result<(), Fail> {
     for front in [b"".as_slice(), SET_M, NAMELESS] {
-        let mut bytes = Vec::from_slice(rt.alloc(), front)?;
-        bytes.extend_from_slice(NAMELESS)?;
-        let refused = DescriptorPool::decode(rt.alloc(), &bytes);
-        assert!(rt; refused.is_err_and(|error| error == PoolError::MissingName));
+        let bytes = joined(rt.alloc(), front, NAMELESS)?;
+        assert!(rt; refusal(rt.alloc(), &bytes) == Some(PoolError::MissingName));
     }
     Ok(())
 }
@@ -159,41 +206,37 @@ fn a_changed_byte_is_refused(rt: HostRuntime) -> Result<(), Fail> {
     ];
     let mut pool = DescriptorPool::new(rt.alloc())?;
     for (place, byte, fault) in rows {
-        let refused = pool.decode_file_descriptor_set(&changed(rt.alloc(), place, byte)?);
-        assert!(rt; refused == Err(fault), "{place}");
+        let set = changed(rt.alloc(), place, byte)?;
+        assert!(rt; adds_nothing(&mut pool, &set, fault), "{place}");
     }
-    let cut = pool.decode_file_descriptor_set(&SET_M[..116]);
-    assert!(rt; cut == Err(PoolError::Decode(DecodeError::Truncated)));
-    assert_eq!(rt; pool.file_descriptor_protos().len(), 0);
+    let cut = PoolError::Decode(DecodeError::Truncated);
+    assert!(rt; adds_nothing(&mut pool, &SET_M[..116], cut));
     Ok(())
 }
 
-/// Adds a set with one bit turned to a copy of the pool, which stays as it was where the set is refused.
-fn add_turned(
-    alloc: Global,
-    pool: &DescriptorPool,
-    set: &[u8],
-    place: usize,
-    bit: u32,
-) -> Result<(), Fail> {
+/// The set with one bit turned.
+fn turned(alloc: Global, set: &[u8], place: usize, bit: u32) -> Result<Vec<u8>, AllocError> {
     let mut bytes = Vec::from_slice(alloc, set)?;
     if let Some(byte) = bytes.get_mut(place) {
         *byte ^= 1 << (bit % 8);
     }
-    let mut added = pool.clone()?;
-    if added.decode_file_descriptor_set(&bytes).is_err() && added != *pool {
-        return Err(Fail::from("a refusal changed the pool"));
-    }
-    Ok(())
+    Ok(bytes)
 }
 
-/// Whatever bit of a set is turned, there is an answer.
+/// Whether a copy of the pool takes the set, or stays as it was where the set is refused.
+fn is_answered(pool: &DescriptorPool, set: &[u8]) -> Result<bool, AllocError> {
+    let mut added = pool.clone()?;
+    Ok(added.decode_file_descriptor_set(set).is_ok() || added == *pool)
+}
+
+/// Whatever bit of a set is turned, there is an answer, and a refusal changes nothing.
 #[test]
 fn a_turned_bit_is_answered(rt: HostRuntime) -> Result<(), Fail> {
     let pool = DescriptorPool::decode(rt.alloc(), A_AND_B)?;
     for place in 0..SET_M.len() {
         for bit in 0..8_u32 {
-            add_turned(rt.alloc(), &pool, SET_M, place, bit)?;
+            let set = turned(rt.alloc(), SET_M, place, bit)?;
+            assert!(rt; is_answered(&pool, &set)?, "{place} {bit}");
         }
     }
     Ok(())

@@ -1,8 +1,9 @@
 //! The schema of descriptor sets, and what its descriptors say.
 
 use crate::describe::describe;
-use crate::described::message_of;
-use prost_reflect::{DescriptorPool, relay};
+use crate::named::message_of;
+use prost_reflect::{DescriptorPool, MessageDescriptor, relay};
+use std::alloc::Global;
 use std::test::Fail;
 
 /// What protoc 3.21 writes for `google/protobuf/descriptor.proto`.
@@ -151,10 +152,14 @@ static LINES: [&str; 5] = [
 /// How many bytes all the lines are.
 const LENGTH: usize = 45001;
 
+fn told(alloc: Global) -> Result<String, Fail> {
+    let pool = DescriptorPool::decode(alloc, SCHEMA)?;
+    Ok(describe(alloc, &pool)?)
+}
+
 #[test]
 fn the_schema_of_descriptor_sets_is_told(rt: HostRuntime) -> Result<(), Fail> {
-    let pool = DescriptorPool::decode(rt.alloc(), SCHEMA)?;
-    let text = describe(rt.alloc(), &pool)?;
+    let text = told(rt.alloc())?;
     assert_eq!(rt; text.len(), LENGTH);
     for line in LINES {
         assert!(rt; text.as_str().contains(line), "{line}");
@@ -162,12 +167,16 @@ fn the_schema_of_descriptor_sets_is_told(rt: HostRuntime) -> Result<(), Fail> {
     Ok(())
 }
 
+/// The type of descriptor sets.
+fn set_type(alloc: Global) -> Result<MessageDescriptor, Fail> {
+    let pool = DescriptorPool::decode(alloc, SCHEMA)?;
+    message_of(&pool, "google.protobuf.FileDescriptorSet")
+}
+
 /// It is itself a message of the type that it defines for descriptor sets.
 #[test]
 fn the_schema_of_descriptor_sets_relays_itself(rt: HostRuntime) -> Result<(), Fail> {
-    let pool = DescriptorPool::decode(rt.alloc(), SCHEMA)?;
-    let set = message_of(&pool, "google.protobuf.FileDescriptorSet")?;
-    let bytes = relay(rt.alloc(), &set, SCHEMA)?;
-    assert!(rt; bytes.as_slice() == SCHEMA);
+    let set = set_type(rt.alloc())?;
+    assert!(rt; relay(rt.alloc(), &set, SCHEMA)?.as_slice() == SCHEMA);
     Ok(())
 }

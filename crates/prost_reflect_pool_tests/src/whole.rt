@@ -1,8 +1,10 @@
 //! All that the descriptors of a set say that has each sort of definition.
 
 use crate::describe::describe;
+use crate::named::message_of;
 use crate::schema::SCHEMA;
-use prost_reflect::DescriptorPool;
+use prost_reflect::{DescriptorPool, MessageDescriptor};
+use std::alloc::{AllocError, Global};
 use std::test::Fail;
 
 /// What protoc writes for three files. `plain.proto`, of proto3:
@@ -123,29 +125,39 @@ static TEXT: &str = "\
     method w.x.S.Back path=6.0.2.1 index=1 input=Plain output=w.x.A.B.C client_streaming=false server_streaming=true\n\
 ";
 
+/// Whether the pool's descriptors say what the text does.
+fn is_told(alloc: Global, pool: &DescriptorPool) -> Result<bool, AllocError> {
+    Ok(describe(alloc, pool)?.as_str() == TEXT)
+}
+
 #[test]
 fn each_sort_of_definition_is_told(rt: HostRuntime) -> Result<(), Fail> {
     let pool = DescriptorPool::decode(rt.alloc(), WHOLE)?;
-    assert_eq!(rt; describe(rt.alloc(), &pool)?.as_str(), TEXT);
+    assert!(rt; is_told(rt.alloc(), &pool)?);
     Ok(())
+}
+
+/// The message type `w.x.A`, which is found before the schema of descriptor sets is added.
+fn found_before(pool: &mut DescriptorPool) -> Result<MessageDescriptor, Fail> {
+    let found = message_of(pool, "w.x.A")?;
+    pool.decode_file_descriptor_set(SCHEMA)?;
+    Ok(found)
+}
+
+fn has_schema(pool: &DescriptorPool) -> Result<bool, AllocError> {
+    Ok(
+        pool.get_file_by_name("google/protobuf/descriptor.proto")?
+            .is_some(),
+    )
 }
 
 /// A descriptor that was made before an addition answers as before, and its pool tells what it told.
 #[test]
 fn an_addition_changes_no_answer(rt: HostRuntime) -> Result<(), Fail> {
     let mut pool = DescriptorPool::decode(rt.alloc(), WHOLE)?;
-    let found = pool.get_message_by_name("w.x.A")?.ok_or("no w.x.A")?;
-    pool.decode_file_descriptor_set(SCHEMA)?;
-    assert_eq!(rt; describe(rt.alloc(), found.parent_pool())?.as_str(), TEXT);
-    assert!(rt;
-        found
-            .parent_pool()
-            .get_file_by_name("google/protobuf/descriptor.proto")?
-            .is_none()
-    );
-    assert!(rt;
-        pool.get_file_by_name("google/protobuf/descriptor.proto")?
-            .is_some()
-    );
+    let found = found_before(&mut pool)?;
+    assert!(rt; is_told(rt.alloc(), found.parent_pool())?);
+    assert!(rt; !has_schema(found.parent_pool())?);
+    assert!(rt; has_schema(&pool)?);
     Ok(())
 }

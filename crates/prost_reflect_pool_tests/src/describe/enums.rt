@@ -1,76 +1,46 @@
 //! The lines of enums and their values.
 
-use crate::describe::words::{dotted, enum_ranges, full_name_or_none, reserved_names, shown};
+use crate::describe::lists::{list_enum_ranges, list_reserved_names};
+use crate::describe::words::{Lines, full_name_or_none, shown};
 use prost_reflect::{DescriptorPool, EnumDescriptor, EnumValueDescriptor};
-use std::alloc::{AllocError, Global};
+use std::alloc::AllocError;
 
 /// The enums of a pool, each followed by its values.
-pub fn write_enums(
-    alloc: Global,
-    out: &mut String,
-    pool: &DescriptorPool,
-) -> Result<(), AllocError> {
+pub fn write_enums(lines: &mut Lines, pool: &DescriptorPool) -> Result<(), AllocError> {
     for found in pool.all_enums() {
-        let found = found?;
-        write_enum(alloc, out, &found)?;
-        write_reserved(alloc, out, &found)?;
-        for value in found.values() {
-            write_value(alloc, out, &value?)?;
-        }
+        write_whole(lines, &found?)?;
     }
     Ok(())
 }
 
-/// Where the enum stands.
-fn write_enum(alloc: Global, out: &mut String, found: &EnumDescriptor) -> Result<(), AllocError> {
-    let file = found.parent_file()?;
-    write!(
-        out,
-        "enum {} name={} file={}",
-        found.full_name(),
-        found.name(),
-        file.name()
-    )?;
-    let path = dotted(alloc, found.path())?;
-    write!(out, " package={} path={path}", shown(found.package_name()))?;
-    let parent = found.parent_message()?;
-    write!(
-        out,
-        " parent={} closed={}",
-        full_name_or_none(&parent),
-        found.is_closed()
-    )
+/// An enum, followed by its values.
+fn write_whole(lines: &mut Lines, found: &EnumDescriptor) -> Result<(), AllocError> {
+    write_enum(lines, found)?;
+    for value in found.values() {
+        write_value(lines, &value?);
+    }
+    Ok(())
 }
 
-/// The default, and what the enum reserves.
-fn write_reserved(
-    alloc: Global,
-    out: &mut String,
-    found: &EnumDescriptor,
-) -> Result<(), AllocError> {
-    write!(out, " default={}", found.default_value()?.name())?;
-    let ranges = enum_ranges(alloc, found.reserved_ranges())?;
-    let names = reserved_names(alloc, found.reserved_names())?;
-    writeln!(
-        out,
-        " reserved={} reserved_names={}",
-        ranges.as_str(),
-        names.as_str()
-    )
+fn write_enum(lines: &mut Lines, found: &EnumDescriptor) -> Result<(), AllocError> {
+    lines.word("enum ", found.full_name());
+    lines.word(" name=", found.name());
+    lines.word(" file=", found.parent_file()?.name());
+    lines.word(" package=", shown(found.package_name()));
+    lines.path(" path=", found.path());
+    lines.word(" parent=", full_name_or_none(&found.parent_message()?));
+    lines.value(" closed=", found.is_closed());
+    lines.word(" default=", found.default_value()?.name());
+    list_enum_ranges(lines, found.reserved_ranges());
+    list_reserved_names(lines, found.reserved_names());
+    lines.add("\n");
+    Ok(())
 }
 
-fn write_value(
-    alloc: Global,
-    out: &mut String,
-    value: &EnumValueDescriptor,
-) -> Result<(), AllocError> {
-    let parent = value.parent_enum();
-    write!(
-        out,
-        "value {} enum={}",
-        value.full_name(),
-        parent.full_name()
-    )?;
-    let path = dotted(alloc, value.path())?;
-    writeln!(out, " number={} path={path}", value.number())
+fn write_value(lines: &mut Lines, value: &EnumValueDescriptor) {
+    lines.word("value ", value.full_name());
+    lines.word(" enum=", value.parent_enum().full_name());
+    lines.value(" number=", value.number());
+    lines.path(" path=", value.path());
+    lines.add("\n");
 }

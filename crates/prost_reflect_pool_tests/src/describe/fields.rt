@@ -1,143 +1,85 @@
 //! The lines of fields, oneofs and extensions.
 
-use crate::describe::words::{
-    dotted, field_names, full_name_or_none, kind_name, shown, wire_number,
-};
+use crate::describe::lists::list_fields;
+use crate::describe::words::{Lines, full_name_or_none, shown, write_kind};
 use prost_reflect::{DescriptorPool, ExtensionDescriptor, FieldDescriptor, OneofDescriptor};
-use std::alloc::{AllocError, Global};
+use std::alloc::AllocError;
 
 /// A field of a message type.
-pub fn write_field(
-    alloc: Global,
-    out: &mut String,
-    field: &FieldDescriptor,
-) -> Result<(), AllocError> {
-    let path = dotted(alloc, field.path())?;
-    write!(
-        out,
-        "field {} path={path} json={}",
-        field.full_name(),
-        field.json_name()
-    )?;
-    let kind = field.kind()?;
-    let (shown_kind, wire) = (kind_name(alloc, &kind)?, wire_number(kind.wire_type()));
-    write!(
-        out,
-        " number={} kind={shown_kind} wire={wire}",
-        field.number()
-    )?;
-    let presence = field.supports_presence();
-    write!(
-        out,
-        " cardinality={:?} presence={presence}",
-        field.cardinality()
-    )?;
-    write!(
-        out,
-        " packed={} group={}",
-        field.is_packed(),
-        field.is_group()
-    )?;
-    let (list, map, required) = (field.is_list(), field.is_map(), field.is_required());
-    write!(out, " list={list} map={map} required={required}")?;
-    match field.containing_oneof()? {
-        Some(oneof) => writeln!(out, " oneof={}", oneof.name()),
-        None => writeln!(out, " oneof=-"),
+pub fn write_field(lines: &mut Lines, field: &FieldDescriptor) -> Result<(), AllocError> {
+    lines.word("field ", field.full_name());
+    lines.path(" path=", field.path());
+    lines.word(" json=", field.json_name());
+    lines.value(" number=", field.number());
+    write_kind(lines, &field.kind()?);
+    lines.value(" cardinality=", format_args!("{:?}", field.cardinality()));
+    lines.value(" presence=", field.supports_presence());
+    lines.value(" packed=", field.is_packed());
+    lines.value(" group=", field.is_group());
+    lines.value(" list=", field.is_list());
+    lines.value(" map=", field.is_map());
+    lines.value(" required=", field.is_required());
+    lines.word(" oneof=", name_or_none(&field.containing_oneof()?));
+    lines.add("\n");
+    Ok(())
+}
+
+fn name_or_none(oneof: &Option<OneofDescriptor>) -> &str {
+    match oneof {
+        Some(oneof) => oneof.name(),
+        None => "-",
     }
 }
 
 /// A oneof of a message type.
-pub fn write_oneof(
-    alloc: Global,
-    out: &mut String,
-    oneof: &OneofDescriptor,
-) -> Result<(), AllocError> {
-    let path = dotted(alloc, oneof.path())?;
-    let fields = field_names(alloc, oneof.fields())?;
-    write!(
-        out,
-        "oneof {} path={path} fields={}",
-        oneof.full_name(),
-        fields.as_str()
-    )?;
-    writeln!(out, " synthetic={}", oneof.is_synthetic())
+pub fn write_oneof(lines: &mut Lines, oneof: &OneofDescriptor) -> Result<(), AllocError> {
+    lines.word("oneof ", oneof.full_name());
+    lines.path(" path=", oneof.path());
+    list_fields(lines, " fields=", oneof.fields())?;
+    lines.value(" synthetic=", oneof.is_synthetic());
+    lines.add("\n");
+    Ok(())
 }
 
 /// The extensions of a pool.
-pub fn write_extensions(
-    alloc: Global,
-    out: &mut String,
-    pool: &DescriptorPool,
-) -> Result<(), AllocError> {
+pub fn write_extensions(lines: &mut Lines, pool: &DescriptorPool) -> Result<(), AllocError> {
     for extension in pool.all_extensions() {
-        let extension = extension?;
-        write_extension(alloc, out, &extension)?;
-        write_values(alloc, out, &extension)?;
+        write_extension(lines, &extension?)?;
     }
     Ok(())
 }
 
+fn write_extension(lines: &mut Lines, extension: &ExtensionDescriptor) -> Result<(), AllocError> {
+    write_place(lines, extension)?;
+    lines.value(" number=", extension.number());
+    write_kind(lines, &extension.kind()?);
+    write_values(lines, extension);
+    Ok(())
+}
+
 /// Where the extension stands, and what it extends.
-fn write_extension(
-    alloc: Global,
-    out: &mut String,
-    extension: &ExtensionDescriptor,
-) -> Result<(), AllocError> {
-    let (full_name, name) = (extension.full_name(), extension.name());
-    write!(
-        out,
-        "extension {full_name} name={name} file={}",
-        extension.parent_file()?.name()
-    )?;
-    let path = dotted(alloc, extension.path())?;
-    write!(
-        out,
-        " package={} path={path}",
-        shown(extension.package_name())
-    )?;
-    let parent = extension.parent_message()?;
-    write!(
-        out,
-        " parent={} json={}",
-        full_name_or_none(&parent),
-        extension.json_name()
-    )?;
-    write!(
-        out,
-        " containing={}",
-        extension.containing_message()?.full_name()
-    )
+fn write_place(lines: &mut Lines, extension: &ExtensionDescriptor) -> Result<(), AllocError> {
+    lines.word("extension ", extension.full_name());
+    lines.word(" name=", extension.name());
+    lines.word(" file=", extension.parent_file()?.name());
+    lines.word(" package=", shown(extension.package_name()));
+    lines.path(" path=", extension.path());
+    lines.word(" parent=", full_name_or_none(&extension.parent_message()?));
+    lines.word(" json=", extension.json_name());
+    lines.word(" containing=", extension.containing_message()?.full_name());
+    Ok(())
 }
 
 /// Which values the extension has.
-fn write_values(
-    alloc: Global,
-    out: &mut String,
-    extension: &ExtensionDescriptor,
-) -> Result<(), AllocError> {
-    let kind = extension.kind()?;
-    let (shown_kind, wire) = (kind_name(alloc, &kind)?, wire_number(kind.wire_type()));
-    write!(
-        out,
-        " number={} kind={shown_kind} wire={wire}",
-        extension.number()
-    )?;
-    let presence = extension.supports_presence();
-    write!(
-        out,
-        " cardinality={:?} presence={presence}",
-        extension.cardinality()
-    )?;
-    write!(
-        out,
-        " packed={} group={}",
-        extension.is_packed(),
-        extension.is_group()
-    )?;
-    writeln!(
-        out,
-        " list={} map={}",
-        extension.is_list(),
-        extension.is_map()
-    )
+fn write_values(lines: &mut Lines, extension: &ExtensionDescriptor) {
+    lines.value(
+        " cardinality=",
+        format_args!("{:?}", extension.cardinality()),
+    );
+    lines.value(" presence=", extension.supports_presence());
+    lines.value(" packed=", extension.is_packed());
+    lines.value(" group=", extension.is_group());
+    lines.value(" list=", extension.is_list());
+    lines.value(" map=", extension.is_map());
+    lines.add("\n");
 }

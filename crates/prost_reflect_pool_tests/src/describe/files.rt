@@ -1,111 +1,64 @@
 //! The lines of files and services.
 
-use crate::describe::words::{
-    dotted, enum_names, extension_names, file_names, message_names, method_names, service_names,
-    shown,
+use crate::describe::lists::{
+    list_enums, list_extensions, list_files, list_messages, list_methods, list_services,
 };
+use crate::describe::words::{Lines, shown};
 use prost_reflect::{DescriptorPool, FileDescriptor, MethodDescriptor, ServiceDescriptor};
-use std::alloc::{AllocError, Global};
+use std::alloc::AllocError;
 
 /// The files of a pool.
-pub fn write_files(
-    alloc: Global,
-    out: &mut String,
-    pool: &DescriptorPool,
-) -> Result<(), AllocError> {
+pub fn write_files(lines: &mut Lines, pool: &DescriptorPool) -> Result<(), AllocError> {
     for file in pool.files() {
-        write_file(alloc, out, &file?)?;
+        write_file(lines, &file?)?;
     }
     Ok(())
 }
 
-fn write_file(alloc: Global, out: &mut String, file: &FileDescriptor) -> Result<(), AllocError> {
-    let (name, index) = (file.name(), file.index());
-    let package = shown(file.package_name());
-    write!(
-        out,
-        "file {name} index={index} package={package} syntax={:?}",
-        file.syntax()
-    )?;
-    let dependencies = file_names(alloc, file.dependencies())?;
-    let public = file_names(alloc, file.public_dependencies())?;
-    write!(
-        out,
-        " dependencies={} public={}",
-        dependencies.as_str(),
-        public.as_str()
-    )?;
-    let messages = message_names(alloc, file.messages())?;
-    let enums = enum_names(alloc, file.enums())?;
-    write!(
-        out,
-        " messages={} enums={}",
-        messages.as_str(),
-        enums.as_str()
-    )?;
-    let extensions = extension_names(alloc, file.extensions())?;
-    let services = service_names(alloc, file.services())?;
-    writeln!(
-        out,
-        " extensions={} services={}",
-        extensions.as_str(),
-        services.as_str()
-    )
+fn write_file(lines: &mut Lines, file: &FileDescriptor) -> Result<(), AllocError> {
+    lines.word("file ", file.name());
+    lines.value(" index=", file.index());
+    lines.word(" package=", shown(file.package_name()));
+    lines.value(" syntax=", format_args!("{:?}", file.syntax()));
+    list_files(lines, " dependencies=", file.dependencies())?;
+    list_files(lines, " public=", file.public_dependencies())?;
+    list_messages(lines, " messages=", file.messages())?;
+    list_enums(lines, " enums=", file.enums())?;
+    list_extensions(lines, " extensions=", file.extensions())?;
+    list_services(lines, " services=", file.services())?;
+    lines.add("\n");
+    Ok(())
 }
 
 /// The services of a pool, each followed by its methods.
-pub fn write_services(
-    alloc: Global,
-    out: &mut String,
-    pool: &DescriptorPool,
-) -> Result<(), AllocError> {
+pub fn write_services(lines: &mut Lines, pool: &DescriptorPool) -> Result<(), AllocError> {
     for service in pool.services() {
-        let service = service?;
-        write_service(alloc, out, &service)?;
-        for method in service.methods() {
-            write_method(alloc, out, &method?)?;
-        }
+        write_service(lines, &service?)?;
     }
     Ok(())
 }
 
-fn write_service(
-    alloc: Global,
-    out: &mut String,
-    service: &ServiceDescriptor,
-) -> Result<(), AllocError> {
-    let file = service.parent_file()?;
-    let package = shown(service.package_name());
-    write!(
-        out,
-        "service {} file={} package={package}",
-        service.full_name(),
-        file.name()
-    )?;
-    let path = dotted(alloc, service.path())?;
-    let methods = method_names(alloc, service.methods())?;
-    writeln!(out, " path={path} methods={}", methods.as_str())
+fn write_service(lines: &mut Lines, service: &ServiceDescriptor) -> Result<(), AllocError> {
+    lines.word("service ", service.full_name());
+    lines.word(" file=", service.parent_file()?.name());
+    lines.word(" package=", shown(service.package_name()));
+    lines.path(" path=", service.path());
+    list_methods(lines, " methods=", service.methods())?;
+    lines.add("\n");
+    for method in service.methods() {
+        write_method(lines, &method?)?;
+    }
+    Ok(())
 }
 
-fn write_method(
-    alloc: Global,
-    out: &mut String,
-    method: &MethodDescriptor,
-) -> Result<(), AllocError> {
-    let path = dotted(alloc, method.path())?;
-    write!(
-        out,
-        "method {} path={path} index={}",
-        method.full_name(),
-        method.index()
-    )?;
-    let (input, output) = (method.input()?, method.output()?);
-    write!(
-        out,
-        " input={} output={}",
-        input.full_name(),
-        output.full_name()
-    )?;
-    let (client, server) = (method.is_client_streaming(), method.is_server_streaming());
-    writeln!(out, " client_streaming={client} server_streaming={server}")
+fn write_method(lines: &mut Lines, method: &MethodDescriptor) -> Result<(), AllocError> {
+    lines.word("method ", method.full_name());
+    lines.path(" path=", method.path());
+    lines.value(" index=", method.index());
+    lines.word(" input=", method.input()?.full_name());
+    lines.word(" output=", method.output()?.full_name());
+    lines.value(" client_streaming=", method.is_client_streaming());
+    lines.value(" server_streaming=", method.is_server_streaming());
+    lines.add("\n");
+    Ok(())
 }
