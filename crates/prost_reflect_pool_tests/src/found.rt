@@ -123,6 +123,11 @@ fn kind_of(pool: &DescriptorPool, number: u32) -> Result<Kind, Fail> {
     Ok(field_of(pool, "w.x.A", number)?.kind()?)
 }
 
+/// Whether a copy of the kind is equal.
+fn is_its_copy(kind: &Kind) -> Result<bool, AllocError> {
+    Ok(kind.clone()? == *kind)
+}
+
 /// Whether the kind leads to the message type alone.
 fn leads_to_message(kind: &Kind, full_name: &str) -> bool {
     match kind.as_message() {
@@ -139,27 +144,33 @@ fn leads_to_enum(kind: &Kind, full_name: &str) -> bool {
     }
 }
 
-fn leads_nowhere(kind: &Kind) -> bool {
-    kind.as_message().is_none() && kind.as_enum().is_none()
+fn field_leads_to_message(pool: &DescriptorPool) -> Result<bool, Fail> {
+    let kind = kind_of(pool, 3)?;
+    Ok(is_its_copy(&kind)? && leads_to_message(&kind, "w.x.A.BsEntry"))
 }
 
-/// Whether a copy of the kind is equal, and the other kind is not.
-fn is_its_copy(kind: &Kind, other: &Kind) -> Result<bool, AllocError> {
-    Ok(kind.clone()? == *kind && *kind != *other)
+fn field_leads_to_enum(pool: &DescriptorPool) -> Result<bool, Fail> {
+    let kind = kind_of(pool, 2)?;
+    Ok(is_its_copy(&kind)? && leads_to_enum(&kind, "base.Level"))
+}
+
+fn field_leads_nowhere(pool: &DescriptorPool) -> Result<bool, Fail> {
+    let kind = kind_of(pool, 7)?;
+    Ok(is_its_copy(&kind)? && kind.as_message().is_none() && kind.as_enum().is_none())
+}
+
+fn kinds_differ(pool: &DescriptorPool) -> Result<bool, Fail> {
+    let kind = kind_of(pool, 7)?;
+    Ok(kind != kind_of(pool, 2)?)
 }
 
 /// A kind leads to its message type, or to its enum, and a scalar kind to neither; a copy to the same.
 #[test]
 fn kinds_lead_to_their_types(rt: HostRuntime) -> Result<(), Fail> {
     let pool = DescriptorPool::decode(rt.alloc(), WHOLE)?;
-    let of_enum = kind_of(&pool, 2)?;
-    let of_entry = kind_of(&pool, 3)?;
-    let of_text = kind_of(&pool, 7)?;
-    assert!(rt; leads_to_enum(&of_enum, "base.Level"));
-    assert!(rt; leads_to_message(&of_entry, "w.x.A.BsEntry"));
-    assert!(rt; leads_nowhere(&of_text));
-    assert!(rt; is_its_copy(&of_enum, &of_entry)?);
-    assert!(rt; is_its_copy(&of_entry, &of_text)?);
-    assert!(rt; is_its_copy(&of_text, &of_enum)?);
+    assert!(rt; field_leads_to_message(&pool)?);
+    assert!(rt; field_leads_to_enum(&pool)?);
+    assert!(rt; field_leads_nowhere(&pool)?);
+    assert!(rt; kinds_differ(&pool)?);
     Ok(())
 }

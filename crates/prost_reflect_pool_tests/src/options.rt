@@ -1,6 +1,7 @@
 //! Options of definitions, read by the types of the schema of descriptor sets, or by one that has few of them.
 
 use crate::named::{enum_of, file_of, message_of, method_of, oneof_of, service_of};
+use crate::pools::with_added;
 use crate::schema::SCHEMA;
 use prost_reflect::{
     DecodeError, DescriptorPool, DynamicMessage, MessageDescriptor, OptionsError, Value,
@@ -105,19 +106,16 @@ fn write_option(out: &mut String, name: &str, value: &Value) -> Result<(), Alloc
     }
 }
 
-/// A pool of two sets.
-fn pool_of(alloc: Global, first: &[u8], second: &[u8]) -> Result<DescriptorPool, Fail> {
-    let mut pool = DescriptorPool::decode(alloc, first)?;
-    pool.decode_file_descriptor_set(second)?;
-    Ok(pool)
+/// Whether the options of the definition are shown as the text.
+fn has_options(alloc: Global, pool: &DescriptorPool, name: &str, text: &str) -> Result<bool, Fail> {
+    are_shown_as(alloc, &options_of(pool, name)?, text)
 }
 
 #[test]
 fn options_are_those_of_each_definition(rt: HostRuntime) -> Result<(), Fail> {
-    let pool = pool_of(rt.alloc(), SCHEMA, O_PROTO)?;
+    let pool = with_added(rt.alloc(), SCHEMA, O_PROTO)?;
     for (name, text) in ANSWERS {
-        let options = options_of(&pool, name)?;
-        assert!(rt; are_shown_as(rt.alloc(), &options, text)?, "{name}");
+        assert!(rt; has_options(rt.alloc(), &pool, name, text)?, "{name}");
     }
     Ok(())
 }
@@ -143,25 +141,32 @@ static ROWS: [(&[u8], Option<OptionsError>); 3] = [
     ),
 ];
 
-/// The options of `p.M` beside the file.
-fn options_beside(
+/// The message type `p.M` beside the file.
+fn message_beside(alloc: Global, file: &[u8]) -> Result<MessageDescriptor, Fail> {
+    let pool = with_added(alloc, USER, file)?;
+    message_of(&pool, "p.M")
+}
+
+/// Whether the options are refused so, or are those of `p.M` where they are not refused.
+fn is_answer(
     alloc: Global,
-    file: &[u8],
-) -> Result<Result<DynamicMessage, OptionsError>, Fail> {
-    let pool = pool_of(alloc, USER, file)?;
-    Ok(message_of(&pool, "p.M")?.options())
+    options: Result<DynamicMessage, OptionsError>,
+    refusal: Option<OptionsError>,
+) -> Result<bool, Fail> {
+    match options {
+        Ok(options) => {
+            let are_shown = are_shown_as(alloc, &options, "MessageOptions deprecated=true")?;
+            Ok(are_shown && refusal.is_none())
+        }
+        Err(error) => Ok(refusal == Some(error)),
+    }
 }
 
 #[test]
 fn options_are_read_by_the_pool_alone(rt: HostRuntime) -> Result<(), Fail> {
     for (file, refusal) in ROWS {
-        match options_beside(rt.alloc(), file)? {
-            Ok(options) => {
-                assert!(rt; refusal.is_none());
-                assert!(rt; are_shown_as(rt.alloc(), &options, "MessageOptions deprecated=true")?);
-            }
-            Err(error) => assert_eq!(rt; Some(error), refusal),
-        }
+        let message = message_beside(rt.alloc(), file)?;
+        assert!(rt; is_answer(rt.alloc(), message.options(), refusal)?);
     }
     Ok(())
 }

@@ -54,7 +54,11 @@ pub(crate) fn refusal(alloc: Global, bytes: &[u8]) -> Option<PoolError> {
 }
 
 /// A pool of the set, to which another one is added.
-fn with_added(alloc: Global, set: &[u8], added: &[u8]) -> Result<DescriptorPool, PoolError> {
+pub(crate) fn with_added(
+    alloc: Global,
+    set: &[u8],
+    added: &[u8],
+) -> Result<DescriptorPool, PoolError> {
     let mut pool = DescriptorPool::decode(alloc, set)?;
     pool.decode_file_descriptor_set(added)?;
     Ok(pool)
@@ -214,15 +218,6 @@ fn a_changed_byte_is_refused(rt: HostRuntime) -> Result<(), Fail> {
     Ok(())
 }
 
-/// The set with one bit turned.
-fn turned(alloc: Global, set: &[u8], place: usize, bit: u32) -> Result<Vec<u8>, AllocError> {
-    let mut bytes = Vec::from_slice(alloc, set)?;
-    if let Some(byte) = bytes.get_mut(place) {
-        *byte ^= 1 << (bit % 8);
-    }
-    Ok(bytes)
-}
-
 /// Whether a copy of the pool takes the set, or stays as it was where the set is refused.
 fn is_answered(pool: &DescriptorPool, set: &[u8]) -> Result<bool, AllocError> {
     let mut added = pool.clone()?;
@@ -233,9 +228,9 @@ fn is_answered(pool: &DescriptorPool, set: &[u8]) -> Result<bool, AllocError> {
 #[test]
 fn a_turned_bit_is_answered(rt: HostRuntime) -> Result<(), Fail> {
     let pool = DescriptorPool::decode(rt.alloc(), A_AND_B)?;
-    for place in 0..SET_M.len() {
+    for (place, byte) in SET_M.iter().enumerate() {
         for bit in 0..8_u32 {
-            let set = turned(rt.alloc(), SET_M, place, bit)?;
+            let set = changed(rt.alloc(), place, *byte ^ (1 << (bit % 8)))?;
             assert!(rt; is_answered(&pool, &set)?, "{place} {bit}");
         }
     }

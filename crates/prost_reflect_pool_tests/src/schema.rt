@@ -2,7 +2,7 @@
 
 use crate::describe::describe;
 use crate::named::message_of;
-use prost_reflect::{DescriptorPool, MessageDescriptor, relay};
+use prost_reflect::{DescriptorPool, MessageDescriptor, RelayError, relay};
 use std::alloc::Global;
 use std::test::Fail;
 
@@ -173,10 +173,14 @@ fn set_type(alloc: Global) -> Result<MessageDescriptor, Fail> {
     message_of(&pool, "google.protobuf.FileDescriptorSet")
 }
 
+fn relays_schema(alloc: Global, set: &MessageDescriptor) -> Result<bool, RelayError> {
+    Ok(relay(alloc, set, SCHEMA)?.as_slice() == SCHEMA)
+}
+
 /// It is itself a message of the type that it defines for descriptor sets.
 #[test]
 fn the_schema_of_descriptor_sets_relays_itself(rt: HostRuntime) -> Result<(), Fail> {
     let set = set_type(rt.alloc())?;
-    assert!(rt; relay(rt.alloc(), &set, SCHEMA)?.as_slice() == SCHEMA);
+    assert!(rt; relays_schema(rt.alloc(), &set)?);
     Ok(())
 }

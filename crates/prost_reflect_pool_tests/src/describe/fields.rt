@@ -1,6 +1,6 @@
 //! The lines of fields, oneofs and extensions.
 
-use crate::describe::lists::list_fields;
+use crate::describe::lists::list;
 use crate::describe::words::{Lines, full_name_or_none, shown, write_kind};
 use prost_reflect::{DescriptorPool, ExtensionDescriptor, FieldDescriptor, OneofDescriptor};
 use std::alloc::AllocError;
@@ -35,7 +35,7 @@ fn name_or_none(oneof: &Option<OneofDescriptor>) -> &str {
 pub fn write_oneof(lines: &mut Lines, oneof: &OneofDescriptor) -> Result<(), AllocError> {
     lines.word("oneof ", oneof.full_name());
     lines.path(" path=", oneof.path());
-    list_fields(lines, " fields=", oneof.fields())?;
+    list(lines, " fields=", oneof.fields())?;
     lines.value(" synthetic=", oneof.is_synthetic());
     lines.add("\n");
     Ok(())

@@ -1,8 +1,6 @@
 //! The lines of files and services.
 
-use crate::describe::lists::{
-    list_enums, list_extensions, list_files, list_messages, list_methods, list_services,
-};
+use crate::describe::lists::list;
 use crate::describe::words::{Lines, shown};
 use prost_reflect::{DescriptorPool, FileDescriptor, MethodDescriptor, ServiceDescriptor};
 use std::alloc::AllocError;
@@ -20,12 +18,12 @@ fn write_file(lines: &mut Lines, file: &FileDescriptor) -> Result<(), AllocError
     lines.value(" index=", file.index());
     lines.word(" package=", shown(file.package_name()));
     lines.value(" syntax=", format_args!("{:?}", file.syntax()));
-    list_files(lines, " dependencies=", file.dependencies())?;
-    list_files(lines, " public=", file.public_dependencies())?;
-    list_messages(lines, " messages=", file.messages())?;
-    list_enums(lines, " enums=", file.enums())?;
-    list_extensions(lines, " extensions=", file.extensions())?;
-    list_services(lines, " services=", file.services())?;
+    list(lines, " dependencies=", file.dependencies())?;
+    list(lines, " public=", file.public_dependencies())?;
+    list(lines, " messages=", file.messages())?;
+    list(lines, " enums=", file.enums())?;
+    list(lines, " extensions=", file.extensions())?;
+    list(lines, " services=", file.services())?;
     lines.add("\n");
     Ok(())
 }
@@ -43,7 +41,7 @@ fn write_service(lines: &mut Lines, service: &ServiceDescriptor) -> Result<(), A
     lines.word(" file=", service.parent_file()?.name());
     lines.word(" package=", shown(service.package_name()));
     lines.path(" path=", service.path());
-    list_methods(lines, " methods=", service.methods())?;
+    list(lines, " methods=", service.methods())?;
     lines.add("\n");
     for method in service.methods() {
         write_method(lines, &method?)?;

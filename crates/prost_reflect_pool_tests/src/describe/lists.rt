@@ -1,120 +1,52 @@
-//! Lists of names and of ranges.
+//! Lists of definitions, of names and of ranges.
 
 use crate::describe::words::Lines;
 use prost_reflect::{
-    EnumDescriptors, EnumReservedRanges, ExtensionDescriptors, ExtensionRanges, FieldDescriptors,
-    FileDescriptors, MessageDescriptors, MethodDescriptors, OneofDescriptors, ReservedNames,
-    ReservedRanges, ServiceDescriptors,
+    Descriptors, EnumDescriptor, EnumReservedRanges, ExtensionDescriptor, ExtensionRanges,
+    FieldDescriptor, FileDescriptor, MessageDescriptor, MethodDescriptor, OneofDescriptor, Placed,
+    ReservedNames, ReservedRanges, ServiceDescriptor,
 };
 use std::alloc::AllocError;
 
-/// The names of files.
-pub fn list_files(
-    lines: &mut Lines,
-    label: &str,
-    files: FileDescriptors<'_>,
-) -> Result<(), AllocError> {
-    lines.list(label);
-    for file in files {
-        lines.item(file?.name());
-    }
-    lines.end_list();
-    Ok(())
+/// A definition that stands in lists.
+pub trait Listed {
+    /// The name that it has there.
+    fn listed(&self) -> &str;
 }
 
-/// The full names of message types.
-pub fn list_messages(
-    lines: &mut Lines,
-    label: &str,
-    messages: MessageDescriptors<'_>,
-) -> Result<(), AllocError> {
-    lines.list(label);
-    for message in messages {
-        lines.item(message?.full_name());
-    }
-    lines.end_list();
-    Ok(())
+/// Lists have a definition by the name that this call answers.
+macro_rules! listed {
+    ($($definition:ident by $name:ident,)*) => {
+        $(
+            impl Listed for $definition {
+                fn listed(&self) -> &str {
+                    self.$name()
+                }
+            }
+        )*
+    };
 }
 
-/// The full names of enums.
-pub fn list_enums(
-    lines: &mut Lines,
-    label: &str,
-    enums: EnumDescriptors<'_>,
-) -> Result<(), AllocError> {
-    lines.list(label);
-    for found in enums {
-        lines.item(found?.full_name());
-    }
-    lines.end_list();
-    Ok(())
+listed! {
+    FileDescriptor by name,
+    MessageDescriptor by full_name,
+    FieldDescriptor by name,
+    OneofDescriptor by name,
+    ExtensionDescriptor by full_name,
+    EnumDescriptor by full_name,
+    ServiceDescriptor by full_name,
+    MethodDescriptor by name,
 }
 
-/// The full names of extensions.
-pub fn list_extensions(
+/// The names of definitions.
+pub fn list<P, D: Placed<P> + Listed + Drop>(
     lines: &mut Lines,
     label: &str,
-    extensions: ExtensionDescriptors<'_>,
+    definitions: Descriptors<'_, P, D>,
 ) -> Result<(), AllocError> {
     lines.list(label);
-    for extension in extensions {
-        lines.item(extension?.full_name());
-    }
-    lines.end_list();
-    Ok(())
-}
-
-/// The full names of services.
-pub fn list_services(
-    lines: &mut Lines,
-    label: &str,
-    services: ServiceDescriptors<'_>,
-) -> Result<(), AllocError> {
-    lines.list(label);
-    for service in services {
-        lines.item(service?.full_name());
-    }
-    lines.end_list();
-    Ok(())
-}
-
-/// The names of fields.
-pub fn list_fields(
-    lines: &mut Lines,
-    label: &str,
-    fields: FieldDescriptors<'_>,
-) -> Result<(), AllocError> {
-    lines.list(label);
-    for field in fields {
-        lines.item(field?.name());
-    }
-    lines.end_list();
-    Ok(())
-}
-
-/// The names of oneofs.
-pub fn list_oneofs(
-    lines: &mut Lines,
-    label: &str,
-    oneofs: OneofDescriptors<'_>,
-) -> Result<(), AllocError> {
-    lines.list(label);
-    for oneof in oneofs {
-        lines.item(oneof?.name());
-    }
-    lines.end_list();
-    Ok(())
-}
-
-/// The names of methods.
-pub fn list_methods(
-    lines: &mut Lines,
-    label: &str,
-    methods: MethodDescriptors<'_>,
-) -> Result<(), AllocError> {
-    lines.list(label);
-    for method in methods {
-        lines.item(method?.name());
+    for definition in definitions {
+        lines.item(definition?.listed());
     }
     lines.end_list();
     Ok(())

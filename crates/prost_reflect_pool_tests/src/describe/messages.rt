@@ -2,8 +2,7 @@
 
 use crate::describe::fields::{write_field, write_oneof};
 use crate::describe::lists::{
-    list_enums, list_extension_ranges, list_extensions, list_fields, list_messages, list_oneofs,
-    list_reserved_names, list_reserved_ranges,
+    list, list_extension_ranges, list_reserved_names, list_reserved_ranges,
 };
 use crate::describe::words::{Lines, full_name_or_none, shown};
 use prost_reflect::{DescriptorPool, MessageDescriptor};
@@ -39,12 +38,12 @@ fn write_message(lines: &mut Lines, message: &MessageDescriptor) -> Result<(), A
 
 /// What is declared in the message type.
 fn write_members(lines: &mut Lines, message: &MessageDescriptor) -> Result<(), AllocError> {
-    list_fields(lines, " fields=", message.fields())?;
-    list_oneofs(lines, " oneofs=", message.oneofs())?;
-    list_messages(lines, " child_messages=", message.child_messages())?;
-    list_enums(lines, " child_enums=", message.child_enums())?;
-    list_extensions(lines, " child_extensions=", message.child_extensions())?;
-    list_extensions(lines, " extensions=", message.extensions())
+    list(lines, " fields=", message.fields())?;
+    list(lines, " oneofs=", message.oneofs())?;
+    list(lines, " child_messages=", message.child_messages())?;
+    list(lines, " child_enums=", message.child_enums())?;
+    list(lines, " child_extensions=", message.child_extensions())?;
+    list(lines, " extensions=", message.extensions())
 }
 
 /// The numbers and names that the message type keeps.
