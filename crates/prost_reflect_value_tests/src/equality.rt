@@ -1,6 +1,6 @@
 //! Which messages and values are equal.
 
-use crate::types::{decoded, insert, named_type, text_key};
+use crate::types::{decoded, equals_its_copy, insert, is_decoded, named_type, text_key};
 use prost_reflect::{DynamicMessage, Value, builtin_pool};
 use prost_reflect_samples::sets;
 use std::alloc::Global;
@@ -35,11 +35,16 @@ fn nested(alloc: Global, depth: u32, foo: u8) -> Result<Value, Fail> {
     Ok(value)
 }
 
+/// Whether the value is `foo` in so many lists.
+fn is_nested(alloc: Global, value: &Value, depth: u32, foo: u8) -> Result<bool, Fail> {
+    Ok(*value == nested(alloc, depth, foo)?)
+}
+
 #[test]
 fn a_value_150_deep_is_copied_and_compared(rt: HostRuntime) -> Result<(), Fail> {
     let value = nested(rt.alloc(), 150, 5)?;
-    assert!(rt; value == value.clone()?);
-    assert!(rt; value != nested(rt.alloc(), 150, 6)?);
+    assert!(rt; equals_its_copy(&value)?);
+    assert!(rt; !is_nested(rt.alloc(), &value, 150, 6)?);
     Ok(())
 }
 
@@ -51,11 +56,21 @@ fn counts(alloc: Global, first: (&str, i32), second: (&str, i32)) -> Result<Valu
     Ok(Value::Map(map))
 }
 
+/// Whether the map is the one with the two numbers at the texts.
+fn is_counts(
+    alloc: Global,
+    map: &Value,
+    first: (&str, i32),
+    second: (&str, i32),
+) -> Result<bool, Fail> {
+    Ok(*map == counts(alloc, first, second)?)
+}
+
 #[test]
 fn entries_are_equal_in_any_order_of_putting(rt: HostRuntime) -> Result<(), Fail> {
     let map = counts(rt.alloc(), ("a", 1), ("b", 2))?;
-    assert!(rt; map == counts(rt.alloc(), ("b", 2), ("a", 1))?);
-    assert!(rt; map != counts(rt.alloc(), ("a", 2), ("b", 1))?);
+    assert!(rt; is_counts(rt.alloc(), &map, ("b", 2), ("a", 1))?);
+    assert!(rt; !is_counts(rt.alloc(), &map, ("a", 2), ("b", 1))?);
     Ok(())
 }
 
@@ -71,12 +86,17 @@ fn kept(alloc: Global, bytes: &[u8]) -> Result<DynamicMessage, Fail> {
     Ok(DynamicMessage::decode(alloc, descriptor, bytes)?)
 }
 
+/// Whether the message is the `Kept` of the bytes.
+fn is_kept(alloc: Global, message: &DynamicMessage, bytes: &[u8]) -> Result<bool, Fail> {
+    Ok(*message == kept(alloc, bytes)?)
+}
+
 /// The numbers 10 and 11 are of no field.
 #[test]
 fn unknown_fields_count(rt: HostRuntime) -> Result<(), Fail> {
     let message = kept(rt.alloc(), &[0x50, 3, 0x50, 4, 0x58, 1])?;
-    assert!(rt; message == kept(rt.alloc(), &[0x50, 3, 0x58, 1, 0x50, 4])?);
-    assert!(rt; message != kept(rt.alloc(), &[0x50, 4, 0x50, 3, 0x58, 1])?);
+    assert!(rt; is_kept(rt.alloc(), &message, &[0x50, 3, 0x58, 1, 0x50, 4])?);
+    assert!(rt; !is_kept(rt.alloc(), &message, &[0x50, 4, 0x50, 3, 0x58, 1])?);
     Ok(())
 }
 
@@ -84,7 +104,7 @@ fn unknown_fields_count(rt: HostRuntime) -> Result<(), Fail> {
 #[test]
 fn types_count(rt: HostRuntime) -> Result<(), Fail> {
     let message = sample(rt.alloc(), "MyMessage", &[])?;
-    assert!(rt; message == sample(rt.alloc(), "MyMessage", &[])?);
-    assert!(rt; message != sample(rt.alloc(), "P", &[])?);
+    assert!(rt; is_decoded(rt.alloc(), &message, sets::newer(), "MyMessage", &[])?);
+    assert!(rt; !is_decoded(rt.alloc(), &message, sets::newer(), "P", &[])?);
     Ok(())
 }

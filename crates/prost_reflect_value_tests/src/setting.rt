@@ -1,6 +1,6 @@
 //! Setting fields to values that may not fit, and the texts of refusals.
 
-use crate::types::{decoded, own_field, text_of};
+use crate::types::{decoded, is_decoded, own_field, text_of};
 use prost_reflect::{DynamicMessage, FieldDescriptor, SetFieldError, Value};
 use prost_reflect_samples::sets;
 use std::alloc::Global;
@@ -24,6 +24,11 @@ fn of_kinds(alloc: Global, bytes: &[u8]) -> Result<DynamicMessage, Fail> {
 /// A `MyMessage` of the bytes.
 fn of_newer(alloc: Global, bytes: &[u8]) -> Result<DynamicMessage, Fail> {
     decoded(alloc, sets::newer(), "MyMessage", bytes)
+}
+
+/// Whether the message is the `MyMessage` of the bytes.
+fn is_newer(alloc: Global, message: &DynamicMessage, bytes: &[u8]) -> Result<bool, Fail> {
+    is_decoded(alloc, message, sets::newer(), "MyMessage", bytes)
 }
 
 /// Why the field of a name refuses the value, or nothing where it is set.
@@ -74,11 +79,11 @@ fn what_fits_is_set(rt: HostRuntime) -> Result<(), Fail> {
     let mut message = of_kinds(rt.alloc(), &[])?;
     assert!(rt; is_set(&mut message, "n", Value::I32(7))?);
     assert!(rt; !is_set(&mut message, "n", Value::I64(8))?);
-    assert!(rt; message == of_kinds(rt.alloc(), &[0x30, 7])?);
+    assert!(rt; is_decoded(rt.alloc(), &message, sets::kinds(), "v.V", &[0x30, 7])?);
     Ok(())
 }
 
-/// Whether the refusal hands back the field and the value.
+/// Whether the refusal hands back the field and the number.
 fn hands_back(refusal: &Option<SetFieldError>, wanted: &FieldDescriptor, number: u32) -> bool {
     match refusal {
         Some(SetFieldError::InvalidType { field, value }) => {
@@ -88,11 +93,16 @@ fn hands_back(refusal: &Option<SetFieldError>, wanted: &FieldDescriptor, number:
     }
 }
 
+/// Whether the field of a name hands back itself and the number, which does not fit it.
+fn is_handed_back(message: &mut DynamicMessage, name: &str, number: u32) -> Result<bool, Fail> {
+    let refused = refusal(message, name, Value::U32(number))?;
+    Ok(hands_back(&refused, &own_field(message, name)?, number))
+}
+
 #[test]
 fn what_does_not_fit_is_handed_back(rt: HostRuntime) -> Result<(), Fail> {
     let mut message = of_kinds(rt.alloc(), &[])?;
-    let refused = refusal(&mut message, "n", Value::U32(5))?;
-    assert!(rt; hands_back(&refused, &own_field(&message, "n")?, 5));
+    assert!(rt; is_handed_back(&mut message, "n", 5)?);
     Ok(())
 }
 
@@ -106,25 +116,32 @@ fn is_of_foo(refusal: &Option<SetFieldError>) -> bool {
     }
 }
 
-/// Whether the field of a number refuses the text `bar`.
-fn number_refuses(message: &mut DynamicMessage, number: u32, bar: Value) -> bool {
-    is_of_foo(&message.try_set_field_by_number(number, bar).err())
+/// Whether the field of a number refuses the text `bar`, as `foo` does.
+fn number_refuses(alloc: Global, message: &mut DynamicMessage, number: u32) -> Result<bool, Fail> {
+    let bar = text_of(alloc, "bar")?;
+    Ok(is_of_foo(&message.try_set_field_by_number(number, bar).err()))
 }
 
-/// Whether the field of a name refuses the text `bar`.
-fn name_refuses(message: &mut DynamicMessage, name: &str, bar: Value) -> bool {
-    is_of_foo(&message.try_set_field_by_name(name, bar).err())
+/// Whether the field of a name refuses the text `bar`, as `foo` does.
+fn name_refuses(alloc: Global, message: &mut DynamicMessage, name: &str) -> Result<bool, Fail> {
+    let bar = text_of(alloc, "bar")?;
+    Ok(is_of_foo(&message.try_set_field_by_name(name, bar).err()))
+}
+
+/// Whether the field that a name finds refuses the text `bar`, as `foo` does.
+fn field_refuses(alloc: Global, message: &mut DynamicMessage, name: &str) -> Result<bool, Fail> {
+    let bar = text_of(alloc, "bar")?;
+    Ok(is_of_foo(&refusal(message, name, bar)?))
 }
 
 /// The field `foo` has the number 1, and is 5.
 #[test]
 fn what_does_not_fit_is_refused(rt: HostRuntime) -> Result<(), Fail> {
-    let alloc = rt.alloc();
-    let mut message = of_newer(alloc, &[0x08, 5])?;
-    assert!(rt; number_refuses(&mut message, 1, text_of(alloc, "bar")?));
-    assert!(rt; name_refuses(&mut message, "foo", text_of(alloc, "bar")?));
-    assert!(rt; is_of_foo(&refusal(&mut message, "foo", text_of(alloc, "bar")?)?));
-    assert!(rt; message == of_newer(alloc, &[0x08, 5])?);
+    let mut message = of_newer(rt.alloc(), &[0x08, 5])?;
+    assert!(rt; number_refuses(rt.alloc(), &mut message, 1)?);
+    assert!(rt; name_refuses(rt.alloc(), &mut message, "foo")?);
+    assert!(rt; field_refuses(rt.alloc(), &mut message, "foo")?);
+    assert!(rt; is_newer(rt.alloc(), &message, &[0x08, 5])?);
     Ok(())
 }
 
@@ -136,20 +153,34 @@ fn is_not_found(outcome: Result<(), SetFieldError>) -> bool {
     }
 }
 
+/// Whether no field is found of the number and of the name.
+fn finds_neither(message: &mut DynamicMessage, number: u32, name: &str) -> bool {
+    is_not_found(message.try_set_field_by_number(number, Value::I32(5)))
+        && is_not_found(message.try_set_field_by_name(name, Value::I32(5)))
+}
+
 #[test]
 fn a_number_or_a_name_of_no_field_is_not_found(rt: HostRuntime) -> Result<(), Fail> {
     let mut message = of_newer(rt.alloc(), &[0x08, 5])?;
-    assert!(rt; is_not_found(message.try_set_field_by_number(42, Value::I32(5))));
-    assert!(rt; is_not_found(message.try_set_field_by_name("notfound", Value::I32(5))));
-    assert!(rt; message == of_newer(rt.alloc(), &[0x08, 5])?);
+    assert!(rt; finds_neither(&mut message, 42, "notfound"));
+    assert!(rt; is_newer(rt.alloc(), &message, &[0x08, 5])?);
     Ok(())
+}
+
+/// Whether the fields of the number 2 and of the name `foo` take these values.
+fn takes_both(message: &mut DynamicMessage, second: i32, foo: i32) -> bool {
+    message
+        .try_set_field_by_number(2, Value::I32(second))
+        .is_ok()
+        && message
+            .try_set_field_by_name("foo", Value::I32(foo))
+            .is_ok()
 }
 
 #[test]
 fn what_fits_is_set_by_number_and_by_name(rt: HostRuntime) -> Result<(), Fail> {
     let mut message = of_newer(rt.alloc(), &[0x08, 5])?;
-    assert!(rt; message.try_set_field_by_number(2, Value::I32(66)).is_ok());
-    assert!(rt; message.try_set_field_by_name("foo", Value::I32(7)).is_ok());
-    assert!(rt; message == of_newer(rt.alloc(), &[0x08, 7, 0x10, 66])?);
+    assert!(rt; takes_both(&mut message, 66, 7));
+    assert!(rt; is_newer(rt.alloc(), &message, &[0x08, 7, 0x10, 66])?);
     Ok(())
 }

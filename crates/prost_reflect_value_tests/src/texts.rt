@@ -2,6 +2,7 @@
 
 use crate::types::{kinds_kind, kinds_pool};
 use prost_reflect::{Kind, Value};
+use std::alloc::{AllocError, Global};
 use std::test::Fail;
 
 /// A text of an int32, and the number that it spells.
@@ -21,29 +22,48 @@ static BITS: &[(&str, Option<u32>)] = &[
     ("1.5", None),
 ];
 
+/// Whether a kind reads the text as this value, or as none.
+fn reads(
+    alloc: Global,
+    kind: &Kind,
+    text: &str,
+    expected: Option<Value>,
+) -> Result<bool, AllocError> {
+    let read = Value::from_text(alloc, kind, text)?;
+    Ok(read == expected)
+}
+
 #[test]
 fn numbers_are_spelled(rt: HostRuntime) -> Result<(), Fail> {
     for row in NUMBERS {
-        let read = Value::from_text(rt.alloc(), &Kind::Int32, row.0)?;
-        assert!(rt; read == row.1.map(Value::I32));
+        assert!(rt; reads(rt.alloc(), &Kind::Int32, row.0, row.1.map(Value::I32))?);
     }
     for row in BITS {
-        let read = Value::from_text(rt.alloc(), &Kind::Float, row.0)?;
-        assert!(rt; read == row.1.map(Value::F32));
+        assert!(rt; reads(rt.alloc(), &Kind::Float, row.0, row.1.map(Value::F32))?);
     }
     Ok(())
 }
 
 #[test]
-fn names_texts_and_bytes_are_spelled(rt: HostRuntime) -> Result<(), Fail> {
-    let pool = kinds_pool(rt.alloc())?;
-    let e = kinds_kind(&pool, "e")?;
-    let message = kinds_kind(&pool, "v")?;
-    assert!(rt; Value::from_text(rt.alloc(), &e, "B")? == Some(Value::EnumNumber(1)));
-    assert!(rt; Value::from_text(rt.alloc(), &e, "C")?.is_none());
-    assert!(rt; Value::from_text(rt.alloc(), &message, "")?.is_none());
-    assert!(rt; Value::from_text(rt.alloc(), &Kind::Bool, "true")? == Some(Value::Bool(true)));
-    assert!(rt; Value::from_text(rt.alloc(), &Kind::Bool, "1")?.is_none());
+fn bools_are_spelled(rt: HostRuntime) -> Result<(), Fail> {
+    assert!(rt; reads(rt.alloc(), &Kind::Bool, "true", Some(Value::Bool(true)))?);
+    assert!(rt; reads(rt.alloc(), &Kind::Bool, "1", None)?);
+    Ok(())
+}
+
+/// An enum has names; a message has no texts.
+#[test]
+fn names_are_spelled(rt: HostRuntime) -> Result<(), Fail> {
+    let e = kinds_kind(&kinds_pool(rt.alloc())?, "e")?;
+    assert!(rt; reads(rt.alloc(), &e, "B", Some(Value::EnumNumber(1)))?);
+    assert!(rt; reads(rt.alloc(), &e, "C", None)?);
+    let message = kinds_kind(&kinds_pool(rt.alloc())?, "v")?;
+    assert!(rt; reads(rt.alloc(), &message, "", None)?);
+    Ok(())
+}
+
+#[test]
+fn texts_and_bytes_are_spelled(rt: HostRuntime) -> Result<(), Fail> {
     let bytes = Value::from_text(rt.alloc(), &Kind::Bytes, "\\1012")?.ok_or("no bytes")?;
     assert!(rt; bytes.as_bytes() == Some(b"A2".as_slice()));
     let text = Value::from_text(rt.alloc(), &Kind::String, "\\1")?.ok_or("no text")?;

@@ -1,6 +1,6 @@
 //! Whether messages may be encoded, and whether the messages inside are of their fields' types.
 
-use crate::types::{decoded, map_of, own_field, text_of};
+use crate::types::{decoded, is_decoded, map_of, own_field, text_of};
 use prost_reflect::{DynamicMessage, MapKey, Value};
 use prost_reflect_samples::sets;
 use std::alloc::Global;
@@ -154,7 +154,15 @@ fn what_passes_is_merged_into(rt: HostRuntime) -> Result<(), Fail> {
     let alloc = rt.alloc();
     let mut message = around(alloc, read_newer(alloc, "MyMessage", "0805")?)?;
     assert!(rt; merges(&mut message, &[0x10, 1])?);
-    assert!(rt; message == read_newer(alloc, "MyMessage", "1a0208051001")?);
+    assert!(rt;
+        is_decoded(
+            alloc,
+            &message,
+            sets::newer(),
+            "MyMessage",
+            &[0x1a, 2, 8, 5, 0x10, 1]
+        )?
+    );
     Ok(())
 }
 

@@ -37,6 +37,17 @@ pub(crate) fn decoded(
     Ok(DynamicMessage::decode(alloc, descriptor, bytes)?)
 }
 
+/// Whether the message is the one that the bytes mean to the type of a name in a descriptor set.
+pub(crate) fn is_decoded(
+    alloc: Global,
+    message: &DynamicMessage,
+    set: &[u8],
+    name: &str,
+    bytes: &[u8],
+) -> Result<bool, Fail> {
+    Ok(*message == decoded(alloc, set, name, bytes)?)
+}
+
 /// An empty message of the type of a full name in a pool, as a value.
 pub(crate) fn message_of(alloc: Global, pool: &DescriptorPool, name: &str) -> Result<Value, Fail> {
     Ok(Value::Message(DynamicMessage::new(alloc, named_type(pool, name)?)))
@@ -109,4 +120,9 @@ pub(crate) fn map_of(alloc: Global, key: MapKey, value: Value) -> Result<Value, 
     let mut pairs = BTreeMap::new(alloc);
     insert(&mut pairs, key, value)?;
     Ok(Value::Map(pairs))
+}
+
+/// Whether the value is equal to its copy.
+pub(crate) fn equals_its_copy(value: &Value) -> Result<bool, AllocError> {
+    Ok(*value == value.clone()?)
 }

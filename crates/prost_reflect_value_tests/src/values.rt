@@ -1,6 +1,6 @@
 //! Each variant by its accessors, and keys in their order.
 
-use crate::types::{insert, message_of, text_key, text_of};
+use crate::types::{equals_its_copy, insert, message_of, text_key, text_of};
 use prost_reflect::{MapKey, Value, builtin_pool};
 use std::alloc::{AllocError, Global};
 use std::cmp::Ordering;
@@ -113,8 +113,7 @@ fn is_filled(value: &Value) -> bool {
 /// Whether the empty value is filled, and equal to its copy then.
 fn is_filled_and_copied(mut value: Value) -> Result<bool, AllocError> {
     fill(&mut value)?;
-    let copy = value.clone()?;
-    Ok(is_filled(&value) && copy == value)
+    Ok(is_filled(&value) && equals_its_copy(&value)?)
 }
 
 #[test]
