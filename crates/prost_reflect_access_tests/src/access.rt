@@ -88,6 +88,11 @@ pub(crate) fn is_taken(value: &Option<Value>, number: i32, had: bool) -> bool {
     }
 }
 
+/// Writes the number through a loan.
+pub(crate) fn write(lent: &mut Value, number: i32) {
+    *lent = Value::I32(number);
+}
+
 /// Whether the field is the message's own, and the message has it or not, and shows the value.
 pub(crate) fn is_asked(
     alloc: Global,
@@ -121,11 +126,11 @@ pub(crate) fn sets(message: &mut DynamicMessage, field: &FieldDescriptor, value:
 
 /// Whether the field is the message's own, and so is cleared.
 pub(crate) fn clears(message: &mut DynamicMessage, field: &FieldDescriptor) -> bool {
-    let is_own = message.owns_field(field);
-    if is_own {
-        message.clear_field(field);
+    if !message.owns_field(field) {
+        return false;
     }
-    is_own
+    message.clear_field(field);
+    true
 }
 
 /// Whether the message is what the row says at each step, where its field is asked, taken, set and cleared.
@@ -145,16 +150,6 @@ fn follows(
             && clears(message, field)
             && is_message(alloc, message, name, cleared)?,
     )
-}
-
-#[test]
-fn fields_are_asked_set_and_taken(rt: HostRuntime) -> Result<(), Fail> {
-    for row in &FIELDS {
-        let field = worked_field(rt.alloc(), row.0, row.2)?;
-        let mut message = decoded(rt.alloc(), row.0, row.1)?;
-        assert!(rt; follows(rt.alloc(), &mut message, &field, row)?);
-    }
-    Ok(())
 }
 
 /// Whether the message is what the row says, where its field is asked and taken by the number.
@@ -183,8 +178,10 @@ fn sets_by_number(
     row: &FieldRow,
 ) -> Result<bool, Fail> {
     let (name, _, number, _, value, _, written, cleared) = row;
-    let tried = message.try_set_field_by_number(*number, Value::I32(*value));
-    if tried.is_err() {
+    if message
+        .try_set_field_by_number(*number, Value::I32(*value))
+        .is_err()
+    {
         return Ok(false);
     }
     let is_set = is_message(alloc, message, name, written)?;
@@ -192,16 +189,6 @@ fn sets_by_number(
     let is_cleared = is_message(alloc, message, name, cleared)?;
     message.set_field_by_number(*number, Value::I32(*value))?;
     Ok(is_set && is_cleared && is_message(alloc, message, name, written)?)
-}
-
-#[test]
-fn fields_are_asked_set_and_taken_by_number(rt: HostRuntime) -> Result<(), Fail> {
-    for row in &FIELDS {
-        let mut message = decoded(rt.alloc(), row.0, row.1)?;
-        assert!(rt; takes_by_number(rt.alloc(), &mut message, row)?);
-        assert!(rt; sets_by_number(rt.alloc(), &mut message, row)?);
-    }
-    Ok(())
 }
 
 /// Whether the message is what the row says, where the field of the name is asked and taken by it.
@@ -232,8 +219,10 @@ fn sets_by_name(
     row: &FieldRow,
 ) -> Result<bool, Fail> {
     let (name, _, _, _, value, _, written, cleared) = row;
-    let tried = message.try_set_field_by_name(field, Value::I32(*value));
-    if tried.is_err() {
+    if message
+        .try_set_field_by_name(field, Value::I32(*value))
+        .is_err()
+    {
         return Ok(false);
     }
     let is_set = is_message(alloc, message, name, written)?;
@@ -243,13 +232,44 @@ fn sets_by_name(
     Ok(is_set && is_cleared && is_message(alloc, message, name, written)?)
 }
 
+/// Whether the message is what the row says, where its field is named by its number.
+fn follows_by_number(
+    alloc: Global,
+    message: &mut DynamicMessage,
+    row: &FieldRow,
+) -> Result<bool, Fail> {
+    Ok(takes_by_number(alloc, message, row)? && sets_by_number(alloc, message, row)?)
+}
+
+/// Whether the message is what the row says, where its field is named by its name.
+fn follows_by_name(
+    alloc: Global,
+    message: &mut DynamicMessage,
+    field: &str,
+    row: &FieldRow,
+) -> Result<bool, Fail> {
+    Ok(takes_by_name(alloc, message, field, row)? && sets_by_name(alloc, message, field, row)?)
+}
+
+/// Whether the row's message is what the row says at each step, where its field is named in each of the three ways.
+fn follows_in_all_ways(
+    alloc: Global,
+    field: &FieldDescriptor,
+    row: &FieldRow,
+) -> Result<bool, Fail> {
+    let (name, digits, _, _, _, _, _, _) = row;
+    Ok(
+        follows(alloc, &mut decoded(alloc, name, digits)?, field, row)?
+            && follows_by_number(alloc, &mut decoded(alloc, name, digits)?, row)?
+            && follows_by_name(alloc, &mut decoded(alloc, name, digits)?, field.name(), row)?,
+    )
+}
+
 #[test]
-fn fields_are_asked_set_and_taken_by_name(rt: HostRuntime) -> Result<(), Fail> {
+fn fields_are_asked_set_and_taken(rt: HostRuntime) -> Result<(), Fail> {
     for row in &FIELDS {
         let field = worked_field(rt.alloc(), row.0, row.2)?;
-        let mut message = decoded(rt.alloc(), row.0, row.1)?;
-        assert!(rt; takes_by_name(rt.alloc(), &mut message, field.name(), row)?);
-        assert!(rt; sets_by_name(rt.alloc(), &mut message, field.name(), row)?);
+        assert!(rt; follows_in_all_ways(rt.alloc(), &field, row)?);
     }
     Ok(())
 }
@@ -300,6 +320,15 @@ fn takes_extension(
     )
 }
 
+/// Whether the extension is the message's own, and so is cleared.
+fn clears_extension(message: &mut DynamicMessage, extension: &ExtensionDescriptor) -> bool {
+    if !message.owns_extension(extension) {
+        return false;
+    }
+    message.clear_extension(extension);
+    true
+}
+
 /// Whether the message is what the row says, where its extension is set, and then cleared.
 fn sets_extension(
     alloc: Global,
@@ -308,38 +337,49 @@ fn sets_extension(
     row: &ExtensionRow,
 ) -> Result<bool, Fail> {
     let (name, _, _, _, value, left, written) = row;
-    if !message.owns_extension(extension) || !Value::I32(*value).is_valid_for_extension(extension) {
-        return Ok(false);
-    }
-    message.set_extension(extension, Value::I32(*value))?;
-    let is_set = is_message(alloc, message, name, written)?;
-    message.clear_extension(extension);
-    Ok(is_set && is_message(alloc, message, name, left)?)
+    Ok(
+        message.owns_extension(extension)
+            && Value::I32(*value).is_valid_for_extension(extension)
+            && message.set_extension(extension, Value::I32(*value)).is_ok()
+            && is_message(alloc, message, name, written)?
+            && clears_extension(message, extension)
+            && is_message(alloc, message, name, left)?,
+    )
+}
+
+/// Whether the row's message is what the row says at each step.
+fn extension_follows(
+    alloc: Global,
+    extension: &ExtensionDescriptor,
+    row: &ExtensionRow,
+) -> Result<bool, Fail> {
+    let mut message = decoded(alloc, row.0, row.1)?;
+    Ok(
+        takes_extension(alloc, &mut message, extension, row)?
+            && sets_extension(alloc, &mut message, extension, row)?,
+    )
 }
 
 #[test]
 fn extensions_are_asked_set_and_taken(rt: HostRuntime) -> Result<(), Fail> {
     for row in &EXTENSIONS {
         let extension = worked_extension(rt.alloc(), row.0, row.2)?;
-        let mut message = decoded(rt.alloc(), row.0, row.1)?;
-        assert!(rt; takes_extension(rt.alloc(), &mut message, &extension, row)?);
-        assert!(rt; sets_extension(rt.alloc(), &mut message, &extension, row)?);
+        assert!(rt; extension_follows(rt.alloc(), &extension, row)?);
     }
     Ok(())
 }
 
-/// Whether the extension is the message's own, and the number is written through its loan.
+/// Whether the extension is the message's own, and a 7 is written through its loan.
 fn lends_extension(
     alloc: Global,
     message: &mut DynamicMessage,
     extension: &ExtensionDescriptor,
-    value: i32,
-) -> Result<bool, AllocError> {
-    let is_own = message.owns_extension(extension);
-    if is_own {
-        *message.get_extension_mut(alloc, extension)? = Value::I32(value);
+) -> Result<bool, Fail> {
+    if !message.owns_extension(extension) {
+        return Ok(false);
     }
-    Ok(is_own)
+    write(message.get_extension_mut(alloc, extension)?, 7);
+    is_message(alloc, message, "b.X", "a00607")
 }
 
 /// What is written through the loan is what the message has afterwards.
@@ -347,8 +387,7 @@ fn lends_extension(
 fn an_extension_is_lent_for_writing(rt: HostRuntime) -> Result<(), Fail> {
     let extension = worked_extension(rt.alloc(), "b.X", 100)?;
     let mut message = decoded(rt.alloc(), "b.X", "")?;
-    assert!(rt; lends_extension(rt.alloc(), &mut message, &extension, 7)?);
-    assert!(rt; is_message(rt.alloc(), &message, "b.X", "a00607")?);
+    assert!(rt; lends_extension(rt.alloc(), &mut message, &extension)?);
     Ok(())
 }
 

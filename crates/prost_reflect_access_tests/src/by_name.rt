@@ -1,6 +1,6 @@
 //! Fields of messages by their numbers and by their names.
 
-use crate::access::is_taken;
+use crate::access::{is_taken, write};
 use crate::types::{choices, my_message};
 use prost_reflect::{DynamicMessage, GetFieldError, Value};
 use std::alloc::{AllocError, Global};
@@ -8,7 +8,10 @@ use std::borrow::Cow;
 use std::test::Fail;
 
 /// 5 in the field `f1`, and 7 in the extension `f12`.
-const BYTES: [u8; 4] = [0x08, 5, 0x60, 7];
+static BYTES: &[u8] = &[0x08, 5, 0x60, 7];
+
+/// 5 in the field `foo`, of the number 1.
+static FIVE: &[u8] = &[0x08, 5];
 
 /// Whether the value is lent, and is this number.
 fn is_lent(value: &Option<Cow<'_, Value>>, number: i32) -> bool {
@@ -31,7 +34,7 @@ fn has_f1_alone(alloc: Global, message: &DynamicMessage) -> Result<bool, AllocEr
 
 #[test]
 fn fields_are_asked_by_name(rt: HostRuntime) -> Result<(), Fail> {
-    let message = choices(rt.alloc(), &BYTES)?;
+    let message = choices(rt.alloc(), BYTES)?;
     assert!(rt; has_f1_alone(rt.alloc(), &message)?);
     Ok(())
 }
@@ -47,7 +50,7 @@ fn gives_f1(alloc: Global, message: &mut DynamicMessage) -> Result<bool, Fail> {
 
 #[test]
 fn a_field_is_taken_by_name(rt: HostRuntime) -> Result<(), Fail> {
-    let mut message = choices(rt.alloc(), &BYTES)?;
+    let mut message = choices(rt.alloc(), BYTES)?;
     assert!(rt; gives_f1(rt.alloc(), &mut message)?);
     Ok(())
 }
@@ -60,84 +63,63 @@ fn gives_nothing(message: &mut DynamicMessage) -> bool {
 
 #[test]
 fn a_field_is_cleared_by_name(rt: HostRuntime) -> Result<(), Fail> {
-    let mut message = choices(rt.alloc(), &BYTES)?;
+    let mut message = choices(rt.alloc(), BYTES)?;
     assert!(rt; gives_nothing(&mut message));
     Ok(())
 }
 
-/// Whether the message has, lends for writing and gives nothing by a number that no field has.
-fn lacks_number(alloc: Global, message: &mut DynamicMessage, number: u32) -> bool {
-    !message.has_field_by_number(number)
-        && message.get_field_by_number_mut(alloc, number).err() == Some(GetFieldError::NotFound)
-        && message.take_field_by_number(number).is_none()
-}
-
-/// Whether the message shows nothing by a number that no field has, by which it is cleared and set.
-fn ignores_number(
-    alloc: Global,
-    message: &mut DynamicMessage,
-    number: u32,
-) -> Result<bool, AllocError> {
+/// Whether the message has, lends and gives nothing by a number that no field has, by which it is cleared and set.
+fn ignores_number(alloc: Global, message: &mut DynamicMessage, number: u32) -> Result<bool, Fail> {
     message.clear_field_by_number(number);
-    let is_none = message.get_field_by_number(alloc, number)?.is_none();
-    if is_none {
-        message.set_field_by_number(number, Value::I32(5))?;
-    }
-    Ok(is_none)
+    Ok(
+        !message.has_field_by_number(number)
+            && message.get_field_by_number_mut(alloc, number).err() == Some(GetFieldError::NotFound)
+            && message.take_field_by_number(number).is_none()
+            && message.get_field_by_number(alloc, number)?.is_none()
+            && message.set_field_by_number(number, Value::I32(5)).is_ok()
+            && *message == my_message(alloc, FIVE)?,
+    )
 }
 
 /// No field has the number 42.
 #[test]
 fn a_number_of_no_field_changes_nothing(rt: HostRuntime) -> Result<(), Fail> {
-    let mut message = my_message(rt.alloc(), &[0x08, 5])?;
-    assert!(rt; lacks_number(rt.alloc(), &mut message, 42));
+    let mut message = my_message(rt.alloc(), FIVE)?;
     assert!(rt; ignores_number(rt.alloc(), &mut message, 42)?);
-    assert!(rt; message == my_message(rt.alloc(), &[0x08, 5])?);
     Ok(())
 }
 
-/// Whether the message has, lends for writing and gives nothing by a name that no field has.
-fn lacks_name(alloc: Global, message: &mut DynamicMessage, name: &str) -> bool {
-    !message.has_field_by_name(name)
-        && message.get_field_by_name_mut(alloc, name).err() == Some(GetFieldError::NotFound)
-        && message.take_field_by_name(name).is_none()
-}
-
-/// Whether the message shows nothing by a name that no field has, by which it is cleared and set.
-fn ignores_name(
-    alloc: Global,
-    message: &mut DynamicMessage,
-    name: &str,
-) -> Result<bool, AllocError> {
+/// Whether the message has, lends and gives nothing by a name that no field has, by which it is cleared and set.
+fn ignores_name(alloc: Global, message: &mut DynamicMessage, name: &str) -> Result<bool, Fail> {
     message.clear_field_by_name(name);
-    let is_none = message.get_field_by_name(alloc, name)?.is_none();
-    if is_none {
-        message.set_field_by_name(name, Value::I32(5))?;
-    }
-    Ok(is_none)
+    Ok(
+        !message.has_field_by_name(name)
+            && message.get_field_by_name_mut(alloc, name).err() == Some(GetFieldError::NotFound)
+            && message.take_field_by_name(name).is_none()
+            && message.get_field_by_name(alloc, name)?.is_none()
+            && message.set_field_by_name(name, Value::I32(5)).is_ok()
+            && *message == my_message(alloc, FIVE)?,
+    )
 }
 
 /// No field has the name.
 #[test]
 fn a_name_of_no_field_changes_nothing(rt: HostRuntime) -> Result<(), Fail> {
-    let mut message = my_message(rt.alloc(), &[0x08, 5])?;
-    assert!(rt; lacks_name(rt.alloc(), &mut message, "notfound"));
+    let mut message = my_message(rt.alloc(), FIVE)?;
     assert!(rt; ignores_name(rt.alloc(), &mut message, "notfound")?);
-    assert!(rt; message == my_message(rt.alloc(), &[0x08, 5])?);
     Ok(())
 }
 
-/// Writes `foo` over, and `bar`, of the number 2, which is made first.
-fn write_both(alloc: Global, message: &mut DynamicMessage) -> Result<(), Fail> {
-    *message.get_field_by_number_mut(alloc, 1)? = Value::I32(7);
-    *message.get_field_by_name_mut(alloc, "bar")? = Value::I32(66);
-    Ok(())
+/// Whether `foo` is written over, and `bar`, of the number 2, which is made first.
+fn lends_both(alloc: Global, message: &mut DynamicMessage) -> Result<bool, Fail> {
+    write(message.get_field_by_number_mut(alloc, 1)?, 7);
+    write(message.get_field_by_name_mut(alloc, "bar")?, 66);
+    Ok(*message == my_message(alloc, &[0x08, 7, 0x10, 66])?)
 }
 
 #[test]
 fn a_field_is_lent_for_writing(rt: HostRuntime) -> Result<(), Fail> {
-    let mut message = my_message(rt.alloc(), &[0x08, 5])?;
-    write_both(rt.alloc(), &mut message)?;
-    assert!(rt; message == my_message(rt.alloc(), &[0x08, 7, 0x10, 66])?);
+    let mut message = my_message(rt.alloc(), FIVE)?;
+    assert!(rt; lends_both(rt.alloc(), &mut message)?);
     Ok(())
 }

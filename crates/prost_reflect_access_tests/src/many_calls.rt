@@ -200,7 +200,7 @@ fn unknown_count(message: &DynamicMessage) -> Option<u32> {
     let mut all = true;
     for field in message.unknown_fields() {
         let number = count.wrapping_mul(2).wrapping_add(17);
-        all = is_varint(field, Some(&(number, (count % 128) as u64))) && all;
+        all &= is_varint(field, Some(&(number, (count % 128) as u64)));
         count = count.wrapping_add(1);
     }
     all.then_some(count)

@@ -1,13 +1,14 @@
 //! Each call once, on messages of the built-in types, and a closed enum in a oneof and alone.
 
-use crate::types::{choices, is_written, named};
+use crate::types::{choices, is_written};
 use prost_reflect::{DecodeError, DynamicMessage, MessageDescriptor, PresentNumber, builtin_pool};
-use std::alloc::{AllocError, Global};
+use std::alloc::Global;
 use std::test::Fail;
 
 /// The built-in message type of a name.
 fn builtin(alloc: Global, name: &str) -> Result<MessageDescriptor, Fail> {
-    named(&builtin_pool(alloc)?, name)
+    let found = builtin_pool(alloc)?.get_message_by_name(name)?;
+    Ok(found.ok_or("no such message type")?)
 }
 
 /// The message that the bytes mean to the built-in type of a name.
@@ -16,24 +17,25 @@ fn builtin_message(alloc: Global, name: &str, bytes: &[u8]) -> Result<DynamicMes
 }
 
 /// An unknown varint of the number 10, and 150 in the field 5.
-const BYTES: [u8; 5] = [0x50, 3, 0x28, 0x96, 1];
+static BYTES: &[u8] = &[0x50, 3, 0x28, 0x96, 1];
 
 /// The same in ascending number.
-const WRITTEN: [u8; 5] = [0x28, 0x96, 1, 0x50, 3];
+static WRITTEN: &[u8] = &[0x28, 0x96, 1, 0x50, 3];
 
-/// Whether a field of the number 5 is there, and one unknown field of the number 10.
-fn is_present(alloc: Global, message: &DynamicMessage) -> Result<bool, AllocError> {
+/// Whether a field of the number 5 is there, and one unknown field of the number 10, and both are written.
+fn is_relayed(alloc: Global, message: &DynamicMessage) -> Result<bool, Fail> {
     let present = [PresentNumber::Field(5), PresentNumber::Unknown(10, 1)];
-    Ok(message.present_numbers(alloc)?.as_slice() == present.as_slice())
+    Ok(
+        message.present_numbers(alloc)?.as_slice() == present.as_slice()
+            && is_written(alloc, message, WRITTEN)?,
+    )
 }
 
 /// The worked example of the README.
 #[test]
 fn a_message_is_relayed(rt: HostRuntime) -> Result<(), Fail> {
-    let bytes = [0x50, 0x83, 0, 0x28, 0x96, 1];
-    let message = builtin_message(rt.alloc(), "builtin.Plain", &bytes)?;
-    assert!(rt; is_present(rt.alloc(), &message)?);
-    assert!(rt; is_written(rt.alloc(), &message, &WRITTEN)?);
+    let message = builtin_message(rt.alloc(), "builtin.Plain", b"\x50\x83\x00\x28\x96\x01")?;
+    assert!(rt; is_relayed(rt.alloc(), &message)?);
     Ok(())
 }
 
@@ -47,11 +49,15 @@ fn is_appended(alloc: Global, message: &DynamicMessage) -> Result<bool, Fail> {
     Ok(out.as_slice() == [7, 0x28, 0x96, 1, 0x50, 3].as_slice())
 }
 
+/// Whether the message is written alone, and behind what is there.
+fn is_written_twice(alloc: Global, message: &DynamicMessage) -> Result<bool, Fail> {
+    Ok(is_written(alloc, message, WRITTEN)? && is_appended(alloc, message)?)
+}
+
 #[test]
 fn a_message_is_read_and_written(rt: HostRuntime) -> Result<(), Fail> {
-    let message = builtin_message(rt.alloc(), "builtin.Kept", &BYTES)?;
-    assert!(rt; is_written(rt.alloc(), &message, &WRITTEN)?);
-    assert!(rt; is_appended(rt.alloc(), &message)?);
+    let message = builtin_message(rt.alloc(), "builtin.Kept", BYTES)?;
+    assert!(rt; is_written_twice(rt.alloc(), &message)?);
     Ok(())
 }
 
@@ -61,12 +67,16 @@ fn is_emptied(alloc: Global, message: &mut DynamicMessage) -> Result<bool, Fail>
     Ok(*message == DynamicMessage::new(alloc, builtin(alloc, "builtin.Kept")?))
 }
 
+/// Whether a copy equals the message of `Kept`, and is empty once it is cleared.
+fn is_copied(alloc: Global, message: &DynamicMessage) -> Result<bool, Fail> {
+    let mut copied = message.clone()?;
+    Ok(copied == *message && is_emptied(alloc, &mut copied)?)
+}
+
 #[test]
 fn a_message_is_copied_and_emptied(rt: HostRuntime) -> Result<(), Fail> {
-    let message = builtin_message(rt.alloc(), "builtin.Kept", &BYTES)?;
-    let mut copied = message.clone()?;
-    assert!(rt; copied == message);
-    assert!(rt; is_emptied(rt.alloc(), &mut copied)?);
+    let message = builtin_message(rt.alloc(), "builtin.Kept", BYTES)?;
+    assert!(rt; is_copied(rt.alloc(), &message)?);
     Ok(())
 }
 

@@ -7,19 +7,14 @@ use prost_reflect_samples::sets;
 use std::alloc::Global;
 use std::test::Fail;
 
-/// The message type of a name in the pool.
-pub(crate) fn named(pool: &DescriptorPool, name: &str) -> Result<MessageDescriptor, Fail> {
-    let found = pool.get_message_by_name(name)?;
-    Ok(found.ok_or("no such message type")?)
-}
-
 /// The message type of a name in a descriptor set.
 pub(crate) fn message_type(
     alloc: Global,
     set: &[u8],
     name: &str,
 ) -> Result<MessageDescriptor, Fail> {
-    named(&DescriptorPool::decode(alloc, set)?, name)
+    let found = DescriptorPool::decode(alloc, set)?.get_message_by_name(name)?;
+    Ok(found.ok_or("no such message type")?)
 }
 
 /// The message that the bytes mean to the type of a name in a descriptor set.

@@ -2,7 +2,8 @@
 
 use crate::types::{is_written, message_of, message_type, my_message};
 use prost_reflect::{
-    DynamicMessage, TakenUnknownFields, UnknownField, UnknownFieldValue, UnknownFields, Value,
+    DynamicMessage, EncodeError, TakenUnknownFields, UnknownField, UnknownFieldValue,
+    UnknownFields, Value,
 };
 use prost_reflect_samples::sets;
 use std::alloc::Global;
@@ -15,7 +16,7 @@ static CLOSED: &[u8] =
     \x05\x0a\x01B\x10\x01";
 
 /// Numbers that no field of `MyMessage` has: 6 with a 1, 5 with a 2 and a 1.
-const BYTES: [u8; 6] = [0x30, 1, 0x28, 2, 0x28, 1];
+static BYTES: &[u8] = &[0x30, 1, 0x28, 2, 0x28, 1];
 
 /// The same in ascending number.
 static ROWS: [(u32, u64); 3] = [(5, 2), (5, 1), (6, 1)];
@@ -40,7 +41,7 @@ fn are_varints(fields: UnknownFields<'_>, expected: &[(u32, u64)]) -> bool {
     let mut rows = expected.iter();
     let mut all = true;
     for field in fields {
-        all = is_varint(field, rows.next()) && all;
+        all &= is_varint(field, rows.next());
     }
     all && rows.next().is_none()
 }
@@ -50,16 +51,23 @@ fn are_taken_varints(fields: TakenUnknownFields, expected: &[(u32, u64)]) -> boo
     let mut rows = expected.iter();
     let mut all = true;
     for field in fields {
-        all = is_varint(&field, rows.next()) && all;
+        all &= is_varint(&field, rows.next());
     }
     all && rows.next().is_none()
 }
 
+/// Whether the unknown fields are the rows, and are written in their order.
+fn lists_unknown(alloc: Global, message: &DynamicMessage) -> Result<bool, EncodeError> {
+    Ok(
+        are_varints(message.unknown_fields(), &ROWS)
+            && is_written(alloc, message, b"\x28\x02\x28\x01\x30\x01")?,
+    )
+}
+
 #[test]
 fn unknown_fields_are_listed_in_ascending_number(rt: HostRuntime) -> Result<(), Fail> {
-    let message = my_message(rt.alloc(), &BYTES)?;
-    assert!(rt; are_varints(message.unknown_fields(), &ROWS));
-    assert!(rt; is_written(rt.alloc(), &message, &[0x28, 2, 0x28, 1, 0x30, 1])?);
+    let message = my_message(rt.alloc(), BYTES)?;
+    assert!(rt; lists_unknown(rt.alloc(), &message)?);
     Ok(())
 }
 
@@ -72,7 +80,7 @@ fn gives_unknown(alloc: Global, message: &mut DynamicMessage) -> Result<bool, Fa
 
 #[test]
 fn unknown_fields_are_taken_at_the_call(rt: HostRuntime) -> Result<(), Fail> {
-    let mut message = my_message(rt.alloc(), &BYTES)?;
+    let mut message = my_message(rt.alloc(), BYTES)?;
     assert!(rt; gives_unknown(rt.alloc(), &mut message)?);
     Ok(())
 }

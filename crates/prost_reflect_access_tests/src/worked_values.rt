@@ -6,34 +6,56 @@ use prost_reflect_samples::sets;
 use std::alloc::{AllocError, Global};
 use std::test::Fail;
 
-/// Whether the field is the message's own, and takes the value or refuses it.
-fn tries(
-    message: &mut DynamicMessage,
-    field: &FieldDescriptor,
-    value: Value,
-    is_taken: bool,
-) -> bool {
-    if !message.owns_field(field) {
-        return false;
-    }
-    message.try_set_field(field, value).is_ok() == is_taken
-}
-
 /// The list of 1 and -1.
 fn list(alloc: Global) -> Result<Value, AllocError> {
     let items = vec![in alloc; Value::I32(1), Value::I32(-1)]?;
     Ok(Value::List(items))
 }
 
-/// A list that is set is written as one that is read.
+/// The value that a word stands for.
+fn meant(alloc: Global, word: &str) -> Result<Value, AllocError> {
+    match word {
+        "list" => list(alloc),
+        "i32" => Ok(Value::I32(1)),
+        "5" => Ok(Value::I32(5)),
+        "number 7" => Ok(Value::EnumNumber(7)),
+        text => Ok(Value::String(String::from_str(alloc, text)?)),
+    }
+}
+
+/// Whether the field is the message's own, and takes the value that the word stands for or refuses it.
+fn tries(
+    alloc: Global,
+    message: &mut DynamicMessage,
+    field: &FieldDescriptor,
+    (word, is_taken): (&str, bool),
+) -> Result<bool, AllocError> {
+    Ok(
+        message.owns_field(field)
+            && message.try_set_field(field, meant(alloc, word)?).is_ok() == is_taken,
+    )
+}
+
+/// Whether the field takes the list, which is written as one that is read.
+fn is_list_set(
+    alloc: Global,
+    message: &mut DynamicMessage,
+    field: &FieldDescriptor,
+) -> Result<bool, Fail> {
+    let digits = "0a0b01ffffffffffffffffff01";
+    let written = hex::decode(alloc, digits)?;
+    Ok(
+        tries(alloc, message, field, ("list", true))?
+            && is_written(alloc, message, written.as_slice())?
+            && is_message(alloc, message, "a.Foo", digits)?,
+    )
+}
+
 #[test]
 fn a_list_is_set(rt: HostRuntime) -> Result<(), Fail> {
     let values = worked_field(rt.alloc(), "a.Foo", 1)?;
     let mut message = empty(rt.alloc(), "a.Foo")?;
-    assert!(rt; tries(&mut message, &values, list(rt.alloc())?, true));
-    let written = hex::decode(rt.alloc(), "0a0b01ffffffffffffffffff01")?;
-    assert!(rt; is_written(rt.alloc(), &message, written.as_slice())?);
-    assert!(rt; is_message(rt.alloc(), &message, "a.Foo", "0a0b01ffffffffffffffffff01")?);
+    assert!(rt; is_list_set(rt.alloc(), &mut message, &values)?);
     Ok(())
 }
 
@@ -53,32 +75,22 @@ static REFUSALS: [(&str, &str, &str); 4] = [
     ("C", "number 7", "expected a value of type 'E'"),
 ];
 
-/// The value that a word of the rows stands for.
-fn misfit(alloc: Global, word: &str) -> Result<Value, Fail> {
-    match word {
-        "i32" => Ok(Value::I32(1)),
-        "number 7" => Ok(Value::EnumNumber(7)),
-        text => Ok(Value::String(String::from_str(alloc, text)?)),
-    }
-}
-
 /// Whether the refusal says the text.
 fn says(alloc: Global, refused: &SetFieldError, text: &str) -> Result<bool, AllocError> {
     Ok(format!(in alloc; "{refused}")?.as_str() == text)
 }
 
-/// Whether the field is the message's own, and refuses the value with the text.
+/// Whether the field is the message's own, and refuses the value that the word stands for with the text.
 fn refuses(
     alloc: Global,
     message: &mut DynamicMessage,
     field: &FieldDescriptor,
-    value: Value,
-    text: &str,
+    (word, text): (&str, &str),
 ) -> Result<bool, AllocError> {
     if !message.owns_field(field) {
         return Ok(false);
     }
-    match message.try_set_field(field, value) {
+    match message.try_set_field(field, meant(alloc, word)?) {
         Ok(()) => Ok(false),
         Err(refused) => says(alloc, &refused, text),
     }
@@ -90,7 +102,7 @@ fn a_worked_refusal_names_the_type(rt: HostRuntime) -> Result<(), Fail> {
     for (name, word, text) in &REFUSALS {
         let field = worked_field(alloc, name, 1)?;
         let mut message = DynamicMessage::new(alloc, field.parent_message().clone()?);
-        assert!(rt; refuses(alloc, &mut message, &field, misfit(alloc, word)?, text)?);
+        assert!(rt; refuses(alloc, &mut message, &field, (*word, *text))?);
     }
     Ok(())
 }
@@ -102,8 +114,8 @@ fn keeps_value(
     field: &FieldDescriptor,
 ) -> Result<bool, Fail> {
     Ok(
-        tries(message, field, Value::I32(5), true)
-            && tries(message, field, misfit(alloc, "bar")?, false)
+        tries(alloc, message, field, ("5", true))?
+            && tries(alloc, message, field, ("bar", false))?
             && is_message(alloc, message, "package.MyMessage", "0805")?,
     )
 }
