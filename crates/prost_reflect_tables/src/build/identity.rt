@@ -51,7 +51,8 @@ pub fn lent_identity<R>(
 fn bracketed(alloc: Global, full_name: &str) -> Result<String, AllocError>
     ensures { IfOk result (λ s. string_bytes s ≡ bracketed full_name.now) }
 {
-    let mut name = String::from_str(alloc, "[")?;
+    let mut name = String::with_capacity(alloc, full_name.len() + 2)?;
+    name.push_str("[")?;
     name.push_str(full_name)?;
     name.push_str("]")?;
     Ok(name)

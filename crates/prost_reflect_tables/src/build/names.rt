@@ -23,7 +23,8 @@ pub fn text_or_empty(text: &Option<String>) -> &str
 pub fn joined(alloc: Global, scope: &str, name: &str) -> Result<String, AllocError>
     ensures { IfOk result (λ s. string_bytes s ≡ joined scope.now name.now) }
 {
-    let mut full_name = String::from_str(alloc, scope)?;
+    let mut full_name = String::with_capacity(alloc, scope.len() + name.len() + 1)?;
+    full_name.push_str(scope)?;
     if !scope.is_empty() {
         full_name.push_str(".")?;
     }
