@@ -14,28 +14,52 @@ pub trait Listed {
     fn listed(&self) -> &str;
 }
 
-/// Lists have a definition by the name that this call answers.
-macro_rules! listed {
-    ($($definition:ident by $name:ident,)*) => {
-        $(
-            impl Listed for $definition {
-                fn listed(&self) -> &str {
-                    self.$name()
-                }
-            }
-        )*
-    };
+impl Listed for FileDescriptor {
+    fn listed(&self) -> &str {
+        self.name()
+    }
 }
 
-listed! {
-    FileDescriptor by name,
-    MessageDescriptor by full_name,
-    FieldDescriptor by name,
-    OneofDescriptor by name,
-    ExtensionDescriptor by full_name,
-    EnumDescriptor by full_name,
-    ServiceDescriptor by full_name,
-    MethodDescriptor by name,
+impl Listed for MessageDescriptor {
+    fn listed(&self) -> &str {
+        self.full_name()
+    }
+}
+
+impl Listed for FieldDescriptor {
+    fn listed(&self) -> &str {
+        self.name()
+    }
+}
+
+impl Listed for OneofDescriptor {
+    fn listed(&self) -> &str {
+        self.name()
+    }
+}
+
+impl Listed for ExtensionDescriptor {
+    fn listed(&self) -> &str {
+        self.full_name()
+    }
+}
+
+impl Listed for EnumDescriptor {
+    fn listed(&self) -> &str {
+        self.full_name()
+    }
+}
+
+impl Listed for ServiceDescriptor {
+    fn listed(&self) -> &str {
+        self.full_name()
+    }
+}
+
+impl Listed for MethodDescriptor {
+    fn listed(&self) -> &str {
+        self.name()
+    }
 }
 
 /// The names of definitions.
