@@ -1,4 +1,3 @@
-use Rattle.std.proofs.Common.{rules}
 use Rattle.std.proofs.lemmas.Result.{err_from_is_err_and}
 use Rattle.prost_reflect_wire.proofs.ByteLists.{bytes_below}
 use Rattle.prost_reflect_dynamic.specs.Named.{schema_named, type_named}
