@@ -1,9 +1,9 @@
 //! Calls with ample memory, whose contracts leave want of memory open. The files are written as descriptor records.
 
 use prost_reflect_tables::{
-    Catalog, EnumTable, ExtensionTable, FieldTable, FileTable, Flat, FlatMessage, Identity,
-    MessageLists, MessageTable, PoolError, SortedPlaces, TableKind, Tables, WrittenDefault,
-    all_resolved, build_tables, check_files, flattened, linked, written_default,
+    Catalog, EnumTable, FieldTable, Flat, FlatMessage, Identity, MessageTable, PoolError,
+    TableKind, Tables, WrittenDefault, all_resolved, build_tables, check_files, flattened, linked,
+    written_default,
 };
 use prost_reflect_types::FileDescriptorProto;
 use std::alloc::{AllocError, Global};
@@ -508,53 +508,36 @@ fn both_files(alloc: Global) -> Result<Catalog, Fail> {
     Ok(catalog)
 }
 
-/// Whether the first file holds one message, an extension and a service, and imports the second.
-fn is_top(file: &FileTable) -> bool {
-    file.messages.as_slice() == [0].as_slice()
-        && file.enums.is_empty()
-        && file.extensions.as_slice() == [1].as_slice()
-        && file.services.as_slice() == [0].as_slice()
-        && file.dependencies.as_slice() == [1].as_slice()
-        && file.public_dependencies.as_slice() == [1].as_slice()
-}
-
 #[test]
 fn catalog_lists_what_files_hold(rt: HostRuntime) -> Result<(), Fail> {
     let catalog = both_files(rt.alloc())?;
     let top = catalog.files.get(0).ok_or("no file")?;
-    assert!(rt; is_top(top));
+    assert_eq!(rt; top.messages.as_slice(), [0].as_slice());
+    assert!(rt; top.enums.is_empty());
+    assert_eq!(rt; top.extensions.as_slice(), [1].as_slice());
+    assert_eq!(rt; top.services.as_slice(), [0].as_slice());
+    assert_eq!(rt; top.dependencies.as_slice(), [1].as_slice());
+    assert_eq!(rt; top.public_dependencies.as_slice(), [1].as_slice());
     let base = catalog.files.get(1).ok_or("no second file")?;
     assert_eq!(rt; base.messages.as_slice(), [2].as_slice());
     Ok(())
-}
-
-/// Whether the first message holds one message, one enum, one extension and two fields, and nothing extends it.
-fn is_outer(lists: &MessageLists) -> bool {
-    lists.messages.as_slice() == [1].as_slice()
-        && lists.enums.as_slice() == [0].as_slice()
-        && lists.extensions.as_slice() == [0].as_slice()
-        && lists.extending.is_empty()
-        && lists.fields.as_slice() == [0, 1].as_slice()
-        && lists.by_name.as_slice() == [1, 0].as_slice()
-        && lists.by_json_name.as_slice() == [1, 0].as_slice()
 }
 
 #[test]
 fn catalog_lists_what_messages_hold(rt: HostRuntime) -> Result<(), Fail> {
     let catalog = both_files(rt.alloc())?;
     let outer = catalog.messages.get(0).ok_or("no message")?;
-    assert!(rt; is_outer(outer));
+    assert_eq!(rt; outer.messages.as_slice(), [1].as_slice());
+    assert_eq!(rt; outer.enums.as_slice(), [0].as_slice());
+    assert_eq!(rt; outer.extensions.as_slice(), [0].as_slice());
+    assert!(rt; outer.extending.is_empty());
+    assert_eq!(rt; outer.fields.as_slice(), [0, 1].as_slice());
+    assert_eq!(rt; outer.by_name.as_slice(), [1, 0].as_slice());
+    assert_eq!(rt; outer.by_json_name.as_slice(), [1, 0].as_slice());
     let base = catalog.messages.get(2).ok_or("no third message")?;
     assert_eq!(rt; base.extending.as_slice(), [0, 1].as_slice());
     assert!(rt; base.by_name.is_empty());
     Ok(())
-}
-
-/// Whether the sorted places of both files' definitions are in the order of their full names.
-fn is_in_order(places: &SortedPlaces) -> bool {
-    places.files.as_slice() == [1, 0].as_slice()
-        && places.messages.as_slice() == [2, 0, 1].as_slice()
-        && places.extensions.as_slice() == [0, 1].as_slice()
 }
 
 #[test]
@@ -563,23 +546,19 @@ fn catalog_orders_by_names_and_numbers(rt: HostRuntime) -> Result<(), Fail> {
     let mood = catalog.enums.get(0).ok_or("no enum")?;
     assert_eq!(rt; mood.by_name.as_slice(), [2, 1, 0].as_slice());
     assert_eq!(rt; mood.by_number.as_slice(), [1, 0, 2].as_slice());
-    assert!(rt; is_in_order(&catalog.by_name));
+    assert_eq!(rt; catalog.by_name.files.as_slice(), [1, 0].as_slice());
+    assert_eq!(rt; catalog.by_name.messages.as_slice(), [2, 0, 1].as_slice());
+    assert_eq!(rt; catalog.by_name.extensions.as_slice(), [0, 1].as_slice());
     Ok(())
-}
-
-/// Whether there is an extension, at this place among the fields of this message.
-fn stands_at(extension: Option<&ExtensionTable>, message: usize, field: usize) -> bool {
-    match extension {
-        Some(extension) => extension.message == message && extension.field == field,
-        None => false,
-    }
 }
 
 #[test]
 fn catalog_says_what_is_extended_and_called(rt: HostRuntime) -> Result<(), Fail> {
     let catalog = both_files(rt.alloc())?;
-    assert!(rt; stands_at(catalog.extensions.get(0), 2, 1));
-    assert!(rt; stands_at(catalog.extensions.get(1), 2, 0));
+    let inner_note = catalog.extensions.get(0).ok_or("no extension")?;
+    assert_eq!(rt; (inner_note.message, inner_note.field), (2, 1));
+    let note = catalog.extensions.get(1).ok_or("no second extension")?;
+    assert_eq!(rt; (note.message, note.field), (2, 0));
     let post = catalog.services.get(0).ok_or("no service")?;
     assert_eq!(rt; post.id.full_name.as_str(), "t.Post");
     let send = post.methods.get(0).ok_or("no method")?;
