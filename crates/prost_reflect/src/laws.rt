@@ -3,7 +3,7 @@
 ghost use Rattle.prost_reflect_dynamic.specs.ContentLaws.{ValueViews, MessageSlots, MessageOrder, SlotsAfterSet, SlotsAfterClear, SlotsAfterUnknown, SlotsDetermine, MapInsert};
 ghost use Rattle.prost_reflect.specs.LawInstances.{OfContentLaws, OfKeptLaws, OfDepth};
 ghost use Rattle.prost_reflect_dynamic.specs.KeptLaws.{MessageArranged, KeptAfterSet, KeptAfterClear, KeptAfterUnknown, KeptAfterClearAll, KeptAfterWriting};
-ghost use Rattle.prost_reflect_dynamic.specs.Access.{HadContent, NumberFound, NumberMissing, ShownContent};
+ghost use Rattle.prost_reflect_dynamic.specs.Access.{HadContent, NameFound, NameMissing, NumberFound, NumberMissing, ShownContent, TakesFound};
 ghost use Rattle.std.specs.Prelude.{◌≡◌, true, Some};
 ghost use Rattle.prost_reflect_wire.specs.Content.{ScalarValue};
 ghost use Rattle.prost_reflect_wire.specs.Scalar.{scalar_cmp, scalar_eq};
@@ -49,6 +49,17 @@ pub fn slots_after_unknown()
 pub fn number_found()
     ensures found { NumberFound }
     ensures missing { NumberMissing }
+{}
+
+/// A call by name is the call by the field that the look-up of the name finds, if it finds one.
+pub fn name_found()
+    ensures found { NameFound }
+    ensures missing { NameMissing }
+{}
+
+/// A field of the message's own type takes what the field of its number takes.
+pub fn takes_found()
+    ensures { TakesFound }
 {}
 
 /// A message has at a number, as it is stored, what its content has there.

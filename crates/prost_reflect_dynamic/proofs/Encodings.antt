@@ -27,13 +27,13 @@ use Rattle.prost_reflect_fields.specs.Known.{known_of, are_records_of, all_kept}
 use Rattle.prost_reflect_fields.specs.FieldSlots.{value_in, unknown_in, records_in, records_at}
 use Rattle.prost_reflect_fields.specs.Sound.{IsSound, UnknownKept, unknown_kept}
 use Rattle.prost_reflect_dynamic.specs.View.{value_of, content_of, message_type_of, stored_in, slot_of, entries_from, payloads_of}
-use Rattle.prost_reflect_dynamic.specs.Encoding.{entry_slot, unknown_bytes, entries_bytes, ValueWritable, OwnUnknown, IsWritable, AreWritable}
+use Rattle.prost_reflect_dynamic.specs.Encoding.{unknown_bytes, entries_bytes, ValueWritable, OwnUnknown, IsWritable, AreWritable}
 use Rattle.prost_reflect_fields.proofs.ItemChanges.{by_number, none_above, itself}
 use Rattle.prost_reflect_dynamic.proofs.Views.{shown, shown_entry, content_of_message}
 
 -- BYTES
 
-slot_shown : (e : FieldSlot Value) → slot_of (λ v. v) (shown_entry e) ≡ entry_slot e
+slot_shown : (e : FieldSlot Value) → slot_of (λ v. v) (shown_entry e) ≡ slot_of value_of e
 slot_shown (entries.Value v) = refl
 slot_shown (entries.Unknown u) = refl
 slot_shown (entries.Both v u) = refl
@@ -123,11 +123,11 @@ writable_message m h s sound =
 
 -- ONE ENTRY
 
-pub unknown_written : (n : ℕ) (e : FieldSlot Value) (u : UnknownFieldSet) → unknown_in e ≡ Some u → OwnUnknown n e → unknown_bytes n (entry_slot e) ≡ spelled (records_of u)
+pub unknown_written : (n : ℕ) (e : FieldSlot Value) (u : UnknownFieldSet) → unknown_in e ≡ Some u → OwnUnknown n e → unknown_bytes n (slot_of value_of e) ≡ spelled (records_of u)
 unknown_written n e u is own =
     ap (λ o. spelled (map (record_at n) (payloads_of (unwrap_or (option_map records_of o) [])))) is ∙ ap spelled (own_all n (records_of u) (own (records_of u) (ap (option_map records_of) is)))
 
-pub unknown_nothing : (n : ℕ) (e : FieldSlot Value) → unknown_in e ≡ None → unknown_bytes n (entry_slot e) ≡ []
+pub unknown_nothing : (n : ℕ) (e : FieldSlot Value) → unknown_in e ≡ None → unknown_bytes n (slot_of value_of e) ≡ []
 unknown_nothing n e is = ap (λ o. spelled (map (record_at n) (payloads_of (unwrap_or (option_map records_of o) [])))) is
 
 -- ENTRIES FROM THE BACK
@@ -148,22 +148,22 @@ module _ (m : DynamicMessage) (left done : List (ℕ × FieldSlot Value)) (e : �
   rest = entries_bytes (known_of (message_type_of m)) done
 
   abbrev stored : List ℕ
-  stored = stored_bytes (known_of (message_type_of m)) e.0 (entry_slot e.1).value
+  stored = stored_bytes (known_of (message_type_of m)) e.0 (slot_of value_of e.1).value
 
   -- one entry more
-  entry_first : stored ++ (unknown_bytes e.0 (entry_slot e.1) ++ rest) ≡ entries_bytes (known_of (message_type_of m)) (e ∷ done)
-  entry_first = sym (append_assoc stored (unknown_bytes e.0 (entry_slot e.1)) rest)
+  entry_first : stored ++ (unknown_bytes e.0 (slot_of value_of e.1) ++ rest) ≡ entries_bytes (known_of (message_type_of m)) (e ∷ done)
+  entry_first = sym (append_assoc stored (unknown_bytes e.0 (slot_of value_of e.1)) rest)
 
   module _ {A : Type 0} (added : A → A → List ℕ → Type 0) where
     -- its value in front of its unknown records
-    pub value_adds : (start old mid new : A) (v : Value) → value_in e.1 ≡ Some v → Adds added start old rest → Adds added old mid (unknown_bytes e.0 (entry_slot e.1)) → Adds added mid new (value_bytes (known_of (message_type_of m)) e.0 (value_of v)) →
+    pub value_adds : (start old mid new : A) (v : Value) → value_in e.1 ≡ Some v → Adds added start old rest → Adds added old mid (unknown_bytes e.0 (slot_of value_of e.1)) → Adds added mid new (value_bytes (known_of (message_type_of m)) e.0 (value_of v)) →
         Adds added start new (entries_bytes (known_of (message_type_of m)) (e ∷ done))
     value_adds start old mid new v is a b c =
         let here : value_bytes (known_of (message_type_of m)) e.0 (value_of v) ≡ stored = ap (λ o. stored_bytes (known_of (message_type_of m)) e.0 (option_map value_of o)) (sym is) in
-        adds_same added start new _ _ (ap (λ l. l ++ (unknown_bytes e.0 (entry_slot e.1) ++ rest)) here ∙ entry_first) (adds_in_turn added start mid new _ _ (adds_in_turn added start old mid _ _ a b) c)
+        adds_same added start new _ _ (ap (λ l. l ++ (unknown_bytes e.0 (slot_of value_of e.1) ++ rest)) here ∙ entry_first) (adds_in_turn added start mid new _ _ (adds_in_turn added start old mid _ _ a b) c)
 
     -- no value
-    pub unknown_adds : (start old new : A) → value_in e.1 ≡ None → Adds added start old rest → Adds added old new (unknown_bytes e.0 (entry_slot e.1)) → Adds added start new (entries_bytes (known_of (message_type_of m)) (e ∷ done))
+    pub unknown_adds : (start old new : A) → value_in e.1 ≡ None → Adds added start old rest → Adds added old new (unknown_bytes e.0 (slot_of value_of e.1)) → Adds added start new (entries_bytes (known_of (message_type_of m)) (e ∷ done))
     unknown_adds start old new is a b =
         let none : [] ≡ stored = ap (λ o. stored_bytes (known_of (message_type_of m)) e.0 (option_map value_of o)) (sym is) in
-        adds_same added start new _ _ (ap (λ l. l ++ (unknown_bytes e.0 (entry_slot e.1) ++ rest)) none ∙ entry_first) (adds_in_turn added start old new _ _ a b)
+        adds_same added start new _ _ (ap (λ l. l ++ (unknown_bytes e.0 (slot_of value_of e.1) ++ rest)) none ∙ entry_first) (adds_in_turn added start old new _ _ a b)

@@ -3,7 +3,8 @@ use Rattle.std.proofs.Common.{◌≡◌, ℕ, Bool, true, false, cond, List, Opt
 use Rattle.std.specs.Option.{option_map, option_and_then, is_some}
 use Rattle.std.specs.Prelude.{slice_get}
 use Rattle.std.specs.Str.{bytes_eq}
-use Rattle.prost_reflect_wire.specs.Schema.{field_of}
+use Rattle.prost_reflect_wire.specs.Schema.{field_of, passes}
+use Rattle.prost_reflect_wire.specs.Typing.{value_valid}
 use Rattle.prost_reflect_tables.specs.Rows.{FieldRow}
 use Rattle.prost_reflect_tables.specs.Places.{fields_at, row_of, place_of}
 use Rattle.prost_reflect_tables.specs.Schema.{rows_of}
@@ -16,7 +17,7 @@ use Rattle.prost_reflect_pool.proofs.EqualTypes.{rows_same}
 use Rattle.prost_reflect_fields.specs.Known.{known_of, is_known}
 use Rattle.prost_reflect_tables.proofs.Fields.{row_at_number, row_at_place, row_of_number, no_row}
 use Rattle.prost_reflect_tables.proofs.Keeping.{fields_ascend}
-use Rattle.prost_reflect_dynamic.specs.Access.{IsOwnField, is_field_number, number_named, NumberFound, NumberMissing}
+use Rattle.prost_reflect_dynamic.specs.Access.{IsOwnField, is_field_number, number_named, NumberFound, NumberMissing, NameFound, NameMissing, TakesFound}
 use Rattle.prost_reflect_dynamic.specs.Named.{NamesEqual, NamesSame, SameMessage}
 use Rattle.prost_reflect_dynamic.specs.NamedFields as named
 use Rattle.prost_reflect_dynamic.specs.declared.descriptor.message.MessageDescriptor.{MessageDescriptor}
@@ -24,6 +25,7 @@ use Rattle.prost_reflect_dynamic.specs.NamedField.{row_at}
 use Rattle.prost_reflect_dynamic.specs.NamedFields.{is_declared, is_declared_at, declared_place}
 use Rattle.prost_reflect_dynamic.specs.declared.descriptor.field.FieldDescriptor.{FieldDescriptor}
 use Rattle.prost_reflect_dynamic.specs.Setting.{DescribesField}
+use Rattle.prost_reflect_dynamic.specs.View.{value_of}
 use Rattle.prost_reflect_dynamic.proofs.Described.{known_of_row, field_at_number}
 use Rattle.prost_reflect_dynamic.proofs.OwnRows.{fields_found}
 
@@ -135,6 +137,26 @@ number_found t field n own h = (
 
 pub number_missing : NumberMissing
 number_missing t d n own h = ap (λ fields. is_declared (row_of fields n)) (sym (own_fields d t own)) ∙ sym (found_declared (named.fields_of d) n) ∙ ap is_some h
+
+number_there : (t : PooledType) → Option ℕ → Option ℕ
+number_there t found = option_and_then (λ i. option_map (λ f. f.number) (slice_get (fields_of t) i)) found
+
+pub name_found : NameFound
+name_found t field name own h =
+    let at : named_field (fields_of t) name ≡ Some field.index = ap (λ fields. named_field fields name) (sym (own_fields field.message t own)) ∙ h in
+    ap (number_there t) at
+    ∙ got (slice_get (fields_of t) field.index) (fields_found (λ (f : FieldRow). bytes_eq f.id.name name) (fields_of t) (Some field.index) (sym at))
+    ∙ ap (λ o. Some (unwrap_or (option_map (λ f. f.number) o) 0)) (sym (own_row t field own))
+  where
+    got : (o : Option FieldRow) → is_declared o ≡ true → option_map (λ f. f.number) o ≡ Some (unwrap_or (option_map (λ f. f.number) o) 0)
+    got None d = absurd (true≢false (sym d))
+    got (Some f) d = refl
+
+pub name_missing : NameMissing
+name_missing t d name own h = ap (number_there t) (ap (λ fields. named_field fields name) (sym (own_fields d t own)) ∙ h)
+
+pub takes_found : TakesFound
+takes_found t field n v own h = ap (λ o. passes o (λ f. value_valid f (value_of v))) (sym (own_found t field n own h))
 
 -- The look-up in a descriptor of the message type itself.
 same_fields : (d : MessageDescriptor) (t : PooledType) → NamesSame d t → named.fields_of d ≡ fields_of t

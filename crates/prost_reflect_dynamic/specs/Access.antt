@@ -135,3 +135,14 @@ NumberFound = (t : PooledType) (field : FieldDescriptor) (n : ℕ) → IsOwnFiel
 
 abbrev pub NumberMissing : Type 0
 NumberMissing = (t : PooledType) (d : MessageDescriptor) (n : ℕ) → NamesEqual d t → declared_place (named.fields_of d) n ≡ None → is_field_number t n ≡ false
+
+-- The same of the look-up of a name.
+abbrev pub NameFound : Type 0
+NameFound = (t : PooledType) (field : FieldDescriptor) (name : List ℕ) → IsOwnField t field → named_field (named.fields_of field.message) name ≡ Some field.index → number_named t name ≡ Some (number_of field)
+
+abbrev pub NameMissing : Type 0
+NameMissing = (t : PooledType) (d : MessageDescriptor) (name : List ℕ) → NamesEqual d t → named_field (named.fields_of d) name ≡ None → number_named t name ≡ None
+
+-- An own field takes what the message type's field of its number takes.
+abbrev pub TakesFound : Type 0
+TakesFound = (t : PooledType) (field : FieldDescriptor) (n : ℕ) (v : Value) → IsOwnField t field → option_map (λ f. f.number) (row_at field) ≡ Some n → takes field v ≡ takes_at t n v

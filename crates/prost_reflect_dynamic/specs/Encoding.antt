@@ -16,13 +16,10 @@ use Rattle.prost_reflect_dynamic.specs.View.{value_of, slot_of}
 use Rattle.prost_reflect_fields.specs.declared.slot.FieldSlot.{FieldSlot}
 use Rattle.prost_reflect_dynamic.specs.declared.value.Value.{Value}
 
-abbrev pub entry_slot : FieldSlot Value → Slot
-entry_slot e = slot_of value_of e
-
 -- The bytes of entries, one number after another.
 abbrev pub entries_bytes : List Field → List (ℕ × FieldSlot Value) → List ℕ
 entries_bytes fields [] = []
-entries_bytes fields (e ∷ es) = slot_bytes fields e.0 (entry_slot e.1) ++ entries_bytes fields es
+entries_bytes fields (e ∷ es) = slot_bytes fields e.0 (slot_of value_of e.1) ++ entries_bytes fields es
 
 -- The value fits its field, and each message in it is encodable.
 pub record ValueWritable (fields : List Field) (n : ℕ) (v : contents.Value) : Type 0 where

@@ -5,7 +5,7 @@ use Rattle.prost_reflect_wire.specs.Schema.{Field, known, field_of, passes}
 use Rattle.prost_reflect_wire.specs.Content as content
 use Rattle.prost_reflect_wire.specs.Content.{Content, ContentOf, Slot, slot_at, numbers_in}
 use Rattle.prost_reflect_wire.specs.Typing.{kept_value, kept_inside}
-use Rattle.prost_reflect_dynamic.specs.Encoding.{entry_slot}
+use Rattle.prost_reflect_dynamic.specs.View.{value_of, slot_of}
 use Rattle.prost_reflect_fields.specs.declared.slot.FieldSlot.{FieldSlot}
 use Rattle.prost_reflect_dynamic.specs.declared.value.Value.{Value}
 use Rattle.prost_reflect_dynamic.specs.declared.message.present.PresentNumber.{PresentNumber}
@@ -42,4 +42,4 @@ abbrev pub kept_slot : List Field → ℕ → Slot → Slot
 kept_slot fields n slot = record { value = option_and_then (λ v. kept_value (field_of fields n) (kept_inside v)) slot.value; unknowns = slot.unknowns }
 
 abbrev pub entry_present : List Field → ℕ → FieldSlot Value → List PresentNumber
-entry_present fields n e = slot_present fields n (kept_slot fields n (entry_slot e))
+entry_present fields n e = slot_present fields n (kept_slot fields n (slot_of value_of e))

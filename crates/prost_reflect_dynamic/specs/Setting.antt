@@ -3,6 +3,7 @@ use Rattle.std.specs.Prelude.{◌≡◌, ⊤, ℕ, false, Option, None, Some}
 use Rattle.prost_reflect_pool.specs.MessageTypes.{fields_of}
 use Rattle.prost_reflect_pool.specs.declared.pooled_type.PooledType.{PooledType}
 use Rattle.prost_reflect_dynamic.specs.Access.{takes, takes_at}
+use Rattle.prost_reflect_dynamic.specs.Copies.{SameStored}
 use Rattle.prost_reflect_dynamic.specs.Named.{NamesSame}
 use Rattle.prost_reflect_dynamic.specs.NamedField.{SameField}
 use Rattle.prost_reflect_dynamic.specs.NamedFields.{declared_place}
@@ -27,3 +28,8 @@ RefusesFound t None v e = e ≡ NotFound
 RefusesFound t (Some n) v NotFound = ⊥
 RefusesFound t (Some n) v (InvalidType field w) = DescribesField t n field × (w ≡ v) × (takes_at t n v ≡ false)
 RefusesFound t (Some n) v OutOfMemory = ⊤
+
+-- A copy of a refusal: the same one, of the same field and of a value that stores the same.
+abbrev pub SameRefusal : SetFieldError → SetFieldError → Type 0
+SameRefusal (InvalidType field v) (InvalidType f w) = SameField field f × SameStored v w
+SameRefusal e d = d ≡ e

@@ -1,6 +1,7 @@
 -- Where a number stands among ascending numbers.
-use Rattle.std.proofs.Common.{◌≡◌, true, ℕ, zero, suc, ◌<◌, ◌≤◌, List, [], ◌∷◌, length, slice_index_or, slice_set, None, Some, arith, ap, sym, ◌∙◌, subst, refl, slice_get, nat_lt, false}
+use Rattle.std.proofs.Common.{◌≡◌, true, ℕ, zero, suc, ◌<◌, ◌≤◌, ◌-◌, ⊥, List, [], ◌∷◌, length, slice_index_or, slice_set, None, Some, arith, ap, sym, ◌∙◌, subst, refl, slice_get, nat_lt, false}
 use Rattle.std.proofs.lemmas.Map.Lookups.{exact_unsigned}
+use Rattle.std.proofs.lemmas.Option.{none-some, same_Some}
 use Rattle.std.specs.Cmp.{nat_cmp_total}
 use Rattle.std.specs.Ordering.{nat_cmp, ordering_index, ordering_reverse, is_le}
 use Rattle.std.specs.declared.cmp.Ordering.{Ordering}
@@ -61,6 +62,38 @@ missing n (e ∷ es) (suc i) within below above =
 pub place_is : {T : Type 0} (n : ℕ) (es : List (ℕ × T)) (r : Result ℕ ℕ) → IsAscending es → IsSearchInRange r (length es) → IsBinarySearchResult (λ y. nat_cmp y.0 n) es r → r ≡ seek (nat_cmp n) es
 place_is n es (Ok i) s within h = sym (found n es i s within h)
 place_is n es (Err i) s within h = let parts = h (non_decreasing n es s) in sym (missing n es i within parts.0 parts.1)
+
+later_got : {T : Type 0} (k : ℕ) (es : List (ℕ × T)) (i : ℕ) (e : ℕ × T) → AllByRecursion (λ y. nat_cmp k y ≡ Less) (keys_of es) → slice_get es i ≡ Some e → nat_cmp k e.0 ≡ Less
+later_got k [] i e all at = absurd (none-some e at)
+later_got k (x ∷ es) zero e all at = subst (λ z. nat_cmp k z.0 ≡ Less) (same_Some x e at) all.0
+later_got k (x ∷ es) (suc i) e all at = later_got k es i e all.1 at
+
+pub found_got : {T : Type 0} (n : ℕ) (es : List (ℕ × T)) (i : ℕ) (e : ℕ × T) → IsAscending es → slice_get es i ≡ Some e → nat_cmp n e.0 ≡ Equal → seek (nat_cmp n) es ≡ Ok i
+unfolding IsStrictlySortedBy
+found_got n [] i e s at same = absurd (none-some e at)
+found_got n (x ∷ es) zero e s at same = rw (subst (λ z. nat_cmp n z.0 ≡ Equal) (sym (same_Some x e at)) same) refl
+found_got n (x ∷ es) (suc i) e s at same =
+    let below : nat_cmp x.0 n ≡ Less = subst (λ z. nat_cmp x.0 z ≡ Less) (sym (exact_unsigned n e.0 same)) (later_got x.0 es i e s.0 at) in
+    rw (flipped x.0 n Less below, found_got n es i e s.1 at same) refl
+
+-- a number above the last one goes behind all
+pub missing_behind : {T : Type 0} (n : ℕ) (es : List (ℕ × T)) (i : ℕ) (e : ℕ × T) → IsAscending es → suc i ≡ length es → slice_get es i ≡ Some e → nat_cmp n e.0 ≡ Greater → seek (nat_cmp n) es ≡ Err (length es)
+unfolding IsStrictlySortedBy
+missing_behind n [] i e s len at above = absurd (none-some e at)
+missing_behind n (x ∷ []) zero e s len at above = rw (subst (λ z. nat_cmp n z.0 ≡ Greater) (sym (same_Some x e at)) above) refl
+missing_behind n (x ∷ y ∷ es) zero e s len at above = absurd (omega (arith, len))
+missing_behind n (x ∷ es) (suc i) e s len at above =
+    let below : nat_cmp x.0 n ≡ Less = nat_cmp_total.trans x.0 e.0 n (later_got x.0 es i e s.0 at) (flipped n e.0 Greater above) in
+    rw (flipped x.0 n Less below, missing_behind n es i e s.1 (omega (arith, len)) at above) refl
+
+pub none_got : {T : Type 0} (es : List (ℕ × T)) → slice_get es (length es - 1) ≡ None → es ≡ []
+none_got [] at = refl
+none_got (x ∷ es) at = absurd (beyond (x ∷ es) (length (x ∷ es) - 1) (omega arith) at)
+  where
+    beyond : {T : Type 0} (es : List (ℕ × T)) (i : ℕ) → i < length es → slice_get es i ≡ None → ⊥
+    beyond [] i within at = omega arith
+    beyond (x ∷ es) zero within at = none-some x (sym at)
+    beyond (x ∷ es) (suc i) within at = beyond es i (omega arith) at
 
 pub keys-set : {T : Type 0} (es : List (ℕ × T)) (i : ℕ) (x : ℕ × T) → x.0 ≡ (slice_index_or es i x).0 → keys_of (slice_set es i x) ≡ keys_of es
 keys-set [] i x h = refl

@@ -10,6 +10,7 @@ ghost use Rattle.prost_reflect_fields.specs.ItemLists.{list_row};
 ghost use Rattle.prost_reflect_fields.specs.contracts.items.ItemList.{the_row};
 
 use std::alloc::{AllocError, Global};
+use std::cmp::Ordering;
 use std::marker::Model;
 
 /// Items in one list. Their numbers ascend.
@@ -98,8 +99,24 @@ impl<T: Drop> ItemList<T> {
     }
 }
 
-/// Where the number stands among ascending ones, or where it would go.
+/// Where the number stands among ascending ones, or where it would go. The last item is looked at first, since the records of a
+/// message mostly come in ascending order, and those of a list one behind another.
 pub(crate) fn place_in<T>(items: &[(u32, T)], number: u32) -> Result<usize, usize>
+    requires { IsAscending items.now }
+    ensures { result ≡ seek (nat_cmp number) items.now }
+{
+    match items.last() {
+        Some(last) => match number.cmp(&last.0) {
+            Ordering::Equal => Ok(items.len() - 1),
+            Ordering::Greater => Err(items.len()),
+            Ordering::Less => search(items, number),
+        },
+        None => Err(0),
+    }
+}
+
+/// Where the number stands among ascending ones, or where it would go, by binary search.
+fn search<T>(items: &[(u32, T)], number: u32) -> Result<usize, usize>
     requires { IsAscending items.now }
     ensures { result ≡ seek (nat_cmp number) items.now }
 {

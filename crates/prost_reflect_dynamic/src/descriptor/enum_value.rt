@@ -108,7 +108,7 @@ impl EnumValueDescriptor {
         ensures { option_and_then (λ value. record_of (files_of self.now.parent.pool.inner) value.id) (value_row_named self.now) ≡ Some (ValueRecord result.now) }
     {
         let pool = &self.parent.parent_pool().inner;
-        pool.value_record(self.parent.place(), self.index)
+        pool.value_record(self.parent.index(), self.index)
     }
 
     /// The value's options: what its record stores, read by the pool's `google.protobuf.EnumValueOptions`.

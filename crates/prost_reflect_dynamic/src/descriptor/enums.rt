@@ -50,7 +50,7 @@ impl Placed<DescriptorPool> for EnumDescriptor {
 }
 
 impl EnumDescriptor {
-    ghost use Rattle.std.specs.Prelude.{All, true, Some, IfOk, IfSome, option_map, option_and_then, slice_get};
+    ghost use Rattle.std.specs.Prelude.{All, true, None, Some, IfOk, IfSome, IsOk, option_map, option_and_then, slice_get};
     ghost use Rattle.prost_reflect_wire.specs.Scalar.{in_i32};
     ghost use Rattle.prost_reflect_tables.specs.CatalogRows.{enum_lists_row};
     ghost use Rattle.prost_reflect_tables.specs.Names.{text_or_empty};
@@ -111,6 +111,7 @@ impl EnumDescriptor {
     pub fn parent_message(&self) -> Result<Option<MessageDescriptor>, AllocError>
         ensures parent { IfOk result (λ parent. option_map (λ e. e.id.parent) (enum_row_at self.now) ≡ Some (option_map (λ message. message.index) parent)) }
         ensures pool { IfOk result (λ parent. IfSome parent (λ message. message.pool.inner.value ≡ self.now.pool.inner.value)) }
+        ensures top { option_map (λ e. e.id.parent) (enum_row_at self.now) ≡ Some None → IsOk result }
     {
         message_at(&self.pool, self.table().id.parent)
     }
@@ -159,6 +160,7 @@ impl EnumDescriptor {
     pub fn get_value_by_name(&self, name: &str) -> Result<Option<EnumValueDescriptor>, AllocError>
         ensures found { IfOk result (λ found. option_map (λ value. value.index) found ≡ named_value (values_of self.now) name.now) }
         ensures parent { IfOk result (λ found. IfSome found (λ value. SameEnum self.now value.parent)) }
+        ensures missing { named_value (values_of self.now) name.now ≡ None → IsOk result }
     {
         self.value_at(self.pool.inner.value_place_by_name(self.index, name))
     }
@@ -171,6 +173,7 @@ impl EnumDescriptor {
     pub fn get_value(&self, number: i32) -> Result<Option<EnumValueDescriptor>, AllocError>
         ensures found { IfOk result (λ found. option_map (λ value. value.index) found ≡ numbered_value (values_of self.now) number) }
         ensures parent { IfOk result (λ found. IfSome found (λ value. SameEnum self.now value.parent)) }
+        ensures missing { numbered_value (values_of self.now) number ≡ None → IsOk result }
     {
         self.value_at(self.pool.inner.value_place_by_number(self.index, number))
     }
@@ -180,6 +183,7 @@ impl EnumDescriptor {
         requires { IfSome place (λ i. i < length (values_of self.now)) }
         ensures found { IfOk result (λ found. option_map (λ value. value.index) found ≡ place) }
         ensures parent { IfOk result (λ found. IfSome found (λ value. SameEnum self.now value.parent)) }
+        ensures missing { place ≡ None → IsOk result }
     {
         match place {
             Some(index) => Ok(Some(EnumValueDescriptor::at(self, index)?)),
@@ -242,7 +246,7 @@ impl EnumDescriptor {
     }
 
     /// The enum's place in its pool.
-    pub(crate) fn place(&self) -> usize
+    pub(crate) fn index(&self) -> usize
         ensures { result ≡ self.now.index }
     {
         self.index

@@ -1,6 +1,6 @@
 //! Extensions as places of a pool.
 
-ghost use Rattle.std.specs.Prelude.{◌≡◌, ◌<◌, IfOk, IfSome, length, option_map};
+ghost use Rattle.std.specs.Prelude.{◌≡◌, ◌<◌, IfOk, IfSome, IsOk, None, length, option_map};
 ghost use Rattle.prost_reflect_pool.specs.SharedPools.{pool_catalog};
 
 use crate::descriptor::forms::{is_list, is_map};
@@ -95,6 +95,7 @@ impl ExtensionDescriptor {
     pub fn parent_message(&self) -> Result<Option<MessageDescriptor>, AllocError>
         ensures parent { IfOk result (λ parent. option_map (λ field. field.id.parent) (extension_row_named self.now) ≡ Some (option_map (λ message. message.index) parent)) }
         ensures pool { IfOk result (λ parent. IfSome parent (λ message. message.pool.inner.value ≡ self.now.pool.inner.value)) }
+        ensures top { option_map (λ field. field.id.parent) (extension_row_named self.now) ≡ Some None → IsOk result }
     {
         message_at(&self.pool, self.table().id.parent)
     }
@@ -295,6 +296,7 @@ pub(crate) fn extension_at(
     requires { IfSome place (λ i. i < length (pool_catalog pool.now.inner).extensions) }
     ensures place { IfOk result (λ found. option_map (λ extension. extension.index) found ≡ place) }
     ensures pool { IfOk result (λ found. IfSome found (λ extension. extension.pool.inner.value ≡ pool.now.inner.value)) }
+    ensures missing { place ≡ None → IsOk result }
 {
     match place {
         Some(index) => Ok(Some(ExtensionDescriptor::at(pool, index)?)),

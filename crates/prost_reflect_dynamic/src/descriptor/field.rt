@@ -49,7 +49,7 @@ impl Placed<MessageDescriptor> for FieldDescriptor {
 }
 
 impl FieldDescriptor {
-    ghost use Rattle.std.specs.Prelude.{Some, true, IfOk, IfSome, option_and_then, option_map};
+    ghost use Rattle.std.specs.Prelude.{None, Some, true, IfOk, IfSome, IsOk, option_and_then, option_map};
     ghost use Rattle.prost_reflect_wire.specs.Schema.{is_list, is_map};
     ghost use Rattle.prost_reflect_tables.specs.Linking.{is_packable};
     ghost use Rattle.prost_reflect_tables.specs.Shown.{schema_field, is_required};
@@ -126,7 +126,7 @@ impl FieldDescriptor {
         ensures { option_and_then (λ field. record_of (files_of self.now.message.pool.inner) field.id) (row_at self.now) ≡ Some (FieldRecord result.now) }
     {
         let pool = &self.message.parent_pool().inner;
-        pool.field_record(self.message.place(), self.index)
+        pool.field_record(self.message.index(), self.index)
     }
 
     /// The field's options: what its record stores, read by the pool's `google.protobuf.FieldOptions`.
@@ -236,6 +236,7 @@ impl FieldDescriptor {
     pub fn containing_oneof(&self) -> Result<Option<OneofDescriptor>, AllocError>
         ensures oneof { IfOk result (λ oneof. option_map (λ field. field.oneof) (row_at self.now) ≡ Some (option_map (λ o. o.index) oneof)) }
         ensures message { IfOk result (λ oneof. IfSome oneof (λ o. SameMessage self.now.message o.message)) }
+        ensures alone { option_map (λ field. field.oneof) (row_at self.now) ≡ Some None → IsOk result }
     {
         match self.table().oneof {
             Some(index) => Ok(Some(OneofDescriptor::at(&self.message, index)?)),

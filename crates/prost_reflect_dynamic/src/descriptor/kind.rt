@@ -139,8 +139,8 @@ impl Kind {
             Kind::Bool => TableKind::Bool,
             Kind::String => TableKind::String,
             Kind::Bytes => TableKind::Bytes,
-            Kind::Message(message) => TableKind::Message(message.place()),
-            Kind::Enum(e) => TableKind::Enum(e.place()),
+            Kind::Message(message) => TableKind::Message(message.index()),
+            Kind::Enum(e) => TableKind::Enum(e.index()),
         }
     }
 

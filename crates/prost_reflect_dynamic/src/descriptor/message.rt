@@ -1,6 +1,6 @@
 //! Message types as places of a pool.
 
-ghost use Rattle.std.specs.Prelude.{◌≡◌, ◌<◌, IfOk, IfSome, length, option_map};
+ghost use Rattle.std.specs.Prelude.{◌≡◌, ◌<◌, IfOk, IfSome, IsOk, None, length, option_map};
 ghost use Rattle.prost_reflect_pool.specs.SharedPools.{pool_rows};
 
 use crate::descriptor::extension::extension_at;
@@ -126,6 +126,7 @@ impl MessageDescriptor {
     pub fn parent_message(&self) -> Result<Option<MessageDescriptor>, AllocError>
         ensures parent { IfOk result (λ parent. option_map (λ message. message.id.parent) (message_row_named self.now) ≡ Some (option_map (λ message. message.index) parent)) }
         ensures pool { IfOk result (λ parent. IfSome parent (λ message. message.pool.inner.value ≡ self.now.pool.inner.value)) }
+        ensures top { option_map (λ message. message.id.parent) (message_row_named self.now) ≡ Some None → IsOk result }
     {
         message_at(&self.pool, self.table().id.parent)
     }
@@ -306,7 +307,7 @@ impl MessageDescriptor {
     }
 
     /// The message type's place in its pool.
-    pub(crate) fn place(&self) -> usize
+    pub(crate) fn index(&self) -> usize
         ensures { result ≡ self.now.index }
     {
         self.index
@@ -341,6 +342,7 @@ impl MessageDescriptor {
     pub fn get_field(&self, number: u32) -> Result<Option<FieldDescriptor>, AllocError>
         ensures found { IfOk result (λ found. option_map (λ field. field.index) found ≡ declared_place (fields_of self.now) number) }
         ensures message { IfOk result (λ found. IfSome found (λ field. SameMessage self.now field.message)) }
+        ensures missing { declared_place (fields_of self.now) number ≡ None → IsOk result }
     {
         self.field_at(self.declared_place(number))
     }
@@ -353,6 +355,7 @@ impl MessageDescriptor {
     pub fn get_field_by_name(&self, name: &str) -> Result<Option<FieldDescriptor>, AllocError>
         ensures found { IfOk result (λ found. option_map (λ field. field.index) found ≡ named_field (fields_of self.now) name.now) }
         ensures message { IfOk result (λ found. IfSome found (λ field. SameMessage self.now field.message)) }
+        ensures missing { named_field (fields_of self.now) name.now ≡ None → IsOk result }
     {
         self.field_at(self.pool.inner.field_place_by_name(self.index, name))
     }
@@ -368,6 +371,7 @@ impl MessageDescriptor {
     ) -> Result<Option<FieldDescriptor>, AllocError>
         ensures found { IfOk result (λ found. option_map (λ field. field.index) found ≡ json_named_field (fields_of self.now) json_name.now) }
         ensures message { IfOk result (λ found. IfSome found (λ field. SameMessage self.now field.message)) }
+        ensures missing { json_named_field (fields_of self.now) json_name.now ≡ None → IsOk result }
     {
         self.field_at(
             self.pool
@@ -381,6 +385,7 @@ impl MessageDescriptor {
         requires { IfSome place (λ i. IsTrue (is_declared_at (fields_of self.now) i)) }
         ensures found { IfOk result (λ found. option_map (λ field. field.index) found ≡ place) }
         ensures message { IfOk result (λ found. IfSome found (λ field. SameMessage self.now field.message)) }
+        ensures missing { place ≡ None → IsOk result }
     {
         match place {
             Some(index) => Ok(Some(FieldDescriptor::at(self, index)?)),
@@ -396,6 +401,7 @@ impl MessageDescriptor {
     pub fn get_extension(&self, number: u32) -> Result<Option<ExtensionDescriptor>, AllocError>
         ensures found { IfOk result (λ found. option_map (λ extension. extension.index) found ≡ extension_where self.now.pool.inner.value self.now.index (λ f. f.number == number)) }
         ensures pool { IfOk result (λ found. IfSome found (λ extension. extension.pool.inner.value ≡ self.now.pool.inner.value)) }
+        ensures missing { extension_where self.now.pool.inner.value self.now.index (λ f. f.number == number) ≡ None → IsOk result }
     {
         let pool = &self.pool.inner;
         extension_at(
@@ -415,6 +421,7 @@ impl MessageDescriptor {
     ) -> Result<Option<ExtensionDescriptor>, AllocError>
         ensures found { IfOk result (λ found. option_map (λ extension. extension.index) found ≡ extension_where self.now.pool.inner.value self.now.index (λ f. bytes_eq f.id.full_name name.now)) }
         ensures pool { IfOk result (λ found. IfSome found (λ extension. extension.pool.inner.value ≡ self.now.pool.inner.value)) }
+        ensures missing { extension_where self.now.pool.inner.value self.now.index (λ f. bytes_eq f.id.full_name name.now) ≡ None → IsOk result }
     {
         let pool = &self.pool.inner;
         extension_at(
@@ -434,6 +441,7 @@ impl MessageDescriptor {
     ) -> Result<Option<ExtensionDescriptor>, AllocError>
         ensures found { IfOk result (λ found. option_map (λ extension. extension.index) found ≡ extension_where self.now.pool.inner.value self.now.index (λ f. bytes_eq f.json_name name.now)) }
         ensures pool { IfOk result (λ found. IfSome found (λ extension. extension.pool.inner.value ≡ self.now.pool.inner.value)) }
+        ensures missing { extension_where self.now.pool.inner.value self.now.index (λ f. bytes_eq f.json_name name.now) ≡ None → IsOk result }
     {
         let pool = &self.pool.inner;
         extension_at(
@@ -466,6 +474,7 @@ pub(crate) fn message_at(
     requires { IfSome place (λ i. i < length (pool_rows pool.now.inner).messages) }
     ensures place { IfOk result (λ found. option_map (λ message. message.index) found ≡ place) }
     ensures pool { IfOk result (λ found. IfSome found (λ message. message.pool.inner.value ≡ pool.now.inner.value)) }
+    ensures missing { place ≡ None → IsOk result }
 {
     match place {
         Some(index) => Ok(Some(MessageDescriptor::at(pool, index)?)),

@@ -114,7 +114,7 @@ impl OneofDescriptor {
         ensures { option_and_then (λ oneof. record_of (files_of self.now.message.pool.inner) oneof.id) (oneof_row_named self.now) ≡ Some (OneofRecord result.now) }
     {
         let pool = &self.message.parent_pool().inner;
-        pool.oneof_record(self.message.place(), self.index)
+        pool.oneof_record(self.message.index(), self.index)
     }
 
     /// The oneof's options: what its record stores, read by the pool's `google.protobuf.OneofOptions`.
@@ -152,7 +152,7 @@ impl OneofDescriptor {
         let pool = &self.message.parent_pool().inner;
         match self.table().fields.as_slice() {
             [field] => pool
-                .field_record(self.message.place(), *field)
+                .field_record(self.message.index(), *field)
                 .proto3_optional
                 .unwrap_or(false),
             _ => false,
@@ -165,6 +165,6 @@ impl OneofDescriptor {
         ensures members { IsTrue (list_all (is_declared_at (fields_of self.now.message)) result.now.fields.items) }
     {
         let pool = &self.message.parent_pool().inner;
-        pool.oneof_table(self.message.place(), self.index)
+        pool.oneof_table(self.message.index(), self.index)
     }
 }

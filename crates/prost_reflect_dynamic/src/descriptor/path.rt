@@ -37,7 +37,7 @@ impl MessageDescriptor {
         ensures row { IfOk result (λ found. option_and_then row_at found ≡ row_led (rows_of_pool self.now.pool.inner) self.now.index path.now) }
         ensures pool { IfOk result (λ found. IfSome found (λ field. field.message.pool.inner.value ≡ self.now.pool.inner.value)) }
     {
-        match field_place(&self.parent_pool().inner, self.place(), path) {
+        match field_place(&self.parent_pool().inner, self.index(), path) {
             Some((message, index)) => {
                 let message = MessageDescriptor::at(self.parent_pool(), message)?;
                 Ok(Some(FieldDescriptor::new(message, index)))

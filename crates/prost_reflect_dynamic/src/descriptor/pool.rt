@@ -28,7 +28,7 @@ impl Clone for DescriptorPool {
 }
 
 impl DescriptorPool {
-    ghost use Rattle.std.specs.Prelude.{◌≡◌, IfOk, IfSome, length, option_map};
+    ghost use Rattle.std.specs.Prelude.{◌≡◌, IfOk, IfSome, IsOk, None, length, option_map};
     ghost use Rattle.prost_reflect_tables.specs.Places.{message_place};
     ghost use Rattle.prost_reflect_pool.specs.SharedPools.{files_of, pool_rows, pool_catalog};
     ghost use Rattle.prost_reflect_pool.specs.Lookups.{file_place, enum_place, extension_place, service_place};
@@ -82,6 +82,7 @@ impl DescriptorPool {
     pub fn get_file_by_name(&self, name: &str) -> Result<Option<FileDescriptor>, AllocError>
         ensures found { IfOk result (λ found. option_map (λ file. file.index) found ≡ file_place (files_of self.now.inner) name.now) }
         ensures pool { IfOk result (λ found. IfSome found (λ file. file.pool.inner.value ≡ self.now.inner.value)) }
+        ensures missing { file_place (files_of self.now.inner) name.now ≡ None → IsOk result }
     {
         match self.inner.file_place(name) {
             Some(index) => Ok(Some(FileDescriptor::new(self.clone()?, index))),
@@ -97,6 +98,7 @@ impl DescriptorPool {
     pub fn get_message_by_name(&self, name: &str) -> Result<Option<MessageDescriptor>, AllocError>
         ensures found { IfOk result (λ found. option_map (λ message. message.index) found ≡ message_place (pool_rows self.now.inner) name.now) }
         ensures pool { IfOk result (λ found. IfSome found (λ message. message.pool.inner.value ≡ self.now.inner.value)) }
+        ensures missing { message_place (pool_rows self.now.inner) name.now ≡ None → IsOk result }
     {
         match self.inner.message_place(name) {
             Some(index) => Ok(Some(MessageDescriptor::new(self.clone()?, index))),
@@ -112,6 +114,7 @@ impl DescriptorPool {
     pub fn get_enum_by_name(&self, name: &str) -> Result<Option<EnumDescriptor>, AllocError>
         ensures found { IfOk result (λ found. option_map (λ e. e.index) found ≡ enum_place (pool_rows self.now.inner) name.now) }
         ensures pool { IfOk result (λ found. IfSome found (λ e. e.pool.inner.value ≡ self.now.inner.value)) }
+        ensures missing { enum_place (pool_rows self.now.inner) name.now ≡ None → IsOk result }
     {
         match self.inner.enum_place(name) {
             Some(index) => Ok(Some(EnumDescriptor::new(self.clone()?, index))),
@@ -130,6 +133,7 @@ impl DescriptorPool {
     ) -> Result<Option<ExtensionDescriptor>, AllocError>
         ensures found { IfOk result (λ found. option_map (λ extension. extension.index) found ≡ extension_place (pool_rows self.now.inner) (pool_catalog self.now.inner) name.now) }
         ensures pool { IfOk result (λ found. IfSome found (λ extension. extension.pool.inner.value ≡ self.now.inner.value)) }
+        ensures missing { extension_place (pool_rows self.now.inner) (pool_catalog self.now.inner) name.now ≡ None → IsOk result }
     {
         match self.inner.extension_place(name) {
             Some(index) => Ok(Some(ExtensionDescriptor::at(self, index)?)),
@@ -152,6 +156,7 @@ impl DescriptorPool {
     pub fn get_service_by_name(&self, name: &str) -> Result<Option<ServiceDescriptor>, AllocError>
         ensures found { IfOk result (λ found. option_map (λ service. service.index) found ≡ service_place (pool_catalog self.now.inner) name.now) }
         ensures pool { IfOk result (λ found. IfSome found (λ service. service.pool.inner.value ≡ self.now.inner.value)) }
+        ensures missing { service_place (pool_catalog self.now.inner) name.now ≡ None → IsOk result }
     {
         match self.inner.service_place(name) {
             Some(index) => Ok(Some(ServiceDescriptor::new(self.clone()?, index))),

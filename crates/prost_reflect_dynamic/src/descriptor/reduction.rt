@@ -40,9 +40,9 @@ impl MessageDescriptor {
         is_reduction(
             alloc,
             self.tables(),
-            self.place(),
+            self.index(),
             newer.tables(),
-            newer.place(),
+            newer.index(),
         )
     }
 }

@@ -13,12 +13,12 @@ ghost use Rattle.prost_reflect_tables.specs.Shown.{schema_field};
 ghost use Rattle.prost_reflect_tables.specs.Linking.{is_repeated};
 ghost use Rattle.prost_reflect_dynamic.specs.Lists.{IsList, ElementWritable, AreElements, elements_bytes};
 ghost use Rattle.prost_reflect_pool.specs.MapParts.{map_parts};
-ghost use Rattle.prost_reflect_dynamic.specs.Encoding.{entry_slot, unknown_bytes, nested_bytes, ValueWritable, OwnUnknown};
+ghost use Rattle.prost_reflect_dynamic.specs.Encoding.{unknown_bytes, nested_bytes, ValueWritable, OwnUnknown};
 ghost use Rattle.prost_reflect_pool.specs.SharedPools.{pool_rows};
 ghost use Rattle.prost_reflect_fields.specs.Known.{known_of};
 ghost use Rattle.prost_reflect_dynamic.specs.NestedMaps.{NestedMapOfRows, AreEntries, nested_entry_bytes, nested_pairs_bytes};
 ghost use Rattle.prost_reflect_wire.specs.Content.{ScalarValue};
-ghost use Rattle.prost_reflect_dynamic.specs.View.{key_of, value_of, content_of};
+ghost use Rattle.prost_reflect_dynamic.specs.View.{key_of, value_of, content_of, slot_of};
 ghost use Rattle.prost_reflect_dynamic.specs.Scalars.{TakesScalar};
 ghost use Rattle.prost_reflect_dynamic.specs.ReadBack.{ReadsBack, IsOnlyOf};
 
@@ -79,7 +79,7 @@ fn write_body<S: Sink>(sink: &mut S, message: &DynamicMessage)
 /// Adds the unknown fields at a number in front.
 fn write_unknown<S: Sink>(sink: &mut S, number: u32, entry: &FieldSlot<Value>)
     requires { OwnUnknown number entry.now }
-    ensures { Adds S.added sink.old sink.new (unknown_bytes number (entry_slot entry.now)) }
+    ensures { Adds S.added sink.old sink.new (unknown_bytes number (slot_of value_of entry.now)) }
 {
     if let Some(unknown) = entry.unknown() {
         write_fields(sink, unknown);

@@ -23,7 +23,7 @@ pub fn takes_at_path(descriptor: &MessageDescriptor, path: &[u32], value: &Value
     ensures { result ≡ option_map (λ f. value_valid f (value_of value.now)) (field_led (schema_named descriptor.now) (type_named descriptor.now) path.now) }
 {
     let pool = &descriptor.parent_pool().inner;
-    let field = field_led(pool, descriptor.place(), path)?;
+    let field = field_led(pool, descriptor.index(), path)?;
     Some(value_valid(pool, field, value))
 }
 

@@ -40,6 +40,23 @@ pub enum SetFieldError {
     OutOfMemory,
 }
 
+impl Clone for SetFieldError {
+    ghost use Rattle.prost_reflect_dynamic.specs.Setting.{SameRefusal};
+
+    ghost is_clone = { SameRefusal };
+
+    fn clone(&self) -> Result<SetFieldError, AllocError> {
+        Ok(match self {
+            SetFieldError::NotFound => SetFieldError::NotFound,
+            SetFieldError::InvalidType { field, value } => SetFieldError::InvalidType {
+                field: field.clone()?,
+                value: value.clone()?,
+            },
+            SetFieldError::OutOfMemory => SetFieldError::OutOfMemory,
+        })
+    }
+}
+
 impl From<AllocError> for SetFieldError {
     ghost from_gives = { λ _ e. e ≡ refusals.OutOfMemory };
 

@@ -4,7 +4,9 @@ ghost use Rattle.std.specs.Prelude.{◌≡◌, [], map, IfOk, OnErr, OnOk};
 ghost use Rattle.prost_reflect_wire.specs.Content.{entries_of};
 ghost use Rattle.prost_reflect_wire.specs.Unknown.{record_of};
 ghost use Rattle.prost_reflect_fields.specs.FieldSlots.{unknown_in, values_alone};
+ghost use Rattle.prost_reflect_fields.specs.Items.{IsAscending};
 ghost use Rattle.prost_reflect_fields.specs.ItemsLeft.{items_left};
+ghost use Rattle.prost_reflect_fields.specs.Sound.{IsSound};
 ghost use Rattle.prost_reflect_dynamic.specs.Contents.{in_entries};
 ghost use Rattle.prost_reflect_dynamic.specs.UnknownLists.{fields_or_none, all_unknown, taken_left, unknown_left, unknown_records, without_unknown};
 ghost use Rattle.prost_reflect_dynamic.specs.View.{content_of, message_type_of, stored_in};
@@ -103,6 +105,8 @@ impl DynamicMessage {
     pub fn unknown_fields(&self) -> UnknownFields<'_>
         ensures left { unknown_left result ≡ all_unknown (stored_in self.now) }
         ensures content { map record_of (unknown_left result) ≡ unknown_records (entries_of (content_of self.now)) }
+        ensures ascending { IsAscending (stored_in self.now) }
+        ensures sound { IsSound (message_type_of self.now) (stored_in self.now) }
     {
         UnknownFields {
             fields: &[],
@@ -123,6 +127,8 @@ impl DynamicMessage {
         ensures stored { OnOk result (stored_in self.new ≡ values_alone (stored_in self.old)) }
         ensures content { OnOk result (content_of self.new ≡ in_entries without_unknown (content_of self.old)) }
         ensures err { OnErr result (self.new ≡ self.old) }
+        ensures ascending { IsAscending (stored_in self.old) }
+        ensures sound { IsSound (message_type_of self.old) (stored_in self.old) }
     {
         let sets = self.fields.take_unknown(alloc)?;
         Ok(TakenUnknownFields {

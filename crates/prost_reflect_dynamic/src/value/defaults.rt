@@ -90,7 +90,7 @@ impl Value {
     {
         match kind {
             Kind::Message(message) => {
-                is_empty_message(&message.parent_pool().inner, message.place(), self)
+                is_empty_message(&message.parent_pool().inner, message.index(), self)
             }
             _ => is_scalar(self, kind.scalar_default()),
         }

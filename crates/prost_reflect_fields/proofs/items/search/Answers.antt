@@ -1,7 +1,7 @@
 use Rattle.std.proofs.Common.{rules}
 use Rattle.std.proofs.lemmas.List.Sorted.{answers_always}
 use Rattle.prost_reflect_fields.proofs.Places.{place_is}
-use Rattle.prost_reflect_fields.proofs.items.place_in.Goals as goal
+use Rattle.prost_reflect_fields.proofs.items.search.Goals as goal
 
 pub returns : goal.returns
 returns g c =
