@@ -24,12 +24,14 @@ impl<T> Model for Boxed<T> {
 }
 
 impl<T> Boxed<T> {
+    /// The value.
     pub fn get(&self) -> &T
         ensures { result.now ≡ self.now }
     {
         &self.inner
     }
 
+    /// The value, for writing.
     pub fn get_mut(&mut self) -> &mut T
         ensures* writes_back { sem 𝓛 (Lends (the_row T.row) T.row self.entry result (λ w. w)) }
         ensures value { result.now ≡ self.old }
@@ -37,6 +39,7 @@ impl<T> Boxed<T> {
         &mut self.inner
     }
 
+    /// The value, off the heap.
     pub fn into_inner(self) -> T
         ensures { result ≡ self }
     {
@@ -46,6 +49,11 @@ impl<T> Boxed<T> {
 }
 
 impl<T: Drop> Boxed<T> {
+    /// A value on the heap.
+    ///
+    /// # Errors
+    ///
+    /// `AllocError` if out of memory.
     pub fn new(alloc: Global, value: T) -> Result<Boxed<T>, AllocError>
         ensures { IfOk result (λ boxed. boxed ≡ value) }
     {

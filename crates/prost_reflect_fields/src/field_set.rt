@@ -30,9 +30,9 @@ use std::marker::Model;
 
 /// The values of a message's fields and its unknown fields, by number.
 ///
-/// Values stand at the numbers of fields and extensions alone, and at most one member of a oneof has one.
-/// Unknown fields stand at their own numbers: at one that no field has any, and at that of a field those that give it no value, since
-/// a closed enum does not declare their number.
+/// Only the numbers of fields and extensions have values, and at most one member of a oneof has one. Unknown fields are kept at
+/// their own numbers: all of them at a number that no field has, and at that of a field those alone that give it no value, since
+/// its closed enum does not declare the number that they hold.
 #[derive(Debug, Drop)]
 pub struct FieldSet<V> {
     message_type: PooledType,
@@ -149,7 +149,7 @@ impl<V: Drop> FieldSet<V> {
     }
 
     /// Takes the values of all fields, or those of all extensions, each with its number. The unknown fields stay.
-    /// A refused growth changes nothing.
+    /// If out of memory, nothing changes.
     pub fn take_listed(&mut self, of_extensions: bool) -> Result<Vec<(u32, V)>, AllocError>
         ensures values { IfOk result (λ taken. taken.items ≡ values_where (is_listed of_extensions (known_of self.old.0)) self.old.1) }
         ensures left { OnOk result (self.new ≡ (self.old.0, without_values (is_listed of_extensions (known_of self.old.0)) self.old.1)) }
@@ -189,7 +189,7 @@ impl<V: Drop> FieldSet<V> {
     }
 
     /// Takes the unknown fields of all numbers, those of each as one set, in ascending order. The values stay.
-    /// A refused growth changes nothing.
+    /// If out of memory, nothing changes.
     pub fn take_unknown(&mut self, alloc: Global) -> Result<Vec<UnknownFieldSet>, AllocError>
         ensures sets { IfOk result (λ sets. sets.items ≡ unknown_sets self.old.1) }
         ensures ok { OnOk result (self.new ≡ (self.old.0, values_alone self.old.1)) }
@@ -201,7 +201,7 @@ impl<V: Drop> FieldSet<V> {
     }
 
     /// Sets the value at the number of a field or an extension, and removes those of the other members of its oneof.
-    /// The unknown fields stay. A refused growth changes nothing.
+    /// The unknown fields stay. If out of memory, nothing changes.
     pub fn set(&mut self, number: u32, value: V) -> Result<(), AllocError>
         requires { is_known (known_of self.old.0) number ≡ true }
         ensures ok { OnOk result (self.new ≡ (self.old.0, set_value_at (known_of self.old.0) self.old.1 number value)) }
@@ -212,8 +212,9 @@ impl<V: Drop> FieldSet<V> {
         set_value(&mut self.fields, alloc, &self.message_type, number, value)
     }
 
-    /// Adds an unknown field behind those of its number, which is that of no field, or of one that takes no value from it, since a
-    /// closed enum does not declare its number. A refused growth changes no value and no unknown field.
+    /// Adds an unknown field behind those of its number, which is that of no field, or of one that takes no value from it, since
+    /// its closed enum does not declare the number that the unknown field holds. If out of memory, no value and no unknown field
+    /// changes.
     pub fn add_unknown(&mut self, number: u32, field: UnknownField) -> Result<(), AllocError>
         requires own { (record_of field).number ≡ number }
         requires kept { keeps_unknown (known_of self.old.0) number (record_of field).payload ≡ true }
@@ -226,7 +227,7 @@ impl<V: Drop> FieldSet<V> {
         add_unknown(&mut self.fields, alloc, number, field)
     }
 
-    /// Puts what the other set has at the numbers in place of what is there. A refused growth changes nothing.
+    /// Puts what the other set has at the numbers in place of what is there. If out of memory, nothing changes.
     pub fn replace(
         &mut self,
         numbers: &BTreeSet<u32>,
@@ -255,7 +256,7 @@ impl<V: Drop> FieldSet<V> {
     }
 
     /// The value at the number of a field or an extension, for writing. Where there is none it is first set to `default`.
-    /// A refused growth changes nothing.
+    /// If out of memory, nothing changes.
     pub fn get_mut_or(&mut self, number: u32, default: V) -> Result<&mut V, AllocError>
         requires { is_known (known_of self.old.0) number ≡ true }
         ensures* writes_back { sem 𝓛 (LendsIfOk (the_row V.row) V.row self.entry result (λ w. (self.old.0, with_value (prepared (known_of self.old.0) self.old.1 number default) number w)) self.old) }

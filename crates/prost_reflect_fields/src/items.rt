@@ -31,6 +31,7 @@ impl<T> Model for ItemList<T> {
 }
 
 impl<T> ItemList<T> {
+    /// No items.
     pub(crate) fn new(alloc: Global) -> ItemList<T>
         ensures { result ≡ [] }
     {
@@ -47,6 +48,7 @@ impl<T> ItemList<T> {
         ItemList { items }
     }
 
+    /// The items with their numbers, ascending.
     pub(crate) fn into_items(self) -> Vec<(u32, T)>
         ensures items { result.items ≡ self }
         ensures ascending { IsAscending self }
@@ -55,6 +57,7 @@ impl<T> ItemList<T> {
         items
     }
 
+    /// The items with their numbers, ascending.
     pub(crate) fn items(&self) -> &[(u32, T)]
         ensures items { result.now ≡ self.now }
         ensures ascending { IsAscending self.now }
@@ -67,12 +70,14 @@ impl<T> ItemList<T> {
         *self.items.allocator()
     }
 
+    /// The item at the number.
     pub(crate) fn get(&self, number: u32) -> Option<&T>
         ensures { option_copied result ≡ item_at self.now number }
     {
         get_at(&self.items, number)
     }
 
+    /// The item at the number, for writing.
     pub(crate) fn get_mut(&mut self, number: u32) -> Option<&mut T>
         ensures* writes_back { sem 𝓛 (LendsIf (the_row T.row) T.row self.entry result (with_item self.old number) self.old) }
         ensures value { option_copied_mut result ≡ item_at self.old number }
@@ -82,7 +87,7 @@ impl<T> ItemList<T> {
 }
 
 impl<T: Drop> ItemList<T> {
-    /// Puts the item at the number, in place of one that is there. A refused growth changes nothing.
+    /// Puts the item at the number, in place of one that is there. If out of memory, nothing changes.
     pub(crate) fn insert(&mut self, number: u32, item: T) -> Result<(), AllocError>
         ensures ok { OnOk result (self.new ≡ put_item self.old number item) }
         ensures err { OnErr result (self.new ≡ self.old) }
@@ -149,7 +154,7 @@ pub(crate) fn item_mut<T>(items: &mut Vec<(u32, T)>, number: u32) -> Option<&mut
     }
 }
 
-/// Puts the item at the number, in place of one that is there. A refused growth changes nothing.
+/// Puts the item at the number, in place of one that is there. If out of memory, nothing changes.
 pub(crate) fn put<T: Drop>(
     items: &mut Vec<(u32, T)>,
     number: u32,

@@ -29,7 +29,7 @@ pub trait NumberMap<T> {
         ensures* writes_back { sem 𝓛 (LendsSo Self.row T.row self.entry result (λ after w. entries after ≡ with_item (entries self.old) number w) (λ after. entries after ≡ entries self.old)) }
         ensures value { option_copied_mut result ≡ item_at (entries self.old) number };
 
-    /// Puts the item at the number, in place of one that is there. A refused growth changes nothing.
+    /// Puts the item at the number, in place of one that is there. If out of memory, nothing changes.
     fn insert(&mut self, number: u32, item: T) -> Result<(), AllocError>
         ensures ok { OnOk result (entries self.new ≡ put_item (entries self.old) number item) }
         ensures err { OnErr result (entries self.new ≡ entries self.old) };

@@ -16,7 +16,7 @@ use std::collections::BTreeSet;
 ///
 /// # Errors
 ///
-/// `AllocError` if a growth is refused; then a part of them may have been added.
+/// `AllocError` if out of memory; then a part of them may have been added.
 pub fn add_number(
     numbers: &mut BTreeSet<u32>,
     message_type: &PooledType,

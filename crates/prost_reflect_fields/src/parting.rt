@@ -8,7 +8,8 @@ use crate::items::push_last;
 use crate::slot::FieldSlot;
 use prost_reflect_pool::PooledType;
 
-/// The values at the numbers of fields, or those at the numbers of extensions, and the slots that are left. There is room for both.
+/// The values at the numbers of fields, or those at the numbers of extensions, and the slots that are left. There is room for
+/// both.
 pub fn parted<V: Drop>(
     message_type: &PooledType,
     of_extensions: bool,

@@ -16,11 +16,11 @@ use std::marker::Model;
 /// A run of so many items is parted before it takes a further one.
 pub(crate) const FULL: usize = 128;
 
-/// A map from numbers, as runs of items in ascending order. With each run stands a number that is above all items in front of it, and
-/// not above its own.
+/// A map from numbers, as runs of items in ascending order. With each run goes a number that is above the numbers of all items in
+/// front of it, and not above those of its own.
 ///
-/// An item goes into its run, and a run that is full is parted first. So an item moves no more than those of its run, whatever the
-/// order in which the numbers come.
+/// An item goes into its run, and a run that is full is parted first. So an item moves no more than those of its run, whatever
+/// the order in which the numbers come.
 #[derive(Debug, Drop)]
 pub struct RunMap<T> {
     runs: Vec<(u32, Vec<(u32, T)>)>,
@@ -38,6 +38,7 @@ impl<T> Model for RunMap<T> {
 }
 
 impl<T> RunMap<T> {
+    /// No items.
     pub(crate) fn new(alloc: Global) -> RunMap<T>
         ensures { result ≡ [] }
     {
@@ -101,12 +102,14 @@ impl<T> RunMap<T> {
         &self.runs
     }
 
+    /// The item at the number.
     pub(crate) fn get(&self, number: u32) -> Option<&T>
         ensures { option_copied result ≡ item_at self.now number }
     {
         get_in(&self.runs, number)
     }
 
+    /// The item at the number, for writing.
     pub(crate) fn get_mut(&mut self, number: u32) -> Option<&mut T>
         ensures* writes_back { sem 𝓛 (LendsIf (the_row T.row) T.row self.entry result (with_item self.old number) self.old) }
         ensures value { option_copied_mut result ≡ item_at self.old number }
@@ -126,7 +129,7 @@ impl<T> RunMap<T> {
 }
 
 impl<T: Drop> RunMap<T> {
-    /// Puts the item at the number, in place of one that is there. A refused growth changes nothing.
+    /// Puts the item at the number, in place of one that is there. If out of memory, nothing changes.
     pub(crate) fn insert(&mut self, number: u32, item: T) -> Result<(), AllocError>
         ensures ok { OnOk result (self.new ≡ put_item self.old number item) }
         ensures err { OnErr result (self.new ≡ self.old) }
@@ -179,7 +182,7 @@ fn count_items<T>(runs: &[(u32, Vec<(u32, T)>)]) -> Option<usize>
     Some(count)
 }
 
-/// Parts the run to which the number belongs, where it is full. A refused growth changes no item.
+/// Parts the run to which the number belongs, where it is full. If out of memory, no item changes.
 fn make_room<T: Drop>(runs: &mut Vec<(u32, Vec<(u32, T)>)>, number: u32) -> Result<(), AllocError>
     requires { IsLaid runs.old.items }
     ensures laid { IsLaid runs.new.items }
@@ -191,7 +194,7 @@ fn make_room<T: Drop>(runs: &mut Vec<(u32, Vec<(u32, T)>)>, number: u32) -> Resu
     }
 }
 
-/// Parts a run in the middle. A refused growth changes no item.
+/// Parts a run in the middle. If out of memory, no item changes.
 fn part_run<T: Drop>(runs: &mut Vec<(u32, Vec<(u32, T)>)>, index: usize) -> Result<(), AllocError>
     requires laid { IsLaid runs.old.items }
     requires index { index < vec_len runs.old }
@@ -212,7 +215,7 @@ fn part_run<T: Drop>(runs: &mut Vec<(u32, Vec<(u32, T)>)>, index: usize) -> Resu
     }
 }
 
-/// Puts the item at the number, in place of one that is there. A refused growth changes no item.
+/// Puts the item at the number, in place of one that is there. If out of memory, no item changes.
 fn put_in<T: Drop>(
     runs: &mut Vec<(u32, Vec<(u32, T)>)>,
     number: u32,
@@ -229,7 +232,7 @@ fn put_in<T: Drop>(
     }
 }
 
-/// Puts the item in front of all others, in a run of its own. A refused growth changes no item.
+/// Puts the item in front of all others, in a run of its own. If out of memory, no item changes.
 fn put_first<T: Drop>(
     runs: &mut Vec<(u32, Vec<(u32, T)>)>,
     number: u32,

@@ -19,7 +19,8 @@ pub enum FieldSlot<V> {
     Value(V),
     /// Unknown fields alone.
     Unknown(UnknownFieldSet),
-    /// The value of a field, and the numbers that its closed enum does not declare. There are seldom any, so they are on the heap.
+    /// The value of a field, and the numbers that its closed enum does not declare. There are seldom any, so they are on the
+    /// heap.
     Both(V, Boxed<UnknownFieldSet>),
 }
 
@@ -71,7 +72,7 @@ impl<V> FieldSlot<V> {
 }
 
 impl<V: Drop> FieldSlot<V> {
-    /// Puts a value beside the unknown fields, in place of one that is there. A refused growth changes nothing.
+    /// Puts a value beside the unknown fields, in place of one that is there. If out of memory, nothing changes.
     pub fn put(&mut self, alloc: Global, value: V) -> Result<(), AllocError>
         ensures ok { OnOk result (self.new ≡ with_value_in self.old value) }
         ensures err { OnErr result (self.new ≡ self.old) }
@@ -119,7 +120,7 @@ impl<V: Drop> FieldSlot<V> {
         }
     }
 
-    /// Adds an unknown field behind those that are there. A refused growth changes nothing.
+    /// Adds an unknown field behind those that are there. If out of memory, nothing changes.
     pub fn add_unknown(&mut self, alloc: Global, field: UnknownField) -> Result<(), AllocError>
         ensures ok { OnOk result (AddedIn self.old self.new (record_of field)) }
         ensures err { OnErr result (SameIn self.old self.new) }

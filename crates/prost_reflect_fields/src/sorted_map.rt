@@ -22,14 +22,14 @@ use std::vec::IntoIter;
 /// How many items a map has room for at first, unless it is told.
 const FIRST_ROOM: usize = 4;
 
-/// A map from numbers. Few items stand in one list, and many in runs, so that an item moves few others, whatever the order in which
-/// the numbers come.
+/// A map from numbers. Few items stand in one list, and many in runs, so that an item moves few others, whatever the order in
+/// which the numbers come.
 #[derive(Debug, Drop)]
 pub struct SortedMap<T> {
     held: Held<T>,
 }
 
-/// Where the items of a map stand. They are on the heap, so that a map is no larger than it has to be where it stands itself.
+/// Where a map keeps its items. They are on the heap, so that the map itself is small.
 #[derive(Debug, Drop)]
 pub enum Held<T> {
     /// There are none. The first list has room for so many.
@@ -50,6 +50,7 @@ impl<T> Model for SortedMap<T> {
 }
 
 impl<T> SortedMap<T> {
+    /// No items.
     pub fn new(alloc: Global) -> SortedMap<T>
         ensures { result ≡ [] }
     {
@@ -140,6 +141,7 @@ impl<T> SortedMap<T> {
         }
     }
 
+    /// The item at the number.
     pub fn get(&self, number: u32) -> Option<&T>
         ensures { option_copied result ≡ item_at self.now number }
     {
@@ -192,6 +194,7 @@ impl<T> SortedMap<T> {
         }
     }
 
+    /// The item at the number, for writing.
     pub fn get_mut(&mut self, number: u32) -> Option<&mut T>
         ensures* writes_back { sem 𝓛 (LendsIf (the_row T.row) T.row self.entry result (with_item self.old number) self.old) }
         ensures value { option_copied_mut result ≡ item_at self.old number }
@@ -205,6 +208,11 @@ impl<T> SortedMap<T> {
 }
 
 impl<T: Drop> SortedMap<T> {
+    /// Puts the item at the number, in place of one that is there.
+    ///
+    /// # Errors
+    ///
+    /// `AllocError` if out of memory; then nothing changes.
     pub fn insert(&mut self, number: u32, item: T) -> Result<(), AllocError>
         ensures ok { OnOk result (self.new ≡ put_item self.old number item) }
         ensures err { OnErr result (self.new ≡ self.old) }
@@ -222,7 +230,7 @@ impl<T: Drop> SortedMap<T> {
         }
     }
 
-    /// Lays the items in runs, if a list has as many as a run may have. A refused growth changes nothing.
+    /// Lays the items in runs, if a list has as many as a run may have. If out of memory, nothing changes.
     fn lay(&mut self) -> Result<(), AllocError>
         ensures { self.new ≡ self.old }
     {
@@ -243,7 +251,7 @@ impl<T: Drop> SortedMap<T> {
         Ok(())
     }
 
-    /// Puts what the other map has at the numbers of the set in place of what is there. A refused growth changes nothing.
+    /// Puts what the other map has at the numbers of the set in place of what is there. If out of memory, nothing changes.
     pub fn replace(
         &mut self,
         numbers: &BTreeSet<u32>,
@@ -274,6 +282,7 @@ impl<T: Drop> SortedMap<T> {
         Ok(())
     }
 
+    /// Takes the item at the number.
     pub fn remove(&mut self, number: u32) -> Option<T>
         ensures removed { result ≡ item_at self.old number }
         ensures entries { self.new ≡ without_item self.old number }
@@ -402,8 +411,8 @@ fn list_of<T: Drop>(
     Boxed::new(alloc, list)
 }
 
-/// Puts behind `items`, which are none yet, the others whose numbers are in the set and the old ones whose numbers are not, in one
-/// walk over both in ascending order. There is room for all.
+/// Puts behind `items`, which are none yet, the others whose numbers are in the set and the old ones whose numbers are not, in
+/// one walk over both in ascending order. There is room for all.
 fn weave<T: Drop>(
     items: &mut Vec<(u32, T)>,
     olds: Vec<(u32, T)>,

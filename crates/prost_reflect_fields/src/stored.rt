@@ -43,7 +43,7 @@ pub fn unknown_at<'a, V: 'a, S: NumberMap<FieldSlot<V>>>(
     }
 }
 
-/// Puts a value at the number, where the unknown fields stay. A refused growth changes nothing.
+/// Puts a value at the number, where the unknown fields stay. If out of memory, nothing changes.
 pub fn put_value<V: Drop, S: NumberMap<FieldSlot<V>>>(
     fields: &mut S,
     alloc: Global,
@@ -89,7 +89,7 @@ pub fn take_value<V: Drop, S: NumberMap<FieldSlot<V>>>(
     }
 }
 
-/// Adds an unknown field behind those of its number. A refused growth changes no value and no unknown field.
+/// Adds an unknown field behind those of its number. If out of memory, no value and no unknown field changes.
 pub fn add_unknown<V: Drop, S: NumberMap<FieldSlot<V>>>(
     fields: &mut S,
     alloc: Global,
@@ -114,7 +114,7 @@ pub fn add_unknown<V: Drop, S: NumberMap<FieldSlot<V>>>(
 }
 
 /// Sets the value at the number, and removes those of the other members of its field's oneof. The unknown fields stay.
-/// A refused growth changes nothing.
+/// If out of memory, nothing changes.
 pub fn set_value<V: Drop, S: NumberMap<FieldSlot<V>>>(
     fields: &mut S,
     alloc: Global,
@@ -142,8 +142,8 @@ pub fn value_mut<V, S: NumberMap<FieldSlot<V>>>(fields: &mut S, number: u32) -> 
     }
 }
 
-/// The value at the number, for writing. Where there is none it is first set to `default`, which removes those of the other members of its field's oneof.
-/// A refused growth changes nothing.
+/// The value at the number, for writing. Where there is none it is first set to `default`, which removes those of the other
+/// members of its field's oneof. If out of memory, nothing changes.
 pub fn value_mut_or<'a, V: Drop + 'a, S: NumberMap<FieldSlot<V>>>(
     fields: &'a mut S,
     alloc: Global,
@@ -215,8 +215,8 @@ fn clear_siblings<V: Drop, S: NumberMap<FieldSlot<V>>>(
     }
 }
 
-/// Removes the values of the members of the oneof, but that of the number, where all items stand in a list that is shorter than the
-/// list of its members. Answers whether it did; if not, some may still be there.
+/// Removes the values of the members of the oneof, but that of the number, where all items stand in a list that is shorter than
+/// the list of its members. Answers whether it did; if not, some may still be there.
 fn clear_listed<V: Drop, S: NumberMap<FieldSlot<V>>>(
     fields: &mut S,
     alloc: Global,

@@ -12,7 +12,7 @@ use prost_reflect_wire::UnknownFieldSet;
 use std::alloc::{AllocError, Global};
 
 /// Takes the unknown fields of all numbers, those of each as one set, in ascending order. The values stay.
-/// A refused growth changes nothing.
+/// If out of memory, nothing changes.
 pub(crate) fn take_unknown<V: Drop>(
     fields: &mut SortedMap<FieldSlot<V>>,
     alloc: Global,

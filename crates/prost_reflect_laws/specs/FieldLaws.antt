@@ -18,16 +18,16 @@ HasField levels bytes = (r : Record) × ((rest : List ℕ) × FieldFront levels 
 abbrev pub HasValue : ℕ → ℕ → WireType → List ℕ → Type 0
 HasValue levels n w bytes = (p : Payload) × ((rest : List ℕ) × ValueFront n w levels p bytes rest)
 
--- A front of the bytes is a field of at most so many levels exactly unless a fault stands in the field.
+-- Bytes begin with a field of at most so many levels, or have a fault there, and never both.
 abbrev pub FieldUnlessFault : Type 0
 FieldUnlessFault = (levels : ℕ) (bytes : List ℕ) → AreBytes bytes → ExactlyUnless (HasField levels bytes) ((e : DecodeError) × StandsInField levels e bytes)
 
--- So it is behind a given key.
+-- The same of a value behind a given key.
 abbrev pub ValueUnlessFault : Type 0
 ValueUnlessFault = (levels n : ℕ) (w : WireType) (bytes : List ℕ) → 1 ≤ n → n < 2 ^ 29 → AreBytes bytes →
     ExactlyUnless (HasValue levels n w bytes) ((e : DecodeError) × StandsInValue levels n w e bytes)
 
--- Where a whole field stands first, no fault stands in it but Depth, and that one only where it nests deeper than the levels.
+-- Bytes that begin with a whole field have no fault there but Depth, and that one only if the field nests deeper than the levels.
 abbrev pub OnlyTooDeep : Type 0
 OnlyTooDeep = (levels : ℕ) (r : Record) (bytes rest : List ℕ) (e : DecodeError) → RecordFront r bytes rest → StandsInField levels e bytes → (e ≡ errors.Depth) × (levels < payload_levels r.payload)
 

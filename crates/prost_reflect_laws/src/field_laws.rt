@@ -2,17 +2,17 @@
 
 ghost use Rattle.prost_reflect_laws.specs.FieldLaws.{FieldUnlessFault, ValueUnlessFault, OnlyTooDeep, OneField, FieldAgain};
 
-/// A front of the bytes is a field within the levels exactly unless a fault stands in the field.
+/// Bytes begin with a field within the levels, or have a fault there, and never both.
 pub fn field_unless_fault()
     ensures { FieldUnlessFault }
 {}
 
-/// So it is behind a given key.
+/// The same of a value behind a given key.
 pub fn value_unless_fault()
     ensures { ValueUnlessFault }
 {}
 
-/// Where a whole field stands first, no fault stands in it but `Depth`, and that one only where it nests deeper than the
+/// Bytes that begin with a whole field have no fault there but `Depth`, and that one only if the field nests deeper than the
 /// levels.
 pub fn only_too_deep()
     ensures { OnlyTooDeep }

@@ -48,7 +48,7 @@ pub record IsPoolOf (files : List FileDescriptorProto) (pool : LinkedPool) : Typ
   pub built : AreTablesOf files (pool_rows pool)
   pub listed : IsCatalogOf files pool.catalog
 
--- The files make no pool: the fault stands in them, and so they do not pass all checks. Want of memory may come anywhere.
+-- The files make no pool: they have the fault, and so do not pass all checks. Being out of memory may come anywhere.
 pub record RefusesFiles (files : List FileDescriptorProto) (e : PoolError) : Type 0 where
   pub stands : e ≢ OutOfMemory → Stands e files (flattened files)
   pub unchecked : Checked files (flattened files) → e ≡ OutOfMemory
@@ -73,7 +73,7 @@ pub record RefusesRead (t : RecordType) (bytes : List ℕ) (files : List FileDes
   pub reads : Reads t bytes batch
   pub refuses : RefusesFiles (added files batch) e
 
--- A fault stands in the bytes, which are no such record.
+-- The bytes have the fault, and are no such record.
 pub record RefusesBytes (t : RecordType) (bytes : List ℕ) (e : DecodeError) : Type 0 where
   pub stands : StandsInMessage record_schema (place_of t) LEVEL_LIMIT e bytes
   pub unread : Accepts record_schema LEVEL_LIMIT (place_of t) bytes → ⊥
@@ -84,7 +84,7 @@ Refuses t bytes files OutOfMemory = ⊤
 Refuses t bytes files (Decode e) = RefusesBytes t bytes e
 Refuses t bytes files e = RefusesRead t bytes files e
 
--- Of these bytes a pool is made that is equal to the one at hand, or none for want of memory.
+-- Of these bytes a pool is made that is equal to the one at hand; they are refused only out of memory.
 pub record MakesAgain (bytes : List ℕ) (pool : LinkedPool) : Type 0 where
   pub equal : (again : LinkedPool) → IsPoolOfBytes types.FileSet bytes [] again → pool_contents again ≡ pool_contents pool
   pub unrefused : AreBytes bytes → (e : PoolError) → Refuses types.FileSet bytes [] e → e ≡ OutOfMemory

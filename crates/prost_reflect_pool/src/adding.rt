@@ -152,7 +152,8 @@ impl LinkedPool {
     ///
     /// # Errors
     ///
-    /// The name of a fault that stands in the files that are there with those that are added, or `OutOfMemory` if a growth is refused.
+    /// The name of a fault that the files of the pool have together with those that are added, or `OutOfMemory` if memory runs
+    /// out.
     pub fn with_files(&self, batch: Vec<FileDescriptorProto>) -> Result<LinkedPool, PoolError>
         ensures ok { IfOk result (IsPoolOf (added (files_of self.now) batch.items)) }
         ensures refused { IfErr result (RefusesFiles (added (files_of self.now) batch.items)) }

@@ -32,11 +32,13 @@ const SCALAR_FIELDS: [(i32, &str); 15] = [
     (18, "f_sint64"),
 ];
 
-/// The pool of two files, `plain.proto` of proto3 and `kept.proto` of proto2, with one message type each: `builtin.Plain` and `builtin.Kept`, which have one singular field of each scalar kind. No field of the first has presence, all of the second have it.
+/// The pool of two files, `plain.proto` of proto3 and `kept.proto` of proto2, with one message type each: `builtin.Plain` and
+/// `builtin.Kept`, which have one singular field of each scalar kind. No field of the first has presence, all of the second have
+/// it.
 ///
 /// # Errors
 ///
-/// `OutOfMemory` if a growth is refused.
+/// `OutOfMemory` if memory runs out.
 pub fn builtin_pool(alloc: Global) -> Result<LinkedPool, PoolError>
     ensures files { IfOk result (λ pool. AreBuiltin (files_of pool)) }
     ensures rows { IfOk result (λ pool. pool_rows pool ≡ builtin_rows) }

@@ -7,8 +7,8 @@ ghost use Rattle.prost_reflect_pool.specs.declared.pool.LinkedPool.{LinkedPool};
 
 use crate::LinkedPool;
 
-/// Pools are equal by `==` exactly where as many files stand in both, and their contents are equal one by one; equal pools
-/// have equal tables.
+/// Pools are equal by `==` exactly if both have as many files, and their contents are equal one by one; equal pools have equal
+/// tables.
 pub fn pool_equality()
     ensures files { (a : LinkedPool) (b : LinkedPool) → IsTrue (⟦<LinkedPool as PartialEq>⟧.eq a b) ↔ SameContents (files_of a) (files_of b) }
     ensures tables { (a : LinkedPool) (b : LinkedPool) → IsTrue (⟦<LinkedPool as PartialEq>⟧.eq a b) → pool_rows a ≡ pool_rows b }

@@ -22,7 +22,8 @@ use crate::LinkedPool;
 use prost_reflect_tables::{EnumValueTable, FieldTable, text_or_empty};
 use std::cmp::Ordering;
 
-/// The first of the places that compares as equal to what is looked for, where all that compare as less stand before it and all that compare as greater behind it.
+/// The first of the places that compares as equal to what is looked for, where all that compare as less stand before it and all
+/// that compare as greater behind it.
 fn first_equal<C: Fn(&usize) -> Ordering>(places: &[usize], compare: &C) -> Option<usize>
     requires { C.IsAlwaysCallable compare.now }
     ensures { (order : ℕ → Ordering) → Computes C.Fn compare.now order → IsNonDecreasingBy (λ p. ordering_index (order p)) places.now → result ≡ find (λ p. is_eq (order p)) places.now }
@@ -216,7 +217,8 @@ impl LinkedPool {
         self.enum_table(index).values.as_slice()
     }
 
-    /// The place of the first field of a name in the message type at a place, or none where no field has it. Extensions do not count.
+    /// The place of the first field of a name in the message type at a place, or none where no field has it. Extensions do not
+    /// count.
     pub fn field_place_by_name(&self, message: usize, name: &str) -> Option<usize>
         requires { message < length (pool_rows self.now).messages }
         ensures { result ≡ named_field (fields_at (pool_rows self.now) message) name.now }
@@ -229,7 +231,8 @@ impl LinkedPool {
         )
     }
 
-    /// The place of the field of a name in JSON in the message type at a place, or none where no field has it; of several, that of the least number. Extensions do not count.
+    /// The place of the field of a name in JSON in the message type at a place, or none where no field has it; of several, that
+    /// of the least number. Extensions do not count.
     pub fn field_place_by_json_name(&self, message: usize, name: &str) -> Option<usize>
         requires { message < length (pool_rows self.now).messages }
         ensures { result ≡ json_named_field (fields_at (pool_rows self.now) message) name.now }
@@ -302,7 +305,8 @@ impl LinkedPool {
         self.first_extension(self.message_lists(message).extending.as_slice(), &test)
     }
 
-    /// The place of the extension of a name in JSON of the message type at a place, or none where no extension of it has the name.
+    /// The place of the extension of a name in JSON of the message type at a place, or none where no extension of it has the
+    /// name.
     pub fn extension_place_by_json_name(&self, message: usize, json_name: &str) -> Option<usize>
         requires { message < length (pool_rows self.now).messages }
         ensures found { result ≡ extension_where self.now message (λ f. bytes_eq f.json_name json_name.now) }

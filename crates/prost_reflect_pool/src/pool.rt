@@ -12,11 +12,15 @@ use prost_reflect_types::FileDescriptorProto;
 use std::alloc::Global;
 use std::rc::Rc;
 
-/// What the clones of a pool share: files that pass all checks, no two of one name, the tables that they link to, and their catalog.
+/// What the clones of a pool share: files that pass all checks, no two of one name, the tables that they link to, and their
+/// catalog.
 #[derive(Debug, Drop)]
 pub struct LinkedPool {
+    /// The files, in the order in which they were added.
     pub(crate) files: Vec<Rc<FileDescriptorProto>>,
+    /// The tables that they link to.
     pub(crate) tables: Tables,
+    /// Their catalog.
     pub(crate) catalog: Catalog,
     pub ghost built: { AreTablesOf (shared_files files.items) (rows_of tables) },
     pub ghost listed: { IsCatalogOf (shared_files files.items) catalog } by { catalog_prop (shared_files files.items) catalog },

@@ -52,7 +52,7 @@ impl PooledType {
     ///
     /// # Errors
     ///
-    /// `AllocError` if a clone of the pool is refused.
+    /// `AllocError` if out of memory.
     pub fn at(&self, index: usize) -> Result<PooledType, AllocError>
         requires { index < length (pool_rows self.now.pool).messages }
         ensures pool { IfOk result (λ t. t.pool.value ≡ self.now.pool.value) }

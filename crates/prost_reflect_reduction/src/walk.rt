@@ -129,13 +129,12 @@ fn add_asked(
 /// Whether the message type at a place of the older tables is a reduction of the one at a place of the newer tables.
 ///
 /// The pairs of message types that are reached from these two are walked, each once, and each is tested by itself, with
-/// any two message types of fields taken to match. A pair that fails refutes the reduction, since whatever pairs show
-/// one have it among them; and pairs that all pass show one. A test is a walk over the fields of both types in ascending
-/// order of their numbers.
+/// any two message types of fields taken to match. If a pair fails, there is no reduction, since each reduction includes
+/// that pair; if all pass, there is one. A test is a walk over the fields of both types in ascending order of their numbers.
 ///
 /// # Errors
 ///
-/// `AllocError` if a growth was refused.
+/// `AllocError` if out of memory.
 pub fn is_reduction(
     alloc: Global,
     older: &Tables,

@@ -4,7 +4,7 @@ use Rattle.prost_reflect_wire.specs.declared.error.DecodeError.TheVariants as de
 use Rattle.prost_reflect_tables.specs.declared.error.PoolError.{PoolError}
 use Rattle.prost_reflect_tables.specs.declared.error.PoolError.TheVariants.{Decode, OutOfMemory}
 
--- Want of memory is no fault of the bytes.
+-- Being out of memory is no fault of the bytes.
 abbrev pub read_error : DecodeError → PoolError
 read_error decode_errors.OutOfMemory = OutOfMemory
 read_error e = Decode e

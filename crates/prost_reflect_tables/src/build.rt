@@ -38,14 +38,14 @@ use std::alloc::Global;
 
 /// The tables of files: their message types, nested ones too, and their enums, by file and then by path; and their catalog.
 ///
-/// A type is named by its place in these lists, and each extension stands with the message that it extends, wherever it was declared.
-/// The files may stand in any order; each file that one depends on is among them. The cost grows as n log n in the number of
-/// definitions.
+/// A type is named by its place in these lists, and each extension is listed with the message that it extends, wherever it was
+/// declared. The files may come in any order; each file that one depends on is among them. The cost grows as n log n in the
+/// number of definitions.
 ///
 /// # Errors
 ///
-/// The name of a fault that stands in the files, as a type that is named and is not there, or `OutOfMemory` if a growth was refused.
-/// Where several faults stand, one of them is named. Never `Decode`, since the files are read already.
+/// The name of a fault that the files have, as a type that is named and is not there, or `OutOfMemory` if memory runs out. If
+/// they have several faults, one of them is named. Never `Decode`, since the files are read already.
 pub fn build_tables(
     alloc: Global,
     files: &[&FileDescriptorProto],

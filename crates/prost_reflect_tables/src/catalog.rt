@@ -1,4 +1,5 @@
-//! What descriptors tell of a pool besides its rows, and reading and writing messages do not need: what each definition encloses, services, and places in the order of names.
+//! What descriptors tell of a pool besides its rows, and reading and writing messages do not need: what each definition encloses,
+//! services, and places in the order of names.
 
 use crate::tables::Identity;
 

@@ -115,7 +115,7 @@ fn check_faults(
 ///
 /// # Errors
 ///
-/// The name of a fault that stands in the files, or `OutOfMemory` if a growth was refused.
+/// The name of a fault that the files have, or `OutOfMemory` if memory runs out.
 pub fn check_files<'f, 'a>(
     alloc: Global,
     files: &[&FileDescriptorProto],

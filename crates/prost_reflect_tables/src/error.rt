@@ -8,10 +8,10 @@ use prost_reflect_wire::DecodeError;
 use std::alloc::{AllocError, AllocFailed};
 use thiserror::Error;
 
-/// Why a descriptor set is refused. Where several faults stand, one of them is named.
+/// Why a descriptor set is refused. If its files have several faults, one of them is named.
 #[derive(Clone, Copy, Debug, PartialEq, Eq, Error)]
 pub enum PoolError {
-    /// The bytes are not a descriptor set, or not a file's record; never a refused growth.
+    /// The bytes are not a descriptor set, or not a file's record. The error inside is never `OutOfMemory`.
     #[error("the bytes are no descriptor record: {0}")]
     Decode(DecodeError),
     /// A definition has no name, or an empty one.
@@ -68,7 +68,7 @@ pub enum PoolError {
     /// The bytes of options are no records, or an option that is read has another wire type.
     #[error("options are not read")]
     BadOptions,
-    /// A growth was refused.
+    /// Out of memory.
     #[error("out of memory")]
     OutOfMemory,
 }

@@ -15,7 +15,7 @@ pub fn tables_equality()
     ensures { (a : Tables) (b : Tables) → IsTrue (⟦<Tables as PartialEq>⟧.eq a b) ↔ (rows_of a ≡ rows_of b) }
 {}
 
-/// Lists of files are equal by `==` exactly where as many files stand in both, and their contents are equal one by one.
+/// Lists of files are equal by `==` exactly if both have as many files, and their contents are equal one by one.
 pub fn files_equality()
     ensures { (a : List FileDescriptorProto) (b : List FileDescriptorProto) → IsTrue (pointwise (⟦<FileDescriptorProto as PartialEq>⟧.eq) a b) ↔ SameContents a b }
 {}

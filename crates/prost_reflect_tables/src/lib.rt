@@ -1,4 +1,5 @@
-//! The definitions of files and the checks of them, and the linked tables of a descriptor pool: its message types and enums, each named by its place in a list.
+//! The definitions of files and the checks of them, and the linked tables of a descriptor pool: its message types and enums, each
+//! named by its place in a list.
 #![tactic(auto)]
 
 mod build;

@@ -18,7 +18,8 @@ impl Tables {
         &self.messages[message].fields
     }
 
-    /// The place of the field or extension of a number among those of the message type at a place, or none where no field has the number.
+    /// The place of the field or extension of a number among those of the message type at a place, or none where no field has the
+    /// number.
     pub fn field_place(&self, message: usize, number: u32) -> Option<usize>
         requires { message < length (rows_of self.now).messages }
         ensures { result ≡ place_of (fields_at (rows_of self.now) message) number }

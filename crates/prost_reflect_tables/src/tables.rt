@@ -125,7 +125,8 @@ pub struct Identity {
 pub struct FieldTable {
     /// Where the field stands. The message type around an extension is the one in which it is declared, if it is declared in one.
     pub id: Identity,
-    /// The name in JSON: of an extension the full name in brackets, of another field the name that its record gives, or else its own name.
+    /// The name in JSON: of an extension the full name in brackets, of another field the name that its record gives, or else its
+    /// own name.
     pub json_name: String,
     /// The field number, from 1 to 536870911.
     pub number: u32,
@@ -139,7 +140,7 @@ pub struct FieldTable {
     pub cardinality: Cardinality,
     /// Whether a list is written as one record.
     pub is_packed: bool,
-    /// Whether a value that was never set differs from the default.
+    /// Whether a field that was never set is told apart from one that is set to its default (the guide on field presence).
     pub supports_presence: bool,
     /// The default that the definition writes, if it writes one.
     pub default: Option<WrittenDefault>,

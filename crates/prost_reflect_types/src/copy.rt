@@ -17,7 +17,7 @@ pub trait CopiedRecord: DescriptorRecord {
     ///
     /// # Errors
     ///
-    /// `AllocError` if a growth is refused.
+    /// `AllocError` if out of memory.
     fn copy(&self) -> Result<Self, AllocError>
         ensures { IfOk result (λ copied. Self.content copied ≡ Self.content self.now) };
 }

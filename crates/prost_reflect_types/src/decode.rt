@@ -28,12 +28,20 @@ fn read<T: FromBody>(alloc: Global, bytes: &[u8]) -> Result<T, DecodeError>
 }
 
 impl FileDescriptorSet {
-    /// Reads the files of a descriptor set from the bytes, within 100 levels, as the head of this crate says.
+    /// Reads the files of a descriptor set from the bytes, within 100 levels, as the docs of `prost_reflect_types` say.
+    ///
+    /// ```
+    /// // How many files the descriptor set has.
+    /// fn count_files(alloc: Global, bytes: &[u8]) -> Result<usize, DecodeError> {
+    ///     let set = FileDescriptorSet::decode(alloc, bytes)?;
+    ///     Ok(set.file.len())
+    /// }
+    /// ```
     ///
     /// # Errors
     ///
-    /// `Truncated`, `Varint`, `Key`, `WireType`, `EndGroup`, `Utf8` or `Depth` where that fault stands in the bytes, and
-    /// only where they are no such record; `OutOfMemory` if a growth is refused.
+    /// `Truncated`, `Varint`, `Key`, `WireType`, `EndGroup`, `Utf8` or `Depth` if the bytes have this fault, and only if they are
+    /// no such record; `OutOfMemory` if memory runs out.
     pub fn decode(alloc: Global, bytes: &[u8]) -> Result<FileDescriptorSet, DecodeError>
         ensures means { IfOk result (λ own. record_decoded LEVEL_LIMIT types.FileSet bytes.now ≡ Some (of_file_set own)) }
         ensures accepts { IfOk result (λ _. Accepts record_schema LEVEL_LIMIT (place_of types.FileSet) bytes.now) }
@@ -45,12 +53,12 @@ impl FileDescriptorSet {
 }
 
 impl FileDescriptorProto {
-    /// Reads a file's record from the bytes, within 100 levels, as the head of this crate says.
+    /// Reads a file's record from the bytes, within 100 levels, as the docs of `prost_reflect_types` say.
     ///
     /// # Errors
     ///
-    /// `Truncated`, `Varint`, `Key`, `WireType`, `EndGroup`, `Utf8` or `Depth` where that fault stands in the bytes, and
-    /// only where they are no such record; `OutOfMemory` if a growth is refused.
+    /// `Truncated`, `Varint`, `Key`, `WireType`, `EndGroup`, `Utf8` or `Depth` if the bytes have this fault, and only if they are
+    /// no such record; `OutOfMemory` if memory runs out.
     pub fn decode(alloc: Global, bytes: &[u8]) -> Result<FileDescriptorProto, DecodeError>
         ensures means { IfOk result (λ own. record_decoded LEVEL_LIMIT types.File bytes.now ≡ Some (of_file own)) }
         ensures accepts { IfOk result (λ _. Accepts record_schema LEVEL_LIMIT (place_of types.File) bytes.now) }
@@ -62,12 +70,12 @@ impl FileDescriptorProto {
 }
 
 impl DescriptorProto {
-    /// Reads a message's record from the bytes, within 100 levels, as the head of this crate says.
+    /// Reads a message's record from the bytes, within 100 levels, as the docs of `prost_reflect_types` say.
     ///
     /// # Errors
     ///
-    /// `Truncated`, `Varint`, `Key`, `WireType`, `EndGroup`, `Utf8` or `Depth` where that fault stands in the bytes, and
-    /// only where they are no such record; `OutOfMemory` if a growth is refused.
+    /// `Truncated`, `Varint`, `Key`, `WireType`, `EndGroup`, `Utf8` or `Depth` if the bytes have this fault, and only if they are
+    /// no such record; `OutOfMemory` if memory runs out.
     pub fn decode(alloc: Global, bytes: &[u8]) -> Result<DescriptorProto, DecodeError>
         ensures means { IfOk result (λ own. record_decoded LEVEL_LIMIT types.Message bytes.now ≡ Some (of_message own)) }
         ensures accepts { IfOk result (λ _. Accepts record_schema LEVEL_LIMIT (place_of types.Message) bytes.now) }
@@ -79,12 +87,12 @@ impl DescriptorProto {
 }
 
 impl ExtensionRange {
-    /// Reads a range of numbers for extensions from the bytes, within 100 levels, as the head of this crate says.
+    /// Reads a range of numbers for extensions from the bytes, within 100 levels, as the docs of `prost_reflect_types` say.
     ///
     /// # Errors
     ///
-    /// `Truncated`, `Varint`, `Key`, `WireType`, `EndGroup`, `Utf8` or `Depth` where that fault stands in the bytes, and
-    /// only where they are no such record; `OutOfMemory` if a growth is refused.
+    /// `Truncated`, `Varint`, `Key`, `WireType`, `EndGroup`, `Utf8` or `Depth` if the bytes have this fault, and only if they are
+    /// no such record; `OutOfMemory` if memory runs out.
     pub fn decode(alloc: Global, bytes: &[u8]) -> Result<ExtensionRange, DecodeError>
         ensures means { IfOk result (λ own. record_decoded LEVEL_LIMIT types.ExtensionRange bytes.now ≡ Some (of_extension_range own)) }
         ensures accepts { IfOk result (λ _. Accepts record_schema LEVEL_LIMIT (place_of types.ExtensionRange) bytes.now) }
@@ -96,12 +104,12 @@ impl ExtensionRange {
 }
 
 impl ReservedRange {
-    /// Reads a range of reserved numbers from the bytes, within 100 levels, as the head of this crate says.
+    /// Reads a range of reserved numbers from the bytes, within 100 levels, as the docs of `prost_reflect_types` say.
     ///
     /// # Errors
     ///
-    /// `Truncated`, `Varint`, `Key`, `WireType`, `EndGroup`, `Utf8` or `Depth` where that fault stands in the bytes, and
-    /// only where they are no such record; `OutOfMemory` if a growth is refused.
+    /// `Truncated`, `Varint`, `Key`, `WireType`, `EndGroup`, `Utf8` or `Depth` if the bytes have this fault, and only if they are
+    /// no such record; `OutOfMemory` if memory runs out.
     pub fn decode(alloc: Global, bytes: &[u8]) -> Result<ReservedRange, DecodeError>
         ensures means { IfOk result (λ own. record_decoded LEVEL_LIMIT types.ReservedRange bytes.now ≡ Some (of_reserved_range own)) }
         ensures accepts { IfOk result (λ _. Accepts record_schema LEVEL_LIMIT (place_of types.ReservedRange) bytes.now) }
@@ -113,12 +121,12 @@ impl ReservedRange {
 }
 
 impl FieldDescriptorProto {
-    /// Reads a field's record from the bytes, within 100 levels, as the head of this crate says.
+    /// Reads a field's record from the bytes, within 100 levels, as the docs of `prost_reflect_types` say.
     ///
     /// # Errors
     ///
-    /// `Truncated`, `Varint`, `Key`, `WireType`, `EndGroup`, `Utf8` or `Depth` where that fault stands in the bytes, and
-    /// only where they are no such record; `OutOfMemory` if a growth is refused.
+    /// `Truncated`, `Varint`, `Key`, `WireType`, `EndGroup`, `Utf8` or `Depth` if the bytes have this fault, and only if they are
+    /// no such record; `OutOfMemory` if memory runs out.
     pub fn decode(alloc: Global, bytes: &[u8]) -> Result<FieldDescriptorProto, DecodeError>
         ensures means { IfOk result (λ own. record_decoded LEVEL_LIMIT types.Field bytes.now ≡ Some (of_field own)) }
         ensures accepts { IfOk result (λ _. Accepts record_schema LEVEL_LIMIT (place_of types.Field) bytes.now) }
@@ -130,12 +138,12 @@ impl FieldDescriptorProto {
 }
 
 impl OneofDescriptorProto {
-    /// Reads a oneof's record from the bytes, within 100 levels, as the head of this crate says.
+    /// Reads a oneof's record from the bytes, within 100 levels, as the docs of `prost_reflect_types` say.
     ///
     /// # Errors
     ///
-    /// `Truncated`, `Varint`, `Key`, `WireType`, `EndGroup`, `Utf8` or `Depth` where that fault stands in the bytes, and
-    /// only where they are no such record; `OutOfMemory` if a growth is refused.
+    /// `Truncated`, `Varint`, `Key`, `WireType`, `EndGroup`, `Utf8` or `Depth` if the bytes have this fault, and only if they are
+    /// no such record; `OutOfMemory` if memory runs out.
     pub fn decode(alloc: Global, bytes: &[u8]) -> Result<OneofDescriptorProto, DecodeError>
         ensures means { IfOk result (λ own. record_decoded LEVEL_LIMIT types.Oneof bytes.now ≡ Some (of_oneof own)) }
         ensures accepts { IfOk result (λ _. Accepts record_schema LEVEL_LIMIT (place_of types.Oneof) bytes.now) }
@@ -147,12 +155,12 @@ impl OneofDescriptorProto {
 }
 
 impl EnumDescriptorProto {
-    /// Reads an enum's record from the bytes, within 100 levels, as the head of this crate says.
+    /// Reads an enum's record from the bytes, within 100 levels, as the docs of `prost_reflect_types` say.
     ///
     /// # Errors
     ///
-    /// `Truncated`, `Varint`, `Key`, `WireType`, `EndGroup`, `Utf8` or `Depth` where that fault stands in the bytes, and
-    /// only where they are no such record; `OutOfMemory` if a growth is refused.
+    /// `Truncated`, `Varint`, `Key`, `WireType`, `EndGroup`, `Utf8` or `Depth` if the bytes have this fault, and only if they are
+    /// no such record; `OutOfMemory` if memory runs out.
     pub fn decode(alloc: Global, bytes: &[u8]) -> Result<EnumDescriptorProto, DecodeError>
         ensures means { IfOk result (λ own. record_decoded LEVEL_LIMIT types.Enum bytes.now ≡ Some (of_enum own)) }
         ensures accepts { IfOk result (λ _. Accepts record_schema LEVEL_LIMIT (place_of types.Enum) bytes.now) }
@@ -164,12 +172,12 @@ impl EnumDescriptorProto {
 }
 
 impl EnumReservedRange {
-    /// Reads a range of reserved numbers from the bytes, within 100 levels, as the head of this crate says.
+    /// Reads a range of reserved numbers from the bytes, within 100 levels, as the docs of `prost_reflect_types` say.
     ///
     /// # Errors
     ///
-    /// `Truncated`, `Varint`, `Key`, `WireType`, `EndGroup`, `Utf8` or `Depth` where that fault stands in the bytes, and
-    /// only where they are no such record; `OutOfMemory` if a growth is refused.
+    /// `Truncated`, `Varint`, `Key`, `WireType`, `EndGroup`, `Utf8` or `Depth` if the bytes have this fault, and only if they are
+    /// no such record; `OutOfMemory` if memory runs out.
     pub fn decode(alloc: Global, bytes: &[u8]) -> Result<EnumReservedRange, DecodeError>
         ensures means { IfOk result (λ own. record_decoded LEVEL_LIMIT types.EnumReservedRange bytes.now ≡ Some (of_enum_reserved_range own)) }
         ensures accepts { IfOk result (λ _. Accepts record_schema LEVEL_LIMIT (place_of types.EnumReservedRange) bytes.now) }
@@ -181,12 +189,12 @@ impl EnumReservedRange {
 }
 
 impl EnumValueDescriptorProto {
-    /// Reads an enum value's record from the bytes, within 100 levels, as the head of this crate says.
+    /// Reads an enum value's record from the bytes, within 100 levels, as the docs of `prost_reflect_types` say.
     ///
     /// # Errors
     ///
-    /// `Truncated`, `Varint`, `Key`, `WireType`, `EndGroup`, `Utf8` or `Depth` where that fault stands in the bytes, and
-    /// only where they are no such record; `OutOfMemory` if a growth is refused.
+    /// `Truncated`, `Varint`, `Key`, `WireType`, `EndGroup`, `Utf8` or `Depth` if the bytes have this fault, and only if they are
+    /// no such record; `OutOfMemory` if memory runs out.
     pub fn decode(alloc: Global, bytes: &[u8]) -> Result<EnumValueDescriptorProto, DecodeError>
         ensures means { IfOk result (λ own. record_decoded LEVEL_LIMIT types.EnumValue bytes.now ≡ Some (of_enum_value own)) }
         ensures accepts { IfOk result (λ _. Accepts record_schema LEVEL_LIMIT (place_of types.EnumValue) bytes.now) }
@@ -198,12 +206,12 @@ impl EnumValueDescriptorProto {
 }
 
 impl ServiceDescriptorProto {
-    /// Reads a service's record from the bytes, within 100 levels, as the head of this crate says.
+    /// Reads a service's record from the bytes, within 100 levels, as the docs of `prost_reflect_types` say.
     ///
     /// # Errors
     ///
-    /// `Truncated`, `Varint`, `Key`, `WireType`, `EndGroup`, `Utf8` or `Depth` where that fault stands in the bytes, and
-    /// only where they are no such record; `OutOfMemory` if a growth is refused.
+    /// `Truncated`, `Varint`, `Key`, `WireType`, `EndGroup`, `Utf8` or `Depth` if the bytes have this fault, and only if they are
+    /// no such record; `OutOfMemory` if memory runs out.
     pub fn decode(alloc: Global, bytes: &[u8]) -> Result<ServiceDescriptorProto, DecodeError>
         ensures means { IfOk result (λ own. record_decoded LEVEL_LIMIT types.Service bytes.now ≡ Some (of_service own)) }
         ensures accepts { IfOk result (λ _. Accepts record_schema LEVEL_LIMIT (place_of types.Service) bytes.now) }
@@ -215,12 +223,12 @@ impl ServiceDescriptorProto {
 }
 
 impl MethodDescriptorProto {
-    /// Reads a method's record from the bytes, within 100 levels, as the head of this crate says.
+    /// Reads a method's record from the bytes, within 100 levels, as the docs of `prost_reflect_types` say.
     ///
     /// # Errors
     ///
-    /// `Truncated`, `Varint`, `Key`, `WireType`, `EndGroup`, `Utf8` or `Depth` where that fault stands in the bytes, and
-    /// only where they are no such record; `OutOfMemory` if a growth is refused.
+    /// `Truncated`, `Varint`, `Key`, `WireType`, `EndGroup`, `Utf8` or `Depth` if the bytes have this fault, and only if they are
+    /// no such record; `OutOfMemory` if memory runs out.
     pub fn decode(alloc: Global, bytes: &[u8]) -> Result<MethodDescriptorProto, DecodeError>
         ensures means { IfOk result (λ own. record_decoded LEVEL_LIMIT types.Method bytes.now ≡ Some (of_method own)) }
         ensures accepts { IfOk result (λ _. Accepts record_schema LEVEL_LIMIT (place_of types.Method) bytes.now) }

@@ -44,7 +44,7 @@ impl ExtensionRange {
     ///
     /// # Errors
     ///
-    /// `TooLong` if the encoding passes the greatest `usize`, `OutOfMemory` if a growth is refused; the output stays.
+    /// `TooLong` if the encoding passes the greatest `usize`, `OutOfMemory` if memory runs out; the output stays.
     pub fn encode(&self, out: &mut Vec<u8>) -> Result<(), EncodeError>
         ensures ok { OnOk result (out.new.items ≡ out.old.items ++ encoded (of_extension_range self.now)) }
         ensures err { OnErr result (out.new.items ≡ out.old.items) }
@@ -297,7 +297,7 @@ impl FileDescriptorSet {
     ///
     /// # Errors
     ///
-    /// `TooLong` if the encoding passes the greatest `usize`, `OutOfMemory` if a growth is refused; the output stays.
+    /// `TooLong` if the encoding passes the greatest `usize`, `OutOfMemory` if memory runs out; the output stays.
     pub fn encode(&self, out: &mut Vec<u8>) -> Result<(), EncodeError>
         ensures ok { OnOk result (out.new.items ≡ out.old.items ++ encoded (of_file_set self.now)) }
         ensures err { OnErr result (out.new.items ≡ out.old.items) }

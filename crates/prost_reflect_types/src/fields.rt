@@ -44,8 +44,8 @@ pub struct RawField<'a> {
 ///
 /// # Errors
 ///
-/// `Truncated`, `Varint`, `Key`, `WireType`, `EndGroup`, `Utf8` or `Depth` where that fault stands in the body;
-/// `OutOfMemory` if a growth is refused.
+/// `Truncated`, `Varint`, `Key`, `WireType`, `EndGroup`, `Utf8` or `Depth` if the body has this fault;
+/// `OutOfMemory` if memory runs out.
 pub fn fields_in<'a>(
     alloc: Global,
     record_type: RecordType,

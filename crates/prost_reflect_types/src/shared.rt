@@ -48,7 +48,7 @@ fn write_files<S: Sink>(sink: &mut S, number: u32, files: &[Rc<FileDescriptorPro
 ///
 /// # Errors
 ///
-/// `TooLong` if the encoding passes the greatest `usize`, `OutOfMemory` if a growth is refused; the output stays.
+/// `TooLong` if the encoding passes the greatest `usize`, `OutOfMemory` if memory runs out; the output stays.
 pub fn encode_files(files: &[Rc<FileDescriptorProto>], out: &mut Vec<u8>) -> Result<(), EncodeError>
     ensures ok { OnOk result (out.new.items ≡ out.old.items ++ encoded (of_files (shared_files files.now))) }
     ensures err { OnErr result (out.new.items ≡ out.old.items) }

@@ -24,7 +24,7 @@ fn last<'a>(fields: &[RawField<'a>], number: u32) -> Option<RawValue<'a>>
 ///
 /// # Errors
 ///
-/// `AllocError` if a growth is refused.
+/// `AllocError` if out of memory.
 #[tactic(auto, unfolding(crate::specs::DescriptorReading::text_at, crate::specs::DescriptorViews::of_text))]
 pub fn text(
     alloc: Global,
@@ -65,7 +65,7 @@ pub fn flag(fields: &[RawField<'_>], number: u32) -> Option<bool>
 ///
 /// # Errors
 ///
-/// `AllocError` if a growth is refused.
+/// `AllocError` if out of memory.
 #[tactic(auto, unfolding(crate::specs::DescriptorReading::bytes_at, crate::specs::DescriptorViews::of_bytes))]
 pub fn bytes(
     alloc: Global,
@@ -102,7 +102,7 @@ fn longer(alloc: Global, bytes: Option<Vec<u8>>, piece: &[u8]) -> Result<Vec<u8>
 ///
 /// # Errors
 ///
-/// `AllocError` if a growth is refused.
+/// `AllocError` if out of memory.
 #[tactic(auto, unfolding(crate::specs::DescriptorReading::texts_at, crate::specs::DescriptorViews::of_texts))]
 pub fn texts(alloc: Global, fields: &[RawField<'_>], number: u32) -> Result<Vec<String>, AllocError>
     ensures { IfOk result (λ texts. of_texts texts ≡ texts_at number (all_found fields.now)) }
@@ -122,7 +122,7 @@ pub fn texts(alloc: Global, fields: &[RawField<'_>], number: u32) -> Result<Vec<
 ///
 /// # Errors
 ///
-/// `AllocError` if a growth is refused.
+/// `AllocError` if out of memory.
 #[tactic(auto, unfolding(crate::specs::DescriptorReading::numbers_at, crate::specs::DescriptorViews::of_numbers))]
 pub fn numbers(alloc: Global, fields: &[RawField<'_>], number: u32) -> Result<Vec<i32>, AllocError>
     ensures { IfOk result (λ numbers. of_numbers numbers ≡ numbers_at number (all_found fields.now)) }
@@ -142,7 +142,7 @@ pub fn numbers(alloc: Global, fields: &[RawField<'_>], number: u32) -> Result<Ve
 ///
 /// # Errors
 ///
-/// `AllocError` if a growth is refused.
+/// `AllocError` if out of memory.
 pub fn bodies<'a>(
     alloc: Global,
     fields: &[RawField<'a>],

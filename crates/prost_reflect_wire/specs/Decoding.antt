@@ -50,7 +50,7 @@ pub record Step (levels n : ℕ) (w : WireType) (old new : Content) (bytes rest 
   pub read : RecordRead levels n w old new bytes rest
   pub holds : Holds old new
 
--- Wherever such a key stands in front of the bytes, in a message or in an open group that the key does not end, the fault stands there.
+-- Wherever such a key comes in front of the bytes, in a message or in an open group that it does not end, the fault is there.
 abbrev pub StandsBehindKey : Content → ℕ → ℕ → WireType → DecodeError → List ℕ → Type 0
 StandsBehindKey c levels n w e rest = (bytes : List ℕ) (open_group : Option ℕ) → KeyFront n w bytes rest → (w ≡ wires.EndGroup → open_group ≢ Some n)
     → Stands (schema_of c) e (record { bytes = bytes; inside = OfType (type_of c); levels = levels; open_group = open_group })
@@ -63,7 +63,7 @@ pub record GroupProgress (levels n : ℕ) (old new : Content) (bytes rest : List
   pub progress : Progress levels old new bytes end
   pub stop : KeyFront n wires.EndGroup end rest
 
--- The fault stands in the group that a start key of the number opens.
+-- The bytes have the fault, as those of the group that a start key of the number opens.
 abbrev pub StandsInGroup : Content → ℕ → ℕ → DecodeError → List ℕ → Type 0
 StandsInGroup c levels n e bytes = Stands (schema_of c) e (record { bytes = bytes; inside = OfType (type_of c); levels = levels; open_group = Some n })
 

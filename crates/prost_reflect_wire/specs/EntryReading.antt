@@ -45,6 +45,6 @@ plain_type kind = record { kind = ScalarOf kind; presence = false; required = fa
 abbrev pub ScalarEntryTo : (levels : ℕ) (key value_kind : ScalarKind) (k v : Scalar) (bytes rest : List ℕ) → Type 0
 ScalarEntryTo levels key value_kind k v bytes rest = EntryTo nothing_inside (empty_inside []) levels (plain_type key) (plain_type value_kind) k (ScalarValue v) bytes rest
 
--- The fault stands in the body of each entry of these kinds.
+-- The bytes have the fault, as the body of any entry of these kinds.
 abbrev pub StandsInEntry : (levels : ℕ) (key value_kind : ScalarKind) → DecodeError → List ℕ → Type 0
 StandsInEntry levels key value_kind e bytes = (schema : Schema) (key_type value_type : ValueType) → key_type.kind ≡ ScalarOf key → value_type.kind ≡ ScalarOf value_kind → Stands schema e (EntryPlace key_type value_type levels bytes)

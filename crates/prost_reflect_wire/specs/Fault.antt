@@ -1,4 +1,5 @@
--- Which faults stand in bytes, at which places (what the encoding guide's rules on varints, keys, payloads, groups and text leave no reading for).
+-- Which faults bytes have, and at which places.
+-- They are what the encoding guide's rules on varints, keys, payloads, groups and text leave no reading for.
 use Rattle.std.specs.Prelude.{◌≡◌, ◌≢◌, ℕ, suc, ◌⊎◌, Bool, true, false, ◌&&◌, ◌||◌, nat_eq, List, [], ◌∷◌, ◌++◌, Option, Some, None, if◌then◌else◌}
 use Rattle.std.specs.Str.{is_utf8}
 use Rattle.prost_reflect_wire.specs.Record.{Plain, Record, wire_code, plain_wire, short_key}

@@ -111,7 +111,7 @@ impl Blocks {
     ///
     /// # Errors
     ///
-    /// `TooLong` if the whole passes the greatest `usize`, `OutOfMemory` if memory is refused.
+    /// `TooLong` if the whole passes the greatest `usize`, `OutOfMemory` if memory runs out.
     #[inline]
     pub(crate) fn prepend(&mut self, front: &[u8]) -> Result<(), EncodeError>
         ensures { Prepended result (bytes_in self.old) (bytes_in self.new) front.now }
@@ -149,11 +149,11 @@ impl Blocks {
         Ok(whole)
     }
 
-    /// Appends the bytes to the output, in one growth. An output without bytes becomes them.
+    /// Appends the bytes to the output, which grows at most once. An empty output is replaced by them.
     ///
     /// # Errors
     ///
-    /// `AllocError` if the growth is refused; the output stays.
+    /// `AllocError` if out of memory; the output stays.
     pub(crate) fn append_to(&self, out: &mut Vec<u8>) -> Result<(), AllocError>
         ensures ok { OnOk result (out.new.items ≡ out.old.items ++ bytes_in self.now) }
         ensures err { OnErr result (out.new.items ≡ out.old.items) }

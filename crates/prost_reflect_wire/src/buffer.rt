@@ -37,7 +37,7 @@ impl BackBuffer {
     ///
     /// # Errors
     ///
-    /// `AllocError` if the memory is refused.
+    /// `AllocError` if out of memory.
     pub(crate) fn with_capacity(alloc: Global, capacity: usize) -> Result<BackBuffer, AllocError>
         ensures { IfOk result (λ buffer. bytes_of buffer ≡ []) }
     {
@@ -51,7 +51,7 @@ impl BackBuffer {
     ///
     /// # Errors
     ///
-    /// `AllocError` if the memory is refused.
+    /// `AllocError` if out of memory.
     pub(crate) fn from_slice(alloc: Global, bytes: &[u8]) -> Result<BackBuffer, AllocError>
         ensures { IfOk result (λ buffer. bytes_of buffer ≡ bytes.now) }
     {
@@ -113,7 +113,7 @@ impl BackBuffer {
     ///
     /// # Errors
     ///
-    /// `TooLong` if the whole passes the greatest `usize`, `OutOfMemory` if a growth is refused; the buffer stays.
+    /// `TooLong` if the whole passes the greatest `usize`, `OutOfMemory` if memory runs out; the buffer stays.
     #[inline]
     pub fn prepend(&mut self, front: &[u8]) -> Result<(), EncodeError>
         ensures ok { Prepended result (bytes_of self.old) (bytes_of self.new) front.now }
@@ -181,11 +181,11 @@ impl BackBuffer {
         self.prepend_varint(key_value(number.get(), wire_type))
     }
 
-    /// Appends the bytes to the output, in one growth.
+    /// Appends the bytes to the output, which grows at most once.
     ///
     /// # Errors
     ///
-    /// `AllocError` if the growth is refused; the output stays.
+    /// `AllocError` if out of memory; the output stays.
     pub fn append_to(&self, out: &mut Vec<u8>) -> Result<(), AllocError>
         ensures ok { OnOk result (out.new.items ≡ out.old.items ++ bytes_of self.now) }
         ensures err { OnErr result (out.new.items ≡ out.old.items) }

@@ -7,7 +7,7 @@ ghost use Rattle.prost_reflect_wire.specs.declared.error.EncodeError.TheVariants
 use std::alloc::{AllocError, AllocFailed};
 use thiserror::Error;
 
-/// Why bytes are refused. Where several faults stand, one of them is named.
+/// Why bytes are refused. If they have several faults, one of them is named.
 #[derive(Clone, Copy, Debug, PartialEq, Eq, Error)]
 pub enum DecodeError {
     /// The input or a delimited body ends inside a record, a length passes the end, or a group has no end.
@@ -31,7 +31,7 @@ pub enum DecodeError {
     /// More levels are nested than may be opened.
     #[error("messages or groups are nested too deep")]
     Depth,
-    /// A growth was refused.
+    /// Out of memory.
     #[error("out of memory")]
     OutOfMemory,
 }
@@ -58,7 +58,7 @@ pub enum EncodeError {
     /// A length passes the greatest `usize`.
     #[error("a length passes the greatest usize")]
     TooLong,
-    /// A growth was refused.
+    /// Out of memory.
     #[error("out of memory")]
     OutOfMemory,
 }

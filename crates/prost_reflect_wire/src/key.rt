@@ -8,7 +8,7 @@ ghost use Rattle.prost_reflect_wire.specs.declared.key.WireType.{WireType as Wir
 use crate::error::DecodeError;
 use crate::varint::decode_varint;
 
-/// What kind of payload stands behind a key (the encoding guide, "Message Structure").
+/// What kind of payload follows a key (the encoding guide, "Message Structure").
 #[derive(Clone, Copy, Debug, PartialEq, Eq)]
 pub enum WireType {
     /// A varint.

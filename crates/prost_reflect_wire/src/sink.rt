@@ -60,7 +60,7 @@ impl ByteSink {
     ghost use Rattle.std.specs.Prelude.{◌≤◌, ◌<◌, ◌^◌, Ok, OnOk, OnErr, IfErr};
     ghost use Rattle.prost_reflect_wire.specs.Sinks.{HasNoBytes, written_since};
 
-    /// No bytes, none of which was refused.
+    /// No bytes yet.
     pub fn new(alloc: Global) -> ByteSink
         ensures { HasNoBytes result }
     {
@@ -70,11 +70,11 @@ impl ByteSink {
         }
     }
 
-    /// Appends the bytes to the output, in one growth.
+    /// Appends the bytes to the output, which grows at most once.
     ///
     /// # Errors
     ///
-    /// `TooLong` if the bytes are more than the greatest `usize`, `OutOfMemory` if a growth was refused; the output stays.
+    /// `TooLong` if the bytes are more than the greatest `usize`, `OutOfMemory` if memory runs out; the output stays.
     pub fn append_to(self, out: &mut Vec<u8>) -> Result<(), EncodeError>
         ensures ok { OnOk result ((start : ByteSink) (front : List ℕ) → HasNoBytes start → Adds written_since start self front → out.new.items ≡ out.old.items ++ front) }
         ensures fits { OnOk result ((start : ByteSink) (front : List ℕ) → HasNoBytes start → Adds written_since start self front → length front < 2 ^ 64) }

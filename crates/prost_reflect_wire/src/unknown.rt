@@ -35,7 +35,7 @@ pub struct UnknownField {
     pub(crate) value: UnknownFieldValue,
 }
 
-/// What such a field contains.
+/// What an unknown field contains.
 #[derive(Debug, Drop)]
 #[cycle(unknown)]
 pub enum UnknownFieldValue {
@@ -51,7 +51,7 @@ pub enum UnknownFieldValue {
     ThirtyTwoBit([u8; 4]),
 }
 
-/// Such fields in order.
+/// Unknown fields, in order.
 #[derive(Debug, Drop)]
 #[cycle(unknown)]
 pub struct UnknownFieldSet {
@@ -60,6 +60,14 @@ pub struct UnknownFieldSet {
 
 impl UnknownField {
     /// A field of the number with the value.
+    ///
+    /// ```
+    /// // Appends the bytes 28 96 01: field 5 with the varint 150.
+    /// fn append_five(out: &mut Vec<u8>) -> Result<(), EncodeError> {
+    ///     let field = UnknownField::new(FieldNumber::new(5), UnknownFieldValue::Varint(150));
+    ///     field.encode(out)
+    /// }
+    /// ```
     pub fn new(number: FieldNumber, value: UnknownFieldValue) -> UnknownField
         ensures number { result.number ≡ number }
         ensures value { result.value ≡ value }
@@ -93,6 +101,7 @@ impl UnknownField {
 }
 
 impl UnknownFieldValue {
+    /// The wire type of the key of a field that contains this.
     pub(crate) fn wire_type(&self) -> WireType
         ensures { result ≡ payload_wire (payload_of self.now) }
     {
@@ -108,6 +117,15 @@ impl UnknownFieldValue {
 
 impl UnknownFieldSet {
     /// No fields.
+    ///
+    /// ```
+    /// // The set of one field.
+    /// fn set_of(alloc: Global, field: UnknownField) -> Result<UnknownFieldSet, AllocError> {
+    ///     let mut set = UnknownFieldSet::new(alloc);
+    ///     set.insert(field)?;
+    ///     Ok(set)
+    /// }
+    /// ```
     pub fn new(alloc: Global) -> UnknownFieldSet
         ensures fields { fields_of result ≡ [] }
         ensures records { records_of result ≡ [] }
@@ -143,7 +161,7 @@ impl UnknownFieldSet {
     ///
     /// # Errors
     ///
-    /// `AllocError` if the growth is refused; the set stays.
+    /// `AllocError` if out of memory; the set stays.
     pub fn insert(&mut self, field: UnknownField) -> Result<(), AllocError>
         ensures fields { OnOk result (fields_of self.new ≡ fields_of self.old ++ field ∷ []) }
         ensures records { OnOk result (records_of self.new ≡ records_of self.old ++ record_of field ∷ []) }

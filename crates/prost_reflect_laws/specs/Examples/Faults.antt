@@ -1,4 +1,4 @@
--- Faults that stand in bytes: each of the named errors, and each way to a further place.
+-- Faults that bytes have: each of the named errors, and each way to a further place.
 use Rattle.std.specs.Prelude.{[]}
 use Rattle.prost_reflect_wire.specs.Grammar.{LEVEL_LIMIT}
 use Rattle.prost_reflect_wire.specs.Fault.{StandsInMessage, StandsInField}

@@ -153,11 +153,11 @@ pub record OfWriting : Type 0 where
   pub canonicity_defaults : Spellable stores_defaults
 
 pub record OfFaults : Type 0 where
-  -- Bytes that are accepted: no fault stands in them, and they are refused for want of memory alone.
+  -- Bytes that are accepted: they have no fault, and are refused only out of memory.
   pub accepted : AreBytes (hex "0801") × Accepts examples 0 my_message (hex "0801")
-  -- Where each other refusal is a fault that stands: of want of memory itself nothing is asked.
+  -- If each other refusal names a fault that they have: of being out of memory itself nothing is asked.
   pub accepted_only_memory : errors.OutOfMemory ≢ errors.OutOfMemory → StandsInMessage examples my_message 0 errors.OutOfMemory (hex "0801")
   -- Bytes that are not accepted,
   pub accepted_unless_fault : AreBytes (hex "0896") × (accepts examples 0 my_message (hex "0896") ≡ false)
-  -- and the fault that stands in them.
+  -- and the fault that they have.
   pub fault : StandsInMessage examples my_message LEVEL_LIMIT errors.Truncated (hex "0896")

@@ -22,21 +22,21 @@ abbrev pub no_value : List ℕ
 no_value = 264 ∷ 0 ∷ []
 
 pub record NotOfFaults : Type 0 where
-  -- In bytes that are accepted a fault may stand with fewer levels left,
+  -- Bytes that are accepted may have a fault with fewer levels left,
   pub accepted_has_no_fault : Accepts examples 1 my_message group_bytes × StandsInMessage examples my_message 0 errors.Depth group_bytes
-  -- and a fault that stands need not stand with more.
+  -- and a fault that bytes have, they need not have with more.
   pub fault_further : StandsInMessage examples my_message 1 errors.Depth group_bytes → ⊥
-  -- More than one fault may stand: a wire type, and behind it number 0.
+  -- Bytes may have more than one fault: a wire type, and behind it number 0.
   pub one_fault : StandsInMessage examples my_message 0 errors.WireType (hex "180000") × StandsInMessage examples my_message 0 errors.Key (hex "180000")
-  -- In numbers that are no bytes no fault stands, though they are not accepted.
+  -- Numbers that are no bytes may have no fault, though they are not accepted.
   pub accepted_unless_fault : (accepts examples 0 my_message no_value ≡ false) × ((e : DecodeError) → StandsInMessage examples my_message 0 e no_value → ⊥)
-  -- Each error but want of memory stands in some bytes.
+  -- Each error but being out of memory is a fault of some bytes.
   pub never_stands : (e : DecodeError) → e ≢ errors.OutOfMemory → (T : ℕ) × ((k : ℕ) × ((bytes : List ℕ) × StandsInMessage examples T k e bytes))
-  -- Bytes that are not accepted are refused for what stands in them, too.
+  -- Bytes that are not accepted are refused for a fault that they have, too.
   pub only_memory : (errors.Truncated ≢ errors.OutOfMemory → StandsInMessage examples my_message 100 errors.Truncated (hex "0896")) × (errors.Truncated ≢ errors.OutOfMemory)
 
 pub record NotOfFields : Type 0 where
-  -- A fault that stands behind the first field is none of the field.
+  -- A fault behind the first field is none of the field.
   pub field_unless_fault : HasField 0 (hex "080100") × StandsInMessage examples no_fields 0 errors.Key (hex "080100")
   -- A value may stand behind a key of number 0, which is a fault.
   pub value_unless_fault : HasValue 0 0 wires.Varint (hex "01") × StandsInValue 0 0 wires.Varint errors.Key (hex "01")

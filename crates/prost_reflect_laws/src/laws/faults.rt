@@ -2,22 +2,22 @@
 
 ghost use Rattle.prost_reflect_laws.specs.LawsOfFaults.{AcceptedHasNoFault, AcceptedUnlessFault, MemoryNeverStands, AcceptedOnlyMemory};
 
-/// No fault stands in bytes that are accepted.
+/// Bytes that are accepted have no fault.
 pub fn accepted_has_no_fault()
     ensures { AcceptedHasNoFault }
 {}
 
-/// Bytes are accepted unless a fault stands in them.
+/// Bytes are accepted unless they have a fault.
 pub fn accepted_unless_fault()
     ensures { AcceptedUnlessFault }
 {}
 
-/// Want of memory stands in no bytes.
+/// Being out of memory is a fault of no bytes.
 pub fn memory_never_stands()
     ensures { MemoryNeverStands }
 {}
 
-/// Accepted bytes are refused for want of memory alone, where each other refusal is a fault that stands.
+/// Accepted bytes are refused only out of memory, if each other refusal names a fault that the bytes have.
 pub fn accepted_only_memory()
     ensures { AcceptedOnlyMemory }
 {}

@@ -72,7 +72,7 @@ fn sorted_places(
 ///
 /// # Errors
 ///
-/// `AllocError` if a growth was refused.
+/// `AllocError` if out of memory.
 pub fn linked_catalog(
     alloc: Global,
     files: &[&FileDescriptorProto],

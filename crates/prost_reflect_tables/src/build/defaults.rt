@@ -7,8 +7,8 @@ ghost use Rattle.prost_reflect_tables.specs.WrittenDefaults.{is_octal, is_digit,
 use crate::tables::{TableKind, WrittenDefault};
 use std::alloc::{AllocError, Global};
 
-/// Reads the default of a singular field of a proto2 file, as protoc writes it into the field's record. A text that gives no value of
-/// the field's kind is none.
+/// Reads the default of a singular field of a proto2 file, as protoc writes it into the field's record. A text that gives no
+/// value of the field's kind is none.
 ///
 /// The number is that of the value that the text names, where the field is of an enum: of its first value of that name.
 ///
@@ -16,7 +16,7 @@ use std::alloc::{AllocError, Global};
 ///
 /// # Errors
 ///
-/// `AllocError` if a growth was refused.
+/// `AllocError` if out of memory.
 #[tactic(auto, unfolding(crate::specs::WrittenDefaults::written_default))]
 pub fn written_default(
     alloc: Global,

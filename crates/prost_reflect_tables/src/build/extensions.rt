@@ -38,7 +38,7 @@ fn linked_extension(tables: &Tables, extension: &ResolvedField) -> ExtensionTabl
 ///
 /// # Errors
 ///
-/// `AllocError` if a growth was refused.
+/// `AllocError` if out of memory.
 pub fn linked_extensions(
     alloc: Global,
     tables: &Tables,

@@ -162,7 +162,7 @@ fn file_table(
 ///
 /// # Errors
 ///
-/// `AllocError` if a growth was refused.
+/// `AllocError` if out of memory.
 pub fn linked_files(
     alloc: Global,
     files: &[&FileDescriptorProto],

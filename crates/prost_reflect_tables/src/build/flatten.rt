@@ -121,7 +121,7 @@ pub struct Flat<'a> {
 
 /// A path with the number of a record's field and the place in its list behind.
 ///
-/// A place past 2^31 - 1 has no path; it is refused as a growth, as no memory holds so many records.
+/// A place past 2^31 - 1 has no path; it is answered as being out of memory, as no memory holds so many records.
 fn longer_path(
     alloc: Global,
     path: &[i32],
@@ -364,6 +364,7 @@ fn add_message<'a>(
     Ok(())
 }
 
+/// Whether the file is of proto3.
 pub fn is_proto3(proto: &FileDescriptorProto) -> bool
     ensures { result ≡ is_proto3 proto.now }
 {
@@ -417,7 +418,7 @@ fn add_file<'a>(
 ///
 /// # Errors
 ///
-/// `AllocError` if a growth was refused.
+/// `AllocError` if out of memory.
 pub fn flattened<'a>(
     alloc: Global,
     files: &[&'a FileDescriptorProto],

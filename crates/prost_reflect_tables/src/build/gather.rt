@@ -11,7 +11,7 @@ use std::alloc::{AllocError, Global};
 ///
 /// # Errors
 ///
-/// `AllocError` if a growth was refused.
+/// `AllocError` if out of memory.
 pub fn gathered<T, F: Fn(&T) -> Option<usize>>(
     alloc: Global,
     count: usize,
@@ -32,7 +32,7 @@ pub fn gathered<T, F: Fn(&T) -> Option<usize>>(
 ///
 /// # Errors
 ///
-/// `AllocError` if a growth was refused.
+/// `AllocError` if out of memory.
 pub fn list_at(alloc: Global, lists: &[Vec<usize>], place: usize) -> Result<Vec<usize>, AllocError>
     ensures { IfOk result (λ v. v.items ≡ unwrap_or (slice_get (map (λ l. l.items) lists.now) place) []) }
 {

@@ -16,7 +16,7 @@ use std::alloc::{AllocError, Global};
 ///
 /// # Errors
 ///
-/// `AllocError` if a growth was refused.
+/// `AllocError` if out of memory.
 pub fn linked_identity<R>(
     alloc: Global,
     definition: &Definition<R>,
@@ -31,7 +31,7 @@ pub fn linked_identity<R>(
 ///
 /// # Errors
 ///
-/// `AllocError` if a growth was refused.
+/// `AllocError` if out of memory.
 pub fn lent_identity<R>(
     alloc: Global,
     definition: &DefinitionRef<R>,
@@ -62,7 +62,7 @@ fn bracketed(alloc: Global, full_name: &str) -> Result<String, AllocError>
 ///
 /// # Errors
 ///
-/// `AllocError` if a growth was refused.
+/// `AllocError` if out of memory.
 pub fn json_name(
     alloc: Global,
     is_extension: bool,

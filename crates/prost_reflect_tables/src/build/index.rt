@@ -28,6 +28,11 @@ pub struct Index {
 
 // DUPLICATE NAMES
 
+/// Adds the full names of definitions.
+///
+/// # Errors
+///
+/// `AllocError` if out of memory.
 pub fn add_names<'f, 'a, R>(
     names: &mut Vec<&'f str>,
     more: &'f [Definition<'a, R>],
@@ -108,7 +113,7 @@ fn repeats(alloc: Global, names: &[&str]) -> Result<bool, AllocError>
 ///
 /// # Errors
 ///
-/// `AllocError` if a growth was refused.
+/// `AllocError` if out of memory.
 pub fn has_duplicate_name(alloc: Global, flat: &Flat) -> Result<bool, AllocError>
     ensures { IfOk result (λ b. b ≡ duplicate_name (flat_rows flat.now)) }
 {
@@ -122,7 +127,7 @@ pub fn has_duplicate_name(alloc: Global, flat: &Flat) -> Result<bool, AllocError
 ///
 /// # Errors
 ///
-/// `AllocError` if a growth was refused.
+/// `AllocError` if out of memory.
 pub fn index_of(alloc: Global, names: &[&str]) -> Result<BTreeMap<String, usize>, AllocError>
     ensures { IfOk result (λ m. IsIndexOf m (text_list names.now)) }
 {
@@ -135,6 +140,11 @@ pub fn index_of(alloc: Global, names: &[&str]) -> Result<BTreeMap<String, usize>
     Ok(index)
 }
 
+/// The full names of messages.
+///
+/// # Errors
+///
+/// `AllocError` if out of memory.
 pub fn message_names<'f, 'a>(
     alloc: Global,
     messages: &'f [FlatMessage<'a>],
@@ -148,6 +158,11 @@ pub fn message_names<'f, 'a>(
     Ok(names)
 }
 
+/// The full names of enums.
+///
+/// # Errors
+///
+/// `AllocError` if out of memory.
 pub fn enum_names<'f, 'a>(
     alloc: Global,
     enums: &'f [FlatEnum<'a>],
@@ -195,7 +210,7 @@ fn numbers_by_enum(
 ///
 /// # Errors
 ///
-/// `AllocError` if a growth was refused.
+/// `AllocError` if out of memory.
 pub fn indexed(alloc: Global, flat: &Flat) -> Result<Index, AllocError>
     ensures { IfOk result (λ index. IsIndex index (flat_rows flat.now)) }
 {

@@ -126,7 +126,7 @@ fn linked_packed(
         && bool_option(2, &field.options).unwrap_or(is_proto3)
 }
 
-/// Whether a value of a field that was never set differs from the default.
+/// Whether a field that was never set is told apart from one that is set to its default (the guide on field presence).
 fn linked_presence(
     is_proto3: bool,
     is_extension: bool,
@@ -148,7 +148,7 @@ fn linked_presence(
 ///
 /// # Errors
 ///
-/// `AllocError` if a growth was refused.
+/// `AllocError` if out of memory.
 pub fn linked_default(
     alloc: Global,
     index: &Index,
@@ -428,12 +428,12 @@ fn linked_enums(alloc: Global, enums: &[FlatEnum]) -> Result<Vec<EnumTable>, All
 
 /// The message types and enums that files in flat lists give.
 ///
-/// What the texts of their fields mean was looked up by `check_files`. Messages and enums keep their places. The cost grows as n log n
-/// in the number of definitions.
+/// What the texts of their fields mean was looked up by `check_files`. Messages and enums keep their places. The cost grows as
+/// n log n in the number of definitions.
 ///
 /// # Errors
 ///
-/// `AllocError` if a growth was refused.
+/// `AllocError` if out of memory.
 pub fn linked(
     alloc: Global,
     flat: &Flat,

@@ -170,7 +170,7 @@ fn message_lists(
 ///
 /// # Errors
 ///
-/// `AllocError` if a growth was refused.
+/// `AllocError` if out of memory.
 pub fn lists_of_messages(
     alloc: Global,
     resolved: &Resolved,
@@ -233,7 +233,7 @@ fn enum_lists(alloc: Global, declared: &FlatEnum) -> Result<EnumLists, AllocErro
 ///
 /// # Errors
 ///
-/// `AllocError` if a growth was refused.
+/// `AllocError` if out of memory.
 pub fn lists_of_enums(alloc: Global, enums: &[FlatEnum]) -> Result<Vec<EnumLists>, AllocError>
     ensures { IfOk result (λ v. map enum_lists_row v.items ≡ map enum_lists (map flat_views.enum_row enums.now)) }
 {

@@ -19,7 +19,7 @@ pub fn text_or_empty(text: &Option<String>) -> &str
 ///
 /// # Errors
 ///
-/// `AllocError` if a growth was refused.
+/// `AllocError` if out of memory.
 pub fn joined(alloc: Global, scope: &str, name: &str) -> Result<String, AllocError>
     ensures { IfOk result (λ s. string_bytes s ≡ joined scope.now name.now) }
 {

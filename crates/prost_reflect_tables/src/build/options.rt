@@ -137,7 +137,8 @@ fn has_message_options_bad(messages: &[FlatMessage]) -> bool
     false
 }
 
-/// Whether the option bytes of a message, a field or an extension are no records, or the option that is read of them is no varint.
+/// Whether the option bytes of a message, a field or an extension are no records, or the option that is read of them is no
+/// varint.
 pub fn has_bad_options(flat: &Flat) -> bool
     ensures { result ≡ bad_options (flat_rows flat.now) }
 {

@@ -29,7 +29,7 @@ fn compare_texts(texts: &[&str], first: usize, second: usize) -> Ordering
 ///
 /// # Errors
 ///
-/// `AllocError` if a growth was refused.
+/// `AllocError` if out of memory.
 pub fn sort_by_text(texts: &[&str], places: &mut Vec<usize>) -> Result<(), AllocError>
     ensures { OnOk result (places.new.items ≡ by_text (text_list texts.now) places.old.items) }
 {
@@ -56,7 +56,7 @@ fn compare_numbers(numbers: &[i32], first: usize, second: usize) -> Ordering
 ///
 /// # Errors
 ///
-/// `AllocError` if a growth was refused.
+/// `AllocError` if out of memory.
 pub fn sort_by_number(numbers: &[i32], places: &mut Vec<usize>) -> Result<(), AllocError>
     ensures { OnOk result (places.new.items ≡ by_number numbers.now places.old.items) }
 {
@@ -78,7 +78,7 @@ fn all_places<T>(alloc: Global, items: &[T]) -> Result<Vec<usize>, AllocError>
 ///
 /// # Errors
 ///
-/// `AllocError` if a growth was refused.
+/// `AllocError` if out of memory.
 pub fn ordered_texts(alloc: Global, texts: &[&str]) -> Result<Vec<usize>, AllocError>
     ensures { IfOk result (λ v. v.items ≡ by_text (text_list texts.now) (all_places (text_list texts.now))) }
 {
@@ -91,7 +91,7 @@ pub fn ordered_texts(alloc: Global, texts: &[&str]) -> Result<Vec<usize>, AllocE
 ///
 /// # Errors
 ///
-/// `AllocError` if a growth was refused.
+/// `AllocError` if out of memory.
 pub fn ordered_numbers(alloc: Global, numbers: &[i32]) -> Result<Vec<usize>, AllocError>
     ensures { IfOk result (λ v. v.items ≡ by_number numbers.now (all_places numbers.now)) }
 {

@@ -115,7 +115,7 @@ fn entry_flags(alloc: Global, messages: &[FlatMessage]) -> Result<Vec<bool>, All
 ///
 /// # Errors
 ///
-/// `AllocError` if a growth was refused.
+/// `AllocError` if out of memory.
 pub fn all_resolved<'f, 'a>(alloc: Global, flat: &'f Flat<'a>) -> Result<Resolved<'f>, AllocError>
     ensures { IfOk result (λ resolved. IsResolved resolved (flat_rows flat.now)) }
 {

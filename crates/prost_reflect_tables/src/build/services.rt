@@ -67,7 +67,7 @@ fn linked_service(
 ///
 /// # Errors
 ///
-/// `AllocError` if a growth was refused.
+/// `AllocError` if out of memory.
 pub fn linked_services(
     alloc: Global,
     index: &Index,

@@ -40,7 +40,8 @@ fn is_default_bad(field: &ResolvedField) -> bool
         || (!is_float_type(field.definition.proto.type_) && is_default_unread(field))
 }
 
-/// Whether a default stands at a list, at a message or in a proto3 file, or, floats and doubles aside, gives no value of its field's kind.
+/// Whether a default stands at a list, at a message or in a proto3 file, or, floats and doubles aside, gives no value of its
+/// field's kind.
 pub fn has_bad_default(resolved: &Resolved, flat: &Flat) -> bool
     requires { IsResolved resolved.now (flat_rows flat.now) }
     ensures { result ≡ bad_default (flat_rows flat.now) }

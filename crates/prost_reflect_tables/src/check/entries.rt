@@ -158,7 +158,8 @@ fn has_method_of_entry(resolved: &Resolved, flat: &Flat) -> bool
     )
 }
 
-/// Whether a message that the option `map_entry` marks is not a key and a value, or something other than a repeated message field names one.
+/// Whether a message that the option `map_entry` marks is not a key and a value, or something other than a repeated message field
+/// names one.
 pub fn has_bad_map_entry(resolved: &Resolved, flat: &Flat) -> bool
     requires { IsResolved resolved.now (flat_rows flat.now) }
     ensures { result ≡ bad_map_entry (flat_rows flat.now) }

@@ -66,7 +66,7 @@ fn add_extensions(
 ///
 /// # Errors
 ///
-/// `AllocError` if a growth was refused.
+/// `AllocError` if out of memory.
 pub fn has_duplicate_number(
     alloc: Global,
     resolved: &Resolved,

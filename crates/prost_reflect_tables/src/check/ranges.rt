@@ -127,7 +127,8 @@ fn is_in_range(number: i32, range: &ExtensionRange) -> bool
     range.start.unwrap_or(0) <= number && number < range.end.unwrap_or(0)
 }
 
-/// Whether the number is in one of the ranges, whose spans are given. A negative one, which is refused before, is no number of a span.
+/// Whether the number is in one of the ranges, whose spans are given. A negative one, which is refused before, is no number of a
+/// span.
 fn is_covered(number: i32, ranges: &[ExtensionRange], spans: &[(u32, u32)]) -> bool
     requires { AreSpansOf spans.now ranges.now }
     ensures { result ≡ list_any (is_in_range number) ranges.now }
@@ -163,7 +164,7 @@ fn is_extension_outside(flat: &Flat, spans: &[Vec<(u32, u32)>], extension: &Reso
 ///
 /// # Errors
 ///
-/// `AllocError` if a growth was refused.
+/// `AllocError` if out of memory.
 pub fn has_outside_range(
     alloc: Global,
     resolved: &Resolved,

@@ -28,6 +28,11 @@ fn place_of(index: &BTreeMap<String, usize>, name: &str) -> Option<usize>
     index.get(name).copied()
 }
 
+/// The names of files, empty where a file has none.
+///
+/// # Errors
+///
+/// `AllocError` if out of memory.
 pub fn file_names<'f>(
     alloc: Global,
     files: &[&'f FileDescriptorProto],
@@ -59,7 +64,7 @@ fn is_dependency_missing(
 ///
 /// # Errors
 ///
-/// `AllocError` if a growth was refused.
+/// `AllocError` if out of memory.
 pub fn has_missing_dependency(
     alloc: Global,
     files: &[&FileDescriptorProto],

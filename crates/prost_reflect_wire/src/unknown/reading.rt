@@ -18,8 +18,7 @@ use std::alloc::Global;
 /// How many levels of messages and groups are read below the top.
 pub const RECURSION_LIMIT: u32 = 100;
 
-/// Reads what stands behind the key of a field, with at most `depth` groups open at once, and gives it and the bytes
-/// behind it.
+/// Reads what follows the key of a field, with at most `depth` groups open at once, and gives it and the bytes behind it.
 ///
 /// # Errors
 ///
@@ -107,13 +106,25 @@ fn group_at(
 }
 
 impl UnknownField {
-    /// Reads the field at the cursor, with at most `depth` groups open at once, and moves the cursor past it.
+    /// Reads the field at the cursor, and moves the cursor past it.
+    ///
+    /// `depth` is how many levels of groups may still be opened, at most `RECURSION_LIMIT`.
+    ///
+    /// ```
+    /// // The number of the field that the bytes begin with: 5 for 28 96 01, which is field 5 with the varint 150.
+    /// fn first_number(alloc: Global, bytes: &[u8]) -> Result<u32, DecodeError> {
+    ///     let mut cursor = bytes;
+    ///     let field = UnknownField::decode(alloc, &mut cursor, RECURSION_LIMIT)?;
+    ///     Ok(field.number())
+    /// }
+    /// ```
     ///
     /// # Errors
     ///
-    /// `Truncated`, `Varint` or `Key` where the field is cut short, a varint is too long, or a key is none; `EndGroup`
-    /// where an end key closes no open group; `Depth` where more groups would be open; `OutOfMemory` if a growth is
-    /// refused. A whole field is refused only where it nests deeper than `depth`, or for want of memory. The cursor stays.
+    /// `Truncated` if the field is cut short, `Varint` if a varint does not fit 64 bits, `Key` if a key has no field number or no
+    /// wire type, `EndGroup` if an end key closes no open group, `Depth` if more groups would be open than `depth`; each is a
+    /// fault that the bytes have there. `OutOfMemory` if memory runs out. A whole field is refused only if it nests deeper than
+    /// `depth`, or if out of memory. The cursor stays.
     pub fn decode(
         alloc: Global,
         cursor: &mut &[u8],
@@ -134,8 +145,11 @@ impl UnknownField {
         Ok(UnknownField::new(number, value))
     }
 
-    /// Reads what stands at the cursor behind the key of a field, as `decode` reads it behind that key, and moves the
+    /// Reads a field whose key was read already: what is at the cursor is read as `decode` reads what follows a key. Moves the
     /// cursor past it.
+    ///
+    /// `number` and `wire_type` are those of the key; the number is from 1 to 536870911. `depth` is how many levels of groups may
+    /// still be opened, at most `RECURSION_LIMIT`.
     ///
     /// # Errors
     ///

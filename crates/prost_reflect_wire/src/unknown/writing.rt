@@ -61,7 +61,7 @@ impl UnknownField {
     ///
     /// # Errors
     ///
-    /// `TooLong` if the record passes the greatest `usize`, `OutOfMemory` if a growth is refused; the output stays.
+    /// `TooLong` if the record passes the greatest `usize`, `OutOfMemory` if memory runs out; the output stays.
     pub fn encode(&self, out: &mut Vec<u8>) -> Result<(), EncodeError>
         ensures ok { OnOk result (out.new.items ≡ out.old.items ++ spelled (record_of self.now ∷ [])) }
         ensures first { OnOk result ((tail : List ℕ) → RecordFront (record_of self.now) (spelled (record_of self.now ∷ []) ++ tail) tail) }
@@ -114,7 +114,7 @@ impl UnknownFieldSet {
 ///
 /// # Errors
 ///
-/// `TooLong` if the whole passes the greatest `usize`, `OutOfMemory` if a growth is refused; the buffer stays.
+/// `TooLong` if the whole passes the greatest `usize`, `OutOfMemory` if memory runs out; the buffer stays.
 pub fn prepend_fields(fields: &UnknownFieldSet, out: &mut BackBuffer) -> Result<(), EncodeError>
     ensures ok { Prepended result (bytes_of out.old) (bytes_of out.new) (spelled (records_of fields.now)) }
     ensures valid { OnOk result (valid (body_of (records_of fields.now)) ≡ true) }
