@@ -107,7 +107,8 @@ pub fn slots_determine()
     ensures { SlotsDetermine }
 {}
 
-/// Keys are ordered and equal as the scalars that they are, and equal keys feed a hasher alike: the place of the variant, and then the value.
+/// Keys are ordered and equal as the scalars that they are, and equal keys feed a hasher alike: the place of the variant,
+/// and then the value.
 pub fn key_order()
     ensures order { (a : MapKey) (b : MapKey) → ⟦<MapKey as Ord>⟧.cmp a b ≡ scalar_cmp (key_of a) (key_of b) }
     ensures equality { (a : MapKey) (b : MapKey) → ⟦<MapKey as PartialEq>⟧.eq a b ≡ scalar_eq (key_of a) (key_of b) }
@@ -115,7 +116,8 @@ pub fn key_order()
     ensures alike { (a : MapKey) (b : MapKey) → scalar_eq (key_of a) (key_of b) ≡ true → ⟦<MapKey as Hash>⟧.hash_input a ≡ ⟦<MapKey as Hash>⟧.hash_input b }
 {}
 
-/// The value of a key becomes that key again by `Value::into_map_key`: as the same scalar, and keys that are one scalar are equal.
+/// The value of a key becomes that key again by `Value::into_map_key`: as the same scalar, and keys that are one scalar are
+/// equal.
 pub fn key_again()
     ensures again { (key : MapKey) → key_in (ScalarValue (key_of key)) ≡ Some (key_of key) }
     ensures equal { (a : MapKey) (b : MapKey) → key_of a ≡ key_of b → ⟦<MapKey as PartialEq>⟧.eq a b ≡ true }

@@ -1,4 +1,23 @@
 //! Protocol Buffers messages whose types are known only at run time.
+//!
+//! A pool is made of a descriptor set, as `protoc --include_imports --descriptor_set_out` writes one. A message type is
+//! found in it by its full name, and messages are read, changed and written by that type. `Fail` below is the error of
+//! tests, to which every other error converts.
+//!
+//! ```
+//! use prost_reflect::{DescriptorPool, DynamicMessage};
+//! use std::alloc::Global;
+//! use std::test::Fail;
+//!
+//! // What the bytes mean to the message type of the name in the descriptor set, written again.
+//! fn written_again(alloc: Global, set: &[u8], name: &str, bytes: &[u8]) -> Result<Vec<u8>, Fail> {
+//!     let pool = DescriptorPool::decode(alloc, set)?;
+//!     let found = pool.get_message_by_name(name)?;
+//!     let message_type = found.ok_or("no such message type")?;
+//!     let message = DynamicMessage::decode(alloc, message_type, bytes)?;
+//!     Ok(message.encode_to_vec(alloc)?)
+//! }
+//! ```
 #![tactic(auto)]
 
 mod laws;

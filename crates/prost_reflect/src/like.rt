@@ -15,9 +15,9 @@ use std::alloc::{AllocError, Global};
 
 /// A field of a message type, or an extension of one: what is asked of either alike.
 ///
-/// Of each implementation is proved that its number is from 1 to 536870911, that a list or a map has no presence, that its
-/// default is a value that it takes, that only a list of a packable kind is packed, and that a member of a oneof has presence
-/// and is neither a list nor a map.
+/// It is proved of each implementation that its number is from 1 to 536870911, that a list or a map has no presence, that
+/// its default is a value that it takes, that only a list of a packable kind is packed, and that a member of a oneof has
+/// presence and is neither a list nor a map.
 pub trait FieldDescriptorLike {
     ghost pool: { Self → DescriptorPool };
 
@@ -29,12 +29,12 @@ pub trait FieldDescriptorLike {
     fn number(&self) -> u32
         ensures { option_map (λ f. f.number) (table_row self.now) ≡ Some result };
 
-    /// What is had where nothing is stored: an empty list or map, the default that the definition writes, or else that of the
-    /// kind.
+    /// The default, which a message has where nothing is stored: an empty list or map, the default that the definition
+    /// writes, or else that of the kind.
     ///
     /// # Errors
     ///
-    /// `AllocError` if a copy of a written text, or a clone of a message's pool, is refused.
+    /// `AllocError` if out of memory.
     fn default_value(&self, alloc: Global) -> Result<Value, AllocError>
         ensures value { IfOk result (λ value. Some (value_of value) ≡ default_by_row (pool self.now) (table_row self.now)) }
         ensures default { IfOk result (IsDefaultByRow (pool self.now) (table_row self.now)) }
@@ -48,17 +48,17 @@ pub trait FieldDescriptorLike {
     fn is_valid(&self, value: &Value) -> bool
         ensures { result ≡ takes_by_row (pool self.now) (table_row self.now) value.now };
 
-    /// The oneof of which it is a member, if it is one of one. No extension is.
+    /// The oneof of which it is a member, or none; an extension is a member of none.
     ///
     /// # Errors
     ///
-    /// `AllocError` if a clone of the pool is refused.
+    /// `AllocError` if out of memory.
     fn containing_oneof(&self) -> Result<Option<OneofDescriptor>, AllocError>
         ensures oneof { IfOk result (λ oneof. option_map (λ f. f.oneof) (table_row self.now) ≡ Some (option_map (λ o. o.index) oneof)) }
         ensures message { IfOk result (λ oneof. IfSome oneof (λ o. Some o.message.index ≡ message_place self.now)) }
         ensures pool { IfOk result (λ oneof. IfSome oneof (λ o. o.message.pool.inner.value ≡ (pool self.now).inner.value)) };
 
-    /// Whether a value that was never set differs from the default.
+    /// Whether a field that was never set is told apart from one that is set to its default (the guide on field presence).
     fn supports_presence(&self) -> bool
         ensures { option_map (λ f. f.supports_presence) (table_row self.now) ≡ Some result };
 
@@ -66,7 +66,7 @@ pub trait FieldDescriptorLike {
     ///
     /// # Errors
     ///
-    /// `AllocError` if a clone of the pool is refused.
+    /// `AllocError` if out of memory.
     fn kind(&self) -> Result<Kind, AllocError>
         ensures kind { IfOk result (λ kind. option_map (λ f. f.kind) (table_row self.now) ≡ Some (table_kind kind)) }
         ensures pool { IfOk result (IsAmong (pool self.now)) };

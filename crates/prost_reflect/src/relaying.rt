@@ -22,7 +22,7 @@ use thiserror::Error;
 /// Why bytes are not relayed.
 #[derive(Clone, Copy, Debug, PartialEq, Eq, Error)]
 pub enum RelayError {
-    /// The older type does not accept the bytes, or a growth was refused.
+    /// The older type does not accept the bytes, or memory ran out.
     #[error("the bytes are not read: {0}")]
     Decode(DecodeError),
     /// What was read is not written.
@@ -55,7 +55,7 @@ pub enum RelayHexError {
     /// The bytes that it spells are not relayed.
     #[error("{0}")]
     Relay(RelayError),
-    /// A growth was refused.
+    /// Out of memory.
     #[error("out of memory")]
     OutOfMemory,
 }
@@ -91,10 +91,18 @@ impl From<AllocError> for RelayHexError {
 /// type that it is a reduction of, and that accepts the bytes, reads the same from what is written (the encoding guide,
 /// "Updating A Message Type").
 ///
+/// ```
+/// // Of the type `builtin.Plain`, `50 83 00 28 96 01` becomes `28 96 01 50 03`, so this is true.
+/// fn relays(alloc: Global, plain: &MessageDescriptor) -> Result<bool, RelayError> {
+///     let written = relay(alloc, plain, &[0x50, 0x83, 0, 0x28, 0x96, 1])?;
+///     Ok(written.as_slice() == [0x28, 0x96, 1, 0x50, 3].as_slice())
+/// }
+/// ```
+///
 /// # Errors
 ///
-/// `Decode` where that fault stands in the bytes, and only where the older type does not accept them; `Encode` with
-/// `TooLong` if what is written passes the greatest `usize`; either with `OutOfMemory` if a growth is refused.
+/// `Decode` with a fault that the bytes have, and only if the older type does not accept them; `Encode` with `TooLong` if
+/// what is written passes the greatest `usize`; either with `OutOfMemory` if memory runs out.
 pub fn relay(alloc: Global, older: &MessageDescriptor, bytes: &[u8]) -> Result<Vec<u8>, RelayError>
     ensures relayed { IfOk result (λ written. IsRelayed (schema_named older.now) (type_named older.now) bytes.now written.items) }
     ensures refused { IfErr result (RefusesRelay (schema_named older.now) (type_named older.now) bytes.now) }
@@ -121,10 +129,17 @@ fn decode_by(
 
 /// `relay` of the bytes that hex digits of either case spell, as lower-case hex digits.
 ///
+/// ```
+/// // Of the type `builtin.Plain`, `508300289601` becomes `2896015003`, so this is true.
+/// fn relays(alloc: Global, plain: &MessageDescriptor) -> Result<bool, RelayHexError> {
+///     Ok(relay_hex(alloc, plain, "508300289601")?.as_str() == "2896015003")
+/// }
+/// ```
+///
 /// # Errors
 ///
-/// `Hex` if the text is not an even number of hex digits; `Relay` as `relay` refuses the bytes; `OutOfMemory` if a growth
-/// is refused.
+/// `Hex` if the text is not an even number of hex digits; `Relay` as `relay` refuses the bytes; `OutOfMemory` if memory
+/// runs out.
 pub fn relay_hex(
     alloc: Global,
     older: &MessageDescriptor,

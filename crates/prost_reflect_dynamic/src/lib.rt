@@ -1,6 +1,6 @@
 //! Pools and descriptors, and values and messages whose types are known only at run time.
 //!
-//! A user names `prost_reflect`, which hands these on.
+//! Users import these from `prost_reflect`.
 #![tactic(auto)]
 
 mod descriptor;

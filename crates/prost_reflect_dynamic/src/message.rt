@@ -93,7 +93,7 @@ impl DynamicMessage {
     ///
     /// # Errors
     ///
-    /// `AllocError` if a clone of the pool is refused.
+    /// `AllocError` if out of memory.
     pub fn descriptor(&self) -> Result<MessageDescriptor, AllocError>
         ensures { IfOk result (λ descriptor. NamesSame descriptor (message_type_of self.now)) }
     {
@@ -107,8 +107,8 @@ impl DynamicMessage {
         self.fields.message_type()
     }
 
-    /// Whether the message stores neither values nor unknown fields, and is of the type at a place of the pool, or of the type there
-    /// of a pool whose files hold the same.
+    /// Whether the message stores neither values nor unknown fields, and is of the type at a place of the pool, or of the
+    /// type there of a pool whose files hold the same.
     pub(crate) fn is_empty_of(&self, pool: &Rc<LinkedPool>, place: usize) -> bool
         ensures { IsTrue result ↔ IsEmptyOf pool.now place (Some self.now) }
     {
@@ -148,8 +148,8 @@ impl DynamicMessage {
         self.fields.unknown(number)
     }
 
-    /// Stores the value at the number of a field or an extension, and removes those of the other members of its oneof.
-    /// A refused growth changes nothing.
+    /// Stores the value at the number of a field or an extension, and removes those of the other members of its oneof. If
+    /// out of memory, nothing changes.
     pub(crate) fn set_value(&mut self, number: u32, value: Value) -> Result<(), AllocError>
         requires { is_known (known_of (message_type_of self.old)) number ≡ true }
         ensures message_type { message_type_of self.new ≡ message_type_of self.old }
@@ -179,8 +179,8 @@ impl DynamicMessage {
         self.fields.clear(number);
     }
 
-    /// Adds an unknown field behind those of its number, which is that of no field, or of one that takes no value from it, since a
-    /// closed enum does not declare its number. A refused growth changes no value and no unknown field.
+    /// Adds an unknown field behind those of its number, which is that of no field, or of one that takes no value from it,
+    /// since a closed enum does not declare its number. If out of memory, no value and no unknown field changes.
     pub(crate) fn add_unknown(&mut self, number: u32, field: UnknownField) -> Result<(), AllocError>
         requires own { (record_of field).number ≡ number }
         requires kept { keeps_unknown (known_of (message_type_of self.old)) number (record_of field).payload ≡ true }
@@ -192,7 +192,8 @@ impl DynamicMessage {
         self.fields.add_unknown(number, field)
     }
 
-    /// Puts what another message of the type has at the numbers in place of what is there. A refused growth changes nothing.
+    /// Puts what another message of the type has at the numbers in place of what is there. If out of memory, nothing
+    /// changes.
     pub(crate) fn replace_at(
         &mut self,
         numbers: &BTreeSet<u32>,
@@ -209,8 +210,9 @@ impl DynamicMessage {
         self.fields.replace(numbers, fields)
     }
 
-    /// The value at the number of a field or an extension, for writing. Where there is none it is first set to `default`.
-    /// Once the loan is over, the message is as if what was left behind the reference had been set. A refused growth changes nothing.
+    /// The value at the number of a field or an extension, borrowed for writing; where there is none, it is first set to
+    /// `default`. Once the borrow ends, the message is as if the value that is left there had been set. If out of memory,
+    /// nothing changes.
     pub(crate) fn value_mut_or(
         &mut self,
         number: u32,

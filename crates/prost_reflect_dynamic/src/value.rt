@@ -13,7 +13,17 @@ use crate::message::DynamicMessage;
 use std::alloc::AllocError;
 use std::collections::BTreeMap;
 
-/// The key of a map's entry (the language guide, "Maps"). Keys are ordered by their variants, and then by their values; texts by their bytes.
+/// The key of a map's entry (the language guide, "Maps"). Keys are ordered by their variants, and then by their values;
+/// texts by their bytes.
+///
+/// ```
+/// // Puts a value into the map at the key of a text.
+/// fn put(alloc: Global, map: &mut BTreeMap<MapKey, Value>, key: &str, value: Value) -> Result<(), AllocError> {
+///     let key = MapKey::String(String::from_str(alloc, key)?);
+///     drop(map.insert(key, value)?);
+///     Ok(())
+/// }
+/// ```
 #[derive(Debug, PartialEq, Eq, PartialOrd, Ord, Hash, Drop)]
 pub enum MapKey {
     /// Of a bool field.

@@ -17,8 +17,8 @@ use std::alloc::Global;
 ///
 /// # Errors
 ///
-/// The first step that fails: `Hex`, `Set` or `Pool` of the set, `Name`, `Hex` of the message, `Number` of the path, `Value`
-/// of the text, `Decode`, `Encode`; or `Memory`, wherever a growth is refused.
+/// The first step that fails: `Hex`, `Set` or `Pool` of the set, `Name`, `Hex` of the message, `Number` of the path,
+/// `Value` of the text, `Decode`, `Encode`; or `Memory`, wherever memory runs out.
 pub fn edit(
     alloc: Global,
     set: &str,

@@ -1,4 +1,5 @@
-//! Reads a message by the name of its type, and writes it again, with a value set in it or without, or names what is present: `protorelay relay|show SET NAME HEX | edit SET NAME HEX PATH TEXT`.
+//! Reads a message by the name of its type, and writes it again, with a value set in it or without, or names what is
+//! present: `protorelay relay|show SET NAME HEX | edit SET NAME HEX PATH TEXT`.
 #![tactic(auto)]
 
 mod command;

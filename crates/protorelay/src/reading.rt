@@ -14,11 +14,13 @@ use crate::refusal::Refusal;
 use prost_reflect::{DescriptorPool, DynamicMessage, MessageDescriptor, builtin_pool};
 use std::alloc::Global;
 
-/// The message that the hex digits spell, read by the message type of the name in the descriptor set. The set is `-`, for the built-in one, or in hex digits too.
+/// The message that the hex digits spell, read by the message type of the name in the descriptor set. The set is `-`, for
+/// the built-in one, or in hex digits too.
 ///
 /// # Errors
 ///
-/// The first step that fails: `Hex`, `Set` or `Pool` of the set, `Name`, `Hex` of the message, `Decode`; or `Memory`, wherever a growth is refused.
+/// The first step that fails: `Hex`, `Set` or `Pool` of the set, `Name`, `Hex` of the message, `Decode`; or `Memory`,
+/// wherever memory runs out.
 pub fn read(alloc: Global, set: &str, name: &str, digits: &str) -> Result<DynamicMessage, Refusal>
     ensures read { IfOk result (λ message. IsRead set.now name.now digits.now (kept (content_of message))) }
     ensures fits { IfOk result (λ message. encodable (content_of message) ≡ true) }

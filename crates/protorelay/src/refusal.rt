@@ -16,7 +16,7 @@ use std::fmt;
 /// Why a command is not carried out. Its text is the line that the program prints.
 #[derive(Clone, Copy, Debug, PartialEq, Eq)]
 pub enum Refusal {
-    /// The bytes of the descriptor set are none. Out of memory is `Memory`.
+    /// The bytes are no descriptor set. Out of memory is `Memory`.
     Set(DecodeError),
     /// The files of the descriptor set make no pool. Out of memory is `Memory`, and bytes that are no set are `Set`.
     Pool(PoolError),
@@ -26,13 +26,13 @@ pub enum Refusal {
     Hex,
     /// The path is not numbers joined by dots, or leads to no field.
     Number,
-    /// The text spells no value that the field takes; none is one that a list, a map, a message or a group takes.
+    /// The text spells no value that the field takes; a list, a map, a message or a group takes none.
     Value,
     /// The type does not accept the bytes. Out of memory is `Memory`.
     Decode(DecodeError),
     /// The message is not written. Out of memory is `Memory`.
     Encode(EncodeError),
-    /// A growth was refused.
+    /// Out of memory.
     Memory,
 }
 
@@ -134,7 +134,7 @@ impl From<RelayWithError> for Refusal {
     }
 }
 
-/// The name of a fault of bytes.
+/// The name of a fault that bytes have.
 fn decode_name(fault: DecodeError) -> &'static str
     ensures { result.now ≡ decode_name fault }
 {
@@ -150,7 +150,7 @@ fn decode_name(fault: DecodeError) -> &'static str
     }
 }
 
-/// The name of a fault of what is written.
+/// The name of a fault in writing a message.
 fn encode_name(fault: EncodeError) -> &'static str
     ensures { result.now ≡ encode_name fault }
 {
@@ -160,7 +160,7 @@ fn encode_name(fault: EncodeError) -> &'static str
     }
 }
 
-/// The name of a fault of files.
+/// The name of a fault that files have.
 fn pool_name(fault: PoolError) -> &'static str
     ensures { result.now ≡ pool_name fault }
 {

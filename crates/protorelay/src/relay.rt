@@ -8,11 +8,12 @@ use crate::refusal::Refusal;
 use prost_reflect::relay_hex;
 use std::alloc::Global;
 
-/// The message that the hex digits spell, read by the message type of the name in the descriptor set and written again, as a line of lower-case hex digits.
+/// The message that the hex digits spell, read by the message type of the name in the descriptor set and written again, as
+/// a line of lower-case hex digits.
 ///
 /// # Errors
 ///
-/// As `read`; then `Encode`, or `Memory` where a growth is refused.
+/// As `read`; then `Encode`, or `Memory` if memory runs out.
 pub fn relay(alloc: Global, set: &str, name: &str, digits: &str) -> Result<String, Refusal>
     ensures relayed { IfOk result (λ text. IsRelayed set.now name.now digits.now (string_bytes text)) }
     ensures refused { IfErr result (RefusesRelay set.now name.now digits.now) }

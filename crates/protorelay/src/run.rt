@@ -55,7 +55,10 @@ pub fn run<O: Write, E: Write>(words: &[String], out: &mut O, err: &mut E) -> u8
 
 /// Carries out a command line, given without the program's name.
 ///
-/// `relay SET NAME HEX` writes the message again as a line of lower-case hex digits on `out`, `show SET NAME HEX` a line for each number that is present in it, and `edit SET NAME HEX PATH TEXT` the line of `relay` for the message with the value that the text spells set at the path. Refused data leave `out` as it was and are named by a line on `err`. Any other command line leaves `out` as it was and gets a line on the usage on `err`.
+/// `relay SET NAME HEX` writes the message again as a line of lower-case hex digits on `out`, `show SET NAME HEX` a line
+/// for each number that is present in it, and `edit SET NAME HEX PATH TEXT` the line of `relay` for the message with the
+/// value that the text spells set at the path. Refused data leave `out` as it was and are named by a line on `err`. Any
+/// other command line leaves `out` as it was and gets a line on the usage on `err`.
 ///
 /// # Errors
 ///
@@ -94,7 +97,7 @@ pub fn carry_out<O: Write, E: Write>(
     }
 }
 
-/// The text that answers the command. Its growths use the allocator of the words.
+/// The text that answers the command. Its memory comes from the allocator of the words.
 fn answer(command: Command<'_>) -> Result<String, Refusal>
     ensures answered { IfOk result (λ text. Answers command.entry (string_bytes text)) }
     ensures refused { IfErr result (RefusesCommand command.entry) }
@@ -129,7 +132,8 @@ fn answer(command: Command<'_>) -> Result<String, Refusal>
     }
 }
 
-/// Names on `err` why the words of the command line can't be had, and answers the status: out of memory 1, and where a word is no text that of any other command line.
+/// Names on `err` why the words of the command line can't be had, and answers the status: 1 if out of memory, or that of
+/// any other command line if a word is no text.
 pub fn refuse_words<E: Write>(error: &io::Error, err: &mut E) -> u8
     ensures misused { result ≡ 2 → (error_kind error.now ≢ ErrorKind.OutOfMemory)
         × AppendsLine (E.contents err.old) (E.contents err.new) usage_line }

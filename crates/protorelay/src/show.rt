@@ -9,11 +9,12 @@ use crate::refusal::Refusal;
 use prost_reflect::PresentNumber;
 use std::alloc::{AllocError, Global};
 
-/// The numbers that are present in the message that the hex digits spell, read by the message type of the name in the descriptor set: a line for each, in ascending order.
+/// The numbers that are present in the message that the hex digits spell, read by the message type of the name in the
+/// descriptor set: a line for each, in ascending order.
 ///
 /// # Errors
 ///
-/// As `read`; then `Memory` where a growth is refused.
+/// As `read`; then `Memory` if memory runs out.
 pub fn show(alloc: Global, set: &str, name: &str, digits: &str) -> Result<String, Refusal>
     ensures shown { IfOk result (λ text. IsShown set.now name.now digits.now (string_bytes text)) }
     ensures refused { IfErr result (Refuses set.now name.now digits.now) }

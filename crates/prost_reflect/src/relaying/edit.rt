@@ -33,13 +33,13 @@ pub enum RelayWithError {
     /// The field takes the value, and the value is a message or holds one.
     #[error("the value holds a message")]
     HoldsMessage,
-    /// The older type does not accept the bytes, or a growth was refused in reading them.
+    /// The older type does not accept the bytes, or memory ran out in reading them.
     #[error("the bytes are not read: {0}")]
     Decode(DecodeError),
     /// The message is not written.
     #[error("the message is not written: {0}")]
     Encode(EncodeError),
-    /// A growth was refused in setting the value.
+    /// Out of memory in setting the value.
     #[error("out of memory")]
     OutOfMemory,
 }
@@ -70,19 +70,28 @@ impl From<EncodeError> for RelayWithError {
 
 /// What the bytes mean to the older type with the value set at the path, written again.
 ///
-/// The path names a field of the older type by its number, behind the numbers of the fields of one message or group that
-/// lead to it. A message on the way that is not there is made, and at each number the other members of its oneof go. What
-/// the older type does not know stays as unknown fields, so a newer type that it is a reduction of, and that accepts the
-/// bytes, reads from what is written what it reads from them with that value set at that path.
+/// The path is the numbers of the fields that lead from the older type to the value: each before the last is that of a
+/// field of one message or group, and the last is that of the field to set. A message on the way that is not there is made,
+/// and at each number the other members of its oneof go. What the older type does not know stays as unknown fields, so a
+/// newer type that it is a reduction of, and that accepts the bytes, reads from what is written what it reads from them
+/// with that value set at that path.
+///
+/// ```
+/// // Of the type `builtin.Plain`, `50 83 00 28 96 01` becomes `28 07 50 03` with 7 at the number 5, so this is true.
+/// fn edits(alloc: Global, plain: &MessageDescriptor) -> Result<bool, RelayWithError> {
+///     let written = relay_with(alloc, plain, &[0x50, 0x83, 0, 0x28, 0x96, 1], &[5], Value::I32(7))?;
+///     Ok(written.as_slice() == [0x28, 7, 0x50, 3].as_slice())
+/// }
+/// ```
 ///
 /// # Errors
 ///
 /// The first of these, before a byte is read: `NotFound` if the path is empty or has more than 101 numbers, if a number
-/// before the last is not that of a field of one message or group, or the last not that of a field, where an extension is no
-/// field; `InvalidType` if the field does not take the value; `HoldsMessage` if the value is a message, or a list or a map
-/// with one. Then `Decode` where that fault stands in the bytes, and only where the older type does not accept them; `Encode`
-/// with `TooLong` if what is written passes the greatest `usize`; and `OutOfMemory`, or either of these with `OutOfMemory`, if
-/// a growth is refused.
+/// before the last is not that of a field of one message or group, or the last not that of a field, where an extension is
+/// no field; `InvalidType` if the field does not take the value; `HoldsMessage` if the value is a message, or a list or a
+/// map with one. Then `Decode` with a fault that the bytes have, and only if the older type does not accept them; `Encode`
+/// with `TooLong` if what is written passes the greatest `usize`; and `OutOfMemory`, or either of these with `OutOfMemory`,
+/// if memory runs out.
 pub fn relay_with(
     alloc: Global,
     older: &MessageDescriptor,

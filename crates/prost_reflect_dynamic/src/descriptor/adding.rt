@@ -19,7 +19,7 @@ impl DescriptorPool {
     ///
     /// # Errors
     ///
-    /// `OutOfMemory` if a growth is refused.
+    /// `OutOfMemory` if memory runs out.
     pub fn new(alloc: Global) -> Result<DescriptorPool, PoolError>
         ensures made { IfOk result (λ pool. IsPoolOf [] pool.inner.value) }
         ensures refused { IfErr result (λ e. e ≡ pool_errors.OutOfMemory) }
@@ -33,7 +33,7 @@ impl DescriptorPool {
     ///
     /// # Errors
     ///
-    /// The name of a fault that stands in the files that are taken, or `OutOfMemory` if a growth is refused.
+    /// A fault that the taken files have, or `OutOfMemory` if memory runs out.
     pub fn from_file_descriptor_set(
         alloc: Global,
         set: FileDescriptorSet,
@@ -48,10 +48,18 @@ impl DescriptorPool {
 
     /// A pool of the files of the set that the bytes are the encoding of; of several files of one name the first is taken.
     ///
+    /// ```
+    /// // Whether the files of the descriptor set define the message type of the full name.
+    /// fn defines(alloc: Global, set: &[u8], name: &str) -> Result<bool, PoolError> {
+    ///     let pool = DescriptorPool::decode(alloc, set)?;
+    ///     Ok(pool.get_message_by_name(name)?.is_some())
+    /// }
+    /// ```
+    ///
     /// # Errors
     ///
-    /// `Decode` with a fault that stands in the bytes, where they are no descriptor set within 100 levels; the name of a
-    /// fault that stands in the files that are taken; or `OutOfMemory` if a growth is refused.
+    /// `Decode` with a fault that the bytes have, and only if they are no descriptor set within 100 levels; a fault that
+    /// the taken files have; or `OutOfMemory` if memory runs out.
     pub fn decode(alloc: Global, bytes: &[u8]) -> Result<DescriptorPool, PoolError>
         ensures ok { IfOk result (λ pool. IsPoolOfBytes types.FileSet bytes.now [] pool.inner.value) }
         ensures refused { IfErr result (Refuses types.FileSet bytes.now []) }
@@ -65,7 +73,7 @@ impl DescriptorPool {
     ///
     /// # Errors
     ///
-    /// As `add_file_descriptor_protos`; the pool stays.
+    /// As `add_file_descriptor_protos`; then the pool stays as it was.
     pub fn add_file_descriptor_set(&mut self, set: FileDescriptorSet) -> Result<(), PoolError>
         ensures ok { OnOk result (IsPoolOf (added (files_of self.old.inner) set.file.items) self.new.inner.value) }
         ensures refused { IfErr result (RefusesFiles (added (files_of self.old.inner) set.file.items)) }
@@ -76,11 +84,13 @@ impl DescriptorPool {
 
     /// Adds files at the end, in their order; they may depend on one another in any order.
     ///
-    /// A file of a name that is there already is skipped unchecked, and of several files of one name the first is taken. Descriptors that were made before keep the pool as it was.
+    /// A file of a name that is there already is skipped unchecked, and of several files of one name the first is taken.
+    /// Descriptors that were made before keep the pool as it was.
     ///
     /// # Errors
     ///
-    /// The name of a fault that stands in the pool's files with those that are added, or `OutOfMemory` if a growth is refused; the pool stays.
+    /// A fault that the pool's files and the added ones have together, or `OutOfMemory` if memory runs out. In each case
+    /// the pool stays as it was.
     pub fn add_file_descriptor_protos(
         &mut self,
         files: Vec<FileDescriptorProto>,
@@ -99,7 +109,7 @@ impl DescriptorPool {
     ///
     /// # Errors
     ///
-    /// As `add_file_descriptor_protos`; the pool stays.
+    /// As `add_file_descriptor_protos`; then the pool stays as it was.
     pub fn add_file_descriptor_proto(&mut self, file: FileDescriptorProto) -> Result<(), PoolError>
         ensures ok { OnOk result (IsPoolOf (added (files_of self.old.inner) (file ∷ [])) self.new.inner.value) }
         ensures refused { IfErr result (RefusesFiles (added (files_of self.old.inner) (file ∷ []))) }
@@ -114,7 +124,8 @@ impl DescriptorPool {
     ///
     /// # Errors
     ///
-    /// `Decode` with a fault that stands in the bytes, where they are no file's record within 100 levels; else as `add_file_descriptor_protos`. The pool stays.
+    /// `Decode` with a fault that the bytes have, and only if they are no file's record within 100 levels; else as
+    /// `add_file_descriptor_protos`. In each case the pool stays as it was.
     pub fn decode_file_descriptor_proto(&mut self, bytes: &[u8]) -> Result<(), PoolError>
         ensures ok { OnOk result (IsPoolOfBytes types.File bytes.now (files_of self.old.inner) self.new.inner.value) }
         ensures refused { IfErr result (Refuses types.File bytes.now (files_of self.old.inner)) }
@@ -128,7 +139,8 @@ impl DescriptorPool {
     ///
     /// # Errors
     ///
-    /// `Decode` with a fault that stands in the bytes, where they are no descriptor set within 100 levels; else as `add_file_descriptor_protos`. The pool stays.
+    /// `Decode` with a fault that the bytes have, and only if they are no descriptor set within 100 levels; else as
+    /// `add_file_descriptor_protos`. In each case the pool stays as it was.
     pub fn decode_file_descriptor_set(&mut self, bytes: &[u8]) -> Result<(), PoolError>
         ensures ok { OnOk result (IsPoolOfBytes types.FileSet bytes.now (files_of self.old.inner) self.new.inner.value) }
         ensures refused { IfErr result (Refuses types.FileSet bytes.now (files_of self.old.inner)) }

@@ -13,11 +13,21 @@ use prost_reflect_tables::PoolError;
 use std::alloc::Global;
 use std::rc::Rc;
 
-/// The pool of two files, `plain.proto` of proto3 and `kept.proto` of proto2, with one message type each: `builtin.Plain` and `builtin.Kept`, which have one singular field of each scalar kind. No field of the first has presence, all of the second have it.
+/// The pool of two files, `plain.proto` of proto3 and `kept.proto` of proto2, with one message type each: `builtin.Plain`
+/// and `builtin.Kept`, which have one singular field of each scalar kind. No field of the first has presence, all of the
+/// second have it.
+///
+/// ```
+/// // The message type `builtin.Plain`.
+/// fn plain(alloc: Global) -> Result<Option<MessageDescriptor>, PoolError> {
+///     let pool = builtin_pool(alloc)?;
+///     Ok(pool.get_message_by_name("builtin.Plain")?)
+/// }
+/// ```
 ///
 /// # Errors
 ///
-/// `OutOfMemory` if a growth is refused.
+/// `OutOfMemory` if memory runs out.
 pub fn builtin_pool(alloc: Global) -> Result<DescriptorPool, PoolError>
     ensures files { IfOk result (λ pool. AreBuiltin (files_of pool.inner)) }
     ensures rows { IfOk result (λ pool. pool_rows pool.inner ≡ builtin_rows) }

@@ -67,7 +67,7 @@ impl EnumValueDescriptor {
     ///
     /// # Errors
     ///
-    /// `AllocError` if a clone of the pool is refused.
+    /// `AllocError` if out of memory.
     pub fn parent_file(&self) -> Result<FileDescriptor, AllocError>
         ensures file { IfOk result (λ file. option_map (λ e. e.id.file) (enum_row_at self.now.parent) ≡ Some file.index) }
         ensures pool { IfOk result (λ file. file.pool.inner.value ≡ self.now.parent.pool.inner.value) }
@@ -116,8 +116,8 @@ impl EnumValueDescriptor {
     ///
     /// # Errors
     ///
-    /// `NoOptionsMessage` if the pool has no such message type; `Decode` with a fault that stands in the stored bytes, where
-    /// that does not accept them; `OutOfMemory` if a growth is refused.
+    /// `NoOptionsMessage` if the pool has no such message type; `Decode` with a fault that the stored bytes have, and only
+    /// if that type does not accept them; `OutOfMemory` if memory runs out.
     pub fn options(&self) -> Result<DynamicMessage, OptionsError>
         ensures { OptionsOf self.now.parent.pool.inner (option_and_then (λ value. record_of (files_of self.now.parent.pool.inner) value.id) (value_row_named self.now)) result }
     {
@@ -129,6 +129,16 @@ impl EnumValueDescriptor {
     }
 
     /// The number; several values may have the same one.
+    ///
+    /// ```
+    /// // The number of the enum's value of the name, or none where no value has it.
+    /// fn number_of(e: &EnumDescriptor, name: &str) -> Result<Option<i32>, AllocError> {
+    ///     match e.get_value_by_name(name)? {
+    ///         Some(value) => Ok(Some(value.number())),
+    ///         None => Ok(None),
+    ///     }
+    /// }
+    /// ```
     pub fn number(&self) -> i32
         ensures { option_map (λ value. value.number) (value_row_named self.now) ≡ Some result }
     {

@@ -95,7 +95,7 @@ impl EnumDescriptor {
     ///
     /// # Errors
     ///
-    /// `AllocError` if a clone of the pool is refused.
+    /// `AllocError` if out of memory.
     pub fn parent_file(&self) -> Result<FileDescriptor, AllocError>
         ensures file { IfOk result (λ file. option_map (λ e. e.id.file) (enum_row_at self.now) ≡ Some file.index) }
         ensures pool { IfOk result (λ file. file.pool.inner.value ≡ self.now.pool.inner.value) }
@@ -107,7 +107,7 @@ impl EnumDescriptor {
     ///
     /// # Errors
     ///
-    /// `AllocError` if a clone of the pool is refused.
+    /// `AllocError` if out of memory.
     pub fn parent_message(&self) -> Result<Option<MessageDescriptor>, AllocError>
         ensures parent { IfOk result (λ parent. option_map (λ e. e.id.parent) (enum_row_at self.now) ≡ Some (option_map (λ message. message.index) parent)) }
         ensures pool { IfOk result (λ parent. IfSome parent (λ message. message.pool.inner.value ≡ self.now.pool.inner.value)) }
@@ -156,7 +156,7 @@ impl EnumDescriptor {
     ///
     /// # Errors
     ///
-    /// `AllocError` if a clone of the pool is refused.
+    /// `AllocError` if out of memory.
     pub fn get_value_by_name(&self, name: &str) -> Result<Option<EnumValueDescriptor>, AllocError>
         ensures found { IfOk result (λ found. option_map (λ value. value.index) found ≡ named_value (values_of self.now) name.now) }
         ensures parent { IfOk result (λ found. IfSome found (λ value. SameEnum self.now value.parent)) }
@@ -167,9 +167,16 @@ impl EnumDescriptor {
 
     /// The first declared value of a number, or none where no value has it.
     ///
+    /// ```
+    /// // Whether the enum declares the number.
+    /// fn declares(e: &EnumDescriptor, number: i32) -> Result<bool, AllocError> {
+    ///     Ok(e.get_value(number)?.is_some())
+    /// }
+    /// ```
+    ///
     /// # Errors
     ///
-    /// `AllocError` if a clone of the pool is refused.
+    /// `AllocError` if out of memory.
     pub fn get_value(&self, number: i32) -> Result<Option<EnumValueDescriptor>, AllocError>
         ensures found { IfOk result (λ found. option_map (λ value. value.index) found ≡ numbered_value (values_of self.now) number) }
         ensures parent { IfOk result (λ found. IfSome found (λ value. SameEnum self.now value.parent)) }
@@ -195,7 +202,7 @@ impl EnumDescriptor {
     ///
     /// # Errors
     ///
-    /// `AllocError` if a clone of the pool is refused.
+    /// `AllocError` if out of memory.
     pub fn default_value(&self) -> Result<EnumValueDescriptor, AllocError>
         ensures first { IfOk result (λ value. value.index ≡ 0) }
         ensures parent { IfOk result (λ value. SameEnum self.now value.parent) }
@@ -215,8 +222,8 @@ impl EnumDescriptor {
     ///
     /// # Errors
     ///
-    /// `NoOptionsMessage` if the pool has no such message type; `Decode` with a fault that stands in the stored bytes, where
-    /// that does not accept them; `OutOfMemory` if a growth is refused.
+    /// `NoOptionsMessage` if the pool has no such message type; `Decode` with a fault that the stored bytes have, and only
+    /// if that type does not accept them; `OutOfMemory` if memory runs out.
     pub fn options(&self) -> Result<DynamicMessage, OptionsError>
         ensures { OptionsOf self.now.pool.inner (enum_record_named self.now) result }
     {

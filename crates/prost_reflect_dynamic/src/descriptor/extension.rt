@@ -79,7 +79,7 @@ impl ExtensionDescriptor {
     ///
     /// # Errors
     ///
-    /// `AllocError` if a clone of the pool is refused.
+    /// `AllocError` if out of memory.
     pub fn parent_file(&self) -> Result<FileDescriptor, AllocError>
         ensures file { IfOk result (λ file. option_map (λ field. field.id.file) (extension_row_named self.now) ≡ Some file.index) }
         ensures pool { IfOk result (λ file. file.pool.inner.value ≡ self.now.pool.inner.value) }
@@ -91,7 +91,7 @@ impl ExtensionDescriptor {
     ///
     /// # Errors
     ///
-    /// `AllocError` if a clone of the pool is refused.
+    /// `AllocError` if out of memory.
     pub fn parent_message(&self) -> Result<Option<MessageDescriptor>, AllocError>
         ensures parent { IfOk result (λ parent. option_map (λ field. field.id.parent) (extension_row_named self.now) ≡ Some (option_map (λ message. message.index) parent)) }
         ensures pool { IfOk result (λ parent. IfSome parent (λ message. message.pool.inner.value ≡ self.now.pool.inner.value)) }
@@ -102,9 +102,16 @@ impl ExtensionDescriptor {
 
     /// The message type that the extension extends.
     ///
+    /// ```
+    /// // Whether the extension extends the message type of the full name.
+    /// fn extends(extension: &ExtensionDescriptor, name: &str) -> Result<bool, AllocError> {
+    ///     Ok(extension.containing_message()?.full_name() == name)
+    /// }
+    /// ```
+    ///
     /// # Errors
     ///
-    /// `AllocError` if a clone of the pool is refused.
+    /// `AllocError` if out of memory.
     pub fn containing_message(&self) -> Result<MessageDescriptor, AllocError>
         ensures message { IfOk result (λ message. option_map (λ extension. extension.message) (extension_named self.now) ≡ Some message.index) }
         ensures pool { IfOk result (λ message. message.pool.inner.value ≡ self.now.pool.inner.value) }
@@ -163,8 +170,8 @@ impl ExtensionDescriptor {
     ///
     /// # Errors
     ///
-    /// `NoOptionsMessage` if the pool has no such message type; `Decode` with a fault that stands in the stored bytes, where
-    /// that does not accept them; `OutOfMemory` if a growth is refused.
+    /// `NoOptionsMessage` if the pool has no such message type; `Decode` with a fault that the stored bytes have, and only
+    /// if that type does not accept them; `OutOfMemory` if memory runs out.
     pub fn options(&self) -> Result<DynamicMessage, OptionsError>
         ensures { OptionsOf self.now.pool.inner (option_and_then (λ field. record_of (files_of self.now.pool.inner) field.id) (extension_row_named self.now)) result }
     {
@@ -231,7 +238,8 @@ impl ExtensionDescriptor {
         self.table().cardinality
     }
 
-    /// Whether a value that was never set differs from the default.
+    /// Whether an extension that was never set is told apart from one that is set to its default (the guide on field
+    /// presence).
     pub fn supports_presence(&self) -> bool
         ensures { option_map (λ field. field.supports_presence) (extension_row_named self.now) ≡ Some result }
     {
@@ -242,7 +250,7 @@ impl ExtensionDescriptor {
     ///
     /// # Errors
     ///
-    /// `AllocError` if a clone of the pool is refused.
+    /// `AllocError` if out of memory.
     pub fn kind(&self) -> Result<Kind, AllocError>
         ensures kind { IfOk result (λ kind. option_map (λ field. field.kind) (extension_row_named self.now) ≡ Some (table_kind kind)) }
         ensures pool { IfOk result (IsAmong self.now.pool) }
@@ -254,7 +262,7 @@ impl ExtensionDescriptor {
     ///
     /// # Errors
     ///
-    /// `AllocError` if a copy of a written text, or a clone of a message's pool, is refused.
+    /// `AllocError` if out of memory.
     pub fn default_value(&self, alloc: Global) -> Result<Value, AllocError>
         ensures value { IfOk result (λ value. Some (value_of value) ≡ extension_default self.now) }
         ensures default { IfOk result (IsExtensionDefault self.now) }

@@ -85,7 +85,7 @@ impl FieldDescriptor {
     ///
     /// # Errors
     ///
-    /// `AllocError` if a clone of the pool is refused.
+    /// `AllocError` if out of memory.
     pub fn parent_file(&self) -> Result<FileDescriptor, AllocError>
         ensures file { IfOk result (λ file. option_map (λ message. message.id.file) (message_row_named self.now.message) ≡ Some file.index) }
         ensures pool { IfOk result (λ file. file.pool.inner.value ≡ self.now.message.pool.inner.value) }
@@ -134,8 +134,8 @@ impl FieldDescriptor {
     ///
     /// # Errors
     ///
-    /// `NoOptionsMessage` if the pool has no such message type; `Decode` with a fault that stands in the stored bytes, where
-    /// that does not accept them; `OutOfMemory` if a growth is refused.
+    /// `NoOptionsMessage` if the pool has no such message type; `Decode` with a fault that the stored bytes have, and only
+    /// if that type does not accept them; `OutOfMemory` if memory runs out.
     pub fn options(&self) -> Result<DynamicMessage, OptionsError>
         ensures { OptionsOf self.now.message.pool.inner (option_and_then (λ field. record_of (files_of self.now.message.pool.inner) field.id) (row_at self.now)) result }
     {
@@ -188,7 +188,7 @@ impl FieldDescriptor {
         is_map(&self.parent_pool().inner, self.table())
     }
 
-    /// Whether a value that was never set differs from the default.
+    /// Whether a field that was never set is told apart from one that is set to its default (the guide on field presence).
     pub fn supports_presence(&self) -> bool
         ensures { option_map (λ field. field.supports_presence) (row_at self.now) ≡ Some result }
     {
@@ -218,9 +218,16 @@ impl FieldDescriptor {
 
     /// The type of the field's values; a map's is the message type of its entries.
     ///
+    /// ```
+    /// // Whether the values of the field are texts.
+    /// fn is_text(field: &FieldDescriptor) -> Result<bool, AllocError> {
+    ///     Ok(field.kind()? == Kind::String)
+    /// }
+    /// ```
+    ///
     /// # Errors
     ///
-    /// `AllocError` if a clone of the pool is refused.
+    /// `AllocError` if out of memory.
     pub fn kind(&self) -> Result<Kind, AllocError>
         ensures kind { IfOk result (λ kind. option_map (λ field. field.kind) (row_at self.now) ≡ Some (table_kind kind)) }
         ensures pool { IfOk result (IsAmong self.now.message.pool) }
@@ -228,11 +235,11 @@ impl FieldDescriptor {
         Kind::from_table(self.message.parent_pool(), self.table().kind)
     }
 
-    /// The oneof that the field is a member of, if it is one of one.
+    /// The oneof that the field is a member of, or none.
     ///
     /// # Errors
     ///
-    /// `AllocError` if a clone of the pool is refused.
+    /// `AllocError` if out of memory.
     pub fn containing_oneof(&self) -> Result<Option<OneofDescriptor>, AllocError>
         ensures oneof { IfOk result (λ oneof. option_map (λ field. field.oneof) (row_at self.now) ≡ Some (option_map (λ o. o.index) oneof)) }
         ensures message { IfOk result (λ oneof. IfSome oneof (λ o. SameMessage self.now.message o.message)) }
@@ -251,7 +258,7 @@ impl FieldDescriptor {
     ///
     /// # Errors
     ///
-    /// `AllocError` if a copy of a written text, or a clone of a message's pool, is refused.
+    /// `AllocError` if out of memory.
     pub fn default_value(&self, alloc: Global) -> Result<Value, AllocError>
         ensures value { IfOk result (λ value. Some (value_of value) ≡ field_default self.now) }
         ensures default { IfOk result (IsFieldDefault self.now) }

@@ -69,7 +69,7 @@ impl FileDescriptor {
     ghost use Rattle.prost_reflect_dynamic.specs.Places.{places_left};
     ghost use Rattle.prost_reflect_dynamic.specs.Options.{OptionsOf};
 
-    /// The file at a place of a pool.
+    /// The file at a place of a pool. The place has to be below the number of files.
     pub fn new(pool: DescriptorPool, index: usize) -> FileDescriptor
         requires { index < length (files_of pool.inner) }
         ensures pool { result.pool ≡ pool }
@@ -137,6 +137,13 @@ impl FileDescriptor {
     }
 
     /// The message types at the top of the file, in the order of their declaration.
+    ///
+    /// ```
+    /// // How many message types the file declares at its top, and how many services.
+    /// fn counts(file: &FileDescriptor) -> (usize, usize) {
+    ///     (file.messages().len(), file.services().len())
+    /// }
+    /// ```
     pub fn messages(&self) -> Descriptors<'_, DescriptorPool, MessageDescriptor>
         ensures pool { result.parent.now ≡ self.now.pool }
         ensures places { option_map (λ file. file.messages) (file_row_at self.now) ≡ Some (places_left result.places) }
@@ -183,8 +190,8 @@ impl FileDescriptor {
     ///
     /// # Errors
     ///
-    /// `NoOptionsMessage` if the pool has no such message type; `Decode` with a fault that stands in the stored bytes, where
-    /// that does not accept them; `OutOfMemory` if a growth is refused.
+    /// `NoOptionsMessage` if the pool has no such message type; `Decode` with a fault that the stored bytes have, and only
+    /// if that type does not accept them; `OutOfMemory` if memory runs out.
     pub fn options(&self) -> Result<DynamicMessage, OptionsError>
         ensures { OptionsOf self.now.pool.inner (option_map FileRecord (file_record_at self.now)) result }
     {
@@ -199,7 +206,8 @@ impl FileDescriptor {
     ///
     /// # Errors
     ///
-    /// `TooLong` if the encoding passes the greatest `usize`, `OutOfMemory` if a growth is refused; the output stays.
+    /// `TooLong` if the encoding passes the greatest `usize`, `OutOfMemory` if memory runs out. In each case the output
+    /// stays as it was.
     pub fn encode(&self, out: &mut Vec<u8>) -> Result<(), EncodeError>
         ensures ok { OnOk result (option_map (λ file. out.old.items ++ encoded (of_file file)) (file_record_at self.now) ≡ Some out.new.items) }
         ensures err { OnErr result (out.new.items ≡ out.old.items) }
@@ -212,7 +220,7 @@ impl FileDescriptor {
     ///
     /// # Errors
     ///
-    /// `TooLong` if the encoding passes the greatest `usize`, `OutOfMemory` if a growth is refused.
+    /// `TooLong` if the encoding passes the greatest `usize`, `OutOfMemory` if memory runs out.
     pub fn encode_to_vec(&self, alloc: Global) -> Result<Vec<u8>, EncodeError>
         ensures ok { IfOk result (λ bytes. option_map (λ file. encoded (of_file file)) (file_record_at self.now) ≡ Some bytes.items) }
         ensures too_long { IfErr result (λ e. e ≡ EncodeError.TooLong → IfSome (file_record_at self.now) (λ file. 2 ^ 64 ≤ length (encoded (of_file file)))) }

@@ -25,11 +25,13 @@ impl DescriptorPool {
         self.inner.file_descriptor_protos()
     }
 
-    /// Appends the encoding of the descriptor set that has the pool's files. Where their records nest at most 100 levels below the set, `decode` reads the bytes as a set of these files, and makes an equal pool of them.
+    /// Appends the encoding of the descriptor set that has the pool's files. Where their records nest at most 100 levels
+    /// below the set, `decode` reads the bytes as a set of these files, and makes an equal pool of them.
     ///
     /// # Errors
     ///
-    /// `TooLong` if the encoding passes the greatest `usize`, `OutOfMemory` if a growth is refused; the output stays.
+    /// `TooLong` if the encoding passes the greatest `usize`, `OutOfMemory` if memory runs out. In each case the output
+    /// stays as it was.
     pub fn encode(&self, out: &mut Vec<u8>) -> Result<(), EncodeError>
         ensures ok { OnOk result (out.new.items ≡ out.old.items ++ encoded (of_files (files_of self.now.inner))) }
         ensures err { OnErr result (out.new.items ≡ out.old.items) }
@@ -45,7 +47,7 @@ impl DescriptorPool {
     ///
     /// # Errors
     ///
-    /// `TooLong` if the encoding passes the greatest `usize`, `OutOfMemory` if a growth is refused.
+    /// `TooLong` if the encoding passes the greatest `usize`, `OutOfMemory` if memory runs out.
     pub fn encode_to_vec(&self, alloc: Global) -> Result<Vec<u8>, EncodeError>
         ensures ok { IfOk result (λ bytes. bytes.items ≡ encoded (of_files (files_of self.now.inner))) }
         ensures too_long { IfErr result (λ e. e ≡ EncodeError.TooLong → 2 ^ 64 ≤ length (encoded (of_files (files_of self.now.inner)))) }

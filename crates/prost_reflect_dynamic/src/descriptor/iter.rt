@@ -12,20 +12,24 @@ use crate::descriptor::{
 use std::alloc::AllocError;
 use std::marker::PhantomData;
 
-/// What is a place of a pool, or of what encloses it.
+/// What stands at a place of its parent: of a pool, or of the definition that encloses it.
 pub trait Placed<P>: Sized {
     ghost is_place: { P → ℕ → Bool };
 
     ghost stands: { P → ℕ → Self → Type 0 };
 
-    /// The descriptor of the place.
+    /// The descriptor of what stands at the place. The parent has to have such a definition at that place.
+    ///
+    /// # Errors
+    ///
+    /// `AllocError` if out of memory.
     fn at(parent: &P, place: usize) -> Result<Self, AllocError>
         requires { IsTrue (is_place parent.now place) }
         ensures { IfOk result (stands parent.now place) };
 }
 
-/// The descriptors of places, one after another. Each shares the pool once more, and where that is refused, the answer for
-/// its place is `AllocError`; the next call goes on with the next place.
+/// The descriptors of places, one after another. Each shares the pool once more; if out of memory, the answer for its place
+/// is `AllocError`, and the next call goes on with the next place.
 #[derive(Drop)]
 pub struct Descriptors<'a, P, D: Placed<P>> {
     parent: &'a P,

@@ -156,6 +156,14 @@ impl Kind {
     }
 
     /// The message type, if the kind is one.
+    ///
+    /// ```
+    /// // How many fields the messages of the kind have, or none if its values are no messages.
+    /// fn count_fields(kind: &Kind) -> Option<usize> {
+    ///     let message_type = kind.as_message()?;
+    ///     Some(message_type.fields().len())
+    /// }
+    /// ```
     pub fn as_message(&self) -> Option<&MessageDescriptor>
         ensures { option_copied result ≡ message_of self.now }
     {
@@ -188,14 +196,14 @@ impl Kind {
         }
     }
 
-    /// The value that a field of the kind has where nothing is stored: zero, false or empty, the first declared number of an enum, or
-    /// an empty message.
+    /// The value that a field of the kind has where nothing is stored: zero, false or empty, the first declared number of
+    /// an enum, or an empty message.
     ///
     /// So `Kind::Sint32.default_value(alloc)` is `Value::I32(0)`.
     ///
     /// # Errors
     ///
-    /// `AllocError` if a clone of a message's pool is refused.
+    /// `AllocError` if out of memory.
     pub fn default_value(&self, alloc: Global) -> Result<Value, AllocError>
         ensures value { IfOk result (λ value. value_of value ≡ default_named self.now) }
         ensures default { IfOk result (IsKindDefault self.now) }
@@ -209,7 +217,7 @@ impl Kind {
         }
     }
 
-    /// The default of a kind that is none of messages.
+    /// The default of a kind that is no message type.
     pub(crate) fn scalar_default(&self) -> ScalarRef<'static>
         requires { IsScalar (default_named self.now) }
         ensures default { ScalarValue (scalar_of result) ≡ default_named self.now }

@@ -110,7 +110,7 @@ impl MessageDescriptor {
     ///
     /// # Errors
     ///
-    /// `AllocError` if a clone of the pool is refused.
+    /// `AllocError` if out of memory.
     pub fn parent_file(&self) -> Result<FileDescriptor, AllocError>
         ensures file { IfOk result (λ file. option_map (λ message. message.id.file) (message_row_named self.now) ≡ Some file.index) }
         ensures pool { IfOk result (λ file. file.pool.inner.value ≡ self.now.pool.inner.value) }
@@ -122,7 +122,7 @@ impl MessageDescriptor {
     ///
     /// # Errors
     ///
-    /// `AllocError` if a clone of the pool is refused.
+    /// `AllocError` if out of memory.
     pub fn parent_message(&self) -> Result<Option<MessageDescriptor>, AllocError>
         ensures parent { IfOk result (λ parent. option_map (λ message. message.id.parent) (message_row_named self.now) ≡ Some (option_map (λ message. message.index) parent)) }
         ensures pool { IfOk result (λ parent. IfSome parent (λ message. message.pool.inner.value ≡ self.now.pool.inner.value)) }
@@ -173,12 +173,12 @@ impl MessageDescriptor {
         self.table().is_map_entry
     }
 
-    /// The field of the keys of a map's entries, which has the number 1 (the language guide, "Maps"). The type is that of a
-    /// map's entries, as `is_map_entry` tells.
+    /// The field of the keys of a map's entries, which has the number 1 (the language guide, "Maps"). The type has to be
+    /// that of a map's entries, as `is_map_entry` tells.
     ///
     /// # Errors
     ///
-    /// `AllocError` if a clone of the pool is refused.
+    /// `AllocError` if out of memory.
     pub fn map_entry_key_field(&self) -> Result<FieldDescriptor, AllocError>
         requires { option_map (λ message. message.is_map_entry) (message_row_named self.now) ≡ Some true }
         ensures place { IfOk result (λ field. declared_place (fields_of self.now) 1 ≡ Some field.index) }
@@ -187,12 +187,12 @@ impl MessageDescriptor {
         FieldDescriptor::at(self, 0)
     }
 
-    /// The field of the values of a map's entries, which has the number 2. The type is that of a map's entries, as
+    /// The field of the values of a map's entries, which has the number 2. The type has to be that of a map's entries, as
     /// `is_map_entry` tells.
     ///
     /// # Errors
     ///
-    /// `AllocError` if a clone of the pool is refused.
+    /// `AllocError` if out of memory.
     pub fn map_entry_value_field(&self) -> Result<FieldDescriptor, AllocError>
         requires { option_map (λ message. message.is_map_entry) (message_row_named self.now) ≡ Some true }
         ensures place { IfOk result (λ field. declared_place (fields_of self.now) 2 ≡ Some field.index) }
@@ -267,8 +267,8 @@ impl MessageDescriptor {
     ///
     /// # Errors
     ///
-    /// `NoOptionsMessage` if the pool has no such message type; `Decode` with a fault that stands in the stored bytes, where
-    /// that does not accept them; `OutOfMemory` if a growth is refused.
+    /// `NoOptionsMessage` if the pool has no such message type; `Decode` with a fault that the stored bytes have, and only
+    /// if that type does not accept them; `OutOfMemory` if memory runs out.
     pub fn options(&self) -> Result<DynamicMessage, OptionsError>
         ensures { OptionsOf self.now.pool.inner (message_record_named self.now) result }
     {
@@ -336,9 +336,19 @@ impl MessageDescriptor {
 
     /// The field of a number, or none where no field has it; the number of an extension finds none.
     ///
+    /// ```
+    /// // Whether the message type has a field of the number that is a list.
+    /// fn is_list_at(message_type: &MessageDescriptor, number: u32) -> Result<bool, AllocError> {
+    ///     match message_type.get_field(number)? {
+    ///         Some(field) => Ok(field.is_list()),
+    ///         None => Ok(false),
+    ///     }
+    /// }
+    /// ```
+    ///
     /// # Errors
     ///
-    /// `AllocError` if a clone of the pool is refused.
+    /// `AllocError` if out of memory.
     pub fn get_field(&self, number: u32) -> Result<Option<FieldDescriptor>, AllocError>
         ensures found { IfOk result (λ found. option_map (λ field. field.index) found ≡ declared_place (fields_of self.now) number) }
         ensures message { IfOk result (λ found. IfSome found (λ field. SameMessage self.now field.message)) }
@@ -351,7 +361,7 @@ impl MessageDescriptor {
     ///
     /// # Errors
     ///
-    /// `AllocError` if a clone of the pool is refused.
+    /// `AllocError` if out of memory.
     pub fn get_field_by_name(&self, name: &str) -> Result<Option<FieldDescriptor>, AllocError>
         ensures found { IfOk result (λ found. option_map (λ field. field.index) found ≡ named_field (fields_of self.now) name.now) }
         ensures message { IfOk result (λ found. IfSome found (λ field. SameMessage self.now field.message)) }
@@ -364,7 +374,7 @@ impl MessageDescriptor {
     ///
     /// # Errors
     ///
-    /// `AllocError` if a clone of the pool is refused.
+    /// `AllocError` if out of memory.
     pub fn get_field_by_json_name(
         &self,
         json_name: &str,
@@ -397,7 +407,7 @@ impl MessageDescriptor {
     ///
     /// # Errors
     ///
-    /// `AllocError` if a clone of the pool is refused.
+    /// `AllocError` if out of memory.
     pub fn get_extension(&self, number: u32) -> Result<Option<ExtensionDescriptor>, AllocError>
         ensures found { IfOk result (λ found. option_map (λ extension. extension.index) found ≡ extension_where self.now.pool.inner.value self.now.index (λ f. f.number == number)) }
         ensures pool { IfOk result (λ found. IfSome found (λ extension. extension.pool.inner.value ≡ self.now.pool.inner.value)) }
@@ -414,7 +424,7 @@ impl MessageDescriptor {
     ///
     /// # Errors
     ///
-    /// `AllocError` if a clone of the pool is refused.
+    /// `AllocError` if out of memory.
     pub fn get_extension_by_full_name(
         &self,
         name: &str,
@@ -434,7 +444,7 @@ impl MessageDescriptor {
     ///
     /// # Errors
     ///
-    /// `AllocError` if a clone of the pool is refused.
+    /// `AllocError` if out of memory.
     pub fn get_extension_by_json_name(
         &self,
         name: &str,

@@ -56,7 +56,7 @@ impl MethodDescriptor {
     ghost use Rattle.prost_reflect_dynamic.specs.NamedServices.{service_row_named};
     ghost use Rattle.prost_reflect_dynamic.specs.Options.{OptionsOf};
 
-    /// The method at a place of a service.
+    /// The method at a place of a service. The place has to be below the number of methods.
     pub fn new(service: ServiceDescriptor, index: usize) -> MethodDescriptor
         requires { index < length (methods_of service) }
         ensures service { result.service ≡ service }
@@ -90,7 +90,7 @@ impl MethodDescriptor {
     ///
     /// # Errors
     ///
-    /// `AllocError` if a clone of the pool is refused.
+    /// `AllocError` if out of memory.
     pub fn parent_file(&self) -> Result<FileDescriptor, AllocError>
         ensures file { IfOk result (λ file. option_map (λ service. service.id.file) (service_row_named self.now.service) ≡ Some file.index) }
         ensures pool { IfOk result (λ file. file.pool.inner.value ≡ self.now.service.pool.inner.value) }
@@ -132,8 +132,8 @@ impl MethodDescriptor {
     ///
     /// # Errors
     ///
-    /// `NoOptionsMessage` if the pool has no such message type; `Decode` with a fault that stands in the stored bytes, where
-    /// that does not accept them; `OutOfMemory` if a growth is refused.
+    /// `NoOptionsMessage` if the pool has no such message type; `Decode` with a fault that the stored bytes have, and only
+    /// if that type does not accept them; `OutOfMemory` if memory runs out.
     pub fn options(&self) -> Result<DynamicMessage, OptionsError>
         ensures { OptionsOf self.now.service.pool.inner (record_named self.now) result }
     {
@@ -164,9 +164,16 @@ impl MethodDescriptor {
 
     /// The message type that the method takes.
     ///
+    /// ```
+    /// // Whether the method takes `google.protobuf.Empty`, the message without fields.
+    /// fn takes_nothing(method: &MethodDescriptor) -> Result<bool, AllocError> {
+    ///     Ok(method.input()?.full_name() == "google.protobuf.Empty")
+    /// }
+    /// ```
+    ///
     /// # Errors
     ///
-    /// `AllocError` if a clone of the pool is refused.
+    /// `AllocError` if out of memory.
     pub fn input(&self) -> Result<MessageDescriptor, AllocError>
         ensures message { IfOk result (λ message. option_map (λ method. method.input) (method_row_named self.now) ≡ Some message.index) }
         ensures pool { IfOk result (λ message. message.pool.inner.value ≡ self.now.service.pool.inner.value) }
@@ -178,7 +185,7 @@ impl MethodDescriptor {
     ///
     /// # Errors
     ///
-    /// `AllocError` if a clone of the pool is refused.
+    /// `AllocError` if out of memory.
     pub fn output(&self) -> Result<MessageDescriptor, AllocError>
         ensures message { IfOk result (λ message. option_map (λ method. method.output) (method_row_named self.now) ≡ Some message.index) }
         ensures pool { IfOk result (λ message. message.pool.inner.value ≡ self.now.service.pool.inner.value) }

@@ -73,7 +73,7 @@ impl OneofDescriptor {
     ///
     /// # Errors
     ///
-    /// `AllocError` if a clone of the pool is refused.
+    /// `AllocError` if out of memory.
     pub fn parent_file(&self) -> Result<FileDescriptor, AllocError>
         ensures file { IfOk result (λ file. option_map (λ message. message.id.file) (message_row_named self.now.message) ≡ Some file.index) }
         ensures pool { IfOk result (λ file. file.pool.inner.value ≡ self.now.message.pool.inner.value) }
@@ -122,8 +122,8 @@ impl OneofDescriptor {
     ///
     /// # Errors
     ///
-    /// `NoOptionsMessage` if the pool has no such message type; `Decode` with a fault that stands in the stored bytes, where
-    /// that does not accept them; `OutOfMemory` if a growth is refused.
+    /// `NoOptionsMessage` if the pool has no such message type; `Decode` with a fault that the stored bytes have, and only
+    /// if that type does not accept them; `OutOfMemory` if memory runs out.
     pub fn options(&self) -> Result<DynamicMessage, OptionsError>
         ensures { OptionsOf self.now.message.pool.inner (option_and_then (λ oneof. record_of (files_of self.now.message.pool.inner) oneof.id) (oneof_row_named self.now)) result }
     {
@@ -135,6 +135,13 @@ impl OneofDescriptor {
     }
 
     /// The members, in the order of their declaration.
+    ///
+    /// ```
+    /// // Whether the oneof has several members, of which a message has one at most.
+    /// fn is_choice(oneof: &OneofDescriptor) -> bool {
+    ///     oneof.fields().len() > 1
+    /// }
+    /// ```
     pub fn fields(&self) -> Descriptors<'_, MessageDescriptor, FieldDescriptor>
         ensures message { result.parent.now ≡ self.now.message }
         ensures places { option_map (λ oneof. oneof.fields) (oneof_row_named self.now) ≡ Some (places_left result.places) }

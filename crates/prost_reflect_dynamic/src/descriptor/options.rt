@@ -31,10 +31,10 @@ pub enum OptionsError {
     /// The pool has no message type for the options.
     #[error("the pool has no message type for the options")]
     NoOptionsMessage,
-    /// The bytes of the options are not those of a message of that type; never a refused growth.
+    /// The bytes of the options are not those of a message of that type. Out of memory is `OutOfMemory`.
     #[error("the options are not read: {0}")]
     Decode(DecodeError),
-    /// A growth was refused.
+    /// Out of memory.
     #[error("out of memory")]
     OutOfMemory,
 }

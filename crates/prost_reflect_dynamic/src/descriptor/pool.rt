@@ -9,7 +9,8 @@ use prost_reflect_pool::LinkedPool;
 use std::alloc::AllocError;
 use std::rc::Rc;
 
-/// Files of definitions with the message types and enums that descriptors are places of. A clone shares them.
+/// Files with what they define, as message types, enums, extensions and services, which descriptors name by their places. A
+/// clone shares them.
 #[derive(PartialEq, Eq, Debug, Drop)]
 pub struct DescriptorPool {
     pub(crate) inner: Rc<LinkedPool>,
@@ -78,7 +79,7 @@ impl DescriptorPool {
     ///
     /// # Errors
     ///
-    /// `AllocError` if a clone of the pool is refused.
+    /// `AllocError` if out of memory.
     pub fn get_file_by_name(&self, name: &str) -> Result<Option<FileDescriptor>, AllocError>
         ensures found { IfOk result (λ found. option_map (λ file. file.index) found ≡ file_place (files_of self.now.inner) name.now) }
         ensures pool { IfOk result (λ found. IfSome found (λ file. file.pool.inner.value ≡ self.now.inner.value)) }
@@ -94,7 +95,7 @@ impl DescriptorPool {
     ///
     /// # Errors
     ///
-    /// `AllocError` if a clone of the pool is refused.
+    /// `AllocError` if out of memory.
     pub fn get_message_by_name(&self, name: &str) -> Result<Option<MessageDescriptor>, AllocError>
         ensures found { IfOk result (λ found. option_map (λ message. message.index) found ≡ message_place (pool_rows self.now.inner) name.now) }
         ensures pool { IfOk result (λ found. IfSome found (λ message. message.pool.inner.value ≡ self.now.inner.value)) }
@@ -110,7 +111,7 @@ impl DescriptorPool {
     ///
     /// # Errors
     ///
-    /// `AllocError` if a clone of the pool is refused.
+    /// `AllocError` if out of memory.
     pub fn get_enum_by_name(&self, name: &str) -> Result<Option<EnumDescriptor>, AllocError>
         ensures found { IfOk result (λ found. option_map (λ e. e.index) found ≡ enum_place (pool_rows self.now.inner) name.now) }
         ensures pool { IfOk result (λ found. IfSome found (λ e. e.pool.inner.value ≡ self.now.inner.value)) }
@@ -126,7 +127,7 @@ impl DescriptorPool {
     ///
     /// # Errors
     ///
-    /// `AllocError` if a clone of the pool is refused.
+    /// `AllocError` if out of memory.
     pub fn get_extension_by_name(
         &self,
         name: &str,
@@ -152,7 +153,7 @@ impl DescriptorPool {
     ///
     /// # Errors
     ///
-    /// `AllocError` if a clone of the pool is refused.
+    /// `AllocError` if out of memory.
     pub fn get_service_by_name(&self, name: &str) -> Result<Option<ServiceDescriptor>, AllocError>
         ensures found { IfOk result (λ found. option_map (λ service. service.index) found ≡ service_place (pool_catalog self.now.inner) name.now) }
         ensures pool { IfOk result (λ found. IfSome found (λ service. service.pool.inner.value ≡ self.now.inner.value)) }

@@ -32,7 +32,7 @@ impl MessageDescriptor {
     ///
     /// # Errors
     ///
-    /// `AllocError` if a growth was refused.
+    /// `AllocError` if out of memory.
     pub fn is_reduction_of(&self, newer: &MessageDescriptor) -> Result<bool, AllocError>
         ensures { IfOk result (λ yes. Reduced (schema_named self.now) (type_named self.now) (schema_named newer.now) (type_named newer.now) ↔ IsTrue yes) }
     {

@@ -54,7 +54,7 @@ impl ServiceDescriptor {
     ghost use Rattle.prost_reflect_dynamic.specs.Places.{places_from, places_left};
     ghost use Rattle.prost_reflect_dynamic.specs.Options.{OptionsOf};
 
-    /// The service at a place of a pool.
+    /// The service at a place of a pool. The place has to be below the number of services.
     pub fn new(pool: DescriptorPool, index: usize) -> ServiceDescriptor
         requires { index < length (pool_catalog pool.inner).services }
         ensures pool { result.pool ≡ pool }
@@ -81,7 +81,7 @@ impl ServiceDescriptor {
     ///
     /// # Errors
     ///
-    /// `AllocError` if a clone of the pool is refused.
+    /// `AllocError` if out of memory.
     pub fn parent_file(&self) -> Result<FileDescriptor, AllocError>
         ensures file { IfOk result (λ file. option_map (λ service. service.id.file) (service_row_named self.now) ≡ Some file.index) }
         ensures pool { IfOk result (λ file. file.pool.inner.value ≡ self.now.pool.inner.value) }
@@ -136,8 +136,8 @@ impl ServiceDescriptor {
     ///
     /// # Errors
     ///
-    /// `NoOptionsMessage` if the pool has no such message type; `Decode` with a fault that stands in the stored bytes, where
-    /// that does not accept them; `OutOfMemory` if a growth is refused.
+    /// `NoOptionsMessage` if the pool has no such message type; `Decode` with a fault that the stored bytes have, and only
+    /// if that type does not accept them; `OutOfMemory` if memory runs out.
     pub fn options(&self) -> Result<DynamicMessage, OptionsError>
         ensures { OptionsOf self.now.pool.inner (option_and_then (λ service. record_of (files_of self.now.pool.inner) service.id) (service_row_named self.now)) result }
     {
@@ -149,6 +149,16 @@ impl ServiceDescriptor {
     }
 
     /// The methods, in the order of their declaration.
+    ///
+    /// ```
+    /// // How many methods the service of the full name has; none where no service has it.
+    /// fn count_methods(pool: &DescriptorPool, name: &str) -> Result<usize, AllocError> {
+    ///     match pool.get_service_by_name(name)? {
+    ///         Some(service) => Ok(service.methods().len()),
+    ///         None => Ok(0),
+    ///     }
+    /// }
+    /// ```
     pub fn methods(&self) -> Descriptors<'_, ServiceDescriptor, MethodDescriptor>
         ensures service { result.parent.now ≡ self.now }
         ensures places { places_from 0 (length (methods_of self.now)) ≡ places_left result.places }

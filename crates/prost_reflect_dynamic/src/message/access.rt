@@ -27,14 +27,16 @@ use std::alloc::{AllocError, Global};
 use std::borrow::Cow;
 
 impl DynamicMessage {
-    /// Whether the field is one of the message's own type: their pools hold the same files, and it is the same message type there.
+    /// Whether the field is one of the message's own type: their pools hold the same files, and it is the same message type
+    /// there.
     pub fn owns_field(&self, field: &FieldDescriptor) -> bool
         ensures { IsTrue result ↔ IsOwnField (message_type_of self.now) field.now }
     {
         field.parent_message().names(self.message_type())
     }
 
-    /// Whether the message has a value of the field. The default of a field without presence is none, nor is an empty list or an empty map.
+    /// Whether the message has a value of the field. The default of a field without presence is none, nor is an empty list
+    /// or an empty map. The field has to be of the message's own type, as `owns_field` tells.
     pub fn has_field(&self, field: &FieldDescriptor) -> bool
         requires { IsOwnField (message_type_of self.now) field.now }
         ensures { result ≡ has_at (number_of field.now) (content_of self.now) }
@@ -49,11 +51,12 @@ impl DynamicMessage {
         self.is_field_number(number) && self.had_value(number).is_some()
     }
 
-    /// The value of the field: the one that is stored, lent, or else the default.
+    /// The value of the field: the stored one, borrowed, or else the default. The field has to be of the message's own
+    /// type, as `owns_field` tells.
     ///
     /// # Errors
     ///
-    /// `AllocError` if the default needs memory that is refused.
+    /// `AllocError` if the default needs memory and memory runs out.
     pub fn get_field(
         &self,
         alloc: Global,
@@ -65,11 +68,12 @@ impl DynamicMessage {
         self.value_or_default(alloc, field.number())
     }
 
-    /// The value of the field of a number: the one that is stored, lent, or else the default. There is none where no field has the number.
+    /// The value of the field of a number: the stored one, borrowed, or else the default. There is none where no field has
+    /// the number.
     ///
     /// # Errors
     ///
-    /// `AllocError` if the default needs memory that is refused.
+    /// `AllocError` if the default needs memory and memory runs out.
     pub fn get_field_by_number(
         &self,
         alloc: Global,
@@ -85,11 +89,13 @@ impl DynamicMessage {
         }
     }
 
-    /// The value of the field for writing; where there is none, it is first set to the default. Once the loan is over, the message is as if what was left behind the reference had been set.
+    /// The value of the field, borrowed for writing; where there is none, it is first set to the default. Once the borrow
+    /// ends, the message is as if the value that is left there had been set. The field has to be of the message's own type,
+    /// as `owns_field` tells.
     ///
     /// # Errors
     ///
-    /// `AllocError` if a growth is refused, or if the default needs memory that is; then nothing changes.
+    /// `AllocError` if out of memory; then nothing changes.
     pub fn get_field_mut(
         &mut self,
         alloc: Global,
@@ -104,7 +110,8 @@ impl DynamicMessage {
         self.value_or_default_mut(alloc, field.number())
     }
 
-    /// Removes the value of the field. Unknown fields of its number stay.
+    /// Removes the value of the field. Unknown fields of its number stay. The field has to be of the message's own type, as
+    /// `owns_field` tells.
     pub fn clear_field(&mut self, field: &FieldDescriptor)
         requires { IsOwnField (message_type_of self.old) field.now }
         ensures message_type { message_type_of self.new ≡ message_type_of self.old }
@@ -124,7 +131,8 @@ impl DynamicMessage {
         }
     }
 
-    /// Takes the value of the field, and answers it if the message had it. A stored default is removed, too. Unknown fields of the number stay.
+    /// Takes the value of the field, and answers it if the message had it. A stored default is removed, too. Unknown fields
+    /// of the number stay. The field has to be of the message's own type, as `owns_field` tells.
     pub fn take_field(&mut self, field: &FieldDescriptor) -> Option<Value>
         requires { IsOwnField (message_type_of self.old) field.now }
         ensures value { result ≡ had_at (number_of field.now) self.old }
@@ -148,11 +156,23 @@ impl DynamicMessage {
         }
     }
 
-    /// Sets the field to a value that fits it, and removes the values of the other members of its oneof.
+    /// Sets the field to a value that fits it, and removes the values of the other members of its oneof. The field has to
+    /// be of the message's own type, as `owns_field` tells, and the value has to fit it, as `Value::is_valid_for_field`
+    /// tells.
+    ///
+    /// ```
+    /// // Sets the field to 7, if it is the message's own and takes that.
+    /// fn set_seven(message: &mut DynamicMessage, field: &FieldDescriptor) -> Result<(), AllocError> {
+    ///     if message.owns_field(field) && Value::I32(7).is_valid_for_field(field) {
+    ///         message.set_field(field, Value::I32(7))?;
+    ///     }
+    ///     Ok(())
+    /// }
+    /// ```
     ///
     /// # Errors
     ///
-    /// `AllocError` if a growth is refused; then nothing changes.
+    /// `AllocError` if out of memory; then nothing changes.
     pub fn set_field(&mut self, field: &FieldDescriptor, value: Value) -> Result<(), AllocError>
         requires own { IsOwnField (message_type_of self.old) field.now }
         requires valid { takes field.now value ≡ true }
@@ -164,11 +184,23 @@ impl DynamicMessage {
         self.set_value(field.number(), value)
     }
 
-    /// Sets the field of a number to a value that fits it, and removes the values of the other members of its oneof. Nothing changes where no field has the number.
+    /// Sets the field of a number to a value that fits it, and removes the values of the other members of its oneof.
+    /// Nothing changes where no field has the number. The value has to fit the field, as `Value::is_valid_for_field` tells;
+    /// `try_set_field_by_number` tests that itself.
+    ///
+    /// ```
+    /// // Sets the field to 7, clears it, and sets it again; 7 is known to fit then, so the last call needs no test.
+    /// fn set_again(message: &mut DynamicMessage, number: u32) -> Result<(), SetFieldError> {
+    ///     message.try_set_field_by_number(number, Value::I32(7))?;
+    ///     message.clear_field_by_number(number);
+    ///     message.set_field_by_number(number, Value::I32(7))?;
+    ///     Ok(())
+    /// }
+    /// ```
     ///
     /// # Errors
     ///
-    /// `AllocError` if a growth is refused; then nothing changes.
+    /// `AllocError` if out of memory; then nothing changes.
     pub fn set_field_by_number(&mut self, number: u32, value: Value) -> Result<(), AllocError>
         requires { is_field_number (message_type_of self.old) number ≡ true → takes_at (message_type_of self.old) number value ≡ true }
         ensures message_type { message_type_of self.new ≡ message_type_of self.old }
@@ -194,7 +226,7 @@ impl DynamicMessage {
         }
     }
 
-    /// The value at the number of a field or an extension: the one that is stored, lent, or else the default.
+    /// The value at the number of a field or an extension: the stored one, borrowed, or else the default.
     pub(super) fn value_or_default(
         &self,
         alloc: Global,

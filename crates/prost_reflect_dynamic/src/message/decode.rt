@@ -55,10 +55,18 @@ impl DynamicMessage {
     /// The values of the message fit their fields, and the messages inside are of their fields' types, as `is_encodable` and
     /// `is_typed` tell; so it may be encoded, and bytes may be merged into it.
     ///
+    /// ```
+    /// // Whether the message that the bytes mean has a value of the field of the number 5.
+    /// fn has_five(alloc: Global, message_type: MessageDescriptor, bytes: &[u8]) -> Result<bool, DecodeError> {
+    ///     let message = DynamicMessage::decode(alloc, message_type, bytes)?;
+    ///     Ok(message.has_field_by_number(5))
+    /// }
+    /// ```
+    ///
     /// # Errors
     ///
-    /// `Truncated`, `Varint`, `Key`, `WireType`, `EndGroup`, `Utf8` or `Depth` where that fault stands in the bytes, and
-    /// only where the type does not accept them; `OutOfMemory` if a growth is refused.
+    /// A fault that the bytes have (`Truncated`, `Varint`, `Key`, `WireType`, `EndGroup`, `Utf8` or `Depth`), and only if
+    /// the type does not accept them; `OutOfMemory` if memory runs out.
     pub fn decode(
         alloc: Global,
         descriptor: MessageDescriptor,

@@ -17,11 +17,12 @@ use prost_reflect_pool::PooledType;
 use std::collections::BTreeMap;
 
 impl DynamicMessage {
-    /// Whether the message may be encoded: each value that is stored fits its field, in the message and in every message inside,
-    /// those in lists and maps among them. A field takes what `Value::is_valid_for_field` says, so a number of a closed enum has to be
-    /// one that the enum declares. A message inside may be of any type: it is written by its own, and `is_typed` asks for its field's.
+    /// Whether the message may be encoded: each value that is stored fits its field, in the message and in every message
+    /// inside, those in lists and maps among them. A field takes what `Value::is_valid_for_field` says, so a number of a
+    /// closed enum has to be one that the enum declares. A message inside may be of any type, as it is written by its own;
+    /// `is_typed` tells whether that is its field's.
     ///
-    /// Each message that `decode` gives is so. One whose values were written through `get_field_mut` may not be.
+    /// Each message that `decode` gives may be encoded; one whose values were written through `get_field_mut` perhaps not.
     pub fn is_encodable(&self) -> bool
         ensures encodable { result ≡ encodable (content_of self.now) }
         ensures order { IsTrue result → ordered (content_of self.now) ≡ true }

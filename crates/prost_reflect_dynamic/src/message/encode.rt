@@ -236,8 +236,8 @@ impl DynamicMessage {
     ///
     /// # Errors
     ///
-    /// `TooLong` if the encoding passes the greatest `usize`, `OutOfMemory` if a growth is refused; the output stays as it
-    /// was.
+    /// `TooLong` if the encoding passes the greatest `usize`, `OutOfMemory` if memory runs out. In each case the output
+    /// stays as it was.
     pub fn encode(&self, out: &mut Vec<u8>) -> Result<(), EncodeError>
         requires encodable { encodable (content_of self.now) ≡ true }
         ensures ok { OnOk result (out.new.items ≡ out.old.items ++ encoded (kept (content_of self.now))) }
@@ -252,8 +252,8 @@ impl DynamicMessage {
         sink.append_to(out)
     }
 
-    /// How many bytes `encode` appends, which asks the same of the message; `None` if they are more than a `usize` counts. No memory
-    /// is taken.
+    /// How many bytes `encode` appends, or `None` if they are more than a `usize` counts. Each stored value has to fit its
+    /// field, as for `encode`. No memory is taken.
     pub fn encoded_len(&self) -> Option<usize>
         requires encodable { encodable (content_of self.now) ≡ true }
         ensures { let n = length (encoded (kept (content_of self.now))) in SomeIff result (n < 2 ^ 64) n }
@@ -263,7 +263,17 @@ impl DynamicMessage {
         sink.total()
     }
 
-    /// The encoding of the message, as `encode` appends it.
+    /// The encoding of the message, as `encode` appends it. Each stored value has to fit its field, as for `encode`.
+    ///
+    /// ```
+    /// // The encoding of the message, or none if one of its values does not fit its field.
+    /// fn written(alloc: Global, message: &DynamicMessage) -> Result<Option<Vec<u8>>, EncodeError> {
+    ///     if !message.is_encodable() {
+    ///         return Ok(None);
+    ///     }
+    ///     Ok(Some(message.encode_to_vec(alloc)?))
+    /// }
+    /// ```
     ///
     /// # Errors
     ///

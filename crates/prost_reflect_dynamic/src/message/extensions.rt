@@ -19,14 +19,16 @@ use std::alloc::{AllocError, Global};
 use std::borrow::Cow;
 
 impl DynamicMessage {
-    /// Whether the extension extends the message's own type: their pools hold the same files, and it is the same message type there.
+    /// Whether the extension extends the message's own type: their pools hold the same files, and it is the same message
+    /// type there.
     pub fn owns_extension(&self, extension: &ExtensionDescriptor) -> bool
         ensures { IsTrue result ↔ IsOwnExtension (message_type_of self.now) extension.now }
     {
         extension.extends(self.message_type())
     }
 
-    /// Whether the message has a value of the extension. An empty list or an empty map is none.
+    /// Whether the message has a value of the extension. An empty list or an empty map is none. The extension has to extend
+    /// the message's own type, as `owns_extension` tells.
     pub fn has_extension(&self, extension: &ExtensionDescriptor) -> bool
         requires { IsOwnExtension (message_type_of self.now) extension.now }
         ensures { result ≡ has_at (extension_number extension.now) (content_of self.now) }
@@ -34,11 +36,12 @@ impl DynamicMessage {
         self.had_value(extension.number()).is_some()
     }
 
-    /// The value of the extension: the one that is stored, lent, or else the default.
+    /// The value of the extension: the stored one, borrowed, or else the default. The extension has to extend the message's
+    /// own type, as `owns_extension` tells.
     ///
     /// # Errors
     ///
-    /// `AllocError` if the default needs memory that is refused.
+    /// `AllocError` if the default needs memory and memory runs out.
     pub fn get_extension(
         &self,
         alloc: Global,
@@ -50,11 +53,13 @@ impl DynamicMessage {
         self.value_or_default(alloc, extension.number())
     }
 
-    /// The value of the extension for writing; where there is none, it is first set to the default. Once the loan is over, the message is as if what was left behind the reference had been set.
+    /// The value of the extension, borrowed for writing; where there is none, it is first set to the default. Once the
+    /// borrow ends, the message is as if the value that is left there had been set. The extension has to extend the
+    /// message's own type, as `owns_extension` tells.
     ///
     /// # Errors
     ///
-    /// `AllocError` if a growth is refused, or if the default needs memory that is; then nothing changes.
+    /// `AllocError` if out of memory; then nothing changes.
     pub fn get_extension_mut(
         &mut self,
         alloc: Global,
@@ -69,7 +74,8 @@ impl DynamicMessage {
         self.value_or_default_mut(alloc, extension.number())
     }
 
-    /// Removes the value of the extension. Unknown fields of its number stay.
+    /// Removes the value of the extension. Unknown fields of its number stay. The extension has to extend the message's own
+    /// type, as `owns_extension` tells.
     pub fn clear_extension(&mut self, extension: &ExtensionDescriptor)
         requires { IsOwnExtension (message_type_of self.old) extension.now }
         ensures message_type { message_type_of self.new ≡ message_type_of self.old }
@@ -78,7 +84,9 @@ impl DynamicMessage {
         self.clear_value(extension.number());
     }
 
-    /// Takes the value of the extension, and answers it if the message had it. An empty list or map that is stored is removed, too. Unknown fields of the number stay.
+    /// Takes the value of the extension, and answers it if the message had it. An empty list or map that is stored is
+    /// removed, too. Unknown fields of the number stay. The extension has to extend the message's own type, as
+    /// `owns_extension` tells.
     pub fn take_extension(&mut self, extension: &ExtensionDescriptor) -> Option<Value>
         requires { IsOwnExtension (message_type_of self.old) extension.now }
         ensures value { result ≡ had_at (extension_number extension.now) self.old }
@@ -88,11 +96,12 @@ impl DynamicMessage {
         self.take_had(extension.number())
     }
 
-    /// Sets the extension to a value that fits it.
+    /// Sets the extension to a value that fits it. The extension has to extend the message's own type, as `owns_extension`
+    /// tells, and the value has to fit it, as `Value::is_valid_for_extension` tells.
     ///
     /// # Errors
     ///
-    /// `AllocError` if a growth is refused; then nothing changes.
+    /// `AllocError` if out of memory; then nothing changes.
     pub fn set_extension(
         &mut self,
         extension: &ExtensionDescriptor,

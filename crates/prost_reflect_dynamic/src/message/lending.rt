@@ -21,18 +21,19 @@ pub enum GetFieldError {
     /// The message type has no such field.
     #[error("field not found")]
     NotFound,
-    /// A growth was refused.
+    /// Out of memory.
     #[error("out of memory")]
     OutOfMemory,
 }
 
 impl DynamicMessage {
-    /// The value of the field of a number for writing; where there is none, it is first set to the default. Once the loan is over, the message is as if what was left behind the reference had been set.
+    /// The value of the field of a number, borrowed for writing; where there is none, it is first set to the default. Once
+    /// the borrow ends, the message is as if the value that is left there had been set.
     ///
     /// # Errors
     ///
-    /// Nothing changes where one is answered: `NotFound` if no field has the number, which an extension may have; and `OutOfMemory`
-    /// if a growth is refused, or if the default needs memory that is.
+    /// `NotFound` if no field has the number, where an extension is no field; and `OutOfMemory` if memory runs out. In each
+    /// case nothing changes.
     pub fn get_field_by_number_mut(
         &mut self,
         alloc: Global,
@@ -54,12 +55,13 @@ impl DynamicMessage {
         }
     }
 
-    /// The value of the field of a name for writing; where there is none, it is first set to the default. Once the loan is over, the message is as if what was left behind the reference had been set.
+    /// The value of the field of a name, borrowed for writing; where there is none, it is first set to the default. Once
+    /// the borrow ends, the message is as if the value that is left there had been set.
     ///
     /// # Errors
     ///
-    /// Nothing changes where one is answered: `NotFound` if no field has the name, which an extension may have; and `OutOfMemory`
-    /// if a growth is refused, or if the default needs memory that is.
+    /// `NotFound` if no field has the name, where an extension is no field; and `OutOfMemory` if memory runs out. In each
+    /// case nothing changes.
     pub fn get_field_by_name_mut(
         &mut self,
         alloc: Global,

@@ -19,7 +19,7 @@ impl DynamicMessage {
     ///
     /// # Errors
     ///
-    /// `AllocError` if a growth is refused.
+    /// `AllocError` if out of memory.
     pub fn field_numbers(&self, alloc: Global) -> Result<Vec<u32>, AllocError>
         ensures { IfOk result (λ numbers. numbers.items ≡ flat_map (number_listed false) (present_in (kept (content_of self.now)))) }
     {
@@ -30,7 +30,7 @@ impl DynamicMessage {
     ///
     /// # Errors
     ///
-    /// `AllocError` if a growth is refused.
+    /// `AllocError` if out of memory.
     pub fn extension_numbers(&self, alloc: Global) -> Result<Vec<u32>, AllocError>
         ensures { IfOk result (λ numbers. numbers.items ≡ flat_map (number_listed true) (present_in (kept (content_of self.now)))) }
     {

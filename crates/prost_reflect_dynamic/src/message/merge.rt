@@ -32,15 +32,14 @@ impl DynamicMessage {
     /// Wins", "Oneofs", "Packed Repeated Fields" and "Maps"). So merging the pieces of a message one by one gives what
     /// all of them mean, read as one.
     ///
-    /// The values of the message have to fit their fields, and the messages inside have to be of their fields' types, as in every
-    /// message that `decode` gives: `is_encodable` and `is_typed` tell. So they do afterwards, and where `is_typed` told it of the
-    /// message, it tells it of the merged one; no test is needed between two calls.
+    /// The values of the message have to fit their fields, and the messages inside have to be of their fields' types, as in
+    /// every message that `decode` gives: `is_encodable` and `is_typed` tell. The same then holds of the merged message, so
+    /// no test is needed between two calls.
     ///
     /// # Errors
     ///
-    /// `Truncated`, `Varint`, `Key`, `WireType`, `EndGroup`, `Utf8` or `Depth` where that fault stands in the bytes, and
-    /// only where the type does not accept them; `OutOfMemory` if a growth is refused. A refusal leaves the message as it
-    /// was.
+    /// A fault that the bytes have (`Truncated`, `Varint`, `Key`, `WireType`, `EndGroup`, `Utf8` or `Depth`), and only if
+    /// the type does not accept them; `OutOfMemory` if memory runs out. In each case the message stays as it was.
     pub fn merge(&mut self, bytes: &[u8]) -> Result<(), DecodeError>
         requires sound { WellStored (content_of self.old) }
         ensures merged { IfOk result (λ _. IsMerged bytes.now (content_of self.old) (content_of self.new)) }
@@ -62,7 +61,8 @@ impl DynamicMessage {
     }
 }
 
-/// The numbers of the records that the bytes begin with, and the other members of their fields' oneofs: what reading them may change.
+/// The numbers of the records that the bytes begin with, and the other members of their fields' oneofs: what reading them
+/// may change.
 fn numbers_in(
     alloc: Global,
     message_type: &PooledType,

@@ -30,9 +30,12 @@ pub fn takes_at_path(descriptor: &MessageDescriptor, path: &[u32], value: &Value
 /// Sets the value at the path in the message. A message that is not there is made on the way, and at each number the other
 /// members of its oneof go.
 ///
+/// The message has to be as `DynamicMessage::merge` takes it, and the path has to lead to a field that takes the value, as
+/// `takes_at_path` tells. Messages in the value have to be as `merge` takes them, and of their fields' types.
+///
 /// # Errors
 ///
-/// `AllocError` if a growth was refused, which leaves what was made.
+/// `AllocError` if out of memory, which leaves what was made.
 #[cycle(path)]
 pub fn set_at_path(
     message: &mut DynamicMessage,

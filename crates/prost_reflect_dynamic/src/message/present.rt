@@ -26,11 +26,12 @@ pub enum PresentNumber {
 }
 
 impl DynamicMessage {
-    /// The numbers that are present, in ascending order, and of one number the value before the unknown fields. The default of a field without presence is no value, nor is an empty list or an empty map.
+    /// The numbers that are present, in ascending order, and of one number the value before the unknown fields. The default
+    /// of a field without presence is no value, nor is an empty list or an empty map.
     ///
     /// # Errors
     ///
-    /// `AllocError` if a growth is refused.
+    /// `AllocError` if out of memory.
     pub fn present_numbers(&self, alloc: Global) -> Result<Vec<PresentNumber>, AllocError>
         ensures { IfOk result (λ numbers. numbers.items ≡ present_in (kept (content_of self.now))) }
     {

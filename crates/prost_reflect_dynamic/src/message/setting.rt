@@ -23,8 +23,9 @@ use std::fmt;
 
 /// Why a field is not set.
 ///
-/// Its text is `field not found`, `expected a value of type 'T'` or `out of memory`. `T` is the name of the field's kind, as `int32`
-/// or the full name of its message type or enum; that of a list is as `repeated int32`, and that of a map as `map<string, int32>`.
+/// Its text is `field not found`, `expected a value of type 'T'` or `out of memory`. `T` is the name of the field's kind,
+/// as `int32` or the full name of its message type or enum; that of a list is as `repeated int32`, and that of a map as
+/// `map<string, int32>`.
 #[derive(Debug, PartialEq, Drop)]
 pub enum SetFieldError {
     /// The message type has no such field.
@@ -36,7 +37,7 @@ pub enum SetFieldError {
         /// The value that does not fit it.
         value: Value,
     },
-    /// A growth was refused.
+    /// Out of memory.
     OutOfMemory,
 }
 
@@ -81,7 +82,8 @@ impl fmt::Display for SetFieldError {
 
 impl Error for SetFieldError {}
 
-/// Writes the type of a field: its kind's name, `repeated` and that name for a list, or `map` with the names of both kinds for a map.
+/// Writes the type of a field: its kind's name, `repeated` and that name for a list, or `map` with the names of both kinds
+/// for a map.
 fn write_type<W: fmt::Write>(
     f: &mut fmt::Formatter<W>,
     pool: &LinkedPool,
@@ -133,12 +135,13 @@ fn kind_name(pool: &LinkedPool, kind: TableKind) -> &str {
 }
 
 impl DynamicMessage {
-    /// Sets the field to the value if the value fits it, and then removes the values of the other members of its oneof.
+    /// Sets the field to the value if the value fits it, and then removes the values of the other members of its oneof. The
+    /// field has to be of the message's own type, as `owns_field` tells.
     ///
     /// # Errors
     ///
-    /// Nothing changes where one is answered: `InvalidType`, with the field and the value, if the value does not fit the field, as
-    /// `Value::is_valid_for_field` says; and `OutOfMemory` if a growth, or a clone of the field's pool, is refused.
+    /// `InvalidType`, with the field and the value, if the value does not fit the field, as `Value::is_valid_for_field`
+    /// tells; and `OutOfMemory` if memory runs out. In each case nothing changes.
     pub fn try_set_field(
         &mut self,
         field: &FieldDescriptor,
@@ -161,12 +164,22 @@ impl DynamicMessage {
         }
     }
 
-    /// Sets the field of a number to the value if the value fits it, and then removes the values of the other members of its oneof.
+    /// Sets the field of a number to the value if the value fits it, and then removes the values of the other members of
+    /// its oneof.
+    ///
+    /// ```
+    /// // Sets the field of the number 5 to 7, and clears that of the number 6.
+    /// fn change(message: &mut DynamicMessage) -> Result<(), SetFieldError> {
+    ///     message.try_set_field_by_number(5, Value::I32(7))?;
+    ///     message.clear_field_by_number(6);
+    ///     Ok(())
+    /// }
+    /// ```
     ///
     /// # Errors
     ///
-    /// Nothing changes where one is answered: `NotFound` if no field has the number, which an extension may have; `InvalidType`,
-    /// with the field and the value, if the value does not fit the field; and `OutOfMemory` if a growth, or a clone of the pool, is refused.
+    /// `NotFound` if no field has the number, where an extension is no field; `InvalidType`, with the field and the value,
+    /// if the value does not fit the field; and `OutOfMemory` if memory runs out. In each case nothing changes.
     pub fn try_set_field_by_number(
         &mut self,
         number: u32,
@@ -190,8 +203,8 @@ impl DynamicMessage {
     ///
     /// # Errors
     ///
-    /// Nothing changes where one is answered: `NotFound` if no field has the name, which an extension may have; `InvalidType`,
-    /// with the field and the value, if the value does not fit the field; and `OutOfMemory` if a growth, or a clone of the pool, is refused.
+    /// `NotFound` if no field has the name, where an extension is no field; `InvalidType`, with the field and the value, if
+    /// the value does not fit the field; and `OutOfMemory` if memory runs out. In each case nothing changes.
     pub fn try_set_field_by_name(&mut self, name: &str, value: Value) -> Result<(), SetFieldError>
         ensures message_type { message_type_of self.new ≡ message_type_of self.old }
         ensures content { OnOk result (content_of self.new ≡ set_if (number_named (message_type_of self.old) name.now) (value_of value) (content_of self.old)) }

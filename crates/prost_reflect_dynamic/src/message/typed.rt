@@ -19,12 +19,13 @@ use prost_reflect_tables::{FieldTable, TableKind};
 use std::collections::BTreeMap;
 
 impl DynamicMessage {
-    /// Whether each message inside is of its field's type, at every depth, those in lists and maps among them: its descriptor equals
-    /// that of the field's type, so it stands at that place in a pool whose files hold the same. A message that stands by itself in a map
-    /// field, or at a number that is not known, is of no field's type.
+    /// Whether each message inside is of its field's type, at every depth, those in lists and maps among them: its
+    /// descriptor equals that of the field's type, so it stands at that place in a pool whose files hold the same. A
+    /// message that stands by itself in a map field, or at a number that is not known, is of no field's type.
     ///
-    /// So it is in a message that `new` or `decode` gives, and it stays so where bytes are merged, and where a value is set whose
-    /// messages are of the field's type, as one is that holds none. A value that is left behind a loan may hold any.
+    /// This holds of a message that `new` or `decode` gives. It stays so where bytes are merged, and where a value is set
+    /// that holds no message, or messages of the field's type alone. A value that was written through `get_field_mut` may
+    /// hold any.
     ///
     /// Nothing is said of values that are no messages: `is_encodable` asks for those.
     pub fn is_typed(&self) -> bool
@@ -118,7 +119,7 @@ fn stands_there(message_type: &PooledType, place: Option<usize>, message: &Dynam
     }
 }
 
-/// The place of the type of which the messages in a value have to be that stands at a number.
+/// The place of the type that the messages in a value at a number have to be of.
 fn place_at(message_type: &PooledType, number: u32, value: &Value) -> Option<usize>
     ensures { result ≡ place_for (field_of (known_of message_type.now) number) (value_stored value.now) }
 {

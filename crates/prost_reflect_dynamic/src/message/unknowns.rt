@@ -63,7 +63,8 @@ impl<'a> UnknownFields<'a> {
     }
 }
 
-/// The unknown fields that were taken from a message, in ascending number; those of one number in the order in which they were read or added.
+/// The unknown fields that were taken from a message, in ascending number; those of one number in the order in which they
+/// were read or added.
 #[derive(Drop)]
 pub struct TakenUnknownFields {
     pub(crate) fields: IntoIter<UnknownField, Global>,
@@ -114,12 +115,12 @@ impl DynamicMessage {
         }
     }
 
-    /// Takes all unknown fields in ascending number, also those of fields whose closed enum does not declare them. They are removed at
-    /// this call, however many of them are then asked for. The values stay, and so does a stored default.
+    /// Takes all unknown fields in ascending number, also those of fields whose closed enum does not declare them. They are
+    /// removed at this call, however many of them are then asked for. The values stay, and so does a stored default.
     ///
     /// # Errors
     ///
-    /// `AllocError` if a growth is refused; then nothing changes.
+    /// `AllocError` if out of memory; then nothing changes.
     pub fn take_unknown_fields(&mut self, alloc: Global) -> Result<TakenUnknownFields, AllocError>
         ensures taken { IfOk result (λ taken. taken_left taken ≡ all_unknown (stored_in self.old)) }
         ensures records { IfOk result (λ taken. map record_of (taken_left taken) ≡ unknown_records (entries_of (content_of self.old))) }

@@ -21,6 +21,16 @@ impl Value {
     }
 
     /// The value of an `I32`.
+    ///
+    /// ```
+    /// // The value of the field of the number, if it is an `I32`.
+    /// fn int32_at(alloc: Global, message: &DynamicMessage, number: u32) -> Result<Option<i32>, AllocError> {
+    ///     match message.get_field_by_number(alloc, number)? {
+    ///         Some(value) => Ok(value.as_i32()),
+    ///         None => Ok(None),
+    ///     }
+    /// }
+    /// ```
     pub fn as_i32(&self) -> Option<i32>
         ensures { result ≡ i32_in (out-Value self.now) }
     {

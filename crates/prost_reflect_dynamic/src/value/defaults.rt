@@ -35,11 +35,11 @@ use std::rc::Rc;
 impl Value {
     /// The default of the kind: zero, false or empty, the first declared number of an enum, or an empty message.
     ///
-    /// So that of `Kind::Sint32` is `Value::I32(0)`.
+    /// So the default of `Kind::Sint32` is `Value::I32(0)`.
     ///
     /// # Errors
     ///
-    /// `AllocError` if a clone of a message's pool is refused.
+    /// `AllocError` if out of memory.
     pub fn default_value(alloc: Global, kind: &Kind) -> Result<Value, AllocError>
         ensures value { IfOk result (λ value. value_of value ≡ default_named kind.now) }
         ensures default { IfOk result (IsKindDefault kind.now) }
@@ -52,7 +52,7 @@ impl Value {
     ///
     /// # Errors
     ///
-    /// `AllocError` if a copy of a written text, or a clone of a message's pool, is refused.
+    /// `AllocError` if out of memory.
     pub fn default_value_for_field(
         alloc: Global,
         field: &FieldDescriptor,
@@ -68,7 +68,7 @@ impl Value {
     ///
     /// # Errors
     ///
-    /// `AllocError` if a copy of a written text, or a clone of a message's pool, is refused.
+    /// `AllocError` if out of memory.
     pub fn default_value_for_extension(
         alloc: Global,
         extension: &ExtensionDescriptor,
@@ -80,9 +80,9 @@ impl Value {
         extension.default_value(alloc)
     }
 
-    /// Whether the value is the default of the kind. Floating-point numbers are compared by their bits, so -0.0 is none. A message
-    /// is the default where it is of the kind's message type, or of an equal one of another pool, and stores neither values nor
-    /// unknown fields.
+    /// Whether the value is the default of the kind. Floating-point numbers are compared by their bits, so -0.0 is none. A
+    /// message is the default where it is of the kind's message type, or of an equal one of another pool, and stores
+    /// neither values nor unknown fields.
     ///
     /// So `Value::F32(0).is_default(&Kind::Float)` holds, and `Value::F32(0x8000_0000).is_default(&Kind::Float)` does not.
     pub fn is_default(&self, kind: &Kind) -> bool
@@ -113,9 +113,10 @@ impl Value {
 }
 
 impl MapKey {
-    /// The default of a kind of keys, which is an integer kind, bool or string: zero, false or the empty text.
+    /// The default of a kind of keys: zero, false or the empty text. The kind has to be an integer kind, `Bool` or
+    /// `String`.
     ///
-    /// So that of `Kind::Sint32` is `MapKey::I32(0)`.
+    /// So the default of `Kind::Sint32` is `MapKey::I32(0)`.
     pub fn default_value(alloc: Global, kind: &Kind) -> MapKey
         requires { IsTrue (is_key_kind kind.now) }
         ensures default { ScalarValue (key_of result) ≡ default_named kind.now }
@@ -132,7 +133,7 @@ impl MapKey {
         }
     }
 
-    /// Whether the key is the default of the kind. One of no kind of keys has no key as its default.
+    /// Whether the key is the default of the kind. A kind that no key has, as `Kind::Float`, has no key as its default.
     ///
     /// So `MapKey::Bool(false).is_default(&Kind::Bool)` holds.
     pub fn is_default(&self, kind: &Kind) -> bool

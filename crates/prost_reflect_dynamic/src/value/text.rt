@@ -13,15 +13,15 @@ use prost_reflect_tables::{WrittenDefault, written_default};
 use std::alloc::{AllocError, Global};
 
 impl Value {
-    /// The value of the kind that a text spells, as the definition of a proto2 field writes its default: digits behind an optional
-    /// `-`, also `inf`, `-inf` or `nan` of a floating-point kind; `true` or `false`; a text as it stands; bytes with escapes; the name of an
-    /// enum's value. Any other text spells none, and no text spells a message.
+    /// The value of the kind that a text spells, as the definition of a proto2 field writes its default: digits with an
+    /// optional `-` before them, also `inf`, `-inf` or `nan` of a floating-point kind; `true` or `false`; a text as it
+    /// stands; bytes with escapes; the name of an enum's value. Any other text spells none, and no text spells a message.
     ///
     /// So `Value::from_text(alloc, &Kind::Sint32, "-3")` is `Value::I32(-3)`.
     ///
     /// # Errors
     ///
-    /// `AllocError` if a growth is refused.
+    /// `AllocError` if out of memory.
     pub fn from_text(alloc: Global, kind: &Kind, text: &str) -> Result<Option<Value>, AllocError>
         ensures { IfOk result (λ value. option_map value_of value ≡ option_map ScalarValue (field_default (table_kind kind.now) (values_named kind.now) text.now)) }
     {

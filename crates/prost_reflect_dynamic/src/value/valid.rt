@@ -58,7 +58,8 @@ impl Value {
 impl MapKey {
     /// Whether the key is a value of the kind.
     ///
-    /// So `MapKey::Bool(true).is_valid(&Kind::Bool)` holds. No key is of a floating-point kind, of bytes, of an enum or of a message kind.
+    /// So `MapKey::Bool(true).is_valid(&Kind::Bool)` holds. No key is of a floating-point kind, of bytes, of an enum or of
+    /// a message kind.
     pub fn is_valid(&self, kind: &Kind) -> bool
         ensures { result ≡ kind_takes (kind_named kind.now) (key_of self.now) }
     {

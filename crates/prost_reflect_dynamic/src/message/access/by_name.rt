@@ -24,11 +24,12 @@ impl DynamicMessage {
         }
     }
 
-    /// The value of the field of a name: the one that is stored, lent, or else the default. There is none where no field has the name.
+    /// The value of the field of a name: the stored one, borrowed, or else the default. There is none where no field has
+    /// the name.
     ///
     /// # Errors
     ///
-    /// `AllocError` if the default needs memory that is refused.
+    /// `AllocError` if the default needs memory and memory runs out.
     pub fn get_field_by_name(
         &self,
         alloc: Global,
@@ -68,11 +69,13 @@ impl DynamicMessage {
         }
     }
 
-    /// Sets the field of a name to a value that fits it, and removes the values of the other members of its oneof. Nothing changes where no field has the name.
+    /// Sets the field of a name to a value that fits it, and removes the values of the other members of its oneof. Nothing
+    /// changes where no field has the name. The value has to fit the field, as `Value::is_valid_for_field` tells;
+    /// `try_set_field_by_name` tests that itself.
     ///
     /// # Errors
     ///
-    /// `AllocError` if a growth is refused; then nothing changes.
+    /// `AllocError` if out of memory; then nothing changes.
     pub fn set_field_by_name(&mut self, name: &str, value: Value) -> Result<(), AllocError>
         requires { IfSome (number_named (message_type_of self.old) name.now) (λ n. takes_at (message_type_of self.old) n value ≡ true) }
         ensures message_type { message_type_of self.new ≡ message_type_of self.old }

@@ -77,7 +77,7 @@ impl DynamicMessage {
     ///
     /// # Errors
     ///
-    /// `Truncated` and `Varint` as `decode_varint`, `OutOfMemory` if a growth is refused; then some may have been read.
+    /// `Truncated` and `Varint` as `decode_varint`, `OutOfMemory` if memory runs out; then some may have been read.
     fn push_numbers(
         &mut self,
         alloc: Global,

@@ -40,7 +40,7 @@ fn last_digits(body: &[u8]) -> usize {
 ///
 /// # Errors
 ///
-/// `Truncated` and `Varint` as an element's reader, `OutOfMemory` if a growth is refused; then some may have been added.
+/// `Truncated` and `Varint` as an element's reader, `OutOfMemory` if memory runs out; then some may have been added.
 fn push_packed(
     alloc: Global,
     values: &mut Vec<Value>,
@@ -83,11 +83,12 @@ fn push_all(
     Ok(())
 }
 
-/// Adds the elements of a list's record behind its key, and gives the bytes behind them. A packed record and a single one are taken alike.
+/// Adds the elements of a list's record behind its key, and gives the bytes behind them. A packed record and a single one
+/// are taken alike.
 ///
 /// # Errors
 ///
-/// As `scalar_at` and `push_packed`; on a refusal some may have been added.
+/// As `scalar_at` and `push_packed`; then some may have been added.
 fn push_elements<'a>(
     alloc: Global,
     values: &mut Vec<Value>,

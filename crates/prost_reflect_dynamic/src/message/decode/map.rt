@@ -54,8 +54,8 @@ fn absent_value(alloc: Global, message_type: &PooledType, kind: TableKind) -> Va
 ///
 /// # Errors
 ///
-/// `Truncated`, `Varint`, `Key`, `WireType`, `EndGroup`, `Utf8` or `Depth` where that fault stands in the body,
-/// `OutOfMemory` if a growth is refused.
+/// A fault that the body has (`Truncated`, `Varint`, `Key`, `WireType`, `EndGroup`, `Utf8` or `Depth`), or `OutOfMemory` if
+/// memory runs out.
 fn entry_at(
     alloc: Global,
     message_type: &PooledType,
@@ -147,8 +147,8 @@ impl DynamicMessage {
         Ok(rest)
     }
 
-    /// Puts an entry into the map at the number of its field, in the place of one whose key is equal. A refused growth
-    /// leaves the map as it was, or empty where there was none.
+    /// Puts an entry into the map at the number of its field, in the place of one whose key is equal. If out of memory, the
+    /// map is as it was, or empty where there was none.
     pub(super) fn put_entry(
         &mut self,
         alloc: Global,

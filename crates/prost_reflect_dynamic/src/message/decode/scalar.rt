@@ -97,7 +97,7 @@ fn delimited_value(alloc: Global, kind: TableKind, bytes: &[u8]) -> Result<Value
 /// # Errors
 ///
 /// `WireType` if the kind's payloads have another wire type, `EndGroup` at an end key, `Truncated` and `Varint` as the
-/// payload's reader, `Utf8` if the kind is a string and the bytes are no text, `OutOfMemory` if a growth is refused.
+/// payload's reader, `Utf8` if the kind is a string and the bytes are no text, `OutOfMemory` if memory runs out.
 #[inline(always)]
 pub(crate) fn scalar_at(
     alloc: Global,

@@ -63,8 +63,8 @@ fn had_in<'a>(
     }
 }
 
-/// The fields that a message has, in ascending number, each with its value. A field shares the pool once more, and where that is
-/// refused, the answer for it is `AllocError`; the next call goes on with the next field.
+/// The fields that a message has, in ascending number, each with its value. A field shares the pool once more; if out of
+/// memory, the answer for it is `AllocError`, and the next call goes on with the next field.
 ///
 /// ```
 /// // Whether the message has a value of a field of the name.
@@ -106,8 +106,8 @@ impl<'a> Iterator for Fields<'a> {
     }
 }
 
-/// The extensions that a message has, in ascending number, each with its value. An extension shares the pool once more, and where
-/// that is refused, the answer for it is `AllocError`; the next call goes on with the next extension.
+/// The extensions that a message has, in ascending number, each with its value. An extension shares the pool once more; if
+/// out of memory, the answer for it is `AllocError`, and the next call goes on with the next extension.
 ///
 /// ```
 /// // Whether the message has a value of an extension of the full name.
@@ -150,8 +150,8 @@ impl<'a> Iterator for Extensions<'a> {
 }
 
 impl DynamicMessage {
-    /// The fields that the message has, in ascending number, each with its value, lent. The default of a field without presence is
-    /// no value, nor is an empty list or an empty map.
+    /// The fields that the message has, in ascending number, each with its value, borrowed. The default of a field without
+    /// presence is no value, nor is an empty list or an empty map.
     pub fn fields(&self) -> Fields<'_>
         ensures left { fields_left result ≡ had_pairs false self.now }
         ensures message_type { result.values.message_type.now ≡ message_type_of self.now }
@@ -161,7 +161,8 @@ impl DynamicMessage {
         }
     }
 
-    /// The extensions that the message has, in ascending number, each with its value, lent. An empty list or an empty map is no value.
+    /// The extensions that the message has, in ascending number, each with its value, borrowed. An empty list or an empty
+    /// map is no value.
     pub fn extensions(&self) -> Extensions<'_>
         ensures left { extensions_left result ≡ had_pairs true self.now }
         ensures message_type { result.values.message_type.now ≡ message_type_of self.now }

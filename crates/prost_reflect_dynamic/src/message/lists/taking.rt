@@ -48,12 +48,12 @@ pub type TakenFields = IntoIter<(FieldDescriptor, Value), Global>;
 pub type TakenExtensions = IntoIter<(ExtensionDescriptor, Value), Global>;
 
 impl DynamicMessage {
-    /// Takes the values of all fields, and answers those that the message had, as `fields` lists them. Stored defaults, empty lists
-    /// and empty maps are removed, too. Extensions and unknown fields stay.
+    /// Takes the values of all fields, and answers those that the message had, as `fields` lists them. Stored defaults,
+    /// empty lists and empty maps are removed, too. Extensions and unknown fields stay.
     ///
     /// # Errors
     ///
-    /// `AllocError` if a growth or a clone of the pool is refused; then nothing changes.
+    /// `AllocError` if out of memory; then nothing changes.
     pub fn take_fields(&mut self, alloc: Global) -> Result<TakenFields, AllocError>
         ensures pairs { IfOk result (λ taken. map (λ p. (number_of p.0, p.1)) (into_iter_items taken) ≡ had_pairs false self.old) }
         ensures own { IfOk result (λ taken. All (λ p. IsOwnField (message_type_of self.old) p.0) (into_iter_items taken)) }
@@ -66,12 +66,12 @@ impl DynamicMessage {
         Ok(taken.into_iter())
     }
 
-    /// Takes the values of all extensions, and answers those that the message had, as `extensions` lists them. Empty lists and empty
-    /// maps are removed, too. Fields and unknown fields stay.
+    /// Takes the values of all extensions, and answers those that the message had, as `extensions` lists them. Empty lists
+    /// and empty maps are removed, too. Fields and unknown fields stay.
     ///
     /// # Errors
     ///
-    /// `AllocError` if a growth or a clone of the pool is refused; then nothing changes.
+    /// `AllocError` if out of memory; then nothing changes.
     pub fn take_extensions(&mut self, alloc: Global) -> Result<TakenExtensions, AllocError>
         ensures pairs { IfOk result (λ taken. map (λ p. (extension_number p.0, p.1)) (into_iter_items taken) ≡ had_pairs true self.old) }
         ensures own { IfOk result (λ taken. All (λ p. IsOwnExtension (message_type_of self.old) p.0) (into_iter_items taken)) }
@@ -110,8 +110,8 @@ impl DynamicMessage {
         Ok(extensions)
     }
 
-    /// Takes the values of all fields, or those of all extensions, and answers those that the message had, each with its descriptor
-    /// of these. A refused growth changes nothing.
+    /// Takes the values of all fields, or those of all extensions, and answers those that the message had, each with its
+    /// descriptor of these. If out of memory, nothing changes.
     fn take_paired<D: Drop>(
         &mut self,
         alloc: Global,
@@ -128,7 +128,7 @@ impl DynamicMessage {
         Ok(paired(self.message_type(), descriptors, taken, pairs))
     }
 
-    /// Takes the values of all fields, or those of all extensions, each with its number. A refused growth changes nothing.
+    /// Takes the values of all fields, or those of all extensions, each with its number. If out of memory, nothing changes.
     fn take_listed(&mut self, of_extensions: bool) -> Result<Vec<(u32, Value)>, AllocError>
         ensures pairs { IfOk result (λ taken. said (known_of (message_type_of self.old)) taken.items ≡ had_pairs of_extensions self.old) }
         ensures message_type { message_type_of self.new ≡ message_type_of self.old }
