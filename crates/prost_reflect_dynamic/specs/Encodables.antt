@@ -1,4 +1,4 @@
--- When a message is encodable, told slot by slot; and what holds of each message that is.
+-- When a message is encodable, told slot by slot; and what holds of each message that is. For private contracts alone.
 use Rattle.std.specs.Prelude.{ℕ, Bool, true, ◌&&◌, List}
 use Rattle.std.specs.List.{list_all}
 use Rattle.prost_reflect_wire.specs.Schema.{Field, field_of, passes}

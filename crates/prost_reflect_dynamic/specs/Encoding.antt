@@ -1,4 +1,4 @@
--- What is written of the entries of a message.
+-- What is written of the entries of a message. For private contracts alone.
 use Rattle.std.specs.Prelude.{◌≡◌, ℕ, Bool, true, false, List, [], ◌∷◌, ◌++◌, map}
 use Rattle.std.specs.Option.{ForSome}
 use Rattle.std.specs.List.{AllByRecursion}

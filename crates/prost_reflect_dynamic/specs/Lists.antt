@@ -1,4 +1,4 @@
--- Lists of scalars: which elements their records add, and the fields that have them.
+-- Lists of scalars: which elements their records add, and the fields that have them. For private contracts alone.
 use Rattle.std.specs.Prelude.{◌≡◌, ℕ, Bool, true, false, List, [], ◌∷◌, ◌++◌, map, flat_map, Option, Some, None}
 use Rattle.std.specs.List.{AllByRecursion}
 use Rattle.prost_reflect_wire.specs.declared.key.WireType.{WireType}

@@ -1,4 +1,4 @@
--- Maps of scalars: what is read of an entry, which numbers are those of such a map, and what is written of it.
+-- Maps of scalars: what is read of an entry, which numbers are those of such a map, and what is written of it. For private contracts alone.
 use Rattle.std.specs.Prelude.{◌≡◌, ℕ, false, List, [], ◌∷◌, ◌++◌, Some, IsSomeAnd}
 use Rattle.std.specs.List.{AllByRecursion}
 use Rattle.prost_reflect_wire.specs.declared.key.WireType.TheVariants as wires

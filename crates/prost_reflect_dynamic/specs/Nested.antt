@@ -1,4 +1,4 @@
--- Reading what stands behind the key of a message or of a group.
+-- Reading what stands behind the key of a message or of a group. For private contracts alone.
 use Rattle.std.specs.Prelude.{◌≡◌, ◌≢◌, ℕ, suc, Bool, true, false, if◌then◌else◌, List, Option, Some}
 use Rattle.prost_reflect_wire.specs.declared.error.DecodeError.{DecodeError}
 use Rattle.prost_reflect_wire.specs.declared.error.DecodeError.TheVariants as errors

@@ -1,4 +1,4 @@
--- Maps whose values are messages: which numbers are those of such a map, what is read of an entry, and what is written.
+-- Maps whose values are messages: which numbers are those of such a map, what is read of an entry, and what is written. For private contracts alone.
 use Rattle.std.specs.Prelude.{◌≡◌, ℕ, ◌<◌, true, false, List, ◌++◌, flat_map, length, Some}
 use Rattle.std.specs.List.{AllByRecursion}
 use Rattle.prost_reflect_wire.specs.declared.error.DecodeError.{DecodeError}

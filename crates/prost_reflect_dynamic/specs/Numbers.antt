@@ -1,4 +1,4 @@
--- Lists of enum numbers: the fields that have them, and what reading their records makes of a message's content.
+-- Lists of enum numbers: the fields that have them, and what reading their records makes of a message's content. For private contracts alone.
 use Rattle.std.specs.Prelude.{◌≡◌, ℕ, ℤ, Bool, false, List, Some, None, if◌then◌else◌}
 use Rattle.prost_reflect_wire.specs.Record.{Flat, Var, record_at}
 use Rattle.prost_reflect_wire.specs.Scalar.{EnumNumbers, Enum, EnumNumber, low_i32}

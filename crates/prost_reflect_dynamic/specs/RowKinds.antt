@@ -1,4 +1,4 @@
--- Kinds of the rows of fields.
+-- Kinds of the rows of fields. For private contracts alone.
 use Rattle.std.specs.Prelude.{Bool, true, false}
 use Rattle.prost_reflect_wire.specs.Scalar.{Enum}
 use Rattle.prost_reflect_wire.specs.Schema.{Kind, ScalarOf}

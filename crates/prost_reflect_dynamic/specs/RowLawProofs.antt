@@ -1,4 +1,4 @@
--- The rows of fields and of extensions keep their laws.
+-- The rows of fields and of extensions keep their laws. Proofs that an impl cites.
 use Rattle.std.proofs.Common.{◌≡◌, ℕ, zero, suc, ◌+◌, ◌<◌, ◌^◌, Bool, true, false, not, cond, ◌&&◌, List, [], ◌∷◌, length, map, get_or, Option, Some, None, refl, ap, sym, ◌∙◌, subst, arith, true≢false}
 use Rattle.std.specs.Prelude.{IsSomeAnd, is_some, option_and_then, slice_get}
 use Rattle.std.specs.List.{All}

@@ -1,4 +1,4 @@
--- Scalar kinds of the tables, their payloads and values.
+-- Scalar kinds of the tables, their payloads and values. For private contracts alone.
 use Rattle.std.specs.Prelude.{◌≡◌, ◌⊎◌, ◌≤◌, ℕ, Bool, true, false, not, List, [], ◌++◌, Option, Some, None, option_map, option_and_then, slice_get, IsSomeAnd, if◌then◌else◌}
 use Rattle.prost_reflect_wire.specs.declared.key.WireType.{WireType}
 use Rattle.prost_reflect_wire.specs.declared.error.DecodeError.{DecodeError}

@@ -1,4 +1,4 @@
--- What the record behind a key is read as.
+-- What the record behind a key is read as. For private contracts alone.
 use Rattle.std.specs.Prelude.{◌≡◌, ℕ, ◌<◌, Bool, if◌then◌else◌, length, Option, Some, None}
 use Rattle.prost_reflect_wire.specs.Schema.{Kind, MessageOf, GroupOf, Singular, Repeated, Field, field_of}
 use Rattle.prost_reflect_pool.specs.SharedPools.{pool_rows}

@@ -1,4 +1,4 @@
--- Which values are lists and maps of what kinds take.
+-- Which values are lists and maps of what kinds take. For private contracts alone.
 use Rattle.std.specs.Prelude.{Bool, false, true, ◌&&◌}
 use Rattle.prost_reflect_wire.specs.Schema.{Kind}
 use Rattle.prost_reflect_wire.specs.Content as content

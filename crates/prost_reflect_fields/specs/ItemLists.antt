@@ -1,4 +1,4 @@
--- A list of items as a type.
+-- A list of items as a type. For private contracts alone.
 use Rattle.std.specs.Prelude.{[], ◌∷◌}
 use denote.RattleType.{RattleType}
 use denote.Struct.Tuple.{Tuple}

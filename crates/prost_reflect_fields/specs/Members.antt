@@ -1,4 +1,4 @@
--- The members of a oneof among the rows of a message type.
+-- The members of a oneof among the rows of a message type. For private contracts alone.
 use Rattle.std.specs.Prelude.{◌≡◌, ℕ, Bool, true, not, ◌&&◌, nat_eq, List, [], ◌∷◌, ◌++◌, Option, Some, option_to_list, slice_get}
 use Rattle.std.specs.List.{list_any}
 use Rattle.prost_reflect_wire.specs.Schema.{same_oneof}

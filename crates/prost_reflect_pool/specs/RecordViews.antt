@@ -1,4 +1,4 @@
--- The records that a path can name, without where they lie in memory.
+-- The records that a path can name, without where they lie in memory. For private contracts alone.
 use Rattle.prost_reflect_pool.specs.declared.records.AnyRecord.{AnyRecord}
 use Rattle.prost_reflect_pool.specs.declared.records.AnyRecord.TheVariants.{File, Message, Field, Oneof, Enum, Value, Service, Method}
 use Rattle.prost_reflect_pool.specs.RecordPaths as paths

@@ -1,4 +1,4 @@
--- The codes of kinds in descriptors, the numbers of enums, and enums that are the same.
+-- The codes of kinds in descriptors, the numbers of enums, and enums that are the same. For private contracts alone.
 use Rattle.std.specs.Prelude.{◌≡◌, ℕ, ℤ, true, List, map, slice_get}
 use Rattle.std.specs.List.{list_any}
 use Rattle.std.specs.Ordering.{nat_cmp, int_cmp, int_eq, ordering_then}

@@ -1,4 +1,4 @@
--- A walk over the fields of two message types in ascending order of their numbers, and the members of a oneof that follow one another.
+-- A walk over the fields of two message types in ascending order of their numbers, and the members of a oneof that follow one another. For private contracts alone.
 use Rattle.std.specs.Prelude.{◌≡◌, ℕ, ◌<◌, nat_eq, Bool, true, false, ◌&&◌, if◌then◌else◌, List, [], ◌∷◌, length, map, get_or, set, drop, Option, None, Some}
 use Rattle.prost_reflect_wire.specs.Schema.{Field, same_oneof}
 use Rattle.prost_reflect_tables.specs.declared.tables.FieldTable.{FieldTable}

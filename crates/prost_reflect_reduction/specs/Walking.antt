@@ -1,4 +1,4 @@
--- Pairs that are listed once each.
+-- Pairs that are listed once each. For private contracts alone.
 use Rattle.std.specs.Prelude.{◌≡◌, ℕ, nat_eq, nat_lt, true, ◌&&◌, if◌then◌else◌, [], ◌∷◌, ◌++◌, length, take, Option, Some, None}
 use Rattle.std.specs.List.{list_all, IsDistinct}
 use Rattle.prost_reflect_reduction.specs.Reaching.{Walked}

@@ -1,4 +1,4 @@
--- Lists of places, while a catalog is made.
+-- Lists of places, while a catalog is made. For private contracts alone.
 use Rattle.std.specs.Prelude.{◌≡◌, ℕ, List, map, length, Vec}
 use Rattle.std.specs.declared.alloc.Global.{Global}
 use Rattle.prost_reflect_tables.specs.declared.build.files.TopPlaces.{TopPlaces}

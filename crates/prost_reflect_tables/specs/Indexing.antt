@@ -1,4 +1,4 @@
--- What is kept while files are linked: definitions by what they belong to.
+-- What is kept while files are linked: definitions by what they belong to. For private contracts alone.
 use Rattle.std.specs.Prelude.{ℕ, zero, suc, ◌+◌, if◌then◌else◌, List, [], ◌∷◌, ◌++◌, map, Option, Vec}
 use Rattle.std.specs.declared.alloc.Global.{Global}
 use Rattle.prost_reflect_tables.specs.declared.tables.FieldTable.{FieldTable}

@@ -1,4 +1,4 @@
--- What the faults say of a field or an extension whose texts were looked up.
+-- What the faults say of a field or an extension whose texts were looked up. For private contracts alone.
 use Rattle.std.specs.Prelude.{ℕ, Bool, not, ◌&&◌, ◌||◌, List, [], ◌∷◌, ◌++◌, Option, is_some, is_none, option_and_then, slice_get, String}
 use Rattle.std.specs.declared.alloc.Global.{Global}
 use Rattle.prost_reflect_tables.specs.Flat.{FlatMessageRow, FlatRows}

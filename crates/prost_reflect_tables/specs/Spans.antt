@@ -1,4 +1,4 @@
--- Extension ranges in an order in which a number is found among them at once.
+-- Extension ranges in an order in which a number is found among them at once. For private contracts alone.
 use Rattle.std.specs.Prelude.{◌≡◌, ⊤, ℕ, pos, nat_le, nat_lt, Bool, ◌&&◌, List, [], ◌∷◌, if◌then◌else◌, Vec}
 use Rattle.std.specs.List.{list_any}
 use Rattle.std.specs.List.Sorted.{IsNonDecreasingBy}

@@ -1,4 +1,4 @@
--- What walks over definitions find.
+-- What walks over definitions find. For private contracts alone.
 use Rattle.std.specs.Prelude.{◌≡◌}
 use Rattle.std.specs.Fn.{FnReturnsAt}
 use denote.Ref.{Bor}

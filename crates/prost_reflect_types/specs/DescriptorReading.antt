@@ -1,4 +1,4 @@
--- How the bytes of a descriptor record are read: first the values of its fields are found where they stand, then each field is made of those of its number.
+-- How the bytes of a descriptor record are read: first the values of its fields are found where they stand, then each field is made of those of its number. For private contracts alone.
 use Rattle.std.specs.Prelude.{◌≡◌, ℕ, zero, suc, ◌⊎◌, Bool, false, not, ℤ, List, [], ◌∷◌, ◌++◌, map, flat_map, Option, Some, None, option_map, nat_eq, nat_le, if◌then◌else◌}
 use Rattle.std.specs.Str.{is_utf8}
 use Rattle.prost_reflect_wire.specs.declared.error.DecodeError.{DecodeError}

@@ -1,4 +1,4 @@
--- When the content of a descriptor record can be written and read back: it is of its type and well-typed, and raw bytes are one piece, at every depth.
+-- When the content of a descriptor record can be written and read back: it is of its type and well-typed, and raw bytes are one piece, at every depth. For private contracts alone.
 use Rattle.std.specs.Prelude.{◌≡◌, ⊤, true, false, ◌&&◌, Option, Some, None}
 use Rattle.prost_reflect_wire.specs.Content.{Content, Value, schema_of, type_of, ordered, value_ordered}
 use Rattle.prost_reflect_wire.specs.Schema.{Field}

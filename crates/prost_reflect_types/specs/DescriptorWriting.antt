@@ -1,4 +1,4 @@
--- What is written of one field of a descriptor record, by its number and kind.
+-- What is written of one field of a descriptor record, by its number and kind. For private contracts alone.
 use Rattle.std.specs.Prelude.{ℕ, List, [], map, Option, Some, None}
 use Rattle.prost_reflect_wire.specs.Record.{Payload, record_at, spelled}
 use Rattle.prost_reflect_wire.specs.Content.{Value}

@@ -1,4 +1,4 @@
--- Tests that decide equality.
+-- Tests that decide equality. For tests of equality alone.
 use Rattle.std.specs.Prelude.{◌≡◌, ℕ, Bool, true, false, nat_eq, List, Option, Some, None, refl}
 use Rattle.std.specs.Bool.{Decides}
 use Rattle.std.specs.Option.{option_eq}

@@ -1,4 +1,4 @@
--- What reading the entry of a map has found, and what it refuses (the encoding guide, "Maps").
+-- What reading the entry of a map has found, and what it refuses (the encoding guide, "Maps"). For private contracts alone.
 use Rattle.std.specs.Prelude.{◌≡◌, ◌≢◌, ◌⊎◌, ⊤, ℕ, false, true, List, [], Option, Some, None}
 use Rattle.std.specs.List.{list_all}
 use Rattle.prost_reflect_wire.specs.declared.error.DecodeError.{DecodeError}

@@ -1,4 +1,4 @@
--- What reading the entry of a map whose values are messages has found, and what it refuses (the encoding guide, "Maps" and "Submessages").
+-- What reading the entry of a map whose values are messages has found, and what it refuses (the encoding guide, "Maps" and "Submessages"). For private contracts alone.
 use Rattle.std.specs.Prelude.{◌≡◌, ◌≢◌, ℕ, suc, true, false, List, [], Some}
 use Rattle.prost_reflect_wire.specs.declared.error.DecodeError.{DecodeError}
 use Rattle.prost_reflect_wire.specs.declared.key.WireType.{WireType}

@@ -1,4 +1,4 @@
--- What storing makes of the slot of each number: a value is put in its field's place and clears its siblings; elements go behind those of their list; an unknown record goes behind those of its number.
+-- What storing makes of the slot of each number: a value is put in its field's place and clears its siblings; elements go behind those of their list; an unknown record goes behind those of its number. For private contracts alone.
 use Rattle.std.specs.Prelude.{ℕ, nat_eq, if◌then◌else◌, List, [], ◌∷◌, ◌++◌, map, Option, Some, None}
 use Rattle.prost_reflect_wire.specs.Record.{Payload, Record, record_at, spelled}
 use Rattle.prost_reflect_wire.specs.Schema.{Field, field_of, is_sibling}

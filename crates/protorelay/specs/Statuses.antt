@@ -1,4 +1,4 @@
--- The status that the program ends with.
+-- The status that the program ends with. For private contracts alone.
 use Rattle.std.specs.Prelude.{ℕ}
 use Rattle.std.specs.declared.result.Result.{Result}
 use Rattle.std.specs.declared.result.Result.TheVariants.{Ok, Err}
