@@ -1,4 +1,4 @@
--- Equality of what is stored, as tests that decide it. For tests of equality alone.
+-- Equality of what is stored, as tests that decide it.
 use Rattle.std.specs.Prelude.{◌≡◌, Bool, true, false, ◌&&◌, nat_eq, refl}
 use Rattle.std.specs.Bool.{Decides}
 use Rattle.std.specs.Cmp.{IsPartialEquivalence, unsigned_Decides, partial_equiv_from_equiv, on_per}
