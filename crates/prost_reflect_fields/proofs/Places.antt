@@ -1,5 +1,5 @@
 -- Where a number stands among ascending numbers.
-use Rattle.std.proofs.Common.{◌≡◌, true, ℕ, zero, suc, ◌<◌, ◌≤◌, ◌-◌, ⊥, List, [], ◌∷◌, length, slice_index_or, slice_set, None, Some, arith, ap, sym, ◌∙◌, subst, refl, slice_get, nat_lt, false}
+use Rattle.std.proofs.Common.{◌≡◌, true, ℕ, zero, suc, ◌<◌, ◌≤◌, List, [], ◌∷◌, length, slice_index_or, slice_set, None, Some, arith, ap, sym, ◌∙◌, subst, refl, slice_get, nat_lt, false}
 use Rattle.std.proofs.lemmas.Map.Lookups.{exact_unsigned}
 use Rattle.std.proofs.lemmas.Option.{none-some, same_Some}
 use Rattle.std.specs.Cmp.{nat_cmp_total}
@@ -85,15 +85,6 @@ missing_behind n (x ∷ y ∷ es) zero e s len at above = absurd (omega (arith, 
 missing_behind n (x ∷ es) (suc i) e s len at above =
     let below : nat_cmp x.0 n ≡ Less = nat_cmp_total.trans x.0 e.0 n (later_got x.0 es i e s.0 at) (flipped n e.0 Greater above) in
     rw (flipped x.0 n Less below, missing_behind n es i e s.1 (omega (arith, len)) at above) refl
-
-pub none_got : {T : Type 0} (es : List (ℕ × T)) → slice_get es (length es - 1) ≡ None → es ≡ []
-none_got [] at = refl
-none_got (x ∷ es) at = absurd (beyond (x ∷ es) (length (x ∷ es) - 1) (omega arith) at)
-  where
-    beyond : {T : Type 0} (es : List (ℕ × T)) (i : ℕ) → i < length es → slice_get es i ≡ None → ⊥
-    beyond [] i within at = omega arith
-    beyond (x ∷ es) zero within at = none-some x (sym at)
-    beyond (x ∷ es) (suc i) within at = beyond es i (omega arith) at
 
 pub keys-set : {T : Type 0} (es : List (ℕ × T)) (i : ℕ) (x : ℕ × T) → x.0 ≡ (slice_index_or es i x).0 → keys_of (slice_set es i x) ≡ keys_of es
 keys-set [] i x h = refl
