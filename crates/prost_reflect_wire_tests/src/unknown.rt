@@ -23,6 +23,12 @@ fn group_and_tail(rt: HostRuntime) -> Result<(), Fail> {
     assert_eq!(rt; cursor, b"tail".as_slice());
     assert_eq!(rt; field.number(), 3);
     assert_eq!(rt; field.wire_type(), WireType::StartGroup);
+    let mut out = Vec::new(rt.alloc());
+    field.encode(&mut out)?;
+    assert_eq!(rt;
+        out.as_slice(),
+        b"\x1b\x0a\x05hello\x10\x0a\x10\x0b\x1c".as_slice()
+    );
     Ok(())
 }
 
@@ -247,15 +253,20 @@ fn in_groups(alloc: Global, count: usize, text: &str) -> Result<Vec<u8>, Fail> {
     Ok(all)
 }
 
+/// Whether the bytes behind the key of a delimited field of the number 3 are read up to the rest, and it is written as `1a021042`.
+fn is_1042_behind_its_key(alloc: Global, bytes: &[u8], rest: &[u8]) -> Result<bool, Fail> {
+    let mut cursor = bytes;
+    let wire_type = WireType::LengthDelimited;
+    let field = UnknownField::decode_value(alloc, 3, wire_type, &mut cursor, 0)?;
+    let mut out = Vec::new(alloc);
+    field.encode(&mut out)?;
+    Ok(cursor == rest && out.as_slice() == [0x1a, 0x02, 0x10, 0x42].as_slice())
+}
+
 #[test]
 fn values_behind_a_key(rt: HostRuntime) -> Result<(), Fail> {
-    let mut cursor = [0x02, 0x10, 0x42, 0x7f].as_slice();
-    let wire_type = WireType::LengthDelimited;
-    let field = UnknownField::decode_value(rt.alloc(), 3, wire_type, &mut cursor, 0)?;
-    assert_eq!(rt; cursor, [0x7f].as_slice());
-    let mut out = Vec::new(rt.alloc());
-    field.encode(&mut out)?;
-    assert_eq!(rt; out.as_slice(), [0x1a, 0x02, 0x10, 0x42].as_slice());
+    assert!(rt; is_1042_behind_its_key(rt.alloc(), &[0x02, 0x10, 0x42, 0x7f], &[0x7f])?);
+    assert!(rt; is_1042_behind_its_key(rt.alloc(), &[0x02, 0x10, 0x42], &[])?);
     Ok(())
 }
 

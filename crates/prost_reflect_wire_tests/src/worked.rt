@@ -76,7 +76,7 @@ fn a_refused_group_is_not_passed(rt: HostRuntime) -> Result<(), Fail> {
 /// The bytes of a field, its number, and its value, but for what is delimited.
 #[test]
 fn fields_have_their_values(rt: HostRuntime) -> Result<(), Fail> {
-    let rows: [(&[u8], u32, UnknownFieldValue); 3] = [
+    let rows: [(&[u8], u32, UnknownFieldValue); 4] = [
         (
             b"\x09\x9a\x99\x99\x99\x99\x99\xf1\x3f",
             1,
@@ -88,6 +88,7 @@ fn fields_have_their_values(rt: HostRuntime) -> Result<(), Fail> {
             UnknownFieldValue::ThirtyTwoBit([0xcd, 0xcc, 0x0c, 0x40]),
         ),
         (b"\x18\x03", 3, UnknownFieldValue::Varint(3)),
+        (b"\x18\x83\x00", 3, UnknownFieldValue::Varint(3)),
     ];
     for (bytes, number, value) in rows {
         let mut cursor = bytes;
