@@ -64,6 +64,7 @@ fn fields_have_shapes(rt: HostRuntime) -> Result<(), Fail> {
     }
     let packed = forms_field(rt.alloc(), "a")?;
     assert!(rt; is_shaped(&packed, 1, [false, false, true, false, true, true]));
+    assert!(rt; FieldDescriptorLike::kind(&packed)? == Kind::Int32);
     Ok(())
 }
 

@@ -6,7 +6,7 @@ use prost_reflect_samples::sets;
 use std::alloc::Global;
 use std::test::Fail;
 
-/// A field, and the text of the refusal of a value that does not fit it.
+/// A field of `V`, and the text of the refusal of a value that does not fit it.
 static TEXTS: &[(&str, &str)] = &[
     ("n", "expected a value of type 'int32'"),
     ("values", "expected a value of type 'repeated int32'"),
@@ -49,10 +49,14 @@ fn reads_as(alloc: Global, refusal: &SetFieldError, text: &str) -> Result<bool, 
     Ok(format!(in alloc; "{refusal}")?.as_str() == text)
 }
 
-/// Whether the field of a name of `V` refuses the uint32 5 by this text.
-fn refuses_as(alloc: Global, name: &str, text: &str) -> Result<bool, Fail> {
-    let mut message = of_kinds(alloc, &[])?;
-    match refusal(&mut message, name, Value::U32(5))? {
+/// Whether the field of a name refuses the uint32 5 by this text.
+fn refuses_as(
+    alloc: Global,
+    message: &mut DynamicMessage,
+    name: &str,
+    text: &str,
+) -> Result<bool, Fail> {
+    match refusal(message, name, Value::U32(5))? {
         Some(refused) => reads_as(alloc, &refused, text),
         None => Ok(false),
     }
@@ -62,8 +66,10 @@ fn refuses_as(alloc: Global, name: &str, text: &str) -> Result<bool, Fail> {
 fn refusals_name_the_type(rt: HostRuntime) -> Result<(), Fail> {
     let alloc = rt.alloc();
     for row in TEXTS {
-        assert!(rt; refuses_as(alloc, row.0, row.1)?);
+        assert!(rt; refuses_as(alloc, &mut of_kinds(alloc, &[])?, row.0, row.1)?);
     }
+    let mut c = decoded(alloc, sets::newer(), "C", &[])?;
+    assert!(rt; refuses_as(alloc, &mut c, "e", "expected a value of type 'E'")?);
     assert!(rt; reads_as(alloc, &SetFieldError::NotFound, "field not found")?);
     assert!(rt; reads_as(alloc, &SetFieldError::OutOfMemory, "out of memory")?);
     Ok(())

@@ -1,7 +1,7 @@
 //! Each variant by its accessors, and keys in their order.
 
-use crate::types::{equals_its_copy, insert, message_of, text_key, text_of};
-use prost_reflect::{MapKey, Value, builtin_pool};
+use crate::types::{equals_its_copy, insert, message_of, named_type, text_key, text_of};
+use prost_reflect::{DynamicMessage, MapKey, Value, builtin_pool};
 use std::alloc::{AllocError, Global};
 use std::cmp::Ordering;
 use std::collections::BTreeMap;
@@ -125,6 +125,62 @@ fn a_collection_is_written_and_read(rt: HostRuntime) -> Result<(), Fail> {
     assert!(rt; is_filled_and_copied(Value::Map(BTreeMap::new(alloc)))?);
     assert!(rt; is_filled_and_copied(message_of(alloc, &builtin_pool(alloc)?, "builtin.Kept")?)?);
     Ok(())
+}
+
+/// The message of `Kept` that the bytes mean, as a value.
+fn kept(alloc: Global, bytes: &[u8]) -> Result<Value, Fail> {
+    let descriptor = named_type(&builtin_pool(alloc)?, "builtin.Kept")?;
+    Ok(Value::Message(DynamicMessage::decode(alloc, descriptor, bytes)?))
+}
+
+/// Whether the value becomes the empty one where it is filled.
+fn is_emptied(mut value: Value, empty: &Value) -> Result<bool, AllocError> {
+    let was_empty = value == *empty;
+    fill(&mut value)?;
+    Ok(!was_empty && value == *empty)
+}
+
+#[test]
+fn a_message_is_emptied_in_its_value(rt: HostRuntime) -> Result<(), Fail> {
+    let message = kept(rt.alloc(), &[0x28, 1])?;
+    assert!(rt; is_emptied(message, &kept(rt.alloc(), &[])?)?);
+    Ok(())
+}
+
+/// Whether the value is no other scalar than a bool.
+fn is_no_number(value: &Value) -> bool {
+    value.as_i32().is_none()
+        && value.as_i64().is_none()
+        && value.as_u32().is_none()
+        && value.as_u64().is_none()
+        && value.as_f32().is_none()
+        && value.as_f64().is_none()
+        && value.as_enum_number().is_none()
+}
+
+/// Whether the value is no text, no bytes, no list, no map and no message.
+fn is_no_collection(value: &Value) -> bool {
+    value.as_str().is_none()
+        && value.as_bytes().is_none()
+        && value.as_list().is_none()
+        && value.as_map().is_none()
+        && value.as_message().is_none()
+}
+
+/// Whether the key is no number and no text.
+fn is_no_other_key(key: &MapKey) -> bool {
+    key.as_i32().is_none()
+        && key.as_i64().is_none()
+        && key.as_u32().is_none()
+        && key.as_u64().is_none()
+        && key.as_str().is_none()
+}
+
+#[test]
+fn a_bool_is_nothing_else(rt: HostRuntime) {
+    assert!(rt; is_no_number(&Value::Bool(true)));
+    assert!(rt; is_no_collection(&Value::Bool(true)));
+    assert!(rt; is_no_other_key(&MapKey::Bool(true)));
 }
 
 fn hash_of(key: &MapKey) -> u64 {
