@@ -19,9 +19,29 @@ type FieldRow = (
     &'static str,
 );
 
-static FIELDS: [FieldRow; 6] = [
+static FIELDS: [FieldRow; 8] = [
     ("package.MyMessage", "0805", 1, true, 5, "", "0805", ""),
     ("package.MyMessage", "0800", 1, false, 0, "", "0800", ""),
+    (
+        "package.MyMessage",
+        "08001000",
+        1,
+        false,
+        0,
+        "1000",
+        "08001000",
+        "1000",
+    ),
+    (
+        "package.MyMessage",
+        "08001000",
+        2,
+        true,
+        0,
+        "0800",
+        "08001000",
+        "0800",
+    ),
     (
         "package.MyMessage",
         "0805",
@@ -73,7 +93,7 @@ pub(crate) fn is_shown(value: &Cow<'_, Value>, number: i32, is_stored: bool) -> 
 }
 
 /// Whether there is a value, which is the number, and is lent if it is stored.
-fn is_found(value: &Option<Cow<'_, Value>>, number: i32, is_stored: bool) -> bool {
+pub(crate) fn is_found(value: &Option<Cow<'_, Value>>, number: i32, is_stored: bool) -> bool {
     match value {
         Some(value) => is_shown(value, number, is_stored),
         None => false,

@@ -1,6 +1,6 @@
 //! Many calls on a message with oneofs, beside a table of what it then has.
 
-use crate::access::{clears, is_asked, sets, takes};
+use crate::access::{clears, is_asked, is_taken, sets, takes};
 use crate::types::message_of;
 use crate::unknowns::is_varint;
 use prost_reflect::{DynamicMessage, FieldDescriptor, Value};
@@ -28,6 +28,43 @@ fn field_for(message: &DynamicMessage, number: u32) -> Result<FieldDescriptor, F
 /// A value from 0 to 4.
 fn small(amount: u32) -> i32 {
     (amount % 5) as i32
+}
+
+/// Whether the field of the name takes the number, and is set to it by both calls.
+fn sets_named(message: &mut DynamicMessage, name: &str, value: i32) -> bool {
+    if message
+        .try_set_field_by_name(name, Value::I32(value))
+        .is_err()
+    {
+        return false;
+    }
+    message.set_field_by_name(name, Value::I32(value)).is_ok()
+}
+
+/// Whether the field is set to the value for the amount: by its descriptor, its number or its name.
+fn sets_in_turn(message: &mut DynamicMessage, field: &FieldDescriptor, amount: u32) -> bool {
+    let value = small(amount);
+    match amount % 3 {
+        0 => sets(message, field, value),
+        1 => message
+            .try_set_field_by_number(field.number(), Value::I32(value))
+            .is_ok(),
+        _ => sets_named(message, field.name(), value),
+    }
+}
+
+/// Whether what is taken of the field is what is expected: of every third one by its number, and else by its descriptor.
+fn takes_in_turn(
+    message: &mut DynamicMessage,
+    field: &FieldDescriptor,
+    expected: Option<i32>,
+) -> bool {
+    let (number, value, had) = (field.number(), expected.unwrap_or(0), expected.is_some());
+    if number % 90 == 0 {
+        is_taken(&message.take_field_by_number(number), value, had)
+    } else {
+        takes(message, field, value, had)
+    }
 }
 
 /// Whether the field is the message's own, and what is written is the number expected, where the amount is added to the value lent.
@@ -58,10 +95,10 @@ fn gives(
     expected: Option<i32>,
 ) -> Result<bool, AllocError> {
     match call {
-        Call::Set(_, amount) => Ok(sets(message, field, small(amount)) && expected.is_none()),
+        Call::Set(_, amount) => Ok(sets_in_turn(message, field, amount) && expected.is_none()),
         Call::Write(_, amount) => writes(alloc, message, field, small(amount), expected),
         Call::Clear(_) => Ok(clears(message, field) && expected.is_none()),
-        Call::Take(_) => Ok(takes(message, field, expected.unwrap_or(0), expected.is_some())),
+        Call::Take(_) => Ok(takes_in_turn(message, field, expected)),
     }
 }
 

@@ -1,7 +1,10 @@
 //! Each call once, on messages of the built-in types, and a closed enum in a oneof and alone.
 
+use crate::access::is_found;
 use crate::types::{choices, is_written};
-use prost_reflect::{DecodeError, DynamicMessage, MessageDescriptor, PresentNumber, builtin_pool};
+use prost_reflect::{
+    DecodeError, DynamicMessage, MessageDescriptor, PresentNumber, Value, builtin_pool,
+};
 use std::alloc::Global;
 use std::test::Fail;
 
@@ -36,6 +39,25 @@ fn is_relayed(alloc: Global, message: &DynamicMessage) -> Result<bool, Fail> {
 fn a_message_is_relayed(rt: HostRuntime) -> Result<(), Fail> {
     let message = builtin_message(rt.alloc(), "builtin.Plain", b"\x50\x83\x00\x28\x96\x01")?;
     assert!(rt; is_relayed(rt.alloc(), &message)?);
+    Ok(())
+}
+
+/// Whether the field 5 is 150, and is then set to 7 and written so.
+fn is_changed(alloc: Global, message: &mut DynamicMessage) -> Result<bool, Fail> {
+    let was_150 = is_found(&message.get_field_by_number(alloc, 5)?, 150, true);
+    message.try_set_field_by_number(5, Value::I32(7))?;
+    if !message.is_encodable() {
+        return Ok(false);
+    }
+    let written = message.encode_to_vec(alloc)?;
+    Ok(was_150 && written.as_slice() == [0x28, 7, 0x50, 3].as_slice())
+}
+
+/// The edit of the README, by the calls of the library.
+#[test]
+fn a_field_is_changed(rt: HostRuntime) -> Result<(), Fail> {
+    let mut message = builtin_message(rt.alloc(), "builtin.Plain", b"\x50\x83\x00\x28\x96\x01")?;
+    assert!(rt; is_changed(rt.alloc(), &mut message)?);
     Ok(())
 }
 
