@@ -127,6 +127,24 @@ fn pieces_are_merged(rt: HostRuntime) -> Result<(), Fail> {
     Ok(())
 }
 
+/// Whether the message has `foo` once a 5 is merged into it, and no more once a 0 is.
+fn loses_foo(alloc: Global, message: &mut DynamicMessage) -> Result<bool, Fail> {
+    Ok(
+        merge_digits(alloc, message, "0805")?.is_none()
+            && message.has_field_by_number(1)
+            && merge_digits(alloc, message, "0800")?.is_none()
+            && !message.has_field_by_number(1),
+    )
+}
+
+/// A 0 that is merged takes the place of a 5, and is no value of a field without presence.
+#[test]
+fn a_merged_default_is_not_had(rt: HostRuntime) -> Result<(), Fail> {
+    let mut message = newer(rt.alloc(), "MyMessage", "")?;
+    assert!(rt; loses_foo(rt.alloc(), &mut message)?);
+    Ok(())
+}
+
 #[test]
 fn a_refused_merge_changes_nothing(rt: HostRuntime) -> Result<(), Fail> {
     for (name, front, behind, fault) in &REFUSALS {

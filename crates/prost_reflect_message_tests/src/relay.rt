@@ -11,6 +11,10 @@ use prost_reflect_samples::sets;
 use std::alloc::Global;
 use std::test::Fail;
 
+/// `message R { repeated R r = 1; }`, of proto2.
+static REPEATED: &[u8] =
+    b"\x0a\x17\x0a\x01r\"\x12\x0a\x01R\x12\x0d\x0a\x01r\x18\x01 \x03(\x0b2\x02.R";
+
 /// A message type, the digits of bytes, those of what its older form relays them as, and what its newer form shows of both.
 /// The older forms of `Q` and `C` are no reductions: members of a oneof are missing, and a number of a closed enum.
 static ROWS: [(&str, &str, &str, &str, &str); 6] = [
@@ -203,6 +207,10 @@ static NEWER_EDITS: [Edit; 2] = [
 
 static GROUP_EDITS: [Edit; 1] = [("G", "0b08010c", &[1], Setting::EmptyList, "")];
 
+static REPEATED_EDITS: [Edit; 1] = [("R", "0a001003", &[1], Setting::EmptyList, "1003")];
+
+static WORKED_EDITS: [Edit; 1] = [("C", "0807", &[1], Setting::EnumNumber(1), "08010807")];
+
 /// Whether the bytes of the digits are edited as the row says by the type in the descriptor set.
 fn is_edited(alloc: Global, set: &[u8], edit: &Edit) -> Result<bool, Fail> {
     let (name, digits, path, setting, again) = *edit;
@@ -237,6 +245,12 @@ fn values_take_the_place_of_others(rt: HostRuntime) -> Result<(), Fail> {
     }
     for edit in &GROUP_EDITS {
         assert!(rt; is_edited(alloc, sets::groups(), edit)?);
+    }
+    for edit in &REPEATED_EDITS {
+        assert!(rt; is_edited(alloc, REPEATED, edit)?);
+    }
+    for edit in &WORKED_EDITS {
+        assert!(rt; is_edited(alloc, sets::worked(), edit)?);
     }
     Ok(())
 }
@@ -308,25 +322,29 @@ static NOT_SET: [(&str, &str, &[u32], Setting, RelayWithError); 6] = [
     ),
 ];
 
-/// Why a value is not set at a path in the digits' bytes by the newer type of the name, if it is not.
-fn refusal_by_newer(
+/// Why a value is not set at a path in the digits' bytes by the type of the name in the descriptor set, if it is not.
+fn refusal_by(
     alloc: Global,
+    set: &[u8],
     name: &str,
     digits: &str,
     path: &[u32],
     setting: Setting,
 ) -> Result<Option<RelayWithError>, Fail> {
     let bytes = hex::decode(alloc, digits)?;
-    let newer = message_type(alloc, sets::newer(), name)?;
-    Ok(refusal(alloc, &newer, bytes.as_slice(), path, setting))
+    let older = message_type(alloc, set, name)?;
+    Ok(refusal(alloc, &older, bytes.as_slice(), path, setting))
 }
 
 #[test]
 fn what_is_not_set_is_named(rt: HostRuntime) -> Result<(), Fail> {
     for (name, digits, path, setting, refused) in &NOT_SET {
-        let found = refusal_by_newer(rt.alloc(), name, digits, path, *setting)?;
+        let found = refusal_by(rt.alloc(), sets::newer(), name, digits, path, *setting)?;
         assert!(rt; found == Some(*refused), "{name} {digits}");
     }
+    let seven = Setting::EnumNumber(7);
+    let found = refusal_by(rt.alloc(), sets::worked(), "C", "0807", &[1], seven)?;
+    assert!(rt; found == Some(RelayWithError::InvalidType));
     Ok(())
 }
 
