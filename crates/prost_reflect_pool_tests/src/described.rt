@@ -3,6 +3,7 @@
 use crate::descriptors::K_AND_O;
 use crate::named::{message_of, method_of, oneof_of};
 use crate::pools::SET_M;
+use crate::whole::WHOLE;
 use prost_reflect::{
     DescriptorPool, EnumDescriptor, EnumValueDescriptors, ExtensionDescriptor, FieldDescriptor,
     FieldDescriptors, MessageDescriptor, MethodDescriptor, OneofDescriptor,
@@ -19,14 +20,16 @@ static SET_S: &[u8] =
     p.M(\x01";
 
 /// `v.proto`, of proto2: `message V { repeated int32 values = 1 [deprecated = true]; extensions 100 to 199; extend V {
-/// repeated int32 ext_values = 100 [deprecated = true]; } }` in `v`. And `w.proto`, of proto3, with the same message `W` in
-/// `w`.
+/// repeated int32 ext_values = 100 [deprecated = true]; } } extend V { repeated int32 top_values = 101 [deprecated = true]; }`
+/// in `v`. And `w.proto`, of proto3, with the same of a message `W` in `w`.
 static V_AND_W: &[u8] =
-    b"\x0a]\x0a\x07v.proto\x12\x01v\"O\x0a\x01V\x12\x1a\x0a\x06values\x18\x01 \x03(\x05B\x02\
-    \x18\x01R\x06values*\x05\x08d\x10\xc8\x012'\x0a\x0aext_values\x12\x04.v.V\x18d \x03(\x05B\
-    \x02\x18\x01R\x09extValues\x0ae\x0a\x07w.proto\x12\x01w\"O\x0a\x01W\x12\x1a\x0a\x06values\
+    b"\x0a\x86\x01\x0a\x07v.proto\x12\x01v\"O\x0a\x01V\x12\x1a\x0a\x06values\x18\x01 \x03(\x05\
+    B\x02\x18\x01R\x06values*\x05\x08d\x10\xc8\x012'\x0a\x0aext_values\x12\x04.v.V\x18d \x03(\
+    \x05B\x02\x18\x01R\x09extValues:'\x0a\x0atop_values\x12\x04.v.V\x18e \x03(\x05B\x02\x18\
+    \x01R\x09topValues\x0a\x8e\x01\x0a\x07w.proto\x12\x01w\"O\x0a\x01W\x12\x1a\x0a\x06values\
     \x18\x01 \x03(\x05B\x02\x18\x01R\x06values*\x05\x08d\x10\xc8\x012'\x0a\x0aext_values\x12\
-    \x04.w.W\x18d \x03(\x05B\x02\x18\x01R\x09extValuesb\x06proto3";
+    \x04.w.W\x18d \x03(\x05B\x02\x18\x01R\x09extValues:'\x0a\x0atop_values\x12\x04.w.W\x18e \
+    \x03(\x05B\x02\x18\x01R\x09topValuesb\x06proto3";
 
 /// The only enum of `SET_S`.
 fn enum_e(alloc: Global) -> Result<EnumDescriptor, Fail> {
@@ -125,19 +128,25 @@ fn a_oneof_lists_its_fields(rt: HostRuntime) -> Result<(), Fail> {
     Ok(())
 }
 
-/// Whether the list 1 of the type, and its extension of the number 100, are packed.
-fn are_packed(message: &MessageDescriptor) -> Result<[bool; 2], Fail> {
+fn extension_is_packed(message: &MessageDescriptor, number: u32) -> Result<bool, Fail> {
+    let extension = message.get_extension(number)?.ok_or("no such extension")?;
+    Ok(extension.is_packed())
+}
+
+/// Whether the list 1 of the type, and its extensions of the numbers 100 and 101, are packed.
+fn are_packed(message: &MessageDescriptor) -> Result<[bool; 3], Fail> {
     let field = message.get_field(1)?.ok_or("no field 1")?.is_packed();
-    let extension = message.get_extension(100)?.ok_or("no extension 100")?;
-    Ok([field, extension.is_packed()])
+    let inside = extension_is_packed(message, 100)?;
+    let outside = extension_is_packed(message, 101)?;
+    Ok([field, inside, outside])
 }
 
 /// Options that say nothing of packing leave it to the syntax.
 #[test]
 fn lists_are_packed_in_proto3(rt: HostRuntime) -> Result<(), Fail> {
     let pool = DescriptorPool::decode(rt.alloc(), V_AND_W)?;
-    assert!(rt; are_packed(&message_of(&pool, "v.V")?)? == [false; 2]);
-    assert!(rt; are_packed(&message_of(&pool, "w.W")?)? == [true; 2]);
+    assert!(rt; are_packed(&message_of(&pool, "v.V")?)? == [false; 3]);
+    assert!(rt; are_packed(&message_of(&pool, "w.W")?)? == [true; 3]);
     Ok(())
 }
 
@@ -152,10 +161,16 @@ fn key_and_value(message: &MessageDescriptor) -> Result<Option<bool>, AllocError
     }
 }
 
+/// The same of the type of the name in the descriptor set.
+fn key_and_value_in(alloc: Global, set: &[u8], name: &str) -> Result<Option<bool>, Fail> {
+    let pool = DescriptorPool::decode(alloc, set)?;
+    Ok(key_and_value(&message_of(&pool, name)?)?)
+}
+
 #[test]
 fn an_entry_has_a_key_and_a_value(rt: HostRuntime) -> Result<(), Fail> {
-    let pool = DescriptorPool::decode(rt.alloc(), K_AND_O)?;
-    assert!(rt; key_and_value(&message_of(&pool, "k.M.MEntry")?)? == Some(true));
-    assert!(rt; key_and_value(&message_of(&pool, "k.M")?)? == None);
+    assert!(rt; key_and_value_in(rt.alloc(), K_AND_O, "k.M.MEntry")? == Some(true));
+    assert!(rt; key_and_value_in(rt.alloc(), K_AND_O, "k.M")? == None);
+    assert!(rt; key_and_value_in(rt.alloc(), WHOLE, "w.x.A.BsEntry")? == Some(true));
     Ok(())
 }

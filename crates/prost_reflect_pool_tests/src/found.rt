@@ -2,7 +2,9 @@
 
 use crate::named::{enum_of, field_of, message_of};
 use crate::whole::WHOLE;
-use prost_reflect::{DescriptorPool, EnumDescriptor, Kind, MessageDescriptor};
+use prost_reflect::{
+    DescriptorPool, EnumDescriptor, ExtensionDescriptor, FieldDescriptor, Kind, MessageDescriptor,
+};
 use std::alloc::AllocError;
 use std::process::Abort;
 use std::test::Fail;
@@ -34,23 +36,45 @@ fn found_in_pool(pool: &DescriptorPool, name: &str) -> Result<[bool; 5], AllocEr
     Ok([file, message, found, extension, service])
 }
 
-/// A name, and whether a field of `w.x.A` is found by it, a field by its name in JSON, an extension by its full name, and an
-/// extension by its name in JSON.
-static MEMBERS: [(&str, [bool; 4]); 6] = [
-    ("level", [true, true, false, false]),
-    ("w.x.marks", [false, false, true, false]),
-    ("[w.x.marks]", [false, false, false, true]),
-    ("w.x.A.level", [false; 4]),
-    ("choice", [false; 4]),
-    ("gone", [false; 4]),
+/// A message type, a name, and the numbers of what is found by it in the type: a field, a field by its name in JSON, an extension
+/// by its full name, and an extension by its name in JSON; 0 where there is none.
+static MEMBERS: [(&str, &str, [u32; 4]); 10] = [
+    ("w.x.A", "level", [2, 2, 0, 0]),
+    ("w.x.A", "w.x.marks", [0, 0, 101, 0]),
+    ("w.x.A", "[w.x.marks]", [0, 0, 0, 101]),
+    ("w.x.A", "w.x.A.level", [0; 4]),
+    ("w.x.A", "choice", [0; 4]),
+    ("w.x.A", "gone", [0; 4]),
+    ("w.x.A.B", "c", [1, 0, 0, 0]),
+    ("w.x.A.B", "see", [0, 1, 0, 0]),
+    ("w.x.Other", "w.x.A.B.C.c", [0, 0, 100, 0]),
+    ("w.x.Other", "c", [0; 4]),
 ];
 
-fn found_in_message(message: &MessageDescriptor, name: &str) -> Result<[bool; 4], AllocError> {
-    let field = message.get_field_by_name(name)?.is_some();
-    let json = message.get_field_by_json_name(name)?.is_some();
-    let extension = message.get_extension_by_full_name(name)?.is_some();
-    let bracketed = message.get_extension_by_json_name(name)?.is_some();
+fn number_of_field(found: Option<FieldDescriptor>) -> u32 {
+    match found {
+        Some(field) => field.number(),
+        None => 0,
+    }
+}
+
+fn number_of_extension(found: Option<ExtensionDescriptor>) -> u32 {
+    match found {
+        Some(extension) => extension.number(),
+        None => 0,
+    }
+}
+
+fn found_in_message(message: &MessageDescriptor, name: &str) -> Result<[u32; 4], AllocError> {
+    let field = number_of_field(message.get_field_by_name(name)?);
+    let json = number_of_field(message.get_field_by_json_name(name)?);
+    let extension = number_of_extension(message.get_extension_by_full_name(name)?);
+    let bracketed = number_of_extension(message.get_extension_by_json_name(name)?);
     Ok([field, json, extension, bracketed])
+}
+
+fn found_in(pool: &DescriptorPool, message: &str, name: &str) -> Result<[u32; 4], Fail> {
+    Ok(found_in_message(&message_of(pool, message)?, name)?)
 }
 
 /// A number, and whether a field and an extension of `w.x.A` are found by it.
@@ -93,10 +117,7 @@ fn definitions_are_found_by_their_names_alone(rt: HostRuntime) -> Result<(), Fai
     Ok(())
 }
 
-fn members_are_found(rt: &impl Abort, message: &MessageDescriptor) -> Result<(), AllocError> {
-    for (name, found) in MEMBERS {
-        assert!(rt; found_in_message(message, name)? == found, "{name}");
-    }
+fn numbers_are_found(rt: &impl Abort, message: &MessageDescriptor) -> Result<(), AllocError> {
     for (number, found) in NUMBERS {
         assert!(rt; found_by_number(message, number)? == found, "{number}");
     }
@@ -113,7 +134,10 @@ fn values_are_found(rt: &impl Abort, e: &EnumDescriptor) -> Result<(), AllocErro
 #[test]
 fn members_are_found_by_their_names_and_numbers(rt: HostRuntime) -> Result<(), Fail> {
     let pool = DescriptorPool::decode(rt.alloc(), WHOLE)?;
-    members_are_found(&rt, &message_of(&pool, "w.x.A")?)?;
+    for (message, name, found) in MEMBERS {
+        assert!(rt; found_in(&pool, message, name)? == found, "{name}");
+    }
+    numbers_are_found(&rt, &message_of(&pool, "w.x.A")?)?;
     values_are_found(&rt, &enum_of(&pool, "w.x.A.B.C.State")?)?;
     Ok(())
 }
