@@ -138,7 +138,7 @@ number_found t field n own h = (
 pub number_missing : NumberMissing
 number_missing t d n own h = ap (λ fields. is_declared (row_of fields n)) (sym (own_fields d t own)) ∙ sym (found_declared (named.fields_of d) n) ∙ ap is_some h
 
-number_there : (t : PooledType) → Option ℕ → Option ℕ
+abbrev number_there : (t : PooledType) → Option ℕ → Option ℕ
 number_there t found = option_and_then (λ i. option_map (λ f. f.number) (slice_get (fields_of t) i)) found
 
 pub name_found : NameFound

@@ -13,3 +13,9 @@ returns-clause-found c =
     let same : to_z w32 (of_z w32 c.args.number) ≡ c.args.number = search (rules, to_z-of_z) in
     let there = ap (λ (pool : LinkedPool). values_at (pool_rows pool) c.args.self.now.index) c.deref.ensures in
     IfOk-weaker c.value_at.result _ _ (λ found is. is ∙ (c.value_place_by_number.ensures ∙ (ap (λ values. numbered_value values (to_z w32 (of_z w32 c.args.number))) there ∙ ap (λ (z : ℤ). numbered_value (values_of c.args.self.now) z) same))) c.value_at.ensures.found
+
+pub returns-clause-missing : goal.returns-clause-missing
+returns-clause-missing c none =
+    let same : to_z w32 (of_z w32 c.args.number) ≡ c.args.number = search (rules, to_z-of_z) in
+    let there = ap (λ (pool : LinkedPool). values_at (pool_rows pool) c.args.self.now.index) c.deref.ensures in
+    c.value_at.ensures.missing (c.value_place_by_number.ensures ∙ (ap (λ values. numbered_value values (to_z w32 (of_z w32 c.args.number))) there ∙ ap (λ (z : ℤ). numbered_value (values_of c.args.self.now) z) same) ∙ none)

@@ -1,0 +1,8 @@
+use Rattle.std.proofs.Common.{ap, ◌∙◌}
+use Rattle.std.specs.Str.{bytes_eq}
+use Rattle.prost_reflect_pool.specs.Lookups.{extension_where}
+use Rattle.prost_reflect_pool.specs.declared.pool.LinkedPool.{LinkedPool}
+use Rattle.prost_reflect_dynamic.proofs.descriptor.message.MessageDescriptor.get_extension_by_full_name.Goals as goal
+
+pub returns-clause-missing : goal.returns-clause-missing
+returns-clause-missing c none = c.extension_at.ensures.missing (c.extension_place_by_full_name.ensures.found ∙ (ap (λ (pool : LinkedPool). extension_where pool c.args.self.now.index (λ f. bytes_eq f.id.full_name c.args.name.now)) c.deref.ensures ∙ none))
