@@ -44,9 +44,9 @@ fn refusal(
     Ok(message.try_set_field(&field, value).err())
 }
 
-/// Whether the refusal reads as this text.
+/// Whether the refusal reads as this text, and a copy equals it.
 fn reads_as(alloc: Global, refusal: &SetFieldError, text: &str) -> Result<bool, Fail> {
-    Ok(format!(in alloc; "{refusal}")?.as_str() == text)
+    Ok(format!(in alloc; "{refusal}")?.as_str() == text && refusal.clone()? == *refusal)
 }
 
 /// Whether the field of a name refuses the uint32 5 by this text.
