@@ -63,6 +63,7 @@ of_kept_laws = record {
   message_arranged = ascends;
   kept_after_clear = (refl, refl);
   kept_after_set = (refl, (_, refl));
+  kept_after_unknown = (refl, refl);
   kept_after_writing = (refl, (_, refl, refl, refl));
 }
 

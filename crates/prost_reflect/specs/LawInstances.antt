@@ -49,6 +49,8 @@ pub record OfKeptLaws : Type 0 where
   -- Contents of values, of an unknown record and of stored defaults.
   pub kept_after_clear : Arranged (entries_of sample) × Arranged (entries_of stores_defaults)
   pub kept_after_set : Arranged (entries_of sample) × ((f : Field) × (field_of (fields_in sample) 2 ≡ Some f))
+  -- Contents to which any record is added.
+  pub kept_after_unknown : Arranged (entries_of sample) × Arranged (entries_of stores_defaults)
   -- A number that is lent for writing, and 0 for its default.
   pub kept_after_writing : Arranged (entries_of sample) × ((f : Field) × (field_of (fields_in sample) 1 ≡ Some f) × (kept_inside (ScalarValue (I32 (pos 0))) ≡ default_value examples f.form f.value_type) × (field_valid examples f ≡ true))
 

@@ -4,7 +4,7 @@ use Rattle.std.proofs.lemmas.Bool.{ltb-true, and_parts}
 use Rattle.std.specs.Prelude.{slice_get, option_map}
 use Rattle.std.proofs.lemmas.List.{length-map}
 use Rattle.prost_reflect_wire.specs.Schema.{Kind, ScalarOf, MessageOf, GroupOf, Field, known, field_of, kind_valid, field_valid, schema_valid}
-use Rattle.prost_reflect_wire.specs.Edit.{message_of}
+use Rattle.prost_reflect_wire.specs.Edit.{message_of_kind}
 use Rattle.prost_reflect_laws.proofs.Checked.{known_valid, found_valid, checked_field}
 use Rattle.prost_reflect_tables.specs.Rows.{FieldRow, TableRows}
 use Rattle.prost_reflect_tables.specs.Linked.{is_linked}
@@ -29,7 +29,7 @@ pub found_checked : (m : PooledType) (n : ℕ) (f : Field) → field_of (known (
 found_checked m n f found = found_valid (schema_at m) (known (schema_at m) (type_at m)) n f (known_valid (schema_at m) (type_at m) (schema_at_valid m)) found
 
 -- The message type that a field names is one of the rows.
-pub named_below : (rows : TableRows) → is_linked rows ≡ true → (S n : ℕ) (f : Field) (T : ℕ) → field_of (known (schema_from rows) S) n ≡ Some f → message_of f.value_type.kind ≡ Some T → T < length rows.messages
+pub named_below : (rows : TableRows) → is_linked rows ≡ true → (S n : ℕ) (f : Field) (T : ℕ) → field_of (known (schema_from rows) S) n ≡ Some f → message_of_kind f.value_type.kind ≡ Some T → T < length rows.messages
 unfolding schema_from
 named_below rows linked S n f T found names =
     let valid : field_valid (schema_from rows) f ≡ true = found_valid (schema_from rows) (known (schema_from rows) S) n f (known_valid (schema_from rows) S (schema_is_valid rows linked)) found in
@@ -37,13 +37,13 @@ named_below rows linked S n f T found names =
     let within : T < length (schema_from rows) = named f.value_type.kind names checked.kind in
     rw length-map at within
   where
-    named : (kind : Kind) → message_of kind ≡ Some T → kind_valid (schema_from rows) kind ≡ true → T < length (schema_from rows)
+    named : (kind : Kind) → message_of_kind kind ≡ Some T → kind_valid (schema_from rows) kind ≡ true → T < length (schema_from rows)
     named (ScalarOf kind) e h = cc
     named (MessageOf U) e h = let same : U ≡ T = cc in subst (λ U. U < length (schema_from rows)) same (ltb-true U (length (schema_from rows)) (and_parts _ _ h).0)
     named (GroupOf U) e h = let same : U ≡ T = cc in subst (λ U. U < length (schema_from rows)) same (ltb-true U (length (schema_from rows)) (and_parts _ _ h).0)
 
 -- The message type that a field names is one of the pool.
-pub named_in_range : (m : PooledType) (n : ℕ) (f : Field) (T : ℕ) → field_of (known (schema_at m) (type_at m)) n ≡ Some f → message_of f.value_type.kind ≡ Some T → T < length (pool_rows m.pool).messages
+pub named_in_range : (m : PooledType) (n : ℕ) (f : Field) (T : ℕ) → field_of (known (schema_at m) (type_at m)) n ≡ Some f → message_of_kind f.value_type.kind ≡ Some T → T < length (pool_rows m.pool).messages
 named_in_range m n f T found names = named_below (pool_rows m.pool) m.pool.value.tables.linked (type_at m) n f T found names
 
 -- The known fields are the rows, shown.

@@ -11,7 +11,7 @@ use Rattle.prost_reflect_wire.specs.Schema.{Repeated, Field, known, field_of, is
 use Rattle.prost_reflect_wire.specs.Content as contents
 use Rattle.prost_reflect_wire.specs.Content.{Content, ContentOf, MessageValue, ListValue, NoValues, ◌and_then◌, empty, value_at, entries_of, schema_of, type_of, values_from}
 use Rattle.prost_reflect_wire.specs.Typing.{WellStored}
-use Rattle.prost_reflect_wire.specs.Edit.{with_field_value, message_of}
+use Rattle.prost_reflect_wire.specs.Edit.{with_field_value, message_of_kind}
 use Rattle.prost_reflect_wire.specs.Decoding.{Step, StandsBehindKey}
 use Rattle.prost_reflect_wire.proofs.Survivors.{field_number}
 use Rattle.prost_reflect_laws.proofs.ListSteps.{IsListed}
@@ -63,7 +63,7 @@ module _ (d : PooledType) (n : ℕ) (row : FieldRow) (found : field_of (known_of
         found = found;
         form = form;
         kind_is = own;
-        in_range = named_in_range d n (schema_field (pool_rows d.pool) row) T found (ap message_of own ∙ message_named g T);
+        in_range = named_in_range d n (schema_field (pool_rows d.pool) row) T found (ap message_of_kind own ∙ message_named g T);
       }
 
   pub element_target_is : IsTarget d n (element_target_of row.kind row.is_group)
@@ -84,7 +84,7 @@ module _ (m : DynamicMessage) (n T : ℕ) (g : Bool) (at : NestedList (message_t
   found_element = record { field = at.field; found = found_here; form = ap is_map at.form; kind_is = at.kind_is; names = message_named g T }
 
   many_of : ManyMessages at.field T
-  many_of = record { packed = at.packed; form = at.form; names = ap message_of at.kind_is ∙ message_named g T }
+  many_of = record { packed = at.packed; form = at.form; names = ap message_of_kind at.kind_is ∙ message_named g T }
 
   -- at the number stands a list, or nothing yet
   pub list_or_none : WellStored (content_of m) → IsListOrNone (value_at n (entries_of (content_of m)))

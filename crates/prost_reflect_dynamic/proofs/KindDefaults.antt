@@ -13,7 +13,7 @@ use Rattle.prost_reflect_wire.specs.Content.{ScalarValue}
 use Rattle.prost_reflect_wire.specs.Typing.{kind_takes}
 use Rattle.prost_reflect_tables.specs.Rows.{EnumRow, EnumValueRow}
 use Rattle.prost_reflect_tables.specs.Shown.{enum_kind, first_number}
-use Rattle.prost_reflect_pool.specs.Enums.{first_of, numbers_of, values_or_none}
+use Rattle.prost_reflect_pool.specs.Enums.{first_of, numbers_or_none, values_or_none}
 use Rattle.prost_reflect_pool.specs.SharedPools.{pool_rows}
 use Rattle.prost_reflect_dynamic.specs.NamedDefaults.{default_named}
 use Rattle.prost_reflect_dynamic.specs.NamedEnums.{enum_row_at}
@@ -28,7 +28,7 @@ use Rattle.prost_reflect_dynamic.proofs.OwnRows.{first_there}
 -- ENUMS
 
 -- an enum declares its first number
-first_declared : (e : EnumDescriptor) → is_declared (numbers_of (enum_row_at e)) (first_of (enum_row_at e)) ≡ true
+first_declared : (e : EnumDescriptor) → is_declared (numbers_or_none (enum_row_at e)) (first_of (enum_row_at e)) ≡ true
 first_declared e = of (enum_row_at e) (first_there (pool_rows e.pool.inner) e.index e.pool.inner.value.tables.linked e.in_range)
   where
     either : (a b : Bool) → a ≡ true → (a || b) ≡ true
@@ -41,16 +41,16 @@ first_declared e = of (enum_row_at e) (first_there (pool_rows e.pool.inner) e.in
     among true [] some = absurd (true≢false (sym some))
     among true (v ∷ values) some = either (int_eq v.number v.number) (list_any (int_eq v.number) (map (λ (v : EnumValueRow). v.number) values)) ((Decides-int_eq v.number v.number).1 refl)
 
-    of : (o : Option EnumRow) → IsTrue (nat_lt 0 (length (values_or_none o))) → is_declared (numbers_of o) (first_of o) ≡ true
+    of : (o : Option EnumRow) → IsTrue (nat_lt 0 (length (values_or_none o))) → is_declared (numbers_or_none o) (first_of o) ≡ true
     of None some = refl
     of (Some row) some = among row.is_closed row.values some
 
-number_taken : (o : Option EnumRow) (z : ℤ) → in_i32 z ≡ true → is_declared (numbers_of o) z ≡ true → kind_takes (ScalarOf (enum_kind o)) (scalars.EnumNumber z) ≡ true
+number_taken : (o : Option EnumRow) (z : ℤ) → in_i32 z ≡ true → is_declared (numbers_or_none o) z ≡ true → kind_takes (ScalarOf (enum_kind o)) (scalars.EnumNumber z) ≡ true
 number_taken None z range declared = and_from (in_i32 z) true range refl
-number_taken (Some row) z range declared = and_from (in_i32 z) (is_declared (numbers_of (Some row)) z) range declared
+number_taken (Some row) z range declared = and_from (in_i32 z) (is_declared (numbers_or_none (Some row)) z) range declared
 
 pub first_taken : (e : EnumDescriptor) (z : ℤ) → z ≡ first_of (enum_row_at e) → in_i32 z ≡ true → kind_takes (kind_named (kinds.Enum e)) (scalars.EnumNumber z) ≡ true
-first_taken e z is range = number_taken (enum_row_at e) z range (ap (is_declared (numbers_of (enum_row_at e))) is ∙ first_declared e)
+first_taken e z is range = number_taken (enum_row_at e) z range (ap (is_declared (numbers_or_none (enum_row_at e))) is ∙ first_declared e)
 
 -- OTHER KINDS
 

@@ -5,7 +5,7 @@ use Rattle.prost_reflect_wire.specs.Schema.{Singular, Field, known, field_of, sc
 use Rattle.prost_reflect_wire.specs.Content as contents
 use Rattle.prost_reflect_wire.specs.Content.{Content, ContentOf, MessageValue, empty, schema_of, type_of, entries_of, value_at}
 use Rattle.prost_reflect_wire.specs.Typing.{WellStored}
-use Rattle.prost_reflect_wire.specs.Edit.{default_value, message_of, PathTo}
+use Rattle.prost_reflect_wire.specs.Edit.{default_value, message_of_kind, PathTo}
 use Rattle.prost_reflect_laws.proofs.Checked.{known_differ}
 use Rattle.prost_reflect_laws.proofs.MessageSteps.{Nested, nested_sound}
 use Rattle.prost_reflect_pool.specs.MessageTypes.{schema_at}
@@ -45,7 +45,7 @@ set_last m d n path [] v w e none to is =
 
 -- THE MESSAGE ON THE WAY
 
-lent_as : (m : DynamicMessage) (n U : ℕ) (f : Field) (lent : contents.Value) (o : Option contents.Value) → field_of (known_of (message_type_of m)) n ≡ Some f → f.form ≡ Singular → message_of f.value_type.kind ≡ Some U → IsStoredOr (message_type_of m) n o lent →
+lent_as : (m : DynamicMessage) (n U : ℕ) (f : Field) (lent : contents.Value) (o : Option contents.Value) → field_of (known_of (message_type_of m)) n ≡ Some f → f.form ≡ Singular → message_of_kind f.value_type.kind ≡ Some U → IsStoredOr (message_type_of m) n o lent →
     lent ≡ unwrap_or o (MessageValue (empty (schema_of (content_of m)) U))
 lent_as m n U f lent (Some v) found single names h = h
 lent_as m n U f lent None found single names h =
@@ -54,7 +54,7 @@ lent_as m n U f lent None found single names h =
     ∙ default_message (schema_at (message_type_of m)) f.value_type f.value_type.kind U names
     ∙ ap (λ s. MessageValue (empty s U)) (sym (schema_in m))
 
-nested_in : (c : Content) (n U : ℕ) (f : Field) (lent : contents.Value) → schema_valid (schema_of c) ≡ true → WellStored c → field_of (known (schema_of c) (type_of c)) n ≡ Some f → f.form ≡ Singular → message_of f.value_type.kind ≡ Some U →
+nested_in : (c : Content) (n U : ℕ) (f : Field) (lent : contents.Value) → schema_valid (schema_of c) ≡ true → WellStored c → field_of (known (schema_of c) (type_of c)) n ≡ Some f → f.form ≡ Singular → message_of_kind f.value_type.kind ≡ Some U →
     lent ≡ unwrap_or (value_at n (entries_of c)) (MessageValue (empty (schema_of c) U)) → Nested (schema_of c) U lent
 nested_in (ContentOf schema T es) n U f lent checked w found single names is = nested_sound schema T es w (known_differ schema T checked) n f found U (record { form = single; names = names }) lent (sym is)
 

@@ -48,7 +48,6 @@ pub mod FieldDefaults
 pub mod OwnDefaults
 mod ValueLists
 mod TakenValues
-mod ExtensionPlaces
 mod ListedNumbers
 pub mod LentWriting
 pub mod UnknownLists

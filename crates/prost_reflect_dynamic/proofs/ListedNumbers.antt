@@ -22,7 +22,7 @@ use Rattle.prost_reflect_dynamic.specs.declared.descriptor.extension.ExtensionDe
 use Rattle.prost_reflect_dynamic.specs.declared.descriptor.field.FieldDescriptor.{FieldDescriptor}
 use Rattle.prost_reflect_dynamic.specs.declared.descriptor.message.MessageDescriptor.{MessageDescriptor}
 use Rattle.prost_reflect_dynamic.proofs.Described.{field_at_number}
-use Rattle.prost_reflect_dynamic.proofs.ExtensionPlaces.{FoundExtension, extension_found, extension_there}
+use Rattle.prost_reflect_pool.proofs.ExtensionPlaces.{FoundExtension, extension_found, extension_there}
 use Rattle.prost_reflect_dynamic.proofs.OwnFields.{number_found, number_missing}
 
 listed_row : (x : Bool) (t : PooledType) (n : ℕ) → is_listed x (known_of t) n ≡ passes (row_of (fields_of t) n) (λ f. beq x f.is_extension)
@@ -48,16 +48,16 @@ field_listed t n h = sym (declared_listed (row_of (fields_of t) n)) ∙ sym (lis
 names_equal : (d : MessageDescriptor) (t : PooledType) → NamesSame d t → NamesEqual d t
 names_equal d t same = (ap contents_in same.0, same.1)
 
-pub field_there : (t : PooledType) (d : MessageDescriptor) (n : ℕ) → NamesSame d t → is_listed false (known_of t) n ≡ true → declared_place (named.fields_of d) n ≡ None → ⊥
+pub field_there : (t : PooledType) (d : MessageDescriptor) (n : ℕ) → NamesSame d t → is_listed false (known_of t) n ≡ true → declared_place (named.descriptor_fields d) n ≡ None → ⊥
 field_there t d n same h none = true≢false (sym (field_listed t n h) ∙ number_missing t d n (names_equal d t same) none)
 
-pub field_found : (t : PooledType) (d : MessageDescriptor) (field : FieldDescriptor) (n : ℕ) → NamesSame d t → SameMessage d field.message → declared_place (named.fields_of d) n ≡ Some field.index → IsOwnField t field × (number_of field ≡ n)
+pub field_found : (t : PooledType) (d : MessageDescriptor) (field : FieldDescriptor) (n : ℕ) → NamesSame d t → SameMessage d field.message → declared_place (named.descriptor_fields d) n ≡ Some field.index → IsOwnField t field × (number_of field ≡ n)
 field_found t d field n same s at = (own, (number_found t field n own there).0)
   where
     own : IsOwnField t field
     own = (ap contents_in (s.0 ∙ same.0), s.1 ∙ same.1)
 
-    there : declared_place (named.fields_of field.message) n ≡ Some field.index
+    there : declared_place (named.descriptor_fields field.message) n ≡ Some field.index
     there = (λ i. declared_place (fields_at (rows_in (s.0 i)) (s.1 i)) n) ∙ at
 
 -- EXTENSIONS

@@ -12,7 +12,7 @@ use Rattle.prost_reflect_wire.specs.Schema.{ScalarOf, ValueType, Singular, Field
 use Rattle.prost_reflect_wire.specs.Content.{Content, ContentOf, ScalarValue, schema_of, type_of}
 use Rattle.prost_reflect_wire.specs.Content as contents
 use Rattle.prost_reflect_wire.specs.Typing.{is_whole_stray, unknown_fits, WellStored}
-use Rattle.prost_reflect_wire.specs.Edit.{with_field_value, message_of}
+use Rattle.prost_reflect_wire.specs.Edit.{with_field_value, message_of_kind}
 use Rattle.prost_reflect_wire.specs.Grammar.{is_stray}
 use Rattle.prost_reflect_wire.specs.Levels.{stray_levels}
 use Rattle.prost_reflect_wire.specs.Fault.{OfType, ValueFault, same_wire}
@@ -102,7 +102,7 @@ module _ (d : PooledType) (n : ℕ) (row : FieldRow) (one : is_repeated row.card
   nested_field : (T : ℕ) (g : Bool) → row.kind ≡ kinds.Message T → row.is_group ≡ g → NestedField d n T g
   nested_field T g k i =
       let is : (schema_field (pool_rows d.pool) row).value_type.kind ≡ nested_kind g T = own_kind ∙ ap₂ (schema_kind (pool_rows d.pool).enums) k i in
-      record { field = schema_field (pool_rows d.pool) row; found = found; form = single; kind_is = is; in_range = named_in_range d n (schema_field (pool_rows d.pool) row) T found (ap message_of is ∙ message_named g T) }
+      record { field = schema_field (pool_rows d.pool) row; found = found; form = single; kind_is = is; in_range = named_in_range d n (schema_field (pool_rows d.pool) row) T found (ap message_of_kind is ∙ message_named g T) }
 
   pub target_is : IsTarget d n (target_of row.kind row.is_group)
   target_is = go row.kind row.is_group refl refl

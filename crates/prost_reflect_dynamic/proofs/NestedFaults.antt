@@ -7,7 +7,7 @@ use Rattle.prost_reflect_wire.specs.declared.error.DecodeError.TheVariants as er
 use Rattle.prost_reflect_wire.specs.Front.{DelimitedFront, PlainFault}
 use Rattle.prost_reflect_wire.specs.Schema.{Schema}
 use Rattle.prost_reflect_wire.specs.Content.{Content, schema_of, type_of}
-use Rattle.prost_reflect_wire.specs.Edit.{message_of}
+use Rattle.prost_reflect_wire.specs.Edit.{message_of_kind}
 use Rattle.prost_reflect_wire.specs.Fault.{Here, InMessage, InGroup, OfType, StandsInMessage, opens_level, one_takes, same_wire}
 use Rattle.prost_reflect_wire.specs.Decoding.{Progress, GroupProgress, StandsBehindKey, StandsInGroup}
 use Rattle.prost_reflect_wire.proofs.PlaceFaults.{plain_stands}
@@ -38,7 +38,7 @@ nested_refused schema levels n U g w errors.WireType rest f = λ place field lef
   rest = rest;
   key = key;
   found = found;
-  behind = (f.0, takes_nested field.form field.value_type.kind U w form (ap message_of is ∙ message_named g U) ∙ ap (λ kind. one_takes kind w) is ∙ kind_takes g U w ∙ f.1);
+  behind = (f.0, takes_nested field.form field.value_type.kind U w form (ap message_of_kind is ∙ message_named g U) ∙ ap (λ kind. one_takes kind w) is ∙ kind_takes g U w ∙ f.1);
 })
 nested_refused schema levels n U g w errors.Depth rest f = λ place field left found form is key closes. Here (
   left ∙ f.1,
@@ -47,7 +47,7 @@ nested_refused schema levels n U g w errors.Depth rest f = λ place field left f
     wire = w;
     rest = rest;
     key = key;
-    behind = ap (λ o. opens_level o w) found ∙ needs_nested field.form field.value_type.kind U w form (ap message_of is ∙ message_named g U) ∙ ap (λ kind. one_takes kind w) is ∙ kind_takes g U w ∙ ap (λ v. same_wire v (nested_wire g)) f.0 ∙ takes_own g;
+    behind = ap (λ o. opens_level o w) found ∙ needs_nested field.form field.value_type.kind U w form (ap message_of_kind is ∙ message_named g U) ∙ ap (λ kind. one_takes kind w) is ∙ kind_takes g U w ∙ ap (λ v. same_wire v (nested_wire g)) f.0 ∙ takes_own g;
   },
 )
 nested_refused schema levels n U g w errors.Truncated rest f = absurd f

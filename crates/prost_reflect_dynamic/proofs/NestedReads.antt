@@ -9,7 +9,7 @@ use Rattle.prost_reflect_wire.specs.Schema.{Field, known, field_of, numbers_diff
 use Rattle.prost_reflect_wire.specs.Content.{Content, ContentOf, MessageValue, empty, value_at, schema_of, type_of, entries_of}
 use Rattle.prost_reflect_wire.specs.Content as contents
 use Rattle.prost_reflect_wire.specs.Typing.{WellStored}
-use Rattle.prost_reflect_wire.specs.Edit.{with_field_value, message_of}
+use Rattle.prost_reflect_wire.specs.Edit.{with_field_value, message_of_kind}
 use Rattle.prost_reflect_wire.specs.Decoding.{Step, StandsBehindKey}
 use Rattle.prost_reflect_wire.proofs.Survivors.{field_number}
 use Rattle.prost_reflect_laws.proofs.MessageSteps.{OneMessage, ReadInto, Nested, FoundNested, nested_sound, message_holds, group_holds}
@@ -39,7 +39,7 @@ abbrev pub found_in : (m : DynamicMessage) (n T : ℕ) (g : Bool) → NestedFiel
 found_in m n T g at = record { field = at.field; found = ap (λ fields. field_of fields n) (known_in m) ∙ at.found; form = ap is_map at.form; kind_is = at.kind_is; names = message_named g T }
 
 one_of : (m : DynamicMessage) (n T : ℕ) (g : Bool) → (at : NestedField (message_type_of m) n T g) → OneMessage at.field T
-one_of m n T g at = record { form = at.form; names = ap message_of at.kind_is ∙ message_named g T }
+one_of m n T g at = record { form = at.form; names = ap message_of_kind at.kind_is ∙ message_named g T }
 
 -- what stands behind the key, as a message of the type sees it
 pub behind_inside : (m inner : DynamicMessage) (n T levels : ℕ) (g : Bool) (w : WireType) → FoundNested (schema_of (content_of m)) (type_of (content_of m)) n T (nested_kind g T) → schema_of (content_of inner) ≡ schema_of (content_of m) → type_of (content_of inner) ≡ T →

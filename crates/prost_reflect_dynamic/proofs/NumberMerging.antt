@@ -33,7 +33,7 @@ use Rattle.prost_reflect_pool.specs.declared.pooled_type.PooledType.{PooledType}
 use Rattle.prost_reflect_dynamic.specs.declared.message.DynamicMessage.{DynamicMessage}
 use Rattle.prost_reflect_dynamic.specs.Contents.{value_set, unknown_added}
 use Rattle.prost_reflect_dynamic.specs.RowKinds.{names_message}
-use Rattle.prost_reflect_pool.specs.Enums.{first_of, numbers_of}
+use Rattle.prost_reflect_pool.specs.Enums.{first_of, numbers_or_none}
 use Rattle.prost_reflect_fields.specs.Known.{known_of, keeps_unknown}
 use Rattle.prost_reflect_dynamic.specs.Lists.{IsListOrNone, with_element}
 use Rattle.prost_reflect_dynamic.specs.Numbers.{NumberList, BodyTaken, number_taken}
@@ -46,7 +46,7 @@ use Rattle.prost_reflect_dynamic.proofs.PlainKinds.{list_kind, scalars_row, stra
 
 -- THE FIELD
 
-enum_is : (o : Option EnumRow) → enum_kind o ≡ Enum (first_of o) (numbers_of o)
+enum_is : (o : Option EnumRow) → enum_kind o ≡ Enum (first_of o) (numbers_or_none o)
 enum_is None = refl
 enum_is (Some e) = refl
 
@@ -57,7 +57,7 @@ number_list d n row E found many is =
     record {
       field = schema_field (pool_rows d.pool) row;
       first = first_of (slice_get (pool_rows d.pool).enums E);
-      numbers = numbers_of (slice_get (pool_rows d.pool).enums E);
+      numbers = numbers_or_none (slice_get (pool_rows d.pool).enums E);
       packed = row.is_packed;
       found = found;
       form = form;

@@ -126,17 +126,17 @@ numbered_at fields n i h = go (slice_get fields i) refl
     go None at = absurd (true≢false (sym declared ∙ ap is_declared at))
     go (Some f) at = row_of_number fields n i f (found_place fields n i h) at
 
-own_fields : (d : MessageDescriptor) (t : PooledType) → NamesEqual d t → named.fields_of d ≡ fields_of t
+own_fields : (d : MessageDescriptor) (t : PooledType) → NamesEqual d t → named.descriptor_fields d ≡ fields_of t
 own_fields d t own = λ i. fields_at (rows_same d.pool.inner t.pool own.0 i) (own.1 i)
 
 pub number_found : NumberFound
 number_found t field n own h = (
-  numbered_at (named.fields_of field.message) n field.index h,
-  ap (λ fields. is_declared (row_of fields n)) (sym (own_fields field.message t own)) ∙ sym (found_declared (named.fields_of field.message) n) ∙ ap is_some h,
+  numbered_at (named.descriptor_fields field.message) n field.index h,
+  ap (λ fields. is_declared (row_of fields n)) (sym (own_fields field.message t own)) ∙ sym (found_declared (named.descriptor_fields field.message) n) ∙ ap is_some h,
 )
 
 pub number_missing : NumberMissing
-number_missing t d n own h = ap (λ fields. is_declared (row_of fields n)) (sym (own_fields d t own)) ∙ sym (found_declared (named.fields_of d) n) ∙ ap is_some h
+number_missing t d n own h = ap (λ fields. is_declared (row_of fields n)) (sym (own_fields d t own)) ∙ sym (found_declared (named.descriptor_fields d) n) ∙ ap is_some h
 
 abbrev number_there : (t : PooledType) → Option ℕ → Option ℕ
 number_there t found = option_and_then (λ i. option_map (λ f. f.number) (slice_get (fields_of t) i)) found
@@ -159,12 +159,12 @@ pub takes_found : TakesFound
 takes_found t field n v own h = ap (λ o. passes o (λ f. value_valid f (value_of v))) (sym (own_found t field n own h))
 
 -- The look-up in a descriptor of the message type itself.
-same_fields : (d : MessageDescriptor) (t : PooledType) → NamesSame d t → named.fields_of d ≡ fields_of t
+same_fields : (d : MessageDescriptor) (t : PooledType) → NamesSame d t → named.descriptor_fields d ≡ fields_of t
 same_fields d t names = λ i. fields_at (rows_of (names.0 i).tables) (names.1 i)
 
-pub field_described : (t : PooledType) (d : MessageDescriptor) (field : FieldDescriptor) (n : ℕ) → NamesSame d t → SameMessage d field.message → Some field.index ≡ declared_place (named.fields_of d) n → DescribesField t n field
+pub field_described : (t : PooledType) (d : MessageDescriptor) (field : FieldDescriptor) (n : ℕ) → NamesSame d t → SameMessage d field.message → Some field.index ≡ declared_place (named.descriptor_fields d) n → DescribesField t n field
 field_described t d field n names same at = ((same.0 ∙ names.0, same.1 ∙ names.1), ap (λ fields. declared_place fields n) (sym (same_fields d t names)) ∙ sym at)
 
-pub field_there : (t : PooledType) (d : MessageDescriptor) (n : ℕ) → NamesSame d t → is_field_number t n ≡ true → None ≡ declared_place (named.fields_of d) n → ⊥
+pub field_there : (t : PooledType) (d : MessageDescriptor) (n : ℕ) → NamesSame d t → is_field_number t n ≡ true → None ≡ declared_place (named.descriptor_fields d) n → ⊥
 field_there t d n names is none =
-    true≢false (sym is ∙ ap (λ fields. is_declared (row_of fields n)) (sym (same_fields d t names)) ∙ sym (found_declared (named.fields_of d) n) ∙ ap is_some (sym none))
+    true≢false (sym is ∙ ap (λ fields. is_declared (row_of fields n)) (sym (same_fields d t names)) ∙ sym (found_declared (named.descriptor_fields d) n) ∙ ap is_some (sym none))

@@ -6,7 +6,7 @@ use Rattle.prost_reflect_wire.specs.Varint.{◌>>=◌}
 use Rattle.prost_reflect_wire.specs.Schema.{Kind, FieldForm, Singular, Repeated, MapFrom, Field, Schema, known, field_of, is_singular}
 use Rattle.prost_reflect_wire.specs.Content.{Value, ScalarValue, MessageValue, ListValue, MapValue, Values, NoValues, Item, Pairs, NoPairs, Pair, value_ordered}
 use Rattle.prost_reflect_wire.specs.Typing.{EntryTest, value_passes, values_pass, pairs_pass, fit_test, alone_test, value_valid, ValueTyped, ValuesTyped, PairsTyped, ValueStored, kind_for}
-use Rattle.prost_reflect_wire.specs.Edit.{message_of, PathTo, holds_message, values_hold_message, pairs_hold_message}
+use Rattle.prost_reflect_wire.specs.Edit.{message_of_kind, PathTo, holds_message, values_hold_message, pairs_hold_message}
 use Rattle.prost_reflect_tables.specs.declared.tables.TableKind.{TableKind}
 use Rattle.prost_reflect_tables.specs.declared.tables.TableKind.TheVariants as kinds
 use Rattle.prost_reflect_tables.specs.declared.tables.Cardinality.{Cardinality}
@@ -36,16 +36,16 @@ not_empty n rest h = let none : length (n ∷ rest) ≡ 0 = eqb-true (length (n 
 inside_of : (rows : TableRows) (f : FieldRow) → message_inside (schema_field rows f) ≡ single_place f
 inside_of rows f = go f.cardinality
   where
-    single : (kind : TableKind) (g : Bool) → message_of (schema_kind rows.enums kind g) ≡ place_named kind
+    single : (kind : TableKind) (g : Bool) → message_of_kind (schema_kind rows.enums kind g) ≡ place_named kind
     single (kinds.Message T) true = refl
     single (kinds.Message T) false = refl
     single kind g = refl
 
-    repeated : (o : Option MessageRow) → cond (is_singular (form_of rows.enums f RepeatedLabel o)) (message_of (value_type_of rows.enums f o).kind) None ≡ None
+    repeated : (o : Option MessageRow) → cond (is_singular (form_of rows.enums f RepeatedLabel o)) (message_of_kind (value_type_of rows.enums f o).kind) None ≡ None
     repeated None = refl
     repeated (Some e) = refl
 
-    go : (c : Cardinality) → cond (is_singular (form_of rows.enums f c (map_entry rows.messages f c))) (message_of (value_type_of rows.enums f (map_entry rows.messages f c)).kind) None ≡ cond (is_repeated c) None (place_named f.kind)
+    go : (c : Cardinality) → cond (is_singular (form_of rows.enums f c (map_entry rows.messages f c))) (message_of_kind (value_type_of rows.enums f (map_entry rows.messages f c)).kind) None ≡ cond (is_repeated c) None (place_named f.kind)
     go Optional = single f.kind f.is_group
     go Required = single f.kind f.is_group
     go RepeatedLabel = repeated (map_entry rows.messages f RepeatedLabel)
@@ -203,7 +203,7 @@ module _ (rows : TableRows) (T n : ℕ) (path rest : List ℕ) (is : path ≡ n 
 
 -- the message type is one of the rows
 inside_below : (rows : TableRows) → is_linked rows ≡ true → (T n : ℕ) (f : Field) (U : ℕ) → own_field (known (schema_from rows) T) n ≡ Some f → message_inside f ≡ Some U → U < length rows.messages
-inside_below rows linked T n f U own inside = named_below rows linked T n f U (own_is (known (schema_from rows) T) n f own) (inside_is f.form (message_of f.value_type.kind) U inside).1
+inside_below rows linked T n f U own inside = named_below rows linked T n f U (own_is (known (schema_from rows) T) n f own) (inside_is f.form (message_of_kind f.value_type.kind) U inside).1
 
 pub type_below : (rows : TableRows) → is_linked rows ≡ true → (T n U : ℕ) → type_inside rows T n ≡ Some U → U < length rows.messages
 type_below rows linked T n U h = go (own_field (known (schema_from rows) T) n) refl (type_shown rows T n ∙ h)
@@ -256,7 +256,7 @@ path_to schema T (n ∷ m ∷ path) v f e s = go (own_field (known schema T) n) 
   where
     inside : (g : Field) → own_field (known schema T) n ≡ Some g → (o : Option ℕ) → message_inside g ≡ o → (o >>= λ U. field_at schema U (m ∷ path)) ≡ Some f → ((U : ℕ) → field_at schema U (m ∷ path) ≡ Some f → PathTo schema U (m ∷ path) v) → PathTo schema T (n ∷ m ∷ path) v
     inside g h None i e more = absurd cc
-    inside g h (Some U) i e more = let (single, names) = inside_is g.form (message_of g.value_type.kind) U i in (g, own_is (known schema T) n g h, single, (U, names, more U e))
+    inside g h (Some U) i e more = let (single, names) = inside_is g.form (message_of_kind g.value_type.kind) U i in (g, own_is (known schema T) n g h, single, (U, names, more U e))
 
     go : (o : Option Field) → own_field (known schema T) n ≡ o → (o >>= λ g. message_inside g >>= λ U. field_at schema U (m ∷ path)) ≡ Some f → ((U : ℕ) → field_at schema U (m ∷ path) ≡ Some f → PathTo schema U (m ∷ path) v) → PathTo schema T (n ∷ m ∷ path) v
     go None h e more = absurd cc

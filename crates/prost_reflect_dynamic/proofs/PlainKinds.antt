@@ -17,7 +17,7 @@ use Rattle.prost_reflect_tables.specs.Rows.{FieldRow, MessageRow, EnumRow, Table
 use Rattle.prost_reflect_tables.specs.Shown.{first_number, enum_numbers, schema_kind, enum_kind, own_type, map_entry, value_type_of, form_of, schema_field}
 use Rattle.prost_reflect_tables.specs.Linking.{is_repeated}
 use Rattle.prost_reflect_dynamic.specs.RowKinds.{is_plain, is_plain_kind, names_message}
-use Rattle.prost_reflect_pool.specs.Enums.{numbers_of}
+use Rattle.prost_reflect_pool.specs.Enums.{numbers_or_none}
 use Rattle.prost_reflect_dynamic.specs.Scalars.{plain_kind, is_stray_number}
 use Rattle.prost_reflect_dynamic.proofs.RowKinds as row_kinds
 use Rattle.prost_reflect_dynamic.proofs.RowKinds.{no_entry, no_message_entry}
@@ -221,11 +221,11 @@ number_stray first numbers (Fix64 bytes) v r = cc
 number_stray first numbers (Len bytes) v r = cc
 number_stray first numbers (Fix32 bytes) v r = cc
 
-enum_stray : (o : Option EnumRow) (plain : Plain) (v : Scalar) → elem (enum_kind o) (Flat plain) ≡ Some v → is_undeclared (enum_kind o) (Flat plain) ≡ stray_of (numbers_of o) v
+enum_stray : (o : Option EnumRow) (plain : Plain) (v : Scalar) → elem (enum_kind o) (Flat plain) ≡ Some v → is_undeclared (enum_kind o) (Flat plain) ≡ stray_of (numbers_or_none o) v
 enum_stray None plain v r = number_stray (pos 0) scalars.Open plain v r
 enum_stray (Some row) plain v r = number_stray (first_number (value_numbers row)) (enum_numbers row) plain v r
 
-stray_shown : (enums : List EnumRow) (E : ℕ) (v : Scalar) → stray_of (numbers_of (slice_get enums E)) v ≡ is_stray_number enums (kinds.Enum E) (ScalarValue v)
+stray_shown : (enums : List EnumRow) (E : ℕ) (v : Scalar) → stray_of (numbers_or_none (slice_get enums E)) v ≡ is_stray_number enums (kinds.Enum E) (ScalarValue v)
 stray_shown enums E (scalars.EnumNumber z) = refl
 stray_shown enums E v = refl
 
@@ -243,7 +243,7 @@ stray_value enums (kinds.Enum E) own v e =
     let is : enum_kind (slice_get enums E) ≡ own = cc in
     ap (λ k. is_undeclared_value k v) (sym is) ∙ of (slice_get enums E) v ∙ stray_shown enums E v
   where
-    of : (o : Option EnumRow) (v : Scalar) → is_undeclared_value (enum_kind o) v ≡ stray_of (numbers_of o) v
+    of : (o : Option EnumRow) (v : Scalar) → is_undeclared_value (enum_kind o) v ≡ stray_of (numbers_or_none o) v
     of None (scalars.EnumNumber z) = refl
     of None v = refl
     of (Some row) (scalars.EnumNumber z) = refl

@@ -1,7 +1,7 @@
 -- The row of a repeated field: whether it is a list or a map, and what its records are read as.
 use Rattle.std.proofs.Common.{◌≡◌, ℕ, Bool, true, false, cond, not, Option, Some, None, refl, sym, ap, ◌∙◌, subst, true≢false}
 use Rattle.prost_reflect_wire.specs.Schema.{MessageOf, GroupOf, ValueType, Repeated, field_of, is_group, field_valid}
-use Rattle.prost_reflect_wire.specs.Edit.{message_of}
+use Rattle.prost_reflect_wire.specs.Edit.{message_of_kind}
 use Rattle.prost_reflect_laws.proofs.Checked.{checked_field, checked_map}
 use Rattle.prost_reflect_laws.proofs.ScalarEntries.{map_keyed}
 use Rattle.prost_reflect_tables.specs.declared.tables.TableKind.{TableKind}
@@ -54,7 +54,7 @@ module _ (d : PooledType) (n : ℕ) (row : FieldRow) (found : Some (schema_field
         key_plain = keys.named;
         key_is = keys.is;
         value_is = map_message key value T parts is;
-        in_range = named_in_range d n (schema_field (pool_rows d.pool) row) T (sym found) (ap message_of (map_message key value T parts is));
+        in_range = named_in_range d n (schema_field (pool_rows d.pool) row) T (sym found) (ap message_of_kind (map_message key value T parts is));
       }
 
 module _ (d : PooledType) (n : ℕ) (row : FieldRow) (found : Some (schema_field (pool_rows d.pool) row) ≡ field_of (known_of d) n) (many : is_repeated row.cardinality ≡ true) where

@@ -2,7 +2,7 @@
 use Rattle.std.proofs.Common.{◌≡◌, ℕ, Bool, true, false, cond, List, [], ◌∷◌, Option, Some, None, refl, sym, subst, true≢false}
 use Rattle.std.specs.Prelude.{slice_get}
 use Rattle.prost_reflect_wire.specs.Schema.{ScalarOf, is_message}
-use Rattle.prost_reflect_wire.specs.Edit.{message_of}
+use Rattle.prost_reflect_wire.specs.Edit.{message_of_kind}
 use Rattle.prost_reflect_tables.specs.declared.tables.Cardinality.{Cardinality}
 use Rattle.prost_reflect_tables.specs.declared.tables.Cardinality.TheVariants.{Optional, Required, Repeated}
 use Rattle.prost_reflect_tables.specs.declared.tables.TableKind.{TableKind}
@@ -30,7 +30,7 @@ plain_kind enums (Message T) true = refl
 plain_kind enums (Message T) false = refl
 plain_kind enums kind g = refl
 
-pub message_named : (g : Bool) (T : ℕ) → message_of (nested_kind g T) ≡ Some T
+pub message_named : (g : Bool) (T : ℕ) → message_of_kind (nested_kind g T) ≡ Some T
 message_named true T = refl
 message_named false T = refl
 

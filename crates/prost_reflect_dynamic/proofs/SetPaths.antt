@@ -5,7 +5,7 @@ use Rattle.std.proofs.lemmas.Bool.{and_from}
 use Rattle.prost_reflect_wire.specs.Schema.{ValueType, Kind, ScalarOf, MessageOf, GroupOf, Singular, Field, Schema, known, field_of, is_singular, schema_valid}
 use Rattle.prost_reflect_wire.specs.Content.{Content, ContentOf, Entries, Value, MessageValue, empty, schema_of, type_of, entries_of, value_at}
 use Rattle.prost_reflect_wire.specs.Typing.{kept, kept_inside, kept_value, value_valid, ValueStored, WellStored}
-use Rattle.prost_reflect_wire.specs.Edit.{with_field_value, set_field, default_of, default_value, value_or_default, in_message, set_at, message_of}
+use Rattle.prost_reflect_wire.specs.Edit.{with_field_value, set_field, default_of, default_value, value_or_default, in_message, set_at, message_of_kind}
 use Rattle.prost_reflect_wire.specs.Decoding.{Holds}
 use Rattle.prost_reflect_wire.proofs.Survivors.{field_number}
 use Rattle.prost_reflect_laws.proofs.Checked.{known_differ, known_valid, found_valid}
@@ -43,12 +43,12 @@ set_one (ContentOf schema T es) n f v checked w found s = record {
 
 -- MESSAGES ON THE WAY
 
-pub default_message : (schema : Schema) (t : ValueType) (kind : Kind) (U : ℕ) → message_of kind ≡ Some U → default_of schema t kind ≡ MessageValue (empty schema U)
+pub default_message : (schema : Schema) (t : ValueType) (kind : Kind) (U : ℕ) → message_of_kind kind ≡ Some U → default_of schema t kind ≡ MessageValue (empty schema U)
 default_message schema t (ScalarOf kind) U e = absurd cc
 default_message schema t (MessageOf V) U e = let same : V ≡ U = cc in ap (λ (x : ℕ). MessageValue (empty schema x)) same
 default_message schema t (GroupOf V) U e = let same : V ≡ U = cc in ap (λ (x : ℕ). MessageValue (empty schema x)) same
 
-stored_message : (schema : Schema) (f : Field) (U : ℕ) (d : Content) → f.form ≡ Singular → message_of f.value_type.kind ≡ Some U → schema_of d ≡ schema → type_of d ≡ U → WellStored d → ValueStored schema f (MessageValue d)
+stored_message : (schema : Schema) (f : Field) (U : ℕ) (d : Content) → f.form ≡ Singular → message_of_kind f.value_type.kind ≡ Some U → schema_of d ≡ schema → type_of d ≡ U → WellStored d → ValueStored schema f (MessageValue d)
 stored_message schema f U d single names schema_is type_is w =
     let valid : value_valid f (MessageValue d) ≡ true = and_from _ _ (ap is_singular single) (message_kind f.value_type.kind U names) in
     record {
@@ -60,7 +60,7 @@ stored_message schema f U d single names schema_is type_is w =
     }
 
 -- what is kept of the message that is stored, or else made, and the field's own
-lent_kept : (schema : Schema) (T n : ℕ) (es : Entries) (f : Field) (U : ℕ) (before : Content) → schema_valid schema ≡ true → WellStored (ContentOf schema T es) → field_of (known schema T) n ≡ Some f → f.form ≡ Singular → message_of f.value_type.kind ≡ Some U →
+lent_kept : (schema : Schema) (T n : ℕ) (es : Entries) (f : Field) (U : ℕ) (before : Content) → schema_valid schema ≡ true → WellStored (ContentOf schema T es) → field_of (known schema T) n ≡ Some f → f.form ≡ Singular → message_of_kind f.value_type.kind ≡ Some U →
     unwrap_or (value_at n es) (MessageValue (empty schema U)) ≡ MessageValue before → MessageValue (kept before) ≡ value_or_default schema f (entries_of (kept (ContentOf schema T es)))
 lent_kept schema T n es f U before checked w found single names lent =
     let default : MessageValue (empty schema U) ≡ default_value schema f.form f.value_type = sym (ap (λ form. default_value schema form f.value_type) single ∙ default_message schema f.value_type f.value_type.kind U names) in
@@ -68,7 +68,7 @@ lent_kept schema T n es f U before checked w found single names lent =
     ap kept_inside (sym lent) ∙ access.found
 
 -- at more numbers, through the message of the first
-pub set_more : (c before after : Content) (n m U : ℕ) (path : List ℕ) (f : Field) (v : Value) → schema_valid (schema_of c) ≡ true → WellStored c → field_of (known (schema_of c) (type_of c)) n ≡ Some f → f.form ≡ Singular → message_of f.value_type.kind ≡ Some U →
+pub set_more : (c before after : Content) (n m U : ℕ) (path : List ℕ) (f : Field) (v : Value) → schema_valid (schema_of c) ≡ true → WellStored c → field_of (known (schema_of c) (type_of c)) n ≡ Some f → f.form ≡ Singular → message_of_kind f.value_type.kind ≡ Some U →
     unwrap_or (value_at n (entries_of c)) (MessageValue (empty (schema_of c) U)) ≡ MessageValue before → schema_of before ≡ schema_of c → type_of before ≡ U → IsSetAt (m ∷ path) v before after → IsSetAt (n ∷ m ∷ path) v c (value_set n (MessageValue after) c)
 set_more (ContentOf schema T es) before after n m U path f v checked w found single names lent schema_is type_is done =
     let inside = done.holds in

@@ -9,7 +9,7 @@ use Rattle.prost_reflect_wire.specs.Record.{Record, Payload, record_at}
 use Rattle.prost_reflect_wire.specs.Schema.{Field}
 use Rattle.prost_reflect_wire.specs.Content as contents
 use Rattle.prost_reflect_wire.specs.Content.{Entries, Slot, entries_of, store, then_value, then_unknowns}
-use Rattle.prost_reflect_wire.specs.Unknown.{fields_of, record_of, records_of}
+use Rattle.prost_reflect_wire.specs.Unknown.{unknown_fields_of, unknown_record, records_of}
 use Rattle.prost_reflect_wire.specs.declared.unknown.UnknownFieldSet.{UnknownFieldSet}
 use Rattle.prost_reflect_wire.proofs.UnknownViews.{records_of_out}
 use Rattle.prost_reflect_fields.specs.FieldSlots.{records_in, unknown_in, records_at, unknown_sets, value_alone, values_alone}
@@ -42,7 +42,7 @@ own_records fields n [] h = refl
 own_records fields n (r ∷ rs) h = records_back n (r ∷ rs) (and_parts (all_kept fields n (r ∷ rs)) (are_records_of n (r ∷ rs)) h).1
 
 slot_records : (fields : List Field) (n : ℕ) (e : FieldSlot Value) → unknown_kept fields n (records_in e) ≡ true
-    → map record_of (fields_or_none (unknown_in e)) ≡ map (record_at n) (slot_of (λ v. v) (shown_entry e)).unknowns
+    → map unknown_record (fields_or_none (unknown_in e)) ≡ map (record_at n) (slot_of (λ v. v) (shown_entry e)).unknowns
 slot_records fields n (entries.Value v) h = refl
 slot_records fields n (entries.Unknown u) h = sym (records_of_out u) ∙ sym (own_records fields n (records_of u) h)
 slot_records fields n (entries.Both v u) h = sym (records_of_out u) ∙ sym (own_records fields n (records_of u) h)
@@ -64,11 +64,11 @@ map_joined : {A B : Type 0} (f : A → B) (xs ys : List A) → map f (xs ++ ys) 
 map_joined f [] ys = refl
 map_joined f (x ∷ xs) ys = ap (λ zs. f x ∷ zs) (map_joined f xs ys)
 
-listed : (fields : List Field) (es : List (ℕ × FieldSlot Value)) → IsAscending es → ((k : ℕ) → unknown_kept fields k (records_at es k) ≡ true) → map record_of (all_unknown es) ≡ unknown_records (entries_from (shown es))
+listed : (fields : List Field) (es : List (ℕ × FieldSlot Value)) → IsAscending es → ((k : ℕ) → unknown_kept fields k (records_at es k) ≡ true) → map unknown_record (all_unknown es) ≡ unknown_records (entries_from (shown es))
 unfolding IsStrictlySortedBy
 listed fields [] s own = refl
 listed fields (e ∷ es) s own =
-    map_joined record_of (fields_or_none (unknown_in e.1)) (all_unknown es)
+    map_joined unknown_record (fields_or_none (unknown_in e.1)) (all_unknown es)
     ∙ ap₂ (λ xs ys. xs ++ ys) (slot_records fields e.0 e.1 here) (listed fields es s.1 behind)
     ∙ sym (unknown_store e.0 (slot_of (λ v. v) (shown_entry e.1)) (entries_from (shown es)))
   where
@@ -85,11 +85,11 @@ unknown_listed m s sound = listed (known_of (message_type_of m)) (stored_in m) s
 
 -- WHAT IS TAKEN, AND WHAT IS LEFT
 
-set_taken : (o : Option UnknownFieldSet) (us : List UnknownFieldSet) → flat_map fields_of (option_to_list o ++ us) ≡ fields_or_none o ++ flat_map fields_of us
+set_taken : (o : Option UnknownFieldSet) (us : List UnknownFieldSet) → flat_map unknown_fields_of (option_to_list o ++ us) ≡ fields_or_none o ++ flat_map unknown_fields_of us
 set_taken None us = refl
 set_taken (Some u) us = refl
 
-pub all_taken : (es : List (ℕ × FieldSlot Value)) → flat_map fields_of (unknown_sets es) ≡ all_unknown es
+pub all_taken : (es : List (ℕ × FieldSlot Value)) → flat_map unknown_fields_of (unknown_sets es) ≡ all_unknown es
 all_taken [] = refl
 all_taken (e ∷ es) = set_taken (unknown_in e.1) (unknown_sets es) ∙ ap (λ us. fields_or_none (unknown_in e.1) ++ us) (all_taken es)
 

@@ -131,17 +131,17 @@ HadContent = (m : DynamicMessage) (n : ℕ) → IsAscending (stored_in m) → op
 
 -- The field that the look-up of a number finds is known by that number; where it finds none, the number is no field's.
 abbrev pub NumberFound : Type 0
-NumberFound = (t : PooledType) (field : FieldDescriptor) (n : ℕ) → IsOwnField t field → declared_place (named.fields_of field.message) n ≡ Some field.index → (number_of field ≡ n) × (is_field_number t n ≡ true)
+NumberFound = (t : PooledType) (field : FieldDescriptor) (n : ℕ) → IsOwnField t field → declared_place (named.descriptor_fields field.message) n ≡ Some field.index → (number_of field ≡ n) × (is_field_number t n ≡ true)
 
 abbrev pub NumberMissing : Type 0
-NumberMissing = (t : PooledType) (d : MessageDescriptor) (n : ℕ) → NamesEqual d t → declared_place (named.fields_of d) n ≡ None → is_field_number t n ≡ false
+NumberMissing = (t : PooledType) (d : MessageDescriptor) (n : ℕ) → NamesEqual d t → declared_place (named.descriptor_fields d) n ≡ None → is_field_number t n ≡ false
 
 -- The same of the look-up of a name.
 abbrev pub NameFound : Type 0
-NameFound = (t : PooledType) (field : FieldDescriptor) (name : List ℕ) → IsOwnField t field → named_field (named.fields_of field.message) name ≡ Some field.index → number_named t name ≡ Some (number_of field)
+NameFound = (t : PooledType) (field : FieldDescriptor) (name : List ℕ) → IsOwnField t field → named_field (named.descriptor_fields field.message) name ≡ Some field.index → number_named t name ≡ Some (number_of field)
 
 abbrev pub NameMissing : Type 0
-NameMissing = (t : PooledType) (d : MessageDescriptor) (name : List ℕ) → NamesEqual d t → named_field (named.fields_of d) name ≡ None → number_named t name ≡ None
+NameMissing = (t : PooledType) (d : MessageDescriptor) (name : List ℕ) → NamesEqual d t → named_field (named.descriptor_fields d) name ≡ None → number_named t name ≡ None
 
 -- An own field takes what the message type's field of its number takes.
 abbrev pub TakesFound : Type 0

@@ -2,12 +2,12 @@
 use Rattle.std.specs.Prelude.{◌≡◌, Option, slice_get}
 use Rattle.prost_reflect_tables.specs.Rows.{FieldRow}
 use Rattle.prost_reflect_dynamic.specs.Named.{SameMessage}
-use Rattle.prost_reflect_dynamic.specs.NamedFields.{fields_of}
+use Rattle.prost_reflect_dynamic.specs.NamedFields.{descriptor_fields}
 use Rattle.prost_reflect_dynamic.specs.declared.descriptor.field.FieldDescriptor.{FieldDescriptor}
 
 -- The field's row.
 abbrev pub row_at : FieldDescriptor → Option FieldRow
-row_at field = slice_get (fields_of field.message) field.index
+row_at field = slice_get (descriptor_fields field.message) field.index
 
 -- Two descriptors of one field.
 abbrev pub SameField : FieldDescriptor → FieldDescriptor → Type 0

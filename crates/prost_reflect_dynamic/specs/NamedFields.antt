@@ -7,8 +7,8 @@ use Rattle.prost_reflect_pool.specs.SharedPools.{pool_rows}
 use Rattle.prost_reflect_dynamic.specs.declared.descriptor.message.MessageDescriptor.{MessageDescriptor}
 
 -- The rows of the message type's fields and extensions.
-abbrev pub fields_of : MessageDescriptor → List FieldRow
-fields_of message = fields_at (pool_rows message.pool.inner) message.index
+abbrev pub descriptor_fields : MessageDescriptor → List FieldRow
+descriptor_fields message = fields_at (pool_rows message.pool.inner) message.index
 
 -- The place of a number, if it is no extension's.
 abbrev pub declared_place : List FieldRow → ℕ → Option ℕ

@@ -5,7 +5,7 @@ use Rattle.prost_reflect_wire.specs.Schema.{Field, Schema, known, field_of, is_s
 use Rattle.prost_reflect_wire.specs.Content.{Content, Value, MessageValue, schema_of, type_of}
 use Rattle.prost_reflect_wire.specs.Grammar.{LEVEL_LIMIT}
 use Rattle.prost_reflect_wire.specs.Typing.{kept, WellStored}
-use Rattle.prost_reflect_wire.specs.Edit.{set_at, message_of, PathTo}
+use Rattle.prost_reflect_wire.specs.Edit.{set_at, message_of_kind, PathTo}
 use Rattle.prost_reflect_wire.specs.Decoding.{Holds}
 use Rattle.prost_reflect_tables.specs.Places.{fields_at}
 use Rattle.prost_reflect_tables.specs.Rows.{FieldRow, TableRows}
@@ -22,7 +22,7 @@ own_field fields n = field_of fields n >>= λ f. if f.is_extension then None els
 
 -- The message type of a field of one message or group.
 abbrev pub message_inside : Field → Option ℕ
-message_inside f = if is_singular f.form then message_of f.value_type.kind else None
+message_inside f = if is_singular f.form then message_of_kind f.value_type.kind else None
 
 -- The field that a path leads to: the last number's, in the message type of the fields before it.
 abbrev pub field_at : Schema → ℕ → List ℕ → Option Field

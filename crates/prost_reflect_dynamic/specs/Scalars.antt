@@ -20,7 +20,7 @@ use Rattle.prost_reflect_tables.specs.Shown.{schema_kind, own_type}
 pub use Rattle.prost_reflect_tables.specs.WrittenDefaults.{plain_kind}
 use Rattle.prost_reflect_pool.specs.SharedPools.{pool_rows}
 use Rattle.prost_reflect_fields.specs.Known.{known_of}
-use Rattle.prost_reflect_pool.specs.Enums.{numbers_of}
+use Rattle.prost_reflect_pool.specs.Enums.{numbers_or_none}
 use Rattle.prost_reflect_pool.specs.declared.pooled_type.PooledType.{PooledType}
 use Rattle.prost_reflect_dynamic.specs.declared.value.Value.{Value}
 use Rattle.prost_reflect_dynamic.specs.declared.value.scalar.ScalarRef.{ScalarRef}
@@ -102,7 +102,7 @@ pub record PlainField (d : PooledType) (n : ℕ) (kind : TableKind) : Type 0 whe
 
 -- A number that its closed enum does not declare.
 abbrev pub is_stray_number : List EnumRow → TableKind → content.Value → Bool
-is_stray_number enums (Enum E) (ScalarValue (scalars.EnumNumber z)) = not (is_declared (numbers_of (slice_get enums E)) z)
+is_stray_number enums (Enum E) (ScalarValue (scalars.EnumNumber z)) = not (is_declared (numbers_or_none (slice_get enums E)) z)
 is_stray_number enums kind v = false
 
 -- Behind a key, the payload of a record that gives its field no value, and stays unknown as it is.

@@ -3,7 +3,7 @@ use Rattle.std.specs.Prelude.{◌≡◌, ℕ, ◌++◌, List, [], ◌∷◌, map
 use Rattle.std.specs.Vec.Iter.{into_iter_items}
 use Rattle.prost_reflect_wire.specs.Record.{Record, record_at}
 use Rattle.prost_reflect_wire.specs.Content.{Entries, NoEntries, Stored, Unknown, entries_of}
-use Rattle.prost_reflect_wire.specs.Unknown.{record_of, fields_of}
+use Rattle.prost_reflect_wire.specs.Unknown.{unknown_record, unknown_fields_of}
 use Rattle.prost_reflect_wire.specs.declared.unknown.UnknownField.{UnknownField}
 use Rattle.prost_reflect_wire.specs.declared.unknown.UnknownFieldSet.{UnknownFieldSet}
 use Rattle.prost_reflect_fields.specs.FieldSlots.{unknown_in}
@@ -19,7 +19,7 @@ use Rattle.prost_reflect_dynamic.specs.declared.value.Value.{Value}
 
 abbrev pub fields_or_none : Option UnknownFieldSet → List UnknownField
 fields_or_none None = []
-fields_or_none (Some u) = fields_of u
+fields_or_none (Some u) = unknown_fields_of u
 
 -- The unknown fields of these slots: at each number those that stand alone, or beside a value.
 abbrev pub all_unknown : List (ℕ × FieldSlot Value) → List UnknownField
@@ -31,7 +31,7 @@ unknown_left it = it.fields.now ++ all_unknown (items_left it.slots)
 
 -- Those that an iterator over taken ones has left.
 abbrev pub taken_left : TakenUnknownFields → List UnknownField
-taken_left it = into_iter_items it.fields ++ flat_map fields_of (into_iter_items it.sets)
+taken_left it = into_iter_items it.fields ++ flat_map unknown_fields_of (into_iter_items it.sets)
 
 -- The unknown records of a content, in ascending number.
 abbrev pub unknown_records : Entries → List Record
@@ -47,4 +47,4 @@ without_unknown (Unknown n p es) = without_unknown es
 
 -- The unknown fields of a message are the unknown records of its content.
 abbrev pub UnknownListed : Type 0
-UnknownListed = (m : DynamicMessage) → IsAscending (stored_in m) → IsSound (message_type_of m) (stored_in m) → map record_of (all_unknown (stored_in m)) ≡ unknown_records (entries_of (content_of m))
+UnknownListed = (m : DynamicMessage) → IsAscending (stored_in m) → IsSound (message_type_of m) (stored_in m) → map unknown_record (all_unknown (stored_in m)) ≡ unknown_records (entries_of (content_of m))

@@ -3,7 +3,7 @@
 ghost use Rattle.std.specs.Prelude.{◌≡◌, ◌↔◌, true, [], IsTrue, Some, OnOk, OnErr, IfOk, option_map, unwrap_or};
 ghost use Rattle.std.specs.Borrow.{LendsIfOk, sem};
 ghost use Rattle.std.specs.Option.{option_copied};
-ghost use Rattle.prost_reflect_wire.specs.Unknown.{record_of, records_of};
+ghost use Rattle.prost_reflect_wire.specs.Unknown.{unknown_record, records_of};
 ghost use Rattle.prost_reflect_wire.specs.Content.{empty, entries_of, value_at};
 ghost use Rattle.prost_reflect_wire.specs.Edit.{cleared};
 ghost use Rattle.prost_reflect_dynamic.specs.contracts.message.DynamicMessage.{the_row};
@@ -182,10 +182,10 @@ impl DynamicMessage {
     /// Adds an unknown field behind those of its number, which is that of no field, or of one that takes no value from it,
     /// since a closed enum does not declare its number. If out of memory, no value and no unknown field changes.
     pub(crate) fn add_unknown(&mut self, number: u32, field: UnknownField) -> Result<(), AllocError>
-        requires own { (record_of field).number ≡ number }
-        requires kept { keeps_unknown (known_of (message_type_of self.old)) number (record_of field).payload ≡ true }
+        requires own { (unknown_record field).number ≡ number }
+        requires kept { keeps_unknown (known_of (message_type_of self.old)) number (unknown_record field).payload ≡ true }
         ensures message_type { message_type_of self.new ≡ message_type_of self.old }
-        ensures content { OnOk result (content_of self.new ≡ unknown_added (record_of field) (content_of self.old)) }
+        ensures content { OnOk result (content_of self.new ≡ unknown_added (unknown_record field) (content_of self.old)) }
         ensures typed { OnOk result (StaysTyped self.old self.new) }
         ensures err { OnErr result (content_of self.new ≡ content_of self.old) }
     {

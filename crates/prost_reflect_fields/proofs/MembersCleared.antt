@@ -1,7 +1,7 @@
 -- Clearing the members of a oneof one after another.
 use Rattle.std.proofs.Common.{◌≡◌, ℕ, zero, suc, ◌+◌, ◌<◌, length, drop, drop-cons, get_or, arith, Bool, true, false, not, ◌&&◌, ◌||◌, nat_eq, List, [], ◌∷◌, ◌++◌, map, Option, Some, None, refl, ap, sym, ◌∙◌, true≢false}
 use Rattle.std.specs.Prelude.{slice_get, option_map, option_to_list}
-use Rattle.std.proofs.lemmas.Bool.{ne_eqb, eqb-true, eqb-false, and_parts}
+use Rattle.std.proofs.lemmas.Bool.{ne_eqb, eqb-true, eqb-false, and_parts, or_left, or_right}
 use Rattle.std.proofs.lemmas.Option.{slice_get-map, same_Some}
 use Rattle.std.specs.List.{list_any}
 use Rattle.std.specs.Option.{option_and_then}
@@ -92,14 +92,6 @@ pub no_row_and_rest : (table : List FieldTable) (places : List ℕ) (i : ℕ) �
 no_row_and_rest table places i l at =
     let step : suc i ≡ i + 1 = omega arith in
     ap (rows_at table) (drop-cons places i 0 l) ∙ (ap (λ (o : Option FieldTable). option_to_list o ++ rows_at table (drop (suc i) places)) at ∙ ap (λ (j : ℕ). rows_at table (drop j places)) step)
-
-or_left : (a b : Bool) → a ≡ true → (a || b) ≡ true
-or_left true b h = refl
-or_left false b h = absurd (true≢false (sym h))
-
-or_right : (a b : Bool) → b ≡ true → (a || b) ≡ true
-or_right true b h = refl
-or_right false b h = h
 
 any_at : {X : Type 0} (p : X → Bool) (xs : List X) (i : ℕ) (x : X) → slice_get xs i ≡ Some x → p x ≡ true → list_any p xs ≡ true
 any_at p [] i x at h = absurd cc

@@ -1,6 +1,6 @@
 -- Numbers added to a set with the members of their oneofs.
 use Rattle.std.proofs.Common.{◌≡◌, ℕ, Bool, true, false, cond, not, ◌&&◌, ◌||◌, nat_eq, List, [], ◌∷◌, map, Option, Some, None, refl, ap, sym, subst, ◌∙◌, true≢false}
-use Rattle.std.proofs.lemmas.Bool.{eqb-true, eq-eqb, ne_eqb, and_parts}
+use Rattle.std.proofs.lemmas.Bool.{eqb-true, eq-eqb, ne_eqb, and_parts, or_left, or_right}
 use Rattle.std.specs.List.{list_any}
 use Rattle.std.specs.Option.{option_and_then}
 use Rattle.std.specs.Ordering.{nat_cmp, is_eq}
@@ -72,14 +72,6 @@ own_siblings fields n k h = cases (field_of fields n) h
     cases : (o : Option Field) → passes o (λ f. is_sibling fields f k) ≡ true → in_oneof fields (option_and_then (λ f. f.oneof) o) k ≡ true
     cases None h = absurd (true≢false (sym h))
     cases (Some g) h = (and_parts (not (nat_eq k g.number)) (in_oneof fields g.oneof k) h).1
-
-or_left : (a b : Bool) → a ≡ true → (a || b) ≡ true
-or_left true b h = refl
-or_left false b h = absurd (true≢false (sym h))
-
-or_right : (a b : Bool) → b ≡ true → (a || b) ≡ true
-or_right true b h = refl
-or_right false b h = h
 
 or_either : {P : Type 0} (a b : Bool) → (a || b) ≡ true → (a ≡ true → P) → (b ≡ true → P) → P
 or_either true b h f g = f refl

@@ -3,7 +3,7 @@
 ghost use Rattle.std.specs.Prelude.{◌≡◌, [], true, OnOk, OnErr, IfOk, Some};
 ghost use Rattle.std.specs.Borrow.{Lends, LendsIf, LendsIfOk, sem};
 ghost use Rattle.std.specs.Option.{option_copied, option_copied_mut};
-ghost use Rattle.prost_reflect_wire.specs.Unknown.{record_of};
+ghost use Rattle.prost_reflect_wire.specs.Unknown.{unknown_record};
 ghost use Rattle.prost_reflect_fields.specs.contracts.field_set.FieldSet.{the_row};
 ghost use Rattle.prost_reflect_fields.specs.Items.{IsAscending};
 ghost use Rattle.prost_reflect_fields.specs.Known.{known_of, is_known, is_listed, keeps_unknown};
@@ -216,10 +216,10 @@ impl<V: Drop> FieldSet<V> {
     /// its closed enum does not declare the number that the unknown field holds. If out of memory, no value and no unknown field
     /// changes.
     pub fn add_unknown(&mut self, number: u32, field: UnknownField) -> Result<(), AllocError>
-        requires own { (record_of field).number ≡ number }
-        requires kept { keeps_unknown (known_of self.old.0) number (record_of field).payload ≡ true }
+        requires own { (unknown_record field).number ≡ number }
+        requires kept { keeps_unknown (known_of self.old.0) number (unknown_record field).payload ≡ true }
         ensures message_type { self.new.0 ≡ self.old.0 }
-        ensures ok { OnOk result (UnknownAdded self.old.1 self.new.1 (record_of field)) }
+        ensures ok { OnOk result (UnknownAdded self.old.1 self.new.1 (unknown_record field)) }
         ensures err { OnErr result (SameStored self.old.1 self.new.1) }
         ensures ascending { IsAscending self.old.1 }
     {

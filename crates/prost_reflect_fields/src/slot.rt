@@ -3,7 +3,7 @@
 ghost use Rattle.std.specs.Prelude.{◌≡◌, OnOk, OnErr};
 ghost use Rattle.std.specs.Borrow.{LendsIf, sem};
 ghost use Rattle.std.specs.Option.{option_copied, option_copied_mut};
-ghost use Rattle.prost_reflect_wire.specs.Unknown.{record_of};
+ghost use Rattle.prost_reflect_wire.specs.Unknown.{unknown_record};
 ghost use Rattle.prost_reflect_fields.specs.contracts.slot.FieldSlot.{the_row};
 ghost use Rattle.prost_reflect_fields.specs.FieldSlots.{value_in, unknown_in, with_value_in, revalued, value_beside, without_value_beside, AddedIn, SameIn};
 
@@ -122,7 +122,7 @@ impl<V: Drop> FieldSlot<V> {
 
     /// Adds an unknown field behind those that are there. If out of memory, nothing changes.
     pub fn add_unknown(&mut self, alloc: Global, field: UnknownField) -> Result<(), AllocError>
-        ensures ok { OnOk result (AddedIn self.old self.new (record_of field)) }
+        ensures ok { OnOk result (AddedIn self.old self.new (unknown_record field)) }
         ensures err { OnErr result (SameIn self.old self.new) }
     {
         match self {

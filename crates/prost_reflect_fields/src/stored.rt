@@ -3,7 +3,7 @@
 ghost use Rattle.std.specs.Prelude.{◌≡◌, ◌∷◌, [], Some, OnOk, OnErr, IfOk, IfSome, true};
 ghost use Rattle.std.specs.Borrow.{LendsSo, sem};
 ghost use Rattle.std.specs.Option.{option_copied, option_copied_mut};
-ghost use Rattle.prost_reflect_wire.specs.Unknown.{record_of};
+ghost use Rattle.prost_reflect_wire.specs.Unknown.{unknown_record};
 ghost use Rattle.prost_reflect_wire.specs.Schema.{same_oneof};
 ghost use Rattle.prost_reflect_fields.specs.Items.{IsAscending};
 ghost use Rattle.prost_reflect_fields.specs.Known.{known_of, oneof_of, are_siblings, is_other_member};
@@ -96,8 +96,8 @@ pub fn add_unknown<V: Drop, S: NumberMap<FieldSlot<V>>>(
     number: u32,
     field: UnknownField,
 ) -> Result<(), AllocError>
-    requires { (record_of field).number ≡ number }
-    ensures ok { OnOk result (UnknownAdded (S.entries fields.old) (S.entries fields.new) (record_of field)) }
+    requires { (unknown_record field).number ≡ number }
+    ensures ok { OnOk result (UnknownAdded (S.entries fields.old) (S.entries fields.new) (unknown_record field)) }
     ensures err { OnErr result (SameStored (S.entries fields.old) (S.entries fields.new)) }
     ensures ascending { IsAscending (S.entries fields.old) }
 {

@@ -8,7 +8,7 @@ use Rattle.prost_reflect_wire.specs.Scalar.{Scalar, elem, scalar_lt, scalar_eq}
 use Rattle.prost_reflect_wire.specs.Schema.{Kind, ScalarOf, MessageOf, GroupOf, ValueType, FieldForm, Singular, Repeated, MapFrom, Field, Schema, known, field_of}
 use Rattle.prost_reflect_wire.specs.Content.{Entries, Value, ScalarValue, Values, NoValues, Item, Pairs, NoPairs, Pair, values_from, Slot, then_unknowns, then_value, table, comes_before, key_before, ordered, entries_ordered, value_ordered, values_ordered, pairs_ordered}
 use Rattle.prost_reflect_wire.specs.Grammar.{last, payloads, records_in, value_records}
-use Rattle.prost_reflect_wire.specs.Meaning.{numbers_of, survive, MeansInside, present, present_list, present_map, one_value, element, scalar_values, put, put_entry, put_entries, entry_key, entry_value, field_value, meaning_at, meaning_by, empty_inside, meaning}
+use Rattle.prost_reflect_wire.specs.Meaning.{record_numbers, survive, MeansInside, present, present_list, present_map, one_value, element, scalar_values, put, put_entry, put_entries, entry_key, entry_value, field_value, meaning_at, meaning_by, empty_inside, meaning}
 use Rattle.prost_reflect_wire.proofs.Numbers.{Ascending, numbers_ascending}
 use Rattle.prost_reflect_wire.specs.Deciding.{scalar_decides}
 use Rattle.prost_reflect_laws.proofs.Putting.{otherwise, before_put}
@@ -118,7 +118,7 @@ table_ordered at low (n ∷ ns) (l, a) h =
     go (Some w) v b o = and_from _ _ (and_from _ _ b v) o
 
 ordered_by : (inner : MeansInside) (schema : Schema) (T : ℕ) (rs : List Record) → AllOrdered inner → ordered (meaning_by inner schema T rs) ≡ true
-ordered_by inner schema T rs a = table_ordered (meaning_at inner (known schema T) rs) 0 (numbers_of rs) (numbers_ascending rs) (λ n. go (field_of (known schema T) n))
+ordered_by inner schema T rs a = table_ordered (meaning_at inner (known schema T) rs) 0 (record_numbers rs) (numbers_ascending rs) (λ n. go (field_of (known schema T) n))
   where
     go : (o : Option Field) → OrderedOption (o >>= λ f. field_value inner f.form f.value_type (payloads (survive (known schema T) f (flat_map (value_records (known schema T)) rs))))
     go None = tt

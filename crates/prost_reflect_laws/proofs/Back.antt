@@ -7,7 +7,7 @@ use Rattle.prost_reflect_wire.specs.Record.{Record, Payload}
 use Rattle.prost_reflect_wire.specs.Schema.{Field, Schema, known, field_of, is_sibling}
 use Rattle.prost_reflect_wire.specs.Content.{ContentOf, Entries, NoEntries, Stored, Unknown, Value, value_at, unknowns_at, slot_at, numbers_in, comes_before, entries_ordered, value_ordered}
 use Rattle.prost_reflect_wire.specs.Grammar.{has_number, value_records, unknown_payloads}
-use Rattle.prost_reflect_wire.specs.Meaning.{meaning, steps, numbers_of, MeansInside, JoinsInside, field_value, unknowns_meaning, meaning_at, meaning_by, value_joined, value_steps}
+use Rattle.prost_reflect_wire.specs.Meaning.{meaning, steps, record_numbers, MeansInside, JoinsInside, field_value, unknowns_meaning, meaning_at, meaning_by, value_joined, value_steps}
 use Rattle.prost_reflect_wire.specs.Writing.{records, record_at, entries_records, field_payloads}
 use Rattle.prost_reflect_wire.specs.Typing.{has_value_of}
 use Rattle.prost_reflect_laws.specs.Laws.{block, ValueBack, EntriesBack}
@@ -132,7 +132,7 @@ no_field inner fields n (Unknown m p es) (back, h) e = no_field inner fields n e
 pub entries_back : (inner : MeansInside) (further : JoinsInside) (schema : Schema) (T : ℕ) (es : Entries) → Joins inner further → EntriesBack inner (known schema T) es → entries_ordered es ≡ true →
     meaning_by inner schema T (entries_records (known schema T) es) ≡ ContentOf schema T es
 entries_back inner further schema T es j h order = ap (ContentOf schema T)
-    (table_covers (meaning_at inner fields rs) (length (numbers_of rs) + length (numbers_in es)) 0 (numbers_of rs) (numbers_in es) (omega arith) (numbers_ascending rs) (entries_ascending es)
+    (table_covers (meaning_at inner fields rs) (length (record_numbers rs) + length (numbers_in es)) 0 (record_numbers rs) (numbers_in es) (omega arith) (numbers_ascending rs) (entries_ascending es)
     (meaning_covers inner fields rs) (λ k l out. same k ∙ slot_outside es k out)
     ∙ table_same (meaning_at inner fields rs) (slot_at es) (numbers_in es) same ∙ rebuilt es order)
   where

@@ -7,10 +7,10 @@ use Rattle.prost_reflect_wire.specs.Record.{Payload, Record, items, body_of, val
 use Rattle.prost_reflect_wire.specs.Schema.{Kind, ScalarOf, MessageOf, GroupOf, Singular, Field, Schema, known, field_of, schema_valid}
 use Rattle.prost_reflect_wire.specs.Content.{Content, ContentOf, Entries, Value, MessageValue, Slot, value_at, table, schema_of, type_of, empty}
 use Rattle.prost_reflect_wire.specs.Grammar.{AllowsInside, payloads, value_records, record_allowed, nothing_inside, allows, Accepts}
-use Rattle.prost_reflect_wire.specs.Meaning.{MeansInside, joined, message_value, one_value, numbers_of, survive, field_value, meaning_at, meaning_by, empty_inside, meaning, decoded}
+use Rattle.prost_reflect_wire.specs.Meaning.{MeansInside, joined, message_value, one_value, record_numbers, survive, field_value, meaning_at, meaning_by, empty_inside, meaning, decoded}
 use Rattle.prost_reflect_wire.specs.Writing.{records, entries_records, encoded}
 use Rattle.prost_reflect_wire.specs.Typing.{is_of_type, kept, kept_value, kept_inside, ValueStored}
-use Rattle.prost_reflect_wire.specs.Edit.{with_field_value, set_field, default_of, default_value, value_or_default, in_message, set_at, message_of, PathTo, holds_message, edited}
+use Rattle.prost_reflect_wire.specs.Edit.{with_field_value, set_field, default_of, default_value, value_or_default, in_message, set_at, message_of_kind, PathTo, holds_message, edited}
 use Rattle.prost_reflect_wire.specs.Reduction.{TypePairs, holds}
 use Rattle.prost_reflect_wire.proofs.Numbers.{Ascending, Covers, numbers_ascending, slot_table}
 use Rattle.prost_reflect_wire.proofs.Survivors.{field_number}
@@ -49,7 +49,7 @@ pub record Edited (a : AllowsInside) (j : MeansInside) (B : ℕ) (c d : Content)
 set_edited : (pairs : TypePairs) (k : ℕ) (i : MeansInside) (a : AllowsInside) (j : MeansInside) (older newer : Schema) (A B : ℕ) (rs : List Record) (n : ℕ) (f g : Field) (o p : Option Value) → Step pairs k i a j older newer A B rs →
     field_of (known older A) n ≡ Some f → Like pairs (known older A) (known newer B) f g → FieldAgain k a j g.form g.value_type (stored_payloads (Some f) o) p →
     Edited (λ B rs. list_all (record_allowed k a (known newer B)) rs) (meaning_by j newer) B
-    (ContentOf older A (with_field_value (known older A) f o (table (meaning_at i (known older A) rs) (numbers_of rs)))) (ContentOf newer B (with_field_value (known newer B) g p (table (meaning_at j (known newer B) rs) (numbers_of rs))))
+    (ContentOf older A (with_field_value (known older A) f o (table (meaning_at i (known older A) rs) (record_numbers rs)))) (ContentOf newer B (with_field_value (known newer B) g p (table (meaning_at j (known newer B) rs) (record_numbers rs))))
 set_edited pairs k i a j older newer A B rs n f g o p s found l again =
     subst (λ es. Edited (λ B rs. list_all (record_allowed k a (known newer B)) rs) (meaning_by j newer) B (ContentOf older A es) (ContentOf newer B (with_field_value (known newer B) g p (table by ns)))) (sym wholeA)
     (subst (λ es. Edited (λ B rs. list_all (record_allowed k a (known newer B)) rs) (meaning_by j newer) B (ContentOf older A (table (set_slot (known older A) f o at) (set_numbers f at ns))) (ContentOf newer B es)) (sym wholeB) (record {
@@ -66,28 +66,28 @@ set_edited pairs k i a j older newer A B rs n f g o p s found l again =
     by = meaning_at j (known newer B) rs
 
     ns : List ℕ
-    ns = numbers_of rs
+    ns = record_numbers rs
 
-    asc : Ascending 0 (numbers_of rs)
+    asc : Ascending 0 (record_numbers rs)
     asc = numbers_ascending rs
 
-    coversA : Covers (meaning_at i (known older A) rs) 0 (numbers_of rs)
+    coversA : Covers (meaning_at i (known older A) rs) 0 (record_numbers rs)
     coversA = meaning_covers i (known older A) rs
 
-    coversB : Covers (meaning_at j (known newer B) rs) 0 (numbers_of rs)
+    coversB : Covers (meaning_at j (known newer B) rs) 0 (record_numbers rs)
     coversB = meaning_covers j (known newer B) rs
 
-    wholeA : with_field_value (known older A) f o (table (meaning_at i (known older A) rs) (numbers_of rs)) ≡ table (set_slot (known older A) f o (meaning_at i (known older A) rs)) (set_numbers f (meaning_at i (known older A) rs) (numbers_of rs))
+    wholeA : with_field_value (known older A) f o (table (meaning_at i (known older A) rs) (record_numbers rs)) ≡ table (set_slot (known older A) f o (meaning_at i (known older A) rs)) (set_numbers f (meaning_at i (known older A) rs) (record_numbers rs))
     wholeA = set_table (known older A) f o at ns asc coversA
 
-    wholeB : with_field_value (known newer B) g p (table (meaning_at j (known newer B) rs) (numbers_of rs)) ≡ table (set_slot (known newer B) g p (meaning_at j (known newer B) rs)) (set_numbers g (meaning_at j (known newer B) rs) (numbers_of rs))
+    wholeB : with_field_value (known newer B) g p (table (meaning_at j (known newer B) rs) (record_numbers rs)) ≡ table (set_slot (known newer B) g p (meaning_at j (known newer B) rs)) (set_numbers g (meaning_at j (known newer B) rs) (record_numbers rs))
     wholeB = set_table (known newer B) g p by ns asc coversB
 
     both : BothSlots pairs k a j (known older A) (known newer B) (set_slot (known older A) f o (meaning_at i (known older A) rs)) (set_slot (known newer B) g p (meaning_at j (known newer B) rs))
     both = set_both pairs k a j (known older A) (known newer B) at by n f g o p (meaning_slots pairs k i a j older newer A B rs s) s.differ found l again
 
-    written : valid (body_of (entries_records (known older A) (table (set_slot (known older A) f o (meaning_at i (known older A) rs)) (set_numbers f (meaning_at i (known older A) rs) (numbers_of rs))))) ≡ true →
-        Numbered (known older A) (set_slot (known older A) f o (meaning_at i (known older A) rs)) (entries_records (known older A) (table (set_slot (known older A) f o (meaning_at i (known older A) rs)) (set_numbers f (meaning_at i (known older A) rs) (numbers_of rs))))
+    written : valid (body_of (entries_records (known older A) (table (set_slot (known older A) f o (meaning_at i (known older A) rs)) (set_numbers f (meaning_at i (known older A) rs) (record_numbers rs))))) ≡ true →
+        Numbered (known older A) (set_slot (known older A) f o (meaning_at i (known older A) rs)) (entries_records (known older A) (table (set_slot (known older A) f o (meaning_at i (known older A) rs)) (set_numbers f (meaning_at i (known older A) rs) (record_numbers rs))))
     written ok = table_numbered (known older A) (set_slot (known older A) f o at) (set_numbers f at ns) (set_ascending f at ns) (set_covers (known older A) f o at ns asc coversA) ok
 
 -- the fields of both types at a number
@@ -112,16 +112,16 @@ leaf_edited pairs k i a j older newer A B rs n f v s found stored none =
     let again : FieldAgain k a j b.field.form b.field.value_type (stored_payloads (Some f) (kept_value (Some f) (kept_inside v))) (kept_value (Some b.field) (kept_inside v)) =
     subst (λ w. FieldAgain k a j g.form g.value_type (stored_payloads (Some f) (kept_value (Some f) w)) (kept_value (Some g) w)) (sym same)
     (value_carried pairs k a j older f g v l.form l.type (checked_field older f (found_valid older (known older A) n f s.checked found)) stored.valid stored.order none) in
-    subst (λ c. Edited (λ B rs. list_all (record_allowed k a (known newer B)) rs) (meaning_by j newer) B c (set_at (n ∷ []) v (meaning_by j newer B rs))) (sym (in_found older A n (table (meaning_at i (known older A) rs) (numbers_of rs)) f (λ schema fields f es. set_field fields f v es) found))
-    (subst (λ d. Edited (λ B rs. list_all (record_allowed k a (known newer B)) rs) (meaning_by j newer) B (ContentOf older A (set_field (known older A) f v (table (meaning_at i (known older A) rs) (numbers_of rs)))) d)
-    (sym (in_found newer B n (table (meaning_at j (known newer B) rs) (numbers_of rs)) g (λ schema fields f es. set_field fields f v es) b.found))
+    subst (λ c. Edited (λ B rs. list_all (record_allowed k a (known newer B)) rs) (meaning_by j newer) B c (set_at (n ∷ []) v (meaning_by j newer B rs))) (sym (in_found older A n (table (meaning_at i (known older A) rs) (record_numbers rs)) f (λ schema fields f es. set_field fields f v es) found))
+    (subst (λ d. Edited (λ B rs. list_all (record_allowed k a (known newer B)) rs) (meaning_by j newer) B (ContentOf older A (set_field (known older A) f v (table (meaning_at i (known older A) rs) (record_numbers rs)))) d)
+    (sym (in_found newer B n (table (meaning_at j (known newer B) rs) (record_numbers rs)) g (λ schema fields f es. set_field fields f v es) b.found))
     (set_edited pairs k i a j older newer A B rs n f g (kept_value (Some f) (kept_inside v)) (kept_value (Some g) (kept_inside v)) s found l again))
 
 -- A MESSAGE
 
 -- what is lent of a field of one message
-lent_message : (inner : MeansInside) (schema : Schema) (fields : List Field) (rs : List Record) (n U : ℕ) (f : Field) → field_of fields n ≡ Some f → f.form ≡ Singular → message_of f.value_type.kind ≡ Some U → inner U [] ≡ empty schema U →
-    value_or_default schema f (table (meaning_at inner fields rs) (numbers_of rs)) ≡ MessageValue (inner U (joined (payloads (survive fields f (flat_map (value_records fields) rs)))))
+lent_message : (inner : MeansInside) (schema : Schema) (fields : List Field) (rs : List Record) (n U : ℕ) (f : Field) → field_of fields n ≡ Some f → f.form ≡ Singular → message_of_kind f.value_type.kind ≡ Some U → inner U [] ≡ empty schema U →
+    value_or_default schema f (table (meaning_at inner fields rs) (record_numbers rs)) ≡ MessageValue (inner U (joined (payloads (survive fields f (flat_map (value_records fields) rs)))))
 lent_message inner schema fields rs n U f found form e nothing =
     ap (λ (o : Option Value). elim o [ None ↦ default_value schema f.form f.value_type | Some v ↦ v ]) (stored ∙ by_form ∙ by_kind f.value_type.kind ps e)
     ∙ ap (λ c. elim (message_value inner U ps) [ None ↦ default_value schema c f.value_type | Some v ↦ v ]) form ∙ by_payloads ps
@@ -129,19 +129,19 @@ lent_message inner schema fields rs n U f found form e nothing =
     ps : List Payload
     ps = payloads (survive fields f (flat_map (value_records fields) rs))
 
-    stored : value_at f.number (table (meaning_at inner fields rs) (numbers_of rs)) ≡ surviving_value inner fields f (flat_map (value_records fields) rs)
-    stored = ap (λ (s : Slot). s.value) (slot_table (meaning_at inner fields rs) f.number (numbers_of rs) (numbers_ascending rs) (meaning_covers inner fields rs))
+    stored : value_at f.number (table (meaning_at inner fields rs) (record_numbers rs)) ≡ surviving_value inner fields f (flat_map (value_records fields) rs)
+    stored = ap (λ (s : Slot). s.value) (slot_table (meaning_at inner fields rs) f.number (record_numbers rs) (numbers_ascending rs) (meaning_covers inner fields rs))
         ∙ ap (λ o. o >>= λ f. surviving_value inner fields f (flat_map (value_records fields) rs)) (ap (field_of fields) (field_number fields n f found) ∙ found)
 
     by_form : surviving_value inner fields f (flat_map (value_records fields) rs) ≡ one_value inner f.value_type f.value_type.kind (payloads (survive fields f (flat_map (value_records fields) rs)))
     by_form = ap (λ c. field_value inner c f.value_type ps) form
 
-    by_kind : (kind : Kind) (ps : List Payload) → message_of kind ≡ Some U → one_value inner f.value_type kind ps ≡ message_value inner U ps
+    by_kind : (kind : Kind) (ps : List Payload) → message_of_kind kind ≡ Some U → one_value inner f.value_type kind ps ≡ message_value inner U ps
     by_kind (ScalarOf kind) ps e = cc
     by_kind (MessageOf V) ps e = ap (λ (o : Option ℕ). message_value inner (elim o [ None ↦ V | Some x ↦ x ]) ps) e
     by_kind (GroupOf V) ps e = ap (λ (o : Option ℕ). message_value inner (elim o [ None ↦ V | Some x ↦ x ]) ps) e
 
-    default : (kind : Kind) → message_of kind ≡ Some U → default_of schema f.value_type kind ≡ MessageValue (empty schema U)
+    default : (kind : Kind) → message_of_kind kind ≡ Some U → default_of schema f.value_type kind ≡ MessageValue (empty schema U)
     default (ScalarOf kind) e = cc
     default (MessageOf V) e = ap (λ (o : Option ℕ). MessageValue (empty schema (elim o [ None ↦ V | Some x ↦ x ]))) e
     default (GroupOf V) e = ap (λ (o : Option ℕ). MessageValue (empty schema (elim o [ None ↦ V | Some x ↦ x ]))) e
@@ -160,17 +160,17 @@ pub record EditsInside (pairs : TypePairs) (i : MeansInside) (a : AllowsInside) 
   pub kept_older : (A B : ℕ) (rs : List Record) → holds pairs A B ≡ true → valid (body_of rs) ≡ true → a B rs ≡ true → PathTo older A path v → kept (set_at path v (i A rs)) ≡ set_at path v (i A rs)
   pub kept_newer : (A B : ℕ) (rs : List Record) → holds pairs A B ≡ true → valid (body_of rs) ≡ true → a B rs ≡ true → PathTo older A path v → kept (set_at path v (j B rs)) ≡ set_at path v (j B rs)
 
-of_type : (kind : Kind) (U : ℕ) → message_of kind ≡ Some U → is_of_type kind U ≡ true
+of_type : (kind : Kind) (U : ℕ) → message_of_kind kind ≡ Some U → is_of_type kind U ≡ true
 of_type (ScalarOf kind) U e = cc
 of_type (MessageOf V) U e = eq-eqb U V (ap (λ (o : Option ℕ). elim o [ None ↦ U | Some x ↦ x ]) (sym e))
 of_type (GroupOf V) U e = eq-eqb U V (ap (λ (o : Option ℕ). elim o [ None ↦ U | Some x ↦ x ]) (sym e))
 
 -- a message set in a content
-message_set : (inner : MeansInside) (schema : Schema) (T : ℕ) (rs : List Record) (n m U : ℕ) (path : List ℕ) (v : Value) (f : Field) (ps : List Payload) → field_of (known schema T) n ≡ Some f → f.form ≡ Singular → message_of f.value_type.kind ≡ Some U → inner U [] ≡ empty schema U →
+message_set : (inner : MeansInside) (schema : Schema) (T : ℕ) (rs : List Record) (n m U : ℕ) (path : List ℕ) (v : Value) (f : Field) (ps : List Payload) → field_of (known schema T) n ≡ Some f → f.form ≡ Singular → message_of_kind f.value_type.kind ≡ Some U → inner U [] ≡ empty schema U →
     payloads (survive (known schema T) f (flat_map (value_records (known schema T)) rs)) ≡ ps → kept (set_at (m ∷ path) v (inner U (joined ps))) ≡ set_at (m ∷ path) v (inner U (joined ps)) →
-    set_at (n ∷ m ∷ path) v (meaning_by inner schema T rs) ≡ ContentOf schema T (with_field_value (known schema T) f (Some (MessageValue (set_at (m ∷ path) v (inner U (joined ps))))) (table (meaning_at inner (known schema T) rs) (numbers_of rs)))
+    set_at (n ∷ m ∷ path) v (meaning_by inner schema T rs) ≡ ContentOf schema T (with_field_value (known schema T) f (Some (MessageValue (set_at (m ∷ path) v (inner U (joined ps))))) (table (meaning_at inner (known schema T) rs) (record_numbers rs)))
 message_set inner schema T rs n m U path v f ps found form e nothing same stays =
-    let es : Entries = table (meaning_at inner (known schema T) rs) (numbers_of rs) in
+    let es : Entries = table (meaning_at inner (known schema T) rs) (record_numbers rs) in
     in_found schema T n es f (λ schema fields f es. set_field fields f (in_message (value_or_default schema f es) (set_at (m ∷ path) v)) es) found
     ∙ ap (λ w. ContentOf schema T (set_field (known schema T) f (in_message w (set_at (m ∷ path) v)) es))
     (lent_message inner schema (known schema T) rs n U f found form e nothing ∙ ap (λ ps. MessageValue (inner U (joined ps))) same)
@@ -178,12 +178,12 @@ message_set inner schema T rs n m U path v f ps found form e nothing same stays 
 
 message_edited : (pairs : TypePairs) (k : ℕ) (i : MeansInside) (a : AllowsInside) (j : MeansInside) (older newer : Schema) (A B : ℕ) (rs : List Record) (n m : ℕ) (path : List ℕ) (v : Value) (f g : Field) (U V : ℕ) → Step pairs k i a j older newer A B rs → nat_lt 0 k ≡ true →
     i U [] ≡ empty older U → j V [] ≡ empty newer V → EditsInside pairs i a j older (m ∷ path) v → field_of (known older A) n ≡ Some f → field_of (known newer B) n ≡ Some g → Like pairs (known older A) (known newer B) f g → f.form ≡ Singular → g.form ≡ Singular →
-    message_of f.value_type.kind ≡ Some U → message_of g.value_type.kind ≡ Some V → holds pairs U V ≡ true → PathTo older U (m ∷ path) v →
+    message_of_kind f.value_type.kind ≡ Some U → message_of_kind g.value_type.kind ≡ Some V → holds pairs U V ≡ true → PathTo older U (m ∷ path) v →
     Edited (λ B rs. list_all (record_allowed k a (known newer B)) rs) (meaning_by j newer) B (set_at (n ∷ m ∷ path) v (meaning_by i older A rs)) (set_at (n ∷ m ∷ path) v (meaning_by j newer B rs))
 message_edited pairs k i a j older newer A B rs n m path v f g U V s level nothingA nothingB inside found foundB l form formB e e' h to =
     subst (λ c. Edited (λ B rs. list_all (record_allowed k a (known newer B)) rs) (meaning_by j newer) B c (set_at (n ∷ m ∷ path) v (meaning_by j newer B rs)))
     (sym (message_set i older A rs n m U path v f ps found form e nothingA same (inside.kept_older U V (joined ps) h ok fits to)))
-    (subst (λ d. Edited (λ B rs. list_all (record_allowed k a (known newer B)) rs) (meaning_by j newer) B (ContentOf older A (with_field_value (known older A) f (Some (MessageValue older_message)) (table (meaning_at i (known older A) rs) (numbers_of rs)))) d)
+    (subst (λ d. Edited (λ B rs. list_all (record_allowed k a (known newer B)) rs) (meaning_by j newer) B (ContentOf older A (with_field_value (known older A) f (Some (MessageValue older_message)) (table (meaning_at i (known older A) rs) (record_numbers rs)))) d)
     (sym (message_set j newer B rs n m V path v g ps foundB formB e' nothingB refl (inside.kept_newer U V (joined ps) h ok fits to)))
     (set_edited pairs k i a j older newer A B rs n f g (Some (MessageValue older_message)) (Some (MessageValue newer_message)) s found l again))
   where
@@ -219,7 +219,7 @@ message_edited pairs k i a j older newer A B rs n m path v f g U V s level nothi
 
 path_edited : (pairs : TypePairs) (k : ℕ) (i : MeansInside) (a : AllowsInside) (j : MeansInside) (older newer : Schema) (A B : ℕ) (rs : List Record) (n m : ℕ) (path : List ℕ) (v : Value) (f : Field) (U : ℕ) → Step pairs k i a j older newer A B rs → nat_lt 0 k ≡ true →
     ((U : ℕ) → i U [] ≡ empty older U) → ((V : ℕ) → j V [] ≡ empty newer V) → EditsInside pairs i a j older (m ∷ path) v →
-    field_of (known older A) n ≡ Some f → f.form ≡ Singular → message_of f.value_type.kind ≡ Some U → PathTo older U (m ∷ path) v →
+    field_of (known older A) n ≡ Some f → f.form ≡ Singular → message_of_kind f.value_type.kind ≡ Some U → PathTo older U (m ∷ path) v →
     Edited (λ B rs. list_all (record_allowed k a (known newer B)) rs) (meaning_by j newer) B (set_at (n ∷ m ∷ path) v (meaning_by i older A rs)) (set_at (n ∷ m ∷ path) v (meaning_by j newer B rs))
 path_edited pairs k i a j older newer A B rs n m path v f U s level nothingA nothingB inside found form e to =
     let b : BothKnow pairs (known older A) (known newer B) n f = both_know pairs k i a j older newer A B rs n f s found in

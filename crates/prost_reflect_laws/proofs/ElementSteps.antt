@@ -11,7 +11,7 @@ use Rattle.prost_reflect_wire.specs.Content.{Content, ContentOf, Entries, Value,
 use Rattle.prost_reflect_wire.specs.Grammar.{body, or_none, records_in, is_stray, one_allowed, packed_allowed, field_allowed, element_payloads_in, value_payloads, stray_payloads}
 use Rattle.prost_reflect_wire.specs.Meaning.{MeansInside, element, present_list, values_in, value_joined, steps}
 use Rattle.prost_reflect_wire.specs.Typing.{kept, kept_value, kept_inside, kept_values, elements_valid, value_valid, EntryTest, value_passes, values_pass, fit_test, alone_test, kind_for, ValueTyped, ValuesTyped, WellStored, ValueStored}
-use Rattle.prost_reflect_wire.specs.Edit.{message_of}
+use Rattle.prost_reflect_wire.specs.Edit.{message_of_kind}
 use Rattle.prost_reflect_wire.specs.Levels.{greatest_level}
 use Rattle.prost_reflect_wire.specs.Storing.{with_stored}
 use Rattle.prost_reflect_wire.specs.Decoding.{ReadTo, Holds, Step}
@@ -38,7 +38,7 @@ use Rattle.prost_reflect_laws.proofs.MessageSteps.{message_kind, is_its_type, al
 pub record ManyMessages (f : Field) (U : ℕ) : Type 0 where
   pub packed : Bool
   pub form : f.form ≡ Repeated packed
-  pub names : message_of f.value_type.kind ≡ Some U
+  pub names : message_of_kind f.value_type.kind ≡ Some U
 
 -- WHAT IS THERE
 
@@ -98,17 +98,17 @@ typed_more : (schema : Schema) (kind : Option Kind) (vs : Values) (w : Value) �
 typed_more schema kind NoValues w h g = (g, tt)
 typed_more schema kind (Item v vs) w (one, more) g = (one, typed_more schema kind vs w more g)
 
-one_element : (kind : Kind) (U : ℕ) (p : Payload) → message_of kind ≡ Some U → filter (λ q. not (is_stray kind q)) (element_payloads_in kind p) ≡ p ∷ []
+one_element : (kind : Kind) (U : ℕ) (p : Payload) → message_of_kind kind ≡ Some U → filter (λ q. not (is_stray kind q)) (element_payloads_in kind p) ≡ p ∷ []
 one_element (ScalarOf kind) U p e = cc
 one_element (MessageOf V) U p e = refl
 one_element (GroupOf V) U p e = refl
 
-no_strays : (kind : Kind) (U : ℕ) (p : Payload) → message_of kind ≡ Some U → filter (is_stray kind) (element_payloads_in kind p) ≡ []
+no_strays : (kind : Kind) (U : ℕ) (p : Payload) → message_of_kind kind ≡ Some U → filter (is_stray kind) (element_payloads_in kind p) ≡ []
 no_strays (ScalarOf kind) U p e = cc
 no_strays (MessageOf V) U p e = refl
 no_strays (GroupOf V) U p e = refl
 
-message_element : (inner : MeansInside) (kind : Kind) (U : ℕ) (p : Payload) → message_of kind ≡ Some U → element inner kind p ≡ MessageValue (inner U (records_in p)) ∷ []
+message_element : (inner : MeansInside) (kind : Kind) (U : ℕ) (p : Payload) → message_of_kind kind ≡ Some U → element inner kind p ≡ MessageValue (inner U (records_in p)) ∷ []
 message_element inner (ScalarOf kind) U p e = cc
 message_element inner (MessageOf V) U p e = ap (λ (V : ℕ). MessageValue (inner V (records_in p)) ∷ []) (let names : V ≡ U = cc in names)
 message_element inner (GroupOf V) U p e = ap (λ (V : ℕ). MessageValue (inner V (records_in p)) ∷ []) (let names : V ≡ U = cc in names)

@@ -63,7 +63,6 @@ pub mod ListReads
 pub mod ListWritten
 pub mod PathLike
 pub mod Editing
-mod AsFields
 pub mod PassageLaws
 pub mod Refining
 mod WorkedReductions

@@ -13,7 +13,7 @@ use Rattle.prost_reflect_wire.specs.Content.{Content, ContentOf, Entries, Value,
 use Rattle.prost_reflect_wire.specs.Grammar.{body, or_none, records_in, is_stray, one_allowed, field_allowed, allows}
 use Rattle.prost_reflect_wire.specs.Meaning.{MeansInside, JoinsInside, content_in, one_joined, value_joined, steps}
 use Rattle.prost_reflect_wire.specs.Typing.{kept, kept_value, kept_inside, kind_takes, pairs_valid, value_valid, value_passes, fit_test, alone_test, is_of_type, kind_for, ValueTyped, WellStored, ValueStored}
-use Rattle.prost_reflect_wire.specs.Edit.{message_of}
+use Rattle.prost_reflect_wire.specs.Edit.{message_of_kind}
 use Rattle.prost_reflect_wire.specs.Levels.{greatest_level}
 use Rattle.prost_reflect_wire.specs.Storing.{with_stored}
 use Rattle.prost_reflect_wire.specs.Decoding.{ReadTo, Holds, Step}
@@ -38,7 +38,7 @@ use Rattle.prost_reflect_laws.proofs.JoinedSteps.{kept_old, value_holds}
 -- a field of one message of the type
 pub record OneMessage (f : Field) (U : ℕ) : Type 0 where
   pub form : f.form ≡ Singular
-  pub names : message_of f.value_type.kind ≡ Some U
+  pub names : message_of_kind f.value_type.kind ≡ Some U
 
 -- WHAT IS THERE
 
@@ -46,7 +46,7 @@ pub record OneMessage (f : Field) (U : ℕ) : Type 0 where
 pub record ReadInto (schema : Schema) (U n : ℕ) (es : Entries) (c : Content) : Type 0 where
   pub is : unwrap_or (value_at n es) (MessageValue (empty schema U)) ≡ MessageValue c
 
-pub message_kind : (kind : Kind) (U : ℕ) → message_of kind ≡ Some U → is_message kind ≡ true
+pub message_kind : (kind : Kind) (U : ℕ) → message_of_kind kind ≡ Some U → is_message kind ≡ true
 message_kind (ScalarOf kind) U e = cc
 message_kind (MessageOf V) U e = refl
 message_kind (GroupOf V) U e = refl
@@ -85,7 +85,7 @@ module _ (schema : Schema) (T : ℕ) (es : Entries) (sound : WellStored (Content
   valid_message : (w : Value) → value_valid f w ≡ true → value_passes fit_test w ≡ true → ValueTyped schema (kind_for (Some f) w) w → value_ordered w ≡ true → value_passes alone_test w ≡ true → Nested schema U w
   valid_message (ScalarValue v) h fits types o members = absurd (no_scalar f.value_type.kind one.names (and_parts (is_singular f.form) (kind_takes f.value_type.kind v) h).1)
     where
-      no_scalar : (kind : Kind) → message_of kind ≡ Some U → kind_takes kind v ≡ true → ⊥
+      no_scalar : (kind : Kind) → message_of_kind kind ≡ Some U → kind_takes kind v ≡ true → ⊥
       no_scalar (ScalarOf kind) e h = cc
       no_scalar (MessageOf V) e h = true≢false (sym h)
       no_scalar (GroupOf V) e h = true≢false (sym h)
@@ -116,17 +116,17 @@ module _ (schema : Schema) (T : ℕ) (es : Entries) (sound : WellStored (Content
 
 -- ONE MORE MESSAGE
 
-pub is_its_type : (kind : Kind) (U T : ℕ) → message_of kind ≡ Some U → T ≡ U → is_of_type kind T ≡ true
+pub is_its_type : (kind : Kind) (U T : ℕ) → message_of_kind kind ≡ Some U → T ≡ U → is_of_type kind T ≡ true
 is_its_type (ScalarOf kind) U T e same = cc
 is_its_type (MessageOf V) U T e same = eq-eqb T V (let names : V ≡ U = cc in same ∙ sym names)
 is_its_type (GroupOf V) U T e same = eq-eqb T V (let names : V ≡ U = cc in same ∙ sym names)
 
-message_joined : (inner : MeansInside) (join : JoinsInside) (value_type : ValueType) (kind : Kind) (U : ℕ) (old : Option Value) (p : Payload) → message_of kind ≡ Some U → one_joined inner join value_type kind old p ≡ Some (MessageValue (join (content_in inner U old) (records_in p)))
+message_joined : (inner : MeansInside) (join : JoinsInside) (value_type : ValueType) (kind : Kind) (U : ℕ) (old : Option Value) (p : Payload) → message_of_kind kind ≡ Some U → one_joined inner join value_type kind old p ≡ Some (MessageValue (join (content_in inner U old) (records_in p)))
 message_joined inner join value_type (ScalarOf kind) U old p e = cc
 message_joined inner join value_type (MessageOf V) U old p e = ap (λ (V : ℕ). Some (MessageValue (join (content_in inner V old) (records_in p)))) (let names : V ≡ U = cc in names)
 message_joined inner join value_type (GroupOf V) U old p e = ap (λ (V : ℕ). Some (MessageValue (join (content_in inner V old) (records_in p)))) (let names : V ≡ U = cc in names)
 
-no_stray : (kind : Kind) (U : ℕ) (p : Payload) → message_of kind ≡ Some U → is_stray kind p ≡ false
+no_stray : (kind : Kind) (U : ℕ) (p : Payload) → message_of_kind kind ≡ Some U → is_stray kind p ≡ false
 no_stray (ScalarOf kind) U p e = cc
 no_stray (MessageOf V) U p e = refl
 no_stray (GroupOf V) U p e = refl
@@ -203,16 +203,16 @@ pub record FoundNested (schema : Schema) (T n U : ℕ) (kind : Kind) : Type 0 wh
   pub found : field_of (known schema T) n ≡ Some field
   pub form : is_map field.form ≡ false
   pub kind_is : field.value_type.kind ≡ kind
-  pub names : message_of kind ≡ Some U
+  pub names : message_of_kind kind ≡ Some U
 
-pub takes_nested : (form : FieldForm) (kind : Kind) (U : ℕ) (w : WireType) → is_map form ≡ false → message_of kind ≡ Some U → takes form kind w ≡ one_takes kind w
+pub takes_nested : (form : FieldForm) (kind : Kind) (U : ℕ) (w : WireType) → is_map form ≡ false → message_of_kind kind ≡ Some U → takes form kind w ≡ one_takes kind w
 takes_nested Singular kind U w form e = refl
 takes_nested (Repeated packed) (ScalarOf kind) U w form e = cc
 takes_nested (Repeated packed) (MessageOf V) U w form e = or-false (one_takes (MessageOf V) w)
 takes_nested (Repeated packed) (GroupOf V) U w form e = or-false (one_takes (GroupOf V) w)
 takes_nested (MapFrom key) kind U w form e = absurd (true≢false form)
 
-pub needs_nested : (form : FieldForm) (kind : Kind) (U : ℕ) (w : WireType) → is_map form ≡ false → message_of kind ≡ Some U → needs_level form kind w ≡ one_takes kind w
+pub needs_nested : (form : FieldForm) (kind : Kind) (U : ℕ) (w : WireType) → is_map form ≡ false → message_of_kind kind ≡ Some U → needs_level form kind w ≡ one_takes kind w
 needs_nested (MapFrom key) kind U w form e = absurd (true≢false form)
 needs_nested Singular (ScalarOf kind) U w form e = cc
 needs_nested Singular (MessageOf V) U w form e = refl

@@ -17,7 +17,7 @@ use Rattle.prost_reflect_wire.specs.Content.{Content, ContentOf, Entries, Messag
 use Rattle.prost_reflect_wire.specs.Grammar.{payloads, numbered, last, fits, body, or_none, records_in, is_stray, is_stray_entry, one_allowed, has_level, allows}
 use Rattle.prost_reflect_wire.specs.Meaning.{last_or, joined, entry_value, put, pairs_in, meaning, steps}
 use Rattle.prost_reflect_wire.specs.Typing.{kept, kind_takes, WellStored}
-use Rattle.prost_reflect_wire.specs.Edit.{message_of}
+use Rattle.prost_reflect_wire.specs.Edit.{message_of_kind}
 use Rattle.prost_reflect_wire.specs.Storing.{with_stored}
 use Rattle.prost_reflect_wire.specs.Unknown.{SkipsValue}
 use Rattle.prost_reflect_wire.specs.Fault.{Stands, Here, entry_field, opens_level, needs_level, ValueFault}
@@ -160,7 +160,7 @@ module _ (schema : Schema) (key : ScalarKind) (U : ℕ) (key_type value_type : V
     key_taken = taken;
     valid = ap is_message value_is;
     fits = w.fits;
-    types = ((holds.schema, is_its_type value_type.kind U (type_of c) (ap message_of value_is) holds.type), w.types);
+    types = ((holds.schema, is_its_type value_type.kind U (type_of c) (ap message_of_kind value_is) holds.type), w.types);
     order = w.order;
     members = w.members;
   }

@@ -1,7 +1,6 @@
--- The laws of reduction, and of reduction where an extension may stand for a field.
-use Rattle.prost_reflect_laws.specs.Passage.{OlderAccepts, Passage, EditPassage, AcrossExtensions}
+-- The laws of reduction.
+use Rattle.prost_reflect_laws.specs.Passage.{OlderAccepts, Passage, EditPassage}
 use Rattle.prost_reflect_laws.proofs.Matches.{relates}
-use Rattle.prost_reflect_laws.proofs.AsFields.{relates_as}
 use Rattle.prost_reflect_laws.proofs.Older.{accepts_related}
 use Rattle.prost_reflect_laws.proofs.Passing.{passage_related}
 use Rattle.prost_reflect_laws.proofs.Editing.{edit_related}
@@ -14,10 +13,3 @@ passage older newer k A B bytes c checked small r = passage_related older newer 
 
 pub edit_passage : EditPassage
 edit_passage older newer k A B bytes path v again older_checked newer_checked small r = edit_related older newer k A B bytes path v again older_checked newer_checked small (relates older A newer B r)
-
-pub across_extensions : AcrossExtensions
-across_extensions = record {
-  older_accepts = λ older newer k A B bytes r. accepts_related older newer k A B bytes (relates_as older A newer B r);
-  passage = λ older newer k A B bytes c checked small r. passage_related older newer k A B bytes c checked small (relates_as older A newer B r);
-  edit_passage = λ older newer k A B bytes path v again older_checked newer_checked small r. edit_related older newer k A B bytes path v again older_checked newer_checked small (relates_as older A newer B r);
-}

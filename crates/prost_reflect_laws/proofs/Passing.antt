@@ -7,7 +7,7 @@ use Rattle.prost_reflect_wire.specs.Record.{Record, Records, Spells, items, read
 use Rattle.prost_reflect_wire.specs.Schema.{Schema, known, schema_valid}
 use Rattle.prost_reflect_wire.specs.Content.{Content}
 use Rattle.prost_reflect_wire.specs.Grammar.{AllowsInside, record_allowed, nothing_inside, allows, Accepts}
-use Rattle.prost_reflect_wire.specs.Meaning.{MeansInside, numbers_of, meaning_at, meaning_by, empty_inside, meaning, decoded}
+use Rattle.prost_reflect_wire.specs.Meaning.{MeansInside, record_numbers, meaning_at, meaning_by, empty_inside, meaning, decoded}
 use Rattle.prost_reflect_wire.specs.Writing.{records, encoded}
 use Rattle.prost_reflect_wire.specs.Reduction.{TypePairs, holds}
 use Rattle.prost_reflect_wire.proofs.Numbers.{numbers_ascending}
@@ -40,9 +40,9 @@ step_of pairs k i a j older newer A B rs checked all c h ok e = record {
 next_level : (pairs : TypePairs) (k : ℕ) (i : MeansInside) (a : AllowsInside) (j : MeansInside) (older newer : Schema) → schema_valid older ≡ true → AllMatch pairs older newer → Carries pairs k i a j →
     Carries pairs (suc k) (meaning_by i older) (λ B rs. list_all (record_allowed k a (known newer B)) rs) (meaning_by j newer)
 next_level pairs k i a j older newer checked all c = record {
-  sound = λ A B rs h ok e. both_sound pairs k a j (known older A) (known newer B) (meaning_at i (known older A) rs) (meaning_at j (known newer B) rs) (numbers_of rs) (both A B rs h ok e);
-  allowed = λ A B rs h ok e spelt. both_allowed pairs k a j (known older A) (known newer B) (meaning_at i (known older A) rs) (meaning_at j (known newer B) rs) (numbers_of rs) (both A B rs h ok e) (written A rs spelt);
-  same = λ A B rs h ok e spelt. both_read pairs k a j (known older A) newer B (meaning_at i (known older A) rs) (meaning_at j (known newer B) rs) (records (meaning_by i older A rs)) (numbers_of rs) (both A B rs h ok e) (written A rs spelt)
+  sound = λ A B rs h ok e. both_sound pairs k a j (known older A) (known newer B) (meaning_at i (known older A) rs) (meaning_at j (known newer B) rs) (record_numbers rs) (both A B rs h ok e);
+  allowed = λ A B rs h ok e spelt. both_allowed pairs k a j (known older A) (known newer B) (meaning_at i (known older A) rs) (meaning_at j (known newer B) rs) (record_numbers rs) (both A B rs h ok e) (written A rs spelt);
+  same = λ A B rs h ok e spelt. both_read pairs k a j (known older A) newer B (meaning_at i (known older A) rs) (meaning_at j (known newer B) rs) (records (meaning_by i older A rs)) (record_numbers rs) (both A B rs h ok e) (written A rs spelt)
       (numbers_ascending rs) (meaning_covers j (known newer B) rs);
   join = λ B xs ys h e. all_append (record_allowed k a (known newer B)) xs ys h e;
   nothing = λ B h. refl;
@@ -52,7 +52,7 @@ next_level pairs k i a j older newer checked all c = record {
     both A B rs h ok e = meaning_slots pairs k i a j older newer A B rs (step_of pairs k i a j older newer A B rs checked all c h ok e)
 
     written : (A : ℕ) (rs : List Record) → valid (body_of (records (meaning_by i older A rs))) ≡ true → Numbered (known older A) (meaning_at i (known older A) rs) (records (meaning_by i older A rs))
-    written A rs spelt = table_numbered (known older A) (meaning_at i (known older A) rs) (numbers_of rs) (numbers_ascending rs) (meaning_covers i (known older A) rs) spelt
+    written A rs spelt = table_numbered (known older A) (meaning_at i (known older A) rs) (record_numbers rs) (numbers_ascending rs) (meaning_covers i (known older A) rs) spelt
 
 -- below the last level nothing is allowed
 no_level : (pairs : TypePairs) (i j : MeansInside) → Carries pairs 0 i nothing_inside j

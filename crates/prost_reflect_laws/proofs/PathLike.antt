@@ -5,7 +5,7 @@ use Rattle.prost_reflect_wire.specs.Scalar.{Scalar}
 use Rattle.prost_reflect_wire.specs.Schema.{Kind, ScalarOf, MessageOf, GroupOf, ValueType, MapFrom, Field, Schema, known, field_of, is_singular, is_list}
 use Rattle.prost_reflect_wire.specs.Content.{Value, ScalarValue, MessageValue, ListValue, MapValue, Values, NoValues, Item, Pairs, NoPairs, Pair}
 use Rattle.prost_reflect_wire.specs.Typing.{kind_takes, element_valid, elements_valid, pairs_valid, value_valid, kind_for, ValueTyped, ValuesTyped, PairsTyped, ValueStored}
-use Rattle.prost_reflect_wire.specs.Edit.{message_of, PathTo, holds_message, values_hold_message, pairs_hold_message}
+use Rattle.prost_reflect_wire.specs.Edit.{message_of_kind, PathTo, holds_message, values_hold_message, pairs_hold_message}
 use Rattle.prost_reflect_wire.specs.Reduction.{TypePairs, holds, same_kind, same_form}
 use Rattle.prost_reflect_wire.proofs.Survivors.{field_number}
 use Rattle.prost_reflect_laws.proofs.FieldTypes.{singular, repeated}
@@ -86,7 +86,7 @@ stored_like pairs older newer f g v form type none s = record {
 -- PATHS
 
 -- the message type of a kind, and its like's
-pub message_like : (pairs : TypePairs) (k l : Kind) (U : ℕ) → same_kind pairs k l ≡ true → message_of k ≡ Some U → (V : ℕ) × (message_of l ≡ Some V) × (holds pairs U V ≡ true)
+pub message_like : (pairs : TypePairs) (k l : Kind) (U : ℕ) → same_kind pairs k l ≡ true → message_of_kind k ≡ Some U → (V : ℕ) × (message_of_kind l ≡ Some V) × (holds pairs U V ≡ true)
 message_like pairs (MessageOf A) (MessageOf B) U h e = (B, refl, ap (λ (o : Option ℕ). elim o [ None ↦ false | Some x ↦ holds pairs x B ]) (sym e) ∙ h)
 message_like pairs (GroupOf A) (GroupOf B) U h e = (B, refl, ap (λ (o : Option ℕ). elim o [ None ↦ false | Some x ↦ holds pairs x B ]) (sym e) ∙ h)
 message_like pairs (ScalarOf k) l U h e = cc

@@ -9,7 +9,7 @@ use Rattle.prost_reflect_wire.specs.Schema.{Kind, ScalarOf, MessageOf, GroupOf, 
 use Rattle.prost_reflect_wire.specs.Content.{Content, ContentOf, Entries, Value, ScalarValue, MessageValue, ListValue, MapValue, Slot, value_at, slot_at, insert_number, numbers_in, empty, schema_of, type_of}
 use Rattle.prost_reflect_wire.specs.Levels.{levels, value_levels}
 use Rattle.prost_reflect_wire.specs.Typing.{kind_takes, elements_valid, pairs_valid, value_valid, fit_test, alone_test, filled_test, default_test, is_of_type, kind_for, ValueTyped, kept_value, kept_inside, ValueStored, WellTyped}
-use Rattle.prost_reflect_wire.specs.Edit.{with_value, with_field_value, set_field, default_of, default_value, value_or_default, in_message, in_field, set_at, message_of, PathTo}
+use Rattle.prost_reflect_wire.specs.Edit.{with_value, with_field_value, set_field, default_of, default_value, value_or_default, in_message, in_field, set_at, message_of_kind, PathTo}
 use Rattle.prost_reflect_laws.proofs.Everywhere.{both_tests, value_both}
 use Rattle.prost_reflect_wire.proofs.Numbers.{insert_ascending, entries_ascending}
 use Rattle.prost_reflect_wire.proofs.Survivors.{field_number}
@@ -112,17 +112,17 @@ pub record FoundMessage (schema : Schema) (f : Field) (U : ℕ) (v : Value) : Ty
   pub type_same : type_of content ≡ U
   pub well : WellTyped content
 
-pub type_is : (kind : Kind) (U T : ℕ) → message_of kind ≡ Some U → is_of_type kind T ≡ true → T ≡ U
+pub type_is : (kind : Kind) (U T : ℕ) → message_of_kind kind ≡ Some U → is_of_type kind T ≡ true → T ≡ U
 type_is (ScalarOf kind) U T e h = cc
 type_is (MessageOf V) U T e h = eqb-true T V h ∙ ap (λ (o : Option ℕ). elim o [ None ↦ V | Some x ↦ x ]) e
 type_is (GroupOf V) U T e h = eqb-true T V h ∙ ap (λ (o : Option ℕ). elim o [ None ↦ V | Some x ↦ x ]) e
 
-no_scalar : (kind : Kind) (U : ℕ) (v : Scalar) → message_of kind ≡ Some U → kind_takes kind v ≡ true → ⊥
+no_scalar : (kind : Kind) (U : ℕ) (v : Scalar) → message_of_kind kind ≡ Some U → kind_takes kind v ≡ true → ⊥
 no_scalar (ScalarOf kind) U v e h = cc
 no_scalar (MessageOf V) U v e h = true≢false (sym h)
 no_scalar (GroupOf V) U v e h = true≢false (sym h)
 
-found_message : (schema : Schema) (f : Field) (k U : ℕ) (v : Value) → f.form ≡ Singular → message_of f.value_type.kind ≡ Some U → GoodValue schema (Some f) k v → FoundMessage schema f U v
+found_message : (schema : Schema) (f : Field) (k U : ℕ) (v : Value) → f.form ≡ Singular → message_of_kind f.value_type.kind ≡ Some U → GoodValue schema (Some f) k v → FoundMessage schema f U v
 found_message schema f k U (ScalarValue v) s e g = absurd (no_scalar f.value_type.kind U v e (and_parts (is_singular f.form) (kind_takes f.value_type.kind v) g.valid).1)
 found_message schema f k U (ListValue vs) s e g = absurd (true≢false (sym (and_parts (is_list f.form) (elements_valid f.value_type.kind vs) g.valid).0 ∙ ap is_list s))
 found_message schema f k U (MapValue ps) s e g = absurd (true≢false (sym g.valid ∙ ap (λ c. pairs_valid c f.value_type.kind ps) s))
@@ -133,12 +133,12 @@ found_message schema f k U (MessageValue c) s e g =
     refl_le : (n : ℕ) → n ≤ n
     refl_le n = omega arith
 
-default_message : (schema : Schema) (value_type : ValueType) (kind : Kind) (U : ℕ) → message_of kind ≡ Some U → default_of schema value_type kind ≡ MessageValue (empty schema U)
+default_message : (schema : Schema) (value_type : ValueType) (kind : Kind) (U : ℕ) → message_of_kind kind ≡ Some U → default_of schema value_type kind ≡ MessageValue (empty schema U)
 default_message schema value_type (ScalarOf kind) U e = cc
 default_message schema value_type (MessageOf V) U e = ap (λ (x : ℕ). MessageValue (empty schema x)) (ap (λ (o : Option ℕ). elim o [ None ↦ V | Some x ↦ x ]) e)
 default_message schema value_type (GroupOf V) U e = ap (λ (x : ℕ). MessageValue (empty schema x)) (ap (λ (o : Option ℕ). elim o [ None ↦ V | Some x ↦ x ]) e)
 
-value_found : (schema : Schema) (fields : List Field) (k U n : ℕ) (f : Field) (es : Entries) → numbers_differ fields ≡ true → field_of fields n ≡ Some f → f.form ≡ Singular → message_of f.value_type.kind ≡ Some U → GoodEntries schema fields k es →
+value_found : (schema : Schema) (fields : List Field) (k U n : ℕ) (f : Field) (es : Entries) → numbers_differ fields ≡ true → field_of fields n ≡ Some f → f.form ≡ Singular → message_of_kind f.value_type.kind ≡ Some U → GoodEntries schema fields k es →
     FoundMessage schema f U (value_or_default schema f es)
 value_found schema fields k U n f es d found s e g = go (value_at f.number es) refl
   where
@@ -149,7 +149,7 @@ value_found schema fields k U n f es d found s e g = go (value_at f.number es) r
         found_message schema f k U v s e (subst (λ (x : Option Field). GoodValue schema x k v) (ap (field_of fields) (field_number fields n f found) ∙ found) here)
 
 -- a message may be set where one of its type stood
-message_stored : (schema : Schema) (f : Field) (U : ℕ) (c : Content) → f.form ≡ Singular → message_of f.value_type.kind ≡ Some U → schema_of c ≡ schema → type_of c ≡ U → WellTyped c → ValueStored schema f (MessageValue c)
+message_stored : (schema : Schema) (f : Field) (U : ℕ) (c : Content) → f.form ≡ Singular → message_of_kind f.value_type.kind ≡ Some U → schema_of c ≡ schema → type_of c ≡ U → WellTyped c → ValueStored schema f (MessageValue c)
 message_stored schema f U c s e same type w = record {
   valid = valid;
   fits = w.fitting.fits;
@@ -158,7 +158,7 @@ message_stored schema f U c s e same type w = record {
   members = w.members;
 }
   where
-    kind : (kd : Kind) → message_of kd ≡ Some U → is_message kd ≡ true
+    kind : (kd : Kind) → message_of_kind kd ≡ Some U → is_message kd ≡ true
     kind (ScalarOf x) e = cc
     kind (MessageOf V) e = refl
     kind (GroupOf V) e = refl
@@ -166,7 +166,7 @@ message_stored schema f U c s e same type w = record {
     valid : value_valid f (MessageValue c) ≡ true
     valid = and_from _ _ (ap is_singular s) (kind f.value_type.kind e)
 
-    of : (kd : Kind) → message_of kd ≡ Some U → is_of_type kd (type_of c) ≡ true
+    of : (kd : Kind) → message_of_kind kd ≡ Some U → is_of_type kd (type_of c) ≡ true
     of (ScalarOf x) e = cc
     of (MessageOf V) e = eq-eqb (type_of c) V (type ∙ sym (ap (λ (o : Option ℕ). elim o [ None ↦ V | Some x ↦ x ]) e))
     of (GroupOf V) e = eq-eqb (type_of c) V (type ∙ sym (ap (λ (o : Option ℕ). elim o [ None ↦ V | Some x ↦ x ]) e))

@@ -8,7 +8,7 @@ use Rattle.prost_reflect_wire.specs.Record.{Payload, Record, body_of, number_val
 use Rattle.prost_reflect_wire.specs.Schema.{Field, Schema, known, field_of, is_sibling}
 use Rattle.prost_reflect_wire.specs.Content.{ContentOf, Value, Slot, table}
 use Rattle.prost_reflect_wire.specs.Grammar.{AllowsInside, has_number, payloads, value_records, value_payloads, stray_payloads, unknown_payloads, field_allowed, record_allowed}
-use Rattle.prost_reflect_wire.specs.Meaning.{MeansInside, numbers_of, survive, field_value, value_meaning, unknowns_meaning, meaning_at, meaning_by}
+use Rattle.prost_reflect_wire.specs.Meaning.{MeansInside, record_numbers, survive, field_value, value_meaning, unknowns_meaning, meaning_at, meaning_by}
 use Rattle.prost_reflect_wire.specs.Writing.{record_at, entries_records}
 use Rattle.prost_reflect_wire.specs.Reduction.{TypePairs}
 use Rattle.prost_reflect_laws.specs.Laws.{block}
@@ -233,8 +233,8 @@ both_allowed pairs k a j older newer at by ns b w = table_all (record_allowed k 
 pub both_read : (pairs : TypePairs) (k : ℕ) (a : AllowsInside) (j : MeansInside) (older : List Field) (schema : Schema) (B : ℕ) (at by : ℕ → Slot) (ws : List Record) (ms : List ℕ) → BothSlots pairs k a j older (known schema B) at by → Numbered older at ws → Ascending 0 ms → Covers by 0 ms →
     meaning_by j schema B ws ≡ ContentOf schema B (table by ms)
 both_read pairs k a j older schema B at by ws ms b w asc covers = ap (ContentOf schema B)
-    (table_same (meaning_at j (known schema B) ws) by (numbers_of ws) same
-    ∙ table_covers by (length (numbers_of ws) + length ms) 0 (numbers_of ws) ms (omega arith) (numbers_ascending ws) asc (λ n l out. sym (same n) ∙ meaning_covers j (known schema B) ws n l out) covers)
+    (table_same (meaning_at j (known schema B) ws) by (record_numbers ws) same
+    ∙ table_covers by (length (record_numbers ws) + length ms) 0 (record_numbers ws) ms (omega arith) (numbers_ascending ws) asc (λ n l out. sym (same n) ∙ meaning_covers j (known schema B) ws n l out) covers)
   where
     same : (n : ℕ) → meaning_at j (known schema B) ws n ≡ by n
     same n = slots_same (meaning_at j (known schema B) ws n) (by n) (slot_value pairs k a j older (known schema B) at by ws n b w) (slot_unknowns pairs k a j older (known schema B) at by ws n b w)

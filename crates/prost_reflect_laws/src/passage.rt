@@ -1,6 +1,6 @@
 //! What is proved of reduction: each function has no body, and its contract is a law.
 
-ghost use Rattle.prost_reflect_laws.specs.Passage.{EditPassage, AcrossExtensions};
+ghost use Rattle.prost_reflect_laws.specs.Passage.{EditPassage};
 ghost use Rattle.prost_reflect_laws.specs.Reducing.{ReducedIsTest};
 ghost use Rattle.prost_reflect_laws.specs.ReducingExamples.{WorkedReductions};
 ghost use Rattle.prost_reflect_laws.specs.Examples.Passages.{Passages, EditPassages, Tested, FailedPassages, ExtensionAgainstField};
@@ -8,12 +8,6 @@ ghost use Rattle.prost_reflect_laws.specs.Examples.Passages.{Passages, EditPassa
 /// A value that is set at a path through a reduction is set there in what the newer type reads.
 pub fn edit_passage()
     ensures { EditPassage }
-{}
-
-/// What is said of passage and of edits holds also where fields of one type are extensions
-/// to the other, if it would be a reduction were they all fields.
-pub fn across_extensions()
-    ensures { AcrossExtensions }
 {}
 
 /// Whether a type is a reduction of another, as a relation and as a test.

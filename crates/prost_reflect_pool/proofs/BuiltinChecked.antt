@@ -8,7 +8,7 @@ use Rattle.prost_reflect_tables.specs.declared.error.PoolError.{PoolError}
 use Rattle.prost_reflect_tables.specs.declared.error.PoolError.TheVariants as pool_errors
 use Rattle.prost_reflect_tables.specs.Flat.{DefinitionRow, FlatMessageRow, file_scope, flattened}
 use Rattle.prost_reflect_tables.specs.Linking.{links_of}
-use Rattle.prost_reflect_tables.specs.Faults.{any_field, is_unnamed, message_unnamed, syntax_unknown, unknown_syntax, is_outside, import_outside, has_oneof_outside, number_bad, bad_number, message_range_bad, type_missing, missing_type, label_bad, bad_label, repeated_member, bad_oneof, names_of, repeats, duplicate_name, place_of, file_names, dependency_missing, missing_dependency, type_unknown, unknown_type, number_repeats, duplicate_number}
+use Rattle.prost_reflect_tables.specs.Faults.{any_field, is_unnamed, message_unnamed, syntax_unknown, unknown_syntax, is_outside, import_outside, has_oneof_outside, number_bad, bad_number, message_range_bad, type_missing, missing_type, label_bad, bad_label, repeated_member, bad_oneof, names_of, repeats, duplicate_name, name_place, file_names, dependency_missing, missing_dependency, type_unknown, unknown_type, number_repeats, duplicate_number}
 use Rattle.prost_reflect_tables.specs.OptionFaults.{option_bad, bad_options}
 use Rattle.prost_reflect_tables.specs.EntryFaults.{entry_bad, wrongly_of_entry, bad_map_entry}
 use Rattle.prost_reflect_tables.specs.DefaultFaults.{default_bad, bad_default, float_default_bad, float_default}
@@ -46,7 +46,7 @@ module _ (files : List FileDescriptorProto) (are : AreBuiltin files) where
 
   dependencies_there : missing_dependency files ≡ false
   dependencies_there =
-      let missing = list_any (λ d. is_none (place_of (file_names files) (string_bytes d))) in
+      let missing = list_any (λ d. is_none (name_place (file_names files) (string_bytes d))) in
       no_file (dependency_missing (file_names files)) (ap missing are.is_plain.no_dependencies) (ap missing are.is_kept.no_dependencies)
 
 -- MESSAGES AND FIELDS

@@ -1,8 +1,7 @@
 -- What the catalog of linked tables puts in order, by the rows of the tables.
 use Rattle.std.proofs.Common.{◌≡◌, ℕ, zero, suc, ◌+◌, ◌<◌, ◌≤◌, true, List, [], ◌∷◌, map, length, get_or, Option, Some, None, refl, sym, ap, subst, ◌∙◌, arith}
-use Rattle.std.specs.Prelude.{Bool, slice_get, unwrap_or, option_map, find}
-use Rattle.std.proofs.lemmas.Option.{slice_get-map, slice_get-get_or, slice_get_past}
-use Rattle.prost_reflect_wire.specs.Schema.{passes}
+use Rattle.std.specs.Prelude.{slice_get, unwrap_or, option_map}
+use Rattle.std.proofs.lemmas.Option.{same_Some, slice_get-map, slice_get-get_or, slice_get_past}
 use Rattle.prost_reflect_types.specs.declared.FileDescriptorProto.{FileDescriptorProto}
 use Rattle.prost_reflect_types.specs.declared.FieldDescriptorProto.{FieldDescriptorProto}
 use Rattle.prost_reflect_tables.specs.declared.catalog.Catalog.{Catalog}
@@ -19,10 +18,7 @@ use Rattle.prost_reflect_tables.specs.Orders.{text_at, number_at, by_text, by_nu
 use Rattle.prost_reflect_tables.specs.Gathered.{all_places}
 use Rattle.prost_reflect_tables.specs.Places.{fields_or_none, fields_at}
 use Rattle.prost_reflect_pool.specs.Enums.{values_or_none, values_at}
-use Rattle.prost_reflect_pool.specs.Listed.{extension_row_at}
-use Rattle.prost_reflect_pool.specs.Lookups.{full_name_or_empty, extension_name, extending_or_none, extension_where}
-use Rattle.prost_reflect_pool.specs.Pools.{pool_catalog}
-use Rattle.prost_reflect_pool.specs.declared.pool.LinkedPool.{LinkedPool}
+use Rattle.prost_reflect_pool.specs.Lookups.{full_name_or_empty, extension_name}
 use Rattle.prost_reflect_tables.proofs.CatalogLinks.{extension_there}
 use Rattle.std.specs.Prelude.{ℤ, pos}
 
@@ -154,10 +150,7 @@ same_items : {X Y : Type 0} (f g : X → Y) (xs : List X) → ((i : ℕ) (x : X)
 same_items f g [] h = refl
 same_items f g (x ∷ xs) h = rw (h 0 x refl, same_items f g xs (λ i y at. h (suc i) y at)) refl
 
-same_item : {X : Type 0} (a b : X) → Some a ≡ Some b → a ≡ b
-same_item a b e = cc
-
-linked_name : (links : Links) (d : DefinitionRow FieldDescriptorProto) → (linked_field links true d).id.full_name ≡ d.full_name
+pub linked_name : (links : Links) (d : DefinitionRow FieldDescriptorProto) → (linked_field links true d).id.full_name ≡ d.full_name
 unfolding linked_field
 linked_name links d = refl
 
@@ -169,12 +162,9 @@ extension_order files rows catalog built linked listed =
     let named : (i : ℕ) (d : DefinitionRow FieldDescriptorProto) → slice_get flat.extensions i ≡ Some d → d.full_name ≡ extension_name rows (link d) = (λ i d at.
     let stands : slice_get (catalog_row catalog).extensions i ≡ Some (link d) = ap (λ (c : CatalogRows). slice_get c.extensions i) listed ∙ (slice_get-map link flat.extensions i ∙ ap (option_map link) at) in
     let there = extension_there files rows catalog i (link d) built linked listed stands in
-    let same : there.definition ≡ d = same_item there.definition d (sym there.declared ∙ at) in
+    let same : there.definition ≡ d = same_Some there.definition d (sym there.declared ∙ at) in
     sym (ap full_name_or_empty there.at ∙ (linked_name (links_of flat) there.definition ∙ ap (λ (r : DefinitionRow FieldDescriptorProto). r.full_name) same))) in
     let names : map (λ (d : DefinitionRow FieldDescriptorProto). d.full_name) flat.extensions ≡ map (extension_name rows) (catalog_row catalog).extensions =
     same_items (λ (d : DefinitionRow FieldDescriptorProto). d.full_name) (λ (d : DefinitionRow FieldDescriptorProto). extension_name rows (link d)) flat.extensions named
     ∙ (sym (map_twice (extension_name rows) link flat.extensions) ∙ sym (ap (λ (c : CatalogRows). map (extension_name rows) c.extensions) listed)) in
     ap (λ (c : CatalogRows). c.by_name.extensions) listed ∙ ap ordered names
-
-pub first_extending : (pool : LinkedPool) (T : ℕ) (test : FieldRow → Bool) (lists : MessageListsRow) (places : List ℕ) (r : Option ℕ) → slice_get (pool_catalog pool).messages T ≡ Some lists → places ≡ lists.extending → r ≡ find (λ i. passes (extension_row_at pool i) test) places → r ≡ extension_where pool T test
-first_extending pool T test lists places r at same is = is ∙ ap (find (λ (i : ℕ). passes (extension_row_at pool i) test)) (same ∙ sym (ap extending_or_none at))

@@ -13,6 +13,9 @@ mod FileNames
 mod Searching
 mod InOrder
 mod InCatalog
+pub mod ExtensionPlaces
+mod UniqueNames
+mod ExtensionLookups
 mod OwnEncoding
 pub mod EqualDescriptors
 pub mod EqualTypes

@@ -2,7 +2,7 @@
 use Rattle.std.proofs.Common.{◌≡◌, ◌<◌, ℕ, true, List, Option, None, Some, length, map, get_or, refl, sym, ap, ◌∙◌, subst, arith, slice_get, option_map}
 use Rattle.std.specs.List.{All, list_all}
 use Rattle.std.proofs.lemmas.List.{length-map}
-use Rattle.std.proofs.lemmas.Option.{slice_get-get_or, slice_get-map, slice_get_read, get_or_from_slice_get}
+use Rattle.std.proofs.lemmas.Option.{same_Some, slice_get-get_or, slice_get-map, slice_get_read, get_or_from_slice_get}
 use Rattle.prost_reflect_tables.specs.CatalogRows.{FileRow, ExtensionRow, method_table_row, service_table_row}
 use Rattle.prost_reflect_tables.specs.Linking.{links_of, linked_field}
 use Rattle.prost_reflect_tables.specs.Flat.{flattened}
@@ -46,11 +46,8 @@ extension_of pool i x at = extension_there (files_of pool) (pool_rows pool) pool
 pub extension_marked : (pool : LinkedPool) (i : ℕ) (x : ExtensionRow) (f : FieldRow) → slice_get (pool_catalog pool).extensions i ≡ Some x → slice_get (fields_at (pool_rows pool) x.message) x.field ≡ Some f → f.is_extension ≡ true
 extension_marked pool i x f at there =
     let e = extension_of pool i x at in
-    let same : f ≡ linked_field (links_of (flattened (files_of pool))) true e.definition = same_item f (linked_field (links_of (flattened (files_of pool))) true e.definition) (sym there ∙ e.at) in
+    let same : f ≡ linked_field (links_of (flattened (files_of pool))) true e.definition = same_Some f (linked_field (links_of (flattened (files_of pool))) true e.definition) (sym there ∙ e.at) in
     ap (λ (r : FieldRow). r.is_extension) same ∙ marked_extension (links_of (flattened (files_of pool))) e.definition
-  where
-    same_item : (a b : FieldRow) → Some a ≡ Some b → a ≡ b
-    same_item a b e = cc
 
 pub methods_of : (pool : LinkedPool) (i : ℕ) (s : ServiceTable) → slice_get (pool_catalog pool).services i ≡ Some (service_table_row s) → All (λ (m : MethodTable). MethodThere (pool_rows pool) (method_table_row m)) s.methods.items
 methods_of pool i s at = of_rows (MethodThere (pool_rows pool)) method_table_row s.methods.items (methods_there (files_of pool) (pool_rows pool) pool.catalog i (service_table_row s) pool.built pool.listed at)

@@ -10,9 +10,9 @@ first_of None = pos 0
 first_of (Some e) = first_number (value_numbers e)
 
 -- The numbers that the enum takes.
-abbrev pub numbers_of : Option EnumRow → EnumNumbers
-numbers_of None = Open
-numbers_of (Some e) = enum_numbers e
+abbrev pub numbers_or_none : Option EnumRow → EnumNumbers
+numbers_or_none None = Open
+numbers_or_none (Some e) = enum_numbers e
 
 abbrev pub values_or_none : Option EnumRow → List EnumValueRow
 values_or_none None = []

@@ -4,7 +4,7 @@ use Rattle.prost_reflect_wire.specs.Varint.{AreBytes}
 use Rattle.prost_reflect_wire.specs.Content.{Content}
 use Rattle.prost_reflect_wire.specs.Grammar.{LEVEL_LIMIT, Accepts}
 use Rattle.prost_reflect_wire.specs.Fault.{StandsInMessage}
-use Rattle.prost_reflect_types.specs.DescriptorTable.{place_of, record_schema}
+use Rattle.prost_reflect_types.specs.DescriptorTable.{type_place, record_schema}
 use Rattle.prost_reflect_types.specs.DescriptorMeaning.{record_decoded}
 use Rattle.prost_reflect_types.specs.DescriptorViews.{of_file, of_files, shared_files}
 use Rattle.prost_reflect_wire.specs.declared.error.DecodeError.{DecodeError}
@@ -75,8 +75,8 @@ pub record RefusesRead (t : RecordType) (bytes : List ℕ) (files : List FileDes
 
 -- The bytes have the fault, and are no such record.
 pub record RefusesBytes (t : RecordType) (bytes : List ℕ) (e : DecodeError) : Type 0 where
-  pub stands : StandsInMessage record_schema (place_of t) LEVEL_LIMIT e bytes
-  pub unread : Accepts record_schema LEVEL_LIMIT (place_of t) bytes → ⊥
+  pub stands : StandsInMessage record_schema (type_place t) LEVEL_LIMIT e bytes
+  pub unread : Accepts record_schema LEVEL_LIMIT (type_place t) bytes → ⊥
 
 -- Why the bytes add nothing to files that are there.
 abbrev pub Refuses : RecordType → List ℕ → List FileDescriptorProto → PoolError → Type 0

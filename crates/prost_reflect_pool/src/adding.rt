@@ -15,7 +15,8 @@ ghost use Rattle.prost_reflect_pool.specs.FileNames.{names_differ};
 ghost use Rattle.prost_reflect_pool.specs.Pools.{files_of, IsPoolOf, RefusesFiles};
 
 use crate::LinkedPool;
-use prost_reflect_tables::{Catalog, PoolError, Tables, build_tables, text_or_empty};
+use crate::building::build_tables;
+use prost_reflect_tables::{Catalog, PoolError, Tables, text_or_empty};
 use prost_reflect_types::FileDescriptorProto;
 use std::alloc::{AllocError, Global};
 use std::collections::BTreeSet;

@@ -2,6 +2,7 @@
 #![tactic(auto)]
 
 mod adding;
+mod building;
 mod builtin;
 mod files;
 mod laws;
@@ -13,6 +14,7 @@ mod pool;
 mod pooled_type;
 mod records;
 
+pub use building::build_tables;
 pub use builtin::builtin_pool;
 pub use files::FileDescriptorProtos;
 pub use pool::LinkedPool;

@@ -1,20 +1,18 @@
 //! Places of definitions by their names and numbers, found by binary search in the catalog.
 
-ghost use Rattle.std.specs.Prelude.{◌≡◌, ◌<◌, ◌==◌, ℕ, Bool, All, IfSome, find, length, map};
+ghost use Rattle.std.specs.Prelude.{◌≡◌, ◌<◌, ◌==◌, ℕ, IfSome, find, length, map};
 ghost use Rattle.std.specs.Str.{bytes_eq};
 ghost use Rattle.std.specs.Ordering.{is_eq, ordering_index};
 ghost use Rattle.std.specs.declared.cmp.Ordering.{Ordering};
 ghost use Rattle.std.specs.List.Sorted.{IsNonDecreasingBy};
-ghost use Rattle.prost_reflect_wire.specs.Schema.{passes};
 ghost use Rattle.prost_reflect_tables.specs.Walks.{Computes};
 ghost use Rattle.prost_reflect_tables.specs.LinkedCatalog.{field_names, json_names, own_fields, ordered};
 ghost use Rattle.prost_reflect_tables.specs.Orders.{text_at, number_at, by_text, by_number};
 ghost use Rattle.prost_reflect_tables.specs.Gathered.{all_places};
 ghost use Rattle.prost_reflect_tables.specs.Places.{fields_at, message_place};
-ghost use Rattle.prost_reflect_tables.specs.Rows.{FieldRow, field_row, enum_value_row};
+ghost use Rattle.prost_reflect_tables.specs.Rows.{field_row, enum_value_row};
 ghost use Rattle.prost_reflect_tables.specs.Faults.{file_names};
 ghost use Rattle.prost_reflect_pool.specs.Enums.{values_at};
-ghost use Rattle.prost_reflect_pool.specs.Listed.{extension_row_at};
 ghost use Rattle.prost_reflect_pool.specs.Lookups.{enum_place, service_place, file_place, extension_name, extension_place, extension_where, named_field, json_named_field, named_value, numbered_value};
 ghost use Rattle.prost_reflect_pool.specs.Pools.{files_of, pool_rows, pool_catalog};
 
@@ -266,33 +264,18 @@ impl LinkedPool {
 
 /// Extensions of a message type.
 impl LinkedPool {
-    /// The first of the places at which an extension stands that passes the test.
-    fn first_extension<T: Fn(&FieldTable) -> bool>(
-        &self,
-        places: &[usize],
-        test: &T,
-    ) -> Option<usize>
-        requires callable { T.IsAlwaysCallable test.now }
-        requires there { All (λ i. i < length (pool_catalog self.now).extensions) places.now }
-        ensures found { (p : FieldRow → Bool) → Computes T.Fn test.now (λ f. p (field_row f)) → result ≡ find (λ i. passes (extension_row_at self.now i) p) places.now }
-        ensures there { IfSome result (λ i. i < length (pool_catalog self.now).extensions) }
-    {
-        for place in places {
-            if test(self.extension_field(*place)) {
-                return Some(*place);
-            }
-        }
-        None
-    }
-
     /// The place of the extension of a number of the message type at a place, or none where no extension of it has the number.
     pub fn extension_place_by_number(&self, message: usize, number: u32) -> Option<usize>
         requires { message < length (pool_rows self.now).messages }
         ensures found { result ≡ extension_where self.now message (λ f. f.number == number) }
         ensures there { IfSome result (λ i. i < length (pool_catalog self.now).extensions) }
     {
-        let test = |field: &FieldTable| field.number == number;
-        self.first_extension(self.message_lists(message).extending.as_slice(), &test)
+        let field = self.tables.field_table(message, number)?;
+        if field.is_extension {
+            self.extension_place_by_full_name(message, field.id.full_name.as_str())
+        } else {
+            None
+        }
     }
 
     /// The place of the extension of a full name of the message type at a place, or none where no extension of it has the name.
@@ -301,18 +284,24 @@ impl LinkedPool {
         ensures found { result ≡ extension_where self.now message (λ f. bytes_eq f.id.full_name full_name.now) }
         ensures there { IfSome result (λ i. i < length (pool_catalog self.now).extensions) }
     {
-        let test = |field: &FieldTable| field.id.full_name.as_str() == full_name;
-        self.first_extension(self.message_lists(message).extending.as_slice(), &test)
+        let place = self.extension_place(full_name)?;
+        let extension = self.extension_table(place);
+        if extension.message == message {
+            Some(place)
+        } else {
+            None
+        }
     }
 
-    /// The place of the extension of a name in JSON of the message type at a place, or none where no extension of it has the
-    /// name.
+    /// The place of the extension of a name in JSON, which is its full name in brackets, of the message type at a place, or none
+    /// where no extension of it has the name.
     pub fn extension_place_by_json_name(&self, message: usize, json_name: &str) -> Option<usize>
         requires { message < length (pool_rows self.now).messages }
         ensures found { result ≡ extension_where self.now message (λ f. bytes_eq f.json_name json_name.now) }
         ensures there { IfSome result (λ i. i < length (pool_catalog self.now).extensions) }
     {
-        let test = |field: &FieldTable| field.json_name.as_str() == json_name;
-        self.first_extension(self.message_lists(message).extending.as_slice(), &test)
+        let rest = json_name.strip_prefix("[")?;
+        let full_name = rest.strip_suffix("]")?;
+        self.extension_place_by_full_name(message, full_name)
     }
 }

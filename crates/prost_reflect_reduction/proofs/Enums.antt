@@ -11,7 +11,7 @@ use Rattle.prost_reflect_wire.specs.Reduction.{all_among, same_scalar_kind}
 use Rattle.prost_reflect_tables.specs.declared.tables.EnumValueTable.{EnumValueTable}
 use Rattle.prost_reflect_tables.specs.Rows.{EnumRow}
 use Rattle.prost_reflect_tables.specs.Shown.{enum_kind}
-use Rattle.prost_reflect_reduction.specs.Kinds.{numbers_of, HasNumbers, AreSameEnums}
+use Rattle.prost_reflect_reduction.specs.Kinds.{table_numbers, HasNumbers, AreSameEnums}
 use Rattle.prost_reflect_reduction.proofs.Walking.{same_pair}
 
 -- NUMBERS
@@ -19,7 +19,7 @@ use Rattle.prost_reflect_reduction.proofs.Walking.{same_pair}
 turned : (a b : ℤ) → int_eq a b ≡ int_eq b a
 turned a b = grind (arith, Decides-int_eq a b, Decides-int_eq b a)
 
-any_behind : (xs : List EnumValueTable) (x : EnumValueTable) (z : ℤ) → list_any (int_eq z) (numbers_of (xs ++ x ∷ [])) ≡ (list_any (int_eq z) (numbers_of xs) || int_eq z x.number)
+any_behind : (xs : List EnumValueTable) (x : EnumValueTable) (z : ℤ) → list_any (int_eq z) (table_numbers (xs ++ x ∷ [])) ≡ (list_any (int_eq z) (table_numbers xs) || int_eq z x.number)
 any_behind [] x z = or_false (int_eq z x.number)
   where
     or_false : (b : Bool) → (b || false) ≡ b
@@ -27,7 +27,7 @@ any_behind [] x z = or_false (int_eq z x.number)
     or_false false = refl
 any_behind (y ∷ xs) x z = go (int_eq z y.number) (any_behind xs x z)
   where
-    go : (b : Bool) → list_any (int_eq z) (numbers_of (xs ++ x ∷ [])) ≡ (list_any (int_eq z) (numbers_of xs) || int_eq z x.number) → (b || list_any (int_eq z) (numbers_of (xs ++ x ∷ []))) ≡ ((b || list_any (int_eq z) (numbers_of xs)) || int_eq z x.number)
+    go : (b : Bool) → list_any (int_eq z) (table_numbers (xs ++ x ∷ [])) ≡ (list_any (int_eq z) (table_numbers xs) || int_eq z x.number) → (b || list_any (int_eq z) (table_numbers (xs ++ x ∷ []))) ≡ ((b || list_any (int_eq z) (table_numbers xs)) || int_eq z x.number)
     go true e = refl
     go false e = e
 
@@ -36,11 +36,11 @@ unfolding HasNumbers
 no_numbers set h = λ z. ap (list_any _) h
 
 pub number_more : (old new : BTreeSet ℤ) (values : List EnumValueTable) (i : ℕ) (x : EnumValueTable) → i < length values → x ≡ get_or values i x → ((z : ℤ) → contains int_cmp new z ≡ cond (is_eq (int_cmp x.number z)) true (contains int_cmp old z)) →
-    HasNumbers old (numbers_of (take i values)) → HasNumbers new (numbers_of (take (i + 1) values))
+    HasNumbers old (table_numbers (take i values)) → HasNumbers new (table_numbers (take (i + 1) values))
 unfolding HasNumbers
 number_more old new values i x h e updates has = λ z.
-    updates z ∙ (ap₂ (λ b c. cond b true c) (turned x.number z) (has z) ∙ (either (int_eq z x.number) (list_any (int_eq z) (numbers_of (take i values))) ∙
-    sym (ap (λ (ys : List EnumValueTable). list_any (int_eq z) (numbers_of ys)) (take_more values i x h ∙ ap (λ (y : EnumValueTable). take i values ++ y ∷ []) (sym e)) ∙ any_behind (take i values) x z)))
+    updates z ∙ (ap₂ (λ b c. cond b true c) (turned x.number z) (has z) ∙ (either (int_eq z x.number) (list_any (int_eq z) (table_numbers (take i values))) ∙
+    sym (ap (λ (ys : List EnumValueTable). list_any (int_eq z) (table_numbers ys)) (take_more values i x h ∙ ap (λ (y : EnumValueTable). take i values ++ y ∷ []) (sym e)) ∙ any_behind (take i values) x z)))
   where
     either : (b c : Bool) → cond b true c ≡ (c || b)
     either true true = refl
@@ -48,8 +48,8 @@ number_more old new values i x h e updates has = λ z.
     either false true = refl
     either false false = refl
 
-pub all_numbers : (set : BTreeSet ℤ) (values : List EnumValueTable) (i : ℕ) → length values ≤ i → HasNumbers set (numbers_of (take i values)) → HasNumbers set (numbers_of values)
-all_numbers set values i h has = subst (λ (ys : List EnumValueTable). HasNumbers set (numbers_of ys)) (whole i values h) has
+pub all_numbers : (set : BTreeSet ℤ) (values : List EnumValueTable) (i : ℕ) → length values ≤ i → HasNumbers set (table_numbers (take i values)) → HasNumbers set (table_numbers values)
+all_numbers set values i h has = subst (λ (ys : List EnumValueTable). HasNumbers set (table_numbers ys)) (whole i values h) has
   where
     whole : (i : ℕ) (xs : List EnumValueTable) → length xs ≤ i → take i xs ≡ xs
     whole zero [] h = refl

@@ -15,7 +15,7 @@ use Rattle.prost_reflect_tables.specs.Linked.{is_linked, message_linked, field_l
 use Rattle.prost_reflect_tables.specs.Rows.{FieldRow, MessageRow, TableRows, field_row, oneof_row, message_row}
 use Rattle.prost_reflect_tables.specs.Schema.{rows_of, schema_of}
 use Rattle.prost_reflect_tables.specs.Shown.{schema_from, schema_field, schema_message}
-use Rattle.prost_reflect_reduction.specs.Merging.{fields_of, first_member, next_members, noted, AreFirst, merged, merged_behind}
+use Rattle.prost_reflect_reduction.specs.Merging.{shown_fields, first_member, next_members, noted, AreFirst, merged, merged_behind}
 use Rattle.prost_reflect_reduction.specs.Reaching.{fields_alike, has_alike, types_alike}
 use Rattle.prost_reflect_reduction.proofs.Chains.{rising}
 use Rattle.prost_reflect_reduction.proofs.Merging.{merged_is}
@@ -64,100 +64,100 @@ dropped_before xs place x low h e =
     let is : suc (place - 1) ≡ place = omega arith in
     dropped xs (place - 1) x within e ∙ ap (λ k. x ∷ drop k xs) is
 
-pub none_noted : (first : List ℕ) (n : ℕ) (tables : Tables) (xs : List FieldTable) → first ≡ replicate n 0 → AreFirst first (fields_of tables (drop (length xs) xs))
+pub none_noted : (first : List ℕ) (n : ℕ) (tables : Tables) (xs : List FieldTable) → first ≡ replicate n 0 → AreFirst first (shown_fields tables (drop (length xs) xs))
 unfolding AreFirst
 none_noted first n tables xs e = λ o l.
     let within : o < n = omega (arith, l, ap length e, length-replicate {A = ℕ} n 0) in
-    ap (λ (f : List ℕ). get_or f o 0) e ∙ (get_or-replicate {A = ℕ} n o 0 0 within ∙ sym (ap (λ (d : List FieldTable). first_member (fields_of tables d) (Some o)) (drop-length xs)))
+    ap (λ (f : List ℕ). get_or f o 0) e ∙ (get_or-replicate {A = ℕ} n o 0 0 within ∙ sym (ap (λ (d : List FieldTable). first_member (shown_fields tables d) (Some o)) (drop-length xs)))
 
-pub nothing_left : (next : List ℕ) (tables : Tables) (xs : List FieldTable) → length next ≡ length xs → drop (length xs) next ≡ next_members (fields_of tables (drop (length xs) xs))
+pub nothing_left : (next : List ℕ) (tables : Tables) (xs : List FieldTable) → length next ≡ length xs → drop (length xs) next ≡ next_members (shown_fields tables (drop (length xs) xs))
 unfolding next_members
 nothing_left next tables xs e =
     let past : length next ≤ length xs = omega (arith, e) in
-    drop_of_length-le next past ∙ sym (ap (λ (d : List FieldTable). next_members (fields_of tables d)) (drop-length xs))
+    drop_of_length-le next past ∙ sym (ap (λ (d : List FieldTable). next_members (shown_fields tables d)) (drop-length xs))
 
 pub in_range_at : (n : ℕ) (xs : List FieldTable) (i : ℕ) (x : FieldTable) → list_all (λ f. oneof_in_range n f.oneof) (map field_row xs) ≡ true → i < length xs → x ≡ get_or xs i x → oneof_in_range n x.oneof ≡ true
 in_range_at n [] i x all h e = absurd (omega arith)
 in_range_at n (y ∷ xs) zero x all h e = ap (λ (z : FieldTable). oneof_in_range n z.oneof) e ∙ (and_parts (oneof_in_range n y.oneof) (list_all (λ f. oneof_in_range n f.oneof) (map field_row xs)) all).0
 in_range_at n (y ∷ xs) (suc i) x all h e = in_range_at n xs i x (and_parts (oneof_in_range n y.oneof) (list_all (λ f. oneof_in_range n f.oneof) (map field_row xs)) all).1 (omega arith) e
 
-pub first_kept : (tables : Tables) (xs : List FieldTable) (place : ℕ) (x : FieldTable) (first new : List ℕ) → 0 < place → place ≤ length xs → x ≡ get_or xs (place - 1) x → AreFirst first (fields_of tables (drop place xs)) → new ≡ noted first x.oneof x.number → AreFirst new (fields_of tables (drop (place - 1) xs))
+pub first_kept : (tables : Tables) (xs : List FieldTable) (place : ℕ) (x : FieldTable) (first new : List ℕ) → 0 < place → place ≤ length xs → x ≡ get_or xs (place - 1) x → AreFirst first (shown_fields tables (drop place xs)) → new ≡ noted first x.oneof x.number → AreFirst new (shown_fields tables (drop (place - 1) xs))
 first_kept tables xs place x first new low h e are is =
-    subst (λ (d : List FieldTable). AreFirst new (fields_of tables d)) (sym (dropped_before xs place x low h e))
-    (subst (λ (f : List ℕ). AreFirst f (fields_of tables (x ∷ drop place xs))) (sym is) (noted_first first (schema_field (rows_of tables) (field_row x)) (fields_of tables (drop place xs)) are))
+    subst (λ (d : List FieldTable). AreFirst new (shown_fields tables d)) (sym (dropped_before xs place x low h e))
+    (subst (λ (f : List ℕ). AreFirst f (shown_fields tables (x ∷ drop place xs))) (sym is) (noted_first first (schema_field (rows_of tables) (field_row x)) (shown_fields tables (drop place xs)) are))
 
-pub next_kept : (tables : Tables) (xs : List FieldTable) (place : ℕ) (x : FieldTable) (next : List ℕ) (v : ℕ) → 0 < place → place ≤ length xs → length next ≡ length xs → x ≡ get_or xs (place - 1) x → drop place next ≡ next_members (fields_of tables (drop place xs)) → v ≡ first_member (fields_of tables (drop place xs)) x.oneof →
-    drop (place - 1) (set next (place - 1) v) ≡ next_members (fields_of tables (drop (place - 1) xs))
+pub next_kept : (tables : Tables) (xs : List FieldTable) (place : ℕ) (x : FieldTable) (next : List ℕ) (v : ℕ) → 0 < place → place ≤ length xs → length next ≡ length xs → x ≡ get_or xs (place - 1) x → drop place next ≡ next_members (shown_fields tables (drop place xs)) → v ≡ first_member (shown_fields tables (drop place xs)) x.oneof →
+    drop (place - 1) (set next (place - 1) v) ≡ next_members (shown_fields tables (drop (place - 1) xs))
 unfolding next_members
 next_kept tables xs place x next v low h len e done is =
     let within : place - 1 < length next = omega (arith, len) in
     let back : place - 1 + 1 ≡ place = omega arith in
-    drop-set next (place - 1) v within ∙ (ap₂ (λ a k. a ∷ drop k next) is back ∙ (ap (λ (l : List ℕ). first_member (fields_of tables (drop place xs)) x.oneof ∷ l) done ∙ sym (ap (λ (d : List FieldTable). next_members (fields_of tables d)) (dropped_before xs place x low h e))))
+    drop-set next (place - 1) v within ∙ (ap₂ (λ a k. a ∷ drop k next) is back ∙ (ap (λ (l : List ℕ). first_member (shown_fields tables (drop place xs)) x.oneof ∷ l) done ∙ sym (ap (λ (d : List FieldTable). next_members (shown_fields tables d)) (dropped_before xs place x low h e))))
 
 pub next_length : (fields : List Field) → length (next_members fields) ≡ length fields
 unfolding next_members
 next_length [] = refl
 next_length (f ∷ fields) = ap suc (next_length fields)
 
-pub next_below : (tables : Tables) (xs : List FieldTable) (next : List ℕ) (i : ℕ) → next ≡ next_members (fields_of tables xs) → i < length xs → i < length next
-next_below tables xs next i e h = omega (arith, h, ap length e, next_length (fields_of tables xs), length-map (map field_row xs) (schema_field (rows_of tables)), length-map xs field_row)
+pub next_below : (tables : Tables) (xs : List FieldTable) (next : List ℕ) (i : ℕ) → next ≡ next_members (shown_fields tables xs) → i < length xs → i < length next
+next_below tables xs next i e h = omega (arith, h, ap length e, next_length (shown_fields tables xs), length-map (map field_row xs) (schema_field (rows_of tables)), length-map xs field_row)
 
-next_among : (tables : Tables) (xs : List FieldTable) (i : ℕ) (x : FieldTable) → i < length xs → x ≡ get_or xs i x → get_or (next_members (fields_of tables xs)) i 0 ≡ first_member (fields_of tables (drop (suc i) xs)) x.oneof
+next_among : (tables : Tables) (xs : List FieldTable) (i : ℕ) (x : FieldTable) → i < length xs → x ≡ get_or xs i x → get_or (next_members (shown_fields tables xs)) i 0 ≡ first_member (shown_fields tables (drop (suc i) xs)) x.oneof
 unfolding next_members
 next_among tables [] i x h e = absurd (omega arith)
-next_among tables (y ∷ xs) zero x h e = ap (λ (z : FieldTable). first_member (fields_of tables xs) z.oneof) (sym e)
+next_among tables (y ∷ xs) zero x h e = ap (λ (z : FieldTable). first_member (shown_fields tables xs) z.oneof) (sym e)
 next_among tables (y ∷ xs) (suc i) x h e = next_among tables xs i x (omega arith) e
 
-pub next_at : (tables : Tables) (xs : List FieldTable) (next : List ℕ) (i : ℕ) (x : FieldTable) → next ≡ next_members (fields_of tables xs) → i < length xs → x ≡ get_or xs i x → get_or next i 0 ≡ first_member (fields_of tables (drop (suc i) xs)) x.oneof
+pub next_at : (tables : Tables) (xs : List FieldTable) (next : List ℕ) (i : ℕ) (x : FieldTable) → next ≡ next_members (shown_fields tables xs) → i < length xs → x ≡ get_or xs i x → get_or next i 0 ≡ first_member (shown_fields tables (drop (suc i) xs)) x.oneof
 next_at tables xs next i x is h e = ap (λ (l : List ℕ). get_or l i 0) is ∙ next_among tables xs i x h e
 
 -- ONE STEP OF A WALK
 
-behind_if : (A B : Tables) (xs ys : List FieldTable) (b : Bool) (place : ℕ) → merged_behind A xs B ys (cond b (Some place) None) ≡ (b && merged (fields_of A (drop place xs)) (fields_of B ys))
+behind_if : (A B : Tables) (xs ys : List FieldTable) (b : Bool) (place : ℕ) → merged_behind A xs B ys (cond b (Some place) None) ≡ (b && merged (shown_fields A (drop place xs)) (shown_fields B ys))
 behind_if A B xs ys true place = refl
 behind_if A B xs ys false place = refl
 
-pub step_past : (A B : Tables) (xs ys : List FieldTable) (i j : ℕ) (y : FieldTable) (n : ℕ) (o : Option ℕ) → length xs ≤ i → j < length ys → y ≡ get_or ys j y → n ≡ first_member (fields_of B (drop (suc j) ys)) y.oneof → o ≡ cond (nat_eq n 0) (Some i) None →
-    merged (fields_of A (drop i xs)) (fields_of B (drop j ys)) ≡ merged_behind A xs B (drop (j + 1) ys) o
+pub step_past : (A B : Tables) (xs ys : List FieldTable) (i j : ℕ) (y : FieldTable) (n : ℕ) (o : Option ℕ) → length xs ≤ i → j < length ys → y ≡ get_or ys j y → n ≡ first_member (shown_fields B (drop (suc j) ys)) y.oneof → o ≡ cond (nat_eq n 0) (Some i) None →
+    merged (shown_fields A (drop i xs)) (shown_fields B (drop j ys)) ≡ merged_behind A xs B (drop (j + 1) ys) o
 unfolding merged
 step_past A B xs ys i j y n o past h e is o_is =
     let gone : drop i xs ≡ [] = drop_of_length-le xs past in
-    ap₂ (λ (ds es : List FieldTable). merged (fields_of A ds) (fields_of B es)) gone (dropped ys j y h e) ∙
-    (ap₂ (λ k (ds : List FieldTable). nat_eq k 0 && merged (fields_of A ds) (fields_of B (drop (suc j) ys))) (sym is) (sym gone) ∙
+    ap₂ (λ (ds es : List FieldTable). merged (shown_fields A ds) (shown_fields B es)) gone (dropped ys j y h e) ∙
+    (ap₂ (λ k (ds : List FieldTable). nat_eq k 0 && merged (shown_fields A ds) (shown_fields B (drop (suc j) ys))) (sym is) (sym gone) ∙
     sym (ap₂ (λ p k. merged_behind A xs B (drop k ys) p) o_is (add-one j) ∙ behind_if A B xs (drop (suc j) ys) (nat_eq n 0) i))
 
-pub step_one : (A B : Tables) (xs ys : List FieldTable) (i j : ℕ) (x y : FieldTable) (n : ℕ) (o : Option ℕ) → i < length xs → x ≡ get_or xs i x → j < length ys → y ≡ get_or ys j y → nat_eq x.number y.number ≡ false → n ≡ first_member (fields_of B (drop (suc j) ys)) y.oneof → o ≡ cond (nat_eq n 0) (Some i) None →
-    merged (fields_of A (drop i xs)) (fields_of B (drop j ys)) ≡ merged_behind A xs B (drop (j + 1) ys) o
+pub step_one : (A B : Tables) (xs ys : List FieldTable) (i j : ℕ) (x y : FieldTable) (n : ℕ) (o : Option ℕ) → i < length xs → x ≡ get_or xs i x → j < length ys → y ≡ get_or ys j y → nat_eq x.number y.number ≡ false → n ≡ first_member (shown_fields B (drop (suc j) ys)) y.oneof → o ≡ cond (nat_eq n 0) (Some i) None →
+    merged (shown_fields A (drop i xs)) (shown_fields B (drop j ys)) ≡ merged_behind A xs B (drop (j + 1) ys) o
 unfolding merged
 step_one A B xs ys i j x y n o low d h e differ is o_is =
-    ap₂ (λ (ds es : List FieldTable). merged (fields_of A ds) (fields_of B es)) (dropped xs i x low d) (dropped ys j y h e) ∙
-    (ap (λ b. cond b (nat_eq (first_member (fields_of A (drop (suc i) xs)) x.oneof) (first_member (fields_of B (drop (suc j) ys)) y.oneof) && fields_alike (schema_field (rows_of A) (field_row x)) (schema_field (rows_of B) (field_row y)) && merged (fields_of A (drop (suc i) xs)) (fields_of B (drop (suc j) ys)))
-    (nat_eq (first_member (fields_of B (drop (suc j) ys)) y.oneof) 0 && merged (fields_of A (x ∷ drop (suc i) xs)) (fields_of B (drop (suc j) ys)))) differ ∙
-    (ap₂ (λ k (ds : List FieldTable). nat_eq k 0 && merged (fields_of A ds) (fields_of B (drop (suc j) ys))) (sym is) (sym (dropped xs i x low d)) ∙
+    ap₂ (λ (ds es : List FieldTable). merged (shown_fields A ds) (shown_fields B es)) (dropped xs i x low d) (dropped ys j y h e) ∙
+    (ap (λ b. cond b (nat_eq (first_member (shown_fields A (drop (suc i) xs)) x.oneof) (first_member (shown_fields B (drop (suc j) ys)) y.oneof) && fields_alike (schema_field (rows_of A) (field_row x)) (schema_field (rows_of B) (field_row y)) && merged (shown_fields A (drop (suc i) xs)) (shown_fields B (drop (suc j) ys)))
+    (nat_eq (first_member (shown_fields B (drop (suc j) ys)) y.oneof) 0 && merged (shown_fields A (x ∷ drop (suc i) xs)) (shown_fields B (drop (suc j) ys)))) differ ∙
+    (ap₂ (λ k (ds : List FieldTable). nat_eq k 0 && merged (shown_fields A ds) (shown_fields B (drop (suc j) ys))) (sym is) (sym (dropped xs i x low d)) ∙
     sym (ap₂ (λ p k. merged_behind A xs B (drop k ys) p) o_is (add-one j) ∙ behind_if A B xs (drop (suc j) ys) (nat_eq n 0) i)))
 
 pub step_both : (A B : Tables) (xs ys : List FieldTable) (i j : ℕ) (x y : FieldTable) (m n : ℕ) (alike : Bool) (o : Option ℕ) → i < length xs → x ≡ get_or xs i x → j < length ys → y ≡ get_or ys j y → nat_eq x.number y.number ≡ true →
-    m ≡ first_member (fields_of A (drop (suc i) xs)) x.oneof → n ≡ first_member (fields_of B (drop (suc j) ys)) y.oneof → alike ≡ (nat_eq m n && fields_alike (schema_field (rows_of A) (field_row x)) (schema_field (rows_of B) (field_row y))) → o ≡ cond alike (Some (i + 1)) None →
-    merged (fields_of A (drop i xs)) (fields_of B (drop j ys)) ≡ merged_behind A xs B (drop (j + 1) ys) o
+    m ≡ first_member (shown_fields A (drop (suc i) xs)) x.oneof → n ≡ first_member (shown_fields B (drop (suc j) ys)) y.oneof → alike ≡ (nat_eq m n && fields_alike (schema_field (rows_of A) (field_row x)) (schema_field (rows_of B) (field_row y))) → o ≡ cond alike (Some (i + 1)) None →
+    merged (shown_fields A (drop i xs)) (shown_fields B (drop j ys)) ≡ merged_behind A xs B (drop (j + 1) ys) o
 unfolding merged
 step_both A B xs ys i j x y m n alike o low d h e same m_is n_is alike_is o_is =
-    ap₂ (λ (ds es : List FieldTable). merged (fields_of A ds) (fields_of B es)) (dropped xs i x low d) (dropped ys j y h e) ∙
-    (ap (λ b. cond b (nat_eq (first_member (fields_of A (drop (suc i) xs)) x.oneof) (first_member (fields_of B (drop (suc j) ys)) y.oneof) && fields_alike (schema_field (rows_of A) (field_row x)) (schema_field (rows_of B) (field_row y)) && merged (fields_of A (drop (suc i) xs)) (fields_of B (drop (suc j) ys)))
-    (nat_eq (first_member (fields_of B (drop (suc j) ys)) y.oneof) 0 && merged (fields_of A (x ∷ drop (suc i) xs)) (fields_of B (drop (suc j) ys)))) same ∙
-    (ap₂ (λ k l. nat_eq k l && fields_alike (schema_field (rows_of A) (field_row x)) (schema_field (rows_of B) (field_row y)) && merged (fields_of A (drop (suc i) xs)) (fields_of B (drop (suc j) ys))) (sym m_is) (sym n_is) ∙
-    (ap₂ (λ b k. b && merged (fields_of A (drop k xs)) (fields_of B (drop (suc j) ys))) (sym alike_is) (sym (add-one i)) ∙
+    ap₂ (λ (ds es : List FieldTable). merged (shown_fields A ds) (shown_fields B es)) (dropped xs i x low d) (dropped ys j y h e) ∙
+    (ap (λ b. cond b (nat_eq (first_member (shown_fields A (drop (suc i) xs)) x.oneof) (first_member (shown_fields B (drop (suc j) ys)) y.oneof) && fields_alike (schema_field (rows_of A) (field_row x)) (schema_field (rows_of B) (field_row y)) && merged (shown_fields A (drop (suc i) xs)) (shown_fields B (drop (suc j) ys)))
+    (nat_eq (first_member (shown_fields B (drop (suc j) ys)) y.oneof) 0 && merged (shown_fields A (x ∷ drop (suc i) xs)) (shown_fields B (drop (suc j) ys)))) same ∙
+    (ap₂ (λ k l. nat_eq k l && fields_alike (schema_field (rows_of A) (field_row x)) (schema_field (rows_of B) (field_row y)) && merged (shown_fields A (drop (suc i) xs)) (shown_fields B (drop (suc j) ys))) (sym m_is) (sym n_is) ∙
+    (ap₂ (λ b k. b && merged (shown_fields A (drop k xs)) (shown_fields B (drop (suc j) ys))) (sym alike_is) (sym (add-one i)) ∙
     sym (ap₂ (λ p k. merged_behind A xs B (drop k ys) p) o_is (add-one j) ∙ behind_if A B xs (drop (suc j) ys) alike (i + 1)))))
 
 -- the walk is done
-pub none_left : (A B : Tables) (xs ys : List FieldTable) (i j : ℕ) → length ys ≤ j → nat_le (length xs) i ≡ merged (fields_of A (drop i xs)) (fields_of B (drop j ys))
+pub none_left : (A B : Tables) (xs ys : List FieldTable) (i j : ℕ) → length ys ≤ j → nat_le (length xs) i ≡ merged (shown_fields A (drop i xs)) (shown_fields B (drop j ys))
 unfolding merged
-none_left A B xs ys i j past = go (cases_lt i (length xs)) ∙ sym (ap (λ (es : List FieldTable). merged (fields_of A (drop i xs)) (fields_of B es)) (drop_of_length-le ys past))
+none_left A B xs ys i j past = go (cases_lt i (length xs)) ∙ sym (ap (λ (es : List FieldTable). merged (shown_fields A (drop i xs)) (shown_fields B es)) (drop_of_length-le ys past))
   where
-    go : (i < length xs) ⊎ (length xs ≤ i) → nat_le (length xs) i ≡ merged (fields_of A (drop i xs)) []
-    go (inr over) = le-leb (length xs) i over ∙ sym (ap (λ (ds : List FieldTable). merged (fields_of A ds) []) (drop_of_length-le xs over))
+    go : (i < length xs) ⊎ (length xs ≤ i) → nat_le (length xs) i ≡ merged (shown_fields A (drop i xs)) []
+    go (inr over) = le-leb (length xs) i over ∙ sym (ap (λ (ds : List FieldTable). merged (shown_fields A ds) []) (drop_of_length-le xs over))
     go (inl under) = not_le (length xs) i under ∙ sym (some_left xs i under)
       where
-        some_left : (xs : List FieldTable) (i : ℕ) → i < length xs → merged (fields_of A (drop i xs)) [] ≡ false
+        some_left : (xs : List FieldTable) (i : ℕ) → i < length xs → merged (shown_fields A (drop i xs)) [] ≡ false
         some_left [] i h = absurd (omega arith)
         some_left (x ∷ xs) zero h = refl
         some_left (x ∷ xs) (suc i) h = some_left xs i (omega arith)
@@ -201,19 +201,19 @@ rows_rise rows low (f ∷ fields) h =
     let (ab, c) = and_parts (nat_lt low f.number && nat_lt f.number (2 ^ 29)) (ascending_from f.number fields) h in
     and_from _ _ (and_parts (nat_lt low f.number) (nat_lt f.number (2 ^ 29)) ab).0 (rows_rise rows f.number fields c)
 
-fields_rise : (tables : Tables) (a : ℕ) (m : MessageTable) → is_linked (rows_of tables) ≡ true → a < length tables.messages.items → m ≡ get_or tables.messages.items a m → rising 0 (fields_of tables m.fields.items) ≡ true
+fields_rise : (tables : Tables) (a : ℕ) (m : MessageTable) → is_linked (rows_of tables) ≡ true → a < length tables.messages.items → m ≡ get_or tables.messages.items a m → rising 0 (shown_fields tables m.fields.items) ≡ true
 fields_rise tables a m linked h e =
     rows_rise (rows_of tables) 0 (map field_row m.fields.items) (and_parts _ _ (and_parts _ _ (and_parts _ _ (message_is_linked tables a m linked h e)).0).0).0
 
 pub alike_is : (A B : Tables) (a b : ℕ) (m n : MessageTable) → is_linked (rows_of A) ≡ true → is_linked (rows_of B) ≡ true → a < length A.messages.items → m ≡ get_or A.messages.items a m → b < length B.messages.items → n ≡ get_or B.messages.items b n →
-    entries_whole (schema_message (rows_of A) (message_row m)) (schema_message (rows_of B) (message_row n)) ≡ true → merged (fields_of A m.fields.items) (fields_of B n.fields.items) ≡ types_alike (message_type (schema_of A) a) (message_type (schema_of B) b)
+    entries_whole (schema_message (rows_of A) (message_row m)) (schema_message (rows_of B) (message_row n)) ≡ true → merged (shown_fields A m.fields.items) (shown_fields B n.fields.items) ≡ types_alike (message_type (schema_of A) a) (message_type (schema_of B) b)
 alike_is A B a b m n linked linked' low e low' d whole =
-    merged_is (fields_of A m.fields.items) (fields_of B n.fields.items) (fields_rise A a m linked low e) (fields_rise B b n linked' low' d) ∙
-    (sym (ap (λ w. w && list_all (has_alike (fields_of A m.fields.items) (fields_of B n.fields.items)) (fields_of A m.fields.items) && list_all (has_no_fellow (fields_of A m.fields.items) (fields_of B n.fields.items)) (fields_of B n.fields.items)) whole) ∙
+    merged_is (shown_fields A m.fields.items) (shown_fields B n.fields.items) (fields_rise A a m linked low e) (fields_rise B b n linked' low' d) ∙
+    (sym (ap (λ w. w && list_all (has_alike (shown_fields A m.fields.items) (shown_fields B n.fields.items)) (shown_fields A m.fields.items) && list_all (has_no_fellow (shown_fields A m.fields.items) (shown_fields B n.fields.items)) (shown_fields B n.fields.items)) whole) ∙
     sym (ap₂ types_alike (type_at A a m low e) (type_at B b n low' d)))
 
 pub not_alike : (A B : Tables) (a b : ℕ) (m n : MessageTable) → a < length A.messages.items → m ≡ get_or A.messages.items a m → b < length B.messages.items → n ≡ get_or B.messages.items b n →
     entries_whole (schema_message (rows_of A) (message_row m)) (schema_message (rows_of B) (message_row n)) ≡ false → false ≡ types_alike (message_type (schema_of A) a) (message_type (schema_of B) b)
 not_alike A B a b m n low e low' d whole =
     sym (ap₂ types_alike (type_at A a m low e) (type_at B b n low' d) ∙
-    ap (λ w. w && list_all (has_alike (fields_of A m.fields.items) (fields_of B n.fields.items)) (fields_of A m.fields.items) && list_all (has_no_fellow (fields_of A m.fields.items) (fields_of B n.fields.items)) (fields_of B n.fields.items)) whole)
+    ap (λ w. w && list_all (has_alike (shown_fields A m.fields.items) (shown_fields B n.fields.items)) (shown_fields A m.fields.items) && list_all (has_no_fellow (shown_fields A m.fields.items) (shown_fields B n.fields.items)) (shown_fields B n.fields.items)) whole)

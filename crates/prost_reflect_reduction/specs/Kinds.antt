@@ -15,8 +15,8 @@ kind_code (ScalarOf k) = type_code k
 kind_code k = 11
 
 -- The numbers of an enum's values.
-abbrev pub numbers_of : List EnumValueTable → List ℤ
-numbers_of values = map (λ v. v.number) (map enum_value_row values)
+abbrev pub table_numbers : List EnumValueTable → List ℤ
+table_numbers values = map (λ v. v.number) (map enum_value_row values)
 
 -- The set has these numbers.
 unfoldable pub HasNumbers : BTreeSet ℤ → List ℤ → Type 0

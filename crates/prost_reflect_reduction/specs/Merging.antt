@@ -9,8 +9,8 @@ use Rattle.prost_reflect_tables.specs.Shown.{schema_field}
 use Rattle.prost_reflect_reduction.specs.Reaching.{fields_alike}
 
 -- The fields that rows of the tables show.
-abbrev pub fields_of : Tables → List FieldTable → List Field
-fields_of tables fields = map (schema_field (rows_of tables)) (map field_row fields)
+abbrev pub shown_fields : Tables → List FieldTable → List Field
+shown_fields tables fields = map (schema_field (rows_of tables)) (map field_row fields)
 
 -- The number of the first member of a oneof, or 0.
 abbrev pub first_member : List Field → Option ℕ → ℕ
@@ -44,4 +44,4 @@ merged (f ∷ older) (g ∷ newer) =
 -- The rest of a walk that stands at this place of the older fields, or at none where it has found a difference.
 abbrev pub merged_behind : Tables → List FieldTable → Tables → List FieldTable → Option ℕ → Bool
 merged_behind older fields newer others None = false
-merged_behind older fields newer others (Some place) = merged (fields_of older (drop place fields)) (fields_of newer others)
+merged_behind older fields newer others (Some place) = merged (shown_fields older (drop place fields)) (shown_fields newer others)

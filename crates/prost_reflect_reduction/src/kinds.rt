@@ -8,7 +8,7 @@ ghost use Rattle.prost_reflect_wire.specs.Reduction.{all_among, same_scalar_kind
 ghost use Rattle.prost_reflect_tables.specs.Rows.{EnumRow, enum_row, value_numbers};
 ghost use Rattle.prost_reflect_tables.specs.Schema.{rows_of};
 ghost use Rattle.prost_reflect_tables.specs.Shown.{schema_kind, enum_kind, first_number};
-ghost use Rattle.prost_reflect_reduction.specs.Kinds.{kind_code, numbers_of, HasNumbers, AreSameEnums};
+ghost use Rattle.prost_reflect_reduction.specs.Kinds.{kind_code, table_numbers, HasNumbers, AreSameEnums};
 ghost use Rattle.prost_reflect_reduction.specs.Reaching.{kinds_alike};
 
 use prost_reflect_tables::{EnumTable, EnumValueTable, FieldTable, TableKind, Tables};
@@ -16,8 +16,8 @@ use std::alloc::{AllocError, Global};
 use std::collections::BTreeSet;
 
 /// The numbers of values.
-fn numbers_of(alloc: Global, values: &[EnumValueTable]) -> Result<BTreeSet<i32>, AllocError>
-    ensures { IfOk result (λ set. HasNumbers set (numbers_of values.now)) }
+fn table_numbers(alloc: Global, values: &[EnumValueTable]) -> Result<BTreeSet<i32>, AllocError>
+    ensures { IfOk result (λ set. HasNumbers set (table_numbers values.now)) }
 {
     let mut set = BTreeSet::new(alloc);
     for value in values {
@@ -28,7 +28,7 @@ fn numbers_of(alloc: Global, values: &[EnumValueTable]) -> Result<BTreeSet<i32>,
 
 /// Whether the number of each value is in the set.
 fn are_among(values: &[EnumValueTable], set: &BTreeSet<i32>) -> bool
-    ensures { result ≡ list_all (contains int_cmp set.now) (numbers_of values.now) }
+    ensures { result ≡ list_all (contains int_cmp set.now) (table_numbers values.now) }
 {
     for value in values {
         if !set.contains(&value.number) {
@@ -44,10 +44,10 @@ fn same_numbers(
     values: &[EnumValueTable],
     others: &[EnumValueTable],
 ) -> Result<bool, AllocError>
-    ensures { IfOk result (λ same. same ≡ (all_among (numbers_of values.now) (numbers_of others.now) && all_among (numbers_of others.now) (numbers_of values.now))) }
+    ensures { IfOk result (λ same. same ≡ (all_among (table_numbers values.now) (table_numbers others.now) && all_among (table_numbers others.now) (table_numbers values.now))) }
 {
-    let numbers = numbers_of(alloc, values)?;
-    let other_numbers = numbers_of(alloc, others)?;
+    let numbers = table_numbers(alloc, values)?;
+    let other_numbers = table_numbers(alloc, others)?;
     Ok(are_among(values, &other_numbers) && are_among(others, &numbers))
 }
 

@@ -5,7 +5,7 @@ ghost use Rattle.std.specs.List.{list_all};
 ghost use Rattle.prost_reflect_wire.specs.Schema.{Field};
 ghost use Rattle.prost_reflect_tables.specs.Linked.{oneof_in_range};
 ghost use Rattle.prost_reflect_tables.specs.Rows.{field_row};
-ghost use Rattle.prost_reflect_reduction.specs.Merging.{first_member, next_members, noted, AreFirst, fields_of};
+ghost use Rattle.prost_reflect_reduction.specs.Merging.{first_member, next_members, noted, AreFirst, shown_fields};
 
 use prost_reflect_tables::{FieldTable, Tables};
 use std::alloc::{AllocError, Global};
@@ -39,7 +39,7 @@ pub(crate) fn next_members(
     oneofs: usize,
 ) -> Result<Vec<u32>, AllocError>
     requires { list_all (λ f. oneof_in_range oneofs f.oneof) (map field_row fields.now) ≡ true }
-    ensures { IfOk result (λ next. next.items ≡ next_members (fields_of tables.now fields.now)) }
+    ensures { IfOk result (λ next. next.items ≡ next_members (shown_fields tables.now fields.now)) }
 {
     let mut next = vec![in alloc; 0u32; fields.len()]?;
     let mut first = vec![in alloc; 0u32; oneofs]?;

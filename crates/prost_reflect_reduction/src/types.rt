@@ -8,7 +8,7 @@ ghost use Rattle.prost_reflect_tables.specs.Rows.{field_row, message_row};
 ghost use Rattle.prost_reflect_tables.specs.Schema.{rows_of, schema_of};
 ghost use Rattle.prost_reflect_tables.specs.Shown.{schema_field, schema_message};
 ghost use Rattle.prost_reflect_reduction.specs.Kinds.{AreSameEnums};
-ghost use Rattle.prost_reflect_reduction.specs.Merging.{next_members, merged, fields_of, merged_behind};
+ghost use Rattle.prost_reflect_reduction.specs.Merging.{next_members, merged, shown_fields, merged_behind};
 ghost use Rattle.prost_reflect_reduction.specs.Reaching.{fields_alike, types_alike};
 
 use crate::fields::fields_alike;
@@ -62,12 +62,12 @@ fn place_behind(
     newer: Chained<'_>,
     other: usize,
 ) -> Result<Option<usize>, AllocError>
-    requires older { older.next.now ≡ next_members (fields_of older.tables.now older.fields.now) }
-    requires newer { newer.next.now ≡ next_members (fields_of newer.tables.now newer.fields.now) }
+    requires older { older.next.now ≡ next_members (shown_fields older.tables.now older.fields.now) }
+    requires newer { newer.next.now ≡ next_members (shown_fields newer.tables.now newer.fields.now) }
     requires other { other < length newer.fields.now }
     requires enums { AreSameEnums same_enums.old (rows_of older.tables.now).enums (rows_of newer.tables.now).enums }
     ensures enums { OnOk result (AreSameEnums same_enums.new (rows_of older.entry.tables.now).enums (rows_of newer.entry.tables.now).enums) }
-    ensures behind { IfOk result (λ behind. merged (fields_of older.entry.tables.now (drop place older.entry.fields.now)) (fields_of newer.entry.tables.now (drop other newer.entry.fields.now)) ≡ merged_behind older.entry.tables.now older.entry.fields.now newer.entry.tables.now (drop (other + 1) newer.entry.fields.now) behind) }
+    ensures behind { IfOk result (λ behind. merged (shown_fields older.entry.tables.now (drop place older.entry.fields.now)) (shown_fields newer.entry.tables.now (drop other newer.entry.fields.now)) ≡ merged_behind older.entry.tables.now older.entry.fields.now newer.entry.tables.now (drop (other + 1) newer.entry.fields.now) behind) }
 {
     let like = &newer.fields[other];
     let next = newer.next[other];
@@ -98,11 +98,11 @@ fn merged(
     older: Chained<'_>,
     newer: Chained<'_>,
 ) -> Result<bool, AllocError>
-    requires older { older.next.now ≡ next_members (fields_of older.tables.now older.fields.now) }
-    requires newer { newer.next.now ≡ next_members (fields_of newer.tables.now newer.fields.now) }
+    requires older { older.next.now ≡ next_members (shown_fields older.tables.now older.fields.now) }
+    requires newer { newer.next.now ≡ next_members (shown_fields newer.tables.now newer.fields.now) }
     requires enums { AreSameEnums same_enums.old (rows_of older.tables.now).enums (rows_of newer.tables.now).enums }
     ensures enums { OnOk result (AreSameEnums same_enums.new (rows_of older.entry.tables.now).enums (rows_of newer.entry.tables.now).enums) }
-    ensures alike { IfOk result (λ alike. alike ≡ merged (fields_of older.entry.tables.now older.entry.fields.now) (fields_of newer.entry.tables.now newer.entry.fields.now)) }
+    ensures alike { IfOk result (λ alike. alike ≡ merged (shown_fields older.entry.tables.now older.entry.fields.now) (shown_fields newer.entry.tables.now newer.entry.fields.now)) }
 {
     let mut place = 0;
     for other in 0..newer.fields.len() {
@@ -116,7 +116,7 @@ fn merged(
 
 /// Whether one of the fields has the number.
 fn is_known(tables: &Tables, fields: &[FieldTable], number: u32) -> bool
-    ensures { result ≡ is_known (fields_of tables.now fields.now) number }
+    ensures { result ≡ is_known (shown_fields tables.now fields.now) number }
 {
     for field in fields {
         if field.number == number {
@@ -128,7 +128,7 @@ fn is_known(tables: &Tables, fields: &[FieldTable], number: u32) -> bool
 
 /// Whether each number of the newer fields is one of the older fields.
 fn are_known(older: &Tables, fields: &[FieldTable], newer: &Tables, others: &[FieldTable]) -> bool
-    ensures { result ≡ list_all (λ g. is_known (fields_of older.now fields.now) g.number) (fields_of newer.now others.now) }
+    ensures { result ≡ list_all (λ g. is_known (shown_fields older.now fields.now) g.number) (shown_fields newer.now others.now) }
 {
     for other in others {
         if !is_known(older, fields, other.number) {

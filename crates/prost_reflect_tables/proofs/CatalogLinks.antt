@@ -15,7 +15,7 @@ use Rattle.prost_reflect_tables.specs.Places as places
 use Rattle.prost_reflect_tables.specs.Places.{fields_at, fields_or_none}
 use Rattle.prost_reflect_tables.specs.Linked.{is_linked}
 use Rattle.prost_reflect_tables.specs.Flat.{DefinitionRow, FlatMessageRow, FlatServiceRow, FlatRows, flattened}
-use Rattle.prost_reflect_tables.specs.Faults.{any_field, place_of, place_named, file_names, message_names, names_nothing, extendee_missing, extendee_unknown, type_missing, type_unknown, method_type_missing, method_type_unknown, dependency_missing, import_outside, has_oneof_outside, is_outside}
+use Rattle.prost_reflect_tables.specs.Faults.{any_field, name_place, place_named, file_names, message_names, names_nothing, extendee_missing, extendee_unknown, type_missing, type_unknown, method_type_missing, method_type_unknown, dependency_missing, import_outside, has_oneof_outside, is_outside}
 use Rattle.prost_reflect_tables.specs.Checked.{Checked}
 use Rattle.prost_reflect_tables.specs.Linking.{Links, links_of, natural_or_zero, place_or_first, is_place, extended_place, belonging, linked_field, declared_fields, fields_of_message, linked_message, put_in_order, in_order, linked_rows}
 use Rattle.prost_reflect_tables.specs.Built.{AreTablesOf}
@@ -60,10 +60,10 @@ named_there rows o some found =
     omega (arith, place, ltb-true f.place (length (linked_rows rows).messages) (message_there rows f.place f.item f.at))
 
 -- The place of a name is one of the list that has the names.
-place_within : {X : Type 0} (name_of : X → List ℕ) (xs : List X) (name : List ℕ) → is_none (place_of (map name_of xs) name) ≡ false → unwrap_or (place_of (map name_of xs) name) 0 < length xs
-place_within name_of xs name some = go (place_of (map name_of xs) name) refl some
+place_within : {X : Type 0} (name_of : X → List ℕ) (xs : List X) (name : List ℕ) → is_none (name_place (map name_of xs) name) ≡ false → unwrap_or (name_place (map name_of xs) name) 0 < length xs
+place_within name_of xs name some = go (name_place (map name_of xs) name) refl some
   where
-    go : (o : Option ℕ) → place_of (map name_of xs) name ≡ o → is_none o ≡ false → unwrap_or o 0 < length xs
+    go : (o : Option ℕ) → name_place (map name_of xs) name ≡ o → is_none o ≡ false → unwrap_or o 0 < length xs
     go None e none = absurd cc
     go (Some p) e none =
         let found = position_at (bytes_eq name) name_of 0 xs p e in
@@ -213,7 +213,7 @@ dependencies_linked files flat i f checked at =
     let missing : dependency_missing (file_names files) f ≡ false = none_at (dependency_missing (file_names files)) files i f (checked errors.MissingDependency) at in
     every (λ (d : ℕ). d < length files) (dependency_places (file_names files) f) (λ j d there.
     let found = mapped_at (λ (t : String Global). file_place (file_names files) (string_bytes t)) f.dependency.items j d there in
-    let some : is_none (place_of (file_names files) (string_bytes found.0)) ≡ false = none_at (λ (t : String Global). is_none (place_of (file_names files) (string_bytes t))) f.dependency.items j found.0 missing found.1 in
+    let some : is_none (name_place (file_names files) (string_bytes found.0)) ≡ false = none_at (λ (t : String Global). is_none (name_place (file_names files) (string_bytes t))) f.dependency.items j found.0 missing found.1 in
     omega (arith, found.2, place_within (λ (x : FileDescriptorProto). text_or_empty x.name) files (string_bytes found.0) some))
 
 -- An import that is not outside is the one at its place.

@@ -1,7 +1,7 @@
-mod Walks
-mod Resolving
-mod EntryFlags
-mod Ascending
+pub mod Walks
+pub mod Resolving
+pub mod EntryFlags
+pub mod Ascending
 pub mod Keeping
 pub mod Fields
 mod Worked
@@ -11,18 +11,18 @@ mod WholeBits
 mod Escapes
 mod WorkedDefaults
 mod Flattening
-mod Numbering
+pub mod Numbering
 pub mod OptionBytes
-mod Sorting
-mod Grouping
-mod Gathering
-mod Orders
-mod CatalogParts
-mod NamePlaces
+pub mod Sorting
+pub mod Grouping
+pub mod Gathering
+pub mod Orders
+pub mod CatalogParts
+pub mod NamePlaces
 mod WorkedLinking
 mod Linkwell
 mod WorkedChecks
-mod LinksWell
+pub mod LinksWell
 pub mod CatalogLinks
 pub mod DeclaredFields
 pub mod SameRows
@@ -35,7 +35,7 @@ mod SameOptions
 pub mod EqualFiles
 mod WorkedFiles
 mod EnumNumbers
-mod Spans
+pub mod Spans
 pub mod Adding
 pub mod Refusing
 pub mod Built

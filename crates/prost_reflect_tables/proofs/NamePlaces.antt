@@ -5,7 +5,7 @@ use Rattle.std.specs.Str.{bytes_eq}
 use Rattle.std.specs.List.{list_any, position_from}
 use Rattle.std.proofs.lemmas.List.{take_more, map-append, length-map, length-take}
 use Rattle.std.proofs.lemmas.Slice.Eq.{bytes_eq-Decides}
-use Rattle.prost_reflect_tables.specs.Faults.{repeats, place_of}
+use Rattle.prost_reflect_tables.specs.Faults.{repeats, name_place}
 use Rattle.prost_reflect_tables.specs.FlatViews.{text_list}
 
 pub texts_more : (xs : List (Bor (List ℕ))) (i : ℕ) (d : Bor (List ℕ)) → i < length xs → text_list (take (i + 1) xs) ≡ text_list (take i xs) ++ (get_or xs i d).now ∷ []
@@ -44,8 +44,8 @@ position_push p i (m ∷ names) n =
     ]
 
 pub place_more : (name : List ℕ) (xs : List (Bor (List ℕ))) (i : ℕ) (d : Bor (List ℕ)) → i < length xs →
-    place_of (text_list (take (i + 1) xs)) name ≡ or_else (place_of (text_list (take i xs)) name) (cond (bytes_eq name (get_or xs i d).now) (Some i) None)
+    name_place (text_list (take (i + 1) xs)) name ≡ or_else (name_place (text_list (take i xs)) name) (cond (bytes_eq name (get_or xs i d).now) (Some i) None)
 place_more name xs i d h =
     let size : length (text_list (take i xs)) ≡ i = simp (length-map, length-take) (omega arith) in
-    ap (λ (names : List (List ℕ)). place_of names name) (texts_more xs i d h)
+    ap (λ (names : List (List ℕ)). name_place names name) (texts_more xs i d h)
     ∙ (position_push (bytes_eq name) 0 (text_list (take i xs)) (get_or xs i d).now ∙ rw size (rw (zero-add i) refl))

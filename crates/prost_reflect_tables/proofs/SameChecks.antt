@@ -10,7 +10,7 @@ use Rattle.prost_reflect_types.specs.declared.MethodDescriptorProto.{MethodDescr
 use Rattle.prost_reflect_types.proofs.EqualContents.{SameText, SameTexts, SameExtensionRange, SameReservedRange, SameField, SameOneof, SameEnumReservedRange, SameEnumValue, SameMethod, SameFile, zip_same}
 use Rattle.prost_reflect_tables.specs.Names.{text_or_empty, without_dot}
 use Rattle.prost_reflect_tables.specs.Flat.{DefinitionRow, FlatMessageRow, FlatEnumRow, FlatServiceRow, FlatRows}
-use Rattle.prost_reflect_tables.specs.Faults.{any_field, is_unnamed, message_unnamed, enum_unnamed, service_unnamed, missing_name, syntax_unknown, unknown_syntax, is_outside, import_outside, oneof_outside, has_oneof_outside, bad_index, number_bad, bad_number, range_bad, message_range_bad, enum_range_bad, bad_range, type_missing, extendee_missing, method_type_missing, missing_type, label_bad, bad_label, is_member, repeated_member, bad_oneof, enum_empty, empty_enum, names_of, names_in_messages, names_in_enums, names_in_services, repeats, duplicate_name, place_of, place_named, file_names, message_names, enum_names, dependency_missing, missing_dependency, names_nothing, type_unknown, extendee_unknown, method_type_unknown, unknown_type, is_in_range, message_named, is_out_of, extension_outside, outside_range, Numbered, number_or_zero, numbered_fields, numbered_in, numbered_at, numbered_extensions, number_repeats, duplicate_number}
+use Rattle.prost_reflect_tables.specs.Faults.{any_field, is_unnamed, message_unnamed, enum_unnamed, service_unnamed, missing_name, syntax_unknown, unknown_syntax, is_outside, import_outside, oneof_outside, has_oneof_outside, bad_index, number_bad, bad_number, range_bad, message_range_bad, enum_range_bad, bad_range, type_missing, extendee_missing, method_type_missing, missing_type, label_bad, bad_label, is_member, repeated_member, bad_oneof, enum_empty, empty_enum, names_of, names_in_messages, names_in_enums, names_in_services, repeats, duplicate_name, name_place, place_named, file_names, message_names, enum_names, dependency_missing, missing_dependency, names_nothing, type_unknown, extendee_unknown, method_type_unknown, unknown_type, is_in_range, message_named, is_out_of, extension_outside, outside_range, Numbered, number_or_zero, numbered_fields, numbered_in, numbered_at, numbered_extensions, number_repeats, duplicate_number}
 use Rattle.prost_reflect_tables.proofs.SameRows.{zip_map, zip_any, by_text, text_same, SameRow, SameMessageRow, SameEnumRow, SameServiceRow, SameRows}
 use Rattle.prost_reflect_tables.proofs.SameLinked.{place_same, message_names_same, enum_names_same}
 
@@ -197,7 +197,7 @@ duplicate_name_same a b h =
 
 dependency_missing_same : (names : List (List ℕ)) (f g : FileDescriptorProto) → SameFile f g → dependency_missing names f ≡ dependency_missing names g
 unfolding SameString
-dependency_missing_same names f g e = any_same SameString (λ d. is_none (place_of names (string_bytes d))) (λ s t h. ap (λ (bytes : List ℕ). is_none (place_of names bytes)) h) f.dependency.items g.dependency.items (strings_same f.dependency g.dependency e.dependency)
+dependency_missing_same names f g e = any_same SameString (λ d. is_none (name_place names (string_bytes d))) (λ s t h. ap (λ (bytes : List ℕ). is_none (name_place names bytes)) h) f.dependency.items g.dependency.items (strings_same f.dependency g.dependency e.dependency)
 
 pub missing_dependency_same : (fs gs : List FileDescriptorProto) → AllZip SameFile fs gs → missing_dependency fs ≡ missing_dependency gs
 missing_dependency_same fs gs files =
@@ -205,7 +205,7 @@ missing_dependency_same fs gs files =
     ap (λ (ns : List (List ℕ)). list_any (dependency_missing ns) fs) names ∙ any_same SameFile (dependency_missing (file_names gs)) (dependency_missing_same (file_names gs)) fs gs files
 
 nothing_same : (names : List (List ℕ)) (a b : Option (String Global)) → SameText a b → names_nothing names a ≡ names_nothing names b
-nothing_same names = by_text (names_nothing names) (λ bytes. is_none (place_of names (without_dot bytes))) (λ s. refl)
+nothing_same names = by_text (names_nothing names) (λ bytes. is_none (name_place names (without_dot bytes))) (λ s. refl)
 
 type_unknown_same : (a b : FlatRows) → SameRows a b → (d e : DefinitionRow FieldDescriptorProto) → SameRow SameField d e → type_unknown a d ≡ type_unknown b e
 type_unknown_same a b h d e r =

@@ -12,7 +12,7 @@ use Rattle.prost_reflect_tables.specs.Options.{bool_option, bool_in}
 use Rattle.prost_reflect_tables.specs.WrittenDefaults.{field_default}
 use Rattle.prost_reflect_tables.specs.Rows.{FieldRow, OneofRow, MessageRow}
 use Rattle.prost_reflect_tables.specs.Flat.{DefinitionRow, FlatMessageRow, FlatEnumRow, FlatRows}
-use Rattle.prost_reflect_tables.specs.Faults.{place_of, place_named, message_names, enum_names}
+use Rattle.prost_reflect_tables.specs.Faults.{name_place, place_named, message_names, enum_names}
 use Rattle.prost_reflect_tables.specs.Linking.{Links, links_of, json_name_or, json_name, linked_identity, linked_value, linked_kind, linked_default, values_of_kind, linked_field, in_order, extended_place, is_place, belonging, fields_of_message, oneof_place, member_place, linked_oneof, oneofs_from, linked_message, messages_from, linked_enum, linked_rows}
 use Rattle.prost_reflect_tables.proofs.SameRows.{zip_map, zip_filter, by_text, by_bytes, text_same, SameRow, SameParts, SameMessageRow, SameEnumRow, SameRows}
 
@@ -35,7 +35,7 @@ json_name_same true d e r = ap bracketed r.full_name
 json_name_same false d e r = json_names_same d.proto.json_name e.proto.json_name d.proto.name e.proto.name r.proto.json_name r.proto.name
 
 pub place_same : (names : List (List ℕ)) (a b : Option (String Global)) → SameText a b → place_named names a ≡ place_named names b
-place_same names = by_text (place_named names) (λ bytes. place_of names (without_dot bytes)) (λ s. refl)
+place_same names = by_text (place_named names) (λ bytes. name_place names (without_dot bytes)) (λ s. refl)
 
 pub option_same : (number : ℕ) (a b : Option (Vec ℕ Global)) → SameBytes a b → bool_option number a ≡ bool_option number b
 option_same number = by_bytes (bool_option number) (bool_in number None) (λ v. refl)

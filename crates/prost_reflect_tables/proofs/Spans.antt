@@ -14,7 +14,7 @@ use Rattle.prost_reflect_tables.specs.declared.build.flatten.FlatMessage.{FlatMe
 use Rattle.prost_reflect_tables.specs.Flat.{FlatMessageRow}
 use Rattle.prost_reflect_tables.specs.FlatViews.{message_row, flat_rows}
 use Rattle.prost_reflect_tables.specs.Faults.{is_in_range, is_out_of, number_or_zero}
-use Rattle.prost_reflect_tables.specs.ResolvedFaults.{message_of}
+use Rattle.prost_reflect_tables.specs.ResolvedFaults.{flat_message_at}
 use Rattle.prost_reflect_tables.specs.Linking.{natural_or_zero}
 use Rattle.prost_reflect_tables.specs.Spans.{is_in_span, span_of, greater, reaching, AreSpansOf, AreSpansOfAll}
 use Rattle.prost_reflect_tables.proofs.Sorting.{Rising, rising_from}
@@ -184,9 +184,9 @@ message_at (b ∷ ms) (suc i) m lt = message_at ms i m (omega (arith, lt))
 
 -- What an extension's number is looked for in, once the message is found.
 pub outside_is : (flat : Flat) (number : ℤ) (place : Option ℕ) (i : ℕ) (m : FlatMessage) → place ≡ Some i → i < length flat.messages.items → m ≡ get_or flat.messages.items i m →
-    is_out_of number (message_of (flat_rows flat) place) ≡ not (list_any (is_in_range number) (message_row m).definition.proto.extension_range)
+    is_out_of number (flat_message_at (flat_rows flat) place) ≡ not (list_any (is_in_range number) (message_row m).definition.proto.extension_range)
 outside_is flat number place i m named lt e =
-    ap (λ o. is_out_of number (message_of (flat_rows flat) o)) named
+    ap (λ o. is_out_of number (flat_message_at (flat_rows flat) o)) named
     ∙ ap (is_out_of number) (message_at flat.messages.items i m lt)
     ∙ ap (λ (n : FlatMessage). is_out_of number (Some (message_row n))) (sym e)
 

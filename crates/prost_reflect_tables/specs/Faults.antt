@@ -185,8 +185,8 @@ duplicate_name rows = repeats [] (full_names rows)
 -- WHAT A TEXT NAMES
 
 -- The place of the first of a name.
-abbrev pub place_of : List (List ℕ) → List ℕ → Option ℕ
-place_of names name = position_from (λ n. bytes_eq name n) 0 names
+abbrev pub name_place : List (List ℕ) → List ℕ → Option ℕ
+name_place names name = position_from (λ n. bytes_eq name n) 0 names
 
 abbrev pub file_names : List FileDescriptorProto → List (List ℕ)
 file_names files = map (λ f. text_or_empty f.name) files
@@ -200,12 +200,12 @@ enum_names rows = map (λ e. e.definition.full_name) rows.enums
 -- The place of the first of the name that a text means. Without a text nothing is named.
 abbrev pub place_named : List (List ℕ) → Option (String Global) → Option ℕ
 place_named names None = None
-place_named names (Some text) = place_of names (without_dot (string_bytes text))
+place_named names (Some text) = name_place names (without_dot (string_bytes text))
 
 -- MissingDependency: each file that one depends on is there.
 
 abbrev pub dependency_missing : List (List ℕ) → FileDescriptorProto → Bool
-dependency_missing names f = list_any (λ d. is_none (place_of names (string_bytes d))) f.dependency.items
+dependency_missing names f = list_any (λ d. is_none (name_place names (string_bytes d))) f.dependency.items
 
 abbrev pub missing_dependency : List FileDescriptorProto → Bool
 missing_dependency files = list_any (dependency_missing (file_names files)) files
@@ -214,7 +214,7 @@ missing_dependency files = list_any (dependency_missing (file_names files)) file
 
 abbrev pub names_nothing : List (List ℕ) → Option (String Global) → Bool
 names_nothing names None = false
-names_nothing names (Some text) = is_none (place_of names (without_dot (string_bytes text)))
+names_nothing names (Some text) = is_none (name_place names (without_dot (string_bytes text)))
 
 abbrev pub type_unknown : FlatRows → DefinitionRow FieldDescriptorProto → Bool
 type_unknown rows d = (is_message_type d.proto.type_ && names_nothing (message_names rows) d.proto.type_name) || (is_enum_type d.proto.type_ && names_nothing (enum_names rows) d.proto.type_name)

@@ -6,12 +6,12 @@ use Rattle.prost_reflect_tables.specs.declared.build.index.Index.{Index}
 use Rattle.prost_reflect_tables.specs.Rows.{EnumValueRow}
 use Rattle.prost_reflect_tables.specs.WrittenDefaults.{number_named}
 use Rattle.prost_reflect_tables.specs.Flat.{FlatRows}
-use Rattle.prost_reflect_tables.specs.Faults.{place_of, message_names, enum_names, Numbered}
+use Rattle.prost_reflect_tables.specs.Faults.{name_place, message_names, enum_names, Numbered}
 use Rattle.prost_reflect_tables.specs.Linking.{links_of}
 
 -- Looking a name up gives the place of the first of that name.
 abbrev pub IsIndexOf : BTreeMap (String Global) ℕ → List (List ℕ) → Type 0
-IsIndexOf index names = (name : List ℕ) → get_by_text index name ≡ place_of names name
+IsIndexOf index names = (name : List ℕ) → get_by_text index name ≡ name_place names name
 
 -- Looking a name up gives the number of the first value of that name.
 abbrev pub IsNumbersOf : BTreeMap (String Global) ℤ → List EnumValueRow → Type 0

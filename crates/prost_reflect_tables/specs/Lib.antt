@@ -28,7 +28,6 @@ pub mod Gathered
 pub mod Orders
 pub mod CatalogRows
 pub mod LinkedCatalog
-pub mod GatheredLists
 pub mod InRange
 pub mod Indexing
 pub mod Resolved

@@ -10,7 +10,7 @@ use Rattle.prost_reflect_tables.specs.Names.{text_or_empty}
 use Rattle.prost_reflect_tables.specs.Rows.{FieldRow, MessageRow, TableRows}
 use Rattle.prost_reflect_tables.specs.Places as places
 use Rattle.prost_reflect_tables.specs.Flat.{DefinitionRow, FlatEnumRow, FlatServiceRow, FlatRows, is_proto3, flattened}
-use Rattle.prost_reflect_tables.specs.Faults.{place_of, file_names, message_names, enum_names, names_of}
+use Rattle.prost_reflect_tables.specs.Faults.{name_place, file_names, message_names, enum_names, names_of}
 use Rattle.prost_reflect_tables.specs.Linking.{Links, links_of, natural_or_zero, place_in, place_or_first, extended_place, value_number, linked_identity, linked_rows}
 use Rattle.prost_reflect_tables.specs.CatalogRows.{FileRow, MessageListsRow, EnumListsRow, ExtensionRow, MethodRow, ServiceRow, SortedRow, CatalogRows, catalog_row}
 use Rattle.prost_reflect_tables.specs.Gathered.{places_where, all_places, places_of}
@@ -29,7 +29,7 @@ top_file d = if is_none d.parent then Some d.file else None
 
 -- A name that is not there stands for the first file.
 abbrev pub file_place : List (List ℕ) → List ℕ → ℕ
-file_place names name = unwrap_or (place_of names name) 0
+file_place names name = unwrap_or (name_place names name) 0
 
 -- The file that an import names by its place among the imports.
 abbrev pub import_at : List ℕ → ℤ → ℕ

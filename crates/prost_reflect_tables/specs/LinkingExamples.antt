@@ -6,7 +6,7 @@ use Rattle.prost_reflect_tables.specs.declared.tables.Cardinality.TheVariants.{O
 use Rattle.prost_reflect_tables.specs.declared.tables.TableKind.TheVariants.{Double, Int32, String, Bool as BoolKind, Message, Enum, Sint64}
 use Rattle.prost_reflect_tables.specs.Flat.{DefinitionRow}
 use Rattle.prost_reflect_tables.specs.Options.{bool_in}
-use Rattle.prost_reflect_tables.specs.Faults.{place_of}
+use Rattle.prost_reflect_tables.specs.Faults.{name_place}
 use Rattle.prost_reflect_tables.specs.Linking.{natural_or_zero, place_in, kind_of_code, cardinality_of_label, linked_packed, linked_presence, in_order, belonging, json_name}
 use Rattle.prost_reflect_tables.specs.Examples.{single}
 
@@ -37,8 +37,8 @@ pub record KindsAndLabels : Type 0 where
   pub numbers : map natural_or_zero (None ∷ Some (negsuc 0) ∷ Some (pos 7) ∷ []) ≡ 0 ∷ 0 ∷ 7 ∷ []
   pub places : map place_in (None ∷ Some (negsuc 0) ∷ Some (pos 0) ∷ []) ≡ None ∷ None ∷ Some 0 ∷ []
   -- Of two definitions of one name the first is meant.
-  pub named : place_of (codes "A" ∷ codes "B" ∷ codes "B" ∷ []) (codes "B") ≡ Some 1
-  pub not_named : place_of (codes "A" ∷ []) (codes "B") ≡ None
+  pub named : name_place (codes "A" ∷ codes "B" ∷ codes "B" ∷ []) (codes "B") ≡ Some 1
+  pub not_named : name_place (codes "A" ∷ []) (codes "B") ≡ None
 
 pub record PackedAndPresent : Type 0 where
   -- Without the option a list of numbers is packed in proto3 alone, and a text never.

@@ -17,11 +17,11 @@ type_unfound f = (is_message_type f.definition.proto.type_ && unfound f.definiti
 abbrev pub extendee_unfound : ResolvedRow → Bool
 extendee_unfound f = unfound f.definition.proto.extendee f.extendee
 
-abbrev pub message_of : FlatRows → Option ℕ → Option FlatMessageRow
-message_of rows place = option_and_then (λ p. slice_get rows.messages p) place
+abbrev pub flat_message_at : FlatRows → Option ℕ → Option FlatMessageRow
+flat_message_at rows place = option_and_then (λ p. slice_get rows.messages p) place
 
 abbrev pub found_outside : FlatRows → ResolvedRow → Bool
-found_outside rows f = is_out_of (number_or_zero f.definition.proto.number) (message_of rows f.extendee)
+found_outside rows f = is_out_of (number_or_zero f.definition.proto.number) (flat_message_at rows f.extendee)
 
 -- The extensions whose message was found, each with its number.
 abbrev pub numbered_found : List ResolvedRow → List Numbered
@@ -29,7 +29,7 @@ numbered_found [] = []
 numbered_found (f ∷ fs) = numbered_at (number_or_zero f.definition.proto.number) f.extendee ++ numbered_found fs
 
 abbrev pub found_of_entry : FlatRows → ResolvedRow → Bool
-found_of_entry rows f = is_message_type f.definition.proto.type_ && is_entry_message (message_of rows f.message)
+found_of_entry rows f = is_message_type f.definition.proto.type_ && is_entry_message (flat_message_at rows f.message)
 
 abbrev pub wrongly_found : FlatRows → ResolvedRow → Bool
 wrongly_found rows f = found_of_entry rows f && not (is_code 3 f.definition.proto.label && is_code 11 f.definition.proto.type_)

@@ -1,63 +1,9 @@
-//! Builds the tables of files.
+//! What tables are made of: the definitions of files in flat lists, and what their texts mean.
 
-ghost use Rattle.std.specs.Prelude.{◌≢◌, IfOk, IfErr};
-ghost use Rattle.prost_reflect_tables.specs.declared.error.PoolError.TheVariants as pool_errors;
-ghost use Rattle.prost_reflect_tables.specs.Built.{AreTablesOf};
-ghost use Rattle.prost_reflect_tables.specs.Checked.{Stands};
-ghost use Rattle.prost_reflect_tables.specs.Flat.{flattened};
-ghost use Rattle.prost_reflect_tables.specs.FlatViews.{file_list};
-ghost use Rattle.prost_reflect_tables.specs.LinkedCatalog.{IsCatalogOf};
-ghost use Rattle.prost_reflect_tables.specs.Schema.{rows_of};
-
-use crate::check::check_files;
-use crate::error::PoolError;
-
-pub mod catalog;
 pub mod defaults;
-pub mod extensions;
-pub mod files;
 pub mod flatten;
-pub mod gather;
-pub mod identity;
 pub mod index;
-pub mod link;
-pub mod lists;
+pub mod kinds;
 pub mod names;
 pub mod options;
-pub mod order;
 pub mod resolve;
-pub mod services;
-
-use crate::build::catalog::linked_catalog;
-use crate::build::flatten::flattened;
-use crate::build::link::linked;
-use crate::catalog::Catalog;
-use crate::tables::Tables;
-use prost_reflect_types::FileDescriptorProto;
-use std::alloc::Global;
-
-/// The tables of files: their message types, nested ones too, and their enums, by file and then by path; and their catalog.
-///
-/// A type is named by its place in these lists, and each extension is listed with the message that it extends, wherever it was
-/// declared. The files may come in any order; each file that one depends on is among them. The cost grows as n log n in the
-/// number of definitions.
-///
-/// # Errors
-///
-/// The name of a fault that the files have, as a type that is named and is not there, or `OutOfMemory` if memory runs out. If
-/// they have several faults, one of them is named. Never `Decode`, since the files are read already.
-pub fn build_tables(
-    alloc: Global,
-    files: &[&FileDescriptorProto],
-) -> Result<(Tables, Catalog), PoolError>
-    ensures tables { IfOk result (λ t. AreTablesOf (file_list files.now) (rows_of t.0)) }
-    ensures catalog { IfOk result (λ t. IsCatalogOf (file_list files.now) t.1) }
-    ensures stands { IfErr result (λ e. e ≢ pool_errors.OutOfMemory → Stands e (file_list files.now) (flattened (file_list files.now))) }
-{
-    let flat = flattened(alloc, files)?;
-    let resolved = check_files(alloc, files, &flat)?;
-    let (messages, enums) = linked(alloc, &flat, &resolved)?;
-    let tables = Tables { messages, enums };
-    let catalog = linked_catalog(alloc, files, &flat, &resolved, &tables)?;
-    Ok((tables, catalog))
-}

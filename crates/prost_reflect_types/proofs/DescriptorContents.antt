@@ -13,10 +13,10 @@ use Rattle.prost_reflect_wire.specs.Schema.{Field, known}
 use Rattle.prost_reflect_wire.specs.Content.{Content, ContentOf, Value, Slot, then_unknowns, then_value, store, table}
 use Rattle.prost_reflect_wire.specs.Grammar.{payloads, value_records, AllowsInside, allows, body, field_allowed, record_allowed, unpacked}
 use Rattle.prost_reflect_wire.specs.Schema.{passes}
-use Rattle.prost_reflect_wire.specs.Meaning.{field_value, numbers_of, meaning_at, meaning, survive, value_meaning}
-use Rattle.prost_reflect_types.specs.DescriptorTable.{rows, place_of, form_of, value_type_of, record_schema}
+use Rattle.prost_reflect_wire.specs.Meaning.{field_value, record_numbers, meaning_at, meaning, survive, value_meaning}
+use Rattle.prost_reflect_types.specs.DescriptorTable.{rows, type_place, form_of, value_type_of, record_schema}
 use Rattle.prost_reflect_types.specs.DescriptorMeaning.{gathered, entries_gathered, value_gathered, record_decoded}
-use Rattle.prost_reflect_types.specs.DescriptorViews.{entries_from, record_of}
+use Rattle.prost_reflect_types.specs.DescriptorViews.{entries_from, record_content}
 use Rattle.prost_reflect_types.specs.DescriptorReading.{Found, FoundText, FoundRecord, kind_at, found_in, found_in_record, found_in_records, at_number, record_in, nested_decoded, all_decoded, records_at, number_in_plain, Fields}
 use Rattle.prost_reflect_types.specs.declared.table.RecordType.{RecordType}
 use Rattle.prost_reflect_types.specs.declared.table.RecordType.TheVariants as types
@@ -96,7 +96,7 @@ slot_found levels fields n kind (row ∷ rs) (slot ∷ slots) (e, (s, more)) h =
 
 abbrev BodiesAllowed : AllowsInside → RecordType → List (List ℕ) → Type 0
 BodiesAllowed a t [] = Unit {0}
-BodiesAllowed a t (b ∷ bodies) = (passes (body (Flat (Len b))) (a (place_of t)) ≡ true) × BodiesAllowed a t bodies
+BodiesAllowed a t (b ∷ bodies) = (passes (body (Flat (Len b))) (a (type_place t)) ≡ true) × BodiesAllowed a t bodies
 
 bodies_front : (a : AllowsInside) (t : RecordType) (xs ys : List (List ℕ)) → BodiesAllowed a t (xs ++ ys) → BodiesAllowed a t xs
 bodies_front a t [] ys h = tt
@@ -106,13 +106,13 @@ bodies_behind : (a : AllowsInside) (t : RecordType) (xs ys : List (List ℕ)) �
 bodies_behind a t [] ys h = h
 bodies_behind a t (x ∷ xs) ys (one, more) = bodies_behind a t xs ys more
 
-decoded_allowed : (levels : ℕ) (t : RecordType) (bytes : List ℕ) (c : Content) → nested_decoded levels t bytes ≡ Some c → passes (body (Flat (Len bytes))) (inside record_schema levels (place_of t)) ≡ true
+decoded_allowed : (levels : ℕ) (t : RecordType) (bytes : List ℕ) (c : Content) → nested_decoded levels t bytes ≡ Some c → passes (body (Flat (Len bytes))) (inside record_schema levels (type_place t)) ≡ true
 unfolding inside
 decoded_allowed zero t bytes c h = absurd (none-some _ h)
 decoded_allowed (suc k) t bytes c h =
     let d = decoded_parts (suc k) t bytes c h in
     let same : k ≡ d.inner = omega (arith, d.left) in
-    passes_body bytes d.records (allows record_schema k (place_of t)) d.read (ap (λ (j : ℕ). allows record_schema j (place_of t) (items d.records)) same ∙ d.allowed)
+    passes_body bytes d.records (allows record_schema k (type_place t)) d.read (ap (λ (j : ℕ). allows record_schema j (type_place t) (items d.records)) same ∙ d.allowed)
 
 bodies_decoded : (levels : ℕ) (t : RecordType) (bodies : List (List ℕ)) (cs : List Content) → all_decoded levels t bodies ≡ Some cs → BodiesAllowed (inside record_schema levels) t bodies
 bodies_decoded levels t [] cs h = tt
@@ -156,10 +156,10 @@ kind_allowed levels a (kinds.Records t) (Flat (Len bytes)) own h nested =
 kind_allowed levels a kind p own h nested = absurd (none-some _ h)
 
 one_allowed : (levels : ℕ) (a : AllowsInside) (t : RecordType) (r : Record) (own : List Found) → found_in_record levels (rows t) r ≡ Some own →
-    ((u : RecordType) → kind_at (rows t) r.number ≡ Some (kinds.Records u) → BodiesAllowed a u (picked record_in own)) → record_allowed levels a (known record_schema (place_of t)) r ≡ true
+    ((u : RecordType) → kind_at (rows t) r.number ≡ Some (kinds.Records u) → BodiesAllowed a u (picked record_in own)) → record_allowed levels a (known record_schema (type_place t)) r ≡ true
 one_allowed levels a t r own h nested = go (kind_at (rows t) r.number) refl
   where
-    go : (o : Option FieldKind) → kind_at (rows t) r.number ≡ o → record_allowed levels a (known record_schema (place_of t)) r ≡ true
+    go : (o : Option FieldKind) → kind_at (rows t) r.number ≡ o → record_allowed levels a (known record_schema (type_place t)) r ≡ true
     go None e =
         ap (λ (o : Option Field). elim o [ None ↦ nat_le (payload_levels r.payload) levels | Some f ↦ field_allowed levels a f.form f.value_type r.payload ]) (unknown_field t r.number e)
         ∙ (guard_ok (nat_le (payload_levels r.payload) levels) [] own (unknown_found levels (rows t) r own e h)).0
@@ -169,7 +169,7 @@ one_allowed levels a t r own h nested = go (kind_at (rows t) r.number) refl
 
 -- where nested records are accepted, all records are
 all_allowed : (levels : ℕ) (a : AllowsInside) (t : RecordType) (records : List Record) (fields : List (ℕ × Found)) → found_in_records levels (rows t) records ≡ Some fields → Nested a (rows t) fields →
-    list_all (record_allowed levels a (known record_schema (place_of t))) records ≡ true
+    list_all (record_allowed levels a (known record_schema (type_place t))) records ≡ true
 all_allowed levels a t [] fields h nested = refl
 all_allowed levels a t (r ∷ records) fields h nested =
     let f = first_record levels (rows t) r records fields h in
@@ -216,34 +216,34 @@ table_slots levels fields all at each (row ∷ rs) (slot ∷ slots) (e, found) (
 
 module _ (levels : ℕ) (t : RecordType) (records : List Record) (fields : List (ℕ × Found)) (found : found_in_records levels (rows t) records ≡ Some fields) (slots : List (ℕ × Option Value)) (s : SlotsOf levels fields (rows t) slots) where
   abbrev at : ℕ → Slot
-  at n = record { value = option_map value_gathered (value_meaning (below record_schema levels) (known record_schema (place_of t)) records n); unknowns = [] }
+  at n = record { value = option_map value_gathered (value_meaning (below record_schema levels) (known record_schema (type_place t)) records n); unknowns = [] }
 
-  numbers_cover : Covers at 0 (numbers_of records)
-  numbers_cover n low out = ap (λ (slot : Slot). record { value = option_map value_gathered slot.value; unknowns = [] }) (meaning_covers (below record_schema levels) (known record_schema (place_of t)) records n low out)
+  numbers_cover : Covers at 0 (record_numbers records)
+  numbers_cover n low out = ap (λ (slot : Slot). record { value = option_map value_gathered slot.value; unknowns = [] }) (meaning_covers (below record_schema levels) (known record_schema (type_place t)) records n low out)
 
   rows_cover : Covers at 0 (map (λ row. row.0) (rows t))
   rows_cover n low out =
-      ap (λ (o : Option Field). record { value = option_map value_gathered (o >>= λ f. field_value (below record_schema levels) f.form f.value_type (payloads (survive (known record_schema (place_of t)) f (flat_map (value_records (known record_schema (place_of t))) records)))); unknowns = [] })
+      ap (λ (o : Option Field). record { value = option_map value_gathered (o >>= λ f. field_value (below record_schema levels) f.form f.value_type (payloads (survive (known record_schema (type_place t)) f (flat_map (value_records (known record_schema (type_place t))) records)))); unknowns = [] })
       (unknown_field t n (no_row (rows t) n out))
 
   -- what the records mean, gathered
-  record_means : gathered (meaning record_schema levels (place_of t) records) ≡ record_of t slots
+  record_means : gathered (meaning record_schema levels (type_place t) records) ≡ record_content t slots
   record_means =
-      ap gathered (meaning_below record_schema levels (place_of t) records)
-      ∙ ap (ContentOf record_schema (place_of t))
-      (table_gathered (meaning_at (below record_schema levels) (known record_schema (place_of t)) records) (numbers_of records)
-      ∙ table_covers at (length (numbers_of records) + length (map (λ row. row.0) (rows t))) 0 (numbers_of records) (map (λ row. row.0) (rows t)) (omega arith) (numbers_ascending records) (rows_ascending t) numbers_cover rows_cover
+      ap gathered (meaning_below record_schema levels (type_place t) records)
+      ∙ ap (ContentOf record_schema (type_place t))
+      (table_gathered (meaning_at (below record_schema levels) (known record_schema (type_place t)) records) (record_numbers records)
+      ∙ table_covers at (length (record_numbers records) + length (map (λ row. row.0) (rows t))) 0 (record_numbers records) (map (λ row. row.0) (rows t)) (omega arith) (numbers_ascending records) (rows_ascending t) numbers_cover rows_cover
       ∙ table_slots levels fields (rows t) at (λ n kind v e s. ap (λ (o : Option Value). record { value = o; unknowns = [] }) (slot_means levels t n kind records fields v e found s)) (rows t) slots (rows_found t) s)
 
-  records_allowed : allows record_schema levels (place_of t) records ≡ true
-  records_allowed = allows_inside record_schema levels (place_of t) records ∙ all_allowed levels (inside record_schema levels) t records fields found (slots_nested levels fields (rows t) slots s)
+  records_allowed : allows record_schema levels (type_place t) records ≡ true
+  records_allowed = allows_inside record_schema levels (type_place t) records ∙ all_allowed levels (inside record_schema levels) t records fields found (slots_nested levels fields (rows t) slots s)
 
 -- The bytes of a record mean its fields, where each of these is what was found at its number.
-pub record_read : (levels : ℕ) (t : RecordType) (fields : List (ℕ × Found)) (bytes : List ℕ) (slots : List (ℕ × Option Value)) → Fields levels t fields bytes [] → SlotsOf levels fields (rows t) slots → record_decoded levels t bytes ≡ Some (record_of t slots)
+pub record_read : (levels : ℕ) (t : RecordType) (fields : List (ℕ × Found)) (bytes : List ℕ) (slots : List (ℕ × Option Value)) → Fields levels t fields bytes [] → SlotsOf levels fields (rows t) slots → record_decoded levels t bytes ≡ Some (record_content t slots)
 record_read levels t fields bytes slots f s =
-    ap (λ (o : Option Records). option_map gathered (o >>= λ rs. guard (allows record_schema levels (place_of t) (items rs)) (meaning record_schema levels (place_of t) (items rs)))) (spelled_read (body_of f.records) bytes spelled)
-    ∙ ap (λ rs. option_map gathered (guard (allows record_schema levels (place_of t) rs) (meaning record_schema levels (place_of t) rs))) (items_body f.records)
-    ∙ ap (λ b. option_map gathered (guard b (meaning record_schema levels (place_of t) f.records))) (records_allowed levels t f.records fields f.found slots s)
+    ap (λ (o : Option Records). option_map gathered (o >>= λ rs. guard (allows record_schema levels (type_place t) (items rs)) (meaning record_schema levels (type_place t) (items rs)))) (spelled_read (body_of f.records) bytes spelled)
+    ∙ ap (λ rs. option_map gathered (guard (allows record_schema levels (type_place t) rs) (meaning record_schema levels (type_place t) rs))) (items_body f.records)
+    ∙ ap (λ b. option_map gathered (guard b (meaning record_schema levels (type_place t) f.records))) (records_allowed levels t f.records fields f.found slots s)
     ∙ ap Some (record_means levels t f.records fields f.found slots s)
   where
     spelled : Spells (body_of f.records) bytes

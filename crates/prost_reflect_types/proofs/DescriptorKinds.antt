@@ -9,7 +9,7 @@ use Rattle.prost_reflect_wire.specs.Schema.{ScalarOf, MessageOf, Singular, Repea
 use Rattle.prost_reflect_wire.specs.Content.{Content, Value, ScalarValue, MessageValue, ListValue, MapValue, Values, NoValues, Item, values_from}
 use Rattle.prost_reflect_wire.specs.Grammar.{unpacked, or_none, last, records_in, value_payloads, allows}
 use Rattle.prost_reflect_wire.specs.Meaning.{MeansInside, present, scalar_values, element, field_value, present_list, meaning}
-use Rattle.prost_reflect_types.specs.DescriptorTable.{scalar_of, value_type_of, place_of, record_schema}
+use Rattle.prost_reflect_types.specs.DescriptorTable.{scalar_of, value_type_of, type_place, record_schema}
 use Rattle.prost_reflect_types.specs.DescriptorMeaning.{in_front_of, gathered, value_gathered, values_gathered}
 use Rattle.prost_reflect_types.specs.DescriptorReading.{Found, FoundText, FoundNumber, FoundFlag, found_in, number_in_plain, in_front, text_in, number_in, flag_in, bytes_in, record_in, last_of, joined_to, nested_decoded, all_decoded}
 use Rattle.prost_reflect_types.specs.declared.table.RecordType.{RecordType}
@@ -269,10 +269,10 @@ bytes_mean inner ps xs h = list_value inner kinds.Bytes bytes_in (λ b. ScalarVa
 
 -- what the bytes of a record mean one level down, before they are gathered
 abbrev pub means_inside : MeansInside → RecordType → List ℕ → Value
-means_inside inner t bytes = MessageValue (inner (place_of t) (records_in (Flat (Len bytes))))
+means_inside inner t bytes = MessageValue (inner (type_place t) (records_in (Flat (Len bytes))))
 
 records_each : (inner : MeansInside) (t : RecordType) (p : Payload) (own : List Found) → found_in (kinds.Records t) p ≡ Some own →
-    flat_map (element inner (MessageOf (place_of t))) (value_payloads (Repeated false) (value_type_of (kinds.Records t)) p) ≡ map (means_inside inner t) (picked record_in own)
+    flat_map (element inner (MessageOf (type_place t))) (value_payloads (Repeated false) (value_type_of (kinds.Records t)) p) ≡ map (means_inside inner t) (picked record_in own)
 records_each inner t (Flat (Len bytes)) own h = ap (λ own. map (means_inside inner t) (picked record_in own)) (same_Some _ _ h)
 records_each inner t p own h = absurd (none-some _ h)
 
@@ -281,8 +281,8 @@ pub record Decoded (levels : ℕ) (t : RecordType) (bytes : List ℕ) (c : Conte
   pub read : read bytes ≡ Some records
   pub inner : ℕ
   pub left : levels ≡ suc inner
-  pub allowed : allows record_schema inner (place_of t) (items records) ≡ true
-  pub means : gathered (meaning record_schema inner (place_of t) (items records)) ≡ c
+  pub allowed : allows record_schema inner (type_place t) (items records) ≡ true
+  pub means : gathered (meaning record_schema inner (type_place t) (items records)) ≡ c
 
 option_inside : {A B : Type 0} (f : A → B) (o : Option A) (y : B) → option_map f o ≡ Some y → (x : A) × (o ≡ Some x) × (f x ≡ y)
 option_inside f None y h = absurd (none-some _ h)
@@ -291,9 +291,9 @@ option_inside f (Some x) y h = (x, refl, same_Some _ _ h)
 pub decoded_parts : (levels : ℕ) (t : RecordType) (bytes : List ℕ) (c : Content) → nested_decoded levels t bytes ≡ Some c → Decoded levels t bytes c
 decoded_parts zero t bytes c h = absurd (none-some _ h)
 decoded_parts (suc k) t bytes c h =
-    let (d, decoded, gathers) = option_inside gathered (read bytes >>= λ rs. guard (allows record_schema k (place_of t) (items rs)) (meaning record_schema k (place_of t) (items rs))) c h in
-    let (rs, is, guarded) = bind_ok (λ rs. guard (allows record_schema k (place_of t) (items rs)) (meaning record_schema k (place_of t) (items rs))) (read bytes) d decoded in
-    let (allowed, means) = guard_ok (allows record_schema k (place_of t) (items rs)) (meaning record_schema k (place_of t) (items rs)) d guarded in
+    let (d, decoded, gathers) = option_inside gathered (read bytes >>= λ rs. guard (allows record_schema k (type_place t) (items rs)) (meaning record_schema k (type_place t) (items rs))) c h in
+    let (rs, is, guarded) = bind_ok (λ rs. guard (allows record_schema k (type_place t) (items rs)) (meaning record_schema k (type_place t) (items rs))) (read bytes) d decoded in
+    let (allowed, means) = guard_ok (allows record_schema k (type_place t) (items rs)) (meaning record_schema k (type_place t) (items rs)) d guarded in
     record { records = rs; read = is; inner = k; left = refl; allowed = allowed; means = ap gathered means ∙ gathers }
 
 nested_means : (levels : ℕ) (t : RecordType) (bytes : List ℕ) (c : Content) → nested_decoded levels t bytes ≡ Some c → value_gathered (means_inside (below record_schema levels) t bytes) ≡ MessageValue c
@@ -302,8 +302,8 @@ nested_means zero t bytes c h = absurd (none-some _ h)
 nested_means (suc k) t bytes c h =
     let d = decoded_parts (suc k) t bytes c h in
     let same : k ≡ d.inner = omega (arith, d.left) in
-    ap (λ (o : Option Records). MessageValue (gathered (meaning record_schema k (place_of t) (or_none (o >>= λ rs. Some (items rs)))))) d.read
-    ∙ ap (λ (j : ℕ). MessageValue (gathered (meaning record_schema j (place_of t) (items d.records)))) same
+    ap (λ (o : Option Records). MessageValue (gathered (meaning record_schema k (type_place t) (or_none (o >>= λ rs. Some (items rs)))))) d.read
+    ∙ ap (λ (j : ℕ). MessageValue (gathered (meaning record_schema j (type_place t) (items d.records)))) same
     ∙ ap MessageValue d.means
 
 all_nested : (levels : ℕ) (t : RecordType) (bodies : List (List ℕ)) (cs : List Content) → all_decoded levels t bodies ≡ Some cs → values_gathered (values_from (map (means_inside (below record_schema levels) t) bodies)) ≡ values_from (map MessageValue cs)

@@ -10,7 +10,7 @@ use Rattle.prost_reflect_wire.specs.Scalar.{I32, Text, Bytes}
 use Rattle.prost_reflect_wire.specs.Content.{Content, Value, ScalarValue, ListValue, NoValues, Item, values_from}
 use Rattle.prost_reflect_wire.specs.Grammar.{payloads, has_number, numbered, value_records, value_payloads}
 use Rattle.prost_reflect_wire.specs.Meaning.{MeansInside, field_value, present_list, survive, value_meaning}
-use Rattle.prost_reflect_types.specs.DescriptorTable.{rows, place_of, form_of, value_type_of, field_of_row, record_schema}
+use Rattle.prost_reflect_types.specs.DescriptorTable.{rows, type_place, form_of, value_type_of, field_of_row, record_schema}
 use Rattle.prost_reflect_types.specs.DescriptorMeaning.{value_gathered}
 use Rattle.prost_reflect_types.specs.DescriptorViews.{of_records}
 use Rattle.prost_reflect_types.specs.DescriptorReading.{Found, kind_at, found_in, found_in_record, found_in_records, under, in_front, at_number, record_in, text_in, bytes_in, number_in, joined_to, all_decoded, text_at, number_at, flag_at, bytes_at, texts_at, numbers_at, records_at}
@@ -101,7 +101,7 @@ not_sibling fields f (r ∷ rs) e = ap₂ ◌||◌ (no_sibling fields f r.number
 
 -- the payloads of a row's number are what it means
 row_payloads : (inner : MeansInside) (t : RecordType) (n : ℕ) (kind : FieldKind) (records : List Record) → kind_at (rows t) n ≡ Some kind →
-    value_meaning inner (known record_schema (place_of t)) records n ≡ field_value inner (form_of kind) (value_type_of kind) (flat_map (value_payloads (form_of kind) (value_type_of kind)) (numbered n records))
+    value_meaning inner (known record_schema (type_place t)) records n ≡ field_value inner (form_of kind) (value_type_of kind) (flat_map (value_payloads (form_of kind) (value_type_of kind)) (numbered n records))
 row_payloads inner t n kind records known_kind =
     ap (λ (o : Option Field). o >>= λ f. field_value inner f.form f.value_type (payloads (survive fields f (flat_map (value_records fields) records)))) found
     ∙ ap (λ rs. field_value inner (form_of kind) (value_type_of kind) (payloads rs))
@@ -111,9 +111,9 @@ row_payloads inner t n kind records known_kind =
     ∙ ap (field_value inner (form_of kind) (value_type_of kind)) (block_payloads n (flat_map (value_payloads (form_of kind) (value_type_of kind)) (numbered n records)))
   where
     fields : List Field
-    fields = known record_schema (place_of t)
+    fields = known record_schema (type_place t)
 
-    found : field_of (known record_schema (place_of t)) n ≡ Some (field_of_row (n, kind))
+    found : field_of (known record_schema (type_place t)) n ≡ Some (field_of_row (n, kind))
     found = known_field t n kind known_kind
 
 -- What stands in a record at the number of a row, by its kind.
@@ -142,7 +142,7 @@ slot_kind levels n (kinds.Records t) ps fields v h (cs, d, s) =
     records_mean levels t ps (at_number (λ x. Some x) n fields) cs h (ap (all_decoded levels t) (sym (at_picked record_in n fields)) ∙ d) ∙ sym s
 
 pub slot_means : (levels : ℕ) (t : RecordType) (n : ℕ) (kind : FieldKind) (records : List Record) (fields : List (ℕ × Found)) (v : Option Value) → kind_at (rows t) n ≡ Some kind → found_in_records levels (rows t) records ≡ Some fields →
-    SlotOf levels kind n fields v → option_map value_gathered (value_meaning (below record_schema levels) (known record_schema (place_of t)) records n) ≡ v
+    SlotOf levels kind n fields v → option_map value_gathered (value_meaning (below record_schema levels) (known record_schema (type_place t)) records n) ≡ v
 slot_means levels t n kind records fields v known_kind found s =
     ap (option_map value_gathered) (row_payloads (below record_schema levels) t n kind records known_kind)
     ∙ slot_kind levels n kind (numbered n records) fields v (found_numbered levels (rows t) n kind known_kind records fields found) s

@@ -3,13 +3,13 @@ use Rattle.std.proofs.Common.{◌≡◌, ℕ, Bool, true, false, cond, List, [],
 use Rattle.std.proofs.lemmas.Bool.{eqb-true}
 use Rattle.prost_reflect_wire.specs.Varint.{◌>>=◌}
 use Rattle.prost_reflect_wire.specs.Schema.{field_of, known}
-use Rattle.prost_reflect_types.specs.DescriptorTable.{rows, place_of, field_of_row, record_schema}
+use Rattle.prost_reflect_types.specs.DescriptorTable.{rows, type_place, field_of_row, record_schema}
 use Rattle.prost_reflect_types.specs.DescriptorReading.{kind_at}
 use Rattle.prost_reflect_types.specs.declared.table.RecordType.{RecordType}
 use Rattle.prost_reflect_types.specs.declared.table.RecordType.TheVariants as types
 use Rattle.prost_reflect_types.specs.declared.table.FieldKind.{FieldKind}
 
-pub known_rows : (t : RecordType) → known record_schema (place_of t) ≡ map field_of_row (rows t)
+pub known_rows : (t : RecordType) → known record_schema (type_place t) ≡ map field_of_row (rows t)
 unfolding record_schema
 known_rows types.FileSet = refl
 known_rows types.File = refl
@@ -34,11 +34,11 @@ field_of_kind (row ∷ rs) n = go (nat_eq row.0 n) refl (field_of_kind rs n)
     go true e more = ap (λ (m : ℕ). Some (field_of_row (m, row.1))) (eqb-true row.0 n e)
     go false e more = more
 
-pub field_at_number : (t : RecordType) (n : ℕ) → field_of (known record_schema (place_of t)) n ≡ (kind_at (rows t) n >>= λ kind. Some (field_of_row (n, kind)))
+pub field_at_number : (t : RecordType) (n : ℕ) → field_of (known record_schema (type_place t)) n ≡ (kind_at (rows t) n >>= λ kind. Some (field_of_row (n, kind)))
 field_at_number t n = ap (λ fs. field_of fs n) (known_rows t) ∙ field_of_kind (rows t) n
 
-pub known_field : (t : RecordType) (n : ℕ) (kind : FieldKind) → kind_at (rows t) n ≡ Some kind → field_of (known record_schema (place_of t)) n ≡ Some (field_of_row (n, kind))
+pub known_field : (t : RecordType) (n : ℕ) (kind : FieldKind) → kind_at (rows t) n ≡ Some kind → field_of (known record_schema (type_place t)) n ≡ Some (field_of_row (n, kind))
 known_field t n kind e = field_at_number t n ∙ ap (λ (o : Option FieldKind). o >>= λ k. Some (field_of_row (n, k))) e
 
-pub unknown_field : (t : RecordType) (n : ℕ) → kind_at (rows t) n ≡ None → field_of (known record_schema (place_of t)) n ≡ None
+pub unknown_field : (t : RecordType) (n : ℕ) → kind_at (rows t) n ≡ None → field_of (known record_schema (type_place t)) n ≡ None
 unknown_field t n e = field_at_number t n ∙ ap (λ (o : Option FieldKind). o >>= λ k. Some (field_of_row (n, k))) e

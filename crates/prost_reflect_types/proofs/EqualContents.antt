@@ -6,7 +6,7 @@ use Rattle.std.specs.List.{AllZip}
 use Rattle.std.specs.declared.alloc.Global.{Global}
 use Rattle.prost_reflect_wire.specs.Scalar.{I32, Text}
 use Rattle.prost_reflect_wire.specs.Content.{Content, ScalarValue, entries_of}
-use Rattle.prost_reflect_types.specs.DescriptorViews.{record_of, of_text, of_number, of_flag, of_bytes, of_texts, of_numbers, of_records, of_extension_range, of_reserved_range, of_field, of_oneof, of_enum_value, of_enum_reserved_range, of_enum, of_method, of_service, of_message, of_file}
+use Rattle.prost_reflect_types.specs.DescriptorViews.{record_content, of_text, of_number, of_flag, of_bytes, of_texts, of_numbers, of_records, of_extension_range, of_reserved_range, of_field, of_oneof, of_enum_value, of_enum_reserved_range, of_enum, of_method, of_service, of_message, of_file}
 use Rattle.prost_reflect_types.specs.declared.table.RecordType.TheVariants as types
 use Rattle.prost_reflect_types.specs.declared.ExtensionRange.{ExtensionRange}
 use Rattle.prost_reflect_types.specs.declared.ReservedRange.{ReservedRange}
@@ -239,7 +239,7 @@ pub record SameLayer (m n : DescriptorProto-F DescriptorProto) : Type 0 where
 abbrev layer_slots : DescriptorProto-F DescriptorProto → Slots
 layer_slots r = (1, of_text r.name) ∷ (2, of_records (map of_field r.field.items)) ∷ (3, of_records (map of_message r.nested_type.items)) ∷ (4, of_records (map of_enum r.enum_type.items)) ∷ (5, of_records (map of_extension_range r.extension_range.items)) ∷ (6, of_records (map of_field r.extension.items)) ∷ (7, of_bytes r.options) ∷ (8, of_records (map of_oneof r.oneof_decl.items)) ∷ (9, of_records (map of_reserved_range r.reserved_range.items)) ∷ (10, of_texts r.reserved_name) ∷ []
 
-layer_same : (m n : DescriptorProto-F DescriptorProto) → record_of types.Message (layer_slots m) ≡ record_of types.Message (layer_slots n) → SameLayer m n
+layer_same : (m n : DescriptorProto-F DescriptorProto) → record_content types.Message (layer_slots m) ≡ record_content types.Message (layer_slots n) → SameLayer m n
 layer_same m n e = let p = each_same (layer_slots m) (layer_slots n) ⊤ refl (ap entries_of e) tt in record {
   name = text_same m.name n.name p.0.0.0.0.0.0.0.0.0.1;
   field = all_same of_field SameField field_same m.field.items n.field.items p.0.0.0.0.0.0.0.0.1;

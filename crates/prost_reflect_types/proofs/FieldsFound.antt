@@ -21,7 +21,7 @@ use Rattle.prost_reflect_wire.specs.Scalar.{Int32, low_32, low_i32}
 use Rattle.prost_reflect_wire.specs.Schema.{Schema, Field, is_map}
 use Rattle.prost_reflect_wire.specs.Fault.{Place, OfType, Stands, Here, Comes, field_at, ElementFault, ElementEnds, ElementPasses, StandsInMessage, ValueFault, PackedNext, TextNext, takes}
 use Rattle.prost_reflect_wire.specs.Unknown.{SkipsValue}
-use Rattle.prost_reflect_types.specs.DescriptorTable.{rows, place_of, form_of, value_type_of, field_of_row, record_schema}
+use Rattle.prost_reflect_types.specs.DescriptorTable.{rows, type_place, form_of, value_type_of, field_of_row, record_schema}
 use Rattle.prost_reflect_wire.specs.Decoding.{FieldFault}
 use Rattle.prost_reflect_types.specs.DescriptorReading.{Found, FoundNumber, Fields, FieldRead, DelimitedFault, PackedRead, kind_at, found_in, found_in_record, found_in_records, number_in_plain, under, found_at, all_found}
 use Rattle.prost_reflect_wire.proofs.Sound.{bind_ok}
@@ -174,18 +174,18 @@ module _ (levels : ℕ) (t : RecordType) (fields : List (ℕ × Found)) (body mi
       ∙ ap (λ b. guard b []) (le-leb (payload_levels p) levels f.within)))
 
   abbrev Here_at : Place
-  Here_at = record { bytes = body; inside = OfType (place_of t); levels = levels; open_group = None }
+  Here_at = record { bytes = body; inside = OfType (type_place t); levels = levels; open_group = None }
 
   -- WHAT IS REFUSED
 
-  behind : (e : DecodeError) → Stands record_schema e (record Here_at { bytes = mid }) → StandsInMessage record_schema (place_of t) levels e body
+  behind : (e : DecodeError) → Stands record_schema e (record Here_at { bytes = mid }) → StandsInMessage record_schema (type_place t) levels e body
   behind e s = stands_behind record_schema e Here_at (body_of done.records) mid done.front s
 
-  pub no_key : (e : DecodeError) → mid ≢ [] → KeyFault e mid → StandsInMessage record_schema (place_of t) levels e body
+  pub no_key : (e : DecodeError) → mid ≢ [] → KeyFault e mid → StandsInMessage record_schema (type_place t) levels e body
   no_key e some f = behind e (key_stands record_schema (record Here_at { bytes = mid }) e f (λ none. absurd (some none)))
 
-  pub no_unknown : (e : DecodeError) (n : ℕ) (w : WireType) (after : List ℕ) → KeyFront n w mid after → None ≡ kind_at (rows t) n → ValueFault e n w levels after → StandsInMessage record_schema (place_of t) levels e body
+  pub no_unknown : (e : DecodeError) (n : ℕ) (w : WireType) (after : List ℕ) → KeyFront n w mid after → None ≡ kind_at (rows t) n → ValueFault e n w levels after → StandsInMessage record_schema (type_place t) levels e body
   no_unknown e n w after key unknown f = behind e (value_stands record_schema (record Here_at { bytes = mid }) e n w after (unknown_field t n (sym unknown)) key (λ _ same. none-some _ same) f)
 
-  pub no_known : (e : DecodeError) (n : ℕ) (w : WireType) (after : List ℕ) (kind : FieldKind) → KeyFront n w mid after → Some kind ≡ kind_at (rows t) n → FieldFault e (field_of_row (n, kind)) w after → StandsInMessage record_schema (place_of t) levels e body
+  pub no_known : (e : DecodeError) (n : ℕ) (w : WireType) (after : List ℕ) (kind : FieldKind) → KeyFront n w mid after → Some kind ≡ kind_at (rows t) n → FieldFault e (field_of_row (n, kind)) w after → StandsInMessage record_schema (type_place t) levels e body
   no_known e n w after kind key known f = behind e (field_stands record_schema e (record Here_at { bytes = mid }) n w after (field_of_row (n, kind)) key (known_field t n kind (sym known)) (λ _. none-some _) f)

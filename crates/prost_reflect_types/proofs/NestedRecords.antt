@@ -8,7 +8,7 @@ use Rattle.prost_reflect_wire.specs.Varint.{AreBytes, ◌>>=◌}
 use Rattle.prost_reflect_wire.specs.Record.{items}
 use Rattle.prost_reflect_wire.specs.Grammar.{Accepts, allows}
 use Rattle.prost_reflect_wire.specs.Fault.{StandsInMessage}
-use Rattle.prost_reflect_types.specs.DescriptorTable.{place_of, record_schema}
+use Rattle.prost_reflect_types.specs.DescriptorTable.{type_place, record_schema}
 use Rattle.prost_reflect_types.specs.DescriptorMeaning.{record_decoded}
 use Rattle.prost_reflect_wire.specs.Content.{Content}
 use Rattle.prost_reflect_types.specs.DescriptorReading.{nested_decoded, all_decoded, StandsInNested, StandsAmong}
@@ -56,21 +56,21 @@ no_body bodies i past = ap (map (λ (b : Bor (List ℕ)). b.now)) (nil_from_leng
 -- ALL BYTES
 
 -- what is decoded is accepted
-decoded_accepts : (levels : ℕ) (t : RecordType) (bytes : List ℕ) (c : Content) → AreBytes bytes → record_decoded levels t bytes ≡ Some c → Accepts record_schema levels (place_of t) bytes
+decoded_accepts : (levels : ℕ) (t : RecordType) (bytes : List ℕ) (c : Content) → AreBytes bytes → record_decoded levels t bytes ≡ Some c → Accepts record_schema levels (type_place t) bytes
 decoded_accepts levels t bytes c small h =
     let d = decoded_parts (suc levels) t bytes c h in
     let same : d.inner ≡ levels = omega (arith, d.left) in
-    record { records = d.records; spelled = read_spells bytes d.records small d.read; allowed = subst (λ (k : ℕ). allows record_schema k (place_of t) (items d.records) ≡ true) same d.allowed }
+    record { records = d.records; spelled = read_spells bytes d.records small d.read; allowed = subst (λ (k : ℕ). allows record_schema k (type_place t) (items d.records) ≡ true) same d.allowed }
 
 pub ok_accepts : {X : Type 0} (levels : ℕ) (t : RecordType) (bytes : List ℕ) (content : X → Content) (r : Result X DecodeError) → AreBytes bytes →
-    IfOk r (λ own. record_decoded levels t bytes ≡ Some (content own)) → IfOk r (λ _. Accepts record_schema levels (place_of t) bytes)
+    IfOk r (λ own. record_decoded levels t bytes ≡ Some (content own)) → IfOk r (λ _. Accepts record_schema levels (type_place t) bytes)
 ok_accepts levels t bytes content (Ok x) small h = decoded_accepts levels t bytes (content x) small h
 ok_accepts levels t bytes content (Err e) small h = tt
 
 pub err_memory : {X : Type 0} (levels : ℕ) (t : RecordType) (bytes : List ℕ) (r : Result X DecodeError) → AreBytes bytes →
-    IfErr r (λ e. e ≢ errors.OutOfMemory → StandsInMessage record_schema (place_of t) levels e bytes) → IfErr r (λ e. Accepts record_schema levels (place_of t) bytes → e ≡ errors.OutOfMemory)
+    IfErr r (λ e. e ≢ errors.OutOfMemory → StandsInMessage record_schema (type_place t) levels e bytes) → IfErr r (λ e. Accepts record_schema levels (type_place t) bytes → e ≡ errors.OutOfMemory)
 err_memory levels t bytes (Ok x) small h = tt
-err_memory levels t bytes (Err e) small h = λ accepted. accepted_only_memory record_schema levels (place_of t) bytes small accepted e h
+err_memory levels t bytes (Err e) small h = λ accepted. accepted_only_memory record_schema levels (type_place t) bytes small accepted e h
 
 -- WHAT IS SAID OF EACH BODY
 

@@ -4,8 +4,8 @@ use Rattle.prost_reflect_wire.specs.Record.{record_at, spelled}
 use Rattle.prost_reflect_wire.specs.Schema.{Field, field_of, known}
 use Rattle.prost_reflect_wire.specs.Content.{Content, Value, then_value}
 use Rattle.prost_reflect_wire.specs.Writing.{encoded, entries_records, field_payloads}
-use Rattle.prost_reflect_types.specs.DescriptorTable.{rows, place_of, field_of_row, record_schema}
-use Rattle.prost_reflect_types.specs.DescriptorViews.{entries_from, record_of, of_text, of_number, of_flag, of_bytes, of_texts, of_numbers, of_records, of_extension_range, of_reserved_range, of_field, of_oneof, of_enum_value, of_enum_reserved_range, of_enum, of_method, of_service, message_step, of_message, of_file}
+use Rattle.prost_reflect_types.specs.DescriptorTable.{rows, type_place, field_of_row, record_schema}
+use Rattle.prost_reflect_types.specs.DescriptorViews.{entries_from, record_content, of_text, of_number, of_flag, of_bytes, of_texts, of_numbers, of_records, of_extension_range, of_reserved_range, of_field, of_oneof, of_enum_value, of_enum_reserved_range, of_enum, of_method, of_service, message_step, of_message, of_file}
 use Rattle.prost_reflect_types.specs.DescriptorWriting.{field_bytes}
 use Rattle.prost_reflect_wire.specs.Sinks.{Adds}
 use Rattle.prost_reflect_types.specs.declared.table.FieldKind.{FieldKind}
@@ -67,7 +67,7 @@ abbrev pub file_set_slots : FileDescriptorSet → Slots
 file_set_slots r = (1, of_records (map of_file r.file.items)) ∷ []
 
 -- a message by its fields
-pub message_out : (m : DescriptorProto) → of_message m ≡ record_of types.Message (message_slots m)
+pub message_out : (m : DescriptorProto) → of_message m ≡ record_content types.Message (message_slots m)
 message_out = fold_out-DescriptorProto Content message_step
 
 -- BYTES
@@ -89,7 +89,7 @@ SameNumbers (row ∷ rows) [] = ⊥
 SameNumbers (row ∷ rows) (slot ∷ slots) = (row.0 ≡ slot.0) × SameNumbers rows slots
 
 -- each row of a type is a field of it
-pub rows_found : (t : RecordType) → AllFound (known record_schema (place_of t)) (rows t)
+pub rows_found : (t : RecordType) → AllFound (known record_schema (type_place t)) (rows t)
 unfolding record_schema
 rows_found types.ExtensionRange = (refl, (refl, (refl, tt)))
 rows_found types.ReservedRange = (refl, (refl, tt))
@@ -123,5 +123,5 @@ all_fields fields (row ∷ rows) (slot ∷ slots) done found same = first_field 
 
 -- fields that are written one in front of another are the record
 pub record_adds : {A : Type 0} (added : A → A → List ℕ → Type 0) (old new : A) (t : RecordType) (slots : Slots) → SameNumbers (rows t) slots →
-    ((start : A) (done : List ℕ) → added start old done → added start new (fields_before (rows t) slots done)) → Adds added old new (encoded (record_of t slots))
-record_adds added old new t slots same steps = λ start done h. subst (λ (l : List ℕ). added start new l) (all_fields (known record_schema (place_of t)) (rows t) slots done (rows_found t) same) (steps start done h)
+    ((start : A) (done : List ℕ) → added start old done → added start new (fields_before (rows t) slots done)) → Adds added old new (encoded (record_content t slots))
+record_adds added old new t slots same steps = λ start done h. subst (λ (l : List ℕ). added start new l) (all_fields (known record_schema (type_place t)) (rows t) slots done (rows_found t) same) (steps start done h)

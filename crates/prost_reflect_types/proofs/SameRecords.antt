@@ -4,8 +4,8 @@ use Rattle.std.specs.Bool.{⊤}
 use Rattle.std.proofs.lemmas.Bool.{eq-eqb, eqb-true, and_parts}
 use Rattle.prost_reflect_wire.specs.Content.{Content, ContentOf, Entries, Value, entries_of, then_value, value_at}
 use Rattle.prost_reflect_wire.specs.ContentEquality.{content_eq, content_same, content_refl}
-use Rattle.prost_reflect_types.specs.DescriptorTable.{place_of, record_schema}
-use Rattle.prost_reflect_types.specs.DescriptorViews.{entries_from, record_of}
+use Rattle.prost_reflect_types.specs.DescriptorTable.{type_place, record_schema}
+use Rattle.prost_reflect_types.specs.DescriptorViews.{entries_from, record_content}
 use Rattle.prost_reflect_types.specs.declared.table.RecordType.{RecordType}
 use Rattle.prost_reflect_types.proofs.RecordSlots.{Slots}
 
@@ -75,8 +75,8 @@ all_same (x ∷ xs) (y ∷ ys) P al s =
     let both = all_same xs ys (P × (x.1 ≡ y.1)) more s in
     (both.0.0, ap (λ n. then_value n x.1 (entries_from xs)) (eqb-true x.0 y.0 number) ∙ ap (λ o. then_value y.0 o (entries_from xs)) both.0.1 ∙ ap (then_value y.0 y.1) both.1)
 
-pub record_decided : (t : RecordType) (xs ys : Slots) → aligned xs ys ≡ true → (b : Bool) → IsTrue b ↔ SameTo xs ys ⊤ → IsTrue b ↔ (record_of t xs ≡ record_of t ys)
-record_decided t xs ys al b h = (λ yes. ap (ContentOf record_schema (place_of t)) (all_same xs ys ⊤ al (h.0 yes)).1, λ e. h.1 (each_same xs ys ⊤ al (ap entries_of e) tt))
+pub record_decided : (t : RecordType) (xs ys : Slots) → aligned xs ys ≡ true → (b : Bool) → IsTrue b ↔ SameTo xs ys ⊤ → IsTrue b ↔ (record_content t xs ≡ record_content t ys)
+record_decided t xs ys al b h = (λ yes. ap (ContentOf record_schema (type_place t)) (all_same xs ys ⊤ al (h.0 yes)).1, λ e. h.1 (each_same xs ys ⊤ al (ap entries_of e) tt))
 
 -- an answer that decides equality is the test's
 pub decided_value : (c d : Content) (b : Bool) → IsTrue b ↔ (c ≡ d) → b ≡ content_eq c d

@@ -11,7 +11,7 @@ use Rattle.prost_reflect_wire.specs.Schema.{MessageOf}
 use Rattle.prost_reflect_wire.specs.Content.{Content, Value, ScalarValue, MessageValue, ListValue, Values, Item, values_from, values_ordered}
 use Rattle.prost_reflect_wire.specs.Meaning.{present_list}
 use Rattle.prost_reflect_wire.specs.Typing.{values_pass, elements_valid, ValuesTyped}
-use Rattle.prost_reflect_types.specs.DescriptorTable.{record_schema, place_of, value_type_of}
+use Rattle.prost_reflect_types.specs.DescriptorTable.{record_schema, type_place, value_type_of}
 use Rattle.prost_reflect_types.specs.DescriptorMeaning.{values_gathered}
 use Rattle.prost_reflect_types.specs.DescriptorViews.{of_text, of_number, of_flag, of_bytes, of_texts, of_numbers, of_records}
 use Rattle.prost_reflect_types.specs.DescriptorSound.{sound_test, RecordSound, FieldSound}
@@ -131,7 +131,7 @@ pub records_sound : (t : RecordType) (cs : List Content) → AllSound t cs → F
 unfolding of_records
 records_sound t = go
   where
-    fits : (cs : List Content) → elements_valid (MessageOf (place_of t)) (values_from (map MessageValue cs)) ≡ true
+    fits : (cs : List Content) → elements_valid (MessageOf (type_place t)) (values_from (map MessageValue cs)) ≡ true
     fits [] = refl
     fits (c ∷ cs) = fits cs
 
@@ -143,7 +143,7 @@ records_sound t = go
     order [] h = refl
     order (c ∷ cs) h = and_from _ _ h.0.order (order cs h.1)
 
-    types : (cs : List Content) → AllSound t cs → ValuesTyped record_schema (Some (MessageOf (place_of t))) (values_from (map MessageValue cs))
+    types : (cs : List Content) → AllSound t cs → ValuesTyped record_schema (Some (MessageOf (type_place t))) (values_from (map MessageValue cs))
     types [] h = tt
     types (c ∷ cs) h = (((h.0.own_schema, eq-eqb _ _ h.0.own_type), h.0.types), types cs h.1)
 

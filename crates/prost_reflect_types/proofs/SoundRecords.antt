@@ -12,9 +12,9 @@ use Rattle.prost_reflect_wire.specs.Writing.{encoded}
 use Rattle.prost_reflect_wire.specs.Levels.{levels}
 use Rattle.prost_reflect_wire.specs.Typing.{fit_test, alone_test, filled_test, default_test, entries_pass, is_alone, value_valid, is_empty_value, is_stored_default, kind_for, EntriesTyped, ValueTyped, WellTyped}
 use Rattle.prost_reflect_laws.specs.Laws.{Writable}
-use Rattle.prost_reflect_types.specs.DescriptorTable.{rows, place_of, field_of_row, record_schema}
+use Rattle.prost_reflect_types.specs.DescriptorTable.{rows, type_place, field_of_row, record_schema}
 use Rattle.prost_reflect_types.specs.DescriptorMeaning.{gathered, entries_gathered, record_decoded}
-use Rattle.prost_reflect_types.specs.DescriptorViews.{entries_from, record_of}
+use Rattle.prost_reflect_types.specs.DescriptorViews.{entries_from, record_content}
 use Rattle.prost_reflect_types.specs.DescriptorSound.{sound_test, RecordSound, ValueSound, FieldSound}
 use Rattle.prost_reflect_types.specs.declared.table.FieldKind.{FieldKind}
 use Rattle.prost_reflect_types.specs.declared.table.RecordType.{RecordType}
@@ -74,10 +74,10 @@ all_sound fields (row ∷ rows) (slot ∷ slots) found same up s =
     let (here, more) = and_parts (above slot.0 slots) (ascending slots) up in
     first_sound fields row slot.0 slot.1 (entries_from slots) found.0 same.0 s.0 (before_rest slot.0 slots here) (all_sound fields rows slots found.1 same.1 more s.1)
 
-pub record_sound : (t : RecordType) (slots : Slots) → SameNumbers (rows t) slots → ascending slots ≡ true → FieldsSound (rows t) slots → RecordSound t (record_of t slots)
+pub record_sound : (t : RecordType) (slots : Slots) → SameNumbers (rows t) slots → ascending slots ≡ true → FieldsSound (rows t) slots → RecordSound t (record_content t slots)
 record_sound t slots same up s =
-    let es = all_sound (known record_schema (place_of t)) (rows t) slots (rows_found t) same up s in
-    record { own_schema = refl; own_type = refl; passes = es.passes; types = es.types; order = es.order; whole = ap (ContentOf record_schema (place_of t)) es.whole }
+    let es = all_sound (known record_schema (type_place t)) (rows t) slots (rows_found t) same up s in
+    record { own_schema = refl; own_type = refl; passes = es.passes; types = es.types; order = es.order; whole = ap (ContentOf record_schema (type_place t)) es.whole }
 
 -- READING BACK
 

@@ -6,9 +6,9 @@ use Rattle.prost_reflect_wire.specs.Schema.{schema_valid}
 use Rattle.prost_reflect_wire.specs.Content.{Content, Value, ScalarValue, MessageValue}
 use Rattle.prost_reflect_wire.specs.Grammar.{LEVEL_LIMIT}
 use Rattle.prost_reflect_wire.specs.Writing.{encoded}
-use Rattle.prost_reflect_types.specs.DescriptorTable.{record_schema, record_types, place_of}
+use Rattle.prost_reflect_types.specs.DescriptorTable.{record_schema, record_types, type_place}
 use Rattle.prost_reflect_types.specs.DescriptorMeaning.{record_decoded}
-use Rattle.prost_reflect_types.specs.DescriptorViews.{record_of}
+use Rattle.prost_reflect_types.specs.DescriptorViews.{record_content}
 use Rattle.prost_reflect_laws.specs.Examples.Words.{hex, nested, int, minus_one, ascii, list_of}
 use Rattle.prost_reflect_types.specs.declared.table.RecordType.{RecordType}
 use Rattle.prost_reflect_types.specs.declared.table.RecordType.TheVariants as types
@@ -31,14 +31,14 @@ records contents = list (map MessageValue contents)
 
 -- The bytes mean a record of these fields, which is written as the others.
 abbrev pub Reads : RecordType → String → List (ℕ × Option Value) → String → Type 0
-Reads t bytes slots again = (record_decoded LEVEL_LIMIT t (hex bytes) ≡ Some (record_of t slots)) × (encoded (record_of t slots) ≡ hex again)
+Reads t bytes slots again = (record_decoded LEVEL_LIMIT t (hex bytes) ≡ Some (record_content t slots)) × (encoded (record_content t slots) ≡ hex again)
 
 abbrev pub Refused : RecordType → String → Type 0
 Refused t bytes = record_decoded LEVEL_LIMIT t (hex bytes) ≡ None
 
 pub record Descriptors : Type 0 where
   -- The types stand at their places.
-  pub places : map place_of record_types ≡ 0 ∷ 1 ∷ 2 ∷ 3 ∷ 4 ∷ 5 ∷ 6 ∷ 7 ∷ 8 ∷ 9 ∷ 10 ∷ 11 ∷ []
+  pub places : map type_place record_types ≡ 0 ∷ 1 ∷ 2 ∷ 3 ∷ 4 ∷ 5 ∷ 6 ∷ 7 ∷ 8 ∷ 9 ∷ 10 ∷ 11 ∷ []
   -- The table gives a schema as a checked pool's.
   pub checked : schema_valid record_schema ≡ true
   -- No bytes are an empty record.
@@ -52,7 +52,7 @@ pub record Descriptors : Type 0 where
   -- So is a group of number 13, with all in it.
   pub unknown_group : Reads types.File "6b 0a01ff 6c 0a0161" ((1, text "a") ∷ []) "0a0161"
   -- And one within a message.
-  pub unknown_inside : Reads types.File "22 05 0a0161 7001" ((4, records (record_of types.Message ((1, text "a") ∷ []) ∷ [])) ∷ []) "22 03 0a0161"
+  pub unknown_inside : Reads types.File "22 05 0a0161 7001" ((4, records (record_content types.Message ((1, text "a") ∷ []) ∷ [])) ∷ []) "22 03 0a0161"
   -- Packed public dependencies 0 and 1 are written one by one.
   pub packed : Reads types.File "0a0161 52020001" ((1, text "a") ∷ (10, list (int 0 ∷ int 1 ∷ [])) ∷ []) "0a0161 5000 5001"
   -- Packed and single ones join.
@@ -67,7 +67,7 @@ pub record Descriptors : Type 0 where
   pub ten_bytes : Reads types.EnumValue "10ffffffffffffffffff01" ((2, Some minus_one) ∷ []) "10ffffffffffffffffff01"
   -- Each further record of a list is an element of its own; here two messages, the second with a message inside.
   pub elements : Reads types.File "22030a0161 22051a030a0162"
-      ((4, records (record_of types.Message ((1, text "a") ∷ []) ∷ record_of types.Message ((3, records (record_of types.Message ((1, text "b") ∷ []) ∷ [])) ∷ []) ∷ [])) ∷ [])
+      ((4, records (record_content types.Message ((1, text "a") ∷ []) ∷ record_content types.Message ((3, records (record_content types.Message ((1, text "b") ∷ []) ∷ [])) ∷ []) ∷ [])) ∷ [])
       "22030a0161 22051a030a0162"
   -- A bool, under number 17.
   pub optional_flag : Reads types.Field "0a0161 880101" ((1, text "a") ∷ (17, flag) ∷ []) "0a0161 880101"

@@ -3,7 +3,7 @@ use Rattle.std.specs.Prelude.{ℕ, List, ◌++◌, Option, option_map}
 use Rattle.prost_reflect_wire.specs.Scalar.{Bytes}
 use Rattle.prost_reflect_wire.specs.Content.{Content, ContentOf, Entries, NoEntries, Stored, Unknown, Value, ScalarValue, MessageValue, ListValue, MapValue, Values, NoValues, Item}
 use Rattle.prost_reflect_wire.specs.Meaning.{decoded}
-use Rattle.prost_reflect_types.specs.DescriptorTable.{place_of, record_schema}
+use Rattle.prost_reflect_types.specs.DescriptorTable.{type_place, record_schema}
 use Rattle.prost_reflect_types.specs.declared.table.RecordType.{RecordType}
 
 -- A value in front of others; bytes in front of bytes are joined with them.
@@ -33,4 +33,4 @@ abbrev mutual
 
 -- What the bytes of a record mean, if they are accepted with so many levels.
 abbrev pub record_decoded : ℕ → RecordType → List ℕ → Option Content
-record_decoded levels t bytes = option_map gathered (decoded record_schema levels (place_of t) bytes)
+record_decoded levels t bytes = option_map gathered (decoded record_schema levels (type_place t) bytes)

@@ -13,7 +13,7 @@ use Rattle.prost_reflect_wire.specs.Content.{Content, Value, ScalarValue, ListVa
 use Rattle.prost_reflect_wire.specs.Grammar.{unpacked}
 use Rattle.prost_reflect_wire.specs.Meaning.{present_list}
 use Rattle.prost_reflect_wire.specs.Fault.{ElementFault, takes, StandsInMessage}
-use Rattle.prost_reflect_types.specs.DescriptorTable.{rows, place_of, form_of, value_type_of, record_schema}
+use Rattle.prost_reflect_types.specs.DescriptorTable.{rows, type_place, form_of, value_type_of, record_schema}
 use Rattle.prost_reflect_types.specs.DescriptorMeaning.{record_decoded}
 use Rattle.prost_reflect_types.specs.declared.table.RecordType.{RecordType}
 use Rattle.prost_reflect_types.specs.declared.table.FieldKind.{FieldKind}
@@ -191,7 +191,7 @@ records_at levels t n fields = all_decoded levels t (at_number record_in n field
 
 abbrev pub StandsInNested : ℕ → RecordType → DecodeError → List ℕ → Type 0
 StandsInNested zero t e body = e ≡ errors.Depth
-StandsInNested (suc levels) t e body = StandsInMessage record_schema (place_of t) levels e body
+StandsInNested (suc levels) t e body = StandsInMessage record_schema (type_place t) levels e body
 
 -- In one of them.
 abbrev pub StandsAmong : ℕ → RecordType → DecodeError → List (List ℕ) → Type 0

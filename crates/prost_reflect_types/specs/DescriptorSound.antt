@@ -3,7 +3,7 @@ use Rattle.std.specs.Prelude.{◌≡◌, ⊤, true, false, ◌&&◌, Option, Som
 use Rattle.prost_reflect_wire.specs.Content.{Content, Value, schema_of, type_of, ordered, value_ordered}
 use Rattle.prost_reflect_wire.specs.Schema.{Field}
 use Rattle.prost_reflect_wire.specs.Typing.{EntryTest, fit_test, alone_test, filled_test, default_test, everywhere, value_passes, value_valid, is_empty_value, is_stored_default, kind_for, Typed, ValueTyped}
-use Rattle.prost_reflect_types.specs.DescriptorTable.{place_of, record_schema, field_of_row}
+use Rattle.prost_reflect_types.specs.DescriptorTable.{type_place, record_schema, field_of_row}
 use Rattle.prost_reflect_types.specs.DescriptorMeaning.{gathered, value_gathered}
 use Rattle.prost_reflect_types.specs.declared.table.FieldKind.{FieldKind}
 use Rattle.prost_reflect_types.specs.declared.table.RecordType.{RecordType}
@@ -17,7 +17,7 @@ sound_test = both fit_test (both alone_test (both filled_test default_test))
 
 pub record RecordSound (t : RecordType) (c : Content) : Type 0 where
   pub own_schema : schema_of c ≡ record_schema
-  pub own_type : type_of c ≡ place_of t
+  pub own_type : type_of c ≡ type_place t
   pub passes : everywhere sound_test c ≡ true
   pub types : Typed c
   pub order : ordered c ≡ true

@@ -30,19 +30,19 @@ abbrev pub record_types : List RecordType
 record_types = types.FileSet ∷ types.File ∷ types.Message ∷ types.ExtensionRange ∷ types.ReservedRange ∷ types.Field ∷ types.Oneof ∷ types.Enum
     ∷ types.EnumReservedRange ∷ types.EnumValue ∷ types.Service ∷ types.Method ∷ []
 
-abbrev pub place_of : RecordType → ℕ
-place_of types.FileSet = 0
-place_of types.File = 1
-place_of types.Message = 2
-place_of types.ExtensionRange = 3
-place_of types.ReservedRange = 4
-place_of types.Field = 5
-place_of types.Oneof = 6
-place_of types.Enum = 7
-place_of types.EnumReservedRange = 8
-place_of types.EnumValue = 9
-place_of types.Service = 10
-place_of types.Method = 11
+abbrev pub type_place : RecordType → ℕ
+type_place types.FileSet = 0
+type_place types.File = 1
+type_place types.Message = 2
+type_place types.ExtensionRange = 3
+type_place types.ReservedRange = 4
+type_place types.Field = 5
+type_place types.Oneof = 6
+type_place types.Enum = 7
+type_place types.EnumReservedRange = 8
+type_place types.EnumValue = 9
+type_place types.Service = 10
+type_place types.Method = 11
 
 -- AS MESSAGE TYPES
 
@@ -50,8 +50,8 @@ place_of types.Method = 11
 abbrev pub scalar_of : ScalarKind → (presence : Bool) → ValueType
 scalar_of kind presence = record { kind = ScalarOf kind; presence = presence; required = false; default = kind_default kind }
 
-abbrev pub message_of : RecordType → ValueType
-message_of t = record { kind = MessageOf (place_of t); presence = false; required = false; default = Boolean false }
+abbrev pub nested_value_type : RecordType → ValueType
+nested_value_type t = record { kind = MessageOf (type_place t); presence = false; required = false; default = Boolean false }
 
 -- Raw bytes are the list of the pieces in which they are written; lists are not packed.
 abbrev pub form_of : FieldKind → FieldForm
@@ -70,7 +70,7 @@ value_type_of Flag = scalar_of BoolKind true
 value_type_of Bytes = scalar_of BytesKind false
 value_type_of Texts = scalar_of StringKind false
 value_type_of Numbers = scalar_of Int32 false
-value_type_of (Records t) = message_of t
+value_type_of (Records t) = nested_value_type t
 
 abbrev pub field_of_row : ℕ × FieldKind → Field
 field_of_row row = record { number = row.0; is_extension = false; form = form_of row.1; value_type = value_type_of row.1; oneof = None }

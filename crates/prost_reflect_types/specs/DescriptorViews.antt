@@ -5,7 +5,7 @@ use Rattle.std.specs.declared.rc.Rc.{Rc}
 use Rattle.prost_reflect_wire.specs.Scalar.{Boolean, I32, Text, Bytes}
 use Rattle.prost_reflect_wire.specs.Content.{Content, ContentOf, Entries, NoEntries, Value, ScalarValue, MessageValue, ListValue, NoValues, Item, values_from, then_value}
 use Rattle.prost_reflect_wire.specs.Meaning.{present_list}
-use Rattle.prost_reflect_types.specs.DescriptorTable.{place_of, record_schema}
+use Rattle.prost_reflect_types.specs.DescriptorTable.{type_place, record_schema}
 use Rattle.prost_reflect_types.specs.declared.table.RecordType.{RecordType}
 use Rattle.prost_reflect_types.specs.declared.table.RecordType.TheVariants as types
 use Rattle.prost_reflect_types.specs.declared.FileDescriptorSet.{FileDescriptorSet}
@@ -54,46 +54,46 @@ abbrev pub entries_from : List (ℕ × Option Value) → Entries
 entries_from [] = NoEntries
 entries_from (slot ∷ slots) = then_value slot.0 slot.1 (entries_from slots)
 
-abbrev pub record_of : RecordType → List (ℕ × Option Value) → Content
-record_of t slots = ContentOf record_schema (place_of t) (entries_from slots)
+abbrev pub record_content : RecordType → List (ℕ × Option Value) → Content
+record_content t slots = ContentOf record_schema (type_place t) (entries_from slots)
 
 abbrev pub of_extension_range : ExtensionRange → Content
-of_extension_range r = record_of types.ExtensionRange ((1, of_number r.start) ∷ (2, of_number r.end) ∷ (3, of_bytes r.options) ∷ [])
+of_extension_range r = record_content types.ExtensionRange ((1, of_number r.start) ∷ (2, of_number r.end) ∷ (3, of_bytes r.options) ∷ [])
 
 abbrev pub of_reserved_range : ReservedRange → Content
-of_reserved_range r = record_of types.ReservedRange ((1, of_number r.start) ∷ (2, of_number r.end) ∷ [])
+of_reserved_range r = record_content types.ReservedRange ((1, of_number r.start) ∷ (2, of_number r.end) ∷ [])
 
 abbrev pub of_field : FieldDescriptorProto → Content
-of_field f = record_of types.Field
+of_field f = record_content types.Field
     ((1, of_text f.name) ∷ (2, of_text f.extendee) ∷ (3, of_number f.number) ∷ (4, of_number f.label) ∷ (5, of_number f.type_)
     ∷ (6, of_text f.type_name) ∷ (7, of_text f.default_value) ∷ (8, of_bytes f.options) ∷ (9, of_number f.oneof_index)
     ∷ (10, of_text f.json_name) ∷ (17, of_flag f.proto3_optional) ∷ [])
 
 abbrev pub of_oneof : OneofDescriptorProto → Content
-of_oneof o = record_of types.Oneof ((1, of_text o.name) ∷ (2, of_bytes o.options) ∷ [])
+of_oneof o = record_content types.Oneof ((1, of_text o.name) ∷ (2, of_bytes o.options) ∷ [])
 
 abbrev pub of_enum_value : EnumValueDescriptorProto → Content
-of_enum_value v = record_of types.EnumValue ((1, of_text v.name) ∷ (2, of_number v.number) ∷ (3, of_bytes v.options) ∷ [])
+of_enum_value v = record_content types.EnumValue ((1, of_text v.name) ∷ (2, of_number v.number) ∷ (3, of_bytes v.options) ∷ [])
 
 abbrev pub of_enum_reserved_range : EnumReservedRange → Content
-of_enum_reserved_range r = record_of types.EnumReservedRange ((1, of_number r.start) ∷ (2, of_number r.end) ∷ [])
+of_enum_reserved_range r = record_content types.EnumReservedRange ((1, of_number r.start) ∷ (2, of_number r.end) ∷ [])
 
 abbrev pub of_enum : EnumDescriptorProto → Content
-of_enum e = record_of types.Enum
+of_enum e = record_content types.Enum
     ((1, of_text e.name) ∷ (2, of_records (map of_enum_value e.value.items)) ∷ (3, of_bytes e.options)
     ∷ (4, of_records (map of_enum_reserved_range e.reserved_range.items)) ∷ (5, of_texts e.reserved_name) ∷ [])
 
 abbrev pub of_method : MethodDescriptorProto → Content
-of_method m = record_of types.Method
+of_method m = record_content types.Method
     ((1, of_text m.name) ∷ (2, of_text m.input_type) ∷ (3, of_text m.output_type) ∷ (4, of_bytes m.options)
     ∷ (5, of_flag m.client_streaming) ∷ (6, of_flag m.server_streaming) ∷ [])
 
 abbrev pub of_service : ServiceDescriptorProto → Content
-of_service s = record_of types.Service ((1, of_text s.name) ∷ (2, of_records (map of_method s.method.items)) ∷ (3, of_bytes s.options) ∷ [])
+of_service s = record_content types.Service ((1, of_text s.name) ∷ (2, of_records (map of_method s.method.items)) ∷ (3, of_bytes s.options) ∷ [])
 
 -- A message, over what the messages inside are.
 abbrev pub message_step : DescriptorProto-F Content → Content
-message_step m = record_of types.Message
+message_step m = record_content types.Message
     ((1, of_text m.name) ∷ (2, of_records (map of_field m.field.items)) ∷ (3, of_records m.nested_type.items)
     ∷ (4, of_records (map of_enum m.enum_type.items)) ∷ (5, of_records (map of_extension_range m.extension_range.items))
     ∷ (6, of_records (map of_field m.extension.items)) ∷ (7, of_bytes m.options) ∷ (8, of_records (map of_oneof m.oneof_decl.items))
@@ -103,14 +103,14 @@ abbrev pub of_message : DescriptorProto → Content
 of_message = fold-DescriptorProto Content message_step
 
 abbrev pub of_file : FileDescriptorProto → Content
-of_file f = record_of types.File
+of_file f = record_content types.File
     ((1, of_text f.name) ∷ (2, of_text f.package) ∷ (3, of_texts f.dependency) ∷ (4, of_records (map of_message f.message_type.items))
     ∷ (5, of_records (map of_enum f.enum_type.items)) ∷ (6, of_records (map of_service f.service.items))
     ∷ (7, of_records (map of_field f.extension.items)) ∷ (8, of_bytes f.options) ∷ (9, of_bytes f.source_code_info)
     ∷ (10, of_numbers f.public_dependency) ∷ (11, of_numbers f.weak_dependency) ∷ (12, of_text f.syntax) ∷ [])
 
 abbrev pub of_files : List FileDescriptorProto → Content
-of_files files = record_of types.FileSet ((1, of_records (map of_file files)) ∷ [])
+of_files files = record_content types.FileSet ((1, of_records (map of_file files)) ∷ [])
 
 abbrev pub of_file_set : FileDescriptorSet → Content
 of_file_set s = of_files s.file.items

@@ -2,7 +2,7 @@
 
 ghost use Rattle.std.specs.Prelude.{◌≡◌, ◌≢◌, ℕ, List, [], Some, map, IfOk, IfErr};
 ghost use Rattle.prost_reflect_wire.specs.Fault.{StandsInMessage};
-ghost use Rattle.prost_reflect_types.specs.DescriptorTable.{place_of, record_schema};
+ghost use Rattle.prost_reflect_types.specs.DescriptorTable.{type_place, record_schema};
 ghost use Rattle.prost_reflect_types.specs.DescriptorMeaning.{record_decoded};
 ghost use Rattle.prost_reflect_types.specs.DescriptorViews.{of_message};
 ghost use Rattle.prost_reflect_types.specs.DescriptorReading.{Fields, all_found, nested_decoded, records_at, at_number, record_in, StandsInNested, StandsAmong};
@@ -31,7 +31,7 @@ pub trait FromBody: Sized {
     /// Reads the record from the bytes of its body, with so many levels left below it.
     fn from_body(alloc: Global, body: &[u8], levels: u32) -> Result<Self, DecodeError>
         ensures ok { IfOk result (λ own. record_decoded levels record_type body.now ≡ Some (content own)) }
-        ensures fault { IfErr result (λ e. e ≢ DecodeError.OutOfMemory → StandsInMessage record_schema (place_of record_type) levels e body.now) };
+        ensures fault { IfErr result (λ e. e ≢ DecodeError.OutOfMemory → StandsInMessage record_schema (type_place record_type) levels e body.now) };
 }
 
 /// Reads a nested record, which takes a level.
@@ -268,7 +268,7 @@ impl FromBody for ServiceDescriptorProto {
 #[cycle(reading)]
 fn message(alloc: Global, body: &[u8], levels: u32) -> Result<DescriptorProto, DecodeError>
     ensures ok { IfOk result (λ own. record_decoded levels types.Message body.now ≡ Some (of_message own)) }
-    ensures fault { IfErr result (λ e. e ≢ DecodeError.OutOfMemory → StandsInMessage record_schema (place_of types.Message) levels e body.now) }
+    ensures fault { IfErr result (λ e. e ≢ DecodeError.OutOfMemory → StandsInMessage record_schema (type_place types.Message) levels e body.now) }
 {
     let fields = fields_in(alloc, RecordType::Message, body, levels)?;
     let fields = fields.as_slice();
@@ -285,7 +285,7 @@ fn message_of(
 ) -> Result<DescriptorProto, DecodeError>
     requires { records_at levels types.Message 3 (all_found fields.now) ≡ Some (map of_message nested_type.items) }
     ensures ok { IfOk result (λ own. (body : List ℕ) → Fields levels types.Message (all_found fields.now) body [] → record_decoded levels types.Message body ≡ Some (of_message own)) }
-    ensures fault { IfErr result (λ e. e ≢ DecodeError.OutOfMemory → (body : List ℕ) → Fields levels types.Message (all_found fields.now) body [] → StandsInMessage record_schema (place_of types.Message) levels e body) }
+    ensures fault { IfErr result (λ e. e ≢ DecodeError.OutOfMemory → (body : List ℕ) → Fields levels types.Message (all_found fields.now) body [] → StandsInMessage record_schema (type_place types.Message) levels e body) }
 {
     Ok(DescriptorProto {
         name: text(alloc, fields, 1)?,

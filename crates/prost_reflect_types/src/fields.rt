@@ -5,13 +5,13 @@ ghost use Rattle.std.specs.Str.{is_utf8};
 ghost use Rattle.prost_reflect_wire.specs.declared.key.WireType.TheVariants as wires;
 ghost use Rattle.prost_reflect_wire.specs.Record.{Flat, Var, Len};
 ghost use Rattle.prost_reflect_wire.specs.Fault.{ElementFault, StandsInMessage, takes};
-ghost use Rattle.prost_reflect_types.specs.DescriptorTable.{place_of, record_schema, form_of, value_type_of, field_of_row};
+ghost use Rattle.prost_reflect_types.specs.DescriptorTable.{type_place, record_schema, form_of, value_type_of, field_of_row};
 ghost use Rattle.prost_reflect_wire.specs.Decoding.{FieldFault};
 ghost use Rattle.prost_reflect_types.specs.DescriptorReading.{Fields, FieldRead, DelimitedRead, DelimitedFault, PackedRead, found_of, all_found, kind_at, found_in};
 
 use crate::table::{FieldKind, RecordType};
 use prost_reflect_wire::{
-    DecodeError, WireType, decode_key, decode_varint, delimited_at, low_i32, skip_value,
+    DecodeError, WireType, decode_delimited, decode_key, decode_varint, low_i32, skip_value,
 };
 use std::alloc::Global;
 
@@ -53,7 +53,7 @@ pub fn fields_in<'a>(
     levels: u32,
 ) -> Result<Vec<RawField<'a>>, DecodeError>
     ensures ok { IfOk result (λ fields. Fields levels record_type (all_found fields.items) body.now []) }
-    ensures fault { IfErr result (λ e. e ≢ DecodeError.OutOfMemory → StandsInMessage record_schema (place_of record_type) levels e body.now) }
+    ensures fault { IfErr result (λ e. e ≢ DecodeError.OutOfMemory → StandsInMessage record_schema (type_place record_type) levels e body.now) }
 {
     let rows = record_type.rows();
     let mut fields = Vec::new(alloc);
@@ -101,7 +101,7 @@ fn push_values<'a>(
             Ok(rest)
         }
         WireType::LengthDelimited => {
-            let (body, rest) = delimited_at(bytes)?;
+            let (body, rest) = decode_delimited(bytes)?;
             push_delimited(fields, number, kind, body)?;
             Ok(rest)
         }

@@ -4,7 +4,7 @@ use Rattle.std.proofs.lemmas.List.{length-map}
 use Rattle.prost_reflect_wire.specs.declared.unknown.UnknownField.{UnknownField}
 use Rattle.prost_reflect_wire.specs.declared.unknown.UnknownFieldSet.{UnknownFieldSet}
 use Rattle.prost_reflect_wire.specs.Record.{Records, Record, record_at, Payload, Flat, Group, body_of, before, items}
-use Rattle.prost_reflect_wire.specs.Unknown.{record_of, records_of, fields_of}
+use Rattle.prost_reflect_wire.specs.Unknown.{unknown_record, records_of, unknown_fields_of}
 use Rattle.prost_reflect_wire.specs.Equality.{plain_eq, records_eq, records_same, records_refl, payload_eq, record_eq, field_eq, set_eq}
 use Rattle.prost_reflect_wire.proofs.Bodies.{items_body}
 use Rattle.prost_reflect_wire.proofs.UnknownViews.{records_of_out}
@@ -32,7 +32,7 @@ first_eq r s rs qs = go r.payload s.payload
     go (Group i) (Group j) = and_assoc (nat_eq r.number s.number) (records_eq i j) (records_eq rs qs)
 
 abbrev Left : List UnknownField → ℕ → Records
-Left fs i = body_of (map record_of (drop i fs))
+Left fs i = body_of (map unknown_record (drop i fs))
 
 -- fields that are equal may be left out
 pub equal_step : (fs gs : List UnknownField) (i : ℕ) (f g : UnknownField) → i < length fs → i < length gs → f ≡ get_or fs i f → g ≡ get_or gs i g → field_eq f g ≡ true
@@ -40,17 +40,17 @@ pub equal_step : (fs gs : List UnknownField) (i : ℕ) (f g : UnknownField) → 
 equal_step fs gs i f g la lb isf isg same =
     let cuta : drop i fs ≡ f ∷ drop (i + 1) fs = rw (add-one, drop-cons fs i f, ← isf) refl in
     let cutb : drop i gs ≡ g ∷ drop (i + 1) gs = rw (add-one, drop-cons gs i g, ← isg) refl in
-    sym (ap₂ (λ (xs ys : List UnknownField). records_eq (body_of (map record_of xs)) (body_of (map record_of ys))) cuta cutb
-    ∙ first_eq (record_of f) (record_of g) (Left fs (i + 1)) (Left gs (i + 1)) ∙ ap (λ b. b && records_eq (Left fs (i + 1)) (Left gs (i + 1))) same)
+    sym (ap₂ (λ (xs ys : List UnknownField). records_eq (body_of (map unknown_record xs)) (body_of (map unknown_record ys))) cuta cutb
+    ∙ first_eq (unknown_record f) (unknown_record g) (Left fs (i + 1)) (Left gs (i + 1)) ∙ ap (λ b. b && records_eq (Left fs (i + 1)) (Left gs (i + 1))) same)
 
 -- sets of different lengths differ
-pub lengths_differ : (s t : UnknownFieldSet) → (length (fields_of s) ≡ length (fields_of t) → ⊥) → false ≡ set_eq s t
+pub lengths_differ : (s t : UnknownFieldSet) → (length (unknown_fields_of s) ≡ length (unknown_fields_of t) → ⊥) → false ≡ set_eq s t
 lengths_differ s t other = go (set_eq s t) refl
   where
-    lengths : set_eq s t ≡ true → length (fields_of s) ≡ length (fields_of t)
+    lengths : set_eq s t ≡ true → length (unknown_fields_of s) ≡ length (unknown_fields_of t)
     lengths h =
         let same : records_of s ≡ records_of t = sym (items_body (records_of s)) ∙ ap items (records_same (body_of (records_of s)) (body_of (records_of t)) h) ∙ items_body (records_of t) in
-        sym (length-map (fields_of s) record_of) ∙ ap length (sym (records_of_out s) ∙ same ∙ records_of_out t) ∙ length-map (fields_of t) record_of
+        sym (length-map (unknown_fields_of s) unknown_record) ∙ ap length (sym (records_of_out s) ∙ same ∙ records_of_out t) ∙ length-map (unknown_fields_of t) unknown_record
 
     go : (b : Bool) → set_eq s t ≡ b → false ≡ b
     go true is = absurd (other (lengths is))

@@ -1,8 +1,7 @@
 -- A length in front of what was added since.
 use Rattle.std.proofs.Common.{◌≡◌, ℕ, ◌+◌, ◌-◌, ◌^◌, ◌≤◌, List, [], ◌++◌, length, ◌<◌, Option, Result, Ok, Err, true≢false, refl, sym, ap, ◌∙◌, subst, arith, append_assoc, append-nil, length-append, zero-add, lit<}
-use Rattle.std.specs.Prelude.{Bool, true, false, is_ok}
+use Rattle.std.specs.Prelude.{true, is_ok}
 use Rattle.std.specs.Option.{SomeIff}
-use Rattle.std.proofs.lemmas.List.{length-drop}
 use Rattle.prost_reflect_wire.specs.declared.sink.LengthSink.{LengthSink}
 use Rattle.prost_reflect_wire.specs.declared.error.EncodeError.{EncodeError}
 use Rattle.prost_reflect_wire.specs.declared.error.EncodeError.TheVariants.{TooLong}

@@ -11,15 +11,15 @@ use Rattle.prost_reflect_wire.specs.declared.unknown.UnknownFieldValue.TheViews.
 use Rattle.prost_reflect_wire.specs.declared.unknown.UnknownFieldValue.TheFolds.{fold-roll-UnknownFieldSet, fold_out-UnknownFieldSet, fold_out-UnknownField, fold_out-UnknownFieldValue}
 use Rattle.prost_reflect_wire.specs.Record.{record_at, Record, Payload, Flat, Var, Fix64, Len, Fix32, body_of}
 use Rattle.prost_reflect_wire.specs.Record as model
-use Rattle.prost_reflect_wire.specs.Unknown.{value_step, field_step, set_step, payload_of, record_of, records_of}
+use Rattle.prost_reflect_wire.specs.Unknown.{value_step, field_step, set_step, payload_of, unknown_record, records_of}
 
-pub records_of_roll : (x : UnknownFieldSet-F UnknownFieldValue UnknownField UnknownFieldSet) → records_of (roll-UnknownFieldSet x) ≡ map record_of x.fields.items
+pub records_of_roll : (x : UnknownFieldSet-F UnknownFieldValue UnknownField UnknownFieldSet) → records_of (roll-UnknownFieldSet x) ≡ map unknown_record x.fields.items
 records_of_roll = fold-roll-UnknownFieldSet Payload Record (List Record) value_step field_step set_step
 
-pub records_of_out : (s : UnknownFieldSet) → records_of s ≡ map record_of (out-UnknownFieldSet s).fields.items
+pub records_of_out : (s : UnknownFieldSet) → records_of s ≡ map unknown_record (out-UnknownFieldSet s).fields.items
 records_of_out = fold_out-UnknownFieldSet Payload Record (List Record) value_step field_step set_step
 
-pub record_of_field : (f : UnknownField) → record_of f ≡ record_at f.number.value (payload_of f.value)
+pub record_of_field : (f : UnknownField) → unknown_record f ≡ record_at f.number.value (payload_of f.value)
 record_of_field = fold_out-UnknownField Payload Record (List Record) value_step field_step set_step
 
 pub payload_of_Varint : (v : ℕ) → payload_of (Varint v) ≡ Flat (Var v)

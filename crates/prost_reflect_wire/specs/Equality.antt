@@ -9,7 +9,7 @@ use Rattle.prost_reflect_wire.specs.declared.unknown.UnknownField.{UnknownField}
 use Rattle.prost_reflect_wire.specs.declared.unknown.UnknownFieldSet.{UnknownFieldSet}
 use Rattle.prost_reflect_wire.specs.declared.unknown.UnknownFieldValue.{UnknownFieldValue}
 use Rattle.prost_reflect_wire.specs.Deciding.{decided, text_decides, equivalence}
-use Rattle.prost_reflect_wire.specs.Unknown.{payload_of, record_of, records_of}
+use Rattle.prost_reflect_wire.specs.Unknown.{payload_of, unknown_record, records_of}
 
 abbrev pub plain_eq : Plain → Plain → Bool
 plain_eq (Var v) (Var w) = nat_eq v w
@@ -34,7 +34,7 @@ record_eq r s = nat_eq r.number s.number && payload_eq r.payload s.payload
 
 -- Of fields, values and sets: where what is stored is equal.
 abbrev pub field_eq : UnknownField → UnknownField → Bool
-field_eq f g = record_eq (record_of f) (record_of g)
+field_eq f g = record_eq (unknown_record f) (unknown_record g)
 
 abbrev pub value_eq : UnknownFieldValue → UnknownFieldValue → Bool
 value_eq v w = payload_eq (payload_of v) (payload_of w)
@@ -94,7 +94,7 @@ record_refl r = and_from _ _ (eq-eqb r.number r.number refl) (payload_refl r.pay
 -- LAWS
 
 pub field_eq_laws : IsPartialEquivalence field_eq
-field_eq_laws = on_per record_of (partial_equiv_from_equiv (equivalence record_eq (decided record_eq record_same record_refl)))
+field_eq_laws = on_per unknown_record (partial_equiv_from_equiv (equivalence record_eq (decided record_eq record_same record_refl)))
 
 pub value_eq_laws : IsPartialEquivalence value_eq
 value_eq_laws = on_per payload_of (partial_equiv_from_equiv (equivalence payload_eq (decided payload_eq payload_same payload_refl)))

@@ -1,4 +1,10 @@
 -- Which records a message type takes, and which bytes it accepts (the encoding guide, "Packed Repeated Fields", "Submessages", "Groups" and "Maps"; the page "Enum Behavior" for closed enums).
+--
+-- What was chosen here, with the smallest example; bytes are in hex.
+-- - `accepts` and `read` speak of bytes below 256; `Spells` doesn't ask it. Laws have it as a premise where they need it.
+-- - The levels are a parameter right behind the schema; 100 is the named use, `LEVEL_LIMIT`.
+-- - An entry is no level; its message value is one, whether the entry writes it or not: `1200` of a `map<int32, Message>` takes one.
+-- - A record that is skipped in an entry counts the groups in it, and is dropped: `0a025354` is an entry, and is written `0a00`. So bytes may take more levels than what they mean.
 use Rattle.std.specs.Prelude.{ℕ, zero, suc, Bool, true, false, not, ◌&&◌, ◌||◌, List, [], ◌∷◌, length, map, filter, Option, Some, None, nat_eq, nat_lt, nat_le, if◌then◌else◌, IsTrue}
 use Rattle.std.specs.List.{list_all}
 use Rattle.std.specs.Option.{is_some}

@@ -28,15 +28,15 @@ set_step set = set.fields.items
 abbrev pub payload_of : UnknownFieldValue → Payload
 payload_of = fold-UnknownFieldValue Payload Record (List Record) value_step field_step set_step
 
-abbrev pub record_of : UnknownField → Record
-record_of = fold-UnknownField Payload Record (List Record) value_step field_step set_step
+abbrev pub unknown_record : UnknownField → Record
+unknown_record = fold-UnknownField Payload Record (List Record) value_step field_step set_step
 
 abbrev pub records_of : UnknownFieldSet → List Record
 records_of = fold-UnknownFieldSet Payload Record (List Record) value_step field_step set_step
 
 -- The fields of a set in their order.
-abbrev pub fields_of : UnknownFieldSet → List UnknownField
-fields_of set = (out-UnknownFieldSet set).fields.items
+abbrev pub unknown_fields_of : UnknownFieldSet → List UnknownField
+unknown_fields_of set = (out-UnknownFieldSet set).fields.items
 
 -- Behind the start key of a group of the number: the records, of fewer levels, and the end key.
 pub record ReadsGroup (n levels : ℕ) (rs : List Record) (bytes rest : List ℕ) : Type 0 where

@@ -16,7 +16,7 @@ use crate::varint::decode_varint;
 /// # Errors
 ///
 /// `Truncated` if there are fewer than eight.
-pub fn fixed64_at(bytes: &[u8]) -> Result<([u8; 8], &[u8]), DecodeError>
+pub fn decode_fixed64(bytes: &[u8]) -> Result<([u8; 8], &[u8]), DecodeError>
     ensures ok { IfOk result (λ x. PlainFront (Fix64 x.0) bytes.now x.1.now) }
     ensures only { (eight rest : List ℕ) → PlainFront (Fix64 eight) bytes.now rest →
         IsOkAnd result (λ x. (x.0 ≡ eight) × (x.1.now ≡ rest)) }
@@ -33,7 +33,7 @@ pub fn fixed64_at(bytes: &[u8]) -> Result<([u8; 8], &[u8]), DecodeError>
 /// # Errors
 ///
 /// `Truncated` if there are fewer than four.
-pub fn fixed32_at(bytes: &[u8]) -> Result<([u8; 4], &[u8]), DecodeError>
+pub fn decode_fixed32(bytes: &[u8]) -> Result<([u8; 4], &[u8]), DecodeError>
     ensures ok { IfOk result (λ x. PlainFront (Fix32 x.0) bytes.now x.1.now) }
     ensures only { (four rest : List ℕ) → PlainFront (Fix32 four) bytes.now rest →
         IsOkAnd result (λ x. (x.0 ≡ four) × (x.1.now ≡ rest)) }
@@ -52,7 +52,7 @@ pub fn fixed32_at(bytes: &[u8]) -> Result<([u8; 4], &[u8]), DecodeError>
 /// `Truncated` if the bytes end inside the length, or the length passes their end; `Varint` if the tenth byte of the
 /// length is above 1.
 #[inline]
-pub fn delimited_at(bytes: &[u8]) -> Result<(&[u8], &[u8]), DecodeError>
+pub fn decode_delimited(bytes: &[u8]) -> Result<(&[u8], &[u8]), DecodeError>
     ensures ok { IfOk result (λ x. DelimitedFront x.0.now bytes.now x.1.now) }
     ensures only { (body rest : List ℕ) → DelimitedFront body bytes.now rest →
         IsOkAnd result (λ x. (x.0.now ≡ body) × (x.1.now ≡ rest)) }

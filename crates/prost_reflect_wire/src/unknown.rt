@@ -7,7 +7,7 @@ ghost use Rattle.std.specs.declared.alloc.Global.{Global as Heap};
 ghost use Rattle.std.specs.Vec.Iter.{into_iter_items, into_iter_len, into_iter_steps};
 ghost use Rattle.prost_reflect_wire.specs.Record.{payload_wire};
 ghost use Rattle.prost_reflect_wire.specs.declared.unknown.UnknownField.{UnknownField};
-ghost use Rattle.prost_reflect_wire.specs.Unknown.{payload_of, record_of, records_of, fields_of};
+ghost use Rattle.prost_reflect_wire.specs.Unknown.{payload_of, unknown_record, records_of, unknown_fields_of};
 
 use crate::key::{FieldNumber, WireType};
 use std::alloc::{AllocError, Global};
@@ -20,7 +20,7 @@ mod reading;
 mod skipping;
 mod writing;
 
-pub use reading::{RECURSION_LIMIT, value_at};
+pub use reading::{RECURSION_LIMIT, decode_value};
 pub use skipping::skip_value;
 pub use writing::{prepend_fields, write_field, write_fields};
 
@@ -77,7 +77,7 @@ impl UnknownField {
 
     /// The number of the field, from 1 to 536870911.
     pub fn number(&self) -> u32
-        ensures value { result ≡ (record_of self.now).number }
+        ensures value { result ≡ (unknown_record self.now).number }
         ensures some { 1 ≤ result }
         ensures below { result < 2 ^ 29 }
     {
@@ -86,7 +86,7 @@ impl UnknownField {
 
     /// The wire type of the field's key: `StartGroup` for a group.
     pub fn wire_type(&self) -> WireType
-        ensures { result ≡ payload_wire (record_of self.now).payload }
+        ensures { result ≡ payload_wire (unknown_record self.now).payload }
     {
         self.value.wire_type()
     }
@@ -94,7 +94,7 @@ impl UnknownField {
     /// What the field contains.
     pub fn value(&self) -> &UnknownFieldValue
         ensures value { result.now ≡ self.now.value }
-        ensures payload { payload_of result.now ≡ (record_of self.now).payload }
+        ensures payload { payload_of result.now ≡ (unknown_record self.now).payload }
     {
         &self.value
     }
@@ -127,7 +127,7 @@ impl UnknownFieldSet {
     /// }
     /// ```
     pub fn new(alloc: Global) -> UnknownFieldSet
-        ensures fields { fields_of result ≡ [] }
+        ensures fields { unknown_fields_of result ≡ [] }
         ensures records { records_of result ≡ [] }
     {
         UnknownFieldSet {
@@ -137,8 +137,8 @@ impl UnknownFieldSet {
 
     /// These fields in their order.
     pub fn from_fields(fields: Vec<UnknownField>) -> UnknownFieldSet
-        ensures fields { fields_of result ≡ fields.items }
-        ensures records { records_of result ≡ map record_of fields.items }
+        ensures fields { unknown_fields_of result ≡ fields.items }
+        ensures records { records_of result ≡ map unknown_record fields.items }
     {
         UnknownFieldSet { fields }
     }
@@ -163,9 +163,9 @@ impl UnknownFieldSet {
     ///
     /// `AllocError` if out of memory; the set stays.
     pub fn insert(&mut self, field: UnknownField) -> Result<(), AllocError>
-        ensures fields { OnOk result (fields_of self.new ≡ fields_of self.old ++ field ∷ []) }
-        ensures records { OnOk result (records_of self.new ≡ records_of self.old ++ record_of field ∷ []) }
-        ensures err { OnErr result (fields_of self.new ≡ fields_of self.old) }
+        ensures fields { OnOk result (unknown_fields_of self.new ≡ unknown_fields_of self.old ++ field ∷ []) }
+        ensures records { OnOk result (records_of self.new ≡ records_of self.old ++ unknown_record field ∷ []) }
+        ensures err { OnErr result (unknown_fields_of self.new ≡ unknown_fields_of self.old) }
     {
         if self.fields.capacity() == 0 {
             self.fields.reserve_exact(FIRST_ROOM)?;
@@ -176,7 +176,7 @@ impl UnknownFieldSet {
 
     /// The fields in their order.
     pub fn iter(&self) -> Iter<'_, UnknownField>
-        ensures rest { iter_rest result ≡ fields_of self.now }
+        ensures rest { iter_rest result ≡ unknown_fields_of self.now }
         ensures bound { length (iter_rest result) < 2 ^ 64 }
         ensures runs { EveryRun (iter_steps {A = UnknownField}) (λ p. ItemsMapTo p (λ x. x.now) (iter_rest p.from)) }
     {
@@ -189,7 +189,7 @@ impl IntoIterator for UnknownFieldSet {
 
     type IntoIter = IntoIter<UnknownField, Global>;
 
-    ghost into_iter_gives = { λ set fields. (into_iter_items fields ≡ fields_of set) × (into_iter_len fields ≡ length (fields_of set)) × (into_iter_len fields < 2 ^ 64)
+    ghost into_iter_gives = { λ set fields. (into_iter_items fields ≡ unknown_fields_of set) × (into_iter_len fields ≡ length (unknown_fields_of set)) × (into_iter_len fields < 2 ^ 64)
         × EveryRun (into_iter_steps {X = UnknownField} {Z = Heap}) (λ p. ItemsAre p (into_iter_items p.from)) };
 
     fn into_iter(self) -> IntoIter<UnknownField, Global> {
@@ -202,7 +202,7 @@ impl<'a> IntoIterator for &'a UnknownFieldSet {
 
     type IntoIter = Iter<'a, UnknownField>;
 
-    ghost into_iter_gives = { λ set fields. (iter_rest fields ≡ fields_of set.now) × (length (iter_rest fields) < 2 ^ 64)
+    ghost into_iter_gives = { λ set fields. (iter_rest fields ≡ unknown_fields_of set.now) × (length (iter_rest fields) < 2 ^ 64)
         × EveryRun (iter_steps {A = UnknownField}) (λ p. ItemsMapTo p (λ x. x.now) (iter_rest p.from)) };
 
     fn into_iter(self) -> Iter<'a, UnknownField> {

@@ -1,7 +1,7 @@
 //! Fields as places of a message type.
 
 ghost use Rattle.std.specs.Prelude.{◌≡◌, IsTrue};
-ghost use Rattle.prost_reflect_dynamic.specs.NamedFields.{fields_of, is_declared_at};
+ghost use Rattle.prost_reflect_dynamic.specs.NamedFields.{descriptor_fields, is_declared_at};
 
 use crate::descriptor::forms::{is_list, is_map};
 use crate::descriptor::options::{OptionsError, options_by};
@@ -20,7 +20,7 @@ use std::alloc::{AllocError, Global};
 pub struct FieldDescriptor {
     message: MessageDescriptor,
     index: usize,
-    pub ghost declared: { IsTrue (is_declared_at (fields_of message) index) },
+    pub ghost declared: { IsTrue (is_declared_at (descriptor_fields message) index) },
 }
 
 impl Clone for FieldDescriptor {
@@ -39,7 +39,7 @@ impl Clone for FieldDescriptor {
 impl Placed<MessageDescriptor> for FieldDescriptor {
     ghost use Rattle.prost_reflect_dynamic.specs.Named.{SameMessage};
 
-    ghost is_place = { λ message i. is_declared_at (fields_of message) i };
+    ghost is_place = { λ message i. is_declared_at (descriptor_fields message) i };
 
     ghost stands = { λ message i field. SameMessage message field.message × (field.index ≡ i) };
 
@@ -67,7 +67,7 @@ impl FieldDescriptor {
 
     /// The field at a place of a message type.
     pub(crate) fn new(message: MessageDescriptor, index: usize) -> FieldDescriptor
-        requires { IsTrue (is_declared_at (fields_of message) index) }
+        requires { IsTrue (is_declared_at (descriptor_fields message) index) }
         ensures message { SameMessage message result.message }
         ensures index { result.index ≡ index }
     {

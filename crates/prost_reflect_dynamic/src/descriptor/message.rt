@@ -65,7 +65,7 @@ impl MessageDescriptor {
     ghost use Rattle.prost_reflect_dynamic.specs.Named.{lists_named};
     ghost use Rattle.prost_reflect_tables.specs.Rows.{field_row, message_row};
     ghost use Rattle.prost_reflect_dynamic.specs.Named.{IsNamed, NamesEqual, NamesSame, SameMessage, message_row_named};
-    ghost use Rattle.prost_reflect_dynamic.specs.NamedFields.{fields_of, declared_place, is_declared_at};
+    ghost use Rattle.prost_reflect_dynamic.specs.NamedFields.{descriptor_fields, declared_place, is_declared_at};
     ghost use Rattle.prost_reflect_dynamic.specs.Options.{OptionsOf};
 
     /// The message type at a place of a pool.
@@ -181,7 +181,7 @@ impl MessageDescriptor {
     /// `AllocError` if out of memory.
     pub fn map_entry_key_field(&self) -> Result<FieldDescriptor, AllocError>
         requires { option_map (λ message. message.is_map_entry) (message_row_named self.now) ≡ Some true }
-        ensures place { IfOk result (λ field. declared_place (fields_of self.now) 1 ≡ Some field.index) }
+        ensures place { IfOk result (λ field. declared_place (descriptor_fields self.now) 1 ≡ Some field.index) }
         ensures message { IfOk result (λ field. SameMessage self.now field.message) }
     {
         FieldDescriptor::at(self, 0)
@@ -195,7 +195,7 @@ impl MessageDescriptor {
     /// `AllocError` if out of memory.
     pub fn map_entry_value_field(&self) -> Result<FieldDescriptor, AllocError>
         requires { option_map (λ message. message.is_map_entry) (message_row_named self.now) ≡ Some true }
-        ensures place { IfOk result (λ field. declared_place (fields_of self.now) 2 ≡ Some field.index) }
+        ensures place { IfOk result (λ field. declared_place (descriptor_fields self.now) 2 ≡ Some field.index) }
         ensures message { IfOk result (λ field. SameMessage self.now field.message) }
     {
         FieldDescriptor::at(self, 1)
@@ -320,7 +320,7 @@ impl MessageDescriptor {
         ensures enums { All (λ i. i < length (pool_rows self.now.pool.inner).enums) result.now.enums.items }
         ensures extensions { All (λ i. i < length (pool_catalog self.now.pool.inner).extensions) result.now.extensions.items }
         ensures extending { All (λ i. i < length (pool_catalog self.now.pool.inner).extensions) result.now.extending.items }
-        ensures fields { result.now.fields.items ≡ own_fields (fields_of self.now) }
+        ensures fields { result.now.fields.items ≡ own_fields (descriptor_fields self.now) }
     {
         self.pool.inner.message_lists(self.index)
     }
@@ -350,9 +350,9 @@ impl MessageDescriptor {
     ///
     /// `AllocError` if out of memory.
     pub fn get_field(&self, number: u32) -> Result<Option<FieldDescriptor>, AllocError>
-        ensures found { IfOk result (λ found. option_map (λ field. field.index) found ≡ declared_place (fields_of self.now) number) }
+        ensures found { IfOk result (λ found. option_map (λ field. field.index) found ≡ declared_place (descriptor_fields self.now) number) }
         ensures message { IfOk result (λ found. IfSome found (λ field. SameMessage self.now field.message)) }
-        ensures missing { declared_place (fields_of self.now) number ≡ None → IsOk result }
+        ensures missing { declared_place (descriptor_fields self.now) number ≡ None → IsOk result }
     {
         self.field_at(self.declared_place(number))
     }
@@ -363,9 +363,9 @@ impl MessageDescriptor {
     ///
     /// `AllocError` if out of memory.
     pub fn get_field_by_name(&self, name: &str) -> Result<Option<FieldDescriptor>, AllocError>
-        ensures found { IfOk result (λ found. option_map (λ field. field.index) found ≡ named_field (fields_of self.now) name.now) }
+        ensures found { IfOk result (λ found. option_map (λ field. field.index) found ≡ named_field (descriptor_fields self.now) name.now) }
         ensures message { IfOk result (λ found. IfSome found (λ field. SameMessage self.now field.message)) }
-        ensures missing { named_field (fields_of self.now) name.now ≡ None → IsOk result }
+        ensures missing { named_field (descriptor_fields self.now) name.now ≡ None → IsOk result }
     {
         self.field_at(self.pool.inner.field_place_by_name(self.index, name))
     }
@@ -379,9 +379,9 @@ impl MessageDescriptor {
         &self,
         json_name: &str,
     ) -> Result<Option<FieldDescriptor>, AllocError>
-        ensures found { IfOk result (λ found. option_map (λ field. field.index) found ≡ json_named_field (fields_of self.now) json_name.now) }
+        ensures found { IfOk result (λ found. option_map (λ field. field.index) found ≡ json_named_field (descriptor_fields self.now) json_name.now) }
         ensures message { IfOk result (λ found. IfSome found (λ field. SameMessage self.now field.message)) }
-        ensures missing { json_named_field (fields_of self.now) json_name.now ≡ None → IsOk result }
+        ensures missing { json_named_field (descriptor_fields self.now) json_name.now ≡ None → IsOk result }
     {
         self.field_at(
             self.pool
@@ -392,7 +392,7 @@ impl MessageDescriptor {
 
     /// The field at a place, if there is one.
     fn field_at(&self, place: Option<usize>) -> Result<Option<FieldDescriptor>, AllocError>
-        requires { IfSome place (λ i. IsTrue (is_declared_at (fields_of self.now) i)) }
+        requires { IfSome place (λ i. IsTrue (is_declared_at (descriptor_fields self.now) i)) }
         ensures found { IfOk result (λ found. option_map (λ field. field.index) found ≡ place) }
         ensures message { IfOk result (λ found. IfSome found (λ field. SameMessage self.now field.message)) }
         ensures missing { place ≡ None → IsOk result }
@@ -462,15 +462,15 @@ impl MessageDescriptor {
 
     /// The place of the field of a number; the number of an extension finds none.
     fn declared_place(&self, number: u32) -> Option<usize>
-        ensures place { result ≡ declared_place (fields_of self.now) number }
-        ensures declared { IfSome result (λ i. IsTrue (is_declared_at (fields_of self.now) i)) }
+        ensures place { result ≡ declared_place (descriptor_fields self.now) number }
+        ensures declared { IfSome result (λ i. IsTrue (is_declared_at (descriptor_fields self.now) i)) }
     {
         declared_place(&self.pool.inner, self.index, number)
     }
 
     /// The rows of the fields and extensions, in ascending order of their numbers.
     pub(crate) fn field_tables(&self) -> &[FieldTable]
-        ensures { map field_row result.now ≡ fields_of self.now }
+        ensures { map field_row result.now ≡ descriptor_fields self.now }
     {
         self.pool.inner.tables().field_tables(self.index)
     }

@@ -57,7 +57,7 @@ impl OneofDescriptor {
     ghost use Rattle.prost_reflect_pool.specs.RecordPaths.{OneofRecord, record_of};
     ghost use Rattle.prost_reflect_pool.specs.SharedPools.{files_of};
     ghost use Rattle.prost_reflect_dynamic.specs.Named.{message_row_named};
-    ghost use Rattle.prost_reflect_dynamic.specs.NamedFields.{fields_of, is_declared_at};
+    ghost use Rattle.prost_reflect_dynamic.specs.NamedFields.{descriptor_fields, is_declared_at};
     ghost use Rattle.prost_reflect_dynamic.specs.NamedOneofs.{is_synthetic_in, oneof_row_named};
     ghost use Rattle.prost_reflect_dynamic.specs.Places.{places_left};
     ghost use Rattle.prost_reflect_dynamic.specs.Options.{OptionsOf};
@@ -154,7 +154,7 @@ impl OneofDescriptor {
 
     /// Whether the oneof has one member alone, and that one's record says `proto3_optional`: no source text declares it.
     pub fn is_synthetic(&self) -> bool
-        ensures { option_map (λ oneof. is_synthetic_in (files_of self.now.message.pool.inner) (fields_of self.now.message) oneof.fields) (oneof_row_named self.now) ≡ Some result }
+        ensures { option_map (λ oneof. is_synthetic_in (files_of self.now.message.pool.inner) (descriptor_fields self.now.message) oneof.fields) (oneof_row_named self.now) ≡ Some result }
     {
         let pool = &self.message.parent_pool().inner;
         match self.table().fields.as_slice() {
@@ -169,7 +169,7 @@ impl OneofDescriptor {
     /// The oneof's row.
     fn table(&self) -> &OneofTable
         ensures row { oneof_row_named self.now ≡ Some (oneof_row result.now) }
-        ensures members { IsTrue (list_all (is_declared_at (fields_of self.now.message)) result.now.fields.items) }
+        ensures members { IsTrue (list_all (is_declared_at (descriptor_fields self.now.message)) result.now.fields.items) }
     {
         let pool = &self.message.parent_pool().inner;
         pool.oneof_table(self.message.index(), self.index)

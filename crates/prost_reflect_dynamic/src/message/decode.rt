@@ -38,7 +38,7 @@ use crate::message::enums::is_stray;
 use prost_reflect_pool::PooledType;
 use prost_reflect_tables::{FieldTable, TableKind};
 use prost_reflect_wire::{
-    DecodeError, FieldNumber, RECURSION_LIMIT, UnknownField, WireType, decode_key, value_at,
+    DecodeError, FieldNumber, RECURSION_LIMIT, UnknownField, WireType, decode_key, decode_value,
 };
 use std::alloc::Global;
 
@@ -191,7 +191,7 @@ impl DynamicMessage {
         ensures typed { IfOk result (λ _. StaysTyped self.old self.new) }
         ensures fault { IfErr result (λ e. e ≢ DecodeError.OutOfMemory → StandsBehindKey (content_of self.old) levels number.value wire_type e bytes.now) }
     {
-        let (value, rest) = value_at(alloc, number, wire_type, bytes, levels)?;
+        let (value, rest) = decode_value(alloc, number, wire_type, bytes, levels)?;
         self.add_unknown(number.get(), UnknownField::new(number, value))?;
         Ok(rest)
     }

@@ -7,7 +7,7 @@ ghost use Rattle.std.specs.Ordering.{int_eq};
 ghost use Rattle.prost_reflect_wire.specs.Scalar.{is_declared};
 ghost use Rattle.prost_reflect_tables.specs.Rows.{enum_row, value_numbers};
 ghost use Rattle.prost_reflect_tables.specs.Shown.{first_number, enum_numbers};
-ghost use Rattle.prost_reflect_pool.specs.Enums.{numbers_of};
+ghost use Rattle.prost_reflect_pool.specs.Enums.{numbers_or_none};
 ghost use Rattle.prost_reflect_pool.specs.Pools.{pool_rows};
 ghost use Rattle.prost_reflect_pool.specs.SharedPools.{pool_rows as shared_rows};
 ghost use Rattle.prost_reflect_dynamic.specs.NamedKinds.{enums_in};
@@ -53,7 +53,7 @@ fn lacks(pool: &LinkedPool, table: &EnumTable, place: usize, number: i32) -> boo
 
 /// The same, where an enum that is not there lacks no number.
 fn is_undeclared(pool: &LinkedPool, place: usize, number: i32) -> bool
-    ensures { result ≡ not (is_declared (numbers_of (slice_get (pool_rows pool.now).enums place)) number) }
+    ensures { result ≡ not (is_declared (numbers_or_none (slice_get (pool_rows pool.now).enums place)) number) }
 {
     match enum_at(pool, place) {
         Some(table) => lacks(pool, table, place, number),
@@ -64,7 +64,7 @@ fn is_undeclared(pool: &LinkedPool, place: usize, number: i32) -> bool
 /// Whether the enum at a place takes the number: an open one takes each, a closed one those that it declares. Where there is
 /// no pool there is no enum.
 pub(crate) fn takes_number(pool: Option<&LinkedPool>, place: usize, number: i32) -> bool
-    ensures { result ≡ is_declared (numbers_of (slice_get (enums_in (option_copied pool.entry)) place)) number }
+    ensures { result ≡ is_declared (numbers_or_none (slice_get (enums_in (option_copied pool.entry)) place)) number }
 {
     match pool {
         Some(pool) => !is_undeclared(pool, place, number),

@@ -2,7 +2,7 @@
 
 ghost use Rattle.std.specs.Prelude.{◌≡◌, [], map, IfOk, OnErr, OnOk};
 ghost use Rattle.prost_reflect_wire.specs.Content.{entries_of};
-ghost use Rattle.prost_reflect_wire.specs.Unknown.{record_of};
+ghost use Rattle.prost_reflect_wire.specs.Unknown.{unknown_record};
 ghost use Rattle.prost_reflect_fields.specs.FieldSlots.{unknown_in, values_alone};
 ghost use Rattle.prost_reflect_fields.specs.Items.{IsAscending};
 ghost use Rattle.prost_reflect_fields.specs.ItemsLeft.{items_left};
@@ -105,7 +105,7 @@ impl DynamicMessage {
     /// All unknown fields in ascending number, also those of fields whose closed enum does not declare them.
     pub fn unknown_fields(&self) -> UnknownFields<'_>
         ensures left { unknown_left result ≡ all_unknown (stored_in self.now) }
-        ensures content { map record_of (unknown_left result) ≡ unknown_records (entries_of (content_of self.now)) }
+        ensures content { map unknown_record (unknown_left result) ≡ unknown_records (entries_of (content_of self.now)) }
         ensures ascending { IsAscending (stored_in self.now) }
         ensures sound { IsSound (message_type_of self.now) (stored_in self.now) }
     {
@@ -123,7 +123,7 @@ impl DynamicMessage {
     /// `AllocError` if out of memory; then nothing changes.
     pub fn take_unknown_fields(&mut self, alloc: Global) -> Result<TakenUnknownFields, AllocError>
         ensures taken { IfOk result (λ taken. taken_left taken ≡ all_unknown (stored_in self.old)) }
-        ensures records { IfOk result (λ taken. map record_of (taken_left taken) ≡ unknown_records (entries_of (content_of self.old))) }
+        ensures records { IfOk result (λ taken. map unknown_record (taken_left taken) ≡ unknown_records (entries_of (content_of self.old))) }
         ensures message_type { message_type_of self.new ≡ message_type_of self.old }
         ensures stored { OnOk result (stored_in self.new ≡ values_alone (stored_in self.old)) }
         ensures content { OnOk result (content_of self.new ≡ in_entries without_unknown (content_of self.old)) }

@@ -15,7 +15,6 @@ use Rattle.prost_reflect_wire.specs.Edit.{PathTo, holds_message}
 use Rattle.prost_reflect_wire.specs.Typing.{ValueStored}
 use Rattle.prost_reflect_laws.specs.Reducing.{refined_times}
 use Rattle.prost_reflect_wire.specs.Reduction.{Reduced}
-use Rattle.prost_reflect_laws.specs.Passage.{as_fields}
 use Rattle.prost_reflect_laws.specs.ReducingExamples.{whole, less, other}
 use Rattle.prost_reflect_laws.specs.Examples.Schemas.{examples, field, member, int32, message_value_type, my_message, older_message, maps, maps_without_m, choice, extended, extended_choice, field_at_hundred, no_fields, closed, closed_alone, open_alone}
 use Rattle.prost_reflect_laws.specs.Examples.Words.{int, hex, content, Means, Writes, Sets}
@@ -25,7 +24,7 @@ use Rattle.prost_reflect_laws.proofs.PassageLaws.{older_accepts, passage, edit_p
 use Rattle.prost_reflect_laws.proofs.Refining.{reduced_is_test}
 use Rattle.prost_reflect_laws.proofs.Examples.ComputedContents.{schemas}
 use Rattle.prost_reflect_laws.proofs.Examples.ComputedReductions.{reductions}
-use Rattle.prost_reflect_laws.proofs.Examples.NotReduced.{no_reductions, differ, differ_in}
+use Rattle.prost_reflect_laws.proofs.Examples.NotReduced.{no_reductions, differ}
 use Rattle.prost_reflect_wire.proofs.ByteLists.{test_bytes}
 
 -- BY THE LAWS
@@ -157,10 +156,8 @@ pub extension_against_field : ExtensionAgainstField
 unfolding short read unpacked allows meaning steps is_utf8 chars encode_utf8
 extension_against_field = record {
   unreduced = differ extended field_at_hundred (λ pairs. refl);
-  reduced_as_fields = record { pairs = (extended, field_at_hundred) ∷ []; first = refl; each = refl };
   relays = relays _ _ _ _ _ refl refl refl refl (lit< tt);
   passes_on = (accepted_by field_at_hundred "a00605" refl refl, refl);
   sets = (lit≤ tt, (_, refl, record { valid = refl; fits = refl; types = tt; order = refl; members = refl }), refl, refl);
   set_behind = (accepted_by field_at_hundred "a00607" refl refl, refl);
-  members = differ_in (as_fields examples) extended_choice choice (λ pairs. refl);
 }

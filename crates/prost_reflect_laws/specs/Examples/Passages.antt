@@ -10,7 +10,6 @@ use Rattle.prost_reflect_wire.specs.Meaning.{decoded}
 use Rattle.prost_reflect_wire.specs.Writing.{encoded}
 use Rattle.prost_reflect_wire.specs.Edit.{set_at, PathTo, holds_message}
 use Rattle.prost_reflect_wire.specs.Reduction.{Reduced}
-use Rattle.prost_reflect_laws.specs.Passage.{ReducedAsFields}
 use Rattle.prost_reflect_laws.specs.ReducingExamples.{whole, less, other}
 use Rattle.prost_reflect_laws.specs.Examples.Schemas.{examples, my_message, older_message, unpacked_list, packed_list, maps, maps_without_m, choice, extended, extended_choice, field_at_hundred, no_fields, closed, older_closed, closed_alone, open_alone, two_choices, choices_without_a}
 use Rattle.prost_reflect_laws.specs.Examples.Words.{content, int, enum, inner, list_of, varint, delimited, hex, Means, Writes, Sets}
@@ -110,12 +109,9 @@ to_hundred = 100 ∷ []
 -- A field in no oneof that is an extension to the older type. Reading, writing and setting make no difference between the two, so that bytes pass on; it is the types that are not each other's.
 pub record ExtensionAgainstField : Type 0 where
   pub unreduced : Reduced examples extended examples field_at_hundred → ⊥
-  pub reduced_as_fields : ReducedAsFields examples extended examples field_at_hundred
   pub relays : Relays extended field_at_hundred "a00601 a00605" (Stored 100 (int 5) NoEntries) "a00605"
   pub passes_on : PassesOn field_at_hundred "a00601 a00605" "a00605"
   -- A value is set through the older type,
   pub sets : (length to_hundred ≤ suc LEVEL_LIMIT) × PathTo examples extended to_hundred (int 7) × (holds_message (int 7) ≡ false) × Sets extended "a00601 a00605" to_hundred (int 7) "a00607"
   -- and there in what the newer one reads.
   pub set_behind : AcceptedBy field_at_hundred "a00607" × (decoded examples LEVEL_LIMIT field_at_hundred (hex "a00607") ≡ (decoded examples LEVEL_LIMIT field_at_hundred (hex "a00601 a00605") >>= λ d. Some (set_at to_hundred (int 7) d)))
-  -- Members of a oneof that are extensions to the older type are not in it there, as fields too.
-  pub members : ReducedAsFields examples extended_choice examples choice → ⊥

@@ -8,7 +8,7 @@ use Rattle.prost_reflect_tables.specs.declared.tables.TableKind.{TableKind}
 use Rattle.prost_reflect_tables.specs.declared.tables.TableKind.TheVariants.{Message, Enum}
 use Rattle.prost_reflect_tables.specs.Names.{without_dot}
 use Rattle.prost_reflect_tables.specs.Flat.{DefinitionRow, FlatMessageRow, FlatEnumRow, FlatRows}
-use Rattle.prost_reflect_tables.specs.Faults.{place_of, message_names, enum_names, names_nothing, number_or_zero, is_type, is_message_type, is_enum_type, type_missing, type_unknown, message_named}
+use Rattle.prost_reflect_tables.specs.Faults.{name_place, message_names, enum_names, names_nothing, number_or_zero, is_type, is_message_type, is_enum_type, type_missing, type_unknown, message_named}
 use Rattle.prost_reflect_tables.specs.Linking.{place_or_first, kind_of_code, linked_kind, links_of, natural_or_zero}
 
 -- Neither a message nor an enum.
@@ -96,7 +96,7 @@ pub record FoundIn {X : Type 0} (name_of : X → List ℕ) (xs : List X) (o : Op
   pub text : String Global
   pub is : o ≡ Some text
   pub place : ℕ
-  pub found : place_of (map name_of xs) (without_dot (string_bytes text)) ≡ Some place
+  pub found : name_place (map name_of xs) (without_dot (string_bytes text)) ≡ Some place
   pub item : X
   pub at : slice_get xs place ≡ Some item
 
@@ -111,9 +111,9 @@ position_at t name_of i (x ∷ xs) p e = go (t (name_of x)) e (position_at t nam
 
 pub found_in : {X : Type 0} (name_of : X → List ℕ) (xs : List X) (o : Option (String Global)) → is_none o ≡ false → names_nothing (map name_of xs) o ≡ false → FoundIn name_of xs o
 found_in name_of xs None some h = absurd cc
-found_in name_of xs (Some text) some h = go (place_of (map name_of xs) (without_dot (string_bytes text))) refl h
+found_in name_of xs (Some text) some h = go (name_place (map name_of xs) (without_dot (string_bytes text))) refl h
   where
-    go : (p : Option ℕ) → place_of (map name_of xs) (without_dot (string_bytes text)) ≡ p → is_none p ≡ false → FoundIn name_of xs (Some text)
+    go : (p : Option ℕ) → name_place (map name_of xs) (without_dot (string_bytes text)) ≡ p → is_none p ≡ false → FoundIn name_of xs (Some text)
     go None e none = absurd cc
     go (Some p) e none =
         let found = position_at (bytes_eq (without_dot (string_bytes text))) name_of 0 xs p e in

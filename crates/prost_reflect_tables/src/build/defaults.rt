@@ -1,6 +1,6 @@
 //! Reading the default that a field's definition writes as text.
 
-ghost use Rattle.std.specs.Prelude.{◌≡◌, ◌<◌, ◌≤◌, ◌+◌, ◌-◌, ◌*◌, ◌^◌, ◌≤ℤ◌, ◌<ℤ◌, pos, neg_ℤ, ℕ, List, length, option_map, IfOk, IfSome, bytes_eq};
+ghost use Rattle.std.specs.Prelude.{◌≡◌, ◌<◌, ◌≤◌, ◌+◌, ◌-◌, ◌*◌, ◌^◌, ◌≤ℤ◌, ◌<ℤ◌, pos, neg_ℤ, List, option_map, IfOk, IfSome};
 ghost use Rattle.prost_reflect_tables.specs.Rows.{EnumValueRow, written_scalar};
 ghost use Rattle.prost_reflect_tables.specs.WrittenDefaults.{is_octal, is_digit, whole_number, up_to, signed, whole_bits, magnitude_bits, float_bits, binary32, binary64, front, octal_digit, octal, letter, escaped, front_byte, unescaped, boolean, number_named, field_default};
 

@@ -2,7 +2,7 @@
 
 ghost use Rattle.std.specs.Prelude.{◌≡◌, ◌++◌, ◌∷◌, [], pos, length, IfOk, OnOk, map};
 ghost use Rattle.prost_reflect_types.specs.declared.DescriptorProto.TheViews.{out-DescriptorProto};
-ghost use Rattle.prost_reflect_tables.specs.Flat.{inside, defined, defined_from, field_name, oneof_name, value_name, method_name, enum_at, enums_from, service_at, services_from, own_message, message_at, with_given, is_proto3, behind, file_at, flattened};
+ghost use Rattle.prost_reflect_tables.specs.Flat.{defined, defined_from, field_name, oneof_name, value_name, method_name, enum_at, enums_from, service_at, services_from, own_message, message_at, with_given, is_proto3, behind, file_at, flattened};
 ghost use Rattle.prost_reflect_tables.specs.FlatViews.{scope_row, definition_row, lent_row, message_row, enum_row, service_row, flat_rows};
 
 use crate::build::names::{joined, text_or_empty};

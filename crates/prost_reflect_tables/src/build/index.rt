@@ -1,9 +1,9 @@
 //! The full names of definitions, and which definition a text names.
 
-ghost use Rattle.std.specs.Prelude.{◌≡◌, [], ◌++◌, List, IfOk, OnOk, map};
+ghost use Rattle.std.specs.Prelude.{◌≡◌, ◌++◌, IfOk, OnOk, map};
 ghost use Rattle.std.specs.BTreeMap.{get_by_text};
-ghost use Rattle.prost_reflect_tables.specs.Faults.{names_of, names_in_messages, names_in_enums, names_in_services, full_names, repeats, duplicate_name, message_names, enum_names, place_named};
-ghost use Rattle.prost_reflect_tables.specs.FlatViews.{definition_row, message_row, enum_row, service_row, flat_rows, text_list};
+ghost use Rattle.prost_reflect_tables.specs.Faults.{names_of, file_names, message_names, enum_names, place_named};
+ghost use Rattle.prost_reflect_tables.specs.FlatViews.{definition_row, file_list, message_row, enum_row, flat_rows, text_list};
 ghost use Rattle.prost_reflect_tables.specs.Indexed.{IsIndexOf, IsNumbersOf, AreNumbersOf, IsIndex};
 ghost use Rattle.prost_reflect_tables.specs.WrittenDefaults.{number_named};
 ghost use Rattle.prost_reflect_tables.specs.Linking.{links_of, linked_value, values_of_kind};
@@ -11,9 +11,9 @@ ghost use Rattle.prost_reflect_tables.specs.Linking.{links_of, linked_value, val
 use crate::build::flatten::{Definition, Flat, FlatEnum, FlatMessage, FlatService};
 use crate::build::names::{text_or_empty, without_dot};
 use crate::tables::TableKind;
-use prost_reflect_types::EnumValueDescriptorProto;
+use prost_reflect_types::{EnumValueDescriptorProto, FileDescriptorProto};
 use std::alloc::{AllocError, Global};
-use std::collections::{BTreeMap, BTreeSet};
+use std::collections::BTreeMap;
 
 /// The places of messages and enums by their full names, and the numbers of enum values by their names.
 #[derive(Drop)]
@@ -26,7 +26,7 @@ pub struct Index {
     pub numbers: Vec<BTreeMap<String, i32>>,
 }
 
-// DUPLICATE NAMES
+// FULL NAMES
 
 /// Adds the full names of definitions.
 ///
@@ -45,80 +45,22 @@ pub fn add_names<'f, 'a, R>(
     Ok(())
 }
 
-fn add_names_in_messages<'f, 'a>(
-    names: &mut Vec<&'f str>,
-    messages: &'f [FlatMessage<'a>],
-) -> Result<(), AllocError>
-    ensures { OnOk result (text_list names.new.items ≡ text_list names.old.items ++ names_in_messages (map message_row messages.now)) }
-{
-    for message in messages {
-        names.push(message.definition.full_name.as_str())?;
-        add_names(names, message.fields.as_slice())?;
-        add_names(names, message.oneofs.as_slice())?;
-    }
-    Ok(())
-}
-
-fn add_names_in_enums<'f, 'a>(
-    names: &mut Vec<&'f str>,
-    enums: &'f [FlatEnum<'a>],
-) -> Result<(), AllocError>
-    ensures { OnOk result (text_list names.new.items ≡ text_list names.old.items ++ names_in_enums (map enum_row enums.now)) }
-{
-    for declared in enums {
-        names.push(declared.definition.full_name.as_str())?;
-        add_names(names, declared.values.as_slice())?;
-    }
-    Ok(())
-}
-
-fn add_names_in_services<'f, 'a>(
-    names: &mut Vec<&'f str>,
-    services: &'f [FlatService<'a>],
-) -> Result<(), AllocError>
-    ensures { OnOk result (text_list names.new.items ≡ text_list names.old.items ++ names_in_services (map service_row services.now)) }
-{
-    for service in services {
-        names.push(service.definition.full_name.as_str())?;
-        add_names(names, service.methods.as_slice())?;
-    }
-    Ok(())
-}
-
-fn full_names<'f, 'a>(alloc: Global, flat: &'f Flat<'a>) -> Result<Vec<&'f str>, AllocError>
-    ensures { IfOk result (λ v. text_list v.items ≡ full_names (flat_rows flat.now)) }
-{
-    let mut names = Vec::new(alloc);
-    add_names_in_messages(&mut names, flat.messages.as_slice())?;
-    add_names_in_enums(&mut names, flat.enums.as_slice())?;
-    add_names(&mut names, flat.extensions.as_slice())?;
-    add_names_in_services(&mut names, flat.services.as_slice())?;
-    Ok(names)
-}
-
-/// Whether a name stands among those before it.
-fn repeats(alloc: Global, names: &[&str]) -> Result<bool, AllocError>
-    ensures { IfOk result (λ b. b ≡ repeats [] (text_list names.now)) }
-{
-    let mut seen = BTreeSet::new(alloc);
-    for name in names {
-        if !seen.insert(String::from_str(alloc, name)?)? {
-            return Ok(true);
-        }
-    }
-    Ok(false)
-}
-
-/// Whether two definitions have one full name.
+/// The names of files, empty where a file has none.
 ///
 /// # Errors
 ///
 /// `AllocError` if out of memory.
-pub fn has_duplicate_name(alloc: Global, flat: &Flat) -> Result<bool, AllocError>
-    ensures { IfOk result (λ b. b ≡ duplicate_name (flat_rows flat.now)) }
+pub fn file_names<'f>(
+    alloc: Global,
+    files: &[&'f FileDescriptorProto],
+) -> Result<Vec<&'f str>, AllocError>
+    ensures { IfOk result (λ v. text_list v.items ≡ file_names (file_list files.now)) }
 {
-    let names = full_names(alloc, flat)?;
-    repeats(alloc, names.as_slice())
+    let mut names = Vec::new(alloc);
+    for file in files {
+        names.push(text_or_empty(&file.name))?;
+    }
+    Ok(names)
 }
 
 // INDICES OF NAMES

@@ -9,7 +9,7 @@ ghost use Rattle.prost_reflect_tables.specs.Resolved.{resolve, resolved_row, res
 
 use crate::build::flatten::{Definition, DefinitionRef, Flat, FlatMessage};
 use crate::build::index::{Index, enum_place, indexed, message_place};
-use crate::build::link::{linked_default, linked_kind};
+use crate::build::kinds::{linked_default, linked_kind};
 use crate::build::options::is_entry;
 use crate::tables::{TableKind, WrittenDefault};
 use prost_reflect_types::FieldDescriptorProto;

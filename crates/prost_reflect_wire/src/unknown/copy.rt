@@ -1,13 +1,13 @@
 //! Copies of the fields that no descriptor knows.
 
 ghost use Rattle.std.specs.Prelude.{◌≡◌, IfOk};
-ghost use Rattle.prost_reflect_wire.specs.Unknown.{payload_of, record_of, records_of};
+ghost use Rattle.prost_reflect_wire.specs.Unknown.{payload_of, unknown_record, records_of};
 
 use crate::unknown::{UnknownField, UnknownFieldSet, UnknownFieldValue};
 use std::alloc::AllocError;
 
 impl Clone for UnknownField {
-    ghost is_clone = { λ field copied. record_of copied ≡ record_of field };
+    ghost is_clone = { λ field copied. unknown_record copied ≡ unknown_record field };
 
     fn clone(&self) -> Result<UnknownField, AllocError> {
         copy_field(self)
@@ -32,7 +32,7 @@ impl Clone for UnknownFieldSet {
 
 #[cycle(copy)]
 fn copy_field(field: &UnknownField) -> Result<UnknownField, AllocError>
-    ensures { IfOk result (λ copied. record_of copied ≡ record_of field.now) }
+    ensures { IfOk result (λ copied. unknown_record copied ≡ unknown_record field.now) }
 {
     let value = copy_value(&field.value)?;
     Ok(UnknownField::new(field.number, value))

@@ -1,7 +1,7 @@
 //! Equality of the fields that no descriptor knows.
 
 ghost use Rattle.std.specs.Prelude.{◌≡◌, ◌↔◌, IsTrue};
-ghost use Rattle.prost_reflect_wire.specs.Unknown.{payload_of, record_of, records_of};
+ghost use Rattle.prost_reflect_wire.specs.Unknown.{payload_of, unknown_record, records_of};
 ghost use Rattle.prost_reflect_wire.specs.Equality.{field_eq, field_eq_laws, value_eq, value_eq_laws, set_eq, set_eq_laws};
 
 use crate::unknown::{UnknownField, UnknownFieldSet, UnknownFieldValue};
@@ -14,7 +14,7 @@ impl PartialEq for UnknownField {
     /// Whether the numbers and the values are equal.
     fn eq(&self, other: &UnknownField) -> bool
         ensures value { result ≡ field_eq self.now other.now }
-        ensures same { IsTrue result ↔ (record_of self.now ≡ record_of other.now) }
+        ensures same { IsTrue result ↔ (unknown_record self.now ≡ unknown_record other.now) }
     {
         equal_fields(self, other)
     }

@@ -9,10 +9,10 @@ ghost use Rattle.prost_reflect_wire.specs.declared.key.WireType.TheVariants as w
 
 use crate::error::DecodeError;
 use crate::key::{FieldNumber, WireType, decode_key};
-use crate::payload::{delimited_at, fixed32_at, fixed64_at};
+use crate::payload::{decode_delimited, decode_fixed32, decode_fixed64};
 use crate::varint::decode_varint;
 
-/// Gives what follows the value behind the key of a field, with at most `depth` groups open at once.
+/// Gives what follows the value behind the key of a field, with at most `levels` groups open at once.
 ///
 /// # Errors
 ///
@@ -21,26 +21,26 @@ pub fn skip_value(
     number: FieldNumber,
     wire_type: WireType,
     bytes: &[u8],
-    depth: u32,
+    levels: u32,
 ) -> Result<&[u8], DecodeError>
-    ensures ok { IfOk result (λ rest. SkipsValue number.value wire_type depth bytes.now rest.now) }
-    ensures only { (p : Payload) (rest : List ℕ) → ValueFront number.value wire_type depth p bytes.now rest →
+    ensures ok { IfOk result (λ rest. SkipsValue number.value wire_type levels bytes.now rest.now) }
+    ensures only { (p : Payload) (rest : List ℕ) → ValueFront number.value wire_type levels p bytes.now rest →
         IsOkAnd result (λ x. x.now ≡ rest) }
-    ensures fault { IfErr result (λ e. ValueFault e number.value wire_type depth bytes.now) }
+    ensures fault { IfErr result (λ e. ValueFault e number.value wire_type levels bytes.now) }
 {
-    pass_value(number, wire_type, bytes, depth)
+    skip_payload(number, wire_type, bytes, levels)
 }
 
 /// The same by wire types.
 #[cycle(skipping)]
-fn pass_value(
+fn skip_payload(
     number: FieldNumber,
     wire_type: WireType,
     bytes: &[u8],
-    depth: u32,
+    levels: u32,
 ) -> Result<&[u8], DecodeError>
-    ensures ok { IfOk result (λ rest. SkipsValue number.value wire_type depth bytes.now rest.now) }
-    ensures fault { IfErr result (λ e. ValueFault e number.value wire_type depth bytes.now) }
+    ensures ok { IfOk result (λ rest. SkipsValue number.value wire_type levels bytes.now rest.now) }
+    ensures fault { IfErr result (λ e. ValueFault e number.value wire_type levels bytes.now) }
 {
     match wire_type {
         WireType::Varint => {
@@ -48,17 +48,17 @@ fn pass_value(
             Ok(rest)
         }
         WireType::SixtyFourBit => {
-            let (_, rest) = fixed64_at(bytes)?;
+            let (_, rest) = decode_fixed64(bytes)?;
             Ok(rest)
         }
         WireType::LengthDelimited => {
-            let (_, rest) = delimited_at(bytes)?;
+            let (_, rest) = decode_delimited(bytes)?;
             Ok(rest)
         }
-        WireType::StartGroup => pass_group(number, bytes, depth),
+        WireType::StartGroup => skip_group(number, bytes, levels),
         WireType::EndGroup => Err(DecodeError::EndGroup),
         WireType::ThirtyTwoBit => {
-            let (_, rest) = fixed32_at(bytes)?;
+            let (_, rest) = decode_fixed32(bytes)?;
             Ok(rest)
         }
     }
@@ -66,11 +66,11 @@ fn pass_value(
 
 /// Gives what follows the records of a group and its end key.
 #[cycle(skipping)]
-fn pass_group(number: FieldNumber, bytes: &[u8], depth: u32) -> Result<&[u8], DecodeError>
-    ensures ok { IfOk result (λ rest. SkipsGroup number.value depth bytes.now rest.now) }
-    ensures fault { IfErr result (λ e. ValueFault e number.value wires.StartGroup depth bytes.now) }
+fn skip_group(number: FieldNumber, bytes: &[u8], levels: u32) -> Result<&[u8], DecodeError>
+    ensures ok { IfOk result (λ rest. SkipsGroup number.value levels bytes.now rest.now) }
+    ensures fault { IfErr result (λ e. ValueFault e number.value wires.StartGroup levels bytes.now) }
 {
-    if depth == 0 {
+    if levels == 0 {
         return Err(DecodeError::Depth);
     }
     let mut rest = bytes;
@@ -81,6 +81,6 @@ fn pass_group(number: FieldNumber, bytes: &[u8], depth: u32) -> Result<&[u8], De
             WireType::EndGroup => return Err(DecodeError::EndGroup),
             _ => {}
         }
-        rest = pass_value(key, wire_type, after, depth - 1)?;
+        rest = skip_payload(key, wire_type, after, levels - 1)?;
     }
 }

@@ -6,7 +6,7 @@ ghost use Rattle.prost_reflect_wire.specs.Record.{body_of, Spells, spelled, shor
 ghost use Rattle.prost_reflect_wire.specs.Front.{RecordFront};
 ghost use Rattle.prost_reflect_wire.specs.Buffer.{bytes_of, Prepended};
 ghost use Rattle.prost_reflect_wire.specs.Sinks.{Adds};
-ghost use Rattle.prost_reflect_wire.specs.Unknown.{payload_of, record_of, records_of};
+ghost use Rattle.prost_reflect_wire.specs.Unknown.{payload_of, unknown_record, records_of};
 
 use crate::buffer::BackBuffer;
 use crate::error::EncodeError;
@@ -17,8 +17,8 @@ use crate::unknown::{UnknownField, UnknownFieldSet, UnknownFieldValue};
 /// Adds the record of the field in front.
 #[cycle(writing)]
 pub fn write_field<S: Sink>(sink: &mut S, field: &UnknownField)
-    ensures added { Adds S.added sink.old sink.new (spelled (record_of field.now ∷ [])) }
-    ensures valid { valid (body_of (record_of field.now ∷ [])) ≡ true }
+    ensures added { Adds S.added sink.old sink.new (spelled (unknown_record field.now ∷ [])) }
+    ensures valid { valid (body_of (unknown_record field.now ∷ [])) ≡ true }
 {
     write_value(sink, field.number, &field.value);
     write_key(sink, field.number.get(), field.value.wire_type());
@@ -63,10 +63,10 @@ impl UnknownField {
     ///
     /// `TooLong` if the record passes the greatest `usize`, `OutOfMemory` if memory runs out; the output stays.
     pub fn encode(&self, out: &mut Vec<u8>) -> Result<(), EncodeError>
-        ensures ok { OnOk result (out.new.items ≡ out.old.items ++ spelled (record_of self.now ∷ [])) }
-        ensures first { OnOk result ((tail : List ℕ) → RecordFront (record_of self.now) (spelled (record_of self.now ∷ []) ++ tail) tail) }
+        ensures ok { OnOk result (out.new.items ≡ out.old.items ++ spelled (unknown_record self.now ∷ [])) }
+        ensures first { OnOk result ((tail : List ℕ) → RecordFront (unknown_record self.now) (spelled (unknown_record self.now ∷ []) ++ tail) tail) }
         ensures err { OnErr result (out.new.items ≡ out.old.items) }
-        ensures too_long { IfErr result (λ e. e ≡ EncodeError.TooLong → 2 ^ 64 ≤ length (spelled (record_of self.now ∷ []))) }
+        ensures too_long { IfErr result (λ e. e ≡ EncodeError.TooLong → 2 ^ 64 ≤ length (spelled (unknown_record self.now ∷ []))) }
     {
         let mut sink = ByteSink::new(*out.allocator());
         write_field(&mut sink, self);
@@ -75,7 +75,7 @@ impl UnknownField {
 
     /// How many bytes `encode` appends; `None` if they are more than a `usize` counts.
     pub fn encoded_len(&self) -> Option<usize>
-        ensures { let n = length (spelled (record_of self.now ∷ [])) in SomeIff result (n < 2 ^ 64) n }
+        ensures { let n = length (spelled (unknown_record self.now ∷ [])) in SomeIff result (n < 2 ^ 64) n }
     {
         let mut sink = LengthSink::new();
         write_field(&mut sink, self);

@@ -21,8 +21,8 @@ use crate::message::enums::is_stray;
 use crate::value::Value;
 use prost_reflect_tables::TableKind;
 use prost_reflect_wire::{
-    DecodeError, FieldNumber, UnknownField, UnknownFieldValue, WireType, decode_varint,
-    delimited_at, low_i32,
+    DecodeError, FieldNumber, UnknownField, UnknownFieldValue, WireType, decode_delimited,
+    decode_varint, low_i32,
 };
 use std::alloc::{AllocError, Global};
 
@@ -63,7 +63,7 @@ impl DynamicMessage {
         ensures fault { IfErr result (λ e. e ≢ DecodeError.OutOfMemory → StandsBehindKey (content_of self.old) levels number.value wire_type e bytes.now) }
     {
         if wire_type == WireType::LengthDelimited {
-            let (body, rest) = delimited_at(bytes)?;
+            let (body, rest) = decode_delimited(bytes)?;
             self.push_numbers(alloc, number, kind, body)?;
             return Ok(rest);
         }

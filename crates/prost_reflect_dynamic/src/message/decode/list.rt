@@ -14,7 +14,7 @@ use crate::message::DynamicMessage;
 use crate::message::decode::scalar::{scalar_at, wire_type_of};
 use crate::value::Value;
 use prost_reflect_tables::{TableKind, is_packable};
-use prost_reflect_wire::{DecodeError, FieldNumber, WireType, delimited_at};
+use prost_reflect_wire::{DecodeError, FieldNumber, WireType, decode_delimited};
 use std::alloc::Global;
 
 /// How many elements a packed record's body has, if it has nothing else. Only speed rests on it.
@@ -101,7 +101,7 @@ fn push_elements<'a>(
     ensures fault { IfErr result (λ e. e ≢ DecodeError.OutOfMemory → RefusesElements kind wire_type e bytes.now) }
 {
     if wire_type == WireType::LengthDelimited && is_packable(kind) {
-        let (body, rest) = delimited_at(bytes)?;
+        let (body, rest) = decode_delimited(bytes)?;
         push_packed(alloc, values, kind, body)?;
         return Ok(rest);
     }

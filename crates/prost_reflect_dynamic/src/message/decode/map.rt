@@ -27,7 +27,7 @@ use crate::value::{MapKey, Value};
 use prost_reflect_pool::PooledType;
 use prost_reflect_tables::TableKind;
 use prost_reflect_wire::{
-    DecodeError, FieldNumber, WireType, decode_key, delimited_at, skip_value,
+    DecodeError, FieldNumber, WireType, decode_delimited, decode_key, skip_value,
 };
 use std::alloc::{AllocError, Global};
 use std::collections::BTreeMap;
@@ -93,13 +93,13 @@ fn entry_at(
 ///
 /// # Errors
 ///
-/// `EndGroup` at an end key, `WireType` if the record is not delimited, `Truncated` and `Varint` as `delimited_at`.
+/// `EndGroup` at an end key, `WireType` if the record is not delimited, `Truncated` and `Varint` as `decode_delimited`.
 pub(super) fn entry_body(wire_type: WireType, bytes: &[u8]) -> Result<(&[u8], &[u8]), DecodeError>
     ensures ok { IfOk result (λ x. (wire_type ≡ wires.LengthDelimited) × DelimitedFront x.0.now bytes.now x.1.now) }
     ensures fault { IfErr result (λ e. BodyFault e wire_type bytes.now) }
 {
     match wire_type {
-        WireType::LengthDelimited => delimited_at(bytes),
+        WireType::LengthDelimited => decode_delimited(bytes),
         WireType::EndGroup => Err(DecodeError::EndGroup),
         WireType::Varint => Err(DecodeError::WireType),
         WireType::SixtyFourBit => Err(DecodeError::WireType),

@@ -18,7 +18,7 @@ ghost use Rattle.prost_reflect_dynamic.specs.TypedSteps.{typed_as, StaysTyped, V
 use crate::message::DynamicMessage;
 use crate::value::Value;
 use prost_reflect_pool::PooledType;
-use prost_reflect_wire::{DecodeError, FieldNumber, WireType, decode_key, delimited_at};
+use prost_reflect_wire::{DecodeError, FieldNumber, WireType, decode_delimited, decode_key};
 use std::alloc::{AllocError, Global};
 
 /// Which messages a field has.
@@ -108,7 +108,7 @@ impl DynamicMessage {
         if is_group {
             return self.merge_to_end(alloc, number, bytes, levels - 1);
         }
-        let (body, rest) = delimited_at(bytes)?;
+        let (body, rest) = decode_delimited(bytes)?;
         self.merge_records(alloc, body, levels - 1)?;
         Ok(rest)
     }

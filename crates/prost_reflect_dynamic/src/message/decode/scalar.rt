@@ -10,8 +10,8 @@ ghost use Rattle.prost_reflect_dynamic.specs.Scalars.{plain_kind, HasWire, IsEle
 use crate::value::Value;
 use prost_reflect_tables::TableKind;
 use prost_reflect_wire::{
-    DecodeError, WireType, decode_varint, delimited_at, fixed32_at, fixed64_at, low_i32, low_u32,
-    unzigzag32, unzigzag64,
+    DecodeError, WireType, decode_delimited, decode_fixed32, decode_fixed64, decode_varint,
+    low_i32, low_u32, unzigzag32, unzigzag64,
 };
 use std::alloc::Global;
 
@@ -121,15 +121,15 @@ pub(crate) fn scalar_at(
             Ok((varint_value(kind, value), rest))
         }
         WireType::SixtyFourBit => {
-            let (payload, rest) = fixed64_at(bytes)?;
+            let (payload, rest) = decode_fixed64(bytes)?;
             Ok((fixed64_value(kind, payload), rest))
         }
         WireType::LengthDelimited => {
-            let (payload, rest) = delimited_at(bytes)?;
+            let (payload, rest) = decode_delimited(bytes)?;
             Ok((delimited_value(alloc, kind, payload)?, rest))
         }
         WireType::ThirtyTwoBit => {
-            let (payload, rest) = fixed32_at(bytes)?;
+            let (payload, rest) = decode_fixed32(bytes)?;
             Ok((fixed32_value(kind, payload), rest))
         }
         WireType::StartGroup | WireType::EndGroup => unreachable!(),

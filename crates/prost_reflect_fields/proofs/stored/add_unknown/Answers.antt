@@ -3,7 +3,7 @@ use Rattle.std.proofs.lemmas.Result.{on_ok_weaker, on_err_weaker}
 use Rattle.std.specs.Option.{option_copied, is_some}
 use Rattle.prost_reflect_fields.specs.FieldSlots.{UnknownAdded, SameStored}
 use Rattle.prost_reflect_fields.specs.Items.{item_at}
-use Rattle.prost_reflect_wire.specs.Unknown.{record_of}
+use Rattle.prost_reflect_wire.specs.Unknown.{unknown_record}
 use Rattle.prost_reflect_fields.proofs.SlotChanges.{added_first, added_beside, same_beside}
 use Rattle.prost_reflect_fields.proofs.stored.add_unknown.Goals as goal
 
@@ -16,7 +16,7 @@ returns-then-is_none-clause-ok g c =
     let es = g.S.NumberMap.entries c.args.fields.now in
     let free : item_at es c.args.number ≡ None = absent c.get.result (item_at es c.args.number) c.get.ensures c.if-is_none.ensures in
     on_ok_weaker c.insert-then-is_none.result
-    (λ is. subst (λ ds. UnknownAdded es ds (record_of c.args.field)) (sym is) (added_first es c.args.number c.insert.new.self (record_of c.args.field) free c.requires (c.in_ok-insert.ensures.records ∙ ap (λ rs. rs ++ record_of c.args.field ∷ []) c.new-unknown.ensures.records)))
+    (λ is. subst (λ ds. UnknownAdded es ds (unknown_record c.args.field)) (sym is) (added_first es c.args.number c.insert.new.self (unknown_record c.args.field) free c.requires (c.in_ok-insert.ensures.records ∙ ap (λ rs. rs ++ unknown_record c.args.field ∷ []) c.new-unknown.ensures.records)))
     c.insert-then-is_none.ensures.ok
 
 pub returns-in-Some-clause-ok : goal.returns-in-Some-clause-ok
@@ -24,7 +24,7 @@ returns-in-Some-clause-ok g c =
     let es = g.S.NumberMap.entries c.args.fields.now in
     let is = c.get_mut.follows.holds c.add_unknown.new.self in
     on_ok_weaker c.add_unknown.result
-    (λ added. subst (λ ds. UnknownAdded es ds (record_of c.args.field)) (sym is) (added_beside es c.args.number c.in-Some.slot.now c.add_unknown.new.self (record_of c.args.field) (sym c.in-Some.ensures.value) c.requires added))
+    (λ added. subst (λ ds. UnknownAdded es ds (unknown_record c.args.field)) (sym is) (added_beside es c.args.number c.in-Some.slot.now c.add_unknown.new.self (unknown_record c.args.field) (sym c.in-Some.ensures.value) c.requires added))
     c.add_unknown.ensures.ok
 
 pub returns-in-Some-clause-err : goal.returns-in-Some-clause-err

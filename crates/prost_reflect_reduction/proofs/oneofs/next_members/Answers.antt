@@ -1,7 +1,7 @@
 use Rattle.std.proofs.Common.{◌-◌, ◌<◌, length, drop, sym, ap, ◌∙◌, subst, arith, List, ℕ}
 use Rattle.std.proofs.lemmas.List.{length-replicate, length-set}
 use Rattle.prost_reflect_tables.specs.Linked.{oneof_in_range}
-use Rattle.prost_reflect_reduction.specs.Merging.{fields_of, AreFirst}
+use Rattle.prost_reflect_reduction.specs.Merging.{shown_fields, AreFirst}
 use Rattle.prost_reflect_reduction.proofs.Noting.{noted_length, none_noted, nothing_left, in_range_at, first_kept, next_kept}
 use Rattle.prost_reflect_reduction.proofs.oneofs.next_members.Goals as goal
 
@@ -29,7 +29,7 @@ note-requires c =
 
 pub loop-place-preserved : goal.loop-place-preserved
 loop-place-preserved c =
-    let left = fields_of c.args.tables.now (drop c.loop-place.place c.args.fields.now) in
+    let left = shown_fields c.args.tables.now (drop c.loop-place.place c.args.fields.now) in
     let v_is = c.noted_for.ensures left (subst (λ (f : List ℕ). AreFirst f left) (sym c.deref.ensures.value) c.loop-place.invariant.are) in
     record {
       within = omega (arith, c.loop-place.invariant.within);

@@ -1,5 +1,5 @@
 use Rattle.std.proofs.Common.{◌≡◌, ◌≤◌, drop, length}
-use Rattle.prost_reflect_reduction.specs.Merging.{fields_of, next_members, AreFirst}
+use Rattle.prost_reflect_reduction.specs.Merging.{shown_fields, next_members, AreFirst}
 use Rattle.prost_reflect_reduction.proofs.oneofs.next_members.Given as goal
 
 abbrev pub invariant-loop-place : goal.invariant-loop-place
@@ -7,8 +7,8 @@ invariant-loop-place l = record {
   within : l.place ≤ length l.fields;
   next : length l.next.items ≡ length l.fields;
   first : length l.first.items ≡ l.oneofs;
-  are : AreFirst l.first.items (fields_of l.tables (drop l.place l.fields));
-  done : drop l.place l.next.items ≡ next_members (fields_of l.tables (drop l.place l.fields));
+  are : AreFirst l.first.items (shown_fields l.tables (drop l.place l.fields));
+  done : drop l.place l.next.items ≡ next_members (shown_fields l.tables (drop l.place l.fields));
 }
 
 abbrev pub decreases-loop-place : goal.decreases-loop-place

@@ -1,8 +1,8 @@
 use Rattle.std.proofs.Common.{◌≡◌, drop}
 use Rattle.std.specs.List.{list_all}
 use Rattle.prost_reflect_wire.specs.Reduction.{is_known}
-use Rattle.prost_reflect_reduction.specs.Merging.{fields_of}
+use Rattle.prost_reflect_reduction.specs.Merging.{shown_fields}
 use Rattle.prost_reflect_reduction.proofs.types.are_known.Given as goal
 
 abbrev pub invariant-loop-other : goal.invariant-loop-other
-invariant-loop-other l = list_all (λ g. is_known (fields_of l.older l.fields) g.number) (fields_of l.newer (drop l.other-index l.others)) ≡ list_all (λ g. is_known (fields_of l.older l.fields) g.number) (fields_of l.newer l.others)
+invariant-loop-other l = list_all (λ g. is_known (shown_fields l.older l.fields) g.number) (shown_fields l.newer (drop l.other-index l.others)) ≡ list_all (λ g. is_known (shown_fields l.older l.fields) g.number) (shown_fields l.newer l.others)

@@ -1,7 +1,7 @@
 use Rattle.std.proofs.Common.{◌≡◌, drop}
 use Rattle.prost_reflect_wire.specs.Reduction.{is_known}
-use Rattle.prost_reflect_reduction.specs.Merging.{fields_of}
+use Rattle.prost_reflect_reduction.specs.Merging.{shown_fields}
 use Rattle.prost_reflect_reduction.proofs.types.is_known.Given as goal
 
 abbrev pub invariant-loop-field : goal.invariant-loop-field
-invariant-loop-field l = is_known (fields_of l.tables l.fields) l.number ≡ is_known (fields_of l.tables (drop l.field-index l.fields)) l.number
+invariant-loop-field l = is_known (shown_fields l.tables l.fields) l.number ≡ is_known (shown_fields l.tables (drop l.field-index l.fields)) l.number

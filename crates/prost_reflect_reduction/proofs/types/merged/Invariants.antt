@@ -1,11 +1,11 @@
 use Rattle.std.proofs.Common.{◌≡◌, drop}
 use Rattle.prost_reflect_tables.specs.Schema.{rows_of}
 use Rattle.prost_reflect_reduction.specs.Kinds.{AreSameEnums}
-use Rattle.prost_reflect_reduction.specs.Merging.{fields_of, merged}
+use Rattle.prost_reflect_reduction.specs.Merging.{shown_fields, merged}
 use Rattle.prost_reflect_reduction.proofs.types.merged.Given as goal
 
 abbrev pub invariant-loop-other : goal.invariant-loop-other
 invariant-loop-other l = record {
   enums : AreSameEnums l.same_enums (rows_of l.older.tables.now).enums (rows_of l.newer.tables.now).enums;
-  left : merged (fields_of l.older.tables.now (drop l.place l.older.fields.now)) (fields_of l.newer.tables.now (drop l.other l.newer.fields.now)) ≡ merged (fields_of l.older.tables.now l.older.fields.now) (fields_of l.newer.tables.now l.newer.fields.now);
+  left : merged (shown_fields l.older.tables.now (drop l.place l.older.fields.now)) (shown_fields l.newer.tables.now (drop l.other l.newer.fields.now)) ≡ merged (shown_fields l.older.tables.now l.older.fields.now) (shown_fields l.newer.tables.now l.newer.fields.now);
 }

@@ -5,7 +5,7 @@ use Rattle.std.proofs.lemmas.List.{length-map}
 use Rattle.prost_reflect_tables.specs.Linked.{oneof_in_range}
 use Rattle.prost_reflect_tables.specs.declared.tables.FieldTable.{FieldTable}
 use Rattle.prost_reflect_tables.specs.Rows.{FieldRow, field_row, message_row}
-use Rattle.prost_reflect_reduction.specs.Merging.{fields_of, merged}
+use Rattle.prost_reflect_reduction.specs.Merging.{shown_fields, merged}
 use Rattle.prost_reflect_reduction.proofs.Noting.{alike_is, not_alike, oneofs_linked}
 use Rattle.prost_reflect_reduction.proofs.types.types_alike.Goals as goal
 
@@ -33,7 +33,7 @@ pub returns-clause-alike : goal.returns-clause-alike
 returns-clause-alike c =
     let low : c.args.older_place < length c.args.older.now.messages.items = omega (arith, c.requires.older, length-map c.args.older.now.messages.items message_row) in
     let low' : c.args.newer_place < length c.args.newer.now.messages.items = omega (arith, c.requires.newer, length-map c.args.newer.now.messages.items message_row) in
-    let is = ap₂ (λ (xs ys : List FieldTable). merged (fields_of c.args.older.now xs) (fields_of c.args.newer.now ys)) c.deref-3.ensures.value c.deref-5.ensures.value ∙
+    let is = ap₂ (λ (xs ys : List FieldTable). merged (shown_fields c.args.older.now xs) (shown_fields c.args.newer.now ys)) c.deref-3.ensures.value c.deref-5.ensures.value ∙
     alike_is c.args.older.now c.args.newer.now c.args.older_place c.args.newer_place c.index-message.result.now c.index-other.result.now c.args.older.now.linked c.args.newer.now.linked low c.index-message.ensures low' c.index-other.ensures
     (sym c.entries_whole.ensures ∙ c.if-not-entries_whole.false) in
     subst (λ b. IfOk c.merged.result (λ alike. alike ≡ b)) is c.merged.ensures.alike

@@ -1,18 +1,18 @@
 use Rattle.std.proofs.Common.{◌++◌, ap, ap₂, flat_map, map, ◌∙◌}
-use Rattle.prost_reflect_wire.specs.Unknown.{fields_of, record_of}
+use Rattle.prost_reflect_wire.specs.Unknown.{unknown_fields_of, unknown_record}
 use Rattle.prost_reflect_dynamic.specs.View.{stored_in}
 use Rattle.prost_reflect_dynamic.proofs.UnknownLists.{all_taken, message_left, unknown_listed}
 use Rattle.prost_reflect_dynamic.proofs.message.DynamicMessage.take_unknown_fields.Goals as goal
 
 pub returns-clause-taken : goal.returns-clause-taken
 returns-clause-taken c =
-    ap₂ (λ xs us. xs ++ flat_map fields_of us) (c.into_iter.ensures.into_iter_gives.0 ∙ c.new.ensures.fields) (c.into_iter-2.ensures.rest ∙ c.in_ok-sets.ensures.sets)
+    ap₂ (λ xs us. xs ++ flat_map unknown_fields_of us) (c.into_iter.ensures.into_iter_gives.0 ∙ c.new.ensures.fields) (c.into_iter-2.ensures.rest ∙ c.in_ok-sets.ensures.sets)
     ∙ all_taken (stored_in c.args.self.now)
 
 pub returns-clause-records : goal.returns-clause-records
 returns-clause-records c =
-    ap (map record_of)
-    (ap₂ (λ xs us. xs ++ flat_map fields_of us) (c.into_iter.ensures.into_iter_gives.0 ∙ c.new.ensures.fields) (c.into_iter-2.ensures.rest ∙ c.in_ok-sets.ensures.sets)
+    ap (map unknown_record)
+    (ap₂ (λ xs us. xs ++ flat_map unknown_fields_of us) (c.into_iter.ensures.into_iter_gives.0 ∙ c.new.ensures.fields) (c.into_iter-2.ensures.rest ∙ c.in_ok-sets.ensures.sets)
     ∙ all_taken (stored_in c.args.self.now))
     ∙ unknown_listed c.args.self.now c.take_unknown.ensures.ascending c.take_unknown.ensures.sound
 

@@ -1,10 +1,14 @@
-use Rattle.std.proofs.Common.{rules}
-use Rattle.std.specs.Str.{bytes_eq}
-use Rattle.prost_reflect_tables.specs.Rows.{FieldRow}
-use Rattle.prost_reflect_pool.proofs.InCatalog.{first_extending}
+use Rattle.std.proofs.Common.{◌≡◌, None, rules, sym}
+use Rattle.prost_reflect_pool.proofs.ExtensionLookups.{named_here, named_elsewhere, named_nowhere}
 use Rattle.prost_reflect_pool.proofs.pool.LinkedPool.extension_place_by_full_name.Goals as goal
 
-pub returns-clause-found : goal.returns-clause-found
-returns-clause-found c =
-    let test = λ (f : FieldRow). bytes_eq f.id.full_name c.args.full_name.now in
-    first_extending c.args.self.now c.args.message test _ _ _ c.message_lists.ensures.row c.as_slice.ensures.value (c.first_extension.ensures.found test (λ x r h. search rules))
+pub returns-in_err-place-clause-found : goal.returns-in_err-place-clause-found
+returns-in_err-place-clause-found c =
+    let none : c.from_residual.result ≡ None = search rules in
+    rw none (named_nowhere c.args.self.now c.args.message c.args.full_name.now c.requires (sym c.in_err-place.ensures))
+
+pub returns-then-extension-message-clause-found : goal.returns-then-extension-message-clause-found
+returns-then-extension-message-clause-found c = named_here c.args.self.now c.args.message c.args.full_name.now c.in_ok-place.place _ c.requires (sym c.in_ok-place.ensures) c.extension_table-extension.ensures.row c.if-extension-message.true
+
+pub returns-else-extension-message-clause-found : goal.returns-else-extension-message-clause-found
+returns-else-extension-message-clause-found c = named_elsewhere c.args.self.now c.args.message c.args.full_name.now c.in_ok-place.place _ c.requires (sym c.in_ok-place.ensures) c.extension_table-extension.ensures.row c.if-extension-message.false

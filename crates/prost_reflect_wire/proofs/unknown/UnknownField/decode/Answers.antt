@@ -22,7 +22,7 @@ returns-clause-only c = λ r rest f.
 
 pub returns-in_err-number-clause-deep : goal.returns-in_err-number-clause-deep
 returns-in_err-number-clause-deep c = λ r rest f deep. let q = err_from_is_err_and c.from_residual.result c.from_residual.ensures.1 in
-    rw (q.1, q.2) (λ _. let s = field_only _ r c.args.depth _ rest f (key_stands_in_field _ _ _ c.in_err-number.ensures.fault) in s.0)
+    rw (q.1, q.2) (λ _. let s = field_only _ r c.args.levels _ rest f (key_stands_in_field _ _ _ c.in_err-number.ensures.fault) in s.0)
 
 pub returns-in_err-value-clause-deep : goal.returns-in_err-value-clause-deep
 returns-in_err-value-clause-deep c = λ r rest f deep. let q = err_from_is_err_and c.from_residual-in_err-value.result c.from_residual-in_err-value.ensures.1 in

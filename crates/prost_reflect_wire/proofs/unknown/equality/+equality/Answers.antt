@@ -1,5 +1,5 @@
 use Rattle.std.proofs.Common.{◌≡◌, ◌<◌, length, sym, ◌∙◌, arith}
-use Rattle.prost_reflect_wire.specs.Unknown.{fields_of}
+use Rattle.prost_reflect_wire.specs.Unknown.{unknown_fields_of}
 use Rattle.prost_reflect_wire.specs.declared.unknown.UnknownFieldValue.TheViews.{out-UnknownFieldSet}
 use Rattle.prost_reflect_wire.proofs.EqualRecords.{equal_step, lengths_differ}
 use Rattle.prost_reflect_wire.proofs.unknown.equality.+equality.Goals as goal
@@ -14,4 +14,4 @@ equal_sets-loop-index-preserved t c =
     let a = out-UnknownFieldSet c.args.a.now in let b = out-UnknownFieldSet c.args.b.now in
     let same : length b.fields.items ≡ length a.fields.items = omega (arith, a.fields.ok.0, b.fields.ok.0) in
     let within : c.loop-index.index < length a.fields.items = omega (arith, a.fields.ok.0) in
-    equal_step (fields_of c.args.a.now) (fields_of c.args.b.now) c.loop-index.index _ _ within (omega arith) c.index.ensures c.index-in-loop-index.ensures (sym c.equal_fields.ensures ∙ c.if-not-equal_fields.false) ∙ c.loop-index.invariant
+    equal_step (unknown_fields_of c.args.a.now) (unknown_fields_of c.args.b.now) c.loop-index.index _ _ within (omega arith) c.index.ensures c.index-in-loop-index.ensures (sym c.equal_fields.ensures ∙ c.if-not-equal_fields.false) ∙ c.loop-index.invariant

@@ -1,9 +1,9 @@
 use Rattle.std.proofs.Common.{◌≡◌, drop, map}
 use Rattle.prost_reflect_wire.specs.Record.{body_of}
-use Rattle.prost_reflect_wire.specs.Unknown.{record_of, fields_of}
+use Rattle.prost_reflect_wire.specs.Unknown.{unknown_record, unknown_fields_of}
 use Rattle.prost_reflect_wire.specs.Equality.{records_eq, set_eq}
 use Rattle.prost_reflect_wire.proofs.unknown.equality.+equality.Given as goal
 
 -- the sets are equal exactly if what is left of them is
 abbrev pub invariant-equal_sets-loop-index : goal.invariant-equal_sets-loop-index
-invariant-equal_sets-loop-index l = records_eq (body_of (map record_of (drop l.index (fields_of l.a)))) (body_of (map record_of (drop l.index (fields_of l.b)))) ≡ set_eq l.a l.b
+invariant-equal_sets-loop-index l = records_eq (body_of (map unknown_record (drop l.index (unknown_fields_of l.a)))) (body_of (map unknown_record (drop l.index (unknown_fields_of l.b)))) ≡ set_eq l.a l.b

@@ -2,15 +2,15 @@ use Rattle.std.proofs.Common.{◌+◌, ◌*◌, length}
 use Rattle.prost_reflect_wire.proofs.SkippedValues.{Skipped}
 use Rattle.prost_reflect_wire.proofs.unknown.skipping.+skipping.Given as goal
 
-abbrev pub decreases-pass_group : goal.decreases-pass_group
-decreases-pass_group l = 2 * l.depth
+abbrev pub decreases-skip_group : goal.decreases-skip_group
+decreases-skip_group l = 2 * l.levels
 
-abbrev pub decreases-pass_value : goal.decreases-pass_value
-decreases-pass_value l = 2 * l.depth + 1
+abbrev pub decreases-skip_payload : goal.decreases-skip_payload
+decreases-skip_payload l = 2 * l.levels + 1
 
 -- the records so far are a front of the bytes
-abbrev pub invariant-pass_group-loop-key : goal.invariant-pass_group-loop-key
-invariant-pass_group-loop-key l = Skipped l.depth l.bytes l.rest
+abbrev pub invariant-skip_group-loop-key : goal.invariant-skip_group-loop-key
+invariant-skip_group-loop-key l = Skipped l.levels l.bytes l.rest
 
-abbrev pub decreases-pass_group-loop-key : goal.decreases-pass_group-loop-key
-decreases-pass_group-loop-key l = length l.rest
+abbrev pub decreases-skip_group-loop-key : goal.decreases-skip_group-loop-key
+decreases-skip_group-loop-key l = length l.rest

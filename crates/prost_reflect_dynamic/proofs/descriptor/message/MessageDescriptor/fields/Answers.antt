@@ -1,7 +1,7 @@
 use Rattle.std.proofs.Common.{◌∙◌}
-use Rattle.prost_reflect_dynamic.specs.NamedFields.{fields_of}
+use Rattle.prost_reflect_dynamic.specs.NamedFields.{descriptor_fields}
 use Rattle.prost_reflect_dynamic.proofs.OwnRows.{own_declared}
 use Rattle.prost_reflect_dynamic.proofs.descriptor.message.MessageDescriptor.fields.Goals as goal
 
 pub new-requires : goal.new-requires
-new-requires c = own_declared (fields_of c.args.self.now) c.as_slice.result.now (c.as_slice.ensures.value ∙ c.lists.ensures.fields)
+new-requires c = own_declared (descriptor_fields c.args.self.now) c.as_slice.result.now (c.as_slice.ensures.value ∙ c.lists.ensures.fields)

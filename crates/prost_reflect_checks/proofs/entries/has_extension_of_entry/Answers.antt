@@ -1,0 +1,9 @@
+use Rattle.std.proofs.Common.{rules}
+use Rattle.prost_reflect_tables.specs.EntryFaults.{is_of_entry}
+use Rattle.prost_reflect_tables.specs.ResolvedFaults.{found_of_entry}
+use Rattle.prost_reflect_tables.specs.FlatViews.{flat_rows}
+use Rattle.prost_reflect_tables.proofs.Resolving.{of_entry_is}
+use Rattle.prost_reflect_checks.proofs.entries.has_extension_of_entry.Goals as goal
+
+pub returns : goal.returns
+returns c = let rows = flat_rows c.args.flat.now in c.any_resolved_extension.ensures (found_of_entry rows) (is_of_entry rows) (λ f b k. search rules) (of_entry_is rows)

@@ -1,0 +1,7 @@
+use Rattle.std.proofs.Common.{rules}
+use Rattle.prost_reflect_tables.specs.EntryFaults.{method_of_entry}
+use Rattle.prost_reflect_tables.specs.FlatViews.{flat_rows}
+use Rattle.prost_reflect_checks.proofs.entries.has_method_of_entry.Goals as goal
+
+pub returns : goal.returns
+returns c = let methods = c.any_method.ensures (method_of_entry (flat_rows c.args.flat.now)) (λ m b k. search rules) in search (rules, methods, c.as_slice.ensures.value)

@@ -1,0 +1,8 @@
+use Rattle.std.proofs.Common.{◌≡◌, drop}
+use Rattle.std.specs.List.{list_any}
+use Rattle.prost_reflect_tables.specs.FlatViews.{file_list, flat_rows}
+use Rattle.prost_reflect_tables.specs.Checked.{has_fault}
+use Rattle.prost_reflect_checks.proofs.faults.check_faults.Given as goal
+
+abbrev pub invariant-loop-fault : goal.invariant-loop-fault
+invariant-loop-fault l = list_any (λ e. has_fault e (file_list l.files) (flat_rows l.flat)) l.faults ≡ list_any (λ e. has_fault e (file_list l.files) (flat_rows l.flat)) (drop l.fault-index l.faults)

@@ -1,0 +1,13 @@
+use Rattle.std.proofs.Common.{◌≡◌, [], drop, take, ℕ, List}
+use Rattle.std.specs.List.{list_any}
+use Rattle.std.specs.Str.{bytes_eq}
+use Rattle.std.specs.BTreeSet.{contains_text}
+use Rattle.prost_reflect_tables.specs.Faults.{repeats}
+use Rattle.prost_reflect_tables.specs.FlatViews.{text_list}
+use Rattle.prost_reflect_checks.proofs.names.repeats.Given as goal
+
+abbrev pub invariant-loop-name : goal.invariant-loop-name
+invariant-loop-name l = record {
+  seen : (name : List ℕ) → contains_text l.seen name ≡ list_any (bytes_eq name) (text_list (take l.name-index l.names));
+  left : repeats [] (text_list l.names) ≡ repeats (text_list (take l.name-index l.names)) (text_list (drop l.name-index l.names));
+}

@@ -1,0 +1,6 @@
+use Rattle.std.proofs.Common.{◌≡◌, ◌++◌, map, drop}
+use Rattle.prost_reflect_tables.specs.Spans.{span_of}
+use Rattle.prost_reflect_checks.proofs.ranges.as_spans.Given as goal
+
+abbrev pub invariant-loop-range : goal.invariant-loop-range
+invariant-loop-range l = l.spans.items ++ map span_of (drop l.range-index l.ranges) ≡ map span_of l.ranges

@@ -1,0 +1,7 @@
+use Rattle.std.proofs.Common.{rules}
+use Rattle.prost_reflect_tables.specs.Faults.{method_type_unknown}
+use Rattle.prost_reflect_tables.specs.FlatViews.{flat_rows}
+use Rattle.prost_reflect_checks.proofs.types.has_method_type_unknown.Goals as goal
+
+pub returns : goal.returns
+returns c = let methods = c.any_method.ensures (method_type_unknown (flat_rows c.args.flat.now)) (λ m b k. search rules) in search (rules, methods, c.as_slice.ensures.value)

@@ -1,0 +1,11 @@
+use Rattle.std.proofs.Common.{◌≡◌, Bool, map, drop}
+use Rattle.std.specs.List.{list_any}
+use Rattle.prost_reflect_types.specs.declared.MethodDescriptorProto.{MethodDescriptorProto}
+use Rattle.prost_reflect_tables.specs.Flat.{DefinitionRow}
+use Rattle.prost_reflect_tables.specs.FlatViews.{definition_row, service_row}
+use Rattle.prost_reflect_tables.specs.Walks.{Computes}
+use Rattle.prost_reflect_checks.proofs.walk.any_method.Given as goal
+
+abbrev pub invariant-loop-service : goal.invariant-loop-service
+invariant-loop-service g l = (p : DefinitionRow MethodDescriptorProto → Bool) → Computes g.F.Fn l.test (λ d. p (definition_row d)) →
+    list_any (λ m. list_any p m.methods) (map service_row l.services) ≡ list_any (λ m. list_any p m.methods) (map service_row (drop l.service-index l.services))

@@ -1,0 +1,15 @@
+use Rattle.std.proofs.Common.{List, Vec, Global, ap, ◌∙◌}
+use Rattle.std.specs.List.{list_any}
+use Rattle.prost_reflect_tables.specs.declared.build.resolve.ResolvedField.{ResolvedField}
+use Rattle.prost_reflect_tables.specs.FlatViews.{flat_rows}
+use Rattle.prost_reflect_tables.specs.Linking.{links_of}
+use Rattle.prost_reflect_tables.specs.Resolved.{ResolvedRow, resolved_lists}
+use Rattle.prost_reflect_tables.proofs.Resolving.{any_of_messages}
+use Rattle.prost_reflect_checks.proofs.walk.any_resolved_field.Goals as goal
+
+pub returns : goal.returns
+returns g c = λ p q is same.
+    c.any_resolved_in.ensures p is
+    ∙ (ap (λ (ls : List (Vec ResolvedField Global)). list_any (λ fs. list_any p fs) (resolved_lists ls)) c.as_slice.ensures.value
+    ∙ (ap (λ (ls : List (List ResolvedRow)). list_any (λ fs. list_any p fs) ls) c.requires.resolved.fields
+    ∙ any_of_messages (links_of (flat_rows c.args.flat.now)) p q same (flat_rows c.args.flat.now).messages))

@@ -1,0 +1,10 @@
+use Rattle.std.proofs.Common.{◌≡◌, ◌++◌, map, drop}
+use Rattle.prost_reflect_tables.specs.CatalogRows.{extension_table_row}
+use Rattle.prost_reflect_tables.specs.Schema.{rows_of}
+use Rattle.prost_reflect_tables.specs.Resolved.{resolved_row, resolved_extension}
+use Rattle.prost_reflect_linking.proofs.extensions.linked_extensions.Given as goal
+
+abbrev pub invariant-loop-extension : goal.invariant-loop-extension
+invariant-loop-extension l =
+    map extension_table_row l.places.items ++ map (resolved_extension (rows_of l.tables)) (map resolved_row (drop l.extension-index l.extensions))
+    ≡ map (resolved_extension (rows_of l.tables)) (map resolved_row l.extensions)

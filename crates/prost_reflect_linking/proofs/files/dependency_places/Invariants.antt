@@ -1,0 +1,10 @@
+use Rattle.std.proofs.Common.{◌≡◌, ◌++◌, map, drop, string_bytes}
+use Rattle.prost_reflect_tables.specs.Faults.{file_names}
+use Rattle.prost_reflect_tables.specs.FlatViews.{file_list}
+use Rattle.prost_reflect_tables.specs.LinkedCatalog.{file_place}
+use Rattle.prost_reflect_linking.proofs.files.dependency_places.Given as goal
+
+abbrev pub invariant-loop-dependency : goal.invariant-loop-dependency
+invariant-loop-dependency l =
+    l.places.items ++ map (λ d. file_place (file_names (file_list l.files)) (string_bytes d)) (drop l.dependency-index l.dependencies)
+    ≡ map (λ d. file_place (file_names (file_list l.files)) (string_bytes d)) l.dependencies

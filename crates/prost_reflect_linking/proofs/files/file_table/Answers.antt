@@ -1,0 +1,30 @@
+use Rattle.std.proofs.Common.{◌≡◌, length, map, ap, ◌∙◌, rules}
+use Rattle.std.specs.Prelude.{String, string_bytes}
+use Rattle.std.specs.declared.alloc.Global.{Global}
+use Rattle.prost_reflect_tables.specs.Faults.{file_names}
+use Rattle.prost_reflect_tables.specs.Flat.{FlatMessageRow, FlatEnumRow, FlatServiceRow}
+use Rattle.prost_reflect_tables.specs.FlatViews.{file_list, flat_rows}
+use Rattle.prost_reflect_linking.specs.GatheredLists.{list_items}
+use Rattle.prost_reflect_tables.specs.LinkedCatalog.{top_file, file_place}
+use Rattle.prost_reflect_tables.proofs.Gathering.{copied_at}
+use Rattle.prost_reflect_tables.proofs.CatalogParts.{same_file}
+use Rattle.prost_reflect_linking.proofs.files.file_table.Goals as goal
+
+pub returns : goal.returns
+returns c =
+    let rows = flat_rows c.args.flat.now in
+    let names = file_names (file_list c.args.files.now) in
+    let n = length c.args.files.now in
+    let tops = c.args.tops.now in
+    let place = c.args.place in
+    let at = c.requires.place in
+    let dependencies : c.in_ok-dependencies.dependencies.items ≡ map (λ (d : String Global). file_place names (string_bytes d)) c.args.file.now.dependency.items =
+    c.in_ok-dependencies.ensures ∙ ap (map (λ (d : String Global). file_place names (string_bytes d))) c.as_slice.ensures.value in
+    same_file _ _
+    (copied_at (λ (m : FlatMessageRow). top_file m.definition) rows.messages n place (list_items tops.messages) _ c.requires.tops.messages at (search rules))
+    (copied_at (λ (e : FlatEnumRow). top_file e.definition) rows.enums n place (list_items tops.enums) _ c.requires.tops.enums at (search rules))
+    (copied_at top_file rows.extensions n place (list_items tops.extensions) _ c.requires.tops.extensions at (search rules))
+    (copied_at (λ (s : FlatServiceRow). top_file s.definition) rows.services n place (list_items tops.services) _ c.requires.tops.services at (search rules))
+    dependencies
+    (search rules)
+    c.is_proto3.ensures

@@ -1,0 +1,6 @@
+use Rattle.std.proofs.Common.{◌≡◌, ◌++◌, map, drop}
+use Rattle.prost_reflect_tables.specs.LinkedCatalog.{import_at}
+use Rattle.prost_reflect_linking.proofs.files.public_places.Given as goal
+
+abbrev pub invariant-loop-index : goal.invariant-loop-index
+invariant-loop-index l = l.places.items ++ map (import_at l.dependencies) (drop l.index-index l.indices) ≡ map (import_at l.dependencies) l.indices

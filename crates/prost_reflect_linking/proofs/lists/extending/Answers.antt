@@ -1,0 +1,17 @@
+use Rattle.std.proofs.Common.{List, rules, arith, length, ap, ◌∙◌}
+use Rattle.std.proofs.lemmas.List.{length-map}
+use Rattle.prost_reflect_tables.specs.FlatViews.{flat_rows, message_row}
+use Rattle.prost_reflect_tables.specs.Gathered.{gathered}
+use Rattle.prost_reflect_tables.specs.Linking.{links_of}
+use Rattle.prost_reflect_tables.specs.Resolved.{ResolvedRow, resolved_row}
+use Rattle.prost_reflect_tables.proofs.Gathering.{shown_gathered}
+use Rattle.prost_reflect_tables.proofs.Resolving.{extending_are}
+use Rattle.prost_reflect_linking.proofs.lists.extending.Goals as goal
+
+pub returns : goal.returns
+returns c =
+    let flat = c.args.flat.now in
+    let rows = flat_rows flat in
+    let owner = λ (r : ResolvedRow). r.extendee in
+    shown_gathered resolved_row owner c.args.resolved.now.extensions.items _ (length rows.messages) _ _ c.as_slice.ensures.value (omega (arith, c.len.ensures, flat.messages.ok.0, length-map flat.messages.items message_row)) (c.in_ok-gathered.ensures (λ x. owner (resolved_row x)) (λ x r h. search rules))
+    ∙ (ap (λ (rs : List ResolvedRow). gathered owner rs 0 (length rows.messages)) c.requires.extensions ∙ extending_are (links_of rows) rows.extensions (length rows.messages))

@@ -1,0 +1,12 @@
+use Rattle.std.proofs.Common.{rules, arith, map, length}
+use Rattle.std.proofs.lemmas.List.{length-map}
+use Rattle.prost_reflect_tables.specs.FlatViews.{message_row}
+use Rattle.prost_reflect_tables.specs.Flat.{FlatMessageRow}
+use Rattle.prost_reflect_tables.proofs.Gathering.{shown_gathered}
+use Rattle.prost_reflect_linking.proofs.lists.inner_messages.Goals as goal
+
+pub returns : goal.returns
+returns c =
+    let flat = c.args.flat.now in
+    let owner = λ (m : FlatMessageRow). m.definition.parent in
+    shown_gathered message_row owner flat.messages.items _ (length (map message_row flat.messages.items)) _ _ c.as_slice.ensures.value (omega (arith, c.len.ensures, flat.messages.ok.0, length-map flat.messages.items message_row)) (c.in_ok-gathered.ensures (λ x. owner (message_row x)) (λ x r h. search rules))

@@ -1,0 +1,11 @@
+use Rattle.std.proofs.Common.{◌≡◌, ◌++◌, map, drop}
+use Rattle.prost_reflect_tables.specs.FlatViews.{flat_rows}
+use Rattle.prost_reflect_tables.specs.Rows.{message_row}
+use Rattle.prost_reflect_tables.specs.CatalogRows.{message_lists_row}
+use Rattle.prost_reflect_tables.specs.LinkedCatalog.{each_from, linked_lists}
+use Rattle.prost_reflect_linking.proofs.lists.lists_of_messages.Given as goal
+
+abbrev pub invariant-loop-place : goal.invariant-loop-place
+invariant-loop-place l =
+    map message_lists_row l.lists.items ++ each_from (linked_lists (flat_rows l.flat)) l.place (map message_row (drop l.place l.messages))
+    ≡ each_from (linked_lists (flat_rows l.flat)) 0 (map message_row l.messages)

@@ -1,0 +1,7 @@
+use Rattle.std.proofs.Common.{◌≡◌, ◌++◌, map, drop}
+use Rattle.prost_reflect_tables.specs.FlatViews.{text_list, definition_row}
+use Rattle.prost_reflect_tables.specs.LinkedCatalog.{value_names}
+use Rattle.prost_reflect_linking.proofs.lists.value_names.Given as goal
+
+abbrev pub invariant-loop-value : goal.invariant-loop-value
+invariant-loop-value l = text_list l.names.items ++ value_names (map definition_row (drop l.value-index l.values)) ≡ value_names (map definition_row l.values)

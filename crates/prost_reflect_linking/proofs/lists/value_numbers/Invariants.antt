@@ -1,0 +1,7 @@
+use Rattle.std.proofs.Common.{◌≡◌, ◌++◌, drop, map}
+use Rattle.prost_reflect_tables.specs.FlatViews.{definition_row}
+use Rattle.prost_reflect_tables.specs.Linking.{value_number}
+use Rattle.prost_reflect_linking.proofs.lists.value_numbers.Given as goal
+
+abbrev pub invariant-loop-value : goal.invariant-loop-value
+invariant-loop-value l = l.numbers.items ++ map value_number (map definition_row (drop l.value-index l.values)) ≡ map value_number (map definition_row l.values)

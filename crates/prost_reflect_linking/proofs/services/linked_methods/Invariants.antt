@@ -1,0 +1,11 @@
+use Rattle.std.proofs.Common.{◌≡◌, ◌++◌, map, drop}
+use Rattle.prost_reflect_tables.specs.FlatViews.{definition_row, flat_rows}
+use Rattle.prost_reflect_tables.specs.CatalogRows.{method_table_row}
+use Rattle.prost_reflect_tables.specs.Linking.{links_of}
+use Rattle.prost_reflect_tables.specs.LinkedCatalog.{linked_method}
+use Rattle.prost_reflect_linking.proofs.services.linked_methods.Given as goal
+
+abbrev pub invariant-loop-method : goal.invariant-loop-method
+invariant-loop-method l =
+    map method_table_row l.tables.items ++ map (linked_method (links_of (flat_rows l.flat))) (map definition_row (drop l.method-index l.methods))
+    ≡ map (linked_method (links_of (flat_rows l.flat))) (map definition_row l.methods)

@@ -1,0 +1,78 @@
+//! Where definitions stand, as rows of the tables say it.
+
+ghost use Rattle.std.specs.Prelude.{◌≡◌, IfOk, string_bytes};
+ghost use Rattle.prost_reflect_tables.specs.Rows.{identity_row};
+ghost use Rattle.prost_reflect_tables.specs.FlatViews.{definition_row, lent_row};
+ghost use Rattle.prost_reflect_tables.specs.Linking.{linked_identity, json_name};
+ghost use Rattle.prost_reflect_tables.specs.Names.{bracketed};
+
+use prost_reflect_tables::{Definition, DefinitionRef, Identity, text_or_empty};
+use prost_reflect_types::FieldDescriptorProto;
+use std::alloc::{AllocError, Global};
+
+/// Where a definition of this name stands.
+///
+/// # Errors
+///
+/// `AllocError` if out of memory.
+pub fn linked_identity<R>(
+    alloc: Global,
+    definition: &Definition<R>,
+    name: &Option<String>,
+) -> Result<Identity, AllocError>
+    ensures { IfOk result (λ i. identity_row i ≡ linked_identity name.now (definition_row definition.now)) }
+{
+    lent_identity(alloc, &definition.lend(), name)
+}
+
+/// The same of a definition that is lent.
+///
+/// # Errors
+///
+/// `AllocError` if out of memory.
+pub fn lent_identity<R>(
+    alloc: Global,
+    definition: &DefinitionRef<R>,
+    name: &Option<String>,
+) -> Result<Identity, AllocError>
+    ensures { IfOk result (λ i. identity_row i ≡ linked_identity name.now (lent_row definition.now)) }
+{
+    Ok(Identity {
+        file: definition.file,
+        parent: definition.parent,
+        path: definition.path.to_vec(alloc)?,
+        full_name: String::from_str(alloc, definition.full_name)?,
+        name: String::from_str(alloc, text_or_empty(name))?,
+    })
+}
+
+fn bracketed(alloc: Global, full_name: &str) -> Result<String, AllocError>
+    ensures { IfOk result (λ s. string_bytes s ≡ bracketed full_name.now) }
+{
+    let mut name = String::with_capacity(alloc, full_name.len() + 2)?;
+    name.push_str("[")?;
+    name.push_str(full_name)?;
+    name.push_str("]")?;
+    Ok(name)
+}
+
+/// The name of a field or an extension in JSON.
+///
+/// # Errors
+///
+/// `AllocError` if out of memory.
+pub fn json_name(
+    alloc: Global,
+    is_extension: bool,
+    definition: &DefinitionRef<FieldDescriptorProto>,
+) -> Result<String, AllocError>
+    ensures { IfOk result (λ s. string_bytes s ≡ json_name is_extension (lent_row definition.now)) }
+{
+    if is_extension {
+        return bracketed(alloc, definition.full_name);
+    }
+    match &definition.proto.json_name {
+        Some(name) => name.clone(),
+        None => String::from_str(alloc, text_or_empty(&definition.proto.name)),
+    }
+}

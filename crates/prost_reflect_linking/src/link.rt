@@ -1,0 +1,358 @@
+//! Linking: the tables that files in flat lists give.
+
+ghost use Rattle.std.specs.Prelude.{◌≡◌, ◌<◌, length, IfOk, OnOk, map, true, false};
+ghost use Rattle.std.specs.List.{list_all};
+ghost use Rattle.std.specs.List.Sorted.{IsNonDecreasingBy};
+ghost use Rattle.prost_reflect_wire.specs.Scalar.{in_i32};
+ghost use Rattle.prost_reflect_tables.specs.Rows.{identity_row, field_row, oneof_row, message_row, enum_value_row, enum_row, rows_from};
+ghost use Rattle.prost_reflect_tables.specs.declared.tables.FieldTable.{FieldTable};
+ghost use Rattle.prost_reflect_tables.specs.FlatViews.{definition_row, flat_rows};
+ghost use Rattle.prost_reflect_tables.specs.FlatViews as flat_views;
+ghost use Rattle.prost_reflect_tables.specs.Linking.{natural_or_zero, place_in, is_message, is_packable, cardinality_of_label, linked_packed, linked_presence, linked_identity, linked_field, in_order, declared_fields, oneof_place, member_place, oneofs_from, linked_message, linked_value, linked_enum, linked_rows};
+ghost use Rattle.prost_reflect_tables.specs.EntryFaults.{is_entry};
+ghost use Rattle.prost_reflect_tables.specs.InRange.{enum_in_range, in_range};
+ghost use Rattle.prost_reflect_tables.specs.Resolved.{resolved_row, resolved_lists, resolved_field, IsResolved};
+ghost use Rattle.prost_reflect_tables.specs.Indexing.{empty_lists, with_item, grouped, list_rows, messages_with};
+
+use crate::identity::{json_name, lent_identity, linked_identity};
+use prost_reflect_tables::{
+    Cardinality, Definition, EnumTable, EnumValueTable, FieldTable, Flat, FlatEnum, FlatMessage,
+    MessageTable, OneofTable, Resolved, ResolvedField, TableKind, bool_option, is_packable,
+    natural_or_zero, place_in,
+};
+use prost_reflect_types::{EnumValueDescriptorProto, FieldDescriptorProto, OneofDescriptorProto};
+use std::alloc::{AllocError, Global};
+
+fn is_message(kind: TableKind) -> bool
+    ensures { result ≡ is_message kind }
+{
+    matches!(kind, TableKind::Message(_))
+}
+
+fn cardinality_of_label(label: u32) -> Cardinality
+    ensures { result ≡ cardinality_of_label label }
+{
+    match label {
+        2 => Cardinality::Required,
+        3 => Cardinality::Repeated,
+        _ => Cardinality::Optional,
+    }
+}
+
+/// Whether the values of a field are written as one record.
+fn linked_packed(
+    is_proto3: bool,
+    field: &FieldDescriptorProto,
+    cardinality: Cardinality,
+    kind: TableKind,
+) -> bool
+    ensures { result ≡ linked_packed is_proto3 field.now cardinality kind }
+{
+    matches!(cardinality, Cardinality::Repeated)
+        && is_packable(kind)
+        && bool_option(2, &field.options).unwrap_or(is_proto3)
+}
+
+/// Whether a field that was never set is told apart from one that is set to its default (the guide on field presence).
+fn linked_presence(
+    is_proto3: bool,
+    is_extension: bool,
+    field: &FieldDescriptorProto,
+    cardinality: Cardinality,
+    kind: TableKind,
+) -> bool
+    ensures { result ≡ linked_presence is_proto3 is_extension field.now cardinality kind }
+{
+    !matches!(cardinality, Cardinality::Repeated)
+        && (!is_proto3
+            || is_extension
+            || is_message(kind)
+            || field.oneof_index.is_some()
+            || field.proto3_optional.unwrap_or(false))
+}
+
+/// A field or an extension.
+#[tactic(auto, unfolding(prost_reflect_tables::specs::Resolved::resolved_field))]
+fn linked_field(
+    alloc: Global,
+    is_extension: bool,
+    resolved: &ResolvedField,
+) -> Result<FieldTable, AllocError>
+    ensures { IfOk result (λ f. field_row f ≡ resolved_field is_extension (resolved_row resolved.now)) }
+{
+    let definition = &resolved.definition;
+    let field = definition.proto;
+    let is_proto3 = definition.is_proto3;
+    let kind = resolved.kind;
+    let cardinality = cardinality_of_label(natural_or_zero(field.label));
+    Ok(FieldTable {
+        id: lent_identity(alloc, definition, &field.name)?,
+        json_name: json_name(alloc, is_extension, definition)?,
+        number: natural_or_zero(field.number),
+        is_extension,
+        kind,
+        is_group: natural_or_zero(field.type_) == 10,
+        cardinality,
+        is_packed: linked_packed(is_proto3, field, cardinality, kind),
+        supports_presence: linked_presence(is_proto3, is_extension, field, cardinality, kind),
+        default: resolved.default.clone()?,
+        oneof: place_in(field.oneof_index),
+    })
+}
+
+/// The fields that a message declares, in the order of their declaration.
+fn declared_fields(alloc: Global, resolved: &[ResolvedField]) -> Result<Vec<FieldTable>, AllocError>
+    ensures { IfOk result (λ v. map field_row v.items ≡ map (resolved_field false) (map resolved_row resolved.now)) }
+{
+    let mut fields = Vec::new(alloc);
+    for field in resolved {
+        fields.push(linked_field(alloc, false, field)?)?;
+    }
+    Ok(fields)
+}
+
+/// The declared fields of each message.
+fn declared_by_message(
+    alloc: Global,
+    resolved: &[Vec<ResolvedField>],
+) -> Result<Vec<Vec<FieldTable>>, AllocError>
+    ensures { IfOk result (λ v. list_rows v.items ≡ map (λ fields. map (resolved_field false) fields) (resolved_lists resolved.now)) }
+{
+    let mut lists = Vec::new(alloc);
+    for fields in resolved {
+        lists.push(declared_fields(alloc, fields.as_slice())?)?;
+    }
+    Ok(lists)
+}
+
+/// So many empty lists.
+pub fn empty_lists<T: Drop>(alloc: Global, count: usize) -> Result<Vec<Vec<T>>, AllocError>
+    ensures { IfOk result (λ v. map (λ xs. xs.items) v.items ≡ empty_lists count) }
+{
+    let mut lists = Vec::new(alloc);
+    for _ in 0..count {
+        lists.push(Vec::new(alloc))?;
+    }
+    Ok(lists)
+}
+
+/// Adds an item to the list of a place, if there is one.
+pub fn add_item<T: Drop>(
+    lists: &mut Vec<Vec<T>>,
+    place: Option<usize>,
+    item: T,
+) -> Result<(), AllocError>
+    ensures { OnOk result (map (λ xs. xs.items) lists.new.items ≡ with_item place item 0 (map (λ xs. xs.items) lists.old.items)) }
+{
+    if let Some(place) = place {
+        if place < lists.len() {
+            lists[place].push(item)?;
+        }
+    }
+    Ok(())
+}
+
+/// Adds each extension to the fields of the message that it extends.
+fn add_extensions(
+    alloc: Global,
+    lists: &mut Vec<Vec<FieldTable>>,
+    extensions: &[ResolvedField],
+) -> Result<(), AllocError>
+    ensures { OnOk result (list_rows lists.new.items ≡ grouped (λ r. r.extendee) (resolved_field true) (map resolved_row extensions.now) 0 (list_rows lists.old.items)) }
+{
+    for extension in extensions {
+        let field = linked_field(alloc, true, extension)?;
+        add_item(lists, extension.extendee, field)?;
+    }
+    Ok(())
+}
+
+/// Puts fields in ascending order of their numbers; those of one number stay in their order.
+fn sort_by_number(fields: &mut Vec<FieldTable>) -> Result<(), AllocError>
+    ensures sorted { OnOk result (map field_row fields.new.items ≡ in_order (map field_row fields.old.items)) }
+    ensures rising { OnOk result (IsNonDecreasingBy (λ f. f.number) fields.new.items) }
+{
+    fields.sort_by_key(|field| field.number)?;
+    Ok(())
+}
+
+/// The place of a field among fields in ascending order of their numbers: how many have a smaller number.
+fn member_place(fields: &[FieldTable], definition: &Definition<FieldDescriptorProto>) -> usize
+    requires { IsNonDecreasingBy (λ (f : FieldTable). f.number) fields.now }
+    ensures { result ≡ member_place (map field_row fields.now) (definition_row definition.now) }
+{
+    let number = natural_or_zero(definition.proto.number);
+    fields.partition_point(|field| field.number < number)
+}
+
+/// The members of each oneof in the order of their declaration, as places in the fields.
+fn members_by_oneof(
+    alloc: Global,
+    oneofs: usize,
+    fields: &[FieldTable],
+    declared: &[Definition<FieldDescriptorProto>],
+) -> Result<Vec<Vec<usize>>, AllocError>
+    requires { IsNonDecreasingBy (λ (f : FieldTable). f.number) fields.now }
+    ensures { IfOk result (λ v. map (λ xs. xs.items) v.items ≡ grouped oneof_place (member_place (map field_row fields.now)) (map definition_row declared.now) 0 (empty_lists oneofs)) }
+{
+    let mut lists = empty_lists(alloc, oneofs)?;
+    for definition in declared {
+        let place = place_in(definition.proto.oneof_index);
+        add_item(&mut lists, place, member_place(fields, definition))?;
+    }
+    Ok(lists)
+}
+
+fn linked_oneof(
+    alloc: Global,
+    definition: &Definition<OneofDescriptorProto>,
+    members: &[usize],
+) -> Result<OneofTable, AllocError>
+    ensures id { IfOk result (λ o. identity_row o.id ≡ linked_identity definition.now.proto.now.name (definition_row definition.now)) }
+    ensures members { IfOk result (λ o. o.fields.items ≡ members.now) }
+{
+    Ok(OneofTable {
+        id: linked_identity(alloc, definition, &definition.proto.name)?,
+        fields: members.to_vec(alloc)?,
+    })
+}
+
+/// The oneofs of a message with their members.
+fn linked_oneofs(
+    alloc: Global,
+    fields: &[FieldTable],
+    declared: &[Definition<FieldDescriptorProto>],
+    oneofs: &[Definition<OneofDescriptorProto>],
+) -> Result<Vec<OneofTable>, AllocError>
+    requires { IsNonDecreasingBy (λ (f : FieldTable). f.number) fields.now }
+    ensures { IfOk result (λ v. map oneof_row v.items ≡ oneofs_from (map field_row fields.now) (map definition_row declared.now) 0 (map definition_row oneofs.now)) }
+{
+    let count = oneofs.len();
+    let members = members_by_oneof(alloc, count, fields, declared)?;
+    let mut tables = Vec::new(alloc);
+    for (place, definition) in oneofs.iter().enumerate() {
+        let places = members[place].as_slice();
+        tables.push(linked_oneof(alloc, definition, places)?)?;
+    }
+    Ok(tables)
+}
+
+/// A message with its fields and extensions.
+#[tactic(auto, unfolding(prost_reflect_tables::specs::Linking::linked_message))]
+fn linked_message(
+    alloc: Global,
+    message: &FlatMessage,
+    is_map_entry: bool,
+    fields: Vec<FieldTable>,
+) -> Result<MessageTable, AllocError>
+    requires { is_map_entry ≡ is_entry (flat_views.message_row message.now) }
+    ensures { IfOk result (λ m. message_row m ≡ linked_message (map field_row fields.items) (flat_views.message_row message.now)) }
+{
+    let mut fields = fields;
+    sort_by_number(&mut fields)?;
+    let oneofs = linked_oneofs(
+        alloc,
+        fields.as_slice(),
+        message.fields.as_slice(),
+        message.oneofs.as_slice(),
+    )?;
+    let definition = &message.definition;
+    Ok(MessageTable {
+        id: linked_identity(alloc, definition, &definition.proto.name)?,
+        is_map_entry,
+        fields,
+        oneofs,
+    })
+}
+
+/// Each message with its fields and extensions; the flags say which are entries of maps.
+fn linked_messages(
+    alloc: Global,
+    lists: Vec<Vec<FieldTable>>,
+    messages: &[FlatMessage],
+    entries: &[bool],
+) -> Result<Vec<MessageTable>, AllocError>
+    requires lists { length lists.items ≡ length messages.now }
+    requires entries { entries.now ≡ map is_entry (map flat_views.message_row messages.now) }
+    ensures { IfOk result (λ v. map message_row v.items ≡ messages_with (list_rows lists.items) (map flat_views.message_row messages.now)) }
+{
+    let mut tables = Vec::new(alloc);
+    for (place, fields) in lists.into_iter().enumerate() {
+        let is_map_entry = entries[place];
+        tables.push(linked_message(alloc, &messages[place], is_map_entry, fields)?)?;
+    }
+    Ok(tables)
+}
+
+/// A value of an enum.
+fn linked_value(
+    alloc: Global,
+    definition: &Definition<EnumValueDescriptorProto>,
+) -> Result<EnumValueTable, AllocError>
+    ensures row { IfOk result (λ v. enum_value_row v ≡ linked_value (definition_row definition.now)) }
+    ensures range { IfOk result (λ v. in_i32 v.number ≡ true) }
+{
+    Ok(EnumValueTable {
+        id: linked_identity(alloc, definition, &definition.proto.name)?,
+        number: definition.proto.number.unwrap_or(0),
+    })
+}
+
+/// The values of an enum, in the order of their declaration.
+fn linked_values(
+    alloc: Global,
+    values: &[Definition<EnumValueDescriptorProto>],
+) -> Result<Vec<EnumValueTable>, AllocError>
+    ensures rows { IfOk result (λ v. map enum_value_row v.items ≡ map linked_value (map definition_row values.now)) }
+    ensures range { IfOk result (λ v. list_all in_i32 (map (λ w. w.number) (map enum_value_row v.items)) ≡ true) }
+{
+    let mut tables = Vec::new(alloc);
+    for value in values {
+        tables.push(linked_value(alloc, value)?)?;
+    }
+    Ok(tables)
+}
+
+/// The enums.
+fn linked_enums(alloc: Global, enums: &[FlatEnum]) -> Result<Vec<EnumTable>, AllocError>
+    ensures rows { IfOk result (λ v. map enum_row v.items ≡ map linked_enum (map flat_views.enum_row enums.now)) }
+    ensures range { IfOk result (λ v. list_all enum_in_range (map enum_row v.items) ≡ true) }
+{
+    let mut tables = Vec::new(alloc);
+    for item in enums {
+        tables.push(EnumTable {
+            id: linked_identity(alloc, &item.definition, &item.definition.proto.name)?,
+            values: linked_values(alloc, item.values.as_slice())?,
+            is_closed: !item.definition.is_proto3,
+        })?;
+    }
+    Ok(tables)
+}
+
+/// The message types and enums that files in flat lists give.
+///
+/// What the texts of their fields mean was looked up by `check_files`. Messages and enums keep their places. The cost grows as
+/// n log n in the number of definitions.
+///
+/// # Errors
+///
+/// `AllocError` if out of memory.
+pub fn linked(
+    alloc: Global,
+    flat: &Flat,
+    resolved: &Resolved,
+) -> Result<(Vec<MessageTable>, Vec<EnumTable>), AllocError>
+    requires { IsResolved resolved.now (flat_rows flat.now) }
+    ensures rows { IfOk result (λ x. rows_from x.0.items x.1.items ≡ linked_rows (flat_rows flat.now)) }
+    ensures range { IfOk result (λ x. in_range (rows_from x.0.items x.1.items) ≡ true) }
+{
+    let mut lists = declared_by_message(alloc, resolved.fields.as_slice())?;
+    add_extensions(alloc, &mut lists, resolved.extensions.as_slice())?;
+    let messages = linked_messages(
+        alloc,
+        lists,
+        flat.messages.as_slice(),
+        resolved.entries.as_slice(),
+    )?;
+    Ok((messages, linked_enums(alloc, flat.enums.as_slice())?))
+}

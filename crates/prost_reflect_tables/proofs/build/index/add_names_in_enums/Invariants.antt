@@ -1,7 +1,0 @@
-use Rattle.std.proofs.Common.{◌≡◌, ◌++◌, map, drop}
-use Rattle.prost_reflect_tables.specs.Faults.{names_in_enums}
-use Rattle.prost_reflect_tables.specs.FlatViews.{enum_row, text_list}
-use Rattle.prost_reflect_tables.proofs.build.index.add_names_in_enums.Given as goal
-
-abbrev pub invariant-loop-declared : goal.invariant-loop-declared
-invariant-loop-declared l = text_list l.names.items ++ names_in_enums (map enum_row (drop l.declared-index l.enums)) ≡ text_list l.fn.names.items ++ names_in_enums (map enum_row l.enums)

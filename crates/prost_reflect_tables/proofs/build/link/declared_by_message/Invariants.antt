@@ -1,9 +1,0 @@
-use Rattle.std.proofs.Common.{◌≡◌, ◌++◌, false, drop, map}
-use Rattle.prost_reflect_tables.specs.Indexing.{list_rows}
-use Rattle.prost_reflect_tables.specs.Resolved.{resolved_field, resolved_lists}
-use Rattle.prost_reflect_tables.proofs.build.link.declared_by_message.Given as goal
-
-abbrev pub invariant-loop-fields : goal.invariant-loop-fields
-invariant-loop-fields l =
-    list_rows l.lists.items ++ map (λ fields. map (resolved_field false) fields) (resolved_lists (drop l.fields-index l.resolved))
-    ≡ map (λ fields. map (resolved_field false) fields) (resolved_lists l.resolved)

@@ -1,8 +1,0 @@
-use Rattle.std.proofs.Common.{◌≡◌, ◌++◌, map, drop}
-use Rattle.prost_reflect_tables.specs.FlatViews.{text_list}
-use Rattle.prost_reflect_tables.specs.Rows.{field_row}
-use Rattle.prost_reflect_tables.specs.LinkedCatalog.{json_names}
-use Rattle.prost_reflect_tables.proofs.build.lists.json_names.Given as goal
-
-abbrev pub invariant-loop-field : goal.invariant-loop-field
-invariant-loop-field l = text_list l.names.items ++ json_names (map field_row (drop l.field-index l.fields)) ≡ json_names (map field_row l.fields)

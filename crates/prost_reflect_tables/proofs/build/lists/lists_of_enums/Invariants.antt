@@ -1,8 +1,0 @@
-use Rattle.std.proofs.Common.{◌≡◌, ◌++◌, map, drop}
-use Rattle.prost_reflect_tables.specs.FlatViews.{enum_row}
-use Rattle.prost_reflect_tables.specs.CatalogRows.{enum_lists_row}
-use Rattle.prost_reflect_tables.specs.LinkedCatalog.{enum_lists}
-use Rattle.prost_reflect_tables.proofs.build.lists.lists_of_enums.Given as goal
-
-abbrev pub invariant-loop-declared : goal.invariant-loop-declared
-invariant-loop-declared l = map enum_lists_row l.lists.items ++ map enum_lists (map enum_row (drop l.declared-index l.enums)) ≡ map enum_lists (map enum_row l.enums)

@@ -1,8 +1,0 @@
-use Rattle.std.proofs.Common.{◌≡◌, ◌++◌, map, drop, not}
-use Rattle.prost_reflect_tables.specs.Rows.{FieldRow, field_row}
-use Rattle.prost_reflect_tables.specs.Gathered.{places_from}
-use Rattle.prost_reflect_tables.specs.LinkedCatalog.{own_fields}
-use Rattle.prost_reflect_tables.proofs.build.lists.own_fields.Given as goal
-
-abbrev pub invariant-loop-place : goal.invariant-loop-place
-invariant-loop-place l = l.places.items ++ places_from (λ (f : FieldRow). not f.is_extension) l.place (map field_row (drop l.place l.fields)) ≡ own_fields (map field_row l.fields)

@@ -1,9 +1,0 @@
-use Rattle.std.proofs.Common.{rules}
-use Rattle.prost_reflect_tables.specs.EntryFaults.{wrongly_of_entry}
-use Rattle.prost_reflect_tables.specs.ResolvedFaults.{wrongly_found}
-use Rattle.prost_reflect_tables.specs.FlatViews.{flat_rows}
-use Rattle.prost_reflect_tables.proofs.Resolving.{wrongly_is}
-use Rattle.prost_reflect_tables.proofs.check.entries.has_wrongly_of_entry.Goals as goal
-
-pub returns : goal.returns
-returns c = let rows = flat_rows c.args.flat.now in c.any_resolved_field.ensures (wrongly_found rows) (wrongly_of_entry rows) (λ f b k. search rules) (wrongly_is rows)

@@ -1,8 +1,0 @@
-use Rattle.std.proofs.Common.{◌≡◌, ◌++◌, map, drop}
-use Rattle.prost_reflect_tables.specs.Faults.{numbered_in}
-use Rattle.prost_reflect_tables.specs.FlatViews.{message_row}
-use Rattle.prost_reflect_tables.specs.Indexed.{numbered_list}
-use Rattle.prost_reflect_tables.proofs.check.numbers.add_messages.Given as goal
-
-abbrev pub invariant-loop-place : goal.invariant-loop-place
-invariant-loop-place l = numbered_list l.numbers.items ++ numbered_in l.place (map message_row (drop l.place l.messages)) ≡ numbered_list l.fn.numbers.items ++ numbered_in 0 (map message_row l.messages)

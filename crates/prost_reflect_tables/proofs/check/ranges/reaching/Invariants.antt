@@ -1,6 +1,0 @@
-use Rattle.std.proofs.Common.{◌≡◌, ◌++◌, drop}
-use Rattle.prost_reflect_tables.specs.Spans.{reaching}
-use Rattle.prost_reflect_tables.proofs.check.ranges.reaching.Given as goal
-
-abbrev pub invariant-loop-span : goal.invariant-loop-span
-invariant-loop-span l = l.farther.items ++ reaching l.farthest (drop l.span-index l.spans) ≡ reaching 0 l.spans

@@ -1,7 +1,0 @@
-use Rattle.std.proofs.Common.{◌∙◌}
-use Rattle.prost_reflect_tables.specs.FlatViews.{definition_row}
-use Rattle.prost_reflect_tables.proofs.Walks.{rows_any}
-use Rattle.prost_reflect_tables.proofs.check.walk.any_definition.Goals as goal
-
-pub returns : goal.returns
-returns g c = λ p is. c.any.ensures (λ x. p (definition_row x)) is ∙ rows_any p definition_row c.args.definitions.now

@@ -1,7 +1,0 @@
-use Rattle.std.proofs.Common.{◌∙◌}
-use Rattle.prost_reflect_tables.specs.Resolved.{resolved_row}
-use Rattle.prost_reflect_tables.proofs.Walks.{rows_any}
-use Rattle.prost_reflect_tables.proofs.check.walk.any_resolved.Goals as goal
-
-pub returns : goal.returns
-returns g c = λ p is. c.any.ensures (λ x. p (resolved_row x)) is ∙ rows_any p resolved_row c.args.fields.now

@@ -1,0 +1,10 @@
+use Rattle.std.proofs.Common.{rules}
+use Rattle.prost_reflect_wire.specs.Record.{Fix64}
+use Rattle.prost_reflect_wire.specs.Front.{PlainFront}
+use Rattle.prost_reflect_wire.proofs.PlainFronts.{fix64_once}
+use Rattle.prost_reflect_wire.proofs.payload.decode_fixed64.Goals as goal
+
+pub returns-in-Some-clause-only : goal.returns-in-Some-clause-only
+returns-in-Some-clause-only c = λ eight rest f.
+    let read : PlainFront (Fix64 c.in-Some.eight.now) c.args.bytes.now c.in-Some.rest.now = search rules in
+    fix64_once _ eight _ _ rest read f
