@@ -34,7 +34,7 @@ pub(crate) fn choices(alloc: Global, bytes: &[u8]) -> Result<DynamicMessage, Fai
 
 /// The message of `MyMessage` in `newer` that the bytes mean.
 pub(crate) fn my_message(alloc: Global, bytes: &[u8]) -> Result<DynamicMessage, Fail> {
-    message_of(alloc, sets::newer(), "MyMessage", bytes)
+    message_of(alloc, sets::newer(), "package.MyMessage", bytes)
 }
 
 /// The message type of a name in `worked`.

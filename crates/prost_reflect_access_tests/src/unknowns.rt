@@ -74,7 +74,10 @@ fn unknown_fields_are_listed_in_ascending_number(rt: HostRuntime) -> Result<(), 
 /// Whether the message is empty once its unknown fields are taken, and these are the rows.
 fn gives_unknown(alloc: Global, message: &mut DynamicMessage) -> Result<bool, Fail> {
     let taken = message.take_unknown_fields(alloc)?;
-    let empty = DynamicMessage::new(alloc, message_type(alloc, sets::newer(), "MyMessage")?);
+    let empty = DynamicMessage::new(
+        alloc,
+        message_type(alloc, sets::newer(), "package.MyMessage")?,
+    );
     Ok(*message == empty && are_taken_varints(taken, &ROWS))
 }
 

@@ -157,7 +157,7 @@ fn is_reduction(alloc: Global, name: &str) -> Result<bool, Fail> {
 #[test]
 fn older_types_are_reductions_or_not(rt: HostRuntime) -> Result<(), Fail> {
     for (name, answer) in [
-        ("MyMessage", true),
+        ("package.MyMessage", true),
         ("P", true),
         ("Foo", true),
         ("Q", false),

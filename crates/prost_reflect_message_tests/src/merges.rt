@@ -11,17 +11,17 @@ use std::test::Fail;
 /// the message is written as then.
 static MERGES: [(&str, &str, &str, &str); 8] = [
     // messages join, and a scalar is its last record
-    ("MyMessage", "1a020805", "1a021042", "1a0408051042"),
-    ("MyMessage", "0805", "0800", ""),
-    ("MyMessage", "0805", "0807", "0807"),
-    ("MyMessage", "1005", "", "1005"),
+    ("package.MyMessage", "1a020805", "1a021042", "1a0408051042"),
+    ("package.MyMessage", "0805", "0800", ""),
+    ("package.MyMessage", "0805", "0807", "0807"),
+    ("package.MyMessage", "1005", "", "1005"),
     // a list's elements stand behind those that are there, and an entry replaces one of its key
     ("Foo", "08010802", "0a0103", "080108020803"),
     ("P", "0a050a01611001", "0a050a01611002", "0a050a01611002"),
     // the other member of the oneof goes, and unknown fields stay in their order
     ("Q", "0805", "12021042", "12021042"),
     (
-        "MyMessage",
+        "package.MyMessage",
         "280130012802",
         "28033002",
         "28012802280330013002",
@@ -30,14 +30,19 @@ static MERGES: [(&str, &str, &str, &str); 8] = [
 
 /// Likewise, and why the second merge is refused.
 static REFUSALS: [(&str, &str, &str, DecodeError); 3] = [
-    ("MyMessage", "0805", "08011800", DecodeError::WireType),
     (
-        "MyMessage",
+        "package.MyMessage",
+        "0805",
+        "08011800",
+        DecodeError::WireType,
+    ),
+    (
+        "package.MyMessage",
         "1a020805",
         "1a0210421a0310",
         DecodeError::Truncated,
     ),
-    ("MyMessage", "0805", "00", DecodeError::Key),
+    ("package.MyMessage", "0805", "00", DecodeError::Key),
 ];
 
 /// Merges the digits' bytes into the message, and answers why they are refused, if they are.
@@ -140,7 +145,7 @@ fn loses_foo(alloc: Global, message: &mut DynamicMessage) -> Result<bool, Fail> 
 /// A 0 that is merged takes the place of a 5, and is no value of a field without presence.
 #[test]
 fn a_merged_default_is_not_had(rt: HostRuntime) -> Result<(), Fail> {
-    let mut message = newer(rt.alloc(), "MyMessage", "")?;
+    let mut message = newer(rt.alloc(), "package.MyMessage", "")?;
     assert!(rt; loses_foo(rt.alloc(), &mut message)?);
     Ok(())
 }

@@ -9,13 +9,13 @@ use std::test::Fail;
 /// A message type, a path, and the full name of the field that it leads to, or none: a number that no field has, that of an
 /// extension, and a path that goes on through a scalar, a list or a map, lead nowhere.
 static ROWS: [(&str, &[u32], &str); 10] = [
-    ("MyMessage", &[3], "MyMessage.nested"),
-    ("MyMessage", &[3, 3, 2], "MyMessage.bar"),
+    ("package.MyMessage", &[3], "package.MyMessage.nested"),
+    ("package.MyMessage", &[3, 3, 2], "package.MyMessage.bar"),
     ("P", &[3, 3, 2], "P.q"),
-    ("Q", &[2, 1], "MyMessage.foo"),
-    ("MyMessage", &[], ""),
-    ("MyMessage", &[4], ""),
-    ("MyMessage", &[1, 1], ""),
+    ("Q", &[2, 1], "package.MyMessage.foo"),
+    ("package.MyMessage", &[], ""),
+    ("package.MyMessage", &[4], ""),
+    ("package.MyMessage", &[1, 1], ""),
     ("P", &[2, 2], ""),
     ("Foo", &[1, 1], ""),
     ("Foo", &[100], ""),

@@ -19,14 +19,14 @@ static REPEATED: &[u8] =
 /// The older forms of `Q` and `C` are no reductions: members of a oneof are missing, and a number of a closed enum.
 static ROWS: [(&str, &str, &str, &str, &str); 6] = [
     (
-        "MyMessage",
+        "package.MyMessage",
         "1a0410420805",
         "1a0408051042",
         "3={1=5 2=66 } ",
         "3={1=5 2=66 } ",
     ),
     (
-        "MyMessage",
+        "package.MyMessage",
         "1A0410420805",
         "1a0408051042",
         "3={1=5 2=66 } ",
@@ -129,7 +129,7 @@ fn newer_types_read_what_is_relayed(rt: HostRuntime) -> Result<(), Fail> {
 #[test]
 fn what_is_not_relayed_is_named(rt: HostRuntime) -> Result<(), Fail> {
     let alloc = rt.alloc();
-    let older = message_type(alloc, sets::older(), "MyMessage")?;
+    let older = message_type(alloc, sets::older(), "package.MyMessage")?;
     for (digits, refusal) in REFUSED {
         let found = relay_hex(alloc, &older, digits).err();
         assert!(rt; found == Some(refusal), "{digits}");
@@ -188,15 +188,27 @@ type Edit = (
 
 /// Edits through the older types.
 static OLDER_EDITS: [Edit; 3] = [
-    ("MyMessage", "08051042", &[2], Setting::I32(7), "08051007"),
     (
-        "MyMessage",
+        "package.MyMessage",
+        "08051042",
+        &[2],
+        Setting::I32(7),
+        "08051007",
+    ),
+    (
+        "package.MyMessage",
         "1a0408051042",
         &[3, 2],
         Setting::I32(7),
         "1a0408051007",
     ),
-    ("MyMessage", "", &[3, 3, 2], Setting::I32(0), "1a041a021000"),
+    (
+        "package.MyMessage",
+        "",
+        &[3, 3, 2],
+        Setting::I32(0),
+        "1a041a021000",
+    ),
 ];
 
 /// Edits through the newer types.
@@ -233,7 +245,7 @@ fn values_are_set_through_older_types(rt: HostRuntime) -> Result<(), Fail> {
     for edit in &OLDER_EDITS {
         assert!(rt; is_edited(alloc, sets::older(), edit)?);
     }
-    assert!(rt; is_shown_by_newer(alloc, "MyMessage", "08051007", "1=5 2=7 ")?);
+    assert!(rt; is_shown_by_newer(alloc, "package.MyMessage", "08051007", "1=5 2=7 ")?);
     Ok(())
 }
 
@@ -257,14 +269,14 @@ fn values_take_the_place_of_others(rt: HostRuntime) -> Result<(), Fail> {
 
 /// Whether the newer form of `MyMessage` reads the bytes, and has a message in it.
 fn newer_has_nested(alloc: Global, bytes: &[u8]) -> Result<bool, Fail> {
-    let newer = message_type(alloc, sets::newer(), "MyMessage")?;
+    let newer = message_type(alloc, sets::newer(), "package.MyMessage")?;
     Ok(DynamicMessage::decode(alloc, newer, bytes)?.has_field_by_number(3))
 }
 
 #[test]
 fn a_path_goes_down_a_hundred_levels(rt: HostRuntime) -> Result<(), Fail> {
     let alloc = rt.alloc();
-    let older = message_type(alloc, sets::older(), "MyMessage")?;
+    let older = message_type(alloc, sets::older(), "package.MyMessage")?;
     let mut path = [3; 102];
     path[101] = 2;
     let expected = in_messages(alloc, 100, "1000")?;
@@ -279,21 +291,21 @@ fn a_path_goes_down_a_hundred_levels(rt: HostRuntime) -> Result<(), Fail> {
 /// A newer message type, the digits of bytes, a path, a value, and why it is not set there.
 static NOT_SET: [(&str, &str, &[u32], Setting, RelayWithError); 6] = [
     (
-        "MyMessage",
+        "package.MyMessage",
         "",
         &[],
         Setting::I32(0),
         RelayWithError::NotFound,
     ),
     (
-        "MyMessage",
+        "package.MyMessage",
         "08",
         &[42],
         Setting::I32(0),
         RelayWithError::NotFound,
     ),
     (
-        "MyMessage",
+        "package.MyMessage",
         "08",
         &[1, 1],
         Setting::I32(0),
@@ -314,7 +326,7 @@ static NOT_SET: [(&str, &str, &[u32], Setting, RelayWithError); 6] = [
         RelayWithError::InvalidType,
     ),
     (
-        "MyMessage",
+        "package.MyMessage",
         "08",
         &[1],
         Setting::I32(5),
@@ -350,8 +362,8 @@ fn what_is_not_set_is_named(rt: HostRuntime) -> Result<(), Fail> {
 
 /// Why an empty message is not set at the field 3 in the bytes, if it is not.
 fn message_refusal(alloc: Global, bytes: &[u8]) -> Result<Option<RelayWithError>, Fail> {
-    let descriptor = message_type(alloc, sets::newer(), "MyMessage")?;
-    let message = Value::Message(newer(alloc, "MyMessage", "")?);
+    let descriptor = message_type(alloc, sets::newer(), "package.MyMessage")?;
+    let message = Value::Message(newer(alloc, "package.MyMessage", "")?);
     Ok(relay_with(alloc, &descriptor, bytes, &[3], message).err())
 }
 

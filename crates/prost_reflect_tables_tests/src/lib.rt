@@ -1,5 +1,5 @@
-//! Tests of `prost_reflect_tables`, through its public calls. They stand in a crate of their own, so that the gate need not
-//! prove that one a second time with them.
+//! Tests of the tables of files, of the checks and of linking, through their public calls. They stand in a crate of their own,
+//! so that the gate need not prove those a second time with them.
 #![tactic(auto)]
 
 #[cfg(test)]

@@ -1,9 +1,11 @@
 //! Calls with ample memory, whose contracts leave want of memory open. The files are written as descriptor records.
 
+use prost_reflect_checks::check_files;
+use prost_reflect_linking::linked;
+use prost_reflect_pool::build_tables;
 use prost_reflect_tables::{
     Catalog, EnumTable, FieldTable, Flat, FlatMessage, Identity, MessageTable, PoolError,
-    TableKind, Tables, WrittenDefault, all_resolved, build_tables, check_files, flattened, linked,
-    written_default,
+    TableKind, Tables, WrittenDefault, all_resolved, flattened, written_default,
 };
 use prost_reflect_types::FileDescriptorProto;
 use std::alloc::{AllocError, Global};

@@ -15,8 +15,8 @@ fn sample(alloc: Global, name: &str, bytes: &[u8]) -> Result<DynamicMessage, Fai
 /// A stored default of a field without presence is unequal to none.
 #[test]
 fn a_stored_default_counts(rt: HostRuntime) -> Result<(), Fail> {
-    let fresh = sample(rt.alloc(), "MyMessage", &[])?;
-    let mut message = sample(rt.alloc(), "MyMessage", &[0x08, 0])?;
+    let fresh = sample(rt.alloc(), "package.MyMessage", &[])?;
+    let mut message = sample(rt.alloc(), "package.MyMessage", &[0x08, 0])?;
     assert!(rt; message != fresh);
     message.clear();
     assert!(rt; message == fresh);
@@ -24,10 +24,10 @@ fn a_stored_default_counts(rt: HostRuntime) -> Result<(), Fail> {
 }
 
 /// A message of `MyMessage` with `foo`, in so many lists.
-fn nested(alloc: Global, depth: u32, foo: u8) -> Result<Value, Fail> {
+fn nested(alloc: Global, levels: u32, foo: u8) -> Result<Value, Fail> {
     let bytes = [0x08, foo];
-    let mut value = Value::Message(sample(alloc, "MyMessage", &bytes)?);
-    for _ in 0..depth {
+    let mut value = Value::Message(sample(alloc, "package.MyMessage", &bytes)?);
+    for _ in 0..levels {
         let mut items = Vec::new(alloc);
         items.push(value)?;
         value = Value::List(items);
@@ -36,8 +36,8 @@ fn nested(alloc: Global, depth: u32, foo: u8) -> Result<Value, Fail> {
 }
 
 /// Whether the value is `foo` in so many lists.
-fn is_nested(alloc: Global, value: &Value, depth: u32, foo: u8) -> Result<bool, Fail> {
-    Ok(*value == nested(alloc, depth, foo)?)
+fn is_nested(alloc: Global, value: &Value, levels: u32, foo: u8) -> Result<bool, Fail> {
+    Ok(*value == nested(alloc, levels, foo)?)
 }
 
 #[test]
@@ -103,8 +103,16 @@ fn unknown_fields_count(rt: HostRuntime) -> Result<(), Fail> {
 /// Pools that were made apart show the same, and types are told apart by their places.
 #[test]
 fn types_count(rt: HostRuntime) -> Result<(), Fail> {
-    let message = sample(rt.alloc(), "MyMessage", &[])?;
-    assert!(rt; is_decoded(rt.alloc(), &message, sets::newer(), "MyMessage", &[])?);
+    let message = sample(rt.alloc(), "package.MyMessage", &[])?;
+    assert!(rt;
+        is_decoded(
+            rt.alloc(),
+            &message,
+            sets::newer(),
+            "package.MyMessage",
+            &[]
+        )?
+    );
     assert!(rt; !is_decoded(rt.alloc(), &message, sets::newer(), "P", &[])?);
     Ok(())
 }

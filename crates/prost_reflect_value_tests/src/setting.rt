@@ -23,12 +23,12 @@ fn of_kinds(alloc: Global, bytes: &[u8]) -> Result<DynamicMessage, Fail> {
 
 /// A `MyMessage` of the bytes.
 fn of_newer(alloc: Global, bytes: &[u8]) -> Result<DynamicMessage, Fail> {
-    decoded(alloc, sets::newer(), "MyMessage", bytes)
+    decoded(alloc, sets::newer(), "package.MyMessage", bytes)
 }
 
 /// Whether the message is the `MyMessage` of the bytes.
 fn is_newer(alloc: Global, message: &DynamicMessage, bytes: &[u8]) -> Result<bool, Fail> {
-    is_decoded(alloc, message, sets::newer(), "MyMessage", bytes)
+    is_decoded(alloc, message, sets::newer(), "package.MyMessage", bytes)
 }
 
 /// Why the field of a name refuses the value, or nothing where it is set.

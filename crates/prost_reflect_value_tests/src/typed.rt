@@ -42,12 +42,12 @@ fn holding(alloc: Global, name: &str, field: &str, value: Value) -> Result<Dynam
 
 /// A `MyMessage` with the message in its field `nested`.
 fn around(alloc: Global, inner: DynamicMessage) -> Result<DynamicMessage, Fail> {
-    holding(alloc, "MyMessage", "nested", Value::Message(inner))
+    holding(alloc, "package.MyMessage", "nested", Value::Message(inner))
 }
 
 /// A `MyMessage` whose int32 is a text.
 fn with_text(alloc: Global) -> Result<DynamicMessage, Fail> {
-    holding(alloc, "MyMessage", "foo", text_of(alloc, "x")?)
+    holding(alloc, "package.MyMessage", "foo", text_of(alloc, "x")?)
 }
 
 /// A `P` with the value at the key 1 of one of its maps.
@@ -108,7 +108,7 @@ fn a_message_of_another_type_is_found(rt: HostRuntime) -> Result<(), Fail> {
 
 /// What both calls answer of a `MyMessage` around one that is read by a set.
 fn asked_around(alloc: Global, set: &[u8]) -> Result<(bool, bool), Fail> {
-    Ok(asked(&around(alloc, read(alloc, set, "MyMessage", "1001")?)?))
+    Ok(asked(&around(alloc, read(alloc, set, "package.MyMessage", "1001")?)?))
 }
 
 /// Pools that are made of one set are equal; the older set has the type at the same place, and lacks a field.
@@ -133,7 +133,9 @@ fn asked_inside(alloc: Global, message: DynamicMessage) -> Result<(bool, bool), 
 fn pairs_are_asked(rt: HostRuntime) -> Result<(), Fail> {
     let alloc = rt.alloc();
     assert!(rt; asked_pair(alloc, "m", Value::I32(1))? == (false, true));
-    assert!(rt; asked_inside(alloc, read_newer(alloc, "MyMessage", "0805")?)? == (true, true));
+    assert!(rt;
+        asked_inside(alloc, read_newer(alloc, "package.MyMessage", "0805")?)? == (true, true)
+    );
     assert!(rt; asked_inside(alloc, with_text(alloc)?)? == (false, true));
     assert!(rt; asked_inside(alloc, read_newer(alloc, "Foo", "0801")?)? == (true, false));
     Ok(())
@@ -152,14 +154,14 @@ fn merges(message: &mut DynamicMessage, bytes: &[u8]) -> Result<bool, Fail> {
 #[test]
 fn what_passes_is_merged_into(rt: HostRuntime) -> Result<(), Fail> {
     let alloc = rt.alloc();
-    let mut message = around(alloc, read_newer(alloc, "MyMessage", "0805")?)?;
+    let mut message = around(alloc, read_newer(alloc, "package.MyMessage", "0805")?)?;
     assert!(rt; merges(&mut message, &[0x10, 1])?);
     assert!(rt;
         is_decoded(
             alloc,
             &message,
             sets::newer(),
-            "MyMessage",
+            "package.MyMessage",
             &[0x1a, 2, 8, 5, 0x10, 1]
         )?
     );
@@ -169,7 +171,7 @@ fn what_passes_is_merged_into(rt: HostRuntime) -> Result<(), Fail> {
 /// A message by itself is no map.
 #[test]
 fn a_message_alone_in_a_map_field_is_of_no_type(rt: HostRuntime) -> Result<(), Fail> {
-    let inner = Value::Message(read_newer(rt.alloc(), "MyMessage", "0805")?);
+    let inner = Value::Message(read_newer(rt.alloc(), "package.MyMessage", "0805")?);
     let message = holding(rt.alloc(), "P", "q", inner)?;
     assert!(rt; asked(&message) == (false, false));
     Ok(())
@@ -188,8 +190,8 @@ fn an_undeclared_number_does_not_fit(rt: HostRuntime) -> Result<(), Fail> {
 
 /// A type of the newer set, and the digits of a message.
 static READ: [(&str, &str); 5] = [
-    ("MyMessage", "1a0208051a021042"),
-    ("MyMessage", "2801"),
+    ("package.MyMessage", "1a0208051a021042"),
+    ("package.MyMessage", "2801"),
     ("Foo", "08010802"),
     ("P", "0a050a016110011200"),
     ("Q", "12021042"),

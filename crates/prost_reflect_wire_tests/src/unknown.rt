@@ -4,10 +4,10 @@ ghost use Rattle.std.specs.Prelude.{◌≤◌, ◌<◌, ◌^◌};
 
 use prost_reflect_wire::{
     BackBuffer, ByteSink, DecodeError, EncodeError, FieldNumber, RECURSION_LIMIT, Sink,
-    UnknownField, UnknownFieldSet, UnknownFieldValue, WireType, decode_key, decode_varint,
-    decode_varint_plain, delimited_at, fixed32_at, fixed64_at, key_value, low_i32, low_u32,
-    prepend_fields, sign_extended, skip_value, unzigzag32, unzigzag64, value_at, varint_len,
-    write_field, write_fields, write_key, zigzag32, zigzag64,
+    UnknownField, UnknownFieldSet, UnknownFieldValue, WireType, decode_delimited, decode_fixed32,
+    decode_fixed64, decode_key, decode_value, decode_varint, decode_varint_plain, key_value,
+    low_i32, low_u32, prepend_fields, sign_extended, skip_value, unzigzag32, unzigzag64,
+    varint_len, write_field, write_fields, write_key, zigzag32, zigzag64,
 };
 use std::alloc::{AllocError, Global};
 use std::process::Abort;
@@ -193,14 +193,14 @@ static ROWS: [(usize, u32, &str, Result<&str, DecodeError>); 106] = [
 
 #[test]
 fn spellings_and_refusals(rt: HostRuntime) -> Result<(), Fail> {
-    for (groups, depth, text, answer) in &ROWS {
+    for (groups, levels, text, answer) in &ROWS {
         let input = in_groups(rt.alloc(), *groups, text)?;
-        let written = written_again(rt.alloc(), &input, *depth)?;
+        let written = written_again(rt.alloc(), &input, *levels)?;
         match answer {
             Ok(want) => {
                 let want = in_groups(rt.alloc(), *groups, want)?;
                 assert!(rt; written == Ok(want), "of {text}");
-                cut_anywhere(&rt, rt.alloc(), &input, *depth);
+                cut_anywhere(&rt, rt.alloc(), &input, *levels);
             }
             Err(error) => assert!(rt; written == Err(*error), "at {text}"),
         }
@@ -212,13 +212,13 @@ fn spellings_and_refusals(rt: HostRuntime) -> Result<(), Fail> {
 fn written_again(
     alloc: Global,
     input: &[u8],
-    depth: u32,
+    levels: u32,
 ) -> Result<Result<Vec<u8>, DecodeError>, Fail> {
-    if depth > RECURSION_LIMIT {
+    if levels > RECURSION_LIMIT {
         return Err(Fail::from("more levels than may be allowed"));
     }
     let mut cursor = input;
-    let field = match UnknownField::decode(alloc, &mut cursor, depth) {
+    let field = match UnknownField::decode(alloc, &mut cursor, levels) {
         Ok(field) => field,
         Err(error) => return Ok(Err(error)),
     };
@@ -231,11 +231,11 @@ fn written_again(
 }
 
 /// Each part of a field that ends before its last byte is refused.
-fn cut_anywhere(rt: &impl Abort, alloc: Global, input: &[u8], depth: u32) {
-    assert!(rt; depth <= RECURSION_LIMIT);
+fn cut_anywhere(rt: &impl Abort, alloc: Global, input: &[u8], levels: u32) {
+    assert!(rt; levels <= RECURSION_LIMIT);
     for len in 0..input.len() {
         let mut cursor = &input[..len];
-        match UnknownField::decode(alloc, &mut cursor, depth) {
+        match UnknownField::decode(alloc, &mut cursor, levels) {
             Ok(_) => panic!(rt; "{len} bytes of {input:?} are read"),
             Err(error) => assert_eq!(rt; error, DecodeError::Truncated, "{len} bytes of {input:?}"),
         }
@@ -274,7 +274,7 @@ fn values_behind_a_key(rt: HostRuntime) -> Result<(), Fail> {
 fn values_alone(rt: HostRuntime) -> Result<(), Fail> {
     let input = [0x96, 0x01, 0x7f];
     let number = FieldNumber::new(5);
-    let (value, rest) = value_at(rt.alloc(), number, WireType::Varint, &input, 0)?;
+    let (value, rest) = decode_value(rt.alloc(), number, WireType::Varint, &input, 0)?;
     assert!(rt; value == UnknownFieldValue::Varint(150));
     assert!(rt; varint_field(5, 150).value() == &value);
     assert_eq!(rt; rest, [0x7f].as_slice());
@@ -507,19 +507,19 @@ fn keys(rt: HostRuntime) -> Result<(), Fail> {
 
 #[test]
 fn payloads(rt: HostRuntime) -> Result<(), Fail> {
-    let (body, rest) = delimited_at(&[0x02, 0x41, 0x42, 0x43])?;
+    let (body, rest) = decode_delimited(&[0x02, 0x41, 0x42, 0x43])?;
     assert_eq!(rt; (body, rest), ([0x41, 0x42].as_slice(), [0x43].as_slice()));
     Ok(())
 }
 
 #[test]
 fn fixed_widths(rt: HostRuntime) -> Result<(), Fail> {
-    let (eight, rest) = fixed64_at(&[1, 2, 3, 4, 5, 6, 7, 8, 9])?;
+    let (eight, rest) = decode_fixed64(&[1, 2, 3, 4, 5, 6, 7, 8, 9])?;
     assert_eq!(rt;
         (u64::from_le_bytes(eight), rest),
         (0x0807_0605_0403_0201, [9].as_slice())
     );
-    let (four, rest) = fixed32_at(&[1, 2, 3, 4, 5])?;
+    let (four, rest) = decode_fixed32(&[1, 2, 3, 4, 5])?;
     assert_eq!(rt;
         (u32::from_le_bytes(four), rest),
         (0x0403_0201, [5].as_slice())
