@@ -2,9 +2,9 @@
 
 use crate::message::{DynamicMessage, ScalarRef, Value};
 use crate::schema::{Cardinality, FieldTable, Kind, MessageType};
-use crate::unknown::{UnknownField, UnknownFieldValue, skip_value, value_at};
+use crate::unknown::{UnknownField, UnknownFieldValue, skip_value, decode_value};
 use crate::wire::{
-    DecodeError, WireType, decode_key, decode_varint, delimited_at, fixed32_at, fixed64_at,
+    DecodeError, WireType, decode_key, decode_varint, decode_delimited, decode_fixed32, decode_fixed64,
     unzigzag32, unzigzag64,
 };
 use std::collections::BTreeMap;
@@ -131,15 +131,15 @@ fn scalar_at(kind: Kind, wire_type: WireType, bytes: &[u8]) -> Result<(Value, &[
             Ok((varint_value(kind, value), rest))
         }
         WireType::SixtyFourBit => {
-            let (payload, rest) = fixed64_at(bytes)?;
+            let (payload, rest) = decode_fixed64(bytes)?;
             Ok((fixed64_value(kind, payload), rest))
         }
         WireType::LengthDelimited => {
-            let (payload, rest) = delimited_at(bytes)?;
+            let (payload, rest) = decode_delimited(bytes)?;
             Ok((delimited_value(kind, payload)?, rest))
         }
         WireType::ThirtyTwoBit => {
-            let (payload, rest) = fixed32_at(bytes)?;
+            let (payload, rest) = decode_fixed32(bytes)?;
             Ok((fixed32_value(kind, payload), rest))
         }
         WireType::StartGroup | WireType::EndGroup => unreachable!(),
@@ -154,7 +154,7 @@ fn push_elements<'a>(
     bytes: &'a [u8],
 ) -> Result<&'a [u8], DecodeError> {
     if wire_type == WireType::LengthDelimited && !matches!(kind, Kind::String | Kind::Bytes) {
-        let (body, rest) = delimited_at(bytes)?;
+        let (body, rest) = decode_delimited(bytes)?;
         push_packed(values, kind, body)?;
         return Ok(rest);
     }
@@ -229,7 +229,7 @@ fn entry_at(
 
 fn entry_body(wire_type: WireType, bytes: &[u8]) -> Result<(&[u8], &[u8]), DecodeError> {
     match wire_type {
-        WireType::LengthDelimited => delimited_at(bytes),
+        WireType::LengthDelimited => decode_delimited(bytes),
         WireType::EndGroup => Err(DecodeError::EndGroup),
         _ => Err(DecodeError::WireType),
     }
@@ -324,7 +324,7 @@ impl DynamicMessage {
         bytes: &'a [u8],
         levels: u32,
     ) -> Result<&'a [u8], DecodeError> {
-        let (value, rest) = value_at(number, wire_type, bytes, levels)?;
+        let (value, rest) = decode_value(number, wire_type, bytes, levels)?;
         self.add_unknown(number, UnknownField { number, value });
         Ok(rest)
     }
@@ -355,7 +355,7 @@ impl DynamicMessage {
     ) -> Result<&'a [u8], DecodeError> {
         match wire_type {
             WireType::LengthDelimited => {
-                let (body, rest) = delimited_at(bytes)?;
+                let (body, rest) = decode_delimited(bytes)?;
                 self.list_mut(number);
                 let mut left = body;
                 while !left.is_empty() {
@@ -484,7 +484,7 @@ impl DynamicMessage {
         if is_group {
             return self.merge_to_end(number, bytes, levels - 1);
         }
-        let (body, rest) = delimited_at(bytes)?;
+        let (body, rest) = decode_delimited(bytes)?;
         self.merge_records(body, levels - 1)?;
         Ok(rest)
     }

@@ -1,7 +1,7 @@
 //! The fields that no descriptor knows.
 
 use crate::wire::{
-    DecodeError, WireType, decode_key, decode_varint, delimited_at, fixed32_at, fixed64_at,
+    DecodeError, WireType, decode_key, decode_varint, decode_delimited, decode_fixed32, decode_fixed64,
 };
 
 pub struct UnknownField {
@@ -23,7 +23,7 @@ pub struct UnknownFieldSet {
 }
 
 /// Reads what stands behind the key of a field, with at most `depth` groups open at once.
-pub fn value_at(
+pub fn decode_value(
     number: u32,
     wire_type: WireType,
     bytes: &[u8],
@@ -35,26 +35,26 @@ pub fn value_at(
             Ok((UnknownFieldValue::Varint(value), rest))
         }
         WireType::SixtyFourBit => {
-            let (payload, rest) = fixed64_at(bytes)?;
+            let (payload, rest) = decode_fixed64(bytes)?;
             Ok((UnknownFieldValue::SixtyFourBit(payload), rest))
         }
         WireType::LengthDelimited => {
-            let (payload, rest) = delimited_at(bytes)?;
+            let (payload, rest) = decode_delimited(bytes)?;
             Ok((UnknownFieldValue::LengthDelimited(payload.to_vec()), rest))
         }
         WireType::StartGroup => {
-            let (fields, rest) = group_at(number, bytes, depth)?;
+            let (fields, rest) = decode_group(number, bytes, depth)?;
             Ok((UnknownFieldValue::Group(fields), rest))
         }
         WireType::EndGroup => Err(DecodeError::EndGroup),
         WireType::ThirtyTwoBit => {
-            let (payload, rest) = fixed32_at(bytes)?;
+            let (payload, rest) = decode_fixed32(bytes)?;
             Ok((UnknownFieldValue::ThirtyTwoBit(payload), rest))
         }
     }
 }
 
-fn group_at(
+fn decode_group(
     number: u32,
     bytes: &[u8],
     depth: u32,
@@ -71,7 +71,7 @@ fn group_at(
             WireType::EndGroup => return Err(DecodeError::EndGroup),
             _ => {}
         }
-        let (value, after) = value_at(key, wire_type, after, depth - 1)?;
+        let (value, after) = decode_value(key, wire_type, after, depth - 1)?;
         set.fields.push(UnknownField { number: key, value });
         rest = after;
     }
@@ -86,11 +86,11 @@ pub fn skip_value(
 ) -> Result<&[u8], DecodeError> {
     match wire_type {
         WireType::Varint => Ok(decode_varint(bytes)?.1),
-        WireType::SixtyFourBit => Ok(fixed64_at(bytes)?.1),
-        WireType::LengthDelimited => Ok(delimited_at(bytes)?.1),
+        WireType::SixtyFourBit => Ok(decode_fixed64(bytes)?.1),
+        WireType::LengthDelimited => Ok(decode_delimited(bytes)?.1),
         WireType::StartGroup => skip_group(number, bytes, depth),
         WireType::EndGroup => Err(DecodeError::EndGroup),
-        WireType::ThirtyTwoBit => Ok(fixed32_at(bytes)?.1),
+        WireType::ThirtyTwoBit => Ok(decode_fixed32(bytes)?.1),
     }
 }
 

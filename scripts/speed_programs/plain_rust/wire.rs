@@ -65,21 +65,21 @@ pub fn decode_key(bytes: &[u8]) -> Result<(u32, WireType, &[u8]), DecodeError> {
     }
 }
 
-pub fn fixed64_at(bytes: &[u8]) -> Result<([u8; 8], &[u8]), DecodeError> {
+pub fn decode_fixed64(bytes: &[u8]) -> Result<([u8; 8], &[u8]), DecodeError> {
     match bytes.split_first_chunk() {
         Some((eight, rest)) => Ok((*eight, rest)),
         None => Err(DecodeError::Truncated),
     }
 }
 
-pub fn fixed32_at(bytes: &[u8]) -> Result<([u8; 4], &[u8]), DecodeError> {
+pub fn decode_fixed32(bytes: &[u8]) -> Result<([u8; 4], &[u8]), DecodeError> {
     match bytes.split_first_chunk() {
         Some((four, rest)) => Ok((*four, rest)),
         None => Err(DecodeError::Truncated),
     }
 }
 
-pub fn delimited_at(bytes: &[u8]) -> Result<(&[u8], &[u8]), DecodeError> {
+pub fn decode_delimited(bytes: &[u8]) -> Result<(&[u8], &[u8]), DecodeError> {
     let (len, rest) = decode_varint(bytes)?;
     if (rest.len() as u64) < len {
         return Err(DecodeError::Truncated);
