@@ -13,7 +13,7 @@ use Rattle.prost_reflect_wire.specs.declared.key.WireType.{WireType}
 use Rattle.prost_reflect_wire.specs.declared.key.WireType.TheVariants as wires
 use Rattle.prost_reflect_wire.specs.declared.error.DecodeError.TheVariants as errors
 use Rattle.prost_reflect_fields.specs.Items.{IsAscending}
-use Rattle.prost_reflect_fields.specs.FieldSlots.{value_in, records_in, value_at}
+use Rattle.prost_reflect_fields.specs.FieldSlots.{value_in, records_in, stored_at}
 use Rattle.prost_reflect_fields.specs.declared.slot.FieldSlot.{FieldSlot}
 use Rattle.prost_reflect_fields.specs.declared.slot.FieldSlot.TheVariants as slots
 use Rattle.prost_reflect_dynamic.specs.View.{value_of, content_of, payloads_of, stored_in}
@@ -28,7 +28,7 @@ ascends : (type : PooledType) (text : String Global) → IsAscending (stored_in 
 unfolding IsStrictlySortedBy
 ascends type text = ((refl, tt), (tt, tt))
 
-in_order : (type : PooledType) (text : String Global) (k : ℕ) (v : Value) → value_at (stored_in (sample_message type text)) k ≡ Some v → value_ordered (value_of v) ≡ true
+in_order : (type : PooledType) (text : String Global) (k : ℕ) (v : Value) → stored_at (stored_in (sample_message type text)) k ≡ Some v → value_ordered (value_of v) ≡ true
 in_order type text k v = go (is_eq (nat_cmp k 1)) (is_eq (nat_cmp k 3))
   where
     go : (b c : Bool) → option_and_then value_in (cond b (Some (slots.Value (values.String text))) (cond c (Some (slots.Value (values.I32 (pos 5)))) None)) ≡ Some v → value_ordered (value_of v) ≡ true

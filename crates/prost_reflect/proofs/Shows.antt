@@ -10,7 +10,7 @@ use Rattle.prost_reflect_wire.specs.Edit.{default_value}
 use Rattle.prost_reflect_wire.specs.Typing.{kept, kept_inside, is_field_default}
 use Rattle.prost_reflect_wire.proofs.Survivors.{field_number}
 use Rattle.prost_reflect_pool.specs.MessageTypes.{schema_at}
-use Rattle.prost_reflect_fields.specs.FieldSlots.{value_at as stored_at}
+use Rattle.prost_reflect_fields.specs.FieldSlots.{stored_at}
 use Rattle.prost_reflect_fields.specs.Known.{known_of}
 use Rattle.prost_reflect_dynamic.specs.Access.{ShowsOr, IsDefaultAt, ShownContent}
 use Rattle.prost_reflect_dynamic.specs.View.{value_of, content_of, message_type_of, stored_in}

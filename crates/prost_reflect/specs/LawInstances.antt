@@ -15,7 +15,7 @@ use Rattle.prost_reflect_laws.specs.Examples.Words.{hex}
 use Rattle.prost_reflect_laws.specs.Examples.Instances.{sample, stores_defaults}
 use Rattle.prost_reflect_pool.specs.declared.pooled_type.PooledType.{PooledType}
 use Rattle.prost_reflect_fields.specs.Items.{IsAscending}
-use Rattle.prost_reflect_fields.specs.FieldSlots.{value_at}
+use Rattle.prost_reflect_fields.specs.FieldSlots.{stored_at}
 use Rattle.prost_reflect_fields.specs.declared.slot.FieldSlot.{FieldSlot}
 use Rattle.prost_reflect_fields.specs.declared.slot.FieldSlot.TheVariants as slots
 use Rattle.prost_reflect_dynamic.specs.View.{value_of, content_of, stored_in}
@@ -38,7 +38,7 @@ pub record OfContentLaws : Type 0 where
   -- Numbers that ascend.
   pub message_slots : (type : PooledType) (text : String Global) → IsAscending (stored_in (sample_message type text))
   -- Values that are in order.
-  pub message_order : (type : PooledType) (text : String Global) → IsAscending (stored_in (sample_message type text)) × ((k : ℕ) (v : Value) → value_at (stored_in (sample_message type text)) k ≡ Some v → value_ordered (value_of v) ≡ true)
+  pub message_order : (type : PooledType) (text : String Global) → IsAscending (stored_in (sample_message type text)) × ((k : ℕ) (v : Value) → stored_at (stored_in (sample_message type text)) k ≡ Some v → value_ordered (value_of v) ≡ true)
   -- A field of the content's type.
   pub slots_after_set : (f : Field) × (field_of (fields_in sample) 2 ≡ Some f)
   -- Two messages whose texts are the same, and may lie in two places.

@@ -10,7 +10,7 @@ use Rattle.prost_reflect_wire.proofs.Survivors.{field_number}
 use Rattle.prost_reflect_laws.proofs.Arranged.{OrderedOption, table_ordered}
 use Rattle.prost_reflect_dynamic.specs.declared.value.Value.{Value}
 use Rattle.prost_reflect_pool.specs.MessageTypes.{schema_at, type_at}
-use Rattle.prost_reflect_fields.specs.FieldSlots.{value_at}
+use Rattle.prost_reflect_fields.specs.FieldSlots.{stored_at}
 use Rattle.prost_reflect_dynamic.specs.View.{value_of, entries_from}
 use Rattle.prost_reflect_dynamic.specs.Contents.{with_unknown}
 use Rattle.prost_reflect_dynamic.specs.KeptLaws.{MessageArranged}
@@ -73,7 +73,7 @@ message_order m s values =
     of (Some v) h = h v refl
 
     there : (n : ℕ) → OrderedOption (slot_at (entries_from (shown m.fields.1)) n).value
-    there n = subst (λ (slot : Slot). OrderedOption slot.value) (sym (slot_stored m.fields.1 n s)) (of (value_at m.fields.1 n) (values n))
+    there n = subst (λ (slot : Slot). OrderedOption slot.value) (sym (slot_stored m.fields.1 n s)) (of (stored_at m.fields.1 n) (values n))
 
 pub message_arranged : MessageArranged
 message_arranged m s =

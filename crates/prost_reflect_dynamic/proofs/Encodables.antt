@@ -18,7 +18,7 @@ use Rattle.prost_reflect_fields.specs.declared.slot.FieldSlot.{FieldSlot}
 use Rattle.prost_reflect_fields.specs.declared.slot.FieldSlot.TheVariants as entries
 use Rattle.prost_reflect_fields.specs.Items.{IsAscending, item_at}
 use Rattle.prost_reflect_fields.specs.Known.{known_of, all_kept, are_records_of, keeps_unknown, are_siblings}
-use Rattle.prost_reflect_fields.specs.FieldSlots.{value_in, records_in, value_at, has_value}
+use Rattle.prost_reflect_fields.specs.FieldSlots.{value_in, records_in, stored_at, has_value}
 use Rattle.prost_reflect_fields.specs.Sound.{IsSound, unknown_kept}
 use Rattle.prost_reflect_dynamic.specs.declared.message.DynamicMessage.{DynamicMessage}
 use Rattle.prost_reflect_dynamic.specs.declared.value.MapKey.{MapKey}
@@ -98,13 +98,13 @@ in_slot test n (entries.Value w) v h is = let same : w ≡ v = cc in subst (λ v
 in_slot test n (entries.Unknown u) v h is = cc
 in_slot test n (entries.Both w u) v h is = let same : w ≡ v = cc in subst (λ v. test (value_of v) ≡ true) same h
 
-at_slot : (test : contents.Value → Bool) (es : List (ℕ × FieldSlot Value)) → slots_pass (λ n v. test v) es ≡ true → (k : ℕ) (v : Value) → value_at es k ≡ Some v → test (value_of v) ≡ true
+at_slot : (test : contents.Value → Bool) (es : List (ℕ × FieldSlot Value)) → slots_pass (λ n v. test v) es ≡ true → (k : ℕ) (v : Value) → stored_at es k ≡ Some v → test (value_of v) ≡ true
 at_slot test [] h k v is = cc
 at_slot test (e ∷ es) h k v is =
     let (one, more) = and_parts (slot_passes (λ n v. test v) e.0 e.1) (slots_pass (λ n v. test v) es) h in
     go (is_eq (nat_cmp k e.0)) is one (at_slot test es more k v)
   where
-    go : (b : Bool) → option_and_then value_in (cond b (Some e.1) (item_at es k)) ≡ Some v → slot_passes (λ n v. test v) e.0 e.1 ≡ true → (value_at es k ≡ Some v → test (value_of v) ≡ true) → test (value_of v) ≡ true
+    go : (b : Bool) → option_and_then value_in (cond b (Some e.1) (item_at es k)) ≡ Some v → slot_passes (λ n v. test v) e.0 e.1 ≡ true → (stored_at es k ≡ Some v → test (value_of v) ≡ true) → test (value_of v) ≡ true
     go true is one rest = in_slot test e.0 e.1 v one is
     go false is one rest = rest is
 
@@ -116,23 +116,23 @@ module _ (m : DynamicMessage) (s : IsAscending (stored_in m)) (sound : IsSound (
   abbrev shown_entries : Entries
   shown_entries = entries_from (shown (stored_in m))
 
-  value_is : (k : ℕ) → contents.value_at k (entries_from (shown (stored_in m))) ≡ option_map value_of (value_at (stored_in m) k)
-  value_is k = sym (ap (λ c. contents.value_at k (entries_of c)) (content_of_message m)) ∙ ap (λ (slot : Slot). slot.value) (message_slots m k s)
+  value_is : (k : ℕ) → contents.stored_at k (entries_from (shown (stored_in m))) ≡ option_map value_of (stored_at (stored_in m) k)
+  value_is k = sym (ap (λ c. contents.stored_at k (entries_of c)) (content_of_message m)) ∙ ap (λ (slot : Slot). slot.value) (message_slots m k s)
 
   apart : Apart (known_of (message_type_of m)) (slot_at (entries_from (shown (stored_in m))))
   apart n k f v w found sibling here there =
-      let one : has_value (stored_in m) n ≡ true = some_of (value_at (stored_in m) n) v (sym (value_is n) ∙ here) in
-      let other : has_value (stored_in m) k ≡ true = some_of (value_at (stored_in m) k) w (sym (value_is k) ∙ there) in
+      let one : has_value (stored_in m) n ≡ true = some_of (stored_at (stored_in m) n) v (sym (value_is n) ∙ here) in
+      let other : has_value (stored_in m) k ≡ true = some_of (stored_at (stored_in m) k) w (sym (value_is k) ∙ there) in
       let siblings : are_siblings (known_of (message_type_of m)) n k ≡ true = ap (λ o. passes o (λ f. is_sibling (known_of (message_type_of m)) f k)) found ∙ sibling in
       true≢false (sym other ∙ sound.2 n k one siblings)
 
   order : contents.entries_ordered (entries_of (content_of m)) ≡ true
   order = message_order m s (λ k v is. (and_parts (value_ordered (value_of v)) (value_passes alone_test (value_of v)) (at_slot value_arranged (stored_in m) all k v is)).0)
 
-  inside : (n : ℕ) (v : contents.Value) → contents.value_at n (entries_from (shown (stored_in m))) ≡ Some v → value_passes alone_test v ≡ true
-  inside n v is = mapped (value_at (stored_in m) n) refl (sym (value_is n) ∙ is)
+  inside : (n : ℕ) (v : contents.Value) → contents.stored_at n (entries_from (shown (stored_in m))) ≡ Some v → value_passes alone_test v ≡ true
+  inside n v is = mapped (stored_at (stored_in m) n) refl (sym (value_is n) ∙ is)
     where
-      mapped : (o : Option Value) → value_at (stored_in m) n ≡ o → option_map value_of o ≡ Some v → value_passes alone_test v ≡ true
+      mapped : (o : Option Value) → stored_at (stored_in m) n ≡ o → option_map value_of o ≡ Some v → value_passes alone_test v ≡ true
       mapped None e h = cc
       mapped (Some w) e h =
           let same : value_of w ≡ v = cc in

@@ -6,7 +6,7 @@ use Rattle.prost_reflect_wire.specs.Content.{Slot, entries_of, value_at}
 use Rattle.prost_reflect_wire.specs.Typing.{kept, kept_inside, kept_value, is_field_default}
 use Rattle.prost_reflect_fields.specs.declared.slot.FieldSlot.{FieldSlot}
 use Rattle.prost_reflect_fields.specs.Items.{IsAscending}
-use Rattle.prost_reflect_fields.specs.FieldSlots.{value_at as stored_at}
+use Rattle.prost_reflect_fields.specs.FieldSlots.{stored_at}
 use Rattle.prost_reflect_fields.specs.Known.{known_of}
 use Rattle.prost_reflect_dynamic.specs.declared.message.DynamicMessage.{DynamicMessage}
 use Rattle.prost_reflect_dynamic.specs.declared.value.Value.{Value}

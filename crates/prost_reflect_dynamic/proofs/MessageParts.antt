@@ -21,7 +21,7 @@ use Rattle.prost_reflect_pool.specs.MessageTypes.{SameMessage, schema_at, type_a
 use Rattle.prost_reflect_fields.specs.declared.slot.FieldSlot.{FieldSlot}
 use Rattle.prost_reflect_fields.specs.Items.{IsAscending, put_item}
 use Rattle.prost_reflect_fields.specs.Known.{known_of, are_siblings}
-use Rattle.prost_reflect_fields.specs.FieldSlots.{value_at, records_at}
+use Rattle.prost_reflect_fields.specs.FieldSlots.{stored_at, records_at}
 use Rattle.prost_reflect_fields.specs.Sound.{Sound}
 use Rattle.prost_reflect_fields.specs.NumberSets.{has, HasWholeOneofs, is_chosen, put_chosen, AreReplaced}
 use Rattle.prost_reflect_fields.proofs.Siblings.{known_differ, siblings_back}
@@ -55,7 +55,7 @@ module _ (numbers : BTreeSet ℕ) (old others new : Slots) (replaced : AreReplac
       (λ i. record { value = option_map value_of (values_replaced numbers old others new replaced n i); unknowns = payloads_of (unwrap_or (records_replaced numbers old others new replaced n i) []) })
       ∙ cases (has numbers n)
     where
-      cases : (b : Bool) → record { value = option_map value_of (cond b (value_at others n) (value_at old n)); unknowns = payloads_of (unwrap_or (cond b (records_at others n) (records_at old n)) []) }
+      cases : (b : Bool) → record { value = option_map value_of (cond b (stored_at others n) (stored_at old n)); unknowns = payloads_of (unwrap_or (cond b (records_at others n) (records_at old n)) []) }
           ≡ cond b (stored_slot others n) (stored_slot old n)
       cases true = refl
       cases false = refl

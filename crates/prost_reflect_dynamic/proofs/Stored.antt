@@ -22,7 +22,7 @@ use Rattle.prost_reflect_dynamic.specs.declared.value.Value.TheViews.{roll-Dynam
 use Rattle.prost_reflect_pool.specs.MessageTypes.{schema_at, type_at}
 use Rattle.prost_reflect_fields.specs.Items.{IsAscending, item_at}
 use Rattle.prost_reflect_fields.specs.Known.{known_of, is_known, are_siblings}
-use Rattle.prost_reflect_fields.specs.FieldSlots.{value_in, records_in, value_at, records_at, put_value, clear_value, with_value as with_value_at, SameStored, UnknownAdded}
+use Rattle.prost_reflect_fields.specs.FieldSlots.{value_in, records_in, stored_at, records_at, put_value, clear_value, with_value as with_value_at, SameStored, UnknownAdded}
 use Rattle.prost_reflect_fields.specs.Sound.{Sound, set_value_at, prepared}
 use Rattle.prost_reflect_dynamic.specs.View.{value_of, content_of, entries_from, payloads_of, written_at}
 use Rattle.prost_reflect_dynamic.specs.Contents.{value_set, value_cleared, with_unknown, unknown_added}
@@ -49,7 +49,7 @@ item_shown (e ∷ es) k = cases (is_at (nat_cmp k) e.0) (item_shown es k)
 
 -- what is stored at a number, shown
 abbrev pub stored_slot : List (ℕ × FieldSlot Value) → ℕ → Slot
-stored_slot es k = record { value = option_map value_of (value_at es k); unknowns = payloads_of (unwrap_or (records_at es k) []) }
+stored_slot es k = record { value = option_map value_of (stored_at es k); unknowns = payloads_of (unwrap_or (records_at es k) []) }
 
 slot_shown : (o : Option (FieldSlot Value)) → slot_in (option_map shown_entry o) ≡ record { value = option_map value_of (option_and_then value_in o); unknowns = payloads_of (unwrap_or (option_and_then records_in o) []) }
 slot_shown None = refl
@@ -68,7 +68,7 @@ content_from d es = ContentOf (schema_at d) (type_at d) (entries_from (shown es)
 pub slot_of_message : (m : DynamicMessage) (k : ℕ) → IsAscending m.fields.1 → slot_at (entries_of (content_of m)) k ≡ stored_slot m.fields.1 k
 slot_of_message m k s = ap (λ c. slot_at (entries_of c) k) (content_of_message m) ∙ slot_stored m.fields.1 k s
 
-pub value_of_message : (m : DynamicMessage) (k : ℕ) → IsAscending m.fields.1 → option_map value_of (value_at m.fields.1 k) ≡ contents.value_at k (entries_of (content_of m))
+pub value_of_message : (m : DynamicMessage) (k : ℕ) → IsAscending m.fields.1 → option_map value_of (stored_at m.fields.1 k) ≡ contents.stored_at k (entries_of (content_of m))
 value_of_message m k s = ap (λ (slot : Slot). slot.value) (sym (slot_of_message m k s))
 
 -- SETTING
@@ -88,12 +88,12 @@ module _ (d : PooledType) (es : List (ℕ × FieldSlot Value)) (n : ℕ) (v : Va
   set_there f k found =
       slot_stored (set_value_at (known_of d) es n v) k ascending_set
       ∙ (λ i. record { value = option_map value_of (value_set_at (known_of d) es n v k s i); unknowns = payloads_of (unwrap_or (records_set_at (known_of d) es n v k s i) []) })
-      ∙ ap (λ o. record { value = option_map value_of (cond (nat_eq k n) (Some v) (cond (passes o (λ f. is_sibling (known_of d) f k)) None (value_at es k))); unknowns = payloads_of (unwrap_or (records_at es k) []) }) found
+      ∙ ap (λ o. record { value = option_map value_of (cond (nat_eq k n) (Some v) (cond (passes o (λ f. is_sibling (known_of d) f k)) None (stored_at es k))); unknowns = payloads_of (unwrap_or (records_at es k) []) }) found
       ∙ cases (nat_eq k n) (is_sibling (known_of d) f k)
       ∙ ap (λ z. cond (nat_eq k z) (with_value (Some (value_of v)) (stored_slot es k)) (cond (is_sibling (known_of d) f k) (with_value None (stored_slot es k)) (stored_slot es k))) (sym (field_number (known_of d) n f found))
       ∙ ap (λ slot. cond (nat_eq k f.number) (with_value (Some (value_of v)) slot) (cond (is_sibling (known_of d) f k) (with_value None slot) slot)) (sym (slot_stored es k s))
     where
-      cases : (a b : Bool) → record { value = option_map value_of (cond a (Some v) (cond b None (value_at es k))); unknowns = payloads_of (unwrap_or (records_at es k) []) }
+      cases : (a b : Bool) → record { value = option_map value_of (cond a (Some v) (cond b None (stored_at es k))); unknowns = payloads_of (unwrap_or (records_at es k) []) }
           ≡ cond a (with_value (Some (value_of v)) (stored_slot es k)) (cond b (with_value None (stored_slot es k)) (stored_slot es k))
       cases true b = refl
       cases false true = refl
@@ -121,7 +121,7 @@ content_cleared d es n s = ap (ContentOf (schema_at d) (type_at d)) (changed_fro
     still : (k : ℕ) → nat_eq k n ≡ false → cond (nat_eq k n) (with_value None empty_slot) empty_slot ≡ empty_slot
     still k apart = ap (λ b. cond b (with_value None empty_slot) empty_slot) apart
 
-    cases : (k : ℕ) (b : Bool) → record { value = option_map value_of (cond b None (value_at es k)); unknowns = payloads_of (unwrap_or (records_at es k) []) } ≡ cond b (with_value None (stored_slot es k)) (stored_slot es k)
+    cases : (k : ℕ) (b : Bool) → record { value = option_map value_of (cond b None (stored_at es k)); unknowns = payloads_of (unwrap_or (records_at es k) []) } ≡ cond b (with_value None (stored_slot es k)) (stored_slot es k)
     cases k true = refl
     cases k false = refl
 
@@ -194,13 +194,13 @@ module _ (m : DynamicMessage) (p : Kept) where
 -- WRITING ACCESS
 
 -- what is lent is what was stored, or the default
-pub prepared_value : (fields : List Field) (es : List (ℕ × FieldSlot Value)) (n : ℕ) (default v : Value) → IsAscending es → value_at (prepared fields es n default) n ≡ Some v → v ≡ unwrap_or (value_at es n) default
-prepared_value fields es n default v s h = cases (value_at es n) refl h
+pub prepared_value : (fields : List Field) (es : List (ℕ × FieldSlot Value)) (n : ℕ) (default v : Value) → IsAscending es → stored_at (prepared fields es n default) n ≡ Some v → v ≡ unwrap_or (stored_at es n) default
+prepared_value fields es n default v s h = cases (stored_at es n) refl h
   where
     one : (x y : Value) → Some x ≡ Some y → y ≡ x
     one x y e = cc
 
-    cases : (o : Option Value) → value_at es n ≡ o → value_at (cond (is_some o) es (set_value_at fields es n default)) n ≡ Some v → v ≡ unwrap_or o default
+    cases : (o : Option Value) → stored_at es n ≡ o → stored_at (cond (is_some o) es (set_value_at fields es n default)) n ≡ Some v → v ≡ unwrap_or o default
     cases None at h = one default v (sym (value_set_here fields es n default s) ∙ h)
     cases (Some w) at h = one w v (sym at ∙ h)
 
@@ -209,10 +209,10 @@ unwrapped None default = refl
 unwrapped (Some v) default = refl
 
 -- the value that is lent
-pub value_lent : (m : DynamicMessage) (n : ℕ) (default v : Value) → IsAscending m.fields.1 → value_at (prepared (known_of m.fields.0) m.fields.1 n default) n ≡ Some v
-    → value_of v ≡ unwrap_or (contents.value_at n (entries_of (content_of m))) (value_of default)
+pub value_lent : (m : DynamicMessage) (n : ℕ) (default v : Value) → IsAscending m.fields.1 → stored_at (prepared (known_of m.fields.0) m.fields.1 n default) n ≡ Some v
+    → value_of v ≡ unwrap_or (contents.stored_at n (entries_of (content_of m))) (value_of default)
 value_lent m n default v s h =
-    ap value_of (prepared_value (known_of m.fields.0) m.fields.1 n default v s h) ∙ unwrapped (value_at m.fields.1 n) default
+    ap value_of (prepared_value (known_of m.fields.0) m.fields.1 n default v s h) ∙ unwrapped (stored_at m.fields.1 n) default
     ∙ ap (λ o. unwrap_or o (value_of default)) (value_of_message m n s)
 
 -- what is left where the lent value was written over

@@ -18,7 +18,7 @@ use Rattle.prost_reflect_fields.specs.declared.slot.FieldSlot.{FieldSlot}
 use Rattle.prost_reflect_fields.specs.declared.slot.FieldSlot.TheVariants as entries
 use Rattle.prost_reflect_fields.specs.Items.{IsAscending, item_at}
 use Rattle.prost_reflect_fields.specs.Known.{known_of, are_siblings}
-use Rattle.prost_reflect_fields.specs.FieldSlots.{value_in, value_at, has_value, UnknownAdded}
+use Rattle.prost_reflect_fields.specs.FieldSlots.{value_in, stored_at, has_value, UnknownAdded}
 use Rattle.prost_reflect_fields.specs.NumberSets.{has, AreReplaced}
 use Rattle.prost_reflect_fields.specs.Sound.{set_value_at, prepared}
 use Rattle.prost_reflect_fields.proofs.ItemChanges.{Apart, by_number, at_each, itself, none_above}
@@ -51,7 +51,7 @@ TypedAt d n None = Unit {0}
 TypedAt d n (Some v) = typed_at d n (value_stored v) ≡ true
 
 abbrev pub AllTyped : PooledType → Slots → Type 0
-AllTyped d es = (n : ℕ) → TypedAt d n (value_at es n)
+AllTyped d es = (n : ℕ) → TypedAt d n (stored_at es n)
 
 abbrev typed_in : PooledType → StoredEntries → Bool
 typed_in d es = entries_typed (pool_contents d.pool) (pool_rows d.pool) (known_of d) es
@@ -105,19 +105,19 @@ still_typed a b c first second = record { typed = λ h. second.typed (first.type
 -- SETTING
 
 -- apart from the number stands what stood there, or nothing
-set_apart : (d : PooledType) (es : Slots) (n : ℕ) (v : Value) → IsAscending es → AllTyped d es → (k : ℕ) → Apart n k → TypedAt d k (value_at (set_value_at (known_of d) es n v) k)
+set_apart : (d : PooledType) (es : Slots) (n : ℕ) (v : Value) → IsAscending es → AllTyped d es → (k : ℕ) → Apart n k → TypedAt d k (stored_at (set_value_at (known_of d) es n v) k)
 set_apart d es n v s each k apart = subst (TypedAt d k) (sym (value_set_at (known_of d) es n v k s)) (cases (nat_eq k n) refl (are_siblings (known_of d) n k))
   where
     differ : k ≡ n → false ≡ true
     differ is = sym apart ∙ ap is_eq (ap (nat_cmp n) is ∙ itself n)
 
-    cases : (a : Bool) → nat_eq k n ≡ a → (b : Bool) → TypedAt d k (cond a (Some v) (cond b None (value_at es k)))
+    cases : (a : Bool) → nat_eq k n ≡ a → (b : Bool) → TypedAt d k (cond a (Some v) (cond b None (stored_at es k)))
     cases true at b = absurd (true≢false (sym (differ (eqb-true k n at))))
     cases false at true = tt
     cases false at false = each k
 
 set_each : (d : PooledType) (es : Slots) (n : ℕ) (v : Value) → IsAscending es → typed_at d n (value_stored v) ≡ true → AllTyped d es → AllTyped d (set_value_at (known_of d) es n v)
-set_each d es n v s here each = at_each (λ k. TypedAt d k (value_at (set_value_at (known_of d) es n v) k)) n (subst (TypedAt d n) (sym (value_set (known_of d) es n v s)) here) (set_apart d es n v s each)
+set_each d es n v s here each = at_each (λ k. TypedAt d k (stored_at (set_value_at (known_of d) es n v) k)) n (subst (TypedAt d n) (sym (value_set (known_of d) es n v s)) here) (set_apart d es n v s each)
 
 -- the message with other slots
 module _ (m : DynamicMessage) (p : Kept) where
@@ -146,10 +146,10 @@ module _ (m : DynamicMessage) (n : ℕ) (default : Value) (s : IsAscending (stor
       cases true = s
       cases false = ascending_set_at (known_of (message_type_of m)) (stored_in m) n default s
 
-  there_apart : AllTyped (message_type_of m) (stored_in m) → (k : ℕ) → Apart n k → TypedAt (message_type_of m) k (value_at (prepared (known_of (message_type_of m)) (stored_in m) n default) k)
+  there_apart : AllTyped (message_type_of m) (stored_in m) → (k : ℕ) → Apart n k → TypedAt (message_type_of m) k (stored_at (prepared (known_of (message_type_of m)) (stored_in m) n default) k)
   there_apart each k apart = cases (has_value (stored_in m) n)
     where
-      cases : (b : Bool) → TypedAt (message_type_of m) k (value_at (cond b (stored_in m) (set_value_at (known_of (message_type_of m)) (stored_in m) n default)) k)
+      cases : (b : Bool) → TypedAt (message_type_of m) k (stored_at (cond b (stored_in m) (set_value_at (known_of (message_type_of m)) (stored_in m) n default)) k)
       cases true = each k
       cases false = set_apart (message_type_of m) (stored_in m) n default s each k apart
 
@@ -157,31 +157,31 @@ module _ (m : DynamicMessage) (n : ℕ) (default : Value) (s : IsAscending (stor
   ascending_written v = ascending_with_value (prepared (known_of (message_type_of m)) (stored_in m) n default) n v ascending_there
 
   -- where the value at the number is typed once it was written over
-  pub written_typed : (v : Value) → (all_typed (message_stored m) ≡ true → TypedAt (message_type_of m) n (value_at (stored_in (written_at m n default v)) n)) → StaysTyped m (written_at m n default v)
+  pub written_typed : (v : Value) → (all_typed (message_stored m) ≡ true → TypedAt (message_type_of m) n (stored_at (stored_in (written_at m n default v)) n)) → StaysTyped m (written_at m n default v)
   written_typed v here = record {
     typed = λ h. message_typed (written_at m n default v) (ascending_written v)
-        (at_each (λ k. TypedAt (message_type_of m) k (value_at (stored_in (written_at m n default v)) k)) n (here h)
+        (at_each (λ k. TypedAt (message_type_of m) k (stored_at (stored_in (written_at m n default v)) k)) n (here h)
         (λ k apart. subst (TypedAt (message_type_of m) k) (sym (value_written_apart (prepared (known_of (message_type_of m)) (stored_in m) n default) n k v apart)) (there_apart (values_typed m h) k apart)));
   }
 
-  here_written : (v : Value) → typed_at (message_type_of m) n (value_stored v) ≡ true → TypedAt (message_type_of m) n (value_at (stored_in (written_at m n default v)) n)
+  here_written : (v : Value) → typed_at (message_type_of m) n (value_stored v) ≡ true → TypedAt (message_type_of m) n (stored_at (stored_in (written_at m n default v)) n)
   here_written v here =
-      subst (TypedAt (message_type_of m) n) (sym (value_written (prepared (known_of (message_type_of m)) (stored_in m) n default) n v)) (cases (value_at (prepared (known_of (message_type_of m)) (stored_in m) n default) n))
+      subst (TypedAt (message_type_of m) n) (sym (value_written (prepared (known_of (message_type_of m)) (stored_in m) n default) n v)) (cases (stored_at (prepared (known_of (message_type_of m)) (stored_in m) n default) n))
     where
       cases : (o : Option Value) → TypedAt (message_type_of m) n (option_map (λ _. v) o)
       cases None = tt
       cases (Some w) = here
 
   -- what is lent is typed where the message is
-  lent_typed : (v : Value) → v ≡ unwrap_or (value_at (stored_in m) n) default → typed_at (message_type_of m) n (value_stored default) ≡ true → all_typed (message_stored m) ≡ true → typed_at (message_type_of m) n (value_stored v) ≡ true
-  lent_typed v lent empty h = subst (λ w. typed_at (message_type_of m) n (value_stored w) ≡ true) (sym lent) (cases (value_at (stored_in m) n) (values_typed m h n))
+  lent_typed : (v : Value) → v ≡ unwrap_or (stored_at (stored_in m) n) default → typed_at (message_type_of m) n (value_stored default) ≡ true → all_typed (message_stored m) ≡ true → typed_at (message_type_of m) n (value_stored v) ≡ true
+  lent_typed v lent empty h = subst (λ w. typed_at (message_type_of m) n (value_stored w) ≡ true) (sym lent) (cases (stored_at (stored_in m) n) (values_typed m h n))
     where
       cases : (o : Option Value) → TypedAt (message_type_of m) n o → typed_at (message_type_of m) n (value_stored (unwrap_or o default)) ≡ true
       cases None here = empty
       cases (Some w) here = here
 
   -- the value that was lent was changed, and stays typed
-  pub lent_step : (v w : Value) → v ≡ unwrap_or (value_at (stored_in m) n) default → typed_at (message_type_of m) n (value_stored default) ≡ true
+  pub lent_step : (v w : Value) → v ≡ unwrap_or (stored_at (stored_in m) n) default → typed_at (message_type_of m) n (value_stored default) ≡ true
       → (typed_at (message_type_of m) n (value_stored v) ≡ true → typed_at (message_type_of m) n (value_stored w) ≡ true) → StaysTyped m (written_at m n default w)
   lent_step v w lent empty step = written_typed w (λ h. here_written w (step (lent_typed v lent empty h)))
 
@@ -197,7 +197,7 @@ value_same a b n (Some v) same h = sym (type_same a b n (value_stored v) same) �
 chosen_typed : (d : PooledType) (numbers : BTreeSet ℕ) (old others new : Slots) → AreReplaced numbers old others new → AllTyped d old → AllTyped d others → AllTyped d new
 chosen_typed d numbers old others new replaced o q n = subst (TypedAt d n) (sym (values_replaced numbers old others new replaced n)) (cases (has numbers n))
   where
-    cases : (b : Bool) → TypedAt d n (cond b (value_at others n) (value_at old n))
+    cases : (b : Bool) → TypedAt d n (cond b (stored_at others n) (stored_at old n))
     cases true = q n
     cases false = o n
 
@@ -206,7 +206,7 @@ pub replaced_typed : (numbers : BTreeSet ℕ) (m others : DynamicMessage) (p : K
     → all_typed (message_stored others) ≡ true → StaysTyped m (roll-DynamicMessage (record { fields = p }))
 replaced_typed numbers m others p type same replaced typed =
     of_slots m p same replaced.ascends
-    (λ each. chosen_typed m.fields.0 numbers m.fields.1 others.fields.1 p.1 replaced each (λ n. value_same m.fields.0 others.fields.0 n (value_at others.fields.1 n) type (values_typed others typed n)))
+    (λ each. chosen_typed m.fields.0 numbers m.fields.1 others.fields.1 p.1 replaced each (λ n. value_same m.fields.0 others.fields.0 n (stored_at others.fields.1 n) type (values_typed others typed n)))
 
 -- a part that was copied
 pub part_typed : (numbers : BTreeSet ℕ) (m : DynamicMessage) (p : Kept) → SameMessage m.fields.0 p.0 → IsAscending m.fields.1 → parts_of p.1 ≡ parts_of (part numbers m.fields.1) → StaysTyped m (roll-DynamicMessage (record { fields = p }))

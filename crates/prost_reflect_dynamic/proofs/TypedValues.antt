@@ -27,7 +27,7 @@ use Rattle.prost_reflect_pool.specs.declared.pooled_type.PooledType.{PooledType}
 use Rattle.prost_reflect_pool.proofs.EqualTypes.{rows_same}
 use Rattle.prost_reflect_fields.specs.Items.{IsAscending}
 use Rattle.prost_reflect_fields.specs.Known.{known_of}
-use Rattle.prost_reflect_fields.specs.FieldSlots.{value_at}
+use Rattle.prost_reflect_fields.specs.FieldSlots.{stored_at}
 use Rattle.prost_reflect_dynamic.specs.ContentLaws.{compare_keys}
 use Rattle.prost_reflect_dynamic.specs.declared.message.DynamicMessage.{DynamicMessage}
 use Rattle.prost_reflect_dynamic.specs.declared.value.MapKey.{MapKey}
@@ -108,16 +108,16 @@ listed_alone files rows place kind (StoredInside m) listed valid = absurd listed
 listed_alone files rows place kind (StoredList vs) listed valid = items_alone files rows place kind vs valid
 listed_alone files rows place kind (StoredMap ps) listed valid = absurd listed
 
-elements_fit : (c : Content) (n : ℕ) (f : Field) (packed : Bool) → WellStored c → field_of (known (schema_of c) (type_of c)) n ≡ Some f → f.form ≡ Repeated packed → ListFits f.value_type.kind (contents.value_at n (entries_of c))
+elements_fit : (c : Content) (n : ℕ) (f : Field) (packed : Bool) → WellStored c → field_of (known (schema_of c) (type_of c)) n ≡ Some f → f.form ≡ Repeated packed → ListFits f.value_type.kind (contents.stored_at n (entries_of c))
 elements_fit (ContentOf schema T es) n f packed sound found form =
     let number : f.number ≡ n = field_number (known schema T) n f found in
-    subst (λ m. ListFits f.value_type.kind (contents.value_at m es)) number (list_fits (known schema T) es f packed sound.fits (ap (field_of (known schema T)) number ∙ found) form)
+    subst (λ m. ListFits f.value_type.kind (contents.stored_at m es)) number (list_fits (known schema T) es f packed sound.fits (ap (field_of (known schema T)) number ∙ found) form)
 
 -- a list of scalars that fits holds no message
-list_typed : (m : DynamicMessage) (n : ℕ) (kind : TableKind) → IsAscending (stored_in m) → WellStored (content_of m) → ListField (known_of (message_type_of m)) n kind → TypedAt (message_type_of m) n (value_at (stored_in m) n)
+list_typed : (m : DynamicMessage) (n : ℕ) (kind : TableKind) → IsAscending (stored_in m) → WellStored (content_of m) → ListField (known_of (message_type_of m)) n kind → TypedAt (message_type_of m) n (stored_at (stored_in m) n)
 list_typed m n kind s sound at =
-    cases (value_at (stored_in m) n)
-    (subst (λ k. ListFits k (option_map value_of (value_at (stored_in m) n))) at.kind_is
+    cases (stored_at (stored_in m) n)
+    (subst (λ k. ListFits k (option_map value_of (stored_at (stored_in m) n))) at.kind_is
     (subst (ListFits at.field.value_type.kind) (sym (value_of_message m n s)) (elements_fit (content_of m) n at.field at.packed sound (ap (λ fields. field_of fields n) (known_in m) ∙ at.found) at.form)))
   where
     cases : (o : Option Value) → ListFits (ScalarOf at.scalar_kind) (option_map value_of o) → TypedAt (message_type_of m) n o
@@ -307,7 +307,7 @@ pub entry_typed_as : (d : PooledType) (n : ℕ) (key : TableKind) (T : ℕ) → 
 entry_typed_as d n key T at s = ap (λ p. typed_as d p s) (ap (λ o. place_for o (StoredMap NoPairs)) at.found ∙ ap kind_place at.value_is)
 
 -- the message that was lent was read into
-pub message_step : (m : DynamicMessage) (n T : ℕ) (g : Bool) (default v w : Value) → IsAscending (stored_in m) → NestedField (message_type_of m) n T g → v ≡ unwrap_or (value_at (stored_in m) n) default
+pub message_step : (m : DynamicMessage) (n T : ℕ) (g : Bool) (default v w : Value) → IsAscending (stored_in m) → NestedField (message_type_of m) n T g → v ≡ unwrap_or (stored_at (stored_in m) n) default
     → typed_as (message_type_of m) (Some T) (value_stored default) ≡ true → ValueStaysTyped v w → StaysTyped m (written_at m n default w)
 message_step m n T g default v w s at lent empty stays =
     let d = message_type_of m in

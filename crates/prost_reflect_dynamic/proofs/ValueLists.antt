@@ -11,7 +11,7 @@ use Rattle.prost_reflect_wire.specs.Schema.{Field, field_of, passes}
 use Rattle.prost_reflect_wire.specs.Typing.{kept_inside, kept_value, is_field_default}
 use Rattle.prost_reflect_fields.specs.declared.slot.FieldSlot.{FieldSlot}
 use Rattle.prost_reflect_fields.specs.declared.slot.FieldSlot.TheVariants as entries
-use Rattle.prost_reflect_fields.specs.FieldSlots.{value_in, value_at, numbered, values_where}
+use Rattle.prost_reflect_fields.specs.FieldSlots.{value_in, stored_at, numbered, values_where}
 use Rattle.prost_reflect_fields.specs.Items.{IsAscending, item_at}
 use Rattle.prost_reflect_fields.specs.Known.{known_of, is_known, is_listed}
 use Rattle.prost_reflect_fields.specs.Sound.{IsSound}
@@ -111,7 +111,7 @@ pub had_listed : (x : Bool) (m : DynamicMessage) → IsAscending (stored_in m) �
 had_listed x m s sound =
     sym (by_keys (λ n o. numbered n (option_and_then (had_in x fields n) o)) es s)
     ∙ sym (flat_same (λ n. flat_map here (flat_map (number_listed x) (present_of_item fields n (item_at es n)))) (λ n. numbered n (option_and_then (had_in x fields n) (item_at es n))) (keys_of es)
-    (λ n. item_listed x fields n here (item_at es n) (sound.0 n) (ap (numbered n) (had_found m n (value_at es n) s refl))))
+    (λ n. item_listed x fields n here (item_at es n) (sound.0 n) (ap (numbered n) (had_found m n (stored_at es n) s refl))))
     ∙ sym (flat_flat here (λ n. flat_map (number_listed x) (present_of_item fields n (item_at es n))) (keys_of es))
     ∙ ap (flat_map here) (sym (flat_flat (number_listed x) (λ n. present_of_item fields n (item_at es n)) (keys_of es)))
     ∙ ap (λ l. flat_map here (flat_map (number_listed x) l)) (sym (present_items m s))

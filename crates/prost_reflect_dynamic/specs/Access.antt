@@ -13,7 +13,7 @@ use Rattle.prost_reflect_pool.specs.MessageTypes.{schema_at, fields_of}
 use Rattle.prost_reflect_pool.specs.declared.pooled_type.PooledType.{PooledType}
 use Rattle.prost_reflect_fields.specs.Items.{IsAscending}
 use Rattle.prost_reflect_fields.specs.Known.{known_of}
-use Rattle.prost_reflect_fields.specs.FieldSlots.{value_at as stored_at}
+use Rattle.prost_reflect_fields.specs.FieldSlots.{stored_at}
 use Rattle.prost_reflect_dynamic.specs.Named.{NamesEqual}
 use Rattle.prost_reflect_dynamic.specs.NamedField.{row_at}
 use Rattle.prost_reflect_dynamic.specs.NamedFields as named

@@ -12,7 +12,7 @@ use Rattle.prost_reflect_wire.specs.Edit.{with_value}
 use Rattle.prost_reflect_wire.specs.Meaning.{put}
 use Rattle.prost_reflect_dynamic.specs.contracts.value.MapKeyOrd.TheImpl as key_order
 use Rattle.prost_reflect_fields.specs.Items.{IsAscending}
-use Rattle.prost_reflect_fields.specs.FieldSlots.{value_at, records_at}
+use Rattle.prost_reflect_fields.specs.FieldSlots.{stored_at, records_at}
 use Rattle.prost_reflect_dynamic.specs.View.{value_of, content_of, key_of, payloads_of, pairs_from, stored_in}
 use Rattle.prost_reflect_dynamic.specs.Contents.{value_set, value_cleared, unknown_added, with_unknown}
 use Rattle.prost_reflect_dynamic.specs.declared.value.MapKey.{MapKey}
@@ -39,11 +39,11 @@ pub record ValueViews : Type 0 where
 -- A message has at a number what it stores there.
 abbrev pub MessageSlots : Type 0
 MessageSlots = (m : DynamicMessage) (k : ℕ) → IsAscending (stored_in m)
-    → slot_at (entries_of (content_of m)) k ≡ record { value = option_map value_of (value_at (stored_in m) k); unknowns = payloads_of (unwrap_or (records_at (stored_in m) k) []) }
+    → slot_at (entries_of (content_of m)) k ≡ record { value = option_map value_of (stored_at (stored_in m) k); unknowns = payloads_of (unwrap_or (records_at (stored_in m) k) []) }
 
 -- The numbers of a message ascend, and what it has is in order where its values are.
 abbrev pub MessageOrder : Type 0
-MessageOrder = (m : DynamicMessage) → IsAscending (stored_in m) → ((k : ℕ) (v : Value) → value_at (stored_in m) k ≡ Some v → value_ordered (value_of v) ≡ true) → entries_ordered (entries_of (content_of m)) ≡ true
+MessageOrder = (m : DynamicMessage) → IsAscending (stored_in m) → ((k : ℕ) (v : Value) → stored_at (stored_in m) k ≡ Some v → value_ordered (value_of v) ≡ true) → entries_ordered (entries_of (content_of m)) ≡ true
 
 -- At each number after a set, a clearing, and an unknown record.
 abbrev pub SlotsAfterSet : Type 0

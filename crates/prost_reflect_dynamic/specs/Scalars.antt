@@ -17,28 +17,14 @@ use Rattle.prost_reflect_tables.specs.declared.tables.TableKind.{TableKind}
 use Rattle.prost_reflect_tables.specs.declared.tables.TableKind.TheVariants.{Enum}
 use Rattle.prost_reflect_tables.specs.Rows.{FieldRow, EnumRow}
 use Rattle.prost_reflect_tables.specs.Shown.{schema_kind, own_type}
+pub use Rattle.prost_reflect_tables.specs.Scalars.{scalar_of}
 pub use Rattle.prost_reflect_tables.specs.WrittenDefaults.{plain_kind}
 use Rattle.prost_reflect_pool.specs.SharedPools.{pool_rows}
 use Rattle.prost_reflect_fields.specs.Known.{known_of}
 use Rattle.prost_reflect_pool.specs.Enums.{numbers_or_none}
 use Rattle.prost_reflect_pool.specs.declared.pooled_type.PooledType.{PooledType}
 use Rattle.prost_reflect_dynamic.specs.declared.value.Value.{Value}
-use Rattle.prost_reflect_dynamic.specs.declared.value.scalar.ScalarRef.{ScalarRef}
-use Rattle.prost_reflect_dynamic.specs.declared.value.scalar.ScalarRef.TheVariants as borrowed
 use Rattle.prost_reflect_dynamic.specs.View.{value_of}
-
--- The scalar that is borrowed.
-abbrev pub scalar_of : ScalarRef → Scalar
-scalar_of (borrowed.Bool b) = scalars.Boolean b
-scalar_of (borrowed.I32 z) = scalars.I32 z
-scalar_of (borrowed.I64 z) = scalars.I64 z
-scalar_of (borrowed.U32 n) = scalars.U32 n
-scalar_of (borrowed.U64 n) = scalars.U64 n
-scalar_of (borrowed.F32 n) = scalars.F32 n
-scalar_of (borrowed.F64 n) = scalars.F64 n
-scalar_of (borrowed.String text) = scalars.Text text.now
-scalar_of (borrowed.Bytes bytes) = scalars.Bytes bytes.now
-scalar_of (borrowed.EnumNumber z) = scalars.EnumNumber z
 
 -- The scalar that a value is, if it is one.
 abbrev pub scalar_in : content.Value → Option Scalar

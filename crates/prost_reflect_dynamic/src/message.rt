@@ -14,7 +14,7 @@ ghost use Rattle.prost_reflect_fields.specs.Items.{IsAscending};
 ghost use Rattle.prost_reflect_fields.specs.ItemsLeft.{items_left};
 ghost use Rattle.prost_reflect_fields.specs.Known.{known_of, is_known, keeps_unknown};
 ghost use Rattle.prost_reflect_fields.specs.NumberSets.{has, HasWholeOneofs};
-ghost use Rattle.prost_reflect_fields.specs.FieldSlots.{value_at as stored_at, records_at};
+ghost use Rattle.prost_reflect_fields.specs.FieldSlots.{stored_at, records_at};
 ghost use Rattle.prost_reflect_fields.specs.Sound.{IsSound};
 ghost use Rattle.prost_reflect_dynamic.specs.declared.value.Value.{Value};
 ghost use Rattle.prost_reflect_dynamic.specs.View.{content_of, value_of, message_type_of, stored_in, written_at};

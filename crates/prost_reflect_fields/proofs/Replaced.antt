@@ -8,7 +8,7 @@ use Rattle.prost_reflect_wire.specs.Schema.{Field, numbers_differ}
 use Rattle.prost_reflect_fields.specs.declared.slot.FieldSlot.{FieldSlot}
 use Rattle.prost_reflect_fields.specs.Items.{IsAscending, item_at, put_item}
 use Rattle.prost_reflect_fields.specs.Known.{is_known, are_siblings}
-use Rattle.prost_reflect_fields.specs.FieldSlots.{value_in, records_in, value_at, records_at}
+use Rattle.prost_reflect_fields.specs.FieldSlots.{value_in, records_in, stored_at, records_at}
 use Rattle.prost_reflect_fields.specs.Sound.{Sound, unknown_kept}
 use Rattle.prost_reflect_fields.specs.NumberSets.{has, HasWholeOneofs, is_chosen, put_chosen, AreReplaced}
 use Rattle.prost_reflect_fields.proofs.ItemChanges.{Apart, by_number, put_same, put_apart, none_above, ascending_put_item, itself}
@@ -112,10 +112,10 @@ sound_part {V} numbers es new fields replaced s = (
     single m n siblings false b h = absurd (true≢false (sym h))
 
 module _ {V : Type 0} (numbers : BTreeSet ℕ) (old others new : List (ℕ × FieldSlot V)) (replaced : AreReplaced numbers old others new) where
-  pub values_replaced : (n : ℕ) → value_at new n ≡ cond (has numbers n) (value_at others n) (value_at old n)
+  pub values_replaced : (n : ℕ) → stored_at new n ≡ cond (has numbers n) (stored_at others n) (stored_at old n)
   values_replaced n = ap (option_and_then value_in) (replaced.at n) ∙ cases (has numbers n)
     where
-      cases : (b : Bool) → option_and_then value_in (cond b (item_at others n) (item_at old n)) ≡ cond b (value_at others n) (value_at old n)
+      cases : (b : Bool) → option_and_then value_in (cond b (item_at others n) (item_at old n)) ≡ cond b (stored_at others n) (stored_at old n)
       cases true = refl
       cases false = refl
 
@@ -133,7 +133,7 @@ module _ {V : Type 0} (numbers : BTreeSet ℕ) (old others new : List (ℕ × Fi
     λ m n v siblings. ap is_some (values_replaced n) ∙ single m n siblings (has numbers m) refl (has numbers n) refl (ap is_some (sym (values_replaced m)) ∙ v),
   )
     where
-      known : (n : ℕ) (b : Bool) → is_some (cond b (value_at others n) (value_at old n)) ≡ true → is_known fields n ≡ true
+      known : (n : ℕ) (b : Bool) → is_some (cond b (stored_at others n) (stored_at old n)) ≡ true → is_known fields n ≡ true
       known n true h = r.0 n h
       known n false h = s.0 n h
 
@@ -141,7 +141,7 @@ module _ {V : Type 0} (numbers : BTreeSet ℕ) (old others new : List (ℕ × Fi
       kept n true = r.1 n
       kept n false = s.1 n
 
-      single : (m n : ℕ) → are_siblings fields m n ≡ true → (a : Bool) → has numbers m ≡ a → (b : Bool) → has numbers n ≡ b → is_some (cond a (value_at others m) (value_at old m)) ≡ true → is_some (cond b (value_at others n) (value_at old n)) ≡ false
+      single : (m n : ℕ) → are_siblings fields m n ≡ true → (a : Bool) → has numbers m ≡ a → (b : Bool) → has numbers n ≡ b → is_some (cond a (stored_at others m) (stored_at old m)) ≡ true → is_some (cond b (stored_at others n) (stored_at old n)) ≡ false
       single m n siblings true x true y h = r.2 m n h siblings
       single m n siblings false x false y h = s.2 m n h siblings
       single m n siblings true x false y h = absurd (true≢false (sym (whole m n x siblings) ∙ y))

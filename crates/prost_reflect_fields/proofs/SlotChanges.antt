@@ -13,12 +13,12 @@ use Rattle.prost_reflect_wire.specs.declared.unknown.UnknownFieldSet.{UnknownFie
 use Rattle.prost_reflect_fields.specs.declared.slot.FieldSlot.{FieldSlot}
 use Rattle.prost_reflect_fields.specs.declared.slot.FieldSlot.TheVariants.{Value, Unknown, Both}
 use Rattle.prost_reflect_fields.specs.Items.{IsAscending, item_at, with_item, put_item, without_item}
-use Rattle.prost_reflect_fields.specs.FieldSlots.{value_in, records_in, value_at, records_at, with_value_in, without_value_beside, revalued, put_slot, put_value, left_in, then_slot, without_values, clear_value, with_slot, with_value, AddedIn, SameIn, SameStored, UnknownAdded}
+use Rattle.prost_reflect_fields.specs.FieldSlots.{value_in, records_in, stored_at, records_at, with_value_in, without_value_beside, revalued, put_slot, put_value, left_in, then_slot, without_values, clear_value, with_slot, with_value, AddedIn, SameIn, SameStored, UnknownAdded}
 use Rattle.prost_reflect_fields.proofs.ItemChanges.{Apart, by_number, at_each, apart_of, apart_back, itself, none_above, same_items, put_same, put_apart, without_same, without_apart, with_same, with_apart, ascending_without, ascending_with, ascending_put_item}
 
 module _ {V : Type 0} where
   -- what one lookup says of another
-  pub same_values : (es ds : List (ℕ × FieldSlot V)) (k : ℕ) → item_at ds k ≡ item_at es k → value_at ds k ≡ value_at es k
+  pub same_values : (es ds : List (ℕ × FieldSlot V)) (k : ℕ) → item_at ds k ≡ item_at es k → stored_at ds k ≡ stored_at es k
   same_values es ds k h = ap (option_and_then value_in) h
 
   pub same_records : (es ds : List (ℕ × FieldSlot V)) (k : ℕ) → item_at ds k ≡ item_at es k → records_at ds k ≡ records_at es k
@@ -90,10 +90,10 @@ module _ {V : Type 0} where
           ∙ ap (λ z. cond (test z) (left_in e.1) (Some e.1)) (sym is)
           ∙ sym (ap (λ o. cond (test k) (option_and_then left_in o) o) (found is))
 
-  pub value_without : (test : ℕ → Bool) (es : List (ℕ × FieldSlot V)) (k : ℕ) → IsAscending es → value_at (without_values test es) k ≡ cond (test k) None (value_at es k)
+  pub value_without : (test : ℕ → Bool) (es : List (ℕ × FieldSlot V)) (k : ℕ) → IsAscending es → stored_at (without_values test es) k ≡ cond (test k) None (stored_at es k)
   value_without test es k s = ap (option_and_then value_in) (item_without test es k s) ∙ cases (test k)
     where
-      cases : (b : Bool) → option_and_then value_in (cond b (option_and_then left_in (item_at es k)) (item_at es k)) ≡ cond b None (value_at es k)
+      cases : (b : Bool) → option_and_then value_in (cond b (option_and_then left_in (item_at es k)) (item_at es k)) ≡ cond b None (stored_at es k)
       cases true = no_value_left (item_at es k)
       cases false = refl
 
@@ -150,7 +150,7 @@ module _ {V : Type 0} where
   pub take_removed : (es : List (ℕ × FieldSlot V)) (n : ℕ) (v : V) → IsAscending es → item_at es n ≡ Some (Value v) → without_item es n ≡ clear_value es n
   take_removed es n v s h = cleared_by es (without_item es n) n s (ascending_without es n s) (without_same es n s ∙ ap (option_and_then left_in) (sym h)) (λ k a. without_apart es n k a)
 
-  pub take_missing : (es : List (ℕ × FieldSlot V)) (n : ℕ) → IsAscending es → value_at es n ≡ None → es ≡ clear_value es n
+  pub take_missing : (es : List (ℕ × FieldSlot V)) (n : ℕ) → IsAscending es → stored_at es n ≡ None → es ≡ clear_value es n
   take_missing es n s h = cleared_by es es n s s (cases (item_at es n) h) (λ k a. refl)
     where
       cases : (o : Option (FieldSlot V)) → option_and_then value_in o ≡ None → o ≡ option_and_then left_in o
@@ -169,7 +169,7 @@ module _ {V : Type 0} where
 
   -- SETTING
 
-  put_here : (es : List (ℕ × FieldSlot V)) (n : ℕ) (v : V) → (value_at (put_value es n v) n ≡ Some v) × (records_at (put_value es n v) n ≡ records_at es n)
+  put_here : (es : List (ℕ × FieldSlot V)) (n : ℕ) (v : V) → (stored_at (put_value es n v) n ≡ Some v) × (records_at (put_value es n v) n ≡ records_at es n)
   put_here es n v = cases (item_at es n) refl
     where
       value_added : (e : FieldSlot V) → value_in (with_value_in e v) ≡ Some v
@@ -182,7 +182,7 @@ module _ {V : Type 0} where
       records_stay (Unknown u) = refl
       records_stay (Both x u) = refl
 
-      cases : (o : Option (FieldSlot V)) → item_at es n ≡ o → (value_at (put_slot es n v o) n ≡ Some v) × (records_at (put_slot es n v o) n ≡ option_and_then records_in o)
+      cases : (o : Option (FieldSlot V)) → item_at es n ≡ o → (stored_at (put_slot es n v o) n ≡ Some v) × (records_at (put_slot es n v o) n ≡ option_and_then records_in o)
       cases None h = (ap (option_and_then value_in) (put_same es n (Value v)), ap (option_and_then records_in) (put_same es n (Value v)))
       cases (Some e) h = (
         ap (option_and_then value_in) (with_same es n (with_value_in e v) e h) ∙ value_added e,
@@ -203,10 +203,10 @@ module _ {V : Type 0} where
       cases None = ascending_put_item es n (Value v) s
       cases (Some e) = ascending_with es n (with_value_in e v) s
 
-  pub value_put : (es : List (ℕ × FieldSlot V)) (n : ℕ) (v : V) → value_at (put_value es n v) n ≡ Some v
+  pub value_put : (es : List (ℕ × FieldSlot V)) (n : ℕ) (v : V) → stored_at (put_value es n v) n ≡ Some v
   value_put es n v = (put_here es n v).0
 
-  pub value_put_apart : (es : List (ℕ × FieldSlot V)) (n k : ℕ) (v : V) → Apart n k → value_at (put_value es n v) k ≡ value_at es k
+  pub value_put_apart : (es : List (ℕ × FieldSlot V)) (n k : ℕ) (v : V) → Apart n k → stored_at (put_value es n v) k ≡ stored_at es k
   value_put_apart es n k v a = same_values es (put_value es n v) k (put_elsewhere es n k v a)
 
   pub records_put : (es : List (ℕ × FieldSlot V)) (n : ℕ) (v : V) (k : ℕ) → records_at (put_value es n v) k ≡ records_at es k
@@ -231,7 +231,7 @@ module _ {V : Type 0} where
       cases None = s
       cases (Some e) = ascending_with es n (revalued e w) s
 
-  written_here : (es : List (ℕ × FieldSlot V)) (n : ℕ) (w : V) → (value_at (with_value es n w) n ≡ option_map (λ _. w) (value_at es n)) × (records_at (with_value es n w) n ≡ records_at es n)
+  written_here : (es : List (ℕ × FieldSlot V)) (n : ℕ) (w : V) → (stored_at (with_value es n w) n ≡ option_map (λ _. w) (stored_at es n)) × (records_at (with_value es n w) n ≡ records_at es n)
   written_here es n w = cases (item_at es n) refl
     where
       value : (e : FieldSlot V) → value_in (revalued e w) ≡ option_map (λ _. w) (value_in e)
@@ -239,7 +239,7 @@ module _ {V : Type 0} where
       value (Unknown u) = refl
       value (Both v u) = refl
 
-      cases : (o : Option (FieldSlot V)) → item_at es n ≡ o → (value_at (with_slot es n w o) n ≡ option_map (λ _. w) (option_and_then value_in o)) × (records_at (with_slot es n w o) n ≡ option_and_then records_in o)
+      cases : (o : Option (FieldSlot V)) → item_at es n ≡ o → (stored_at (with_slot es n w o) n ≡ option_map (λ _. w) (option_and_then value_in o)) × (records_at (with_slot es n w o) n ≡ option_and_then records_in o)
       cases None h = (ap (option_and_then value_in) h, ap (option_and_then records_in) h)
       cases (Some e) h = (ap (option_and_then value_in) (with_same es n (revalued e w) e h) ∙ value e, ap (option_and_then records_in) (with_same es n (revalued e w) e h) ∙ records_kept e w)
 
@@ -250,10 +250,10 @@ module _ {V : Type 0} where
       cases None = refl
       cases (Some e) = with_apart es n k (revalued e w) a
 
-  pub value_written : (es : List (ℕ × FieldSlot V)) (n : ℕ) (w : V) → value_at (with_value es n w) n ≡ option_map (λ _. w) (value_at es n)
+  pub value_written : (es : List (ℕ × FieldSlot V)) (n : ℕ) (w : V) → stored_at (with_value es n w) n ≡ option_map (λ _. w) (stored_at es n)
   value_written es n w = (written_here es n w).0
 
-  pub value_written_apart : (es : List (ℕ × FieldSlot V)) (n k : ℕ) (w : V) → Apart n k → value_at (with_value es n w) k ≡ value_at es k
+  pub value_written_apart : (es : List (ℕ × FieldSlot V)) (n k : ℕ) (w : V) → Apart n k → stored_at (with_value es n w) k ≡ stored_at es k
   value_written_apart es n k w a = same_values es (with_value es n w) k (written_apart es n k w a)
 
   pub records_written : (es : List (ℕ × FieldSlot V)) (n : ℕ) (w : V) (k : ℕ) → records_at (with_value es n w) k ≡ records_at es k
@@ -267,7 +267,7 @@ module _ {V : Type 0} where
       let here : records_at (with_item es n d) n ≡ Some (unwrap_or (records_at es n) [] ++ r ∷ []) =
       ap (option_and_then records_in) there ∙ added.records ∙ ap (λ o. Some (unwrap_or (option_and_then records_in o) [] ++ r ∷ [])) (sym h) in
       record {
-        values = at_each (λ k. value_at (with_item es n d) k ≡ value_at es k) n (ap (option_and_then value_in) there ∙ added.value ∙ ap (option_and_then value_in) (sym h))
+        values = at_each (λ k. stored_at (with_item es n d) k ≡ stored_at es k) n (ap (option_and_then value_in) there ∙ added.value ∙ ap (option_and_then value_in) (sym h))
             (λ k a. same_values es (with_item es n d) k (with_apart es n k d a));
         here = subst (λ z. records_at (with_item es n d) z ≡ Some (unwrap_or (records_at es z) [] ++ r ∷ [])) (sym own) here;
         elsewhere = λ k other. same_records es (with_item es n d) k (with_apart es n k d (apart_of n k (λ e. other (e ∙ sym own))));
@@ -280,7 +280,7 @@ module _ {V : Type 0} where
       let here : records_at (put_item es n (Unknown u)) n ≡ Some (unwrap_or (records_at es n) [] ++ r ∷ []) =
       ap (option_and_then records_in) there ∙ ap Some is ∙ ap (λ o. Some (unwrap_or (option_and_then records_in o) [] ++ r ∷ [])) (sym h) in
       record {
-        values = at_each (λ k. value_at (put_item es n (Unknown u)) k ≡ value_at es k) n (ap (option_and_then value_in) there ∙ ap (option_and_then value_in) (sym h))
+        values = at_each (λ k. stored_at (put_item es n (Unknown u)) k ≡ stored_at es k) n (ap (option_and_then value_in) there ∙ ap (option_and_then value_in) (sym h))
             (λ k a. same_values es (put_item es n (Unknown u)) k (put_apart es n k (Unknown u) (apart_back n k a)));
         here = subst (λ z. records_at (put_item es n (Unknown u)) z ≡ Some (unwrap_or (records_at es z) [] ++ r ∷ [])) (sym own) here;
         elsewhere = λ k other. same_records es (put_item es n (Unknown u)) k (put_apart es n k (Unknown u) (apart_back n k (apart_of n k (λ e. other (e ∙ sym own)))));
@@ -291,7 +291,7 @@ module _ {V : Type 0} where
   same_beside es n e d h same =
       let there : item_at (with_item es n d) n ≡ Some d = with_same es n d e h in
       record {
-        values = at_each (λ k. value_at (with_item es n d) k ≡ value_at es k) n (ap (option_and_then value_in) there ∙ same.value ∙ ap (option_and_then value_in) (sym h))
+        values = at_each (λ k. stored_at (with_item es n d) k ≡ stored_at es k) n (ap (option_and_then value_in) there ∙ same.value ∙ ap (option_and_then value_in) (sym h))
             (λ k a. same_values es (with_item es n d) k (with_apart es n k d a));
         records = at_each (λ k. records_at (with_item es n d) k ≡ records_at es k) n (ap (option_and_then records_in) there ∙ same.records ∙ ap (option_and_then records_in) (sym h))
             (λ k a. same_records es (with_item es n d) k (with_apart es n k d a));
@@ -299,4 +299,4 @@ module _ {V : Type 0} where
       }
 
   pub same_unchanged : (es ds : List (ℕ × FieldSlot V)) → ds ≡ es → SameStored es ds
-  same_unchanged es ds h = record { values = λ k. ap (λ ls. value_at ls k) h; records = λ k. ap (λ ls. records_at ls k) h; order = λ s. subst IsAscending (sym h) s }
+  same_unchanged es ds h = record { values = λ k. ap (λ ls. stored_at ls k) h; records = λ k. ap (λ ls. records_at ls k) h; order = λ s. subst IsAscending (sym h) s }

@@ -9,7 +9,7 @@ use Rattle.prost_reflect_wire.proofs.Deeper.{all_append}
 use Rattle.prost_reflect_fields.specs.declared.slot.FieldSlot.{FieldSlot}
 use Rattle.prost_reflect_fields.specs.Items.{IsAscending, item_at, with_item}
 use Rattle.prost_reflect_fields.specs.Known.{is_known, are_siblings, keeps_unknown, all_kept, are_records_of}
-use Rattle.prost_reflect_fields.specs.FieldSlots.{value_in, records_in, value_at, records_at, has_value, revalued, put_value, without_values, with_value, with_slot, SameStored, UnknownAdded}
+use Rattle.prost_reflect_fields.specs.FieldSlots.{value_in, records_in, stored_at, records_at, has_value, revalued, put_value, without_values, with_value, with_slot, SameStored, UnknownAdded}
 use Rattle.prost_reflect_fields.specs.Sound.{Sound, unknown_kept, set_value_at, prepared}
 use Rattle.prost_reflect_fields.proofs.ItemChanges.{at_each, apart_of, with_same, with_apart, not_both}
 use Rattle.prost_reflect_fields.proofs.SlotChanges.{value_without, records_without, ascending_put, value_put, value_put_apart, records_put, same_values, same_records, value_kept, records_kept, ascending_without_values, ascending_with_value, value_written, value_written_apart, records_written}
@@ -55,7 +55,7 @@ module _ {V : Type 0} where
 
   fewer_without : (test : ℕ → Bool) (es : List (ℕ × FieldSlot V)) → IsAscending es → Fewer (without_values test es) es
   fewer_without test es s = record {
-    values = λ k h. cases (test k) (value_at es k) (ap is_some (sym (value_without test es k s)) ∙ h);
+    values = λ k h. cases (test k) (stored_at es k) (ap is_some (sym (value_without test es k s)) ∙ h);
     records = λ k. records_without test es k s;
   }
     where
@@ -94,13 +94,13 @@ module _ {V : Type 0} where
   -- SETTING
 
   pub value_set_at : (fields : List Field) (es : List (ℕ × FieldSlot V)) (n : ℕ) (v : V) (k : ℕ) → IsAscending es
-      → value_at (set_value_at fields es n v) k ≡ cond (nat_eq k n) (Some v) (cond (are_siblings fields n k) None (value_at es k))
+      → stored_at (set_value_at fields es n v) k ≡ cond (nat_eq k n) (Some v) (cond (are_siblings fields n k) None (stored_at es k))
   value_set_at fields es n v k s = value_without (are_siblings fields n) (put_value es n v) k (ascending_put es n v s) ∙ cases (nat_eq k n) refl
     where
-      cases : (b : Bool) → nat_eq k n ≡ b → cond (are_siblings fields n k) None (value_at (put_value es n v) k) ≡ cond b (Some v) (cond (are_siblings fields n k) None (value_at es k))
+      cases : (b : Bool) → nat_eq k n ≡ b → cond (are_siblings fields n k) None (stored_at (put_value es n v) k) ≡ cond b (Some v) (cond (are_siblings fields n k) None (stored_at es k))
       cases true at =
           let same : k ≡ n = eqb-true k n at in
-          ap (λ z. cond (are_siblings fields n z) None (value_at (put_value es n v) z)) same ∙ ap (λ b. cond b None (value_at (put_value es n v) n)) (siblings_self fields n) ∙ value_put es n v
+          ap (λ z. cond (are_siblings fields n z) None (stored_at (put_value es n v) z)) same ∙ ap (λ b. cond b None (stored_at (put_value es n v) n)) (siblings_self fields n) ∙ value_put es n v
       cases false at = ap (cond (are_siblings fields n k) None) (value_put_apart es n k v (apart_of n k (eqb-false k n at)))
 
   pub records_set_at : (fields : List Field) (es : List (ℕ × FieldSlot V)) (n : ℕ) (v : V) (k : ℕ) → IsAscending es → records_at (set_value_at fields es n v) k ≡ records_at es k
@@ -109,8 +109,8 @@ module _ {V : Type 0} where
   pub ascending_set_at : (fields : List Field) (es : List (ℕ × FieldSlot V)) (n : ℕ) (v : V) → IsAscending es → IsAscending (set_value_at fields es n v)
   ascending_set_at fields es n v s = ascending_without_values (are_siblings fields n) (put_value es n v) (ascending_put es n v s)
 
-  pub value_set : (fields : List Field) (es : List (ℕ × FieldSlot V)) (n : ℕ) (v : V) → IsAscending es → value_at (set_value_at fields es n v) n ≡ Some v
-  value_set fields es n v s = value_set_at fields es n v n s ∙ ap (λ b. cond b (Some v) (cond (are_siblings fields n n) None (value_at es n))) (eq-eqb n n refl)
+  pub value_set : (fields : List Field) (es : List (ℕ × FieldSlot V)) (n : ℕ) (v : V) → IsAscending es → stored_at (set_value_at fields es n v) n ≡ Some v
+  value_set fields es n v s = value_set_at fields es n v n s ∙ ap (λ b. cond b (Some v) (cond (are_siblings fields n n) None (stored_at es n))) (eq-eqb n n refl)
 
   pub sound_set : (fields : List Field) (es : List (ℕ × FieldSlot V)) (n : ℕ) (v : V) → IsAscending es → numbers_differ fields ≡ true → is_known fields n ≡ true → Sound fields es → Sound fields (set_value_at fields es n v)
   sound_set fields es n v s differ known sound = (
@@ -123,25 +123,25 @@ module _ {V : Type 0} where
       not_cleared true o h = cc
       not_cleared false o h = (refl, h)
 
-      values : (k : ℕ) (b : Bool) → nat_eq k n ≡ b → is_some (cond b (Some v) (cond (are_siblings fields n k) None (value_at es k))) ≡ true → is_known fields k ≡ true
+      values : (k : ℕ) (b : Bool) → nat_eq k n ≡ b → is_some (cond b (Some v) (cond (are_siblings fields n k) None (stored_at es k))) ≡ true → is_known fields k ≡ true
       values k true at h = subst (λ z. is_known fields z ≡ true) (sym (eqb-true k n at)) known
-      values k false at h = sound.0 k (not_cleared (are_siblings fields n k) (value_at es k) h).1
+      values k false at h = sound.0 k (not_cleared (are_siblings fields n k) (stored_at es k) h).1
 
       cleared : (b : Bool) (o : Option V) → is_some o ≡ false → is_some (cond b None o) ≡ false
       cleared true o h = refl
       cleared false o h = h
 
-      single : (m k : ℕ) (a b : Bool) → nat_eq m n ≡ a → nat_eq k n ≡ b → is_some (cond a (Some v) (cond (are_siblings fields n m) None (value_at es m))) ≡ true → are_siblings fields m k ≡ true
-          → is_some (cond b (Some v) (cond (are_siblings fields n k) None (value_at es k))) ≡ false
+      single : (m k : ℕ) (a b : Bool) → nat_eq m n ≡ a → nat_eq k n ≡ b → is_some (cond a (Some v) (cond (are_siblings fields n m) None (stored_at es m))) ≡ true → are_siblings fields m k ≡ true
+          → is_some (cond b (Some v) (cond (are_siblings fields n k) None (stored_at es k))) ≡ false
       single m k true true at to h siblings =
           absurd (true≢false (sym (subst (λ z. are_siblings fields m z ≡ true) (eqb-true k n to ∙ sym (eqb-true m n at)) siblings) ∙ siblings_self fields m))
       single m k true false at to h siblings =
-          ap (λ b. is_some (cond b None (value_at es k))) (subst (λ z. are_siblings fields z k ≡ true) (eqb-true m n at) siblings)
+          ap (λ b. is_some (cond b None (stored_at es k))) (subst (λ z. are_siblings fields z k ≡ true) (eqb-true m n at) siblings)
       single m k false true at to h siblings =
           let back : are_siblings fields n m ≡ true = siblings_back fields m n differ (subst (λ z. are_siblings fields m z ≡ true) (eqb-true k n to) siblings) in
-          absurd (true≢false (sym back ∙ (not_cleared (are_siblings fields n m) (value_at es m) h).0))
+          absurd (true≢false (sym back ∙ (not_cleared (are_siblings fields n m) (stored_at es m) h).0))
       single m k false false at to h siblings =
-          cleared (are_siblings fields n k) (value_at es k) (sound.2 m k (not_cleared (are_siblings fields n m) (value_at es m) h).1 siblings)
+          cleared (are_siblings fields n k) (stored_at es k) (sound.2 m k (not_cleared (are_siblings fields n m) (stored_at es m) h).1 siblings)
 
   -- WRITING ACCESS
 
@@ -153,7 +153,7 @@ module _ {V : Type 0} where
       cases false = sound_set fields es n v s differ known sound
 
   -- a value that was there is written over as it is set, since no sibling has one
-  over_value : (fields : List Field) (es : List (ℕ × FieldSlot V)) (n : ℕ) (w : V) (k : ℕ) → Sound fields es → has_value es n ≡ true → value_at (with_value es n w) k ≡ cond (nat_eq k n) (Some w) (cond (are_siblings fields n k) None (value_at es k))
+  over_value : (fields : List Field) (es : List (ℕ × FieldSlot V)) (n : ℕ) (w : V) (k : ℕ) → Sound fields es → has_value es n ≡ true → stored_at (with_value es n w) k ≡ cond (nat_eq k n) (Some w) (cond (are_siblings fields n k) None (stored_at es k))
   over_value fields es n w k sound here = cases (nat_eq k n) refl
     where
       there : (o : Option V) → is_some o ≡ true → option_map (λ _. w) o ≡ Some w
@@ -164,21 +164,21 @@ module _ {V : Type 0} where
       absent None h = refl
       absent (Some v) h = cc
 
-      sibling : (b : Bool) → are_siblings fields n k ≡ b → value_at es k ≡ cond b None (value_at es k)
-      sibling true at = absent (value_at es k) (sound.2 n k here at)
+      sibling : (b : Bool) → are_siblings fields n k ≡ b → stored_at es k ≡ cond b None (stored_at es k)
+      sibling true at = absent (stored_at es k) (sound.2 n k here at)
       sibling false at = refl
 
-      cases : (b : Bool) → nat_eq k n ≡ b → value_at (with_value es n w) k ≡ cond b (Some w) (cond (are_siblings fields n k) None (value_at es k))
-      cases true at = ap (value_at (with_value es n w)) (eqb-true k n at) ∙ value_written es n w ∙ there (value_at es n) here
+      cases : (b : Bool) → nat_eq k n ≡ b → stored_at (with_value es n w) k ≡ cond b (Some w) (cond (are_siblings fields n k) None (stored_at es k))
+      cases true at = ap (stored_at (with_value es n w)) (eqb-true k n at) ∙ value_written es n w ∙ there (stored_at es n) here
       cases false at = value_written_apart es n k w (apart_of n k (eqb-false k n at)) ∙ sibling (are_siblings fields n k) refl
 
   -- one that was just set is written over as if the other had been set
-  over_set : (fields : List Field) (es : List (ℕ × FieldSlot V)) (n : ℕ) (v w : V) (k : ℕ) → IsAscending es → value_at (with_value (set_value_at fields es n v) n w) k ≡ cond (nat_eq k n) (Some w) (cond (are_siblings fields n k) None (value_at es k))
+  over_set : (fields : List Field) (es : List (ℕ × FieldSlot V)) (n : ℕ) (v w : V) (k : ℕ) → IsAscending es → stored_at (with_value (set_value_at fields es n v) n w) k ≡ cond (nat_eq k n) (Some w) (cond (are_siblings fields n k) None (stored_at es k))
   over_set fields es n v w k s = cases (nat_eq k n) refl
     where
-      cases : (b : Bool) → nat_eq k n ≡ b → value_at (with_value (set_value_at fields es n v) n w) k ≡ cond b (Some w) (cond (are_siblings fields n k) None (value_at es k))
-      cases true at = ap (value_at (with_value (set_value_at fields es n v) n w)) (eqb-true k n at) ∙ value_written (set_value_at fields es n v) n w ∙ ap (option_map (λ _. w)) (value_set fields es n v s)
-      cases false at = value_written_apart (set_value_at fields es n v) n k w (apart_of n k (eqb-false k n at)) ∙ value_set_at fields es n v k s ∙ ap (λ b. cond b (Some v) (cond (are_siblings fields n k) None (value_at es k))) at
+      cases : (b : Bool) → nat_eq k n ≡ b → stored_at (with_value (set_value_at fields es n v) n w) k ≡ cond b (Some w) (cond (are_siblings fields n k) None (stored_at es k))
+      cases true at = ap (stored_at (with_value (set_value_at fields es n v) n w)) (eqb-true k n at) ∙ value_written (set_value_at fields es n v) n w ∙ ap (option_map (λ _. w)) (value_set fields es n v s)
+      cases false at = value_written_apart (set_value_at fields es n v) n k w (apart_of n k (eqb-false k n at)) ∙ value_set_at fields es n v k s ∙ ap (λ b. cond b (Some v) (cond (are_siblings fields n k) None (stored_at es k))) at
 
   -- writing access leaves what a set leaves
   pub written_is_set : (fields : List Field) (es : List (ℕ × FieldSlot V)) (n : ℕ) (v w : V) → IsAscending es → Sound fields es → SameStored (set_value_at fields es n w) (with_value (prepared fields es n v) n w)

@@ -10,7 +10,7 @@ use Rattle.prost_reflect_wire.specs.Schema.{Field}
 use Rattle.prost_reflect_fields.specs.declared.slot.FieldSlot.{FieldSlot}
 use Rattle.prost_reflect_fields.specs.declared.slot.FieldSlot.TheVariants.{Value, Unknown, Both}
 use Rattle.prost_reflect_fields.specs.Items.{IsAscending, item_at}
-use Rattle.prost_reflect_fields.specs.FieldSlots.{value_in, records_in, value_at, records_at, values_alone}
+use Rattle.prost_reflect_fields.specs.FieldSlots.{value_in, records_in, stored_at, records_at, values_alone}
 use Rattle.prost_reflect_fields.specs.Sound.{Sound, unknown_kept}
 use Rattle.prost_reflect_fields.proofs.ItemChanges.{Apart, by_number, itself, none_above}
 
@@ -60,7 +60,7 @@ module _ {V : Type 0} where
       found : k ≡ e.0 → item_at (e ∷ es) k ≡ Some e.1
       found is = ap (λ b. cond b (Some e.1) (item_at es k)) (ap is_eq (ap (nat_cmp k) (sym is) ∙ itself k))
 
-  value_stays : (es : List (ℕ × FieldSlot V)) (k : ℕ) → IsAscending es → value_at (values_alone es) k ≡ value_at es k
+  value_stays : (es : List (ℕ × FieldSlot V)) (k : ℕ) → IsAscending es → stored_at (values_alone es) k ≡ stored_at es k
   value_stays es k s = ap (option_and_then value_in) (item_alone es k s) ∙ cases (item_at es k)
     where
       cases : (o : Option (FieldSlot V)) → option_and_then value_in (option_and_then alone o) ≡ option_and_then value_in o

@@ -34,8 +34,8 @@ module _ {V : Type 0} where
   revalued (Unknown u) w = Unknown u
   revalued (Both v u) w = Both w u
 
-  abbrev pub value_at : List (ℕ × FieldSlot V) → ℕ → Option V
-  value_at es n = option_and_then value_in (item_at es n)
+  abbrev pub stored_at : List (ℕ × FieldSlot V) → ℕ → Option V
+  stored_at es n = option_and_then value_in (item_at es n)
 
   abbrev pub unknown_at : List (ℕ × FieldSlot V) → ℕ → Option UnknownFieldSet
   unknown_at es n = option_and_then unknown_in (item_at es n)
@@ -44,7 +44,7 @@ module _ {V : Type 0} where
   records_at es n = option_and_then records_in (item_at es n)
 
   abbrev pub has_value : List (ℕ × FieldSlot V) → ℕ → Bool
-  has_value es n = is_some (value_at es n)
+  has_value es n = is_some (stored_at es n)
 
   -- The value beside unknown fields, and the slot without it.
   abbrev pub value_beside : FieldSlot V → Option V
@@ -130,13 +130,13 @@ module _ {V : Type 0} where
 
   -- The same values and the same unknown records at each number.
   pub record SameStored (es ds : List (ℕ × FieldSlot V)) : Type 0 where
-    pub values : (k : ℕ) → value_at ds k ≡ value_at es k
+    pub values : (k : ℕ) → stored_at ds k ≡ stored_at es k
     pub records : (k : ℕ) → records_at ds k ≡ records_at es k
     pub order : IsAscending es → IsAscending ds
 
   -- An unknown record behind those of its number.
   pub record UnknownAdded (es ds : List (ℕ × FieldSlot V)) (r : Record) : Type 0 where
-    pub values : (k : ℕ) → value_at ds k ≡ value_at es k
+    pub values : (k : ℕ) → stored_at ds k ≡ stored_at es k
     pub here : records_at ds r.number ≡ Some (unwrap_or (records_at es r.number) [] ++ r ∷ [])
     pub elsewhere : (k : ℕ) → k ≢ r.number → records_at ds k ≡ records_at es k
     pub order : IsAscending es → IsAscending ds

@@ -8,7 +8,7 @@ ghost use Rattle.prost_reflect_fields.specs.contracts.field_set.FieldSet.{the_ro
 ghost use Rattle.prost_reflect_fields.specs.Items.{IsAscending};
 ghost use Rattle.prost_reflect_fields.specs.Known.{known_of, is_known, is_listed, keeps_unknown};
 ghost use Rattle.prost_reflect_fields.specs.NumberSets.{HasWholeOneofs, AreReplaced};
-ghost use Rattle.prost_reflect_fields.specs.FieldSlots.{value_at, unknown_at, clear_value, without_values, values_where, with_value, UnknownAdded, SameStored, unknown_sets, values_alone};
+ghost use Rattle.prost_reflect_fields.specs.FieldSlots.{stored_at, unknown_at, clear_value, without_values, values_where, with_value, UnknownAdded, SameStored, unknown_sets, values_alone};
 ghost use Rattle.prost_reflect_fields.specs.Sound.{IsSound, set_value_at, prepared};
 ghost use Rattle.prost_reflect_fields.specs.ItemsLeft.{items_left, items_left_back};
 
@@ -19,7 +19,7 @@ use crate::parting::parted;
 use crate::slot::FieldSlot;
 use crate::sorted_map::{Items, ItemsBack, SortedMap};
 use crate::stored::{
-    add_unknown, set_value, take_value, unknown_at, value_at, value_mut, value_mut_or,
+    add_unknown, set_value, stored_at, take_value, unknown_at, value_mut, value_mut_or,
 };
 use crate::taking::take_unknown;
 use prost_reflect_pool::PooledType;
@@ -123,12 +123,12 @@ impl<V> FieldSet<V> {
 impl<V: Drop> FieldSet<V> {
     /// The value at the number.
     pub fn get(&self, number: u32) -> Option<&V>
-        ensures value { option_copied result ≡ value_at self.now.1 number }
+        ensures value { option_copied result ≡ stored_at self.now.1 number }
         ensures ascending { IsAscending self.now.1 }
         ensures sound { IsSound self.now.0 self.now.1 }
     {
         ascending(&self.fields);
-        value_at(&self.fields, number)
+        stored_at(&self.fields, number)
     }
 
     /// The unknown fields at the number.
@@ -140,7 +140,7 @@ impl<V: Drop> FieldSet<V> {
 
     /// Takes the value at the number. The unknown fields stay.
     pub fn take(&mut self, number: u32) -> Option<V>
-        ensures value { result ≡ value_at self.old.1 number }
+        ensures value { result ≡ stored_at self.old.1 number }
         ensures left { self.new ≡ (self.old.0, clear_value self.old.1 number) }
         ensures ascending { IsAscending self.old.1 }
     {
@@ -250,7 +250,7 @@ impl<V: Drop> FieldSet<V> {
     /// The value at the number, for writing.
     pub fn get_mut(&mut self, number: u32) -> Option<&mut V>
         ensures* writes_back { sem 𝓛 (LendsIf (the_row V.row) V.row self.entry result (λ w. (self.old.0, with_value self.old.1 number w)) self.old) }
-        ensures value { option_copied_mut result ≡ value_at self.old.1 number }
+        ensures value { option_copied_mut result ≡ stored_at self.old.1 number }
     {
         value_mut(&mut self.fields, number)
     }
@@ -260,7 +260,7 @@ impl<V: Drop> FieldSet<V> {
     pub fn get_mut_or(&mut self, number: u32, default: V) -> Result<&mut V, AllocError>
         requires { is_known (known_of self.old.0) number ≡ true }
         ensures* writes_back { sem 𝓛 (LendsIfOk (the_row V.row) V.row self.entry result (λ w. (self.old.0, with_value (prepared (known_of self.old.0) self.old.1 number default) number w)) self.old) }
-        ensures value { IfOk result (λ v. value_at (prepared (known_of self.old.0) self.old.1 number default) number ≡ Some v.now) }
+        ensures value { IfOk result (λ v. stored_at (prepared (known_of self.old.0) self.old.1 number default) number ≡ Some v.now) }
         ensures ascending { IsAscending self.old.1 }
         ensures sound { IsSound self.old.0 self.old.1 }
     {

@@ -7,7 +7,7 @@ ghost use Rattle.prost_reflect_wire.specs.Unknown.{unknown_record};
 ghost use Rattle.prost_reflect_wire.specs.Schema.{same_oneof};
 ghost use Rattle.prost_reflect_fields.specs.Items.{IsAscending};
 ghost use Rattle.prost_reflect_fields.specs.Known.{known_of, oneof_of, are_siblings, is_other_member};
-ghost use Rattle.prost_reflect_fields.specs.FieldSlots.{value_at, unknown_at, put_value, clear_value, with_value, without_values, first_value, UnknownAdded, SameStored};
+ghost use Rattle.prost_reflect_fields.specs.FieldSlots.{stored_at, unknown_at, put_value, clear_value, with_value, without_values, first_value, UnknownAdded, SameStored};
 ghost use Rattle.prost_reflect_fields.specs.Sound.{set_value_at, prepared};
 ghost use Rattle.prost_reflect_fields.specs.Members.{is_member, rows_at};
 ghost use Rattle.prost_reflect_fields.specs.Lending.{LendsOrStays};
@@ -21,8 +21,8 @@ use prost_reflect_wire::{UnknownField, UnknownFieldSet};
 use std::alloc::{AllocError, Global};
 
 /// The value at the number.
-pub fn value_at<V, S: NumberMap<FieldSlot<V>>>(fields: &S, number: u32) -> Option<&V>
-    ensures { option_copied result ≡ value_at (S.entries fields.now) number }
+pub fn stored_at<V, S: NumberMap<FieldSlot<V>>>(fields: &S, number: u32) -> Option<&V>
+    ensures { option_copied result ≡ stored_at (S.entries fields.now) number }
 {
     match fields.get(number) {
         Some(slot) => slot.value(),
@@ -70,7 +70,7 @@ pub fn take_value<V: Drop, S: NumberMap<FieldSlot<V>>>(
     alloc: Global,
     number: u32,
 ) -> Option<V>
-    ensures value { result ≡ value_at (S.entries fields.old) number }
+    ensures value { result ≡ stored_at (S.entries fields.old) number }
     ensures entries { S.entries fields.new ≡ clear_value (S.entries fields.old) number }
     ensures ascending { IsAscending (S.entries fields.old) }
 {
@@ -134,7 +134,7 @@ pub fn set_value<V: Drop, S: NumberMap<FieldSlot<V>>>(
 /// The value at the number, for writing.
 pub fn value_mut<V, S: NumberMap<FieldSlot<V>>>(fields: &mut S, number: u32) -> Option<&mut V>
     ensures* writes_back { sem 𝓛 (LendsSo S.row V.row fields.entry result (λ after w. S.entries after ≡ with_value (S.entries fields.old) number w) (λ after. S.entries after ≡ S.entries fields.old)) }
-    ensures value { option_copied_mut result ≡ value_at (S.entries fields.old) number }
+    ensures value { option_copied_mut result ≡ stored_at (S.entries fields.old) number }
 {
     match fields.get_mut(number) {
         Some(slot) => slot.value_mut(),
@@ -152,7 +152,7 @@ pub fn value_mut_or<'a, V: Drop + 'a, S: NumberMap<FieldSlot<V>>>(
     default: V,
 ) -> Result<&'a mut V, AllocError>
     ensures* writes_back { sem 𝓛 (LendsOrStays S.row V.row fields.entry result (λ after w. S.entries after ≡ with_value (prepared (known_of message_type.now) (S.entries fields.old) number default) number w) (λ after. S.entries after ≡ prepared (known_of message_type.now) (S.entries fields.old) number default) (λ after. S.entries after ≡ S.entries fields.old)) }
-    ensures value { IfOk result (λ v. value_at (prepared (known_of message_type.now) (S.entries fields.old) number default) number ≡ Some v.now) }
+    ensures value { IfOk result (λ v. stored_at (prepared (known_of message_type.now) (S.entries fields.old) number default) number ≡ Some v.now) }
     ensures ascending { IsAscending (S.entries fields.old) }
 {
     set_default(fields, alloc, message_type, number, default)?;
@@ -175,7 +175,7 @@ fn set_default<V: Drop, S: NumberMap<FieldSlot<V>>>(
     ensures ascending { IsAscending (S.entries fields.old) }
 {
     ascending(fields);
-    if value_at(fields, number).is_some() {
+    if stored_at(fields, number).is_some() {
         return Ok(());
     }
     set_value(fields, alloc, message_type, number, default)

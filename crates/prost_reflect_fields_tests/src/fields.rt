@@ -5,7 +5,7 @@ use prost_reflect_fields::number_map::NumberMap;
 use prost_reflect_fields::slot::FieldSlot;
 use prost_reflect_fields::sorted_map::SortedMap;
 use prost_reflect_fields::stored::{
-    add_unknown, set_value, take_value, unknown_at, value_at, value_mut, value_mut_or,
+    add_unknown, set_value, stored_at, take_value, unknown_at, value_mut, value_mut_or,
 };
 use prost_reflect_pool::PooledType;
 use prost_reflect_samples::calls::{Call, calls};
@@ -185,7 +185,7 @@ fn agrees_at<S: NumberMap<FieldSlot<u32>>>(
         Some(unknown) => unknown.len(),
         None => 0,
     };
-    let value = value_at(fields, number).copied();
+    let value = stored_at(fields, number).copied();
     let lent = match value_mut(fields, number) {
         Some(value) => Some(*value),
         None => None,

@@ -48,7 +48,7 @@ fn linked_packed(
 ) -> bool
     ensures { result ≡ linked_packed is_proto3 field.now cardinality kind }
 {
-    matches!(cardinality, Cardinality::Repeated)
+    cardinality.is_repeated()
         && is_packable(kind)
         && bool_option(2, &field.options).unwrap_or(is_proto3)
 }
@@ -63,7 +63,7 @@ fn linked_presence(
 ) -> bool
     ensures { result ≡ linked_presence is_proto3 is_extension field.now cardinality kind }
 {
-    !matches!(cardinality, Cardinality::Repeated)
+    !cardinality.is_repeated()
         && (!is_proto3
             || is_extension
             || is_message(kind)

@@ -1,12 +1,11 @@
 //! The keys and values of map fields.
 
-ghost use Rattle.std.specs.Prelude.{◌≡◌, Some, map, option_map};
-ghost use Rattle.prost_reflect_tables.specs.Rows.{field_row, message_row};
-ghost use Rattle.prost_reflect_tables.specs.Shown.{entry_or_none};
-ghost use Rattle.prost_reflect_pool.specs.MapParts.{two_of, entry_parts};
+ghost use Rattle.std.specs.Prelude.{◌≡◌, map, option_map};
+ghost use Rattle.prost_reflect_tables.specs.Rows.{field_row};
+ghost use Rattle.prost_reflect_pool.specs.MapParts.{two_of};
 
 use crate::LinkedPool;
-use prost_reflect_tables::{Cardinality, FieldTable, MessageTable, TableKind};
+use prost_reflect_tables::{Cardinality, FieldTable};
 
 impl LinkedPool {
     ghost use Rattle.prost_reflect_pool.specs.MapParts.{map_parts};
@@ -16,26 +15,13 @@ impl LinkedPool {
     pub fn map_parts<'a>(&'a self, field: &FieldTable) -> Option<(&'a FieldTable, &'a FieldTable)>
         ensures { option_map (λ parts. (field_row parts.0.now, field_row parts.1.now)) result ≡ map_parts (pool_rows self.now) (field_row field.now) }
     {
-        match (field.cardinality, field.kind) {
-            (Cardinality::Repeated, TableKind::Message(place)) if !field.is_group => {
-                match self.tables.messages.get(place) {
-                    Some(message) => entry_parts(message),
-                    None => None,
-                }
-            }
-            _ => None,
+        match field.cardinality {
+            Cardinality::Repeated => match self.tables.entry_of(field) {
+                Some(entry) => two_of(entry.fields.as_slice()),
+                None => None,
+            },
+            Cardinality::Optional | Cardinality::Required => None,
         }
-    }
-}
-
-/// The rows of an entry's key and value, if the message type is that of a map's entries.
-pub(crate) fn entry_parts(message: &MessageTable) -> Option<(&FieldTable, &FieldTable)>
-    ensures { option_map (λ parts. (field_row parts.0.now, field_row parts.1.now)) result ≡ entry_parts (entry_or_none (Some (message_row message.now))) }
-{
-    if message.is_map_entry {
-        two_of(message.fields.as_slice())
-    } else {
-        None
     }
 }
 

@@ -1,30 +1,17 @@
 //! Which fields of two tables are alike, by themselves.
 
-ghost use Rattle.std.specs.Prelude.{◌≡◌, Some, List, IfOk, OnOk, option_map, slice_get};
+ghost use Rattle.std.specs.Prelude.{◌≡◌, List, IfOk, OnOk, slice_get};
 ghost use Rattle.prost_reflect_tables.specs.Rows.{EnumRow, field_row, message_row};
 ghost use Rattle.prost_reflect_tables.specs.Schema.{rows_of};
-ghost use Rattle.prost_reflect_tables.specs.Shown.{schema_field, own_type, type_or, entry_at, map_entry, form_of};
+ghost use Rattle.prost_reflect_tables.specs.Shown.{schema_field, own_type, type_or, map_entry, form_of};
 ghost use Rattle.prost_reflect_tables.specs.declared.tables.Cardinality.TheVariants.{Repeated as RepeatedLabel};
 ghost use Rattle.prost_reflect_reduction.specs.Kinds.{AreSameEnums};
 ghost use Rattle.prost_reflect_reduction.specs.Reaching.{forms_alike, fields_alike};
 
 use crate::values::{keys_match, values_alike};
-use prost_reflect_tables::{Cardinality, FieldTable, MessageTable, TableKind, Tables};
+use prost_reflect_tables::{Cardinality, FieldTable, MessageTable, Tables};
 use std::alloc::{AllocError, Global};
 use std::collections::BTreeSet;
-
-/// The type of a map's entries, if a repeated field is a map.
-fn entry_of<'a>(tables: &'a Tables, field: &FieldTable) -> Option<&'a MessageTable>
-    ensures { option_map (λ m. message_row m.now) result ≡ map_entry (rows_of tables.now).messages (field_row field.now) RepeatedLabel }
-{
-    match field.kind {
-        TableKind::Message(place) if !field.is_group => match tables.messages.get(place) {
-            Some(message) if message.is_map_entry => Some(message),
-            _ => None,
-        },
-        _ => None,
-    }
-}
 
 /// The field at a place of an entry; the map itself where there is none.
 fn part_or<'a>(entry: &'a MessageTable, place: usize, field: &'a FieldTable) -> &'a FieldTable
@@ -41,7 +28,7 @@ pub(crate) fn value_field<'a>(tables: &'a Tables, field: &'a FieldTable) -> &'a 
     ensures { own_type (rows_of tables.now).enums (field_row result.now) ≡ (schema_field (rows_of tables.now) (field_row field.now)).value_type }
 {
     match field.cardinality {
-        Cardinality::Repeated => match entry_of(tables, field) {
+        Cardinality::Repeated => match tables.entry_of(field) {
             Some(entry) => part_or(entry, 1, field),
             None => field,
         },
@@ -62,8 +49,8 @@ fn lists_alike(
     ensures enums { OnOk result (AreSameEnums same_enums.new (rows_of older.now).enums (rows_of newer.now).enums) }
     ensures alike { IfOk result (λ alike. alike ≡ forms_alike (form_of (rows_of older.now).enums (field_row field.now) RepeatedLabel (map_entry (rows_of older.now).messages (field_row field.now) RepeatedLabel)) (form_of (rows_of newer.now).enums (field_row like.now) RepeatedLabel (map_entry (rows_of newer.now).messages (field_row like.now) RepeatedLabel))) }
 {
-    match entry_of(older, field) {
-        Some(entry) => match entry_of(newer, like) {
+    match older.entry_of(field) {
+        Some(entry) => match newer.entry_of(like) {
             Some(other) => keys_match(
                 alloc,
                 same_enums,
@@ -74,7 +61,7 @@ fn lists_alike(
             ),
             None => Ok(false),
         },
-        None => match entry_of(newer, like) {
+        None => match newer.entry_of(like) {
             Some(_) => Ok(false),
             None => Ok(true),
         },

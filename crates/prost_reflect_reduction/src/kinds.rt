@@ -5,9 +5,9 @@ ghost use Rattle.std.specs.List.{list_all};
 ghost use Rattle.std.specs.BTreeSet.{contains};
 ghost use Rattle.std.specs.Ordering.{int_cmp};
 ghost use Rattle.prost_reflect_wire.specs.Reduction.{all_among, same_scalar_kind};
-ghost use Rattle.prost_reflect_tables.specs.Rows.{EnumRow, enum_row, value_numbers};
+ghost use Rattle.prost_reflect_tables.specs.Rows.{EnumRow, enum_row};
 ghost use Rattle.prost_reflect_tables.specs.Schema.{rows_of};
-ghost use Rattle.prost_reflect_tables.specs.Shown.{schema_kind, enum_kind, first_number};
+ghost use Rattle.prost_reflect_tables.specs.Shown.{schema_kind, enum_kind};
 ghost use Rattle.prost_reflect_reduction.specs.Kinds.{kind_code, table_numbers, HasNumbers, AreSameEnums};
 ghost use Rattle.prost_reflect_reduction.specs.Reaching.{kinds_alike};
 
@@ -51,21 +51,11 @@ fn same_numbers(
     Ok(are_among(values, &other_numbers) && are_among(others, &numbers))
 }
 
-/// The number of an enum's first value.
-pub(crate) fn first_in(table: &EnumTable) -> i32
-    ensures { result ≡ first_number (value_numbers (enum_row table.now)) }
-{
-    match table.values.first() {
-        Some(value) => value.number,
-        None => 0,
-    }
-}
-
 /// Whether two enums have the same first number, and are both open, or both closed with the same numbers.
 fn same_enum(alloc: Global, older: &EnumTable, newer: &EnumTable) -> Result<bool, AllocError>
     ensures { IfOk result (λ same. same ≡ same_scalar_kind (enum_kind (Some (enum_row older.now))) (enum_kind (Some (enum_row newer.now)))) }
 {
-    if first_in(older) != first_in(newer) || older.is_closed != newer.is_closed {
+    if older.first_number() != newer.first_number() || older.is_closed != newer.is_closed {
         return Ok(false);
     }
     if !older.is_closed {
@@ -85,20 +75,13 @@ fn same_enum_or_none(
     match older {
         Some(older) => match newer {
             Some(newer) => same_enum(alloc, older, newer),
-            None => Ok(first_in(older) == 0 && !older.is_closed),
+            None => Ok(older.first_number() == 0 && !older.is_closed),
         },
         None => match newer {
-            Some(newer) => Ok(first_in(newer) == 0 && !newer.is_closed),
+            Some(newer) => Ok(newer.first_number() == 0 && !newer.is_closed),
             None => Ok(true),
         },
     }
-}
-
-/// The enum at a place, if there is one.
-fn enum_at(tables: &Tables, place: usize) -> Option<&EnumTable>
-    ensures { option_map (λ e. enum_row e.now) result ≡ slice_get (rows_of tables.now).enums place }
-{
-    tables.enums.get(place)
 }
 
 /// The same of the enums at two places. Pairs of which it holds are noted, so that each is compared once.
@@ -119,8 +102,8 @@ fn enums_same(
     }
     if !same_enum_or_none(
         alloc,
-        enum_at(older, older_place),
-        enum_at(newer, newer_place),
+        older.enum_at(older_place),
+        newer.enum_at(newer_place),
     )? {
         return Ok(false);
     }

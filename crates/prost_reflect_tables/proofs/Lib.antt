@@ -10,6 +10,7 @@ mod WholeNumbers
 mod WholeBits
 mod Escapes
 mod WorkedDefaults
+mod KindDefaults
 mod Flattening
 pub mod Numbering
 pub mod OptionBytes

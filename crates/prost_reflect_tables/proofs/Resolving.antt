@@ -1,7 +1,7 @@
 -- What is found of resolved fields is found of their definitions.
-use Rattle.std.proofs.Common.{◌≡◌, Bool, ◌||◌, ◌++◌, cond, List, [], ◌∷◌, map, Option, Some, None, refl, sym, ap, ◌∙◌, String, Global}
+use Rattle.std.proofs.Common.{◌≡◌, Bool, ◌||◌, ◌++◌, cond, List, [], ◌∷◌, map, Option, Some, None, refl, sym, ap, ap₂, ◌∙◌, String, Global}
 use Rattle.std.specs.List.{list_any}
-use Rattle.std.specs.Prelude.{ℕ, ◌+◌, ◌&&◌, false, true}
+use Rattle.std.specs.Prelude.{ℕ, ◌+◌, ◌&&◌, false, true, unwrap_or}
 use Rattle.prost_reflect_types.specs.declared.FieldDescriptorProto.{FieldDescriptorProto}
 use Rattle.prost_reflect_tables.specs.Flat.{DefinitionRow, FlatMessageRow, FlatRows}
 use Rattle.prost_reflect_tables.specs.Faults.{message_names, enum_names, names_nothing, place_named, type_unknown, extendee_unknown, extension_outside, is_message_type, is_enum_type, Numbered, number_or_zero, numbered_at, numbered_extensions}
@@ -10,11 +10,23 @@ use Rattle.prost_reflect_tables.specs.DefaultFaults.{default_bad, float_default_
 use Rattle.prost_reflect_tables.specs.Gathered.{gathered}
 use Rattle.prost_reflect_tables.specs.Indexing.{grouped}
 use Rattle.prost_reflect_tables.specs.LinkedCatalog.{linked_extension}
-use Rattle.prost_reflect_tables.specs.Linking.{Links, links_of, is_place, belonging, extended_place, linked_field, declared_fields}
+use Rattle.prost_reflect_tables.specs.Linking.{Links, links_of, is_place, belonging, extended_place, kind_of_code, linked_default, linked_kind, linked_field, declared_fields, natural_or_zero}
 use Rattle.prost_reflect_tables.specs.Rows.{FieldRow, TableRows}
 use Rattle.prost_reflect_tables.proofs.Gathering.{rows_gathered}
 use Rattle.prost_reflect_tables.specs.Resolved.{ResolvedRow, resolve, resolved_field, resolved_extension}
 use Rattle.prost_reflect_tables.specs.ResolvedFaults.{unfound, type_unfound, extendee_unfound, found_outside, numbered_found, found_of_entry, wrongly_found, bad_read, bad_float}
+
+-- A FIELD
+
+-- a row with the places that its texts name, and with what these give, is the one that is meant
+pub resolved_is : (links : Links) (d : DefinitionRow FieldDescriptorProto) (r : ResolvedRow) → r.definition ≡ d → r.extendee ≡ extended_place links d
+    → r.message ≡ place_named links.messages d.proto.type_name → r.enumeration ≡ place_named links.enums d.proto.type_name
+    → r.kind ≡ kind_of_code (unwrap_or r.message 0) (unwrap_or r.enumeration 0) (natural_or_zero d.proto.type_) → r.default ≡ linked_default links r.kind d.proto.default_value → r ≡ resolve links d
+unfolding resolve
+resolved_is links d r definition extendee message enumeration kind default =
+    let own : r.kind ≡ linked_kind links d.proto = kind ∙ ap₂ (λ m e. kind_of_code (unwrap_or m 0) (unwrap_or e 0) (natural_or_zero d.proto.type_)) message enumeration in
+    let given : r.default ≡ linked_default links (linked_kind links d.proto) d.proto.default_value = default ∙ ap (λ k. linked_default links k d.proto.default_value) own in
+    λ i. record { definition = definition i; extendee = extendee i; message = message i; enumeration = enumeration i; kind = own i; default = given i }
 
 -- LISTS
 

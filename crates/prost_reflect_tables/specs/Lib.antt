@@ -3,6 +3,7 @@ pub mod Places
 pub mod Shown
 pub mod Linked
 pub mod Schema
+pub mod Scalars
 pub mod Equality
 pub mod Examples
 pub mod WrittenDefaults

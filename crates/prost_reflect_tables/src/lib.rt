@@ -6,8 +6,10 @@ mod build;
 mod catalog;
 mod error;
 mod examples;
+mod field;
 mod laws;
 mod lookup;
+mod scalar;
 mod tables;
 
 pub use build::defaults::written_default;
@@ -18,7 +20,7 @@ pub use build::index::{
     Index, add_names, enum_names, enum_place, file_names, index_of, indexed, message_names,
     message_place,
 };
-pub use build::kinds::{is_packable, linked_default, linked_kind, natural_or_zero, place_in};
+pub use build::kinds::{is_packable, natural_or_zero, place_in};
 pub use build::names::text_or_empty;
 pub use build::options::{bool_option, is_entry};
 pub use build::resolve::{Resolved, ResolvedField, all_resolved};
@@ -32,6 +34,7 @@ pub use examples::{
     tables_not_linked,
 };
 pub use laws::{equal_files, files_equality, tables_equality};
+pub use scalar::ScalarRef;
 pub use tables::{
     Cardinality, EnumTable, EnumValueTable, FieldTable, Identity, MessageTable, OneofTable,
     TableKind, Tables, WrittenDefault,

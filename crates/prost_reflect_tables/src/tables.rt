@@ -19,6 +19,26 @@ pub enum Cardinality {
     Repeated,
 }
 
+impl Cardinality {
+    ghost use Rattle.std.specs.Prelude.{◌≡◌};
+    ghost use Rattle.prost_reflect_tables.specs.Linking.{is_repeated};
+    ghost use Rattle.prost_reflect_tables.specs.Shown.{is_required};
+
+    /// Whether the field has a list of values, or a map.
+    pub fn is_repeated(self) -> bool
+        ensures { result ≡ is_repeated self }
+    {
+        matches!(self, Cardinality::Repeated)
+    }
+
+    /// Whether the field has one value, which its writers have to set.
+    pub fn is_required(self) -> bool
+        ensures { result ≡ is_required self }
+    {
+        matches!(self, Cardinality::Required)
+    }
+}
+
 /// The type of a field's values (the language guide, "Scalar Value Types"). Messages and enums are named by their places.
 #[derive(Clone, Copy, PartialEq, Eq, Debug)]
 pub enum TableKind {

@@ -11,7 +11,6 @@ use crate::descriptor::{
     MessageDescriptor, Placed, ReservedNames,
 };
 use crate::message::DynamicMessage;
-use crate::message::enums::first_in;
 use prost_reflect_tables::{EnumLists, EnumTable, text_or_empty};
 use prost_reflect_types::{EnumDescriptorProto, FileDescriptorProto};
 use std::alloc::AllocError;
@@ -308,6 +307,6 @@ impl EnumDescriptor {
         ensures first { result ≡ first_of (enum_row_at self.now) }
         ensures range { in_i32 result ≡ true }
     {
-        first_in(self.table())
+        self.table().first_number()
     }
 }

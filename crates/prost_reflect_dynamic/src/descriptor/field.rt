@@ -171,7 +171,7 @@ impl FieldDescriptor {
     pub fn is_required(&self) -> bool
         ensures { option_map (λ field. is_required field.cardinality) (row_at self.now) ≡ Some result }
     {
-        matches!(self.cardinality(), Cardinality::Required)
+        self.cardinality().is_required()
     }
 
     /// Whether the field has a list of values, and is no map.

@@ -3,9 +3,8 @@
 use crate::descriptor::{DescriptorPool, EnumDescriptor, MessageDescriptor};
 use crate::message::DynamicMessage;
 use crate::value::Value;
-use crate::value::scalar::ScalarRef;
 use prost_reflect_pool::LinkedPool;
-use prost_reflect_tables::TableKind;
+use prost_reflect_tables::{ScalarRef, TableKind};
 use prost_reflect_wire::WireType;
 use std::alloc::{AllocError, Global};
 
@@ -213,7 +212,7 @@ impl Kind {
             Kind::Message(message) => {
                 Ok(Value::Message(DynamicMessage::new(alloc, message.clone()?)))
             }
-            _ => self.scalar_default().to_value(alloc),
+            _ => Value::from_scalar(alloc, self.scalar_default()),
         }
     }
 

@@ -9,7 +9,6 @@ ghost use Rattle.prost_reflect_dynamic.specs.Defaults.{single_place};
 ghost use Rattle.prost_reflect_dynamic.specs.NamedFields.{declared_place, is_declared_at};
 ghost use Rattle.prost_reflect_dynamic.specs.Paths.{field_led, type_inside, place_behind, path_place, IsFieldPlace};
 
-use crate::descriptor::forms::is_repeated;
 use crate::descriptor::{FieldDescriptor, MessageDescriptor, Placed};
 use prost_reflect_pool::LinkedPool;
 use prost_reflect_tables::{FieldTable, TableKind};
@@ -123,7 +122,7 @@ fn single_place(field: &FieldTable) -> Option<usize>
     ensures { result ≡ single_place (field_row field.now) }
 {
     match field.kind {
-        TableKind::Message(place) if !is_repeated(field.cardinality) => Some(place),
+        TableKind::Message(place) if !field.cardinality.is_repeated() => Some(place),
         _ => None,
     }
 }

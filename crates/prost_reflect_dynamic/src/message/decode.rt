@@ -30,7 +30,6 @@ pub(crate) mod nested;
 pub(crate) mod scalar;
 
 use crate::descriptor::MessageDescriptor;
-use crate::descriptor::forms::is_repeated;
 use crate::message::DynamicMessage;
 use crate::message::decode::nested::MessageKind;
 use crate::message::decode::scalar::scalar_at;
@@ -223,7 +222,7 @@ fn target_at(message_type: &PooledType, number: u32) -> Target
     ensures { IsTarget message_type.now number result }
 {
     match message_type.field_table(number) {
-        Some(field) if is_repeated(field.cardinality) => repeated_target(message_type, field),
+        Some(field) if field.cardinality.is_repeated() => repeated_target(message_type, field),
         Some(field) => value_target(field.kind, field.is_group),
         None => Target::Unknown,
     }

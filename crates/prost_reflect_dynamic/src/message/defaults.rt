@@ -1,22 +1,20 @@
 //! What fields of a message have where nothing is stored (the guide on field presence).
 
-ghost use Rattle.std.specs.Prelude.{◌≡◌, true, false, IfOk, IsSome, None};
+ghost use Rattle.std.specs.Prelude.{◌≡◌, true, IfOk};
 ghost use Rattle.prost_reflect_wire.specs.Edit.{default_value};
 ghost use Rattle.prost_reflect_wire.specs.Schema.{field_valid};
 ghost use Rattle.prost_reflect_wire.specs.Scalar.{scalar_eq};
 ghost use Rattle.prost_reflect_wire.specs.Typing.{is_field_default, kept_inside};
 ghost use Rattle.prost_reflect_tables.specs.Rows.{field_row};
-ghost use Rattle.prost_reflect_tables.specs.Shown.{schema_field, schema_kind, schema_default, own_type};
+ghost use Rattle.prost_reflect_tables.specs.Shown.{schema_field, own_type};
 ghost use Rattle.prost_reflect_pool.specs.MessageTypes.{schema_at};
 ghost use Rattle.prost_reflect_pool.specs.SharedPools.{pool_rows};
-ghost use Rattle.prost_reflect_dynamic.specs.Scalars.{plain_kind, scalar_of};
+ghost use Rattle.prost_reflect_dynamic.specs.Scalars.{scalar_of};
 ghost use Rattle.prost_reflect_dynamic.specs.View.{value_of};
 
-use crate::descriptor::forms::is_repeated;
-use crate::value::scalar::ScalarRef;
 use crate::value::{Value, defaults};
 use prost_reflect_pool::PooledType;
-use prost_reflect_tables::{FieldTable, TableKind};
+use prost_reflect_tables::{FieldTable, ScalarRef};
 use std::alloc::{AllocError, Global};
 
 /// Whether a value, of any form, is what its field has where nothing is stored: an empty list or map, or the default of a
@@ -27,7 +25,7 @@ pub(crate) fn is_field_default(message_type: &PooledType, field: &FieldTable, va
 {
     match value.as_scalar() {
         Some(scalar) => {
-            !is_repeated(field.cardinality)
+            !field.cardinality.is_repeated()
                 && !field.supports_presence
                 && is_default(message_type, field, scalar)
         }
@@ -54,16 +52,7 @@ pub(crate) fn is_default(
     field: &FieldTable,
     scalar: ScalarRef<'_>,
 ) -> bool
-    requires { IsSome (plain_kind (field_row field.now).kind) }
     ensures { result ≡ scalar_eq (scalar_of scalar.entry) (own_type (pool_rows message_type.now.pool).enums (field_row field.now)).default }
 {
     scalar.equals(defaults::scalar_default(message_type.pool(), field))
-}
-
-/// The default of a scalar kind: the first number of an enum, else zero, false or empty.
-pub(crate) fn kind_default(message_type: &PooledType, kind: TableKind) -> ScalarRef<'static>
-    requires { IsSome (plain_kind kind) }
-    ensures { scalar_of result ≡ schema_default None (schema_kind (pool_rows message_type.now.pool).enums kind false) }
-{
-    defaults::kind_default(message_type.pool(), kind)
 }

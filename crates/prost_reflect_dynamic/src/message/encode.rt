@@ -26,7 +26,6 @@ mod list;
 mod map;
 pub(crate) mod scalar;
 
-use crate::descriptor::forms::is_repeated;
 use crate::message::DynamicMessage;
 use crate::message::encode::list::write_list;
 use crate::message::encode::map::write_map;
@@ -93,7 +92,7 @@ fn write_value<S: Sink>(sink: &mut S, message_type: &PooledType, number: u32, va
     ensures { Adds S.added sink.old sink.new (value_bytes (known_of message_type.now) number (value_of value.now)) }
 {
     match message_type.field_table(number) {
-        Some(field) if is_repeated(field.cardinality) => {
+        Some(field) if field.cardinality.is_repeated() => {
             write_repeated(sink, message_type, number, field, value);
         }
         Some(field) => match value {

@@ -2,11 +2,11 @@
 
 ghost use Rattle.std.specs.Prelude.{◌≡◌, not, Some, slice_get};
 ghost use Rattle.std.specs.List.{list_any};
-ghost use Rattle.std.specs.Option.{option_copied, option_map};
+ghost use Rattle.std.specs.Option.{option_copied};
 ghost use Rattle.std.specs.Ordering.{int_eq};
 ghost use Rattle.prost_reflect_wire.specs.Scalar.{is_declared};
 ghost use Rattle.prost_reflect_tables.specs.Rows.{enum_row, value_numbers};
-ghost use Rattle.prost_reflect_tables.specs.Shown.{first_number, enum_numbers};
+ghost use Rattle.prost_reflect_tables.specs.Shown.{enum_numbers};
 ghost use Rattle.prost_reflect_pool.specs.Enums.{numbers_or_none};
 ghost use Rattle.prost_reflect_pool.specs.Pools.{pool_rows};
 ghost use Rattle.prost_reflect_pool.specs.SharedPools.{pool_rows as shared_rows};
@@ -17,23 +17,6 @@ ghost use Rattle.prost_reflect_dynamic.specs.View.{value_of};
 use crate::value::Value;
 use prost_reflect_pool::{LinkedPool, PooledType};
 use prost_reflect_tables::{EnumTable, TableKind};
-
-/// The number of an enum's first value.
-pub(crate) fn first_in(table: &EnumTable) -> i32
-    ensures { result ≡ first_number (value_numbers (enum_row table.now)) }
-{
-    match table.values.first() {
-        Some(value) => value.number,
-        None => 0,
-    }
-}
-
-/// The row of the enum at a place of the pool, or none where no enum stands there.
-fn enum_at(pool: &LinkedPool, place: usize) -> Option<&EnumTable>
-    ensures { option_map (λ e. enum_row e.now) result ≡ slice_get (pool_rows pool.now).enums place }
-{
-    pool.tables().enums.get(place)
-}
 
 /// Whether one of the values of the enum at a place of the pool has the number, by binary search.
 fn has_number(pool: &LinkedPool, table: &EnumTable, place: usize, number: i32) -> bool
@@ -55,7 +38,7 @@ fn lacks(pool: &LinkedPool, table: &EnumTable, place: usize, number: i32) -> boo
 fn is_undeclared(pool: &LinkedPool, place: usize, number: i32) -> bool
     ensures { result ≡ not (is_declared (numbers_or_none (slice_get (pool_rows pool.now).enums place)) number) }
 {
-    match enum_at(pool, place) {
+    match pool.tables().enum_at(place) {
         Some(table) => lacks(pool, table, place, number),
         None => false,
     }

@@ -11,7 +11,6 @@ ghost use Rattle.prost_reflect_dynamic.specs.TypedSteps.{typed_at, StaysTyped};
 ghost use Rattle.prost_reflect_dynamic.specs.declared.message.setting.SetFieldError.TheVariants as refusals;
 
 use crate::descriptor::FieldDescriptor;
-use crate::descriptor::forms::is_repeated;
 use crate::message::DynamicMessage;
 use crate::message::encodable::takes_value;
 use crate::value::Value;
@@ -97,7 +96,7 @@ fn write_type<W: fmt::Write>(
             kind_name(pool, value.kind)
         ),
         None => {
-            if is_repeated(field.cardinality) {
+            if field.cardinality.is_repeated() {
                 f.write_str("repeated ")?;
             }
             f.write_str(kind_name(pool, field.kind))

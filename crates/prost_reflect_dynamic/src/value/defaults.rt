@@ -1,13 +1,12 @@
 //! What kinds, fields and extensions have where nothing is stored (the guide on field presence), and which values are that.
 
-ghost use Rattle.std.specs.Prelude.{◌≡◌, ◌<◌, ◌↔◌, true, false, IsTrue, IfOk, IsSome, None, Some, length, option_map, slice_get};
+ghost use Rattle.std.specs.Prelude.{◌≡◌, ◌<◌, ◌↔◌, true, IsTrue, IfOk, Some, length};
 ghost use Rattle.prost_reflect_wire.specs.Content.{MessageValue, ScalarValue, empty};
 ghost use Rattle.prost_reflect_wire.specs.Schema.{field_valid};
 ghost use Rattle.prost_reflect_wire.specs.Typing.{element_valid, is_empty_value, kind_takes};
 ghost use Rattle.prost_reflect_tables.specs.Linking.{is_repeated};
-ghost use Rattle.prost_reflect_tables.specs.Rows.{enum_row, field_row};
-ghost use Rattle.prost_reflect_tables.specs.Shown.{schema_from, schema_field, schema_kind, schema_default, own_type};
-ghost use Rattle.prost_reflect_pool.specs.Enums.{first_of};
+ghost use Rattle.prost_reflect_tables.specs.Rows.{field_row};
+ghost use Rattle.prost_reflect_tables.specs.Shown.{schema_from, schema_field, own_type};
 ghost use Rattle.prost_reflect_pool.specs.Pools.{pool_rows};
 ghost use Rattle.prost_reflect_pool.specs.SharedPools.{pool_rows as shared_rows};
 ghost use Rattle.prost_reflect_dynamic.specs.Access.{takes};
@@ -15,19 +14,17 @@ ghost use Rattle.prost_reflect_dynamic.specs.ExtensionAccess.{extension_takes};
 ghost use Rattle.prost_reflect_dynamic.specs.Defaults.{row_default, IsEmptyOf, IsRowDefault, IsKindDefault, IsFieldDefault, IsExtensionDefault, field_default, extension_default};
 ghost use Rattle.prost_reflect_dynamic.specs.NamedDefaults.{default_named};
 ghost use Rattle.prost_reflect_dynamic.specs.NamedKinds.{is_key_kind, kind_named};
-ghost use Rattle.prost_reflect_dynamic.specs.Scalars.{plain_kind, scalar_of};
+ghost use Rattle.prost_reflect_dynamic.specs.Scalars.{scalar_of};
 ghost use Rattle.prost_reflect_dynamic.specs.Variants.{message_in};
 ghost use Rattle.prost_reflect_dynamic.specs.declared.value.Value.{out-Value};
 ghost use Rattle.prost_reflect_dynamic.specs.View.{key_of, value_of};
 
-use crate::descriptor::forms::{is_list, is_map, is_repeated};
+use crate::descriptor::forms::{is_list, is_map};
 use crate::descriptor::{ExtensionDescriptor, FieldDescriptor, Kind};
 use crate::message::DynamicMessage;
-use crate::message::enums::first_in;
-use crate::value::scalar::ScalarRef;
 use crate::value::{MapKey, Value};
 use prost_reflect_pool::{LinkedPool, PooledType};
-use prost_reflect_tables::{EnumTable, FieldTable, TableKind};
+use prost_reflect_tables::{FieldTable, ScalarRef, TableKind};
 use std::alloc::{AllocError, Global};
 use std::collections::BTreeMap;
 use std::rc::Rc;
@@ -156,12 +153,12 @@ pub(crate) fn default_value(
     ensures value { IfOk result (λ v. value_of v ≡ row_default (shared_rows pool.now) (field_row field.now)) }
     ensures default { IfOk result (IsRowDefault pool.now (field_row field.now)) }
 {
-    if is_repeated(field.cardinality) {
+    if field.cardinality.is_repeated() {
         return Ok(no_elements(alloc, pool, field));
     }
     match field.kind {
         TableKind::Message(place) => empty_message(alloc, pool, place),
-        _ => scalar_default(pool, field).to_value(alloc),
+        _ => Value::from_scalar(alloc, scalar_default(pool, field)),
     }
 }
 
@@ -191,7 +188,7 @@ fn empty_message(alloc: Global, pool: &Rc<LinkedPool>, place: usize) -> Result<V
 fn is_row_default(pool: &Rc<LinkedPool>, field: &FieldTable, value: &Value) -> bool
     ensures { IsTrue result ↔ IsRowDefault pool.now (field_row field.now) value.now }
 {
-    if is_repeated(field.cardinality) {
+    if field.cardinality.is_repeated() {
         return is_empty(pool, field, value);
     }
     match field.kind {
@@ -231,41 +228,9 @@ fn is_scalar(value: &Value, scalar: ScalarRef<'_>) -> bool
     }
 }
 
-/// The default of a field of scalars: the one that the definition writes, else that of the kind.
+/// The default of a field's own values: the one that the definition writes, else that of the kind.
 pub(crate) fn scalar_default<'a>(pool: &LinkedPool, field: &'a FieldTable) -> ScalarRef<'a>
-    requires { IsSome (plain_kind (field_row field.now).kind) }
     ensures { scalar_of result ≡ (own_type (pool_rows pool.now).enums (field_row field.now)).default }
 {
-    match &field.default {
-        Some(default) => ScalarRef::written(default),
-        None => kind_default(pool, field.kind),
-    }
-}
-
-/// The default of a scalar kind: the first number of an enum, else zero, false or empty.
-pub(crate) fn kind_default(pool: &LinkedPool, kind: TableKind) -> ScalarRef<'static>
-    requires { IsSome (plain_kind kind) }
-    ensures { scalar_of result ≡ schema_default None (schema_kind (pool_rows pool.now).enums kind false) }
-{
-    match kind {
-        TableKind::Enum(place) => ScalarRef::EnumNumber(first_number(pool, place)),
-        _ => ScalarRef::zero(kind),
-    }
-}
-
-/// The number of the first value of the enum at a place of the pool.
-fn first_number(pool: &LinkedPool, place: usize) -> i32
-    ensures { result ≡ first_of (slice_get (pool_rows pool.now).enums place) }
-{
-    match enum_at(pool, place) {
-        Some(table) => first_in(table),
-        None => 0,
-    }
-}
-
-/// The enum at a place of the pool.
-fn enum_at(pool: &LinkedPool, place: usize) -> Option<&EnumTable>
-    ensures { option_map (λ e. enum_row e.now) result ≡ slice_get (pool_rows pool.now).enums place }
-{
-    pool.tables().enums.get(place)
+    pool.tables().scalar_default(field)
 }

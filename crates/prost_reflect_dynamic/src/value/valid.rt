@@ -17,13 +17,11 @@ ghost use Rattle.prost_reflect_dynamic.specs.Scalars.{scalar_of};
 ghost use Rattle.prost_reflect_dynamic.specs.Valid.{list_fits, map_fits, pair_fits};
 ghost use Rattle.prost_reflect_dynamic.specs.View.{key_of, value_of};
 
-use crate::descriptor::forms::is_repeated;
 use crate::descriptor::{ExtensionDescriptor, FieldDescriptor, Kind};
 use crate::message::enums::takes_number;
-use crate::value::scalar::ScalarRef;
 use crate::value::{MapKey, Value};
 use prost_reflect_pool::LinkedPool;
-use prost_reflect_tables::{FieldTable, TableKind};
+use prost_reflect_tables::{FieldTable, ScalarRef, TableKind};
 use std::collections::BTreeMap;
 
 impl Value {
@@ -71,7 +69,7 @@ impl MapKey {
 pub(crate) fn value_valid(pool: &LinkedPool, field: &FieldTable, value: &Value) -> bool
     ensures { result ≡ value_valid (schema_field (pool_rows pool.now) (field_row field.now)) (value_of value.now) }
 {
-    if !is_repeated(field.cardinality) {
+    if !field.cardinality.is_repeated() {
         return element_valid(Some(pool), field.kind, value);
     }
     match pool.map_parts(field) {

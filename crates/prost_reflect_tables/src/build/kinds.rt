@@ -1,16 +1,16 @@
 //! The kinds of fields, by the type codes and the names that their definitions write, and their defaults.
 
-ghost use Rattle.std.specs.Prelude.{◌≡◌, IfOk, IsSome, IsSomeAnd, option_map};
+ghost use Rattle.std.specs.Prelude.{◌≡◌, IfOk, IsSome, IsSomeAnd, option_map, unwrap_or};
 ghost use Rattle.prost_reflect_wire.specs.Schema.{is_packable as scalar_packable};
 ghost use Rattle.prost_reflect_tables.specs.FlatViews.{flat_rows};
 ghost use Rattle.prost_reflect_tables.specs.Indexed.{IsIndex};
-ghost use Rattle.prost_reflect_tables.specs.Linking.{links_of, natural_or_zero, place_in, kind_of_code, linked_kind, is_packable, linked_default};
+ghost use Rattle.prost_reflect_tables.specs.Linking.{links_of, natural_or_zero, place_in, kind_of_code, is_packable, linked_default};
 ghost use Rattle.prost_reflect_tables.specs.Rows.{written_scalar};
 ghost use Rattle.prost_reflect_tables.specs.WrittenDefaults.{plain_kind};
 
 use crate::build::defaults::written_default;
 use crate::build::flatten::Flat;
-use crate::build::index::{Index, enum_place, message_place, number_named};
+use crate::build::index::{Index, number_named};
 use crate::tables::{TableKind, WrittenDefault};
 use prost_reflect_types::FieldDescriptorProto;
 use std::alloc::{AllocError, Global};
@@ -60,14 +60,19 @@ fn kind_of_code(message: usize, enumeration: usize, code: u32) -> TableKind
     }
 }
 
-/// The kind of a field.
-pub fn linked_kind(index: &Index, flat: &Flat, field: &FieldDescriptorProto) -> TableKind
-    requires { IsIndex index.now (flat_rows flat.now) }
-    ensures { result ≡ linked_kind (links_of (flat_rows flat.now)) field.now }
+/// The kind of a field whose type's name names the message and the enum of these places. One that names none counts as the first.
+pub(crate) fn linked_kind(
+    message: Option<usize>,
+    enumeration: Option<usize>,
+    field: &FieldDescriptorProto,
+) -> TableKind
+    ensures { result ≡ kind_of_code (unwrap_or message 0) (unwrap_or enumeration 0) (natural_or_zero field.now.type_) }
 {
-    let message = message_place(index, flat, &field.type_name).unwrap_or(0);
-    let enumeration = enum_place(index, flat, &field.type_name).unwrap_or(0);
-    kind_of_code(message, enumeration, natural_or_zero(field.type_))
+    kind_of_code(
+        message.unwrap_or(0),
+        enumeration.unwrap_or(0),
+        natural_or_zero(field.type_),
+    )
 }
 
 /// Whether a list of the kind may be written as one record: of all kinds but string, bytes and messages.
@@ -86,7 +91,7 @@ pub fn is_packable(kind: TableKind) -> bool
 /// # Errors
 ///
 /// `AllocError` if out of memory.
-pub fn linked_default(
+pub(crate) fn linked_default(
     alloc: Global,
     index: &Index,
     flat: &Flat,

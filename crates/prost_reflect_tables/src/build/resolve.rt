@@ -56,12 +56,14 @@ fn resolved_field<'f, 'a>(
     ensures { IfOk result (λ f. resolved_row f ≡ resolve (links_of (flat_rows flat.now)) (definition_row definition.now)) }
 {
     let proto = definition.proto;
-    let kind = linked_kind(index, flat, proto);
+    let message = message_place(index, flat, &proto.type_name);
+    let enumeration = enum_place(index, flat, &proto.type_name);
+    let kind = linked_kind(message, enumeration, proto);
     Ok(ResolvedField {
         definition: definition.lend(),
         extendee: message_place(index, flat, &proto.extendee),
-        message: message_place(index, flat, &proto.type_name),
-        enumeration: enum_place(index, flat, &proto.type_name),
+        message,
+        enumeration,
         kind,
         default: linked_default(alloc, index, flat, kind, &proto.default_value)?,
     })

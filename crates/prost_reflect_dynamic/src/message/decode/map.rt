@@ -20,12 +20,10 @@ ghost use Rattle.prost_reflect_dynamic.specs.TypedSteps.{entry_typed, StaysTyped
 
 use crate::message::DynamicMessage;
 use crate::message::decode::scalar::scalar_at;
-use crate::message::defaults::kind_default;
 use crate::message::enums::is_stray;
-use crate::value::scalar::ScalarRef;
 use crate::value::{MapKey, Value};
 use prost_reflect_pool::PooledType;
-use prost_reflect_tables::TableKind;
+use prost_reflect_tables::{ScalarRef, TableKind};
 use prost_reflect_wire::{
     DecodeError, FieldNumber, WireType, decode_delimited, decode_key, skip_value,
 };
@@ -37,7 +35,7 @@ pub(super) fn default_of(alloc: Global, kind: TableKind) -> Value
     requires { IsSome (plain_kind kind) }
     ensures { IsDefaultOf kind result }
 {
-    ScalarRef::zero(kind).blank_value(alloc)
+    Value::blank(alloc, ScalarRef::zero(kind))
 }
 
 /// What an entry has where it lacks a value: the first number of an enum, else zero, false or empty.
@@ -45,7 +43,7 @@ fn absent_value(alloc: Global, message_type: &PooledType, kind: TableKind) -> Va
     requires { IsSome (plain_kind kind) }
     ensures { IsAbsentValue (pool_rows message_type.now.pool).enums kind result }
 {
-    kind_default(message_type, kind).blank_value(alloc)
+    Value::blank(alloc, message_type.tables().kind_default(kind))
 }
 
 /// Reads the body of a map's entry whose key and value are of these scalar kinds: the last record of number 1 is the key

@@ -9,9 +9,8 @@ ghost use Rattle.prost_reflect_dynamic.specs.Scalars.{plain_kind, scalar_of, Tak
 
 use crate::message::decode::scalar::wire_type_of;
 use crate::message::defaults::is_default;
-use crate::value::scalar::ScalarRef;
 use prost_reflect_pool::PooledType;
-use prost_reflect_tables::{FieldTable, TableKind};
+use prost_reflect_tables::{FieldTable, ScalarRef, TableKind};
 use prost_reflect_wire::{Sink, WireType, sign_extended, write_key, zigzag32, zigzag64};
 
 /// Adds the payload of a scalar in front.

@@ -4,27 +4,27 @@ use Rattle.prost_reflect_wire.specs.Schema.{Field}
 use Rattle.prost_reflect_fields.specs.declared.slot.FieldSlot.{FieldSlot}
 use Rattle.prost_reflect_fields.specs.Items.{IsAscending}
 use Rattle.prost_reflect_fields.specs.Known.{known_of}
-use Rattle.prost_reflect_fields.specs.FieldSlots.{value_at, with_value}
+use Rattle.prost_reflect_fields.specs.FieldSlots.{stored_at, with_value}
 use Rattle.prost_reflect_fields.specs.Sound.{set_value_at, prepared}
 use Rattle.prost_reflect_fields.proofs.SoundChanges.{value_set}
 use Rattle.prost_reflect_fields.proofs.stored.value_mut_or.Goals as goal
 
-prepared_has : {V : Type 0} (fields : List Field) (es : List (ℕ × FieldSlot V)) (n : ℕ) (v : V) → IsAscending es → is_some (value_at (prepared fields es n v) n) ≡ true
-prepared_has fields es n v s = cases (is_some (value_at es n)) refl
+prepared_has : {V : Type 0} (fields : List Field) (es : List (ℕ × FieldSlot V)) (n : ℕ) (v : V) → IsAscending es → is_some (stored_at (prepared fields es n v) n) ≡ true
+prepared_has fields es n v s = cases (is_some (stored_at es n)) refl
   where
-    cases : (b : Bool) → is_some (value_at es n) ≡ b → is_some (value_at (cond b es (set_value_at fields es n v)) n) ≡ true
+    cases : (b : Bool) → is_some (stored_at es n) ≡ b → is_some (stored_at (cond b es (set_value_at fields es n v)) n) ≡ true
     cases true h = h
     cases false h = ap is_some (value_set fields es n v s)
 
 pub unreachable-requires : goal.unreachable-requires
 unreachable-requires g c =
     let has = prepared_has (known_of c.args.message_type.now) (g.S.NumberMap.entries c.args.fields.now) c.args.number c.args.default c.set_default.ensures.ascending in
-    true≢false (sym has ∙ ap (λ es. is_some (value_at es c.args.number)) (sym c.in_ok-set_default.ensures.ok) ∙ ap is_some (sym c.in-None.ensures.value))
+    true≢false (sym has ∙ ap (λ es. is_some (stored_at es c.args.number)) (sym c.in_ok-set_default.ensures.ok) ∙ ap is_some (sym c.in-None.ensures.value))
 
 pub returns : goal.returns
 returns g c =
     let n = c.args.number in
     let is = c.in_ok-set_default.ensures.ok in (
       (refl, (λ w. (c.value_mut.follows.holds w ∙ ap (λ (es : List (ℕ × FieldSlot g.row.V.Denot)). with_value es n w) is, tt)), (is, tt)),
-      record { writes_back = tt; value = ap (λ es. value_at es n) (sym is) ∙ sym c.in-Some.ensures.value; ascending = c.set_default.ensures.ascending },
+      record { writes_back = tt; value = ap (λ es. stored_at es n) (sym is) ∙ sym c.in-Some.ensures.value; ascending = c.set_default.ensures.ascending },
     )

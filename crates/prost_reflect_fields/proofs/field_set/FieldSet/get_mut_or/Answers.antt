@@ -5,7 +5,7 @@ use Rattle.std.specs.Borrow.{MutBor, name_if_ok}
 use Rattle.std.specs.Result.{OnOk, OnErr, IfOk}
 use Rattle.prost_reflect_pool.specs.declared.pooled_type.PooledType.{PooledType}
 use Rattle.prost_reflect_fields.specs.declared.slot.FieldSlot.{FieldSlot}
-use Rattle.prost_reflect_fields.specs.FieldSlots.{value_at, with_value}
+use Rattle.prost_reflect_fields.specs.FieldSlots.{stored_at, with_value}
 use Rattle.prost_reflect_fields.specs.Items.{IsAscending}
 use Rattle.prost_reflect_fields.specs.Known.{known_of, is_known}
 use Rattle.prost_reflect_fields.specs.Sound.{Sound, prepared}
@@ -50,7 +50,7 @@ returns g c =
           c.value_mut_or.follows.holds c.value_mut_or.follows.holds-at-none.1 (λ w. ap (put w) c.self.view_is) c.self.view_is,
       record {
         writes_back = tt;
-        value = subst (λ (m : PooledType × List (ℕ × FieldSlot g.row.V.Denot)). IfOk c.value_mut_or.result (λ v. value_at (prepared (known_of m.0) m.1 n default) n ≡ Some v.now)) c.self.view_is lent.value;
+        value = subst (λ (m : PooledType × List (ℕ × FieldSlot g.row.V.Denot)). IfOk c.value_mut_or.result (λ v. stored_at (prepared (known_of m.0) m.1 n default) n ≡ Some v.now)) c.self.view_is lent.value;
         ascending = subst (λ (m : PooledType × List (ℕ × FieldSlot g.row.V.Denot)). IsAscending m.1) c.self.view_is lent.ascending;
         sound = subst (λ (m : PooledType × List (ℕ × FieldSlot g.row.V.Denot)). Sound (known_of m.0) m.1) c.self.view_is c.self.invariant;
       },

@@ -1,12 +1,16 @@
-use Rattle.std.proofs.Common.{false}
-use Rattle.prost_reflect_tables.specs.Shown.{schema_kind}
+use Rattle.std.proofs.Common.{◌≡◌, false, subst}
+use Rattle.std.specs.Prelude.{None}
+use Rattle.prost_reflect_tables.specs.Rows.{TableRows}
+use Rattle.prost_reflect_tables.specs.Shown.{schema_default, schema_kind}
 use Rattle.prost_reflect_pool.specs.SharedPools.{pool_rows}
 use Rattle.prost_reflect_dynamic.specs.Scalars.{scalar_of}
 use Rattle.prost_reflect_dynamic.proofs.ScalarRefs.{kind_blank, kind_shown}
 use Rattle.prost_reflect_dynamic.proofs.message.decode.map.absent_value.Goals as goal
 
-pub blank_value-requires : goal.blank_value-requires
-blank_value-requires c = kind_blank (schema_kind (pool_rows c.args.message_type.now.pool).enums c.args.kind false) (scalar_of c.kind_default.result) c.kind_default.ensures
+pub blank-requires : goal.blank-requires
+blank-requires c = kind_blank (schema_kind (pool_rows c.args.message_type.now.pool).enums c.args.kind false) (scalar_of c.kind_default.result)
+    (subst (λ (rows : TableRows). scalar_of c.kind_default.result ≡ schema_default None (schema_kind rows.enums c.args.kind false)) c.tables.ensures (c.kind_default.ensures false))
 
 pub returns : goal.returns
-returns c = kind_shown (pool_rows c.args.message_type.now.pool).enums c.args.kind (scalar_of c.kind_default.result) c.blank_value.result c.requires c.kind_default.ensures c.blank_value.ensures
+returns c = kind_shown (pool_rows c.args.message_type.now.pool).enums c.args.kind (scalar_of c.kind_default.result) c.blank.result c.requires
+    (subst (λ (rows : TableRows). scalar_of c.kind_default.result ≡ schema_default None (schema_kind rows.enums c.args.kind false)) c.tables.ensures (c.kind_default.ensures false)) c.blank.ensures

@@ -3,8 +3,8 @@ use Rattle.prost_reflect_dynamic.specs.View.{value_of}
 use Rattle.prost_reflect_dynamic.proofs.ScalarRefs.{zero_blank, zero_shown}
 use Rattle.prost_reflect_dynamic.proofs.message.decode.map.default_of.Goals as goal
 
-pub blank_value-requires : goal.blank_value-requires
-blank_value-requires c = zero_blank (plain_kind c.args.kind) _ c.zero.ensures
+pub blank-requires : goal.blank-requires
+blank-requires c = zero_blank (plain_kind c.args.kind) _ c.zero.ensures
 
 pub returns : goal.returns
-returns c = zero_shown (plain_kind c.args.kind) (scalar_of c.zero.result) (value_of c.blank_value.result) c.zero.ensures c.blank_value.ensures
+returns c = zero_shown (plain_kind c.args.kind) (scalar_of c.zero.result) (value_of c.blank.result) c.zero.ensures c.blank.ensures

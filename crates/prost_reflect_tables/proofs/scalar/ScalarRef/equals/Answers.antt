@@ -1,6 +1,6 @@
 use Rattle.std.proofs.Common.{◌∙◌}
 use Rattle.std.specs.Cmp.Lexicographic.{texts_ties}
-use Rattle.prost_reflect_dynamic.proofs.value.scalar.ScalarRef.equals.Goals as goal
+use Rattle.prost_reflect_tables.proofs.scalar.ScalarRef.equals.Goals as goal
 
 pub returns-in-String-String : goal.returns-in-String-String
 returns-in-String-String c = rw (c.in-String-String.is-0, c.in-String-String.is-1) (c.eq.ensures ∙ texts_ties c.in-String-String.text.now c.in-String-String.other.now)

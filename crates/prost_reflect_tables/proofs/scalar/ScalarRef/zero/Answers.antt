@@ -1,5 +1,5 @@
 use Rattle.std.proofs.Common.{inl, inr, refl}
-use Rattle.prost_reflect_dynamic.proofs.value.scalar.ScalarRef.zero.Goals as goal
+use Rattle.prost_reflect_tables.proofs.scalar.ScalarRef.zero.Goals as goal
 
 pub returns-in-Double : goal.returns-in-Double
 returns-in-Double c = rw c.in-Double.is refl
