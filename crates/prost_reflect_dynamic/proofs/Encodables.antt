@@ -116,8 +116,8 @@ module _ (m : DynamicMessage) (s : IsAscending (stored_in m)) (sound : IsSound (
   abbrev shown_entries : Entries
   shown_entries = entries_from (shown (stored_in m))
 
-  value_is : (k : ℕ) → contents.stored_at k (entries_from (shown (stored_in m))) ≡ option_map value_of (stored_at (stored_in m) k)
-  value_is k = sym (ap (λ c. contents.stored_at k (entries_of c)) (content_of_message m)) ∙ ap (λ (slot : Slot). slot.value) (message_slots m k s)
+  value_is : (k : ℕ) → contents.value_at k (entries_from (shown (stored_in m))) ≡ option_map value_of (stored_at (stored_in m) k)
+  value_is k = sym (ap (λ c. contents.value_at k (entries_of c)) (content_of_message m)) ∙ ap (λ (slot : Slot). slot.value) (message_slots m k s)
 
   apart : Apart (known_of (message_type_of m)) (slot_at (entries_from (shown (stored_in m))))
   apart n k f v w found sibling here there =
@@ -129,7 +129,7 @@ module _ (m : DynamicMessage) (s : IsAscending (stored_in m)) (sound : IsSound (
   order : contents.entries_ordered (entries_of (content_of m)) ≡ true
   order = message_order m s (λ k v is. (and_parts (value_ordered (value_of v)) (value_passes alone_test (value_of v)) (at_slot value_arranged (stored_in m) all k v is)).0)
 
-  inside : (n : ℕ) (v : contents.Value) → contents.stored_at n (entries_from (shown (stored_in m))) ≡ Some v → value_passes alone_test v ≡ true
+  inside : (n : ℕ) (v : contents.Value) → contents.value_at n (entries_from (shown (stored_in m))) ≡ Some v → value_passes alone_test v ≡ true
   inside n v is = mapped (stored_at (stored_in m) n) refl (sym (value_is n) ∙ is)
     where
       mapped : (o : Option Value) → stored_at (stored_in m) n ≡ o → option_map value_of o ≡ Some v → value_passes alone_test v ≡ true

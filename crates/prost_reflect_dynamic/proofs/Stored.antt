@@ -68,7 +68,7 @@ content_from d es = ContentOf (schema_at d) (type_at d) (entries_from (shown es)
 pub slot_of_message : (m : DynamicMessage) (k : ℕ) → IsAscending m.fields.1 → slot_at (entries_of (content_of m)) k ≡ stored_slot m.fields.1 k
 slot_of_message m k s = ap (λ c. slot_at (entries_of c) k) (content_of_message m) ∙ slot_stored m.fields.1 k s
 
-pub value_of_message : (m : DynamicMessage) (k : ℕ) → IsAscending m.fields.1 → option_map value_of (stored_at m.fields.1 k) ≡ contents.stored_at k (entries_of (content_of m))
+pub value_of_message : (m : DynamicMessage) (k : ℕ) → IsAscending m.fields.1 → option_map value_of (stored_at m.fields.1 k) ≡ contents.value_at k (entries_of (content_of m))
 value_of_message m k s = ap (λ (slot : Slot). slot.value) (sym (slot_of_message m k s))
 
 -- SETTING
@@ -210,7 +210,7 @@ unwrapped (Some v) default = refl
 
 -- the value that is lent
 pub value_lent : (m : DynamicMessage) (n : ℕ) (default v : Value) → IsAscending m.fields.1 → stored_at (prepared (known_of m.fields.0) m.fields.1 n default) n ≡ Some v
-    → value_of v ≡ unwrap_or (contents.stored_at n (entries_of (content_of m))) (value_of default)
+    → value_of v ≡ unwrap_or (contents.value_at n (entries_of (content_of m))) (value_of default)
 value_lent m n default v s h =
     ap value_of (prepared_value (known_of m.fields.0) m.fields.1 n default v s h) ∙ unwrapped (stored_at m.fields.1 n) default
     ∙ ap (λ o. unwrap_or o (value_of default)) (value_of_message m n s)

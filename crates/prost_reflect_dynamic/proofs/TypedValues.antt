@@ -108,10 +108,10 @@ listed_alone files rows place kind (StoredInside m) listed valid = absurd listed
 listed_alone files rows place kind (StoredList vs) listed valid = items_alone files rows place kind vs valid
 listed_alone files rows place kind (StoredMap ps) listed valid = absurd listed
 
-elements_fit : (c : Content) (n : ℕ) (f : Field) (packed : Bool) → WellStored c → field_of (known (schema_of c) (type_of c)) n ≡ Some f → f.form ≡ Repeated packed → ListFits f.value_type.kind (contents.stored_at n (entries_of c))
+elements_fit : (c : Content) (n : ℕ) (f : Field) (packed : Bool) → WellStored c → field_of (known (schema_of c) (type_of c)) n ≡ Some f → f.form ≡ Repeated packed → ListFits f.value_type.kind (contents.value_at n (entries_of c))
 elements_fit (ContentOf schema T es) n f packed sound found form =
     let number : f.number ≡ n = field_number (known schema T) n f found in
-    subst (λ m. ListFits f.value_type.kind (contents.stored_at m es)) number (list_fits (known schema T) es f packed sound.fits (ap (field_of (known schema T)) number ∙ found) form)
+    subst (λ m. ListFits f.value_type.kind (contents.value_at m es)) number (list_fits (known schema T) es f packed sound.fits (ap (field_of (known schema T)) number ∙ found) form)
 
 -- a list of scalars that fits holds no message
 list_typed : (m : DynamicMessage) (n : ℕ) (kind : TableKind) → IsAscending (stored_in m) → WellStored (content_of m) → ListField (known_of (message_type_of m)) n kind → TypedAt (message_type_of m) n (stored_at (stored_in m) n)

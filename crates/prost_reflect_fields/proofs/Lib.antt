@@ -9,6 +9,7 @@ mod SlotsParted
 mod OneofPlaces
 mod MembersCleared
 mod PresentSiblings
+mod OnlyMembers
 pub mod Replaced
 mod Weaving
 mod RunChanges

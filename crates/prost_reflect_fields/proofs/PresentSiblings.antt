@@ -45,7 +45,7 @@ and_false : (a : Bool) → a && false ≡ false
 and_false true = refl
 and_false false = refl
 
-others_are_siblings : (fields : List Field) (n k : ℕ) → numbers_differ fields ≡ true → is_other_member fields (oneof_of fields n) n k ≡ are_siblings fields n k
+pub others_are_siblings : (fields : List Field) (n k : ℕ) → numbers_differ fields ≡ true → is_other_member fields (oneof_of fields n) n k ≡ are_siblings fields n k
 others_are_siblings fields n k differ = cases (field_of fields n) refl
   where
     cases : (o : Option Field) → field_of fields n ≡ o → (not (nat_eq k n) && same_oneof (oneof_of fields k) (option_and_then (λ f. f.oneof) o)) ≡ passes o (λ f. is_sibling fields f k)

@@ -19,7 +19,8 @@ use crate::parting::parted;
 use crate::slot::FieldSlot;
 use crate::sorted_map::{Items, ItemsBack, SortedMap};
 use crate::stored::{
-    add_unknown, set_value, stored_at, take_value, unknown_at, value_mut, value_mut_or,
+    add_unknown, noted_member, set_value, stored_at, take_value, unknown_at, value_mut,
+    value_mut_or,
 };
 use crate::taking::take_unknown;
 use prost_reflect_pool::PooledType;
@@ -209,7 +210,15 @@ impl<V: Drop> FieldSet<V> {
         ensures ascending { IsAscending self.old.1 }
     {
         let alloc = self.fields.allocator();
-        set_value(&mut self.fields, alloc, &self.message_type, number, value)
+        let member = noted_member(&mut self.fields, &self.message_type, number);
+        set_value(
+            &mut self.fields,
+            alloc,
+            &self.message_type,
+            number,
+            value,
+            member,
+        )
     }
 
     /// Adds an unknown field behind those of its number, which is that of no field, or of one that takes no value from it, since
@@ -265,6 +274,14 @@ impl<V: Drop> FieldSet<V> {
         ensures sound { IsSound self.old.0 self.old.1 }
     {
         let alloc = self.fields.allocator();
-        value_mut_or(&mut self.fields, alloc, &self.message_type, number, default)
+        let member = noted_member(&mut self.fields, &self.message_type, number);
+        value_mut_or(
+            &mut self.fields,
+            alloc,
+            &self.message_type,
+            number,
+            default,
+            member,
+        )
     }
 }

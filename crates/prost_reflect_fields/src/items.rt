@@ -88,6 +88,7 @@ impl<T> ItemList<T> {
 
 impl<T: Drop> ItemList<T> {
     /// Puts the item at the number, in place of one that is there. If out of memory, nothing changes.
+    #[inline(always)]
     pub(crate) fn insert(&mut self, number: u32, item: T) -> Result<(), AllocError>
         ensures ok { OnOk result (self.new ≡ put_item self.old number item) }
         ensures err { OnErr result (self.new ≡ self.old) }
@@ -106,6 +107,7 @@ impl<T: Drop> ItemList<T> {
 
 /// Where the number stands among ascending ones, or where it would go. The last item is looked at first, since the records of a
 /// message mostly come in ascending order, and those of a list one behind another.
+#[inline]
 pub(crate) fn place_in<T>(items: &[(u32, T)], number: u32) -> Result<usize, usize>
     requires { IsAscending items.now }
     ensures { result ≡ seek (nat_cmp number) items.now }
@@ -155,6 +157,7 @@ pub(crate) fn item_mut<T>(items: &mut Vec<(u32, T)>, number: u32) -> Option<&mut
 }
 
 /// Puts the item at the number, in place of one that is there. If out of memory, nothing changes.
+#[inline(always)]
 pub(crate) fn put<T: Drop>(
     items: &mut Vec<(u32, T)>,
     number: u32,

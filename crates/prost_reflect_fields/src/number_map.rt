@@ -38,6 +38,11 @@ pub trait NumberMap<T> {
     fn remove(&mut self, number: u32) -> Option<T>
         ensures removed { result ≡ item_at (entries self.old) number }
         ensures entries { entries self.new ≡ without_item (entries self.old) number };
+
+    /// Notes the number under the key, in place of the one that was noted under it, which it answers. A map need not keep notes, nor
+    /// all of them. Only speed rests on it.
+    fn note(&mut self, key: usize, number: u32) -> Option<u32>
+        ensures { entries self.new ≡ entries self.old };
 }
 
 /// The numbers of a map ascend. A call does nothing, but its caller may then count on it.
@@ -73,5 +78,9 @@ impl<T: Drop> NumberMap<T> for BTreeMap<u32, T> {
 
     fn remove(&mut self, number: u32) -> Option<T> {
         self.remove(&number)
+    }
+
+    fn note(&mut self, _key: usize, _number: u32) -> Option<u32> {
+        None
     }
 }

@@ -11,6 +11,7 @@ ghost use Rattle.prost_reflect_fields.specs.Runs.{flat, IsLaid, run_at};
 
 use crate::items::{get_at, join, place_in, put, remove_at};
 use std::alloc::{AllocError, Global};
+use std::collections::BTreeMap;
 use std::marker::Model;
 
 /// A run of so many items is parted before it takes a further one.
@@ -21,9 +22,12 @@ pub(crate) const FULL: usize = 128;
 ///
 /// An item goes into its run, and a run that is full is parted first. So an item moves no more than those of its run, whatever
 /// the order in which the numbers come.
+///
+/// Beside its items it keeps notes for who uses it. They are no part of what it holds.
 #[derive(Debug, Drop)]
 pub struct RunMap<T> {
     runs: Vec<(u32, Vec<(u32, T)>)>,
+    notes: BTreeMap<usize, u32>,
 }
 
 impl<T> Model for RunMap<T> {
@@ -44,6 +48,7 @@ impl<T> RunMap<T> {
     {
         RunMap {
             runs: Vec::new(alloc),
+            notes: BTreeMap::new(alloc),
         }
     }
 
@@ -59,7 +64,8 @@ impl<T> RunMap<T> {
             Ok(()) => {}
             Err(_) => unreachable!(),
         }
-        RunMap { runs }
+        let notes = BTreeMap::new(*runs.allocator());
+        RunMap { runs, notes }
     }
 
     /// Puts all items behind those that are there, for which there is room.
@@ -70,7 +76,8 @@ impl<T> RunMap<T> {
         ensures items { items.new.items ≡ items.old.items ++ self }
         ensures ascending { IsAscending self }
     {
-        let RunMap { runs } = self;
+        let RunMap { runs, notes } = self;
+        drop(notes);
         join_runs(runs, items);
     }
 
@@ -136,6 +143,17 @@ impl<T: Drop> RunMap<T> {
     {
         make_room(&mut self.runs, number)?;
         put_in(&mut self.runs, number, item)
+    }
+
+    /// Notes the number under the key, in place of the one that was noted under it, which it answers. If out of memory, nothing is
+    /// noted. Only speed rests on it.
+    pub(crate) fn note(&mut self, key: usize, number: u32) -> Option<u32>
+        ensures { self.new ≡ self.old }
+    {
+        match self.notes.insert(key, number) {
+            Ok(before) => before,
+            Err(_) => None,
+        }
     }
 
     /// Takes the item at the number.

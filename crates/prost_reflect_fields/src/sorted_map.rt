@@ -282,6 +282,18 @@ impl<T: Drop> SortedMap<T> {
         Ok(())
     }
 
+    /// Notes the number under the key, in place of the one that was noted under it, which it answers. Nothing is noted unless the items
+    /// stand in runs, and if out of memory. Only speed rests on it.
+    pub fn note(&mut self, key: usize, number: u32) -> Option<u32>
+        ensures { self.new ≡ self.old }
+    {
+        match &mut self.held {
+            Held::Empty(_, _) => None,
+            Held::Listed(_) => None,
+            Held::Laid(map) => map.get_mut().note(key, number),
+        }
+    }
+
     /// Takes the item at the number.
     pub fn remove(&mut self, number: u32) -> Option<T>
         ensures removed { result ≡ item_at self.old number }
@@ -487,19 +499,26 @@ impl<T: Drop> NumberMap<T> for SortedMap<T> {
         self.listed()
     }
 
+    #[inline]
     fn get(&self, number: u32) -> Option<&T> {
         self.get(number)
     }
 
+    #[inline]
     fn get_mut(&mut self, number: u32) -> Option<&mut T> {
         self.get_mut(number)
     }
 
+    #[inline]
     fn insert(&mut self, number: u32, item: T) -> Result<(), AllocError> {
         self.insert(number, item)
     }
 
     fn remove(&mut self, number: u32) -> Option<T> {
         self.remove(number)
+    }
+
+    fn note(&mut self, key: usize, number: u32) -> Option<u32> {
+        self.note(key, number)
     }
 }

@@ -8,8 +8,8 @@ ghost use Rattle.prost_reflect_wire.specs.Schema.{same_oneof};
 ghost use Rattle.prost_reflect_fields.specs.Items.{IsAscending};
 ghost use Rattle.prost_reflect_fields.specs.Known.{known_of, oneof_of, are_siblings, is_other_member};
 ghost use Rattle.prost_reflect_fields.specs.FieldSlots.{stored_at, unknown_at, put_value, clear_value, with_value, without_values, first_value, UnknownAdded, SameStored};
-ghost use Rattle.prost_reflect_fields.specs.Sound.{set_value_at, prepared};
-ghost use Rattle.prost_reflect_fields.specs.Members.{is_member, rows_at};
+ghost use Rattle.prost_reflect_fields.specs.Sound.{OneofsSingle, set_value_at, prepared};
+ghost use Rattle.prost_reflect_fields.specs.Members.{OnlyMember, is_member, rows_at};
 ghost use Rattle.prost_reflect_fields.specs.Lending.{LendsOrStays};
 
 use crate::members::member_places;
@@ -113,21 +113,26 @@ pub fn add_unknown<V: Drop, S: NumberMap<FieldSlot<V>>>(
     }
 }
 
-/// Sets the value at the number, and removes those of the other members of its field's oneof. The unknown fields stay.
-/// If out of memory, nothing changes.
+/// Sets the value at the number, and removes those of the other members of its field's oneof, which are looked for unless it is
+/// known at which member's number alone there can be one. The unknown fields stay. If out of memory, nothing changes.
 pub fn set_value<V: Drop, S: NumberMap<FieldSlot<V>>>(
     fields: &mut S,
     alloc: Global,
     message_type: &PooledType,
     number: u32,
     value: V,
+    member: Option<u32>,
 ) -> Result<(), AllocError>
+    requires { IfSome member (OnlyMember (known_of message_type.now) (S.entries fields.old) number) }
     ensures ok { OnOk result (S.entries fields.new ≡ set_value_at (known_of message_type.now) (S.entries fields.old) number value) }
     ensures err { OnErr result (S.entries fields.new ≡ S.entries fields.old) }
     ensures ascending { IsAscending (S.entries fields.old) }
 {
     put_value(fields, alloc, number, value)?;
-    clear_siblings(fields, alloc, message_type, number);
+    match member {
+        Some(member) => clear_other(fields, alloc, message_type, number, member),
+        None => clear_siblings(fields, alloc, message_type, number),
+    }
     Ok(())
 }
 
@@ -143,19 +148,21 @@ pub fn value_mut<V, S: NumberMap<FieldSlot<V>>>(fields: &mut S, number: u32) -> 
 }
 
 /// The value at the number, for writing. Where there is none it is first set to `default`, which removes those of the other
-/// members of its field's oneof. If out of memory, nothing changes.
+/// members of its field's oneof, as `set_value` does. If out of memory, nothing changes.
 pub fn value_mut_or<'a, V: Drop + 'a, S: NumberMap<FieldSlot<V>>>(
     fields: &'a mut S,
     alloc: Global,
     message_type: &PooledType,
     number: u32,
     default: V,
+    member: Option<u32>,
 ) -> Result<&'a mut V, AllocError>
+    requires { IfSome member (OnlyMember (known_of message_type.now) (S.entries fields.old) number) }
     ensures* writes_back { sem 𝓛 (LendsOrStays S.row V.row fields.entry result (λ after w. S.entries after ≡ with_value (prepared (known_of message_type.now) (S.entries fields.old) number default) number w) (λ after. S.entries after ≡ prepared (known_of message_type.now) (S.entries fields.old) number default) (λ after. S.entries after ≡ S.entries fields.old)) }
     ensures value { IfOk result (λ v. stored_at (prepared (known_of message_type.now) (S.entries fields.old) number default) number ≡ Some v.now) }
     ensures ascending { IsAscending (S.entries fields.old) }
 {
-    set_default(fields, alloc, message_type, number, default)?;
+    set_default(fields, alloc, message_type, number, default, member)?;
     match value_mut(fields, number) {
         Some(value) => Ok(value),
         None => unreachable!(),
@@ -169,7 +176,9 @@ fn set_default<V: Drop, S: NumberMap<FieldSlot<V>>>(
     message_type: &PooledType,
     number: u32,
     default: V,
+    member: Option<u32>,
 ) -> Result<(), AllocError>
+    requires { IfSome member (OnlyMember (known_of message_type.now) (S.entries fields.old) number) }
     ensures ok { OnOk result (S.entries fields.new ≡ prepared (known_of message_type.now) (S.entries fields.old) number default) }
     ensures err { OnErr result (S.entries fields.new ≡ S.entries fields.old) }
     ensures ascending { IsAscending (S.entries fields.old) }
@@ -178,7 +187,7 @@ fn set_default<V: Drop, S: NumberMap<FieldSlot<V>>>(
     if stored_at(fields, number).is_some() {
         return Ok(());
     }
-    set_value(fields, alloc, message_type, number, default)
+    set_value(fields, alloc, message_type, number, default, member)
 }
 
 /// The oneof of the number's field.
@@ -188,6 +197,64 @@ pub(crate) fn oneof_of(message_type: &PooledType, number: u32) -> Option<usize>
     match message_type.field_table(number) {
         Some(field) => field.oneof,
         None => None,
+    }
+}
+
+/// The member of the oneof of the number's field at whose number alone there can be a value, if the map has noted it. The number
+/// is noted in its place. Of few slots, which stand in one list, none is noted.
+#[inline]
+pub(crate) fn noted_member<V, S: NumberMap<FieldSlot<V>>>(
+    fields: &mut S,
+    message_type: &PooledType,
+    number: u32,
+) -> Option<u32>
+    requires { OneofsSingle (known_of message_type.now) (S.entries fields.old) }
+    ensures member { IfSome result (OnlyMember (known_of message_type.now) (S.entries fields.old) number) }
+    ensures same { S.entries fields.new ≡ S.entries fields.old }
+{
+    if fields.listed().is_some() {
+        return None;
+    }
+    noted_among_many(fields, message_type, number)
+}
+
+/// The same, where there are many slots.
+#[inline(never)]
+fn noted_among_many<V, S: NumberMap<FieldSlot<V>>>(
+    fields: &mut S,
+    message_type: &PooledType,
+    number: u32,
+) -> Option<u32>
+    requires { OneofsSingle (known_of message_type.now) (S.entries fields.old) }
+    ensures member { IfSome result (OnlyMember (known_of message_type.now) (S.entries fields.old) number) }
+    ensures same { S.entries fields.new ≡ S.entries fields.old }
+{
+    let oneof = oneof_of(message_type, number)?;
+    let member = fields.note(oneof, number)?;
+    if !is_same_oneof(oneof_of(message_type, member), Some(oneof)) {
+        return None;
+    }
+    match stored_at(fields, member) {
+        Some(_) => Some(member),
+        None => None,
+    }
+}
+
+/// Removes the value at the member's number, unless that is the number itself.
+fn clear_other<V: Drop, S: NumberMap<FieldSlot<V>>>(
+    fields: &mut S,
+    alloc: Global,
+    message_type: &PooledType,
+    number: u32,
+    member: u32,
+)
+    requires { OnlyMember (known_of message_type.now) (S.entries fields.old) number member }
+    ensures cleared { S.entries fields.new ≡ without_values (are_siblings (known_of message_type.now) number) (S.entries fields.old) }
+    ensures ascending { IsAscending (S.entries fields.old) }
+{
+    ascending(fields);
+    if member != number {
+        drop(take_value(fields, alloc, member));
     }
 }
 

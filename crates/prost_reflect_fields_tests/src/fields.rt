@@ -30,11 +30,11 @@ fn apply<S: NumberMap<FieldSlot<u32>>>(
     let is_known = descriptor.field_place(call.number()).is_some();
     match call {
         Call::Set(number, value) if is_known => {
-            set_value(fields, alloc, descriptor, number, value)?;
+            set_value(fields, alloc, descriptor, number, value, None)?;
             Ok(None)
         }
         Call::Write(number, amount) if is_known => {
-            let value = value_mut_or(fields, alloc, descriptor, number, 1000)?;
+            let value = value_mut_or(fields, alloc, descriptor, number, 1000, None)?;
             *value = value.wrapping_add(amount);
             Ok(Some(*value))
         }

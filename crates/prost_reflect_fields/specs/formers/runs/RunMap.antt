@@ -17,6 +17,7 @@ use Rattle.std.specs.contracts.vec.Vec as vecs
 use Rattle.std.specs.declared.alloc.Global.{Global}
 use Rattle.std.specs.contracts.alloc.Global as heap
 use Rattle.std.specs.contracts.impls.GlobalAllocator.TheImpl.{ghosts}
+use Rattle.std.specs.BTreeMap.{BTreeMap}
 use Rattle.std.specs.Map.{keys_of}
 use Rattle.std.specs.Ordering.{nat_cmp, is_le, Ordering-set}
 use Rattle.std.specs.Borrow.{u32}
@@ -44,7 +45,7 @@ abbrev run : Former {0}
 run = pair (const ℕ) (vec.the_former item Global)
 
 abbrev fields : Former {0}
-fields = via (vec.the_former run Global) Inside (λ X a. a.runs) (λ X v. record { runs = v }) (λ X a. refl) (λ X v. refl)
+fields = via (pair (vec.the_former run Global) (const (BTreeMap ℕ ℕ))) Inside (λ X a. (a.runs, a.notes)) (λ X v. record { runs = v.0; notes = v.1 }) (λ X a. refl) (λ X v. refl)
 
 behind : {a b c : Gv} → a ≡ b → gcons c a ≡ gcons c b
 behind {c = c} e = λ i. gcons c (e i)
@@ -116,8 +117,8 @@ module _ (R S : RattleType) (h : R.Denot → S.Denot) where
       (invariant R.Denot) (invariant S.Denot) (λ u. InRuns-prop (marks u.runs.items)) (λ u. InRuns-prop (marks u.runs.items))
       (λ u s. subst InRuns (sym (same_marks h u.runs.items)) s) (λ u s. subst InRuns (same_marks h u.runs.items) s)
       (over (I.the_row R)) (over (I.the_row S))
-      (struct_places (I.the_type R) (I.the_type S) (vec.mapped (over_run h), tt) _ (λ d. refl) refl
-      (laid _ _ _ (vec.the_places heap.the_row ghosts (Tuple (u32 ∷ run_type R ∷ [])) (Tuple (u32 ∷ run_type S ∷ [])) (over_run h) (run_places a)), tt))
+      (struct_places (I.the_type R) (I.the_type S) (vec.mapped (over_run h), ((λ m. m), tt)) _ (λ d. refl) refl
+      (laid _ _ _ (vec.the_places heap.the_row ghosts (Tuple (u32 ∷ run_type R ∷ [])) (Tuple (u32 ∷ run_type S ∷ [])) (over_run h) (run_places a)), ((refl, (λ n. refl, λ n. refl)), tt)))
 
   abbrev item_code : (T : RattleType) → ℕ × T.Denot → Gv
   item_code T p = gcons (gnum p.0) (T.coded.code p.1)

@@ -21,14 +21,16 @@ invariant_of-self-lent g c =
     let sound = Sound fields in
     let n = c.args.number in
     let known = subst (λ m. is_known (known_of m.0) n ≡ true) (sym c.self.view_is) c.requires in
-    let ready = sound_prepared fields inside.fields n c.args.default c.value_mut_or.ensures.ascending (known_differ inside.message_type) known c.self.invariant in
+    let noted = c.noted_member-member.new.fields in
+    let still_sound = subst sound (sym c.noted_member-member.ensures.same) c.self.invariant in
+    let ready = sound_prepared fields noted n c.args.default c.value_mut_or.ensures.ascending (known_differ inside.message_type) known still_sound in
     λ r. (
       λ w.
           let holds = c.value_mut_or.follows.holds w in
           either c.value_mut_or.result holds.0 holds.1
-          (λ is. subst sound (sym is) (sound_written fields (prepared fields inside.fields n c.args.default) n w ready))
-          (λ is. subst sound (sym is) c.self.invariant),
-      (let still = c.value_mut_or.follows.holds-at-none in either c.value_mut_or.result still.0 still.1 (λ is. subst sound (sym is) ready) (λ is. subst sound (sym is) c.self.invariant)),
+          (λ is. subst sound (sym is) (sound_written fields (prepared fields noted n c.args.default) n w ready))
+          (λ is. subst sound (sym is) still_sound),
+      (let still = c.value_mut_or.follows.holds-at-none in either c.value_mut_or.result still.0 still.1 (λ is. subst sound (sym is) ready) (λ is. subst sound (sym is) still_sound)),
     )
 
 -- what follows the lent value through a pairing
@@ -45,13 +47,15 @@ returns g c =
     let default = c.args.default in
     let lent = c.value_mut_or.ensures in
     let whole : List (ℕ × FieldSlot g.row.V.Denot) → PooledType × List (ℕ × FieldSlot g.row.V.Denot) = λ es. (inside.message_type, es) in
-    let put : g.row.V.Denot → PooledType × List (ℕ × FieldSlot g.row.V.Denot) → PooledType × List (ℕ × FieldSlot g.row.V.Denot) = λ w m. (m.0, with_value (prepared (known_of m.0) m.1 n default) n w) in (
-      agree c.value_mut_or.result whole c.value_mut_or.follows.lender (λ w. with_value (prepared fields inside.fields n default) n w) c.value_mut_or.follows.lender-at-none inside.fields (λ w. put w c.args.self.now) c.args.self.now
-          c.value_mut_or.follows.holds c.value_mut_or.follows.holds-at-none.1 (λ w. ap (put w) c.self.view_is) c.self.view_is,
+    let put : g.row.V.Denot → PooledType × List (ℕ × FieldSlot g.row.V.Denot) → PooledType × List (ℕ × FieldSlot g.row.V.Denot) = λ w m. (m.0, with_value (prepared (known_of m.0) m.1 n default) n w) in
+    let noted = c.noted_member-member.new.fields in
+    let viewed : whole noted ≡ c.args.self.now = ap whole c.noted_member-member.ensures.same ∙ c.self.view_is in (
+      agree c.value_mut_or.result whole c.value_mut_or.follows.lender (λ w. with_value (prepared fields noted n default) n w) c.value_mut_or.follows.lender-at-none noted (λ w. put w c.args.self.now) c.args.self.now
+          c.value_mut_or.follows.holds c.value_mut_or.follows.holds-at-none.1 (λ w. ap (put w) viewed) viewed,
       record {
         writes_back = tt;
-        value = subst (λ (m : PooledType × List (ℕ × FieldSlot g.row.V.Denot)). IfOk c.value_mut_or.result (λ v. stored_at (prepared (known_of m.0) m.1 n default) n ≡ Some v.now)) c.self.view_is lent.value;
-        ascending = subst (λ (m : PooledType × List (ℕ × FieldSlot g.row.V.Denot)). IsAscending m.1) c.self.view_is lent.ascending;
+        value = subst (λ (m : PooledType × List (ℕ × FieldSlot g.row.V.Denot)). IfOk c.value_mut_or.result (λ v. stored_at (prepared (known_of m.0) m.1 n default) n ≡ Some v.now)) viewed lent.value;
+        ascending = subst (λ (m : PooledType × List (ℕ × FieldSlot g.row.V.Denot)). IsAscending m.1) viewed lent.ascending;
         sound = subst (λ (m : PooledType × List (ℕ × FieldSlot g.row.V.Denot)). Sound (known_of m.0) m.1) c.self.view_is c.self.invariant;
       },
     )

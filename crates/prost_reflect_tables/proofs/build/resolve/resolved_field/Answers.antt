@@ -1,4 +1,3 @@
-use Rattle.std.proofs.Common.{refl}
 use Rattle.prost_reflect_tables.specs.FlatViews.{definition_row, flat_rows}
 use Rattle.prost_reflect_tables.specs.Linking.{links_of}
 use Rattle.prost_reflect_tables.proofs.Resolving.{resolved_is}
