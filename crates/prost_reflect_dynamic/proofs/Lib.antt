@@ -39,6 +39,7 @@ mod TypedValues
 mod ListElements
 mod ListMerging
 mod NumberMerging
+mod PartedNumbers
 mod WrittenLists
 pub mod PlaceRanges
 pub mod Had

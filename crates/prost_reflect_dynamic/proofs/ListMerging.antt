@@ -42,7 +42,7 @@ use Rattle.prost_reflect_dynamic.proofs.Merging.{known_in, differ_in, same_kind}
 
 -- A LIST
 
-from_append : (vs ws : List contents.Value) → values_from (vs ++ ws) ≡ (values_from vs and_then values_from ws)
+pub from_append : (vs ws : List contents.Value) → values_from (vs ++ ws) ≡ (values_from vs and_then values_from ws)
 from_append [] ws = refl
 from_append (v ∷ vs) ws = ap (Item v) (from_append vs ws)
 
@@ -81,7 +81,7 @@ list_or None h = tt
 list_or (Some (ListValue vs)) h = tt
 list_or (Some v) h = absurd h
 
-values_or : (o : Option contents.Value) → values_in (Some (unwrap_or o (ListValue NoValues))) ≡ values_in o
+pub values_or : (o : Option contents.Value) → values_in (Some (unwrap_or o (ListValue NoValues))) ≡ values_in o
 values_or None = refl
 values_or (Some v) = refl
 

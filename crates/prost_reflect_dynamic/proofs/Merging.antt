@@ -1,5 +1,6 @@
 -- Records read into a message.
 use Rattle.std.proofs.Common.{◌≡◌, ◌≢◌, inl, inr, arith, ℕ, Bool, List, Option, Some, None, refl, sym, ap, ap₂, ◌∙◌, subst, ◌≤◌, ◌<◌, ◌^◌, true, false, true≢false}
+use Rattle.std.specs.Option.{option_and_then}
 use Rattle.std.proofs.lemmas.Bool.{and_from, lt-ltb}
 use Rattle.prost_reflect_wire.specs.declared.key.WireType.{WireType}
 use Rattle.prost_reflect_wire.specs.declared.error.DecodeError.{DecodeError}
@@ -31,7 +32,7 @@ use Rattle.prost_reflect_dynamic.specs.declared.message.DynamicMessage.{DynamicM
 use Rattle.prost_reflect_dynamic.specs.declared.value.Value.{Value}
 use Rattle.prost_reflect_dynamic.specs.declared.message.decode.Target.TheVariants as targets
 use Rattle.prost_reflect_pool.specs.SharedPools.{pool_rows}
-use Rattle.prost_reflect_fields.specs.Known.{known_of, keeps_unknown}
+use Rattle.prost_reflect_fields.specs.Known.{known_of, keeps_unknown, oneof_of}
 use Rattle.prost_reflect_dynamic.specs.View.{value_of, content_of, message_type_of}
 use Rattle.prost_reflect_dynamic.specs.Scalars.{PlainField, ReadsScalar, RefusesScalar, ReadsStray, StaysUnknown, is_stray_number}
 use Rattle.prost_reflect_dynamic.specs.Targets.{nested_kind, NestedField, IsTarget, target_of}
@@ -79,9 +80,9 @@ valid_in m = ap (λ c. schema_valid (schema_of c)) (content_of_message m) ∙ sc
 
 -- WHAT A RECORD IS READ AS
 
-pub scalar_target : (kind : TableKind) (g : Bool) → names_message kind ≡ false → target_of kind g ≡ targets.Scalar kind
-scalar_target (kinds.Message T) g e = absurd (true≢false e)
-scalar_target kind g e = refl
+pub scalar_target : (kind : TableKind) (g : Bool) (o : Option ℕ) → names_message kind ≡ false → target_of kind g o ≡ targets.Scalar kind o
+scalar_target (kinds.Message T) g o e = absurd (true≢false e)
+scalar_target kind g o e = refl
 
 pub no_message_kind : (kind : TableKind) → ((T : ℕ) → kind ≡ kinds.Message T → ⊥) → names_message kind ≡ false
 no_message_kind (kinds.Message T) h = absurd (h T refl)
@@ -104,12 +105,15 @@ module _ (d : PooledType) (n : ℕ) (row : FieldRow) (one : is_repeated row.card
       let is : (schema_field (pool_rows d.pool) row).value_type.kind ≡ nested_kind g T = own_kind ∙ ap₂ (schema_kind (pool_rows d.pool).enums) k i in
       record { field = schema_field (pool_rows d.pool) row; found = found; form = single; kind_is = is; in_range = named_in_range d n (schema_field (pool_rows d.pool) row) T found (ap message_of_kind is ∙ message_named g T) }
 
-  pub target_is : IsTarget d n (target_of row.kind row.is_group)
+  own_oneof : row.oneof ≡ oneof_of (known_of d) n
+  own_oneof = ap (option_and_then (λ (f : Field). f.oneof)) (sym found)
+
+  pub target_is : IsTarget d n (target_of row.kind row.is_group row.oneof)
   target_is = go row.kind row.is_group refl refl
     where
-      go : (kind : TableKind) (g : Bool) → row.kind ≡ kind → row.is_group ≡ g → IsTarget d n (target_of kind g)
-      go (kinds.Message T) g k i = nested_field T g k i
-      go kind g k i = subst (PlainField d n) k (plain_field (ap names_message k))
+      go : (kind : TableKind) (g : Bool) → row.kind ≡ kind → row.is_group ≡ g → IsTarget d n (target_of kind g row.oneof)
+      go (kinds.Message T) g k i = (nested_field T g k i, own_oneof)
+      go kind g k i = (subst (PlainField d n) k (plain_field (ap names_message k)), own_oneof)
 
 -- what is read by the plain kind is read by the own
 pub read_own : (plain own : ScalarKind) (w : WireType) (s : Scalar) (bytes rest : List ℕ) → SamePayloads plain own → ScalarRead plain w s bytes rest → ScalarRead own w s bytes rest

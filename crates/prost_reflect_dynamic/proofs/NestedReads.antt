@@ -15,6 +15,7 @@ use Rattle.prost_reflect_wire.proofs.Survivors.{field_number}
 use Rattle.prost_reflect_laws.proofs.MessageSteps.{OneMessage, ReadInto, Nested, FoundNested, nested_sound, message_holds, group_holds}
 use Rattle.prost_reflect_dynamic.specs.declared.message.DynamicMessage.{DynamicMessage}
 use Rattle.prost_reflect_dynamic.specs.declared.value.Value.{Value, out-Value}
+use Rattle.prost_reflect_dynamic.specs.declared.value.Value as values
 use Rattle.prost_reflect_dynamic.specs.declared.value.Value.TheOpen.{Value-F}
 use Rattle.prost_reflect_dynamic.specs.declared.value.Value.TheFolds.{fold_out-Value, map-Value}
 use Rattle.prost_reflect_pool.specs.MessageTypes.{schema_at, type_at}
@@ -25,7 +26,7 @@ use Rattle.prost_reflect_dynamic.specs.Nested.{ReadInside, NestedRead, StandsBeh
 use Rattle.prost_reflect_dynamic.specs.Variants.{message_in}
 use Rattle.prost_reflect_dynamic.proofs.NestedFaults.{behind_key}
 use Rattle.prost_reflect_dynamic.proofs.RowKinds.{message_named}
-use Rattle.prost_reflect_dynamic.proofs.Views.{content_of_message}
+use Rattle.prost_reflect_dynamic.proofs.Views.{content_of_message, value_of_message}
 use Rattle.prost_reflect_dynamic.proofs.Merging.{differ_in, known_in}
 
 pub schema_in : (m : DynamicMessage) → schema_of (content_of m) ≡ schema_at (message_type_of m)
@@ -110,12 +111,12 @@ pub record LentMessage (m : DynamicMessage) (n T : ℕ) (v : Value) : Type 0 whe
   pub sound : WellStored content
   pub into : ReadInto (schema_of (content_of m)) T n (entries_of (content_of m)) content
 
-pub lent_message : (m : DynamicMessage) (n T : ℕ) (g : Bool) (default v : Value) → WellStored (content_of m) → NestedField (message_type_of m) n T g → value_of default ≡ MessageValue (empty (schema_at (message_type_of m)) T) →
-    value_of v ≡ unwrap_or (value_at n (entries_of (content_of m))) (value_of default) → LentMessage m n T v
-lent_message m n T g default v sound at is lent =
-    let empties : value_of default ≡ MessageValue (empty (schema_of (content_of m)) T) = is ∙ ap (λ s. MessageValue (empty s T)) (sym (schema_in m)) in
+pub lent_message : (m : DynamicMessage) (n T : ℕ) (g : Bool) (v : Value) → WellStored (content_of m) → NestedField (message_type_of m) n T g → value_of v ≡ unwrap_or (value_at n (entries_of (content_of m))) (MessageValue (empty (schema_at (message_type_of m)) T)) →
+    LentMessage m n T v
+lent_message m n T g v sound at lent =
+    let empties : MessageValue (empty (schema_at (message_type_of m)) T) ≡ MessageValue (empty (schema_of (content_of m)) T) = ap (λ s. MessageValue (empty s T)) (sym (schema_in m)) in
     let found = found_in m n T g at in
-    let nested : Nested (schema_of (content_of m)) T (value_of v) = lent_in (content_of m) n T at.field (value_of v) (value_of default) sound (differ_in m) found.found (one_of m n T g at) empties lent in
+    let nested : Nested (schema_of (content_of m)) T (value_of v) = lent_in (content_of m) n T at.field (value_of v) (MessageValue (empty (schema_at (message_type_of m)) T)) sound (differ_in m) found.found (one_of m n T g at) empties lent in
     record {
       content = nested.content;
       is = nested.is;
@@ -152,6 +153,12 @@ held_message m n T v lent =
     let held = held_of v lent.content lent.is in
     let at = inside_message m held.message n T v lent (held_is v held.message held.is) in
     record { message = held.message; is = held.is; sound = at.sound }
+
+-- where nothing is there, records are read into an empty message
+pub first_message : (m first : DynamicMessage) (n T : ℕ) (g : Bool) → WellStored (content_of m) → NestedField (message_type_of m) n T g → content_of first ≡ empty (schema_at (message_type_of m)) T → value_at n (entries_of (content_of m)) ≡ None → InsideMessage m first n T
+first_message m first n T g sound at is none =
+    let v = values.Message first in
+    inside_message m first n T v (lent_message m n T g v sound at (value_of_message first ∙ ap MessageValue is ∙ sym (ap (λ o. unwrap_or o (MessageValue (empty (schema_at (message_type_of m)) T))) none))) (value_of_message first)
 
 -- ONE MORE RECORD
 
@@ -211,3 +218,12 @@ module _ (m : DynamicMessage) (n T levels : ℕ) (g : Bool) (w : WireType) (v : 
   refused_in e bytes f =
       let at = inside_message m f.before n T v lent (held_is v f.before f.was) in
       behind_inside m f.before n T levels g w (found_in m n T g field) at.schema_is at.type_is e bytes f.stands
+
+-- WHAT WAS READ INTO AN EMPTY MESSAGE, AND WHAT WAS REFUSED
+
+module _ (m first : DynamicMessage) (n T levels : ℕ) (g : Bool) (w : WireType) (sound : WellStored (content_of m)) (field : NestedField (message_type_of m) n T g) (at : InsideMessage m first n T) where
+  pub read_first : (done new : DynamicMessage) (bytes rest : List ℕ) → NestedRead g levels n w (content_of first) (content_of done) bytes rest → content_of new ≡ value_set n (value_of (values.Message done)) (content_of m) → Step levels n w (content_of m) (content_of new) bytes rest
+  read_first done new bytes rest r set = nested_step m first done new n T levels g w sound field at (set ∙ ap (λ v. value_set n v (content_of m)) (value_of_message done)) bytes rest r
+
+  pub refused_first : (e : DecodeError) (bytes : List ℕ) → StandsBehindNested (schema_of (content_of first)) levels n (nested_kind g (type_of (content_of first))) w e bytes → StandsBehindKey (content_of m) levels n w e bytes
+  refused_first e bytes stands = behind_inside m first n T levels g w (found_in m n T g field) at.schema_is at.type_is e bytes stands

@@ -22,9 +22,9 @@ use Rattle.prost_reflect_dynamic.specs.declared.value.Value.TheViews.{roll-Dynam
 use Rattle.prost_reflect_pool.specs.MessageTypes.{schema_at, type_at}
 use Rattle.prost_reflect_fields.specs.Items.{IsAscending, item_at}
 use Rattle.prost_reflect_fields.specs.Known.{known_of, is_known, are_siblings}
-use Rattle.prost_reflect_fields.specs.FieldSlots.{value_in, records_in, stored_at, records_at, put_value, clear_value, with_value as with_value_at, SameStored, UnknownAdded}
+use Rattle.prost_reflect_fields.specs.FieldSlots.{value_in, records_in, stored_at, records_at, has_value, put_value, clear_value, with_value as with_value_at, SameStored, UnknownAdded}
 use Rattle.prost_reflect_fields.specs.Sound.{Sound, set_value_at, prepared}
-use Rattle.prost_reflect_dynamic.specs.View.{value_of, content_of, entries_from, payloads_of, written_at}
+use Rattle.prost_reflect_dynamic.specs.View.{value_of, content_of, entries_from, payloads_of, overwritten_at, written_at}
 use Rattle.prost_reflect_dynamic.specs.Contents.{value_set, value_cleared, with_unknown, unknown_added}
 use Rattle.prost_reflect_fields.proofs.SlotChanges.{value_without, records_without, ascending_without_values, ascending_put}
 use Rattle.prost_reflect_fields.proofs.SoundChanges.{value_set_at, records_set_at, ascending_set_at, written_is_set, value_set as value_set_here}
@@ -222,3 +222,10 @@ content_written m n default v s sound known =
     content_of_message (written_at m n default v)
     ∙ content_same m.fields.0 (set_value_at fields m.fields.1 n v) (with_value_at (prepared fields m.fields.1 n default) n v) (ascending_set_at fields m.fields.1 n v s) (written_is_set fields m.fields.1 n default v s sound)
     ∙ content_set m.fields.0 m.fields.1 n v s known ∙ ap (value_set n (value_of v)) (sym (content_of_message m))
+
+-- where the value at the number is written over, and there was one
+pub overwritten_is : (m : DynamicMessage) (n : ℕ) (v : Value) → has_value m.fields.1 n ≡ true → overwritten_at m n v ≡ written_at m n v v
+overwritten_is m n v has = ap (λ b. record { fields = (m.fields.0, with_value_at (cond b m.fields.1 (set_value_at (known_of m.fields.0) m.fields.1 n v)) n v) }) (sym has)
+
+pub content_overwritten : (m : DynamicMessage) (n : ℕ) (v : Value) → IsAscending m.fields.1 → Sound (known_of m.fields.0) m.fields.1 → has_value m.fields.1 n ≡ true → content_of (overwritten_at m n v) ≡ value_set n (value_of v) (content_of m)
+content_overwritten m n v s sound has = ap content_of (overwritten_is m n v has) ∙ content_written m n v v s sound (sound.0 n has)

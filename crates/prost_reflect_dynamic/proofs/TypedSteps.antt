@@ -185,6 +185,10 @@ module _ (m : DynamicMessage) (n : ℕ) (default : Value) (s : IsAscending (stor
       → (typed_at (message_type_of m) n (value_stored v) ≡ true → typed_at (message_type_of m) n (value_stored w) ≡ true) → StaysTyped m (written_at m n default w)
   lent_step v w lent empty step = written_typed w (λ h. here_written w (step (lent_typed v lent empty h)))
 
+  -- the same of one that was there
+  pub held_step : (v w : Value) → stored_at (stored_in m) n ≡ Some v → (typed_at (message_type_of m) n (value_stored v) ≡ true → typed_at (message_type_of m) n (value_stored w) ≡ true) → StaysTyped m (written_at m n default w)
+  held_step v w there step = written_typed w (λ h. here_written w (step (subst (TypedAt (message_type_of m) n) there (values_typed m h n))))
+
 -- PARTS
 
 type_same : (a b : PooledType) (n : ℕ) (v : StoredValue) → SameMessage a b → typed_at b n v ≡ typed_at a n v

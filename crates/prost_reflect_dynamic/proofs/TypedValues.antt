@@ -4,14 +4,14 @@ use Rattle.std.specs.Prelude.{Vec}
 use Rattle.std.specs.declared.alloc.Global.{Global}
 use Rattle.std.proofs.lemmas.Bool.{and_parts, and_from, eq-eqb}
 use Rattle.std.specs.BTreeMap.{BTreeMap, insert_entry}
-use Rattle.std.specs.Option.{option_and_then, option_map}
+use Rattle.std.specs.Option.{option_and_then, option_map, is_some}
 use Rattle.std.specs.Ordering.{match_ordering}
 use Rattle.std.specs.declared.cmp.Ordering.{Ordering}
 use Rattle.std.specs.declared.cmp.Ordering.TheVariants.{Less, Equal, Greater}
 use Rattle.prost_reflect_wire.specs.Content as contents
 use Rattle.prost_reflect_wire.specs.Content.{Content, ContentOf, ScalarValue, schema_of, type_of, entries_of}
 use Rattle.prost_reflect_wire.specs.Meaning.{values_in}
-use Rattle.prost_reflect_wire.specs.Scalar.{Scalar, ScalarKind}
+use Rattle.prost_reflect_wire.specs.Scalar.{Scalar, ScalarKind, Enum}
 use Rattle.prost_reflect_wire.specs.Schema.{Kind, ScalarOf, FieldForm, Repeated, Field, known, field_of, passes}
 use Rattle.prost_reflect_wire.specs.Typing.{own_kind, element_valid, elements_valid, WellStored}
 use Rattle.prost_reflect_wire.proofs.Survivors.{field_number}
@@ -38,16 +38,17 @@ use Rattle.prost_reflect_dynamic.specs.declared.value.Value.TheFolds.{fold_out-V
 use Rattle.prost_reflect_dynamic.specs.DeepTypes.{kind_place, place_for, stands_there, all_typed, value_typed, items_typed, pairs_typed}
 use Rattle.prost_reflect_dynamic.specs.Lists.{ListField}
 use Rattle.prost_reflect_dynamic.specs.NestedMaps.{NestedMap}
+use Rattle.prost_reflect_dynamic.specs.Numbers.{NumberList}
 use Rattle.prost_reflect_dynamic.specs.Stored.{StoredMessage, StoredValue, StoredScalar, StoredInside, StoredList, StoredMap, StoredItems, NoItems, ItemThen, StoredPairs, NoPairs, stored_items, stored_pairs, stored_step, stored_message_step, value_stored, message_stored}
 use Rattle.prost_reflect_dynamic.specs.Targets.{nested_kind, NestedField, NestedList}
 use Rattle.prost_reflect_dynamic.specs.TypedSteps.{typed_as, typed_at, element_typed, entry_typed, StaysTyped, ValueStaysTyped, item_last, item_added}
 use Rattle.prost_reflect_dynamic.specs.Variants.{list_in, message_in, pairs_in}
-use Rattle.prost_reflect_dynamic.specs.View.{value_of, content_of, message_type_of, stored_in, written_at}
+use Rattle.prost_reflect_dynamic.specs.View.{value_of, content_of, message_type_of, stored_in, overwritten_at, written_at}
 use Rattle.prost_reflect_dynamic.proofs.Merging.{known_in}
-use Rattle.prost_reflect_dynamic.proofs.Stored.{value_of_message}
+use Rattle.prost_reflect_dynamic.proofs.Stored.{value_of_message, overwritten_is}
 use Rattle.prost_reflect_dynamic.proofs.StoredContents.{value_content, items_content, value_follows}
 use Rattle.prost_reflect_dynamic.proofs.StoredViews.{items_mapped, stored_inside, stored_list, stored_map, stored_message, pairs_mapped}
-use Rattle.prost_reflect_dynamic.proofs.TypedSteps.{TypedAt, nothing_typed, ascending_written, written_typed, lent_step}
+use Rattle.prost_reflect_dynamic.proofs.TypedSteps.{TypedAt, nothing_typed, ascending_written, written_typed, held_step}
 
 -- SCALARS
 
@@ -113,9 +114,18 @@ elements_fit (ContentOf schema T es) n f packed sound found form =
     let number : f.number ≡ n = field_number (known schema T) n f found in
     subst (λ m. ListFits f.value_type.kind (contents.value_at m es)) number (list_fits (known schema T) es f packed sound.fits (ap (field_of (known schema T)) number ∙ found) form)
 
+-- the number is that of a list of scalars
+pub record ScalarsListed (fields : List Field) (n : ℕ) : Type 0 where
+  pub field : Field
+  pub scalar_kind : ScalarKind
+  pub packed : Bool
+  pub found : field_of fields n ≡ Some field
+  pub form : field.form ≡ Repeated packed
+  pub kind_is : field.value_type.kind ≡ ScalarOf scalar_kind
+
 -- a list of scalars that fits holds no message
-list_typed : (m : DynamicMessage) (n : ℕ) (kind : TableKind) → IsAscending (stored_in m) → WellStored (content_of m) → ListField (known_of (message_type_of m)) n kind → TypedAt (message_type_of m) n (stored_at (stored_in m) n)
-list_typed m n kind s sound at =
+list_typed : (m : DynamicMessage) (n : ℕ) → IsAscending (stored_in m) → WellStored (content_of m) → ScalarsListed (known_of (message_type_of m)) n → TypedAt (message_type_of m) n (stored_at (stored_in m) n)
+list_typed m n s sound at =
     cases (stored_at (stored_in m) n)
     (subst (λ k. ListFits k (option_map value_of (stored_at (stored_in m) n))) at.kind_is
     (subst (ListFits at.field.value_type.kind) (sym (value_of_message m n s)) (elements_fit (content_of m) n at.field at.packed sound (ap (λ fields. field_of fields n) (known_in m) ∙ at.found) at.form)))
@@ -126,8 +136,14 @@ list_typed m n kind s sound at =
         listed_alone (pool_contents (message_type_of m).pool) (pool_rows (message_type_of m).pool) (place_for (field_of (known_of (message_type_of m)) n) (value_stored v)) at.scalar_kind (value_stored v)
         (subst (λ w. IsListed (Some w)) (sym (value_follows v)) fits.listed) (subst (λ w. elements_valid (ScalarOf at.scalar_kind) (values_in (Some w)) ≡ true) (sym (value_follows v)) fits.valid)
 
-pub list_step : (m : DynamicMessage) (n : ℕ) (kind : TableKind) (default v : Value) → IsAscending (stored_in m) → ListField (known_of (message_type_of m)) n kind → WellStored (content_of (written_at m n default v)) → StaysTyped m (written_at m n default v)
-list_step m n kind default v s at sound = written_typed m n default s v (λ h. list_typed (written_at m n default v) n kind (ascending_written m n default s v) sound at)
+pub list_step : (m : DynamicMessage) (n : ℕ) (default v : Value) → IsAscending (stored_in m) → ScalarsListed (known_of (message_type_of m)) n → WellStored (content_of (written_at m n default v)) → StaysTyped m (written_at m n default v)
+list_step m n default v s at sound = written_typed m n default s v (λ h. list_typed (written_at m n default v) n (ascending_written m n default s v) sound at)
+
+pub listed_scalars : (fields : List Field) (n : ℕ) (kind : TableKind) → ListField fields n kind → ScalarsListed fields n
+listed_scalars fields n kind at = record { field = at.field; scalar_kind = at.scalar_kind; packed = at.packed; found = at.found; form = at.form; kind_is = at.kind_is }
+
+pub listed_numbers : (d : PooledType) (n : ℕ) (kind : TableKind) → NumberList d n kind → ScalarsListed (known_of d) n
+listed_numbers d n kind at = record { field = at.field; scalar_kind = Enum at.first at.numbers; packed = at.packed; found = at.found; form = at.form; kind_is = at.kind_is }
 
 pub element_added : (d : PooledType) (n : ℕ) (s w : StoredValue) → element_typed d n w ≡ true → typed_at d n s ≡ true → typed_at d n (item_added s w) ≡ true
 element_added d n (StoredList vs) w one h =
@@ -306,13 +322,18 @@ element_typed_as d n T g at s =
 pub entry_typed_as : (d : PooledType) (n : ℕ) (key : TableKind) (T : ℕ) → NestedMap d n key T → (s : StoredValue) → entry_typed d n s ≡ typed_as d (Some T) s
 entry_typed_as d n key T at s = ap (λ p. typed_as d p s) (ap (λ o. place_for o (StoredMap NoPairs)) at.found ∙ ap kind_place at.value_is)
 
--- the message that was lent was read into
-pub message_step : (m : DynamicMessage) (n T : ℕ) (g : Bool) (default v w : Value) → IsAscending (stored_in m) → NestedField (message_type_of m) n T g → v ≡ unwrap_or (stored_at (stored_in m) n) default
-    → typed_as (message_type_of m) (Some T) (value_stored default) ≡ true → ValueStaysTyped v w → StaysTyped m (written_at m n default w)
-message_step m n T g default v w s at lent empty stays =
+-- a message that was empty was read, as the value of a field
+pub first_read : (d : PooledType) (n T : ℕ) (g : Bool) (empty done : DynamicMessage) → NestedField d n T g → typed_as d (Some T) (StoredInside (message_stored empty)) ≡ true → message_type_of done ≡ message_type_of empty → StaysTyped empty done
+    → typed_at d n (value_stored (values.Message done)) ≡ true
+first_read d n T g empty done at there type stays =
+    ap (typed_at d n) (stored_inside done) ∙ field_typed d n T g at (StoredInside (message_stored done)) ∙ message_stays (pool_contents d.pool) (pool_rows d.pool) (Some T) empty done type stays there
+
+-- the message that is there was read into
+pub held_read : (m : DynamicMessage) (n T : ℕ) (g : Bool) (v w : Value) → IsAscending (stored_in m) → NestedField (message_type_of m) n T g → stored_at (stored_in m) n ≡ Some v → ValueStaysTyped v w → StaysTyped m (overwritten_at m n w)
+held_read m n T g v w s at there stays =
     let d = message_type_of m in
-    lent_step m n default s v w lent (field_typed d n T g at (value_stored default) ∙ empty)
-    (λ h. field_typed d n T g at (value_stored w) ∙ stays.typed (pool_contents d.pool) (pool_rows d.pool) (Some T) (sym (field_typed d n T g at (value_stored v)) ∙ h))
+    subst (StaysTyped m) (sym (overwritten_is m n w (ap is_some there)))
+    (held_step m n w s v w there (λ h. field_typed d n T g at (value_stored w) ∙ stays.typed (pool_contents d.pool) (pool_rows d.pool) (Some T) (sym (field_typed d n T g at (value_stored v)) ∙ h)))
 
 -- a message that was empty was read, as an element of a list or as the value of an entry
 pub element_read : (d : PooledType) (n T : ℕ) (g : Bool) (empty done : DynamicMessage) → NestedList d n T g → typed_as d (Some T) (StoredInside (message_stored empty)) ≡ true → message_type_of done ≡ message_type_of empty → StaysTyped empty done

@@ -2,7 +2,7 @@
 use Rattle.std.specs.Prelude.{◌≡◌, ℕ, ◌<◌, Bool, if◌then◌else◌, length, Option, Some, None}
 use Rattle.prost_reflect_wire.specs.Schema.{Kind, MessageOf, GroupOf, Singular, Repeated, Field, field_of}
 use Rattle.prost_reflect_pool.specs.SharedPools.{pool_rows}
-use Rattle.prost_reflect_fields.specs.Known.{known_of}
+use Rattle.prost_reflect_fields.specs.Known.{known_of, oneof_of}
 use Rattle.prost_reflect_tables.specs.declared.tables.TableKind.{TableKind}
 use Rattle.prost_reflect_tables.specs.declared.tables.TableKind.TheVariants as kinds
 use Rattle.prost_reflect_tables.specs.Rows.{FieldRow}
@@ -37,9 +37,9 @@ pub record NestedList (d : PooledType) (n T : ℕ) (is_group : Bool) : Type 0 wh
   pub in_range : T < length (pool_rows d.pool).messages
 
 -- A record of a field of one value is read as its kind says.
-abbrev pub target_of : TableKind → Bool → Target
-target_of (kinds.Message T) g = Message (record { place = T; is_group = g })
-target_of kind g = Scalar kind
+abbrev pub target_of : TableKind → Bool → (oneof : Option ℕ) → Target
+target_of (kinds.Message T) g o = Message (record { place = T; is_group = g }) o
+target_of kind g o = Scalar kind o
 
 -- A record of a list is read as an element of its kind, or as packed ones.
 abbrev pub element_target_of : TableKind → Bool → Target
@@ -59,10 +59,10 @@ repeated_target_of None kind g = element_target_of kind g
 
 abbrev pub IsTarget : PooledType → ℕ → Target → Type 0
 IsTarget d n Unknown = field_of (known_of d) n ≡ None
-IsTarget d n (Scalar kind) = PlainField d n kind
+IsTarget d n (Scalar kind oneof) = PlainField d n kind × (oneof ≡ oneof_of (known_of d) n)
 IsTarget d n (ListOf kind) = ListField (known_of d) n kind
 IsTarget d n (Numbers kind) = NumberList d n kind
 IsTarget d n (MapOf key kind) = ScalarMap d n key kind
 IsTarget d n (MessageEntry key T) = NestedMap d n key T
-IsTarget d n (Message nested) = NestedField d n nested.place nested.is_group
+IsTarget d n (Message nested oneof) = NestedField d n nested.place nested.is_group × (oneof ≡ oneof_of (known_of d) n)
 IsTarget d n (Element nested) = NestedList d n nested.place nested.is_group

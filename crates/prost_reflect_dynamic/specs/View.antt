@@ -74,6 +74,10 @@ message_type_of m = m.fields.0
 abbrev pub stored_in : DynamicMessage → List (ℕ × FieldSlot Value)
 stored_in m = m.fields.1
 
+-- A message whose value at a number was written over.
+abbrev pub overwritten_at : DynamicMessage → ℕ → Value → DynamicMessage
+overwritten_at m n v = record { fields = (m.fields.0, with_value m.fields.1 n v) }
+
 -- A message whose value at a number, which is the default where there was none, was written over.
 abbrev pub written_at : DynamicMessage → ℕ → Value → Value → DynamicMessage
 written_at m n default v = record { fields = (m.fields.0, with_value (prepared (known_of m.fields.0) m.fields.1 n default) n v) }

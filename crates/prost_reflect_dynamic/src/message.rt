@@ -1,8 +1,8 @@
 //! Messages whose types are known only at run time.
 
-ghost use Rattle.std.specs.Prelude.{◌≡◌, ◌↔◌, true, [], IsTrue, Some, OnOk, OnErr, IfOk, option_map, unwrap_or};
-ghost use Rattle.std.specs.Borrow.{LendsIfOk, sem};
-ghost use Rattle.std.specs.Option.{option_copied};
+ghost use Rattle.std.specs.Prelude.{◌≡◌, ◌↔◌, true, [], IsTrue, Some, OnOk, OnErr, IfOk, IfSome, option_map, unwrap_or};
+ghost use Rattle.std.specs.Borrow.{LendsIf, LendsIfOk, sem};
+ghost use Rattle.std.specs.Option.{option_copied, option_copied_mut};
 ghost use Rattle.prost_reflect_wire.specs.Unknown.{unknown_record, records_of};
 ghost use Rattle.prost_reflect_wire.specs.Content.{empty, entries_of, value_at};
 ghost use Rattle.prost_reflect_wire.specs.Edit.{cleared};
@@ -12,12 +12,12 @@ ghost use Rattle.prost_reflect_pool.specs.MessageTypes.{schema_at, type_at, Same
 ghost use Rattle.prost_reflect_pool.specs.SharedPools.{pool_contents};
 ghost use Rattle.prost_reflect_fields.specs.Items.{IsAscending};
 ghost use Rattle.prost_reflect_fields.specs.ItemsLeft.{items_left};
-ghost use Rattle.prost_reflect_fields.specs.Known.{known_of, is_known, keeps_unknown};
+ghost use Rattle.prost_reflect_fields.specs.Known.{known_of, is_known, keeps_unknown, oneof_of};
 ghost use Rattle.prost_reflect_fields.specs.NumberSets.{has, HasWholeOneofs};
 ghost use Rattle.prost_reflect_fields.specs.FieldSlots.{stored_at, records_at};
 ghost use Rattle.prost_reflect_fields.specs.Sound.{IsSound};
 ghost use Rattle.prost_reflect_dynamic.specs.declared.value.Value.{Value};
-ghost use Rattle.prost_reflect_dynamic.specs.View.{content_of, value_of, message_type_of, stored_in, written_at};
+ghost use Rattle.prost_reflect_dynamic.specs.View.{content_of, value_of, message_type_of, stored_in, overwritten_at, written_at};
 ghost use Rattle.prost_reflect_dynamic.specs.Named.{IsNamed, NamesSame, schema_named, type_named};
 ghost use Rattle.prost_reflect_dynamic.specs.Contents.{value_set, value_cleared, unknown_added};
 ghost use Rattle.prost_reflect_dynamic.specs.Defaults.{IsEmptyOf};
@@ -160,6 +160,23 @@ impl DynamicMessage {
         self.fields.set(number, value)
     }
 
+    /// The same where the oneof of the number's field is at hand.
+    pub(crate) fn set_member(
+        &mut self,
+        number: u32,
+        oneof: Option<usize>,
+        value: Value,
+    ) -> Result<(), AllocError>
+        requires known { is_known (known_of (message_type_of self.old)) number ≡ true }
+        requires oneof { oneof ≡ oneof_of (known_of (message_type_of self.old)) number }
+        ensures message_type { message_type_of self.new ≡ message_type_of self.old }
+        ensures content { OnOk result (content_of self.new ≡ value_set number (value_of value) (content_of self.old)) }
+        ensures typed { OnOk result (typed_at (message_type_of self.old) number (value_stored value) ≡ true → StaysTyped self.old self.new) }
+        ensures err { OnErr result (self.new ≡ self.old) }
+    {
+        self.fields.set_member(number, oneof, value)
+    }
+
     /// Takes the value at the number. The unknown fields stay.
     pub(crate) fn take_value(&mut self, number: u32) -> Option<Value>
         ensures message_type { message_type_of self.new ≡ message_type_of self.old }
@@ -208,6 +225,18 @@ impl DynamicMessage {
     {
         let DynamicMessage { fields } = others;
         self.fields.replace(numbers, fields)
+    }
+
+    /// The value at the number, borrowed for writing, if there is one. Once the borrow ends, the message is as if the value
+    /// that is left there had been set.
+    pub(crate) fn value_mut(&mut self, number: u32) -> Option<&mut Value>
+        ensures* writes_back { sem 𝓛 (LendsIf the_row value.the_row self.entry result (overwritten_at self.old number) self.old) }
+        ensures stored { option_copied_mut result ≡ stored_at (stored_in self.old) number }
+        ensures value { option_map value_of (option_copied_mut result) ≡ value_at number (entries_of (content_of self.old)) }
+        ensures content { (v : Value) → IfSome result (λ _. content_of (overwritten_at self.old number v) ≡ value_set number (value_of v) (content_of self.old)) }
+        ensures ascending { IsAscending (stored_in self.old) }
+    {
+        self.fields.get_mut(number)
     }
 
     /// The value at the number of a field or an extension, borrowed for writing; where there is none, it is first set to

@@ -6,7 +6,7 @@ ghost use Rattle.std.specs.Option.{option_copied, option_copied_mut};
 ghost use Rattle.prost_reflect_wire.specs.Unknown.{unknown_record};
 ghost use Rattle.prost_reflect_fields.specs.contracts.field_set.FieldSet.{the_row};
 ghost use Rattle.prost_reflect_fields.specs.Items.{IsAscending};
-ghost use Rattle.prost_reflect_fields.specs.Known.{known_of, is_known, is_listed, keeps_unknown};
+ghost use Rattle.prost_reflect_fields.specs.Known.{known_of, is_known, is_listed, keeps_unknown, oneof_of};
 ghost use Rattle.prost_reflect_fields.specs.NumberSets.{HasWholeOneofs, AreReplaced};
 ghost use Rattle.prost_reflect_fields.specs.FieldSlots.{stored_at, unknown_at, clear_value, without_values, values_where, with_value, UnknownAdded, SameStored, unknown_sets, values_alone};
 ghost use Rattle.prost_reflect_fields.specs.Sound.{IsSound, set_value_at, prepared};
@@ -19,7 +19,7 @@ use crate::parting::parted;
 use crate::slot::FieldSlot;
 use crate::sorted_map::{Items, ItemsBack, SortedMap};
 use crate::stored::{
-    add_unknown, noted_member, set_value, stored_at, take_value, unknown_at, value_mut,
+    add_unknown, noted_member, oneof_of, set_value, stored_at, take_value, unknown_at, value_mut,
     value_mut_or,
 };
 use crate::taking::take_unknown;
@@ -209,6 +209,23 @@ impl<V: Drop> FieldSet<V> {
         ensures err { OnErr result (self.new ≡ self.old) }
         ensures ascending { IsAscending self.old.1 }
     {
+        let oneof = oneof_of(&self.message_type, number);
+        self.set_member(number, oneof, value)
+    }
+
+    /// The same where the oneof of the number's field is at hand, so that its row is not looked for.
+    pub fn set_member(
+        &mut self,
+        number: u32,
+        oneof: Option<usize>,
+        value: V,
+    ) -> Result<(), AllocError>
+        requires known { is_known (known_of self.old.0) number ≡ true }
+        requires oneof { oneof ≡ oneof_of (known_of self.old.0) number }
+        ensures ok { OnOk result (self.new ≡ (self.old.0, set_value_at (known_of self.old.0) self.old.1 number value)) }
+        ensures err { OnErr result (self.new ≡ self.old) }
+        ensures ascending { IsAscending self.old.1 }
+    {
         let alloc = self.fields.allocator();
         let member = noted_member(&mut self.fields, &self.message_type, number);
         set_value(
@@ -216,6 +233,7 @@ impl<V: Drop> FieldSet<V> {
             alloc,
             &self.message_type,
             number,
+            oneof,
             value,
             member,
         )
@@ -260,7 +278,10 @@ impl<V: Drop> FieldSet<V> {
     pub fn get_mut(&mut self, number: u32) -> Option<&mut V>
         ensures* writes_back { sem 𝓛 (LendsIf (the_row V.row) V.row self.entry result (λ w. (self.old.0, with_value self.old.1 number w)) self.old) }
         ensures value { option_copied_mut result ≡ stored_at self.old.1 number }
+        ensures ascending { IsAscending self.old.1 }
+        ensures sound { IsSound self.old.0 self.old.1 }
     {
+        ascending(&self.fields);
         value_mut(&mut self.fields, number)
     }
 

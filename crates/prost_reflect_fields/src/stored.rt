@@ -120,10 +120,12 @@ pub fn set_value<V: Drop, S: NumberMap<FieldSlot<V>>>(
     alloc: Global,
     message_type: &PooledType,
     number: u32,
+    oneof: Option<usize>,
     value: V,
     member: Option<u32>,
 ) -> Result<(), AllocError>
-    requires { IfSome member (OnlyMember (known_of message_type.now) (S.entries fields.old) number) }
+    requires oneof { oneof ≡ oneof_of (known_of message_type.now) number }
+    requires member { IfSome member (OnlyMember (known_of message_type.now) (S.entries fields.old) number) }
     ensures ok { OnOk result (S.entries fields.new ≡ set_value_at (known_of message_type.now) (S.entries fields.old) number value) }
     ensures err { OnErr result (S.entries fields.new ≡ S.entries fields.old) }
     ensures ascending { IsAscending (S.entries fields.old) }
@@ -131,7 +133,7 @@ pub fn set_value<V: Drop, S: NumberMap<FieldSlot<V>>>(
     put_value(fields, alloc, number, value)?;
     match member {
         Some(member) => clear_other(fields, alloc, message_type, number, member),
-        None => clear_siblings(fields, alloc, message_type, number),
+        None => clear_siblings(fields, alloc, message_type, number, oneof),
     }
     Ok(())
 }
@@ -187,11 +189,12 @@ fn set_default<V: Drop, S: NumberMap<FieldSlot<V>>>(
     if stored_at(fields, number).is_some() {
         return Ok(());
     }
-    set_value(fields, alloc, message_type, number, default, member)
+    let oneof = oneof_of(message_type, number);
+    set_value(fields, alloc, message_type, number, oneof, default, member)
 }
 
 /// The oneof of the number's field.
-pub(crate) fn oneof_of(message_type: &PooledType, number: u32) -> Option<usize>
+pub fn oneof_of(message_type: &PooledType, number: u32) -> Option<usize>
     ensures { result ≡ oneof_of (known_of message_type.now) number }
 {
     match message_type.field_table(number) {
@@ -264,11 +267,12 @@ fn clear_siblings<V: Drop, S: NumberMap<FieldSlot<V>>>(
     alloc: Global,
     message_type: &PooledType,
     number: u32,
+    oneof: Option<usize>,
 )
+    requires { oneof ≡ oneof_of (known_of message_type.now) number }
     ensures cleared { S.entries fields.new ≡ without_values (are_siblings (known_of message_type.now) number) (S.entries fields.old) }
     ensures ascending { IsAscending (S.entries fields.old) }
 {
-    let oneof = oneof_of(message_type, number);
     let places = member_places(message_type, oneof);
     if !clear_listed(fields, alloc, message_type, oneof, number, places.len()) {
         clear_members(

@@ -5,7 +5,7 @@ use prost_reflect_fields::number_map::NumberMap;
 use prost_reflect_fields::slot::FieldSlot;
 use prost_reflect_fields::sorted_map::SortedMap;
 use prost_reflect_fields::stored::{
-    add_unknown, set_value, stored_at, take_value, unknown_at, value_mut, value_mut_or,
+    add_unknown, oneof_of, set_value, stored_at, take_value, unknown_at, value_mut, value_mut_or,
 };
 use prost_reflect_pool::PooledType;
 use prost_reflect_samples::calls::{Call, calls};
@@ -30,7 +30,8 @@ fn apply<S: NumberMap<FieldSlot<u32>>>(
     let is_known = descriptor.field_place(call.number()).is_some();
     match call {
         Call::Set(number, value) if is_known => {
-            set_value(fields, alloc, descriptor, number, value, None)?;
+            let oneof = oneof_of(descriptor, number);
+            set_value(fields, alloc, descriptor, number, oneof, value, None)?;
             Ok(None)
         }
         Call::Write(number, amount) if is_known => {

@@ -9,7 +9,7 @@ ghost use Rattle.prost_reflect_wire.specs.Typing.{kept, WellStored};
 ghost use Rattle.prost_reflect_wire.specs.Fault.{StandsInMessage};
 ghost use Rattle.prost_reflect_wire.specs.Decoding.{Progress, Step, StandsBehindKey};
 ghost use Rattle.prost_reflect_dynamic.specs.Named.{IsNamed, schema_named, type_named};
-ghost use Rattle.prost_reflect_fields.specs.Known.{known_of};
+ghost use Rattle.prost_reflect_fields.specs.Known.{known_of, oneof_of};
 ghost use Rattle.prost_reflect_dynamic.specs.Scalars.{PlainField, StaysUnknown};
 ghost use Rattle.prost_reflect_tables.specs.Rows.{field_row};
 ghost use Rattle.prost_reflect_pool.specs.MapParts.{map_parts};
@@ -125,9 +125,9 @@ impl DynamicMessage {
         ensures fault { IfErr result (λ e. e ≢ DecodeError.OutOfMemory → StandsBehindKey (content_of self.old) levels number.value wire_type e bytes.now) }
     {
         match target_at(self.message_type(), number.get()) {
-            Target::Scalar(kind) => self.merge_scalar(
-                alloc, number, kind, wire_type, bytes, levels,
-            ),
+            Target::Scalar(kind, oneof) => {
+                self.merge_scalar(alloc, number, kind, oneof, wire_type, bytes, levels)
+            }
             Target::List(kind) => self.merge_list(alloc, number, kind, wire_type, bytes, levels),
             Target::Numbers(kind) => {
                 self.merge_numbers(alloc, number, kind, wire_type, bytes, levels)
@@ -135,8 +135,8 @@ impl DynamicMessage {
             Target::Map(key, kind) => {
                 self.merge_map(alloc, number, (key, kind), wire_type, bytes, levels)
             }
-            Target::Message(kind) => {
-                self.merge_message(alloc, number, kind, wire_type, bytes, levels)
+            Target::Message(kind, oneof) => {
+                self.merge_message(alloc, number, kind, oneof, wire_type, bytes, levels)
             }
             Target::Element(kind) => {
                 self.merge_element(alloc, number, kind, wire_type, bytes, levels)
@@ -155,12 +155,14 @@ impl DynamicMessage {
         alloc: Global,
         number: FieldNumber,
         kind: TableKind,
+        oneof: Option<usize>,
         wire_type: WireType,
         bytes: &'a [u8],
         levels: u32,
     ) -> Result<&'a [u8], DecodeError>
         requires sound { WellStored (content_of self.old) }
         requires field { PlainField (message_type_of self.old) number.value kind }
+        requires oneof { oneof ≡ oneof_of (known_of (message_type_of self.old)) number.value }
         ensures ok { IfOk result (λ rest. Step levels number.value wire_type (content_of self.old) (content_of self.new) bytes.now rest.now) }
         ensures message_type { message_type_of self.new ≡ message_type_of self.old }
         ensures typed { IfOk result (λ _. StaysTyped self.old self.new) }
@@ -170,7 +172,7 @@ impl DynamicMessage {
         if is_stray(self.message_type(), kind, &value) {
             return self.merge_unknown(alloc, number, wire_type, bytes, levels);
         }
-        self.set_value(number.get(), value)?;
+        self.set_member(number.get(), oneof, value)?;
         Ok(rest)
     }
 
@@ -201,16 +203,16 @@ impl DynamicMessage {
 pub(super) enum Target {
     /// An unknown field.
     Unknown,
-    /// A scalar of the kind.
-    Scalar(TableKind),
+    /// A scalar of the kind, and the place of its field's oneof.
+    Scalar(TableKind, Option<usize>),
     /// Elements of a list of such scalars.
     List(TableKind),
     /// Elements of a list of numbers of this enum.
     Numbers(TableKind),
     /// An entry of a map whose keys and values are scalars of these kinds.
     Map(TableKind, TableKind),
-    /// A message of the kind.
-    Message(MessageKind),
+    /// A message of the kind, and the place of its field's oneof.
+    Message(MessageKind, Option<usize>),
     /// Such a message as an element of a list.
     Element(MessageKind),
     /// An entry of a map whose keys are scalars of the kind, and whose values are messages of the type at the place.
@@ -223,7 +225,7 @@ fn target_at(message_type: &PooledType, number: u32) -> Target
 {
     match message_type.field_table(number) {
         Some(field) if field.cardinality.is_repeated() => repeated_target(message_type, field),
-        Some(field) => value_target(field.kind, field.is_group),
+        Some(field) => value_target(field.kind, field.is_group, field.oneof),
         None => Target::Unknown,
     }
 }
@@ -239,12 +241,12 @@ fn repeated_target(message_type: &PooledType, field: &FieldTable) -> Target
 }
 
 /// What a record of a field of one value is read as.
-fn value_target(kind: TableKind, is_group: bool) -> Target
-    ensures { result ≡ target_of kind is_group }
+fn value_target(kind: TableKind, is_group: bool, oneof: Option<usize>) -> Target
+    ensures { result ≡ target_of kind is_group oneof }
 {
     match kind {
-        TableKind::Message(place) => Target::Message(MessageKind { place, is_group }),
-        _ => Target::Scalar(kind),
+        TableKind::Message(place) => Target::Message(MessageKind { place, is_group }, oneof),
+        _ => Target::Scalar(kind, oneof),
     }
 }
 

@@ -27,7 +27,7 @@ fn elements_in(wire_type: WireType, body: &[u8]) -> usize {
 }
 
 /// How many bytes are the last of a varint.
-fn last_digits(body: &[u8]) -> usize {
+pub(super) fn last_digits(body: &[u8]) -> usize {
     let mut count = 0usize;
     for byte in body {
         count = count.wrapping_add(usize::from(*byte < 0x80));

@@ -1,10 +1,11 @@
 //! Reading messages and groups (the encoding guide, "Submessages", "Groups" and "Last One Wins": the records of several
 //! messages of one field are read as those of one message).
 
-ghost use Rattle.std.specs.Prelude.{◌≡◌, ◌≢◌, ◌≤◌, ◌<◌, true, length, Some, IfOk, IfErr, OnOk};
-ghost use Rattle.prost_reflect_wire.specs.Content.{MessageValue, empty, schema_of, type_of};
+ghost use Rattle.std.specs.Prelude.{◌≡◌, ◌≢◌, ◌≤◌, ◌<◌, true, length, Some, None, IfOk, IfErr, OnOk};
+ghost use Rattle.prost_reflect_wire.specs.Content.{MessageValue, empty, schema_of, type_of, entries_of, value_at};
 ghost use Rattle.prost_reflect_wire.specs.Typing.{WellStored};
 ghost use Rattle.prost_reflect_wire.specs.Decoding.{GroupProgress, Step, StandsBehindKey, StandsInGroup};
+ghost use Rattle.prost_reflect_fields.specs.Known.{known_of, oneof_of};
 ghost use Rattle.prost_reflect_pool.specs.MessageTypes.{schema_at};
 ghost use Rattle.prost_reflect_pool.specs.SharedPools.{pool_rows};
 ghost use Rattle.prost_reflect_dynamic.specs.Nested.{nested_wire, NestedRead, NestedFault, StandsBehindNested, HeldMessage, ReadIntoHeld, StandsInHeld};
@@ -38,28 +39,58 @@ impl DynamicMessage {
         alloc: Global,
         number: FieldNumber,
         kind: MessageKind,
+        oneof: Option<usize>,
         wire_type: WireType,
         bytes: &'a [u8],
         levels: u32,
     ) -> Result<&'a [u8], DecodeError>
         requires sound { WellStored (content_of self.old) }
         requires field { NestedField (message_type_of self.old) number.value kind.place kind.is_group }
+        requires oneof { oneof ≡ oneof_of (known_of (message_type_of self.old)) number.value }
         ensures ok { IfOk result (λ rest. Step levels number.value wire_type (content_of self.old) (content_of self.new) bytes.now rest.now) }
         ensures message_type { message_type_of self.new ≡ message_type_of self.old }
         ensures typed { IfOk result (λ _. StaysTyped self.old self.new) }
         ensures fault { IfErr result (λ e. e ≢ DecodeError.OutOfMemory → StandsBehindKey (content_of self.old) levels number.value wire_type e bytes.now) }
     {
-        let default = empty_value(alloc, self.message_type(), kind.place)?;
-        let value = self.value_mut_or(number.get(), default)?;
-        DynamicMessage::merge_into(
-            value,
-            alloc,
-            number,
-            kind.is_group,
-            wire_type,
-            bytes,
-            levels,
-        )
+        match self.value_mut(number.get()) {
+            Some(value) => DynamicMessage::merge_into(
+                value,
+                alloc,
+                number,
+                kind.is_group,
+                wire_type,
+                bytes,
+                levels,
+            ),
+            None => self.merge_first(alloc, number, kind, oneof, wire_type, bytes, levels),
+        }
+    }
+
+    /// The same where no message is there yet. It is stored once its records are read.
+    #[cycle(reading)]
+    fn merge_first<'a>(
+        &mut self,
+        alloc: Global,
+        number: FieldNumber,
+        kind: MessageKind,
+        oneof: Option<usize>,
+        wire_type: WireType,
+        bytes: &'a [u8],
+        levels: u32,
+    ) -> Result<&'a [u8], DecodeError>
+        requires sound { WellStored (content_of self.old) }
+        requires field { NestedField (message_type_of self.old) number.value kind.place kind.is_group }
+        requires oneof { oneof ≡ oneof_of (known_of (message_type_of self.old)) number.value }
+        requires none { value_at number.value (entries_of (content_of self.old)) ≡ None }
+        ensures ok { IfOk result (λ rest. Step levels number.value wire_type (content_of self.old) (content_of self.new) bytes.now rest.now) }
+        ensures message_type { message_type_of self.new ≡ message_type_of self.old }
+        ensures typed { IfOk result (λ _. StaysTyped self.old self.new) }
+        ensures fault { IfErr result (λ e. e ≢ DecodeError.OutOfMemory → StandsBehindKey (content_of self.old) levels number.value wire_type e bytes.now) }
+    {
+        let mut first = empty_message(alloc, self.message_type(), kind.place)?;
+        let rest = first.merge_nested(alloc, number, kind.is_group, wire_type, bytes, levels)?;
+        self.set_member(number.get(), oneof, Value::Message(first))?;
+        Ok(rest)
     }
 
     /// Reads what stands behind the key of a message or a group into the message that the value is.
@@ -163,19 +194,6 @@ fn check_nested(is_group: bool, wire_type: WireType, levels: u32) -> Result<(), 
         return Err(DecodeError::Depth);
     }
     Ok(())
-}
-
-/// The value that is an empty message of the type at the place of a descriptor's pool.
-pub(crate) fn empty_value(
-    alloc: Global,
-    message_type: &PooledType,
-    place: usize,
-) -> Result<Value, AllocError>
-    requires { place < length (pool_rows message_type.now.pool).messages }
-    ensures content { IfOk result (λ v. value_of v ≡ MessageValue (empty (schema_at message_type.now) place)) }
-    ensures typed { IfOk result (λ v. typed_as message_type.now (Some place) (value_stored v) ≡ true) }
-{
-    Ok(Value::Message(empty_message(alloc, message_type, place)?))
 }
 
 /// An empty message of the type at the place of a descriptor's pool.

@@ -1,29 +1,29 @@
-use Rattle.std.proofs.Common.{◌≡◌, ◌≤◌, subst, true, false, Some, nat_eq, refl, ap, sym, ◌∙◌, length, true≢false, arith}
+use Rattle.std.proofs.Common.{◌≡◌, ◌≤◌, subst, true, false, Some, nat_eq, refl, ap, sym, ◌∙◌, length, true≢false, unwrap_or, arith}
 use Rattle.std.proofs.lemmas.Bool.{eq-eqb, ne_eqb}
 use Rattle.prost_reflect_dynamic.specs.View.{key_of}
 use Rattle.std.proofs.Common.{rules}
 use Rattle.std.proofs.lemmas.Result.{err_from_is_err_and, IfOk-weaker, IfErr-weaker}
 use Rattle.prost_reflect_wire.specs.Content.{MessageValue, empty, value_at, entries_of}
 use Rattle.prost_reflect_pool.specs.MessageTypes.{schema_at}
-use Rattle.prost_reflect_dynamic.specs.View.{value_of, content_of, message_type_of, written_at}
+use Rattle.prost_reflect_dynamic.specs.View.{value_of, content_of, message_type_of, overwritten_at}
 use Rattle.prost_reflect_dynamic.specs.Contents.{value_set}
 use Rattle.prost_reflect_dynamic.proofs.Views.{value_of_message}
 use Rattle.prost_reflect_wire.specs.Front.{KeyFront}
 use Rattle.prost_reflect_laws.proofs.Progressing.{progress_start, progress_step, progress_no_key, progress_no_key_in, progress_no_record, progress_no_record_in, progress_other_end}
 use Rattle.prost_reflect_dynamic.proofs.NestedFaults.{nested_refused, group_read, message_read, group_refused, message_refused, body_refused}
-use Rattle.prost_reflect_dynamic.proofs.NestedReads.{lent_message, held_message, read_in, refused_in}
+use Rattle.prost_reflect_dynamic.proofs.NestedReads.{lent_message, held_message, first_message, read_in, refused_in, read_first, refused_first}
 use Rattle.prost_reflect_dynamic.proofs.ElementReads.{list_or_none, empty_element, element_step, element_refused}
 use Rattle.prost_reflect_wire.proofs.ByteLists.{bytes_below}
 use Rattle.prost_reflect_wire.specs.Content.{MapValue, schema_of, type_of}
 use Rattle.prost_reflect_wire.specs.Meaning.{put, pairs_in}
 use Rattle.prost_reflect_dynamic.specs.Lists.{with_element}
 use Rattle.prost_reflect_dynamic.proofs.NestedMaps.{nested_start, nested_no_key_there, nested_key_there, nested_value_there, nested_other_there, nested_no_key_value, nested_no_value, nested_no_other, nested_mapped, nested_key_found, nested_entry_set, nested_entry_fault, nested_body_fault, nested_no_level}
-use Rattle.prost_reflect_dynamic.specs.Stored.{StoredInside, message_stored, value_stored}
+use Rattle.prost_reflect_dynamic.specs.Stored.{StoredInside, message_stored}
 use Rattle.prost_reflect_dynamic.specs.Targets.{NestedField, NestedList}
 use Rattle.prost_reflect_dynamic.specs.NestedMaps.{NestedMap}
 use Rattle.prost_reflect_dynamic.specs.TypedSteps.{typed_as}
 use Rattle.prost_reflect_dynamic.proofs.TypedSteps.{still_typed}
-use Rattle.prost_reflect_dynamic.proofs.TypedValues.{held_stays, message_step, element_read, entry_read}
+use Rattle.prost_reflect_dynamic.proofs.TypedValues.{held_stays, held_read, first_read, element_read, entry_read}
 use Rattle.prost_reflect_dynamic.proofs.message.DynamicMessage.+reading.Goals as goal
 
 pub merge_records-loop-rest-init : goal.merge_records-loop-rest-init
@@ -73,27 +73,47 @@ merge_to_end-returns-in_err-rest-clause-message_type t c = c.merge_record.ensure
 
 pub merge_message-merge_into-requires : goal.merge_message-merge_into-requires
 merge_message-merge_into-requires t c =
-    let lent = lent_message c.args.self.now c.args.number.value c.args.kind.place c.args.kind.is_group c.in_ok-default.default c.in_ok-value.value.now c.requires.sound c.requires.field
-    (c.in_ok-default.ensures.content ∙ ap (λ d. MessageValue (empty (schema_at d) c.args.kind.place)) c.message_type.ensures) (rw c.get.ensures.value at c.in_ok-value.ensures.value) in
-    (search rules, held_message c.args.self.now c.args.number.value c.args.kind.place c.in_ok-value.value.now lent)
+    let lent = lent_message c.args.self.now c.args.number.value c.args.kind.place c.args.kind.is_group c.in-Some.value.now c.requires.sound c.requires.field
+    (ap (λ o. unwrap_or o (MessageValue (empty (schema_at (message_type_of c.args.self.now)) c.args.kind.place))) (rw c.get.ensures.value at c.in-Some.ensures.value)) in
+    (search rules, held_message c.args.self.now c.args.number.value c.args.kind.place c.in-Some.value.now lent)
 
-pub merge_message-returns-clause-fault : goal.merge_message-returns-clause-fault
-merge_message-returns-clause-fault t c =
-    let lent = lent_message c.args.self.now c.args.number.value c.args.kind.place c.args.kind.is_group c.in_ok-default.default c.in_ok-value.value.now c.requires.sound c.requires.field
-    (c.in_ok-default.ensures.content ∙ ap (λ d. MessageValue (empty (schema_at d) c.args.kind.place)) c.message_type.ensures) (rw c.get.ensures.value at c.in_ok-value.ensures.value) in
+pub merge_message-returns-in-Some-clause-fault : goal.merge_message-returns-in-Some-clause-fault
+merge_message-returns-in-Some-clause-fault t c =
+    let lent = lent_message c.args.self.now c.args.number.value c.args.kind.place c.args.kind.is_group c.in-Some.value.now c.requires.sound c.requires.field
+    (ap (λ o. unwrap_or o (MessageValue (empty (schema_at (message_type_of c.args.self.now)) c.args.kind.place))) (rw c.get.ensures.value at c.in-Some.ensures.value)) in
     IfErr-weaker c.merge_into.result _ _
-    (λ e f ne. refused_in c.args.self.now c.args.number.value c.args.kind.place c.args.levels c.args.kind.is_group c.args.wire_type c.in_ok-value.value.now c.requires.sound c.requires.field lent e c.args.bytes.now (f ne))
+    (λ e f ne. refused_in c.args.self.now c.args.number.value c.args.kind.place c.args.levels c.args.kind.is_group c.args.wire_type c.in-Some.value.now c.requires.sound c.requires.field lent e c.args.bytes.now (f ne))
     c.merge_into.ensures.fault
 
-pub merge_message-returns-clause-ok : goal.merge_message-returns-clause-ok
-merge_message-returns-clause-ok t c =
-    let lent = lent_message c.args.self.now c.args.number.value c.args.kind.place c.args.kind.is_group c.in_ok-default.default c.in_ok-value.value.now c.requires.sound c.requires.field
-    (c.in_ok-default.ensures.content ∙ ap (λ d. MessageValue (empty (schema_at d) c.args.kind.place)) c.message_type.ensures) (rw c.get.ensures.value at c.in_ok-value.ensures.value) in
+pub merge_message-returns-in-Some-clause-ok : goal.merge_message-returns-in-Some-clause-ok
+merge_message-returns-in-Some-clause-ok t c =
+    let lent = lent_message c.args.self.now c.args.number.value c.args.kind.place c.args.kind.is_group c.in-Some.value.now c.requires.sound c.requires.field
+    (ap (λ o. unwrap_or o (MessageValue (empty (schema_at (message_type_of c.args.self.now)) c.args.kind.place))) (rw c.get.ensures.value at c.in-Some.ensures.value)) in
     IfOk-weaker c.merge_into.result _ _
-    (λ rest r. read_in c.args.self.now c.args.number.value c.args.kind.place c.args.levels c.args.kind.is_group c.args.wire_type c.in_ok-value.value.now c.requires.sound c.requires.field lent
-    (written_at c.args.self.now c.get.result c.in_ok-default.default c.merge_into.new.value) (value_of c.merge_into.new.value) c.args.bytes.now rest.now r
-    (c.in_ok-value.ensures.content c.merge_into.new.value ∙ ap (λ n. value_set n (value_of c.merge_into.new.value) (content_of c.args.self.now)) c.get.ensures.value))
+    (λ rest r. read_in c.args.self.now c.args.number.value c.args.kind.place c.args.levels c.args.kind.is_group c.args.wire_type c.in-Some.value.now c.requires.sound c.requires.field lent
+    (overwritten_at c.args.self.now c.get.result c.merge_into.new.value) (value_of c.merge_into.new.value) c.args.bytes.now rest.now r
+    (c.in-Some.ensures.content c.merge_into.new.value ∙ ap (λ n. value_set n (value_of c.merge_into.new.value) (content_of c.args.self.now)) c.get.ensures.value))
     c.merge_into.ensures.ok
+
+pub merge_first-merge_nested-requires : goal.merge_first-merge_nested-requires
+merge_first-merge_nested-requires t c =
+    let at = first_message c.args.self.now c.in_ok-first.first c.args.number.value c.args.kind.place c.args.kind.is_group c.requires.sound c.requires.field
+    (c.in_ok-first.ensures.content ∙ ap (λ d. empty (schema_at d) c.args.kind.place) c.message_type.ensures) c.requires.none in
+    (search rules, at.sound)
+
+pub merge_first-returns-in_err-rest-clause-fault : goal.merge_first-returns-in_err-rest-clause-fault
+merge_first-returns-in_err-rest-clause-fault t c =
+    let at = first_message c.args.self.now c.in_ok-first.first c.args.number.value c.args.kind.place c.args.kind.is_group c.requires.sound c.requires.field
+    (c.in_ok-first.ensures.content ∙ ap (λ d. empty (schema_at d) c.args.kind.place) c.message_type.ensures) c.requires.none in
+    let p = err_from_is_err_and c.from_residual-in_err-rest.result c.from_residual-in_err-rest.ensures.1 in
+    rw (p.1, p.2) (λ ne. refused_first c.args.self.now c.in_ok-first.first c.args.number.value c.args.kind.place c.args.levels c.args.kind.is_group c.args.wire_type c.requires.sound c.requires.field at _ c.args.bytes.now (c.in_err-rest.ensures.fault ne))
+
+pub merge_first-returns-clause-ok : goal.merge_first-returns-clause-ok
+merge_first-returns-clause-ok t c =
+    let at = first_message c.args.self.now c.in_ok-first.first c.args.number.value c.args.kind.place c.args.kind.is_group c.requires.sound c.requires.field
+    (c.in_ok-first.ensures.content ∙ ap (λ d. empty (schema_at d) c.args.kind.place) c.message_type.ensures) c.requires.none in
+    read_first c.args.self.now c.in_ok-first.first c.args.number.value c.args.kind.place c.args.levels c.args.kind.is_group c.args.wire_type c.requires.sound c.requires.field at c.merge_nested.new.self c.set_member.new.self
+    c.args.bytes.now c.in_ok-rest.rest.now c.in_ok-rest.ensures.ok (rw c.get.ensures.value at c.in_ok-set_member.ensures.content)
 
 pub merge_into-returns-clause-ok : goal.merge_into-returns-clause-ok
 merge_into-returns-clause-ok t c =
@@ -227,13 +247,18 @@ merge_entry-returns-clause-ok t c =
 
 -- THE TYPES OF WHAT IS READ
 
-pub merge_message-returns-clause-typed : goal.merge_message-returns-clause-typed
-merge_message-returns-clause-typed t c =
+pub merge_message-returns-in-Some-clause-typed : goal.merge_message-returns-in-Some-clause-typed
+merge_message-returns-in-Some-clause-typed t c =
     IfOk-weaker c.merge_into.result _ _
-    (λ rest stays. message_step c.args.self.now c.get.result c.args.kind.place c.args.kind.is_group c.in_ok-default.default c.in_ok-value.value.now c.merge_into.new.value c.in_ok-value.ensures.ascending
-    (subst (λ n. NestedField (message_type_of c.args.self.now) n c.args.kind.place c.args.kind.is_group) (sym c.get.ensures.value) c.requires.field) c.in_ok-value.ensures.stored
-    (subst (λ d. typed_as d (Some c.args.kind.place) (value_stored c.in_ok-default.default) ≡ true) c.message_type.ensures c.in_ok-default.ensures.typed) stays)
+    (λ rest stays. held_read c.args.self.now c.get.result c.args.kind.place c.args.kind.is_group c.in-Some.value.now c.merge_into.new.value c.in-Some.ensures.ascending
+    (subst (λ n. NestedField (message_type_of c.args.self.now) n c.args.kind.place c.args.kind.is_group) (sym c.get.ensures.value) c.requires.field) (sym c.in-Some.ensures.stored) stays)
     c.merge_into.ensures.typed
+
+pub merge_first-returns-clause-typed : goal.merge_first-returns-clause-typed
+merge_first-returns-clause-typed t c = c.in_ok-set_member.ensures.typed
+    (first_read (message_type_of c.args.self.now) c.get.result c.args.kind.place c.args.kind.is_group c.in_ok-first.first c.merge_nested.new.self
+    (subst (λ n. NestedField (message_type_of c.args.self.now) n c.args.kind.place c.args.kind.is_group) (sym c.get.ensures.value) c.requires.field)
+    (subst (λ d. typed_as d (Some c.args.kind.place) (StoredInside (message_stored c.in_ok-first.first)) ≡ true) c.message_type.ensures c.in_ok-first.ensures.typed) c.merge_nested.ensures.message_type c.in_ok-rest.ensures.typed)
 
 pub merge_into-returns-clause-typed : goal.merge_into-returns-clause-typed
 merge_into-returns-clause-typed t c =

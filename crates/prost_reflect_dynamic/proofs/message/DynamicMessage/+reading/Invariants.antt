@@ -20,6 +20,9 @@ decreases-merge_record l = 6 * l.levels + 4
 abbrev pub decreases-merge_message : goal.decreases-merge_message
 decreases-merge_message l = 6 * l.levels + 3
 
+abbrev pub decreases-merge_first : goal.decreases-merge_first
+decreases-merge_first l = 6 * l.levels + 2
+
 abbrev pub decreases-merge_records-loop-rest : goal.decreases-merge_records-loop-rest
 decreases-merge_records-loop-rest l = length l.rest
 

@@ -21,8 +21,8 @@ merge_unknown-requires-clause-unknown c =
 pub returns-clause-ok : goal.returns-clause-ok
 returns-clause-ok c =
     let test = λ (d : PooledType). is_stray_number (pool_rows d.pool).enums c.args.kind (value_of c.in_ok-value.value) in
-    scalar_set c.args.self.now c.set_value.new.self _ _ _ c.args.kind c.in_ok-value.value _ _ c.requires.sound c.requires.field (bytes_below _ c.type_inv.bytes) c.in_ok-value.ensures.ok
-    (ap test (sym c.message_type.ensures) ∙ sym c.is_stray.ensures ∙ c.if-is_stray.false) (rw c.get.ensures.value at c.in_ok-set_value.ensures.content)
+    scalar_set c.args.self.now c.set_member.new.self _ _ _ c.args.kind c.in_ok-value.value _ _ c.requires.sound c.requires.field (bytes_below _ c.type_inv.bytes) c.in_ok-value.ensures.ok
+    (ap test (sym c.message_type.ensures) ∙ sym c.is_stray.ensures ∙ c.if-is_stray.false) (rw c.get.ensures.value at c.in_ok-set_member.ensures.content)
 
 pub returns-clause-typed : goal.returns-clause-typed
-returns-clause-typed c = c.in_ok-set_value.ensures.typed (scalar_there (message_type_of c.args.self.now) c.get.result c.in_ok-value.value c.in_ok-value.ensures.ok.scalar c.in_ok-value.ensures.ok.value)
+returns-clause-typed c = c.in_ok-set_member.ensures.typed (scalar_there (message_type_of c.args.self.now) c.get.result c.in_ok-value.value c.in_ok-value.ensures.ok.scalar c.in_ok-value.ensures.ok.value)

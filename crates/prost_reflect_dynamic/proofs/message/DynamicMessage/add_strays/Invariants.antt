@@ -1,0 +1,13 @@
+use Rattle.std.proofs.Common.{◌≡◌, take}
+use Rattle.prost_reflect_dynamic.specs.Numbers.{varints_added}
+use Rattle.prost_reflect_dynamic.specs.TypedSteps.{StaysTyped}
+use Rattle.prost_reflect_dynamic.specs.View.{content_of, message_type_of}
+use Rattle.prost_reflect_dynamic.proofs.message.DynamicMessage.add_strays.Given as goal
+
+-- those in front of the index were added
+abbrev pub invariant-loop-varint : goal.invariant-loop-varint
+invariant-loop-varint l = record {
+  content : content_of l.self ≡ varints_added l.number.value (take l.varint-index l.varint-items) (content_of l.fn.self);
+  message_type : message_type_of l.self ≡ message_type_of l.fn.self;
+  typed : StaysTyped l.fn.self l.self;
+}
