@@ -1,5 +1,5 @@
 -- Records of lists of enum numbers read into a message.
-use Rattle.std.proofs.Common.{◌≡◌, ◌<◌, ◌^◌, ℕ, ℤ, pos, Bool, true, false, cond, not, List, [], ◌∷◌, ◌++◌, map, filter, flat_map, Option, Some, None, refl, sym, ap, ◌∙◌, subst, unwrap_or, append_assoc, append-nil, true≢false}
+use Rattle.std.proofs.Common.{◌≡◌, ◌^◌, ℕ, ℤ, pos, Bool, true, false, cond, not, List, [], ◌∷◌, ◌++◌, map, filter, flat_map, Option, Some, None, refl, sym, ap, ◌∙◌, subst, unwrap_or, append_assoc, append-nil, true≢false}
 use Rattle.std.specs.Prelude.{nat_lt, slice_get}
 use Rattle.std.specs.List.{list_all}
 use Rattle.std.proofs.lemmas.Bool.{lt-ltb, and_parts, and_from}
@@ -13,8 +13,8 @@ use Rattle.prost_reflect_wire.specs.Schema.{ScalarOf, Repeated, Field, known, fi
 use Rattle.prost_reflect_wire.specs.Content as contents
 use Rattle.prost_reflect_wire.specs.Content.{Content, ContentOf, Values, ScalarValue, ListValue, NoValues, values_from, ◌and_then◌, schema_of, type_of, entries_of, value_at}
 use Rattle.prost_reflect_wire.specs.Meaning.{scalar_values, values_in}
-use Rattle.prost_reflect_wire.specs.Grammar.{is_stray, unpacked}
-use Rattle.prost_reflect_wire.specs.Typing.{WellStored, unknown_fits, is_whole_stray}
+use Rattle.prost_reflect_wire.specs.Grammar.{unpacked}
+use Rattle.prost_reflect_wire.specs.Typing.{WellStored}
 use Rattle.prost_reflect_wire.specs.Edit.{with_field_value}
 use Rattle.prost_reflect_wire.specs.Fault.{OfType, ElementFault, same_wire}
 use Rattle.prost_reflect_wire.specs.Decoding.{Step, ElementsJoined, NumbersJoined, BodyJoined, FieldFault, ScalarFault, StandsBehindKey, declared_values}
@@ -34,8 +34,8 @@ use Rattle.prost_reflect_dynamic.specs.declared.message.DynamicMessage.{DynamicM
 use Rattle.prost_reflect_dynamic.specs.Contents.{value_set, unknown_added}
 use Rattle.prost_reflect_dynamic.specs.RowKinds.{names_message}
 use Rattle.prost_reflect_pool.specs.Enums.{first_of, numbers_or_none}
-use Rattle.prost_reflect_fields.specs.Known.{known_of, keeps_unknown}
-use Rattle.prost_reflect_dynamic.specs.Lists.{IsList, IsListOrNone, with_element}
+use Rattle.prost_reflect_fields.specs.Known.{known_of}
+use Rattle.prost_reflect_dynamic.specs.Lists.{IsList, IsListOrNone}
 use Rattle.prost_reflect_dynamic.specs.Numbers.{NumberList, BodyTaken, JoinsNumbers, number_element, is_stray_varint, strays_in, declared_in, varints_added, numbers_taken}
 use Rattle.prost_reflect_pool.specs.SharedPools.{pool_rows}
 use Rattle.prost_reflect_dynamic.specs.Scalars.{is_stray_number}
@@ -69,12 +69,6 @@ number_list d n row E found many is =
 -- whether a number is a stray, as the tables and the definitions say it
 stray_is : (d : PooledType) (n : ℕ) (kind : TableKind) (value : ℕ) (list : NumberList d n kind) → is_undeclared (Enum list.first list.numbers) (Flat (Var value)) ≡ is_stray_number (pool_rows d.pool).enums kind (ScalarValue (EnumNumber (low_i32 value)))
 stray_is d n kind value list = stray_payload (pool_rows d.pool).enums kind (Enum list.first list.numbers) (Var value) (EnumNumber (low_i32 value)) list.named refl
-
--- a stray may stand beside the list
-pub stray_kept : (d : PooledType) (n : ℕ) (kind : TableKind) (value : ℕ) → NumberList d n kind → value < 2 ^ 64 → is_stray_number (pool_rows d.pool).enums kind (ScalarValue (EnumNumber (low_i32 value))) ≡ true → keeps_unknown (known_of d) n (Flat (Var value)) ≡ true
-stray_kept d n kind value list small stray =
-    ap (λ o. unknown_fits o n (Flat (Var value))) list.found
-    ∙ and_from _ _ (lt-ltb value (2 ^ 64) small) (ap (λ form. is_whole_stray form list.field.value_type (Flat (Var value))) list.form ∙ ap (λ kind. is_stray kind (Flat (Var value))) list.kind_is ∙ stray_is d n kind value list ∙ stray)
 
 -- a packed body of numbers of any enum
 unpacked_by : (a b : ℤ) (ns ms : EnumNumbers) (body : List ℕ) → unpacked (Enum b ms) body ≡ unpacked (Enum a ns) body
@@ -130,7 +124,7 @@ valid_payloads [] h = refl
 valid_payloads (v ∷ vs) h = let (one, more) = and_parts (nat_lt v (2 ^ 64)) (list_all (λ v. nat_lt v (2 ^ 64)) vs) h in and_from _ _ one (valid_payloads vs more)
 
 -- what passes a filter passes its test, and each test that all pass
-pub filter_passes : {X : Type 0} (p : X → Bool) (xs : List X) → list_all p (filter p xs) ≡ true
+filter_passes : {X : Type 0} (p : X → Bool) (xs : List X) → list_all p (filter p xs) ≡ true
 filter_passes p [] = refl
 filter_passes p (x ∷ xs) = go (p x) refl (filter_passes p xs)
   where
@@ -157,7 +151,7 @@ or_none None h = tt
 or_none (Some (ListValue vs)) h = tt
 or_none (Some v) h = absurd h
 
-pub list_or : (o : Option contents.Value) → IsListed o → unwrap_or o (ListValue NoValues) ≡ ListValue (values_in o)
+list_or : (o : Option contents.Value) → IsListed o → unwrap_or o (ListValue NoValues) ≡ ListValue (values_in o)
 list_or None h = refl
 list_or (Some (ListValue vs)) h = refl
 list_or (Some v) h = absurd h
@@ -205,7 +199,7 @@ module _ (m : DynamicMessage) (n : ℕ) (kind : TableKind) (list : NumberList (m
   found_in : field_of (known (schema_of (content_of m)) (type_of (content_of m))) n ≡ Some list.field
   found_in = ap (λ fields. field_of fields n) (known_in m) ∙ list.found
 
-  pub listed_there : WellStored (content_of m) → IsListed (value_at n (entries_of (content_of m)))
+  listed_there : WellStored (content_of m) → IsListed (value_at n (entries_of (content_of m)))
   listed_there sound = listed_at (content_of m) n list.field list.packed sound found_in list.form
 
   -- at the number stands a list, or nothing yet
@@ -228,7 +222,7 @@ module _ (m : DynamicMessage) (n : ℕ) (kind : TableKind) (list : NumberList (m
       (both_put n list.field list.packed (Enum list.first list.numbers) list.form list.kind_is list.alone (content_of m) (varint_payloads varints) (strays_in rows kind varints) sound (differ_in m) found_in (valid_payloads varints below)
       (filter_keeps (λ v. nat_lt v (2 ^ 64)) (is_stray_varint rows kind) varints below) (strays_undeclared d n kind list (strays_in rows kind varints) (filter_passes (is_stray_varint rows kind) varints))))
 
-  -- a record of one number, a stray or not
+  -- a record of one number: a stray
   pub stray_taken : (varint : ℕ) (mid new : Content) → WellStored (content_of m) → is_stray_varint (pool_rows (message_type_of m).pool).enums kind varint ≡ true → mid ≡ value_set n (unwrap_or (value_at n (entries_of (content_of m))) (ListValue NoValues)) (content_of m) →
       new ≡ varints_added n (varint ∷ []) mid → new ≡ numbers_taken (pool_rows (message_type_of m).pool).enums n kind (varint ∷ []) (content_of m)
   stray_taken varint mid new sound stray list content =
@@ -236,11 +230,7 @@ module _ (m : DynamicMessage) (n : ℕ) (kind : TableKind) (list : NumberList (m
       content ∙ ap (varints_added n (varint ∷ [])) (list ∙ ap (λ v. value_set n v (content_of m)) (list_or o (listed_there sound) ∙ ap ListValue (sym (and_nothing (values_in o)))))
       ∙ ap (λ b. varints_added n (cond b (varint ∷ []) []) (value_set n (ListValue (values_in o and_then values_from (map number_element (cond (not b) (varint ∷ []) [])))) (content_of m))) (sym stray)
 
-  pub declared_taken : (varint : ℕ) (new : Content) → is_stray_varint (pool_rows (message_type_of m).pool).enums kind varint ≡ false → new ≡ value_set n (with_element (value_at n (entries_of (content_of m))) (number_element varint)) (content_of m) →
-      new ≡ numbers_taken (pool_rows (message_type_of m).pool).enums n kind (varint ∷ []) (content_of m)
-  declared_taken varint new declared content =
-      content ∙ ap (λ b. varints_added n (cond b (varint ∷ []) []) (value_set n (ListValue (values_in (value_at n (entries_of (content_of m))) and_then values_from (map number_element (cond (not b) (varint ∷ []) [])))) (content_of m))) (sym declared)
-
+  -- or any other
   pub number_taken_step : (new : DynamicMessage) (levels value : ℕ) (w : WireType) (bytes rest : List ℕ) → WellStored (content_of m) → w ≡ wires.Varint → VarintFront value bytes rest →
       content_of new ≡ numbers_taken (pool_rows (message_type_of m).pool).enums n kind (value ∷ []) (content_of m) → Step levels n w (content_of m) (content_of new) bytes rest
   number_taken_step new levels value w bytes rest sound wire front content =
