@@ -10,6 +10,8 @@ mod OneofPlaces
 mod MembersCleared
 mod PresentSiblings
 mod OnlyMembers
+mod NotedMembers
+mod AllNoted
 pub mod Replaced
 mod Weaving
 mod RunChanges

@@ -6,10 +6,9 @@ use Rattle.prost_reflect_wire.specs.Schema.{Field, same_oneof, numbers_differ}
 use Rattle.prost_reflect_fields.specs.declared.slot.FieldSlot.{FieldSlot}
 use Rattle.prost_reflect_fields.specs.declared.slot.FieldSlot.TheVariants.{Value, Unknown, Both}
 use Rattle.prost_reflect_fields.specs.Items.{IsAscending, item_at}
-use Rattle.prost_reflect_fields.specs.FieldSlots.{value_in, left_in, has_value, put_value, clear_value, without_values}
+use Rattle.prost_reflect_fields.specs.FieldSlots.{value_in, left_in, put_value, clear_value, without_values}
 use Rattle.prost_reflect_fields.specs.Known.{oneof_of, are_siblings}
 use Rattle.prost_reflect_fields.specs.Members.{OnlyMember}
-use Rattle.prost_reflect_fields.specs.Sound.{OneofsSingle}
 use Rattle.prost_reflect_fields.proofs.ItemChanges.{apart_of, same_items}
 use Rattle.prost_reflect_fields.proofs.SlotChanges.{item_without, ascending_without_values, value_put_apart}
 use Rattle.prost_reflect_fields.proofs.Siblings.{siblings_self}
@@ -17,7 +16,7 @@ use Rattle.prost_reflect_fields.proofs.PresentSiblings.{others_are_siblings}
 
 -- ONEOFS
 
-same_through : (a b c : Option ℕ) → same_oneof a c ≡ true → same_oneof b c ≡ true → same_oneof b a ≡ true
+pub same_through : (a b c : Option ℕ) → same_oneof a c ≡ true → same_oneof b c ≡ true → same_oneof b a ≡ true
 same_through None b c h g = absurd (true≢false (sym h))
 same_through (Some i) None c h g = absurd (true≢false (sym g))
 same_through (Some i) (Some j) None h g = absurd (true≢false (sym h))
@@ -27,27 +26,14 @@ apart_back : (n k : ℕ) → nat_eq k n ≡ false → nat_eq n k ≡ false
 apart_back n k h = ne_eqb n k (λ e. eqb-false k n h (sym e))
 
 -- another member of the oneof of n's field is a sibling
-sibling_of : (fields : List Field) (n k : ℕ) → numbers_differ fields ≡ true → nat_eq k n ≡ false → same_oneof (oneof_of fields k) (oneof_of fields n) ≡ true → are_siblings fields n k ≡ true
+pub sibling_of : (fields : List Field) (n k : ℕ) → numbers_differ fields ≡ true → nat_eq k n ≡ false → same_oneof (oneof_of fields k) (oneof_of fields n) ≡ true → are_siblings fields n k ≡ true
 sibling_of fields n k differ apart same = sym (others_are_siblings fields n k differ) ∙ and_from (not (nat_eq k n)) _ (ap not apart) same
 
 -- and so is a member of a sibling's
-oneof_shared : (fields : List Field) (n k : ℕ) → numbers_differ fields ≡ true → are_siblings fields n k ≡ true → same_oneof (oneof_of fields k) (oneof_of fields n) ≡ true
+pub oneof_shared : (fields : List Field) (n k : ℕ) → numbers_differ fields ≡ true → are_siblings fields n k ≡ true → same_oneof (oneof_of fields k) (oneof_of fields n) ≡ true
 oneof_shared fields n k differ h = (and_parts (not (nat_eq k n)) _ (others_are_siblings fields n k differ ∙ h)).1
 
 module _ {V : Type 0} where
-  -- FOUND
-
-  -- a member that has a value is the only one
-  pub only_found : (fields : List Field) (es : List (ℕ × FieldSlot V)) (n k : ℕ) → numbers_differ fields ≡ true → OneofsSingle fields es → has_value es k ≡ true → same_oneof (oneof_of fields k) (oneof_of fields n) ≡ true → OnlyMember fields es n k
-  only_found fields es n k differ single there same = record {
-    member = cases (nat_eq k n) refl;
-    others = λ j sibling apart. single k j there (sibling_of fields k j differ (apart_back j k apart) (same_through (oneof_of fields k) (oneof_of fields j) (oneof_of fields n) same (oneof_shared fields n j differ sibling)));
-  }
-    where
-      cases : (b : Bool) → nat_eq k n ≡ b → nat_eq k n || are_siblings fields n k ≡ true
-      cases true at = ap (λ b. b || are_siblings fields n k) at
-      cases false at = ap (λ b. b || are_siblings fields n k) at ∙ sibling_of fields n k differ at same
-
   -- n is no sibling of its own, so a value there changes nothing
   pub only_put : (fields : List Field) (es : List (ℕ × FieldSlot V)) (n k : ℕ) (v : V) → OnlyMember fields es n k → OnlyMember fields (put_value es n v) n k
   only_put fields es n k v only = record {
@@ -57,7 +43,7 @@ module _ {V : Type 0} where
 
   -- CLEARED
 
-  nothing_there : (o : Option (FieldSlot V)) → is_some (option_and_then value_in o) ≡ false → option_and_then left_in o ≡ o
+  pub nothing_there : (o : Option (FieldSlot V)) → is_some (option_and_then value_in o) ≡ false → option_and_then left_in o ≡ o
   nothing_there None h = refl
   nothing_there (Some (Value v)) h = absurd (true≢false h)
   nothing_there (Some (Unknown u)) h = refl

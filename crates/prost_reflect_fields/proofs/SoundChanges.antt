@@ -14,9 +14,6 @@ use Rattle.prost_reflect_fields.specs.Sound.{Sound, unknown_kept, set_value_at, 
 use Rattle.prost_reflect_fields.proofs.ItemChanges.{at_each, apart_of, with_same, with_apart, not_both}
 use Rattle.prost_reflect_fields.proofs.SlotChanges.{value_without, records_without, ascending_put, value_put, value_put_apart, records_put, same_values, same_records, value_kept, records_kept, ascending_without_values, ascending_with_value, value_written, value_written_apart, records_written}
 use Rattle.prost_reflect_fields.proofs.Siblings.{siblings_back, siblings_self}
-use Rattle.std.proofs.lemmas.Map.Steps.{set_value_same}
-use Rattle.std.specs.BTreeMap.{is_at}
-use Rattle.std.specs.Ordering.{nat_cmp}
 
 added_kept : (fields : List Field) (n : ℕ) (r : Record) (o : Option (List Record)) → r.number ≡ n → keeps_unknown fields n r.payload ≡ true → unknown_kept fields n o ≡ true → unknown_kept fields n (Some (unwrap_or o [] ++ r ∷ [])) ≡ true
 added_kept fields n r o own keeps h = cases o h
@@ -53,7 +50,7 @@ module _ {V : Type 0} where
     λ m n v siblings. without ds es n less (s.2 m n (less.values m v) siblings),
   )
 
-  fewer_without : (test : ℕ → Bool) (es : List (ℕ × FieldSlot V)) → IsAscending es → Fewer (without_values test es) es
+  pub fewer_without : (test : ℕ → Bool) (es : List (ℕ × FieldSlot V)) → IsAscending es → Fewer (without_values test es) es
   fewer_without test es s = record {
     values = λ k h. cases (test k) (stored_at es k) (ap is_some (sym (value_without test es k s)) ∙ h);
     records = λ k. records_without test es k s;
@@ -78,18 +75,15 @@ module _ {V : Type 0} where
             (λ k a. same_records es (with_item es n (revalued e w)) k (with_apart es n k (revalued e w) a));
       }
 
-  pub sound_revalued : (fields : List Field) (es : List (ℕ × FieldSlot V)) (n : ℕ) (e : FieldSlot V) (w : V) → Some e ≡ item_at es n → Sound fields es → Sound fields (with_item es n (revalued e w))
-  sound_revalued fields es n e w h = sound_less fields (with_item es n (revalued e w)) es (fewer_revalued es n e w (sym h))
-
-  pub sound_same : (fields : List Field) (es : List (ℕ × FieldSlot V)) (n : ℕ) (e : FieldSlot V) → Some e ≡ item_at es n → Sound fields es → Sound fields (with_item es n e)
-  sound_same fields es n e h s = subst (Sound fields) (sym (set_value_same (is_at (nat_cmp n)) es e (sym h))) s
+  pub fewer_written : (es : List (ℕ × FieldSlot V)) (n : ℕ) (w : V) → Fewer (with_value es n w) es
+  fewer_written es n w = cases (item_at es n) refl
+    where
+      cases : (o : Option (FieldSlot V)) → item_at es n ≡ o → Fewer (with_slot es n w o) es
+      cases None at = record { values = λ k h. h; records = λ k. refl }
+      cases (Some e) at = fewer_revalued es n e w at
 
   pub sound_written : (fields : List Field) (es : List (ℕ × FieldSlot V)) (n : ℕ) (w : V) → Sound fields es → Sound fields (with_value es n w)
-  sound_written fields es n w sound = cases (item_at es n) refl
-    where
-      cases : (o : Option (FieldSlot V)) → item_at es n ≡ o → Sound fields (with_slot es n w o)
-      cases None at = sound
-      cases (Some e) at = sound_revalued fields es n e w (sym at) sound
+  sound_written fields es n w = sound_less fields (with_value es n w) es (fewer_written es n w)
 
   -- SETTING
 

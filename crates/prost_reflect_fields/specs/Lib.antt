@@ -7,6 +7,7 @@ pub mod FieldSlots
 pub mod Known
 pub mod Sound
 pub mod Members
+pub mod Noted
 pub mod Lending
 pub mod NumberSets
 pub mod Codes

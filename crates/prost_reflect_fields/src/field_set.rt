@@ -14,13 +14,13 @@ ghost use Rattle.prost_reflect_fields.specs.ItemsLeft.{items_left, items_left_ba
 
 use crate::boxed::Boxed;
 use crate::items::ItemList;
+use crate::noting::noted_members;
 use crate::number_map::ascending;
 use crate::parting::parted;
 use crate::slot::FieldSlot;
 use crate::sorted_map::{Items, ItemsBack, SortedMap};
 use crate::stored::{
-    add_unknown, noted_member, oneof_of, set_value, stored_at, take_value, unknown_at, value_mut,
-    value_mut_or,
+    add_unknown, oneof_of, set_value, stored_at, take_value, unknown_at, value_mut, value_mut_or,
 };
 use crate::taking::take_unknown;
 use prost_reflect_pool::PooledType;
@@ -51,11 +51,13 @@ impl<V> Model for FieldSet<V> {
 
     ghost coded = { field_set_code V.code };
 
+    ghost use Rattle.prost_reflect_fields.specs.Known.{known_of};
     ghost use Rattle.prost_reflect_fields.specs.Sound.{IsSound};
+    ghost use Rattle.prost_reflect_fields.specs.Noted.{AreNoted};
 
-    ghost view = { λ a. (a.message_type, a.fields) };
+    ghost view = { λ a. (a.message_type, a.fields.0) };
 
-    ghost invariant = { λ a. IsSound a.message_type a.fields };
+    ghost invariant = { λ a. IsSound a.message_type a.fields.0 × AreNoted (known_of a.message_type) a.fields.1 a.fields.0 };
 }
 
 /// For how many numbers a message makes room with the first: for those of its fields and extensions, or for eight. Only speed
@@ -81,9 +83,11 @@ impl<V> FieldSet<V> {
 
     /// These values and unknown fields of a message of the type.
     pub fn from_slots(message_type: PooledType, fields: SortedMap<FieldSlot<V>>) -> FieldSet<V>
-        requires { IsSound message_type fields }
-        ensures { result ≡ (message_type, fields) }
+        requires { IsSound message_type fields.0 }
+        ensures { result ≡ (message_type, fields.0) }
     {
+        let mut fields = fields;
+        drop(fields.take_notes());
         FieldSet {
             message_type,
             fields,
@@ -226,8 +230,10 @@ impl<V: Drop> FieldSet<V> {
         ensures err { OnErr result (self.new ≡ self.old) }
         ensures ascending { IsAscending self.old.1 }
     {
+        if oneof.is_some() {
+            self.note_members();
+        }
         let alloc = self.fields.allocator();
-        let member = noted_member(&mut self.fields, &self.message_type, number);
         set_value(
             &mut self.fields,
             alloc,
@@ -235,8 +241,21 @@ impl<V: Drop> FieldSet<V> {
             number,
             oneof,
             value,
-            member,
         )
+    }
+
+    /// Notes the members of oneofs that have values, where the slots are so many that they stand in runs and there are no notes yet.
+    /// If out of memory, there are none. Only speed rests on it.
+    fn note_members(&mut self)
+        ensures { self.new ≡ self.old }
+    {
+        if self.fields.lay().is_err() || !self.fields.lacks_notes() {
+            return;
+        }
+        let alloc = self.fields.allocator();
+        if let Ok(notes) = noted_members(alloc, &self.message_type, self.fields.iter()) {
+            self.fields.put_notes(notes);
+        }
     }
 
     /// Adds an unknown field behind those of its number, which is that of no field, or of one that takes no value from it, since
@@ -294,15 +313,8 @@ impl<V: Drop> FieldSet<V> {
         ensures ascending { IsAscending self.old.1 }
         ensures sound { IsSound self.old.0 self.old.1 }
     {
+        self.note_members();
         let alloc = self.fields.allocator();
-        let member = noted_member(&mut self.fields, &self.message_type, number);
-        value_mut_or(
-            &mut self.fields,
-            alloc,
-            &self.message_type,
-            number,
-            default,
-            member,
-        )
+        value_mut_or(&mut self.fields, alloc, &self.message_type, number, default)
     }
 }

@@ -5,6 +5,7 @@ pub mod boxed;
 pub mod field_set;
 pub mod items;
 mod members;
+mod noting;
 pub mod number_map;
 pub mod number_sets;
 pub mod parting;

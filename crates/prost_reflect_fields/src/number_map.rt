@@ -1,6 +1,6 @@
 //! Maps from numbers.
 
-ghost use Rattle.std.specs.Prelude.{◌≡◌, ℕ, List, OnOk, OnErr, IfSome};
+ghost use Rattle.std.specs.Prelude.{◌≡◌, ℕ, List, Option, None, OnOk, OnErr, IfSome, option_map};
 ghost use Rattle.std.specs.Borrow.{LendsSo, sem};
 ghost use Rattle.std.specs.Option.{option_copied, option_copied_mut};
 ghost use Rattle.prost_reflect_fields.specs.Items.{IsAscending, item_at, with_item, put_item, without_item};
@@ -8,9 +8,11 @@ ghost use Rattle.prost_reflect_fields.specs.Items.{IsAscending, item_at, with_it
 use std::alloc::AllocError;
 use std::collections::BTreeMap;
 
-/// A map from numbers.
+/// A map from numbers. Beside its items it may keep notes, which say whatever its user writes there.
 pub trait NumberMap<T> {
     ghost entries: { Self → List (ℕ × T) };
+
+    ghost noted: { Self → Option (List (ℕ × ℕ)) };
 
     /// The numbers ascend. A call does nothing, but its caller may then count on it.
     fn ascends(&self)
@@ -26,23 +28,31 @@ pub trait NumberMap<T> {
 
     /// The item at the number, for writing.
     fn get_mut(&mut self, number: u32) -> Option<&mut T>
-        ensures* writes_back { sem 𝓛 (LendsSo Self.row T.row self.entry result (λ after w. entries after ≡ with_item (entries self.old) number w) (λ after. entries after ≡ entries self.old)) }
+        ensures* writes_back { sem 𝓛 (LendsSo Self.row T.row self.entry result (λ after w. (entries after ≡ with_item (entries self.old) number w) × (noted after ≡ noted self.old)) (λ after. (entries after ≡ entries self.old) × (noted after ≡ noted self.old))) }
         ensures value { option_copied_mut result ≡ item_at (entries self.old) number };
 
     /// Puts the item at the number, in place of one that is there. If out of memory, nothing changes.
     fn insert(&mut self, number: u32, item: T) -> Result<(), AllocError>
         ensures ok { OnOk result (entries self.new ≡ put_item (entries self.old) number item) }
-        ensures err { OnErr result (entries self.new ≡ entries self.old) };
+        ensures err { OnErr result (entries self.new ≡ entries self.old) }
+        ensures notes { noted self.new ≡ noted self.old };
 
     /// Takes the item at the number.
     fn remove(&mut self, number: u32) -> Option<T>
         ensures removed { result ≡ item_at (entries self.old) number }
-        ensures entries { entries self.new ≡ without_item (entries self.old) number };
+        ensures entries { entries self.new ≡ without_item (entries self.old) number }
+        ensures notes { noted self.new ≡ noted self.old };
 
-    /// Notes the number under the key, in place of the one that was noted under it, which it answers. A map need not keep notes, nor
-    /// all of them. Only speed rests on it.
-    fn note(&mut self, key: usize, number: u32) -> Option<u32>
-        ensures { entries self.new ≡ entries self.old };
+    /// Takes the notes, if there are any.
+    fn take_notes(&mut self) -> Option<BTreeMap<usize, u32>>
+        ensures notes { option_map (λ m. m.entries) result ≡ noted self.old }
+        ensures left { noted self.new ≡ None }
+        ensures entries { entries self.new ≡ entries self.old };
+
+    /// Keeps these notes, in place of others. A map need not keep them.
+    fn put_notes(&mut self, notes: BTreeMap<usize, u32>)
+        ensures entries { entries self.new ≡ entries self.old }
+        ensures notes { IfSome (noted self.new) (λ kept. kept ≡ notes.entries) };
 }
 
 /// The numbers of a map ascend. A call does nothing, but its caller may then count on it.
@@ -54,6 +64,8 @@ pub fn ascending<T, S: NumberMap<T>>(map: &S)
 
 impl<T: Drop> NumberMap<T> for BTreeMap<u32, T> {
     ghost entries = { λ m. m.entries };
+
+    ghost noted = { λ _. None };
 
     fn ascends(&self) {
         let _ = self.len();
@@ -80,7 +92,11 @@ impl<T: Drop> NumberMap<T> for BTreeMap<u32, T> {
         self.remove(&number)
     }
 
-    fn note(&mut self, _key: usize, _number: u32) -> Option<u32> {
+    fn take_notes(&mut self) -> Option<BTreeMap<usize, u32>> {
         None
+    }
+
+    fn put_notes(&mut self, notes: BTreeMap<usize, u32>) {
+        drop(notes);
     }
 }

@@ -1,6 +1,6 @@
 //! Many items, in runs.
 
-ghost use Rattle.std.specs.Prelude.{◌≡◌, ◌+◌, ◌<◌, ◌≤◌, ◌++◌, ◌^◌, [], length, OnOk, OnErr, IfNone, IfSome, Some, None, vec_len, vec_capacity};
+ghost use Rattle.std.specs.Prelude.{◌≡◌, ◌+◌, ◌<◌, ◌≤◌, ◌++◌, ◌^◌, [], length, OnOk, OnErr, IfNone, IfSome, Some, None, option_map, vec_len, vec_capacity};
 ghost use Rattle.std.specs.Borrow.{LendsIf, sem};
 ghost use Rattle.std.specs.Option.{option_copied, option_copied_mut};
 ghost use Rattle.std.specs.Ordering.{nat_cmp};
@@ -13,6 +13,7 @@ use crate::items::{get_at, join, place_in, put, remove_at};
 use std::alloc::{AllocError, Global};
 use std::collections::BTreeMap;
 use std::marker::Model;
+use std::mem;
 
 /// A run of so many items is parted before it takes a further one.
 pub(crate) const FULL: usize = 128;
@@ -23,58 +24,57 @@ pub(crate) const FULL: usize = 128;
 /// An item goes into its run, and a run that is full is parted first. So an item moves no more than those of its run, whatever
 /// the order in which the numbers come.
 ///
-/// Beside its items it keeps notes for who uses it. They are no part of what it holds.
+/// Beside its items it may keep notes, which say whatever its user writes there.
 #[derive(Debug, Drop)]
 pub struct RunMap<T> {
     runs: Vec<(u32, Vec<(u32, T)>)>,
-    notes: BTreeMap<usize, u32>,
+    notes: Option<BTreeMap<usize, u32>>,
 }
 
 impl<T> Model for RunMap<T> {
-    ghost use Rattle.std.specs.Prelude.{ℕ, List};
+    ghost use Rattle.std.specs.Prelude.{ℕ, List, Option, option_map};
     ghost use Rattle.prost_reflect_fields.specs.Runs.{flat, IsLaid};
 
-    ghost Value = { List (ℕ × T) };
+    ghost Value = { List (ℕ × T) × Option (List (ℕ × ℕ)) };
 
-    ghost view = { λ a. flat a.runs.items };
+    ghost view = { λ a. (flat a.runs.items, option_map (λ m. m.entries) a.notes) };
 
     ghost invariant = { λ a. IsLaid a.runs.items };
 }
 
 impl<T> RunMap<T> {
-    /// No items.
+    /// No items, and no notes.
     pub(crate) fn new(alloc: Global) -> RunMap<T>
-        ensures { result ≡ [] }
+        ensures { result ≡ ([], None) }
     {
         RunMap {
             runs: Vec::new(alloc),
-            notes: BTreeMap::new(alloc),
+            notes: None,
         }
     }
 
-    /// These items, whose numbers ascend, as one run. There is room for it.
+    /// These items, whose numbers ascend, as one run, and no notes. There is room for the run.
     pub(crate) fn from_items(runs: Vec<(u32, Vec<(u32, T)>)>, items: Vec<(u32, T)>) -> RunMap<T>
         requires empty { runs.items ≡ [] }
         requires room { vec_len runs < vec_capacity runs }
         requires ascending { IsAscending items.items }
-        ensures { result ≡ items.items }
+        ensures { result ≡ (items.items, None) }
     {
         let mut runs = runs;
         match runs.push((0, items)) {
             Ok(()) => {}
             Err(_) => unreachable!(),
         }
-        let notes = BTreeMap::new(*runs.allocator());
-        RunMap { runs, notes }
+        RunMap { runs, notes: None }
     }
 
     /// Puts all items behind those that are there, for which there is room.
     pub(crate) fn move_items(self, items: &mut Vec<(u32, T)>)
     where
         T: Drop,
-        requires room { vec_len items.old + length self ≤ vec_capacity items.old }
-        ensures items { items.new.items ≡ items.old.items ++ self }
-        ensures ascending { IsAscending self }
+        requires room { vec_len items.old + length self.0 ≤ vec_capacity items.old }
+        ensures items { items.new.items ≡ items.old.items ++ self.0 }
+        ensures ascending { IsAscending self.0 }
     {
         let RunMap { runs, notes } = self;
         drop(notes);
@@ -88,38 +88,38 @@ impl<T> RunMap<T> {
 
     /// How many numbers have an item, unless no `usize` is so large.
     pub(crate) fn count(&self) -> Option<usize>
-        ensures count { IfSome result (λ count. count ≡ length self.now) }
-        ensures none { IfNone result (2 ^ 64 ≤ length self.now) }
+        ensures count { IfSome result (λ count. count ≡ length self.now.0) }
+        ensures none { IfNone result (2 ^ 64 ≤ length self.now.0) }
     {
         count_items(&self.runs)
     }
 
     /// The numbers ascend. A call does nothing, but its caller may then count on it.
     pub(crate) fn ascends(&self)
-        ensures { IsAscending self.now }
+        ensures { IsAscending self.now.0 }
     {
         let _ = self.runs.len();
     }
 
     /// The runs, whose items are all that there are.
     pub(crate) fn runs(&self) -> &[(u32, Vec<(u32, T)>)]
-        ensures items { flat result.now ≡ self.now }
-        ensures ascending { IsAscending self.now }
+        ensures items { flat result.now ≡ self.now.0 }
+        ensures ascending { IsAscending self.now.0 }
     {
         &self.runs
     }
 
     /// The item at the number.
     pub(crate) fn get(&self, number: u32) -> Option<&T>
-        ensures { option_copied result ≡ item_at self.now number }
+        ensures { option_copied result ≡ item_at self.now.0 number }
     {
         get_in(&self.runs, number)
     }
 
     /// The item at the number, for writing.
     pub(crate) fn get_mut(&mut self, number: u32) -> Option<&mut T>
-        ensures* writes_back { sem 𝓛 (LendsIf (the_row T.row) T.row self.entry result (with_item self.old number) self.old) }
-        ensures value { option_copied_mut result ≡ item_at self.old number }
+        ensures* writes_back { sem 𝓛 (LendsIf (the_row T.row) T.row self.entry result (λ w. (with_item self.old.0 number w, self.old.1)) self.old) }
+        ensures value { option_copied_mut result ≡ item_at self.old.0 number }
     {
         match run_of(&self.runs, number) {
             Some(index) => match place_in(&self.runs[index].1, number) {
@@ -133,33 +133,42 @@ impl<T> RunMap<T> {
             None => None,
         }
     }
+
+    /// Whether there are notes.
+    pub(crate) fn has_notes(&self) -> bool {
+        self.notes.is_some()
+    }
+
+    /// Takes the notes, if there are any.
+    pub(crate) fn take_notes(&mut self) -> Option<BTreeMap<usize, u32>>
+        ensures notes { option_map (λ m. m.entries) result ≡ self.old.1 }
+        ensures left { self.new ≡ (self.old.0, None) }
+    {
+        mem::replace(&mut self.notes, None)
+    }
+
+    /// Keeps these notes, in place of others.
+    pub(crate) fn put_notes(&mut self, notes: BTreeMap<usize, u32>)
+        ensures { self.new ≡ (self.old.0, Some notes.entries) }
+    {
+        self.notes = Some(notes);
+    }
 }
 
 impl<T: Drop> RunMap<T> {
     /// Puts the item at the number, in place of one that is there. If out of memory, nothing changes.
     pub(crate) fn insert(&mut self, number: u32, item: T) -> Result<(), AllocError>
-        ensures ok { OnOk result (self.new ≡ put_item self.old number item) }
+        ensures ok { OnOk result (self.new ≡ (put_item self.old.0 number item, self.old.1)) }
         ensures err { OnErr result (self.new ≡ self.old) }
     {
         make_room(&mut self.runs, number)?;
         put_in(&mut self.runs, number, item)
     }
 
-    /// Notes the number under the key, in place of the one that was noted under it, which it answers. If out of memory, nothing is
-    /// noted. Only speed rests on it.
-    pub(crate) fn note(&mut self, key: usize, number: u32) -> Option<u32>
-        ensures { self.new ≡ self.old }
-    {
-        match self.notes.insert(key, number) {
-            Ok(before) => before,
-            Err(_) => None,
-        }
-    }
-
     /// Takes the item at the number.
     pub(crate) fn remove(&mut self, number: u32) -> Option<T>
-        ensures removed { result ≡ item_at self.old number }
-        ensures entries { self.new ≡ without_item self.old number }
+        ensures removed { result ≡ item_at self.old.0 number }
+        ensures entries { self.new ≡ (without_item self.old.0 number, self.old.1) }
     {
         remove_in(&mut self.runs, number)
     }

@@ -1,6 +1,6 @@
 //! A map from numbers.
 
-ghost use Rattle.std.specs.Prelude.{◌≡◌, ◌+◌, ◌<◌, ◌≤◌, ◌++◌, ◌^◌, ◌∷◌, ℕ, List, [], length, OnOk, OnErr, IfOk, IfSome, IfNone, vec_len, vec_capacity};
+ghost use Rattle.std.specs.Prelude.{◌≡◌, ◌+◌, ◌<◌, ◌≤◌, ◌++◌, ◌^◌, ◌∷◌, ℕ, List, [], length, OnOk, OnErr, IfOk, IfSome, IfNone, None, option_map, vec_len, vec_capacity};
 ghost use Rattle.std.specs.Borrow.{LendsIf, sem};
 ghost use Rattle.std.specs.Option.{option_copied, option_copied_mut, option_to_list};
 ghost use Rattle.std.specs.Vec.Iter.{into_iter_items, into_iter_len};
@@ -14,7 +14,7 @@ use crate::items::{ItemList, join, push_last};
 use crate::number_map::NumberMap;
 use crate::runs::{FULL, RunMap};
 use std::alloc::{AllocError, Global};
-use std::collections::BTreeSet;
+use std::collections::{BTreeMap, BTreeSet};
 use std::marker::Model;
 use std::mem;
 use std::vec::IntoIter;
@@ -24,6 +24,8 @@ const FIRST_ROOM: usize = 4;
 
 /// A map from numbers. Few items stand in one list, and many in runs, so that an item moves few others, whatever the order in
 /// which the numbers come.
+///
+/// Beside runs it may keep notes, which say whatever its user writes there.
 #[derive(Debug, Drop)]
 pub struct SortedMap<T> {
     held: Held<T>,
@@ -41,37 +43,37 @@ pub enum Held<T> {
 }
 
 impl<T> Model for SortedMap<T> {
-    ghost use Rattle.std.specs.Prelude.{ℕ, List};
+    ghost use Rattle.std.specs.Prelude.{ℕ, List, Option};
     ghost use Rattle.prost_reflect_fields.specs.Held.{held_items};
 
-    ghost Value = { List (ℕ × T) };
+    ghost Value = { List (ℕ × T) × Option (List (ℕ × ℕ)) };
 
     ghost view = { λ a. held_items a.held };
 }
 
 impl<T> SortedMap<T> {
-    /// No items.
+    /// No items, and no notes.
     pub fn new(alloc: Global) -> SortedMap<T>
-        ensures { result ≡ [] }
+        ensures { result ≡ ([], None) }
     {
         SortedMap::with_room(alloc, FIRST_ROOM)
     }
 
-    /// No items. The first that is put in makes room for so many.
+    /// No items, and no notes. The first item that is put in makes room for so many.
     pub fn with_room(alloc: Global, room: usize) -> SortedMap<T>
-        ensures { result ≡ [] }
+        ensures { result ≡ ([], None) }
     {
         SortedMap {
             held: Held::Empty(alloc, room),
         }
     }
 
-    /// These items, whose numbers ascend, in a list that is there already.
+    /// These items, whose numbers ascend, in a list that is there already, and no notes.
     pub(crate) fn from_items(list: Boxed<ItemList<T>>, items: Vec<(u32, T)>) -> SortedMap<T>
     where
         T: Drop,
         requires { IsAscending items.items }
-        ensures { result ≡ items.items }
+        ensures { result ≡ (items.items, None) }
     {
         let mut list = list;
         *list.get_mut() = ItemList::from_items(items);
@@ -80,14 +82,14 @@ impl<T> SortedMap<T> {
         }
     }
 
-    /// Puts all items behind those that are there, for which there is room.
+    /// Puts all items behind those that are there, for which there is room. The notes go.
     pub(crate) fn move_items(&mut self, items: &mut Vec<(u32, T)>)
     where
         T: Drop,
-        requires room { vec_len items.old + length self.old ≤ vec_capacity items.old }
-        ensures items { items.new.items ≡ items.old.items ++ self.old }
-        ensures left { self.new ≡ [] }
-        ensures ascending { IsAscending self.old }
+        requires room { vec_len items.old + length self.old.0 ≤ vec_capacity items.old }
+        ensures items { items.new.items ≡ items.old.items ++ self.old.0 }
+        ensures left { self.new ≡ ([], None) }
+        ensures ascending { IsAscending self.old.0 }
     {
         self.ascends();
         let alloc = self.allocator();
@@ -109,8 +111,8 @@ impl<T> SortedMap<T> {
 
     /// How many numbers have an item, unless no `usize` is so large.
     pub(crate) fn count(&self) -> Option<usize>
-        ensures count { IfSome result (λ count. count ≡ length self.now) }
-        ensures none { IfNone result (2 ^ 64 ≤ length self.now) }
+        ensures count { IfSome result (λ count. count ≡ length self.now.0) }
+        ensures none { IfNone result (2 ^ 64 ≤ length self.now.0) }
     {
         match &self.held {
             Held::Empty(_, _) => Some(0),
@@ -121,7 +123,7 @@ impl<T> SortedMap<T> {
 
     /// The numbers ascend. A call does nothing, but its caller may then count on it.
     pub fn ascends(&self)
-        ensures { IsAscending self.now }
+        ensures { IsAscending self.now.0 }
     {
         match &self.held {
             Held::Empty(_, _) => {}
@@ -132,7 +134,7 @@ impl<T> SortedMap<T> {
 
     /// All items, where they stand in one list.
     pub fn listed(&self) -> Option<&[(u32, T)]>
-        ensures { IfSome result (λ items. items.now ≡ self.now) }
+        ensures { IfSome result (λ items. items.now ≡ self.now.0) }
     {
         match &self.held {
             Held::Empty(_, _) => Some(&[]),
@@ -143,7 +145,7 @@ impl<T> SortedMap<T> {
 
     /// The item at the number.
     pub fn get(&self, number: u32) -> Option<&T>
-        ensures { option_copied result ≡ item_at self.now number }
+        ensures { option_copied result ≡ item_at self.now.0 number }
     {
         match &self.held {
             Held::Empty(_, _) => None,
@@ -154,8 +156,8 @@ impl<T> SortedMap<T> {
 
     /// The items with their numbers, ascending.
     pub fn iter(&self) -> Items<'_, T>
-        ensures items { items_left result ≡ self.now }
-        ensures ascending { IsAscending self.now }
+        ensures items { items_left result ≡ self.now.0 }
+        ensures ascending { IsAscending self.now.0 }
     {
         match &self.held {
             Held::Empty(_, _) => Items {
@@ -175,8 +177,8 @@ impl<T> SortedMap<T> {
 
     /// The items with their numbers, the last one first.
     pub fn iter_back(&self) -> ItemsBack<'_, T>
-        ensures items { items_left_back result ≡ self.now }
-        ensures ascending { IsAscending self.now }
+        ensures items { items_left_back result ≡ self.now.0 }
+        ensures ascending { IsAscending self.now.0 }
     {
         match &self.held {
             Held::Empty(_, _) => ItemsBack {
@@ -196,13 +198,46 @@ impl<T> SortedMap<T> {
 
     /// The item at the number, for writing.
     pub fn get_mut(&mut self, number: u32) -> Option<&mut T>
-        ensures* writes_back { sem 𝓛 (LendsIf (the_row T.row) T.row self.entry result (with_item self.old number) self.old) }
-        ensures value { option_copied_mut result ≡ item_at self.old number }
+        ensures* writes_back { sem 𝓛 (LendsIf (the_row T.row) T.row self.entry result (λ w. (with_item self.old.0 number w, self.old.1)) self.old) }
+        ensures value { option_copied_mut result ≡ item_at self.old.0 number }
     {
         match &mut self.held {
             Held::Empty(_, _) => None,
             Held::Listed(list) => list.get_mut().get_mut(number),
             Held::Laid(map) => map.get_mut().get_mut(number),
+        }
+    }
+
+    /// Whether the items stand in runs, beside which notes may be kept, and there are none.
+    pub(crate) fn lacks_notes(&self) -> bool {
+        match &self.held {
+            Held::Empty(_, _) => false,
+            Held::Listed(_) => false,
+            Held::Laid(map) => !map.get().has_notes(),
+        }
+    }
+
+    /// Takes the notes, if there are any.
+    pub fn take_notes(&mut self) -> Option<BTreeMap<usize, u32>>
+        ensures notes { option_map (λ m. m.entries) result ≡ self.old.1 }
+        ensures left { self.new ≡ (self.old.0, None) }
+    {
+        match &mut self.held {
+            Held::Empty(_, _) => None,
+            Held::Listed(_) => None,
+            Held::Laid(map) => map.get_mut().take_notes(),
+        }
+    }
+
+    /// Keeps these notes, in place of others, where the items stand in runs; else they are dropped.
+    pub fn put_notes(&mut self, notes: BTreeMap<usize, u32>)
+        ensures items { self.new.0 ≡ self.old.0 }
+        ensures notes { IfSome self.new.1 (λ kept. kept ≡ notes.entries) }
+    {
+        match &mut self.held {
+            Held::Empty(_, _) => {}
+            Held::Listed(_) => {}
+            Held::Laid(map) => map.get_mut().put_notes(notes),
         }
     }
 }
@@ -214,7 +249,7 @@ impl<T: Drop> SortedMap<T> {
     ///
     /// `AllocError` if out of memory; then nothing changes.
     pub fn insert(&mut self, number: u32, item: T) -> Result<(), AllocError>
-        ensures ok { OnOk result (self.new ≡ put_item self.old number item) }
+        ensures ok { OnOk result (self.new ≡ (put_item self.old.0 number item, self.old.1)) }
         ensures err { OnErr result (self.new ≡ self.old) }
     {
         self.lay()?;
@@ -231,7 +266,7 @@ impl<T: Drop> SortedMap<T> {
     }
 
     /// Lays the items in runs, if a list has as many as a run may have. If out of memory, nothing changes.
-    fn lay(&mut self) -> Result<(), AllocError>
+    pub(crate) fn lay(&mut self) -> Result<(), AllocError>
         ensures { self.new ≡ self.old }
     {
         match &self.held {
@@ -251,13 +286,14 @@ impl<T: Drop> SortedMap<T> {
         Ok(())
     }
 
-    /// Puts what the other map has at the numbers of the set in place of what is there. If out of memory, nothing changes.
+    /// Puts what the other map has at the numbers of the set in place of what is there. The notes go. If out of memory, nothing changes.
     pub fn replace(
         &mut self,
         numbers: &BTreeSet<u32>,
         others: SortedMap<T>,
     ) -> Result<(), AllocError>
-        ensures ok { OnOk result (AreReplaced numbers.now self.old others self.new) }
+        ensures ok { OnOk result (AreReplaced numbers.now self.old.0 others.0 self.new.0) }
+        ensures notes { OnOk result (self.new.1 ≡ None) }
         ensures err { OnErr result (self.new ≡ self.old) }
     {
         let mut others = others;
@@ -282,22 +318,10 @@ impl<T: Drop> SortedMap<T> {
         Ok(())
     }
 
-    /// Notes the number under the key, in place of the one that was noted under it, which it answers. Nothing is noted unless the items
-    /// stand in runs, and if out of memory. Only speed rests on it.
-    pub fn note(&mut self, key: usize, number: u32) -> Option<u32>
-        ensures { self.new ≡ self.old }
-    {
-        match &mut self.held {
-            Held::Empty(_, _) => None,
-            Held::Listed(_) => None,
-            Held::Laid(map) => map.get_mut().note(key, number),
-        }
-    }
-
     /// Takes the item at the number.
     pub fn remove(&mut self, number: u32) -> Option<T>
-        ensures removed { result ≡ item_at self.old number }
-        ensures entries { self.new ≡ without_item self.old number }
+        ensures removed { result ≡ item_at self.old.0 number }
+        ensures entries { self.new ≡ (without_item self.old.0 number, self.old.1) }
     {
         match &mut self.held {
             Held::Empty(_, _) => None,
@@ -489,7 +513,9 @@ fn is_up_to(number: u32, bound: Option<u32>) -> bool
 }
 
 impl<T: Drop> NumberMap<T> for SortedMap<T> {
-    ghost entries = { λ m. m };
+    ghost entries = { λ m. m.0 };
+
+    ghost noted = { λ m. m.1 };
 
     fn ascends(&self) {
         self.ascends();
@@ -518,7 +544,11 @@ impl<T: Drop> NumberMap<T> for SortedMap<T> {
         self.remove(number)
     }
 
-    fn note(&mut self, key: usize, number: u32) -> Option<u32> {
-        self.note(key, number)
+    fn take_notes(&mut self) -> Option<BTreeMap<usize, u32>> {
+        self.take_notes()
+    }
+
+    fn put_notes(&mut self, notes: BTreeMap<usize, u32>) {
+        self.put_notes(notes);
     }
 }

@@ -1,15 +1,16 @@
 //! Values and unknown fields in a map from numbers to slots.
 
-ghost use Rattle.std.specs.Prelude.{◌≡◌, ◌∷◌, [], Some, OnOk, OnErr, IfOk, IfSome, true};
+ghost use Rattle.std.specs.Prelude.{◌≡◌, ◌∷◌, [], Some, None, OnOk, OnErr, IfOk, IfSome, true};
 ghost use Rattle.std.specs.Borrow.{LendsSo, sem};
 ghost use Rattle.std.specs.Option.{option_copied, option_copied_mut};
 ghost use Rattle.prost_reflect_wire.specs.Unknown.{unknown_record};
 ghost use Rattle.prost_reflect_wire.specs.Schema.{same_oneof};
-ghost use Rattle.prost_reflect_fields.specs.Items.{IsAscending};
+ghost use Rattle.prost_reflect_fields.specs.Items.{IsAscending, put_item};
 ghost use Rattle.prost_reflect_fields.specs.Known.{known_of, oneof_of, are_siblings, is_other_member};
 ghost use Rattle.prost_reflect_fields.specs.FieldSlots.{stored_at, unknown_at, put_value, clear_value, with_value, without_values, first_value, UnknownAdded, SameStored};
-ghost use Rattle.prost_reflect_fields.specs.Sound.{OneofsSingle, set_value_at, prepared};
-ghost use Rattle.prost_reflect_fields.specs.Members.{OnlyMember, is_member, rows_at};
+ghost use Rattle.prost_reflect_fields.specs.Sound.{set_value_at, prepared};
+ghost use Rattle.prost_reflect_fields.specs.Members.{is_member, rows_at};
+ghost use Rattle.prost_reflect_fields.specs.Noted.{AreNoted, without_noted};
 ghost use Rattle.prost_reflect_fields.specs.Lending.{LendsOrStays};
 
 use crate::members::member_places;
@@ -19,6 +20,7 @@ use prost_reflect_pool::PooledType;
 use prost_reflect_tables::FieldTable;
 use prost_reflect_wire::{UnknownField, UnknownFieldSet};
 use std::alloc::{AllocError, Global};
+use std::collections::BTreeMap;
 
 /// The value at the number.
 pub fn stored_at<V, S: NumberMap<FieldSlot<V>>>(fields: &S, number: u32) -> Option<&V>
@@ -52,6 +54,7 @@ pub fn put_value<V: Drop, S: NumberMap<FieldSlot<V>>>(
 ) -> Result<(), AllocError>
     ensures ok { OnOk result (S.entries fields.new ≡ put_value (S.entries fields.old) number value) }
     ensures err { OnErr result (S.entries fields.new ≡ S.entries fields.old) }
+    ensures noted { S.noted fields.new ≡ S.noted fields.old }
     ensures ascending { IsAscending (S.entries fields.old) }
 {
     ascending(fields);
@@ -72,6 +75,7 @@ pub fn take_value<V: Drop, S: NumberMap<FieldSlot<V>>>(
 ) -> Option<V>
     ensures value { result ≡ stored_at (S.entries fields.old) number }
     ensures entries { S.entries fields.new ≡ clear_value (S.entries fields.old) number }
+    ensures noted { S.noted fields.new ≡ S.noted fields.old }
     ensures ascending { IsAscending (S.entries fields.old) }
 {
     ascending(fields);
@@ -99,6 +103,7 @@ pub fn add_unknown<V: Drop, S: NumberMap<FieldSlot<V>>>(
     requires { (unknown_record field).number ≡ number }
     ensures ok { OnOk result (UnknownAdded (S.entries fields.old) (S.entries fields.new) (unknown_record field)) }
     ensures err { OnErr result (SameStored (S.entries fields.old) (S.entries fields.new)) }
+    ensures noted { S.noted fields.new ≡ S.noted fields.old }
     ensures ascending { IsAscending (S.entries fields.old) }
 {
     ascending(fields);
@@ -113,8 +118,8 @@ pub fn add_unknown<V: Drop, S: NumberMap<FieldSlot<V>>>(
     }
 }
 
-/// Sets the value at the number, and removes those of the other members of its field's oneof, which are looked for unless it is
-/// known at which member's number alone there can be one. The unknown fields stay. If out of memory, nothing changes.
+/// Sets the value at the number, and removes those of the other members of its field's oneof. The unknown fields stay. If out of
+/// memory, no value and no unknown field changes.
 pub fn set_value<V: Drop, S: NumberMap<FieldSlot<V>>>(
     fields: &mut S,
     alloc: Global,
@@ -122,25 +127,80 @@ pub fn set_value<V: Drop, S: NumberMap<FieldSlot<V>>>(
     number: u32,
     oneof: Option<usize>,
     value: V,
-    member: Option<u32>,
 ) -> Result<(), AllocError>
     requires oneof { oneof ≡ oneof_of (known_of message_type.now) number }
-    requires member { IfSome member (OnlyMember (known_of message_type.now) (S.entries fields.old) number) }
+    requires noted { AreNoted (known_of message_type.now) (S.noted fields.old) (S.entries fields.old) }
     ensures ok { OnOk result (S.entries fields.new ≡ set_value_at (known_of message_type.now) (S.entries fields.old) number value) }
     ensures err { OnErr result (S.entries fields.new ≡ S.entries fields.old) }
+    ensures noted { AreNoted (known_of message_type.now) (S.noted fields.new) (S.entries fields.new) }
     ensures ascending { IsAscending (S.entries fields.old) }
 {
+    match oneof {
+        Some(oneof) => set_in_oneof(fields, alloc, message_type, number, oneof, value),
+        None => put_value(fields, alloc, number, value),
+    }
+}
+
+/// The same of a member of the oneof. The others are looked for, unless it is noted which of them has a value.
+fn set_in_oneof<V: Drop, S: NumberMap<FieldSlot<V>>>(
+    fields: &mut S,
+    alloc: Global,
+    message_type: &PooledType,
+    number: u32,
+    oneof: usize,
+    value: V,
+) -> Result<(), AllocError>
+    requires oneof { Some oneof ≡ oneof_of (known_of message_type.now) number }
+    requires noted { AreNoted (known_of message_type.now) (S.noted fields.old) (S.entries fields.old) }
+    ensures ok { OnOk result (S.entries fields.new ≡ set_value_at (known_of message_type.now) (S.entries fields.old) number value) }
+    ensures err { OnErr result (S.entries fields.new ≡ S.entries fields.old) }
+    ensures noted { AreNoted (known_of message_type.now) (S.noted fields.new) (S.entries fields.new) }
+    ensures ascending { IsAscending (S.entries fields.old) }
+{
+    let notes = fields.take_notes();
     put_value(fields, alloc, number, value)?;
-    match member {
-        Some(member) => clear_other(fields, alloc, message_type, number, member),
-        None => clear_siblings(fields, alloc, message_type, number, oneof),
+    match notes {
+        Some(notes) => {
+            clear_noted(fields, alloc, number, notes.get(&oneof).copied());
+            note(fields, notes, oneof, number);
+        }
+        None => clear_siblings(fields, alloc, message_type, number, Some(oneof)),
     }
     Ok(())
 }
 
+/// Keeps the notes with the number under the oneof, if there is memory for it.
+fn note<T, S: NumberMap<T>>(fields: &mut S, notes: BTreeMap<usize, u32>, oneof: usize, number: u32)
+    ensures entries { S.entries fields.new ≡ S.entries fields.old }
+    ensures noted { S.noted fields.old ≡ None → IfSome (S.noted fields.new) (λ kept. kept ≡ put_item notes.entries oneof number) }
+{
+    let mut notes = notes;
+    if notes.insert(oneof, number).is_ok() {
+        fields.put_notes(notes);
+    }
+}
+
+/// Removes the value at the number that is noted, if there is one, unless that is the number itself.
+fn clear_noted<V: Drop, S: NumberMap<FieldSlot<V>>>(
+    fields: &mut S,
+    alloc: Global,
+    number: u32,
+    member: Option<u32>,
+)
+    ensures cleared { S.entries fields.new ≡ without_noted (S.entries fields.old) number member }
+    ensures noted { S.noted fields.new ≡ S.noted fields.old }
+    ensures ascending { IsAscending (S.entries fields.old) }
+{
+    ascending(fields);
+    match member {
+        Some(member) if member != number => drop(take_value(fields, alloc, member)),
+        _ => {}
+    }
+}
+
 /// The value at the number, for writing.
 pub fn value_mut<V, S: NumberMap<FieldSlot<V>>>(fields: &mut S, number: u32) -> Option<&mut V>
-    ensures* writes_back { sem 𝓛 (LendsSo S.row V.row fields.entry result (λ after w. S.entries after ≡ with_value (S.entries fields.old) number w) (λ after. S.entries after ≡ S.entries fields.old)) }
+    ensures* writes_back { sem 𝓛 (LendsSo S.row V.row fields.entry result (λ after w. (S.entries after ≡ with_value (S.entries fields.old) number w) × (S.noted after ≡ S.noted fields.old)) (λ after. (S.entries after ≡ S.entries fields.old) × (S.noted after ≡ S.noted fields.old))) }
     ensures value { option_copied_mut result ≡ stored_at (S.entries fields.old) number }
 {
     match fields.get_mut(number) {
@@ -157,14 +217,13 @@ pub fn value_mut_or<'a, V: Drop + 'a, S: NumberMap<FieldSlot<V>>>(
     message_type: &PooledType,
     number: u32,
     default: V,
-    member: Option<u32>,
 ) -> Result<&'a mut V, AllocError>
-    requires { IfSome member (OnlyMember (known_of message_type.now) (S.entries fields.old) number) }
-    ensures* writes_back { sem 𝓛 (LendsOrStays S.row V.row fields.entry result (λ after w. S.entries after ≡ with_value (prepared (known_of message_type.now) (S.entries fields.old) number default) number w) (λ after. S.entries after ≡ prepared (known_of message_type.now) (S.entries fields.old) number default) (λ after. S.entries after ≡ S.entries fields.old)) }
+    requires { AreNoted (known_of message_type.now) (S.noted fields.old) (S.entries fields.old) }
+    ensures* writes_back { sem 𝓛 (LendsOrStays S.row V.row fields.entry result (λ after w. (S.entries after ≡ with_value (prepared (known_of message_type.now) (S.entries fields.old) number default) number w) × AreNoted (known_of message_type.now) (S.noted after) (S.entries after)) (λ after. (S.entries after ≡ prepared (known_of message_type.now) (S.entries fields.old) number default) × AreNoted (known_of message_type.now) (S.noted after) (S.entries after)) (λ after. (S.entries after ≡ S.entries fields.old) × AreNoted (known_of message_type.now) (S.noted after) (S.entries after))) }
     ensures value { IfOk result (λ v. stored_at (prepared (known_of message_type.now) (S.entries fields.old) number default) number ≡ Some v.now) }
     ensures ascending { IsAscending (S.entries fields.old) }
 {
-    set_default(fields, alloc, message_type, number, default, member)?;
+    set_default(fields, alloc, message_type, number, default)?;
     match value_mut(fields, number) {
         Some(value) => Ok(value),
         None => unreachable!(),
@@ -178,11 +237,11 @@ fn set_default<V: Drop, S: NumberMap<FieldSlot<V>>>(
     message_type: &PooledType,
     number: u32,
     default: V,
-    member: Option<u32>,
 ) -> Result<(), AllocError>
-    requires { IfSome member (OnlyMember (known_of message_type.now) (S.entries fields.old) number) }
+    requires { AreNoted (known_of message_type.now) (S.noted fields.old) (S.entries fields.old) }
     ensures ok { OnOk result (S.entries fields.new ≡ prepared (known_of message_type.now) (S.entries fields.old) number default) }
     ensures err { OnErr result (S.entries fields.new ≡ S.entries fields.old) }
+    ensures noted { AreNoted (known_of message_type.now) (S.noted fields.new) (S.entries fields.new) }
     ensures ascending { IsAscending (S.entries fields.old) }
 {
     ascending(fields);
@@ -190,7 +249,7 @@ fn set_default<V: Drop, S: NumberMap<FieldSlot<V>>>(
         return Ok(());
     }
     let oneof = oneof_of(message_type, number);
-    set_value(fields, alloc, message_type, number, oneof, default, member)
+    set_value(fields, alloc, message_type, number, oneof, default)
 }
 
 /// The oneof of the number's field.
@@ -200,64 +259,6 @@ pub fn oneof_of(message_type: &PooledType, number: u32) -> Option<usize>
     match message_type.field_table(number) {
         Some(field) => field.oneof,
         None => None,
-    }
-}
-
-/// The member of the oneof of the number's field at whose number alone there can be a value, if the map has noted it. The number
-/// is noted in its place. Of few slots, which stand in one list, none is noted.
-#[inline]
-pub(crate) fn noted_member<V, S: NumberMap<FieldSlot<V>>>(
-    fields: &mut S,
-    message_type: &PooledType,
-    number: u32,
-) -> Option<u32>
-    requires { OneofsSingle (known_of message_type.now) (S.entries fields.old) }
-    ensures member { IfSome result (OnlyMember (known_of message_type.now) (S.entries fields.old) number) }
-    ensures same { S.entries fields.new ≡ S.entries fields.old }
-{
-    if fields.listed().is_some() {
-        return None;
-    }
-    noted_among_many(fields, message_type, number)
-}
-
-/// The same, where there are many slots.
-#[inline(never)]
-fn noted_among_many<V, S: NumberMap<FieldSlot<V>>>(
-    fields: &mut S,
-    message_type: &PooledType,
-    number: u32,
-) -> Option<u32>
-    requires { OneofsSingle (known_of message_type.now) (S.entries fields.old) }
-    ensures member { IfSome result (OnlyMember (known_of message_type.now) (S.entries fields.old) number) }
-    ensures same { S.entries fields.new ≡ S.entries fields.old }
-{
-    let oneof = oneof_of(message_type, number)?;
-    let member = fields.note(oneof, number)?;
-    if !is_same_oneof(oneof_of(message_type, member), Some(oneof)) {
-        return None;
-    }
-    match stored_at(fields, member) {
-        Some(_) => Some(member),
-        None => None,
-    }
-}
-
-/// Removes the value at the member's number, unless that is the number itself.
-fn clear_other<V: Drop, S: NumberMap<FieldSlot<V>>>(
-    fields: &mut S,
-    alloc: Global,
-    message_type: &PooledType,
-    number: u32,
-    member: u32,
-)
-    requires { OnlyMember (known_of message_type.now) (S.entries fields.old) number member }
-    ensures cleared { S.entries fields.new ≡ without_values (are_siblings (known_of message_type.now) number) (S.entries fields.old) }
-    ensures ascending { IsAscending (S.entries fields.old) }
-{
-    ascending(fields);
-    if member != number {
-        drop(take_value(fields, alloc, member));
     }
 }
 
@@ -271,6 +272,7 @@ fn clear_siblings<V: Drop, S: NumberMap<FieldSlot<V>>>(
 )
     requires { oneof ≡ oneof_of (known_of message_type.now) number }
     ensures cleared { S.entries fields.new ≡ without_values (are_siblings (known_of message_type.now) number) (S.entries fields.old) }
+    ensures noted { S.noted fields.new ≡ S.noted fields.old }
     ensures ascending { IsAscending (S.entries fields.old) }
 {
     let places = member_places(message_type, oneof);
@@ -298,6 +300,7 @@ fn clear_listed<V: Drop, S: NumberMap<FieldSlot<V>>>(
 ) -> bool
     ensures cleared { result ≡ true → S.entries fields.new ≡ without_values (is_other_member (known_of message_type.now) oneof number) (S.entries fields.old) }
     ensures left { without_values (is_other_member (known_of message_type.now) oneof number) (S.entries fields.new) ≡ without_values (is_other_member (known_of message_type.now) oneof number) (S.entries fields.old) }
+    ensures noted { S.noted fields.new ≡ S.noted fields.old }
     ensures ascending { IsAscending (S.entries fields.old) }
 {
     ascending(fields);
@@ -364,6 +367,7 @@ fn clear_members<V: Drop, S: NumberMap<FieldSlot<V>>>(
     number: u32,
 )
     ensures cleared { S.entries fields.new ≡ without_values (is_member (rows_at table.now places.now) oneof number) (S.entries fields.old) }
+    ensures noted { S.noted fields.new ≡ S.noted fields.old }
     ensures ascending { IsAscending (S.entries fields.old) }
 {
     ascending(fields);
@@ -383,6 +387,7 @@ fn clear_member<V: Drop, S: NumberMap<FieldSlot<V>>>(
     number: u32,
 )
     ensures cleared { S.entries fields.new ≡ without_values (is_member (field.now ∷ []) oneof number) (S.entries fields.old) }
+    ensures noted { S.noted fields.new ≡ S.noted fields.old }
     ensures ascending { IsAscending (S.entries fields.old) }
 {
     ascending(fields);

@@ -1,6 +1,6 @@
 //! Taking the unknown fields of all numbers.
 
-ghost use Rattle.std.specs.Prelude.{◌≡◌, ◌++◌, ◌<◌, ◌≤◌, ◌+◌, ◌∷◌, [], vec_capacity, vec_len, IfOk, OnErr, OnOk};
+ghost use Rattle.std.specs.Prelude.{◌≡◌, ◌++◌, ◌<◌, ◌≤◌, ◌+◌, ◌∷◌, [], None, vec_capacity, vec_len, IfOk, OnErr, OnOk};
 ghost use Rattle.prost_reflect_fields.specs.Items.{IsAscending};
 ghost use Rattle.prost_reflect_fields.specs.FieldSlots.{unknown_in_slot, unknown_sets, value_alone, values_alone};
 
@@ -12,15 +12,15 @@ use prost_reflect_wire::UnknownFieldSet;
 use std::alloc::{AllocError, Global};
 
 /// Takes the unknown fields of all numbers, those of each as one set, in ascending order. The values stay.
-/// If out of memory, nothing changes.
+/// The notes go. If out of memory, nothing changes.
 pub(crate) fn take_unknown<V: Drop>(
     fields: &mut SortedMap<FieldSlot<V>>,
     alloc: Global,
 ) -> Result<Vec<UnknownFieldSet>, AllocError>
-    ensures sets { IfOk result (λ sets. sets.items ≡ unknown_sets fields.old) }
-    ensures ok { OnOk result (fields.new ≡ values_alone fields.old) }
+    ensures sets { IfOk result (λ sets. sets.items ≡ unknown_sets fields.old.0) }
+    ensures ok { OnOk result (fields.new ≡ (values_alone fields.old.0, None)) }
     ensures err { OnErr result (fields.new ≡ fields.old) }
-    ensures ascending { IsAscending fields.old }
+    ensures ascending { IsAscending fields.old.0 }
 {
     fields.ascends();
     let Some(count) = fields.count() else {

@@ -20,7 +20,7 @@ type Answer = Option<u32>;
 /// A number, its value, and how many unknown fields it has.
 type Seen = (u32, Option<u32>, usize);
 
-/// Makes a call. At a number that no field has, a set and a write add an unknown field in place of a value.
+/// Makes a call beside no notes. At a number that no field has, a set and a write add an unknown field in place of a value.
 fn apply<S: NumberMap<FieldSlot<u32>>>(
     fields: &mut S,
     alloc: Global,
@@ -30,12 +30,14 @@ fn apply<S: NumberMap<FieldSlot<u32>>>(
     let is_known = descriptor.field_place(call.number()).is_some();
     match call {
         Call::Set(number, value) if is_known => {
+            drop(fields.take_notes());
             let oneof = oneof_of(descriptor, number);
-            set_value(fields, alloc, descriptor, number, oneof, value, None)?;
+            set_value(fields, alloc, descriptor, number, oneof, value)?;
             Ok(None)
         }
         Call::Write(number, amount) if is_known => {
-            let value = value_mut_or(fields, alloc, descriptor, number, 1000, None)?;
+            drop(fields.take_notes());
+            let value = value_mut_or(fields, alloc, descriptor, number, 1000)?;
             *value = value.wrapping_add(amount);
             Ok(Some(*value))
         }

@@ -80,3 +80,31 @@ fn a_pool_of_megabytes_is_made(rt: HostRuntime) -> Result<(), Fail> {
     assert!(rt; pool.encode_to_vec(rt.alloc())?.as_slice() == bytes.as_slice());
     Ok(())
 }
+
+/// Records of 150 numbers that no field of `a.Q` has, so many that a message keeps them in runs.
+fn many_numbers(alloc: Global) -> Result<Vec<u8>, AllocError> {
+    let mut bytes = Vec::new(alloc);
+    for number in 16..166_u32 {
+        let key = number * 8;
+        bytes.extend_from_slice(&[(key % 128) as u8 | 0x80, (key / 128) as u8, 1])?;
+    }
+    Ok(bytes)
+}
+
+/// Of the members of a oneof the last one stays, also beside many numbers.
+#[test]
+fn a_member_replaces_another_beside_many_numbers(rt: HostRuntime) -> Result<(), Fail> {
+    let numbers = many_numbers(rt.alloc())?;
+    for (members, last) in [
+        (b"\x08\x01\x12\x00", b"\x12\x00"),
+        (b"\x12\x00\x08\x01", b"\x08\x01"),
+    ] {
+        let mut bytes = numbers.clone()?;
+        bytes.extend_from_slice(members)?;
+        let mut expected = Vec::new(rt.alloc());
+        expected.extend_from_slice(last)?;
+        expected.extend_from_slice(numbers.as_slice())?;
+        assert!(rt; is_rewritten(rt.alloc(), "a.Q", bytes.as_slice(), expected.as_slice())?);
+    }
+    Ok(())
+}

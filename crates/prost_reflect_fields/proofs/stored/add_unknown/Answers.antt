@@ -22,7 +22,7 @@ returns-then-is_none-clause-ok g c =
 pub returns-in-Some-clause-ok : goal.returns-in-Some-clause-ok
 returns-in-Some-clause-ok g c =
     let es = g.S.NumberMap.entries c.args.fields.now in
-    let is = c.get_mut.follows.holds c.add_unknown.new.self in
+    let is = (c.get_mut.follows.holds c.add_unknown.new.self).0 in
     on_ok_weaker c.add_unknown.result
     (λ added. subst (λ ds. UnknownAdded es ds (unknown_record c.args.field)) (sym is) (added_beside es c.args.number c.in-Some.slot.now c.add_unknown.new.self (unknown_record c.args.field) (sym c.in-Some.ensures.value) c.requires added))
     c.add_unknown.ensures.ok
@@ -30,7 +30,7 @@ returns-in-Some-clause-ok g c =
 pub returns-in-Some-clause-err : goal.returns-in-Some-clause-err
 returns-in-Some-clause-err g c =
     let es = g.S.NumberMap.entries c.args.fields.now in
-    let is = c.get_mut.follows.holds c.add_unknown.new.self in
+    let is = (c.get_mut.follows.holds c.add_unknown.new.self).0 in
     on_err_weaker c.add_unknown.result
     (λ same. subst (λ ds. SameStored es ds) (sym is) (same_beside es c.args.number c.in-Some.slot.now c.add_unknown.new.self (sym c.in-Some.ensures.value) same))
     c.add_unknown.ensures.err

@@ -23,11 +23,14 @@ loop-items-preserved g c =
     let es = g.S.NumberMap.entries c.loop-items.fields in
     let member = c.in-Some-member_among.member in
     let found : first_value test es ≡ Some member = in_map test c.in-Some.items.now es c.member_among.result (Some member) c.in-Some.ensures c.member_among.ensures c.in-Some-member_among.is in
-    ap (without_values test) c.take_value.ensures.entries ∙ one_taken test es member c.take_value.ensures.ascending found ∙ c.loop-items.invariant
+    record {
+      left = ap (without_values test) c.take_value.ensures.entries ∙ one_taken test es member c.take_value.ensures.ascending found ∙ c.loop-items.invariant.left;
+      noted = c.take_value.ensures.noted ∙ c.loop-items.invariant.noted;
+    }
 
 pub returns-in-None-clause-cleared : goal.returns-in-None-clause-cleared
 returns-in-None-clause-cleared g c =
     let test = is_other_member (known_of c.args.message_type.now) c.args.oneof c.args.number in
     let es = g.S.NumberMap.entries c.loop-items.fields in
     let none : first_value test es ≡ None = in_map test c.in-Some.items.now es c.member_among.result None c.in-Some.ensures c.member_among.ensures c.in-None.is in
-    λ _. sym (none_left test es none) ∙ c.loop-items.invariant
+    λ _. sym (none_left test es none) ∙ c.loop-items.invariant.left

@@ -1,12 +1,20 @@
-use Rattle.std.proofs.Common.{sym, subst}
-use Rattle.std.specs.Prelude.{IfSome}
+use Rattle.std.proofs.Common.{sym, ◌∙◌}
+use Rattle.std.proofs.lemmas.Result.{on_ok_weaker}
 use Rattle.prost_reflect_fields.specs.Known.{known_of}
-use Rattle.prost_reflect_fields.specs.Members.{OnlyMember}
-use Rattle.prost_reflect_fields.proofs.OnlyMembers.{only_put}
+use Rattle.prost_reflect_fields.proofs.NotedMembers.{set_alone, noted_alone, noted_after}
+use Rattle.prost_reflect_fields.proofs.Results.{either}
+use Rattle.prost_reflect_fields.proofs.Siblings.{known_differ}
 use Rattle.prost_reflect_fields.proofs.stored.set_value.Goals as goal
 
-pub clear_other-requires : goal.clear_other-requires
-clear_other-requires g c =
+pub returns-in-None-clause-ok : goal.returns-in-None-clause-ok
+returns-in-None-clause-ok g c =
+    on_ok_weaker c.put_value.result (λ is. is ∙ set_alone (known_of c.args.message_type.now) (g.S.NumberMap.entries c.args.fields.now) c.args.number c.args.value (known_differ c.args.message_type.now) (sym c.in-None.is ∙ c.requires.oneof)) c.put_value.ensures.ok
+
+pub returns-in-None-clause-noted : goal.returns-in-None-clause-noted
+returns-in-None-clause-noted g c =
     let fields = known_of c.args.message_type.now in
     let es = g.S.NumberMap.entries c.args.fields.now in
-    subst (λ ds. OnlyMember fields ds c.args.number c.in-Some.member) (sym c.in_ok-put_value.ensures.ok) (only_put fields es c.args.number c.in-Some.member c.args.value (subst (λ o. IfSome o (OnlyMember fields es c.args.number)) c.in-Some.is c.requires.member))
+    let noted = g.S.NumberMap.noted c.args.fields.now in
+    either c.put_value.result c.put_value.ensures.ok c.put_value.ensures.err
+    (λ is. noted_after fields is c.put_value.ensures.noted (noted_alone fields noted es c.args.number c.args.value (sym c.in-None.is ∙ c.requires.oneof) c.requires.noted))
+    (λ is. noted_after fields is c.put_value.ensures.noted c.requires.noted)

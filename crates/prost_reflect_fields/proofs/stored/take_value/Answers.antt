@@ -8,7 +8,7 @@ use Rattle.prost_reflect_fields.proofs.stored.take_value.Goals as goal
 pub returns-in-Some-clause-entries : goal.returns-in-Some-clause-entries
 returns-in-Some-clause-entries g c =
     let es = g.S.NumberMap.entries c.args.fields.now in
-    c.get_mut.follows.holds c.take_beside.new.self ∙ ap (with_item es c.args.number) c.take_beside.ensures.left
+    (c.get_mut.follows.holds c.take_beside.new.self).0 ∙ ap (with_item es c.args.number) c.take_beside.ensures.left
     ∙ take_found es c.args.number c.in-Some.slot.now c.in-Some-Both.field-0.now _ _ c.ascending.ensures c.in-Some-Both.ensures c.in-Some-Both.field-0-is c.in-Some.ensures.value
 
 pub returns-in-Some-Value-remove-clause-entries : goal.returns-in-Some-Value-remove-clause-entries

@@ -13,8 +13,8 @@ returns-in-Some g c =
     let slot = c.in-Some.slot.now in (
       (
         refl,
-        (λ w. c.get_mut.follows.holds (revalued slot w) ∙ ap (with_slot es n w) c.in-Some.ensures.value),
-        c.get_mut.follows.holds slot ∙ set_value_same (is_at (nat_cmp n)) es slot (sym c.in-Some.ensures.value),
+        (λ w. let holds = c.get_mut.follows.holds (revalued slot w) in (holds.0 ∙ ap (with_slot es n w) c.in-Some.ensures.value, holds.1)),
+        (let holds = c.get_mut.follows.holds slot in (holds.0 ∙ set_value_same (is_at (nat_cmp n)) es slot (sym c.in-Some.ensures.value), holds.1)),
       ),
       record { writes_back = tt; value = c.value_mut.ensures.value ∙ ap (option_and_then value_in) c.in-Some.ensures.value },
     )
@@ -22,6 +22,6 @@ returns-in-Some g c =
 pub returns-in-None : goal.returns-in-None
 returns-in-None g c =
     let es = g.S.NumberMap.entries c.args.fields.now in (
-      (refl, (λ w. ap (with_slot es c.args.number w) c.in-None.ensures.value), c.get_mut.follows.holds-at-none),
+      (refl, (λ w. (ap (with_slot es c.args.number w) c.in-None.ensures.value, refl)), c.get_mut.follows.holds-at-none),
       record { writes_back = tt; value = ap (option_and_then value_in) c.in-None.ensures.value },
     )

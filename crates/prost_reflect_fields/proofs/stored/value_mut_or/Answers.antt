@@ -6,6 +6,7 @@ use Rattle.prost_reflect_fields.specs.Items.{IsAscending}
 use Rattle.prost_reflect_fields.specs.Known.{known_of}
 use Rattle.prost_reflect_fields.specs.FieldSlots.{stored_at, with_value}
 use Rattle.prost_reflect_fields.specs.Sound.{set_value_at, prepared}
+use Rattle.prost_reflect_fields.proofs.NotedMembers.{noted_after, noted_written}
 use Rattle.prost_reflect_fields.proofs.SoundChanges.{value_set}
 use Rattle.prost_reflect_fields.proofs.stored.value_mut_or.Goals as goal
 
@@ -24,7 +25,14 @@ unreachable-requires g c =
 pub returns : goal.returns
 returns g c =
     let n = c.args.number in
+    let fields = known_of c.args.message_type.now in
     let is = c.in_ok-set_default.ensures.ok in (
-      (refl, (λ w. (c.value_mut.follows.holds w ∙ ap (λ (es : List (ℕ × FieldSlot g.row.V.Denot)). with_value es n w) is, tt)), (is, tt)),
+      (
+        refl,
+        (λ w.
+            let holds = c.value_mut.follows.holds w in
+            ((holds.0 ∙ ap (λ (es : List (ℕ × FieldSlot g.row.V.Denot)). with_value es n w) is, noted_after fields holds.0 holds.1 (noted_written fields _ _ n w c.set_default.ensures.noted)), tt)),
+        ((is, c.set_default.ensures.noted), tt),
+      ),
       record { writes_back = tt; value = ap (λ es. stored_at es n) (sym is) ∙ sym c.in-Some.ensures.value; ascending = c.set_default.ensures.ascending },
     )

@@ -2,13 +2,14 @@
 use Rattle.std.specs.Prelude.{◌≡◌, ℕ, Bool, true, false, List, [], ◌∷◌, map, cond, is_some, Option, None, Some, option_map, option_and_then}
 use mathlib.Core.Path.{refl, sym, ap, ◌∙◌}
 use mathlib.Core.Bool.{Bool-set}
-use mathlib.Core.Former.{Former, this, const, pair, or, via}
+use mathlib.Core.HLevel.{Unit-prop}
+use mathlib.Core.Former.{Former, this, const, pair, or, list, via}
 use base.Stored.{gcons, gnum, code_map, Gv}
 use denote.RattleType.{RattleType}
 use denote.HoleLaws.{Alike}
 use denote.HolePlaces.{Recodes, struct_places, enum_places, eachs, laid}
 use denote.Hole.Fix.{over}
-use denote.Param.Weighed.{Weighed, w_const, w_pair, w_or, w_via}
+use denote.Param.Weighed.{Weighed, w_const, w_pair, w_or, w_list, w_via}
 use denote.Model.Placed.{view_places}
 use Rattle.std.specs.Ordering.{nat_cmp}
 use Rattle.std.specs.BTreeMap.{is_at}
@@ -17,6 +18,7 @@ use Rattle.prost_reflect_pool.specs.declared.pooled_type.PooledType.{PooledType}
 use Rattle.prost_reflect_fields.specs.Items.{item_at}
 use Rattle.prost_reflect_fields.specs.FieldSlots.{value_in, records_in, records_at, has_value}
 use Rattle.prost_reflect_fields.specs.Sound.{Sound, unknown_kept}
+use Rattle.prost_reflect_fields.specs.Noted.{AreNoted}
 use Rattle.prost_reflect_wire.specs.declared.unknown.UnknownFieldSet.{UnknownFieldSet}
 use Rattle.prost_reflect_fields.specs.declared.slot.FieldSlot.{FieldSlot}
 use Rattle.prost_reflect_fields.specs.declared.slot.FieldSlot.TheVariants.{Value, Unknown, Both}
@@ -36,10 +38,10 @@ abbrev pub slot_weighed : {g : Former {0}} → Weighed g → Weighed (slot_forme
 slot_weighed w = w_via (w_or w (w_or (w_const UnknownFieldSet) (w_pair w (w_const UnknownFieldSet)))) (λ X. FieldSlot _) (λ X. split) (λ X. join) (λ X. join-split) (λ X. split-join)
 
 abbrev pub the_former : Former {0} → Former {0}
-the_former g = pair (const PooledType) (sorted.the_former (slot_former g))
+the_former g = pair (const PooledType) (list (pair (const ℕ) (slot_former g)))
 
 abbrev pub the_weighed : {g : Former {0}} → Weighed g → Weighed (the_former g)
-the_weighed w = w_pair (w_const PooledType) (sorted.the_weighed (slot_weighed w))
+the_weighed w = w_pair (w_const PooledType) (w_list (w_pair (w_const ℕ) (slot_weighed w)))
 
 abbrev inside_former : Former {0}
 inside_former = via (pair (const PooledType) (sorted.the_former (slot_former this))) Inside (λ X a. (a.message_type, a.fields))
@@ -96,12 +98,30 @@ module _ {X Y : Type 0} (h : X → Y) where
     λ m n v w. sym (has_value_over es n) ∙ s.2 m n (has_value_over es m ∙ v) w,
   )
 
+  noted_over : (fields : List Field) (notes : Option (List (ℕ × ℕ))) (es : List (ℕ × FieldSlot X)) → AreNoted fields notes es → AreNoted fields notes (map over_item es)
+  noted_over fields None es s = tt
+  noted_over fields (Some notes) es s = (s.0, λ o m v w. s.1 o m (sym (has_value_over es m) ∙ v) w)
+
+  noted_under : (fields : List Field) (notes : Option (List (ℕ × ℕ))) (es : List (ℕ × FieldSlot X)) → AreNoted fields notes (map over_item es) → AreNoted fields notes es
+  noted_under fields None es s = tt
+  noted_under fields (Some notes) es s = (s.0, λ o m v w. s.1 o m (has_value_over es m ∙ v) w)
+
 pub sound_prop : {X : Type 0} (fields : List Field) (es : List (ℕ × FieldSlot X)) → IsProp (Sound fields es)
 sound_prop fields es = λ a b i. (
   λ n v. Bool-set _ _ (a.0 n v) (b.0 n v) i,
   λ n. Bool-set _ _ (a.1 n) (b.1 n) i,
   λ m n v w. Bool-set _ _ (a.2 m n v w) (b.2 m n v w) i,
 )
+
+noted_prop : {X : Type 0} (fields : List Field) (notes : Option (List (ℕ × ℕ))) (es : List (ℕ × FieldSlot X)) → IsProp (AreNoted fields notes es)
+noted_prop fields None es = Unit-prop
+noted_prop fields (Some notes) es = λ a b i. (
+  λ o m v. Bool-set _ _ (a.0 o m v) (b.0 o m v) i,
+  λ o m v w. Bool-set _ _ (a.1 o m v w) (b.1 o m v w) i,
+)
+
+held_prop : {X : Type 0} (fields : List Field) (notes : Option (List (ℕ × ℕ))) (es : List (ℕ × FieldSlot X)) → IsProp (Sound fields es × AreNoted fields notes es)
+held_prop fields notes es = λ a b i. (sound_prop fields es a.0 b.0 i, noted_prop fields notes es a.1 b.1 i)
 
 module _ (R S : RattleType) (h : R.Denot → S.Denot) where
   variant : (e : FieldSlot R.Denot) → (E.enum S).as_values (over_slot h e) ≡ eachs (E.enum R).parts (E.enum S).parts ((h, tt), (((λ u. u), tt), ((h, ((λ u. u), tt)), tt))) ((E.enum R).as_values e)
@@ -115,8 +135,8 @@ module _ (R S : RattleType) (h : R.Denot → S.Denot) where
 
   pub the_places : Alike R S h → Alike (C.the_row R) (C.the_row S) ((the_former this).map R.Denot S.Denot h)
   the_places a = view_places inside_former (the_former this) view (λ X Y k u. refl) (λ X u. refl) R.Denot S.Denot h (C.the_row R).coded (C.the_row S).coded
-      (invariant R.Denot) (invariant S.Denot) (λ u. sound_prop _ u.fields) (λ u. sound_prop _ u.fields)
-      (λ u s. sound_over h _ u.fields s) (λ u s. sound_under h _ u.fields s)
+      (invariant R.Denot) (invariant S.Denot) (λ u. held_prop _ u.fields.1 u.fields.0) (λ u. held_prop _ u.fields.1 u.fields.0)
+      (λ u s. (sound_over h _ u.fields.0 s.0, noted_over h _ u.fields.1 u.fields.0 s.1)) (λ u s. (sound_under h _ u.fields.0 s.0, noted_under h _ u.fields.1 u.fields.0 s.1))
       (over (I.the_row R)) (over (I.the_row S))
       (struct_places (I.the_type R) (I.the_type S) ((λ d. d), ((sorted.the_former (slot_former this)).map R.Denot S.Denot h, tt)) _ (λ d. refl) refl
       ((refl, (λ n. refl, λ n. refl)), (laid _ _ _ (sorted.the_places (E.the_row R) (E.the_row S) (over_slot h) (slot_places a)), tt)))

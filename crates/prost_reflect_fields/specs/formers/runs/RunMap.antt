@@ -1,5 +1,5 @@
 -- `RunMap` as a type that may hold the type that holds it.
-use Rattle.std.specs.Prelude.{◌≡◌, ℕ, true, List, [], ◌∷◌, ◌++◌, map, Vec}
+use Rattle.std.specs.Prelude.{◌≡◌, ℕ, true, List, [], ◌∷◌, ◌++◌, map, Option, None, option_map, Vec}
 use mathlib.Core.Path.{refl, sym, ap, ap₂, ◌∙◌, subst}
 use mathlib.Core.Bool.{Bool-set}
 use mathlib.Core.HLevel.{Unit-prop}
@@ -29,14 +29,17 @@ use Rattle.prost_reflect_fields.specs.contracts.runs.RunMap as C
 use Rattle.prost_reflect_fields.specs.contracts.runs.RunMap.TheInside as I
 use Rattle.prost_reflect_fields.specs.Runs.{Marks, IsAhead, InRuns, Runs, marks, flat}
 
+abbrev Notes : Type 0
+Notes = Option (List (ℕ × ℕ))
+
 abbrev pub the_former : Former {0} → Former {0}
-the_former g = list (pair (const ℕ) g)
+the_former g = pair (list (pair (const ℕ) g)) (const Notes)
 
 abbrev pub the_weighed : {g : Former {0}} → Weighed g → Weighed (the_former g)
-the_weighed w = w_list (w_pair (w_const ℕ) w)
+the_weighed w = w_pair (w_list (w_pair (w_const ℕ) w)) (w_const Notes)
 
-pub the_empty : List (ℕ × ⊥)
-the_empty = []
+pub the_empty : List (ℕ × ⊥) × Notes
+the_empty = ([], None)
 
 abbrev item : Former {0}
 item = pair (const ℕ) this
@@ -45,10 +48,10 @@ abbrev run : Former {0}
 run = pair (const ℕ) (vec.the_former item Global)
 
 abbrev fields : Former {0}
-fields = via (pair (vec.the_former run Global) (const (BTreeMap ℕ ℕ))) Inside (λ X a. (a.runs, a.notes)) (λ X v. record { runs = v.0; notes = v.1 }) (λ X a. refl) (λ X v. refl)
+fields = via (pair (vec.the_former run Global) (const (Option (BTreeMap ℕ ℕ)))) Inside (λ X a. (a.runs, a.notes)) (λ X v. record { runs = v.0; notes = v.1 }) (λ X a. refl) (λ X v. refl)
 
-behind : {a b c : Gv} → a ≡ b → gcons c a ≡ gcons c b
-behind {c = c} e = λ i. gcons c (e i)
+in_front : {a b c : Gv} → a ≡ b → gcons a c ≡ gcons b c
+in_front {c = c} e = λ i. gcons (e i) c
 
 -- the items of all runs are what the runs hold
 module _ (X : Type 0) where
@@ -77,6 +80,9 @@ InRuns-prop (r ∷ rs) = λ a b i. (
   AllByRecursion-prop (λ k. IsAhead k rs) (λ k. IsAhead-prop k rs) r.1 a.3 b.3 i,
   InRuns-prop rs a.4 b.4 i,
 )
+
+with_notes : {X : Type 0} {es ds : List (ℕ × X)} (ns : Notes) → es ≡ ds → ◌≡◌ {A = List (ℕ × X) × Notes} (es, ns) (ds, ns)
+with_notes ns e = λ i. (e i, ns)
 
 module _ {X Y : Type 0} (h : X → Y) where
   abbrev over_item : ℕ × X → ℕ × Y
@@ -113,7 +119,7 @@ module _ (R S : RattleType) (h : R.Denot → S.Denot) where
       (stays u32, (laid _ _ _ (vec.the_places heap.the_row ghosts (Tuple (u32 ∷ R ∷ [])) (Tuple (u32 ∷ S ∷ [])) (over_item h) (item_places a)), tt))
 
   pub the_places : Alike R S h → Alike (C.the_row R) (C.the_row S) ((the_former this).map R.Denot S.Denot h)
-  the_places a = view_places fields (the_former this) view (λ X Y k u. over_flat k u.runs.items) (λ X u. held_runs X u.runs.items none_left tt) R.Denot S.Denot h (C.the_row R).coded (C.the_row S).coded
+  the_places a = view_places fields (the_former this) view (λ X Y k u. with_notes (option_map (λ m. m.entries) u.notes) (over_flat k u.runs.items)) (λ X u. held_runs X u.runs.items none_left tt) R.Denot S.Denot h (C.the_row R).coded (C.the_row S).coded
       (invariant R.Denot) (invariant S.Denot) (λ u. InRuns-prop (marks u.runs.items)) (λ u. InRuns-prop (marks u.runs.items))
       (λ u s. subst InRuns (sym (same_marks h u.runs.items)) s) (λ u s. subst InRuns (same_marks h u.runs.items) s)
       (over (I.the_row R)) (over (I.the_row S))
@@ -124,4 +130,4 @@ module _ (R S : RattleType) (h : R.Denot → S.Denot) where
   item_code T p = gcons (gnum p.0) (T.coded.code p.1)
 
   pub the_codes_placed : Recodes R S h → Recodes (C.the_row R) (C.the_row S) ((the_former this).map R.Denot S.Denot h)
-  the_codes_placed e d = sym (code_map {A = ℕ × R.Denot} {B = ℕ × S.Denot} (item_code R) (item_code S) (over_item h) (λ p. ap (gcons (gnum p.0)) (sym (e p.1))) d)
+  the_codes_placed e d = in_front (sym (code_map {A = ℕ × R.Denot} {B = ℕ × S.Denot} (item_code R) (item_code S) (over_item h) (λ p. ap (gcons (gnum p.0)) (sym (e p.1))) d.0))

@@ -15,7 +15,7 @@ pub from_slots-requires : goal.from_slots-requires
 from_slots-requires c =
     let message = c.args.self.now in
     let l = c.loop-number.invariant in
-    part_kept c.args.numbers.now message.fields.0 c.in_ok-shared.shared message.fields.1 c.loop-number.fields
+    part_kept c.args.numbers.now message.fields.0 c.in_ok-shared.shared message.fields.1 c.loop-number.fields.0
     (of_same message.fields.0 c.message_type.result.now c.in_ok-shared.shared c.message_type.ensures c.in_ok-shared.ensures.cases) c.slots-number-items.ensures.ascending
     (l.2 ∙ ap (λ es. parts_of (part c.args.numbers.now es)) (all_given message.fields.1 l.0 _ l.1 c.in-None.ensures.steps.0))
     c.slots-number-items.ensures.sound
@@ -36,15 +36,15 @@ loop-number-preserved-in_ok-insert c =
     let item = c.in-Some.field-0.now in (
       l.0 ++ item ∷ [],
       one_given _ l.0 item _ _ l.1 c.in-Some.ensures.steps,
-      ap parts_of c.in_ok-insert.ensures.ok
-          ∙ slot_copied c.args.numbers.now c.loop-number.fields l.0 item.0 item.1 l.2 c.in_ok-copy_slot.field-0 (sym c.contains.ensures ∙ c.if-contains.true) c.in_ok-copy_slot.ensures,
+      ap (λ held. parts_of held.0) c.in_ok-insert.ensures.ok
+          ∙ slot_copied c.args.numbers.now c.loop-number.fields.0 l.0 item.0 item.1 l.2 c.in_ok-copy_slot.field-0 (sym c.contains.ensures ∙ c.if-contains.true) c.in_ok-copy_slot.ensures,
     )
 
 pub loop-number-preserved : goal.loop-number-preserved
 loop-number-preserved c =
     let l = c.loop-number.invariant in
     let item = c.in-Some.field-0.now in
-    (l.0 ++ item ∷ [], one_given _ l.0 item _ _ l.1 c.in-Some.ensures.steps, slot_passed c.args.numbers.now c.loop-number.fields l.0 item.0 item.1 l.2 (sym c.contains.ensures ∙ c.if-contains.false))
+    (l.0 ++ item ∷ [], one_given _ l.0 item _ _ l.1 c.in-Some.ensures.steps, slot_passed c.args.numbers.now c.loop-number.fields.0 l.0 item.0 item.1 l.2 (sym c.contains.ensures ∙ c.if-contains.false))
 
 pub returns-clause-typed : goal.returns-clause-typed
 returns-clause-typed c =

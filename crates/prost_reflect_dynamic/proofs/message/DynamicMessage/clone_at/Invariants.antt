@@ -8,4 +8,4 @@ use Rattle.prost_reflect_dynamic.proofs.MessageParts.{part}
 use Rattle.prost_reflect_dynamic.proofs.message.DynamicMessage.clone_at.Given as goal
 
 abbrev pub invariant-loop-number : goal.invariant-loop-number
-invariant-loop-number l = (done : List (ℕ × FieldSlot Value)) × (stored_in l.self ≡ done ++ items_left l.number-iterator) × (parts_of l.fields ≡ parts_of (part l.numbers done))
+invariant-loop-number l = (done : List (ℕ × FieldSlot Value)) × (stored_in l.self ≡ done ++ items_left l.number-iterator) × (parts_of l.fields.0 ≡ parts_of (part l.numbers done))

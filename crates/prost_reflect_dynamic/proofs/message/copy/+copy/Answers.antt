@@ -27,7 +27,7 @@ copy_message-from_slots-requires t c =
     let message = c.args.message.now in
     let copied = c.in_ok-shared.shared in
     let l = c.loop-number.invariant in
-    sound_copied message.fields.0 copied message.fields.1 c.loop-number.fields
+    sound_copied message.fields.0 copied message.fields.1 c.loop-number.fields.0
     (of_same message.fields.0 c.message_type.result.now copied c.message_type.ensures c.in_ok-shared.ensures.cases)
     (l.2 ∙ ap parts_of (all_given message.fields.1 l.0 _ l.1 c.in-None.ensures.steps.0))
     c.slots-number-items.ensures.sound
@@ -60,7 +60,7 @@ copy_message-loop-number-preserved t c =
           (ap records_of w.in_ok-unknown-in-Both.ensures ∙ w.in_ok-clone-in-Both.ensures.cases ∙ ap records_of w.get.ensures)
           ∙ ap entry_parts (sym w.in-Both.is)
     ] in
-    (l.0 ++ item ∷ [], cut, ap parts_of c.in_ok-insert.ensures.ok ∙ copied_next c.loop-number.fields l.0 _ item.0 item.1 c.match-entry.copied ascending l.2 parts)
+    (l.0 ++ item ∷ [], cut, ap (λ held. parts_of held.0) c.in_ok-insert.ensures.ok ∙ copied_next c.loop-number.fields.0 l.0 _ item.0 item.1 c.match-entry.copied ascending l.2 parts)
 
 pub copy_pairs-loop-key-preserved : goal.copy_pairs-loop-key-preserved
 copy_pairs-loop-key-preserved t c =

@@ -10,7 +10,7 @@ use Rattle.prost_reflect_dynamic.proofs.Copied.{parts_of}
 use Rattle.prost_reflect_dynamic.proofs.message.copy.+copy.Given as goal
 
 abbrev pub invariant-copy_message-loop-number : goal.invariant-copy_message-loop-number
-invariant-copy_message-loop-number l = (done : List (ℕ × FieldSlot Value)) × (stored_in l.message ≡ done ++ items_left l.number-iterator) × (parts_of l.fields ≡ parts_of done)
+invariant-copy_message-loop-number l = (done : List (ℕ × FieldSlot Value)) × (stored_in l.message ≡ done ++ items_left l.number-iterator) × (parts_of l.fields.0 ≡ parts_of done)
 
 abbrev pub invariant-copy_pairs-loop-key : goal.invariant-copy_pairs-loop-key
 invariant-copy_pairs-loop-key l = (done : List (MapKey × Value)) × (l.pairs.entries ≡ done ++ l.key-iterator) × (pairs_seen l.copied.entries ≡ pairs_seen done)

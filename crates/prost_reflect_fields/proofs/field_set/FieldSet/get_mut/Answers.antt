@@ -1,14 +1,20 @@
 use Rattle.std.proofs.Common.{sym, subst}
 use Rattle.prost_reflect_fields.specs.Known.{known_of}
 use Rattle.prost_reflect_fields.specs.Sound.{Sound}
+use Rattle.prost_reflect_fields.proofs.NotedMembers.{noted_after, noted_written}
 use Rattle.prost_reflect_fields.proofs.SoundChanges.{sound_written}
 use Rattle.prost_reflect_fields.proofs.field_set.FieldSet.get_mut.Goals as goal
 
 pub invariant_of-self-lent : goal.invariant_of-self-lent
 invariant_of-self-lent g c =
     let inside = c.self.inside in
-    let sound = Sound (known_of inside.message_type) in
+    let fields = known_of inside.message_type in
+    let n = c.args.number in
     λ o. (
-      λ w. subst sound (sym (c.value_mut.follows.holds w)) (sound_written (known_of inside.message_type) inside.fields c.args.number w c.self.invariant),
-      subst sound (sym c.value_mut.follows.holds-at-none) c.self.invariant,
+      λ w.
+          let holds = c.value_mut.follows.holds w in (
+            subst (Sound fields) (sym holds.0) (sound_written fields inside.fields.0 n w c.self.invariant.0),
+            noted_after fields holds.0 holds.1 (noted_written fields inside.fields.1 inside.fields.0 n w c.self.invariant.1),
+          ),
+      (let still = c.value_mut.follows.holds-at-none in (subst (Sound fields) (sym still.0) c.self.invariant.0, noted_after fields still.0 still.1 c.self.invariant.1)),
     )

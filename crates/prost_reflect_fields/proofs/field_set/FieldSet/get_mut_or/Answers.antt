@@ -18,26 +18,26 @@ pub invariant_of-self-lent : goal.invariant_of-self-lent
 invariant_of-self-lent g c =
     let inside = c.self.inside in
     let fields = known_of inside.message_type in
-    let sound = Sound fields in
     let n = c.args.number in
-    let known = subst (λ m. is_known (known_of m.0) n ≡ true) (sym c.self.view_is) c.requires in
-    let noted = c.noted_member-member.new.fields in
-    let still_sound = subst sound (sym c.noted_member-member.ensures.same) c.self.invariant in
-    let ready = sound_prepared fields noted n c.args.default c.value_mut_or.ensures.ascending (known_differ inside.message_type) known still_sound in
+    let known = subst (λ m. is_known (known_of m.0) n ≡ true) (sym c.self.view_is) (subst (λ m. is_known (known_of m.0) n ≡ true) (sym c.note_members.ensures) c.requires) in
+    let ready = sound_prepared fields inside.fields.0 n c.args.default c.value_mut_or.ensures.ascending (known_differ inside.message_type) known c.self.invariant.0 in
     λ r. (
       λ w.
           let holds = c.value_mut_or.follows.holds w in
           either c.value_mut_or.result holds.0 holds.1
-          (λ is. subst sound (sym is) (sound_written fields (prepared fields noted n c.args.default) n w ready))
-          (λ is. subst sound (sym is) still_sound),
-      (let still = c.value_mut_or.follows.holds-at-none in either c.value_mut_or.result still.0 still.1 (λ is. subst sound (sym is) ready) (λ is. subst sound (sym is) still_sound)),
+          (λ is. (subst (Sound fields) (sym is.0) (sound_written fields (prepared fields inside.fields.0 n c.args.default) n w ready), is.1))
+          (λ is. (subst (Sound fields) (sym is.0) c.self.invariant.0, is.1)),
+      (
+          let still = c.value_mut_or.follows.holds-at-none in
+          either c.value_mut_or.result still.0 still.1 (λ is. (subst (Sound fields) (sym is.0) ready, is.1)) (λ is. (subst (Sound fields) (sym is.0) c.self.invariant.0, is.1))
+          ),
     )
 
 -- what follows the lent value through a pairing
-agree : {T D L X : Type 0} {Q : T → Type 0} (r : Result (MutBor T) X) (pair : L → D) (lender put : T → L) (rest old : L) (written : T → D) (now : D) → ((w : T) → OnOk r (lender w ≡ put w) × Q w) → OnErr r (rest ≡ old)
+agree : {T D L X : Type 0} {Q : T → Type 0} (P : T → Type 0) (S : Type 0) (r : Result (MutBor T) X) (pair : L → D) (lender put : T → L) (rest old : L) (written : T → D) (now : D) → ((w : T) → OnOk r ((lender w ≡ put w) × P w) × Q w) → OnErr r ((rest ≡ old) × S)
     → ((w : T) → pair (put w) ≡ written w) → pair old ≡ now → read_of (name_if_ok (λ x. x.ghost_name) r) (λ w. pair (lender w)) (pair rest) ≡ read_of (name_if_ok (λ x. x.ghost_name) r) written now
-agree (Ok x) pair lender put rest old written now holds stays is same = λ i. read_of (some x.ghost_name) (λ w. (ap pair (holds w).0 ∙ is w) i) now
-agree (Err e) pair lender put rest old written now holds stays is same = ap inr (ap pair stays ∙ same)
+agree P S (Ok x) pair lender put rest old written now holds stays is same = λ i. read_of (some x.ghost_name) (λ w. (ap pair (holds w).0.0 ∙ is w) i) now
+agree P S (Err e) pair lender put rest old written now holds stays is same = ap inr (ap pair stays.0 ∙ same)
 
 pub returns : goal.returns
 returns g c =
@@ -48,14 +48,14 @@ returns g c =
     let lent = c.value_mut_or.ensures in
     let whole : List (ℕ × FieldSlot g.row.V.Denot) → PooledType × List (ℕ × FieldSlot g.row.V.Denot) = λ es. (inside.message_type, es) in
     let put : g.row.V.Denot → PooledType × List (ℕ × FieldSlot g.row.V.Denot) → PooledType × List (ℕ × FieldSlot g.row.V.Denot) = λ w m. (m.0, with_value (prepared (known_of m.0) m.1 n default) n w) in
-    let noted = c.noted_member-member.new.fields in
-    let viewed : whole noted ≡ c.args.self.now = ap whole c.noted_member-member.ensures.same ∙ c.self.view_is in (
-      agree c.value_mut_or.result whole c.value_mut_or.follows.lender (λ w. with_value (prepared fields noted n default) n w) c.value_mut_or.follows.lender-at-none noted (λ w. put w c.args.self.now) c.args.self.now
+    let before = inside.fields.0 in
+    let viewed : whole before ≡ c.args.self.now = c.self.view_is ∙ c.note_members.ensures in (
+      agree _ _ c.value_mut_or.result whole (λ w. (c.value_mut_or.follows.lender w).0) (λ w. with_value (prepared fields before n default) n w) c.value_mut_or.follows.lender-at-none.0 before (λ w. put w c.args.self.now) c.args.self.now
           c.value_mut_or.follows.holds c.value_mut_or.follows.holds-at-none.1 (λ w. ap (put w) viewed) viewed,
       record {
         writes_back = tt;
         value = subst (λ (m : PooledType × List (ℕ × FieldSlot g.row.V.Denot)). IfOk c.value_mut_or.result (λ v. stored_at (prepared (known_of m.0) m.1 n default) n ≡ Some v.now)) viewed lent.value;
         ascending = subst (λ (m : PooledType × List (ℕ × FieldSlot g.row.V.Denot)). IsAscending m.1) viewed lent.ascending;
-        sound = subst (λ (m : PooledType × List (ℕ × FieldSlot g.row.V.Denot)). Sound (known_of m.0) m.1) c.self.view_is c.self.invariant;
+        sound = subst (λ (m : PooledType × List (ℕ × FieldSlot g.row.V.Denot)). Sound (known_of m.0) m.1) viewed c.self.invariant.0;
       },
     )

@@ -2,11 +2,12 @@ use Rattle.std.proofs.Common.{◌≡◌, ℕ, List, sym, ◌∙◌, ap, subst}
 use Rattle.prost_reflect_pool.specs.declared.pooled_type.PooledType.{PooledType}
 use Rattle.prost_reflect_fields.specs.declared.slot.FieldSlot.{FieldSlot}
 use Rattle.prost_reflect_fields.specs.Known.{known_of}
+use Rattle.prost_reflect_fields.specs.Noted.{AreNoted}
 use Rattle.prost_reflect_fields.specs.Sound.{Sound}
 use Rattle.prost_reflect_fields.specs.NumberSets.{HasWholeOneofs}
 use Rattle.prost_reflect_fields.proofs.Siblings.{known_differ}
 use Rattle.prost_reflect_fields.proofs.Replaced.{sound_replaced}
-use Rattle.prost_reflect_fields.proofs.Results.{either}
+use Rattle.prost_reflect_fields.proofs.Results.{either_both}
 use Rattle.prost_reflect_fields.proofs.field_set.FieldSet.replace.Goals as goal
 
 pub invariant_of-self : goal.invariant_of-self
@@ -17,8 +18,10 @@ invariant_of-self g c =
     let known : PooledType × List (ℕ × FieldSlot g.row.V.Denot) → Type 0 = λ m. HasWholeOneofs (known_of m.0) c.args.numbers.now in
     let same : known_of others.message_type ≡ fields =
     ap (λ (m : PooledType × List (ℕ × FieldSlot g.row.V.Denot)). known_of m.0) c.others.view_is ∙ c.requires.message_type ∙ sym (ap (λ (m : PooledType × List (ℕ × FieldSlot g.row.V.Denot)). known_of m.0) c.self.view_is) in
-    either c.replace.result c.replace.ensures.ok c.replace.ensures.err
-    (λ replaced.
-    sound_replaced c.args.numbers.now inside.fields others.fields c.replace.new.self replaced fields (known_differ inside.message_type) (subst known (sym c.self.view_is) c.requires.whole) c.self.invariant
-    (subst (λ known. Sound known others.fields) same c.others.invariant))
-    (λ is. subst (Sound fields) (sym is) c.self.invariant)
+    either_both c.replace.result c.replace.ensures.ok c.replace.ensures.notes c.replace.ensures.err
+    (λ replaced none. (
+      sound_replaced c.args.numbers.now inside.fields.0 others.fields.0 c.replace.new.self.0 replaced fields (known_differ inside.message_type) (subst known (sym c.self.view_is) c.requires.whole) c.self.invariant.0
+          (subst (λ known. Sound known others.fields.0) same c.others.invariant.0),
+      subst (λ notes. AreNoted fields notes c.replace.new.self.0) (sym none) tt,
+    ))
+    (λ is. subst (λ held. Sound fields held.0 × AreNoted fields held.1 held.0) (sym is) c.self.invariant)

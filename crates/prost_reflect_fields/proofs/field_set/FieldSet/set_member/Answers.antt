@@ -1,18 +1,23 @@
-use Rattle.std.proofs.Common.{◌≡◌, true, sym, subst}
+use Rattle.std.proofs.Common.{◌≡◌, true, sym, subst, ◌∙◌}
 use Rattle.prost_reflect_fields.specs.Known.{known_of, is_known}
 use Rattle.prost_reflect_fields.specs.Sound.{Sound}
 use Rattle.prost_reflect_fields.proofs.Siblings.{known_differ}
 use Rattle.prost_reflect_fields.proofs.SoundChanges.{sound_set}
 use Rattle.prost_reflect_fields.proofs.Results.{either}
 use Rattle.prost_reflect_fields.proofs.field_set.FieldSet.set_member.Goals as goal
+use Rattle.prost_reflect_fields.proofs.field_set.FieldSet.set_member.Goals.{then-is_some, else-is_some}
 
 pub invariant_of-self : goal.invariant_of-self
 invariant_of-self g c =
     let inside = c.self.inside in
     let fields = known_of inside.message_type in
-    let known = subst (λ m. is_known (known_of m.0) c.args.number ≡ true) (sym c.self.view_is) c.requires.known in
-    let noted = c.noted_member-member.new.fields in
-    let sound = subst (Sound fields) (sym c.noted_member-member.ensures.same) c.self.invariant in
-    either c.set_value.result c.set_value.ensures.ok c.set_value.ensures.err
-    (λ is_set. subst (Sound fields) (sym is_set) (sound_set fields noted c.args.number c.args.value c.set_value.ensures.ascending (known_differ inside.message_type) known sound))
-    (λ is. subst (Sound fields) (sym is) sound)
+    let n = c.args.number in
+    let same : c.if-is_some.self ≡ c.args.self.now = elim c.if-is_some.branch [
+      | then-is_some w ↦ w.self-is ∙ w.note_members.ensures
+      | else-is_some w ↦ w.self-is
+    ] in
+    let known = subst (λ m. is_known (known_of m.0) n ≡ true) (sym (c.self.view_is ∙ same)) c.requires.known in
+    let is_set = c.set_value.ensures in
+    either c.set_value.result is_set.ok is_set.err
+    (λ is. (subst (Sound fields) (sym is) (sound_set fields inside.fields.0 n c.args.value is_set.ascending (known_differ inside.message_type) known c.self.invariant.0), is_set.noted))
+    (λ is. (subst (Sound fields) (sym is) c.self.invariant.0, is_set.noted))

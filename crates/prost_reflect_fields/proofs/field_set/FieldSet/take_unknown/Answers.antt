@@ -1,5 +1,6 @@
 use Rattle.std.proofs.Common.{sym, subst}
 use Rattle.prost_reflect_fields.specs.Known.{known_of}
+use Rattle.prost_reflect_fields.specs.Noted.{AreNoted}
 use Rattle.prost_reflect_fields.specs.Sound.{Sound}
 use Rattle.prost_reflect_fields.proofs.ValuesAlone.{sound_alone}
 use Rattle.prost_reflect_fields.proofs.Results.{either}
@@ -8,8 +9,8 @@ use Rattle.prost_reflect_fields.proofs.field_set.FieldSet.take_unknown.Goals as 
 pub invariant_of-self : goal.invariant_of-self
 invariant_of-self g c =
     let inside = c.self.inside in
-    let sound = Sound (known_of inside.message_type) in
+    let fields = known_of inside.message_type in
     let taken = c.take_unknown.ensures in
     either c.take_unknown.result taken.ok taken.err
-    (λ is. subst sound (sym is) (sound_alone (known_of inside.message_type) inside.fields taken.ascending c.self.invariant))
-    (λ is. subst sound (sym is) c.self.invariant)
+    (λ is. subst (λ held. Sound fields held.0 × AreNoted fields held.1 held.0) (sym is) (sound_alone fields inside.fields.0 taken.ascending c.self.invariant.0, tt))
+    (λ is. subst (λ held. Sound fields held.0 × AreNoted fields held.1 held.0) (sym is) c.self.invariant)

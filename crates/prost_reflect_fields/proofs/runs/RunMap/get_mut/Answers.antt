@@ -1,4 +1,4 @@
-use Rattle.std.proofs.Common.{arith, ◌≡◌, sym, subst, ap, ◌∙◌, ◌<◌, length}
+use Rattle.std.proofs.Common.{arith, ◌≡◌, ℕ, List, Option, option_map, sym, subst, ap, ◌∙◌, ◌<◌, length}
 use mathlib.Core.Logic.{inl, inr, ◌⊎◌}
 use Rattle.std.specs.Vec.{with_item as vec_with}
 use Rattle.std.specs.Ordering.{nat_cmp}
@@ -11,6 +11,9 @@ use Rattle.prost_reflect_fields.proofs.runs.RunMap.get_mut.Goals as goal
 
 lent_same : {N A B C : Type 0} (n : N) (f h : A → B) → ((w : A) → f w ≡ h w) → ◌≡◌ {A = (N × (A → B)) ⊎ C} (inl (n, f)) (inl (n, h))
 lent_same n f h same = λ j. inl (n, λ w. same w j)
+
+beside : {A N : Type 0} {x y : A} (n : N) → x ≡ y → ◌≡◌ {A = A × N} (x, n) (y, n)
+beside n e = λ i. (e i, n)
 
 pub place_in-requires : goal.place_in-requires
 place_in-requires g c =
@@ -51,12 +54,12 @@ returns-in-Ok g c =
     let r = c.index_mut-run.result.now in
     let is = c.index_mut-run.ensures.value ∙ run_got n runs i c.self.invariant home _ in
     let x = c.index_mut-item.result.now in (
-      lent_same _ _ _ (λ w. with_home n runs i c.self.invariant home (r.0, vec_with r.1 c.in-Ok.place (x.0, w)) w
-          (lent_is n runs i c.self.invariant home r is c.in-Ok.place c.deref-in-Some.result.now own c.in-Ok.ensures x c.index_mut-item.ensures.value w)
-          ∙ ap (λ l. with_item l n w) c.self.view_is),
+      lent_same _ _ _ (λ w. beside (option_map (λ m. m.entries) c.self.inside.notes) (with_home n runs i c.self.invariant home (r.0, vec_with r.1 c.in-Ok.place (x.0, w)) w
+          (lent_is n runs i c.self.invariant home r is c.in-Ok.place c.deref-in-Some.result.now own c.in-Ok.ensures x c.index_mut-item.ensures.value w))
+          ∙ ap (λ (held : List (ℕ × g.row.T.Denot) × Option (List (ℕ × ℕ))). (with_item held.0 n w, held.1)) c.self.view_is),
       record {
         writes_back = tt;
-        value = sym (ap (λ l. item_at l n) (sym c.self.view_is) ∙ lent_value n runs i c.self.invariant home r is c.in-Ok.place c.deref-in-Some.result.now own c.in-Ok.ensures x c.index_mut-item.ensures.value);
+        value = sym (ap (λ (held : List (ℕ × g.row.T.Denot) × Option (List (ℕ × ℕ))). item_at held.0 n) (sym c.self.view_is) ∙ lent_value n runs i c.self.invariant home r is c.in-Ok.place c.deref-in-Some.result.now own c.in-Ok.ensures x c.index_mut-item.ensures.value);
       },
     )
 
@@ -68,7 +71,7 @@ returns-in-Err g c =
     let home = run_found n runs i c.self.invariant (c.in-Some.ensures.run ∙ ap (λ l. run_at (seek (nat_cmp n) l)) c.deref.ensures.value) in
     let own = c.deref-in-Some.ensures.value ∙ ap (λ r. r.1.items) (c.index.ensures ∙ run_got n runs i c.self.invariant home _) in (
       λ j. inr (c.self.view_is j),
-      record { writes_back = tt; value = sym (ap (λ l. item_at l n) (sym c.self.view_is) ∙ none_lent n runs i c.self.invariant home c.deref-in-Some.result.now c.in-Err.field-0 own c.in-Err.ensures) },
+      record { writes_back = tt; value = sym (ap (λ (held : List (ℕ × g.row.T.Denot) × Option (List (ℕ × ℕ))). item_at held.0 n) (sym c.self.view_is) ∙ none_lent n runs i c.self.invariant home c.deref-in-Some.result.now c.in-Err.field-0 own c.in-Err.ensures) },
     )
 
 pub returns-in-None : goal.returns-in-None
@@ -77,5 +80,5 @@ returns-in-None g c =
     let runs = c.self.inside.runs.items in
     let ahead = none_found n runs (c.in-None.ensures.run ∙ ap (λ l. run_at (seek (nat_cmp n) l)) c.deref.ensures.value) in (
       λ j. inr (c.self.view_is j),
-      record { writes_back = tt; value = sym (ap (λ l. item_at l n) (sym c.self.view_is) ∙ none_above n (flat runs) (ahead_above n runs ahead c.self.invariant)) },
+      record { writes_back = tt; value = sym (ap (λ (held : List (ℕ × g.row.T.Denot) × Option (List (ℕ × ℕ))). item_at held.0 n) (sym c.self.view_is) ∙ none_above n (flat runs) (ahead_above n runs ahead c.self.invariant)) },
     )

@@ -1,7 +1,7 @@
-use Rattle.std.proofs.Common.{sym, ap, ◌∙◌}
+use Rattle.std.proofs.Common.{ℕ, List, Option, sym, ap, ◌∙◌}
 use Rattle.prost_reflect_fields.specs.Held.{held_items}
 use Rattle.prost_reflect_fields.proofs.Places.{empty_ascends}
 use Rattle.prost_reflect_fields.proofs.sorted_map.SortedMap.ascends.Goals as goal
 
 pub returns-in-Empty : goal.returns-in-Empty
-returns-in-Empty g c = empty_ascends c.args.self.now (sym c.self.view_is ∙ ap held_items c.in-Empty.is)
+returns-in-Empty g c = empty_ascends c.args.self.now.0 (ap (λ (held : List (ℕ × g.row.T.Denot) × Option (List (ℕ × ℕ))). held.0) (sym c.self.view_is ∙ ap held_items c.in-Empty.is))
