@@ -116,6 +116,8 @@ VALUES |= {
 ONE_OF = (30, 31, 32)
 BYTES = b"".join(VALUES[n] for n in VALUES if n not in ONE_OF[:2]) + delimited(100, "an extension")
 BYTES += delimited(101, SMALL) + delimited(101, SMALL) + number(45, 1) + group(46, SMALL) + delimited(47, "unknown")
+# So many fields that their slots stand in runs, and then one member of a oneof after another.
+MANY = b"".join(number(n, 1) for n in range(1000, 1150)) + VALUES[30] + VALUES[31] + VALUES[30] + VALUES[32]
 UNKNOWN = group(3, delimited(1, "hello") + group(2, number(1, 5) + delimited(2, "world")) + fixed(3, 1, 8) + fixed(4, 5, 4))
 
 RECORDS = {
@@ -169,6 +171,8 @@ def rows():
     yield "`MapKey::clone`", [("Value::key_clone", b"", 0, "a_key_that_is_a_text")]
     for call in "decode", "merge", "clone", "encode", "encode_to_vec", "present_numbers", "field_numbers":
         yield f"`DynamicMessage::{call}`", [(f"Message::{call}", BYTES, 0, "x")]
+    for call in "decode", "merge", "clone":
+        yield f"`DynamicMessage::{call}`, of 151 fields", [(f"Message::{call}", MANY, 0, "x")]
     for call in "extension_numbers", "take_unknown_fields":
         yield f"`DynamicMessage::{call}`", [(f"Message::{call}", BYTES, 0, "x")]
     for call in "fields", "extensions", "take_fields", "take_extensions":
