@@ -2,20 +2,21 @@
 use Rattle.std.proofs.Common.{◌≡◌, ℕ, Bool, true, false, cond, not, ◌&&◌, ◌||◌, nat_eq, List, Option, Some, None, refl, ap, sym, ◌∙◌, subst, true≢false}
 use Rattle.std.proofs.lemmas.Bool.{eq-eqb, ne_eqb, eqb-true, eqb-false, false_from_ne_true}
 use Rattle.std.specs.Prelude.{IfSome, unwrap_or}
-use Rattle.std.specs.Option.{option_and_then, option_map, is_some}
+use Rattle.std.specs.Option.{option_map, is_some}
 use Rattle.prost_reflect_wire.specs.Schema.{Field, same_oneof, numbers_differ}
 use Rattle.prost_reflect_fields.specs.declared.slot.FieldSlot.{FieldSlot}
 use Rattle.prost_reflect_fields.specs.Items.{IsAscending, item_at, put_item}
-use Rattle.prost_reflect_fields.specs.FieldSlots.{left_in, stored_at, has_value, put_value, with_value, clear_value, without_values}
+use Rattle.prost_reflect_fields.specs.FieldSlots.{stored_at, has_value, put_value, with_value, clear_value, without_values}
 use Rattle.prost_reflect_fields.specs.Known.{oneof_of, are_siblings}
 use Rattle.prost_reflect_fields.specs.Members.{OnlyMember}
 use Rattle.prost_reflect_fields.specs.Noted.{is_noted, is_member_of, NotesOwn, AreNoted, without_noted}
 use Rattle.prost_reflect_fields.specs.Sound.{set_value_at}
-use Rattle.prost_reflect_fields.proofs.ItemChanges.{apart_of, put_same, put_apart, same_items}
-use Rattle.prost_reflect_fields.proofs.SlotChanges.{item_without, ascending_put, ascending_without_values, value_put_apart, without_none}
+use Rattle.prost_reflect_fields.proofs.ItemChanges.{apart_of, put_same, put_apart}
+use Rattle.prost_reflect_fields.proofs.SlotChanges.{ascending_put, value_put_apart, without_none}
 use Rattle.prost_reflect_fields.proofs.Siblings.{siblings_self}
 use Rattle.prost_reflect_fields.proofs.PresentSiblings.{others_are_siblings}
-use Rattle.prost_reflect_fields.proofs.OnlyMembers.{sibling_of, oneof_shared, nothing_there, other_cleared, none_other, only_put}
+use Rattle.prost_reflect_fields.proofs.OneofPlaces.{is_same}
+use Rattle.prost_reflect_fields.proofs.OnlyMembers.{sibling_of, oneof_shared, none_cleared, other_cleared, none_other, only_put}
 use Rattle.prost_reflect_fields.proofs.SoundChanges.{value_set_at, fewer_without, fewer_written}
 
 -- NOTES
@@ -42,10 +43,6 @@ own_put fields notes o n is own p m h = cases (nat_eq p o) refl
         let same : m ≡ n = eqb-true m n (sym (noted_put notes o n m) ∙ ap (λ z. is_noted (put_item notes o n) z m) (sym (eqb-true p o at)) ∙ h) in
         ap (λ z. same_oneof (oneof_of fields z) (Some p)) same ∙ ap (λ q. same_oneof q (Some p)) is ∙ eq-eqb o p (sym (eqb-true p o at))
     cases false at = own p m (sym (noted_put_apart notes o n p m at) ∙ h)
-
-in_oneof : (q : Option ℕ) (o : ℕ) → same_oneof q (Some o) ≡ true → q ≡ Some o
-in_oneof None o h = absurd (true≢false (sym h))
-in_oneof (Some i) o h = ap Some (eqb-true i o h)
 
 -- a number of no oneof has no siblings
 no_sibling : (fields : List Field) (n : ℕ) → numbers_differ fields ≡ true → None ≡ oneof_of fields n → (k : ℕ) → are_siblings fields n k ≡ false
@@ -96,14 +93,6 @@ module _ {V : Type 0} where
 
   -- A MEMBER
 
-  -- where none has a value, there is none to clear
-  none_cleared : (test : ℕ → Bool) (es : List (ℕ × FieldSlot V)) → IsAscending es → ((k : ℕ) → test k ≡ true → has_value es k ≡ false) → es ≡ without_values test es
-  none_cleared test es s none = same_items es (without_values test es) s (ascending_without_values test es s) (λ k. cases k (test k) refl ∙ sym (item_without test es k s))
-    where
-      cases : (k : ℕ) (b : Bool) → test k ≡ b → item_at es k ≡ cond b (option_and_then left_in (item_at es k)) (item_at es k)
-      cases k true is = sym (nothing_there (item_at es k) (none k is))
-      cases k false is = refl
-
   module _ (fields : List Field) (notes : List (ℕ × ℕ)) (es : List (ℕ × FieldSlot V)) (o n : ℕ) (v : V) (s : IsAscending es) (differ : numbers_differ fields ≡ true) (is : Some o ≡ oneof_of fields n) (noted : AreNoted fields (Some notes) es) where
     member_of : (k : ℕ) → are_siblings fields n k ≡ true → is_member_of fields o k ≡ true
     member_of k h = ap (λ q. same_oneof (oneof_of fields k) q) is ∙ oneof_shared fields n k differ h
@@ -151,7 +140,7 @@ module _ {V : Type 0} where
         cases : (p m : ℕ) → has_value (set_value_at fields es n v) m ≡ true → is_member_of fields p m ≡ true → (a b : Bool) → nat_eq m n ≡ a → nat_eq p o ≡ b → is_noted (put_item notes o n) p m ≡ true
         cases p m there member true true at same = ap (λ z. is_noted (put_item notes o n) z m) (eqb-true p o same) ∙ noted_put notes o n m ∙ at
         cases p m there member true false at other =
-            let one : Some p ≡ Some o = sym (in_oneof (oneof_of fields m) p member) ∙ ap (oneof_of fields) (eqb-true m n at) ∙ sym is in
+            let one : Some p ≡ Some o = sym (is_same (oneof_of fields m) p member) ∙ ap (oneof_of fields) (eqb-true m n at) ∙ sym is in
             absurd (true≢false (sym (same_number p o one) ∙ other))
           where
             same_number : (p o : ℕ) → Some p ≡ Some o → nat_eq p o ≡ true

@@ -129,7 +129,7 @@ member_own rows T i o f linked at is =
 
 -- THE ROW OF A ONEOF
 
-is_same : (a : Option ℕ) (o : ℕ) → same_oneof a (Some o) ≡ true → a ≡ Some o
+pub is_same : (a : Option ℕ) (o : ℕ) → same_oneof a (Some o) ≡ true → a ≡ Some o
 is_same None o h = absurd (true≢false (sym h))
 is_same (Some i) o h = ap Some (eqb-true i o h)
 

@@ -6,7 +6,7 @@ use Rattle.prost_reflect_wire.specs.Schema.{Field, same_oneof, numbers_differ}
 use Rattle.prost_reflect_fields.specs.declared.slot.FieldSlot.{FieldSlot}
 use Rattle.prost_reflect_fields.specs.declared.slot.FieldSlot.TheVariants.{Value, Unknown, Both}
 use Rattle.prost_reflect_fields.specs.Items.{IsAscending, item_at}
-use Rattle.prost_reflect_fields.specs.FieldSlots.{value_in, left_in, put_value, clear_value, without_values}
+use Rattle.prost_reflect_fields.specs.FieldSlots.{value_in, left_in, has_value, put_value, clear_value, without_values}
 use Rattle.prost_reflect_fields.specs.Known.{oneof_of, are_siblings}
 use Rattle.prost_reflect_fields.specs.Members.{OnlyMember}
 use Rattle.prost_reflect_fields.proofs.ItemChanges.{apart_of, same_items}
@@ -43,11 +43,19 @@ module _ {V : Type 0} where
 
   -- CLEARED
 
-  pub nothing_there : (o : Option (FieldSlot V)) → is_some (option_and_then value_in o) ≡ false → option_and_then left_in o ≡ o
+  nothing_there : (o : Option (FieldSlot V)) → is_some (option_and_then value_in o) ≡ false → option_and_then left_in o ≡ o
   nothing_there None h = refl
   nothing_there (Some (Value v)) h = absurd (true≢false h)
   nothing_there (Some (Unknown u)) h = refl
   nothing_there (Some (Both v u)) h = absurd (true≢false h)
+
+  -- where none has a value, there is none to clear
+  pub none_cleared : (test : ℕ → Bool) (es : List (ℕ × FieldSlot V)) → IsAscending es → ((k : ℕ) → test k ≡ true → has_value es k ≡ false) → es ≡ without_values test es
+  none_cleared test es s none = same_items es (without_values test es) s (ascending_without_values test es s) (λ k. cases k (test k) refl ∙ sym (item_without test es k s))
+    where
+      cases : (k : ℕ) (b : Bool) → test k ≡ b → item_at es k ≡ cond b (option_and_then left_in (item_at es k)) (item_at es k)
+      cases k true is = sym (nothing_there (item_at es k) (none k is))
+      cases k false is = refl
 
   module _ (fields : List Field) (es : List (ℕ × FieldSlot V)) (n k : ℕ) (s : IsAscending es) (only : OnlyMember fields es n k) where
     abbrev left : Bool → ℕ → Option (FieldSlot V)
@@ -69,12 +77,7 @@ module _ {V : Type 0} where
         cases j false at = other j (are_siblings fields n j) refl at
 
     pub none_other : nat_eq k n ≡ true → es ≡ without_values (are_siblings fields n) es
-    none_other same = same_items es (without_values (are_siblings fields n) es) s (ascending_without_values (are_siblings fields n) es s)
-        (λ j. cases j (are_siblings fields n j) refl ∙ sym (item_without (are_siblings fields n) es j s))
+    none_other same = none_cleared (are_siblings fields n) es s (λ j is. only.others j is (not_own j is))
       where
         not_own : (j : ℕ) → are_siblings fields n j ≡ true → nat_eq k j ≡ false
         not_own j is = ne_eqb k j (λ e. true≢false (sym is ∙ ap (are_siblings fields n) (sym e ∙ eqb-true k n same) ∙ siblings_self fields n))
-
-        cases : (j : ℕ) (b : Bool) → are_siblings fields n j ≡ b → item_at es j ≡ left b j
-        cases j true is = sym (nothing_there (item_at es j) (only.others j is (not_own j is)))
-        cases j false is = refl
