@@ -1,6 +1,8 @@
 -- What values and messages store, by variant, and the content that follows from it.
-use Rattle.std.proofs.Common.{◌≡◌, ℕ, Bool, true, false, not, ◌&&◌, nat_eq, List, [], ◌∷◌, map, refl, ap, ap₂, sym, ◌∙◌, string_bytes, true≢false}
+use Rattle.std.proofs.Common.{◌≡◌, ℕ, Bool, true, false, not, ◌&&◌, nat_eq, List, [], ◌∷◌, map, refl, ap, ap₂, sym, subst, ◌∙◌, string_bytes, true≢false}
 use Rattle.std.proofs.lemmas.Bool.{ne_eqb}
+use Rattle.std.proofs.lemmas.Bool.Decides.{Decides-and}
+use Rattle.std.specs.Bool.{Decides}
 use Rattle.std.specs.declared.alloc.Global.{Global}
 use Rattle.std.specs.Prelude.{◌↔◌, IsTrue, Vec, String as Text}
 use Rattle.std.specs.BTreeMap.{BTreeMap}
@@ -17,11 +19,10 @@ use Rattle.prost_reflect_wire.specs.Content.{Content}
 use Rattle.prost_reflect_tables.specs.Rows.{TableRows}
 use Rattle.prost_reflect_tables.specs.Equality.{rows_eq}
 use Rattle.prost_reflect_pool.specs.SharedPools.{pool_rows, pool_contents}
-use Rattle.prost_reflect_pool.specs.PoolEquality.{contents_eq}
+use Rattle.prost_reflect_pool.specs.PoolEquality.{contents_eq, contents_decide}
 use Rattle.prost_reflect_pool.specs.MessageTypes.{SameMessage}
-use Rattle.prost_reflect_pool.proofs.EqualTypes.{rows_follow, types_decide}
+use Rattle.prost_reflect_pool.proofs.EqualTypes.{rows_follow}
 use Rattle.prost_reflect_pool.specs.declared.pooled_type.PooledType.{PooledType}
-use Rattle.prost_reflect_pool.specs.contracts.pooled_type.PooledTypePartialEq.TheImpl as descriptor_code
 use Rattle.prost_reflect_dynamic.specs.contracts.value.MapKeyPartialEq.TheImpl as key_eq
 use Rattle.prost_reflect_dynamic.proofs.Keys.{keys_equal}
 use Rattle.prost_reflect_fields.specs.declared.slot.FieldSlot.{FieldSlot}
@@ -126,18 +127,22 @@ maps_equal v w a b r va wb is = is ∙ by_views v w (values.Map a) (values.Map b
 abbrev pub same_type : PooledType → PooledType → Bool
 same_type a b = (contents_eq (pool_contents a.pool) (pool_contents b.pool) && rows_eq (pool_rows a.pool) (pool_rows b.pool)) && nat_eq a.index b.index
 
-types_equal : (a b : PooledType) → (descriptor_code.ghosts).eq a b ≡ same_type a b
-types_equal a b = ap (λ t. t && nat_eq a.index b.index) (rows_follow a.pool b.pool)
+types_decide : (a b : PooledType) → Decides (same_type a b) ((pool_contents a.pool ≡ pool_contents b.pool) × (a.index ≡ b.index))
+types_decide a b =
+    let contents = contents_eq (pool_contents a.pool) (pool_contents b.pool) in
+    let of_pools = contents_decide (pool_contents a.pool) (pool_contents b.pool) in
+    subst (λ t. Decides (t && nat_eq a.index b.index) ((pool_contents a.pool ≡ pool_contents b.pool) × (a.index ≡ b.index))) (rows_follow a.pool b.pool)
+    (Decides-and contents (nat_eq a.index b.index) of_pools (unsigned_Decides a.index b.index))
 
 -- what is told of the pools' contents and the places is that test
 pub type_same : (a b : PooledType) (r : Bool) → (IsTrue r ↔ ((pool_contents b.pool ≡ pool_contents a.pool) × (b.index ≡ a.index))) → r ≡ same_type a b
 type_same a b r h = go r (same_type a b) refl refl
   where
     there : r ≡ true → same_type a b ≡ true
-    there same = let parts = h.0 same in sym (types_equal a b) ∙ (types_decide a b).1 (sym parts.0, sym parts.1)
+    there same = let parts = h.0 same in (types_decide a b).1 (sym parts.0, sym parts.1)
 
     back : same_type a b ≡ true → r ≡ true
-    back same = let parts = (types_decide a b).0 (types_equal a b ∙ same) in h.1 (sym parts.0, sym parts.1)
+    back same = let parts = (types_decide a b).0 same in h.1 (sym parts.0, sym parts.1)
 
     go : (x y : Bool) → r ≡ x → same_type a b ≡ y → r ≡ same_type a b
     go true y is other = is ∙ sym (there is)

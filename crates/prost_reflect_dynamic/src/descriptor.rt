@@ -11,7 +11,7 @@ mod files;
 pub(crate) mod forms;
 mod iter;
 mod kind;
-mod laws;
+pub(crate) mod laws;
 mod message;
 mod method;
 mod oneof;

@@ -7,6 +7,7 @@ mod descriptor;
 mod message;
 mod value;
 
+pub use descriptor::laws::descriptor_equality;
 pub use descriptor::{
     DescriptorPool, Descriptors, EnumDescriptor, EnumDescriptors, EnumReservedRanges,
     EnumValueDescriptor, EnumValueDescriptors, ExtensionDescriptor, ExtensionDescriptors,

@@ -1,10 +1,7 @@
--- Shared pools and message types are equal where the pools' files hold the same and the places are one.
-use Rattle.std.proofs.Common.{◌≡◌, Bool, true, false, ◌&&◌, nat_eq, refl, sym, ◌∙◌}
-use Rattle.std.specs.Bool.{Decides}
+-- Shared pools whose files hold the same have the same tables.
+use Rattle.std.proofs.Common.{◌≡◌, Bool, true, false, ◌&&◌, refl, sym, ◌∙◌}
 use Rattle.std.specs.declared.alloc.Global.{Global}
 use Rattle.std.specs.declared.rc.Rc.{Rc}
-use Rattle.std.specs.Cmp.{unsigned_Decides}
-use Rattle.std.proofs.lemmas.Bool.Decides.{Decides-and}
 use Rattle.prost_reflect_tables.specs.Equality.{rows_eq, rows_decide}
 use Rattle.prost_reflect_tables.proofs.Built.{linked_of}
 use Rattle.prost_reflect_tables.proofs.EqualFiles.{equal_tables}
@@ -13,8 +10,6 @@ use Rattle.prost_reflect_pool.specs.Pools as pools
 use Rattle.prost_reflect_pool.specs.Pools.{contents_of}
 use Rattle.prost_reflect_pool.specs.SharedPools.{pool_rows, pool_contents}
 use Rattle.prost_reflect_pool.specs.declared.pool.LinkedPool.{LinkedPool}
-use Rattle.prost_reflect_pool.specs.declared.pooled_type.PooledType.{PooledType}
-use Rattle.prost_reflect_pool.specs.contracts.pooled_type.PooledTypePartialEq.TheImpl as type_code
 
 pub rows_of_same : (a b : LinkedPool) → pools.pool_contents a ≡ pools.pool_contents b → pools.pool_rows a ≡ pools.pool_rows b
 unfolding contents_of
@@ -33,6 +28,3 @@ with_more true q h = sym (h refl)
 pub rows_follow : (a b : Rc LinkedPool Global) → contents_eq (pool_contents a) (pool_contents b) ≡ (contents_eq (pool_contents a) (pool_contents b) && rows_eq (pool_rows a) (pool_rows b))
 rows_follow a b = with_more (contents_eq (pool_contents a) (pool_contents b)) (rows_eq (pool_rows a) (pool_rows b))
     (λ yes. (rows_decide (pool_rows a) (pool_rows b)).1 (rows_same a b ((contents_decide (pool_contents a) (pool_contents b)).0 yes)))
-
-pub types_decide : (a b : PooledType) → Decides ((type_code.ghosts).eq a b) ((pool_contents a.pool ≡ pool_contents b.pool) × (a.index ≡ b.index))
-types_decide a b = Decides-and (contents_eq (pool_contents a.pool) (pool_contents b.pool)) (nat_eq a.index b.index) (contents_decide (pool_contents a.pool) (pool_contents b.pool)) (unsigned_Decides a.index b.index)

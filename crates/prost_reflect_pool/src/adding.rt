@@ -16,6 +16,7 @@ ghost use Rattle.prost_reflect_pool.specs.Pools.{files_of, IsPoolOf, RefusesFile
 
 use crate::LinkedPool;
 use crate::building::build_tables;
+use prost_reflect_identity::Identity;
 use prost_reflect_tables::{Catalog, PoolError, Tables, text_or_empty};
 use prost_reflect_types::FileDescriptorProto;
 use std::alloc::{AllocError, Global};
@@ -139,10 +140,12 @@ fn inner_of(alloc: Global, files: Vec<Rc<FileDescriptorProto>>) -> Result<Linked
     ensures stands { IfErr result (λ e. e ≢ pool_errors.OutOfMemory → Stands e (shared_files files.items) (flattened (shared_files files.items))) }
 {
     let (tables, catalog) = tables_of(alloc, files.as_slice())?;
+    let identity = Identity::of(&files);
     Ok(LinkedPool {
         files,
         tables,
         catalog,
+        identity,
     })
 }
 

@@ -1,12 +1,14 @@
 //! Pools.
 
 ghost use Rattle.std.specs.Prelude.{◌≡◌, [], IsTrue};
+ghost use Rattle.prost_reflect_identity.specs.Values.{value_of};
 ghost use Rattle.prost_reflect_types.specs.DescriptorViews.{shared_files};
 ghost use Rattle.prost_reflect_tables.specs.Built.{AreTablesOf};
 ghost use Rattle.prost_reflect_tables.specs.LinkedCatalog.{IsCatalogOf, catalog_prop};
 ghost use Rattle.prost_reflect_tables.specs.Schema.{rows_of};
 ghost use Rattle.prost_reflect_pool.specs.FileNames.{names_differ};
 
+use prost_reflect_identity::Identity;
 use prost_reflect_tables::{Catalog, SortedPlaces, Tables};
 use prost_reflect_types::FileDescriptorProto;
 use std::alloc::Global;
@@ -22,6 +24,9 @@ pub struct LinkedPool {
     pub(crate) tables: Tables,
     /// Their catalog.
     pub(crate) catalog: Catalog,
+    /// Tells by its place which files these are.
+    pub(crate) identity: Identity<Vec<Rc<FileDescriptorProto>>>,
+    pub ghost identified: { value_of identity ≡ files },
     pub ghost built: { AreTablesOf (shared_files files.items) (rows_of tables) },
     pub ghost listed: { IsCatalogOf (shared_files files.items) catalog } by { catalog_prop (shared_files files.items) catalog },
     pub ghost names: { IsTrue (names_differ (shared_files files.items)) },
@@ -36,9 +41,10 @@ impl PartialEq for LinkedPool {
 
     ghost laws = { on_per (λ inner. contents_of (shared_files inner.files.items)) (partial_equiv_from_equiv contents_equivalence) };
 
-    /// Whether the files hold the same, one by one; so their tables are the same, too.
+    /// Whether the files hold the same, one by one; so their tables are the same, too. Where two handles share one pool, its
+    /// identity tells, and no file is looked at.
     fn eq(&self, other: &LinkedPool) -> bool {
-        self.files == other.files
+        self.identity.is_same(&other.identity) || self.files == other.files
     }
 }
 
@@ -62,10 +68,12 @@ impl LinkedPool {
             enums: Vec::new(alloc),
         };
         let files = Vec::new(alloc);
+        let identity = Identity::of(&files);
         LinkedPool {
             files,
             tables,
             catalog: empty_catalog(alloc),
+            identity,
         }
     }
 

@@ -11,8 +11,8 @@ use std::rc::Rc;
 /// A message type of a shared pool.
 #[derive(PartialEq, Eq, Debug, Drop)]
 pub struct PooledType {
-    pool: Rc<LinkedPool>,
     index: usize,
+    pool: Rc<LinkedPool>,
     pub ghost in_range: { index < length (pool_rows pool).messages },
 }
 

@@ -13,8 +13,8 @@ use std::alloc::AllocError;
 /// A value of an enum.
 #[derive(PartialEq, Eq, Debug, Drop)]
 pub struct EnumValueDescriptor {
-    parent: EnumDescriptor,
     index: usize,
+    parent: EnumDescriptor,
     pub ghost in_range: { index < length (values_of parent) },
 }
 

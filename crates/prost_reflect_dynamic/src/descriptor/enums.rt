@@ -18,8 +18,8 @@ use std::alloc::AllocError;
 /// An enum of a pool.
 #[derive(PartialEq, Eq, Debug, Drop)]
 pub struct EnumDescriptor {
-    pool: DescriptorPool,
     index: usize,
+    pool: DescriptorPool,
     pub ghost in_range: { index < length (pool_rows pool.inner).enums },
 }
 

@@ -18,8 +18,8 @@ use std::alloc::{AllocError, Global};
 /// An extension of a message type (the proto2 guide, "Extensions").
 #[derive(PartialEq, Eq, Debug, Drop)]
 pub struct ExtensionDescriptor {
-    pool: DescriptorPool,
     index: usize,
+    pool: DescriptorPool,
     pub ghost in_range: { index < length (pool_catalog pool.inner).extensions },
 }
 

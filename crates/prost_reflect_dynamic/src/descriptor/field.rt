@@ -18,8 +18,8 @@ use std::alloc::{AllocError, Global};
 /// A field of a message type.
 #[derive(PartialEq, Eq, Debug, Drop)]
 pub struct FieldDescriptor {
-    message: MessageDescriptor,
     index: usize,
+    message: MessageDescriptor,
     pub ghost declared: { IsTrue (is_declared_at (descriptor_fields message) index) },
 }
 

@@ -27,8 +27,8 @@ pub enum Syntax {
 /// A file of a pool.
 #[derive(PartialEq, Eq, Debug, Drop)]
 pub struct FileDescriptor {
-    pool: DescriptorPool,
     index: usize,
+    pool: DescriptorPool,
     pub ghost in_range: { index < length (files_of pool.inner) },
 }
 

@@ -20,8 +20,8 @@ use std::alloc::AllocError;
 /// A message type of a pool.
 #[derive(PartialEq, Eq, Debug, Drop)]
 pub struct MessageDescriptor {
-    pool: DescriptorPool,
     index: usize,
+    pool: DescriptorPool,
     pub ghost in_range: { index < length (pool_rows pool.inner).messages },
 }
 

@@ -15,8 +15,8 @@ use std::alloc::AllocError;
 /// A method of a service.
 #[derive(PartialEq, Eq, Debug, Drop)]
 pub struct MethodDescriptor {
-    service: ServiceDescriptor,
     index: usize,
+    service: ServiceDescriptor,
     pub ghost in_range: { index < length (methods_of service) },
 }
 

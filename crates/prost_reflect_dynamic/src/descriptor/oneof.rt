@@ -16,8 +16,8 @@ use std::alloc::AllocError;
 /// A oneof of a message type (the proto3 guide, "Oneof").
 #[derive(PartialEq, Eq, Debug, Drop)]
 pub struct OneofDescriptor {
-    message: MessageDescriptor,
     index: usize,
+    message: MessageDescriptor,
     pub ghost in_range: { index < length (oneofs_of message) },
 }
 

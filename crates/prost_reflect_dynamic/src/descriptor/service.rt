@@ -14,8 +14,8 @@ use std::alloc::AllocError;
 /// A service of a pool (the language guide, "Defining Services").
 #[derive(PartialEq, Eq, Debug, Drop)]
 pub struct ServiceDescriptor {
-    pool: DescriptorPool,
     index: usize,
+    pool: DescriptorPool,
     pub ghost in_range: { index < length (pool_catalog pool.inner).services },
 }
 

@@ -233,6 +233,9 @@ impl DynamicMessage {
     /// defaults of fields that have no presence (the encoding guide, "Message Structure"). Each stored value has to fit its
     /// field, as in every message that `decode` gives; `is_encodable` tells. A message inside is written by its own type.
     ///
+    /// An output that has room for the encoding takes no further memory and keeps its capacity; so one output, cleared in
+    /// between, may serve for many messages.
+    ///
     /// # Errors
     ///
     /// `TooLong` if the encoding passes the greatest `usize`, `OutOfMemory` if memory runs out. In each case the output

@@ -127,7 +127,7 @@ fn are_equal_messages(a: &DynamicMessage, b: &DynamicMessage) -> bool
     others.next().is_none()
 }
 
-/// Whether two message types are one: their places first, since pools are compared file by file.
+/// Whether two message types are one: their places first, since two pools are compared file by file.
 fn are_equal_types(a: &PooledType, b: &PooledType) -> bool
     ensures { IsTrue result ↔ ((pool_contents b.now.pool ≡ pool_contents a.now.pool) × (b.now.index ≡ a.now.index)) }
 {

@@ -15,21 +15,23 @@ use crate::message::DynamicMessage;
 use crate::message::encodable::takes_value;
 use crate::value::Value;
 use prost_reflect_pool::LinkedPool;
-use prost_reflect_tables::{FieldTable, TableKind};
+use prost_reflect_tables::TableKind;
 use std::alloc::AllocError;
-use std::error::Error;
 use std::fmt;
+use thiserror::Error;
 
 /// Why a field is not set.
 ///
 /// Its text is `field not found`, `expected a value of type 'T'` or `out of memory`. `T` is the name of the field's kind,
 /// as `int32` or the full name of its message type or enum; that of a list is as `repeated int32`, and that of a map as
 /// `map<string, int32>`.
-#[derive(Debug, PartialEq, Drop)]
+#[derive(Debug, PartialEq, Drop, Error)]
 pub enum SetFieldError {
     /// The message type has no such field.
+    #[error("field not found")]
     NotFound,
     /// The field does not take the value.
+    #[error("expected a value of type '{}'", FieldType(.field))]
     InvalidType {
         /// The field that was to be set.
         field: FieldDescriptor,
@@ -37,6 +39,7 @@ pub enum SetFieldError {
         value: Value,
     },
     /// Out of memory.
+    #[error("out of memory")]
     OutOfMemory,
 }
 
@@ -65,41 +68,28 @@ impl From<AllocError> for SetFieldError {
     }
 }
 
-impl fmt::Display for SetFieldError {
+/// The type of a field, whose text is its kind's name, `repeated` and that name for a list, or `map` with the names of both
+/// kinds for a map.
+#[derive(Clone, Copy)]
+struct FieldType<'a>(&'a FieldDescriptor);
+
+impl<'a> fmt::Display for FieldType<'a> {
     fn fmt<W: fmt::Write>(&self, f: &mut fmt::Formatter<W>) -> fmt::Result {
-        match self {
-            SetFieldError::NotFound => f.write_str("field not found"),
-            SetFieldError::InvalidType { field, .. } => {
-                f.write_str("expected a value of type '")?;
-                write_type(f, &field.parent_pool().inner, field.table())?;
-                f.write_str("'")
+        let pool = &self.0.parent_pool().inner;
+        let field = self.0.table();
+        match pool.map_parts(field) {
+            Some((key, value)) => write!(
+                f,
+                "map<{}, {}>",
+                kind_name(pool, key.kind),
+                kind_name(pool, value.kind)
+            ),
+            None => {
+                if field.cardinality.is_repeated() {
+                    f.write_str("repeated ")?;
+                }
+                f.write_str(kind_name(pool, field.kind))
             }
-            SetFieldError::OutOfMemory => f.write_str("out of memory"),
-        }
-    }
-}
-
-impl Error for SetFieldError {}
-
-/// Writes the type of a field: its kind's name, `repeated` and that name for a list, or `map` with the names of both kinds
-/// for a map.
-fn write_type<W: fmt::Write>(
-    f: &mut fmt::Formatter<W>,
-    pool: &LinkedPool,
-    field: &FieldTable,
-) -> fmt::Result {
-    match pool.map_parts(field) {
-        Some((key, value)) => write!(
-            f,
-            "map<{}, {}>",
-            kind_name(pool, key.kind),
-            kind_name(pool, value.kind)
-        ),
-        None => {
-            if field.cardinality.is_repeated() {
-                f.write_str("repeated ")?;
-            }
-            f.write_str(kind_name(pool, field.kind))
         }
     }
 }

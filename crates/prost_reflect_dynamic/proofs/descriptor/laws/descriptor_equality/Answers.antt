@@ -14,13 +14,19 @@ use Rattle.prost_reflect_dynamic.specs.contracts.descriptor.enums.EnumDescriptor
 use Rattle.prost_reflect_dynamic.specs.contracts.descriptor.service.ServiceDescriptorPartialEq.TheImpl as service_code
 use Rattle.prost_reflect_dynamic.proofs.descriptor.laws.descriptor_equality.Goals as goal
 
--- Of two pools and places in them.
-in_pools : (p q : DescriptorPool) (i j : ℕ) → Decides (contents_eq (pool_contents p.inner) (pool_contents q.inner) && nat_eq i j) ((pool_contents p.inner ≡ pool_contents q.inner) × (i ≡ j))
-in_pools p q i j = Decides-and (contents_eq (pool_contents p.inner) (pool_contents q.inner)) (nat_eq i j) (contents_decide (pool_contents p.inner) (pool_contents q.inner)) (unsigned_Decides i j)
+-- Places are compared first, and then what they are places of.
+places_first : {P : Type 0} (is_equal : Bool) (i j : ℕ) → Decides is_equal P → Decides (nat_eq i j && is_equal) (P × (i ≡ j))
+places_first is_equal i j decides =
+    let both = Decides-and (nat_eq i j) is_equal (unsigned_Decides i j) decides in
+    (λ yes. ((both.0 yes).1, (both.0 yes).0), λ same. both.1 (same.1, same.0))
 
--- Of places in what is compared already.
-inside : (is_equal : Bool) (i j : ℕ) → Decides (is_equal && nat_eq i j) (IsTrue is_equal × (i ≡ j))
-inside is_equal i j = Decides-and is_equal (nat_eq i j) (λ yes. yes, λ yes. yes) (unsigned_Decides i j)
+-- Of places in two pools.
+in_pools : (p q : DescriptorPool) (i j : ℕ) → Decides (nat_eq i j && contents_eq (pool_contents p.inner) (pool_contents q.inner)) ((pool_contents p.inner ≡ pool_contents q.inner) × (i ≡ j))
+in_pools p q i j = places_first (contents_eq (pool_contents p.inner) (pool_contents q.inner)) i j (contents_decide (pool_contents p.inner) (pool_contents q.inner))
+
+-- Of places in what has an equality of its own.
+inside : (is_equal : Bool) (i j : ℕ) → Decides (nat_eq i j && is_equal) (IsTrue is_equal × (i ≡ j))
+inside is_equal i j = places_first is_equal i j (λ yes. yes, λ yes. yes)
 
 pub returns-clause-pool : goal.returns-clause-pool
 unfolding contents_of

@@ -1,0 +1,4 @@
+mod Flags
+mod Numbers
+mod Opened
+mod Walks
