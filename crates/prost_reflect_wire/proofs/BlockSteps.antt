@@ -1,5 +1,5 @@
 -- Buffers in front of one another.
-use Rattle.std.proofs.Common.{◌≡◌, ℕ, ◌^◌, ◌<◌, List, [], ◌∷◌, ◌++◌, length, sym, ap, ◌∙◌, arith, append_assoc, append-nil, length-append}
+use Rattle.std.proofs.Common.{◌≡◌, ℕ, suc, zero, ◌+◌, ◌-◌, ◌^◌, ◌<◌, ◌≤◌, List, [], ◌∷◌, ◌++◌, length, drop, slice_index_or, sym, ap, ◌∙◌, arith, append_assoc, append-nil, length-append}
 use Rattle.std.proofs.lemmas.List.{length-drop}
 use Rattle.prost_reflect_wire.specs.declared.buffer.BackBuffer.{BackBuffer}
 use Rattle.prost_reflect_wire.specs.declared.blocks.Blocks.{Blocks}
@@ -27,3 +27,18 @@ pub put_bytes : (old : Blocks) (full first next : BackBuffer) (news : List BackB
 put_bytes old full first next news same is items =
     ap (λ (b : BackBuffer). bytes_of b ++ joined news) same
     ∙ ap (λ (l : List ℕ). bytes_of next ++ l) (ap joined items ∙ joined_more old.behind.items full ∙ ap (λ (b : BackBuffer). bytes_of b ++ joined old.behind.items) is)
+
+-- ROOM FOR ONE BUFFER OF SEVERAL
+
+-- a buffer and those that were filled later are no more than all
+at_fits : (bs : List BackBuffer) (i : ℕ) (b : BackBuffer) → i < length bs → b ≡ slice_index_or bs i b → length (joined (drop (suc i) bs)) + length (bytes_of b) ≤ length (joined bs)
+at_fits [] i b low is = absurd (omega (arith, low))
+at_fits (a ∷ bs) zero b low is = omega (arith, length-append (joined bs) (bytes_of a), ap (λ (x : BackBuffer). length (bytes_of x)) is)
+at_fits (a ∷ bs) (suc i) b low is = omega (arith, length-append (joined bs) (bytes_of a), at_fits bs i b (omega (arith, low)) is)
+
+suc_less : (i : ℕ) → suc i - 1 ≡ i
+suc_less i = omega arith
+
+pub block_fits : (bs : List BackBuffer) (n : ℕ) (b : BackBuffer) → 0 < n → n ≤ length bs → b ≡ slice_index_or bs (n - 1) b → length (joined (drop n bs)) + length (bytes_of b) ≤ length (joined bs)
+block_fits bs zero b some high is = absurd (omega (arith, some))
+block_fits bs (suc i) b some high is = at_fits bs i b (omega (arith, high)) (is ∙ ap (λ (k : ℕ). slice_index_or bs k b) (suc_less i))

@@ -1,6 +1,6 @@
 //! Buffers in front of one another, so that room is taken without moving what is there.
 
-ghost use Rattle.std.specs.Prelude.{◌≡◌, ◌<◌, ◌^◌, length};
+ghost use Rattle.std.specs.Prelude.{◌≡◌, ◌≤◌, ◌<◌, ◌+◌, ◌^◌, ◌++◌, length, vec_len, vec_capacity};
 ghost use Rattle.prost_reflect_wire.specs.Buffer.{joined};
 
 use crate::buffer::BackBuffer;
@@ -31,7 +31,7 @@ pub(crate) struct Blocks {
 }
 
 impl Blocks {
-    ghost use Rattle.std.specs.Prelude.{◌≡◌, ◌++◌, [], OnOk, OnErr, IfOk, IfErr};
+    ghost use Rattle.std.specs.Prelude.{[], IsOk, OnOk, OnErr, IfErr};
     ghost use Rattle.prost_reflect_wire.specs.Varint.{short};
     ghost use Rattle.prost_reflect_wire.specs.Buffer.{bytes_of, Prepended};
     ghost use Rattle.prost_reflect_wire.specs.Blocks.{bytes_in};
@@ -137,19 +137,18 @@ impl Blocks {
         self.front.prepend_varint(value)
     }
 
-    /// The bytes end to end, in one allocation.
-    fn to_vec(&self) -> Result<Vec<u8>, AllocError>
-        ensures { IfOk result (λ whole. whole.items ≡ bytes_in self.now) }
+    /// Appends the bytes to an output that has room for them, block by block.
+    fn append_within(&self, out: &mut Vec<u8>)
+        requires { vec_len out.old + length (bytes_in self.now) ≤ vec_capacity out.old }
+        ensures { out.new.items ≡ out.old.items ++ bytes_in self.now }
     {
-        let mut whole = Vec::with_capacity(self.front.allocator(), self.len())?;
-        whole.extend_from_slice(self.front.as_slice())?;
+        append_slice(out, self.front.as_slice());
         for index in (0..self.behind.len()).rev() {
-            whole.extend_from_slice(self.behind[index].as_slice())?;
+            append_slice(out, self.behind[index].as_slice());
         }
-        Ok(whole)
     }
 
-    /// Appends the bytes to the output, which grows at most once. An empty output is replaced by them.
+    /// Appends the bytes to the output. Where its room is too small for them, it grows once, before any is written.
     ///
     /// # Errors
     ///
@@ -157,12 +156,19 @@ impl Blocks {
     pub(crate) fn append_to(&self, out: &mut Vec<u8>) -> Result<(), AllocError>
         ensures ok { OnOk result (out.new.items ≡ out.old.items ++ bytes_in self.now) }
         ensures err { OnErr result (out.new.items ≡ out.old.items) }
+        ensures succeeds { vec_len out.old + length (bytes_in self.now) ≤ vec_capacity out.old → IsOk result }
     {
-        let whole = self.to_vec()?;
-        if out.is_empty() {
-            *out = whole;
-            return Ok(());
-        }
-        out.extend_from_slice(whole.as_slice())
+        out.reserve(self.len())?;
+        self.append_within(out);
+        Ok(())
     }
+}
+
+/// Appends the bytes to an output that has room for them.
+fn append_slice(out: &mut Vec<u8>, bytes: &[u8])
+    requires { vec_len out.old + length bytes.now ≤ vec_capacity out.old }
+    ensures items { out.new.items ≡ out.old.items ++ bytes.now }
+    ensures capacity { vec_capacity out.old ≤ vec_capacity out.new }
+{
+    let _appended = out.extend_from_slice(bytes);
 }
