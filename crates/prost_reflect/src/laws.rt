@@ -1,4 +1,5 @@
-//! Laws of the views of messages: each function has no body, and its contract is a law.
+//! Laws of messages, of descriptors and of keys: each function has no body, and its contract is a law, which a function that
+//! calls it may use.
 
 ghost use Rattle.prost_reflect_dynamic.specs.ContentLaws.{ValueViews, MessageSlots, MessageOrder, SlotsAfterSet, SlotsAfterClear, SlotsAfterUnknown, SlotsDetermine, MapInsert};
 ghost use Rattle.prost_reflect.specs.LawInstances.{OfContentLaws, OfKeptLaws, OfDepth};
@@ -13,6 +14,7 @@ ghost use Rattle.prost_reflect_dynamic.specs.Variants.{key_in};
 ghost use Rattle.prost_reflect_dynamic.specs.declared.value.MapKey.{MapKey};
 
 use prost_reflect_dynamic::MapKey;
+pub use prost_reflect_dynamic::descriptor_equality;
 use std::hash::Hash;
 
 /// What each variant of a value is in the definitions.

@@ -20,7 +20,7 @@
 //! ```
 #![tactic(auto)]
 
-mod laws;
+pub mod laws;
 mod like;
 mod relaying;
 

@@ -57,6 +57,7 @@ pool_refused set name digits path text refusals.Name is = absurd is
 pool_refused set name digits path text refusals.Hex is = inl is
 pool_refused set name digits path text refusals.Number is = absurd is
 pool_refused set name digits path text refusals.Value is = absurd is
+pool_refused set name digits path text refusals.ValueUnread is = absurd is
 pool_refused set name digits path text (refusals.Decode e) is = absurd is
 pool_refused set name digits path text (refusals.Encode e) is = absurd is
 pool_refused set name digits path text refusals.Memory is = inl tt
@@ -86,6 +87,7 @@ module _ (set name digits path text : List ℕ) (pool : LinkedPool) (made : IsPo
   bytes_refused bytes asked refusals.Hex is = absurd is
   bytes_refused bytes asked refusals.Number is = record { pool = pool; made = made; message_type = T; bytes = bytes; asked = asked; refuses = is }
   bytes_refused bytes asked refusals.Value is = record { pool = pool; made = made; message_type = T; bytes = bytes; asked = asked; refuses = is }
+  bytes_refused bytes asked refusals.ValueUnread is = record { pool = pool; made = made; message_type = T; bytes = bytes; asked = asked; refuses = is }
   bytes_refused bytes asked (refusals.Decode e) is = record { pool = pool; made = made; message_type = T; bytes = bytes; asked = asked; refuses = is }
   bytes_refused bytes asked (refusals.Encode e) is = record { pool = pool; made = made; message_type = T; bytes = bytes; asked = asked; refuses = is }
   bytes_refused bytes asked refusals.Memory is = inl tt

@@ -63,6 +63,7 @@ pool_refused set name digits refusals.Name is = absurd is
 pool_refused set name digits refusals.Hex is = inl is
 pool_refused set name digits refusals.Number is = absurd is
 pool_refused set name digits refusals.Value is = absurd is
+pool_refused set name digits refusals.ValueUnread is = absurd is
 pool_refused set name digits (refusals.Decode e) is = absurd is
 pool_refused set name digits (refusals.Encode e) is = absurd is
 pool_refused set name digits refusals.Memory is = inl tt

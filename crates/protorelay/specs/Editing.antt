@@ -27,7 +27,7 @@ use Rattle.prost_reflect.specs.declared.relaying.edit.RelayWithError.TheVariants
 use Rattle.protorelay.specs.Sets.{IsPoolOfSet}
 use Rattle.protorelay.specs.Reading.{IsAsked, Refuses, decode_refusal, encode_refusal}
 use Rattle.protorelay.specs.declared.refusal.Refusal.{Refusal}
-use Rattle.protorelay.specs.declared.refusal.Refusal.TheVariants.{Number, Value as NoValue, Decode, Encode, Memory}
+use Rattle.protorelay.specs.declared.refusal.Refusal.TheVariants.{Number, Value as NoValue, ValueUnread, Decode, Encode, Memory}
 
 -- PATHS
 
@@ -92,10 +92,11 @@ pub record IsEdited (set name digits path text line : List ℕ) : Type 0 where
 
 -- WHAT IS REFUSED
 
--- The path leads to no field, or the text spells no value of the field to which it leads.
+-- The path leads to no field; or the text spells no value of the field to which it leads, or is not read for want of memory.
 abbrev pub RefusesChange : TableRows → ℕ → (path text : List ℕ) → Refusal → Type 0
 RefusesChange rows T path text Number = field_found rows T path ≡ None
 RefusesChange rows T path text NoValue = (field_found rows T path ≢ None) × (value_found rows T path text ≡ None)
+RefusesChange rows T path text ValueUnread = field_found rows T path ≢ None
 RefusesChange rows T path text Memory = ⊤
 RefusesChange rows T path text refusal = ⊥
 
@@ -130,6 +131,7 @@ pub record RefusesAsked (set name digits path text : List ℕ) (refusal : Refusa
 abbrev pub RefusesEdit : (set name digits path text : List ℕ) → Refusal → Type 0
 RefusesEdit set name digits path text Number = RefusesAsked set name digits path text Number
 RefusesEdit set name digits path text NoValue = RefusesAsked set name digits path text NoValue
+RefusesEdit set name digits path text ValueUnread = RefusesAsked set name digits path text ValueUnread
 RefusesEdit set name digits path text (Decode e) = RefusesAsked set name digits path text (Decode e)
 RefusesEdit set name digits path text (Encode e) = RefusesAsked set name digits path text (Encode e)
 RefusesEdit set name digits path text refusal = Refuses set name digits refusal

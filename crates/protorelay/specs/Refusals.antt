@@ -7,7 +7,7 @@ use Rattle.prost_reflect_wire.specs.declared.error.EncodeError.TheVariants as en
 use Rattle.prost_reflect_tables.specs.declared.error.PoolError.{PoolError}
 use Rattle.prost_reflect_tables.specs.declared.error.PoolError.TheVariants as pool_errors
 use Rattle.protorelay.specs.declared.refusal.Refusal.{Refusal}
-use Rattle.protorelay.specs.declared.refusal.Refusal.TheVariants.{Set, Pool, Name, Hex, Number, Value, Decode, Encode, Memory}
+use Rattle.protorelay.specs.declared.refusal.Refusal.TheVariants.{Set, Pool, Name, Hex, Number, Value, ValueUnread, Decode, Encode, Memory}
 
 abbrev pub decode_name : DecodeError → List ℕ
 decode_name decode_errors.Truncated = codes "Truncated"
@@ -53,6 +53,7 @@ refusal_line Name = codes "refused name"
 refusal_line Hex = codes "refused hex"
 refusal_line Number = codes "refused number"
 refusal_line Value = codes "refused value"
+refusal_line ValueUnread = codes "refused value"
 refusal_line (Decode e) = codes "refused decode " ++ decode_name e
 refusal_line (Encode e) = codes "refused encode " ++ encode_name e
 refusal_line Memory = codes "refused memory"

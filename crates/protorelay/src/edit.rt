@@ -18,7 +18,7 @@ use std::alloc::Global;
 /// # Errors
 ///
 /// The first step that fails: `Hex`, `Set` or `Pool` of the set, `Name`, `Hex` of the message, `Number` of the path,
-/// `Value` of the text, `Decode`, `Encode`; or `Memory`, wherever memory runs out.
+/// `Value` of the text, `Decode`, `Encode`. Where memory runs out, `ValueUnread` in reading the text, and else `Memory`.
 pub fn edit(
     alloc: Global,
     set: &str,
@@ -72,9 +72,9 @@ fn change(
     let Some(field) = found else {
         return Err(Refusal::Number);
     };
-    let read = value_for(alloc, &field, text)?;
-    match read {
-        Some(value) => Ok((numbers, value)),
-        None => Err(Refusal::Value),
+    match value_for(alloc, &field, text) {
+        Ok(Some(value)) => Ok((numbers, value)),
+        Ok(None) => Err(Refusal::Value),
+        Err(refusal) => Err(refusal),
     }
 }

@@ -1,12 +1,14 @@
 //! The numbers that a path spells, and the value of a field that a text spells.
 
-ghost use Rattle.std.specs.Prelude.{◌≡◌, IfOk, option_map};
+ghost use Rattle.std.specs.Prelude.{◌≡◌, ◌⊎◌, IfOk, IfErr, option_map};
 ghost use Rattle.prost_reflect_wire.specs.Varint.{◌>>=◌ as and_then};
 ghost use Rattle.prost_reflect_pool.specs.SharedPools.{pool_rows};
 ghost use Rattle.prost_reflect_dynamic.specs.NamedField as named;
 ghost use Rattle.prost_reflect_dynamic.specs.View.{value_of};
 ghost use Rattle.protorelay.specs.Editing.{number_in, number_spelled, path_spelled, text_value};
+ghost use Rattle.protorelay.specs.declared.refusal.Refusal.TheVariants as refusals;
 
+use crate::refusal::Refusal;
 use prost_reflect::{FieldDescriptor, Value};
 use prost_reflect_tables::{TableKind, WrittenDefault, written_default};
 use std::alloc::{AllocError, Global};
@@ -47,15 +49,22 @@ fn number_in(default: WrittenDefault) -> Option<u32>
 }
 
 /// The value that the text spells, if the field takes it: a list, a map, a message and a group take none.
+///
+/// # Errors
+///
+/// `ValueUnread` if memory runs out where the text is read, and `Memory` if it does before.
 pub fn value_for(
     alloc: Global,
     field: &FieldDescriptor,
     text: &str,
-) -> Result<Option<Value>, AllocError>
-    ensures { IfOk result (λ value. option_map value_of value ≡ and_then (named.row_at field.now) (λ f. text_value (pool_rows field.now.message.pool.inner) f text.now)) }
+) -> Result<Option<Value>, Refusal>
+    ensures value { IfOk result (λ value. option_map value_of value ≡ and_then (named.row_at field.now) (λ f. text_value (pool_rows field.now.message.pool.inner) f text.now)) }
+    ensures refused { IfErr result (λ refusal. (refusal ≡ refusals.ValueUnread) ⊎ (refusal ≡ refusals.Memory)) }
 {
     let kind = field.kind()?;
-    let read = Value::from_text(alloc, &kind, text)?;
+    let Ok(read) = Value::from_text(alloc, &kind, text) else {
+        return Err(Refusal::ValueUnread);
+    };
     let Some(value) = read else {
         return Ok(None);
     };

@@ -28,6 +28,8 @@ pub enum Refusal {
     Number,
     /// The text spells no value that the field takes; a list, a map, a message or a group takes none.
     Value,
+    /// Out of memory where the text was read, so its value is not known. The line is that of `Value`.
+    ValueUnread,
     /// The type does not accept the bytes. Out of memory is `Memory`.
     Decode(DecodeError),
     /// The message is not written. Out of memory is `Memory`.
@@ -46,7 +48,7 @@ impl fmt::Display for Refusal {
             Refusal::Name => write!(f, "refused name"),
             Refusal::Hex => write!(f, "refused hex"),
             Refusal::Number => write!(f, "refused number"),
-            Refusal::Value => write!(f, "refused value"),
+            Refusal::Value | Refusal::ValueUnread => write!(f, "refused value"),
             Refusal::Decode(fault) => write!(f, "refused decode {}", decode_name(fault)),
             Refusal::Encode(fault) => write!(f, "refused encode {}", encode_name(fault)),
             Refusal::Memory => write!(f, "refused memory"),
