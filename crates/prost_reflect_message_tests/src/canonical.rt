@@ -1,5 +1,6 @@
 //! Messages that are made in different ways, and are written the same.
 
+use crate::contents::is_shown;
 use crate::worked::{is_written, is_written_as, worked_type};
 use prost_reflect::{DynamicMessage, MapKey, Value};
 use std::alloc::{AllocError, Global};
@@ -14,22 +15,77 @@ fn reset(alloc: Global) -> Result<DynamicMessage, Fail> {
     Ok(message)
 }
 
-/// Whether nothing is written of the one message nor of the other, though they differ.
+/// Whether nothing is written nor present of the message, and its field 1 is 0.
+fn has_nothing(alloc: Global, message: &DynamicMessage) -> Result<bool, Fail> {
+    let is_zero = match message.get_field_by_number(alloc, 1)? {
+        Some(value) => value.as_i32() == Some(0),
+        None => false,
+    };
+    Ok(is_zero && is_written(alloc, message, &[])? && is_shown(alloc, message, "")?)
+}
+
+/// Whether both messages have nothing, though what they store differs.
 fn differ_by_default(
     alloc: Global,
     set: &DynamicMessage,
     fresh: &DynamicMessage,
 ) -> Result<bool, Fail> {
-    Ok(*set != *fresh && is_written(alloc, set, &[])? && is_written(alloc, fresh, &[])?)
+    Ok(*set != *fresh && has_nothing(alloc, set)? && has_nothing(alloc, fresh)?)
 }
 
-/// A default without presence is stored, and nothing is written of it.
+/// A default without presence is stored and is no value, and nothing is written of it.
 #[test]
 fn a_stored_default_is_written_as_none(rt: HostRuntime) -> Result<(), Fail> {
     let alloc = rt.alloc();
     let fresh = DynamicMessage::new(alloc, worked_type(alloc, "package.MyMessage")?);
     let set = reset(alloc)?;
     assert!(rt; differ_by_default(alloc, &set, &fresh)?);
+    Ok(())
+}
+
+/// The message of the worked type of a name that the digits mean.
+fn decoded(alloc: Global, name: &str, digits: &str) -> Result<DynamicMessage, Fail> {
+    let bytes = hex::decode(alloc, digits)?;
+    Ok(DynamicMessage::decode(alloc, worked_type(alloc, name)?, bytes.as_slice())?)
+}
+
+/// A message of `MyMessage` whose field 3 holds a message of the worked type of a name that the digits mean.
+fn around(alloc: Global, name: &str, digits: &str) -> Result<DynamicMessage, Fail> {
+    let mut message = DynamicMessage::new(alloc, worked_type(alloc, "package.MyMessage")?);
+    message.try_set_field_by_number(3, Value::Message(decoded(alloc, name, digits)?))?;
+    Ok(message)
+}
+
+/// Whether the message is typed or not, is written as the digits, and shown as the text.
+fn is_written_and_shown(
+    alloc: Global,
+    message: &DynamicMessage,
+    typed: bool,
+    (digits, text): (&str, &str),
+) -> Result<bool, Fail> {
+    Ok(
+        message.is_typed() == typed
+            && is_written_as(alloc, message, digits)?
+            && is_shown(alloc, message, text)?,
+    )
+}
+
+/// Whether the message is the one that the digits mean.
+fn is_decoded(alloc: Global, message: &DynamicMessage, digits: &str) -> Result<bool, Fail> {
+    Ok(*message == decoded(alloc, "package.MyMessage", digits)?)
+}
+
+/// A message inside is written by its own type. So one that is not of its field's type may be written as one that is, though
+/// what they mean differs.
+#[test]
+fn an_untyped_message_is_written_as_a_typed_one(rt: HostRuntime) -> Result<(), Fail> {
+    let alloc = rt.alloc();
+    let other = around(alloc, "b.Foo", "0801")?;
+    assert!(rt; is_written_and_shown(alloc, &other, false, ("1a020801", "3={1=[1 ] } "))?);
+    assert!(rt; !is_decoded(alloc, &other, "1a020801")?);
+    let own = around(alloc, "package.MyMessage", "0801")?;
+    assert!(rt; is_written_and_shown(alloc, &own, true, ("1a020801", "3={1=1 } "))?);
+    assert!(rt; is_decoded(alloc, &own, "1a020801")?);
     Ok(())
 }
 

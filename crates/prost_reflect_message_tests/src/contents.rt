@@ -173,7 +173,18 @@ fn write_message(out: &mut String, message: &DynamicMessage) -> Result<(), Alloc
 
 fn write_member(out: &mut String, number: u32, value: &Value) -> Result<(), AllocError> {
     write!(out, "{number}=")?;
-    write_scalar(out, value)
+    match value.as_list() {
+        Some(items) => write_scalars(out, items),
+        None => write_scalar(out, value),
+    }
+}
+
+fn write_scalars(out: &mut String, items: &[Value]) -> Result<(), AllocError> {
+    out.push('[')?;
+    for item in items {
+        write_scalar(out, item)?;
+    }
+    out.push_str("] ")
 }
 
 fn write_scalar(out: &mut String, value: &Value) -> Result<(), AllocError> {

@@ -6,6 +6,8 @@ mod canonical;
 #[cfg(test)]
 mod contents;
 #[cfg(test)]
+mod every;
+#[cfg(test)]
 mod large;
 #[cfg(test)]
 mod levels;

@@ -15,7 +15,11 @@ mod descriptors;
 #[cfg(test)]
 mod found;
 #[cfg(test)]
+mod handles;
+#[cfg(test)]
 mod lookups;
+#[cfg(test)]
+mod many;
 #[cfg(test)]
 mod named;
 #[cfg(test)]

@@ -120,6 +120,36 @@ fn options_are_those_of_each_definition(rt: HostRuntime) -> Result<(), Fail> {
     Ok(())
 }
 
+/// `o.proto` with the same definitions, of which none has options.
+static BARE: &[u8] =
+    b"\x0ah\x0a\x07o.proto\x12\x01o\"'\x0a\x01M\x12\x09\x0a\x01f\x18\x01 \x01(\x05\x12\x0b\x0a\x01g\x18\x02 \x01(\x05\
+    H\x00*\x05\x08d\x10\xc8\x01B\x03\x0a\x01c*\x0a\x0a\x01E\x12\x05\x0a\x01A\x10\x002\x14\x0a\x01S\x12\x0f\x0a\x01R\
+    \x12\x04.o.M\x1a\x04.o.M:\x0f\x0a\x01x\x12\x04.o.M\x18d \x01(\x05";
+
+/// A definition of `o.proto`, and the type of its options.
+static TYPES: [(&str, &str); 10] = [
+    ("o.proto", "FileOptions"),
+    ("M", "MessageOptions"),
+    ("f", "FieldOptions"),
+    ("g", "FieldOptions"),
+    ("x", "FieldOptions"),
+    ("c", "OneofOptions"),
+    ("E", "EnumOptions"),
+    ("A", "EnumValueOptions"),
+    ("S", "ServiceOptions"),
+    ("R", "MethodOptions"),
+];
+
+/// The options of a definition that has none are empty.
+#[test]
+fn definitions_without_options_have_empty_ones(rt: HostRuntime) -> Result<(), Fail> {
+    let pool = with_added(rt.alloc(), SCHEMA, BARE)?;
+    for (name, text) in TYPES {
+        assert!(rt; has_options(rt.alloc(), &pool, name, text)?, "{name}");
+    }
+    Ok(())
+}
+
 /// `message M { option deprecated = true; optional int32 a = 1; }` in `p`.
 static USER: &[u8] =
     b"\x0a&\x0a\x0auser.proto\x12\x01p\"\x15\x0a\x01M\x12\x0c\x0a\x01a\x18\x01 \x01(\x05R\x01a:\x02\

@@ -1,5 +1,6 @@
-//! What the tests of several crates begin with: descriptor sets, and a list of calls.
+//! What the tests of several crates begin with: descriptor sets, messages, and a list of calls.
 #![tactic(auto)]
 
 pub mod calls;
+pub mod every;
 pub mod sets;

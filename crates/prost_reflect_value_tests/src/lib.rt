@@ -6,6 +6,10 @@ mod defaults;
 #[cfg(test)]
 mod equality;
 #[cfg(test)]
+mod forms;
+#[cfg(test)]
+mod kinds;
+#[cfg(test)]
 mod lengths;
 #[cfg(test)]
 mod like;
@@ -13,6 +17,8 @@ mod like;
 mod present;
 #[cfg(test)]
 mod setting;
+#[cfg(test)]
+mod shown;
 #[cfg(test)]
 mod texts;
 #[cfg(test)]

@@ -61,6 +61,14 @@ pub(crate) fn named_field(
     Ok(descriptor.get_field_by_name(name)?.ok_or("no such field")?)
 }
 
+/// The field of a number of a message type.
+pub(crate) fn every_field(
+    descriptor: &MessageDescriptor,
+    number: u32,
+) -> Result<FieldDescriptor, Fail> {
+    Ok(descriptor.get_field(number)?.ok_or("no such field")?)
+}
+
 /// The field of a name of the message's own type.
 pub(crate) fn own_field(message: &DynamicMessage, name: &str) -> Result<FieldDescriptor, Fail> {
     named_field(&message.descriptor()?, name)

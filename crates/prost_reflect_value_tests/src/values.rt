@@ -1,11 +1,9 @@
-//! Each variant by its accessors, and keys in their order.
+//! Each variant by its accessors.
 
 use crate::types::{equals_its_copy, insert, message_of, named_type, text_key, text_of};
 use prost_reflect::{DynamicMessage, MapKey, Value, builtin_pool};
 use std::alloc::{AllocError, Global};
-use std::cmp::Ordering;
 use std::collections::BTreeMap;
-use std::hash::{DefaultHasher, Hash, Hasher};
 use std::mem::size_of;
 use std::test::Fail;
 
@@ -181,41 +179,6 @@ fn a_bool_is_nothing_else(rt: HostRuntime) {
     assert!(rt; is_no_number(&Value::Bool(true)));
     assert!(rt; is_no_collection(&Value::Bool(true)));
     assert!(rt; is_no_other_key(&MapKey::Bool(true)));
-}
-
-fn hash_of(key: &MapKey) -> u64 {
-    let mut state = DefaultHasher::new();
-    key.hash(&mut state);
-    state.finish()
-}
-
-/// The key of a place among four that are in order.
-fn key_at(alloc: Global, place: usize) -> MapKey {
-    match place {
-        0 => MapKey::I32(-1),
-        1 => MapKey::I32(0),
-        2 => MapKey::U32(0),
-        _ => MapKey::String(String::new(alloc)),
-    }
-}
-
-/// Whether the keys are in this order, and are equal and of one hash where it says so.
-fn are_in_order(left: &MapKey, order: Ordering, right: &MapKey) -> bool {
-    left.cmp(right) == order
-        && (*left == *right) == order.is_eq()
-        && (hash_of(left) == hash_of(right)) == order.is_eq()
-}
-
-/// Keys by their variants, and then by their values, as they are written in `key_at`.
-#[test]
-fn keys_are_in_order(rt: HostRuntime) {
-    for low in 0..4_usize {
-        for high in 0..4_usize {
-            let left = key_at(rt.alloc(), low);
-            let right = key_at(rt.alloc(), high);
-            assert!(rt; are_in_order(&left, low.cmp(&high), &right));
-        }
-    }
 }
 
 /// Whether the value becomes this key.

@@ -5,16 +5,24 @@ use prost_reflect_types::{
     ExtensionRange, FieldDescriptorProto, FileDescriptorProto, FileDescriptorSet,
     MethodDescriptorProto, OneofDescriptorProto, ReservedRange, ServiceDescriptorProto,
 };
+use std::alloc::{AllocError, Global};
 use std::test::Fail;
 
-/// The record of the bytes is written as these bytes, which are counted; a copy is equal to it.
+/// The bytes behind 2000 others.
+fn behind(alloc: Global, bytes: &[u8]) -> Result<Vec<u8>, AllocError> {
+    let mut all = vec![in alloc; 7; 2000]?;
+    all.extend_from_slice(bytes)?;
+    Ok(all)
+}
+
+/// The record of the bytes is written as these bytes behind what is there, which are counted; a copy is equal to it.
 macro_rules! written {
     ($rt:expr, $record_type:ident, $bytes:expr) => {{
         let bytes: &[u8] = $bytes;
         let record = $record_type::decode($rt.alloc(), bytes)?;
-        let mut out = Vec::new($rt.alloc());
+        let mut out = behind($rt.alloc(), b"")?;
         record.encode(&mut out)?;
-        assert_eq!($rt; out.as_slice(), bytes);
+        assert_eq!($rt; out.as_slice(), behind($rt.alloc(), bytes)?.as_slice());
         assert_eq!($rt; record.encoded_len(), Some(bytes.len()));
         assert!($rt; record.clone()? == record);
     }};

@@ -7,6 +7,8 @@ mod copies;
 #[cfg(test)]
 mod encodings;
 #[cfg(test)]
+mod forms;
+#[cfg(test)]
 mod records;
 #[cfg(test)]
 mod unknown;
