@@ -1,3 +1,4 @@
+mod Depths
 pub mod ScalarReads
 pub mod RowKinds
 pub mod PlainKinds
@@ -55,6 +56,8 @@ pub mod UnknownLists
 pub mod OwnRows
 pub mod Paths
 mod SetPaths
+mod Removals
+mod Edits
 mod LentPaths
 pub mod KindDefaults
 pub mod ReadBack

@@ -1,34 +1,52 @@
 -- Extensions of a message's own type, and what their numbers are to it.
-use Rattle.std.proofs.Common.{◌≡◌, ℕ, true, Option, Some, None, ap, sym, ◌∙◌}
+use Rattle.std.proofs.Common.{◌≡◌, ℕ, true, Option, Some, None, refl, ap, sym, ◌∙◌}
 use Rattle.std.specs.Option.{option_map, option_and_then, is_some}
 use Rattle.std.specs.Prelude.{slice_get}
-use Rattle.prost_reflect_wire.specs.Schema.{field_of}
+use Rattle.prost_reflect_wire.specs.Schema.{field_of, passes}
+use Rattle.prost_reflect_wire.specs.Typing.{value_valid}
 use Rattle.prost_reflect_tables.specs.CatalogRows.{ExtensionRow}
 use Rattle.prost_reflect_tables.specs.Places.{fields_at}
 use Rattle.prost_reflect_tables.specs.Rows.{FieldRow}
+use Rattle.prost_reflect_tables.specs.Shown.{schema_field}
 use Rattle.prost_reflect_pool.specs.MessageTypes.{fields_of}
 use Rattle.prost_reflect_pool.specs.SharedPools.{pool_rows}
 use Rattle.prost_reflect_pool.specs.declared.pooled_type.PooledType.{PooledType}
 use Rattle.prost_reflect_pool.proofs.EqualTypes.{rows_same}
 use Rattle.prost_reflect_fields.specs.Known.{known_of, is_known}
-use Rattle.prost_reflect_dynamic.specs.ExtensionAccess.{IsOwnExtension}
+use Rattle.prost_reflect_dynamic.specs.Access.{takes_at}
+use Rattle.prost_reflect_dynamic.specs.ExtensionAccess.{IsOwnExtension, extension_takes}
 use Rattle.prost_reflect_dynamic.specs.NamedExtensions.{extension_named, extension_row_named}
+use Rattle.prost_reflect_dynamic.specs.View.{value_of}
 use Rattle.prost_reflect_dynamic.specs.declared.descriptor.extension.ExtensionDescriptor.{ExtensionDescriptor}
+use Rattle.prost_reflect_dynamic.specs.declared.value.Value.{Value}
 use Rattle.prost_reflect_dynamic.proofs.Described.{known_of_row}
 
 -- The row of an own extension is one of the message type's, which knows it by its number.
-pub extension_known : (t : PooledType) (x : ExtensionDescriptor) (n : ℕ) → IsOwnExtension t x → option_map (λ f. f.number) (extension_row_named x) ≡ Some n → is_known (known_of t) n ≡ true
-extension_known t x n own h = of (extension_named x) own.1 h
+pub extension_found : (t : PooledType) (x : ExtensionDescriptor) (n : ℕ) → IsOwnExtension t x → option_map (λ f. f.number) (extension_row_named x) ≡ Some n
+    → field_of (known_of t) n ≡ option_map (schema_field (pool_rows x.pool.inner)) (extension_row_named x)
+extension_found t x n own h = of (extension_named x) own.1 h
   where
-    known : (i : ℕ) (o : Option FieldRow) → slice_get (fields_of t) i ≡ o → option_map (λ (f : FieldRow). f.number) o ≡ Some n → is_known (known_of t) n ≡ true
+    known : (i : ℕ) (o : Option FieldRow) → slice_get (fields_of t) i ≡ o → option_map (λ (f : FieldRow). f.number) o ≡ Some n → field_of (known_of t) n ≡ option_map (schema_field (pool_rows x.pool.inner)) o
     known i None at h = absurd cc
     known i (Some f) at h =
         let same : f.number ≡ n = cc in
-        ap (λ (m : ℕ). is_some (field_of (known_of t) m)) (sym same) ∙ ap is_some (known_of_row t i f at)
+        ap (field_of (known_of t)) (sym same) ∙ known_of_row t i f at ∙ ap (λ rows. Some (schema_field rows f)) (sym (rows_same x.pool.inner t.pool own.0))
 
-    of : (o : Option ExtensionRow) → option_map (λ (e : ExtensionRow). e.message) o ≡ Some t.index → option_map (λ (f : FieldRow). f.number) (option_and_then (λ (e : ExtensionRow). slice_get (fields_at (pool_rows x.pool.inner) e.message) e.field) o) ≡ Some n → is_known (known_of t) n ≡ true
+    of : (o : Option ExtensionRow) → option_map (λ (e : ExtensionRow). e.message) o ≡ Some t.index → option_map (λ (f : FieldRow). f.number) (option_and_then (λ (e : ExtensionRow). slice_get (fields_at (pool_rows x.pool.inner) e.message) e.field) o) ≡ Some n
+        → field_of (known_of t) n ≡ option_map (schema_field (pool_rows x.pool.inner)) (option_and_then (λ (e : ExtensionRow). slice_get (fields_at (pool_rows x.pool.inner) e.message) e.field) o)
     of None extends h = absurd cc
     of (Some e) extends h =
         let place : e.message ≡ t.index = cc in
         let rows : slice_get (fields_of t) e.field ≡ slice_get (fields_at (pool_rows x.pool.inner) e.message) e.field = λ i. slice_get (fields_at (sym (rows_same x.pool.inner t.pool own.0) i) (sym place i)) e.field in
         known e.field (slice_get (fields_at (pool_rows x.pool.inner) e.message) e.field) rows h
+
+pub extension_known : (t : PooledType) (x : ExtensionDescriptor) (n : ℕ) → IsOwnExtension t x → option_map (λ f. f.number) (extension_row_named x) ≡ Some n → is_known (known_of t) n ≡ true
+extension_known t x n own h = ap is_some (extension_found t x n own h) ∙ there (extension_row_named x) h
+  where
+    there : (o : Option FieldRow) → option_map (λ (f : FieldRow). f.number) o ≡ Some n → is_some (option_map (schema_field (pool_rows x.pool.inner)) o) ≡ true
+    there None h = absurd cc
+    there (Some f) h = refl
+
+-- It takes what the message type's field of its number takes.
+pub extension_takes_found : (t : PooledType) (x : ExtensionDescriptor) (n : ℕ) (v : Value) → IsOwnExtension t x → option_map (λ f. f.number) (extension_row_named x) ≡ Some n → extension_takes x v ≡ takes_at t n v
+extension_takes_found t x n v own h = ap (λ o. passes o (λ f. value_valid f (value_of v))) (sym (extension_found t x n own h))

@@ -1,7 +1,9 @@
 -- Fields of a message's own type, and what their numbers are to it.
 use Rattle.std.proofs.Common.{◌≡◌, ℕ, Bool, true, false, cond, List, Option, Some, None, refl, ap, sym, ◌∙◌, unwrap_or, true≢false}
 use Rattle.std.specs.Option.{option_map, option_and_then, is_some}
-use Rattle.std.specs.Prelude.{slice_get}
+use Rattle.std.specs.Prelude.{slice_get, IfOk, IfSome, Result}
+use Rattle.std.specs.declared.alloc.AllocError.{AllocError}
+use Rattle.std.specs.declared.result.Result.TheVariants.{Ok, Err}
 use Rattle.std.specs.Str.{bytes_eq}
 use Rattle.prost_reflect_wire.specs.Schema.{field_of, passes}
 use Rattle.prost_reflect_wire.specs.Typing.{value_valid}
@@ -17,7 +19,7 @@ use Rattle.prost_reflect_pool.proofs.EqualTypes.{rows_same}
 use Rattle.prost_reflect_fields.specs.Known.{known_of, is_known}
 use Rattle.prost_reflect_tables.proofs.Fields.{row_at_number, row_at_place, row_of_number, no_row}
 use Rattle.prost_reflect_tables.proofs.Keeping.{fields_ascend}
-use Rattle.prost_reflect_dynamic.specs.Access.{IsOwnField, is_field_number, number_named, NumberFound, NumberMissing, NameFound, NameMissing, TakesFound}
+use Rattle.prost_reflect_dynamic.specs.Access.{IsOwnField, is_field_number, number_named, number_of, takes, takes_at, NumberFound, NumberMissing, NameFound, NameMissing, TakesFound}
 use Rattle.prost_reflect_dynamic.specs.Named.{NamesEqual, NamesSame, SameMessage}
 use Rattle.prost_reflect_dynamic.specs.NamedFields as named
 use Rattle.prost_reflect_dynamic.specs.declared.descriptor.message.MessageDescriptor.{MessageDescriptor}
@@ -26,6 +28,7 @@ use Rattle.prost_reflect_dynamic.specs.NamedFields.{is_declared, is_declared_at,
 use Rattle.prost_reflect_dynamic.specs.declared.descriptor.field.FieldDescriptor.{FieldDescriptor}
 use Rattle.prost_reflect_dynamic.specs.Setting.{DescribesField}
 use Rattle.prost_reflect_dynamic.specs.View.{value_of}
+use Rattle.prost_reflect_dynamic.specs.declared.value.Value.{Value}
 use Rattle.prost_reflect_dynamic.proofs.Described.{known_of_row, field_at_number}
 use Rattle.prost_reflect_dynamic.proofs.OwnRows.{fields_found}
 
@@ -168,3 +171,35 @@ field_described t d field n names same at = ((same.0 ∙ names.0, same.1 ∙ nam
 pub field_there : (t : PooledType) (d : MessageDescriptor) (n : ℕ) → NamesSame d t → is_field_number t n ≡ true → None ≡ declared_place (named.descriptor_fields d) n → ⊥
 field_there t d n names is none =
     true≢false (sym is ∙ ap (λ fields. is_declared (row_of fields n)) (sym (same_fields d t names)) ∙ sym (found_declared (named.descriptor_fields d) n) ∙ ap is_some (sym none))
+
+-- A field takes a value where its own message type takes it at its number.
+pub own_takes : (t : PooledType) (field : FieldDescriptor) (f : FieldRow) (v : Value) → IsOwnField t field → row_at field ≡ Some f → takes field v ≡ takes_at t (number_of field) v
+own_takes t field f v own at = takes_found t field (number_of field) v own (ap (option_map (λ f. f.number)) at ∙ ap (λ o. Some (unwrap_or (option_map (λ f. f.number) o) 0)) (sym at))
+
+-- WHAT A LOOK-UP ANSWERS
+
+and_ok : {X E : Type 0} (P Q R : X → Type 0) → ((x : X) → P x → Q x → R x) → (r : Result X E) → IfOk r P → IfOk r Q → IfOk r R
+and_ok P Q R f (Ok x) p q = f x p q
+and_ok P Q R f (Err e) p q = tt
+
+found_number : (d : MessageDescriptor) (n : ℕ) (found : Option FieldDescriptor) → option_map (λ field. field.index) found ≡ declared_place (named.descriptor_fields d) n → IfSome found (λ field. SameMessage d field.message)
+    → IfSome found (λ field. number_of field ≡ n)
+found_number d n None e s = tt
+found_number d n (Some field) e s =
+    let same : named.descriptor_fields field.message ≡ named.descriptor_fields d = λ i. fields_at (rows_of (s.0 i).tables) (s.1 i) in
+    numbered_at (named.descriptor_fields field.message) n field.index (ap (λ fields. declared_place fields n) same ∙ sym e)
+
+pub numbers_found : (d : MessageDescriptor) (n : ℕ) (r : Result (Option FieldDescriptor) AllocError) → IfOk r (λ found. option_map (λ field. field.index) found ≡ declared_place (named.descriptor_fields d) n)
+    → IfOk r (λ found. IfSome found (λ field. SameMessage d field.message)) → IfOk r (λ found. IfSome found (λ field. number_of field ≡ n))
+numbers_found d n = and_ok _ _ _ (found_number d n)
+
+found_name : (d : MessageDescriptor) (name : List ℕ) (found : Option FieldDescriptor) → option_map (λ field. field.index) found ≡ named_field (named.descriptor_fields d) name → IfSome found (λ field. SameMessage d field.message)
+    → IfSome found (λ field. (t : PooledType) → IsOwnField t field → number_named t name ≡ Some (number_of field))
+found_name d name None e s = tt
+found_name d name (Some field) e s =
+    let same : named.descriptor_fields field.message ≡ named.descriptor_fields d = λ i. fields_at (rows_of (s.0 i).tables) (s.1 i) in
+    λ t own. name_found t field name own (ap (λ fields. named_field fields name) same ∙ sym e)
+
+pub names_found : (d : MessageDescriptor) (name : List ℕ) (r : Result (Option FieldDescriptor) AllocError) → IfOk r (λ found. option_map (λ field. field.index) found ≡ named_field (named.descriptor_fields d) name)
+    → IfOk r (λ found. IfSome found (λ field. SameMessage d field.message)) → IfOk r (λ found. IfSome found (λ field. (t : PooledType) → IsOwnField t field → number_named t name ≡ Some (number_of field)))
+names_found d name = and_ok _ _ _ (found_name d name)

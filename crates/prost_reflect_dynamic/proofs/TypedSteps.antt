@@ -18,13 +18,14 @@ use Rattle.prost_reflect_fields.specs.declared.slot.FieldSlot.{FieldSlot}
 use Rattle.prost_reflect_fields.specs.declared.slot.FieldSlot.TheVariants as entries
 use Rattle.prost_reflect_fields.specs.Items.{IsAscending, item_at}
 use Rattle.prost_reflect_fields.specs.Known.{known_of, are_siblings}
-use Rattle.prost_reflect_fields.specs.FieldSlots.{value_in, stored_at, has_value, UnknownAdded}
+use Rattle.prost_reflect_fields.specs.FieldSlots.{value_in, stored_at, has_value, values_alone, without_values, UnknownAdded}
 use Rattle.prost_reflect_fields.specs.NumberSets.{has, AreReplaced}
 use Rattle.prost_reflect_fields.specs.Sound.{set_value_at, prepared}
 use Rattle.prost_reflect_fields.proofs.ItemChanges.{Apart, by_number, at_each, itself, none_above}
 use Rattle.prost_reflect_fields.proofs.Replaced.{values_replaced, part_replaced}
-use Rattle.prost_reflect_fields.proofs.SlotChanges.{ascending_with_value, value_written, value_written_apart}
+use Rattle.prost_reflect_fields.proofs.SlotChanges.{ascending_with_value, ascending_without_values, value_without, value_written, value_written_apart}
 use Rattle.prost_reflect_fields.proofs.SoundChanges.{value_set_at, value_set, ascending_set_at}
+use Rattle.prost_reflect_fields.proofs.ValuesAlone.{ascending_alone, value_stays}
 use Rattle.prost_reflect_dynamic.specs.declared.message.DynamicMessage.{DynamicMessage}
 use Rattle.prost_reflect_dynamic.specs.declared.value.Value.{Value}
 use Rattle.prost_reflect_dynamic.specs.declared.value.Value.TheViews.{roll-DynamicMessage}
@@ -116,6 +117,14 @@ set_apart d es n v s each k apart = subst (TypedAt d k) (sym (value_set_at (know
     cases false at true = tt
     cases false at false = each k
 
+-- without some of the values each other stays typed
+without_each : (d : PooledType) (es : Slots) (test : ℕ → Bool) → IsAscending es → AllTyped d es → AllTyped d (without_values test es)
+without_each d es test s each k = subst (TypedAt d k) (sym (value_without test es k s)) (cases (test k))
+  where
+    cases : (b : Bool) → TypedAt d k (cond b None (stored_at es k))
+    cases true = tt
+    cases false = each k
+
 set_each : (d : PooledType) (es : Slots) (n : ℕ) (v : Value) → IsAscending es → typed_at d n (value_stored v) ≡ true → AllTyped d es → AllTyped d (set_value_at (known_of d) es n v)
 set_each d es n v s here each = at_each (λ k. TypedAt d k (stored_at (set_value_at (known_of d) es n v) k)) n (subst (TypedAt d n) (sym (value_set (known_of d) es n v s)) here) (set_apart d es n v s each)
 
@@ -132,6 +141,16 @@ module _ (m : DynamicMessage) (p : Kept) where
   set_typed n v s is here =
       of_slots (ap (λ (q : Kept). q.0) is) (subst (λ (q : Kept). IsAscending q.1) (sym is) (ascending_set_at (known_of m.fields.0) m.fields.1 n v s))
       (λ each. subst (λ (q : Kept). AllTyped m.fields.0 q.1) (sym is) (set_each m.fields.0 m.fields.1 n v s here each))
+
+  pub without_typed : (test : ℕ → Bool) → IsAscending m.fields.1 → p ≡ (m.fields.0, without_values test m.fields.1) → StaysTyped m (roll-DynamicMessage (record { fields = p }))
+  without_typed test s is =
+      of_slots (ap (λ (q : Kept). q.0) is) (subst (λ (q : Kept). IsAscending q.1) (sym is) (ascending_without_values test m.fields.1 s))
+      (λ each. subst (λ (q : Kept). AllTyped m.fields.0 q.1) (sym is) (without_each m.fields.0 m.fields.1 test s each))
+
+  pub alone_typed : IsAscending m.fields.1 → p ≡ (m.fields.0, values_alone m.fields.1) → StaysTyped m (roll-DynamicMessage (record { fields = p }))
+  alone_typed s is =
+      of_slots (ap (λ (q : Kept). q.0) is) (subst (λ (q : Kept). IsAscending q.1) (sym is) (ascending_alone m.fields.1 s))
+      (λ each. subst (λ (q : Kept). AllTyped m.fields.0 q.1) (sym is) (λ k. subst (TypedAt m.fields.0 k) (sym (value_stays m.fields.1 k s)) (each k)))
 
   pub added_typed : (r : Record) → IsAscending m.fields.1 → p.0 ≡ m.fields.0 → UnknownAdded m.fields.1 p.1 r → StaysTyped m (roll-DynamicMessage (record { fields = p }))
   added_typed r s same added = of_slots same (added.order s) (λ each k. subst (TypedAt m.fields.0 k) (sym (added.values k)) (each k))
@@ -171,6 +190,10 @@ module _ (m : DynamicMessage) (n : ℕ) (default : Value) (s : IsAscending (stor
       cases : (o : Option Value) → TypedAt (message_type_of m) n (option_map (λ _. v) o)
       cases None = tt
       cases (Some w) = here
+
+  -- a typed value that was left there
+  pub left_typed : (v : Value) → typed_at (message_type_of m) n (value_stored v) ≡ true → StaysTyped m (written_at m n default v)
+  left_typed v here = written_typed v (λ h. here_written v here)
 
   -- what is lent is typed where the message is
   lent_typed : (v : Value) → v ≡ unwrap_or (stored_at (stored_in m) n) default → typed_at (message_type_of m) n (value_stored default) ≡ true → all_typed (message_stored m) ≡ true → typed_at (message_type_of m) n (value_stored v) ≡ true

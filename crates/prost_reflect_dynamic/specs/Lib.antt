@@ -27,6 +27,7 @@ pub mod Present
 pub mod Defaults
 pub mod DeepTypes
 pub mod TypedSteps
+pub mod Edits
 pub mod Valid
 pub mod RowLaws
 pub mod RowLawProofs
@@ -44,6 +45,7 @@ pub mod Places
 pub mod Reserved
 pub mod ValueLists
 pub mod Access
+pub mod Depths
 pub mod ExtensionAccess
 pub mod Setting
 pub mod Paths

@@ -1,6 +1,9 @@
 -- The values of a message's fields, and those of its extensions, as lists.
 use Rattle.std.specs.Prelude.{◌≡◌, ℕ, Bool, true, false, if◌then◌else◌, List, flat_map, Option, None, option_and_then}
+use Rattle.std.specs.Prelude.{Result}
 use Rattle.std.specs.Borrow.{Bor}
+use Rattle.std.specs.declared.alloc.AllocError.{AllocError}
+use Rattle.prost_reflect_dynamic.specs.Places.{GivesNext}
 use Rattle.prost_reflect_wire.specs.Schema.{Field}
 use Rattle.prost_reflect_wire.specs.Typing.{kept}
 use Rattle.prost_reflect_pool.specs.declared.pooled_type.PooledType.{PooledType}
@@ -58,3 +61,10 @@ IsFieldPair t pair given = IsOwnField t given.0 × (number_of given.0 ≡ pair.0
 
 abbrev pub IsExtensionPair : PooledType → ℕ × Value → ExtensionDescriptor × Bor Value → Type 0
 IsExtensionPair t pair given = IsOwnExtension t given.0 × (extension_number given.0 ≡ pair.0) × (given.1.now ≡ pair.1)
+
+-- One call of `next`.
+abbrev pub fields_steps : Fields → Option (Result (FieldDescriptor × Bor Value) AllocError) → Fields → Type 0
+fields_steps old given new = GivesNext (IsFieldPair old.values.message_type.now) (fields_left old) given (fields_left new) × (new.values.message_type ≡ old.values.message_type)
+
+abbrev pub extensions_steps : Extensions → Option (Result (ExtensionDescriptor × Bor Value) AllocError) → Extensions → Type 0
+extensions_steps old given new = GivesNext (IsExtensionPair old.values.message_type.now) (extensions_left old) given (extensions_left new) × (new.values.message_type ≡ old.values.message_type)

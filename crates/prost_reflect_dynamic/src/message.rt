@@ -1,11 +1,14 @@
 //! Messages whose types are known only at run time.
 
-ghost use Rattle.std.specs.Prelude.{◌≡◌, ◌↔◌, true, [], IsTrue, Some, OnOk, OnErr, IfOk, IfSome, option_map, unwrap_or};
+ghost use Rattle.std.specs.Prelude.{◌≡◌, ◌↔◌, true, false, [], IsTrue, Some, OnOk, OnErr, IfOk, IfSome, option_map, unwrap_or};
 ghost use Rattle.std.specs.Borrow.{LendsIf, LendsIfOk, sem};
 ghost use Rattle.std.specs.Option.{option_copied, option_copied_mut};
 ghost use Rattle.prost_reflect_wire.specs.Unknown.{unknown_record, records_of};
 ghost use Rattle.prost_reflect_wire.specs.Content.{empty, entries_of, value_at};
 ghost use Rattle.prost_reflect_wire.specs.Edit.{cleared};
+ghost use Rattle.prost_reflect_wire.specs.Typing.{WellStored};
+ghost use Rattle.prost_reflect_dynamic.specs.Access.{has_at, takes_at};
+ghost use Rattle.prost_reflect_dynamic.specs.Edits.{Removes, Sets};
 ghost use Rattle.prost_reflect_dynamic.specs.contracts.message.DynamicMessage.{the_row};
 ghost use Rattle.prost_reflect_dynamic.specs.contracts.value.Value as value;
 ghost use Rattle.prost_reflect_pool.specs.MessageTypes.{schema_at, type_at, SameMessage};
@@ -19,7 +22,7 @@ ghost use Rattle.prost_reflect_fields.specs.Sound.{IsSound};
 ghost use Rattle.prost_reflect_dynamic.specs.declared.value.Value.{Value};
 ghost use Rattle.prost_reflect_dynamic.specs.View.{content_of, value_of, message_type_of, stored_in, overwritten_at, written_at};
 ghost use Rattle.prost_reflect_dynamic.specs.Named.{IsNamed, NamesSame, schema_named, type_named};
-ghost use Rattle.prost_reflect_dynamic.specs.Contents.{value_set, value_cleared, unknown_added};
+ghost use Rattle.prost_reflect_dynamic.specs.Contents.{cleared_if, value_set, unknown_added};
 ghost use Rattle.prost_reflect_dynamic.specs.Defaults.{IsEmptyOf};
 ghost use Rattle.prost_reflect_dynamic.specs.Merged.{IsJoined};
 ghost use Rattle.prost_reflect_dynamic.specs.DeepTypes.{all_typed};
@@ -73,6 +76,7 @@ impl DynamicMessage {
         ensures message_type { IsNamed descriptor (message_type_of result) }
         ensures content { content_of result ≡ empty (schema_named descriptor) (type_named descriptor) }
         ensures nothing { stored_in result ≡ [] }
+        ensures sound { WellStored (content_of result) }
         ensures typed { all_typed (message_stored result) ≡ true }
     {
         DynamicMessage::of_type(alloc, descriptor.into_type())
@@ -117,8 +121,9 @@ impl DynamicMessage {
 
     /// Removes all values and all unknown fields. The type stays.
     pub fn clear(&mut self)
-        ensures message_type { message_type_of self.new ≡ message_type_of self.old }
-        ensures content { content_of self.new ≡ cleared (content_of self.old) }
+        ensures removes { Removes cleared self.old self.new }
+        ensures sound { WellStored (content_of self.new) }
+        ensures typed { all_typed (message_stored self.new) ≡ true }
     {
         self.fields.clear_all();
     }
@@ -154,6 +159,7 @@ impl DynamicMessage {
         requires { is_known (known_of (message_type_of self.old)) number ≡ true }
         ensures message_type { message_type_of self.new ≡ message_type_of self.old }
         ensures content { OnOk result (content_of self.new ≡ value_set number (value_of value) (content_of self.old)) }
+        ensures sets { OnOk result (takes_at (message_type_of self.old) number value ≡ true → Sets (Some number) value self.old self.new) }
         ensures typed { OnOk result (typed_at (message_type_of self.old) number (value_stored value) ≡ true → StaysTyped self.old self.new) }
         ensures err { OnErr result (self.new ≡ self.old) }
     {
@@ -179,10 +185,10 @@ impl DynamicMessage {
 
     /// Takes the value at the number. The unknown fields stay.
     pub(crate) fn take_value(&mut self, number: u32) -> Option<Value>
-        ensures message_type { message_type_of self.new ≡ message_type_of self.old }
         ensures stored { result ≡ stored_at (stored_in self.old) number }
         ensures value { option_map value_of result ≡ value_at number (entries_of (content_of self.old)) }
-        ensures content { content_of self.new ≡ value_cleared number (content_of self.old) }
+        ensures removes { Removes (cleared_if (Some number)) self.old self.new }
+        ensures gone { has_at number (content_of self.new) ≡ false }
         ensures ascending { IsAscending (stored_in self.old) }
     {
         self.fields.take(number)
@@ -190,8 +196,8 @@ impl DynamicMessage {
 
     /// Removes the value at the number. The unknown fields stay.
     pub(crate) fn clear_value(&mut self, number: u32)
-        ensures message_type { message_type_of self.new ≡ message_type_of self.old }
-        ensures content { content_of self.new ≡ value_cleared number (content_of self.old) }
+        ensures removes { Removes (cleared_if (Some number)) self.old self.new }
+        ensures gone { has_at number (content_of self.new) ≡ false }
     {
         self.fields.clear(number);
     }

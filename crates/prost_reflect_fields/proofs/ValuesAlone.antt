@@ -60,7 +60,7 @@ module _ {V : Type 0} where
       found : k ≡ e.0 → item_at (e ∷ es) k ≡ Some e.1
       found is = ap (λ b. cond b (Some e.1) (item_at es k)) (ap is_eq (ap (nat_cmp k) (sym is) ∙ itself k))
 
-  value_stays : (es : List (ℕ × FieldSlot V)) (k : ℕ) → IsAscending es → stored_at (values_alone es) k ≡ stored_at es k
+  pub value_stays : (es : List (ℕ × FieldSlot V)) (k : ℕ) → IsAscending es → stored_at (values_alone es) k ≡ stored_at es k
   value_stays es k s = ap (option_and_then value_in) (item_alone es k s) ∙ cases (item_at es k)
     where
       cases : (o : Option (FieldSlot V)) → option_and_then value_in (option_and_then alone o) ≡ option_and_then value_in o

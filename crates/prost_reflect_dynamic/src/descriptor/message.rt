@@ -67,6 +67,8 @@ impl MessageDescriptor {
     ghost use Rattle.prost_reflect_dynamic.specs.Named.{IsNamed, NamesEqual, NamesSame, SameMessage, message_row_named};
     ghost use Rattle.prost_reflect_dynamic.specs.NamedFields.{descriptor_fields, declared_place, is_declared_at};
     ghost use Rattle.prost_reflect_dynamic.specs.Options.{OptionsOf};
+    ghost use Rattle.prost_reflect_pool.specs.declared.pooled_type.PooledType.{PooledType};
+    ghost use Rattle.prost_reflect_dynamic.specs.Access.{IsOwnField, number_named, number_of};
 
     /// The message type at a place of a pool.
     pub(crate) fn new(pool: DescriptorPool, index: usize) -> MessageDescriptor
@@ -352,6 +354,7 @@ impl MessageDescriptor {
     pub fn get_field(&self, number: u32) -> Result<Option<FieldDescriptor>, AllocError>
         ensures found { IfOk result (λ found. option_map (λ field. field.index) found ≡ declared_place (descriptor_fields self.now) number) }
         ensures message { IfOk result (λ found. IfSome found (λ field. SameMessage self.now field.message)) }
+        ensures number { IfOk result (λ found. IfSome found (λ field. number_of field ≡ number)) }
         ensures missing { declared_place (descriptor_fields self.now) number ≡ None → IsOk result }
     {
         self.field_at(self.declared_place(number))
@@ -365,6 +368,7 @@ impl MessageDescriptor {
     pub fn get_field_by_name(&self, name: &str) -> Result<Option<FieldDescriptor>, AllocError>
         ensures found { IfOk result (λ found. option_map (λ field. field.index) found ≡ named_field (descriptor_fields self.now) name.now) }
         ensures message { IfOk result (λ found. IfSome found (λ field. SameMessage self.now field.message)) }
+        ensures name { IfOk result (λ found. IfSome found (λ field. (t : PooledType) → IsOwnField t field → number_named t name.now ≡ Some (number_of field))) }
         ensures missing { named_field (descriptor_fields self.now) name.now ≡ None → IsOk result }
     {
         self.field_at(self.pool.inner.field_place_by_name(self.index, name))

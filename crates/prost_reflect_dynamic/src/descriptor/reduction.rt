@@ -6,8 +6,9 @@ use prost_reflect_tables::Tables;
 use std::alloc::AllocError;
 
 impl MessageDescriptor {
-    ghost use Rattle.std.specs.Prelude.{◌≡◌, ◌<◌, ◌↔◌, IfOk, IsTrue, length};
+    ghost use Rattle.std.specs.Prelude.{◌≡◌, ◌<◌, ◌↔◌, IfOk, IsTrue, length, true};
     ghost use Rattle.prost_reflect_wire.specs.Reduction.{Reduced};
+    ghost use Rattle.prost_reflect_wire.specs.Schema.{schema_valid};
     ghost use Rattle.prost_reflect_tables.specs.Schema.{rows_of};
     ghost use Rattle.prost_reflect_pool.specs.SharedPools.{pool_rows};
     ghost use Rattle.prost_reflect_dynamic.specs.Named.{schema_named, type_named};
@@ -34,7 +35,8 @@ impl MessageDescriptor {
     ///
     /// `AllocError` if out of memory.
     pub fn is_reduction_of(&self, newer: &MessageDescriptor) -> Result<bool, AllocError>
-        ensures { IfOk result (λ yes. Reduced (schema_named self.now) (type_named self.now) (schema_named newer.now) (type_named newer.now) ↔ IsTrue yes) }
+        ensures decides { IfOk result (λ yes. Reduced (schema_named self.now) (type_named self.now) (schema_named newer.now) (type_named newer.now) ↔ IsTrue yes) }
+        ensures newer { schema_valid (schema_named newer.now) ≡ true }
     {
         let alloc = self.parent_pool().inner.allocator();
         is_reduction(

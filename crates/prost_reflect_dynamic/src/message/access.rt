@@ -1,20 +1,20 @@
 //! Asking, reading, setting, clearing and taking fields.
 
-ghost use Rattle.std.specs.Prelude.{◌≡◌, ◌↔◌, ◌&&◌, IsTrue, true, false, None, is_some, option_and_then, if◌then◌else◌, OnOk, OnErr, IfOk, IsOk};
+ghost use Rattle.std.specs.Prelude.{◌≡◌, ◌↔◌, ◌&&◌, IsTrue, true, false, None, Some, is_some, option_and_then, if◌then◌else◌, OnOk, OnErr, IfOk, IsOk};
 ghost use Rattle.std.specs.Borrow.{LendsIfOk, sem};
 ghost use Rattle.std.specs.Option.{option_copied};
 ghost use Rattle.prost_reflect_wire.specs.Content.{entries_of, value_at};
+ghost use Rattle.prost_reflect_dynamic.specs.Depths.{LendsInside};
 ghost use Rattle.prost_reflect_dynamic.specs.contracts.message.DynamicMessage.{the_row};
 ghost use Rattle.prost_reflect_dynamic.specs.contracts.value.Value as value;
 ghost use Rattle.prost_reflect_dynamic.specs.declared.value.Value.{Value};
 ghost use Rattle.prost_reflect_wire.specs.Schema.{field_of, passes};
 ghost use Rattle.prost_reflect_wire.specs.Typing.{kept_inside, is_field_default};
+ghost use Rattle.prost_reflect_dynamic.specs.Edits.{LeavesSet, Removes, Sets};
 ghost use Rattle.prost_reflect_fields.specs.Known.{known_of, is_known};
-ghost use Rattle.prost_reflect_dynamic.specs.Access.{IsOwnField, number_of, is_field_number, takes, takes_at, has_at, had_at, saying, IsDefaultAt, Shows, ShowsIf, IsLentOf, left_at};
-ghost use Rattle.prost_reflect_dynamic.specs.Contents.{value_set, value_cleared};
+ghost use Rattle.prost_reflect_dynamic.specs.Access.{IsOwnField, number_of, is_field_number, number_declared, takes, takes_at, has_at, had_at, saying, IsDefaultAt, Shows, ShowsIf, IsLentOf, left_at};
+ghost use Rattle.prost_reflect_dynamic.specs.Contents.{cleared_if, value_set};
 ghost use Rattle.prost_reflect_dynamic.specs.View.{value_of, content_of, message_type_of};
-ghost use Rattle.prost_reflect_dynamic.specs.Stored.{value_stored};
-ghost use Rattle.prost_reflect_dynamic.specs.TypedSteps.{typed_at, StaysTyped};
 
 mod by_name;
 
@@ -104,26 +104,28 @@ impl DynamicMessage {
         requires { IsOwnField (message_type_of self.old) field.now }
         ensures* writes_back { sem 𝓛 (LendsIfOk the_row value.the_row self.entry result (left_at self.old (number_of field.now)) self.old) }
         ensures value { IfOk result (λ lent. IsLentOf self.old (number_of field.now) lent.now) }
+        ensures inside { IfOk result (λ lent. LendsInside (Some (number_of field.now)) self.old lent.now) }
+        ensures sets { OnOk result (LeavesSet (Some (number_of field.now)) self.old) }
         ensures message_type { (v : Value) → message_type_of (left_at self.old (number_of field.now) v) ≡ message_type_of self.old }
         ensures content { OnOk result ((v : Value) → content_of (left_at self.old (number_of field.now) v) ≡ value_set (number_of field.now) (value_of v) (content_of self.old)) }
     {
         self.value_or_default_mut(alloc, field.number())
     }
 
-    /// Removes the value of the field. Unknown fields of its number stay. The field has to be of the message's own type, as
-    /// `owns_field` tells.
+    /// Removes the value of the field. Unknown fields of its number stay. A message that can be encoded, as `is_encodable`
+    /// tells, stays one, so no test is needed after it. The field has to be of the message's own type, as `owns_field` tells.
     pub fn clear_field(&mut self, field: &FieldDescriptor)
         requires { IsOwnField (message_type_of self.old) field.now }
-        ensures message_type { message_type_of self.new ≡ message_type_of self.old }
-        ensures content { content_of self.new ≡ value_cleared (number_of field.now) (content_of self.old) }
+        ensures removes { Removes (cleared_if (Some (number_of field.now))) self.old self.new }
+        ensures gone { has_at (number_of field.now) (content_of self.new) ≡ false }
     {
         self.clear_value(field.number());
     }
 
     /// Removes the value of the field of a number. Nothing changes where no field has the number.
     pub fn clear_field_by_number(&mut self, number: u32)
-        ensures message_type { message_type_of self.new ≡ message_type_of self.old }
-        ensures content { content_of self.new ≡ (if is_field_number (message_type_of self.old) number then value_cleared number (content_of self.old) else content_of self.old) }
+        ensures removes { Removes (cleared_if (number_declared (message_type_of self.old) number)) self.old self.new }
+        ensures gone { passes (number_declared (message_type_of self.old) number) (λ n. has_at n (content_of self.new)) ≡ false }
         ensures unchanged { is_field_number (message_type_of self.old) number ≡ false → self.new ≡ self.old }
     {
         if self.is_field_number(number) {
@@ -136,8 +138,8 @@ impl DynamicMessage {
     pub fn take_field(&mut self, field: &FieldDescriptor) -> Option<Value>
         requires { IsOwnField (message_type_of self.old) field.now }
         ensures value { result ≡ had_at (number_of field.now) self.old }
-        ensures message_type { message_type_of self.new ≡ message_type_of self.old }
-        ensures content { content_of self.new ≡ value_cleared (number_of field.now) (content_of self.old) }
+        ensures removes { Removes (cleared_if (Some (number_of field.now))) self.old self.new }
+        ensures gone { has_at (number_of field.now) (content_of self.new) ≡ false }
     {
         self.take_had(field.number())
     }
@@ -145,8 +147,8 @@ impl DynamicMessage {
     /// Takes the value of the field of a number. There is none, and nothing changes, where no field has the number.
     pub fn take_field_by_number(&mut self, number: u32) -> Option<Value>
         ensures value { result ≡ (if is_field_number (message_type_of self.old) number then had_at number self.old else None) }
-        ensures message_type { message_type_of self.new ≡ message_type_of self.old }
-        ensures content { content_of self.new ≡ (if is_field_number (message_type_of self.old) number then value_cleared number (content_of self.old) else content_of self.old) }
+        ensures removes { Removes (cleared_if (number_declared (message_type_of self.old) number)) self.old self.new }
+        ensures gone { passes (number_declared (message_type_of self.old) number) (λ n. has_at n (content_of self.new)) ≡ false }
         ensures unchanged { is_field_number (message_type_of self.old) number ≡ false → self.new ≡ self.old }
     {
         if self.is_field_number(number) {
@@ -158,7 +160,7 @@ impl DynamicMessage {
 
     /// Sets the field to a value that fits it, and removes the values of the other members of its oneof. The field has to
     /// be of the message's own type, as `owns_field` tells, and the value has to fit it, as `Value::is_valid_for_field`
-    /// tells.
+    /// tells. A message that can be encoded stays one where the messages in the value can be.
     ///
     /// ```
     /// // Sets the field to 7, if it is the message's own and takes that.
@@ -177,8 +179,7 @@ impl DynamicMessage {
         requires own { IsOwnField (message_type_of self.old) field.now }
         requires valid { takes field.now value ≡ true }
         ensures message_type { message_type_of self.new ≡ message_type_of self.old }
-        ensures content { OnOk result (content_of self.new ≡ value_set (number_of field.now) (value_of value) (content_of self.old)) }
-        ensures typed { OnOk result (typed_at (message_type_of self.old) (number_of field.now) (value_stored value) ≡ true → StaysTyped self.old self.new) }
+        ensures sets { OnOk result (Sets (Some (number_of field.now)) value self.old self.new) }
         ensures err { OnErr result (self.new ≡ self.old) }
     {
         self.set_value(field.number(), value)
@@ -204,8 +205,7 @@ impl DynamicMessage {
     pub fn set_field_by_number(&mut self, number: u32, value: Value) -> Result<(), AllocError>
         requires { is_field_number (message_type_of self.old) number ≡ true → takes_at (message_type_of self.old) number value ≡ true }
         ensures message_type { message_type_of self.new ≡ message_type_of self.old }
-        ensures content { OnOk result (content_of self.new ≡ (if is_field_number (message_type_of self.old) number then value_set number (value_of value) (content_of self.old) else content_of self.old)) }
-        ensures typed { OnOk result (typed_at (message_type_of self.old) number (value_stored value) ≡ true → StaysTyped self.old self.new) }
+        ensures sets { OnOk result (Sets (number_declared (message_type_of self.old) number) value self.old self.new) }
         ensures missing { is_field_number (message_type_of self.old) number ≡ false → IsOk result × (self.new ≡ self.old) }
         ensures err { OnErr result (self.new ≡ self.old) }
     {
@@ -250,6 +250,8 @@ impl DynamicMessage {
         requires { is_known (known_of (message_type_of self.old)) number ≡ true }
         ensures* writes_back { sem 𝓛 (LendsIfOk the_row value.the_row self.entry result (left_at self.old number) self.old) }
         ensures value { IfOk result (λ lent. IsLentOf self.old number lent.now) }
+        ensures inside { IfOk result (λ lent. LendsInside (Some number) self.old lent.now) }
+        ensures sets { OnOk result (LeavesSet (Some number) self.old) }
         ensures message_type { (v : Value) → message_type_of (left_at self.old number v) ≡ message_type_of self.old }
         ensures content { OnOk result ((v : Value) → content_of (left_at self.old number v) ≡ value_set number (value_of v) (content_of self.old)) }
     {
@@ -290,8 +292,8 @@ impl DynamicMessage {
     /// Takes the value at the number, and answers it if the message had it.
     pub(super) fn take_had(&mut self, number: u32) -> Option<Value>
         ensures value { result ≡ had_at number self.old }
-        ensures message_type { message_type_of self.new ≡ message_type_of self.old }
-        ensures content { content_of self.new ≡ value_cleared number (content_of self.old) }
+        ensures removes { Removes (cleared_if (Some number)) self.old self.new }
+        ensures gone { has_at number (content_of self.new) ≡ false }
     {
         let value = self.take_value(number);
         saying(self.message_type(), number, value)

@@ -1,16 +1,16 @@
 //! Asking, reading, setting, clearing and taking extensions (the proto2 guide, "Extensions").
 
-ghost use Rattle.std.specs.Prelude.{◌≡◌, ◌↔◌, IsTrue, true, OnOk, OnErr, IfOk};
+ghost use Rattle.std.specs.Prelude.{◌≡◌, ◌↔◌, IsTrue, true, false, Some, OnOk, OnErr, IfOk};
 ghost use Rattle.std.specs.Borrow.{LendsIfOk, sem};
 ghost use Rattle.prost_reflect_dynamic.specs.contracts.message.DynamicMessage.{the_row};
 ghost use Rattle.prost_reflect_dynamic.specs.contracts.value.Value as value;
 ghost use Rattle.prost_reflect_dynamic.specs.declared.value.Value.{Value};
 ghost use Rattle.prost_reflect_dynamic.specs.Access.{has_at, had_at, Shows, IsLentOf, left_at};
-ghost use Rattle.prost_reflect_dynamic.specs.Contents.{value_set, value_cleared};
+ghost use Rattle.prost_reflect_dynamic.specs.Contents.{cleared_if, value_set};
+ghost use Rattle.prost_reflect_dynamic.specs.Depths.{LendsInside};
+ghost use Rattle.prost_reflect_dynamic.specs.Edits.{LeavesSet, Removes, Sets};
 ghost use Rattle.prost_reflect_dynamic.specs.ExtensionAccess.{IsOwnExtension, extension_number, extension_takes};
 ghost use Rattle.prost_reflect_dynamic.specs.View.{value_of, content_of, message_type_of};
-ghost use Rattle.prost_reflect_dynamic.specs.Stored.{value_stored};
-ghost use Rattle.prost_reflect_dynamic.specs.TypedSteps.{typed_at, StaysTyped};
 
 use crate::descriptor::ExtensionDescriptor;
 use crate::message::DynamicMessage;
@@ -68,6 +68,8 @@ impl DynamicMessage {
         requires { IsOwnExtension (message_type_of self.old) extension.now }
         ensures* writes_back { sem 𝓛 (LendsIfOk the_row value.the_row self.entry result (left_at self.old (extension_number extension.now)) self.old) }
         ensures value { IfOk result (λ lent. IsLentOf self.old (extension_number extension.now) lent.now) }
+        ensures inside { IfOk result (λ lent. LendsInside (Some (extension_number extension.now)) self.old lent.now) }
+        ensures sets { OnOk result (LeavesSet (Some (extension_number extension.now)) self.old) }
         ensures message_type { (v : Value) → message_type_of (left_at self.old (extension_number extension.now) v) ≡ message_type_of self.old }
         ensures content { OnOk result ((v : Value) → content_of (left_at self.old (extension_number extension.now) v) ≡ value_set (extension_number extension.now) (value_of v) (content_of self.old)) }
     {
@@ -78,8 +80,8 @@ impl DynamicMessage {
     /// type, as `owns_extension` tells.
     pub fn clear_extension(&mut self, extension: &ExtensionDescriptor)
         requires { IsOwnExtension (message_type_of self.old) extension.now }
-        ensures message_type { message_type_of self.new ≡ message_type_of self.old }
-        ensures content { content_of self.new ≡ value_cleared (extension_number extension.now) (content_of self.old) }
+        ensures removes { Removes (cleared_if (Some (extension_number extension.now))) self.old self.new }
+        ensures gone { has_at (extension_number extension.now) (content_of self.new) ≡ false }
     {
         self.clear_value(extension.number());
     }
@@ -90,8 +92,8 @@ impl DynamicMessage {
     pub fn take_extension(&mut self, extension: &ExtensionDescriptor) -> Option<Value>
         requires { IsOwnExtension (message_type_of self.old) extension.now }
         ensures value { result ≡ had_at (extension_number extension.now) self.old }
-        ensures message_type { message_type_of self.new ≡ message_type_of self.old }
-        ensures content { content_of self.new ≡ value_cleared (extension_number extension.now) (content_of self.old) }
+        ensures removes { Removes (cleared_if (Some (extension_number extension.now))) self.old self.new }
+        ensures gone { has_at (extension_number extension.now) (content_of self.new) ≡ false }
     {
         self.take_had(extension.number())
     }
@@ -110,8 +112,7 @@ impl DynamicMessage {
         requires own { IsOwnExtension (message_type_of self.old) extension.now }
         requires valid { extension_takes extension.now value ≡ true }
         ensures message_type { message_type_of self.new ≡ message_type_of self.old }
-        ensures content { OnOk result (content_of self.new ≡ value_set (extension_number extension.now) (value_of value) (content_of self.old)) }
-        ensures typed { OnOk result (typed_at (message_type_of self.old) (extension_number extension.now) (value_stored value) ≡ true → StaysTyped self.old self.new) }
+        ensures sets { OnOk result (Sets (Some (extension_number extension.now)) value self.old self.new) }
         ensures err { OnErr result (self.new ≡ self.old) }
     {
         self.set_value(extension.number(), value)

@@ -2,12 +2,10 @@
 
 ghost use Rattle.std.specs.Prelude.{◌≡◌, true, IfErr, IfOk, IfSome, IsOk, OnErr, OnOk, Some};
 ghost use Rattle.prost_reflect_wire.specs.Schema.{passes};
+ghost use Rattle.prost_reflect_dynamic.specs.Edits.{Sets};
 ghost use Rattle.prost_reflect_dynamic.specs.Access.{IsOwnField, number_of, takes, is_field_number, number_declared, number_named, takes_at};
-ghost use Rattle.prost_reflect_dynamic.specs.Contents.{set_if, value_set};
 ghost use Rattle.prost_reflect_dynamic.specs.Setting.{DescribesField, RefusesFound, RefusesValue};
-ghost use Rattle.prost_reflect_dynamic.specs.View.{value_of, content_of, message_type_of};
-ghost use Rattle.prost_reflect_dynamic.specs.Stored.{value_stored};
-ghost use Rattle.prost_reflect_dynamic.specs.TypedSteps.{typed_at, StaysTyped};
+ghost use Rattle.prost_reflect_dynamic.specs.View.{message_type_of};
 ghost use Rattle.prost_reflect_dynamic.specs.declared.message.setting.SetFieldError.TheVariants as refusals;
 
 use crate::descriptor::FieldDescriptor;
@@ -138,8 +136,7 @@ impl DynamicMessage {
     ) -> Result<(), SetFieldError>
         requires { IsOwnField (message_type_of self.old) field.now }
         ensures message_type { message_type_of self.new ≡ message_type_of self.old }
-        ensures content { OnOk result (content_of self.new ≡ value_set (number_of field.now) (value_of value) (content_of self.old)) }
-        ensures typed { OnOk result (typed_at (message_type_of self.old) (number_of field.now) (value_stored value) ≡ true → StaysTyped self.old self.new) }
+        ensures sets { OnOk result (Sets (Some (number_of field.now)) value self.old self.new) }
         ensures valid { IsOk result → takes field.now value ≡ true }
         ensures err { OnErr result (self.new ≡ self.old) }
         ensures refused { IfErr result (RefusesValue field.now value) }
@@ -175,8 +172,7 @@ impl DynamicMessage {
         value: Value,
     ) -> Result<(), SetFieldError>
         ensures message_type { message_type_of self.new ≡ message_type_of self.old }
-        ensures content { OnOk result (content_of self.new ≡ set_if (number_declared (message_type_of self.old) number) (value_of value) (content_of self.old)) }
-        ensures typed { OnOk result (typed_at (message_type_of self.old) number (value_stored value) ≡ true → StaysTyped self.old self.new) }
+        ensures sets { OnOk result (Sets (number_declared (message_type_of self.old) number) value self.old self.new) }
         ensures valid { IsOk result → passes (number_declared (message_type_of self.old) number) (λ n. takes_at (message_type_of self.old) n value) ≡ true }
         ensures err { OnErr result (self.new ≡ self.old) }
         ensures refused { IfErr result (RefusesFound (message_type_of self.old) (number_declared (message_type_of self.old) number) value) }
@@ -196,8 +192,7 @@ impl DynamicMessage {
     /// the value does not fit the field; and `OutOfMemory` if memory runs out. In each case nothing changes.
     pub fn try_set_field_by_name(&mut self, name: &str, value: Value) -> Result<(), SetFieldError>
         ensures message_type { message_type_of self.new ≡ message_type_of self.old }
-        ensures content { OnOk result (content_of self.new ≡ set_if (number_named (message_type_of self.old) name.now) (value_of value) (content_of self.old)) }
-        ensures typed { OnOk result (IfSome (number_named (message_type_of self.old) name.now) (λ n. typed_at (message_type_of self.old) n (value_stored value) ≡ true) → StaysTyped self.old self.new) }
+        ensures sets { OnOk result (Sets (number_named (message_type_of self.old) name.now) value self.old self.new) }
         ensures valid { IsOk result → passes (number_named (message_type_of self.old) name.now) (λ n. takes_at (message_type_of self.old) n value) ≡ true }
         ensures err { OnErr result (self.new ≡ self.old) }
         ensures refused { IfErr result (RefusesFound (message_type_of self.old) (number_named (message_type_of self.old) name.now) value) }
@@ -212,8 +207,7 @@ impl DynamicMessage {
     fn try_set_value(&mut self, number: u32, value: Value) -> Result<(), SetFieldError>
         requires { is_field_number (message_type_of self.old) number ≡ true }
         ensures message_type { message_type_of self.new ≡ message_type_of self.old }
-        ensures content { OnOk result (content_of self.new ≡ value_set number (value_of value) (content_of self.old)) }
-        ensures typed { OnOk result (typed_at (message_type_of self.old) number (value_stored value) ≡ true → StaysTyped self.old self.new) }
+        ensures sets { OnOk result (Sets (Some number) value self.old self.new) }
         ensures valid { IsOk result → takes_at (message_type_of self.old) number value ≡ true }
         ensures err { OnErr result (self.new ≡ self.old) }
         ensures refused { IfErr result (RefusesFound (message_type_of self.old) (Some number) value) }

@@ -8,6 +8,7 @@ ghost use Rattle.prost_reflect_fields.specs.Items.{IsAscending};
 ghost use Rattle.prost_reflect_fields.specs.ItemsLeft.{items_left};
 ghost use Rattle.prost_reflect_fields.specs.Sound.{IsSound};
 ghost use Rattle.prost_reflect_dynamic.specs.Contents.{in_entries};
+ghost use Rattle.prost_reflect_dynamic.specs.Edits.{Removes};
 ghost use Rattle.prost_reflect_dynamic.specs.UnknownLists.{fields_or_none, all_unknown, taken_left, unknown_left, unknown_records, without_unknown};
 ghost use Rattle.prost_reflect_dynamic.specs.View.{content_of, message_type_of, stored_in};
 
@@ -126,7 +127,7 @@ impl DynamicMessage {
         ensures records { IfOk result (λ taken. map unknown_record (taken_left taken) ≡ unknown_records (entries_of (content_of self.old))) }
         ensures message_type { message_type_of self.new ≡ message_type_of self.old }
         ensures stored { OnOk result (stored_in self.new ≡ values_alone (stored_in self.old)) }
-        ensures content { OnOk result (content_of self.new ≡ in_entries without_unknown (content_of self.old)) }
+        ensures removes { OnOk result (Removes (in_entries without_unknown) self.old self.new) }
         ensures err { OnErr result (self.new ≡ self.old) }
         ensures ascending { IsAscending (stored_in self.old) }
         ensures sound { IsSound (message_type_of self.old) (stored_in self.old) }

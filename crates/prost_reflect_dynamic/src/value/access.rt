@@ -1,8 +1,10 @@
 //! What a value holds, by its variant.
 
-ghost use Rattle.std.specs.Prelude.{◌≡◌, option_map};
+ghost use Rattle.std.specs.Prelude.{◌≡◌, ◌<◌, IfSome, option_map};
+ghost use Rattle.std.specs.List.{All};
+ghost use Rattle.prost_reflect_dynamic.specs.declared.message.DynamicMessage.{size-DynamicMessage};
 ghost use Rattle.std.specs.Option.{option_copied};
-ghost use Rattle.prost_reflect_dynamic.specs.declared.value.Value.{out-Value};
+ghost use Rattle.prost_reflect_dynamic.specs.declared.value.Value.{out-Value, size-Value};
 ghost use Rattle.prost_reflect_dynamic.specs.Variants.{bool_in, i32_in, i64_in, u32_in, u64_in, f32_in, f64_in, enum_number_in, text_in, bytes_in, message_in, list_in, pairs_in};
 
 use crate::message::DynamicMessage;
@@ -122,7 +124,8 @@ impl Value {
 
     /// The message of a `Message`.
     pub fn as_message(&self) -> Option<&DynamicMessage>
-        ensures { option_copied result ≡ message_in (out-Value self.now) }
+        ensures value { option_copied result ≡ message_in (out-Value self.now) }
+        ensures inside { IfSome result (λ message. size-DynamicMessage message.now < size-Value self.now) }
     {
         match self {
             Value::Message(value) => Some(value),
@@ -132,7 +135,8 @@ impl Value {
 
     /// The elements of a `List`.
     pub fn as_list(&self) -> Option<&[Value]>
-        ensures { option_copied result ≡ list_in (out-Value self.now) }
+        ensures value { option_copied result ≡ list_in (out-Value self.now) }
+        ensures inside { IfSome result (λ values. All (λ value. size-Value value < size-Value self.now) values.now) }
     {
         match self {
             Value::List(value) => Some(value.as_slice()),
@@ -142,7 +146,8 @@ impl Value {
 
     /// The entries of a `Map`.
     pub fn as_map(&self) -> Option<&BTreeMap<MapKey, Value>>
-        ensures { option_map (λ map. map.now.entries) result ≡ pairs_in (out-Value self.now) }
+        ensures value { option_map (λ map. map.now.entries) result ≡ pairs_in (out-Value self.now) }
+        ensures inside { IfSome result (λ map. All (λ entry. size-Value entry.1 < size-Value self.now) map.now.entries) }
     {
         match self {
             Value::Map(value) => Some(value),

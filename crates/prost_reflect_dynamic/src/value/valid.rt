@@ -10,7 +10,8 @@ ghost use Rattle.prost_reflect_wire.specs.Typing.{kind_takes, element_valid, val
 ghost use Rattle.prost_reflect_tables.specs.Rows.{field_row};
 ghost use Rattle.prost_reflect_tables.specs.Shown.{schema_field, schema_kind};
 ghost use Rattle.prost_reflect_pool.specs.Pools.{pool_rows};
-ghost use Rattle.prost_reflect_dynamic.specs.Access.{takes};
+ghost use Rattle.prost_reflect_pool.specs.declared.pooled_type.PooledType.{PooledType};
+ghost use Rattle.prost_reflect_dynamic.specs.Access.{IsOwnField, number_of, takes, takes_at};
 ghost use Rattle.prost_reflect_dynamic.specs.ExtensionAccess.{extension_takes};
 ghost use Rattle.prost_reflect_dynamic.specs.NamedKinds.{enums_in, kind_named};
 ghost use Rattle.prost_reflect_dynamic.specs.Scalars.{scalar_of};
@@ -40,7 +41,8 @@ impl Value {
     ///
     /// A value for which this holds may be handed to `DynamicMessage::set_field`.
     pub fn is_valid_for_field(&self, field: &FieldDescriptor) -> bool
-        ensures { result ≡ takes field.now self.now }
+        ensures fits { result ≡ takes field.now self.now }
+        ensures by_number { (t : PooledType) → IsOwnField t field.now → result ≡ takes_at t (number_of field.now) self.now }
     {
         value_valid(&field.parent_pool().inner, field.table(), self)
     }

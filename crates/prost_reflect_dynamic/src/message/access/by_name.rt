@@ -1,12 +1,11 @@
 //! Asking, reading, setting, clearing and taking fields by their names.
 
-ghost use Rattle.std.specs.Prelude.{◌≡◌, IfOk, IfSome, IsOk, None, OnErr, OnOk, option_and_then, true};
+ghost use Rattle.std.specs.Prelude.{◌≡◌, IfOk, IfSome, IsOk, None, OnErr, OnOk, option_and_then, false, true};
 ghost use Rattle.prost_reflect_wire.specs.Schema.{passes};
 ghost use Rattle.prost_reflect_dynamic.specs.Access.{number_named, takes_at, has_at, had_at, ShowsFound};
-ghost use Rattle.prost_reflect_dynamic.specs.Contents.{set_if, cleared_if};
-ghost use Rattle.prost_reflect_dynamic.specs.View.{value_of, content_of, message_type_of};
-ghost use Rattle.prost_reflect_dynamic.specs.Stored.{value_stored};
-ghost use Rattle.prost_reflect_dynamic.specs.TypedSteps.{typed_at, StaysTyped};
+ghost use Rattle.prost_reflect_dynamic.specs.Contents.{cleared_if};
+ghost use Rattle.prost_reflect_dynamic.specs.Edits.{Removes, Sets};
+ghost use Rattle.prost_reflect_dynamic.specs.View.{content_of, message_type_of};
 
 use crate::message::DynamicMessage;
 use crate::value::Value;
@@ -46,8 +45,8 @@ impl DynamicMessage {
 
     /// Removes the value of the field of a name. Nothing changes where no field has the name.
     pub fn clear_field_by_name(&mut self, name: &str)
-        ensures message_type { message_type_of self.new ≡ message_type_of self.old }
-        ensures content { content_of self.new ≡ cleared_if (number_named (message_type_of self.old) name.now) (content_of self.old) }
+        ensures removes { Removes (cleared_if (number_named (message_type_of self.old) name.now)) self.old self.new }
+        ensures gone { passes (number_named (message_type_of self.old) name.now) (λ n. has_at n (content_of self.new)) ≡ false }
         ensures unchanged { number_named (message_type_of self.old) name.now ≡ None → self.new ≡ self.old }
     {
         match self.number_named(name) {
@@ -59,8 +58,8 @@ impl DynamicMessage {
     /// Takes the value of the field of a name. There is none, and nothing changes, where no field has the name.
     pub fn take_field_by_name(&mut self, name: &str) -> Option<Value>
         ensures value { result ≡ option_and_then (λ n. had_at n self.old) (number_named (message_type_of self.old) name.now) }
-        ensures message_type { message_type_of self.new ≡ message_type_of self.old }
-        ensures content { content_of self.new ≡ cleared_if (number_named (message_type_of self.old) name.now) (content_of self.old) }
+        ensures removes { Removes (cleared_if (number_named (message_type_of self.old) name.now)) self.old self.new }
+        ensures gone { passes (number_named (message_type_of self.old) name.now) (λ n. has_at n (content_of self.new)) ≡ false }
         ensures unchanged { number_named (message_type_of self.old) name.now ≡ None → self.new ≡ self.old }
     {
         match self.number_named(name) {
@@ -79,8 +78,7 @@ impl DynamicMessage {
     pub fn set_field_by_name(&mut self, name: &str, value: Value) -> Result<(), AllocError>
         requires { IfSome (number_named (message_type_of self.old) name.now) (λ n. takes_at (message_type_of self.old) n value ≡ true) }
         ensures message_type { message_type_of self.new ≡ message_type_of self.old }
-        ensures content { OnOk result (content_of self.new ≡ set_if (number_named (message_type_of self.old) name.now) (value_of value) (content_of self.old)) }
-        ensures typed { OnOk result (IfSome (number_named (message_type_of self.old) name.now) (λ n. typed_at (message_type_of self.old) n (value_stored value) ≡ true) → StaysTyped self.old self.new) }
+        ensures sets { OnOk result (Sets (number_named (message_type_of self.old) name.now) value self.old self.new) }
         ensures missing { number_named (message_type_of self.old) name.now ≡ None → IsOk result × (self.new ≡ self.old) }
         ensures err { OnErr result (self.new ≡ self.old) }
     {

@@ -4,7 +4,10 @@ ghost use Rattle.std.specs.Prelude.{◌≡◌, true, false, IfSome};
 ghost use Rattle.std.specs.Option.{option_copied};
 ghost use Rattle.std.specs.Iterator.{YieldsFirstBy};
 ghost use Rattle.prost_reflect_fields.specs.Known.{known_of, is_listed};
-ghost use Rattle.prost_reflect_dynamic.specs.ValueLists.{had_in, had_pairs, values_left, fields_left, extensions_left};
+ghost use Rattle.prost_reflect_dynamic.specs.ValueLists.{had_in, had_pairs, values_left, fields_left, extensions_left, fields_steps, extensions_steps};
+ghost use Rattle.prost_reflect_dynamic.specs.Access.{IsOwnField};
+ghost use Rattle.prost_reflect_dynamic.specs.Depths.{EachGiven, GivesInside};
+ghost use Rattle.prost_reflect_dynamic.specs.ExtensionAccess.{IsOwnExtension};
 ghost use Rattle.prost_reflect_dynamic.specs.View.{message_type_of};
 
 use crate::descriptor::{ExtensionDescriptor, FieldDescriptor};
@@ -88,10 +91,9 @@ impl<'a> Iterator for Fields<'a> {
 
     ghost use Rattle.std.specs.Prelude.{◌≡◌, length};
     ghost use Rattle.std.specs.Iterator.{at_most};
-    ghost use Rattle.prost_reflect_dynamic.specs.Places.{GivesNext};
-    ghost use Rattle.prost_reflect_dynamic.specs.ValueLists.{IsFieldPair, fields_left};
+    ghost use Rattle.prost_reflect_dynamic.specs.ValueLists.{fields_left, fields_steps};
 
-    ghost next_gives = { λ old given new. GivesNext (IsFieldPair old.values.message_type.now) (fields_left old) given (fields_left new) × (new.values.message_type ≡ old.values.message_type) };
+    ghost next_gives = { fields_steps };
 
     ghost remaining = { λ it. at_most (length (fields_left it)) };
 
@@ -131,10 +133,9 @@ impl<'a> Iterator for Extensions<'a> {
 
     ghost use Rattle.std.specs.Prelude.{◌≡◌, length};
     ghost use Rattle.std.specs.Iterator.{at_most};
-    ghost use Rattle.prost_reflect_dynamic.specs.Places.{GivesNext};
-    ghost use Rattle.prost_reflect_dynamic.specs.ValueLists.{IsExtensionPair, extensions_left};
+    ghost use Rattle.prost_reflect_dynamic.specs.ValueLists.{extensions_left, extensions_steps};
 
-    ghost next_gives = { λ old given new. GivesNext (IsExtensionPair old.values.message_type.now) (extensions_left old) given (extensions_left new) × (new.values.message_type ≡ old.values.message_type) };
+    ghost next_gives = { extensions_steps };
 
     ghost remaining = { λ it. at_most (length (extensions_left it)) };
 
@@ -151,9 +152,12 @@ impl<'a> Iterator for Extensions<'a> {
 
 impl DynamicMessage {
     /// The fields that the message has, in ascending number, each with its value, borrowed. The default of a field without
-    /// presence is no value, nor is an empty list or an empty map.
+    /// presence is no value, nor is an empty list or an empty map. Each value nests less deep than the message, so a
+    /// recursion over the messages inside it is proved to end.
     pub fn fields(&self) -> Fields<'_>
         ensures left { fields_left result ≡ had_pairs false self.now }
+        ensures inside { GivesInside fields_steps self.now result }
+        ensures own { EachGiven fields_steps (λ pair. IsOwnField (message_type_of self.now) pair.0) result }
         ensures message_type { result.values.message_type.now ≡ message_type_of self.now }
     {
         Fields {
@@ -165,6 +169,8 @@ impl DynamicMessage {
     /// map is no value.
     pub fn extensions(&self) -> Extensions<'_>
         ensures left { extensions_left result ≡ had_pairs true self.now }
+        ensures inside { GivesInside extensions_steps self.now result }
+        ensures own { EachGiven extensions_steps (λ pair. IsOwnExtension (message_type_of self.now) pair.0) result }
         ensures message_type { result.values.message_type.now ≡ message_type_of self.now }
     {
         Extensions {

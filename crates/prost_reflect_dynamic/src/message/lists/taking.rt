@@ -5,9 +5,10 @@ ghost use Rattle.std.specs.Vec.Iter.{into_iter_items};
 ghost use Rattle.prost_reflect_fields.specs.Known.{known_of, is_listed};
 ghost use Rattle.prost_reflect_dynamic.specs.Access.{IsOwnField, number_of};
 ghost use Rattle.prost_reflect_dynamic.specs.Contents.{values_taken};
+ghost use Rattle.prost_reflect_dynamic.specs.Edits.{Removes};
 ghost use Rattle.prost_reflect_dynamic.specs.ExtensionAccess.{IsOwnExtension, extension_number};
 ghost use Rattle.prost_reflect_dynamic.specs.ValueLists.{had_pairs, said};
-ghost use Rattle.prost_reflect_dynamic.specs.View.{content_of, message_type_of};
+ghost use Rattle.prost_reflect_dynamic.specs.View.{message_type_of};
 
 use crate::descriptor::{ExtensionDescriptor, FieldDescriptor};
 use crate::message::DynamicMessage;
@@ -58,7 +59,7 @@ impl DynamicMessage {
         ensures pairs { IfOk result (λ taken. map (λ p. (number_of p.0, p.1)) (into_iter_items taken) ≡ had_pairs false self.old) }
         ensures own { IfOk result (λ taken. All (λ p. IsOwnField (message_type_of self.old) p.0) (into_iter_items taken)) }
         ensures message_type { message_type_of self.new ≡ message_type_of self.old }
-        ensures content { OnOk result (content_of self.new ≡ values_taken false (content_of self.old)) }
+        ensures removes { OnOk result (Removes (values_taken false) self.old self.new) }
         ensures err { OnErr result (self.new ≡ self.old) }
     {
         let fields = self.had_fields(alloc)?;
@@ -76,7 +77,7 @@ impl DynamicMessage {
         ensures pairs { IfOk result (λ taken. map (λ p. (extension_number p.0, p.1)) (into_iter_items taken) ≡ had_pairs true self.old) }
         ensures own { IfOk result (λ taken. All (λ p. IsOwnExtension (message_type_of self.old) p.0) (into_iter_items taken)) }
         ensures message_type { message_type_of self.new ≡ message_type_of self.old }
-        ensures content { OnOk result (content_of self.new ≡ values_taken true (content_of self.old)) }
+        ensures removes { OnOk result (Removes (values_taken true) self.old self.new) }
         ensures err { OnErr result (self.new ≡ self.old) }
     {
         let extensions = self.had_extensions(alloc)?;
@@ -120,7 +121,7 @@ impl DynamicMessage {
     ) -> Result<Vec<(D, Value)>, AllocError>
         ensures pairs { IfOk result (λ pairs. pairs.items ≡ zip descriptors.items (map (λ p. p.1) (had_pairs of_extensions self.old))) }
         ensures message_type { message_type_of self.new ≡ message_type_of self.old }
-        ensures content { OnOk result (content_of self.new ≡ values_taken of_extensions (content_of self.old)) }
+        ensures removes { OnOk result (Removes (values_taken of_extensions) self.old self.new) }
         ensures err { OnErr result (self.new ≡ self.old) }
     {
         let pairs = Vec::with_capacity(alloc, descriptors.len())?;
@@ -132,7 +133,7 @@ impl DynamicMessage {
     fn take_listed(&mut self, of_extensions: bool) -> Result<Vec<(u32, Value)>, AllocError>
         ensures pairs { IfOk result (λ taken. said (known_of (message_type_of self.old)) taken.items ≡ had_pairs of_extensions self.old) }
         ensures message_type { message_type_of self.new ≡ message_type_of self.old }
-        ensures content { OnOk result (content_of self.new ≡ values_taken of_extensions (content_of self.old)) }
+        ensures removes { OnOk result (Removes (values_taken of_extensions) self.old self.new) }
         ensures err { OnErr result (self.new ≡ self.old) }
     {
         self.fields.take_listed(of_extensions)

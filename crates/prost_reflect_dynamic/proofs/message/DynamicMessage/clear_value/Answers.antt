@@ -1,5 +1,13 @@
+use Rattle.std.proofs.Common.{rules, nat_eq}
+use Rattle.prost_reflect_dynamic.proofs.Edits.{clears, is_gone}
 use Rattle.prost_reflect_dynamic.proofs.Stored.{message_cleared}
+use Rattle.prost_reflect_dynamic.proofs.TypedSteps.{without_typed}
 use Rattle.prost_reflect_dynamic.proofs.message.DynamicMessage.clear_value.Goals as goal
 
-pub returns-clause-content : goal.returns-clause-content
-returns-clause-content c = message_cleared c.args.self.now c.clear.new.self c.args.number c.clear.ensures.ascending c.clear.ensures.left
+pub returns-clause-removes : goal.returns-clause-removes
+returns-clause-removes c =
+    clears c.args.self.now _ c.args.number c.clear.ensures.ascending (search rules) (message_cleared c.args.self.now c.clear.new.self c.args.number c.clear.ensures.ascending c.clear.ensures.left)
+    (without_typed c.args.self.now c.clear.new.self (nat_eq c.args.number) c.clear.ensures.ascending c.clear.ensures.left)
+
+pub returns-clause-gone : goal.returns-clause-gone
+returns-clause-gone c = is_gone c.args.self.now _ c.args.number c.clear.ensures.ascending (message_cleared c.args.self.now c.clear.new.self c.args.number c.clear.ensures.ascending c.clear.ensures.left)

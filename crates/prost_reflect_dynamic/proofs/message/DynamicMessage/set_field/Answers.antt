@@ -1,6 +1,16 @@
+use Rattle.std.proofs.Common.{ap, sym, subst, ◌∙◌}
+use Rattle.std.specs.Prelude.{Some, unwrap_or}
+use Rattle.std.proofs.lemmas.Result.{on_ok_weaker}
+use Rattle.prost_reflect_dynamic.specs.Edits.{Sets}
 use Rattle.prost_reflect_dynamic.specs.View.{message_type_of}
-use Rattle.prost_reflect_dynamic.proofs.OwnFields.{own_known}
+use Rattle.prost_reflect_dynamic.proofs.OwnFields.{own_known, takes_found}
 use Rattle.prost_reflect_dynamic.proofs.message.DynamicMessage.set_field.Goals as goal
 
 pub set_value-requires : goal.set_value-requires
 set_value-requires c = own_known (message_type_of c.args.self.now) c.args.field.now c.number.result c.requires.own c.number.ensures
+
+pub returns-clause-sets : goal.returns-clause-sets
+returns-clause-sets c =
+    on_ok_weaker c.set_value.result
+    (λ step. subst (λ n. Sets (Some n) c.args.value c.args.self.now c.set_value.new.self) (sym (ap (λ o. unwrap_or o 0) c.number.ensures))
+    (step (sym (takes_found (message_type_of c.args.self.now) c.args.field.now c.number.result c.args.value c.requires.own c.number.ensures) ∙ c.requires.valid))) c.set_value.ensures.sets

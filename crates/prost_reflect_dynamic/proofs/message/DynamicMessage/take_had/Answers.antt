@@ -8,5 +8,5 @@ use Rattle.prost_reflect_dynamic.proofs.message.DynamicMessage.take_had.Goals as
 pub returns-clause-value : goal.returns-clause-value
 returns-clause-value c =
     c.saying.ensures
-    ∙ ap (λ t. option_and_then (saying (known_of t) c.args.number) c.take_value-value.result) (c.message_type.ensures ∙ c.take_value-value.ensures.message_type)
+    ∙ ap (λ t. option_and_then (saying (known_of t) c.args.number) c.take_value-value.result) (c.message_type.ensures ∙ c.take_value-value.ensures.removes.message_type)
     ∙ sym (had_found c.args.self.now c.args.number c.take_value-value.result c.take_value-value.ensures.ascending c.take_value-value.ensures.stored)

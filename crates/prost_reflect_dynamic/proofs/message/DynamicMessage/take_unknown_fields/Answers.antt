@@ -1,6 +1,8 @@
-use Rattle.std.proofs.Common.{◌++◌, ap, ap₂, flat_map, map, ◌∙◌}
+use Rattle.std.proofs.Common.{rules, ◌++◌, ap, ap₂, flat_map, map, ◌∙◌}
 use Rattle.prost_reflect_wire.specs.Unknown.{unknown_fields_of, unknown_record}
 use Rattle.prost_reflect_dynamic.specs.View.{stored_in}
+use Rattle.prost_reflect_dynamic.proofs.Edits.{takes_unknown}
+use Rattle.prost_reflect_dynamic.proofs.TypedSteps.{alone_typed}
 use Rattle.prost_reflect_dynamic.proofs.UnknownLists.{all_taken, message_left, unknown_listed}
 use Rattle.prost_reflect_dynamic.proofs.message.DynamicMessage.take_unknown_fields.Goals as goal
 
@@ -16,5 +18,7 @@ returns-clause-records c =
     ∙ all_taken (stored_in c.args.self.now))
     ∙ unknown_listed c.args.self.now c.take_unknown.ensures.ascending c.take_unknown.ensures.sound
 
-pub returns-clause-content : goal.returns-clause-content
-returns-clause-content c = message_left c.args.self.now c.take_unknown.new.self c.in_ok-sets.ensures.ok
+pub returns-clause-removes : goal.returns-clause-removes
+returns-clause-removes c =
+    takes_unknown c.args.self.now _ c.take_unknown.ensures.ascending (search rules) (message_left c.args.self.now c.take_unknown.new.self c.in_ok-sets.ensures.ok)
+    (alone_typed c.args.self.now c.take_unknown.new.self c.take_unknown.ensures.ascending c.in_ok-sets.ensures.ok)

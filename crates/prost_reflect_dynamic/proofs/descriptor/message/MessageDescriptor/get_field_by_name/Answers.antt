@@ -1,4 +1,4 @@
-use Rattle.std.proofs.Common.{ap, ◌∙◌}
+use Rattle.std.proofs.Common.{rules, ap, ◌∙◌}
 use Rattle.std.specs.Str.{bytes_eq}
 use Rattle.prost_reflect_tables.specs.Places.{fields_at}
 use Rattle.prost_reflect_tables.specs.Rows.{FieldRow}
@@ -6,6 +6,7 @@ use Rattle.prost_reflect_pool.specs.Lookups.{named_field}
 use Rattle.prost_reflect_pool.specs.Pools.{pool_rows}
 use Rattle.prost_reflect_pool.specs.declared.pool.LinkedPool.{LinkedPool}
 use Rattle.prost_reflect_dynamic.specs.NamedFields.{descriptor_fields}
+use Rattle.prost_reflect_dynamic.proofs.OwnFields.{names_found}
 use Rattle.prost_reflect_dynamic.proofs.OwnRows.{fields_found}
 use Rattle.prost_reflect_dynamic.proofs.descriptor.message.MessageDescriptor.get_field_by_name.Goals as goal
 
@@ -13,3 +14,9 @@ pub field_at-requires : goal.field_at-requires
 field_at-requires c =
     fields_found (λ (f : FieldRow). bytes_eq f.id.name c.args.name.now) (descriptor_fields c.args.self.now) _
     (c.field_place_by_name.ensures ∙ ap (λ (pool : LinkedPool). named_field (fields_at (pool_rows pool) c.args.self.now.index) c.args.name.now) c.deref.ensures)
+
+pub returns-clause-found : goal.returns-clause-found
+returns-clause-found c = search rules
+
+pub returns-clause-name : goal.returns-clause-name
+returns-clause-name c = names_found c.args.self.now c.args.name.now c.field_at.result (returns-clause-found c) c.field_at.ensures.message

@@ -1,0 +1,10 @@
+use Rattle.std.proofs.Common.{rules, ◌∙◌}
+use Rattle.prost_reflect_tables.specs.Rows.{field_row}
+use Rattle.prost_reflect_dynamic.proofs.OwnFields.{own_takes}
+use Rattle.prost_reflect_dynamic.proofs.value.Value.is_valid_for_field.Goals as goal
+
+pub returns-clause-fits : goal.returns-clause-fits
+returns-clause-fits c = search rules
+
+pub returns-clause-by_number : goal.returns-clause-by_number
+returns-clause-by_number c = λ t own. returns-clause-fits c ∙ own_takes t c.args.field.now (field_row c.table.result.now) c.args.self.now own c.table.ensures

@@ -1,0 +1,57 @@
+-- What the edits of a message keep: what it holds for others, and that it stays encodable, well-stored and typed.
+use Rattle.std.specs.Prelude.{◌≡◌, ℕ, true, Option, Some, None, IfSome}
+use Rattle.prost_reflect_wire.specs.Schema.{field_of, passes}
+use Rattle.prost_reflect_wire.specs.Content as contents
+use Rattle.prost_reflect_wire.specs.Content.{Content, value_ordered}
+use Rattle.prost_reflect_wire.specs.Typing.{kept, kind_for, encodable, fit_test, alone_test, value_passes, ValueTyped, WellStored}
+use Rattle.prost_reflect_wire.specs.Edit.{set_field, in_field}
+use Rattle.prost_reflect_pool.specs.MessageTypes.{schema_at}
+use Rattle.prost_reflect_pool.specs.declared.pooled_type.PooledType.{PooledType}
+use Rattle.prost_reflect_fields.specs.Known.{known_of}
+use Rattle.prost_reflect_dynamic.specs.Access.{takes_at, left_if}
+use Rattle.prost_reflect_dynamic.specs.Contents.{set_if}
+use Rattle.prost_reflect_dynamic.specs.DeepTypes.{all_typed}
+use Rattle.prost_reflect_dynamic.specs.Stored.{message_stored, value_stored}
+use Rattle.prost_reflect_dynamic.specs.TypedSteps.{typed_at}
+use Rattle.prost_reflect_dynamic.specs.View.{value_of, content_of, message_type_of}
+use Rattle.prost_reflect_dynamic.specs.declared.value.Value.{Value}
+use Rattle.prost_reflect_dynamic.specs.declared.message.DynamicMessage.{DynamicMessage}
+
+-- VALUES
+
+-- Each message in the value is well-stored and of the type of the number's field, and keys ascend. So is a value without messages.
+pub record IsWhole (t : PooledType) (n : ℕ) (v : Value) : Type 0 where
+  pub fits : value_passes fit_test (value_of v) ≡ true
+  pub types : ValueTyped (schema_at t) (kind_for (field_of (known_of t) n) (value_of v)) (value_of v)
+  pub order : value_ordered (value_of v) ≡ true
+  pub members : value_passes alone_test (value_of v) ≡ true
+
+-- What is held for others where a value was set: the siblings' values are gone, and a default without presence is none.
+abbrev pub held_set : ℕ → contents.Value → Content → Content
+held_set n v c = in_field n (λ schema fields f es. set_field fields f v es) c
+
+-- REMOVING
+
+-- What is stored, and what is held for others, was changed alike; and what writing asks for was kept.
+pub record Removes (change : Content → Content) (old new : DynamicMessage) : Type 0 where
+  pub message_type : message_type_of new ≡ message_type_of old
+  pub content : content_of new ≡ change (content_of old)
+  pub held : kept (content_of new) ≡ change (kept (content_of old))
+  pub sound : WellStored (content_of old) → WellStored (content_of new)
+  pub encodable : encodable (content_of old) ≡ true → encodable (content_of new) ≡ true
+  pub typed : all_typed (message_stored old) ≡ true → all_typed (message_stored new) ≡ true
+
+-- SETTING
+
+-- A number, if one is found, got the value.
+pub record Sets (found : Option ℕ) (v : Value) (old new : DynamicMessage) : Type 0 where
+  pub message_type : message_type_of new ≡ message_type_of old
+  pub content : content_of new ≡ set_if found (value_of v) (content_of old)
+  pub held : kept (content_of new) ≡ elim found [ None ↦ kept (content_of old) | Some n ↦ held_set n (value_of v) (kept (content_of old)) ]
+  pub sound : IfSome found (λ n. IsWhole (message_type_of old) n v) → WellStored (content_of old) → WellStored (content_of new)
+  pub encodable : value_passes fit_test (value_of v) ≡ true → encodable (content_of old) ≡ true → encodable (content_of new) ≡ true
+  pub typed : IfSome found (λ n. typed_at (message_type_of old) n (value_stored v) ≡ true) → all_typed (message_stored old) ≡ true → all_typed (message_stored new) ≡ true
+
+-- Whatever fits the field and is left behind the reference that was lent is set.
+pub record LeavesSet (found : Option ℕ) (m : DynamicMessage) : Type 0 where
+  pub each : (v : Value) → passes found (λ n. takes_at (message_type_of m) n v) ≡ true → Sets found v m (left_if found m v)
