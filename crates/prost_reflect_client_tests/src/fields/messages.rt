@@ -1,7 +1,7 @@
 //! Each call once, on messages of the built-in types, and a closed enum in a oneof and alone.
 
-use crate::access::is_found;
-use crate::types::{choices, is_written};
+use crate::fields::access::is_found;
+use crate::fields::types::{choices, is_written};
 use prost_reflect::{
     DecodeError, DynamicMessage, MessageDescriptor, PresentNumber, Value, builtin_pool,
 };

@@ -1,6 +1,6 @@
 //! Which values the fields of worked messages take, and which types are reductions.
 
-use crate::types::{empty, is_message, is_written, message_type, worked_field};
+use crate::fields::types::{empty, is_message, is_written, message_type, worked_field};
 use prost_reflect::{DynamicMessage, FieldDescriptor, MapKey, SetFieldError, Value};
 use prost_reflect_samples::sets;
 use std::alloc::{AllocError, Global};

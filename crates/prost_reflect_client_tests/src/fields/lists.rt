@@ -1,6 +1,6 @@
 //! The fields and extensions of messages as lists, and taking them all.
 
-use crate::types::{choices, empty, message_of};
+use crate::fields::types::{choices, empty, message_of};
 use prost_reflect::{DynamicMessage, TakenExtensions, TakenFields, Value};
 use prost_reflect_samples::sets;
 use std::alloc::{AllocError, Global};

@@ -1,9 +1,9 @@
 //! Many calls on a message with oneofs, beside a table of what it then has.
 
-use crate::access::{clears, is_asked, is_taken, sets, takes};
-use crate::types::message_of;
-use crate::unknowns::is_varint;
-use prost_reflect::{DynamicMessage, FieldDescriptor, Value};
+use crate::fields::access::{clears, is_asked, is_taken, sets, takes};
+use crate::fields::types::message_of;
+use crate::fields::unknowns::is_varint;
+use prost_reflect::{DynamicMessage, FieldDescriptor, SetFieldError, Value};
 use prost_reflect_samples::calls::{Call, calls};
 use std::alloc::{AllocError, Global};
 use std::test::Fail;
@@ -30,15 +30,11 @@ fn small(amount: u32) -> i32 {
     (amount % 5) as i32
 }
 
-/// Whether the field of the name takes the number, and is set to it by both calls.
-fn sets_named(message: &mut DynamicMessage, name: &str, value: i32) -> bool {
-    if message
-        .try_set_field_by_name(name, Value::I32(value))
-        .is_err()
-    {
-        return false;
-    }
-    message.set_field_by_name(name, Value::I32(value)).is_ok()
+/// Sets the field of the name to the number by both calls.
+fn set_named(message: &mut DynamicMessage, name: &str, value: i32) -> Result<(), SetFieldError> {
+    message.try_set_field_by_name(name, Value::I32(value))?;
+    message.set_field_by_name(name, Value::I32(value))?;
+    Ok(())
 }
 
 /// Whether the field is set to the value for the amount: by its descriptor, its number or its name.
@@ -49,7 +45,7 @@ fn sets_in_turn(message: &mut DynamicMessage, field: &FieldDescriptor, amount: u
         1 => message
             .try_set_field_by_number(field.number(), Value::I32(value))
             .is_ok(),
-        _ => sets_named(message, field.name(), value),
+        _ => set_named(message, field.name(), value).is_ok(),
     }
 }
 

@@ -1,7 +1,7 @@
 //! Fields of messages by their numbers and by their names.
 
-use crate::access::{is_taken, write};
-use crate::types::{choices, my_message};
+use crate::fields::access::{is_taken, write};
+use crate::fields::types::{choices, my_message};
 use prost_reflect::{DynamicMessage, GetFieldError, Value};
 use std::alloc::{AllocError, Global};
 use std::borrow::Cow;

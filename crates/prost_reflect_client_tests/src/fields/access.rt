@@ -1,6 +1,6 @@
 //! Fields and extensions of messages by their descriptors.
 
-use crate::types::{decoded, empty, is_message, worked_field, worked_type};
+use crate::fields::types::{decoded, empty, is_message, worked_field, worked_type};
 use prost_reflect::{DecodeError, DynamicMessage, ExtensionDescriptor, FieldDescriptor, Value};
 use std::alloc::{AllocError, Global};
 use std::borrow::Cow;
@@ -239,12 +239,7 @@ fn sets_by_name(
     row: &FieldRow,
 ) -> Result<bool, Fail> {
     let (name, _, _, _, value, _, written, cleared) = row;
-    if message
-        .try_set_field_by_name(field, Value::I32(*value))
-        .is_err()
-    {
-        return Ok(false);
-    }
+    message.try_set_field_by_name(field, Value::I32(*value))?;
     let is_set = is_message(alloc, message, name, written)?;
     message.clear_field_by_name(field);
     let is_cleared = is_message(alloc, message, name, cleared)?;

@@ -1,6 +1,6 @@
 //! Unknown fields, listed and taken.
 
-use crate::types::{is_written, message_of, message_type, my_message};
+use crate::fields::types::{is_written, message_of, message_type, my_message};
 use prost_reflect::{
     DynamicMessage, EncodeError, TakenUnknownFields, UnknownField, UnknownFieldValue,
     UnknownFields, Value,

@@ -1,0 +1,11 @@
+//! Tests of what is asked of messages and changed in them.
+
+mod access;
+mod by_name;
+mod every;
+mod lists;
+mod many_calls;
+mod messages;
+mod types;
+mod unknowns;
+mod worked_values;

@@ -1,0 +1,149 @@
+//! A field and an extension of each kind, asked, taken, set and lent.
+
+use crate::fields::types::message_type;
+use prost_reflect::{
+    DynamicMessage, ExtensionDescriptor, FieldDescriptor, MessageDescriptor, Value,
+};
+use prost_reflect_samples::every::{Row, extensions, fields};
+use prost_reflect_samples::sets;
+use std::alloc::Global;
+use std::borrow::Cow;
+use std::test::Fail;
+
+/// Whether the value is lent, and is this one.
+fn is_lent(found: &Option<Cow<'_, Value>>, value: &Value) -> bool {
+    match found {
+        Some(Cow::Borrowed(found)) => **found == *value,
+        _ => false,
+    }
+}
+
+/// Whether the field of the number is had and shown, and is taken, set and lent by its number.
+fn goes_by_number(
+    alloc: Global,
+    whole: &DynamicMessage,
+    empty: &DynamicMessage,
+    number: u32,
+) -> Result<bool, Fail> {
+    let mut message = whole.clone()?;
+    let had = message.has_field_by_number(number);
+    let Some(value) = message.take_field_by_number(number) else {
+        return Ok(false);
+    };
+    let is_taken = message == *empty && !message.has_field_by_number(number);
+    message.try_set_field_by_number(number, value.clone()?)?;
+    let is_set = message == *whole && is_lent(&message.get_field_by_number(alloc, number)?, &value);
+    Ok(had && is_taken && is_set && *message.get_field_by_number_mut(alloc, number)? == value)
+}
+
+/// Whether the field of the name is had and shown, and is taken, set and lent by its name.
+fn goes_by_name(
+    alloc: Global,
+    whole: &DynamicMessage,
+    empty: &DynamicMessage,
+    name: &str,
+) -> Result<bool, Fail> {
+    let mut message = whole.clone()?;
+    let had = message.has_field_by_name(name);
+    let Some(value) = message.take_field_by_name(name) else {
+        return Ok(false);
+    };
+    let is_taken = message == *empty && !message.has_field_by_name(name);
+    message.try_set_field_by_name(name, value.clone()?)?;
+    let is_set = message == *whole && is_lent(&message.get_field_by_name(alloc, name)?, &value);
+    Ok(had && is_taken && is_set && *message.get_field_by_name_mut(alloc, name)? == value)
+}
+
+/// Whether the field is had and shown, and is taken, set and lent by its descriptor.
+fn goes_by_descriptor(
+    alloc: Global,
+    whole: &DynamicMessage,
+    empty: &DynamicMessage,
+    field: &FieldDescriptor,
+) -> Result<bool, Fail> {
+    let mut message = whole.clone()?;
+    if !message.owns_field(field) || !message.has_field(field) {
+        return Ok(false);
+    }
+    let Some(value) = message.take_field(field) else {
+        return Ok(false);
+    };
+    let is_taken = message == *empty && !message.has_field(field);
+    message.try_set_field(field, value.clone()?)?;
+    let is_set = message == *whole && *message.get_field(alloc, field)? == value;
+    Ok(is_taken && is_set && *message.get_field_mut(alloc, field)? == value)
+}
+
+/// Whether the message lends the value of its extension for writing.
+fn lends(
+    alloc: Global,
+    message: &mut DynamicMessage,
+    extension: &ExtensionDescriptor,
+    value: &Value,
+) -> Result<bool, Fail> {
+    Ok(message.owns_extension(extension) && *message.get_extension_mut(alloc, extension)? == *value)
+}
+
+/// Whether the extension is had and shown, and is taken, set and lent.
+fn goes_by_extension(
+    alloc: Global,
+    whole: &DynamicMessage,
+    empty: &DynamicMessage,
+    extension: &ExtensionDescriptor,
+) -> Result<bool, Fail> {
+    let mut message = whole.clone()?;
+    if !message.owns_extension(extension) || !message.has_extension(extension) {
+        return Ok(false);
+    }
+    let Some(value) = message.take_extension(extension) else {
+        return Ok(false);
+    };
+    let is_taken = message == *empty && !message.has_extension(extension);
+    if value.is_valid_for_extension(extension) {
+        message.set_extension(extension, value.clone()?)?;
+    }
+    let is_set = message == *whole && *message.get_extension(alloc, extension)? == value;
+    Ok(is_taken && is_set && lends(alloc, &mut message, extension, &value)?)
+}
+
+/// Whether the row's field goes in each way.
+fn field_goes(alloc: Global, every: &MessageDescriptor, row: &Row) -> Result<bool, Fail> {
+    let whole = DynamicMessage::decode(alloc, every.clone()?, row.1)?;
+    let empty = DynamicMessage::new(alloc, every.clone()?);
+    match every.get_field(row.0)? {
+        Some(field) => Ok(
+            goes_by_number(alloc, &whole, &empty, row.0)?
+                && goes_by_name(alloc, &whole, &empty, field.name())?
+                && goes_by_descriptor(alloc, &whole, &empty, &field)?,
+        ),
+        None => Ok(false),
+    }
+}
+
+/// Whether the row's extension goes so.
+fn extension_goes(alloc: Global, every: &MessageDescriptor, row: &Row) -> Result<bool, Fail> {
+    let whole = DynamicMessage::decode(alloc, every.clone()?, row.1)?;
+    let empty = DynamicMessage::new(alloc, every.clone()?);
+    match every.get_extension(row.0)? {
+        Some(extension) => goes_by_extension(alloc, &whole, &empty, &extension),
+        None => Ok(false),
+    }
+}
+
+#[test]
+fn a_field_of_each_kind_goes_in_each_way(rt: HostRuntime) -> Result<(), Fail> {
+    let every = message_type(rt.alloc(), sets::every(), "e.Every")?;
+    for row in fields() {
+        assert!(rt; field_goes(rt.alloc(), &every, row)?, "{}", row.0);
+    }
+    Ok(())
+}
+
+#[test]
+fn an_extension_of_each_kind_goes(rt: HostRuntime) -> Result<(), Fail> {
+    let every = message_type(rt.alloc(), sets::every(), "e.Every")?;
+    for row in extensions() {
+        assert!(rt; extension_goes(rt.alloc(), &every, row)?, "{}", row.0);
+    }
+    Ok(())
+}

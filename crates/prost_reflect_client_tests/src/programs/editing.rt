@@ -1,0 +1,159 @@
+//! Messages that are read, changed and written again, with no test between these that could fail.
+
+ghost use Rattle.std.specs.Prelude.{◌≡◌, false, true, IfOk};
+ghost use Rattle.prost_reflect_dynamic.specs.DeepTypes.{all_typed};
+ghost use Rattle.prost_reflect_dynamic.specs.Stored.{message_stored};
+
+use crate::programs::error::ClientError;
+use prost_reflect::{DynamicMessage, MessageDescriptor, Value};
+use std::alloc::{AllocError, Global};
+
+/// Reads and writes.
+pub fn read_and_write(
+    alloc: Global,
+    message_type: MessageDescriptor,
+    bytes: &[u8],
+) -> Result<Vec<u8>, ClientError> {
+    let message = DynamicMessage::decode(alloc, message_type, bytes)?;
+    Ok(message.encode_to_vec(alloc)?)
+}
+
+/// Reads, clears a field and writes.
+pub fn clear_and_write(
+    alloc: Global,
+    message_type: MessageDescriptor,
+    bytes: &[u8],
+) -> Result<Vec<u8>, ClientError> {
+    let mut message = DynamicMessage::decode(alloc, message_type, bytes)?;
+    message.clear_field_by_number(5);
+    Ok(message.encode_to_vec(alloc)?)
+}
+
+/// Reads, clears all and writes.
+pub fn clear_all_and_write(
+    alloc: Global,
+    message_type: MessageDescriptor,
+    bytes: &[u8],
+) -> Result<Vec<u8>, ClientError> {
+    let mut message = DynamicMessage::decode(alloc, message_type, bytes)?;
+    message.clear();
+    Ok(message.encode_to_vec(alloc)?)
+}
+
+/// Reads, sets a field and writes.
+pub fn set_and_write(
+    alloc: Global,
+    message_type: MessageDescriptor,
+    bytes: &[u8],
+) -> Result<Vec<u8>, ClientError> {
+    let mut message = DynamicMessage::decode(alloc, message_type, bytes)?;
+    message.try_set_field_by_number(5, Value::I32(7))?;
+    Ok(message.encode_to_vec(alloc)?)
+}
+
+/// Reads, takes a field by its name and writes.
+pub fn take_and_write(
+    alloc: Global,
+    message_type: MessageDescriptor,
+    bytes: &[u8],
+) -> Result<Vec<u8>, ClientError> {
+    let mut message = DynamicMessage::decode(alloc, message_type, bytes)?;
+    let _ = message.take_field_by_name("name");
+    Ok(message.encode_to_vec(alloc)?)
+}
+
+/// Makes a message, sets a field of it and writes.
+pub fn make_and_write(
+    alloc: Global,
+    message_type: MessageDescriptor,
+) -> Result<Vec<u8>, ClientError> {
+    let mut message = DynamicMessage::new(alloc, message_type);
+    message.try_set_field_by_number(5, Value::I32(7))?;
+    Ok(message.encode_to_vec(alloc)?)
+}
+
+/// Reads, clears a field and merges.
+pub fn clear_and_merge(
+    alloc: Global,
+    message_type: MessageDescriptor,
+    bytes: &[u8],
+    more: &[u8],
+) -> Result<DynamicMessage, ClientError> {
+    let mut message = DynamicMessage::decode(alloc, message_type, bytes)?;
+    message.clear_field_by_number(5);
+    message.merge(more)?;
+    Ok(message)
+}
+
+/// Reads, sets, clears, takes, and writes.
+pub fn edit_and_write(
+    alloc: Global,
+    message_type: MessageDescriptor,
+    bytes: &[u8],
+) -> Result<Vec<u8>, ClientError> {
+    let mut message = DynamicMessage::decode(alloc, message_type, bytes)?;
+    message.try_set_field_by_number(5, Value::I32(7))?;
+    message.clear_field_by_number(6);
+    let _ = message.take_field_by_number(7);
+    Ok(message.encode_to_vec(alloc)?)
+}
+
+/// Reads and sets; the messages inside are of their fields' types.
+pub fn set_keeps_types(
+    alloc: Global,
+    message_type: MessageDescriptor,
+    bytes: &[u8],
+) -> Result<DynamicMessage, ClientError>
+    ensures { IfOk result (λ message. all_typed (message_stored message) ≡ true) }
+{
+    let mut message = DynamicMessage::decode(alloc, message_type, bytes)?;
+    message.try_set_field_by_number(5, Value::I32(7))?;
+    Ok(message)
+}
+
+/// Clears a field, which the message then does not have.
+pub fn has_what_was_cleared(message: &mut DynamicMessage) -> bool
+    ensures { result ≡ false }
+{
+    message.clear_field_by_number(5);
+    message.has_field_by_number(5)
+}
+
+/// Takes a field by its name, which the message then does not have.
+pub fn has_what_was_taken(message: &mut DynamicMessage, name: &str) -> bool
+    ensures { result ≡ false }
+{
+    let _ = message.take_field_by_name(name);
+    message.has_field_by_name(name)
+}
+
+/// Sets a field, clears it and sets it again: what fitted once fits again.
+pub fn set_again(message: &mut DynamicMessage, name: &str) -> Result<(), ClientError> {
+    message.try_set_field_by_name(name, Value::I32(7))?;
+    message.clear_field_by_name(name);
+    message.set_field_by_name(name, Value::I32(7))?;
+    Ok(())
+}
+
+/// Sets a field of the message's own type to its default.
+pub fn set_default(
+    alloc: Global,
+    message: &mut DynamicMessage,
+    name: &str,
+) -> Result<(), AllocError> {
+    let descriptor = message.descriptor()?;
+    if let Some(field) = descriptor.get_field_by_name(name)? {
+        let value = field.default_value(alloc)?;
+        message.set_field(&field, value)?;
+    }
+    Ok(())
+}
+
+/// Clears a field of the message's own type.
+pub fn clear_own(message: &mut DynamicMessage, name: &str) -> Result<(), AllocError> {
+    let descriptor = message.descriptor()?;
+    if let Some(field) = descriptor.get_field_by_name(name)? {
+        message.clear_field(&field);
+    }
+    Ok(())
+}

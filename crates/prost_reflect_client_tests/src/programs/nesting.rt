@@ -1,0 +1,100 @@
+//! Recursions over the messages inside of a message, with no measure.
+
+use crate::programs::error::ClientError;
+use prost_reflect::{DynamicMessage, Value};
+use std::alloc::{AllocError, Global};
+
+/// How many messages there are, in fields and extensions, lists and maps, at every depth.
+#[cycle(counting)]
+pub fn messages_in(message: &DynamicMessage) -> Result<u32, AllocError> {
+    let mut count = 1u32;
+    for item in message.fields() {
+        let (_, value) = item?;
+        count = count.saturating_add(messages_of(value)?);
+    }
+    for item in message.extensions() {
+        let (_, value) = item?;
+        count = count.saturating_add(messages_of(value)?);
+    }
+    Ok(count)
+}
+
+#[cycle(counting)]
+fn messages_of(value: &Value) -> Result<u32, AllocError> {
+    let mut count = 0u32;
+    if let Some(message) = value.as_message() {
+        count = count.saturating_add(messages_in(message)?);
+    }
+    if let Some(values) = value.as_list() {
+        for value in values {
+            count = count.saturating_add(messages_of(value)?);
+        }
+    }
+    if let Some(entries) = value.as_map() {
+        for (_, value) in entries {
+            count = count.saturating_add(messages_of(value)?);
+        }
+    }
+    Ok(count)
+}
+
+/// How deep lists nest.
+pub fn list_depth(value: &Value) -> u32 {
+    match value {
+        Value::List(values) => {
+            let mut most = 0u32;
+            for value in values {
+                most = most.max(list_depth(value));
+            }
+            most.saturating_add(1)
+        }
+        _ => 0,
+    }
+}
+
+/// Clears a field of a name in the message and in each message that fields of another name lead to, one inside of the next.
+#[cycle(clearing)]
+pub fn clear_along(
+    alloc: Global,
+    message: &mut DynamicMessage,
+    path: &str,
+    name: &str,
+) -> Result<(), ClientError> {
+    if message.has_field_by_name(path) {
+        clear_inside(
+            alloc,
+            message.get_field_by_name_mut(alloc, path)?,
+            path,
+            name,
+        )?;
+    }
+    message.clear_field_by_name(name);
+    Ok(())
+}
+
+#[cycle(clearing)]
+fn clear_inside(
+    alloc: Global,
+    value: &mut Value,
+    path: &str,
+    name: &str,
+) -> Result<(), ClientError> {
+    let mut done = Ok(());
+    match value {
+        Value::Message(message) => clear_along(alloc, message, path, name)?,
+        Value::List(values) => {
+            for value in values.iter_mut() {
+                clear_inside(alloc, value, path, name)?;
+            }
+        }
+        Value::Map(entries) => {
+            for value in entries.values_mut() {
+                if done.is_ok() {
+                    done = clear_inside(alloc, value, path, name);
+                }
+            }
+        }
+        _ => {}
+    }
+    done
+}
