@@ -166,7 +166,7 @@ impl DynamicMessage {
         self.fields.set(number, value)
     }
 
-    /// The same where the oneof of the number's field is at hand.
+    /// Stores the value at the number of a field or an extension, as `set_value` does, where the place of its oneof is at hand.
     pub(crate) fn set_member(
         &mut self,
         number: u32,

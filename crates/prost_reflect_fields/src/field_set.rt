@@ -217,7 +217,8 @@ impl<V: Drop> FieldSet<V> {
         self.set_member(number, oneof, value)
     }
 
-    /// The same where the oneof of the number's field is at hand, so that its row is not looked for.
+    /// Sets the value at the number of a field or an extension, as `set` does, where the place of its oneof is at hand, so that
+    /// its row is not looked for. If out of memory, nothing changes.
     pub fn set_member(
         &mut self,
         number: u32,

@@ -1,4 +1,11 @@
 //! The fields of a message by number, over any type of values.
+//!
+//! `FieldSet<V>` keeps at each number a value, unknown fields, or both, and promises: values stand only at the numbers of the
+//! message type, unknown fields only where they give no field a value, and of each oneof at most one member has a value. A
+//! call that runs out of memory changes nothing.
+//!
+//! Begin with `field_set`. Below it `stored` says what setting, taking and lending make of all slots, over any map from numbers
+//! (`number_map`, a trait with laws); `sorted_map` is the map that messages hold, one list (`items`) or sorted runs (`runs`).
 #![tactic(auto)]
 
 pub mod boxed;

@@ -141,7 +141,8 @@ pub fn set_value<V: Drop, S: NumberMap<FieldSlot<V>>>(
     }
 }
 
-/// The same of a member of the oneof. The others are looked for, unless it is noted which of them has a value.
+/// Sets the value at the number of a member of the oneof, and removes those of the other members. These are looked for,
+/// unless it is noted which of them has a value. If out of memory, nothing changes.
 fn set_in_oneof<V: Drop, S: NumberMap<FieldSlot<V>>>(
     fields: &mut S,
     alloc: Global,

@@ -1,4 +1,8 @@
 //! What tells in a fixed number of steps whether two handles are of one shared value, whatever the value holds.
+//!
+//! An `Identity` is a byte beside the value. `is_same` promises that its answer is true exactly where both are one identity:
+//! it sets the one byte to `false`, the other to `true`, and reads the first again. This is the one crate with raw pointers; its
+//! proofs are by hand, and nothing is trusted for them.
 #![tactic(auto)]
 
 ghost use Rattle.std.specs.Prelude.{◌≡◌, ◌↔◌, ℕ, IsTrue};

@@ -7,7 +7,7 @@ pub fn field_unless_fault()
     ensures { FieldUnlessFault }
 {}
 
-/// The same of a value behind a given key.
+/// Bytes begin with a value behind a given key within the levels, or have a fault there, and never both.
 pub fn value_unless_fault()
     ensures { ValueUnlessFault }
 {}

@@ -25,7 +25,7 @@ pub fn linked_identity<R>(
     lent_identity(alloc, &definition.lend(), name)
 }
 
-/// The same of a definition that is lent.
+/// Where a definition that is lent stands.
 ///
 /// # Errors
 ///

@@ -25,7 +25,7 @@ use std::rc::Rc;
 
 // FILES AND THEIR NAMES
 
-/// The same files, shared once more.
+/// Handles of these files: each is shared once more, and no record is copied.
 fn shared(
     alloc: Global,
     files: &[Rc<FileDescriptorProto>],

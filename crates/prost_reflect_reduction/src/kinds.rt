@@ -64,7 +64,8 @@ fn same_enum(alloc: Global, older: &EnumTable, newer: &EnumTable) -> Result<bool
     same_numbers(alloc, &older.values, &newer.values)
 }
 
-/// The same of enums that may not be there: such an enum is open, and has the number 0 first.
+/// Whether two enums that may not be there are the same, as `same_enum` tells: one that is not there is open, and has the
+/// number 0 first.
 fn same_enum_or_none(
     alloc: Global,
     older: Option<&EnumTable>,
@@ -84,7 +85,8 @@ fn same_enum_or_none(
     }
 }
 
-/// The same of the enums at two places. Pairs of which it holds are noted, so that each is compared once.
+/// Whether the enums at two places are the same, as `same_enum` tells. Pairs of which it holds are noted, so that each is
+/// compared once.
 fn enums_same(
     alloc: Global,
     same_enums: &mut BTreeSet<(usize, usize)>,

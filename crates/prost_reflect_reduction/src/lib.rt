@@ -1,4 +1,10 @@
 //! Whether a message type of linked tables is a reduction of another: the same type, perhaps with fields left out.
+//!
+//! `is_reduction` promises the answer exactly, yes and no, where it finds memory: that some set of pairs of message types holds
+//! the two and each pair that is reached from them, whose fields, oneofs, enums and defaults are alike.
+//!
+//! Begin with `walk`, which visits each pair once; `types` compares two message types by themselves, `fields` and `values` two
+//! fields, and `kinds` kinds and enums.
 #![tactic(auto)]
 
 mod fields;

@@ -195,7 +195,7 @@ pub fn fields() -> &'static [Row] {
     &FIELDS
 }
 
-/// The same of each extension.
+/// For each extension its number, and the bytes of a message that has it alone, as of each field in `fields`.
 pub fn extensions() -> &'static [Row] {
     &EXTENSIONS
 }

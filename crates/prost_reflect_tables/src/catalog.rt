@@ -35,9 +35,9 @@ pub struct MessageLists {
     pub extending: Vec<usize>,
     /// The places of its fields without extensions, in ascending order of their numbers.
     pub fields: Vec<usize>,
-    /// The same places by the names of the fields.
+    /// The places of these fields, in the order of their names.
     pub by_name: Vec<usize>,
-    /// The same places by the names in JSON; fields of one such name in ascending order of their numbers.
+    /// The places of these fields, in the order of their names in JSON; those of one such name in ascending order of their numbers.
     pub by_json_name: Vec<usize>,
 }
 

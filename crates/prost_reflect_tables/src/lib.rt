@@ -1,5 +1,12 @@
 //! The definitions of files in flat lists with what their texts mean, and the linked tables of a descriptor pool as plain data:
 //! its message types and enums, each named by its place in a list.
+//!
+//! `flattened` puts each definition into a list with its full name, its path and the message around it. `Tables` and `Catalog`
+//! are what these lists are linked to. All definitions of checks and of linking stand here, in `specs/`, so that a reader finds
+//! in one place what is wrong with files and what they link to; `prost_reflect_checks` and `prost_reflect_linking` compute it.
+//!
+//! Begin with `tables` and `catalog`, the rows; `build/flatten`, `build/index` and `build/resolve` lead from records to what
+//! checks and linking read, and `lookup` finds what stands at a place.
 #![tactic(auto)]
 
 mod build;

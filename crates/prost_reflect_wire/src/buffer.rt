@@ -148,7 +148,7 @@ impl BackBuffer {
         self.prepend_digits(value)
     }
 
-    /// The same digit by digit.
+    /// Adds a varint in front, digit by digit, the last one first.
     fn prepend_digits(&mut self, value: u64) -> Result<(), EncodeError>
         ensures ok { Prepended result (bytes_of self.old) (bytes_of self.new) (short value) }
         ensures err { OnErr result (bytes_of self.new ≡ bytes_of self.old) }

@@ -1,4 +1,12 @@
 //! The wire format of Protocol Buffers: definitions, readers and writers.
+//!
+//! The definitions in `specs/` say what the bytes of a message are and mean, in the terms of the encoding guide; every contract
+//! of the library cites them. The readers promise to read exactly what they say, and to name a fault that the bytes have where
+//! they refuse; the writers append the shortest spelling, or leave the output as it was.
+//!
+//! Begin with `specs/Record` and `specs/Meaning` for the definitions, and with `varint`, `key` and `payload` for the code.
+//! `unknown` has unknown fields and sets of them, which users see; `sink`, `blocks` and `buffer` are what is written to, from
+//! the last byte on.
 #![tactic(auto)]
 
 mod blocks;

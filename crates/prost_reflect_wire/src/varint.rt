@@ -26,7 +26,7 @@ pub fn decode_varint(bytes: &[u8]) -> Result<(u64, &[u8]), DecodeError>
     }
 }
 
-/// The same in at most ten steps. A loop of so many is unrolled, and each digit's scale is then a constant.
+/// Reads a varint in at most ten steps. A loop of so many is unrolled, and each digit's scale is then a constant.
 #[inline(never)]
 fn decode_steps(bytes: &[u8]) -> Result<(u64, &[u8]), DecodeError>
     ensures ok { IfOk result (λ x. VarintFront x.0 bytes.now x.1.now) }

@@ -36,7 +36,7 @@ pub fn edit(
     edit_bytes(alloc, &older, bytes.as_slice(), path, text)
 }
 
-/// The same of bytes and their message type.
+/// Sets the value that the text spells at the path in what the bytes mean to the message type, and gives what is written then.
 fn edit_bytes(
     alloc: Global,
     older: &MessageDescriptor,

@@ -71,7 +71,7 @@ fn field_place(pool: &LinkedPool, place: usize, path: &[u32]) -> Option<(usize, 
     place_behind(pool, place, path)
 }
 
-/// The same, however many numbers there are.
+/// Where the field stands that a path of any length leads to: the place of its message type, and its own there.
 fn place_behind(pool: &LinkedPool, place: usize, path: &[u32]) -> Option<(usize, usize)>
     requires { place < length (pool_rows pool.now).messages }
     ensures place { result ≡ place_behind (pool_rows pool.now) place path.now }

@@ -34,7 +34,7 @@ fn lacks(pool: &LinkedPool, table: &EnumTable, place: usize, number: i32) -> boo
     table.is_closed && !has_number(pool, table, place, number)
 }
 
-/// The same, where an enum that is not there lacks no number.
+/// Whether an enum stands at the place of the pool, is closed and does not declare the number.
 fn is_undeclared(pool: &LinkedPool, place: usize, number: i32) -> bool
     ensures { result ≡ not (is_declared (numbers_or_none (slice_get (pool_rows pool.now).enums place)) number) }
 {

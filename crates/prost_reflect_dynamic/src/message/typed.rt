@@ -129,7 +129,7 @@ fn place_at(message_type: &PooledType, number: u32, value: &Value) -> Option<usi
     }
 }
 
-/// The same by the row of the field.
+/// The place of the type that the messages in a value of the row's field have to be of.
 fn place_of(message_type: &PooledType, field: &FieldTable, value: &Value) -> Option<usize>
     ensures { result ≡ place_for (Some (schema_field (pool_rows message_type.now.pool) (field_row field.now))) (value_stored value.now) }
 {

@@ -38,7 +38,7 @@ pub fn decode_value(
     decode_payload(alloc, number, wire_type, bytes, levels)
 }
 
-/// The same by wire types.
+/// Reads what follows a key of the wire type, as `decode_value` does.
 #[cycle(reading)]
 fn decode_payload(
     alloc: Global,

@@ -31,7 +31,7 @@ pub fn skip_value(
     skip_payload(number, wire_type, bytes, levels)
 }
 
-/// The same by wire types.
+/// Passes over what follows a key of the wire type, as `skip_value` does.
 #[cycle(skipping)]
 fn skip_payload(
     number: FieldNumber,

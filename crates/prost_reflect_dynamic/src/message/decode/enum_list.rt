@@ -95,7 +95,7 @@ fn push_numbers(
     Ok(strays)
 }
 
-/// The same for a value that is a list.
+/// Adds the numbers of a list's record to a value that is a list, as `push_numbers` does.
 fn join_numbers(
     alloc: Global,
     message_type: &PooledType,

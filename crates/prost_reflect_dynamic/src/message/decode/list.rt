@@ -60,7 +60,8 @@ fn push_packed(
     }
 }
 
-/// The same. Where it is inlined into an arm of one kind, its loop is made for that kind.
+/// Adds the elements of a packed record, as `push_packed` does. Where it is inlined into an arm of one kind, its loop is made
+/// for that kind.
 #[inline(always)]
 fn push_all(
     alloc: Global,
@@ -110,7 +111,7 @@ fn push_elements<'a>(
     Ok(rest)
 }
 
-/// The same for a value that is a list.
+/// Adds the elements of a list's record to a value that is a list, as `push_elements` does.
 fn join_elements<'a>(
     alloc: Global,
     value: &mut Value,

@@ -66,7 +66,7 @@ impl DynamicMessage {
         }
     }
 
-    /// The same where no message is there yet. It is stored once its records are read.
+    /// Reads the message of a field that has none yet. It is stored once its records are read.
     #[cycle(reading)]
     fn merge_first<'a>(
         &mut self,

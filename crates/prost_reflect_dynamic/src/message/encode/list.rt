@@ -24,7 +24,8 @@ fn write_payloads<S: Sink>(sink: &mut S, kind: TableKind, values: &[Value])
     }
 }
 
-/// The same. Where it is inlined into an arm of one kind, its loop is made for that kind.
+/// Adds the payloads of scalars in front, as `write_payloads` does. Where it is inlined into an arm of one kind, its loop is
+/// made for that kind.
 #[inline(always)]
 fn write_all<S: Sink>(sink: &mut S, kind: TableKind, values: &[Value])
     requires { TakesScalars kind values.now }
