@@ -1,22 +1,8 @@
 -- What an older type writes of one value, a newer one of a reduction reads as what it read before.
-use Rattle.std.proofs.Common.{◌≡◌, ℕ, nat_lt, eq-eqb, true, false, List, [], ◌∷◌, flat_map, Option, Some, None, refl, ap, sym, ◌∙◌, true≢false}
-use Rattle.std.specs.Option.{is_some}
-use Rattle.std.specs.List.{list_all}
-use Rattle.std.proofs.lemmas.Bool.{eqb-true}
-use Rattle.prost_reflect_wire.specs.Record.{Record, Payload, body_of, payload_valid, valid}
-use Rattle.prost_reflect_wire.specs.Scalar.{Scalar, ScalarKind, elem, scalar_valid}
-use Rattle.prost_reflect_wire.specs.Schema.{Kind, ScalarOf, MessageOf, GroupOf, ValueType, FieldForm, passes}
-use Rattle.prost_reflect_wire.specs.Content.{Content, Value, ScalarValue, MessageValue}
-use Rattle.prost_reflect_wire.specs.Grammar.{AllowsInside, is_stray, element_payloads_in, value_payloads, stray_payloads, one_allowed, field_allowed}
-use Rattle.prost_reflect_wire.specs.Meaning.{MeansInside, element, scalar_values, field_value}
-use Rattle.prost_reflect_wire.specs.Writing.{records, value_payload}
-use Rattle.prost_reflect_wire.specs.Typing.{is_of_type}
-use Rattle.prost_reflect_wire.specs.Reduction.{TypePairs, holds, same_kind}
+use Rattle.prost_reflect_laws.proofs.Common.{◌≡◌, ℕ, nat_lt, eq-eqb, true, false, List, [], ◌∷◌, flat_map, Option, Some, None, refl, ap, sym, ◌∙◌, true≢false, is_some, list_all, eqb-true, Record, Payload, body_of, payload_valid, valid, Scalar, ScalarKind, elem, scalar_valid, Kind, ScalarOf, MessageOf, GroupOf, ValueType, FieldForm, passes, Content, Value, ScalarValue, MessageValue, AllowsInside, is_stray, element_payloads_in, value_payloads, stray_payloads, one_allowed, field_allowed, MeansInside, element, scalar_values, field_value, records, value_payload, is_of_type, TypePairs, holds, same_kind, field_nothing, items_body}
 use Rattle.prost_reflect_laws.specs.Laws.{ElementBack}
-use Rattle.prost_reflect_wire.proofs.Steps.{field_nothing}
 use Rattle.prost_reflect_laws.proofs.Table.{read_back}
 use Rattle.prost_reflect_laws.proofs.Declared.{read_valid}
-use Rattle.prost_reflect_wire.proofs.Bodies.{items_body}
 use Rattle.prost_reflect_laws.proofs.Values.{payload_back}
 use Rattle.prost_reflect_laws.proofs.Packed.{scalar_element}
 use Rattle.prost_reflect_laws.proofs.Spelt.{Sound, SoundPayload, SoundPayloads}

@@ -1,11 +1,6 @@
 -- What the fronts of bytes leave, and where there are none.
-use Rattle.std.proofs.Common.{◌≡◌, ◌≢◌, ℕ, List, [], ◌∷◌, ◌++◌, ap, subst, ◌∙◌}
-use Rattle.prost_reflect_wire.specs.declared.key.WireType.{WireType}
+use Rattle.prost_reflect_laws.proofs.Common.{◌≡◌, ◌≢◌, ℕ, List, [], ◌∷◌, ◌++◌, ap, subst, ◌∙◌, WireType, AreBytes, Plain, Var, Fix64, Len, Fix32, NoRecords, Payload, Flat, Group, Key, payload_wire, KeyFront, PlainFront, DelimitedFront, RecordsFront, PayloadFront, bytes_front, bytes_behind}
 use Rattle.prost_reflect_wire.specs.declared.key.WireType.TheVariants as wires
-use Rattle.prost_reflect_wire.specs.Varint.{AreBytes}
-use Rattle.prost_reflect_wire.specs.Record.{Plain, Var, Fix64, Len, Fix32, NoRecords, Payload, Flat, Group, Key, payload_wire}
-use Rattle.prost_reflect_wire.specs.Front.{KeyFront, PlainFront, DelimitedFront, RecordsFront, PayloadFront}
-use Rattle.prost_reflect_wire.proofs.ByteLists.{bytes_front, bytes_behind}
 
 -- No payload stands behind an end key.
 pub payload_no_end : (p : Payload) → payload_wire p ≢ wires.EndGroup

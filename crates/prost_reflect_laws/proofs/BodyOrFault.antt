@@ -1,26 +1,8 @@
 -- At a place there is a body, or a fault stands there.
-use Rattle.std.proofs.Common.{◌≡◌, ◌≢◌, ℕ, zero, suc, ◌<◌, ◌≤◌, Bool, true, false, ◌&&◌, ◌||◌, ◌⊎◌, inl, inr, List, [], ◌∷◌, length, nat_eq, nat_le, Option, Some, None, refl, sym, ap, ap₂, subst, ◌∙◌, arith, length-append, true≢false}
-use Rattle.std.specs.Option.{is_some}
-use Rattle.std.specs.List.{list_all}
-use Rattle.std.proofs.lemmas.Bool.{le-leb, eqb-true, eqb-false, ltb-false, and_parts}
-use Rattle.std.proofs.lemmas.Option.{none-some}
-use Rattle.prost_reflect_wire.specs.declared.error.DecodeError.{DecodeError}
+use Rattle.prost_reflect_laws.proofs.Common.{◌≡◌, ◌≢◌, ℕ, zero, suc, ◌<◌, ◌≤◌, Bool, true, false, ◌&&◌, ◌||◌, ◌⊎◌, inl, inr, List, [], ◌∷◌, length, nat_eq, nat_le, Option, Some, None, refl, sym, ap, ap₂, subst, ◌∙◌, arith, length-append, true≢false, is_some, list_all, le-leb, eqb-true, eqb-false, ltb-false, and_parts, none-some, DecodeError, WireType, AreBytes, Plain, Len, Records, NoRecords, record_at, Payload, Flat, Group, before, items, payload_levels, plain_wire, payload_wire, read, ScalarKind, kind_wire, Kind, ScalarOf, MessageOf, GroupOf, ValueType, FieldForm, Singular, Repeated, MapFrom, Field, Schema, is_packable, is_message, passes, is_map, AllowsInside, body, one_allowed, packed_allowed, has_level, in_entry_allowed, field_allowed, unpacked, KeyFront, PlainFront, DelimitedFront, PayloadFront, KeyFault, PlainFault, Place, OfType, OfEntry, OfNothing, field_at, TextNext, PackedNext, same_wire, one_takes, packed_takes, takes, needs_level, opens_level, Stands, Here, Behind, InMessage, InGroup, InUnknown, InEntry, spelled_read, plain_delimited, delimited_plain, record_front, first_front, none_front, key_shorter, payload_no_longer, key_stands, end_stands, plain_stands, items_before}
 use Rattle.prost_reflect_wire.specs.declared.error.DecodeError.TheVariants as errors
-use Rattle.prost_reflect_wire.specs.declared.key.WireType.{WireType}
 use Rattle.prost_reflect_wire.specs.declared.key.WireType.TheVariants as wires
-use Rattle.prost_reflect_wire.specs.Varint.{AreBytes}
-use Rattle.prost_reflect_wire.specs.Record.{Plain, Len, Records, NoRecords, record_at, Payload, Flat, Group, before, items, payload_levels, plain_wire, payload_wire, read}
-use Rattle.prost_reflect_wire.specs.Scalar.{ScalarKind, kind_wire}
-use Rattle.prost_reflect_wire.specs.Schema.{Kind, ScalarOf, MessageOf, GroupOf, ValueType, FieldForm, Singular, Repeated, MapFrom, Field, Schema, is_packable, is_message, passes, is_map}
-use Rattle.prost_reflect_wire.specs.Grammar.{AllowsInside, body, one_allowed, packed_allowed, has_level, in_entry_allowed, field_allowed, unpacked}
-use Rattle.prost_reflect_wire.specs.Front.{KeyFront, PlainFront, DelimitedFront, PayloadFront, KeyFault, PlainFault}
-use Rattle.prost_reflect_wire.specs.Fault.{Place, OfType, OfEntry, OfNothing, field_at, TextNext, PackedNext, same_wire, one_takes, packed_takes, takes, needs_level, opens_level, Stands, Here, Behind, InMessage, InGroup, InUnknown, InEntry}
-use Rattle.prost_reflect_wire.proofs.Reading.{spelled_read}
-use Rattle.prost_reflect_wire.proofs.PlainFronts.{plain_delimited, delimited_plain}
-use Rattle.prost_reflect_wire.proofs.RecordFronts.{record_front, first_front, none_front, key_shorter, payload_no_longer}
 use Rattle.prost_reflect_laws.proofs.BodyFronts.{key_bytes, payload_bytes, delimited_bytes}
-use Rattle.prost_reflect_wire.proofs.PlaceFaults.{key_stands, end_stands, plain_stands}
-use Rattle.prost_reflect_wire.proofs.Bodies.{items_before}
 use Rattle.prost_reflect_laws.proofs.Places.{inner, payload_allowed, allowed_at, allows_at, Ended, Body, body_spells, passes_body, levels_outside, entry_same, len_no_end}
 use Rattle.prost_reflect_laws.proofs.FrontOrFault.{SomeFault, SomeKey, key_or, SomePlain, plain_or}
 use Rattle.prost_reflect_laws.proofs.KindsAllowed.{same_is, kind_no_start, kind_no_end, BadText, wire_fits, one_field, packed_field, elements_or, element_name}

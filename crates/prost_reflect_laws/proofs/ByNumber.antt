@@ -1,20 +1,7 @@
 -- The records of one number, in records and in what is written of a meaning.
-use Rattle.std.proofs.Common.{◌≡◌, ℕ, suc, Bool, true, false, cond, not, ◌&&◌, ◌||◌, List, [], ◌∷◌, ◌++◌, map, filter, flat_map, nat_eq, Option, Some, None, refl, ap, ap₂, sym, subst, ◌∙◌, arith, append-nil, append_assoc}
-use Rattle.std.proofs.lemmas.Bool.{eqb-true, eq-eqb, and_parts, and_from, or_parts}
-use Rattle.std.specs.List.{list_any, list_all}
-use Rattle.std.proofs.lemmas.List.Folds.{list_all-append}
-use Rattle.prost_reflect_wire.specs.Record.{Record, Payload, Flat, Group, before, body_of, number_valid, payload_valid, plain_valid, valid}
-use Rattle.prost_reflect_wire.specs.Schema.{Field, field_of, is_sibling}
-use Rattle.prost_reflect_wire.specs.Content.{Entries, Value, Slot, then_unknowns, then_value, store, table}
-use Rattle.prost_reflect_wire.specs.Grammar.{payloads, has_number, numbered, value_records, value_payloads, stray_payloads, unknown_payloads}
-use Rattle.prost_reflect_wire.specs.Meaning.{after_last, survive}
-use Rattle.prost_reflect_wire.specs.Writing.{record_at, entries_records, field_payloads}
+use Rattle.prost_reflect_laws.proofs.Common.{◌≡◌, ℕ, suc, Bool, true, false, cond, not, ◌&&◌, ◌||◌, List, [], ◌∷◌, ◌++◌, map, filter, flat_map, nat_eq, Option, Some, None, refl, ap, ap₂, sym, subst, ◌∙◌, arith, append-nil, append_assoc, eqb-true, eq-eqb, and_parts, and_from, or_parts, list_any, list_all, list_all-append, Record, Payload, Flat, Group, before, body_of, number_valid, payload_valid, plain_valid, valid, Field, field_of, is_sibling, Entries, Value, Slot, then_unknowns, then_value, store, table, payloads, has_number, numbered, value_records, value_payloads, stray_payloads, unknown_payloads, after_last, survive, record_at, entries_records, field_payloads, Ascending, is_in, not_in, Covers, eqb-sym, field_number, filter_append, map_append, all_after}
 use Rattle.prost_reflect_laws.specs.Laws.{block}
-use Rattle.prost_reflect_wire.proofs.Numbers.{Ascending, is_in, not_in, Covers, eqb-sym}
-use Rattle.prost_reflect_wire.proofs.Survivors.{field_number, filter_append}
-use Rattle.prost_reflect_wire.proofs.Steps.{map_append}
 use Rattle.prost_reflect_laws.proofs.Commuting.{value_records_block}
-use Rattle.prost_reflect_wire.proofs.Deeper.{all_after}
 use Rattle.prost_reflect_laws.proofs.Values.{value_records_known, unknown_known}
 use Rattle.prost_reflect_laws.proofs.Spelt.{Sound, sound_append}
 use Rattle.prost_reflect_laws.proofs.Back.{filter_block}

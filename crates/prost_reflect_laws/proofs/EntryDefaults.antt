@@ -1,16 +1,5 @@
 -- Of an entry: the last scalar of a number, or the default.
-use Rattle.std.proofs.Common.{◌≡◌, Bool, true, false, not, List, Option, Some, None, refl, ap, sym, ◌∙◌, true≢false}
-use Rattle.std.specs.List.{list_all}
-use Rattle.std.specs.Str.{is_utf8, chars}
-use Rattle.std.proofs.lemmas.Bool.{and_parts}
-use Rattle.std.proofs.lemmas.Option.{same_Some}
-use Rattle.prost_reflect_wire.specs.Varint.{◌>>=◌}
-use Rattle.prost_reflect_wire.specs.Record.{Payload, Var, Fix64, Len, Fix32, Flat, Group, payload_valid}
-use Rattle.prost_reflect_wire.specs.Scalar.{Scalar, EnumNumber, ScalarKind, Double, Float, StringKind, BytesKind, Enum, elem, kind_default, is_declared, is_undeclared, in_i32, scalar_valid}
-use Rattle.prost_reflect_wire.specs.Schema.{ScalarOf, is_key_kind}
-use Rattle.prost_reflect_wire.specs.Grammar.{last}
-use Rattle.prost_reflect_wire.specs.Meaning.{last_or}
-use Rattle.prost_reflect_wire.proofs.ListTests.{last_passes}
+use Rattle.prost_reflect_laws.proofs.Common.{◌≡◌, Bool, true, false, not, List, Option, Some, None, refl, ap, sym, ◌∙◌, true≢false, list_all, is_utf8, chars, and_parts, same_Some, ◌>>=◌, Payload, Var, Fix64, Len, Fix32, Flat, Group, payload_valid, Scalar, EnumNumber, ScalarKind, Double, Float, StringKind, BytesKind, Enum, elem, kind_default, is_declared, is_undeclared, in_i32, scalar_valid, ScalarOf, is_key_kind, last, last_or, last_passes}
 use Rattle.prost_reflect_laws.proofs.Declared.{read_valid}
 
 -- kinds of keys have valid defaults, and no strays

@@ -1,27 +1,6 @@
 -- The records of an entry, read one behind another: each key and each value takes the place of the one before, and other records are passed over.
-use Rattle.std.proofs.Common.{◌≡◌, ◌≢◌, ℕ, Bool, true, false, cond, List, [], ◌∷◌, ◌++◌, nat_eq, nat_le, Option, Some, None, refl, ap, ap₂, sym, subst, ◌∙◌, append-nil}
-use Rattle.std.specs.Option.{is_some}
-use Rattle.std.proofs.lemmas.Bool.{eqb-true, le-leb, and_from}
-use Rattle.std.proofs.lemmas.Option.{none-some}
-use Rattle.prost_reflect_wire.specs.declared.error.DecodeError.{DecodeError}
-use Rattle.prost_reflect_wire.specs.declared.key.WireType.{WireType}
-use Rattle.prost_reflect_wire.specs.Varint.{◌>>=◌}
-use Rattle.prost_reflect_wire.specs.Record.{Record, Payload, Flat, record_at, body_of, payload_levels}
-use Rattle.prost_reflect_wire.specs.Front.{KeyFront, RecordFront, KeyFault}
-use Rattle.prost_reflect_wire.specs.Scalar.{Scalar, ScalarKind, elem, kind_default}
-use Rattle.prost_reflect_wire.specs.Schema.{ValueType, Schema}
-use Rattle.prost_reflect_wire.specs.Content.{Value, ScalarValue}
-use Rattle.prost_reflect_wire.specs.Grammar.{AllowsInside, nothing_inside, has_number, payloads, numbered, last, fits, in_entry_allowed}
-use Rattle.prost_reflect_wire.specs.Meaning.{MeansInside, empty_inside, last_or, entry_key, entry_value}
+use Rattle.prost_reflect_laws.proofs.Common.{◌≡◌, ◌≢◌, ℕ, Bool, true, false, cond, List, [], ◌∷◌, ◌++◌, nat_eq, nat_le, Option, Some, None, refl, ap, ap₂, sym, subst, ◌∙◌, append-nil, is_some, eqb-true, le-leb, and_from, none-some, DecodeError, WireType, ◌>>=◌, Record, Payload, Flat, record_at, body_of, payload_levels, KeyFront, RecordFront, KeyFault, Scalar, ScalarKind, elem, kind_default, ValueType, Schema, Value, ScalarValue, AllowsInside, nothing_inside, has_number, payloads, numbered, last, fits, in_entry_allowed, MeansInside, empty_inside, last_or, entry_key, entry_value, Stands, entry_field, field_at, ValueFault, ScalarRead, ScalarFault, EntryTo, EntryPlace, plain_type, ScalarEntryTo, StandsInEntry, all_append, filter_append, map_append, last_append, record_front, last_front, none_front, key_stands, value_stands, stands_behind}
 use Rattle.prost_reflect_wire.specs.Unknown.{SkipsValue}
-use Rattle.prost_reflect_wire.specs.Fault.{Stands, entry_field, field_at, ValueFault}
-use Rattle.prost_reflect_wire.specs.Decoding.{ScalarRead, ScalarFault}
-use Rattle.prost_reflect_wire.specs.EntryReading.{EntryTo, EntryPlace, plain_type, ScalarEntryTo, StandsInEntry}
-use Rattle.prost_reflect_wire.proofs.ListTests.{all_append}
-use Rattle.prost_reflect_wire.proofs.Survivors.{filter_append}
-use Rattle.prost_reflect_wire.proofs.Steps.{map_append, last_append}
-use Rattle.prost_reflect_wire.proofs.RecordFronts.{record_front, last_front, none_front}
-use Rattle.prost_reflect_wire.proofs.PlaceFaults.{key_stands, value_stands, stands_behind}
 use Rattle.prost_reflect_laws.proofs.ScalarFaults.{scalar_stands}
 
 -- ONE RECORD MORE

@@ -1,9 +1,5 @@
 -- Tests of every entry at every depth.
-use Rattle.std.proofs.Common.{◌≡◌, ℕ, true, ◌&&◌, List, refl}
-use Rattle.std.proofs.lemmas.Bool.{and_parts, and_from}
-use Rattle.prost_reflect_wire.specs.Schema.{Field, known}
-use Rattle.prost_reflect_wire.specs.Content.{Content, ContentOf, Entries, NoEntries, Stored, Unknown, Value, ScalarValue, MessageValue, ListValue, MapValue, Values, NoValues, Item, Pairs, NoPairs, Pair}
-use Rattle.prost_reflect_wire.specs.Typing.{EntryTest, everywhere, entries_pass, value_passes, values_pass, pairs_pass}
+use Rattle.prost_reflect_laws.proofs.Common.{◌≡◌, ℕ, true, ◌&&◌, List, refl, and_parts, and_from, Field, known, Content, ContentOf, Entries, NoEntries, Stored, Unknown, Value, ScalarValue, MessageValue, ListValue, MapValue, Values, NoValues, Item, Pairs, NoPairs, Pair, EntryTest, everywhere, entries_pass, value_passes, values_pass, pairs_pass}
 
 -- what a test says of a value and what stands behind it
 pub record StoredPasses (test : EntryTest) (fields : List Field) (n : ℕ) (v : Value) (es : Entries) : Type 0 where

@@ -1,15 +1,8 @@
 -- Bytes are accepted unless a fault stands in them.
-use Rattle.std.proofs.Common.{◌≡◌, ◌≢◌, ◌↔◌, ℕ, suc, Bool, true, false, inl, inr, List, [], length, None, refl, sym, subst, ◌∙◌, arith, append-nil, true≢false}
-use Rattle.prost_reflect_wire.specs.Varint.{AreBytes}
-use Rattle.prost_reflect_wire.specs.Record.{items}
-use Rattle.prost_reflect_wire.specs.Schema.{Schema}
-use Rattle.prost_reflect_wire.specs.Grammar.{Accepts, accepts}
-use Rattle.prost_reflect_wire.specs.Fault.{Place, OfType, Comes, Stands, Here, Behind, InMessage, InGroup, InUnknown, InEntry, StandsInMessage}
-use Rattle.prost_reflect_wire.specs.declared.error.DecodeError.{DecodeError}
+use Rattle.prost_reflect_laws.proofs.Common.{◌≡◌, ◌≢◌, ◌↔◌, ℕ, suc, Bool, true, false, inl, inr, List, [], length, None, refl, sym, subst, ◌∙◌, arith, append-nil, true≢false, AreBytes, items, Schema, Accepts, accepts, Place, OfType, Comes, Stands, Here, Behind, InMessage, InGroup, InUnknown, InEntry, StandsInMessage, DecodeError, only_memory}
 use Rattle.prost_reflect_wire.specs.declared.error.DecodeError.TheVariants as errors
 use Rattle.prost_reflect_laws.proofs.Places.{Body, allows_at, body_spells}
 use Rattle.prost_reflect_laws.proofs.Accepted.{accepts_is_test}
-use Rattle.prost_reflect_wire.proofs.FieldFaults.{only_memory}
 use Rattle.prost_reflect_laws.proofs.NoFaultInside.{body_no_fault}
 use Rattle.prost_reflect_laws.proofs.BodyOrFault.{SomeBody, body_or_fault}
 

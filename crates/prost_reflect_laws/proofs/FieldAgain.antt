@@ -1,16 +1,5 @@
 -- A field, carried through a reduction: its value by its form, and its strays.
-use Rattle.std.proofs.Common.{◌≡◌, ℕ, Bool, true, cond, not, ◌&&◌, ◌||◌, List, [], ◌∷◌, ◌++◌, filter, flat_map, Some, refl, ap, ap₂, sym, ◌∙◌, true≢false}
-use Rattle.std.specs.List.{list_all}
-use Rattle.std.proofs.lemmas.List.Folds.{list_all-append}
-use Rattle.std.proofs.lemmas.Bool.{and_parts, and_from}
-use Rattle.prost_reflect_wire.specs.Record.{Var, Payload, Flat, payload_valid}
-use Rattle.prost_reflect_wire.specs.Scalar.{ScalarKind, Enum, is_undeclared}
-use Rattle.prost_reflect_wire.specs.Schema.{Kind, ScalarOf, MessageOf, GroupOf, ValueType, FieldForm, Singular, Repeated, MapFrom, Field, Schema}
-use Rattle.prost_reflect_wire.specs.Grammar.{AllowsInside, fits, is_stray, is_stray_entry, element_payloads_in, value_payloads, stray_payloads, one_allowed, packed_allowed, field_allowed}
-use Rattle.prost_reflect_wire.specs.Meaning.{MeansInside, field_value}
-use Rattle.prost_reflect_wire.specs.Reduction.{TypePairs, same_form}
-use Rattle.prost_reflect_wire.proofs.Deeper.{all_filter, all_implied, source_allowed, value_records_allowed}
-use Rattle.prost_reflect_wire.proofs.ListTests.{filter_passes}
+use Rattle.prost_reflect_laws.proofs.Common.{◌≡◌, ℕ, Bool, true, cond, not, ◌&&◌, ◌||◌, List, [], ◌∷◌, ◌++◌, filter, flat_map, Some, refl, ap, ap₂, sym, ◌∙◌, true≢false, list_all, list_all-append, and_parts, and_from, Var, Payload, Flat, payload_valid, ScalarKind, Enum, is_undeclared, Kind, ScalarOf, MessageOf, GroupOf, ValueType, FieldForm, Singular, Repeated, MapFrom, Field, Schema, AllowsInside, fits, is_stray, is_stray_entry, element_payloads_in, value_payloads, stray_payloads, one_allowed, packed_allowed, field_allowed, MeansInside, field_value, TypePairs, same_form, all_filter, all_implied, source_allowed, value_records_allowed, filter_passes}
 use Rattle.prost_reflect_laws.proofs.Checked.{CheckedField, CheckedList, checked_list, CheckedMap, checked_map}
 use Rattle.prost_reflect_laws.proofs.Alike.{SameType, same_type}
 use Rattle.prost_reflect_laws.proofs.ByNumber.{stored_payloads}

@@ -1,23 +1,10 @@
 -- Either a field within the levels is at the front of the bytes, or a fault stands in it.
-use Rattle.std.proofs.Common.{◌≡◌, ℕ, zero, suc, ◌+◌, ◌*◌, ◌/◌, ◌%◌, ◌^◌, ◌<◌, ◌≤◌, List, [], ◌∷◌, length, get_or, take, drop, Some, refl, sym, subst, arith, inl, inr, ◌⊎◌}
-use Rattle.std.proofs.lemmas.Bool.{cases_lt, cases_eq}
+use Rattle.prost_reflect_laws.proofs.Common.{◌≡◌, ℕ, zero, suc, ◌+◌, ◌*◌, ◌/◌, ◌%◌, ◌^◌, ◌<◌, ◌≤◌, List, [], ◌∷◌, length, get_or, take, drop, Some, refl, sym, subst, arith, inl, inr, ◌⊎◌, cases_lt, cases_eq, DecodeError, WireType, AreBytes, Varint, bytes_behind, short_key_front, wire_small, Plain, Var, Fix64, Len, Fix32, Records, NoRecords, record_at, Payload, Flat, Group, before, plain_wire, payload_wire, wire_code, raw_levels, payload_levels, VarintFront, VarintFault, KeyFront, KeyFault, PlainFront, GroupFront, PayloadFront, ValueFront, OfNothing, Stands, Behind, StandsInField, StandsInValue, ValueFault, delimited_cut, delimited_plain, record_front, first_front, none_front, levels_first, key_shorter, payload_no_longer, field_front, key_stands, end_stands, value_stands, key_stands_in_field, value_stands_in_field, value_stands_in_value}
 use Rattle.std.proofs.lemmas.List.{length-take, take-append-drop}
-use Rattle.prost_reflect_wire.specs.declared.error.DecodeError.{DecodeError}
 use Rattle.prost_reflect_wire.specs.declared.error.DecodeError.TheVariants as errors
-use Rattle.prost_reflect_wire.specs.declared.key.WireType.{WireType}
 use Rattle.prost_reflect_wire.specs.declared.key.WireType.TheVariants as wires
-use Rattle.prost_reflect_wire.specs.Varint.{AreBytes, Varint}
 use Rattle.prost_reflect_laws.specs.FieldLaws.{HasField, HasValue}
-use Rattle.prost_reflect_wire.proofs.ByteLists.{bytes_behind}
-use Rattle.prost_reflect_wire.proofs.KeyFronts.{short_key_front}
-use Rattle.prost_reflect_wire.proofs.Reading.{wire_small}
-use Rattle.prost_reflect_wire.specs.Record.{Plain, Var, Fix64, Len, Fix32, Records, NoRecords, record_at, Payload, Flat, Group, before, plain_wire, payload_wire, wire_code, raw_levels, payload_levels}
-use Rattle.prost_reflect_wire.specs.Front.{VarintFront, VarintFault, KeyFront, KeyFault, PlainFront, GroupFront, PayloadFront, ValueFront}
-use Rattle.prost_reflect_wire.specs.Fault.{OfNothing, Stands, Behind, StandsInField, StandsInValue, ValueFault}
 use Rattle.prost_reflect_wire.proofs.VarintDigits.{Digits, digits_none, digits_more, digits_last, digits_pass, digits_stop, value_fits}
-use Rattle.prost_reflect_wire.proofs.PlainFronts.{delimited_cut, delimited_plain}
-use Rattle.prost_reflect_wire.proofs.RecordFronts.{record_front, first_front, none_front, levels_first, key_shorter, payload_no_longer, field_front}
-use Rattle.prost_reflect_wire.proofs.PlaceFaults.{key_stands, end_stands, value_stands, key_stands_in_field, value_stands_in_field, value_stands_in_value}
 
 -- VARINTS
 

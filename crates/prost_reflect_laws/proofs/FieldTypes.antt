@@ -1,9 +1,5 @@
 -- What is known of a field from a value that fits it.
-use Rattle.std.proofs.Common.{◌≡◌, Bool, true, Option, Some, None, refl, sym, subst, true≢false}
-use Rattle.std.proofs.lemmas.Bool.{and_parts}
-use Rattle.prost_reflect_wire.specs.Schema.{Kind, FieldForm, Singular, Repeated, MapFrom, Field, Schema, is_message, is_singular, passes, is_list}
-use Rattle.prost_reflect_wire.specs.Content.{Value, ScalarValue, MessageValue, ListValue, MapValue}
-use Rattle.prost_reflect_wire.specs.Typing.{elements_valid, value_valid, own_kind, kind_for, ValueTyped}
+use Rattle.prost_reflect_laws.proofs.Common.{◌≡◌, Bool, true, Option, Some, None, refl, sym, subst, true≢false, and_parts, Kind, FieldForm, Singular, Repeated, MapFrom, Field, Schema, is_message, is_singular, passes, is_list, Value, ScalarValue, MessageValue, ListValue, MapValue, elements_valid, value_valid, own_kind, kind_for, ValueTyped}
 
 pub singular : (c : FieldForm) → is_singular c ≡ true → c ≡ Singular
 singular Singular h = refl

@@ -1,13 +1,7 @@
 -- At the front of bytes there is a key or a plain payload, or what keeps it from standing there.
-use Rattle.std.proofs.Common.{◌≡◌, ◌≢◌, ℕ, ◌⊎◌, inl, inr, List, sym}
-use Rattle.prost_reflect_wire.specs.declared.error.DecodeError.{DecodeError}
+use Rattle.prost_reflect_laws.proofs.Common.{◌≡◌, ◌≢◌, ℕ, ◌⊎◌, inl, inr, List, sym, DecodeError, WireType, AreBytes, Plain, Payload, Flat, Group, plain_wire, payload_wire, KeyFront, PlainFront, PayloadFront, KeyFault, PlainFault, ValueComes}
 use Rattle.prost_reflect_wire.specs.declared.error.DecodeError.TheVariants as errors
-use Rattle.prost_reflect_wire.specs.declared.key.WireType.{WireType}
 use Rattle.prost_reflect_wire.specs.declared.key.WireType.TheVariants as wires
-use Rattle.prost_reflect_wire.specs.Varint.{AreBytes}
-use Rattle.prost_reflect_wire.specs.Record.{Plain, Payload, Flat, Group, plain_wire, payload_wire}
-use Rattle.prost_reflect_wire.specs.Front.{KeyFront, PlainFront, PayloadFront, KeyFault, PlainFault}
-use Rattle.prost_reflect_wire.specs.Fault.{ValueComes}
 use Rattle.prost_reflect_laws.proofs.FieldOrFault.{KeyRead, KeyHere, NoKeyHere, key_or_fault, ValueRead, ValueHere, NoValue, value_or_fault}
 
 -- A fault of some name.

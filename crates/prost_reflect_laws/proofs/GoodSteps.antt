@@ -1,22 +1,8 @@
 -- Records that are allowed keep a content well-typed and within the levels that are left.
-use Rattle.std.proofs.Common.{◌≡◌, ℕ, zero, suc, ◌≤◌, Bool, true, false, cond, not, ◌&&◌, List, [], ◌∷◌, map, nat_eq, nat_le, Option, Some, None, refl, ap, ap₂, sym, ◌∙◌, subst, arith, true≢false}
-use Rattle.std.specs.List.{list_all}
-use Rattle.std.proofs.lemmas.Bool.{eqb-true, and_parts, and_from}
-use Rattle.prost_reflect_wire.specs.Varint.{◌>>=◌}
-use Rattle.prost_reflect_wire.specs.Record.{Payload, Record, body_of, number_valid, valid, payload_valid, payload_levels}
-use Rattle.prost_reflect_wire.specs.Schema.{ValueType, FieldForm, Singular, Repeated, MapFrom, Field, Schema, known, field_of, is_sibling, numbers_differ, field_valid, schema_valid, passes}
-use Rattle.prost_reflect_wire.specs.Content.{Content, ContentOf, Entries, Value, Slot, schema_of, type_of, empty, slot_at, changed, insert_number, numbers_in}
-use Rattle.prost_reflect_wire.specs.Grammar.{AllowsInside, field_allowed, record_allowed, nothing_inside, allows, element_payloads_in, is_stray, is_stray_entry, value_payloads, value_records, unknown_payloads}
-use Rattle.prost_reflect_wire.specs.Meaning.{MeansInside, JoinsInside, value_step, value_steps, value_behind, value_joined, slot_step, steps_by, empty_inside, joins_nothing, meaning, steps}
-use Rattle.prost_reflect_wire.specs.Levels.{levels}
-use Rattle.prost_reflect_wire.specs.Typing.{value_valid, WellTyped}
+use Rattle.prost_reflect_laws.proofs.Common.{◌≡◌, ℕ, zero, suc, ◌≤◌, Bool, true, false, cond, not, ◌&&◌, List, [], ◌∷◌, map, nat_eq, nat_le, Option, Some, None, refl, ap, ap₂, sym, ◌∙◌, subst, arith, true≢false, list_all, eqb-true, and_parts, and_from, ◌>>=◌, Payload, Record, body_of, number_valid, valid, payload_valid, payload_levels, ValueType, FieldForm, Singular, Repeated, MapFrom, Field, Schema, known, field_of, is_sibling, numbers_differ, field_valid, schema_valid, passes, Content, ContentOf, Entries, Value, Slot, schema_of, type_of, empty, slot_at, changed, insert_number, numbers_in, AllowsInside, field_allowed, record_allowed, nothing_inside, allows, element_payloads_in, is_stray, is_stray_entry, value_payloads, value_records, unknown_payloads, MeansInside, JoinsInside, value_step, value_steps, value_behind, value_joined, slot_step, steps_by, empty_inside, joins_nothing, meaning, steps, levels, value_valid, WellTyped, all_append, source_allowed, element_allowed, elements_in_allowed, allows_append, insert_ascending, entries_ascending, eqb-sym, field_number, meaning_steps, meaning_empty}
 use Rattle.prost_reflect_laws.specs.Laws.{block}
-use Rattle.prost_reflect_wire.proofs.Deeper.{all_append, source_allowed, element_allowed, elements_in_allowed, allows_append}
 use Rattle.prost_reflect_laws.proofs.Checked.{known_valid, known_differ, found_valid, checked_field, checked_map}
 use Rattle.prost_reflect_laws.proofs.Means.{first_valid}
-use Rattle.prost_reflect_wire.proofs.Numbers.{insert_ascending, entries_ascending, eqb-sym}
-use Rattle.prost_reflect_wire.proofs.Survivors.{field_number}
-use Rattle.prost_reflect_wire.proofs.Steps.{meaning_steps, meaning_empty}
 use Rattle.prost_reflect_laws.proofs.Readable.{number_spelled, elements_in_valid}
 use Rattle.prost_reflect_laws.proofs.StraysStay.{all_filtered, unknown_stays}
 use Rattle.prost_reflect_laws.proofs.Slots.{good_well, GoodContent, GoodEntries, GoodValue, GoodSlots, unknown_good, slots_good, table_good, alone_changed, sibling_back, not_own}

@@ -1,25 +1,7 @@
 -- A record read into a content that holds: a scalar where its field's value is set, a record that stays unknown where it is added.
-use Rattle.std.proofs.Common.{◌≡◌, ◌<◌, ◌≤◌, ◌^◌, ℕ, Bool, true, false, cond, ◌&&◌, List, [], ◌∷◌, ◌++◌, nat_eq, nat_le, Option, Some, None, refl, ap, sym, ◌∙◌, subst, true≢false, arith}
-use Rattle.prost_reflect_wire.specs.declared.key.WireType.{WireType}
-use Rattle.prost_reflect_wire.specs.Varint.{AreBytes}
-use Rattle.prost_reflect_wire.specs.Record.{Payload, Flat, Group, payload_valid}
-use Rattle.prost_reflect_wire.specs.Front.{ValueFront, PayloadFront}
-use Rattle.prost_reflect_wire.specs.Scalar.{Scalar, ScalarKind, is_undeclared, scalar_valid}
-use Rattle.prost_reflect_wire.specs.Schema.{ScalarOf, Singular, Field, Schema, known, field_of, is_sibling, is_singular, numbers_differ, schema_valid, passes}
-use Rattle.prost_reflect_wire.specs.Content.{ContentOf, Entries, Value, ScalarValue, Slot, value_at, unknowns_at, slot_at, insert_number, numbers_in, changed, entries_ordered}
-use Rattle.prost_reflect_wire.specs.Typing.{fit_test, value_valid, kind_takes, unknown_fits, is_whole_stray, value_passes, entries_pass, ValueStored, WellStored}
-use Rattle.prost_reflect_wire.specs.Grammar.{record_allowed}
-use Rattle.prost_reflect_wire.specs.Levels.{stray_levels, unknown_levels}
-use Rattle.prost_reflect_wire.specs.Writing.{record_at}
+use Rattle.prost_reflect_laws.proofs.Common.{◌≡◌, ◌<◌, ◌≤◌, ◌^◌, ℕ, Bool, true, false, cond, ◌&&◌, List, [], ◌∷◌, ◌++◌, nat_eq, nat_le, Option, Some, None, refl, ap, sym, ◌∙◌, subst, true≢false, arith, WireType, AreBytes, Payload, Flat, Group, payload_valid, ValueFront, PayloadFront, Scalar, ScalarKind, is_undeclared, scalar_valid, ScalarOf, Singular, Field, Schema, known, field_of, is_sibling, is_singular, numbers_differ, schema_valid, passes, ContentOf, Entries, Value, ScalarValue, Slot, value_at, unknowns_at, slot_at, insert_number, numbers_in, changed, entries_ordered, fit_test, value_valid, kind_takes, unknown_fits, is_whole_stray, value_passes, entries_pass, ValueStored, WellStored, record_allowed, stray_levels, unknown_levels, record_at, with_value, with_stored, with_unknown, ScalarRead, Step, lt-ltb, le-leb, and_from, bytes_front, field_number, empty_slot, eqb-sym, insert_ascending, entries_ascending}
 use Rattle.prost_reflect_laws.specs.Laws.{UnknownBack}
-use Rattle.prost_reflect_wire.specs.Edit.{with_value}
-use Rattle.prost_reflect_wire.specs.Storing.{with_stored, with_unknown}
-use Rattle.prost_reflect_wire.specs.Decoding.{ScalarRead, Step}
-use Rattle.std.proofs.lemmas.Bool.{lt-ltb, le-leb, and_from}
-use Rattle.prost_reflect_wire.proofs.ByteLists.{bytes_front}
 use Rattle.prost_reflect_laws.proofs.SpelledValid.{spelled_plain_valid, spelled_valid}
-use Rattle.prost_reflect_wire.proofs.Survivors.{field_number}
-use Rattle.prost_reflect_wire.proofs.Numbers.{empty_slot, eqb-sym, insert_ascending, entries_ascending}
 use Rattle.prost_reflect_laws.proofs.Arranged.{OrderedOption, table_ordered}
 use Rattle.prost_reflect_laws.proofs.Slotwise.{slot_changed}
 use Rattle.prost_reflect_laws.proofs.StoredSteps.{Known, value_in_order}

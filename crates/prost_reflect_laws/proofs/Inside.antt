@@ -1,13 +1,5 @@
 -- The records in payloads that have a spelling: they have one too, and joined they are allowed where each is.
-use Rattle.std.proofs.Common.{◌≡◌, ℕ, true, List, [], ◌∷◌, ◌++◌, refl, ap, sym, ◌∙◌, true≢false, append-nil}
-use Rattle.std.specs.List.{list_all}
-use Rattle.std.proofs.lemmas.Bool.{eqb-true, and_parts}
-use Rattle.prost_reflect_wire.specs.Record.{Record, Payload, body_of, payload_valid, valid}
-use Rattle.prost_reflect_wire.specs.Schema.{Kind, ScalarOf, MessageOf, GroupOf, passes}
-use Rattle.prost_reflect_wire.specs.Grammar.{AllowsInside, body, records_in, one_allowed, is_len, is_group_payload}
-use Rattle.prost_reflect_wire.specs.Meaning.{joined}
-use Rattle.prost_reflect_wire.specs.Typing.{is_of_type}
-use Rattle.prost_reflect_wire.proofs.Deeper.{passes_in}
+use Rattle.prost_reflect_laws.proofs.Common.{◌≡◌, ℕ, true, List, [], ◌∷◌, ◌++◌, refl, ap, sym, ◌∙◌, true≢false, append-nil, list_all, eqb-true, and_parts, Record, Payload, body_of, payload_valid, valid, Kind, ScalarOf, MessageOf, GroupOf, passes, AllowsInside, body, records_in, one_allowed, is_len, is_group_payload, joined, is_of_type, passes_in}
 use Rattle.prost_reflect_laws.proofs.Readable.{inside_spelled, append_valid}
 
 -- VALID

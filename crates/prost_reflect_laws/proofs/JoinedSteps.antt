@@ -1,21 +1,5 @@
 -- A record of a field, read into a content that holds: its payload joins the value that is there, and what comes of it is stored.
-use Rattle.std.proofs.Common.{◌≡◌, ℕ, Bool, true, false, cond, List, [], ◌∷◌, ◌++◌, nat_eq, Option, Some, None, refl, ap, sym, ◌∙◌, map, true≢false}
-use Rattle.std.proofs.lemmas.Bool.{eqb-true, eq-eqb}
-use Rattle.prost_reflect_wire.specs.declared.key.WireType.{WireType}
-use Rattle.prost_reflect_wire.specs.Varint.{◌>>=◌}
-use Rattle.prost_reflect_wire.specs.Record.{Payload}
-use Rattle.prost_reflect_wire.specs.Front.{ValueFront}
-use Rattle.prost_reflect_wire.specs.Schema.{Field, Schema, known, field_of, is_sibling, numbers_differ}
-use Rattle.prost_reflect_wire.specs.Content.{ContentOf, Entries, Value, Slot, value_at, slot_at, changed, entries_ordered}
-use Rattle.prost_reflect_wire.specs.Grammar.{field_allowed, value_payloads, stray_payloads}
-use Rattle.prost_reflect_wire.specs.Meaning.{MeansInside, JoinsInside, value_joined, value_step, value_behind, slot_step}
-use Rattle.prost_reflect_wire.specs.Writing.{record_at}
-use Rattle.prost_reflect_wire.specs.Typing.{kept_value, kept_inside, WellStored, ValueStored}
-use Rattle.prost_reflect_wire.specs.Edit.{with_value}
-use Rattle.prost_reflect_wire.specs.Storing.{with_stored}
-use Rattle.prost_reflect_wire.specs.Decoding.{Step}
-use Rattle.prost_reflect_wire.proofs.Survivors.{field_number}
-use Rattle.prost_reflect_wire.proofs.Numbers.{empty_slot, eqb-sym, slots_same}
+use Rattle.prost_reflect_laws.proofs.Common.{◌≡◌, ℕ, Bool, true, false, cond, List, [], ◌∷◌, ◌++◌, nat_eq, Option, Some, None, refl, ap, sym, ◌∙◌, map, true≢false, eqb-true, eq-eqb, WireType, ◌>>=◌, Payload, ValueFront, Field, Schema, known, field_of, is_sibling, numbers_differ, ContentOf, Entries, Value, Slot, value_at, slot_at, changed, entries_ordered, field_allowed, value_payloads, stray_payloads, MeansInside, JoinsInside, value_joined, value_step, value_behind, slot_step, record_at, kept_value, kept_inside, WellStored, ValueStored, with_value, with_stored, Step, field_number, empty_slot, eqb-sym, slots_same}
 use Rattle.prost_reflect_laws.proofs.Allowed.{inside}
 use Rattle.prost_reflect_laws.proofs.Means.{below, further}
 use Rattle.prost_reflect_laws.proofs.Values.{value_records_known, unknown_known}

@@ -1,22 +1,8 @@
 -- Payloads of a wire type that a field takes are allowed, but for what is inside them.
-use Rattle.std.proofs.Common.{◌≡◌, ◌≢◌, ℕ, zero, suc, ◌<◌, Bool, true, false, ◌⊎◌, inl, inr, List, [], ◌∷◌, length, Option, Some, None, refl, sym, ap, ◌∙◌, arith, length-append, true≢false}
-use Rattle.std.specs.Option.{is_some}
-use Rattle.std.specs.Prelude.{if◌then◌else◌}
-use Rattle.std.specs.Str.{is_utf8}
-use Rattle.std.proofs.lemmas.Bool.{eqb-true}
-use Rattle.prost_reflect_wire.specs.declared.error.DecodeError.{DecodeError}
+use Rattle.prost_reflect_laws.proofs.Common.{◌≡◌, ◌≢◌, ℕ, zero, suc, ◌<◌, Bool, true, false, ◌⊎◌, inl, inr, List, [], ◌∷◌, length, Option, Some, None, refl, sym, ap, ◌∙◌, arith, length-append, true≢false, is_some, if◌then◌else◌, is_utf8, eqb-true, DecodeError, WireType, AreBytes, ◌>>=◌, Plain, Var, Fix64, Len, Fix32, Payload, Flat, SpellsPlain, wire_code, wire_of, plain_wire, plain_at, ScalarKind, Double, Float, Int64, Uint64, Int32, Fixed64, Fixed32, BoolKind, StringKind, BytesKind, Uint32, Enum, Sfixed32, Sfixed64, Sint32, Sint64, kind_wire, ValueType, FieldForm, Singular, Repeated, MapFrom, is_map, AllowsInside, fits, one_allowed, packed_allowed, field_allowed, plains_within, PlainFront, PlainFault, ElementFault, ElementEnds, ElementPasses, BehindElement, same_wire, wire_known, plain_read, varint_some}
 use Rattle.prost_reflect_wire.specs.declared.error.DecodeError.TheVariants as errors
-use Rattle.prost_reflect_wire.specs.declared.key.WireType.{WireType}
 use Rattle.prost_reflect_wire.specs.declared.key.WireType.TheVariants as wires
-use Rattle.prost_reflect_wire.specs.Varint.{AreBytes, ◌>>=◌}
-use Rattle.prost_reflect_wire.specs.Record.{Plain, Var, Fix64, Len, Fix32, Payload, Flat, SpellsPlain, wire_code, wire_of, plain_wire, plain_at}
-use Rattle.prost_reflect_wire.specs.Scalar.{ScalarKind, Double, Float, Int64, Uint64, Int32, Fixed64, Fixed32, BoolKind, StringKind, BytesKind, Uint32, Enum, Sfixed32, Sfixed64, Sint32, Sint64, kind_wire}
 use Rattle.prost_reflect_wire.specs.Scalar as scalars
-use Rattle.prost_reflect_wire.specs.Schema.{ValueType, FieldForm, Singular, Repeated, MapFrom, is_map}
-use Rattle.prost_reflect_wire.specs.Grammar.{AllowsInside, fits, one_allowed, packed_allowed, field_allowed, plains_within}
-use Rattle.prost_reflect_wire.specs.Front.{PlainFront, PlainFault}
-use Rattle.prost_reflect_wire.specs.Fault.{ElementFault, ElementEnds, ElementPasses, BehindElement, same_wire}
-use Rattle.prost_reflect_wire.proofs.Reading.{wire_known, plain_read, varint_some}
 use Rattle.prost_reflect_laws.proofs.BodyFronts.{plain_bytes}
 use Rattle.prost_reflect_laws.proofs.KindsTaken.{or_first, or_second}
 use Rattle.prost_reflect_laws.proofs.FrontOrFault.{SomeFault, SomePlain, plain_or}

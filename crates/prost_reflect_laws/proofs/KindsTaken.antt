@@ -1,19 +1,7 @@
 -- Which payloads a field takes, by their wire types.
-use Rattle.std.proofs.Common.{◌≡◌, ℕ, Bool, true, false, ◌&&◌, ◌||◌, List, Some, None, refl, sym, ap, ◌∙◌, true≢false}
-use Rattle.std.specs.Option.{is_some}
-use Rattle.std.specs.Prelude.{if◌then◌else◌}
-use Rattle.std.specs.List.{list_all}
-use Rattle.std.specs.Str.{is_utf8}
-use Rattle.std.proofs.lemmas.Bool.{and_parts}
-use Rattle.std.proofs.Math.Bool.{or-false}
+use Rattle.prost_reflect_laws.proofs.Common.{◌≡◌, ℕ, Bool, true, false, ◌&&◌, ◌||◌, List, Some, None, refl, sym, ap, ◌∙◌, true≢false, is_some, if◌then◌else◌, list_all, is_utf8, and_parts, or-false, Var, Fix64, Len, Fix32, Records, Payload, Flat, Group, payload_wire, ScalarKind, Double, Float, Int64, Uint64, Int32, Fixed64, Fixed32, BoolKind, StringKind, BytesKind, Uint32, Enum, Sfixed32, Sfixed64, Sint32, Sint64, kind_wire, Kind, ScalarOf, MessageOf, GroupOf, ValueType, FieldForm, Singular, Repeated, MapFrom, is_packable, passes, is_map, AllowsInside, fits, body, is_len, is_group_payload, one_allowed, packed_allowed, has_level, in_entry_allowed, field_allowed, unpacked, same_wire, one_takes, packed_takes, takes, plain_no_group}
 use Rattle.prost_reflect_wire.specs.declared.key.WireType.TheVariants as wires
-use Rattle.prost_reflect_wire.specs.Record.{Var, Fix64, Len, Fix32, Records, Payload, Flat, Group, payload_wire}
-use Rattle.prost_reflect_wire.specs.Scalar.{ScalarKind, Double, Float, Int64, Uint64, Int32, Fixed64, Fixed32, BoolKind, StringKind, BytesKind, Uint32, Enum, Sfixed32, Sfixed64, Sint32, Sint64, kind_wire}
 use Rattle.prost_reflect_wire.specs.Scalar as scalars
-use Rattle.prost_reflect_wire.specs.Schema.{Kind, ScalarOf, MessageOf, GroupOf, ValueType, FieldForm, Singular, Repeated, MapFrom, is_packable, passes, is_map}
-use Rattle.prost_reflect_wire.specs.Grammar.{AllowsInside, fits, body, is_len, is_group_payload, one_allowed, packed_allowed, has_level, in_entry_allowed, field_allowed, unpacked}
-use Rattle.prost_reflect_wire.specs.Fault.{same_wire, one_takes, packed_takes, takes}
-use Rattle.prost_reflect_wire.proofs.RecordFronts.{plain_no_group}
 
 -- PAYLOADS BY THEIR WIRE TYPES
 

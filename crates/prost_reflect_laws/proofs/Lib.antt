@@ -1,3 +1,4 @@
+pub mod Common
 pub mod BodyFronts
 pub mod Places
 pub mod KindsTaken

@@ -1,19 +1,5 @@
 -- A list, carried through a reduction: packing may differ.
-use Rattle.std.proofs.Common.{◌≡◌, ℕ, Bool, true, false, cond, not, ◌&&◌, ◌||◌, List, [], ◌∷◌, ◌++◌, map, filter, flat_map, eq-eqb, Option, Some, None, refl, ap, ap₂, sym, subst, ◌∙◌, true≢false, append-nil}
-use Rattle.std.specs.Bool.{⊤}
-use Rattle.std.specs.Option.{is_some}
-use Rattle.std.specs.List.{list_all}
-use Rattle.std.proofs.lemmas.Bool.{and_parts, and_from, not-true}
-use Rattle.prost_reflect_wire.specs.Record.{Plain, Len, Payload, Flat, payload_valid}
-use Rattle.prost_reflect_wire.specs.Scalar.{Scalar, ScalarKind, elem, scalar_valid}
-use Rattle.prost_reflect_wire.specs.Schema.{Kind, ScalarOf, MessageOf, GroupOf, ValueType, Repeated, Field, is_packable, is_packable_kind}
-use Rattle.prost_reflect_wire.specs.Content.{Value, ScalarValue, MessageValue, ListValue, MapValue, Values, NoValues, Item, values_from}
-use Rattle.prost_reflect_wire.specs.Grammar.{AllowsInside, or_none, unpacked, records_in, is_stray, element_payloads_in, one_allowed, packed_allowed}
-use Rattle.prost_reflect_wire.specs.Meaning.{MeansInside, element, scalar_values, present_list}
-use Rattle.prost_reflect_wire.specs.Writing.{end_to_end, list_payloads, value_payload, element_payloads}
-use Rattle.prost_reflect_wire.specs.Typing.{elements_valid}
-use Rattle.prost_reflect_wire.specs.Reduction.{TypePairs, same_kind}
-use Rattle.prost_reflect_wire.proofs.Deeper.{element_allowed}
+use Rattle.prost_reflect_laws.proofs.Common.{◌≡◌, ℕ, Bool, true, false, cond, not, ◌&&◌, ◌||◌, List, [], ◌∷◌, ◌++◌, map, filter, flat_map, eq-eqb, Option, Some, None, refl, ap, ap₂, sym, subst, ◌∙◌, true≢false, append-nil, ⊤, is_some, list_all, and_parts, and_from, not-true, Plain, Len, Payload, Flat, payload_valid, Scalar, ScalarKind, elem, scalar_valid, Kind, ScalarOf, MessageOf, GroupOf, ValueType, Repeated, Field, is_packable, is_packable_kind, Value, ScalarValue, MessageValue, ListValue, MapValue, Values, NoValues, Item, values_from, AllowsInside, or_none, unpacked, records_in, is_stray, element_payloads_in, one_allowed, packed_allowed, MeansInside, element, scalar_values, present_list, end_to_end, list_payloads, value_payload, element_payloads, elements_valid, TypePairs, same_kind, element_allowed}
 use Rattle.prost_reflect_laws.proofs.Packed.{unpacked_back}
 use Rattle.prost_reflect_laws.proofs.Spelt.{SoundPayloads}
 use Rattle.prost_reflect_laws.proofs.Valid.{scalar_sound, end_bytes, packed_sound}

@@ -1,22 +1,5 @@
 -- A record of a list, read into a content that holds.
-use Rattle.std.proofs.Common.{◌≡◌, ℕ, Bool, true, false, cond, not, ◌||◌, List, [], ◌∷◌, ◌++◌, filter, flat_map, nat_eq, Option, Some, None, refl, ap, ap₂, sym, ◌∙◌, subst, append-nil, true≢false, arith}
-use Rattle.std.specs.List.{list_all}
-use Rattle.std.proofs.lemmas.Bool.{eqb-true, and_parts, and_from}
-use Rattle.prost_reflect_wire.specs.declared.key.WireType.{WireType}
-use Rattle.prost_reflect_wire.specs.Varint.{AreBytes}
-use Rattle.prost_reflect_wire.specs.Record.{Payload, Flat, payload_valid, record_at}
-use Rattle.prost_reflect_wire.specs.Front.{ValueFront}
-use Rattle.prost_reflect_wire.specs.Scalar.{Scalar, ScalarKind, elem, is_undeclared, scalar_valid}
-use Rattle.prost_reflect_wire.specs.Schema.{Kind, ScalarOf, Repeated, Field, Schema, known, field_of, is_sibling, is_singular, numbers_differ, passes, is_list}
-use Rattle.prost_reflect_wire.specs.Content.{Content, ContentOf, Entries, Value, ScalarValue, MessageValue, ListValue, MapValue, Values, NoValues, Item, values_from, ◌and_then◌, Slot, schema_of, type_of, entries_of, value_at, unknowns_at, slot_at, changed, entries_ordered, values_ordered}
-use Rattle.prost_reflect_wire.specs.Grammar.{field_allowed, one_allowed, packed_allowed, element_payloads_in, is_stray, value_payloads, stray_payloads}
-use Rattle.prost_reflect_wire.specs.Meaning.{element, scalar_values, values_in}
-use Rattle.prost_reflect_wire.specs.Typing.{fit_test, alone_test, EntryTest, element_valid, elements_valid, value_valid, pairs_valid, value_passes, values_pass, entries_pass, kind_for, ValuesTyped, kept_values, ValueStored, WellStored}
-use Rattle.prost_reflect_wire.specs.Edit.{with_value}
-use Rattle.prost_reflect_wire.specs.Storing.{with_stored, joined_slot}
-use Rattle.prost_reflect_wire.specs.Decoding.{RecordRead, Step, ElementsRead, ElementsJoined, list_takes}
-use Rattle.prost_reflect_wire.proofs.Survivors.{field_number}
-use Rattle.prost_reflect_wire.proofs.Numbers.{empty_slot, eqb-sym}
+use Rattle.prost_reflect_laws.proofs.Common.{◌≡◌, ℕ, Bool, true, false, cond, not, ◌||◌, List, [], ◌∷◌, ◌++◌, filter, flat_map, nat_eq, Option, Some, None, refl, ap, ap₂, sym, ◌∙◌, subst, append-nil, true≢false, arith, list_all, eqb-true, and_parts, and_from, WireType, AreBytes, Payload, Flat, payload_valid, record_at, ValueFront, Scalar, ScalarKind, elem, is_undeclared, scalar_valid, Kind, ScalarOf, Repeated, Field, Schema, known, field_of, is_sibling, is_singular, numbers_differ, passes, is_list, Content, ContentOf, Entries, Value, ScalarValue, MessageValue, ListValue, MapValue, Values, NoValues, Item, values_from, ◌and_then◌, Slot, schema_of, type_of, entries_of, value_at, unknowns_at, slot_at, changed, entries_ordered, values_ordered, field_allowed, one_allowed, packed_allowed, element_payloads_in, is_stray, value_payloads, stray_payloads, element, scalar_values, values_in, fit_test, alone_test, EntryTest, element_valid, elements_valid, value_valid, pairs_valid, value_passes, values_pass, entries_pass, kind_for, ValuesTyped, kept_values, ValueStored, WellStored, with_value, with_stored, joined_slot, RecordRead, Step, ElementsRead, ElementsJoined, list_takes, field_number, empty_slot, eqb-sym}
 use Rattle.prost_reflect_laws.proofs.Allowed.{inside}
 use Rattle.prost_reflect_laws.proofs.Means.{below, further}
 use Rattle.prost_reflect_laws.proofs.Declared.{read_valid}

@@ -1,18 +1,5 @@
 -- What a record of a list makes of what is kept: its elements stand behind those that are there.
-use Rattle.std.proofs.Common.{◌≡◌, ℕ, Bool, true, false, cond, List, [], ◌∷◌, ◌++◌, map, flat_map, nat_eq, Option, Some, None, refl, ap, ap₂, sym, ◌∙◌, append-nil}
-use Rattle.std.specs.Bool.{⊤}
-use Rattle.std.proofs.lemmas.Bool.{eqb-true, eq-eqb}
-use Rattle.prost_reflect_wire.specs.Varint.{◌>>=◌}
-use Rattle.prost_reflect_wire.specs.Record.{Payload, record_at}
-use Rattle.prost_reflect_wire.specs.Schema.{Repeated, Field, field_of, is_sibling}
-use Rattle.prost_reflect_wire.specs.Content.{Value, ListValue, Values, NoValues, Item, values_from, ◌and_then◌, Slot}
-use Rattle.prost_reflect_wire.specs.Grammar.{value_payloads, stray_payloads}
-use Rattle.prost_reflect_wire.specs.Meaning.{MeansInside, JoinsInside, element, present_list, values_in, value_joined, value_step, value_steps, value_behind, slot_step}
-use Rattle.prost_reflect_wire.specs.Typing.{kept_value, kept_inside, kept_values}
-use Rattle.prost_reflect_wire.specs.Storing.{joined_slot}
-use Rattle.prost_reflect_wire.proofs.Numbers.{eqb-sym, slots_same}
-use Rattle.prost_reflect_wire.proofs.Survivors.{field_number}
-use Rattle.prost_reflect_wire.proofs.Steps.{values_append, values_present}
+use Rattle.prost_reflect_laws.proofs.Common.{◌≡◌, ℕ, Bool, true, false, cond, List, [], ◌∷◌, ◌++◌, map, flat_map, nat_eq, Option, Some, None, refl, ap, ap₂, sym, ◌∙◌, append-nil, ⊤, eqb-true, eq-eqb, ◌>>=◌, Payload, record_at, Repeated, Field, field_of, is_sibling, Value, ListValue, Values, NoValues, Item, values_from, ◌and_then◌, Slot, value_payloads, stray_payloads, MeansInside, JoinsInside, element, present_list, values_in, value_joined, value_step, value_steps, value_behind, slot_step, kept_value, kept_inside, kept_values, joined_slot, eqb-sym, slots_same, field_number, values_append, values_present}
 use Rattle.prost_reflect_laws.proofs.Values.{value_records_known, unknown_known}
 use Rattle.prost_reflect_laws.proofs.Slotwise.{kept_slot}
 use Rattle.prost_reflect_laws.proofs.ValueCarried.{kept_list}

@@ -1,13 +1,5 @@
 -- What is written of a list.
-use Rattle.std.proofs.Common.{◌≡◌, ℕ, Bool, true, false, List, map, Some, refl, ap, ap₂, ◌∙◌}
-use Rattle.prost_reflect_wire.specs.Record.{record_at, spelled}
-use Rattle.prost_reflect_wire.specs.Scalar.{ScalarKind}
-use Rattle.prost_reflect_wire.specs.Schema.{ScalarOf, Repeated, Field, field_of}
-use Rattle.prost_reflect_wire.specs.Content.{ListValue, Values, NoValues, Item}
-use Rattle.prost_reflect_wire.specs.Meaning.{present_list}
-use Rattle.prost_reflect_wire.specs.Writing.{field_payloads, list_payloads, element_payloads}
-use Rattle.prost_reflect_wire.specs.Typing.{elements_valid, kept_value, kept_values}
-use Rattle.prost_reflect_wire.specs.Storing.{kept_records, value_bytes}
+use Rattle.prost_reflect_laws.proofs.Common.{◌≡◌, ℕ, Bool, true, false, List, map, Some, refl, ap, ap₂, ◌∙◌, record_at, spelled, ScalarKind, ScalarOf, Repeated, Field, field_of, ListValue, Values, NoValues, Item, present_list, field_payloads, list_payloads, element_payloads, elements_valid, kept_value, kept_values, kept_records, value_bytes}
 use Rattle.prost_reflect_laws.proofs.ValueCarried.{kept_list}
 use Rattle.prost_reflect_laws.proofs.ListReads.{Scalars, scalars_only}
 

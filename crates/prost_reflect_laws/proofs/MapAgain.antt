@@ -1,18 +1,5 @@
 -- A map, carried through a reduction.
-use Rattle.std.proofs.Common.{◌≡◌, ℕ, Bool, true, false, cond, not, ◌&&◌, List, [], ◌∷◌, ◌++◌, flat_map, Some, refl, ap, ap₂, sym, subst, ◌∙◌, true≢false}
-use Rattle.std.specs.Bool.{⊤}
-use Rattle.std.specs.List.{list_all}
-use Rattle.std.proofs.lemmas.Bool.{and_parts, and_from}
-use Rattle.prost_reflect_wire.specs.Record.{Payload, payload_valid}
-use Rattle.prost_reflect_wire.specs.Scalar.{Scalar, ScalarKind, scalar_lt, scalar_eq}
-use Rattle.prost_reflect_wire.specs.Schema.{ScalarOf, ValueType, MapFrom, Field, is_key_kind, has_kind_default, default_valid}
-use Rattle.prost_reflect_wire.specs.Content.{Value, ScalarValue, MessageValue, ListValue, MapValue, Pairs, NoPairs, Pair, pairs_ordered}
-use Rattle.prost_reflect_wire.specs.Grammar.{AllowsInside, records_in, has_level, field_allowed, value_payloads, stray_payloads}
-use Rattle.prost_reflect_wire.specs.Meaning.{MeansInside, entry_key, entry_value, put, put_entry, put_entries, present_map}
-use Rattle.prost_reflect_wire.specs.Writing.{pair_payload, pair_payloads, key_of}
-use Rattle.prost_reflect_wire.specs.Typing.{kind_takes, element_valid, pairs_valid}
-use Rattle.prost_reflect_wire.specs.Reduction.{TypePairs, same_kind}
-use Rattle.prost_reflect_wire.specs.Deciding.{scalar_decides}
+use Rattle.prost_reflect_laws.proofs.Common.{◌≡◌, ℕ, Bool, true, false, cond, not, ◌&&◌, List, [], ◌∷◌, ◌++◌, flat_map, Some, refl, ap, ap₂, sym, subst, ◌∙◌, true≢false, ⊤, list_all, and_parts, and_from, Payload, payload_valid, Scalar, ScalarKind, scalar_lt, scalar_eq, ScalarOf, ValueType, MapFrom, Field, is_key_kind, has_kind_default, default_valid, Value, ScalarValue, MessageValue, ListValue, MapValue, Pairs, NoPairs, Pair, pairs_ordered, AllowsInside, records_in, has_level, field_allowed, value_payloads, stray_payloads, MeansInside, entry_key, entry_value, put, put_entry, put_entries, present_map, pair_payload, pair_payloads, key_of, kind_takes, element_valid, pairs_valid, TypePairs, same_kind, scalar_decides}
 use Rattle.prost_reflect_laws.proofs.Spelt.{SoundPayloads}
 use Rattle.prost_reflect_laws.proofs.Alike.{SameType, default_alike}
 use Rattle.prost_reflect_laws.proofs.ByNumber.{stored_payloads}

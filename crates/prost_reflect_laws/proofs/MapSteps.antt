@@ -1,36 +1,15 @@
 -- An entry of a map, read into a content that holds: its key and its value are put among the pairs that are there.
-use Rattle.std.proofs.Common.{◌≡◌, ◌≢◌, ℕ, Bool, true, false, cond, not, ◌&&◌, List, [], ◌∷◌, Option, Some, None, refl, ap, ap₂, sym, ◌∙◌, subst, append-nil, inl, inr, arith, true≢false}
-use Rattle.std.specs.List.{list_all}
-use Rattle.std.proofs.lemmas.Bool.{and_parts, and_from}
-use Rattle.prost_reflect_wire.specs.declared.key.WireType.{WireType}
+use Rattle.prost_reflect_laws.proofs.Common.{◌≡◌, ◌≢◌, ℕ, Bool, true, false, cond, not, ◌&&◌, List, [], ◌∷◌, Option, Some, None, refl, ap, ap₂, sym, ◌∙◌, subst, append-nil, inl, inr, arith, true≢false, list_all, and_parts, and_from, WireType, DecodeError, ◌>>=◌, Len, Records, Payload, Flat, items, body_of, Spells, DelimitedFront, RecordsFront, PlainFault, Scalar, scalar_lt, scalar_eq, Kind, ValueType, MapFrom, Field, Schema, known, field_of, is_singular, numbers_differ, passes, is_list, Content, ContentOf, Entries, Value, ScalarValue, MessageValue, ListValue, MapValue, Pairs, NoPairs, Pair, value_at, slot_at, changed, schema_of, type_of, entries_of, value_ordered, pairs_ordered, AllowsInside, body, or_none, is_stray_entry, value_payloads, stray_payloads, has_level, in_entry_allowed, field_allowed, MeansInside, entry_key, entry_value, put, present_map, pairs_in, value_joined, fit_test, alone_test, kind_takes, element_valid, pairs_valid, value_valid, value_passes, pairs_pass, kind_for, ValueTyped, PairsTyped, kept_inside, kept_pairs, WellStored, ValueStored, with_stored, Step, StandsBehindKey, OfType, Stands, Here, InEntry, takes, same_wire, IsMapped, EntryTo, EntryPlace, BodyFault, spelled_read, items_body, pairs_present, plain_stands}
 use Rattle.prost_reflect_wire.specs.declared.key.WireType.TheVariants as wires
-use Rattle.prost_reflect_wire.specs.declared.error.DecodeError.{DecodeError}
 use Rattle.prost_reflect_wire.specs.declared.error.DecodeError.TheVariants as errors
-use Rattle.prost_reflect_wire.specs.Varint.{◌>>=◌}
-use Rattle.prost_reflect_wire.specs.Record.{Len, Records, Payload, Flat, items, body_of, Spells}
-use Rattle.prost_reflect_wire.specs.Front.{DelimitedFront, RecordsFront, PlainFault}
-use Rattle.prost_reflect_wire.specs.Scalar.{Scalar, scalar_lt, scalar_eq}
-use Rattle.prost_reflect_wire.specs.Schema.{Kind, ValueType, MapFrom, Field, Schema, known, field_of, is_singular, numbers_differ, passes, is_list}
-use Rattle.prost_reflect_wire.specs.Content.{Content, ContentOf, Entries, Value, ScalarValue, MessageValue, ListValue, MapValue, Pairs, NoPairs, Pair, value_at, slot_at, changed, schema_of, type_of, entries_of, value_ordered, pairs_ordered}
-use Rattle.prost_reflect_wire.specs.Grammar.{AllowsInside, body, or_none, is_stray_entry, value_payloads, stray_payloads, has_level, in_entry_allowed, field_allowed}
-use Rattle.prost_reflect_wire.specs.Meaning.{MeansInside, entry_key, entry_value, put, present_map, pairs_in, value_joined}
-use Rattle.prost_reflect_wire.specs.Typing.{fit_test, alone_test, kind_takes, element_valid, pairs_valid, value_valid, value_passes, pairs_pass, kind_for, ValueTyped, PairsTyped, kept_inside, kept_pairs, WellStored, ValueStored}
-use Rattle.prost_reflect_wire.specs.Storing.{with_stored}
-use Rattle.prost_reflect_wire.specs.Decoding.{Step, StandsBehindKey}
-use Rattle.prost_reflect_wire.specs.Fault.{OfType, Stands, Here, InEntry, takes, same_wire}
-use Rattle.prost_reflect_wire.specs.EntryReading.{IsMapped, EntryTo, EntryPlace, BodyFault}
-use Rattle.prost_reflect_wire.proofs.Reading.{spelled_read}
-use Rattle.prost_reflect_wire.proofs.Bodies.{items_body}
 use Rattle.prost_reflect_laws.proofs.Allowed.{inside}
 use Rattle.prost_reflect_laws.proofs.Means.{below, further}
-use Rattle.prost_reflect_wire.proofs.Steps.{pairs_present}
 use Rattle.prost_reflect_laws.proofs.Arranged.{OrderedOption, put_ordered}
 use Rattle.prost_reflect_laws.proofs.ValueCarried.{kept_map}
 use Rattle.prost_reflect_laws.proofs.StoredSound.{inside_value}
 use Rattle.prost_reflect_laws.proofs.StoredSteps.{value_in_order}
 use Rattle.prost_reflect_laws.proofs.StoredPasses.{OptionPasses, SlotPasses, passes_slots}
 use Rattle.prost_reflect_laws.proofs.StoredTyped.{OptionTyped, typed_values}
-use Rattle.prost_reflect_wire.proofs.PlaceFaults.{plain_stands}
 use Rattle.prost_reflect_laws.proofs.JoinedSteps.{kept_old, value_holds}
 
 -- WHAT IS KEPT

@@ -1,30 +1,10 @@
 -- A message or a group of one value, read into a content that holds: its records are read into the message that is there, or into an empty one.
-use Rattle.std.proofs.Common.{◌≡◌, ℕ, suc, ◌≤◌, Bool, true, false, List, [], Option, Some, None, refl, ap, ap₂, sym, ◌∙◌, subst, arith, true≢false}
-use Rattle.std.specs.Prelude.{unwrap_or}
-use Rattle.std.proofs.lemmas.Bool.{eq-eqb, and_parts, and_from}
-use Rattle.std.proofs.Math.Bool.{or-false}
-use Rattle.prost_reflect_wire.specs.declared.key.WireType.{WireType}
+use Rattle.prost_reflect_laws.proofs.Common.{◌≡◌, ℕ, suc, ◌≤◌, Bool, true, false, List, [], Option, Some, None, refl, ap, ap₂, sym, ◌∙◌, subst, arith, true≢false, unwrap_or, eq-eqb, and_parts, and_from, or-false, WireType, ◌>>=◌, Len, Records, Record, Payload, Flat, Group, items, body_of, raw_levels, KeyFront, DelimitedFront, ValueFront, Kind, ScalarOf, MessageOf, GroupOf, ValueType, FieldForm, Singular, Repeated, MapFrom, Field, Schema, known, field_of, is_message, is_singular, numbers_differ, passes, is_list, is_map, Content, ContentOf, Entries, Value, ScalarValue, MessageValue, ListValue, MapValue, value_at, slot_at, changed, empty, schema_of, type_of, value_ordered, body, or_none, records_in, is_stray, one_allowed, field_allowed, allows, MeansInside, JoinsInside, content_in, one_joined, value_joined, steps, kept, kept_value, kept_inside, kind_takes, pairs_valid, value_valid, value_passes, fit_test, alone_test, is_of_type, kind_for, ValueTyped, WellStored, ValueStored, message_of_kind, greatest_level, with_stored, ReadTo, Holds, Step, one_takes, takes, needs_level, spelled_read, items_body, meaning_empty}
 use Rattle.prost_reflect_wire.specs.declared.key.WireType.TheVariants as wires
-use Rattle.prost_reflect_wire.specs.Varint.{◌>>=◌}
-use Rattle.prost_reflect_wire.specs.Record.{Len, Records, Record, Payload, Flat, Group, items, body_of, raw_levels}
-use Rattle.prost_reflect_wire.specs.Front.{KeyFront, DelimitedFront, ValueFront}
-use Rattle.prost_reflect_wire.specs.Schema.{Kind, ScalarOf, MessageOf, GroupOf, ValueType, FieldForm, Singular, Repeated, MapFrom, Field, Schema, known, field_of, is_message, is_singular, numbers_differ, passes, is_list, is_map}
-use Rattle.prost_reflect_wire.specs.Content.{Content, ContentOf, Entries, Value, ScalarValue, MessageValue, ListValue, MapValue, value_at, slot_at, changed, empty, schema_of, type_of, value_ordered}
-use Rattle.prost_reflect_wire.specs.Grammar.{body, or_none, records_in, is_stray, one_allowed, field_allowed, allows}
-use Rattle.prost_reflect_wire.specs.Meaning.{MeansInside, JoinsInside, content_in, one_joined, value_joined, steps}
-use Rattle.prost_reflect_wire.specs.Typing.{kept, kept_value, kept_inside, kind_takes, pairs_valid, value_valid, value_passes, fit_test, alone_test, is_of_type, kind_for, ValueTyped, WellStored, ValueStored}
-use Rattle.prost_reflect_wire.specs.Edit.{message_of_kind}
-use Rattle.prost_reflect_wire.specs.Levels.{greatest_level}
-use Rattle.prost_reflect_wire.specs.Storing.{with_stored}
-use Rattle.prost_reflect_wire.specs.Decoding.{ReadTo, Holds, Step}
-use Rattle.prost_reflect_wire.specs.Fault.{one_takes, takes, needs_level}
 use Rattle.prost_reflect_laws.proofs.Older.{items_level, allowed_levels}
-use Rattle.prost_reflect_wire.proofs.Reading.{spelled_read}
-use Rattle.prost_reflect_wire.proofs.Bodies.{items_body}
 use Rattle.prost_reflect_laws.proofs.Values.{one_value_payload, no_stray_payload}
 use Rattle.prost_reflect_laws.proofs.Allowed.{inside}
 use Rattle.prost_reflect_laws.proofs.Means.{below, further}
-use Rattle.prost_reflect_wire.proofs.Steps.{meaning_empty}
 use Rattle.prost_reflect_laws.proofs.StoredSound.{inside_value}
 use Rattle.prost_reflect_laws.proofs.FieldTypes.{field_typed, typed_field}
 use Rattle.prost_reflect_laws.proofs.Setting.{type_is}

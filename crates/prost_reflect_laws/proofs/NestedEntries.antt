@@ -1,37 +1,11 @@
 -- An entry of a map whose value is a message: the records of number 2 are read into one message, one behind another and one level down, and what comes of it is put among the pairs that are there.
-use Rattle.std.proofs.Common.{◌≡◌, ◌≢◌, ℕ, suc, Bool, true, false, cond, List, [], ◌∷◌, ◌++◌, nat_eq, nat_le, Option, Some, None, refl, ap, ap₂, sym, subst, ◌∙◌, append-nil, arith}
-use Rattle.std.specs.List.{list_all}
-use Rattle.std.specs.Option.{is_some}
-use Rattle.std.proofs.lemmas.Bool.{le-leb, lt-ltb}
-use Rattle.std.proofs.lemmas.Option.{none-some}
-use Rattle.prost_reflect_wire.specs.declared.error.DecodeError.{DecodeError}
+use Rattle.prost_reflect_laws.proofs.Common.{◌≡◌, ◌≢◌, ℕ, suc, Bool, true, false, cond, List, [], ◌∷◌, ◌++◌, nat_eq, nat_le, Option, Some, None, refl, ap, ap₂, sym, subst, ◌∙◌, append-nil, arith, list_all, is_some, le-leb, lt-ltb, none-some, DecodeError, WireType, AreBytes, ◌>>=◌, Len, Record, Records, Payload, Flat, record_at, body_of, items, payload_levels, KeyFront, DelimitedFront, KeyFault, Scalar, ScalarKind, kind_default, scalar_valid, Kind, ScalarOf, MessageOf, ValueType, MapFrom, Field, Schema, known, field_of, is_message, is_key_kind, field_valid, numbers_differ, passes, Content, ContentOf, Entries, MessageValue, MapValue, empty, value_at, changed, schema_of, type_of, payloads, numbered, last, fits, body, or_none, records_in, is_stray, is_stray_entry, one_allowed, has_level, allows, last_or, joined, entry_value, put, pairs_in, meaning, steps, kept, kind_takes, WellStored, message_of_kind, with_stored, Stands, Here, entry_field, opens_level, needs_level, ValueFault, Holds, Step, ScalarRead, ScalarFault, StandsBehindKey, EntryTo, EntryPlace, plain_type, flat_append, meaning_empty, meaning_steps, spelled_read, items_body, record_front, none_front, key_stands, value_stands, field_number}
 use Rattle.prost_reflect_wire.specs.declared.error.DecodeError.TheVariants as errors
-use Rattle.prost_reflect_wire.specs.declared.key.WireType.{WireType}
 use Rattle.prost_reflect_wire.specs.declared.key.WireType.TheVariants as wires
-use Rattle.prost_reflect_wire.specs.Varint.{AreBytes, ◌>>=◌}
-use Rattle.prost_reflect_wire.specs.Record.{Len, Record, Records, Payload, Flat, record_at, body_of, items, payload_levels}
-use Rattle.prost_reflect_wire.specs.Front.{KeyFront, DelimitedFront, KeyFault}
-use Rattle.prost_reflect_wire.specs.Scalar.{Scalar, ScalarKind, kind_default, scalar_valid}
-use Rattle.prost_reflect_wire.specs.Schema.{Kind, ScalarOf, MessageOf, ValueType, MapFrom, Field, Schema, known, field_of, is_message, is_key_kind, field_valid, numbers_differ, passes}
-use Rattle.prost_reflect_wire.specs.Content.{Content, ContentOf, Entries, MessageValue, MapValue, empty, value_at, changed, schema_of, type_of}
-use Rattle.prost_reflect_wire.specs.Grammar.{payloads, numbered, last, fits, body, or_none, records_in, is_stray, is_stray_entry, one_allowed, has_level, allows}
-use Rattle.prost_reflect_wire.specs.Meaning.{last_or, joined, entry_value, put, pairs_in, meaning, steps}
-use Rattle.prost_reflect_wire.specs.Typing.{kept, kind_takes, WellStored}
-use Rattle.prost_reflect_wire.specs.Edit.{message_of_kind}
-use Rattle.prost_reflect_wire.specs.Storing.{with_stored}
 use Rattle.prost_reflect_wire.specs.Unknown.{SkipsValue}
-use Rattle.prost_reflect_wire.specs.Fault.{Stands, Here, entry_field, opens_level, needs_level, ValueFault}
-use Rattle.prost_reflect_wire.specs.Decoding.{Holds, Step, ScalarRead, ScalarFault, StandsBehindKey}
-use Rattle.prost_reflect_wire.specs.EntryReading.{EntryTo, EntryPlace, plain_type}
 use Rattle.prost_reflect_wire.specs.MessageEntries.{nested_type, NestedEntryTo, NestedValueRead, NestedValueFault, StandsInNestedEntry}
-use Rattle.prost_reflect_wire.proofs.Steps.{flat_append, meaning_empty, meaning_steps}
-use Rattle.prost_reflect_wire.proofs.Reading.{spelled_read}
-use Rattle.prost_reflect_wire.proofs.Bodies.{items_body}
-use Rattle.prost_reflect_wire.proofs.RecordFronts.{record_front, none_front}
 use Rattle.prost_reflect_laws.proofs.Readings.{whole_spelled}
-use Rattle.prost_reflect_wire.proofs.PlaceFaults.{key_stands, value_stands}
 use Rattle.prost_reflect_laws.proofs.ScalarFaults.{scalar_stands}
-use Rattle.prost_reflect_wire.proofs.Survivors.{field_number}
 use Rattle.prost_reflect_laws.proofs.Allowed.{inside}
 use Rattle.prost_reflect_laws.proofs.Means.{below}
 use Rattle.prost_reflect_laws.proofs.MessageSteps.{is_its_type}

@@ -1,22 +1,7 @@
 -- Where a body stands, no fault stands.
-use Rattle.std.proofs.Common.{◌≡◌, ◌≢◌, ℕ, zero, suc, ◌<◌, ◌≤◌, Bool, true, false, inl, inr, List, [], ◌∷◌, ◌++◌, length, nat_le, Option, Some, None, refl, sym, ap, subst, ◌∙◌, arith, length-append, true≢false}
-use Rattle.std.proofs.lemmas.Bool.{leb-true, and_parts}
-use Rattle.std.specs.Option.{is_some}
-use Rattle.std.proofs.lemmas.Option.{none-some}
-use Rattle.prost_reflect_wire.specs.declared.error.DecodeError.{DecodeError}
+use Rattle.prost_reflect_laws.proofs.Common.{◌≡◌, ◌≢◌, ℕ, zero, suc, ◌<◌, ◌≤◌, Bool, true, false, inl, inr, List, [], ◌∷◌, ◌++◌, length, nat_le, Option, Some, None, refl, sym, ap, subst, ◌∙◌, arith, length-append, true≢false, leb-true, and_parts, is_some, none-some, DecodeError, WireType, AreBytes, Varint, ◌>>=◌, Plain, Var, Fix64, Len, Fix32, Record, Payload, Flat, Group, payload_levels, wire_code, plain_wire, payload_wire, plain_at, StringKind, kind_wire, Kind, ScalarOf, MessageOf, GroupOf, ValueType, FieldForm, Singular, Repeated, MapFrom, Field, Schema, is_message, passes, is_map, AllowsInside, body, has_level, field_allowed, nothing_inside, plains_within, unpacked, KeyFront, PlainFront, DelimitedFront, PayloadFront, PayloadEnds, PayloadPasses, PlainFault, KeyFault, VarintPasses, NoKey, Place, field_at, Next, NextField, ElementFault, ElementEnds, ElementPasses, BehindElement, TextNext, PackedNext, same_wire, takes, needs_level, opens_level, Comes, bind_ok, plain_sound, key_once, key_no_fault, plain_once, plain_no_fault, delimited_once, plain_delimited}
 use Rattle.prost_reflect_wire.specs.declared.error.DecodeError.TheVariants as errors
-use Rattle.prost_reflect_wire.specs.declared.key.WireType.{WireType}
 use Rattle.prost_reflect_wire.specs.declared.key.WireType.TheVariants as wires
-use Rattle.prost_reflect_wire.specs.Varint.{AreBytes, Varint, ◌>>=◌}
-use Rattle.prost_reflect_wire.specs.Record.{Plain, Var, Fix64, Len, Fix32, Record, Payload, Flat, Group, payload_levels, wire_code, plain_wire, payload_wire, plain_at}
-use Rattle.prost_reflect_wire.specs.Scalar.{StringKind, kind_wire}
-use Rattle.prost_reflect_wire.specs.Schema.{Kind, ScalarOf, MessageOf, GroupOf, ValueType, FieldForm, Singular, Repeated, MapFrom, Field, Schema, is_message, passes, is_map}
-use Rattle.prost_reflect_wire.specs.Grammar.{AllowsInside, body, has_level, field_allowed, nothing_inside, plains_within, unpacked}
-use Rattle.prost_reflect_wire.specs.Front.{KeyFront, PlainFront, DelimitedFront, PayloadFront, PayloadEnds, PayloadPasses, PlainFault, KeyFault, VarintPasses, NoKey}
-use Rattle.prost_reflect_wire.specs.Fault.{Place, field_at, Next, NextField, ElementFault, ElementEnds, ElementPasses, BehindElement, TextNext, PackedNext, same_wire, takes, needs_level, opens_level, Comes}
-use Rattle.prost_reflect_wire.proofs.Sound.{bind_ok, plain_sound}
-use Rattle.prost_reflect_wire.proofs.KeyFronts.{key_once, key_no_fault}
-use Rattle.prost_reflect_wire.proofs.PlainFronts.{plain_once, plain_no_fault, delimited_once, plain_delimited}
 use Rattle.prost_reflect_laws.proofs.BodyFronts.{payload_no_end, key_not_empty, key_bytes, plain_bytes, delimited_bytes}
 use Rattle.prost_reflect_laws.proofs.Places.{inner, payload_allowed, NextRecord, EndNext, AtEnd, AtStop}
 use Rattle.prost_reflect_laws.proofs.KindsTaken.{not_both, one_or_packed, allowed_one, text_allowed, unpacked_allowed, map_allowed, message_allowed, group_allowed, field_taken}

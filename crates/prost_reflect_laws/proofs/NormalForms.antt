@@ -1,18 +1,6 @@
 -- What was read and is written is read as the same; what is merged stays well-typed.
-use Rattle.std.proofs.Common.{◌≡◌, ℕ, zero, suc, ◌≤◌, ◌<◌, ◌^◌, true, List, length, Some, refl, ap, ap₂, sym, ◌∙◌, subst, arith}
-use Rattle.std.specs.Prelude.{max}
-use Rattle.prost_reflect_wire.specs.Varint.{AreBytes, guard}
-use Rattle.prost_reflect_wire.specs.Record.{Records, Record, items, body_of, read, valid}
-use Rattle.prost_reflect_wire.specs.Schema.{Schema, schema_valid}
-use Rattle.prost_reflect_wire.specs.Content.{Content, schema_of, type_of}
-use Rattle.prost_reflect_wire.specs.Grammar.{LEVEL_LIMIT, allows}
-use Rattle.prost_reflect_wire.specs.Meaning.{meaning, decoded, steps}
-use Rattle.prost_reflect_wire.specs.Writing.{encoded}
-use Rattle.prost_reflect_wire.specs.Levels.{levels}
-use Rattle.prost_reflect_wire.specs.Typing.{WellTyped}
-use Rattle.prost_reflect_wire.specs.Edit.{merged}
+use Rattle.prost_reflect_laws.proofs.Common.{◌≡◌, ℕ, zero, suc, ◌≤◌, ◌<◌, ◌^◌, true, List, length, Some, refl, ap, ap₂, sym, ◌∙◌, subst, arith, max, AreBytes, guard, Records, Record, items, body_of, read, valid, Schema, schema_valid, Content, schema_of, type_of, LEVEL_LIMIT, allows, meaning, decoded, steps, encoded, levels, WellTyped, merged, bind_ok, guard_ok, read_spells}
 use Rattle.prost_reflect_laws.specs.Laws.{StaysWell}
-use Rattle.prost_reflect_wire.proofs.Sound.{bind_ok, guard_ok, read_spells}
 use Rattle.prost_reflect_laws.proofs.Pieces.{allowed_within}
 use Rattle.prost_reflect_laws.proofs.Readable.{body_items}
 use Rattle.prost_reflect_laws.proofs.SpelledValid.{spelled_valid}

@@ -1,17 +1,5 @@
 -- What the newer of two types of a reduction allows, the older one allows.
-use Rattle.std.proofs.Common.{◌≡◌, ℕ, zero, suc, ◌≤◌, nat_le, nat_eq, Bool, true, false, cond, ◌&&◌, ◌||◌, List, [], ◌∷◌, Option, Some, None, refl, ap, ap₂, sym, ◌∙◌, arith, true≢false}
-use Rattle.std.specs.Prelude.{max}
-use Rattle.std.specs.Option.{is_some}
-use Rattle.std.specs.List.{list_all}
-use Rattle.std.proofs.lemmas.Bool.{leb-true, le-leb, and_parts, and_from}
-use Rattle.prost_reflect_wire.specs.Record.{Plain, Len, Records, NoRecords, PlainRecord, GroupRecord, Record, Payload, Flat, Group, items, raw_levels, payload_levels}
-use Rattle.prost_reflect_wire.specs.Schema.{Kind, ScalarOf, MessageOf, GroupOf, ValueType, FieldForm, Singular, Repeated, MapFrom, Field, Schema, known, field_of, passes}
-use Rattle.prost_reflect_wire.specs.Grammar.{AllowsInside, body, is_len, is_group_payload, one_allowed, packed_allowed, in_entry_allowed, has_level, field_allowed, record_allowed, nothing_inside, allows, Accepts}
-use Rattle.prost_reflect_wire.specs.Levels.{greatest_level}
-use Rattle.prost_reflect_wire.specs.Reduction.{TypePairs, holds, same_kind, same_form}
-use Rattle.prost_reflect_wire.proofs.Deeper.{all_implied, flat_fits}
-use Rattle.prost_reflect_wire.proofs.ListTests.{passes_more, or_case}
-use Rattle.prost_reflect_wire.proofs.Survivors.{field_number}
+use Rattle.prost_reflect_laws.proofs.Common.{◌≡◌, ℕ, zero, suc, ◌≤◌, nat_le, nat_eq, Bool, true, false, cond, ◌&&◌, ◌||◌, List, [], ◌∷◌, Option, Some, None, refl, ap, ap₂, sym, ◌∙◌, arith, true≢false, max, is_some, list_all, leb-true, le-leb, and_parts, and_from, Plain, Len, Records, NoRecords, PlainRecord, GroupRecord, Record, Payload, Flat, Group, items, raw_levels, payload_levels, Kind, ScalarOf, MessageOf, GroupOf, ValueType, FieldForm, Singular, Repeated, MapFrom, Field, Schema, known, field_of, passes, AllowsInside, body, is_len, is_group_payload, one_allowed, packed_allowed, in_entry_allowed, has_level, field_allowed, record_allowed, nothing_inside, allows, Accepts, greatest_level, TypePairs, holds, same_kind, same_form, all_implied, flat_fits, passes_more, or_case, field_number}
 use Rattle.prost_reflect_laws.proofs.Alike.{Alike, alike, SameType, same_type, unpacked_alike}
 use Rattle.prost_reflect_laws.proofs.Matches.{TypesMatch, AllMatch, Relates, like}
 

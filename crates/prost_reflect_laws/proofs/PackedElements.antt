@@ -1,27 +1,9 @@
 -- Elements of a packed record, read one behind another.
-use Rattle.std.proofs.Common.{◌≡◌, ◌≢◌, ℕ, Bool, true, false, ◌&&◌, ◌||◌, ◌⊎◌, cond, inl, inr, List, [], ◌∷◌, ◌++◌, map, flat_map, Option, Some, refl, ap, ap₂, sym, ◌∙◌, subst, append_assoc, append-nil, true≢false}
-use Rattle.prost_reflect_wire.specs.Varint.{◌>>=◌}
-use Rattle.std.specs.Option.{is_some}
-use Rattle.std.proofs.lemmas.Bool.{and_from}
-use Rattle.std.proofs.lemmas.Option.{same_Some}
-use Rattle.prost_reflect_wire.specs.declared.error.DecodeError.{DecodeError}
+use Rattle.prost_reflect_laws.proofs.Common.{◌≡◌, ◌≢◌, ℕ, Bool, true, false, ◌&&◌, ◌||◌, ◌⊎◌, cond, inl, inr, List, [], ◌∷◌, ◌++◌, map, flat_map, Option, Some, refl, ap, ap₂, sym, ◌∙◌, subst, append_assoc, append-nil, true≢false, ◌>>=◌, is_some, and_from, same_Some, DecodeError, WireType, Plain, Var, Fix64, Len, Fix32, Flat, DelimitedFront, PlainFault, PayloadEnds, PayloadPasses, Scalar, ScalarKind, elem, kind_wire, ScalarOf, Repeated, Field, is_packable, is_map, Value, ScalarValue, or_none, unpacked, element_payloads_in, fits, packed_allowed, scalar_values, ElementFault, ElementEnds, ElementPasses, PackedNext, takes, same_wire, ScalarRead, ScalarFault, FieldFault, ElementsRead, packed_values, bind_ok, flat_append, delimited_plain}
 use Rattle.prost_reflect_wire.specs.declared.error.DecodeError.TheVariants as errors
-use Rattle.prost_reflect_wire.specs.declared.key.WireType.{WireType}
 use Rattle.prost_reflect_wire.specs.declared.key.WireType.TheVariants as wires
-use Rattle.prost_reflect_wire.specs.Record.{Plain, Var, Fix64, Len, Fix32, Flat}
-use Rattle.prost_reflect_wire.specs.Front.{DelimitedFront, PlainFault, PayloadEnds, PayloadPasses}
-use Rattle.prost_reflect_wire.specs.Scalar.{Scalar, ScalarKind, elem, kind_wire}
-use Rattle.prost_reflect_wire.specs.Schema.{ScalarOf, Repeated, Field, is_packable, is_map}
-use Rattle.prost_reflect_wire.specs.Content.{Value, ScalarValue}
-use Rattle.prost_reflect_wire.specs.Grammar.{or_none, unpacked, element_payloads_in, fits, packed_allowed}
-use Rattle.prost_reflect_wire.specs.Meaning.{scalar_values}
-use Rattle.prost_reflect_wire.specs.Fault.{ElementFault, ElementEnds, ElementPasses, PackedNext, takes, same_wire}
-use Rattle.prost_reflect_wire.specs.Decoding.{ScalarRead, ScalarFault, FieldFault, ElementsRead, packed_values}
-use Rattle.prost_reflect_wire.proofs.Sound.{bind_ok}
-use Rattle.prost_reflect_wire.proofs.Steps.{flat_append}
 use Rattle.prost_reflect_laws.proofs.KindsAllowed.{kind_no_end, element_name}
 use Rattle.prost_reflect_laws.proofs.KindsTaken.{not_both, packable_no_len, or_first, or_second}
-use Rattle.prost_reflect_wire.proofs.PlainFronts.{delimited_plain}
 use Rattle.prost_reflect_laws.proofs.PackedNumbers.{PlainsFront, plains_more, fault_behind, plains_unpacked}
 
 -- the values of payloads

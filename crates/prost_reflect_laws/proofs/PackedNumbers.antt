@@ -1,16 +1,5 @@
 -- Payloads of one wire type, one behind another in bytes.
-use Rattle.std.proofs.Common.{◌≡◌, ℕ, zero, suc, ◌+◌, ◌-◌, ◌≤◌, List, [], ◌∷◌, ◌++◌, length, Option, Some, refl, sym, ap, subst, ◌∙◌, arith}
-use Rattle.std.proofs.lemmas.Option.{none-some}
-use Rattle.prost_reflect_wire.specs.declared.error.DecodeError.{DecodeError}
-use Rattle.prost_reflect_wire.specs.declared.key.WireType.{WireType}
-use Rattle.prost_reflect_wire.specs.Varint.{◌>>=◌}
-use Rattle.prost_reflect_wire.specs.Record.{Plain, plain_wire, plain_at}
-use Rattle.prost_reflect_wire.specs.Scalar.{ScalarKind, kind_wire}
-use Rattle.prost_reflect_wire.specs.Grammar.{plains_within, unpacked}
-use Rattle.prost_reflect_wire.specs.Front.{PlainFront}
-use Rattle.prost_reflect_wire.specs.Fault.{ElementFault, BehindElement}
-use Rattle.prost_reflect_wire.proofs.Reading.{plain_read}
-use Rattle.prost_reflect_wire.proofs.Sound.{bind_ok}
+use Rattle.prost_reflect_laws.proofs.Common.{◌≡◌, ℕ, zero, suc, ◌+◌, ◌-◌, ◌≤◌, List, [], ◌∷◌, ◌++◌, length, Option, Some, refl, sym, ap, subst, ◌∙◌, arith, none-some, DecodeError, WireType, ◌>>=◌, Plain, plain_wire, plain_at, ScalarKind, kind_wire, plains_within, unpacked, PlainFront, ElementFault, BehindElement, plain_read, bind_ok}
 use Rattle.prost_reflect_laws.proofs.KindsAllowed.{plain_shorter}
 
 -- the payloads stand in front of the rest

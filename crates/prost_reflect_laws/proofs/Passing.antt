@@ -1,23 +1,7 @@
 -- Passage through a reduction, at all levels.
-use Rattle.std.proofs.Common.{◌≡◌, ℕ, zero, suc, ◌^◌, ◌<◌, true, List, length, Option, Some, refl, ap, sym, subst, ◌∙◌, true≢false}
-use Rattle.std.specs.List.{list_all}
-use Rattle.std.proofs.lemmas.Option.{same_Some}
-use Rattle.prost_reflect_wire.specs.Varint.{AreBytes, guard, ◌>>=◌}
-use Rattle.prost_reflect_wire.specs.Record.{Record, Records, Spells, items, read, body_of, valid}
-use Rattle.prost_reflect_wire.specs.Schema.{Schema, known, schema_valid}
-use Rattle.prost_reflect_wire.specs.Content.{Content}
-use Rattle.prost_reflect_wire.specs.Grammar.{AllowsInside, record_allowed, nothing_inside, allows, Accepts}
-use Rattle.prost_reflect_wire.specs.Meaning.{MeansInside, record_numbers, meaning_at, meaning_by, empty_inside, meaning, decoded}
-use Rattle.prost_reflect_wire.specs.Writing.{records, encoded}
-use Rattle.prost_reflect_wire.specs.Reduction.{TypePairs, holds}
-use Rattle.prost_reflect_wire.proofs.Numbers.{numbers_ascending}
-use Rattle.prost_reflect_wire.proofs.Steps.{meaning_covers}
-use Rattle.prost_reflect_wire.proofs.Deeper.{all_append}
-use Rattle.prost_reflect_wire.proofs.Reading.{spelled_read}
-use Rattle.prost_reflect_wire.proofs.Shortest.{short_spells}
+use Rattle.prost_reflect_laws.proofs.Common.{◌≡◌, ℕ, zero, suc, ◌^◌, ◌<◌, true, List, length, Option, Some, refl, ap, sym, subst, ◌∙◌, true≢false, list_all, same_Some, AreBytes, guard, ◌>>=◌, Record, Records, Spells, items, read, body_of, valid, Schema, known, schema_valid, Content, AllowsInside, record_allowed, nothing_inside, allows, Accepts, MeansInside, record_numbers, meaning_at, meaning_by, empty_inside, meaning, decoded, records, encoded, TypePairs, holds, numbers_ascending, meaning_covers, all_append, spelled_read, short_spells, items_body}
 use Rattle.prost_reflect_laws.proofs.SpelledValid.{spelled_valid}
 use Rattle.prost_reflect_laws.proofs.Checked.{known_valid, known_differ}
-use Rattle.prost_reflect_wire.proofs.Bodies.{items_body}
 use Rattle.prost_reflect_laws.proofs.Spelt.{Sound, valid_if}
 use Rattle.prost_reflect_laws.proofs.Older.{allows_smaller}
 use Rattle.prost_reflect_laws.proofs.Matches.{AllMatch, Relates}

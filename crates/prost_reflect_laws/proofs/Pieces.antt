@@ -1,17 +1,6 @@
 -- Records merged into a content are read behind it; pieces of one message join.
-use Rattle.std.proofs.Common.{◌≡◌, ℕ, zero, suc, ◌+◌, ◌-◌, ◌≤◌, true, List, ◌++◌, refl, ap, sym, ◌∙◌, arith}
-use Rattle.std.specs.Prelude.{max}
-use Rattle.prost_reflect_wire.specs.Record.{Record}
-use Rattle.prost_reflect_wire.specs.Schema.{Schema}
-use Rattle.prost_reflect_wire.specs.Content.{Content, schema_of, type_of}
-use Rattle.prost_reflect_wire.specs.Grammar.{LEVEL_LIMIT, allows}
-use Rattle.prost_reflect_wire.specs.Meaning.{meaning, steps}
-use Rattle.prost_reflect_wire.specs.Writing.{records}
-use Rattle.prost_reflect_wire.specs.Levels.{levels}
-use Rattle.prost_reflect_wire.specs.Edit.{merged}
+use Rattle.prost_reflect_laws.proofs.Common.{◌≡◌, ℕ, zero, suc, ◌+◌, ◌-◌, ◌≤◌, true, List, ◌++◌, refl, ap, sym, ◌∙◌, arith, max, Record, Schema, Content, schema_of, type_of, LEVEL_LIMIT, allows, meaning, steps, records, levels, merged, levels_free, allowed_further, meaning_steps}
 use Rattle.prost_reflect_laws.specs.Laws.{Writable}
-use Rattle.prost_reflect_wire.proofs.Deeper.{levels_free, allowed_further}
-use Rattle.prost_reflect_wire.proofs.Steps.{meaning_steps}
 use Rattle.prost_reflect_laws.proofs.Means.{records_mean}
 
 pub merged_means : (c : Content) (behind : List Record) → Writable c → merged c behind ≡ meaning (schema_of c) (max (levels c) LEVEL_LIMIT) (type_of c) (records c ++ behind)

@@ -1,21 +1,8 @@
 -- A message that is read record by record.
-use Rattle.std.proofs.Common.{◌≡◌, ◌≢◌, ℕ, List, [], Option, Some, None, refl, subst, ◌∙◌}
-use Rattle.std.proofs.lemmas.Option.{none-some}
-use Rattle.prost_reflect_wire.specs.declared.key.WireType.{WireType}
+use Rattle.prost_reflect_laws.proofs.Common.{◌≡◌, ◌≢◌, ℕ, List, [], Option, Some, None, refl, subst, ◌∙◌, none-some, WireType, DecodeError, body_of, KeyFront, KeyFault, Schema, Content, empty, schema_of, type_of, Accepts, decoded, kept, WellStored, OfType, Stands, StandsInMessage, Progress, Step, StandsBehindKey, StandsInGroup, key_stands, end_stands, stands_behind}
 use Rattle.prost_reflect_wire.specs.declared.key.WireType.TheVariants as wires
-use Rattle.prost_reflect_wire.specs.declared.error.DecodeError.{DecodeError}
 use Rattle.prost_reflect_wire.specs.declared.error.DecodeError.TheVariants as errors
-use Rattle.prost_reflect_wire.specs.Record.{body_of}
-use Rattle.prost_reflect_wire.specs.Front.{KeyFront, KeyFault}
-use Rattle.prost_reflect_wire.specs.Schema.{Schema}
-use Rattle.prost_reflect_wire.specs.Content.{Content, empty, schema_of, type_of}
-use Rattle.prost_reflect_wire.specs.Grammar.{Accepts}
-use Rattle.prost_reflect_wire.specs.Meaning.{decoded}
-use Rattle.prost_reflect_wire.specs.Typing.{kept, WellStored}
-use Rattle.prost_reflect_wire.specs.Fault.{OfType, Stands, StandsInMessage}
-use Rattle.prost_reflect_wire.specs.Decoding.{Progress, Step, StandsBehindKey, StandsInGroup}
 use Rattle.prost_reflect_laws.proofs.Readings.{read_nothing, read_record, read_decoded, read_accepts}
-use Rattle.prost_reflect_wire.proofs.PlaceFaults.{key_stands, end_stands, stands_behind}
 
 pub progress_start : (levels : ℕ) (c : Content) (bytes : List ℕ) → WellStored c → Progress levels c c bytes bytes
 progress_start levels c bytes w = record { read = read_nothing levels c bytes; holds = record { schema = refl; type = refl; sound = w } }

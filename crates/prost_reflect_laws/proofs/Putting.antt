@@ -1,14 +1,7 @@
 -- Pairs put into a map one after another: keys stay in order, and a map in order is what its pairs make.
-use Rattle.std.proofs.Common.{◌≡◌, Bool, true, false, cond, ◌&&◌, refl, ap, ◌∙◌, true≢false}
-use Rattle.std.specs.Bool.{⊤}
+use Rattle.prost_reflect_laws.proofs.Common.{◌≡◌, Bool, true, false, cond, ◌&&◌, refl, ap, ◌∙◌, true≢false, ⊤, is_eq, ordering_reverse, and_parts, Scalar, scalar_cmp, scalar_lt, scalar_eq, is_less, Value, Pairs, NoPairs, Pair, key_before, value_ordered, pairs_ordered, put, scalar_decides}
 use Rattle.std.specs.declared.cmp.Ordering.{Ordering}
 use Rattle.std.specs.declared.cmp.Ordering.TheVariants.{Less, Equal, Greater}
-use Rattle.std.specs.Ordering.{is_eq, ordering_reverse}
-use Rattle.std.proofs.lemmas.Bool.{and_parts}
-use Rattle.prost_reflect_wire.specs.Scalar.{Scalar, scalar_cmp, scalar_lt, scalar_eq, is_less}
-use Rattle.prost_reflect_wire.specs.Content.{Value, Pairs, NoPairs, Pair, key_before, value_ordered, pairs_ordered}
-use Rattle.prost_reflect_wire.specs.Meaning.{put}
-use Rattle.prost_reflect_wire.specs.Deciding.{scalar_decides}
 use Rattle.prost_reflect_laws.proofs.Order.{scalar_total, less_less, not_below, not_same}
 
 -- KEYS IN ORDER

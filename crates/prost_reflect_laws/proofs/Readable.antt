@@ -1,17 +1,6 @@
 -- Records that are read of bytes have a spelling, and so have those in a payload that has one.
-use Rattle.std.proofs.Common.{◌≡◌, ℕ, zero, suc, ◌^◌, Bool, true, false, cond, ◌&&◌, List, [], ◌∷◌, ◌++◌, map, filter, length, nat_eq, nat_lt, Option, Some, None, refl, ap, sym, ◌∙◌, subst}
-use Rattle.std.specs.List.{list_all}
-use Rattle.std.proofs.lemmas.Bool.{and_parts, and_from}
-use Rattle.std.proofs.lemmas.Option.{none-some, same_Some}
-use Rattle.prost_reflect_wire.specs.Varint.{AreBytes, are_bytes, ◌>>=◌}
-use Rattle.prost_reflect_wire.specs.Record.{Plain, Var, Fix64, Len, Fix32, Records, NoRecords, PlainRecord, GroupRecord, Payload, Flat, Group, Record, items, before, body_of, plain_at, read, number_valid, plain_valid, valid, payload_valid}
-use Rattle.prost_reflect_wire.specs.Scalar.{kind_wire}
-use Rattle.prost_reflect_wire.specs.Schema.{Kind, ScalarOf, MessageOf, GroupOf, is_packable}
-use Rattle.prost_reflect_wire.specs.Grammar.{or_none, plains_within, unpacked, records_in, element_payloads_in, numbered, has_number, payloads}
-use Rattle.prost_reflect_wire.specs.declared.key.WireType.{WireType}
-use Rattle.prost_reflect_wire.proofs.Sound.{Front, plain_sound, bind_ok, read_spells}
+use Rattle.prost_reflect_laws.proofs.Common.{◌≡◌, ℕ, zero, suc, ◌^◌, Bool, true, false, cond, ◌&&◌, List, [], ◌∷◌, ◌++◌, map, filter, length, nat_eq, nat_lt, Option, Some, None, refl, ap, sym, ◌∙◌, subst, list_all, and_parts, and_from, none-some, same_Some, AreBytes, are_bytes, ◌>>=◌, Plain, Var, Fix64, Len, Fix32, Records, NoRecords, PlainRecord, GroupRecord, Payload, Flat, Group, Record, items, before, body_of, plain_at, read, number_valid, plain_valid, valid, payload_valid, kind_wire, Kind, ScalarOf, MessageOf, GroupOf, is_packable, or_none, plains_within, unpacked, records_in, element_payloads_in, numbered, has_number, payloads, WireType, Front, plain_sound, bind_ok, read_spells, bytes_front, bytes_behind, test_bytes}
 use Rattle.prost_reflect_laws.proofs.Means.{first_valid}
-use Rattle.prost_reflect_wire.proofs.ByteLists.{bytes_front, bytes_behind, test_bytes}
 use Rattle.prost_reflect_laws.proofs.SpelledValid.{spelled_plain_valid, spelled_valid}
 
 -- INSIDE A PAYLOAD

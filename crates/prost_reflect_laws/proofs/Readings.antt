@@ -1,23 +1,7 @@
 -- Records read one behind another from bytes.
-use Rattle.std.proofs.Common.{◌≡◌, ℕ, zero, suc, List, [], ◌∷◌, ◌++◌, Option, Some, refl, ap, ap₂, sym, ◌∙◌, append-nil, subst}
-use Rattle.prost_reflect_wire.specs.Varint.{guard, ◌>>=◌}
-use Rattle.prost_reflect_wire.specs.Record.{Record, Records, items, body_of, Spells}
-use Rattle.prost_reflect_wire.specs.declared.key.WireType.{WireType}
-use Rattle.prost_reflect_wire.specs.Front.{KeyFront, ValueFront, RecordsFront}
-use Rattle.prost_reflect_wire.specs.Schema.{Schema}
-use Rattle.prost_reflect_wire.specs.Content.{Content, empty, schema_of, type_of}
-use Rattle.prost_reflect_wire.specs.Grammar.{Accepts, allows}
-use Rattle.prost_reflect_wire.specs.Meaning.{MeansInside, JoinsInside, meaning, decoded, step_by, steps_by, steps}
-use Rattle.prost_reflect_wire.specs.Writing.{record_at}
-use Rattle.prost_reflect_wire.specs.Typing.{kept}
-use Rattle.prost_reflect_wire.specs.Decoding.{ReadTo, RecordRead}
-use Rattle.prost_reflect_wire.proofs.Deeper.{allows_append}
+use Rattle.prost_reflect_laws.proofs.Common.{◌≡◌, ℕ, zero, suc, List, [], ◌∷◌, ◌++◌, Option, Some, refl, ap, ap₂, sym, ◌∙◌, append-nil, subst, guard, ◌>>=◌, Record, Records, items, body_of, Spells, WireType, KeyFront, ValueFront, RecordsFront, Schema, Content, empty, schema_of, type_of, Accepts, allows, MeansInside, JoinsInside, meaning, decoded, step_by, steps_by, steps, record_at, kept, ReadTo, RecordRead, allows_append, meaning_steps, meaning_empty, record_front, last_front, spelled_read, items_body}
 use Rattle.prost_reflect_laws.proofs.Allowed.{allows_inside}
 use Rattle.prost_reflect_laws.proofs.Means.{below, further}
-use Rattle.prost_reflect_wire.proofs.Steps.{meaning_steps, meaning_empty}
-use Rattle.prost_reflect_wire.proofs.RecordFronts.{record_front, last_front}
-use Rattle.prost_reflect_wire.proofs.Reading.{spelled_read}
-use Rattle.prost_reflect_wire.proofs.Bodies.{items_body}
 use Rattle.prost_reflect_laws.proofs.Kept.{kept_schema}
 
 -- STEPS

@@ -1,29 +1,10 @@
 -- A scalar's record, and one that stays unknown, read into what a message stores.
-use Rattle.std.proofs.Common.{◌≡◌, ℕ, Bool, true, false, cond, List, [], ◌∷◌, nat_eq, nat_le, Some, None, refl, ap, sym, ◌∙◌, subst, arith, true≢false, ◌++◌, ◌≤◌}
-use Rattle.std.proofs.lemmas.Bool.{le-leb, and_from}
-use Rattle.std.specs.Prelude.{is_some}
-use Rattle.prost_reflect_wire.specs.declared.key.WireType.{WireType}
-use Rattle.prost_reflect_wire.specs.Varint.{AreBytes}
-use Rattle.prost_reflect_wire.specs.Record.{Record, Payload, Flat, payload_levels}
-use Rattle.prost_reflect_wire.specs.Front.{ValueFront}
-use Rattle.prost_reflect_wire.specs.Scalar.{Scalar, ScalarKind, is_undeclared, scalar_valid}
-use Rattle.prost_reflect_wire.specs.Schema.{ScalarOf, Singular, Field, Schema, known, field_of, is_sibling}
-use Rattle.prost_reflect_wire.specs.Content.{ContentOf, Entries, Value, ScalarValue, slot_at, entries_ordered}
-use Rattle.prost_reflect_wire.specs.Grammar.{allows, record_allowed, field_allowed, one_allowed}
-use Rattle.prost_reflect_wire.specs.Meaning.{step_by, steps}
-use Rattle.prost_reflect_wire.specs.Writing.{record_at}
-use Rattle.prost_reflect_wire.specs.Typing.{kept}
-use Rattle.prost_reflect_wire.specs.Edit.{with_value}
-use Rattle.prost_reflect_wire.specs.Storing.{with_stored, with_unknown}
-use Rattle.prost_reflect_wire.specs.Decoding.{RecordRead, ScalarRead}
-use Rattle.prost_reflect_wire.proofs.Survivors.{field_number}
-use Rattle.prost_reflect_wire.proofs.Numbers.{empty_slot, eqb-sym}
+use Rattle.prost_reflect_laws.proofs.Common.{◌≡◌, ℕ, Bool, true, false, cond, List, [], ◌∷◌, nat_eq, nat_le, Some, None, refl, ap, sym, ◌∙◌, subst, arith, true≢false, ◌++◌, ◌≤◌, le-leb, and_from, is_some, WireType, AreBytes, Record, Payload, Flat, payload_levels, ValueFront, Scalar, ScalarKind, is_undeclared, scalar_valid, ScalarOf, Singular, Field, Schema, known, field_of, is_sibling, ContentOf, Entries, Value, ScalarValue, slot_at, entries_ordered, allows, record_allowed, field_allowed, one_allowed, step_by, steps, record_at, kept, with_value, with_stored, with_unknown, RecordRead, ScalarRead, field_number, empty_slot, eqb-sym, bytes_front}
 use Rattle.prost_reflect_laws.proofs.Allowed.{inside, allows_inside}
 use Rattle.prost_reflect_laws.proofs.Means.{below, further}
 use Rattle.prost_reflect_laws.specs.Laws.{UnknownBack}
 use Rattle.prost_reflect_laws.proofs.Declared.{read_valid}
 use Rattle.prost_reflect_laws.proofs.SpelledValid.{spelled_plain_valid}
-use Rattle.prost_reflect_wire.proofs.ByteLists.{bytes_front}
 use Rattle.prost_reflect_laws.proofs.StoredSteps.{Mutual, Known, scalar_step, unknown_step, kept_step}
 use Rattle.prost_reflect_laws.proofs.Readings.{steps_level, steps_one}
 

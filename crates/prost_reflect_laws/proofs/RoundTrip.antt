@@ -1,17 +1,6 @@
 -- What is written is accepted exactly within so many levels, and means what was written.
-use Rattle.std.proofs.Common.{◌≡◌, ℕ, nat_le, ◌≤◌, Bool, true, Some, Option, ap, ap₂, sym, ◌∙◌}
-use Rattle.std.specs.Prelude.{◌↔◌}
-use Rattle.std.proofs.lemmas.Bool.{leb-true, le-leb}
-use Rattle.prost_reflect_wire.specs.Varint.{guard, ◌>>=◌}
-use Rattle.prost_reflect_wire.specs.Record.{Records, items, body_of}
-use Rattle.prost_reflect_wire.specs.Content.{Content, schema_of, type_of}
-use Rattle.prost_reflect_wire.specs.Grammar.{Accepts, allows}
-use Rattle.prost_reflect_wire.specs.Meaning.{meaning, decoded}
-use Rattle.prost_reflect_wire.specs.Writing.{records, encoded}
-use Rattle.prost_reflect_wire.specs.Levels.{levels}
+use Rattle.prost_reflect_laws.proofs.Common.{◌≡◌, ℕ, nat_le, ◌≤◌, Bool, true, Some, Option, ap, ap₂, sym, ◌∙◌, ◌↔◌, leb-true, le-leb, guard, ◌>>=◌, Records, items, body_of, Content, schema_of, type_of, Accepts, allows, meaning, decoded, records, encoded, levels, spelled_read, one_reading, items_body}
 use Rattle.prost_reflect_laws.specs.Laws.{Writable}
-use Rattle.prost_reflect_wire.proofs.Reading.{spelled_read, one_reading}
-use Rattle.prost_reflect_wire.proofs.Bodies.{items_body}
 use Rattle.prost_reflect_laws.proofs.Valid.{content_valid}
 use Rattle.prost_reflect_laws.proofs.Means.{records_mean, encoded_spells}
 use Rattle.prost_reflect_laws.proofs.Allowed.{content_allowed}

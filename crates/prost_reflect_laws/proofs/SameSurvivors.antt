@@ -1,16 +1,6 @@
 -- The same records of a field survive in two message types of a reduction.
-use Rattle.std.proofs.Common.{◌≡◌, ℕ, Bool, true, false, cond, ◌||◌, List, [], ◌∷◌, ◌++◌, map, filter, flat_map, nat_eq, Option, Some, None, refl, ap, ap₂, sym, ◌∙◌}
-use Rattle.std.proofs.lemmas.Bool.{eqb-true}
-use Rattle.std.specs.List.{list_any}
-use Rattle.std.proofs.lemmas.List.Folds.{list_any-append}
-use Rattle.std.proofs.lemmas.Option.{none-some}
-use Rattle.prost_reflect_wire.specs.Record.{Record, Payload}
-use Rattle.prost_reflect_wire.specs.Schema.{Field, field_of, is_sibling}
-use Rattle.prost_reflect_wire.specs.Grammar.{has_number, value_records, value_payloads}
-use Rattle.prost_reflect_wire.specs.Meaning.{after_last, survive}
-use Rattle.prost_reflect_wire.specs.Reduction.{TypePairs}
+use Rattle.prost_reflect_laws.proofs.Common.{◌≡◌, ℕ, Bool, true, false, cond, ◌||◌, List, [], ◌∷◌, ◌++◌, map, filter, flat_map, nat_eq, Option, Some, None, refl, ap, ap₂, sym, ◌∙◌, eqb-true, list_any, list_any-append, none-some, Record, Payload, Field, field_of, is_sibling, has_number, value_records, value_payloads, after_last, survive, TypePairs, field_number, filter_append, filter_none, after_append}
 use Rattle.prost_reflect_laws.specs.Laws.{block}
-use Rattle.prost_reflect_wire.proofs.Survivors.{field_number, filter_append, filter_none, after_append}
 use Rattle.prost_reflect_laws.proofs.Commuting.{value_records_block}
 use Rattle.prost_reflect_laws.proofs.Alike.{values_alike}
 use Rattle.prost_reflect_laws.proofs.Matches.{TypesMatch, Like, like}

@@ -1,25 +1,7 @@
 -- An entry with a scalar key and a scalar value, read into a content that holds.
-use Rattle.std.proofs.Common.{◌≡◌, ◌≤◌, ℕ, true, false, cond, ◌&&◌, nat_eq, nat_le, List, [], Some, None, refl, ap, ap₂, sym, ◌∙◌, subst}
-use Rattle.std.specs.List.{list_all}
-use Rattle.std.proofs.lemmas.Bool.{leb-true, and_parts, and_from}
+use Rattle.prost_reflect_laws.proofs.Common.{◌≡◌, ◌≤◌, ℕ, true, false, cond, ◌&&◌, nat_eq, nat_le, List, [], Some, None, refl, ap, ap₂, sym, ◌∙◌, subst, list_all, leb-true, and_parts, and_from, AreBytes, Len, Record, Payload, Flat, body_of, payload_levels, payload_valid, valid, DelimitedFront, RecordsFront, Scalar, ScalarKind, kind_default, is_undeclared, scalar_eq, scalar_valid, ScalarOf, ValueType, MapFrom, Field, Schema, known, field_of, is_key_kind, default_valid, field_valid, numbers_differ, schema_valid, passes, ContentOf, Entries, Value, ScalarValue, MapValue, value_at, changed, AllowsInside, nothing_inside, numbered, last, or_none, is_stray, is_stray_entry, one_allowed, has_level, in_entry_allowed, field_allowed, MeansInside, empty_inside, last_or, entry_value, put, pairs_in, stray_levels, kind_takes, is_whole_stray, WellStored, with_stored, Step, EntryTo, plain_type, ScalarEntryTo, bytes_front, field_number, scalar_decides}
 use Rattle.prost_reflect_wire.specs.declared.key.WireType.TheVariants as wires
-use Rattle.prost_reflect_wire.specs.Varint.{AreBytes}
-use Rattle.prost_reflect_wire.specs.Record.{Len, Record, Payload, Flat, body_of, payload_levels, payload_valid, valid}
-use Rattle.prost_reflect_wire.specs.Front.{DelimitedFront, RecordsFront}
-use Rattle.prost_reflect_wire.specs.Scalar.{Scalar, ScalarKind, kind_default, is_undeclared, scalar_eq, scalar_valid}
-use Rattle.prost_reflect_wire.specs.Schema.{ScalarOf, ValueType, MapFrom, Field, Schema, known, field_of, is_key_kind, default_valid, field_valid, numbers_differ, schema_valid, passes}
-use Rattle.prost_reflect_wire.specs.Content.{ContentOf, Entries, Value, ScalarValue, MapValue, value_at, changed}
-use Rattle.prost_reflect_wire.specs.Grammar.{AllowsInside, nothing_inside, numbered, last, or_none, is_stray, is_stray_entry, one_allowed, has_level, in_entry_allowed, field_allowed}
-use Rattle.prost_reflect_wire.specs.Meaning.{MeansInside, empty_inside, last_or, entry_value, put, pairs_in}
-use Rattle.prost_reflect_wire.specs.Levels.{stray_levels}
-use Rattle.prost_reflect_wire.specs.Typing.{kind_takes, is_whole_stray, WellStored}
-use Rattle.prost_reflect_wire.specs.Storing.{with_stored}
-use Rattle.prost_reflect_wire.specs.Decoding.{Step}
-use Rattle.prost_reflect_wire.specs.EntryReading.{EntryTo, plain_type, ScalarEntryTo}
-use Rattle.prost_reflect_wire.proofs.ByteLists.{bytes_front}
 use Rattle.prost_reflect_laws.proofs.SpelledValid.{spelled_valid}
-use Rattle.prost_reflect_wire.proofs.Survivors.{field_number}
-use Rattle.prost_reflect_wire.specs.Deciding.{scalar_decides}
 use Rattle.prost_reflect_laws.proofs.Checked.{known_valid, found_valid, CheckedField, checked_field, CheckedMap, checked_map}
 use Rattle.prost_reflect_laws.proofs.EntryDefaults.{default_valid_key, key_stays, last_or_valid, is_undeclared_value, last_undeclared}
 use Rattle.prost_reflect_laws.proofs.Readable.{numbered_valid}

@@ -1,14 +1,7 @@
 -- What a singular scalar is refused for stands where it is read.
-use Rattle.std.proofs.Common.{◌≡◌, ◌≢◌, ℕ, List, Some, ap, ◌∙◌, inl, inr}
-use Rattle.prost_reflect_wire.specs.declared.key.WireType.{WireType}
+use Rattle.prost_reflect_laws.proofs.Common.{◌≡◌, ◌≢◌, ℕ, List, Some, ap, ◌∙◌, inl, inr, WireType, DecodeError, KeyFront, ScalarKind, ScalarOf, Singular, Field, Schema, is_map, Place, Stands, Here, field_at, takes, ScalarFault}
 use Rattle.prost_reflect_wire.specs.declared.key.WireType.TheVariants as wires
-use Rattle.prost_reflect_wire.specs.declared.error.DecodeError.{DecodeError}
 use Rattle.prost_reflect_wire.specs.declared.error.DecodeError.TheVariants as errors
-use Rattle.prost_reflect_wire.specs.Front.{KeyFront}
-use Rattle.prost_reflect_wire.specs.Scalar.{ScalarKind}
-use Rattle.prost_reflect_wire.specs.Schema.{ScalarOf, Singular, Field, Schema, is_map}
-use Rattle.prost_reflect_wire.specs.Fault.{Place, Stands, Here, field_at, takes}
-use Rattle.prost_reflect_wire.specs.Decoding.{ScalarFault}
 
 pub scalar_stands : (schema : Schema) (e : DecodeError) (place : Place) (n : ℕ) (w : WireType) (rest : List ℕ) (f : Field) (kind : ScalarKind) → KeyFront n w place.bytes rest → field_at schema place.inside n ≡ Some f →
     f.form ≡ Singular → f.value_type.kind ≡ ScalarOf kind → (w ≡ wires.EndGroup → place.open_group ≢ Some n) → ScalarFault kind w e rest → Stands schema e place

@@ -1,18 +1,5 @@
 -- A field of one value, carried through a reduction.
-use Rattle.std.proofs.Common.{◌≡◌, ℕ, Bool, true, false, cond, not, ◌&&◌, List, [], ◌∷◌, ◌++◌, eq-eqb, subst, Option, Some, None, refl, ap, ap₂, sym, ◌∙◌, true≢false, append-nil, ◌⊎◌, inl, inr}
-use Rattle.std.specs.List.{list_all}
-use Rattle.std.proofs.lemmas.Bool.{and_parts, and_from, not-true}
-use Rattle.prost_reflect_wire.specs.Varint.{◌>>=◌}
-use Rattle.prost_reflect_wire.specs.Record.{Payload, payload_valid}
-use Rattle.prost_reflect_wire.specs.Scalar.{Scalar, ScalarKind, elem, scalar_valid, scalar_eq}
-use Rattle.prost_reflect_wire.specs.Schema.{Kind, ScalarOf, MessageOf, GroupOf, ValueType, Singular, Field}
-use Rattle.prost_reflect_wire.specs.Content.{Value, ScalarValue, MessageValue, ListValue, MapValue}
-use Rattle.prost_reflect_wire.specs.Grammar.{AllowsInside, last, is_stray, records_in, one_allowed}
-use Rattle.prost_reflect_wire.specs.Meaning.{MeansInside, present, joined, one_value, element, scalar_values}
-use Rattle.prost_reflect_wire.specs.Writing.{value_payload, field_payloads}
-use Rattle.prost_reflect_wire.specs.Reduction.{TypePairs, same_kind, same_default}
-use Rattle.prost_reflect_wire.proofs.ListTests.{last_passes}
-use Rattle.prost_reflect_wire.specs.Deciding.{scalar_decides}
+use Rattle.prost_reflect_laws.proofs.Common.{◌≡◌, ℕ, Bool, true, false, cond, not, ◌&&◌, List, [], ◌∷◌, ◌++◌, eq-eqb, subst, Option, Some, None, refl, ap, ap₂, sym, ◌∙◌, true≢false, append-nil, ◌⊎◌, inl, inr, list_all, and_parts, and_from, not-true, ◌>>=◌, Payload, payload_valid, Scalar, ScalarKind, elem, scalar_valid, scalar_eq, Kind, ScalarOf, MessageOf, GroupOf, ValueType, Singular, Field, Value, ScalarValue, MessageValue, ListValue, MapValue, AllowsInside, last, is_stray, records_in, one_allowed, MeansInside, present, joined, one_value, element, scalar_values, value_payload, field_payloads, TypePairs, same_kind, same_default, last_passes, scalar_decides}
 use Rattle.prost_reflect_laws.proofs.Alike.{alike, SameType}
 use Rattle.prost_reflect_laws.proofs.ByNumber.{stored_payloads}
 use Rattle.prost_reflect_laws.proofs.Inside.{joined_valid, joined_allowed}

@@ -1,15 +1,5 @@
 -- Tests of entries, said number by number: a test that looks at each entry by itself holds of all exactly if it holds at each number.
-use Rattle.std.proofs.Common.{◌≡◌, ℕ, Bool, true, false, cond, ◌&&◌, List, [], ◌∷◌, ◌++◌, nat_eq, Option, Some, None, refl, ap, subst, sym, ◌∙◌, arith, true≢false}
-use Rattle.std.specs.Bool.{⊤}
-use Rattle.std.specs.List.{list_all}
-use Rattle.std.proofs.lemmas.Bool.{eqb-true, eq-eqb, and_parts, and_from}
-use Rattle.prost_reflect_wire.specs.Record.{Payload}
-use Rattle.prost_reflect_wire.specs.Schema.{Field, is_sibling}
-use Rattle.prost_reflect_wire.specs.Content.{Entries, NoEntries, Stored, Unknown, Value, Slot, value_at, unknowns_at, slot_at, comes_before, entries_ordered, value_ordered}
-use Rattle.prost_reflect_wire.specs.Typing.{EntryTest, entries_pass, value_passes}
-use Rattle.prost_reflect_wire.specs.Edit.{with_value}
-use Rattle.prost_reflect_wire.specs.Storing.{with_stored, with_unknown}
-use Rattle.prost_reflect_wire.proofs.Deeper.{all_append}
+use Rattle.prost_reflect_laws.proofs.Common.{◌≡◌, ℕ, Bool, true, false, cond, ◌&&◌, List, [], ◌∷◌, ◌++◌, nat_eq, Option, Some, None, refl, ap, subst, sym, ◌∙◌, arith, true≢false, ⊤, list_all, eqb-true, eq-eqb, and_parts, and_from, Payload, Field, is_sibling, Entries, NoEntries, Stored, Unknown, Value, Slot, value_at, unknowns_at, slot_at, comes_before, entries_ordered, value_ordered, EntryTest, entries_pass, value_passes, with_value, with_stored, with_unknown, all_append}
 use Rattle.prost_reflect_laws.proofs.Rebuilt.{no_value_below}
 
 -- the test of an entry, where it does not look at what stands behind

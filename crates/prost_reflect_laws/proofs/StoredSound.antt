@@ -1,13 +1,5 @@
 -- What storing a value of a field, or an unknown record, keeps of a content.
-use Rattle.std.proofs.Common.{◌≡◌, ℕ, Bool, true, false, cond, not, ◌&&◌, ◌||◌, List, [], ◌∷◌, ◌++◌, nat_eq, Option, Some, None, refl, ap, ap₂, sym, subst, ◌∙◌}
-use Rattle.std.specs.List.{list_any}
-use Rattle.std.proofs.lemmas.Bool.{and_parts, and_from}
-use Rattle.prost_reflect_wire.specs.Record.{Payload}
-use Rattle.prost_reflect_wire.specs.Schema.{Field, Schema, known, field_of, same_oneof, is_sibling, numbers_differ, passes}
-use Rattle.prost_reflect_wire.specs.Content.{ContentOf, Entries, NoEntries, Stored, Unknown, Value, Slot, value_at, slot_at, entries_ordered}
-use Rattle.prost_reflect_wire.specs.Typing.{EntryTest, entries_pass, value_passes, fit_test, alone_test, value_valid, unknown_fits, ValueStored, WellStored, has_value_of}
-use Rattle.prost_reflect_wire.specs.Edit.{with_value}
-use Rattle.prost_reflect_wire.specs.Storing.{with_stored, with_unknown}
+use Rattle.prost_reflect_laws.proofs.Common.{◌≡◌, ℕ, Bool, true, false, cond, not, ◌&&◌, ◌||◌, List, [], ◌∷◌, ◌++◌, nat_eq, Option, Some, None, refl, ap, ap₂, sym, subst, ◌∙◌, list_any, and_parts, and_from, Payload, Field, Schema, known, field_of, same_oneof, is_sibling, numbers_differ, passes, ContentOf, Entries, NoEntries, Stored, Unknown, Value, Slot, value_at, slot_at, entries_ordered, EntryTest, entries_pass, value_passes, fit_test, alone_test, value_valid, unknown_fits, ValueStored, WellStored, has_value_of, with_value, with_stored, with_unknown}
 use Rattle.prost_reflect_laws.proofs.Everywhere.{stored_passes}
 use Rattle.prost_reflect_laws.proofs.Slots.{not_own, members_apart, apart_members, alone_changed}
 use Rattle.prost_reflect_laws.proofs.StoredPasses.{entries_stored_pass, entries_unknown_pass}

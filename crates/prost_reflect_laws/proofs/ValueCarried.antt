@@ -1,15 +1,5 @@
 -- A value without messages that is set through an older type of a reduction.
-use Rattle.std.proofs.Common.{◌≡◌, ℕ, Bool, true, false, cond, not, ◌&&◌, ◌||◌, Option, Some, None, refl, ap, ap₂, sym, subst, ◌∙◌, true≢false}
-use Rattle.std.proofs.lemmas.Bool.{and_parts, or_parts}
-use Rattle.prost_reflect_wire.specs.Scalar.{Scalar, ScalarKind}
-use Rattle.prost_reflect_wire.specs.Schema.{Kind, ScalarOf, MessageOf, GroupOf, ValueType, FieldForm, Singular, Repeated, MapFrom, Field, Schema, is_singular, is_packable_kind, is_list}
-use Rattle.prost_reflect_wire.specs.Content.{Value, ScalarValue, MessageValue, ListValue, MapValue, Values, NoValues, Item, Pairs, NoPairs, Pair, value_ordered, pairs_ordered}
-use Rattle.prost_reflect_wire.specs.Grammar.{AllowsInside}
-use Rattle.prost_reflect_wire.specs.Meaning.{MeansInside, present, present_list, present_map}
-use Rattle.prost_reflect_wire.specs.Writing.{is_default_of}
-use Rattle.prost_reflect_wire.specs.Typing.{kind_takes, element_valid, elements_valid, pairs_valid, value_valid, is_empty_value, kept_value, kept_inside, kept_values, kept_pairs}
-use Rattle.prost_reflect_wire.specs.Edit.{holds_message, values_hold_message, pairs_hold_message}
-use Rattle.prost_reflect_wire.specs.Reduction.{TypePairs, same_kind, same_form}
+use Rattle.prost_reflect_laws.proofs.Common.{◌≡◌, ℕ, Bool, true, false, cond, not, ◌&&◌, ◌||◌, Option, Some, None, refl, ap, ap₂, sym, subst, ◌∙◌, true≢false, and_parts, or_parts, Scalar, ScalarKind, Kind, ScalarOf, MessageOf, GroupOf, ValueType, FieldForm, Singular, Repeated, MapFrom, Field, Schema, is_singular, is_packable_kind, is_list, Value, ScalarValue, MessageValue, ListValue, MapValue, Values, NoValues, Item, Pairs, NoPairs, Pair, value_ordered, pairs_ordered, AllowsInside, MeansInside, present, present_list, present_map, is_default_of, kind_takes, element_valid, elements_valid, pairs_valid, value_valid, is_empty_value, kept_value, kept_inside, kept_values, kept_pairs, holds_message, values_hold_message, pairs_hold_message, TypePairs, same_kind, same_form}
 use Rattle.prost_reflect_laws.proofs.Checked.{CheckedField, CheckedList, checked_list, CheckedMap, checked_map}
 use Rattle.prost_reflect_laws.proofs.FieldTypes.{singular, repeated}
 use Rattle.prost_reflect_laws.proofs.Alike.{SameType, same_type, default_of_alike}

@@ -1,6 +1,5 @@
 -- The worked examples of the test of reduction.
-use Rattle.std.proofs.Common.{refl}
-use Rattle.std.specs.Str.{is_utf8, chars}
+use Rattle.prost_reflect_laws.proofs.Common.{refl, is_utf8, chars}
 use Rattle.prost_reflect_laws.specs.Reducing.{refined_times}
 use Rattle.prost_reflect_laws.specs.ReducingExamples.{WorkedReductions}
 

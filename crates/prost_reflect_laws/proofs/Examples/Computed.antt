@@ -1,11 +1,5 @@
 -- The worked examples of numbers, records, fields and lists.
-use Rattle.std.proofs.Common.{refl, lit<, lit≤}
-use Rattle.std.specs.Str.{is_utf8, chars}
-use Rattle.std.specs.Char.{encode_utf8}
-use Rattle.prost_reflect_wire.specs.Varint.{short}
-use Rattle.prost_reflect_wire.specs.Record.{read}
-use Rattle.prost_reflect_wire.specs.Grammar.{unpacked, allows}
-use Rattle.prost_reflect_wire.specs.Meaning.{meaning, steps}
+use Rattle.prost_reflect_laws.proofs.Common.{refl, lit<, lit≤, is_utf8, chars, encode_utf8, short, read, unpacked, allows, meaning, steps}
 use Rattle.prost_reflect_laws.specs.Examples.Numbers.{Varints, Zigzag, Kinds, KindRanges, PlainFields}
 use Rattle.prost_reflect_laws.specs.Examples.Records.{Records, Unreadable, RawLevels}
 use Rattle.prost_reflect_laws.specs.Examples.Fields.{Scalars, Texts, Messages, Oneofs, Extensions}

@@ -1,14 +1,7 @@
 -- The worked examples of contents and of what changes them.
-use Rattle.std.proofs.Common.{length, refl, ap, sym, true≢false, arith}
-use Rattle.std.specs.Str.{is_utf8, chars}
-use Rattle.std.specs.Char.{encode_utf8}
-use Rattle.prost_reflect_wire.specs.Varint.{short}
-use Rattle.prost_reflect_wire.specs.Record.{read}
-use Rattle.prost_reflect_wire.specs.Grammar.{unpacked, allows}
-use Rattle.prost_reflect_wire.specs.Meaning.{meaning, steps}
+use Rattle.prost_reflect_laws.proofs.Common.{length, refl, ap, sym, true≢false, arith, is_utf8, chars, encode_utf8, short, read, unpacked, allows, meaning, steps, NoEntries, Stored}
 use Rattle.prost_reflect_laws.specs.Examples.Contents.{Schemas, Validity, Encodable, WellTypedContents, Kept}
 use Rattle.prost_reflect_laws.specs.Examples.Editing.{Merging, OneNumber, Access, Paths}
-use Rattle.prost_reflect_wire.specs.Content.{NoEntries, Stored}
 use Rattle.prost_reflect_laws.specs.Laws.{Writable}
 use Rattle.prost_reflect_laws.specs.Examples.Schemas.{my_message}
 use Rattle.prost_reflect_laws.specs.Examples.Words.{content, inner, int}

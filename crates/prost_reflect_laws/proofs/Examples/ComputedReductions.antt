@@ -1,11 +1,5 @@
 -- The worked examples of reductions, but for those that are none.
-use Rattle.std.proofs.Common.{[], ◌∷◌, refl}
-use Rattle.std.specs.Str.{is_utf8, chars}
-use Rattle.std.specs.Char.{encode_utf8}
-use Rattle.prost_reflect_wire.specs.Varint.{short}
-use Rattle.prost_reflect_wire.specs.Record.{read}
-use Rattle.prost_reflect_wire.specs.Grammar.{unpacked, allows}
-use Rattle.prost_reflect_wire.specs.Meaning.{meaning, steps}
+use Rattle.prost_reflect_laws.proofs.Common.{[], ◌∷◌, refl, is_utf8, chars, encode_utf8, short, read, unpacked, allows, meaning, steps}
 use Rattle.prost_reflect_laws.specs.Examples.Reductions.{Reductions, Passing}
 use Rattle.prost_reflect_laws.specs.Examples.Schemas.{my_message, older_message, message_without_bar, unpacked_list, packed_list, maps, maps_without_q, extended, no_fields}
 

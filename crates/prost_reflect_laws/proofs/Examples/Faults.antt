@@ -1,19 +1,8 @@
 -- The worked examples of faults.
-use Rattle.std.proofs.Common.{sym, ◌≡◌, ◌≢◌, ℕ, ◌+◌, ◌*◌, ◌<◌, ◌^◌, true, false, List, [], ◌∷◌, Option, Some, None, refl, inl, inr, arith, lit<, lit≤, ap}
-use Rattle.std.specs.Str.{is_utf8, chars}
-use Rattle.std.specs.Char.{encode_utf8}
-use Rattle.std.proofs.lemmas.Option.{none-some}
-use Rattle.prost_reflect_wire.specs.Varint.{Varint}
-use Rattle.prost_reflect_wire.specs.Record.{Var, Flat, wire_code}
-use Rattle.prost_reflect_wire.specs.Scalar.{Int32}
-use Rattle.prost_reflect_wire.specs.Schema.{MessageOf, GroupOf, Singular, Repeated, MapFrom}
-use Rattle.prost_reflect_wire.specs.Grammar.{LEVEL_LIMIT}
-use Rattle.prost_reflect_wire.specs.Fault.{Stands, StandsInMessage, OfEntry, entry_field, Here, Behind, InMessage, InGroup, InUnknown, InEntry, KeyFront, DelimitedFront, RecordFront, ElementEnds, BehindElement}
+use Rattle.prost_reflect_laws.proofs.Common.{sym, ◌≡◌, ◌≢◌, ℕ, ◌+◌, ◌*◌, ◌<◌, ◌^◌, true, false, List, [], ◌∷◌, Option, Some, None, refl, inl, inr, arith, lit<, lit≤, ap, is_utf8, chars, encode_utf8, none-some, Varint, Var, Flat, wire_code, Int32, MessageOf, GroupOf, Singular, Repeated, MapFrom, LEVEL_LIMIT, Stands, StandsInMessage, OfEntry, entry_field, Here, Behind, InMessage, InGroup, InUnknown, InEntry, KeyFront, DelimitedFront, RecordFront, ElementEnds, BehindElement, DecodeError, WireType}
 use Rattle.prost_reflect_laws.specs.Examples.Schemas.{examples, maps, field, list, int32, text, message_value_type}
 use Rattle.prost_reflect_laws.specs.Examples.Faults.{Faults}
-use Rattle.prost_reflect_wire.specs.declared.error.DecodeError.{DecodeError}
 use Rattle.prost_reflect_wire.specs.declared.error.DecodeError.TheVariants as errors
-use Rattle.prost_reflect_wire.specs.declared.key.WireType.{WireType}
 use Rattle.prost_reflect_wire.specs.declared.key.WireType.TheVariants as wires
 
 pub one_byte : (v : ℕ) → v < 128 → Varint v (v ∷ [])

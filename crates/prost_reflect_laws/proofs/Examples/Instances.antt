@@ -1,20 +1,9 @@
 -- The premises of the laws at worked examples, and what the laws then say.
-use Rattle.std.proofs.Common.{false, [], ◌∷◌, Some, None, refl, sym, ap, arith, lit<, lit≤}
-use Rattle.std.specs.Str.{is_utf8, chars}
-use Rattle.std.specs.Char.{encode_utf8}
-use Rattle.prost_reflect_wire.specs.Varint.{AreBytes, short}
-use Rattle.prost_reflect_wire.specs.Record.{read}
-use Rattle.prost_reflect_wire.specs.Schema.{known, is_sibling}
-use Rattle.prost_reflect_wire.specs.Grammar.{LEVEL_LIMIT, unpacked, allows}
-use Rattle.prost_reflect_wire.specs.Meaning.{meaning, steps}
-use Rattle.prost_reflect_wire.specs.Typing.{WellTyped, WellStored}
-use Rattle.prost_reflect_wire.specs.Edit.{PathTo}
+use Rattle.prost_reflect_laws.proofs.Common.{false, [], ◌∷◌, Some, None, refl, sym, ap, arith, lit<, lit≤, is_utf8, chars, encode_utf8, AreBytes, short, read, known, is_sibling, LEVEL_LIMIT, unpacked, allows, meaning, steps, WellTyped, WellStored, PathTo, NoEntries, Stored, read_spells}
 use Rattle.prost_reflect_laws.specs.Laws.{Apart, Writable}
 use Rattle.prost_reflect_laws.specs.Examples.Schemas.{examples, my_message, two_choices}
-use Rattle.prost_reflect_wire.specs.Content.{NoEntries, Stored}
 use Rattle.prost_reflect_laws.specs.Examples.Words.{hex, content, int}
 use Rattle.prost_reflect_laws.specs.Examples.Instances.{sample, front, behind, one, needless, stores_defaults, Taken, Low, OfReading, OfMeaning, OfContents, OfWriting, OfFaults}
-use Rattle.prost_reflect_wire.proofs.Sound.{read_spells}
 use Rattle.prost_reflect_laws.proofs.Accepted.{accepts_is_test}
 use Rattle.prost_reflect_laws.proofs.GoodSteps.{meaning_typed, meaning_levels}
 use Rattle.prost_reflect_laws.proofs.NormalForms.{steps_well, merged_well, normal_form, decoded_well}

@@ -1,16 +1,5 @@
 -- The statements near the laws on reading back are refuted.
-use Rattle.std.proofs.Common.{◌≡◌, ℕ, true, List, [], ◌∷◌, map, flat_map, length, Option, Some, refl, sym, ap, ◌∙◌, arith, true≢false}
-use Rattle.std.specs.Str.{is_utf8, chars}
-use Rattle.std.specs.Char.{encode_utf8}
-use Rattle.std.specs.Option.{is_some}
-use Rattle.prost_reflect_wire.specs.Varint.{short}
-use Rattle.prost_reflect_wire.specs.Record.{record_at, read}
-use Rattle.prost_reflect_wire.specs.Schema.{Field}
-use Rattle.prost_reflect_wire.specs.Content.{Entries, NoEntries, Stored, Unknown, Value, ScalarValue, MessageValue, ListValue, MapValue, Pair, Item, entries_of, value_at}
-use Rattle.prost_reflect_wire.specs.Scalar.{Text}
-use Rattle.prost_reflect_wire.specs.Grammar.{payloads, value_records, is_len, unpacked, allows}
-use Rattle.prost_reflect_wire.specs.Meaning.{MeansInside, field_value, meaning, steps}
-use Rattle.prost_reflect_wire.specs.Writing.{field_payloads, encoded}
+use Rattle.prost_reflect_laws.proofs.Common.{◌≡◌, ℕ, true, List, [], ◌∷◌, map, flat_map, length, Option, Some, refl, sym, ap, ◌∙◌, arith, true≢false, is_utf8, chars, encode_utf8, is_some, short, record_at, read, Field, Entries, NoEntries, Stored, Unknown, Value, ScalarValue, MessageValue, ListValue, MapValue, Pair, Item, entries_of, value_at, Text, payloads, value_records, is_len, unpacked, allows, MeansInside, field_value, meaning, steps, field_payloads, encoded}
 use Rattle.prost_reflect_laws.specs.Laws.{ValueBack}
 use Rattle.prost_reflect_laws.specs.Examples.Words.{varint}
 use Rattle.prost_reflect_laws.specs.Examples.NearbyBack.{NotOfReadingBack}

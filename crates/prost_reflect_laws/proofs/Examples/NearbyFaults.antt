@@ -1,28 +1,16 @@
 -- The statements near the laws on faults and on single fields are refuted.
-use Rattle.std.proofs.Common.{◌≡◌, ◌≢◌, ℕ, List, [], ◌∷◌, length, refl, inl, inr, ap, arith, lit<, lit≤, true, false, true≢false, ◌<◌, ◌++◌, subst, sym, length-append}
-use Rattle.std.specs.Str.{is_utf8, chars}
-use Rattle.std.specs.Char.{encode_utf8}
-use Rattle.prost_reflect_wire.specs.Varint.{short}
-use Rattle.prost_reflect_wire.specs.Record.{Record, Var, Flat, read, wire_code}
-use Rattle.prost_reflect_wire.specs.Schema.{Schema, MessageOf, Singular}
-use Rattle.prost_reflect_wire.specs.Front.{AreOpen, FieldFront, KeyFront, RecordFront, VarintEnds, VarintPasses, NoKey}
-use Rattle.prost_reflect_wire.specs.Grammar.{Accepts, accepts, unpacked, allows}
-use Rattle.prost_reflect_wire.specs.Meaning.{meaning, steps}
-use Rattle.prost_reflect_wire.specs.Fault.{Place, Comes, Stands, StandsInMessage, Here, Behind, InMessage, InGroup, InUnknown, InEntry}
+use Rattle.prost_reflect_laws.proofs.Common.{◌≡◌, ◌≢◌, ℕ, List, [], ◌∷◌, length, refl, inl, inr, ap, arith, lit<, lit≤, true, false, true≢false, ◌<◌, ◌++◌, subst, sym, length-append, is_utf8, chars, encode_utf8, short, Record, Var, Flat, read, wire_code, Schema, MessageOf, Singular, AreOpen, FieldFront, KeyFront, RecordFront, VarintEnds, VarintPasses, NoKey, Accepts, accepts, unpacked, allows, meaning, steps, Place, Comes, Stands, StandsInMessage, Here, Behind, InMessage, InGroup, InUnknown, InEntry, DecodeError, WireType, record_parts}
 use Rattle.prost_reflect_laws.specs.Examples.Schemas.{examples, my_message, text_at_one, field, message_value_type}
 use Rattle.prost_reflect_laws.specs.Examples.Words.{hex}
 use Rattle.prost_reflect_laws.specs.Examples.PremisesOfPassage.{first_field}
 use Rattle.prost_reflect_laws.specs.Examples.Instances.{needless}
 use Rattle.prost_reflect_laws.specs.Examples.NearbyFaults.{group_bytes, no_value, NotOfFaults, NotOfFields}
-use Rattle.prost_reflect_wire.specs.declared.error.DecodeError.{DecodeError}
 use Rattle.prost_reflect_wire.specs.declared.error.DecodeError.TheVariants as errors
-use Rattle.prost_reflect_wire.specs.declared.key.WireType.{WireType}
 use Rattle.prost_reflect_wire.specs.declared.key.WireType.TheVariants as wires
 use Rattle.prost_reflect_laws.proofs.Accepted.{accepts_is_test}
 use Rattle.prost_reflect_laws.proofs.FaultLaws.{accepted_has_no_fault}
 use Rattle.prost_reflect_laws.proofs.Examples.Faults.{faults, one_byte, key, no_zero, first_one}
 use Rattle.prost_reflect_laws.proofs.Examples.NearbyReading.{first, first_digit}
-use Rattle.prost_reflect_wire.proofs.RecordFronts.{record_parts}
 
 group_accepted : Accepts examples 1 my_message group_bytes
 unfolding short read unpacked allows meaning steps is_utf8 chars encode_utf8

@@ -1,15 +1,5 @@
 -- The statements near the laws are refuted.
-use Rattle.std.proofs.Common.{ℕ, zero, suc, lit<, List, ◌∷◌, length, refl, sym, ap, arith, true≢false}
-use Rattle.std.specs.Str.{is_utf8, chars}
-use Rattle.std.specs.Char.{encode_utf8}
-use Rattle.std.specs.Option.{is_some}
-use Rattle.prost_reflect_wire.specs.Varint.{short}
-use Rattle.prost_reflect_wire.specs.Record.{read}
-use Rattle.prost_reflect_wire.specs.Content.{entries_of, value_at, type_of}
-use Rattle.prost_reflect_wire.specs.Grammar.{unpacked, allows}
-use Rattle.prost_reflect_wire.specs.Meaning.{meaning, steps}
-use Rattle.prost_reflect_wire.specs.Writing.{encoded}
-use Rattle.prost_reflect_wire.specs.Typing.{Typed}
+use Rattle.prost_reflect_laws.proofs.Common.{ℕ, zero, suc, lit<, List, ◌∷◌, length, refl, sym, ap, arith, true≢false, is_utf8, chars, encode_utf8, is_some, short, read, entries_of, value_at, type_of, unpacked, allows, meaning, steps, encoded, Typed}
 use Rattle.prost_reflect_laws.specs.Laws.{Writable}
 use Rattle.prost_reflect_laws.specs.Examples.Schemas.{my_message}
 use Rattle.prost_reflect_laws.specs.Examples.Words.{content}

@@ -1,15 +1,5 @@
 -- The statements near the laws of reduction are refuted.
-use Rattle.std.proofs.Common.{ℕ, false, List, [], ◌∷◌, Option, Some, None, refl, sym, ap, arith, lit<, true≢false}
-use Rattle.std.specs.Str.{is_utf8, chars}
-use Rattle.std.specs.Char.{encode_utf8}
-use Rattle.std.specs.Option.{is_some}
-use Rattle.prost_reflect_wire.specs.Varint.{short}
-use Rattle.prost_reflect_wire.specs.Record.{read}
-use Rattle.prost_reflect_wire.specs.Content.{Content, entries_of, MessageValue, value_at, type_of}
-use Rattle.prost_reflect_wire.specs.Grammar.{LEVEL_LIMIT, Accepts, unpacked, allows}
-use Rattle.prost_reflect_wire.specs.Meaning.{meaning, steps}
-use Rattle.prost_reflect_wire.specs.Edit.{PathTo}
-use Rattle.prost_reflect_wire.specs.Reduction.{Reduced}
+use Rattle.prost_reflect_laws.proofs.Common.{ℕ, false, List, [], ◌∷◌, Option, Some, None, refl, sym, ap, arith, lit<, true≢false, is_utf8, chars, encode_utf8, is_some, short, read, Content, entries_of, MessageValue, value_at, type_of, LEVEL_LIMIT, Accepts, unpacked, allows, meaning, steps, PathTo, Reduced}
 use Rattle.prost_reflect_laws.specs.Reducing.{refined_times}
 use Rattle.prost_reflect_laws.specs.Examples.Schemas.{examples, my_message, older_message, no_fields, text_at_one, optional_a, two_choices, choices_without_a}
 use Rattle.prost_reflect_laws.specs.Examples.Words.{hex, int}

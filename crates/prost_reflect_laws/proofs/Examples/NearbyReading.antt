@@ -1,15 +1,7 @@
 -- The statements near the laws on reading and on scalars are refuted.
-use Rattle.std.proofs.Common.{◌≡◌, ℕ, ◌<◌, ◌++◌, List, [], ◌∷◌, length, refl, sym, ap, subst, arith}
-use Rattle.std.specs.Str.{is_utf8, chars}
-use Rattle.std.specs.Char.{encode_utf8}
-use Rattle.std.proofs.lemmas.Option.{same_Some}
-use Rattle.prost_reflect_wire.specs.Varint.{AreDigits, short}
-use Rattle.prost_reflect_wire.specs.Record.{Records, Spells, read}
-use Rattle.prost_reflect_wire.specs.Grammar.{unpacked, allows}
-use Rattle.prost_reflect_wire.specs.Meaning.{meaning, steps}
+use Rattle.prost_reflect_laws.proofs.Common.{◌≡◌, ℕ, ◌<◌, ◌++◌, List, [], ◌∷◌, length, refl, sym, ap, subst, arith, is_utf8, chars, encode_utf8, same_Some, AreDigits, short, Records, Spells, read, unpacked, allows, meaning, steps, spelled_read}
 use Rattle.prost_reflect_laws.specs.Examples.Instances.{one}
 use Rattle.prost_reflect_laws.specs.Examples.NearbyReading.{no_bytes, NotOfRecords, NotOfScalars}
-use Rattle.prost_reflect_wire.proofs.Reading.{spelled_read}
 
 abbrev pub first : List ℕ → ℕ
 first [] = 0

@@ -1,14 +1,5 @@
 -- The statements near the laws on what is read, merged, kept and set are refuted.
-use Rattle.std.proofs.Common.{ℕ, List, [], ◌∷◌, length, refl, sym, ap, arith, true≢false}
-use Rattle.std.specs.Str.{is_utf8, chars}
-use Rattle.std.specs.Char.{encode_utf8}
-use Rattle.std.specs.Option.{is_some}
-use Rattle.prost_reflect_wire.specs.Varint.{short}
-use Rattle.prost_reflect_wire.specs.Record.{Record, read}
-use Rattle.prost_reflect_wire.specs.Content.{entries_of, value_at}
-use Rattle.prost_reflect_wire.specs.Grammar.{unpacked, allows}
-use Rattle.prost_reflect_wire.specs.Meaning.{meaning, steps}
-use Rattle.prost_reflect_wire.specs.Writing.{encoded}
+use Rattle.prost_reflect_laws.proofs.Common.{ℕ, List, [], ◌∷◌, length, refl, sym, ap, arith, true≢false, is_utf8, chars, encode_utf8, is_some, short, Record, read, entries_of, value_at, unpacked, allows, meaning, steps, encoded}
 use Rattle.prost_reflect_laws.specs.Examples.NearbyTyping.{NotOfTyping, NotOfContents}
 use Rattle.prost_reflect_laws.proofs.Examples.Instances.{sample_typed, sample_low, behind_taken, stored_well}
 use Rattle.prost_reflect_laws.proofs.Examples.NearbyMeaning.{deep_writable}

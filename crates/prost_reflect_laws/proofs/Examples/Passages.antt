@@ -1,20 +1,7 @@
 -- The worked examples of the laws of reduction: what they ask is computed, and what they say is theirs.
 use Prim.Native.String.{String}
-use Rattle.std.specs.Prelude.{◌≡◌, ℕ, suc, ◌<◌, ◌≤◌, ◌^◌, Bool, true, false, pos, List, [], ◌∷◌, length, Option, Some, None, IsTrue}
-use Rattle.std.proofs.Common.{refl, ap, sym, ◌∙◌, subst, true≢false, lit<, lit≤}
-use Rattle.std.specs.Str.{is_utf8, chars}
-use Rattle.std.specs.Char.{encode_utf8}
-use Rattle.prost_reflect_wire.specs.Varint.{short, are_bytes}
-use Rattle.prost_reflect_wire.specs.Record.{read}
-use Rattle.prost_reflect_wire.specs.Schema.{MessageOf, Singular}
-use Rattle.prost_reflect_wire.specs.Content.{Content, ContentOf, Entries, NoEntries, Value, ScalarValue, MessageValue, ListValue, MapValue, value_at}
-use Rattle.prost_reflect_wire.specs.Scalar.{Scalar, I32, EnumNumber, scalar_eq}
-use Rattle.prost_reflect_wire.specs.Grammar.{LEVEL_LIMIT, Accepts, accepts, unpacked, allows}
-use Rattle.prost_reflect_wire.specs.Meaning.{decoded, meaning, steps}
-use Rattle.prost_reflect_wire.specs.Edit.{PathTo, holds_message}
-use Rattle.prost_reflect_wire.specs.Typing.{ValueStored}
+use Rattle.prost_reflect_laws.proofs.Common.{◌≡◌, ℕ, suc, ◌<◌, ◌≤◌, ◌^◌, Bool, true, false, pos, List, [], ◌∷◌, length, Option, Some, None, IsTrue, refl, ap, sym, ◌∙◌, subst, true≢false, lit<, lit≤, is_utf8, chars, encode_utf8, short, are_bytes, read, MessageOf, Singular, Content, ContentOf, Entries, NoEntries, Value, ScalarValue, MessageValue, ListValue, MapValue, value_at, Scalar, I32, EnumNumber, scalar_eq, LEVEL_LIMIT, Accepts, accepts, unpacked, allows, decoded, meaning, steps, PathTo, holds_message, ValueStored, Reduced, test_bytes}
 use Rattle.prost_reflect_laws.specs.Reducing.{refined_times}
-use Rattle.prost_reflect_wire.specs.Reduction.{Reduced}
 use Rattle.prost_reflect_laws.specs.ReducingExamples.{whole, less, other}
 use Rattle.prost_reflect_laws.specs.Examples.Schemas.{examples, field, member, int32, message_value_type, my_message, older_message, maps, maps_without_m, choice, extended, extended_choice, field_at_hundred, no_fields, closed, closed_alone, open_alone}
 use Rattle.prost_reflect_laws.specs.Examples.Words.{int, hex, content, Means, Writes, Sets}
@@ -25,7 +12,6 @@ use Rattle.prost_reflect_laws.proofs.Refining.{reduced_is_test}
 use Rattle.prost_reflect_laws.proofs.Examples.ComputedContents.{schemas}
 use Rattle.prost_reflect_laws.proofs.Examples.ComputedReductions.{reductions}
 use Rattle.prost_reflect_laws.proofs.Examples.NotReduced.{no_reductions, differ}
-use Rattle.prost_reflect_wire.proofs.ByteLists.{test_bytes}
 
 -- BY THE LAWS
 

@@ -1,14 +1,6 @@
 -- The premises of the laws on reductions and on single fields at worked examples.
-use Rattle.std.proofs.Common.{[], ◌∷◌, refl, lit<, lit≤}
-use Rattle.std.specs.Str.{is_utf8, chars}
-use Rattle.std.specs.Char.{encode_utf8}
-use Rattle.prost_reflect_wire.specs.Varint.{AreBytes, short}
-use Rattle.prost_reflect_wire.specs.Record.{read}
-use Rattle.prost_reflect_wire.specs.Grammar.{Accepts, unpacked, allows}
-use Rattle.prost_reflect_wire.specs.Meaning.{meaning, steps}
-use Rattle.prost_reflect_wire.specs.Edit.{PathTo}
+use Rattle.prost_reflect_laws.proofs.Common.{[], ◌∷◌, refl, lit<, lit≤, is_utf8, chars, encode_utf8, AreBytes, short, read, Accepts, unpacked, allows, meaning, steps, PathTo, FieldFront}
 use Rattle.prost_reflect_laws.specs.Reducing.{refined_times}
-use Rattle.prost_reflect_wire.specs.Front.{FieldFront}
 use Rattle.prost_reflect_laws.specs.ReducingExamples.{whole, less}
 use Rattle.prost_reflect_laws.specs.Examples.Schemas.{examples, my_message, older_message}
 use Rattle.prost_reflect_laws.specs.Examples.Words.{hex, int}

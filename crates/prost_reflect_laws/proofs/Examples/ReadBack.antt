@@ -1,14 +1,5 @@
 -- The premises of the laws on reading back at worked examples.
-use Rattle.std.proofs.Common.{false, [], ◌∷◌, refl}
-use Rattle.std.specs.Str.{is_utf8, chars}
-use Rattle.std.specs.Char.{encode_utf8}
-use Rattle.prost_reflect_wire.specs.Varint.{short}
-use Rattle.prost_reflect_wire.specs.Record.{read}
-use Rattle.prost_reflect_wire.specs.Scalar.{Int32}
-use Rattle.prost_reflect_wire.specs.Schema.{known, ScalarOf}
-use Rattle.prost_reflect_wire.specs.Content.{NoPairs, Pair, NoValues, Item, entries_of}
-use Rattle.prost_reflect_wire.specs.Grammar.{unpacked, allows}
-use Rattle.prost_reflect_wire.specs.Meaning.{meaning, steps}
+use Rattle.prost_reflect_laws.proofs.Common.{false, [], ◌∷◌, refl, is_utf8, chars, encode_utf8, short, read, Int32, known, ScalarOf, NoPairs, Pair, NoValues, Item, entries_of, unpacked, allows, meaning, steps}
 use Rattle.prost_reflect_laws.specs.Laws.{EntriesBack, ElementsBack, PairsBack}
 use Rattle.prost_reflect_laws.specs.Examples.Schemas.{examples, my_message, unpacked_list, packed_list, maps, closed, text, int32}
 use Rattle.prost_reflect_laws.specs.Examples.Words.{int, ascii, varint, delimited}

@@ -1,5 +1,4 @@
-use Rattle.prost_reflect_wire.proofs.KeyFronts.{short_key_front}
-use Rattle.prost_reflect_wire.proofs.FieldFaults.{value_no_fault}
+use Rattle.prost_reflect_laws.proofs.Common.{short_key_front, value_no_fault}
 use Rattle.prost_reflect_laws.proofs.FieldOrFault.{value_front_or_fault}
 use Rattle.prost_reflect_laws.proofs.field_laws.value_unless_fault.Goals as goal
 

@@ -1,5 +1,4 @@
-use Rattle.prost_reflect_wire.proofs.Reading.{spelled_read}
-use Rattle.prost_reflect_wire.proofs.Sound.{read_spells}
+use Rattle.prost_reflect_laws.proofs.Common.{spelled_read, read_spells}
 use Rattle.prost_reflect_laws.proofs.laws.read_is_spells.Goals as goal
 
 pub returns : goal.returns
