@@ -52,3 +52,10 @@ pub use Rattle.prost_reflect_wire.proofs.Shortest.{short_spells, short_plain_ok,
 pub use Rattle.prost_reflect_wire.proofs.Sound.{read_spells, bind_ok, plain_sound, guard_ok, Front}
 pub use Rattle.prost_reflect_wire.proofs.Steps.{field_nothing, Joins, level_joins, flat_append, field_joins, surviving_value, value_all, unknowns_further, meaning_covers, map_append, meaning_same, nothing_joins, meaning_empty, meaning_steps, values_present, last_append, values_append, pairs_present, same_behind}
 pub use Rattle.prost_reflect_wire.proofs.Survivors.{field_number, filter_append, filter_none, survive_none, after_cons, after_append}
+pub use Rattle.prost_reflect_laws.specs.Examples.Instances.{sample, front, behind, one, needless, stores_defaults, Taken, Low, OfReading, OfMeaning, OfContents, OfWriting, OfFaults}
+pub use Rattle.prost_reflect_laws.specs.Examples.Schemas.{my_message, older_message, message_without_bar, unpacked_list, packed_list, maps, maps_without_q, extended, no_fields, examples, field, list, int32, text, message_value_type, two_choices, text_at_one, optional_a, choices_without_a, required_a, plain_a, seven_a, signed_a, one_message, message_list, field_at_hundred, presence_map, choice, choices_moved, other_alone, closed_alone, older_closed, closed, open_alone, text_inside, member, maps_without_m, extended_choice}
+pub use Rattle.prost_reflect_laws.specs.Examples.Words.{content, inner, int, hex, varint, Means, Writes, Sets, ascii, delimited}
+pub use Rattle.prost_reflect_laws.specs.Laws.{ElementBack, block, ValueBack, EntriesBack, Writable, Apart, Spellable, ElementsBack, PairsBack, UnknownBack, PairBack, StaysWell}
+pub use Rattle.prost_reflect_laws.specs.Reducing.{numbers_below, all_pairs, refined, greatest_reduction, is_reduced}
+unfoldable pub use Rattle.prost_reflect_laws.specs.Reducing.{refined_times}
+pub use Rattle.prost_reflect_laws.specs.ReducingExamples.{whole, less, other, WorkedReductions}

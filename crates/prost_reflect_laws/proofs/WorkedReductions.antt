@@ -1,7 +1,5 @@
 -- The worked examples of the test of reduction.
-use Rattle.prost_reflect_laws.proofs.Common.{refl, is_utf8, chars}
-use Rattle.prost_reflect_laws.specs.Reducing.{refined_times}
-use Rattle.prost_reflect_laws.specs.ReducingExamples.{WorkedReductions}
+use Rattle.prost_reflect_laws.proofs.Common.{refl, is_utf8, chars, refined_times, WorkedReductions}
 
 pub worked_reductions : WorkedReductions
 unfolding refined_times is_utf8 chars

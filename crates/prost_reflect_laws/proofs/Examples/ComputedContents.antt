@@ -1,10 +1,7 @@
 -- The worked examples of contents and of what changes them.
-use Rattle.prost_reflect_laws.proofs.Common.{length, refl, ap, sym, true≢false, arith, is_utf8, chars, encode_utf8, short, read, unpacked, allows, meaning, steps, NoEntries, Stored}
+use Rattle.prost_reflect_laws.proofs.Common.{length, refl, ap, sym, true≢false, arith, is_utf8, chars, encode_utf8, short, read, unpacked, allows, meaning, steps, NoEntries, Stored, Writable, my_message, content, inner, int}
 use Rattle.prost_reflect_laws.specs.Examples.Contents.{Schemas, Validity, Encodable, WellTypedContents, Kept}
 use Rattle.prost_reflect_laws.specs.Examples.Editing.{Merging, OneNumber, Access, Paths}
-use Rattle.prost_reflect_laws.specs.Laws.{Writable}
-use Rattle.prost_reflect_laws.specs.Examples.Schemas.{my_message}
-use Rattle.prost_reflect_laws.specs.Examples.Words.{content, inner, int}
 
 same_bytes_writable : Writable (content my_message (Stored 3 (inner my_message (Stored 1 (int 1) NoEntries)) NoEntries))
 unfolding short read unpacked allows meaning steps is_utf8 chars encode_utf8
