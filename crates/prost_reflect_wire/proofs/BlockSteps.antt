@@ -1,10 +1,7 @@
 -- Buffers in front of one another.
-use Rattle.std.proofs.Common.{◌≡◌, ℕ, suc, zero, ◌+◌, ◌-◌, ◌^◌, ◌<◌, ◌≤◌, List, [], ◌∷◌, ◌++◌, length, drop, slice_index_or, sym, ap, ◌∙◌, arith, append_assoc, append-nil, length-append}
-use Rattle.std.proofs.lemmas.List.{length-drop}
+use Rattle.prost_reflect_wire.proofs.Common.{◌≡◌, ℕ, suc, zero, ◌+◌, ◌-◌, ◌^◌, ◌<◌, ◌≤◌, List, [], ◌∷◌, ◌++◌, length, drop, slice_index_or, sym, ap, ◌∙◌, arith, append_assoc, append-nil, length-append, length-drop, bytes_of, joined, bytes_in}
 use Rattle.prost_reflect_wire.specs.declared.buffer.BackBuffer.{BackBuffer}
 use Rattle.prost_reflect_wire.specs.declared.blocks.Blocks.{Blocks}
-use Rattle.prost_reflect_wire.specs.Buffer.{bytes_of, joined}
-use Rattle.prost_reflect_wire.specs.Blocks.{bytes_in}
 
 pub buffer_small : (b : BackBuffer) → length (bytes_of b) < 2 ^ 63
 buffer_small b = let v = b.bytes in omega (arith, length-drop b.start v.items, v.ok.0, v.ok.1, v.small)

@@ -1,6 +1,5 @@
 -- The records of a body are those that it was made of.
-use Rattle.std.proofs.Common.{◌≡◌, List, [], ◌∷◌, refl, ap, ◌∙◌}
-use Rattle.prost_reflect_wire.specs.Record.{Record, Records, Payload, Flat, Group, items, before, body_of}
+use Rattle.prost_reflect_wire.proofs.Common.{◌≡◌, List, [], ◌∷◌, refl, ap, ◌∙◌, Record, Records, Payload, Flat, Group, items, before, body_of}
 
 pub items_before : (r : Record) (rest : Records) → items (before r rest) ≡ r ∷ items rest
 items_before r rest = go r.payload

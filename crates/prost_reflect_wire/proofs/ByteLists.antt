@@ -1,7 +1,5 @@
 -- Elements of a list of bytes.
-use Rattle.std.proofs.Common.{◌≡◌, ℕ, suc, true, List, [], ◌∷◌, ◌++◌, get_or, nat_lt, refl, Fits, w8}
-use Rattle.std.proofs.lemmas.Bool.{lt-ltb, ltb-true, and_parts, and_from}
-use Rattle.prost_reflect_wire.specs.Varint.{AreBytes, are_bytes}
+use Rattle.prost_reflect_wire.proofs.Common.{◌≡◌, ℕ, suc, true, List, [], ◌∷◌, ◌++◌, get_or, nat_lt, refl, Fits, w8, lt-ltb, ltb-true, and_parts, and_from, AreBytes, are_bytes}
 
 pub bytes_by_index : (bytes : List ℕ) → ((i : ℕ) → Fits w8 (get_or bytes i 0)) → are_bytes bytes ≡ true
 bytes_by_index [] h = refl

@@ -1,11 +1,7 @@
 -- Equality of records, one by one.
-use Rattle.std.proofs.Common.{◌≡◌, ◌↔◌, ℕ, ◌+◌, ◌<◌, Bool, true, false, ◌&&◌, List, ◌∷◌, length, get_or, drop, map, nat_eq, IsTrue, refl, sym, ap, ap₂, ◌∙◌, add-one, drop-cons}
-use Rattle.std.proofs.lemmas.List.{length-map}
+use Rattle.prost_reflect_wire.proofs.Common.{◌≡◌, ◌↔◌, ℕ, ◌+◌, ◌<◌, Bool, true, false, ◌&&◌, List, ◌∷◌, length, get_or, drop, map, nat_eq, IsTrue, refl, sym, ap, ap₂, ◌∙◌, add-one, drop-cons, length-map, Records, Record, record_at, Payload, Flat, Group, body_of, before, items, unknown_record, records_of, unknown_fields_of, plain_eq, records_eq, records_same, records_refl, payload_eq, record_eq, field_eq, set_eq}
 use Rattle.prost_reflect_wire.specs.declared.unknown.UnknownField.{UnknownField}
 use Rattle.prost_reflect_wire.specs.declared.unknown.UnknownFieldSet.{UnknownFieldSet}
-use Rattle.prost_reflect_wire.specs.Record.{Records, Record, record_at, Payload, Flat, Group, body_of, before, items}
-use Rattle.prost_reflect_wire.specs.Unknown.{unknown_record, records_of, unknown_fields_of}
-use Rattle.prost_reflect_wire.specs.Equality.{plain_eq, records_eq, records_same, records_refl, payload_eq, record_eq, field_eq, set_eq}
 use Rattle.prost_reflect_wire.proofs.Bodies.{items_body}
 use Rattle.prost_reflect_wire.proofs.UnknownViews.{records_of_out}
 

@@ -1,13 +1,7 @@
 -- Where a front of the bytes is a field, no fault stands in it but Depth, and that one only where the field nests deeper than the levels.
-use Rattle.std.proofs.Common.{◌≡◌, ◌≢◌, ℕ, suc, ◌<◌, ◌≤◌, List, [], ◌++◌, length, Option, Some, None, true, refl, sym, ap, subst, ◌∙◌, arith, inl, inr, ◌⊎◌}
-use Rattle.prost_reflect_wire.specs.declared.error.DecodeError.{DecodeError}
+use Rattle.prost_reflect_wire.proofs.Common.{◌≡◌, ◌≢◌, ℕ, suc, ◌<◌, ◌≤◌, List, [], ◌++◌, length, Option, Some, None, true, refl, sym, ap, subst, ◌∙◌, arith, inl, inr, ◌⊎◌, DecodeError, WireType, record_at, Var, Fix64, Len, Fix32, Records, NoRecords, PlainRecord, GroupRecord, Record, Payload, Flat, Group, before, payload_wire, short_key, raw_levels, payload_levels, Field, KeyFront, RecordFront, GroupFront, PayloadFront, ValueFront, PlainFault, Place, OfNothing, field_at, same_wire, Next, NextField, Comes, Stands, Here, Behind, InMessage, InGroup, InUnknown, InEntry, InsideGroup, StandsInField, StandsInValue}
 use Rattle.prost_reflect_wire.specs.declared.error.DecodeError.TheVariants as errors
-use Rattle.prost_reflect_wire.specs.declared.key.WireType.{WireType}
 use Rattle.prost_reflect_wire.specs.declared.key.WireType.TheVariants as wires
-use Rattle.prost_reflect_wire.specs.Record.{record_at, Var, Fix64, Len, Fix32, Records, NoRecords, PlainRecord, GroupRecord, Record, Payload, Flat, Group, before, payload_wire, short_key, raw_levels, payload_levels}
-use Rattle.prost_reflect_wire.specs.Schema.{Field}
-use Rattle.prost_reflect_wire.specs.Front.{KeyFront, RecordFront, GroupFront, PayloadFront, ValueFront, PlainFault}
-use Rattle.prost_reflect_wire.specs.Fault.{Place, OfNothing, field_at, same_wire, Next, NextField, Comes, Stands, Here, Behind, InMessage, InGroup, InUnknown, InEntry, InsideGroup, StandsInField, StandsInValue}
 use Rattle.prost_reflect_wire.proofs.KeyFronts.{key_once, key_no_fault}
 use Rattle.prost_reflect_wire.proofs.PlainFronts.{plain_no_fault}
 use Rattle.prost_reflect_wire.proofs.RecordFronts.{record_front, record_parts, RecordParts, first_parts, levels_first, key_shorter, record_once, plain_no_group}
@@ -214,10 +208,4 @@ value_fault_only e n w levels p bytes rest k wire f s =
 -- A refusal that no fault explains is one of memory.
 pub only_memory : (e : DecodeError) → (e ≢ errors.OutOfMemory → ⊥) → e ≡ errors.OutOfMemory
 only_memory errors.OutOfMemory h = refl
-only_memory errors.Truncated h = absurd (h (λ is. cc))
-only_memory errors.Varint h = absurd (h (λ is. cc))
-only_memory errors.Key h = absurd (h (λ is. cc))
-only_memory errors.WireType h = absurd (h (λ is. cc))
-only_memory errors.EndGroup h = absurd (h (λ is. cc))
-only_memory errors.Utf8 h = absurd (h (λ is. cc))
-only_memory errors.Depth h = absurd (h (λ is. cc))
+only_memory _ h = absurd (h (λ is. cc))

@@ -1,10 +1,6 @@
 -- A front of the bytes is at most one key, and none where a fault stands.
-use Rattle.std.proofs.Common.{◌≡◌, ◌≤◌, ◌<◌, ◌^◌, ℕ, ◌+◌, ◌*◌, List, ◌++◌, Option, Some, refl, sym, ap, ◌∙◌, arith}
-use Rattle.prost_reflect_wire.specs.declared.error.DecodeError.{DecodeError}
+use Rattle.prost_reflect_wire.proofs.Common.{◌≡◌, ◌≤◌, ◌<◌, ◌^◌, ℕ, ◌+◌, ◌*◌, List, ◌++◌, Option, Some, refl, sym, ap, ◌∙◌, arith, DecodeError, WireType, key_at, wire_code, short_key, VarintFront, KeyFront, KeyFault}
 use Rattle.prost_reflect_wire.specs.declared.error.DecodeError.TheVariants as errors
-use Rattle.prost_reflect_wire.specs.declared.key.WireType.{WireType}
-use Rattle.prost_reflect_wire.specs.Record.{key_at, wire_code, short_key}
-use Rattle.prost_reflect_wire.specs.Front.{VarintFront, KeyFront, KeyFault}
 use Rattle.prost_reflect_wire.proofs.Reading.{key_read, wire_small}
 use Rattle.prost_reflect_wire.proofs.Shortest.{short_varint}
 use Rattle.prost_reflect_wire.proofs.VarintFronts.{varint_once, varint_no_fault}

@@ -1,10 +1,6 @@
 -- Tests, and what they say of the elements of lists.
-use Rattle.std.proofs.Common.{◌≡◌, Bool, true, false, cond, ◌||◌, List, [], ◌∷◌, ◌++◌, filter, Option, Some, None, refl, ap, sym, ◌∙◌, true≢false}
+use Rattle.prost_reflect_wire.proofs.Common.{◌≡◌, Bool, true, false, cond, ◌||◌, List, [], ◌∷◌, ◌++◌, filter, Option, Some, None, refl, ap, sym, ◌∙◌, true≢false, list_all, and_parts, and_from, passes, last}
 use Rattle.std.specs.Bool.{beq}
-use Rattle.std.specs.List.{list_all}
-use Rattle.std.proofs.lemmas.Bool.{and_parts, and_from}
-use Rattle.prost_reflect_wire.specs.Schema.{passes}
-use Rattle.prost_reflect_wire.specs.Grammar.{last}
 
 pub or_case : (a b c d : Bool) → (a ≡ true → c ≡ true) → (b ≡ true → d ≡ true) → (a || b) ≡ true → (c || d) ≡ true
 or_case true b c d h k e = ap (λ x. x || d) (h refl)
@@ -14,8 +10,7 @@ or_case false b false d h k e = k e
 pub beq_same : (a b : Bool) → beq a b ≡ true → b ≡ a
 beq_same true true h = refl
 beq_same false false h = refl
-beq_same true false h = absurd (true≢false (sym h))
-beq_same false true h = absurd (true≢false (sym h))
+beq_same _ _ h = absurd (true≢false (sym h))
 
 pub passes_more : {A : Type 0} (o : Option A) (t u : A → Bool) → ((x : A) → t x ≡ true → u x ≡ true) → passes o t ≡ true → passes o u ≡ true
 passes_more None t u h e = e

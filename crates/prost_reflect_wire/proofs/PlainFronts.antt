@@ -1,12 +1,7 @@
 -- A front of the bytes is at most one plain payload of a wire type, and none where a fault stands.
-use Rattle.std.proofs.Common.{◌≡◌, ℕ, ◌≤◌, List, ◌++◌, length, take, drop, Option, Some, refl, sym, ap, subst, ◌∙◌, arith, append_assoc, length-append, inl, inr}
-use Rattle.std.proofs.lemmas.List.{length-take, take-append-drop}
-use Rattle.prost_reflect_wire.specs.declared.error.DecodeError.{DecodeError}
+use Rattle.prost_reflect_wire.proofs.Common.{◌≡◌, ℕ, ◌≤◌, List, ◌++◌, length, take, drop, Option, Some, refl, sym, ap, subst, ◌∙◌, arith, append_assoc, length-append, inl, inr, length-take, take-append-drop, DecodeError, Varint, Plain, Var, Fix64, Len, Fix32, plain_wire, plain_at, VarintFront, PlainFront, DelimitedFront, LengthPasses, PlainFault}
 use Rattle.prost_reflect_wire.specs.declared.error.DecodeError.TheVariants as errors
 use Rattle.prost_reflect_wire.specs.declared.key.WireType.TheVariants as wires
-use Rattle.prost_reflect_wire.specs.Varint.{Varint}
-use Rattle.prost_reflect_wire.specs.Record.{Plain, Var, Fix64, Len, Fix32, plain_wire, plain_at}
-use Rattle.prost_reflect_wire.specs.Front.{VarintFront, PlainFront, DelimitedFront, LengthPasses, PlainFault}
 use Rattle.prost_reflect_wire.proofs.Reading.{plain_read}
 use Rattle.prost_reflect_wire.proofs.VarintFronts.{varint_once, varint_no_fault}
 

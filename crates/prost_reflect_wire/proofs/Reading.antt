@@ -1,10 +1,5 @@
 -- What spells records is read as those records.
-use Rattle.std.proofs.Common.{◌≡◌, ℕ, zero, suc, ◌+◌, ◌*◌, ◌/◌, ◌%◌, ◌^◌, ◌<◌, ◌≤◌, Bool, true, ◌&&◌, List, [], ◌∷◌, ◌++◌, length, take, drop, Option, Some, None, nat_lt, refl, ap, sym, ◌∙◌, arith, append_assoc, append-nil, length-append}
-use Rattle.std.proofs.Math.Seq.{take-append_seam, drop-append_seam}
-use Rattle.std.proofs.lemmas.Bool.{lt-ltb, le-ltb, le-leb, eq-eqb, and_from}
-use Rattle.prost_reflect_wire.specs.Varint.{AreDigits, digits_value, Varint, digits_at, varint_at, guard, ◌>>=◌, front_at}
-use Rattle.prost_reflect_wire.specs.Record.{Key, key_at, wire_code, plain_wire, wire_of, plain_at, Plain, Var, Fix64, Len, Fix32, SpellsPlain, Records, NoRecords, PlainRecord, GroupRecord, Spells, Body, body_at, after_key, close, read}
-use Rattle.prost_reflect_wire.specs.declared.key.WireType.{WireType}
+use Rattle.prost_reflect_wire.proofs.Common.{◌≡◌, ℕ, zero, suc, ◌+◌, ◌*◌, ◌/◌, ◌%◌, ◌^◌, ◌<◌, ◌≤◌, Bool, true, ◌&&◌, List, [], ◌∷◌, ◌++◌, length, take, drop, Option, Some, None, nat_lt, refl, ap, sym, ◌∙◌, arith, append_assoc, append-nil, length-append, take-append_seam, drop-append_seam, lt-ltb, le-ltb, le-leb, eq-eqb, and_from, AreDigits, digits_value, Varint, digits_at, varint_at, guard, ◌>>=◌, front_at, Key, key_at, wire_code, plain_wire, wire_of, plain_at, Plain, Var, Fix64, Len, Fix32, SpellsPlain, Records, NoRecords, PlainRecord, GroupRecord, Spells, Body, body_at, after_key, close, read, WireType}
 use Rattle.prost_reflect_wire.specs.declared.key.WireType.TheVariants as wires
 
 bind_some : {A B : Type 0} (f : A → Option B) {m : Option A} {x : A} → m ≡ Some x → (m >>= f) ≡ f x
@@ -114,8 +109,6 @@ closes_group n stop rest key (suc f) h = step f (Some n) n wires.EndGroup stop r
 pub body_read : (rs : Records) (bytes tail rest : List ℕ) (opened : Option ℕ) → Spells rs bytes → Closes opened tail rest →
     (fuel : ℕ) → length (bytes ++ tail) < fuel → body_at fuel opened (bytes ++ tail) ≡ Some (rs, rest)
 body_read NoRecords bytes tail rest opened h closes fuel enough = rw h (closes fuel (rw h at enough))
-body_read (PlainRecord n p rs) bytes tail rest opened h closes zero enough = absurd (omega arith)
-body_read (GroupRecord n inside rs) bytes tail rest opened h closes zero enough = absurd (omega arith)
 body_read (PlainRecord n p rs) bytes tail rest opened (key, body, after, k, b, a, e) closes (suc f) enough =
     let whole : bytes ++ tail ≡ key ++ (body ++ (after ++ tail)) = ap (λ x. x ++ tail) e ∙ regroup key body after tail in
     let left : length (after ++ tail) < f = omega (arith, enough, ap length whole, length_three key body (after ++ tail), some_key key k) in
@@ -134,6 +127,7 @@ body_read (GroupRecord n inside rs) bytes tail rest opened (key, body, stop, aft
     ∙ bind_some (λ inside. body_at f opened inside.1 >>= λ rest. Some (GroupRecord n inside.0 rest.0, rest.1))
     (body_read inside body (stop ++ (after ++ tail)) (after ++ tail) (Some n) b (closes_group n stop (after ++ tail) s) f left)
     ∙ bind_some (λ rest. Some (GroupRecord n inside rest.0, rest.1)) (body_read rs after tail rest opened a closes f left')
+body_read _ bytes tail rest opened h closes zero enough = absurd (omega arith)
 
 closes_end : Closes None [] []
 closes_end zero h = absurd (omega arith)

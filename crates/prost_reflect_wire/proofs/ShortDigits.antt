@@ -1,8 +1,5 @@
 -- The shortest spelling of a number, digit by digit.
-use Rattle.std.proofs.Common.{◌≡◌, ℕ, zero, suc, ◌+◌, ◌*◌, ◌/◌, ◌%◌, ◌^◌, ◌<◌, ◌≤◌, List, [], ◌∷◌, length, refl, ap, ◌∙◌, sym, arith, inl, inr}
-use Rattle.std.proofs.Math.Nat.{pow-suc}
-use Rattle.std.proofs.lemmas.Bool.{cases_lt, le-ltb, lt-ltb}
-use Rattle.prost_reflect_wire.specs.Varint.{short, short_within}
+use Rattle.prost_reflect_wire.proofs.Common.{◌≡◌, ℕ, zero, suc, ◌+◌, ◌*◌, ◌/◌, ◌%◌, ◌^◌, ◌<◌, ◌≤◌, List, [], ◌∷◌, length, refl, ap, ◌∙◌, sym, arith, inl, inr, pow-suc, cases_lt, le-ltb, lt-ltb, short, short_within}
 use Rattle.prost_reflect_wire.proofs.Shortest.{short_varint}
 
 within_low : (n v : ℕ) → v < 128 → short_within (suc n) v ≡ v ∷ []

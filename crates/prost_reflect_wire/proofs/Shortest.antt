@@ -1,10 +1,7 @@
 -- The short spelling spells.
-use Rattle.std.proofs.Common.{◌≡◌, ℕ, zero, suc, ◌+◌, ◌*◌, ◌/◌, ◌%◌, ◌^◌, ◌<◌, ◌≤◌, Bool, true, false, List, length, nat_lt, nat_eq, refl, arith, pow-suc, div-lt_iff_lt-mul, lit≤, lt_of_lt_of_le, ◌&&◌}
-use Rattle.std.proofs.lemmas.Bool.{ltb-true, ltb-false, eqb-true, and_parts}
-use Rattle.prost_reflect_wire.specs.Varint.{are_bytes, AreDigits, digits_value, Varint, short, short_within}
-use Rattle.prost_reflect_wire.specs.Record.{Key, wire_code, plain_wire, short_key, short_plain, short_body, Plain, Var, Fix64, Len, Fix32, SpellsPlain, Records, NoRecords, PlainRecord, GroupRecord, Spells, number_valid, plain_valid, valid}
+use Rattle.prost_reflect_wire.proofs.Common.{◌≡◌, ℕ, zero, suc, ◌+◌, ◌*◌, ◌/◌, ◌%◌, ◌^◌, ◌<◌, ◌≤◌, Bool, true, false, List, length, nat_lt, nat_eq, refl, arith, div-lt_iff_lt-mul, lit≤, lt_of_lt_of_le, ◌&&◌, ltb-true, ltb-false, eqb-true, and_parts, are_bytes, AreDigits, digits_value, Varint, short, short_within, Key, wire_code, plain_wire, short_key, short_plain, short_body, Plain, Var, Fix64, Len, Fix32, SpellsPlain, Records, NoRecords, PlainRecord, GroupRecord, Spells, number_valid, plain_valid, valid, WireType}
+use Rattle.std.proofs.Common.{pow-suc}
 use Rattle.prost_reflect_wire.proofs.Reading.{wire_small, digits_cons}
-use Rattle.prost_reflect_wire.specs.declared.key.WireType.{WireType}
 use Rattle.prost_reflect_wire.specs.declared.key.WireType.TheVariants as wires
 
 record Short (more value : ℕ) (bytes : List ℕ) : Type 0 where

@@ -1,14 +1,9 @@
 -- A length in front of what was added since.
-use Rattle.std.proofs.Common.{◌≡◌, ℕ, ◌+◌, ◌-◌, ◌^◌, ◌≤◌, List, [], ◌++◌, length, ◌<◌, Option, Result, Ok, Err, true≢false, refl, sym, ap, ◌∙◌, subst, arith, append_assoc, append-nil, length-append, zero-add, lit<}
-use Rattle.std.specs.Prelude.{true, is_ok}
+use Rattle.prost_reflect_wire.proofs.Common.{◌≡◌, ℕ, ◌+◌, ◌-◌, ◌^◌, ◌≤◌, List, [], ◌++◌, length, ◌<◌, Option, Result, Ok, Err, true≢false, refl, sym, ap, ◌∙◌, subst, arith, append_assoc, append-nil, length-append, zero-add, lit<, true, is_ok, EncodeError, short, Prepended, bytes_in}
 use Rattle.std.specs.Option.{SomeIff}
 use Rattle.prost_reflect_wire.specs.declared.sink.LengthSink.{LengthSink}
-use Rattle.prost_reflect_wire.specs.declared.error.EncodeError.{EncodeError}
 use Rattle.prost_reflect_wire.specs.declared.error.EncodeError.TheVariants.{TooLong}
 use Rattle.prost_reflect_wire.specs.declared.sink.ByteSink.{ByteSink}
-use Rattle.prost_reflect_wire.specs.Varint.{short}
-use Rattle.prost_reflect_wire.specs.Buffer.{Prepended}
-use Rattle.prost_reflect_wire.specs.Blocks.{bytes_in}
 use Rattle.prost_reflect_wire.proofs.BlockSteps.{blocks_fit}
 use Rattle.prost_reflect_wire.specs.Sinks.{Adds, outcome_since, written_since, count_since, counted_since, HasNoBytes, HasNoCount}
 

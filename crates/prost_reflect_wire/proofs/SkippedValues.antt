@@ -1,21 +1,13 @@
 -- Values and records that are passed over.
-use Rattle.std.proofs.Common.{◌≡◌, ℕ, ◌-◌, ◌<◌, List, [], ◌∷◌, ◌++◌, Result, Ok, Err, IfOk, Bor, sym, arith}
-use Rattle.prost_reflect_wire.specs.declared.error.DecodeError.{DecodeError}
-use Rattle.prost_reflect_wire.specs.declared.key.WireType.{WireType}
+use Rattle.prost_reflect_wire.proofs.Common.{◌≡◌, ℕ, ◌-◌, ◌<◌, List, [], ◌∷◌, ◌++◌, Result, Ok, Err, IfOk, Bor, sym, arith, DecodeError, WireType, Plain, Record, record_at, Payload, Flat, Group, body_of, plain_wire, payload_levels, raw_levels, KeyFront, PlainFront, RecordsFront, ValueFront, SkipsValue, SkipsGroup}
 use Rattle.prost_reflect_wire.specs.declared.key.WireType.TheVariants as wires
-use Rattle.prost_reflect_wire.specs.Record.{Plain, Record, record_at, Payload, Flat, Group, body_of, plain_wire, payload_levels, raw_levels}
-use Rattle.prost_reflect_wire.specs.Front.{KeyFront, PlainFront, RecordsFront, ValueFront}
-use Rattle.prost_reflect_wire.specs.Unknown.{SkipsValue, SkipsGroup}
-use Rattle.prost_reflect_wire.proofs.RecordFronts.{none_front, last_front, levels_last, field_front}
+use Rattle.prost_reflect_wire.proofs.RecordFronts.{last_front, levels_last, field_front}
 
 -- the records of a group so far
 pub record Skipped (levels : ℕ) (bytes rest : List ℕ) : Type 0 where
   pub records : List Record
   pub front : RecordsFront (body_of records) bytes rest
   pub within : raw_levels (body_of records) < levels
-
-pub skipped_none : (levels : ℕ) (bytes : List ℕ) → 0 < levels → Skipped levels bytes bytes
-skipped_none levels bytes some = record { records = []; front = none_front bytes; within = some }
 
 pub skipped_more : (levels n : ℕ) (w : WireType) (p : Payload) (bytes mid after rest : List ℕ) → Skipped levels bytes mid → KeyFront n w mid after → ValueFront n w (levels - 1) p after rest → Skipped levels bytes rest
 skipped_more levels n w p bytes mid after rest s k v =

@@ -1,11 +1,8 @@
 -- What is read spells.
-use Rattle.std.proofs.Common.{◌≡◌, ℕ, zero, suc, ◌+◌, ◌*◌, ◌/◌, ◌%◌, ◌^◌, ◌<◌, ◌≤◌, Bool, true, false, ◌&&◌, List, [], ◌∷◌, ◌++◌, length, take, drop, Option, Some, None, nat_lt, nat_le, nat_eq, refl, ap, ap₂, sym, subst, ◌∙◌, arith, append_assoc, append-nil, length-take}
+use Rattle.prost_reflect_wire.proofs.Common.{◌≡◌, ℕ, zero, suc, ◌+◌, ◌*◌, ◌/◌, ◌%◌, ◌^◌, ◌<◌, ◌≤◌, Bool, true, false, ◌&&◌, List, [], ◌∷◌, ◌++◌, length, take, drop, Option, Some, None, nat_lt, nat_le, nat_eq, refl, ap, ap₂, sym, subst, ◌∙◌, arith, append_assoc, append-nil, ltb-true, ltb-false, leb-true, eqb-true, and_parts, AreBytes, AreDigits, digits_value, Varint, digits_at, varint_at, guard, ◌>>=◌, front_at, Key, key_at, wire_code, plain_wire, wire_of, plain_at, Plain, Var, Fix64, Len, Fix32, SpellsPlain, Records, NoRecords, PlainRecord, GroupRecord, Spells, Body, body_at, after_key, read, WireType}
+use Rattle.std.proofs.Common.{length-take}
 use Rattle.std.proofs.Math.ListN.{take-append-drop}
-use Rattle.std.proofs.lemmas.Bool.{ltb-true, ltb-false, leb-true, eqb-true, and_parts}
 use Rattle.std.proofs.lemmas.Option.{none-some, same_Some}
-use Rattle.prost_reflect_wire.specs.Varint.{AreBytes, AreDigits, digits_value, Varint, digits_at, varint_at, guard, ◌>>=◌, front_at}
-use Rattle.prost_reflect_wire.specs.Record.{Key, key_at, wire_code, plain_wire, wire_of, plain_at, Plain, Var, Fix64, Len, Fix32, SpellsPlain, Records, NoRecords, PlainRecord, GroupRecord, Spells, Body, body_at, after_key, read}
-use Rattle.prost_reflect_wire.specs.declared.key.WireType.{WireType}
 use Rattle.prost_reflect_wire.specs.declared.key.WireType.TheVariants as wires
 use Rattle.prost_reflect_wire.proofs.Reading.{digits_cons}
 use Rattle.prost_reflect_wire.proofs.ByteLists.{bytes_behind}
@@ -27,8 +24,6 @@ record Digits (k : ℕ) (bytes : List ℕ) (v : ℕ) (rest : List ℕ) : Type 0 
   means : digits_value digits ≡ v
 
 digits_sound : (k : ℕ) (bytes : List ℕ) (v : ℕ) (rest : List ℕ) → AreBytes bytes → digits_at k bytes ≡ Some (v, rest) → Digits k bytes v rest
-digits_sound zero bytes v rest small e = absurd (none-some _ e)
-digits_sound (suc k) [] v rest small e = absurd (none-some _ e)
 digits_sound (suc k) (b ∷ bytes) v rest small e = go (nat_lt b 128) refl (digits_sound k bytes)
   where
     go : (c : Bool) → nat_lt b 128 ≡ c → ((v : ℕ) (rest : List ℕ) → AreBytes bytes → digits_at k bytes ≡ Some (v, rest) → Digits k bytes v rest) → Digits (suc k) (b ∷ bytes) v rest
@@ -42,6 +37,7 @@ digits_sound (suc k) (b ∷ bytes) v rest small e = go (nat_lt b 128) refl (digi
         let d : Digits k bytes x.0 x.1 = more x.0 x.1 small.1 m in
         let found : ◌≡◌ {A = ℕ × List ℕ} (b % 128 + 128 * x.0, x.1) (v, rest) = same_Some _ _ f in
         record { digits = b ∷ d.digits; whole = ap (λ l. b ∷ l) d.whole ∙ ap (λ (p : ℕ × List ℕ). b ∷ (d.digits ++ p.1)) found; are = digits_cons b d.digits high small.0 d.are; few = omega (arith, d.few); means = ap (λ (x : ℕ). b % 128 + 128 * x) d.means ∙ ap (λ (p : ℕ × List ℕ). p.0) found }
+digits_sound _ _ v rest small e = absurd (none-some _ e)
 
 pub varint_sound : (bytes : List ℕ) (v : ℕ) (rest : List ℕ) → AreBytes bytes → varint_at bytes ≡ Some (v, rest) → (front : List ℕ) × (bytes ≡ front ++ rest) × Varint v front
 varint_sound bytes v rest small e =
@@ -114,12 +110,11 @@ plain_sound wires.LengthDelimited bytes p rest small e =
       spells = (front, subst (λ x. Varint x front) (sym n) r, refl);
       wired = refl;
     })
-plain_sound wires.StartGroup bytes p rest small e = absurd (none-some _ e)
-plain_sound wires.EndGroup bytes p rest small e = absurd (none-some _ e)
 plain_sound wires.ThirtyTwoBit bytes p rest small e =
     let (v, m, f) = bind_ok (λ f. Some (Fix32 f.0, f.1)) (front_at 4 bytes) (p, rest) e in
     let (whole, n) = front_sound 4 bytes v.0 v.1 m in
     moved (same_Some _ _ f) (record { front = v.0; whole = whole; spells = (n, refl); wired = refl })
+plain_sound _ bytes p rest small e = absurd (none-some _ e)
 
 -- how a body ends
 abbrev pub Ends : Option ℕ → List ℕ → List ℕ → Type 0
@@ -186,13 +181,12 @@ step_sound body opened n wires.StartGroup bytes key tail rs rest small whole k e
     })
 
 body_sound : (fuel : ℕ) → AllSound (body_at fuel)
-body_sound zero opened bytes rs rest small e = absurd (none-some _ e)
 body_sound (suc fuel) None [] rs rest small e = moved_all (same_Some _ _ e) (record { front = []; stop = []; whole = refl; spells = refl; ends = (refl, refl) })
-body_sound (suc fuel) (Some n) [] rs rest small e = absurd (none-some _ e)
 body_sound (suc fuel) opened (b ∷ bytes) rs rest small e =
     let (key, m, f) = bind_ok (λ key. after_key (body_at fuel) opened key.0 key.1 key.2) (key_at (b ∷ bytes)) (rs, rest) e in
     let (front, whole, k) = key_sound (b ∷ bytes) key.0 key.1 key.2 small m in
     step_sound (body_at fuel) opened key.0 key.1 (b ∷ bytes) front key.2 rs rest small whole k f (body_sound fuel)
+body_sound _ _ _ rs rest small e = absurd (none-some _ e)
 
 pub read_spells : (bytes : List ℕ) (rs : Records) → AreBytes bytes → read bytes ≡ Some rs → Spells rs bytes
 unfolding read

@@ -1,30 +1,19 @@
 -- What the parts of an unknown field are, step by step.
-use Rattle.std.proofs.Common.{◌≡◌, ℕ, List, map}
+use Rattle.prost_reflect_wire.proofs.Common.{◌≡◌, ℕ, List, map, SixtyFourBit, ThirtyTwoBit, LengthDelimited, record_at, Record, Payload, Flat, Fix64, Len, Fix32, body_of, value_step, field_step, set_step, payload_of, unknown_record, records_of}
 use Rattle.std.specs.Global.{Vec}
 use denote.Hole.Carrier as Carrier
-use Rattle.prost_reflect_wire.specs.declared.unknown.UnknownFieldValue.{Varint, SixtyFourBit, ThirtyTwoBit, LengthDelimited, Group}
+use Rattle.prost_reflect_wire.specs.declared.unknown.UnknownFieldValue.{Group}
 use Rattle.prost_reflect_wire.specs.declared.unknown.UnknownField.{UnknownField}
 use Rattle.prost_reflect_wire.specs.declared.unknown.UnknownFieldSet.{UnknownFieldSet}
-use Rattle.prost_reflect_wire.specs.declared.unknown.UnknownFieldValue.{UnknownFieldValue}
-use Rattle.prost_reflect_wire.specs.declared.unknown.UnknownFieldValue.TheOpen.{UnknownFieldSet-F}
-use Rattle.prost_reflect_wire.specs.declared.unknown.UnknownFieldValue.TheViews.{out-UnknownFieldValue, roll-UnknownFieldSet, out-UnknownFieldSet}
-use Rattle.prost_reflect_wire.specs.declared.unknown.UnknownFieldValue.TheFolds.{fold-roll-UnknownFieldSet, fold_out-UnknownFieldSet, fold_out-UnknownField, fold_out-UnknownFieldValue}
-use Rattle.prost_reflect_wire.specs.Record.{record_at, Record, Payload, Flat, Var, Fix64, Len, Fix32, body_of}
+use Rattle.prost_reflect_wire.specs.declared.unknown.UnknownFieldValue.TheViews.{out-UnknownFieldValue, out-UnknownFieldSet}
+use Rattle.prost_reflect_wire.specs.declared.unknown.UnknownFieldValue.TheFolds.{fold_out-UnknownFieldSet, fold_out-UnknownField, fold_out-UnknownFieldValue}
 use Rattle.prost_reflect_wire.specs.Record as model
-use Rattle.prost_reflect_wire.specs.Unknown.{value_step, field_step, set_step, payload_of, unknown_record, records_of}
-
-pub records_of_roll : (x : UnknownFieldSet-F UnknownFieldValue UnknownField UnknownFieldSet) → records_of (roll-UnknownFieldSet x) ≡ map unknown_record x.fields.items
-records_of_roll = fold-roll-UnknownFieldSet Payload Record (List Record) value_step field_step set_step
 
 pub records_of_out : (s : UnknownFieldSet) → records_of s ≡ map unknown_record (out-UnknownFieldSet s).fields.items
 records_of_out = fold_out-UnknownFieldSet Payload Record (List Record) value_step field_step set_step
 
 pub record_of_field : (f : UnknownField) → unknown_record f ≡ record_at f.number.value (payload_of f.value)
 record_of_field = fold_out-UnknownField Payload Record (List Record) value_step field_step set_step
-
-pub payload_of_Varint : (v : ℕ) → payload_of (Varint v) ≡ Flat (Var v)
-unfolding out-UnknownFieldValue Carrier.out
-payload_of_Varint v = fold_out-UnknownFieldValue Payload Record (List Record) value_step field_step set_step (Varint v)
 
 pub payload_of_SixtyFourBit : (p : List ℕ) → payload_of (SixtyFourBit p) ≡ Flat (Fix64 p)
 unfolding out-UnknownFieldValue Carrier.out

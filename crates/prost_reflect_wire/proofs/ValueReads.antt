@@ -1,14 +1,6 @@
 -- What reads the value behind a key, or names a fault that stands there, reads each value that stands there.
-use Rattle.std.proofs.Common.{◌≡◌, ◌≢◌, ℕ, ◌≤◌, ◌<◌, ◌^◌, List, Result, Ok, Err, IfOk, IfErr, IsOkAnd, Bor}
-use Rattle.std.specs.Prelude.{MatchResult}
-use Rattle.prost_reflect_wire.specs.declared.error.DecodeError.{DecodeError}
+use Rattle.prost_reflect_wire.proofs.Common.{◌≡◌, ◌≢◌, ℕ, ◌≤◌, ◌<◌, ◌^◌, List, Result, Ok, Err, IfOk, IfErr, IsOkAnd, Bor, MatchResult, DecodeError, WireType, UnknownFieldValue, Payload, ValueFront, ValueFault, payload_of, SkipsValue}
 use Rattle.prost_reflect_wire.specs.declared.error.DecodeError.TheVariants as errors
-use Rattle.prost_reflect_wire.specs.declared.key.WireType.{WireType}
-use Rattle.prost_reflect_wire.specs.declared.unknown.UnknownFieldValue.{UnknownFieldValue}
-use Rattle.prost_reflect_wire.specs.Record.{Payload}
-use Rattle.prost_reflect_wire.specs.Front.{ValueFront}
-use Rattle.prost_reflect_wire.specs.Fault.{ValueFault}
-use Rattle.prost_reflect_wire.specs.Unknown.{payload_of, SkipsValue}
 use Rattle.prost_reflect_wire.proofs.FieldFaults.{value_no_fault, only_memory}
 use Rattle.prost_reflect_wire.proofs.KeyFronts.{short_key_front}
 use Rattle.prost_reflect_wire.proofs.PlaceFaults.{value_stands_in_value}

@@ -1,10 +1,5 @@
 -- Reading a varint digit by digit, the least first.
-use Rattle.std.proofs.Common.{◌≡◌, ℕ, ◌+◌, ◌-◌, ◌*◌, ◌%◌, ◌^◌, ◌<◌, ◌≤◌, List, [], ◌∷◌, ◌++◌, length, get_or, take, drop, drop-cons, refl, sym, ap, ◌∙◌, arith, add-one, inl, inr, ◌⊎◌}
-use Rattle.std.proofs.Math.Seq.{take-suc}
-use Rattle.std.proofs.Math.Nat.{pow-suc, pow-le-pow_right, mul-le-mul_left}
-use Rattle.std.proofs.lemmas.List.{length-take, take-append-drop, take_all, length-drop}
-use Rattle.prost_reflect_wire.specs.Varint.{AreBytes, AreDigits, digits_value}
-use Rattle.prost_reflect_wire.specs.Front.{VarintFront, AreOpen, VarintEnds, VarintPasses}
+use Rattle.prost_reflect_wire.proofs.Common.{◌≡◌, ℕ, ◌+◌, ◌-◌, ◌*◌, ◌%◌, ◌^◌, ◌<◌, ◌≤◌, List, [], ◌∷◌, ◌++◌, length, get_or, take, drop, drop-cons, refl, sym, ap, ◌∙◌, arith, add-one, inl, inr, ◌⊎◌, take-suc, pow-suc, pow-le-pow_right, mul-le-mul_left, length-take, take-append-drop, take_all, length-drop, AreBytes, AreDigits, digits_value, VarintFront, AreOpen, VarintEnds, VarintPasses}
 
 -- A DIGIT AT THE END
 

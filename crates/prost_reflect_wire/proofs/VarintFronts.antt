@@ -1,11 +1,6 @@
 -- A front of the bytes spells at most one varint, and none where a fault stands.
-use Rattle.std.proofs.Common.{◌≡◌, ℕ, zero, suc, ◌+◌, ◌*◌, ◌%◌, ◌^◌, ◌<◌, ◌≤◌, List, [], ◌∷◌, ◌++◌, length, Option, Some, sym, ap, ◌∙◌, arith, inl, inr, Result, Ok, Err, IfOk, IfErr, IsOkAnd, Bor}
-use Rattle.std.proofs.Math.Nat.{pow-suc}
-use Rattle.std.proofs.lemmas.Bool.{cases_lt, le-ltb, lt-ltb}
-use Rattle.prost_reflect_wire.specs.declared.error.DecodeError.{DecodeError}
+use Rattle.prost_reflect_wire.proofs.Common.{◌≡◌, ℕ, suc, ◌+◌, ◌*◌, ◌%◌, ◌^◌, ◌<◌, ◌≤◌, List, [], ◌∷◌, ◌++◌, length, Option, Some, sym, ap, ◌∙◌, arith, inl, inr, Result, Ok, Err, IfOk, IfErr, IsOkAnd, Bor, pow-suc, cases_lt, le-ltb, lt-ltb, DecodeError, digits_at, VarintFront, AreOpen, VarintFault}
 use Rattle.prost_reflect_wire.specs.declared.error.DecodeError.TheVariants as errors
-use Rattle.prost_reflect_wire.specs.Varint.{digits_at}
-use Rattle.prost_reflect_wire.specs.Front.{VarintFront, AreOpen, VarintFault}
 use Rattle.prost_reflect_wire.proofs.Reading.{digits_read}
 use Rattle.prost_reflect_wire.proofs.Sound.{bind_ok}
 
@@ -27,11 +22,10 @@ varint_once v w bytes rest end f g = found_same v w rest end (sym (digits_front 
 -- FAULTS
 
 open_unread : (fuel : ℕ) (bytes : List ℕ) (v : ℕ) (rest : List ℕ) → AreOpen bytes → digits_at fuel bytes ≡ found v rest → ⊥
-open_unread zero bytes v rest h e = absurd cc
-open_unread (suc fuel) [] v rest h e = absurd cc
 open_unread (suc fuel) (b ∷ bytes) v rest h e =
     let (x, m, _) = bind_ok (λ high. found (b % 128 + 128 * high.0) high.1) (digits_at fuel bytes) (v, rest) (rw (le-ltb b 128 h.0, digits_at) at e) in
     open_unread fuel bytes x.0 x.1 h.1 m
+open_unread _ _ v rest h e = absurd cc
 
 passing_high : (nine : List ℕ) (tenth : ℕ) (behind : List ℕ) (v : ℕ) (rest : List ℕ) → AreOpen nine → 1 < tenth → digits_at (suc (length nine)) (nine ++ tenth ∷ behind) ≡ found v rest → 2 * 128 ^ length nine ≤ v
 passing_high [] tenth behind v rest h above e = elim (cases_lt tenth 128) [

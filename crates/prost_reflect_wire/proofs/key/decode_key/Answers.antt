@@ -1,5 +1,4 @@
-use Rattle.std.proofs.Common.{rules}
-use Rattle.prost_reflect_wire.specs.Front.{KeyFront}
+use Rattle.prost_reflect_wire.proofs.Common.{rules, KeyFront}
 use Rattle.prost_reflect_wire.specs.declared.error.DecodeError.TheVariants as errors
 use Rattle.prost_reflect_wire.proofs.KeyFronts.{key_once, key_no_fault}
 use Rattle.prost_reflect_wire.proofs.key.decode_key.Goals as goal

@@ -1,6 +1,4 @@
-use Rattle.std.proofs.Common.{rules}
-use Rattle.prost_reflect_wire.specs.Record.{Fix32}
-use Rattle.prost_reflect_wire.specs.Front.{PlainFront}
+use Rattle.prost_reflect_wire.proofs.Common.{rules, Fix32, PlainFront}
 use Rattle.prost_reflect_wire.proofs.PlainFronts.{fix32_once}
 use Rattle.prost_reflect_wire.proofs.payload.decode_fixed32.Goals as goal
 

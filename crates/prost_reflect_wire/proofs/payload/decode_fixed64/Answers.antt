@@ -1,6 +1,4 @@
-use Rattle.std.proofs.Common.{rules}
-use Rattle.prost_reflect_wire.specs.Record.{Fix64}
-use Rattle.prost_reflect_wire.specs.Front.{PlainFront}
+use Rattle.prost_reflect_wire.proofs.Common.{rules, Fix64, PlainFront}
 use Rattle.prost_reflect_wire.proofs.PlainFronts.{fix64_once}
 use Rattle.prost_reflect_wire.proofs.payload.decode_fixed64.Goals as goal
 

@@ -1,5 +1,4 @@
-use Rattle.std.proofs.Common.{◌≡◌, ◌+◌, length}
-use Rattle.prost_reflect_wire.specs.Varint.{short}
+use Rattle.prost_reflect_wire.proofs.Common.{◌≡◌, ◌+◌, length, short}
 use Rattle.prost_reflect_wire.proofs.varint.varint_len.Given as goal
 
 abbrev pub invariant-loop-rest : goal.invariant-loop-rest

@@ -1,5 +1,4 @@
-use Rattle.std.proofs.Common.{◌++◌, ◌∙◌, ap, arith, drop, length, length-append}
-use Rattle.prost_reflect_wire.specs.Buffer.{bytes_of, joined}
+use Rattle.prost_reflect_wire.proofs.Common.{◌++◌, ap, arith, drop, length, length-append, bytes_of, joined}
 use Rattle.prost_reflect_wire.proofs.BlockSteps.{block_fits}
 use Rattle.prost_reflect_wire.proofs.blocks.Blocks.append_within.Goals as goal
 

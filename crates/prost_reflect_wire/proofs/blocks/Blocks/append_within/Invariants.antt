@@ -1,7 +1,4 @@
-use Rattle.std.proofs.Common.{◌≡◌, ◌≤◌, ◌+◌, ◌++◌, drop, length}
-use Rattle.std.specs.Prelude.{vec_len, vec_capacity}
-use Rattle.prost_reflect_wire.specs.Buffer.{bytes_of, joined}
-use Rattle.prost_reflect_wire.specs.Blocks.{bytes_in}
+use Rattle.prost_reflect_wire.proofs.Common.{◌≡◌, ◌≤◌, ◌+◌, ◌++◌, drop, length, vec_len, vec_capacity, bytes_of, joined, bytes_in}
 use Rattle.prost_reflect_wire.proofs.blocks.Blocks.append_within.Given as goal
 
 -- the buffers from the index on are written, and there is room for all

@@ -1,8 +1,5 @@
-use Rattle.std.proofs.Common.{◌≡◌, ◌++◌, Ok, Err, Result, arith, sym, ap, ◌∙◌, subst}
+use Rattle.prost_reflect_wire.proofs.Common.{◌≡◌, ◌++◌, Ok, Err, Result, arith, sym, ap, ◌∙◌, subst, EncodeError, bytes_of, bytes_in}
 use Rattle.std.specs.Result.{OnOk}
-use Rattle.prost_reflect_wire.specs.declared.error.EncodeError.{EncodeError}
-use Rattle.prost_reflect_wire.specs.Buffer.{bytes_of}
-use Rattle.prost_reflect_wire.specs.Blocks.{bytes_in}
 use Rattle.prost_reflect_wire.proofs.BlockSteps.{put_counted, put_bytes}
 use Rattle.prost_reflect_wire.proofs.blocks.Blocks.put.Goals as goal
 use Rattle.prost_reflect_wire.proofs.blocks.Blocks.put.Goals.{in-Ok, in-Err}

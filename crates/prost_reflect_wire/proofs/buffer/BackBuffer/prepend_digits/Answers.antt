@@ -1,8 +1,4 @@
-use Rattle.std.proofs.Common.{◌≡◌, ◌<◌, ◌+◌, ◌%◌, ◌++◌, ◌∷◌, [], List, ℕ, length, take, set, refl, sym, ap, ◌∙◌, subst, append_assoc, arith, add-one}
-use Rattle.std.proofs.lemmas.List.{length-set, length-take-le}
-use Rattle.std.proofs.Math.Seq.{take-suc-set}
-use Rattle.prost_reflect_wire.specs.Buffer.{bytes_of, Prepended}
-use Rattle.prost_reflect_wire.specs.Varint.{short}
+use Rattle.prost_reflect_wire.proofs.Common.{◌≡◌, ◌<◌, ◌+◌, ◌%◌, ◌++◌, ◌∷◌, [], List, ℕ, length, take, set, refl, sym, ap, ◌∙◌, subst, append_assoc, arith, add-one, length-set, length-take-le, take-suc-set, bytes_of, Prepended, short}
 use Rattle.prost_reflect_wire.proofs.ShortDigits.{short_up, short_low, length_short}
 use Rattle.prost_reflect_wire.proofs.buffer.BackBuffer.prepend_digits.Goals as goal
 

@@ -1,5 +1,4 @@
-use Rattle.std.proofs.Common.{◌≡◌, ◌+◌, ◌++◌, length, take}
-use Rattle.prost_reflect_wire.specs.Varint.{short}
+use Rattle.prost_reflect_wire.proofs.Common.{◌≡◌, ◌+◌, ◌++◌, length, take, short}
 use Rattle.prost_reflect_wire.proofs.buffer.BackBuffer.prepend_digits.Given as goal
 
 -- the digits so far and those of the rest are those of the value

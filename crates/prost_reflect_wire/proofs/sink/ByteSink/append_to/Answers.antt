@@ -1,5 +1,4 @@
-use Rattle.std.proofs.Common.{List, ℕ, ◌++◌, ap, ◌∙◌}
-use Rattle.std.proofs.lemmas.Result.{err_from_is_err_and}
+use Rattle.prost_reflect_wire.proofs.Common.{List, ℕ, ◌++◌, ap, ◌∙◌, err_from_is_err_and}
 use Rattle.prost_reflect_wire.proofs.SinkSteps.{written_whole, written_refused, whole_fits}
 use Rattle.prost_reflect_wire.proofs.sink.ByteSink.append_to.Goals as goal
 

@@ -1,8 +1,4 @@
-use Rattle.std.proofs.Common.{ℕ, subst}
-use Rattle.std.proofs.lemmas.Result.{err_from_is_err_and}
-use Rattle.prost_reflect_wire.specs.Front.{ValueFront}
-use Rattle.prost_reflect_wire.specs.Fault.{ValueFault}
-use Rattle.prost_reflect_wire.specs.Unknown.{payload_of}
+use Rattle.prost_reflect_wire.proofs.Common.{ℕ, subst, err_from_is_err_and, ValueFront, ValueFault, payload_of}
 use Rattle.prost_reflect_wire.proofs.KeyFronts.{short_key_front}
 use Rattle.prost_reflect_wire.proofs.FieldFaults.{value_no_fault, value_fault_only, only_memory}
 use Rattle.prost_reflect_wire.proofs.PlaceFaults.{value_stands_in_value}

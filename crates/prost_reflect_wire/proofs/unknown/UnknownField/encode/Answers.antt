@@ -1,7 +1,4 @@
-use Rattle.std.proofs.Common.{ℕ, List, [], ◌∷◌, ◌++◌}
-use Rattle.prost_reflect_wire.specs.Record.{spelled}
-use Rattle.prost_reflect_wire.specs.Front.{RecordFront}
-use Rattle.prost_reflect_wire.specs.Unknown.{unknown_record}
+use Rattle.prost_reflect_wire.proofs.Common.{ℕ, List, [], ◌∷◌, ◌++◌, spelled, RecordFront, unknown_record}
 use Rattle.prost_reflect_wire.proofs.WrittenRecords.{spelled_front, on_ok}
 use Rattle.prost_reflect_wire.proofs.unknown.UnknownField.encode.Goals as goal
 

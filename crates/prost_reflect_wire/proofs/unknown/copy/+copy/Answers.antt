@@ -1,6 +1,5 @@
-use Rattle.std.proofs.Common.{rules, ◌≡◌, List, ℕ, ap}
+use Rattle.prost_reflect_wire.proofs.Common.{rules, ◌≡◌, List, ℕ, ap, Flat, Len}
 use Rattle.std.proofs.lemmas.List.Elements.{same_from_all_zip}
-use Rattle.prost_reflect_wire.specs.Record.{Flat, Len}
 use Rattle.prost_reflect_wire.proofs.UnknownViews.{payload_of_LengthDelimited}
 use Rattle.prost_reflect_wire.proofs.unknown.copy.+copy.Goals as goal
 

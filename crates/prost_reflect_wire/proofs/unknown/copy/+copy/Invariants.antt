@@ -1,5 +1,4 @@
-use Rattle.std.proofs.Common.{◌≡◌, take, map}
-use Rattle.prost_reflect_wire.specs.Unknown.{unknown_record}
+use Rattle.prost_reflect_wire.proofs.Common.{◌≡◌, take, map, unknown_record}
 use Rattle.prost_reflect_wire.proofs.unknown.copy.+copy.Given as goal
 
 -- the copies so far are those of the fields so far

@@ -1,7 +1,4 @@
-use Rattle.std.proofs.Common.{◌≡◌, drop, map}
-use Rattle.prost_reflect_wire.specs.Record.{body_of}
-use Rattle.prost_reflect_wire.specs.Unknown.{unknown_record, unknown_fields_of}
-use Rattle.prost_reflect_wire.specs.Equality.{records_eq, set_eq}
+use Rattle.prost_reflect_wire.proofs.Common.{◌≡◌, drop, map, body_of, unknown_record, unknown_fields_of, records_eq, set_eq}
 use Rattle.prost_reflect_wire.proofs.unknown.equality.+equality.Given as goal
 
 -- the sets are equal exactly if what is left of them is

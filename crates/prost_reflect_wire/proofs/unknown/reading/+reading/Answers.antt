@@ -1,9 +1,5 @@
-use Rattle.std.proofs.Common.{◌≡◌, ◌<◌, sym, subst, arith, inl}
-use Rattle.std.proofs.lemmas.Result.{err_from_is_err_and}
+use Rattle.prost_reflect_wire.proofs.Common.{◌≡◌, ◌<◌, sym, subst, arith, inl, err_from_is_err_and, record_at, payload_levels, KeyFront, payload_of, records_of}
 use Rattle.prost_reflect_wire.specs.declared.error.DecodeError.TheVariants as errors
-use Rattle.prost_reflect_wire.specs.Record.{record_at, payload_levels}
-use Rattle.prost_reflect_wire.specs.Front.{KeyFront}
-use Rattle.prost_reflect_wire.specs.Unknown.{payload_of, records_of}
 use Rattle.prost_reflect_wire.proofs.PlaceFaults.{key_in_group, value_in_group}
 use Rattle.prost_reflect_wire.proofs.RecordFronts.{record_front, last_front, levels_last}
 use Rattle.prost_reflect_wire.proofs.UnknownViews.{record_of_field}

@@ -1,7 +1,4 @@
-use Rattle.std.proofs.Common.{◌+◌, ◌*◌, ◌<◌, length}
-use Rattle.prost_reflect_wire.specs.Record.{body_of, raw_levels}
-use Rattle.prost_reflect_wire.specs.Front.{RecordsFront}
-use Rattle.prost_reflect_wire.specs.Unknown.{records_of}
+use Rattle.prost_reflect_wire.proofs.Common.{◌+◌, ◌*◌, ◌<◌, length, body_of, raw_levels, RecordsFront, records_of}
 use Rattle.prost_reflect_wire.proofs.unknown.reading.+reading.Given as goal
 
 abbrev pub decreases-decode_group : goal.decreases-decode_group

@@ -1,7 +1,5 @@
-use Rattle.std.proofs.Common.{◌≡◌, arith, inl}
-use Rattle.std.proofs.lemmas.Result.{err_from_is_err_and}
+use Rattle.prost_reflect_wire.proofs.Common.{◌≡◌, arith, inl, err_from_is_err_and, Var, Fix64, Len, Fix32}
 use Rattle.prost_reflect_wire.specs.declared.error.DecodeError.TheVariants as errors
-use Rattle.prost_reflect_wire.specs.Record.{Var, Fix64, Len, Fix32}
 use Rattle.prost_reflect_wire.proofs.PlainFronts.{delimited_plain, varint_plain}
 use Rattle.prost_reflect_wire.proofs.PlaceFaults.{key_in_group, value_in_group}
 use Rattle.prost_reflect_wire.proofs.SkippedValues.{skipped_more, skips_plain, skips_group}

@@ -1,7 +1,5 @@
-use Rattle.std.proofs.Common.{◌≡◌, true, drop, map}
+use Rattle.prost_reflect_wire.proofs.Common.{◌≡◌, true, drop, map, spelled, body_of, valid, unknown_record, unknown_fields_of}
 use Rattle.prost_reflect_wire.specs.Sinks.{Adds}
-use Rattle.prost_reflect_wire.specs.Record.{spelled, body_of, valid}
-use Rattle.prost_reflect_wire.specs.Unknown.{unknown_record, unknown_fields_of}
 use Rattle.prost_reflect_wire.proofs.unknown.writing.+writing.Given as goal
 
 -- the fields from the index on are written

@@ -1,6 +1,4 @@
-use Rattle.std.proofs.Common.{List, ℕ, ◌++◌, ap, ◌∙◌}
-use Rattle.prost_reflect_wire.specs.Record.{spelled}
-use Rattle.prost_reflect_wire.specs.Unknown.{records_of}
+use Rattle.prost_reflect_wire.proofs.Common.{List, ℕ, ◌++◌, ap, ◌∙◌, spelled, records_of}
 use Rattle.prost_reflect_wire.proofs.unknown.writing.prepend_fields.Goals as goal
 
 pub returns-clause-ok : goal.returns-clause-ok
