@@ -33,48 +33,49 @@ pub record Again (a : AllowsInside) (j : MeansInside) (kA kB : Kind) (v w : Valu
   pub sound : SoundPayload (value_payload kA v)
   pub read : payload_valid (value_payload kA v) ≡ true → ReadAs a j kA kB v w
 
-pub scalar_reads : (pairs : TypePairs) (a : AllowsInside) (j : MeansInside) (kA kB : ScalarKind) (v : Scalar) → same_kind pairs (ScalarOf kA) (ScalarOf kB) ≡ true → scalar_valid kA v ≡ true →
-    ReadAs a j (ScalarOf kA) (ScalarOf kB) (ScalarValue v) (ScalarValue v)
-scalar_reads pairs a j kA kB v h ok =
-    let p : Payload = value_payload (ScalarOf kA) (ScalarValue v) in
-    let back : ElementBack j (ScalarOf kA) (ScalarValue v) = scalar_element j kA v ok in
-    let found : elem kB p ≡ Some v = (alike kA kB h).reads p ∙ read_back kA v ok in
-    record {
-      alone = elements_alike pairs (ScalarOf kA) (ScalarOf kB) p h ∙ back.one;
-      stays = stray_alike pairs (ScalarOf kA) (ScalarOf kB) p h ∙ back.fits;
-      allowed = ap is_some found;
-      means = ap scalar_values found;
-    }
-
-pub scalar_again : (pairs : TypePairs) (a : AllowsInside) (j : MeansInside) (kA kB : ScalarKind) (v : Scalar) → same_kind pairs (ScalarOf kA) (ScalarOf kB) ≡ true → scalar_valid kA v ≡ true →
-    Again a j (ScalarOf kA) (ScalarOf kB) (ScalarValue v) (ScalarValue v)
-scalar_again pairs a j kA kB v h ok = record { sound = scalar_sound (ScalarOf kA) v ok; read = λ spelt. scalar_reads pairs a j kA kB v h ok }
-
--- a message of the older type, and what the newer one reads of its records
-pub written_again : (pairs : TypePairs) (a : AllowsInside) (j : MeansInside) (kA kB : Kind) (B : ℕ) (c d : Content) → same_kind pairs kA kB ≡ true → is_of_type kB B ≡ true → Sound (records c) →
-    (valid (body_of (records c)) ≡ true → a B (records c) ≡ true) → (valid (body_of (records c)) ≡ true → j B (records c) ≡ d) → Again a j kA kB (MessageValue c) (MessageValue d)
-written_again pairs a j (MessageOf A) (MessageOf U) B c d h t s allowed same = record {
-  sound = inside_sound (MessageOf A) (records c) s;
-  read = λ spelt.
-      let ok : valid (body_of (records c)) ≡ true = inside_valid (MessageOf A) (records c) s spelt in
+module _ (pairs : TypePairs) (a : AllowsInside) (j : MeansInside) where
+  pub scalar_reads : (kA kB : ScalarKind) (v : Scalar) → same_kind pairs (ScalarOf kA) (ScalarOf kB) ≡ true → scalar_valid kA v ≡ true →
+      ReadAs a j (ScalarOf kA) (ScalarOf kB) (ScalarValue v) (ScalarValue v)
+  scalar_reads kA kB v h ok =
+      let p : Payload = value_payload (ScalarOf kA) (ScalarValue v) in
+      let back : ElementBack j (ScalarOf kA) (ScalarValue v) = scalar_element j kA v ok in
+      let found : elem kB p ≡ Some v = (alike kA kB h).reads p ∙ read_back kA v ok in
       record {
-        alone = refl;
-        stays = refl;
-        allowed = ap (λ o. passes o (a U)) (len_body (records c) ok) ∙ ap (λ (n : ℕ). a n (records c)) (sym (eqb-true B U t)) ∙ allowed ok;
-        means = ap (λ rs. MessageValue (j U rs) ∷ []) (payload_back (MessageOf A) (records c) ok) ∙ ap (λ (n : ℕ). MessageValue (j n (records c)) ∷ []) (sym (eqb-true B U t)) ∙ ap (λ c. MessageValue c ∷ []) (same ok);
-      };
-}
-written_again pairs a j (GroupOf A) (GroupOf U) B c d h t s allowed same = record {
-  sound = inside_sound (GroupOf A) (records c) s;
-  read = λ ok. record {
-    alone = refl;
-    stays = refl;
-    allowed = ap (a U) (items_body (records c)) ∙ ap (λ (n : ℕ). a n (records c)) (sym (eqb-true B U t)) ∙ allowed ok;
-    means = ap (λ rs. MessageValue (j U rs) ∷ []) (payload_back (GroupOf A) (records c) ok) ∙ ap (λ (n : ℕ). MessageValue (j n (records c)) ∷ []) (sym (eqb-true B U t)) ∙ ap (λ c. MessageValue c ∷ []) (same ok);
-  };
-}
-written_again pairs a j kA (ScalarOf kB) B c d h t s allowed same = absurd (true≢false (sym t))
-written_again pairs a j _ _ B c d h t s allowed same = absurd (true≢false (sym h))
+        alone = elements_alike pairs (ScalarOf kA) (ScalarOf kB) p h ∙ back.one;
+        stays = stray_alike pairs (ScalarOf kA) (ScalarOf kB) p h ∙ back.fits;
+        allowed = ap is_some found;
+        means = ap scalar_values found;
+      }
+
+  pub scalar_again : (kA kB : ScalarKind) (v : Scalar) → same_kind pairs (ScalarOf kA) (ScalarOf kB) ≡ true → scalar_valid kA v ≡ true →
+      Again a j (ScalarOf kA) (ScalarOf kB) (ScalarValue v) (ScalarValue v)
+  scalar_again kA kB v h ok = record { sound = scalar_sound (ScalarOf kA) v ok; read = λ spelt. scalar_reads kA kB v h ok }
+
+  -- a message of the older type, and what the newer one reads of its records
+  pub written_again : (kA kB : Kind) (B : ℕ) (c d : Content) → same_kind pairs kA kB ≡ true → is_of_type kB B ≡ true → Sound (records c) →
+      (valid (body_of (records c)) ≡ true → a B (records c) ≡ true) → (valid (body_of (records c)) ≡ true → j B (records c) ≡ d) → Again a j kA kB (MessageValue c) (MessageValue d)
+  written_again (MessageOf A) (MessageOf U) B c d h t s allowed same = record {
+    sound = inside_sound (MessageOf A) (records c) s;
+    read = λ spelt.
+        let ok : valid (body_of (records c)) ≡ true = inside_valid (MessageOf A) (records c) s spelt in
+        record {
+          alone = refl;
+          stays = refl;
+          allowed = ap (λ o. passes o (a U)) (len_body (records c) ok) ∙ ap (λ (n : ℕ). a n (records c)) (sym (eqb-true B U t)) ∙ allowed ok;
+          means = ap (λ rs. MessageValue (j U rs) ∷ []) (payload_back (MessageOf A) (records c) ok) ∙ ap (λ (n : ℕ). MessageValue (j n (records c)) ∷ []) (sym (eqb-true B U t)) ∙ ap (λ c. MessageValue c ∷ []) (same ok);
+        };
+  }
+  written_again (GroupOf A) (GroupOf U) B c d h t s allowed same = record {
+    sound = inside_sound (GroupOf A) (records c) s;
+    read = λ ok. record {
+      alone = refl;
+      stays = refl;
+      allowed = ap (a U) (items_body (records c)) ∙ ap (λ (n : ℕ). a n (records c)) (sym (eqb-true B U t)) ∙ allowed ok;
+      means = ap (λ rs. MessageValue (j U rs) ∷ []) (payload_back (GroupOf A) (records c) ok) ∙ ap (λ (n : ℕ). MessageValue (j n (records c)) ∷ []) (sym (eqb-true B U t)) ∙ ap (λ c. MessageValue c ∷ []) (same ok);
+    };
+  }
+  written_again kA (ScalarOf kB) B c d h t s allowed same = absurd (true≢false (sym t))
+  written_again _ _ B c d h t s allowed same = absurd (true≢false (sym h))
 
 pub message_again : (pairs : TypePairs) (k : ℕ) (i : MeansInside) (a : AllowsInside) (j : MeansInside) (A B : ℕ) (rs : List Record) → Carries pairs k i a j → holds pairs A B ≡ true → valid (body_of rs) ≡ true → a B rs ≡ true →
     Again a j (MessageOf A) (MessageOf B) (MessageValue (i A rs)) (MessageValue (j B rs))

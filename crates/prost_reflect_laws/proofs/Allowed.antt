@@ -94,8 +94,7 @@ message_within inner (GroupOf U) T rs t h = ap (inner U) (items_body rs) ∙ ap 
 
 scalar_within : (inner : AllowsInside) (kind : Kind) (v : Scalar) → kind_takes kind v ≡ true → one_allowed inner kind (scalar_payload kind v) ≡ true
 scalar_within inner (ScalarOf kind) v h = ap is_some (read_back kind v h)
-scalar_within inner (MessageOf T) v h = absurd (true≢false (sym h))
-scalar_within inner (GroupOf T) v h = absurd (true≢false (sym h))
+scalar_within inner _ v h = absurd (true≢false (sym h))
 
 -- RECORDS OF A VALUE
 
@@ -113,19 +112,15 @@ scalars_flat kind (Item v vs) h =
   where
     go : (v : Value) → element_valid (ScalarOf kind) v ≡ true → max (value_levels v) 0 ≡ 0
     go (ScalarValue v) h = refl
-    go (MessageValue c) h = absurd (true≢false (sym h))
-    go (ListValue vs) h = absurd (true≢false (sym h))
-    go (MapValue ps) h = absurd (true≢false (sym h))
+    go _ h = absurd (true≢false (sym h))
 
 -- an element is allowed one by one
 element_same : (inner : AllowsInside) (k : ℕ) (kind : Kind) (v : Value) → element_valid kind v ≡ true → one_allowed inner kind (value_payload kind v) ≡ nat_le (value_levels v) k →
     (one_allowed inner kind (value_payload kind v) || packed_allowed kind (value_payload kind v)) ≡ nat_le (value_levels v) k
 element_same inner k (ScalarOf kind) (ScalarValue v) fits h = ap (λ b. b || packed_allowed (ScalarOf kind) (Flat (written kind v))) (h ∙ sym (within_zero k)) ∙ within_zero k
-element_same inner k (ScalarOf kind) (MessageValue c) fits h = absurd (true≢false (sym fits))
-element_same inner k kind (ListValue vs) fits h = absurd (true≢false (sym fits))
-element_same inner k kind (MapValue ps) fits h = absurd (true≢false (sym fits))
 element_same inner k (MessageOf T) v fits h = or-false (one_allowed inner (MessageOf T) (value_payload (MessageOf T) v)) ∙ h
 element_same inner k (GroupOf T) v fits h = or-false (one_allowed inner (GroupOf T) (value_payload (GroupOf T) v)) ∙ h
+element_same inner k _ _ fits h = absurd (true≢false (sym fits))
 
 -- each element is allowed exactly within its levels
 abbrev Each : AllowsInside → ℕ → Kind → Values → Type 0
@@ -151,8 +146,7 @@ list_allowed inner schema k f vs checked takes spelt each =
         let bytes : List ℕ = end_to_end (element_payloads (ScalarOf kind) vs) in
         ap₂ (λ x (o : Option (List Plain)). (fits kind (Flat (Len bytes)) || (x && is_some o)) && true) p (unpacked_back kind vs p fit).0
         ∙ ap (λ b. b && true) (or-true (fits kind (Flat (Len bytes)))) ∙ within_zero k ∙ ap (λ (n : ℕ). nat_le n k) (sym (scalars_flat kind vs fit))
-    pack (MessageOf T) p vs fit = absurd (true≢false (sym p))
-    pack (GroupOf T) p vs fit = absurd (true≢false (sym p))
+    pack _ p vs fit = absurd (true≢false (sym p))
 
     go : (packed : Bool) → f.form ≡ Repeated packed → (vs : Values) → elements_valid f.value_type.kind vs ≡ true → list_all payload_valid (list_payloads f.form (element_payloads f.value_type.kind vs)) ≡ true →
         (list_all payload_valid (element_payloads f.value_type.kind vs) ≡ true → Each inner k f.value_type.kind vs) → list_all (field_allowed k inner f.form f.value_type) (list_payloads f.form (element_payloads f.value_type.kind vs)) ≡ nat_le (values_levels vs) k
@@ -169,19 +163,14 @@ list_allowed inner schema k f vs checked takes spelt each =
 -- a value left out nests nothing
 left_out : (value_type : ValueType) (v : Value) → is_default_of value_type v ≡ true → value_levels v ≡ 0
 left_out value_type (ScalarValue v) h = refl
-left_out value_type (MessageValue c) h = absurd (true≢false (sym h))
-left_out value_type (ListValue vs) h = absurd (true≢false (sym h))
-left_out value_type (MapValue ps) h = absurd (true≢false (sym h))
+left_out value_type _ h = absurd (true≢false (sym h))
 
 -- there is a level where the value is allowed
 level_there : (inner : AllowsInside) (k : ℕ) (kind : Kind) (v : Value) → element_valid kind v ≡ true → (has_level k kind && nat_le (value_levels v) k) ≡ nat_le (value_levels v) k
 level_there inner k (ScalarOf kind) v h = refl
-level_there inner k (MessageOf T) (ScalarValue v) h = absurd (true≢false (sym h))
-level_there inner k (GroupOf T) (ScalarValue v) h = absurd (true≢false (sym h))
-level_there inner k kind (ListValue vs) h = absurd (true≢false (sym h))
-level_there inner k kind (MapValue ps) h = absurd (true≢false (sym h))
 level_there inner k (MessageOf T) (MessageValue c) h = one_level k (levels c)
 level_there inner k (GroupOf T) (MessageValue c) h = one_level k (levels c)
+level_there inner k _ _ h = absurd (true≢false (sym h))
 
 pair_within : (inner : AllowsInside) (k : ℕ) (key value_type : ValueType) (x : Scalar) (v : Value) → kind_takes key.kind x ≡ true → element_valid value_type.kind v ≡ true → one_allowed inner value_type.kind (value_payload value_type.kind v) ≡ nat_le (value_levels v) k →
     valid (body_of (entry_record key 1 (ScalarValue x) (scalar_payload key.kind x) ++ entry_record value_type 2 v (value_payload value_type.kind v))) ≡ true → field_allowed k inner (MapFrom key) value_type (pair_payload key value_type x v) ≡ nat_le (value_levels v) k
@@ -226,13 +215,11 @@ entry_levels k g inner key value_type kind kind' (r ∷ rs) d e h =
 
 stray_fits : (kind : ScalarKind) (p : Payload) → is_undeclared kind p ≡ true → (fits kind p ≡ true) × (payload_levels p ≡ 0)
 stray_fits (Enum first numbers) (Flat (Var v)) h = (refl, refl)
-stray_fits (Enum first numbers) _ h = absurd (true≢false (sym h))
-stray_fits _ p h = absurd (true≢false (sym h))
+stray_fits _ _ h = absurd (true≢false (sym h))
 
 pub one_stray : (inner : AllowsInside) (k : ℕ) (kind : Kind) (p : Payload) → is_stray kind p ≡ true → (one_allowed inner kind p ≡ true) × (true ≡ nat_le (payload_levels p) k)
 one_stray inner k (ScalarOf kind) p h = let (a, b) = stray_fits kind p h in (a, within_zero k ∙ ap (λ (n : ℕ). nat_le n k) (sym b))
-one_stray inner k (MessageOf T) p h = absurd (true≢false (sym h))
-one_stray inner k (GroupOf T) p h = absurd (true≢false (sym h))
+one_stray inner k _ p h = absurd (true≢false (sym h))
 
 pub stray_kind : (value_type : ValueType) (p : Payload) → is_stray_entry value_type p ≡ true → (kind : ScalarKind) × (value_type.kind ≡ ScalarOf kind)
 stray_kind value_type p h = go value_type.kind refl (last (numbered 2 (records_in p))) h
@@ -240,13 +227,11 @@ stray_kind value_type p h = go value_type.kind refl (last (numbered 2 (records_i
     go : (kd : Kind) → value_type.kind ≡ kd → (o : Option Payload) → (elim o [ None ↦ false | Some q ↦ is_stray value_type.kind q ]) ≡ true → (kind : ScalarKind) × (value_type.kind ≡ ScalarOf kind)
     go (ScalarOf kind) e o h = (kind, e)
     go kd e None h = absurd (true≢false (sym h))
-    go (MessageOf T) e (Some q) h = absurd (true≢false (sym h ∙ ap (λ kd. is_stray kd q) e))
-    go (GroupOf T) e (Some q) h = absurd (true≢false (sym h ∙ ap (λ kd. is_stray kd q) e))
+    go _ e (Some q) h = absurd (true≢false (sym h ∙ ap (λ kd. is_stray kd q) e))
 
 pub key_kind : (kd : Kind) → is_key_kind kd ≡ true → (kind : ScalarKind) × (kd ≡ ScalarOf kind)
 key_kind (ScalarOf kind) h = (kind, refl)
-key_kind (MessageOf T) h = absurd (true≢false (sym h))
-key_kind (GroupOf T) h = absurd (true≢false (sym h))
+key_kind _ h = absurd (true≢false (sym h))
 
 entry_within : (inner : AllowsInside) (k : ℕ) (key value_type : ValueType) (p : Payload) → is_key_kind key.kind ≡ true → is_whole_stray (MapFrom key) value_type p ≡ true → field_allowed k inner (MapFrom key) value_type p ≡ nat_le (stray_levels (MapFrom key) p) k
 entry_within inner k key value_type p h w =
@@ -309,9 +294,8 @@ map_field : (inner : AllowsInside) (k : ℕ) (f : Field) (ps : Pairs) → value_
 map_field inner k f ps h each = go f.form refl h
   where
     go : (c : FieldForm) → f.form ≡ c → pairs_valid c f.value_type.kind ps ≡ true → OptionAllowed k inner (Some f) (MapValue ps)
-    go Singular e h = absurd (true≢false (sym h))
-    go (Repeated packed) e h = absurd (true≢false (sym h))
     go (MapFrom key) e h = ap (λ c. list_all (field_allowed k inner c f.value_type) (pair_payloads (key_of c f.value_type) f.value_type ps)) e ∙ pairs_same inner k key f.value_type ps (each key e)
+    go _ e h = absurd (true≢false (sym h))
 
 mutual
   pub content_allowed : (k : ℕ) (c : Content) → schema_valid (schema_of c) ≡ true → encodable c ≡ true → Typed c → valid (body_of (records c)) ≡ true → allows (schema_of c) k (type_of c) (records c) ≡ nat_le (levels c) k
@@ -354,8 +338,7 @@ mutual
       let checked : schema_valid (schema_of c) ≡ true = ap schema_valid of.0 ∙ h in
       let written : valid (body_of (records c)) ≡ true = inside_valid kind (records c) (content_sound c checked fits types) spelt in
       message_within (inside schema k) kind (type_of c) (records c) of.1 written ∙ inner_within schema k c of.0 (λ j. content_allowed j c checked fits types written)
-  element_within schema k kind (ListValue vs) h takes fits types spelt = absurd (true≢false (sym takes))
-  element_within schema k kind (MapValue ps) h takes fits types spelt = absurd (true≢false (sym takes))
+  element_within schema k kind _ h takes fits types spelt = absurd (true≢false (sym takes))
 
   elements_within : (schema : Schema) (k : ℕ) (kind : Kind) (vs : Values) → schema_valid schema ≡ true → elements_valid kind vs ≡ true → values_pass fit_test vs ≡ true → ValuesTyped schema (Some kind) vs → list_all payload_valid (element_payloads kind vs) ≡ true → Each (inside schema k) k kind vs
   elements_within schema k kind NoValues h takes fits types spelt = tt

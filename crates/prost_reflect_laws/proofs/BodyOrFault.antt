@@ -270,8 +270,7 @@ module _ (schema : Schema) (place : Place) (small : AreBytes place.bytes) (limit
   repeated_packed : (w : WireType) → KeyFront n w place.bytes rest → (packed : Bool) (kind : Kind) (f : Field) → field_at schema place.inside n ≡ Some f → f.form ≡ Repeated packed → f.value_type.kind ≡ kind → packed_takes kind w ≡ true → Outcome w
   repeated_packed w key packed (ScalarOf kind) f found form is h =
       let (packable, same) = and_parts (is_packable kind) (same_wire w wires.LengthDelimited) h in at_wire w wires.LengthDelimited key same (λ k. known_packed k f packed kind found form is packable)
-  repeated_packed w key packed (MessageOf T) f found form is h = absurd (true≢false (sym h))
-  repeated_packed w key packed (GroupOf T) f found form is h = absurd (true≢false (sym h))
+  repeated_packed w key packed _ f found form is h = absurd (true≢false (sym h))
 
   known_field : (w : WireType) → KeyFront n w place.bytes rest → (f : Field) → field_at schema place.inside n ≡ Some f → takes f.form f.value_type.kind w ≡ true → Outcome w
   known_field w key f found h = go f.form refl

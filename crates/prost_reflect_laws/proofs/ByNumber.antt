@@ -20,36 +20,37 @@ numbered_records n (r ∷ rs) = go (nat_eq r.number n) refl (numbered_records n 
     go true e more = ap₂ (λ k l. record_at k r.payload ∷ l) (eqb-true r.number n e) more
     go false e more = more
 
--- what is taken of the records of a number, and what stays unknown
-pub values_of_block : (fields : List Field) (n : ℕ) (f : Field) (ps : List Payload) → field_of fields n ≡ Some f → flat_map (value_records fields) (map (record_at n) ps) ≡ block n (flat_map (value_payloads f.form f.value_type) ps)
-values_of_block fields n f [] e = refl
-values_of_block fields n f (p ∷ ps) e =
-    ap₂ ◌++◌ (value_records_known fields n f p e) (values_of_block fields n f ps e) ∙ sym (map_append (record_at n) (value_payloads f.form f.value_type p) (flat_map (value_payloads f.form f.value_type) ps))
+module _ (fields : List Field) (n : ℕ) where
+  -- what is taken of the records of a number, and what stays unknown
+  pub values_of_block : (f : Field) (ps : List Payload) → field_of fields n ≡ Some f → flat_map (value_records fields) (map (record_at n) ps) ≡ block n (flat_map (value_payloads f.form f.value_type) ps)
+  values_of_block f [] e = refl
+  values_of_block f (p ∷ ps) e =
+      ap₂ ◌++◌ (value_records_known fields n f p e) (values_of_block f ps e) ∙ sym (map_append (record_at n) (value_payloads f.form f.value_type p) (flat_map (value_payloads f.form f.value_type) ps))
 
-pub strays_of_block : (fields : List Field) (n : ℕ) (f : Field) (ps : List Payload) → field_of fields n ≡ Some f → flat_map (unknown_payloads fields) (map (record_at n) ps) ≡ flat_map (stray_payloads f.form f.value_type) ps
-strays_of_block fields n f [] e = refl
-strays_of_block fields n f (p ∷ ps) e = ap₂ ◌++◌ (unknown_known fields n f p e) (strays_of_block fields n f ps e)
+  pub strays_of_block : (f : Field) (ps : List Payload) → field_of fields n ≡ Some f → flat_map (unknown_payloads fields) (map (record_at n) ps) ≡ flat_map (stray_payloads f.form f.value_type) ps
+  strays_of_block f [] e = refl
+  strays_of_block f (p ∷ ps) e = ap₂ ◌++◌ (unknown_known fields n f p e) (strays_of_block f ps e)
 
-pub unknowns_of_block : (fields : List Field) (n : ℕ) (ps : List Payload) → field_of fields n ≡ None → flat_map (unknown_payloads fields) (map (record_at n) ps) ≡ ps
-unknowns_of_block fields n [] e = refl
-unknowns_of_block fields n (p ∷ ps) e = ap₂ ◌++◌ (ap (λ (o : Option Field). elim o [ None ↦ p ∷ [] | Some f ↦ stray_payloads f.form f.value_type p ]) e) (unknowns_of_block fields n ps e)
+  pub unknowns_of_block : (ps : List Payload) → field_of fields n ≡ None → flat_map (unknown_payloads fields) (map (record_at n) ps) ≡ ps
+  unknowns_of_block [] e = refl
+  unknowns_of_block (p ∷ ps) e = ap₂ ◌++◌ (ap (λ (o : Option Field). elim o [ None ↦ p ∷ [] | Some f ↦ stray_payloads f.form f.value_type p ]) e) (unknowns_of_block ps e)
 
-pub values_none : (fields : List Field) (n : ℕ) (ps : List Payload) → field_of fields n ≡ None → flat_map (value_records fields) (map (record_at n) ps) ≡ []
-values_none fields n [] e = refl
-values_none fields n (p ∷ ps) e = ap₂ ◌++◌ (ap (λ (o : Option Field). elim o [ None ↦ [] | Some f ↦ map (λ p. record { number = n; payload = p }) (value_payloads f.form f.value_type p) ]) e) (values_none fields n ps e)
+  pub values_none : (ps : List Payload) → field_of fields n ≡ None → flat_map (value_records fields) (map (record_at n) ps) ≡ []
+  values_none [] e = refl
+  values_none (p ∷ ps) e = ap₂ ◌++◌ (ap (λ (o : Option Field). elim o [ None ↦ [] | Some f ↦ map (λ p. record { number = n; payload = p }) (value_payloads f.form f.value_type p) ]) e) (values_none ps e)
 
--- what is taken of records keeps their numbers
-pub filter_values : (fields : List Field) (n : ℕ) (rs : List Record) → filter (has_number n) (flat_map (value_records fields) rs) ≡ flat_map (value_records fields) (filter (has_number n) rs)
-filter_values fields n [] = refl
-filter_values fields n (r ∷ rs) =
-    let (ps, e) = value_records_block fields r in
-    filter_append (has_number n) (value_records fields r) (flat_map (value_records fields) rs)
-    ∙ ap₂ ◌++◌ (ap (filter (has_number n)) e ∙ filter_block r.number n ps ∙ ap (λ l. cond (nat_eq r.number n) l []) (sym e)) (filter_values fields n rs)
-    ∙ go (nat_eq r.number n)
-  where
-    go : (b : Bool) → cond b (value_records fields r) [] ++ flat_map (value_records fields) (filter (has_number n) rs) ≡ flat_map (value_records fields) (cond b (r ∷ filter (has_number n) rs) (filter (has_number n) rs))
-    go true = refl
-    go false = refl
+  -- what is taken of records keeps their numbers
+  pub filter_values : (rs : List Record) → filter (has_number n) (flat_map (value_records fields) rs) ≡ flat_map (value_records fields) (filter (has_number n) rs)
+  filter_values [] = refl
+  filter_values (r ∷ rs) =
+      let (ps, e) = value_records_block fields r in
+      filter_append (has_number n) (value_records fields r) (flat_map (value_records fields) rs)
+      ∙ ap₂ ◌++◌ (ap (filter (has_number n)) e ∙ filter_block r.number n ps ∙ ap (λ l. cond (nat_eq r.number n) l []) (sym e)) (filter_values rs)
+      ∙ go (nat_eq r.number n)
+    where
+      go : (b : Bool) → cond b (value_records fields r) [] ++ flat_map (value_records fields) (filter (has_number n) rs) ≡ flat_map (value_records fields) (cond b (r ∷ filter (has_number n) rs) (filter (has_number n) rs))
+      go true = refl
+      go false = refl
 
 -- none of a number, for each number that passes
 pub none_by_number : (test : ℕ → Bool) (rs : List Record) → ((m : ℕ) → test m ≡ true → filter (has_number m) rs ≡ []) → list_any (λ r. test r.number) rs ≡ false

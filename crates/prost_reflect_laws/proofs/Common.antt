@@ -10,7 +10,7 @@ pub use Rattle.std.specs.Str.{IsUtf8}
 unfoldable pub use Rattle.std.specs.Str.{is_utf8, chars}
 pub use Rattle.std.proofs.Common.{◌≡◌, ℕ, List, ap, sym, ◌∙◌, Option, Some, None, refl, true≢false, ◌↔◌, Bool, nat_lt, true, false, [], ◌∷◌, flat_map, suc, length, cond, not, ◌&&◌, ◌||◌, ℤ, map, filter, ap₂, zero, ◌≤◌, ◌++◌, nat_le, nat_eq, arith, ◌<◌, ◌+◌, append-nil, append_assoc, ◌⊎◌, inl, inr, ◌≢◌, subst, length-append, ◌/◌, ◌%◌, ◌^◌, pos, negsuc, SFits, lit<, lit≤, ◌*◌, get_or, take, drop, ◌-◌, mod-eq_of_lt}
 pub use Rattle.std.proofs.Math.Bool.{or-false, or-true}
-pub use Rattle.std.proofs.lemmas.Bool.{eq-eqb, eqb-true, and_parts, leb-true, le-leb, lt-ltb, and_from, or_parts, eqb-false, ltb-false, ne_eqb, ltb-true, not-true, cases_lt, cases_eq}
+pub use Rattle.std.proofs.lemmas.Bool.{eq-eqb, eqb-true, and_parts, leb-true, le-leb, lt-ltb, and_from, or_parts, eqb-false, ltb-false, ne_eqb, ltb-true, not-true, cases_lt, cases_eq, or_left, or_right}
 pub use Rattle.std.proofs.lemmas.List.Folds.{list_all-append, list_any-append}
 pub use Rattle.std.proofs.lemmas.Option.{none-some, same_Some}
 pub use Rattle.prost_reflect_wire.specs.Content.{Content, Value, ScalarValue, MessageValue, ContentOf, Entries, NoEntries, Stored, Unknown, ListValue, MapValue, Values, NoValues, Item, Pairs, NoPairs, Pair, schema_of, type_of, values_from, Slot, then_unknowns, then_value, table, comes_before, key_before, ordered, entries_ordered, value_ordered, values_ordered, pairs_ordered, value_at, unknowns_at, slot_at, numbers_in, store, empty, ◌and_then◌, changed, entries_of, insert_number}
@@ -40,14 +40,14 @@ pub use Rattle.prost_reflect_wire.specs.declared.key.WireType.{WireType}
 pub use Rattle.prost_reflect_wire.proofs.Bodies.{items_body, items_before}
 pub use Rattle.prost_reflect_wire.proofs.ByteLists.{bytes_front, bytes_behind, test_bytes, bytes_test}
 pub use Rattle.prost_reflect_wire.proofs.Deeper.{flat_fits, all_after, passes_in, all_append, all_filter, all_implied, source_allowed, value_records_allowed, element_allowed, elements_in_allowed, allows_append, message_in, numbered_two, levels_free, allowed_further, Agrees, element_agree, value_agree}
-pub use Rattle.prost_reflect_wire.proofs.FieldFaults.{only_memory, field_no_fault, field_only, value_no_fault}
+pub use Rattle.prost_reflect_wire.proofs.FieldFaults.{only_memory, value_no_fault}
 pub use Rattle.prost_reflect_wire.proofs.KeyFronts.{short_key_front, key_once, key_no_fault}
 pub use Rattle.prost_reflect_wire.proofs.ListTests.{beq_same, last_passes, filter_passes, passes_more, or_case}
 pub use Rattle.prost_reflect_wire.proofs.Numbers.{Ascending, numbers_ascending, slots_same, table_same, table_covers, entries_ascending, slot_outside, is_in, not_in, Covers, eqb-sym, slot_table, insert_ascending, empty_slot, both_max, lower, in_insert}
 pub use Rattle.prost_reflect_wire.proofs.PlaceFaults.{key_stands, end_stands, plain_stands, value_stands, stands_behind, key_stands_in_field, value_stands_in_field, value_stands_in_value}
 pub use Rattle.prost_reflect_wire.proofs.PlainFronts.{plain_delimited, delimited_plain, delimited_cut, plain_once, plain_no_fault, delimited_once}
 pub use Rattle.prost_reflect_wire.proofs.Reading.{spelled_read, one_reading, wire_small, wire_known, plain_read, varint_some}
-pub use Rattle.prost_reflect_wire.proofs.RecordFronts.{record_front, first_front, none_front, key_shorter, payload_no_longer, last_front, record_parts, levels_first, field_front, plain_no_group, payload_once, RecordParts, first_parts, FrontParts, field_once}
+pub use Rattle.prost_reflect_wire.proofs.RecordFronts.{record_front, first_front, none_front, key_shorter, payload_no_longer, last_front, record_parts, levels_first, field_front, plain_no_group, payload_once, RecordParts, first_parts, FrontParts}
 pub use Rattle.prost_reflect_wire.proofs.Shortest.{short_spells, short_plain_ok, short_varint, short_key_ok}
 pub use Rattle.prost_reflect_wire.proofs.Sound.{read_spells, bind_ok, plain_sound, guard_ok, Front}
 pub use Rattle.prost_reflect_wire.proofs.Steps.{field_nothing, Joins, level_joins, flat_append, field_joins, surviving_value, value_all, unknowns_further, meaning_covers, map_append, meaning_same, nothing_joins, meaning_empty, meaning_steps, values_present, last_append, values_append, pairs_present, same_behind}

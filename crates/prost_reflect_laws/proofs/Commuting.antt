@@ -20,26 +20,27 @@ Inert inner further fields f xs = (o : Option Value) → value_steps inner furth
 abbrev pub Clears : MeansInside → JoinsInside → List Field → Field → List Record → Type 0
 Clears inner further fields f xs = (o : Option Value) → value_steps inner further fields f o xs ≡ None
 
-other_step : (inner : MeansInside) (further : JoinsInside) (fields : List Field) (f : Field) (o : Option Value) (n : ℕ) (p : Payload) → nat_eq n f.number ≡ false →
-    value_step inner further fields f o (record { number = n; payload = p }) ≡ cond (is_sibling fields f n) None o
-other_step inner further fields f o n p e = ap (λ b. cond b (value_joined inner further f.form f.value_type o p) (cond (is_sibling fields f n) None o)) e
+module _ (inner : MeansInside) (further : JoinsInside) (fields : List Field) (f : Field) where
+  other_step : (o : Option Value) (n : ℕ) (p : Payload) → nat_eq n f.number ≡ false →
+      value_step inner further fields f o (record { number = n; payload = p }) ≡ cond (is_sibling fields f n) None o
+  other_step o n p e = ap (λ b. cond b (value_joined inner further f.form f.value_type o p) (cond (is_sibling fields f n) None o)) e
 
-pub inert : (inner : MeansInside) (further : JoinsInside) (fields : List Field) (f : Field) (n : ℕ) (ps : List Payload) → nat_eq n f.number ≡ false → is_sibling fields f n ≡ false → Inert inner further fields f (block n ps)
-inert inner further fields f n [] e s o = refl
-inert inner further fields f n (p ∷ ps) e s o =
-    ap (λ o. value_steps inner further fields f o (block n ps)) (other_step inner further fields f o n p e ∙ ap (λ b. cond b None o) s) ∙ inert inner further fields f n ps e s o
+  pub inert : (n : ℕ) (ps : List Payload) → nat_eq n f.number ≡ false → is_sibling fields f n ≡ false → Inert inner further fields f (block n ps)
+  inert n [] e s o = refl
+  inert n (p ∷ ps) e s o =
+      ap (λ o. value_steps inner further fields f o (block n ps)) (other_step o n p e ∙ ap (λ b. cond b None o) s) ∙ inert n ps e s o
 
-pub effect : (inner : MeansInside) (further : JoinsInside) (fields : List Field) (f : Field) (n : ℕ) (ps : List Payload) → nat_eq n f.number ≡ false → Inert inner further fields f (block n ps) ⊎ Clears inner further fields f (block n ps)
-effect inner further fields f n ps e = go (is_sibling fields f n) refl ps
-  where
-    clear : (ps : List Payload) → is_sibling fields f n ≡ true → value_steps inner further fields f None (block n ps) ≡ None
-    clear [] s = refl
-    clear (p ∷ ps) s = ap (λ o. value_steps inner further fields f o (block n ps)) (other_step inner further fields f None n p e ∙ ap (λ b. cond {A = Option Value} b None None) s) ∙ clear ps s
+  pub effect : (n : ℕ) (ps : List Payload) → nat_eq n f.number ≡ false → Inert inner further fields f (block n ps) ⊎ Clears inner further fields f (block n ps)
+  effect n ps e = go (is_sibling fields f n) refl ps
+    where
+      clear : (ps : List Payload) → is_sibling fields f n ≡ true → value_steps inner further fields f None (block n ps) ≡ None
+      clear [] s = refl
+      clear (p ∷ ps) s = ap (λ o. value_steps inner further fields f o (block n ps)) (other_step None n p e ∙ ap (λ b. cond {A = Option Value} b None None) s) ∙ clear ps s
 
-    go : (b : Bool) → is_sibling fields f n ≡ b → (ps : List Payload) → Inert inner further fields f (block n ps) ⊎ Clears inner further fields f (block n ps)
-    go false s ps = inl (inert inner further fields f n ps e s)
-    go true s [] = inl (λ o. refl)
-    go true s (p ∷ ps) = inr (λ o. ap (λ o. value_steps inner further fields f o (block n ps)) (other_step inner further fields f o n p e ∙ ap (λ b. cond b None o) s) ∙ clear ps s)
+      go : (b : Bool) → is_sibling fields f n ≡ b → (ps : List Payload) → Inert inner further fields f (block n ps) ⊎ Clears inner further fields f (block n ps)
+      go false s ps = inl (inert n ps e s)
+      go true s [] = inl (λ o. refl)
+      go true s (p ∷ ps) = inr (λ o. ap (λ o. value_steps inner further fields f o (block n ps)) (other_step o n p e ∙ ap (λ b. cond b None o) s) ∙ clear ps s)
 
 differ : (n m k : ℕ) → n ≢ m → nat_eq n k ≡ true → nat_eq m k ≡ false
 differ n m k h e = ne_eqb m k (λ f. h (eqb-true n k e ∙ sym f))

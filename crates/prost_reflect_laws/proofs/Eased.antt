@@ -381,13 +381,12 @@ mutual
       ap₂ ◌∷◌ (payload_same kind v one) (elements_written kind vs more)
 
   map_written : (c : FieldForm) (value_type : ValueType) (ps : Pairs) → pairs_valid c value_type.kind ps ≡ true → pairs_pass fit_test ps ≡ true → pair_payloads (key_of c (eased_type c value_type)) (eased_type c value_type) (eased_pairs ps) ≡ pair_payloads (key_of c value_type) value_type ps
-  map_written Singular value_type ps valid h = absurd (true≢false (sym valid))
-  map_written (Repeated packed) value_type ps valid h = absurd (true≢false (sym valid))
   map_written (MapFrom key) value_type NoPairs valid h = refl
   map_written (MapFrom key) value_type (Pair k v ps) valid h =
       let (one, more) = and_parts (value_passes fit_test v) (pairs_pass fit_test ps) h in
       let (here, rest) = and_parts (kind_takes key.kind k && element_valid value_type.kind v) (pairs_valid (MapFrom key) value_type.kind ps) valid in
       ap₂ ◌∷◌ (entry_same key value_type k v (payload_same value_type.kind v one)) (map_written (MapFrom key) value_type ps rest more)
+  map_written _ value_type ps valid h = absurd (true≢false (sym valid))
 
 -- BACK
 

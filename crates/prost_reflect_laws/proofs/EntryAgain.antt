@@ -16,9 +16,6 @@ use Rattle.prost_reflect_laws.proofs.EntryDefaults.{default_valid_key, key_stays
 
 -- PAYLOADS IN AN ENTRY
 
-key_allowed : (k : ℕ) (a : AllowsInside) (key t : ValueType) (r : Record) → nat_eq r.number 1 ≡ true → in_entry_allowed k a key t r ≡ true → one_allowed a key.kind r.payload ≡ true
-key_allowed k a key t r e h = sym (ap (λ b. cond b (one_allowed a key.kind r.payload) (cond (nat_eq r.number 2) (one_allowed a t.kind r.payload) (nat_le (payload_levels r.payload) k))) e) ∙ h
-
 value_allowed : (k : ℕ) (a : AllowsInside) (key t : ValueType) (r : Record) → nat_eq r.number 2 ≡ true → in_entry_allowed k a key t r ≡ true → one_allowed a t.kind r.payload ≡ true
 value_allowed k a key t r e h =
     sym (ap₂ (λ b c. cond b (one_allowed a key.kind r.payload) (cond c (one_allowed a t.kind r.payload) (nat_le (payload_levels r.payload) k))) (ne_eqb r.number 1 (λ d. two (sym (eqb-true r.number 2 e) ∙ d))) e) ∙ h
@@ -68,8 +65,7 @@ key_takes key rs h spelt = go key.kind h
   where
     go : (kind : Kind) → is_key_kind kind ≡ true → kind_takes kind (elim kind [ ScalarOf kind ↦ last_or kind (kind_default kind) (numbered 1 rs) | _ ↦ key.default ]) ≡ true
     go (ScalarOf kind) h = last_or_valid kind (kind_default kind) (numbered 1 rs) (default_valid_key kind h) spelt (λ p e. key_stays kind p h)
-    go (MessageOf T) h = absurd (true≢false (sym h))
-    go (GroupOf T) h = absurd (true≢false (sym h))
+    go _ h = absurd (true≢false (sym h))
 
 pub key_same : (pairs : TypePairs) (keyA keyB : ValueType) (rs : List Record) → SameType pairs keyA keyB → is_key_kind keyA.kind ≡ true → entry_key keyB rs ≡ entry_key keyA rs
 key_same pairs keyA keyB rs same h = go keyA.kind keyB.kind same.kind h
@@ -77,10 +73,7 @@ key_same pairs keyA keyB rs same h = go keyA.kind keyB.kind same.kind h
     go : (kA kB : Kind) → same_kind pairs kA kB ≡ true → is_key_kind kA ≡ true →
         ◌≡◌ {A = Scalar} (elim kB [ ScalarOf kind ↦ last_or kind (kind_default kind) (numbered 1 rs) | _ ↦ keyB.default ]) (elim kA [ ScalarOf kind ↦ last_or kind (kind_default kind) (numbered 1 rs) | _ ↦ keyA.default ])
     go (ScalarOf kA) (ScalarOf kB) e h = last_or_same pairs kA kB (kind_default kA) (kind_default kB) (numbered 1 rs) e (alike kA kB e).default
-    go (ScalarOf kA) (MessageOf B) e h = absurd (true≢false (sym e))
-    go (ScalarOf kA) (GroupOf B) e h = absurd (true≢false (sym e))
-    go (MessageOf A) kB e h = absurd (true≢false (sym h))
-    go (GroupOf A) kB e h = absurd (true≢false (sym h))
+    go _ kB e h = cc
 
 -- VALUES
 
@@ -133,10 +126,7 @@ pub record PairAgain (k : ℕ) (a : AllowsInside) (j : MeansInside) (keyA tA key
 
 key_fits : (pairs : TypePairs) (a : AllowsInside) (kA kB : Kind) (x : Scalar) → same_kind pairs kA kB ≡ true → kind_takes kA x ≡ true → one_allowed a kB (scalar_payload kA x) ≡ true
 key_fits pairs a (ScalarOf kA) (ScalarOf kB) x h takes = ap is_some ((alike kA kB h).reads (scalar_payload (ScalarOf kA) x) ∙ read_back kA x takes)
-key_fits pairs a (ScalarOf kA) (MessageOf B) x h takes = absurd (true≢false (sym h))
-key_fits pairs a (ScalarOf kA) (GroupOf B) x h takes = absurd (true≢false (sym h))
-key_fits pairs a (MessageOf A) kB x h takes = absurd (true≢false (sym takes))
-key_fits pairs a (GroupOf A) kB x h takes = absurd (true≢false (sym takes))
+key_fits pairs a _ kB x h takes = cc
 
 -- the value of records goes by the payloads of number 2
 by_payloads : (j : MeansInside) (t : ValueType) (kind : Kind) (rs qs : List Record) → numbered 2 rs ≡ numbered 2 qs → entry_value j t kind rs ≡ entry_value j t kind qs

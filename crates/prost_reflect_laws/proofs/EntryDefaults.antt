@@ -5,11 +5,11 @@ use Rattle.prost_reflect_laws.proofs.Declared.{read_valid}
 -- kinds of keys have valid defaults, and no strays
 pub default_valid_key : (kind : ScalarKind) → is_key_kind (ScalarOf kind) ≡ true → scalar_valid kind (kind_default kind) ≡ true
 unfolding is_utf8 chars
+default_valid_key StringKind h = refl
 default_valid_key Double h = absurd (true≢false (sym h))
 default_valid_key Float h = absurd (true≢false (sym h))
 default_valid_key BytesKind h = absurd (true≢false (sym h))
 default_valid_key (Enum first numbers) h = absurd (true≢false (sym h))
-default_valid_key StringKind h = refl
 default_valid_key _ h = refl
 
 pub key_stays : (kind : ScalarKind) (p : Payload) → is_key_kind (ScalarOf kind) ≡ true → is_undeclared kind p ≡ false

@@ -31,28 +31,29 @@ memory_never_stands schema (InGroup n T k f rest found m kind left key more) is 
 memory_never_stands schema (InUnknown n k rest found left key more) is = memory_never_stands schema more is
 memory_never_stands schema (InEntry n f key_type body rest after found form level key d more) is = memory_never_stands schema more is
 
--- Accepted bytes are refused for want of memory alone, where each other refusal is a fault that stands.
-pub accepted_only_memory : (schema : Schema) (levels T : ℕ) (bytes : List ℕ) → AreBytes bytes → Accepts schema levels T bytes → (e : DecodeError) → (e ≢ errors.OutOfMemory → StandsInMessage schema T levels e bytes) → e ≡ errors.OutOfMemory
-accepted_only_memory schema levels T bytes small a e stands = only_memory e (λ other. accepted_has_no_fault schema levels T bytes small a e (stands other))
+module _ (schema : Schema) (levels T : ℕ) (bytes : List ℕ) where
+  -- Accepted bytes are refused for want of memory alone, where each other refusal is a fault that stands.
+  pub accepted_only_memory : AreBytes bytes → Accepts schema levels T bytes → (e : DecodeError) → (e ≢ errors.OutOfMemory → StandsInMessage schema T levels e bytes) → e ≡ errors.OutOfMemory
+  accepted_only_memory small a e stands = only_memory e (λ other. accepted_has_no_fault schema levels T bytes small a e (stands other))
 
--- COMPLETENESS
+  -- COMPLETENESS
 
-body_accepted : (schema : Schema) (levels T : ℕ) (bytes : List ℕ) → SomeBody schema (message_place levels T bytes) → Accepts schema levels T bytes
-body_accepted schema levels T bytes x = record {
-  records = x.records;
-  spelled = body_spells schema (message_place levels T bytes) x.records x.rest refl x.body;
-  allowed = allows_at schema (message_place levels T bytes) T (items x.records) refl ∙ x.body.allowed;
-}
+  body_accepted : SomeBody schema (message_place levels T bytes) → Accepts schema levels T bytes
+  body_accepted x = record {
+    records = x.records;
+    spelled = body_spells schema (message_place levels T bytes) x.records x.rest refl x.body;
+    allowed = allows_at schema (message_place levels T bytes) T (items x.records) refl ∙ x.body.allowed;
+  }
 
-refused_not_accepted : (schema : Schema) (levels T : ℕ) (bytes : List ℕ) → AreBytes bytes → accepts schema levels T bytes ≡ false → Accepts schema levels T bytes → ⊥
-refused_not_accepted schema levels T bytes small refused a = true≢false (sym ((accepts_is_test schema levels T bytes small).0 a) ∙ refused)
+  refused_not_accepted : AreBytes bytes → accepts schema levels T bytes ≡ false → Accepts schema levels T bytes → ⊥
+  refused_not_accepted small refused a = true≢false (sym ((accepts_is_test schema levels T bytes small).0 a) ∙ refused)
 
--- What is not accepted has a fault.
-fault_of : (schema : Schema) (levels T : ℕ) (bytes : List ℕ) → AreBytes bytes → accepts schema levels T bytes ≡ false → (e : DecodeError) × StandsInMessage schema T levels e bytes
-fault_of schema levels T bytes small refused = elim (body_or_fault schema (suc (length bytes)) (message_place levels T bytes) (omega arith) small) [
-  | inl x ↦ absurd (refused_not_accepted schema levels T bytes small refused (body_accepted schema levels T bytes x))
-  | inr f ↦ (f.error, f.fault)
-]
+  -- What is not accepted has a fault.
+  fault_of : AreBytes bytes → accepts schema levels T bytes ≡ false → (e : DecodeError) × StandsInMessage schema T levels e bytes
+  fault_of small refused = elim (body_or_fault schema (suc (length bytes)) (message_place levels T bytes) (omega arith) small) [
+    | inl x ↦ absurd (refused_not_accepted small refused (body_accepted x))
+    | inr f ↦ (f.error, f.fault)
+  ]
 
 -- What has a fault is not accepted.
 refused_by : (schema : Schema) (levels T : ℕ) (bytes : List ℕ) → AreBytes bytes → (e : DecodeError) → StandsInMessage schema T levels e bytes → accepts schema levels T bytes ≡ false

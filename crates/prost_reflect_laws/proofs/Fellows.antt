@@ -22,9 +22,8 @@ none_known : (fields : List Field) (n : ℕ) → field_of fields n ≡ None → 
 none_known fields n e = ap (λ (o : Option Field). passes o (λ f. true)) e
 
 or_left : (a b : Bool) → (a || not b) ≡ true → a ≡ false → b ≡ false
-or_left true b h e = absurd (true≢false e)
 or_left false false h e = refl
-or_left false true h e = absurd (true≢false (sym h))
+or_left _ b h e = cc
 
 -- a field whose number is lacking has no fellow
 alone : (older newer : List Field) (g : Field) → has_no_fellow older newer g ≡ true → field_of older g.number ≡ None → list_any (λ h. is_sibling newer g h.number) newer ≡ false

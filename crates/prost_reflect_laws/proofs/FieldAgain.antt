@@ -1,5 +1,5 @@
 -- A field, carried through a reduction: its value by its form, and its strays.
-use Rattle.prost_reflect_laws.proofs.Common.{◌≡◌, ℕ, Bool, true, cond, not, ◌&&◌, ◌||◌, List, [], ◌∷◌, ◌++◌, filter, flat_map, Some, refl, ap, ap₂, sym, ◌∙◌, true≢false, list_all, list_all-append, and_parts, and_from, Var, Payload, Flat, payload_valid, ScalarKind, Enum, is_undeclared, Kind, ScalarOf, MessageOf, GroupOf, ValueType, FieldForm, Singular, Repeated, MapFrom, Field, Schema, AllowsInside, fits, is_stray, is_stray_entry, element_payloads_in, value_payloads, stray_payloads, one_allowed, packed_allowed, field_allowed, MeansInside, field_value, TypePairs, same_form, all_filter, all_implied, source_allowed, value_records_allowed, filter_passes}
+use Rattle.prost_reflect_laws.proofs.Common.{◌++◌, ◌≡◌, ℕ, Bool, true, cond, not, ◌&&◌, ◌||◌, List, [], ◌∷◌, filter, flat_map, Some, refl, ap, ap₂, sym, ◌∙◌, true≢false, list_all, list_all-append, and_parts, and_from, Var, Payload, Flat, payload_valid, ScalarKind, Enum, is_undeclared, Kind, ScalarOf, ValueType, FieldForm, Singular, Repeated, MapFrom, Field, Schema, AllowsInside, fits, is_stray, is_stray_entry, element_payloads_in, value_payloads, stray_payloads, one_allowed, packed_allowed, field_allowed, MeansInside, field_value, TypePairs, same_form, all_filter, all_implied, source_allowed, value_records_allowed, filter_passes}
 use Rattle.prost_reflect_laws.proofs.Checked.{CheckedField, CheckedList, checked_list, CheckedMap, checked_map}
 use Rattle.prost_reflect_laws.proofs.Alike.{SameType, same_type}
 use Rattle.prost_reflect_laws.proofs.ByNumber.{stored_payloads}
@@ -59,8 +59,7 @@ undeclared_fits _ p h = absurd (true≢false (sym h))
 
 stray_allowed : (a : AllowsInside) (kind : Kind) (p : Payload) → is_stray kind p ≡ true → (one_allowed a kind p || packed_allowed kind p) ≡ true
 stray_allowed a (ScalarOf kind) p h = ap (λ b. b || packed_allowed (ScalarOf kind) p) (undeclared_fits kind p h)
-stray_allowed a (MessageOf T) p h = absurd (true≢false (sym h))
-stray_allowed a (GroupOf T) p h = absurd (true≢false (sym h))
+stray_allowed a _ p h = absurd (true≢false (sym h))
 
 -- what stays unknown of a payload that is allowed is allowed
 strays_allowed : (k : ℕ) (a : AllowsInside) (c : FieldForm) (t : ValueType) (p : Payload) → field_allowed k a c t p ≡ true → list_all (field_allowed k a c t) (stray_payloads c t p) ≡ true
@@ -123,15 +122,10 @@ field_again pairs k i a j older f g qs c checked form type sources = go f.form g
 
     go : (cA cB : FieldForm) → f.form ≡ cA → same_form pairs cA cB ≡ true → list_all (source k a cB g.value_type) qs ≡ true → FieldAgain k a j cB g.value_type (stored_payloads (Some f) (field_value i cA f.value_type qs)) (field_value j cB g.value_type qs)
     go Singular Singular e s all = single_again pairs k i a j f tB qs c type all
-    go Singular (Repeated y) e s all = absurd (true≢false (sym s))
-    go Singular (MapFrom keyB) e s all = absurd (true≢false (sym s))
     go (Repeated x) (Repeated y) e s all =
         let l : CheckedList f x = checked_list older f x checked e in
         list_again pairs k i a j f x y tB qs c e type.kind l.packable all
-    go (Repeated x) Singular e s all = absurd (true≢false (sym s))
-    go (Repeated x) (MapFrom keyB) e s all = absurd (true≢false (sym s))
     go (MapFrom keyA) (MapFrom keyB) e s all =
         let m : CheckedMap f keyA = checked_map older f keyA checked e in
         map_again pairs k i a j f keyA keyB tB qs c e (record { key = same_type pairs keyA keyB s; value = type; keyed = m.keyed; key_default = m.key_default; default = checked.default }) all
-    go (MapFrom keyA) Singular e s all = absurd (true≢false (sym s))
-    go (MapFrom keyA) (Repeated y) e s all = absurd (true≢false (sym s))
+    go _ _ e s all = absurd (true≢false (sym s))

@@ -1,15 +1,13 @@
 -- What is known of a field from a value that fits it.
-use Rattle.prost_reflect_laws.proofs.Common.{◌≡◌, Bool, true, Option, Some, None, refl, sym, subst, true≢false, and_parts, Kind, FieldForm, Singular, Repeated, MapFrom, Field, Schema, is_message, is_singular, passes, is_list, Value, ScalarValue, MessageValue, ListValue, MapValue, elements_valid, value_valid, own_kind, kind_for, ValueTyped}
+use Rattle.prost_reflect_laws.proofs.Common.{◌≡◌, Bool, true, Option, Some, None, refl, sym, subst, true≢false, and_parts, Kind, FieldForm, Singular, Repeated, Field, Schema, is_message, is_singular, passes, is_list, Value, ScalarValue, MessageValue, ListValue, MapValue, elements_valid, value_valid, own_kind, kind_for, ValueTyped}
 
 pub singular : (c : FieldForm) → is_singular c ≡ true → c ≡ Singular
 singular Singular h = refl
-singular (Repeated packed) h = absurd (true≢false (sym h))
-singular (MapFrom key) h = absurd (true≢false (sym h))
+singular _ h = absurd (true≢false (sym h))
 
 pub repeated : (c : FieldForm) → is_list c ≡ true → (packed : Bool) × (c ≡ Repeated packed)
-repeated Singular h = absurd (true≢false (sym h))
 repeated (Repeated packed) h = (packed, refl)
-repeated (MapFrom key) h = absurd (true≢false (sym h))
+repeated _ h = absurd (true≢false (sym h))
 
 abbrev pub kind_at : Option Field → Option Kind
 kind_at None = None

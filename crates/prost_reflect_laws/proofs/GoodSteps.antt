@@ -235,11 +235,12 @@ unfolding steps allows
 steps_good zero (ContentOf schema T es) rs h g v a = by_records schema 0 T nothing_inside (empty_inside schema) joins_nothing es rs (no_level schema) h g v a
 steps_good (suc k) (ContentOf schema T es) rs h g v a = by_records schema (suc k) T (allows schema k) (meaning schema k) (steps k) es rs (one_level schema k h (steps_good k)) h g v a
 
-pub meaning_good : (schema : Schema) (k T : ℕ) (rs : List Record) → schema_valid schema ≡ true → valid (body_of rs) ≡ true → allows schema k T rs ≡ true → GoodContent k (meaning schema k T rs)
-meaning_good schema k T rs h v a = subst (λ (c : Content). GoodContent k c) (sym (meaning_by_nothing schema k T rs)) (steps_good k (empty schema T) rs h (empty_good schema T k) v a).good
+module _ (schema : Schema) (k T : ℕ) (rs : List Record) where
+  pub meaning_good : schema_valid schema ≡ true → valid (body_of rs) ≡ true → allows schema k T rs ≡ true → GoodContent k (meaning schema k T rs)
+  meaning_good h v a = subst (λ (c : Content). GoodContent k c) (sym (meaning_by_nothing schema k T rs)) (steps_good k (empty schema T) rs h (empty_good schema T k) v a).good
 
-pub meaning_typed : (schema : Schema) (k T : ℕ) (rs : List Record) → schema_valid schema ≡ true → valid (body_of rs) ≡ true → allows schema k T rs ≡ true → WellTyped (meaning schema k T rs)
-meaning_typed schema k T rs h v a = good_well k (meaning schema k T rs) (meaning_good schema k T rs h v a)
+  pub meaning_typed : schema_valid schema ≡ true → valid (body_of rs) ≡ true → allows schema k T rs ≡ true → WellTyped (meaning schema k T rs)
+  meaning_typed h v a = good_well k (meaning schema k T rs) (meaning_good h v a)
 
-pub meaning_levels : (schema : Schema) (k T : ℕ) (rs : List Record) → schema_valid schema ≡ true → valid (body_of rs) ≡ true → allows schema k T rs ≡ true → levels (meaning schema k T rs) ≤ k
-meaning_levels schema k T rs h v a = (meaning_good schema k T rs h v a).low
+  pub meaning_levels : schema_valid schema ≡ true → valid (body_of rs) ≡ true → allows schema k T rs ≡ true → levels (meaning schema k T rs) ≤ k
+  meaning_levels h v a = (meaning_good h v a).low

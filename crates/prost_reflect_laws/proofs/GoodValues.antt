@@ -62,40 +62,41 @@ own n = eq-eqb n n refl
 own_group : (n : ℕ) → is_of_type (GroupOf n) n ≡ true
 own_group n = eq-eqb n n refl
 
-no_elements : (schema : Schema) (kind : Kind) (k : ℕ) → GoodElements schema kind k NoValues
-no_elements schema kind k = record { valid = refl; deep = refl; types = tt; order = refl; low = omega arith }
+module _ (schema : Schema) (kind : Kind) (k : ℕ) where
+  no_elements : GoodElements schema kind k NoValues
+  no_elements = record { valid = refl; deep = refl; types = tt; order = refl; low = omega arith }
 
-one_more : (schema : Schema) (kind : Kind) (k : ℕ) (v : Value) (vs : Values) → GoodElement schema kind k v → GoodElements schema kind k vs → GoodElements schema kind k (Item v vs)
-one_more schema kind k v vs g h =
-    let a : value_levels v ≤ k = g.low in
-    let b : values_levels vs ≤ k = h.low in
-    record { valid = and_from _ _ g.valid h.valid; deep = and_from _ _ g.deep h.deep; types = (g.types, h.types); order = and_from _ _ g.order h.order; low = omega arith }
+  one_more : (v : Value) (vs : Values) → GoodElement schema kind k v → GoodElements schema kind k vs → GoodElements schema kind k (Item v vs)
+  one_more v vs g h =
+      let a : value_levels v ≤ k = g.low in
+      let b : values_levels vs ≤ k = h.low in
+      record { valid = and_from _ _ g.valid h.valid; deep = and_from _ _ g.deep h.deep; types = (g.types, h.types); order = and_from _ _ g.order h.order; low = omega arith }
 
-first_element : (schema : Schema) (kind : Kind) (k : ℕ) (v : Value) (vs : Values) → GoodElements schema kind k (Item v vs) → GoodElement schema kind k v
-first_element schema kind k v vs g =
-    let l : max (value_levels v) (values_levels vs) ≤ k = g.low in
-    record {
-      valid = (and_parts (element_valid kind v) (elements_valid kind vs) g.valid).0;
-      deep = (and_parts (value_passes deep_test v) (values_pass deep_test vs) g.deep).0;
-      types = g.types.0;
-      order = (and_parts (value_ordered v) (values_ordered vs) g.order).0;
-      low = omega arith;
-    }
+  first_element : (v : Value) (vs : Values) → GoodElements schema kind k (Item v vs) → GoodElement schema kind k v
+  first_element v vs g =
+      let l : max (value_levels v) (values_levels vs) ≤ k = g.low in
+      record {
+        valid = (and_parts (element_valid kind v) (elements_valid kind vs) g.valid).0;
+        deep = (and_parts (value_passes deep_test v) (values_pass deep_test vs) g.deep).0;
+        types = g.types.0;
+        order = (and_parts (value_ordered v) (values_ordered vs) g.order).0;
+        low = omega arith;
+      }
 
-more_elements : (schema : Schema) (kind : Kind) (k : ℕ) (v : Value) (vs : Values) → GoodElements schema kind k (Item v vs) → GoodElements schema kind k vs
-more_elements schema kind k v vs g =
-    let l : max (value_levels v) (values_levels vs) ≤ k = g.low in
-    record {
-      valid = (and_parts (element_valid kind v) (elements_valid kind vs) g.valid).1;
-      deep = (and_parts (value_passes deep_test v) (values_pass deep_test vs) g.deep).1;
-      types = g.types.1;
-      order = (and_parts (value_ordered v) (values_ordered vs) g.order).1;
-      low = omega arith;
-    }
+  more_elements : (v : Value) (vs : Values) → GoodElements schema kind k (Item v vs) → GoodElements schema kind k vs
+  more_elements v vs g =
+      let l : max (value_levels v) (values_levels vs) ≤ k = g.low in
+      record {
+        valid = (and_parts (element_valid kind v) (elements_valid kind vs) g.valid).1;
+        deep = (and_parts (value_passes deep_test v) (values_pass deep_test vs) g.deep).1;
+        types = g.types.1;
+        order = (and_parts (value_ordered v) (values_ordered vs) g.order).1;
+        low = omega arith;
+      }
 
-then_good : (schema : Schema) (kind : Kind) (k : ℕ) (vs ws : Values) → GoodElements schema kind k vs → GoodElements schema kind k ws → GoodElements schema kind k (vs and_then ws)
-then_good schema kind k NoValues ws g h = h
-then_good schema kind k (Item v vs) ws g h = one_more schema kind k v (vs and_then ws) (first_element schema kind k v vs g) (then_good schema kind k vs ws (more_elements schema kind k v vs g) h)
+  then_good : (vs ws : Values) → GoodElements schema kind k vs → GoodElements schema kind k ws → GoodElements schema kind k (vs and_then ws)
+  then_good NoValues ws g h = h
+  then_good (Item v vs) ws g h = one_more v (vs and_then ws) (first_element v vs g) (then_good vs ws (more_elements v vs g) h)
 
 -- what a payload gives a list
 element_good : (schema : Schema) (k : ℕ) (allow : AllowsInside) (inner : MeansInside) (further : JoinsInside) (kind : Kind) (p : Payload) → GoodInside schema k allow inner further →
@@ -124,47 +125,47 @@ pub record PairParts (schema : Schema) (key : ValueType) (kind : Kind) (k : ℕ)
   pub types : PairsTyped schema (Some kind) ps
   pub low : pairs_levels ps ≤ k
 
-one_pair : (schema : Schema) (key : ValueType) (kind : Kind) (k : ℕ) (x : Scalar) (v : Value) (ps : Pairs) → kind_takes key.kind x ≡ true → GoodElement schema kind k v → PairParts schema key kind k ps → PairParts schema key kind k (Pair x v ps)
-one_pair schema key kind k x v ps t g h =
-    let a : value_levels v ≤ k = g.low in
-    let b : pairs_levels ps ≤ k = h.low in
-    record { valid = and_from _ _ (and_from _ _ t g.valid) h.valid; deep = and_from _ _ g.deep h.deep; types = (g.types, h.types); low = omega arith }
+module _ (schema : Schema) (key : ValueType) (kind : Kind) (k : ℕ) (x : Scalar) (v : Value) where
+  one_pair : (ps : Pairs) → kind_takes key.kind x ≡ true → GoodElement schema kind k v → PairParts schema key kind k ps → PairParts schema key kind k (Pair x v ps)
+  one_pair ps t g h =
+      let a : value_levels v ≤ k = g.low in
+      let b : pairs_levels ps ≤ k = h.low in
+      record { valid = and_from _ _ (and_from _ _ t g.valid) h.valid; deep = and_from _ _ g.deep h.deep; types = (g.types, h.types); low = omega arith }
 
-put_parts : (schema : Schema) (key : ValueType) (kind : Kind) (k : ℕ) (x : Scalar) (v : Value) (ps : Pairs) → kind_takes key.kind x ≡ true → GoodElement schema kind k v → PairParts schema key kind k ps → PairParts schema key kind k (put x v ps)
-put_parts schema key kind k x v NoPairs t g h = one_pair schema key kind k x v NoPairs t g h
-put_parts schema key kind k x v (Pair y w ps) t g h =
-    let (ab, c) = and_parts (kind_takes key.kind y && element_valid kind w) (pairs_valid (MapFrom key) kind ps) h.valid in
-    let (a, b) = and_parts (kind_takes key.kind y) (element_valid kind w) ab in
-    let (d, e) = and_parts (value_passes deep_test w) (pairs_pass deep_test ps) h.deep in
-    let l : max (value_levels w) (pairs_levels ps) ≤ k = h.low in
-    let low : value_levels w ≤ k = omega arith in
-    let low' : pairs_levels ps ≤ k = omega arith in
-    let rest : PairParts schema key kind k ps = record { valid = c; deep = e; types = h.types.1; low = low' } in
-    let more : PairParts schema key kind k (put x v ps) = put_parts schema key kind k x v ps t g rest in
-    go (scalar_lt x y) (scalar_eq x y) rest (again a b d low more)
-  where
-    again : kind_takes key.kind y ≡ true → element_valid kind w ≡ true → value_passes deep_test w ≡ true → value_levels w ≤ k → PairParts schema key kind k (put x v ps) → PairParts schema key kind k (Pair y w (put x v ps))
-    again a b d low more =
-        let l : pairs_levels (put x v ps) ≤ k = more.low in
-        record { valid = and_from _ _ (and_from _ _ a b) more.valid; deep = and_from _ _ d more.deep; types = (h.types.0, more.types); low = omega arith }
+  put_parts : (ps : Pairs) → kind_takes key.kind x ≡ true → GoodElement schema kind k v → PairParts schema key kind k ps → PairParts schema key kind k (put x v ps)
+  put_parts NoPairs t g h = one_pair NoPairs t g h
+  put_parts (Pair y w ps) t g h =
+      let (ab, c) = and_parts (kind_takes key.kind y && element_valid kind w) (pairs_valid (MapFrom key) kind ps) h.valid in
+      let (a, b) = and_parts (kind_takes key.kind y) (element_valid kind w) ab in
+      let (d, e) = and_parts (value_passes deep_test w) (pairs_pass deep_test ps) h.deep in
+      let l : max (value_levels w) (pairs_levels ps) ≤ k = h.low in
+      let low : value_levels w ≤ k = omega arith in
+      let low' : pairs_levels ps ≤ k = omega arith in
+      let rest : PairParts schema key kind k ps = record { valid = c; deep = e; types = h.types.1; low = low' } in
+      let more : PairParts schema key kind k (put x v ps) = put_parts ps t g rest in
+      go (scalar_lt x y) (scalar_eq x y) rest (again a b d low more)
+    where
+      again : kind_takes key.kind y ≡ true → element_valid kind w ≡ true → value_passes deep_test w ≡ true → value_levels w ≤ k → PairParts schema key kind k (put x v ps) → PairParts schema key kind k (Pair y w (put x v ps))
+      again a b d low more =
+          let l : pairs_levels (put x v ps) ≤ k = more.low in
+          record { valid = and_from _ _ (and_from _ _ a b) more.valid; deep = and_from _ _ d more.deep; types = (h.types.0, more.types); low = omega arith }
 
-    go : (m n : Bool) → PairParts schema key kind k ps → PairParts schema key kind k (Pair y w (put x v ps)) → PairParts schema key kind k (cond m (Pair x v (Pair y w ps)) (cond n (Pair x v ps) (Pair y w (put x v ps))))
-    go true n rest more = one_pair schema key kind k x v (Pair y w ps) t g h
-    go false true rest more = one_pair schema key kind k x v ps t g rest
-    go false false rest more = more
+      go : (m n : Bool) → PairParts schema key kind k ps → PairParts schema key kind k (Pair y w (put x v ps)) → PairParts schema key kind k (cond m (Pair x v (Pair y w ps)) (cond n (Pair x v ps) (Pair y w (put x v ps))))
+      go true n rest more = one_pair (Pair y w ps) t g h
+      go false true rest more = one_pair ps t g rest
+      go false false rest more = more
 
-put_good : (schema : Schema) (key : ValueType) (kind : Kind) (k : ℕ) (x : Scalar) (v : Value) (ps : Pairs) → kind_takes key.kind x ≡ true → GoodElement schema kind k v → GoodPairs schema key kind k ps → GoodPairs schema key kind k (put x v ps)
-put_good schema key kind k x v ps t g h =
-    let p : PairParts schema key kind k (put x v ps) = put_parts schema key kind k x v ps t g (record { valid = h.valid; deep = h.deep; types = h.types; low = h.low }) in
-    record { valid = p.valid; deep = p.deep; types = p.types; order = put_ordered x v ps g.order h.order; low = p.low }
+  put_good : (ps : Pairs) → kind_takes key.kind x ≡ true → GoodElement schema kind k v → GoodPairs schema key kind k ps → GoodPairs schema key kind k (put x v ps)
+  put_good ps t g h =
+      let p : PairParts schema key kind k (put x v ps) = put_parts ps t g (record { valid = h.valid; deep = h.deep; types = h.types; low = h.low }) in
+      record { valid = p.valid; deep = p.deep; types = p.types; order = put_ordered x v ps g.order h.order; low = p.low }
 
 key_good : (key : ValueType) (rs : List Record) → is_key_kind key.kind ≡ true → valid (body_of rs) ≡ true → kind_takes key.kind (entry_key key rs) ≡ true
 key_good key rs h v = go key.kind h
   where
     go : (kind : Kind) → is_key_kind kind ≡ true → kind_takes kind (elim kind [ ScalarOf kind ↦ last_or kind (kind_default kind) (numbered 1 rs) | _ ↦ key.default ]) ≡ true
     go (ScalarOf kind) h = last_or_valid kind (kind_default kind) (numbered 1 rs) (default_valid_key kind h) (numbered_valid 1 rs v) (λ p e. key_stays kind p h)
-    go (MessageOf T) h = absurd (true≢false (sym h))
-    go (GroupOf T) h = absurd (true≢false (sym h))
+    go _ h = absurd (true≢false (sym h))
 
 joined_allowed : (schema : Schema) (k T : ℕ) (allow : AllowsInside) (inner : MeansInside) (further : JoinsInside) (shape : Payload → Bool) (ps : List Payload) → GoodInside schema k allow inner further → allow T [] ≡ true →
     list_all (λ p. shape p && passes (body p) (allow T)) ps ≡ true → allow T (joined ps) ≡ true
@@ -233,8 +234,7 @@ single_good schema k f (MessageValue c) s g d =
     nothing : (b : Bool) → not (b && false) ≡ true
     nothing true = refl
     nothing false = refl
-single_good schema k f (ListValue vs) s g d = absurd (true≢false (sym g.valid))
-single_good schema k f (MapValue ps) s g d = absurd (true≢false (sym g.valid))
+single_good schema k f _ s g d = absurd (true≢false (sym g.valid))
 
 -- the message that is there, or an empty one
 pub content_good : (schema : Schema) (k T : ℕ) (allow : AllowsInside) (inner : MeansInside) (further : JoinsInside) (f : Field) (old : Option Value) (rs : List Record) → GoodInside schema k allow inner further → f.form ≡ Singular → is_message f.value_type.kind ≡ true →
@@ -278,56 +278,57 @@ one_joined_good schema k allow inner further f old p v g given s spelt a stray e
         let same_value : MessageValue (further (content_in inner T old) (records_in p)) ≡ v = cc in
         subst (λ (x : Value). GoodValue schema (Some f) k x) same_value (single_good schema k f (MessageValue (further (content_in inner T old) (records_in p))) s (subst (λ (x : Kind). GoodElement schema x k (MessageValue (further (content_in inner T old) (records_in p)))) (sym same) it) refl)
 
--- a list of the field
-values_good : (schema : Schema) (k : ℕ) (f : Field) (packed : Bool) (old : Option Value) → f.form ≡ Repeated packed → ((v : Value) → old ≡ Some v → GoodValue schema (Some f) k v) → GoodElements schema f.value_type.kind k (values_in old)
-values_good schema k f packed None s old = no_elements schema f.value_type.kind k
-values_good schema k f packed (Some (ScalarValue v)) s old = no_elements schema f.value_type.kind k
-values_good schema k f packed (Some (MessageValue c)) s old = no_elements schema f.value_type.kind k
-values_good schema k f packed (Some (MapValue ps)) s old = no_elements schema f.value_type.kind k
-values_good schema k f packed (Some (ListValue vs)) s old =
-    let here : GoodValue schema (Some f) k (ListValue vs) = old (ListValue vs) refl in
-    record { valid = (and_parts (is_list f.form) (elements_valid f.value_type.kind vs) here.valid).1; deep = here.deep; types = field_typed schema f (ListValue vs) here.valid here.types; order = here.order; low = here.low }
+module _ (schema : Schema) (k : ℕ) (f : Field) where
+  -- a list of the field
+  values_good : (packed : Bool) (old : Option Value) → f.form ≡ Repeated packed → ((v : Value) → old ≡ Some v → GoodValue schema (Some f) k v) → GoodElements schema f.value_type.kind k (values_in old)
+  values_good packed None s old = no_elements schema f.value_type.kind k
+  values_good packed (Some (ScalarValue v)) s old = no_elements schema f.value_type.kind k
+  values_good packed (Some (MessageValue c)) s old = no_elements schema f.value_type.kind k
+  values_good packed (Some (MapValue ps)) s old = no_elements schema f.value_type.kind k
+  values_good packed (Some (ListValue vs)) s old =
+      let here : GoodValue schema (Some f) k (ListValue vs) = old (ListValue vs) refl in
+      record { valid = (and_parts (is_list f.form) (elements_valid f.value_type.kind vs) here.valid).1; deep = here.deep; types = field_typed schema f (ListValue vs) here.valid here.types; order = here.order; low = here.low }
 
-list_given : (schema : Schema) (k : ℕ) (f : Field) (packed : Bool) (vs : Values) (v : Value) → f.form ≡ Repeated packed → GoodElements schema f.value_type.kind k vs → present_list vs ≡ Some v → GoodValue schema (Some f) k v
-list_given schema k f packed NoValues v s g e = absurd cc
-list_given schema k f packed (Item w ws) v s g e =
-    let valid : value_valid f (ListValue (Item w ws)) ≡ true = and_from _ _ (ap is_list s) g.valid in
-    let it : GoodValue schema (Some f) k (ListValue (Item w ws)) = record {
-      valid = valid;
-      filled = ap (λ c. not (is_empty_value c (ListValue (Item w ws)))) s;
-      default = ap (λ c. not (is_singular c && is_default_of f.value_type (ListValue (Item w ws)))) s;
-      deep = g.deep;
-      types = typed_field schema f (ListValue (Item w ws)) valid g.types;
-      order = g.order;
-      low = g.low;
-    } in
-    let same : ListValue (Item w ws) ≡ v = cc in
-    subst (λ (x : Value). GoodValue schema (Some f) k x) same it
+  list_given : (packed : Bool) (vs : Values) (v : Value) → f.form ≡ Repeated packed → GoodElements schema f.value_type.kind k vs → present_list vs ≡ Some v → GoodValue schema (Some f) k v
+  list_given packed NoValues v s g e = absurd cc
+  list_given packed (Item w ws) v s g e =
+      let valid : value_valid f (ListValue (Item w ws)) ≡ true = and_from _ _ (ap is_list s) g.valid in
+      let it : GoodValue schema (Some f) k (ListValue (Item w ws)) = record {
+        valid = valid;
+        filled = ap (λ c. not (is_empty_value c (ListValue (Item w ws)))) s;
+        default = ap (λ c. not (is_singular c && is_default_of f.value_type (ListValue (Item w ws)))) s;
+        deep = g.deep;
+        types = typed_field schema f (ListValue (Item w ws)) valid g.types;
+        order = g.order;
+        low = g.low;
+      } in
+      let same : ListValue (Item w ws) ≡ v = cc in
+      subst (λ (x : Value). GoodValue schema (Some f) k x) same it
 
--- a map of the field
-pairs_good : (schema : Schema) (k : ℕ) (f : Field) (key : ValueType) (old : Option Value) → f.form ≡ MapFrom key → ((v : Value) → old ≡ Some v → GoodValue schema (Some f) k v) → GoodPairs schema key f.value_type.kind k (pairs_in old)
-pairs_good schema k f key None s old = no_pairs schema key f.value_type.kind k
-pairs_good schema k f key (Some (ScalarValue v)) s old = no_pairs schema key f.value_type.kind k
-pairs_good schema k f key (Some (MessageValue c)) s old = no_pairs schema key f.value_type.kind k
-pairs_good schema k f key (Some (ListValue vs)) s old = no_pairs schema key f.value_type.kind k
-pairs_good schema k f key (Some (MapValue ps)) s old =
-    let here : GoodValue schema (Some f) k (MapValue ps) = old (MapValue ps) refl in
-    record { valid = ap (λ c. pairs_valid c f.value_type.kind ps) (sym s) ∙ here.valid; deep = here.deep; types = here.types; order = here.order; low = here.low }
+  -- a map of the field
+  pairs_good : (key : ValueType) (old : Option Value) → f.form ≡ MapFrom key → ((v : Value) → old ≡ Some v → GoodValue schema (Some f) k v) → GoodPairs schema key f.value_type.kind k (pairs_in old)
+  pairs_good key None s old = no_pairs schema key f.value_type.kind k
+  pairs_good key (Some (ScalarValue v)) s old = no_pairs schema key f.value_type.kind k
+  pairs_good key (Some (MessageValue c)) s old = no_pairs schema key f.value_type.kind k
+  pairs_good key (Some (ListValue vs)) s old = no_pairs schema key f.value_type.kind k
+  pairs_good key (Some (MapValue ps)) s old =
+      let here : GoodValue schema (Some f) k (MapValue ps) = old (MapValue ps) refl in
+      record { valid = ap (λ c. pairs_valid c f.value_type.kind ps) (sym s) ∙ here.valid; deep = here.deep; types = here.types; order = here.order; low = here.low }
 
-map_given : (schema : Schema) (k : ℕ) (f : Field) (key : ValueType) (ps : Pairs) (v : Value) → f.form ≡ MapFrom key → GoodPairs schema key f.value_type.kind k ps → present_map ps ≡ Some v → GoodValue schema (Some f) k v
-map_given schema k f key NoPairs v s g e = absurd cc
-map_given schema k f key (Pair x w ps) v s g e =
-    let it : GoodValue schema (Some f) k (MapValue (Pair x w ps)) = record {
-      valid = ap (λ c. pairs_valid c f.value_type.kind (Pair x w ps)) s ∙ g.valid;
-      filled = ap (λ c. not (is_empty_value c (MapValue (Pair x w ps)))) s;
-      default = ap (λ c. not (is_singular c && is_default_of f.value_type (MapValue (Pair x w ps)))) s;
-      deep = g.deep;
-      types = g.types;
-      order = g.order;
-      low = g.low;
-    } in
-    let same : MapValue (Pair x w ps) ≡ v = cc in
-    subst (λ (x : Value). GoodValue schema (Some f) k x) same it
+  map_given : (key : ValueType) (ps : Pairs) (v : Value) → f.form ≡ MapFrom key → GoodPairs schema key f.value_type.kind k ps → present_map ps ≡ Some v → GoodValue schema (Some f) k v
+  map_given key NoPairs v s g e = absurd cc
+  map_given key (Pair x w ps) v s g e =
+      let it : GoodValue schema (Some f) k (MapValue (Pair x w ps)) = record {
+        valid = ap (λ c. pairs_valid c f.value_type.kind (Pair x w ps)) s ∙ g.valid;
+        filled = ap (λ c. not (is_empty_value c (MapValue (Pair x w ps)))) s;
+        default = ap (λ c. not (is_singular c && is_default_of f.value_type (MapValue (Pair x w ps)))) s;
+        deep = g.deep;
+        types = g.types;
+        order = g.order;
+        low = g.low;
+      } in
+      let same : MapValue (Pair x w ps) ≡ v = cc in
+      subst (λ (x : Value). GoodValue schema (Some f) k x) same it
 
 -- a payload of the field that is read as a value
 abbrev pub NoStray : FieldForm → ValueType → Payload → Bool

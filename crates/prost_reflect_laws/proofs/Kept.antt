@@ -116,9 +116,8 @@ said None w e = (refl, refl)
 said (Some f) w e = go (is_empty_value f.form w) (is_stored_default f w) e
   where
     go : (a b : Bool) → cond (a || b) None (Some w) ≡ Some w → (not a ≡ true) × (not b ≡ true)
-    go true b e = absurd cc
-    go false true e = absurd cc
     go false false e = (refl, refl)
+    go _ _ e = absurd cc
 
 pub filled_kept : Keeps fit_test filled_test
 filled_kept = record { stored = λ fields n v es h e. (said (field_of fields n) (kept_inside v) e).0; unknown = λ fields n p h. refl }
@@ -242,9 +241,8 @@ said_whole None v h k = refl
 said_whole (Some f) v h k = go (is_empty_value f.form v) (is_stored_default f v) h k
   where
     go : (a b : Bool) → not a ≡ true → not b ≡ true → cond (a || b) None (Some v) ≡ Some v
-    go true b h k = absurd (true≢false (sym h))
-    go false true h k = absurd (true≢false (sym k))
     go false false h k = refl
+    go _ b h k = cc
 
 mutual
   pub kept_same : (c : Content) → everywhere filled_test c ≡ true → everywhere default_test c ≡ true → kept c ≡ c

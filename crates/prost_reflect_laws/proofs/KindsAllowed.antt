@@ -1,10 +1,9 @@
 -- Payloads of a wire type that a field takes are allowed, but for what is inside them.
-use Rattle.prost_reflect_laws.proofs.Common.{◌≡◌, ◌≢◌, ℕ, zero, suc, ◌<◌, Bool, true, false, ◌⊎◌, inl, inr, List, [], ◌∷◌, length, Option, Some, None, refl, sym, ap, ◌∙◌, arith, length-append, true≢false, is_some, if◌then◌else◌, is_utf8, eqb-true, DecodeError, WireType, AreBytes, ◌>>=◌, Plain, Var, Fix64, Len, Fix32, Payload, Flat, SpellsPlain, wire_code, wire_of, plain_wire, plain_at, ScalarKind, Double, Float, Int64, Uint64, Int32, Fixed64, Fixed32, BoolKind, StringKind, BytesKind, Uint32, Enum, Sfixed32, Sfixed64, Sint32, Sint64, kind_wire, ValueType, FieldForm, Singular, Repeated, MapFrom, is_map, AllowsInside, fits, one_allowed, packed_allowed, field_allowed, plains_within, PlainFront, PlainFault, ElementFault, ElementEnds, ElementPasses, BehindElement, same_wire, wire_known, plain_read, varint_some}
+use Rattle.prost_reflect_laws.proofs.Common.{or_left, or_right, ◌≡◌, ◌≢◌, ℕ, zero, suc, ◌<◌, Bool, true, false, ◌⊎◌, inl, inr, List, [], ◌∷◌, length, Option, Some, None, refl, sym, ap, ◌∙◌, arith, length-append, true≢false, is_some, if◌then◌else◌, is_utf8, eqb-true, DecodeError, WireType, AreBytes, ◌>>=◌, Plain, Var, Fix64, Len, Fix32, Payload, Flat, SpellsPlain, wire_code, wire_of, plain_wire, plain_at, ScalarKind, Double, Float, Int64, Uint64, Int32, Fixed64, Fixed32, BoolKind, StringKind, BytesKind, Uint32, Enum, Sfixed32, Sfixed64, Sint32, Sint64, kind_wire, ValueType, FieldForm, Singular, Repeated, MapFrom, is_map, AllowsInside, fits, one_allowed, packed_allowed, field_allowed, plains_within, PlainFront, PlainFault, ElementFault, ElementEnds, ElementPasses, BehindElement, same_wire, wire_known, plain_read, varint_some}
 use Rattle.prost_reflect_wire.specs.declared.error.DecodeError.TheVariants as errors
 use Rattle.prost_reflect_wire.specs.declared.key.WireType.TheVariants as wires
 use Rattle.prost_reflect_wire.specs.Scalar as scalars
 use Rattle.prost_reflect_laws.proofs.BodyFronts.{plain_bytes}
-use Rattle.prost_reflect_laws.proofs.KindsTaken.{or_first, or_second}
 use Rattle.prost_reflect_laws.proofs.FrontOrFault.{SomeFault, SomePlain, plain_or}
 
 -- WIRE TYPES
@@ -76,11 +75,11 @@ wire_fits kind p h = absurd cc
 
 pub one_field : (k : ℕ) (inner : AllowsInside) (form : FieldForm) (value_type : ValueType) (p : Payload) → is_map form ≡ false → one_allowed inner value_type.kind p ≡ true → field_allowed k inner form value_type p ≡ true
 one_field k inner Singular value_type p m h = h
-one_field k inner (Repeated packed) value_type p m h = or_first (one_allowed inner value_type.kind p) (packed_allowed value_type.kind p) h
+one_field k inner (Repeated packed) value_type p m h = or_left (one_allowed inner value_type.kind p) (packed_allowed value_type.kind p) h
 one_field k inner (MapFrom key) value_type p m h = absurd (true≢false m)
 
 pub packed_field : (k : ℕ) (inner : AllowsInside) (packed : Bool) (value_type : ValueType) (p : Payload) → packed_allowed value_type.kind p ≡ true → field_allowed k inner (Repeated packed) value_type p ≡ true
-packed_field k inner packed value_type p h = or_second (one_allowed inner value_type.kind p) (packed_allowed value_type.kind p) h
+packed_field k inner packed value_type p h = or_right (one_allowed inner value_type.kind p) (packed_allowed value_type.kind p) h
 
 -- PACKED RECORDS
 

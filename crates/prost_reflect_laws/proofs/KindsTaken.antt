@@ -1,5 +1,5 @@
 -- Which payloads a field takes, by their wire types.
-use Rattle.prost_reflect_laws.proofs.Common.{◌≡◌, ℕ, Bool, true, false, ◌&&◌, ◌||◌, List, Some, None, refl, sym, ap, ◌∙◌, true≢false, is_some, if◌then◌else◌, list_all, is_utf8, and_parts, or-false, Var, Fix64, Len, Fix32, Records, Payload, Flat, Group, payload_wire, ScalarKind, Double, Float, Int64, Uint64, Int32, Fixed64, Fixed32, BoolKind, StringKind, BytesKind, Uint32, Enum, Sfixed32, Sfixed64, Sint32, Sint64, kind_wire, Kind, ScalarOf, MessageOf, GroupOf, ValueType, FieldForm, Singular, Repeated, MapFrom, is_packable, passes, is_map, AllowsInside, fits, body, is_len, is_group_payload, one_allowed, packed_allowed, has_level, in_entry_allowed, field_allowed, unpacked, same_wire, one_takes, packed_takes, takes, plain_no_group}
+use Rattle.prost_reflect_laws.proofs.Common.{or_left, or_right, ◌≡◌, ℕ, Bool, true, false, ◌&&◌, ◌||◌, List, Some, None, refl, sym, ap, ◌∙◌, true≢false, is_some, if◌then◌else◌, list_all, is_utf8, and_parts, or-false, Var, Fix64, Len, Fix32, Records, Payload, Flat, Group, payload_wire, ScalarKind, Double, Float, Int64, Uint64, Int32, Fixed64, Fixed32, BoolKind, StringKind, BytesKind, Uint32, Enum, Sfixed32, Sfixed64, Sint32, Sint64, kind_wire, Kind, ScalarOf, MessageOf, GroupOf, ValueType, FieldForm, Singular, Repeated, MapFrom, is_packable, passes, is_map, AllowsInside, fits, body, is_len, is_group_payload, one_allowed, packed_allowed, has_level, in_entry_allowed, field_allowed, unpacked, same_wire, one_takes, packed_takes, takes, plain_no_group}
 use Rattle.prost_reflect_wire.specs.declared.key.WireType.TheVariants as wires
 use Rattle.prost_reflect_wire.specs.Scalar as scalars
 
@@ -42,20 +42,12 @@ packable_no_len kind bytes h = refl
 abbrev pub one_or_packed : AllowsInside → Kind → Payload → Bool
 one_or_packed inner kind p = one_allowed inner kind p || packed_allowed kind p
 
-pub or_first : (a b : Bool) → a ≡ true → (a || b) ≡ true
-or_first true b e = refl
-or_first false b e = absurd (true≢false (sym e))
-
-pub or_second : (a b : Bool) → b ≡ true → (a || b) ≡ true
-or_second true b e = refl
-or_second false b e = e
-
 or_other : (a b : Bool) → a ≡ false → (a || b) ≡ true → b ≡ true
 or_other true b e h = absurd (true≢false e)
 or_other false b e h = h
 
 pub allowed_one : (k : ℕ) (inner : AllowsInside) (form : FieldForm) (value_type : ValueType) (p : Payload) → is_map form ≡ false → field_allowed k inner form value_type p ≡ true → one_or_packed inner value_type.kind p ≡ true
-allowed_one k inner Singular value_type p m h = or_first (one_allowed inner value_type.kind p) (packed_allowed value_type.kind p) h
+allowed_one k inner Singular value_type p m h = or_left (one_allowed inner value_type.kind p) (packed_allowed value_type.kind p) h
 allowed_one k inner (Repeated packed) value_type p m h = h
 allowed_one k inner (MapFrom key) value_type p m h = absurd (true≢false m)
 
@@ -106,8 +98,8 @@ either_taken : (inner : AllowsInside) (kind : Kind) (p : Payload) → one_or_pac
 either_taken inner kind p h = go (one_allowed inner kind p) refl
   where
     go : (b : Bool) → one_allowed inner kind p ≡ b → (one_takes kind (payload_wire p) || packed_takes kind (payload_wire p)) ≡ true
-    go true e = or_first (one_takes kind (payload_wire p)) (packed_takes kind (payload_wire p)) (one_taken inner kind p e)
-    go false e = or_second (one_takes kind (payload_wire p)) (packed_takes kind (payload_wire p)) (packed_taken kind p (or_other (one_allowed inner kind p) (packed_allowed kind p) e h))
+    go true e = or_left (one_takes kind (payload_wire p)) (packed_takes kind (payload_wire p)) (one_taken inner kind p e)
+    go false e = or_right (one_takes kind (payload_wire p)) (packed_takes kind (payload_wire p)) (packed_taken kind p (or_other (one_allowed inner kind p) (packed_allowed kind p) e h))
 
 -- What a field allows has a wire type that it takes.
 pub field_taken : (k : ℕ) (inner : AllowsInside) (form : FieldForm) (value_type : ValueType) (p : Payload) → field_allowed k inner form value_type p ≡ true → takes form value_type.kind (payload_wire p) ≡ true

@@ -1,4 +1,4 @@
-pub mod Common
+mod Common
 pub mod BodyFronts
 pub mod Places
 pub mod KindsTaken
@@ -40,8 +40,8 @@ pub mod RecordReads
 pub mod StoredTyped
 pub mod Everywhere
 pub mod WrittenEntries
-mod Alike
-mod Matches
+pub mod Alike
+pub mod Matches
 mod Fellows
 pub mod Older
 pub mod ByNumber

@@ -1,5 +1,5 @@
 -- A list, carried through a reduction: packing may differ.
-use Rattle.prost_reflect_laws.proofs.Common.{◌≡◌, ℕ, Bool, true, false, cond, not, ◌&&◌, ◌||◌, List, [], ◌∷◌, ◌++◌, map, filter, flat_map, eq-eqb, Option, Some, None, refl, ap, ap₂, sym, subst, ◌∙◌, true≢false, append-nil, ⊤, is_some, list_all, and_parts, and_from, not-true, Plain, Len, Payload, Flat, payload_valid, Scalar, ScalarKind, elem, scalar_valid, Kind, ScalarOf, MessageOf, GroupOf, ValueType, Repeated, Field, is_packable, is_packable_kind, Value, ScalarValue, MessageValue, ListValue, MapValue, Values, NoValues, Item, values_from, AllowsInside, or_none, unpacked, records_in, is_stray, element_payloads_in, one_allowed, packed_allowed, MeansInside, element, scalar_values, present_list, end_to_end, list_payloads, value_payload, element_payloads, elements_valid, TypePairs, same_kind, element_allowed}
+use Rattle.prost_reflect_laws.proofs.Common.{◌≡◌, ℕ, Bool, true, false, cond, not, ◌&&◌, ◌||◌, List, [], ◌∷◌, ◌++◌, map, filter, flat_map, eq-eqb, Option, Some, None, refl, ap, ap₂, sym, subst, ◌∙◌, true≢false, append-nil, ⊤, is_some, list_all, and_parts, and_from, not-true, Plain, Len, Payload, Flat, payload_valid, Scalar, ScalarKind, elem, scalar_valid, Kind, ScalarOf, MessageOf, GroupOf, ValueType, Repeated, Field, is_packable, is_packable_kind, Value, ScalarValue, Values, NoValues, Item, values_from, AllowsInside, or_none, unpacked, records_in, is_stray, element_payloads_in, one_allowed, packed_allowed, MeansInside, element, scalar_values, present_list, end_to_end, list_payloads, value_payload, element_payloads, elements_valid, TypePairs, same_kind, element_allowed}
 use Rattle.prost_reflect_laws.proofs.Packed.{unpacked_back}
 use Rattle.prost_reflect_laws.proofs.Spelt.{SoundPayloads}
 use Rattle.prost_reflect_laws.proofs.Valid.{scalar_sound, end_bytes, packed_sound}
@@ -48,8 +48,6 @@ pub record ListReads (a : AllowsInside) (j : MeansInside) (kB : Kind) (ps : List
 
 list_reads : (a : AllowsInside) (j : MeansInside) (kA kB : Kind) (vs ws : Values) → EachReads a j kA kB vs ws → ListReads a j kB (element_payloads kA vs) ws
 list_reads a j kA kB NoValues NoValues h = record { kept = refl; none = refl; values = refl; strays = refl; means = refl; allowed = refl }
-list_reads a j kA kB NoValues (Item w ws) h = absurd h
-list_reads a j kA kB (Item v vs) NoValues h = absurd h
 list_reads a j kA kB (Item v vs) (Item w ws) (one, more) =
     let p : Payload = value_payload kA v in
     let ps : List Payload = element_payloads kA vs in
@@ -62,6 +60,7 @@ list_reads a j kA kB (Item v vs) (Item w ws) (one, more) =
       means = ap (λ l. values_from (l ++ flat_map (element j kB) ps)) one.means ∙ ap (Item w) rest.means;
       allowed = ap₂ (λ b c. (b || packed_allowed kB p) && c) one.allowed rest.allowed;
     }
+list_reads a j kA kB _ _ h = absurd h
 
 -- WHAT THE ELEMENTS ARE READ OF
 
@@ -79,80 +78,79 @@ source_parts a kB p h =
     let (allowed, stays) = and_parts (element_allowed a kB p) (not (is_stray kB p)) rest in
     record { valid = ok; allowed = allowed; stays = not-true (is_stray kB p) stays }
 
-elements_again : (pairs : TypePairs) (k : ℕ) (i : MeansInside) (a : AllowsInside) (j : MeansInside) (kA kB : Kind) (ps : List Payload) → Carries pairs k i a j → same_kind pairs kA kB ≡ true → list_all (list_source a kB) ps ≡ true →
-    EachAgain a j kA kB (values_from (flat_map (element i kA) ps)) (values_from (flat_map (element j kB) ps))
-elements_again pairs k i a j kA kB [] c h all = tt
-elements_again pairs k i a j (ScalarOf kA) (ScalarOf kB) (p ∷ ps) c h all =
-    let (one, more) = and_parts (list_source a (ScalarOf kB) p) (list_all (list_source a (ScalarOf kB)) ps) all in
-    let s : Sources a (ScalarOf kB) p = source_parts a (ScalarOf kB) p one in
-    go s.valid s.stays (elem kA p) refl (elements_again pairs k i a j (ScalarOf kA) (ScalarOf kB) ps c h more)
-  where
-    older : List Value
-    older = flat_map (element i (ScalarOf kA)) ps
+module _ (pairs : TypePairs) where
+  elements_again : (k : ℕ) (i : MeansInside) (a : AllowsInside) (j : MeansInside) (kA kB : Kind) (ps : List Payload) → Carries pairs k i a j → same_kind pairs kA kB ≡ true → list_all (list_source a kB) ps ≡ true →
+      EachAgain a j kA kB (values_from (flat_map (element i kA) ps)) (values_from (flat_map (element j kB) ps))
+  elements_again k i a j kA kB [] c h all = tt
+  elements_again k i a j (ScalarOf kA) (ScalarOf kB) (p ∷ ps) c h all =
+      let (one, more) = and_parts (list_source a (ScalarOf kB) p) (list_all (list_source a (ScalarOf kB)) ps) all in
+      let s : Sources a (ScalarOf kB) p = source_parts a (ScalarOf kB) p one in
+      go s.valid s.stays (elem kA p) refl (elements_again k i a j (ScalarOf kA) (ScalarOf kB) ps c h more)
+    where
+      older : List Value
+      older = flat_map (element i (ScalarOf kA)) ps
 
-    newer : List Value
-    newer = flat_map (element j (ScalarOf kB)) ps
+      newer : List Value
+      newer = flat_map (element j (ScalarOf kB)) ps
 
-    go : payload_valid p ≡ true → is_stray (ScalarOf kB) p ≡ false → (o : Option Scalar) → elem kA p ≡ o → EachAgain a j (ScalarOf kA) (ScalarOf kB) (values_from (flat_map (element i (ScalarOf kA)) ps)) (values_from (flat_map (element j (ScalarOf kB)) ps)) →
-        EachAgain a j (ScalarOf kA) (ScalarOf kB) (values_from (scalar_values o ++ flat_map (element i (ScalarOf kA)) ps)) (values_from (scalar_values (elem kB p) ++ flat_map (element j (ScalarOf kB)) ps))
-    go ok stays None e more = subst (λ x. EachAgain a j (ScalarOf kA) (ScalarOf kB) (values_from older) (values_from (scalar_values x ++ newer))) (sym ((alike kA kB h).reads p ∙ e)) more
-    go ok stays (Some v) e more = subst (λ x. EachAgain a j (ScalarOf kA) (ScalarOf kB) (Item (ScalarValue v) (values_from older)) (values_from (scalar_values x ++ newer))) (sym ((alike kA kB h).reads p ∙ e))
-        (scalar_again pairs a j kA kB v h (read_scalar_valid pairs kA kB p v h ok stays e), more)
-elements_again pairs k i a j (MessageOf A) (MessageOf B) (p ∷ ps) c h all =
-    let (one, more) = and_parts (list_source a (MessageOf B) p) (list_all (list_source a (MessageOf B)) ps) all in
-    let s : Sources a (MessageOf B) p = source_parts a (MessageOf B) p one in
-    (message_again pairs k i a j A B (records_in p) c h (inside_spelled p s.valid) (message_inside a (MessageOf B) B p (eq-eqb B B refl) s.allowed), elements_again pairs k i a j (MessageOf A) (MessageOf B) ps c h more)
-elements_again pairs k i a j (GroupOf A) (GroupOf B) (p ∷ ps) c h all =
-    let (one, more) = and_parts (list_source a (GroupOf B) p) (list_all (list_source a (GroupOf B)) ps) all in
-    let s : Sources a (GroupOf B) p = source_parts a (GroupOf B) p one in
-    (group_again pairs k i a j A B (records_in p) c h (inside_spelled p s.valid) (message_inside a (GroupOf B) B p (eq-eqb B B refl) s.allowed), elements_again pairs k i a j (GroupOf A) (GroupOf B) ps c h more)
-elements_again pairs k i a j _ _ (p ∷ ps) c h all = absurd (true≢false (sym h))
+      go : payload_valid p ≡ true → is_stray (ScalarOf kB) p ≡ false → (o : Option Scalar) → elem kA p ≡ o → EachAgain a j (ScalarOf kA) (ScalarOf kB) (values_from (flat_map (element i (ScalarOf kA)) ps)) (values_from (flat_map (element j (ScalarOf kB)) ps)) →
+          EachAgain a j (ScalarOf kA) (ScalarOf kB) (values_from (scalar_values o ++ flat_map (element i (ScalarOf kA)) ps)) (values_from (scalar_values (elem kB p) ++ flat_map (element j (ScalarOf kB)) ps))
+      go ok stays None e more = subst (λ x. EachAgain a j (ScalarOf kA) (ScalarOf kB) (values_from older) (values_from (scalar_values x ++ newer))) (sym ((alike kA kB h).reads p ∙ e)) more
+      go ok stays (Some v) e more = subst (λ x. EachAgain a j (ScalarOf kA) (ScalarOf kB) (Item (ScalarValue v) (values_from older)) (values_from (scalar_values x ++ newer))) (sym ((alike kA kB h).reads p ∙ e))
+          (scalar_again pairs a j kA kB v h (read_scalar_valid pairs kA kB p v h ok stays e), more)
+  elements_again k i a j (MessageOf A) (MessageOf B) (p ∷ ps) c h all =
+      let (one, more) = and_parts (list_source a (MessageOf B) p) (list_all (list_source a (MessageOf B)) ps) all in
+      let s : Sources a (MessageOf B) p = source_parts a (MessageOf B) p one in
+      (message_again pairs k i a j A B (records_in p) c h (inside_spelled p s.valid) (message_inside a (MessageOf B) B p (eq-eqb B B refl) s.allowed), elements_again k i a j (MessageOf A) (MessageOf B) ps c h more)
+  elements_again k i a j (GroupOf A) (GroupOf B) (p ∷ ps) c h all =
+      let (one, more) = and_parts (list_source a (GroupOf B) p) (list_all (list_source a (GroupOf B)) ps) all in
+      let s : Sources a (GroupOf B) p = source_parts a (GroupOf B) p one in
+      (group_again pairs k i a j A B (records_in p) c h (inside_spelled p s.valid) (message_inside a (GroupOf B) B p (eq-eqb B B refl) s.allowed), elements_again k i a j (GroupOf A) (GroupOf B) ps c h more)
+  elements_again k i a j _ _ (p ∷ ps) c h all = absurd (true≢false (sym h))
 
--- SCALARS END TO END
+  -- SCALARS END TO END
 
-scalars_same : (pairs : TypePairs) (i j : MeansInside) (kA kB : ScalarKind) (ps : List Payload) → same_kind pairs (ScalarOf kA) (ScalarOf kB) ≡ true → flat_map (element j (ScalarOf kB)) ps ≡ flat_map (element i (ScalarOf kA)) ps
-scalars_same pairs i j kA kB [] h = refl
-scalars_same pairs i j kA kB (p ∷ ps) h = ap₂ (λ o l. scalar_values o ++ l) ((alike kA kB h).reads p) (scalars_same pairs i j kA kB ps h)
+  scalars_same : (i j : MeansInside) (kA kB : ScalarKind) (ps : List Payload) → same_kind pairs (ScalarOf kA) (ScalarOf kB) ≡ true → flat_map (element j (ScalarOf kB)) ps ≡ flat_map (element i (ScalarOf kA)) ps
+  scalars_same i j kA kB [] h = refl
+  scalars_same i j kA kB (p ∷ ps) h = ap₂ (λ o l. scalar_values o ++ l) ((alike kA kB h).reads p) (scalars_same i j kA kB ps h)
 
-scalars_valid : (pairs : TypePairs) (i : MeansInside) (a : AllowsInside) (kA kB : ScalarKind) (ps : List Payload) → same_kind pairs (ScalarOf kA) (ScalarOf kB) ≡ true → list_all (list_source a (ScalarOf kB)) ps ≡ true → elements_valid (ScalarOf kA) (values_from (flat_map (element i (ScalarOf kA)) ps)) ≡ true
-scalars_valid pairs i a kA kB [] h all = refl
-scalars_valid pairs i a kA kB (p ∷ ps) h all =
-    let (one, more) = and_parts (list_source a (ScalarOf kB) p) (list_all (list_source a (ScalarOf kB)) ps) all in
-    let s : Sources a (ScalarOf kB) p = source_parts a (ScalarOf kB) p one in
-    go s.valid s.stays (elem kA p) refl (scalars_valid pairs i a kA kB ps h more)
-  where
-    go : payload_valid p ≡ true → is_stray (ScalarOf kB) p ≡ false → (o : Option Scalar) → elem kA p ≡ o → elements_valid (ScalarOf kA) (values_from (flat_map (element i (ScalarOf kA)) ps)) ≡ true → elements_valid (ScalarOf kA) (values_from (scalar_values o ++ flat_map (element i (ScalarOf kA)) ps)) ≡ true
-    go ok stays None e more = more
-    go ok stays (Some v) e more = and_from _ _ (read_scalar_valid pairs kA kB p v h ok stays e) more
+  scalars_valid : (i : MeansInside) (a : AllowsInside) (kA kB : ScalarKind) (ps : List Payload) → same_kind pairs (ScalarOf kA) (ScalarOf kB) ≡ true → list_all (list_source a (ScalarOf kB)) ps ≡ true → elements_valid (ScalarOf kA) (values_from (flat_map (element i (ScalarOf kA)) ps)) ≡ true
+  scalars_valid i a kA kB [] h all = refl
+  scalars_valid i a kA kB (p ∷ ps) h all =
+      let (one, more) = and_parts (list_source a (ScalarOf kB) p) (list_all (list_source a (ScalarOf kB)) ps) all in
+      let s : Sources a (ScalarOf kB) p = source_parts a (ScalarOf kB) p one in
+      go s.valid s.stays (elem kA p) refl (scalars_valid i a kA kB ps h more)
+    where
+      go : payload_valid p ≡ true → is_stray (ScalarOf kB) p ≡ false → (o : Option Scalar) → elem kA p ≡ o → elements_valid (ScalarOf kA) (values_from (flat_map (element i (ScalarOf kA)) ps)) ≡ true → elements_valid (ScalarOf kA) (values_from (scalar_values o ++ flat_map (element i (ScalarOf kA)) ps)) ≡ true
+      go ok stays None e more = more
+      go ok stays (Some v) e more = and_from _ _ (read_scalar_valid pairs kA kB p v h ok stays e) more
 
-scalars_read : (pairs : TypePairs) (a : AllowsInside) (j : MeansInside) (kA kB : ScalarKind) (vs : Values) → same_kind pairs (ScalarOf kA) (ScalarOf kB) ≡ true → elements_valid (ScalarOf kA) vs ≡ true → EachReads a j (ScalarOf kA) (ScalarOf kB) vs vs
-scalars_read pairs a j kA kB NoValues h ok = tt
-scalars_read pairs a j kA kB (Item (ScalarValue v) vs) h ok =
-    let (one, more) = and_parts (scalar_valid kA v) (elements_valid (ScalarOf kA) vs) ok in
-    (scalar_reads pairs a j kA kB v h one, scalars_read pairs a j kA kB vs h more)
-scalars_read pairs a j kA kB (Item (MessageValue c) vs) h ok = absurd (true≢false (sym ok))
-scalars_read pairs a j kA kB (Item (ListValue ws) vs) h ok = absurd (true≢false (sym ok))
-scalars_read pairs a j kA kB (Item (MapValue ps) vs) h ok = absurd (true≢false (sym ok))
+  scalars_read : (a : AllowsInside) (j : MeansInside) (kA kB : ScalarKind) (vs : Values) → same_kind pairs (ScalarOf kA) (ScalarOf kB) ≡ true → elements_valid (ScalarOf kA) vs ≡ true → EachReads a j (ScalarOf kA) (ScalarOf kB) vs vs
+  scalars_read a j kA kB NoValues h ok = tt
+  scalars_read a j kA kB (Item (ScalarValue v) vs) h ok =
+      let (one, more) = and_parts (scalar_valid kA v) (elements_valid (ScalarOf kA) vs) ok in
+      (scalar_reads pairs a j kA kB v h one, scalars_read a j kA kB vs h more)
+  scalars_read a j kA kB _ h ok = absurd (true≢false (sym ok))
 
-packed_elements : (pairs : TypePairs) (kA kB : ScalarKind) (vs : Values) → same_kind pairs (ScalarOf kA) (ScalarOf kB) ≡ true → is_packable kA ≡ true → elements_valid (ScalarOf kA) vs ≡ true →
-    element_payloads_in (ScalarOf kB) (Flat (Len (end_to_end (element_payloads (ScalarOf kA) vs)))) ≡ element_payloads (ScalarOf kA) vs
-packed_elements pairs kA kB vs h p ok =
-    let bytes : List ℕ = end_to_end (element_payloads (ScalarOf kA) vs) in
-    let (found, same) = unpacked_back kA vs p ok in
-    elements_alike pairs (ScalarOf kA) (ScalarOf kB) (Flat (Len bytes)) h
-    ∙ ap (λ b. cond b (map Flat (or_none (unpacked kA bytes))) (Flat (Len bytes) ∷ [])) p ∙ ap (λ o. map Flat (or_none o)) found ∙ same
+  packed_elements : (kA kB : ScalarKind) (vs : Values) → same_kind pairs (ScalarOf kA) (ScalarOf kB) ≡ true → is_packable kA ≡ true → elements_valid (ScalarOf kA) vs ≡ true →
+      element_payloads_in (ScalarOf kB) (Flat (Len (end_to_end (element_payloads (ScalarOf kA) vs)))) ≡ element_payloads (ScalarOf kA) vs
+  packed_elements kA kB vs h p ok =
+      let bytes : List ℕ = end_to_end (element_payloads (ScalarOf kA) vs) in
+      let (found, same) = unpacked_back kA vs p ok in
+      elements_alike pairs (ScalarOf kA) (ScalarOf kB) (Flat (Len bytes)) h
+      ∙ ap (λ b. cond b (map Flat (or_none (unpacked kA bytes))) (Flat (Len bytes) ∷ [])) p ∙ ap (λ o. map Flat (or_none o)) found ∙ same
 
-packed_takes : (pairs : TypePairs) (a : AllowsInside) (kA kB : ScalarKind) (vs : Values) → same_kind pairs (ScalarOf kA) (ScalarOf kB) ≡ true → is_packable kA ≡ true → elements_valid (ScalarOf kA) vs ≡ true →
-    (one_allowed a (ScalarOf kB) (Flat (Len (end_to_end (element_payloads (ScalarOf kA) vs)))) || packed_allowed (ScalarOf kB) (Flat (Len (end_to_end (element_payloads (ScalarOf kA) vs))))) ≡ true
-packed_takes pairs a kA kB vs h p ok =
-    let bytes : List ℕ = end_to_end (element_payloads (ScalarOf kA) vs) in
-    let same : Alike kA kB = alike kA kB h in
-    ap₂ (λ b (o : Option (List Plain)). one_allowed a (ScalarOf kB) (Flat (Len bytes)) || (b && is_some o)) (same.packable ∙ p) (unpacked_alike kA kB bytes same.wire ∙ (unpacked_back kA vs p ok).0)
-    ∙ always (one_allowed a (ScalarOf kB) (Flat (Len bytes)))
-  where
-    always : (b : Bool) → (b || true) ≡ true
-    always true = refl
-    always false = refl
+  packed_takes : (a : AllowsInside) (kA kB : ScalarKind) (vs : Values) → same_kind pairs (ScalarOf kA) (ScalarOf kB) ≡ true → is_packable kA ≡ true → elements_valid (ScalarOf kA) vs ≡ true →
+      (one_allowed a (ScalarOf kB) (Flat (Len (end_to_end (element_payloads (ScalarOf kA) vs)))) || packed_allowed (ScalarOf kB) (Flat (Len (end_to_end (element_payloads (ScalarOf kA) vs))))) ≡ true
+  packed_takes a kA kB vs h p ok =
+      let bytes : List ℕ = end_to_end (element_payloads (ScalarOf kA) vs) in
+      let same : Alike kA kB = alike kA kB h in
+      ap₂ (λ b (o : Option (List Plain)). one_allowed a (ScalarOf kB) (Flat (Len bytes)) || (b && is_some o)) (same.packable ∙ p) (unpacked_alike kA kB bytes same.wire ∙ (unpacked_back kA vs p ok).0)
+      ∙ always (one_allowed a (ScalarOf kB) (Flat (Len bytes)))
+    where
+      always : (b : Bool) → (b || true) ≡ true
+      always true = refl
+      always false = refl
 
 -- THE FIELD
 
@@ -181,9 +179,7 @@ scalars_sound kA NoValues ok = tt
 scalars_sound kA (Item (ScalarValue v) vs) ok =
     let (one, more) = and_parts (scalar_valid kA v) (elements_valid (ScalarOf kA) vs) ok in
     (scalar_sound (ScalarOf kA) v one, scalars_sound kA vs more)
-scalars_sound kA (Item (MessageValue c) vs) ok = absurd (true≢false (sym ok))
-scalars_sound kA (Item (ListValue ws) vs) ok = absurd (true≢false (sym ok))
-scalars_sound kA (Item (MapValue ps) vs) ok = absurd (true≢false (sym ok))
+scalars_sound kA _ ok = absurd (true≢false (sym ok))
 
 packed_again : (pairs : TypePairs) (a : AllowsInside) (j : MeansInside) (kA kB : ScalarKind) (vs : Values) → same_kind pairs (ScalarOf kA) (ScalarOf kB) ≡ true → is_packable kA ≡ true → elements_valid (ScalarOf kA) vs ≡ true →
     Written a j (ScalarOf kB) (list_payloads (Repeated true) (element_payloads (ScalarOf kA) vs)) vs
@@ -212,9 +208,7 @@ list_written pairs k i a j true (ScalarOf kA) (ScalarOf kB) ps c h p all =
     let vs : Values = values_from (flat_map (element i (ScalarOf kA)) ps) in
     subst (λ (l : List Value). Written a j (ScalarOf kB) (list_payloads (Repeated true) (element_payloads (ScalarOf kA) vs)) (values_from l)) (sym (scalars_same pairs i j kA kB ps h))
     (packed_again pairs a j kA kB vs h p (scalars_valid pairs i a kA kB ps h all))
-list_written pairs k i a j true (MessageOf A) kB ps c h p all = absurd (true≢false (sym p))
-list_written pairs k i a j true (GroupOf A) kB ps c h p all = absurd (true≢false (sym p))
-list_written pairs k i a j true (ScalarOf kA) _ ps c h p all = absurd (true≢false (sym h))
+list_written pairs k i a j true _ kB ps c h p all = cc
 
 list_stored : (f : Field) (packed : Bool) (vs : Values) → f.form ≡ Repeated packed → stored_payloads (Some f) (present_list vs) ≡ list_payloads (Repeated packed) (element_payloads f.value_type.kind vs)
 list_stored f packed NoValues e = refl
@@ -243,9 +237,7 @@ scalars_each pairs a j kA kB NoValues h ok = tt
 scalars_each pairs a j kA kB (Item (ScalarValue v) vs) h ok =
     let (one, more) = and_parts (scalar_valid kA v) (elements_valid (ScalarOf kA) vs) ok in
     (scalar_again pairs a j kA kB v h one, scalars_each pairs a j kA kB vs h more)
-scalars_each pairs a j kA kB (Item (MessageValue c) vs) h ok = absurd (true≢false (sym ok))
-scalars_each pairs a j kA kB (Item (ListValue ws) vs) h ok = absurd (true≢false (sym ok))
-scalars_each pairs a j kA kB (Item (MapValue ps) vs) h ok = absurd (true≢false (sym ok))
+scalars_each pairs a j kA kB _ h ok = absurd (true≢false (sym ok))
 
 pub scalar_list_again : (pairs : TypePairs) (k : ℕ) (a : AllowsInside) (j : MeansInside) (f : Field) (x y : Bool) (tB : ValueType) (kA kB : ScalarKind) (vs : Values) → f.form ≡ Repeated x → f.value_type.kind ≡ ScalarOf kA → tB.kind ≡ ScalarOf kB →
     same_kind pairs (ScalarOf kA) (ScalarOf kB) ≡ true → (not x || is_packable kA) ≡ true → elements_valid (ScalarOf kA) vs ≡ true → FieldAgain k a j (Repeated y) tB (stored_payloads (Some f) (present_list vs)) (present_list vs)

@@ -1,5 +1,5 @@
 -- A record of a list, read into a content that holds.
-use Rattle.prost_reflect_laws.proofs.Common.{◌≡◌, ℕ, Bool, true, false, cond, not, ◌||◌, List, [], ◌∷◌, ◌++◌, filter, flat_map, nat_eq, Option, Some, None, refl, ap, ap₂, sym, ◌∙◌, subst, append-nil, true≢false, arith, list_all, eqb-true, and_parts, and_from, WireType, AreBytes, Payload, Flat, payload_valid, record_at, ValueFront, Scalar, ScalarKind, elem, is_undeclared, scalar_valid, Kind, ScalarOf, Repeated, Field, Schema, known, field_of, is_sibling, is_singular, numbers_differ, passes, is_list, Content, ContentOf, Entries, Value, ScalarValue, MessageValue, ListValue, MapValue, Values, NoValues, Item, values_from, ◌and_then◌, Slot, schema_of, type_of, entries_of, value_at, unknowns_at, slot_at, changed, entries_ordered, values_ordered, field_allowed, one_allowed, packed_allowed, element_payloads_in, is_stray, value_payloads, stray_payloads, element, scalar_values, values_in, fit_test, alone_test, EntryTest, element_valid, elements_valid, value_valid, pairs_valid, value_passes, values_pass, entries_pass, kind_for, ValuesTyped, kept_values, ValueStored, WellStored, with_value, with_stored, joined_slot, RecordRead, Step, ElementsRead, ElementsJoined, list_takes, field_number, empty_slot, eqb-sym}
+use Rattle.prost_reflect_laws.proofs.Common.{◌≡◌, ℕ, Bool, true, false, cond, not, ◌||◌, List, [], ◌∷◌, ◌++◌, filter, flat_map, nat_eq, Option, Some, None, refl, ap, ap₂, sym, ◌∙◌, subst, append-nil, true≢false, arith, list_all, eqb-true, and_parts, and_from, WireType, AreBytes, Payload, Flat, payload_valid, record_at, ValueFront, Scalar, ScalarKind, elem, is_undeclared, scalar_valid, Kind, ScalarOf, Repeated, Field, Schema, known, field_of, is_sibling, is_singular, numbers_differ, passes, is_list, Content, ContentOf, Entries, Value, ScalarValue, ListValue, MapValue, Values, NoValues, Item, values_from, ◌and_then◌, Slot, schema_of, type_of, entries_of, value_at, unknowns_at, slot_at, changed, entries_ordered, values_ordered, field_allowed, one_allowed, packed_allowed, element_payloads_in, is_stray, value_payloads, stray_payloads, element, scalar_values, values_in, fit_test, alone_test, EntryTest, element_valid, elements_valid, value_valid, pairs_valid, value_passes, values_pass, entries_pass, kind_for, ValuesTyped, kept_values, ValueStored, WellStored, with_value, with_stored, joined_slot, RecordRead, Step, ElementsRead, ElementsJoined, list_takes, field_number, empty_slot, eqb-sym}
 use Rattle.prost_reflect_laws.proofs.Allowed.{inside}
 use Rattle.prost_reflect_laws.proofs.Means.{below, further}
 use Rattle.prost_reflect_laws.proofs.Declared.{read_valid}
@@ -49,9 +49,7 @@ scalars_only kind NoValues h = record { passes = λ test. refl; typed = λ schem
 scalars_only kind (Item (ScalarValue v) vs) h =
     let more : Scalars vs = scalars_only kind vs (and_parts (scalar_valid kind v) (elements_valid (ScalarOf kind) vs) h).1 in
     record { passes = more.passes; typed = λ schema kind. (tt, more.typed schema kind); order = more.order; kept = ap (Item (ScalarValue v)) more.kept }
-scalars_only kind (Item (MessageValue c) vs) h = absurd (true≢false (sym h))
-scalars_only kind (Item (ListValue ws) vs) h = absurd (true≢false (sym h))
-scalars_only kind (Item (MapValue ps) vs) h = absurd (true≢false (sym h))
+scalars_only kind _ h = absurd (true≢false (sym h))
 
 pub list_stored : (schema : Schema) (f : Field) (packed : Bool) (kind : ScalarKind) (vs : Values) → f.form ≡ Repeated packed → f.value_type.kind ≡ ScalarOf kind → elements_valid (ScalarOf kind) vs ≡ true → ValueStored schema f (ListValue vs)
 list_stored schema f packed kind vs form is h =
@@ -74,10 +72,9 @@ pub record StoredList (kind : Kind) (o : Option Value) : Type 0 where
   pub valid : elements_valid kind (values_in o) ≡ true
 
 pub valid_list : (f : Field) (packed : Bool) (v : Value) → f.form ≡ Repeated packed → value_valid f v ≡ true → StoredList f.value_type.kind (Some v)
-valid_list f packed (ScalarValue v) form h = absurd (true≢false (sym (and_parts _ _ h).0 ∙ ap is_singular form))
-valid_list f packed (MessageValue c) form h = absurd (true≢false (sym (and_parts _ _ h).0 ∙ ap is_singular form))
 valid_list f packed (ListValue vs) form h = record { listed = tt; valid = (and_parts _ _ h).1 }
 valid_list f packed (MapValue ps) form h = absurd (true≢false (sym h ∙ ap (λ form. pairs_valid form f.value_type.kind ps) form))
+valid_list f packed _ form h = absurd (true≢false (sym (and_parts _ _ h).0 ∙ ap is_singular form))
 
 pub stored_list : (fields : List Field) (es : Entries) (f : Field) (packed : Bool) → entries_pass fit_test fields es ≡ true → field_of fields f.number ≡ Some f → f.form ≡ Repeated packed → StoredList f.value_type.kind (value_at f.number es)
 stored_list fields es f packed fits found form = go (value_at f.number es) at.value

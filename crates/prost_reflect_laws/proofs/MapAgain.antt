@@ -1,5 +1,5 @@
 -- A map, carried through a reduction.
-use Rattle.prost_reflect_laws.proofs.Common.{◌≡◌, ℕ, Bool, true, false, cond, not, ◌&&◌, List, [], ◌∷◌, ◌++◌, flat_map, Some, refl, ap, ap₂, sym, subst, ◌∙◌, true≢false, ⊤, list_all, and_parts, and_from, Payload, payload_valid, Scalar, ScalarKind, scalar_lt, scalar_eq, ScalarOf, ValueType, MapFrom, Field, is_key_kind, has_kind_default, default_valid, Value, ScalarValue, MessageValue, ListValue, MapValue, Pairs, NoPairs, Pair, pairs_ordered, AllowsInside, records_in, has_level, field_allowed, value_payloads, stray_payloads, MeansInside, entry_key, entry_value, put, put_entry, put_entries, present_map, pair_payload, pair_payloads, key_of, kind_takes, element_valid, pairs_valid, TypePairs, same_kind, scalar_decides}
+use Rattle.prost_reflect_laws.proofs.Common.{◌++◌, ◌≡◌, ℕ, Bool, true, false, cond, not, ◌&&◌, List, [], ◌∷◌, flat_map, Some, refl, ap, ap₂, sym, subst, ◌∙◌, true≢false, ⊤, list_all, and_parts, and_from, Payload, payload_valid, Scalar, ScalarKind, scalar_lt, scalar_eq, ScalarOf, ValueType, MapFrom, Field, is_key_kind, has_kind_default, default_valid, Value, ScalarValue, Pairs, NoPairs, Pair, pairs_ordered, AllowsInside, records_in, has_level, field_allowed, value_payloads, stray_payloads, MeansInside, entry_key, entry_value, put, put_entry, put_entries, present_map, pair_payload, pair_payloads, key_of, kind_takes, element_valid, pairs_valid, TypePairs, same_kind, scalar_decides}
 use Rattle.prost_reflect_laws.proofs.Spelt.{SoundPayloads}
 use Rattle.prost_reflect_laws.proofs.Alike.{SameType, default_alike}
 use Rattle.prost_reflect_laws.proofs.ByNumber.{stored_payloads}
@@ -18,8 +18,6 @@ PairsAgain k a j keyA tA keyB tB (Pair x v ps) NoPairs = ⊥
 
 put_again : (k : ℕ) (a : AllowsInside) (j : MeansInside) (keyA tA keyB tB : ValueType) (x : Scalar) (v w : Value) (ps qs : Pairs) → PairAgain k a j keyA tA keyB tB x v w → PairsAgain k a j keyA tA keyB tB ps qs → PairsAgain k a j keyA tA keyB tB (put x v ps) (put x w qs)
 put_again k a j keyA tA keyB tB x v w NoPairs NoPairs one h = (refl, one, tt)
-put_again k a j keyA tA keyB tB x v w NoPairs (Pair m y qs) one h = absurd h
-put_again k a j keyA tA keyB tB x v w (Pair l u ps) NoPairs one h = absurd h
 put_again k a j keyA tA keyB tB x v w (Pair l u ps) (Pair m y qs) one (e, here, rest) =
     subst (λ m. PairsAgain k a j keyA tA keyB tB (put x v (Pair l u ps)) (put x w (Pair m y qs))) (sym e) (go (scalar_lt x l) (scalar_eq x l) (put_again k a j keyA tA keyB tB x v w ps qs one rest))
   where
@@ -28,6 +26,7 @@ put_again k a j keyA tA keyB tB x v w (Pair l u ps) (Pair m y qs) one (e, here, 
     go true c more = (refl, one, (refl, here, rest))
     go false true more = (refl, one, rest)
     go false false more = (refl, here, more)
+put_again k a j keyA tA keyB tB x v w _ _ one h = absurd h
 
 -- what is known of a map's types
 pub record MapTypes (pairs : TypePairs) (keyA tA keyB tB : ValueType) : Type 0 where
@@ -71,8 +70,6 @@ record PairsRead (k : ℕ) (a : AllowsInside) (j : MeansInside) (key t : ValueTy
 
 pairs_read : (k : ℕ) (a : AllowsInside) (j : MeansInside) (keyA tA keyB tB : ValueType) (ps qs : Pairs) → PairsAgain k a j keyA tA keyB tB ps qs → list_all payload_valid (pair_payloads keyA tA ps) ≡ true → PairsRead k a j keyB tB (pair_payloads keyA tA ps) qs
 pairs_read k a j keyA tA keyB tB NoPairs NoPairs h spelt = record { strays = refl; values = refl; puts = λ front. refl; allowed = refl }
-pairs_read k a j keyA tA keyB tB NoPairs (Pair y w qs) h spelt = absurd h
-pairs_read k a j keyA tA keyB tB (Pair x v ps) NoPairs h spelt = absurd h
 pairs_read k a j keyA tA keyB tB (Pair x v ps) (Pair y w qs) (e, one, more) spelt =
     let p : Payload = pair_payload keyA tA x v in
     let (here, behind) = and_parts (payload_valid (pair_payload keyA tA x v)) (list_all payload_valid (pair_payloads keyA tA ps)) spelt in
@@ -84,6 +81,7 @@ pairs_read k a j keyA tA keyB tB (Pair x v ps) (Pair y w qs) (e, one, more) spel
       puts = λ front. ap (put_entries j keyB tB (pair_payloads keyA tA ps)) (ap₂ (λ l u. put l u front) (r.key_read ∙ sym e) r.value_read) ∙ rest.puts (put y w front);
       allowed = and_from _ _ r.allowed rest.allowed;
     }
+pairs_read k a j keyA tA keyB tB _ _ h spelt = absurd h
 
 map_stored : (f : Field) (key : ValueType) (ps : Pairs) → f.form ≡ MapFrom key → stored_payloads (Some f) (present_map ps) ≡ pair_payloads key f.value_type ps
 map_stored f key NoPairs e = refl
@@ -119,9 +117,7 @@ scalars_each pairs k a j keyA tA keyB tB kA kB (Pair x v ps) t eA eB h ok =
     go (ScalarValue s) fits =
         subst (λ kd. ValueAgain a j tA tB kd tB.kind (ScalarValue s) (ScalarValue s)) (sym eA) (subst (λ kd. ValueAgain a j tA tB (ScalarOf kA) kd (ScalarValue s) (ScalarValue s)) (sym eB)
         (record { again = scalar_again pairs a j kA kB s h fits; absent = λ d. ap ScalarValue (default_alike pairs tA tB kA eA t.value ∙ sym ((scalar_decides s tA.default).0 (and_parts (not tA.presence) (scalar_eq s tA.default) d).1)) }))
-    go (MessageValue c) fits = absurd (true≢false (sym fits))
-    go (ListValue vs) fits = absurd (true≢false (sym fits))
-    go (MapValue qs) fits = absurd (true≢false (sym fits))
+    go _ fits = absurd (true≢false (sym fits))
 
 pub scalar_map_again : (pairs : TypePairs) (k : ℕ) (a : AllowsInside) (j : MeansInside) (f : Field) (keyA keyB tB : ValueType) (kA kB : ScalarKind) (ps : Pairs) → f.form ≡ MapFrom keyA → MapTypes pairs keyA f.value_type keyB tB → f.value_type.kind ≡ ScalarOf kA → tB.kind ≡ ScalarOf kB →
     same_kind pairs (ScalarOf kA) (ScalarOf kB) ≡ true → pairs_valid (MapFrom keyA) (ScalarOf kA) ps ≡ true → pairs_ordered ps ≡ true → FieldAgain k a j (MapFrom keyB) tB (stored_payloads (Some f) (present_map ps)) (present_map ps)

@@ -1,5 +1,5 @@
 -- An entry of a map, read into a content that holds: its key and its value are put among the pairs that are there.
-use Rattle.prost_reflect_laws.proofs.Common.{◌≡◌, ◌≢◌, ℕ, Bool, true, false, cond, not, ◌&&◌, List, [], ◌∷◌, Option, Some, None, refl, ap, ap₂, sym, ◌∙◌, subst, append-nil, inl, inr, arith, true≢false, list_all, and_parts, and_from, WireType, DecodeError, ◌>>=◌, Len, Records, Payload, Flat, items, body_of, Spells, DelimitedFront, RecordsFront, PlainFault, Scalar, scalar_lt, scalar_eq, Kind, ValueType, MapFrom, Field, Schema, known, field_of, is_singular, numbers_differ, passes, is_list, Content, ContentOf, Entries, Value, ScalarValue, MessageValue, ListValue, MapValue, Pairs, NoPairs, Pair, value_at, slot_at, changed, schema_of, type_of, entries_of, value_ordered, pairs_ordered, AllowsInside, body, or_none, is_stray_entry, value_payloads, stray_payloads, has_level, in_entry_allowed, field_allowed, MeansInside, entry_key, entry_value, put, present_map, pairs_in, value_joined, fit_test, alone_test, kind_takes, element_valid, pairs_valid, value_valid, value_passes, pairs_pass, kind_for, ValueTyped, PairsTyped, kept_inside, kept_pairs, WellStored, ValueStored, with_stored, Step, StandsBehindKey, OfType, Stands, Here, InEntry, takes, same_wire, IsMapped, EntryTo, EntryPlace, BodyFault, spelled_read, items_body, pairs_present, plain_stands}
+use Rattle.prost_reflect_laws.proofs.Common.{◌≡◌, ◌≢◌, ℕ, Bool, true, false, cond, not, ◌&&◌, List, [], ◌∷◌, Option, Some, None, refl, ap, ap₂, sym, ◌∙◌, subst, append-nil, inl, inr, arith, true≢false, list_all, and_parts, and_from, WireType, DecodeError, ◌>>=◌, Len, Records, Payload, Flat, items, body_of, Spells, DelimitedFront, RecordsFront, PlainFault, Scalar, scalar_lt, scalar_eq, Kind, ValueType, MapFrom, Field, Schema, known, field_of, is_singular, numbers_differ, passes, is_list, Content, ContentOf, Entries, Value, ListValue, MapValue, Pairs, NoPairs, Pair, value_at, slot_at, changed, schema_of, type_of, entries_of, value_ordered, pairs_ordered, AllowsInside, body, or_none, is_stray_entry, value_payloads, stray_payloads, has_level, in_entry_allowed, field_allowed, MeansInside, entry_key, entry_value, put, present_map, pairs_in, value_joined, fit_test, alone_test, kind_takes, element_valid, pairs_valid, value_valid, value_passes, pairs_pass, kind_for, ValueTyped, PairsTyped, kept_inside, kept_pairs, WellStored, ValueStored, with_stored, Step, StandsBehindKey, OfType, Stands, Here, InEntry, takes, same_wire, IsMapped, EntryTo, EntryPlace, BodyFault, spelled_read, items_body, pairs_present, plain_stands}
 use Rattle.prost_reflect_wire.specs.declared.key.WireType.TheVariants as wires
 use Rattle.prost_reflect_wire.specs.declared.error.DecodeError.TheVariants as errors
 use Rattle.prost_reflect_laws.proofs.Allowed.{inside}
@@ -77,20 +77,17 @@ pub record StoredMap (schema : Schema) (key : ValueType) (kind : Kind) (o : Opti
 kept_mapped : (f : Field) (key : ValueType) (o : Option Value) → f.form ≡ MapFrom key → IsMapped o → pairs_in (kept_old f o) ≡ kept_pairs (pairs_in o)
 kept_mapped f key None form m = refl
 kept_mapped f key (Some (MapValue ps)) form m = ap pairs_in (kept_map f key (kept_pairs ps) form) ∙ pairs_present (kept_pairs ps)
-kept_mapped f key (Some (ScalarValue v)) form m = absurd m
-kept_mapped f key (Some (MessageValue c)) form m = absurd m
-kept_mapped f key (Some (ListValue vs)) form m = absurd m
+kept_mapped f key _ form m = absurd m
 
 module _ (schema : Schema) (f : Field) (key : ValueType) (form : f.form ≡ MapFrom key) where
   valid_map : (v : Value) → value_valid f v ≡ true → value_passes fit_test v ≡ true → ValueTyped schema (kind_for (Some f) v) v → value_ordered v ≡ true → value_passes alone_test v ≡ true → StoredMap schema key f.value_type.kind (Some v)
-  valid_map (ScalarValue v) h fits types o members = absurd (true≢false (sym (and_parts _ _ h).0 ∙ ap is_singular form))
-  valid_map (MessageValue c) h fits types o members = absurd (true≢false (sym (and_parts _ _ h).0 ∙ ap is_singular form))
-  valid_map (ListValue vs) h fits types o members = absurd (true≢false (sym (and_parts _ _ h).0 ∙ ap is_list form))
   valid_map (MapValue ps) h fits types o members = record {
     mapped = tt;
     pairs = record { valid = ap (λ form. pairs_valid form f.value_type.kind ps) (sym form) ∙ h; fits = fits; types = types; members = members };
     order = o;
   }
+  valid_map (ListValue vs) h fits types o members = absurd (true≢false (sym (and_parts _ _ h).0 ∙ ap is_list form))
+  valid_map _ h fits types o members = absurd (true≢false (sym (and_parts _ _ h).0 ∙ ap is_singular form))
 
   map_stored : (ps : Pairs) → PairsStored schema key f.value_type.kind ps → pairs_ordered ps ≡ true → ValueStored schema f (MapValue ps)
   map_stored ps s o = record { valid = ap (λ form. pairs_valid form f.value_type.kind ps) form ∙ s.valid; fits = s.fits; types = s.types; order = o; members = s.members }

@@ -1,5 +1,5 @@
 -- What is written of a map, and of one of scalars.
-use Rattle.prost_reflect_laws.proofs.Common.{◌≡◌, ℕ, Bool, true, false, cond, not, ◌&&◌, List, [], ◌∷◌, ◌++◌, map, Some, refl, ap, ap₂, sym, ◌∙◌, append_assoc, append-nil, true≢false, and_parts, Len, Payload, Record, record_at, short_key, short_plain, spelled, Scalar, ScalarKind, kind_wire, scalar_eq, scalar_valid, written, ScalarOf, ValueType, MapFrom, Field, field_of, Value, ScalarValue, MessageValue, ListValue, MapValue, Pairs, NoPairs, Pair, present_map, key_of, scalar_payload, entry_record, entry_payload, field_payloads, pair_payloads, pairs_valid, kept_value, kept_pairs, kept_records, value_bytes}
+use Rattle.prost_reflect_laws.proofs.Common.{◌≡◌, ℕ, Bool, true, false, cond, not, ◌&&◌, List, [], ◌∷◌, ◌++◌, map, Some, refl, ap, ap₂, sym, ◌∙◌, append_assoc, append-nil, true≢false, and_parts, Len, Payload, Record, record_at, short_key, short_plain, spelled, Scalar, ScalarKind, kind_wire, scalar_eq, scalar_valid, written, ScalarOf, ValueType, MapFrom, Field, field_of, Value, ScalarValue, MapValue, Pairs, NoPairs, Pair, present_map, key_of, scalar_payload, entry_record, entry_payload, field_payloads, pair_payloads, pairs_valid, kept_value, kept_pairs, kept_records, value_bytes}
 use Rattle.prost_reflect_wire.specs.declared.key.WireType.TheVariants as wires
 use Rattle.prost_reflect_laws.proofs.ValueCarried.{kept_map}
 use Rattle.prost_reflect_laws.proofs.WrittenEntries.{spelled_append, written_wire}
@@ -35,9 +35,7 @@ pair_written n key value_type key_kind kind k v ps key_is is key_fits fits =
 pub scalars_kept : (key : ValueType) (kind : ScalarKind) (ps : Pairs) → pairs_valid (MapFrom key) (ScalarOf kind) ps ≡ true → kept_pairs ps ≡ ps
 scalars_kept key kind NoPairs h = refl
 scalars_kept key kind (Pair k (ScalarValue v) ps) h = ap (Pair k (ScalarValue v)) (scalars_kept key kind ps (and_parts _ (pairs_valid (MapFrom key) (ScalarOf kind) ps) h).1)
-scalars_kept key kind (Pair k (MessageValue c) ps) h = absurd (true≢false (sym (and_parts _ _ (and_parts _ (pairs_valid (MapFrom key) (ScalarOf kind) ps) h).0).1))
-scalars_kept key kind (Pair k (ListValue vs) ps) h = absurd (true≢false (sym (and_parts _ _ (and_parts _ (pairs_valid (MapFrom key) (ScalarOf kind) ps) h).0).1))
-scalars_kept key kind (Pair k (MapValue qs) ps) h = absurd (true≢false (sym (and_parts _ _ (and_parts _ (pairs_valid (MapFrom key) (ScalarOf kind) ps) h).0).1))
+scalars_kept key kind (Pair k _ ps) h = absurd (true≢false (sym (and_parts _ _ (and_parts _ (pairs_valid (MapFrom key) (ScalarOf kind) ps) h).0).1))
 
 -- what is written of a map is what is written of the pairs that are kept
 pub map_kept_written : (fields : List Field) (n : ℕ) (f : Field) (key : ValueType) (ps : Pairs) → field_of fields n ≡ Some f → f.form ≡ MapFrom key →

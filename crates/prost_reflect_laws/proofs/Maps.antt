@@ -14,31 +14,32 @@ put_back inner key value_type front (Pair k v ps) (one, more) =
 
 -- A FIELD
 
-all_value_records : (inner : MeansInside) (fields : List Field) (n : ℕ) (f : Field) (key : ValueType) (ps : Pairs) → field_of fields n ≡ Some f → f.form ≡ MapFrom key → PairsBack inner key f.value_type ps →
-    flat_map (value_records fields) (map (record_at n) (pair_payloads key f.value_type ps)) ≡ block n (pair_payloads key f.value_type ps)
-all_value_records inner fields n f key NoPairs found c h = refl
-all_value_records inner fields n f key (Pair k v ps) found c (one, more) =
-    let p : Payload = pair_payload key f.value_type k v in
-    ap₂ ◌++◌ (value_records_known fields n f p found ∙ ap (λ c. block n (value_payloads c f.value_type p)) c ∙ ap (λ b. block n (cond (not b) (p ∷ []) [])) one.stays) (all_value_records inner fields n f key ps found c more)
+module _ (inner : MeansInside) (fields : List Field) (n : ℕ) (f : Field) (key : ValueType) where
+  all_value_records : (ps : Pairs) → field_of fields n ≡ Some f → f.form ≡ MapFrom key → PairsBack inner key f.value_type ps →
+      flat_map (value_records fields) (map (record_at n) (pair_payloads key f.value_type ps)) ≡ block n (pair_payloads key f.value_type ps)
+  all_value_records NoPairs found c h = refl
+  all_value_records (Pair k v ps) found c (one, more) =
+      let p : Payload = pair_payload key f.value_type k v in
+      ap₂ ◌++◌ (value_records_known fields n f p found ∙ ap (λ c. block n (value_payloads c f.value_type p)) c ∙ ap (λ b. block n (cond (not b) (p ∷ []) [])) one.stays) (all_value_records ps found c more)
 
-all_strays : (inner : MeansInside) (fields : List Field) (n : ℕ) (f : Field) (key : ValueType) (ps : Pairs) → field_of fields n ≡ Some f → f.form ≡ MapFrom key → PairsBack inner key f.value_type ps →
-    flat_map (unknown_payloads fields) (map (record_at n) (pair_payloads key f.value_type ps)) ≡ []
-all_strays inner fields n f key NoPairs found c h = refl
-all_strays inner fields n f key (Pair k v ps) found c (one, more) =
-    let p : Payload = pair_payload key f.value_type k v in
-    ap₂ ◌++◌ (unknown_known fields n f p found ∙ ap (λ c. stray_payloads c f.value_type p) c ∙ ap (λ b. cond b (p ∷ []) []) one.stays) (all_strays inner fields n f key ps found c more)
+  all_strays : (ps : Pairs) → field_of fields n ≡ Some f → f.form ≡ MapFrom key → PairsBack inner key f.value_type ps →
+      flat_map (unknown_payloads fields) (map (record_at n) (pair_payloads key f.value_type ps)) ≡ []
+  all_strays NoPairs found c h = refl
+  all_strays (Pair k v ps) found c (one, more) =
+      let p : Payload = pair_payload key f.value_type k v in
+      ap₂ ◌++◌ (unknown_known fields n f p found ∙ ap (λ c. stray_payloads c f.value_type p) c ∙ ap (λ b. cond b (p ∷ []) []) one.stays) (all_strays ps found c more)
 
-pub map_back : (inner : MeansInside) (fields : List Field) (n : ℕ) (f : Field) (key : ValueType) (k : Scalar) (v : Value) (ps : Pairs) → field_of fields n ≡ Some f → f.form ≡ MapFrom key →
-    PairsBack inner key f.value_type (Pair k v ps) → pairs_ordered (Pair k v ps) ≡ true → ValueBack inner fields n f (MapValue (Pair k v ps))
-map_back inner fields n f key k v ps found c back order = record {
-  sources = pair_payloads key f.value_type (Pair k v ps);
-  read = ap (λ l. flat_map (value_records fields) (map (record_at n) l)) whole ∙ all_value_records inner fields n f key (Pair k v ps) found c back;
-  strays = ap (λ l. flat_map (unknown_payloads fields) (map (record_at n) l)) whole ∙ all_strays inner fields n f key (Pair k v ps) found c back;
-  value = ap (λ c. field_value inner c f.value_type (pair_payloads key f.value_type (Pair k v ps))) c ∙ ap present_map (put_back inner key f.value_type NoPairs (Pair k v ps) back ∙ put_all_rising (Pair k v ps) (pairs_rising (Pair k v ps) order));
-}
-  where
-    whole : field_payloads (Some f) (MapValue (Pair k v ps)) ≡ pair_payloads key f.value_type (Pair k v ps)
-    whole = ap (λ c. pair_payloads (key_of c f.value_type) f.value_type (Pair k v ps)) c
+  pub map_back : (k : Scalar) (v : Value) (ps : Pairs) → field_of fields n ≡ Some f → f.form ≡ MapFrom key →
+      PairsBack inner key f.value_type (Pair k v ps) → pairs_ordered (Pair k v ps) ≡ true → ValueBack inner fields n f (MapValue (Pair k v ps))
+  map_back k v ps found c back order = record {
+    sources = pair_payloads key f.value_type (Pair k v ps);
+    read = ap (λ l. flat_map (value_records fields) (map (record_at n) l)) whole ∙ all_value_records (Pair k v ps) found c back;
+    strays = ap (λ l. flat_map (unknown_payloads fields) (map (record_at n) l)) whole ∙ all_strays (Pair k v ps) found c back;
+    value = ap (λ c. field_value inner c f.value_type (pair_payloads key f.value_type (Pair k v ps))) c ∙ ap present_map (put_back inner key f.value_type NoPairs (Pair k v ps) back ∙ put_all_rising (Pair k v ps) (pairs_rising (Pair k v ps) order));
+  }
+    where
+      whole : field_payloads (Some f) (MapValue (Pair k v ps)) ≡ pair_payloads key f.value_type (Pair k v ps)
+      whole = ap (λ c. pair_payloads (key_of c f.value_type) f.value_type (Pair k v ps)) c
 
 -- AN ENTRY
 
@@ -62,13 +63,12 @@ key_back key k rs takes h e = go key.kind refl takes h e
   where
     go : (kind : Kind) → key.kind ≡ kind → kind_takes kind k ≡ true → (elim kind [ ScalarOf kind ↦ scalar_eq key.default (kind_default kind) | _ ↦ true ]) ≡ true → numbered 1 rs ≡ cond (is_default_of key (ScalarValue k)) [] (scalar_payload kind k ∷ []) →
         (elim kind [ ScalarOf kind ↦ last_or kind (kind_default kind) (numbered 1 rs) | _ ↦ key.default ]) ≡ k
-    go (MessageOf T) same takes h e = absurd (true≢false (sym takes))
-    go (GroupOf T) same takes h e = absurd (true≢false (sym takes))
     go (ScalarOf kind) same takes h e = ap (last_or kind (kind_default kind)) e ∙ by (is_default_of key (ScalarValue k)) refl
       where
         by : (b : Bool) → is_default_of key (ScalarValue k) ≡ b → last_or kind (kind_default kind) (cond b [] (Flat (written kind k) ∷ [])) ≡ k
         by true d = sym (default_same key k d ∙ ((scalar_decides key.default (kind_default kind)).0 h))
         by false d = ap (λ (o : Option Scalar). elim o [ None ↦ kind_default kind | Some w ↦ w ]) (read_back kind k takes)
+    go _ same takes h e = absurd (true≢false (sym takes))
 
 -- the value of its own payload
 pub value_present : (inner : MeansInside) (value_type : ValueType) (kind : Kind) (v : Value) (q : Payload) (rs : List Record) → element inner kind q ≡ v ∷ [] → numbered 2 rs ≡ q ∷ [] → entry_value inner value_type kind rs ≡ v
@@ -86,8 +86,7 @@ absent inner value_type v rs d w same takes e = go value_type.kind takes
   where
     go : (kind : Kind) → kind_takes kind w ≡ true → entry_value inner value_type kind rs ≡ v
     go (ScalarOf kind) takes = ap (λ ps. ScalarValue (last_or kind value_type.default ps)) e ∙ ap ScalarValue (sym (default_same value_type w (ap (is_default_of value_type) (sym same) ∙ d))) ∙ sym same
-    go (MessageOf T) takes = absurd (true≢false (sym takes))
-    go (GroupOf T) takes = absurd (true≢false (sym takes))
+    go _ takes = absurd (true≢false (sym takes))
 
 -- a scalar of the kind, or a message
 abbrev pub EntryValue : Kind → Value → Type 0
@@ -102,9 +101,8 @@ value_back inner value_type (ScalarValue w) rs takes back e = go (is_default_of 
     go : (b : Bool) → is_default_of value_type (ScalarValue w) ≡ b → numbered 2 rs ≡ cond b [] (value_payload value_type.kind (ScalarValue w) ∷ []) → entry_value inner value_type value_type.kind rs ≡ ScalarValue w
     go true d e = absent inner value_type (ScalarValue w) rs d w refl takes e
     go false d e = value_present inner value_type value_type.kind (ScalarValue w) (value_payload value_type.kind (ScalarValue w)) rs back.value e
-value_back inner value_type (ListValue vs) rs shape back e = absurd shape
-value_back inner value_type (MapValue ps) rs shape back e = absurd shape
 value_back inner value_type (MessageValue c) rs shape back e = value_present inner value_type value_type.kind (MessageValue c) (value_payload value_type.kind (MessageValue c)) rs back.value e
+value_back inner value_type _ rs shape back e = absurd shape
 
 pub pair_back : (inner : MeansInside) (key value_type : ValueType) (k : Scalar) (v : Value) → kind_takes key.kind k ≡ true → has_kind_default key ≡ true → EntryValue value_type.kind v → ElementBack inner value_type.kind v →
     valid (body_of (entry_record key 1 (ScalarValue k) (scalar_payload key.kind k) ++ entry_record value_type 2 v (value_payload value_type.kind v))) ≡ true → PairBack inner key value_type k v

@@ -92,13 +92,11 @@ scalar_each inner fields n f v found valid said =
   where
     go : f.form ≡ Singular → (kind : Kind) → f.value_type.kind ≡ kind → kind_takes kind v ≡ true → is_default_of f.value_type (ScalarValue v) ≡ false → ValueBack inner fields n f (ScalarValue v)
     go s (ScalarOf kind) e t said = scalar_back inner fields n f kind v found s e t said
-    go s (MessageOf T) e t said = absurd (true≢false (sym t))
-    go s (GroupOf T) e t said = absurd (true≢false (sym t))
+    go s _ e t said = absurd (true≢false (sym t))
 
 scalar_one : (inner : MeansInside) (kind : Kind) (v : Scalar) → kind_takes kind v ≡ true → ElementBack inner kind (ScalarValue v)
 scalar_one inner (ScalarOf kind) v h = scalar_element inner kind v h
-scalar_one inner (MessageOf T) v h = absurd (true≢false (sym h))
-scalar_one inner (GroupOf T) v h = absurd (true≢false (sym h))
+scalar_one inner _ v h = absurd (true≢false (sym h))
 
 list_each : (inner : MeansInside) (schema : Schema) (fields : List Field) (n : ℕ) (f : Field) (vs : Values) → field_of fields n ≡ Some f → CheckedField schema f → value_valid f (ListValue vs) ≡ true → not (is_empty_value f.form (ListValue vs)) ≡ true →
     list_all payload_valid (field_payloads (Some f) (ListValue vs)) ≡ true → (list_all payload_valid (element_payloads f.value_type.kind vs) ≡ true → ElementsBack inner f.value_type.kind vs) → ValueBack inner fields n f (ListValue vs)
@@ -109,8 +107,7 @@ list_each inner schema fields n f vs found checked valid said spelt each =
   where
     pack : (v : Value) (vs : Values) (kind : Kind) → f.form ≡ Repeated true → f.value_type.kind ≡ kind → is_packable_kind kind ≡ true → elements_valid kind (Item v vs) ≡ true → ValueBack inner fields n f (ListValue (Item v vs))
     pack v vs (ScalarOf kind) c e p fit = packed_back inner fields n f kind v vs found c e p fit
-    pack v vs (MessageOf T) c e p fit = absurd (true≢false (sym p))
-    pack v vs (GroupOf T) c e p fit = absurd (true≢false (sym p))
+    pack v vs _ c e p fit = absurd (true≢false (sym p))
 
     go : (packed : Bool) → f.form ≡ Repeated packed → (vs : Values) → elements_valid f.value_type.kind vs ≡ true → not (is_empty_value f.form (ListValue vs)) ≡ true →
         list_all payload_valid (list_payloads f.form (element_payloads f.value_type.kind vs)) ≡ true → (list_all payload_valid (element_payloads f.value_type.kind vs) ≡ true → ElementsBack inner f.value_type.kind vs) → ValueBack inner fields n f (ListValue vs)
@@ -124,16 +121,14 @@ map_each inner fields n f ps found valid said order each = go f.form refl valid 
   where
     go : (c : FieldForm) → f.form ≡ c → pairs_valid c f.value_type.kind ps ≡ true → (ps : Pairs) → pairs_ordered ps ≡ true → not (is_empty_value f.form (MapValue ps)) ≡ true →
         ((key : ValueType) → f.form ≡ MapFrom key → PairsBack inner key f.value_type ps) → ValueBack inner fields n f (MapValue ps)
-    go Singular e fit ps order said each = absurd (true≢false (sym fit))
-    go (Repeated packed) e fit ps order said each = absurd (true≢false (sym fit))
-    go (MapFrom key) e fit NoPairs order said each = absurd (true≢false (sym said ∙ ap (λ c. not (is_empty_value c (MapValue NoPairs))) e))
     go (MapFrom key) e fit (Pair k v ps) order said each = map_back inner fields n f key k v ps found e (each key e) order
+    go (MapFrom key) e fit NoPairs order said each = absurd (true≢false (sym said ∙ ap (λ c. not (is_empty_value c (MapValue NoPairs))) e))
+    go _ e fit ps order said each = absurd (true≢false (sym fit))
 
 entry_value : (kind : Kind) (v : Value) → element_valid kind v ≡ true → EntryValue kind v
 entry_value kind (ScalarValue v) h = h
 entry_value kind (MessageValue c) h = tt
-entry_value kind (ListValue vs) h = absurd (true≢false (sym h))
-entry_value kind (MapValue ps) h = absurd (true≢false (sym h))
+entry_value kind _ h = absurd (true≢false (sym h))
 
 -- ENTRIES
 
@@ -222,8 +217,7 @@ mutual
       let checked : schema_valid (schema_of c) ≡ true = ap schema_valid of.0 ∙ h in
       let written : valid (body_of (records c)) ≡ true = inside_valid kind (records c) (content_sound c checked fits types) spelt in
       message_element (below schema k) kind c of.1 written (below_means schema k c of.0 l (λ j low. content_back j c checked fits types order says written low))
-  element_each schema k kind (ListValue vs) h takes fits types order says l spelt = absurd (true≢false (sym takes))
-  element_each schema k kind (MapValue ps) h takes fits types order says l spelt = absurd (true≢false (sym takes))
+  element_each schema k kind _ h takes fits types order says l spelt = absurd (true≢false (sym takes))
 
   elements_each : (schema : Schema) (k : ℕ) (kind : Kind) (vs : Values) → schema_valid schema ≡ true → elements_valid kind vs ≡ true → values_pass fit_test vs ≡ true → ValuesTyped schema (Some kind) vs → values_ordered vs ≡ true → values_pass said_test vs ≡ true →
       values_levels vs ≤ k → list_all payload_valid (element_payloads kind vs) ≡ true → ElementsBack (below schema k) kind vs

@@ -129,36 +129,37 @@ unended_none : (place : Place) → EndNext place → place.bytes ≡ [] → plac
 unended_none place (AtEnd e o) empty opened = opened o
 unended_none place (AtStop n rest o k) empty opened = key_not_empty n wires.EndGroup rest (subst (λ b. KeyFront n wires.EndGroup b rest) empty k)
 
-pub end_no_fault : (schema : Schema) (place : Place) (e : DecodeError) → EndNext place → Comes schema e place → ⊥
-end_no_fault schema place errors.Truncated x (inl (some, f)) = stop_no_fault place errors.Truncated x some f
-end_no_fault schema place errors.Truncated x (inr (inl (empty, opened))) = unended_none place x empty opened
-end_no_fault schema place errors.Truncated x (inr (inr (inl f))) = let (n, rest, o, h) = next_at_end place (λ n w rest. PayloadEnds w rest) x f in h
-end_no_fault schema place errors.Truncated x (inr (inr (inr f))) =
-    let (n, rest, o, (_, _, h)) = next_at_end place (FieldThen schema place (PackedNext errors.Truncated)) x (field_next schema place (PackedNext errors.Truncated) f) in end_no_len h.0
-end_no_fault schema place errors.Varint x (inl f) = stop_no_fault place errors.Varint x (passing_some place.bytes f) f
-end_no_fault schema place errors.Varint x (inr (inl f)) = let (n, rest, o, h) = next_at_end place (λ n w rest. PayloadPasses w rest) x f in h
-end_no_fault schema place errors.Varint x (inr (inr f)) =
-    let (n, rest, o, (_, _, h)) = next_at_end place (FieldThen schema place (PackedNext errors.Varint)) x (field_next schema place (PackedNext errors.Varint) f) in end_no_len h.0
-end_no_fault schema place errors.Key x f = stop_no_fault place errors.Key x (no_key_some place.bytes f) f
-end_no_fault schema place errors.WireType x f =
-    let (n, rest, o, (_, _, h)) = next_at_end place (FieldThen schema place (λ f w rest. (w ≢ wires.EndGroup) × (takes f.form f.value_type.kind w ≡ false))) x (field_next schema place (λ f w rest. (w ≢ wires.EndGroup) × (takes f.form f.value_type.kind w ≡ false)) f) in h.0 refl
-end_no_fault schema place errors.EndGroup x f = let (n, rest, o, h) = next_at_end place (λ n w rest. (w ≡ wires.EndGroup) × (place.open_group ≢ Some n)) x f in h.1 o
-end_no_fault schema place errors.Utf8 x f = let (n, rest, o, (_, _, h)) = next_at_end place (FieldThen schema place TextNext) x (field_next schema place TextNext f) in end_no_len h.0
-end_no_fault schema place errors.Depth x f =
-    let (n, rest, o, h) = next_at_end place (λ n w rest. opens_level (field_at schema place.inside n) w ≡ true) x f.1 in not_both h (end_opens_none (field_at schema place.inside n))
-end_no_fault schema place e x f = absurd f
+module _ (schema : Schema) (place : Place) where
+  pub end_no_fault : (e : DecodeError) → EndNext place → Comes schema e place → ⊥
+  end_no_fault errors.Truncated x (inl (some, f)) = stop_no_fault place errors.Truncated x some f
+  end_no_fault errors.Truncated x (inr (inl (empty, opened))) = unended_none place x empty opened
+  end_no_fault errors.Truncated x (inr (inr (inl f))) = let (n, rest, o, h) = next_at_end place (λ n w rest. PayloadEnds w rest) x f in h
+  end_no_fault errors.Truncated x (inr (inr (inr f))) =
+      let (n, rest, o, (_, _, h)) = next_at_end place (FieldThen schema place (PackedNext errors.Truncated)) x (field_next schema place (PackedNext errors.Truncated) f) in end_no_len h.0
+  end_no_fault errors.Varint x (inl f) = stop_no_fault place errors.Varint x (passing_some place.bytes f) f
+  end_no_fault errors.Varint x (inr (inl f)) = let (n, rest, o, h) = next_at_end place (λ n w rest. PayloadPasses w rest) x f in h
+  end_no_fault errors.Varint x (inr (inr f)) =
+      let (n, rest, o, (_, _, h)) = next_at_end place (FieldThen schema place (PackedNext errors.Varint)) x (field_next schema place (PackedNext errors.Varint) f) in end_no_len h.0
+  end_no_fault errors.Key x f = stop_no_fault place errors.Key x (no_key_some place.bytes f) f
+  end_no_fault errors.WireType x f =
+      let (n, rest, o, (_, _, h)) = next_at_end place (FieldThen schema place (λ f w rest. (w ≢ wires.EndGroup) × (takes f.form f.value_type.kind w ≡ false))) x (field_next schema place (λ f w rest. (w ≢ wires.EndGroup) × (takes f.form f.value_type.kind w ≡ false)) f) in h.0 refl
+  end_no_fault errors.EndGroup x f = let (n, rest, o, h) = next_at_end place (λ n w rest. (w ≡ wires.EndGroup) × (place.open_group ≢ Some n)) x f in h.1 o
+  end_no_fault errors.Utf8 x f = let (n, rest, o, (_, _, h)) = next_at_end place (FieldThen schema place TextNext) x (field_next schema place TextNext f) in end_no_len h.0
+  end_no_fault errors.Depth x f =
+      let (n, rest, o, h) = next_at_end place (λ n w rest. opens_level (field_at schema place.inside n) w ≡ true) x f.1 in not_both h (end_opens_none (field_at schema place.inside n))
+  end_no_fault e x f = absurd f
 
--- WHERE A RECORD COMES
+  -- WHERE A RECORD COMES
 
-pub known_allowed : (schema : Schema) (place : Place) (n : ℕ) (p : Payload) (f : Field) → payload_allowed schema place n p ≡ true → field_at schema place.inside n ≡ Some f →
-    field_allowed place.levels (inner schema place.levels) f.form f.value_type p ≡ true
-known_allowed schema place n p f allowed found =
-    sym (ap (λ o. elim o [ None ↦ nat_le (payload_levels p) place.levels | Some g ↦ field_allowed place.levels (inner schema place.levels) g.form g.value_type p ]) found) ∙ allowed
+  pub known_allowed : (n : ℕ) (p : Payload) (f : Field) → payload_allowed schema place n p ≡ true → field_at schema place.inside n ≡ Some f →
+      field_allowed place.levels (inner schema place.levels) f.form f.value_type p ≡ true
+  known_allowed n p f allowed found =
+      sym (ap (λ o. elim o [ None ↦ nat_le (payload_levels p) place.levels | Some g ↦ field_allowed place.levels (inner schema place.levels) g.form g.value_type p ]) found) ∙ allowed
 
-pub unknown_allowed : (schema : Schema) (place : Place) (n : ℕ) (p : Payload) → payload_allowed schema place n p ≡ true → field_at schema place.inside n ≡ None → payload_levels p ≤ place.levels
-unknown_allowed schema place n p allowed found =
-    leb-true (payload_levels p) place.levels
-    (sym (ap (λ o. elim o [ None ↦ nat_le (payload_levels p) place.levels | Some g ↦ field_allowed place.levels (inner schema place.levels) g.form g.value_type p ]) found) ∙ allowed)
+  pub unknown_allowed : (n : ℕ) (p : Payload) → payload_allowed schema place n p ≡ true → field_at schema place.inside n ≡ None → payload_levels p ≤ place.levels
+  unknown_allowed n p allowed found =
+      leb-true (payload_levels p) place.levels
+      (sym (ap (λ o. elim o [ None ↦ nat_le (payload_levels p) place.levels | Some g ↦ field_allowed place.levels (inner schema place.levels) g.form g.value_type p ]) found) ∙ allowed)
 
 payload_no_fault : (e : DecodeError) (n : ℕ) (p : Payload) (bytes rest : List ℕ) → PayloadFront n p bytes rest → PlainFault e (payload_wire p) bytes → ⊥
 payload_no_fault e n (Flat p) bytes rest f h = plain_no_fault e p bytes rest f h
@@ -169,10 +170,7 @@ payload_no_fault e n (Group inside) bytes rest f h = absurd h
 -- a delimited payload comes next
 pub len_front : (n : ℕ) (p : Payload) (bytes rest body after : List ℕ) → payload_wire p ≡ wires.LengthDelimited → PayloadFront n p bytes rest → DelimitedFront body bytes after → (p ≡ Flat (Len body)) × (rest ≡ after)
 len_front n (Flat (Len b)) bytes rest body after e f d = let (same, behind) = delimited_once b body bytes rest after (plain_delimited b bytes rest f) d in (ap (λ b. Flat (Len b)) same, behind)
-len_front n (Flat (Var v)) bytes rest body after e f d = absurd cc
-len_front n (Flat (Fix64 v)) bytes rest body after e f d = absurd cc
-len_front n (Flat (Fix32 v)) bytes rest body after e f d = absurd cc
-len_front n (Group inside) bytes rest body after e f d = absurd cc
+len_front n _ bytes rest body after e f d = absurd cc
 
 -- one value or a packed record of the kind
 pub kind_allowed : (k : ℕ) (inner : AllowsInside) (f : Field) (kind : Kind) (p : Payload) → is_map f.form ≡ false → f.value_type.kind ≡ kind → field_allowed k inner f.form f.value_type p ≡ true → one_or_packed inner kind p ≡ true

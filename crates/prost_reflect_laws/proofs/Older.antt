@@ -96,39 +96,40 @@ level_same pairs k (MessageOf A) (MessageOf B) h = refl
 level_same pairs k (GroupOf A) (GroupOf B) h = refl
 level_same pairs k _ _ h = absurd (true≢false (sym h))
 
-entry_smaller : (pairs : TypePairs) (k : ℕ) (outer inner : AllowsInside) (keyA tA keyB tB : ValueType) (r : Record) → Smaller pairs k outer inner → same_kind pairs keyA.kind keyB.kind ≡ true → same_kind pairs tA.kind tB.kind ≡ true →
-    in_entry_allowed k inner keyB tB r ≡ true → in_entry_allowed k outer keyA tA r ≡ true
-entry_smaller pairs k outer inner keyA tA keyB tB r s h t = go (nat_eq r.number 1) (nat_eq r.number 2)
-  where
-    go : (b c : Bool) → cond b (one_allowed inner keyB.kind r.payload) (cond c (one_allowed inner tB.kind r.payload) (nat_le (payload_levels r.payload) k)) ≡ true
-        → cond b (one_allowed outer keyA.kind r.payload) (cond c (one_allowed outer tA.kind r.payload) (nat_le (payload_levels r.payload) k)) ≡ true
-    go true c e = one_smaller pairs k outer inner keyA.kind keyB.kind r.payload s h e
-    go false true e = one_smaller pairs k outer inner tA.kind tB.kind r.payload s t e
-    go false false e = e
+module _ (pairs : TypePairs) (k : ℕ) (outer inner : AllowsInside) where
+  entry_smaller : (keyA tA keyB tB : ValueType) (r : Record) → Smaller pairs k outer inner → same_kind pairs keyA.kind keyB.kind ≡ true → same_kind pairs tA.kind tB.kind ≡ true →
+      in_entry_allowed k inner keyB tB r ≡ true → in_entry_allowed k outer keyA tA r ≡ true
+  entry_smaller keyA tA keyB tB r s h t = go (nat_eq r.number 1) (nat_eq r.number 2)
+    where
+      go : (b c : Bool) → cond b (one_allowed inner keyB.kind r.payload) (cond c (one_allowed inner tB.kind r.payload) (nat_le (payload_levels r.payload) k)) ≡ true
+          → cond b (one_allowed outer keyA.kind r.payload) (cond c (one_allowed outer tA.kind r.payload) (nat_le (payload_levels r.payload) k)) ≡ true
+      go true c e = one_smaller pairs k outer inner keyA.kind keyB.kind r.payload s h e
+      go false true e = one_smaller pairs k outer inner tA.kind tB.kind r.payload s t e
+      go false false e = e
 
-field_smaller : (pairs : TypePairs) (k : ℕ) (outer inner : AllowsInside) (cA cB : FieldForm) (tA tB : ValueType) (p : Payload) → Smaller pairs k outer inner → same_form pairs cA cB ≡ true → same_kind pairs tA.kind tB.kind ≡ true →
-    field_allowed k inner cB tB p ≡ true → field_allowed k outer cA tA p ≡ true
-field_smaller pairs k outer inner Singular Singular tA tB p s c t e = one_smaller pairs k outer inner tA.kind tB.kind p s t e
-field_smaller pairs k outer inner (Repeated x) (Repeated y) tA tB p s c t e =
-    or_case (one_allowed inner tB.kind p) (packed_allowed tB.kind p) (one_allowed outer tA.kind p) (packed_allowed tA.kind p) (one_smaller pairs k outer inner tA.kind tB.kind p s t) (packed_smaller pairs tA.kind tB.kind p t) e
-field_smaller pairs k outer inner (MapFrom keyA) (MapFrom keyB) tA tB p s c t e =
-    let (ab, inside) = and_parts (is_len p && has_level k tB.kind) (passes (body p) (list_all (in_entry_allowed k inner keyB tB))) e in
-    let (shape, level) = and_parts (is_len p) (has_level k tB.kind) ab in
-    let key : SameType pairs keyA keyB = same_type pairs keyA keyB c in
-    and_from _ _ (and_from _ _ shape (sym (level_same pairs k tA.kind tB.kind t) ∙ level))
-    (passes_more (body p) (list_all (in_entry_allowed k inner keyB tB)) (list_all (in_entry_allowed k outer keyA tA))
-    (λ rs. all_implied (in_entry_allowed k inner keyB tB) (in_entry_allowed k outer keyA tA) rs (λ r. entry_smaller pairs k outer inner keyA tA keyB tB r s key.kind t)) inside)
-field_smaller pairs k outer inner _ _ tA tB p s c t e = absurd (true≢false (sym c))
+  field_smaller : (cA cB : FieldForm) (tA tB : ValueType) (p : Payload) → Smaller pairs k outer inner → same_form pairs cA cB ≡ true → same_kind pairs tA.kind tB.kind ≡ true →
+      field_allowed k inner cB tB p ≡ true → field_allowed k outer cA tA p ≡ true
+  field_smaller Singular Singular tA tB p s c t e = one_smaller pairs k outer inner tA.kind tB.kind p s t e
+  field_smaller (Repeated x) (Repeated y) tA tB p s c t e =
+      or_case (one_allowed inner tB.kind p) (packed_allowed tB.kind p) (one_allowed outer tA.kind p) (packed_allowed tA.kind p) (one_smaller pairs k outer inner tA.kind tB.kind p s t) (packed_smaller pairs tA.kind tB.kind p t) e
+  field_smaller (MapFrom keyA) (MapFrom keyB) tA tB p s c t e =
+      let (ab, inside) = and_parts (is_len p && has_level k tB.kind) (passes (body p) (list_all (in_entry_allowed k inner keyB tB))) e in
+      let (shape, level) = and_parts (is_len p) (has_level k tB.kind) ab in
+      let key : SameType pairs keyA keyB = same_type pairs keyA keyB c in
+      and_from _ _ (and_from _ _ shape (sym (level_same pairs k tA.kind tB.kind t) ∙ level))
+      (passes_more (body p) (list_all (in_entry_allowed k inner keyB tB)) (list_all (in_entry_allowed k outer keyA tA))
+      (λ rs. all_implied (in_entry_allowed k inner keyB tB) (in_entry_allowed k outer keyA tA) rs (λ r. entry_smaller keyA tA keyB tB r s key.kind t)) inside)
+  field_smaller _ _ tA tB p s c t e = absurd (true≢false (sym c))
 
-record_smaller : (pairs : TypePairs) (k : ℕ) (outer inner : AllowsInside) (older newer : List Field) (r : Record) → Smaller pairs k outer inner → TypesMatch pairs older newer → record_allowed k inner newer r ≡ true → record_allowed k outer older r ≡ true
-record_smaller pairs k outer inner older newer r s m e = go (field_of older r.number) refl
-  where
-    go : (o : Option Field) → field_of older r.number ≡ o → (elim o [ None ↦ nat_le (payload_levels r.payload) k | Some f ↦ field_allowed k outer f.form f.value_type r.payload ]) ≡ true
-    go None lacking = le-leb (payload_levels r.payload) k (record_shallow k inner newer r s.shallow e)
-    go (Some f) found =
-        let (g, l) = like pairs older newer r.number f m found in
-        field_smaller pairs k outer inner f.form g.form f.value_type g.value_type r.payload s l.form l.type.kind
-        (sym (ap (λ (o : Option Field). elim o [ None ↦ nat_le (payload_levels r.payload) k | Some f ↦ field_allowed k inner f.form f.value_type r.payload ]) (ap (field_of newer) (sym (field_number older r.number f found)) ∙ l.found)) ∙ e)
+  record_smaller : (older newer : List Field) (r : Record) → Smaller pairs k outer inner → TypesMatch pairs older newer → record_allowed k inner newer r ≡ true → record_allowed k outer older r ≡ true
+  record_smaller older newer r s m e = go (field_of older r.number) refl
+    where
+      go : (o : Option Field) → field_of older r.number ≡ o → (elim o [ None ↦ nat_le (payload_levels r.payload) k | Some f ↦ field_allowed k outer f.form f.value_type r.payload ]) ≡ true
+      go None lacking = le-leb (payload_levels r.payload) k (record_shallow k inner newer r s.shallow e)
+      go (Some f) found =
+          let (g, l) = like pairs older newer r.number f m found in
+          field_smaller f.form g.form f.value_type g.value_type r.payload s l.form l.type.kind
+          (sym (ap (λ (o : Option Field). elim o [ None ↦ nat_le (payload_levels r.payload) k | Some f ↦ field_allowed k inner f.form f.value_type r.payload ]) (ap (field_of newer) (sym (field_number older r.number f found)) ∙ l.found)) ∙ e)
 
 pub allows_smaller : (pairs : TypePairs) (older newer : Schema) (k A B : ℕ) (rs : List Record) → AllMatch pairs older newer → holds pairs A B ≡ true → allows newer k B rs ≡ true → allows older k A rs ≡ true
 unfolding allows

@@ -1,5 +1,5 @@
 -- The records of lists of scalars are read as them, packed or not.
-use Rattle.prost_reflect_laws.proofs.Common.{◌≡◌, ℕ, zero, suc, ◌+◌, ◌^◌, ◌<◌, true, cond, not, List, [], ◌∷◌, ◌++◌, map, filter, flat_map, length, nat_eq, Option, Some, refl, ap, ap₂, sym, ◌∙◌, arith, true≢false, length-append, append-nil, ⊤, ltb-true, eqb-true, and_parts, are_bytes, short, ◌>>=◌, Plain, Var, Fix64, Len, Fix32, Payload, Flat, plain_wire, plain_at, SpellsPlain, short_plain, plain_valid, Scalar, F64, F32, I64, U64, I32, U32, Boolean, Text, Bytes, EnumNumber, ScalarKind, Double, Float, Int64, Uint64, Int32, Fixed64, Fixed32, BoolKind, StringKind, BytesKind, Uint32, Sfixed32, Sfixed64, Sint32, Sint64, Enum, kind_wire, written, scalar_valid, Kind, ScalarOf, Repeated, Field, field_of, is_packable, Value, ScalarValue, MessageValue, ListValue, MapValue, Values, NoValues, Item, values_from, or_none, plains_within, unpacked, element_payloads_in, is_stray, value_records, value_payloads, stray_payloads, unknown_payloads, MeansInside, element, scalar_values, present_list, field_value, record_at, end_to_end, list_payloads, value_payload, element_payloads, element_valid, elements_valid, plain_read, varint_some, short_plain_ok, short_varint, WireType, block, ValueBack, ElementBack, ElementsBack}
+use Rattle.prost_reflect_laws.proofs.Common.{◌≡◌, ℕ, zero, suc, ◌+◌, ◌^◌, ◌<◌, true, cond, not, List, [], ◌∷◌, ◌++◌, map, filter, flat_map, length, nat_eq, Option, Some, refl, ap, ap₂, sym, ◌∙◌, arith, true≢false, length-append, append-nil, ⊤, ltb-true, eqb-true, and_parts, are_bytes, short, ◌>>=◌, Plain, Var, Fix64, Len, Fix32, Payload, Flat, plain_wire, plain_at, SpellsPlain, short_plain, plain_valid, Scalar, F64, F32, I64, U64, I32, U32, Boolean, Text, Bytes, EnumNumber, ScalarKind, Double, Float, Int64, Uint64, Int32, Fixed64, Fixed32, BoolKind, StringKind, BytesKind, Uint32, Sfixed32, Sfixed64, Sint32, Sint64, Enum, kind_wire, written, scalar_valid, Kind, ScalarOf, Repeated, Field, field_of, is_packable, Value, ScalarValue, ListValue, Values, NoValues, Item, values_from, or_none, plains_within, unpacked, element_payloads_in, is_stray, value_records, value_payloads, stray_payloads, unknown_payloads, MeansInside, element, scalar_values, present_list, field_value, record_at, end_to_end, list_payloads, value_payload, element_payloads, element_valid, elements_valid, plain_read, varint_some, short_plain_ok, short_varint, WireType, block, ValueBack, ElementBack, ElementsBack}
 use Rattle.prost_reflect_laws.proofs.Table.{read_back, written_declared}
 use Rattle.prost_reflect_laws.proofs.Values.{value_records_known, unknown_known}
 use Rattle.prost_reflect_laws.proofs.Lists.{all_elements}
@@ -37,9 +37,7 @@ scalars_back inner kind (Item v vs) h =
   where
     go : (v : Value) → element_valid (ScalarOf kind) v ≡ true → ElementBack inner (ScalarOf kind) v
     go (ScalarValue v) h = scalar_element inner kind v h
-    go (MessageValue c) h = absurd (true≢false (sym h))
-    go (ListValue vs) h = absurd (true≢false (sym h))
-    go (MapValue ps) h = absurd (true≢false (sym h))
+    go _ h = absurd (true≢false (sym h))
 
 -- ELEMENTS END TO END
 
@@ -57,15 +55,13 @@ packable Int32 (I32 z) p h = record { valid = written_valid Int32 (I32 z) h tt; 
 packable Fixed64 (U64 n) p h = record { valid = written_valid Fixed64 (U64 n) h tt; wire = refl }
 packable Fixed32 (U32 n) p h = record { valid = written_valid Fixed32 (U32 n) h tt; wire = refl }
 packable BoolKind (Boolean b) p h = record { valid = written_valid BoolKind (Boolean b) h tt; wire = refl }
-packable StringKind v p h = absurd (true≢false (sym p))
-packable BytesKind v p h = absurd (true≢false (sym p))
 packable Uint32 (U32 n) p h = record { valid = written_valid Uint32 (U32 n) h tt; wire = refl }
 packable (Enum first numbers) (EnumNumber z) p h = record { valid = written_valid (Enum first numbers) (EnumNumber z) h tt; wire = refl }
 packable Sfixed32 (I32 z) p h = record { valid = written_valid Sfixed32 (I32 z) h tt; wire = refl }
 packable Sfixed64 (I64 z) p h = record { valid = written_valid Sfixed64 (I64 z) h tt; wire = refl }
 packable Sint32 (I32 z) p h = record { valid = written_valid Sint32 (I32 z) h tt; wire = refl }
 packable Sint64 (I64 z) p h = record { valid = written_valid Sint64 (I64 z) h tt; wire = refl }
-packable _ v p h = absurd (true≢false (sym h))
+packable _ v p h = cc
 
 AllPackable : WireType → List Plain → Type 0
 AllPackable w [] = ⊤
@@ -111,9 +107,7 @@ plains_same kind (Item (ScalarValue v) vs) p h =
     let (one, more) = and_parts (scalar_valid kind v) (elements_valid (ScalarOf kind) vs) h in
     let (same, all) = plains_same kind vs p more in
     (ap (λ l. Flat (written kind v) ∷ l) same, (packable kind v p one, all))
-plains_same kind (Item (MessageValue c) vs) p h = absurd (true≢false (sym h))
-plains_same kind (Item (ListValue ws) vs) p h = absurd (true≢false (sym h))
-plains_same kind (Item (MapValue ps) vs) p h = absurd (true≢false (sym h))
+plains_same kind _ p h = absurd (true≢false (sym h))
 
 -- packed elements are read as they would be one by one
 pub unpacked_back : (kind : ScalarKind) (vs : Values) → is_packable kind ≡ true → elements_valid (ScalarOf kind) vs ≡ true →

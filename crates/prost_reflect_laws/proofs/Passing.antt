@@ -48,21 +48,22 @@ no_level pairs i j = record {
   nothing = λ B h. absurd (true≢false (sym h));
 }
 
-pub carried : (pairs : TypePairs) (older newer : Schema) (k : ℕ) → schema_valid older ≡ true → AllMatch pairs older newer → Carries pairs (suc k) (meaning older k) (allows newer k) (meaning newer k)
-unfolding meaning allows
-carried pairs older newer zero checked all = next_level pairs 0 (empty_inside older) nothing_inside (empty_inside newer) older newer checked all (no_level pairs (empty_inside older) (empty_inside newer))
-carried pairs older newer (suc k) checked all = next_level pairs (suc k) (meaning older k) (allows newer k) (meaning newer k) older newer checked all (carried pairs older newer k checked all)
+module _ (pairs : TypePairs) (older newer : Schema) where
+  pub carried : (k : ℕ) → schema_valid older ≡ true → AllMatch pairs older newer → Carries pairs (suc k) (meaning older k) (allows newer k) (meaning newer k)
+  unfolding meaning allows
+  carried zero checked all = next_level pairs 0 (empty_inside older) nothing_inside (empty_inside newer) older newer checked all (no_level pairs (empty_inside older) (empty_inside newer))
+  carried (suc k) checked all = next_level pairs (suc k) (meaning older k) (allows newer k) (meaning newer k) older newer checked all (carried k checked all)
 
--- records that are allowed at the last level, and above it
-pub step_zero : (pairs : TypePairs) (older newer : Schema) (A B : ℕ) (rs : List Record) → schema_valid older ≡ true → AllMatch pairs older newer → holds pairs A B ≡ true → valid (body_of rs) ≡ true → allows newer 0 B rs ≡ true →
-    Step pairs 0 (empty_inside older) nothing_inside (empty_inside newer) older newer A B rs
-unfolding allows
-step_zero pairs older newer A B rs checked all h ok e = step_of pairs 0 (empty_inside older) nothing_inside (empty_inside newer) older newer A B rs checked all (no_level pairs (empty_inside older) (empty_inside newer)) h ok e
+  -- records that are allowed at the last level, and above it
+  pub step_zero : (A B : ℕ) (rs : List Record) → schema_valid older ≡ true → AllMatch pairs older newer → holds pairs A B ≡ true → valid (body_of rs) ≡ true → allows newer 0 B rs ≡ true →
+      Step pairs 0 (empty_inside older) nothing_inside (empty_inside newer) older newer A B rs
+  unfolding allows
+  step_zero A B rs checked all h ok e = step_of pairs 0 (empty_inside older) nothing_inside (empty_inside newer) older newer A B rs checked all (no_level pairs (empty_inside older) (empty_inside newer)) h ok e
 
-pub step_next : (pairs : TypePairs) (older newer : Schema) (k A B : ℕ) (rs : List Record) → schema_valid older ≡ true → AllMatch pairs older newer → holds pairs A B ≡ true → valid (body_of rs) ≡ true → allows newer (suc k) B rs ≡ true →
-    Step pairs (suc k) (meaning older k) (allows newer k) (meaning newer k) older newer A B rs
-unfolding allows
-step_next pairs older newer k A B rs checked all h ok e = step_of pairs (suc k) (meaning older k) (allows newer k) (meaning newer k) older newer A B rs checked all (carried pairs older newer k checked all) h ok e
+  pub step_next : (k A B : ℕ) (rs : List Record) → schema_valid older ≡ true → AllMatch pairs older newer → holds pairs A B ≡ true → valid (body_of rs) ≡ true → allows newer (suc k) B rs ≡ true →
+      Step pairs (suc k) (meaning older k) (allows newer k) (meaning newer k) older newer A B rs
+  unfolding allows
+  step_next k A B rs checked all h ok e = step_of pairs (suc k) (meaning older k) (allows newer k) (meaning newer k) older newer A B rs checked all (carried k checked all) h ok e
 
 -- BYTES
 

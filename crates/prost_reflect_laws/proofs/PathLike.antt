@@ -7,48 +7,44 @@ use Rattle.prost_reflect_laws.proofs.ValueCarried.{single_like, list_like, map_l
 
 -- VALUES
 
-takes_like : (pairs : TypePairs) (k l : Kind) (v : Scalar) → same_kind pairs k l ≡ true → kind_takes k v ≡ true → kind_takes l v ≡ true
-takes_like pairs (ScalarOf k) (ScalarOf l) v h t = (alike k l h).takes v ∙ t
-takes_like pairs (ScalarOf k) (MessageOf B) v h t = absurd (true≢false (sym h))
-takes_like pairs (ScalarOf k) (GroupOf B) v h t = absurd (true≢false (sym h))
-takes_like pairs (MessageOf A) l v h t = absurd (true≢false (sym t))
-takes_like pairs (GroupOf A) l v h t = absurd (true≢false (sym t))
+module _ (pairs : TypePairs) where
+  takes_like : (k l : Kind) (v : Scalar) → same_kind pairs k l ≡ true → kind_takes k v ≡ true → kind_takes l v ≡ true
+  takes_like (ScalarOf k) (ScalarOf l) v h t = (alike k l h).takes v ∙ t
+  takes_like _ l v h t = cc
 
-element_like : (pairs : TypePairs) (k l : Kind) (v : Value) → same_kind pairs k l ≡ true → element_valid k v ≡ true → holds_message v ≡ false → element_valid l v ≡ true
-element_like pairs k l (ScalarValue v) h t none = takes_like pairs k l v h t
-element_like pairs k l (MessageValue c) h t none = absurd (true≢false none)
-element_like pairs k l (ListValue vs) h t none = absurd (true≢false (sym t))
-element_like pairs k l (MapValue ps) h t none = absurd (true≢false (sym t))
+  element_like : (k l : Kind) (v : Value) → same_kind pairs k l ≡ true → element_valid k v ≡ true → holds_message v ≡ false → element_valid l v ≡ true
+  element_like k l (ScalarValue v) h t none = takes_like k l v h t
+  element_like k l _ h t none = cc
 
-elements_like : (pairs : TypePairs) (k l : Kind) (vs : Values) → same_kind pairs k l ≡ true → elements_valid k vs ≡ true → values_hold_message vs ≡ false → elements_valid l vs ≡ true
-elements_like pairs k l NoValues h t none = refl
-elements_like pairs k l (Item v vs) h t none =
-    let (one, more) = and_parts (element_valid k v) (elements_valid k vs) t in
-    let (a, b) = or_parts (holds_message v) (values_hold_message vs) none in
-    and_from _ _ (element_like pairs k l v h one a) (elements_like pairs k l vs h more b)
+  elements_like : (k l : Kind) (vs : Values) → same_kind pairs k l ≡ true → elements_valid k vs ≡ true → values_hold_message vs ≡ false → elements_valid l vs ≡ true
+  elements_like k l NoValues h t none = refl
+  elements_like k l (Item v vs) h t none =
+      let (one, more) = and_parts (element_valid k v) (elements_valid k vs) t in
+      let (a, b) = or_parts (holds_message v) (values_hold_message vs) none in
+      and_from _ _ (element_like k l v h one a) (elements_like k l vs h more b)
 
-pairs_like : (pairs : TypePairs) (keyA keyB : ValueType) (k l : Kind) (ps : Pairs) → SameType pairs keyA keyB → same_kind pairs k l ≡ true → pairs_valid (MapFrom keyA) k ps ≡ true → pairs_hold_message ps ≡ false → pairs_valid (MapFrom keyB) l ps ≡ true
-pairs_like pairs keyA keyB k l NoPairs key h t none = refl
-pairs_like pairs keyA keyB k l (Pair x v ps) key h t none =
-    let (here, more) = and_parts (kind_takes keyA.kind x && element_valid k v) (pairs_valid (MapFrom keyA) k ps) t in
-    let (takes, fits) = and_parts (kind_takes keyA.kind x) (element_valid k v) here in
-    let (a, b) = or_parts (holds_message v) (pairs_hold_message ps) none in
-    and_from _ _ (and_from _ _ (takes_like pairs keyA.kind keyB.kind x key.kind takes) (element_like pairs k l v h fits a)) (pairs_like pairs keyA keyB k l ps key h more b)
+  pairs_like : (keyA keyB : ValueType) (k l : Kind) (ps : Pairs) → SameType pairs keyA keyB → same_kind pairs k l ≡ true → pairs_valid (MapFrom keyA) k ps ≡ true → pairs_hold_message ps ≡ false → pairs_valid (MapFrom keyB) l ps ≡ true
+  pairs_like keyA keyB k l NoPairs key h t none = refl
+  pairs_like keyA keyB k l (Pair x v ps) key h t none =
+      let (here, more) = and_parts (kind_takes keyA.kind x && element_valid k v) (pairs_valid (MapFrom keyA) k ps) t in
+      let (takes, fits) = and_parts (kind_takes keyA.kind x) (element_valid k v) here in
+      let (a, b) = or_parts (holds_message v) (pairs_hold_message ps) none in
+      and_from _ _ (and_from _ _ (takes_like keyA.kind keyB.kind x key.kind takes) (element_like k l v h fits a)) (pairs_like keyA keyB k l ps key h more b)
 
-valid_like : (pairs : TypePairs) (f g : Field) (v : Value) → same_form pairs f.form g.form ≡ true → SameType pairs f.value_type g.value_type → value_valid f v ≡ true → holds_message v ≡ false → value_valid g v ≡ true
-valid_like pairs f g (MessageValue c) form type t none = absurd (true≢false none)
-valid_like pairs f g (ScalarValue v) form type t none =
-    let (s, takes) = and_parts (is_singular f.form) (kind_takes f.value_type.kind v) t in
-    and_from _ _ (ap is_singular (single_like pairs f.form g.form (singular f.form s) form)) (takes_like pairs f.value_type.kind g.value_type.kind v type.kind takes)
-valid_like pairs f g (ListValue vs) form type t none =
-    let (r, fits) = and_parts (is_list f.form) (elements_valid f.value_type.kind vs) t in
-    let (x, is) = repeated f.form r in
-    let (y, its) = list_like pairs f.form g.form x is form in
-    and_from _ _ (ap is_list its) (elements_like pairs f.value_type.kind g.value_type.kind vs type.kind fits none)
-valid_like pairs f g (MapValue ps) form type t none =
-    let (keyA, is) = of_map f.form f.value_type.kind ps t in
-    let (keyB, its, key) = map_like pairs f.form g.form keyA is form in
-    ap (λ c. pairs_valid c g.value_type.kind ps) its ∙ pairs_like pairs keyA keyB f.value_type.kind g.value_type.kind ps key type.kind (ap (λ c. pairs_valid c f.value_type.kind ps) (sym is) ∙ t) none
+  valid_like : (f g : Field) (v : Value) → same_form pairs f.form g.form ≡ true → SameType pairs f.value_type g.value_type → value_valid f v ≡ true → holds_message v ≡ false → value_valid g v ≡ true
+  valid_like f g (MessageValue c) form type t none = absurd (true≢false none)
+  valid_like f g (ScalarValue v) form type t none =
+      let (s, takes) = and_parts (is_singular f.form) (kind_takes f.value_type.kind v) t in
+      and_from _ _ (ap is_singular (single_like pairs f.form g.form (singular f.form s) form)) (takes_like f.value_type.kind g.value_type.kind v type.kind takes)
+  valid_like f g (ListValue vs) form type t none =
+      let (r, fits) = and_parts (is_list f.form) (elements_valid f.value_type.kind vs) t in
+      let (x, is) = repeated f.form r in
+      let (y, its) = list_like pairs f.form g.form x is form in
+      and_from _ _ (ap is_list its) (elements_like f.value_type.kind g.value_type.kind vs type.kind fits none)
+  valid_like f g (MapValue ps) form type t none =
+      let (keyA, is) = of_map f.form f.value_type.kind ps t in
+      let (keyB, its, key) = map_like pairs f.form g.form keyA is form in
+      ap (λ c. pairs_valid c g.value_type.kind ps) its ∙ pairs_like keyA keyB f.value_type.kind g.value_type.kind ps key type.kind (ap (λ c. pairs_valid c f.value_type.kind ps) (sym is) ∙ t) none
 
 -- without messages any types will do
 mutual
@@ -82,10 +78,7 @@ pub message_like : (pairs : TypePairs) (k l : Kind) (U : ℕ) → same_kind pair
 message_like pairs (MessageOf A) (MessageOf B) U h e = (B, refl, ap (λ (o : Option ℕ). elim o [ None ↦ false | Some x ↦ holds pairs x B ]) (sym e) ∙ h)
 message_like pairs (GroupOf A) (GroupOf B) U h e = (B, refl, ap (λ (o : Option ℕ). elim o [ None ↦ false | Some x ↦ holds pairs x B ]) (sym e) ∙ h)
 message_like pairs (ScalarOf k) l U h e = cc
-message_like pairs (MessageOf A) (ScalarOf l) U h e = absurd (true≢false (sym h))
-message_like pairs (MessageOf A) (GroupOf B) U h e = absurd (true≢false (sym h))
-message_like pairs (GroupOf A) (ScalarOf l) U h e = absurd (true≢false (sym h))
-message_like pairs (GroupOf A) (MessageOf B) U h e = absurd (true≢false (sym h))
+message_like pairs _ _ U h e = absurd (true≢false (sym h))
 
 pub path_like : (pairs : TypePairs) (older newer : Schema) (A B : ℕ) (path : List ℕ) (v : Value) → AllMatch pairs older newer → holds pairs A B ≡ true → holds_message v ≡ false → PathTo older A path v → PathTo newer B path v
 path_like pairs older newer A B [] v all h none p = p

@@ -1,5 +1,5 @@
 -- Bodies at their places: records that spell the bytes and are allowed there.
-use Rattle.prost_reflect_laws.proofs.Common.{◌≡◌, ℕ, zero, suc, ◌≤◌, Bool, true, false, ◌&&◌, ◌⊎◌, inl, inr, List, [], ◌∷◌, ◌++◌, nat_eq, nat_le, Option, Some, None, refl, sym, ap, ap₂, subst, ◌∙◌, arith, append-nil, true≢false, ◌≢◌, if◌then◌else◌, list_all, leb-true, le-leb, and_parts, AreBytes, ◌>>=◌, Len, Records, NoRecords, PlainRecord, GroupRecord, Record, record_at, Payload, Flat, Group, before, items, raw_levels, payload_levels, payload_wire, Spells, read, wire_code, Schema, ValueType, known, passes, body, AllowsInside, nothing_inside, one_allowed, in_entry_allowed, field_allowed, record_allowed, allows, KeyFront, RecordsFront, PayloadFront, Place, OfType, OfEntry, entry_field, field_at, read_spells, record_parts, RecordParts, first_parts, FrontParts, items_before}
+use Rattle.prost_reflect_laws.proofs.Common.{◌&&◌, ◌≡◌, ℕ, zero, suc, ◌≤◌, Bool, true, false, ◌⊎◌, inl, inr, List, [], ◌∷◌, ◌++◌, nat_eq, nat_le, Option, Some, None, refl, sym, ap, ap₂, subst, ◌∙◌, arith, append-nil, true≢false, ◌≢◌, if◌then◌else◌, list_all, leb-true, le-leb, and_parts, AreBytes, ◌>>=◌, Len, Records, NoRecords, PlainRecord, GroupRecord, Record, record_at, Payload, Flat, Group, before, items, raw_levels, payload_levels, payload_wire, Spells, read, wire_code, Schema, ValueType, known, passes, body, AllowsInside, nothing_inside, one_allowed, in_entry_allowed, field_allowed, record_allowed, allows, KeyFront, RecordsFront, PayloadFront, Place, OfType, OfEntry, entry_field, field_at, read_spells, record_parts, RecordParts, first_parts, FrontParts, items_before}
 use Rattle.prost_reflect_wire.specs.declared.key.WireType.TheVariants as wires
 use Rattle.prost_reflect_laws.proofs.BodyFronts.{none_first, key_bytes, payload_bytes}
 
@@ -69,42 +69,43 @@ end_next : (place : Place) (end rest : List ℕ) (opened : Option ℕ) → place
 end_next place end rest None is at e = AtEnd (at ∙ e.0) is
 end_next place end rest (Some n) is at e = AtStop n rest is (subst (λ b. KeyFront n wires.EndGroup b rest) (sym at) e)
 
-first_behind : (schema : Schema) (place : Place) (n : ℕ) (p : Payload) (rs : Records) (rest : List ℕ) → Body schema place (before (record_at n p) rs) rest → FirstOf schema place rest
-first_behind schema place n p rs rest b =
-    let f : FrontParts (record_at n p) rs place.bytes b.end = first_parts (record_at n p) rs place.bytes b.end b.records in
-    let r : RecordParts n p place.bytes f.mid = record_parts n p place.bytes f.mid f.first in
-    let allowed = and_parts (payload_allowed schema place n p) (list_all (allowed_at schema place) (items rs)) (ap (list_all (allowed_at schema place)) (sym (items_before (record_at n p) rs)) ∙ b.allowed) in
-    record {
-      behind = f.mid;
-      next = record { number = n; payload = p; behind_key = r.mid; key = r.key; front = r.payload; allowed = allowed.0 };
-      records = rs;
-      body = record { small = payload_bytes n p r.mid f.mid (key_bytes n (payload_wire p) place.bytes r.mid b.small r.key) r.payload; end = b.end; records = f.others; ends = b.ends; allowed = allowed.1 };
-    }
+module _ (schema : Schema) (place : Place) where
+  first_behind : (n : ℕ) (p : Payload) (rs : Records) (rest : List ℕ) → Body schema place (before (record_at n p) rs) rest → FirstOf schema place rest
+  first_behind n p rs rest b =
+      let f : FrontParts (record_at n p) rs place.bytes b.end = first_parts (record_at n p) rs place.bytes b.end b.records in
+      let r : RecordParts n p place.bytes f.mid = record_parts n p place.bytes f.mid f.first in
+      let allowed = and_parts (payload_allowed schema place n p) (list_all (allowed_at schema place) (items rs)) (ap (list_all (allowed_at schema place)) (sym (items_before (record_at n p) rs)) ∙ b.allowed) in
+      record {
+        behind = f.mid;
+        next = record { number = n; payload = p; behind_key = r.mid; key = r.key; front = r.payload; allowed = allowed.0 };
+        records = rs;
+        body = record { small = payload_bytes n p r.mid f.mid (key_bytes n (payload_wire p) place.bytes r.mid b.small r.key) r.payload; end = b.end; records = f.others; ends = b.ends; allowed = allowed.1 };
+      }
 
--- What comes next where a body stands.
-pub first_of : (schema : Schema) (place : Place) (rs : Records) (rest : List ℕ) → Body schema place rs rest → EndNext place ⊎ FirstOf schema place rest
-first_of schema place NoRecords rest b = inl (end_next place b.end rest place.open_group refl (none_first place.bytes b.end b.records) b.ends)
-first_of schema place (PlainRecord n p rs) rest b = inr (first_behind schema place n (Flat p) rs rest b)
-first_of schema place (GroupRecord n inside rs) rest b = inr (first_behind schema place n (Group inside) rs rest b)
+  -- What comes next where a body stands.
+  pub first_of : (rs : Records) (rest : List ℕ) → Body schema place rs rest → EndNext place ⊎ FirstOf schema place rest
+  first_of NoRecords rest b = inl (end_next place b.end rest place.open_group refl (none_first place.bytes b.end b.records) b.ends)
+  first_of (PlainRecord n p rs) rest b = inr (first_behind n (Flat p) rs rest b)
+  first_of (GroupRecord n inside rs) rest b = inr (first_behind n (Group inside) rs rest b)
 
--- BODIES INSIDE
+  -- BODIES INSIDE
 
--- Bytes that are read spell a body.
-pub read_body : (schema : Schema) (place : Place) (rs : Records) → AreBytes place.bytes → place.open_group ≡ None → read place.bytes ≡ Some rs → list_all (allowed_at schema place) (items rs) ≡ true → Body schema place rs []
-read_body schema place rs small is found allowed = record {
-  small = small;
-  end = [];
-  records = record { front = place.bytes; spelled = read_spells place.bytes rs small found; parts = sym (append-nil place.bytes) };
-  ends = subst (λ o. Ended o [] []) (sym is) (refl, refl);
-  allowed = allowed;
-}
+  -- Bytes that are read spell a body.
+  pub read_body : (rs : Records) → AreBytes place.bytes → place.open_group ≡ None → read place.bytes ≡ Some rs → list_all (allowed_at schema place) (items rs) ≡ true → Body schema place rs []
+  read_body rs small is found allowed = record {
+    small = small;
+    end = [];
+    records = record { front = place.bytes; spelled = read_spells place.bytes rs small found; parts = sym (append-nil place.bytes) };
+    ends = subst (λ o. Ended o [] []) (sym is) (refl, refl);
+    allowed = allowed;
+  }
 
--- The bytes of a body that ends with them.
-pub body_spells : (schema : Schema) (place : Place) (rs : Records) (rest : List ℕ) → place.open_group ≡ None → Body schema place rs rest → Spells rs place.bytes
-body_spells schema place rs rest is b =
-    let ended : Ended None b.end rest = subst (λ o. Ended o b.end rest) is b.ends in
-    let whole : place.bytes ≡ b.records.front = b.records.parts ∙ ap (λ l. b.records.front ++ l) ended.0 ∙ append-nil b.records.front in
-    subst (Spells rs) (sym whole) b.records.spelled
+  -- The bytes of a body that ends with them.
+  pub body_spells : (rs : Records) (rest : List ℕ) → place.open_group ≡ None → Body schema place rs rest → Spells rs place.bytes
+  body_spells rs rest is b =
+      let ended : Ended None b.end rest = subst (λ o. Ended o b.end rest) is b.ends in
+      let whole : place.bytes ≡ b.records.front = b.records.parts ∙ ap (λ l. b.records.front ++ l) ended.0 ∙ append-nil b.records.front in
+      subst (Spells rs) (sym whole) b.records.spelled
 
 -- In a payload's records a test holds.
 pub record Passed (bytes : List ℕ) (test : List Record → Bool) : Type 0 where

@@ -1,7 +1,7 @@
 -- Pairs put into a map one after another: keys stay in order, and a map in order is what its pairs make.
-use Rattle.prost_reflect_laws.proofs.Common.{◌≡◌, Bool, true, false, cond, ◌&&◌, refl, ap, ◌∙◌, true≢false, ⊤, is_eq, ordering_reverse, and_parts, Scalar, scalar_cmp, scalar_lt, scalar_eq, is_less, Value, Pairs, NoPairs, Pair, key_before, value_ordered, pairs_ordered, put, scalar_decides}
+use Rattle.prost_reflect_laws.proofs.Common.{◌≡◌, Bool, true, false, cond, ◌&&◌, refl, ap, ◌∙◌, ⊤, is_eq, ordering_reverse, and_parts, Scalar, scalar_cmp, scalar_lt, scalar_eq, is_less, Value, Pairs, NoPairs, Pair, key_before, value_ordered, pairs_ordered, put, scalar_decides}
 use Rattle.std.specs.declared.cmp.Ordering.{Ordering}
-use Rattle.std.specs.declared.cmp.Ordering.TheVariants.{Less, Equal, Greater}
+use Rattle.std.specs.declared.cmp.Ordering.TheVariants.{Greater}
 use Rattle.prost_reflect_laws.proofs.Order.{scalar_total, less_less, not_below, not_same}
 
 -- KEYS IN ORDER
@@ -20,9 +20,8 @@ pub otherwise : (k l : Scalar) → scalar_lt k l ≡ false → scalar_eq k l ≡
 otherwise k l h e = ap is_less (scalar_total.antisymm l k) ∙ go (scalar_cmp k l) h e
   where
     go : (o : Ordering) → is_less o ≡ false → is_eq o ≡ false → is_less (ordering_reverse o) ≡ true
-    go Less h e = absurd (true≢false h)
-    go Equal h e = absurd (true≢false e)
     go Greater h e = refl
+    go _ h e = cc
 
 pub before_put : (l k : Scalar) (v : Value) (ps : Pairs) → scalar_lt l k ≡ true → key_before l ps ≡ true → key_before l (put k v ps) ≡ true
 before_put l k v NoPairs h b = h

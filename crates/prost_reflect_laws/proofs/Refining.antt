@@ -55,10 +55,7 @@ kind_more older newer pairs more _ _ w a b h = absurd (true≢false (sym h))
 
 key_more : (pairs more : TypePairs) (k l : Kind) → is_key_kind k ≡ true → same_kind pairs k l ≡ true → same_kind more k l ≡ true
 key_more pairs more (ScalarOf k) (ScalarOf l) key h = h
-key_more pairs more (ScalarOf k) (MessageOf B) key h = absurd (true≢false (sym h))
-key_more pairs more (ScalarOf k) (GroupOf B) key h = absurd (true≢false (sym h))
-key_more pairs more (MessageOf A) l key h = absurd (true≢false (sym key))
-key_more pairs more (GroupOf A) l key h = absurd (true≢false (sym key))
+key_more pairs more _ l key h = cc
 
 type_more : (pairs more : TypePairs) (s t : ValueType) → (same_kind pairs s.kind t.kind ≡ true → same_kind more s.kind t.kind ≡ true) → value_types_match pairs s t ≡ true → value_types_match more s t ≡ true
 type_more pairs more s t kind h =
@@ -141,7 +138,7 @@ row_holds A B (suc m) l = go (nat_eq m B) refl (row_holds A B m)
         let below : B < m = omega (arith, l, eqb-false m B e) in
         ap₂ (λ x y. (x && y) || holds (map (λ B. (A, B)) (numbers_below m)) A B) (eq-eqb A A refl) e ∙ more below
 
-rows_hold : (A B n m : ℕ) → A < n → B < m → holds (flat_map (λ A. map (λ B. (A, B)) (numbers_below m)) (numbers_below n)) A B ≡ true
+pub rows_hold : (A B n m : ℕ) → A < n → B < m → holds (flat_map (λ A. map (λ B. (A, B)) (numbers_below m)) (numbers_below n)) A B ≡ true
 rows_hold A B zero m a b = absurd (omega arith)
 rows_hold A B (suc n) m a b = list_any-append (λ p. nat_eq p.0 A && nat_eq p.1 B) (map (λ B. (n, B)) (numbers_below m)) rest ∙ go (nat_eq n A) refl (rows_hold A B n m)
   where

@@ -42,52 +42,53 @@ agree_none t p n ps ht hp =
 agree_itself : (t p : Record → Bool) (xs ys : List Record) → xs ≡ ys → Agree t p xs ys
 agree_itself t p xs ys e = record { any = ap (list_any p) e; kept = ap (filter t) e; survive = ap (λ l. filter t (after_last p l)) e }
 
--- what both types take of a record
-values_agree : (pairs : TypePairs) (older newer : List Field) (n : ℕ) (f : Field) (r : Record) → TypesMatch pairs older newer → field_of older n ≡ Some f →
-    Agree (has_number n) (λ r. is_sibling older f r.number) (value_records newer r) (value_records older r)
-values_agree pairs older newer n f r m found = go (field_of older r.number) refl
-  where
-    t : Record → Bool
-    t = has_number n
+module _ (pairs : TypePairs) (older newer : List Field) (n : ℕ) where
+  -- what both types take of a record
+  values_agree : (f : Field) (r : Record) → TypesMatch pairs older newer → field_of older n ≡ Some f →
+      Agree (has_number n) (λ r. is_sibling older f r.number) (value_records newer r) (value_records older r)
+  values_agree f r m found = go (field_of older r.number) refl
+    where
+      t : Record → Bool
+      t = has_number n
 
-    p : Record → Bool
-    p r = is_sibling older f r.number
+      p : Record → Bool
+      p r = is_sibling older f r.number
 
-    taken : Option Field → List Record
-    taken o = elim o [ None ↦ [] | Some h ↦ map (λ p. record { number = r.number; payload = p }) (value_payloads h.form h.value_type r.payload) ]
+      taken : Option Field → List Record
+      taken o = elim o [ None ↦ [] | Some h ↦ map (λ p. record { number = r.number; payload = p }) (value_payloads h.form h.value_type r.payload) ]
 
-    go : (o : Option Field) → field_of older r.number ≡ o → Agree (has_number n) (λ r. is_sibling older f r.number) (value_records newer r) (value_records older r)
-    go (Some h) e =
-        let (g, l) = like pairs older newer r.number h m e in
-        agree_itself t p (value_records newer r) (value_records older r)
-        (ap taken (ap (field_of newer) (sym (field_number older r.number h e)) ∙ l.found) ∙ ap (block r.number) (values_alike pairs h.form g.form h.value_type g.value_type r.payload l.form l.type.kind) ∙ sym (ap taken e))
-    go None e =
-        let (ps, b) = value_records_block newer r in
-        by ps b (nat_eq r.number n) refl
-      where
-        by : (ps : List Payload) → value_records newer r ≡ block r.number ps → (b : Bool) → nat_eq r.number n ≡ b → Agree (has_number n) (λ r. is_sibling older f r.number) (value_records newer r) (value_records older r)
-        by ps b true d = absurd (none-some _ (sym (sym found ∙ ap (field_of older) (sym (eqb-true r.number n d)) ∙ e)))
-        by ps b false d =
-            let a : Agree (has_number n) (λ r. is_sibling older f r.number) (block r.number ps) [] = agree_none t p r.number ps (λ x. d) (λ x. unknown_no_sibling older f r.number e) in
-            let none : value_records older r ≡ [] = ap taken e in
-            record {
-              any = ap (list_any p) b ∙ a.any ∙ ap (list_any p) (sym none);
-              kept = ap (filter t) b ∙ a.kept ∙ ap (filter t) (sym none);
-              survive = ap (λ l. filter t (after_last p l)) b ∙ a.survive ∙ ap (λ l. filter t (after_last p l)) (sym none);
-            }
+      go : (o : Option Field) → field_of older r.number ≡ o → Agree (has_number n) (λ r. is_sibling older f r.number) (value_records newer r) (value_records older r)
+      go (Some h) e =
+          let (g, l) = like pairs older newer r.number h m e in
+          agree_itself t p (value_records newer r) (value_records older r)
+          (ap taken (ap (field_of newer) (sym (field_number older r.number h e)) ∙ l.found) ∙ ap (block r.number) (values_alike pairs h.form g.form h.value_type g.value_type r.payload l.form l.type.kind) ∙ sym (ap taken e))
+      go None e =
+          let (ps, b) = value_records_block newer r in
+          by ps b (nat_eq r.number n) refl
+        where
+          by : (ps : List Payload) → value_records newer r ≡ block r.number ps → (b : Bool) → nat_eq r.number n ≡ b → Agree (has_number n) (λ r. is_sibling older f r.number) (value_records newer r) (value_records older r)
+          by ps b true d = absurd (none-some _ (sym (sym found ∙ ap (field_of older) (sym (eqb-true r.number n d)) ∙ e)))
+          by ps b false d =
+              let a : Agree (has_number n) (λ r. is_sibling older f r.number) (block r.number ps) [] = agree_none t p r.number ps (λ x. d) (λ x. unknown_no_sibling older f r.number e) in
+              let none : value_records older r ≡ [] = ap taken e in
+              record {
+                any = ap (list_any p) b ∙ a.any ∙ ap (list_any p) (sym none);
+                kept = ap (filter t) b ∙ a.kept ∙ ap (filter t) (sym none);
+                survive = ap (λ l. filter t (after_last p l)) b ∙ a.survive ∙ ap (λ l. filter t (after_last p l)) (sym none);
+              }
 
-all_agree : (pairs : TypePairs) (older newer : List Field) (n : ℕ) (f : Field) (rs : List Record) → TypesMatch pairs older newer → field_of older n ≡ Some f →
-    Agree (has_number n) (λ r. is_sibling older f r.number) (flat_map (value_records newer) rs) (flat_map (value_records older) rs)
-all_agree pairs older newer n f [] m found = record { any = refl; kept = refl; survive = refl }
-all_agree pairs older newer n f (r ∷ rs) m found =
-    agree_append (has_number n) (λ r. is_sibling older f r.number) (value_records newer r) (value_records older r) (flat_map (value_records newer) rs) (flat_map (value_records older) rs)
-    (values_agree pairs older newer n f r m found) (all_agree pairs older newer n f rs m found)
+  all_agree : (f : Field) (rs : List Record) → TypesMatch pairs older newer → field_of older n ≡ Some f →
+      Agree (has_number n) (λ r. is_sibling older f r.number) (flat_map (value_records newer) rs) (flat_map (value_records older) rs)
+  all_agree f [] m found = record { any = refl; kept = refl; survive = refl }
+  all_agree f (r ∷ rs) m found =
+      agree_append (has_number n) (λ r. is_sibling older f r.number) (value_records newer r) (value_records older r) (flat_map (value_records newer) rs) (flat_map (value_records older) rs)
+      (values_agree f r m found) (all_agree f rs m found)
 
-pub same_survivors : (pairs : TypePairs) (older newer : List Field) (n : ℕ) (f g : Field) (rs : List Record) → TypesMatch pairs older newer → field_of older n ≡ Some f → Like pairs older newer f g →
-    survive newer g (flat_map (value_records newer) rs) ≡ survive older f (flat_map (value_records older) rs)
-same_survivors pairs older newer n f g rs m found l =
-    let number : f.number ≡ n = field_number older n f found in
-    let same : g.number ≡ n = field_number newer f.number g l.found ∙ number in
-    let a : Agree (has_number n) (λ r. is_sibling older f r.number) (flat_map (value_records newer) rs) (flat_map (value_records older) rs) = all_agree pairs older newer n f rs m found in
-    ap₂ (λ (k : ℕ) xs. filter (has_number k) xs) same (after_same (λ r. is_sibling newer g r.number) (λ r. is_sibling older f r.number) (flat_map (value_records newer) rs) (λ r. fellows pairs older newer f g r.number m l))
-    ∙ a.survive ∙ ap (λ (k : ℕ). filter (has_number k) (after_last (λ r. is_sibling older f r.number) (flat_map (value_records older) rs))) (sym number)
+  pub same_survivors : (f g : Field) (rs : List Record) → TypesMatch pairs older newer → field_of older n ≡ Some f → Like pairs older newer f g →
+      survive newer g (flat_map (value_records newer) rs) ≡ survive older f (flat_map (value_records older) rs)
+  same_survivors f g rs m found l =
+      let number : f.number ≡ n = field_number older n f found in
+      let same : g.number ≡ n = field_number newer f.number g l.found ∙ number in
+      let a : Agree (has_number n) (λ r. is_sibling older f r.number) (flat_map (value_records newer) rs) (flat_map (value_records older) rs) = all_agree f rs m found in
+      ap₂ (λ (k : ℕ) xs. filter (has_number k) xs) same (after_same (λ r. is_sibling newer g r.number) (λ r. is_sibling older f r.number) (flat_map (value_records newer) rs) (λ r. fellows pairs older newer f g r.number m l))
+      ∙ a.survive ∙ ap (λ (k : ℕ). filter (has_number k) (after_last (λ r. is_sibling older f r.number) (flat_map (value_records older) rs))) (sym number)

@@ -24,10 +24,6 @@ map_keyed schema f key h form = (checked_map schema f key (checked_field schema 
 default_is : (value_type : ValueType) (kind : ScalarKind) → value_type.kind ≡ ScalarOf kind → (elim value_type.kind [ ScalarOf kind ↦ scalar_eq value_type.default (kind_default kind) | _ ↦ true ]) ≡ true → value_type.default ≡ kind_default kind
 default_is value_type kind is h = (scalar_decides value_type.default (kind_default kind)).0 (ap (λ kind. elim kind [ ScalarOf kind ↦ scalar_eq value_type.default (kind_default kind) | _ ↦ true ]) (sym is) ∙ h)
 
--- what else the check of a map says
-pub map_key_default : (schema : Schema) (f : Field) (key : ValueType) (kind : ScalarKind) → field_valid schema f ≡ true → f.form ≡ MapFrom key → key.kind ≡ ScalarOf kind → key.default ≡ kind_default kind
-map_key_default schema f key kind h form is = default_is key kind is (checked_map schema f key (checked_field schema f h) form).key_default
-
 -- the bytes of a delimited payload are bytes
 -- WHAT IS READ FITS
 

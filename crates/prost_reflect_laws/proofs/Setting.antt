@@ -12,85 +12,86 @@ use Rattle.prost_reflect_laws.proofs.Slots.{GoodContent, GoodEntries, GoodValue,
 abbrev set_slot : List Field → Field → Option Value → ℕ → Slot → Slot
 set_slot fields f o n slot = cond (nat_eq n f.number) (with_value o slot) (cond (is_sibling fields f n) (with_value None slot) slot)
 
-slot_set : (schema : Schema) (fields : List Field) (k : ℕ) (f : Field) (o : Option Value) (at : ℕ → Slot) → numbers_differ fields ≡ true → field_of fields f.number ≡ Some f →
-    ((v : Value) → o ≡ Some v → GoodValue schema (Some f) k v) → GoodSlots schema fields k at → GoodSlots schema fields k (λ n. set_slot fields f o n (at n))
-slot_set schema fields k f o at d known good g = record {
-  value = λ n v e. value n v (nat_eq n f.number) refl (is_sibling fields f n) e;
-  unknown = λ n. subst (λ (l : List Payload). list_all (unknown_good (field_of fields n) k n) l ≡ true) (sym (unknown n (nat_eq n f.number) (is_sibling fields f n))) (g.unknown n);
-  alone = alone_changed fields at (λ n. set_slot fields f o n (at n)) f d known gone same g.alone;
-}
-  where
-    value : (n : ℕ) (v : Value) (b : Bool) → nat_eq n f.number ≡ b → (s : Bool) → (cond b (with_value o (at n)) (cond s (with_value None (at n)) (at n))).value ≡ Some v → GoodValue schema (field_of fields n) k v
-    value n v true e s h = subst (λ (x : Option Field). GoodValue schema x k v) (sym (ap (field_of fields) (eqb-true n f.number e) ∙ known)) (good v h)
-    value n v false e true h = absurd cc
-    value n v false e false h = g.value n v h
+module _ (schema : Schema) where
+  slot_set : (fields : List Field) (k : ℕ) (f : Field) (o : Option Value) (at : ℕ → Slot) → numbers_differ fields ≡ true → field_of fields f.number ≡ Some f →
+      ((v : Value) → o ≡ Some v → GoodValue schema (Some f) k v) → GoodSlots schema fields k at → GoodSlots schema fields k (λ n. set_slot fields f o n (at n))
+  slot_set fields k f o at d known good g = record {
+    value = λ n v e. value n v (nat_eq n f.number) refl (is_sibling fields f n) e;
+    unknown = λ n. subst (λ (l : List Payload). list_all (unknown_good (field_of fields n) k n) l ≡ true) (sym (unknown n (nat_eq n f.number) (is_sibling fields f n))) (g.unknown n);
+    alone = alone_changed fields at (λ n. set_slot fields f o n (at n)) f d known gone same g.alone;
+  }
+    where
+      value : (n : ℕ) (v : Value) (b : Bool) → nat_eq n f.number ≡ b → (s : Bool) → (cond b (with_value o (at n)) (cond s (with_value None (at n)) (at n))).value ≡ Some v → GoodValue schema (field_of fields n) k v
+      value n v true e s h = subst (λ (x : Option Field). GoodValue schema x k v) (sym (ap (field_of fields) (eqb-true n f.number e) ∙ known)) (good v h)
+      value n v false e true h = absurd cc
+      value n v false e false h = g.value n v h
 
-    unknown : (n : ℕ) (b s : Bool) → (cond b (with_value o (at n)) (cond s (with_value None (at n)) (at n))).unknowns ≡ (at n).unknowns
-    unknown n true s = refl
-    unknown n false true = refl
-    unknown n false false = refl
+      unknown : (n : ℕ) (b s : Bool) → (cond b (with_value o (at n)) (cond s (with_value None (at n)) (at n))).unknowns ≡ (at n).unknowns
+      unknown n true s = refl
+      unknown n false true = refl
+      unknown n false false = refl
 
-    gone : (m : ℕ) → is_sibling fields f m ≡ true → (set_slot fields f o m (at m)).value ≡ None
-    gone m h = ap (λ b. (cond b (with_value o (at m)) (cond (is_sibling fields f m) (with_value None (at m)) (at m))).value) (not_own fields f m h) ∙ ap (λ s. (cond s (with_value None (at m)) (at m)).value) h
+      gone : (m : ℕ) → is_sibling fields f m ≡ true → (set_slot fields f o m (at m)).value ≡ None
+      gone m h = ap (λ b. (cond b (with_value o (at m)) (cond (is_sibling fields f m) (with_value None (at m)) (at m))).value) (not_own fields f m h) ∙ ap (λ s. (cond s (with_value None (at m)) (at m)).value) h
 
-    same : (m : ℕ) → nat_eq m f.number ≡ false → is_sibling fields f m ≡ false → (set_slot fields f o m (at m)).value ≡ (at m).value
-    same m h s = ap (λ b. (cond b (with_value o (at m)) (cond (is_sibling fields f m) (with_value None (at m)) (at m))).value) h ∙ ap (λ s. (cond s (with_value None (at m)) (at m)).value) s
+      same : (m : ℕ) → nat_eq m f.number ≡ false → is_sibling fields f m ≡ false → (set_slot fields f o m (at m)).value ≡ (at m).value
+      same m h s = ap (λ b. (cond b (with_value o (at m)) (cond (is_sibling fields f m) (with_value None (at m)) (at m))).value) h ∙ ap (λ s. (cond s (with_value None (at m)) (at m)).value) s
 
-pub with_value_good : (schema : Schema) (fields : List Field) (k : ℕ) (f : Field) (o : Option Value) (es : Entries) → numbers_differ fields ≡ true → field_of fields f.number ≡ Some f →
-    ((v : Value) → o ≡ Some v → GoodValue schema (Some f) k v) → GoodEntries schema fields k es → GoodEntries schema fields k (with_field_value fields f o es)
-with_value_good schema fields k f o es d known good g =
-    table_good schema fields k (λ n. set_slot fields f o n (slot_at es n)) (insert_number f.number (numbers_in es)) (insert_ascending f.number 0 (numbers_in es) (entries_ascending es) (omega arith))
-    (slot_set schema fields k f o (slot_at es) d known good (slots_good schema fields k es d g))
+  pub with_value_good : (fields : List Field) (k : ℕ) (f : Field) (o : Option Value) (es : Entries) → numbers_differ fields ≡ true → field_of fields f.number ≡ Some f →
+      ((v : Value) → o ≡ Some v → GoodValue schema (Some f) k v) → GoodEntries schema fields k es → GoodEntries schema fields k (with_field_value fields f o es)
+  with_value_good fields k f o es d known good g =
+      table_good schema fields k (λ n. set_slot fields f o n (slot_at es n)) (insert_number f.number (numbers_in es)) (insert_ascending f.number 0 (numbers_in es) (entries_ascending es) (omega arith))
+      (slot_set fields k f o (slot_at es) d known good (slots_good schema fields k es d g))
 
--- what is kept of a stored value
-kept_good : (schema : Schema) (k : ℕ) (f : Field) (v w : Value) → ValueStored schema f v → value_levels (kept_inside v) ≤ k → kept_value (Some f) (kept_inside v) ≡ Some w → GoodValue schema (Some f) k w
-kept_good schema k f v w s l e = go (kept_cases (Some f) (kept_inside v))
-  where
-    go : (kept_value (Some f) (kept_inside v) ≡ None) ⊎ (kept_value (Some f) (kept_inside v) ≡ Some (kept_inside v)) → GoodValue schema (Some f) k w
-    go (inl none) = absurd cc
-    go (inr some) =
-        let same : kept_inside v ≡ w = cc in
-        let (filled, default) = said (Some f) (kept_inside v) some in
-        let here : GoodValue schema (Some f) k (kept_inside v) = record {
-          valid = valid_kept f v ∙ s.valid;
-          filled = filled;
-          default = default;
-          deep = value_both fit_test (both_tests alone_test (both_tests filled_test default_test)) (kept_inside v) (value_kept fit_test fit_test v fits_kept s.fits)
-              (value_both alone_test (both_tests filled_test default_test) (kept_inside v) (value_kept alone_test alone_test v members_kept s.members)
-              (value_both filled_test default_test (kept_inside v) (value_kept fit_test filled_test v filled_kept s.fits) (value_kept fit_test default_test v default_kept s.fits)));
-          types = subst (λ (x : Option Kind). ValueTyped schema x (kept_inside v)) (sym (kind_kept (Some f) v)) (value_typed schema (kind_for (Some f) v) v s.types);
-          order = inside_kept_ordered v s.order;
-          low = l;
-        } in
-        subst (λ (x : Value). GoodValue schema (Some f) k x) same here
+  -- what is kept of a stored value
+  kept_good : (k : ℕ) (f : Field) (v w : Value) → ValueStored schema f v → value_levels (kept_inside v) ≤ k → kept_value (Some f) (kept_inside v) ≡ Some w → GoodValue schema (Some f) k w
+  kept_good k f v w s l e = go (kept_cases (Some f) (kept_inside v))
+    where
+      go : (kept_value (Some f) (kept_inside v) ≡ None) ⊎ (kept_value (Some f) (kept_inside v) ≡ Some (kept_inside v)) → GoodValue schema (Some f) k w
+      go (inl none) = absurd cc
+      go (inr some) =
+          let same : kept_inside v ≡ w = cc in
+          let (filled, default) = said (Some f) (kept_inside v) some in
+          let here : GoodValue schema (Some f) k (kept_inside v) = record {
+            valid = valid_kept f v ∙ s.valid;
+            filled = filled;
+            default = default;
+            deep = value_both fit_test (both_tests alone_test (both_tests filled_test default_test)) (kept_inside v) (value_kept fit_test fit_test v fits_kept s.fits)
+                (value_both alone_test (both_tests filled_test default_test) (kept_inside v) (value_kept alone_test alone_test v members_kept s.members)
+                (value_both filled_test default_test (kept_inside v) (value_kept fit_test filled_test v filled_kept s.fits) (value_kept fit_test default_test v default_kept s.fits)));
+            types = subst (λ (x : Option Kind). ValueTyped schema x (kept_inside v)) (sym (kind_kept (Some f) v)) (value_typed schema (kind_for (Some f) v) v s.types);
+            order = inside_kept_ordered v s.order;
+            low = l;
+          } in
+          subst (λ (x : Value). GoodValue schema (Some f) k x) same here
 
-pub set_good : (schema : Schema) (fields : List Field) (k : ℕ) (f : Field) (v : Value) (es : Entries) → numbers_differ fields ≡ true → field_of fields f.number ≡ Some f → ValueStored schema f v → value_levels (kept_inside v) ≤ k →
-    GoodEntries schema fields k es → GoodEntries schema fields k (set_field fields f v es)
-set_good schema fields k f v es d known s l g = with_value_good schema fields k f (kept_value (Some f) (kept_inside v)) es d known (λ w e. kept_good schema k f v w s l e) g
+  pub set_good : (fields : List Field) (k : ℕ) (f : Field) (v : Value) (es : Entries) → numbers_differ fields ≡ true → field_of fields f.number ≡ Some f → ValueStored schema f v → value_levels (kept_inside v) ≤ k →
+      GoodEntries schema fields k es → GoodEntries schema fields k (set_field fields f v es)
+  set_good fields k f v es d known s l g = with_value_good fields k f (kept_value (Some f) (kept_inside v)) es d known (λ w e. kept_good k f v w s l e) g
 
--- CONTENTS
+  -- CONTENTS
 
-entries_good : (schema : Schema) (T k : ℕ) (es : Entries) → GoodContent k (ContentOf schema T es) → GoodEntries schema (known schema T) k es
-entries_good schema T k es g = record { deep = g.deep; types = g.types; order = g.order; low = g.low }
+  entries_good : (T k : ℕ) (es : Entries) → GoodContent k (ContentOf schema T es) → GoodEntries schema (known schema T) k es
+  entries_good T k es g = record { deep = g.deep; types = g.types; order = g.order; low = g.low }
 
-content_good : (schema : Schema) (T k : ℕ) (es : Entries) → GoodEntries schema (known schema T) k es → GoodContent k (ContentOf schema T es)
-content_good schema T k es g = record { deep = g.deep; types = g.types; order = g.order; low = g.low }
+  content_good : (T k : ℕ) (es : Entries) → GoodEntries schema (known schema T) k es → GoodContent k (ContentOf schema T es)
+  content_good T k es g = record { deep = g.deep; types = g.types; order = g.order; low = g.low }
 
-pub empty_well : (schema : Schema) (T : ℕ) → WellTyped (empty schema T)
-empty_well schema T = record { fitting = record { fits = refl; types = tt; order = refl; nonempty = refl }; members = refl; without_stored_defaults = refl }
+  pub empty_well : (T : ℕ) → WellTyped (empty schema T)
+  empty_well T = record { fitting = record { fits = refl; types = tt; order = refl; nonempty = refl }; members = refl; without_stored_defaults = refl }
 
--- a set of one number of a content
-field_set : (schema : Schema) (T n : ℕ) (es : Entries) (f : Field) (v : Value) → schema_valid schema ≡ true → WellTyped (ContentOf schema T es) → field_of (known schema T) n ≡ Some f → ValueStored schema f v → WellTyped (ContentOf schema T (set_field (known schema T) f v es))
-field_set schema T n es f v h w found s =
-    let k : ℕ = max (levels (ContentOf schema T es)) (value_levels (kept_inside v)) in
-    let g : GoodEntries schema (known schema T) k es = entries_good schema T k es (well_good k (ContentOf schema T es) w (omega arith)) in
-    good_well k (ContentOf schema T (set_field (known schema T) f v es))
-    (content_good schema T k (set_field (known schema T) f v es)
-    (set_good schema (known schema T) k f v es (known_differ schema T h) (ap (field_of (known schema T)) (field_number (known schema T) n f found) ∙ found) s (omega arith) g))
+  -- a set of one number of a content
+  field_set : (T n : ℕ) (es : Entries) (f : Field) (v : Value) → schema_valid schema ≡ true → WellTyped (ContentOf schema T es) → field_of (known schema T) n ≡ Some f → ValueStored schema f v → WellTyped (ContentOf schema T (set_field (known schema T) f v es))
+  field_set T n es f v h w found s =
+      let k : ℕ = max (levels (ContentOf schema T es)) (value_levels (kept_inside v)) in
+      let g : GoodEntries schema (known schema T) k es = entries_good T k es (well_good k (ContentOf schema T es) w (omega arith)) in
+      good_well k (ContentOf schema T (set_field (known schema T) f v es))
+      (content_good T k (set_field (known schema T) f v es)
+      (set_good (known schema T) k f v es (known_differ schema T h) (ap (field_of (known schema T)) (field_number (known schema T) n f found) ∙ found) s (omega arith) g))
 
-pub in_found : (schema : Schema) (T n : ℕ) (es : Entries) (f : Field) (change : Schema → List Field → Field → Entries → Entries) → field_of (known schema T) n ≡ Some f →
-    in_field n change (ContentOf schema T es) ≡ ContentOf schema T (change schema (known schema T) f es)
-in_found schema T n es f change e = ap (λ (o : Option Field). ContentOf schema T (elim o [ None ↦ es | Some f ↦ change schema (known schema T) f es ])) e
+  pub in_found : (T n : ℕ) (es : Entries) (f : Field) (change : Schema → List Field → Field → Entries → Entries) → field_of (known schema T) n ≡ Some f →
+      in_field n change (ContentOf schema T es) ≡ ContentOf schema T (change schema (known schema T) f es)
+  in_found T n es f change e = ap (λ (o : Option Field). ContentOf schema T (elim o [ None ↦ es | Some f ↦ change schema (known schema T) f es ])) e
 
 -- the message of a field of one message
 pub record FoundMessage (schema : Schema) (f : Field) (U : ℕ) (v : Value) : Type 0 where

@@ -112,8 +112,7 @@ alone_read j tB (GroupOf B) p w e = ap (λ rs. Some (MessageValue (j B rs))) (ap
 single_payload : (f : Field) (v : Value) → IsSingle v → field_payloads (Some f) v ≡ value_payload f.value_type.kind v ∷ []
 single_payload f (ScalarValue v) s = refl
 single_payload f (MessageValue c) s = refl
-single_payload f (ListValue vs) s = absurd s
-single_payload f (MapValue ps) s = absurd s
+single_payload f _ s = absurd s
 
 -- one value that is carried
 pub value_again : (k : ℕ) (a : AllowsInside) (j : MeansInside) (f : Field) (tB : ValueType) (v w : Value) → IsSingle v → Again a j f.value_type.kind tB.kind v w → FieldAgain k a j Singular tB (field_payloads (Some f) v) (shown tB w)

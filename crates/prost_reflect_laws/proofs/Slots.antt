@@ -85,8 +85,7 @@ found_there (f ∷ fields) m test d h =
 
 same_oneof_back : (a b : Option ℕ) → same_oneof a b ≡ true → same_oneof b a ≡ true
 same_oneof_back (Some a) (Some b) h = eqb-sym b a ∙ h
-same_oneof_back None b h = absurd (true≢false (sym h))
-same_oneof_back (Some a) None h = absurd (true≢false (sym h))
+same_oneof_back _ _ h = absurd (true≢false (sym h))
 
 -- a sibling has its sibling
 pub sibling_back : (fields : List Field) (n m : ℕ) (f : Field) → numbers_differ fields ≡ true → field_of fields n ≡ Some f → is_sibling fields f m ≡ true → (g : Field) × (field_of fields m ≡ Some g) × (is_sibling fields g n ≡ true)
@@ -165,39 +164,40 @@ pub record UnknownGood (schema : Schema) (fields : List Field) (k n : ℕ) (p : 
   pub here : unknown_good (field_of fields n) k n p ≡ true
   pub behind : GoodEntries schema fields k es
 
-unknown_parts : (schema : Schema) (fields : List Field) (k n : ℕ) (p : Payload) (es : Entries) → GoodEntries schema fields k (Unknown n p es) → UnknownGood schema fields k n p es
-unknown_parts schema fields k n p es g =
-    let (here, behind) = and_parts (deep_test.unknown fields n p) (entries_pass deep_test fields es) g.deep in
-    let (low, low') = both_max (unknown_levels (field_of fields n) p) (entries_levels fields es) k g.low in
-    record {
-      here = and_from _ _ (and_parts (unknown_fits (field_of fields n) n p) true here).0 (le-leb (unknown_levels (field_of fields n) p) k low);
-      behind = record { deep = behind; types = g.types; order = (and_parts (comes_before n es) (entries_ordered es) g.order).1; low = low' };
-    }
+module _ (schema : Schema) (fields : List Field) where
+  unknown_parts : (k n : ℕ) (p : Payload) (es : Entries) → GoodEntries schema fields k (Unknown n p es) → UnknownGood schema fields k n p es
+  unknown_parts k n p es g =
+      let (here, behind) = and_parts (deep_test.unknown fields n p) (entries_pass deep_test fields es) g.deep in
+      let (low, low') = both_max (unknown_levels (field_of fields n) p) (entries_levels fields es) k g.low in
+      record {
+        here = and_from _ _ (and_parts (unknown_fits (field_of fields n) n p) true here).0 (le-leb (unknown_levels (field_of fields n) p) k low);
+        behind = record { deep = behind; types = g.types; order = (and_parts (comes_before n es) (entries_ordered es) g.order).1; low = low' };
+      }
 
-value_good : (schema : Schema) (fields : List Field) (k : ℕ) (es : Entries) (n : ℕ) (v : Value) → GoodEntries schema fields k es → value_at n es ≡ Some v → GoodValue schema (field_of fields n) k v
-value_good schema fields k NoEntries n v g e = absurd cc
-value_good schema fields k (Stored m w es) n v g e =
-    let s = stored_good schema fields k m w es g in
-    go (nat_eq m n) refl e s.here (value_good schema fields k es n v s.behind)
-  where
-    go : (b : Bool) → nat_eq m n ≡ b → cond b (Some w) (value_at n es) ≡ Some v → GoodValue schema (field_of fields m) k w → (value_at n es ≡ Some v → GoodValue schema (field_of fields n) k v) → GoodValue schema (field_of fields n) k v
-    go true e f here more =
-        let same : w ≡ v = ap (λ (o : Option Value). elim o [ None ↦ w | Some x ↦ x ]) f in
-        subst (λ (x : Value). GoodValue schema (field_of fields n) k x) same (subst (λ (x : ℕ). GoodValue schema (field_of fields x) k w) (eqb-true m n e) here)
-    go false e f here more = more f
-value_good schema fields k (Unknown m p es) n v g e = value_good schema fields k es n v (unknown_parts schema fields k m p es g).behind e
+  value_good : (k : ℕ) (es : Entries) (n : ℕ) (v : Value) → GoodEntries schema fields k es → value_at n es ≡ Some v → GoodValue schema (field_of fields n) k v
+  value_good k NoEntries n v g e = absurd cc
+  value_good k (Stored m w es) n v g e =
+      let s = stored_good schema fields k m w es g in
+      go (nat_eq m n) refl e s.here (value_good k es n v s.behind)
+    where
+      go : (b : Bool) → nat_eq m n ≡ b → cond b (Some w) (value_at n es) ≡ Some v → GoodValue schema (field_of fields m) k w → (value_at n es ≡ Some v → GoodValue schema (field_of fields n) k v) → GoodValue schema (field_of fields n) k v
+      go true e f here more =
+          let same : w ≡ v = ap (λ (o : Option Value). elim o [ None ↦ w | Some x ↦ x ]) f in
+          subst (λ (x : Value). GoodValue schema (field_of fields n) k x) same (subst (λ (x : ℕ). GoodValue schema (field_of fields x) k w) (eqb-true m n e) here)
+      go false e f here more = more f
+  value_good k (Unknown m p es) n v g e = value_good k es n v (unknown_parts k m p es g).behind e
 
-unknowns_good : (schema : Schema) (fields : List Field) (k : ℕ) (es : Entries) (n : ℕ) → GoodEntries schema fields k es → list_all (unknown_good (field_of fields n) k n) (unknowns_at n es) ≡ true
-unknowns_good schema fields k NoEntries n g = refl
-unknowns_good schema fields k (Stored m w es) n g = unknowns_good schema fields k es n (stored_good schema fields k m w es g).behind
-unknowns_good schema fields k (Unknown m p es) n g =
-    let u = unknown_parts schema fields k m p es g in
-    go (nat_eq m n) refl u.here (unknowns_good schema fields k es n u.behind)
-  where
-    go : (b : Bool) → nat_eq m n ≡ b → unknown_good (field_of fields m) k m p ≡ true → list_all (unknown_good (field_of fields n) k n) (unknowns_at n es) ≡ true
-        → list_all (unknown_good (field_of fields n) k n) (cond b (p ∷ unknowns_at n es) (unknowns_at n es)) ≡ true
-    go true e here more = and_from _ _ (ap (λ (x : ℕ). unknown_good (field_of fields x) k x p) (sym (eqb-true m n e)) ∙ here) more
-    go false e here more = more
+  unknowns_good : (k : ℕ) (es : Entries) (n : ℕ) → GoodEntries schema fields k es → list_all (unknown_good (field_of fields n) k n) (unknowns_at n es) ≡ true
+  unknowns_good k NoEntries n g = refl
+  unknowns_good k (Stored m w es) n g = unknowns_good k es n (stored_good schema fields k m w es g).behind
+  unknowns_good k (Unknown m p es) n g =
+      let u = unknown_parts k m p es g in
+      go (nat_eq m n) refl u.here (unknowns_good k es n u.behind)
+    where
+      go : (b : Bool) → nat_eq m n ≡ b → unknown_good (field_of fields m) k m p ≡ true → list_all (unknown_good (field_of fields n) k n) (unknowns_at n es) ≡ true
+          → list_all (unknown_good (field_of fields n) k n) (cond b (p ∷ unknowns_at n es) (unknowns_at n es)) ≡ true
+      go true e here more = and_from _ _ (ap (λ (x : ℕ). unknown_good (field_of fields x) k x p) (sym (eqb-true m n e)) ∙ here) more
+      go false e here more = more
 
 -- a value that is there is among the values
 there : (test : ℕ → Bool) (es : Entries) (n : ℕ) (v : Value) → value_at n es ≡ Some v → test n ≡ true → has_value_of test es ≡ true

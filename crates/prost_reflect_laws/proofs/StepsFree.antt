@@ -145,18 +145,14 @@ level_same schema k j h free l = record {
     pred : (a b : ℕ) → suc a ≤ suc b → a ≤ b
     pred a b l = omega arith
 
--- the same as wide as the second number
-widened : (schema : Schema) (k j T : ℕ) (rs : List Record) → allows schema k T rs ≡ true → k ≤ j → allows schema j T rs ≡ true
-widened schema k j T rs a l = allowed_within schema k j T rs a l
-
 free : (k j : ℕ) → Free k j
 unfolding steps allows
 free zero zero c rs h g v a l = refl
 free zero (suc j) (ContentOf schema T es) rs h g v a l =
-    by_records schema 0 (suc j) T nothing_inside (empty_inside schema) joins_nothing (allows schema j) (meaning schema j) (steps j) es rs (no_level_same schema j h) h g v a (widened schema 0 (suc j) T rs a l)
+    by_records schema 0 (suc j) T nothing_inside (empty_inside schema) joins_nothing (allows schema j) (meaning schema j) (steps j) es rs (no_level_same schema j h) h g v a (allowed_within schema 0 (suc j) T rs a l)
 free (suc k) zero c rs h g v a l = absurd (omega (arith, l))
 free (suc k) (suc j) (ContentOf schema T es) rs h g v a l =
-    by_records schema (suc k) (suc j) T (allows schema k) (meaning schema k) (steps k) (allows schema j) (meaning schema j) (steps j) es rs (level_same schema k j h (free k j) (omega (arith, l))) h g v a (widened schema (suc k) (suc j) T rs a l)
+    by_records schema (suc k) (suc j) T (allows schema k) (meaning schema k) (steps k) (allows schema j) (meaning schema j) (steps j) es rs (level_same schema k j h (free k j) (omega (arith, l))) h g v a (allowed_within schema (suc k) (suc j) T rs a l)
 
 -- whatever levels the content has
 within : (k m j : ℕ) (c : Content) (rs : List Record) → schema_valid (schema_of c) ≡ true → GoodContent j c → valid (body_of rs) ≡ true → allows (schema_of c) k (type_of c) rs ≡ true → k ≤ m → m ≤ j → steps k c rs ≡ steps m c rs

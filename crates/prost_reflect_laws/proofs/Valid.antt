@@ -9,8 +9,7 @@ use Rattle.prost_reflect_laws.proofs.Spelt.{plain_bytes, written_valid, length_f
 
 pub scalar_sound : (kind : Kind) (v : Scalar) → kind_takes kind v ≡ true → SoundPayload (scalar_payload kind v)
 scalar_sound (ScalarOf kind) v h = record { sound = λ l. written_valid kind v h (length_fits (written kind v) l) }
-scalar_sound (MessageOf T) v h = absurd (true≢false (sym h))
-scalar_sound (GroupOf T) v h = absurd (true≢false (sym h))
+scalar_sound _ v h = absurd (true≢false (sym h))
 
 pub inside_sound : (kind : Kind) (rs : List Record) → Sound rs → SoundPayload (message_payload kind rs)
 inside_sound (ScalarOf kind) rs h = message_sound rs h
@@ -91,8 +90,7 @@ mutual
   pub element_sound : (schema : Schema) (kind : Kind) (v : Value) → schema_valid schema ≡ true → element_valid kind v ≡ true → value_passes fit_test v ≡ true → ValueTyped schema (Some kind) v → SoundPayload (value_payload kind v)
   element_sound schema kind (ScalarValue v) h valid fits types = scalar_sound kind v valid
   element_sound schema kind (MessageValue c) h valid fits (of, types) = inside_sound kind (records c) (content_sound c (ap schema_valid of.0 ∙ h) fits types)
-  element_sound schema kind (ListValue vs) h valid fits types = absurd (true≢false (sym valid))
-  element_sound schema kind (MapValue ps) h valid fits types = absurd (true≢false (sym valid))
+  element_sound schema kind _ h valid fits types = absurd (true≢false (sym valid))
 
   elements_sound : (schema : Schema) (kind : Kind) (vs : Values) → schema_valid schema ≡ true → elements_valid kind vs ≡ true → values_pass fit_test vs ≡ true → ValuesTyped schema (Some kind) vs → SoundPayloads (element_payloads kind vs)
   elements_sound schema kind NoValues h valid fits types = tt
@@ -102,8 +100,6 @@ mutual
       (element_sound schema kind v h here fit one, elements_sound schema kind vs h rest fit' more)
 
   map_sound : (schema : Schema) (c : FieldForm) (value_type : ValueType) (ps : Pairs) → schema_valid schema ≡ true → pairs_valid c value_type.kind ps ≡ true → pairs_pass fit_test ps ≡ true → PairsTyped schema (Some value_type.kind) ps → SoundPayloads (pair_payloads (key_of c value_type) value_type ps)
-  map_sound schema Singular value_type ps h valid fits types = absurd (true≢false (sym valid))
-  map_sound schema (Repeated packed) value_type ps h valid fits types = absurd (true≢false (sym valid))
   map_sound schema (MapFrom key) value_type NoPairs h valid fits types = tt
   map_sound schema (MapFrom key) value_type (Pair k v ps) h valid fits (one, more) =
       let (here, rest) = and_parts (kind_takes key.kind k && element_valid value_type.kind v) (pairs_valid (MapFrom key) value_type.kind ps) valid in
@@ -114,6 +110,7 @@ mutual
             (entry_sound key 1 (ScalarValue k) (scalar_payload key.kind k) refl (scalar_sound key.kind k takes)) (entry_sound value_type 2 v (value_payload value_type.kind v) refl (element_sound schema value_type.kind v h fit deep one))),
         map_sound schema (MapFrom key) value_type ps h rest deep' more,
       )
+  map_sound schema _ value_type ps h valid fits types = absurd (true≢false (sym valid))
 
 pub content_valid : (c : Content) → schema_valid (schema_of c) ≡ true → encodable c ≡ true → Typed c → length (spelled (records c)) < 2 ^ 64 → valid (body_of (records c)) ≡ true
 content_valid c h fits types l = valid_if (records c) (content_sound c h fits types) l

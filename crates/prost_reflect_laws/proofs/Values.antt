@@ -25,41 +25,42 @@ one_value_payload f p s h = ap (λ c. value_payloads c f.value_type p) s ∙ ap 
 pub no_stray_payload : (f : Field) (p : Payload) → f.form ≡ Singular → is_stray f.value_type.kind p ≡ false → stray_payloads f.form f.value_type p ≡ []
 no_stray_payload f p s h = ap (λ c. stray_payloads c f.value_type p) s ∙ ap (λ b. cond b (p ∷ []) []) h
 
-pub one_back : (inner : MeansInside) (fields : List Field) (n : ℕ) (f : Field) (v : Value) (p : Payload) → field_of fields n ≡ Some f → f.form ≡ Singular →
-    field_payloads (Some f) v ≡ p ∷ [] → is_stray f.value_type.kind p ≡ false → field_value inner Singular f.value_type (p ∷ []) ≡ Some v → ValueBack inner fields n f v
-one_back inner fields n f v p found value_type written stray means = record {
-  sources = p ∷ [];
-  read = ap (λ l. flat_map (value_records fields) (map (record_at n) l)) written ∙ append-nil (value_records fields (record_at n p)) ∙ value_records_known fields n f p found ∙ ap (block n) (one_value_payload f p value_type stray);
-  strays = ap (λ l. flat_map (unknown_payloads fields) (map (record_at n) l)) written ∙ append-nil (unknown_payloads fields (record_at n p)) ∙ unknown_known fields n f p found ∙ no_stray_payload f p value_type stray;
-  value = ap (λ c. field_value inner c f.value_type (p ∷ [])) value_type ∙ means;
-}
+module _ (inner : MeansInside) (fields : List Field) (n : ℕ) (f : Field) where
+  pub one_back : (v : Value) (p : Payload) → field_of fields n ≡ Some f → f.form ≡ Singular →
+      field_payloads (Some f) v ≡ p ∷ [] → is_stray f.value_type.kind p ≡ false → field_value inner Singular f.value_type (p ∷ []) ≡ Some v → ValueBack inner fields n f v
+  one_back v p found value_type written stray means = record {
+    sources = p ∷ [];
+    read = ap (λ l. flat_map (value_records fields) (map (record_at n) l)) written ∙ append-nil (value_records fields (record_at n p)) ∙ value_records_known fields n f p found ∙ ap (block n) (one_value_payload f p value_type stray);
+    strays = ap (λ l. flat_map (unknown_payloads fields) (map (record_at n) l)) written ∙ append-nil (unknown_payloads fields (record_at n p)) ∙ unknown_known fields n f p found ∙ no_stray_payload f p value_type stray;
+    value = ap (λ c. field_value inner c f.value_type (p ∷ [])) value_type ∙ means;
+  }
 
--- a scalar
-pub scalar_back : (inner : MeansInside) (fields : List Field) (n : ℕ) (f : Field) (kind : ScalarKind) (v : Scalar) → field_of fields n ≡ Some f → f.form ≡ Singular → f.value_type.kind ≡ ScalarOf kind →
-    scalar_valid kind v ≡ true → is_default_of f.value_type (ScalarValue v) ≡ false → ValueBack inner fields n f (ScalarValue v)
-scalar_back inner fields n f kind v found value_type k fits stays =
-    one_back inner fields n f (ScalarValue v) (Flat (written kind v)) found value_type (ap (λ k. scalar_payload k v ∷ []) k) (ap (λ k. is_stray k (Flat (written kind v))) k ∙ written_declared kind v fits)
-    (ap (λ k. one_value inner f.value_type k (Flat (written kind v) ∷ [])) k ∙ ap (λ o. o >>= present f.value_type) (read_back kind v fits) ∙ ap (λ b. cond b None (Some (ScalarValue v))) stays)
+  -- a scalar
+  pub scalar_back : (kind : ScalarKind) (v : Scalar) → field_of fields n ≡ Some f → f.form ≡ Singular → f.value_type.kind ≡ ScalarOf kind →
+      scalar_valid kind v ≡ true → is_default_of f.value_type (ScalarValue v) ≡ false → ValueBack inner fields n f (ScalarValue v)
+  scalar_back kind v found value_type k fits stays =
+      one_back (ScalarValue v) (Flat (written kind v)) found value_type (ap (λ k. scalar_payload k v ∷ []) k) (ap (λ k. is_stray k (Flat (written kind v))) k ∙ written_declared kind v fits)
+      (ap (λ k. one_value inner f.value_type k (Flat (written kind v) ∷ [])) k ∙ ap (λ o. o >>= present f.value_type) (read_back kind v fits) ∙ ap (λ b. cond b None (Some (ScalarValue v))) stays)
 
--- a message
-pub message_back : (inner : MeansInside) (fields : List Field) (n : ℕ) (f : Field) (c : Content) → field_of fields n ≡ Some f → f.form ≡ Singular → is_of_type f.value_type.kind (type_of c) ≡ true →
-    valid (body_of (records c)) ≡ true → inner (type_of c) (records c) ≡ c → ValueBack inner fields n f (MessageValue c)
-message_back inner fields n f c found value_type typed spelt means = go f.value_type.kind refl typed
-  where
-    payload : Kind → Payload
-    payload k = message_payload k (records c)
+  -- a message
+  pub message_back : (c : Content) → field_of fields n ≡ Some f → f.form ≡ Singular → is_of_type f.value_type.kind (type_of c) ≡ true →
+      valid (body_of (records c)) ≡ true → inner (type_of c) (records c) ≡ c → ValueBack inner fields n f (MessageValue c)
+  message_back c found value_type typed spelt means = go f.value_type.kind refl typed
+    where
+      payload : Kind → Payload
+      payload k = message_payload k (records c)
 
-    by : (k : Kind) (U : ℕ) → type_of c ≡ U → inner U (joined (message_payload k (records c) ∷ [])) ≡ c
-    by k U e = ap₂ inner (sym e) (append-nil (records_in (message_payload k (records c))) ∙ payload_back k (records c) spelt) ∙ means
+      by : (k : Kind) (U : ℕ) → type_of c ≡ U → inner U (joined (message_payload k (records c) ∷ [])) ≡ c
+      by k U e = ap₂ inner (sym e) (append-nil (records_in (message_payload k (records c))) ∙ payload_back k (records c) spelt) ∙ means
 
-    go : (k : Kind) → f.value_type.kind ≡ k → is_of_type k (type_of c) ≡ true → ValueBack inner fields n f (MessageValue c)
-    go (ScalarOf kind) e t = absurd (true≢false (sym t))
-    go (MessageOf U) e t =
-        one_back inner fields n f (MessageValue c) (message_payload (MessageOf U) (records c)) found value_type (ap (λ k. message_payload k (records c) ∷ []) e) (ap (λ k. is_stray k (message_payload (MessageOf U) (records c))) e)
-        (ap (λ k. one_value inner f.value_type k (message_payload (MessageOf U) (records c) ∷ [])) e ∙ ap (λ c. Some (MessageValue c)) (by (MessageOf U) U (eqb-true (type_of c) U t)))
-    go (GroupOf U) e t =
-        one_back inner fields n f (MessageValue c) (message_payload (GroupOf U) (records c)) found value_type (ap (λ k. message_payload k (records c) ∷ []) e) (ap (λ k. is_stray k (message_payload (GroupOf U) (records c))) e)
-        (ap (λ k. one_value inner f.value_type k (message_payload (GroupOf U) (records c) ∷ [])) e ∙ ap (λ c. Some (MessageValue c)) (by (GroupOf U) U (eqb-true (type_of c) U t)))
+      go : (k : Kind) → f.value_type.kind ≡ k → is_of_type k (type_of c) ≡ true → ValueBack inner fields n f (MessageValue c)
+      go (ScalarOf kind) e t = absurd (true≢false (sym t))
+      go (MessageOf U) e t =
+          one_back (MessageValue c) (message_payload (MessageOf U) (records c)) found value_type (ap (λ k. message_payload k (records c) ∷ []) e) (ap (λ k. is_stray k (message_payload (MessageOf U) (records c))) e)
+          (ap (λ k. one_value inner f.value_type k (message_payload (MessageOf U) (records c) ∷ [])) e ∙ ap (λ c. Some (MessageValue c)) (by (MessageOf U) U (eqb-true (type_of c) U t)))
+      go (GroupOf U) e t =
+          one_back (MessageValue c) (message_payload (GroupOf U) (records c)) found value_type (ap (λ k. message_payload k (records c) ∷ []) e) (ap (λ k. is_stray k (message_payload (GroupOf U) (records c))) e)
+          (ap (λ k. one_value inner f.value_type k (message_payload (GroupOf U) (records c) ∷ [])) e ∙ ap (λ c. Some (MessageValue c)) (by (GroupOf U) U (eqb-true (type_of c) U t)))
 
 -- an unknown record
 pub unknown_back : (fields : List Field) (n : ℕ) (p : Payload) → field_of fields n ≡ None → UnknownBack fields n p

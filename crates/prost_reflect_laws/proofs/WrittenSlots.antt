@@ -173,46 +173,47 @@ lone_survivors pairs older newer n g xs m e found =
     ap (filter (has_number g.number)) (after_none (λ r. is_sibling newer g r.number) (flat_map (value_records newer) xs) (never_any (λ (r : Record). is_sibling newer g r.number) (flat_map (value_records newer) xs) (λ r. lone pairs older newer n r.number g m e found)))
     ∙ ap (λ (k : ℕ). filter (has_number k) (flat_map (value_records newer) xs)) (field_number newer n g found) ∙ filter_values newer n xs
 
-slot_value : (pairs : TypePairs) (k : ℕ) (a : AllowsInside) (j : MeansInside) (older newer : List Field) (at by : ℕ → Slot) (ws : List Record) (n : ℕ) → BothSlots pairs k a j older newer at by → Numbered older at ws → value_meaning j newer ws n ≡ (by n).value
-slot_value pairs k a j older newer at by ws n b w = go (field_of older n) refl
-  where
-    value : Option Field → Option Value
-    value o = o >>= λ g. surviving_value j newer g (flat_map (value_records newer) ws)
+module _ (pairs : TypePairs) (k : ℕ) (a : AllowsInside) (j : MeansInside) (older newer : List Field) (at by : ℕ → Slot) where
+  slot_value : (ws : List Record) (n : ℕ) → BothSlots pairs k a j older newer at by → Numbered older at ws → value_meaning j newer ws n ≡ (by n).value
+  slot_value ws n b w = go (field_of older n) refl
+    where
+      value : Option Field → Option Value
+      value o = o >>= λ g. surviving_value j newer g (flat_map (value_records newer) ws)
 
-    lacking : field_of older n ≡ None → (o : Option Field) → field_of newer n ≡ o → value o ≡ (by n).value
-    lacking e None d = sym ((b.lacking n e).no_value d)
-    lacking e (Some g) d =
-        let l : LackingSlot k a j newer n (at n) (by n) = b.lacking n e in
-        ap (λ l. field_value j g.form g.value_type (payloads l)) (lone_survivors pairs older newer n g ws b.match e d ∙ ap (flat_map (value_records newer)) (w.each n ∙ ap (map (record_at n)) (lacking_payloads older at n e l.none)) ∙ values_of_block newer n g (at n).unknowns d)
-        ∙ ap (field_value j g.form g.value_type) (block_payloads n (flat_map (value_payloads g.form g.value_type) (at n).unknowns)) ∙ l.value g d
+      lacking : field_of older n ≡ None → (o : Option Field) → field_of newer n ≡ o → value o ≡ (by n).value
+      lacking e None d = sym ((b.lacking n e).no_value d)
+      lacking e (Some g) d =
+          let l : LackingSlot k a j newer n (at n) (by n) = b.lacking n e in
+          ap (λ l. field_value j g.form g.value_type (payloads l)) (lone_survivors pairs older newer n g ws b.match e d ∙ ap (flat_map (value_records newer)) (w.each n ∙ ap (map (record_at n)) (lacking_payloads older at n e l.none)) ∙ values_of_block newer n g (at n).unknowns d)
+          ∙ ap (field_value j g.form g.value_type) (block_payloads n (flat_map (value_payloads g.form g.value_type) (at n).unknowns)) ∙ l.value g d
 
-    go : (o : Option Field) → field_of older n ≡ o → value (field_of newer n) ≡ (by n).value
-    go None e = lacking e (field_of newer n) refl
-    go (Some f) e =
-        let (g, l) = like pairs older newer n f b.match e in
-        let s : KnownSlot k a j newer n f g (at n) (by n) = b.known n f g e l in
-        ap value s.found ∙ known_value pairs k a j older newer at by ws n f g b w e l
+      go : (o : Option Field) → field_of older n ≡ o → value (field_of newer n) ≡ (by n).value
+      go None e = lacking e (field_of newer n) refl
+      go (Some f) e =
+          let (g, l) = like pairs older newer n f b.match e in
+          let s : KnownSlot k a j newer n f g (at n) (by n) = b.known n f g e l in
+          ap value s.found ∙ known_value pairs k a j older newer at by ws n f g b w e l
 
-slot_unknowns : (pairs : TypePairs) (k : ℕ) (a : AllowsInside) (j : MeansInside) (older newer : List Field) (at by : ℕ → Slot) (ws : List Record) (n : ℕ) → BothSlots pairs k a j older newer at by → Numbered older at ws → unknowns_meaning newer ws n ≡ (by n).unknowns
-slot_unknowns pairs k a j older newer at by ws n b w = ap (flat_map (unknown_payloads newer)) (w.each n) ∙ go (field_of older n) refl
-  where
-    go : (o : Option Field) → field_of older n ≡ o → flat_map (unknown_payloads newer) (map (record_at n) (written_at older at n)) ≡ (by n).unknowns
-    go None e = let l : LackingSlot k a j newer n (at n) (by n) = b.lacking n e in ap (λ ps. flat_map (unknown_payloads newer) (map (record_at n) ps)) (lacking_payloads older at n e l.none) ∙ l.unknowns
-    go (Some f) e =
-        let (g, l) = like pairs older newer n f b.match e in
-        let s : KnownSlot k a j newer n f g (at n) (by n) = b.known n f g e l in
-        let t : Taken j f g (at n) (by n) = taken k a j newer n f g (at n) (by n) s (ap (λ o. list_all payload_valid (slot_payloads o (at n))) (sym e) ∙ w.spelt n) in
-        ap (λ o. flat_map (unknown_payloads newer) (map (record_at n) (slot_payloads o (at n)))) e ∙ strays_of_block newer n g (slot_payloads (Some f) (at n)) s.found ∙ t.strays
+  slot_unknowns : (ws : List Record) (n : ℕ) → BothSlots pairs k a j older newer at by → Numbered older at ws → unknowns_meaning newer ws n ≡ (by n).unknowns
+  slot_unknowns ws n b w = ap (flat_map (unknown_payloads newer)) (w.each n) ∙ go (field_of older n) refl
+    where
+      go : (o : Option Field) → field_of older n ≡ o → flat_map (unknown_payloads newer) (map (record_at n) (written_at older at n)) ≡ (by n).unknowns
+      go None e = let l : LackingSlot k a j newer n (at n) (by n) = b.lacking n e in ap (λ ps. flat_map (unknown_payloads newer) (map (record_at n) ps)) (lacking_payloads older at n e l.none) ∙ l.unknowns
+      go (Some f) e =
+          let (g, l) = like pairs older newer n f b.match e in
+          let s : KnownSlot k a j newer n f g (at n) (by n) = b.known n f g e l in
+          let t : Taken j f g (at n) (by n) = taken k a j newer n f g (at n) (by n) s (ap (λ o. list_all payload_valid (slot_payloads o (at n))) (sym e) ∙ w.spelt n) in
+          ap (λ o. flat_map (unknown_payloads newer) (map (record_at n) (slot_payloads o (at n)))) e ∙ strays_of_block newer n g (slot_payloads (Some f) (at n)) s.found ∙ t.strays
 
--- ALL NUMBERS
+  -- ALL NUMBERS
 
--- entries that the older type writes
-pub both_sound : (pairs : TypePairs) (k : ℕ) (a : AllowsInside) (j : MeansInside) (older newer : List Field) (at by : ℕ → Slot) (ns : List ℕ) → BothSlots pairs k a j older newer at by → Sound (entries_records older (table at ns))
-both_sound pairs k a j older newer at by ns b = table_sound older at ns (λ n. slot_sound pairs k a j older newer at by n b)
+  -- entries that the older type writes
+  pub both_sound : (ns : List ℕ) → BothSlots pairs k a j older newer at by → Sound (entries_records older (table at ns))
+  both_sound ns b = table_sound older at ns (λ n. slot_sound pairs k a j older newer at by n b)
 
-pub both_allowed : (pairs : TypePairs) (k : ℕ) (a : AllowsInside) (j : MeansInside) (older newer : List Field) (at by : ℕ → Slot) (ns : List ℕ) → BothSlots pairs k a j older newer at by → Numbered older at (entries_records older (table at ns)) →
-    list_all (record_allowed k a newer) (entries_records older (table at ns)) ≡ true
-both_allowed pairs k a j older newer at by ns b w = table_all (record_allowed k a newer) older at ns (λ n. slot_allowed pairs k a j older newer at by n b (w.spelt n))
+  pub both_allowed : (ns : List ℕ) → BothSlots pairs k a j older newer at by → Numbered older at (entries_records older (table at ns)) →
+      list_all (record_allowed k a newer) (entries_records older (table at ns)) ≡ true
+  both_allowed ns b w = table_all (record_allowed k a newer) older at ns (λ n. slot_allowed pairs k a j older newer at by n b (w.spelt n))
 
 -- are read by the newer type as what it is to have
 pub both_read : (pairs : TypePairs) (k : ℕ) (a : AllowsInside) (j : MeansInside) (older : List Field) (schema : Schema) (B : ℕ) (at by : ℕ → Slot) (ws : List Record) (ms : List ℕ) → BothSlots pairs k a j older (known schema B) at by → Numbered older at ws → Ascending 0 ms → Covers by 0 ms →

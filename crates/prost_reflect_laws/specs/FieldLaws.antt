@@ -1,11 +1,6 @@
 -- Laws of reading one unknown field.
-use Rattle.std.specs.Prelude.{◌≡◌, ℕ, ◌^◌, ◌<◌, ◌≤◌, ◌⊎◌, List, [], ◌∷◌, ◌++◌}
-use Rattle.prost_reflect_wire.specs.Varint.{AreBytes}
-use Rattle.prost_reflect_wire.specs.Record.{Record, Payload, spelled, payload_levels}
-use Rattle.prost_reflect_wire.specs.Front.{RecordFront, FieldFront, ValueFront}
-use Rattle.prost_reflect_wire.specs.Fault.{StandsInField, StandsInValue}
+use Rattle.prost_reflect_laws.specs.Common.{◌≡◌, ℕ, ◌^◌, ◌<◌, ◌≤◌, ◌⊎◌, List, [], ◌∷◌, ◌++◌, AreBytes, Record, Payload, spelled, payload_levels, RecordFront, FieldFront, ValueFront, StandsInField, StandsInValue, DecodeError}
 use Rattle.prost_reflect_wire.specs.declared.key.WireType.{WireType}
-use Rattle.prost_reflect_wire.specs.declared.error.DecodeError.{DecodeError}
 use Rattle.prost_reflect_wire.specs.declared.error.DecodeError.TheVariants as errors
 
 -- One of the two holds, and not both.

@@ -1,10 +1,5 @@
 -- The laws of faults, each proved as the contract of a function in the module laws::faults.
-use Rattle.std.specs.Prelude.{◌≡◌, ◌≢◌, ℕ, ◌↔◌, false, List}
-use Rattle.prost_reflect_wire.specs.Varint.{AreBytes}
-use Rattle.prost_reflect_wire.specs.Schema.{Schema}
-use Rattle.prost_reflect_wire.specs.Grammar.{Accepts, accepts}
-use Rattle.prost_reflect_wire.specs.Fault.{Place, Stands, StandsInMessage}
-use Rattle.prost_reflect_wire.specs.declared.error.DecodeError.{DecodeError}
+use Rattle.prost_reflect_laws.specs.Common.{◌≡◌, ◌≢◌, ℕ, ◌↔◌, false, List, AreBytes, Schema, Accepts, accepts, Place, Stands, StandsInMessage, DecodeError}
 use Rattle.prost_reflect_wire.specs.declared.error.DecodeError.TheVariants as errors
 
 -- Bytes that are accepted have no fault.

@@ -1,3 +1,4 @@
+mod Common
 pub mod LawsOfFaults
 pub mod Passage
 pub mod Reducing

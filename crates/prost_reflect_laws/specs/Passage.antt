@@ -1,13 +1,5 @@
 -- Laws of reduction: what an older message type makes of the bytes of a newer one (the encoding guide's account of unknown fields, "Updating A Message Type").
-use Rattle.std.specs.Prelude.{◌≡◌, ℕ, suc, ◌≤◌, ◌<◌, ◌^◌, true, false, List, length, Some}
-use Rattle.prost_reflect_wire.specs.Varint.{AreBytes, ◌>>=◌}
-use Rattle.prost_reflect_wire.specs.Schema.{Schema, schema_valid}
-use Rattle.prost_reflect_wire.specs.Content.{Content, Value}
-use Rattle.prost_reflect_wire.specs.Grammar.{Accepts}
-use Rattle.prost_reflect_wire.specs.Meaning.{decoded}
-use Rattle.prost_reflect_wire.specs.Writing.{encoded}
-use Rattle.prost_reflect_wire.specs.Edit.{set_at, PathTo, holds_message, edited}
-use Rattle.prost_reflect_wire.specs.Reduction.{Reduced}
+use Rattle.prost_reflect_laws.specs.Common.{◌≡◌, ℕ, suc, ◌≤◌, ◌<◌, ◌^◌, true, false, List, length, Some, AreBytes, ◌>>=◌, Schema, schema_valid, Content, Value, Accepts, decoded, encoded, set_at, PathTo, holds_message, edited, Reduced}
 
 -- What the newer type accepts its reduction accepts.
 abbrev pub OlderAccepts : Type 0

@@ -1,6 +1,5 @@
 -- Worked examples of the test of reduction, which hold by computing.
-use Rattle.std.specs.Prelude.{◌≡◌, true, false, [], ◌∷◌}
-use Rattle.prost_reflect_wire.specs.Schema.{MessageOf, Singular, Schema, schema_valid}
+use Rattle.prost_reflect_laws.specs.Common.{◌≡◌, true, false, [], ◌∷◌, MessageOf, Singular, Schema, schema_valid}
 use Rattle.prost_reflect_laws.specs.Reducing.{greatest_reduction, is_reduced}
 use Rattle.prost_reflect_laws.specs.Examples.Schemas.{field, int32, text, message_value_type, message}
 

@@ -1,9 +1,5 @@
 -- Undeclared numbers of closed enums (the page "Enum Behavior" of the Protocol Buffers documentation).
-use Rattle.std.specs.Prelude.{◌≡◌, true, false, [], ◌∷◌}
-use Rattle.prost_reflect_wire.specs.Content.{NoEntries, Stored, Unknown, MapValue, NoPairs, Pair}
-use Rattle.prost_reflect_wire.specs.Grammar.{accepts}
-use Rattle.prost_reflect_wire.specs.Levels.{levels}
-use Rattle.prost_reflect_wire.specs.Typing.{encodable}
+use Rattle.prost_reflect_laws.specs.Common.{◌≡◌, true, false, [], ◌∷◌, NoEntries, Stored, Unknown, MapValue, NoPairs, Pair, accepts, levels, encodable}
 use Rattle.prost_reflect_laws.specs.Examples.Schemas.{examples, closed, opened}
 use Rattle.prost_reflect_laws.specs.Examples.Words.{hex, content, int, enum, ascii, list_of, varint, delimited, Means, Reads, Refused}
 

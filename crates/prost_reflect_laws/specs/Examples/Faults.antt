@@ -1,7 +1,5 @@
 -- Faults that bytes have: each of the named errors, and each way to a further place.
-use Rattle.std.specs.Prelude.{[]}
-use Rattle.prost_reflect_wire.specs.Grammar.{LEVEL_LIMIT}
-use Rattle.prost_reflect_wire.specs.Fault.{StandsInMessage, StandsInField}
+use Rattle.prost_reflect_laws.specs.Common.{[], LEVEL_LIMIT, StandsInMessage, StandsInField}
 use Rattle.prost_reflect_laws.specs.Examples.Schemas.{examples, my_message, packed_list, maps, groups, text_at_one}
 use Rattle.prost_reflect_laws.specs.Examples.Words.{hex}
 use Rattle.prost_reflect_wire.specs.declared.error.DecodeError.TheVariants as errors

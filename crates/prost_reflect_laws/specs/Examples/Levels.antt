@@ -1,11 +1,5 @@
 -- How deep messages and groups may nest (the encoding guide, "Submessages" and "Groups"; the limit on levels is a parser's, and what is said of entries is this library's).
-use Rattle.std.specs.Prelude.{◌≡◌, true, false, pos, [], length, Some}
-use Rattle.prost_reflect_wire.specs.Record.{NoRecords, GroupRecord, Group}
-use Rattle.prost_reflect_wire.specs.Content.{NoEntries, Stored, Unknown, MapValue, NoPairs, Pair}
-use Rattle.prost_reflect_wire.specs.Scalar.{I32}
-use Rattle.prost_reflect_wire.specs.Grammar.{LEVEL_LIMIT, accepts}
-use Rattle.prost_reflect_wire.specs.Writing.{relayed}
-use Rattle.prost_reflect_wire.specs.Levels.{levels}
+use Rattle.prost_reflect_laws.specs.Common.{◌≡◌, true, false, pos, [], length, Some, NoRecords, GroupRecord, Group, NoEntries, Stored, Unknown, MapValue, NoPairs, Pair, I32, LEVEL_LIMIT, accepts, relayed, levels}
 use Rattle.prost_reflect_laws.specs.Examples.Schemas.{examples, my_message, maps, nested_group, no_fields}
 use Rattle.prost_reflect_laws.specs.Examples.Words.{hex, nested, times, content, int, ascii, inner}
 

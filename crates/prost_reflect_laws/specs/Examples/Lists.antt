@@ -1,7 +1,5 @@
 -- Lists, packed and not (the encoding guide, "Packed Repeated Fields").
-use Rattle.std.specs.Prelude.{negsuc, [], ◌∷◌}
-use Rattle.prost_reflect_wire.specs.Scalar.{I64, U32}
-use Rattle.prost_reflect_wire.specs.Content.{NoEntries, Stored, ScalarValue}
+use Rattle.prost_reflect_laws.specs.Common.{negsuc, [], ◌∷◌, I64, U32, NoEntries, Stored, ScalarValue}
 use Rattle.prost_reflect_laws.specs.Examples.Schemas.{my_message, unpacked_list, packed_list, message_list, lists}
 use Rattle.prost_reflect_laws.specs.Examples.Words.{int, minus_one, ascii, inner, list_of, Means, Becomes, Reads, Refused, Writes}
 

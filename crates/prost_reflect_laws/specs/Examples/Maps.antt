@@ -1,7 +1,5 @@
 -- Maps (the encoding guide, "Maps").
-use Rattle.std.specs.Prelude.{pos, negsuc}
-use Rattle.prost_reflect_wire.specs.Scalar.{I32}
-use Rattle.prost_reflect_wire.specs.Content.{NoEntries, Stored, MapValue, NoPairs, Pair}
+use Rattle.prost_reflect_laws.specs.Common.{pos, negsuc, I32, NoEntries, Stored, MapValue, NoPairs, Pair}
 use Rattle.prost_reflect_laws.specs.Examples.Schemas.{my_message, maps, presence_map}
 use Rattle.prost_reflect_laws.specs.Examples.Words.{int, ascii, inner, Means, Becomes, Reads, Refused}
 

@@ -1,16 +1,11 @@
 -- Statements near the laws on faults and on single fields that do not hold, each refuted by a worked example.
-use Rattle.std.specs.Prelude.{◌≡◌, ◌≢◌, ℕ, false, List, [], ◌∷◌, ◌++◌}
-use Rattle.prost_reflect_wire.specs.Record.{spelled}
-use Rattle.prost_reflect_wire.specs.Grammar.{Accepts, accepts}
-use Rattle.prost_reflect_wire.specs.Front.{FieldFront}
-use Rattle.prost_reflect_wire.specs.Fault.{StandsInMessage, StandsInValue}
+use Rattle.prost_reflect_laws.specs.Common.{◌≡◌, ◌≢◌, ℕ, false, List, [], ◌∷◌, ◌++◌, spelled, Accepts, accepts, FieldFront, StandsInMessage, StandsInValue, DecodeError}
 use Rattle.prost_reflect_laws.specs.FieldLaws.{HasField, HasValue}
 use Rattle.prost_reflect_laws.specs.Examples.Schemas.{examples, my_message, no_fields}
 use Rattle.prost_reflect_laws.specs.Examples.Words.{hex}
 use Rattle.prost_reflect_laws.specs.Examples.Instances.{needless}
 use Rattle.prost_reflect_laws.specs.Examples.PremisesOfPassage.{first_field}
 use Rattle.prost_reflect_wire.specs.declared.key.WireType.TheVariants as wires
-use Rattle.prost_reflect_wire.specs.declared.error.DecodeError.{DecodeError}
 use Rattle.prost_reflect_wire.specs.declared.error.DecodeError.TheVariants as errors
 
 -- An unknown group.

@@ -1,14 +1,5 @@
 -- Statements near the laws on meaning and on writing that do not hold, each refuted by a worked example: a law without one of its premises, its converse, or its neighbour.
-use Rattle.std.specs.Prelude.{◌≡◌, ℕ, zero, suc, true, false, List, [], ◌∷◌, ◌++◌, Some}
-use Rattle.prost_reflect_wire.specs.Record.{Record, record_at, body_of, Spells}
-use Rattle.prost_reflect_wire.specs.Schema.{Schema, Singular, known, schema_valid}
-use Rattle.prost_reflect_wire.specs.Content.{Content, ContentOf, Entries, NoEntries, Stored, ScalarValue}
-use Rattle.prost_reflect_wire.specs.Grammar.{LEVEL_LIMIT, accepts, allows}
-use Rattle.prost_reflect_wire.specs.Meaning.{meaning, decoded}
-use Rattle.prost_reflect_wire.specs.Writing.{records, encoded}
-use Rattle.prost_reflect_wire.specs.Levels.{levels}
-use Rattle.prost_reflect_wire.specs.Typing.{WellTyped, kept}
-use Rattle.prost_reflect_wire.specs.Edit.{merged}
+use Rattle.prost_reflect_laws.specs.Common.{◌≡◌, ℕ, zero, suc, true, false, List, [], ◌∷◌, ◌++◌, Some, Record, record_at, body_of, Spells, Schema, Singular, known, schema_valid, Content, ContentOf, Entries, NoEntries, Stored, ScalarValue, LEVEL_LIMIT, accepts, allows, meaning, decoded, records, encoded, levels, WellTyped, kept, merged}
 use Rattle.prost_reflect_laws.specs.Laws.{Apart, Writable}
 use Rattle.prost_reflect_laws.specs.Examples.Schemas.{examples, message, field, int32, my_message, packed_list, choice, plain_a}
 use Rattle.prost_reflect_laws.specs.Examples.Words.{content, int, ascii, inner, list_of, varint, delimited}

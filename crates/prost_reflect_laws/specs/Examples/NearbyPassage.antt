@@ -1,13 +1,5 @@
 -- Statements near the laws of reduction that do not hold, each refuted by a worked example. What passes on without a reduction stands in FailedPassages.
-use Rattle.std.specs.Prelude.{◌≡◌, ℕ, ◌<◌, suc, false, true, List, [], ◌∷◌, length, Some}
-use Rattle.prost_reflect_wire.specs.Varint.{◌>>=◌}
-use Rattle.prost_reflect_wire.specs.Schema.{MessageOf, Singular, Schema, schema_valid}
-use Rattle.prost_reflect_wire.specs.Content.{NoEntries, Value}
-use Rattle.prost_reflect_wire.specs.Grammar.{LEVEL_LIMIT, Accepts}
-use Rattle.prost_reflect_wire.specs.Meaning.{decoded}
-use Rattle.prost_reflect_wire.specs.Writing.{relayed}
-use Rattle.prost_reflect_wire.specs.Edit.{set_at, PathTo, holds_message, edited}
-use Rattle.prost_reflect_wire.specs.Reduction.{Reduced}
+use Rattle.prost_reflect_laws.specs.Common.{◌≡◌, ℕ, ◌<◌, suc, false, true, List, [], ◌∷◌, length, Some, ◌>>=◌, MessageOf, Singular, Schema, schema_valid, NoEntries, Value, LEVEL_LIMIT, Accepts, decoded, relayed, set_at, PathTo, holds_message, edited, Reduced}
 use Rattle.prost_reflect_laws.specs.Reducing.{is_reduced}
 use Rattle.prost_reflect_laws.specs.Examples.Schemas.{examples, message, field, message_value_type, my_message, older_message, no_fields, text_at_one, optional_a, two_choices, choices_without_a}
 use Rattle.prost_reflect_laws.specs.Examples.Words.{hex, int, inner, Becomes, Sets}

@@ -1,15 +1,5 @@
 -- Statements near the laws on what is read, merged, kept and set that do not hold, each refuted by a worked example.
-use Rattle.std.specs.Prelude.{◌≡◌, true, false, pos, List, [], ◌∷◌, ◌++◌, Some}
-use Rattle.prost_reflect_wire.specs.Record.{NoRecords, Group, Record, record_at, body_of, valid}
-use Rattle.prost_reflect_wire.specs.Scalar.{I32}
-use Rattle.prost_reflect_wire.specs.Schema.{Schema, MapFrom, schema_valid}
-use Rattle.prost_reflect_wire.specs.Content.{Content, ContentOf, NoEntries, Stored, Value, ScalarValue, MapValue, NoPairs, Pair}
-use Rattle.prost_reflect_wire.specs.Grammar.{LEVEL_LIMIT, accepts, allows}
-use Rattle.prost_reflect_wire.specs.Meaning.{meaning, decoded, steps}
-use Rattle.prost_reflect_wire.specs.Writing.{records}
-use Rattle.prost_reflect_wire.specs.Levels.{levels}
-use Rattle.prost_reflect_wire.specs.Typing.{WellStored, WellTyped, Typed, kept, encodable, exclusive}
-use Rattle.prost_reflect_wire.specs.Edit.{merged, set_at}
+use Rattle.prost_reflect_laws.specs.Common.{◌≡◌, true, false, pos, List, [], ◌∷◌, ◌++◌, Some, NoRecords, Group, Record, record_at, body_of, valid, I32, Schema, MapFrom, schema_valid, Content, ContentOf, NoEntries, Stored, Value, ScalarValue, MapValue, NoPairs, Pair, LEVEL_LIMIT, accepts, allows, meaning, decoded, steps, records, levels, WellStored, WellTyped, Typed, kept, encodable, exclusive, merged, set_at}
 use Rattle.prost_reflect_laws.specs.Examples.Schemas.{examples, message, field, int32, my_message, maps, closed}
 use Rattle.prost_reflect_laws.specs.Examples.Words.{hex, content, int, ascii, inner, varint, delimited}
 use Rattle.prost_reflect_laws.specs.Examples.Instances.{sample, front, behind, stores_defaults, two_members, Low, Taken}

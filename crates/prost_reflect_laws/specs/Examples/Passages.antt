@@ -1,15 +1,6 @@
 -- The laws of reduction at work: types and bytes of which all is true that a law asks, and others that show why it is asked (the encoding guide, "Updating A Message Type").
 use Prim.Native.String.{String}
-use Rattle.std.specs.Prelude.{◌≡◌, ℕ, ◌<◌, ◌≤◌, ◌^◌, suc, false, true, pos, List, [], ◌∷◌, length, Some}
-use Rattle.prost_reflect_wire.specs.Varint.{AreBytes, ◌>>=◌}
-use Rattle.prost_reflect_wire.specs.Schema.{schema_valid}
-use Rattle.prost_reflect_wire.specs.Content.{Entries, NoEntries, Stored, Unknown, Value, MapValue, NoPairs, Pair}
-use Rattle.prost_reflect_wire.specs.Scalar.{I32}
-use Rattle.prost_reflect_wire.specs.Grammar.{LEVEL_LIMIT, Accepts}
-use Rattle.prost_reflect_wire.specs.Meaning.{decoded}
-use Rattle.prost_reflect_wire.specs.Writing.{encoded}
-use Rattle.prost_reflect_wire.specs.Edit.{set_at, PathTo, holds_message}
-use Rattle.prost_reflect_wire.specs.Reduction.{Reduced}
+use Rattle.prost_reflect_laws.specs.Common.{◌≡◌, ℕ, ◌<◌, ◌≤◌, ◌^◌, suc, false, true, pos, List, [], ◌∷◌, length, Some, AreBytes, ◌>>=◌, schema_valid, Entries, NoEntries, Stored, Unknown, Value, MapValue, NoPairs, Pair, I32, LEVEL_LIMIT, Accepts, decoded, encoded, set_at, PathTo, holds_message, Reduced}
 use Rattle.prost_reflect_laws.specs.ReducingExamples.{whole, less, other}
 use Rattle.prost_reflect_laws.specs.Examples.Schemas.{examples, my_message, older_message, unpacked_list, packed_list, maps, maps_without_m, choice, extended, extended_choice, field_at_hundred, no_fields, closed, older_closed, closed_alone, open_alone, two_choices, choices_without_a}
 use Rattle.prost_reflect_laws.specs.Examples.Words.{content, int, enum, inner, list_of, varint, delimited, hex, Means, Writes, Sets}

@@ -1,15 +1,5 @@
 -- Worked examples at which the premises of the laws on reductions and on single fields hold.
-use Rattle.std.specs.Prelude.{◌≡◌, ℕ, ◌≤◌, ◌<◌, ◌^◌, true, false, List, [], ◌∷◌, ◌++◌, length, Some}
-use Rattle.prost_reflect_wire.specs.Varint.{AreBytes}
-use Rattle.prost_reflect_wire.specs.Record.{Record, record_at, spelled}
-use Rattle.prost_reflect_wire.specs.Schema.{schema_valid}
-use Rattle.prost_reflect_wire.specs.Content.{Content, NoEntries, Stored, Unknown}
-use Rattle.prost_reflect_wire.specs.Grammar.{Accepts}
-use Rattle.prost_reflect_wire.specs.Meaning.{decoded}
-use Rattle.prost_reflect_wire.specs.Writing.{encoded}
-use Rattle.prost_reflect_wire.specs.Edit.{PathTo, holds_message, edited}
-use Rattle.prost_reflect_wire.specs.Reduction.{Reduced}
-use Rattle.prost_reflect_wire.specs.Front.{FieldFront}
+use Rattle.prost_reflect_laws.specs.Common.{◌≡◌, ℕ, ◌≤◌, ◌<◌, ◌^◌, true, false, List, [], ◌∷◌, ◌++◌, length, Some, AreBytes, Record, record_at, spelled, schema_valid, Content, NoEntries, Stored, Unknown, Accepts, decoded, encoded, PathTo, holds_message, edited, Reduced, FieldFront}
 use Rattle.prost_reflect_laws.specs.Examples.Schemas.{examples, my_message, older_message}
 use Rattle.prost_reflect_laws.specs.Examples.Words.{hex, content, int, inner, varint}
 use Rattle.prost_reflect_laws.specs.ReducingExamples.{whole, less}

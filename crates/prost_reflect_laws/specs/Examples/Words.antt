@@ -1,14 +1,6 @@
 -- The words that the worked examples are written in.
 use Prim.Native.String.{String}
-use Rattle.std.specs.Prelude.{◌≡◌, ℕ, zero, suc, ◌+◌, ◌-◌, ◌*◌, false, not, pos, negsuc, List, [], ◌∷◌, ◌++◌, length, filter, codes, nat_eq, nat_lt, if◌then◌else◌, Some}
-use Rattle.prost_reflect_wire.specs.Varint.{short}
-use Rattle.prost_reflect_wire.specs.Record.{Var, Len, Payload, Flat}
-use Rattle.prost_reflect_wire.specs.Scalar.{Scalar, I32, Text, EnumNumber}
-use Rattle.prost_reflect_wire.specs.Content.{Content, ContentOf, Entries, Value, ScalarValue, MessageValue, ListValue, values_from}
-use Rattle.prost_reflect_wire.specs.Grammar.{LEVEL_LIMIT, accepts}
-use Rattle.prost_reflect_wire.specs.Meaning.{decoded}
-use Rattle.prost_reflect_wire.specs.Writing.{encoded, relayed}
-use Rattle.prost_reflect_wire.specs.Edit.{edited}
+use Rattle.prost_reflect_laws.specs.Common.{◌≡◌, ℕ, zero, suc, ◌+◌, ◌-◌, ◌*◌, false, not, pos, negsuc, List, [], ◌∷◌, ◌++◌, length, filter, codes, nat_eq, nat_lt, if◌then◌else◌, Some, short, Var, Len, Payload, Flat, Scalar, I32, Text, EnumNumber, Content, ContentOf, Entries, Value, ScalarValue, MessageValue, ListValue, values_from, LEVEL_LIMIT, accepts, decoded, encoded, relayed, edited}
 use Rattle.prost_reflect_laws.specs.Examples.Schemas.{examples}
 
 -- BYTES

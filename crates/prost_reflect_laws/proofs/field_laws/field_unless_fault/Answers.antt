@@ -1,4 +1,4 @@
-use Rattle.prost_reflect_laws.proofs.Common.{field_no_fault}
+use Rattle.prost_reflect_wire.proofs.FieldFaults.{field_no_fault}
 use Rattle.prost_reflect_laws.proofs.FieldOrFault.{field_or_fault}
 use Rattle.prost_reflect_laws.proofs.field_laws.field_unless_fault.Goals as goal
 

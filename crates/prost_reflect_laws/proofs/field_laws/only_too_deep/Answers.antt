@@ -1,4 +1,4 @@
-use Rattle.prost_reflect_laws.proofs.Common.{field_only}
+use Rattle.prost_reflect_wire.proofs.FieldFaults.{field_only}
 use Rattle.prost_reflect_laws.proofs.field_laws.only_too_deep.Goals as goal
 
 pub returns : goal.returns

@@ -1,4 +1,4 @@
-use Rattle.prost_reflect_laws.proofs.Common.{meaning_steps}
+use Rattle.prost_reflect_wire.proofs.Steps.{meaning_steps}
 use Rattle.prost_reflect_laws.proofs.laws.meaning_by_steps.Goals as goal
 
 pub returns : goal.returns

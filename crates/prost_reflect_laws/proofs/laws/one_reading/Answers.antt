@@ -1,4 +1,4 @@
-use Rattle.prost_reflect_laws.proofs.Common.{one_reading}
+use Rattle.prost_reflect_wire.proofs.Reading.{one_reading}
 use Rattle.prost_reflect_laws.proofs.laws.one_reading.Goals as goal
 
 pub returns : goal.returns

@@ -1,4 +1,4 @@
-use Rattle.prost_reflect_laws.proofs.Common.{same_behind}
+use Rattle.prost_reflect_wire.proofs.Steps.{same_behind}
 use Rattle.prost_reflect_laws.proofs.laws.same_behind.Goals as goal
 
 pub returns : goal.returns

@@ -1,4 +1,4 @@
-use Rattle.prost_reflect_laws.proofs.Common.{refl}
+use Rattle.std.proofs.Common.{refl}
 use Rattle.prost_reflect_laws.proofs.FaultLaws.{memory_never_stands}
 use Rattle.prost_reflect_laws.proofs.laws.faults.memory_never_stands.Goals as goal
 
