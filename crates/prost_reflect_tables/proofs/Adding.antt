@@ -1,14 +1,9 @@
 -- Files are added one by one.
-use Rattle.std.proofs.Common.{◌≡◌, ℕ, Bool, true, false, not, cond, ◌&&◌, ◌||◌, List, [], ◌∷◌, ◌++◌, length, nat_eq, filter, String, refl, sym, ap, ◌∙◌, true≢false, append_assoc, append-nil, arith}
+use Rattle.prost_reflect_tables.proofs.Common.{◌≡◌, ℕ, Bool, true, false, not, cond, ◌&&◌, ◌||◌, List, [], ◌∷◌, ◌++◌, length, nat_eq, filter, String, refl, sym, ap, ◌∙◌, true≢false, append_assoc, append-nil, arith, list_any, Global, FileDescriptorProto, text_or_empty, is_unnamed}
 use Rattle.std.specs.Bool.{◌==◌}
 use Rattle.std.specs.Str.{bytes_eq}
-use Rattle.std.specs.List.{list_any}
 use Rattle.std.specs.BTreeSet.{BTreeSet, contains_text}
-use Rattle.std.specs.declared.alloc.Global.{Global}
 use Rattle.std.proofs.lemmas.Slice.Eq.{bytes_eq-Decides}
-use Rattle.prost_reflect_types.specs.declared.FileDescriptorProto.{FileDescriptorProto}
-use Rattle.prost_reflect_tables.specs.Names.{text_or_empty}
-use Rattle.prost_reflect_tables.specs.Faults.{is_unnamed}
 use Rattle.prost_reflect_tables.specs.Adding.{is_named, have_one_name, first_of_name, is_there, unskipped, added, AreNamesOf}
 use Rattle.prost_reflect_tables.proofs.NamePlaces.{list_any_push}
 
@@ -102,30 +97,28 @@ none_named : (files : List FileDescriptorProto) → list_any (is_named []) files
 none_named [] = refl
 none_named (g ∷ files) = rw (not_named g, none_named files) refl
 
-pub unnamed_new : (files : List FileDescriptorProto) (f : FileDescriptorProto) → text_or_empty f.name ≡ [] → is_there files f ≡ false
-unnamed_new files f e = ap (λ (name : List ℕ). list_any (is_named name) files) e ∙ none_named files
+module _ (files : List FileDescriptorProto) (f : FileDescriptorProto) where
+  pub unnamed_new : text_or_empty f.name ≡ [] → is_there files f ≡ false
+  unnamed_new e = ap (λ (name : List ℕ). list_any (is_named name) files) e ∙ none_named files
 
-pub unnamed_more : (files : List FileDescriptorProto) (f : FileDescriptorProto) (names : BTreeSet (String Global)) → text_or_empty f.name ≡ [] → AreNamesOf files names → AreNamesOf (files ++ f ∷ []) names
-unnamed_more files f names e h = λ name. h name ∙ sym (named_more files f name ∙ rw e (elim (list_any (is_named name) files) as (λ c. (c || false) ≡ c) [ true ↦ refl | false ↦ refl ]))
+  pub name_new : (names : BTreeSet (String Global)) (key : List ℕ) (b : Bool) → key ≡ text_or_empty f.name → b ≡ not (contains_text names key) → AreNamesOf files names → b ≡ not (is_there files f)
+  name_new names key b e is h = is ∙ ap not (ap (contains_text names) e ∙ h (text_or_empty f.name))
 
-pub name_new : (files : List FileDescriptorProto) (f : FileDescriptorProto) (names : BTreeSet (String Global)) (key : List ℕ) (b : Bool) → key ≡ text_or_empty f.name → b ≡ not (contains_text names key) → AreNamesOf files names → b ≡ not (is_there files f)
-name_new files f names key b e is h = is ∙ ap not (ap (contains_text names) e ∙ h (text_or_empty f.name))
+  pub name_more : (old new : BTreeSet (String Global)) (key : List ℕ) → key ≡ text_or_empty f.name → is_unnamed f.name ≡ false →
+      ((name : List ℕ) → contains_text new name ≡ cond (bytes_eq key name) true (contains_text old name)) → AreNamesOf files old → AreNamesOf (files ++ f ∷ []) new
+  name_more old new key e named more h = λ name.
+      more name
+      ∙ (ap (λ (k : List ℕ). cond (bytes_eq k name) true (contains_text old name)) e
+      ∙ (ap (cond (bytes_eq (text_or_empty f.name) name) true) (h name)
+      ∙ (sides (bytes_eq (text_or_empty f.name) name) (list_any (is_named name) files)
+      ∙ sym (named_more files f name ∙ rw named refl))))
+    where
+      sides : (b c : Bool) → cond b true c ≡ (c || b)
+      sides true true = refl
+      sides true false = refl
+      sides false true = refl
+      sides false false = refl
 
-pub name_more : (files : List FileDescriptorProto) (f : FileDescriptorProto) (old new : BTreeSet (String Global)) (key : List ℕ) → key ≡ text_or_empty f.name → is_unnamed f.name ≡ false →
-    ((name : List ℕ) → contains_text new name ≡ cond (bytes_eq key name) true (contains_text old name)) → AreNamesOf files old → AreNamesOf (files ++ f ∷ []) new
-name_more files f old new key e named more h = λ name.
-    more name
-    ∙ (ap (λ (k : List ℕ). cond (bytes_eq k name) true (contains_text old name)) e
-    ∙ (ap (cond (bytes_eq (text_or_empty f.name) name) true) (h name)
-    ∙ (sides (bytes_eq (text_or_empty f.name) name) (list_any (is_named name) files)
-    ∙ sym (named_more files f name ∙ rw named refl))))
-  where
-    sides : (b c : Bool) → cond b true c ≡ (c || b)
-    sides true true = refl
-    sides true false = refl
-    sides false true = refl
-    sides false false = refl
-
--- where the name of a file is not new, the names stay
-pub names_stay : (files : List FileDescriptorProto) (f : FileDescriptorProto) (names : BTreeSet (String Global)) → is_there files f ≡ true → AreNamesOf (files ++ f ∷ []) names → AreNamesOf files names
-names_stay files f names there h = λ name. h name ∙ named_again files f name there
+  -- where the name of a file is not new, the names stay
+  pub names_stay : (names : BTreeSet (String Global)) → is_there files f ≡ true → AreNamesOf (files ++ f ∷ []) names → AreNamesOf files names
+  names_stay names there h = λ name. h name ∙ named_again files f name there

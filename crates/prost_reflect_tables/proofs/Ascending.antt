@@ -1,15 +1,6 @@
 -- Fields in ascending order of their numbers, and the place of a number among them.
-use Rattle.std.proofs.Common.{⊎_elim, ◌≡◌, ◌≢◌, ℕ, zero, suc, add-zero, ◌+◌, ◌<◌, ◌≤◌, ◌^◌, true, ◌&&◌, List, [], ◌∷◌, length, get_or, map, Some, None, refl, sym, ◌∙◌, ap, arith}
-use Rattle.std.specs.Prelude.{slice_get, option_map, nat_lt, ◌==◌}
-use Rattle.std.specs.List.{position_from}
+use Rattle.prost_reflect_tables.proofs.Common.{⊎_elim, ◌≡◌, ◌≢◌, ℕ, zero, suc, add-zero, ◌+◌, ◌<◌, ◌≤◌, ◌^◌, true, ◌&&◌, List, [], ◌∷◌, length, get_or, map, Some, None, refl, sym, ◌∙◌, ap, arith, slice_get, option_map, nat_lt, ◌==◌, position_from, length-map, slice_get-map, slice_get-get_or, slice_get_within, cases_lt, ltb-true, eq-eqb, ne_eqb, and_parts, FieldRow, field_row, place_of, ascending_from, FieldTable}
 use Rattle.std.proofs.lemmas.Iterator.Adapters.{position_from-zero}
-use Rattle.std.proofs.lemmas.List.{length-map}
-use Rattle.std.proofs.lemmas.Option.{slice_get-map, slice_get-get_or, slice_get_within}
-use Rattle.std.proofs.lemmas.Bool.{cases_lt, ltb-true, eq-eqb, ne_eqb, and_parts}
-use Rattle.prost_reflect_tables.specs.Rows.{FieldRow, field_row}
-use Rattle.prost_reflect_tables.specs.Places.{place_of}
-use Rattle.prost_reflect_tables.specs.Linked.{ascending_from}
-use Rattle.prost_reflect_tables.specs.declared.tables.FieldTable.{FieldTable}
 
 pub rises : (low : ℕ) (g : FieldRow) (fields : List FieldRow) → ascending_from low (g ∷ fields) ≡ true → low < g.number
 rises low g fields h = ltb-true low g.number (and_parts (nat_lt low g.number) (nat_lt g.number (2 ^ 29)) (and_parts (nat_lt low g.number && nat_lt g.number (2 ^ 29)) (ascending_from g.number fields) h).0).0
@@ -30,13 +21,12 @@ numbers_above low (g ∷ fields) (suc i) f h e =
 
 pub numbers_rise : (low : ℕ) (fields : List FieldRow) (i j : ℕ) (f g : FieldRow) → ascending_from low fields ≡ true → slice_get fields i ≡ Some f → slice_get fields j ≡ Some g → i < j → f.number < g.number
 numbers_rise low [] i j f g h e d lt = cc
-numbers_rise low (x ∷ fields) zero zero f g h e d lt = absurd (omega arith)
 numbers_rise low (x ∷ fields) zero (suc j) f g h e d lt =
     let same : x ≡ f = cc in
     let further = numbers_above x.number fields j g (onward low x fields h) d in
     omega (arith, ap (λ (y : FieldRow). y.number) same)
-numbers_rise low (x ∷ fields) (suc i) zero f g h e d lt = absurd (omega arith)
 numbers_rise low (x ∷ fields) (suc i) (suc j) f g h e d lt = numbers_rise x.number fields i j f g (onward low x fields h) e d (omega arith)
+numbers_rise low (x ∷ fields) _ zero f g h e d lt = absurd (omega arith)
 
 place_from : (n : ℕ) (fields : List FieldRow) → place_of fields n ≡ position_from (λ (r : FieldRow). r.number == n) 0 fields
 place_from n fields = position_from-zero (λ (r : FieldRow). r.number == n) fields

@@ -1,14 +1,6 @@
 -- What shows that rows are the tables of files.
-use Rattle.std.proofs.Common.{◌≡◌, List, [], refl, ap, ◌∙◌, subst}
-use Rattle.prost_reflect_types.specs.declared.FileDescriptorProto.{FileDescriptorProto}
+use Rattle.prost_reflect_tables.proofs.Common.{◌≡◌, List, [], refl, ap, ◌∙◌, subst, FileDescriptorProto, MessageTable, EnumTable, TableRows, rows_from, FlatRows, flattened, Checked, linked_rows, AreTablesOf}
 use Rattle.prost_reflect_tables.specs.declared.error.PoolError.TheVariants as errors
-use Rattle.prost_reflect_tables.specs.declared.tables.MessageTable.{MessageTable}
-use Rattle.prost_reflect_tables.specs.declared.tables.EnumTable.{EnumTable}
-use Rattle.prost_reflect_tables.specs.Rows.{TableRows, rows_from}
-use Rattle.prost_reflect_tables.specs.Flat.{FlatRows, flattened}
-use Rattle.prost_reflect_tables.specs.Checked.{Checked}
-use Rattle.prost_reflect_tables.specs.Linking.{linked_rows}
-use Rattle.prost_reflect_tables.specs.Built.{AreTablesOf}
 
 pub are_tables_of : (files : List FileDescriptorProto) (flat : FlatRows) (rows : TableRows) → flat ≡ flattened files → Checked files flat → rows ≡ linked_rows flat → AreTablesOf files rows
 are_tables_of files flat rows given checked linked = (subst (Checked files) given checked, linked ∙ ap linked_rows given)

@@ -1,26 +1,8 @@
 -- What the catalog of checked files names is there: the rows of extensions, the message types of methods, and the files that files import.
-use Rattle.std.proofs.Common.{◌≡◌, ℕ, zero, suc, ◌+◌, ◌<◌, ℤ, pos, negsuc, Bool, true, false, cond, List, [], ◌∷◌, ◌++◌, length, map, get_or, Option, Some, None, is_none, unwrap_or, refl, sym, ap, ◌∙◌, subst, arith, slice_get, bytes_eq, nat_le, String, Global, string_bytes}
-use Rattle.std.specs.List.{All, list_any}
-use Rattle.std.proofs.lemmas.Bool.{or_parts, eq-eqb, leb-false, ltb-true}
-use Rattle.std.proofs.lemmas.List.{length-map}
-use Rattle.std.proofs.lemmas.Option.{slice_get-get_or, slice_get_within, unwrap_or-slice_get}
-use Rattle.prost_reflect_types.specs.declared.FileDescriptorProto.{FileDescriptorProto}
-use Rattle.prost_reflect_types.specs.declared.FieldDescriptorProto.{FieldDescriptorProto}
-use Rattle.prost_reflect_types.specs.declared.MethodDescriptorProto.{MethodDescriptorProto}
+use Rattle.prost_reflect_tables.proofs.Common.{◌≡◌, ℕ, zero, suc, ◌+◌, ◌<◌, ℤ, pos, negsuc, Bool, true, false, cond, List, [], ◌∷◌, ◌++◌, length, map, get_or, Option, Some, None, is_none, unwrap_or, refl, sym, ap, ◌∙◌, subst, arith, slice_get, bytes_eq, nat_le, String, string_bytes, All, list_any, or_parts, eq-eqb, leb-false, ltb-true, length-map, slice_get-get_or, slice_get_within, unwrap_or-slice_get, FileDescriptorProto, FieldDescriptorProto, MethodDescriptorProto, Catalog, text_or_empty, FieldRow, TableRows, fields_at, fields_or_none, is_linked, DefinitionRow, FlatMessageRow, FlatServiceRow, FlatRows, flattened, any_field, name_place, place_named, file_names, message_names, names_nothing, extendee_missing, extendee_unknown, type_missing, type_unknown, method_type_missing, method_type_unknown, dependency_missing, import_outside, has_oneof_outside, is_outside, Checked, Links, links_of, natural_or_zero, place_or_first, is_place, extended_place, belonging, linked_field, declared_fields, fields_of_message, linked_message, put_in_order, in_order, linked_rows, AreTablesOf, FileRow, ExtensionRow, MethodRow, ServiceRow, CatalogRows, catalog_row, each_from, file_place, import_at, dependency_places, linked_file, linked_extension, linked_method, linked_service, linked_catalog, IsCatalogOf}
+use Rattle.std.proofs.Common.{Global}
 use Rattle.prost_reflect_tables.specs.declared.error.PoolError.TheVariants as errors
-use Rattle.prost_reflect_tables.specs.declared.catalog.Catalog.{Catalog}
-use Rattle.prost_reflect_tables.specs.Names.{text_or_empty}
-use Rattle.prost_reflect_tables.specs.Rows.{FieldRow, TableRows}
 use Rattle.prost_reflect_tables.specs.Places as places
-use Rattle.prost_reflect_tables.specs.Places.{fields_at, fields_or_none}
-use Rattle.prost_reflect_tables.specs.Linked.{is_linked}
-use Rattle.prost_reflect_tables.specs.Flat.{DefinitionRow, FlatMessageRow, FlatServiceRow, FlatRows, flattened}
-use Rattle.prost_reflect_tables.specs.Faults.{any_field, name_place, place_named, file_names, message_names, names_nothing, extendee_missing, extendee_unknown, type_missing, type_unknown, method_type_missing, method_type_unknown, dependency_missing, import_outside, has_oneof_outside, is_outside}
-use Rattle.prost_reflect_tables.specs.Checked.{Checked}
-use Rattle.prost_reflect_tables.specs.Linking.{Links, links_of, natural_or_zero, place_or_first, is_place, extended_place, belonging, linked_field, declared_fields, fields_of_message, linked_message, put_in_order, in_order, linked_rows}
-use Rattle.prost_reflect_tables.specs.Built.{AreTablesOf}
-use Rattle.prost_reflect_tables.specs.CatalogRows.{FileRow, ExtensionRow, MethodRow, ServiceRow, CatalogRows, catalog_row}
-use Rattle.prost_reflect_tables.specs.LinkedCatalog.{each_from, file_place, import_at, dependency_places, linked_file, linked_extension, linked_method, linked_service, linked_catalog, IsCatalogOf}
 use Rattle.prost_reflect_tables.proofs.Ascending.{place_found}
 use Rattle.prost_reflect_tables.proofs.Keeping.{fields_ascend}
 use Rattle.prost_reflect_tables.proofs.Linkwell.Items.{none_at}

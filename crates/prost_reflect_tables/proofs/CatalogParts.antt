@@ -1,13 +1,6 @@
 -- Rows of a catalog are equal where their parts are.
-use Rattle.std.proofs.Common.{◌≡◌, ℕ, ◌+◌, suc, Bool, List, [], ◌∷◌, length, refl, ap, ◌∙◌}
-use Rattle.prost_reflect_tables.specs.CatalogRows.{FileRow, MessageListsRow, EnumListsRow, ExtensionRow, ServiceRow, SortedRow, CatalogRows, catalog_row}
-use Rattle.prost_reflect_types.specs.declared.FileDescriptorProto.{FileDescriptorProto}
-use Rattle.prost_reflect_types.specs.declared.FieldDescriptorProto.{FieldDescriptorProto}
-use Rattle.prost_reflect_tables.specs.declared.catalog.Catalog.{Catalog}
-use Rattle.prost_reflect_tables.specs.Flat.{DefinitionRow, FlatMessageRow, FlatRows, flattened}
-use Rattle.prost_reflect_tables.specs.Linking.{Links, messages_from, links_of, linked_rows}
-use Rattle.prost_reflect_tables.specs.LinkedCatalog.{linked_catalog, IsCatalogOf}
-use Rattle.prost_reflect_tables.specs.Rows.{TableRows}
+use Rattle.prost_reflect_tables.proofs.Common.{◌≡◌, ℕ, Bool, List, length, ap, ◌∙◌, FileRow, MessageListsRow, EnumListsRow, ExtensionRow, ServiceRow, SortedRow, CatalogRows, catalog_row, FileDescriptorProto, Catalog, FlatRows, flattened, links_of, linked_rows, linked_catalog, IsCatalogOf, TableRows}
+use Rattle.prost_reflect_tables.proofs.Linkwell.Items.{messages_length}
 
 abbrev make_same_file : List ℕ → List ℕ → List ℕ → List ℕ → List ℕ → List ℕ → Bool → FileRow
 make_same_file x0 x1 x2 x3 x4 x5 x6 = record { messages = x0; enums = x1; extensions = x2; services = x3; dependencies = x4; public_dependencies = x5; is_proto3 = x6 }
@@ -57,10 +50,6 @@ same_catalog a b p0 p1 p2 p3 p4 p5 =
     ∙ (ap (λ v. make_same_catalog b.files b.messages b.enums v a.services a.by_name) p3
     ∙ (ap (λ v. make_same_catalog b.files b.messages b.enums b.extensions v a.by_name) p4
     ∙ (ap (λ v. make_same_catalog b.files b.messages b.enums b.extensions b.services v) p5)))))
-
-messages_length : (links : Links) (extensions : List (DefinitionRow FieldDescriptorProto)) (T : ℕ) (ms : List FlatMessageRow) → length (messages_from links extensions T ms) ≡ length ms
-messages_length links extensions T [] = refl
-messages_length links extensions T (m ∷ ms) = ap suc (messages_length links extensions (T + 1) ms)
 
 -- As many messages are linked as there are.
 pub linked_length : (linked : TableRows) (rows : FlatRows) → linked ≡ linked_rows rows → length linked.messages ≡ length rows.messages

@@ -1,25 +1,10 @@
 -- Each place that the catalog of files names is there, and so is what encloses a row.
-use Rattle.std.proofs.Common.{◌≡◌, ℕ, zero, suc, ◌+◌, ◌<◌, ◌≤◌, Bool, true, false, not, cond, List, [], ◌∷◌, map, length, Option, Some, None, refl, sym, ap, ◌∙◌, subst, arith}
-use Rattle.std.specs.Prelude.{slice_get, nat_le}
-use Rattle.std.specs.List.{All}
-use Rattle.std.proofs.lemmas.List.{length-map}
-use Rattle.std.proofs.lemmas.List.Elements.{All-nil, All-cons, All-head, All-tail, All-append, All-map, All-filter}
-use Rattle.std.proofs.lemmas.Option.{get_or_from_slice_get, slice_get_within, same_Some}
-use Rattle.prost_reflect_types.specs.declared.FieldDescriptorProto.{FieldDescriptorProto}
-use Rattle.prost_reflect_types.specs.declared.FileDescriptorProto.{FileDescriptorProto}
-use Rattle.prost_reflect_tables.specs.Rows.{IdentityRow, FieldRow, MessageRow, EnumRow, TableRows}
-use Rattle.prost_reflect_tables.specs.Places.{fields_at, fields_or_none}
-use Rattle.prost_reflect_tables.specs.Flat.{DefinitionRow, FlatMessageRow, FlatEnumRow, FlatServiceRow, FlatRows, flattened}
-use Rattle.prost_reflect_tables.specs.Faults.{file_names, message_names, enum_names, names_of}
-use Rattle.prost_reflect_tables.specs.Linking.{Links, links_of, belonging, linked_field, put_in_order, in_order, extended_place, fields_of_message, declared_fields, linked_message, messages_from, linked_value, value_number, linked_enum, linked_rows}
-use Rattle.prost_reflect_tables.specs.Gathered.{places_from, places_where}
+use Rattle.prost_reflect_tables.proofs.Common.{◌≡◌, ℕ, zero, suc, ◌+◌, ◌<◌, ◌≤◌, Bool, true, false, not, cond, List, [], ◌∷◌, map, length, Option, Some, None, refl, sym, ap, ◌∙◌, subst, arith, slice_get, nat_le, All, length-map, All-nil, All-cons, All-head, All-tail, All-append, All-map, All-filter, get_or_from_slice_get, slice_get_within, same_Some, FieldDescriptorProto, FileDescriptorProto, IdentityRow, FieldRow, MessageRow, EnumRow, TableRows, fields_at, fields_or_none, DefinitionRow, FlatMessageRow, FlatEnumRow, FlatServiceRow, FlatRows, flattened, file_names, message_names, enum_names, names_of, Links, links_of, belonging, linked_field, put_in_order, in_order, extended_place, fields_of_message, declared_fields, linked_message, messages_from, linked_value, value_number, linked_enum, linked_rows, places_from, places_where, FileRow, MessageListsRow, EnumListsRow, ServiceRow, SortedRow, CatalogRows, catalog_row, Catalog, AreTablesOf, each_from, linked_file, field_names, json_names, own_fields, linked_lists, ordered, enum_lists, linked_service, value_names, sorted_places, service_names, linked_extension, linked_catalog, IsCatalogOf}
 use Rattle.prost_reflect_tables.specs.Orders.{put_by, sorted_by, text_before, number_before}
-use Rattle.prost_reflect_tables.specs.CatalogRows.{FileRow, MessageListsRow, EnumListsRow, ServiceRow, SortedRow, CatalogRows, catalog_row}
-use Rattle.prost_reflect_tables.specs.declared.catalog.Catalog.{Catalog}
-use Rattle.prost_reflect_tables.specs.Built.{AreTablesOf}
-use Rattle.prost_reflect_tables.specs.LinkedCatalog.{each_from, linked_file, field_names, json_names, own_fields, linked_lists, ordered, enum_lists, linked_service, value_names, sorted_places, service_names, linked_extension, linked_catalog, IsCatalogOf}
 use Rattle.prost_reflect_tables.proofs.Built.{linked_of}
 use Rattle.prost_reflect_tables.proofs.FlatRanges.{StandsWithin, FieldWithin, MessageWithin, EnumWithin, ServiceWithin, flattened_within}
+use Rattle.prost_reflect_tables.proofs.Linkwell.Items.{messages_length}
+use Rattle.prost_reflect_tables.proofs.CatalogLinks.{mapped_at}
 
 -- LISTS
 
@@ -67,11 +52,6 @@ pub each_at : {X Y : Type 0} (f : ℕ → X → Y) (i : ℕ) (xs : List X) (k n 
 each_at f i [] k n y at found = cc
 each_at f i (x ∷ xs) zero n y at found = let e : n ≡ i = omega arith in (x, refl, ap (λ (j : ℕ). f j x) e ∙ same_Some (f i x) y found)
 each_at f i (x ∷ xs) (suc k) n y at found = each_at f (i + 1) xs k n y (omega arith) found
-
-pub map_at : {X Y : Type 0} (f : X → Y) (xs : List X) (k : ℕ) (y : Y) → slice_get (map f xs) k ≡ Some y → (x : X) × (slice_get xs k ≡ Some x) × (f x ≡ y)
-map_at f [] k y found = cc
-map_at f (x ∷ xs) zero y found = (x, refl, cc)
-map_at f (x ∷ xs) (suc k) y found = map_at f xs k y found
 
 -- ROWS
 
@@ -131,10 +111,6 @@ field_within F M T i rows f h found = of (slice_get rows.messages T) refl found
     of : (o : Option MessageRow) → slice_get rows.messages T ≡ o → slice_get (fields_or_none o) i ≡ Some f → FieldRowWithin F M f
     of None at found = cc
     of (Some m) at found = holds_at (FieldRowWithin F M) m.fields i f (holds_at (MessageRowWithin F M) rows.messages T m h at).fields found
-
-messages_length : (links : Links) (extensions : List (DefinitionRow FieldDescriptorProto)) (T : ℕ) (ms : List FlatMessageRow) → length (messages_from links extensions T ms) ≡ length ms
-messages_length links extensions T [] = refl
-messages_length links extensions T (m ∷ ms) = ap suc (messages_length links extensions (T + 1) ms)
 
 enums_linked : (F M : ℕ) (es : List FlatEnumRow) → All (EnumWithin F M) es → All (EnumRowWithin F M) (map linked_enum es)
 enums_linked F M es h = All-map (EnumRowWithin F M) linked_enum es h
@@ -248,8 +224,8 @@ linked_within files =
       file_rows = each_all (FileRowWithin rows catalog) (linked_file (file_names files) flat) 0 files (λ F f. file_row_within rows catalog (file_names files) flat F f m e x s);
       lists = λ T l found. let row = each_at (linked_lists flat) 0 rows.messages T T l (omega arith) found in
           subst (ListsWithin rows catalog T) row.2 (lists_within rows catalog flat T row.0 m e x row.1);
-      enum_lists = λ E l r found at. let flat_row = map_at enum_lists flat.enums E l found in
-          let table = map_at linked_enum flat.enums E r at in
+      enum_lists = λ E l r found at. let flat_row = mapped_at enum_lists flat.enums E l found in
+          let table = mapped_at linked_enum flat.enums E r at in
           let same : flat_row.0 ≡ table.0 = same_Some _ _ (sym flat_row.1 ∙ table.1) in
           subst (λ (n : ℕ). EnumListsWithin n l) (ap (λ (f : FlatEnumRow). length (linked_enum f).values) same ∙ ap (λ (r : EnumRow). length r.values) table.2)
           (subst (λ (l : EnumListsRow). EnumListsWithin (length (linked_enum flat_row.0).values) l) flat_row.2 (enum_lists_within flat_row.0));

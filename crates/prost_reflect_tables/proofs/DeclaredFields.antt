@@ -1,19 +1,6 @@
 -- Members of oneofs, and the keys and values of map entries, are fields of their message type, and none of them is an extension.
-use Rattle.std.proofs.Common.{◌≡◌, ℕ, zero, suc, ◌+◌, ◌≤◌, Bool, true, false, not, ◌&&◌, ◌||◌, List, [], ◌∷◌, ◌++◌, length, map, filter, nat_lt, Some, refl, sym, ap, ◌∙◌, arith, slice_get}
-use Rattle.std.specs.List.{list_all}
-use Rattle.std.proofs.lemmas.Bool.{and_from, lt-ltb, le-ltb}
-use Rattle.std.proofs.lemmas.List.Folds.{list_all-map}
-use Rattle.prost_reflect_types.specs.declared.FieldDescriptorProto.{FieldDescriptorProto}
-use Rattle.prost_reflect_types.specs.declared.FileDescriptorProto.{FileDescriptorProto}
-use Rattle.prost_reflect_types.specs.declared.OneofDescriptorProto.{OneofDescriptorProto}
-use Rattle.prost_reflect_tables.specs.Rows.{FieldRow, OneofRow, MessageRow, TableRows}
-use Rattle.prost_reflect_tables.specs.Places.{fields_at, fields_or_none, is_declared, is_declared_at}
-use Rattle.prost_reflect_tables.specs.Linked.{is_linked, ascending_from}
-use Rattle.prost_reflect_tables.specs.EntryFaults.{is_entry}
-use Rattle.prost_reflect_tables.specs.Flat.{DefinitionRow, FlatMessageRow, FlatRows, flattened}
-use Rattle.prost_reflect_tables.specs.Checked.{Checked}
-use Rattle.prost_reflect_tables.specs.Linking.{Links, links_of, natural_or_zero, belonging, extended_place, linked_field, declared_fields, fields_of_message, linked_message, in_order, oneof_place, member_place, oneofs_from, linked_rows}
-use Rattle.prost_reflect_tables.specs.Built.{AreTablesOf}
+use Rattle.prost_reflect_tables.proofs.Common.{◌≡◌, ℕ, zero, suc, ◌+◌, ◌≤◌, Bool, true, false, not, ◌&&◌, ◌||◌, List, [], ◌∷◌, ◌++◌, length, map, filter, nat_lt, Some, refl, sym, ap, ◌∙◌, arith, slice_get, list_all, and_from, lt-ltb, le-ltb, list_all-map, FieldDescriptorProto, FileDescriptorProto, OneofDescriptorProto, FieldRow, OneofRow, MessageRow, TableRows, fields_at, fields_or_none, is_declared_at, is_linked, ascending_from, is_entry, DefinitionRow, FlatMessageRow, FlatRows, flattened, Checked, Links, links_of, natural_or_zero, belonging, extended_place, linked_field, declared_fields, fields_of_message, linked_message, in_order, oneof_place, member_place, oneofs_from, linked_rows, AreTablesOf}
+use Rattle.prost_reflect_tables.specs.Places.{is_declared}
 use Rattle.prost_reflect_tables.proofs.Ascending.{rises, onward, numbers_above}
 use Rattle.prost_reflect_tables.proofs.Built.{checked_of, linked_of}
 use Rattle.prost_reflect_tables.proofs.CatalogLinks.{HasRow, order_keeps}
@@ -48,28 +35,29 @@ declared_shown : (links : Links) (d : DefinitionRow FieldDescriptorProto) → is
 unfolding linked_field
 declared_shown links d = refl
 
-has_declared : (links : Links) (rest : List FieldRow) (ds : List (DefinitionRow FieldDescriptorProto)) (i : ℕ) (d : DefinitionRow FieldDescriptorProto) → slice_get ds i ≡ Some d → slice_get (declared_fields links ds ++ rest) i ≡ Some (linked_field links false d)
-has_declared links rest [] i d at = absurd cc
-has_declared links rest (x ∷ ds) zero d at = let same : x ≡ d = cc in ap (λ (y : DefinitionRow FieldDescriptorProto). Some (linked_field links false y)) same
-has_declared links rest (x ∷ ds) (suc i) d at = has_declared links rest ds i d at
+module _ (links : Links) (rest : List FieldRow) where
+  has_declared : (ds : List (DefinitionRow FieldDescriptorProto)) (i : ℕ) (d : DefinitionRow FieldDescriptorProto) → slice_get ds i ≡ Some d → slice_get (declared_fields links ds ++ rest) i ≡ Some (linked_field links false d)
+  has_declared [] i d at = absurd cc
+  has_declared (x ∷ ds) zero d at = let same : x ≡ d = cc in ap (λ (y : DefinitionRow FieldDescriptorProto). Some (linked_field links false y)) same
+  has_declared (x ∷ ds) (suc i) d at = has_declared ds i d at
 
-member_declared : (links : Links) (rest : List FieldRow) (ds : List (DefinitionRow FieldDescriptorProto)) (i : ℕ) (d : DefinitionRow FieldDescriptorProto) → ascending_from 0 (in_order (declared_fields links ds ++ rest)) ≡ true → slice_get ds i ≡ Some d →
-    is_declared_at (in_order (declared_fields links ds ++ rest)) (member_place (in_order (declared_fields links ds ++ rest)) d) ≡ true
-member_declared links rest ds i d ascends at =
-    let fields = in_order (declared_fields links ds ++ rest) in
-    let has : HasRow fields (linked_field links false d) = order_keeps (declared_fields links ds ++ rest) (linked_field links false d) i (has_declared links rest ds i d at) in
-    let place : member_place fields d ≡ has.0 = smaller_before 0 (natural_or_zero d.proto.number) fields has.0 (linked_field links false d) ascends has.1 (number_shown links false d) in
-    ap (is_declared_at fields) place ∙ (ap is_declared has.1 ∙ declared_shown links d)
+  member_declared : (ds : List (DefinitionRow FieldDescriptorProto)) (i : ℕ) (d : DefinitionRow FieldDescriptorProto) → ascending_from 0 (in_order (declared_fields links ds ++ rest)) ≡ true → slice_get ds i ≡ Some d →
+      is_declared_at (in_order (declared_fields links ds ++ rest)) (member_place (in_order (declared_fields links ds ++ rest)) d) ≡ true
+  member_declared ds i d ascends at =
+      let fields = in_order (declared_fields links ds ++ rest) in
+      let has : HasRow fields (linked_field links false d) = order_keeps (declared_fields links ds ++ rest) (linked_field links false d) i (has_declared ds i d at) in
+      let place : member_place fields d ≡ has.0 = smaller_before 0 (natural_or_zero d.proto.number) fields has.0 (linked_field links false d) ascends has.1 (number_shown links false d) in
+      ap (is_declared_at fields) place ∙ (ap is_declared has.1 ∙ declared_shown links d)
 
-oneofs_declared : (links : Links) (rest : List FieldRow) (ds : List (DefinitionRow FieldDescriptorProto)) (o : ℕ) (os : List (DefinitionRow OneofDescriptorProto)) → ascending_from 0 (in_order (declared_fields links ds ++ rest)) ≡ true →
-    list_all (λ (r : OneofRow). list_all (is_declared_at (in_order (declared_fields links ds ++ rest))) r.fields) (oneofs_from (in_order (declared_fields links ds ++ rest)) ds o os) ≡ true
-oneofs_declared links rest ds o [] ascends = refl
-oneofs_declared links rest ds o (x ∷ os) ascends =
-    let fields = in_order (declared_fields links ds ++ rest) in
-    let here : list_all (is_declared_at fields) (map (member_place fields) (belonging oneof_place ds o)) ≡ true =
-    list_all-map (is_declared_at fields) (member_place fields) (belonging oneof_place ds o)
-    ∙ all_belonging oneof_place o (λ (d : DefinitionRow FieldDescriptorProto). is_declared_at fields (member_place fields d)) ds (λ i d at is. member_declared links rest ds i d ascends at) in
-    rw here (oneofs_declared links rest ds (o + 1) os ascends)
+  oneofs_declared : (ds : List (DefinitionRow FieldDescriptorProto)) (o : ℕ) (os : List (DefinitionRow OneofDescriptorProto)) → ascending_from 0 (in_order (declared_fields links ds ++ rest)) ≡ true →
+      list_all (λ (r : OneofRow). list_all (is_declared_at (in_order (declared_fields links ds ++ rest))) r.fields) (oneofs_from (in_order (declared_fields links ds ++ rest)) ds o os) ≡ true
+  oneofs_declared ds o [] ascends = refl
+  oneofs_declared ds o (x ∷ os) ascends =
+      let fields = in_order (declared_fields links ds ++ rest) in
+      let here : list_all (is_declared_at fields) (map (member_place fields) (belonging oneof_place ds o)) ≡ true =
+      list_all-map (is_declared_at fields) (member_place fields) (belonging oneof_place ds o)
+      ∙ all_belonging oneof_place o (λ (d : DefinitionRow FieldDescriptorProto). is_declared_at fields (member_place fields d)) ds (λ i d at is. member_declared ds i d ascends at) in
+      rw here (oneofs_declared ds (o + 1) os ascends)
 
 -- MESSAGE TYPES
 

@@ -1,9 +1,5 @@
 -- The flags that say which messages are entries of maps.
-use Rattle.std.proofs.Common.{◌≡◌, ℕ, zero, suc, ◌<◌, Bool, List, [], ◌∷◌, length, map, get_or, sym, ap, ◌∙◌, arith}
-use Rattle.std.proofs.lemmas.List.{length-map}
-use Rattle.prost_reflect_tables.specs.EntryFaults.{is_entry}
-use Rattle.prost_reflect_tables.specs.FlatViews.{message_row}
-use Rattle.prost_reflect_tables.specs.declared.build.flatten.FlatMessage.{FlatMessage}
+use Rattle.prost_reflect_tables.proofs.Common.{◌≡◌, ℕ, zero, suc, ◌<◌, Bool, List, [], ◌∷◌, length, map, get_or, sym, ap, ◌∙◌, arith, is_entry, message_row, FlatMessage}
 
 flag_of : (ms : List FlatMessage) (k : ℕ) (m : FlatMessage) (d : Bool) → k < length ms → m ≡ get_or ms k m → get_or (map is_entry (map message_row ms)) k d ≡ is_entry (message_row m)
 flag_of [] k m d within is = absurd (omega arith)
@@ -12,6 +8,3 @@ flag_of (x ∷ ms) (suc k) m d within is = flag_of ms k m d (omega arith) is
 
 pub flag_at : (ms : List FlatMessage) (flags : List Bool) (k : ℕ) (m : FlatMessage) (d : Bool) → flags ≡ map is_entry (map message_row ms) → k < length ms → m ≡ get_or ms k m → get_or flags k d ≡ is_entry (message_row m)
 flag_at ms flags k m d e within is = ap (λ (l : List Bool). get_or l k d) e ∙ flag_of ms k m d within is
-
-pub flags_length : (ms : List FlatMessage) (flags : List Bool) → flags ≡ map is_entry (map message_row ms) → length flags ≡ length ms
-flags_length ms flags e = ap length e ∙ (length-map (map message_row ms) is_entry ∙ length-map ms message_row)

@@ -1,19 +1,8 @@
 -- How maps from the names of enum values to their numbers grow, and what is read of them.
-use Rattle.std.proofs.Common.{◌≡◌, ℕ, zero, suc, ◌+◌, ◌<◌, ◌≤◌, ℤ, pos, Bool, cond, true, false, List, [], ◌∷◌, ◌++◌, length, take, get_or, map, String, Option, Some, None, unwrap_or, slice_get, refl, sym, ap, ◌∙◌, arith}
-use Rattle.std.specs.Prelude.{bytes_eq, find, option_map}
+use Rattle.prost_reflect_tables.proofs.Common.{◌≡◌, ℕ, zero, suc, ◌+◌, ◌<◌, ◌≤◌, ℤ, pos, Bool, cond, true, false, List, [], ◌∷◌, ◌++◌, length, take, get_or, map, String, Option, Some, None, unwrap_or, slice_get, refl, sym, ap, ◌∙◌, arith, bytes_eq, find, option_map, Global, take_more, map-append, EnumValueDescriptorProto, text_or_empty, EnumValueRow, FlatEnumRow, definition_row, enum_row, number_named, linked_value, IsNumbersOf, AreNumbersOf}
 use Rattle.std.specs.BTreeMap.{BTreeMap, get_by_text}
-use Rattle.std.specs.declared.alloc.Global.{Global}
-use Rattle.std.proofs.lemmas.List.{take_more, map-append}
-use Rattle.prost_reflect_types.specs.declared.EnumValueDescriptorProto.{EnumValueDescriptorProto}
 use Rattle.prost_reflect_tables.specs.declared.build.flatten.Definition.{Definition}
 use Rattle.prost_reflect_tables.specs.declared.build.flatten.FlatEnum.{FlatEnum}
-use Rattle.prost_reflect_tables.specs.Names.{text_or_empty}
-use Rattle.prost_reflect_tables.specs.Rows.{EnumValueRow}
-use Rattle.prost_reflect_tables.specs.Flat.{FlatEnumRow}
-use Rattle.prost_reflect_tables.specs.FlatViews.{definition_row, enum_row}
-use Rattle.prost_reflect_tables.specs.WrittenDefaults.{number_named}
-use Rattle.prost_reflect_tables.specs.Linking.{linked_value}
-use Rattle.prost_reflect_tables.specs.Indexed.{IsNumbersOf, AreNumbersOf}
 use Rattle.prost_reflect_tables.proofs.NamePlaces.{or_else}
 
 -- ONE ENUM
@@ -50,8 +39,7 @@ number_more name ds i d h e = ap (λ vs. number_named vs name) (rows_more ds i d
 numbers_push : (ms : List (BTreeMap (String Global) ℤ)) (vss : List (List EnumValueRow)) (m : BTreeMap (String Global) ℤ) (vs : List EnumValueRow) → AreNumbersOf ms vss → IsNumbersOf m vs → AreNumbersOf (ms ++ m ∷ []) (vss ++ vs ∷ [])
 numbers_push [] [] m vs all is = (is, tt)
 numbers_push (n ∷ ms) (ws ∷ vss) m vs all is = (all.0, numbers_push ms vss m vs all.1 is)
-numbers_push [] (ws ∷ vss) m vs all is = absurd all
-numbers_push (n ∷ ms) [] m vs all is = absurd all
+numbers_push _ _ m vs all is = absurd all
 
 abbrev values_of : FlatEnumRow → List EnumValueRow
 values_of e = map linked_value e.values
@@ -70,11 +58,10 @@ numbers_more ms m es i e h same all is = rw more (numbers_push ms (map values_of
 -- A name is looked up in the map of its enum.
 number_at : (ms : List (BTreeMap (String Global) ℤ)) (vss : List (List EnumValueRow)) → AreNumbersOf ms vss → (E : ℕ) (m : BTreeMap (String Global) ℤ) (name : List ℕ) → E < length ms →
     get_by_text (get_or ms E m) name ≡ number_named (unwrap_or (slice_get vss E) []) name
-number_at [] [] all E m name h = absurd (omega (arith, h))
 number_at (n ∷ ms) (vs ∷ vss) all zero m name h = all.0 name
 number_at (n ∷ ms) (vs ∷ vss) all (suc E) m name h = number_at ms vss all.1 E m name (omega (arith, h))
-number_at [] (vs ∷ vss) all E m name h = absurd all
-number_at (n ∷ ms) [] all E m name h = absurd all
+number_at [] [] all E m name h = absurd (omega (arith, h))
+number_at _ _ all E m name h = absurd all
 
 pub number_read : (ms : List (BTreeMap (String Global) ℤ)) (vss : List (List EnumValueRow)) (E : ℕ) (m : BTreeMap (String Global) ℤ) (name : List ℕ) → AreNumbersOf ms vss → E < length ms → m ≡ get_or ms E m →
     get_by_text m name ≡ number_named (unwrap_or (slice_get vss E) []) name
@@ -83,7 +70,6 @@ number_read ms vss E m name all h e = ap (λ n. get_by_text n name) e ∙ number
 -- Past the last enum there is no value.
 pub no_number : (ms : List (BTreeMap (String Global) ℤ)) (vss : List (List EnumValueRow)) (E : ℕ) (name : List ℕ) → AreNumbersOf ms vss → length ms ≤ E → None ≡ number_named (unwrap_or (slice_get vss E) []) name
 no_number [] [] E name all h = refl
-no_number (m ∷ ms) (vs ∷ vss) zero name all h = absurd (omega (arith, h))
 no_number (m ∷ ms) (vs ∷ vss) (suc E) name all h = no_number ms vss E name all.1 (omega (arith, h))
-no_number [] (vs ∷ vss) E name all h = absurd all
-no_number (m ∷ ms) [] E name all h = absurd all
+no_number (m ∷ ms) (vs ∷ vss) zero name all h = absurd (omega (arith, h))
+no_number _ _ E name all h = absurd all

@@ -1,17 +1,10 @@
 -- Tables are equal where their rows are.
-use Rattle.std.proofs.Common.{◌≡◌, Bool, true, false, ◌&&◌, nat_eq, List, map, Option, Some, None, refl, sym, ◌∙◌}
+use Rattle.prost_reflect_tables.proofs.Common.{◌≡◌, Bool, true, false, ◌&&◌, nat_eq, List, map, Option, Some, None, refl, sym, ◌∙◌, unsigned_ties, pointwise, texts_ties, Decides-at, scalar_eq, MessageTable, FieldTable, EnumTable, written_scalar, identity_row, field_row, oneof_row, enum_value_row, rows_of}
 use Rattle.std.specs.Bool.{Decides, beq}
 use Rattle.std.specs.Option.{option_eq, option_map}
-use Rattle.std.specs.Cmp.{unsigned_ties}
-use Rattle.std.specs.Cmp.Lexicographic.{pointwise, texts_ties}
 use Rattle.std.specs.Cmp.Derive.Mapped.{pointwise-map}
-use Rattle.std.proofs.lemmas.Bool.Decides.{Decides-at}
-use Rattle.prost_reflect_wire.specs.Scalar.{scalar_eq}
 use Rattle.prost_reflect_tables.specs.declared.tables.Tables.{Tables}
-use Rattle.prost_reflect_tables.specs.declared.tables.MessageTable.{MessageTable}
-use Rattle.prost_reflect_tables.specs.declared.tables.FieldTable.{FieldTable}
 use Rattle.prost_reflect_tables.specs.declared.tables.OneofTable.{OneofTable}
-use Rattle.prost_reflect_tables.specs.declared.tables.EnumTable.{EnumTable}
 use Rattle.prost_reflect_tables.specs.declared.tables.EnumValueTable.{EnumValueTable}
 use Rattle.prost_reflect_tables.specs.declared.tables.Identity.{Identity}
 use Rattle.prost_reflect_tables.specs.declared.tables.WrittenDefault.{WrittenDefault}
@@ -24,8 +17,7 @@ use Rattle.prost_reflect_tables.specs.contracts.tables.EnumTablePartialEq.TheImp
 use Rattle.prost_reflect_tables.specs.contracts.tables.EnumValueTablePartialEq.TheImpl as value_code
 use Rattle.prost_reflect_tables.specs.contracts.tables.IdentityPartialEq.TheImpl as identity_code
 use Rattle.prost_reflect_tables.specs.contracts.tables.WrittenDefaultPartialEq.TheImpl as default_code
-use Rattle.prost_reflect_tables.specs.Rows.{written_scalar, identity_row, field_row, oneof_row, message_row, enum_value_row, enum_row}
-use Rattle.prost_reflect_tables.specs.Schema.{rows_of}
+use Rattle.prost_reflect_tables.specs.Rows.{message_row, enum_row}
 use Rattle.prost_reflect_tables.specs.Equality.{label_eq, kind_eq, identity_eq, field_eq, oneof_eq, message_eq, enum_value_eq, enum_eq, rows_eq, rows_decide}
 
 abbrev same_default : WrittenDefault → WrittenDefault → Bool

@@ -1,17 +1,8 @@
 -- Files of equal contents give equal tables, and are refused for the same reasons.
-use Rattle.std.proofs.Common.{◌≡◌, ◌↔◌, IsTrue, List, [], ◌∷◌, map, refl, sym, ap, ap₂, ◌∙◌, true≢false}
-use Rattle.std.specs.List.{AllZip}
-use Rattle.std.specs.Cmp.Lexicographic.{pointwise}
-use Rattle.std.proofs.lemmas.Bool.{and_parts, and_from}
+use Rattle.prost_reflect_tables.proofs.Common.{◌≡◌, ◌↔◌, IsTrue, List, [], ◌∷◌, map, refl, sym, ap, ap₂, ◌∙◌, true≢false, AllZip, pointwise, and_parts, and_from, FileDescriptorProto, of_file, SameFile, file_same, zip_same, PoolError, FlatRows, flattened, has_fault}
 use Rattle.prost_reflect_wire.specs.Content.{Content}
 use Rattle.prost_reflect_wire.specs.ContentEquality.{content_eq, content_same, content_refl}
-use Rattle.prost_reflect_types.specs.declared.FileDescriptorProto.{FileDescriptorProto}
-use Rattle.prost_reflect_types.specs.DescriptorViews.{of_file}
-use Rattle.prost_reflect_types.proofs.EqualContents.{SameFile, file_same, zip_same}
-use Rattle.prost_reflect_tables.specs.declared.error.PoolError.{PoolError}
 use Rattle.prost_reflect_tables.specs.declared.error.PoolError.TheVariants.{BadMapEntry, BadOptions, BadDefault, FloatDefault, MissingName, UnknownSyntax, MissingDependency, BadIndex, BadNumber, BadRange, MissingType, BadLabel, BadOneof, EmptyEnum, DuplicateName, UnknownType, DuplicateNumber, OutsideRange}
-use Rattle.prost_reflect_tables.specs.Flat.{FlatRows, flattened}
-use Rattle.prost_reflect_tables.specs.Checked.{has_fault}
 use Rattle.prost_reflect_tables.specs.FileLaws.{SameContents, EqualTables, EqualChecks, EqualRefusals}
 use Rattle.prost_reflect_tables.proofs.SameRows.{SameRows}
 use Rattle.prost_reflect_tables.proofs.SameFlat.{flattened_same}

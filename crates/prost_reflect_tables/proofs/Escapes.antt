@@ -1,7 +1,5 @@
 -- Bytes that a text writes with escapes, byte by byte.
-use Rattle.std.proofs.Common.{◌≡◌, ℕ, zero, suc, ◌+◌, ◌-◌, ◌*◌, ◌≤◌, Bool, true, false, cond, List, [], ◌∷◌, ◌++◌, length, Option, Some, None, refl, sym, ap, ◌∙◌, arith, append_assoc, append-nil}
-use Rattle.std.specs.Prelude.{nat_le, nat_eq, option_map, option_and_then}
-use Rattle.prost_reflect_tables.specs.WrittenDefaults.{Front, front, is_octal, octal_digit, octal, letter, escaped, front_byte, unescaped_in, unescaped}
+use Rattle.prost_reflect_tables.proofs.Common.{◌≡◌, ℕ, zero, suc, ◌+◌, ◌-◌, ◌*◌, ◌≤◌, Bool, true, false, cond, List, [], ◌∷◌, ◌++◌, length, Option, Some, None, refl, sym, ap, ◌∙◌, arith, append_assoc, append-nil, nat_le, nat_eq, option_map, option_and_then, Front, front, is_octal, octal_digit, octal, letter, escaped, front_byte, unescaped_in, unescaped}
 
 digit_shorter : (digits : Front) (text : List ℕ) → digits.rest ≡ text → length (octal_digit digits text).rest ≤ length text
 unfolding octal_digit
@@ -70,10 +68,9 @@ enough zero zero [] p q = refl
 enough zero (suc n) [] p q = refl
 enough (suc m) zero [] p q = refl
 enough (suc m) (suc n) [] p q = refl
-enough zero n (b ∷ text) p q = absurd (omega arith)
-enough (suc m) zero (b ∷ text) p q = absurd (omega arith)
 enough (suc m) (suc n) (b ∷ text) p q =
     one_step m b text ∙ (same_front m n text (front_byte b text) (λ f is. enough m n f.rest (omega (arith, front_shorter b text f is)) (omega (arith, front_shorter b text f is))) ∙ sym (one_step n b text))
+enough _ _ (b ∷ text) p q = absurd (omega arith)
 
 -- THE LOOP
 

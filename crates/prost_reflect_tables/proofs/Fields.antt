@@ -1,20 +1,8 @@
 -- The fields of the schema that rows give, and the one of a number.
-use Rattle.std.proofs.Common.{◌≡◌, ℕ, zero, suc, Bool, true, false, cond, List, [], ◌∷◌, length, get_or, map, Option, Some, None, refl, sym, ap, ◌∙◌}
-use Rattle.std.specs.Prelude.{slice_get, option_map, nat_lt, ◌==◌}
-use Rattle.std.specs.List.{position_or_len}
-use Rattle.std.proofs.lemmas.Bool.{eqb-true, ltb-false}
-use Rattle.std.proofs.lemmas.List.Folds.{find_at}
+use Rattle.prost_reflect_tables.proofs.Common.{◌≡◌, ℕ, zero, suc, Bool, true, false, cond, List, [], ◌∷◌, length, get_or, map, Option, Some, None, refl, sym, ap, ◌∙◌, slice_get, option_map, nat_lt, ◌==◌, position_or_len, eqb-true, ltb-false, find_at, length-map, get_or_from_slice_get, slice_get_read, slice_get-map, slice_get_past, Field, known, field_of, FieldTable, field_row, FieldRow, MessageRow, TableRows, fields_at, fields_or_none, row_of, place_of, is_linked, ascending_from, schema_from, schema_message, schema_field}
 use Rattle.std.proofs.lemmas.List.Quantifiers.{position-Some}
-use Rattle.std.proofs.lemmas.List.{length-map}
-use Rattle.std.proofs.lemmas.Option.{get_or_from_slice_get, slice_get_read, slice_get-map, slice_get_past}
-use Rattle.prost_reflect_wire.specs.Schema.{Field, known, field_of}
-use Rattle.prost_reflect_tables.specs.declared.tables.FieldTable.{FieldTable}
-use Rattle.prost_reflect_tables.specs.Rows.{field_row, FieldRow, MessageRow, TableRows}
-use Rattle.prost_reflect_tables.specs.Places.{fields_at, fields_or_none, row_of, place_of}
-use Rattle.prost_reflect_tables.specs.Linked.{is_linked, ascending_from}
 use Rattle.prost_reflect_tables.proofs.Ascending.{place_found}
 use Rattle.prost_reflect_tables.proofs.Keeping.{fields_ascend}
-use Rattle.prost_reflect_tables.specs.Shown.{schema_from, schema_message, schema_field}
 
 known_among : (rows : TableRows) (messages : List MessageRow) (T : ℕ) → known (map (schema_message rows) messages) T ≡ map (schema_field rows) (fields_or_none (slice_get messages T))
 known_among rows [] T = refl

@@ -1,17 +1,7 @@
 -- What encloses a definition is there: its file, and the message around it.
-use Rattle.std.proofs.Common.{◌≡◌, ℕ, ◌+◌, ◌<◌, ◌≤◌, List, [], ◌∷◌, ◌++◌, map, length, Option, String, sym, ap, subst, arith, length-append}
-use Rattle.std.specs.List.{All, AllByRecursion}
+use Rattle.prost_reflect_tables.proofs.Common.{◌≡◌, ℕ, ◌+◌, ◌<◌, ◌≤◌, List, [], ◌∷◌, ◌++◌, map, length, Option, String, sym, ap, subst, arith, length-append, All, AllByRecursion, Global, All-nil, All-cons, All-append, FieldDescriptorProto, EnumDescriptorProto, ServiceDescriptorProto, FileDescriptorProto, DescriptorProto, fold-roll-DescriptorProto, ind-DescriptorProto, map-DescriptorProto, ScopeRow, DefinitionRow, FlatMessageRow, FlatEnumRow, FlatServiceRow, FlatRows, Given, Placed, defined, defined_from, field_name, enum_at, enums_from, service_at, services_from, all_from, inside, own_message, message_step, message_at, file_scope, file_at, files_from, flattened}
 use Rattle.std.specs.Option.{IfSome}
-use Rattle.std.specs.declared.alloc.Global.{Global}
-use Rattle.std.proofs.lemmas.List.Elements.{All-nil, All-cons, All-append}
-use Rattle.prost_reflect_types.specs.declared.FieldDescriptorProto.{FieldDescriptorProto}
-use Rattle.prost_reflect_types.specs.declared.EnumDescriptorProto.{EnumDescriptorProto}
-use Rattle.prost_reflect_types.specs.declared.ServiceDescriptorProto.{ServiceDescriptorProto}
-use Rattle.prost_reflect_types.specs.declared.FileDescriptorProto.{FileDescriptorProto}
-use Rattle.prost_reflect_types.specs.declared.DescriptorProto.{DescriptorProto}
 use Rattle.prost_reflect_types.specs.declared.DescriptorProto.TheOpen.{DescriptorProto-F}
-use Rattle.prost_reflect_types.specs.declared.DescriptorProto.TheFolds.{fold-roll-DescriptorProto, ind-DescriptorProto, map-DescriptorProto}
-use Rattle.prost_reflect_tables.specs.Flat.{ScopeRow, DefinitionRow, FlatMessageRow, FlatEnumRow, FlatServiceRow, FlatRows, Given, Placed, defined, defined_from, field_name, enum_at, enums_from, service_at, services_from, all_from, inside, own_message, message_step, message_at, file_scope, file_at, files_from, flattened}
 
 -- One of F files, and one of M messages if there is one around.
 pub record StandsWithin (F M : ℕ) (at : ℕ) (around : Option ℕ) : Type 0 where

@@ -1,23 +1,10 @@
 -- Lists of items, each list at its place.
-use Rattle.std.proofs.Common.{◌≡◌, ℕ, zero, suc, ◌+◌, ◌<◌, ◌≤◌, Bool, true, false, cond, List, [], ◌∷◌, ◌++◌, map, length, Option, Some, None, refl, sym, ap, ◌∙◌, arith, append_assoc, append-nil, get_or, drop, drop-cons, add-one, ◌≢◌, ◌⊎◌, ⊎_elim, inl, inr, Vec, Global}
-use Rattle.std.proofs.lemmas.List.{map-append, drop_all, length-map}
-use Rattle.std.specs.Prelude.{filter, nat_lt}
-use Rattle.std.specs.List.{slice_set}
-use Rattle.std.proofs.lemmas.Bool.{eq-eqb, ne_eqb}
-use Rattle.prost_reflect_tables.specs.Linking.{Links, is_place, belonging, linked_field, declared_fields, fields_of_message, extended_place, linked_message, messages_from, linked_oneof, oneof_place, oneofs_from, links_of, linked_enum, linked_rows}
-use Rattle.prost_reflect_tables.specs.declared.tables.FieldTable.{FieldTable}
-use Rattle.prost_reflect_tables.specs.Rows.{IdentityRow, FieldRow, OneofRow, MessageRow, EnumRow, identity_row, field_row, oneof_row, enum_row, rows_from, message_row as table_row}
-use Rattle.prost_reflect_types.specs.declared.FieldDescriptorProto.{FieldDescriptorProto}
-use Rattle.prost_reflect_types.specs.declared.OneofDescriptorProto.{OneofDescriptorProto}
+use Rattle.prost_reflect_tables.proofs.Common.{◌≡◌, ℕ, zero, suc, ◌+◌, ◌<◌, ◌≤◌, Bool, true, false, cond, List, [], ◌∷◌, ◌++◌, map, length, Option, Some, None, refl, sym, ap, ◌∙◌, arith, append_assoc, append-nil, get_or, drop, drop-cons, add-one, ◌≢◌, ◌⊎◌, ⊎_elim, inl, inr, Vec, map-append, drop_all, length-map, filter, nat_lt, slice_set, eq-eqb, ne_eqb, Links, is_place, belonging, linked_field, declared_fields, fields_of_message, extended_place, linked_message, messages_from, linked_oneof, oneof_place, oneofs_from, links_of, linked_enum, linked_rows, FieldTable, IdentityRow, FieldRow, OneofRow, MessageRow, EnumRow, identity_row, field_row, oneof_row, rows_from, FieldDescriptorProto, OneofDescriptorProto, FlatMessage, MessageTable, EnumTable, definition_row, message_row, DefinitionRow, FlatMessageRow, FlatRows, IsPartitionPoint, empty_lists, with_item, grouped, list_rows, messages_with}
+use Rattle.std.proofs.Common.{Global}
+use Rattle.prost_reflect_tables.specs.Rows.{enum_row, message_row as table_row}
 use Rattle.prost_reflect_tables.specs.declared.build.flatten.Definition.{Definition}
-use Rattle.prost_reflect_tables.specs.declared.build.flatten.FlatMessage.{FlatMessage}
 use Rattle.prost_reflect_tables.specs.declared.tables.OneofTable.{OneofTable}
-use Rattle.prost_reflect_tables.specs.declared.tables.MessageTable.{MessageTable}
-use Rattle.prost_reflect_tables.specs.declared.tables.EnumTable.{EnumTable}
-use Rattle.prost_reflect_tables.specs.FlatViews.{definition_row, message_row}
-use Rattle.prost_reflect_tables.specs.Flat.{DefinitionRow, FlatMessageRow, FlatRows}
-use Rattle.std.specs.List.Sorted.{IsPartitionPoint}
-use Rattle.prost_reflect_tables.specs.Indexing.{empty_lists, with_item, grouped, list_rows, messages_with}
+use Rattle.prost_reflect_tables.proofs.Orders.{same_head, same_tail}
 
 -- No list belongs to no place.
 pub item_nowhere : {X : Type 0} (x : X) (i : ℕ) (lists : List (List X)) → with_item None x i lists ≡ lists
@@ -107,15 +94,9 @@ groups_length place row xs n lists e = sym (length-map lists items_in) ∙ (ap l
 group_from : {X Y : Type 0} (place : X → Option ℕ) (row : X → Y) (xs : List X) (i n k : ℕ) (lists : List (Vec Y Global)) (d : Vec Y Global) → map items_in lists ≡ grouped place row xs i (empty_lists n) → k < n → (get_or lists k d).items ≡ map row (belonging place xs (i + k))
 group_from place row xs i zero k lists d e h = absurd (omega arith)
 group_from place row xs i (suc n) k [] d e h = absurd cc
-group_from place row xs i (suc n) zero (v ∷ lists) d e h = first (items_in v) (map row (belonging place xs i)) (map items_in lists) (grouped place row xs (i + 1) (empty_lists n)) e ∙ ap (λ j. map row (belonging place xs j)) (omega arith)
-  where
-    first : {Z : Type 0} (x y : Z) (xs ys : List Z) → x ∷ xs ≡ y ∷ ys → x ≡ y
-    first x y xs ys e = cc
+group_from place row xs i (suc n) zero (v ∷ lists) d e h = same_head (items_in v) (map row (belonging place xs i)) (map items_in lists) (grouped place row xs (i + 1) (empty_lists n)) e ∙ ap (λ j. map row (belonging place xs j)) (omega arith)
 group_from place row xs i (suc n) (suc k) (v ∷ lists) d e h =
-    group_from place row xs (i + 1) n k lists d (others (items_in v) (map row (belonging place xs i)) (map items_in lists) (grouped place row xs (i + 1) (empty_lists n)) e) (omega arith) ∙ ap (λ j. map row (belonging place xs j)) (omega arith)
-  where
-    others : {Z : Type 0} (x y : Z) (xs ys : List Z) → x ∷ xs ≡ y ∷ ys → xs ≡ ys
-    others x y xs ys e = cc
+    group_from place row xs (i + 1) n k lists d (same_tail (items_in v) (map row (belonging place xs i)) (map items_in lists) (grouped place row xs (i + 1) (empty_lists n)) e) (omega arith) ∙ ap (λ j. map row (belonging place xs j)) (omega arith)
 
 pub group_of : {X Y : Type 0} (place : X → Option ℕ) (row : X → Y) (xs : List X) (n k : ℕ) (lists : List (Vec Y Global)) (v : Vec Y Global) → map items_in lists ≡ grouped place row xs 0 (empty_lists n) → k < n → v ≡ get_or lists k v → v.items ≡ map row (belonging place xs k)
 group_of place row xs n k lists v e h at = ap items_in at ∙ (group_from place row xs 0 n k lists v e h ∙ ap (λ j. map row (belonging place xs j)) (omega arith))
@@ -184,16 +165,6 @@ oneof_more fields declared tables t ds k d h is e =
     ∙ (ap (λ (r : OneofRow). map oneof_row tables ++ r ∷ rest) e ∙ ap (λ (xs : List (Definition OneofDescriptorProto)). map oneof_row tables ++ oneofs_from fields declared k (map definition_row xs)) (sym front)))
 
 -- MESSAGES
-
-pub message_more : (tables : List MessageTable) (t : MessageTable) (ms : List FlatMessage) (k : ℕ) (m : FlatMessage) (fields : Vec FieldTable Global) (lists : List (Vec FieldTable Global)) →
-    k < length ms → m ≡ get_or ms k m → table_row t ≡ linked_message (map field_row fields.items) (message_row m) →
-    map table_row (tables ++ t ∷ []) ++ messages_with (list_rows lists) (map message_row (drop (k + 1) ms)) ≡ map table_row tables ++ messages_with (list_rows (fields ∷ lists)) (map message_row (drop k ms))
-message_more tables t ms k m fields lists h is e =
-    let front : drop k ms ≡ m ∷ drop (k + 1) ms = drop-cons ms k m h ∙ (ap (λ (x : FlatMessage). x ∷ drop (suc k) ms) (sym is) ∙ ap (λ j. m ∷ drop j ms) (sym (add-one k))) in
-    let rest : List MessageRow = messages_with (list_rows lists) (map message_row (drop (k + 1) ms)) in
-    ap (λ l. l ++ rest) (map-append table_row tables (t ∷ []))
-    ∙ (append_assoc (map table_row tables) (table_row t ∷ []) rest
-    ∙ (ap (λ (r : MessageRow). map table_row tables ++ r ∷ rest) e ∙ ap (λ (xs : List FlatMessage). map table_row tables ++ messages_with (list_rows (fields ∷ lists)) (map message_row xs)) (sym front)))
 
 -- ALL
 

@@ -1,13 +1,5 @@
 -- What linked rows keep, place by place.
-use Rattle.std.proofs.Common.{◌≡◌, ℕ, zero, suc, Bool, true, not, ◌||◌, List, [], ◌∷◌, length, Option, Some, None, refl, sym, ap, ◌∙◌, arith}
-use Rattle.std.specs.Prelude.{slice_get}
-use Rattle.std.specs.List.{list_all}
-use Rattle.std.proofs.lemmas.Bool.{and_parts}
-use Rattle.prost_reflect_wire.specs.Schema.{schema_valid}
-use Rattle.prost_reflect_tables.specs.Rows.{FieldRow, MessageRow, TableRows}
-use Rattle.prost_reflect_tables.specs.Places.{fields_at, fields_or_none}
-use Rattle.prost_reflect_tables.specs.Shown.{schema_from}
-use Rattle.prost_reflect_tables.specs.Linked.{is_linked, message_linked, field_linked, ascending_from, has_entry_numbers, kind_in_range}
+use Rattle.prost_reflect_tables.proofs.Common.{◌≡◌, ℕ, zero, suc, Bool, true, not, ◌||◌, List, [], ◌∷◌, length, Option, Some, None, refl, sym, ap, ◌∙◌, arith, slice_get, list_all, and_parts, schema_valid, FieldRow, MessageRow, TableRows, fields_at, fields_or_none, schema_from, is_linked, message_linked, field_linked, ascending_from, has_entry_numbers, kind_in_range}
 
 pub passes_at : {X : Type 0} (p : X → Bool) (xs : List X) (i : ℕ) (x : X) → list_all p xs ≡ true → slice_get xs i ≡ Some x → p x ≡ true
 passes_at p [] i x h e = cc

@@ -1,12 +1,6 @@
 -- What kinds have where nothing is stored.
-use Rattle.std.proofs.Common.{◌≡◌, ℕ, Bool, List, None, refl}
-use Rattle.std.specs.Prelude.{IsSome, IsSomeAnd}
-use Rattle.prost_reflect_wire.specs.Scalar.{Scalar, kind_default}
-use Rattle.prost_reflect_tables.specs.declared.tables.TableKind.{TableKind}
+use Rattle.prost_reflect_tables.proofs.Common.{◌≡◌, ℕ, Bool, List, None, refl, IsSome, IsSomeAnd, Scalar, kind_default, TableKind, EnumRow, schema_default, schema_kind, plain_kind}
 use Rattle.prost_reflect_tables.specs.declared.tables.TableKind.TheVariants as kinds
-use Rattle.prost_reflect_tables.specs.Rows.{EnumRow}
-use Rattle.prost_reflect_tables.specs.Shown.{schema_default, schema_kind}
-use Rattle.prost_reflect_tables.specs.WrittenDefaults.{plain_kind}
 
 pub scalar_kind : (kind : TableKind) → ((T : ℕ) → kind ≡ kinds.Message T → ⊥) → IsSome (plain_kind kind)
 scalar_kind (kinds.Message T) other = absurd (other T refl)

@@ -1,12 +1,8 @@
 -- How sets and maps of names grow, name by name.
-use Rattle.std.proofs.Common.{◌≡◌, ℕ, ◌+◌, ◌<◌, Bool, true, false, cond, ◌||◌, List, [], ◌∷◌, ◌++◌, length, take, drop, get_or, Option, Some, None, refl, ap, ◌∙◌, arith, add-zero, zero-add, drop-cons, add-one}
+use Rattle.prost_reflect_tables.proofs.Common.{◌≡◌, ℕ, ◌+◌, ◌<◌, Bool, true, false, cond, ◌||◌, List, [], ◌∷◌, ◌++◌, length, take, drop, get_or, Option, Some, None, refl, ap, ◌∙◌, arith, add-zero, zero-add, drop-cons, add-one, list_any, position_from, take_more, map-append, length-map, length-take, repeats, name_place, text_list}
 use denote.Bor.{Bor}
 use Rattle.std.specs.Str.{bytes_eq}
-use Rattle.std.specs.List.{list_any, position_from}
-use Rattle.std.proofs.lemmas.List.{take_more, map-append, length-map, length-take}
 use Rattle.std.proofs.lemmas.Slice.Eq.{bytes_eq-Decides}
-use Rattle.prost_reflect_tables.specs.Faults.{repeats, name_place}
-use Rattle.prost_reflect_tables.specs.FlatViews.{text_list}
 
 pub texts_more : (xs : List (Bor (List ℕ))) (i : ℕ) (d : Bor (List ℕ)) → i < length xs → text_list (take (i + 1) xs) ≡ text_list (take i xs) ++ (get_or xs i d).now ∷ []
 texts_more xs i d h = ap text_list (take_more xs i d h) ∙ map-append (λ (t : Bor (List ℕ)). t.now) (take i xs) (get_or xs i d ∷ [])

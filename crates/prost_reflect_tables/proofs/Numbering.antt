@@ -1,16 +1,7 @@
 -- Sets of fields by their message and number.
-use Rattle.std.proofs.Common.{⊎_elim, ◌≡◌, ℕ, ℤ, ◌+◌, ◌<◌, Bool, true, false, cond, ◌&&◌, ◌||◌, List, [], ◌∷◌, ◌++◌, length, take, drop, get_or, refl, sym, ap, ◌∙◌, arith, drop-cons, add-one}
-use Rattle.std.specs.Prelude.{nat_eq}
+use Rattle.prost_reflect_tables.proofs.Common.{⊎_elim, ◌≡◌, ℕ, ℤ, ◌+◌, ◌<◌, Bool, true, false, cond, ◌&&◌, ◌||◌, List, [], ◌∷◌, ◌++◌, length, take, drop, get_or, refl, sym, ap, ◌∙◌, arith, drop-cons, add-one, nat_eq, nat_cmp, int_cmp, int_eq, is_eq, ordering_then, nat_cmp_is, list_any, cases_lt, ne_eqb, eq-eqb, Decides-int_eq, take_more, map-append, same_numbered, number_repeats, numbered, numbered_list}
 use Rattle.std.specs.declared.cmp.Ordering.{Ordering}
 use Rattle.std.specs.declared.cmp.Ordering.TheVariants.{Less, Equal, Greater}
-use Rattle.std.specs.Ordering.{nat_cmp, int_cmp, int_eq, is_eq, ordering_then}
-use Rattle.std.specs.Cmp.{nat_cmp_is}
-use Rattle.std.specs.List.{list_any}
-use Rattle.std.proofs.lemmas.Bool.{cases_lt, ne_eqb, eq-eqb}
-use Rattle.std.proofs.lemmas.Bool.Decides.{Decides-int_eq}
-use Rattle.std.proofs.lemmas.List.{take_more, map-append}
-use Rattle.prost_reflect_tables.specs.Faults.{same_numbered, number_repeats}
-use Rattle.prost_reflect_tables.specs.Indexed.{numbered, numbered_list}
 
 both_equal : (a b : Ordering) → is_eq (ordering_then a b) ≡ is_eq a && is_eq b
 both_equal Less b = refl
@@ -34,20 +25,21 @@ turned a b = grind (arith, Decides-int_eq a b, Decides-int_eq b a)
 pub same_is : (k q : ℕ × ℤ) → is_eq (ordering_then (nat_cmp k.0 q.0) (int_cmp k.1 q.1)) ≡ same_numbered (numbered q) (numbered k)
 same_is k q = both_equal (nat_cmp k.0 q.0) (int_cmp k.1 q.1) ∙ (ap (λ b. b && int_eq k.1 q.1) (equal_numbers k.0 q.0) ∙ ap (λ b. nat_eq q.0 k.0 && b) (turned k.1 q.1))
 
-pub numbers_more : (xs : List (ℕ × ℤ)) (i : ℕ) (d : ℕ × ℤ) → i < length xs → numbered_list (take (i + 1) xs) ≡ numbered_list (take i xs) ++ numbered (get_or xs i d) ∷ []
-numbers_more xs i d h = ap numbered_list (take_more xs i d h) ∙ map-append numbered (take i xs) (get_or xs i d ∷ [])
+module _ (xs : List (ℕ × ℤ)) (i : ℕ) (d : ℕ × ℤ) where
+  pub numbers_more : i < length xs → numbered_list (take (i + 1) xs) ≡ numbered_list (take i xs) ++ numbered (get_or xs i d) ∷ []
+  numbers_more h = ap numbered_list (take_more xs i d h) ∙ map-append numbered (take i xs) (get_or xs i d ∷ [])
 
-numbers_left : (xs : List (ℕ × ℤ)) (i : ℕ) (d : ℕ × ℤ) → i < length xs → numbered_list (drop i xs) ≡ numbered (get_or xs i d) ∷ numbered_list (drop (i + 1) xs)
-numbers_left xs i d h = rw (drop-cons xs i d, add-one i) refl
+  numbers_left : i < length xs → numbered_list (drop i xs) ≡ numbered (get_or xs i d) ∷ numbered_list (drop (i + 1) xs)
+  numbers_left h = rw (drop-cons xs i d, add-one i) refl
 
--- A number that is not among those before changes nothing.
-pub number_repeats_more : (xs : List (ℕ × ℤ)) (i : ℕ) (d : ℕ × ℤ) → i < length xs → list_any (same_numbered (numbered (get_or xs i d))) (numbered_list (take i xs)) ≡ false →
-    number_repeats (numbered_list (take i xs)) (numbered_list (drop i xs)) ≡ number_repeats (numbered_list (take (i + 1) xs)) (numbered_list (drop (i + 1) xs))
-number_repeats_more xs i d h new = rw (numbers_left xs i d h, numbers_more xs i d h, new) refl
+  -- A number that is not among those before changes nothing.
+  pub number_repeats_more : i < length xs → list_any (same_numbered (numbered (get_or xs i d))) (numbered_list (take i xs)) ≡ false →
+      number_repeats (numbered_list (take i xs)) (numbered_list (drop i xs)) ≡ number_repeats (numbered_list (take (i + 1) xs)) (numbered_list (drop (i + 1) xs))
+  number_repeats_more h new = rw (numbers_left h, numbers_more h, new) refl
 
-pub number_repeats_found : (xs : List (ℕ × ℤ)) (i : ℕ) (d : ℕ × ℤ) → i < length xs → list_any (same_numbered (numbered (get_or xs i d))) (numbered_list (take i xs)) ≡ true →
-    number_repeats (numbered_list (take i xs)) (numbered_list (drop i xs)) ≡ true
-number_repeats_found xs i d h found = rw (numbers_left xs i d h, found) refl
+  pub number_repeats_found : i < length xs → list_any (same_numbered (numbered (get_or xs i d))) (numbered_list (take i xs)) ≡ true →
+      number_repeats (numbered_list (take i xs)) (numbered_list (drop i xs)) ≡ true
+  number_repeats_found h found = rw (numbers_left h, found) refl
 
 -- A set with one number more.
 pub number_seen : {old new : Bool} (k q : ℕ × ℤ) → old ≡ new → cond (is_eq (ordering_then (nat_cmp k.0 q.0) (int_cmp k.1 q.1))) true old ≡ (new || same_numbered (numbered q) (numbered k))

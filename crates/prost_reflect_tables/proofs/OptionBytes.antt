@@ -1,14 +1,9 @@
 -- The bool options in bytes, record by record.
-use Rattle.std.proofs.Common.{◌≡◌, ◌≢◌, ℕ, ◌<◌, ◌≤◌, max, Bool, true, false, cond, not, List, [], ◌∷◌, length, Option, Some, None, refl, sym, ap, subst, ◌∙◌, arith, append-nil}
-use Rattle.std.specs.Prelude.{nat_eq, nat_le, ◌&&◌, option_map}
-use Rattle.std.specs.List.{list_all}
-use Rattle.std.proofs.lemmas.Bool.{leb-true, eq-eqb, ne_eqb}
+use Rattle.prost_reflect_tables.proofs.Common.{◌≡◌, ◌≢◌, ℕ, ◌<◌, ◌≤◌, max, Bool, true, false, cond, not, List, [], ◌∷◌, length, Option, Some, None, refl, sym, ap, subst, ◌∙◌, arith, append-nil, nat_eq, nat_le, ◌&&◌, option_map, list_all, leb-true, eq-eqb, ne_eqb, AreBytes, Var, Fix64, Len, Fix32, Payload, Flat, Group, Record, record_at, Records, NoRecords, PlainRecord, GroupRecord, Spells, before, items, payload_wire, raw_levels, payload_levels, read, bool_of, bool_among, bool_in}
 use Rattle.prost_reflect_wire.specs.declared.error.DecodeError.{DecodeError}
 use Rattle.prost_reflect_wire.specs.declared.key.WireType.{WireType}
 use Rattle.prost_reflect_wire.specs.declared.key.WireType.TheVariants as wires
-use Rattle.prost_reflect_wire.specs.Varint.{AreBytes}
 use Rattle.prost_reflect_wire.specs.Grammar.{LEVEL_LIMIT}
-use Rattle.prost_reflect_wire.specs.Record.{Var, Fix64, Len, Fix32, Payload, Flat, Group, Record, record_at, Records, NoRecords, PlainRecord, GroupRecord, Spells, before, items, payload_wire, raw_levels, payload_levels, read}
 use Rattle.prost_reflect_wire.specs.Front.{VarintFront, VarintFault, KeyFront, PayloadFront, ValueFront, RecordFront, RecordsFront}
 use Rattle.prost_reflect_wire.specs.Fault.{StandsInField}
 use Rattle.prost_reflect_wire.proofs.Reading.{spelled_read}
@@ -19,7 +14,6 @@ use Rattle.prost_reflect_wire.proofs.VarintFronts.{varint_once, varint_no_fault}
 use Rattle.prost_reflect_wire.proofs.RecordFronts.{record_parts, first_front, first_parts, record_once, record_front, levels_first}
 use Rattle.prost_reflect_wire.proofs.FieldFaults.{field_no_fault}
 use Rattle.prost_reflect_wire.proofs.Bodies.{items_before}
-use Rattle.prost_reflect_tables.specs.Options.{bool_of, bool_among, bool_in}
 use Rattle.prost_reflect_tables.specs.OptionFaults.{suits_option, records_suit_option, bytes_suit_option}
 
 -- A VALUE
@@ -163,17 +157,18 @@ suit_step number n p bytes rest small f low = ap (records_suit_option number) (r
         rw (items_before (record_at n p) rs, levels_first (record_at n p) rs, within_more (payload_levels p) (raw_levels rs) LEVEL_LIMIT low)
         (and_swap (suits_option number (record_at n p)) (nat_le (raw_levels rs) LEVEL_LIMIT) (list_all (suits_option number) (items rs)))
 
-suit_here : (number n : ℕ) (w : WireType) (p : Payload) (bytes after rest : List ℕ) → AreBytes bytes → KeyFront n w bytes after → ValueFront n w LEVEL_LIMIT p after rest → (b : Bool) → b ≡ suits_option number (record_at n p) →
-    bytes_suit_option number bytes ≡ (b && bytes_suit_option number rest)
-suit_here number n w p bytes after rest small k v b is = suit_step number n p bytes rest small (record_here n w p bytes after rest k v) v.within ∙ ap (λ x. x && bytes_suit_option number rest) (sym is)
+module _ (number n : ℕ) (w : WireType) (p : Payload) (bytes after rest : List ℕ) where
+  suit_here : AreBytes bytes → KeyFront n w bytes after → ValueFront n w LEVEL_LIMIT p after rest → (b : Bool) → b ≡ suits_option number (record_at n p) →
+      bytes_suit_option number bytes ≡ (b && bytes_suit_option number rest)
+  suit_here small k v b is = suit_step number n p bytes rest small (record_here n w p bytes after rest k v) v.within ∙ ap (λ x. x && bytes_suit_option number rest) (sym is)
 
-pub suit_passed : (number n : ℕ) (w : WireType) (p : Payload) (bytes after rest : List ℕ) → AreBytes bytes → KeyFront n w bytes after → ValueFront n w LEVEL_LIMIT p after rest → true ≡ suits_option number (record_at n p) →
-    bytes_suit_option number rest ≡ bytes_suit_option number bytes
-suit_passed number n w p bytes after rest small k v is = sym (suit_here number n w p bytes after rest small k v true is)
+  pub suit_passed : AreBytes bytes → KeyFront n w bytes after → ValueFront n w LEVEL_LIMIT p after rest → true ≡ suits_option number (record_at n p) →
+      bytes_suit_option number rest ≡ bytes_suit_option number bytes
+  suit_passed small k v is = sym (suit_here small k v true is)
 
-pub suit_refused : (number n : ℕ) (w : WireType) (p : Payload) (bytes after rest : List ℕ) → AreBytes bytes → KeyFront n w bytes after → ValueFront n w LEVEL_LIMIT p after rest → false ≡ suits_option number (record_at n p) →
-    bytes_suit_option number bytes ≡ false
-suit_refused number n w p bytes after rest small k v is = suit_here number n w p bytes after rest small k v false is
+  pub suit_refused : AreBytes bytes → KeyFront n w bytes after → ValueFront n w LEVEL_LIMIT p after rest → false ≡ suits_option number (record_at n p) →
+      bytes_suit_option number bytes ≡ false
+  suit_refused small k v is = suit_here small k v false is
 
 pub suit_none : (number : ℕ) (e : DecodeError) (bytes : List ℕ) → AreBytes bytes → 0 < length bytes → StandsInField LEVEL_LIMIT e bytes → bytes_suit_option number bytes ≡ false
 suit_none number e bytes small some stands = go (read bytes) refl

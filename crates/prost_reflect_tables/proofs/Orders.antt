@@ -1,8 +1,5 @@
 -- Two lists in one order, in which equal items stand alike, are one list.
-use Rattle.std.proofs.Common.{◌≡◌, ℕ, suc, ◌<◌, ◌≤◌, Bool, true, false, cond, not, ◌&&◌, List, [], ◌∷◌, length, get_or, refl, sym, ap, ◌∙◌, arith, true≢false}
-use Rattle.std.specs.Prelude.{filter}
-use Rattle.std.specs.Cmp.{IsStrictWeakOrder}
-use Rattle.std.specs.List.Sorted.{IsSortedBy, IsStableBy, ties}
+use Rattle.prost_reflect_tables.proofs.Common.{◌≡◌, ℕ, suc, ◌<◌, ◌≤◌, Bool, true, false, cond, not, ◌&&◌, List, [], ◌∷◌, length, get_or, refl, sym, ap, ◌∙◌, arith, true≢false, filter, IsStrictWeakOrder, IsSortedBy, IsStableBy, ties}
 use Rattle.std.proofs.lemmas.List.Sorted.{sorted_far}
 use Rattle.prost_reflect_tables.specs.Orders.{put_by, sorted_by}
 
@@ -31,16 +28,15 @@ not_first true b e = absurd (true≢false (sym e))
 
 not_second : (a b : Bool) → (not a && not b) ≡ true → b ≡ false
 not_second false false e = refl
-not_second false true e = absurd (true≢false (sym e))
-not_second true b e = absurd (true≢false (sym e))
+not_second _ _ e = absurd (true≢false (sym e))
 
 first_there : {X : Type 0} (lt : X → X → Bool) → IsStrictWeakOrder lt → (x : X) (xs : List X) → filter (ties lt x) (x ∷ xs) ≡ x ∷ filter (ties lt x) xs
 first_there lt o x xs = ap (λ b. cond b (x ∷ filter (ties lt x) xs) (filter (ties lt x) xs)) (both_not (lt x x) (lt x x) (irreflexive lt o x) (irreflexive lt o x))
 
-same_head : {X : Type 0} (x y : X) (xs ys : List X) → x ∷ xs ≡ y ∷ ys → x ≡ y
+pub same_head : {X : Type 0} (x y : X) (xs ys : List X) → x ∷ xs ≡ y ∷ ys → x ≡ y
 same_head x y xs ys e = cc
 
-same_tail : {X : Type 0} (x y : X) (xs ys : List X) → x ∷ xs ≡ y ∷ ys → xs ≡ ys
+pub same_tail : {X : Type 0} (x y : X) (xs ys : List X) → x ∷ xs ≡ y ∷ ys → xs ≡ ys
 same_tail x y xs ys e = cc
 
 -- What ties with an item of a list does not stand before the item that none of the list stands before.
@@ -68,7 +64,7 @@ tails_alike lt x xs ys h z = go (ties lt z x) (h z)
     go true e = same_tail x x (filter (ties lt z) xs) (filter (ties lt z) ys) e
     go false e = e
 
-cons_none : {X : Type 0} (x : X) (xs : List X) → x ∷ xs ≡ [] → ⊥
+pub cons_none : {X : Type 0} (x : X) (xs : List X) → x ∷ xs ≡ [] → ⊥
 cons_none x xs e = absurd cc
 
 pub one_order : {X : Type 0} (lt : X → X → Bool) → IsStrictWeakOrder lt → (xs ys : List X) → Rises lt xs → Rises lt ys → ((z : X) → filter (ties lt z) xs ≡ filter (ties lt z) ys) → xs ≡ ys

@@ -1,15 +1,7 @@
 -- Files that have none of the faults pass the checks, and no fault stands in files that do.
-use Rattle.std.proofs.Common.{◌≡◌, ℕ, false, List, [], ◌∷◌, Some, slice_get, refl, sym, ◌∙◌, true≢false}
-use Rattle.std.specs.List.{list_any}
-use Rattle.prost_reflect_types.specs.declared.FileDescriptorProto.{FileDescriptorProto}
-use Rattle.prost_reflect_tables.specs.declared.error.PoolError.{PoolError}
+use Rattle.prost_reflect_tables.proofs.Common.{◌≡◌, ℕ, false, List, [], ◌∷◌, Some, slice_get, refl, list_any, FileDescriptorProto, PoolError, FlatRows, has_fault, Checked}
 use Rattle.prost_reflect_tables.specs.declared.error.PoolError.TheVariants as errors
-use Rattle.prost_reflect_tables.specs.Flat.{FlatRows}
-use Rattle.prost_reflect_tables.specs.Checked.{has_fault, Checked, Stands}
 use Rattle.prost_reflect_tables.proofs.Linkwell.Items.{none_at}
-
-pub stands_unchecked : (e : PoolError) (files : List FileDescriptorProto) (rows : FlatRows) → Stands e files rows → Checked files rows → ⊥
-stands_unchecked e files rows stands checked = true≢false (sym stands ∙ checked e)
 
 -- The faults in the order in which they are looked for.
 abbrev faults : List PoolError

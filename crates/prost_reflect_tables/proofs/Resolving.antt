@@ -1,19 +1,8 @@
 -- What is found of resolved fields is found of their definitions.
-use Rattle.std.proofs.Common.{◌≡◌, Bool, ◌||◌, ◌++◌, cond, List, [], ◌∷◌, map, Option, Some, None, refl, sym, ap, ap₂, ◌∙◌, String, Global}
-use Rattle.std.specs.List.{list_any}
-use Rattle.std.specs.Prelude.{ℕ, ◌+◌, ◌&&◌, false, true, unwrap_or}
-use Rattle.prost_reflect_types.specs.declared.FieldDescriptorProto.{FieldDescriptorProto}
-use Rattle.prost_reflect_tables.specs.Flat.{DefinitionRow, FlatMessageRow, FlatRows}
-use Rattle.prost_reflect_tables.specs.Faults.{message_names, enum_names, names_nothing, place_named, type_unknown, extendee_unknown, extension_outside, is_message_type, is_enum_type, Numbered, number_or_zero, numbered_at, numbered_extensions}
-use Rattle.prost_reflect_tables.specs.EntryFaults.{is_of_entry, wrongly_of_entry}
-use Rattle.prost_reflect_tables.specs.DefaultFaults.{default_bad, float_default_bad}
-use Rattle.prost_reflect_tables.specs.Gathered.{gathered}
-use Rattle.prost_reflect_tables.specs.Indexing.{grouped}
-use Rattle.prost_reflect_tables.specs.LinkedCatalog.{linked_extension}
-use Rattle.prost_reflect_tables.specs.Linking.{Links, links_of, is_place, belonging, extended_place, kind_of_code, linked_default, linked_kind, linked_field, declared_fields, natural_or_zero}
-use Rattle.prost_reflect_tables.specs.Rows.{FieldRow, TableRows}
+use Rattle.prost_reflect_tables.proofs.Common.{◌≡◌, Bool, ◌||◌, ◌++◌, cond, List, [], ◌∷◌, map, Option, Some, None, refl, sym, ap, ap₂, ◌∙◌, String, list_any, ℕ, ◌+◌, ◌&&◌, false, true, FieldDescriptorProto, DefinitionRow, FlatMessageRow, FlatRows, message_names, enum_names, names_nothing, place_named, type_unknown, extendee_unknown, extension_outside, is_message_type, is_enum_type, Numbered, number_or_zero, numbered_at, numbered_extensions, is_of_entry, wrongly_of_entry, default_bad, float_default_bad, gathered, grouped, linked_extension, Links, links_of, is_place, belonging, extended_place, kind_of_code, linked_default, linked_kind, linked_field, declared_fields, natural_or_zero, FieldRow, TableRows, ResolvedRow, resolve, resolved_field, resolved_extension}
+use Rattle.std.proofs.Common.{Global}
+use Rattle.std.specs.Prelude.{unwrap_or}
 use Rattle.prost_reflect_tables.proofs.Gathering.{rows_gathered}
-use Rattle.prost_reflect_tables.specs.Resolved.{ResolvedRow, resolve, resolved_field, resolved_extension}
 use Rattle.prost_reflect_tables.specs.ResolvedFaults.{unfound, type_unfound, extendee_unfound, found_outside, numbered_found, found_of_entry, wrongly_found, bad_read, bad_float}
 
 -- A FIELD
@@ -45,41 +34,42 @@ unfound_is : (names : List (List ℕ)) (text : Option (String Global)) → unfou
 unfound_is names None = refl
 unfound_is names (Some text) = refl
 
-pub type_is : (rows : FlatRows) (d : DefinitionRow FieldDescriptorProto) → type_unfound (resolve (links_of rows) d) ≡ type_unknown rows d
-unfolding resolve
-type_is rows d =
-    ap (λ b. (is_message_type d.proto.type_ && b) || (is_enum_type d.proto.type_ && unfound d.proto.type_name (place_named (enum_names rows) d.proto.type_name))) (unfound_is (message_names rows) d.proto.type_name)
-    ∙ ap (λ b. (is_message_type d.proto.type_ && names_nothing (message_names rows) d.proto.type_name) || (is_enum_type d.proto.type_ && b)) (unfound_is (enum_names rows) d.proto.type_name)
+module _ (rows : FlatRows) (d : DefinitionRow FieldDescriptorProto) where
+  pub type_is : type_unfound (resolve (links_of rows) d) ≡ type_unknown rows d
+  unfolding resolve
+  type_is =
+      ap (λ b. (is_message_type d.proto.type_ && b) || (is_enum_type d.proto.type_ && unfound d.proto.type_name (place_named (enum_names rows) d.proto.type_name))) (unfound_is (message_names rows) d.proto.type_name)
+      ∙ ap (λ b. (is_message_type d.proto.type_ && names_nothing (message_names rows) d.proto.type_name) || (is_enum_type d.proto.type_ && b)) (unfound_is (enum_names rows) d.proto.type_name)
 
-pub extendee_is : (rows : FlatRows) (d : DefinitionRow FieldDescriptorProto) → extendee_unfound (resolve (links_of rows) d) ≡ extendee_unknown rows d
-unfolding resolve
-extendee_is rows d = unfound_is (message_names rows) d.proto.extendee
+  pub extendee_is : extendee_unfound (resolve (links_of rows) d) ≡ extendee_unknown rows d
+  unfolding resolve
+  extendee_is = unfound_is (message_names rows) d.proto.extendee
 
-pub outside_same : (rows : FlatRows) (d : DefinitionRow FieldDescriptorProto) → found_outside rows (resolve (links_of rows) d) ≡ extension_outside rows d
-unfolding resolve
-outside_same rows d = refl
+  pub outside_same : found_outside rows (resolve (links_of rows) d) ≡ extension_outside rows d
+  unfolding resolve
+  outside_same = refl
 
-pub of_entry_is : (rows : FlatRows) (d : DefinitionRow FieldDescriptorProto) → found_of_entry rows (resolve (links_of rows) d) ≡ is_of_entry rows d
-unfolding resolve
-of_entry_is rows d = refl
+  pub of_entry_is : found_of_entry rows (resolve (links_of rows) d) ≡ is_of_entry rows d
+  unfolding resolve
+  of_entry_is = refl
 
-pub wrongly_is : (rows : FlatRows) (d : DefinitionRow FieldDescriptorProto) → wrongly_found rows (resolve (links_of rows) d) ≡ wrongly_of_entry rows d
-unfolding resolve
-wrongly_is rows d = refl
+  pub wrongly_is : wrongly_found rows (resolve (links_of rows) d) ≡ wrongly_of_entry rows d
+  unfolding resolve
+  wrongly_is = refl
 
-pub bad_is : (rows : FlatRows) (d : DefinitionRow FieldDescriptorProto) → bad_read (resolve (links_of rows) d) ≡ default_bad (links_of rows) d
-unfolding resolve default_bad
-bad_is rows d = refl
+  pub bad_is : bad_read (resolve (links_of rows) d) ≡ default_bad (links_of rows) d
+  unfolding resolve default_bad
+  bad_is = refl
 
-pub float_is : (rows : FlatRows) (d : DefinitionRow FieldDescriptorProto) → bad_float (resolve (links_of rows) d) ≡ float_default_bad (links_of rows) d
-unfolding resolve float_default_bad
-float_is rows d = refl
+  pub float_is : bad_float (resolve (links_of rows) d) ≡ float_default_bad (links_of rows) d
+  unfolding resolve float_default_bad
+  float_is = refl
 
--- NUMBERS
+  -- NUMBERS
 
-numbered_one : (rows : FlatRows) (d : DefinitionRow FieldDescriptorProto) (rest : List Numbered) → numbered_at (number_or_zero (resolve (links_of rows) d).definition.proto.number) (resolve (links_of rows) d).extendee ++ rest ≡ numbered_at (number_or_zero d.proto.number) (place_named (message_names rows) d.proto.extendee) ++ rest
-unfolding resolve
-numbered_one rows d rest = refl
+  numbered_one : (rest : List Numbered) → numbered_at (number_or_zero (resolve (links_of rows) d).definition.proto.number) (resolve (links_of rows) d).extendee ++ rest ≡ numbered_at (number_or_zero d.proto.number) (place_named (message_names rows) d.proto.extendee) ++ rest
+  unfolding resolve
+  numbered_one rest = refl
 
 pub numbered_is : (rows : FlatRows) (ds : List (DefinitionRow FieldDescriptorProto)) → numbered_found (map (resolve (links_of rows)) ds) ≡ numbered_extensions rows ds
 numbered_is rows [] = refl
@@ -89,56 +79,57 @@ numbered_is rows (d ∷ ds) =
 
 -- LINKING
 
-field_is : (links : Links) (x : Bool) (d : DefinitionRow FieldDescriptorProto) → resolved_field x (resolve links d) ≡ linked_field links x d
-unfolding resolve resolved_field linked_field
-field_is links x d = refl
+module _ (links : Links) where
+  field_is : (x : Bool) (d : DefinitionRow FieldDescriptorProto) → resolved_field x (resolve links d) ≡ linked_field links x d
+  unfolding resolve resolved_field linked_field
+  field_is x d = refl
 
-extendee_same : (links : Links) (d : DefinitionRow FieldDescriptorProto) → (resolve links d).extendee ≡ extended_place links d
-unfolding resolve
-extendee_same links d = refl
+  extendee_same : (d : DefinitionRow FieldDescriptorProto) → (resolve links d).extendee ≡ extended_place links d
+  unfolding resolve
+  extendee_same d = refl
 
-fields_are : (links : Links) (x : Bool) (ds : List (DefinitionRow FieldDescriptorProto)) → map (resolved_field x) (map (resolve links) ds) ≡ map (linked_field links x) ds
-fields_are links x [] = refl
-fields_are links x (d ∷ ds) = ap (λ f. f ∷ map (resolved_field x) (map (resolve links) ds)) (field_is links x d) ∙ ap (λ l. linked_field links x d ∷ l) (fields_are links x ds)
+  fields_are : (x : Bool) (ds : List (DefinitionRow FieldDescriptorProto)) → map (resolved_field x) (map (resolve links) ds) ≡ map (linked_field links x) ds
+  fields_are x [] = refl
+  fields_are x (d ∷ ds) = ap (λ f. f ∷ map (resolved_field x) (map (resolve links) ds)) (field_is x d) ∙ ap (λ l. linked_field links x d ∷ l) (fields_are x ds)
 
-pub lists_are : (links : Links) (ms : List FlatMessageRow) →
-    map (λ (fs : List ResolvedRow). map (resolved_field false) fs) (map (λ (m : FlatMessageRow). map (resolve links) m.fields) ms) ≡ map (λ (m : FlatMessageRow). declared_fields links m.fields) ms
-lists_are links [] = refl
-lists_are links (m ∷ ms) =
-    ap (λ l. l ∷ map (λ (fs : List ResolvedRow). map (resolved_field false) fs) (map (λ (m : FlatMessageRow). map (resolve links) m.fields) ms)) (fields_are links false m.fields)
-    ∙ ap (λ l. declared_fields links m.fields ∷ l) (lists_are links ms)
+  pub lists_are : (ms : List FlatMessageRow) →
+      map (λ (fs : List ResolvedRow). map (resolved_field false) fs) (map (λ (m : FlatMessageRow). map (resolve links) m.fields) ms) ≡ map (λ (m : FlatMessageRow). declared_fields links m.fields) ms
+  lists_are [] = refl
+  lists_are (m ∷ ms) =
+      ap (λ l. l ∷ map (λ (fs : List ResolvedRow). map (resolved_field false) fs) (map (λ (m : FlatMessageRow). map (resolve links) m.fields) ms)) (fields_are false m.fields)
+      ∙ ap (λ l. declared_fields links m.fields ∷ l) (lists_are ms)
 
-belonging_step : (links : Links) (d : DefinitionRow FieldDescriptorProto) (b : Bool) (rs : List ResolvedRow) (es : List (DefinitionRow FieldDescriptorProto)) →
-    map (resolved_field true) rs ≡ map (linked_field links true) es → map (resolved_field true) (cond b (resolve links d ∷ rs) rs) ≡ map (linked_field links true) (cond b (d ∷ es) es)
-belonging_step links d true rs es e = ap (λ f. f ∷ map (resolved_field true) rs) (field_is links true d) ∙ ap (λ l. linked_field links true d ∷ l) e
-belonging_step links d false rs es e = e
+  belonging_step : (d : DefinitionRow FieldDescriptorProto) (b : Bool) (rs : List ResolvedRow) (es : List (DefinitionRow FieldDescriptorProto)) →
+      map (resolved_field true) rs ≡ map (linked_field links true) es → map (resolved_field true) (cond b (resolve links d ∷ rs) rs) ≡ map (linked_field links true) (cond b (d ∷ es) es)
+  belonging_step d true rs es e = ap (λ f. f ∷ map (resolved_field true) rs) (field_is true d) ∙ ap (λ l. linked_field links true d ∷ l) e
+  belonging_step d false rs es e = e
 
-belonging_are : (links : Links) (T : ℕ) (ds : List (DefinitionRow FieldDescriptorProto)) →
-    map (resolved_field true) (belonging (λ (r : ResolvedRow). r.extendee) (map (resolve links) ds) T) ≡ map (linked_field links true) (belonging (extended_place links) ds T)
-belonging_are links T [] = refl
-belonging_are links T (d ∷ ds) =
-    let rs = belonging (λ (r : ResolvedRow). r.extendee) (map (resolve links) ds) T in
-    ap (λ (p : Option ℕ). map (resolved_field true) (cond (is_place T p) (resolve links d ∷ rs) rs)) (extendee_same links d)
-    ∙ belonging_step links d (is_place T (extended_place links d)) rs (belonging (extended_place links) ds T) (belonging_are links T ds)
+  belonging_are : (T : ℕ) (ds : List (DefinitionRow FieldDescriptorProto)) →
+      map (resolved_field true) (belonging (λ (r : ResolvedRow). r.extendee) (map (resolve links) ds) T) ≡ map (linked_field links true) (belonging (extended_place links) ds T)
+  belonging_are T [] = refl
+  belonging_are T (d ∷ ds) =
+      let rs = belonging (λ (r : ResolvedRow). r.extendee) (map (resolve links) ds) T in
+      ap (λ (p : Option ℕ). map (resolved_field true) (cond (is_place T p) (resolve links d ∷ rs) rs)) (extendee_same d)
+      ∙ belonging_step d (is_place T (extended_place links d)) rs (belonging (extended_place links) ds T) (belonging_are T ds)
 
-pub grouped_are : (links : Links) (ds : List (DefinitionRow FieldDescriptorProto)) (i : ℕ) (lists : List (List FieldRow)) →
-    grouped (λ (r : ResolvedRow). r.extendee) (resolved_field true) (map (resolve links) ds) i lists ≡ grouped (extended_place links) (linked_field links true) ds i lists
-grouped_are links ds i [] = refl
-grouped_are links ds i (fs ∷ lists) =
-    ap (λ l. (fs ++ l) ∷ grouped (λ (r : ResolvedRow). r.extendee) (resolved_field true) (map (resolve links) ds) (i + 1) lists) (belonging_are links i ds)
-    ∙ ap (λ l. (fs ++ map (linked_field links true) (belonging (extended_place links) ds i)) ∷ l) (grouped_are links ds (i + 1) lists)
+  pub grouped_are : (ds : List (DefinitionRow FieldDescriptorProto)) (i : ℕ) (lists : List (List FieldRow)) →
+      grouped (λ (r : ResolvedRow). r.extendee) (resolved_field true) (map (resolve links) ds) i lists ≡ grouped (extended_place links) (linked_field links true) ds i lists
+  grouped_are ds i [] = refl
+  grouped_are ds i (fs ∷ lists) =
+      ap (λ l. (fs ++ l) ∷ grouped (λ (r : ResolvedRow). r.extendee) (resolved_field true) (map (resolve links) ds) (i + 1) lists) (belonging_are i ds)
+      ∙ ap (λ l. (fs ++ map (linked_field links true) (belonging (extended_place links) ds i)) ∷ l) (grouped_are ds (i + 1) lists)
 
--- THE CATALOG
+  -- THE CATALOG
 
-extension_is : (links : Links) (linked : TableRows) (d : DefinitionRow FieldDescriptorProto) → resolved_extension linked (resolve links d) ≡ linked_extension links linked d
-unfolding resolve
-extension_is links linked d = refl
+  extension_is : (linked : TableRows) (d : DefinitionRow FieldDescriptorProto) → resolved_extension linked (resolve links d) ≡ linked_extension links linked d
+  unfolding resolve
+  extension_is linked d = refl
 
-pub extensions_are : (links : Links) (linked : TableRows) (ds : List (DefinitionRow FieldDescriptorProto)) → map (resolved_extension linked) (map (resolve links) ds) ≡ map (linked_extension links linked) ds
-extensions_are links linked [] = refl
-extensions_are links linked (d ∷ ds) =
-    ap (λ e. e ∷ map (resolved_extension linked) (map (resolve links) ds)) (extension_is links linked d) ∙ ap (λ l. linked_extension links linked d ∷ l) (extensions_are links linked ds)
+  pub extensions_are : (linked : TableRows) (ds : List (DefinitionRow FieldDescriptorProto)) → map (resolved_extension linked) (map (resolve links) ds) ≡ map (linked_extension links linked) ds
+  extensions_are linked [] = refl
+  extensions_are linked (d ∷ ds) =
+      ap (λ e. e ∷ map (resolved_extension linked) (map (resolve links) ds)) (extension_is linked d) ∙ ap (λ l. linked_extension links linked d ∷ l) (extensions_are linked ds)
 
-pub extending_are : (links : Links) (ds : List (DefinitionRow FieldDescriptorProto)) (n : ℕ) → gathered (λ (r : ResolvedRow). r.extendee) (map (resolve links) ds) 0 n ≡ gathered (extended_place links) ds 0 n
-unfolding resolve
-extending_are links ds n = sym (rows_gathered (resolve links) (λ (r : ResolvedRow). r.extendee) ds 0 n)
+  pub extending_are : (ds : List (DefinitionRow FieldDescriptorProto)) (n : ℕ) → gathered (λ (r : ResolvedRow). r.extendee) (map (resolve links) ds) 0 n ≡ gathered (extended_place links) ds 0 n
+  unfolding resolve
+  extending_are ds n = sym (rows_gathered (resolve links) (λ (r : ResolvedRow). r.extendee) ds 0 n)

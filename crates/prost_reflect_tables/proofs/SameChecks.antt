@@ -1,16 +1,5 @@
 -- Files of equal contents are refused for the same reasons.
-use Rattle.std.proofs.Common.{◌≡◌, ℕ, zero, suc, ◌+◌, nat_eq, ℤ, Bool, false, not, ◌||◌, List, [], ◌∷◌, ◌++◌, length, Option, Some, None, String, string_bytes, Vec, is_none, refl, ap, ap₂, ◌∙◌}
-use Rattle.std.specs.Prelude.{option_and_then, slice_get}
-use Rattle.std.specs.List.{AllZip, list_any}
-use Rattle.std.proofs.lemmas.List.Elements.{length_all_zip}
-use Rattle.std.specs.declared.alloc.Global.{Global}
-use Rattle.prost_reflect_types.specs.declared.FileDescriptorProto.{FileDescriptorProto}
-use Rattle.prost_reflect_types.specs.declared.FieldDescriptorProto.{FieldDescriptorProto}
-use Rattle.prost_reflect_types.specs.declared.MethodDescriptorProto.{MethodDescriptorProto}
-use Rattle.prost_reflect_types.proofs.EqualContents.{SameText, SameTexts, SameExtensionRange, SameReservedRange, SameField, SameOneof, SameEnumReservedRange, SameEnumValue, SameMethod, SameFile, zip_same}
-use Rattle.prost_reflect_tables.specs.Names.{text_or_empty, without_dot}
-use Rattle.prost_reflect_tables.specs.Flat.{DefinitionRow, FlatMessageRow, FlatEnumRow, FlatServiceRow, FlatRows}
-use Rattle.prost_reflect_tables.specs.Faults.{any_field, is_unnamed, message_unnamed, enum_unnamed, service_unnamed, missing_name, syntax_unknown, unknown_syntax, is_outside, import_outside, oneof_outside, has_oneof_outside, bad_index, number_bad, bad_number, range_bad, message_range_bad, enum_range_bad, bad_range, type_missing, extendee_missing, method_type_missing, missing_type, label_bad, bad_label, is_member, repeated_member, bad_oneof, enum_empty, empty_enum, names_of, names_in_messages, names_in_enums, names_in_services, repeats, duplicate_name, name_place, place_named, file_names, message_names, enum_names, dependency_missing, missing_dependency, names_nothing, type_unknown, extendee_unknown, method_type_unknown, unknown_type, is_in_range, message_named, is_out_of, extension_outside, outside_range, Numbered, number_or_zero, numbered_fields, numbered_in, numbered_at, numbered_extensions, number_repeats, duplicate_number}
+use Rattle.prost_reflect_tables.proofs.Common.{◌≡◌, ℕ, zero, suc, ◌+◌, nat_eq, ℤ, Bool, false, not, ◌||◌, List, [], ◌∷◌, ◌++◌, length, Option, Some, None, String, string_bytes, Vec, is_none, refl, ap, ap₂, ◌∙◌, option_and_then, slice_get, AllZip, list_any, length_all_zip, Global, FileDescriptorProto, FieldDescriptorProto, MethodDescriptorProto, SameText, SameTexts, SameExtensionRange, SameReservedRange, SameField, SameOneof, SameEnumReservedRange, SameEnumValue, SameMethod, SameFile, zip_same, text_or_empty, without_dot, DefinitionRow, FlatMessageRow, FlatEnumRow, FlatServiceRow, FlatRows, any_field, is_unnamed, message_unnamed, enum_unnamed, service_unnamed, missing_name, syntax_unknown, unknown_syntax, is_outside, import_outside, oneof_outside, has_oneof_outside, bad_index, number_bad, bad_number, range_bad, message_range_bad, enum_range_bad, bad_range, type_missing, extendee_missing, method_type_missing, missing_type, label_bad, bad_label, is_member, repeated_member, bad_oneof, enum_empty, empty_enum, names_of, names_in_messages, names_in_enums, names_in_services, repeats, duplicate_name, name_place, place_named, file_names, message_names, enum_names, dependency_missing, missing_dependency, names_nothing, type_unknown, extendee_unknown, method_type_unknown, unknown_type, is_in_range, message_named, is_out_of, extension_outside, outside_range, Numbered, number_or_zero, numbered_fields, numbered_in, numbered_at, numbered_extensions, number_repeats, duplicate_number}
 use Rattle.prost_reflect_tables.proofs.SameRows.{zip_map, zip_any, by_text, text_same, SameRow, SameMessageRow, SameEnumRow, SameServiceRow, SameRows}
 use Rattle.prost_reflect_tables.proofs.SameLinked.{place_same, message_names_same, enum_names_same}
 
@@ -33,10 +22,9 @@ unnamed_same a b h = ap (λ (text : List ℕ). nat_eq (length text) 0) (text_sam
 -- what stands at a place of both
 pub zip_at : {X Y : Type 0} (R : X → X → Type 0) (f : Option X → Y) → ((x y : X) → R x y → f (Some x) ≡ f (Some y)) → (xs ys : List X) → AllZip R xs ys → (i : ℕ) → f (slice_get xs i) ≡ f (slice_get ys i)
 zip_at R f each [] [] h i = refl
-zip_at R f each [] (y ∷ ys) h i = absurd h
-zip_at R f each (x ∷ xs) [] h i = absurd h
 zip_at R f each (x ∷ xs) (y ∷ ys) h zero = each x y h.0
 zip_at R f each (x ∷ xs) (y ∷ ys) h (suc i) = zip_at R f each xs ys h.1 i
+zip_at R f each _ _ h i = absurd h
 
 SameString : String Global → String Global → Type 0
 SameString s t = string_bytes s ≡ string_bytes t
@@ -159,31 +147,28 @@ names_same Same = zip_map (SameRow Same) (λ d. d.full_name) (λ d e r. r.full_n
 
 message_names_in : (ms ns : List FlatMessageRow) → AllZip SameMessageRow ms ns → names_in_messages ms ≡ names_in_messages ns
 message_names_in [] [] h = refl
-message_names_in [] (n ∷ ns) h = absurd h
-message_names_in (m ∷ ms) [] h = absurd h
 message_names_in (m ∷ ms) (n ∷ ns) h =
     let fields = names_same SameField m.fields n.fields h.0.fields in
     let oneofs = names_same SameOneof m.oneofs n.oneofs h.0.oneofs in
     let rest = message_names_in ms ns h.1 in
     λ i. (h.0.definition.full_name i ∷ []) ++ fields i ++ oneofs i ++ rest i
+message_names_in _ _ h = absurd h
 
 enum_names_in : (ds es : List FlatEnumRow) → AllZip SameEnumRow ds es → names_in_enums ds ≡ names_in_enums es
 enum_names_in [] [] h = refl
-enum_names_in [] (e ∷ es) h = absurd h
-enum_names_in (d ∷ ds) [] h = absurd h
 enum_names_in (d ∷ ds) (e ∷ es) h =
     let values = names_same SameEnumValue d.values e.values h.0.values in
     let rest = enum_names_in ds es h.1 in
     λ i. (h.0.definition.full_name i ∷ []) ++ values i ++ rest i
+enum_names_in _ _ h = absurd h
 
 service_names_in : (ss ts : List FlatServiceRow) → AllZip SameServiceRow ss ts → names_in_services ss ≡ names_in_services ts
 service_names_in [] [] h = refl
-service_names_in [] (t ∷ ts) h = absurd h
-service_names_in (s ∷ ss) [] h = absurd h
 service_names_in (s ∷ ss) (t ∷ ts) h =
     let methods = names_same SameMethod s.methods t.methods h.0.methods in
     let rest = service_names_in ss ts h.1 in
     λ i. (h.0.definition.full_name i ∷ []) ++ methods i ++ rest i
+service_names_in _ _ h = absurd h
 
 pub duplicate_name_same : (a b : FlatRows) → SameRows a b → duplicate_name a ≡ duplicate_name b
 duplicate_name_same a b h =
@@ -263,19 +248,17 @@ numbered_fields_same place = zip_map (SameRow SameField) (λ d. record { message
 
 numbered_in_same : (place : ℕ) (ms ns : List FlatMessageRow) → AllZip SameMessageRow ms ns → numbered_in place ms ≡ numbered_in place ns
 numbered_in_same place [] [] h = refl
-numbered_in_same place [] (n ∷ ns) h = absurd h
-numbered_in_same place (m ∷ ms) [] h = absurd h
 numbered_in_same place (m ∷ ms) (n ∷ ns) h = ap₂ (λ (xs ys : List Numbered). xs ++ ys) (numbered_fields_same place m.fields n.fields h.0.fields) (numbered_in_same (place + 1) ms ns h.1)
+numbered_in_same place _ _ h = absurd h
 
 numbered_extensions_same : (a b : FlatRows) → SameRows a b → (ds es : List (DefinitionRow FieldDescriptorProto)) → AllZip (SameRow SameField) ds es → numbered_extensions a ds ≡ numbered_extensions b es
 numbered_extensions_same a b h [] [] z = refl
-numbered_extensions_same a b h [] (e ∷ es) z = absurd z
-numbered_extensions_same a b h (d ∷ ds) [] z = absurd z
 numbered_extensions_same a b h (d ∷ ds) (e ∷ es) z =
     let number = z.0.proto.number in
     let place = ap (λ (names : List (List ℕ)). place_named names d.proto.extendee) (message_names_same a b h) ∙ place_same (message_names b) d.proto.extendee e.proto.extendee z.0.proto.extendee in
     let rest = numbered_extensions_same a b h ds es z.1 in
     λ i. numbered_at (number_or_zero (number i)) (place i) ++ rest i
+numbered_extensions_same a b h _ _ z = absurd z
 
 pub duplicate_number_same : (a b : FlatRows) → SameRows a b → duplicate_number a ≡ duplicate_number b
 duplicate_number_same a b h =

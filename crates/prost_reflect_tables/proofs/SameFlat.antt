@@ -1,21 +1,6 @@
 -- Files of equal contents have rows that hold the same.
-use Rattle.std.proofs.Common.{◌≡◌, ℕ, ◌+◌, pos, List, [], ◌∷◌, ◌++◌, map, Option, Some, None, String, bytes_eq, refl, sym, ap, ap₂, ◌∙◌, subst}
-use Rattle.std.specs.Prelude.{codes}
-use Rattle.std.specs.List.{AllZip}
-use Rattle.std.proofs.lemmas.List.Elements.{length_all_zip}
-use Rattle.std.specs.declared.alloc.Global.{Global}
-use Rattle.prost_reflect_types.specs.declared.FieldDescriptorProto.{FieldDescriptorProto}
-use Rattle.prost_reflect_types.specs.declared.EnumDescriptorProto.{EnumDescriptorProto}
-use Rattle.prost_reflect_types.specs.declared.ServiceDescriptorProto.{ServiceDescriptorProto}
-use Rattle.prost_reflect_types.specs.declared.FileDescriptorProto.{FileDescriptorProto}
-use Rattle.prost_reflect_types.specs.declared.DescriptorProto.{DescriptorProto}
+use Rattle.prost_reflect_tables.proofs.Common.{◌≡◌, ℕ, ◌+◌, pos, List, [], ◌∷◌, ◌++◌, map, Option, Some, None, String, bytes_eq, refl, sym, ap, ap₂, ◌∙◌, subst, codes, AllZip, length_all_zip, Global, FieldDescriptorProto, EnumDescriptorProto, ServiceDescriptorProto, FileDescriptorProto, DescriptorProto, out-DescriptorProto, fold-roll-DescriptorProto, fold_out-DescriptorProto, ind-DescriptorProto, map-DescriptorProto, of_message, SameText, SameField, SameOneof, SameEnumValue, SameEnum, SameMethod, SameService, SameLayer, SameFile, message_same, joined, ScopeRow, DefinitionRow, Placed, defined, defined_from, field_name, oneof_name, value_name, method_name, enum_at, enums_from, service_at, services_from, all_from, inside, message_parts, own_message, message_step, message_at, file_scope, file_at, files_from, flattened}
 use Rattle.prost_reflect_types.specs.declared.DescriptorProto.TheOpen.{DescriptorProto-F}
-use Rattle.prost_reflect_types.specs.declared.DescriptorProto.TheViews.{out-DescriptorProto}
-use Rattle.prost_reflect_types.specs.declared.DescriptorProto.TheFolds.{fold-roll-DescriptorProto, fold_out-DescriptorProto, ind-DescriptorProto, map-DescriptorProto}
-use Rattle.prost_reflect_types.specs.DescriptorViews.{of_message}
-use Rattle.prost_reflect_types.proofs.EqualContents.{SameText, SameField, SameOneof, SameEnumValue, SameEnum, SameMethod, SameService, SameLayer, SameFile, message_same}
-use Rattle.prost_reflect_tables.specs.Names.{joined}
-use Rattle.prost_reflect_tables.specs.Flat.{ScopeRow, DefinitionRow, Placed, defined, defined_from, field_name, oneof_name, value_name, method_name, enum_at, enums_from, service_at, services_from, all_from, inside, message_parts, own_message, message_step, message_at, file_scope, file_at, files_from, flattened}
 use Rattle.prost_reflect_tables.proofs.SameRows.{zip_append, text_same, SameRow, SameParts, SameMessageRow, SameEnumRow, SameServiceRow, SameRows, SameGiven}
 
 -- DEFINITIONS
@@ -33,10 +18,9 @@ defined_same Same s t number place n m p q scope name same = record {
 defined_all : {R : Type 0} (Same : R → R → Type 0) (name : R → Option (String Global)) → ((p q : R) → Same p q → SameText (name p) (name q)) → (s t : ScopeRow) (number place : ℕ) (ps qs : List R) → s ≡ t → AllZip Same ps qs →
     AllZip (SameRow Same) (defined_from name s number place ps) (defined_from name t number place qs)
 defined_all Same name named s t number place [] [] scope h = tt
-defined_all Same name named s t number place [] (q ∷ qs) scope h = absurd h
-defined_all Same name named s t number place (p ∷ ps) [] scope h = absurd h
 defined_all Same name named s t number place (p ∷ ps) (q ∷ qs) scope h =
     (defined_same Same s t number place (name p) (name q) p q scope (named p q h.0) h.0, defined_all Same name named s t number (place + 1) ps qs scope h.1)
+defined_all Same name named s t number place _ _ scope h = absurd h
 
 fields_same : (s t : ScopeRow) (number : ℕ) (fs gs : List FieldDescriptorProto) → s ≡ t → AllZip SameField fs gs → AllZip (SameRow SameField) (defined_from field_name s number 0 fs) (defined_from field_name t number 0 gs)
 fields_same s t number fs gs scope h = defined_all SameField field_name (λ f g e. e.name) s t number 0 fs gs scope h
@@ -54,9 +38,8 @@ enum_same s t number place d e scope h = record {
 
 enums_same : (s t : ScopeRow) (number place : ℕ) (ds es : List EnumDescriptorProto) → s ≡ t → AllZip SameEnum ds es → AllZip SameEnumRow (enums_from s number place ds) (enums_from t number place es)
 enums_same s t number place [] [] scope h = tt
-enums_same s t number place [] (e ∷ es) scope h = absurd h
-enums_same s t number place (d ∷ ds) [] scope h = absurd h
 enums_same s t number place (d ∷ ds) (e ∷ es) scope h = (enum_same s t number place d e scope h.0, enums_same s t number (place + 1) ds es scope h.1)
+enums_same s t number place _ _ scope h = absurd h
 
 service_same : (s t : ScopeRow) (number place : ℕ) (d e : ServiceDescriptorProto) → s ≡ t → SameService d e → SameServiceRow (service_at s number place d) (service_at t number place e)
 service_same s t number place d e scope h =
@@ -68,9 +51,8 @@ service_same s t number place d e scope h =
 
 services_same : (s t : ScopeRow) (number place : ℕ) (ds es : List ServiceDescriptorProto) → s ≡ t → AllZip SameService ds es → AllZip SameServiceRow (services_from s number place ds) (services_from t number place es)
 services_same s t number place [] [] scope h = tt
-services_same s t number place [] (e ∷ es) scope h = absurd h
-services_same s t number place (d ∷ ds) [] scope h = absurd h
 services_same s t number place (d ∷ ds) (e ∷ es) scope h = (service_same s t number place d e scope h.0, services_same s t number (place + 1) ds es scope h.1)
+services_same s t number place _ _ scope h = absurd h
 
 -- MESSAGES
 
@@ -80,8 +62,6 @@ SamePlaced m n = (s t : ScopeRow) (number place k l : ℕ) → s ≡ t → k ≡
 
 all_same : (ms ns : List Placed) (s t : ScopeRow) (number place k l : ℕ) → AllZip SamePlaced ms ns → s ≡ t → k ≡ l → SameGiven (all_from ms s number place k) (all_from ns t number place l)
 all_same [] [] s t number place k l h scope before = record { messages = tt; enums = tt; extensions = tt }
-all_same [] (n ∷ ns) s t number place k l h scope before = absurd h
-all_same (m ∷ ms) [] s t number place k l h scope before = absurd h
 all_same (m ∷ ms) (n ∷ ns) s t number place k l h scope before =
     let first = h.0 s t number place k l scope before in
     let more = all_same ms ns s t number (place + 1) _ _ h.1 scope (ap₂ (λ (a b : ℕ). a + b) before (length_all_zip SameMessageRow (m s number place k).messages (n t number place l).messages first.messages)) in
@@ -90,6 +70,7 @@ all_same (m ∷ ms) (n ∷ ns) s t number place k l h scope before =
       enums = zip_append SameEnumRow _ _ _ _ first.enums more.enums;
       extensions = zip_append (SameRow SameField) _ _ _ _ first.extensions more.extensions;
     }
+all_same _ _ s t number place k l h scope before = absurd h
 
 own_same : (m n : DescriptorProto-F DescriptorProto) (s t : ScopeRow) (number place k l : ℕ) → SameLayer m n → s ≡ t → k ≡ l → SameMessageRow (own_message m s number place k) (own_message n t number place l)
 own_same m n s t number place k l h scope before =
@@ -176,8 +157,6 @@ file_rows_same f g file k l h before =
 
 files_same : (fs gs : List FileDescriptorProto) (file k l : ℕ) → AllZip SameFile fs gs → k ≡ l → SameRows (files_from fs file k) (files_from gs file l)
 files_same [] [] file k l h before = record { messages = tt; enums = tt; extensions = tt; services = tt }
-files_same [] (g ∷ gs) file k l h before = absurd h
-files_same (f ∷ fs) [] file k l h before = absurd h
 files_same (f ∷ fs) (g ∷ gs) file k l h before =
     let first = file_rows_same f g file k l h.0 before in
     let more = files_same fs gs (file + 1) _ _ h.1 (ap₂ (λ (a b : ℕ). a + b) before (length_all_zip SameMessageRow (file_at f file k).messages (file_at g file l).messages first.messages)) in
@@ -187,6 +166,7 @@ files_same (f ∷ fs) (g ∷ gs) file k l h before =
       extensions = zip_append (SameRow SameField) _ _ _ _ first.extensions more.extensions;
       services = zip_append SameServiceRow _ _ _ _ first.services more.services;
     }
+files_same _ _ file k l h before = absurd h
 
 pub flattened_same : (fs gs : List FileDescriptorProto) → AllZip SameFile fs gs → SameRows (flattened fs) (flattened gs)
 flattened_same fs gs h = files_same fs gs 0 0 0 h refl

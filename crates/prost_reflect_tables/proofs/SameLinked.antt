@@ -1,19 +1,5 @@
 -- Rows that hold the same are linked to the same tables.
-use Rattle.std.proofs.Common.{◌≡◌, ℕ, ◌+◌, Bool, true, false, List, [], ◌∷◌, ◌++◌, map, Option, Some, None, String, Vec, refl, ap, ap₂, ◌∙◌}
-use Rattle.std.specs.List.{AllZip}
-use Rattle.std.specs.declared.alloc.Global.{Global}
-use Rattle.prost_reflect_types.specs.declared.FieldDescriptorProto.{FieldDescriptorProto}
-use Rattle.prost_reflect_types.specs.declared.OneofDescriptorProto.{OneofDescriptorProto}
-use Rattle.prost_reflect_types.specs.declared.EnumValueDescriptorProto.{EnumValueDescriptorProto}
-use Rattle.prost_reflect_types.proofs.EqualContents.{SameText, SameBytes, SameField, SameOneof, SameEnumValue, SameEnum}
-use Rattle.prost_reflect_tables.specs.declared.tables.TableKind.{TableKind}
-use Rattle.prost_reflect_tables.specs.Names.{bracketed, without_dot}
-use Rattle.prost_reflect_tables.specs.Options.{bool_option, bool_in}
-use Rattle.prost_reflect_tables.specs.WrittenDefaults.{field_default}
-use Rattle.prost_reflect_tables.specs.Rows.{FieldRow, OneofRow, MessageRow}
-use Rattle.prost_reflect_tables.specs.Flat.{DefinitionRow, FlatMessageRow, FlatEnumRow, FlatRows}
-use Rattle.prost_reflect_tables.specs.Faults.{name_place, place_named, message_names, enum_names}
-use Rattle.prost_reflect_tables.specs.Linking.{Links, links_of, json_name_or, json_name, linked_identity, linked_value, linked_kind, linked_default, values_of_kind, linked_field, in_order, extended_place, is_place, belonging, fields_of_message, oneof_place, member_place, linked_oneof, oneofs_from, linked_message, messages_from, linked_enum, linked_rows}
+use Rattle.prost_reflect_tables.proofs.Common.{◌≡◌, ℕ, ◌+◌, Bool, true, false, List, [], ◌∷◌, ◌++◌, map, Option, Some, None, String, Vec, refl, ap, ap₂, ◌∙◌, AllZip, Global, FieldDescriptorProto, OneofDescriptorProto, EnumValueDescriptorProto, SameText, SameBytes, SameField, SameOneof, SameEnumValue, SameEnum, TableKind, bracketed, without_dot, bool_option, bool_in, field_default, FieldRow, OneofRow, MessageRow, DefinitionRow, FlatMessageRow, FlatEnumRow, FlatRows, name_place, place_named, message_names, enum_names, Links, links_of, json_name_or, json_name, linked_identity, linked_value, linked_kind, linked_default, values_of_kind, linked_field, in_order, extended_place, is_place, belonging, fields_of_message, oneof_place, member_place, linked_oneof, oneofs_from, linked_message, messages_from, linked_enum, linked_rows}
 use Rattle.prost_reflect_tables.proofs.SameRows.{zip_map, zip_filter, by_text, by_bytes, text_same, SameRow, SameParts, SameMessageRow, SameEnumRow, SameRows}
 
 -- IDENTITIES
@@ -87,11 +73,10 @@ oneof_linked fields ds es o p members r =
 oneofs_linked : (fields : List FieldRow) (ds es : List (DefinitionRow FieldDescriptorProto)) (o : ℕ) (os ps : List (DefinitionRow OneofDescriptorProto)) → AllZip (SameRow SameField) ds es → AllZip (SameRow SameOneof) os ps →
     oneofs_from fields ds o os ≡ oneofs_from fields es o ps
 oneofs_linked fields ds es o [] [] declared h = refl
-oneofs_linked fields ds es o [] (p ∷ ps) declared h = absurd h
-oneofs_linked fields ds es o (q ∷ qs) [] declared h = absurd h
 oneofs_linked fields ds es o (q ∷ qs) (p ∷ ps) declared h = ap₂ (λ (r : OneofRow) (rs : List OneofRow). r ∷ rs)
     (oneof_linked fields (belonging oneof_place ds o) (belonging oneof_place es o) q p (belonging_same oneof_place (λ d e r. let index = r.proto.oneof_index in rw index) ds es o declared) h.0)
     (oneofs_linked fields ds es (o + 1) qs ps declared h.1)
+oneofs_linked fields ds es o _ _ declared h = absurd h
 
 -- MESSAGES AND ENUMS
 
@@ -105,11 +90,10 @@ message_linked fields m n r =
 
 messages_linked : (links : Links) (ds es : List (DefinitionRow FieldDescriptorProto)) (T : ℕ) (ms ns : List FlatMessageRow) → AllZip (SameRow SameField) ds es → AllZip SameMessageRow ms ns → messages_from links ds T ms ≡ messages_from links es T ns
 messages_linked links ds es T [] [] extensions h = refl
-messages_linked links ds es T [] (n ∷ ns) extensions h = absurd h
-messages_linked links ds es T (m ∷ ms) [] extensions h = absurd h
 messages_linked links ds es T (m ∷ ms) (n ∷ ns) extensions h = ap₂ (λ (r : MessageRow) (rs : List MessageRow). r ∷ rs)
     (ap (λ (fs : List FieldRow). linked_message fs m) (message_fields links ds es T m n extensions h.0) ∙ message_linked (fields_of_message links es T n) m n h.0)
     (messages_linked links ds es (T + 1) ms ns extensions h.1)
+messages_linked links ds es T _ _ extensions h = absurd h
 
 value_linked : (v w : DefinitionRow EnumValueDescriptorProto) → SameRow SameEnumValue v w → linked_value v ≡ linked_value w
 value_linked v w r =

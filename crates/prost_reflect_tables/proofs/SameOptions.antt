@@ -1,15 +1,5 @@
 -- Files of equal contents have the same written defaults, map entries and options.
-use Rattle.std.proofs.Common.{◌≡◌, ℕ, nat_eq, true, not, ◌&&◌, ◌||◌, List, [], ◌∷◌, Option, String, Vec, is_some, refl, ap, ◌∙◌}
-use Rattle.std.specs.List.{AllZip, list_any}
-use Rattle.std.proofs.lemmas.List.Elements.{length_all_zip}
-use Rattle.std.specs.declared.alloc.Global.{Global}
-use Rattle.prost_reflect_types.specs.declared.FieldDescriptorProto.{FieldDescriptorProto}
-use Rattle.prost_reflect_types.specs.declared.MethodDescriptorProto.{MethodDescriptorProto}
-use Rattle.prost_reflect_types.proofs.EqualContents.{SameText, SameBytes, SameExtensionRange, SameField, SameMethod}
-use Rattle.prost_reflect_tables.specs.Flat.{DefinitionRow, FlatMessageRow, FlatRows}
-use Rattle.prost_reflect_tables.specs.Linking.{Links, links_of, linked_kind}
-use Rattle.prost_reflect_tables.specs.DefaultFaults.{default_misplaced, default_unread, default_bad, bad_default, float_default_bad, float_default}
-use Rattle.prost_reflect_tables.specs.EntryFaults.{is_entry, is_entry_key, is_entry_value, is_key_and_value, entry_bad, is_entry_message, names_entry, is_of_entry, wrongly_of_entry, method_of_entry, bad_map_entry}
+use Rattle.prost_reflect_tables.proofs.Common.{◌≡◌, ℕ, nat_eq, true, not, ◌&&◌, ◌||◌, List, [], ◌∷◌, Option, String, Vec, is_some, refl, ap, ◌∙◌, AllZip, list_any, length_all_zip, Global, FieldDescriptorProto, MethodDescriptorProto, SameText, SameBytes, SameExtensionRange, SameField, SameMethod, DefinitionRow, FlatMessageRow, FlatRows, Links, links_of, linked_kind, default_misplaced, default_unread, default_bad, bad_default, float_default_bad, float_default, is_entry, is_entry_key, is_entry_value, is_key_and_value, entry_bad, is_entry_message, names_entry, is_of_entry, wrongly_of_entry, method_of_entry, bad_map_entry}
 use Rattle.prost_reflect_tables.specs.OptionFaults.{bytes_suit_option, option_bad, bad_options}
 use Rattle.prost_reflect_tables.proofs.SameRows.{zip_any, by_text, by_bytes, SameRow, SameMessageRow, SameServiceRow, SameRows}
 use Rattle.prost_reflect_tables.proofs.SameLinked.{place_same, option_same, default_same, links_same}

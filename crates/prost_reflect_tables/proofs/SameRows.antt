@@ -1,11 +1,5 @@
 -- Rows that hold the same, wherever it lies in memory.
-use Rattle.std.proofs.Common.{◌≡◌, ℕ, Bool, true, false, cond, ◌||◌, List, [], ◌∷◌, ◌++◌, map, Option, Some, None, String, string_bytes, Vec, refl, sym, ap, ap₂, ◌∙◌}
-use Rattle.std.specs.Prelude.{filter}
-use Rattle.std.specs.List.{AllZip, list_any}
-use Rattle.std.specs.declared.alloc.Global.{Global}
-use Rattle.prost_reflect_types.proofs.EqualContents.{SameText, SameBytes, SameExtensionRange, SameReservedRange, SameField, SameOneof, SameEnumValue, SameEnum, SameMethod, SameService}
-use Rattle.prost_reflect_tables.specs.Names.{text_or_empty}
-use Rattle.prost_reflect_tables.specs.Flat.{DefinitionRow, MessageParts, FlatMessageRow, FlatEnumRow, FlatServiceRow, FlatRows, Given}
+use Rattle.prost_reflect_tables.proofs.Common.{◌≡◌, ℕ, Bool, true, false, cond, ◌||◌, List, [], ◌∷◌, ◌++◌, map, Option, Some, None, String, string_bytes, Vec, refl, sym, ap, ap₂, ◌∙◌, filter, AllZip, list_any, Global, SameText, SameBytes, SameExtensionRange, SameReservedRange, SameField, SameOneof, SameEnumValue, SameEnum, SameMethod, SameService, text_or_empty, DefinitionRow, MessageParts, FlatMessageRow, FlatEnumRow, FlatServiceRow, FlatRows, Given}
 
 -- LISTS
 
@@ -20,15 +14,13 @@ zip_map R f = zip_maps R f f
 
 pub zip_append : {X : Type 0} (R : X → X → Type 0) (xs ys vs ws : List X) → AllZip R xs ys → AllZip R vs ws → AllZip R (xs ++ vs) (ys ++ ws)
 zip_append R [] [] vs ws h k = k
-zip_append R [] (y ∷ ys) vs ws h k = absurd h
-zip_append R (x ∷ xs) [] vs ws h k = absurd h
 zip_append R (x ∷ xs) (y ∷ ys) vs ws h k = (h.0, zip_append R xs ys vs ws h.1 k)
+zip_append R _ _ vs ws h k = absurd h
 
 pub zip_any : {X Z : Type 0} (R : X → Z → Type 0) (p : X → Bool) (q : Z → Bool) → ((x : X) (z : Z) → R x z → p x ≡ q z) → (xs : List X) (zs : List Z) → AllZip R xs zs → list_any p xs ≡ list_any q zs
 zip_any R p q each [] [] h = refl
-zip_any R p q each [] (z ∷ zs) h = absurd h
-zip_any R p q each (x ∷ xs) [] h = absurd h
 zip_any R p q each (x ∷ xs) (z ∷ zs) h = ap₂ (λ (a b : Bool). a || b) (each x z h.0) (zip_any R p q each xs zs h.1)
+zip_any R p q each _ _ h = absurd h
 
 pub zip_filter : {X : Type 0} (R : X → X → Type 0) (p : X → Bool) → ((x y : X) → R x y → p x ≡ p y) → (xs ys : List X) → AllZip R xs ys → AllZip R (filter p xs) (filter p ys)
 zip_filter R p each [] [] h = tt

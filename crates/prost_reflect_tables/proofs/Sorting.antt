@@ -1,12 +1,7 @@
 -- Two lists in ascending order of numbers, in which equal numbers stand in one order, are one list.
-use Rattle.std.proofs.Common.{◌≡◌, ◌≢◌, ℕ, suc, ◌<◌, ◌≤◌, Bool, true, false, cond, not, ◌&&◌, List, [], ◌∷◌, map, length, get_or, refl, sym, ap, ◌∙◌, arith, ⊎_elim}
-use Rattle.std.specs.Prelude.{nat_le, nat_eq, filter}
-use Rattle.std.specs.List.Sorted.{IsNonDecreasingBy, IsStableByKey, ties}
-use Rattle.std.specs.Ordering.{nat_cmp, is_lt}
-use Rattle.std.proofs.lemmas.Bool.{cases_lt, eq-eqb, ne_eqb, eqb-true}
-use Rattle.prost_reflect_tables.specs.declared.tables.FieldTable.{FieldTable}
-use Rattle.prost_reflect_tables.specs.Rows.{FieldRow, field_row}
-use Rattle.prost_reflect_tables.specs.Linking.{put_in_order, in_order}
+use Rattle.prost_reflect_tables.proofs.Common.{◌≡◌, ◌≢◌, ℕ, suc, ◌<◌, ◌≤◌, Bool, true, false, cond, not, ◌&&◌, List, [], ◌∷◌, map, length, get_or, refl, sym, ap, ◌∙◌, arith, ⊎_elim, nat_le, nat_eq, filter, IsNonDecreasingBy, IsStableByKey, ties, nat_cmp, is_lt, cases_lt, eq-eqb, ne_eqb, eqb-true, FieldTable, FieldRow, field_row, put_in_order, in_order}
+use Rattle.prost_reflect_laws.proofs.Alike.{filter_alike}
+use Rattle.prost_reflect_tables.proofs.Orders.{cons_none, same_head, same_tail}
 
 -- Each number is at least that of the item in front of it.
 abbrev pub Rising : {X : Type 0} → (X → ℕ) → ℕ → List X → Type 0
@@ -30,15 +25,6 @@ none_below n k low (x ∷ xs) less h =
 
 first_there : {X : Type 0} (n : X → ℕ) (x : X) (xs : List X) → with_number n (n x) (x ∷ xs) ≡ x ∷ with_number n (n x) xs
 first_there n x xs = rw (eq-eqb (n x) (n x) refl) refl
-
-cons_none : {X : Type 0} (x : X) (xs : List X) → x ∷ xs ≡ [] → ⊥
-cons_none x xs e = absurd cc
-
-same_head : {X : Type 0} (x y : X) (xs ys : List X) → x ∷ xs ≡ y ∷ ys → x ≡ y
-same_head x y xs ys e = cc
-
-same_tail : {X : Type 0} (x y : X) (xs ys : List X) → x ∷ xs ≡ y ∷ ys → xs ≡ ys
-same_tail x y xs ys e = cc
 
 -- Behind equal items the items of each number are equal too.
 tails_alike : {X : Type 0} (n : X → ℕ) (x : X) (xs ys : List X) → ((k : ℕ) → with_number n k (x ∷ xs) ≡ with_number n k (x ∷ ys)) → (k : ℕ) → with_number n k xs ≡ with_number n k ys
@@ -126,10 +112,6 @@ rows_there k (f ∷ fields) = go (nat_eq f.number k) (rows_there k fields)
     go true e = ap (λ rest. field_row f ∷ rest) e
     go false e = e
 
-same_filter : {X : Type 0} (p q : X → Bool) (xs : List X) → ((x : X) → p x ≡ q x) → filter p xs ≡ filter q xs
-same_filter p q [] h = refl
-same_filter p q (x ∷ xs) h = rw (h x, same_filter p q xs h) refl
-
 tied : (a b : ℕ) → (not (is_lt (nat_cmp a b)) && not (is_lt (nat_cmp b a))) ≡ nat_eq b a
 tied a b = grind arith
 
@@ -147,7 +129,7 @@ stable_there {X} n old new stable k = go (with_number n k new) (with_number n k 
     at : (x : X) → n x ≡ k → with_number n k new ≡ with_number n k old
     at x is =
         let alike : (y : X) → ties (λ a b. is_lt (nat_cmp (n a) (n b))) x y ≡ nat_eq (n y) k = λ y. tied (n x) (n y) ∙ ap (nat_eq (n y)) is in
-        sym (same_filter _ _ new alike) ∙ (stable x ∙ same_filter _ _ old alike)
+        sym (filter_alike _ _ new alike) ∙ (stable x ∙ filter_alike _ _ old alike)
 
     go : (a b : List X) → with_number n k new ≡ a → with_number n k old ≡ b → with_number n k new ≡ with_number n k old
     go (x ∷ a) b e f = at x (head_number n k new x a e)

@@ -1,21 +1,9 @@
 -- A number is in one of some ranges exactly where it is in the last of their spans in order that starts at it or below.
-use Rattle.std.proofs.Common.{◌≡◌, ℕ, zero, suc, ◌+◌, ◌<◌, ◌≤◌, ℤ, pos, negsuc, Bool, true, false, cond, ◌&&◌, ◌||◌, List, [], ◌∷◌, ◌++◌, map, length, take, get_or, Option, Some, None, slice_get, refl, sym, ap, ◌∙◌, subst, ◌-◌, arith, ⊎_elim}
-use Rattle.std.specs.Prelude.{nat_le, nat_lt, int_le, int_lt, not, Vec}
-use Rattle.std.specs.List.{list_any}
-use Rattle.std.specs.List.Sorted.{IsNonDecreasingBy, IsPartitionPoint, IsPermutation}
-use Rattle.std.specs.declared.alloc.Global.{Global}
-use Rattle.std.proofs.lemmas.List.{take_more, map-append, get_or_default}
+use Rattle.prost_reflect_tables.proofs.Common.{◌≡◌, ℕ, zero, suc, ◌+◌, ◌<◌, ◌≤◌, ℤ, pos, negsuc, Bool, true, false, cond, ◌&&◌, ◌||◌, List, [], ◌∷◌, ◌++◌, map, length, take, get_or, Option, Some, None, slice_get, refl, sym, ap, ◌∙◌, subst, ◌-◌, arith, ⊎_elim, nat_le, nat_lt, int_le, int_lt, not, Vec, list_any, IsNonDecreasingBy, IsPartitionPoint, IsPermutation, Global, take_more, map-append, get_or_default, list_any_at, cases_lt, FlatMessage, FlatMessageRow, message_row, flat_rows, is_in_range, is_out_of, number_or_zero, natural_or_zero}
 use Rattle.std.proofs.lemmas.List.Sorted.{list_any-IsPermutation}
-use Rattle.std.proofs.lemmas.List.Folds.{list_any_at}
-use Rattle.std.proofs.lemmas.Bool.{cases_lt}
 use Rattle.prost_reflect_types.specs.declared.ExtensionRange.{ExtensionRange}
 use Rattle.prost_reflect_tables.specs.declared.build.flatten.Flat.{Flat}
-use Rattle.prost_reflect_tables.specs.declared.build.flatten.FlatMessage.{FlatMessage}
-use Rattle.prost_reflect_tables.specs.Flat.{FlatMessageRow}
-use Rattle.prost_reflect_tables.specs.FlatViews.{message_row, flat_rows}
-use Rattle.prost_reflect_tables.specs.Faults.{is_in_range, is_out_of, number_or_zero}
 use Rattle.prost_reflect_tables.specs.ResolvedFaults.{flat_message_at}
-use Rattle.prost_reflect_tables.specs.Linking.{natural_or_zero}
 use Rattle.prost_reflect_tables.specs.Spans.{is_in_span, span_of, greater, reaching, AreSpansOf, AreSpansOfAll}
 use Rattle.prost_reflect_tables.proofs.Sorting.{Rising, rising_from}
 
@@ -146,8 +134,7 @@ spans_in_order ranges sorted moved up = record {
 spans_push : (all : List (Vec (ℕ × ℕ) Global)) (ms : List FlatMessageRow) (spans : Vec (ℕ × ℕ) Global) (m : FlatMessageRow) → AreSpansOfAll all ms → AreSpansOf spans.items m.definition.proto.extension_range → AreSpansOfAll (all ++ spans ∷ []) (ms ++ m ∷ [])
 spans_push [] [] spans m h is = (is, tt)
 spans_push (a ∷ all) (b ∷ ms) spans m h is = (h.0, spans_push all ms spans m h.1 is)
-spans_push [] (b ∷ ms) spans m h is = absurd h
-spans_push (a ∷ all) [] spans m h is = absurd h
+spans_push _ _ spans m h is = absurd h
 
 -- The spans of one message more.
 pub spans_more : (all : List (Vec (ℕ × ℕ) Global)) (spans : Vec (ℕ × ℕ) Global) (ms : List FlatMessage) (i : ℕ) (m : FlatMessage) → i < length ms → m ≡ get_or ms i m →
@@ -160,16 +147,14 @@ spans_more all spans ms i m h same so is = rw more (spans_push all (map message_
 pub spans_long : (all : List (Vec (ℕ × ℕ) Global)) (ms : List FlatMessage) → AreSpansOfAll all (map message_row ms) → length all ≡ length ms
 spans_long [] [] h = refl
 spans_long (a ∷ all) (m ∷ ms) h = ap suc (spans_long all ms h.1)
-spans_long [] (m ∷ ms) h = absurd h
-spans_long (a ∷ all) [] h = absurd h
+spans_long _ _ h = absurd h
 
 spans_at : (all : List (Vec (ℕ × ℕ) Global)) (ms : List FlatMessage) → AreSpansOfAll all (map message_row ms) → (i : ℕ) (s : Vec (ℕ × ℕ) Global) (m : FlatMessage) → i < length all →
     AreSpansOf (get_or all i s).items (message_row (get_or ms i m)).definition.proto.extension_range
-spans_at [] [] h i s m lt = absurd (omega (arith, lt))
 spans_at (a ∷ all) (b ∷ ms) h zero s m lt = h.0
 spans_at (a ∷ all) (b ∷ ms) h (suc i) s m lt = spans_at all ms h.1 i s m (omega (arith, lt))
-spans_at [] (b ∷ ms) h i s m lt = absurd h
-spans_at (a ∷ all) [] h i s m lt = absurd h
+spans_at [] [] h i s m lt = absurd (omega (arith, lt))
+spans_at _ _ h i s m lt = absurd h
 
 pub spans_found : (all : List (Vec (ℕ × ℕ) Global)) (ms : List FlatMessage) → AreSpansOfAll all (map message_row ms) → (i : ℕ) (s : Vec (ℕ × ℕ) Global) (m : FlatMessage) → i < length all → s ≡ get_or all i s → m ≡ get_or ms i m →
     AreSpansOf s.items (message_row m).definition.proto.extension_range

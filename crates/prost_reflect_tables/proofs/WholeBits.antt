@@ -1,10 +1,7 @@
 -- The bits that floating-point formats have for whole numbers.
-use Rattle.std.proofs.Common.{⊎_elim, ◌≡◌, ℕ, zero, suc, ◌+◌, ◌-◌, ◌*◌, ◌/◌, ◌^◌, ◌<◌, ◌≤◌, true, false, refl, sym, ap, ◌∙◌, subst, arith, add-one}
-use Rattle.std.specs.Prelude.{nat_le}
-use Rattle.std.proofs.lemmas.Bool.{cases_lt, ne_eqb}
+use Rattle.prost_reflect_tables.proofs.Common.{⊎_elim, ◌≡◌, ℕ, zero, suc, ◌+◌, ◌-◌, ◌*◌, ◌/◌, ◌^◌, ◌<◌, ◌≤◌, true, false, refl, sym, ap, ◌∙◌, subst, arith, add-one, nat_le, cases_lt, ne_eqb, greatest_exponent, bits_at, whole_bits}
 use Rattle.std.proofs.lemmas.Nat.{shl-shr, pow_pos}
 use Rattle.std.proofs.Math.Nat.{pow-succ', le_of_mul-le-mul_right, lt_of_mul-lt-mul_right, mul-le-mul, mul-le-mul_right, mul-lt-mul_of_pos_right, pow-le-pow_right, mul-sub, mul_comm, mul_assoc}
-use Rattle.prost_reflect_tables.specs.WrittenDefaults.{greatest_exponent, bits_at, whole_bits}
 
 pub power_fits : (f : ℕ) → f ≤ 52 → 2 ^ f ≤ 2 ^ 52
 power_fits f h = pow-le-pow_right {n = 2} (omega arith) h

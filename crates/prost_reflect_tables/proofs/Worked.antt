@@ -1,8 +1,6 @@
 -- The worked examples, by computing.
-use Rattle.std.proofs.Common.{refl}
+use Rattle.prost_reflect_tables.proofs.Common.{refl, is_utf8, chars, schema_from}
 use Rattle.std.specs.Char.{encode_utf8}
-use Rattle.std.specs.Str.{is_utf8, chars}
-use Rattle.prost_reflect_tables.specs.Shown.{schema_from}
 use Rattle.prost_reflect_tables.specs.Examples.{Tables, NotLinked}
 
 pub tables : Tables

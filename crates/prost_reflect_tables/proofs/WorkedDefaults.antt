@@ -1,6 +1,5 @@
 -- The written defaults of the examples, by computing.
-use Rattle.std.proofs.Common.{refl}
-use Rattle.prost_reflect_tables.specs.WrittenDefaults.{written_default, greatest_exponent, octal_digit, unescaped_in}
+use Rattle.prost_reflect_tables.proofs.Common.{refl, written_default, greatest_exponent, octal_digit, unescaped_in}
 use Rattle.prost_reflect_tables.specs.DefaultExamples.{Integers, NoIntegers, Floats, NoFloats, Others, NoOthers, Escapes, NoEscapes}
 
 pub integers : Integers

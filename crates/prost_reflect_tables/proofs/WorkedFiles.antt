@@ -1,10 +1,5 @@
 -- Worked examples of equal contents and equal tables.
-use Rattle.std.proofs.Common.{◌≡◌, ℕ, List, [], ◌∷◌, map, Some, None, String, string_bytes, Vec, refl, ap}
-use Rattle.std.specs.declared.alloc.Global.{Global}
-use Rattle.prost_reflect_types.specs.declared.FileDescriptorProto.{FileDescriptorProto}
-use Rattle.prost_reflect_types.specs.declared.EnumDescriptorProto.{EnumDescriptorProto}
-use Rattle.prost_reflect_types.specs.DescriptorViews.{of_text, of_bytes, of_records, of_enum, of_file}
-use Rattle.prost_reflect_types.proofs.EqualContents.{SameFile, file_same}
+use Rattle.prost_reflect_tables.proofs.Common.{◌≡◌, ℕ, List, [], ◌∷◌, map, Some, None, String, string_bytes, Vec, refl, ap, Global, FileDescriptorProto, EnumDescriptorProto, of_text, of_bytes, of_records, of_enum, of_file, SameFile, file_same}
 use Rattle.prost_reflect_tables.specs.FileLaws.{SameContents}
 use Rattle.prost_reflect_tables.specs.FileExamples.{ContentsAndTables}
 

@@ -1,8 +1,6 @@
 -- The worked examples of linking, by computing.
-use Rattle.std.proofs.Common.{refl}
+use Rattle.prost_reflect_tables.proofs.Common.{refl, is_utf8, chars, read}
 use Rattle.std.specs.Char.{encode_utf8}
-use Rattle.std.specs.Str.{is_utf8, chars}
-use Rattle.prost_reflect_wire.specs.Record.{read}
 use Rattle.prost_reflect_tables.specs.LinkingExamples.{OptionBytes, KindsAndLabels, PackedAndPresent, Orders, NamesInJson}
 
 pub option_bytes : OptionBytes

@@ -1,25 +1,10 @@
 -- The default of a field is a value of its kind.
-use Rattle.std.proofs.Common.{◌≡◌, ℕ, ℤ, ◌-◌, ◌^◌, Bool, true, false, cond, not, List, [], ◌∷◌, map, length, Option, Some, None, option_map, refl, sym, ap, ◌∙◌, subst, arith, slice_get, string_bytes, String, Global, nat_eq, nat_lt}
-use Rattle.std.specs.Str.{is_utf8, chars}
-use Rattle.std.specs.List.{list_any, list_all}
-use Rattle.std.specs.Ordering.{int_eq}
-use Rattle.std.proofs.lemmas.Bool.{and_from, and_parts, or_left, lt-ltb}
-use Rattle.std.proofs.lemmas.Bool.Decides.{Decides-int_eq}
-use Rattle.std.proofs.lemmas.Option.{slice_get-map}
+use Rattle.prost_reflect_tables.proofs.Common.{◌≡◌, ℕ, ℤ, ◌-◌, ◌^◌, Bool, true, false, cond, not, List, [], ◌∷◌, map, length, Option, Some, None, option_map, refl, sym, ap, ◌∙◌, subst, arith, slice_get, string_bytes, String, nat_eq, nat_lt, is_utf8, chars, list_any, list_all, int_eq, and_from, and_parts, or_left, lt-ltb, Decides-int_eq, slice_get-map, Scalar, Boolean, I32, I64, U32, U64, F32, F64, Text, Bytes, EnumNumber, ScalarKind, Open, Closed, in_i32, scalar_valid, ScalarOf, Schema, kind_valid, default_valid, FieldDescriptorProto, EnumValueDescriptorProto, TableKind, EnumValueRow, EnumRow, first_number, enum_kind, schema_kind, schema_default, signed, up_to, whole_number, float_bits, binary32, binary64, boolean, unescaped, number_named, written_default, field_default, DefinitionRow, FlatEnumRow, FlatRows, links_of, linked_kind, linked_default, linked_value, linked_enum, linked_rows, value_number, values_of_kind}
+use Rattle.std.proofs.Common.{Global}
 use Rattle.prost_reflect_laws.proofs.Spelt.{text_bytes}
 use Rattle.prost_reflect_types.proofs.SoundFields.{text_valid}
-use Rattle.prost_reflect_wire.specs.Scalar.{Scalar, Boolean, I32, I64, U32, U64, F32, F64, Text, Bytes, EnumNumber, ScalarKind, EnumNumbers, Open, Closed, in_i32, is_declared, kind_default, scalar_valid}
 use Rattle.prost_reflect_wire.specs.Scalar as scalars
-use Rattle.prost_reflect_wire.specs.Schema.{ScalarOf, Schema, kind_valid, default_valid}
-use Rattle.prost_reflect_types.specs.declared.FieldDescriptorProto.{FieldDescriptorProto}
-use Rattle.prost_reflect_types.specs.declared.EnumValueDescriptorProto.{EnumValueDescriptorProto}
-use Rattle.prost_reflect_tables.specs.declared.tables.TableKind.{TableKind}
 use Rattle.prost_reflect_tables.specs.declared.tables.TableKind.TheVariants as kinds
-use Rattle.prost_reflect_tables.specs.Rows.{EnumValueRow, EnumRow}
-use Rattle.prost_reflect_tables.specs.Shown.{first_number, enum_kind, schema_kind, schema_default}
-use Rattle.prost_reflect_tables.specs.WrittenDefaults.{signed, up_to, whole_number, float_bits, binary32, binary64, boolean, unescaped, number_named, written_default, field_default}
-use Rattle.prost_reflect_tables.specs.Flat.{DefinitionRow, FlatEnumRow, FlatRows}
-use Rattle.prost_reflect_tables.specs.Linking.{links_of, linked_kind, linked_default, linked_value, linked_enum, linked_rows, value_number, values_of_kind}
 use Rattle.prost_reflect_tables.proofs.Linkwell.Premises.{EnumChecked}
 use Rattle.prost_reflect_tables.proofs.Linkwell.Kinds.{is_scalar, FieldKind, NamesMessage, NamesEnum, IsScalar}
 use Rattle.prost_reflect_tables.proofs.Linkwell.WrittenValues.{numbers_of, up_to_limit, signed_i32, signed_i64, float_32, float_64, unescaped_are_bytes, named_number}
@@ -57,8 +42,7 @@ text_gives es kinds.Sfixed64 g values text v utf8 is e = given scalars.Sfixed64 
 text_gives es kinds.Bool g values text v utf8 is e = given scalars.BoolKind Boolean (boolean text) v e (λ b at. refl)
 text_gives es kinds.String g values text v utf8 is e = text_is text v utf8 e
 text_gives es kinds.Bytes g values text v utf8 is e = given scalars.BytesKind Bytes (unescaped text) v e (λ bytes at. unescaped_are_bytes text bytes (text_bytes text utf8) at)
-text_gives es (kinds.Message T) g values text v utf8 is e = absurd cc
-text_gives es (kinds.Enum E) g values text v utf8 is e = absurd cc
+text_gives es _ g values text v utf8 is e = absurd cc
 
 zero_valid : (es : List EnumRow) (k : TableKind) (g : Bool) → is_scalar k ≡ true → default_valid (schema_kind es k g) (schema_default None (schema_kind es k g)) ≡ true
 unfolding is_utf8 chars
@@ -77,8 +61,7 @@ zero_valid es kinds.Sfixed64 g is = refl
 zero_valid es kinds.Bool g is = refl
 zero_valid es kinds.String g is = refl
 zero_valid es kinds.Bytes g is = refl
-zero_valid es (kinds.Message T) g is = absurd cc
-zero_valid es (kinds.Enum E) g is = absurd cc
+zero_valid es _ g is = absurd cc
 
 -- ENUMS
 

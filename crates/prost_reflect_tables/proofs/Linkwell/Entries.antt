@@ -1,20 +1,7 @@
 -- An entry that passes the checks has a key and a value, the numbers 1 and 2, and no extension.
-use Rattle.std.proofs.Common.{◌⊎◌, inl, inr, ◌≡◌, ℕ, suc, ℤ, pos, negsuc, ◌+◌, Bool, true, false, cond, not, ◌&&◌, List, [], ◌∷◌, ◌++◌, map, length, Option, Some, None, is_some, is_none, refl, sym, ap, ◌∙◌, arith, slice_get, nat_eq}
-use Rattle.std.specs.Prelude.{option_and_then}
-use Rattle.std.specs.List.{list_any}
-use Rattle.std.proofs.lemmas.Bool.{and_parts, or_cases, not-true, not-false, eqb-true}
-use Rattle.prost_reflect_tables.specs.declared.tables.TableKind.{TableKind}
-use Rattle.prost_reflect_wire.specs.Schema.{kind_valid, is_key_kind, is_group}
-use Rattle.prost_reflect_types.specs.declared.FieldDescriptorProto.{FieldDescriptorProto}
+use Rattle.prost_reflect_tables.proofs.Common.{◌⊎◌, inl, inr, ◌≡◌, ℕ, suc, ℤ, pos, negsuc, ◌+◌, Bool, true, false, cond, not, ◌&&◌, List, [], ◌∷◌, ◌++◌, map, length, Option, Some, None, is_some, is_none, refl, sym, ap, ◌∙◌, arith, slice_get, nat_eq, option_and_then, list_any, and_parts, or_cases, not-true, not-false, eqb-true, TableKind, kind_valid, is_key_kind, is_group, FieldDescriptorProto, FieldRow, EnumRow, has_entry_numbers, schema_kind, schema_from, DefinitionRow, FlatMessageRow, FlatEnumRow, FlatRows, number_or_zero, is_code, is_member, message_names, place_named, message_named, is_in_range, is_out_of, extension_outside, is_entry, is_key_type, is_plain, is_entry_key, is_entry_value, is_key_and_value, entry_bad, is_of_entry, wrongly_of_entry, Links, links_of, natural_or_zero, is_place, is_group_code, belonging, extended_place, kind_of_code, linked_field, linked_rows, in_order, declared_fields, fields_of_message, place_or_first}
 use Rattle.prost_reflect_types.specs.declared.ExtensionRange.{ExtensionRange}
-use Rattle.prost_reflect_tables.specs.Rows.{FieldRow, EnumRow}
-use Rattle.prost_reflect_tables.specs.Linked.{has_entry_numbers}
-use Rattle.prost_reflect_tables.specs.Shown.{schema_kind, schema_from}
-use Rattle.prost_reflect_tables.specs.Flat.{DefinitionRow, FlatMessageRow, FlatEnumRow, FlatRows}
 use Rattle.prost_reflect_tables.specs.Faults as faults
-use Rattle.prost_reflect_tables.specs.Faults.{number_or_zero, is_code, is_member, message_names, place_named, message_named, is_in_range, is_out_of, extension_outside}
-use Rattle.prost_reflect_tables.specs.EntryFaults.{is_entry, is_key_type, is_plain, is_entry_key, is_entry_value, is_key_and_value, entry_bad, is_of_entry, wrongly_of_entry}
-use Rattle.prost_reflect_tables.specs.Linking.{Links, links_of, natural_or_zero, is_place, is_group_code, belonging, extended_place, kind_of_code, linked_field, linked_rows, in_order, declared_fields, fields_of_message, place_or_first}
 use Rattle.prost_reflect_tables.proofs.Linkwell.Premises.{FieldChecked, EnumChecked}
 use Rattle.prost_reflect_tables.proofs.Linkwell.Kinds.{Below, below_at, TypeCode, type_code, FieldKind}
 use Rattle.prost_reflect_tables.proofs.Linkwell.Shapes.{own_kind, EntrySound}
@@ -50,9 +37,8 @@ not_extended rows T m d at none inside is =
 -- THE KEY AND THE VALUE
 
 code_is : (n : ℕ) (o : Option ℤ) → is_code n o ≡ true → o ≡ Some (pos n)
-code_is n None h = absurd cc
-code_is n (Some (negsuc k)) h = absurd cc
 code_is n (Some (pos k)) h = ap (λ (i : ℕ). Some (pos i)) (eqb-true k n h)
+code_is n _ h = absurd cc
 
 pub record EntryFields (rows : FlatRows) (T : ℕ) (m : FlatMessageRow) : Type 0 where
   pub key : DefinitionRow FieldDescriptorProto
@@ -119,10 +105,8 @@ entry_fields rows T m at bad is inside =
         }
 
     by_fields : (fields : List (DefinitionRow FieldDescriptorProto)) → m.fields ≡ fields → is_key_and_value fields ≡ true → fields_of_message (links_of rows) rows.extensions (0 + T) m ≡ declared_fields (links_of rows) m.fields ++ [] → EntryFields rows T m
-    by_fields [] is h alone = absurd cc
-    by_fields (a ∷ []) is h alone = absurd cc
     by_fields (a ∷ b ∷ []) is h alone = two a b is alone (or_cases (is_entry_key a && is_entry_value b) (is_entry_value a && is_entry_key b) h)
-    by_fields (a ∷ b ∷ c ∷ fields) is h alone = absurd cc
+    by_fields _ is h alone = absurd cc
 
 pub entry_numbers : (rows : FlatRows) (T : ℕ) (m : FlatMessageRow) → EntryFields rows T m → has_entry_numbers (in_order (fields_of_message (links_of rows) rows.extensions (0 + T) m)) ≡ true
 entry_numbers rows T m e = ap has_entry_numbers e.shown ∙ rw (key_number (links_of rows) e.key e.is_key, value_number (links_of rows) e.value e.is_value) refl
@@ -208,8 +192,7 @@ single_no_entry rows d h one = go (is_of_entry rows d) (faults.has_repeated_labe
   where
     go : (a b : Bool) → (a && not (b && is_code 11 d.proto.type_)) ≡ false → b ≡ false → a ≡ false
     go false b h one = refl
-    go true false h one = absurd cc
-    go true true h one = absurd cc
+    go true _ h one = absurd cc
 
 pub entry_sound : (rows : FlatRows) (T : ℕ) (m : FlatMessageRow) (e : EntryFields rows T m) → FieldChecked rows e.key → FieldChecked rows e.value → FieldKind rows e.key → FieldKind rows e.value → ((E : ℕ) (x : FlatEnumRow) → slice_get rows.enums E ≡ Some x → EnumChecked x) →
     EntrySound (schema_from (linked_rows rows)) (linked_rows rows) (linked_field (links_of rows) false e.key) (linked_field (links_of rows) false e.value)

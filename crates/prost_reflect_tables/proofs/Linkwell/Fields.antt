@@ -1,28 +1,10 @@
 -- What linking makes of a field that passes the checks: its number, its presence, its lists, its place in a oneof, and its own type.
-use Rattle.std.proofs.Common.{◌≡◌, ℕ, ℤ, pos, negsuc, ◌+◌, Bool, true, false, cond, not, ◌&&◌, ◌||◌, List, length, Option, Some, None, is_some, refl, sym, ap, ◌∙◌, subst, arith, slice_get, nat_eq, nat_lt, String, Global}
-use Rattle.std.specs.Ordering.{int_cmp, is_eq}
-use Rattle.std.proofs.lemmas.Bool.{and_from, not-false, eqb-true, lt-ltb, leb-false}
-use Rattle.std.proofs.lemmas.Bool.Decides.{Decides-int_eq}
-use Rattle.std.proofs.lemmas.Option.{slice_get_within}
-use Rattle.prost_reflect_wire.specs.Record.{number_valid}
-use Rattle.prost_reflect_wire.specs.Scalar.{Scalar, ScalarKind, scalar_eq, kind_default}
+use Rattle.prost_reflect_tables.proofs.Common.{◌≡◌, ℕ, ℤ, pos, negsuc, ◌+◌, Bool, true, false, cond, not, ◌&&◌, ◌||◌, List, length, Option, Some, None, is_some, refl, sym, ap, ◌∙◌, subst, arith, slice_get, nat_eq, nat_lt, String, int_cmp, is_eq, and_from, not-false, eqb-true, lt-ltb, leb-false, Decides-int_eq, slice_get_within, number_valid, Scalar, ScalarKind, scalar_eq, kind_default, Kind, ScalarOf, MessageOf, GroupOf, Schema, message_type, kind_valid, is_packable_kind, is_bare, has_kind_default, is_group, FieldDescriptorProto, Cardinality, Optional, Required, Repeated, TableKind, FieldRow, MessageRow, EnumRow, kind_in_range, oneof_in_range, enum_kind, schema_kind, schema_default, is_required, own_type, schema_from, DefinitionRow, FlatMessageRow, FlatEnumRow, FlatRows, number_or_zero, is_field_number, number_bad, is_code, is_message_type, is_member, oneof_outside, is_entry, is_of_entry, names_entry, is_entry_message, default_misplaced, Links, links_of, natural_or_zero, place_in, is_message, is_packable, is_repeated, cardinality_of_label, linked_kind, linked_default, linked_field, linked_message, linked_rows, fields_of_message}
+use Rattle.std.proofs.Common.{Global}
 use Rattle.prost_reflect_wire.specs.Scalar as scalars
 use Rattle.prost_reflect_wire.specs.Schema as schemas
-use Rattle.prost_reflect_wire.specs.Schema.{Kind, ScalarOf, MessageOf, GroupOf, ValueType, Schema, message_type, kind_valid, is_packable_kind, is_bare, has_kind_default, message_has_presence, is_group}
-use Rattle.prost_reflect_types.specs.declared.FieldDescriptorProto.{FieldDescriptorProto}
-use Rattle.prost_reflect_tables.specs.declared.tables.Cardinality.{Cardinality}
-use Rattle.prost_reflect_tables.specs.declared.tables.Cardinality.TheVariants.{Optional, Required, Repeated}
-use Rattle.prost_reflect_tables.specs.declared.tables.TableKind.{TableKind}
 use Rattle.prost_reflect_tables.specs.declared.tables.TableKind.TheVariants as kinds
-use Rattle.prost_reflect_tables.specs.Rows.{FieldRow, MessageRow, EnumRow}
-use Rattle.prost_reflect_tables.specs.Linked.{kind_in_range, oneof_in_range}
-use Rattle.prost_reflect_tables.specs.Shown.{enum_kind, schema_kind, schema_default, is_required, own_type, schema_from}
-use Rattle.prost_reflect_tables.specs.Flat.{DefinitionRow, FlatMessageRow, FlatEnumRow, FlatRows}
 use Rattle.prost_reflect_tables.specs.Faults as faults
-use Rattle.prost_reflect_tables.specs.Faults.{number_or_zero, is_field_number, number_bad, is_code, is_message_type, repeated_member, is_member, is_outside, oneof_outside}
-use Rattle.prost_reflect_tables.specs.EntryFaults.{is_entry, is_of_entry, names_entry, is_entry_message}
-use Rattle.prost_reflect_tables.specs.DefaultFaults.{default_misplaced}
-use Rattle.prost_reflect_tables.specs.Linking.{Links, links_of, natural_or_zero, place_in, is_message, is_packable, is_repeated, cardinality_of_label, linked_kind, linked_default, linked_field, linked_message, linked_rows, fields_of_message}
 use Rattle.prost_reflect_tables.proofs.Linkwell.Items.{message_at, messages_length}
 use Rattle.prost_reflect_tables.proofs.Linkwell.Premises.{FieldChecked, EnumChecked}
 use Rattle.prost_reflect_tables.proofs.Linkwell.Kinds.{is_scalar, FieldKind, NamesMessage, NamesEnum, IsScalar}
@@ -32,9 +14,8 @@ use Rattle.prost_reflect_tables.proofs.Linkwell.Defaults.{enum_kind_valid, enum_
 -- NUMBERS
 
 number_found : (o : Option ℤ) → not (is_field_number (number_or_zero o)) ≡ false → (number_valid (natural_or_zero o) ≡ true) × (number_or_zero o ≡ pos (natural_or_zero o))
-number_found None h = absurd cc
 number_found (Some (pos n)) h = (not-false (number_valid n) h, refl)
-number_found (Some (negsuc n)) h = absurd cc
+number_found _ h = absurd cc
 
 pub number_in_range : (d : DefinitionRow FieldDescriptorProto) → number_bad d ≡ false → number_valid (natural_or_zero d.proto.number) ≡ true
 number_in_range d h = (number_found d.proto.number h).0
@@ -64,9 +45,8 @@ unfolding linked_field
 repeated_shown links x d = label_shown d.proto.label
 
 pub is_repeated_label : (c : Cardinality) → is_repeated c ≡ true → c ≡ Repeated
-is_repeated_label Optional h = absurd cc
-is_repeated_label Required h = absurd cc
 is_repeated_label Repeated h = refl
+is_repeated_label _ h = absurd cc
 
 never_required : (c : Cardinality) → is_repeated c ≡ true → is_required c ≡ false
 never_required Optional h = refl
@@ -127,8 +107,7 @@ list_default d h rep = go (is_some d.proto.default_value) (faults.has_repeated_l
   where
     go : (a b : Bool) → (a && (b || is_message_type d.proto.type_ || d.is_proto3)) ≡ false → b ≡ true → a ≡ false
     go false b h rep = refl
-    go true true h rep = absurd cc
-    go true false h rep = absurd cc
+    go true _ h rep = absurd cc
 
 -- PRESENCE AND ONEOFS
 
@@ -140,13 +119,11 @@ presence_of_message false true false true b c h = refl
 presence_of_message false true false false b c h = refl
 
 presence_of_member : (rep m a x b c : Bool) → rep ≡ false → x ≡ false → b ≡ true → ((not rep && (a || x || m || b || c)) && not x) ≡ true
-presence_of_member true m a x b c r n s = absurd cc
-presence_of_member false m a true b c r n s = absurd cc
-presence_of_member false m a false false c r n s = absurd cc
 presence_of_member false true true false true c r n s = refl
 presence_of_member false true false false true c r n s = refl
 presence_of_member false false true false true c r n s = refl
 presence_of_member false false false false true c r n s = refl
+presence_of_member _ m a _ _ c r n s = absurd cc
 
 placed_member : (o : Option ℤ) → is_some (place_in o) ≡ true → is_some o ≡ true
 placed_member None h = h

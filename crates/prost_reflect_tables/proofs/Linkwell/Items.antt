@@ -1,12 +1,5 @@
 -- What tests say of the items of lists, and the linked messages place by place.
-use Rattle.std.proofs.Common.{◌≡◌, ℕ, zero, suc, ◌+◌, Bool, true, false, cond, ◌&&◌, List, [], ◌∷◌, length, Option, Some, refl, sym, ap, ◌∙◌, subst, arith, slice_get}
-use Rattle.std.specs.Prelude.{nat_le}
-use Rattle.std.specs.List.{list_any, list_all}
-use Rattle.std.proofs.lemmas.Bool.{or_parts, and_from, and_parts}
-use Rattle.prost_reflect_types.specs.declared.FieldDescriptorProto.{FieldDescriptorProto}
-use Rattle.prost_reflect_tables.specs.Rows.{FieldRow, MessageRow}
-use Rattle.prost_reflect_tables.specs.Flat.{DefinitionRow, FlatMessageRow}
-use Rattle.prost_reflect_tables.specs.Linking.{Links, put_in_order, in_order, is_place, belonging, fields_of_message, linked_message, messages_from}
+use Rattle.prost_reflect_tables.proofs.Common.{◌≡◌, ℕ, zero, suc, ◌+◌, Bool, true, false, cond, ◌&&◌, List, [], ◌∷◌, length, Option, Some, refl, sym, ap, ◌∙◌, subst, arith, slice_get, nat_le, list_any, list_all, or_parts, and_from, and_parts, FieldDescriptorProto, FieldRow, MessageRow, DefinitionRow, FlatMessageRow, Links, put_in_order, in_order, is_place, belonging, fields_of_message, linked_message, messages_from}
 
 -- Where no item passes a test, none does at a place.
 pub none_at : {X : Type 0} (t : X → Bool) (xs : List X) (i : ℕ) (x : X) → list_any t xs ≡ false → slice_get xs i ≡ Some x → t x ≡ false

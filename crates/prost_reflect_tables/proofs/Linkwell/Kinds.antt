@@ -1,15 +1,7 @@
 -- What the type codes say of kinds, and what stands at the places that they name.
-use Rattle.std.proofs.Common.{⊎_elim, ◌≡◌, ℕ, zero, suc, ℤ, pos, negsuc, ◌+◌, ◌<◌, ◌≤◌, Bool, true, false, cond, not, ◌&&◌, ◌||◌, List, [], ◌∷◌, map, Option, Some, None, refl, sym, ap, ◌∙◌, subst, arith, slice_get, string_bytes, is_none, String, Global, bytes_eq, unwrap_or, inl, inr, ◌⊎◌}
-use Rattle.std.specs.Prelude.{nat_lt, nat_le}
-use Rattle.std.specs.List.{position_from}
-use Rattle.std.proofs.lemmas.Bool.{cases_lt, and_parts, or_parts, not-false, ltb-true, leb-true}
-use Rattle.prost_reflect_types.specs.declared.FieldDescriptorProto.{FieldDescriptorProto}
-use Rattle.prost_reflect_tables.specs.declared.tables.TableKind.{TableKind}
+use Rattle.prost_reflect_tables.proofs.Common.{⊎_elim, ◌≡◌, ℕ, zero, suc, ℤ, pos, ◌+◌, ◌<◌, ◌≤◌, Bool, true, false, cond, not, ◌&&◌, ◌||◌, List, [], ◌∷◌, map, Option, Some, None, refl, sym, ap, ◌∙◌, subst, arith, slice_get, string_bytes, is_none, String, bytes_eq, unwrap_or, inl, inr, ◌⊎◌, nat_lt, nat_le, position_from, cases_lt, and_parts, or_parts, not-false, ltb-true, leb-true, FieldDescriptorProto, TableKind, without_dot, DefinitionRow, FlatMessageRow, FlatEnumRow, FlatRows, name_place, message_names, enum_names, names_nothing, number_or_zero, is_type, is_message_type, is_enum_type, type_missing, type_unknown, message_named, place_or_first, kind_of_code, linked_kind, links_of, natural_or_zero}
+use Rattle.std.proofs.Common.{Global}
 use Rattle.prost_reflect_tables.specs.declared.tables.TableKind.TheVariants.{Message, Enum}
-use Rattle.prost_reflect_tables.specs.Names.{without_dot}
-use Rattle.prost_reflect_tables.specs.Flat.{DefinitionRow, FlatMessageRow, FlatEnumRow, FlatRows}
-use Rattle.prost_reflect_tables.specs.Faults.{name_place, message_names, enum_names, names_nothing, number_or_zero, is_type, is_message_type, is_enum_type, type_missing, type_unknown, message_named}
-use Rattle.prost_reflect_tables.specs.Linking.{place_or_first, kind_of_code, linked_kind, links_of, natural_or_zero}
 
 -- Neither a message nor an enum.
 abbrev pub is_scalar : TableKind → Bool
@@ -83,11 +75,10 @@ pub type_code : (d : DefinitionRow FieldDescriptorProto) → type_missing d ≡ 
 type_code d h = go d.proto.type_ refl (or_parts (not (is_type (number_or_zero d.proto.type_))) _ h).0
   where
     go : (o : Option ℤ) → d.proto.type_ ≡ o → not (is_type (number_or_zero o)) ≡ false → TypeCode d
-    go None e bad = absurd cc
-    go (Some (negsuc n)) e bad = absurd cc
     go (Some (pos n)) e bad =
         let within = and_parts (nat_lt 0 n) (nat_le n 18) (not-false (nat_lt 0 n && nat_le n 18) bad) in
         record { code = n; is = e; some = ltb-true 0 n within.0; top = leb-true n 18 within.1 }
+    go _ e bad = absurd cc
 
 -- NAMES
 

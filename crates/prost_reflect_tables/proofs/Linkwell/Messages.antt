@@ -1,18 +1,6 @@
 -- Numbers in a message and its extensions differ, and members of its oneofs are among its fields.
-use Rattle.std.proofs.Common.{◌≡◌, ℕ, zero, suc, ℤ, pos, ◌+◌, ◌<◌, ◌≤◌, ◌^◌, Bool, true, false, cond, ◌&&◌, List, [], ◌∷◌, ◌++◌, map, length, filter, Option, Some, None, refl, sym, ap, ◌∙◌, subst, arith, slice_get, nat_eq, nat_lt, length-append}
-use Rattle.std.specs.Ordering.{int_eq}
-use Rattle.std.specs.List.{list_all}
-use Rattle.std.proofs.lemmas.Bool.{and_from, eqb-true, eq-eqb, ltb-true, lt-ltb}
-use Rattle.std.proofs.lemmas.Bool.Decides.{Decides-int_eq}
-use Rattle.std.proofs.lemmas.List.Folds.{list_all-append, list_all-map}
+use Rattle.prost_reflect_tables.proofs.Common.{◌≡◌, ℕ, zero, suc, ℤ, pos, ◌+◌, ◌<◌, ◌≤◌, ◌^◌, Bool, true, false, cond, ◌&&◌, List, [], ◌∷◌, ◌++◌, map, length, filter, Option, Some, None, refl, sym, ap, ◌∙◌, subst, arith, slice_get, nat_eq, nat_lt, length-append, int_eq, list_all, and_from, eqb-true, eq-eqb, ltb-true, lt-ltb, Decides-int_eq, list_all-append, list_all-map, FieldDescriptorProto, OneofDescriptorProto, FieldRow, ascending_from, oneof_linked, DefinitionRow, FlatMessageRow, FlatRows, number_or_zero, number_bad, message_names, place_named, Numbered, numbered_fields, numbered_in, numbered_at, numbered_extensions, all_numbered, same_numbered, Links, links_of, natural_or_zero, is_place, belonging, extended_place, linked_field, declared_fields, fields_of_message, in_order, oneof_place, member_place, oneofs_from}
 use Rattle.prost_reflect_wire.proofs.Survivors.{filter_append}
-use Rattle.prost_reflect_types.specs.declared.FieldDescriptorProto.{FieldDescriptorProto}
-use Rattle.prost_reflect_types.specs.declared.OneofDescriptorProto.{OneofDescriptorProto}
-use Rattle.prost_reflect_tables.specs.Rows.{FieldRow}
-use Rattle.prost_reflect_tables.specs.Linked.{ascending_from, oneof_linked}
-use Rattle.prost_reflect_tables.specs.Flat.{DefinitionRow, FlatMessageRow, FlatRows}
-use Rattle.prost_reflect_tables.specs.Faults.{number_or_zero, number_bad, message_names, place_named, Numbered, numbered_fields, numbered_in, numbered_at, numbered_extensions, all_numbered, same_numbered}
-use Rattle.prost_reflect_tables.specs.Linking.{Links, links_of, natural_or_zero, is_place, belonging, extended_place, linked_field, declared_fields, fields_of_message, in_order, oneof_place, member_place, oneofs_from}
 use Rattle.prost_reflect_tables.proofs.Sorting.{with_number, order_there}
 use Rattle.prost_reflect_tables.proofs.Linkwell.Items.{all_from, all_belonging, all_in_order}
 use Rattle.prost_reflect_tables.proofs.Linkwell.Numbers.{number_of, in_number_range, AtMostOne, order_ascends, count_same, count_append}
@@ -158,19 +146,20 @@ member_there links extensions T i m d at =
     let sorted : length (with_number number_of k (in_order all)) ≡ length (with_number number_of k all) = ap length (order_there k all) in
     lt-ltb (member_place (in_order all) d) (length (in_order all)) (omega (arith, some, sorted, smaller_and_same k (in_order all)))
 
-members_there : (links : Links) (extensions : List (DefinitionRow FieldDescriptorProto)) (T : ℕ) (m : FlatMessageRow) (o : ℕ) →
-    list_all (λ (i : ℕ). nat_lt i (length (in_order (fields_of_message links extensions T m)))) (map (member_place (in_order (fields_of_message links extensions T m))) (belonging oneof_place m.fields o)) ≡ true
-members_there links extensions T m o =
-    list_all-map (λ (i : ℕ). nat_lt i (length (in_order (fields_of_message links extensions T m)))) (member_place (in_order (fields_of_message links extensions T m))) (belonging oneof_place m.fields o)
-    ∙ all_belonging oneof_place o (λ (d : DefinitionRow FieldDescriptorProto). nat_lt (member_place (in_order (fields_of_message links extensions T m)) d) (length (in_order (fields_of_message links extensions T m)))) m.fields (λ i d at is. member_there links extensions T i m d at)
+module _ (links : Links) (extensions : List (DefinitionRow FieldDescriptorProto)) (T : ℕ) (m : FlatMessageRow) where
+  members_there : (o : ℕ) →
+      list_all (λ (i : ℕ). nat_lt i (length (in_order (fields_of_message links extensions T m)))) (map (member_place (in_order (fields_of_message links extensions T m))) (belonging oneof_place m.fields o)) ≡ true
+  members_there o =
+      list_all-map (λ (i : ℕ). nat_lt i (length (in_order (fields_of_message links extensions T m)))) (member_place (in_order (fields_of_message links extensions T m))) (belonging oneof_place m.fields o)
+      ∙ all_belonging oneof_place o (λ (d : DefinitionRow FieldDescriptorProto). nat_lt (member_place (in_order (fields_of_message links extensions T m)) d) (length (in_order (fields_of_message links extensions T m)))) m.fields (λ i d at is. member_there links extensions T i m d at)
 
-oneofs_there : (links : Links) (extensions : List (DefinitionRow FieldDescriptorProto)) (T : ℕ) (m : FlatMessageRow) (o : ℕ) (ds : List (DefinitionRow OneofDescriptorProto)) →
-    list_all (oneof_linked (length (in_order (fields_of_message links extensions T m)))) (oneofs_from (in_order (fields_of_message links extensions T m)) m.fields o ds) ≡ true
-oneofs_there links extensions T m o [] = refl
-oneofs_there links extensions T m o (d ∷ ds) = rw (members_there links extensions T m o) (oneofs_there links extensions T m (o + 1) ds)
+  oneofs_there : (o : ℕ) (ds : List (DefinitionRow OneofDescriptorProto)) →
+      list_all (oneof_linked (length (in_order (fields_of_message links extensions T m)))) (oneofs_from (in_order (fields_of_message links extensions T m)) m.fields o ds) ≡ true
+  oneofs_there o [] = refl
+  oneofs_there o (d ∷ ds) = rw (members_there o) (oneofs_there (o + 1) ds)
 
-pub oneofs_linked : (links : Links) (extensions : List (DefinitionRow FieldDescriptorProto)) (T : ℕ) (m : FlatMessageRow) → list_all (oneof_linked (length (in_order (fields_of_message links extensions T m)))) (oneofs_from (in_order (fields_of_message links extensions T m)) m.fields 0 m.oneofs) ≡ true
-oneofs_linked links extensions T m = oneofs_there links extensions T m 0 m.oneofs
+  pub oneofs_linked : list_all (oneof_linked (length (in_order (fields_of_message links extensions T m)))) (oneofs_from (in_order (fields_of_message links extensions T m)) m.fields 0 m.oneofs) ≡ true
+  oneofs_linked = oneofs_there 0 m.oneofs
 
 pub oneofs_length : (fields : List FieldRow) (declared : List (DefinitionRow FieldDescriptorProto)) (o : ℕ) (ds : List (DefinitionRow OneofDescriptorProto)) → length (oneofs_from fields declared o ds) ≡ length ds
 oneofs_length fields declared o [] = refl

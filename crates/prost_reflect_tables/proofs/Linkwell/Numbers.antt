@@ -1,14 +1,6 @@
 -- Numbers of fields: they differ, are in range, and ascend.
-use Rattle.std.proofs.Common.{◌≡◌, ◌≢◌, ℕ, ◌+◌, ◌<◌, ◌≤◌, ◌^◌, Bool, true, false, cond, ◌&&◌, List, [], ◌∷◌, ◌++◌, length, filter, refl, sym, ap, ◌∙◌, subst, arith, append_assoc, length-append}
-use Rattle.std.specs.Prelude.{nat_lt, nat_eq}
-use Rattle.std.specs.List.{list_any, list_all}
-use Rattle.std.proofs.lemmas.Bool.{or_parts, and_from, and_parts, eq-eqb, ne_eqb, ltb-true, lt-ltb}
-use Rattle.std.proofs.lemmas.Bool.Decides.{Decides-int_eq}
+use Rattle.prost_reflect_tables.proofs.Common.{◌≡◌, ◌≢◌, ℕ, ◌+◌, ◌<◌, ◌≤◌, ◌^◌, Bool, true, false, cond, ◌&&◌, List, [], ◌∷◌, ◌++◌, length, filter, refl, sym, ap, ◌∙◌, subst, arith, append_assoc, length-append, nat_lt, nat_eq, list_any, list_all, or_parts, and_from, and_parts, eq-eqb, ne_eqb, ltb-true, lt-ltb, Decides-int_eq, FieldRow, ascending_from, in_order, Numbered, same_numbered, number_repeats}
 use Rattle.prost_reflect_wire.proofs.Survivors.{filter_append}
-use Rattle.prost_reflect_tables.specs.Rows.{FieldRow}
-use Rattle.prost_reflect_tables.specs.Linked.{ascending_from}
-use Rattle.prost_reflect_tables.specs.Linking.{in_order}
-use Rattle.prost_reflect_tables.specs.Faults.{Numbered, same_numbered, number_repeats}
 use Rattle.prost_reflect_tables.proofs.Sorting.{Rising, with_number, order_rises, order_there}
 
 abbrev pub number_of : FieldRow → ℕ

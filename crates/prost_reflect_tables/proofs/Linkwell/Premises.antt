@@ -1,20 +1,6 @@
 -- What the checks say of each message, enum, field and extension.
-use Rattle.std.proofs.Common.{◌≡◌, ℕ, Bool, true, false, ◌||◌, List, map, Some, refl, sym, ◌∙◌, slice_get}
-use Rattle.std.specs.List.{list_any, list_all}
-use Rattle.std.proofs.lemmas.Bool.{or_parts}
-use Rattle.std.proofs.lemmas.List.Folds.{list_all-map}
-use Rattle.prost_reflect_wire.specs.Scalar.{in_i32}
-use Rattle.prost_reflect_types.specs.declared.FileDescriptorProto.{FileDescriptorProto}
-use Rattle.prost_reflect_types.specs.declared.FieldDescriptorProto.{FieldDescriptorProto}
-use Rattle.prost_reflect_tables.specs.declared.error.PoolError.{PoolError}
+use Rattle.prost_reflect_tables.proofs.Common.{◌≡◌, ℕ, Bool, true, false, ◌||◌, List, map, Some, refl, sym, ◌∙◌, slice_get, list_any, list_all, or_parts, list_all-map, in_i32, FileDescriptorProto, FieldDescriptorProto, PoolError, DefinitionRow, FlatMessageRow, FlatEnumRow, FlatServiceRow, FlatRows, any_field, number_bad, type_missing, type_unknown, extendee_missing, extendee_unknown, repeated_member, is_member, has_oneof_outside, import_outside, enum_empty, extension_outside, duplicate_number, bad_map_entry, entry_bad, wrongly_of_entry, is_of_entry, method_of_entry, default_bad, default_misplaced, Links, links_of, value_number, linked_value, linked_enum, linked_rows, has_fault, Checked, EnumValueRow}
 use Rattle.prost_reflect_tables.specs.declared.error.PoolError.TheVariants as errors
-use Rattle.prost_reflect_tables.specs.Flat.{DefinitionRow, FlatMessageRow, FlatEnumRow, FlatServiceRow, FlatRows}
-use Rattle.prost_reflect_tables.specs.Faults.{any_field, number_bad, type_missing, type_unknown, extendee_missing, extendee_unknown, repeated_member, is_member, has_oneof_outside, import_outside, enum_empty, extension_outside, duplicate_number}
-use Rattle.prost_reflect_tables.specs.EntryFaults.{bad_map_entry, entry_bad, wrongly_of_entry, is_of_entry, method_of_entry}
-use Rattle.prost_reflect_tables.specs.DefaultFaults.{default_bad, default_misplaced}
-use Rattle.prost_reflect_tables.specs.Linking.{Links, links_of, value_number, linked_value, linked_enum, linked_rows}
-use Rattle.prost_reflect_tables.specs.Checked.{has_fault, Checked}
-use Rattle.prost_reflect_tables.specs.Rows.{EnumValueRow}
 use Rattle.prost_reflect_tables.specs.InRange.{enum_in_range, in_range}
 use Rattle.prost_reflect_tables.proofs.Keeping.{passes_at}
 use Rattle.prost_reflect_tables.proofs.Linkwell.Items.{none_at}
@@ -71,14 +57,11 @@ wrong_needs_entry rows d h = rw h refl
 -- The parts of tests that are joined by `||`.
 pub three : (a b c : Bool) → (a || b || c) ≡ false → (a ≡ false) × (b ≡ false) × (c ≡ false)
 three false false c h = (refl, refl, h)
-three true b c h = absurd cc
-three false true c h = absurd cc
+three _ _ c h = absurd cc
 
 four : (a b c d : Bool) → (a || b || c || d) ≡ false → (a ≡ false) × (b ≡ false) × (c ≡ false) × (d ≡ false)
 four false false false d h = (refl, refl, refl, h)
-four true b c d h = absurd cc
-four false true c d h = absurd cc
-four false false true d h = absurd cc
+four _ _ _ d h = absurd cc
 
 entry_parts : (rows : FlatRows) → bad_map_entry rows ≡ false → (list_any entry_bad rows.messages ≡ false) × (list_any (λ (m : FlatMessageRow). list_any (wrongly_of_entry rows) m.fields) rows.messages ≡ false) × (list_any (is_of_entry rows) rows.extensions ≡ false)
 entry_parts rows h =

@@ -1,23 +1,7 @@
 -- The schema of files that pass the checks is one of a checked pool.
-use Rattle.std.proofs.Common.{◌≡◌, ℕ, ℤ, pos, negsuc, ◌+◌, ◌<◌, ◌≤◌, ◌^◌, Bool, true, false, cond, not, ◌&&◌, List, [], ◌∷◌, map, Option, Some, None, refl, ap, ◌∙◌, arith, slice_get, nat_eq, nat_lt}
-use Rattle.std.specs.List.{list_any, list_all}
-use Rattle.std.proofs.lemmas.Bool.{and_from, and_parts, or_from, ltb-true, ne_eqb, eqb-true}
-use Rattle.std.proofs.lemmas.List.Folds.{list_all-map}
-use Rattle.prost_reflect_wire.specs.Schema.{Field, MessageType, Schema, kind_valid, field_valid, numbers_differ, schema_valid}
-use Rattle.prost_reflect_types.specs.declared.FieldDescriptorProto.{FieldDescriptorProto}
-use Rattle.prost_reflect_types.specs.declared.FileDescriptorProto.{FileDescriptorProto}
-use Rattle.prost_reflect_tables.specs.declared.tables.Cardinality.{Cardinality}
-use Rattle.prost_reflect_tables.specs.declared.tables.Cardinality.TheVariants.{Optional, Required, Repeated}
-use Rattle.prost_reflect_tables.specs.declared.tables.TableKind.{TableKind}
+use Rattle.prost_reflect_tables.proofs.Common.{◌≡◌, ℕ, ℤ, pos, negsuc, ◌+◌, ◌<◌, ◌≤◌, ◌^◌, Bool, true, false, cond, not, ◌&&◌, List, [], ◌∷◌, map, Option, Some, None, refl, ap, ◌∙◌, arith, slice_get, nat_eq, nat_lt, list_any, list_all, and_from, and_parts, or_from, ltb-true, ne_eqb, eqb-true, list_all-map, Field, MessageType, Schema, kind_valid, field_valid, numbers_differ, schema_valid, FieldDescriptorProto, FileDescriptorProto, Cardinality, Optional, Required, Repeated, TableKind, FieldRow, MessageRow, TableRows, ascending_from, schema_kind, entry_or_none, entry_at, map_entry, schema_field, schema_message, schema_from, DefinitionRow, FlatMessageRow, FlatEnumRow, FlatRows, is_code, is_member, is_entry, is_of_entry, links_of, linked_kind, linked_field, linked_rows, in_order, fields_of_message}
 use Rattle.prost_reflect_tables.specs.declared.tables.TableKind.TheVariants as kinds
-use Rattle.prost_reflect_tables.specs.Rows.{FieldRow, MessageRow, TableRows}
-use Rattle.prost_reflect_tables.specs.Linked.{ascending_from}
-use Rattle.prost_reflect_tables.specs.Shown.{schema_kind, entry_or_none, entry_at, map_entry, schema_field, schema_message, schema_from}
-use Rattle.prost_reflect_tables.specs.Flat.{DefinitionRow, FlatMessageRow, FlatEnumRow, FlatRows}
 use Rattle.prost_reflect_tables.specs.Faults as faults
-use Rattle.prost_reflect_tables.specs.Faults.{is_code, is_member, extension_outside}
-use Rattle.prost_reflect_tables.specs.EntryFaults.{is_entry, is_of_entry}
-use Rattle.prost_reflect_tables.specs.Linking.{links_of, linked_kind, linked_field, linked_message, linked_rows, in_order, fields_of_message}
 use Rattle.prost_reflect_tables.proofs.Linkwell.Items.{messages_all}
 use Rattle.prost_reflect_tables.proofs.Linkwell.Premises.{Sound, FieldChecked, EnumChecked, field_checked, extension_checked, message_checked, enum_checked}
 use Rattle.prost_reflect_tables.proofs.Linkwell.Kinds.{FieldKind, NamesMessage, NamesEnum, IsScalar, is_scalar, field_kind}
@@ -25,6 +9,7 @@ use Rattle.prost_reflect_tables.proofs.Linkwell.Shapes.{RowSound, plain_valid, m
 use Rattle.prost_reflect_tables.proofs.Linkwell.Fields.{repeated_shown, is_repeated_label, row_sound, kind_row, entry_shown, linked_at, linked_there, entry_is_of, TypeValid, message_type_valid, enum_type_valid, scalar_type_valid}
 use Rattle.prost_reflect_tables.proofs.Linkwell.Messages.{fields_all, NumbersSound, numbers_ascend}
 use Rattle.prost_reflect_tables.proofs.Linkwell.Entries.{EntryFields, entry_fields, entry_sound, group_row}
+use Rattle.prost_reflect_tables.proofs.CatalogLinks.{fields_shown}
 
 -- MAPS
 
@@ -50,10 +35,6 @@ no_entry_found rows T m at is = ap entry_or_none (linked_there rows T m at) ∙ 
 scalar_no_entry : (messages : List MessageRow) (k : TableKind) → is_scalar k ≡ true → entry_at messages k ≡ None
 scalar_no_entry messages (kinds.Message T) h = absurd cc
 scalar_no_entry messages k h = refl
-
-fields_shown : (fields : List FieldRow) (m : FlatMessageRow) → (linked_message fields m).fields ≡ in_order fields
-unfolding linked_message
-fields_shown fields m = refl
 
 eleven : (o : Option ℤ) → is_code 11 o ≡ true → is_code 10 o ≡ false
 eleven None h = refl
@@ -101,9 +82,7 @@ field_shown_valid {files} rows x d s h alone = by_kind kind
       where
         right_entry : (a b c : Bool) → (a && not (b && c)) ≡ false → a ≡ true → (b ≡ true) × (c ≡ true)
         right_entry true true true h is = (refl, refl)
-        right_entry true true false h is = absurd cc
-        right_entry true false c h is = absurd cc
-        right_entry false b c h is = absurd cc
+        right_entry _ _ _ h is = absurd cc
 
     by_entry : (T : ℕ) (m : FlatMessageRow) → linked_kind (links_of rows) d.proto ≡ kinds.Message T → slice_get rows.messages T ≡ Some m → is_of_entry rows d ≡ is_entry m → (b : Bool) → is_entry m ≡ b → field_valid (schema_from (linked_rows rows)) (schema_field (linked_rows rows) (linked_field (links_of rows) x d)) ≡ true
     by_entry T m is at same true entry = as_map T m is at (same ∙ entry) entry

@@ -1,5 +1,4 @@
-use Rattle.std.proofs.Common.{◌+◌, ◌-◌, ◌/◌, map, arith, sym}
-use Rattle.prost_reflect_tables.specs.Rows.{field_row}
+use Rattle.prost_reflect_tables.proofs.Common.{◌+◌, ◌-◌, ◌/◌, map, arith, sym, field_row}
 use Rattle.prost_reflect_tables.proofs.Ascending.{at_start, read_row, upper_half, lower_half, nothing_between, place_found}
 use Rattle.prost_reflect_tables.proofs.lookup.place_among.Goals as goal
 

@@ -1,5 +1,4 @@
-use Rattle.std.proofs.Common.{◌≤◌, length, ap, sym, ◌∙◌, arith}
-use Rattle.prost_reflect_tables.specs.WrittenDefaults.{front}
+use Rattle.prost_reflect_tables.proofs.Common.{◌≤◌, length, ap, sym, ◌∙◌, arith, front}
 use Rattle.prost_reflect_tables.proofs.Escapes.{front_shorter, first_byte, no_byte, no_text}
 use Rattle.prost_reflect_tables.proofs.build.defaults.unescaped.Goals as goal
 

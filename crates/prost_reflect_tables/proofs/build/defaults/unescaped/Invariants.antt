@@ -1,6 +1,4 @@
-use Rattle.std.proofs.Common.{◌≡◌, ◌++◌, length}
-use Rattle.std.specs.Prelude.{option_map}
-use Rattle.prost_reflect_tables.specs.WrittenDefaults.{unescaped}
+use Rattle.prost_reflect_tables.proofs.Common.{◌≡◌, ◌++◌, length, option_map, unescaped}
 use Rattle.prost_reflect_tables.proofs.build.defaults.unescaped.Given as goal
 
 abbrev pub decreases-loop-first : goal.decreases-loop-first

@@ -1,5 +1,4 @@
-use Rattle.std.proofs.Common.{◌≡◌, ◌≤◌, drop}
-use Rattle.prost_reflect_tables.specs.WrittenDefaults.{digits_from}
+use Rattle.prost_reflect_tables.proofs.Common.{◌≡◌, ◌≤◌, drop, digits_from}
 use Rattle.prost_reflect_tables.proofs.build.defaults.whole_number.Given as goal
 
 abbrev pub invariant-loop-byte : goal.invariant-loop-byte

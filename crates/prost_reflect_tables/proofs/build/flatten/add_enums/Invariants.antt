@@ -1,6 +1,4 @@
-use Rattle.std.proofs.Common.{◌≡◌, ◌++◌, map, drop}
-use Rattle.prost_reflect_tables.specs.Flat.{enums_from}
-use Rattle.prost_reflect_tables.specs.FlatViews.{scope_row, enum_row}
+use Rattle.prost_reflect_tables.proofs.Common.{◌≡◌, ◌++◌, map, drop, enums_from, scope_row, enum_row}
 use Rattle.prost_reflect_tables.proofs.build.flatten.add_enums.Given as goal
 
 abbrev pub invariant-loop-place : goal.invariant-loop-place

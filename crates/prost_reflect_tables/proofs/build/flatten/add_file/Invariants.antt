@@ -1,6 +1,4 @@
-use Rattle.std.proofs.Common.{◌≡◌, map, drop, length}
-use Rattle.prost_reflect_tables.specs.Flat.{message_at, all_from, with_given}
-use Rattle.prost_reflect_tables.specs.FlatViews.{scope_row, flat_rows}
+use Rattle.prost_reflect_tables.proofs.Common.{◌≡◌, map, drop, length, message_at, all_from, with_given, scope_row, flat_rows}
 use Rattle.prost_reflect_tables.proofs.build.flatten.add_file.Given as goal
 
 abbrev pub invariant-loop-place : goal.invariant-loop-place

@@ -1,6 +1,4 @@
-use Rattle.std.proofs.Common.{◌≡◌, ◌++◌, map, drop}
-use Rattle.prost_reflect_tables.specs.Flat.{services_from}
-use Rattle.prost_reflect_tables.specs.FlatViews.{scope_row, service_row}
+use Rattle.prost_reflect_tables.proofs.Common.{◌≡◌, ◌++◌, map, drop, services_from, scope_row, service_row}
 use Rattle.prost_reflect_tables.proofs.build.flatten.add_services.Given as goal
 
 abbrev pub invariant-loop-place : goal.invariant-loop-place

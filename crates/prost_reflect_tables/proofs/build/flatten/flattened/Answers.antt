@@ -1,8 +1,4 @@
-use Rattle.std.proofs.Common.{◌≡◌, List, map, length, get_or, sym, ap, ◌∙◌, arith}
-use Rattle.std.proofs.lemmas.List.{length-map, drop_all, get_or-map}
-use Rattle.prost_reflect_types.specs.declared.FileDescriptorProto.{FileDescriptorProto}
-use Rattle.prost_reflect_tables.specs.Flat.{file_at, files_from, behind}
-use Rattle.prost_reflect_tables.specs.FlatViews.{message_row, flat_rows}
+use Rattle.prost_reflect_tables.proofs.Common.{◌≡◌, List, map, length, get_or, sym, ap, ◌∙◌, arith, length-map, drop_all, get_or-map, FileDescriptorProto, file_at, files_from, behind, message_row, flat_rows}
 use Rattle.prost_reflect_tables.proofs.Flattening.{file_added, nothing_behind}
 use Rattle.prost_reflect_tables.proofs.build.flatten.flattened.Goals as goal
 

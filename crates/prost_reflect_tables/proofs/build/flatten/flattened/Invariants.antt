@@ -1,6 +1,4 @@
-use Rattle.std.proofs.Common.{◌≡◌, map, drop, length}
-use Rattle.prost_reflect_tables.specs.Flat.{behind, files_from, flattened}
-use Rattle.prost_reflect_tables.specs.FlatViews.{flat_rows}
+use Rattle.prost_reflect_tables.proofs.Common.{◌≡◌, map, drop, length, behind, files_from, flattened, flat_rows}
 use Rattle.prost_reflect_tables.proofs.build.flatten.flattened.Given as goal
 
 abbrev pub invariant-loop-file : goal.invariant-loop-file

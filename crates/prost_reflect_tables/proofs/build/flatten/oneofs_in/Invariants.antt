@@ -1,6 +1,4 @@
-use Rattle.std.proofs.Common.{◌≡◌, ◌++◌, map, drop}
-use Rattle.prost_reflect_tables.specs.Flat.{defined_from, oneof_name}
-use Rattle.prost_reflect_tables.specs.FlatViews.{scope_row, definition_row}
+use Rattle.prost_reflect_tables.proofs.Common.{◌≡◌, ◌++◌, map, drop, defined_from, oneof_name, scope_row, definition_row}
 use Rattle.prost_reflect_tables.proofs.build.flatten.oneofs_in.Given as goal
 
 abbrev pub invariant-loop-place : goal.invariant-loop-place

@@ -1,6 +1,4 @@
-use Rattle.std.proofs.Common.{◌≡◌, ◌++◌, map, drop}
-use Rattle.prost_reflect_tables.specs.Faults.{names_of}
-use Rattle.prost_reflect_tables.specs.FlatViews.{definition_row, text_list}
+use Rattle.prost_reflect_tables.proofs.Common.{◌≡◌, ◌++◌, map, drop, names_of, definition_row, text_list}
 use Rattle.prost_reflect_tables.proofs.build.index.add_names.Given as goal
 
 abbrev pub invariant-loop-definition : goal.invariant-loop-definition

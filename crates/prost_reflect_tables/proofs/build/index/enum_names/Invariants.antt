@@ -1,5 +1,4 @@
-use Rattle.std.proofs.Common.{◌≡◌, ◌++◌, map, drop}
-use Rattle.prost_reflect_tables.specs.FlatViews.{enum_row, text_list}
+use Rattle.prost_reflect_tables.proofs.Common.{◌≡◌, ◌++◌, map, drop, enum_row, text_list}
 use Rattle.prost_reflect_tables.proofs.build.index.enum_names.Given as goal
 
 abbrev pub invariant-loop-declared : goal.invariant-loop-declared

@@ -1,6 +1,4 @@
-use Rattle.std.proofs.Common.{◌≡◌, ◌++◌, drop}
-use Rattle.prost_reflect_tables.specs.Faults.{file_names}
-use Rattle.prost_reflect_tables.specs.FlatViews.{file_list, text_list}
+use Rattle.prost_reflect_tables.proofs.Common.{◌≡◌, ◌++◌, drop, file_names, file_list, text_list}
 use Rattle.prost_reflect_tables.proofs.build.index.file_names.Given as goal
 
 abbrev pub invariant-loop-file : goal.invariant-loop-file

@@ -1,5 +1,4 @@
-use Rattle.std.proofs.Common.{◌≡◌, ◌++◌, map, drop}
-use Rattle.prost_reflect_tables.specs.FlatViews.{message_row, text_list}
+use Rattle.prost_reflect_tables.proofs.Common.{◌≡◌, ◌++◌, map, drop, message_row, text_list}
 use Rattle.prost_reflect_tables.proofs.build.index.message_names.Given as goal
 
 abbrev pub invariant-loop-message : goal.invariant-loop-message

@@ -1,7 +1,4 @@
-use Rattle.std.proofs.Common.{map, take}
-use Rattle.prost_reflect_tables.specs.FlatViews.{enum_row}
-use Rattle.prost_reflect_tables.specs.Linking.{linked_value}
-use Rattle.prost_reflect_tables.specs.Indexed.{AreNumbersOf}
+use Rattle.prost_reflect_tables.proofs.Common.{map, take, enum_row, linked_value, AreNumbersOf}
 use Rattle.prost_reflect_tables.proofs.build.index.numbers_by_enum.Given as goal
 
 abbrev pub invariant-loop-declared : goal.invariant-loop-declared

@@ -1,6 +1,4 @@
-use Rattle.std.proofs.Common.{◌≡◌, None, length}
-use Rattle.prost_reflect_wire.specs.Varint.{AreBytes}
-use Rattle.prost_reflect_tables.specs.Options.{bool_in}
+use Rattle.prost_reflect_tables.proofs.Common.{◌≡◌, None, length, AreBytes, bool_in}
 use Rattle.prost_reflect_tables.proofs.build.options.bool_in.Given as goal
 
 -- what was found, and what the rest says

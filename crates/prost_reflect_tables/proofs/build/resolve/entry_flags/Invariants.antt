@@ -1,6 +1,4 @@
-use Rattle.std.proofs.Common.{◌≡◌, ◌++◌, map, drop}
-use Rattle.prost_reflect_tables.specs.EntryFaults.{is_entry}
-use Rattle.prost_reflect_tables.specs.FlatViews.{message_row}
+use Rattle.prost_reflect_tables.proofs.Common.{◌≡◌, ◌++◌, map, drop, is_entry, message_row}
 use Rattle.prost_reflect_tables.proofs.build.resolve.entry_flags.Given as goal
 
 abbrev pub invariant-loop-message : goal.invariant-loop-message

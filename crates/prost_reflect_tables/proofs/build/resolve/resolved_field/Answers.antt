@@ -1,5 +1,4 @@
-use Rattle.prost_reflect_tables.specs.FlatViews.{definition_row, flat_rows}
-use Rattle.prost_reflect_tables.specs.Linking.{links_of}
+use Rattle.prost_reflect_tables.proofs.Common.{definition_row, flat_rows, links_of}
 use Rattle.prost_reflect_tables.proofs.Resolving.{resolved_is}
 use Rattle.prost_reflect_tables.proofs.build.resolve.resolved_field.Goals as goal
 

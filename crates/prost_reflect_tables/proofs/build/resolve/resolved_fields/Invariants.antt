@@ -1,7 +1,4 @@
-use Rattle.std.proofs.Common.{◌≡◌, ◌++◌, drop, map}
-use Rattle.prost_reflect_tables.specs.FlatViews.{message_row, flat_rows}
-use Rattle.prost_reflect_tables.specs.Linking.{links_of}
-use Rattle.prost_reflect_tables.specs.Resolved.{resolve, resolved_lists}
+use Rattle.prost_reflect_tables.proofs.Common.{◌≡◌, ◌++◌, drop, map, message_row, flat_rows, links_of, resolve, resolved_lists}
 use Rattle.prost_reflect_tables.proofs.build.resolve.resolved_fields.Given as goal
 
 abbrev pub invariant-loop-message : goal.invariant-loop-message

@@ -1,5 +1,4 @@
-use Rattle.std.proofs.Common.{◌∙◌}
-use Rattle.std.specs.Cmp.Lexicographic.{texts_ties}
+use Rattle.prost_reflect_tables.proofs.Common.{◌∙◌, texts_ties}
 use Rattle.prost_reflect_tables.proofs.scalar.ScalarRef.equals.Goals as goal
 
 pub returns-in-String-String : goal.returns-in-String-String

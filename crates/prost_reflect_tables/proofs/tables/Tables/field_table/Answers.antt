@@ -1,5 +1,4 @@
-use Rattle.std.proofs.Common.{sym, ◌∙◌}
-use Rattle.prost_reflect_tables.specs.Schema.{rows_of}
+use Rattle.prost_reflect_tables.proofs.Common.{sym, ◌∙◌, rows_of}
 use Rattle.prost_reflect_tables.proofs.Keeping.{fields_ascend}
 use Rattle.prost_reflect_tables.proofs.Fields.{found, missing}
 use Rattle.prost_reflect_tables.proofs.tables.Tables.field_table.Goals as goal
