@@ -61,6 +61,7 @@ mod Edits
 mod LentPaths
 pub mod KindDefaults
 pub mod ReadBack
+mod MergedPieces
 mod MergedBytes
 mod JoinedContents
 mod ChangedNumbers

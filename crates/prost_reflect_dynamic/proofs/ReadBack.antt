@@ -1,5 +1,6 @@
 -- What is read of an encoding; which contents have it.
-use Rattle.std.proofs.Common.{◌≡◌, ℕ, ◌<◌, ◌^◌, true, List, length, Some, ap, sym, ◌∙◌}
+use Rattle.std.proofs.Common.{◌≡◌, ℕ, ◌<◌, ◌^◌, true, List, length, Some, ap, sym, ◌∙◌, subst}
+use Rattle.std.specs.Prelude.{◌↔◌}
 use Rattle.prost_reflect_wire.specs.Varint.{AreBytes}
 use Rattle.prost_reflect_wire.specs.Schema.{Schema, schema_valid}
 use Rattle.prost_reflect_wire.specs.Content.{Content, schema_of, type_of}
@@ -7,19 +8,21 @@ use Rattle.prost_reflect_wire.specs.Grammar.{LEVEL_LIMIT}
 use Rattle.prost_reflect_wire.specs.Meaning.{decoded}
 use Rattle.prost_reflect_wire.specs.Writing.{encoded}
 use Rattle.prost_reflect_wire.specs.Typing.{kept, WellStored}
-use Rattle.prost_reflect_laws.specs.Laws.{Writable}
-use Rattle.prost_reflect_laws.proofs.Kept.{kept_schema, kept_well}
+use Rattle.prost_reflect_laws.specs.Laws.{Spellable, Writable}
+use Rattle.prost_reflect_laws.proofs.Kept.{kept_schema, kept_type, kept_well}
 use Rattle.prost_reflect_laws.proofs.RoundTrip.{round_trip, written_accepted}
 use Rattle.prost_reflect_laws.proofs.Eased.{fitting_canonicity}
 use Rattle.prost_reflect_laws.proofs.NormalForms.{DecodedFrom, decoded_from, decoded_well, meaning_schema, meaning_type, normal_form}
 use Rattle.prost_reflect_tables.proofs.Keeping.{schema_is_valid}
+use Rattle.prost_reflect_pool.specs.MessageTypes.{schema_at, type_at}
 use Rattle.prost_reflect_pool.specs.SharedPools.{pool_rows}
 use Rattle.prost_reflect_dynamic.specs.declared.descriptor.message.MessageDescriptor.{MessageDescriptor}
 use Rattle.prost_reflect_dynamic.specs.Named.{schema_named}
 use Rattle.prost_reflect_dynamic.specs.declared.message.DynamicMessage.{DynamicMessage}
-use Rattle.prost_reflect_dynamic.specs.View.{content_of}
+use Rattle.prost_reflect_dynamic.specs.View.{content_of, message_type_of}
 use Rattle.prost_reflect_dynamic.specs.ReadBack.{ReadsBack, IsOnlyOf, MeansSame}
 use Rattle.prost_reflect_dynamic.proofs.Merging.{valid_in}
+use Rattle.prost_reflect_dynamic.proofs.NestedReads.{schema_in, type_in}
 
 -- what a message keeps can be written
 kept_writable : (m : DynamicMessage) → WellStored (content_of m) → length (encoded (kept (content_of m))) < 2 ^ 64 → Writable (kept (content_of m))
@@ -35,6 +38,18 @@ only_of m w l d schema type fits short =
           (record { checked = own.checked; fitting = own.typed.fitting; length = l }) schema type (sym same),
       λ is. ap encoded (sym is),
     )
+
+kept_spellable : (m : DynamicMessage) → WellStored (content_of m) → length (encoded (kept (content_of m))) < 2 ^ 64 → Spellable (kept (content_of m))
+kept_spellable m w l = let own : Writable (kept (content_of m)) = kept_writable m w l in record { checked = own.checked; fitting = own.typed.fitting; length = l }
+
+-- two messages of one type are written as the same bytes exactly if they hold the same for others
+pub same_bytes : (a b : DynamicMessage) → schema_at (message_type_of a) ≡ schema_at (message_type_of b) → type_at (message_type_of a) ≡ type_at (message_type_of b) → WellStored (content_of a) → WellStored (content_of b) →
+    length (encoded (kept (content_of a))) < 2 ^ 64 → (encoded (kept (content_of a)) ≡ encoded (kept (content_of b))) ↔ (kept (content_of a) ≡ kept (content_of b))
+same_bytes a b schema type v w l = (
+  λ same. fitting_canonicity (kept (content_of a)) (kept (content_of b)) (kept_spellable a v l) (kept_spellable b w (subst (λ (bytes : List ℕ). length bytes < 2 ^ 64) same l))
+      (kept_schema (content_of a) ∙ schema_in a ∙ schema ∙ sym (kept_schema (content_of b) ∙ schema_in b)) (kept_type (content_of a) ∙ type_in a ∙ type ∙ sym (kept_type (content_of b) ∙ type_in b)) same,
+  λ same. ap encoded same,
+)
 
 -- what was decoded is written as bytes that mean the same
 pub decoded_again : (schema : Schema) (T : ℕ) (bytes : List ℕ) (c : Content) → AreBytes bytes → schema_valid schema ≡ true → decoded schema LEVEL_LIMIT T bytes ≡ Some c → length (encoded c) < 2 ^ 64 → MeansSame schema T bytes (encoded c)

@@ -1,28 +1,40 @@
 -- Bytes merged into a message (the encoding guide, "Last One Wins").
-use Rattle.std.specs.Prelude.{◌≡◌, ◌≤◌, ℕ, Bool, true, if◌then◌else◌, List, ◌++◌}
+use Rattle.std.specs.Prelude.{◌≡◌, ◌≤◌, ◌<◌, ◌^◌, ℕ, Bool, true, if◌then◌else◌, List, ◌++◌, length, Some}
 use Rattle.std.specs.List.{list_all}
 use Rattle.std.specs.BTreeSet.{BTreeSet}
-use Rattle.prost_reflect_wire.specs.Record.{Payload, Record, record_at, Spells, body_of, raw_levels, valid}
+use Rattle.prost_reflect_wire.specs.Record.{Payload, Record, record_at, Spells, items, body_of, raw_levels}
 use Rattle.prost_reflect_wire.specs.Front.{FieldFront}
+use Rattle.prost_reflect_wire.specs.Schema.{Schema}
 use Rattle.prost_reflect_wire.specs.Content.{Content, schema_of, type_of, entries_of, slot_at, ordered}
-use Rattle.prost_reflect_wire.specs.Grammar.{LEVEL_LIMIT, allows}
-use Rattle.prost_reflect_wire.specs.Meaning.{meaning}
+use Rattle.prost_reflect_wire.specs.Grammar.{LEVEL_LIMIT, Accepts, allows}
+use Rattle.prost_reflect_wire.specs.Meaning.{meaning, decoded}
 use Rattle.prost_reflect_wire.specs.Edit.{merged}
-use Rattle.prost_reflect_wire.specs.Typing.{kept}
+use Rattle.prost_reflect_wire.specs.Writing.{records, encoded}
 use Rattle.prost_reflect_fields.specs.NumberSets.{has}
 
--- Behind any records that mean the old content, the records mean the new one: with levels that allow both.
-abbrev pub Behind : List Record → Content → Content → Type 0
-Behind records old new = (k m : ℕ) (front : List Record) → valid (body_of front) ≡ true → allows (schema_of old) k (type_of old) front ≡ true → meaning (schema_of old) k (type_of old) front ≡ old
-    → k ≤ m → LEVEL_LIMIT ≤ m → new ≡ meaning (schema_of old) m (type_of old) (front ++ records)
+-- The records mean the content to the type: it allows them with so many levels, and more change nothing.
+pub record IsMeaningOfRecords (schema : Schema) (T : ℕ) (rs : List Record) (c : Content) : Type 0 where
+  pub levels : ℕ
+  pub allowed : allows schema levels T rs ≡ true
+  pub means : meaning schema levels T rs ≡ c
 
--- The bytes are records that the type takes, merged into what the message kept.
-pub record IsMerged (bytes : List ℕ) (old new : Content) : Type 0 where
-  pub records : List Record
-  pub spelled : Spells (body_of records) bytes
-  pub allowed : allows (schema_of old) LEVEL_LIMIT (type_of old) records ≡ true
-  pub means : kept new ≡ merged (kept old) records
-  pub behind : Behind records (kept old) (kept new)
+-- The type accepts the bytes, and they mean the content.
+pub record IsMeaningOfBytes (schema : Schema) (T : ℕ) (bytes : List ℕ) (c : Content) : Type 0 where
+  pub accepts : Accepts schema LEVEL_LIMIT T bytes
+  pub means : decoded schema LEVEL_LIMIT T bytes ≡ Some c
+
+-- Bytes were merged into a message of the type, by what it holds for others before and after.
+pub record MergesMeaning (schema : Schema) (T : ℕ) (bytes : List ℕ) (old new : Content) : Type 0 where
+  -- The type accepts the bytes.
+  pub accepts : Accepts schema LEVEL_LIMIT T bytes
+  -- Where the old content's encoding has a length, the records that it is written as, and those of the bytes behind them, mean the new content.
+  pub written : length (encoded old) < 2 ^ 64 → IsMeaningOfRecords schema T (records old ++ items accepts.records) new
+  -- So do any records that mean the old content, and those of the bytes behind them
+  pub behind : (front : List Record) → IsMeaningOfRecords schema T front old → IsMeaningOfRecords schema T (front ++ items accepts.records) new
+  -- and any bytes that mean it, and these behind them. So pieces of a message that are merged one by one mean what they mean as one.
+  pub pieces : (front : List ℕ) → IsMeaningOfBytes schema T front old → IsMeaningOfBytes schema T (front ++ bytes) new
+  -- The same record by record, whatever the length of the old content's encoding.
+  pub further : new ≡ merged old (items accepts.records)
 
 -- WHAT IS CHANGED
 

@@ -3,15 +3,14 @@
 ghost use Rattle.std.specs.Prelude.{◌≡◌, ◌≢◌, ℕ, true, List, IfOk, IfErr, IfSome, IfNone};
 ghost use Rattle.prost_reflect_wire.specs.Record.{Record};
 ghost use Rattle.prost_reflect_wire.specs.Front.{FieldFront};
-ghost use Rattle.prost_reflect_wire.specs.Content.{schema_of, type_of};
 ghost use Rattle.prost_reflect_wire.specs.Grammar.{LEVEL_LIMIT, Accepts};
-ghost use Rattle.prost_reflect_wire.specs.Typing.{WellStored};
+ghost use Rattle.prost_reflect_wire.specs.Typing.{kept, WellStored};
 ghost use Rattle.prost_reflect_wire.specs.Fault.{StandsInMessage};
 ghost use Rattle.prost_reflect_wire.specs.Decoding.{Holds};
-ghost use Rattle.prost_reflect_pool.specs.MessageTypes.{SameMessage};
+ghost use Rattle.prost_reflect_pool.specs.MessageTypes.{schema_at, type_at, SameMessage};
 ghost use Rattle.prost_reflect_fields.specs.Known.{known_of};
 ghost use Rattle.prost_reflect_fields.specs.NumberSets.{HasWholeOneofs};
-ghost use Rattle.prost_reflect_dynamic.specs.Merged.{IsMerged, HasNumbersOf, BeginsWith};
+ghost use Rattle.prost_reflect_dynamic.specs.Merged.{MergesMeaning, HasNumbersOf, BeginsWith};
 ghost use Rattle.prost_reflect_dynamic.specs.View.{content_of, message_type_of};
 ghost use Rattle.prost_reflect_dynamic.specs.DeepTypes.{all_typed};
 ghost use Rattle.prost_reflect_dynamic.specs.Stored.{message_stored};
@@ -29,8 +28,9 @@ impl DynamicMessage {
     /// A scalar replaces the one that is there, a message or group is read into the one that is there, the elements of a
     /// list stand behind those that are there, and an entry of a map takes the place of the one with an equal key; the
     /// other members of a oneof go, and unknown fields stand behind those that are there (the encoding guide, "Last One
-    /// Wins", "Oneofs", "Packed Repeated Fields" and "Maps"). So merging the pieces of a message one by one gives what
-    /// all of them mean, read as one.
+    /// Wins", "Oneofs", "Packed Repeated Fields" and "Maps"). So the message then holds what the records of its encoding
+    /// before mean with those of the bytes behind them, and merging the pieces of a message one by one gives what all of
+    /// them mean, read as one.
     ///
     /// The values of the message have to fit their fields, and the messages inside have to be of their fields' types, as in
     /// every message that `decode` gives: `is_encodable` and `is_typed` tell. The same then holds of the merged message, so
@@ -42,12 +42,11 @@ impl DynamicMessage {
     /// the type does not accept them; `OutOfMemory` if memory runs out. In each case the message stays as it was.
     pub fn merge(&mut self, bytes: &[u8]) -> Result<(), DecodeError>
         requires sound { WellStored (content_of self.old) }
-        ensures merged { IfOk result (λ _. IsMerged bytes.now (content_of self.old) (content_of self.new)) }
+        ensures merged { IfOk result (λ _. MergesMeaning (schema_at (message_type_of self.old)) (type_at (message_type_of self.old)) bytes.now (kept (content_of self.old)) (kept (content_of self.new))) }
         ensures holds { IfOk result (λ _. Holds (content_of self.old) (content_of self.new)) }
         ensures message_type { SameMessage (message_type_of self.old) (message_type_of self.new) }
-        ensures accepts { IfOk result (λ _. Accepts (schema_of (content_of self.old)) LEVEL_LIMIT (type_of (content_of self.old)) bytes.now) }
-        ensures fault { IfErr result (λ e. e ≢ DecodeError.OutOfMemory → StandsInMessage (schema_of (content_of self.old)) (type_of (content_of self.old)) LEVEL_LIMIT e bytes.now) }
-        ensures accepted { IfErr result (λ e. Accepts (schema_of (content_of self.old)) LEVEL_LIMIT (type_of (content_of self.old)) bytes.now → e ≡ DecodeError.OutOfMemory) }
+        ensures fault { IfErr result (λ e. e ≢ DecodeError.OutOfMemory → StandsInMessage (schema_at (message_type_of self.old)) (type_at (message_type_of self.old)) LEVEL_LIMIT e bytes.now) }
+        ensures accepted { IfErr result (λ e. Accepts (schema_at (message_type_of self.old)) LEVEL_LIMIT (type_at (message_type_of self.old)) bytes.now → e ≡ DecodeError.OutOfMemory) }
         ensures unchanged { IfErr result (λ _. self.new ≡ self.old) }
         ensures sound { WellStored (content_of self.new) }
         ensures typed { all_typed (message_stored self.old) ≡ true → all_typed (message_stored self.new) ≡ true }

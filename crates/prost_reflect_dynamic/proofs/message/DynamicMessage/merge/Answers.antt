@@ -1,15 +1,13 @@
 use Rattle.std.proofs.Common.{sym, subst}
 use Rattle.std.proofs.lemmas.Result.{err_from_is_err_and}
-use Rattle.prost_reflect_wire.specs.Content.{schema_of, type_of}
 use Rattle.prost_reflect_wire.specs.Grammar.{LEVEL_LIMIT}
 use Rattle.prost_reflect_wire.proofs.ByteLists.{bytes_below}
 use Rattle.prost_reflect_laws.proofs.FaultLaws.{accepted_only_memory}
-use Rattle.prost_reflect_pool.specs.MessageTypes.{SameMessage}
+use Rattle.prost_reflect_pool.specs.MessageTypes.{schema_at, type_at, SameMessage}
 use Rattle.prost_reflect_fields.specs.Known.{known_of}
 use Rattle.prost_reflect_fields.specs.NumberSets.{HasWholeOneofs}
 use Rattle.prost_reflect_dynamic.specs.View.{content_of, message_type_of}
-use Rattle.prost_reflect_dynamic.proofs.Merging.{valid_in}
-use Rattle.prost_reflect_dynamic.proofs.MergedBytes.{is_merged, merged_accepts}
+use Rattle.prost_reflect_dynamic.proofs.MergedBytes.{fault_stands, message_merges}
 use Rattle.prost_reflect_dynamic.proofs.MessageParts.{part_holds, part_fault, message_read}
 use Rattle.prost_reflect_dynamic.proofs.message.DynamicMessage.merge.Goals as goal
 
@@ -27,27 +25,23 @@ replace_at-requires-clause-whole c = subst (λ d. HasWholeOneofs (known_of d) c.
 pub returns-clause-merged : goal.returns-clause-merged
 returns-clause-merged c =
     let whole = subst (λ d. HasWholeOneofs (known_of d) c.in_ok-numbers.numbers) c.message_type.ensures c.in_ok-numbers.ensures.whole in
-    is_merged (content_of c.args.self.now) (content_of c.replace_at.new.self) c.args.bytes.now (bytes_below _ c.type_inv.bytes) (valid_in c.args.self.now) c.requires.sound
-    (message_read c.in_ok-numbers.numbers c.args.self.now c.in_ok-part.part whole c.requires.sound c.in_ok-part.ensures.content c.merge_records.new.self c.replace_at.new.self c.args.bytes.now c.in_ok-numbers.ensures.numbers c.in_ok-merge_records.ensures.ok c.in_ok-replace_at.ensures.content)
-
-pub returns-clause-accepts : goal.returns-clause-accepts
-returns-clause-accepts c =
-    let whole = subst (λ d. HasWholeOneofs (known_of d) c.in_ok-numbers.numbers) c.message_type.ensures c.in_ok-numbers.ensures.whole in
-    merged_accepts (content_of c.args.self.now) (content_of c.replace_at.new.self) c.args.bytes.now (bytes_below _ c.type_inv.bytes) (valid_in c.args.self.now) c.requires.sound
+    message_merges c.args.self.now (content_of c.replace_at.new.self) c.args.bytes.now (bytes_below _ c.type_inv.bytes) c.requires.sound
     (message_read c.in_ok-numbers.numbers c.args.self.now c.in_ok-part.part whole c.requires.sound c.in_ok-part.ensures.content c.merge_records.new.self c.replace_at.new.self c.args.bytes.now c.in_ok-numbers.ensures.numbers c.in_ok-merge_records.ensures.ok c.in_ok-replace_at.ensures.content)
 
 pub returns-in_err-merge_records-clause-fault : goal.returns-in_err-merge_records-clause-fault
 returns-in_err-merge_records-clause-fault c =
     let q = err_from_is_err_and c.from_residual-in_err-merge_records.result c.from_residual-in_err-merge_records.ensures.1 in
     let whole = subst (λ d. HasWholeOneofs (known_of d) c.in_ok-numbers.numbers) c.message_type.ensures c.in_ok-numbers.ensures.whole in
-    rw (q.1, q.2) (λ ne. part_fault c.in_ok-numbers.numbers c.args.self.now c.in_ok-part.part whole c.requires.sound c.in_ok-part.ensures.content _ c.args.bytes.now (c.in_err-merge_records.ensures.fault ne))
+    rw (q.1, q.2) (λ ne. fault_stands c.args.self.now _ c.args.bytes.now
+    (part_fault c.in_ok-numbers.numbers c.args.self.now c.in_ok-part.part whole c.requires.sound c.in_ok-part.ensures.content _ c.args.bytes.now (c.in_err-merge_records.ensures.fault ne)))
 
 pub returns-in_err-merge_records-clause-accepted : goal.returns-in_err-merge_records-clause-accepted
 returns-in_err-merge_records-clause-accepted c =
     let q = err_from_is_err_and c.from_residual-in_err-merge_records.result c.from_residual-in_err-merge_records.ensures.1 in
     let whole = subst (λ d. HasWholeOneofs (known_of d) c.in_ok-numbers.numbers) c.message_type.ensures c.in_ok-numbers.ensures.whole in
-    rw (q.1, q.2) (λ accepted. accepted_only_memory (schema_of (content_of c.args.self.now)) LEVEL_LIMIT (type_of (content_of c.args.self.now)) c.args.bytes.now (bytes_below _ c.type_inv.bytes) accepted _
-    (λ ne. part_fault c.in_ok-numbers.numbers c.args.self.now c.in_ok-part.part whole c.requires.sound c.in_ok-part.ensures.content _ c.args.bytes.now (c.in_err-merge_records.ensures.fault ne)))
+    rw (q.1, q.2) (λ accepted. accepted_only_memory (schema_at (message_type_of c.args.self.now)) LEVEL_LIMIT (type_at (message_type_of c.args.self.now)) c.args.bytes.now (bytes_below _ c.type_inv.bytes) accepted _
+    (λ ne. fault_stands c.args.self.now _ c.args.bytes.now
+    (part_fault c.in_ok-numbers.numbers c.args.self.now c.in_ok-part.part whole c.requires.sound c.in_ok-part.ensures.content _ c.args.bytes.now (c.in_err-merge_records.ensures.fault ne))))
 
 pub returns-clause-holds : goal.returns-clause-holds
 returns-clause-holds c =
