@@ -1,20 +1,25 @@
-//! Laws of messages, of descriptors and of keys: each function has no body, and its contract is a law, which a function that
+//! Laws of messages, of descriptors and of keys: each function does nothing, and its contract is a law, which a function that
 //! calls it may use.
 
 ghost use Rattle.prost_reflect_dynamic.specs.ContentLaws.{ValueViews, MessageSlots, MessageOrder, SlotsAfterSet, SlotsAfterClear, SlotsAfterUnknown, SlotsDetermine, MapInsert};
 ghost use Rattle.prost_reflect.specs.LawInstances.{OfContentLaws, OfKeptLaws, OfDepth};
 ghost use Rattle.prost_reflect_dynamic.specs.KeptLaws.{MessageArranged, KeptAfterSet, KeptAfterClear, KeptAfterUnknown, KeptAfterClearAll, KeptAfterWriting};
 ghost use Rattle.prost_reflect_dynamic.specs.Access.{HadContent, NameFound, NameMissing, NumberFound, NumberMissing, ShownContent, TakesFound};
-ghost use Rattle.std.specs.Prelude.{◌≡◌, true, Some};
+ghost use Rattle.std.specs.Prelude.{◌≡◌, ◌<◌, ◌^◌, ◌↔◌, true, Some, length, IsTrue};
 ghost use Rattle.prost_reflect_wire.specs.Content.{ScalarValue};
 ghost use Rattle.prost_reflect_wire.specs.Scalar.{scalar_cmp, scalar_eq};
-ghost use Rattle.prost_reflect_dynamic.specs.View.{key_of};
+ghost use Rattle.prost_reflect_wire.specs.Typing.{kept, WellStored};
+ghost use Rattle.prost_reflect_wire.specs.Writing.{encoded};
+ghost use Rattle.prost_reflect_dynamic.specs.Named.{NamesSame};
+ghost use Rattle.prost_reflect_dynamic.specs.View.{key_of, content_of, message_type_of};
 ghost use Rattle.prost_reflect_dynamic.specs.Keys.{key_writes};
 ghost use Rattle.prost_reflect_dynamic.specs.Variants.{key_in};
+ghost use Rattle.prost_reflect_dynamic.specs.declared.descriptor.message.MessageDescriptor.{MessageDescriptor};
+ghost use Rattle.prost_reflect_dynamic.specs.declared.message.DynamicMessage.{DynamicMessage};
 ghost use Rattle.prost_reflect_dynamic.specs.declared.value.MapKey.{MapKey};
 
-use prost_reflect_dynamic::MapKey;
 pub use prost_reflect_dynamic::descriptor_equality;
+use prost_reflect_dynamic::{MapKey, MessageDescriptor};
 use std::hash::Hash;
 
 /// What each variant of a value is in the definitions.
@@ -129,6 +134,15 @@ pub fn key_again()
 pub fn map_insert()
     ensures { MapInsert }
 {}
+
+/// Two messages whose descriptors are equal are written as the same bytes exactly if they hold the same for others, at every
+/// depth. Both have to be encodable and typed, as `is_encodable` and `is_typed` tell, and the encoding has to have a length, as
+/// each that was written has.
+pub fn same_bytes()
+    ensures { (a : DynamicMessage) (b : DynamicMessage) (c : MessageDescriptor) (d : MessageDescriptor) → NamesSame c (message_type_of a) → NamesSame d (message_type_of b) → IsTrue (⟦<MessageDescriptor as PartialEq>⟧.eq c d) → WellStored (content_of a) → WellStored (content_of b) → length (encoded (kept (content_of a))) < 2 ^ 64 → (encoded (kept (content_of a)) ≡ encoded (kept (content_of b))) ↔ (kept (content_of a) ≡ kept (content_of b)) }
+{
+    descriptor_equality();
+}
 
 /// The premises of these laws, and of the one on fields that nest too deep, hold at worked examples.
 pub fn worked_instances()
