@@ -1,5 +1,5 @@
-//! Laws of messages, of descriptors and of keys: each function does nothing, and its contract is a law, which a function that
-//! calls it may use.
+//! Laws of messages, of descriptors and of keys: each function changes nothing, and its contract is a law, which a function
+//! that calls it may use.
 
 ghost use Rattle.prost_reflect_dynamic.specs.ContentLaws.{ValueViews, MessageSlots, MessageOrder, SlotsAfterSet, SlotsAfterClear, SlotsAfterUnknown, SlotsDetermine, MapInsert};
 ghost use Rattle.prost_reflect.specs.LawInstances.{OfContentLaws, OfKeptLaws, OfDepth};
@@ -18,7 +18,7 @@ ghost use Rattle.prost_reflect_dynamic.specs.declared.descriptor.message.Message
 ghost use Rattle.prost_reflect_dynamic.specs.declared.message.DynamicMessage.{DynamicMessage};
 ghost use Rattle.prost_reflect_dynamic.specs.declared.value.MapKey.{MapKey};
 
-pub use prost_reflect_dynamic::descriptor_equality;
+pub use prost_reflect_dynamic::{descriptor_equality, one_member};
 use prost_reflect_dynamic::{MapKey, MessageDescriptor};
 use std::hash::Hash;
 

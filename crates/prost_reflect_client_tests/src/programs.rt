@@ -5,3 +5,4 @@ pub mod descriptors;
 pub mod editing;
 pub mod error;
 pub mod nesting;
+mod runs;

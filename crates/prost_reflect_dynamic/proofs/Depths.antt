@@ -1,32 +1,38 @@
 -- What a message lends nests less deep than the message.
-use Rattle.std.proofs.Common.{rules, ◌≡◌, ◌<◌, ℕ, zero, suc, Bool, true, false, cond, List, [], ◌∷◌, ◌++◌, length, get_or, Option, Some, None, Bor, true≢false, sym, subst, ap, refl, ◌∙◌}
-use Rattle.std.specs.Prelude.{Result, IfOk, IfSome, slice_get, flat_map, option_and_then, is_some, unwrap_or}
+use denote.Param.Weighed.{w_const, w_pair, w_this, most}
+use Rattle.std.proofs.Common.{rules, ◌≡◌, ◌<◌, ◌≤◌, ◌+◌, ℕ, max, Bool, true, false, cond, List, [], ◌∷◌, ◌++◌, length, get_or, Option, Some, None, Bor, true≢false, sym, subst, ap, refl, ◌∙◌, arith}
+use Rattle.std.specs.Prelude.{Result, IfOk, IfSome, flat_map, option_and_then, option_map, option_to_list, is_some, unwrap_or}
 use Rattle.std.specs.List.{AllByRecursion, All}
 use Rattle.std.specs.Map.{lookup, values_of}
 use Rattle.std.specs.BTreeMap.{is_at}
-use Rattle.std.specs.Ordering.{nat_cmp}
-use Rattle.std.specs.Iterator.{Yields}
+use Rattle.std.specs.Ordering.{nat_cmp, match_ordering}
+use Rattle.std.specs.declared.cmp.Ordering.{Ordering}
+use Rattle.std.specs.declared.cmp.Ordering.TheVariants.{Less, Equal, Greater}
+use Rattle.prost_reflect_wire.specs.Schema.{Field}
 use Rattle.std.specs.declared.alloc.AllocError.{AllocError}
 use Rattle.std.specs.declared.alloc.Global.{Global}
 use Rattle.std.specs.declared.collections.BTreeMap.{BTreeMap}
 use Rattle.std.specs.declared.result.Result.TheVariants.{Ok, Err}
-use Rattle.std.proofs.iter.runs.Made.{took, each}
 use Rattle.std.proofs.lemmas.List.Elements.{recursion_from_All}
 use Rattle.std.proofs.lemmas.List.{get_or-map, length-map}
-use Rattle.prost_reflect_fields.specs.FieldSlots.{value_in, stored_at, numbered}
-use Rattle.prost_reflect_fields.specs.Items.{IsAscending}
-use Rattle.prost_reflect_fields.specs.Known.{known_of}
+use Rattle.prost_reflect_fields.specs.FieldSlots.{value_in, stored_at, has_value, numbered, left_in, then_slot, without_values, value_alone, values_alone, with_value_in, revalued, put_slot, put_value, with_slot, with_value}
+use Rattle.prost_reflect_fields.specs.formers.field_set.FieldSet.{slot_weighed}
+use Rattle.prost_reflect_fields.specs.Items.{IsAscending, item_at, put_item, with_item}
+use Rattle.prost_reflect_fields.specs.Known.{known_of, are_siblings}
+use Rattle.prost_reflect_fields.specs.Sound.{prepared, set_value_at}
 use Rattle.prost_reflect_fields.specs.declared.slot.FieldSlot.{FieldSlot}
 use Rattle.prost_reflect_fields.specs.declared.slot.FieldSlot.TheVariants as slots
 use Rattle.prost_reflect_dynamic.proofs.Had.{has_found}
+use Rattle.prost_reflect_dynamic.proofs.Walks.{gives}
 use Rattle.prost_reflect_pool.specs.declared.pooled_type.PooledType.{PooledType}
-use Rattle.prost_reflect_dynamic.specs.Access.{IsOwnField, has_at, had_at, saying}
-use Rattle.prost_reflect_dynamic.specs.Depths.{EachGiven, GivesInside}
+use Rattle.prost_reflect_dynamic.specs.Access.{IsOwnField, has_at, had_at, saying, left_at}
+use Rattle.prost_reflect_dynamic.specs.Depths.{GivesInside}
 use Rattle.prost_reflect_dynamic.specs.ExtensionAccess.{IsOwnExtension}
 use Rattle.prost_reflect_dynamic.specs.Places.{GivesNext}
 use Rattle.prost_reflect_dynamic.specs.ValueLists.{had_numbers, had_pairs, fields_left, extensions_left, fields_steps, extensions_steps, IsFieldPair, IsExtensionPair}
 use Rattle.prost_reflect_dynamic.specs.View.{content_of, message_type_of, stored_in}
-use Rattle.prost_reflect_dynamic.specs.declared.message.DynamicMessage.{DynamicMessage, size-DynamicMessage}
+use Rattle.prost_reflect_dynamic.specs.Walks.{EachGiven}
+use Rattle.prost_reflect_dynamic.specs.declared.message.DynamicMessage.{DynamicMessage, size-DynamicMessage, size_is-DynamicMessage}
 use Rattle.prost_reflect_dynamic.specs.declared.message.lists.had.Fields.{Fields}
 use Rattle.prost_reflect_dynamic.specs.declared.message.lists.had.Extensions.{Extensions}
 use Rattle.prost_reflect_dynamic.specs.declared.value.MapKey.{MapKey}
@@ -42,11 +48,6 @@ joined P (x ∷ xs) ys h k = (h.0, joined P xs ys h.1 k)
 flat : {X Y : Type 0} (P : Y → Type 0) (f : X → List Y) → ((x : X) → AllByRecursion P (f x)) → (xs : List X) → AllByRecursion P (flat_map f xs)
 flat P f h [] = tt
 flat P f h (x ∷ xs) = joined P (f x) (flat_map f xs) (h x) (flat P f h xs)
-
-everywhere : {X : Type 0} (P : X → Type 0) (xs : List X) → AllByRecursion P xs → (k : ℕ) → IfSome (slice_get xs k) P
-everywhere P [] h k = tt
-everywhere P (x ∷ xs) h zero = h.0
-everywhere P (x ∷ xs) h (suc k) = everywhere P xs h.1 k
 
 -- WHAT IS STORED
 
@@ -104,16 +105,6 @@ module _ (m : DynamicMessage) where
   next_small stands same (p ∷ old) new (Ok given) h g = (subst Small (sym (same p given g.1)) h.0, subst (AllByRecursion (λ (p : ℕ × Value). Small p.1)) (sym g.0) h.1)
   next_small stands same (p ∷ old) new (Err e) h g = (tt, subst (AllByRecursion (λ (p : ℕ × Value). Small p.1)) (sym g.0) h.1)
 
--- what holds of each step holds of what a run gives
-module _ {D S : Type 0} (steps : S → Option (Result (D × Bor Value) AllocError) → S → Type 0) (Holds : S → Type 0) (Given : D × Bor Value → Type 0)
-    (one : (s t : S) (x : Result (D × Bor Value) AllocError) → Holds s → steps s (Some x) t → IfOk x Given × Holds t) where
-  along : (xs : List (Result (D × Bor Value) AllocError)) (s t : S) → Holds s → Yields steps s xs t → AllByRecursion (λ r. IfOk r Given) xs
-  along [] s t h y = tt
-  along (x ∷ xs) s t h y = let n : IfOk x Given × Holds y.0 = one s y.0 x h y.1 in (n.0, along xs y.0 t n.1 y.2)
-
-  gives : (it : S) → Holds it → EachGiven steps Given it
-  gives it h p _ is = each p (λ r. IfOk r Given) (everywhere (λ r. IfOk r Given) p.items (along p.items p.from (took p).0 (subst Holds (sym is) h) (took p).1))
-
 module _ (m : DynamicMessage) where
   abbrev SmallLeft : List (ℕ × Value) → Type 0
   SmallLeft left = AllByRecursion (λ (p : ℕ × Value). size-Value p.1 < size-DynamicMessage m) left
@@ -145,6 +136,129 @@ module _ (m : DynamicMessage) where
         next_own (IsOwnExtension (message_type_of m)) (IsExtensionPair s.values.message_type.now) (λ p given st. subst (λ d. IsOwnExtension d given.0) h st.0) (extensions_left s) (extensions_left t) x g.0,
         ap (λ (b : Bor PooledType). b.now) g.1 ∙ h,
       )) it is
+
+-- WHAT IS LEFT
+
+-- a slot's depth is that of its value
+slot_below : (b : ℕ) → 0 < b → (s : FieldSlot Value) → IfSome (value_in s) (λ v. size-Value v < b) → (slot_weighed w_this).weight Value size-Value s < b
+slot_below b some (slots.Value v) h = h
+slot_below b some (slots.Unknown u) h = some
+slot_below b some (slots.Both v u) h = omega (arith, h)
+
+abbrev depth_of_slot : ℕ × FieldSlot Value → ℕ
+depth_of_slot = (w_pair (w_const ℕ) (slot_weighed w_this)).weight Value size-Value
+
+most_below : (b : ℕ) → 0 < b → (es : List (ℕ × FieldSlot Value)) → AllByRecursion (λ e. IfSome (value_in e.1) (λ v. size-Value v < b)) es → most depth_of_slot es < b
+most_below b some [] h = some
+most_below b some (e ∷ es) h =
+    let here : (slot_weighed w_this).weight Value size-Value e.1 < b = slot_below b some e.1 h.0 in
+    let more : most depth_of_slot es < b = most_below b some es h.1 in
+    omega (arith, here, more)
+
+-- the depth is one more than that of the deepest slot
+depth_is : (m : DynamicMessage) → size-DynamicMessage m ≡ max (max 0 (most depth_of_slot (stored_in m))) 0 + 1
+depth_is m = size_is-DynamicMessage m
+
+-- a message whose values nest less deep than another is no deeper
+pub no_deeper : (m new : DynamicMessage) → AllByRecursion (SmallIn m) (stored_in new) → size-DynamicMessage new ≤ size-DynamicMessage m
+no_deeper m new h =
+    let old = depth_is m in
+    let some : 0 < size-DynamicMessage m = omega (arith, old) in
+    let below : most depth_of_slot (stored_in new) < size-DynamicMessage m = most_below (size-DynamicMessage m) some (stored_in new) h in
+    let is = depth_is new in
+    omega (arith, below, is)
+
+module _ (P : Value → Type 0) where
+  abbrev Holds : ℕ × FieldSlot Value → Type 0
+  Holds e = IfSome (value_in e.1) P
+
+  then_holds : (n : ℕ) (o : Option (FieldSlot Value)) (es : List (ℕ × FieldSlot Value)) → IfSome o (λ s. IfSome (value_in s) P) → AllByRecursion Holds es → AllByRecursion Holds (then_slot n o es)
+  then_holds n None es h k = k
+  then_holds n (Some s) es h k = (h, k)
+
+  left_holds : (s : FieldSlot Value) → IfSome (left_in s) (λ s. IfSome (value_in s) P)
+  left_holds (slots.Value v) = tt
+  left_holds (slots.Unknown u) = tt
+  left_holds (slots.Both v u) = tt
+
+  kept_holds : (b : Bool) (s : FieldSlot Value) → IfSome (value_in s) P → IfSome (cond b (left_in s) (Some s)) (λ s. IfSome (value_in s) P)
+  kept_holds true s h = left_holds s
+  kept_holds false s h = h
+
+  without_holds : (test : ℕ → Bool) (es : List (ℕ × FieldSlot Value)) → AllByRecursion Holds es → AllByRecursion Holds (without_values test es)
+  without_holds test [] h = tt
+  without_holds test (e ∷ es) h = then_holds e.0 (cond (test e.0) (left_in e.1) (Some e.1)) (without_values test es) (kept_holds (test e.0) e.1 h.0) (without_holds test es h.1)
+
+  alone_holds : (es : List (ℕ × FieldSlot Value)) → AllByRecursion Holds es → AllByRecursion Holds (values_alone es)
+  alone_holds [] h = tt
+  alone_holds (e ∷ es) h = joined Holds (value_alone e) (values_alone es) (one (value_in e.1) h.0) (alone_holds es h.1)
+    where
+      one : (o : Option Value) → IfSome o P → AllByRecursion Holds (option_to_list (option_map (λ v. (e.0, slots.Value v)) o))
+      one None h = tt
+      one (Some v) h = (h, tt)
+
+  put_holds : (n : ℕ) (s : FieldSlot Value) → IfSome (value_in s) P → (es : List (ℕ × FieldSlot Value)) → AllByRecursion Holds es → AllByRecursion Holds (put_item es n s)
+  put_holds n s h [] k = (h, tt)
+  put_holds n s h (e ∷ es) k = go (nat_cmp n e.0) (put_holds n s h es k.1)
+    where
+      go : (o : Ordering) → AllByRecursion Holds (put_item es n s) → AllByRecursion Holds (match_ordering o ((n, s) ∷ e ∷ es) ((e.0, s) ∷ es) (e ∷ put_item es n s))
+      go Less more = (h, k)
+      go Equal more = (h, k.1)
+      go Greater more = (k.0, more)
+
+  replaced_holds : (n : ℕ) (s : FieldSlot Value) → IfSome (value_in s) P → (es : List (ℕ × FieldSlot Value)) → AllByRecursion Holds es → AllByRecursion Holds (with_item es n s)
+  replaced_holds n s h [] k = tt
+  replaced_holds n s h (e ∷ es) k = go (is_at (nat_cmp n) e.0) (replaced_holds n s h es k.1)
+    where
+      go : (b : Bool) → AllByRecursion Holds (with_item es n s) → AllByRecursion Holds (cond b ((e.0, s) ∷ es) (e ∷ with_item es n s))
+      go true more = (h, k.1)
+      go false more = (k.0, more)
+
+  module _ (n : ℕ) (v : Value) (here : P v) (es : List (ℕ × FieldSlot Value)) (k : AllByRecursion Holds es) where
+    set_holds : AllByRecursion Holds (put_value es n v)
+    set_holds = go (item_at es n)
+      where
+        inside : (s : FieldSlot Value) → IfSome (value_in (with_value_in s v)) P
+        inside (slots.Value w) = here
+        inside (slots.Unknown u) = here
+        inside (slots.Both w u) = here
+
+        go : (o : Option (FieldSlot Value)) → AllByRecursion Holds (put_slot es n v o)
+        go None = put_holds n (slots.Value v) here es k
+        go (Some s) = replaced_holds n (with_value_in s v) (inside s) es k
+
+    prepared_holds : (fields : List Field) → AllByRecursion Holds (prepared fields es n v)
+    prepared_holds fields = go (has_value es n)
+      where
+        go : (b : Bool) → AllByRecursion Holds (cond b es (set_value_at fields es n v))
+        go true = k
+        go false = without_holds (are_siblings fields n) (put_value es n v) set_holds
+
+    written_holds : AllByRecursion Holds (with_value es n v)
+    written_holds = go (item_at es n)
+      where
+        inside : (s : FieldSlot Value) → IfSome (value_in (revalued s v)) P
+        inside (slots.Value w) = here
+        inside (slots.Unknown u) = tt
+        inside (slots.Both w u) = here
+
+        go : (o : Option (FieldSlot Value)) → AllByRecursion Holds (with_slot es n v o)
+        go None = k
+        go (Some s) = replaced_holds n (revalued s v) (inside s) es k
+
+pub left_depth : (m : DynamicMessage) (n : ℕ) (v : Value) → size-Value v < size-DynamicMessage m → size-DynamicMessage (left_at m n v) ≤ size-DynamicMessage m
+left_depth m n v less =
+    let fields = known_of (message_type_of m) in
+    no_deeper m (left_at m n v) (written_holds (Small m) n v less (prepared fields (stored_in m) n v) (prepared_holds (Small m) n v less (stored_in m) (all_small m) fields))
+
+pub without_depth : (m new : DynamicMessage) (test : ℕ → Bool) → stored_in new ≡ without_values test (stored_in m) → size-DynamicMessage new ≤ size-DynamicMessage m
+without_depth m new test is = no_deeper m new (subst (AllByRecursion (SmallIn m)) (sym is) (without_holds (Small m) test (stored_in m) (all_small m)))
+
+pub alone_depth : (m new : DynamicMessage) → stored_in new ≡ values_alone (stored_in m) → size-DynamicMessage new ≤ size-DynamicMessage m
+alone_depth m new is = no_deeper m new (subst (AllByRecursion (SmallIn m)) (sym is) (alone_holds (Small m) (stored_in m) (all_small m)))
+
+pub nothing_depth : (m new : DynamicMessage) → stored_in new ≡ [] → size-DynamicMessage new ≤ size-DynamicMessage m
+nothing_depth m new is = no_deeper m new (subst (AllByRecursion (SmallIn m)) (sym is) tt)
 
 -- A MAP'S ENTRIES
 

@@ -1,5 +1,5 @@
 -- What clearing a number and setting a value keep of a content.
-use Rattle.std.proofs.Common.{◌≡◌, ℕ, Bool, true, false, cond, nat_eq, List, Option, Some, None, refl, ap, sym, subst, ◌∙◌, true≢false}
+use Rattle.std.proofs.Common.{◌≡◌, ◌≤◌, ℕ, Bool, true, false, cond, nat_eq, List, Option, Some, None, refl, ap, sym, subst, ◌∙◌, true≢false, arith}
 use Rattle.std.specs.Option.{is_some}
 use Rattle.std.proofs.lemmas.Bool.{and_parts, and_from, eq-eqb}
 use Rattle.prost_reflect_wire.specs.Schema.{Field, known, field_of, passes}
@@ -21,7 +21,7 @@ use Rattle.prost_reflect_dynamic.specs.TypedSteps.{StaysTyped, typed_at}
 use Rattle.prost_reflect_dynamic.specs.Stored.{message_stored, value_stored}
 use Rattle.prost_reflect_dynamic.specs.View.{value_of, content_of, message_type_of, stored_in, entries_from}
 use Rattle.prost_reflect_dynamic.specs.declared.value.Value as values
-use Rattle.prost_reflect_dynamic.specs.declared.message.DynamicMessage.{DynamicMessage}
+use Rattle.prost_reflect_dynamic.specs.declared.message.DynamicMessage.{DynamicMessage, size-DynamicMessage}
 use Rattle.prost_reflect_fields.specs.Items.{IsAscending}
 use Rattle.prost_reflect_fields.specs.Known.{known_of}
 use Rattle.prost_reflect_pool.specs.MessageTypes.{schema_at, type_at}
@@ -109,50 +109,54 @@ message_set_fits m new n v is valid inside h =
 
 -- WHAT IS REMOVED
 
-pub clears : (m new : DynamicMessage) (n : ℕ) → IsAscending (stored_in m) → message_type_of new ≡ message_type_of m → content_of new ≡ value_cleared n (content_of m) → StaysTyped m new → Removes (cleared_if (Some n)) m new
-clears m new n s type is typed = record {
+pub clears : (m new : DynamicMessage) (n : ℕ) → IsAscending (stored_in m) → message_type_of new ≡ message_type_of m → content_of new ≡ value_cleared n (content_of m) → StaysTyped m new → size-DynamicMessage new ≤ size-DynamicMessage m → Removes (cleared_if (Some n)) m new
+clears m new n s type is typed depth = record {
   message_type = type;
   content = is;
   held = ap kept is ∙ kept_after_clear (content_of m) n (message_arranged m s);
   sound = λ w. subst WellStored (sym is) (clear_holds (content_of m) n (differ_in m) w);
   encodable = λ h. ap encodable is ∙ clear_fits (content_of m) n h;
   typed = typed.typed;
+  depth = depth;
 }
 
 pub clears_none : (m : DynamicMessage) → Removes (cleared_if None) m m
-clears_none m = record { message_type = refl; content = refl; held = refl; sound = λ w. w; encodable = λ h. h; typed = λ h. h }
+clears_none m = record { message_type = refl; content = refl; held = refl; sound = λ w. w; encodable = λ h. h; typed = λ h. h; depth = omega arith }
 
 pub is_gone : (m new : DynamicMessage) (n : ℕ) → IsAscending (stored_in m) → content_of new ≡ value_cleared n (content_of m) → has_at n (content_of new) ≡ false
 is_gone m new n s is = ap (has_at n) is ∙ clear_gone (content_of m) n (message_arranged m s)
 
-pub empties : (m new : DynamicMessage) → message_type_of new ≡ message_type_of m → content_of new ≡ cleared (content_of m) → all_typed (message_stored new) ≡ true → Removes cleared m new
-empties m new type is typed = record {
+pub empties : (m new : DynamicMessage) → message_type_of new ≡ message_type_of m → content_of new ≡ cleared (content_of m) → all_typed (message_stored new) ≡ true → size-DynamicMessage new ≤ size-DynamicMessage m → Removes cleared m new
+empties m new type is typed depth = record {
   message_type = type;
   content = is;
   held = ap kept is ∙ kept_after_clear_all (content_of m);
   sound = λ w. cleared_sound (content_of new) (content_of m) is;
   encodable = λ h. let s = cleared_sound (content_of new) (content_of m) is in s.fits;
   typed = λ h. typed;
+  depth = depth;
 }
 
-pub takes_all : (m new : DynamicMessage) (x : Bool) → IsAscending (stored_in m) → message_type_of new ≡ message_type_of m → content_of new ≡ values_taken x (content_of m) → StaysTyped m new → Removes (values_taken x) m new
-takes_all m new x s type is typed = record {
+pub takes_all : (m new : DynamicMessage) (x : Bool) → IsAscending (stored_in m) → message_type_of new ≡ message_type_of m → content_of new ≡ values_taken x (content_of m) → StaysTyped m new → size-DynamicMessage new ≤ size-DynamicMessage m → Removes (values_taken x) m new
+takes_all m new x s type is typed depth = record {
   message_type = type;
   content = is;
   held = ap kept is ∙ kept_taken x (content_of m);
   sound = λ w. subst WellStored (sym is) (taken_holds x (content_of m) (message_arranged m s) (differ_in m) w);
   encodable = λ h. ap encodable is ∙ taken_fits x (content_of m) (message_arranged m s) h;
   typed = typed.typed;
+  depth = depth;
 }
 
-pub takes_unknown : (m new : DynamicMessage) → IsAscending (stored_in m) → message_type_of new ≡ message_type_of m → content_of new ≡ in_entries without_unknown (content_of m) → StaysTyped m new → Removes (in_entries without_unknown) m new
-takes_unknown m new s type is typed = record {
+pub takes_unknown : (m new : DynamicMessage) → IsAscending (stored_in m) → message_type_of new ≡ message_type_of m → content_of new ≡ in_entries without_unknown (content_of m) → StaysTyped m new → size-DynamicMessage new ≤ size-DynamicMessage m → Removes (in_entries without_unknown) m new
+takes_unknown m new s type is typed depth = record {
   message_type = type;
   content = is;
   held = ap kept is ∙ kept_unknown_taken (content_of m);
   sound = λ w. subst WellStored (sym is) (unknown_taken_holds (content_of m) (message_arranged m s) (differ_in m) w);
   encodable = λ h. ap encodable is ∙ unknown_taken_fits (content_of m) (message_arranged m s) h;
   typed = typed.typed;
+  depth = depth;
 }
 
 -- WHAT IS SET

@@ -1,5 +1,5 @@
 -- What a message has at a number, by what it stores there.
-use Rattle.std.proofs.Common.{◌≡◌, ℕ, Bool, true, false, cond, List, Option, Some, None, refl, ap, sym, ◌∙◌}
+use Rattle.std.proofs.Common.{◌≡◌, ℕ, Bool, true, false, cond, List, Option, Some, None, refl, ap, sym, ◌∙◌, true≢false}
 use Rattle.std.specs.Option.{option_map, option_and_then, is_some}
 use Rattle.prost_reflect_wire.specs.Schema.{Field, field_of, passes}
 use Rattle.prost_reflect_wire.specs.Content.{Slot, entries_of, value_at}
@@ -8,10 +8,11 @@ use Rattle.prost_reflect_fields.specs.declared.slot.FieldSlot.{FieldSlot}
 use Rattle.prost_reflect_fields.specs.Items.{IsAscending}
 use Rattle.prost_reflect_fields.specs.FieldSlots.{stored_at}
 use Rattle.prost_reflect_fields.specs.Known.{known_of}
+use Rattle.prost_reflect_fields.specs.Sound.{IsSound}
 use Rattle.prost_reflect_dynamic.specs.declared.message.DynamicMessage.{DynamicMessage}
 use Rattle.prost_reflect_dynamic.specs.declared.value.Value.{Value}
 use Rattle.prost_reflect_dynamic.specs.View.{value_of, content_of, message_type_of, stored_in, entries_from}
-use Rattle.prost_reflect_dynamic.specs.Access.{has_at, had_at, saying, HadContent}
+use Rattle.prost_reflect_dynamic.specs.Access.{has_at, had_at, saying, HadContent, HasOneMember}
 use Rattle.prost_reflect_dynamic.proofs.Views.{shown, content_of_message}
 use Rattle.prost_reflect_dynamic.proofs.Stored.{slot_stored}
 use Rattle.prost_reflect_dynamic.proofs.ContentChanges.{message_arranged}
@@ -84,3 +85,16 @@ module _ (m : DynamicMessage) (n : ℕ) (v : Value) (b : Bool) (s : IsAscending 
 
   pub has_tested : is_some (cond b None (Some v)) ≡ has_at n (content_of m)
   has_tested = ap (λ (b : Bool). is_some (cond b None (Some v))) (sym is) ∙ sym (has_found m n (Some v) s h)
+
+-- Of the members of a oneof one at most is stored, so one at most is had.
+pub one_member : (m : DynamicMessage) → IsAscending (stored_in m) → IsSound (message_type_of m) (stored_in m) → HasOneMember m
+one_member m s sound k n siblings has =
+    without (stored_at (stored_in m) n) (has_found m n (stored_at (stored_in m) n) s refl) (sound.2 k n (with (stored_at (stored_in m) k) (sym (has_found m k (stored_at (stored_in m) k) s refl) ∙ has)) siblings)
+  where
+    with : (o : Option Value) → is_some (option_and_then (saying (fields_in m) k) o) ≡ true → is_some o ≡ true
+    with None h = h
+    with (Some v) h = refl
+
+    without : (o : Option Value) → has_at n (content_of m) ≡ is_some (option_and_then (saying (fields_in m) n) o) → is_some o ≡ false → has_at n (content_of m) ≡ false
+    without None is none = is
+    without (Some v) is none = absurd (true≢false none)

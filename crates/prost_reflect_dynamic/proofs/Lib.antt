@@ -1,3 +1,4 @@
+mod Walks
 mod Depths
 pub mod ScalarReads
 pub mod RowKinds

@@ -1,9 +1,9 @@
 -- The descriptors that are found by numbers of fields and extensions which a message type lists.
 use Rattle.std.proofs.Common.{◌≡◌, ℕ, ◌==◌, Bool, true, false, not, Option, Some, None, refl, sym, ap, ◌∙◌, unwrap_or, true≢false}
 use Rattle.std.specs.Bool.{beq}
+use Rattle.std.proofs.lemmas.Bool.{eqb-true}
 use Rattle.std.specs.Option.{option_map, is_some}
 use Rattle.prost_reflect_wire.specs.Schema.{passes}
-use Rattle.prost_reflect_tables.specs.CatalogRows.{ExtensionRow}
 use Rattle.prost_reflect_tables.specs.Places.{fields_at, row_of, is_declared}
 use Rattle.prost_reflect_tables.specs.Rows.{FieldRow}
 use Rattle.prost_reflect_tables.specs.Shown.{schema_field}
@@ -16,6 +16,7 @@ use Rattle.prost_reflect_fields.specs.Known.{known_of, is_listed}
 use Rattle.prost_reflect_dynamic.specs.Access.{IsOwnField, number_of, is_field_number}
 use Rattle.prost_reflect_dynamic.specs.ExtensionAccess.{IsOwnExtension, extension_number}
 use Rattle.prost_reflect_dynamic.specs.Named.{NamesEqual, NamesSame, SameMessage}
+use Rattle.prost_reflect_dynamic.specs.NamedExtensions.{Extends}
 use Rattle.prost_reflect_dynamic.specs.NamedFields.{declared_place}
 use Rattle.prost_reflect_dynamic.specs.NamedFields as named
 use Rattle.prost_reflect_dynamic.specs.declared.descriptor.extension.ExtensionDescriptor.{ExtensionDescriptor}
@@ -76,9 +77,9 @@ extension_missed t d n same h none = of (row_of (fields_of t) n) refl (sym (list
     of None at is = true≢false (sym is)
     of (Some f) at is = true≢false (sym (extension_there t.pool.value t.index n f at (marked f.is_extension is)) ∙ ap is_some (sym (where_same t d n same) ∙ none))
 
-pub extension_own : (t : PooledType) (d : MessageDescriptor) (x : ExtensionDescriptor) (n : ℕ) → NamesSame d t → x.pool.inner.value ≡ d.pool.inner.value → extension_where d.pool.inner.value d.index (λ f. f.number == n) ≡ Some x.index → IsOwnExtension t x × (extension_number x ≡ n)
-extension_own t d x n same pool at =
-    let e : FoundExtension x.pool.inner.value d.index n x.index = extension_found x.pool.inner.value d.index n x.index ((λ i. extension_where (pool i) d.index (λ f. f.number == n)) ∙ at) in (
-      (ap contents_in (pool ∙ same.0), ap (option_map (λ (e : ExtensionRow). e.message)) e.at ∙ ap Some (e.message ∙ same.1)),
-      ap (λ (o : Option FieldRow). unwrap_or (option_map (λ f. f.number) o) 0) e.stands ∙ e.number,
+pub extension_own : (t : PooledType) (d : MessageDescriptor) (x : ExtensionDescriptor) (n : ℕ) → NamesSame d t → Extends d x → extension_where d.pool.inner.value d.index (λ f. f.number == n) ≡ Some x.index → IsOwnExtension t x × (extension_number x ≡ n)
+extension_own t d x n same own at =
+    let e : FoundExtension x.pool.inner.value d.index (λ f. f.number == n) x.index = extension_found x.pool.inner.value d.index (λ f. f.number == n) x.index ((λ i. extension_where (own.0 i) d.index (λ f. f.number == n)) ∙ at) in (
+      (ap contents_in (own.0 ∙ same.0), own.1 ∙ ap Some same.1),
+      ap (λ (o : Option FieldRow). unwrap_or (option_map (λ f. f.number) o) 0) e.stands ∙ eqb-true e.row.number n e.passing,
     )

@@ -1,25 +1,33 @@
 -- Extensions of a message's own type, and what their numbers are to it.
-use Rattle.std.proofs.Common.{◌≡◌, ℕ, true, Option, Some, None, refl, ap, sym, ◌∙◌}
+use Rattle.std.proofs.Common.{◌≡◌, ℕ, zero, suc, Bool, true, List, [], ◌∷◌, Option, Some, None, refl, ap, sym, ◌∙◌}
+use Rattle.std.specs.List.{AllByRecursion}
 use Rattle.std.specs.Option.{option_map, option_and_then, is_some}
-use Rattle.std.specs.Prelude.{slice_get}
+use Rattle.std.specs.Prelude.{slice_get, IfOk, IfSome, Result}
+use Rattle.std.specs.declared.alloc.AllocError.{AllocError}
+use Rattle.std.proofs.lemmas.Option.{same_Some}
 use Rattle.prost_reflect_wire.specs.Schema.{field_of, passes}
 use Rattle.prost_reflect_wire.specs.Typing.{value_valid}
-use Rattle.prost_reflect_tables.specs.CatalogRows.{ExtensionRow}
+use Rattle.prost_reflect_tables.specs.CatalogRows.{ExtensionRow, MessageListsRow}
 use Rattle.prost_reflect_tables.specs.Places.{fields_at}
 use Rattle.prost_reflect_tables.specs.Rows.{FieldRow}
 use Rattle.prost_reflect_tables.specs.Shown.{schema_field}
+use Rattle.prost_reflect_pool.specs.Lookups.{extending_or_none, extension_where}
 use Rattle.prost_reflect_pool.specs.MessageTypes.{fields_of}
+use Rattle.prost_reflect_pool.specs.Pools.{pool_catalog}
 use Rattle.prost_reflect_pool.specs.SharedPools.{pool_rows}
 use Rattle.prost_reflect_pool.specs.declared.pooled_type.PooledType.{PooledType}
 use Rattle.prost_reflect_pool.proofs.EqualTypes.{rows_same}
+use Rattle.prost_reflect_pool.proofs.ExtensionPlaces.{FoundExtension, extension_found as place_found, extending_there}
 use Rattle.prost_reflect_fields.specs.Known.{known_of, is_known}
 use Rattle.prost_reflect_dynamic.specs.Access.{takes_at}
 use Rattle.prost_reflect_dynamic.specs.ExtensionAccess.{IsOwnExtension, extension_takes}
-use Rattle.prost_reflect_dynamic.specs.NamedExtensions.{extension_named, extension_row_named}
+use Rattle.prost_reflect_dynamic.specs.NamedExtensions.{extension_named, extension_row_named, Extends}
 use Rattle.prost_reflect_dynamic.specs.View.{value_of}
 use Rattle.prost_reflect_dynamic.specs.declared.descriptor.extension.ExtensionDescriptor.{ExtensionDescriptor}
+use Rattle.prost_reflect_dynamic.specs.declared.descriptor.message.MessageDescriptor.{MessageDescriptor}
 use Rattle.prost_reflect_dynamic.specs.declared.value.Value.{Value}
 use Rattle.prost_reflect_dynamic.proofs.Described.{known_of_row}
+use Rattle.prost_reflect_dynamic.proofs.OwnFields.{and_ok}
 
 -- The row of an own extension is one of the message type's, which knows it by its number.
 pub extension_found : (t : PooledType) (x : ExtensionDescriptor) (n : ℕ) → IsOwnExtension t x → option_map (λ f. f.number) (extension_row_named x) ≡ Some n
@@ -50,3 +58,33 @@ extension_known t x n own h = ap is_some (extension_found t x n own h) ∙ there
 -- It takes what the message type's field of its number takes.
 pub extension_takes_found : (t : PooledType) (x : ExtensionDescriptor) (n : ℕ) (v : Value) → IsOwnExtension t x → option_map (λ f. f.number) (extension_row_named x) ≡ Some n → extension_takes x v ≡ takes_at t n v
 extension_takes_found t x n v own h = ap (λ o. passes o (λ f. value_valid f (value_of v))) (sym (extension_found t x n own h))
+
+-- WHAT LOOK-UPS AND WALKS ANSWER
+
+found_extends : (d : MessageDescriptor) (test : FieldRow → Bool) (place : Option ℕ) → place ≡ extension_where d.pool.inner.value d.index test → (found : Option ExtensionDescriptor) → option_map (λ x. x.index) found ≡ place
+    → IfSome found (λ x. x.pool.inner.value ≡ d.pool.inner.value) → IfSome found (Extends d)
+found_extends d test place is None e s = tt
+found_extends d test place is (Some x) e s =
+    let f : FoundExtension x.pool.inner.value d.index test x.index = place_found x.pool.inner.value d.index test x.index ((λ i. extension_where (s i) d.index test) ∙ sym is ∙ sym e) in (s, f.extends)
+
+pub extensions_found : (d : MessageDescriptor) (test : FieldRow → Bool) (place : Option ℕ) → place ≡ extension_where d.pool.inner.value d.index test → (r : Result (Option ExtensionDescriptor) AllocError) → IfOk r (λ found. option_map (λ x. x.index) found ≡ place)
+    → IfOk r (λ found. IfSome found (λ x. x.pool.inner.value ≡ d.pool.inner.value)) → IfOk r (λ found. IfSome found (Extends d))
+extensions_found d test place is = and_ok _ _ _ (found_extends d test place is)
+
+-- the place is that of an extension of the message type
+abbrev pub ExtendsAt : MessageDescriptor → ℕ → Type 0
+ExtendsAt d i = option_map (λ (e : ExtensionRow). e.message) (slice_get (pool_catalog d.pool.inner.value).extensions i) ≡ Some d.index
+
+at_each : (Q : ℕ → Type 0) (xs : List ℕ) → ((k i : ℕ) → slice_get xs k ≡ Some i → Q i) → AllByRecursion Q xs
+at_each Q [] h = tt
+at_each Q (x ∷ xs) h = (h 0 x refl, at_each Q xs (λ k i e. h (suc k) i e))
+
+pub each_extends : (d : MessageDescriptor) (places : List ℕ) → option_map (λ lists. lists.extending) (slice_get (pool_catalog d.pool.inner.value).messages d.index) ≡ Some places → AllByRecursion (ExtendsAt d) places
+each_extends d places is = at_each (ExtendsAt d) places (λ k i e. extending_there d.pool.inner.value d.index k i (ap (λ l. slice_get l k) (listed (slice_get (pool_catalog d.pool.inner.value).messages d.index) is) ∙ e))
+  where
+    listed : (o : Option MessageListsRow) → option_map (λ (lists : MessageListsRow). lists.extending) o ≡ Some places → extending_or_none o ≡ places
+    listed None e = absurd cc
+    listed (Some lists) e = same_Some lists.extending places e
+
+pub stands_extending : (d : MessageDescriptor) (i : ℕ) (x : ExtensionDescriptor) → ExtendsAt d i → (x.pool.inner.value ≡ d.pool.inner.value) × (x.index ≡ i) → Extends d x
+stands_extending d i x at s = (s.0, (λ j. option_map (λ (e : ExtensionRow). e.message) (slice_get (pool_catalog (s.0 j)).extensions (s.1 j))) ∙ at)

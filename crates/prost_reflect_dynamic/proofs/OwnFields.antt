@@ -178,7 +178,7 @@ own_takes t field f v own at = takes_found t field (number_of field) v own (ap (
 
 -- WHAT A LOOK-UP ANSWERS
 
-and_ok : {X E : Type 0} (P Q R : X → Type 0) → ((x : X) → P x → Q x → R x) → (r : Result X E) → IfOk r P → IfOk r Q → IfOk r R
+pub and_ok : {X E : Type 0} (P Q R : X → Type 0) → ((x : X) → P x → Q x → R x) → (r : Result X E) → IfOk r P → IfOk r Q → IfOk r R
 and_ok P Q R f (Ok x) p q = f x p q
 and_ok P Q R f (Err e) p q = tt
 

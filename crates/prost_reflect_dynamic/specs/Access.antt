@@ -12,7 +12,7 @@ use Rattle.prost_reflect_pool.specs.Lookups.{named_field}
 use Rattle.prost_reflect_pool.specs.MessageTypes.{schema_at, fields_of}
 use Rattle.prost_reflect_pool.specs.declared.pooled_type.PooledType.{PooledType}
 use Rattle.prost_reflect_fields.specs.Items.{IsAscending}
-use Rattle.prost_reflect_fields.specs.Known.{known_of}
+use Rattle.prost_reflect_fields.specs.Known.{known_of, are_siblings}
 use Rattle.prost_reflect_fields.specs.FieldSlots.{stored_at}
 use Rattle.prost_reflect_dynamic.specs.Named.{NamesEqual}
 use Rattle.prost_reflect_dynamic.specs.NamedField.{row_at}
@@ -119,6 +119,10 @@ IsLentIf None m lent = ⊥
 IsLentIf (Some n) m lent = IsLentOf m n lent
 
 -- LAWS
+
+-- Of the members of a oneof a message has one at most.
+abbrev pub HasOneMember : DynamicMessage → Type 0
+HasOneMember m = (k n : ℕ) → are_siblings (known_of (message_type_of m)) k n ≡ true → has_at k (content_of m) ≡ true → has_at n (content_of m) ≡ false
 
 -- What is shown is in the content: the value of the number, or else the field's default.
 abbrev pub ShownContent : Type 0

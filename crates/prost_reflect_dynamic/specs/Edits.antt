@@ -1,5 +1,5 @@
 -- What the edits of a message keep: what it holds for others, and that it stays encodable, well-stored and typed.
-use Rattle.std.specs.Prelude.{◌≡◌, ℕ, true, Option, Some, None, IfSome}
+use Rattle.std.specs.Prelude.{◌≡◌, ◌≤◌, ℕ, true, Option, Some, None, IfSome}
 use Rattle.prost_reflect_wire.specs.Schema.{field_of, passes}
 use Rattle.prost_reflect_wire.specs.Content as contents
 use Rattle.prost_reflect_wire.specs.Content.{Content, value_ordered}
@@ -15,7 +15,7 @@ use Rattle.prost_reflect_dynamic.specs.Stored.{message_stored, value_stored}
 use Rattle.prost_reflect_dynamic.specs.TypedSteps.{typed_at}
 use Rattle.prost_reflect_dynamic.specs.View.{value_of, content_of, message_type_of}
 use Rattle.prost_reflect_dynamic.specs.declared.value.Value.{Value}
-use Rattle.prost_reflect_dynamic.specs.declared.message.DynamicMessage.{DynamicMessage}
+use Rattle.prost_reflect_dynamic.specs.declared.message.DynamicMessage.{DynamicMessage, size-DynamicMessage}
 
 -- VALUES
 
@@ -32,7 +32,7 @@ held_set n v c = in_field n (λ schema fields f es. set_field fields f v es) c
 
 -- REMOVING
 
--- What is stored, and what is held for others, was changed alike; and what writing asks for was kept.
+-- What is stored, and what is held for others, was changed alike; what writing asks for was kept; and the message nests no deeper.
 pub record Removes (change : Content → Content) (old new : DynamicMessage) : Type 0 where
   pub message_type : message_type_of new ≡ message_type_of old
   pub content : content_of new ≡ change (content_of old)
@@ -40,6 +40,7 @@ pub record Removes (change : Content → Content) (old new : DynamicMessage) : T
   pub sound : WellStored (content_of old) → WellStored (content_of new)
   pub encodable : encodable (content_of old) ≡ true → encodable (content_of new) ≡ true
   pub typed : all_typed (message_stored old) ≡ true → all_typed (message_stored new) ≡ true
+  pub depth : size-DynamicMessage new ≤ size-DynamicMessage old
 
 -- SETTING
 

@@ -45,6 +45,7 @@ pub mod Places
 pub mod Reserved
 pub mod ValueLists
 pub mod Access
+pub mod Walks
 pub mod Depths
 pub mod ExtensionAccess
 pub mod Setting

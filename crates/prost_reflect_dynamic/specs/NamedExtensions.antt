@@ -1,10 +1,11 @@
 -- What the descriptor of an extension names.
-use Rattle.std.specs.Prelude.{◌≡◌, Option, option_and_then, slice_get}
+use Rattle.std.specs.Prelude.{◌≡◌, Option, Some, option_and_then, option_map, slice_get}
 use Rattle.prost_reflect_tables.specs.CatalogRows.{ExtensionRow}
 use Rattle.prost_reflect_tables.specs.Places.{fields_at}
 use Rattle.prost_reflect_tables.specs.Rows.{FieldRow}
 use Rattle.prost_reflect_pool.specs.SharedPools.{pool_rows, pool_catalog}
 use Rattle.prost_reflect_dynamic.specs.declared.descriptor.extension.ExtensionDescriptor.{ExtensionDescriptor}
+use Rattle.prost_reflect_dynamic.specs.declared.descriptor.message.MessageDescriptor.{MessageDescriptor}
 
 -- Where the extension's row stands.
 abbrev pub extension_named : ExtensionDescriptor → Option ExtensionRow
@@ -17,3 +18,7 @@ extension_row_named x = option_and_then (λ e. slice_get (fields_at (pool_rows x
 -- Two descriptors of one extension.
 abbrev pub SameExtension : ExtensionDescriptor → ExtensionDescriptor → Type 0
 SameExtension a b = (b.pool.inner.value ≡ a.pool.inner.value) × (b.index ≡ a.index)
+
+-- The extension is one of the message type's.
+abbrev pub Extends : MessageDescriptor → ExtensionDescriptor → Type 0
+Extends d x = (x.pool.inner.value ≡ d.pool.inner.value) × (option_map (λ e. e.message) (extension_named x) ≡ Some d.index)

@@ -24,6 +24,7 @@ pub use descriptor::{
     OneofDescriptors, OptionsError, Placed, Places, ReservedNames, ReservedRanges,
     ServiceDescriptor, ServiceDescriptors, Syntax, builtin_pool,
 };
+pub use message::laws::one_member;
 pub use message::path::{set_at_path, takes_at_path};
 pub use message::{
     DynamicMessage, Extensions, Fields, GetFieldError, PresentNumber, SetFieldError,

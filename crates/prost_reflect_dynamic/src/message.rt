@@ -38,6 +38,7 @@ mod encode;
 pub(crate) mod enums;
 mod equality;
 mod extensions;
+pub(crate) mod laws;
 mod lending;
 mod lists;
 mod merge;

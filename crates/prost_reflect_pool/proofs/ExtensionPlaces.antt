@@ -215,49 +215,28 @@ extension_there pool T n f found marked =
     (ap (λ q. is_place q (extended_place (links_of flat) x.definition)) zero_first ∙ x.extends)
     (ap test first ∙ ap (λ o. passes o (λ (f : FieldRow). f.number == n)) row ∙ at.2)
 
--- What the look-up of a number finds: an extension of the message type, with that number.
-pub record FoundExtension (pool : LinkedPool) (T n i : ℕ) : Type 0 where
-  pub extension : ExtensionRow
-  pub at : slice_get (pool_catalog pool).extensions i ≡ Some extension
-  pub message : extension.message ≡ T
-  pub row : FieldRow
-  pub stands : extension_row_at pool i ≡ Some row
-  pub number : row.number ≡ n
-
 pub is_place_same : (T : ℕ) (o : Option ℕ) → is_place T o ≡ true → o ≡ Some T
 is_place_same T None h = absurd (true≢false (sym h))
 is_place_same T (Some U) h = ap Some (sym (eqb-true T U h))
 
-passing_row : (o : Option FieldRow) (n : ℕ) → passes o (λ f. f.number == n) ≡ true → (f : FieldRow) × (o ≡ Some f) × (f.number ≡ n)
-passing_row None n h = absurd (true≢false (sym h))
-passing_row (Some f) n h = (f, refl, eqb-true f.number n h)
-
-pub extension_found : (pool : LinkedPool) (T n i : ℕ) → extension_where pool T (λ f. f.number == n) ≡ Some i → FoundExtension pool T n i
-extension_found pool T n i found = listed (slice_get (pool_rows pool).messages T) refl
+-- Each of the places of those that extend a message type is that of an extension of it.
+pub extending_there : (pool : LinkedPool) (T k i : ℕ) → slice_get (extending_or_none (slice_get (pool_catalog pool).messages T)) k ≡ Some i → option_map (λ (e : ExtensionRow). e.message) (slice_get (pool_catalog pool).extensions i) ≡ Some T
+extending_there pool T k i found = listed (slice_get (pool_rows pool).messages T) refl
   where
     flat : FlatRows
     flat = flattened (files_of pool)
 
-    among : (m : MessageRow) → slice_get (pool_rows pool).messages T ≡ Some m → FoundExtension pool T n i
+    among : (m : MessageRow) → slice_get (pool_rows pool).messages T ≡ Some m → option_map (λ (e : ExtensionRow). e.message) (slice_get (pool_catalog pool).extensions i) ≡ Some T
     among m at =
         let extends = λ (d : DefinitionRow FieldDescriptorProto). is_place (0 + T) (extended_place (links_of flat) d) in
-        let hit = found_at (λ (i : ℕ). passes (extension_row_at pool i) (λ f. f.number == n)) (places_from extends 0 flat.extensions) i
-        (ap (find (λ (i : ℕ). passes (extension_row_at pool i) (λ f. f.number == n))) (sym (extending_at pool T m at)) ∙ found) in
-        let place = place_at extends 0 flat.extensions hit.0 i hit.1 in
+        let place = place_at extends 0 flat.extensions k i (ap (λ l. slice_get l k) (sym (extending_at pool T m at)) ∙ found) in
         let same : i ≡ place.0 = omega (arith, place.2) in
         let there : slice_get flat.extensions i ≡ Some place.1 = ap (slice_get flat.extensions) same ∙ place.3 in
         let zero_first : 0 + T ≡ T = omega arith in
-        let row = passing_row (extension_row_at pool i) n hit.2 in
-        record {
-          extension = linked_extension (links_of flat) (linked_rows flat) place.1;
-          at = extension_row pool i place.1 there;
-          message = ap (λ (o : Option ℕ). unwrap_or o 0) (is_place_same (0 + T) (extended_place (links_of flat) place.1) place.4) ∙ zero_first;
-          row = row.0;
-          stands = row.1;
-          number = row.2;
-        }
+        ap (option_map (λ (e : ExtensionRow). e.message)) (extension_row pool i place.1 there)
+        ∙ ap Some (ap (λ (o : Option ℕ). unwrap_or o 0) (is_place_same (0 + T) (extended_place (links_of flat) place.1) place.4) ∙ zero_first)
 
-    listed : (o : Option MessageRow) → slice_get (pool_rows pool).messages T ≡ o → FoundExtension pool T n i
+    listed : (o : Option MessageRow) → slice_get (pool_rows pool).messages T ≡ o → option_map (λ (e : ExtensionRow). e.message) (slice_get (pool_catalog pool).extensions i) ≡ Some T
     listed (Some m) at = among m at
     listed None at = absurd (nothing at)
       where
@@ -269,5 +248,22 @@ extension_found pool T n i found = listed (slice_get (pool_rows pool).messages T
         nothing : slice_get (pool_rows pool).messages T ≡ None → ⊥
         nothing at =
             let none : slice_get (pool_catalog pool).messages T ≡ None = ap (λ (c : CatalogRows). slice_get c.messages T) (catalog_is pool) ∙ no_lists (linked_rows flat).messages 0 T (ap (λ (r : TableRows). slice_get r.messages T) (sym pool.built.1) ∙ at) in
-            let lost : None ≡ Some i = sym (ap (λ o. find (λ (i : ℕ). passes (extension_row_at pool i) (λ f. f.number == n)) (extending_or_none o)) none) ∙ found in
+            let lost : None ≡ Some i = sym (ap (λ o. slice_get (extending_or_none o) k) none) ∙ found in
             cc
+
+-- What a look-up finds: an extension of the message type, whose row passes.
+pub record FoundExtension (pool : LinkedPool) (T : ℕ) (test : FieldRow → Bool) (i : ℕ) : Type 0 where
+  pub extends : option_map (λ (e : ExtensionRow). e.message) (slice_get (pool_catalog pool).extensions i) ≡ Some T
+  pub row : FieldRow
+  pub stands : extension_row_at pool i ≡ Some row
+  pub passing : test row ≡ true
+
+passing_row : (o : Option FieldRow) (test : FieldRow → Bool) → passes o test ≡ true → (f : FieldRow) × (o ≡ Some f) × (test f ≡ true)
+passing_row None test h = absurd (true≢false (sym h))
+passing_row (Some f) test h = (f, refl, h)
+
+pub extension_found : (pool : LinkedPool) (T : ℕ) (test : FieldRow → Bool) (i : ℕ) → extension_where pool T test ≡ Some i → FoundExtension pool T test i
+extension_found pool T test i found =
+    let hit = found_at (λ (i : ℕ). passes (extension_row_at pool i) test) (extending_or_none (slice_get (pool_catalog pool).messages T)) i found in
+    let row = passing_row (extension_row_at pool i) test hit.2 in
+    record { extends = extending_there pool T hit.0 i hit.1; row = row.0; stands = row.1; passing = row.2 }

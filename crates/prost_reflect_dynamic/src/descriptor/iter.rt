@@ -58,9 +58,9 @@ impl<'a, P, D: Placed<P>> Iterator for Descriptors<'a, P, D> {
 
     ghost use Rattle.std.specs.Prelude.{length};
     ghost use Rattle.std.specs.Iterator.{at_most};
-    ghost use Rattle.prost_reflect_dynamic.specs.Places.{GivesNext};
+    ghost use Rattle.prost_reflect_dynamic.specs.Walks.{descriptor_steps};
 
-    ghost next_gives = { λ old given new. GivesNext (D.stands old.parent.now) (places_left old.places) given (places_left new.places) × (new.parent ≡ old.parent) };
+    ghost next_gives = { descriptor_steps };
 
     ghost remaining = { λ it. at_most (length (places_left it.places)) };
 

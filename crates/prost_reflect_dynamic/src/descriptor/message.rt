@@ -65,10 +65,12 @@ impl MessageDescriptor {
     ghost use Rattle.prost_reflect_dynamic.specs.Named.{lists_named};
     ghost use Rattle.prost_reflect_tables.specs.Rows.{field_row, message_row};
     ghost use Rattle.prost_reflect_dynamic.specs.Named.{IsNamed, NamesEqual, NamesSame, SameMessage, message_row_named};
+    ghost use Rattle.prost_reflect_dynamic.specs.NamedExtensions.{Extends};
     ghost use Rattle.prost_reflect_dynamic.specs.NamedFields.{descriptor_fields, declared_place, is_declared_at};
     ghost use Rattle.prost_reflect_dynamic.specs.Options.{OptionsOf};
     ghost use Rattle.prost_reflect_pool.specs.declared.pooled_type.PooledType.{PooledType};
     ghost use Rattle.prost_reflect_dynamic.specs.Access.{IsOwnField, number_named, number_of};
+    ghost use Rattle.prost_reflect_dynamic.specs.Walks.{GivesEach};
 
     /// The message type at a place of a pool.
     pub(crate) fn new(pool: DescriptorPool, index: usize) -> MessageDescriptor
@@ -207,6 +209,7 @@ impl MessageDescriptor {
     pub fn fields(&self) -> Descriptors<'_, MessageDescriptor, FieldDescriptor>
         ensures message { result.parent.now ≡ self.now }
         ensures places { option_map (λ lists. lists.fields) (lists_named self.now) ≡ Some (places_left result.places) }
+        ensures own { GivesEach (λ field. SameMessage self.now field.message) result }
     {
         Descriptors::new(self, Places::Listed(self.lists().fields.as_slice()))
     }
@@ -250,6 +253,7 @@ impl MessageDescriptor {
     pub fn extensions(&self) -> Descriptors<'_, DescriptorPool, ExtensionDescriptor>
         ensures pool { result.parent.now ≡ self.now.pool }
         ensures places { option_map (λ lists. lists.extending) (lists_named self.now) ≡ Some (places_left result.places) }
+        ensures own { GivesEach (Extends self.now) result }
     {
         Descriptors::new(
             &self.pool,
@@ -414,7 +418,7 @@ impl MessageDescriptor {
     /// `AllocError` if out of memory.
     pub fn get_extension(&self, number: u32) -> Result<Option<ExtensionDescriptor>, AllocError>
         ensures found { IfOk result (λ found. option_map (λ extension. extension.index) found ≡ extension_where self.now.pool.inner.value self.now.index (λ f. f.number == number)) }
-        ensures pool { IfOk result (λ found. IfSome found (λ extension. extension.pool.inner.value ≡ self.now.pool.inner.value)) }
+        ensures own { IfOk result (λ found. IfSome found (Extends self.now)) }
         ensures missing { extension_where self.now.pool.inner.value self.now.index (λ f. f.number == number) ≡ None → IsOk result }
     {
         let pool = &self.pool.inner;
@@ -434,7 +438,7 @@ impl MessageDescriptor {
         name: &str,
     ) -> Result<Option<ExtensionDescriptor>, AllocError>
         ensures found { IfOk result (λ found. option_map (λ extension. extension.index) found ≡ extension_where self.now.pool.inner.value self.now.index (λ f. bytes_eq f.id.full_name name.now)) }
-        ensures pool { IfOk result (λ found. IfSome found (λ extension. extension.pool.inner.value ≡ self.now.pool.inner.value)) }
+        ensures own { IfOk result (λ found. IfSome found (Extends self.now)) }
         ensures missing { extension_where self.now.pool.inner.value self.now.index (λ f. bytes_eq f.id.full_name name.now) ≡ None → IsOk result }
     {
         let pool = &self.pool.inner;
@@ -454,7 +458,7 @@ impl MessageDescriptor {
         name: &str,
     ) -> Result<Option<ExtensionDescriptor>, AllocError>
         ensures found { IfOk result (λ found. option_map (λ extension. extension.index) found ≡ extension_where self.now.pool.inner.value self.now.index (λ f. bytes_eq f.json_name name.now)) }
-        ensures pool { IfOk result (λ found. IfSome found (λ extension. extension.pool.inner.value ≡ self.now.pool.inner.value)) }
+        ensures own { IfOk result (λ found. IfSome found (Extends self.now)) }
         ensures missing { extension_where self.now.pool.inner.value self.now.index (λ f. bytes_eq f.json_name name.now) ≡ None → IsOk result }
     {
         let pool = &self.pool.inner;

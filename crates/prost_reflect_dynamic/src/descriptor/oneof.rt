@@ -61,6 +61,8 @@ impl OneofDescriptor {
     ghost use Rattle.prost_reflect_dynamic.specs.NamedOneofs.{is_synthetic_in, oneof_row_named};
     ghost use Rattle.prost_reflect_dynamic.specs.Places.{places_left};
     ghost use Rattle.prost_reflect_dynamic.specs.Options.{OptionsOf};
+    ghost use Rattle.prost_reflect_dynamic.specs.Named.{SameMessage};
+    ghost use Rattle.prost_reflect_dynamic.specs.Walks.{GivesEach};
 
     /// The pool that the oneof is of.
     pub fn parent_pool(&self) -> &DescriptorPool
@@ -145,6 +147,7 @@ impl OneofDescriptor {
     pub fn fields(&self) -> Descriptors<'_, MessageDescriptor, FieldDescriptor>
         ensures message { result.parent.now ≡ self.now.message }
         ensures places { option_map (λ oneof. oneof.fields) (oneof_row_named self.now) ≡ Some (places_left result.places) }
+        ensures own { GivesEach (λ field. SameMessage self.now.message field.message) result }
     {
         Descriptors::new(
             &self.message,

@@ -6,9 +6,10 @@ ghost use Rattle.std.specs.Iterator.{YieldsFirstBy};
 ghost use Rattle.prost_reflect_fields.specs.Known.{known_of, is_listed};
 ghost use Rattle.prost_reflect_dynamic.specs.ValueLists.{had_in, had_pairs, values_left, fields_left, extensions_left, fields_steps, extensions_steps};
 ghost use Rattle.prost_reflect_dynamic.specs.Access.{IsOwnField};
-ghost use Rattle.prost_reflect_dynamic.specs.Depths.{EachGiven, GivesInside};
+ghost use Rattle.prost_reflect_dynamic.specs.Depths.{GivesInside};
 ghost use Rattle.prost_reflect_dynamic.specs.ExtensionAccess.{IsOwnExtension};
 ghost use Rattle.prost_reflect_dynamic.specs.View.{message_type_of};
+ghost use Rattle.prost_reflect_dynamic.specs.Walks.{EachGiven};
 
 use crate::descriptor::{ExtensionDescriptor, FieldDescriptor};
 use crate::message::DynamicMessage;

@@ -1,5 +1,6 @@
 use Rattle.std.proofs.Common.{ap, rules}
 use Rattle.prost_reflect_dynamic.specs.View.{content_of}
+use Rattle.prost_reflect_dynamic.proofs.Depths.{nothing_depth}
 use Rattle.prost_reflect_dynamic.proofs.Edits.{empties}
 use Rattle.prost_reflect_dynamic.proofs.Removals.{cleared_sound}
 use Rattle.prost_reflect_dynamic.proofs.Stored.{message_emptied}
@@ -10,7 +11,7 @@ pub returns-clause-typed : goal.returns-clause-typed
 returns-clause-typed c = nothing_typed _ (ap (λ p. p.1) c.clear_all.ensures)
 
 pub returns-clause-removes : goal.returns-clause-removes
-returns-clause-removes c = empties c.args.self.now _ (search rules) (message_emptied c.args.self.now c.clear_all.new.self c.clear_all.ensures) (returns-clause-typed c)
+returns-clause-removes c = empties c.args.self.now _ (search rules) (message_emptied c.args.self.now c.clear_all.new.self c.clear_all.ensures) (returns-clause-typed c) (nothing_depth c.args.self.now _ (ap (λ p. p.1) c.clear_all.ensures))
 
 pub returns-clause-sound : goal.returns-clause-sound
 returns-clause-sound c = cleared_sound _ (content_of c.args.self.now) (message_emptied c.args.self.now c.clear_all.new.self c.clear_all.ensures)

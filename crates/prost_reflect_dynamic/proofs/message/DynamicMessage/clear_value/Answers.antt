@@ -1,4 +1,5 @@
-use Rattle.std.proofs.Common.{rules, nat_eq}
+use Rattle.std.proofs.Common.{rules, nat_eq, ap}
+use Rattle.prost_reflect_dynamic.proofs.Depths.{without_depth}
 use Rattle.prost_reflect_dynamic.proofs.Edits.{clears, is_gone}
 use Rattle.prost_reflect_dynamic.proofs.Stored.{message_cleared}
 use Rattle.prost_reflect_dynamic.proofs.TypedSteps.{without_typed}
@@ -8,6 +9,7 @@ pub returns-clause-removes : goal.returns-clause-removes
 returns-clause-removes c =
     clears c.args.self.now _ c.args.number c.clear.ensures.ascending (search rules) (message_cleared c.args.self.now c.clear.new.self c.args.number c.clear.ensures.ascending c.clear.ensures.left)
     (without_typed c.args.self.now c.clear.new.self (nat_eq c.args.number) c.clear.ensures.ascending c.clear.ensures.left)
+    (without_depth c.args.self.now _ (nat_eq c.args.number) (ap (λ p. p.1) c.clear.ensures.left))
 
 pub returns-clause-gone : goal.returns-clause-gone
 returns-clause-gone c = is_gone c.args.self.now _ c.args.number c.clear.ensures.ascending (message_cleared c.args.self.now c.clear.new.self c.args.number c.clear.ensures.ascending c.clear.ensures.left)

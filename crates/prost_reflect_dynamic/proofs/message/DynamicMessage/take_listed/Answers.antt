@@ -3,6 +3,7 @@ use Rattle.std.proofs.lemmas.Result.{IfOk-weaker, on_ok_weaker}
 use Rattle.prost_reflect_fields.specs.Known.{known_of, is_listed}
 use Rattle.prost_reflect_dynamic.specs.ValueLists.{said}
 use Rattle.prost_reflect_dynamic.specs.View.{message_type_of, stored_in}
+use Rattle.prost_reflect_dynamic.proofs.Depths.{without_depth}
 use Rattle.prost_reflect_dynamic.proofs.Edits.{takes_all}
 use Rattle.prost_reflect_dynamic.proofs.TakenValues.{message_taken}
 use Rattle.prost_reflect_dynamic.proofs.TypedSteps.{without_typed}
@@ -23,4 +24,5 @@ returns-clause-removes c =
     let fields = known_of (message_type_of c.args.self.now) in
     on_ok_weaker c.take_listed.result
     (λ is. takes_all c.args.self.now _ c.args.of_extensions c.take_listed.ensures.ascending (returns-clause-message_type c) (message_taken c.args.self.now c.take_listed.new.self c.args.of_extensions is)
-    (without_typed c.args.self.now c.take_listed.new.self (is_listed c.args.of_extensions fields) c.take_listed.ensures.ascending is)) c.take_listed.ensures.left
+    (without_typed c.args.self.now c.take_listed.new.self (is_listed c.args.of_extensions fields) c.take_listed.ensures.ascending is)
+    (without_depth c.args.self.now _ (is_listed c.args.of_extensions fields) (ap (λ p. p.1) is))) c.take_listed.ensures.left

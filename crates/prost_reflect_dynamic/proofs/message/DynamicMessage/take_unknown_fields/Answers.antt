@@ -1,6 +1,7 @@
 use Rattle.std.proofs.Common.{rules, ◌++◌, ap, ap₂, flat_map, map, ◌∙◌}
 use Rattle.prost_reflect_wire.specs.Unknown.{unknown_fields_of, unknown_record}
 use Rattle.prost_reflect_dynamic.specs.View.{stored_in}
+use Rattle.prost_reflect_dynamic.proofs.Depths.{alone_depth}
 use Rattle.prost_reflect_dynamic.proofs.Edits.{takes_unknown}
 use Rattle.prost_reflect_dynamic.proofs.TypedSteps.{alone_typed}
 use Rattle.prost_reflect_dynamic.proofs.UnknownLists.{all_taken, message_left, unknown_listed}
@@ -21,4 +22,4 @@ returns-clause-records c =
 pub returns-clause-removes : goal.returns-clause-removes
 returns-clause-removes c =
     takes_unknown c.args.self.now _ c.take_unknown.ensures.ascending (search rules) (message_left c.args.self.now c.take_unknown.new.self c.in_ok-sets.ensures.ok)
-    (alone_typed c.args.self.now c.take_unknown.new.self c.take_unknown.ensures.ascending c.in_ok-sets.ensures.ok)
+    (alone_typed c.args.self.now c.take_unknown.new.self c.take_unknown.ensures.ascending c.in_ok-sets.ensures.ok) (alone_depth c.args.self.now _ (ap (λ p. p.1) c.in_ok-sets.ensures.ok))

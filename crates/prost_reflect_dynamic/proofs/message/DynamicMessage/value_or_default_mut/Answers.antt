@@ -6,7 +6,7 @@ use borrow.Follows.Closed.{read_of}
 use Rattle.prost_reflect_wire.specs.Content.{entries_of, value_at}
 use Rattle.prost_reflect_dynamic.specs.View.{value_of, content_of, message_type_of, written_at}
 use Rattle.prost_reflect_dynamic.specs.declared.value.Value.{Value}
-use Rattle.prost_reflect_dynamic.proofs.Depths.{lent_small}
+use Rattle.prost_reflect_dynamic.proofs.Depths.{lent_small, left_depth}
 use Rattle.prost_reflect_dynamic.proofs.Edits.{sets}
 use Rattle.prost_reflect_dynamic.proofs.TypedSteps.{left_typed}
 use Rattle.prost_reflect_dynamic.proofs.LentWriting.{written_over, lent_or_default}
@@ -26,7 +26,7 @@ returns-in-Ok c =
       record {
         writes_back = tt;
         value = IfOk-weaker c.value_mut_or.result _ _ (λ v is. lent_or_default (message_type_of m) n (value_at n (entries_of (content_of m))) (value_of v.now) (value_of c.in-Ok.default) is c.in-Ok.ensures) lent.value;
-        inside = IfOk-weaker c.value_mut_or.result _ _ (λ v is. record { less = lent_small m n c.in-Ok.default v.now lent.ascending is }) lent.stored;
+        inside = IfOk-weaker c.value_mut_or.result _ _ (λ v is. record { less = lent_small m n c.in-Ok.default v.now lent.ascending is; left = λ w less. left_depth m n w less }) lent.stored;
         sets = always c.value_mut_or.result (record { each = λ v valid. sets m (written_at m n v v) n v lent.ascending refl (ap content_of (sym (over v)) ∙ lent.content v) (left_typed m n v lent.ascending v) valid });
         message_type = λ v. refl;
         content = always c.value_mut_or.result (λ v. ap content_of (sym (over v)) ∙ lent.content v);

@@ -1,5 +1,6 @@
-use Rattle.std.proofs.Common.{◌≡◌, Option, sym, ap, subst, ◌∙◌}
+use Rattle.std.proofs.Common.{Option, sym, ap, subst, ◌∙◌}
 use Rattle.std.specs.Option.{IfSome, option_map}
+use Rattle.prost_reflect_dynamic.specs.NamedExtensions.{Extends}
 use Rattle.prost_reflect_dynamic.specs.declared.descriptor.extension.ExtensionDescriptor.{ExtensionDescriptor}
 use Rattle.prost_reflect_dynamic.proofs.ListedNumbers.{extension_missed, extension_own}
 use Rattle.prost_reflect_dynamic.proofs.message.lists.descriptors.extension_at.Goals as goal
@@ -12,11 +13,11 @@ unreachable-requires c =
 pub returns-clause-own : goal.returns-clause-own
 returns-clause-own c =
     (extension_own c.args.message_type.now c.in_ok-message.message c.in-Some.extension c.args.number c.in_ok-message.ensures
-    (subst (λ (o : Option ExtensionDescriptor). IfSome o (λ x. x.pool.inner.value ≡ c.in_ok-message.message.pool.inner.value)) c.in-Some.is c.in_ok-extension.ensures.pool)
+    (subst (λ (o : Option ExtensionDescriptor). IfSome o (Extends c.in_ok-message.message)) c.in-Some.is c.in_ok-extension.ensures.own)
     (sym c.in_ok-extension.ensures.found ∙ ap (option_map (λ (x : ExtensionDescriptor). x.index)) c.in-Some.is)).0
 
 pub returns-clause-number : goal.returns-clause-number
 returns-clause-number c =
     (extension_own c.args.message_type.now c.in_ok-message.message c.in-Some.extension c.args.number c.in_ok-message.ensures
-    (subst (λ (o : Option ExtensionDescriptor). IfSome o (λ x. x.pool.inner.value ≡ c.in_ok-message.message.pool.inner.value)) c.in-Some.is c.in_ok-extension.ensures.pool)
+    (subst (λ (o : Option ExtensionDescriptor). IfSome o (Extends c.in_ok-message.message)) c.in-Some.is c.in_ok-extension.ensures.own)
     (sym c.in_ok-extension.ensures.found ∙ ap (option_map (λ (x : ExtensionDescriptor). x.index)) c.in-Some.is)).1

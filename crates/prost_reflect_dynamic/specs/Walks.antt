@@ -1,0 +1,20 @@
+-- What walks over descriptors, and over what a message has, give.
+use Rattle.std.specs.Prelude.{◌≡◌, Option, Result, IfOk}
+use Rattle.std.specs.Iterator.Runs.{EachRunFrom, AllItems}
+use Rattle.std.specs.declared.alloc.AllocError.{AllocError}
+use Rattle.prost_reflect_dynamic.specs.Places.{places_left, GivesNext}
+use Rattle.prost_reflect_dynamic.specs.declared.descriptor.iter.Placed.{Ghosts}
+use Rattle.prost_reflect_dynamic.specs.declared.descriptor.iter.Descriptors.{Descriptors}
+
+-- Whatever the walk gives has the property; a refusal has none.
+abbrev pub EachGiven : {S A : Type 0} → (S → Option (Result A AllocError) → S → Type 0) → (A → Type 0) → S → Type 0
+EachGiven steps Given it = EachRunFrom steps it (λ p. AllItems p (λ r. IfOk r Given))
+
+module _ {P D : Type 0} {g : Ghosts D P} where
+  -- One call of `next`.
+  abbrev pub descriptor_steps : Descriptors P D g → Option (Result D AllocError) → Descriptors P D g → Type 0
+  descriptor_steps old given new = GivesNext (g.stands old.parent.now) (places_left old.places) given (places_left new.places) × (new.parent ≡ old.parent)
+
+  -- Each descriptor that is given has the property.
+  abbrev pub GivesEach : (D → Type 0) → Descriptors P D g → Type 0
+  GivesEach Given it = EachGiven descriptor_steps Given it
