@@ -40,7 +40,7 @@ pub use prost_reflect_tables::{Cardinality, PoolError};
 pub use prost_reflect_types::{
     DescriptorProto, EnumDescriptorProto, EnumReservedRange, EnumValueDescriptorProto,
     ExtensionRange, FieldDescriptorProto, FileDescriptorProto, FileDescriptorSet,
-    MethodDescriptorProto, OneofDescriptorProto, ReservedRange, ServiceDescriptorProto,
+    MethodDescriptorProto, OneofDescriptorProto, Proto, ReservedRange, ServiceDescriptorProto,
 };
 pub use prost_reflect_wire::{
     DecodeError, EncodeError, FieldNumber, RECURSION_LIMIT, UnknownField, UnknownFieldSet,

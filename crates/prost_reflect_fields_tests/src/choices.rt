@@ -2,7 +2,7 @@
 
 use prost_reflect_pool::{LinkedPool, PooledType};
 use prost_reflect_samples::sets;
-use prost_reflect_types::FileDescriptorSet;
+use prost_reflect_types::{FileDescriptorSet, Proto};
 use std::alloc::Global;
 use std::rc::Rc;
 use std::test::Fail;

@@ -6,6 +6,7 @@ use crate::schema::SCHEMA;
 use crate::whole::WHOLE;
 use prost_reflect::{
     DecodeError, DescriptorPool, FileDescriptor, FileDescriptorSet, MessageDescriptor, PoolError,
+    Proto,
 };
 use std::alloc::Global;
 use std::test::Fail;

@@ -2,7 +2,7 @@
 
 use crate::named::{field_of, message_of};
 use prost_reflect::{DescriptorPool, DynamicMessage, FieldDescriptor, MessageDescriptor};
-use prost_reflect_types::{DescriptorProto, FieldDescriptorProto, FileDescriptorProto};
+use prost_reflect_types::{DescriptorProto, FieldDescriptorProto, FileDescriptorProto, Proto};
 use std::alloc::Global;
 use std::test::Fail;
 

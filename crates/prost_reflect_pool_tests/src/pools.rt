@@ -3,7 +3,7 @@
 use crate::named::message_of;
 use prost_reflect::DescriptorPool;
 use prost_reflect_tables::PoolError;
-use prost_reflect_types::{FileDescriptorProto, FileDescriptorSet};
+use prost_reflect_types::{FileDescriptorProto, FileDescriptorSet, Proto};
 use prost_reflect_wire::{DecodeError, EncodeError};
 use std::alloc::{AllocError, Global};
 use std::test::Fail;

@@ -7,7 +7,7 @@ use prost_reflect_tables::{
     Catalog, EnumTable, FieldTable, Flat, FlatMessage, Identity, MessageTable, PoolError,
     TableKind, Tables, WrittenDefault, all_resolved, flattened, written_default,
 };
-use prost_reflect_types::FileDescriptorProto;
+use prost_reflect_types::{FileDescriptorProto, Proto};
 use std::alloc::{AllocError, Global};
 use std::test::Fail;
 

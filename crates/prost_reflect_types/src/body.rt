@@ -1,6 +1,6 @@
 //! Reading the body of each descriptor record, by its row of the table.
 
-ghost use Rattle.std.specs.Prelude.{◌≡◌, ◌≢◌, ℕ, List, [], Some, map, IfOk, IfErr};
+ghost use Rattle.std.specs.Prelude.{◌≡◌, ◌≢◌, ℕ, List, [], Some, map, refl, IfOk, IfErr};
 ghost use Rattle.prost_reflect_wire.specs.Fault.{StandsInMessage};
 ghost use Rattle.prost_reflect_types.specs.DescriptorTable.{type_place, record_schema};
 ghost use Rattle.prost_reflect_types.specs.DescriptorMeaning.{record_decoded};
@@ -9,6 +9,7 @@ ghost use Rattle.prost_reflect_types.specs.DescriptorReading.{Fields, all_found,
 ghost use Rattle.prost_reflect_types.specs.declared.table.RecordType.TheVariants as types;
 
 use crate::fields::{RawField, fields_in};
+use crate::proto::OwnedProto;
 use crate::table::RecordType;
 use crate::values::{bodies, bytes, flag, number, numbers, text, texts};
 use crate::{
@@ -19,41 +20,26 @@ use crate::{
 use prost_reflect_wire::DecodeError;
 use std::alloc::Global;
 
-/// A record that is read by its row of the table.
-pub trait FromBody: Sized {
-    ghost use Rattle.prost_reflect_wire.specs.Content.{Content};
-    ghost use Rattle.prost_reflect_types.specs.declared.table.RecordType.{RecordType};
-
-    ghost record_type: { RecordType };
-
-    ghost content: { Self → Content };
-
-    /// Reads the record from the bytes of its body, with so many levels left below it.
-    fn from_body(alloc: Global, body: &[u8], levels: u32) -> Result<Self, DecodeError>
-        ensures ok { IfOk result (λ own. record_decoded levels record_type body.now ≡ Some (content own)) }
-        ensures fault { IfErr result (λ e. e ≢ DecodeError.OutOfMemory → StandsInMessage record_schema (type_place record_type) levels e body.now) };
-}
-
 /// Reads a nested record, which takes a level.
-fn nested<T: FromBody>(alloc: Global, body: &[u8], levels: u32) -> Result<T, DecodeError>
-    ensures ok { IfOk result (λ own. nested_decoded levels T.record_type body.now ≡ Some (T.content own)) }
-    ensures fault { IfErr result (λ e. e ≢ DecodeError.OutOfMemory → StandsInNested levels T.record_type e body.now) }
+fn nested<P: OwnedProto>(alloc: Global, body: &[u8], levels: u32) -> Result<P, DecodeError>
+    ensures ok { IfOk result (λ own. nested_decoded levels P.record_type body.now ≡ Some (P.content own)) }
+    ensures fault { IfErr result (λ e. e ≢ DecodeError.OutOfMemory → StandsInNested levels P.record_type e body.now) }
 {
     if levels == 0 {
         return Err(DecodeError::Depth);
     }
-    T::from_body(alloc, body, levels - 1)
+    P::from_body(alloc, body, levels - 1)
 }
 
 /// Reads the nested records of the number.
-fn records<T: FromBody + Drop>(
+fn records<P: OwnedProto>(
     alloc: Global,
     fields: &[RawField<'_>],
     number: u32,
     levels: u32,
-) -> Result<Vec<T>, DecodeError>
-    ensures ok { IfOk result (λ found. records_at levels T.record_type number (all_found fields.now) ≡ Some (map T.content found.items)) }
-    ensures fault { IfErr result (λ e. e ≢ DecodeError.OutOfMemory → StandsAmong levels T.record_type e (at_number record_in number (all_found fields.now))) }
+) -> Result<Vec<P>, DecodeError>
+    ensures ok { IfOk result (λ found. records_at levels P.record_type number (all_found fields.now) ≡ Some (map P.content found.items)) }
+    ensures fault { IfErr result (λ e. e ≢ DecodeError.OutOfMemory → StandsAmong levels P.record_type e (at_number record_in number (all_found fields.now))) }
 {
     let bodies = bodies(alloc, fields, number)?;
     let bodies = bodies.as_slice();
@@ -64,12 +50,10 @@ fn records<T: FromBody + Drop>(
     Ok(records)
 }
 
-impl FromBody for ExtensionRange {
-    ghost use Rattle.prost_reflect_types.specs.DescriptorViews.{of_extension_range};
+impl OwnedProto for ExtensionRange {
+    ghost copies = { λ _ _ same. same };
 
-    ghost record_type = { types.ExtensionRange };
-
-    ghost content = { of_extension_range };
+    ghost compares = { λ _ _. refl };
 
     fn from_body(alloc: Global, body: &[u8], levels: u32) -> Result<ExtensionRange, DecodeError> {
         let fields = fields_in(alloc, RecordType::ExtensionRange, body, levels)?;
@@ -82,12 +66,10 @@ impl FromBody for ExtensionRange {
     }
 }
 
-impl FromBody for ReservedRange {
-    ghost use Rattle.prost_reflect_types.specs.DescriptorViews.{of_reserved_range};
+impl OwnedProto for ReservedRange {
+    ghost copies = { λ _ _ same. same };
 
-    ghost record_type = { types.ReservedRange };
-
-    ghost content = { of_reserved_range };
+    ghost compares = { λ _ _. refl };
 
     fn from_body(alloc: Global, body: &[u8], levels: u32) -> Result<ReservedRange, DecodeError> {
         let fields = fields_in(alloc, RecordType::ReservedRange, body, levels)?;
@@ -99,12 +81,10 @@ impl FromBody for ReservedRange {
     }
 }
 
-impl FromBody for FieldDescriptorProto {
-    ghost use Rattle.prost_reflect_types.specs.DescriptorViews.{of_field};
+impl OwnedProto for FieldDescriptorProto {
+    ghost copies = { λ _ _ same. same };
 
-    ghost record_type = { types.Field };
-
-    ghost content = { of_field };
+    ghost compares = { λ _ _. refl };
 
     fn from_body(
         alloc: Global,
@@ -129,12 +109,10 @@ impl FromBody for FieldDescriptorProto {
     }
 }
 
-impl FromBody for OneofDescriptorProto {
-    ghost use Rattle.prost_reflect_types.specs.DescriptorViews.{of_oneof};
+impl OwnedProto for OneofDescriptorProto {
+    ghost copies = { λ _ _ same. same };
 
-    ghost record_type = { types.Oneof };
-
-    ghost content = { of_oneof };
+    ghost compares = { λ _ _. refl };
 
     fn from_body(
         alloc: Global,
@@ -150,12 +128,10 @@ impl FromBody for OneofDescriptorProto {
     }
 }
 
-impl FromBody for EnumReservedRange {
-    ghost use Rattle.prost_reflect_types.specs.DescriptorViews.{of_enum_reserved_range};
+impl OwnedProto for EnumReservedRange {
+    ghost copies = { λ _ _ same. same };
 
-    ghost record_type = { types.EnumReservedRange };
-
-    ghost content = { of_enum_reserved_range };
+    ghost compares = { λ _ _. refl };
 
     fn from_body(
         alloc: Global,
@@ -171,12 +147,10 @@ impl FromBody for EnumReservedRange {
     }
 }
 
-impl FromBody for EnumValueDescriptorProto {
-    ghost use Rattle.prost_reflect_types.specs.DescriptorViews.{of_enum_value};
+impl OwnedProto for EnumValueDescriptorProto {
+    ghost copies = { λ _ _ same. same };
 
-    ghost record_type = { types.EnumValue };
-
-    ghost content = { of_enum_value };
+    ghost compares = { λ _ _. refl };
 
     fn from_body(
         alloc: Global,
@@ -193,12 +167,10 @@ impl FromBody for EnumValueDescriptorProto {
     }
 }
 
-impl FromBody for EnumDescriptorProto {
-    ghost use Rattle.prost_reflect_types.specs.DescriptorViews.{of_enum};
+impl OwnedProto for EnumDescriptorProto {
+    ghost copies = { λ _ _ same. same };
 
-    ghost record_type = { types.Enum };
-
-    ghost content = { of_enum };
+    ghost compares = { λ _ _. refl };
 
     fn from_body(
         alloc: Global,
@@ -217,12 +189,10 @@ impl FromBody for EnumDescriptorProto {
     }
 }
 
-impl FromBody for MethodDescriptorProto {
-    ghost use Rattle.prost_reflect_types.specs.DescriptorViews.{of_method};
+impl OwnedProto for MethodDescriptorProto {
+    ghost copies = { λ _ _ same. same };
 
-    ghost record_type = { types.Method };
-
-    ghost content = { of_method };
+    ghost compares = { λ _ _. refl };
 
     fn from_body(
         alloc: Global,
@@ -242,12 +212,10 @@ impl FromBody for MethodDescriptorProto {
     }
 }
 
-impl FromBody for ServiceDescriptorProto {
-    ghost use Rattle.prost_reflect_types.specs.DescriptorViews.{of_service};
+impl OwnedProto for ServiceDescriptorProto {
+    ghost copies = { λ _ _ same. same };
 
-    ghost record_type = { types.Service };
-
-    ghost content = { of_service };
+    ghost compares = { λ _ _. refl };
 
     fn from_body(
         alloc: Global,
@@ -333,22 +301,20 @@ fn messages(
     Ok(records)
 }
 
-impl FromBody for DescriptorProto {
-    ghost record_type = { types.Message };
+impl OwnedProto for DescriptorProto {
+    ghost copies = { λ _ _ same. same };
 
-    ghost content = { of_message };
+    ghost compares = { λ _ _. refl };
 
     fn from_body(alloc: Global, body: &[u8], levels: u32) -> Result<DescriptorProto, DecodeError> {
         message(alloc, body, levels)
     }
 }
 
-impl FromBody for FileDescriptorProto {
-    ghost use Rattle.prost_reflect_types.specs.DescriptorViews.{of_file};
+impl OwnedProto for FileDescriptorProto {
+    ghost copies = { λ _ _ same. same };
 
-    ghost record_type = { types.File };
-
-    ghost content = { of_file };
+    ghost compares = { λ _ _. refl };
 
     fn from_body(
         alloc: Global,
@@ -374,12 +340,10 @@ impl FromBody for FileDescriptorProto {
     }
 }
 
-impl FromBody for FileDescriptorSet {
-    ghost use Rattle.prost_reflect_types.specs.DescriptorViews.{of_file_set};
+impl OwnedProto for FileDescriptorSet {
+    ghost copies = { λ _ _ same. same };
 
-    ghost record_type = { types.FileSet };
-
-    ghost content = { of_file_set };
+    ghost compares = { λ _ _. refl };
 
     fn from_body(
         alloc: Global,

@@ -3,24 +3,13 @@
 ghost use Rattle.std.specs.Prelude.{◌≡◌, IfOk, map};
 ghost use Rattle.prost_reflect_types.specs.DescriptorViews.{of_text, of_bytes, of_texts, of_numbers, of_extension_range, of_reserved_range, of_field, of_oneof, of_enum_reserved_range, of_enum_value, of_enum, of_method, of_service, of_message, of_file, of_file_set};
 
-use crate::field_writing::DescriptorRecord;
+use crate::proto::OwnedProto;
 use crate::{
     DescriptorProto, EnumDescriptorProto, EnumReservedRange, EnumValueDescriptorProto,
     ExtensionRange, FieldDescriptorProto, FileDescriptorProto, FileDescriptorSet,
     MethodDescriptorProto, OneofDescriptorProto, ReservedRange, ServiceDescriptorProto,
 };
 use std::alloc::AllocError;
-
-/// A record that is copied with all that it holds.
-pub trait CopiedRecord: DescriptorRecord {
-    /// A record that holds the same.
-    ///
-    /// # Errors
-    ///
-    /// `AllocError` if out of memory.
-    fn copy(&self) -> Result<Self, AllocError>
-        ensures { IfOk result (λ copied. Self.content copied ≡ Self.content self.now) };
-}
 
 fn copy_text(text: &Option<String>) -> Result<Option<String>, AllocError>
     ensures { IfOk result (λ copied. of_text copied ≡ of_text text.now) }
@@ -52,18 +41,26 @@ fn copy_numbers(values: &Vec<i32>) -> Result<Vec<i32>, AllocError>
     values.clone()
 }
 
-fn copy_records<R: CopiedRecord + Drop>(records: &Vec<R>) -> Result<Vec<R>, AllocError>
-    ensures { IfOk result (λ copied. map R.content copied.items ≡ map R.content records.now.items) }
+fn copy_record<P: OwnedProto>(value: &P) -> Result<P, AllocError>
+    ensures { IfOk result (λ copied. P.content copied ≡ P.content value.now) }
+{
+    value.clone()
+}
+
+fn copy_records<P: OwnedProto>(records: &Vec<P>) -> Result<Vec<P>, AllocError>
+    ensures { IfOk result (λ copied. map P.content copied.items ≡ map P.content records.now.items) }
 {
     let mut copied = Vec::with_capacity(*records.allocator(), records.len())?;
     for record in records {
-        copied.push(record.copy()?)?;
+        copied.push(copy_record(record)?)?;
     }
     Ok(copied)
 }
 
-impl CopiedRecord for ExtensionRange {
-    fn copy(&self) -> Result<ExtensionRange, AllocError> {
+impl Clone for ExtensionRange {
+    ghost is_clone = { λ r copied. of_extension_range copied ≡ of_extension_range r };
+
+    fn clone(&self) -> Result<ExtensionRange, AllocError> {
         Ok(ExtensionRange {
             start: self.start,
             end: self.end,
@@ -72,8 +69,10 @@ impl CopiedRecord for ExtensionRange {
     }
 }
 
-impl CopiedRecord for ReservedRange {
-    fn copy(&self) -> Result<ReservedRange, AllocError> {
+impl Clone for ReservedRange {
+    ghost is_clone = { λ r copied. of_reserved_range copied ≡ of_reserved_range r };
+
+    fn clone(&self) -> Result<ReservedRange, AllocError> {
         Ok(ReservedRange {
             start: self.start,
             end: self.end,
@@ -81,8 +80,10 @@ impl CopiedRecord for ReservedRange {
     }
 }
 
-impl CopiedRecord for FieldDescriptorProto {
-    fn copy(&self) -> Result<FieldDescriptorProto, AllocError> {
+impl Clone for FieldDescriptorProto {
+    ghost is_clone = { λ r copied. of_field copied ≡ of_field r };
+
+    fn clone(&self) -> Result<FieldDescriptorProto, AllocError> {
         Ok(FieldDescriptorProto {
             name: copy_text(&self.name)?,
             extendee: copy_text(&self.extendee)?,
@@ -99,8 +100,10 @@ impl CopiedRecord for FieldDescriptorProto {
     }
 }
 
-impl CopiedRecord for OneofDescriptorProto {
-    fn copy(&self) -> Result<OneofDescriptorProto, AllocError> {
+impl Clone for OneofDescriptorProto {
+    ghost is_clone = { λ r copied. of_oneof copied ≡ of_oneof r };
+
+    fn clone(&self) -> Result<OneofDescriptorProto, AllocError> {
         Ok(OneofDescriptorProto {
             name: copy_text(&self.name)?,
             options: copy_bytes(&self.options)?,
@@ -108,8 +111,10 @@ impl CopiedRecord for OneofDescriptorProto {
     }
 }
 
-impl CopiedRecord for EnumReservedRange {
-    fn copy(&self) -> Result<EnumReservedRange, AllocError> {
+impl Clone for EnumReservedRange {
+    ghost is_clone = { λ r copied. of_enum_reserved_range copied ≡ of_enum_reserved_range r };
+
+    fn clone(&self) -> Result<EnumReservedRange, AllocError> {
         Ok(EnumReservedRange {
             start: self.start,
             end: self.end,
@@ -117,8 +122,10 @@ impl CopiedRecord for EnumReservedRange {
     }
 }
 
-impl CopiedRecord for EnumValueDescriptorProto {
-    fn copy(&self) -> Result<EnumValueDescriptorProto, AllocError> {
+impl Clone for EnumValueDescriptorProto {
+    ghost is_clone = { λ r copied. of_enum_value copied ≡ of_enum_value r };
+
+    fn clone(&self) -> Result<EnumValueDescriptorProto, AllocError> {
         Ok(EnumValueDescriptorProto {
             name: copy_text(&self.name)?,
             number: self.number,
@@ -127,8 +134,10 @@ impl CopiedRecord for EnumValueDescriptorProto {
     }
 }
 
-impl CopiedRecord for EnumDescriptorProto {
-    fn copy(&self) -> Result<EnumDescriptorProto, AllocError> {
+impl Clone for EnumDescriptorProto {
+    ghost is_clone = { λ r copied. of_enum copied ≡ of_enum r };
+
+    fn clone(&self) -> Result<EnumDescriptorProto, AllocError> {
         Ok(EnumDescriptorProto {
             name: copy_text(&self.name)?,
             value: copy_records(&self.value)?,
@@ -139,8 +148,10 @@ impl CopiedRecord for EnumDescriptorProto {
     }
 }
 
-impl CopiedRecord for MethodDescriptorProto {
-    fn copy(&self) -> Result<MethodDescriptorProto, AllocError> {
+impl Clone for MethodDescriptorProto {
+    ghost is_clone = { λ r copied. of_method copied ≡ of_method r };
+
+    fn clone(&self) -> Result<MethodDescriptorProto, AllocError> {
         Ok(MethodDescriptorProto {
             name: copy_text(&self.name)?,
             input_type: copy_text(&self.input_type)?,
@@ -152,8 +163,10 @@ impl CopiedRecord for MethodDescriptorProto {
     }
 }
 
-impl CopiedRecord for ServiceDescriptorProto {
-    fn copy(&self) -> Result<ServiceDescriptorProto, AllocError> {
+impl Clone for ServiceDescriptorProto {
+    ghost is_clone = { λ r copied. of_service copied ≡ of_service r };
+
+    fn clone(&self) -> Result<ServiceDescriptorProto, AllocError> {
         Ok(ServiceDescriptorProto {
             name: copy_text(&self.name)?,
             method: copy_records(&self.method)?,
@@ -162,8 +175,10 @@ impl CopiedRecord for ServiceDescriptorProto {
     }
 }
 
-impl CopiedRecord for DescriptorProto {
-    fn copy(&self) -> Result<DescriptorProto, AllocError> {
+impl Clone for DescriptorProto {
+    ghost is_clone = { λ r copied. of_message copied ≡ of_message r };
+
+    fn clone(&self) -> Result<DescriptorProto, AllocError> {
         copy_message(self)
     }
 }
@@ -197,8 +212,10 @@ fn copy_messages(messages: &Vec<DescriptorProto>) -> Result<Vec<DescriptorProto>
     Ok(copied)
 }
 
-impl CopiedRecord for FileDescriptorProto {
-    fn copy(&self) -> Result<FileDescriptorProto, AllocError> {
+impl Clone for FileDescriptorProto {
+    ghost is_clone = { λ r copied. of_file copied ≡ of_file r };
+
+    fn clone(&self) -> Result<FileDescriptorProto, AllocError> {
         Ok(FileDescriptorProto {
             name: copy_text(&self.name)?,
             package: copy_text(&self.package)?,
@@ -216,106 +233,12 @@ impl CopiedRecord for FileDescriptorProto {
     }
 }
 
-impl CopiedRecord for FileDescriptorSet {
-    fn copy(&self) -> Result<FileDescriptorSet, AllocError> {
-        Ok(FileDescriptorSet {
-            file: copy_records(&self.file)?,
-        })
-    }
-}
-
-impl Clone for ExtensionRange {
-    ghost is_clone = { λ r copied. of_extension_range copied ≡ of_extension_range r };
-
-    fn clone(&self) -> Result<ExtensionRange, AllocError> {
-        self.copy()
-    }
-}
-
-impl Clone for ReservedRange {
-    ghost is_clone = { λ r copied. of_reserved_range copied ≡ of_reserved_range r };
-
-    fn clone(&self) -> Result<ReservedRange, AllocError> {
-        self.copy()
-    }
-}
-
-impl Clone for FieldDescriptorProto {
-    ghost is_clone = { λ r copied. of_field copied ≡ of_field r };
-
-    fn clone(&self) -> Result<FieldDescriptorProto, AllocError> {
-        self.copy()
-    }
-}
-
-impl Clone for OneofDescriptorProto {
-    ghost is_clone = { λ r copied. of_oneof copied ≡ of_oneof r };
-
-    fn clone(&self) -> Result<OneofDescriptorProto, AllocError> {
-        self.copy()
-    }
-}
-
-impl Clone for EnumReservedRange {
-    ghost is_clone = { λ r copied. of_enum_reserved_range copied ≡ of_enum_reserved_range r };
-
-    fn clone(&self) -> Result<EnumReservedRange, AllocError> {
-        self.copy()
-    }
-}
-
-impl Clone for EnumValueDescriptorProto {
-    ghost is_clone = { λ r copied. of_enum_value copied ≡ of_enum_value r };
-
-    fn clone(&self) -> Result<EnumValueDescriptorProto, AllocError> {
-        self.copy()
-    }
-}
-
-impl Clone for EnumDescriptorProto {
-    ghost is_clone = { λ r copied. of_enum copied ≡ of_enum r };
-
-    fn clone(&self) -> Result<EnumDescriptorProto, AllocError> {
-        self.copy()
-    }
-}
-
-impl Clone for MethodDescriptorProto {
-    ghost is_clone = { λ r copied. of_method copied ≡ of_method r };
-
-    fn clone(&self) -> Result<MethodDescriptorProto, AllocError> {
-        self.copy()
-    }
-}
-
-impl Clone for ServiceDescriptorProto {
-    ghost is_clone = { λ r copied. of_service copied ≡ of_service r };
-
-    fn clone(&self) -> Result<ServiceDescriptorProto, AllocError> {
-        self.copy()
-    }
-}
-
-impl Clone for DescriptorProto {
-    ghost is_clone = { λ r copied. of_message copied ≡ of_message r };
-
-    fn clone(&self) -> Result<DescriptorProto, AllocError> {
-        self.copy()
-    }
-}
-
-impl Clone for FileDescriptorProto {
-    ghost is_clone = { λ r copied. of_file copied ≡ of_file r };
-
-    fn clone(&self) -> Result<FileDescriptorProto, AllocError> {
-        self.copy()
-    }
-}
-
 impl Clone for FileDescriptorSet {
     ghost is_clone = { λ r copied. of_file_set copied ≡ of_file_set r };
 
     fn clone(&self) -> Result<FileDescriptorSet, AllocError> {
-        self.copy()
+        Ok(FileDescriptorSet {
+            file: copy_records(&self.file)?,
+        })
     }
 }

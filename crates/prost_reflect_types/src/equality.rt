@@ -4,19 +4,12 @@ ghost use Rattle.std.specs.Prelude.{◌≡◌, ◌↔◌, IsTrue, map};
 ghost use Rattle.prost_reflect_wire.specs.ContentEquality.{content_eq, seen_eq_laws};
 ghost use Rattle.prost_reflect_types.specs.DescriptorViews.{of_text, of_number, of_flag, of_bytes, of_texts, of_numbers, of_records, of_extension_range, of_reserved_range, of_field, of_oneof, of_enum_reserved_range, of_enum_value, of_enum, of_method, of_service, of_message, of_file, of_file_set};
 
-use crate::field_writing::DescriptorRecord;
+use crate::proto::OwnedProto;
 use crate::{
     DescriptorProto, EnumDescriptorProto, EnumReservedRange, EnumValueDescriptorProto,
     ExtensionRange, FieldDescriptorProto, FileDescriptorProto, FileDescriptorSet,
     MethodDescriptorProto, OneofDescriptorProto, ReservedRange, ServiceDescriptorProto,
 };
-
-/// A record that is compared by all that it holds.
-pub trait ComparedRecord: DescriptorRecord {
-    /// Whether both hold the same.
-    fn equals(&self, other: &Self) -> bool
-        ensures { IsTrue result ↔ (Self.content self.now ≡ Self.content other.now) };
-}
 
 fn equal_text(a: &Option<String>, b: &Option<String>) -> bool
     ensures { IsTrue result ↔ (of_text a.now ≡ of_text b.now) }
@@ -54,14 +47,20 @@ fn equal_numbers(a: &Vec<i32>, b: &Vec<i32>) -> bool
     a == b
 }
 
-fn equal_records<R: ComparedRecord>(a: &Vec<R>, b: &Vec<R>) -> bool
-    ensures { IsTrue result ↔ (of_records (map R.content a.now.items) ≡ of_records (map R.content b.now.items)) }
+fn equal_record<P: OwnedProto>(a: &P, b: &P) -> bool
+    ensures { IsTrue result ↔ (P.content a.now ≡ P.content b.now) }
+{
+    a == b
+}
+
+fn equal_records<P: OwnedProto>(a: &Vec<P>, b: &Vec<P>) -> bool
+    ensures { IsTrue result ↔ (of_records (map P.content a.now.items) ≡ of_records (map P.content b.now.items)) }
 {
     if a.len() != b.len() {
         return false;
     }
     for index in 0..a.len() {
-        if !a[index].equals(&b[index]) {
+        if !equal_record(&a[index], &b[index]) {
             return false;
         }
     }
@@ -123,8 +122,8 @@ impl Comparison {
         }
     }
 
-    fn records<R: ComparedRecord>(&mut self, a: &Vec<R>, b: &Vec<R>)
-        ensures { IsTrue self.new.equal ↔ (IsTrue self.old.equal × (of_records (map R.content a.now.items) ≡ of_records (map R.content b.now.items))) }
+    fn records<P: OwnedProto>(&mut self, a: &Vec<P>, b: &Vec<P>)
+        ensures { IsTrue self.new.equal ↔ (IsTrue self.old.equal × (of_records (map P.content a.now.items) ≡ of_records (map P.content b.now.items))) }
     {
         if self.equal {
             self.equal = equal_records(a, b);
@@ -132,8 +131,16 @@ impl Comparison {
     }
 }
 
-impl ComparedRecord for ExtensionRange {
-    fn equals(&self, other: &ExtensionRange) -> bool {
+impl PartialEq for ExtensionRange {
+    ghost eq = { λ a b. content_eq (of_extension_range a) (of_extension_range b) };
+
+    ghost laws = { seen_eq_laws of_extension_range };
+
+    /// Whether both hold the same.
+    fn eq(&self, other: &ExtensionRange) -> bool
+        ensures value { result ≡ content_eq (of_extension_range self.now) (of_extension_range other.now) }
+        ensures same { IsTrue result ↔ (of_extension_range self.now ≡ of_extension_range other.now) }
+    {
         let mut all = Comparison { equal: true };
         all.number(&self.start, &other.start);
         all.number(&self.end, &other.end);
@@ -142,8 +149,16 @@ impl ComparedRecord for ExtensionRange {
     }
 }
 
-impl ComparedRecord for ReservedRange {
-    fn equals(&self, other: &ReservedRange) -> bool {
+impl PartialEq for ReservedRange {
+    ghost eq = { λ a b. content_eq (of_reserved_range a) (of_reserved_range b) };
+
+    ghost laws = { seen_eq_laws of_reserved_range };
+
+    /// Whether both hold the same.
+    fn eq(&self, other: &ReservedRange) -> bool
+        ensures value { result ≡ content_eq (of_reserved_range self.now) (of_reserved_range other.now) }
+        ensures same { IsTrue result ↔ (of_reserved_range self.now ≡ of_reserved_range other.now) }
+    {
         let mut all = Comparison { equal: true };
         all.number(&self.start, &other.start);
         all.number(&self.end, &other.end);
@@ -151,8 +166,16 @@ impl ComparedRecord for ReservedRange {
     }
 }
 
-impl ComparedRecord for FieldDescriptorProto {
-    fn equals(&self, other: &FieldDescriptorProto) -> bool {
+impl PartialEq for FieldDescriptorProto {
+    ghost eq = { λ a b. content_eq (of_field a) (of_field b) };
+
+    ghost laws = { seen_eq_laws of_field };
+
+    /// Whether both hold the same.
+    fn eq(&self, other: &FieldDescriptorProto) -> bool
+        ensures value { result ≡ content_eq (of_field self.now) (of_field other.now) }
+        ensures same { IsTrue result ↔ (of_field self.now ≡ of_field other.now) }
+    {
         let mut all = Comparison { equal: true };
         all.text(&self.name, &other.name);
         all.text(&self.extendee, &other.extendee);
@@ -169,8 +192,16 @@ impl ComparedRecord for FieldDescriptorProto {
     }
 }
 
-impl ComparedRecord for OneofDescriptorProto {
-    fn equals(&self, other: &OneofDescriptorProto) -> bool {
+impl PartialEq for OneofDescriptorProto {
+    ghost eq = { λ a b. content_eq (of_oneof a) (of_oneof b) };
+
+    ghost laws = { seen_eq_laws of_oneof };
+
+    /// Whether both hold the same.
+    fn eq(&self, other: &OneofDescriptorProto) -> bool
+        ensures value { result ≡ content_eq (of_oneof self.now) (of_oneof other.now) }
+        ensures same { IsTrue result ↔ (of_oneof self.now ≡ of_oneof other.now) }
+    {
         let mut all = Comparison { equal: true };
         all.text(&self.name, &other.name);
         all.bytes(&self.options, &other.options);
@@ -178,8 +209,16 @@ impl ComparedRecord for OneofDescriptorProto {
     }
 }
 
-impl ComparedRecord for EnumReservedRange {
-    fn equals(&self, other: &EnumReservedRange) -> bool {
+impl PartialEq for EnumReservedRange {
+    ghost eq = { λ a b. content_eq (of_enum_reserved_range a) (of_enum_reserved_range b) };
+
+    ghost laws = { seen_eq_laws of_enum_reserved_range };
+
+    /// Whether both hold the same.
+    fn eq(&self, other: &EnumReservedRange) -> bool
+        ensures value { result ≡ content_eq (of_enum_reserved_range self.now) (of_enum_reserved_range other.now) }
+        ensures same { IsTrue result ↔ (of_enum_reserved_range self.now ≡ of_enum_reserved_range other.now) }
+    {
         let mut all = Comparison { equal: true };
         all.number(&self.start, &other.start);
         all.number(&self.end, &other.end);
@@ -187,8 +226,16 @@ impl ComparedRecord for EnumReservedRange {
     }
 }
 
-impl ComparedRecord for EnumValueDescriptorProto {
-    fn equals(&self, other: &EnumValueDescriptorProto) -> bool {
+impl PartialEq for EnumValueDescriptorProto {
+    ghost eq = { λ a b. content_eq (of_enum_value a) (of_enum_value b) };
+
+    ghost laws = { seen_eq_laws of_enum_value };
+
+    /// Whether both hold the same.
+    fn eq(&self, other: &EnumValueDescriptorProto) -> bool
+        ensures value { result ≡ content_eq (of_enum_value self.now) (of_enum_value other.now) }
+        ensures same { IsTrue result ↔ (of_enum_value self.now ≡ of_enum_value other.now) }
+    {
         let mut all = Comparison { equal: true };
         all.text(&self.name, &other.name);
         all.number(&self.number, &other.number);
@@ -197,8 +244,16 @@ impl ComparedRecord for EnumValueDescriptorProto {
     }
 }
 
-impl ComparedRecord for EnumDescriptorProto {
-    fn equals(&self, other: &EnumDescriptorProto) -> bool {
+impl PartialEq for EnumDescriptorProto {
+    ghost eq = { λ a b. content_eq (of_enum a) (of_enum b) };
+
+    ghost laws = { seen_eq_laws of_enum };
+
+    /// Whether both hold the same.
+    fn eq(&self, other: &EnumDescriptorProto) -> bool
+        ensures value { result ≡ content_eq (of_enum self.now) (of_enum other.now) }
+        ensures same { IsTrue result ↔ (of_enum self.now ≡ of_enum other.now) }
+    {
         let mut all = Comparison { equal: true };
         all.text(&self.name, &other.name);
         all.records(&self.value, &other.value);
@@ -209,8 +264,16 @@ impl ComparedRecord for EnumDescriptorProto {
     }
 }
 
-impl ComparedRecord for MethodDescriptorProto {
-    fn equals(&self, other: &MethodDescriptorProto) -> bool {
+impl PartialEq for MethodDescriptorProto {
+    ghost eq = { λ a b. content_eq (of_method a) (of_method b) };
+
+    ghost laws = { seen_eq_laws of_method };
+
+    /// Whether both hold the same.
+    fn eq(&self, other: &MethodDescriptorProto) -> bool
+        ensures value { result ≡ content_eq (of_method self.now) (of_method other.now) }
+        ensures same { IsTrue result ↔ (of_method self.now ≡ of_method other.now) }
+    {
         let mut all = Comparison { equal: true };
         all.text(&self.name, &other.name);
         all.text(&self.input_type, &other.input_type);
@@ -222,8 +285,16 @@ impl ComparedRecord for MethodDescriptorProto {
     }
 }
 
-impl ComparedRecord for ServiceDescriptorProto {
-    fn equals(&self, other: &ServiceDescriptorProto) -> bool {
+impl PartialEq for ServiceDescriptorProto {
+    ghost eq = { λ a b. content_eq (of_service a) (of_service b) };
+
+    ghost laws = { seen_eq_laws of_service };
+
+    /// Whether both hold the same.
+    fn eq(&self, other: &ServiceDescriptorProto) -> bool
+        ensures value { result ≡ content_eq (of_service self.now) (of_service other.now) }
+        ensures same { IsTrue result ↔ (of_service self.now ≡ of_service other.now) }
+    {
         let mut all = Comparison { equal: true };
         all.text(&self.name, &other.name);
         all.records(&self.method, &other.method);
@@ -232,8 +303,16 @@ impl ComparedRecord for ServiceDescriptorProto {
     }
 }
 
-impl ComparedRecord for DescriptorProto {
-    fn equals(&self, other: &DescriptorProto) -> bool {
+impl PartialEq for DescriptorProto {
+    ghost eq = { λ a b. content_eq (of_message a) (of_message b) };
+
+    ghost laws = { seen_eq_laws of_message };
+
+    /// Whether both hold the same.
+    fn eq(&self, other: &DescriptorProto) -> bool
+        ensures value { result ≡ content_eq (of_message self.now) (of_message other.now) }
+        ensures same { IsTrue result ↔ (of_message self.now ≡ of_message other.now) }
+    {
         equal_message(self, other)
     }
 }
@@ -280,8 +359,16 @@ fn equal_messages(a: &Vec<DescriptorProto>, b: &Vec<DescriptorProto>) -> bool
     true
 }
 
-impl ComparedRecord for FileDescriptorProto {
-    fn equals(&self, other: &FileDescriptorProto) -> bool {
+impl PartialEq for FileDescriptorProto {
+    ghost eq = { λ a b. content_eq (of_file a) (of_file b) };
+
+    ghost laws = { seen_eq_laws of_file };
+
+    /// Whether both hold the same.
+    fn eq(&self, other: &FileDescriptorProto) -> bool
+        ensures value { result ≡ content_eq (of_file self.now) (of_file other.now) }
+        ensures same { IsTrue result ↔ (of_file self.now ≡ of_file other.now) }
+    {
         let mut all = Comparison { equal: true };
         all.text(&self.name, &other.name);
         all.text(&self.package, &other.package);
@@ -299,168 +386,6 @@ impl ComparedRecord for FileDescriptorProto {
     }
 }
 
-impl ComparedRecord for FileDescriptorSet {
-    fn equals(&self, other: &FileDescriptorSet) -> bool {
-        let mut all = Comparison { equal: true };
-        all.records(&self.file, &other.file);
-        all.equal
-    }
-}
-
-impl PartialEq for ExtensionRange {
-    ghost eq = { λ a b. content_eq (of_extension_range a) (of_extension_range b) };
-
-    ghost laws = { seen_eq_laws of_extension_range };
-
-    /// Whether both hold the same.
-    fn eq(&self, other: &ExtensionRange) -> bool
-        ensures value { result ≡ content_eq (of_extension_range self.now) (of_extension_range other.now) }
-        ensures same { IsTrue result ↔ (of_extension_range self.now ≡ of_extension_range other.now) }
-    {
-        self.equals(other)
-    }
-}
-
-impl PartialEq for ReservedRange {
-    ghost eq = { λ a b. content_eq (of_reserved_range a) (of_reserved_range b) };
-
-    ghost laws = { seen_eq_laws of_reserved_range };
-
-    /// Whether both hold the same.
-    fn eq(&self, other: &ReservedRange) -> bool
-        ensures value { result ≡ content_eq (of_reserved_range self.now) (of_reserved_range other.now) }
-        ensures same { IsTrue result ↔ (of_reserved_range self.now ≡ of_reserved_range other.now) }
-    {
-        self.equals(other)
-    }
-}
-
-impl PartialEq for FieldDescriptorProto {
-    ghost eq = { λ a b. content_eq (of_field a) (of_field b) };
-
-    ghost laws = { seen_eq_laws of_field };
-
-    /// Whether both hold the same.
-    fn eq(&self, other: &FieldDescriptorProto) -> bool
-        ensures value { result ≡ content_eq (of_field self.now) (of_field other.now) }
-        ensures same { IsTrue result ↔ (of_field self.now ≡ of_field other.now) }
-    {
-        self.equals(other)
-    }
-}
-
-impl PartialEq for OneofDescriptorProto {
-    ghost eq = { λ a b. content_eq (of_oneof a) (of_oneof b) };
-
-    ghost laws = { seen_eq_laws of_oneof };
-
-    /// Whether both hold the same.
-    fn eq(&self, other: &OneofDescriptorProto) -> bool
-        ensures value { result ≡ content_eq (of_oneof self.now) (of_oneof other.now) }
-        ensures same { IsTrue result ↔ (of_oneof self.now ≡ of_oneof other.now) }
-    {
-        self.equals(other)
-    }
-}
-
-impl PartialEq for EnumReservedRange {
-    ghost eq = { λ a b. content_eq (of_enum_reserved_range a) (of_enum_reserved_range b) };
-
-    ghost laws = { seen_eq_laws of_enum_reserved_range };
-
-    /// Whether both hold the same.
-    fn eq(&self, other: &EnumReservedRange) -> bool
-        ensures value { result ≡ content_eq (of_enum_reserved_range self.now) (of_enum_reserved_range other.now) }
-        ensures same { IsTrue result ↔ (of_enum_reserved_range self.now ≡ of_enum_reserved_range other.now) }
-    {
-        self.equals(other)
-    }
-}
-
-impl PartialEq for EnumValueDescriptorProto {
-    ghost eq = { λ a b. content_eq (of_enum_value a) (of_enum_value b) };
-
-    ghost laws = { seen_eq_laws of_enum_value };
-
-    /// Whether both hold the same.
-    fn eq(&self, other: &EnumValueDescriptorProto) -> bool
-        ensures value { result ≡ content_eq (of_enum_value self.now) (of_enum_value other.now) }
-        ensures same { IsTrue result ↔ (of_enum_value self.now ≡ of_enum_value other.now) }
-    {
-        self.equals(other)
-    }
-}
-
-impl PartialEq for EnumDescriptorProto {
-    ghost eq = { λ a b. content_eq (of_enum a) (of_enum b) };
-
-    ghost laws = { seen_eq_laws of_enum };
-
-    /// Whether both hold the same.
-    fn eq(&self, other: &EnumDescriptorProto) -> bool
-        ensures value { result ≡ content_eq (of_enum self.now) (of_enum other.now) }
-        ensures same { IsTrue result ↔ (of_enum self.now ≡ of_enum other.now) }
-    {
-        self.equals(other)
-    }
-}
-
-impl PartialEq for MethodDescriptorProto {
-    ghost eq = { λ a b. content_eq (of_method a) (of_method b) };
-
-    ghost laws = { seen_eq_laws of_method };
-
-    /// Whether both hold the same.
-    fn eq(&self, other: &MethodDescriptorProto) -> bool
-        ensures value { result ≡ content_eq (of_method self.now) (of_method other.now) }
-        ensures same { IsTrue result ↔ (of_method self.now ≡ of_method other.now) }
-    {
-        self.equals(other)
-    }
-}
-
-impl PartialEq for ServiceDescriptorProto {
-    ghost eq = { λ a b. content_eq (of_service a) (of_service b) };
-
-    ghost laws = { seen_eq_laws of_service };
-
-    /// Whether both hold the same.
-    fn eq(&self, other: &ServiceDescriptorProto) -> bool
-        ensures value { result ≡ content_eq (of_service self.now) (of_service other.now) }
-        ensures same { IsTrue result ↔ (of_service self.now ≡ of_service other.now) }
-    {
-        self.equals(other)
-    }
-}
-
-impl PartialEq for DescriptorProto {
-    ghost eq = { λ a b. content_eq (of_message a) (of_message b) };
-
-    ghost laws = { seen_eq_laws of_message };
-
-    /// Whether both hold the same.
-    fn eq(&self, other: &DescriptorProto) -> bool
-        ensures value { result ≡ content_eq (of_message self.now) (of_message other.now) }
-        ensures same { IsTrue result ↔ (of_message self.now ≡ of_message other.now) }
-    {
-        self.equals(other)
-    }
-}
-
-impl PartialEq for FileDescriptorProto {
-    ghost eq = { λ a b. content_eq (of_file a) (of_file b) };
-
-    ghost laws = { seen_eq_laws of_file };
-
-    /// Whether both hold the same.
-    fn eq(&self, other: &FileDescriptorProto) -> bool
-        ensures value { result ≡ content_eq (of_file self.now) (of_file other.now) }
-        ensures same { IsTrue result ↔ (of_file self.now ≡ of_file other.now) }
-    {
-        self.equals(other)
-    }
-}
-
 impl PartialEq for FileDescriptorSet {
     ghost eq = { λ a b. content_eq (of_file_set a) (of_file_set b) };
 
@@ -471,6 +396,8 @@ impl PartialEq for FileDescriptorSet {
         ensures value { result ≡ content_eq (of_file_set self.now) (of_file_set other.now) }
         ensures same { IsTrue result ↔ (of_file_set self.now ≡ of_file_set other.now) }
     {
-        self.equals(other)
+        let mut all = Comparison { equal: true };
+        all.records(&self.file, &other.file);
+        all.equal
     }
 }

@@ -3,7 +3,6 @@
 
 ghost use Rattle.std.specs.Prelude.{◌≡◌, true, ◌++◌, ◌∷◌, ℕ, List, [], map};
 ghost use Rattle.prost_reflect_wire.specs.Record.{Flat, Len, Var, record_at, spelled};
-ghost use Rattle.prost_reflect_wire.specs.Content.{Content};
 ghost use Rattle.prost_reflect_wire.specs.Writing.{encoded};
 ghost use Rattle.prost_reflect_types.specs.DescriptorViews.{of_text, of_number, of_flag, of_bytes, of_texts, of_numbers, of_records};
 ghost use Rattle.prost_reflect_types.specs.DescriptorSound.{RecordSound, FieldSound};
@@ -12,21 +11,9 @@ ghost use Rattle.prost_reflect_types.specs.DescriptorWriting.{field_bytes};
 ghost use Rattle.prost_reflect_types.specs.DescriptorTable.{rows};
 ghost use Rattle.prost_reflect_wire.specs.Sinks.{Adds};
 ghost use Rattle.prost_reflect_types.specs.declared.table.FieldKind.TheVariants as kinds;
-ghost use Rattle.prost_reflect_types.specs.declared.table.RecordType.{RecordType};
 
+use crate::proto::WriteProto;
 use prost_reflect_wire::{Sink, WireType, sign_extended, write_key};
-
-/// A record of a descriptor set.
-pub trait DescriptorRecord {
-    ghost record_type: { RecordType };
-
-    ghost content: { Self → Content };
-
-    /// Writes the fields, the one of the greatest number first.
-    fn write<S: Sink>(&self, sink: &mut S)
-        ensures added { Adds S.added sink.old sink.new (encoded (content self.now)) }
-        ensures sound { RecordSound record_type (content self.now) };
-}
 
 fn write_varint<S: Sink>(sink: &mut S, number: u32, value: u64)
     ensures { Adds S.added sink.old sink.new (spelled (record_at number (Flat (Var value)) ∷ [])) }
@@ -45,9 +32,9 @@ fn write_delimited<S: Sink>(sink: &mut S, number: u32, payload: &[u8])
 }
 
 /// Writes a nested record under the number.
-pub fn write_record<S: Sink, R: DescriptorRecord>(sink: &mut S, number: u32, value: &R)
-    ensures added { Adds S.added sink.old sink.new (spelled (record_at number (Flat (Len (encoded (R.content value.now)))) ∷ [])) }
-    ensures sound { RecordSound R.record_type (R.content value.now) }
+pub fn write_record<S: Sink, P: WriteProto>(sink: &mut S, number: u32, value: &P)
+    ensures added { Adds S.added sink.old sink.new (spelled (record_at number (Flat (Len (encoded (P.content value.now)))) ∷ [])) }
+    ensures sound { RecordSound P.record_type (P.content value.now) }
 {
     let before = sink.len();
     value.write(sink);
@@ -114,9 +101,9 @@ pub fn write_numbers<S: Sink>(sink: &mut S, number: u32, values: &Vec<i32>)
 }
 
 /// Writes each nested record under the number, the last one first.
-pub fn write_records<S: Sink, R: DescriptorRecord>(sink: &mut S, number: u32, records: &Vec<R>)
-    ensures added { Adds S.added sink.old sink.new (field_bytes number (kinds.Records R.record_type) (of_records (map R.content records.now.items))) }
-    ensures sound { FieldSound (kinds.Records R.record_type) (of_records (map R.content records.now.items)) }
+pub fn write_records<S: Sink, P: WriteProto>(sink: &mut S, number: u32, records: &Vec<P>)
+    ensures added { Adds S.added sink.old sink.new (field_bytes number (kinds.Records P.record_type) (of_records (map P.content records.now.items))) }
+    ensures sound { FieldSound (kinds.Records P.record_type) (of_records (map P.content records.now.items)) }
 {
     for index in (0..records.len()).rev() {
         write_record(sink, number, &records[index]);

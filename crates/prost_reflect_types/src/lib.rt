@@ -1,27 +1,23 @@
-//! The records of a descriptor set: files, messages, fields, enums, services and what they consist of, as
-//! `descriptor.proto` of Protocol Buffers declares them.
+//! The structs of a descriptor set: files, messages, fields, enums, services and what they consist of, as
+//! `descriptor.proto` of Protocol Buffers declares them. `Proto` reads, writes and measures them.
 //!
 //! Options and source information are kept as the bytes that they are written in.
-//!
-//! A record is read in at most 100 levels of nested records and unknown groups. Of a text, a number or a flag that is given
-//! twice the last one counts; the records of a list, and the pieces of raw bytes, join; packed numbers are read as single
-//! ones are; fields that the record does not have are dropped (the encoding guide, "Last One Wins", "Packed Repeated Fields"
-//! and "Submessages").
 #![tactic(auto)]
 
 mod body;
 mod copy;
-mod decode;
 mod encoding;
 mod equality;
 pub mod examples;
 mod field_writing;
 mod fields;
+mod proto;
 mod shared;
 mod table;
 mod values;
 mod writing;
 
+pub use proto::Proto;
 pub use shared::encode_files;
 
 /// The files that a compiler was given, each behind those that it depends on.

@@ -14,7 +14,8 @@ ghost use Rattle.prost_reflect_types.specs.declared.table.RecordType.TheVariants
 
 use crate::FileDescriptorProto;
 use crate::encoding::append;
-use crate::field_writing::{DescriptorRecord, write_record};
+use crate::field_writing::write_record;
+use crate::proto::WriteProto;
 use prost_reflect_wire::{EncodeError, Sink};
 use std::rc::Rc;
 
@@ -24,7 +25,7 @@ struct SharedFiles<'a> {
     files: &'a [Rc<FileDescriptorProto>],
 }
 
-impl<'a> DescriptorRecord for SharedFiles<'a> {
+impl<'a> WriteProto for SharedFiles<'a> {
     ghost record_type = { types.FileSet };
 
     ghost content = { λ set. of_files (shared_files set.files.now) };

@@ -11,9 +11,9 @@ ghost use Rattle.prost_reflect_types.specs.declared.table.FieldKind.TheVariants 
 ghost use Rattle.prost_reflect_types.specs.declared.table.RecordType.TheVariants as types;
 
 use crate::field_writing::{
-    DescriptorRecord, write_bytes, write_flag, write_number, write_numbers, write_records,
-    write_text, write_texts,
+    write_bytes, write_flag, write_number, write_numbers, write_records, write_text, write_texts,
 };
+use crate::proto::WriteProto;
 use crate::{
     DescriptorProto, EnumDescriptorProto, EnumReservedRange, EnumValueDescriptorProto,
     ExtensionRange, FieldDescriptorProto, FileDescriptorProto, FileDescriptorSet,
@@ -21,7 +21,7 @@ use crate::{
 };
 use prost_reflect_wire::{Sink, WireType, write_key};
 
-impl DescriptorRecord for ExtensionRange {
+impl WriteProto for ExtensionRange {
     ghost record_type = { types.ExtensionRange };
 
     ghost content = { of_extension_range };
@@ -33,7 +33,7 @@ impl DescriptorRecord for ExtensionRange {
     }
 }
 
-impl DescriptorRecord for ReservedRange {
+impl WriteProto for ReservedRange {
     ghost record_type = { types.ReservedRange };
 
     ghost content = { of_reserved_range };
@@ -44,7 +44,7 @@ impl DescriptorRecord for ReservedRange {
     }
 }
 
-impl DescriptorRecord for FieldDescriptorProto {
+impl WriteProto for FieldDescriptorProto {
     ghost record_type = { types.Field };
 
     ghost content = { of_field };
@@ -64,7 +64,7 @@ impl DescriptorRecord for FieldDescriptorProto {
     }
 }
 
-impl DescriptorRecord for OneofDescriptorProto {
+impl WriteProto for OneofDescriptorProto {
     ghost record_type = { types.Oneof };
 
     ghost content = { of_oneof };
@@ -75,7 +75,7 @@ impl DescriptorRecord for OneofDescriptorProto {
     }
 }
 
-impl DescriptorRecord for EnumReservedRange {
+impl WriteProto for EnumReservedRange {
     ghost record_type = { types.EnumReservedRange };
 
     ghost content = { of_enum_reserved_range };
@@ -86,7 +86,7 @@ impl DescriptorRecord for EnumReservedRange {
     }
 }
 
-impl DescriptorRecord for EnumValueDescriptorProto {
+impl WriteProto for EnumValueDescriptorProto {
     ghost record_type = { types.EnumValue };
 
     ghost content = { of_enum_value };
@@ -98,7 +98,7 @@ impl DescriptorRecord for EnumValueDescriptorProto {
     }
 }
 
-impl DescriptorRecord for EnumDescriptorProto {
+impl WriteProto for EnumDescriptorProto {
     ghost record_type = { types.Enum };
 
     ghost content = { of_enum };
@@ -112,7 +112,7 @@ impl DescriptorRecord for EnumDescriptorProto {
     }
 }
 
-impl DescriptorRecord for MethodDescriptorProto {
+impl WriteProto for MethodDescriptorProto {
     ghost record_type = { types.Method };
 
     ghost content = { of_method };
@@ -127,7 +127,7 @@ impl DescriptorRecord for MethodDescriptorProto {
     }
 }
 
-impl DescriptorRecord for ServiceDescriptorProto {
+impl WriteProto for ServiceDescriptorProto {
     ghost record_type = { types.Service };
 
     ghost content = { of_service };
@@ -139,7 +139,7 @@ impl DescriptorRecord for ServiceDescriptorProto {
     }
 }
 
-impl DescriptorRecord for DescriptorProto {
+impl WriteProto for DescriptorProto {
     ghost record_type = { types.Message };
 
     ghost content = { of_message };
@@ -179,7 +179,7 @@ fn write_messages<S: Sink>(sink: &mut S, number: u32, messages: &Vec<DescriptorP
     }
 }
 
-impl DescriptorRecord for FileDescriptorProto {
+impl WriteProto for FileDescriptorProto {
     ghost record_type = { types.File };
 
     ghost content = { of_file };
@@ -200,7 +200,7 @@ impl DescriptorRecord for FileDescriptorProto {
     }
 }
 
-impl DescriptorRecord for FileDescriptorSet {
+impl WriteProto for FileDescriptorSet {
     ghost record_type = { types.FileSet };
 
     ghost content = { of_file_set };

@@ -3,7 +3,7 @@
 use prost_reflect_types::{
     DescriptorProto, EnumDescriptorProto, EnumReservedRange, EnumValueDescriptorProto,
     ExtensionRange, FieldDescriptorProto, FileDescriptorProto, FileDescriptorSet,
-    MethodDescriptorProto, OneofDescriptorProto, ReservedRange, ServiceDescriptorProto,
+    MethodDescriptorProto, OneofDescriptorProto, Proto, ReservedRange, ServiceDescriptorProto,
 };
 use std::alloc::{AllocError, Global};
 use std::test::Fail;

@@ -1,6 +1,6 @@
 //! Unknown fields of each form, short and long, and records with long lists.
 
-use prost_reflect_types::FileDescriptorSet;
+use prost_reflect_types::{FileDescriptorSet, Proto};
 use prost_reflect_wire::{
     RECURSION_LIMIT, UnknownField, UnknownFieldSet, UnknownFieldValue, decode_key, decode_value,
 };

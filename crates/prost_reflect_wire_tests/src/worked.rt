@@ -1,6 +1,6 @@
 //! Worked file records that are written in other bytes than they were read from, and the parts of a worked group.
 
-use prost_reflect_types::FileDescriptorProto;
+use prost_reflect_types::{FileDescriptorProto, Proto};
 use prost_reflect_wire::{
     DecodeError, RECURSION_LIMIT, UnknownField, UnknownFieldSet, UnknownFieldValue,
 };

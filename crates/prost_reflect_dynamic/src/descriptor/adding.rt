@@ -10,7 +10,7 @@ ghost use Rattle.prost_reflect_pool.specs.SharedPools.{files_of};
 use crate::descriptor::DescriptorPool;
 use prost_reflect_pool::LinkedPool;
 use prost_reflect_tables::PoolError;
-use prost_reflect_types::{FileDescriptorProto, FileDescriptorSet};
+use prost_reflect_types::{FileDescriptorProto, FileDescriptorSet, Proto};
 use std::alloc::Global;
 use std::rc::Rc;
 

@@ -11,7 +11,7 @@ use crate::descriptor::{
 };
 use crate::message::DynamicMessage;
 use prost_reflect_tables::{FileTable, text_or_empty};
-use prost_reflect_types::FileDescriptorProto;
+use prost_reflect_types::{FileDescriptorProto, Proto};
 use prost_reflect_wire::EncodeError;
 use std::alloc::{AllocError, Global};
 

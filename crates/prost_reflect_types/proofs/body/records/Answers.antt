@@ -16,10 +16,10 @@ loop-body-init g c = rw c.new-records.ensures.items (nested_none _ _ _)
 pub loop-body-preserved : goal.loop-body-preserved
 loop-body-preserved g c =
     nested_more _ _ _ _ _ _ _ _ (subst (NestedSoFar _ _ _ _) (next_body c.as_slice-bodies.result.now c.loop-body.body-index _ c.loop-body-test.true) c.loop-body.invariant) c.in_ok-nested.ensures.ok
-    (ap (map g.T.FromBody.content) c.in_ok-push.ensures.items ∙ map_append g.T.FromBody.content c.loop-body.records.items _)
+    (ap (map g.P.WriteProto.content) c.in_ok-push.ensures.items ∙ map_append g.P.WriteProto.content c.loop-body.records.items _)
 
 pub returns-clause-ok : goal.returns-clause-ok
 unfolding records_at
 returns-clause-ok g c =
-    ap (all_decoded c.args.levels g.T.FromBody.record_type) (sym c.in_ok-bodies.ensures ∙ ap (map (λ b. b.now)) (sym c.as_slice-bodies.ensures.value))
+    ap (all_decoded c.args.levels g.P.WriteProto.record_type) (sym c.in_ok-bodies.ensures ∙ ap (map (λ b. b.now)) (sym c.as_slice-bodies.ensures.value))
     ∙ nested_done _ _ _ _ _ c.loop-body.invariant (no_body c.as_slice-bodies.result.now c.loop-body.body-index c.loop-body-test.false)

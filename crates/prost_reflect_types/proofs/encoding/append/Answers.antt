@@ -18,4 +18,4 @@ fits_reads : (t : RecordType) (m : Content) (new written : ByteSink) → RecordS
 fits_reads t m new written sound empty added fits low = reads_back t m sound (fits new (encoded m) empty added) low
 
 pub returns-clause-reads : goal.returns-clause-reads
-returns-clause-reads g c = on_ok_weaker _ (fits_reads g.R.DescriptorRecord.record_type _ _ c.write.new.sink c.write.ensures.sound c.new-sink.ensures c.write.ensures.added) c.append_to.ensures.fits
+returns-clause-reads g c = on_ok_weaker _ (fits_reads g.P.WriteProto.record_type _ _ c.write.new.sink c.write.ensures.sound c.new-sink.ensures c.write.ensures.added) c.append_to.ensures.fits

@@ -5,7 +5,7 @@ use Rattle.prost_reflect_types.proofs.field_writing.write_records.Goals as goal
 
 pub returns-clause-added : goal.returns-clause-added
 returns-clause-added g c = let first : c.loop-index.index ≡ 0 = omega arith in
-    adds_same g.S.Sink.added _ _ _ _ (records_field c.args.number g.R.DescriptorRecord.record_type g.R.DescriptorRecord.content c.args.records.now.items) (rw first at c.loop-index.invariant.added)
+    adds_same g.S.Sink.added _ _ _ _ (records_field c.args.number g.P.WriteProto.record_type g.P.WriteProto.content c.args.records.now.items) (rw first at c.loop-index.invariant.added)
 
 pub returns-clause-sound : goal.returns-clause-sound
-returns-clause-sound g c = let first : c.loop-index.index ≡ 0 = omega arith in records_sound g.R.DescriptorRecord.record_type _ (rw first at c.loop-index.invariant.sound)
+returns-clause-sound g c = let first : c.loop-index.index ≡ 0 = omega arith in records_sound g.P.WriteProto.record_type _ (rw first at c.loop-index.invariant.sound)

@@ -9,6 +9,6 @@ use Rattle.prost_reflect_types.proofs.field_writing.write_records.Given as goal
 -- the records from the index on are written
 abbrev pub invariant-loop-index : goal.invariant-loop-index
 invariant-loop-index g l = record {
-  added : Adds g.S.Sink.added l.fn.sink l.sink (list_bytes l.number (kinds.Records g.R.DescriptorRecord.record_type) (map (λ r. MessageValue (g.R.DescriptorRecord.content r)) (drop l.index l.records.items)));
-  sound : AllSound g.R.DescriptorRecord.record_type (map g.R.DescriptorRecord.content (drop l.index l.records.items));
+  added : Adds g.S.Sink.added l.fn.sink l.sink (list_bytes l.number (kinds.Records g.P.WriteProto.record_type) (map (λ r. MessageValue (g.P.WriteProto.content r)) (drop l.index l.records.items)));
+  sound : AllSound g.P.WriteProto.record_type (map g.P.WriteProto.content (drop l.index l.records.items));
 }

@@ -1,5 +1,11 @@
-use Rattle.prost_reflect_types.proofs.SameRecords.{decided_value}
+use Rattle.std.proofs.Common.{refl}
+use Rattle.prost_reflect_types.specs.declared.table.RecordType.TheVariants as types
+use Rattle.prost_reflect_types.proofs.RecordSlots.{service_slots}
+use Rattle.prost_reflect_types.proofs.SameRecords.{all_equal, and_also, record_decided, decided_value}
 use Rattle.prost_reflect_types.proofs.equality.ServiceDescriptorProtoPartialEq.eq.Goals as goal
 
+pub returns-clause-same : goal.returns-clause-same
+returns-clause-same c = record_decided types.Service (service_slots c.args.self.now) (service_slots c.args.other.now) refl _ (and_also (and_also (and_also all_equal c.text.ensures) c.records.ensures) c.bytes.ensures)
+
 pub returns-clause-value : goal.returns-clause-value
-returns-clause-value c = decided_value _ _ c.equals.result c.equals.ensures
+returns-clause-value c = decided_value _ _ _ (returns-clause-same c)

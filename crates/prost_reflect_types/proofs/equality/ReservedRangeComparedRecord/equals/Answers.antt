@@ -1,8 +1,0 @@
-use Rattle.std.proofs.Common.{refl}
-use Rattle.prost_reflect_types.specs.declared.table.RecordType.TheVariants as types
-use Rattle.prost_reflect_types.proofs.RecordSlots.{reserved_range_slots}
-use Rattle.prost_reflect_types.proofs.SameRecords.{all_equal, and_also, record_decided}
-use Rattle.prost_reflect_types.proofs.equality.ReservedRangeComparedRecord.equals.Goals as goal
-
-pub returns : goal.returns
-returns c = record_decided types.ReservedRange (reserved_range_slots c.args.self.now) (reserved_range_slots c.args.other.now) refl _ (and_also (and_also all_equal c.number.ensures) c.number-2.ensures)
