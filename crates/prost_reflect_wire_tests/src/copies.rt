@@ -3,6 +3,7 @@
 use prost_reflect_wire::{
     FieldNumber, RECURSION_LIMIT, UnknownField, UnknownFieldSet, UnknownFieldValue,
 };
+use std::alloc::{AllocError, Global};
 use std::test::Fail;
 
 /// The group of number 3 with the group of number 2 with `hello`.
@@ -30,32 +31,46 @@ fn is_nested(value: &UnknownFieldValue) -> bool {
     inner.number() == 2 && text.number() == 1 && bytes.as_slice() == b"hello".as_slice()
 }
 
+/// Whether the field is equal to its copy, and a copy of its value is that of the outer group.
+fn is_copied(field: &UnknownField) -> Result<bool, AllocError> {
+    let is_equal = field.clone()? == *field;
+    Ok(is_nested(&field.value().clone()?) && is_equal)
+}
+
 #[test]
 fn nested_groups_are_copied(rt: HostRuntime) -> Result<(), Fail> {
     let mut cursor = NESTED;
     let field = UnknownField::decode(rt.alloc(), &mut cursor, RECURSION_LIMIT)?;
-    assert!(rt; is_nested(field.value()));
-    let copy: UnknownField = field.clone()?;
-    assert!(rt; copy == field);
-    let value: UnknownFieldValue = field.value().clone()?;
-    assert!(rt; is_nested(&value));
+    assert!(rt; is_nested(field.value()) && is_copied(&field)?);
     Ok(())
 }
 
-/// Five fields are more than a set has room for at first.
-#[test]
-fn a_set_grows_and_is_copied(rt: HostRuntime) -> Result<(), Fail> {
-    let mut set = UnknownFieldSet::new(rt.alloc());
+/// The fields 0 to 4 of number 1, which are more than a set has room for at first.
+fn set_of_five(alloc: Global) -> Result<UnknownFieldSet, AllocError> {
+    let mut set = UnknownFieldSet::new(alloc);
     for value in 0..5 {
         let field = UnknownField::new(FieldNumber::new(1), UnknownFieldValue::Varint(value));
         set.insert(field)?;
     }
-    let copy: UnknownFieldSet = set.clone()?;
-    let mut out = Vec::from_slice(rt.alloc(), b"<")?;
-    copy.encode(&mut out)?;
-    assert_eq!(rt;
-        out.as_slice(),
-        b"<\x08\x00\x08\x01\x08\x02\x08\x03\x08\x04".as_slice()
+    Ok(set)
+}
+
+/// Whether the set is written as these bytes behind a mark.
+fn is_written_as(alloc: Global, set: &UnknownFieldSet, bytes: &[u8]) -> Result<bool, Fail> {
+    let mut out = Vec::from_slice(alloc, b"<")?;
+    set.encode(&mut out)?;
+    Ok(out.as_slice() == bytes)
+}
+
+#[test]
+fn a_set_grows_and_is_copied(rt: HostRuntime) -> Result<(), Fail> {
+    let copy = set_of_five(rt.alloc())?.clone()?;
+    assert!(rt;
+        is_written_as(
+            rt.alloc(),
+            &copy,
+            b"<\x08\x00\x08\x01\x08\x02\x08\x03\x08\x04"
+        )?
     );
     Ok(())
 }

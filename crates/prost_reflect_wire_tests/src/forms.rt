@@ -1,5 +1,6 @@
 //! Unknown fields of each form, short and long, and records with long lists.
 
+use crate::encodings::is_behind;
 use prost_reflect_types::{FileDescriptorSet, Proto};
 use prost_reflect_wire::{
     RECURSION_LIMIT, UnknownField, UnknownFieldSet, UnknownFieldValue, decode_key, decode_value,
@@ -29,24 +30,18 @@ static FORMS: [(&[u8], u8); 12] = [
     (b"\x85\x01\x00\x00\x00\x00", 5),
 ];
 
-/// The bytes behind 2000 others.
-fn behind(alloc: Global, bytes: &[u8]) -> Result<Vec<u8>, AllocError> {
-    let mut all = vec![in alloc; 7; 2000]?;
-    all.extend_from_slice(bytes)?;
-    Ok(all)
+/// Whether the field is of the wire type, and is written as the bytes behind what is there.
+fn is_written(alloc: Global, field: &UnknownField, bytes: &[u8], code: u8) -> Result<bool, Fail> {
+    let mut out = vec![in alloc; 7; 2000]?;
+    field.encode(&mut out)?;
+    let is_counted = field.encoded_len() == Some(bytes.len());
+    Ok(field.wire_type().code() == code && is_counted && is_behind(out.as_slice(), bytes))
 }
 
-/// Whether the field is of the wire type, is equal to its copy, and is written as the bytes, alone and behind what is there.
-fn is_carried(alloc: Global, field: &UnknownField, bytes: &[u8], code: u8) -> Result<bool, Fail> {
-    let mut out = behind(alloc, b"")?;
-    field.encode(&mut out)?;
-    Ok(
-        field.wire_type().code() == code
-            && field.encoded_len() == Some(bytes.len())
-            && out.as_slice() == behind(alloc, bytes)?.as_slice()
-            && field.clone()? == *field
-            && field.value().clone()? == *field.value(),
-    )
+/// Whether the field and its value are equal to their copies.
+fn is_copied(field: &UnknownField) -> Result<bool, AllocError> {
+    let is_equal = field.clone()? == *field;
+    Ok(field.value().clone()? == *field.value() && is_equal)
 }
 
 /// Whether the value is what stands behind the key of the bytes.
@@ -60,19 +55,9 @@ fn is_behind_key(alloc: Global, value: &UnknownFieldValue, bytes: &[u8]) -> Resu
 fn is_field(alloc: Global, bytes: &[u8], code: u8) -> Result<bool, Fail> {
     let mut cursor = bytes;
     let field = UnknownField::decode(alloc, &mut cursor, RECURSION_LIMIT)?;
-    Ok(
-        cursor.is_empty()
-            && is_carried(alloc, &field, bytes, code)?
-            && is_behind_key(alloc, field.value(), bytes)?,
-    )
-}
-
-#[test]
-fn fields_of_each_form_are_carried(rt: HostRuntime) -> Result<(), Fail> {
-    for (bytes, code) in &FORMS {
-        assert!(rt; is_field(rt.alloc(), bytes, *code)?, "{bytes:?}");
-    }
-    Ok(())
+    let is_written = is_written(alloc, &field, bytes, code)?;
+    let is_copied = is_copied(&field)?;
+    Ok(is_behind_key(alloc, field.value(), bytes)? && is_written && is_copied && cursor.is_empty())
 }
 
 /// The field 3 with 5000 bytes.
@@ -104,12 +89,6 @@ fn long_fields_are_carried(rt: HostRuntime) -> Result<(), Fail> {
     let alloc = rt.alloc();
     assert!(rt; is_field(alloc, long_bytes(alloc)?.as_slice(), 2)?);
     assert!(rt; is_field(alloc, deep_group(alloc)?.as_slice(), 3)?);
-    for (bytes, _) in &FORMS {
-        assert!(rt;
-            is_field(alloc, long_group(alloc, bytes)?.as_slice(), 3)?,
-            "{bytes:?}"
-        );
-    }
     Ok(())
 }
 
@@ -123,20 +102,27 @@ fn set_of(alloc: Global, bytes: &[u8]) -> Result<UnknownFieldSet, Fail> {
     Ok(set)
 }
 
-/// Whether a set of 300 times the field is copied, and written behind what is there.
-fn is_set(alloc: Global, bytes: &[u8]) -> Result<bool, Fail> {
-    let set = set_of(alloc, bytes)?;
-    let group = long_group(alloc, bytes)?;
+/// Whether the set has 300 fields, is copied, and is written as what the group has, behind what is there.
+fn is_set(alloc: Global, set: &UnknownFieldSet, group: &[u8]) -> Result<bool, Fail> {
     let mut out = Vec::from_slice(alloc, &[0x23])?;
     set.encode(&mut out)?;
     out.push(0x24)?;
-    Ok(set.len() == 300 && set.clone()? == set && out.as_slice() == group.as_slice())
+    let is_copied = set.clone()? == *set;
+    Ok(set.len() == 300 && is_copied && out.as_slice() == group)
+}
+
+/// Whether 300 times the field are carried as a group and as a set.
+fn is_carried_in_numbers(alloc: Global, bytes: &[u8]) -> Result<bool, Fail> {
+    let group = long_group(alloc, bytes)?;
+    let is_group = is_field(alloc, group.as_slice(), 3)?;
+    Ok(is_set(alloc, &set_of(alloc, bytes)?, group.as_slice())? && is_group)
 }
 
 #[test]
-fn sets_of_each_form_are_carried(rt: HostRuntime) -> Result<(), Fail> {
-    for (bytes, _) in &FORMS {
-        assert!(rt; is_set(rt.alloc(), bytes)?, "{bytes:?}");
+fn fields_of_each_form_are_carried(rt: HostRuntime) -> Result<(), Fail> {
+    for (bytes, code) in &FORMS {
+        assert!(rt; is_field(rt.alloc(), bytes, *code)?, "{bytes:?}");
+        assert!(rt; is_carried_in_numbers(rt.alloc(), bytes)?, "{bytes:?}");
     }
     Ok(())
 }
@@ -165,17 +151,26 @@ fn record_of(alloc: Global, keys: &[u8]) -> Result<Vec<u8>, AllocError> {
     Ok(record)
 }
 
+/// Lists of a file, forty each, and the key and the lists of the record that stands behind them: a message type, an enum and a service.
+static LISTS: [(&[u8], u8, &[u8]); 3] = [
+    (b"\x1a\x22", 0x22, b"\x12\x1a\x22\x2a\x32\x42\x4a\x52"),
+    (b"\x2a", 0x2a, b"\x12\x22\x2a"),
+    (b"\x32", 0x32, b"\x12\x12"),
+];
+
+/// Appends a record behind its key, with forty of each list.
+fn append_record(out: &mut Vec<u8>, key: u8, keys: &[u8]) -> Result<(), AllocError> {
+    let record = record_of(*out.allocator(), keys)?;
+    append(out, key, record.as_slice())
+}
+
 /// A file with forty of each list, and behind its empty message types, enums and services one with forty of each list in it.
 fn file(alloc: Global) -> Result<Vec<u8>, AllocError> {
-    let message = record_of(alloc, b"\x12\x1a\x22\x2a\x32\x42\x4a\x52")?;
-    let declared = record_of(alloc, b"\x12\x22\x2a")?;
-    let service = record_of(alloc, b"\x12\x12")?;
-    let mut file = record_of(alloc, b"\x1a\x22")?;
-    append(&mut file, 0x22, message.as_slice())?;
-    append_all(&mut file, b"\x2a")?;
-    append(&mut file, 0x2a, declared.as_slice())?;
-    append_all(&mut file, b"\x32")?;
-    append(&mut file, 0x32, service.as_slice())?;
+    let mut file = Vec::new(alloc);
+    for (lists, key, keys) in LISTS {
+        append_all(&mut file, lists)?;
+        append_record(&mut file, key, keys)?;
+    }
     append_all(&mut file, b"\x3a\x50\x58")?;
     Ok(file)
 }
@@ -189,14 +184,10 @@ fn set_of_files(alloc: Global) -> Result<Vec<u8>, AllocError> {
 
 /// Whether the set is copied, and written as the bytes behind what is there.
 fn is_file_set(alloc: Global, set: &FileDescriptorSet, bytes: &[u8]) -> Result<bool, Fail> {
-    let mut out = behind(alloc, b"")?;
+    let mut out = vec![in alloc; 7; 2000]?;
     set.encode(&mut out)?;
-    Ok(
-        set.file.len() == 41
-            && set.encoded_len() == Some(bytes.len())
-            && out.as_slice() == behind(alloc, bytes)?.as_slice()
-            && set.clone()? == *set,
-    )
+    let is_counted = set.file.len() == 41 && set.encoded_len() == Some(bytes.len());
+    Ok(set.clone()? == *set && is_counted && is_behind(out.as_slice(), bytes))
 }
 
 /// Records of each sort that have nothing, in long lists.

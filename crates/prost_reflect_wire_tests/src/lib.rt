@@ -9,6 +9,8 @@ mod encodings;
 #[cfg(test)]
 mod forms;
 #[cfg(test)]
+mod numbers;
+#[cfg(test)]
 mod records;
 #[cfg(test)]
 mod unknown;

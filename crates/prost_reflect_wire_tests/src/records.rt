@@ -11,123 +11,134 @@ use std::test::Fail;
 
 /// The descriptor set of `m.proto`: the package `package` in proto3, and the message `MyMessage` with the fields `foo` and
 /// `nested` and, in the oneof `optional`, `bar`.
-const SMALL_SET: [u8; 117] = [
-    0x0a, 0x73, 0x0a, 0x07, 0x6d, 0x2e, 0x70, 0x72, 0x6f, 0x74, 0x6f, 0x12, 0x07, 0x70, 0x61, 0x63,
-    0x6b, 0x61, 0x67, 0x65, 0x22, 0x57, 0x0a, 0x09, 0x4d, 0x79, 0x4d, 0x65, 0x73, 0x73, 0x61, 0x67,
-    0x65, 0x12, 0x0b, 0x0a, 0x03, 0x66, 0x6f, 0x6f, 0x18, 0x01, 0x20, 0x01, 0x28, 0x05, 0x12, 0x0d,
-    0x0a, 0x03, 0x62, 0x61, 0x72, 0x18, 0x02, 0x20, 0x01, 0x28, 0x05, 0x48, 0x00, 0x12, 0x22, 0x0a,
-    0x06, 0x6e, 0x65, 0x73, 0x74, 0x65, 0x64, 0x18, 0x03, 0x20, 0x01, 0x28, 0x0b, 0x32, 0x12, 0x2e,
-    0x70, 0x61, 0x63, 0x6b, 0x61, 0x67, 0x65, 0x2e, 0x4d, 0x79, 0x4d, 0x65, 0x73, 0x73, 0x61, 0x67,
-    0x65, 0x42, 0x0a, 0x0a, 0x08, 0x6f, 0x70, 0x74, 0x69, 0x6f, 0x6e, 0x61, 0x6c, 0x62, 0x06, 0x70,
-    0x72, 0x6f, 0x74, 0x6f, 0x33,
-];
+static SMALL_SET: &[u8] =
+    b"\x0as\x0a\x07m.proto\x12\x07package\x22W\x0a\x09MyMessage\x12\x0b\x0a\x03foo\x18\x01\x20\x01(\x05\x12\x0d\
+    \x0a\x03bar\x18\x02\x20\x01(\x05H\x00\x12\x22\x0a\x06nested\x18\x03\x20\x01(\x0b2\x12.package.MyMessageB\
+    \x0a\x0a\x08optionalb\x06proto3";
 
 /// A descriptor set that protoc wrote: an option, a range of extensions, and an extension.
-const EXTENDED_SET: [u8; 105] = [
-    0x0a, 0x67, 0x0a, 0x08, 0x6d, 0x73, 0x2e, 0x70, 0x72, 0x6f, 0x74, 0x6f, 0x12, 0x02, 0x6d, 0x73,
-    0x22, 0x13, 0x0a, 0x03, 0x53, 0x65, 0x74, 0x2a, 0x08, 0x08, 0x04, 0x10, 0xff, 0xff, 0xff, 0xff,
-    0x07, 0x3a, 0x02, 0x08, 0x01, 0x22, 0x42, 0x0a, 0x04, 0x49, 0x74, 0x65, 0x6d, 0x12, 0x12, 0x0a,
-    0x04, 0x74, 0x65, 0x78, 0x74, 0x18, 0x01, 0x20, 0x01, 0x28, 0x09, 0x52, 0x04, 0x74, 0x65, 0x78,
-    0x74, 0x32, 0x26, 0x0a, 0x04, 0x69, 0x74, 0x65, 0x6d, 0x12, 0x07, 0x2e, 0x6d, 0x73, 0x2e, 0x53,
-    0x65, 0x74, 0x18, 0xb9, 0x60, 0x20, 0x01, 0x28, 0x0b, 0x32, 0x08, 0x2e, 0x6d, 0x73, 0x2e, 0x49,
-    0x74, 0x65, 0x6d, 0x52, 0x04, 0x69, 0x74, 0x65, 0x6d,
-];
+static EXTENDED_SET: &[u8] =
+    b"\x0ag\x0a\x08ms.proto\x12\x02ms\x22\x13\x0a\x03Set*\x08\x08\x04\x10\xff\xff\xff\xff\x07:\x02\x08\x01\x22B\
+    \x0a\x04Item\x12\x12\x0a\x04text\x18\x01\x20\x01(\x09R\x04text2&\x0a\x04item\x12\x07.ms.Set\x18\xb9`\x20\
+    \x01(\x0b2\x08.ms.ItemR\x04item";
 
-/// The text, or a dash if there is none.
-fn shown(text: &Option<String>) -> &str {
+/// Texts of a record, and what they have to be.
+fn texts_are(rows: &[(&Option<String>, &str)]) -> bool {
+    for (text, expected) in rows {
+        if !text_is(text, expected) {
+            return false;
+        }
+    }
+    true
+}
+
+/// Whether the text is there, and is this one.
+fn text_is(text: &Option<String>, expected: &str) -> bool {
     match text {
-        Some(text) => text.as_str(),
-        None => "-",
+        Some(text) => text.as_str() == expected,
+        None => false,
     }
 }
 
-/// The raw bytes, or a dash if there are none.
-fn raw(bytes: &Option<Vec<u8>>) -> &[u8] {
+/// Whether the bytes are there, and are these.
+fn bytes_are(bytes: &Option<Vec<u8>>, expected: &[u8]) -> bool {
     match bytes {
-        Some(bytes) => bytes.as_slice(),
-        None => b"-",
+        Some(bytes) => bytes.as_slice() == expected,
+        None => false,
     }
 }
 
-#[test]
-fn extension_ranges(rt: HostRuntime) -> Result<(), Fail> {
-    let bytes = [
-        0x08, 0x04, 0x10, 0xff, 0xff, 0xff, 0xff, 0x07, 0x1a, 0x01, 0x01, 0x1a, 0x01, 0x02,
-    ];
-    let range = ExtensionRange::decode(rt.alloc(), &bytes)?;
-    assert_eq!(rt; (range.start, range.end), (Some(4), Some(2147483647)));
-    assert!(rt; raw(&range.options) == [1, 2].as_slice());
-    Ok(())
+/// Numbers of a record, and what they have to be.
+fn numbers_are(rows: &[(Option<i32>, Option<i32>)]) -> bool {
+    for (number, expected) in rows {
+        if number != expected {
+            return false;
+        }
+    }
+    true
+}
+
+static EXTENSION_RANGE: &[u8] = b"\x08\x04\x10\xff\xff\xff\xff\x07\x1a\x01\x01\x1a\x01\x02";
+
+fn is_extension_range(range: &ExtensionRange) -> bool {
+    let numbers = [(range.start, Some(4)), (range.end, Some(2147483647))];
+    numbers_are(&numbers) && bytes_are(&range.options, &[1, 2])
+}
+
+static RESERVED_RANGE: &[u8] = b"\x10\x05";
+
+fn is_reserved_range(range: &ReservedRange) -> bool {
+    numbers_are(&[(range.start, None), (range.end, Some(5))])
+}
+
+static ENUM_RESERVED_RANGE: &[u8] = b"\x08\xfe\xff\xff\xff\xff\xff\xff\xff\xff\x01\x10\x05\x10\x07";
+
+fn is_enum_reserved_range(range: &EnumReservedRange) -> bool {
+    numbers_are(&[(range.start, Some(-2)), (range.end, Some(7))])
+}
+
+static ENUM_VALUE: &[u8] = b"\x0a\x01A\x10\x00\x1a\x01\x07";
+
+fn is_enum_value(value: &EnumValueDescriptorProto) -> bool {
+    text_is(&value.name, "A") && value.number == Some(0) && bytes_are(&value.options, &[7])
+}
+
+static ONEOF: &[u8] = b"\x12\x00\x0a\x01o";
+
+fn is_oneof(oneof: &OneofDescriptorProto) -> bool {
+    text_is(&oneof.name, "o") && bytes_are(&oneof.options, b"")
 }
 
 #[test]
-fn reserved_ranges(rt: HostRuntime) -> Result<(), Fail> {
-    let range = ReservedRange::decode(rt.alloc(), &[0x10, 0x05])?;
-    assert_eq!(rt; (range.start, range.end), (None, Some(5)));
-    let bytes = [
-        0x08, 0xfe, 0xff, 0xff, 0xff, 0xff, 0xff, 0xff, 0xff, 0xff, 0x01, 0x10, 0x05, 0x10, 0x07,
-    ];
-    let range = EnumReservedRange::decode(rt.alloc(), &bytes)?;
-    assert_eq!(rt; (range.start, range.end), (Some(-2), Some(7)));
+fn small_records(rt: HostRuntime) -> Result<(), Fail> {
+    let alloc = rt.alloc();
+    assert!(rt; is_extension_range(&ExtensionRange::decode(alloc, EXTENSION_RANGE)?));
+    assert!(rt; is_reserved_range(&ReservedRange::decode(alloc, RESERVED_RANGE)?));
+    assert!(rt; is_enum_reserved_range(&EnumReservedRange::decode(alloc, ENUM_RESERVED_RANGE)?));
+    assert!(rt; is_enum_value(&EnumValueDescriptorProto::decode(alloc, ENUM_VALUE)?));
+    assert!(rt; is_oneof(&OneofDescriptorProto::decode(alloc, ONEOF)?));
     Ok(())
 }
 
-#[test]
-fn fields(rt: HostRuntime) -> Result<(), Fail> {
-    let bytes = [
-        0x0a, 0x01, b'a', 0x12, 0x02, b'.', b'M', 0x18, 0x64, 0x20, 0x01, 0x28, 0x0b, 0x32, 0x02,
-        b'.', b'N', 0x3a, 0x01, b'7', 0x42, 0x02, 0x08, 0x01, 0x48, 0x03, 0x52, 0x01, b'j', 0x88,
-        0x01, 0x01,
+static FIELD: &[u8] =
+    b"\x0a\x01a\x12\x02.M\x18\x64\x20\x01\x28\x0b\x32\x02.N\x3a\x017\x42\x02\x08\x01\x48\x03\x52\x01j\x88\x01\x01";
+
+fn is_field(field: &FieldDescriptorProto) -> bool {
+    let texts = [
+        (&field.name, "a"),
+        (&field.extendee, ".M"),
+        (&field.type_name, ".N"),
+        (&field.default_value, "7"),
+        (&field.json_name, "j"),
     ];
-    let field = FieldDescriptorProto::decode(rt.alloc(), &bytes)?;
-    assert!(rt; has_its_texts(&field));
-    assert!(rt; has_its_numbers(&field));
-    Ok(())
-}
-
-fn has_its_texts(field: &FieldDescriptorProto) -> bool {
-    shown(&field.name) == "a"
-        && shown(&field.extendee) == ".M"
-        && shown(&field.type_name) == ".N"
-        && shown(&field.default_value) == "7"
-        && raw(&field.options) == [8, 1].as_slice()
-        && shown(&field.json_name) == "j"
-}
-
-fn has_its_numbers(field: &FieldDescriptorProto) -> bool {
-    field.number == Some(100)
-        && field.label == Some(1)
-        && field.type_ == Some(11)
-        && field.oneof_index == Some(3)
+    let numbers = [
+        (field.number, Some(100)),
+        (field.label, Some(1)),
+        (field.type_, Some(11)),
+        (field.oneof_index, Some(3)),
+    ];
+    texts_are(&texts)
+        && numbers_are(&numbers)
         && field.proto3_optional == Some(true)
+        && bytes_are(&field.options, &[8, 1])
 }
 
-#[test]
-fn oneofs(rt: HostRuntime) -> Result<(), Fail> {
-    let oneof = OneofDescriptorProto::decode(rt.alloc(), &[0x12, 0x00, 0x0a, 0x01, b'o'])?;
-    assert_eq!(rt; shown(&oneof.name), "o");
-    assert!(rt; raw(&oneof.options).is_empty());
-    Ok(())
-}
+static ENUM: &[u8] =
+    b"\x0a\x01K\x12\x05\x0a\x01A\x10\x00\x12\x03\x0a\x01B\x1a\x02\x10\x01\x22\x04\x08\x02\x10\x03\x2a\x01X\x2a\x01Y";
 
-#[test]
-fn enums(rt: HostRuntime) -> Result<(), Fail> {
-    let bytes = [
-        0x0a, 0x01, b'K', 0x12, 0x05, 0x0a, 0x01, b'A', 0x10, 0x00, 0x12, 0x03, 0x0a, 0x01, b'B',
-        0x1a, 0x02, 0x10, 0x01, 0x22, 0x04, 0x08, 0x02, 0x10, 0x03, 0x2a, 0x01, b'X', 0x2a, 0x01,
-        b'Y',
-    ];
-    let kinds = EnumDescriptorProto::decode(rt.alloc(), &bytes)?;
-    assert!(rt; shown(&kinds.name) == "K" && raw(&kinds.options) == [16, 1].as_slice());
-    assert!(rt; has_its_values(&kinds) && has_its_reserved_ones(&kinds));
-    Ok(())
+fn is_enum(kinds: &EnumDescriptorProto) -> bool {
+    text_is(&kinds.name, "K")
+        && bytes_are(&kinds.options, &[16, 1])
+        && has_its_values(kinds)
+        && has_its_reserved_ones(kinds)
 }
 
 fn has_its_values(kinds: &EnumDescriptorProto) -> bool {
     let [a, b] = kinds.value.as_slice() else {
         return false;
     };
-    shown(&a.name) == "A" && a.number == Some(0) && shown(&b.name) == "B" && b.number.is_none()
+    texts_are(&[(&a.name, "A"), (&b.name, "B")])
+        && numbers_are(&[(a.number, Some(0)), (b.number, None)])
 }
 
 fn has_its_reserved_ones(kinds: &EnumDescriptorProto) -> bool {
@@ -137,74 +148,57 @@ fn has_its_reserved_ones(kinds: &EnumDescriptorProto) -> bool {
     let [x, y] = kinds.reserved_name.as_slice() else {
         return false;
     };
-    range.start == Some(2) && range.end == Some(3) && x.as_str() == "X" && y.as_str() == "Y"
+    numbers_are(&[(range.start, Some(2)), (range.end, Some(3))])
+        && x.as_str() == "X"
+        && y.as_str() == "Y"
 }
 
-#[test]
-fn enum_values(rt: HostRuntime) -> Result<(), Fail> {
-    let bytes = [0x0a, 0x01, b'A', 0x10, 0x00, 0x1a, 0x01, 0x07];
-    let value = EnumValueDescriptorProto::decode(rt.alloc(), &bytes)?;
-    assert_eq!(rt; (shown(&value.name), value.number), ("A", Some(0)));
-    assert!(rt; raw(&value.options) == [7].as_slice());
-    Ok(())
-}
-
-#[test]
-fn methods(rt: HostRuntime) -> Result<(), Fail> {
-    let bytes = [
-        0x0a, 0x01, b'm', 0x12, 0x02, b'.', b'A', 0x1a, 0x02, b'.', b'B', 0x22, 0x01, 0x07, 0x28,
-        0x01, 0x30, 0x00,
-    ];
-    let method = MethodDescriptorProto::decode(rt.alloc(), &bytes)?;
-    assert!(rt; is_method_of_a_and_b(&method));
-    Ok(())
-}
+static METHOD: &[u8] = b"\x0a\x01m\x12\x02.A\x1a\x02.B\x22\x01\x07\x28\x01\x30\x00";
 
 fn is_method_of_a_and_b(method: &MethodDescriptorProto) -> bool {
-    shown(&method.name) == "m"
-        && shown(&method.input_type) == ".A"
-        && shown(&method.output_type) == ".B"
-        && raw(&method.options) == [7].as_slice()
+    let texts = [
+        (&method.name, "m"),
+        (&method.input_type, ".A"),
+        (&method.output_type, ".B"),
+    ];
+    texts_are(&texts)
+        && bytes_are(&method.options, &[7])
         && method.client_streaming == Some(true)
         && method.server_streaming == Some(false)
 }
 
-#[test]
-fn services(rt: HostRuntime) -> Result<(), Fail> {
-    let bytes = [
-        0x0a, 0x01, b'S', 0x12, 0x03, 0x0a, 0x01, b'm', 0x12, 0x00, 0x1a, 0x01, 0x07,
-    ];
-    let service = ServiceDescriptorProto::decode(rt.alloc(), &bytes)?;
-    assert!(rt; is_service_of_two(&service));
-    Ok(())
-}
+static SERVICE: &[u8] = b"\x0a\x01S\x12\x03\x0a\x01m\x12\x00\x1a\x01\x07";
 
 fn is_service_of_two(service: &ServiceDescriptorProto) -> bool {
     let [first, second] = service.method.as_slice() else {
         return false;
     };
-    shown(&service.name) == "S"
-        && raw(&service.options) == [7].as_slice()
-        && shown(&first.name) == "m"
+    texts_are(&[(&service.name, "S"), (&first.name, "m")])
         && second.name.is_none()
+        && bytes_are(&service.options, &[7])
+}
+
+#[test]
+fn records_with_a_name(rt: HostRuntime) -> Result<(), Fail> {
+    let alloc = rt.alloc();
+    assert!(rt; is_field(&FieldDescriptorProto::decode(alloc, FIELD)?));
+    assert!(rt; is_enum(&EnumDescriptorProto::decode(alloc, ENUM)?));
+    assert!(rt; is_method_of_a_and_b(&MethodDescriptorProto::decode(alloc, METHOD)?));
+    assert!(rt; is_service_of_two(&ServiceDescriptorProto::decode(alloc, SERVICE)?));
+    Ok(())
 }
 
 /// Each number of a message's record once, out of order; number 63 is unknown.
-#[test]
-fn messages(rt: HostRuntime) -> Result<(), Fail> {
-    let bytes = [
-        0x52, 0x01, b'R', 0x4a, 0x02, 0x08, 0x01, 0x42, 0x03, 0x0a, 0x01, b'o', 0x3a, 0x02, 0x38,
-        0x01, 0x32, 0x02, 0x18, 0x64, 0x2a, 0x02, 0x10, 0x09, 0x22, 0x03, 0x0a, 0x01, b'E', 0x1a,
-        0x07, 0x0a, 0x01, b'N', 0x1a, 0x02, 0x0a, 0x00, 0xf8, 0x03, 0x01, 0x12, 0x02, 0x18, 0x05,
-        0x0a, 0x01, b'M',
-    ];
-    let message = DescriptorProto::decode(rt.alloc(), &bytes)?;
-    assert_eq!(rt; shown(&message.name), "M");
-    assert!(rt; raw(&message.options) == [0x38, 1].as_slice());
-    assert!(rt; has_its_fields(&message));
-    assert!(rt; has_its_types(&message));
-    assert!(rt; has_its_ranges(&message));
-    Ok(())
+static MESSAGE: &[u8] =
+    b"\x52\x01R\x4a\x02\x08\x01\x42\x03\x0a\x01o\x3a\x02\x38\x01\x32\x02\x18\x64\x2a\x02\x10\x09\x22\x03\x0a\x01E\x1a\
+    \x07\x0a\x01N\x1a\x02\x0a\x00\xf8\x03\x01\x12\x02\x18\x05\x0a\x01M";
+
+fn is_message(message: &DescriptorProto) -> bool {
+    text_is(&message.name, "M")
+        && bytes_are(&message.options, &[0x38, 1])
+        && has_its_fields(message)
+        && has_its_types(message)
+        && has_its_ranges(message)
 }
 
 fn has_its_fields(message: &DescriptorProto) -> bool {
@@ -217,7 +211,8 @@ fn has_its_fields(message: &DescriptorProto) -> bool {
     let [oneof] = message.oneof_decl.as_slice() else {
         return false;
     };
-    field.number == Some(5) && extension.number == Some(100) && shown(&oneof.name) == "o"
+    numbers_are(&[(field.number, Some(5)), (extension.number, Some(100))])
+        && text_is(&oneof.name, "o")
 }
 
 fn has_its_types(message: &DescriptorProto) -> bool {
@@ -230,7 +225,7 @@ fn has_its_types(message: &DescriptorProto) -> bool {
     let [kinds] = message.enum_type.as_slice() else {
         return false;
     };
-    shown(&nested.name) == "N" && shown(&deeper.name) == "" && shown(&kinds.name) == "E"
+    texts_are(&[(&nested.name, "N"), (&deeper.name, ""), (&kinds.name, "E")])
 }
 
 fn has_its_ranges(message: &DescriptorProto) -> bool {
@@ -243,30 +238,21 @@ fn has_its_ranges(message: &DescriptorProto) -> bool {
     let [name] = message.reserved_name.as_slice() else {
         return false;
     };
-    range.end == Some(9) && reserved.start == Some(1) && name.as_str() == "R"
+    numbers_are(&[(range.end, Some(9)), (reserved.start, Some(1))]) && name.as_str() == "R"
 }
 
 /// Options in two pieces join; a name that is given twice is the last; number 14 is unknown; packed and single public
 /// dependencies join.
-#[test]
-fn files(rt: HostRuntime) -> Result<(), Fail> {
-    let bytes = [
-        0x0a, 0x01, b'a', 0x42, 0x02, 0x10, 0x01, 0x70, 0x01, 0x42, 0x02, 0x20, 0x01, 0x0a, 0x01,
-        b'b', 0x50, 0x05, 0x52, 0x02, 0x00, 0x01, 0x50, 0x07, 0x58, 0x02, 0x1a, 0x01, b'd', 0x4a,
-        0x00, 0x62, 0x06, b'p', b'r', b'o', b't', b'o', b'3',
-    ];
-    let file = FileDescriptorProto::decode(rt.alloc(), &bytes)?;
-    assert!(rt; has_its_words(&file));
-    assert!(rt; has_its_dependencies(&file));
-    Ok(())
-}
+static FILE: &[u8] =
+    b"\x0a\x01a\x42\x02\x10\x01\x70\x01\x42\x02\x20\x01\x0a\x01b\x50\x05\x52\x02\x00\x01\x50\x07\x58\x02\x1a\x01d\x4a\
+    \x00\x62\x06proto3";
 
-fn has_its_words(file: &FileDescriptorProto) -> bool {
-    shown(&file.name) == "b"
+fn is_file(file: &FileDescriptorProto) -> bool {
+    texts_are(&[(&file.name, "b"), (&file.syntax, "proto3")])
         && file.package.is_none()
-        && raw(&file.options) == [0x10, 1, 0x20, 1].as_slice()
-        && raw(&file.source_code_info).is_empty()
-        && shown(&file.syntax) == "proto3"
+        && bytes_are(&file.options, &[0x10, 1, 0x20, 1])
+        && bytes_are(&file.source_code_info, b"")
+        && has_its_dependencies(file)
 }
 
 fn has_its_dependencies(file: &FileDescriptorProto) -> bool {
@@ -278,16 +264,7 @@ fn has_its_dependencies(file: &FileDescriptorProto) -> bool {
         && file.weak_dependency.as_slice() == [2].as_slice()
 }
 
-#[test]
-fn definitions_of_a_file(rt: HostRuntime) -> Result<(), Fail> {
-    let bytes = [
-        0x22, 0x03, 0x0a, 0x01, b'M', 0x2a, 0x03, 0x0a, 0x01, b'E', 0x32, 0x03, 0x0a, 0x01, b'S',
-        0x3a, 0x03, 0x0a, 0x01, b'x',
-    ];
-    let file = FileDescriptorProto::decode(rt.alloc(), &bytes)?;
-    assert!(rt; has_its_definitions(&file));
-    Ok(())
-}
+static DEFINITIONS: &[u8] = b"\x22\x03\x0a\x01M\x2a\x03\x0a\x01E\x32\x03\x0a\x01S\x3a\x03\x0a\x01x";
 
 fn has_its_definitions(file: &FileDescriptorProto) -> bool {
     let [message] = file.message_type.as_slice() else {
@@ -302,30 +279,36 @@ fn has_its_definitions(file: &FileDescriptorProto) -> bool {
     let [extension] = file.extension.as_slice() else {
         return false;
     };
-    shown(&message.name) == "M"
-        && shown(&kinds.name) == "E"
-        && shown(&service.name) == "S"
-        && shown(&extension.name) == "x"
+    texts_are(&[
+        (&message.name, "M"),
+        (&kinds.name, "E"),
+        (&service.name, "S"),
+        (&extension.name, "x"),
+    ])
 }
 
 #[test]
-fn a_set_with_a_oneof(rt: HostRuntime) -> Result<(), Fail> {
-    let set = FileDescriptorSet::decode(rt.alloc(), &SMALL_SET)?;
-    let [file] = set.file.as_slice() else {
-        return Err(Fail::new("not one file"));
-    };
-    assert!(rt; is_small_file(file));
+fn messages_and_files(rt: HostRuntime) -> Result<(), Fail> {
+    let alloc = rt.alloc();
+    assert!(rt; is_message(&DescriptorProto::decode(alloc, MESSAGE)?));
+    assert!(rt; is_file(&FileDescriptorProto::decode(alloc, FILE)?));
+    assert!(rt; has_its_definitions(&FileDescriptorProto::decode(alloc, DEFINITIONS)?));
     Ok(())
 }
 
-fn is_small_file(file: &FileDescriptorProto) -> bool {
+/// Whether the set is that of `m.proto`.
+fn is_small_set(set: &FileDescriptorSet) -> bool {
+    let [file] = set.file.as_slice() else {
+        return false;
+    };
     let [message] = file.message_type.as_slice() else {
         return false;
     };
-    shown(&file.name) == "m.proto"
-        && shown(&file.package) == "package"
-        && shown(&file.syntax) == "proto3"
-        && is_my_message(message)
+    texts_are(&[
+        (&file.name, "m.proto"),
+        (&file.package, "package"),
+        (&file.syntax, "proto3"),
+    ]) && is_my_message(message)
 }
 
 fn is_my_message(message: &DescriptorProto) -> bool {
@@ -335,85 +318,95 @@ fn is_my_message(message: &DescriptorProto) -> bool {
     let [oneof] = message.oneof_decl.as_slice() else {
         return false;
     };
-    shown(&message.name) == "MyMessage"
-        && shown(&oneof.name) == "optional"
-        && (shown(&foo.name), foo.oneof_index) == ("foo", None)
-        && (shown(&bar.name), bar.oneof_index) == ("bar", Some(0))
-        && shown(&nested.type_name) == ".package.MyMessage"
+    let texts = [
+        (&message.name, "MyMessage"),
+        (&oneof.name, "optional"),
+        (&foo.name, "foo"),
+        (&bar.name, "bar"),
+        (&nested.type_name, ".package.MyMessage"),
+    ];
+    texts_are(&texts) && numbers_are(&[(foo.oneof_index, None), (bar.oneof_index, Some(0))])
 }
 
-#[test]
-fn a_set_with_an_extension(rt: HostRuntime) -> Result<(), Fail> {
-    let set = FileDescriptorSet::decode(rt.alloc(), &EXTENDED_SET)?;
+/// Whether the set is that with an extension.
+fn is_extended_set(set: &FileDescriptorSet) -> bool {
     let [file] = set.file.as_slice() else {
-        return Err(Fail::new("not one file"));
+        return false;
     };
-    assert!(rt; file.syntax.is_none());
     let [extended, item] = file.message_type.as_slice() else {
-        return Err(Fail::new("not two messages"));
+        return false;
     };
-    assert!(rt; is_extended(extended));
-    assert!(rt; has_the_extension(item));
-    Ok(())
+    file.syntax.is_none() && is_extended(extended) && has_the_extension(item)
 }
 
 fn is_extended(message: &DescriptorProto) -> bool {
     let [range] = message.extension_range.as_slice() else {
         return false;
     };
-    raw(&message.options) == [8, 1].as_slice()
-        && range.start == Some(4)
-        && range.end == Some(2147483647)
+    bytes_are(&message.options, &[8, 1])
+        && numbers_are(&[(range.start, Some(4)), (range.end, Some(2147483647))])
 }
 
 fn has_the_extension(message: &DescriptorProto) -> bool {
     let [extension] = message.extension.as_slice() else {
         return false;
     };
-    shown(&extension.extendee) == ".ms.Set"
-        && extension.number == Some(12345)
-        && extension.type_ == Some(11)
+    text_is(&extension.extendee, ".ms.Set")
+        && numbers_are(&[(extension.number, Some(12345)), (extension.type_, Some(11))])
+}
+
+#[test]
+fn sets(rt: HostRuntime) -> Result<(), Fail> {
+    assert!(rt; is_small_set(&FileDescriptorSet::decode(rt.alloc(), SMALL_SET)?));
+    assert!(rt; is_extended_set(&FileDescriptorSet::decode(rt.alloc(), EXTENDED_SET)?));
+    Ok(())
+}
+
+/// Why the bytes are no set of files, or nothing.
+fn refusal_of_set(alloc: Global, bytes: &[u8]) -> Option<DecodeError> {
+    FileDescriptorSet::decode(alloc, bytes).err()
 }
 
 /// What is cut short is refused, but for no bytes, which are the set without files.
 #[test]
 fn cut_short(rt: HostRuntime) -> Result<(), Fail> {
-    let empty = FileDescriptorSet::decode(rt.alloc(), &[])?;
-    assert_eq!(rt; empty.file.len(), 0);
+    assert!(rt; FileDescriptorSet::decode(rt.alloc(), &[])?.file.is_empty());
     for len in 1..SMALL_SET.len() {
-        match FileDescriptorSet::decode(rt.alloc(), &SMALL_SET[..len]) {
-            Err(error) => assert_eq!(rt; error, DecodeError::Truncated),
-            Ok(_) => return Err(Fail::new("a set that is cut short was read")),
-        }
+        let refused = refusal_of_set(rt.alloc(), &SMALL_SET[..len]);
+        assert!(rt; refused == Some(DecodeError::Truncated), "{len}");
     }
     Ok(())
 }
 
+/// Bytes, and why they are no record of a file.
+static REFUSED: [(&[u8], DecodeError); 9] = [
+    (b"\x0a\x01\xff", DecodeError::Utf8),
+    (b"\x22\x03\x0a\x01\xff", DecodeError::Utf8),
+    (b"\x08\x01", DecodeError::WireType),
+    (b"\x40\x01", DecodeError::WireType),
+    (b"\x52\x02\x01\x80", DecodeError::Truncated),
+    (b"\x00", DecodeError::Key),
+    (
+        b"\x50\xff\xff\xff\xff\xff\xff\xff\xff\xff\x02",
+        DecodeError::Varint,
+    ),
+    (b"\x0c", DecodeError::EndGroup),
+    (b"\x6b\x74", DecodeError::EndGroup),
+];
+
+/// Why the bytes are no record of a file, or nothing.
+fn refusal_of_file(alloc: Global, bytes: &[u8]) -> Option<DecodeError> {
+    FileDescriptorProto::decode(alloc, bytes).err()
+}
+
 #[test]
-fn refused(rt: HostRuntime) -> Result<(), Fail> {
-    let rows: [(&[u8], DecodeError); 9] = [
-        (&[0x0a, 0x01, 0xff], DecodeError::Utf8),
-        (&[0x22, 0x03, 0x0a, 0x01, 0xff], DecodeError::Utf8),
-        (&[0x08, 0x01], DecodeError::WireType),
-        (&[0x40, 0x01], DecodeError::WireType),
-        (&[0x52, 0x02, 0x01, 0x80], DecodeError::Truncated),
-        (&[0x00], DecodeError::Key),
-        (
-            &[
-                0x50, 0xff, 0xff, 0xff, 0xff, 0xff, 0xff, 0xff, 0xff, 0xff, 0x02,
-            ],
-            DecodeError::Varint,
-        ),
-        (&[0x0c], DecodeError::EndGroup),
-        (&[0x6b, 0x74], DecodeError::EndGroup),
-    ];
-    for (bytes, want) in rows {
-        match FileDescriptorProto::decode(rt.alloc(), bytes) {
-            Err(error) => assert_eq!(rt; error, want),
-            Ok(_) => return Err(Fail::new("read")),
-        }
+fn refused(rt: HostRuntime) {
+    for (bytes, error) in REFUSED {
+        assert!(rt;
+            refusal_of_file(rt.alloc(), bytes) == Some(error),
+            "{bytes:?}"
+        );
     }
-    Ok(())
 }
 
 /// A message within so many others.
@@ -427,21 +420,24 @@ fn within(alloc: Global, levels: usize) -> Result<BackBuffer, EncodeError> {
     Ok(bytes)
 }
 
-#[test]
-fn a_message_in_100_others(rt: HostRuntime) -> Result<(), Fail> {
-    let bytes = within(rt.alloc(), 100)?;
-    let message = DescriptorProto::decode(rt.alloc(), bytes.as_slice())?;
-    assert_eq!(rt; message.nested_type.len(), 1);
-    Ok(())
+/// Why the bytes are no record of a message with one in it, or nothing.
+fn refusal_of_message(alloc: Global, bytes: &[u8]) -> Result<Option<DecodeError>, Fail> {
+    match DescriptorProto::decode(alloc, bytes) {
+        Ok(message) if message.nested_type.len() == 1 => Ok(None),
+        Ok(_) => Err(Fail::from("not one message inside")),
+        Err(error) => Ok(Some(error)),
+    }
 }
 
-/// It is nested too deep.
+/// Why a message in so many others is refused, or nothing.
+fn refusal_within(alloc: Global, levels: usize) -> Result<Option<DecodeError>, Fail> {
+    refusal_of_message(alloc, within(alloc, levels)?.as_slice())
+}
+
+/// In 101 others a message is nested too deep.
 #[test]
-fn a_message_in_101_others(rt: HostRuntime) -> Result<(), Fail> {
-    let bytes = within(rt.alloc(), 101)?;
-    match DescriptorProto::decode(rt.alloc(), bytes.as_slice()) {
-        Err(error) => assert_eq!(rt; error, DecodeError::Depth),
-        Ok(_) => return Err(Fail::new("101 levels were read")),
-    }
+fn a_message_in_100_others(rt: HostRuntime) -> Result<(), Fail> {
+    assert!(rt; refusal_within(rt.alloc(), 100)? == None);
+    assert!(rt; refusal_within(rt.alloc(), 101)? == Some(DecodeError::Depth));
     Ok(())
 }

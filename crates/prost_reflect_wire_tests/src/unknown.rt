@@ -4,10 +4,8 @@ ghost use Rattle.std.specs.Prelude.{◌≤◌, ◌<◌, ◌^◌};
 
 use prost_reflect_wire::{
     BackBuffer, ByteSink, DecodeError, EncodeError, FieldNumber, RECURSION_LIMIT, Sink,
-    UnknownField, UnknownFieldSet, UnknownFieldValue, WireType, decode_delimited, decode_fixed32,
-    decode_fixed64, decode_key, decode_value, decode_varint, decode_varint_plain, key_value,
-    low_i32, low_u32, prepend_fields, sign_extended, skip_value, unzigzag32, unzigzag64,
-    varint_len, write_field, write_fields, write_key, zigzag32, zigzag64,
+    UnknownField, UnknownFieldSet, UnknownFieldValue, WireType, decode_value, prepend_fields,
+    skip_value, write_field, write_fields, write_key,
 };
 use std::alloc::{AllocError, Global};
 use std::process::Abort;
@@ -16,19 +14,19 @@ use std::test::Fail;
 /// The group of the number 3 with `hello`, 10 and 11, and what stands behind it.
 static GROUP_AND_TAIL: &[u8] = b"\x1b\x0a\x05hello\x10\x0a\x10\x0b\x1ctail";
 
+/// Whether the field is the group of the number 3, and is written as its bytes.
+fn is_group(alloc: Global, field: &UnknownField) -> Result<bool, Fail> {
+    let mut out = Vec::new(alloc);
+    field.encode(&mut out)?;
+    let is_written = out.as_slice() == b"\x1b\x0a\x05hello\x10\x0a\x10\x0b\x1c".as_slice();
+    Ok(is_written && field.number() == 3 && field.wire_type() == WireType::StartGroup)
+}
+
 #[test]
 fn group_and_tail(rt: HostRuntime) -> Result<(), Fail> {
     let mut cursor = GROUP_AND_TAIL;
     let field = UnknownField::decode(rt.alloc(), &mut cursor, RECURSION_LIMIT)?;
-    assert_eq!(rt; cursor, b"tail".as_slice());
-    assert_eq!(rt; field.number(), 3);
-    assert_eq!(rt; field.wire_type(), WireType::StartGroup);
-    let mut out = Vec::new(rt.alloc());
-    field.encode(&mut out)?;
-    assert_eq!(rt;
-        out.as_slice(),
-        b"\x1b\x0a\x05hello\x10\x0a\x10\x0b\x1c".as_slice()
-    );
+    assert!(rt; cursor == b"tail".as_slice() && is_group(rt.alloc(), &field)?);
     Ok(())
 }
 
@@ -195,62 +193,74 @@ static ROWS: [(usize, u32, &str, Result<&str, DecodeError>); 106] = [
 fn spellings_and_refusals(rt: HostRuntime) -> Result<(), Fail> {
     for (groups, levels, text, answer) in &ROWS {
         let input = in_groups(rt.alloc(), *groups, text)?;
-        let written = written_again(rt.alloc(), &input, *levels)?;
         match answer {
-            Ok(want) => {
-                let want = in_groups(rt.alloc(), *groups, want)?;
-                assert!(rt; written == Ok(want), "of {text}");
-                cut_anywhere(&rt, rt.alloc(), &input, *levels);
+            Ok(again) => {
+                let again = in_groups(rt.alloc(), *groups, again)?;
+                assert!(rt;
+                    is_written_as(rt.alloc(), &input, *levels, &again)?,
+                    "of {text}"
+                );
             }
-            Err(error) => assert!(rt; written == Err(*error), "at {text}"),
+            Err(error) => {
+                let refused = refusal(rt.alloc(), &input, *levels);
+                assert!(rt; refused == Some(*error), "at {text}");
+            }
         }
     }
     Ok(())
 }
 
-/// The bytes that are written of the field which all the bytes spell, or why they spell none.
-fn written_again(
-    alloc: Global,
-    input: &[u8],
-    levels: u32,
-) -> Result<Result<Vec<u8>, DecodeError>, Fail> {
+/// Whether all the bytes spell a field that is written as `again`, and no part in front of their end spells one.
+fn is_written_as(alloc: Global, input: &[u8], levels: u32, again: &[u8]) -> Result<bool, Fail> {
     if levels > RECURSION_LIMIT {
-        return Err(Fail::from("more levels than may be allowed"));
+        return Ok(false);
     }
     let mut cursor = input;
-    let field = match UnknownField::decode(alloc, &mut cursor, levels) {
-        Ok(field) => field,
-        Err(error) => return Ok(Err(error)),
-    };
+    let field = UnknownField::decode(alloc, &mut cursor, levels)?;
     let mut out = Vec::new(alloc);
     field.encode(&mut out)?;
-    if !cursor.is_empty() || field.encoded_len() != Some(out.len()) {
-        return Err(Fail::from("a rest, or another length"));
-    }
-    Ok(Ok(out))
+    let is_whole = cursor.is_empty() && field.encoded_len() == Some(again.len());
+    Ok(out.as_slice() == again && is_whole && is_refused_in_part(alloc, input, levels))
 }
 
-/// Each part of a field that ends before its last byte is refused.
-fn cut_anywhere(rt: &impl Abort, alloc: Global, input: &[u8], levels: u32) {
-    assert!(rt; levels <= RECURSION_LIMIT);
+/// Whether each part of a field that ends before its last byte is refused.
+fn is_refused_in_part(alloc: Global, input: &[u8], levels: u32) -> bool {
     for len in 0..input.len() {
-        let mut cursor = &input[..len];
-        match UnknownField::decode(alloc, &mut cursor, levels) {
-            Ok(_) => panic!(rt; "{len} bytes of {input:?} are read"),
-            Err(error) => assert_eq!(rt; error, DecodeError::Truncated, "{len} bytes of {input:?}"),
+        if refusal(alloc, &input[..len], levels) != Some(DecodeError::Truncated) {
+            return false;
         }
-        assert_eq!(rt; cursor.len(), len);
+    }
+    true
+}
+
+/// Why the bytes begin with no field, where the cursor stays at them.
+fn refusal(alloc: Global, input: &[u8], levels: u32) -> Option<DecodeError> {
+    if levels > RECURSION_LIMIT {
+        return None;
+    }
+    let mut cursor = input;
+    let error = UnknownField::decode(alloc, &mut cursor, levels).err();
+    if cursor.len() == input.len() {
+        error
+    } else {
+        None
     }
 }
 
 /// The bytes of the hex text within so many groups of number 5.
-fn in_groups(alloc: Global, count: usize, text: &str) -> Result<Vec<u8>, Fail> {
+pub(crate) fn in_groups(alloc: Global, count: usize, text: &str) -> Result<Vec<u8>, Fail> {
     let mut all = vec![in alloc; 0x2b; count]?;
+    push_hex(&mut all, text)?;
+    all.resize(all.len().saturating_add(count), 0x2c)?;
+    Ok(all)
+}
+
+/// Appends the bytes of the hex text.
+fn push_hex(all: &mut Vec<u8>, text: &str) -> Result<(), Fail> {
     for pair in text.as_bytes().chunks(2) {
         all.push(u8::from_str_radix(str::from_utf8(pair)?, 16)?)?;
     }
-    all.extend_from_slice(vec![in alloc; 0x2c; count]?.as_slice())?;
-    Ok(all)
+    Ok(())
 }
 
 /// Whether the bytes behind the key of a delimited field of the number 3 are read up to the rest, and it is written as `1a021042`.
@@ -263,29 +273,22 @@ fn is_1042_behind_its_key(alloc: Global, bytes: &[u8], rest: &[u8]) -> Result<bo
     Ok(cursor == rest && out.as_slice() == [0x1a, 0x02, 0x10, 0x42].as_slice())
 }
 
+/// Whether the value is that of the bytes of a varint, which are read up to the rest.
+fn is_150(alloc: Global) -> Result<bool, Fail> {
+    let number = FieldNumber::new(5);
+    let (value, rest) = decode_value(alloc, number, WireType::Varint, &[0x96, 0x01, 0x7f], 0)?;
+    let is_given = varint_field(5, 150).value() == &value;
+    Ok(value == UnknownFieldValue::Varint(150) && is_given && rest == [0x7f].as_slice())
+}
+
 #[test]
 fn values_behind_a_key(rt: HostRuntime) -> Result<(), Fail> {
     assert!(rt; is_1042_behind_its_key(rt.alloc(), &[0x02, 0x10, 0x42, 0x7f], &[0x7f])?);
     assert!(rt; is_1042_behind_its_key(rt.alloc(), &[0x02, 0x10, 0x42], &[])?);
-    Ok(())
-}
-
-#[test]
-fn values_alone(rt: HostRuntime) -> Result<(), Fail> {
-    let input = [0x96, 0x01, 0x7f];
-    let number = FieldNumber::new(5);
-    let (value, rest) = decode_value(rt.alloc(), number, WireType::Varint, &input, 0)?;
-    assert!(rt; value == UnknownFieldValue::Varint(150));
-    assert!(rt; varint_field(5, 150).value() == &value);
-    assert_eq!(rt; rest, [0x7f].as_slice());
-    Ok(())
-}
-
-#[test]
-fn skipped_values(rt: HostRuntime) -> Result<(), Fail> {
+    assert!(rt; is_150(rt.alloc())?);
     let number = FieldNumber::new(3);
     let rest = skip_value(number, WireType::StartGroup, &GROUP_AND_TAIL[1..], 1)?;
-    assert_eq!(rt; rest, b"tail".as_slice());
+    assert!(rt; rest == b"tail".as_slice());
     Ok(())
 }
 
@@ -304,50 +307,57 @@ fn two_fields(alloc: Global) -> Result<UnknownFieldSet, AllocError> {
     Ok(set)
 }
 
-#[test]
-fn sets_are_lists(rt: HostRuntime) -> Result<(), Fail> {
-    let set = two_fields(rt.alloc())?;
-    assert_eq!(rt; set.len(), 2);
-    assert!(rt; !set.is_empty());
-    assert!(rt; set.clone()? == set);
-    assert!(rt; !format!(in rt.alloc(); "{set:?}")?.is_empty());
-    Ok(())
-}
-
-#[test]
-fn sets_are_made_of_lists(rt: HostRuntime) -> Result<(), Fail> {
-    let mut fields = Vec::new(rt.alloc());
+/// The same, made of a list.
+fn two_in_a_list(alloc: Global) -> Result<UnknownFieldSet, AllocError> {
+    let mut fields = Vec::new(alloc);
     fields.push(varint_field(1, 7))?;
     fields.push(varint_field(1, 9))?;
-    assert!(rt; UnknownFieldSet::from_fields(fields) == two_fields(rt.alloc())?);
-    Ok(())
+    Ok(UnknownFieldSet::from_fields(fields))
 }
 
-#[test]
-fn sets_are_written_in_order(rt: HostRuntime) -> Result<(), Fail> {
-    let set = two_fields(rt.alloc())?;
-    let mut out = Vec::new(rt.alloc());
+/// Whether the set has two fields, is equal to its copy, and is shown.
+fn is_list_of_two(alloc: Global, set: &UnknownFieldSet) -> Result<bool, AllocError> {
+    let is_copied = set.clone()? == *set;
+    let is_shown = !format!(in alloc; "{set:?}")?.is_empty();
+    Ok(is_copied && is_shown && set.len() == 2 && !set.is_empty())
+}
+
+/// Whether the two fields are written in order, and counted.
+fn is_written_in_order(alloc: Global, set: &UnknownFieldSet) -> Result<bool, Fail> {
+    let mut out = Vec::new(alloc);
     set.encode(&mut out)?;
-    assert_eq!(rt; out.as_slice(), [0x08, 7, 0x08, 9].as_slice());
-    assert_eq!(rt; set.encoded_len(), Some(4));
-    assert_eq!(rt; varint_field(16, 300).encoded_len(), Some(4));
-    Ok(())
+    Ok(out.as_slice() == [0x08, 7, 0x08, 9].as_slice() && set.encoded_len() == Some(4))
 }
 
-#[test]
-fn sets_are_iterated_in_order(rt: HostRuntime) -> Result<(), Fail> {
-    let set = two_fields(rt.alloc())?;
+/// The digits that the fields have, by reference and by `iter`.
+fn digits_of(set: &UnknownFieldSet) -> u64 {
     let mut seen = 0;
-    for field in &set {
+    for field in set {
         seen = after(seen, field);
     }
     for field in set.iter() {
         seen = after(seen, field);
     }
+    seen
+}
+
+/// The digits, and behind them those that the fields have one by one.
+fn digits_behind(digits: u64, set: UnknownFieldSet) -> u64 {
+    let mut seen = digits;
     for field in set {
         seen = after(seen, &field);
     }
-    assert_eq!(rt; seen, 797_979);
+    seen
+}
+
+#[test]
+fn sets_are_lists(rt: HostRuntime) -> Result<(), Fail> {
+    let set = two_fields(rt.alloc())?;
+    assert!(rt; is_list_of_two(rt.alloc(), &set)?);
+    assert!(rt; is_written_in_order(rt.alloc(), &set)?);
+    assert!(rt; set == two_in_a_list(rt.alloc())?);
+    assert!(rt; digits_behind(digits_of(&set), set) == 797_979);
+    assert!(rt; varint_field(16, 300).encoded_len() == Some(4));
     Ok(())
 }
 
@@ -367,162 +377,88 @@ fn values_are_equal_where_they_store_the_same(rt: HostRuntime) -> Result<(), Fai
     Ok(())
 }
 
-#[test]
-fn written_from_the_back(rt: HostRuntime) -> Result<(), Fail> {
-    let mut set = UnknownFieldSet::new(rt.alloc());
-    let value = UnknownFieldValue::ThirtyTwoBit([1, 2, 3, 4]);
-    let field = UnknownField::new(FieldNumber::new(2), value);
-    let mut sink = ByteSink::new(rt.alloc());
-    sink.prepend(b"end");
-    write_field(&mut sink, &field);
+/// The field of the number 2 with the bytes 1 to 4.
+fn one_to_four() -> UnknownField {
+    UnknownField::new(
+        FieldNumber::new(2),
+        UnknownFieldValue::ThirtyTwoBit([1, 2, 3, 4]),
+    )
+}
+
+fn set_of(alloc: Global, field: UnknownField) -> Result<UnknownFieldSet, AllocError> {
+    let mut set = UnknownFieldSet::new(alloc);
     set.insert(field)?;
-    write_fields(&mut sink, &set);
+    Ok(set)
+}
+
+/// Writes `end`, the fields of the set one by one, and the set, and in front of these a key and their length.
+fn write_behind_key(sink: &mut ByteSink, set: &UnknownFieldSet) {
+    sink.prepend(b"end");
+    for field in set {
+        write_field(sink, field);
+    }
+    write_fields(sink, set);
     let len = sink.len();
     sink.prepend_varint(len as u64);
-    write_key(&mut sink, 1, WireType::LengthDelimited);
-    let mut out = Vec::from_slice(rt.alloc(), b"<")?;
-    sink.append_to(&mut out)?;
-    let want = [
-        b'<', 0x0a, 13, 0x15, 1, 2, 3, 4, 0x15, 1, 2, 3, 4, b'e', b'n', b'd',
-    ];
-    assert_eq!(rt; out.as_slice(), want.as_slice());
-    Ok(())
+    write_key(sink, 1, WireType::LengthDelimited);
 }
 
-#[test]
-fn fields_in_front_of_a_buffer(rt: HostRuntime) -> Result<(), Fail> {
-    let mut set = UnknownFieldSet::new(rt.alloc());
-    set.insert(varint_field(16, 300))?;
-    let mut buffer = BackBuffer::new(rt.alloc());
+/// What is written so, behind a mark.
+fn written_from_the_back(alloc: Global, set: &UnknownFieldSet) -> Result<Vec<u8>, Fail> {
+    let mut sink = ByteSink::new(alloc);
+    write_behind_key(&mut sink, set);
+    let mut out = Vec::from_slice(alloc, b"<")?;
+    sink.append_to(&mut out)?;
+    Ok(out)
+}
+
+/// Puts `end` and the set into the buffer, and in front of them a key and their length, if the length is that of the bytes.
+fn prepend_behind_key(buffer: &mut BackBuffer, set: &UnknownFieldSet) -> Result<(), Fail> {
     buffer.prepend(b"end")?;
-    prepend_fields(&set, &mut buffer)?;
+    prepend_fields(set, buffer)?;
     let len = buffer.len();
-    assert_eq!(rt; len, buffer.as_slice().len());
+    if len != buffer.as_slice().len() {
+        return Err(Fail::from("another length"));
+    }
     buffer.prepend_varint(len as u64)?;
     buffer.prepend_key(FieldNumber::new(1), WireType::LengthDelimited)?;
-    let mut out = Vec::from_slice(rt.alloc(), b"<")?;
+    Ok(())
+}
+
+/// What stands in the buffer then, behind a mark.
+fn in_front_of_a_buffer(alloc: Global, set: &UnknownFieldSet) -> Result<Vec<u8>, Fail> {
+    let mut buffer = BackBuffer::new(alloc);
+    prepend_behind_key(&mut buffer, set)?;
+    let mut out = Vec::from_slice(alloc, b"<")?;
     buffer.append_to(&mut out)?;
-    let want = [b'<', 0x0a, 7, 0x80, 0x01, 0xac, 0x02, b'e', b'n', b'd'];
-    assert_eq!(rt; out.as_slice(), want.as_slice());
+    Ok(out)
+}
+
+#[test]
+fn sets_are_written_from_the_back(rt: HostRuntime) -> Result<(), Fail> {
+    let set = set_of(rt.alloc(), one_to_four())?;
+    let written = written_from_the_back(rt.alloc(), &set)?;
+    assert!(rt;
+        written.as_slice() == b"<\x0a\x0d\x15\x01\x02\x03\x04\x15\x01\x02\x03\x04end".as_slice()
+    );
+    let set = set_of(rt.alloc(), varint_field(16, 300))?;
+    let written = in_front_of_a_buffer(rt.alloc(), &set)?;
+    assert!(rt; written.as_slice() == b"<\x0a\x07\x80\x01\xac\x02end".as_slice());
     Ok(())
 }
 
-/// Numbers, and what stands for them: the table of the encoding guide, and the limits.
-static ZIGZAG: [(i32, u32); 6] = [
-    (0, 0),
-    (-1, 1),
-    (1, 2),
-    (-2, 3),
-    (0x7fff_ffff, 0xffff_fffe),
-    (-0x8000_0000, 0xffff_ffff),
-];
-
-#[test]
-fn zigzag_of_32_bits(rt: HostRuntime) {
-    for (signed, unsigned) in &ZIGZAG {
-        assert_eq!(rt; zigzag32(*signed), *unsigned);
-        assert_eq!(rt; unzigzag32(*unsigned), *signed);
-    }
-}
-
-#[test]
-fn zigzag_of_64_bits(rt: HostRuntime) {
-    for (signed, unsigned) in &ZIGZAG {
-        assert_eq!(rt; zigzag64(i64::from(*signed)), u64::from(*unsigned));
-        assert_eq!(rt; unzigzag64(u64::from(*unsigned)), i64::from(*signed));
-    }
-    assert_eq!(rt; zigzag64(i64::MIN), u64::MAX);
-    assert_eq!(rt; unzigzag64(u64::MAX - 1), i64::MAX);
-}
-
-#[test]
-fn low_halves(rt: HostRuntime) {
-    assert_eq!(rt; sign_extended(-1), u64::MAX);
-    assert_eq!(rt; low_i32(0x1_8000_0000), i32::MIN);
-    assert_eq!(rt; low_u32(0x1_8000_0000), 0x8000_0000);
-}
-
-/// Varints in hex, with a byte behind each that is none of theirs.
-static VARINTS: [(&str, u64, usize); 10] = [
-    ("00ff", 0, 1),
-    ("7fff", 127, 1),
-    ("8001ff", 128, 2),
-    ("9601ff", 150, 2),
-    ("ff7fff", 16_383, 2),
-    ("808001ff", 16_384, 3),
-    ("ffffffff0fff", 0xffff_ffff, 5),
-    ("ffffffffffffffff7fff", 0x7fff_ffff_ffff_ffff, 9),
-    ("80808080808080808001ff", 0x8000_0000_0000_0000, 10),
-    ("ffffffffffffffffff01ff", 0xffff_ffff_ffff_ffff, 10),
-];
-
-#[test]
-fn varints(rt: HostRuntime) -> Result<(), Fail> {
-    for (text, value, len) in &VARINTS {
-        let input = in_groups(rt.alloc(), 0, text)?;
-        assert_eq!(rt;
-            value_and_rest(decode_varint(&input)),
-            Some((*value, 1)),
-            "at {text}"
-        );
-        assert_eq!(rt;
-            value_and_rest(decode_varint_plain(&input)),
-            Some((*value, 1)),
-            "at {text}"
-        );
-        assert_eq!(rt; varint_len(*value), *len, "at {text}");
-    }
-    Ok(())
-}
-
-/// The value, and how many bytes are left.
-fn value_and_rest(read: Result<(u64, &[u8]), DecodeError>) -> Option<(u64, usize)> {
-    match read {
-        Ok((value, rest)) => Some((value, rest.len())),
-        Err(_) => None,
-    }
+/// Whether errors of both kinds have a text.
+fn are_shown(alloc: Global) -> Result<bool, AllocError> {
+    let is_decode_error_shown = !format!(in alloc; "{}", DecodeError::Depth)?.is_empty();
+    Ok(is_decode_error_shown && !format!(in alloc; "{}", EncodeError::TooLong)?.is_empty())
 }
 
 #[test]
 fn errors(rt: HostRuntime) -> Result<(), Fail> {
-    assert_eq!(rt; DecodeError::from(AllocError), DecodeError::OutOfMemory);
-    assert_eq!(rt; EncodeError::from(AllocError), EncodeError::OutOfMemory);
+    assert!(rt; DecodeError::from(AllocError) == DecodeError::OutOfMemory);
+    assert!(rt; EncodeError::from(AllocError) == EncodeError::OutOfMemory);
     assert!(rt; DecodeError::Truncated != DecodeError::Varint);
     assert!(rt; EncodeError::TooLong != EncodeError::OutOfMemory);
-    assert!(rt; !format!(in rt.alloc(); "{}", DecodeError::Depth)?.is_empty());
-    assert!(rt; !format!(in rt.alloc(); "{}", EncodeError::TooLong)?.is_empty());
-    Ok(())
-}
-
-#[test]
-fn keys(rt: HostRuntime) -> Result<(), Fail> {
-    let (number, wire_type, rest) = decode_key(&[0xfd, 0xff, 0xff, 0xff, 0x0f])?;
-    assert_eq!(rt; number.get(), 536_870_911);
-    assert_eq!(rt; wire_type, WireType::ThirtyTwoBit);
-    assert!(rt; rest.is_empty());
-    assert_eq!(rt; key_value(number.get(), wire_type), 0xffff_fffd);
-    assert_eq!(rt; wire_type.code(), 5);
-    Ok(())
-}
-
-#[test]
-fn payloads(rt: HostRuntime) -> Result<(), Fail> {
-    let (body, rest) = decode_delimited(&[0x02, 0x41, 0x42, 0x43])?;
-    assert_eq!(rt; (body, rest), ([0x41, 0x42].as_slice(), [0x43].as_slice()));
-    Ok(())
-}
-
-#[test]
-fn fixed_widths(rt: HostRuntime) -> Result<(), Fail> {
-    let (eight, rest) = decode_fixed64(&[1, 2, 3, 4, 5, 6, 7, 8, 9])?;
-    assert_eq!(rt;
-        (u64::from_le_bytes(eight), rest),
-        (0x0807_0605_0403_0201, [9].as_slice())
-    );
-    let (four, rest) = decode_fixed32(&[1, 2, 3, 4, 5])?;
-    assert_eq!(rt;
-        (u32::from_le_bytes(four), rest),
-        (0x0403_0201, [5].as_slice())
-    );
+    assert!(rt; are_shown(rt.alloc())?);
     Ok(())
 }

@@ -1,35 +1,10 @@
-//! Worked file records that are written in other bytes than they were read from, and the parts of a worked group.
+//! The parts of worked fields: a group, values of fixed width, varints, and what is delimited.
 
-use prost_reflect_types::{FileDescriptorProto, Proto};
 use prost_reflect_wire::{
     DecodeError, RECURSION_LIMIT, UnknownField, UnknownFieldSet, UnknownFieldValue,
 };
+use std::alloc::Global;
 use std::test::Fail;
-
-/// The bytes of a file's record, and those that are written again.
-static FILES: [(&[u8], &[u8]); 3] = [
-    // Options in two records are joined.
-    (
-        b"\x0a\x01aB\x02\x10\x01B\x02\x20\x01",
-        b"\x0a\x01aB\x04\x10\x01\x20\x01",
-    ),
-    // No field has the number 14.
-    (b"\x0a\x01ap\x01", b"\x0a\x01a"),
-    // Packed numbers of dependencies are written alone.
-    (b"\x0a\x01aR\x02\x00\x01", b"\x0a\x01aP\x00P\x01"),
-];
-
-#[test]
-fn files_are_written_in_their_own_form(rt: HostRuntime) -> Result<(), Fail> {
-    for (bytes, again) in FILES {
-        let file = FileDescriptorProto::decode(rt.alloc(), bytes)?;
-        let mut out = Vec::new(rt.alloc());
-        file.encode(&mut out)?;
-        assert_eq!(rt; out.as_slice(), again);
-        assert_eq!(rt; file.encoded_len(), Some(again.len()));
-    }
-    Ok(())
-}
 
 /// The group of the number 3 with `hello`, 10 and 11, and what stands behind it.
 static GROUP_AND_TAIL: &[u8] = b"\x1b\x0a\x05hello\x10\x0a\x10\x0b\x1ctail";
@@ -51,15 +26,19 @@ fn is_hello_10_11(set: &UnknownFieldSet) -> bool {
         && *eleven.value() == UnknownFieldValue::Varint(11)
 }
 
+/// Whether the value is the group with these fields.
+fn is_group_of_three(value: &UnknownFieldValue) -> bool {
+    match value {
+        UnknownFieldValue::Group(set) => is_hello_10_11(set),
+        _ => false,
+    }
+}
+
 #[test]
 fn a_group_has_its_fields_in_order(rt: HostRuntime) -> Result<(), Fail> {
     let mut cursor = GROUP_AND_TAIL;
     let field = UnknownField::decode(rt.alloc(), &mut cursor, RECURSION_LIMIT)?;
-    assert_eq!(rt; cursor, b"tail".as_slice());
-    match field.value() {
-        UnknownFieldValue::Group(set) => assert!(rt; is_hello_10_11(set)),
-        _ => return Err(Fail::from("no group")),
-    }
+    assert!(rt; cursor == b"tail".as_slice() && is_group_of_three(field.value()));
     Ok(())
 }
 
@@ -67,36 +46,46 @@ fn a_group_has_its_fields_in_order(rt: HostRuntime) -> Result<(), Fail> {
 #[test]
 fn a_refused_group_is_not_passed(rt: HostRuntime) -> Result<(), Fail> {
     let mut cursor = GROUP_AND_TAIL;
-    let read = UnknownField::decode(rt.alloc(), &mut cursor, 0);
-    assert!(rt; read.is_err_and(|error| error == DecodeError::Depth));
-    assert_eq!(rt; cursor, GROUP_AND_TAIL);
+    let refused = UnknownField::decode(rt.alloc(), &mut cursor, 0).err();
+    assert!(rt; refused == Some(DecodeError::Depth) && cursor == GROUP_AND_TAIL);
     Ok(())
 }
 
-/// The bytes of a field, its number, and its value, but for what is delimited.
-#[test]
-fn fields_have_their_values(rt: HostRuntime) -> Result<(), Fail> {
-    let rows: [(&[u8], u32, UnknownFieldValue); 4] = [
-        (
-            b"\x09\x9a\x99\x99\x99\x99\x99\xf1\x3f",
-            1,
-            UnknownFieldValue::SixtyFourBit([0x9a, 0x99, 0x99, 0x99, 0x99, 0x99, 0xf1, 0x3f]),
-        ),
-        (
-            b"\x15\xcd\xcc\x0c\x40",
-            2,
-            UnknownFieldValue::ThirtyTwoBit([0xcd, 0xcc, 0x0c, 0x40]),
-        ),
-        (b"\x18\x03", 3, UnknownFieldValue::Varint(3)),
-        (b"\x18\x83\x00", 3, UnknownFieldValue::Varint(3)),
-    ];
-    for (bytes, number, value) in rows {
-        let mut cursor = bytes;
-        let field = UnknownField::decode(rt.alloc(), &mut cursor, RECURSION_LIMIT)?;
-        assert_eq!(rt; field.number(), number);
-        assert!(rt; *field.value() == value);
+/// Bytes of a field, its wire type's number, its number, and its value in eight bytes at most, the last of least weight.
+static NUMBERS: [(&[u8], u8, u32, u64); 4] = [
+    (
+        b"\x09\x9a\x99\x99\x99\x99\x99\xf1\x3f",
+        1,
+        1,
+        0x3ff1_9999_9999_999a,
+    ),
+    (b"\x15\xcd\xcc\x0c\x40", 5, 2, 0x400c_cccd),
+    (b"\x18\x03", 0, 3, 3),
+    (b"\x18\x83\x00", 0, 3, 3),
+];
+
+/// The number that the value is, unless it is delimited or a group.
+fn number_in(value: &UnknownFieldValue) -> Option<u64> {
+    match value {
+        UnknownFieldValue::Varint(number) => Some(*number),
+        UnknownFieldValue::SixtyFourBit(bytes) => Some(u64::from_le_bytes(*bytes)),
+        UnknownFieldValue::ThirtyTwoBit(bytes) => Some(u64::from(u32::from_le_bytes(*bytes))),
+        _ => None,
     }
-    Ok(())
+}
+
+/// Whether the bytes are a field of the wire type and of the number, with this value.
+fn has_number(
+    alloc: Global,
+    bytes: &[u8],
+    code: u8,
+    number: u32,
+    value: u64,
+) -> Result<bool, Fail> {
+    let mut cursor = bytes;
+    let field = UnknownField::decode(alloc, &mut cursor, RECURSION_LIMIT)?;
+    let is_numbered = field.number() == number && field.wire_type().code() == code;
+    Ok(is_numbered && number_in(field.value()) == Some(value))
 }
 
 /// The bytes of a delimited field, its number, and what is delimited.
@@ -109,16 +98,33 @@ static DELIMITED: [(&[u8], u32, &[u8]); 2] = [
     (b"\x1a\x02\x10\x42", 3, b"\x10\x42"),
 ];
 
-#[test]
-fn delimited_fields_have_their_bytes(rt: HostRuntime) -> Result<(), Fail> {
-    for (bytes, number, inside) in DELIMITED {
-        let mut cursor = bytes;
-        let field = UnknownField::decode(rt.alloc(), &mut cursor, RECURSION_LIMIT)?;
-        assert_eq!(rt; field.number(), number);
-        match field.value() {
-            UnknownFieldValue::LengthDelimited(held) => assert_eq!(rt; held.as_slice(), inside),
-            _ => return Err(Fail::from("not delimited")),
+/// Whether the field is of the number, and these bytes are delimited.
+fn is_delimited(field: &UnknownField, number: u32, inside: &[u8]) -> bool {
+    match field.value() {
+        UnknownFieldValue::LengthDelimited(held) => {
+            held.as_slice() == inside && field.number() == number
         }
+        _ => false,
+    }
+}
+
+/// Whether the bytes are a field of the number with these bytes in it.
+fn has_bytes(alloc: Global, bytes: &[u8], number: u32, inside: &[u8]) -> Result<bool, Fail> {
+    let mut cursor = bytes;
+    let field = UnknownField::decode(alloc, &mut cursor, RECURSION_LIMIT)?;
+    Ok(is_delimited(&field, number, inside))
+}
+
+#[test]
+fn fields_have_their_values(rt: HostRuntime) -> Result<(), Fail> {
+    for (bytes, code, number, value) in NUMBERS {
+        assert!(rt;
+            has_number(rt.alloc(), bytes, code, number, value)?,
+            "{bytes:?}"
+        );
+    }
+    for (bytes, number, inside) in DELIMITED {
+        assert!(rt; has_bytes(rt.alloc(), bytes, number, inside)?, "{bytes:?}");
     }
     Ok(())
 }
