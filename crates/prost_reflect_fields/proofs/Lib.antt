@@ -15,4 +15,5 @@ mod AllNoted
 pub mod Replaced
 mod Weaving
 mod RunChanges
+mod Bounds
 mod WholeOneofs

@@ -310,7 +310,7 @@ module _ {T : Type 0} where
     laid_own : IsLaid (home.run ∷ home.after)
     laid_own = laid_after home.before home.run home.after laid_cut
 
-    above : AllAbove n behind
+    pub above : AllAbove n behind
     above = ahead_above n home.after home.ahead laid_own.4
 
     pub own_ascends : IsAscending own
@@ -325,7 +325,7 @@ module _ {T : Type 0} where
     pub run_set : (q : ℕ × Vec (ℕ × T) Global) → slice_set rs i q ≡ home.before ++ q ∷ home.after
     run_set q = ap (λ l. slice_set l i q) home.cut ∙ ap (λ k. slice_set (home.before ++ home.run ∷ home.after) k q) (sym home.place) ∙ set_cut home.before home.run q home.after
 
-    parts : flat rs ≡ in_front ++ (own ++ behind)
+    pub parts : flat rs ≡ in_front ++ (own ++ behind)
     parts = ap flat home.cut ∙ flat_cut home.before home.run home.after
 
     pub item_home : item_at (flat rs) n ≡ item_at own n

@@ -5,7 +5,7 @@ ghost use Rattle.std.specs.Borrow.{LendsIf, LendsSo, sem};
 ghost use Rattle.std.specs.Option.{option_copied, option_copied_mut};
 ghost use Rattle.std.specs.Ordering.{nat_cmp};
 ghost use Rattle.std_collections.specs.Layout.BTreeMap.{seek};
-ghost use Rattle.prost_reflect_fields.specs.Items.{IsAscending, item_at, with_item, put_item, without_item};
+ghost use Rattle.prost_reflect_fields.specs.Items.{IsAscending, item_at, with_item, put_item, without_item, items_below, items_from};
 ghost use Rattle.prost_reflect_fields.specs.ItemLists.{list_row};
 ghost use Rattle.prost_reflect_fields.specs.contracts.items.ItemList.{the_row};
 
@@ -138,6 +138,17 @@ pub(crate) fn get_at<T>(items: &[(u32, T)], number: u32) -> Option<&T>
     match place_in(items, number) {
         Ok(place) => Some(&items[place].1),
         Err(_) => None,
+    }
+}
+
+/// The items below the number, and those from it on.
+pub(crate) fn parted_at<T>(items: &[(u32, T)], number: u32) -> (&[(u32, T)], &[(u32, T)])
+    requires { IsAscending items.now }
+    ensures below { result.0.now ≡ items_below items.now number }
+    ensures from { result.1.now ≡ items_from items.now number }
+{
+    match place_in(items, number) {
+        Ok(place) | Err(place) => items.split_at(place),
     }
 }
 

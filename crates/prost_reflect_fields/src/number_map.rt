@@ -3,7 +3,7 @@
 ghost use Rattle.std.specs.Prelude.{◌≡◌, ℕ, List, Option, None, OnOk, OnErr, IfSome, option_map};
 ghost use Rattle.std.specs.Borrow.{LendsSo, sem};
 ghost use Rattle.std.specs.Option.{option_copied, option_copied_mut};
-ghost use Rattle.prost_reflect_fields.specs.Items.{IsAscending, item_at, with_item, put_item, without_item};
+ghost use Rattle.prost_reflect_fields.specs.Items.{IsAscending, item_at, with_item, put_item, without_item, first_from, last_below, item_copied};
 
 use std::alloc::AllocError;
 use std::collections::BTreeMap;
@@ -25,6 +25,14 @@ pub trait NumberMap<T> {
     /// The item at the number.
     fn get(&self, number: u32) -> Option<&T>
         ensures { option_copied result ≡ item_at (entries self.now) number };
+
+    /// The first item whose number is at least the given one.
+    fn first_from(&self, number: u32) -> Option<(u32, &T)>
+        ensures { item_copied result ≡ first_from (entries self.now) number };
+
+    /// The last item whose number is below the given one.
+    fn last_below(&self, number: u32) -> Option<(u32, &T)>
+        ensures { item_copied result ≡ last_below (entries self.now) number };
 
     /// The item at the number, for writing.
     fn get_mut(&mut self, number: u32) -> Option<&mut T>
@@ -77,6 +85,20 @@ impl<T: Drop> NumberMap<T> for BTreeMap<u32, T> {
 
     fn get(&self, number: u32) -> Option<&T> {
         self.get(&number)
+    }
+
+    fn first_from(&self, number: u32) -> Option<(u32, &T)> {
+        match self.range(number..).next() {
+            Some((number, item)) => Some((*number, item)),
+            None => None,
+        }
+    }
+
+    fn last_below(&self, number: u32) -> Option<(u32, &T)> {
+        match self.range(..number).next_back() {
+            Some((number, item)) => Some((*number, item)),
+            None => None,
+        }
     }
 
     fn get_mut(&mut self, number: u32) -> Option<&mut T> {

@@ -6,7 +6,7 @@ ghost use Rattle.std.specs.Option.{option_copied, option_copied_mut};
 ghost use Rattle.std.specs.Ordering.{nat_cmp};
 ghost use Rattle.std_collections.specs.Layout.BTreeMap.{seek};
 ghost use Rattle.prost_reflect_fields.specs.contracts.runs.RunMap.{the_row};
-ghost use Rattle.prost_reflect_fields.specs.Items.{IsAscending, item_at, with_item, put_item, without_item};
+ghost use Rattle.prost_reflect_fields.specs.Items.{IsAscending, item_at, with_item, put_item, without_item, items_below, items_from};
 ghost use Rattle.prost_reflect_fields.specs.Runs.{flat, IsLaid, run_at};
 
 use crate::items::{get_at, join, place_in, put, remove_at};
@@ -104,6 +104,7 @@ impl<T> RunMap<T> {
     /// The runs, whose items are all that there are.
     pub(crate) fn runs(&self) -> &[(u32, Vec<(u32, T)>)]
         ensures items { flat result.now ≡ self.now.0 }
+        ensures laid { IsLaid result.now }
         ensures ascending { IsAscending self.now.0 }
     {
         &self.runs
@@ -195,6 +196,27 @@ fn get_in<T>(runs: &[(u32, Vec<(u32, T)>)], number: u32) -> Option<&T>
     match run_of(runs, number) {
         Some(index) => get_at(&runs[index].1, number),
         None => None,
+    }
+}
+
+/// The runs in front of that to which the number belongs, the items of that run, and the runs behind it. Where no run has the
+/// number, all runs are behind it.
+pub(crate) fn around<T>(
+    runs: &[(u32, Vec<(u32, T)>)],
+    number: u32,
+) -> (
+    &[(u32, Vec<(u32, T)>)],
+    &[(u32, T)],
+    &[(u32, Vec<(u32, T)>)],
+)
+    requires { IsLaid runs.now }
+    ensures own { IsAscending result.1.now }
+    ensures below { items_below (flat runs.now) number ≡ flat result.0.now ++ items_below result.1.now number }
+    ensures from { items_from (flat runs.now) number ≡ items_from result.1.now number ++ flat result.2.now }
+{
+    match run_of(runs, number) {
+        Some(index) => (&runs[..index], &runs[index].1, &runs[index + 1..]),
+        None => (&[], &[], runs),
     }
 }
 

@@ -5,14 +5,14 @@ ghost use Rattle.std.specs.Borrow.{LendsIf, sem};
 ghost use Rattle.std.specs.Option.{option_copied, option_copied_mut, option_to_list};
 ghost use Rattle.std.specs.Vec.Iter.{into_iter_items, into_iter_len};
 ghost use Rattle.prost_reflect_fields.specs.contracts.sorted_map.SortedMap.{the_row};
-ghost use Rattle.prost_reflect_fields.specs.Items.{IsAscending, item_at, with_item, put_item, without_item};
+ghost use Rattle.prost_reflect_fields.specs.Items.{IsAscending, item_at, with_item, put_item, without_item, items_below, items_from};
 ghost use Rattle.prost_reflect_fields.specs.NumberSets.{has, is_up_to, chosen_up_to, left_beyond, AreReplaced};
 ghost use Rattle.prost_reflect_fields.specs.ItemsLeft.{items_left, items_left_back};
 
 use crate::boxed::Boxed;
-use crate::items::{ItemList, join, push_last};
+use crate::items::{ItemList, join, parted_at, push_last};
 use crate::number_map::NumberMap;
-use crate::runs::{FULL, RunMap};
+use crate::runs::{FULL, RunMap, around};
 use std::alloc::{AllocError, Global};
 use std::collections::{BTreeMap, BTreeSet};
 use std::marker::Model;
@@ -193,6 +193,52 @@ impl<T> SortedMap<T> {
                 runs: map.get().runs(),
                 run: &[],
             },
+        }
+    }
+
+    /// The walk back over the items below the number, and that over the items from it on.
+    fn walks_at(&self, number: u32) -> (ItemsBack<'_, T>, Items<'_, T>)
+        ensures below { items_left_back result.0 ≡ items_below self.now.0 number }
+        ensures from { items_left result.1 ≡ items_from self.now.0 number }
+    {
+        match &self.held {
+            Held::Empty(_, _) => (
+                ItemsBack {
+                    runs: &[],
+                    run: &[],
+                },
+                Items {
+                    run: &[],
+                    runs: &[],
+                },
+            ),
+            Held::Listed(list) => {
+                let (below, from) = parted_at(list.get().items(), number);
+                (
+                    ItemsBack {
+                        runs: &[],
+                        run: below,
+                    },
+                    Items {
+                        run: from,
+                        runs: &[],
+                    },
+                )
+            }
+            Held::Laid(map) => {
+                let (front, run, behind) = around(map.get().runs(), number);
+                let (below, from) = parted_at(run, number);
+                (
+                    ItemsBack {
+                        runs: front,
+                        run: below,
+                    },
+                    Items {
+                        run: from,
+                        runs: behind,
+                    },
+                )
+            }
         }
     }
 
@@ -528,6 +574,22 @@ impl<T: Drop> NumberMap<T> for SortedMap<T> {
     #[inline]
     fn get(&self, number: u32) -> Option<&T> {
         self.get(number)
+    }
+
+    fn first_from(&self, number: u32) -> Option<(u32, &T)> {
+        let (_, mut items) = self.walks_at(number);
+        match items.next() {
+            Some((number, item)) => Some((*number, item)),
+            None => None,
+        }
+    }
+
+    fn last_below(&self, number: u32) -> Option<(u32, &T)> {
+        let (mut items, _) = self.walks_at(number);
+        match items.next() {
+            Some((number, item)) => Some((*number, item)),
+            None => None,
+        }
     }
 
     #[inline]
