@@ -10,7 +10,7 @@ use Rattle.prost_reflect_fields.specs.declared.slot.FieldSlot.{FieldSlot}
 use Rattle.prost_reflect_fields.specs.Items.{IsAscending, item_at, with_item}
 use Rattle.prost_reflect_fields.specs.Known.{is_known, are_siblings, keeps_unknown, all_kept, are_records_of}
 use Rattle.prost_reflect_fields.specs.FieldSlots.{value_in, records_in, stored_at, records_at, has_value, revalued, put_value, without_values, with_value, with_slot, SameStored, UnknownAdded}
-use Rattle.prost_reflect_fields.specs.Sound.{Sound, unknown_kept, set_value_at, prepared}
+use Rattle.prost_reflect_fields.specs.Sound.{OneofsSingle, Sound, unknown_kept, set_value_at, prepared}
 use Rattle.prost_reflect_fields.proofs.ItemChanges.{at_each, apart_of, with_same, with_apart, not_both}
 use Rattle.prost_reflect_fields.proofs.SlotChanges.{value_without, records_without, ascending_put, value_put, value_put_apart, records_put, same_values, same_records, value_kept, records_kept, ascending_without_values, ascending_with_value, value_written, value_written_apart, records_written}
 use Rattle.prost_reflect_fields.proofs.Siblings.{siblings_back, siblings_self}
@@ -43,11 +43,14 @@ module _ {V : Type 0} where
   without : (ds es : List (ℕ × FieldSlot V)) (k : ℕ) → Fewer ds es → has_value es k ≡ false → has_value ds k ≡ false
   without ds es k less h = false_from_ne_true (has_value ds k) (λ t. not_both (has_value es k) (less.values k t) h)
 
+  pub single_less : (fields : List Field) (ds es : List (ℕ × FieldSlot V)) → Fewer ds es → OneofsSingle fields es → OneofsSingle fields ds
+  single_less fields ds es less before m n v siblings = without ds es n less (before m n (less.values m v) siblings)
+
   pub sound_less : (fields : List Field) (ds es : List (ℕ × FieldSlot V)) → Fewer ds es → Sound fields es → Sound fields ds
   sound_less fields ds es less s = (
     λ n v. s.0 n (less.values n v),
     λ n. ap (unknown_kept fields n) (less.records n) ∙ s.1 n,
-    λ m n v siblings. without ds es n less (s.2 m n (less.values m v) siblings),
+    single_less fields ds es less s.2,
   )
 
   pub fewer_without : (test : ℕ → Bool) (es : List (ℕ × FieldSlot V)) → IsAscending es → Fewer (without_values test es) es
@@ -106,21 +109,14 @@ module _ {V : Type 0} where
   pub value_set : (fields : List Field) (es : List (ℕ × FieldSlot V)) (n : ℕ) (v : V) → IsAscending es → stored_at (set_value_at fields es n v) n ≡ Some v
   value_set fields es n v s = value_set_at fields es n v n s ∙ ap (λ b. cond b (Some v) (cond (are_siblings fields n n) None (stored_at es n))) (eq-eqb n n refl)
 
-  pub sound_set : (fields : List Field) (es : List (ℕ × FieldSlot V)) (n : ℕ) (v : V) → IsAscending es → numbers_differ fields ≡ true → is_known fields n ≡ true → Sound fields es → Sound fields (set_value_at fields es n v)
-  sound_set fields es n v s differ known sound = (
-    λ k h. values k (nat_eq k n) refl (ap is_some (sym (value_set_at fields es n v k s)) ∙ h),
-    λ k. ap (unknown_kept fields k) (records_set_at fields es n v k s) ∙ sound.1 k,
-    λ m k h siblings. ap is_some (value_set_at fields es n v k s) ∙ single m k (nat_eq m n) (nat_eq k n) refl refl (ap is_some (sym (value_set_at fields es n v m s)) ∙ h) siblings,
-  )
+  not_cleared : (b : Bool) (o : Option V) → is_some (cond b None o) ≡ true → (b ≡ false) × (is_some o ≡ true)
+  not_cleared true o h = cc
+  not_cleared false o h = (refl, h)
+
+  pub single_set : (fields : List Field) (es : List (ℕ × FieldSlot V)) (n : ℕ) (v : V) → IsAscending es → numbers_differ fields ≡ true → OneofsSingle fields es → OneofsSingle fields (set_value_at fields es n v)
+  single_set fields es n v s differ before m k h siblings =
+      ap is_some (value_set_at fields es n v k s) ∙ single m k (nat_eq m n) (nat_eq k n) refl refl (ap is_some (sym (value_set_at fields es n v m s)) ∙ h) siblings
     where
-      not_cleared : (b : Bool) (o : Option V) → is_some (cond b None o) ≡ true → (b ≡ false) × (is_some o ≡ true)
-      not_cleared true o h = cc
-      not_cleared false o h = (refl, h)
-
-      values : (k : ℕ) (b : Bool) → nat_eq k n ≡ b → is_some (cond b (Some v) (cond (are_siblings fields n k) None (stored_at es k))) ≡ true → is_known fields k ≡ true
-      values k true at h = subst (λ z. is_known fields z ≡ true) (sym (eqb-true k n at)) known
-      values k false at h = sound.0 k (not_cleared (are_siblings fields n k) (stored_at es k) h).1
-
       cleared : (b : Bool) (o : Option V) → is_some o ≡ false → is_some (cond b None o) ≡ false
       cleared true o h = refl
       cleared false o h = h
@@ -135,7 +131,18 @@ module _ {V : Type 0} where
           let back : are_siblings fields n m ≡ true = siblings_back fields m n differ (subst (λ z. are_siblings fields m z ≡ true) (eqb-true k n to) siblings) in
           absurd (true≢false (sym back ∙ (not_cleared (are_siblings fields n m) (stored_at es m) h).0))
       single m k false false at to h siblings =
-          cleared (are_siblings fields n k) (stored_at es k) (sound.2 m k (not_cleared (are_siblings fields n m) (stored_at es m) h).1 siblings)
+          cleared (are_siblings fields n k) (stored_at es k) (before m k (not_cleared (are_siblings fields n m) (stored_at es m) h).1 siblings)
+
+  pub sound_set : (fields : List Field) (es : List (ℕ × FieldSlot V)) (n : ℕ) (v : V) → IsAscending es → numbers_differ fields ≡ true → is_known fields n ≡ true → Sound fields es → Sound fields (set_value_at fields es n v)
+  sound_set fields es n v s differ known sound = (
+    λ k h. values k (nat_eq k n) refl (ap is_some (sym (value_set_at fields es n v k s)) ∙ h),
+    λ k. ap (unknown_kept fields k) (records_set_at fields es n v k s) ∙ sound.1 k,
+    single_set fields es n v s differ sound.2,
+  )
+    where
+      values : (k : ℕ) (b : Bool) → nat_eq k n ≡ b → is_some (cond b (Some v) (cond (are_siblings fields n k) None (stored_at es k))) ≡ true → is_known fields k ≡ true
+      values k true at h = subst (λ z. is_known fields z ≡ true) (sym (eqb-true k n at)) known
+      values k false at h = sound.0 k (not_cleared (are_siblings fields n k) (stored_at es k) h).1
 
   -- WRITING ACCESS
 

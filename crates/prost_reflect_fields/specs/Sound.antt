@@ -23,6 +23,10 @@ module _ {V : Type 0} where
   abbrev pub OneofsSingle : List Field → List (ℕ × FieldSlot V) → Type 0
   OneofsSingle fields es = (m n : ℕ) → has_value es m ≡ true → are_siblings fields m n ≡ true → has_value es n ≡ false
 
+  -- So it is of the new slots, if it was so of the old ones.
+  abbrev pub KeepsOneofs : List Field → List (ℕ × FieldSlot V) → List (ℕ × FieldSlot V) → Type 0
+  KeepsOneofs fields old new = OneofsSingle fields old → OneofsSingle fields new
+
   abbrev pub Sound : List Field → List (ℕ × FieldSlot V) → Type 0
   Sound fields es = ValuesKnown fields es × UnknownKept fields es × OneofsSingle fields es
 

@@ -8,7 +8,7 @@ ghost use Rattle.prost_reflect_wire.specs.Schema.{same_oneof};
 ghost use Rattle.prost_reflect_fields.specs.Items.{IsAscending, put_item};
 ghost use Rattle.prost_reflect_fields.specs.Known.{known_of, oneof_of, are_siblings, is_other_member};
 ghost use Rattle.prost_reflect_fields.specs.FieldSlots.{stored_at, unknown_at, put_value, clear_value, with_value, without_values, first_value, UnknownAdded, SameStored};
-ghost use Rattle.prost_reflect_fields.specs.Sound.{set_value_at, prepared};
+ghost use Rattle.prost_reflect_fields.specs.Sound.{set_value_at, prepared, KeepsOneofs};
 ghost use Rattle.prost_reflect_fields.specs.Members.{is_member, rows_at};
 ghost use Rattle.prost_reflect_fields.specs.Noted.{AreNoted, without_noted};
 ghost use Rattle.prost_reflect_fields.specs.Lending.{LendsOrStays};
@@ -46,7 +46,7 @@ pub fn unknown_at<'a, V: 'a, S: NumberMap<FieldSlot<V>>>(
 }
 
 /// Puts a value at the number, where the unknown fields stay. If out of memory, nothing changes.
-pub fn put_value<V: Drop, S: NumberMap<FieldSlot<V>>>(
+fn put_value<V: Drop, S: NumberMap<FieldSlot<V>>>(
     fields: &mut S,
     alloc: Global,
     number: u32,
@@ -118,8 +118,8 @@ pub fn add_unknown<V: Drop, S: NumberMap<FieldSlot<V>>>(
     }
 }
 
-/// Sets the value at the number, and removes those of the other members of its field's oneof. The unknown fields stay. If out of
-/// memory, no value and no unknown field changes.
+/// Sets the value at the number, and removes those of the other members of its field's oneof. So of a oneof at most one member has
+/// a value, if it was so before. The unknown fields stay. If out of memory, no value and no unknown field changes.
 pub fn set_value<V: Drop, S: NumberMap<FieldSlot<V>>>(
     fields: &mut S,
     alloc: Global,
@@ -132,6 +132,7 @@ pub fn set_value<V: Drop, S: NumberMap<FieldSlot<V>>>(
     requires noted { AreNoted (known_of message_type.now) (S.noted fields.old) (S.entries fields.old) }
     ensures ok { OnOk result (S.entries fields.new ≡ set_value_at (known_of message_type.now) (S.entries fields.old) number value) }
     ensures err { OnErr result (S.entries fields.new ≡ S.entries fields.old) }
+    ensures single { KeepsOneofs (known_of message_type.now) (S.entries fields.old) (S.entries fields.new) }
     ensures noted { AreNoted (known_of message_type.now) (S.noted fields.new) (S.entries fields.new) }
     ensures ascending { IsAscending (S.entries fields.old) }
 {
@@ -220,7 +221,7 @@ pub fn value_mut_or<'a, V: Drop + 'a, S: NumberMap<FieldSlot<V>>>(
     default: V,
 ) -> Result<&'a mut V, AllocError>
     requires { AreNoted (known_of message_type.now) (S.noted fields.old) (S.entries fields.old) }
-    ensures* writes_back { sem 𝓛 (LendsOrStays S.row V.row fields.entry result (λ after w. (S.entries after ≡ with_value (prepared (known_of message_type.now) (S.entries fields.old) number default) number w) × AreNoted (known_of message_type.now) (S.noted after) (S.entries after)) (λ after. (S.entries after ≡ prepared (known_of message_type.now) (S.entries fields.old) number default) × AreNoted (known_of message_type.now) (S.noted after) (S.entries after)) (λ after. (S.entries after ≡ S.entries fields.old) × AreNoted (known_of message_type.now) (S.noted after) (S.entries after))) }
+    ensures* writes_back { sem 𝓛 (LendsOrStays S.row V.row fields.entry result (λ after w. (S.entries after ≡ with_value (prepared (known_of message_type.now) (S.entries fields.old) number default) number w) × AreNoted (known_of message_type.now) (S.noted after) (S.entries after) × KeepsOneofs (known_of message_type.now) (S.entries fields.old) (S.entries after)) (λ after. (S.entries after ≡ prepared (known_of message_type.now) (S.entries fields.old) number default) × AreNoted (known_of message_type.now) (S.noted after) (S.entries after) × KeepsOneofs (known_of message_type.now) (S.entries fields.old) (S.entries after)) (λ after. (S.entries after ≡ S.entries fields.old) × AreNoted (known_of message_type.now) (S.noted after) (S.entries after) × KeepsOneofs (known_of message_type.now) (S.entries fields.old) (S.entries after))) }
     ensures value { IfOk result (λ v. stored_at (prepared (known_of message_type.now) (S.entries fields.old) number default) number ≡ Some v.now) }
     ensures ascending { IsAscending (S.entries fields.old) }
 {
@@ -242,6 +243,7 @@ fn set_default<V: Drop, S: NumberMap<FieldSlot<V>>>(
     requires { AreNoted (known_of message_type.now) (S.noted fields.old) (S.entries fields.old) }
     ensures ok { OnOk result (S.entries fields.new ≡ prepared (known_of message_type.now) (S.entries fields.old) number default) }
     ensures err { OnErr result (S.entries fields.new ≡ S.entries fields.old) }
+    ensures single { KeepsOneofs (known_of message_type.now) (S.entries fields.old) (S.entries fields.new) }
     ensures noted { AreNoted (known_of message_type.now) (S.noted fields.new) (S.entries fields.new) }
     ensures ascending { IsAscending (S.entries fields.old) }
 {

@@ -1,9 +1,11 @@
-use Rattle.std.proofs.Common.{sym, ◌∙◌}
+use Rattle.std.proofs.Common.{sym, subst, ◌∙◌}
 use Rattle.std.proofs.lemmas.Result.{on_ok_weaker}
 use Rattle.prost_reflect_fields.specs.Known.{known_of}
+use Rattle.prost_reflect_fields.specs.Sound.{OneofsSingle}
 use Rattle.prost_reflect_fields.proofs.NotedMembers.{set_alone, noted_alone, noted_after}
 use Rattle.prost_reflect_fields.proofs.Results.{either}
 use Rattle.prost_reflect_fields.proofs.Siblings.{known_differ}
+use Rattle.prost_reflect_fields.proofs.SoundChanges.{single_set}
 use Rattle.prost_reflect_fields.proofs.stored.set_value.Goals as goal
 
 pub returns-in-None-clause-ok : goal.returns-in-None-clause-ok
@@ -18,3 +20,19 @@ returns-in-None-clause-noted g c =
     either c.put_value.result c.put_value.ensures.ok c.put_value.ensures.err
     (λ is. noted_after fields is c.put_value.ensures.noted (noted_alone fields noted es c.args.number c.args.value (sym c.in-None.is ∙ c.requires.oneof) c.requires.noted))
     (λ is. noted_after fields is c.put_value.ensures.noted c.requires.noted)
+
+pub returns-in-None-clause-single : goal.returns-in-None-clause-single
+returns-in-None-clause-single g c before =
+    let fields = known_of c.args.message_type.now in
+    let es = g.S.NumberMap.entries c.args.fields.now in
+    either c.put_value.result (returns-in-None-clause-ok g c) c.put_value.ensures.err
+    (λ is. subst (OneofsSingle fields) (sym is) (single_set fields es c.args.number c.args.value c.put_value.ensures.ascending (known_differ c.args.message_type.now) before))
+    (λ is. subst (OneofsSingle fields) (sym is) before)
+
+pub returns-in-Some-clause-single : goal.returns-in-Some-clause-single
+returns-in-Some-clause-single g c before =
+    let fields = known_of c.args.message_type.now in
+    let es = g.S.NumberMap.entries c.args.fields.now in
+    either c.set_in_oneof.result c.set_in_oneof.ensures.ok c.set_in_oneof.ensures.err
+    (λ is. subst (OneofsSingle fields) (sym is) (single_set fields es c.args.number c.args.value c.set_in_oneof.ensures.ascending (known_differ c.args.message_type.now) before))
+    (λ is. subst (OneofsSingle fields) (sym is) before)

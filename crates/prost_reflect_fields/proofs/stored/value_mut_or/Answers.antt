@@ -1,13 +1,13 @@
-use Rattle.std.proofs.Common.{◌≡◌, Bool, true, false, cond, refl, ap, sym, ◌∙◌, List, ℕ, true≢false}
+use Rattle.std.proofs.Common.{◌≡◌, Bool, true, false, cond, refl, ap, sym, subst, ◌∙◌, List, ℕ, true≢false}
 use Rattle.std.specs.Option.{is_some}
 use Rattle.prost_reflect_wire.specs.Schema.{Field}
 use Rattle.prost_reflect_fields.specs.declared.slot.FieldSlot.{FieldSlot}
 use Rattle.prost_reflect_fields.specs.Items.{IsAscending}
 use Rattle.prost_reflect_fields.specs.Known.{known_of}
 use Rattle.prost_reflect_fields.specs.FieldSlots.{stored_at, with_value}
-use Rattle.prost_reflect_fields.specs.Sound.{set_value_at, prepared}
+use Rattle.prost_reflect_fields.specs.Sound.{OneofsSingle, set_value_at, prepared}
 use Rattle.prost_reflect_fields.proofs.NotedMembers.{noted_after, noted_written}
-use Rattle.prost_reflect_fields.proofs.SoundChanges.{value_set}
+use Rattle.prost_reflect_fields.proofs.SoundChanges.{value_set, single_less, fewer_written}
 use Rattle.prost_reflect_fields.proofs.stored.value_mut_or.Goals as goal
 
 prepared_has : {V : Type 0} (fields : List Field) (es : List (ℕ × FieldSlot V)) (n : ℕ) (v : V) → IsAscending es → is_some (stored_at (prepared fields es n v) n) ≡ true
@@ -30,9 +30,15 @@ returns g c =
       (
         refl,
         (λ w.
-            let holds = c.value_mut.follows.holds w in
-            ((holds.0 ∙ ap (λ (es : List (ℕ × FieldSlot g.row.V.Denot)). with_value es n w) is, noted_after fields holds.0 holds.1 (noted_written fields _ _ n w c.set_default.ensures.noted)), tt)),
-        ((is, c.set_default.ensures.noted), tt),
+            let holds = c.value_mut.follows.holds w in (
+              (
+                holds.0 ∙ ap (λ (es : List (ℕ × FieldSlot g.row.V.Denot)). with_value es n w) is,
+                noted_after fields holds.0 holds.1 (noted_written fields _ _ n w c.set_default.ensures.noted),
+                λ before. subst (OneofsSingle fields) (sym holds.0) (single_less fields _ _ (fewer_written (g.S.NumberMap.entries c.set_default.new.fields) n w) (c.set_default.ensures.single before)),
+              ),
+              tt,
+            )),
+        ((is, c.set_default.ensures.noted, c.set_default.ensures.single), tt),
       ),
       record { writes_back = tt; value = ap (λ es. stored_at es n) (sym is) ∙ sym c.in-Some.ensures.value; ascending = c.set_default.ensures.ascending },
     )

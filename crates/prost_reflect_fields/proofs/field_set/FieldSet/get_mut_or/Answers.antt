@@ -34,10 +34,10 @@ invariant_of-self-lent g c =
     )
 
 -- what follows the lent value through a pairing
-agree : {T D L X : Type 0} {Q : T → Type 0} (P : T → Type 0) (S : Type 0) (r : Result (MutBor T) X) (pair : L → D) (lender put : T → L) (rest old : L) (written : T → D) (now : D) → ((w : T) → OnOk r ((lender w ≡ put w) × P w) × Q w) → OnErr r ((rest ≡ old) × S)
+agree : {T D L X : Type 0} {Q : T → Type 0} (P K : T → Type 0) (S U : Type 0) (r : Result (MutBor T) X) (pair : L → D) (lender put : T → L) (rest old : L) (written : T → D) (now : D) → ((w : T) → OnOk r ((lender w ≡ put w) × P w × K w) × Q w) → OnErr r ((rest ≡ old) × S × U)
     → ((w : T) → pair (put w) ≡ written w) → pair old ≡ now → read_of (name_if_ok (λ x. x.ghost_name) r) (λ w. pair (lender w)) (pair rest) ≡ read_of (name_if_ok (λ x. x.ghost_name) r) written now
-agree P S (Ok x) pair lender put rest old written now holds stays is same = λ i. read_of (some x.ghost_name) (λ w. (ap pair (holds w).0.0 ∙ is w) i) now
-agree P S (Err e) pair lender put rest old written now holds stays is same = ap inr (ap pair stays.0 ∙ same)
+agree P K S U (Ok x) pair lender put rest old written now holds stays is same = λ i. read_of (some x.ghost_name) (λ w. (ap pair (holds w).0.0 ∙ is w) i) now
+agree P K S U (Err e) pair lender put rest old written now holds stays is same = ap inr (ap pair stays.0 ∙ same)
 
 pub returns : goal.returns
 returns g c =
@@ -50,7 +50,7 @@ returns g c =
     let put : g.row.V.Denot → PooledType × List (ℕ × FieldSlot g.row.V.Denot) → PooledType × List (ℕ × FieldSlot g.row.V.Denot) = λ w m. (m.0, with_value (prepared (known_of m.0) m.1 n default) n w) in
     let before = inside.fields.0 in
     let viewed : whole before ≡ c.args.self.now = c.self.view_is ∙ c.note_members.ensures in (
-      agree _ _ c.value_mut_or.result whole (λ w. (c.value_mut_or.follows.lender w).0) (λ w. with_value (prepared fields before n default) n w) c.value_mut_or.follows.lender-at-none.0 before (λ w. put w c.args.self.now) c.args.self.now
+      agree _ _ _ _ c.value_mut_or.result whole (λ w. (c.value_mut_or.follows.lender w).0) (λ w. with_value (prepared fields before n default) n w) c.value_mut_or.follows.lender-at-none.0 before (λ w. put w c.args.self.now) c.args.self.now
           c.value_mut_or.follows.holds c.value_mut_or.follows.holds-at-none.1 (λ w. ap (put w) viewed) viewed,
       record {
         writes_back = tt;
