@@ -1,5 +1,6 @@
 -- What an older type writes of one value, a newer one of a reduction reads as what it read before.
-use Rattle.prost_reflect_laws.proofs.Common.{◌≡◌, ℕ, nat_lt, eq-eqb, true, false, List, [], ◌∷◌, flat_map, Option, Some, None, refl, ap, sym, ◌∙◌, true≢false, is_some, list_all, eqb-true, Record, Payload, body_of, payload_valid, valid, Scalar, ScalarKind, elem, scalar_valid, Kind, ScalarOf, MessageOf, GroupOf, ValueType, FieldForm, passes, Content, Value, ScalarValue, MessageValue, AllowsInside, is_stray, element_payloads_in, value_payloads, stray_payloads, one_allowed, field_allowed, MeansInside, element, scalar_values, field_value, records, value_payload, is_of_type, TypePairs, holds, same_kind, field_nothing, items_body, ElementBack}
+use Rattle.std.specs.Prelude.{◌≡◌, ◌∷◌}
+use Rattle.prost_reflect_laws.proofs.Common.{ℕ, nat_lt, eq-eqb, true, false, List, [], flat_map, Option, Some, None, refl, ap, sym, ◌∙◌, true≢false, is_some, list_all, eqb-true, Record, Payload, body_of, payload_valid, valid, Scalar, ScalarKind, elem, scalar_valid, Kind, ScalarOf, MessageOf, GroupOf, ValueType, FieldForm, passes, Content, Value, ScalarValue, MessageValue, AllowsInside, is_stray, element_payloads_in, value_payloads, stray_payloads, one_allowed, field_allowed, MeansInside, element, scalar_values, field_value, records, value_payload, is_of_type, TypePairs, holds, same_kind, field_nothing, items_body, ElementBack}
 use Rattle.prost_reflect_laws.proofs.Table.{read_back}
 use Rattle.prost_reflect_laws.proofs.Declared.{read_valid}
 use Rattle.prost_reflect_laws.proofs.Values.{payload_back}

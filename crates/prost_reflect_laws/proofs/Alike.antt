@@ -1,5 +1,6 @@
 -- Kinds and value types that match are read and written alike.
-use Rattle.prost_reflect_laws.proofs.Common.{◌≡◌, ℕ, suc, length, Bool, true, false, cond, not, ◌&&◌, ◌||◌, ℤ, List, [], ◌∷◌, map, filter, Option, Some, None, refl, ap, ap₂, sym, ◌∙◌, true≢false, beq, list_any, int_eq, and_parts, Plain, Var, Fix64, Len, Fix32, Payload, Flat, Group, Scalar, ScalarKind, Double, Float, Int64, Uint64, Int32, Fixed64, Fixed32, BoolKind, StringKind, BytesKind, Uint32, Sfixed32, Sfixed64, Sint32, Sint64, Enum, EnumNumbers, Open, Closed, EnumNumber, elem, is_declared, is_undeclared, kind_default, kind_wire, scalar_eq, scalar_valid, in_i32, low_i32, Kind, ScalarOf, MessageOf, GroupOf, ValueType, FieldForm, Singular, Repeated, MapFrom, is_packable, ScalarValue, or_none, plains_within, unpacked, numbered, last, records_in, element_payloads_in, is_stray, is_stray_entry, value_payloads, stray_payloads, is_default_of, TypePairs, all_among, same_numbers, same_scalar_kind, same_kind, same_default, value_types_match, same_form, beq_same, scalar_decides}
+use Rattle.std.specs.Prelude.{◌≡◌, ◌&&◌, ◌||◌, ◌∷◌}
+use Rattle.prost_reflect_laws.proofs.Common.{ℕ, suc, length, Bool, true, false, cond, not, ℤ, List, [], map, filter, Option, Some, None, refl, ap, ap₂, sym, ◌∙◌, true≢false, beq, list_any, int_eq, and_parts, Plain, Var, Fix64, Len, Fix32, Payload, Flat, Group, Scalar, ScalarKind, Double, Float, Int64, Uint64, Int32, Fixed64, Fixed32, BoolKind, StringKind, BytesKind, Uint32, Sfixed32, Sfixed64, Sint32, Sint64, Enum, EnumNumbers, Open, Closed, EnumNumber, elem, is_declared, is_undeclared, kind_default, kind_wire, scalar_eq, scalar_valid, in_i32, low_i32, Kind, ScalarOf, MessageOf, GroupOf, ValueType, FieldForm, Singular, Repeated, MapFrom, is_packable, ScalarValue, or_none, plains_within, unpacked, numbered, last, records_in, element_payloads_in, is_stray, is_stray_entry, value_payloads, stray_payloads, is_default_of, TypePairs, all_among, same_numbers, same_scalar_kind, same_kind, same_default, value_types_match, same_form, beq_same, scalar_decides}
 use Rattle.std.specs.Cmp.{signed_Decides}
 
 -- SCALAR KINDS

@@ -1,5 +1,6 @@
 -- The records of a well-typed content are allowed exactly within its levels.
-use Rattle.prost_reflect_laws.proofs.Common.{◌≡◌, ℕ, zero, suc, ◌≤◌, Bool, true, false, cond, ◌&&◌, ◌||◌, List, [], ◌∷◌, ◌++◌, map, nat_le, nat_lt, nat_eq, Option, Some, None, refl, ap, ap₂, sym, ◌∙◌, arith, true≢false, is_some, ⊤, max, list_all, eqb-true, leb-true, le-leb, lt-ltb, and_parts, list_all-append, or-false, or-true, ◌>>=◌, Len, Var, Plain, Payload, Flat, Record, Records, items, payload_levels, body_of, spelled, payload_valid, valid, short_body, Scalar, ScalarKind, Enum, written, is_undeclared, Kind, ScalarOf, MessageOf, GroupOf, ValueType, FieldForm, Singular, Repeated, MapFrom, Field, Schema, known, field_of, is_message, is_singular, is_key_kind, is_packable_kind, field_valid, schema_valid, passes, is_list, Content, ContentOf, Entries, NoEntries, Stored, Unknown, Value, ScalarValue, MessageValue, ListValue, MapValue, Values, NoValues, Item, Pairs, NoPairs, Pair, schema_of, type_of, or_none, fits, body, records_in, numbered, last, AllowsInside, is_len, one_allowed, packed_allowed, in_entry_allowed, has_level, field_allowed, record_allowed, nothing_inside, allows, is_stray, is_stray_entry, record_at, scalar_payload, message_payload, is_default_of, entry_record, end_to_end, list_payloads, records, entries_records, field_payloads, value_payload, element_payloads, pair_payload, pair_payloads, key_of, greatest_level, stray_levels, unknown_levels, levels, entries_levels, value_levels, values_levels, pairs_levels, kind_takes, element_valid, elements_valid, pairs_valid, value_valid, is_whole_stray, unknown_fits, entries_pass, value_passes, values_pass, pairs_pass, fit_test, encodable, is_of_type, Typed, EntriesTyped, ValueTyped, ValuesTyped, PairsTyped, flat_fits, spelled_read, short_spells, items_body}
+use Rattle.std.specs.Prelude.{◌≡◌, ◌≤◌, ◌&&◌, ◌||◌, ◌∷◌, ◌++◌}
+use Rattle.prost_reflect_laws.proofs.Common.{ℕ, zero, suc, Bool, true, false, cond, List, [], map, nat_le, nat_lt, nat_eq, Option, Some, None, refl, ap, ap₂, sym, ◌∙◌, arith, true≢false, is_some, ⊤, max, list_all, eqb-true, leb-true, le-leb, lt-ltb, and_parts, list_all-append, or-false, or-true, ◌>>=◌, Len, Var, Plain, Payload, Flat, Record, Records, items, payload_levels, body_of, spelled, payload_valid, valid, short_body, Scalar, ScalarKind, Enum, written, is_undeclared, Kind, ScalarOf, MessageOf, GroupOf, ValueType, FieldForm, Singular, Repeated, MapFrom, Field, Schema, known, field_of, is_message, is_singular, is_key_kind, is_packable_kind, field_valid, schema_valid, passes, is_list, Content, ContentOf, Entries, NoEntries, Stored, Unknown, Value, ScalarValue, MessageValue, ListValue, MapValue, Values, NoValues, Item, Pairs, NoPairs, Pair, schema_of, type_of, or_none, fits, body, records_in, numbered, last, AllowsInside, is_len, one_allowed, packed_allowed, in_entry_allowed, has_level, field_allowed, record_allowed, nothing_inside, allows, is_stray, is_stray_entry, record_at, scalar_payload, message_payload, is_default_of, entry_record, end_to_end, list_payloads, records, entries_records, field_payloads, value_payload, element_payloads, pair_payload, pair_payloads, key_of, greatest_level, stray_levels, unknown_levels, levels, entries_levels, value_levels, values_levels, pairs_levels, kind_takes, element_valid, elements_valid, pairs_valid, value_valid, is_whole_stray, unknown_fits, entries_pass, value_passes, values_pass, pairs_pass, fit_test, encodable, is_of_type, Typed, EntriesTyped, ValueTyped, ValuesTyped, PairsTyped, flat_fits, spelled_read, short_spells, items_body}
 use Rattle.prost_reflect_laws.proofs.Table.{read_back}
 use Rattle.prost_reflect_laws.proofs.Packed.{unpacked_back}
 use Rattle.prost_reflect_laws.proofs.Spelt.{sound_append}

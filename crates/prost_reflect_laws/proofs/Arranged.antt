@@ -1,5 +1,6 @@
 -- What records mean has its numbers and keys in ascending order.
-use Rattle.prost_reflect_laws.proofs.Common.{◌≡◌, ℕ, zero, suc, ◌<◌, ◌≤◌, Bool, true, false, cond, not, ◌&&◌, List, [], ◌∷◌, ◌++◌, flat_map, Option, Some, None, refl, ap, ◌∙◌, arith, ⊤, lt-ltb, le-leb, and_parts, and_from, ◌>>=◌, Record, Payload, Scalar, elem, scalar_lt, scalar_eq, Kind, ScalarOf, MessageOf, GroupOf, ValueType, FieldForm, Singular, Repeated, MapFrom, Field, Schema, known, field_of, Entries, Value, ScalarValue, Values, NoValues, Item, Pairs, NoPairs, Pair, values_from, Slot, then_unknowns, then_value, table, comes_before, key_before, ordered, entries_ordered, value_ordered, values_ordered, pairs_ordered, last, payloads, records_in, value_records, record_numbers, survive, MeansInside, present, present_list, present_map, one_value, element, scalar_values, put, put_entry, put_entries, entry_key, entry_value, field_value, meaning_at, meaning_by, empty_inside, meaning, Ascending, numbers_ascending, scalar_decides}
+use Rattle.std.specs.Prelude.{◌≡◌, ◌<◌, ◌≤◌, ◌&&◌, ◌∷◌, ◌++◌}
+use Rattle.prost_reflect_laws.proofs.Common.{ℕ, zero, suc, Bool, true, false, cond, not, List, [], flat_map, Option, Some, None, refl, ap, ◌∙◌, arith, ⊤, lt-ltb, le-leb, and_parts, and_from, ◌>>=◌, Record, Payload, Scalar, elem, scalar_lt, scalar_eq, Kind, ScalarOf, MessageOf, GroupOf, ValueType, FieldForm, Singular, Repeated, MapFrom, Field, Schema, known, field_of, Entries, Value, ScalarValue, Values, NoValues, Item, Pairs, NoPairs, Pair, values_from, Slot, then_unknowns, then_value, table, comes_before, key_before, ordered, entries_ordered, value_ordered, values_ordered, pairs_ordered, last, payloads, records_in, value_records, record_numbers, survive, MeansInside, present, present_list, present_map, one_value, element, scalar_values, put, put_entry, put_entries, entry_key, entry_value, field_value, meaning_at, meaning_by, empty_inside, meaning, Ascending, numbers_ascending, scalar_decides}
 use Rattle.prost_reflect_laws.proofs.Putting.{otherwise, before_put}
 
 pub record AllOrdered (inner : MeansInside) : Type 0 where

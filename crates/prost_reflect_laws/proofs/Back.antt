@@ -1,5 +1,6 @@
 -- The records of a content mean it.
-use Rattle.prost_reflect_laws.proofs.Common.{◌≡◌, ℕ, suc, Bool, true, false, cond, ◌&&◌, List, [], ◌∷◌, ◌++◌, map, filter, flat_map, nat_eq, Option, Some, None, refl, ap, ap₂, sym, ◌∙◌, arith, true≢false, length, ◌+◌, append-nil, append_assoc, ◌⊎◌, inl, inr, eqb-true, and_parts, or_parts, none-some, ◌>>=◌, Record, Payload, Field, Schema, known, field_of, is_sibling, ContentOf, Entries, NoEntries, Stored, Unknown, Value, value_at, unknowns_at, slot_at, numbers_in, comes_before, entries_ordered, value_ordered, has_number, value_records, unknown_payloads, meaning, steps, record_numbers, MeansInside, JoinsInside, field_value, unknowns_meaning, meaning_at, meaning_by, value_joined, value_steps, records, record_at, entries_records, field_payloads, has_value_of, numbers_ascending, slots_same, table_same, table_covers, entries_ascending, slot_outside, field_number, Joins, level_joins, flat_append, field_joins, field_nothing, surviving_value, value_all, unknowns_further, meaning_covers, block, ValueBack, EntriesBack}
+use Rattle.std.specs.Prelude.{◌≡◌, ◌&&◌, ◌∷◌, ◌++◌, ◌+◌, ◌⊎◌}
+use Rattle.prost_reflect_laws.proofs.Common.{ℕ, suc, Bool, true, false, cond, List, [], map, filter, flat_map, nat_eq, Option, Some, None, refl, ap, ap₂, sym, ◌∙◌, arith, true≢false, length, append-nil, append_assoc, inl, inr, eqb-true, and_parts, or_parts, none-some, ◌>>=◌, Record, Payload, Field, Schema, known, field_of, is_sibling, ContentOf, Entries, NoEntries, Stored, Unknown, Value, value_at, unknowns_at, slot_at, numbers_in, comes_before, entries_ordered, value_ordered, has_number, value_records, unknown_payloads, meaning, steps, record_numbers, MeansInside, JoinsInside, field_value, unknowns_meaning, meaning_at, meaning_by, value_joined, value_steps, records, record_at, entries_records, field_payloads, has_value_of, numbers_ascending, slots_same, table_same, table_covers, entries_ascending, slot_outside, field_number, Joins, level_joins, flat_append, field_joins, field_nothing, surviving_value, value_all, unknowns_further, meaning_covers, block, ValueBack, EntriesBack}
 use Rattle.prost_reflect_laws.proofs.Commuting.{steps_append, Inert, Clears, inert, effect}
 use Rattle.prost_reflect_laws.proofs.Rebuilt.{rebuilt, no_value_below}
 

@@ -1,5 +1,6 @@
 -- What the fronts of bytes leave, and where there are none.
-use Rattle.prost_reflect_laws.proofs.Common.{◌≡◌, ◌≢◌, ℕ, List, [], ◌∷◌, ◌++◌, ap, subst, ◌∙◌, WireType, AreBytes, Plain, Var, Fix64, Len, Fix32, NoRecords, Payload, Flat, Group, Key, payload_wire, KeyFront, PlainFront, DelimitedFront, RecordsFront, PayloadFront, bytes_front, bytes_behind}
+use Rattle.std.specs.Prelude.{◌≡◌, ◌≢◌, ◌∷◌, ◌++◌}
+use Rattle.prost_reflect_laws.proofs.Common.{ℕ, List, [], ap, subst, ◌∙◌, WireType, AreBytes, Plain, Var, Fix64, Len, Fix32, NoRecords, Payload, Flat, Group, Key, payload_wire, KeyFront, PlainFront, DelimitedFront, RecordsFront, PayloadFront, bytes_front, bytes_behind}
 use Rattle.prost_reflect_wire.specs.declared.key.WireType.TheVariants as wires
 
 -- No payload stands behind an end key.

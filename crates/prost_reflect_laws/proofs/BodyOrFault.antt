@@ -1,5 +1,6 @@
 -- At a place there is a body, or a fault stands there.
-use Rattle.prost_reflect_laws.proofs.Common.{◌≡◌, ◌≢◌, ℕ, zero, suc, ◌<◌, ◌≤◌, Bool, true, false, ◌&&◌, ◌||◌, ◌⊎◌, inl, inr, List, [], ◌∷◌, length, nat_eq, nat_le, Option, Some, None, refl, sym, ap, ap₂, subst, ◌∙◌, arith, length-append, true≢false, is_some, list_all, le-leb, eqb-true, eqb-false, ltb-false, and_parts, none-some, DecodeError, WireType, AreBytes, Plain, Len, Records, NoRecords, record_at, Payload, Flat, Group, before, items, payload_levels, plain_wire, payload_wire, read, ScalarKind, kind_wire, Kind, ScalarOf, MessageOf, GroupOf, ValueType, FieldForm, Singular, Repeated, MapFrom, Field, Schema, is_packable, is_message, passes, is_map, AllowsInside, body, one_allowed, packed_allowed, has_level, in_entry_allowed, field_allowed, unpacked, KeyFront, PlainFront, DelimitedFront, PayloadFront, KeyFault, PlainFault, Place, OfType, OfEntry, OfNothing, field_at, TextNext, PackedNext, same_wire, one_takes, packed_takes, takes, needs_level, opens_level, Stands, Here, Behind, InMessage, InGroup, InUnknown, InEntry, spelled_read, plain_delimited, delimited_plain, record_front, first_front, none_front, key_shorter, payload_no_longer, key_stands, end_stands, plain_stands, items_before}
+use Rattle.std.specs.Prelude.{◌≡◌, ◌≢◌, ◌<◌, ◌≤◌, ◌&&◌, ◌||◌, ◌⊎◌, ◌∷◌}
+use Rattle.prost_reflect_laws.proofs.Common.{ℕ, zero, suc, Bool, true, false, inl, inr, List, [], length, nat_eq, nat_le, Option, Some, None, refl, sym, ap, ap₂, subst, ◌∙◌, arith, length-append, true≢false, is_some, list_all, le-leb, eqb-true, eqb-false, ltb-false, and_parts, none-some, DecodeError, WireType, AreBytes, Plain, Len, Records, NoRecords, record_at, Payload, Flat, Group, before, items, payload_levels, plain_wire, payload_wire, read, ScalarKind, kind_wire, Kind, ScalarOf, MessageOf, GroupOf, ValueType, FieldForm, Singular, Repeated, MapFrom, Field, Schema, is_packable, is_message, passes, is_map, AllowsInside, body, one_allowed, packed_allowed, has_level, in_entry_allowed, field_allowed, unpacked, KeyFront, PlainFront, DelimitedFront, PayloadFront, KeyFault, PlainFault, Place, OfType, OfEntry, OfNothing, field_at, TextNext, PackedNext, same_wire, one_takes, packed_takes, takes, needs_level, opens_level, Stands, Here, Behind, InMessage, InGroup, InUnknown, InEntry, spelled_read, plain_delimited, delimited_plain, record_front, first_front, none_front, key_shorter, payload_no_longer, key_stands, end_stands, plain_stands, items_before}
 use Rattle.prost_reflect_wire.specs.declared.error.DecodeError.TheVariants as errors
 use Rattle.prost_reflect_wire.specs.declared.key.WireType.TheVariants as wires
 use Rattle.prost_reflect_laws.proofs.BodyFronts.{key_bytes, payload_bytes, delimited_bytes}

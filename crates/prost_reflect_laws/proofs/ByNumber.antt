@@ -1,5 +1,6 @@
 -- The records of one number, in records and in what is written of a meaning.
-use Rattle.prost_reflect_laws.proofs.Common.{◌≡◌, ℕ, suc, Bool, true, false, cond, not, ◌&&◌, ◌||◌, List, [], ◌∷◌, ◌++◌, map, filter, flat_map, nat_eq, Option, Some, None, refl, ap, ap₂, sym, subst, ◌∙◌, arith, append-nil, append_assoc, eqb-true, eq-eqb, and_parts, and_from, or_parts, list_any, list_all, list_all-append, Record, Payload, Flat, Group, before, body_of, number_valid, payload_valid, plain_valid, valid, Field, field_of, is_sibling, Entries, Value, Slot, then_unknowns, then_value, store, table, payloads, has_number, numbered, value_records, value_payloads, stray_payloads, unknown_payloads, after_last, survive, record_at, entries_records, field_payloads, Ascending, is_in, not_in, Covers, eqb-sym, field_number, filter_append, map_append, all_after, block}
+use Rattle.std.specs.Prelude.{◌≡◌, ◌&&◌, ◌||◌, ◌∷◌, ◌++◌}
+use Rattle.prost_reflect_laws.proofs.Common.{ℕ, suc, Bool, true, false, cond, not, List, [], map, filter, flat_map, nat_eq, Option, Some, None, refl, ap, ap₂, sym, subst, ◌∙◌, arith, append-nil, append_assoc, eqb-true, eq-eqb, and_parts, and_from, or_parts, list_any, list_all, list_all-append, Record, Payload, Flat, Group, before, body_of, number_valid, payload_valid, plain_valid, valid, Field, field_of, is_sibling, Entries, Value, Slot, then_unknowns, then_value, store, table, payloads, has_number, numbered, value_records, value_payloads, stray_payloads, unknown_payloads, after_last, survive, record_at, entries_records, field_payloads, Ascending, is_in, not_in, Covers, eqb-sym, field_number, filter_append, map_append, all_after, block}
 use Rattle.prost_reflect_laws.proofs.Commuting.{value_records_block}
 use Rattle.prost_reflect_laws.proofs.Values.{value_records_known, unknown_known}
 use Rattle.prost_reflect_laws.proofs.Spelt.{Sound, sound_append}

@@ -1,5 +1,6 @@
 -- Contents of one type that are written equally are equal.
-use Rattle.prost_reflect_laws.proofs.Common.{◌≡◌, ℕ, ◌+◌, ap, sym, ◌∙◌, arith, items, body_of, Spells, Content, schema_of, type_of, meaning, records, encoded, levels, one_reading, items_body, Writable}
+use Rattle.std.specs.Prelude.{◌≡◌, ◌+◌}
+use Rattle.prost_reflect_laws.proofs.Common.{ℕ, ap, sym, ◌∙◌, arith, items, body_of, Spells, Content, schema_of, type_of, meaning, records, encoded, levels, one_reading, items_body, Writable}
 use Rattle.prost_reflect_laws.proofs.Means.{records_mean, encoded_spells}
 
 pub canonicity : (c d : Content) → Writable c → Writable d → schema_of c ≡ schema_of d → type_of c ≡ type_of d → encoded c ≡ encoded d → c ≡ d

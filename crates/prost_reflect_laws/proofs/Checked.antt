@@ -1,5 +1,6 @@
 -- What the checks of a schema say of its fields.
-use Rattle.prost_reflect_laws.proofs.Common.{◌≡◌, ℕ, zero, suc, Bool, true, false, cond, not, ◌&&◌, ◌||◌, List, [], ◌∷◌, nat_eq, Option, Some, None, refl, ap, sym, ◌∙◌, list_all, is_some, and_parts, number_valid, ValueType, Repeated, MapFrom, Field, MessageType, Schema, known, field_of, is_key_kind, has_kind_default, is_group, is_packable_kind, is_bare, message_has_presence, kind_valid, default_valid, form_valid, oneof_valid, field_valid, numbers_differ, schema_valid, field_number}
+use Rattle.std.specs.Prelude.{◌≡◌, ◌&&◌, ◌||◌, ◌∷◌}
+use Rattle.prost_reflect_laws.proofs.Common.{ℕ, zero, suc, Bool, true, false, cond, not, List, [], nat_eq, Option, Some, None, refl, ap, sym, ◌∙◌, list_all, is_some, and_parts, number_valid, ValueType, Repeated, MapFrom, Field, MessageType, Schema, known, field_of, is_key_kind, has_kind_default, is_group, is_packable_kind, is_bare, message_has_presence, kind_valid, default_valid, form_valid, oneof_valid, field_valid, numbers_differ, schema_valid, field_number}
 
 pub known_valid : (schema : Schema) (T : ℕ) → schema_valid schema ≡ true → list_all (field_valid schema) (known schema T) ≡ true
 known_valid schema T h = go schema T h

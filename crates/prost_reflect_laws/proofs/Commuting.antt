@@ -1,5 +1,6 @@
 -- Records of different numbers that share no oneof commute in what they mean.
-use Rattle.prost_reflect_laws.proofs.Common.{◌≡◌, ◌≢◌, ℕ, zero, suc, Bool, true, false, cond, List, [], ◌∷◌, ◌++◌, map, filter, flat_map, nat_eq, Option, Some, None, refl, ap, ap₂, sym, ◌∙◌, true≢false, ◌⊎◌, inl, inr, ne_eqb, eqb-true, ◌>>=◌, Record, Payload, Field, Schema, known, field_of, is_sibling, Value, has_number, value_records, value_payloads, unknown_payloads, MeansInside, JoinsInside, value_meaning, unknowns_meaning, meaning_at, meaning_by, empty_inside, joins_nothing, meaning, value_joined, value_step, value_steps, steps, slots_same, field_number, Joins, flat_append, surviving_value, value_all, unknowns_further, meaning_same, nothing_joins, level_joins, Apart, block}
+use Rattle.std.specs.Prelude.{◌≡◌, ◌≢◌, ◌∷◌, ◌++◌, ◌⊎◌}
+use Rattle.prost_reflect_laws.proofs.Common.{ℕ, zero, suc, Bool, true, false, cond, List, [], map, filter, flat_map, nat_eq, Option, Some, None, refl, ap, ap₂, sym, ◌∙◌, true≢false, inl, inr, ne_eqb, eqb-true, ◌>>=◌, Record, Payload, Field, Schema, known, field_of, is_sibling, Value, has_number, value_records, value_payloads, unknown_payloads, MeansInside, JoinsInside, value_meaning, unknowns_meaning, meaning_at, meaning_by, empty_inside, joins_nothing, meaning, value_joined, value_step, value_steps, steps, slots_same, field_number, Joins, flat_append, surviving_value, value_all, unknowns_further, meaning_same, nothing_joins, level_joins, Apart, block}
 
 pub steps_append : (inner : MeansInside) (further : JoinsInside) (fields : List Field) (f : Field) (o : Option Value) (xs ys : List Record) →
     value_steps inner further fields f o (xs ++ ys) ≡ value_steps inner further fields f (value_steps inner further fields f o xs) ys

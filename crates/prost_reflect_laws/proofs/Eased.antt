@@ -1,5 +1,6 @@
 -- Contents that fit, seen by types in which each single field has presence and no field is in a oneof: they are written as before, and are well-typed there.
-use Rattle.prost_reflect_laws.proofs.Common.{◌≡◌, ℕ, zero, suc, ◌^◌, ◌<◌, Bool, true, false, cond, not, ◌&&◌, ◌||◌, List, [], ◌∷◌, ◌++◌, map, length, nat_eq, nat_lt, Option, Some, None, refl, ap, ap₂, sym, ◌∙◌, subst, true≢false, list_any, list_all, and_parts, and_from, or-true, Payload, Record, spelled, payload_valid, Scalar, Enum, Closed, Kind, ScalarOf, MessageOf, GroupOf, ValueType, FieldForm, Singular, Repeated, MapFrom, Field, MessageType, Schema, message_type, known, field_of, same_oneof, is_sibling, is_message, is_singular, is_bare, message_has_presence, kind_valid, form_valid, field_valid, numbers_differ, schema_valid, passes, is_list, Content, ContentOf, Entries, NoEntries, Stored, Unknown, Value, ScalarValue, MessageValue, ListValue, MapValue, Values, NoValues, Item, Pairs, NoPairs, Pair, schema_of, type_of, comes_before, key_before, ordered, entries_ordered, value_ordered, values_ordered, pairs_ordered, record_at, message_payload, is_default_of, entry_payload, list_payloads, key_of, records, entries_records, field_payloads, value_payload, element_payloads, pair_payloads, encoded, kind_takes, element_valid, elements_valid, pairs_valid, value_valid, is_whole_stray, unknown_fits, EntryTest, everywhere, entries_pass, value_passes, values_pass, pairs_pass, fit_test, is_alone, alone_test, is_empty_value, is_stored_default, filled_test, default_test, kind_for, IsOf, Typed, EntriesTyped, ValueTyped, ValuesTyped, PairsTyped, Writable, Spellable}
+use Rattle.std.specs.Prelude.{◌≡◌, ◌^◌, ◌<◌, ◌&&◌, ◌||◌, ◌∷◌, ◌++◌}
+use Rattle.prost_reflect_laws.proofs.Common.{ℕ, zero, suc, Bool, true, false, cond, not, List, [], map, length, nat_eq, nat_lt, Option, Some, None, refl, ap, ap₂, sym, ◌∙◌, subst, true≢false, list_any, list_all, and_parts, and_from, or-true, Payload, Record, spelled, payload_valid, Scalar, Enum, Closed, Kind, ScalarOf, MessageOf, GroupOf, ValueType, FieldForm, Singular, Repeated, MapFrom, Field, MessageType, Schema, message_type, known, field_of, same_oneof, is_sibling, is_message, is_singular, is_bare, message_has_presence, kind_valid, form_valid, field_valid, numbers_differ, schema_valid, passes, is_list, Content, ContentOf, Entries, NoEntries, Stored, Unknown, Value, ScalarValue, MessageValue, ListValue, MapValue, Values, NoValues, Item, Pairs, NoPairs, Pair, schema_of, type_of, comes_before, key_before, ordered, entries_ordered, value_ordered, values_ordered, pairs_ordered, record_at, message_payload, is_default_of, entry_payload, list_payloads, key_of, records, entries_records, field_payloads, value_payload, element_payloads, pair_payloads, encoded, kind_takes, element_valid, elements_valid, pairs_valid, value_valid, is_whole_stray, unknown_fits, EntryTest, everywhere, entries_pass, value_passes, values_pass, pairs_pass, fit_test, is_alone, alone_test, is_empty_value, is_stored_default, filled_test, default_test, kind_for, IsOf, Typed, EntriesTyped, ValueTyped, ValuesTyped, PairsTyped, Writable, Spellable}
 use Rattle.prost_reflect_laws.proofs.Checked.{CheckedField, checked_field, CheckedList, checked_list, CheckedMap, checked_map}
 use Rattle.prost_reflect_laws.proofs.Everywhere.{stored_passes}
 use Rattle.prost_reflect_laws.proofs.Canonical.{canonicity}

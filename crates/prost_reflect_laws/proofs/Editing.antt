@@ -1,5 +1,6 @@
 -- A value set at a path through an older type of a reduction is set there in what the newer one reads.
-use Rattle.prost_reflect_laws.proofs.Common.{◌≡◌, ℕ, zero, suc, ◌≤◌, ◌<◌, ◌^◌, nat_lt, true, false, List, [], ◌∷◌, flat_map, length, Option, Some, None, refl, ap, sym, subst, ◌∙◌, arith, list_all, lt-ltb, eq-eqb, AreBytes, ◌>>=◌, Payload, Record, items, body_of, valid, Kind, ScalarOf, MessageOf, GroupOf, Singular, Field, Schema, known, field_of, schema_valid, Content, ContentOf, Entries, Value, MessageValue, Slot, value_at, table, schema_of, type_of, empty, AllowsInside, payloads, value_records, record_allowed, nothing_inside, allows, Accepts, MeansInside, joined, message_value, one_value, record_numbers, survive, field_value, meaning_at, meaning_by, empty_inside, meaning, decoded, records, entries_records, encoded, is_of_type, kept, kept_value, kept_inside, ValueStored, with_field_value, set_field, default_of, default_value, value_or_default, in_message, set_at, message_of_kind, PathTo, holds_message, edited, TypePairs, holds, Ascending, Covers, numbers_ascending, slot_table, field_number, surviving_value, meaning_covers, meaning_empty}
+use Rattle.std.specs.Prelude.{◌≡◌, ◌≤◌, ◌<◌, ◌^◌, ◌∷◌}
+use Rattle.prost_reflect_laws.proofs.Common.{ℕ, zero, suc, nat_lt, true, false, List, [], flat_map, length, Option, Some, None, refl, ap, sym, subst, ◌∙◌, arith, list_all, lt-ltb, eq-eqb, AreBytes, ◌>>=◌, Payload, Record, items, body_of, valid, Kind, ScalarOf, MessageOf, GroupOf, Singular, Field, Schema, known, field_of, schema_valid, Content, ContentOf, Entries, Value, MessageValue, Slot, value_at, table, schema_of, type_of, empty, AllowsInside, payloads, value_records, record_allowed, nothing_inside, allows, Accepts, MeansInside, joined, message_value, one_value, record_numbers, survive, field_value, meaning_at, meaning_by, empty_inside, meaning, decoded, records, entries_records, encoded, is_of_type, kept, kept_value, kept_inside, ValueStored, with_field_value, set_field, default_of, default_value, value_or_default, in_message, set_at, message_of_kind, PathTo, holds_message, edited, TypePairs, holds, Ascending, Covers, numbers_ascending, slot_table, field_number, surviving_value, meaning_covers, meaning_empty}
 use Rattle.prost_reflect_laws.proofs.Checked.{checked_field, found_valid}
 use Rattle.prost_reflect_laws.proofs.Spelt.{Sound}
 use Rattle.prost_reflect_laws.proofs.Setting.{set_well, in_found}

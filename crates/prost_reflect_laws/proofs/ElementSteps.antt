@@ -1,5 +1,6 @@
 -- A message or a group as one more element of a list, read into a content that holds: its records are read into an empty message, which goes behind the elements that are there.
-use Rattle.prost_reflect_laws.proofs.Common.{◌≡◌, ℕ, suc, ◌≤◌, Bool, true, not, ◌||◌, List, [], ◌∷◌, filter, Option, Some, None, refl, ap, ap₂, sym, ◌∙◌, subst, arith, and_parts, and_from, WireType, ◌>>=◌, Len, Records, Record, Payload, Flat, Group, items, body_of, raw_levels, KeyFront, DelimitedFront, ValueFront, Kind, ScalarOf, MessageOf, GroupOf, Repeated, Field, Schema, known, field_of, numbers_differ, passes, is_list, Content, ContentOf, Entries, Value, ScalarValue, MessageValue, ListValue, MapValue, Values, NoValues, Item, values_from, ◌and_then◌, value_at, slot_at, changed, empty, type_of, value_ordered, values_ordered, body, or_none, records_in, is_stray, one_allowed, packed_allowed, field_allowed, element_payloads_in, value_payloads, stray_payloads, MeansInside, element, present_list, values_in, value_joined, steps, kept, kept_value, kept_inside, kept_values, elements_valid, value_valid, EntryTest, value_passes, values_pass, fit_test, alone_test, kind_for, ValueTyped, ValuesTyped, WellStored, ValueStored, message_of_kind, greatest_level, with_stored, ReadTo, Holds, Step, spelled_read, items_body, meaning_steps, meaning_empty, values_present}
+use Rattle.std.specs.Prelude.{◌≡◌, ◌≤◌, ◌||◌, ◌∷◌}
+use Rattle.prost_reflect_laws.proofs.Common.{ℕ, suc, Bool, true, not, List, [], filter, Option, Some, None, refl, ap, ap₂, sym, ◌∙◌, subst, arith, and_parts, and_from, WireType, ◌>>=◌, Len, Records, Record, Payload, Flat, Group, items, body_of, raw_levels, KeyFront, DelimitedFront, ValueFront, Kind, ScalarOf, MessageOf, GroupOf, Repeated, Field, Schema, known, field_of, numbers_differ, passes, is_list, Content, ContentOf, Entries, Value, ScalarValue, MessageValue, ListValue, MapValue, Values, NoValues, Item, values_from, ◌and_then◌, value_at, slot_at, changed, empty, type_of, value_ordered, values_ordered, body, or_none, records_in, is_stray, one_allowed, packed_allowed, field_allowed, element_payloads_in, value_payloads, stray_payloads, MeansInside, element, present_list, values_in, value_joined, steps, kept, kept_value, kept_inside, kept_values, elements_valid, value_valid, EntryTest, value_passes, values_pass, fit_test, alone_test, kind_for, ValueTyped, ValuesTyped, WellStored, ValueStored, message_of_kind, greatest_level, with_stored, ReadTo, Holds, Step, spelled_read, items_body, meaning_steps, meaning_empty, values_present}
 use Rattle.prost_reflect_wire.specs.declared.key.WireType.TheVariants as wires
 use Rattle.prost_reflect_laws.proofs.Older.{items_level, allowed_levels}
 use Rattle.prost_reflect_laws.proofs.Allowed.{inside}

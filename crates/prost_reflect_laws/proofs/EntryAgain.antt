@@ -1,5 +1,6 @@
 -- An entry of a map, carried through a reduction.
-use Rattle.prost_reflect_laws.proofs.Common.{◌≡◌, ℕ, nat_eq, nat_lt, nat_le, eq-eqb, Bool, true, false, cond, not, ◌&&◌, List, [], ◌∷◌, ◌++◌, Option, Some, None, refl, ap, ap₂, sym, subst, ◌∙◌, arith, true≢false, is_some, list_all, eqb-true, ne_eqb, and_parts, and_from, not-true, list_all-append, ◌>>=◌, Payload, Record, body_of, payload_levels, payload_valid, valid, Scalar, ScalarKind, elem, scalar_valid, scalar_eq, kind_default, is_undeclared, Kind, ScalarOf, MessageOf, GroupOf, ValueType, MapFrom, is_key_kind, has_kind_default, default_valid, passes, Value, ScalarValue, MessageValue, AllowsInside, numbered, last, body, records_in, is_stray, is_stray_entry, is_len, one_allowed, in_entry_allowed, has_level, field_allowed, MeansInside, joined, last_or, entry_key, entry_value, record_at, scalar_payload, is_default_of, entry_record, value_payload, pair_payload, kind_takes, is_of_type, TypePairs, same_kind, same_default, passes_in, scalar_decides}
+use Rattle.std.specs.Prelude.{◌≡◌, ◌&&◌, ◌∷◌, ◌++◌}
+use Rattle.prost_reflect_laws.proofs.Common.{ℕ, nat_eq, nat_lt, nat_le, eq-eqb, Bool, true, false, cond, not, List, [], Option, Some, None, refl, ap, ap₂, sym, subst, ◌∙◌, arith, true≢false, is_some, list_all, eqb-true, ne_eqb, and_parts, and_from, not-true, list_all-append, ◌>>=◌, Payload, Record, body_of, payload_levels, payload_valid, valid, Scalar, ScalarKind, elem, scalar_valid, scalar_eq, kind_default, is_undeclared, Kind, ScalarOf, MessageOf, GroupOf, ValueType, MapFrom, is_key_kind, has_kind_default, default_valid, passes, Value, ScalarValue, MessageValue, AllowsInside, numbered, last, body, records_in, is_stray, is_stray_entry, is_len, one_allowed, in_entry_allowed, has_level, field_allowed, MeansInside, joined, last_or, entry_key, entry_value, record_at, scalar_payload, is_default_of, entry_record, value_payload, pair_payload, kind_takes, is_of_type, TypePairs, same_kind, same_default, passes_in, scalar_decides}
 use Rattle.prost_reflect_laws.proofs.Table.{read_back}
 use Rattle.prost_reflect_laws.proofs.Values.{records_back}
 use Rattle.prost_reflect_laws.proofs.Spelt.{Sound, SoundPayload, sound_append, message_sound}

@@ -1,5 +1,6 @@
 -- Of an entry: the last scalar of a number, or the default.
-use Rattle.prost_reflect_laws.proofs.Common.{◌≡◌, Bool, true, false, not, List, Option, Some, None, refl, ap, sym, ◌∙◌, true≢false, list_all, is_utf8, chars, and_parts, same_Some, ◌>>=◌, Payload, Var, Fix64, Len, Fix32, Flat, Group, payload_valid, Scalar, EnumNumber, ScalarKind, Double, Float, StringKind, BytesKind, Enum, elem, kind_default, is_declared, is_undeclared, in_i32, scalar_valid, ScalarOf, is_key_kind, last, last_or, last_passes}
+use Rattle.std.specs.Prelude.{◌≡◌}
+use Rattle.prost_reflect_laws.proofs.Common.{Bool, true, false, not, List, Option, Some, None, refl, ap, sym, ◌∙◌, true≢false, list_all, is_utf8, chars, and_parts, same_Some, ◌>>=◌, Payload, Var, Fix64, Len, Fix32, Flat, Group, payload_valid, Scalar, EnumNumber, ScalarKind, Double, Float, StringKind, BytesKind, Enum, elem, kind_default, is_declared, is_undeclared, in_i32, scalar_valid, ScalarOf, is_key_kind, last, last_or, last_passes}
 use Rattle.prost_reflect_laws.proofs.Declared.{read_valid}
 
 -- kinds of keys have valid defaults, and no strays

@@ -1,5 +1,6 @@
 -- The records of an entry, read one behind another: each key and each value takes the place of the one before, and other records are passed over.
-use Rattle.prost_reflect_laws.proofs.Common.{◌≡◌, ◌≢◌, ℕ, Bool, true, false, cond, List, [], ◌∷◌, ◌++◌, nat_eq, nat_le, Option, Some, None, refl, ap, ap₂, sym, subst, ◌∙◌, append-nil, is_some, eqb-true, le-leb, and_from, none-some, DecodeError, WireType, ◌>>=◌, Record, Payload, Flat, record_at, body_of, payload_levels, KeyFront, RecordFront, KeyFault, Scalar, ScalarKind, elem, kind_default, ValueType, Schema, Value, ScalarValue, AllowsInside, nothing_inside, has_number, payloads, numbered, last, fits, in_entry_allowed, MeansInside, empty_inside, last_or, entry_key, entry_value, Stands, entry_field, field_at, ValueFault, ScalarRead, ScalarFault, EntryTo, EntryPlace, plain_type, ScalarEntryTo, StandsInEntry, all_append, filter_append, map_append, last_append, record_front, last_front, none_front, key_stands, value_stands, stands_behind}
+use Rattle.std.specs.Prelude.{◌≡◌, ◌≢◌, ◌∷◌, ◌++◌}
+use Rattle.prost_reflect_laws.proofs.Common.{ℕ, Bool, true, false, cond, List, [], nat_eq, nat_le, Option, Some, None, refl, ap, ap₂, sym, subst, ◌∙◌, append-nil, is_some, eqb-true, le-leb, and_from, none-some, DecodeError, WireType, ◌>>=◌, Record, Payload, Flat, record_at, body_of, payload_levels, KeyFront, RecordFront, KeyFault, Scalar, ScalarKind, elem, kind_default, ValueType, Schema, Value, ScalarValue, AllowsInside, nothing_inside, has_number, payloads, numbered, last, fits, in_entry_allowed, MeansInside, empty_inside, last_or, entry_key, entry_value, Stands, entry_field, field_at, ValueFault, ScalarRead, ScalarFault, EntryTo, EntryPlace, plain_type, ScalarEntryTo, StandsInEntry, all_append, filter_append, map_append, last_append, record_front, last_front, none_front, key_stands, value_stands, stands_behind}
 use Rattle.prost_reflect_wire.specs.Unknown.{SkipsValue}
 use Rattle.prost_reflect_laws.proofs.ScalarFaults.{scalar_stands}
 

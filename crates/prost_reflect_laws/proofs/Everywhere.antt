@@ -1,5 +1,6 @@
 -- Tests of every entry at every depth.
-use Rattle.prost_reflect_laws.proofs.Common.{◌≡◌, ℕ, true, ◌&&◌, List, refl, and_parts, and_from, Field, known, Content, ContentOf, Entries, NoEntries, Stored, Unknown, Value, ScalarValue, MessageValue, ListValue, MapValue, Values, NoValues, Item, Pairs, NoPairs, Pair, EntryTest, everywhere, entries_pass, value_passes, values_pass, pairs_pass}
+use Rattle.std.specs.Prelude.{◌≡◌, ◌&&◌}
+use Rattle.prost_reflect_laws.proofs.Common.{ℕ, true, List, refl, and_parts, and_from, Field, known, Content, ContentOf, Entries, NoEntries, Stored, Unknown, Value, ScalarValue, MessageValue, ListValue, MapValue, Values, NoValues, Item, Pairs, NoPairs, Pair, EntryTest, everywhere, entries_pass, value_passes, values_pass, pairs_pass}
 
 -- what a test says of a value and what stands behind it
 pub record StoredPasses (test : EntryTest) (fields : List Field) (n : ℕ) (v : Value) (es : Entries) : Type 0 where

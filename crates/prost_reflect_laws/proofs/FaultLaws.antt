@@ -1,5 +1,6 @@
 -- Bytes are accepted unless a fault stands in them.
-use Rattle.prost_reflect_laws.proofs.Common.{◌≡◌, ◌≢◌, ◌↔◌, ℕ, suc, Bool, true, false, inl, inr, List, [], length, None, refl, sym, subst, ◌∙◌, arith, append-nil, true≢false, AreBytes, items, Schema, Accepts, accepts, Place, OfType, Comes, Stands, Here, Behind, InMessage, InGroup, InUnknown, InEntry, StandsInMessage, DecodeError, only_memory}
+use Rattle.std.specs.Prelude.{◌≡◌, ◌≢◌, ◌↔◌}
+use Rattle.prost_reflect_laws.proofs.Common.{ℕ, suc, Bool, true, false, inl, inr, List, [], length, None, refl, sym, subst, ◌∙◌, arith, append-nil, true≢false, AreBytes, items, Schema, Accepts, accepts, Place, OfType, Comes, Stands, Here, Behind, InMessage, InGroup, InUnknown, InEntry, StandsInMessage, DecodeError, only_memory}
 use Rattle.prost_reflect_wire.specs.declared.error.DecodeError.TheVariants as errors
 use Rattle.prost_reflect_laws.proofs.Places.{Body, allows_at, body_spells}
 use Rattle.prost_reflect_laws.proofs.Accepted.{accepts_is_test}

@@ -1,5 +1,6 @@
 -- The members of a oneof, in two message types of a reduction; and that one of them alone has a value.
-use Rattle.prost_reflect_laws.proofs.Common.{◌≡◌, ℕ, Bool, true, false, cond, not, ◌&&◌, ◌||◌, List, [], ◌∷◌, filter, nat_eq, Option, Some, None, refl, ap, ap₂, sym, ◌∙◌, true≢false, eqb-true, eq-eqb, and_parts, or_parts, not-true, beq, list_any, Record, Field, field_of, same_oneof, is_sibling, passes, after_last, TypePairs, is_known, has_no_fellow, beq_same, eqb-sym, field_number, filter_none, survive_none, after_cons}
+use Rattle.std.specs.Prelude.{◌≡◌, ◌&&◌, ◌||◌, ◌∷◌}
+use Rattle.prost_reflect_laws.proofs.Common.{ℕ, Bool, true, false, cond, not, List, [], filter, nat_eq, Option, Some, None, refl, ap, ap₂, sym, ◌∙◌, true≢false, eqb-true, eq-eqb, and_parts, or_parts, not-true, beq, list_any, Record, Field, field_of, same_oneof, is_sibling, passes, after_last, TypePairs, is_known, has_no_fellow, beq_same, eqb-sym, field_number, filter_none, survive_none, after_cons}
 use Rattle.prost_reflect_laws.proofs.Matches.{found_passes, any_found, some_field, Passing, found_any, member_at, same_oneof_sym, TypesMatch, Like}
 
 not_known : (fields : List Field) (n : ℕ) (oneof : Option ℕ) → field_of fields n ≡ None → list_any (member_at n oneof) fields ≡ false

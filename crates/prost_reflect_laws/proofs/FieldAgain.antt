@@ -1,5 +1,6 @@
 -- A field, carried through a reduction: its value by its form, and its strays.
-use Rattle.prost_reflect_laws.proofs.Common.{◌++◌, ◌≡◌, ℕ, Bool, true, cond, not, ◌&&◌, ◌||◌, List, [], ◌∷◌, filter, flat_map, Some, refl, ap, ap₂, sym, ◌∙◌, true≢false, list_all, list_all-append, and_parts, and_from, Var, Payload, Flat, payload_valid, ScalarKind, Enum, is_undeclared, Kind, ScalarOf, ValueType, FieldForm, Singular, Repeated, MapFrom, Field, Schema, AllowsInside, fits, is_stray, is_stray_entry, element_payloads_in, value_payloads, stray_payloads, one_allowed, packed_allowed, field_allowed, MeansInside, field_value, TypePairs, same_form, all_filter, all_implied, source_allowed, value_records_allowed, filter_passes}
+use Rattle.std.specs.Prelude.{◌++◌, ◌≡◌, ◌&&◌, ◌||◌, ◌∷◌}
+use Rattle.prost_reflect_laws.proofs.Common.{ℕ, Bool, true, cond, not, List, [], filter, flat_map, Some, refl, ap, ap₂, sym, ◌∙◌, true≢false, list_all, list_all-append, and_parts, and_from, Var, Payload, Flat, payload_valid, ScalarKind, Enum, is_undeclared, Kind, ScalarOf, ValueType, FieldForm, Singular, Repeated, MapFrom, Field, Schema, AllowsInside, fits, is_stray, is_stray_entry, element_payloads_in, value_payloads, stray_payloads, one_allowed, packed_allowed, field_allowed, MeansInside, field_value, TypePairs, same_form, all_filter, all_implied, source_allowed, value_records_allowed, filter_passes}
 use Rattle.prost_reflect_laws.proofs.Checked.{CheckedField, CheckedList, checked_list, CheckedMap, checked_map}
 use Rattle.prost_reflect_laws.proofs.Alike.{SameType, same_type}
 use Rattle.prost_reflect_laws.proofs.ByNumber.{stored_payloads}

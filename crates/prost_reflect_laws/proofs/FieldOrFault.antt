@@ -1,5 +1,6 @@
 -- Either a field within the levels is at the front of the bytes, or a fault stands in it.
-use Rattle.prost_reflect_laws.proofs.Common.{◌≡◌, ℕ, zero, suc, ◌+◌, ◌*◌, ◌/◌, ◌%◌, ◌^◌, ◌<◌, ◌≤◌, List, [], ◌∷◌, length, get_or, take, drop, Some, refl, sym, subst, arith, inl, inr, ◌⊎◌, cases_lt, cases_eq, DecodeError, WireType, AreBytes, Varint, bytes_behind, short_key_front, wire_small, Plain, Var, Fix64, Len, Fix32, Records, NoRecords, record_at, Payload, Flat, Group, before, plain_wire, payload_wire, wire_code, raw_levels, payload_levels, VarintFront, VarintFault, KeyFront, KeyFault, PlainFront, GroupFront, PayloadFront, ValueFront, OfNothing, Stands, Behind, StandsInField, StandsInValue, ValueFault, delimited_cut, delimited_plain, record_front, first_front, none_front, levels_first, key_shorter, payload_no_longer, field_front, key_stands, end_stands, value_stands, key_stands_in_field, value_stands_in_field, value_stands_in_value}
+use Rattle.std.specs.Prelude.{◌≡◌, ◌+◌, ◌*◌, ◌/◌, ◌%◌, ◌^◌, ◌<◌, ◌≤◌, ◌∷◌, ◌⊎◌}
+use Rattle.prost_reflect_laws.proofs.Common.{ℕ, zero, suc, List, [], length, get_or, take, drop, Some, refl, sym, subst, arith, inl, inr, cases_lt, cases_eq, DecodeError, WireType, AreBytes, Varint, bytes_behind, short_key_front, wire_small, Plain, Var, Fix64, Len, Fix32, Records, NoRecords, record_at, Payload, Flat, Group, before, plain_wire, payload_wire, wire_code, raw_levels, payload_levels, VarintFront, VarintFault, KeyFront, KeyFault, PlainFront, GroupFront, PayloadFront, ValueFront, OfNothing, Stands, Behind, StandsInField, StandsInValue, ValueFault, delimited_cut, delimited_plain, record_front, first_front, none_front, levels_first, key_shorter, payload_no_longer, field_front, key_stands, end_stands, value_stands, key_stands_in_field, value_stands_in_field, value_stands_in_value}
 use Rattle.std.proofs.lemmas.List.{length-take, take-append-drop}
 use Rattle.prost_reflect_wire.specs.declared.error.DecodeError.TheVariants as errors
 use Rattle.prost_reflect_wire.specs.declared.key.WireType.TheVariants as wires

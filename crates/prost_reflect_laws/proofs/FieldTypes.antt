@@ -1,5 +1,6 @@
 -- What is known of a field from a value that fits it.
-use Rattle.prost_reflect_laws.proofs.Common.{◌≡◌, Bool, true, Option, Some, None, refl, sym, subst, true≢false, and_parts, Kind, FieldForm, Singular, Repeated, Field, Schema, is_message, is_singular, passes, is_list, Value, ScalarValue, MessageValue, ListValue, MapValue, elements_valid, value_valid, own_kind, kind_for, ValueTyped}
+use Rattle.std.specs.Prelude.{◌≡◌}
+use Rattle.prost_reflect_laws.proofs.Common.{Bool, true, Option, Some, None, refl, sym, subst, true≢false, and_parts, Kind, FieldForm, Singular, Repeated, Field, Schema, is_message, is_singular, passes, is_list, Value, ScalarValue, MessageValue, ListValue, MapValue, elements_valid, value_valid, own_kind, kind_for, ValueTyped}
 
 pub singular : (c : FieldForm) → is_singular c ≡ true → c ≡ Singular
 singular Singular h = refl

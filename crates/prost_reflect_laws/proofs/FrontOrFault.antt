@@ -1,5 +1,6 @@
 -- At the front of bytes there is a key or a plain payload, or what keeps it from standing there.
-use Rattle.prost_reflect_laws.proofs.Common.{◌≡◌, ◌≢◌, ℕ, ◌⊎◌, inl, inr, List, sym, DecodeError, WireType, AreBytes, Plain, Payload, Flat, Group, plain_wire, payload_wire, KeyFront, PlainFront, PayloadFront, KeyFault, PlainFault, ValueComes}
+use Rattle.std.specs.Prelude.{◌≡◌, ◌≢◌, ◌⊎◌}
+use Rattle.prost_reflect_laws.proofs.Common.{ℕ, inl, inr, List, sym, DecodeError, WireType, AreBytes, Plain, Payload, Flat, Group, plain_wire, payload_wire, KeyFront, PlainFront, PayloadFront, KeyFault, PlainFault, ValueComes}
 use Rattle.prost_reflect_wire.specs.declared.error.DecodeError.TheVariants as errors
 use Rattle.prost_reflect_wire.specs.declared.key.WireType.TheVariants as wires
 use Rattle.prost_reflect_laws.proofs.FieldOrFault.{KeyRead, KeyHere, NoKeyHere, key_or_fault, ValueRead, ValueHere, NoValue, value_or_fault}

@@ -1,5 +1,6 @@
 -- Records that are allowed keep a content well-typed and within the levels that are left.
-use Rattle.prost_reflect_laws.proofs.Common.{◌≡◌, ℕ, zero, suc, ◌≤◌, Bool, true, false, cond, not, ◌&&◌, List, [], ◌∷◌, map, nat_eq, nat_le, Option, Some, None, refl, ap, ap₂, sym, ◌∙◌, subst, arith, true≢false, list_all, eqb-true, and_parts, and_from, ◌>>=◌, Payload, Record, body_of, number_valid, valid, payload_valid, payload_levels, ValueType, FieldForm, Singular, Repeated, MapFrom, Field, Schema, known, field_of, is_sibling, numbers_differ, field_valid, schema_valid, passes, Content, ContentOf, Entries, Value, Slot, schema_of, type_of, empty, slot_at, changed, insert_number, numbers_in, AllowsInside, field_allowed, record_allowed, nothing_inside, allows, element_payloads_in, is_stray, is_stray_entry, value_payloads, value_records, unknown_payloads, MeansInside, JoinsInside, value_step, value_steps, value_behind, value_joined, slot_step, steps_by, empty_inside, joins_nothing, meaning, steps, levels, value_valid, WellTyped, all_append, source_allowed, element_allowed, elements_in_allowed, allows_append, insert_ascending, entries_ascending, eqb-sym, field_number, meaning_steps, meaning_empty, block}
+use Rattle.std.specs.Prelude.{◌≡◌, ◌≤◌, ◌&&◌, ◌∷◌}
+use Rattle.prost_reflect_laws.proofs.Common.{ℕ, zero, suc, Bool, true, false, cond, not, List, [], map, nat_eq, nat_le, Option, Some, None, refl, ap, ap₂, sym, ◌∙◌, subst, arith, true≢false, list_all, eqb-true, and_parts, and_from, ◌>>=◌, Payload, Record, body_of, number_valid, valid, payload_valid, payload_levels, ValueType, FieldForm, Singular, Repeated, MapFrom, Field, Schema, known, field_of, is_sibling, numbers_differ, field_valid, schema_valid, passes, Content, ContentOf, Entries, Value, Slot, schema_of, type_of, empty, slot_at, changed, insert_number, numbers_in, AllowsInside, field_allowed, record_allowed, nothing_inside, allows, element_payloads_in, is_stray, is_stray_entry, value_payloads, value_records, unknown_payloads, MeansInside, JoinsInside, value_step, value_steps, value_behind, value_joined, slot_step, steps_by, empty_inside, joins_nothing, meaning, steps, levels, value_valid, WellTyped, all_append, source_allowed, element_allowed, elements_in_allowed, allows_append, insert_ascending, entries_ascending, eqb-sym, field_number, meaning_steps, meaning_empty, block}
 use Rattle.prost_reflect_laws.proofs.Checked.{known_valid, known_differ, found_valid, checked_field, checked_map}
 use Rattle.prost_reflect_laws.proofs.Means.{first_valid}
 use Rattle.prost_reflect_laws.proofs.Readable.{number_spelled, elements_in_valid}

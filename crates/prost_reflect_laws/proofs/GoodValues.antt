@@ -1,5 +1,6 @@
 -- What is read of payloads that are allowed is well-typed, and nests no more levels than are left.
-use Rattle.prost_reflect_laws.proofs.Common.{◌≡◌, ℕ, suc, ◌≤◌, ◌<◌, Bool, true, false, cond, not, ◌&&◌, List, [], ◌∷◌, ◌++◌, Option, Some, None, refl, ap, sym, ◌∙◌, subst, arith, true≢false, max, list_all, eq-eqb, eqb-true, ltb-true, and_parts, and_from, not-true, ◌>>=◌, Payload, Record, body_of, valid, payload_valid, Scalar, ScalarKind, elem, scalar_lt, scalar_eq, scalar_valid, kind_default, is_undeclared, Kind, ScalarOf, MessageOf, GroupOf, ValueType, FieldForm, Singular, Repeated, MapFrom, Field, Schema, is_message, is_singular, is_key_kind, default_valid, passes, is_list, Content, Value, ScalarValue, MessageValue, ListValue, MapValue, Values, NoValues, Item, Pairs, NoPairs, Pair, schema_of, type_of, values_from, ◌and_then◌, ordered, value_ordered, values_ordered, pairs_ordered, AllowsInside, body, records_in, numbered, last, is_len, is_group_payload, one_allowed, has_level, in_entry_allowed, field_allowed, is_stray, is_stray_entry, MeansInside, JoinsInside, present, present_list, present_map, joined, element, scalar_values, last_or, put, entry_key, entry_value, put_entry, content_in, values_in, pairs_in, one_joined, value_joined, levels, value_levels, values_levels, pairs_levels, kind_takes, element_valid, elements_valid, pairs_valid, value_valid, everywhere, value_passes, values_pass, pairs_pass, is_empty_value, is_of_type, Typed, ValueTyped, ValuesTyped, PairsTyped, is_default_of, passes_in, message_in, numbered_two, element_allowed, source_allowed}
+use Rattle.std.specs.Prelude.{◌≡◌, ◌≤◌, ◌<◌, ◌&&◌, ◌∷◌, ◌++◌}
+use Rattle.prost_reflect_laws.proofs.Common.{ℕ, suc, Bool, true, false, cond, not, List, [], Option, Some, None, refl, ap, sym, ◌∙◌, subst, arith, true≢false, max, list_all, eq-eqb, eqb-true, ltb-true, and_parts, and_from, not-true, ◌>>=◌, Payload, Record, body_of, valid, payload_valid, Scalar, ScalarKind, elem, scalar_lt, scalar_eq, scalar_valid, kind_default, is_undeclared, Kind, ScalarOf, MessageOf, GroupOf, ValueType, FieldForm, Singular, Repeated, MapFrom, Field, Schema, is_message, is_singular, is_key_kind, default_valid, passes, is_list, Content, Value, ScalarValue, MessageValue, ListValue, MapValue, Values, NoValues, Item, Pairs, NoPairs, Pair, schema_of, type_of, values_from, ◌and_then◌, ordered, value_ordered, values_ordered, pairs_ordered, AllowsInside, body, records_in, numbered, last, is_len, is_group_payload, one_allowed, has_level, in_entry_allowed, field_allowed, is_stray, is_stray_entry, MeansInside, JoinsInside, present, present_list, present_map, joined, element, scalar_values, last_or, put, entry_key, entry_value, put_entry, content_in, values_in, pairs_in, one_joined, value_joined, levels, value_levels, values_levels, pairs_levels, kind_takes, element_valid, elements_valid, pairs_valid, value_valid, everywhere, value_passes, values_pass, pairs_pass, is_empty_value, is_of_type, Typed, ValueTyped, ValuesTyped, PairsTyped, is_default_of, passes_in, message_in, numbered_two, element_allowed, source_allowed}
 use Rattle.prost_reflect_laws.proofs.Arranged.{put_ordered}
 use Rattle.prost_reflect_laws.proofs.Declared.{read_valid}
 use Rattle.prost_reflect_laws.proofs.FieldTypes.{field_typed, typed_field}

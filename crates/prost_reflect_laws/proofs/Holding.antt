@@ -1,5 +1,6 @@
 -- A record read into a content that holds: a scalar where its field's value is set, a record that stays unknown where it is added.
-use Rattle.prost_reflect_laws.proofs.Common.{◌≡◌, ◌<◌, ◌≤◌, ◌^◌, ℕ, Bool, true, false, cond, ◌&&◌, List, [], ◌∷◌, ◌++◌, nat_eq, nat_le, Option, Some, None, refl, ap, sym, ◌∙◌, subst, true≢false, arith, WireType, AreBytes, Payload, Flat, Group, payload_valid, ValueFront, PayloadFront, Scalar, ScalarKind, is_undeclared, scalar_valid, ScalarOf, Singular, Field, Schema, known, field_of, is_sibling, is_singular, numbers_differ, schema_valid, passes, ContentOf, Entries, Value, ScalarValue, Slot, value_at, unknowns_at, slot_at, insert_number, numbers_in, changed, entries_ordered, fit_test, value_valid, kind_takes, unknown_fits, is_whole_stray, value_passes, entries_pass, ValueStored, WellStored, record_allowed, stray_levels, unknown_levels, record_at, with_value, with_stored, with_unknown, ScalarRead, Step, lt-ltb, le-leb, and_from, bytes_front, field_number, empty_slot, eqb-sym, insert_ascending, entries_ascending, UnknownBack}
+use Rattle.std.specs.Prelude.{◌≡◌, ◌<◌, ◌≤◌, ◌^◌, ◌&&◌, ◌∷◌, ◌++◌}
+use Rattle.prost_reflect_laws.proofs.Common.{ℕ, Bool, true, false, cond, List, [], nat_eq, nat_le, Option, Some, None, refl, ap, sym, ◌∙◌, subst, true≢false, arith, WireType, AreBytes, Payload, Flat, Group, payload_valid, ValueFront, PayloadFront, Scalar, ScalarKind, is_undeclared, scalar_valid, ScalarOf, Singular, Field, Schema, known, field_of, is_sibling, is_singular, numbers_differ, schema_valid, passes, ContentOf, Entries, Value, ScalarValue, Slot, value_at, unknowns_at, slot_at, insert_number, numbers_in, changed, entries_ordered, fit_test, value_valid, kind_takes, unknown_fits, is_whole_stray, value_passes, entries_pass, ValueStored, WellStored, record_allowed, stray_levels, unknown_levels, record_at, with_value, with_stored, with_unknown, ScalarRead, Step, lt-ltb, le-leb, and_from, bytes_front, field_number, empty_slot, eqb-sym, insert_ascending, entries_ascending, UnknownBack}
 use Rattle.prost_reflect_laws.proofs.SpelledValid.{spelled_plain_valid, spelled_valid}
 use Rattle.prost_reflect_laws.proofs.Arranged.{OrderedOption, table_ordered}
 use Rattle.prost_reflect_laws.proofs.Slotwise.{slot_changed}

@@ -1,5 +1,6 @@
 -- The records in payloads that have a spelling: they have one too, and joined they are allowed where each is.
-use Rattle.prost_reflect_laws.proofs.Common.{◌≡◌, ℕ, true, List, [], ◌∷◌, ◌++◌, refl, ap, sym, ◌∙◌, true≢false, append-nil, list_all, eqb-true, and_parts, Record, Payload, body_of, payload_valid, valid, Kind, ScalarOf, MessageOf, GroupOf, passes, AllowsInside, body, records_in, one_allowed, is_len, is_group_payload, joined, is_of_type, passes_in}
+use Rattle.std.specs.Prelude.{◌≡◌, ◌∷◌, ◌++◌}
+use Rattle.prost_reflect_laws.proofs.Common.{ℕ, true, List, [], refl, ap, sym, ◌∙◌, true≢false, append-nil, list_all, eqb-true, and_parts, Record, Payload, body_of, payload_valid, valid, Kind, ScalarOf, MessageOf, GroupOf, passes, AllowsInside, body, records_in, one_allowed, is_len, is_group_payload, joined, is_of_type, passes_in}
 use Rattle.prost_reflect_laws.proofs.Readable.{inside_spelled, append_valid}
 
 -- VALID

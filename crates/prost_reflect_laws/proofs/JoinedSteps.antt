@@ -1,5 +1,6 @@
 -- A record of a field, read into a content that holds: its payload joins the value that is there, and what comes of it is stored.
-use Rattle.prost_reflect_laws.proofs.Common.{◌≡◌, ℕ, Bool, true, false, cond, List, [], ◌∷◌, ◌++◌, nat_eq, Option, Some, None, refl, ap, sym, ◌∙◌, map, true≢false, eqb-true, eq-eqb, WireType, ◌>>=◌, Payload, ValueFront, Field, Schema, known, field_of, is_sibling, numbers_differ, ContentOf, Entries, Value, Slot, value_at, slot_at, changed, entries_ordered, field_allowed, value_payloads, stray_payloads, MeansInside, JoinsInside, value_joined, value_step, value_behind, slot_step, record_at, kept_value, kept_inside, WellStored, ValueStored, with_value, with_stored, Step, field_number, empty_slot, eqb-sym, slots_same}
+use Rattle.std.specs.Prelude.{◌≡◌, ◌∷◌, ◌++◌}
+use Rattle.prost_reflect_laws.proofs.Common.{ℕ, Bool, true, false, cond, List, [], nat_eq, Option, Some, None, refl, ap, sym, ◌∙◌, map, true≢false, eqb-true, eq-eqb, WireType, ◌>>=◌, Payload, ValueFront, Field, Schema, known, field_of, is_sibling, numbers_differ, ContentOf, Entries, Value, Slot, value_at, slot_at, changed, entries_ordered, field_allowed, value_payloads, stray_payloads, MeansInside, JoinsInside, value_joined, value_step, value_behind, slot_step, record_at, kept_value, kept_inside, WellStored, ValueStored, with_value, with_stored, Step, field_number, empty_slot, eqb-sym, slots_same}
 use Rattle.prost_reflect_laws.proofs.Allowed.{inside}
 use Rattle.prost_reflect_laws.proofs.Means.{below, further}
 use Rattle.prost_reflect_laws.proofs.Values.{value_records_known, unknown_known}

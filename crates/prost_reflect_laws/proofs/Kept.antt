@@ -1,5 +1,6 @@
 -- What is kept of what is stored.
-use Rattle.prost_reflect_laws.proofs.Common.{◌≡◌, ℕ, ◌≤◌, ◌⊎◌, inl, inr, Bool, true, false, cond, not, ◌&&◌, ◌||◌, List, Option, Some, None, refl, ap, ap₂, sym, ◌∙◌, subst, arith, true≢false, ltb-true, lt-ltb, leb-true, le-leb, and_parts, and_from, or_parts, Payload, Scalar, Kind, FieldForm, Singular, Repeated, MapFrom, Field, Schema, known, field_of, is_sibling, passes, is_list, Content, ContentOf, Entries, NoEntries, Stored, Unknown, Value, ScalarValue, MessageValue, ListValue, MapValue, Values, NoValues, Item, Pairs, NoPairs, Pair, then_value, schema_of, type_of, comes_before, key_before, ordered, entries_ordered, value_ordered, values_ordered, pairs_ordered, kind_takes, element_valid, elements_valid, pairs_valid, value_valid, EntryTest, everywhere, entries_pass, value_passes, values_pass, pairs_pass, fit_test, has_value_of, is_alone, alone_test, is_empty_value, is_stored_default, is_field_default, filled_test, default_test, kept_value, kept, kept_entries, kept_inside, kept_values, kept_pairs, kind_for, IsOf, Typed, EntriesTyped, ValueTyped, ValuesTyped, PairsTyped, WellStored, WellTyped}
+use Rattle.std.specs.Prelude.{◌≡◌, ◌≤◌, ◌⊎◌, ◌&&◌, ◌||◌}
+use Rattle.prost_reflect_laws.proofs.Common.{ℕ, inl, inr, Bool, true, false, cond, not, List, Option, Some, None, refl, ap, ap₂, sym, ◌∙◌, subst, arith, true≢false, ltb-true, lt-ltb, leb-true, le-leb, and_parts, and_from, or_parts, Payload, Scalar, Kind, FieldForm, Singular, Repeated, MapFrom, Field, Schema, known, field_of, is_sibling, passes, is_list, Content, ContentOf, Entries, NoEntries, Stored, Unknown, Value, ScalarValue, MessageValue, ListValue, MapValue, Values, NoValues, Item, Pairs, NoPairs, Pair, then_value, schema_of, type_of, comes_before, key_before, ordered, entries_ordered, value_ordered, values_ordered, pairs_ordered, kind_takes, element_valid, elements_valid, pairs_valid, value_valid, EntryTest, everywhere, entries_pass, value_passes, values_pass, pairs_pass, fit_test, has_value_of, is_alone, alone_test, is_empty_value, is_stored_default, is_field_default, filled_test, default_test, kept_value, kept, kept_entries, kept_inside, kept_values, kept_pairs, kind_for, IsOf, Typed, EntriesTyped, ValueTyped, ValuesTyped, PairsTyped, WellStored, WellTyped}
 use Rattle.prost_reflect_laws.proofs.Everywhere.{stored_passes}
 
 -- ONE ENTRY

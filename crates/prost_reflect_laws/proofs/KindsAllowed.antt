@@ -1,5 +1,6 @@
 -- Payloads of a wire type that a field takes are allowed, but for what is inside them.
-use Rattle.prost_reflect_laws.proofs.Common.{or_left, or_right, ◌≡◌, ◌≢◌, ℕ, zero, suc, ◌<◌, Bool, true, false, ◌⊎◌, inl, inr, List, [], ◌∷◌, length, Option, Some, None, refl, sym, ap, ◌∙◌, arith, length-append, true≢false, is_some, if◌then◌else◌, is_utf8, eqb-true, DecodeError, WireType, AreBytes, ◌>>=◌, Plain, Var, Fix64, Len, Fix32, Payload, Flat, SpellsPlain, wire_code, wire_of, plain_wire, plain_at, ScalarKind, Double, Float, Int64, Uint64, Int32, Fixed64, Fixed32, BoolKind, StringKind, BytesKind, Uint32, Enum, Sfixed32, Sfixed64, Sint32, Sint64, kind_wire, ValueType, FieldForm, Singular, Repeated, MapFrom, is_map, AllowsInside, fits, one_allowed, packed_allowed, field_allowed, plains_within, PlainFront, PlainFault, ElementFault, ElementEnds, ElementPasses, BehindElement, same_wire, wire_known, plain_read, varint_some}
+use Rattle.std.specs.Prelude.{◌≡◌, ◌≢◌, ◌<◌, ◌⊎◌, ◌∷◌, if◌then◌else◌}
+use Rattle.prost_reflect_laws.proofs.Common.{or_left, or_right, ℕ, zero, suc, Bool, true, false, inl, inr, List, [], length, Option, Some, None, refl, sym, ap, ◌∙◌, arith, length-append, true≢false, is_some, is_utf8, eqb-true, DecodeError, WireType, AreBytes, ◌>>=◌, Plain, Var, Fix64, Len, Fix32, Payload, Flat, SpellsPlain, wire_code, wire_of, plain_wire, plain_at, ScalarKind, Double, Float, Int64, Uint64, Int32, Fixed64, Fixed32, BoolKind, StringKind, BytesKind, Uint32, Enum, Sfixed32, Sfixed64, Sint32, Sint64, kind_wire, ValueType, FieldForm, Singular, Repeated, MapFrom, is_map, AllowsInside, fits, one_allowed, packed_allowed, field_allowed, plains_within, PlainFront, PlainFault, ElementFault, ElementEnds, ElementPasses, BehindElement, same_wire, wire_known, plain_read, varint_some}
 use Rattle.prost_reflect_wire.specs.declared.error.DecodeError.TheVariants as errors
 use Rattle.prost_reflect_wire.specs.declared.key.WireType.TheVariants as wires
 use Rattle.prost_reflect_wire.specs.Scalar as scalars

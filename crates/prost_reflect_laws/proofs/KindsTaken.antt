@@ -1,5 +1,6 @@
 -- Which payloads a field takes, by their wire types.
-use Rattle.prost_reflect_laws.proofs.Common.{or_left, or_right, ◌≡◌, ℕ, Bool, true, false, ◌&&◌, ◌||◌, List, Some, None, refl, sym, ap, ◌∙◌, true≢false, is_some, if◌then◌else◌, list_all, is_utf8, and_parts, or-false, Var, Fix64, Len, Fix32, Records, Payload, Flat, Group, payload_wire, ScalarKind, Double, Float, Int64, Uint64, Int32, Fixed64, Fixed32, BoolKind, StringKind, BytesKind, Uint32, Enum, Sfixed32, Sfixed64, Sint32, Sint64, kind_wire, Kind, ScalarOf, MessageOf, GroupOf, ValueType, FieldForm, Singular, Repeated, MapFrom, is_packable, passes, is_map, AllowsInside, fits, body, is_len, is_group_payload, one_allowed, packed_allowed, has_level, in_entry_allowed, field_allowed, unpacked, same_wire, one_takes, packed_takes, takes, plain_no_group}
+use Rattle.std.specs.Prelude.{◌≡◌, ◌&&◌, ◌||◌, if◌then◌else◌}
+use Rattle.prost_reflect_laws.proofs.Common.{or_left, or_right, ℕ, Bool, true, false, List, Some, None, refl, sym, ap, ◌∙◌, true≢false, is_some, list_all, is_utf8, and_parts, or-false, Var, Fix64, Len, Fix32, Records, Payload, Flat, Group, payload_wire, ScalarKind, Double, Float, Int64, Uint64, Int32, Fixed64, Fixed32, BoolKind, StringKind, BytesKind, Uint32, Enum, Sfixed32, Sfixed64, Sint32, Sint64, kind_wire, Kind, ScalarOf, MessageOf, GroupOf, ValueType, FieldForm, Singular, Repeated, MapFrom, is_packable, passes, is_map, AllowsInside, fits, body, is_len, is_group_payload, one_allowed, packed_allowed, has_level, in_entry_allowed, field_allowed, unpacked, same_wire, one_takes, packed_takes, takes, plain_no_group}
 use Rattle.prost_reflect_wire.specs.declared.key.WireType.TheVariants as wires
 use Rattle.prost_reflect_wire.specs.Scalar as scalars
 

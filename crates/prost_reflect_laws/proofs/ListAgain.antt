@@ -1,5 +1,6 @@
 -- A list, carried through a reduction: packing may differ.
-use Rattle.prost_reflect_laws.proofs.Common.{◌≡◌, ℕ, Bool, true, false, cond, not, ◌&&◌, ◌||◌, List, [], ◌∷◌, ◌++◌, map, filter, flat_map, eq-eqb, Option, Some, None, refl, ap, ap₂, sym, subst, ◌∙◌, true≢false, append-nil, ⊤, is_some, list_all, and_parts, and_from, not-true, Plain, Len, Payload, Flat, payload_valid, Scalar, ScalarKind, elem, scalar_valid, Kind, ScalarOf, MessageOf, GroupOf, ValueType, Repeated, Field, is_packable, is_packable_kind, Value, ScalarValue, Values, NoValues, Item, values_from, AllowsInside, or_none, unpacked, records_in, is_stray, element_payloads_in, one_allowed, packed_allowed, MeansInside, element, scalar_values, present_list, end_to_end, list_payloads, value_payload, element_payloads, elements_valid, TypePairs, same_kind, element_allowed}
+use Rattle.std.specs.Prelude.{◌≡◌, ◌&&◌, ◌||◌, ◌∷◌, ◌++◌}
+use Rattle.prost_reflect_laws.proofs.Common.{ℕ, Bool, true, false, cond, not, List, [], map, filter, flat_map, eq-eqb, Option, Some, None, refl, ap, ap₂, sym, subst, ◌∙◌, true≢false, append-nil, ⊤, is_some, list_all, and_parts, and_from, not-true, Plain, Len, Payload, Flat, payload_valid, Scalar, ScalarKind, elem, scalar_valid, Kind, ScalarOf, MessageOf, GroupOf, ValueType, Repeated, Field, is_packable, is_packable_kind, Value, ScalarValue, Values, NoValues, Item, values_from, AllowsInside, or_none, unpacked, records_in, is_stray, element_payloads_in, one_allowed, packed_allowed, MeansInside, element, scalar_values, present_list, end_to_end, list_payloads, value_payload, element_payloads, elements_valid, TypePairs, same_kind, element_allowed}
 use Rattle.prost_reflect_laws.proofs.Packed.{unpacked_back}
 use Rattle.prost_reflect_laws.proofs.Spelt.{SoundPayloads}
 use Rattle.prost_reflect_laws.proofs.Valid.{scalar_sound, end_bytes, packed_sound}

@@ -1,5 +1,6 @@
 -- A record of a list, read into a content that holds.
-use Rattle.prost_reflect_laws.proofs.Common.{◌≡◌, ℕ, Bool, true, false, cond, not, ◌||◌, List, [], ◌∷◌, ◌++◌, filter, flat_map, nat_eq, Option, Some, None, refl, ap, ap₂, sym, ◌∙◌, subst, append-nil, true≢false, arith, list_all, eqb-true, and_parts, and_from, WireType, AreBytes, Payload, Flat, payload_valid, record_at, ValueFront, Scalar, ScalarKind, elem, is_undeclared, scalar_valid, Kind, ScalarOf, Repeated, Field, Schema, known, field_of, is_sibling, is_singular, numbers_differ, passes, is_list, Content, ContentOf, Entries, Value, ScalarValue, ListValue, MapValue, Values, NoValues, Item, values_from, ◌and_then◌, Slot, schema_of, type_of, entries_of, value_at, unknowns_at, slot_at, changed, entries_ordered, values_ordered, field_allowed, one_allowed, packed_allowed, element_payloads_in, is_stray, value_payloads, stray_payloads, element, scalar_values, values_in, fit_test, alone_test, EntryTest, element_valid, elements_valid, value_valid, pairs_valid, value_passes, values_pass, entries_pass, kind_for, ValuesTyped, kept_values, ValueStored, WellStored, with_value, with_stored, joined_slot, RecordRead, Step, ElementsRead, ElementsJoined, list_takes, field_number, empty_slot, eqb-sym}
+use Rattle.std.specs.Prelude.{◌≡◌, ◌||◌, ◌∷◌, ◌++◌}
+use Rattle.prost_reflect_laws.proofs.Common.{ℕ, Bool, true, false, cond, not, List, [], filter, flat_map, nat_eq, Option, Some, None, refl, ap, ap₂, sym, ◌∙◌, subst, append-nil, true≢false, arith, list_all, eqb-true, and_parts, and_from, WireType, AreBytes, Payload, Flat, payload_valid, record_at, ValueFront, Scalar, ScalarKind, elem, is_undeclared, scalar_valid, Kind, ScalarOf, Repeated, Field, Schema, known, field_of, is_sibling, is_singular, numbers_differ, passes, is_list, Content, ContentOf, Entries, Value, ScalarValue, ListValue, MapValue, Values, NoValues, Item, values_from, ◌and_then◌, Slot, schema_of, type_of, entries_of, value_at, unknowns_at, slot_at, changed, entries_ordered, values_ordered, field_allowed, one_allowed, packed_allowed, element_payloads_in, is_stray, value_payloads, stray_payloads, element, scalar_values, values_in, fit_test, alone_test, EntryTest, element_valid, elements_valid, value_valid, pairs_valid, value_passes, values_pass, entries_pass, kind_for, ValuesTyped, kept_values, ValueStored, WellStored, with_value, with_stored, joined_slot, RecordRead, Step, ElementsRead, ElementsJoined, list_takes, field_number, empty_slot, eqb-sym}
 use Rattle.prost_reflect_laws.proofs.Allowed.{inside}
 use Rattle.prost_reflect_laws.proofs.Means.{below, further}
 use Rattle.prost_reflect_laws.proofs.Declared.{read_valid}

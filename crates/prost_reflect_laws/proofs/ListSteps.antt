@@ -1,5 +1,6 @@
 -- What a record of a list makes of what is kept: its elements stand behind those that are there.
-use Rattle.prost_reflect_laws.proofs.Common.{◌≡◌, ℕ, Bool, true, false, cond, List, [], ◌∷◌, ◌++◌, map, flat_map, nat_eq, Option, Some, None, refl, ap, ap₂, sym, ◌∙◌, append-nil, ⊤, eqb-true, eq-eqb, ◌>>=◌, Payload, record_at, Repeated, Field, field_of, is_sibling, Value, ListValue, Values, NoValues, Item, values_from, ◌and_then◌, Slot, value_payloads, stray_payloads, MeansInside, JoinsInside, element, present_list, values_in, value_joined, value_step, value_steps, value_behind, slot_step, kept_value, kept_inside, kept_values, joined_slot, eqb-sym, slots_same, field_number, values_append, values_present}
+use Rattle.std.specs.Prelude.{◌≡◌, ◌∷◌, ◌++◌}
+use Rattle.prost_reflect_laws.proofs.Common.{ℕ, Bool, true, false, cond, List, [], map, flat_map, nat_eq, Option, Some, None, refl, ap, ap₂, sym, ◌∙◌, append-nil, ⊤, eqb-true, eq-eqb, ◌>>=◌, Payload, record_at, Repeated, Field, field_of, is_sibling, Value, ListValue, Values, NoValues, Item, values_from, ◌and_then◌, Slot, value_payloads, stray_payloads, MeansInside, JoinsInside, element, present_list, values_in, value_joined, value_step, value_steps, value_behind, slot_step, kept_value, kept_inside, kept_values, joined_slot, eqb-sym, slots_same, field_number, values_append, values_present}
 use Rattle.prost_reflect_laws.proofs.Values.{value_records_known, unknown_known}
 use Rattle.prost_reflect_laws.proofs.Slotwise.{kept_slot}
 use Rattle.prost_reflect_laws.proofs.ValueCarried.{kept_list}

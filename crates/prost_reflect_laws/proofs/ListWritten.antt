@@ -1,5 +1,6 @@
 -- What is written of a list.
-use Rattle.prost_reflect_laws.proofs.Common.{◌≡◌, ℕ, Bool, true, false, List, map, Some, refl, ap, ap₂, ◌∙◌, record_at, spelled, ScalarKind, ScalarOf, Repeated, Field, field_of, ListValue, Values, NoValues, Item, present_list, field_payloads, list_payloads, element_payloads, elements_valid, kept_value, kept_values, kept_records, value_bytes}
+use Rattle.std.specs.Prelude.{◌≡◌}
+use Rattle.prost_reflect_laws.proofs.Common.{ℕ, Bool, true, false, List, map, Some, refl, ap, ap₂, ◌∙◌, record_at, spelled, ScalarKind, ScalarOf, Repeated, Field, field_of, ListValue, Values, NoValues, Item, present_list, field_payloads, list_payloads, element_payloads, elements_valid, kept_value, kept_values, kept_records, value_bytes}
 use Rattle.prost_reflect_laws.proofs.ValueCarried.{kept_list}
 use Rattle.prost_reflect_laws.proofs.ListReads.{Scalars, scalars_only}
 

@@ -1,5 +1,6 @@
 -- The records of a list that is not packed are read as it.
-use Rattle.prost_reflect_laws.proofs.Common.{◌≡◌, ℕ, Bool, false, cond, not, List, [], ◌∷◌, ◌++◌, map, filter, flat_map, Some, refl, ap, ap₂, ◌∙◌, Payload, Kind, Repeated, Field, field_of, Value, ListValue, Values, NoValues, Item, values_from, is_stray, element_payloads_in, value_records, value_payloads, stray_payloads, unknown_payloads, MeansInside, present_list, element, field_value, record_at, list_payloads, value_payload, element_payloads, block, ValueBack, ElementsBack}
+use Rattle.std.specs.Prelude.{◌≡◌, ◌∷◌, ◌++◌}
+use Rattle.prost_reflect_laws.proofs.Common.{ℕ, Bool, false, cond, not, List, [], map, filter, flat_map, Some, refl, ap, ap₂, ◌∙◌, Payload, Kind, Repeated, Field, field_of, Value, ListValue, Values, NoValues, Item, values_from, is_stray, element_payloads_in, value_records, value_payloads, stray_payloads, unknown_payloads, MeansInside, present_list, element, field_value, record_at, list_payloads, value_payload, element_payloads, block, ValueBack, ElementsBack}
 use Rattle.prost_reflect_laws.proofs.Values.{value_records_known, unknown_known}
 
 one_value_record : (kind : Kind) (p : Payload) → element_payloads_in kind p ≡ p ∷ [] → is_stray kind p ≡ false → filter (λ q. not (is_stray kind q)) (element_payloads_in kind p) ≡ p ∷ []

@@ -1,5 +1,6 @@
 -- A map, carried through a reduction.
-use Rattle.prost_reflect_laws.proofs.Common.{◌++◌, ◌≡◌, ℕ, Bool, true, false, cond, not, ◌&&◌, List, [], ◌∷◌, flat_map, Some, refl, ap, ap₂, sym, subst, ◌∙◌, true≢false, ⊤, list_all, and_parts, and_from, Payload, payload_valid, Scalar, ScalarKind, scalar_lt, scalar_eq, ScalarOf, ValueType, MapFrom, Field, is_key_kind, has_kind_default, default_valid, Value, ScalarValue, Pairs, NoPairs, Pair, pairs_ordered, AllowsInside, records_in, has_level, field_allowed, value_payloads, stray_payloads, MeansInside, entry_key, entry_value, put, put_entry, put_entries, present_map, pair_payload, pair_payloads, key_of, kind_takes, element_valid, pairs_valid, TypePairs, same_kind, scalar_decides}
+use Rattle.std.specs.Prelude.{◌++◌, ◌≡◌, ◌&&◌, ◌∷◌}
+use Rattle.prost_reflect_laws.proofs.Common.{ℕ, Bool, true, false, cond, not, List, [], flat_map, Some, refl, ap, ap₂, sym, subst, ◌∙◌, true≢false, ⊤, list_all, and_parts, and_from, Payload, payload_valid, Scalar, ScalarKind, scalar_lt, scalar_eq, ScalarOf, ValueType, MapFrom, Field, is_key_kind, has_kind_default, default_valid, Value, ScalarValue, Pairs, NoPairs, Pair, pairs_ordered, AllowsInside, records_in, has_level, field_allowed, value_payloads, stray_payloads, MeansInside, entry_key, entry_value, put, put_entry, put_entries, present_map, pair_payload, pair_payloads, key_of, kind_takes, element_valid, pairs_valid, TypePairs, same_kind, scalar_decides}
 use Rattle.prost_reflect_laws.proofs.Spelt.{SoundPayloads}
 use Rattle.prost_reflect_laws.proofs.Alike.{SameType, default_alike}
 use Rattle.prost_reflect_laws.proofs.ByNumber.{stored_payloads}

@@ -1,5 +1,6 @@
 -- An entry of a map, read into a content that holds: its key and its value are put among the pairs that are there.
-use Rattle.prost_reflect_laws.proofs.Common.{◌≡◌, ◌≢◌, ℕ, Bool, true, false, cond, not, ◌&&◌, List, [], ◌∷◌, Option, Some, None, refl, ap, ap₂, sym, ◌∙◌, subst, append-nil, inl, inr, arith, true≢false, list_all, and_parts, and_from, WireType, DecodeError, ◌>>=◌, Len, Records, Payload, Flat, items, body_of, Spells, DelimitedFront, RecordsFront, PlainFault, Scalar, scalar_lt, scalar_eq, Kind, ValueType, MapFrom, Field, Schema, known, field_of, is_singular, numbers_differ, passes, is_list, Content, ContentOf, Entries, Value, ListValue, MapValue, Pairs, NoPairs, Pair, value_at, slot_at, changed, schema_of, type_of, entries_of, value_ordered, pairs_ordered, AllowsInside, body, or_none, is_stray_entry, value_payloads, stray_payloads, has_level, in_entry_allowed, field_allowed, MeansInside, entry_key, entry_value, put, present_map, pairs_in, value_joined, fit_test, alone_test, kind_takes, element_valid, pairs_valid, value_valid, value_passes, pairs_pass, kind_for, ValueTyped, PairsTyped, kept_inside, kept_pairs, WellStored, ValueStored, with_stored, Step, StandsBehindKey, OfType, Stands, Here, InEntry, takes, same_wire, IsMapped, EntryTo, EntryPlace, BodyFault, spelled_read, items_body, pairs_present, plain_stands}
+use Rattle.std.specs.Prelude.{◌≡◌, ◌≢◌, ◌&&◌, ◌∷◌}
+use Rattle.prost_reflect_laws.proofs.Common.{ℕ, Bool, true, false, cond, not, List, [], Option, Some, None, refl, ap, ap₂, sym, ◌∙◌, subst, append-nil, inl, inr, arith, true≢false, list_all, and_parts, and_from, WireType, DecodeError, ◌>>=◌, Len, Records, Payload, Flat, items, body_of, Spells, DelimitedFront, RecordsFront, PlainFault, Scalar, scalar_lt, scalar_eq, Kind, ValueType, MapFrom, Field, Schema, known, field_of, is_singular, numbers_differ, passes, is_list, Content, ContentOf, Entries, Value, ListValue, MapValue, Pairs, NoPairs, Pair, value_at, slot_at, changed, schema_of, type_of, entries_of, value_ordered, pairs_ordered, AllowsInside, body, or_none, is_stray_entry, value_payloads, stray_payloads, has_level, in_entry_allowed, field_allowed, MeansInside, entry_key, entry_value, put, present_map, pairs_in, value_joined, fit_test, alone_test, kind_takes, element_valid, pairs_valid, value_valid, value_passes, pairs_pass, kind_for, ValueTyped, PairsTyped, kept_inside, kept_pairs, WellStored, ValueStored, with_stored, Step, StandsBehindKey, OfType, Stands, Here, InEntry, takes, same_wire, IsMapped, EntryTo, EntryPlace, BodyFault, spelled_read, items_body, pairs_present, plain_stands}
 use Rattle.prost_reflect_wire.specs.declared.key.WireType.TheVariants as wires
 use Rattle.prost_reflect_wire.specs.declared.error.DecodeError.TheVariants as errors
 use Rattle.prost_reflect_laws.proofs.Allowed.{inside}

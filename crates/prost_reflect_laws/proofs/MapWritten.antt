@@ -1,5 +1,6 @@
 -- What is written of a map, and of one of scalars.
-use Rattle.prost_reflect_laws.proofs.Common.{◌≡◌, ℕ, Bool, true, false, cond, not, ◌&&◌, List, [], ◌∷◌, ◌++◌, map, Some, refl, ap, ap₂, sym, ◌∙◌, append_assoc, append-nil, true≢false, and_parts, Len, Payload, Record, record_at, short_key, short_plain, spelled, Scalar, ScalarKind, kind_wire, scalar_eq, scalar_valid, written, ScalarOf, ValueType, MapFrom, Field, field_of, Value, ScalarValue, MapValue, Pairs, NoPairs, Pair, present_map, key_of, scalar_payload, entry_record, entry_payload, field_payloads, pair_payloads, pairs_valid, kept_value, kept_pairs, kept_records, value_bytes}
+use Rattle.std.specs.Prelude.{◌≡◌, ◌&&◌, ◌∷◌, ◌++◌}
+use Rattle.prost_reflect_laws.proofs.Common.{ℕ, Bool, true, false, cond, not, List, [], map, Some, refl, ap, ap₂, sym, ◌∙◌, append_assoc, append-nil, true≢false, and_parts, Len, Payload, Record, record_at, short_key, short_plain, spelled, Scalar, ScalarKind, kind_wire, scalar_eq, scalar_valid, written, ScalarOf, ValueType, MapFrom, Field, field_of, Value, ScalarValue, MapValue, Pairs, NoPairs, Pair, present_map, key_of, scalar_payload, entry_record, entry_payload, field_payloads, pair_payloads, pairs_valid, kept_value, kept_pairs, kept_records, value_bytes}
 use Rattle.prost_reflect_wire.specs.declared.key.WireType.TheVariants as wires
 use Rattle.prost_reflect_laws.proofs.ValueCarried.{kept_map}
 use Rattle.prost_reflect_laws.proofs.WrittenEntries.{spelled_append, written_wire}

@@ -1,5 +1,6 @@
 -- The records of a map in ascending keys are read as it.
-use Rattle.prost_reflect_laws.proofs.Common.{◌≡◌, ℕ, Bool, true, false, cond, not, List, [], ◌∷◌, ◌++◌, map, flat_map, Option, Some, None, refl, ap, ap₂, sym, ◌∙◌, true≢false, append-nil, eqb-true, and_parts, ⊤, Payload, Flat, Record, body_of, valid, Scalar, elem, written, scalar_eq, kind_default, Kind, ScalarOf, MessageOf, GroupOf, ValueType, MapFrom, Field, field_of, has_kind_default, Content, Value, ScalarValue, MessageValue, ListValue, MapValue, Pairs, NoPairs, Pair, type_of, pairs_ordered, numbered, last, records_in, is_stray, value_records, value_payloads, stray_payloads, unknown_payloads, MeansInside, joined, element, scalar_values, last_or, put, entry_key, entry_value, put_entries, present_map, field_value, record_at, scalar_payload, is_default_of, entry_record, value_payload, pair_payload, pair_payloads, key_of, records, field_payloads, kind_takes, is_of_type, scalar_decides, block, ValueBack, ElementBack, PairBack, PairsBack}
+use Rattle.std.specs.Prelude.{◌≡◌, ◌∷◌, ◌++◌}
+use Rattle.prost_reflect_laws.proofs.Common.{ℕ, Bool, true, false, cond, not, List, [], map, flat_map, Option, Some, None, refl, ap, ap₂, sym, ◌∙◌, true≢false, append-nil, eqb-true, and_parts, ⊤, Payload, Flat, Record, body_of, valid, Scalar, elem, written, scalar_eq, kind_default, Kind, ScalarOf, MessageOf, GroupOf, ValueType, MapFrom, Field, field_of, has_kind_default, Content, Value, ScalarValue, MessageValue, ListValue, MapValue, Pairs, NoPairs, Pair, type_of, pairs_ordered, numbered, last, records_in, is_stray, value_records, value_payloads, stray_payloads, unknown_payloads, MeansInside, joined, element, scalar_values, last_or, put, entry_key, entry_value, put_entries, present_map, field_value, record_at, scalar_payload, is_default_of, entry_record, value_payload, pair_payload, pair_payloads, key_of, records, field_payloads, kind_takes, is_of_type, scalar_decides, block, ValueBack, ElementBack, PairBack, PairsBack}
 use Rattle.prost_reflect_laws.proofs.Table.{read_back}
 use Rattle.prost_reflect_laws.proofs.Values.{records_back, payload_back, value_records_known, unknown_known}
 use Rattle.prost_reflect_laws.proofs.Putting.{put_all, put_all_rising, pairs_rising}

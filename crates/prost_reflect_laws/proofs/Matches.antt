@@ -1,5 +1,6 @@
 -- What the fields of two message types of a reduction have in common.
-use Rattle.prost_reflect_laws.proofs.Common.{◌≡◌, ℕ, Bool, true, false, cond, ◌&&◌, ◌||◌, List, [], ◌∷◌, nat_eq, Option, Some, None, refl, ap, ap₂, sym, ◌∙◌, true≢false, eqb-true, and_parts, and_from, or_parts, beq, list_any, list_all, Field, Schema, message_type, known, field_of, same_oneof, passes, TypePairs, holds, same_form, value_types_match, fields_match, same_siblings, has_match, has_no_fellow, entries_whole, types_match, all_match, Reduced, all_implied, eqb-sym}
+use Rattle.std.specs.Prelude.{◌≡◌, ◌&&◌, ◌||◌, ◌∷◌}
+use Rattle.prost_reflect_laws.proofs.Common.{ℕ, Bool, true, false, cond, List, [], nat_eq, Option, Some, None, refl, ap, ap₂, sym, ◌∙◌, true≢false, eqb-true, and_parts, and_from, or_parts, beq, list_any, list_all, Field, Schema, message_type, known, field_of, same_oneof, passes, TypePairs, holds, same_form, value_types_match, fields_match, same_siblings, has_match, has_no_fellow, entries_whole, types_match, all_match, Reduced, all_implied, eqb-sym}
 use Rattle.prost_reflect_laws.proofs.Alike.{SameType, same_type}
 
 -- FIELDS OF A LIST

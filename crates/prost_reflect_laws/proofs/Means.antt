@@ -1,5 +1,6 @@
 -- The records of a well-typed content mean it.
-use Rattle.prost_reflect_laws.proofs.Common.{◌≡◌, ℕ, zero, suc, ◌^◌, ◌≤◌, Bool, true, false, not, ◌&&◌, List, [], ◌∷◌, ◌++◌, map, length, Option, Some, None, refl, ap, sym, ◌∙◌, arith, true≢false, ⊤, list_all, ltb-true, and_parts, not-true, Len, Payload, Flat, Group, Record, Spells, before, body_of, spelled, number_valid, plain_valid, payload_valid, valid, are_bytes, Scalar, Kind, ScalarOf, MessageOf, GroupOf, ValueType, FieldForm, Singular, Repeated, MapFrom, Field, Schema, known, field_of, is_sibling, is_message, is_singular, has_kind_default, is_packable_kind, field_valid, schema_valid, passes, is_list, Content, ContentOf, Entries, NoEntries, Stored, Unknown, Value, ScalarValue, MessageValue, ListValue, MapValue, Values, NoValues, Item, Pairs, NoPairs, Pair, schema_of, type_of, comes_before, key_before, ordered, entries_ordered, value_ordered, values_ordered, pairs_ordered, MeansInside, JoinsInside, empty_inside, joins_nothing, meaning, meaning_by, steps, record_at, scalar_payload, message_payload, is_default_of, entry_record, list_payloads, records, entries_records, field_payloads, value_payload, element_payloads, pair_payload, pair_payloads, key_of, encoded, levels, unknown_levels, entries_levels, value_levels, values_levels, pairs_levels, kind_takes, element_valid, elements_valid, pairs_valid, value_valid, is_whole_stray, unknown_fits, EntryTest, everywhere, entries_pass, value_passes, values_pass, pairs_pass, fit_test, encodable, has_value_of, is_alone, alone_test, is_empty_value, is_stored_default, filled_test, default_test, Typed, EntriesTyped, ValueTyped, ValuesTyped, PairsTyped, short_spells, Joins, nothing_joins, level_joins, both_max, Writable, ValueBack, UnknownBack, EntriesBack, ElementBack, ElementsBack, PairsBack}
+use Rattle.std.specs.Prelude.{◌≡◌, ◌^◌, ◌≤◌, ◌&&◌, ◌∷◌, ◌++◌}
+use Rattle.prost_reflect_laws.proofs.Common.{ℕ, zero, suc, Bool, true, false, not, List, [], map, length, Option, Some, None, refl, ap, sym, ◌∙◌, arith, true≢false, ⊤, list_all, ltb-true, and_parts, not-true, Len, Payload, Flat, Group, Record, Spells, before, body_of, spelled, number_valid, plain_valid, payload_valid, valid, are_bytes, Scalar, Kind, ScalarOf, MessageOf, GroupOf, ValueType, FieldForm, Singular, Repeated, MapFrom, Field, Schema, known, field_of, is_sibling, is_message, is_singular, has_kind_default, is_packable_kind, field_valid, schema_valid, passes, is_list, Content, ContentOf, Entries, NoEntries, Stored, Unknown, Value, ScalarValue, MessageValue, ListValue, MapValue, Values, NoValues, Item, Pairs, NoPairs, Pair, schema_of, type_of, comes_before, key_before, ordered, entries_ordered, value_ordered, values_ordered, pairs_ordered, MeansInside, JoinsInside, empty_inside, joins_nothing, meaning, meaning_by, steps, record_at, scalar_payload, message_payload, is_default_of, entry_record, list_payloads, records, entries_records, field_payloads, value_payload, element_payloads, pair_payload, pair_payloads, key_of, encoded, levels, unknown_levels, entries_levels, value_levels, values_levels, pairs_levels, kind_takes, element_valid, elements_valid, pairs_valid, value_valid, is_whole_stray, unknown_fits, EntryTest, everywhere, entries_pass, value_passes, values_pass, pairs_pass, fit_test, encodable, has_value_of, is_alone, alone_test, is_empty_value, is_stored_default, filled_test, default_test, Typed, EntriesTyped, ValueTyped, ValuesTyped, PairsTyped, short_spells, Joins, nothing_joins, level_joins, both_max, Writable, ValueBack, UnknownBack, EntriesBack, ElementBack, ElementsBack, PairsBack}
 use Rattle.prost_reflect_laws.proofs.Back.{entries_back}
 use Rattle.prost_reflect_laws.proofs.Values.{scalar_back, message_back, unknown_back, stray_back}
 use Rattle.prost_reflect_laws.proofs.Lists.{list_back}

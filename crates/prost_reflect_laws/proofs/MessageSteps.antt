@@ -1,5 +1,6 @@
 -- A message or a group of one value, read into a content that holds: its records are read into the message that is there, or into an empty one.
-use Rattle.prost_reflect_laws.proofs.Common.{◌≡◌, ℕ, suc, ◌≤◌, Bool, true, false, List, [], Option, Some, None, refl, ap, ap₂, sym, ◌∙◌, subst, arith, true≢false, unwrap_or, eq-eqb, and_parts, and_from, or-false, WireType, ◌>>=◌, Len, Records, Record, Payload, Flat, Group, items, body_of, raw_levels, KeyFront, DelimitedFront, ValueFront, Kind, ScalarOf, MessageOf, GroupOf, ValueType, FieldForm, Singular, Repeated, MapFrom, Field, Schema, known, field_of, is_message, is_singular, numbers_differ, passes, is_list, is_map, Content, ContentOf, Entries, Value, ScalarValue, MessageValue, ListValue, MapValue, value_at, slot_at, changed, empty, schema_of, type_of, value_ordered, body, or_none, records_in, is_stray, one_allowed, field_allowed, allows, MeansInside, JoinsInside, content_in, one_joined, value_joined, steps, kept, kept_value, kept_inside, kind_takes, pairs_valid, value_valid, value_passes, fit_test, alone_test, is_of_type, kind_for, ValueTyped, WellStored, ValueStored, message_of_kind, greatest_level, with_stored, ReadTo, Holds, Step, one_takes, takes, needs_level, spelled_read, items_body, meaning_empty}
+use Rattle.std.specs.Prelude.{◌≡◌, ◌≤◌}
+use Rattle.prost_reflect_laws.proofs.Common.{ℕ, suc, Bool, true, false, List, [], Option, Some, None, refl, ap, ap₂, sym, ◌∙◌, subst, arith, true≢false, unwrap_or, eq-eqb, and_parts, and_from, or-false, WireType, ◌>>=◌, Len, Records, Record, Payload, Flat, Group, items, body_of, raw_levels, KeyFront, DelimitedFront, ValueFront, Kind, ScalarOf, MessageOf, GroupOf, ValueType, FieldForm, Singular, Repeated, MapFrom, Field, Schema, known, field_of, is_message, is_singular, numbers_differ, passes, is_list, is_map, Content, ContentOf, Entries, Value, ScalarValue, MessageValue, ListValue, MapValue, value_at, slot_at, changed, empty, schema_of, type_of, value_ordered, body, or_none, records_in, is_stray, one_allowed, field_allowed, allows, MeansInside, JoinsInside, content_in, one_joined, value_joined, steps, kept, kept_value, kept_inside, kind_takes, pairs_valid, value_valid, value_passes, fit_test, alone_test, is_of_type, kind_for, ValueTyped, WellStored, ValueStored, message_of_kind, greatest_level, with_stored, ReadTo, Holds, Step, one_takes, takes, needs_level, spelled_read, items_body, meaning_empty}
 use Rattle.prost_reflect_wire.specs.declared.key.WireType.TheVariants as wires
 use Rattle.prost_reflect_laws.proofs.Older.{items_level, allowed_levels}
 use Rattle.prost_reflect_laws.proofs.Values.{one_value_payload, no_stray_payload}

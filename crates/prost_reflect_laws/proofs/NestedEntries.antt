@@ -1,5 +1,6 @@
 -- An entry of a map whose value is a message: the records of number 2 are read into one message, one behind another and one level down, and what comes of it is put among the pairs that are there.
-use Rattle.prost_reflect_laws.proofs.Common.{◌≡◌, ◌≢◌, ℕ, suc, Bool, true, false, cond, List, [], ◌∷◌, ◌++◌, nat_eq, nat_le, Option, Some, None, refl, ap, ap₂, sym, subst, ◌∙◌, append-nil, arith, list_all, is_some, le-leb, lt-ltb, none-some, DecodeError, WireType, AreBytes, ◌>>=◌, Len, Record, Records, Payload, Flat, record_at, body_of, items, payload_levels, KeyFront, DelimitedFront, KeyFault, Scalar, ScalarKind, kind_default, scalar_valid, Kind, ScalarOf, MessageOf, ValueType, MapFrom, Field, Schema, known, field_of, is_message, is_key_kind, field_valid, numbers_differ, passes, Content, ContentOf, Entries, MessageValue, MapValue, empty, value_at, changed, schema_of, type_of, payloads, numbered, last, fits, body, or_none, records_in, is_stray, is_stray_entry, one_allowed, has_level, allows, last_or, joined, entry_value, put, pairs_in, meaning, steps, kept, kind_takes, WellStored, message_of_kind, with_stored, Stands, Here, entry_field, opens_level, needs_level, ValueFault, Holds, Step, ScalarRead, ScalarFault, StandsBehindKey, EntryTo, EntryPlace, plain_type, flat_append, meaning_empty, meaning_steps, spelled_read, items_body, record_front, none_front, key_stands, value_stands, field_number}
+use Rattle.std.specs.Prelude.{◌≡◌, ◌≢◌, ◌∷◌, ◌++◌}
+use Rattle.prost_reflect_laws.proofs.Common.{ℕ, suc, Bool, true, false, cond, List, [], nat_eq, nat_le, Option, Some, None, refl, ap, ap₂, sym, subst, ◌∙◌, append-nil, arith, list_all, is_some, le-leb, lt-ltb, none-some, DecodeError, WireType, AreBytes, ◌>>=◌, Len, Record, Records, Payload, Flat, record_at, body_of, items, payload_levels, KeyFront, DelimitedFront, KeyFault, Scalar, ScalarKind, kind_default, scalar_valid, Kind, ScalarOf, MessageOf, ValueType, MapFrom, Field, Schema, known, field_of, is_message, is_key_kind, field_valid, numbers_differ, passes, Content, ContentOf, Entries, MessageValue, MapValue, empty, value_at, changed, schema_of, type_of, payloads, numbered, last, fits, body, or_none, records_in, is_stray, is_stray_entry, one_allowed, has_level, allows, last_or, joined, entry_value, put, pairs_in, meaning, steps, kept, kind_takes, WellStored, message_of_kind, with_stored, Stands, Here, entry_field, opens_level, needs_level, ValueFault, Holds, Step, ScalarRead, ScalarFault, StandsBehindKey, EntryTo, EntryPlace, plain_type, flat_append, meaning_empty, meaning_steps, spelled_read, items_body, record_front, none_front, key_stands, value_stands, field_number}
 use Rattle.prost_reflect_wire.specs.declared.error.DecodeError.TheVariants as errors
 use Rattle.prost_reflect_wire.specs.declared.key.WireType.TheVariants as wires
 use Rattle.prost_reflect_wire.specs.Unknown.{SkipsValue}

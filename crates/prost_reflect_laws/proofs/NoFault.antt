@@ -1,5 +1,6 @@
 -- Where a body stands, no fault stands.
-use Rattle.prost_reflect_laws.proofs.Common.{◌≡◌, ◌≢◌, ℕ, zero, suc, ◌<◌, ◌≤◌, Bool, true, false, inl, inr, List, [], ◌∷◌, ◌++◌, length, nat_le, Option, Some, None, refl, sym, ap, subst, ◌∙◌, arith, length-append, true≢false, leb-true, and_parts, is_some, none-some, DecodeError, WireType, AreBytes, Varint, ◌>>=◌, Plain, Var, Fix64, Len, Fix32, Record, Payload, Flat, Group, payload_levels, wire_code, plain_wire, payload_wire, plain_at, StringKind, kind_wire, Kind, ScalarOf, MessageOf, GroupOf, ValueType, FieldForm, Singular, Repeated, MapFrom, Field, Schema, is_message, passes, is_map, AllowsInside, body, has_level, field_allowed, nothing_inside, plains_within, unpacked, KeyFront, PlainFront, DelimitedFront, PayloadFront, PayloadEnds, PayloadPasses, PlainFault, KeyFault, VarintPasses, NoKey, Place, field_at, Next, NextField, ElementFault, ElementEnds, ElementPasses, BehindElement, TextNext, PackedNext, same_wire, takes, needs_level, opens_level, Comes, bind_ok, plain_sound, key_once, key_no_fault, plain_once, plain_no_fault, delimited_once, plain_delimited}
+use Rattle.std.specs.Prelude.{◌≡◌, ◌≢◌, ◌<◌, ◌≤◌, ◌∷◌, ◌++◌}
+use Rattle.prost_reflect_laws.proofs.Common.{ℕ, zero, suc, Bool, true, false, inl, inr, List, [], length, nat_le, Option, Some, None, refl, sym, ap, subst, ◌∙◌, arith, length-append, true≢false, leb-true, and_parts, is_some, none-some, DecodeError, WireType, AreBytes, Varint, ◌>>=◌, Plain, Var, Fix64, Len, Fix32, Record, Payload, Flat, Group, payload_levels, wire_code, plain_wire, payload_wire, plain_at, StringKind, kind_wire, Kind, ScalarOf, MessageOf, GroupOf, ValueType, FieldForm, Singular, Repeated, MapFrom, Field, Schema, is_message, passes, is_map, AllowsInside, body, has_level, field_allowed, nothing_inside, plains_within, unpacked, KeyFront, PlainFront, DelimitedFront, PayloadFront, PayloadEnds, PayloadPasses, PlainFault, KeyFault, VarintPasses, NoKey, Place, field_at, Next, NextField, ElementFault, ElementEnds, ElementPasses, BehindElement, TextNext, PackedNext, same_wire, takes, needs_level, opens_level, Comes, bind_ok, plain_sound, key_once, key_no_fault, plain_once, plain_no_fault, delimited_once, plain_delimited}
 use Rattle.prost_reflect_wire.specs.declared.error.DecodeError.TheVariants as errors
 use Rattle.prost_reflect_wire.specs.declared.key.WireType.TheVariants as wires
 use Rattle.prost_reflect_laws.proofs.BodyFronts.{payload_no_end, key_not_empty, key_bytes, plain_bytes, delimited_bytes}

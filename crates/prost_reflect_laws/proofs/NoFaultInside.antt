@@ -1,5 +1,6 @@
 -- Where a body stands, no fault stands at any further place.
-use Rattle.prost_reflect_laws.proofs.Common.{◌≡◌, ◌≢◌, ℕ, suc, ◌≤◌, Bool, true, false, inl, inr, List, [], Some, None, refl, sym, ap, subst, ◌∙◌, arith, list_all, DecodeError, WireType, AreBytes, Len, Records, Record, Payload, Flat, Group, items, raw_levels, payload_levels, wire_code, payload_wire, MessageOf, GroupOf, ValueType, MapFrom, Field, Schema, passes, is_map, body, in_entry_allowed, field_allowed, allows, KeyFront, DelimitedFront, RecordFront, PayloadFront, Place, OfType, OfEntry, OfNothing, field_at, Comes, Stands, Here, Behind, InMessage, InGroup, InUnknown, InEntry, key_once, payload_once, record_parts, RecordParts}
+use Rattle.std.specs.Prelude.{◌≡◌, ◌≢◌, ◌≤◌}
+use Rattle.prost_reflect_laws.proofs.Common.{ℕ, suc, Bool, true, false, inl, inr, List, [], Some, None, refl, sym, ap, subst, ◌∙◌, arith, list_all, DecodeError, WireType, AreBytes, Len, Records, Record, Payload, Flat, Group, items, raw_levels, payload_levels, wire_code, payload_wire, MessageOf, GroupOf, ValueType, MapFrom, Field, Schema, passes, is_map, body, in_entry_allowed, field_allowed, allows, KeyFront, DelimitedFront, RecordFront, PayloadFront, Place, OfType, OfEntry, OfNothing, field_at, Comes, Stands, Here, Behind, InMessage, InGroup, InUnknown, InEntry, key_once, payload_once, record_parts, RecordParts}
 use Rattle.prost_reflect_wire.specs.declared.key.WireType.TheVariants as wires
 use Rattle.prost_reflect_laws.proofs.BodyFronts.{payload_no_end, key_not_empty, key_bytes, delimited_bytes}
 use Rattle.prost_reflect_laws.proofs.Places.{inner, payload_allowed, allowed_at, allows_at, Ended, Body, NextRecord, EndNext, AtEnd, AtStop, FirstOf, first_of, read_body, Passed, body_passes, levels_inside, entry_same, len_no_end}

@@ -1,5 +1,6 @@
 -- What was read and is written is read as the same; what is merged stays well-typed.
-use Rattle.prost_reflect_laws.proofs.Common.{◌≡◌, ℕ, zero, suc, ◌≤◌, ◌<◌, ◌^◌, true, List, length, Some, refl, ap, ap₂, sym, ◌∙◌, subst, arith, max, AreBytes, guard, Records, Record, items, body_of, read, valid, Schema, schema_valid, Content, schema_of, type_of, LEVEL_LIMIT, allows, meaning, decoded, steps, encoded, levels, WellTyped, merged, bind_ok, guard_ok, read_spells, StaysWell}
+use Rattle.std.specs.Prelude.{◌≡◌, ◌≤◌, ◌<◌, ◌^◌}
+use Rattle.prost_reflect_laws.proofs.Common.{ℕ, zero, suc, true, List, length, Some, refl, ap, ap₂, sym, ◌∙◌, subst, arith, max, AreBytes, guard, Records, Record, items, body_of, read, valid, Schema, schema_valid, Content, schema_of, type_of, LEVEL_LIMIT, allows, meaning, decoded, steps, encoded, levels, WellTyped, merged, bind_ok, guard_ok, read_spells, StaysWell}
 use Rattle.prost_reflect_laws.proofs.Pieces.{allowed_within}
 use Rattle.prost_reflect_laws.proofs.Readable.{body_items}
 use Rattle.prost_reflect_laws.proofs.SpelledValid.{spelled_valid}

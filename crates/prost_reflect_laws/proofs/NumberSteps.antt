@@ -1,5 +1,6 @@
 -- A list of enum numbers whose record is read: the declared ones go behind the elements, the others behind the unknown records.
-use Rattle.prost_reflect_laws.proofs.Common.{◌≡◌, ℕ, ℤ, Bool, true, false, cond, not, List, [], ◌∷◌, ◌++◌, map, filter, flat_map, nat_eq, Option, Some, None, refl, ap, sym, ◌∙◌, append_assoc, arith, list_all, is_some, and_parts, and_from, Var, Len, Payload, Flat, payload_valid, PlainFront, DelimitedFront, Scalar, ScalarKind, EnumNumbers, Enum, elem, is_undeclared, ScalarOf, Repeated, Field, Schema, known, field_of, numbers_differ, Content, ContentOf, Entries, Value, ScalarValue, ListValue, Values, Item, values_from, ◌and_then◌, Slot, entries_of, value_at, slot_at, changed, is_stray, element_payloads_in, or_none, scalar_values, values_in, kept_values, elements_valid, is_whole_stray, unknown_fits, WellStored, with_stored, with_unknown, joined_slot, Step, ElementsJoined, NumbersJoined, BodyJoined, declared_values, delimited_plain}
+use Rattle.std.specs.Prelude.{◌≡◌, ◌∷◌, ◌++◌}
+use Rattle.prost_reflect_laws.proofs.Common.{ℕ, ℤ, Bool, true, false, cond, not, List, [], map, filter, flat_map, nat_eq, Option, Some, None, refl, ap, sym, ◌∙◌, append_assoc, arith, list_all, is_some, and_parts, and_from, Var, Len, Payload, Flat, payload_valid, PlainFront, DelimitedFront, Scalar, ScalarKind, EnumNumbers, Enum, elem, is_undeclared, ScalarOf, Repeated, Field, Schema, known, field_of, numbers_differ, Content, ContentOf, Entries, Value, ScalarValue, ListValue, Values, Item, values_from, ◌and_then◌, Slot, entries_of, value_at, slot_at, changed, is_stray, element_payloads_in, or_none, scalar_values, values_in, kept_values, elements_valid, is_whole_stray, unknown_fits, WellStored, with_stored, with_unknown, joined_slot, Step, ElementsJoined, NumbersJoined, BodyJoined, declared_values, delimited_plain}
 use Rattle.prost_reflect_wire.specs.declared.key.WireType.TheVariants as wires
 use Rattle.prost_reflect_laws.proofs.Declared.{read_valid}
 use Rattle.prost_reflect_laws.proofs.StoredSound.{unknown_sound}

@@ -1,5 +1,6 @@
 -- What the newer of two types of a reduction allows, the older one allows.
-use Rattle.prost_reflect_laws.proofs.Common.{◌≡◌, ℕ, zero, suc, ◌≤◌, nat_le, nat_eq, Bool, true, false, cond, ◌&&◌, ◌||◌, List, [], ◌∷◌, Option, Some, None, refl, ap, ap₂, sym, ◌∙◌, arith, true≢false, max, is_some, list_all, leb-true, le-leb, and_parts, and_from, Plain, Len, Records, NoRecords, PlainRecord, GroupRecord, Record, Payload, Flat, Group, items, raw_levels, payload_levels, Kind, ScalarOf, MessageOf, GroupOf, ValueType, FieldForm, Singular, Repeated, MapFrom, Field, Schema, known, field_of, passes, AllowsInside, body, is_len, is_group_payload, one_allowed, packed_allowed, in_entry_allowed, has_level, field_allowed, record_allowed, nothing_inside, allows, Accepts, greatest_level, TypePairs, holds, same_kind, same_form, all_implied, flat_fits, passes_more, or_case, field_number}
+use Rattle.std.specs.Prelude.{◌≡◌, ◌≤◌, ◌&&◌, ◌||◌, ◌∷◌}
+use Rattle.prost_reflect_laws.proofs.Common.{ℕ, zero, suc, nat_le, nat_eq, Bool, true, false, cond, List, [], Option, Some, None, refl, ap, ap₂, sym, ◌∙◌, arith, true≢false, max, is_some, list_all, leb-true, le-leb, and_parts, and_from, Plain, Len, Records, NoRecords, PlainRecord, GroupRecord, Record, Payload, Flat, Group, items, raw_levels, payload_levels, Kind, ScalarOf, MessageOf, GroupOf, ValueType, FieldForm, Singular, Repeated, MapFrom, Field, Schema, known, field_of, passes, AllowsInside, body, is_len, is_group_payload, one_allowed, packed_allowed, in_entry_allowed, has_level, field_allowed, record_allowed, nothing_inside, allows, Accepts, greatest_level, TypePairs, holds, same_kind, same_form, all_implied, flat_fits, passes_more, or_case, field_number}
 use Rattle.prost_reflect_laws.proofs.Alike.{Alike, alike, SameType, same_type, unpacked_alike}
 use Rattle.prost_reflect_laws.proofs.Matches.{TypesMatch, AllMatch, Relates, like}
 

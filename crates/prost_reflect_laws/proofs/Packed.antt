@@ -1,5 +1,6 @@
 -- The records of lists of scalars are read as them, packed or not.
-use Rattle.prost_reflect_laws.proofs.Common.{◌≡◌, ℕ, zero, suc, ◌+◌, ◌^◌, ◌<◌, true, cond, not, List, [], ◌∷◌, ◌++◌, map, filter, flat_map, length, nat_eq, Option, Some, refl, ap, ap₂, sym, ◌∙◌, arith, true≢false, length-append, append-nil, ⊤, ltb-true, eqb-true, and_parts, are_bytes, short, ◌>>=◌, Plain, Var, Fix64, Len, Fix32, Payload, Flat, plain_wire, plain_at, SpellsPlain, short_plain, plain_valid, Scalar, F64, F32, I64, U64, I32, U32, Boolean, Text, Bytes, EnumNumber, ScalarKind, Double, Float, Int64, Uint64, Int32, Fixed64, Fixed32, BoolKind, StringKind, BytesKind, Uint32, Sfixed32, Sfixed64, Sint32, Sint64, Enum, kind_wire, written, scalar_valid, Kind, ScalarOf, Repeated, Field, field_of, is_packable, Value, ScalarValue, ListValue, Values, NoValues, Item, values_from, or_none, plains_within, unpacked, element_payloads_in, is_stray, value_records, value_payloads, stray_payloads, unknown_payloads, MeansInside, element, scalar_values, present_list, field_value, record_at, end_to_end, list_payloads, value_payload, element_payloads, element_valid, elements_valid, plain_read, varint_some, short_plain_ok, short_varint, WireType, block, ValueBack, ElementBack, ElementsBack}
+use Rattle.std.specs.Prelude.{◌≡◌, ◌+◌, ◌^◌, ◌<◌, ◌∷◌, ◌++◌}
+use Rattle.prost_reflect_laws.proofs.Common.{ℕ, zero, suc, true, cond, not, List, [], map, filter, flat_map, length, nat_eq, Option, Some, refl, ap, ap₂, sym, ◌∙◌, arith, true≢false, length-append, append-nil, ⊤, ltb-true, eqb-true, and_parts, are_bytes, short, ◌>>=◌, Plain, Var, Fix64, Len, Fix32, Payload, Flat, plain_wire, plain_at, SpellsPlain, short_plain, plain_valid, Scalar, F64, F32, I64, U64, I32, U32, Boolean, Text, Bytes, EnumNumber, ScalarKind, Double, Float, Int64, Uint64, Int32, Fixed64, Fixed32, BoolKind, StringKind, BytesKind, Uint32, Sfixed32, Sfixed64, Sint32, Sint64, Enum, kind_wire, written, scalar_valid, Kind, ScalarOf, Repeated, Field, field_of, is_packable, Value, ScalarValue, ListValue, Values, NoValues, Item, values_from, or_none, plains_within, unpacked, element_payloads_in, is_stray, value_records, value_payloads, stray_payloads, unknown_payloads, MeansInside, element, scalar_values, present_list, field_value, record_at, end_to_end, list_payloads, value_payload, element_payloads, element_valid, elements_valid, plain_read, varint_some, short_plain_ok, short_varint, WireType, block, ValueBack, ElementBack, ElementsBack}
 use Rattle.prost_reflect_laws.proofs.Table.{read_back, written_declared}
 use Rattle.prost_reflect_laws.proofs.Values.{value_records_known, unknown_known}
 use Rattle.prost_reflect_laws.proofs.Lists.{all_elements}

@@ -1,5 +1,6 @@
 -- Elements of a packed record, read one behind another.
-use Rattle.prost_reflect_laws.proofs.Common.{◌||◌, or_left, or_right, ◌≡◌, ◌≢◌, ℕ, Bool, true, false, ◌&&◌, ◌⊎◌, cond, inl, inr, List, [], ◌∷◌, ◌++◌, map, flat_map, Option, Some, refl, ap, ap₂, sym, ◌∙◌, subst, append_assoc, append-nil, true≢false, ◌>>=◌, is_some, and_from, same_Some, DecodeError, WireType, Plain, Var, Fix64, Len, Fix32, Flat, DelimitedFront, PlainFault, PayloadEnds, PayloadPasses, Scalar, ScalarKind, elem, kind_wire, ScalarOf, Repeated, Field, is_packable, is_map, Value, ScalarValue, or_none, unpacked, element_payloads_in, fits, packed_allowed, scalar_values, ElementFault, ElementEnds, ElementPasses, PackedNext, takes, same_wire, ScalarRead, ScalarFault, FieldFault, ElementsRead, packed_values, bind_ok, flat_append, delimited_plain}
+use Rattle.std.specs.Prelude.{◌||◌, ◌≡◌, ◌≢◌, ◌&&◌, ◌⊎◌, ◌∷◌, ◌++◌}
+use Rattle.prost_reflect_laws.proofs.Common.{or_left, or_right, ℕ, Bool, true, false, cond, inl, inr, List, [], map, flat_map, Option, Some, refl, ap, ap₂, sym, ◌∙◌, subst, append_assoc, append-nil, true≢false, ◌>>=◌, is_some, and_from, same_Some, DecodeError, WireType, Plain, Var, Fix64, Len, Fix32, Flat, DelimitedFront, PlainFault, PayloadEnds, PayloadPasses, Scalar, ScalarKind, elem, kind_wire, ScalarOf, Repeated, Field, is_packable, is_map, Value, ScalarValue, or_none, unpacked, element_payloads_in, fits, packed_allowed, scalar_values, ElementFault, ElementEnds, ElementPasses, PackedNext, takes, same_wire, ScalarRead, ScalarFault, FieldFault, ElementsRead, packed_values, bind_ok, flat_append, delimited_plain}
 use Rattle.prost_reflect_wire.specs.declared.error.DecodeError.TheVariants as errors
 use Rattle.prost_reflect_wire.specs.declared.key.WireType.TheVariants as wires
 use Rattle.prost_reflect_laws.proofs.KindsAllowed.{kind_no_end, element_name}

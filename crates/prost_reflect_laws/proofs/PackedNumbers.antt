@@ -1,5 +1,6 @@
 -- Payloads of one wire type, one behind another in bytes.
-use Rattle.prost_reflect_laws.proofs.Common.{◌≡◌, ℕ, zero, suc, ◌+◌, ◌-◌, ◌≤◌, List, [], ◌∷◌, ◌++◌, length, Option, Some, refl, sym, ap, subst, ◌∙◌, arith, none-some, DecodeError, WireType, ◌>>=◌, Plain, plain_wire, plain_at, ScalarKind, kind_wire, plains_within, unpacked, PlainFront, ElementFault, BehindElement, plain_read, bind_ok}
+use Rattle.std.specs.Prelude.{◌≡◌, ◌+◌, ◌-◌, ◌≤◌, ◌∷◌, ◌++◌}
+use Rattle.prost_reflect_laws.proofs.Common.{ℕ, zero, suc, List, [], length, Option, Some, refl, sym, ap, subst, ◌∙◌, arith, none-some, DecodeError, WireType, ◌>>=◌, Plain, plain_wire, plain_at, ScalarKind, kind_wire, plains_within, unpacked, PlainFront, ElementFault, BehindElement, plain_read, bind_ok}
 use Rattle.prost_reflect_laws.proofs.KindsAllowed.{plain_shorter}
 
 -- the payloads stand in front of the rest

@@ -1,5 +1,6 @@
 -- Passage through a reduction, at all levels.
-use Rattle.prost_reflect_laws.proofs.Common.{◌≡◌, ℕ, zero, suc, ◌^◌, ◌<◌, true, List, length, Option, Some, refl, ap, sym, subst, ◌∙◌, true≢false, list_all, same_Some, AreBytes, guard, ◌>>=◌, Record, Records, Spells, items, read, body_of, valid, Schema, known, schema_valid, Content, AllowsInside, record_allowed, nothing_inside, allows, Accepts, MeansInside, record_numbers, meaning_at, meaning_by, empty_inside, meaning, decoded, records, encoded, TypePairs, holds, numbers_ascending, meaning_covers, all_append, spelled_read, short_spells, items_body}
+use Rattle.std.specs.Prelude.{◌≡◌, ◌^◌, ◌<◌}
+use Rattle.prost_reflect_laws.proofs.Common.{ℕ, zero, suc, true, List, length, Option, Some, refl, ap, sym, subst, ◌∙◌, true≢false, list_all, same_Some, AreBytes, guard, ◌>>=◌, Record, Records, Spells, items, read, body_of, valid, Schema, known, schema_valid, Content, AllowsInside, record_allowed, nothing_inside, allows, Accepts, MeansInside, record_numbers, meaning_at, meaning_by, empty_inside, meaning, decoded, records, encoded, TypePairs, holds, numbers_ascending, meaning_covers, all_append, spelled_read, short_spells, items_body}
 use Rattle.prost_reflect_laws.proofs.SpelledValid.{spelled_valid}
 use Rattle.prost_reflect_laws.proofs.Checked.{known_valid, known_differ}
 use Rattle.prost_reflect_laws.proofs.Spelt.{Sound, valid_if}

@@ -1,5 +1,6 @@
 -- A path to a field that takes a value leads there through a newer type of a reduction too.
-use Rattle.prost_reflect_laws.proofs.Common.{◌≡◌, ℕ, true, false, ◌&&◌, List, [], ◌∷◌, Option, Some, None, refl, ap, sym, ◌∙◌, true≢false, and_parts, and_from, or_parts, Scalar, Kind, ScalarOf, MessageOf, GroupOf, ValueType, MapFrom, Field, Schema, known, field_of, is_singular, is_list, Value, ScalarValue, MessageValue, ListValue, MapValue, Values, NoValues, Item, Pairs, NoPairs, Pair, kind_takes, element_valid, elements_valid, pairs_valid, value_valid, kind_for, ValueTyped, ValuesTyped, PairsTyped, ValueStored, message_of_kind, PathTo, holds_message, values_hold_message, pairs_hold_message, TypePairs, holds, same_kind, same_form, field_number}
+use Rattle.std.specs.Prelude.{◌≡◌, ◌&&◌, ◌∷◌}
+use Rattle.prost_reflect_laws.proofs.Common.{ℕ, true, false, List, [], Option, Some, None, refl, ap, sym, ◌∙◌, true≢false, and_parts, and_from, or_parts, Scalar, Kind, ScalarOf, MessageOf, GroupOf, ValueType, MapFrom, Field, Schema, known, field_of, is_singular, is_list, Value, ScalarValue, MessageValue, ListValue, MapValue, Values, NoValues, Item, Pairs, NoPairs, Pair, kind_takes, element_valid, elements_valid, pairs_valid, value_valid, kind_for, ValueTyped, ValuesTyped, PairsTyped, ValueStored, message_of_kind, PathTo, holds_message, values_hold_message, pairs_hold_message, TypePairs, holds, same_kind, same_form, field_number}
 use Rattle.prost_reflect_laws.proofs.FieldTypes.{singular, repeated}
 use Rattle.prost_reflect_laws.proofs.Alike.{alike, SameType}
 use Rattle.prost_reflect_laws.proofs.Matches.{AllMatch, like}

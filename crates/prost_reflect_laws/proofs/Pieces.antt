@@ -1,5 +1,6 @@
 -- Records merged into a content are read behind it; pieces of one message join.
-use Rattle.prost_reflect_laws.proofs.Common.{◌≡◌, ℕ, zero, suc, ◌+◌, ◌-◌, ◌≤◌, true, List, ◌++◌, refl, ap, sym, ◌∙◌, arith, max, Record, Schema, Content, schema_of, type_of, LEVEL_LIMIT, allows, meaning, steps, records, levels, merged, levels_free, allowed_further, meaning_steps, Writable}
+use Rattle.std.specs.Prelude.{◌≡◌, ◌+◌, ◌-◌, ◌≤◌, ◌++◌}
+use Rattle.prost_reflect_laws.proofs.Common.{ℕ, zero, suc, true, List, refl, ap, sym, ◌∙◌, arith, max, Record, Schema, Content, schema_of, type_of, LEVEL_LIMIT, allows, meaning, steps, records, levels, merged, levels_free, allowed_further, meaning_steps, Writable}
 use Rattle.prost_reflect_laws.proofs.Means.{records_mean}
 
 pub merged_means : (c : Content) (behind : List Record) → Writable c → merged c behind ≡ meaning (schema_of c) (max (levels c) LEVEL_LIMIT) (type_of c) (records c ++ behind)

@@ -1,5 +1,6 @@
 -- A message that is read record by record.
-use Rattle.prost_reflect_laws.proofs.Common.{◌≡◌, ◌≢◌, ℕ, List, [], Option, Some, None, refl, subst, ◌∙◌, none-some, WireType, DecodeError, body_of, KeyFront, KeyFault, Schema, Content, empty, schema_of, type_of, Accepts, decoded, kept, WellStored, OfType, Stands, StandsInMessage, Progress, Step, StandsBehindKey, StandsInGroup, key_stands, end_stands, stands_behind}
+use Rattle.std.specs.Prelude.{◌≡◌, ◌≢◌}
+use Rattle.prost_reflect_laws.proofs.Common.{ℕ, List, [], Option, Some, None, refl, subst, ◌∙◌, none-some, WireType, DecodeError, body_of, KeyFront, KeyFault, Schema, Content, empty, schema_of, type_of, Accepts, decoded, kept, WellStored, OfType, Stands, StandsInMessage, Progress, Step, StandsBehindKey, StandsInGroup, key_stands, end_stands, stands_behind}
 use Rattle.prost_reflect_wire.specs.declared.key.WireType.TheVariants as wires
 use Rattle.prost_reflect_wire.specs.declared.error.DecodeError.TheVariants as errors
 use Rattle.prost_reflect_laws.proofs.Readings.{read_nothing, read_record, read_decoded, read_accepts}

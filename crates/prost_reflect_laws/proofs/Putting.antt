@@ -1,5 +1,6 @@
 -- Pairs put into a map one after another: keys stay in order, and a map in order is what its pairs make.
-use Rattle.prost_reflect_laws.proofs.Common.{◌≡◌, Bool, true, false, cond, ◌&&◌, refl, ap, ◌∙◌, ⊤, is_eq, ordering_reverse, and_parts, Scalar, scalar_cmp, scalar_lt, scalar_eq, is_less, Value, Pairs, NoPairs, Pair, key_before, value_ordered, pairs_ordered, put, scalar_decides}
+use Rattle.std.specs.Prelude.{◌≡◌, ◌&&◌}
+use Rattle.prost_reflect_laws.proofs.Common.{Bool, true, false, cond, refl, ap, ◌∙◌, ⊤, is_eq, ordering_reverse, and_parts, Scalar, scalar_cmp, scalar_lt, scalar_eq, is_less, Value, Pairs, NoPairs, Pair, key_before, value_ordered, pairs_ordered, put, scalar_decides}
 use Rattle.std.specs.declared.cmp.Ordering.{Ordering}
 use Rattle.std.specs.declared.cmp.Ordering.TheVariants.{Greater}
 use Rattle.prost_reflect_laws.proofs.Order.{scalar_total, less_less, not_below, not_same}

@@ -1,5 +1,6 @@
 -- Records that are read of bytes have a spelling, and so have those in a payload that has one.
-use Rattle.prost_reflect_laws.proofs.Common.{◌≡◌, ℕ, zero, suc, ◌^◌, Bool, true, false, cond, ◌&&◌, List, [], ◌∷◌, ◌++◌, map, filter, length, nat_eq, nat_lt, Option, Some, None, refl, ap, sym, ◌∙◌, subst, list_all, and_parts, and_from, none-some, same_Some, AreBytes, are_bytes, ◌>>=◌, Plain, Var, Fix64, Len, Fix32, Records, NoRecords, PlainRecord, GroupRecord, Payload, Flat, Group, Record, items, before, body_of, plain_at, read, number_valid, plain_valid, valid, payload_valid, kind_wire, Kind, ScalarOf, MessageOf, GroupOf, is_packable, or_none, plains_within, unpacked, records_in, element_payloads_in, numbered, has_number, payloads, WireType, Front, plain_sound, bind_ok, read_spells, bytes_front, bytes_behind, test_bytes}
+use Rattle.std.specs.Prelude.{◌≡◌, ◌^◌, ◌&&◌, ◌∷◌, ◌++◌}
+use Rattle.prost_reflect_laws.proofs.Common.{ℕ, zero, suc, Bool, true, false, cond, List, [], map, filter, length, nat_eq, nat_lt, Option, Some, None, refl, ap, sym, ◌∙◌, subst, list_all, and_parts, and_from, none-some, same_Some, AreBytes, are_bytes, ◌>>=◌, Plain, Var, Fix64, Len, Fix32, Records, NoRecords, PlainRecord, GroupRecord, Payload, Flat, Group, Record, items, before, body_of, plain_at, read, number_valid, plain_valid, valid, payload_valid, kind_wire, Kind, ScalarOf, MessageOf, GroupOf, is_packable, or_none, plains_within, unpacked, records_in, element_payloads_in, numbered, has_number, payloads, WireType, Front, plain_sound, bind_ok, read_spells, bytes_front, bytes_behind, test_bytes}
 use Rattle.prost_reflect_laws.proofs.Means.{first_valid}
 use Rattle.prost_reflect_laws.proofs.SpelledValid.{spelled_plain_valid, spelled_valid}
 

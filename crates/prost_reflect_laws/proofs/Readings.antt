@@ -1,5 +1,6 @@
 -- Records read one behind another from bytes.
-use Rattle.prost_reflect_laws.proofs.Common.{◌≡◌, ℕ, zero, suc, List, [], ◌∷◌, ◌++◌, Option, Some, refl, ap, ap₂, sym, ◌∙◌, append-nil, subst, guard, ◌>>=◌, Record, Records, items, body_of, Spells, WireType, KeyFront, ValueFront, RecordsFront, Schema, Content, empty, schema_of, type_of, Accepts, allows, MeansInside, JoinsInside, meaning, decoded, step_by, steps_by, steps, record_at, kept, ReadTo, RecordRead, allows_append, meaning_steps, meaning_empty, record_front, last_front, spelled_read, items_body}
+use Rattle.std.specs.Prelude.{◌≡◌, ◌∷◌, ◌++◌}
+use Rattle.prost_reflect_laws.proofs.Common.{ℕ, zero, suc, List, [], Option, Some, refl, ap, ap₂, sym, ◌∙◌, append-nil, subst, guard, ◌>>=◌, Record, Records, items, body_of, Spells, WireType, KeyFront, ValueFront, RecordsFront, Schema, Content, empty, schema_of, type_of, Accepts, allows, MeansInside, JoinsInside, meaning, decoded, step_by, steps_by, steps, record_at, kept, ReadTo, RecordRead, allows_append, meaning_steps, meaning_empty, record_front, last_front, spelled_read, items_body}
 use Rattle.prost_reflect_laws.proofs.Allowed.{allows_inside}
 use Rattle.prost_reflect_laws.proofs.Means.{below, further}
 use Rattle.prost_reflect_laws.proofs.Kept.{kept_schema}

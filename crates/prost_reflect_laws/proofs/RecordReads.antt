@@ -1,5 +1,6 @@
 -- A scalar's record, and one that stays unknown, read into what a message stores.
-use Rattle.prost_reflect_laws.proofs.Common.{◌≡◌, ℕ, Bool, true, false, cond, List, [], ◌∷◌, nat_eq, nat_le, Some, None, refl, ap, sym, ◌∙◌, subst, arith, true≢false, ◌++◌, ◌≤◌, le-leb, and_from, is_some, WireType, AreBytes, Record, Payload, Flat, payload_levels, ValueFront, Scalar, ScalarKind, is_undeclared, scalar_valid, ScalarOf, Singular, Field, Schema, known, field_of, is_sibling, ContentOf, Entries, Value, ScalarValue, slot_at, entries_ordered, allows, record_allowed, field_allowed, one_allowed, step_by, steps, record_at, kept, with_value, with_stored, with_unknown, RecordRead, ScalarRead, field_number, empty_slot, eqb-sym, bytes_front, UnknownBack}
+use Rattle.std.specs.Prelude.{◌≡◌, ◌∷◌, ◌++◌, ◌≤◌}
+use Rattle.prost_reflect_laws.proofs.Common.{ℕ, Bool, true, false, cond, List, [], nat_eq, nat_le, Some, None, refl, ap, sym, ◌∙◌, subst, arith, true≢false, le-leb, and_from, is_some, WireType, AreBytes, Record, Payload, Flat, payload_levels, ValueFront, Scalar, ScalarKind, is_undeclared, scalar_valid, ScalarOf, Singular, Field, Schema, known, field_of, is_sibling, ContentOf, Entries, Value, ScalarValue, slot_at, entries_ordered, allows, record_allowed, field_allowed, one_allowed, step_by, steps, record_at, kept, with_value, with_stored, with_unknown, RecordRead, ScalarRead, field_number, empty_slot, eqb-sym, bytes_front, UnknownBack}
 use Rattle.prost_reflect_laws.proofs.Allowed.{inside, allows_inside}
 use Rattle.prost_reflect_laws.proofs.Means.{below, further}
 use Rattle.prost_reflect_laws.proofs.Declared.{read_valid}

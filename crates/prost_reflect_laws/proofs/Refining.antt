@@ -1,5 +1,6 @@
 -- The test of reduction answers yes exactly for a reduction.
-use Rattle.prost_reflect_laws.proofs.Common.{◌≡◌, ℕ, zero, suc, ◌≤◌, ◌<◌, ◌↔◌, ◌⊎◌, inl, inr, nat_eq, nat_lt, eq-eqb, Bool, true, false, cond, ◌&&◌, ◌||◌, List, [], ◌∷◌, length, map, filter, flat_map, Option, Some, None, refl, ap, ap₂, sym, ◌∙◌, arith, true≢false, IsTrue, beq, list_all, eqb-true, eqb-false, ltb-true, and_parts, and_from, list_any-append, or-true, Kind, ScalarOf, MessageOf, GroupOf, ValueType, FieldForm, Singular, Repeated, MapFrom, Field, Schema, message_type, known, field_of, is_key_kind, kind_valid, field_valid, schema_valid, passes, TypePairs, holds, same_kind, same_default, value_types_match, same_form, fields_match, same_siblings, has_match, has_no_fellow, entries_whole, types_match, all_match, Reduced, filter_passes, numbers_below, all_pairs, refined, refined_times, greatest_reduction, is_reduced}
+use Rattle.std.specs.Prelude.{◌≡◌, ◌≤◌, ◌<◌, ◌↔◌, ◌⊎◌, ◌&&◌, ◌||◌, ◌∷◌}
+use Rattle.prost_reflect_laws.proofs.Common.{ℕ, zero, suc, inl, inr, nat_eq, nat_lt, eq-eqb, Bool, true, false, cond, List, [], length, map, filter, flat_map, Option, Some, None, refl, ap, ap₂, sym, ◌∙◌, arith, true≢false, IsTrue, beq, list_all, eqb-true, eqb-false, ltb-true, and_parts, and_from, list_any-append, or-true, Kind, ScalarOf, MessageOf, GroupOf, ValueType, FieldForm, Singular, Repeated, MapFrom, Field, Schema, message_type, known, field_of, is_key_kind, kind_valid, field_valid, schema_valid, passes, TypePairs, holds, same_kind, same_default, value_types_match, same_form, fields_match, same_siblings, has_match, has_no_fellow, entries_whole, types_match, all_match, Reduced, filter_passes, numbers_below, all_pairs, refined, refined_times, greatest_reduction, is_reduced}
 use Rattle.prost_reflect_laws.proofs.Checked.{known_valid, found_valid, CheckedField, checked_field, CheckedMap, checked_map}
 use Rattle.prost_reflect_laws.proofs.Matches.{pair_matches}
 

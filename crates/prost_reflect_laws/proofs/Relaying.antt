@@ -1,5 +1,6 @@
 -- What records mean to an older type of a reduction, and what they mean to the newer one, number by number.
-use Rattle.prost_reflect_laws.proofs.Common.{◌++◌, ◌≡◌, ℕ, nat_le, true, List, [], ◌∷◌, map, filter, flat_map, Option, Some, None, refl, ap, ap₂, sym, subst, ◌∙◌, list_all, eqb-true, and_parts, none-some, ◌>>=◌, Payload, Record, payload_levels, body_of, number_valid, payload_valid, valid, Field, Schema, known, field_of, is_sibling, field_valid, numbers_differ, Value, AllowsInside, has_number, numbered, payloads, value_records, value_payloads, stray_payloads, unknown_payloads, field_allowed, record_allowed, MeansInside, survive, field_value, value_meaning, unknowns_meaning, meaning_at, record_at, TypePairs, field_number, field_nothing, surviving_value, all_filter}
+use Rattle.std.specs.Prelude.{◌++◌, ◌≡◌, ◌∷◌}
+use Rattle.prost_reflect_laws.proofs.Common.{ℕ, nat_le, true, List, [], map, filter, flat_map, Option, Some, None, refl, ap, ap₂, sym, subst, ◌∙◌, list_all, eqb-true, and_parts, none-some, ◌>>=◌, Payload, Record, payload_levels, body_of, number_valid, payload_valid, valid, Field, Schema, known, field_of, is_sibling, field_valid, numbers_differ, Value, AllowsInside, has_number, numbered, payloads, value_records, value_payloads, stray_payloads, unknown_payloads, field_allowed, record_allowed, MeansInside, survive, field_value, value_meaning, unknowns_meaning, meaning_at, record_at, TypePairs, field_number, field_nothing, surviving_value, all_filter}
 use Rattle.prost_reflect_laws.proofs.Checked.{checked_field, found_valid, known_number}
 use Rattle.prost_reflect_laws.proofs.Spelt.{Sound}
 use Rattle.prost_reflect_laws.proofs.Readable.{numbered_valid}

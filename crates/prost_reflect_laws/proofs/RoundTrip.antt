@@ -1,5 +1,6 @@
 -- What is written is accepted exactly within so many levels, and means what was written.
-use Rattle.prost_reflect_laws.proofs.Common.{◌≡◌, ℕ, nat_le, ◌≤◌, Bool, true, Some, Option, ap, ap₂, sym, ◌∙◌, ◌↔◌, leb-true, le-leb, guard, ◌>>=◌, Records, items, body_of, Content, schema_of, type_of, Accepts, allows, meaning, decoded, records, encoded, levels, spelled_read, one_reading, items_body, Writable}
+use Rattle.std.specs.Prelude.{◌≡◌, ◌≤◌, ◌↔◌}
+use Rattle.prost_reflect_laws.proofs.Common.{ℕ, nat_le, Bool, true, Some, Option, ap, ap₂, sym, ◌∙◌, leb-true, le-leb, guard, ◌>>=◌, Records, items, body_of, Content, schema_of, type_of, Accepts, allows, meaning, decoded, records, encoded, levels, spelled_read, one_reading, items_body, Writable}
 use Rattle.prost_reflect_laws.proofs.Valid.{content_valid}
 use Rattle.prost_reflect_laws.proofs.Means.{records_mean, encoded_spells}
 use Rattle.prost_reflect_laws.proofs.Allowed.{content_allowed}

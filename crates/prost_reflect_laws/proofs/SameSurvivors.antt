@@ -1,5 +1,6 @@
 -- The same records of a field survive in two message types of a reduction.
-use Rattle.prost_reflect_laws.proofs.Common.{◌≡◌, ℕ, Bool, true, false, cond, ◌||◌, List, [], ◌∷◌, ◌++◌, map, filter, flat_map, nat_eq, Option, Some, None, refl, ap, ap₂, sym, ◌∙◌, eqb-true, list_any, list_any-append, none-some, Record, Payload, Field, field_of, is_sibling, has_number, value_records, value_payloads, after_last, survive, TypePairs, field_number, filter_append, filter_none, after_append, block}
+use Rattle.std.specs.Prelude.{◌≡◌, ◌||◌, ◌∷◌, ◌++◌}
+use Rattle.prost_reflect_laws.proofs.Common.{ℕ, Bool, true, false, cond, List, [], map, filter, flat_map, nat_eq, Option, Some, None, refl, ap, ap₂, sym, ◌∙◌, eqb-true, list_any, list_any-append, none-some, Record, Payload, Field, field_of, is_sibling, has_number, value_records, value_payloads, after_last, survive, TypePairs, field_number, filter_append, filter_none, after_append, block}
 use Rattle.prost_reflect_laws.proofs.Commuting.{value_records_block}
 use Rattle.prost_reflect_laws.proofs.Alike.{values_alike}
 use Rattle.prost_reflect_laws.proofs.Matches.{TypesMatch, Like, like}

@@ -1,5 +1,6 @@
 -- An entry with a scalar key and a scalar value, read into a content that holds.
-use Rattle.prost_reflect_laws.proofs.Common.{◌≡◌, ◌≤◌, ℕ, true, false, cond, ◌&&◌, nat_eq, nat_le, List, [], Some, None, refl, ap, ap₂, sym, ◌∙◌, subst, list_all, leb-true, and_parts, and_from, AreBytes, Len, Record, Payload, Flat, body_of, payload_levels, payload_valid, valid, DelimitedFront, RecordsFront, Scalar, ScalarKind, kind_default, is_undeclared, scalar_eq, scalar_valid, ScalarOf, ValueType, MapFrom, Field, Schema, known, field_of, is_key_kind, default_valid, field_valid, numbers_differ, schema_valid, passes, ContentOf, Entries, Value, ScalarValue, MapValue, value_at, changed, AllowsInside, nothing_inside, numbered, last, or_none, is_stray, is_stray_entry, one_allowed, has_level, in_entry_allowed, field_allowed, MeansInside, empty_inside, last_or, entry_value, put, pairs_in, stray_levels, kind_takes, is_whole_stray, WellStored, with_stored, Step, EntryTo, plain_type, ScalarEntryTo, bytes_front, field_number, scalar_decides}
+use Rattle.std.specs.Prelude.{◌≡◌, ◌≤◌, ◌&&◌}
+use Rattle.prost_reflect_laws.proofs.Common.{ℕ, true, false, cond, nat_eq, nat_le, List, [], Some, None, refl, ap, ap₂, sym, ◌∙◌, subst, list_all, leb-true, and_parts, and_from, AreBytes, Len, Record, Payload, Flat, body_of, payload_levels, payload_valid, valid, DelimitedFront, RecordsFront, Scalar, ScalarKind, kind_default, is_undeclared, scalar_eq, scalar_valid, ScalarOf, ValueType, MapFrom, Field, Schema, known, field_of, is_key_kind, default_valid, field_valid, numbers_differ, schema_valid, passes, ContentOf, Entries, Value, ScalarValue, MapValue, value_at, changed, AllowsInside, nothing_inside, numbered, last, or_none, is_stray, is_stray_entry, one_allowed, has_level, in_entry_allowed, field_allowed, MeansInside, empty_inside, last_or, entry_value, put, pairs_in, stray_levels, kind_takes, is_whole_stray, WellStored, with_stored, Step, EntryTo, plain_type, ScalarEntryTo, bytes_front, field_number, scalar_decides}
 use Rattle.prost_reflect_wire.specs.declared.key.WireType.TheVariants as wires
 use Rattle.prost_reflect_laws.proofs.SpelledValid.{spelled_valid}
 use Rattle.prost_reflect_laws.proofs.Checked.{known_valid, found_valid, CheckedField, checked_field, CheckedMap, checked_map}

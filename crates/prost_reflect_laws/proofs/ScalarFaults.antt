@@ -1,5 +1,6 @@
 -- What a singular scalar is refused for stands where it is read.
-use Rattle.prost_reflect_laws.proofs.Common.{◌≡◌, ◌≢◌, ℕ, List, Some, ap, ◌∙◌, inl, inr, WireType, DecodeError, KeyFront, ScalarKind, ScalarOf, Singular, Field, Schema, is_map, Place, Stands, Here, field_at, takes, ScalarFault}
+use Rattle.std.specs.Prelude.{◌≡◌, ◌≢◌}
+use Rattle.prost_reflect_laws.proofs.Common.{ℕ, List, Some, ap, ◌∙◌, inl, inr, WireType, DecodeError, KeyFront, ScalarKind, ScalarOf, Singular, Field, Schema, is_map, Place, Stands, Here, field_at, takes, ScalarFault}
 use Rattle.prost_reflect_wire.specs.declared.key.WireType.TheVariants as wires
 use Rattle.prost_reflect_wire.specs.declared.error.DecodeError.TheVariants as errors
 

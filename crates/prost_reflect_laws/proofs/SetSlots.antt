@@ -1,5 +1,6 @@
 -- A value set at a number of an older type, and the same set at the number of its like.
-use Rattle.prost_reflect_laws.proofs.Common.{◌≡◌, ℕ, Bool, true, false, cond, List, nat_eq, Option, Some, None, refl, ap, ap₂, sym, subst, ◌∙◌, arith, true≢false, eqb-true, or_parts, none-some, Field, field_of, is_sibling, numbers_differ, Value, Slot, slot_at, table, insert_number, numbers_in, AllowsInside, MeansInside, with_value, with_field_value, TypePairs, Ascending, is_in, insert_ascending, in_insert, Covers, empty_slot, table_same, slot_table, entries_ascending, slot_outside, field_number}
+use Rattle.std.specs.Prelude.{◌≡◌}
+use Rattle.prost_reflect_laws.proofs.Common.{ℕ, Bool, true, false, cond, List, nat_eq, Option, Some, None, refl, ap, ap₂, sym, subst, ◌∙◌, arith, true≢false, eqb-true, or_parts, none-some, Field, field_of, is_sibling, numbers_differ, Value, Slot, slot_at, table, insert_number, numbers_in, AllowsInside, MeansInside, with_value, with_field_value, TypePairs, Ascending, is_in, insert_ascending, in_insert, Covers, empty_slot, table_same, slot_table, entries_ascending, slot_outside, field_number}
 use Rattle.prost_reflect_laws.proofs.Slots.{sibling_back, not_own}
 use Rattle.prost_reflect_laws.proofs.Matches.{Like}
 use Rattle.prost_reflect_laws.proofs.Fellows.{fellows, unknown_no_sibling}

@@ -1,5 +1,6 @@
 -- A set keeps a content well-typed.
-use Rattle.prost_reflect_laws.proofs.Common.{◌≡◌, ℕ, ◌≤◌, ◌⊎◌, inl, inr, Bool, true, false, cond, List, [], ◌∷◌, nat_eq, Option, Some, None, refl, ap, sym, ◌∙◌, subst, arith, true≢false, max, list_all, eqb-true, eq-eqb, and_parts, and_from, Payload, Scalar, Kind, ScalarOf, MessageOf, GroupOf, ValueType, Singular, Field, Schema, known, field_of, is_sibling, is_singular, is_message, numbers_differ, schema_valid, is_list, Content, ContentOf, Entries, Value, ScalarValue, MessageValue, ListValue, MapValue, Slot, value_at, slot_at, insert_number, numbers_in, empty, schema_of, type_of, levels, value_levels, kind_takes, elements_valid, pairs_valid, value_valid, fit_test, alone_test, filled_test, default_test, is_of_type, kind_for, ValueTyped, kept_value, kept_inside, ValueStored, WellTyped, with_value, with_field_value, set_field, default_of, default_value, value_or_default, in_message, in_field, set_at, message_of_kind, PathTo, insert_ascending, entries_ascending, field_number}
+use Rattle.std.specs.Prelude.{◌≡◌, ◌≤◌, ◌⊎◌, ◌∷◌}
+use Rattle.prost_reflect_laws.proofs.Common.{ℕ, inl, inr, Bool, true, false, cond, List, [], nat_eq, Option, Some, None, refl, ap, sym, ◌∙◌, subst, arith, true≢false, max, list_all, eqb-true, eq-eqb, and_parts, and_from, Payload, Scalar, Kind, ScalarOf, MessageOf, GroupOf, ValueType, Singular, Field, Schema, known, field_of, is_sibling, is_singular, is_message, numbers_differ, schema_valid, is_list, Content, ContentOf, Entries, Value, ScalarValue, MessageValue, ListValue, MapValue, Slot, value_at, slot_at, insert_number, numbers_in, empty, schema_of, type_of, levels, value_levels, kind_takes, elements_valid, pairs_valid, value_valid, fit_test, alone_test, filled_test, default_test, is_of_type, kind_for, ValueTyped, kept_value, kept_inside, ValueStored, WellTyped, with_value, with_field_value, set_field, default_of, default_value, value_or_default, in_message, in_field, set_at, message_of_kind, PathTo, insert_ascending, entries_ascending, field_number}
 use Rattle.prost_reflect_laws.proofs.Everywhere.{both_tests, value_both}
 use Rattle.prost_reflect_laws.proofs.Kept.{kept_cases, value_kept, valid_kept, fits_kept, members_kept, filled_kept, default_kept, kind_kept, value_typed, inside_kept_ordered, said}
 use Rattle.prost_reflect_laws.proofs.FieldTypes.{field_typed, typed_field}

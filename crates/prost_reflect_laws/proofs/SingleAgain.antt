@@ -1,5 +1,6 @@
 -- A field of one value, carried through a reduction.
-use Rattle.prost_reflect_laws.proofs.Common.{◌≡◌, ℕ, Bool, true, false, cond, not, ◌&&◌, List, [], ◌∷◌, ◌++◌, eq-eqb, subst, Option, Some, None, refl, ap, ap₂, sym, ◌∙◌, true≢false, append-nil, ◌⊎◌, inl, inr, list_all, and_parts, and_from, not-true, ◌>>=◌, Payload, payload_valid, Scalar, ScalarKind, elem, scalar_valid, scalar_eq, Kind, ScalarOf, MessageOf, GroupOf, ValueType, Singular, Field, Value, ScalarValue, MessageValue, ListValue, MapValue, AllowsInside, last, is_stray, records_in, one_allowed, MeansInside, present, joined, one_value, element, scalar_values, value_payload, field_payloads, TypePairs, same_kind, same_default, last_passes, scalar_decides}
+use Rattle.std.specs.Prelude.{◌≡◌, ◌&&◌, ◌∷◌, ◌++◌, ◌⊎◌}
+use Rattle.prost_reflect_laws.proofs.Common.{ℕ, Bool, true, false, cond, not, List, [], eq-eqb, subst, Option, Some, None, refl, ap, ap₂, sym, ◌∙◌, true≢false, append-nil, inl, inr, list_all, and_parts, and_from, not-true, ◌>>=◌, Payload, payload_valid, Scalar, ScalarKind, elem, scalar_valid, scalar_eq, Kind, ScalarOf, MessageOf, GroupOf, ValueType, Singular, Field, Value, ScalarValue, MessageValue, ListValue, MapValue, AllowsInside, last, is_stray, records_in, one_allowed, MeansInside, present, joined, one_value, element, scalar_values, value_payload, field_payloads, TypePairs, same_kind, same_default, last_passes, scalar_decides}
 use Rattle.prost_reflect_laws.proofs.Alike.{alike, SameType}
 use Rattle.prost_reflect_laws.proofs.ByNumber.{stored_payloads}
 use Rattle.prost_reflect_laws.proofs.Inside.{joined_valid, joined_allowed}

@@ -1,5 +1,6 @@
 -- Contents that are well-typed and of so many levels, number by number.
-use Rattle.prost_reflect_laws.proofs.Common.{◌≡◌, ℕ, ◌≤◌, Bool, true, false, cond, not, ◌&&◌, ◌||◌, List, [], ◌∷◌, nat_eq, nat_le, Option, Some, None, refl, ap, sym, ◌∙◌, subst, arith, true≢false, list_any, list_all, eqb-true, eq-eqb, leb-true, le-leb, and_parts, and_from, or-true, Payload, Field, Schema, known, field_of, same_oneof, is_sibling, numbers_differ, passes, Content, Entries, NoEntries, Stored, Unknown, Value, Slot, value_at, unknowns_at, slot_at, then_unknowns, then_value, table, numbers_in, ordered, comes_before, entries_ordered, value_ordered, unknown_levels, levels, entries_levels, value_levels, value_valid, unknown_fits, EntryTest, everywhere, entries_pass, value_passes, fit_test, has_value_of, is_alone, alone_test, is_empty_value, is_stored_default, filled_test, default_test, kind_for, Typed, EntriesTyped, ValueTyped, WellTyped, Ascending, eqb-sym, both_max, field_number}
+use Rattle.std.specs.Prelude.{◌≡◌, ◌≤◌, ◌&&◌, ◌||◌, ◌∷◌}
+use Rattle.prost_reflect_laws.proofs.Common.{ℕ, Bool, true, false, cond, not, List, [], nat_eq, nat_le, Option, Some, None, refl, ap, sym, ◌∙◌, subst, arith, true≢false, list_any, list_all, eqb-true, eq-eqb, leb-true, le-leb, and_parts, and_from, or-true, Payload, Field, Schema, known, field_of, same_oneof, is_sibling, numbers_differ, passes, Content, Entries, NoEntries, Stored, Unknown, Value, Slot, value_at, unknowns_at, slot_at, then_unknowns, then_value, table, numbers_in, ordered, comes_before, entries_ordered, value_ordered, unknown_levels, levels, entries_levels, value_levels, value_valid, unknown_fits, EntryTest, everywhere, entries_pass, value_passes, fit_test, has_value_of, is_alone, alone_test, is_empty_value, is_stored_default, filled_test, default_test, kind_for, Typed, EntriesTyped, ValueTyped, WellTyped, Ascending, eqb-sym, both_max, field_number}
 use Rattle.prost_reflect_laws.proofs.Everywhere.{stored_passes, both_tests, both_pass, both_parts, entries_parts}
 use Rattle.prost_reflect_laws.proofs.Arranged.{OrderedOption, table_ordered}
 use Rattle.prost_reflect_laws.proofs.Rebuilt.{rebuilt}

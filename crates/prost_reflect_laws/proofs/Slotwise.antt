@@ -1,5 +1,6 @@
 -- Entries said number by number: what stands at each number decides them.
-use Rattle.prost_reflect_laws.proofs.Common.{◌≡◌, ℕ, ◌+◌, Bool, true, false, cond, ◌&&◌, List, ◌∷◌, length, nat_eq, Option, Some, None, refl, ap, sym, ◌∙◌, arith, eqb-true, eq-eqb, and_parts, or_parts, ◌>>=◌, Field, field_of, Entries, NoEntries, Stored, Unknown, Value, Slot, value_at, unknowns_at, slot_at, then_value, insert_number, numbers_in, changed, comes_before, entries_ordered, value_ordered, kept_entries, kept_value, kept_inside, empty_slot, is_in, in_insert, eqb-sym, insert_ascending, Covers, table_covers, table_same, slot_table, slots_same, entries_ascending, slot_outside}
+use Rattle.std.specs.Prelude.{◌≡◌, ◌+◌, ◌&&◌, ◌∷◌}
+use Rattle.prost_reflect_laws.proofs.Common.{ℕ, Bool, true, false, cond, List, length, nat_eq, Option, Some, None, refl, ap, sym, ◌∙◌, arith, eqb-true, eq-eqb, and_parts, or_parts, ◌>>=◌, Field, field_of, Entries, NoEntries, Stored, Unknown, Value, Slot, value_at, unknowns_at, slot_at, then_value, insert_number, numbers_in, changed, comes_before, entries_ordered, value_ordered, kept_entries, kept_value, kept_inside, empty_slot, is_in, in_insert, eqb-sym, insert_ascending, Covers, table_covers, table_same, slot_table, slots_same, entries_ascending, slot_outside}
 use Rattle.prost_reflect_laws.proofs.Rebuilt.{rebuilt, no_value_below}
 
 -- ordered entries with the same slots are the same

@@ -1,5 +1,6 @@
 -- Records that bytes spell have a spelling without needless digits.
-use Rattle.prost_reflect_laws.proofs.Common.{◌≡◌, ◌^◌, ℕ, true, List, [], ◌∷◌, ◌++◌, length, refl, subst, lt-ltb, eq-eqb, and_from, AreBytes, WireType, Plain, Var, Fix64, Len, Fix32, Records, NoRecords, PlainRecord, GroupRecord, Record, body_of, Key, SpellsPlain, Spells, spelled, number_valid, plain_valid, valid, RecordFront, FieldFront, bytes_test, bytes_front, bytes_behind}
+use Rattle.std.specs.Prelude.{◌≡◌, ◌^◌, ◌∷◌, ◌++◌}
+use Rattle.prost_reflect_laws.proofs.Common.{ℕ, true, List, [], length, refl, subst, lt-ltb, eq-eqb, and_from, AreBytes, WireType, Plain, Var, Fix64, Len, Fix32, Records, NoRecords, PlainRecord, GroupRecord, Record, body_of, Key, SpellsPlain, Spells, spelled, number_valid, plain_valid, valid, RecordFront, FieldFront, bytes_test, bytes_front, bytes_behind}
 use Rattle.prost_reflect_wire.proofs.WrittenRecords.{spelled_front}
 
 key_valid : (n : ℕ) (w : WireType) (bytes : List ℕ) → Key n w bytes → number_valid n ≡ true

@@ -1,5 +1,6 @@
 -- The records of a content that fits its type have a spelling, if its bytes have a length.
-use Rattle.prost_reflect_laws.proofs.Common.{◌≡◌, ℕ, zero, suc, ◌+◌, ◌/◌, ◌%◌, ◌^◌, ◌<◌, ◌≤◌, Bool, true, false, cond, ◌&&◌, ℤ, pos, negsuc, List, [], ◌∷◌, ◌++◌, length, nat_lt, nat_eq, refl, ap, sym, ◌∙◌, arith, true≢false, length-append, SFits, ◌⊎◌, inl, inr, lt-ltb, ltb-true, and_parts, and_from, ⊤, w32, w64, to_le_bytes, bytes_low_first, byte_at, cast_unsigned, is_utf8, IsUtf8, encode_utf8, are_bytes, AreDigits, short, Plain, Var, Fix64, Len, Fix32, Records, NoRecords, PlainRecord, GroupRecord, Record, before, body_of, Payload, Flat, Group, plain_wire, short_key, short_plain, short_body, spelled, number_valid, plain_valid, valid, payload_valid, Scalar, F64, F32, I64, U64, I32, U32, Boolean, Text, Bytes, EnumNumber, ScalarKind, Double, Float, Int64, Uint64, Int32, Fixed64, Fixed32, BoolKind, StringKind, BytesKind, Uint32, Sfixed32, Sfixed64, Sint32, Sint64, Enum, written, zigzag, in_i32, is_declared, scalar_valid, short_varint, short_key_ok, all_append, WireType}
+use Rattle.std.specs.Prelude.{◌≡◌, ◌+◌, ◌/◌, ◌%◌, ◌^◌, ◌<◌, ◌≤◌, ◌&&◌, ◌∷◌, ◌++◌, ◌⊎◌}
+use Rattle.prost_reflect_laws.proofs.Common.{ℕ, zero, suc, Bool, true, false, cond, ℤ, pos, negsuc, List, [], length, nat_lt, nat_eq, refl, ap, sym, ◌∙◌, arith, true≢false, length-append, SFits, inl, inr, lt-ltb, ltb-true, and_parts, and_from, ⊤, w32, w64, to_le_bytes, bytes_low_first, byte_at, cast_unsigned, is_utf8, IsUtf8, encode_utf8, are_bytes, AreDigits, short, Plain, Var, Fix64, Len, Fix32, Records, NoRecords, PlainRecord, GroupRecord, Record, before, body_of, Payload, Flat, Group, plain_wire, short_key, short_plain, short_body, spelled, number_valid, plain_valid, valid, payload_valid, Scalar, F64, F32, I64, U64, I32, U32, Boolean, Text, Bytes, EnumNumber, ScalarKind, Double, Float, Int64, Uint64, Int32, Fixed64, Fixed32, BoolKind, StringKind, BytesKind, Uint32, Sfixed32, Sfixed64, Sint32, Sint64, Enum, written, zigzag, in_i32, is_declared, scalar_valid, short_varint, short_key_ok, all_append, WireType}
 use Rattle.std.proofs.lemmas.Str.{IsUtf8-from_is_utf8}
 use lib.Utf8.{scalar, scalars, encodes, scalar_cases}
 use Rattle.prost_reflect_laws.proofs.Table.{fits_64, unsigned_64}

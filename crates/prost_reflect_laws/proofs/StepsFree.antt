@@ -1,5 +1,6 @@
 -- More levels than are left change nothing of what records make of a content.
-use Rattle.prost_reflect_laws.proofs.Common.{◌≡◌, ℕ, zero, suc, ◌≤◌, ◌<◌, ◌^◌, Bool, true, false, cond, ◌&&◌, List, [], ◌∷◌, ◌++◌, length, map, nat_eq, nat_le, Option, Some, None, refl, ap, ap₂, sym, ◌∙◌, arith, true≢false, max, list_all, eqb-true, and_parts, ◌>>=◌, Payload, Record, body_of, valid, payload_valid, payload_levels, Kind, ScalarOf, MessageOf, GroupOf, FieldForm, Singular, Repeated, MapFrom, Field, Schema, known, field_of, is_sibling, is_message, numbers_differ, field_valid, schema_valid, passes, Content, ContentOf, Entries, Value, ScalarValue, MessageValue, ListValue, MapValue, Slot, schema_of, type_of, values_from, ◌and_then◌, slot_at, changed, insert_number, numbers_in, LEVEL_LIMIT, AllowsInside, body, records_in, is_len, is_group_payload, has_level, in_entry_allowed, field_allowed, record_allowed, nothing_inside, allows, value_payloads, unknown_payloads, MeansInside, JoinsInside, present_list, present_map, put, entry_key, content_in, values_in, pairs_in, one_joined, value_joined, value_step, value_steps, value_behind, slot_step, steps_by, empty_inside, joins_nothing, meaning, steps, levels, merged, records, encoded, is_of_type, WellTyped, passes_in, message_in, numbered_two, Agrees, element_agree, value_agree, source_allowed, allows_append, table_same, field_number, meaning_empty, same_behind, block, StaysWell, Writable}
+use Rattle.std.specs.Prelude.{◌≡◌, ◌≤◌, ◌<◌, ◌^◌, ◌&&◌, ◌∷◌, ◌++◌}
+use Rattle.prost_reflect_laws.proofs.Common.{ℕ, zero, suc, Bool, true, false, cond, List, [], length, map, nat_eq, nat_le, Option, Some, None, refl, ap, ap₂, sym, ◌∙◌, arith, true≢false, max, list_all, eqb-true, and_parts, ◌>>=◌, Payload, Record, body_of, valid, payload_valid, payload_levels, Kind, ScalarOf, MessageOf, GroupOf, FieldForm, Singular, Repeated, MapFrom, Field, Schema, known, field_of, is_sibling, is_message, numbers_differ, field_valid, schema_valid, passes, Content, ContentOf, Entries, Value, ScalarValue, MessageValue, ListValue, MapValue, Slot, schema_of, type_of, values_from, ◌and_then◌, slot_at, changed, insert_number, numbers_in, LEVEL_LIMIT, AllowsInside, body, records_in, is_len, is_group_payload, has_level, in_entry_allowed, field_allowed, record_allowed, nothing_inside, allows, value_payloads, unknown_payloads, MeansInside, JoinsInside, present_list, present_map, put, entry_key, content_in, values_in, pairs_in, one_joined, value_joined, value_step, value_steps, value_behind, slot_step, steps_by, empty_inside, joins_nothing, meaning, steps, levels, merged, records, encoded, is_of_type, WellTyped, passes_in, message_in, numbered_two, Agrees, element_agree, value_agree, source_allowed, allows_append, table_same, field_number, meaning_empty, same_behind, block, StaysWell, Writable}
 use Rattle.prost_reflect_laws.proofs.Checked.{known_valid, known_differ}
 use Rattle.prost_reflect_laws.proofs.Means.{first_valid}
 use Rattle.prost_reflect_laws.proofs.Means.{records_mean}

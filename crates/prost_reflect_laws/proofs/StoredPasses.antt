@@ -1,5 +1,6 @@
 -- Tests of entries, said number by number: a test that looks at each entry by itself holds of all exactly if it holds at each number.
-use Rattle.prost_reflect_laws.proofs.Common.{◌≡◌, ℕ, Bool, true, false, cond, ◌&&◌, List, [], ◌∷◌, ◌++◌, nat_eq, Option, Some, None, refl, ap, subst, sym, ◌∙◌, arith, true≢false, ⊤, list_all, eqb-true, eq-eqb, and_parts, and_from, Payload, Field, is_sibling, Entries, NoEntries, Stored, Unknown, Value, Slot, value_at, unknowns_at, slot_at, comes_before, entries_ordered, value_ordered, EntryTest, entries_pass, value_passes, with_value, with_stored, with_unknown, all_append}
+use Rattle.std.specs.Prelude.{◌≡◌, ◌&&◌, ◌∷◌, ◌++◌}
+use Rattle.prost_reflect_laws.proofs.Common.{ℕ, Bool, true, false, cond, List, [], nat_eq, Option, Some, None, refl, ap, subst, sym, ◌∙◌, arith, true≢false, ⊤, list_all, eqb-true, eq-eqb, and_parts, and_from, Payload, Field, is_sibling, Entries, NoEntries, Stored, Unknown, Value, Slot, value_at, unknowns_at, slot_at, comes_before, entries_ordered, value_ordered, EntryTest, entries_pass, value_passes, with_value, with_stored, with_unknown, all_append}
 use Rattle.prost_reflect_laws.proofs.Rebuilt.{no_value_below}
 
 -- the test of an entry, where it does not look at what stands behind

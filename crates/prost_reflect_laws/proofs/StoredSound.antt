@@ -1,5 +1,6 @@
 -- What storing a value of a field, or an unknown record, keeps of a content.
-use Rattle.prost_reflect_laws.proofs.Common.{◌≡◌, ℕ, Bool, true, false, cond, not, ◌&&◌, ◌||◌, List, [], ◌∷◌, ◌++◌, nat_eq, Option, Some, None, refl, ap, ap₂, sym, subst, ◌∙◌, list_any, and_parts, and_from, Payload, Field, Schema, known, field_of, same_oneof, is_sibling, numbers_differ, passes, ContentOf, Entries, NoEntries, Stored, Unknown, Value, Slot, value_at, slot_at, entries_ordered, EntryTest, entries_pass, value_passes, fit_test, alone_test, value_valid, unknown_fits, ValueStored, WellStored, has_value_of, with_value, with_stored, with_unknown}
+use Rattle.std.specs.Prelude.{◌≡◌, ◌&&◌, ◌||◌, ◌∷◌, ◌++◌}
+use Rattle.prost_reflect_laws.proofs.Common.{ℕ, Bool, true, false, cond, not, List, [], nat_eq, Option, Some, None, refl, ap, ap₂, sym, subst, ◌∙◌, list_any, and_parts, and_from, Payload, Field, Schema, known, field_of, same_oneof, is_sibling, numbers_differ, passes, ContentOf, Entries, NoEntries, Stored, Unknown, Value, Slot, value_at, slot_at, entries_ordered, EntryTest, entries_pass, value_passes, fit_test, alone_test, value_valid, unknown_fits, ValueStored, WellStored, has_value_of, with_value, with_stored, with_unknown}
 use Rattle.prost_reflect_laws.proofs.Everywhere.{stored_passes}
 use Rattle.prost_reflect_laws.proofs.Slots.{not_own, members_apart, apart_members, alone_changed}
 use Rattle.prost_reflect_laws.proofs.StoredPasses.{entries_stored_pass, entries_unknown_pass}

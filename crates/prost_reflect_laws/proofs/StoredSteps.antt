@@ -1,5 +1,6 @@
 -- What a record of a scalar field, or an unknown record, makes of what is kept: the step of the meaning.
-use Rattle.prost_reflect_laws.proofs.Common.{◌≡◌, ℕ, Bool, true, false, cond, ◌&&◌, ◌||◌, List, [], ◌∷◌, ◌++◌, nat_eq, Option, Some, None, refl, ap, sym, ◌∙◌, arith, append-nil, map, subst, eqb-true, eq-eqb, and_parts, ◌>>=◌, Record, Payload, Scalar, ScalarKind, elem, is_undeclared, ScalarOf, Singular, Field, Schema, known, field_of, is_sibling, is_singular, ContentOf, Entries, NoEntries, Stored, Unknown, Value, ScalarValue, Slot, value_at, slot_at, changed, insert_number, numbers_in, comes_before, entries_ordered, value_ordered, value_records, unknown_payloads, is_stray, MeansInside, JoinsInside, present, one_joined, value_joined, value_step, value_behind, slot_step, step_by, record_at, is_default_of, kept, kept_entries, kept_value, kept_inside, is_empty_value, with_value, with_stored, with_unknown, empty_slot, eqb-sym, insert_ascending, entries_ascending, slots_same, field_number, UnknownBack}
+use Rattle.std.specs.Prelude.{◌≡◌, ◌&&◌, ◌||◌, ◌∷◌, ◌++◌}
+use Rattle.prost_reflect_laws.proofs.Common.{ℕ, Bool, true, false, cond, List, [], nat_eq, Option, Some, None, refl, ap, sym, ◌∙◌, arith, append-nil, map, subst, eqb-true, eq-eqb, and_parts, ◌>>=◌, Record, Payload, Scalar, ScalarKind, elem, is_undeclared, ScalarOf, Singular, Field, Schema, known, field_of, is_sibling, is_singular, ContentOf, Entries, NoEntries, Stored, Unknown, Value, ScalarValue, Slot, value_at, slot_at, changed, insert_number, numbers_in, comes_before, entries_ordered, value_ordered, value_records, unknown_payloads, is_stray, MeansInside, JoinsInside, present, one_joined, value_joined, value_step, value_behind, slot_step, step_by, record_at, is_default_of, kept, kept_entries, kept_value, kept_inside, is_empty_value, with_value, with_stored, with_unknown, empty_slot, eqb-sym, insert_ascending, entries_ascending, slots_same, field_number, UnknownBack}
 use Rattle.prost_reflect_laws.proofs.Values.{value_records_known, unknown_known, one_value_payload, no_stray_payload}
 use Rattle.prost_reflect_laws.proofs.Arranged.{OrderedOption, table_ordered}
 use Rattle.prost_reflect_laws.proofs.Slotwise.{entries_same, slot_changed, kept_slot, slot_kept}

@@ -1,5 +1,6 @@
 -- Typed entries, said number by number.
-use Rattle.prost_reflect_laws.proofs.Common.{◌≡◌, ℕ, Bool, true, false, cond, ◌&&◌, List, [], ◌∷◌, ◌++◌, nat_eq, Option, Some, None, refl, ap, subst, sym, ◌∙◌, arith, true≢false, ⊤, eqb-true, eq-eqb, and_parts, Payload, Field, Schema, field_of, is_sibling, Entries, NoEntries, Stored, Unknown, Value, Slot, value_at, unknowns_at, slot_at, comes_before, entries_ordered, value_ordered, EntriesTyped, ValueTyped, kind_for, with_value, with_stored, with_unknown}
+use Rattle.std.specs.Prelude.{◌≡◌, ◌&&◌, ◌∷◌, ◌++◌}
+use Rattle.prost_reflect_laws.proofs.Common.{ℕ, Bool, true, false, cond, List, [], nat_eq, Option, Some, None, refl, ap, subst, sym, ◌∙◌, arith, true≢false, ⊤, eqb-true, eq-eqb, and_parts, Payload, Field, Schema, field_of, is_sibling, Entries, NoEntries, Stored, Unknown, Value, Slot, value_at, unknowns_at, slot_at, comes_before, entries_ordered, value_ordered, EntriesTyped, ValueTyped, kind_for, with_value, with_stored, with_unknown}
 use Rattle.prost_reflect_laws.proofs.Rebuilt.{no_value_below}
 
 abbrev pub OptionTyped : Schema → List Field → ℕ → Option Value → Type 0

@@ -1,5 +1,6 @@
 -- What stays unknown of records that are allowed stays so where it is read again, with no more levels.
-use Rattle.prost_reflect_laws.proofs.Common.{◌≡◌, ℕ, ◌≤◌, Bool, true, false, cond, ◌&&◌, List, [], ◌∷◌, filter, nat_eq, nat_le, Option, Some, None, refl, ap, sym, ◌∙◌, arith, true≢false, list_all, le-leb, and_parts, and_from, Payload, Record, payload_levels, number_valid, payload_valid, ScalarKind, Kind, ScalarOf, MessageOf, GroupOf, ValueType, FieldForm, Singular, Repeated, MapFrom, Field, Schema, field_of, is_key_kind, field_valid, passes, or_none, body, records_in, AllowsInside, is_len, one_allowed, has_level, in_entry_allowed, field_allowed, record_allowed, nothing_inside, element_payloads_in, is_stray, is_stray_entry, stray_payloads, unknown_payloads, greatest_level, stray_levels, is_whole_stray}
+use Rattle.std.specs.Prelude.{◌≡◌, ◌≤◌, ◌&&◌, ◌∷◌}
+use Rattle.prost_reflect_laws.proofs.Common.{ℕ, Bool, true, false, cond, List, [], filter, nat_eq, nat_le, Option, Some, None, refl, ap, sym, ◌∙◌, arith, true≢false, list_all, le-leb, and_parts, and_from, Payload, Record, payload_levels, number_valid, payload_valid, ScalarKind, Kind, ScalarOf, MessageOf, GroupOf, ValueType, FieldForm, Singular, Repeated, MapFrom, Field, Schema, field_of, is_key_kind, field_valid, passes, or_none, body, records_in, AllowsInside, is_len, one_allowed, has_level, in_entry_allowed, field_allowed, record_allowed, nothing_inside, element_payloads_in, is_stray, is_stray_entry, stray_payloads, unknown_payloads, greatest_level, stray_levels, is_whole_stray}
 use Rattle.prost_reflect_laws.proofs.Checked.{found_valid, checked_field, checked_map}
 use Rattle.prost_reflect_laws.proofs.Readable.{elements_in_valid}
 use Rattle.prost_reflect_laws.proofs.Allowed.{entry_levels, one_stray, stray_kind, key_kind}

@@ -1,5 +1,6 @@
 -- The records of a well-typed content have a spelling, if its bytes have a length.
-use Rattle.prost_reflect_laws.proofs.Common.{◌≡◌, ℕ, ◌+◌, ◌^◌, ◌<◌, Bool, true, false, cond, ◌&&◌, List, [], ◌∷◌, ◌++◌, map, length, nat_lt, Option, Some, None, refl, ap, sym, ◌∙◌, arith, true≢false, length-append, list_all, lt-ltb, and_parts, and_from, are_bytes, short, Len, Payload, Flat, Group, Record, body_of, spelled, number_valid, payload_valid, valid, Scalar, written, Kind, ScalarOf, MessageOf, GroupOf, ValueType, FieldForm, Singular, Repeated, MapFrom, Field, Schema, known, field_of, is_singular, field_valid, schema_valid, passes, is_list, Content, ContentOf, Entries, NoEntries, Stored, Unknown, Value, ScalarValue, MessageValue, ListValue, MapValue, Values, NoValues, Item, Pairs, NoPairs, Pair, schema_of, record_at, scalar_payload, message_payload, is_default_of, entry_record, payload_bytes, end_to_end, list_payloads, key_of, records, entries_records, field_payloads, value_payload, element_payloads, pair_payloads, kind_takes, element_valid, elements_valid, pairs_valid, value_valid, is_whole_stray, unknown_fits, entries_pass, value_passes, values_pass, pairs_pass, fit_test, encodable, Typed, EntriesTyped, ValueTyped, ValuesTyped, PairsTyped, all_append}
+use Rattle.std.specs.Prelude.{◌≡◌, ◌+◌, ◌^◌, ◌<◌, ◌&&◌, ◌∷◌, ◌++◌}
+use Rattle.prost_reflect_laws.proofs.Common.{ℕ, Bool, true, false, cond, List, [], map, length, nat_lt, Option, Some, None, refl, ap, sym, ◌∙◌, arith, true≢false, length-append, list_all, lt-ltb, and_parts, and_from, are_bytes, short, Len, Payload, Flat, Group, Record, body_of, spelled, number_valid, payload_valid, valid, Scalar, written, Kind, ScalarOf, MessageOf, GroupOf, ValueType, FieldForm, Singular, Repeated, MapFrom, Field, Schema, known, field_of, is_singular, field_valid, schema_valid, passes, is_list, Content, ContentOf, Entries, NoEntries, Stored, Unknown, Value, ScalarValue, MessageValue, ListValue, MapValue, Values, NoValues, Item, Pairs, NoPairs, Pair, schema_of, record_at, scalar_payload, message_payload, is_default_of, entry_record, payload_bytes, end_to_end, list_payloads, key_of, records, entries_records, field_payloads, value_payload, element_payloads, pair_payloads, kind_takes, element_valid, elements_valid, pairs_valid, value_valid, is_whole_stray, unknown_fits, entries_pass, value_passes, values_pass, pairs_pass, fit_test, encodable, Typed, EntriesTyped, ValueTyped, ValuesTyped, PairsTyped, all_append}
 use Rattle.prost_reflect_laws.proofs.Checked.{known_valid, known_number}
 use Rattle.prost_reflect_laws.proofs.Everywhere.{stored_passes}
 use Rattle.prost_reflect_laws.proofs.FieldTypes.{kind_at, option_typed}

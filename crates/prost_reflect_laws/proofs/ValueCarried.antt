@@ -1,5 +1,6 @@
 -- A value without messages that is set through an older type of a reduction.
-use Rattle.prost_reflect_laws.proofs.Common.{◌≡◌, ℕ, Bool, true, false, cond, not, ◌&&◌, ◌||◌, Option, Some, None, refl, ap, ap₂, sym, subst, ◌∙◌, true≢false, and_parts, or_parts, Scalar, ScalarKind, Kind, ScalarOf, ValueType, FieldForm, Singular, Repeated, MapFrom, Field, Schema, is_singular, is_packable_kind, is_list, Value, ScalarValue, MessageValue, ListValue, MapValue, Values, NoValues, Item, Pairs, NoPairs, Pair, value_ordered, pairs_ordered, AllowsInside, MeansInside, present, present_list, present_map, is_default_of, kind_takes, element_valid, elements_valid, pairs_valid, value_valid, is_empty_value, kept_value, kept_inside, kept_values, kept_pairs, holds_message, values_hold_message, pairs_hold_message, TypePairs, same_kind, same_form}
+use Rattle.std.specs.Prelude.{◌≡◌, ◌&&◌, ◌||◌}
+use Rattle.prost_reflect_laws.proofs.Common.{ℕ, Bool, true, false, cond, not, Option, Some, None, refl, ap, ap₂, sym, subst, ◌∙◌, true≢false, and_parts, or_parts, Scalar, ScalarKind, Kind, ScalarOf, ValueType, FieldForm, Singular, Repeated, MapFrom, Field, Schema, is_singular, is_packable_kind, is_list, Value, ScalarValue, MessageValue, ListValue, MapValue, Values, NoValues, Item, Pairs, NoPairs, Pair, value_ordered, pairs_ordered, AllowsInside, MeansInside, present, present_list, present_map, is_default_of, kind_takes, element_valid, elements_valid, pairs_valid, value_valid, is_empty_value, kept_value, kept_inside, kept_values, kept_pairs, holds_message, values_hold_message, pairs_hold_message, TypePairs, same_kind, same_form}
 use Rattle.prost_reflect_laws.proofs.Checked.{CheckedField, CheckedList, checked_list, CheckedMap, checked_map}
 use Rattle.prost_reflect_laws.proofs.FieldTypes.{singular, repeated}
 use Rattle.prost_reflect_laws.proofs.Alike.{SameType, same_type, default_of_alike}

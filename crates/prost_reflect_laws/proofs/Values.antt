@@ -1,5 +1,6 @@
 -- The records of one value are read as it: scalars, messages, lists that are not packed; and what stays unknown.
-use Rattle.prost_reflect_laws.proofs.Common.{◌≡◌, ℕ, true, false, cond, not, List, [], ◌∷◌, map, filter, flat_map, Option, Some, None, refl, ap, ap₂, sym, ◌∙◌, true≢false, append-nil, eqb-true, and_parts, ◌>>=◌, Record, Records, Payload, Flat, Len, items, body_of, valid, short_body, spelled, Scalar, ScalarKind, Enum, written, scalar_valid, is_undeclared, Kind, ScalarOf, MessageOf, GroupOf, FieldForm, Singular, Repeated, MapFrom, Field, field_of, Content, Value, ScalarValue, MessageValue, type_of, records_in, or_none, is_stray, is_stray_entry, element_payloads_in, value_records, value_payloads, stray_payloads, unknown_payloads, MeansInside, present, one_value, field_value, joined, record_at, scalar_payload, message_payload, is_default_of, records, field_payloads, is_of_type, is_whole_stray, items_body, spelled_read, short_spells, block, ValueBack, UnknownBack}
+use Rattle.std.specs.Prelude.{◌≡◌, ◌∷◌}
+use Rattle.prost_reflect_laws.proofs.Common.{ℕ, true, false, cond, not, List, [], map, filter, flat_map, Option, Some, None, refl, ap, ap₂, sym, ◌∙◌, true≢false, append-nil, eqb-true, and_parts, ◌>>=◌, Record, Records, Payload, Flat, Len, items, body_of, valid, short_body, spelled, Scalar, ScalarKind, Enum, written, scalar_valid, is_undeclared, Kind, ScalarOf, MessageOf, GroupOf, FieldForm, Singular, Repeated, MapFrom, Field, field_of, Content, Value, ScalarValue, MessageValue, type_of, records_in, or_none, is_stray, is_stray_entry, element_payloads_in, value_records, value_payloads, stray_payloads, unknown_payloads, MeansInside, present, one_value, field_value, joined, record_at, scalar_payload, message_payload, is_default_of, records, field_payloads, is_of_type, is_whole_stray, items_body, spelled_read, short_spells, block, ValueBack, UnknownBack}
 use Rattle.prost_reflect_laws.proofs.Table.{read_back, written_declared}
 
 -- a message's payload has the records that it was written from

@@ -1,5 +1,6 @@
 -- What is written of entries, number by number.
-use Rattle.prost_reflect_laws.proofs.Common.{◌≡◌, ℕ, Bool, true, false, cond, not, ◌&&◌, ◌||◌, List, [], ◌∷◌, ◌++◌, map, Option, Some, None, refl, ap, sym, ◌∙◌, append_assoc, append-nil, true≢false, ◌>>=◌, Record, Payload, Flat, Group, before, body_of, plain_wire, short_key, short_plain, short_body, spelled, Scalar, F64, F32, I64, U64, I32, U32, Boolean, Text, Bytes, EnumNumber, ScalarKind, Double, Float, Int64, Uint64, Int32, Fixed64, Fixed32, BoolKind, StringKind, BytesKind, Uint32, Sfixed32, Sfixed64, Sint32, Sint64, Enum, kind_wire, scalar_eq, scalar_valid, written, ScalarOf, Singular, Field, field_of, is_singular, Entries, Unknown, Value, ScalarValue, Slot, then_unknowns, then_value, store, Content, MessageValue, record_at, is_default_of, field_payloads, entries_records, scalar_payload, records, message_payload, kept_records, value_bytes, stored_bytes, slot_bytes, kept_value, kept_inside, kept_entries, is_empty_value, kept}
+use Rattle.std.specs.Prelude.{◌≡◌, ◌&&◌, ◌||◌, ◌∷◌, ◌++◌}
+use Rattle.prost_reflect_laws.proofs.Common.{ℕ, Bool, true, false, cond, not, List, [], map, Option, Some, None, refl, ap, sym, ◌∙◌, append_assoc, append-nil, true≢false, ◌>>=◌, Record, Payload, Flat, Group, before, body_of, plain_wire, short_key, short_plain, short_body, spelled, Scalar, F64, F32, I64, U64, I32, U32, Boolean, Text, Bytes, EnumNumber, ScalarKind, Double, Float, Int64, Uint64, Int32, Fixed64, Fixed32, BoolKind, StringKind, BytesKind, Uint32, Sfixed32, Sfixed64, Sint32, Sint64, Enum, kind_wire, scalar_eq, scalar_valid, written, ScalarOf, Singular, Field, field_of, is_singular, Entries, Unknown, Value, ScalarValue, Slot, then_unknowns, then_value, store, Content, MessageValue, record_at, is_default_of, field_payloads, entries_records, scalar_payload, records, message_payload, kept_records, value_bytes, stored_bytes, slot_bytes, kept_value, kept_inside, kept_entries, is_empty_value, kept}
 use Rattle.prost_reflect_wire.specs.declared.key.WireType.TheVariants as wires
 use Rattle.prost_reflect_laws.proofs.ByNumber.{unknowns_first}
 

@@ -1,5 +1,6 @@
 -- What an older type of a reduction writes number by number, the newer one reads number by number.
-use Rattle.prost_reflect_laws.proofs.Common.{◌≡◌, ℕ, ◌+◌, Bool, true, false, cond, ◌||◌, List, [], ◌∷◌, ◌++◌, map, filter, flat_map, length, Option, Some, None, refl, ap, ap₂, sym, subst, ◌∙◌, arith, true≢false, append-nil, list_any, list_all, list_all-append, and_parts, and_from, ◌>>=◌, Payload, Record, body_of, number_valid, payload_valid, valid, Field, Schema, known, field_of, is_sibling, ContentOf, Value, Slot, table, AllowsInside, has_number, payloads, value_records, value_payloads, stray_payloads, unknown_payloads, field_allowed, record_allowed, MeansInside, record_numbers, survive, field_value, value_meaning, unknowns_meaning, meaning_at, meaning_by, record_at, entries_records, TypePairs, Ascending, Covers, numbers_ascending, table_same, table_covers, slots_same, field_number, survive_none, flat_append, surviving_value, meaning_covers, block}
+use Rattle.std.specs.Prelude.{◌≡◌, ◌+◌, ◌||◌, ◌∷◌, ◌++◌}
+use Rattle.prost_reflect_laws.proofs.Common.{ℕ, Bool, true, false, cond, List, [], map, filter, flat_map, length, Option, Some, None, refl, ap, ap₂, sym, subst, ◌∙◌, arith, true≢false, append-nil, list_any, list_all, list_all-append, and_parts, and_from, ◌>>=◌, Payload, Record, body_of, number_valid, payload_valid, valid, Field, Schema, known, field_of, is_sibling, ContentOf, Value, Slot, table, AllowsInside, has_number, payloads, value_records, value_payloads, stray_payloads, unknown_payloads, field_allowed, record_allowed, MeansInside, record_numbers, survive, field_value, value_meaning, unknowns_meaning, meaning_at, meaning_by, record_at, entries_records, TypePairs, Ascending, Covers, numbers_ascending, table_same, table_covers, slots_same, field_number, survive_none, flat_append, surviving_value, meaning_covers, block}
 use Rattle.prost_reflect_laws.proofs.Spelt.{SoundPayloads, Sound}
 use Rattle.prost_reflect_laws.proofs.Readable.{numbered_valid}
 use Rattle.prost_reflect_laws.proofs.Matches.{TypesMatch, Like, like}

@@ -1,5 +1,6 @@
 -- Laws of reading one unknown field.
-use Rattle.prost_reflect_laws.specs.Common.{◌≡◌, ℕ, ◌^◌, ◌<◌, ◌≤◌, ◌⊎◌, List, [], ◌∷◌, ◌++◌, AreBytes, Record, Payload, spelled, payload_levels, RecordFront, FieldFront, ValueFront, StandsInField, StandsInValue, DecodeError}
+use Rattle.std.specs.Prelude.{◌≡◌, ◌^◌, ◌<◌, ◌≤◌, ◌⊎◌, ◌∷◌, ◌++◌}
+use Rattle.prost_reflect_laws.specs.Common.{ℕ, List, [], AreBytes, Record, Payload, spelled, payload_levels, RecordFront, FieldFront, ValueFront, StandsInField, StandsInValue, DecodeError}
 use Rattle.prost_reflect_wire.specs.declared.key.WireType.{WireType}
 use Rattle.prost_reflect_wire.specs.declared.error.DecodeError.TheVariants as errors
 

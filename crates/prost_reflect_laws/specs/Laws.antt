@@ -1,5 +1,6 @@
 -- Laws of the definitions.
-use Rattle.prost_reflect_laws.specs.Common.{◌≡◌, ◌≢◌, ℕ, suc, ◌≤◌, ◌<◌, ◌^◌, ◌↔◌, true, false, List, [], ◌∷◌, ◌++◌, length, map, flat_map, ⊤, max, Some, IsTrue, AreBytes, Records, Record, Payload, Flat, Spells, read, body_of, valid, payload_valid, short_body, Scalar, ScalarKind, elem, written, scalar_valid, is_undeclared, Schema, Field, Kind, ScalarOf, ValueType, Singular, Repeated, MapFrom, is_packable, known, field_of, is_sibling, schema_valid, Content, ContentOf, Entries, NoEntries, Stored, Unknown, Value, ScalarValue, MessageValue, ListValue, MapValue, Values, NoValues, Item, Pairs, NoPairs, Pair, schema_of, type_of, ordered, entries_ordered, pairs_ordered, LEVEL_LIMIT, Accepts, accepts, allows, element_payloads_in, is_stray, is_stray_entry, records_in, value_records, unknown_payloads, MeansInside, element, entry_key, entry_value, field_value, meaning, decoded, steps, is_default_of, value_payload, pair_payload, record_at, field_payloads, records, encoded, levels, kept, WellStored, Fitting, WellTyped, is_of_type, is_whole_stray, has_value_of, elements_valid, merged, set_at, PathTo}
+use Rattle.std.specs.Prelude.{◌≡◌, ◌≢◌, ◌≤◌, ◌<◌, ◌^◌, ◌↔◌, ◌∷◌, ◌++◌}
+use Rattle.prost_reflect_laws.specs.Common.{ℕ, suc, true, false, List, [], length, map, flat_map, ⊤, max, Some, IsTrue, AreBytes, Records, Record, Payload, Flat, Spells, read, body_of, valid, payload_valid, short_body, Scalar, ScalarKind, elem, written, scalar_valid, is_undeclared, Schema, Field, Kind, ScalarOf, ValueType, Singular, Repeated, MapFrom, is_packable, known, field_of, is_sibling, schema_valid, Content, ContentOf, Entries, NoEntries, Stored, Unknown, Value, ScalarValue, MessageValue, ListValue, MapValue, Values, NoValues, Item, Pairs, NoPairs, Pair, schema_of, type_of, ordered, entries_ordered, pairs_ordered, LEVEL_LIMIT, Accepts, accepts, allows, element_payloads_in, is_stray, is_stray_entry, records_in, value_records, unknown_payloads, MeansInside, element, entry_key, entry_value, field_value, meaning, decoded, steps, is_default_of, value_payload, pair_payload, record_at, field_payloads, records, encoded, levels, kept, WellStored, Fitting, WellTyped, is_of_type, is_whole_stray, has_value_of, elements_valid, merged, set_at, PathTo}
 
 -- READING
 

@@ -1,5 +1,6 @@
 -- The laws of faults, each proved as the contract of a function in the module laws::faults.
-use Rattle.prost_reflect_laws.specs.Common.{◌≡◌, ◌≢◌, ℕ, ◌↔◌, false, List, AreBytes, Schema, Accepts, accepts, Place, Stands, StandsInMessage, DecodeError}
+use Rattle.std.specs.Prelude.{◌≡◌, ◌≢◌, ◌↔◌}
+use Rattle.prost_reflect_laws.specs.Common.{ℕ, false, List, AreBytes, Schema, Accepts, accepts, Place, Stands, StandsInMessage, DecodeError}
 use Rattle.prost_reflect_wire.specs.declared.error.DecodeError.TheVariants as errors
 
 -- Bytes that are accepted have no fault.

@@ -1,5 +1,6 @@
 -- Laws of reduction: what an older message type makes of the bytes of a newer one (the encoding guide's account of unknown fields, "Updating A Message Type").
-use Rattle.prost_reflect_laws.specs.Common.{◌≡◌, ℕ, suc, ◌≤◌, ◌<◌, ◌^◌, true, false, List, length, Some, AreBytes, ◌>>=◌, Schema, schema_valid, Content, Value, Accepts, decoded, encoded, set_at, PathTo, holds_message, edited, Reduced}
+use Rattle.std.specs.Prelude.{◌≡◌, ◌≤◌, ◌<◌, ◌^◌}
+use Rattle.prost_reflect_laws.specs.Common.{ℕ, suc, true, false, List, length, Some, AreBytes, ◌>>=◌, Schema, schema_valid, Content, Value, Accepts, decoded, encoded, set_at, PathTo, holds_message, edited, Reduced}
 
 -- What the newer type accepts its reduction accepts.
 abbrev pub OlderAccepts : Type 0

@@ -1,5 +1,6 @@
 -- Reduction as a test: of all pairs of types, those that do not match are left out, until all that stay match.
-use Rattle.prost_reflect_laws.specs.Common.{◌≡◌, ℕ, zero, suc, ◌<◌, ◌↔◌, Bool, true, List, [], ◌∷◌, length, map, filter, flat_map, IsTrue, Schema, message_type, schema_valid, TypePairs, holds, types_match, Reduced}
+use Rattle.std.specs.Prelude.{◌≡◌, ◌<◌, ◌↔◌, ◌∷◌}
+use Rattle.prost_reflect_laws.specs.Common.{ℕ, zero, suc, Bool, true, List, [], length, map, filter, flat_map, IsTrue, Schema, message_type, schema_valid, TypePairs, holds, types_match, Reduced}
 
 abbrev pub numbers_below : ℕ → List ℕ
 numbers_below zero = []

@@ -1,5 +1,6 @@
 -- Worked examples of the test of reduction, which hold by computing.
-use Rattle.prost_reflect_laws.specs.Common.{◌≡◌, true, false, [], ◌∷◌, MessageOf, Singular, Schema, schema_valid}
+use Rattle.std.specs.Prelude.{◌≡◌, ◌∷◌}
+use Rattle.prost_reflect_laws.specs.Common.{true, false, [], MessageOf, Singular, Schema, schema_valid}
 use Rattle.prost_reflect_laws.specs.Reducing.{greatest_reduction, is_reduced}
 use Rattle.prost_reflect_laws.specs.Examples.Schemas.{field, int32, text, message_value_type, message}
 

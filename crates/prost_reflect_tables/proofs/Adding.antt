@@ -1,5 +1,6 @@
 -- Files are added one by one.
-use Rattle.prost_reflect_tables.proofs.Common.{◌≡◌, ℕ, Bool, true, false, not, cond, ◌&&◌, ◌||◌, List, [], ◌∷◌, ◌++◌, length, nat_eq, filter, String, refl, sym, ap, ◌∙◌, true≢false, append_assoc, append-nil, arith, list_any, Global, FileDescriptorProto, text_or_empty, is_unnamed}
+use Rattle.std.specs.Prelude.{◌≡◌, ◌&&◌, ◌||◌, ◌∷◌, ◌++◌}
+use Rattle.prost_reflect_tables.proofs.Common.{ℕ, Bool, true, false, not, cond, List, [], length, nat_eq, filter, String, refl, sym, ap, ◌∙◌, true≢false, append_assoc, append-nil, arith, list_any, Global, FileDescriptorProto, text_or_empty, is_unnamed}
 use Rattle.std.specs.Bool.{◌==◌}
 use Rattle.std.specs.Str.{bytes_eq}
 use Rattle.std.specs.BTreeSet.{BTreeSet, contains_text}

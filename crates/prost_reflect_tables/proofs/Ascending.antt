@@ -1,5 +1,6 @@
 -- Fields in ascending order of their numbers, and the place of a number among them.
-use Rattle.prost_reflect_tables.proofs.Common.{⊎_elim, ◌≡◌, ◌≢◌, ℕ, zero, suc, add-zero, ◌+◌, ◌<◌, ◌≤◌, ◌^◌, true, ◌&&◌, List, [], ◌∷◌, length, get_or, map, Some, None, refl, sym, ◌∙◌, ap, arith, slice_get, option_map, nat_lt, ◌==◌, position_from, length-map, slice_get-map, slice_get-get_or, slice_get_within, cases_lt, ltb-true, eq-eqb, ne_eqb, and_parts, FieldRow, field_row, place_of, ascending_from, FieldTable}
+use Rattle.std.specs.Prelude.{◌≡◌, ◌≢◌, ◌+◌, ◌<◌, ◌≤◌, ◌^◌, ◌&&◌, ◌∷◌, ◌==◌}
+use Rattle.prost_reflect_tables.proofs.Common.{⊎_elim, ℕ, zero, suc, add-zero, true, List, [], length, get_or, map, Some, None, refl, sym, ◌∙◌, ap, arith, slice_get, option_map, nat_lt, position_from, length-map, slice_get-map, slice_get-get_or, slice_get_within, cases_lt, ltb-true, eq-eqb, ne_eqb, and_parts, FieldRow, field_row, place_of, ascending_from, FieldTable}
 use Rattle.std.proofs.lemmas.Iterator.Adapters.{position_from-zero}
 
 pub rises : (low : ℕ) (g : FieldRow) (fields : List FieldRow) → ascending_from low (g ∷ fields) ≡ true → low < g.number

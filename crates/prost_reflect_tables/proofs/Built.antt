@@ -1,5 +1,6 @@
 -- What shows that rows are the tables of files.
-use Rattle.prost_reflect_tables.proofs.Common.{◌≡◌, List, [], refl, ap, ◌∙◌, subst, FileDescriptorProto, MessageTable, EnumTable, TableRows, rows_from, FlatRows, flattened, Checked, linked_rows, AreTablesOf}
+use Rattle.std.specs.Prelude.{◌≡◌}
+use Rattle.prost_reflect_tables.proofs.Common.{List, [], refl, ap, ◌∙◌, subst, FileDescriptorProto, MessageTable, EnumTable, TableRows, rows_from, FlatRows, flattened, Checked, linked_rows, AreTablesOf}
 use Rattle.prost_reflect_tables.specs.declared.error.PoolError.TheVariants as errors
 
 pub are_tables_of : (files : List FileDescriptorProto) (flat : FlatRows) (rows : TableRows) → flat ≡ flattened files → Checked files flat → rows ≡ linked_rows flat → AreTablesOf files rows

@@ -1,5 +1,6 @@
 -- What the catalog of checked files names is there: the rows of extensions, the message types of methods, and the files that files import.
-use Rattle.prost_reflect_tables.proofs.Common.{◌≡◌, ℕ, zero, suc, ◌+◌, ◌<◌, ℤ, pos, negsuc, Bool, true, false, cond, List, [], ◌∷◌, ◌++◌, length, map, get_or, Option, Some, None, is_none, unwrap_or, refl, sym, ap, ◌∙◌, subst, arith, slice_get, bytes_eq, nat_le, String, string_bytes, All, list_any, or_parts, eq-eqb, leb-false, ltb-true, length-map, slice_get-get_or, slice_get_within, unwrap_or-slice_get, FileDescriptorProto, FieldDescriptorProto, MethodDescriptorProto, Catalog, text_or_empty, FieldRow, TableRows, fields_at, fields_or_none, is_linked, DefinitionRow, FlatMessageRow, FlatServiceRow, FlatRows, flattened, any_field, name_place, place_named, file_names, message_names, names_nothing, extendee_missing, extendee_unknown, type_missing, type_unknown, method_type_missing, method_type_unknown, dependency_missing, import_outside, has_oneof_outside, is_outside, Checked, Links, links_of, natural_or_zero, place_or_first, is_place, extended_place, belonging, linked_field, declared_fields, fields_of_message, linked_message, put_in_order, in_order, linked_rows, AreTablesOf, FileRow, ExtensionRow, MethodRow, ServiceRow, CatalogRows, catalog_row, each_from, file_place, import_at, dependency_places, linked_file, linked_extension, linked_method, linked_service, linked_catalog, IsCatalogOf}
+use Rattle.std.specs.Prelude.{◌≡◌, ◌+◌, ◌<◌, ◌∷◌, ◌++◌}
+use Rattle.prost_reflect_tables.proofs.Common.{ℕ, zero, suc, ℤ, pos, negsuc, Bool, true, false, cond, List, [], length, map, get_or, Option, Some, None, is_none, unwrap_or, refl, sym, ap, ◌∙◌, subst, arith, slice_get, bytes_eq, nat_le, String, string_bytes, All, list_any, or_parts, eq-eqb, leb-false, ltb-true, length-map, slice_get-get_or, slice_get_within, unwrap_or-slice_get, FileDescriptorProto, FieldDescriptorProto, MethodDescriptorProto, Catalog, text_or_empty, FieldRow, TableRows, fields_at, fields_or_none, is_linked, DefinitionRow, FlatMessageRow, FlatServiceRow, FlatRows, flattened, any_field, name_place, place_named, file_names, message_names, names_nothing, extendee_missing, extendee_unknown, type_missing, type_unknown, method_type_missing, method_type_unknown, dependency_missing, import_outside, has_oneof_outside, is_outside, Checked, Links, links_of, natural_or_zero, place_or_first, is_place, extended_place, belonging, linked_field, declared_fields, fields_of_message, linked_message, put_in_order, in_order, linked_rows, AreTablesOf, FileRow, ExtensionRow, MethodRow, ServiceRow, CatalogRows, catalog_row, each_from, file_place, import_at, dependency_places, linked_file, linked_extension, linked_method, linked_service, linked_catalog, IsCatalogOf}
 use Rattle.std.proofs.Common.{Global}
 use Rattle.prost_reflect_tables.specs.declared.error.PoolError.TheVariants as errors
 use Rattle.prost_reflect_tables.specs.Places as places

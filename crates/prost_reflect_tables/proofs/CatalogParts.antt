@@ -1,5 +1,6 @@
 -- Rows of a catalog are equal where their parts are.
-use Rattle.prost_reflect_tables.proofs.Common.{◌≡◌, ℕ, Bool, List, length, ap, ◌∙◌, FileRow, MessageListsRow, EnumListsRow, ExtensionRow, ServiceRow, SortedRow, CatalogRows, catalog_row, FileDescriptorProto, Catalog, FlatRows, flattened, links_of, linked_rows, linked_catalog, IsCatalogOf, TableRows}
+use Rattle.std.specs.Prelude.{◌≡◌}
+use Rattle.prost_reflect_tables.proofs.Common.{ℕ, Bool, List, length, ap, ◌∙◌, FileRow, MessageListsRow, EnumListsRow, ExtensionRow, ServiceRow, SortedRow, CatalogRows, catalog_row, FileDescriptorProto, Catalog, FlatRows, flattened, links_of, linked_rows, linked_catalog, IsCatalogOf, TableRows}
 use Rattle.prost_reflect_tables.proofs.Linkwell.Items.{messages_length}
 
 abbrev make_same_file : List ℕ → List ℕ → List ℕ → List ℕ → List ℕ → List ℕ → Bool → FileRow

@@ -1,5 +1,6 @@
 -- Each place that the catalog of files names is there, and so is what encloses a row.
-use Rattle.prost_reflect_tables.proofs.Common.{◌≡◌, ℕ, zero, suc, ◌+◌, ◌<◌, ◌≤◌, Bool, true, false, not, cond, List, [], ◌∷◌, map, length, Option, Some, None, refl, sym, ap, ◌∙◌, subst, arith, slice_get, nat_le, All, length-map, All-nil, All-cons, All-head, All-tail, All-append, All-map, All-filter, get_or_from_slice_get, slice_get_within, same_Some, FieldDescriptorProto, FileDescriptorProto, IdentityRow, FieldRow, MessageRow, EnumRow, TableRows, fields_at, fields_or_none, DefinitionRow, FlatMessageRow, FlatEnumRow, FlatServiceRow, FlatRows, flattened, file_names, message_names, enum_names, names_of, Links, links_of, belonging, linked_field, put_in_order, in_order, extended_place, fields_of_message, declared_fields, linked_message, messages_from, linked_value, value_number, linked_enum, linked_rows, places_from, places_where, FileRow, MessageListsRow, EnumListsRow, ServiceRow, SortedRow, CatalogRows, catalog_row, Catalog, AreTablesOf, each_from, linked_file, field_names, json_names, own_fields, linked_lists, ordered, enum_lists, linked_service, value_names, sorted_places, service_names, linked_extension, linked_catalog, IsCatalogOf}
+use Rattle.std.specs.Prelude.{◌≡◌, ◌+◌, ◌<◌, ◌≤◌, ◌∷◌}
+use Rattle.prost_reflect_tables.proofs.Common.{ℕ, zero, suc, Bool, true, false, not, cond, List, [], map, length, Option, Some, None, refl, sym, ap, ◌∙◌, subst, arith, slice_get, nat_le, All, length-map, All-nil, All-cons, All-head, All-tail, All-append, All-map, All-filter, get_or_from_slice_get, slice_get_within, same_Some, FieldDescriptorProto, FileDescriptorProto, IdentityRow, FieldRow, MessageRow, EnumRow, TableRows, fields_at, fields_or_none, DefinitionRow, FlatMessageRow, FlatEnumRow, FlatServiceRow, FlatRows, flattened, file_names, message_names, enum_names, names_of, Links, links_of, belonging, linked_field, put_in_order, in_order, extended_place, fields_of_message, declared_fields, linked_message, messages_from, linked_value, value_number, linked_enum, linked_rows, places_from, places_where, FileRow, MessageListsRow, EnumListsRow, ServiceRow, SortedRow, CatalogRows, catalog_row, Catalog, AreTablesOf, each_from, linked_file, field_names, json_names, own_fields, linked_lists, ordered, enum_lists, linked_service, value_names, sorted_places, service_names, linked_extension, linked_catalog, IsCatalogOf}
 use Rattle.prost_reflect_tables.specs.Orders.{put_by, sorted_by, text_before, number_before}
 use Rattle.prost_reflect_tables.proofs.Built.{linked_of}
 use Rattle.prost_reflect_tables.proofs.FlatRanges.{StandsWithin, FieldWithin, MessageWithin, EnumWithin, ServiceWithin, flattened_within}

@@ -1,5 +1,6 @@
 -- Members of oneofs, and the keys and values of map entries, are fields of their message type, and none of them is an extension.
-use Rattle.prost_reflect_tables.proofs.Common.{◌≡◌, ℕ, zero, suc, ◌+◌, ◌≤◌, Bool, true, false, not, ◌&&◌, ◌||◌, List, [], ◌∷◌, ◌++◌, length, map, filter, nat_lt, Some, refl, sym, ap, ◌∙◌, arith, slice_get, list_all, and_from, lt-ltb, le-ltb, list_all-map, FieldDescriptorProto, FileDescriptorProto, OneofDescriptorProto, FieldRow, OneofRow, MessageRow, TableRows, fields_at, fields_or_none, is_declared_at, is_linked, ascending_from, is_entry, DefinitionRow, FlatMessageRow, FlatRows, flattened, Checked, Links, links_of, natural_or_zero, belonging, extended_place, linked_field, declared_fields, fields_of_message, linked_message, in_order, oneof_place, member_place, oneofs_from, linked_rows, AreTablesOf}
+use Rattle.std.specs.Prelude.{◌≡◌, ◌+◌, ◌≤◌, ◌&&◌, ◌||◌, ◌∷◌, ◌++◌}
+use Rattle.prost_reflect_tables.proofs.Common.{ℕ, zero, suc, Bool, true, false, not, List, [], length, map, filter, nat_lt, Some, refl, sym, ap, ◌∙◌, arith, slice_get, list_all, and_from, lt-ltb, le-ltb, list_all-map, FieldDescriptorProto, FileDescriptorProto, OneofDescriptorProto, FieldRow, OneofRow, MessageRow, TableRows, fields_at, fields_or_none, is_declared_at, is_linked, ascending_from, is_entry, DefinitionRow, FlatMessageRow, FlatRows, flattened, Checked, Links, links_of, natural_or_zero, belonging, extended_place, linked_field, declared_fields, fields_of_message, linked_message, in_order, oneof_place, member_place, oneofs_from, linked_rows, AreTablesOf}
 use Rattle.prost_reflect_tables.specs.Places.{is_declared}
 use Rattle.prost_reflect_tables.proofs.Ascending.{rises, onward, numbers_above}
 use Rattle.prost_reflect_tables.proofs.Built.{checked_of, linked_of}

@@ -1,5 +1,6 @@
 -- The flags that say which messages are entries of maps.
-use Rattle.prost_reflect_tables.proofs.Common.{◌≡◌, ℕ, zero, suc, ◌<◌, Bool, List, [], ◌∷◌, length, map, get_or, sym, ap, ◌∙◌, arith, is_entry, message_row, FlatMessage}
+use Rattle.std.specs.Prelude.{◌≡◌, ◌<◌, ◌∷◌}
+use Rattle.prost_reflect_tables.proofs.Common.{ℕ, zero, suc, Bool, List, [], length, map, get_or, sym, ap, ◌∙◌, arith, is_entry, message_row, FlatMessage}
 
 flag_of : (ms : List FlatMessage) (k : ℕ) (m : FlatMessage) (d : Bool) → k < length ms → m ≡ get_or ms k m → get_or (map is_entry (map message_row ms)) k d ≡ is_entry (message_row m)
 flag_of [] k m d within is = absurd (omega arith)

@@ -1,5 +1,6 @@
 -- Tables are equal where their rows are.
-use Rattle.prost_reflect_tables.proofs.Common.{◌≡◌, Bool, true, false, ◌&&◌, nat_eq, List, map, Option, Some, None, refl, sym, ◌∙◌, unsigned_ties, pointwise, texts_ties, Decides-at, scalar_eq, MessageTable, FieldTable, EnumTable, written_scalar, identity_row, field_row, oneof_row, enum_value_row, rows_of}
+use Rattle.std.specs.Prelude.{◌≡◌, ◌&&◌}
+use Rattle.prost_reflect_tables.proofs.Common.{Bool, true, false, nat_eq, List, map, Option, Some, None, refl, sym, ◌∙◌, unsigned_ties, pointwise, texts_ties, Decides-at, scalar_eq, MessageTable, FieldTable, EnumTable, written_scalar, identity_row, field_row, oneof_row, enum_value_row, rows_of}
 use Rattle.std.specs.Bool.{Decides, beq}
 use Rattle.std.specs.Option.{option_eq, option_map}
 use Rattle.std.specs.Cmp.Derive.Mapped.{pointwise-map}

@@ -1,5 +1,6 @@
 -- Files of equal contents give equal tables, and are refused for the same reasons.
-use Rattle.prost_reflect_tables.proofs.Common.{◌≡◌, ◌↔◌, IsTrue, List, [], ◌∷◌, map, refl, sym, ap, ap₂, ◌∙◌, true≢false, AllZip, pointwise, and_parts, and_from, FileDescriptorProto, of_file, SameFile, file_same, zip_same, PoolError, FlatRows, flattened, has_fault}
+use Rattle.std.specs.Prelude.{◌≡◌, ◌↔◌, ◌∷◌}
+use Rattle.prost_reflect_tables.proofs.Common.{IsTrue, List, [], map, refl, sym, ap, ap₂, ◌∙◌, true≢false, AllZip, pointwise, and_parts, and_from, FileDescriptorProto, of_file, SameFile, file_same, zip_same, PoolError, FlatRows, flattened, has_fault}
 use Rattle.prost_reflect_wire.specs.Content.{Content}
 use Rattle.prost_reflect_wire.specs.ContentEquality.{content_eq, content_same, content_refl}
 use Rattle.prost_reflect_tables.specs.declared.error.PoolError.TheVariants.{BadMapEntry, BadOptions, BadDefault, FloatDefault, MissingName, UnknownSyntax, MissingDependency, BadIndex, BadNumber, BadRange, MissingType, BadLabel, BadOneof, EmptyEnum, DuplicateName, UnknownType, DuplicateNumber, OutsideRange}

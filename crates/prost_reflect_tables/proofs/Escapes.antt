@@ -1,5 +1,6 @@
 -- Bytes that a text writes with escapes, byte by byte.
-use Rattle.prost_reflect_tables.proofs.Common.{◌≡◌, ℕ, zero, suc, ◌+◌, ◌-◌, ◌*◌, ◌≤◌, Bool, true, false, cond, List, [], ◌∷◌, ◌++◌, length, Option, Some, None, refl, sym, ap, ◌∙◌, arith, append_assoc, append-nil, nat_le, nat_eq, option_map, option_and_then, Front, front, is_octal, octal_digit, octal, letter, escaped, front_byte, unescaped_in, unescaped}
+use Rattle.std.specs.Prelude.{◌≡◌, ◌+◌, ◌-◌, ◌*◌, ◌≤◌, ◌∷◌, ◌++◌}
+use Rattle.prost_reflect_tables.proofs.Common.{ℕ, zero, suc, Bool, true, false, cond, List, [], length, Option, Some, None, refl, sym, ap, ◌∙◌, arith, append_assoc, append-nil, nat_le, nat_eq, option_map, option_and_then, Front, front, is_octal, octal_digit, octal, letter, escaped, front_byte, unescaped_in, unescaped}
 
 digit_shorter : (digits : Front) (text : List ℕ) → digits.rest ≡ text → length (octal_digit digits text).rest ≤ length text
 unfolding octal_digit

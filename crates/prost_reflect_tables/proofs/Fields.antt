@@ -1,5 +1,6 @@
 -- The fields of the schema that rows give, and the one of a number.
-use Rattle.prost_reflect_tables.proofs.Common.{◌≡◌, ℕ, zero, suc, Bool, true, false, cond, List, [], ◌∷◌, length, get_or, map, Option, Some, None, refl, sym, ap, ◌∙◌, slice_get, option_map, nat_lt, ◌==◌, position_or_len, eqb-true, ltb-false, find_at, length-map, get_or_from_slice_get, slice_get_read, slice_get-map, slice_get_past, Field, known, field_of, FieldTable, field_row, FieldRow, MessageRow, TableRows, fields_at, fields_or_none, row_of, place_of, is_linked, ascending_from, schema_from, schema_message, schema_field}
+use Rattle.std.specs.Prelude.{◌≡◌, ◌∷◌, ◌==◌}
+use Rattle.prost_reflect_tables.proofs.Common.{ℕ, zero, suc, Bool, true, false, cond, List, [], length, get_or, map, Option, Some, None, refl, sym, ap, ◌∙◌, slice_get, option_map, nat_lt, position_or_len, eqb-true, ltb-false, find_at, length-map, get_or_from_slice_get, slice_get_read, slice_get-map, slice_get_past, Field, known, field_of, FieldTable, field_row, FieldRow, MessageRow, TableRows, fields_at, fields_or_none, row_of, place_of, is_linked, ascending_from, schema_from, schema_message, schema_field}
 use Rattle.std.proofs.lemmas.List.Quantifiers.{position-Some}
 use Rattle.prost_reflect_tables.proofs.Ascending.{place_found}
 use Rattle.prost_reflect_tables.proofs.Keeping.{fields_ascend}

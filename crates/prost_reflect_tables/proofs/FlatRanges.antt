@@ -1,5 +1,6 @@
 -- What encloses a definition is there: its file, and the message around it.
-use Rattle.prost_reflect_tables.proofs.Common.{◌≡◌, ℕ, ◌+◌, ◌<◌, ◌≤◌, List, [], ◌∷◌, ◌++◌, map, length, Option, String, sym, ap, subst, arith, length-append, All, AllByRecursion, Global, All-nil, All-cons, All-append, FieldDescriptorProto, EnumDescriptorProto, ServiceDescriptorProto, FileDescriptorProto, DescriptorProto, fold-roll-DescriptorProto, ind-DescriptorProto, map-DescriptorProto, ScopeRow, DefinitionRow, FlatMessageRow, FlatEnumRow, FlatServiceRow, FlatRows, Given, Placed, defined, defined_from, field_name, enum_at, enums_from, service_at, services_from, all_from, inside, own_message, message_step, message_at, file_scope, file_at, files_from, flattened}
+use Rattle.std.specs.Prelude.{◌≡◌, ◌+◌, ◌<◌, ◌≤◌, ◌∷◌, ◌++◌}
+use Rattle.prost_reflect_tables.proofs.Common.{ℕ, List, [], map, length, Option, String, sym, ap, subst, arith, length-append, All, AllByRecursion, Global, All-nil, All-cons, All-append, FieldDescriptorProto, EnumDescriptorProto, ServiceDescriptorProto, FileDescriptorProto, DescriptorProto, fold-roll-DescriptorProto, ind-DescriptorProto, map-DescriptorProto, ScopeRow, DefinitionRow, FlatMessageRow, FlatEnumRow, FlatServiceRow, FlatRows, Given, Placed, defined, defined_from, field_name, enum_at, enums_from, service_at, services_from, all_from, inside, own_message, message_step, message_at, file_scope, file_at, files_from, flattened}
 use Rattle.std.specs.Option.{IfSome}
 use Rattle.prost_reflect_types.specs.declared.DescriptorProto.TheOpen.{DescriptorProto-F}
 

@@ -1,5 +1,6 @@
 -- How flat lists grow.
-use Rattle.prost_reflect_tables.proofs.Common.{◌≡◌, ℕ, ◌+◌, ◌<◌, List, [], ◌∷◌, ◌++◌, length, map, drop, get_or, refl, sym, ap, ◌∙◌, arith, append_assoc, append-nil, length-append, drop-cons, add-one, DescriptorProto, out-DescriptorProto, fold_out-DescriptorProto, FileDescriptorProto, ScopeRow, FlatMessageRow, FlatRows, Given, nothing, both, with_given, Placed, all_from, inside, own_message, enums_from, defined_from, field_name, message_step, message_at, services_from, file_scope, file_at, behind, files_from}
+use Rattle.std.specs.Prelude.{◌≡◌, ◌+◌, ◌<◌, ◌∷◌, ◌++◌}
+use Rattle.prost_reflect_tables.proofs.Common.{ℕ, List, [], length, map, drop, get_or, refl, sym, ap, ◌∙◌, arith, append_assoc, append-nil, length-append, drop-cons, add-one, DescriptorProto, out-DescriptorProto, fold_out-DescriptorProto, FileDescriptorProto, ScopeRow, FlatMessageRow, FlatRows, Given, nothing, both, with_given, Placed, all_from, inside, own_message, enums_from, defined_from, field_name, message_step, message_at, services_from, file_scope, file_at, behind, files_from}
 
 pub same_rows : (a b : FlatRows) → a.messages ≡ b.messages → a.enums ≡ b.enums → a.extensions ≡ b.extensions → a.services ≡ b.services → a ≡ b
 same_rows a b m e x s =

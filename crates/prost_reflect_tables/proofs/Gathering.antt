@@ -1,6 +1,6 @@
 -- Places of items by what the items belong to.
-use Rattle.prost_reflect_tables.proofs.Common.{◌≡◌, ℕ, zero, suc, ◌+◌, ◌<◌, ◌≤◌, Bool, true, false, cond, List, [], ◌∷◌, ◌++◌, map, length, Option, refl, sym, ap, ◌∙◌, arith, append_assoc, append-nil, get_or, drop, drop-cons, add-one, drop_all, slice_get, is_place, empty_lists, with_item, places_from, all_places, places_of, gathered}
-use Rattle.std.specs.Prelude.{unwrap_or}
+use Rattle.prost_reflect_tables.proofs.Common.{ℕ, zero, suc, Bool, true, false, cond, List, [], map, length, Option, refl, sym, ap, ◌∙◌, arith, append_assoc, append-nil, get_or, drop, drop-cons, add-one, drop_all, slice_get, is_place, empty_lists, with_item, places_from, all_places, places_of, gathered}
+use Rattle.std.specs.Prelude.{unwrap_or, ◌≡◌, ◌+◌, ◌<◌, ◌≤◌, ◌∷◌, ◌++◌}
 
 -- Behind each list the places of the items that belong to its place, where the first item is at the place p and the first list at i.
 abbrev pub behind : {X : Type 0} → (X → Option ℕ) → ℕ → List X → ℕ → List (List ℕ) → List (List ℕ)

@@ -1,5 +1,6 @@
 -- Lists of items, each list at its place.
-use Rattle.prost_reflect_tables.proofs.Common.{◌≡◌, ℕ, zero, suc, ◌+◌, ◌<◌, ◌≤◌, Bool, true, false, cond, List, [], ◌∷◌, ◌++◌, map, length, Option, Some, None, refl, sym, ap, ◌∙◌, arith, append_assoc, append-nil, get_or, drop, drop-cons, add-one, ◌≢◌, ◌⊎◌, ⊎_elim, inl, inr, Vec, map-append, drop_all, length-map, filter, nat_lt, slice_set, eq-eqb, ne_eqb, Links, is_place, belonging, linked_field, declared_fields, fields_of_message, extended_place, linked_message, messages_from, linked_oneof, oneof_place, oneofs_from, links_of, linked_enum, linked_rows, FieldTable, IdentityRow, FieldRow, OneofRow, MessageRow, EnumRow, identity_row, field_row, oneof_row, rows_from, FieldDescriptorProto, OneofDescriptorProto, FlatMessage, MessageTable, EnumTable, definition_row, message_row, DefinitionRow, FlatMessageRow, FlatRows, IsPartitionPoint, empty_lists, with_item, grouped, list_rows, messages_with}
+use Rattle.std.specs.Prelude.{◌≡◌, ◌+◌, ◌<◌, ◌≤◌, ◌∷◌, ◌++◌, ◌≢◌, ◌⊎◌}
+use Rattle.prost_reflect_tables.proofs.Common.{ℕ, zero, suc, Bool, true, false, cond, List, [], map, length, Option, Some, None, refl, sym, ap, ◌∙◌, arith, append_assoc, append-nil, get_or, drop, drop-cons, add-one, ⊎_elim, inl, inr, Vec, map-append, drop_all, length-map, filter, nat_lt, slice_set, eq-eqb, ne_eqb, Links, is_place, belonging, linked_field, declared_fields, fields_of_message, extended_place, linked_message, messages_from, linked_oneof, oneof_place, oneofs_from, links_of, linked_enum, linked_rows, FieldTable, IdentityRow, FieldRow, OneofRow, MessageRow, EnumRow, identity_row, field_row, oneof_row, rows_from, FieldDescriptorProto, OneofDescriptorProto, FlatMessage, MessageTable, EnumTable, definition_row, message_row, DefinitionRow, FlatMessageRow, FlatRows, IsPartitionPoint, empty_lists, with_item, grouped, list_rows, messages_with}
 use Rattle.std.proofs.Common.{Global}
 use Rattle.prost_reflect_tables.specs.Rows.{enum_row, message_row as table_row}
 use Rattle.prost_reflect_tables.specs.declared.build.flatten.Definition.{Definition}

@@ -1,5 +1,6 @@
 -- What linked rows keep, place by place.
-use Rattle.prost_reflect_tables.proofs.Common.{◌≡◌, ℕ, zero, suc, Bool, true, not, ◌||◌, List, [], ◌∷◌, length, Option, Some, None, refl, sym, ap, ◌∙◌, arith, slice_get, list_all, and_parts, schema_valid, FieldRow, MessageRow, TableRows, fields_at, fields_or_none, schema_from, is_linked, message_linked, field_linked, ascending_from, has_entry_numbers, kind_in_range}
+use Rattle.std.specs.Prelude.{◌≡◌, ◌||◌, ◌∷◌}
+use Rattle.prost_reflect_tables.proofs.Common.{ℕ, zero, suc, Bool, true, not, List, [], length, Option, Some, None, refl, sym, ap, ◌∙◌, arith, slice_get, list_all, and_parts, schema_valid, FieldRow, MessageRow, TableRows, fields_at, fields_or_none, schema_from, is_linked, message_linked, field_linked, ascending_from, has_entry_numbers, kind_in_range}
 
 pub passes_at : {X : Type 0} (p : X → Bool) (xs : List X) (i : ℕ) (x : X) → list_all p xs ≡ true → slice_get xs i ≡ Some x → p x ≡ true
 passes_at p [] i x h e = cc

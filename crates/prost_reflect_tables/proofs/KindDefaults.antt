@@ -1,5 +1,6 @@
 -- What kinds have where nothing is stored.
-use Rattle.prost_reflect_tables.proofs.Common.{◌≡◌, ℕ, Bool, List, None, refl, IsSome, IsSomeAnd, Scalar, kind_default, TableKind, EnumRow, schema_default, schema_kind, plain_kind}
+use Rattle.std.specs.Prelude.{◌≡◌}
+use Rattle.prost_reflect_tables.proofs.Common.{ℕ, Bool, List, None, refl, IsSome, IsSomeAnd, Scalar, kind_default, TableKind, EnumRow, schema_default, schema_kind, plain_kind}
 use Rattle.prost_reflect_tables.specs.declared.tables.TableKind.TheVariants as kinds
 
 pub scalar_kind : (kind : TableKind) → ((T : ℕ) → kind ≡ kinds.Message T → ⊥) → IsSome (plain_kind kind)

@@ -1,5 +1,6 @@
 -- Files that pass the checks link well.
-use Rattle.prost_reflect_tables.proofs.Common.{◌≡◌, ℕ, ℤ, is_some, ◌+◌, Bool, true, false, not, ◌&&◌, ◌||◌, List, map, length, Option, Some, None, refl, ap, ◌∙◌, arith, slice_get, nat_eq, list_all, and_from, lt-ltb, eqb-false, length-map, list_all-map, schema_valid, FieldDescriptorProto, FileDescriptorProto, schema_from, kind_in_range, oneof_in_range, field_linked, has_entry_numbers, message_linked, enum_linked, is_linked, DefinitionRow, FlatMessageRow, FlatEnumRow, FlatRows, oneof_outside, all_numbered, is_entry, links_of, place_in, linked_field, linked_message, linked_enum, linked_rows, linked_value, in_order, oneofs_from, fields_of_message}
+use Rattle.std.specs.Prelude.{◌≡◌, ◌+◌, ◌&&◌, ◌||◌}
+use Rattle.prost_reflect_tables.proofs.Common.{ℕ, ℤ, is_some, Bool, true, false, not, List, map, length, Option, Some, None, refl, ap, ◌∙◌, arith, slice_get, nat_eq, list_all, and_from, lt-ltb, eqb-false, length-map, list_all-map, schema_valid, FieldDescriptorProto, FileDescriptorProto, schema_from, kind_in_range, oneof_in_range, field_linked, has_entry_numbers, message_linked, enum_linked, is_linked, DefinitionRow, FlatMessageRow, FlatEnumRow, FlatRows, oneof_outside, all_numbered, is_entry, links_of, place_in, linked_field, linked_message, linked_enum, linked_rows, linked_value, in_order, oneofs_from, fields_of_message}
 use Rattle.prost_reflect_tables.proofs.Linkwell.Items.{none_at, all_from, messages_all}
 use Rattle.prost_reflect_tables.proofs.Linkwell.Numbers.{counted_once}
 use Rattle.prost_reflect_tables.proofs.Linkwell.Premises.{Sound, FieldChecked, numbers_differ, field_checked, extension_checked, message_checked, enum_checked}

@@ -1,5 +1,6 @@
 -- How sets and maps of names grow, name by name.
-use Rattle.prost_reflect_tables.proofs.Common.{◌≡◌, ℕ, ◌+◌, ◌<◌, Bool, true, false, cond, ◌||◌, List, [], ◌∷◌, ◌++◌, length, take, drop, get_or, Option, Some, None, refl, ap, ◌∙◌, arith, add-zero, zero-add, drop-cons, add-one, list_any, position_from, take_more, map-append, length-map, length-take, repeats, name_place, text_list}
+use Rattle.std.specs.Prelude.{◌≡◌, ◌+◌, ◌<◌, ◌||◌, ◌∷◌, ◌++◌}
+use Rattle.prost_reflect_tables.proofs.Common.{ℕ, Bool, true, false, cond, List, [], length, take, drop, get_or, Option, Some, None, refl, ap, ◌∙◌, arith, add-zero, zero-add, drop-cons, add-one, list_any, position_from, take_more, map-append, length-map, length-take, repeats, name_place, text_list}
 use denote.Bor.{Bor}
 use Rattle.std.specs.Str.{bytes_eq}
 use Rattle.std.proofs.lemmas.Slice.Eq.{bytes_eq-Decides}

@@ -1,5 +1,6 @@
 -- Sets of fields by their message and number.
-use Rattle.prost_reflect_tables.proofs.Common.{⊎_elim, ◌≡◌, ℕ, ℤ, ◌+◌, ◌<◌, Bool, true, false, cond, ◌&&◌, ◌||◌, List, [], ◌∷◌, ◌++◌, length, take, drop, get_or, refl, sym, ap, ◌∙◌, arith, drop-cons, add-one, nat_eq, nat_cmp, int_cmp, int_eq, is_eq, ordering_then, nat_cmp_is, list_any, cases_lt, ne_eqb, eq-eqb, Decides-int_eq, take_more, map-append, same_numbered, number_repeats, numbered, numbered_list}
+use Rattle.std.specs.Prelude.{◌≡◌, ◌+◌, ◌<◌, ◌&&◌, ◌||◌, ◌∷◌, ◌++◌}
+use Rattle.prost_reflect_tables.proofs.Common.{⊎_elim, ℕ, ℤ, Bool, true, false, cond, List, [], length, take, drop, get_or, refl, sym, ap, ◌∙◌, arith, drop-cons, add-one, nat_eq, nat_cmp, int_cmp, int_eq, is_eq, ordering_then, nat_cmp_is, list_any, cases_lt, ne_eqb, eq-eqb, Decides-int_eq, take_more, map-append, same_numbered, number_repeats, numbered, numbered_list}
 use Rattle.std.specs.declared.cmp.Ordering.{Ordering}
 use Rattle.std.specs.declared.cmp.Ordering.TheVariants.{Less, Equal, Greater}
 

@@ -1,5 +1,6 @@
 -- The bool options in bytes, record by record.
-use Rattle.prost_reflect_tables.proofs.Common.{◌≡◌, ◌≢◌, ℕ, ◌<◌, ◌≤◌, max, Bool, true, false, cond, not, List, [], ◌∷◌, length, Option, Some, None, refl, sym, ap, subst, ◌∙◌, arith, append-nil, nat_eq, nat_le, ◌&&◌, option_map, list_all, leb-true, eq-eqb, ne_eqb, AreBytes, Var, Fix64, Len, Fix32, Payload, Flat, Group, Record, record_at, Records, NoRecords, PlainRecord, GroupRecord, Spells, before, items, payload_wire, raw_levels, payload_levels, read, bool_of, bool_among, bool_in}
+use Rattle.std.specs.Prelude.{◌≡◌, ◌≢◌, ◌<◌, ◌≤◌, ◌∷◌, ◌&&◌}
+use Rattle.prost_reflect_tables.proofs.Common.{ℕ, max, Bool, true, false, cond, not, List, [], length, Option, Some, None, refl, sym, ap, subst, ◌∙◌, arith, append-nil, nat_eq, nat_le, option_map, list_all, leb-true, eq-eqb, ne_eqb, AreBytes, Var, Fix64, Len, Fix32, Payload, Flat, Group, Record, record_at, Records, NoRecords, PlainRecord, GroupRecord, Spells, before, items, payload_wire, raw_levels, payload_levels, read, bool_of, bool_among, bool_in}
 use Rattle.prost_reflect_wire.specs.declared.error.DecodeError.{DecodeError}
 use Rattle.prost_reflect_wire.specs.declared.key.WireType.{WireType}
 use Rattle.prost_reflect_wire.specs.declared.key.WireType.TheVariants as wires

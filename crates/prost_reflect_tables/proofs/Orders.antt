@@ -1,5 +1,6 @@
 -- Two lists in one order, in which equal items stand alike, are one list.
-use Rattle.prost_reflect_tables.proofs.Common.{◌≡◌, ℕ, suc, ◌<◌, ◌≤◌, Bool, true, false, cond, not, ◌&&◌, List, [], ◌∷◌, length, get_or, refl, sym, ap, ◌∙◌, arith, true≢false, filter, IsStrictWeakOrder, IsSortedBy, IsStableBy, ties}
+use Rattle.std.specs.Prelude.{◌≡◌, ◌<◌, ◌≤◌, ◌&&◌, ◌∷◌}
+use Rattle.prost_reflect_tables.proofs.Common.{ℕ, suc, Bool, true, false, cond, not, List, [], length, get_or, refl, sym, ap, ◌∙◌, arith, true≢false, filter, IsStrictWeakOrder, IsSortedBy, IsStableBy, ties}
 use Rattle.std.proofs.lemmas.List.Sorted.{sorted_far}
 use Rattle.prost_reflect_tables.specs.Orders.{put_by, sorted_by}
 

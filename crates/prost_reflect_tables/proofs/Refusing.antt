@@ -1,5 +1,6 @@
 -- Files that have none of the faults pass the checks, and no fault stands in files that do.
-use Rattle.prost_reflect_tables.proofs.Common.{◌≡◌, ℕ, false, List, [], ◌∷◌, Some, slice_get, refl, list_any, FileDescriptorProto, PoolError, FlatRows, has_fault, Checked}
+use Rattle.std.specs.Prelude.{◌≡◌, ◌∷◌}
+use Rattle.prost_reflect_tables.proofs.Common.{ℕ, false, List, [], Some, slice_get, refl, list_any, FileDescriptorProto, PoolError, FlatRows, has_fault, Checked}
 use Rattle.prost_reflect_tables.specs.declared.error.PoolError.TheVariants as errors
 use Rattle.prost_reflect_tables.proofs.Linkwell.Items.{none_at}
 

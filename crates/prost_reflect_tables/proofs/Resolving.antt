@@ -1,7 +1,7 @@
 -- What is found of resolved fields is found of their definitions.
-use Rattle.prost_reflect_tables.proofs.Common.{◌≡◌, Bool, ◌||◌, ◌++◌, cond, List, [], ◌∷◌, map, Option, Some, None, refl, sym, ap, ap₂, ◌∙◌, String, list_any, ℕ, ◌+◌, ◌&&◌, false, true, FieldDescriptorProto, DefinitionRow, FlatMessageRow, FlatRows, message_names, enum_names, names_nothing, place_named, type_unknown, extendee_unknown, extension_outside, is_message_type, is_enum_type, Numbered, number_or_zero, numbered_at, numbered_extensions, is_of_entry, wrongly_of_entry, default_bad, float_default_bad, gathered, grouped, linked_extension, Links, links_of, is_place, belonging, extended_place, kind_of_code, linked_default, linked_kind, linked_field, declared_fields, natural_or_zero, FieldRow, TableRows, ResolvedRow, resolve, resolved_field, resolved_extension}
+use Rattle.prost_reflect_tables.proofs.Common.{Bool, cond, List, [], map, Option, Some, None, refl, sym, ap, ap₂, ◌∙◌, String, list_any, ℕ, false, true, FieldDescriptorProto, DefinitionRow, FlatMessageRow, FlatRows, message_names, enum_names, names_nothing, place_named, type_unknown, extendee_unknown, extension_outside, is_message_type, is_enum_type, Numbered, number_or_zero, numbered_at, numbered_extensions, is_of_entry, wrongly_of_entry, default_bad, float_default_bad, gathered, grouped, linked_extension, Links, links_of, is_place, belonging, extended_place, kind_of_code, linked_default, linked_kind, linked_field, declared_fields, natural_or_zero, FieldRow, TableRows, ResolvedRow, resolve, resolved_field, resolved_extension}
 use Rattle.std.proofs.Common.{Global}
-use Rattle.std.specs.Prelude.{unwrap_or}
+use Rattle.std.specs.Prelude.{unwrap_or, ◌≡◌, ◌||◌, ◌++◌, ◌∷◌, ◌+◌, ◌&&◌}
 use Rattle.prost_reflect_tables.proofs.Gathering.{rows_gathered}
 use Rattle.prost_reflect_tables.specs.ResolvedFaults.{unfound, type_unfound, extendee_unfound, found_outside, numbered_found, found_of_entry, wrongly_found, bad_read, bad_float}
 

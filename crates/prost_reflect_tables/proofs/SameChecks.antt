@@ -1,5 +1,6 @@
 -- Files of equal contents are refused for the same reasons.
-use Rattle.prost_reflect_tables.proofs.Common.{◌≡◌, ℕ, zero, suc, ◌+◌, nat_eq, ℤ, Bool, false, not, ◌||◌, List, [], ◌∷◌, ◌++◌, length, Option, Some, None, String, string_bytes, Vec, is_none, refl, ap, ap₂, ◌∙◌, option_and_then, slice_get, AllZip, list_any, length_all_zip, Global, FileDescriptorProto, FieldDescriptorProto, MethodDescriptorProto, SameText, SameTexts, SameExtensionRange, SameReservedRange, SameField, SameOneof, SameEnumReservedRange, SameEnumValue, SameMethod, SameFile, zip_same, text_or_empty, without_dot, DefinitionRow, FlatMessageRow, FlatEnumRow, FlatServiceRow, FlatRows, any_field, is_unnamed, message_unnamed, enum_unnamed, service_unnamed, missing_name, syntax_unknown, unknown_syntax, is_outside, import_outside, oneof_outside, has_oneof_outside, bad_index, number_bad, bad_number, range_bad, message_range_bad, enum_range_bad, bad_range, type_missing, extendee_missing, method_type_missing, missing_type, label_bad, bad_label, is_member, repeated_member, bad_oneof, enum_empty, empty_enum, names_of, names_in_messages, names_in_enums, names_in_services, repeats, duplicate_name, name_place, place_named, file_names, message_names, enum_names, dependency_missing, missing_dependency, names_nothing, type_unknown, extendee_unknown, method_type_unknown, unknown_type, is_in_range, message_named, is_out_of, extension_outside, outside_range, Numbered, number_or_zero, numbered_fields, numbered_in, numbered_at, numbered_extensions, number_repeats, duplicate_number}
+use Rattle.std.specs.Prelude.{◌≡◌, ◌+◌, ◌||◌, ◌∷◌, ◌++◌}
+use Rattle.prost_reflect_tables.proofs.Common.{ℕ, zero, suc, nat_eq, ℤ, Bool, false, not, List, [], length, Option, Some, None, String, string_bytes, Vec, is_none, refl, ap, ap₂, ◌∙◌, option_and_then, slice_get, AllZip, list_any, length_all_zip, Global, FileDescriptorProto, FieldDescriptorProto, MethodDescriptorProto, SameText, SameTexts, SameExtensionRange, SameReservedRange, SameField, SameOneof, SameEnumReservedRange, SameEnumValue, SameMethod, SameFile, zip_same, text_or_empty, without_dot, DefinitionRow, FlatMessageRow, FlatEnumRow, FlatServiceRow, FlatRows, any_field, is_unnamed, message_unnamed, enum_unnamed, service_unnamed, missing_name, syntax_unknown, unknown_syntax, is_outside, import_outside, oneof_outside, has_oneof_outside, bad_index, number_bad, bad_number, range_bad, message_range_bad, enum_range_bad, bad_range, type_missing, extendee_missing, method_type_missing, missing_type, label_bad, bad_label, is_member, repeated_member, bad_oneof, enum_empty, empty_enum, names_of, names_in_messages, names_in_enums, names_in_services, repeats, duplicate_name, name_place, place_named, file_names, message_names, enum_names, dependency_missing, missing_dependency, names_nothing, type_unknown, extendee_unknown, method_type_unknown, unknown_type, is_in_range, message_named, is_out_of, extension_outside, outside_range, Numbered, number_or_zero, numbered_fields, numbered_in, numbered_at, numbered_extensions, number_repeats, duplicate_number}
 use Rattle.prost_reflect_tables.proofs.SameRows.{zip_map, zip_any, by_text, text_same, SameRow, SameMessageRow, SameEnumRow, SameServiceRow, SameRows}
 use Rattle.prost_reflect_tables.proofs.SameLinked.{place_same, message_names_same, enum_names_same}
 

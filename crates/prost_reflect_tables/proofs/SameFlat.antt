@@ -1,5 +1,6 @@
 -- Files of equal contents have rows that hold the same.
-use Rattle.prost_reflect_tables.proofs.Common.{◌≡◌, ℕ, ◌+◌, pos, List, [], ◌∷◌, ◌++◌, map, Option, Some, None, String, bytes_eq, refl, sym, ap, ap₂, ◌∙◌, subst, codes, AllZip, length_all_zip, Global, FieldDescriptorProto, EnumDescriptorProto, ServiceDescriptorProto, FileDescriptorProto, DescriptorProto, out-DescriptorProto, fold-roll-DescriptorProto, fold_out-DescriptorProto, ind-DescriptorProto, map-DescriptorProto, of_message, SameText, SameField, SameOneof, SameEnumValue, SameEnum, SameMethod, SameService, SameLayer, SameFile, message_same, joined, ScopeRow, DefinitionRow, Placed, defined, defined_from, field_name, oneof_name, value_name, method_name, enum_at, enums_from, service_at, services_from, all_from, inside, message_parts, own_message, message_step, message_at, file_scope, file_at, files_from, flattened}
+use Rattle.std.specs.Prelude.{◌≡◌, ◌+◌, ◌∷◌, ◌++◌}
+use Rattle.prost_reflect_tables.proofs.Common.{ℕ, pos, List, [], map, Option, Some, None, String, bytes_eq, refl, sym, ap, ap₂, ◌∙◌, subst, codes, AllZip, length_all_zip, Global, FieldDescriptorProto, EnumDescriptorProto, ServiceDescriptorProto, FileDescriptorProto, DescriptorProto, out-DescriptorProto, fold-roll-DescriptorProto, fold_out-DescriptorProto, ind-DescriptorProto, map-DescriptorProto, of_message, SameText, SameField, SameOneof, SameEnumValue, SameEnum, SameMethod, SameService, SameLayer, SameFile, message_same, joined, ScopeRow, DefinitionRow, Placed, defined, defined_from, field_name, oneof_name, value_name, method_name, enum_at, enums_from, service_at, services_from, all_from, inside, message_parts, own_message, message_step, message_at, file_scope, file_at, files_from, flattened}
 use Rattle.prost_reflect_types.specs.declared.DescriptorProto.TheOpen.{DescriptorProto-F}
 use Rattle.prost_reflect_tables.proofs.SameRows.{zip_append, text_same, SameRow, SameParts, SameMessageRow, SameEnumRow, SameServiceRow, SameRows, SameGiven}
 

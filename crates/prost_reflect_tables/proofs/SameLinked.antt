@@ -1,5 +1,6 @@
 -- Rows that hold the same are linked to the same tables.
-use Rattle.prost_reflect_tables.proofs.Common.{◌≡◌, ℕ, ◌+◌, Bool, true, false, List, [], ◌∷◌, ◌++◌, map, Option, Some, None, String, Vec, refl, ap, ap₂, ◌∙◌, AllZip, Global, FieldDescriptorProto, OneofDescriptorProto, EnumValueDescriptorProto, SameText, SameBytes, SameField, SameOneof, SameEnumValue, SameEnum, TableKind, bracketed, without_dot, bool_option, bool_in, field_default, FieldRow, OneofRow, MessageRow, DefinitionRow, FlatMessageRow, FlatEnumRow, FlatRows, name_place, place_named, message_names, enum_names, Links, links_of, json_name_or, json_name, linked_identity, linked_value, linked_kind, linked_default, values_of_kind, linked_field, in_order, extended_place, is_place, belonging, fields_of_message, oneof_place, member_place, linked_oneof, oneofs_from, linked_message, messages_from, linked_enum, linked_rows}
+use Rattle.std.specs.Prelude.{◌≡◌, ◌+◌, ◌∷◌, ◌++◌}
+use Rattle.prost_reflect_tables.proofs.Common.{ℕ, Bool, true, false, List, [], map, Option, Some, None, String, Vec, refl, ap, ap₂, ◌∙◌, AllZip, Global, FieldDescriptorProto, OneofDescriptorProto, EnumValueDescriptorProto, SameText, SameBytes, SameField, SameOneof, SameEnumValue, SameEnum, TableKind, bracketed, without_dot, bool_option, bool_in, field_default, FieldRow, OneofRow, MessageRow, DefinitionRow, FlatMessageRow, FlatEnumRow, FlatRows, name_place, place_named, message_names, enum_names, Links, links_of, json_name_or, json_name, linked_identity, linked_value, linked_kind, linked_default, values_of_kind, linked_field, in_order, extended_place, is_place, belonging, fields_of_message, oneof_place, member_place, linked_oneof, oneofs_from, linked_message, messages_from, linked_enum, linked_rows}
 use Rattle.prost_reflect_tables.proofs.SameRows.{zip_map, zip_filter, by_text, by_bytes, text_same, SameRow, SameParts, SameMessageRow, SameEnumRow, SameRows}
 
 -- IDENTITIES

@@ -1,5 +1,6 @@
 -- Files of equal contents have the same written defaults, map entries and options.
-use Rattle.prost_reflect_tables.proofs.Common.{◌≡◌, ℕ, nat_eq, true, not, ◌&&◌, ◌||◌, List, [], ◌∷◌, Option, String, Vec, is_some, refl, ap, ◌∙◌, AllZip, list_any, length_all_zip, Global, FieldDescriptorProto, MethodDescriptorProto, SameText, SameBytes, SameExtensionRange, SameField, SameMethod, DefinitionRow, FlatMessageRow, FlatRows, Links, links_of, linked_kind, default_misplaced, default_unread, default_bad, bad_default, float_default_bad, float_default, is_entry, is_entry_key, is_entry_value, is_key_and_value, entry_bad, is_entry_message, names_entry, is_of_entry, wrongly_of_entry, method_of_entry, bad_map_entry}
+use Rattle.std.specs.Prelude.{◌≡◌, ◌&&◌, ◌||◌, ◌∷◌}
+use Rattle.prost_reflect_tables.proofs.Common.{ℕ, nat_eq, true, not, List, [], Option, String, Vec, is_some, refl, ap, ◌∙◌, AllZip, list_any, length_all_zip, Global, FieldDescriptorProto, MethodDescriptorProto, SameText, SameBytes, SameExtensionRange, SameField, SameMethod, DefinitionRow, FlatMessageRow, FlatRows, Links, links_of, linked_kind, default_misplaced, default_unread, default_bad, bad_default, float_default_bad, float_default, is_entry, is_entry_key, is_entry_value, is_key_and_value, entry_bad, is_entry_message, names_entry, is_of_entry, wrongly_of_entry, method_of_entry, bad_map_entry}
 use Rattle.prost_reflect_tables.specs.OptionFaults.{bytes_suit_option, option_bad, bad_options}
 use Rattle.prost_reflect_tables.proofs.SameRows.{zip_any, by_text, by_bytes, SameRow, SameMessageRow, SameServiceRow, SameRows}
 use Rattle.prost_reflect_tables.proofs.SameLinked.{place_same, option_same, default_same, links_same}

@@ -1,5 +1,6 @@
 -- Rows that hold the same, wherever it lies in memory.
-use Rattle.prost_reflect_tables.proofs.Common.{◌≡◌, ℕ, Bool, true, false, cond, ◌||◌, List, [], ◌∷◌, ◌++◌, map, Option, Some, None, String, string_bytes, Vec, refl, sym, ap, ap₂, ◌∙◌, filter, AllZip, list_any, Global, SameText, SameBytes, SameExtensionRange, SameReservedRange, SameField, SameOneof, SameEnumValue, SameEnum, SameMethod, SameService, text_or_empty, DefinitionRow, MessageParts, FlatMessageRow, FlatEnumRow, FlatServiceRow, FlatRows, Given}
+use Rattle.std.specs.Prelude.{◌≡◌, ◌||◌, ◌∷◌, ◌++◌}
+use Rattle.prost_reflect_tables.proofs.Common.{ℕ, Bool, true, false, cond, List, [], map, Option, Some, None, String, string_bytes, Vec, refl, sym, ap, ap₂, ◌∙◌, filter, AllZip, list_any, Global, SameText, SameBytes, SameExtensionRange, SameReservedRange, SameField, SameOneof, SameEnumValue, SameEnum, SameMethod, SameService, text_or_empty, DefinitionRow, MessageParts, FlatMessageRow, FlatEnumRow, FlatServiceRow, FlatRows, Given}
 
 -- LISTS
 

@@ -1,5 +1,6 @@
 -- Two lists in ascending order of numbers, in which equal numbers stand in one order, are one list.
-use Rattle.prost_reflect_tables.proofs.Common.{◌≡◌, ◌≢◌, ℕ, suc, ◌<◌, ◌≤◌, Bool, true, false, cond, not, ◌&&◌, List, [], ◌∷◌, map, length, get_or, refl, sym, ap, ◌∙◌, arith, ⊎_elim, nat_le, nat_eq, filter, IsNonDecreasingBy, IsStableByKey, ties, nat_cmp, is_lt, cases_lt, eq-eqb, ne_eqb, eqb-true, FieldTable, FieldRow, field_row, put_in_order, in_order}
+use Rattle.std.specs.Prelude.{◌≡◌, ◌≢◌, ◌<◌, ◌≤◌, ◌&&◌, ◌∷◌}
+use Rattle.prost_reflect_tables.proofs.Common.{ℕ, suc, Bool, true, false, cond, not, List, [], map, length, get_or, refl, sym, ap, ◌∙◌, arith, ⊎_elim, nat_le, nat_eq, filter, IsNonDecreasingBy, IsStableByKey, ties, nat_cmp, is_lt, cases_lt, eq-eqb, ne_eqb, eqb-true, FieldTable, FieldRow, field_row, put_in_order, in_order}
 use Rattle.prost_reflect_laws.proofs.Alike.{filter_alike}
 use Rattle.prost_reflect_tables.proofs.Orders.{cons_none, same_head, same_tail}
 

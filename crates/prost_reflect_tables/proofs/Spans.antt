@@ -1,5 +1,6 @@
 -- A number is in one of some ranges exactly where it is in the last of their spans in order that starts at it or below.
-use Rattle.prost_reflect_tables.proofs.Common.{◌≡◌, ℕ, zero, suc, ◌+◌, ◌<◌, ◌≤◌, ℤ, pos, negsuc, Bool, true, false, cond, ◌&&◌, ◌||◌, List, [], ◌∷◌, ◌++◌, map, length, take, get_or, Option, Some, None, slice_get, refl, sym, ap, ◌∙◌, subst, ◌-◌, arith, ⊎_elim, nat_le, nat_lt, int_le, int_lt, not, Vec, list_any, IsNonDecreasingBy, IsPartitionPoint, IsPermutation, Global, take_more, map-append, get_or_default, list_any_at, cases_lt, FlatMessage, FlatMessageRow, message_row, flat_rows, is_in_range, is_out_of, number_or_zero, natural_or_zero}
+use Rattle.std.specs.Prelude.{◌≡◌, ◌+◌, ◌<◌, ◌≤◌, ◌&&◌, ◌||◌, ◌∷◌, ◌++◌, ◌-◌}
+use Rattle.prost_reflect_tables.proofs.Common.{ℕ, zero, suc, ℤ, pos, negsuc, Bool, true, false, cond, List, [], map, length, take, get_or, Option, Some, None, slice_get, refl, sym, ap, ◌∙◌, subst, arith, ⊎_elim, nat_le, nat_lt, int_le, int_lt, not, Vec, list_any, IsNonDecreasingBy, IsPartitionPoint, IsPermutation, Global, take_more, map-append, get_or_default, list_any_at, cases_lt, FlatMessage, FlatMessageRow, message_row, flat_rows, is_in_range, is_out_of, number_or_zero, natural_or_zero}
 use Rattle.std.proofs.lemmas.List.Sorted.{list_any-IsPermutation}
 use Rattle.prost_reflect_types.specs.declared.ExtensionRange.{ExtensionRange}
 use Rattle.prost_reflect_tables.specs.declared.build.flatten.Flat.{Flat}

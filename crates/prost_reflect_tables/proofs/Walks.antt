@@ -1,5 +1,6 @@
 -- Walks over definitions, whose rows are tested.
-use Rattle.prost_reflect_tables.proofs.Common.{◌≡◌, ℕ, suc, ◌+◌, ◌<◌, Bool, true, false, ◌||◌, List, [], ◌∷◌, length, map, drop, get_or, refl, sym, ap, ◌∙◌, drop-cons, add-one, list_any}
+use Rattle.std.specs.Prelude.{◌≡◌, ◌+◌, ◌<◌, ◌||◌, ◌∷◌}
+use Rattle.prost_reflect_tables.proofs.Common.{ℕ, suc, Bool, true, false, List, [], length, map, drop, get_or, refl, sym, ap, ◌∙◌, drop-cons, add-one, list_any}
 
 pub rows_any : {X Y : Type 0} (p : Y → Bool) (row : X → Y) (xs : List X) → list_any (λ x. p (row x)) xs ≡ list_any p (map row xs)
 rows_any p row [] = refl

@@ -1,5 +1,6 @@
 -- The bits that floating-point formats have for whole numbers.
-use Rattle.prost_reflect_tables.proofs.Common.{⊎_elim, ◌≡◌, ℕ, zero, suc, ◌+◌, ◌-◌, ◌*◌, ◌/◌, ◌^◌, ◌<◌, ◌≤◌, true, false, refl, sym, ap, ◌∙◌, subst, arith, add-one, nat_le, cases_lt, ne_eqb, greatest_exponent, bits_at, whole_bits}
+use Rattle.std.specs.Prelude.{◌≡◌, ◌+◌, ◌-◌, ◌*◌, ◌/◌, ◌^◌, ◌<◌, ◌≤◌}
+use Rattle.prost_reflect_tables.proofs.Common.{⊎_elim, ℕ, zero, suc, true, false, refl, sym, ap, ◌∙◌, subst, arith, add-one, nat_le, cases_lt, ne_eqb, greatest_exponent, bits_at, whole_bits}
 use Rattle.std.proofs.lemmas.Nat.{shl-shr, pow_pos}
 use Rattle.std.proofs.Math.Nat.{pow-succ', le_of_mul-le-mul_right, lt_of_mul-lt-mul_right, mul-le-mul, mul-le-mul_right, mul-lt-mul_of_pos_right, pow-le-pow_right, mul-sub, mul_comm, mul_assoc}
 

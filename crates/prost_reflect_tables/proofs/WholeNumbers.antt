@@ -1,5 +1,6 @@
 -- Whole numbers in a text, digit by digit.
-use Rattle.prost_reflect_tables.proofs.Common.{◌≡◌, ℕ, suc, ◌+◌, ◌-◌, ◌*◌, ◌<◌, true, false, cond, List, [], ◌∷◌, length, get_or, drop, Some, None, refl, arith, drop-cons, nat_le, is_digit, digits_from, whole_number, up_to}
+use Rattle.std.specs.Prelude.{◌≡◌, ◌+◌, ◌-◌, ◌*◌, ◌<◌, ◌∷◌}
+use Rattle.prost_reflect_tables.proofs.Common.{ℕ, suc, true, false, cond, List, [], length, get_or, drop, Some, None, refl, arith, drop-cons, nat_le, is_digit, digits_from, whole_number, up_to}
 
 -- DIGITS
 

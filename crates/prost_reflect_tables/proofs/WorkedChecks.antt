@@ -1,5 +1,6 @@
 -- The worked examples of the checks, by computing.
-use Rattle.prost_reflect_tables.proofs.Common.{◌≡◌, Bool, true, refl, ◌&&◌, ◌||◌, read, is_entry_key, is_entry_value}
+use Rattle.std.specs.Prelude.{◌≡◌, ◌&&◌, ◌||◌}
+use Rattle.prost_reflect_tables.proofs.Common.{Bool, true, refl, read, is_entry_key, is_entry_value}
 use Rattle.std.proofs.Math.Bool.{or-true}
 use Rattle.prost_reflect_tables.specs.CheckExamples.{CheckedOptions, KeysAndValues}
 

@@ -1,5 +1,6 @@
 -- Worked examples of equal contents and equal tables.
-use Rattle.prost_reflect_tables.proofs.Common.{◌≡◌, ℕ, List, [], ◌∷◌, map, Some, None, String, string_bytes, Vec, refl, ap, Global, FileDescriptorProto, EnumDescriptorProto, of_text, of_bytes, of_records, of_enum, of_file, SameFile, file_same}
+use Rattle.std.specs.Prelude.{◌≡◌, ◌∷◌}
+use Rattle.prost_reflect_tables.proofs.Common.{ℕ, List, [], map, Some, None, String, string_bytes, Vec, refl, ap, Global, FileDescriptorProto, EnumDescriptorProto, of_text, of_bytes, of_records, of_enum, of_file, SameFile, file_same}
 use Rattle.prost_reflect_tables.specs.FileLaws.{SameContents}
 use Rattle.prost_reflect_tables.specs.FileExamples.{ContentsAndTables}
 

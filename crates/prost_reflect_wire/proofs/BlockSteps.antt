@@ -1,5 +1,6 @@
 -- Buffers in front of one another.
-use Rattle.prost_reflect_wire.proofs.Common.{◌≡◌, ℕ, suc, zero, ◌+◌, ◌-◌, ◌^◌, ◌<◌, ◌≤◌, List, [], ◌∷◌, ◌++◌, length, drop, slice_index_or, sym, ap, ◌∙◌, arith, append_assoc, append-nil, length-append, length-drop, bytes_of, joined, bytes_in}
+use Rattle.std.specs.Prelude.{◌≡◌, ◌+◌, ◌-◌, ◌^◌, ◌<◌, ◌≤◌, ◌∷◌, ◌++◌}
+use Rattle.prost_reflect_wire.proofs.Common.{ℕ, suc, zero, List, [], length, drop, slice_index_or, sym, ap, ◌∙◌, arith, append_assoc, append-nil, length-append, length-drop, bytes_of, joined, bytes_in}
 use Rattle.prost_reflect_wire.specs.declared.buffer.BackBuffer.{BackBuffer}
 use Rattle.prost_reflect_wire.specs.declared.blocks.Blocks.{Blocks}
 

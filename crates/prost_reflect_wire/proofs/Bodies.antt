@@ -1,5 +1,6 @@
 -- The records of a body are those that it was made of.
-use Rattle.prost_reflect_wire.proofs.Common.{◌≡◌, List, [], ◌∷◌, refl, ap, ◌∙◌, Record, Records, Payload, Flat, Group, items, before, body_of}
+use Rattle.std.specs.Prelude.{◌≡◌, ◌∷◌}
+use Rattle.prost_reflect_wire.proofs.Common.{List, [], refl, ap, ◌∙◌, Record, Records, Payload, Flat, Group, items, before, body_of}
 
 pub items_before : (r : Record) (rest : Records) → items (before r rest) ≡ r ∷ items rest
 items_before r rest = go r.payload

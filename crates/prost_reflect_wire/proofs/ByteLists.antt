@@ -1,5 +1,6 @@
 -- Elements of a list of bytes.
-use Rattle.prost_reflect_wire.proofs.Common.{◌≡◌, ℕ, suc, true, List, [], ◌∷◌, ◌++◌, get_or, nat_lt, refl, Fits, w8, lt-ltb, ltb-true, and_parts, and_from, AreBytes, are_bytes}
+use Rattle.std.specs.Prelude.{◌≡◌, ◌∷◌, ◌++◌}
+use Rattle.prost_reflect_wire.proofs.Common.{ℕ, suc, true, List, [], get_or, nat_lt, refl, Fits, w8, lt-ltb, ltb-true, and_parts, and_from, AreBytes, are_bytes}
 
 pub bytes_by_index : (bytes : List ℕ) → ((i : ℕ) → Fits w8 (get_or bytes i 0)) → are_bytes bytes ≡ true
 bytes_by_index [] h = refl

@@ -1,5 +1,6 @@
 -- Equality of records, one by one.
-use Rattle.prost_reflect_wire.proofs.Common.{◌≡◌, ◌↔◌, ℕ, ◌+◌, ◌<◌, Bool, true, false, ◌&&◌, List, ◌∷◌, length, get_or, drop, map, nat_eq, IsTrue, refl, sym, ap, ap₂, ◌∙◌, add-one, drop-cons, length-map, Records, Record, record_at, Payload, Flat, Group, body_of, before, items, unknown_record, records_of, unknown_fields_of, plain_eq, records_eq, records_same, records_refl, payload_eq, record_eq, field_eq, set_eq}
+use Rattle.std.specs.Prelude.{◌≡◌, ◌↔◌, ◌+◌, ◌<◌, ◌&&◌, ◌∷◌}
+use Rattle.prost_reflect_wire.proofs.Common.{ℕ, Bool, true, false, List, length, get_or, drop, map, nat_eq, IsTrue, refl, sym, ap, ap₂, ◌∙◌, add-one, drop-cons, length-map, Records, Record, record_at, Payload, Flat, Group, body_of, before, items, unknown_record, records_of, unknown_fields_of, plain_eq, records_eq, records_same, records_refl, payload_eq, record_eq, field_eq, set_eq}
 use Rattle.prost_reflect_wire.specs.declared.unknown.UnknownField.{UnknownField}
 use Rattle.prost_reflect_wire.specs.declared.unknown.UnknownFieldSet.{UnknownFieldSet}
 use Rattle.prost_reflect_wire.proofs.Bodies.{items_body}

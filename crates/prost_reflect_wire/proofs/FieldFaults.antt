@@ -1,5 +1,6 @@
 -- Where a front of the bytes is a field, no fault stands in it but Depth, and that one only where the field nests deeper than the levels.
-use Rattle.prost_reflect_wire.proofs.Common.{◌≡◌, ◌≢◌, ℕ, suc, ◌<◌, ◌≤◌, List, [], ◌++◌, length, Option, Some, None, true, refl, sym, ap, subst, ◌∙◌, arith, inl, inr, ◌⊎◌, DecodeError, WireType, record_at, Var, Fix64, Len, Fix32, Records, NoRecords, PlainRecord, GroupRecord, Record, Payload, Flat, Group, before, payload_wire, short_key, raw_levels, payload_levels, Field, KeyFront, RecordFront, GroupFront, PayloadFront, ValueFront, PlainFault, Place, OfNothing, field_at, same_wire, Next, NextField, Comes, Stands, Here, Behind, InMessage, InGroup, InUnknown, InEntry, InsideGroup, StandsInField, StandsInValue}
+use Rattle.std.specs.Prelude.{◌≡◌, ◌≢◌, ◌<◌, ◌≤◌, ◌++◌, ◌⊎◌}
+use Rattle.prost_reflect_wire.proofs.Common.{ℕ, suc, List, [], length, Option, Some, None, true, refl, sym, ap, subst, ◌∙◌, arith, inl, inr, DecodeError, WireType, record_at, Var, Fix64, Len, Fix32, Records, NoRecords, PlainRecord, GroupRecord, Record, Payload, Flat, Group, before, payload_wire, short_key, raw_levels, payload_levels, Field, KeyFront, RecordFront, GroupFront, PayloadFront, ValueFront, PlainFault, Place, OfNothing, field_at, same_wire, Next, NextField, Comes, Stands, Here, Behind, InMessage, InGroup, InUnknown, InEntry, InsideGroup, StandsInField, StandsInValue}
 use Rattle.prost_reflect_wire.specs.declared.error.DecodeError.TheVariants as errors
 use Rattle.prost_reflect_wire.specs.declared.key.WireType.TheVariants as wires
 use Rattle.prost_reflect_wire.proofs.KeyFronts.{key_once, key_no_fault}

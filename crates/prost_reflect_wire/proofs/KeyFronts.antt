@@ -1,5 +1,6 @@
 -- A front of the bytes is at most one key, and none where a fault stands.
-use Rattle.prost_reflect_wire.proofs.Common.{◌≡◌, ◌≤◌, ◌<◌, ◌^◌, ℕ, ◌+◌, ◌*◌, List, ◌++◌, Option, Some, refl, sym, ap, ◌∙◌, arith, DecodeError, WireType, key_at, wire_code, short_key, VarintFront, KeyFront, KeyFault}
+use Rattle.std.specs.Prelude.{◌≡◌, ◌≤◌, ◌<◌, ◌^◌, ◌+◌, ◌*◌, ◌++◌}
+use Rattle.prost_reflect_wire.proofs.Common.{ℕ, List, Option, Some, refl, sym, ap, ◌∙◌, arith, DecodeError, WireType, key_at, wire_code, short_key, VarintFront, KeyFront, KeyFault}
 use Rattle.prost_reflect_wire.specs.declared.error.DecodeError.TheVariants as errors
 use Rattle.prost_reflect_wire.proofs.Reading.{key_read, wire_small}
 use Rattle.prost_reflect_wire.proofs.Shortest.{short_varint}

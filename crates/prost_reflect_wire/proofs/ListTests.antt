@@ -1,5 +1,6 @@
 -- Tests, and what they say of the elements of lists.
-use Rattle.prost_reflect_wire.proofs.Common.{◌≡◌, Bool, true, false, cond, ◌||◌, List, [], ◌∷◌, ◌++◌, filter, Option, Some, None, refl, ap, sym, ◌∙◌, true≢false, list_all, and_parts, and_from, passes, last}
+use Rattle.std.specs.Prelude.{◌≡◌, ◌||◌, ◌∷◌, ◌++◌}
+use Rattle.prost_reflect_wire.proofs.Common.{Bool, true, false, cond, List, [], filter, Option, Some, None, refl, ap, sym, ◌∙◌, true≢false, list_all, and_parts, and_from, passes, last}
 use Rattle.std.specs.Bool.{beq}
 
 pub or_case : (a b c d : Bool) → (a ≡ true → c ≡ true) → (b ≡ true → d ≡ true) → (a || b) ≡ true → (c || d) ≡ true

@@ -1,5 +1,6 @@
 -- What the readers of the wire refuse stands at the place where they read.
-use Rattle.prost_reflect_wire.proofs.Common.{◌≡◌, ◌≢◌, ℕ, List, [], ◌∷◌, ◌++◌, Option, Some, None, true, refl, sym, ap, subst, ◌∙◌, inl, inr, ◌<◌, ◌-◌, arith, DecodeError, WireType, record_at, Records, NoRecords, PlainRecord, GroupRecord, Flat, Group, short_key, Schema, Field, KeyFront, RecordsFront, KeyFault, PlainFault, Place, OfNothing, field_at, opens_level, NextField, Comes, Stands, Here, Behind, InMessage, InGroup, InUnknown, InEntry, FieldPlace, StandsInField, StandsInValue, ValueComes, ValueFault}
+use Rattle.std.specs.Prelude.{◌≡◌, ◌≢◌, ◌∷◌, ◌++◌, ◌<◌, ◌-◌}
+use Rattle.prost_reflect_wire.proofs.Common.{ℕ, List, [], Option, Some, None, true, refl, sym, ap, subst, ◌∙◌, inl, inr, arith, DecodeError, WireType, record_at, Records, NoRecords, PlainRecord, GroupRecord, Flat, Group, short_key, Schema, Field, KeyFront, RecordsFront, KeyFault, PlainFault, Place, OfNothing, field_at, opens_level, NextField, Comes, Stands, Here, Behind, InMessage, InGroup, InUnknown, InEntry, FieldPlace, StandsInField, StandsInValue, ValueComes, ValueFault}
 use Rattle.std.proofs.lemmas.Option.{none-some}
 use Rattle.prost_reflect_wire.specs.declared.error.DecodeError.TheVariants as errors
 use Rattle.prost_reflect_wire.specs.declared.key.WireType.TheVariants as wires

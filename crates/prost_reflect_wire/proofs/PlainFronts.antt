@@ -1,5 +1,6 @@
 -- A front of the bytes is at most one plain payload of a wire type, and none where a fault stands.
-use Rattle.prost_reflect_wire.proofs.Common.{◌≡◌, ℕ, ◌≤◌, List, ◌++◌, length, take, drop, Option, Some, refl, sym, ap, subst, ◌∙◌, arith, append_assoc, length-append, inl, inr, length-take, take-append-drop, DecodeError, Varint, Plain, Var, Fix64, Len, Fix32, plain_wire, plain_at, VarintFront, PlainFront, DelimitedFront, LengthPasses, PlainFault}
+use Rattle.std.specs.Prelude.{◌≡◌, ◌≤◌, ◌++◌}
+use Rattle.prost_reflect_wire.proofs.Common.{ℕ, List, length, take, drop, Option, Some, refl, sym, ap, subst, ◌∙◌, arith, append_assoc, length-append, inl, inr, length-take, take-append-drop, DecodeError, Varint, Plain, Var, Fix64, Len, Fix32, plain_wire, plain_at, VarintFront, PlainFront, DelimitedFront, LengthPasses, PlainFault}
 use Rattle.prost_reflect_wire.specs.declared.error.DecodeError.TheVariants as errors
 use Rattle.prost_reflect_wire.specs.declared.key.WireType.TheVariants as wires
 use Rattle.prost_reflect_wire.proofs.Reading.{plain_read}

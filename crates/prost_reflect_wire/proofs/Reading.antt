@@ -1,5 +1,6 @@
 -- What spells records is read as those records.
-use Rattle.prost_reflect_wire.proofs.Common.{◌≡◌, ℕ, zero, suc, ◌+◌, ◌*◌, ◌/◌, ◌%◌, ◌^◌, ◌<◌, ◌≤◌, Bool, true, ◌&&◌, List, [], ◌∷◌, ◌++◌, length, take, drop, Option, Some, None, nat_lt, refl, ap, sym, ◌∙◌, arith, append_assoc, append-nil, length-append, take-append_seam, drop-append_seam, lt-ltb, le-ltb, le-leb, eq-eqb, and_from, AreDigits, digits_value, Varint, digits_at, varint_at, guard, ◌>>=◌, front_at, Key, key_at, wire_code, plain_wire, wire_of, plain_at, Plain, Var, Fix64, Len, Fix32, SpellsPlain, Records, NoRecords, PlainRecord, GroupRecord, Spells, Body, body_at, after_key, close, read, WireType}
+use Rattle.std.specs.Prelude.{◌≡◌, ◌+◌, ◌*◌, ◌/◌, ◌%◌, ◌^◌, ◌<◌, ◌≤◌, ◌&&◌, ◌∷◌, ◌++◌}
+use Rattle.prost_reflect_wire.proofs.Common.{ℕ, zero, suc, Bool, true, List, [], length, take, drop, Option, Some, None, nat_lt, refl, ap, sym, ◌∙◌, arith, append_assoc, append-nil, length-append, take-append_seam, drop-append_seam, lt-ltb, le-ltb, le-leb, eq-eqb, and_from, AreDigits, digits_value, Varint, digits_at, varint_at, guard, ◌>>=◌, front_at, Key, key_at, wire_code, plain_wire, wire_of, plain_at, Plain, Var, Fix64, Len, Fix32, SpellsPlain, Records, NoRecords, PlainRecord, GroupRecord, Spells, Body, body_at, after_key, close, read, WireType}
 use Rattle.prost_reflect_wire.specs.declared.key.WireType.TheVariants as wires
 
 bind_some : {A B : Type 0} (f : A → Option B) {m : Option A} {x : A} → m ≡ Some x → (m >>= f) ≡ f x

@@ -1,5 +1,6 @@
 -- Records at the front of bytes, one behind another.
-use Rattle.prost_reflect_wire.proofs.Common.{◌≡◌, ℕ, suc, ◌<◌, ◌≤◌, max, List, [], ◌∷◌, ◌++◌, length, refl, sym, ap, subst, ◌∙◌, arith, append_assoc, append-nil, length-append, Option, Some, WireType, Plain, Var, Fix64, Len, Fix32, Records, NoRecords, Record, record_at, Payload, Flat, Group, before, body_of, Spells, plain_wire, payload_wire, raw_levels, payload_levels, body_at, KeyFront, RecordsFront, RecordFront, GroupFront, PayloadFront, ValueFront, FieldFront}
+use Rattle.std.specs.Prelude.{◌≡◌, ◌<◌, ◌≤◌, ◌∷◌, ◌++◌}
+use Rattle.prost_reflect_wire.proofs.Common.{ℕ, suc, max, List, [], length, refl, sym, ap, subst, ◌∙◌, arith, append_assoc, append-nil, length-append, Option, Some, WireType, Plain, Var, Fix64, Len, Fix32, Records, NoRecords, Record, record_at, Payload, Flat, Group, before, body_of, Spells, plain_wire, payload_wire, raw_levels, payload_levels, body_at, KeyFront, RecordsFront, RecordFront, GroupFront, PayloadFront, ValueFront, FieldFront}
 use Rattle.prost_reflect_wire.specs.declared.key.WireType.TheVariants as wires
 use Rattle.prost_reflect_wire.proofs.Reading.{some_key, closes_group, body_read}
 use Rattle.prost_reflect_wire.proofs.KeyFronts.{key_once}

@@ -1,5 +1,6 @@
 -- The shortest spelling of a number, digit by digit.
-use Rattle.prost_reflect_wire.proofs.Common.{◌≡◌, ℕ, zero, suc, ◌+◌, ◌*◌, ◌/◌, ◌%◌, ◌^◌, ◌<◌, ◌≤◌, List, [], ◌∷◌, length, refl, ap, ◌∙◌, sym, arith, inl, inr, pow-suc, cases_lt, le-ltb, lt-ltb, short, short_within}
+use Rattle.std.specs.Prelude.{◌≡◌, ◌+◌, ◌*◌, ◌/◌, ◌%◌, ◌^◌, ◌<◌, ◌≤◌, ◌∷◌}
+use Rattle.prost_reflect_wire.proofs.Common.{ℕ, zero, suc, List, [], length, refl, ap, ◌∙◌, sym, arith, inl, inr, pow-suc, cases_lt, le-ltb, lt-ltb, short, short_within}
 use Rattle.prost_reflect_wire.proofs.Shortest.{short_varint}
 
 within_low : (n v : ℕ) → v < 128 → short_within (suc n) v ≡ v ∷ []

@@ -1,5 +1,6 @@
 -- The short spelling spells.
-use Rattle.prost_reflect_wire.proofs.Common.{◌≡◌, ℕ, zero, suc, ◌+◌, ◌*◌, ◌/◌, ◌%◌, ◌^◌, ◌<◌, ◌≤◌, Bool, true, false, List, length, nat_lt, nat_eq, refl, arith, div-lt_iff_lt-mul, lit≤, lt_of_lt_of_le, ◌&&◌, ltb-true, ltb-false, eqb-true, and_parts, are_bytes, AreDigits, digits_value, Varint, short, short_within, Key, wire_code, plain_wire, short_key, short_plain, short_body, Plain, Var, Fix64, Len, Fix32, SpellsPlain, Records, NoRecords, PlainRecord, GroupRecord, Spells, number_valid, plain_valid, valid, WireType}
+use Rattle.std.specs.Prelude.{◌≡◌, ◌+◌, ◌*◌, ◌/◌, ◌%◌, ◌^◌, ◌<◌, ◌≤◌, ◌&&◌}
+use Rattle.prost_reflect_wire.proofs.Common.{ℕ, zero, suc, Bool, true, false, List, length, nat_lt, nat_eq, refl, arith, div-lt_iff_lt-mul, lit≤, lt_of_lt_of_le, ltb-true, ltb-false, eqb-true, and_parts, are_bytes, AreDigits, digits_value, Varint, short, short_within, Key, wire_code, plain_wire, short_key, short_plain, short_body, Plain, Var, Fix64, Len, Fix32, SpellsPlain, Records, NoRecords, PlainRecord, GroupRecord, Spells, number_valid, plain_valid, valid, WireType}
 use Rattle.std.proofs.Common.{pow-suc}
 use Rattle.prost_reflect_wire.proofs.Reading.{wire_small, digits_cons}
 use Rattle.prost_reflect_wire.specs.declared.key.WireType.TheVariants as wires

@@ -1,5 +1,6 @@
 -- A length in front of what was added since.
-use Rattle.prost_reflect_wire.proofs.Common.{◌≡◌, ℕ, ◌+◌, ◌-◌, ◌^◌, ◌≤◌, List, [], ◌++◌, length, ◌<◌, Option, Result, Ok, Err, true≢false, refl, sym, ap, ◌∙◌, subst, arith, append_assoc, append-nil, length-append, zero-add, lit<, true, is_ok, EncodeError, short, Prepended, bytes_in}
+use Rattle.std.specs.Prelude.{◌≡◌, ◌+◌, ◌-◌, ◌^◌, ◌≤◌, ◌++◌, ◌<◌}
+use Rattle.prost_reflect_wire.proofs.Common.{ℕ, List, [], length, Option, Result, Ok, Err, true≢false, refl, sym, ap, ◌∙◌, subst, arith, append_assoc, append-nil, length-append, zero-add, lit<, true, is_ok, EncodeError, short, Prepended, bytes_in}
 use Rattle.std.specs.Option.{SomeIff}
 use Rattle.prost_reflect_wire.specs.declared.sink.LengthSink.{LengthSink}
 use Rattle.prost_reflect_wire.specs.declared.error.EncodeError.TheVariants.{TooLong}

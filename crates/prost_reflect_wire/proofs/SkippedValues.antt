@@ -1,5 +1,6 @@
 -- Values and records that are passed over.
-use Rattle.prost_reflect_wire.proofs.Common.{◌≡◌, ℕ, ◌-◌, ◌<◌, List, [], ◌∷◌, ◌++◌, Result, Ok, Err, IfOk, Bor, sym, arith, DecodeError, WireType, Plain, Record, record_at, Payload, Flat, Group, body_of, plain_wire, payload_levels, raw_levels, KeyFront, PlainFront, RecordsFront, ValueFront, SkipsValue, SkipsGroup}
+use Rattle.std.specs.Prelude.{◌≡◌, ◌-◌, ◌<◌, ◌∷◌, ◌++◌}
+use Rattle.prost_reflect_wire.proofs.Common.{ℕ, List, [], Result, Ok, Err, IfOk, Bor, sym, arith, DecodeError, WireType, Plain, Record, record_at, Payload, Flat, Group, body_of, plain_wire, payload_levels, raw_levels, KeyFront, PlainFront, RecordsFront, ValueFront, SkipsValue, SkipsGroup}
 use Rattle.prost_reflect_wire.specs.declared.key.WireType.TheVariants as wires
 use Rattle.prost_reflect_wire.proofs.RecordFronts.{last_front, levels_last, field_front}
 

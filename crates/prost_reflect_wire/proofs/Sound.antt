@@ -1,5 +1,6 @@
 -- What is read spells.
-use Rattle.prost_reflect_wire.proofs.Common.{◌≡◌, ℕ, zero, suc, ◌+◌, ◌*◌, ◌/◌, ◌%◌, ◌^◌, ◌<◌, ◌≤◌, Bool, true, false, ◌&&◌, List, [], ◌∷◌, ◌++◌, length, take, drop, Option, Some, None, nat_lt, nat_le, nat_eq, refl, ap, ap₂, sym, subst, ◌∙◌, arith, append_assoc, append-nil, ltb-true, ltb-false, leb-true, eqb-true, and_parts, AreBytes, AreDigits, digits_value, Varint, digits_at, varint_at, guard, ◌>>=◌, front_at, Key, key_at, wire_code, plain_wire, wire_of, plain_at, Plain, Var, Fix64, Len, Fix32, SpellsPlain, Records, NoRecords, PlainRecord, GroupRecord, Spells, Body, body_at, after_key, read, WireType}
+use Rattle.std.specs.Prelude.{◌≡◌, ◌+◌, ◌*◌, ◌/◌, ◌%◌, ◌^◌, ◌<◌, ◌≤◌, ◌&&◌, ◌∷◌, ◌++◌}
+use Rattle.prost_reflect_wire.proofs.Common.{ℕ, zero, suc, Bool, true, false, List, [], length, take, drop, Option, Some, None, nat_lt, nat_le, nat_eq, refl, ap, ap₂, sym, subst, ◌∙◌, arith, append_assoc, append-nil, ltb-true, ltb-false, leb-true, eqb-true, and_parts, AreBytes, AreDigits, digits_value, Varint, digits_at, varint_at, guard, ◌>>=◌, front_at, Key, key_at, wire_code, plain_wire, wire_of, plain_at, Plain, Var, Fix64, Len, Fix32, SpellsPlain, Records, NoRecords, PlainRecord, GroupRecord, Spells, Body, body_at, after_key, read, WireType}
 use Rattle.std.proofs.Common.{length-take}
 use Rattle.std.proofs.Math.ListN.{take-append-drop}
 use Rattle.std.proofs.lemmas.Option.{none-some, same_Some}

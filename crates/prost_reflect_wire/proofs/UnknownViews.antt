@@ -1,5 +1,6 @@
 -- What the parts of an unknown field are, step by step.
-use Rattle.prost_reflect_wire.proofs.Common.{◌≡◌, ℕ, List, map, SixtyFourBit, ThirtyTwoBit, LengthDelimited, record_at, Record, Payload, Flat, Fix64, Len, Fix32, body_of, value_step, field_step, set_step, payload_of, unknown_record, records_of}
+use Rattle.std.specs.Prelude.{◌≡◌}
+use Rattle.prost_reflect_wire.proofs.Common.{ℕ, List, map, SixtyFourBit, ThirtyTwoBit, LengthDelimited, record_at, Record, Payload, Flat, Fix64, Len, Fix32, body_of, value_step, field_step, set_step, payload_of, unknown_record, records_of}
 use Rattle.std.specs.Global.{Vec}
 use denote.Hole.Carrier as Carrier
 use Rattle.prost_reflect_wire.specs.declared.unknown.UnknownFieldValue.{Group}

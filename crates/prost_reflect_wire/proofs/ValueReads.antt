@@ -1,5 +1,6 @@
 -- What reads the value behind a key, or names a fault that stands there, reads each value that stands there.
-use Rattle.prost_reflect_wire.proofs.Common.{◌≡◌, ◌≢◌, ℕ, ◌≤◌, ◌<◌, ◌^◌, List, Result, Ok, Err, IfOk, IfErr, IsOkAnd, Bor, MatchResult, DecodeError, WireType, UnknownFieldValue, Payload, ValueFront, ValueFault, payload_of, SkipsValue}
+use Rattle.std.specs.Prelude.{◌≡◌, ◌≢◌, ◌≤◌, ◌<◌, ◌^◌}
+use Rattle.prost_reflect_wire.proofs.Common.{ℕ, List, Result, Ok, Err, IfOk, IfErr, IsOkAnd, Bor, MatchResult, DecodeError, WireType, UnknownFieldValue, Payload, ValueFront, ValueFault, payload_of, SkipsValue}
 use Rattle.prost_reflect_wire.specs.declared.error.DecodeError.TheVariants as errors
 use Rattle.prost_reflect_wire.proofs.FieldFaults.{value_no_fault, only_memory}
 use Rattle.prost_reflect_wire.proofs.KeyFronts.{short_key_front}

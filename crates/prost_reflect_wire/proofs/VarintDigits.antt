@@ -1,5 +1,6 @@
 -- Reading a varint digit by digit, the least first.
-use Rattle.prost_reflect_wire.proofs.Common.{◌≡◌, ℕ, ◌+◌, ◌-◌, ◌*◌, ◌%◌, ◌^◌, ◌<◌, ◌≤◌, List, [], ◌∷◌, ◌++◌, length, get_or, take, drop, drop-cons, refl, sym, ap, ◌∙◌, arith, add-one, inl, inr, ◌⊎◌, take-suc, pow-suc, pow-le-pow_right, mul-le-mul_left, length-take, take-append-drop, take_all, length-drop, AreBytes, AreDigits, digits_value, VarintFront, AreOpen, VarintEnds, VarintPasses}
+use Rattle.std.specs.Prelude.{◌≡◌, ◌+◌, ◌-◌, ◌*◌, ◌%◌, ◌^◌, ◌<◌, ◌≤◌, ◌∷◌, ◌++◌, ◌⊎◌}
+use Rattle.prost_reflect_wire.proofs.Common.{ℕ, List, [], length, get_or, take, drop, drop-cons, refl, sym, ap, ◌∙◌, arith, add-one, inl, inr, take-suc, pow-suc, pow-le-pow_right, mul-le-mul_left, length-take, take-append-drop, take_all, length-drop, AreBytes, AreDigits, digits_value, VarintFront, AreOpen, VarintEnds, VarintPasses}
 
 -- A DIGIT AT THE END
 

@@ -1,5 +1,6 @@
 -- A front of the bytes spells at most one varint, and none where a fault stands.
-use Rattle.prost_reflect_wire.proofs.Common.{◌≡◌, ℕ, suc, ◌+◌, ◌*◌, ◌%◌, ◌^◌, ◌<◌, ◌≤◌, List, [], ◌∷◌, ◌++◌, length, Option, Some, sym, ap, ◌∙◌, arith, inl, inr, Result, Ok, Err, IfOk, IfErr, IsOkAnd, Bor, pow-suc, cases_lt, le-ltb, lt-ltb, DecodeError, digits_at, VarintFront, AreOpen, VarintFault}
+use Rattle.std.specs.Prelude.{◌≡◌, ◌+◌, ◌*◌, ◌%◌, ◌^◌, ◌<◌, ◌≤◌, ◌∷◌, ◌++◌}
+use Rattle.prost_reflect_wire.proofs.Common.{ℕ, suc, List, [], length, Option, Some, sym, ap, ◌∙◌, arith, inl, inr, Result, Ok, Err, IfOk, IfErr, IsOkAnd, Bor, pow-suc, cases_lt, le-ltb, lt-ltb, DecodeError, digits_at, VarintFront, AreOpen, VarintFault}
 use Rattle.prost_reflect_wire.specs.declared.error.DecodeError.TheVariants as errors
 use Rattle.prost_reflect_wire.proofs.Reading.{digits_read}
 use Rattle.prost_reflect_wire.proofs.Sound.{bind_ok}

@@ -1,5 +1,6 @@
 -- Records are written one in front of another.
-use Rattle.prost_reflect_wire.proofs.Common.{◌≡◌, ◌<◌, ℕ, ◌^◌, true, List, [], ◌∷◌, ◌++◌, length, Result, Ok, Err, refl, sym, ap, ◌∙◌, append_assoc, append-nil, OnOk, eq-eqb, lt-ltb, and_from, are_bytes, EncodeError, record_at, Record, Payload, Fix64, Len, Fix32, Flat, Group, body_of, payload_wire, short_key, short_payload, spelled, valid, payload_valid, RecordFront}
+use Rattle.std.specs.Prelude.{◌≡◌, ◌<◌, ◌^◌, ◌∷◌, ◌++◌}
+use Rattle.prost_reflect_wire.proofs.Common.{ℕ, true, List, [], length, Result, Ok, Err, refl, sym, ap, ◌∙◌, append_assoc, append-nil, OnOk, eq-eqb, lt-ltb, and_from, are_bytes, EncodeError, record_at, Record, Payload, Fix64, Len, Fix32, Flat, Group, body_of, payload_wire, short_key, short_payload, spelled, valid, payload_valid, RecordFront}
 use Rattle.prost_reflect_wire.proofs.Shortest.{short_spells}
 
 abbrev Answer : Type 0

@@ -1,5 +1,6 @@
 -- The worked examples of reductions, but for those that are none.
-use Rattle.prost_reflect_laws.proofs.Common.{[], ◌∷◌, refl, is_utf8, chars, encode_utf8, short, read, unpacked, allows, meaning, steps, my_message, older_message, message_without_bar, unpacked_list, packed_list, maps, maps_without_q, extended, no_fields}
+use Rattle.std.specs.Prelude.{◌∷◌}
+use Rattle.prost_reflect_laws.proofs.Common.{[], refl, is_utf8, chars, encode_utf8, short, read, unpacked, allows, meaning, steps, my_message, older_message, message_without_bar, unpacked_list, packed_list, maps, maps_without_q, extended, no_fields}
 use Rattle.prost_reflect_laws.specs.Examples.Reductions.{Reductions, Passing}
 
 pub reductions : Reductions

@@ -1,5 +1,6 @@
 -- The worked examples of faults.
-use Rattle.prost_reflect_laws.proofs.Common.{sym, ◌≡◌, ◌≢◌, ℕ, ◌+◌, ◌*◌, ◌<◌, ◌^◌, true, false, List, [], ◌∷◌, Option, Some, None, refl, inl, inr, arith, lit<, lit≤, ap, is_utf8, chars, encode_utf8, none-some, Varint, Var, Flat, wire_code, Int32, MessageOf, GroupOf, Singular, Repeated, MapFrom, LEVEL_LIMIT, Stands, StandsInMessage, OfEntry, entry_field, Here, Behind, InMessage, InGroup, InUnknown, InEntry, KeyFront, DelimitedFront, RecordFront, ElementEnds, BehindElement, DecodeError, WireType, examples, maps, field, list, int32, text, message_value_type}
+use Rattle.std.specs.Prelude.{◌≡◌, ◌≢◌, ◌+◌, ◌*◌, ◌<◌, ◌^◌, ◌∷◌}
+use Rattle.prost_reflect_laws.proofs.Common.{sym, ℕ, true, false, List, [], Option, Some, None, refl, inl, inr, arith, lit<, lit≤, ap, is_utf8, chars, encode_utf8, none-some, Varint, Var, Flat, wire_code, Int32, MessageOf, GroupOf, Singular, Repeated, MapFrom, LEVEL_LIMIT, Stands, StandsInMessage, OfEntry, entry_field, Here, Behind, InMessage, InGroup, InUnknown, InEntry, KeyFront, DelimitedFront, RecordFront, ElementEnds, BehindElement, DecodeError, WireType, examples, maps, field, list, int32, text, message_value_type}
 use Rattle.prost_reflect_laws.specs.Examples.Faults.{Faults}
 use Rattle.prost_reflect_wire.specs.declared.error.DecodeError.TheVariants as errors
 use Rattle.prost_reflect_wire.specs.declared.key.WireType.TheVariants as wires

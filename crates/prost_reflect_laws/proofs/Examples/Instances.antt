@@ -1,5 +1,6 @@
 -- The premises of the laws at worked examples, and what the laws then say.
-use Rattle.prost_reflect_laws.proofs.Common.{false, [], ◌∷◌, Some, None, refl, sym, ap, arith, lit<, lit≤, is_utf8, chars, encode_utf8, AreBytes, short, read, known, is_sibling, LEVEL_LIMIT, unpacked, allows, meaning, steps, WellTyped, WellStored, PathTo, NoEntries, Stored, read_spells, Apart, Writable, examples, my_message, two_choices, hex, content, int, sample, front, behind, one, needless, stores_defaults, Taken, Low, OfReading, OfMeaning, OfContents, OfWriting, OfFaults}
+use Rattle.std.specs.Prelude.{◌∷◌}
+use Rattle.prost_reflect_laws.proofs.Common.{false, [], Some, None, refl, sym, ap, arith, lit<, lit≤, is_utf8, chars, encode_utf8, AreBytes, short, read, known, is_sibling, LEVEL_LIMIT, unpacked, allows, meaning, steps, WellTyped, WellStored, PathTo, NoEntries, Stored, read_spells, Apart, Writable, examples, my_message, two_choices, hex, content, int, sample, front, behind, one, needless, stores_defaults, Taken, Low, OfReading, OfMeaning, OfContents, OfWriting, OfFaults}
 use Rattle.prost_reflect_laws.proofs.Accepted.{accepts_is_test}
 use Rattle.prost_reflect_laws.proofs.GoodSteps.{meaning_typed, meaning_levels}
 use Rattle.prost_reflect_laws.proofs.NormalForms.{steps_well, merged_well, normal_form, decoded_well}

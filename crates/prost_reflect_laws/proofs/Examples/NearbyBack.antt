@@ -1,5 +1,6 @@
 -- The statements near the laws on reading back are refuted.
-use Rattle.prost_reflect_laws.proofs.Common.{◌≡◌, ℕ, true, List, [], ◌∷◌, map, flat_map, length, Option, Some, refl, sym, ap, ◌∙◌, arith, true≢false, is_utf8, chars, encode_utf8, is_some, short, record_at, read, Field, Entries, NoEntries, Stored, Unknown, Value, ScalarValue, MessageValue, ListValue, MapValue, Pair, Item, entries_of, value_at, Text, payloads, value_records, is_len, unpacked, allows, MeansInside, field_value, meaning, steps, field_payloads, encoded, ValueBack, varint}
+use Rattle.std.specs.Prelude.{◌≡◌, ◌∷◌}
+use Rattle.prost_reflect_laws.proofs.Common.{ℕ, true, List, [], map, flat_map, length, Option, Some, refl, sym, ap, ◌∙◌, arith, true≢false, is_utf8, chars, encode_utf8, is_some, short, record_at, read, Field, Entries, NoEntries, Stored, Unknown, Value, ScalarValue, MessageValue, ListValue, MapValue, Pair, Item, entries_of, value_at, Text, payloads, value_records, is_len, unpacked, allows, MeansInside, field_value, meaning, steps, field_payloads, encoded, ValueBack, varint}
 use Rattle.prost_reflect_laws.specs.Examples.NearbyBack.{NotOfReadingBack}
 use Rattle.prost_reflect_laws.proofs.ByNumber.{block_payloads}
 

@@ -1,5 +1,6 @@
 -- The statements near the laws on faults and on single fields are refuted.
-use Rattle.prost_reflect_laws.proofs.Common.{◌≡◌, ◌≢◌, ℕ, List, [], ◌∷◌, length, refl, inl, inr, ap, arith, lit<, lit≤, true, false, true≢false, ◌<◌, ◌++◌, subst, sym, length-append, is_utf8, chars, encode_utf8, short, Record, Var, Flat, read, wire_code, Schema, MessageOf, Singular, AreOpen, FieldFront, KeyFront, RecordFront, VarintEnds, VarintPasses, NoKey, Accepts, accepts, unpacked, allows, meaning, steps, Place, Comes, Stands, StandsInMessage, Here, Behind, InMessage, InGroup, InUnknown, InEntry, DecodeError, WireType, record_parts, examples, my_message, text_at_one, field, message_value_type, hex, needless}
+use Rattle.std.specs.Prelude.{◌≡◌, ◌≢◌, ◌∷◌, ◌<◌, ◌++◌}
+use Rattle.prost_reflect_laws.proofs.Common.{ℕ, List, [], length, refl, inl, inr, ap, arith, lit<, lit≤, true, false, true≢false, subst, sym, length-append, is_utf8, chars, encode_utf8, short, Record, Var, Flat, read, wire_code, Schema, MessageOf, Singular, AreOpen, FieldFront, KeyFront, RecordFront, VarintEnds, VarintPasses, NoKey, Accepts, accepts, unpacked, allows, meaning, steps, Place, Comes, Stands, StandsInMessage, Here, Behind, InMessage, InGroup, InUnknown, InEntry, DecodeError, WireType, record_parts, examples, my_message, text_at_one, field, message_value_type, hex, needless}
 use Rattle.prost_reflect_laws.specs.Examples.PremisesOfPassage.{first_field}
 use Rattle.prost_reflect_laws.specs.Examples.NearbyFaults.{group_bytes, no_value, NotOfFaults, NotOfFields}
 use Rattle.prost_reflect_wire.specs.declared.error.DecodeError.TheVariants as errors

@@ -1,5 +1,6 @@
 -- The statements near the laws are refuted.
-use Rattle.prost_reflect_laws.proofs.Common.{ℕ, zero, suc, lit<, List, ◌∷◌, length, refl, sym, ap, arith, true≢false, is_utf8, chars, encode_utf8, is_some, short, read, entries_of, value_at, type_of, unpacked, allows, meaning, steps, encoded, Typed, Writable, my_message, content}
+use Rattle.std.specs.Prelude.{◌∷◌}
+use Rattle.prost_reflect_laws.proofs.Common.{ℕ, zero, suc, lit<, List, length, refl, sym, ap, arith, true≢false, is_utf8, chars, encode_utf8, is_some, short, read, entries_of, value_at, type_of, unpacked, allows, meaning, steps, encoded, Typed, Writable, my_message, content}
 use Rattle.prost_reflect_laws.specs.Examples.NearbyMeaning.{deep, NotOfMeaning, NotOfWriting}
 
 pub not_of_meaning : NotOfMeaning

@@ -1,5 +1,6 @@
 -- The statements near the laws of reduction are refuted.
-use Rattle.prost_reflect_laws.proofs.Common.{ℕ, false, List, [], ◌∷◌, Option, Some, None, refl, sym, ap, arith, lit<, true≢false, is_utf8, chars, encode_utf8, is_some, short, read, Content, entries_of, MessageValue, value_at, type_of, LEVEL_LIMIT, Accepts, unpacked, allows, meaning, steps, PathTo, Reduced, refined_times, examples, my_message, older_message, no_fields, text_at_one, optional_a, two_choices, choices_without_a, hex, int}
+use Rattle.std.specs.Prelude.{◌∷◌}
+use Rattle.prost_reflect_laws.proofs.Common.{ℕ, false, List, [], Option, Some, None, refl, sym, ap, arith, lit<, true≢false, is_utf8, chars, encode_utf8, is_some, short, read, Content, entries_of, MessageValue, value_at, type_of, LEVEL_LIMIT, Accepts, unpacked, allows, meaning, steps, PathTo, Reduced, refined_times, examples, my_message, older_message, no_fields, text_at_one, optional_a, two_choices, choices_without_a, hex, int}
 use Rattle.prost_reflect_laws.specs.Examples.NearbyTyping.{text_default}
 use Rattle.prost_reflect_laws.specs.Examples.NearbyPassage.{older_value, to_message, to_x, NotOfPassages}
 use Rattle.prost_reflect_laws.proofs.Accepted.{accepts_is_test}

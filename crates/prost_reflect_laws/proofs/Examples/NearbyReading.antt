@@ -1,5 +1,6 @@
 -- The statements near the laws on reading and on scalars are refuted.
-use Rattle.prost_reflect_laws.proofs.Common.{◌≡◌, ℕ, ◌<◌, ◌++◌, List, [], ◌∷◌, length, refl, sym, ap, subst, arith, is_utf8, chars, encode_utf8, same_Some, AreDigits, short, Records, Spells, read, unpacked, allows, meaning, steps, spelled_read, one}
+use Rattle.std.specs.Prelude.{◌≡◌, ◌<◌, ◌++◌, ◌∷◌}
+use Rattle.prost_reflect_laws.proofs.Common.{ℕ, List, [], length, refl, sym, ap, subst, arith, is_utf8, chars, encode_utf8, same_Some, AreDigits, short, Records, Spells, read, unpacked, allows, meaning, steps, spelled_read, one}
 use Rattle.prost_reflect_laws.specs.Examples.NearbyReading.{no_bytes, NotOfRecords, NotOfScalars}
 
 abbrev pub first : List ℕ → ℕ

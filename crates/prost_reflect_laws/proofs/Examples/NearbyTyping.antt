@@ -1,5 +1,6 @@
 -- The statements near the laws on what is read, merged, kept and set are refuted.
-use Rattle.prost_reflect_laws.proofs.Common.{ℕ, List, [], ◌∷◌, length, refl, sym, ap, arith, true≢false, is_utf8, chars, encode_utf8, is_some, short, Record, read, entries_of, value_at, unpacked, allows, meaning, steps, encoded}
+use Rattle.std.specs.Prelude.{◌∷◌}
+use Rattle.prost_reflect_laws.proofs.Common.{ℕ, List, [], length, refl, sym, ap, arith, true≢false, is_utf8, chars, encode_utf8, is_some, short, Record, read, entries_of, value_at, unpacked, allows, meaning, steps, encoded}
 use Rattle.prost_reflect_laws.specs.Examples.NearbyTyping.{NotOfTyping, NotOfContents}
 use Rattle.prost_reflect_laws.proofs.Examples.Instances.{sample_typed, sample_low, behind_taken, stored_well}
 use Rattle.prost_reflect_laws.proofs.Examples.NearbyMeaning.{deep_writable}

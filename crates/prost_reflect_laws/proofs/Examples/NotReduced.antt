@@ -1,5 +1,6 @@
 -- Types that are no reductions, whatever the set of pairs.
-use Rattle.prost_reflect_laws.proofs.Common.{◌≡◌, ℕ, Bool, true, false, ◌&&◌, refl, ap, sym, ◌∙◌, true≢false, Schema, message_type, TypePairs, holds, types_match, Reduced, examples, my_message, older_message, optional_a, required_a, plain_a, seven_a, signed_a, one_message, message_list, field_at_hundred, extended, presence_map, maps, choices_without_a, two_choices, no_fields, choice, choices_moved, other_alone, closed_alone, older_closed, closed, open_alone, text_inside, text_at_one}
+use Rattle.std.specs.Prelude.{◌≡◌, ◌&&◌}
+use Rattle.prost_reflect_laws.proofs.Common.{ℕ, Bool, true, false, refl, ap, sym, ◌∙◌, true≢false, Schema, message_type, TypePairs, holds, types_match, Reduced, examples, my_message, older_message, optional_a, required_a, plain_a, seven_a, signed_a, one_message, message_list, field_at_hundred, extended, presence_map, maps, choices_without_a, two_choices, no_fields, choice, choices_moved, other_alone, closed_alone, older_closed, closed, open_alone, text_inside, text_at_one}
 use Rattle.prost_reflect_laws.specs.Examples.Reductions.{NoReductions}
 use Rattle.prost_reflect_laws.proofs.Matches.{pair_matches}
 

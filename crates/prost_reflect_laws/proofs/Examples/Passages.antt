@@ -1,6 +1,7 @@
 -- The worked examples of the laws of reduction: what they ask is computed, and what they say is theirs.
+use Rattle.std.specs.Prelude.{◌≡◌, ◌<◌, ◌≤◌, ◌^◌, ◌∷◌}
 use Prim.Native.String.{String}
-use Rattle.prost_reflect_laws.proofs.Common.{◌≡◌, ℕ, suc, ◌<◌, ◌≤◌, ◌^◌, Bool, true, false, pos, List, [], ◌∷◌, length, Option, Some, None, IsTrue, refl, ap, sym, ◌∙◌, subst, true≢false, lit<, lit≤, is_utf8, chars, encode_utf8, short, are_bytes, read, MessageOf, Singular, Content, ContentOf, Entries, NoEntries, Value, ScalarValue, MessageValue, ListValue, MapValue, value_at, Scalar, I32, EnumNumber, scalar_eq, LEVEL_LIMIT, Accepts, accepts, unpacked, allows, decoded, meaning, steps, PathTo, holds_message, ValueStored, Reduced, test_bytes, refined_times, whole, less, other, examples, field, member, int32, message_value_type, my_message, older_message, maps, maps_without_m, choice, extended, extended_choice, field_at_hundred, no_fields, closed, closed_alone, open_alone, int, hex, content, Means, Writes, Sets}
+use Rattle.prost_reflect_laws.proofs.Common.{ℕ, suc, Bool, true, false, pos, List, [], length, Option, Some, None, IsTrue, refl, ap, sym, ◌∙◌, subst, true≢false, lit<, lit≤, is_utf8, chars, encode_utf8, short, are_bytes, read, MessageOf, Singular, Content, ContentOf, Entries, NoEntries, Value, ScalarValue, MessageValue, ListValue, MapValue, value_at, Scalar, I32, EnumNumber, scalar_eq, LEVEL_LIMIT, Accepts, accepts, unpacked, allows, decoded, meaning, steps, PathTo, holds_message, ValueStored, Reduced, test_bytes, refined_times, whole, less, other, examples, field, member, int32, message_value_type, my_message, older_message, maps, maps_without_m, choice, extended, extended_choice, field_at_hundred, no_fields, closed, closed_alone, open_alone, int, hex, content, Means, Writes, Sets}
 use Rattle.prost_reflect_laws.specs.Examples.Passages.{AcceptedBy, Relays, Passes, Fails, PassesEdit, Passages, EditPassages, Tested, FailedPassages, ExtensionAgainstField}
 use Rattle.prost_reflect_laws.proofs.Accepted.{accepts_is_test}
 use Rattle.prost_reflect_laws.proofs.PassageLaws.{older_accepts, passage, edit_passage}

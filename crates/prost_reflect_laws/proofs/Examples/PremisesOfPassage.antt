@@ -1,5 +1,6 @@
 -- The premises of the laws on reductions and on single fields at worked examples.
-use Rattle.prost_reflect_laws.proofs.Common.{[], ◌∷◌, refl, lit<, lit≤, is_utf8, chars, encode_utf8, AreBytes, short, read, Accepts, unpacked, allows, meaning, steps, PathTo, FieldFront, refined_times, whole, less, examples, my_message, older_message, hex, int}
+use Rattle.std.specs.Prelude.{◌∷◌}
+use Rattle.prost_reflect_laws.proofs.Common.{[], refl, lit<, lit≤, is_utf8, chars, encode_utf8, AreBytes, short, read, Accepts, unpacked, allows, meaning, steps, PathTo, FieldFront, refined_times, whole, less, examples, my_message, older_message, hex, int}
 use Rattle.prost_reflect_laws.specs.Examples.PremisesOfPassage.{OfPassages, OfFields, relayed_bytes, older_content, to_bar, first_field}
 use Rattle.prost_reflect_laws.proofs.Accepted.{accepts_is_test}
 use Rattle.prost_reflect_laws.proofs.PassageLaws.{older_accepts, passage, edit_passage}

@@ -1,5 +1,6 @@
 -- The premises of the laws on reading back at worked examples.
-use Rattle.prost_reflect_laws.proofs.Common.{false, [], ◌∷◌, refl, is_utf8, chars, encode_utf8, short, read, Int32, known, ScalarOf, NoPairs, Pair, NoValues, Item, entries_of, unpacked, allows, meaning, steps, EntriesBack, ElementsBack, PairsBack, examples, my_message, unpacked_list, packed_list, maps, closed, text, int32, int, ascii, varint, delimited, sample}
+use Rattle.std.specs.Prelude.{◌∷◌}
+use Rattle.prost_reflect_laws.proofs.Common.{false, [], refl, is_utf8, chars, encode_utf8, short, read, Int32, known, ScalarOf, NoPairs, Pair, NoValues, Item, entries_of, unpacked, allows, meaning, steps, EntriesBack, ElementsBack, PairsBack, examples, my_message, unpacked_list, packed_list, maps, closed, text, int32, int, ascii, varint, delimited, sample}
 use Rattle.prost_reflect_laws.specs.Examples.ReadBack.{OfReadingBack, foo, nested_field, one_inside, elements, unpacked_field, packed_field, map_field, pairs, enum_field}
 use Rattle.prost_reflect_laws.proofs.Values.{scalar_back, message_back, stray_back}
 use Rattle.prost_reflect_laws.proofs.Lists.{list_back}

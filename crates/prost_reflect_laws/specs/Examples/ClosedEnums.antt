@@ -1,5 +1,6 @@
 -- Undeclared numbers of closed enums (the page "Enum Behavior" of the Protocol Buffers documentation).
-use Rattle.prost_reflect_laws.specs.Common.{◌≡◌, true, false, [], ◌∷◌, NoEntries, Stored, Unknown, MapValue, NoPairs, Pair, accepts, levels, encodable}
+use Rattle.std.specs.Prelude.{◌≡◌, ◌∷◌}
+use Rattle.prost_reflect_laws.specs.Common.{true, false, [], NoEntries, Stored, Unknown, MapValue, NoPairs, Pair, accepts, levels, encodable}
 use Rattle.prost_reflect_laws.specs.Examples.Schemas.{examples, closed, opened}
 use Rattle.prost_reflect_laws.specs.Examples.Words.{hex, content, int, enum, ascii, list_of, varint, delimited, Means, Reads, Refused}
 

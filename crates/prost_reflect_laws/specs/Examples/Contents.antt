@@ -1,5 +1,6 @@
 -- Which contents fit their types, and what is kept of what is stored (the guide on field presence).
-use Rattle.prost_reflect_laws.specs.Common.{◌≡◌, true, false, pos, [], ◌∷◌, I32, Int32, ScalarOf, MessageOf, Singular, Repeated, MapFrom, schema_valid, field_valid, ContentOf, NoEntries, Stored, Unknown, ScalarValue, MessageValue, MapValue, NoPairs, Pair, ordered, element_valid, value_valid, encodable, exclusive, filled, without_defaults, kept, Typed, Fitting, WellTyped}
+use Rattle.std.specs.Prelude.{◌≡◌, ◌∷◌}
+use Rattle.prost_reflect_laws.specs.Common.{true, false, pos, [], I32, Int32, ScalarOf, MessageOf, Singular, Repeated, MapFrom, schema_valid, field_valid, ContentOf, NoEntries, Stored, Unknown, ScalarValue, MessageValue, MapValue, NoPairs, Pair, ordered, element_valid, value_valid, encodable, exclusive, filled, without_defaults, kept, Typed, Fitting, WellTyped}
 use Rattle.prost_reflect_laws.specs.Laws.{Writable}
 use Rattle.prost_reflect_laws.specs.Examples.Schemas.{examples, other_examples, foreign_list, field, list, member, int32, text, required_int32, message_value_type, my_message, unpacked_list, packed_list, maps, choice}
 use Rattle.prost_reflect_laws.specs.Examples.Words.{content, int, ascii, inner, list_of, varint, Writes}

@@ -1,5 +1,6 @@
 -- What the operations of a message make of its content (the encoding guide, "Oneofs" and "Last One Wins", for what a set replaces).
-use Rattle.prost_reflect_laws.specs.Common.{◌≡◌, true, false, [], ◌∷◌, MessageOf, Singular, known, passes, NoEntries, Stored, Unknown, LEVEL_LIMIT, accepts, record_at, merged, clear_field, cleared, value_or_default, opened, set_at, edited}
+use Rattle.std.specs.Prelude.{◌≡◌, ◌∷◌}
+use Rattle.prost_reflect_laws.specs.Common.{true, false, [], MessageOf, Singular, known, passes, NoEntries, Stored, Unknown, LEVEL_LIMIT, accepts, record_at, merged, clear_field, cleared, value_or_default, opened, set_at, edited}
 use Rattle.prost_reflect_laws.specs.Examples.Schemas.{examples, field, list, member, int32, message_value_type, my_message, older_message, unpacked_list, choice, two_choices, closed}
 use Rattle.prost_reflect_laws.specs.Examples.Words.{times, content, int, enum, inner, list_of, varint, delimited, Means, Sets}
 

@@ -1,5 +1,6 @@
 -- Fields of one value: presence, the last one wins, messages merge, oneofs and extensions (the encoding guide, "Last One Wins", "Optional and Repeated Elements", "Oneofs", "Submessages"; the guide on field presence).
-use Rattle.prost_reflect_laws.specs.Common.{[], ◌∷◌, Flat, Var, NoEntries, Stored, Unknown, ScalarValue}
+use Rattle.std.specs.Prelude.{◌∷◌}
+use Rattle.prost_reflect_laws.specs.Common.{[], Flat, Var, NoEntries, Stored, Unknown, ScalarValue}
 use Rattle.prost_reflect_laws.specs.Examples.Schemas.{my_message, plain_a, seven_a, choice, two_choices, groups, item, extended, no_fields, text_at_one, required_a, nested_group}
 use Rattle.prost_reflect_laws.specs.Examples.Words.{int, minus_one, ascii, inner, list_of, varint, Means, Reads, Refused}
 

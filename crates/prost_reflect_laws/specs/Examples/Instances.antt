@@ -1,5 +1,6 @@
 -- For each law that has premises, a worked example at which all of them hold at once, so that no law is empty. Where the conclusion is a new one, it stands behind.
-use Rattle.prost_reflect_laws.specs.Common.{◌≡◌, ◌≢◌, ℕ, ◌≤◌, ◌<◌, ◌^◌, true, false, pos, negsuc, List, [], ◌∷◌, ◌++◌, length, Some, AreBytes, Var, Records, NoRecords, PlainRecord, Record, Spells, record_at, body_of, valid, payload_valid, short_body, read, I32, EnumNumber, Int32, ScalarKind, Enum, Closed, scalar_valid, elem, is_undeclared, known, schema_valid, Content, NoEntries, Stored, Unknown, LEVEL_LIMIT, Accepts, accepts, allows, meaning, decoded, steps, records, encoded, levels, WellStored, WellTyped, kept, merged, set_at, PathTo, StandsInMessage}
+use Rattle.std.specs.Prelude.{◌≡◌, ◌≢◌, ◌≤◌, ◌<◌, ◌^◌, ◌∷◌, ◌++◌}
+use Rattle.prost_reflect_laws.specs.Common.{ℕ, true, false, pos, negsuc, List, [], length, Some, AreBytes, Var, Records, NoRecords, PlainRecord, Record, Spells, record_at, body_of, valid, payload_valid, short_body, read, I32, EnumNumber, Int32, ScalarKind, Enum, Closed, scalar_valid, elem, is_undeclared, known, schema_valid, Content, NoEntries, Stored, Unknown, LEVEL_LIMIT, Accepts, accepts, allows, meaning, decoded, steps, records, encoded, levels, WellStored, WellTyped, kept, merged, set_at, PathTo, StandsInMessage}
 use Rattle.prost_reflect_laws.specs.Laws.{Apart, Writable, Spellable, StaysWell}
 use Rattle.prost_reflect_laws.specs.Examples.Schemas.{examples, my_message, choice, two_choices}
 use Rattle.prost_reflect_laws.specs.Examples.Words.{hex, content, int, inner, varint, delimited}

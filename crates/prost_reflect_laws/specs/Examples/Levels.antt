@@ -1,5 +1,6 @@
 -- How deep messages and groups may nest (the encoding guide, "Submessages" and "Groups"; the limit on levels is a parser's, and what is said of entries is this library's).
-use Rattle.prost_reflect_laws.specs.Common.{◌≡◌, true, false, pos, [], length, Some, NoRecords, GroupRecord, Group, NoEntries, Stored, Unknown, MapValue, NoPairs, Pair, I32, LEVEL_LIMIT, accepts, relayed, levels}
+use Rattle.std.specs.Prelude.{◌≡◌}
+use Rattle.prost_reflect_laws.specs.Common.{true, false, pos, [], length, Some, NoRecords, GroupRecord, Group, NoEntries, Stored, Unknown, MapValue, NoPairs, Pair, I32, LEVEL_LIMIT, accepts, relayed, levels}
 use Rattle.prost_reflect_laws.specs.Examples.Schemas.{examples, my_message, maps, nested_group, no_fields}
 use Rattle.prost_reflect_laws.specs.Examples.Words.{hex, nested, times, content, int, ascii, inner}
 

@@ -1,5 +1,6 @@
 -- Lists, packed and not (the encoding guide, "Packed Repeated Fields").
-use Rattle.prost_reflect_laws.specs.Common.{negsuc, [], ◌∷◌, I64, U32, NoEntries, Stored, ScalarValue}
+use Rattle.std.specs.Prelude.{◌∷◌}
+use Rattle.prost_reflect_laws.specs.Common.{negsuc, [], I64, U32, NoEntries, Stored, ScalarValue}
 use Rattle.prost_reflect_laws.specs.Examples.Schemas.{my_message, unpacked_list, packed_list, message_list, lists}
 use Rattle.prost_reflect_laws.specs.Examples.Words.{int, minus_one, ascii, inner, list_of, Means, Becomes, Reads, Refused, Writes}
 

@@ -1,5 +1,6 @@
 -- Statements near the laws on reading back that do not hold, each refuted by a worked example.
-use Rattle.prost_reflect_laws.specs.Common.{◌≡◌, true, false, [], ◌∷◌, Field, known, Content, Entries, NoEntries, Stored, ScalarValue, ListValue, MapValue, NoValues, Pairs, NoPairs, Pair, MessageValue, entries_ordered, pairs_ordered, meaning, is_default_of, records, is_whole_stray}
+use Rattle.std.specs.Prelude.{◌≡◌, ◌∷◌}
+use Rattle.prost_reflect_laws.specs.Common.{true, false, [], Field, known, Content, Entries, NoEntries, Stored, ScalarValue, ListValue, MapValue, NoValues, Pairs, NoPairs, Pair, MessageValue, entries_ordered, pairs_ordered, meaning, is_default_of, records, is_whole_stray}
 use Rattle.prost_reflect_laws.specs.Laws.{ValueBack, UnknownBack, EntriesBack, PairsBack}
 use Rattle.prost_reflect_laws.specs.Examples.Schemas.{examples, list, text, int32, closed_enum, my_message, unpacked_list, maps, closed}
 use Rattle.prost_reflect_laws.specs.Examples.Words.{content, int, ascii, list_of, delimited}

@@ -1,5 +1,6 @@
 -- Statements near the laws on faults and on single fields that do not hold, each refuted by a worked example.
-use Rattle.prost_reflect_laws.specs.Common.{◌≡◌, ◌≢◌, ℕ, false, List, [], ◌∷◌, ◌++◌, spelled, Accepts, accepts, FieldFront, StandsInMessage, StandsInValue, DecodeError}
+use Rattle.std.specs.Prelude.{◌≡◌, ◌≢◌, ◌∷◌, ◌++◌}
+use Rattle.prost_reflect_laws.specs.Common.{ℕ, false, List, [], spelled, Accepts, accepts, FieldFront, StandsInMessage, StandsInValue, DecodeError}
 use Rattle.prost_reflect_laws.specs.FieldLaws.{HasField, HasValue}
 use Rattle.prost_reflect_laws.specs.Examples.Schemas.{examples, my_message, no_fields}
 use Rattle.prost_reflect_laws.specs.Examples.Words.{hex}

@@ -1,5 +1,6 @@
 -- Statements near the laws on meaning and on writing that do not hold, each refuted by a worked example: a law without one of its premises, its converse, or its neighbour.
-use Rattle.prost_reflect_laws.specs.Common.{◌≡◌, ℕ, zero, suc, true, false, List, [], ◌∷◌, ◌++◌, Some, Record, record_at, body_of, Spells, Schema, Singular, known, schema_valid, Content, ContentOf, Entries, NoEntries, Stored, ScalarValue, LEVEL_LIMIT, accepts, allows, meaning, decoded, records, encoded, levels, WellTyped, kept, merged}
+use Rattle.std.specs.Prelude.{◌≡◌, ◌∷◌, ◌++◌}
+use Rattle.prost_reflect_laws.specs.Common.{ℕ, zero, suc, true, false, List, [], Some, Record, record_at, body_of, Spells, Schema, Singular, known, schema_valid, Content, ContentOf, Entries, NoEntries, Stored, ScalarValue, LEVEL_LIMIT, accepts, allows, meaning, decoded, records, encoded, levels, WellTyped, kept, merged}
 use Rattle.prost_reflect_laws.specs.Laws.{Apart, Writable}
 use Rattle.prost_reflect_laws.specs.Examples.Schemas.{examples, message, field, int32, my_message, packed_list, choice, plain_a}
 use Rattle.prost_reflect_laws.specs.Examples.Words.{content, int, ascii, inner, list_of, varint, delimited}

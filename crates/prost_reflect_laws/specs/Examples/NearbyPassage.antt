@@ -1,5 +1,6 @@
 -- Statements near the laws of reduction that do not hold, each refuted by a worked example. What passes on without a reduction stands in FailedPassages.
-use Rattle.prost_reflect_laws.specs.Common.{◌≡◌, ℕ, ◌<◌, suc, false, true, List, [], ◌∷◌, length, Some, ◌>>=◌, MessageOf, Singular, Schema, schema_valid, NoEntries, Value, LEVEL_LIMIT, Accepts, decoded, relayed, set_at, PathTo, holds_message, edited, Reduced}
+use Rattle.std.specs.Prelude.{◌≡◌, ◌<◌, ◌∷◌}
+use Rattle.prost_reflect_laws.specs.Common.{ℕ, suc, false, true, List, [], length, Some, ◌>>=◌, MessageOf, Singular, Schema, schema_valid, NoEntries, Value, LEVEL_LIMIT, Accepts, decoded, relayed, set_at, PathTo, holds_message, edited, Reduced}
 use Rattle.prost_reflect_laws.specs.Reducing.{is_reduced}
 use Rattle.prost_reflect_laws.specs.Examples.Schemas.{examples, message, field, message_value_type, my_message, older_message, no_fields, text_at_one, optional_a, two_choices, choices_without_a}
 use Rattle.prost_reflect_laws.specs.Examples.Words.{hex, int, inner, Becomes, Sets}

@@ -1,5 +1,6 @@
 -- Statements near the laws on reading and on scalars that do not hold, each refuted by a worked example.
-use Rattle.prost_reflect_laws.specs.Common.{◌≡◌, ℕ, ◌^◌, true, false, pos, negsuc, List, [], ◌∷◌, Some, Var, Flat, Records, NoRecords, PlainRecord, Spells, valid, payload_valid, short_body, read, Boolean, I32, U64, EnumNumber, BoolKind, Int32, Uint64, scalar_valid, elem, written, is_undeclared, Accepts, accepts}
+use Rattle.std.specs.Prelude.{◌≡◌, ◌^◌, ◌∷◌}
+use Rattle.prost_reflect_laws.specs.Common.{ℕ, true, false, pos, negsuc, List, [], Some, Var, Flat, Records, NoRecords, PlainRecord, Spells, valid, payload_valid, short_body, read, Boolean, I32, U64, EnumNumber, BoolKind, Int32, Uint64, scalar_valid, elem, written, is_undeclared, Accepts, accepts}
 use Rattle.prost_reflect_laws.specs.Examples.Schemas.{examples, my_message}
 use Rattle.prost_reflect_laws.specs.Examples.Words.{hex, varint}
 use Rattle.prost_reflect_laws.specs.Examples.Instances.{one, needless, two_numbers}

@@ -1,5 +1,6 @@
 -- Statements near the laws on what is read, merged, kept and set that do not hold, each refuted by a worked example.
-use Rattle.prost_reflect_laws.specs.Common.{◌≡◌, true, false, pos, List, [], ◌∷◌, ◌++◌, Some, NoRecords, Group, Record, record_at, body_of, valid, I32, Schema, MapFrom, schema_valid, Content, ContentOf, NoEntries, Stored, Value, ScalarValue, MapValue, NoPairs, Pair, LEVEL_LIMIT, accepts, allows, meaning, decoded, steps, records, levels, WellStored, WellTyped, Typed, kept, encodable, exclusive, merged, set_at}
+use Rattle.std.specs.Prelude.{◌≡◌, ◌∷◌, ◌++◌}
+use Rattle.prost_reflect_laws.specs.Common.{true, false, pos, List, [], Some, NoRecords, Group, Record, record_at, body_of, valid, I32, Schema, MapFrom, schema_valid, Content, ContentOf, NoEntries, Stored, Value, ScalarValue, MapValue, NoPairs, Pair, LEVEL_LIMIT, accepts, allows, meaning, decoded, steps, records, levels, WellStored, WellTyped, Typed, kept, encodable, exclusive, merged, set_at}
 use Rattle.prost_reflect_laws.specs.Examples.Schemas.{examples, message, field, int32, my_message, maps, closed}
 use Rattle.prost_reflect_laws.specs.Examples.Words.{hex, content, int, ascii, inner, varint, delimited}
 use Rattle.prost_reflect_laws.specs.Examples.Instances.{sample, front, behind, stores_defaults, two_members, Low, Taken}

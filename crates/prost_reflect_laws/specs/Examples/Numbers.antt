@@ -1,5 +1,6 @@
 -- Varints, zigzag, and the payload of each kind (the encoding guide, "Base 128 Varints", "More Integer Types", "Non-varint Numbers").
-use Rattle.prost_reflect_laws.specs.Common.{◌≡◌, true, false, pos, negsuc, [], ◌∷◌, map, Some, None, Varint, short, varint_at, Var, Fix64, Len, Fix32, Flat, Boolean, I32, I64, U32, U64, F32, F64, Text, Bytes, EnumNumber, Double, Float, Int64, Uint64, Int32, Fixed64, Fixed32, BoolKind, StringKind, BytesKind, Uint32, Sfixed32, Sfixed64, Sint32, Sint64, Enum, Open, Closed, elem, written, zigzag, unzigzag, kind_default, scalar_valid, NoEntries, Stored, ScalarValue}
+use Rattle.std.specs.Prelude.{◌≡◌, ◌∷◌}
+use Rattle.prost_reflect_laws.specs.Common.{true, false, pos, negsuc, [], map, Some, None, Varint, short, varint_at, Var, Fix64, Len, Fix32, Flat, Boolean, I32, I64, U32, U64, F32, F64, Text, Bytes, EnumNumber, Double, Float, Int64, Uint64, Int32, Fixed64, Fixed32, BoolKind, StringKind, BytesKind, Uint32, Sfixed32, Sfixed64, Sint32, Sint64, Enum, Open, Closed, elem, written, zigzag, unzigzag, kind_default, scalar_valid, NoEntries, Stored, ScalarValue}
 use Rattle.prost_reflect_laws.specs.Examples.Schemas.{plain}
 use Rattle.prost_reflect_laws.specs.Examples.Words.{hex, varint, Becomes, Reads}
 

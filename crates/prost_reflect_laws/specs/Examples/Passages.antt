@@ -1,6 +1,7 @@
 -- The laws of reduction at work: types and bytes of which all is true that a law asks, and others that show why it is asked (the encoding guide, "Updating A Message Type").
+use Rattle.std.specs.Prelude.{◌≡◌, ◌<◌, ◌≤◌, ◌^◌, ◌∷◌}
 use Prim.Native.String.{String}
-use Rattle.prost_reflect_laws.specs.Common.{◌≡◌, ℕ, ◌<◌, ◌≤◌, ◌^◌, suc, false, true, pos, List, [], ◌∷◌, length, Some, AreBytes, ◌>>=◌, schema_valid, Entries, NoEntries, Stored, Unknown, Value, MapValue, NoPairs, Pair, I32, LEVEL_LIMIT, Accepts, decoded, encoded, set_at, PathTo, holds_message, Reduced}
+use Rattle.prost_reflect_laws.specs.Common.{ℕ, suc, false, true, pos, List, [], length, Some, AreBytes, ◌>>=◌, schema_valid, Entries, NoEntries, Stored, Unknown, Value, MapValue, NoPairs, Pair, I32, LEVEL_LIMIT, Accepts, decoded, encoded, set_at, PathTo, holds_message, Reduced}
 use Rattle.prost_reflect_laws.specs.ReducingExamples.{whole, less, other}
 use Rattle.prost_reflect_laws.specs.Examples.Schemas.{examples, my_message, older_message, unpacked_list, packed_list, maps, maps_without_m, choice, extended, extended_choice, field_at_hundred, no_fields, closed, older_closed, closed_alone, open_alone, two_choices, choices_without_a}
 use Rattle.prost_reflect_laws.specs.Examples.Words.{content, int, enum, inner, list_of, varint, delimited, hex, Means, Writes, Sets}

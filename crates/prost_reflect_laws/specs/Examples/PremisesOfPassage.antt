@@ -1,5 +1,6 @@
 -- Worked examples at which the premises of the laws on reductions and on single fields hold.
-use Rattle.prost_reflect_laws.specs.Common.{◌≡◌, ℕ, ◌≤◌, ◌<◌, ◌^◌, true, false, List, [], ◌∷◌, ◌++◌, length, Some, AreBytes, Record, record_at, spelled, schema_valid, Content, NoEntries, Stored, Unknown, Accepts, decoded, encoded, PathTo, holds_message, edited, Reduced, FieldFront}
+use Rattle.std.specs.Prelude.{◌≡◌, ◌≤◌, ◌<◌, ◌^◌, ◌∷◌, ◌++◌}
+use Rattle.prost_reflect_laws.specs.Common.{ℕ, true, false, List, [], length, Some, AreBytes, Record, record_at, spelled, schema_valid, Content, NoEntries, Stored, Unknown, Accepts, decoded, encoded, PathTo, holds_message, edited, Reduced, FieldFront}
 use Rattle.prost_reflect_laws.specs.Examples.Schemas.{examples, my_message, older_message}
 use Rattle.prost_reflect_laws.specs.Examples.Words.{hex, content, int, inner, varint}
 use Rattle.prost_reflect_laws.specs.ReducingExamples.{whole, less}

@@ -1,5 +1,6 @@
 -- Worked examples at which the premises of the laws on reading back hold: what is written of one value is read as it.
-use Rattle.prost_reflect_laws.specs.Common.{◌≡◌, ℕ, true, false, pos, Some, body_of, valid, I32, Int32, scalar_valid, Field, ScalarOf, MessageOf, Singular, MapFrom, known, field_of, is_packable, Content, NoEntries, Stored, Value, Values, NoValues, Item, ListValue, MapValue, Pairs, NoPairs, Pair, MessageValue, entries_of, entries_ordered, pairs_ordered, meaning, is_default_of, records, is_of_type, is_whole_stray, elements_valid}
+use Rattle.std.specs.Prelude.{◌≡◌}
+use Rattle.prost_reflect_laws.specs.Common.{ℕ, true, false, pos, Some, body_of, valid, I32, Int32, scalar_valid, Field, ScalarOf, MessageOf, Singular, MapFrom, known, field_of, is_packable, Content, NoEntries, Stored, Value, Values, NoValues, Item, ListValue, MapValue, Pairs, NoPairs, Pair, MessageValue, entries_of, entries_ordered, pairs_ordered, meaning, is_default_of, records, is_of_type, is_whole_stray, elements_valid}
 use Rattle.prost_reflect_laws.specs.Laws.{ValueBack, UnknownBack, EntriesBack, ElementsBack, PairsBack}
 use Rattle.prost_reflect_laws.specs.Examples.Schemas.{examples, field, list, int32, text, message_value_type, closed_enum, my_message, unpacked_list, packed_list, maps, closed}
 use Rattle.prost_reflect_laws.specs.Examples.Words.{content, int, ascii, varint}

@@ -1,5 +1,6 @@
 -- Keys, payloads and groups as they are read and written without a type (the encoding guide, "Message Structure", "Length-Delimited Records", "Groups").
-use Rattle.prost_reflect_laws.specs.Common.{◌≡◌, [], Some, None, Var, Fix64, Len, Fix32, NoRecords, PlainRecord, GroupRecord, Flat, Group, raw_levels, payload_levels, read, short_body}
+use Rattle.std.specs.Prelude.{◌≡◌}
+use Rattle.prost_reflect_laws.specs.Common.{[], Some, None, Var, Fix64, Len, Fix32, NoRecords, PlainRecord, GroupRecord, Flat, Group, raw_levels, payload_levels, read, short_body}
 use Rattle.prost_reflect_laws.specs.Examples.Words.{hex}
 
 pub record Records : Type 0 where

@@ -1,5 +1,6 @@
 -- Which types are others with fields left out, and what passes through them (the encoding guide, "Updating A Message Type").
-use Rattle.prost_reflect_laws.specs.Common.{pos, [], ◌∷◌, NoEntries, Stored, MapValue, NoPairs, Pair, I32, Reduced}
+use Rattle.std.specs.Prelude.{◌∷◌}
+use Rattle.prost_reflect_laws.specs.Common.{pos, [], NoEntries, Stored, MapValue, NoPairs, Pair, I32, Reduced}
 use Rattle.prost_reflect_laws.specs.Examples.Schemas.{examples, my_message, older_message, message_without_bar, unpacked_list, packed_list, maps, maps_without_m, maps_without_q, presence_map, choice, extended, field_at_hundred, no_fields, closed, older_closed, closed_alone, other_alone, open_alone, optional_a, required_a, plain_a, seven_a, signed_a, text_inside, two_choices, choices_without_a, choices_moved, one_message, message_list}
 use Rattle.prost_reflect_laws.specs.Examples.Words.{int, enum, ascii, inner, list_of, Means, Becomes}
 

@@ -1,5 +1,6 @@
 -- Message types for the worked examples. Each is said as a message definition; a place in the list `examples` names it.
-use Rattle.prost_reflect_laws.specs.Common.{ℕ, Bool, true, false, pos, List, [], ◌∷◌, Some, None, I32, ScalarKind, Double, Float, Int64, Uint64, Int32, Fixed64, Fixed32, BoolKind, StringKind, BytesKind, Uint32, Sfixed32, Sfixed64, Sint32, Sint64, Enum, Open, Closed, kind_default, Kind, ScalarOf, MessageOf, GroupOf, ValueType, FieldForm, Singular, Repeated, MapFrom, Field, MessageType, Schema}
+use Rattle.std.specs.Prelude.{◌∷◌}
+use Rattle.prost_reflect_laws.specs.Common.{ℕ, Bool, true, false, pos, List, [], Some, None, I32, ScalarKind, Double, Float, Int64, Uint64, Int32, Fixed64, Fixed32, BoolKind, StringKind, BytesKind, Uint32, Sfixed32, Sfixed64, Sint32, Sint64, Enum, Open, Closed, kind_default, Kind, ScalarOf, MessageOf, GroupOf, ValueType, FieldForm, Singular, Repeated, MapFrom, Field, MessageType, Schema}
 
 -- FIELDS
 

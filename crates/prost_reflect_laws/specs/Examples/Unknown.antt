@@ -1,5 +1,6 @@
 -- Unknown records, and the order in which all is written (the encoding guide, "Field Order" and "Updating A Message Type").
-use Rattle.prost_reflect_laws.specs.Common.{[], ◌∷◌, Var, Group, NoRecords, PlainRecord, NoEntries, Stored, Unknown}
+use Rattle.std.specs.Prelude.{◌∷◌}
+use Rattle.prost_reflect_laws.specs.Common.{[], Var, Group, NoRecords, PlainRecord, NoEntries, Stored, Unknown}
 use Rattle.prost_reflect_laws.specs.Examples.Schemas.{my_message, unpacked_list, no_fields}
 use Rattle.prost_reflect_laws.specs.Examples.Words.{int, inner, list_of, varint, delimited, Means, Becomes, Reads, Refused}
 

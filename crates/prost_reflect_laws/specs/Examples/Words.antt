@@ -1,6 +1,7 @@
 -- The words that the worked examples are written in.
+use Rattle.std.specs.Prelude.{◌≡◌, ◌+◌, ◌-◌, ◌*◌, ◌∷◌, ◌++◌, if◌then◌else◌}
 use Prim.Native.String.{String}
-use Rattle.prost_reflect_laws.specs.Common.{◌≡◌, ℕ, zero, suc, ◌+◌, ◌-◌, ◌*◌, false, not, pos, negsuc, List, [], ◌∷◌, ◌++◌, length, filter, codes, nat_eq, nat_lt, if◌then◌else◌, Some, short, Var, Len, Payload, Flat, Scalar, I32, Text, EnumNumber, Content, ContentOf, Entries, Value, ScalarValue, MessageValue, ListValue, values_from, LEVEL_LIMIT, accepts, decoded, encoded, relayed, edited}
+use Rattle.prost_reflect_laws.specs.Common.{ℕ, zero, suc, false, not, pos, negsuc, List, [], length, filter, codes, nat_eq, nat_lt, Some, short, Var, Len, Payload, Flat, Scalar, I32, Text, EnumNumber, Content, ContentOf, Entries, Value, ScalarValue, MessageValue, ListValue, values_from, LEVEL_LIMIT, accepts, decoded, encoded, relayed, edited}
 use Rattle.prost_reflect_laws.specs.Examples.Schemas.{examples}
 
 -- BYTES

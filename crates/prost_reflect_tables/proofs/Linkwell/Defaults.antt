@@ -1,5 +1,6 @@
 -- The default of a field is a value of its kind.
-use Rattle.prost_reflect_tables.proofs.Common.{◌≡◌, ℕ, ℤ, ◌-◌, ◌^◌, Bool, true, false, cond, not, List, [], ◌∷◌, map, length, Option, Some, None, option_map, refl, sym, ap, ◌∙◌, subst, arith, slice_get, string_bytes, String, nat_eq, nat_lt, is_utf8, chars, list_any, list_all, int_eq, and_from, and_parts, or_left, lt-ltb, Decides-int_eq, slice_get-map, Scalar, Boolean, I32, I64, U32, U64, F32, F64, Text, Bytes, EnumNumber, ScalarKind, Open, Closed, in_i32, scalar_valid, ScalarOf, Schema, kind_valid, default_valid, FieldDescriptorProto, EnumValueDescriptorProto, TableKind, EnumValueRow, EnumRow, first_number, enum_kind, schema_kind, schema_default, signed, up_to, whole_number, float_bits, binary32, binary64, boolean, unescaped, number_named, written_default, field_default, DefinitionRow, FlatEnumRow, FlatRows, links_of, linked_kind, linked_default, linked_value, linked_enum, linked_rows, value_number, values_of_kind}
+use Rattle.std.specs.Prelude.{◌≡◌, ◌-◌, ◌^◌, ◌∷◌}
+use Rattle.prost_reflect_tables.proofs.Common.{ℕ, ℤ, Bool, true, false, cond, not, List, [], map, length, Option, Some, None, option_map, refl, sym, ap, ◌∙◌, subst, arith, slice_get, string_bytes, String, nat_eq, nat_lt, is_utf8, chars, list_any, list_all, int_eq, and_from, and_parts, or_left, lt-ltb, Decides-int_eq, slice_get-map, Scalar, Boolean, I32, I64, U32, U64, F32, F64, Text, Bytes, EnumNumber, ScalarKind, Open, Closed, in_i32, scalar_valid, ScalarOf, Schema, kind_valid, default_valid, FieldDescriptorProto, EnumValueDescriptorProto, TableKind, EnumValueRow, EnumRow, first_number, enum_kind, schema_kind, schema_default, signed, up_to, whole_number, float_bits, binary32, binary64, boolean, unescaped, number_named, written_default, field_default, DefinitionRow, FlatEnumRow, FlatRows, links_of, linked_kind, linked_default, linked_value, linked_enum, linked_rows, value_number, values_of_kind}
 use Rattle.std.proofs.Common.{Global}
 use Rattle.prost_reflect_laws.proofs.Spelt.{text_bytes}
 use Rattle.prost_reflect_types.proofs.SoundFields.{text_valid}

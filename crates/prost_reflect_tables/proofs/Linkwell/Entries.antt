@@ -1,5 +1,6 @@
 -- An entry that passes the checks has a key and a value, the numbers 1 and 2, and no extension.
-use Rattle.prost_reflect_tables.proofs.Common.{◌⊎◌, inl, inr, ◌≡◌, ℕ, suc, ℤ, pos, negsuc, ◌+◌, Bool, true, false, cond, not, ◌&&◌, List, [], ◌∷◌, ◌++◌, map, length, Option, Some, None, is_some, is_none, refl, sym, ap, ◌∙◌, arith, slice_get, nat_eq, option_and_then, list_any, and_parts, or_cases, not-true, not-false, eqb-true, TableKind, kind_valid, is_key_kind, is_group, FieldDescriptorProto, FieldRow, EnumRow, has_entry_numbers, schema_kind, schema_from, DefinitionRow, FlatMessageRow, FlatEnumRow, FlatRows, number_or_zero, is_code, is_member, message_names, place_named, message_named, is_in_range, is_out_of, extension_outside, is_entry, is_key_type, is_plain, is_entry_key, is_entry_value, is_key_and_value, entry_bad, is_of_entry, wrongly_of_entry, Links, links_of, natural_or_zero, is_place, is_group_code, belonging, extended_place, kind_of_code, linked_field, linked_rows, in_order, declared_fields, fields_of_message, place_or_first}
+use Rattle.std.specs.Prelude.{◌⊎◌, ◌≡◌, ◌+◌, ◌&&◌, ◌∷◌, ◌++◌}
+use Rattle.prost_reflect_tables.proofs.Common.{inl, inr, ℕ, suc, ℤ, pos, negsuc, Bool, true, false, cond, not, List, [], map, length, Option, Some, None, is_some, is_none, refl, sym, ap, ◌∙◌, arith, slice_get, nat_eq, option_and_then, list_any, and_parts, or_cases, not-true, not-false, eqb-true, TableKind, kind_valid, is_key_kind, is_group, FieldDescriptorProto, FieldRow, EnumRow, has_entry_numbers, schema_kind, schema_from, DefinitionRow, FlatMessageRow, FlatEnumRow, FlatRows, number_or_zero, is_code, is_member, message_names, place_named, message_named, is_in_range, is_out_of, extension_outside, is_entry, is_key_type, is_plain, is_entry_key, is_entry_value, is_key_and_value, entry_bad, is_of_entry, wrongly_of_entry, Links, links_of, natural_or_zero, is_place, is_group_code, belonging, extended_place, kind_of_code, linked_field, linked_rows, in_order, declared_fields, fields_of_message, place_or_first}
 use Rattle.prost_reflect_types.specs.declared.ExtensionRange.{ExtensionRange}
 use Rattle.prost_reflect_tables.specs.Faults as faults
 use Rattle.prost_reflect_tables.proofs.Linkwell.Premises.{FieldChecked, EnumChecked}

@@ -1,5 +1,6 @@
 -- What linking makes of a field that passes the checks: its number, its presence, its lists, its place in a oneof, and its own type.
-use Rattle.prost_reflect_tables.proofs.Common.{◌≡◌, ℕ, ℤ, pos, negsuc, ◌+◌, Bool, true, false, cond, not, ◌&&◌, ◌||◌, List, length, Option, Some, None, is_some, refl, sym, ap, ◌∙◌, subst, arith, slice_get, nat_eq, nat_lt, String, int_cmp, is_eq, and_from, not-false, eqb-true, lt-ltb, leb-false, Decides-int_eq, slice_get_within, number_valid, Scalar, ScalarKind, scalar_eq, kind_default, Kind, ScalarOf, MessageOf, GroupOf, Schema, message_type, kind_valid, is_packable_kind, is_bare, has_kind_default, is_group, FieldDescriptorProto, Cardinality, Optional, Required, Repeated, TableKind, FieldRow, MessageRow, EnumRow, kind_in_range, oneof_in_range, enum_kind, schema_kind, schema_default, is_required, own_type, schema_from, DefinitionRow, FlatMessageRow, FlatEnumRow, FlatRows, number_or_zero, is_field_number, number_bad, is_code, is_message_type, is_member, oneof_outside, is_entry, is_of_entry, names_entry, is_entry_message, default_misplaced, Links, links_of, natural_or_zero, place_in, is_message, is_packable, is_repeated, cardinality_of_label, linked_kind, linked_default, linked_field, linked_message, linked_rows, fields_of_message}
+use Rattle.std.specs.Prelude.{◌≡◌, ◌+◌, ◌&&◌, ◌||◌}
+use Rattle.prost_reflect_tables.proofs.Common.{ℕ, ℤ, pos, negsuc, Bool, true, false, cond, not, List, length, Option, Some, None, is_some, refl, sym, ap, ◌∙◌, subst, arith, slice_get, nat_eq, nat_lt, String, int_cmp, is_eq, and_from, not-false, eqb-true, lt-ltb, leb-false, Decides-int_eq, slice_get_within, number_valid, Scalar, ScalarKind, scalar_eq, kind_default, Kind, ScalarOf, MessageOf, GroupOf, Schema, message_type, kind_valid, is_packable_kind, is_bare, has_kind_default, is_group, FieldDescriptorProto, Cardinality, Optional, Required, Repeated, TableKind, FieldRow, MessageRow, EnumRow, kind_in_range, oneof_in_range, enum_kind, schema_kind, schema_default, is_required, own_type, schema_from, DefinitionRow, FlatMessageRow, FlatEnumRow, FlatRows, number_or_zero, is_field_number, number_bad, is_code, is_message_type, is_member, oneof_outside, is_entry, is_of_entry, names_entry, is_entry_message, default_misplaced, Links, links_of, natural_or_zero, place_in, is_message, is_packable, is_repeated, cardinality_of_label, linked_kind, linked_default, linked_field, linked_message, linked_rows, fields_of_message}
 use Rattle.std.proofs.Common.{Global}
 use Rattle.prost_reflect_wire.specs.Scalar as scalars
 use Rattle.prost_reflect_wire.specs.Schema as schemas

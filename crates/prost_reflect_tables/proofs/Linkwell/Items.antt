@@ -1,5 +1,6 @@
 -- What tests say of the items of lists, and the linked messages place by place.
-use Rattle.prost_reflect_tables.proofs.Common.{◌≡◌, ℕ, zero, suc, ◌+◌, Bool, true, false, cond, ◌&&◌, List, [], ◌∷◌, length, Option, Some, refl, sym, ap, ◌∙◌, subst, arith, slice_get, nat_le, list_any, list_all, or_parts, and_from, and_parts, FieldDescriptorProto, FieldRow, MessageRow, DefinitionRow, FlatMessageRow, Links, put_in_order, in_order, is_place, belonging, fields_of_message, linked_message, messages_from}
+use Rattle.std.specs.Prelude.{◌≡◌, ◌+◌, ◌&&◌, ◌∷◌}
+use Rattle.prost_reflect_tables.proofs.Common.{ℕ, zero, suc, Bool, true, false, cond, List, [], length, Option, Some, refl, sym, ap, ◌∙◌, subst, arith, slice_get, nat_le, list_any, list_all, or_parts, and_from, and_parts, FieldDescriptorProto, FieldRow, MessageRow, DefinitionRow, FlatMessageRow, Links, put_in_order, in_order, is_place, belonging, fields_of_message, linked_message, messages_from}
 
 -- Where no item passes a test, none does at a place.
 pub none_at : {X : Type 0} (t : X → Bool) (xs : List X) (i : ℕ) (x : X) → list_any t xs ≡ false → slice_get xs i ≡ Some x → t x ≡ false

@@ -1,5 +1,6 @@
 -- What the type codes say of kinds, and what stands at the places that they name.
-use Rattle.prost_reflect_tables.proofs.Common.{⊎_elim, ◌≡◌, ℕ, zero, suc, ℤ, pos, ◌+◌, ◌<◌, ◌≤◌, Bool, true, false, cond, not, ◌&&◌, ◌||◌, List, [], ◌∷◌, map, Option, Some, None, refl, sym, ap, ◌∙◌, subst, arith, slice_get, string_bytes, is_none, String, bytes_eq, unwrap_or, inl, inr, ◌⊎◌, nat_lt, nat_le, position_from, cases_lt, and_parts, or_parts, not-false, ltb-true, leb-true, FieldDescriptorProto, TableKind, without_dot, DefinitionRow, FlatMessageRow, FlatEnumRow, FlatRows, name_place, message_names, enum_names, names_nothing, number_or_zero, is_type, is_message_type, is_enum_type, type_missing, type_unknown, message_named, place_or_first, kind_of_code, linked_kind, links_of, natural_or_zero}
+use Rattle.std.specs.Prelude.{◌≡◌, ◌+◌, ◌<◌, ◌≤◌, ◌&&◌, ◌||◌, ◌∷◌, ◌⊎◌}
+use Rattle.prost_reflect_tables.proofs.Common.{⊎_elim, ℕ, zero, suc, ℤ, pos, Bool, true, false, cond, not, List, [], map, Option, Some, None, refl, sym, ap, ◌∙◌, subst, arith, slice_get, string_bytes, is_none, String, bytes_eq, unwrap_or, inl, inr, nat_lt, nat_le, position_from, cases_lt, and_parts, or_parts, not-false, ltb-true, leb-true, FieldDescriptorProto, TableKind, without_dot, DefinitionRow, FlatMessageRow, FlatEnumRow, FlatRows, name_place, message_names, enum_names, names_nothing, number_or_zero, is_type, is_message_type, is_enum_type, type_missing, type_unknown, message_named, place_or_first, kind_of_code, linked_kind, links_of, natural_or_zero}
 use Rattle.std.proofs.Common.{Global}
 use Rattle.prost_reflect_tables.specs.declared.tables.TableKind.TheVariants.{Message, Enum}
 

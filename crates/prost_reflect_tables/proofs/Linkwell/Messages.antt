@@ -1,5 +1,6 @@
 -- Numbers in a message and its extensions differ, and members of its oneofs are among its fields.
-use Rattle.prost_reflect_tables.proofs.Common.{◌≡◌, ℕ, zero, suc, ℤ, pos, ◌+◌, ◌<◌, ◌≤◌, ◌^◌, Bool, true, false, cond, ◌&&◌, List, [], ◌∷◌, ◌++◌, map, length, filter, Option, Some, None, refl, sym, ap, ◌∙◌, subst, arith, slice_get, nat_eq, nat_lt, length-append, int_eq, list_all, and_from, eqb-true, eq-eqb, ltb-true, lt-ltb, Decides-int_eq, list_all-append, list_all-map, FieldDescriptorProto, OneofDescriptorProto, FieldRow, ascending_from, oneof_linked, DefinitionRow, FlatMessageRow, FlatRows, number_or_zero, number_bad, message_names, place_named, Numbered, numbered_fields, numbered_in, numbered_at, numbered_extensions, all_numbered, same_numbered, Links, links_of, natural_or_zero, is_place, belonging, extended_place, linked_field, declared_fields, fields_of_message, in_order, oneof_place, member_place, oneofs_from}
+use Rattle.std.specs.Prelude.{◌≡◌, ◌+◌, ◌<◌, ◌≤◌, ◌^◌, ◌&&◌, ◌∷◌, ◌++◌}
+use Rattle.prost_reflect_tables.proofs.Common.{ℕ, zero, suc, ℤ, pos, Bool, true, false, cond, List, [], map, length, filter, Option, Some, None, refl, sym, ap, ◌∙◌, subst, arith, slice_get, nat_eq, nat_lt, length-append, int_eq, list_all, and_from, eqb-true, eq-eqb, ltb-true, lt-ltb, Decides-int_eq, list_all-append, list_all-map, FieldDescriptorProto, OneofDescriptorProto, FieldRow, ascending_from, oneof_linked, DefinitionRow, FlatMessageRow, FlatRows, number_or_zero, number_bad, message_names, place_named, Numbered, numbered_fields, numbered_in, numbered_at, numbered_extensions, all_numbered, same_numbered, Links, links_of, natural_or_zero, is_place, belonging, extended_place, linked_field, declared_fields, fields_of_message, in_order, oneof_place, member_place, oneofs_from}
 use Rattle.prost_reflect_wire.proofs.Survivors.{filter_append}
 use Rattle.prost_reflect_tables.proofs.Sorting.{with_number, order_there}
 use Rattle.prost_reflect_tables.proofs.Linkwell.Items.{all_from, all_belonging, all_in_order}

@@ -1,5 +1,6 @@
 -- Numbers of fields: they differ, are in range, and ascend.
-use Rattle.prost_reflect_tables.proofs.Common.{◌≡◌, ◌≢◌, ℕ, ◌+◌, ◌<◌, ◌≤◌, ◌^◌, Bool, true, false, cond, ◌&&◌, List, [], ◌∷◌, ◌++◌, length, filter, refl, sym, ap, ◌∙◌, subst, arith, append_assoc, length-append, nat_lt, nat_eq, list_any, list_all, or_parts, and_from, and_parts, eq-eqb, ne_eqb, ltb-true, lt-ltb, Decides-int_eq, FieldRow, ascending_from, in_order, Numbered, same_numbered, number_repeats}
+use Rattle.std.specs.Prelude.{◌≡◌, ◌≢◌, ◌+◌, ◌<◌, ◌≤◌, ◌^◌, ◌&&◌, ◌∷◌, ◌++◌}
+use Rattle.prost_reflect_tables.proofs.Common.{ℕ, Bool, true, false, cond, List, [], length, filter, refl, sym, ap, ◌∙◌, subst, arith, append_assoc, length-append, nat_lt, nat_eq, list_any, list_all, or_parts, and_from, and_parts, eq-eqb, ne_eqb, ltb-true, lt-ltb, Decides-int_eq, FieldRow, ascending_from, in_order, Numbered, same_numbered, number_repeats}
 use Rattle.prost_reflect_wire.proofs.Survivors.{filter_append}
 use Rattle.prost_reflect_tables.proofs.Sorting.{Rising, with_number, order_rises, order_there}
 

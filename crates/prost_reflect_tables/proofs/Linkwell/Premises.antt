@@ -1,5 +1,6 @@
 -- What the checks say of each message, enum, field and extension.
-use Rattle.prost_reflect_tables.proofs.Common.{◌≡◌, ℕ, Bool, true, false, ◌||◌, List, map, Some, refl, sym, ◌∙◌, slice_get, list_any, list_all, or_parts, list_all-map, in_i32, FileDescriptorProto, FieldDescriptorProto, PoolError, DefinitionRow, FlatMessageRow, FlatEnumRow, FlatServiceRow, FlatRows, any_field, number_bad, type_missing, type_unknown, extendee_missing, extendee_unknown, repeated_member, is_member, has_oneof_outside, import_outside, enum_empty, extension_outside, duplicate_number, bad_map_entry, entry_bad, wrongly_of_entry, is_of_entry, method_of_entry, default_bad, default_misplaced, Links, links_of, value_number, linked_value, linked_enum, linked_rows, has_fault, Checked, EnumValueRow}
+use Rattle.std.specs.Prelude.{◌≡◌, ◌||◌}
+use Rattle.prost_reflect_tables.proofs.Common.{ℕ, Bool, true, false, List, map, Some, refl, sym, ◌∙◌, slice_get, list_any, list_all, or_parts, list_all-map, in_i32, FileDescriptorProto, FieldDescriptorProto, PoolError, DefinitionRow, FlatMessageRow, FlatEnumRow, FlatServiceRow, FlatRows, any_field, number_bad, type_missing, type_unknown, extendee_missing, extendee_unknown, repeated_member, is_member, has_oneof_outside, import_outside, enum_empty, extension_outside, duplicate_number, bad_map_entry, entry_bad, wrongly_of_entry, is_of_entry, method_of_entry, default_bad, default_misplaced, Links, links_of, value_number, linked_value, linked_enum, linked_rows, has_fault, Checked, EnumValueRow}
 use Rattle.prost_reflect_tables.specs.declared.error.PoolError.TheVariants as errors
 use Rattle.prost_reflect_tables.specs.InRange.{enum_in_range, in_range}
 use Rattle.prost_reflect_tables.proofs.Keeping.{passes_at}

@@ -1,5 +1,6 @@
 -- The schema of files that pass the checks is one of a checked pool.
-use Rattle.prost_reflect_tables.proofs.Common.{◌≡◌, ℕ, ℤ, pos, negsuc, ◌+◌, ◌<◌, ◌≤◌, ◌^◌, Bool, true, false, cond, not, ◌&&◌, List, [], ◌∷◌, map, Option, Some, None, refl, ap, ◌∙◌, arith, slice_get, nat_eq, nat_lt, list_any, list_all, and_from, and_parts, or_from, ltb-true, ne_eqb, eqb-true, list_all-map, Field, MessageType, Schema, kind_valid, field_valid, numbers_differ, schema_valid, FieldDescriptorProto, FileDescriptorProto, Cardinality, Optional, Required, Repeated, TableKind, FieldRow, MessageRow, TableRows, ascending_from, schema_kind, entry_or_none, entry_at, map_entry, schema_field, schema_message, schema_from, DefinitionRow, FlatMessageRow, FlatEnumRow, FlatRows, is_code, is_member, is_entry, is_of_entry, links_of, linked_kind, linked_field, linked_rows, in_order, fields_of_message}
+use Rattle.std.specs.Prelude.{◌≡◌, ◌+◌, ◌<◌, ◌≤◌, ◌^◌, ◌&&◌, ◌∷◌}
+use Rattle.prost_reflect_tables.proofs.Common.{ℕ, ℤ, pos, negsuc, Bool, true, false, cond, not, List, [], map, Option, Some, None, refl, ap, ◌∙◌, arith, slice_get, nat_eq, nat_lt, list_any, list_all, and_from, and_parts, or_from, ltb-true, ne_eqb, eqb-true, list_all-map, Field, MessageType, Schema, kind_valid, field_valid, numbers_differ, schema_valid, FieldDescriptorProto, FileDescriptorProto, Cardinality, Optional, Required, Repeated, TableKind, FieldRow, MessageRow, TableRows, ascending_from, schema_kind, entry_or_none, entry_at, map_entry, schema_field, schema_message, schema_from, DefinitionRow, FlatMessageRow, FlatEnumRow, FlatRows, is_code, is_member, is_entry, is_of_entry, links_of, linked_kind, linked_field, linked_rows, in_order, fields_of_message}
 use Rattle.prost_reflect_tables.specs.declared.tables.TableKind.TheVariants as kinds
 use Rattle.prost_reflect_tables.specs.Faults as faults
 use Rattle.prost_reflect_tables.proofs.Linkwell.Items.{messages_all}

@@ -1,5 +1,6 @@
 -- Which rows show a field of a checked pool's schema.
-use Rattle.prost_reflect_tables.proofs.Common.{◌≡◌, ℕ, zero, suc, Bool, true, false, not, ◌&&◌, ◌||◌, List, [], ◌∷◌, map, length, Option, Some, None, is_some, refl, sym, ap, subst, slice_get, length-map, number_valid, Kind, Field, MapFrom, Schema, message_type, kind_valid, default_valid, is_key_kind, has_kind_default, is_group, is_packable_kind, is_bare, message_has_presence, form_valid, oneof_valid, field_valid, Cardinality, Optional, Required, Repeated, FieldRow, MessageRow, TableRows, is_repeated, schema_kind, schema_default, own_type, map_entry, type_or, value_type_of, form_of, schema_field, schema_message, schema_from}
+use Rattle.std.specs.Prelude.{◌≡◌, ◌&&◌, ◌||◌, ◌∷◌}
+use Rattle.prost_reflect_tables.proofs.Common.{ℕ, zero, suc, Bool, true, false, not, List, [], map, length, Option, Some, None, is_some, refl, sym, ap, subst, slice_get, length-map, number_valid, Kind, Field, MapFrom, Schema, message_type, kind_valid, default_valid, is_key_kind, has_kind_default, is_group, is_packable_kind, is_bare, message_has_presence, form_valid, oneof_valid, field_valid, Cardinality, Optional, Required, Repeated, FieldRow, MessageRow, TableRows, is_repeated, schema_kind, schema_default, own_type, map_entry, type_or, value_type_of, form_of, schema_field, schema_message, schema_from}
 
 -- THE TYPE AT A PLACE
 

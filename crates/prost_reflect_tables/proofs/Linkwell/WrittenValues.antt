@@ -1,5 +1,6 @@
 -- A default that a text gives is a value of its kind.
-use Rattle.prost_reflect_tables.proofs.Common.{◌≡◌, ℕ, zero, suc, ℤ, pos, negsuc, neg_ℤ, ◌+◌, ◌-◌, ◌*◌, ◌/◌, ◌^◌, ◌<◌, ◌≤◌, Bool, true, false, cond, ◌||◌, List, [], ◌∷◌, map, length, Option, Some, None, option_map, option_and_then, refl, sym, ap, subst, arith, find, bytes_eq, codes, nat_eq, nat_le, nat_lt, list_any, list_all, int_eq, and_from, and_parts, or_left, or_right, leb-true, leb-false, lt-ltb, ltb-true, Decides-int_eq, in_i32, in_i64, up_to, whole_number, signed, is_negative, greatest_exponent, bits_at, whole_bits, magnitude_bits, float_bits, FloatFormat, binary32, binary64, Front, front, is_octal, octal_digit, octal, letter, escaped, front_byte, unescaped_in, unescaped, number_named, are_bytes, EnumValueDescriptorProto, text_or_empty, EnumValueRow, DefinitionRow, value_number, linked_value}
+use Rattle.std.specs.Prelude.{◌≡◌, ◌+◌, ◌-◌, ◌*◌, ◌/◌, ◌^◌, ◌<◌, ◌≤◌, ◌||◌, ◌∷◌}
+use Rattle.prost_reflect_tables.proofs.Common.{ℕ, zero, suc, ℤ, pos, negsuc, neg_ℤ, Bool, true, false, cond, List, [], map, length, Option, Some, None, option_map, option_and_then, refl, sym, ap, subst, arith, find, bytes_eq, codes, nat_eq, nat_le, nat_lt, list_any, list_all, int_eq, and_from, and_parts, or_left, or_right, leb-true, leb-false, lt-ltb, ltb-true, Decides-int_eq, in_i32, in_i64, up_to, whole_number, signed, is_negative, greatest_exponent, bits_at, whole_bits, magnitude_bits, float_bits, FloatFormat, binary32, binary64, Front, front, is_octal, octal_digit, octal, letter, escaped, front_byte, unescaped_in, unescaped, number_named, are_bytes, EnumValueDescriptorProto, text_or_empty, EnumValueRow, DefinitionRow, value_number, linked_value}
 use Rattle.std.proofs.lemmas.Nat.{pow_pos, div_below}
 use Rattle.std.proofs.Math.Nat.{pow-succ', mul-lt-mul_of_pos_right, mul-le-mul_right, mul_comm}
 use Rattle.prost_reflect_tables.specs.WrittenDefaults.{behind}

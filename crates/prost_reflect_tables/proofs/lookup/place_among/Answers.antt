@@ -1,4 +1,5 @@
-use Rattle.prost_reflect_tables.proofs.Common.{◌+◌, ◌-◌, ◌/◌, map, arith, sym, field_row}
+use Rattle.std.specs.Prelude.{◌+◌, ◌-◌, ◌/◌}
+use Rattle.prost_reflect_tables.proofs.Common.{map, arith, sym, field_row}
 use Rattle.prost_reflect_tables.proofs.Ascending.{at_start, read_row, upper_half, lower_half, nothing_between, place_found}
 use Rattle.prost_reflect_tables.proofs.lookup.place_among.Goals as goal
 

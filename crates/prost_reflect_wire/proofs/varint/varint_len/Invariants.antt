@@ -1,4 +1,5 @@
-use Rattle.prost_reflect_wire.proofs.Common.{◌≡◌, ◌+◌, length, short}
+use Rattle.std.specs.Prelude.{◌≡◌, ◌+◌}
+use Rattle.prost_reflect_wire.proofs.Common.{length, short}
 use Rattle.prost_reflect_wire.proofs.varint.varint_len.Given as goal
 
 abbrev pub invariant-loop-rest : goal.invariant-loop-rest

@@ -1,4 +1,5 @@
-use Rattle.prost_reflect_tables.proofs.Common.{◌≤◌, length, ap, sym, ◌∙◌, arith, front}
+use Rattle.std.specs.Prelude.{◌≤◌}
+use Rattle.prost_reflect_tables.proofs.Common.{length, ap, sym, ◌∙◌, arith, front}
 use Rattle.prost_reflect_tables.proofs.Escapes.{front_shorter, first_byte, no_byte, no_text}
 use Rattle.prost_reflect_tables.proofs.build.defaults.unescaped.Goals as goal
 

@@ -1,4 +1,5 @@
-use Rattle.prost_reflect_tables.proofs.Common.{◌≡◌, ◌++◌, length, option_map, unescaped}
+use Rattle.std.specs.Prelude.{◌≡◌, ◌++◌}
+use Rattle.prost_reflect_tables.proofs.Common.{length, option_map, unescaped}
 use Rattle.prost_reflect_tables.proofs.build.defaults.unescaped.Given as goal
 
 abbrev pub decreases-loop-first : goal.decreases-loop-first

@@ -1,4 +1,5 @@
-use Rattle.prost_reflect_tables.proofs.Common.{◌<◌, ◌+◌, ◌-◌, ◌*◌, get_or, sym, ap, ◌∙◌, arith, up_to}
+use Rattle.std.specs.Prelude.{◌<◌, ◌+◌, ◌-◌, ◌*◌}
+use Rattle.prost_reflect_tables.proofs.Common.{get_or, sym, ap, ◌∙◌, arith, up_to}
 use Rattle.prost_reflect_tables.proofs.WholeNumbers.{digit_past, from_start}
 use Rattle.prost_reflect_tables.proofs.build.defaults.whole_number.Goals as goal
 use Rattle.prost_reflect_tables.proofs.build.defaults.whole_number.Goals.{then-number-limit-via-then-number-limit, then-number-limit-via-else-number-limit+then-digit-limit}

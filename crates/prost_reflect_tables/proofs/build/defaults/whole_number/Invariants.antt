@@ -1,4 +1,5 @@
-use Rattle.prost_reflect_tables.proofs.Common.{◌≡◌, ◌≤◌, drop, digits_from}
+use Rattle.std.specs.Prelude.{◌≡◌, ◌≤◌}
+use Rattle.prost_reflect_tables.proofs.Common.{drop, digits_from}
 use Rattle.prost_reflect_tables.proofs.build.defaults.whole_number.Given as goal
 
 abbrev pub invariant-loop-byte : goal.invariant-loop-byte

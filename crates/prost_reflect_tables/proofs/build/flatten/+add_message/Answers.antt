@@ -1,4 +1,5 @@
-use Rattle.prost_reflect_tables.proofs.Common.{◌≡◌, ◌++◌, ◌∷◌, [], List, map, length, Some, rules, refl, sym, ap, ◌∙◌, arith, length-map, map-append, drop_all, DescriptorProto, out-DescriptorProto, EnumDescriptorProto, FieldDescriptorProto, ScopeRow, FlatRows, FlatMessageRow, inside, enums_from, defined_from, field_name, own_message, message_at, all_from, with_given, scope_row, definition_row, enum_row, message_row, flat_rows}
+use Rattle.std.specs.Prelude.{◌≡◌, ◌++◌, ◌∷◌}
+use Rattle.prost_reflect_tables.proofs.Common.{[], List, map, length, Some, rules, refl, sym, ap, ◌∙◌, arith, length-map, map-append, drop_all, DescriptorProto, out-DescriptorProto, EnumDescriptorProto, FieldDescriptorProto, ScopeRow, FlatRows, FlatMessageRow, inside, enums_from, defined_from, field_name, own_message, message_at, all_from, with_given, scope_row, definition_row, enum_row, message_row, flat_rows}
 use Rattle.prost_reflect_tables.proofs.Flattening.{message_added, message_closed, same_rows, same_scope, given_nothing}
 use Rattle.prost_reflect_tables.proofs.build.flatten.+add_message.Goals as goal
 

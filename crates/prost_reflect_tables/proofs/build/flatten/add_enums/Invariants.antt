@@ -1,4 +1,5 @@
-use Rattle.prost_reflect_tables.proofs.Common.{◌≡◌, ◌++◌, map, drop, enums_from, scope_row, enum_row}
+use Rattle.std.specs.Prelude.{◌≡◌, ◌++◌}
+use Rattle.prost_reflect_tables.proofs.Common.{map, drop, enums_from, scope_row, enum_row}
 use Rattle.prost_reflect_tables.proofs.build.flatten.add_enums.Given as goal
 
 abbrev pub invariant-loop-place : goal.invariant-loop-place

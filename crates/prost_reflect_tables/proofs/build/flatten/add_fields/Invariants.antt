@@ -1,4 +1,5 @@
-use Rattle.prost_reflect_tables.proofs.Common.{◌≡◌, ◌++◌, map, drop, defined_from, field_name, scope_row, definition_row}
+use Rattle.std.specs.Prelude.{◌≡◌, ◌++◌}
+use Rattle.prost_reflect_tables.proofs.Common.{map, drop, defined_from, field_name, scope_row, definition_row}
 use Rattle.prost_reflect_tables.proofs.build.flatten.add_fields.Given as goal
 
 abbrev pub invariant-loop-place : goal.invariant-loop-place

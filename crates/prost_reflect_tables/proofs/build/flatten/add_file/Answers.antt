@@ -1,4 +1,5 @@
-use Rattle.prost_reflect_tables.proofs.Common.{◌≡◌, ◌++◌, [], List, map, length, None, refl, sym, ap, ◌∙◌, arith, length-map, drop_all, DescriptorProto, EnumDescriptorProto, FieldDescriptorProto, ServiceDescriptorProto, ScopeRow, message_at, all_from, with_given, enums_from, services_from, defined_from, field_name, definition_row, enum_row, service_row, message_row, flat_rows}
+use Rattle.std.specs.Prelude.{◌≡◌, ◌++◌}
+use Rattle.prost_reflect_tables.proofs.Common.{[], List, map, length, None, refl, sym, ap, ◌∙◌, arith, length-map, drop_all, DescriptorProto, EnumDescriptorProto, FieldDescriptorProto, ServiceDescriptorProto, ScopeRow, message_at, all_from, with_given, enums_from, services_from, defined_from, field_name, definition_row, enum_row, service_row, message_row, flat_rows}
 use Rattle.prost_reflect_tables.proofs.Flattening.{message_added, file_closed, same_rows, same_scope, given_nothing}
 use Rattle.prost_reflect_tables.proofs.build.flatten.add_file.Goals as goal
 

@@ -1,4 +1,5 @@
-use Rattle.prost_reflect_tables.proofs.Common.{◌≡◌, map, drop, length, message_at, all_from, with_given, scope_row, flat_rows}
+use Rattle.std.specs.Prelude.{◌≡◌}
+use Rattle.prost_reflect_tables.proofs.Common.{map, drop, length, message_at, all_from, with_given, scope_row, flat_rows}
 use Rattle.prost_reflect_tables.proofs.build.flatten.add_file.Given as goal
 
 abbrev pub invariant-loop-place : goal.invariant-loop-place

@@ -1,4 +1,5 @@
-use Rattle.prost_reflect_tables.proofs.Common.{◌≡◌, ◌++◌, map, drop, services_from, scope_row, service_row}
+use Rattle.std.specs.Prelude.{◌≡◌, ◌++◌}
+use Rattle.prost_reflect_tables.proofs.Common.{map, drop, services_from, scope_row, service_row}
 use Rattle.prost_reflect_tables.proofs.build.flatten.add_services.Given as goal
 
 abbrev pub invariant-loop-place : goal.invariant-loop-place

@@ -1,4 +1,5 @@
-use Rattle.prost_reflect_tables.proofs.Common.{◌≡◌, List, map, length, get_or, sym, ap, ◌∙◌, arith, length-map, drop_all, get_or-map, FileDescriptorProto, file_at, files_from, behind, message_row, flat_rows}
+use Rattle.std.specs.Prelude.{◌≡◌}
+use Rattle.prost_reflect_tables.proofs.Common.{List, map, length, get_or, sym, ap, ◌∙◌, arith, length-map, drop_all, get_or-map, FileDescriptorProto, file_at, files_from, behind, message_row, flat_rows}
 use Rattle.prost_reflect_tables.proofs.Flattening.{file_added, nothing_behind}
 use Rattle.prost_reflect_tables.proofs.build.flatten.flattened.Goals as goal
 

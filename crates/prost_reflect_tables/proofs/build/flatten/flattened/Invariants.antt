@@ -1,4 +1,5 @@
-use Rattle.prost_reflect_tables.proofs.Common.{◌≡◌, map, drop, length, behind, files_from, flattened, flat_rows}
+use Rattle.std.specs.Prelude.{◌≡◌}
+use Rattle.prost_reflect_tables.proofs.Common.{map, drop, length, behind, files_from, flattened, flat_rows}
 use Rattle.prost_reflect_tables.proofs.build.flatten.flattened.Given as goal
 
 abbrev pub invariant-loop-file : goal.invariant-loop-file

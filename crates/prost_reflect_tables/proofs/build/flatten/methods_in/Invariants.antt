@@ -1,4 +1,5 @@
-use Rattle.prost_reflect_tables.proofs.Common.{◌≡◌, ◌++◌, map, drop, defined_from, method_name, scope_row, definition_row}
+use Rattle.std.specs.Prelude.{◌≡◌, ◌++◌}
+use Rattle.prost_reflect_tables.proofs.Common.{map, drop, defined_from, method_name, scope_row, definition_row}
 use Rattle.prost_reflect_tables.proofs.build.flatten.methods_in.Given as goal
 
 abbrev pub invariant-loop-place : goal.invariant-loop-place

@@ -1,4 +1,5 @@
-use Rattle.prost_reflect_tables.proofs.Common.{◌≡◌, ◌++◌, map, drop, names_of, definition_row, text_list}
+use Rattle.std.specs.Prelude.{◌≡◌, ◌++◌}
+use Rattle.prost_reflect_tables.proofs.Common.{map, drop, names_of, definition_row, text_list}
 use Rattle.prost_reflect_tables.proofs.build.index.add_names.Given as goal
 
 abbrev pub invariant-loop-definition : goal.invariant-loop-definition

@@ -1,4 +1,5 @@
-use Rattle.prost_reflect_tables.proofs.Common.{◌≡◌, ◌++◌, map, drop, enum_row, text_list}
+use Rattle.std.specs.Prelude.{◌≡◌, ◌++◌}
+use Rattle.prost_reflect_tables.proofs.Common.{map, drop, enum_row, text_list}
 use Rattle.prost_reflect_tables.proofs.build.index.enum_names.Given as goal
 
 abbrev pub invariant-loop-declared : goal.invariant-loop-declared

@@ -1,4 +1,5 @@
-use Rattle.prost_reflect_tables.proofs.Common.{◌≡◌, ◌++◌, drop, file_names, file_list, text_list}
+use Rattle.std.specs.Prelude.{◌≡◌, ◌++◌}
+use Rattle.prost_reflect_tables.proofs.Common.{drop, file_names, file_list, text_list}
 use Rattle.prost_reflect_tables.proofs.build.index.file_names.Given as goal
 
 abbrev pub invariant-loop-file : goal.invariant-loop-file

@@ -1,4 +1,5 @@
-use Rattle.prost_reflect_tables.proofs.Common.{◌≡◌, ◌++◌, map, drop, message_row, text_list}
+use Rattle.std.specs.Prelude.{◌≡◌, ◌++◌}
+use Rattle.prost_reflect_tables.proofs.Common.{map, drop, message_row, text_list}
 use Rattle.prost_reflect_tables.proofs.build.index.message_names.Given as goal
 
 abbrev pub invariant-loop-message : goal.invariant-loop-message

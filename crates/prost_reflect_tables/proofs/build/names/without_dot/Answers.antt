@@ -1,4 +1,5 @@
-use Rattle.prost_reflect_tables.proofs.Common.{◌≡◌, ℕ, Bool, true, false, cond, List, [], ◌∷◌, eqb, refl, ap, eqb-true, without_dot}
+use Rattle.std.specs.Prelude.{◌≡◌, ◌∷◌}
+use Rattle.prost_reflect_tables.proofs.Common.{ℕ, Bool, true, false, cond, List, [], eqb, refl, ap, eqb-true, without_dot}
 use Rattle.prost_reflect_tables.proofs.build.names.without_dot.Goals as goal
 
 undotted : (name : List ℕ) → ((rest : List ℕ) → name ≡ 46 ∷ rest → ⊥) → name ≡ without_dot name

@@ -1,4 +1,5 @@
-use Rattle.prost_reflect_tables.proofs.Common.{◌≡◌, ◌≢◌, true, false, length, nat_eq, sym, ap, ◌∙◌, arith, bool_in}
+use Rattle.std.specs.Prelude.{◌≡◌, ◌≢◌}
+use Rattle.prost_reflect_tables.proofs.Common.{true, false, length, nat_eq, sym, ap, ◌∙◌, arith, bool_in}
 use Rattle.prost_reflect_wire.proofs.PlaceFaults.{key_stands_in_field, value_stands_in_field}
 use Rattle.prost_reflect_tables.proofs.OptionBytes.{bool_none, bool_chosen, bool_passed, bool_left, rest_small}
 use Rattle.prost_reflect_tables.proofs.build.options.bool_in.Goals as goal

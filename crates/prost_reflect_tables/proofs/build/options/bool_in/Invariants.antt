@@ -1,4 +1,5 @@
-use Rattle.prost_reflect_tables.proofs.Common.{◌≡◌, None, length, AreBytes, bool_in}
+use Rattle.std.specs.Prelude.{◌≡◌}
+use Rattle.prost_reflect_tables.proofs.Common.{None, length, AreBytes, bool_in}
 use Rattle.prost_reflect_tables.proofs.build.options.bool_in.Given as goal
 
 -- what was found, and what the rest says

@@ -1,4 +1,5 @@
-use Rattle.prost_reflect_tables.proofs.Common.{◌≡◌, ◌++◌, map, drop, is_entry, message_row}
+use Rattle.std.specs.Prelude.{◌≡◌, ◌++◌}
+use Rattle.prost_reflect_tables.proofs.Common.{map, drop, is_entry, message_row}
 use Rattle.prost_reflect_tables.proofs.build.resolve.entry_flags.Given as goal
 
 abbrev pub invariant-loop-message : goal.invariant-loop-message

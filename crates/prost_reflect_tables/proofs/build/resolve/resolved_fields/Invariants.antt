@@ -1,4 +1,5 @@
-use Rattle.prost_reflect_tables.proofs.Common.{◌≡◌, ◌++◌, drop, map, message_row, flat_rows, links_of, resolve, resolved_lists}
+use Rattle.std.specs.Prelude.{◌≡◌, ◌++◌}
+use Rattle.prost_reflect_tables.proofs.Common.{drop, map, message_row, flat_rows, links_of, resolve, resolved_lists}
 use Rattle.prost_reflect_tables.proofs.build.resolve.resolved_fields.Given as goal
 
 abbrev pub invariant-loop-message : goal.invariant-loop-message

@@ -1,4 +1,5 @@
-use Rattle.prost_reflect_tables.proofs.Common.{◌≡◌, ◌++◌, drop, map, definition_row, flat_rows, links_of, resolve, resolved_row}
+use Rattle.std.specs.Prelude.{◌≡◌, ◌++◌}
+use Rattle.prost_reflect_tables.proofs.Common.{drop, map, definition_row, flat_rows, links_of, resolve, resolved_row}
 use Rattle.prost_reflect_tables.proofs.build.resolve.resolved_list.Given as goal
 
 abbrev pub invariant-loop-definition : goal.invariant-loop-definition

@@ -1,4 +1,5 @@
-use Rattle.prost_reflect_wire.proofs.Common.{◌++◌, ap, arith, drop, length, length-append, bytes_of, joined}
+use Rattle.std.specs.Prelude.{◌++◌}
+use Rattle.prost_reflect_wire.proofs.Common.{ap, arith, drop, length, length-append, bytes_of, joined}
 use Rattle.prost_reflect_wire.proofs.BlockSteps.{block_fits}
 use Rattle.prost_reflect_wire.proofs.blocks.Blocks.append_within.Goals as goal
 

@@ -1,4 +1,5 @@
-use Rattle.prost_reflect_wire.proofs.Common.{◌≡◌, ◌≤◌, ◌+◌, ◌++◌, drop, length, vec_len, vec_capacity, bytes_of, joined, bytes_in}
+use Rattle.std.specs.Prelude.{◌≡◌, ◌≤◌, ◌+◌, ◌++◌}
+use Rattle.prost_reflect_wire.proofs.Common.{drop, length, vec_len, vec_capacity, bytes_of, joined, bytes_in}
 use Rattle.prost_reflect_wire.proofs.blocks.Blocks.append_within.Given as goal
 
 -- the buffers from the index on are written, and there is room for all

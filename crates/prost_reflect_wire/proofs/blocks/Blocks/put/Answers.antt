@@ -1,4 +1,5 @@
-use Rattle.prost_reflect_wire.proofs.Common.{◌≡◌, ◌++◌, Ok, Err, Result, arith, sym, ap, ◌∙◌, subst, EncodeError, bytes_of, bytes_in}
+use Rattle.std.specs.Prelude.{◌≡◌, ◌++◌}
+use Rattle.prost_reflect_wire.proofs.Common.{Ok, Err, Result, arith, sym, ap, ◌∙◌, subst, EncodeError, bytes_of, bytes_in}
 use Rattle.std.specs.Result.{OnOk}
 use Rattle.prost_reflect_wire.proofs.BlockSteps.{put_counted, put_bytes}
 use Rattle.prost_reflect_wire.proofs.blocks.Blocks.put.Goals as goal

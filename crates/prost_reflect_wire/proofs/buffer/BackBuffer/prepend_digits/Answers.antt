@@ -1,4 +1,5 @@
-use Rattle.prost_reflect_wire.proofs.Common.{◌≡◌, ◌<◌, ◌+◌, ◌%◌, ◌++◌, ◌∷◌, [], List, ℕ, length, take, set, refl, sym, ap, ◌∙◌, subst, append_assoc, arith, add-one, length-set, length-take-le, take-suc-set, bytes_of, Prepended, short}
+use Rattle.std.specs.Prelude.{◌≡◌, ◌<◌, ◌+◌, ◌%◌, ◌++◌, ◌∷◌}
+use Rattle.prost_reflect_wire.proofs.Common.{[], List, ℕ, length, take, set, refl, sym, ap, ◌∙◌, subst, append_assoc, arith, add-one, length-set, length-take-le, take-suc-set, bytes_of, Prepended, short}
 use Rattle.prost_reflect_wire.proofs.ShortDigits.{short_up, short_low, length_short}
 use Rattle.prost_reflect_wire.proofs.buffer.BackBuffer.prepend_digits.Goals as goal
 

@@ -1,4 +1,5 @@
-use Rattle.prost_reflect_wire.proofs.Common.{◌≡◌, ◌+◌, ◌++◌, length, take, short}
+use Rattle.std.specs.Prelude.{◌≡◌, ◌+◌, ◌++◌}
+use Rattle.prost_reflect_wire.proofs.Common.{length, take, short}
 use Rattle.prost_reflect_wire.proofs.buffer.BackBuffer.prepend_digits.Given as goal
 
 -- the digits so far and those of the rest are those of the value

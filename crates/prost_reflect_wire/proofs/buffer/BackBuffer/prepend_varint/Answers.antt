@@ -1,4 +1,5 @@
-use Rattle.prost_reflect_wire.proofs.Common.{List, ℕ, ◌∷◌, ◌+◌, ◌%◌, ◌/◌, ap, sym, ◌∙◌, subst, arith, bytes_of, Prepended}
+use Rattle.std.specs.Prelude.{◌∷◌, ◌+◌, ◌%◌, ◌/◌}
+use Rattle.prost_reflect_wire.proofs.Common.{List, ℕ, ap, sym, ◌∙◌, subst, arith, bytes_of, Prepended}
 use Rattle.prost_reflect_wire.proofs.ShortDigits.{short_low, short_up}
 use Rattle.prost_reflect_wire.proofs.buffer.BackBuffer.prepend_varint.Goals as goal
 

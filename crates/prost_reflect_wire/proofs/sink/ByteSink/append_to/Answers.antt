@@ -1,4 +1,5 @@
-use Rattle.prost_reflect_wire.proofs.Common.{List, ℕ, ◌++◌, ap, ◌∙◌, err_from_is_err_and}
+use Rattle.std.specs.Prelude.{◌++◌}
+use Rattle.prost_reflect_wire.proofs.Common.{List, ℕ, ap, ◌∙◌, err_from_is_err_and}
 use Rattle.prost_reflect_wire.proofs.SinkSteps.{written_whole, written_refused, whole_fits}
 use Rattle.prost_reflect_wire.proofs.sink.ByteSink.append_to.Goals as goal
 

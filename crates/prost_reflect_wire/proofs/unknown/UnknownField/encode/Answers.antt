@@ -1,4 +1,5 @@
-use Rattle.prost_reflect_wire.proofs.Common.{ℕ, List, [], ◌∷◌, ◌++◌, spelled, RecordFront, unknown_record}
+use Rattle.std.specs.Prelude.{◌∷◌, ◌++◌}
+use Rattle.prost_reflect_wire.proofs.Common.{ℕ, List, [], spelled, RecordFront, unknown_record}
 use Rattle.prost_reflect_wire.proofs.WrittenRecords.{spelled_front, on_ok}
 use Rattle.prost_reflect_wire.proofs.unknown.UnknownField.encode.Goals as goal
 

@@ -1,4 +1,5 @@
-use Rattle.prost_reflect_wire.proofs.Common.{rules, ◌≡◌, List, ℕ, ap, Flat, Len}
+use Rattle.std.specs.Prelude.{◌≡◌}
+use Rattle.prost_reflect_wire.proofs.Common.{rules, List, ℕ, ap, Flat, Len}
 use Rattle.std.proofs.lemmas.List.Elements.{same_from_all_zip}
 use Rattle.prost_reflect_wire.proofs.UnknownViews.{payload_of_LengthDelimited}
 use Rattle.prost_reflect_wire.proofs.unknown.copy.+copy.Goals as goal

@@ -1,4 +1,5 @@
-use Rattle.prost_reflect_wire.proofs.Common.{◌≡◌, take, map, unknown_record}
+use Rattle.std.specs.Prelude.{◌≡◌}
+use Rattle.prost_reflect_wire.proofs.Common.{take, map, unknown_record}
 use Rattle.prost_reflect_wire.proofs.unknown.copy.+copy.Given as goal
 
 -- the copies so far are those of the fields so far

@@ -1,4 +1,5 @@
-use Rattle.prost_reflect_wire.proofs.Common.{◌≡◌, ◌<◌, length, sym, ◌∙◌, arith, unknown_fields_of}
+use Rattle.std.specs.Prelude.{◌≡◌, ◌<◌}
+use Rattle.prost_reflect_wire.proofs.Common.{length, sym, ◌∙◌, arith, unknown_fields_of}
 use Rattle.prost_reflect_wire.specs.declared.unknown.UnknownFieldValue.TheViews.{out-UnknownFieldSet}
 use Rattle.prost_reflect_wire.proofs.EqualRecords.{equal_step, lengths_differ}
 use Rattle.prost_reflect_wire.proofs.unknown.equality.+equality.Goals as goal

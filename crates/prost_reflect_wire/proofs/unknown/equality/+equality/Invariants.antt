@@ -1,4 +1,5 @@
-use Rattle.prost_reflect_wire.proofs.Common.{◌≡◌, drop, map, body_of, unknown_record, unknown_fields_of, records_eq, set_eq}
+use Rattle.std.specs.Prelude.{◌≡◌}
+use Rattle.prost_reflect_wire.proofs.Common.{drop, map, body_of, unknown_record, unknown_fields_of, records_eq, set_eq}
 use Rattle.prost_reflect_wire.proofs.unknown.equality.+equality.Given as goal
 
 -- the sets are equal exactly if what is left of them is

@@ -1,4 +1,5 @@
-use Rattle.prost_reflect_wire.proofs.Common.{◌≡◌, ◌<◌, sym, subst, arith, inl, err_from_is_err_and, record_at, payload_levels, KeyFront, payload_of, records_of}
+use Rattle.std.specs.Prelude.{◌≡◌, ◌<◌}
+use Rattle.prost_reflect_wire.proofs.Common.{sym, subst, arith, inl, err_from_is_err_and, record_at, payload_levels, KeyFront, payload_of, records_of}
 use Rattle.prost_reflect_wire.specs.declared.error.DecodeError.TheVariants as errors
 use Rattle.prost_reflect_wire.proofs.PlaceFaults.{key_in_group, value_in_group}
 use Rattle.prost_reflect_wire.proofs.RecordFronts.{record_front, last_front, levels_last}

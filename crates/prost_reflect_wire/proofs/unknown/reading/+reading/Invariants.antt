@@ -1,4 +1,5 @@
-use Rattle.prost_reflect_wire.proofs.Common.{◌+◌, ◌*◌, ◌<◌, length, body_of, raw_levels, RecordsFront, records_of}
+use Rattle.std.specs.Prelude.{◌+◌, ◌*◌, ◌<◌}
+use Rattle.prost_reflect_wire.proofs.Common.{length, body_of, raw_levels, RecordsFront, records_of}
 use Rattle.prost_reflect_wire.proofs.unknown.reading.+reading.Given as goal
 
 abbrev pub decreases-decode_group : goal.decreases-decode_group

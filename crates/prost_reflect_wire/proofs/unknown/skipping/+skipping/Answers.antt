@@ -1,4 +1,5 @@
-use Rattle.prost_reflect_wire.proofs.Common.{◌≡◌, arith, inl, err_from_is_err_and, Var, Fix64, Len, Fix32}
+use Rattle.std.specs.Prelude.{◌≡◌}
+use Rattle.prost_reflect_wire.proofs.Common.{arith, inl, err_from_is_err_and, Var, Fix64, Len, Fix32}
 use Rattle.prost_reflect_wire.specs.declared.error.DecodeError.TheVariants as errors
 use Rattle.prost_reflect_wire.proofs.PlainFronts.{delimited_plain, varint_plain}
 use Rattle.prost_reflect_wire.proofs.PlaceFaults.{key_in_group, value_in_group}

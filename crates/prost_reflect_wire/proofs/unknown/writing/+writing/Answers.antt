@@ -1,4 +1,5 @@
-use Rattle.prost_reflect_wire.proofs.Common.{rules, ◌∙◌, ◌≡◌, ℕ, length, ap, arith, short, short_key, spelled, records_of}
+use Rattle.std.specs.Prelude.{◌≡◌}
+use Rattle.prost_reflect_wire.proofs.Common.{rules, ◌∙◌, ℕ, length, ap, arith, short, short_key, spelled, records_of}
 use Rattle.prost_reflect_wire.specs.declared.key.WireType.TheVariants as wires
 use Rattle.prost_reflect_wire.proofs.UnknownViews.{payload_of_LengthDelimited, payload_of_Group, payload_of_SixtyFourBit, payload_of_ThirtyTwoBit}
 use Rattle.prost_reflect_wire.proofs.WrittenRecords.{fixed64_valid, fixed32_valid, delimited_valid}

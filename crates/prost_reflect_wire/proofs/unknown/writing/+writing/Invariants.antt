@@ -1,4 +1,5 @@
-use Rattle.prost_reflect_wire.proofs.Common.{◌≡◌, true, drop, map, spelled, body_of, valid, unknown_record, unknown_fields_of}
+use Rattle.std.specs.Prelude.{◌≡◌}
+use Rattle.prost_reflect_wire.proofs.Common.{true, drop, map, spelled, body_of, valid, unknown_record, unknown_fields_of}
 use Rattle.prost_reflect_wire.specs.Sinks.{Adds}
 use Rattle.prost_reflect_wire.proofs.unknown.writing.+writing.Given as goal
 

@@ -1,4 +1,5 @@
-use Rattle.prost_reflect_wire.proofs.Common.{List, ℕ, ◌++◌, ap, ◌∙◌, spelled, records_of}
+use Rattle.std.specs.Prelude.{◌++◌}
+use Rattle.prost_reflect_wire.proofs.Common.{List, ℕ, ap, ◌∙◌, spelled, records_of}
 use Rattle.prost_reflect_wire.proofs.unknown.writing.prepend_fields.Goals as goal
 
 pub returns-clause-ok : goal.returns-clause-ok
