@@ -1,9 +1,5 @@
-use Rattle.std.proofs.Common.{rules}
+use Rattle.prost_reflect_checks.proofs.Common.{rules, bad_read, flat_rows, links_of, bad_is}
 use Rattle.prost_reflect_tables.specs.DefaultFaults.{default_bad}
-use Rattle.prost_reflect_tables.specs.ResolvedFaults.{bad_read}
-use Rattle.prost_reflect_tables.specs.FlatViews.{flat_rows}
-use Rattle.prost_reflect_tables.specs.Linking.{links_of}
-use Rattle.prost_reflect_tables.proofs.Resolving.{bad_is}
 use Rattle.prost_reflect_checks.proofs.defaults.has_bad_default.Goals as goal
 
 pub returns-then-any_resolved_field : goal.returns-then-any_resolved_field

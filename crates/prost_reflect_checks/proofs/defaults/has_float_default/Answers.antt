@@ -1,9 +1,5 @@
-use Rattle.std.proofs.Common.{rules}
+use Rattle.prost_reflect_checks.proofs.Common.{rules, bad_float, flat_rows, links_of, float_is}
 use Rattle.prost_reflect_tables.specs.DefaultFaults.{float_default_bad}
-use Rattle.prost_reflect_tables.specs.ResolvedFaults.{bad_float}
-use Rattle.prost_reflect_tables.specs.FlatViews.{flat_rows}
-use Rattle.prost_reflect_tables.specs.Linking.{links_of}
-use Rattle.prost_reflect_tables.proofs.Resolving.{float_is}
 use Rattle.prost_reflect_checks.proofs.defaults.has_float_default.Goals as goal
 
 pub returns-then-any_resolved_field : goal.returns-then-any_resolved_field

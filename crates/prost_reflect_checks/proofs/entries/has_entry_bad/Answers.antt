@@ -1,6 +1,4 @@
-use Rattle.std.proofs.Common.{List, map, ap, sym, ◌∙◌}
-use Rattle.prost_reflect_tables.specs.EntryFaults.{is_entry}
-use Rattle.prost_reflect_tables.specs.FlatViews.{message_row}
+use Rattle.prost_reflect_checks.proofs.Common.{List, map, ap, sym, ◌∙◌, is_entry, message_row}
 use Rattle.prost_reflect_tables.specs.declared.build.flatten.FlatMessage.{FlatMessage}
 use Rattle.prost_reflect_tables.proofs.EntryFlags.{flag_at}
 use Rattle.prost_reflect_checks.proofs.entries.has_entry_bad.Goals as goal

@@ -1,8 +1,4 @@
-use Rattle.std.proofs.Common.{rules}
-use Rattle.prost_reflect_tables.specs.EntryFaults.{is_of_entry}
-use Rattle.prost_reflect_tables.specs.ResolvedFaults.{found_of_entry}
-use Rattle.prost_reflect_tables.specs.FlatViews.{flat_rows}
-use Rattle.prost_reflect_tables.proofs.Resolving.{of_entry_is}
+use Rattle.prost_reflect_checks.proofs.Common.{rules, is_of_entry, found_of_entry, flat_rows, of_entry_is}
 use Rattle.prost_reflect_checks.proofs.entries.has_extension_of_entry.Goals as goal
 
 pub returns : goal.returns

@@ -1,6 +1,4 @@
-use Rattle.std.proofs.Common.{rules}
-use Rattle.prost_reflect_tables.specs.EntryFaults.{method_of_entry}
-use Rattle.prost_reflect_tables.specs.FlatViews.{flat_rows}
+use Rattle.prost_reflect_checks.proofs.Common.{rules, method_of_entry, flat_rows}
 use Rattle.prost_reflect_checks.proofs.entries.has_method_of_entry.Goals as goal
 
 pub returns : goal.returns

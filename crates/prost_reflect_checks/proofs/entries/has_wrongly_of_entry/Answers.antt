@@ -1,8 +1,4 @@
-use Rattle.std.proofs.Common.{rules}
-use Rattle.prost_reflect_tables.specs.EntryFaults.{wrongly_of_entry}
-use Rattle.prost_reflect_tables.specs.ResolvedFaults.{wrongly_found}
-use Rattle.prost_reflect_tables.specs.FlatViews.{flat_rows}
-use Rattle.prost_reflect_tables.proofs.Resolving.{wrongly_is}
+use Rattle.prost_reflect_checks.proofs.Common.{rules, wrongly_of_entry, wrongly_found, flat_rows, wrongly_is}
 use Rattle.prost_reflect_checks.proofs.entries.has_wrongly_of_entry.Goals as goal
 
 pub returns : goal.returns

@@ -1,6 +1,4 @@
-use Rattle.std.proofs.Common.{◌≡◌, drop}
-use Rattle.std.specs.List.{list_any}
-use Rattle.prost_reflect_tables.specs.FlatViews.{file_list, flat_rows}
+use Rattle.prost_reflect_checks.proofs.Common.{◌≡◌, drop, list_any, file_list, flat_rows}
 use Rattle.prost_reflect_tables.specs.Checked.{has_fault}
 use Rattle.prost_reflect_checks.proofs.faults.check_faults.Given as goal
 

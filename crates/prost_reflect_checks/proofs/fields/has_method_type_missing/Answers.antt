@@ -1,5 +1,4 @@
-use Rattle.std.proofs.Common.{rules}
-use Rattle.prost_reflect_tables.specs.Faults.{method_type_missing}
+use Rattle.prost_reflect_checks.proofs.Common.{rules, method_type_missing}
 use Rattle.prost_reflect_checks.proofs.fields.has_method_type_missing.Goals as goal
 
 pub returns : goal.returns

@@ -1,5 +1,4 @@
-use Rattle.std.proofs.Common.{rules}
-use Rattle.prost_reflect_tables.specs.Faults.{import_outside, has_oneof_outside}
+use Rattle.prost_reflect_checks.proofs.Common.{rules, import_outside, has_oneof_outside}
 use Rattle.prost_reflect_checks.proofs.indices.has_bad_index.Goals as goal
 
 pub returns-then-any_file : goal.returns-then-any_file

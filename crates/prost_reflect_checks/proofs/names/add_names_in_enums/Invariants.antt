@@ -1,6 +1,4 @@
-use Rattle.std.proofs.Common.{◌≡◌, ◌++◌, map, drop}
-use Rattle.prost_reflect_tables.specs.Faults.{names_in_enums}
-use Rattle.prost_reflect_tables.specs.FlatViews.{enum_row, text_list}
+use Rattle.prost_reflect_checks.proofs.Common.{◌≡◌, ◌++◌, map, drop, names_in_enums, enum_row, text_list}
 use Rattle.prost_reflect_checks.proofs.names.add_names_in_enums.Given as goal
 
 abbrev pub invariant-loop-declared : goal.invariant-loop-declared

@@ -1,6 +1,4 @@
-use Rattle.std.proofs.Common.{◌≡◌, ◌++◌, map, drop}
-use Rattle.prost_reflect_tables.specs.Faults.{names_in_messages}
-use Rattle.prost_reflect_tables.specs.FlatViews.{message_row, text_list}
+use Rattle.prost_reflect_checks.proofs.Common.{◌≡◌, ◌++◌, map, drop, names_in_messages, message_row, text_list}
 use Rattle.prost_reflect_checks.proofs.names.add_names_in_messages.Given as goal
 
 abbrev pub invariant-loop-message : goal.invariant-loop-message

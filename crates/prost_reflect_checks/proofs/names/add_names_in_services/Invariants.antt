@@ -1,6 +1,4 @@
-use Rattle.std.proofs.Common.{◌≡◌, ◌++◌, map, drop}
-use Rattle.prost_reflect_tables.specs.Faults.{names_in_services}
-use Rattle.prost_reflect_tables.specs.FlatViews.{service_row, text_list}
+use Rattle.prost_reflect_checks.proofs.Common.{◌≡◌, ◌++◌, map, drop, names_in_services, service_row, text_list}
 use Rattle.prost_reflect_checks.proofs.names.add_names_in_services.Given as goal
 
 abbrev pub invariant-loop-service : goal.invariant-loop-service

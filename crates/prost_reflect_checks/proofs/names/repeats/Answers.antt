@@ -1,11 +1,7 @@
-use Rattle.std.proofs.Common.{◌≡◌, ◌∙◌, ℕ, false, true, List, [], get_or, take, string_bytes, sym, ap}
+use Rattle.prost_reflect_checks.proofs.Common.{◌≡◌, ◌∙◌, ℕ, false, true, List, [], get_or, take, string_bytes, sym, ap, list_any, contains_text, not-true, text_list}
 use denote.Bor.{Bor}
-use Rattle.std.specs.List.{list_any}
 use Rattle.std.specs.Str.{bytes_eq}
-use Rattle.std.specs.BTreeSet.{contains_text}
 use Rattle.std.proofs.lemmas.Map.Text.{btree_set_updates_text}
-use Rattle.std.proofs.lemmas.Bool.{not-true}
-use Rattle.prost_reflect_tables.specs.FlatViews.{text_list}
 use Rattle.prost_reflect_tables.proofs.NamePlaces.{texts_more, list_any_push, repeats_more, seen_more}
 use Rattle.prost_reflect_checks.proofs.names.repeats.Goals as goal
 

@@ -1,9 +1,5 @@
-use Rattle.std.proofs.Common.{◌≡◌, [], drop, take, ℕ, List}
-use Rattle.std.specs.List.{list_any}
+use Rattle.prost_reflect_checks.proofs.Common.{◌≡◌, [], drop, take, ℕ, List, list_any, contains_text, repeats, text_list}
 use Rattle.std.specs.Str.{bytes_eq}
-use Rattle.std.specs.BTreeSet.{contains_text}
-use Rattle.prost_reflect_tables.specs.Faults.{repeats}
-use Rattle.prost_reflect_tables.specs.FlatViews.{text_list}
 use Rattle.prost_reflect_checks.proofs.names.repeats.Given as goal
 
 abbrev pub invariant-loop-name : goal.invariant-loop-name

@@ -1,11 +1,5 @@
-use Rattle.std.proofs.Common.{◌≡◌, ℕ, ℤ, ◌+◌, List, [], ◌∷◌, ◌++◌, map, drop, Some, rules, sym, ap, ◌∙◌, append_assoc}
+use Rattle.prost_reflect_checks.proofs.Common.{◌≡◌, ℕ, ℤ, ◌+◌, List, [], ◌∷◌, ◌++◌, map, drop, Some, rules, sym, ap, ◌∙◌, append_assoc, ResolvedField, Numbered, number_or_zero, numbered_at, numbered, numbered_list, resolved_row, numbered_found, front_left}
 use Rattle.std.proofs.lemmas.List.{map-append}
-use Rattle.prost_reflect_tables.specs.declared.build.resolve.ResolvedField.{ResolvedField}
-use Rattle.prost_reflect_tables.specs.Faults.{Numbered, number_or_zero, numbered_at}
-use Rattle.prost_reflect_tables.specs.Indexed.{numbered, numbered_list}
-use Rattle.prost_reflect_tables.specs.Resolved.{resolved_row}
-use Rattle.prost_reflect_tables.specs.ResolvedFaults.{numbered_found}
-use Rattle.prost_reflect_tables.proofs.Pushing.{front_left}
 use Rattle.prost_reflect_checks.proofs.numbers.add_extensions.Goals as goal
 use Rattle.prost_reflect_checks.proofs.numbers.add_extensions.Goals.{in-Some+in_ok-push, in_default}
 

@@ -1,7 +1,4 @@
-use Rattle.std.proofs.Common.{◌≡◌, ◌++◌, map, drop}
-use Rattle.prost_reflect_tables.specs.Indexed.{numbered_list}
-use Rattle.prost_reflect_tables.specs.Resolved.{resolved_row}
-use Rattle.prost_reflect_tables.specs.ResolvedFaults.{numbered_found}
+use Rattle.prost_reflect_checks.proofs.Common.{◌≡◌, ◌++◌, map, drop, numbered_list, resolved_row, numbered_found}
 use Rattle.prost_reflect_checks.proofs.numbers.add_extensions.Given as goal
 
 abbrev pub invariant-loop-extension : goal.invariant-loop-extension

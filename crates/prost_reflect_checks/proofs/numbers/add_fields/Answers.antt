@@ -1,8 +1,4 @@
-use Rattle.std.proofs.Common.{rules, ◌+◌, ◌++◌, drop, map, ap, ◌∙◌}
-use Rattle.prost_reflect_tables.specs.Faults.{number_or_zero, numbered_fields}
-use Rattle.prost_reflect_tables.specs.FlatViews.{definition_row}
-use Rattle.prost_reflect_tables.specs.Indexed.{numbered, numbered_list}
-use Rattle.prost_reflect_tables.proofs.Pushing.{seen_more}
+use Rattle.prost_reflect_checks.proofs.Common.{rules, ◌+◌, ◌++◌, drop, map, ap, ◌∙◌, number_or_zero, numbered_fields, definition_row, numbered, numbered_list, seen_more}
 use Rattle.prost_reflect_checks.proofs.numbers.add_fields.Goals as goal
 
 pub loop-field-preserved : goal.loop-field-preserved

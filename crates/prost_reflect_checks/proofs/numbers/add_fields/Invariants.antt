@@ -1,7 +1,4 @@
-use Rattle.std.proofs.Common.{◌≡◌, ◌++◌, map, drop}
-use Rattle.prost_reflect_tables.specs.Faults.{numbered_fields}
-use Rattle.prost_reflect_tables.specs.FlatViews.{definition_row}
-use Rattle.prost_reflect_tables.specs.Indexed.{numbered_list}
+use Rattle.prost_reflect_checks.proofs.Common.{◌≡◌, ◌++◌, map, drop, numbered_fields, definition_row, numbered_list}
 use Rattle.prost_reflect_checks.proofs.numbers.add_fields.Given as goal
 
 abbrev pub invariant-loop-field : goal.invariant-loop-field

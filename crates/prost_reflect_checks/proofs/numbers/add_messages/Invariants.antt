@@ -1,7 +1,4 @@
-use Rattle.std.proofs.Common.{◌≡◌, ◌++◌, map, drop}
-use Rattle.prost_reflect_tables.specs.Faults.{numbered_in}
-use Rattle.prost_reflect_tables.specs.FlatViews.{message_row}
-use Rattle.prost_reflect_tables.specs.Indexed.{numbered_list}
+use Rattle.prost_reflect_checks.proofs.Common.{◌≡◌, ◌++◌, map, drop, numbered_in, message_row, numbered_list}
 use Rattle.prost_reflect_checks.proofs.numbers.add_messages.Given as goal
 
 abbrev pub invariant-loop-place : goal.invariant-loop-place

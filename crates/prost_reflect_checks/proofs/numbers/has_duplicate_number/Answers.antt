@@ -1,9 +1,4 @@
-use Rattle.std.proofs.Common.{rules, List, map, ap, ◌∙◌}
-use Rattle.prost_reflect_tables.specs.declared.build.resolve.ResolvedField.{ResolvedField}
-use Rattle.prost_reflect_tables.specs.FlatViews.{flat_rows}
-use Rattle.prost_reflect_tables.specs.Resolved.{ResolvedRow, resolved_row}
-use Rattle.prost_reflect_tables.specs.ResolvedFaults.{numbered_found}
-use Rattle.prost_reflect_tables.proofs.Resolving.{numbered_is}
+use Rattle.prost_reflect_checks.proofs.Common.{rules, List, map, ap, ◌∙◌, ResolvedField, flat_rows, ResolvedRow, resolved_row, numbered_found, numbered_is}
 use Rattle.prost_reflect_checks.proofs.numbers.has_duplicate_number.Goals as goal
 
 pub returns : goal.returns

@@ -1,8 +1,4 @@
-use Rattle.std.proofs.Common.{◌≡◌, ◌∙◌, ℕ, ℤ, false, true, get_or, take, pos, sym}
-use Rattle.std.specs.List.{list_any}
-use Rattle.std.proofs.lemmas.Bool.{not-true, not-false}
-use Rattle.prost_reflect_tables.specs.Faults.{same_numbered}
-use Rattle.prost_reflect_tables.specs.Indexed.{numbered, numbered_list}
+use Rattle.prost_reflect_checks.proofs.Common.{◌≡◌, ◌∙◌, ℕ, ℤ, false, true, get_or, take, pos, sym, list_any, not-true, not-false, same_numbered, numbered, numbered_list}
 use Rattle.prost_reflect_tables.proofs.NamePlaces.{list_any_push}
 use Rattle.prost_reflect_tables.proofs.Numbering.{numbers_more, number_repeats_more, number_repeats_found, number_seen}
 use Rattle.prost_reflect_checks.proofs.numbers.repeats.Goals as goal

@@ -1,9 +1,5 @@
-use Rattle.std.proofs.Common.{◌≡◌, [], drop, take, ℕ, ℤ}
+use Rattle.prost_reflect_checks.proofs.Common.{◌≡◌, [], drop, take, ℕ, ℤ, list_any, contains, number_repeats, same_numbered, numbered, numbered_list}
 use Rattle.std.specs.Ordering.{nat_cmp, int_cmp, ordering_then}
-use Rattle.std.specs.List.{list_any}
-use Rattle.std.specs.BTreeSet.{contains}
-use Rattle.prost_reflect_tables.specs.Faults.{number_repeats, same_numbered}
-use Rattle.prost_reflect_tables.specs.Indexed.{numbered, numbered_list}
 use Rattle.prost_reflect_checks.proofs.numbers.repeats.Given as goal
 
 abbrev pub invariant-loop-number : goal.invariant-loop-number

@@ -1,5 +1,4 @@
-use Rattle.std.proofs.Common.{◌≡◌, ◌++◌, map, drop}
-use Rattle.prost_reflect_tables.specs.Spans.{span_of}
+use Rattle.prost_reflect_checks.proofs.Common.{◌≡◌, ◌++◌, map, drop, span_of}
 use Rattle.prost_reflect_checks.proofs.ranges.as_spans.Given as goal
 
 abbrev pub invariant-loop-range : goal.invariant-loop-range

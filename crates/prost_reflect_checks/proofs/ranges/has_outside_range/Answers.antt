@@ -1,8 +1,4 @@
-use Rattle.std.proofs.Common.{rules}
-use Rattle.prost_reflect_tables.specs.Faults.{extension_outside}
-use Rattle.prost_reflect_tables.specs.ResolvedFaults.{found_outside}
-use Rattle.prost_reflect_tables.specs.FlatViews.{flat_rows}
-use Rattle.prost_reflect_tables.proofs.Resolving.{outside_same}
+use Rattle.prost_reflect_checks.proofs.Common.{rules, extension_outside, found_outside, flat_rows, outside_same}
 use Rattle.prost_reflect_checks.proofs.ranges.has_outside_range.Goals as goal
 
 pub returns : goal.returns

@@ -1,6 +1,4 @@
-use Rattle.std.proofs.Common.{◌∙◌, rules, ap, get_or, arith, length}
-use Rattle.prost_reflect_tables.specs.Faults.{number_or_zero}
-use Rattle.prost_reflect_tables.proofs.Spans.{spans_found, spans_long, outside_is}
+use Rattle.prost_reflect_checks.proofs.Common.{◌∙◌, rules, ap, get_or, arith, length, number_or_zero, spans_found, spans_long, outside_is}
 use Rattle.prost_reflect_checks.proofs.ranges.is_extension_outside.Goals as goal
 
 pub is_covered-requires : goal.is_covered-requires

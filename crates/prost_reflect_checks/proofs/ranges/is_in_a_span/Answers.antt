@@ -1,6 +1,5 @@
-use Rattle.std.proofs.Common.{ℕ, leb, rules, sym, subst, arith}
+use Rattle.prost_reflect_checks.proofs.Common.{ℕ, leb, rules, sym, subst, arith, Splits, in_no_span, in_last_span}
 use Rattle.std.proofs.lemmas.List.Sorted.{IsPartitionPoint-from_clause, IsPartitionedBy-leb}
-use Rattle.prost_reflect_tables.proofs.Spans.{Splits, in_no_span, in_last_span}
 use Rattle.prost_reflect_checks.proofs.ranges.is_in_a_span.Goals as goal
 
 pub returns-then-count-eq0 : goal.returns-then-count-eq0

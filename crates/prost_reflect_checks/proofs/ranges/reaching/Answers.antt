@@ -1,7 +1,4 @@
-use Rattle.std.proofs.Common.{◌≡◌, ℕ, ◌+◌, ◌<◌, List, [], ◌∷◌, ◌++◌, length, drop, get_or, cond, sym, ap, ◌∙◌, append_assoc}
-use Rattle.std.proofs.lemmas.Bool.{lt-ltb, le-ltb}
-use Rattle.prost_reflect_tables.specs.Spans.{greater, reaching}
-use Rattle.prost_reflect_tables.proofs.Pushing.{front_at}
+use Rattle.prost_reflect_checks.proofs.Common.{◌≡◌, ℕ, ◌+◌, ◌<◌, List, [], ◌∷◌, ◌++◌, length, drop, get_or, cond, sym, ap, ◌∙◌, append_assoc, lt-ltb, le-ltb, greater, reaching, front_at}
 use Rattle.prost_reflect_checks.proofs.ranges.reaching.Goals as goal
 use Rattle.prost_reflect_checks.proofs.ranges.reaching.Goals.{then-farthest-span, else-farthest-span}
 

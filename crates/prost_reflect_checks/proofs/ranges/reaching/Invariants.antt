@@ -1,5 +1,4 @@
-use Rattle.std.proofs.Common.{◌≡◌, ◌++◌, drop}
-use Rattle.prost_reflect_tables.specs.Spans.{reaching}
+use Rattle.prost_reflect_checks.proofs.Common.{◌≡◌, ◌++◌, drop, reaching}
 use Rattle.prost_reflect_checks.proofs.ranges.reaching.Given as goal
 
 abbrev pub invariant-loop-span : goal.invariant-loop-span

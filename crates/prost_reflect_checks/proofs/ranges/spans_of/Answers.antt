@@ -1,6 +1,5 @@
-use Rattle.std.proofs.Common.{ℕ, rules, subst, List, IsPermutation}
+use Rattle.prost_reflect_checks.proofs.Common.{ℕ, rules, subst, List, IsPermutation, spans_in_order}
 use Rattle.std.proofs.lemmas.List.Sorted.{IsNonDecreasingBy-from_sort_by_key}
-use Rattle.prost_reflect_tables.proofs.Spans.{spans_in_order}
 use Rattle.prost_reflect_checks.proofs.ranges.spans_of.Goals as goal
 
 pub returns : goal.returns

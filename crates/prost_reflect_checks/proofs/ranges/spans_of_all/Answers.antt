@@ -1,7 +1,5 @@
-use Rattle.std.proofs.Common.{subst, List}
+use Rattle.prost_reflect_checks.proofs.Common.{subst, List, AreSpansOf, spans_more}
 use Rattle.prost_reflect_types.specs.declared.ExtensionRange.{ExtensionRange}
-use Rattle.prost_reflect_tables.specs.Spans.{AreSpansOf}
-use Rattle.prost_reflect_tables.proofs.Spans.{spans_more}
 use Rattle.prost_reflect_checks.proofs.ranges.spans_of_all.Goals as goal
 
 pub loop-message-preserved : goal.loop-message-preserved

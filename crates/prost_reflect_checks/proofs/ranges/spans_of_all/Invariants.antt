@@ -1,6 +1,4 @@
-use Rattle.std.proofs.Common.{map, take}
-use Rattle.prost_reflect_tables.specs.FlatViews.{message_row}
-use Rattle.prost_reflect_tables.specs.Spans.{AreSpansOfAll}
+use Rattle.prost_reflect_checks.proofs.Common.{map, take, message_row, AreSpansOfAll}
 use Rattle.prost_reflect_checks.proofs.ranges.spans_of_all.Given as goal
 
 abbrev pub invariant-loop-message : goal.invariant-loop-message

@@ -1,8 +1,4 @@
-use Rattle.std.proofs.Common.{rules}
-use Rattle.prost_reflect_tables.specs.Faults.{extendee_unknown}
-use Rattle.prost_reflect_tables.specs.ResolvedFaults.{extendee_unfound}
-use Rattle.prost_reflect_tables.specs.FlatViews.{flat_rows}
-use Rattle.prost_reflect_tables.proofs.Resolving.{extendee_is}
+use Rattle.prost_reflect_checks.proofs.Common.{rules, extendee_unknown, extendee_unfound, flat_rows, extendee_is}
 use Rattle.prost_reflect_checks.proofs.types.has_extendee_unknown.Goals as goal
 
 pub returns : goal.returns

@@ -1,6 +1,4 @@
-use Rattle.std.proofs.Common.{rules}
-use Rattle.prost_reflect_tables.specs.Faults.{method_type_unknown}
-use Rattle.prost_reflect_tables.specs.FlatViews.{flat_rows}
+use Rattle.prost_reflect_checks.proofs.Common.{rules, method_type_unknown, flat_rows}
 use Rattle.prost_reflect_checks.proofs.types.has_method_type_unknown.Goals as goal
 
 pub returns : goal.returns

@@ -1,8 +1,4 @@
-use Rattle.std.proofs.Common.{rules}
-use Rattle.prost_reflect_tables.specs.Faults.{type_unknown}
-use Rattle.prost_reflect_tables.specs.ResolvedFaults.{type_unfound}
-use Rattle.prost_reflect_tables.specs.FlatViews.{flat_rows}
-use Rattle.prost_reflect_tables.proofs.Resolving.{type_is}
+use Rattle.prost_reflect_checks.proofs.Common.{rules, type_unknown, type_unfound, flat_rows, type_is}
 use Rattle.prost_reflect_checks.proofs.types.has_type_unknown.Goals as goal
 
 pub returns-then-any_resolved_field : goal.returns-then-any_resolved_field

@@ -1,6 +1,5 @@
-use Rattle.std.proofs.Common.{refl, sym, ◌∙◌}
+use Rattle.prost_reflect_checks.proofs.Common.{refl, sym, ◌∙◌, any_found, any_left}
 use Rattle.std.proofs.lemmas.Fn.{says_at}
-use Rattle.prost_reflect_tables.proofs.Walks.{any_found, any_left}
 use Rattle.prost_reflect_checks.proofs.walk.any.Goals as goal
 
 pub returns-then-test : goal.returns-then-test

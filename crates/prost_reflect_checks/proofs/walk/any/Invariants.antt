@@ -1,6 +1,4 @@
-use Rattle.std.proofs.Common.{◌≡◌, Bool, drop}
-use Rattle.std.specs.List.{list_any}
-use Rattle.prost_reflect_tables.specs.Walks.{Computes}
+use Rattle.prost_reflect_checks.proofs.Common.{◌≡◌, Bool, drop, list_any, Computes}
 use Rattle.prost_reflect_checks.proofs.walk.any.Given as goal
 
 abbrev pub invariant-loop-item : goal.invariant-loop-item

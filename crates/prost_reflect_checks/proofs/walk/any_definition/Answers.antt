@@ -1,6 +1,4 @@
-use Rattle.std.proofs.Common.{◌∙◌}
-use Rattle.prost_reflect_tables.specs.FlatViews.{definition_row}
-use Rattle.prost_reflect_tables.proofs.Walks.{rows_any}
+use Rattle.prost_reflect_checks.proofs.Common.{◌∙◌, definition_row, rows_any}
 use Rattle.prost_reflect_checks.proofs.walk.any_definition.Goals as goal
 
 pub returns : goal.returns

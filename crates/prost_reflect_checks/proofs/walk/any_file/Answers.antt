@@ -1,5 +1,4 @@
-use Rattle.std.proofs.Common.{◌∙◌}
-use Rattle.prost_reflect_tables.proofs.Walks.{rows_any}
+use Rattle.prost_reflect_checks.proofs.Common.{◌∙◌, rows_any}
 use Rattle.prost_reflect_checks.proofs.walk.any_file.Goals as goal
 
 pub returns : goal.returns

@@ -1,9 +1,6 @@
-use Rattle.std.proofs.Common.{◌≡◌, Bool, map, drop}
-use Rattle.std.specs.List.{list_any}
+use Rattle.prost_reflect_checks.proofs.Common.{◌≡◌, Bool, map, drop, list_any, definition_row, message_row, Computes}
 use Rattle.prost_reflect_types.specs.declared.FieldDescriptorProto.{FieldDescriptorProto}
 use Rattle.prost_reflect_tables.specs.Flat.{DefinitionRow}
-use Rattle.prost_reflect_tables.specs.FlatViews.{definition_row, message_row}
-use Rattle.prost_reflect_tables.specs.Walks.{Computes}
 use Rattle.prost_reflect_checks.proofs.walk.any_in_messages.Given as goal
 
 abbrev pub invariant-loop-message : goal.invariant-loop-message

@@ -1,7 +1,4 @@
-use Rattle.std.proofs.Common.{map, sym, ap, ◌∙◌}
-use Rattle.std.specs.List.{list_any}
-use Rattle.prost_reflect_tables.specs.FlatViews.{definition_row, service_row}
-use Rattle.prost_reflect_tables.proofs.Walks.{row_found, row_left}
+use Rattle.prost_reflect_checks.proofs.Common.{map, sym, ap, ◌∙◌, list_any, definition_row, service_row, row_found, row_left}
 use Rattle.prost_reflect_checks.proofs.walk.any_method.Goals as goal
 
 pub returns-then-any_definition : goal.returns-then-any_definition

@@ -1,9 +1,6 @@
-use Rattle.std.proofs.Common.{◌≡◌, Bool, map, drop}
-use Rattle.std.specs.List.{list_any}
+use Rattle.prost_reflect_checks.proofs.Common.{◌≡◌, Bool, map, drop, list_any, definition_row, service_row, Computes}
 use Rattle.prost_reflect_types.specs.declared.MethodDescriptorProto.{MethodDescriptorProto}
 use Rattle.prost_reflect_tables.specs.Flat.{DefinitionRow}
-use Rattle.prost_reflect_tables.specs.FlatViews.{definition_row, service_row}
-use Rattle.prost_reflect_tables.specs.Walks.{Computes}
 use Rattle.prost_reflect_checks.proofs.walk.any_method.Given as goal
 
 abbrev pub invariant-loop-service : goal.invariant-loop-service

@@ -1,10 +1,4 @@
-use Rattle.std.proofs.Common.{List, map, ap, ◌∙◌}
-use Rattle.std.specs.List.{list_any}
-use Rattle.prost_reflect_tables.specs.declared.build.resolve.ResolvedField.{ResolvedField}
-use Rattle.prost_reflect_tables.specs.FlatViews.{flat_rows}
-use Rattle.prost_reflect_tables.specs.Linking.{links_of}
-use Rattle.prost_reflect_tables.specs.Resolved.{ResolvedRow, resolved_row}
-use Rattle.prost_reflect_tables.proofs.Resolving.{any_of}
+use Rattle.prost_reflect_checks.proofs.Common.{List, map, ap, ◌∙◌, list_any, ResolvedField, flat_rows, links_of, ResolvedRow, resolved_row, any_of}
 use Rattle.prost_reflect_checks.proofs.walk.any_resolved_extension.Goals as goal
 
 pub returns : goal.returns

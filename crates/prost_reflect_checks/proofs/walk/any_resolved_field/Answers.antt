@@ -1,10 +1,4 @@
-use Rattle.std.proofs.Common.{List, Vec, Global, ap, ◌∙◌}
-use Rattle.std.specs.List.{list_any}
-use Rattle.prost_reflect_tables.specs.declared.build.resolve.ResolvedField.{ResolvedField}
-use Rattle.prost_reflect_tables.specs.FlatViews.{flat_rows}
-use Rattle.prost_reflect_tables.specs.Linking.{links_of}
-use Rattle.prost_reflect_tables.specs.Resolved.{ResolvedRow, resolved_lists}
-use Rattle.prost_reflect_tables.proofs.Resolving.{any_of_messages}
+use Rattle.prost_reflect_checks.proofs.Common.{List, Vec, Global, ap, ◌∙◌, list_any, ResolvedField, flat_rows, links_of, ResolvedRow, resolved_lists, any_of_messages}
 use Rattle.prost_reflect_checks.proofs.walk.any_resolved_field.Goals as goal
 
 pub returns : goal.returns

@@ -1,8 +1,4 @@
-use Rattle.std.proofs.Common.{List, Vec, Global, map, sym, ap, ◌∙◌}
-use Rattle.std.specs.List.{list_any}
-use Rattle.prost_reflect_tables.specs.declared.build.resolve.ResolvedField.{ResolvedField}
-use Rattle.prost_reflect_tables.specs.Resolved.{resolved_row}
-use Rattle.prost_reflect_tables.proofs.Walks.{row_found, row_left}
+use Rattle.prost_reflect_checks.proofs.Common.{List, Vec, Global, map, sym, ap, ◌∙◌, list_any, ResolvedField, resolved_row, row_found, row_left}
 use Rattle.prost_reflect_checks.proofs.walk.any_resolved_in.Goals as goal
 
 pub returns-then-any_resolved : goal.returns-then-any_resolved

@@ -1,7 +1,4 @@
-use Rattle.std.proofs.Common.{◌≡◌, Bool, drop}
-use Rattle.std.specs.List.{list_any}
-use Rattle.prost_reflect_tables.specs.Resolved.{ResolvedRow, resolved_row, resolved_lists}
-use Rattle.prost_reflect_tables.specs.Walks.{Computes}
+use Rattle.prost_reflect_checks.proofs.Common.{◌≡◌, Bool, drop, list_any, ResolvedRow, resolved_row, resolved_lists, Computes}
 use Rattle.prost_reflect_checks.proofs.walk.any_resolved_in.Given as goal
 
 abbrev pub invariant-loop-fields : goal.invariant-loop-fields
