@@ -1,16 +1,8 @@
-use Rattle.std.proofs.Common.{sym, ap, ◌∙◌, map, length, rules}
-use Rattle.std.proofs.lemmas.List.{length-map}
-use Rattle.prost_reflect_tables.specs.FlatViews.{flat_rows}
-use Rattle.prost_reflect_tables.specs.Linking.{links_of}
-use Rattle.prost_reflect_tables.specs.LinkedCatalog.{each_from, linked_lists, linked_extension}
-use Rattle.prost_reflect_tables.specs.Rows.{TableRows, message_row}
+use Rattle.prost_reflect_linking.proofs.Common.{sym, ap, ◌∙◌, map, length, rules, length-map, flat_rows, links_of, each_from, linked_lists, linked_extension, TableRows, List, ResolvedRow, resolved_row, resolved_extension, extensions_are, same_catalog, linked_length}
+use Rattle.prost_reflect_tables.specs.Rows.{message_row}
 use Rattle.prost_reflect_tables.specs.Schema.{rows_of}
 use Rattle.prost_reflect_tables.specs.declared.tables.MessageTable.{MessageTable}
-use Rattle.std.specs.Prelude.{List}
-use Rattle.prost_reflect_tables.specs.Resolved.{ResolvedRow, resolved_row, resolved_extension}
 use Rattle.prost_reflect_tables.specs.declared.build.resolve.ResolvedField.{ResolvedField}
-use Rattle.prost_reflect_tables.proofs.Resolving.{extensions_are}
-use Rattle.prost_reflect_tables.proofs.CatalogParts.{same_catalog, linked_length}
 use Rattle.prost_reflect_linking.proofs.catalog.linked_catalog.Goals as goal
 
 pub lists_of_messages-requires-clause-messages : goal.lists_of_messages-requires-clause-messages

@@ -1,5 +1,4 @@
-use Rattle.std.proofs.Common.{◌≡◌, ◌++◌, map, drop}
-use Rattle.prost_reflect_tables.specs.FlatViews.{service_row, text_list}
+use Rattle.prost_reflect_linking.proofs.Common.{◌≡◌, ◌++◌, map, drop, service_row, text_list}
 use Rattle.prost_reflect_linking.proofs.catalog.service_names.Given as goal
 
 abbrev pub invariant-loop-service : goal.invariant-loop-service

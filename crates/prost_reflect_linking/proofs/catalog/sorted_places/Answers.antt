@@ -1,5 +1,4 @@
-use Rattle.std.proofs.Common.{rules}
-use Rattle.prost_reflect_tables.proofs.CatalogParts.{same_sorted}
+use Rattle.prost_reflect_linking.proofs.Common.{rules, same_sorted}
 use Rattle.prost_reflect_linking.proofs.catalog.sorted_places.Goals as goal
 
 pub returns : goal.returns

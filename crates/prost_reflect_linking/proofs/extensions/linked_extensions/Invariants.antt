@@ -1,7 +1,5 @@
-use Rattle.std.proofs.Common.{◌≡◌, ◌++◌, map, drop}
-use Rattle.prost_reflect_tables.specs.CatalogRows.{extension_table_row}
+use Rattle.prost_reflect_linking.proofs.Common.{◌≡◌, ◌++◌, map, drop, extension_table_row, resolved_row, resolved_extension}
 use Rattle.prost_reflect_tables.specs.Schema.{rows_of}
-use Rattle.prost_reflect_tables.specs.Resolved.{resolved_row, resolved_extension}
 use Rattle.prost_reflect_linking.proofs.extensions.linked_extensions.Given as goal
 
 abbrev pub invariant-loop-extension : goal.invariant-loop-extension

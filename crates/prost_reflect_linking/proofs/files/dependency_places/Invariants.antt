@@ -1,7 +1,4 @@
-use Rattle.std.proofs.Common.{◌≡◌, ◌++◌, map, drop, string_bytes}
-use Rattle.prost_reflect_tables.specs.Faults.{file_names}
-use Rattle.prost_reflect_tables.specs.FlatViews.{file_list}
-use Rattle.prost_reflect_tables.specs.LinkedCatalog.{file_place}
+use Rattle.prost_reflect_linking.proofs.Common.{◌≡◌, ◌++◌, map, drop, string_bytes, file_names, file_list, file_place}
 use Rattle.prost_reflect_linking.proofs.files.dependency_places.Given as goal
 
 abbrev pub invariant-loop-dependency : goal.invariant-loop-dependency

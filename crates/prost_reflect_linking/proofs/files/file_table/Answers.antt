@@ -1,13 +1,6 @@
-use Rattle.std.proofs.Common.{◌≡◌, length, map, ap, ◌∙◌, rules}
-use Rattle.std.specs.Prelude.{String, string_bytes}
+use Rattle.prost_reflect_linking.proofs.Common.{◌≡◌, length, map, ap, ◌∙◌, rules, String, string_bytes, file_names, FlatMessageRow, FlatEnumRow, FlatServiceRow, file_list, flat_rows, top_file, file_place, copied_at, same_file}
 use Rattle.std.specs.declared.alloc.Global.{Global}
-use Rattle.prost_reflect_tables.specs.Faults.{file_names}
-use Rattle.prost_reflect_tables.specs.Flat.{FlatMessageRow, FlatEnumRow, FlatServiceRow}
-use Rattle.prost_reflect_tables.specs.FlatViews.{file_list, flat_rows}
 use Rattle.prost_reflect_linking.specs.GatheredLists.{list_items}
-use Rattle.prost_reflect_tables.specs.LinkedCatalog.{top_file, file_place}
-use Rattle.prost_reflect_tables.proofs.Gathering.{copied_at}
-use Rattle.prost_reflect_tables.proofs.CatalogParts.{same_file}
 use Rattle.prost_reflect_linking.proofs.files.file_table.Goals as goal
 
 pub returns : goal.returns

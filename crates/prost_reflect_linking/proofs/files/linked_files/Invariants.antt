@@ -1,8 +1,4 @@
-use Rattle.std.proofs.Common.{◌≡◌, ◌++◌, map, drop}
-use Rattle.prost_reflect_tables.specs.Faults.{file_names}
-use Rattle.prost_reflect_tables.specs.FlatViews.{file_list, flat_rows}
-use Rattle.prost_reflect_tables.specs.CatalogRows.{file_table_row}
-use Rattle.prost_reflect_tables.specs.LinkedCatalog.{each_from, linked_file}
+use Rattle.prost_reflect_linking.proofs.Common.{◌≡◌, ◌++◌, map, drop, file_names, file_list, flat_rows, file_table_row, each_from, linked_file}
 use Rattle.prost_reflect_linking.proofs.files.linked_files.Given as goal
 
 abbrev pub invariant-loop-place : goal.invariant-loop-place

@@ -1,6 +1,4 @@
-use Rattle.std.proofs.Common.{rules, ◌+◌, ◌++◌, drop, map, pos, ap, ◌∙◌}
-use Rattle.prost_reflect_tables.specs.LinkedCatalog.{import_at}
-use Rattle.prost_reflect_tables.proofs.Pushing.{made_more}
+use Rattle.prost_reflect_linking.proofs.Common.{rules, ◌+◌, ◌++◌, drop, map, pos, ap, ◌∙◌, import_at, made_more}
 use Rattle.prost_reflect_linking.proofs.files.public_places.Goals as goal
 
 pub loop-index-preserved : goal.loop-index-preserved

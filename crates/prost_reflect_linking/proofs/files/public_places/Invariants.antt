@@ -1,5 +1,4 @@
-use Rattle.std.proofs.Common.{◌≡◌, ◌++◌, map, drop}
-use Rattle.prost_reflect_tables.specs.LinkedCatalog.{import_at}
+use Rattle.prost_reflect_linking.proofs.Common.{◌≡◌, ◌++◌, map, drop, import_at}
 use Rattle.prost_reflect_linking.proofs.files.public_places.Given as goal
 
 abbrev pub invariant-loop-index : goal.invariant-loop-index

@@ -1,7 +1,4 @@
-use Rattle.std.proofs.Common.{rules, refl}
-use Rattle.prost_reflect_tables.specs.FlatViews.{definition_row}
-use Rattle.prost_reflect_tables.specs.LinkedCatalog.{top_file}
-use Rattle.prost_reflect_tables.proofs.Gathering.{shown_gathered}
+use Rattle.prost_reflect_linking.proofs.Common.{rules, refl, definition_row, top_file, shown_gathered}
 use Rattle.prost_reflect_linking.proofs.files.top_extensions.Goals as goal
 
 pub returns : goal.returns

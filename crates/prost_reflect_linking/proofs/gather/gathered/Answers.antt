@@ -1,6 +1,4 @@
-use Rattle.std.proofs.Common.{◌∙◌, ap, refl, arith}
-use Rattle.std.proofs.lemmas.Fn.{says_at}
-use Rattle.prost_reflect_tables.proofs.Gathering.{behind, behind_empty, gathered_more, gathered_all}
+use Rattle.prost_reflect_linking.proofs.Common.{◌∙◌, ap, refl, arith, says_at, behind, behind_empty, gathered_more, gathered_all}
 use Rattle.prost_reflect_linking.proofs.gather.gathered.Goals as goal
 
 pub loop-place-init : goal.loop-place-init

@@ -1,7 +1,5 @@
-use Rattle.std.proofs.Common.{◌≡◌, ℕ, Option, map, drop}
+use Rattle.prost_reflect_linking.proofs.Common.{◌≡◌, ℕ, Option, map, drop, gathered, behind}
 use Rattle.prost_reflect_tables.specs.Walks.{Computes}
-use Rattle.prost_reflect_tables.specs.Gathered.{gathered}
-use Rattle.prost_reflect_tables.proofs.Gathering.{behind}
 use Rattle.prost_reflect_linking.proofs.gather.gathered.Given as goal
 
 abbrev pub invariant-loop-place : goal.invariant-loop-place

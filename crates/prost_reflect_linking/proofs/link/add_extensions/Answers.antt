@@ -1,8 +1,4 @@
-use Rattle.std.proofs.Common.{true, ap, ◌∙◌, arith}
-use Rattle.prost_reflect_tables.specs.Rows.{FieldRow}
-use Rattle.prost_reflect_tables.specs.Indexing.{with_item, list_rows}
-use Rattle.prost_reflect_tables.specs.Resolved.{ResolvedRow, resolved_row, resolved_field}
-use Rattle.prost_reflect_tables.proofs.Grouping.{rows_added, more_grouped, all_grouped}
+use Rattle.prost_reflect_linking.proofs.Common.{true, ap, ◌∙◌, arith, FieldRow, with_item, list_rows, ResolvedRow, resolved_row, resolved_field, rows_added, more_grouped, all_grouped}
 use Rattle.prost_reflect_linking.proofs.link.add_extensions.Goals as goal
 
 pub loop-extension-preserved : goal.loop-extension-preserved

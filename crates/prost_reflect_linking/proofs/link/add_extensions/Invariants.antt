@@ -1,6 +1,4 @@
-use Rattle.std.proofs.Common.{◌≡◌, true, drop, map}
-use Rattle.prost_reflect_tables.specs.Indexing.{grouped, list_rows}
-use Rattle.prost_reflect_tables.specs.Resolved.{resolved_row, resolved_field}
+use Rattle.prost_reflect_linking.proofs.Common.{◌≡◌, true, drop, map, grouped, list_rows, resolved_row, resolved_field}
 use Rattle.prost_reflect_linking.proofs.link.add_extensions.Given as goal
 
 abbrev pub invariant-loop-extension : goal.invariant-loop-extension

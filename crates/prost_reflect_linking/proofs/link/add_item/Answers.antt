@@ -1,5 +1,4 @@
-use Rattle.std.proofs.Common.{arith}
-use Rattle.prost_reflect_tables.proofs.Grouping.{item_pushed, item_outside, item_none}
+use Rattle.prost_reflect_linking.proofs.Common.{arith, item_pushed, item_outside, item_none}
 use Rattle.prost_reflect_linking.proofs.link.add_item.Goals as goal
 
 pub returns-in_ok-push : goal.returns-in_ok-push

@@ -1,6 +1,4 @@
-use Rattle.std.proofs.Common.{◌≡◌, ◌++◌, false, drop, map}
-use Rattle.prost_reflect_tables.specs.Indexing.{list_rows}
-use Rattle.prost_reflect_tables.specs.Resolved.{resolved_field, resolved_lists}
+use Rattle.prost_reflect_linking.proofs.Common.{◌≡◌, ◌++◌, false, drop, map, list_rows, resolved_field, resolved_lists}
 use Rattle.prost_reflect_linking.proofs.link.declared_by_message.Given as goal
 
 abbrev pub invariant-loop-fields : goal.invariant-loop-fields

@@ -1,6 +1,4 @@
-use Rattle.std.proofs.Common.{◌≡◌, ◌++◌, false, drop, map}
-use Rattle.prost_reflect_tables.specs.Rows.{field_row}
-use Rattle.prost_reflect_tables.specs.Resolved.{resolved_row, resolved_field}
+use Rattle.prost_reflect_linking.proofs.Common.{◌≡◌, ◌++◌, false, drop, map, field_row, resolved_row, resolved_field}
 use Rattle.prost_reflect_linking.proofs.link.declared_fields.Given as goal
 
 abbrev pub invariant-loop-field : goal.invariant-loop-field

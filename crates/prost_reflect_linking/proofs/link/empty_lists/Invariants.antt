@@ -1,5 +1,4 @@
-use Rattle.std.proofs.Common.{◌≡◌, map}
-use Rattle.prost_reflect_tables.specs.Indexing.{empty_lists}
+use Rattle.prost_reflect_linking.proofs.Common.{◌≡◌, map, empty_lists}
 use Rattle.prost_reflect_linking.proofs.link.empty_lists.Given as goal
 
 abbrev pub invariant-loop : goal.invariant-loop

@@ -1,14 +1,7 @@
-use Rattle.std.proofs.Common.{◌≡◌, true, false, List, Vec, Global, ap, sym, ◌∙◌, map, length}
+use Rattle.prost_reflect_linking.proofs.Common.{◌≡◌, true, false, List, Vec, Global, ap, sym, ◌∙◌, map, length, FlatMessageRow, message_row, enum_row, flat_rows, links_of, declared_fields, extended_place, linked_field, linked_enum, grouped, list_rows, messages_with, ResolvedRow, resolved_row, resolved_lists, resolved_field, lists_length, messages_linked, rows_linked, lists_are, grouped_are}
 use Rattle.prost_reflect_tables.specs.declared.build.flatten.FlatMessage.{FlatMessage}
 use Rattle.prost_reflect_tables.specs.declared.build.flatten.FlatEnum.{FlatEnum}
 use Rattle.prost_reflect_tables.specs.declared.build.resolve.ResolvedField.{ResolvedField}
-use Rattle.prost_reflect_tables.specs.Flat.{FlatMessageRow}
-use Rattle.prost_reflect_tables.specs.FlatViews.{message_row, enum_row, flat_rows}
-use Rattle.prost_reflect_tables.specs.Linking.{links_of, declared_fields, extended_place, linked_field, linked_enum}
-use Rattle.prost_reflect_tables.specs.Indexing.{grouped, list_rows, messages_with}
-use Rattle.prost_reflect_tables.specs.Resolved.{ResolvedRow, resolved_row, resolved_lists, resolved_field}
-use Rattle.prost_reflect_tables.proofs.Grouping.{lists_length, messages_linked, rows_linked}
-use Rattle.prost_reflect_tables.proofs.Resolving.{lists_are, grouped_are}
 use Rattle.prost_reflect_linking.proofs.link.linked.Goals as goal
 
 pub linked_messages-requires-clause-lists : goal.linked_messages-requires-clause-lists

@@ -1,7 +1,6 @@
-use Rattle.std.proofs.Common.{◌≡◌, ◌+◌, ◌++◌, drop, map, length}
+use Rattle.prost_reflect_linking.proofs.Common.{◌≡◌, ◌+◌, ◌++◌, drop, map, length, messages_with, list_rows}
 use Rattle.prost_reflect_tables.specs.Rows as rows
 use Rattle.prost_reflect_tables.specs.FlatViews as flat_views
-use Rattle.prost_reflect_tables.specs.Indexing.{messages_with, list_rows}
 use Rattle.prost_reflect_linking.proofs.link.linked_messages.Given as goal
 
 abbrev pub invariant-loop-place : goal.invariant-loop-place

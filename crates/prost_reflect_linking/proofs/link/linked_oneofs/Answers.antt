@@ -1,9 +1,5 @@
-use Rattle.std.proofs.Common.{◌≡◌, ◌+◌, ◌++◌, List, ap, ◌∙◌, map, drop, length, arith}
+use Rattle.prost_reflect_linking.proofs.Common.{◌≡◌, ◌+◌, ◌++◌, List, ap, ◌∙◌, map, drop, length, arith, oneof_row, field_row, definition_row, oneof_place, member_place, belonging, oneofs_from, linked_oneof, groups_length, group_of, oneof_more, same_oneof}
 use Rattle.prost_reflect_tables.specs.declared.tables.OneofTable.{OneofTable}
-use Rattle.prost_reflect_tables.specs.Rows.{oneof_row, field_row}
-use Rattle.prost_reflect_tables.specs.FlatViews.{definition_row}
-use Rattle.prost_reflect_tables.specs.Linking.{oneof_place, member_place, belonging, oneofs_from, linked_oneof}
-use Rattle.prost_reflect_tables.proofs.Grouping.{groups_length, group_of, oneof_more, same_oneof}
 use Rattle.prost_reflect_linking.proofs.link.linked_oneofs.Goals as goal
 
 pub index-requires : goal.index-requires

@@ -1,7 +1,4 @@
-use Rattle.std.proofs.Common.{◌≡◌, ◌++◌, drop, map}
-use Rattle.prost_reflect_tables.specs.Rows.{field_row, oneof_row}
-use Rattle.prost_reflect_tables.specs.FlatViews.{definition_row}
-use Rattle.prost_reflect_tables.specs.Linking.{oneofs_from}
+use Rattle.prost_reflect_linking.proofs.Common.{◌≡◌, ◌++◌, drop, map, field_row, oneof_row, definition_row, oneofs_from}
 use Rattle.prost_reflect_linking.proofs.link.linked_oneofs.Given as goal
 
 abbrev pub invariant-loop-place : goal.invariant-loop-place

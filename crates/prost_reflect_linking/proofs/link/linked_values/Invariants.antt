@@ -1,9 +1,6 @@
-use Rattle.std.proofs.Common.{◌≡◌, ◌++◌, drop, map, true}
+use Rattle.prost_reflect_linking.proofs.Common.{◌≡◌, ◌++◌, drop, map, true, EnumValueRow, enum_value_row, definition_row, linked_value}
 use Rattle.std.specs.List.{list_all}
 use Rattle.prost_reflect_wire.specs.Scalar.{in_i32}
-use Rattle.prost_reflect_tables.specs.Rows.{EnumValueRow, enum_value_row}
-use Rattle.prost_reflect_tables.specs.FlatViews.{definition_row}
-use Rattle.prost_reflect_tables.specs.Linking.{linked_value}
 use Rattle.prost_reflect_linking.proofs.link.linked_values.Given as goal
 
 abbrev pub invariant-loop-value : goal.invariant-loop-value

@@ -1,8 +1,4 @@
-use Rattle.std.proofs.Common.{◌∙◌, ap, ltb, rules, map}
-use Rattle.std.specs.Prelude.{length, filter, nat_lt}
-use Rattle.std.proofs.lemmas.List.Sorted.{IsPartitionPoint-from_clause, IsPartitionedBy-ltb}
-use Rattle.prost_reflect_tables.specs.Rows.{FieldRow, field_row}
-use Rattle.prost_reflect_tables.proofs.Grouping.{smaller_count}
+use Rattle.prost_reflect_linking.proofs.Common.{◌∙◌, ap, ltb, rules, map, length, filter, nat_lt, IsPartitionPoint-from_clause, IsPartitionedBy-ltb, FieldRow, field_row, smaller_count}
 use Rattle.prost_reflect_linking.proofs.link.member_place.Goals as goal
 
 pub returns : goal.returns

@@ -1,9 +1,4 @@
-use Rattle.std.proofs.Common.{List, ℕ, map, ap, ◌∙◌, arith}
-use Rattle.prost_reflect_tables.specs.Rows.{field_row}
-use Rattle.prost_reflect_tables.specs.FlatViews.{definition_row}
-use Rattle.prost_reflect_tables.specs.Linking.{oneof_place, member_place}
-use Rattle.prost_reflect_tables.specs.Indexing.{with_item}
-use Rattle.prost_reflect_tables.proofs.Grouping.{more_grouped, all_grouped}
+use Rattle.prost_reflect_linking.proofs.Common.{List, ℕ, map, ap, ◌∙◌, arith, field_row, definition_row, oneof_place, member_place, with_item, more_grouped, all_grouped}
 use Rattle.prost_reflect_linking.proofs.link.members_by_oneof.Goals as goal
 
 pub loop-definition-preserved : goal.loop-definition-preserved

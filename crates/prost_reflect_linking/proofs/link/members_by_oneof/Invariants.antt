@@ -1,8 +1,4 @@
-use Rattle.std.proofs.Common.{◌≡◌, drop, map}
-use Rattle.prost_reflect_tables.specs.Rows.{field_row}
-use Rattle.prost_reflect_tables.specs.FlatViews.{definition_row}
-use Rattle.prost_reflect_tables.specs.Linking.{oneof_place, member_place}
-use Rattle.prost_reflect_tables.specs.Indexing.{empty_lists, grouped}
+use Rattle.prost_reflect_linking.proofs.Common.{◌≡◌, drop, map, field_row, definition_row, oneof_place, member_place, empty_lists, grouped}
 use Rattle.prost_reflect_linking.proofs.link.members_by_oneof.Given as goal
 
 abbrev pub invariant-loop-definition : goal.invariant-loop-definition

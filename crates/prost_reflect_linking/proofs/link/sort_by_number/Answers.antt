@@ -1,5 +1,4 @@
-use Rattle.std.proofs.Common.{rules}
-use Rattle.std.proofs.lemmas.List.Sorted.{IsNonDecreasingBy-from_sort_by_key, answers_always}
+use Rattle.prost_reflect_linking.proofs.Common.{rules, IsNonDecreasingBy-from_sort_by_key, answers_always}
 use Rattle.prost_reflect_tables.proofs.Sorting.{sorted_rows}
 use Rattle.prost_reflect_linking.proofs.link.sort_by_number.Goals as goal
 

@@ -1,11 +1,4 @@
-use Rattle.std.proofs.Common.{List, rules, arith, length, ap, ◌∙◌}
-use Rattle.std.proofs.lemmas.List.{length-map}
-use Rattle.prost_reflect_tables.specs.FlatViews.{flat_rows, message_row}
-use Rattle.prost_reflect_tables.specs.Gathered.{gathered}
-use Rattle.prost_reflect_tables.specs.Linking.{links_of}
-use Rattle.prost_reflect_tables.specs.Resolved.{ResolvedRow, resolved_row}
-use Rattle.prost_reflect_tables.proofs.Gathering.{shown_gathered}
-use Rattle.prost_reflect_tables.proofs.Resolving.{extending_are}
+use Rattle.prost_reflect_linking.proofs.Common.{List, rules, arith, length, ap, ◌∙◌, length-map, flat_rows, message_row, gathered, links_of, ResolvedRow, resolved_row, shown_gathered, extending_are}
 use Rattle.prost_reflect_linking.proofs.lists.extending.Goals as goal
 
 pub returns : goal.returns

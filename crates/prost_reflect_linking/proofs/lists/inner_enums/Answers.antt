@@ -1,8 +1,4 @@
-use Rattle.std.proofs.Common.{rules, arith, map, length}
-use Rattle.std.proofs.lemmas.List.{length-map}
-use Rattle.prost_reflect_tables.specs.FlatViews.{enum_row, message_row}
-use Rattle.prost_reflect_tables.specs.Flat.{FlatEnumRow}
-use Rattle.prost_reflect_tables.proofs.Gathering.{shown_gathered}
+use Rattle.prost_reflect_linking.proofs.Common.{rules, arith, map, length, length-map, enum_row, message_row, FlatEnumRow, shown_gathered}
 use Rattle.prost_reflect_linking.proofs.lists.inner_enums.Goals as goal
 
 pub returns : goal.returns

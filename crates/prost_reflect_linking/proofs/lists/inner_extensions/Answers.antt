@@ -1,9 +1,5 @@
-use Rattle.std.proofs.Common.{rules, arith, map, length}
-use Rattle.std.proofs.lemmas.List.{length-map}
-use Rattle.prost_reflect_tables.specs.FlatViews.{definition_row, message_row}
+use Rattle.prost_reflect_linking.proofs.Common.{rules, arith, map, length, length-map, definition_row, message_row, DefinitionRow, shown_gathered}
 use Rattle.prost_reflect_types.specs.declared.FieldDescriptorProto.{FieldDescriptorProto}
-use Rattle.prost_reflect_tables.specs.Flat.{DefinitionRow}
-use Rattle.prost_reflect_tables.proofs.Gathering.{shown_gathered}
 use Rattle.prost_reflect_linking.proofs.lists.inner_extensions.Goals as goal
 
 pub returns : goal.returns

@@ -1,8 +1,4 @@
-use Rattle.std.proofs.Common.{rules, arith, map, length}
-use Rattle.std.proofs.lemmas.List.{length-map}
-use Rattle.prost_reflect_tables.specs.FlatViews.{message_row}
-use Rattle.prost_reflect_tables.specs.Flat.{FlatMessageRow}
-use Rattle.prost_reflect_tables.proofs.Gathering.{shown_gathered}
+use Rattle.prost_reflect_linking.proofs.Common.{rules, arith, map, length, length-map, message_row, FlatMessageRow, shown_gathered}
 use Rattle.prost_reflect_linking.proofs.lists.inner_messages.Goals as goal
 
 pub returns : goal.returns

@@ -1,7 +1,4 @@
-use Rattle.std.proofs.Common.{◌≡◌, ◌++◌, map, drop}
-use Rattle.prost_reflect_tables.specs.FlatViews.{text_list}
-use Rattle.prost_reflect_tables.specs.Rows.{field_row}
-use Rattle.prost_reflect_tables.specs.LinkedCatalog.{json_names}
+use Rattle.prost_reflect_linking.proofs.Common.{◌≡◌, ◌++◌, map, drop, text_list, field_row, json_names}
 use Rattle.prost_reflect_linking.proofs.lists.json_names.Given as goal
 
 abbrev pub invariant-loop-field : goal.invariant-loop-field

@@ -1,7 +1,4 @@
-use Rattle.std.proofs.Common.{◌≡◌, ◌++◌, map, drop}
-use Rattle.prost_reflect_tables.specs.FlatViews.{enum_row}
-use Rattle.prost_reflect_tables.specs.CatalogRows.{enum_lists_row}
-use Rattle.prost_reflect_tables.specs.LinkedCatalog.{enum_lists}
+use Rattle.prost_reflect_linking.proofs.Common.{◌≡◌, ◌++◌, map, drop, enum_row, enum_lists_row, enum_lists}
 use Rattle.prost_reflect_linking.proofs.lists.lists_of_enums.Given as goal
 
 abbrev pub invariant-loop-declared : goal.invariant-loop-declared

@@ -1,8 +1,5 @@
-use Rattle.std.proofs.Common.{◌≡◌, ◌++◌, map, drop}
-use Rattle.prost_reflect_tables.specs.FlatViews.{flat_rows}
+use Rattle.prost_reflect_linking.proofs.Common.{◌≡◌, ◌++◌, map, drop, flat_rows, message_lists_row, each_from, linked_lists}
 use Rattle.prost_reflect_tables.specs.Rows.{message_row}
-use Rattle.prost_reflect_tables.specs.CatalogRows.{message_lists_row}
-use Rattle.prost_reflect_tables.specs.LinkedCatalog.{each_from, linked_lists}
 use Rattle.prost_reflect_linking.proofs.lists.lists_of_messages.Given as goal
 
 abbrev pub invariant-loop-place : goal.invariant-loop-place

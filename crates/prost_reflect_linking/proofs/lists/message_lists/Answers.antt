@@ -1,11 +1,6 @@
-use Rattle.std.proofs.Common.{length, rules}
+use Rattle.prost_reflect_linking.proofs.Common.{length, rules, DefinitionRow, FlatMessageRow, FlatEnumRow, flat_rows, links_of, extended_place, copied_at, same_lists}
 use Rattle.prost_reflect_types.specs.declared.FieldDescriptorProto.{FieldDescriptorProto}
-use Rattle.prost_reflect_tables.specs.Flat.{DefinitionRow, FlatMessageRow, FlatEnumRow}
-use Rattle.prost_reflect_tables.specs.FlatViews.{flat_rows}
 use Rattle.prost_reflect_linking.specs.GatheredLists.{list_items}
-use Rattle.prost_reflect_tables.specs.Linking.{links_of, extended_place}
-use Rattle.prost_reflect_tables.proofs.Gathering.{copied_at}
-use Rattle.prost_reflect_tables.proofs.CatalogParts.{same_lists}
 use Rattle.prost_reflect_linking.proofs.lists.message_lists.Goals as goal
 
 pub returns : goal.returns

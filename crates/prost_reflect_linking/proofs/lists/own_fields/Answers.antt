@@ -1,8 +1,5 @@
-use Rattle.std.proofs.Common.{◌≡◌, ℕ, ◌+◌, ◌<◌, true, false, not, cond, List, [], ◌∷◌, ◌++◌, length, map, drop, get_or, sym, ap, ◌∙◌, append_assoc}
+use Rattle.prost_reflect_linking.proofs.Common.{◌≡◌, ℕ, ◌+◌, ◌<◌, true, false, not, cond, List, [], ◌∷◌, ◌++◌, length, map, drop, get_or, sym, ap, ◌∙◌, append_assoc, FieldRow, field_row, places_from, front_left}
 use Rattle.prost_reflect_tables.specs.declared.tables.FieldTable.{FieldTable}
-use Rattle.prost_reflect_tables.specs.Rows.{FieldRow, field_row}
-use Rattle.prost_reflect_tables.specs.Gathered.{places_from}
-use Rattle.prost_reflect_tables.proofs.Pushing.{front_left}
 use Rattle.prost_reflect_linking.proofs.lists.own_fields.Goals as goal
 use Rattle.prost_reflect_linking.proofs.lists.own_fields.Goals.{then-not-field+in_ok-push, else-not-field}
 

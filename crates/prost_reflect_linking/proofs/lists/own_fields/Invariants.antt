@@ -1,7 +1,4 @@
-use Rattle.std.proofs.Common.{◌≡◌, ◌++◌, map, drop, not}
-use Rattle.prost_reflect_tables.specs.Rows.{FieldRow, field_row}
-use Rattle.prost_reflect_tables.specs.Gathered.{places_from}
-use Rattle.prost_reflect_tables.specs.LinkedCatalog.{own_fields}
+use Rattle.prost_reflect_linking.proofs.Common.{◌≡◌, ◌++◌, map, drop, not, FieldRow, field_row, places_from, own_fields}
 use Rattle.prost_reflect_linking.proofs.lists.own_fields.Given as goal
 
 abbrev pub invariant-loop-place : goal.invariant-loop-place

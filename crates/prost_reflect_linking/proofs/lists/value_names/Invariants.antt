@@ -1,6 +1,4 @@
-use Rattle.std.proofs.Common.{◌≡◌, ◌++◌, map, drop}
-use Rattle.prost_reflect_tables.specs.FlatViews.{text_list, definition_row}
-use Rattle.prost_reflect_tables.specs.LinkedCatalog.{value_names}
+use Rattle.prost_reflect_linking.proofs.Common.{◌≡◌, ◌++◌, map, drop, text_list, definition_row, value_names}
 use Rattle.prost_reflect_linking.proofs.lists.value_names.Given as goal
 
 abbrev pub invariant-loop-value : goal.invariant-loop-value

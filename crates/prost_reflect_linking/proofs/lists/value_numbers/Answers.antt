@@ -1,7 +1,4 @@
-use Rattle.std.proofs.Common.{rules, ◌+◌, ◌++◌, drop, map, ap, ◌∙◌}
-use Rattle.prost_reflect_tables.specs.FlatViews.{definition_row}
-use Rattle.prost_reflect_tables.specs.Linking.{value_number}
-use Rattle.prost_reflect_tables.proofs.Pushing.{rows_more}
+use Rattle.prost_reflect_linking.proofs.Common.{rules, ◌+◌, ◌++◌, drop, map, ap, ◌∙◌, definition_row, value_number, rows_more}
 use Rattle.prost_reflect_linking.proofs.lists.value_numbers.Goals as goal
 
 pub loop-value-preserved : goal.loop-value-preserved

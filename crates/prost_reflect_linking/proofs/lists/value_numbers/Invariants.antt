@@ -1,6 +1,4 @@
-use Rattle.std.proofs.Common.{◌≡◌, ◌++◌, drop, map}
-use Rattle.prost_reflect_tables.specs.FlatViews.{definition_row}
-use Rattle.prost_reflect_tables.specs.Linking.{value_number}
+use Rattle.prost_reflect_linking.proofs.Common.{◌≡◌, ◌++◌, drop, map, definition_row, value_number}
 use Rattle.prost_reflect_linking.proofs.lists.value_numbers.Given as goal
 
 abbrev pub invariant-loop-value : goal.invariant-loop-value

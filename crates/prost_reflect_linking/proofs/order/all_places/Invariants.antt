@@ -1,5 +1,4 @@
-use Rattle.std.proofs.Common.{◌≡◌, ◌++◌, true, drop}
-use Rattle.prost_reflect_tables.specs.Gathered.{places_from, all_places}
+use Rattle.prost_reflect_linking.proofs.Common.{◌≡◌, ◌++◌, true, drop, places_from, all_places}
 use Rattle.prost_reflect_linking.proofs.order.all_places.Given as goal
 
 abbrev pub invariant-loop-place : goal.invariant-loop-place

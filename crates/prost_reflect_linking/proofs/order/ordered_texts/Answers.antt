@@ -1,7 +1,4 @@
-use Rattle.std.proofs.Common.{◌∙◌, ap}
-use Rattle.prost_reflect_tables.specs.FlatViews.{text_list}
-use Rattle.prost_reflect_tables.specs.Orders.{by_text}
-use Rattle.prost_reflect_tables.proofs.Gathering.{all_shown}
+use Rattle.prost_reflect_linking.proofs.Common.{◌∙◌, ap, text_list, by_text, all_shown}
 use Rattle.prost_reflect_linking.proofs.order.ordered_texts.Goals as goal
 
 pub returns : goal.returns

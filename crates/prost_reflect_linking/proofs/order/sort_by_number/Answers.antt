@@ -1,9 +1,6 @@
-use Rattle.std.proofs.Common.{◌≡◌, rules, ap}
+use Rattle.prost_reflect_linking.proofs.Common.{◌≡◌, rules, ap, always_returns_same, ranks_by, number_at, number_before}
 use Rattle.std.specs.Ordering.{is_lt, int_cmp}
 use Rattle.std.proofs.lemmas.Cmp.{int_cmp_total}
-use Rattle.std.proofs.lemmas.Fn.{always_returns_same}
-use Rattle.std.proofs.lemmas.List.Sorted.{ranks_by}
-use Rattle.prost_reflect_tables.specs.Orders.{number_at, number_before}
 use Rattle.prost_reflect_tables.proofs.Orders.{is_sorted_by}
 use Rattle.prost_reflect_linking.proofs.order.sort_by_number.Goals as goal
 

@@ -1,11 +1,7 @@
-use Rattle.std.proofs.Common.{◌≡◌, rules, ap}
+use Rattle.prost_reflect_linking.proofs.Common.{◌≡◌, rules, ap, always_returns_same, ranks_by, text_list, text_at, text_before}
 use Rattle.std.specs.Ordering.{is_lt, nat_cmp}
 use Rattle.std.specs.Cmp.Lexicographic.{slice_cmp}
 use Rattle.std.proofs.lemmas.Cmp.{nat_list_cmp_total}
-use Rattle.std.proofs.lemmas.Fn.{always_returns_same}
-use Rattle.std.proofs.lemmas.List.Sorted.{ranks_by}
-use Rattle.prost_reflect_tables.specs.FlatViews.{text_list}
-use Rattle.prost_reflect_tables.specs.Orders.{text_at, text_before}
 use Rattle.prost_reflect_tables.proofs.Orders.{is_sorted_by}
 use Rattle.prost_reflect_linking.proofs.order.sort_by_text.Goals as goal
 

@@ -1,8 +1,4 @@
-use Rattle.std.proofs.Common.{◌≡◌, ◌++◌, map, drop}
-use Rattle.prost_reflect_tables.specs.FlatViews.{definition_row, flat_rows}
-use Rattle.prost_reflect_tables.specs.CatalogRows.{method_table_row}
-use Rattle.prost_reflect_tables.specs.Linking.{links_of}
-use Rattle.prost_reflect_tables.specs.LinkedCatalog.{linked_method}
+use Rattle.prost_reflect_linking.proofs.Common.{◌≡◌, ◌++◌, map, drop, definition_row, flat_rows, method_table_row, links_of, linked_method}
 use Rattle.prost_reflect_linking.proofs.services.linked_methods.Given as goal
 
 abbrev pub invariant-loop-method : goal.invariant-loop-method

@@ -1,8 +1,4 @@
-use Rattle.std.proofs.Common.{◌≡◌, ◌++◌, map, drop}
-use Rattle.prost_reflect_tables.specs.FlatViews.{service_row, flat_rows}
-use Rattle.prost_reflect_tables.specs.CatalogRows.{service_table_row}
-use Rattle.prost_reflect_tables.specs.Linking.{links_of}
-use Rattle.prost_reflect_tables.specs.LinkedCatalog.{linked_service}
+use Rattle.prost_reflect_linking.proofs.Common.{◌≡◌, ◌++◌, map, drop, service_row, flat_rows, service_table_row, links_of, linked_service}
 use Rattle.prost_reflect_linking.proofs.services.linked_services.Given as goal
 
 abbrev pub invariant-loop-service : goal.invariant-loop-service
