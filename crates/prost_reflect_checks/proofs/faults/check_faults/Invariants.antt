@@ -1,4 +1,5 @@
-use Rattle.prost_reflect_checks.proofs.Common.{◌≡◌, drop, list_any, file_list, flat_rows}
+use Rattle.std.specs.Prelude.{◌≡◌}
+use Rattle.prost_reflect_checks.proofs.Common.{drop, list_any, file_list, flat_rows}
 use Rattle.prost_reflect_tables.specs.Checked.{has_fault}
 use Rattle.prost_reflect_checks.proofs.faults.check_faults.Given as goal
 

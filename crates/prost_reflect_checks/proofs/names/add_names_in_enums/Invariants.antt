@@ -1,4 +1,5 @@
-use Rattle.prost_reflect_checks.proofs.Common.{◌≡◌, ◌++◌, map, drop, names_in_enums, enum_row, text_list}
+use Rattle.std.specs.Prelude.{◌≡◌, ◌++◌}
+use Rattle.prost_reflect_checks.proofs.Common.{map, drop, names_in_enums, enum_row, text_list}
 use Rattle.prost_reflect_checks.proofs.names.add_names_in_enums.Given as goal
 
 abbrev pub invariant-loop-declared : goal.invariant-loop-declared

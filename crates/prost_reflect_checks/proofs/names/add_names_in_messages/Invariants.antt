@@ -1,4 +1,5 @@
-use Rattle.prost_reflect_checks.proofs.Common.{◌≡◌, ◌++◌, map, drop, names_in_messages, message_row, text_list}
+use Rattle.std.specs.Prelude.{◌≡◌, ◌++◌}
+use Rattle.prost_reflect_checks.proofs.Common.{map, drop, names_in_messages, message_row, text_list}
 use Rattle.prost_reflect_checks.proofs.names.add_names_in_messages.Given as goal
 
 abbrev pub invariant-loop-message : goal.invariant-loop-message

@@ -1,4 +1,5 @@
-use Rattle.prost_reflect_checks.proofs.Common.{◌≡◌, ◌++◌, map, drop, names_in_services, service_row, text_list}
+use Rattle.std.specs.Prelude.{◌≡◌, ◌++◌}
+use Rattle.prost_reflect_checks.proofs.Common.{map, drop, names_in_services, service_row, text_list}
 use Rattle.prost_reflect_checks.proofs.names.add_names_in_services.Given as goal
 
 abbrev pub invariant-loop-service : goal.invariant-loop-service

@@ -1,4 +1,5 @@
-use Rattle.prost_reflect_checks.proofs.Common.{◌≡◌, ◌∙◌, ℕ, false, true, List, [], get_or, take, string_bytes, sym, ap, list_any, contains_text, not-true, text_list}
+use Rattle.std.specs.Prelude.{◌≡◌}
+use Rattle.prost_reflect_checks.proofs.Common.{◌∙◌, ℕ, false, true, List, [], get_or, take, string_bytes, sym, ap, list_any, contains_text, not-true, text_list}
 use denote.Bor.{Bor}
 use Rattle.std.specs.Str.{bytes_eq}
 use Rattle.std.proofs.lemmas.Map.Text.{btree_set_updates_text}

@@ -1,4 +1,5 @@
-use Rattle.prost_reflect_checks.proofs.Common.{◌≡◌, [], drop, take, ℕ, List, list_any, contains_text, repeats, text_list}
+use Rattle.std.specs.Prelude.{◌≡◌}
+use Rattle.prost_reflect_checks.proofs.Common.{[], drop, take, ℕ, List, list_any, contains_text, repeats, text_list}
 use Rattle.std.specs.Str.{bytes_eq}
 use Rattle.prost_reflect_checks.proofs.names.repeats.Given as goal
 

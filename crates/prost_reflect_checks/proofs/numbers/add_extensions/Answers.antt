@@ -1,4 +1,5 @@
-use Rattle.prost_reflect_checks.proofs.Common.{◌≡◌, ℕ, ℤ, ◌+◌, List, [], ◌∷◌, ◌++◌, map, drop, Some, rules, sym, ap, ◌∙◌, append_assoc, ResolvedField, Numbered, number_or_zero, numbered_at, numbered, numbered_list, resolved_row, numbered_found, front_left}
+use Rattle.std.specs.Prelude.{◌≡◌, ◌+◌, ◌∷◌, ◌++◌}
+use Rattle.prost_reflect_checks.proofs.Common.{ℕ, ℤ, List, [], map, drop, Some, rules, sym, ap, ◌∙◌, append_assoc, ResolvedField, Numbered, number_or_zero, numbered_at, numbered, numbered_list, resolved_row, numbered_found, front_left}
 use Rattle.std.proofs.lemmas.List.{map-append}
 use Rattle.prost_reflect_checks.proofs.numbers.add_extensions.Goals as goal
 use Rattle.prost_reflect_checks.proofs.numbers.add_extensions.Goals.{in-Some+in_ok-push, in_default}

@@ -1,4 +1,5 @@
-use Rattle.prost_reflect_checks.proofs.Common.{◌≡◌, ◌++◌, map, drop, numbered_list, resolved_row, numbered_found}
+use Rattle.std.specs.Prelude.{◌≡◌, ◌++◌}
+use Rattle.prost_reflect_checks.proofs.Common.{map, drop, numbered_list, resolved_row, numbered_found}
 use Rattle.prost_reflect_checks.proofs.numbers.add_extensions.Given as goal
 
 abbrev pub invariant-loop-extension : goal.invariant-loop-extension

@@ -1,4 +1,5 @@
-use Rattle.prost_reflect_checks.proofs.Common.{rules, ◌+◌, ◌++◌, drop, map, ap, ◌∙◌, number_or_zero, numbered_fields, definition_row, numbered, numbered_list, seen_more}
+use Rattle.std.specs.Prelude.{◌+◌, ◌++◌}
+use Rattle.prost_reflect_checks.proofs.Common.{rules, drop, map, ap, ◌∙◌, number_or_zero, numbered_fields, definition_row, numbered, numbered_list, seen_more}
 use Rattle.prost_reflect_checks.proofs.numbers.add_fields.Goals as goal
 
 pub loop-field-preserved : goal.loop-field-preserved

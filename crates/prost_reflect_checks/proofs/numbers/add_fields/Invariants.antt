@@ -1,4 +1,5 @@
-use Rattle.prost_reflect_checks.proofs.Common.{◌≡◌, ◌++◌, map, drop, numbered_fields, definition_row, numbered_list}
+use Rattle.std.specs.Prelude.{◌≡◌, ◌++◌}
+use Rattle.prost_reflect_checks.proofs.Common.{map, drop, numbered_fields, definition_row, numbered_list}
 use Rattle.prost_reflect_checks.proofs.numbers.add_fields.Given as goal
 
 abbrev pub invariant-loop-field : goal.invariant-loop-field

@@ -1,4 +1,5 @@
-use Rattle.prost_reflect_checks.proofs.Common.{◌≡◌, ◌++◌, map, drop, numbered_in, message_row, numbered_list}
+use Rattle.std.specs.Prelude.{◌≡◌, ◌++◌}
+use Rattle.prost_reflect_checks.proofs.Common.{map, drop, numbered_in, message_row, numbered_list}
 use Rattle.prost_reflect_checks.proofs.numbers.add_messages.Given as goal
 
 abbrev pub invariant-loop-place : goal.invariant-loop-place

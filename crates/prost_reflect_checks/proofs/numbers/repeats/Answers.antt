@@ -1,4 +1,5 @@
-use Rattle.prost_reflect_checks.proofs.Common.{◌≡◌, ◌∙◌, ℕ, ℤ, false, true, get_or, take, pos, sym, list_any, not-true, not-false, same_numbered, numbered, numbered_list}
+use Rattle.std.specs.Prelude.{◌≡◌}
+use Rattle.prost_reflect_checks.proofs.Common.{◌∙◌, ℕ, ℤ, false, true, get_or, take, pos, sym, list_any, not-true, not-false, same_numbered, numbered, numbered_list}
 use Rattle.prost_reflect_tables.proofs.NamePlaces.{list_any_push}
 use Rattle.prost_reflect_tables.proofs.Numbering.{numbers_more, number_repeats_more, number_repeats_found, number_seen}
 use Rattle.prost_reflect_checks.proofs.numbers.repeats.Goals as goal

@@ -1,4 +1,5 @@
-use Rattle.prost_reflect_checks.proofs.Common.{◌≡◌, [], drop, take, ℕ, ℤ, list_any, contains, number_repeats, same_numbered, numbered, numbered_list}
+use Rattle.std.specs.Prelude.{◌≡◌}
+use Rattle.prost_reflect_checks.proofs.Common.{[], drop, take, ℕ, ℤ, list_any, contains, number_repeats, same_numbered, numbered, numbered_list}
 use Rattle.std.specs.Ordering.{nat_cmp, int_cmp, ordering_then}
 use Rattle.prost_reflect_checks.proofs.numbers.repeats.Given as goal
 

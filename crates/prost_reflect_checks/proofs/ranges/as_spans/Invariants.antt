@@ -1,4 +1,5 @@
-use Rattle.prost_reflect_checks.proofs.Common.{◌≡◌, ◌++◌, map, drop, span_of}
+use Rattle.std.specs.Prelude.{◌≡◌, ◌++◌}
+use Rattle.prost_reflect_checks.proofs.Common.{map, drop, span_of}
 use Rattle.prost_reflect_checks.proofs.ranges.as_spans.Given as goal
 
 abbrev pub invariant-loop-range : goal.invariant-loop-range

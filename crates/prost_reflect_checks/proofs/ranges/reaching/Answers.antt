@@ -1,4 +1,5 @@
-use Rattle.prost_reflect_checks.proofs.Common.{◌≡◌, ℕ, ◌+◌, ◌<◌, List, [], ◌∷◌, ◌++◌, length, drop, get_or, cond, sym, ap, ◌∙◌, append_assoc, lt-ltb, le-ltb, greater, reaching, front_at}
+use Rattle.std.specs.Prelude.{◌≡◌, ◌+◌, ◌<◌, ◌∷◌, ◌++◌}
+use Rattle.prost_reflect_checks.proofs.Common.{ℕ, List, [], length, drop, get_or, cond, sym, ap, ◌∙◌, append_assoc, lt-ltb, le-ltb, greater, reaching, front_at}
 use Rattle.prost_reflect_checks.proofs.ranges.reaching.Goals as goal
 use Rattle.prost_reflect_checks.proofs.ranges.reaching.Goals.{then-farthest-span, else-farthest-span}
 

@@ -1,4 +1,5 @@
-use Rattle.prost_reflect_checks.proofs.Common.{◌≡◌, ◌++◌, drop, reaching}
+use Rattle.std.specs.Prelude.{◌≡◌, ◌++◌}
+use Rattle.prost_reflect_checks.proofs.Common.{drop, reaching}
 use Rattle.prost_reflect_checks.proofs.ranges.reaching.Given as goal
 
 abbrev pub invariant-loop-span : goal.invariant-loop-span

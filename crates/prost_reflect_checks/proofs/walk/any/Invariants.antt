@@ -1,4 +1,5 @@
-use Rattle.prost_reflect_checks.proofs.Common.{◌≡◌, Bool, drop, list_any, Computes}
+use Rattle.std.specs.Prelude.{◌≡◌}
+use Rattle.prost_reflect_checks.proofs.Common.{Bool, drop, list_any, Computes}
 use Rattle.prost_reflect_checks.proofs.walk.any.Given as goal
 
 abbrev pub invariant-loop-item : goal.invariant-loop-item

@@ -1,4 +1,5 @@
-use Rattle.prost_reflect_checks.proofs.Common.{◌≡◌, Bool, map, drop, list_any, definition_row, message_row, Computes}
+use Rattle.std.specs.Prelude.{◌≡◌}
+use Rattle.prost_reflect_checks.proofs.Common.{Bool, map, drop, list_any, definition_row, message_row, Computes}
 use Rattle.prost_reflect_types.specs.declared.FieldDescriptorProto.{FieldDescriptorProto}
 use Rattle.prost_reflect_tables.specs.Flat.{DefinitionRow}
 use Rattle.prost_reflect_checks.proofs.walk.any_in_messages.Given as goal

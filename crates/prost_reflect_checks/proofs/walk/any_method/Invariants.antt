@@ -1,4 +1,5 @@
-use Rattle.prost_reflect_checks.proofs.Common.{◌≡◌, Bool, map, drop, list_any, definition_row, service_row, Computes}
+use Rattle.std.specs.Prelude.{◌≡◌}
+use Rattle.prost_reflect_checks.proofs.Common.{Bool, map, drop, list_any, definition_row, service_row, Computes}
 use Rattle.prost_reflect_types.specs.declared.MethodDescriptorProto.{MethodDescriptorProto}
 use Rattle.prost_reflect_tables.specs.Flat.{DefinitionRow}
 use Rattle.prost_reflect_checks.proofs.walk.any_method.Given as goal

@@ -1,4 +1,5 @@
-use Rattle.prost_reflect_checks.proofs.Common.{◌≡◌, Bool, drop, list_any, ResolvedRow, resolved_row, resolved_lists, Computes}
+use Rattle.std.specs.Prelude.{◌≡◌}
+use Rattle.prost_reflect_checks.proofs.Common.{Bool, drop, list_any, ResolvedRow, resolved_row, resolved_lists, Computes}
 use Rattle.prost_reflect_checks.proofs.walk.any_resolved_in.Given as goal
 
 abbrev pub invariant-loop-fields : goal.invariant-loop-fields

@@ -1,4 +1,5 @@
-use Rattle.prost_reflect_linking.proofs.Common.{◌≡◌, ◌++◌, map, drop, service_row, text_list}
+use Rattle.std.specs.Prelude.{◌≡◌, ◌++◌}
+use Rattle.prost_reflect_linking.proofs.Common.{map, drop, service_row, text_list}
 use Rattle.prost_reflect_linking.proofs.catalog.service_names.Given as goal
 
 abbrev pub invariant-loop-service : goal.invariant-loop-service

@@ -1,4 +1,5 @@
-use Rattle.prost_reflect_linking.proofs.Common.{◌≡◌, ◌++◌, map, drop, string_bytes, file_names, file_list, file_place}
+use Rattle.std.specs.Prelude.{◌≡◌, ◌++◌}
+use Rattle.prost_reflect_linking.proofs.Common.{map, drop, string_bytes, file_names, file_list, file_place}
 use Rattle.prost_reflect_linking.proofs.files.dependency_places.Given as goal
 
 abbrev pub invariant-loop-dependency : goal.invariant-loop-dependency

@@ -1,4 +1,5 @@
-use Rattle.prost_reflect_linking.proofs.Common.{◌≡◌, length, map, ap, ◌∙◌, rules, String, string_bytes, file_names, FlatMessageRow, FlatEnumRow, FlatServiceRow, file_list, flat_rows, top_file, file_place, copied_at, same_file}
+use Rattle.std.specs.Prelude.{◌≡◌}
+use Rattle.prost_reflect_linking.proofs.Common.{length, map, ap, ◌∙◌, rules, String, string_bytes, file_names, FlatMessageRow, FlatEnumRow, FlatServiceRow, file_list, flat_rows, top_file, file_place, copied_at, same_file}
 use Rattle.std.specs.declared.alloc.Global.{Global}
 use Rattle.prost_reflect_linking.specs.GatheredLists.{list_items}
 use Rattle.prost_reflect_linking.proofs.files.file_table.Goals as goal

@@ -1,4 +1,5 @@
-use Rattle.prost_reflect_linking.proofs.Common.{◌≡◌, ◌++◌, map, drop, file_names, file_list, flat_rows, file_table_row, each_from, linked_file}
+use Rattle.std.specs.Prelude.{◌≡◌, ◌++◌}
+use Rattle.prost_reflect_linking.proofs.Common.{map, drop, file_names, file_list, flat_rows, file_table_row, each_from, linked_file}
 use Rattle.prost_reflect_linking.proofs.files.linked_files.Given as goal
 
 abbrev pub invariant-loop-place : goal.invariant-loop-place

@@ -1,4 +1,5 @@
-use Rattle.prost_reflect_linking.proofs.Common.{rules, ◌+◌, ◌++◌, drop, map, pos, ap, ◌∙◌, import_at, made_more}
+use Rattle.std.specs.Prelude.{◌+◌, ◌++◌}
+use Rattle.prost_reflect_linking.proofs.Common.{rules, drop, map, pos, ap, ◌∙◌, import_at, made_more}
 use Rattle.prost_reflect_linking.proofs.files.public_places.Goals as goal
 
 pub loop-index-preserved : goal.loop-index-preserved

@@ -1,4 +1,5 @@
-use Rattle.prost_reflect_linking.proofs.Common.{◌≡◌, ◌++◌, map, drop, import_at}
+use Rattle.std.specs.Prelude.{◌≡◌, ◌++◌}
+use Rattle.prost_reflect_linking.proofs.Common.{map, drop, import_at}
 use Rattle.prost_reflect_linking.proofs.files.public_places.Given as goal
 
 abbrev pub invariant-loop-index : goal.invariant-loop-index

@@ -1,4 +1,5 @@
-use Rattle.prost_reflect_linking.proofs.Common.{◌≡◌, ℕ, Option, map, drop, gathered, behind}
+use Rattle.std.specs.Prelude.{◌≡◌}
+use Rattle.prost_reflect_linking.proofs.Common.{ℕ, Option, map, drop, gathered, behind}
 use Rattle.prost_reflect_tables.specs.Walks.{Computes}
 use Rattle.prost_reflect_linking.proofs.gather.gathered.Given as goal
 

@@ -1,4 +1,5 @@
-use Rattle.prost_reflect_linking.proofs.Common.{◌≡◌, true, drop, map, grouped, list_rows, resolved_row, resolved_field}
+use Rattle.std.specs.Prelude.{◌≡◌}
+use Rattle.prost_reflect_linking.proofs.Common.{true, drop, map, grouped, list_rows, resolved_row, resolved_field}
 use Rattle.prost_reflect_linking.proofs.link.add_extensions.Given as goal
 
 abbrev pub invariant-loop-extension : goal.invariant-loop-extension

@@ -1,4 +1,5 @@
-use Rattle.prost_reflect_linking.proofs.Common.{◌≡◌, ◌++◌, false, drop, map, list_rows, resolved_field, resolved_lists}
+use Rattle.std.specs.Prelude.{◌≡◌, ◌++◌}
+use Rattle.prost_reflect_linking.proofs.Common.{false, drop, map, list_rows, resolved_field, resolved_lists}
 use Rattle.prost_reflect_linking.proofs.link.declared_by_message.Given as goal
 
 abbrev pub invariant-loop-fields : goal.invariant-loop-fields

@@ -1,4 +1,5 @@
-use Rattle.prost_reflect_linking.proofs.Common.{◌≡◌, ◌++◌, false, drop, map, field_row, resolved_row, resolved_field}
+use Rattle.std.specs.Prelude.{◌≡◌, ◌++◌}
+use Rattle.prost_reflect_linking.proofs.Common.{false, drop, map, field_row, resolved_row, resolved_field}
 use Rattle.prost_reflect_linking.proofs.link.declared_fields.Given as goal
 
 abbrev pub invariant-loop-field : goal.invariant-loop-field

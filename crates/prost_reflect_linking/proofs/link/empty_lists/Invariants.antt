@@ -1,4 +1,5 @@
-use Rattle.prost_reflect_linking.proofs.Common.{◌≡◌, map, empty_lists}
+use Rattle.std.specs.Prelude.{◌≡◌}
+use Rattle.prost_reflect_linking.proofs.Common.{map, empty_lists}
 use Rattle.prost_reflect_linking.proofs.link.empty_lists.Given as goal
 
 abbrev pub invariant-loop : goal.invariant-loop

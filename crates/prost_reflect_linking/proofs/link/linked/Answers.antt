@@ -1,4 +1,5 @@
-use Rattle.prost_reflect_linking.proofs.Common.{◌≡◌, true, false, List, Vec, Global, ap, sym, ◌∙◌, map, length, FlatMessageRow, message_row, enum_row, flat_rows, links_of, declared_fields, extended_place, linked_field, linked_enum, grouped, list_rows, messages_with, ResolvedRow, resolved_row, resolved_lists, resolved_field, lists_length, messages_linked, rows_linked, lists_are, grouped_are}
+use Rattle.std.specs.Prelude.{◌≡◌}
+use Rattle.prost_reflect_linking.proofs.Common.{true, false, List, Vec, Global, ap, sym, ◌∙◌, map, length, FlatMessageRow, message_row, enum_row, flat_rows, links_of, declared_fields, extended_place, linked_field, linked_enum, grouped, list_rows, messages_with, ResolvedRow, resolved_row, resolved_lists, resolved_field, lists_length, messages_linked, rows_linked, lists_are, grouped_are}
 use Rattle.prost_reflect_tables.specs.declared.build.flatten.FlatMessage.{FlatMessage}
 use Rattle.prost_reflect_tables.specs.declared.build.flatten.FlatEnum.{FlatEnum}
 use Rattle.prost_reflect_tables.specs.declared.build.resolve.ResolvedField.{ResolvedField}

@@ -1,4 +1,5 @@
-use Rattle.prost_reflect_linking.proofs.Common.{◌≡◌, ◌++◌, drop, map, true, linked_enum}
+use Rattle.std.specs.Prelude.{◌≡◌, ◌++◌}
+use Rattle.prost_reflect_linking.proofs.Common.{drop, map, true, linked_enum}
 use Rattle.std.specs.List.{list_all}
 use Rattle.prost_reflect_tables.specs.Rows.{enum_row}
 use Rattle.prost_reflect_tables.specs.FlatViews as flat_views

@@ -1,4 +1,5 @@
-use Rattle.prost_reflect_linking.proofs.Common.{◌≡◌, ◌+◌, ◌++◌, drop, map, length, messages_with, list_rows}
+use Rattle.std.specs.Prelude.{◌≡◌, ◌+◌, ◌++◌}
+use Rattle.prost_reflect_linking.proofs.Common.{drop, map, length, messages_with, list_rows}
 use Rattle.prost_reflect_tables.specs.Rows as rows
 use Rattle.prost_reflect_tables.specs.FlatViews as flat_views
 use Rattle.prost_reflect_linking.proofs.link.linked_messages.Given as goal

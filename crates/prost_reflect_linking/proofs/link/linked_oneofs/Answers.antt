@@ -1,4 +1,5 @@
-use Rattle.prost_reflect_linking.proofs.Common.{◌≡◌, ◌+◌, ◌++◌, List, ap, ◌∙◌, map, drop, length, arith, oneof_row, field_row, definition_row, oneof_place, member_place, belonging, oneofs_from, linked_oneof, groups_length, group_of, oneof_more, same_oneof}
+use Rattle.std.specs.Prelude.{◌≡◌, ◌+◌, ◌++◌}
+use Rattle.prost_reflect_linking.proofs.Common.{List, ap, ◌∙◌, map, drop, length, arith, oneof_row, field_row, definition_row, oneof_place, member_place, belonging, oneofs_from, linked_oneof, groups_length, group_of, oneof_more, same_oneof}
 use Rattle.prost_reflect_tables.specs.declared.tables.OneofTable.{OneofTable}
 use Rattle.prost_reflect_linking.proofs.link.linked_oneofs.Goals as goal
 

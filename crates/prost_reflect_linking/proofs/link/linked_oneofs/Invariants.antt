@@ -1,4 +1,5 @@
-use Rattle.prost_reflect_linking.proofs.Common.{◌≡◌, ◌++◌, drop, map, field_row, oneof_row, definition_row, oneofs_from}
+use Rattle.std.specs.Prelude.{◌≡◌, ◌++◌}
+use Rattle.prost_reflect_linking.proofs.Common.{drop, map, field_row, oneof_row, definition_row, oneofs_from}
 use Rattle.prost_reflect_linking.proofs.link.linked_oneofs.Given as goal
 
 abbrev pub invariant-loop-place : goal.invariant-loop-place

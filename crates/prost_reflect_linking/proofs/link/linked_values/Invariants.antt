@@ -1,4 +1,5 @@
-use Rattle.prost_reflect_linking.proofs.Common.{◌≡◌, ◌++◌, drop, map, true, EnumValueRow, enum_value_row, definition_row, linked_value}
+use Rattle.std.specs.Prelude.{◌≡◌, ◌++◌}
+use Rattle.prost_reflect_linking.proofs.Common.{drop, map, true, EnumValueRow, enum_value_row, definition_row, linked_value}
 use Rattle.std.specs.List.{list_all}
 use Rattle.prost_reflect_wire.specs.Scalar.{in_i32}
 use Rattle.prost_reflect_linking.proofs.link.linked_values.Given as goal

@@ -1,4 +1,5 @@
-use Rattle.prost_reflect_linking.proofs.Common.{◌≡◌, drop, map, field_row, definition_row, oneof_place, member_place, empty_lists, grouped}
+use Rattle.std.specs.Prelude.{◌≡◌}
+use Rattle.prost_reflect_linking.proofs.Common.{drop, map, field_row, definition_row, oneof_place, member_place, empty_lists, grouped}
 use Rattle.prost_reflect_linking.proofs.link.members_by_oneof.Given as goal
 
 abbrev pub invariant-loop-definition : goal.invariant-loop-definition

@@ -1,4 +1,5 @@
-use Rattle.prost_reflect_linking.proofs.Common.{◌≡◌, ◌++◌, map, drop, text_list, field_row, field_names}
+use Rattle.std.specs.Prelude.{◌≡◌, ◌++◌}
+use Rattle.prost_reflect_linking.proofs.Common.{map, drop, text_list, field_row, field_names}
 use Rattle.prost_reflect_linking.proofs.lists.field_names.Given as goal
 
 abbrev pub invariant-loop-field : goal.invariant-loop-field

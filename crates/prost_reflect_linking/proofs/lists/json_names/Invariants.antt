@@ -1,4 +1,5 @@
-use Rattle.prost_reflect_linking.proofs.Common.{◌≡◌, ◌++◌, map, drop, text_list, field_row, json_names}
+use Rattle.std.specs.Prelude.{◌≡◌, ◌++◌}
+use Rattle.prost_reflect_linking.proofs.Common.{map, drop, text_list, field_row, json_names}
 use Rattle.prost_reflect_linking.proofs.lists.json_names.Given as goal
 
 abbrev pub invariant-loop-field : goal.invariant-loop-field

@@ -1,4 +1,5 @@
-use Rattle.prost_reflect_linking.proofs.Common.{◌≡◌, ◌++◌, map, drop, enum_row, enum_lists_row, enum_lists}
+use Rattle.std.specs.Prelude.{◌≡◌, ◌++◌}
+use Rattle.prost_reflect_linking.proofs.Common.{map, drop, enum_row, enum_lists_row, enum_lists}
 use Rattle.prost_reflect_linking.proofs.lists.lists_of_enums.Given as goal
 
 abbrev pub invariant-loop-declared : goal.invariant-loop-declared

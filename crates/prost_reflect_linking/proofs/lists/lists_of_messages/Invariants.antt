@@ -1,4 +1,5 @@
-use Rattle.prost_reflect_linking.proofs.Common.{◌≡◌, ◌++◌, map, drop, flat_rows, message_lists_row, each_from, linked_lists}
+use Rattle.std.specs.Prelude.{◌≡◌, ◌++◌}
+use Rattle.prost_reflect_linking.proofs.Common.{map, drop, flat_rows, message_lists_row, each_from, linked_lists}
 use Rattle.prost_reflect_tables.specs.Rows.{message_row}
 use Rattle.prost_reflect_linking.proofs.lists.lists_of_messages.Given as goal
 

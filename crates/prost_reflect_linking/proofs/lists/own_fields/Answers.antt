@@ -1,4 +1,5 @@
-use Rattle.prost_reflect_linking.proofs.Common.{◌≡◌, ℕ, ◌+◌, ◌<◌, true, false, not, cond, List, [], ◌∷◌, ◌++◌, length, map, drop, get_or, sym, ap, ◌∙◌, append_assoc, FieldRow, field_row, places_from, front_left}
+use Rattle.std.specs.Prelude.{◌≡◌, ◌+◌, ◌<◌, ◌∷◌, ◌++◌}
+use Rattle.prost_reflect_linking.proofs.Common.{ℕ, true, false, not, cond, List, [], length, map, drop, get_or, sym, ap, ◌∙◌, append_assoc, FieldRow, field_row, places_from, front_left}
 use Rattle.prost_reflect_tables.specs.declared.tables.FieldTable.{FieldTable}
 use Rattle.prost_reflect_linking.proofs.lists.own_fields.Goals as goal
 use Rattle.prost_reflect_linking.proofs.lists.own_fields.Goals.{then-not-field+in_ok-push, else-not-field}

@@ -1,4 +1,5 @@
-use Rattle.prost_reflect_linking.proofs.Common.{◌≡◌, ◌++◌, map, drop, not, FieldRow, field_row, places_from, own_fields}
+use Rattle.std.specs.Prelude.{◌≡◌, ◌++◌}
+use Rattle.prost_reflect_linking.proofs.Common.{map, drop, not, FieldRow, field_row, places_from, own_fields}
 use Rattle.prost_reflect_linking.proofs.lists.own_fields.Given as goal
 
 abbrev pub invariant-loop-place : goal.invariant-loop-place

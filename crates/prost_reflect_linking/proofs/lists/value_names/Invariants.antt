@@ -1,4 +1,5 @@
-use Rattle.prost_reflect_linking.proofs.Common.{◌≡◌, ◌++◌, map, drop, text_list, definition_row, value_names}
+use Rattle.std.specs.Prelude.{◌≡◌, ◌++◌}
+use Rattle.prost_reflect_linking.proofs.Common.{map, drop, text_list, definition_row, value_names}
 use Rattle.prost_reflect_linking.proofs.lists.value_names.Given as goal
 
 abbrev pub invariant-loop-value : goal.invariant-loop-value

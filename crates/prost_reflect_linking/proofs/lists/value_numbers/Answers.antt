@@ -1,4 +1,5 @@
-use Rattle.prost_reflect_linking.proofs.Common.{rules, ◌+◌, ◌++◌, drop, map, ap, ◌∙◌, definition_row, value_number, rows_more}
+use Rattle.std.specs.Prelude.{◌+◌, ◌++◌}
+use Rattle.prost_reflect_linking.proofs.Common.{rules, drop, map, ap, ◌∙◌, definition_row, value_number, rows_more}
 use Rattle.prost_reflect_linking.proofs.lists.value_numbers.Goals as goal
 
 pub loop-value-preserved : goal.loop-value-preserved

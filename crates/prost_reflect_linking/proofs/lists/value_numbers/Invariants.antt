@@ -1,4 +1,5 @@
-use Rattle.prost_reflect_linking.proofs.Common.{◌≡◌, ◌++◌, drop, map, definition_row, value_number}
+use Rattle.std.specs.Prelude.{◌≡◌, ◌++◌}
+use Rattle.prost_reflect_linking.proofs.Common.{drop, map, definition_row, value_number}
 use Rattle.prost_reflect_linking.proofs.lists.value_numbers.Given as goal
 
 abbrev pub invariant-loop-value : goal.invariant-loop-value

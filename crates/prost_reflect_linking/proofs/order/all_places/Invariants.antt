@@ -1,4 +1,5 @@
-use Rattle.prost_reflect_linking.proofs.Common.{◌≡◌, ◌++◌, true, drop, places_from, all_places}
+use Rattle.std.specs.Prelude.{◌≡◌, ◌++◌}
+use Rattle.prost_reflect_linking.proofs.Common.{true, drop, places_from, all_places}
 use Rattle.prost_reflect_linking.proofs.order.all_places.Given as goal
 
 abbrev pub invariant-loop-place : goal.invariant-loop-place

@@ -1,4 +1,5 @@
-use Rattle.prost_reflect_linking.proofs.Common.{◌≡◌, rules, ap, always_returns_same, ranks_by, number_at, number_before}
+use Rattle.std.specs.Prelude.{◌≡◌}
+use Rattle.prost_reflect_linking.proofs.Common.{rules, ap, always_returns_same, ranks_by, number_at, number_before}
 use Rattle.std.specs.Ordering.{is_lt, int_cmp}
 use Rattle.std.proofs.lemmas.Cmp.{int_cmp_total}
 use Rattle.prost_reflect_tables.proofs.Orders.{is_sorted_by}

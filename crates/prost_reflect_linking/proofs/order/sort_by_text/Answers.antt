@@ -1,4 +1,5 @@
-use Rattle.prost_reflect_linking.proofs.Common.{◌≡◌, rules, ap, always_returns_same, ranks_by, text_list, text_at, text_before}
+use Rattle.std.specs.Prelude.{◌≡◌}
+use Rattle.prost_reflect_linking.proofs.Common.{rules, ap, always_returns_same, ranks_by, text_list, text_at, text_before}
 use Rattle.std.specs.Ordering.{is_lt, nat_cmp}
 use Rattle.std.specs.Cmp.Lexicographic.{slice_cmp}
 use Rattle.std.proofs.lemmas.Cmp.{nat_list_cmp_total}

@@ -1,4 +1,5 @@
-use Rattle.prost_reflect_linking.proofs.Common.{◌≡◌, ◌++◌, map, drop, definition_row, flat_rows, method_table_row, links_of, linked_method}
+use Rattle.std.specs.Prelude.{◌≡◌, ◌++◌}
+use Rattle.prost_reflect_linking.proofs.Common.{map, drop, definition_row, flat_rows, method_table_row, links_of, linked_method}
 use Rattle.prost_reflect_linking.proofs.services.linked_methods.Given as goal
 
 abbrev pub invariant-loop-method : goal.invariant-loop-method

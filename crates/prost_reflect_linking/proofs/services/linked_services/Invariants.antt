@@ -1,4 +1,5 @@
-use Rattle.prost_reflect_linking.proofs.Common.{◌≡◌, ◌++◌, map, drop, service_row, flat_rows, service_table_row, links_of, linked_service}
+use Rattle.std.specs.Prelude.{◌≡◌, ◌++◌}
+use Rattle.prost_reflect_linking.proofs.Common.{map, drop, service_row, flat_rows, service_table_row, links_of, linked_service}
 use Rattle.prost_reflect_linking.proofs.services.linked_services.Given as goal
 
 abbrev pub invariant-loop-service : goal.invariant-loop-service
