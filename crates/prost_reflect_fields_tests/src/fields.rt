@@ -20,36 +20,46 @@ type Answer = Option<u32>;
 /// A number, its value, and how many unknown fields it has.
 type Seen = (u32, Option<u32>, usize);
 
-/// Makes a call beside no notes. At a number that no field has, a set and a write add an unknown field in place of a value.
+/// The number of a call: of every third one that of the list, from 1 to 12, and else one of 241 above these.
+fn number_at(step: usize, call: Call) -> u32 {
+    match step % 3 {
+        0 => call.number(),
+        _ => ((step % 241 * 7 % 241) as u32).wrapping_add(13),
+    }
+}
+
+/// Makes a call at a number, beside no notes. At one below 13 that no field has, a set and a write add an unknown field in place
+/// of a value.
 fn apply<S: NumberMap<FieldSlot<u32>>>(
     fields: &mut S,
     alloc: Global,
     descriptor: &PooledType,
+    number: u32,
     call: Call,
 ) -> Result<Answer, Fail> {
-    let is_known = descriptor.field_place(call.number()).is_some();
+    let has_values = number > 12 || descriptor.field_place(number).is_some();
     match call {
-        Call::Set(number, value) if is_known => {
+        Call::Set(_, value) if has_values => {
             drop(fields.take_notes());
             let oneof = oneof_of(descriptor, number);
             set_value(fields, alloc, descriptor, number, oneof, value)?;
             Ok(None)
         }
-        Call::Write(number, amount) if is_known => {
+        Call::Write(_, amount) if has_values => {
             drop(fields.take_notes());
             let value = value_mut_or(fields, alloc, descriptor, number, 1000)?;
             *value = value.wrapping_add(amount);
             Ok(Some(*value))
         }
-        Call::Set(number, _) | Call::Write(number, _) => {
+        Call::Set(_, _) | Call::Write(_, _) => {
             add_record(fields, alloc, number)?;
             Ok(None)
         }
-        Call::Clear(number) => {
+        Call::Clear(_) => {
             drop(take_value(fields, alloc, number));
             Ok(None)
         }
-        Call::Take(number) => Ok(take_value(fields, alloc, number)),
+        Call::Take(_) => Ok(take_value(fields, alloc, number)),
     }
 }
 
@@ -76,53 +86,69 @@ fn seen(number: u32, entry: &FieldSlot<u32>) -> Seen {
     (number, entry.value().copied(), unknown)
 }
 
-/// What stands at the numbers below 13.
+/// What stands at the numbers, from the lowest up.
 fn walk<S: NumberMap<FieldSlot<u32>>>(fields: &S, alloc: Global) -> Result<Vec<Seen>, AllocError> {
     let mut walked = Vec::new(alloc);
-    for number in 0..13_u32 {
-        if let Some(entry) = fields.get(number) {
-            walked.push(seen(number, entry))?;
+    let mut from: u32 = 0;
+    for _ in 0..256 {
+        match fields.first_from(from) {
+            Some((number, entry)) => {
+                walked.push(seen(number, entry))?;
+                from = number.wrapping_add(1);
+            }
+            None => break,
         }
     }
     Ok(walked)
 }
 
+/// Whether the walk from the highest number down gives the same, the last one first.
+fn walks_back<S: NumberMap<FieldSlot<u32>>>(fields: &S, walked: &[Seen]) -> bool {
+    let mut below = u32::MAX;
+    for expected in walked.iter().rev() {
+        match fields.last_below(below) {
+            Some((number, entry)) if seen(number, entry) == *expected => below = number,
+            _ => return false,
+        }
+    }
+    fields.last_below(below).is_none()
+}
+
 /// What a table by number says that stands there.
 #[derive(Drop)]
 struct Expected {
-    values: [Option<u32>; 13],
-    unknown: [usize; 13],
+    values: [Option<u32>; 256],
+    unknown: [usize; 256],
 }
 
 impl Expected {
-    /// The oneof of a number, the number itself for a field of none, and 0 for no field.
+    /// The oneof of a number, the number itself where it is of none, and 0 where it has no values.
     fn group(number: u32) -> u32 {
         match number {
-            2 | 4 | 9 => 100,
-            6 | 8 => 200,
-            1 | 5 | 12 => number,
-            _ => 0,
+            2 | 4 | 9 => 1000,
+            6 | 8 => 2000,
+            3 | 7 | 10 | 11 => 0,
+            _ => number,
         }
     }
 
     fn set(&mut self, number: u32, value: u32) {
         for other in 1..13_u32 {
             if Expected::group(other) == Expected::group(number) {
-                self.values[other as usize % 13] = None;
+                self.values[other as usize % 256] = None;
             }
         }
-        self.values[number as usize % 13] = Some(value);
+        self.values[number as usize % 256] = Some(value);
     }
 
     fn add_unknown(&mut self, number: u32) {
-        let place = number as usize % 13;
+        let place = number as usize % 256;
         self.unknown[place] = self.unknown[place].saturating_add(1);
     }
 
-    /// Makes a call, and gives what it answers.
-    fn apply(&mut self, call: Call) -> Answer {
-        let number = call.number();
-        let place = number as usize % 13;
+    /// Makes a call at a number, and gives what it answers.
+    fn apply(&mut self, number: u32, call: Call) -> Answer {
+        let place = number as usize % 256;
         let old = self.values[place];
         match call {
             Call::Set(_, _) | Call::Write(_, _) if Expected::group(number) == 0 => {
@@ -152,7 +178,7 @@ impl Expected {
     /// What stands at the numbers, from the lowest up.
     fn walk(&self, alloc: Global) -> Result<Vec<Seen>, AllocError> {
         let mut walked = Vec::new(alloc);
-        for number in 0..13_u32 {
+        for number in 0..256_u32 {
             let (value, unknown) = (self.values[number as usize], self.unknown[number as usize]);
             if value.is_some() || unknown > 0 {
                 walked.push((number, value, unknown))?;
@@ -162,19 +188,21 @@ impl Expected {
     }
 }
 
-/// Makes a call on the map and on the table. Says whether both answer the same, and whether the map then has what the
-/// table says.
+/// Makes a call on the map and on the table. Says whether both answer the same, and whether both walks over the map then give
+/// what the table says.
 fn agrees_after<S: NumberMap<FieldSlot<u32>>>(
     fields: &mut S,
     alloc: Global,
     descriptor: &PooledType,
     expected: &mut Expected,
+    number: u32,
     call: Call,
 ) -> Result<bool, Fail> {
-    if apply(fields, alloc, descriptor, call)? != expected.apply(call) {
+    if apply(fields, alloc, descriptor, number, call)? != expected.apply(number, call) {
         return Ok(false);
     }
-    Ok(walk(fields, alloc)? == expected.walk(alloc)?)
+    let walked = walk(fields, alloc)?;
+    Ok(walked == expected.walk(alloc)? && walks_back(fields, &walked))
 }
 
 /// Whether the calls that find what a number has find what the table says.
@@ -183,7 +211,7 @@ fn agrees_at<S: NumberMap<FieldSlot<u32>>>(
     expected: &Expected,
     number: u32,
 ) -> bool {
-    let place = number as usize % 13;
+    let place = number as usize % 256;
     let unknown = match unknown_at(fields, number) {
         Some(unknown) => unknown.len(),
         None => 0,
@@ -196,44 +224,48 @@ fn agrees_at<S: NumberMap<FieldSlot<u32>>>(
     unknown == expected.unknown[place] && value == expected.values[place] && lent == value
 }
 
-/// How many calls agree with the table, up to the first that does not.
+/// How many calls agree with the table, up to the first that does not, and at how many numbers something stands then.
 fn agreeing_calls<S: NumberMap<FieldSlot<u32>>>(
     fields: &mut S,
     alloc: Global,
-) -> Result<usize, Fail> {
+) -> Result<(usize, usize), Fail> {
     let descriptor = choices(alloc)?;
     let mut expected = Expected {
-        values: [None; 13],
-        unknown: [0; 13],
+        values: [None; 256],
+        unknown: [0; 256],
     };
     for number in [5, 8, 8] {
         add_record(fields, alloc, number)?;
         expected.add_unknown(number);
     }
     let calls = calls(alloc)?;
+    let mut agreeing = 0;
     for (step, call) in calls.iter().enumerate() {
-        if !agrees_after(fields, alloc, &descriptor, &mut expected, *call)? {
-            return Ok(step);
+        let number = number_at(step, *call);
+        if !agrees_after(fields, alloc, &descriptor, &mut expected, number, *call)? {
+            break;
         }
+        agreeing = step.saturating_add(1);
     }
-    for number in 0..13_u32 {
+    for number in 0..256_u32 {
         if !agrees_at(fields, &expected, number) {
             return Err(Fail::from("a number has another value than the table"));
         }
     }
-    Ok(calls.len())
+    Ok((agreeing, expected.walk(alloc)?.len()))
 }
 
+/// The map is a list at first, and stands in runs once more than 128 numbers have something.
 #[test]
 fn a_sorted_list_agrees_with_a_table(rt: HostRuntime) -> Result<(), Fail> {
     let mut fields: SortedMap<FieldSlot<u32>> = SortedMap::new(rt.alloc());
-    assert_eq!(rt; agreeing_calls(&mut fields, rt.alloc())?, 500);
+    assert_eq!(rt; agreeing_calls(&mut fields, rt.alloc())?, (500, 157));
     Ok(())
 }
 
 #[test]
 fn a_tree_agrees_with_a_table(rt: HostRuntime) -> Result<(), Fail> {
     let mut fields: BTreeMap<u32, FieldSlot<u32>> = BTreeMap::new(rt.alloc());
-    assert_eq!(rt; agreeing_calls(&mut fields, rt.alloc())?, 500);
+    assert_eq!(rt; agreeing_calls(&mut fields, rt.alloc())?, (500, 157));
     Ok(())
 }
