@@ -17,8 +17,6 @@ mod found;
 #[cfg(test)]
 mod handles;
 #[cfg(test)]
-mod lookups;
-#[cfg(test)]
 mod many;
 #[cfg(test)]
 mod named;

@@ -1,12 +1,9 @@
-//! Files with one fault each, and files that are taken though they look like these.
+//! Files with one fault each, and files that are taken though they look like these: tables for `refusals`.
 
-use crate::tables::{PLAIN, refusal};
 use prost_reflect_tables::PoolError;
-use std::alloc::{AllocError, Global};
-use std::test::Fail;
 
 /// What is put behind a sound file, `package p; message M { int32 f = 1; }`, and why it is refused then.
-static FAULTS: [(&[u8], PoolError); 80] = [
+pub(crate) static FAULTS: [(&[u8], PoolError); 80] = [
     // A message, a field, an extension, a oneof, an enum, a value, a service and a method without a name, or with an
     // empty one.
     (b"\"\x00", PoolError::MissingName),
@@ -335,7 +332,7 @@ static FAULTS: [(&[u8], PoolError); 80] = [
 ];
 
 /// What is put behind it, and taken.
-static TAKEN: [&[u8]; 15] = [
+pub(crate) static TAKEN: [&[u8]; 15] = [
     // The numbers from 19000 to 19999, and the greatest.
     b"\"\x10\x0a\x01N\x12\x0b\x0a\x01f\x18\xb8\x94\x01 \x01(\x05",
     b"\"\x1f\x0a\x01N\x12\x0b\x0a\x01f\x18\x9f\x9c\x01 \x01(\x05\x12\x0d\x0a\x01g\x18\xff\xff\xff\xff\x01 \x01(\x05",
@@ -363,35 +360,3 @@ static TAKEN: [&[u8]; 15] = [
     b"\";\x0a\x01N\x12\x11\x0a\x01m\x18\x01 \x03(\x0b2\x06.p.N.T\x1a#\x0a\x01T\x12\x09\x0a\x01k\x18\x01 \x01(\x09\x12\
     \x0f\x0a\x01v\x18\x02 \x01(\x0b2\x04.p.M:\x028\x01",
 ];
-
-/// The sound file with the bytes behind it.
-fn with_rest(alloc: Global, rest: &[u8]) -> Result<Vec<u8>, AllocError> {
-    let mut file = Vec::from_slice(alloc, PLAIN)?;
-    file.extend_from_slice(rest)?;
-    Ok(file)
-}
-
-/// Why the sound file with the bytes behind it is refused, or nothing.
-fn refusal_with(alloc: Global, rest: &[u8]) -> Result<Option<PoolError>, Fail> {
-    refusal(alloc, with_rest(alloc, rest)?.as_slice())
-}
-
-#[test]
-fn each_fault_is_named(rt: HostRuntime) -> Result<(), Fail> {
-    for (place, (rest, fault)) in FAULTS.iter().enumerate() {
-        assert_eq!(rt;
-            refusal_with(rt.alloc(), rest)?.as_ref(),
-            Some(fault),
-            "{place}"
-        );
-    }
-    Ok(())
-}
-
-#[test]
-fn what_is_no_fault_is_taken(rt: HostRuntime) -> Result<(), Fail> {
-    for (place, rest) in TAKEN.iter().enumerate() {
-        assert_eq!(rt; refusal_with(rt.alloc(), rest)?, None, "{place}");
-    }
-    Ok(())
-}

@@ -3,6 +3,10 @@
 #![tactic(auto)]
 
 #[cfg(test)]
+mod defaults;
+#[cfg(test)]
 mod faults;
+#[cfg(test)]
+mod refusals;
 #[cfg(test)]
 mod tables;

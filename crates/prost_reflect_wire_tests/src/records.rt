@@ -22,6 +22,9 @@ static EXTENDED_SET: &[u8] =
     \x0a\x04Item\x12\x12\x0a\x04text\x18\x01\x20\x01(\x09R\x04text2&\x0a\x04item\x12\x07.ms.Set\x18\xb9`\x20\
     \x01(\x0b2\x08.ms.ItemR\x04item";
 
+/// A record that is read, or why it is refused.
+type Read<T> = Result<T, DecodeError>;
+
 /// Texts of a record, and what they have to be.
 fn texts_are(rows: &[(&Option<String>, &str)]) -> bool {
     for (text, expected) in rows {
@@ -60,50 +63,67 @@ fn numbers_are(rows: &[(Option<i32>, Option<i32>)]) -> bool {
 
 static EXTENSION_RANGE: &[u8] = b"\x08\x04\x10\xff\xff\xff\xff\x07\x1a\x01\x01\x1a\x01\x02";
 
-fn is_extension_range(range: &ExtensionRange) -> bool {
+fn is_extension_range(read: &Read<ExtensionRange>) -> bool {
+    let Ok(range) = read else {
+        return false;
+    };
     let numbers = [(range.start, Some(4)), (range.end, Some(2147483647))];
     numbers_are(&numbers) && bytes_are(&range.options, &[1, 2])
 }
 
 static RESERVED_RANGE: &[u8] = b"\x10\x05";
 
-fn is_reserved_range(range: &ReservedRange) -> bool {
+fn is_reserved_range(read: &Read<ReservedRange>) -> bool {
+    let Ok(range) = read else {
+        return false;
+    };
     numbers_are(&[(range.start, None), (range.end, Some(5))])
 }
 
 static ENUM_RESERVED_RANGE: &[u8] = b"\x08\xfe\xff\xff\xff\xff\xff\xff\xff\xff\x01\x10\x05\x10\x07";
 
-fn is_enum_reserved_range(range: &EnumReservedRange) -> bool {
+fn is_enum_reserved_range(read: &Read<EnumReservedRange>) -> bool {
+    let Ok(range) = read else {
+        return false;
+    };
     numbers_are(&[(range.start, Some(-2)), (range.end, Some(7))])
 }
 
 static ENUM_VALUE: &[u8] = b"\x0a\x01A\x10\x00\x1a\x01\x07";
 
-fn is_enum_value(value: &EnumValueDescriptorProto) -> bool {
+fn is_enum_value(read: &Read<EnumValueDescriptorProto>) -> bool {
+    let Ok(value) = read else {
+        return false;
+    };
     text_is(&value.name, "A") && value.number == Some(0) && bytes_are(&value.options, &[7])
 }
 
 static ONEOF: &[u8] = b"\x12\x00\x0a\x01o";
 
-fn is_oneof(oneof: &OneofDescriptorProto) -> bool {
+fn is_oneof(read: &Read<OneofDescriptorProto>) -> bool {
+    let Ok(oneof) = read else {
+        return false;
+    };
     text_is(&oneof.name, "o") && bytes_are(&oneof.options, b"")
 }
 
 #[test]
-fn small_records(rt: HostRuntime) -> Result<(), Fail> {
+fn small_records(rt: HostRuntime) {
     let alloc = rt.alloc();
-    assert!(rt; is_extension_range(&ExtensionRange::decode(alloc, EXTENSION_RANGE)?));
-    assert!(rt; is_reserved_range(&ReservedRange::decode(alloc, RESERVED_RANGE)?));
-    assert!(rt; is_enum_reserved_range(&EnumReservedRange::decode(alloc, ENUM_RESERVED_RANGE)?));
-    assert!(rt; is_enum_value(&EnumValueDescriptorProto::decode(alloc, ENUM_VALUE)?));
-    assert!(rt; is_oneof(&OneofDescriptorProto::decode(alloc, ONEOF)?));
-    Ok(())
+    assert!(rt; is_extension_range(&ExtensionRange::decode(alloc, EXTENSION_RANGE)));
+    assert!(rt; is_reserved_range(&ReservedRange::decode(alloc, RESERVED_RANGE)));
+    assert!(rt; is_enum_reserved_range(&EnumReservedRange::decode(alloc, ENUM_RESERVED_RANGE)));
+    assert!(rt; is_enum_value(&EnumValueDescriptorProto::decode(alloc, ENUM_VALUE)));
+    assert!(rt; is_oneof(&OneofDescriptorProto::decode(alloc, ONEOF)));
 }
 
 static FIELD: &[u8] =
     b"\x0a\x01a\x12\x02.M\x18\x64\x20\x01\x28\x0b\x32\x02.N\x3a\x017\x42\x02\x08\x01\x48\x03\x52\x01j\x88\x01\x01";
 
-fn is_field(field: &FieldDescriptorProto) -> bool {
+fn is_field(read: &Read<FieldDescriptorProto>) -> bool {
+    let Ok(field) = read else {
+        return false;
+    };
     let texts = [
         (&field.name, "a"),
         (&field.extendee, ".M"),
@@ -126,7 +146,10 @@ fn is_field(field: &FieldDescriptorProto) -> bool {
 static ENUM: &[u8] =
     b"\x0a\x01K\x12\x05\x0a\x01A\x10\x00\x12\x03\x0a\x01B\x1a\x02\x10\x01\x22\x04\x08\x02\x10\x03\x2a\x01X\x2a\x01Y";
 
-fn is_enum(kinds: &EnumDescriptorProto) -> bool {
+fn is_enum(read: &Read<EnumDescriptorProto>) -> bool {
+    let Ok(kinds) = read else {
+        return false;
+    };
     text_is(&kinds.name, "K")
         && bytes_are(&kinds.options, &[16, 1])
         && has_its_values(kinds)
@@ -155,7 +178,10 @@ fn has_its_reserved_ones(kinds: &EnumDescriptorProto) -> bool {
 
 static METHOD: &[u8] = b"\x0a\x01m\x12\x02.A\x1a\x02.B\x22\x01\x07\x28\x01\x30\x00";
 
-fn is_method_of_a_and_b(method: &MethodDescriptorProto) -> bool {
+fn is_method_of_a_and_b(read: &Read<MethodDescriptorProto>) -> bool {
+    let Ok(method) = read else {
+        return false;
+    };
     let texts = [
         (&method.name, "m"),
         (&method.input_type, ".A"),
@@ -169,7 +195,10 @@ fn is_method_of_a_and_b(method: &MethodDescriptorProto) -> bool {
 
 static SERVICE: &[u8] = b"\x0a\x01S\x12\x03\x0a\x01m\x12\x00\x1a\x01\x07";
 
-fn is_service_of_two(service: &ServiceDescriptorProto) -> bool {
+fn is_service_of_two(read: &Read<ServiceDescriptorProto>) -> bool {
+    let Ok(service) = read else {
+        return false;
+    };
     let [first, second] = service.method.as_slice() else {
         return false;
     };
@@ -179,13 +208,12 @@ fn is_service_of_two(service: &ServiceDescriptorProto) -> bool {
 }
 
 #[test]
-fn records_with_a_name(rt: HostRuntime) -> Result<(), Fail> {
+fn records_with_a_name(rt: HostRuntime) {
     let alloc = rt.alloc();
-    assert!(rt; is_field(&FieldDescriptorProto::decode(alloc, FIELD)?));
-    assert!(rt; is_enum(&EnumDescriptorProto::decode(alloc, ENUM)?));
-    assert!(rt; is_method_of_a_and_b(&MethodDescriptorProto::decode(alloc, METHOD)?));
-    assert!(rt; is_service_of_two(&ServiceDescriptorProto::decode(alloc, SERVICE)?));
-    Ok(())
+    assert!(rt; is_field(&FieldDescriptorProto::decode(alloc, FIELD)));
+    assert!(rt; is_enum(&EnumDescriptorProto::decode(alloc, ENUM)));
+    assert!(rt; is_method_of_a_and_b(&MethodDescriptorProto::decode(alloc, METHOD)));
+    assert!(rt; is_service_of_two(&ServiceDescriptorProto::decode(alloc, SERVICE)));
 }
 
 /// Each number of a message's record once, out of order; number 63 is unknown.
@@ -193,7 +221,10 @@ static MESSAGE: &[u8] =
     b"\x52\x01R\x4a\x02\x08\x01\x42\x03\x0a\x01o\x3a\x02\x38\x01\x32\x02\x18\x64\x2a\x02\x10\x09\x22\x03\x0a\x01E\x1a\
     \x07\x0a\x01N\x1a\x02\x0a\x00\xf8\x03\x01\x12\x02\x18\x05\x0a\x01M";
 
-fn is_message(message: &DescriptorProto) -> bool {
+fn is_message(read: &Read<DescriptorProto>) -> bool {
+    let Ok(message) = read else {
+        return false;
+    };
     text_is(&message.name, "M")
         && bytes_are(&message.options, &[0x38, 1])
         && has_its_fields(message)
@@ -247,7 +278,10 @@ static FILE: &[u8] =
     b"\x0a\x01a\x42\x02\x10\x01\x70\x01\x42\x02\x20\x01\x0a\x01b\x50\x05\x52\x02\x00\x01\x50\x07\x58\x02\x1a\x01d\x4a\
     \x00\x62\x06proto3";
 
-fn is_file(file: &FileDescriptorProto) -> bool {
+fn is_file(read: &Read<FileDescriptorProto>) -> bool {
+    let Ok(file) = read else {
+        return false;
+    };
     texts_are(&[(&file.name, "b"), (&file.syntax, "proto3")])
         && file.package.is_none()
         && bytes_are(&file.options, &[0x10, 1, 0x20, 1])
@@ -266,7 +300,10 @@ fn has_its_dependencies(file: &FileDescriptorProto) -> bool {
 
 static DEFINITIONS: &[u8] = b"\x22\x03\x0a\x01M\x2a\x03\x0a\x01E\x32\x03\x0a\x01S\x3a\x03\x0a\x01x";
 
-fn has_its_definitions(file: &FileDescriptorProto) -> bool {
+fn has_its_definitions(read: &Read<FileDescriptorProto>) -> bool {
+    let Ok(file) = read else {
+        return false;
+    };
     let [message] = file.message_type.as_slice() else {
         return false;
     };
@@ -288,16 +325,18 @@ fn has_its_definitions(file: &FileDescriptorProto) -> bool {
 }
 
 #[test]
-fn messages_and_files(rt: HostRuntime) -> Result<(), Fail> {
+fn messages_and_files(rt: HostRuntime) {
     let alloc = rt.alloc();
-    assert!(rt; is_message(&DescriptorProto::decode(alloc, MESSAGE)?));
-    assert!(rt; is_file(&FileDescriptorProto::decode(alloc, FILE)?));
-    assert!(rt; has_its_definitions(&FileDescriptorProto::decode(alloc, DEFINITIONS)?));
-    Ok(())
+    assert!(rt; is_message(&DescriptorProto::decode(alloc, MESSAGE)));
+    assert!(rt; is_file(&FileDescriptorProto::decode(alloc, FILE)));
+    assert!(rt; has_its_definitions(&FileDescriptorProto::decode(alloc, DEFINITIONS)));
 }
 
 /// Whether the set is that of `m.proto`.
-fn is_small_set(set: &FileDescriptorSet) -> bool {
+fn is_small_set(read: &Read<FileDescriptorSet>) -> bool {
+    let Ok(set) = read else {
+        return false;
+    };
     let [file] = set.file.as_slice() else {
         return false;
     };
@@ -329,7 +368,10 @@ fn is_my_message(message: &DescriptorProto) -> bool {
 }
 
 /// Whether the set is that with an extension.
-fn is_extended_set(set: &FileDescriptorSet) -> bool {
+fn is_extended_set(read: &Read<FileDescriptorSet>) -> bool {
+    let Ok(set) = read else {
+        return false;
+    };
     let [file] = set.file.as_slice() else {
         return false;
     };
@@ -356,10 +398,9 @@ fn has_the_extension(message: &DescriptorProto) -> bool {
 }
 
 #[test]
-fn sets(rt: HostRuntime) -> Result<(), Fail> {
-    assert!(rt; is_small_set(&FileDescriptorSet::decode(rt.alloc(), SMALL_SET)?));
-    assert!(rt; is_extended_set(&FileDescriptorSet::decode(rt.alloc(), EXTENDED_SET)?));
-    Ok(())
+fn sets(rt: HostRuntime) {
+    assert!(rt; is_small_set(&FileDescriptorSet::decode(rt.alloc(), SMALL_SET)));
+    assert!(rt; is_extended_set(&FileDescriptorSet::decode(rt.alloc(), EXTENDED_SET)));
 }
 
 /// Why the bytes are no set of files, or nothing.
