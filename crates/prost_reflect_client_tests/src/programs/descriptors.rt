@@ -128,22 +128,3 @@ pub fn default_key(alloc: Global, kind: &Kind) -> Option<MapKey> {
         _ => None,
     }
 }
-
-/// The same of a kind that is handed over.
-pub fn default_key_of(alloc: Global, kind: Kind) -> Option<MapKey> {
-    match kind {
-        Kind::Int32
-        | Kind::Int64
-        | Kind::Uint32
-        | Kind::Uint64
-        | Kind::Sint32
-        | Kind::Sint64
-        | Kind::Fixed32
-        | Kind::Fixed64
-        | Kind::Sfixed32
-        | Kind::Sfixed64
-        | Kind::Bool
-        | Kind::String => Some(MapKey::default_value(alloc, &kind)),
-        _ => None,
-    }
-}

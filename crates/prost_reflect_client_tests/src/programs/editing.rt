@@ -168,7 +168,7 @@ pub fn set_twice(message: &mut DynamicMessage, name: &str) -> Result<(), AllocEr
     message.set_field_by_name(name, Value::I32(7))
 }
 
-/// The same by number.
+/// Sets the field of a number twice, where the first time tells that the value fits.
 pub fn set_number_twice(message: &mut DynamicMessage, number: u32) -> Result<(), AllocError> {
     if message
         .try_set_field_by_number(number, Value::I32(7))

@@ -1,8 +1,5 @@
 //! Recursions over the messages inside of a message, with no measure.
 
-ghost use Rattle.std.specs.Prelude.{◌≤◌};
-ghost use Rattle.prost_reflect_dynamic.specs.declared.message.DynamicMessage.{size-DynamicMessage};
-
 use crate::programs::error::ClientError;
 use prost_reflect::{DynamicMessage, Value};
 use std::alloc::{AllocError, Global};
@@ -113,37 +110,6 @@ pub fn clear_before(
     if message.has_field_by_name(path) {
         if let Value::Message(inside) = message.get_field_by_name_mut(alloc, path)? {
             clear_before(alloc, inside, path, name)?;
-        }
-    }
-    Ok(())
-}
-
-/// Clears a field of a name in the message and in each that two fields lead to, one inside of the next.
-#[cycle(branching)]
-pub fn clear_both(
-    alloc: Global,
-    message: &mut DynamicMessage,
-    name: &str,
-) -> Result<(), ClientError>
-    ensures { size-DynamicMessage message.new ≤ size-DynamicMessage message.old }
-{
-    message.clear_field_by_name(name);
-    clear_branch(alloc, message, "left", name)?;
-    clear_branch(alloc, message, "right", name)
-}
-
-#[cycle(branching)]
-fn clear_branch(
-    alloc: Global,
-    message: &mut DynamicMessage,
-    path: &str,
-    name: &str,
-) -> Result<(), ClientError>
-    ensures { size-DynamicMessage message.new ≤ size-DynamicMessage message.old }
-{
-    if message.has_field_by_name(path) {
-        if let Value::Message(inside) = message.get_field_by_name_mut(alloc, path)? {
-            clear_both(alloc, inside, name)?;
         }
     }
     Ok(())
