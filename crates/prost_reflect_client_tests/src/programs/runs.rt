@@ -1,10 +1,12 @@
 //! What these functions answer.
 
 use crate::fields::types::{choices, message_of};
+use crate::programs::comparing::hold_the_same;
 use crate::programs::descriptors::{
     default_key, has_extensions, own_extensions, own_fields, shown_by_full_name,
 };
 use crate::programs::editing::{set_number_twice, set_twice};
+use crate::programs::merging::read_in_pieces;
 use crate::programs::nesting::clear_before;
 use prost_reflect::{DynamicMessage, Kind, MapKey};
 use prost_reflect_samples::sets;
@@ -64,5 +66,22 @@ fn a_field_is_cleared_inside(rt: HostRuntime) -> Result<(), Fail> {
     let bytes = &[0x30, 5, 0x3a, 6, 0x30, 5, 0x3a, 2, 0x30, 5];
     let mut message = message_of(rt.alloc(), sets::kinds(), "v.V", bytes)?;
     assert!(rt; clears_inside(rt.alloc(), &mut message)?);
+    Ok(())
+}
+
+/// Whether the message in two pieces is the message, and each piece holds something else.
+fn is_joined(alloc: Global, message: &DynamicMessage) -> Result<bool, Fail> {
+    let joined = read_in_pieces(alloc, message.descriptor()?, &BYTES[..2], &BYTES[2..])?;
+    let front = choices(alloc, &BYTES[..2])?;
+    Ok(
+        hold_the_same(alloc, message, &joined)? == Some(true)
+            && hold_the_same(alloc, message, &front)? == Some(false),
+    )
+}
+
+#[test]
+fn pieces_hold_what_the_whole_holds(rt: HostRuntime) -> Result<(), Fail> {
+    let message = choices(rt.alloc(), BYTES)?;
+    assert!(rt; is_joined(rt.alloc(), &message)?);
     Ok(())
 }
