@@ -1,10 +1,13 @@
 //! Files that protoc wrote, added in each way, and written again.
 
 use crate::named::{file_of, message_of};
-use crate::pools::{is_written_as, joined};
+use crate::pools::{SET_M, is_written_as, joined, refusal};
 use crate::schema::SCHEMA;
 use crate::whole::WHOLE;
-use prost_reflect::{DescriptorPool, FileDescriptor, FileDescriptorSet, MessageDescriptor, Proto};
+use prost_reflect::{
+    DecodeError, DescriptorPool, FileDescriptor, FileDescriptorSet, MessageDescriptor, PoolError,
+    Proto,
+};
 use std::alloc::Global;
 use std::test::Fail;
 
@@ -28,23 +31,19 @@ fn of_set_and_list(alloc: Global, bytes: &[u8], list: &[u8]) -> Result<Descripto
 /// Whether a pool of the bytes is equal, and these are written of the pool.
 fn is_read_and_written(alloc: Global, pool: &DescriptorPool, bytes: &[u8]) -> Result<bool, Fail> {
     let is_equal = *pool == DescriptorPool::decode(alloc, bytes)?;
-    Ok(is_written_behind(alloc, pool, bytes)? && is_equal)
-}
-
-/// Whether the pool is appended as these bytes.
-fn is_written_behind(alloc: Global, pool: &DescriptorPool, bytes: &[u8]) -> Result<bool, Fail> {
     let mut written = Vec::new(alloc);
     pool.encode(&mut written)?;
-    Ok(written.as_slice() == bytes)
+    Ok(is_equal && written.as_slice() == bytes)
 }
 
 /// Records are added as a set and as a list, and a pool of the bytes of both is equal.
 #[test]
 fn records_are_added(rt: HostRuntime) -> Result<(), Fail> {
-    let alloc = rt.alloc();
-    assert!(rt; is_written_as(alloc, &of_set(alloc, SCHEMA)?, SCHEMA)?);
-    let both = joined(alloc, SCHEMA, WHOLE)?;
-    assert!(rt; is_read_and_written(alloc, &of_set_and_list(alloc, SCHEMA, WHOLE)?, &both)?);
+    let pool = of_set(rt.alloc(), SCHEMA)?;
+    assert!(rt; is_written_as(rt.alloc(), &pool, SCHEMA)?);
+    let both = joined(rt.alloc(), SCHEMA, WHOLE)?;
+    let pool = of_set_and_list(rt.alloc(), SCHEMA, WHOLE)?;
+    assert!(rt; is_read_and_written(rt.alloc(), &pool, &both)?);
     Ok(())
 }
 
@@ -60,15 +59,26 @@ fn with_file(alloc: Global, front: &[u8], file: &FileDescriptor) -> Result<Vec<u
     Ok(written)
 }
 
-/// Whether the file of `WHOLE` is written as its record, alone and behind what stands in front of it there.
-fn is_written_again(alloc: Global, file: &FileDescriptor) -> Result<bool, Fail> {
-    let is_alone = file.encode_to_vec(alloc)?.as_slice() == &WHOLE[LAST..];
-    Ok(with_file(alloc, &WHOLE[..LAST], file)?.as_slice() == WHOLE && is_alone)
-}
-
 #[test]
 fn a_file_is_written_again(rt: HostRuntime) -> Result<(), Fail> {
-    assert!(rt; is_written_again(rt.alloc(), &whole_file(rt.alloc())?)?);
+    let file = whole_file(rt.alloc())?;
+    assert!(rt; file.encode_to_vec(rt.alloc())?.as_slice() == &WHOLE[LAST..]);
+    assert!(rt; with_file(rt.alloc(), &WHOLE[..LAST], &file)?.as_slice() == WHOLE);
+    Ok(())
+}
+
+/// No bytes are a set without files; any other part in front of a set's end is refused.
+#[test]
+fn a_set_that_ends_early_is_refused(rt: HostRuntime) -> Result<(), Fail> {
+    let none = DescriptorPool::decode(rt.alloc(), &[])?;
+    assert!(rt; none.files().next().is_none());
+    for len in 1..SET_M.len() {
+        let refused = refusal(rt.alloc(), &SET_M[..len]);
+        assert!(rt;
+            refused == Some(PoolError::Decode(DecodeError::Truncated)),
+            "{len}"
+        );
+    }
     Ok(())
 }
 

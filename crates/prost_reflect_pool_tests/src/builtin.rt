@@ -1,6 +1,6 @@
 //! The built-in message types, found by name and by number, and the records of their files.
 
-use crate::named::{all, message_of};
+use crate::named::message_of;
 use prost_reflect::{DescriptorPool, FieldDescriptor, Kind, MessageDescriptor, builtin_pool};
 use prost_reflect_tables::Cardinality;
 use prost_reflect_types::{DescriptorProto, FieldDescriptorProto, FileDescriptorProto};
@@ -12,9 +12,17 @@ fn builtin(alloc: Global, name: &str) -> Result<MessageDescriptor, Fail> {
     message_of(&pool, name)
 }
 
-/// Whether the message type has this full name, and is equal to its copy.
-fn is_named(message: &MessageDescriptor, full_name: &str) -> Result<bool, AllocError> {
-    Ok(*message == message.clone()? && message.full_name() == full_name)
+/// Whether a copy of the message type is equal.
+fn is_its_copy(message: &MessageDescriptor) -> Result<bool, AllocError> {
+    Ok(*message == message.clone()?)
+}
+
+#[test]
+fn message_types_are_found_by_name(rt: HostRuntime) -> Result<(), Fail> {
+    let plain = builtin(rt.alloc(), "builtin.Plain")?;
+    assert!(rt; plain.full_name() == "builtin.Plain");
+    assert!(rt; is_its_copy(&plain)?);
+    Ok(())
 }
 
 /// The field of the number.
@@ -24,19 +32,15 @@ fn kept_field(alloc: Global, number: u32) -> Result<FieldDescriptor, Fail> {
 }
 
 fn is_f_sint32(field: &FieldDescriptor) -> Result<bool, AllocError> {
-    Ok(all(&[
-        field.kind()? == Kind::Sint32,
-        field.cardinality() == Cardinality::Optional,
-        field.supports_presence(),
-        field.number() == 17,
-        field.name() == "f_sint32",
-    ]))
+    let is_sint32 = field.kind()? == Kind::Sint32;
+    let is_optional = field.cardinality() == Cardinality::Optional && field.supports_presence();
+    Ok(is_sint32 && is_optional && field.number() == 17 && field.name() == "f_sint32")
 }
 
 #[test]
-fn message_types_and_fields_are_found(rt: HostRuntime) -> Result<(), Fail> {
-    assert!(rt; is_named(&builtin(rt.alloc(), "builtin.Plain")?, "builtin.Plain")?);
-    assert!(rt; is_f_sint32(&kept_field(rt.alloc(), 17)?)?);
+fn fields_are_found_by_number(rt: HostRuntime) -> Result<(), Fail> {
+    let field = kept_field(rt.alloc(), 17)?;
+    assert!(rt; is_f_sint32(&field)?);
     Ok(())
 }
 
@@ -75,21 +79,22 @@ fn is(text: &Option<String>, expected: &str) -> bool {
 
 /// Whether the field is a singular one of this number, which is the code of its type, and of this name.
 fn is_scalar(record: &FieldDescriptorProto, number: u8, name: &str) -> bool {
-    let number = Some(i32::from(number));
-    let numbers_are = record.number == number && record.type_ == number && record.label == Some(1);
-    is(&record.name, name) && numbers_are && is_bare(record)
+    let number = i32::from(number);
+    is(&record.name, name)
+        && record.number == Some(number)
+        && record.type_ == Some(number)
+        && record.label == Some(1)
+        && is_bare(record)
 }
 
 /// Whether the field has no other type, default, options and oneof, and is no extension.
 fn is_bare(record: &FieldDescriptorProto) -> bool {
-    all(&[
-        record.extendee.is_none(),
-        record.type_name.is_none(),
-        record.default_value.is_none(),
-        record.options.is_none(),
-        record.oneof_index.is_none(),
-        record.proto3_optional.is_none(),
-    ])
+    record.extendee.is_none()
+        && record.type_name.is_none()
+        && record.default_value.is_none()
+        && record.options.is_none()
+        && record.oneof_index.is_none()
+        && record.proto3_optional.is_none()
 }
 
 /// Whether the message type has the name and the fields, and nothing else.
@@ -107,16 +112,14 @@ fn is_scalar_message(record: &DescriptorProto, name: &str) -> bool {
 
 /// Whether the message type declares no more than fields.
 fn has_fields_alone(record: &DescriptorProto) -> bool {
-    all(&[
-        record.nested_type.is_empty(),
-        record.enum_type.is_empty(),
-        record.extension_range.is_empty(),
-        record.extension.is_empty(),
-        record.options.is_none(),
-        record.oneof_decl.is_empty(),
-        record.reserved_range.is_empty(),
-        record.reserved_name.is_empty(),
-    ])
+    record.nested_type.is_empty()
+        && record.enum_type.is_empty()
+        && record.extension_range.is_empty()
+        && record.extension.is_empty()
+        && record.options.is_none()
+        && record.oneof_decl.is_empty()
+        && record.reserved_range.is_empty()
+        && record.reserved_name.is_empty()
 }
 
 /// Whether the file has the name and the syntax, and the one message type alone.
@@ -124,27 +127,23 @@ fn is_scalar_file(record: &FileDescriptorProto, row: &(&str, &str, &str)) -> boo
     let [message] = record.message_type.as_slice() else {
         return false;
     };
-    all(&[
-        is(&record.name, row.0),
-        is(&record.package, "builtin"),
-        is(&record.syntax, row.1),
-        is_scalar_message(message, row.2),
-        has_message_types_alone(record),
-    ])
+    is(&record.name, row.0)
+        && is(&record.package, "builtin")
+        && is(&record.syntax, row.1)
+        && is_scalar_message(message, row.2)
+        && has_message_types_alone(record)
 }
 
 /// Whether the file declares no more than message types, and depends on no other.
 fn has_message_types_alone(record: &FileDescriptorProto) -> bool {
-    all(&[
-        record.dependency.is_empty(),
-        record.enum_type.is_empty(),
-        record.service.is_empty(),
-        record.extension.is_empty(),
-        record.options.is_none(),
-        record.source_code_info.is_none(),
-        record.public_dependency.is_empty(),
-        record.weak_dependency.is_empty(),
-    ])
+    record.dependency.is_empty()
+        && record.enum_type.is_empty()
+        && record.service.is_empty()
+        && record.extension.is_empty()
+        && record.options.is_none()
+        && record.source_code_info.is_none()
+        && record.public_dependency.is_empty()
+        && record.weak_dependency.is_empty()
 }
 
 /// Whether the pool has the files of the rows alone.

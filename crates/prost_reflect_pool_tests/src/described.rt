@@ -31,6 +31,12 @@ static V_AND_W: &[u8] =
     \x04.w.W\x18d \x03(\x05B\x02\x18\x01R\x09extValues:'\x0a\x0atop_values\x12\x04.w.W\x18e \
     \x03(\x05B\x02\x18\x01R\x09topValuesb\x06proto3";
 
+/// The only enum of `SET_S`.
+fn enum_e(alloc: Global) -> Result<EnumDescriptor, Fail> {
+    let pool = DescriptorPool::decode(alloc, SET_S)?;
+    Ok(pool.all_enums().next().ok_or("no enum")??)
+}
+
 /// Whether the next value has the name.
 fn next_is(values: &mut EnumValueDescriptors<'_>, name: &str) -> Result<bool, Fail> {
     let value = values.next().ok_or("no value")??;
@@ -58,20 +64,25 @@ fn finds_a(e: &EnumDescriptor) -> Result<bool, Fail> {
 
 /// Values stand in ascending order of their numbers, those of one number as they were declared, and the first of them is
 /// found by the number; the default is the first declared one.
-fn lists_values_by_number(pool: &DescriptorPool) -> Result<bool, Fail> {
-    let e = pool.all_enums().next().ok_or("no enum")??;
-    let is_default = default_is(&e, "B")?;
-    let is_found = finds_a(&e)?;
-    Ok(are_a_c_b(e.values())? && is_default && is_found)
+#[test]
+fn values_are_listed_by_number(rt: HostRuntime) -> Result<(), Fail> {
+    let e = enum_e(rt.alloc())?;
+    assert!(rt; are_a_c_b(e.values())?);
+    assert!(rt; default_is(&e, "B")?);
+    assert!(rt; finds_a(&e)?);
+    Ok(())
 }
 
 fn is_extension_x(extension: &ExtensionDescriptor) -> bool {
     extension.json_name() == "[p.M.x]" && extension.path() == [4, 0, 6, 0].as_slice()
 }
 
-/// Whether the only extension is `x`, which has its name in brackets in JSON.
-fn has_extension_x(pool: &DescriptorPool) -> Result<bool, Fail> {
-    Ok(is_extension_x(&pool.all_extensions().next().ok_or("no extension")??))
+#[test]
+fn an_extension_has_its_name_in_brackets_in_json(rt: HostRuntime) -> Result<(), Fail> {
+    let pool = DescriptorPool::decode(rt.alloc(), SET_S)?;
+    let extension = pool.all_extensions().next().ok_or("no extension")??;
+    assert!(rt; is_extension_x(&extension));
+    Ok(())
 }
 
 fn is_method_go(method: &MethodDescriptor) -> bool {
@@ -82,10 +93,8 @@ fn is_method_go(method: &MethodDescriptor) -> bool {
 }
 
 #[test]
-fn values_extensions_and_methods_are_described(rt: HostRuntime) -> Result<(), Fail> {
+fn a_method_says_what_is_streamed(rt: HostRuntime) -> Result<(), Fail> {
     let pool = DescriptorPool::decode(rt.alloc(), SET_S)?;
-    assert!(rt; lists_values_by_number(&pool)?);
-    assert!(rt; has_extension_x(&pool)?);
     assert!(rt; is_method_go(&method_of(&pool, "p.S")?));
     Ok(())
 }
@@ -108,17 +117,14 @@ fn is_bar_alone(mut members: FieldDescriptors<'_>) -> Result<bool, Fail> {
     Ok(is_bar && members.next().is_none())
 }
 
-/// Whether the oneof is `optional`, and has `bar` alone.
-fn lists_bar(oneof: &OneofDescriptor) -> Result<bool, Fail> {
-    Ok(is_bar_alone(oneof.fields())? && is_optional(oneof))
-}
-
 #[test]
 fn a_oneof_lists_its_fields(rt: HostRuntime) -> Result<(), Fail> {
     let pool = DescriptorPool::decode(rt.alloc(), SET_M)?;
     let message = message_of(&pool, "package.MyMessage")?;
     assert!(rt; has_nested(&message)?);
-    assert!(rt; lists_bar(&oneof_of(&message)?)?);
+    let oneof = oneof_of(&message)?;
+    assert!(rt; is_optional(&oneof));
+    assert!(rt; is_bar_alone(oneof.fields())?);
     Ok(())
 }
 

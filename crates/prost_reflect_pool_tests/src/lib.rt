@@ -17,6 +17,8 @@ mod found;
 #[cfg(test)]
 mod handles;
 #[cfg(test)]
+mod lookups;
+#[cfg(test)]
 mod many;
 #[cfg(test)]
 mod named;

@@ -1,7 +1,7 @@
 //! A descriptor set with many definitions of each sort: what is told of them, and what is found by each name and number.
 
 use crate::describe::describe;
-use crate::named::{all, enum_of, file_of, message_of, service_of};
+use crate::named::{enum_of, file_of, message_of, service_of};
 use prost_reflect::{
     DescriptorPool, EnumDescriptor, EnumValueDescriptor, ExtensionDescriptor, FieldDescriptor,
     FileDescriptor, MessageDescriptor, ServiceDescriptor,
@@ -82,89 +82,49 @@ fn append_names(out: &mut Vec<u8>, key: u8, sort: u8) -> Result<(), AllocError> 
     Ok(())
 }
 
-/// A part of a record: definitions of a sort, ranges, or names, behind a key.
-enum Part {
-    Definitions(u8, u8),
-    Ranges(u8, u8),
-    Names(u8, u8),
-}
-
-fn append_part(out: &mut Vec<u8>, part: &Part) -> Result<(), AllocError> {
-    match part {
-        Part::Definitions(key, sort) => append_all(out, *key, *sort),
-        Part::Ranges(key, first) => append_ranges(out, *key, *first),
-        Part::Names(key, sort) => append_names(out, *key, *sort),
-    }
-}
-
-fn append_parts(out: &mut Vec<u8>, parts: &[Part]) -> Result<(), AllocError> {
-    for part in parts {
-        append_part(out, part)?;
-    }
-    Ok(())
-}
-
-/// A record of a name of one letter, with the parts in it.
-fn record_of(alloc: Global, name: u8, parts: &[Part]) -> Result<Vec<u8>, AllocError> {
-    let mut record = Vec::from_slice(alloc, &[0x0a, 1, name])?;
-    append_parts(&mut record, parts)?;
+/// `M`, with fields `f`, each in a oneof `o`, message types `m`, enums `e` with a value `u`, extensions `x` of its own, whose
+/// ranges begin at 61, reserved ranges from 1 on, and reserved names `r`.
+fn message_m(alloc: Global) -> Result<Vec<u8>, AllocError> {
+    let mut record = Vec::from_slice(alloc, b"\x0a\x01M")?;
+    append_all(&mut record, 0x12, b'f')?;
+    append_all(&mut record, 0x1a, b'm')?;
+    append_all(&mut record, 0x22, b'e')?;
+    append_ranges(&mut record, 0x2a, 61)?;
+    append_all(&mut record, 0x32, b'x')?;
+    append_all(&mut record, 0x42, b'o')?;
+    append_ranges(&mut record, 0x4a, 1)?;
+    append_names(&mut record, 0x52, b'r')?;
     Ok(record)
 }
 
-/// Appends such a record behind its key.
-fn append_record(out: &mut Vec<u8>, key: u8, name: u8, parts: &[Part]) -> Result<(), AllocError> {
-    let record = record_of(*out.allocator(), name, parts)?;
-    append(out, key, record.as_slice())
+/// A record of the name with the definitions of a sort in it.
+fn with_all(alloc: Global, name: u8, key: u8, sort: u8) -> Result<Vec<u8>, AllocError> {
+    let mut record = Vec::from_slice(alloc, &[0x0a, 1, name])?;
+    append_all(&mut record, key, sort)?;
+    Ok(record)
 }
 
-/// `M`, with fields `f`, each in a oneof `o`, message types `m`, enums `e` with a value `u`, extensions `x` of its own, whose
-/// ranges begin at 61, reserved ranges from 1 on, and reserved names `r`.
-static MESSAGE_M: [Part; 8] = [
-    Part::Definitions(0x12, b'f'),
-    Part::Definitions(0x1a, b'm'),
-    Part::Definitions(0x22, b'e'),
-    Part::Ranges(0x2a, 61),
-    Part::Definitions(0x32, b'x'),
-    Part::Definitions(0x42, b'o'),
-    Part::Ranges(0x4a, 1),
-    Part::Names(0x52, b'r'),
-];
-
-/// Files `q`, on which `m.proto` depends.
-static DEPENDENCIES: [Part; 1] = [Part::Names(0x1a, b'q')];
-
-/// Message types `n`, and `E` with values `v`.
-static MESSAGES_N: [Part; 1] = [Part::Definitions(0x22, b'n')];
-
-static ENUM_E: [Part; 1] = [Part::Definitions(0x12, b'v')];
-
-/// Enums `c` with a value `w`, and `S` with methods `g`.
-static ENUMS_C: [Part; 1] = [Part::Definitions(0x2a, b'c')];
-
-static SERVICE_S: [Part; 1] = [Part::Definitions(0x12, b'g')];
-
-/// Services `s`, and extensions `y` of `N`.
-static SERVICES_S_AND_EXTENSIONS_Y: [Part; 2] = [
-    Part::Definitions(0x32, b's'),
-    Part::Definitions(0x3a, b'y'),
-];
-
-/// Appends what is in `m.proto`, of proto2, in `p`: `M`, `N` with extension ranges, and the parts above.
-fn append_definitions(file: &mut Vec<u8>) -> Result<(), AllocError> {
-    append_parts(file, &DEPENDENCIES)?;
-    append_record(file, 0x22, b'M', &MESSAGE_M)?;
-    append(file, 0x22, b"\x0a\x01N\x2a\x04\x08\x01\x10\x7f")?;
-    append_parts(file, &MESSAGES_N)?;
-    append_record(file, 0x2a, b'E', &ENUM_E)?;
-    append_parts(file, &ENUMS_C)?;
-    append_record(file, 0x32, b'S', &SERVICE_S)?;
-    append_parts(file, &SERVICES_S_AND_EXTENSIONS_Y)
-}
-
-/// `m.proto`, which depends publicly on the files `q`.
+/// `m.proto`, of proto2, in `p`: `M`, `N` with extension ranges, message types `n`, `E` with values `v`, enums `c` with a value
+/// `w`, `S` with methods `g`, services `s` and extensions `y` of `N`. It depends on files `q`, publicly.
 fn file_m(alloc: Global) -> Result<Vec<u8>, AllocError> {
     let mut file = Vec::from_slice(alloc, b"\x0a\x07m.proto\x12\x01p")?;
-    append_definitions(&mut file)?;
+    append_names(&mut file, 0x1a, b'q')?;
+    append(&mut file, 0x22, message_m(alloc)?.as_slice())?;
+    append(&mut file, 0x22, b"\x0a\x01N\x2a\x04\x08\x01\x10\x7f")?;
+    append_all(&mut file, 0x22, b'n')?;
+    append(
+        &mut file,
+        0x2a,
+        with_all(alloc, b'E', 0x12, b'v')?.as_slice(),
+    )?;
+    append_all(&mut file, 0x2a, b'c')?;
+    append(
+        &mut file,
+        0x32,
+        with_all(alloc, b'S', 0x12, b'g')?.as_slice(),
+    )?;
+    append_all(&mut file, 0x32, b's')?;
+    append_all(&mut file, 0x3a, b'y')?;
     for place in 0..COUNT {
         file.extend_from_slice(&[0x50, place])?;
     }
@@ -199,6 +159,15 @@ fn lines_of(alloc: Global, pool: &DescriptorPool) -> Result<usize, AllocError> {
     Ok(count_lines(describe(alloc, pool)?.as_str()))
 }
 
+/// A line for each of 61 files, 122 message types, 60 fields, 60 oneofs, 120 extensions, 121 enums, 180 values, 61 services
+/// and 60 methods.
+#[test]
+fn many_definitions_are_told(rt: HostRuntime) -> Result<(), Fail> {
+    let pool = pool_of_many(rt.alloc())?;
+    assert_eq!(rt; lines_of(rt.alloc(), &pool)?, 845);
+    Ok(())
+}
+
 /// A name of the letters of a place.
 fn name_at(alloc: Global, front: &str, place: u8, end: &str) -> Result<String, AllocError> {
     let [high, low] = letters(place);
@@ -206,40 +175,24 @@ fn name_at(alloc: Global, front: &str, place: u8, end: &str) -> Result<String, A
     format!(in alloc; "{front}{high}{low}{end}")
 }
 
-fn finds_file(alloc: Global, pool: &DescriptorPool, place: u8) -> Result<bool, AllocError> {
-    let name = name_at(alloc, "q", place, "")?;
-    Ok(pool.get_file_by_name(name.as_str())?.is_some())
-}
-
-fn finds_message(alloc: Global, pool: &DescriptorPool, place: u8) -> Result<bool, AllocError> {
-    let name = name_at(alloc, "p.M.m", place, "")?;
-    Ok(pool.get_message_by_name(name.as_str())?.is_some())
-}
-
-fn finds_enum(alloc: Global, pool: &DescriptorPool, place: u8) -> Result<bool, AllocError> {
-    let name = name_at(alloc, "p.c", place, "")?;
-    Ok(pool.get_enum_by_name(name.as_str())?.is_some())
-}
-
-fn finds_extension(alloc: Global, pool: &DescriptorPool, place: u8) -> Result<bool, AllocError> {
-    let name = name_at(alloc, "p.y", place, "")?;
-    Ok(pool.get_extension_by_name(name.as_str())?.is_some())
-}
-
-fn finds_service(alloc: Global, pool: &DescriptorPool, place: u8) -> Result<bool, AllocError> {
-    let name = name_at(alloc, "p.s", place, "")?;
-    Ok(pool.get_service_by_name(name.as_str())?.is_some())
-}
-
 /// Which of a file, a message type, an enum, an extension and a service are found by the names of the place.
 fn found_in_pool(alloc: Global, pool: &DescriptorPool, place: u8) -> Result<[bool; 5], AllocError> {
-    Ok([
-        finds_file(alloc, pool, place)?,
-        finds_message(alloc, pool, place)?,
-        finds_enum(alloc, pool, place)?,
-        finds_extension(alloc, pool, place)?,
-        finds_service(alloc, pool, place)?,
-    ])
+    let file = pool
+        .get_file_by_name(name_at(alloc, "q", place, "")?.as_str())?
+        .is_some();
+    let message = pool
+        .get_message_by_name(name_at(alloc, "p.M.m", place, "")?.as_str())?
+        .is_some();
+    let found = pool
+        .get_enum_by_name(name_at(alloc, "p.c", place, "")?.as_str())?
+        .is_some();
+    let extension = pool
+        .get_extension_by_name(name_at(alloc, "p.y", place, "")?.as_str())?
+        .is_some();
+    let service = pool
+        .get_service_by_name(name_at(alloc, "p.s", place, "")?.as_str())?
+        .is_some();
+    Ok([file, message, found, extension, service])
 }
 
 /// The number of the field, and 0 for none.
@@ -257,33 +210,22 @@ fn extension_number(found: Option<ExtensionDescriptor>) -> u32 {
     }
 }
 
-/// The numbers of the fields that are found in `M` by the number and the name of the place.
-fn fields_at(
+/// The numbers of the fields and of the extensions that are found in `M` by the numbers and names of the place.
+fn found_in_message(
     alloc: Global,
     message: &MessageDescriptor,
     place: u8,
-) -> Result<[u32; 3], AllocError> {
+) -> Result<[u32; 6], AllocError> {
+    let field = field_number(message.get_field(u32::from(place) + 1)?);
     let name = name_at(alloc, "f", place, "")?;
-    Ok([
-        field_number(message.get_field(u32::from(place) + 1)?),
-        field_number(message.get_field_by_name(name.as_str())?),
-        field_number(message.get_field_by_json_name(name.as_str())?),
-    ])
-}
-
-/// The numbers of the extensions that are found in `M` by the number and the names of the place.
-fn extensions_at(
-    alloc: Global,
-    message: &MessageDescriptor,
-    place: u8,
-) -> Result<[u32; 3], AllocError> {
-    let full = name_at(alloc, "p.M.x", place, "")?;
-    let bracketed = name_at(alloc, "[p.M.x", place, "]")?;
-    Ok([
-        extension_number(message.get_extension(u32::from(place) + 61)?),
-        extension_number(message.get_extension_by_full_name(full.as_str())?),
-        extension_number(message.get_extension_by_json_name(bracketed.as_str())?),
-    ])
+    let named = field_number(message.get_field_by_name(name.as_str())?);
+    let json = field_number(message.get_field_by_json_name(name.as_str())?);
+    let extension = extension_number(message.get_extension(u32::from(place) + 61)?);
+    let name = name_at(alloc, "p.M.x", place, "")?;
+    let full = extension_number(message.get_extension_by_full_name(name.as_str())?);
+    let name = name_at(alloc, "[p.M.x", place, "]")?;
+    let bracketed = extension_number(message.get_extension_by_json_name(name.as_str())?);
+    Ok([field, named, json, extension, full, bracketed])
 }
 
 fn value_number(found: Option<EnumValueDescriptor>) -> i32 {
@@ -294,32 +236,32 @@ fn value_number(found: Option<EnumValueDescriptor>) -> i32 {
 }
 
 /// The numbers of the values that are found in `E` by the number and the name of the place.
-fn values_at(alloc: Global, found: &EnumDescriptor, place: u8) -> Result<[i32; 2], AllocError> {
-    let name = name_at(alloc, "v", place, "")?;
-    Ok([
-        value_number(found.get_value(i32::from(place))?),
-        value_number(found.get_value_by_name(name.as_str())?),
-    ])
-}
-
-/// Whether the fields and the extensions of the place are found in `M`.
-fn is_found_in_message(
-    alloc: Global,
-    message: &MessageDescriptor,
-    place: u8,
-) -> Result<bool, AllocError> {
-    let number = u32::from(place);
-    let has_fields = fields_at(alloc, message, place)? == [number + 1; 3];
-    Ok(extensions_at(alloc, message, place)? == [number + 61; 3] && has_fields)
+fn found_in_enum(alloc: Global, found: &EnumDescriptor, place: u8) -> Result<[i32; 2], AllocError> {
+    let numbered = value_number(found.get_value(i32::from(place))?);
+    let named = value_number(found.get_value_by_name(name_at(alloc, "v", place, "")?.as_str())?);
+    Ok([numbered, named])
 }
 
 /// Whether all that has the names and numbers of the place is found.
 fn is_found(alloc: Global, pool: &DescriptorPool, place: u8) -> Result<bool, Fail> {
-    Ok(all(&[
-        is_found_in_message(alloc, &message_of(pool, "p.M")?, place)?,
-        values_at(alloc, &enum_of(pool, "p.E")?, place)? == [i32::from(place); 2],
-        found_in_pool(alloc, pool, place)? == [true; 5],
-    ]))
+    let number = u32::from(place);
+    let (field, extension) = (number + 1, number + 61);
+    let members = found_in_message(alloc, &message_of(pool, "p.M")?, place)?;
+    let values = found_in_enum(alloc, &enum_of(pool, "p.E")?, place)?;
+    Ok(
+        found_in_pool(alloc, pool, place)? == [true; 5]
+            && members == [field, field, field, extension, extension, extension]
+            && values == [i32::from(place); 2],
+    )
+}
+
+#[test]
+fn many_definitions_are_found(rt: HostRuntime) -> Result<(), Fail> {
+    let pool = pool_of_many(rt.alloc())?;
+    for place in 0..COUNT {
+        assert!(rt; is_found(rt.alloc(), &pool, place)?, "{place}");
+    }
+    Ok(())
 }
 
 /// The values of `E` are listed from 0 on, and so many.
@@ -370,18 +312,11 @@ fn count_files(file: &FileDescriptor, publicly: bool) -> Result<usize, AllocErro
     Ok(count)
 }
 
-/// Appends the pool and its first file to the one output, and what they are alone to the other.
-fn append_both(
-    alloc: Global,
-    pool: &DescriptorPool,
-    out: &mut Vec<u8>,
-    expected: &mut Vec<u8>,
-) -> Result<(), Fail> {
-    let file = file_of(pool, "m.proto")?;
-    pool.encode(out)?;
-    file.encode(out)?;
-    expected.extend_from_slice(pool.encode_to_vec(alloc)?.as_slice())?;
-    expected.extend_from_slice(file.encode_to_vec(alloc)?.as_slice())?;
+#[test]
+fn many_definitions_are_listed(rt: HostRuntime) -> Result<(), Fail> {
+    let pool = pool_of_many(rt.alloc())?;
+    assert!(rt; lists_values(&enum_of(&pool, "p.E")?)?);
+    assert!(rt; lists_others(&pool)? == [60; 3]);
     Ok(())
 }
 
@@ -389,39 +324,31 @@ fn append_both(
 fn are_appended(alloc: Global, pool: &DescriptorPool) -> Result<bool, Fail> {
     let mut out = vec![in alloc; 7; 2000]?;
     let mut expected = vec![in alloc; 7; 2000]?;
-    append_both(alloc, pool, &mut out, &mut expected)?;
+    pool.encode(&mut out)?;
+    expected.extend_from_slice(pool.encode_to_vec(alloc)?.as_slice())?;
+    let file = file_of(pool, "m.proto")?;
+    file.encode(&mut out)?;
+    expected.extend_from_slice(file.encode_to_vec(alloc)?.as_slice())?;
     Ok(out.as_slice() == expected.as_slice())
 }
 
 /// Whether the pool that is written makes an equal one, whose copy is equal.
 fn is_read_back(alloc: Global, pool: &DescriptorPool) -> Result<bool, Fail> {
     let again = DescriptorPool::decode(alloc, pool.encode_to_vec(alloc)?.as_slice())?;
-    Ok(again.clone()? == again && again == *pool)
+    Ok(again == *pool && again.clone()? == again)
 }
 
-fn is_its_own_reduction(message: &MessageDescriptor) -> Result<bool, Fail> {
-    Ok(message.is_reduction_of(message)?)
-}
-
-/// A line is told for each of 61 files, 122 message types, 60 fields, 60 oneofs, 120 extensions, 121 enums, 180 values,
-/// 61 services and 60 methods.
 #[test]
-fn many_definitions_are_told_and_written(rt: HostRuntime) -> Result<(), Fail> {
+fn many_definitions_are_written(rt: HostRuntime) -> Result<(), Fail> {
     let pool = pool_of_many(rt.alloc())?;
-    assert!(rt; lines_of(rt.alloc(), &pool)? == 845);
     assert!(rt; are_appended(rt.alloc(), &pool)?);
     assert!(rt; is_read_back(rt.alloc(), &pool)?);
-    assert!(rt; is_its_own_reduction(&message_of(&pool, "p.M")?)?);
     Ok(())
 }
 
 #[test]
-fn many_definitions_are_found_and_listed(rt: HostRuntime) -> Result<(), Fail> {
-    let pool = pool_of_many(rt.alloc())?;
-    for place in 0..COUNT {
-        assert!(rt; is_found(rt.alloc(), &pool, place)?, "{place}");
-    }
-    assert!(rt; lists_values(&enum_of(&pool, "p.E")?)?);
-    assert!(rt; lists_others(&pool)? == [60; 3]);
+fn a_type_of_many_fields_is_its_own_reduction(rt: HostRuntime) -> Result<(), Fail> {
+    let many_fields = message_of(&pool_of_many(rt.alloc())?, "p.M")?;
+    assert!(rt; many_fields.is_reduction_of(&many_fields)?);
     Ok(())
 }

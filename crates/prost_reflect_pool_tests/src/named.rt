@@ -1,4 +1,4 @@
-//! Definitions of a pool, by their names, and answers that all have to hold.
+//! Definitions of a pool, by their names.
 
 use prost_reflect::{
     DescriptorPool, EnumDescriptor, FieldDescriptor, FileDescriptor, MessageDescriptor,
@@ -41,14 +41,4 @@ pub(crate) fn method_of(pool: &DescriptorPool, service: &str) -> Result<MethodDe
 /// The first oneof of the message type.
 pub(crate) fn oneof_of(message: &MessageDescriptor) -> Result<OneofDescriptor, Fail> {
     Ok(message.oneofs().next().ok_or("no oneof")??)
-}
-
-/// Whether each of the answers is yes.
-pub(crate) fn all(answers: &[bool]) -> bool {
-    for answer in answers {
-        if !*answer {
-            return false;
-        }
-    }
-    true
 }

@@ -46,8 +46,11 @@ pub(crate) fn joined(alloc: Global, front: &[u8], rest: &[u8]) -> Result<Vec<u8>
 }
 
 /// Why no pool is made of the bytes.
-fn refusal(alloc: Global, bytes: &[u8]) -> Option<PoolError> {
-    DescriptorPool::decode(alloc, bytes).err()
+pub(crate) fn refusal(alloc: Global, bytes: &[u8]) -> Option<PoolError> {
+    match DescriptorPool::decode(alloc, bytes) {
+        Ok(_) => None,
+        Err(error) => Some(error),
+    }
 }
 
 /// A pool of the set, to which another one is added.
@@ -61,16 +64,20 @@ pub(crate) fn with_added(
     Ok(pool)
 }
 
-/// A pool that is made of a set's records.
-fn of_set(alloc: Global, bytes: &[u8]) -> Result<DescriptorPool, Fail> {
-    let set = FileDescriptorSet::decode(alloc, bytes)?;
-    Ok(DescriptorPool::from_file_descriptor_set(alloc, set)?)
+#[test]
+fn a_set_is_encoded_as_it_was_read(rt: HostRuntime) -> Result<(), Fail> {
+    let pool = with_added(rt.alloc(), SET_M, SET_M)?;
+    assert!(rt; is_written_as(rt.alloc(), &pool, SET_M)?);
+    assert!(rt; pool == DescriptorPool::decode(rt.alloc(), SET_M)?);
+    Ok(())
 }
 
-/// A pool of the bytes of both, one behind the other.
-fn of_both(alloc: Global, front: &[u8], rest: &[u8]) -> Result<DescriptorPool, Fail> {
-    let bytes = joined(alloc, front, rest)?;
-    Ok(DescriptorPool::decode(alloc, bytes.as_slice())?)
+#[test]
+fn a_set_makes_a_pool(rt: HostRuntime) -> Result<(), Fail> {
+    let set = FileDescriptorSet::decode(rt.alloc(), A_AND_B)?;
+    let pool = DescriptorPool::from_file_descriptor_set(rt.alloc(), set)?;
+    assert!(rt; is_written_as(rt.alloc(), &pool, A_AND_B)?);
+    Ok(())
 }
 
 /// A pool to which a file is added.
@@ -87,30 +94,23 @@ fn of_read_file(alloc: Global, bytes: &[u8]) -> Result<DescriptorPool, PoolError
     Ok(pool)
 }
 
-/// A file `m.proto` that no pool takes.
-static M_OF_EDITIONS: &[u8] = b"\x0a\x13\x0a\x07m.protob\x08editions";
-
-/// A pool is written as the set that it was made of, by each call that makes one. A file stands behind a key and a length of a
-/// byte each. Of files of one name the first counts, and the others are not looked at.
+/// The file of the set stands behind a key and a length of a byte each.
 #[test]
-fn pools_are_written_as_they_were_read(rt: HostRuntime) -> Result<(), Fail> {
-    let alloc = rt.alloc();
-    assert!(rt; is_written_as(alloc, &of_set(alloc, A_AND_B)?, A_AND_B)?);
-    assert!(rt; is_written_as(alloc, &of_file(alloc, &SET_M[2..])?, SET_M)?);
-    assert!(rt; is_written_as(alloc, &of_read_file(alloc, &SET_M[2..])?, SET_M)?);
-    assert!(rt; is_written_as(alloc, &with_added(alloc, SET_M, SET_M)?, SET_M)?);
-    assert!(rt; is_written_as(alloc, &with_added(alloc, SET_M, M_OF_EDITIONS)?, SET_M)?);
-    assert!(rt; is_written_as(alloc, &of_both(alloc, SET_M, M_OF_EDITIONS)?, SET_M)?);
-    assert!(rt; with_added(alloc, SET_M, SET_M)? == DescriptorPool::decode(alloc, SET_M)?);
+fn a_file_is_added(rt: HostRuntime) -> Result<(), Fail> {
+    assert!(rt; is_written_as(rt.alloc(), &of_file(rt.alloc(), &SET_M[2..])?, SET_M)?);
+    assert!(rt; is_written_as(rt.alloc(), &of_read_file(rt.alloc(), &SET_M[2..])?, SET_M)?);
     Ok(())
 }
 
-/// Whether the pool lends one file, with one message type.
-fn lends_one_file(pool: &DescriptorPool) -> bool {
-    match pool.file_descriptor_protos().next() {
-        Some(file) => file.message_type.len() == 1 && pool.file_descriptor_protos().len() == 1,
-        None => false,
+#[test]
+fn files_are_lent(rt: HostRuntime) -> Result<(), Fail> {
+    let pool = DescriptorPool::decode(rt.alloc(), SET_M)?;
+    let files = pool.file_descriptor_protos();
+    assert!(rt; files.len() == 1);
+    for file in files {
+        assert!(rt; file.message_type.len() == 1);
     }
+    Ok(())
 }
 
 /// Whether the pool has two files, and a message type `A`.
@@ -120,11 +120,11 @@ fn has_a_among_two_files(pool: &DescriptorPool) -> Result<bool, AllocError> {
 }
 
 #[test]
-fn files_are_lent_and_may_come_in_any_order(rt: HostRuntime) -> Result<(), Fail> {
-    let alloc = rt.alloc();
-    assert!(rt; lends_one_file(&DescriptorPool::decode(alloc, SET_M)?));
-    assert!(rt; has_a_among_two_files(&DescriptorPool::decode(alloc, A_AND_B)?)?);
-    assert!(rt; has_a_among_two_files(&DescriptorPool::decode(alloc, B_AND_A)?)?);
+fn files_may_come_in_any_order(rt: HostRuntime) -> Result<(), Fail> {
+    for bytes in [A_AND_B, B_AND_A] {
+        let pool = DescriptorPool::decode(rt.alloc(), bytes)?;
+        assert!(rt; has_a_among_two_files(&pool)?);
+    }
     Ok(())
 }
 
@@ -132,6 +132,13 @@ fn files_are_lent_and_may_come_in_any_order(rt: HostRuntime) -> Result<(), Fail>
 fn adds_nothing(pool: &mut DescriptorPool, set: &[u8], fault: PoolError) -> bool {
     let refused = pool.decode_file_descriptor_set(set) == Err(fault);
     refused && pool.file_descriptor_protos().len() == 0
+}
+
+#[test]
+fn a_refused_batch_adds_nothing(rt: HostRuntime) -> Result<(), Fail> {
+    let mut pool = DescriptorPool::new(rt.alloc())?;
+    assert!(rt; adds_nothing(&mut pool, SOUND_AND_EDITIONS, PoolError::UnknownSyntax));
+    Ok(())
 }
 
 /// How many files the pool has, how many a copy of it from before an addition, and how many the pool of a descriptor from
@@ -155,38 +162,29 @@ fn an_addition_changes_no_descriptor(rt: HostRuntime) -> Result<(), Fail> {
     Ok(())
 }
 
+/// A file `m.proto` that no pool takes.
+static M_OF_EDITIONS: &[u8] = b"\x0a\x13\x0a\x07m.protob\x08editions";
+
+/// Of files of one name the first counts, and the others are not looked at.
+#[test]
+fn the_first_file_of_a_name_counts(rt: HostRuntime) -> Result<(), Fail> {
+    let pool = with_added(rt.alloc(), SET_M, M_OF_EDITIONS)?;
+    assert!(rt; is_written_as(rt.alloc(), &pool, SET_M)?);
+    let both = joined(rt.alloc(), SET_M, M_OF_EDITIONS)?;
+    let pool = DescriptorPool::decode(rt.alloc(), &both)?;
+    assert!(rt; is_written_as(rt.alloc(), &pool, SET_M)?);
+    Ok(())
+}
+
 /// A file that has the message `Z` and no name.
 static NAMELESS: &[u8] = b"\x0a\x05\x22\x03\x0a\x01Z";
 
-/// Why the bytes of both make no pool.
-fn refusal_of_both(
-    alloc: Global,
-    front: &[u8],
-    rest: &[u8],
-) -> Result<Option<PoolError>, AllocError> {
-    Ok(refusal(alloc, joined(alloc, front, rest)?.as_slice()))
-}
-
-/// A file without a name is looked at, and refused, also behind another one. No bytes are a set without files; any other part in front
-/// of a set's end is refused.
+/// A file without a name is looked at, and refused, also behind another one.
 #[test]
-fn no_file_is_skipped(rt: HostRuntime) -> Result<(), Fail> {
+fn a_file_without_a_name_is_not_skipped(rt: HostRuntime) -> Result<(), Fail> {
     for front in [b"".as_slice(), SET_M, NAMELESS] {
-        let refused = refusal_of_both(rt.alloc(), front, NAMELESS)?;
-        assert!(rt; refused == Some(PoolError::MissingName));
-    }
-    assert!(rt;
-        DescriptorPool::decode(rt.alloc(), &[])?
-            .files()
-            .next()
-            .is_none()
-    );
-    for len in 1..SET_M.len() {
-        let refused = refusal(rt.alloc(), &SET_M[..len]);
-        assert!(rt;
-            refused == Some(PoolError::Decode(DecodeError::Truncated)),
-            "{len}"
-        );
+        let bytes = joined(rt.alloc(), front, NAMELESS)?;
+        assert!(rt; refusal(rt.alloc(), &bytes) == Some(PoolError::MissingName));
     }
     Ok(())
 }
@@ -200,40 +198,23 @@ fn changed(alloc: Global, place: usize, byte: u8) -> Result<Vec<u8>, AllocError>
     Ok(bytes)
 }
 
-/// A place of `SET_M`, another byte there, and why the set is refused then.
-static CHANGES: [(usize, u8, PoolError); 3] = [
-    // The number of `foo` is that of `bar`.
-    (41, 0x02, PoolError::DuplicateNumber),
-    // No message has the name of the type of `nested`.
-    (96, b'f', PoolError::UnknownType),
-    (116, b'4', PoolError::UnknownSyntax),
-];
-
-/// Whether the set with one byte changed is refused by this fault, and adds nothing to the empty pool.
-fn change_adds_nothing(
-    alloc: Global,
-    pool: &mut DescriptorPool,
-    place: usize,
-    byte: u8,
-    fault: PoolError,
-) -> Result<bool, AllocError> {
-    let set = changed(alloc, place, byte)?;
-    Ok(adds_nothing(pool, set.as_slice(), fault))
-}
-
-/// One changed byte, or a missing one, is refused by its own name, and adds nothing; nor does a sound file in front of a faulty one.
+/// One changed byte, or a missing one, is refused by its own name, and adds nothing.
 #[test]
-fn a_refused_batch_adds_nothing(rt: HostRuntime) -> Result<(), Fail> {
+fn a_changed_byte_is_refused(rt: HostRuntime) -> Result<(), Fail> {
+    let rows = [
+        // The number of `foo` is that of `bar`.
+        (41, 0x02, PoolError::DuplicateNumber),
+        // No message has the name of the type of `nested`.
+        (96, b'f', PoolError::UnknownType),
+        (116, b'4', PoolError::UnknownSyntax),
+    ];
     let mut pool = DescriptorPool::new(rt.alloc())?;
-    for (place, byte, fault) in CHANGES {
-        assert!(rt;
-            change_adds_nothing(rt.alloc(), &mut pool, place, byte, fault)?,
-            "{place}"
-        );
+    for (place, byte, fault) in rows {
+        let set = changed(rt.alloc(), place, byte)?;
+        assert!(rt; adds_nothing(&mut pool, &set, fault), "{place}");
     }
     let cut = PoolError::Decode(DecodeError::Truncated);
     assert!(rt; adds_nothing(&mut pool, &SET_M[..116], cut));
-    assert!(rt; adds_nothing(&mut pool, SOUND_AND_EDITIONS, PoolError::UnknownSyntax));
     Ok(())
 }
 
@@ -243,28 +224,15 @@ fn is_answered(pool: &DescriptorPool, set: &[u8]) -> Result<bool, AllocError> {
     Ok(added.decode_file_descriptor_set(set).is_ok() || added == *pool)
 }
 
-/// Whether there is an answer, whatever bit of the byte at the place is turned.
-fn are_answered(
-    alloc: Global,
-    pool: &DescriptorPool,
-    place: usize,
-    byte: u8,
-) -> Result<bool, AllocError> {
-    for bit in 0..8_u32 {
-        let set = changed(alloc, place, byte ^ (1 << (bit % 8)))?;
-        if !is_answered(pool, set.as_slice())? {
-            return Ok(false);
-        }
-    }
-    Ok(true)
-}
-
 /// Whatever bit of a set is turned, there is an answer, and a refusal changes nothing.
 #[test]
 fn a_turned_bit_is_answered(rt: HostRuntime) -> Result<(), Fail> {
     let pool = DescriptorPool::decode(rt.alloc(), A_AND_B)?;
     for (place, byte) in SET_M.iter().enumerate() {
-        assert!(rt; are_answered(rt.alloc(), &pool, place, *byte)?, "{place}");
+        for bit in 0..8_u32 {
+            let set = changed(rt.alloc(), place, *byte ^ (1 << (bit % 8)))?;
+            assert!(rt; is_answered(&pool, &set)?, "{place} {bit}");
+        }
     }
     Ok(())
 }
