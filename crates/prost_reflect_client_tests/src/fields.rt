@@ -6,6 +6,6 @@ mod every;
 mod lists;
 mod many_calls;
 mod messages;
-pub(crate) mod types;
+mod types;
 mod unknowns;
 mod worked_values;
