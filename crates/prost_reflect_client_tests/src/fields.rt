@@ -6,6 +6,6 @@ mod every;
 mod lists;
 mod many_calls;
 mod messages;
-mod types;
+pub(crate) mod types;
 mod unknowns;
 mod worked_values;

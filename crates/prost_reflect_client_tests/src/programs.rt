@@ -1,7 +1,10 @@
 //! Functions of programs above the library, each proved by the contracts of its public calls alone: no proof file stands
 //! beside them, so they say what such a program may rely on.
 
+pub mod comparing;
 pub mod descriptors;
 pub mod editing;
 pub mod error;
+pub mod merging;
 pub mod nesting;
+mod runs;

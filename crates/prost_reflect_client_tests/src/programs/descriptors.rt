@@ -1,7 +1,7 @@
 //! Calls with the descriptors that other calls give.
 
-use prost_reflect::{DynamicMessage, FieldDescriptor, Kind, MessageDescriptor, Value};
-use std::alloc::AllocError;
+use prost_reflect::{DynamicMessage, FieldDescriptor, Kind, MapKey, MessageDescriptor, Value};
+use std::alloc::{AllocError, Global};
 
 /// How many of the fields that are listed the message has.
 pub fn listed_fields(message: &DynamicMessage) -> Result<u32, AllocError> {
@@ -47,4 +47,84 @@ pub fn set_where_it_fits(
         }
     }
     Ok(())
+}
+
+/// How many fields of the message's own type it has, and how many of these show a number other than zero.
+pub fn own_fields(alloc: Global, message: &DynamicMessage) -> Result<(u32, u32), AllocError> {
+    let descriptor = message.descriptor()?;
+    let mut had = 0u32;
+    let mut set = 0u32;
+    for field in descriptor.fields() {
+        let field = field?;
+        if message.has_field(&field) {
+            had = had.saturating_add(1);
+        }
+        let value = message.get_field(alloc, &field)?;
+        if value.as_i32().unwrap_or(0) != 0 {
+            set = set.saturating_add(1);
+        }
+    }
+    Ok((had, set))
+}
+
+/// How many extensions of the message's own type it has.
+pub fn own_extensions(message: &DynamicMessage) -> Result<u32, AllocError> {
+    let descriptor = message.descriptor()?;
+    let mut had = 0u32;
+    for extension in descriptor.extensions() {
+        if message.has_extension(&extension?) {
+            had = had.saturating_add(1);
+        }
+    }
+    Ok(had)
+}
+
+/// The number that the extension of a full name shows, if the message's type has the extension.
+pub fn shown_by_full_name(
+    alloc: Global,
+    message: &DynamicMessage,
+    name: &str,
+) -> Result<Option<i32>, AllocError> {
+    let descriptor = message.descriptor()?;
+    match descriptor.get_extension_by_full_name(name)? {
+        Some(extension) => Ok(message.get_extension(alloc, &extension)?.as_i32()),
+        None => Ok(None),
+    }
+}
+
+/// Whether the message has the extension of a number, and that of a name in JSON.
+pub fn has_extensions(
+    message: &DynamicMessage,
+    number: u32,
+    name: &str,
+) -> Result<(bool, bool), AllocError> {
+    let descriptor = message.descriptor()?;
+    let by_number = match descriptor.get_extension(number)? {
+        Some(extension) => message.has_extension(&extension),
+        None => false,
+    };
+    let by_name = match descriptor.get_extension_by_json_name(name)? {
+        Some(extension) => message.has_extension(&extension),
+        None => false,
+    };
+    Ok((by_number, by_name))
+}
+
+/// The default key of a kind, if keys may be of the kind.
+pub fn default_key(alloc: Global, kind: &Kind) -> Option<MapKey> {
+    match kind {
+        Kind::Int32
+        | Kind::Int64
+        | Kind::Uint32
+        | Kind::Uint64
+        | Kind::Sint32
+        | Kind::Sint64
+        | Kind::Fixed32
+        | Kind::Fixed64
+        | Kind::Sfixed32
+        | Kind::Sfixed64
+        | Kind::Bool
+        | Kind::String => Some(MapKey::default_value(alloc, kind)),
+        _ => None,
+    }
 }

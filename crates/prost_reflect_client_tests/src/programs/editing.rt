@@ -3,9 +3,11 @@
 ghost use Rattle.std.specs.Prelude.{◌≡◌, false, true, IfOk};
 ghost use Rattle.prost_reflect_dynamic.specs.DeepTypes.{all_typed};
 ghost use Rattle.prost_reflect_dynamic.specs.Stored.{message_stored};
+ghost use Rattle.prost_reflect_dynamic.specs.View.{message_type_of};
+ghost use Rattle.prost_reflect_fields.specs.Known.{known_of, are_siblings};
 
 use crate::programs::error::ClientError;
-use prost_reflect::{DynamicMessage, MessageDescriptor, Value};
+use prost_reflect::{DynamicMessage, MessageDescriptor, Value, laws};
 use std::alloc::{AllocError, Global};
 
 /// Reads and writes.
@@ -154,6 +156,56 @@ pub fn clear_own(message: &mut DynamicMessage, name: &str) -> Result<(), AllocEr
     let descriptor = message.descriptor()?;
     if let Some(field) = descriptor.get_field_by_name(name)? {
         message.clear_field(&field);
+    }
+    Ok(())
+}
+
+/// Sets a field twice, where the first time tells that the value fits.
+pub fn set_twice(message: &mut DynamicMessage, name: &str) -> Result<(), AllocError> {
+    if message.try_set_field_by_name(name, Value::I32(7)).is_err() {
+        return Ok(());
+    }
+    message.set_field_by_name(name, Value::I32(7))
+}
+
+/// Sets the field of a number twice, where the first time tells that the value fits.
+pub fn set_number_twice(message: &mut DynamicMessage, number: u32) -> Result<(), AllocError> {
+    if message
+        .try_set_field_by_number(number, Value::I32(7))
+        .is_err()
+    {
+        return Ok(());
+    }
+    message.set_field_by_number(number, Value::I32(7))
+}
+
+/// Whether the message has two members of a oneof, which no message does.
+pub fn has_two_members(message: &DynamicMessage, one: u32, other: u32) -> bool
+    requires { are_siblings (known_of (message_type_of message.now)) one other ≡ true }
+    ensures { result ≡ false }
+{
+    laws::one_member(message);
+    message.has_field_by_number(one) && message.has_field_by_number(other)
+}
+
+/// Clears each field of the message's own type, by its number.
+pub fn clear_each(message: &mut DynamicMessage) -> Result<(), AllocError> {
+    let descriptor = message.descriptor()?;
+    for field in descriptor.fields() {
+        message.clear_field_by_number(field?.number());
+    }
+    Ok(())
+}
+
+/// Clears each field of the message's own type, by the field itself: a loop does not know of a message that it changes whose
+/// field it is, so it asks.
+pub fn clear_owned(message: &mut DynamicMessage) -> Result<(), AllocError> {
+    let descriptor = message.descriptor()?;
+    for field in descriptor.fields() {
+        let field = field?;
+        if message.owns_field(&field) {
+            message.clear_field(&field);
+        }
     }
     Ok(())
 }

@@ -98,3 +98,19 @@ fn clear_inside(
     }
     done
 }
+
+/// Clears a field of a name in the message, and goes then to the message in a field of another name, and so on.
+pub fn clear_before(
+    alloc: Global,
+    message: &mut DynamicMessage,
+    path: &str,
+    name: &str,
+) -> Result<(), ClientError> {
+    message.clear_field_by_name(name);
+    if message.has_field_by_name(path) {
+        if let Value::Message(inside) = message.get_field_by_name_mut(alloc, path)? {
+            clear_before(alloc, inside, path, name)?;
+        }
+    }
+    Ok(())
+}
