@@ -3,6 +3,7 @@ pub mod NamedFields
 pub mod NamedField
 pub mod NamedEnums
 pub mod NamedKinds
+pub mod KindNames
 pub mod NamedDefaults
 pub mod View
 pub mod Keys

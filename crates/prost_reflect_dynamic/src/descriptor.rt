@@ -10,7 +10,7 @@ mod file;
 mod files;
 pub(crate) mod forms;
 mod iter;
-mod kind;
+pub(crate) mod kind;
 pub(crate) mod laws;
 mod message;
 mod method;

@@ -109,6 +109,48 @@ fn refusals_name_each_type(rt: HostRuntime) -> Result<(), Fail> {
     Ok(())
 }
 
+/// The type code of a kind, and its name.
+static NAMES: [(u32, &str); 18] = [
+    (1, "double"),
+    (2, "float"),
+    (3, "int64"),
+    (4, "uint64"),
+    (5, "int32"),
+    (6, "fixed64"),
+    (7, "fixed32"),
+    (8, "bool"),
+    (9, "string"),
+    (10, "e.Every"),
+    (11, "e.Every"),
+    (12, "bytes"),
+    (13, "uint32"),
+    (14, "e.Color"),
+    (15, "sfixed32"),
+    (16, "sfixed64"),
+    (17, "sint32"),
+    (18, "sint64"),
+];
+
+/// Whether the kind of the field of the number has this name.
+fn is_named(
+    alloc: Global,
+    every: &MessageDescriptor,
+    number: u32,
+    name: &str,
+) -> Result<bool, Fail> {
+    let kind = every_field(every, number)?.kind()?;
+    Ok(format!(in alloc; "{kind}")?.as_str() == name)
+}
+
+#[test]
+fn kinds_have_names(rt: HostRuntime) -> Result<(), Fail> {
+    let every = every_type(rt.alloc())?;
+    for (number, name) in &NAMES {
+        assert!(rt; is_named(rt.alloc(), &every, *number, name)?, "{number}");
+    }
+    Ok(())
+}
+
 /// A field of `Every`, whose kind is looked at, a text, and what it spells.
 static TEXTS: [(u32, &str, Shown); 30] = [
     (1, "-inf", Shown::F64(0xfff0_0000_0000_0000)),

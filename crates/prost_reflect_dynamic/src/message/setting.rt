@@ -9,11 +9,10 @@ ghost use Rattle.prost_reflect_dynamic.specs.View.{message_type_of};
 ghost use Rattle.prost_reflect_dynamic.specs.declared.message.setting.SetFieldError.TheVariants as refusals;
 
 use crate::descriptor::FieldDescriptor;
+use crate::descriptor::kind::kind_name;
 use crate::message::DynamicMessage;
 use crate::message::encodable::takes_value;
 use crate::value::Value;
-use prost_reflect_pool::LinkedPool;
-use prost_reflect_tables::TableKind;
 use std::alloc::AllocError;
 use std::fmt;
 use thiserror::Error;
@@ -73,51 +72,22 @@ struct FieldType<'a>(&'a FieldDescriptor);
 
 impl<'a> fmt::Display for FieldType<'a> {
     fn fmt<W: fmt::Write>(&self, f: &mut fmt::Formatter<W>) -> fmt::Result {
-        let pool = &self.0.parent_pool().inner;
+        let pool = self.0.parent_pool().linked();
         let field = self.0.table();
         match pool.map_parts(field) {
             Some((key, value)) => write!(
                 f,
                 "map<{}, {}>",
-                kind_name(pool, key.kind),
-                kind_name(pool, value.kind)
+                kind_name(Some(pool), key.kind),
+                kind_name(Some(pool), value.kind)
             ),
             None => {
                 if field.cardinality.is_repeated() {
                     f.write_str("repeated ")?;
                 }
-                f.write_str(kind_name(pool, field.kind))
+                f.write_str(kind_name(Some(pool), field.kind))
             }
         }
-    }
-}
-
-/// The name of a kind (the language guide, "Scalar Value Types"), or the full name of its message type or enum.
-fn kind_name(pool: &LinkedPool, kind: TableKind) -> &str {
-    match kind {
-        TableKind::Double => "double",
-        TableKind::Float => "float",
-        TableKind::Int32 => "int32",
-        TableKind::Int64 => "int64",
-        TableKind::Uint32 => "uint32",
-        TableKind::Uint64 => "uint64",
-        TableKind::Sint32 => "sint32",
-        TableKind::Sint64 => "sint64",
-        TableKind::Fixed32 => "fixed32",
-        TableKind::Fixed64 => "fixed64",
-        TableKind::Sfixed32 => "sfixed32",
-        TableKind::Sfixed64 => "sfixed64",
-        TableKind::Bool => "bool",
-        TableKind::String => "string",
-        TableKind::Bytes => "bytes",
-        TableKind::Message(place) => match pool.tables().messages.get(place) {
-            Some(message) => message.id.full_name.as_str(),
-            None => "",
-        },
-        TableKind::Enum(place) => match pool.tables().enums.get(place) {
-            Some(table) => table.id.full_name.as_str(),
-            None => "",
-        },
     }
 }
 
