@@ -41,18 +41,18 @@ use Rattle.prost_reflect_dynamic.specs.declared.value.Value.{Value, size-Value, 
 
 -- LISTS
 
-joined : {X : Type 0} (P : X → Type 0) (xs ys : List X) → AllByRecursion P xs → AllByRecursion P ys → AllByRecursion P (xs ++ ys)
+pub joined : {X : Type 0} (P : X → Type 0) (xs ys : List X) → AllByRecursion P xs → AllByRecursion P ys → AllByRecursion P (xs ++ ys)
 joined P [] ys h k = k
 joined P (x ∷ xs) ys h k = (h.0, joined P xs ys h.1 k)
 
-flat : {X Y : Type 0} (P : Y → Type 0) (f : X → List Y) → ((x : X) → AllByRecursion P (f x)) → (xs : List X) → AllByRecursion P (flat_map f xs)
+pub flat : {X Y : Type 0} (P : Y → Type 0) (f : X → List Y) → ((x : X) → AllByRecursion P (f x)) → (xs : List X) → AllByRecursion P (flat_map f xs)
 flat P f h [] = tt
 flat P f h (x ∷ xs) = joined P (f x) (flat_map f xs) (h x) (flat P f h xs)
 
 -- WHAT IS STORED
 
 module _ (m : DynamicMessage) where
-  abbrev Small : Value → Type 0
+  abbrev pub Small : Value → Type 0
   Small v = size-Value v < size-DynamicMessage m
 
   abbrev SmallIn : ℕ × FieldSlot Value → Type 0
@@ -85,7 +85,7 @@ module _ (m : DynamicMessage) where
       go None l t h = absurd (true≢false (sym t))
       go (Some v) l t h = subst Small (sym l) h
 
-  had_small : (n : ℕ) (b : Bool) → IfSome (cond b (stored_at (stored_in m) n) None) Small
+  pub had_small : (n : ℕ) (b : Bool) → IfSome (cond b (stored_at (stored_in m) n) None) Small
   had_small n true = stored_small n
   had_small n false = tt
 

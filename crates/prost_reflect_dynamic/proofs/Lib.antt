@@ -26,7 +26,7 @@ pub mod NestedMaps
 pub mod ElementWrites
 pub mod Encodings
 pub mod Encodables
-pub mod Present
+pub mod PresentNumbers
 pub mod Defaults
 mod DeclaredNumbers
 pub mod Keys
@@ -50,6 +50,7 @@ mod OwnExtensions
 pub mod FieldDefaults
 pub mod OwnDefaults
 mod ValueLists
+mod PresentWalks
 mod TakenValues
 mod ListedNumbers
 pub mod LentWriting

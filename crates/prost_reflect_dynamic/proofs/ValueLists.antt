@@ -25,29 +25,29 @@ use Rattle.prost_reflect_dynamic.specs.declared.message.present.PresentNumber.Th
 use Rattle.prost_reflect_dynamic.specs.declared.value.Value.{Value}
 use Rattle.prost_reflect_wire.specs.Unknown.{records_of}
 use Rattle.prost_reflect_dynamic.proofs.Had.{had_found}
-use Rattle.prost_reflect_dynamic.proofs.Present.{by_keys, present_of_item, present_items}
+use Rattle.prost_reflect_dynamic.proofs.PresentNumbers.{by_keys, present_of_item, present_items}
 
 -- LISTS
 
-flat_append : {A B : Type 0} (f : A → List B) (xs ys : List A) → flat_map f (xs ++ ys) ≡ flat_map f xs ++ flat_map f ys
+pub flat_append : {A B : Type 0} (f : A → List B) (xs ys : List A) → flat_map f (xs ++ ys) ≡ flat_map f xs ++ flat_map f ys
 flat_append f [] ys = refl
 flat_append f (x ∷ xs) ys = ap (λ l. f x ++ l) (flat_append f xs ys) ∙ sym (append_assoc (f x) (flat_map f xs) (flat_map f ys))
 
-flat_flat : {A B C : Type 0} (f : B → List C) (g : A → List B) (xs : List A) → flat_map f (flat_map g xs) ≡ flat_map (λ x. flat_map f (g x)) xs
+pub flat_flat : {A B C : Type 0} (f : B → List C) (g : A → List B) (xs : List A) → flat_map f (flat_map g xs) ≡ flat_map (λ x. flat_map f (g x)) xs
 flat_flat f g [] = refl
 flat_flat f g (x ∷ xs) = flat_append f (g x) (flat_map g xs) ∙ ap (λ l. flat_map f (g x) ++ l) (flat_flat f g xs)
 
-flat_same : {A B : Type 0} (f g : A → List B) (xs : List A) → ((x : A) → f x ≡ g x) → flat_map f xs ≡ flat_map g xs
+pub flat_same : {A B : Type 0} (f g : A → List B) (xs : List A) → ((x : A) → f x ≡ g x) → flat_map f xs ≡ flat_map g xs
 flat_same f g xs h = λ i. flat_map (λ x. h x i) xs
 
 -- ONE NUMBER
 
 -- what a value is listed as, by whether the number is an extension's
-abbrev row_lists : Bool → ℕ → Option contents.Value → List PresentNumber
+abbrev pub row_lists : Bool → ℕ → Option contents.Value → List PresentNumber
 row_lists b n None = []
 row_lists b n (Some w) = cond b (ExtensionNumber n) (FieldNumber n) ∷ []
 
-present_lists : (fields : List Field) (n : ℕ) (o : Option contents.Value) → option_to_list (value_present fields n o) ≡ row_lists (passes (field_of fields n) (λ f. f.is_extension)) n o
+pub present_lists : (fields : List Field) (n : ℕ) (o : Option contents.Value) → option_to_list (value_present fields n o) ≡ row_lists (passes (field_of fields n) (λ f. f.is_extension)) n o
 present_lists fields n None = refl
 present_lists fields n (Some w) = refl
 

@@ -45,6 +45,7 @@ pub mod NamedValues
 pub mod Places
 pub mod Reserved
 pub mod ValueLists
+pub mod PresentWalks
 pub mod Access
 pub mod Walks
 pub mod Depths

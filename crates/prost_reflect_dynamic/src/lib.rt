@@ -27,7 +27,7 @@ pub use descriptor::{
 pub use message::laws::one_member;
 pub use message::path::{set_at_path, takes_at_path};
 pub use message::{
-    DynamicMessage, Extensions, Fields, GetFieldError, PresentNumber, SetFieldError,
-    TakenExtensions, TakenFields, TakenUnknownFields, UnknownFields,
+    DynamicMessage, Extensions, Fields, GetFieldError, Present, PresentItems, PresentNumber,
+    SetFieldError, TakenExtensions, TakenFields, TakenUnknownFields, UnknownFields,
 };
 pub use value::{MapKey, Value};

@@ -51,7 +51,7 @@ mod unknowns;
 use crate::descriptor::MessageDescriptor;
 use crate::value::Value;
 pub use lending::GetFieldError;
-pub use lists::{Extensions, Fields, TakenExtensions, TakenFields};
+pub use lists::{Extensions, Fields, Present, PresentItems, TakenExtensions, TakenFields};
 pub use present::PresentNumber;
 use prost_reflect_fields::field_set::FieldSet;
 use prost_reflect_fields::slot::FieldSlot;

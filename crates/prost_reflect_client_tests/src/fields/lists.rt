@@ -1,7 +1,7 @@
 //! The fields and extensions of messages as lists, and taking them all.
 
 use crate::fields::types::{choices, empty, message_of};
-use prost_reflect::{DynamicMessage, TakenExtensions, TakenFields, Value};
+use prost_reflect::{DynamicMessage, Present, TakenExtensions, TakenFields, Value};
 use prost_reflect_samples::sets;
 use std::alloc::{AllocError, Global};
 use std::test::Fail;
@@ -103,6 +103,56 @@ fn lists_apart(alloc: Global, message: &DynamicMessage) -> Result<bool, AllocErr
 fn fields_and_extensions_are_listed_apart(rt: HostRuntime) -> Result<(), Fail> {
     let message = choices(rt.alloc(), MIXED)?;
     assert!(rt; lists_apart(rt.alloc(), &message)?);
+    Ok(())
+}
+
+/// Adds a line of what the message has at a number: an `int32` with its value, unknown fields with how many there are.
+fn add_line(lines: &mut String, present: &Present<'_>) -> Result<(), AllocError> {
+    match present {
+        Present::Field(field, value) => {
+            write!(lines, "field {} {:?}\n", field.number(), value.as_i32())
+        }
+        Present::Extension(extension, value) => {
+            write!(
+                lines,
+                "extension {} {:?}\n",
+                extension.number(),
+                value.as_i32()
+            )
+        }
+        Present::Unknown(number, unknown) => write!(lines, "unknown {number} {}\n", unknown.len()),
+    }
+}
+
+/// The lines of all that the message has.
+fn lines_of(alloc: Global, message: &DynamicMessage) -> Result<String, AllocError> {
+    let mut lines = String::new(alloc);
+    for item in message.present() {
+        add_line(&mut lines, &item?)?;
+    }
+    Ok(lines)
+}
+
+/// The bytes of a message of `Choices`, and the lines of what it has.
+static PRESENT: &[(&[u8], &str)] = &[
+    (b"", ""),
+    (
+        MIXED,
+        "field 1 Some(5)\nunknown 5 1\nextension 12 Some(7)\nunknown 20 1\n",
+    ),
+    (
+        b"\xa0\x01\x03\x28\x07\x28\x01\x98\x01\x02\xa0\x01\x04",
+        "field 5 None\nunknown 5 1\nunknown 19 1\nunknown 20 2\n",
+    ),
+];
+
+/// All that a message has comes in ascending number, a value in front of the strays of its number.
+#[test]
+fn all_that_is_present_is_listed(rt: HostRuntime) -> Result<(), Fail> {
+    for row in PRESENT {
+        let lines = lines_of(rt.alloc(), &choices(rt.alloc(), row.0)?)?;
+        assert!(rt; lines.as_str() == row.1, "{lines}");
+    }
     Ok(())
 }
 

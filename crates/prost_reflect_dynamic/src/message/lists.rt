@@ -7,10 +7,12 @@ ghost use Rattle.prost_reflect_dynamic.specs.View.{content_of};
 
 mod descriptors;
 mod had;
+mod present_items;
 mod taking;
 
 use crate::message::{DynamicMessage, PresentNumber};
 pub use had::{Extensions, Fields};
+pub use present_items::{Present, PresentItems};
 use std::alloc::{AllocError, Global};
 pub use taking::{TakenExtensions, TakenFields};
 

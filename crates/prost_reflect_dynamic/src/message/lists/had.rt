@@ -45,7 +45,7 @@ impl<'a> HadValues<'a> {
 }
 
 /// The value of a slot, if it is that of a field, or of an extension, and the message has it.
-fn had_in<'a>(
+pub(super) fn had_in<'a>(
     message_type: &PooledType,
     of_extensions: bool,
     number: u32,

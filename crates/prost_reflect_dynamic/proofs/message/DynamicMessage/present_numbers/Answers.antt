@@ -1,4 +1,4 @@
-use Rattle.prost_reflect_dynamic.proofs.Present.{all_present}
+use Rattle.prost_reflect_dynamic.proofs.PresentNumbers.{all_present}
 use Rattle.prost_reflect_dynamic.proofs.message.DynamicMessage.present_numbers.Goals as goal
 
 pub returns : goal.returns
