@@ -72,7 +72,16 @@ pub struct DynamicMessage {
 }
 
 impl DynamicMessage {
-    /// The empty message of the type.
+    /// The empty message of the type: no field has a value, and there are no unknown fields.
+    ///
+    /// ```
+    /// // The bytes of a message whose field of the name is set to 7.
+    /// fn with_seven(alloc: Global, message_type: MessageDescriptor, name: &str) -> Result<Vec<u8>, Fail> {
+    ///     let mut message = DynamicMessage::new(alloc, message_type);
+    ///     message.try_set_field_by_name(name, Value::I32(7))?;
+    ///     Ok(message.encode_to_vec(alloc)?)
+    /// }
+    /// ```
     pub fn new(alloc: Global, descriptor: MessageDescriptor) -> DynamicMessage
         ensures message_type { IsNamed descriptor (message_type_of result) }
         ensures content { content_of result ≡ empty (schema_named descriptor) (type_named descriptor) }

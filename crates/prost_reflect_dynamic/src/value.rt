@@ -59,6 +59,18 @@ impl Clone for MapKey {
 }
 
 /// The value of a field or an extension, or of an element of one (the language guide, "Scalar Value Types").
+///
+/// ```
+/// // What sort of value it is.
+/// fn sort_of(value: &Value) -> &'static str {
+///     match value {
+///         Value::Message(_) => "a message",
+///         Value::List(_) => "a list",
+///         Value::Map(_) => "a map",
+///         _ => "a scalar",
+///     }
+/// }
+/// ```
 #[cycle(value)]
 #[derive(Debug, Drop)]
 pub enum Value {

@@ -185,7 +185,7 @@ impl Kind {
         }
     }
 
-    /// The message type, if the kind is one.
+    /// The message type, or none if the kind is no message type.
     ///
     /// ```
     /// // How many fields the messages of the kind have, or none if its values are no messages.
@@ -203,7 +203,7 @@ impl Kind {
         }
     }
 
-    /// The enum, if the kind is one.
+    /// The enum, or none if the kind is no enum.
     pub fn as_enum(&self) -> Option<&EnumDescriptor>
         ensures { option_copied result ≡ enum_of self.now }
     {

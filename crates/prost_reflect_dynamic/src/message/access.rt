@@ -54,6 +54,20 @@ impl DynamicMessage {
     /// The value of the field: the stored one, borrowed, or else the default. The field has to be of the message's own
     /// type, as `owns_field` tells.
     ///
+    /// ```
+    /// // The text in the field, or its default; nothing where the field is another type's, or no text.
+    /// fn text_in(alloc: Global, message: &DynamicMessage, field: &FieldDescriptor) -> Result<Option<String>, AllocError> {
+    ///     if !message.owns_field(field) {
+    ///         return Ok(None);
+    ///     }
+    ///     let value = message.get_field(alloc, field)?;
+    ///     match value.as_str() {
+    ///         Some(text) => Ok(Some(String::from_str(alloc, text)?)),
+    ///         None => Ok(None),
+    ///     }
+    /// }
+    /// ```
+    ///
     /// # Errors
     ///
     /// `AllocError` if the default needs memory and memory runs out.
@@ -92,6 +106,23 @@ impl DynamicMessage {
     /// The value of the field, borrowed for writing; where there is none, it is first set to the default. Once the borrow
     /// ends, the message is as if the value that is left there had been set. The field has to be of the message's own type,
     /// as `owns_field` tells.
+    ///
+    /// ```
+    /// // Adds a number to the list in the field, if it is the message's own.
+    /// fn add_number(
+    ///     alloc: Global,
+    ///     message: &mut DynamicMessage,
+    ///     field: &FieldDescriptor,
+    ///     number: i32,
+    /// ) -> Result<(), AllocError> {
+    ///     if message.owns_field(field) {
+    ///         if let Value::List(numbers) = message.get_field_mut(alloc, field)? {
+    ///             numbers.push(Value::I32(number))?;
+    ///         }
+    ///     }
+    ///     Ok(())
+    /// }
+    /// ```
     ///
     /// # Errors
     ///
@@ -133,8 +164,8 @@ impl DynamicMessage {
         }
     }
 
-    /// Takes the value of the field, and answers it if the message had it. A stored default is removed, too. Unknown fields
-    /// of the number stay. The field has to be of the message's own type, as `owns_field` tells.
+    /// Takes the value of the field, and answers it, or none where the message did not have it. A stored default is removed,
+    /// too. Unknown fields of the number stay. The field has to be of the message's own type, as `owns_field` tells.
     pub fn take_field(&mut self, field: &FieldDescriptor) -> Option<Value>
         requires { IsOwnField (message_type_of self.old) field.now }
         ensures value { result ≡ had_at (number_of field.now) self.old }

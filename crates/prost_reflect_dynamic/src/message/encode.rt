@@ -234,7 +234,18 @@ impl DynamicMessage {
     /// field, as in every message that `decode` gives; `is_encodable` tells. A message inside is written by its own type.
     ///
     /// An output that has room for the encoding takes no further memory and keeps its capacity; so one output, cleared in
-    /// between, may serve for many messages.
+    /// between, may serve for many messages. Of an empty message nothing is appended.
+    ///
+    /// ```
+    /// // Writes the message into an output that is kept from message to message; nothing if a value does not fit.
+    /// fn write_anew(message: &DynamicMessage, out: &mut Vec<u8>) -> Result<(), EncodeError> {
+    ///     out.clear();
+    ///     if message.is_encodable() {
+    ///         message.encode(out)?;
+    ///     }
+    ///     Ok(())
+    /// }
+    /// ```
     ///
     /// # Errors
     ///

@@ -39,6 +39,16 @@ impl DynamicMessage {
     /// The value of the extension: the stored one, borrowed, or else the default. The extension has to extend the message's
     /// own type, as `owns_extension` tells.
     ///
+    /// ```
+    /// // The number in the extension of a full name, or none where the message's type has no such extension.
+    /// fn number_in(alloc: Global, message: &DynamicMessage, name: &str) -> Result<Option<i32>, AllocError> {
+    ///     match message.descriptor()?.get_extension_by_full_name(name)? {
+    ///         Some(extension) => Ok(message.get_extension(alloc, &extension)?.as_i32()),
+    ///         None => Ok(None),
+    ///     }
+    /// }
+    /// ```
+    ///
     /// # Errors
     ///
     /// `AllocError` if the default needs memory and memory runs out.

@@ -34,7 +34,21 @@ impl DynamicMessage {
     ///
     /// The values of the message have to fit their fields, and the messages inside have to be of their fields' types, as in
     /// every message that `decode` gives: `is_encodable` and `is_typed` tell. The same then holds of the merged message, so
-    /// no test is needed between two calls.
+    /// no test is needed between two calls. Where there are no bytes, nothing changes.
+    ///
+    /// ```
+    /// // The message that two pieces of its bytes mean, one behind the other.
+    /// fn joined(
+    ///     alloc: Global,
+    ///     message_type: MessageDescriptor,
+    ///     first: &[u8],
+    ///     second: &[u8],
+    /// ) -> Result<DynamicMessage, DecodeError> {
+    ///     let mut message = DynamicMessage::decode(alloc, message_type, first)?;
+    ///     message.merge(second)?;
+    ///     Ok(message)
+    /// }
+    /// ```
     ///
     /// # Errors
     ///

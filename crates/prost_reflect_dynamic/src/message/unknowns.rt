@@ -103,7 +103,8 @@ fn unknown_of(slot: &FieldSlot<Value>) -> &[UnknownField]
 }
 
 impl DynamicMessage {
-    /// All unknown fields in ascending number, also those of fields whose closed enum does not declare them.
+    /// All unknown fields in ascending number, also those of fields whose closed enum does not declare them. A message without
+    /// unknown fields gives none.
     pub fn unknown_fields(&self) -> UnknownFields<'_>
         ensures left { unknown_left result ≡ all_unknown (stored_in self.now) }
         ensures content { map unknown_record (unknown_left result) ≡ unknown_records (entries_of (content_of self.now)) }

@@ -12,7 +12,7 @@ use crate::value::{MapKey, Value};
 use std::collections::BTreeMap;
 
 impl Value {
-    /// The value of a `Bool`.
+    /// The value of a `Bool`, or none of any other value.
     pub fn as_bool(&self) -> Option<bool>
         ensures { result ≡ bool_in (out-Value self.now) }
     {
@@ -22,7 +22,7 @@ impl Value {
         }
     }
 
-    /// The value of an `I32`.
+    /// The value of an `I32`, or none of any other value.
     ///
     /// ```
     /// // The value of the field of the number, if it is an `I32`.
@@ -42,7 +42,7 @@ impl Value {
         }
     }
 
-    /// The value of an `I64`.
+    /// The value of an `I64`, or none of any other value.
     pub fn as_i64(&self) -> Option<i64>
         ensures { result ≡ i64_in (out-Value self.now) }
     {
@@ -52,7 +52,7 @@ impl Value {
         }
     }
 
-    /// The value of a `U32`.
+    /// The value of a `U32`, or none of any other value.
     pub fn as_u32(&self) -> Option<u32>
         ensures { result ≡ u32_in (out-Value self.now) }
     {
@@ -62,7 +62,7 @@ impl Value {
         }
     }
 
-    /// The value of a `U64`.
+    /// The value of a `U64`, or none of any other value.
     pub fn as_u64(&self) -> Option<u64>
         ensures { result ≡ u64_in (out-Value self.now) }
     {
@@ -72,7 +72,7 @@ impl Value {
         }
     }
 
-    /// The bits of an `F32`.
+    /// The bits of an `F32`, or none of any other value.
     pub fn as_f32(&self) -> Option<u32>
         ensures { result ≡ f32_in (out-Value self.now) }
     {
@@ -82,7 +82,7 @@ impl Value {
         }
     }
 
-    /// The bits of an `F64`.
+    /// The bits of an `F64`, or none of any other value.
     pub fn as_f64(&self) -> Option<u64>
         ensures { result ≡ f64_in (out-Value self.now) }
     {
@@ -92,7 +92,7 @@ impl Value {
         }
     }
 
-    /// The number of an `EnumNumber`.
+    /// The number of an `EnumNumber`, or none of any other value.
     pub fn as_enum_number(&self) -> Option<i32>
         ensures { result ≡ enum_number_in (out-Value self.now) }
     {
@@ -102,7 +102,7 @@ impl Value {
         }
     }
 
-    /// The text of a `String`.
+    /// The text of a `String`, or none of any other value.
     pub fn as_str(&self) -> Option<&str>
         ensures { option_copied result ≡ text_in (out-Value self.now) }
     {
@@ -112,7 +112,7 @@ impl Value {
         }
     }
 
-    /// The bytes of a `Bytes`.
+    /// The bytes of a `Bytes`, or none of any other value.
     pub fn as_bytes(&self) -> Option<&[u8]>
         ensures { option_copied result ≡ bytes_in (out-Value self.now) }
     {
@@ -122,7 +122,7 @@ impl Value {
         }
     }
 
-    /// The message of a `Message`.
+    /// The message of a `Message`, or none of any other value.
     pub fn as_message(&self) -> Option<&DynamicMessage>
         ensures value { option_copied result ≡ message_in (out-Value self.now) }
         ensures inside { IfSome result (λ message. size-DynamicMessage message.now < size-Value self.now) }
@@ -133,7 +133,7 @@ impl Value {
         }
     }
 
-    /// The elements of a `List`.
+    /// The elements of a `List`, or none of any other value.
     pub fn as_list(&self) -> Option<&[Value]>
         ensures value { option_copied result ≡ list_in (out-Value self.now) }
         ensures inside { IfSome result (λ values. All (λ value. size-Value value < size-Value self.now) values.now) }
@@ -144,7 +144,7 @@ impl Value {
         }
     }
 
-    /// The entries of a `Map`.
+    /// The entries of a `Map`, or none of any other value.
     pub fn as_map(&self) -> Option<&BTreeMap<MapKey, Value>>
         ensures value { option_map (λ map. map.now.entries) result ≡ pairs_in (out-Value self.now) }
         ensures inside { IfSome result (λ map. All (λ entry. size-Value entry.1 < size-Value self.now) map.now.entries) }

@@ -15,7 +15,7 @@ use crate::value::{MapKey, Value};
 use std::collections::BTreeMap;
 
 impl Value {
-    /// The value of a `Bool`, for writing.
+    /// The value of a `Bool`, for writing, or none of any other value.
     pub fn as_bool_mut(&mut self) -> Option<&mut bool>
         ensures* writes_back { sem 𝓛 (LendsIf the_row bool self.entry result values.Bool self.old) }
         ensures value { option_copied_mut result ≡ bool_in (out-Value self.old) }
@@ -27,7 +27,7 @@ impl Value {
         }
     }
 
-    /// The value of an `I32`, for writing.
+    /// The value of an `I32`, for writing, or none of any other value.
     pub fn as_i32_mut(&mut self) -> Option<&mut i32>
         ensures* writes_back { sem 𝓛 (LendsIf the_row i32 self.entry result values.I32 self.old) }
         ensures value { option_copied_mut result ≡ i32_in (out-Value self.old) }
@@ -39,7 +39,7 @@ impl Value {
         }
     }
 
-    /// The value of an `I64`, for writing.
+    /// The value of an `I64`, for writing, or none of any other value.
     pub fn as_i64_mut(&mut self) -> Option<&mut i64>
         ensures* writes_back { sem 𝓛 (LendsIf the_row i64 self.entry result values.I64 self.old) }
         ensures value { option_copied_mut result ≡ i64_in (out-Value self.old) }
@@ -51,7 +51,7 @@ impl Value {
         }
     }
 
-    /// The value of a `U32`, for writing.
+    /// The value of a `U32`, for writing, or none of any other value.
     pub fn as_u32_mut(&mut self) -> Option<&mut u32>
         ensures* writes_back { sem 𝓛 (LendsIf the_row u32 self.entry result values.U32 self.old) }
         ensures value { option_copied_mut result ≡ u32_in (out-Value self.old) }
@@ -63,7 +63,7 @@ impl Value {
         }
     }
 
-    /// The value of a `U64`, for writing.
+    /// The value of a `U64`, for writing, or none of any other value.
     pub fn as_u64_mut(&mut self) -> Option<&mut u64>
         ensures* writes_back { sem 𝓛 (LendsIf the_row u64 self.entry result values.U64 self.old) }
         ensures value { option_copied_mut result ≡ u64_in (out-Value self.old) }
@@ -75,7 +75,7 @@ impl Value {
         }
     }
 
-    /// The bits of an `F32`, for writing.
+    /// The bits of an `F32`, for writing, or none of any other value.
     pub fn as_f32_mut(&mut self) -> Option<&mut u32>
         ensures* writes_back { sem 𝓛 (LendsIf the_row u32 self.entry result values.F32 self.old) }
         ensures value { option_copied_mut result ≡ f32_in (out-Value self.old) }
@@ -87,7 +87,7 @@ impl Value {
         }
     }
 
-    /// The bits of an `F64`, for writing.
+    /// The bits of an `F64`, for writing, or none of any other value.
     pub fn as_f64_mut(&mut self) -> Option<&mut u64>
         ensures* writes_back { sem 𝓛 (LendsIf the_row u64 self.entry result values.F64 self.old) }
         ensures value { option_copied_mut result ≡ f64_in (out-Value self.old) }
@@ -99,7 +99,7 @@ impl Value {
         }
     }
 
-    /// The number of an `EnumNumber`, for writing.
+    /// The number of an `EnumNumber`, for writing, or none of any other value.
     pub fn as_enum_number_mut(&mut self) -> Option<&mut i32>
         ensures* writes_back { sem 𝓛 (LendsIf the_row i32 self.entry result values.EnumNumber self.old) }
         ensures value { option_copied_mut result ≡ enum_number_in (out-Value self.old) }
@@ -111,7 +111,7 @@ impl Value {
         }
     }
 
-    /// The text of a `String`, for writing.
+    /// The text of a `String`, for writing, or none of any other value.
     pub fn as_string_mut(&mut self) -> Option<&mut String>
         ensures* writes_back { sem 𝓛 (LendsIf the_row text_row self.entry result values.String self.old) }
         ensures value { option_map (λ text. string_bytes text.now) result ≡ text_in (out-Value self.old) }
@@ -123,7 +123,7 @@ impl Value {
         }
     }
 
-    /// The bytes of a `Bytes`, for writing.
+    /// The bytes of a `Bytes`, for writing, or none of any other value.
     pub fn as_bytes_mut(&mut self) -> Option<&mut Vec<u8>>
         ensures* writes_back { sem 𝓛 (LendsIf the_row bytes_row self.entry result values.Bytes self.old) }
         ensures value { option_map (λ bytes. bytes.now.items) result ≡ bytes_in (out-Value self.old) }
@@ -135,7 +135,7 @@ impl Value {
         }
     }
 
-    /// The message of a `Message`, for writing.
+    /// The message of a `Message`, for writing, or none of any other value.
     pub fn as_message_mut(&mut self) -> Option<&mut DynamicMessage>
         ensures* writes_back { sem 𝓛 (LendsIf the_row message.the_row self.entry result values.Message self.old) }
         ensures value { option_copied_mut result ≡ message_in (out-Value self.old) }
@@ -147,7 +147,7 @@ impl Value {
         }
     }
 
-    /// The elements of a `List`, for writing.
+    /// The elements of a `List`, for writing, or none of any other value.
     pub fn as_list_mut(&mut self) -> Option<&mut Vec<Value>>
         ensures* writes_back { sem 𝓛 (LendsIf the_row list_row self.entry result values.List self.old) }
         ensures value { option_map (λ values. values.now.items) result ≡ list_in (out-Value self.old) }
@@ -159,7 +159,7 @@ impl Value {
         }
     }
 
-    /// The entries of a `Map`, for writing.
+    /// The entries of a `Map`, for writing, or none of any other value.
     pub fn as_map_mut(&mut self) -> Option<&mut BTreeMap<MapKey, Value>>
         ensures* writes_back { sem 𝓛 (LendsIf the_row map_row self.entry result values.Map self.old) }
         ensures value { option_map (λ map. map.now.entries) result ≡ pairs_in (out-Value self.old) }

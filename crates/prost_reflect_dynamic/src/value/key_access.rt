@@ -11,7 +11,7 @@ ghost use Rattle.prost_reflect_dynamic.specs.Variants.{bool_of_key, i32_of_key, 
 use crate::value::MapKey;
 
 impl MapKey {
-    /// The value of a `Bool`.
+    /// The value of a `Bool`, or none of any other key.
     pub fn as_bool(&self) -> Option<bool>
         ensures { result ≡ bool_of_key self.now }
     {
@@ -21,7 +21,7 @@ impl MapKey {
         }
     }
 
-    /// The value of an `I32`.
+    /// The value of an `I32`, or none of any other key.
     pub fn as_i32(&self) -> Option<i32>
         ensures { result ≡ i32_of_key self.now }
     {
@@ -31,7 +31,7 @@ impl MapKey {
         }
     }
 
-    /// The value of an `I64`.
+    /// The value of an `I64`, or none of any other key.
     pub fn as_i64(&self) -> Option<i64>
         ensures { result ≡ i64_of_key self.now }
     {
@@ -41,7 +41,7 @@ impl MapKey {
         }
     }
 
-    /// The value of a `U32`.
+    /// The value of a `U32`, or none of any other key.
     pub fn as_u32(&self) -> Option<u32>
         ensures { result ≡ u32_of_key self.now }
     {
@@ -51,7 +51,7 @@ impl MapKey {
         }
     }
 
-    /// The value of a `U64`.
+    /// The value of a `U64`, or none of any other key.
     pub fn as_u64(&self) -> Option<u64>
         ensures { result ≡ u64_of_key self.now }
     {
@@ -61,7 +61,7 @@ impl MapKey {
         }
     }
 
-    /// The text of a `String`.
+    /// The text of a `String`, or none of any other key.
     pub fn as_str(&self) -> Option<&str>
         ensures { option_copied result ≡ text_of_key self.now }
     {
@@ -71,7 +71,7 @@ impl MapKey {
         }
     }
 
-    /// The value of a `Bool`, for writing.
+    /// The value of a `Bool`, for writing, or none of any other key.
     pub fn as_bool_mut(&mut self) -> Option<&mut bool>
         ensures* writes_back { sem 𝓛 (LendsIf the_row bool self.entry result keys.Bool self.old) }
         ensures value { option_copied_mut result ≡ bool_of_key self.old }
@@ -83,7 +83,7 @@ impl MapKey {
         }
     }
 
-    /// The value of an `I32`, for writing.
+    /// The value of an `I32`, for writing, or none of any other key.
     pub fn as_i32_mut(&mut self) -> Option<&mut i32>
         ensures* writes_back { sem 𝓛 (LendsIf the_row i32 self.entry result keys.I32 self.old) }
         ensures value { option_copied_mut result ≡ i32_of_key self.old }
@@ -95,7 +95,7 @@ impl MapKey {
         }
     }
 
-    /// The value of an `I64`, for writing.
+    /// The value of an `I64`, for writing, or none of any other key.
     pub fn as_i64_mut(&mut self) -> Option<&mut i64>
         ensures* writes_back { sem 𝓛 (LendsIf the_row i64 self.entry result keys.I64 self.old) }
         ensures value { option_copied_mut result ≡ i64_of_key self.old }
@@ -107,7 +107,7 @@ impl MapKey {
         }
     }
 
-    /// The value of a `U32`, for writing.
+    /// The value of a `U32`, for writing, or none of any other key.
     pub fn as_u32_mut(&mut self) -> Option<&mut u32>
         ensures* writes_back { sem 𝓛 (LendsIf the_row u32 self.entry result keys.U32 self.old) }
         ensures value { option_copied_mut result ≡ u32_of_key self.old }
@@ -119,7 +119,7 @@ impl MapKey {
         }
     }
 
-    /// The value of a `U64`, for writing.
+    /// The value of a `U64`, for writing, or none of any other key.
     pub fn as_u64_mut(&mut self) -> Option<&mut u64>
         ensures* writes_back { sem 𝓛 (LendsIf the_row u64 self.entry result keys.U64 self.old) }
         ensures value { option_copied_mut result ≡ u64_of_key self.old }
@@ -131,7 +131,7 @@ impl MapKey {
         }
     }
 
-    /// The text of a `String`, for writing.
+    /// The text of a `String`, for writing, or none of any other key.
     pub fn as_string_mut(&mut self) -> Option<&mut String>
         ensures* writes_back { sem 𝓛 (LendsIf the_row text_row self.entry result keys.String self.old) }
         ensures value { option_map (λ text. string_bytes text.now) result ≡ text_of_key self.old }
