@@ -163,11 +163,11 @@ any_at low m o (g ∷ fields) h = go (nat_eq g.number m) refl (any_at g.number m
         ap (λ b. same_oneof g.oneof o || b) (more ∙ none) ∙ or_false (same_oneof g.oneof o)
     go false e more = more
 
-abbrev oneof_or : Option Field → Option ℕ
+abbrev pub oneof_or : Option Field → Option ℕ
 oneof_or None = None
 oneof_or (Some f) = f.oneof
 
-oneof_of : (fields : List Field) (n : ℕ) → oneof_at fields n ≡ oneof_or (field_of fields n)
+pub oneof_of : (fields : List Field) (n : ℕ) → oneof_at fields n ≡ oneof_or (field_of fields n)
 oneof_of [] n = refl
 oneof_of (f ∷ fields) n = go (nat_eq f.number n) (oneof_of fields n)
   where
@@ -175,7 +175,7 @@ oneof_of (f ∷ fields) n = go (nat_eq f.number n) (oneof_of fields n)
     go true e = refl
     go false e = e
 
-sibling_is : (low : ℕ) (fields : List Field) (f : Field) (n m : ℕ) → rising low fields ≡ true → field_of fields n ≡ Some f → is_sibling fields f m ≡ (not (nat_eq m n) && same fields n m)
+pub sibling_is : (low : ℕ) (fields : List Field) (f : Field) (n m : ℕ) → rising low fields ≡ true → field_of fields n ≡ Some f → is_sibling fields f m ≡ (not (nat_eq m n) && same fields n m)
 sibling_is low fields f n m h e =
     let is = field_number fields n f e in
     let oneof : oneof_at fields n ≡ f.oneof = oneof_of fields n ∙ ap oneof_or e in

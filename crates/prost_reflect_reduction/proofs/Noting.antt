@@ -1,12 +1,13 @@
 -- The first and the next members of oneofs, as they are noted from behind, and a walk over fields of the tables step by step.
-use Rattle.std.proofs.Common.{◌≡◌, ◌⊎◌, inl, inr, ℕ, zero, suc, ◌+◌, ◌-◌, ◌^◌, ◌<◌, ◌≤◌, nat_eq, nat_lt, Bool, true, false, cond, ◌&&◌, List, [], ◌∷◌, length, map, drop, get_or, drop-cons, add-one, Option, Some, None, refl, ap, ap₂, sym, ◌∙◌, arith, subst}
-use Rattle.std.specs.Prelude.{nat_le, set, replicate}
+use Rattle.std.proofs.Common.{◌≡◌, ℕ, zero, suc, ◌+◌, ◌-◌, ◌^◌, ◌<◌, ◌≤◌, nat_eq, nat_lt, Bool, true, false, cond, ◌&&◌, List, [], ◌∷◌, length, map, drop, get_or, drop-cons, add-one, Option, Some, None, refl, ap, ap₂, sym, ◌∙◌, arith, subst}
+use Rattle.std.specs.Prelude.{set, replicate, option_map}
 use Rattle.std.specs.List.{list_all}
+use Rattle.std.specs.Option.{is_none}
 use Rattle.std.proofs.Math.Seq.{drop-length}
 use Rattle.std.proofs.Math.ListN.{drop_of_length-le}
-use Rattle.std.proofs.lemmas.Bool.{cases_lt, eqb-true, eqb-false, and_parts, and_from, le-leb, lt-leb}
+use Rattle.std.proofs.lemmas.Bool.{eqb-true, eqb-false, and_parts, and_from}
 use Rattle.std.proofs.lemmas.List.{get_or-set_same, get_or-set_other, length-set, drop-set, length-map, length-replicate, get_or-replicate}
-use Rattle.prost_reflect_wire.specs.Schema.{Field, same_oneof, message_type}
+use Rattle.prost_reflect_wire.specs.Schema.{Field, MessageType, same_oneof, message_type, known}
 use Rattle.prost_reflect_wire.specs.Reduction.{entries_whole, has_no_fellow}
 use Rattle.prost_reflect_tables.specs.declared.tables.FieldTable.{FieldTable}
 use Rattle.prost_reflect_tables.specs.declared.tables.MessageTable.{MessageTable}
@@ -15,9 +16,16 @@ use Rattle.prost_reflect_tables.specs.Linked.{is_linked, message_linked, field_l
 use Rattle.prost_reflect_tables.specs.Rows.{FieldRow, MessageRow, TableRows, field_row, oneof_row, message_row}
 use Rattle.prost_reflect_tables.specs.Schema.{rows_of, schema_of}
 use Rattle.prost_reflect_tables.specs.Shown.{schema_from, schema_field, schema_message}
-use Rattle.prost_reflect_reduction.specs.Merging.{shown_fields, first_member, next_members, noted, AreFirst, merged, merged_behind}
-use Rattle.prost_reflect_reduction.specs.Reaching.{fields_alike, has_alike, types_alike}
+use Rattle.prost_reflect_reduction.specs.Explaining.{fellow_fault, pair_fault, at_number, first_fault, merge_fault, step_of, fault_behind, at_field, Explains}
+use Rattle.prost_reflect_reduction.specs.Faults.{NumberDiffers}
+use Rattle.prost_reflect_reduction.specs.Merging.{shown_fields, first_member, next_members, noted, AreFirst}
+use Rattle.prost_reflect_reduction.specs.Reaching.{has_alike, types_alike}
+use Rattle.prost_reflect_reduction.specs.declared.fault.ReductionFaultKind.{ReductionFaultKind}
+use Rattle.prost_reflect_reduction.specs.declared.fault.ReductionFaultKind.TheVariants.{MapEntry, Number}
+use Rattle.prost_reflect_reduction.specs.declared.types.FieldFault.{FieldFault}
+use Rattle.prost_reflect_reduction.specs.declared.types.Step.{Step}
 use Rattle.prost_reflect_reduction.proofs.Chains.{rising}
+use Rattle.prost_reflect_reduction.proofs.Explaining.{none_merged, fault_differs}
 use Rattle.prost_reflect_reduction.proofs.Merging.{merged_is}
 
 pub first_at : (first : List ℕ) (fields : List Field) (o : ℕ) → AreFirst first fields → o < length first → get_or first o 0 ≡ first_member fields (Some o)
@@ -113,57 +121,59 @@ next_at tables xs next i x is h e = ap (λ (l : List ℕ). get_or l i 0) is ∙ 
 
 -- ONE STEP OF A WALK
 
-behind_if : (A B : Tables) (xs ys : List FieldTable) (b : Bool) (place : ℕ) → merged_behind A xs B ys (cond b (Some place) None) ≡ (b && merged (shown_fields A (drop place xs)) (shown_fields B ys))
-behind_if A B xs ys true place = refl
-behind_if A B xs ys false place = refl
+behind_step : (A B : Tables) (xs ys : List FieldTable) (fault : Option ReductionFaultKind) (n place : ℕ) → fault_behind A xs B ys (step_of fault n place) ≡ first_fault fault n (merge_fault (shown_fields A (drop place xs)) (shown_fields B ys))
+behind_step A B xs ys None n place = refl
+behind_step A B xs ys (Some fault) n place = refl
 
-pub step_past : (A B : Tables) (xs ys : List FieldTable) (i j : ℕ) (y : FieldTable) (n : ℕ) (o : Option ℕ) → length xs ≤ i → j < length ys → y ≡ get_or ys j y → n ≡ first_member (shown_fields B (drop (suc j) ys)) y.oneof → o ≡ cond (nat_eq n 0) (Some i) None →
-    merged (shown_fields A (drop i xs)) (shown_fields B (drop j ys)) ≡ merged_behind A xs B (drop (j + 1) ys) o
-unfolding merged
-step_past A B xs ys i j y n o past h e is o_is =
+pub step_past : (A B : Tables) (xs ys : List FieldTable) (i j : ℕ) (y : FieldTable) (n : ℕ) (fault : Option ReductionFaultKind) (step : Step) → length xs ≤ i → j < length ys → y ≡ get_or ys j y → n ≡ first_member (shown_fields B (drop (suc j) ys)) y.oneof → fault ≡ fellow_fault n → step ≡ step_of fault y.number i →
+    merge_fault (shown_fields A (drop i xs)) (shown_fields B (drop j ys)) ≡ fault_behind A xs B (drop (j + 1) ys) step
+unfolding merge_fault
+step_past A B xs ys i j y n fault step past h e is fault_is step_is =
     let gone : drop i xs ≡ [] = drop_of_length-le xs past in
-    ap₂ (λ (ds es : List FieldTable). merged (shown_fields A ds) (shown_fields B es)) gone (dropped ys j y h e) ∙
-    (ap₂ (λ k (ds : List FieldTable). nat_eq k 0 && merged (shown_fields A ds) (shown_fields B (drop (suc j) ys))) (sym is) (sym gone) ∙
-    sym (ap₂ (λ p k. merged_behind A xs B (drop k ys) p) o_is (add-one j) ∙ behind_if A B xs (drop (suc j) ys) (nat_eq n 0) i))
+    ap₂ (λ (ds es : List FieldTable). merge_fault (shown_fields A ds) (shown_fields B es)) gone (dropped ys j y h e) ∙
+    (ap₂ (λ k (ds : List FieldTable). first_fault (fellow_fault k) y.number (merge_fault (shown_fields A ds) (shown_fields B (drop (suc j) ys)))) (sym is) (sym gone) ∙
+    sym (ap₂ (λ p k. fault_behind A xs B (drop k ys) p) (step_is ∙ ap (λ o. step_of o y.number i) fault_is) (add-one j) ∙ behind_step A B xs (drop (suc j) ys) (fellow_fault n) y.number i))
 
-pub step_one : (A B : Tables) (xs ys : List FieldTable) (i j : ℕ) (x y : FieldTable) (n : ℕ) (o : Option ℕ) → i < length xs → x ≡ get_or xs i x → j < length ys → y ≡ get_or ys j y → nat_eq x.number y.number ≡ false → n ≡ first_member (shown_fields B (drop (suc j) ys)) y.oneof → o ≡ cond (nat_eq n 0) (Some i) None →
-    merged (shown_fields A (drop i xs)) (shown_fields B (drop j ys)) ≡ merged_behind A xs B (drop (j + 1) ys) o
-unfolding merged
-step_one A B xs ys i j x y n o low d h e differ is o_is =
-    ap₂ (λ (ds es : List FieldTable). merged (shown_fields A ds) (shown_fields B es)) (dropped xs i x low d) (dropped ys j y h e) ∙
-    (ap (λ b. cond b (nat_eq (first_member (shown_fields A (drop (suc i) xs)) x.oneof) (first_member (shown_fields B (drop (suc j) ys)) y.oneof) && fields_alike (schema_field (rows_of A) (field_row x)) (schema_field (rows_of B) (field_row y)) && merged (shown_fields A (drop (suc i) xs)) (shown_fields B (drop (suc j) ys)))
-    (nat_eq (first_member (shown_fields B (drop (suc j) ys)) y.oneof) 0 && merged (shown_fields A (x ∷ drop (suc i) xs)) (shown_fields B (drop (suc j) ys)))) differ ∙
-    (ap₂ (λ k (ds : List FieldTable). nat_eq k 0 && merged (shown_fields A ds) (shown_fields B (drop (suc j) ys))) (sym is) (sym (dropped xs i x low d)) ∙
-    sym (ap₂ (λ p k. merged_behind A xs B (drop k ys) p) o_is (add-one j) ∙ behind_if A B xs (drop (suc j) ys) (nat_eq n 0) i)))
+pub step_one : (A B : Tables) (xs ys : List FieldTable) (i j : ℕ) (x y : FieldTable) (n : ℕ) (fault : Option ReductionFaultKind) (step : Step) → i < length xs → x ≡ get_or xs i x → j < length ys → y ≡ get_or ys j y → nat_eq x.number y.number ≡ false → nat_lt x.number y.number ≡ false → n ≡ first_member (shown_fields B (drop (suc j) ys)) y.oneof → fault ≡ fellow_fault n → step ≡ step_of fault y.number i →
+    merge_fault (shown_fields A (drop i xs)) (shown_fields B (drop j ys)) ≡ fault_behind A xs B (drop (j + 1) ys) step
+unfolding merge_fault
+step_one A B xs ys i j x y n fault step low d h e differ more is fault_is step_is =
+    ap₂ (λ (ds es : List FieldTable). merge_fault (shown_fields A ds) (shown_fields B es)) (dropped xs i x low d) (dropped ys j y h e) ∙
+    (ap₂ (λ b c. cond b (first_fault (pair_fault (first_member (shown_fields A (drop (suc i) xs)) x.oneof) (first_member (shown_fields B (drop (suc j) ys)) y.oneof) (schema_field (rows_of A) (field_row x)) (schema_field (rows_of B) (field_row y))) x.number (merge_fault (shown_fields A (drop (suc i) xs)) (shown_fields B (drop (suc j) ys))))
+    (cond c (Some (at_number x.number Number)) (first_fault (fellow_fault (first_member (shown_fields B (drop (suc j) ys)) y.oneof)) y.number (merge_fault (shown_fields A (x ∷ drop (suc i) xs)) (shown_fields B (drop (suc j) ys)))))) differ more ∙
+    (ap₂ (λ k (ds : List FieldTable). first_fault (fellow_fault k) y.number (merge_fault (shown_fields A ds) (shown_fields B (drop (suc j) ys)))) (sym is) (sym (dropped xs i x low d)) ∙
+    sym (ap₂ (λ p k. fault_behind A xs B (drop k ys) p) (step_is ∙ ap (λ o. step_of o y.number i) fault_is) (add-one j) ∙ behind_step A B xs (drop (suc j) ys) (fellow_fault n) y.number i)))
 
-pub step_both : (A B : Tables) (xs ys : List FieldTable) (i j : ℕ) (x y : FieldTable) (m n : ℕ) (alike : Bool) (o : Option ℕ) → i < length xs → x ≡ get_or xs i x → j < length ys → y ≡ get_or ys j y → nat_eq x.number y.number ≡ true →
-    m ≡ first_member (shown_fields A (drop (suc i) xs)) x.oneof → n ≡ first_member (shown_fields B (drop (suc j) ys)) y.oneof → alike ≡ (nat_eq m n && fields_alike (schema_field (rows_of A) (field_row x)) (schema_field (rows_of B) (field_row y))) → o ≡ cond alike (Some (i + 1)) None →
-    merged (shown_fields A (drop i xs)) (shown_fields B (drop j ys)) ≡ merged_behind A xs B (drop (j + 1) ys) o
-unfolding merged
-step_both A B xs ys i j x y m n alike o low d h e same m_is n_is alike_is o_is =
-    ap₂ (λ (ds es : List FieldTable). merged (shown_fields A ds) (shown_fields B es)) (dropped xs i x low d) (dropped ys j y h e) ∙
-    (ap (λ b. cond b (nat_eq (first_member (shown_fields A (drop (suc i) xs)) x.oneof) (first_member (shown_fields B (drop (suc j) ys)) y.oneof) && fields_alike (schema_field (rows_of A) (field_row x)) (schema_field (rows_of B) (field_row y)) && merged (shown_fields A (drop (suc i) xs)) (shown_fields B (drop (suc j) ys)))
-    (nat_eq (first_member (shown_fields B (drop (suc j) ys)) y.oneof) 0 && merged (shown_fields A (x ∷ drop (suc i) xs)) (shown_fields B (drop (suc j) ys)))) same ∙
-    (ap₂ (λ k l. nat_eq k l && fields_alike (schema_field (rows_of A) (field_row x)) (schema_field (rows_of B) (field_row y)) && merged (shown_fields A (drop (suc i) xs)) (shown_fields B (drop (suc j) ys))) (sym m_is) (sym n_is) ∙
-    (ap₂ (λ b k. b && merged (shown_fields A (drop k xs)) (shown_fields B (drop (suc j) ys))) (sym alike_is) (sym (add-one i)) ∙
-    sym (ap₂ (λ p k. merged_behind A xs B (drop k ys) p) o_is (add-one j) ∙ behind_if A B xs (drop (suc j) ys) alike (i + 1)))))
+-- the newer type lacks the number
+pub step_lacking : (A B : Tables) (xs ys : List FieldTable) (i j : ℕ) (x y : FieldTable) (step : Step) → i < length xs → x ≡ get_or xs i x → j < length ys → y ≡ get_or ys j y → nat_eq x.number y.number ≡ false → nat_lt x.number y.number ≡ true → step ≡ step_of (Some Number) x.number i →
+    merge_fault (shown_fields A (drop i xs)) (shown_fields B (drop j ys)) ≡ fault_behind A xs B (drop (j + 1) ys) step
+unfolding merge_fault
+step_lacking A B xs ys i j x y step low d h e differ less step_is =
+    ap₂ (λ (ds es : List FieldTable). merge_fault (shown_fields A ds) (shown_fields B es)) (dropped xs i x low d) (dropped ys j y h e) ∙
+    (ap₂ (λ b c. cond b (first_fault (pair_fault (first_member (shown_fields A (drop (suc i) xs)) x.oneof) (first_member (shown_fields B (drop (suc j) ys)) y.oneof) (schema_field (rows_of A) (field_row x)) (schema_field (rows_of B) (field_row y))) x.number (merge_fault (shown_fields A (drop (suc i) xs)) (shown_fields B (drop (suc j) ys))))
+    (cond c (Some (at_number x.number Number)) (first_fault (fellow_fault (first_member (shown_fields B (drop (suc j) ys)) y.oneof)) y.number (merge_fault (shown_fields A (x ∷ drop (suc i) xs)) (shown_fields B (drop (suc j) ys)))))) differ less ∙
+    sym (ap (fault_behind A xs B (drop (j + 1) ys)) step_is))
 
--- the walk is done
-pub none_left : (A B : Tables) (xs ys : List FieldTable) (i j : ℕ) → length ys ≤ j → nat_le (length xs) i ≡ merged (shown_fields A (drop i xs)) (shown_fields B (drop j ys))
-unfolding merged
-none_left A B xs ys i j past = go (cases_lt i (length xs)) ∙ sym (ap (λ (es : List FieldTable). merged (shown_fields A (drop i xs)) (shown_fields B es)) (drop_of_length-le ys past))
-  where
-    go : (i < length xs) ⊎ (length xs ≤ i) → nat_le (length xs) i ≡ merged (shown_fields A (drop i xs)) []
-    go (inr over) = le-leb (length xs) i over ∙ sym (ap (λ (ds : List FieldTable). merged (shown_fields A ds) []) (drop_of_length-le xs over))
-    go (inl under) = not_le (length xs) i under ∙ sym (some_left xs i under)
-      where
-        some_left : (xs : List FieldTable) (i : ℕ) → i < length xs → merged (shown_fields A (drop i xs)) [] ≡ false
-        some_left [] i h = absurd (omega arith)
-        some_left (x ∷ xs) zero h = refl
-        some_left (x ∷ xs) (suc i) h = some_left xs i (omega arith)
+pub step_both : (A B : Tables) (xs ys : List FieldTable) (i j : ℕ) (x y : FieldTable) (m n : ℕ) (fault : Option ReductionFaultKind) (step : Step) → i < length xs → x ≡ get_or xs i x → j < length ys → y ≡ get_or ys j y → nat_eq x.number y.number ≡ true →
+    m ≡ first_member (shown_fields A (drop (suc i) xs)) x.oneof → n ≡ first_member (shown_fields B (drop (suc j) ys)) y.oneof → fault ≡ pair_fault m n (schema_field (rows_of A) (field_row x)) (schema_field (rows_of B) (field_row y)) → step ≡ step_of fault x.number (i + 1) →
+    merge_fault (shown_fields A (drop i xs)) (shown_fields B (drop j ys)) ≡ fault_behind A xs B (drop (j + 1) ys) step
+unfolding merge_fault
+step_both A B xs ys i j x y m n fault step low d h e same m_is n_is fault_is step_is =
+    ap₂ (λ (ds es : List FieldTable). merge_fault (shown_fields A ds) (shown_fields B es)) (dropped xs i x low d) (dropped ys j y h e) ∙
+    (ap (λ b. cond b (first_fault (pair_fault (first_member (shown_fields A (drop (suc i) xs)) x.oneof) (first_member (shown_fields B (drop (suc j) ys)) y.oneof) (schema_field (rows_of A) (field_row x)) (schema_field (rows_of B) (field_row y))) x.number (merge_fault (shown_fields A (drop (suc i) xs)) (shown_fields B (drop (suc j) ys))))
+    (cond (nat_lt x.number y.number) (Some (at_number x.number Number)) (first_fault (fellow_fault (first_member (shown_fields B (drop (suc j) ys)) y.oneof)) y.number (merge_fault (shown_fields A (x ∷ drop (suc i) xs)) (shown_fields B (drop (suc j) ys)))))) same ∙
+    (ap₂ (λ k l. first_fault (pair_fault k l (schema_field (rows_of A) (field_row x)) (schema_field (rows_of B) (field_row y))) x.number (merge_fault (shown_fields A (drop (suc i) xs)) (shown_fields B (drop (suc j) ys)))) (sym m_is) (sym n_is) ∙
+    (ap₂ (λ o k. first_fault o x.number (merge_fault (shown_fields A (drop k xs)) (shown_fields B (drop (suc j) ys)))) (sym fault_is) (sym (add-one i)) ∙
+    sym (ap₂ (λ p k. fault_behind A xs B (drop k ys) p) step_is (add-one j) ∙ behind_step A B xs (drop (suc j) ys) fault x.number (i + 1)))))
 
-        not_le : (n i : ℕ) → i < n → nat_le n i ≡ false
-        not_le n i h = lt-leb n i h
+-- the walk is done but for older fields
+pub some_left : (A : Tables) (xs : List FieldTable) (i : ℕ) (x : FieldTable) → i < length xs → x ≡ get_or xs i x → Some (at_number x.number Number) ≡ merge_fault (shown_fields A (drop i xs)) []
+unfolding merge_fault
+some_left A xs i x h e = sym (ap (λ (ds : List FieldTable). merge_fault (shown_fields A ds) []) (dropped xs i x h e))
+
+pub none_left : (A : Tables) (xs : List FieldTable) (i : ℕ) → length xs ≤ i → None ≡ merge_fault (shown_fields A (drop i xs)) []
+unfolding merge_fault
+none_left A xs i past = sym (ap (λ (ds : List FieldTable). merge_fault (shown_fields A ds) []) (drop_of_length-le xs past))
 
 -- THE TYPES AT PLACES
 
@@ -205,15 +215,39 @@ fields_rise : (tables : Tables) (a : ℕ) (m : MessageTable) → is_linked (rows
 fields_rise tables a m linked h e =
     rows_rise (rows_of tables) 0 (map field_row m.fields.items) (and_parts _ _ (and_parts _ _ (and_parts _ _ (message_is_linked tables a m linked h e)).0).0).0
 
-pub alike_is : (A B : Tables) (a b : ℕ) (m n : MessageTable) → is_linked (rows_of A) ≡ true → is_linked (rows_of B) ≡ true → a < length A.messages.items → m ≡ get_or A.messages.items a m → b < length B.messages.items → n ≡ get_or B.messages.items b n →
-    entries_whole (schema_message (rows_of A) (message_row m)) (schema_message (rows_of B) (message_row n)) ≡ true → merged (shown_fields A m.fields.items) (shown_fields B n.fields.items) ≡ types_alike (message_type (schema_of A) a) (message_type (schema_of B) b)
-alike_is A B a b m n linked linked' low e low' d whole =
-    merged_is (shown_fields A m.fields.items) (shown_fields B n.fields.items) (fields_rise A a m linked low e) (fields_rise B b n linked' low' d) ∙
-    (sym (ap (λ w. w && list_all (has_alike (shown_fields A m.fields.items) (shown_fields B n.fields.items)) (shown_fields A m.fields.items) && list_all (has_no_fellow (shown_fields A m.fields.items) (shown_fields B n.fields.items)) (shown_fields B n.fields.items)) whole) ∙
-    sym (ap₂ types_alike (type_at A a m low e) (type_at B b n low' d)))
+-- what is found in the fields of two types explains them
+pub fields_explained : (A B : Tables) (a b : ℕ) (m n : MessageTable) → is_linked (rows_of A) ≡ true → is_linked (rows_of B) ≡ true → a < length A.messages.items → m ≡ get_or A.messages.items a m → b < length B.messages.items → n ≡ get_or B.messages.items b n →
+    entries_whole (schema_message (rows_of A) (message_row m)) (schema_message (rows_of B) (message_row n)) ≡ true → (found : Option FieldFault) → found ≡ merge_fault (shown_fields A m.fields.items) (shown_fields B n.fields.items) →
+    Explains (option_map at_field found) (message_type (schema_of A) a) (message_type (schema_of B) b)
+fields_explained A B a b m n linked linked' low e low' d whole found is = go found is
+  where
+    older : List Field
+    older = shown_fields A m.fields.items
 
-pub not_alike : (A B : Tables) (a b : ℕ) (m n : MessageTable) → a < length A.messages.items → m ≡ get_or A.messages.items a m → b < length B.messages.items → n ≡ get_or B.messages.items b n →
-    entries_whole (schema_message (rows_of A) (message_row m)) (schema_message (rows_of B) (message_row n)) ≡ false → false ≡ types_alike (message_type (schema_of A) a) (message_type (schema_of B) b)
-not_alike A B a b m n low e low' d whole =
-    sym (ap₂ types_alike (type_at A a m low e) (type_at B b n low' d) ∙
-    ap (λ w. w && list_all (has_alike (shown_fields A m.fields.items) (shown_fields B n.fields.items)) (shown_fields A m.fields.items) && list_all (has_no_fellow (shown_fields A m.fields.items) (shown_fields B n.fields.items)) (shown_fields B n.fields.items)) whole)
+    newer : List Field
+    newer = shown_fields B n.fields.items
+
+    up : rising 0 older ≡ true
+    up = fields_rise A a m linked low e
+
+    up' : rising 0 newer ≡ true
+    up' = fields_rise B b n linked' low' d
+
+    alike : is_none (merge_fault older newer) ≡ types_alike (message_type (schema_of A) a) (message_type (schema_of B) b)
+    alike = none_merged 0 older newer up up' ∙ (merged_is older newer up up' ∙
+        (sym (ap (λ w. w && list_all (has_alike older newer) older && list_all (has_no_fellow older newer) newer) whole) ∙
+        sym (ap₂ types_alike (type_at A a m low e) (type_at B b n low' d))))
+
+    go : (found : Option FieldFault) → found ≡ merge_fault older newer → Explains (option_map at_field found) (message_type (schema_of A) a) (message_type (schema_of B) b)
+    go None is = sym alike ∙ ap is_none (sym is)
+    go (Some fault) is = (
+      sym alike ∙ ap is_none (sym is),
+      subst (λ (t : MessageType). NumberDiffers fault.kind t.known (known (schema_of B) b) fault.number) (sym (type_at A a m low e))
+          (subst (λ (t : MessageType). NumberDiffers fault.kind older t.known fault.number) (sym (type_at B b n low' d)) (fault_differs older newer up up' fault (sym is))),
+    )
+
+pub entries_explained : (A B : Tables) (a b : ℕ) (m n : MessageTable) → a < length A.messages.items → m ≡ get_or A.messages.items a m → b < length B.messages.items → n ≡ get_or B.messages.items b n →
+    entries_whole (schema_message (rows_of A) (message_row m)) (schema_message (rows_of B) (message_row n)) ≡ false → Explains (Some (record { number = None; kind = MapEntry })) (message_type (schema_of A) a) (message_type (schema_of B) b)
+entries_explained A B a b m n low e low' d whole =
+    let at : entries_whole (message_type (schema_of A) a) (message_type (schema_of B) b) ≡ false = ap₂ entries_whole (type_at A a m low e) (type_at B b n low' d) ∙ whole in
+    (ap (λ w. w && list_all (has_alike (known (schema_of A) a) (known (schema_of B) b)) (known (schema_of A) a) && list_all (has_no_fellow (known (schema_of A) a) (known (schema_of B) b)) (known (schema_of B) b)) at, (refl, at))

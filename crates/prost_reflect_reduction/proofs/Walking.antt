@@ -204,7 +204,7 @@ kept zero ps x h = refl
 kept (suc n) [] x h = absurd (omega arith)
 kept (suc n) (p ∷ ps) x h = ap (λ l. p ∷ l) (kept n ps x (omega arith))
 
-longer : (ps : TypePairs) (x : ℕ × ℕ) → length ps ≤ length (ps ++ x ∷ [])
+pub longer : (ps : TypePairs) (x : ℕ × ℕ) → length ps ≤ length (ps ++ x ∷ [])
 longer [] x = omega arith
 longer (p ∷ ps) x = let l = longer ps x in omega (arith, l)
 

@@ -2,3 +2,5 @@ pub mod Merging
 pub mod Kinds
 pub mod Reaching
 pub mod Walking
+pub mod Faults
+pub mod Explaining

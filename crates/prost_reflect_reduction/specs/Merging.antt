@@ -1,5 +1,5 @@
 -- A walk over the fields of two message types in ascending order of their numbers, and the members of a oneof that follow one another. For private contracts alone.
-use Rattle.std.specs.Prelude.{◌≡◌, ℕ, ◌<◌, nat_eq, Bool, true, false, ◌&&◌, if◌then◌else◌, List, [], ◌∷◌, length, map, get_or, set, drop, Option, None, Some}
+use Rattle.std.specs.Prelude.{◌≡◌, ℕ, ◌<◌, nat_eq, Bool, true, false, ◌&&◌, if◌then◌else◌, List, [], ◌∷◌, length, map, get_or, set, Option, None, Some}
 use Rattle.prost_reflect_wire.specs.Schema.{Field, same_oneof}
 use Rattle.prost_reflect_tables.specs.declared.tables.FieldTable.{FieldTable}
 use Rattle.prost_reflect_tables.specs.declared.tables.Tables.{Tables}
@@ -40,8 +40,3 @@ merged (f ∷ older) (g ∷ newer) =
     if nat_eq f.number g.number
     then nat_eq (first_member older f.oneof) (first_member newer g.oneof) && fields_alike f g && merged older newer
     else nat_eq (first_member newer g.oneof) 0 && merged (f ∷ older) newer
-
--- The rest of a walk that stands at this place of the older fields, or at none where it has found a difference.
-abbrev pub merged_behind : Tables → List FieldTable → Tables → List FieldTable → Option ℕ → Bool
-merged_behind older fields newer others None = false
-merged_behind older fields newer others (Some place) = merged (shown_fields older (drop place fields)) (shown_fields newer others)

@@ -1,4 +1,4 @@
--- Reduction by the pairs of types that are reached: what is asked of one pair, and which pairs it asks for. For private contracts alone.
+-- Reduction by the pairs of types that are reached: what is asked of one pair, and which pairs it asks for. For private contracts, but for what `Faults` cites.
 use Rattle.std.specs.Prelude.{◌≡◌, ℕ, Bool, true, false, ◌&&◌, List, [], ◌∷◌, flat_map, Option, Some, None}
 use Rattle.std.specs.Bool.{beq}
 use Rattle.std.specs.List.{list_all}

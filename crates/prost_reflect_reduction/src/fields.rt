@@ -5,10 +5,12 @@ ghost use Rattle.prost_reflect_tables.specs.Rows.{EnumRow, field_row, message_ro
 ghost use Rattle.prost_reflect_tables.specs.Schema.{rows_of};
 ghost use Rattle.prost_reflect_tables.specs.Shown.{schema_field, own_type, type_or, map_entry, form_of};
 ghost use Rattle.prost_reflect_tables.specs.declared.tables.Cardinality.TheVariants.{Repeated as RepeatedLabel};
+ghost use Rattle.prost_reflect_reduction.specs.Explaining.{fields_fault, forms_fault};
 ghost use Rattle.prost_reflect_reduction.specs.Kinds.{AreSameEnums};
-ghost use Rattle.prost_reflect_reduction.specs.Reaching.{forms_alike, fields_alike};
+ghost use Rattle.prost_reflect_reduction.specs.Reaching.{forms_alike};
 
-use crate::values::{keys_match, values_alike};
+use crate::fault::ReductionFaultKind;
+use crate::values::{keys_match, value_fault};
 use prost_reflect_tables::{Cardinality, FieldTable, MessageTable, Tables};
 use std::alloc::{AllocError, Global};
 use std::collections::BTreeSet;
@@ -100,26 +102,42 @@ fn forms_alike(
     }
 }
 
-/// Whether two fields are alike, where any two message types are.
-pub(crate) fn fields_alike(
+/// What differs between the forms of two fields that are not alike in form.
+fn form_fault(
+    older: &Tables,
+    field: &FieldTable,
+    newer: &Tables,
+    like: &FieldTable,
+) -> ReductionFaultKind
+    ensures { result ≡ forms_fault (schema_field (rows_of older.now) (field_row field.now)).form (schema_field (rows_of newer.now) (field_row like.now)).form }
+{
+    if field.cardinality.is_repeated() == like.cardinality.is_repeated() {
+        ReductionFaultKind::Map
+    } else {
+        ReductionFaultKind::Cardinality
+    }
+}
+
+/// What differs first between two fields, where any two message types are alike.
+pub(crate) fn field_fault(
     alloc: Global,
     same_enums: &mut BTreeSet<(usize, usize)>,
     older: &Tables,
     field: &FieldTable,
     newer: &Tables,
     like: &FieldTable,
-) -> Result<bool, AllocError>
+) -> Result<Option<ReductionFaultKind>, AllocError>
     requires enums { AreSameEnums same_enums.old (rows_of older.now).enums (rows_of newer.now).enums }
     ensures enums { OnOk result (AreSameEnums same_enums.new (rows_of older.now).enums (rows_of newer.now).enums) }
-    ensures alike { IfOk result (λ alike. alike ≡ fields_alike (schema_field (rows_of older.now) (field_row field.now)) (schema_field (rows_of newer.now) (field_row like.now))) }
+    ensures fault { IfOk result (λ fault. fault ≡ fields_fault (schema_field (rows_of older.now) (field_row field.now)) (schema_field (rows_of newer.now) (field_row like.now))) }
 {
     if field.is_extension != like.is_extension {
-        return Ok(false);
+        return Ok(Some(ReductionFaultKind::Extension));
     }
     if !forms_alike(alloc, same_enums, older, field, newer, like)? {
-        return Ok(false);
+        return Ok(Some(form_fault(older, field, newer, like)));
     }
-    values_alike(
+    value_fault(
         alloc,
         same_enums,
         older,

@@ -9,8 +9,10 @@ ghost use Rattle.prost_reflect_tables.specs.Rows.{EnumRow, enum_row};
 ghost use Rattle.prost_reflect_tables.specs.Schema.{rows_of};
 ghost use Rattle.prost_reflect_tables.specs.Shown.{schema_kind, enum_kind};
 ghost use Rattle.prost_reflect_reduction.specs.Kinds.{kind_code, table_numbers, HasNumbers, AreSameEnums};
+ghost use Rattle.prost_reflect_reduction.specs.Explaining.{kinds_fault};
 ghost use Rattle.prost_reflect_reduction.specs.Reaching.{kinds_alike};
 
+use crate::fault::ReductionFaultKind;
 use prost_reflect_tables::{EnumTable, EnumValueTable, FieldTable, TableKind, Tables};
 use std::alloc::{AllocError, Global};
 use std::collections::BTreeSet;
@@ -161,5 +163,20 @@ pub(crate) fn kinds_alike(
             _ => Ok(false),
         },
         _ => Ok(code(field.kind) == code(like.kind)),
+    }
+}
+
+/// What differs between the kinds of two fields' own values that are not alike.
+pub(crate) fn kind_fault(
+    older: &Tables,
+    field: &FieldTable,
+    newer: &Tables,
+    like: &FieldTable,
+) -> ReductionFaultKind
+    ensures { result ≡ kinds_fault (schema_kind (rows_of older.now).enums field.now.kind field.now.is_group) (schema_kind (rows_of newer.now).enums like.now.kind like.now.is_group) }
+{
+    match (field.kind, like.kind) {
+        (TableKind::Enum(_), TableKind::Enum(_)) => ReductionFaultKind::Enum,
+        _ => ReductionFaultKind::Kind,
     }
 }

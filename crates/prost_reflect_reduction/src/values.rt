@@ -5,10 +5,11 @@ ghost use Rattle.prost_reflect_wire.specs.Reduction.{same_default, value_types_m
 ghost use Rattle.prost_reflect_tables.specs.Rows.{field_row};
 ghost use Rattle.prost_reflect_tables.specs.Schema.{rows_of};
 ghost use Rattle.prost_reflect_tables.specs.Shown.{own_type};
+ghost use Rattle.prost_reflect_reduction.specs.Explaining.{values_fault};
 ghost use Rattle.prost_reflect_reduction.specs.Kinds.{AreSameEnums};
-ghost use Rattle.prost_reflect_reduction.specs.Reaching.{values_alike};
 
-use crate::kinds::kinds_alike;
+use crate::fault::ReductionFaultKind;
+use crate::kinds::{kind_fault, kinds_alike};
 use prost_reflect_tables::{FieldTable, TableKind, Tables};
 use std::alloc::{AllocError, Global};
 use std::collections::BTreeSet;
@@ -26,27 +27,32 @@ fn same_default(older: &Tables, field: &FieldTable, newer: &Tables, like: &Field
     }
 }
 
-/// Whether the types of two fields' own values are alike, where any two message types are.
-pub(crate) fn values_alike(
+/// What differs first between the types of two fields' own values, where any two message types are alike.
+pub(crate) fn value_fault(
     alloc: Global,
     same_enums: &mut BTreeSet<(usize, usize)>,
     older: &Tables,
     field: &FieldTable,
     newer: &Tables,
     like: &FieldTable,
-) -> Result<bool, AllocError>
+) -> Result<Option<ReductionFaultKind>, AllocError>
     requires enums { AreSameEnums same_enums.old (rows_of older.now).enums (rows_of newer.now).enums }
     ensures enums { OnOk result (AreSameEnums same_enums.new (rows_of older.now).enums (rows_of newer.now).enums) }
-    ensures alike { IfOk result (λ alike. alike ≡ values_alike (own_type (rows_of older.now).enums (field_row field.now)) (own_type (rows_of newer.now).enums (field_row like.now))) }
+    ensures fault { IfOk result (λ fault. fault ≡ values_fault (own_type (rows_of older.now).enums (field_row field.now)) (own_type (rows_of newer.now).enums (field_row like.now))) }
 {
     if !kinds_alike(alloc, same_enums, older, field, newer, like)? {
-        return Ok(false);
+        return Ok(Some(kind_fault(older, field, newer, like)));
     }
-    Ok(
-        field.cardinality.is_required() == like.cardinality.is_required()
-            && field.supports_presence == like.supports_presence
-            && same_default(older, field, newer, like),
-    )
+    if field.cardinality.is_required() != like.cardinality.is_required() {
+        return Ok(Some(ReductionFaultKind::Cardinality));
+    }
+    if field.supports_presence != like.supports_presence {
+        return Ok(Some(ReductionFaultKind::Presence));
+    }
+    if !same_default(older, field, newer, like) {
+        return Ok(Some(ReductionFaultKind::Default));
+    }
+    Ok(None)
 }
 
 /// Whether the types of two fields' own values match, and neither has messages.
@@ -64,6 +70,6 @@ pub(crate) fn keys_match(
 {
     match field.kind {
         TableKind::Message(_) => Ok(false),
-        _ => values_alike(alloc, same_enums, older, field, newer, like),
+        _ => Ok(value_fault(alloc, same_enums, older, field, newer, like)?.is_none()),
     }
 }

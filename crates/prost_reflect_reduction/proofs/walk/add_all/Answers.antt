@@ -4,7 +4,8 @@ use Rattle.prost_reflect_tables.specs.Shown.{schema_field}
 use Rattle.prost_reflect_tables.specs.Rows.{field_row}
 use Rattle.prost_reflect_tables.specs.Schema.{rows_of, schema_of}
 use Rattle.prost_reflect_reduction.specs.Reaching.{field_asks}
-use Rattle.prost_reflect_reduction.specs.Walking.{joined}
+use Rattle.prost_reflect_reduction.specs.Walking.{joined, listed}
+use Rattle.prost_reflect_reduction.proofs.Sources.{pair_kept, field_leads}
 use Rattle.prost_reflect_reduction.proofs.Walking.{joined_next, joined_done}
 use Rattle.prost_reflect_reduction.proofs.walk.add_all.Goals as goal
 
@@ -15,6 +16,12 @@ loop-field-preserved c =
     record {
       set = c.in_ok-add_listed.ensures.set;
       left = ap (λ ps. joined ps (flat_map g (map s (map field_row (drop (c.loop-field.field-index + 1) c.args.fields.now))))) (c.in_ok-add_listed.ensures.pairs ∙ ap (joined c.loop-field.pairs.items) c.field_asks.ensures) ∙ (joined_next c.loop-field.pairs.items g s c.args.fields.now c.loop-field.field-index c.field-item.result c.loop-field-test.true c.field-item.is ∙ c.loop-field.invariant.left);
+      sources = λ older_place at is differ are.
+          let so_far = c.loop-field.invariant.sources older_place at is differ are in (
+            pair_kept c.loop-field.pairs.items (listed c.field_asks.result) c.add_listed.new.pairs.items c.args.pair older_place c.args.newer_place so_far.0 c.in_ok-add_listed.ensures.pairs,
+            c.in_ok-add_listed.ensures.sources (schema_of c.args.older.now) (schema_of c.args.newer.now) so_far.1
+                (λ more. (so_far.0.0, field_leads c.args.older.now (schema_of c.args.older.now) (schema_of c.args.newer.now) older_place c.args.newer_place c.loop-field.pairs.items c.args.pair c.args.fields.now c.loop-field.field-index c.field-item.result (listed c.field_asks.result) so_far.0 is differ c.loop-field-test.true c.field-item.is c.field_asks.ensures)),
+          );
     }
 
 pub returns-clause-pairs : goal.returns-clause-pairs

@@ -1,10 +1,10 @@
-use Rattle.std.proofs.Common.{◌≡◌, map, drop, flat_map}
-use Rattle.prost_reflect_wire.specs.Schema.{known}
+use Rattle.std.proofs.Common.{◌≡◌, ℕ, true, map, drop, flat_map}
+use Rattle.prost_reflect_wire.specs.Schema.{known, numbers_differ}
 use Rattle.prost_reflect_tables.specs.Rows.{field_row}
 use Rattle.prost_reflect_tables.specs.Shown.{schema_field}
 use Rattle.prost_reflect_tables.specs.Schema.{rows_of, schema_of}
 use Rattle.prost_reflect_reduction.specs.Reaching.{field_asks}
-use Rattle.prost_reflect_reduction.specs.Walking.{joined, IsSetOf}
+use Rattle.prost_reflect_reduction.specs.Walking.{joined, IsSetOf, IsPairAt, AreSources}
 use Rattle.prost_reflect_reduction.proofs.walk.add_all.Given as goal
 
 abbrev pub invariant-loop-field : goal.invariant-loop-field
@@ -12,4 +12,6 @@ invariant-loop-field l = record {
   set : IsSetOf l.set l.pairs.items;
   left : joined l.pairs.items (flat_map (field_asks (known (schema_of l.newer) l.newer_place)) (map (schema_field (rows_of l.older)) (map field_row (drop l.field-index l.fields))))
       ≡ joined l.fn.pairs.items (flat_map (field_asks (known (schema_of l.newer) l.newer_place)) (map (schema_field (rows_of l.older)) (map field_row l.fields)));
+  sources : (older_place : ℕ) → IsPairAt l.fn.pairs.items l.pair older_place l.newer_place → map (schema_field (rows_of l.older)) (map field_row l.fields) ≡ known (schema_of l.older) older_place → numbers_differ (known (schema_of l.older) older_place) ≡ true →
+      AreSources (schema_of l.older) (schema_of l.newer) l.fn.pairs.items l.fn.sources.items → IsPairAt l.pairs.items l.pair older_place l.newer_place × AreSources (schema_of l.older) (schema_of l.newer) l.pairs.items l.sources.items;
 }

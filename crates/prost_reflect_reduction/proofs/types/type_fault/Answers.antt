@@ -1,19 +1,22 @@
-use Rattle.std.proofs.Common.{◌≡◌, ◌<◌, List, length, map, ap₂, sym, ◌∙◌, subst, arith}
-use Rattle.std.specs.Prelude.{IfOk}
+use Rattle.std.proofs.Common.{◌≡◌, ◌<◌, List, length, map, Option, ap₂, sym, ◌∙◌, subst, arith}
 use Rattle.std.specs.List.{list_all}
 use Rattle.std.proofs.lemmas.List.{length-map}
+use Rattle.prost_reflect_wire.specs.Schema.{message_type}
 use Rattle.prost_reflect_tables.specs.Linked.{oneof_in_range}
 use Rattle.prost_reflect_tables.specs.declared.tables.FieldTable.{FieldTable}
 use Rattle.prost_reflect_tables.specs.Rows.{FieldRow, field_row, message_row}
-use Rattle.prost_reflect_reduction.specs.Merging.{shown_fields, merged}
-use Rattle.prost_reflect_reduction.proofs.Noting.{alike_is, not_alike, oneofs_linked}
-use Rattle.prost_reflect_reduction.proofs.types.types_alike.Goals as goal
+use Rattle.prost_reflect_tables.specs.Schema.{schema_of}
+use Rattle.prost_reflect_reduction.specs.Explaining.{merge_fault, Explains}
+use Rattle.prost_reflect_reduction.specs.Merging.{shown_fields}
+use Rattle.prost_reflect_reduction.specs.declared.fault.TypeFault.{TypeFault}
+use Rattle.prost_reflect_reduction.proofs.Noting.{fields_explained, entries_explained, oneofs_linked}
+use Rattle.prost_reflect_reduction.proofs.types.type_fault.Goals as goal
 
-pub returns-then-not-entries_whole-clause-alike : goal.returns-then-not-entries_whole-clause-alike
-returns-then-not-entries_whole-clause-alike c =
+pub returns-then-not-entries_whole-clause-fault : goal.returns-then-not-entries_whole-clause-fault
+returns-then-not-entries_whole-clause-fault c =
     let low : c.args.older_place < length c.args.older.now.messages.items = omega (arith, c.requires.older, length-map c.args.older.now.messages.items message_row) in
     let low' : c.args.newer_place < length c.args.newer.now.messages.items = omega (arith, c.requires.newer, length-map c.args.newer.now.messages.items message_row) in
-    not_alike c.args.older.now c.args.newer.now c.args.older_place c.args.newer_place c.index-message.result.now c.index-other.result.now low c.index-message.ensures low' c.index-other.ensures (sym c.entries_whole.ensures ∙ c.if-not-entries_whole.true)
+    entries_explained c.args.older.now c.args.newer.now c.args.older_place c.args.newer_place c.index-message.result.now c.index-other.result.now low c.index-message.ensures low' c.index-other.ensures (sym c.entries_whole.ensures ∙ c.if-not-entries_whole.true)
 
 pub next_members-requires : goal.next_members-requires
 next_members-requires c =
@@ -29,11 +32,11 @@ next_members-requires-2 c =
     ap₂ (λ n (fs : List FieldTable). list_all (λ (f : FieldRow). oneof_in_range n f.oneof) (map field_row fs)) many c.deref-2.ensures.value ∙
     oneofs_linked c.args.newer.now c.args.newer_place c.index-other.result.now c.args.newer.now.linked low' c.index-other.ensures
 
-pub returns-clause-alike : goal.returns-clause-alike
-returns-clause-alike c =
+pub returns-clause-fault : goal.returns-clause-fault
+returns-clause-fault c =
     let low : c.args.older_place < length c.args.older.now.messages.items = omega (arith, c.requires.older, length-map c.args.older.now.messages.items message_row) in
     let low' : c.args.newer_place < length c.args.newer.now.messages.items = omega (arith, c.requires.newer, length-map c.args.newer.now.messages.items message_row) in
-    let is = ap₂ (λ (xs ys : List FieldTable). merged (shown_fields c.args.older.now xs) (shown_fields c.args.newer.now ys)) c.deref-3.ensures.value c.deref-5.ensures.value ∙
-    alike_is c.args.older.now c.args.newer.now c.args.older_place c.args.newer_place c.index-message.result.now c.index-other.result.now c.args.older.now.linked c.args.newer.now.linked low c.index-message.ensures low' c.index-other.ensures
-    (sym c.entries_whole.ensures ∙ c.if-not-entries_whole.false) in
-    subst (λ b. IfOk c.merged.result (λ alike. alike ≡ b)) is c.merged.ensures.alike
+    subst (λ (o : Option TypeFault). Explains o (message_type (schema_of c.args.older.now) c.args.older_place) (message_type (schema_of c.args.newer.now) c.args.newer_place)) (sym c.type_fault_of.ensures)
+    (fields_explained c.args.older.now c.args.newer.now c.args.older_place c.args.newer_place c.index-message.result.now c.index-other.result.now c.args.older.now.linked c.args.newer.now.linked low c.index-message.ensures low' c.index-other.ensures
+    (sym c.entries_whole.ensures ∙ c.if-not-entries_whole.false) c.in_ok-fault.fault
+    (c.in_ok-fault.ensures.fault ∙ ap₂ (λ (xs ys : List FieldTable). merge_fault (shown_fields c.args.older.now xs) (shown_fields c.args.newer.now ys)) c.deref-3.ensures.value c.deref-5.ensures.value))
