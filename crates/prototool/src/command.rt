@@ -1,0 +1,70 @@
+//! What a command line asks for.
+
+/// The word in front of hex digits.
+const HEX_FLAG: &str = "--hex";
+
+/// Where the bytes of a message come from.
+#[derive(Clone, Copy, Debug, PartialEq, Eq)]
+pub enum Source<'a> {
+    /// The standard input.
+    StandardInput,
+    /// The file of the path.
+    File(&'a String),
+    /// Hex digits, two for each byte.
+    Hex(&'a String),
+}
+
+impl<'a> Source<'a> {
+    /// The source that the last words of a command line name: none for the standard input, the path of a file, or `--hex`
+    /// and digits.
+    pub fn parse(words: &'a [String]) -> Option<Source<'a>> {
+        match words {
+            [] => Some(Source::StandardInput),
+            [path] if path.as_str() != HEX_FLAG => Some(Source::File(path)),
+            [flag, digits] if flag.as_str() == HEX_FLAG => Some(Source::Hex(digits)),
+            _ => None,
+        }
+    }
+}
+
+/// What a command line asks for.
+#[derive(Clone, Copy, Debug, PartialEq, Eq)]
+pub enum Command<'a> {
+    /// Print a message of the message type of the name in the descriptor set.
+    Print {
+        /// The file of the descriptor set, or `-`.
+        set: &'a String,
+        /// The full name of the message type.
+        name: &'a String,
+        /// Where the message comes from.
+        source: Source<'a>,
+    },
+    /// Print a message whose type is not known.
+    PrintRaw {
+        /// Where the message comes from.
+        source: Source<'a>,
+    },
+}
+
+impl<'a> Command<'a> {
+    /// What the words, given without the program's name, ask for.
+    pub fn parse(words: &'a [String]) -> Option<Command<'a>> {
+        let (verb, rest) = words.split_first()?;
+        match verb.as_str() {
+            "print" => Command::parse_print(rest),
+            _ => None,
+        }
+    }
+
+    /// What the words behind `print` ask for: `[SET NAME] [FILE | --hex DIGITS]`.
+    fn parse_print(words: &'a [String]) -> Option<Command<'a>> {
+        if let Some(source) = Source::parse(words) {
+            return Some(Command::PrintRaw { source });
+        }
+        let [set, name, rest @ ..] = words else {
+            return None;
+        };
+        let source = Source::parse(rest)?;
+        Some(Command::Print { set, name, source })
+    }
+}

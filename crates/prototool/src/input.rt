@@ -1,0 +1,85 @@
+//! What a command reads: descriptor sets, and the bytes of messages.
+
+use crate::command::Source;
+use crate::refusal::Refusal;
+use prost_reflect::{DescriptorPool, DynamicMessage, MessageDescriptor, builtin_pool};
+use std::alloc::Global;
+use std::fs;
+use std::io::{Input, Read};
+use std::rt::Files;
+
+/// The pool that the word for a descriptor set stands for: `-` for the built-in one, or the path of a file.
+///
+/// # Errors
+///
+/// `File` if the file is not read, `Set` or `Pool` of what it holds, or `Memory`.
+pub fn pool_of<R: Files + AllocGlobal>(rt: &R, set: &str) -> Result<DescriptorPool, Refusal> {
+    let alloc = rt.alloc();
+    if set == "-" {
+        return Ok(builtin_pool(alloc)?);
+    }
+    let bytes = bytes_of_file(rt, set)?;
+    Ok(DescriptorPool::decode(alloc, bytes.as_slice())?)
+}
+
+/// The message type of the name in the pool.
+///
+/// # Errors
+///
+/// `Name` if no message type has the name, or `Memory`.
+pub fn message_type(pool: &DescriptorPool, name: &str) -> Result<MessageDescriptor, Refusal> {
+    match pool.get_message_by_name(name)? {
+        Some(descriptor) => Ok(descriptor),
+        None => Err(Refusal::Name),
+    }
+}
+
+/// The message of the type of the name in the descriptor set that the source holds.
+///
+/// # Errors
+///
+/// The first step that fails: those of `pool_of`, `message_type` and `bytes_of`; then `Decode`, or `Memory`.
+pub fn message_of<R: Files + Input + AllocGlobal>(
+    rt: &R,
+    set: &str,
+    name: &str,
+    source: Source<'_>,
+) -> Result<DynamicMessage, Refusal> {
+    let pool = pool_of(rt, set)?;
+    let descriptor = message_type(&pool, name)?;
+    let bytes = bytes_of(rt, source)?;
+    Ok(DynamicMessage::decode(rt.alloc(), descriptor, bytes.as_slice())?)
+}
+
+/// The bytes that the source holds.
+///
+/// # Errors
+///
+/// `Input`, `File` or `Hex`, by the source, or `Memory`.
+pub fn bytes_of<R: Files + Input + AllocGlobal>(
+    rt: &R,
+    source: Source<'_>,
+) -> Result<Vec<u8>, Refusal> {
+    match source {
+        Source::StandardInput => bytes_of_input(rt),
+        Source::File(path) => bytes_of_file(rt, path.as_str()),
+        Source::Hex(digits) => Ok(hex::decode(rt.alloc(), digits.as_str())?),
+    }
+}
+
+/// All bytes of the standard input.
+fn bytes_of_input<R: Input + AllocGlobal>(rt: &R) -> Result<Vec<u8>, Refusal> {
+    let mut bytes = Vec::new(rt.alloc());
+    match rt.reader().read_to_end(&mut bytes) {
+        Ok(_) => Ok(bytes),
+        Err(error) => Err(Refusal::of_input(&error)),
+    }
+}
+
+/// All bytes of the file of the path.
+fn bytes_of_file<R: Files + AllocGlobal>(rt: &R, path: &str) -> Result<Vec<u8>, Refusal> {
+    match fs::read(rt, path) {
+        Ok(bytes) => Ok(bytes),
+        Err(error) => Err(Refusal::of_file(rt.alloc(), path, &error)),
+    }
+}

@@ -1,0 +1,170 @@
+//! Why a command is refused, and the lines that say so.
+
+use hex::FromHexError;
+use prost_reflect::{DecodeError, EncodeError, PoolError};
+use std::alloc::{AllocError, Global};
+use std::io::ErrorKind;
+use std::{fmt, io};
+
+/// Why a command is not carried out. Its text is the line that the program prints.
+#[derive(Debug, Drop, PartialEq, Eq)]
+pub enum Refusal {
+    /// The file of the path is not read. Out of memory is `Memory`.
+    File(String),
+    /// The standard input is not read. Out of memory is `Memory`.
+    Input,
+    /// The bytes are no descriptor set. Out of memory is `Memory`.
+    Set(DecodeError),
+    /// The files of the descriptor set make no pool. Out of memory is `Memory`, and bytes that are no set are `Set`.
+    Pool(PoolError),
+    /// No message type has the name.
+    Name,
+    /// The digits of the message are not pairs of hex digits.
+    Hex,
+    /// The path of names leads to no field.
+    Path(String),
+    /// The bytes are no message of the type. Out of memory is `Memory`.
+    Decode(DecodeError),
+    /// The message is not written. Out of memory is `Memory`.
+    Encode(EncodeError),
+    /// Out of memory.
+    Memory,
+}
+
+impl Refusal {
+    /// The refusal of a file that is not read.
+    pub fn of_file(alloc: Global, path: &str, error: &io::Error) -> Refusal {
+        if error.kind() == ErrorKind::OutOfMemory {
+            return Refusal::Memory;
+        }
+        match String::from_str(alloc, path) {
+            Ok(path) => Refusal::File(path),
+            Err(_) => Refusal::Memory,
+        }
+    }
+
+    /// The refusal of the standard input, if it is not read.
+    pub fn of_input(error: &io::Error) -> Refusal {
+        if error.kind() == ErrorKind::OutOfMemory {
+            Refusal::Memory
+        } else {
+            Refusal::Input
+        }
+    }
+
+    /// The refusal of a path of names that leads to no field.
+    pub fn of_path(alloc: Global, path: &str) -> Refusal {
+        match String::from_str(alloc, path) {
+            Ok(path) => Refusal::Path(path),
+            Err(_) => Refusal::Memory,
+        }
+    }
+}
+
+impl fmt::Display for Refusal {
+    fn fmt<W: fmt::Write>(&self, f: &mut fmt::Formatter<W>) -> fmt::Result {
+        match self {
+            Refusal::File(path) => write!(f, "refused file {path}"),
+            Refusal::Input => write!(f, "refused input"),
+            Refusal::Set(fault) => write!(f, "refused pool Decode {}", decode_name(*fault)),
+            Refusal::Pool(fault) => write!(f, "refused pool {}", pool_name(*fault)),
+            Refusal::Name => write!(f, "refused name"),
+            Refusal::Hex => write!(f, "refused hex"),
+            Refusal::Path(path) => write!(f, "refused path {path}"),
+            Refusal::Decode(fault) => write!(f, "refused decode {}", decode_name(*fault)),
+            Refusal::Encode(fault) => write!(f, "refused encode {}", encode_name(*fault)),
+            Refusal::Memory => write!(f, "refused memory"),
+        }
+    }
+}
+
+impl From<AllocError> for Refusal {
+    fn from(_error: AllocError) -> Refusal {
+        Refusal::Memory
+    }
+}
+
+impl From<FromHexError> for Refusal {
+    fn from(error: FromHexError) -> Refusal {
+        match error {
+            FromHexError::OutOfMemory => Refusal::Memory,
+            _ => Refusal::Hex,
+        }
+    }
+}
+
+impl From<PoolError> for Refusal {
+    fn from(error: PoolError) -> Refusal {
+        match error {
+            PoolError::OutOfMemory => Refusal::Memory,
+            PoolError::Decode(fault) => Refusal::Set(fault),
+            fault => Refusal::Pool(fault),
+        }
+    }
+}
+
+impl From<DecodeError> for Refusal {
+    fn from(error: DecodeError) -> Refusal {
+        match error {
+            DecodeError::OutOfMemory => Refusal::Memory,
+            fault => Refusal::Decode(fault),
+        }
+    }
+}
+
+impl From<EncodeError> for Refusal {
+    fn from(error: EncodeError) -> Refusal {
+        match error {
+            EncodeError::OutOfMemory => Refusal::Memory,
+            fault => Refusal::Encode(fault),
+        }
+    }
+}
+
+/// The name of a fault in reading a message.
+fn decode_name(fault: DecodeError) -> &'static str {
+    match fault {
+        DecodeError::Truncated => "Truncated",
+        DecodeError::Varint => "Varint",
+        DecodeError::Key => "Key",
+        DecodeError::WireType => "WireType",
+        DecodeError::EndGroup => "EndGroup",
+        DecodeError::Utf8 => "Utf8",
+        DecodeError::Depth => "Depth",
+        DecodeError::OutOfMemory => "OutOfMemory",
+    }
+}
+
+/// The name of a fault in writing a message.
+fn encode_name(fault: EncodeError) -> &'static str {
+    match fault {
+        EncodeError::TooLong => "TooLong",
+        EncodeError::OutOfMemory => "OutOfMemory",
+    }
+}
+
+/// The name of a fault that files have.
+fn pool_name(fault: PoolError) -> &'static str {
+    match fault {
+        PoolError::Decode(_) => "Decode",
+        PoolError::MissingName => "MissingName",
+        PoolError::DuplicateName => "DuplicateName",
+        PoolError::UnknownSyntax => "UnknownSyntax",
+        PoolError::MissingDependency => "MissingDependency",
+        PoolError::BadIndex => "BadIndex",
+        PoolError::BadNumber => "BadNumber",
+        PoolError::DuplicateNumber => "DuplicateNumber",
+        PoolError::BadRange => "BadRange",
+        PoolError::OutsideRange => "OutsideRange",
+        PoolError::UnknownType => "UnknownType",
+        PoolError::MissingType => "MissingType",
+        PoolError::BadLabel => "BadLabel",
+        PoolError::BadOneof => "BadOneof",
+        PoolError::BadMapEntry => "BadMapEntry",
+        PoolError::EmptyEnum => "EmptyEnum",
+        PoolError::BadDefault => "BadDefault",
+        PoolError::FloatDefault => "FloatDefault",
+        PoolError::BadOptions => "BadOptions",
+        PoolError::OutOfMemory => "OutOfMemory",
+    }
+}
