@@ -1,6 +1,7 @@
 //! Messages in protobuf's text format, as `protoc --decode` and `protoc --decode_raw` print them.
 
 mod decimal;
+mod fields;
 mod float;
 mod message;
 mod scalar;

@@ -1,8 +1,9 @@
 //! The text of fields whose types are not known.
 
+use crate::print::fields::fields_in;
 use crate::print::text::Text;
-use prost_reflect::{DecodeError, UnknownField, UnknownFieldValue};
-use std::alloc::{AllocError, Global};
+use prost_reflect::{UnknownField, UnknownFieldValue};
+use std::alloc::AllocError;
 
 /// How many levels of messages are looked for in bytes that may be messages.
 pub const GUESSES: u32 = 10;
@@ -73,28 +74,4 @@ fn push_plain(text: &mut Text, field: &UnknownField) -> Result<(), AllocError> {
             text.close()
         }
     }
-}
-
-/// The fields that the bytes read as, if they are not empty and read as fields to the end.
-fn fields_in(
-    alloc: Global,
-    bytes: &[u8],
-    levels: u32,
-) -> Result<Option<Vec<UnknownField>>, AllocError> {
-    if bytes.is_empty() {
-        return Ok(None);
-    }
-    let mut fields = Vec::new(alloc);
-    let mut cursor = bytes;
-    for _ in 0..bytes.len() {
-        if cursor.is_empty() {
-            break;
-        }
-        match UnknownField::decode(alloc, &mut cursor, levels) {
-            Ok(field) => fields.push(field)?,
-            Err(DecodeError::OutOfMemory) => return Err(AllocError),
-            Err(_) => return Ok(None),
-        }
-    }
-    Ok(Some(fields))
 }
