@@ -99,13 +99,13 @@ def integer(random):
     return random.choice(INTEGERS) if random.random() < 0.6 else random.getrandbits(random.randrange(1, 65))
 
 
-def scalar(random, types, field):
-    """A value of a scalar kind, as its payload without a key or a length."""
+def scalar(random, types, field, strange):
+    """A value of a scalar kind, as its payload without a key or a length; a strange one may be a number that no enum declares."""
     kind = field.kind
     if kind in FIXED:
         return struct.pack("<Q", random.getrandbits(64) if random.random() < 0.7 else 0)[: FIXED[kind]]
     if kind == ENUM:
-        return varint(random.choice(types.enums[field.type_name] + [99]))
+        return varint(random.choice(types.enums[field.type_name] + [99] * strange))
     if kind == BOOL:
         return varint(random.choice([0, 1, 1, 5]))
     return varint(integer(random))
@@ -132,36 +132,36 @@ def entries(random, types, field, depth):
     """Records of the entries of a map, each of another key; `protoc` prints each of those that have one key."""
     found = {}
     for _ in range(random.choice([1, 2, 5])):
-        parts = [one(random, types, part, depth - 1) for part in types.fields[field.type_name] if random.random() < 0.9]
+        parts = [one(random, types, part, depth - 1, part.kind == MESSAGE) for part in types.fields[field.type_name] if random.random() < 0.9]
         random.shuffle(parts)
         entry = b"".join(parts)
         found.setdefault(key_of(types, field.type_name, entry), delimited(field.number, entry))
     return list(found.values())
 
 
-def one(random, types, field, depth):
+def one(random, types, field, depth, strange=True):
     """A record of one value of the field."""
     if field.kind in (STRING, BYTES):
         return delimited(field.number, text(random, field.kind))
     if field.kind == MESSAGE:
-        return delimited(field.number, message(random, types, field.type_name, depth - 1))
+        return delimited(field.number, message(random, types, field.type_name, depth - 1, strange))
     if field.kind == GROUP:
-        return group(field.number, message(random, types, field.type_name, depth - 1))
+        return group(field.number, message(random, types, field.type_name, depth - 1, strange))
     wire_type = {8: 1, 4: 5}.get(FIXED.get(field.kind), 0)
-    return varint(8 * field.number + wire_type) + scalar(random, types, field)
+    return varint(8 * field.number + wire_type) + scalar(random, types, field, strange)
 
 
-def some(random, types, field, depth):
+def some(random, types, field, depth, strange):
     """Records of the field: of one value, of several, or of a packed list."""
     if field.type_name in types.entries:
         return entries(random, types, field, depth)
     if not field.repeated:
-        again = [one(random, types, field, 1)] if random.random() < 0.2 else []
-        return [one(random, types, field, depth), *again]
+        again = [one(random, types, field, 1, False)] if random.random() < 0.2 else []
+        return [one(random, types, field, depth, strange), *again]
     count = random.choice([1, 2, 3])
     if field.kind not in (STRING, BYTES, MESSAGE, GROUP) and random.random() < 0.5:
-        return [delimited(field.number, b"".join(scalar(random, types, field) for _ in range(count)))]
-    return [one(random, types, field, depth) for _ in range(count)]
+        return [delimited(field.number, b"".join(scalar(random, types, field, strange) for _ in range(count)))]
+    return [one(random, types, field, depth, strange) for _ in range(count)]
 
 
 def unknown(random, number, depth):
@@ -183,15 +183,15 @@ def unknowns(random, numbers, depth):
     return b"".join(unknown(random, number, depth) for number in numbers)
 
 
-def message(random, types, name, depth):
-    """A message of the type, whose known fields may come in any order, and whose unknown ones ascend."""
+def message(random, types, name, depth, strange=True):
+    """A message of the type, whose fields may come in any order; a strange one may have unknown fields, which ascend."""
     fields = [field for field in types.fields[name] if depth > 1 or field.kind not in (GROUP, MESSAGE)]
     chosen = [field for field in fields if random.random() < min(1, 4 / (len(fields) or 1))]
-    known = [(field, record) for field in chosen for record in some(random, types, field, depth)]
+    known = [(field, record) for field in chosen for record in some(random, types, field, depth, strange)]
     if random.random() < 0.3:
         shuffle(random, known)
     written = b"".join(record for _, record in known)
-    if random.random() < 0.3:
+    if strange and random.random() < 0.3:
         written += unknowns(random, sorted(random.choice([300, 301, 302, 399, 449]) for _ in range(2)), 3)
     return written
 

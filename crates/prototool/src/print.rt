@@ -15,6 +15,9 @@ use std::alloc::{AllocError, Global};
 use text::Text;
 use unknown::{GUESSES, push_unknown};
 
+#[cfg(test)]
+mod tests;
+
 /// The text of a message of a type that is known.
 ///
 /// # Errors
