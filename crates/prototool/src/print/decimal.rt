@@ -56,27 +56,29 @@ impl<'a> Decimal<'a> {
     /// Appends the digits so many places behind the point.
     fn push_below_one(self, text: &mut String, places: u32) -> Result<(), AllocError> {
         text.push_str("0.")?;
-        for _ in 1..places {
-            text.push_str("0")?;
-        }
+        push_zeros(text, places.saturating_sub(1) as usize)?;
         text.push_str(self.first)?;
         text.push_str(self.rest)
     }
 
-    /// Appends the digits with the point so many places behind the first one.
+    /// Appends the digits with the point so many places behind the first one, and zeros up to there.
     fn push_from_one(self, text: &mut String, places: u32) -> Result<(), AllocError> {
+        let places = places as usize;
         text.push_str(self.first)?;
-        let mut left = places;
-        for digit in self.rest.chars() {
-            if left == 0 && !text.contains('.') {
-                text.push('.')?;
+        for (place, digit) in self.rest.chars().enumerate() {
+            if place == places {
+                text.push_str(".")?;
             }
             text.push(digit)?;
-            left = left.saturating_sub(1);
         }
-        for _ in 0..left {
-            text.push_str("0")?;
-        }
-        Ok(())
+        push_zeros(text, places.saturating_sub(self.rest.len()))
     }
+}
+
+/// Appends so many zeros.
+fn push_zeros(text: &mut String, count: usize) -> Result<(), AllocError> {
+    for _ in 0..count {
+        text.push_str("0")?;
+    }
+    Ok(())
 }
