@@ -1,6 +1,6 @@
 //! What a command line asks for.
 
-/// The word in front of hex digits.
+/// The word before hex digits.
 const HEX_FLAG: &str = "--hex";
 
 /// Where the bytes of a message come from.
@@ -56,15 +56,17 @@ impl<'a> Command<'a> {
         }
     }
 
-    /// What the words behind `print` ask for: `[SET NAME] [FILE | --hex DIGITS]`.
+    /// What the words after `print` ask for: `[SET NAME] [FILE | --hex DIGITS]`.
     fn parse_print(words: &'a [String]) -> Option<Command<'a>> {
         if let Some(source) = Source::parse(words) {
             return Some(Command::PrintRaw { source });
         }
-        let [set, name, rest @ ..] = words else {
-            return None;
-        };
-        let source = Source::parse(rest)?;
-        Some(Command::Print { set, name, source })
+        match words {
+            [set, name, rest @ ..] if set.as_str() != HEX_FLAG => {
+                let source = Source::parse(rest)?;
+                Some(Command::Print { set, name, source })
+            }
+            _ => None,
+        }
     }
 }

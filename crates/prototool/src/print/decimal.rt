@@ -2,7 +2,7 @@
 
 use std::alloc::{AllocError, Global};
 
-/// A decimal number: its sign, a digit, the digits behind the point without zeros at the end, and an exponent of ten.
+/// A decimal number: its sign, a digit, the digits after the point without zeros at the end, and an exponent of ten.
 #[derive(Clone, Copy, Debug, PartialEq, Eq)]
 pub struct Decimal<'a> {
     sign: &'a str,
@@ -53,7 +53,7 @@ impl<'a> Decimal<'a> {
         write!(text, "e{sign}{places:02}")
     }
 
-    /// Appends the digits so many places behind the point.
+    /// Appends the digits so many places after the point.
     fn push_below_one(self, text: &mut String, places: u32) -> Result<(), AllocError> {
         text.push_str("0.")?;
         push_zeros(text, places.saturating_sub(1) as usize)?;
@@ -61,7 +61,7 @@ impl<'a> Decimal<'a> {
         text.push_str(self.rest)
     }
 
-    /// Appends the digits with the point so many places behind the first one, and zeros up to there.
+    /// Appends the digits with the point so many places after the first one, and zeros up to there.
     fn push_from_one(self, text: &mut String, places: u32) -> Result<(), AllocError> {
         let places = places as usize;
         text.push_str(self.first)?;

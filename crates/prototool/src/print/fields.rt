@@ -44,7 +44,7 @@ pub fn fields_in(
     }
 }
 
-/// Reads fields up to the key that ends the group of the number, and answers them with what is behind it; where no group is
+/// Reads fields up to the key that ends the group of the number, and answers them with what follows it; where no group is
 /// open, reads them to the end of the bytes. Answers none where the bytes are no such fields.
 #[cycle(reading)]
 fn read_fields<'a>(
@@ -82,7 +82,7 @@ fn read_fields<'a>(
     })
 }
 
-/// Reads what follows a key of the number and of the wire type of the code, and answers it with what is behind it.
+/// Reads what follows a key of the number and of the wire type of the code, and answers it with what comes after it.
 #[cycle(reading)]
 fn read_value<'a>(
     alloc: Global,
@@ -106,7 +106,7 @@ fn read_value<'a>(
     }
 }
 
-/// Reads what follows a key of the wire type of the code, if that opens no group, and answers it with what is behind it.
+/// Reads what follows a key of the wire type of the code, if that opens no group, and answers it with what comes after it.
 fn read_plain(
     alloc: Global,
     bytes: &[u8],
@@ -151,7 +151,7 @@ fn read_key(bytes: &[u8]) -> Option<(FieldNumber, u32, &[u8])> {
     Some((FieldNumber::new(number), key % 8, rest))
 }
 
-/// Reads a length, and as many bytes behind it.
+/// Reads a length, and as many bytes after it.
 fn read_delimited(bytes: &[u8]) -> Option<(&[u8], &[u8])> {
     let (varint, rest) = read_varint(bytes)?;
     let length = (varint % WORD) as usize;
