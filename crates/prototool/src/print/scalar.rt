@@ -7,15 +7,14 @@ use std::alloc::AllocError;
 
 /// Appends a scalar of the kind; a message, a list and a map have no text here.
 pub fn push_scalar(text: &mut Text, kind: &Kind, value: &Value) -> Result<(), AllocError> {
-    let alloc = text.allocator();
     match value {
-        Value::Bool(x) => text.push(format!(in alloc; "{x}")?.as_str()),
-        Value::I32(x) => text.push(format!(in alloc; "{x}")?.as_str()),
-        Value::I64(x) => text.push(format!(in alloc; "{x}")?.as_str()),
-        Value::U32(x) => text.push(format!(in alloc; "{x}")?.as_str()),
-        Value::U64(x) => text.push(format!(in alloc; "{x}")?.as_str()),
-        Value::F32(bits) => text.push(float_text(alloc, *bits)?.as_str()),
-        Value::F64(bits) => text.push(double_text(alloc, *bits)?.as_str()),
+        Value::Bool(x) => text.push(*x),
+        Value::I32(x) => text.push(*x),
+        Value::I64(x) => text.push(*x),
+        Value::U32(x) => text.push(*x),
+        Value::U64(x) => text.push(*x),
+        Value::F32(bits) => text.push(float_text(text.allocator(), *bits)?),
+        Value::F64(bits) => text.push(double_text(text.allocator(), *bits)?),
         Value::String(x) => text.push_quoted(x.as_bytes()),
         Value::Bytes(x) => text.push_quoted(x.as_slice()),
         Value::EnumNumber(number) => push_enum(text, kind.as_enum(), *number),
@@ -34,19 +33,17 @@ fn push_enum(
             return text.push(value.name());
         }
     }
-    let alloc = text.allocator();
-    text.push(format!(in alloc; "{number}")?.as_str())
+    text.push(number)
 }
 
 /// Appends the key of an entry of a map.
 pub fn push_key(text: &mut Text, key: &MapKey) -> Result<(), AllocError> {
-    let alloc = text.allocator();
     match key {
-        MapKey::Bool(x) => text.push(format!(in alloc; "{x}")?.as_str()),
-        MapKey::I32(x) => text.push(format!(in alloc; "{x}")?.as_str()),
-        MapKey::I64(x) => text.push(format!(in alloc; "{x}")?.as_str()),
-        MapKey::U32(x) => text.push(format!(in alloc; "{x}")?.as_str()),
-        MapKey::U64(x) => text.push(format!(in alloc; "{x}")?.as_str()),
+        MapKey::Bool(x) => text.push(*x),
+        MapKey::I32(x) => text.push(*x),
+        MapKey::I64(x) => text.push(*x),
+        MapKey::U32(x) => text.push(*x),
+        MapKey::U64(x) => text.push(*x),
         MapKey::String(x) => text.push_quoted(x.as_bytes()),
     }
 }

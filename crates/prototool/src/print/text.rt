@@ -1,6 +1,7 @@
 //! A text of lines that are indented by levels.
 
 use std::alloc::{AllocError, Global};
+use std::fmt::Display;
 
 /// A text that grows line by line, each indented by two spaces for each level that is open.
 #[derive(Debug, Drop)]
@@ -38,21 +39,21 @@ impl Text {
         self.written
     }
 
-    /// Appends text as it stands.
-    pub fn push(&mut self, text: &str) -> Result<(), AllocError> {
-        self.written.push_str(text)
+    /// Appends what a value prints.
+    pub fn push<D: Display + Drop>(&mut self, value: D) -> Result<(), AllocError> {
+        write!(self.written, "{value}")
     }
 
     /// Begins a line with a name.
-    pub fn begin(&mut self, name: &str) -> Result<(), AllocError> {
+    pub fn begin<D: Display + Drop>(&mut self, name: D) -> Result<(), AllocError> {
         for _ in 0..self.level {
             self.written.push_str("  ")?;
         }
-        self.written.push_str(name)
+        write!(self.written, "{name}")
     }
 
     /// Opens a level: a line of a name and a brace.
-    pub fn open(&mut self, name: &str) -> Result<(), AllocError> {
+    pub fn open<D: Display + Drop>(&mut self, name: D) -> Result<(), AllocError> {
         self.begin(name)?;
         self.written.push_str(" {\n")?;
         self.level = self.level.saturating_add(1);
