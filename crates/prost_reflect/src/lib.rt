@@ -31,9 +31,10 @@ pub use prost_reflect_dynamic::{
     ExtensionDescriptors, ExtensionRanges, Extensions, FieldDescriptor, FieldDescriptors, Fields,
     FileDescriptor, FileDescriptors, GetFieldError, Kind, MapKey, MessageDescriptor,
     MessageDescriptors, MethodDescriptor, MethodDescriptors, OneofDescriptor, OneofDescriptors,
-    OptionsError, Placed, Places, Present, PresentItems, PresentNumber, ReservedNames,
-    ReservedRanges, ServiceDescriptor, ServiceDescriptors, SetFieldError, Syntax, TakenExtensions,
-    TakenFields, TakenUnknownFields, UnknownFields, Value, builtin_pool,
+    OptionsError, Placed, Places, Present, PresentItems, PresentNumber, ReductionFault,
+    ReductionFaultKind, ReservedNames, ReservedRanges, ServiceDescriptor, ServiceDescriptors,
+    SetFieldError, Syntax, TakenExtensions, TakenFields, TakenUnknownFields, UnknownFields, Value,
+    builtin_pool,
 };
 pub use prost_reflect_pool::FileDescriptorProtos;
 pub use prost_reflect_tables::{Cardinality, PoolError};

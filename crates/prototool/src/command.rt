@@ -44,6 +44,15 @@ pub enum Command<'a> {
         /// Where the message comes from.
         source: Source<'a>,
     },
+    /// Compare the message types of two descriptor sets.
+    Compare {
+        /// The file of the older descriptor set, or `-`.
+        older: &'a String,
+        /// The file of the newer descriptor set, or `-`.
+        newer: &'a String,
+        /// The full name of the one message type that is compared.
+        name: Option<&'a String>,
+    },
 }
 
 impl<'a> Command<'a> {
@@ -52,6 +61,7 @@ impl<'a> Command<'a> {
         let (verb, rest) = words.split_first()?;
         match verb.as_str() {
             "print" => Command::parse_print(rest),
+            "compare" => Command::parse_compare(rest),
             _ => None,
         }
     }
@@ -66,6 +76,23 @@ impl<'a> Command<'a> {
                 let source = Source::parse(rest)?;
                 Some(Command::Print { set, name, source })
             }
+            _ => None,
+        }
+    }
+
+    /// What the words after `compare` ask for: `OLDER NEWER [NAME]`.
+    fn parse_compare(words: &'a [String]) -> Option<Command<'a>> {
+        match words {
+            [older, newer] => Some(Command::Compare {
+                older,
+                newer,
+                name: None,
+            }),
+            [older, newer, name] => Some(Command::Compare {
+                older,
+                newer,
+                name: Some(name),
+            }),
             _ => None,
         }
     }

@@ -1,9 +1,11 @@
 //! Prints messages in the text format, compares schemas, and clears fields of messages: `prototool print [SET NAME]
-//! [FILE | --hex DIGITS]`. SET is a file with a descriptor set, or `-` for the built-in one.
+//! [FILE | --hex DIGITS]` and `prototool compare OLDER NEWER [NAME]`. SET, OLDER and NEWER are files with descriptor sets,
+//! or `-` for the built-in one.
 #![tactic(auto)]
 
 mod answer;
 mod command;
+mod compare;
 mod input;
 mod print;
 mod refusal;

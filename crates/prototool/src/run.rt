@@ -2,7 +2,8 @@
 
 use crate::answer::Answer;
 use crate::command::Command;
-use crate::input::{bytes_of, message_of};
+use crate::compare::comparison;
+use crate::input::{bytes_of, message_of, pool_of};
 use crate::print::{message_text, raw_text};
 use crate::refusal::Refusal;
 use std::env::Env;
@@ -20,7 +21,8 @@ const REFUSED: u8 = 1;
 /// The status of words that ask for no command.
 const MISUSED: u8 = 2;
 
-const USAGE: &str = "usage: prototool print [SET NAME] [FILE | --hex DIGITS]";
+const USAGE: &str =
+    "usage: prototool print [SET NAME] [FILE | --hex DIGITS] | compare OLDER NEWER [NAME]";
 
 /// Carries out the command line, and answers the status that the program ends with: 0 where the command was carried out, 1
 /// where its data were refused, with a line on the error stream, or a write failed, and 2 with a line on the usage where the
@@ -87,6 +89,12 @@ fn answer<R: Files + Input + AllocGlobal>(rt: &R, command: Command<'_>) -> Resul
             let bytes = bytes_of(rt, source)?;
             let text = raw_text(rt.alloc(), bytes.as_slice())?;
             Ok(Answer::passing(text.into_bytes()))
+        }
+        Command::Compare { older, newer, name } => {
+            let older = pool_of(rt, older.as_str())?;
+            let newer = pool_of(rt, newer.as_str())?;
+            let name = name.map(|name| name.as_str());
+            comparison(rt.alloc(), &older, &newer, name)
         }
     }
 }
