@@ -1,7 +1,8 @@
-//! Which message types are reductions of which.
+//! Which message types are reductions of which, and why others are none.
 
 use crate::named::message_of;
 use prost_reflect::DescriptorPool;
+use std::alloc::Global;
 use std::test::Fail;
 
 /// `t.proto`, of proto3, with the package `t`:
@@ -51,32 +52,32 @@ static TYPES: &[u8] =
     \x00\"\x15\x0a\x08Declared\x12\x09\x0a\x01x\x18\x01 \x01(\x05\"\x10\x0a\x08Extended*\x04\x08\
     \x01\x10\x02:\x1a\x0a\x0aext_values\x12\x06.s.Foo\x18d \x03(\x05:\x16\x0a\x01x\x12\x0b.s.Exten\
     ded\x18\x01 \x01(\x05";
-/// An older type, a newer one, and whether the older one is a reduction of the newer.
-static ROWS: [(&str, &str, bool); 24] = [
-    ("t.M", "t.M", true),
-    ("t.WithoutBar", "t.M", true),
-    ("t.M", "t.WithoutBar", false),
-    ("t.TextBelow", "t.M", false),
-    ("t.Text", "t.M", false),
-    ("t.TextBelow", "t.TextBelow", true),
-    ("t.P", "t.P", true),
-    ("t.WithoutQ", "t.P", true),
-    ("t.P", "t.WithoutQ", false),
-    ("t.WithoutQ.MEntry", "t.P.MEntry", true),
-    ("t.Empty", "t.P.MEntry", false),
-    ("t.Q", "t.Q", true),
-    ("t.Empty", "t.Q", false),
-    ("t.Empty", "t.M", true),
-    ("t.Foo", "s.Foo", true),
-    ("s.Foo", "t.Foo", false),
-    ("s.Foo", "s.Foo", true),
-    ("s.C", "s.C", true),
-    ("s.Fewer", "s.C", false),
-    ("s.C", "s.Fewer", false),
-    ("s.Turned", "s.C", false),
-    ("s.Declared", "s.Extended", false),
-    ("s.Extended", "s.Declared", false),
-    ("s.Extended", "s.Extended", true),
+/// An older type, a newer one, and why the older one is no reduction of the newer, or nothing where it is one.
+static ROWS: [(&str, &str, &str); 24] = [
+    ("t.M", "t.M", ""),
+    ("t.WithoutBar", "t.M", ""),
+    ("t.M", "t.WithoutBar", "2: number"),
+    ("t.TextBelow", "t.M", "3.1: kind"),
+    ("t.Text", "t.M", "1: kind"),
+    ("t.TextBelow", "t.TextBelow", ""),
+    ("t.P", "t.P", ""),
+    ("t.WithoutQ", "t.P", ""),
+    ("t.P", "t.WithoutQ", "2: number"),
+    ("t.WithoutQ.MEntry", "t.P.MEntry", ""),
+    ("t.Empty", "t.P.MEntry", "map entry"),
+    ("t.Q", "t.Q", ""),
+    ("t.Empty", "t.Q", "1: oneof"),
+    ("t.Empty", "t.M", ""),
+    ("t.Foo", "s.Foo", ""),
+    ("s.Foo", "t.Foo", "100: number"),
+    ("s.Foo", "s.Foo", ""),
+    ("s.C", "s.C", ""),
+    ("s.Fewer", "s.C", "1: enum"),
+    ("s.C", "s.Fewer", "1: enum"),
+    ("s.Turned", "s.C", "1: enum"),
+    ("s.Declared", "s.Extended", "1: extension"),
+    ("s.Extended", "s.Declared", "1: extension"),
+    ("s.Extended", "s.Extended", ""),
 ];
 
 fn is_reduction(pool: &DescriptorPool, older: &str, newer: &str) -> Result<bool, Fail> {
@@ -84,12 +85,39 @@ fn is_reduction(pool: &DescriptorPool, older: &str, newer: &str) -> Result<bool,
     Ok(older.is_reduction_of(&message_of(pool, newer)?)?)
 }
 
+/// Whether the fault of the older type beside the newer one has the text, or there is none where it is empty.
+fn has_fault(
+    alloc: Global,
+    pool: &DescriptorPool,
+    older: &str,
+    newer: &str,
+    text: &str,
+) -> Result<bool, Fail> {
+    let older = message_of(pool, older)?;
+    match older.reduction_fault(&message_of(pool, newer)?)? {
+        Some(fault) => Ok(format!(in alloc; "{fault}")?.as_str() == text),
+        None => Ok(text.is_empty()),
+    }
+}
+
 #[test]
 fn a_type_with_fields_left_out_is_a_reduction(rt: HostRuntime) -> Result<(), Fail> {
     let pool = DescriptorPool::decode(rt.alloc(), TYPES)?;
-    for (older, newer, answer) in &ROWS {
+    for (older, newer, fault) in &ROWS {
         assert!(rt;
-            is_reduction(&pool, older, newer)? == *answer,
+            is_reduction(&pool, older, newer)? == fault.is_empty(),
+            "{older} {newer}"
+        );
+    }
+    Ok(())
+}
+
+#[test]
+fn a_fault_names_what_differs(rt: HostRuntime) -> Result<(), Fail> {
+    let pool = DescriptorPool::decode(rt.alloc(), TYPES)?;
+    for (older, newer, fault) in &ROWS {
+        assert!(rt;
+            has_fault(rt.alloc(), &pool, older, newer, fault)?,
             "{older} {newer}"
         );
     }

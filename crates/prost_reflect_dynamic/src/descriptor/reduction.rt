@@ -50,6 +50,7 @@ impl MessageDescriptor {
             newer.index(),
         )
     }
+
     /// Why the message type is no reduction of a newer one, or `None` exactly where `is_reduction_of` answers yes.
     ///
     /// The fault has a path of field numbers, which lead from the two types to two message types of their fields, and what
