@@ -3,6 +3,9 @@
 /// The word before hex digits.
 const HEX_FLAG: &str = "--hex";
 
+/// The word between paths of names and the path of a file.
+const FILE_FLAG: &str = "--";
+
 /// Where the bytes of a message come from.
 #[derive(Clone, Copy, Debug, PartialEq, Eq)]
 pub enum Source<'a> {
@@ -53,6 +56,17 @@ pub enum Command<'a> {
         /// The full name of the one message type that is compared.
         name: Option<&'a String>,
     },
+    /// Clear fields of a message of the message type of the name in the descriptor set.
+    Redact {
+        /// The file of the descriptor set, or `-`.
+        set: &'a String,
+        /// The full name of the message type.
+        name: &'a String,
+        /// The paths of names that lead to the fields.
+        paths: &'a [String],
+        /// Where the message comes from.
+        source: Source<'a>,
+    },
 }
 
 impl<'a> Command<'a> {
@@ -62,6 +76,7 @@ impl<'a> Command<'a> {
         match verb.as_str() {
             "print" => Command::parse_print(rest),
             "compare" => Command::parse_compare(rest),
+            "redact" => Command::parse_redact(rest),
             _ => None,
         }
     }
@@ -94,6 +109,34 @@ impl<'a> Command<'a> {
                 name: Some(name),
             }),
             _ => None,
+        }
+    }
+
+    /// What the words behind `redact` ask for: `SET NAME PATH.. [-- FILE | --hex DIGITS]`.
+    fn parse_redact(words: &'a [String]) -> Option<Command<'a>> {
+        let [set, name, rest @ ..] = words else {
+            return None;
+        };
+        let (paths, source) = Command::parse_paths(rest);
+        if paths.is_empty() {
+            return None;
+        }
+        Some(Command::Redact {
+            set,
+            name,
+            paths,
+            source,
+        })
+    }
+
+    /// The paths of names, and the source that the last two words name, if they do.
+    fn parse_paths(words: &'a [String]) -> (&'a [String], Source<'a>) {
+        match words {
+            [paths @ .., flag, path] if flag.as_str() == FILE_FLAG => (paths, Source::File(path)),
+            [paths @ .., flag, digits] if flag.as_str() == HEX_FLAG => {
+                (paths, Source::Hex(digits))
+            }
+            _ => (words, Source::StandardInput),
         }
     }
 }

@@ -1,6 +1,6 @@
 //! Prints messages in the text format, compares schemas, and clears fields of messages: `prototool print [SET NAME]
-//! [FILE | --hex DIGITS]` and `prototool compare OLDER NEWER [NAME]`. SET, OLDER and NEWER are files with descriptor sets,
-//! or `-` for the built-in one.
+//! [FILE | --hex DIGITS]`, `prototool compare OLDER NEWER [NAME]` and `prototool redact SET NAME PATH.. [-- FILE | --hex
+//! DIGITS]`. SET, OLDER and NEWER are files with descriptor sets, or `-` for the built-in one.
 #![tactic(auto)]
 
 mod answer;
@@ -8,6 +8,7 @@ mod command;
 mod compare;
 mod input;
 mod print;
+mod redact;
 mod refusal;
 mod run;
 

@@ -1,8 +1,8 @@
 //! Why a command is refused, and the lines that say so.
 
 use hex::FromHexError;
-use prost_reflect::{DecodeError, EncodeError, PoolError};
-use std::alloc::{AllocError, Global};
+use prost_reflect::{DecodeError, EncodeError, GetFieldError, PoolError};
+use std::alloc::{AllocError, AllocFailed, Global};
 use std::io::ErrorKind;
 use std::{fmt, io};
 
@@ -80,6 +80,18 @@ impl fmt::Display for Refusal {
 
 impl From<AllocError> for Refusal {
     fn from(_error: AllocError) -> Refusal {
+        Refusal::Memory
+    }
+}
+
+impl<T: Drop> From<AllocFailed<T>> for Refusal {
+    fn from(_failed: AllocFailed<T>) -> Refusal {
+        Refusal::Memory
+    }
+}
+
+impl From<GetFieldError> for Refusal {
+    fn from(_error: GetFieldError) -> Refusal {
         Refusal::Memory
     }
 }

@@ -5,6 +5,7 @@ use crate::command::Command;
 use crate::compare::comparison;
 use crate::input::{bytes_of, message_of, pool_of};
 use crate::print::{message_text, raw_text};
+use crate::redact::redact;
 use crate::refusal::Refusal;
 use std::env::Env;
 use std::fmt::Display;
@@ -22,7 +23,7 @@ const REFUSED: u8 = 1;
 const MISUSED: u8 = 2;
 
 const USAGE: &str =
-    "usage: prototool print [SET NAME] [FILE | --hex DIGITS] | compare OLDER NEWER [NAME]";
+    "usage: prototool print [SET NAME] [FILE | --hex DIGITS] | compare OLDER NEWER [NAME] | redact SET NAME PATH.. [-- FILE | --hex DIGITS]";
 
 /// Carries out the command line, and answers the status that the program ends with: 0 where the command was carried out, 1
 /// where its data were refused, with a line on the error stream, or a write failed, and 2 with a line on the usage where the
@@ -95,6 +96,15 @@ fn answer<R: Files + Input + AllocGlobal>(rt: &R, command: Command<'_>) -> Resul
             let newer = pool_of(rt, newer.as_str())?;
             let name = name.map(|name| name.as_str());
             comparison(rt.alloc(), &older, &newer, name)
+        }
+        Command::Redact {
+            set,
+            name,
+            paths,
+            source,
+        } => {
+            let bytes = redact(rt, set.as_str(), name.as_str(), paths, source)?;
+            Ok(Answer::passing(bytes))
         }
     }
 }

@@ -1,0 +1,183 @@
+-- What the calls that clear along a path make of messages and values.
+use Rattle.std.proofs.Common.{◌≡◌, ℕ, Bool, true, false, cond, not, ◌&&◌, List, [], ◌∷◌, Option, Some, None, option_map, is_some, refl, ap, sym, ◌∙◌, subst, true≢false}
+use Rattle.std.specs.Prelude.{Vec, map, unwrap_or}
+use Rattle.std.specs.Bool.{beq}
+use Rattle.std.specs.BTreeMap.{BTreeMap}
+use Rattle.std.specs.declared.alloc.Global.{Global}
+use Rattle.std.proofs.lemmas.Option.{none-some}
+use Rattle.prost_reflect_wire.specs.Schema.{Field, known, field_of, passes}
+use Rattle.prost_reflect_wire.specs.Content as contents
+use Rattle.prost_reflect_wire.specs.Content.{Content, ScalarValue, MessageValue, ListValue, MapValue, Values, NoValues, Item, Pairs, NoPairs, Pair, schema_of, type_of, entries_of, value_at, values_from}
+use Rattle.prost_reflect_wire.specs.Typing.{kind_for, WellStored}
+use Rattle.prost_reflect_wire.specs.Edit.{in_message}
+use Rattle.prost_reflect_tables.specs.Places.{row_of, is_declared}
+use Rattle.prost_reflect_tables.specs.Rows.{FieldRow}
+use Rattle.prost_reflect_tables.specs.Shown.{schema_field}
+use Rattle.prost_reflect_pool.specs.MessageTypes.{fields_of}
+use Rattle.prost_reflect_pool.specs.SharedPools.{pool_rows}
+use Rattle.prost_reflect_pool.specs.declared.pooled_type.PooledType.{PooledType}
+use Rattle.prost_reflect_fields.specs.Known.{known_of, is_listed}
+use Rattle.prost_reflect_dynamic.specs.Access.{is_field_number, number_declared, has_at, IsStoredOr, IsLentOf, IsLentIf}
+use Rattle.prost_reflect_dynamic.specs.ContentLaws.{pairs_shown}
+use Rattle.prost_reflect_dynamic.specs.Contents.{value_set, value_cleared, cleared_if, set_if}
+use Rattle.prost_reflect_dynamic.specs.Edits.{Removes}
+use Rattle.prost_reflect_dynamic.specs.Variants.{message_in, list_in, pairs_in}
+use Rattle.prost_reflect_dynamic.specs.View.{value_of, content_of, value_step, message_step, message_type_of}
+use Rattle.prost_reflect_dynamic.specs.declared.value.MapKey.{MapKey}
+use Rattle.prost_reflect_dynamic.specs.declared.value.Value.{Value, out-Value}
+use Rattle.prost_reflect_dynamic.specs.declared.value.Value as values
+use Rattle.prost_reflect_dynamic.specs.declared.value.Value.TheOpen.{Value-F}
+use Rattle.prost_reflect_dynamic.specs.declared.value.Value.TheFolds.{fold_out-Value, map-Value}
+use Rattle.prost_reflect_dynamic.specs.declared.message.DynamicMessage.{DynamicMessage}
+use Rattle.prost_reflect_dynamic.proofs.Described.{field_at_number}
+use Rattle.prost_reflect_dynamic.proofs.Merging.{known_in, valid_in}
+use Rattle.prost_reflect_dynamic.proofs.NestedReads.{held_is}
+use Rattle.prost_reflect_dynamic.proofs.Views.{value_of_message, value_of_list, value_of_map, list_viewed}
+use Rattle.prototool.specs.Redacting.{in_values, in_pairs, in_messages, cleared_along, IsWell, AreWell, PairsWell, HoldsWell, ClearsLast, ClearsThrough, ClearsAlong, ClearsInside, ClearsElement, ClearsElements, ClearsEntries}
+use Rattle.prototool.proofs.ClearedLists.{in_first, one_more_changed, all_changed, shown, changed, pairs_of, changed_pairs, well_behind, value_well}
+use Rattle.prototool.proofs.ClearedThrough.{through_first, through_none, last_none, none_at_unknown, had_at_first, had_not, sound_in, known_at_value}
+
+-- A NUMBER OF NO FIELD AND NO EXTENSION
+
+unlisted : (t : PooledType) (n : ℕ) → is_listed true (known_of t) n ≡ false → is_field_number t n ≡ false → field_of (known_of t) n ≡ None
+unlisted t n listed declared = field_at_number t n ∙ go (row_of (fields_of t) n) declared (sym (ap (λ o. passes o (λ f. beq true f.is_extension)) (field_at_number t n)) ∙ listed)
+  where
+    neither : (f : FieldRow) (b : Bool) → not b ≡ false → beq true b ≡ false → Some (schema_field (pool_rows t.pool) f) ≡ None
+    neither f true d l = absurd (true≢false l)
+    neither f false d l = absurd (true≢false d)
+
+    go : (o : Option FieldRow) → is_declared o ≡ false → passes (option_map (schema_field (pool_rows t.pool)) o) (λ f. beq true f.is_extension) ≡ false → option_map (schema_field (pool_rows t.pool)) o ≡ None
+    go None d l = refl
+    go (Some f) d l = neither f f.is_extension d l
+
+none_stored : (m : DynamicMessage) (n : ℕ) → is_listed true (known_of (message_type_of m)) n ≡ false → is_field_number (message_type_of m) n ≡ false → WellStored (content_of m) → value_at n (entries_of (content_of m)) ≡ None
+none_stored m n listed declared w = none_at_unknown (content_of m) n w (ap (λ fields. field_of fields n) (known_in m) ∙ unlisted (message_type_of m) n listed declared)
+
+-- THE LAST NUMBER
+
+pub last_extension : (m new : DynamicMessage) (n k : ℕ) → k ≡ n → Removes (cleared_if (Some k)) m new → ClearsLast n (content_of m) (content_of new)
+last_extension m new n k same r = record { cleared = λ w. r.content ∙ ap (λ i. value_cleared i (content_of m)) same }
+
+pub last_field : (m new : DynamicMessage) (n : ℕ) → is_listed true (known_of (message_type_of m)) n ≡ false → Removes (cleared_if (number_declared (message_type_of m) n)) m new → ClearsLast n (content_of m) (content_of new)
+last_field m new n listed r = record { cleared = λ w. r.content ∙ go (is_field_number (message_type_of m) n) refl w }
+  where
+    go : (b : Bool) → is_field_number (message_type_of m) n ≡ b → WellStored (content_of m) → cleared_if (cond b (Some n) None) (content_of m) ≡ value_cleared n (content_of m)
+    go true d w = refl
+    go false d w = sym (last_none (content_of m) n (valid_in m) w (none_stored m n listed d w))
+
+-- THROUGH A NUMBER
+
+pub through_not : (c : Content) (n : ℕ) (rest : List ℕ) → has_at n c ≡ false → ClearsThrough n rest c c
+through_not c n rest none = record { cleared = λ w. sym (through_none c n (cleared_along rest) none) }
+
+pub through_unlisted : (m : DynamicMessage) (n : ℕ) (rest : List ℕ) → is_listed true (known_of (message_type_of m)) n ≡ false → (is_field_number (message_type_of m) n && has_at n (content_of m)) ≡ false → ClearsThrough n rest (content_of m) (content_of m)
+through_unlisted m n rest listed none = record { cleared = λ w. sym (through_none (content_of m) n (cleared_along rest) (go (is_field_number (message_type_of m) n) refl none w)) }
+  where
+    go : (b : Bool) → is_field_number (message_type_of m) n ≡ b → (b && has_at n (content_of m)) ≡ false → WellStored (content_of m) → has_at n (content_of m) ≡ false
+    go true d none w = none
+    go false d none w = had_not (content_of m) n (none_stored m n listed d w)
+
+pub through_lent : (m : DynamicMessage) (d : Content) (n : ℕ) (rest : List ℕ) (lent after : contents.Value) → has_at n (content_of m) ≡ true → IsStoredOr (message_type_of m) n (value_at n (entries_of (content_of m))) lent → ClearsInside rest lent after
+    → d ≡ value_set n after (content_of m) → ClearsThrough n rest (content_of m) d
+through_lent m d n rest lent after had stored inside set = record {
+  cleared = λ w.
+      let (v, there) = had_at_first (content_of m) n had in
+      let is : lent ≡ v = subst (λ o. IsStoredOr (message_type_of m) n o lent) there stored in
+      let (f, found) = known_at_value (content_of m) n v w there in
+      let well : HoldsWell lent = subst HoldsWell (sym is) (value_well _ _ v (sound_in (content_of m) n v w there)) in
+      set
+      ∙ ap (λ x. value_set n x (content_of m)) (inside.cleared well ∙ ap (in_messages (cleared_along rest)) is)
+      ∙ through_first (content_of m) n (cleared_along rest) f v (valid_in m) w found there;
+}
+
+pub through_extension : (m : DynamicMessage) (d : Content) (n k : ℕ) (rest : List ℕ) (lent after : Value) → k ≡ n → has_at k (content_of m) ≡ true → IsLentOf m k lent → ClearsInside rest (value_of lent) (value_of after)
+    → d ≡ value_set k (value_of after) (content_of m) → ClearsThrough n rest (content_of m) d
+through_extension m d n k rest lent after same had stored inside set = subst (λ i. ClearsThrough i rest (content_of m) d) same (through_lent m d k rest (value_of lent) (value_of after) had stored inside set)
+
+pub through_field : (m : DynamicMessage) (d : Content) (n : ℕ) (rest : List ℕ) (lent after : Value) → (is_field_number (message_type_of m) n && has_at n (content_of m)) ≡ true → IsLentIf (number_declared (message_type_of m) n) m lent → ClearsInside rest (value_of lent) (value_of after)
+    → d ≡ set_if (number_declared (message_type_of m) n) (value_of after) (content_of m) → ClearsThrough n rest (content_of m) d
+through_field m d n rest lent after had stored inside set = go (is_field_number (message_type_of m) n) had stored set
+  where
+    go : (b : Bool) → (b && has_at n (content_of m)) ≡ true → IsLentIf (cond b (Some n) None) m lent → d ≡ set_if (cond b (Some n) None) (value_of after) (content_of m) → ClearsThrough n rest (content_of m) d
+    go true had stored set = through_lent m d n rest (value_of lent) (value_of after) had stored inside set
+    go false had stored set = absurd stored
+
+-- VALUES
+
+-- what is no list and no map is a message or has none
+abbrev Plain : (Content → Content) → contents.Value → Type 0
+Plain F v = (HoldsWell v → IsWell v) × (in_message v F ≡ in_messages F v)
+
+plain_view : (F : Content → Content) (v : Value) → list_in (out-Value v) ≡ None → pairs_in (out-Value v) ≡ None → Plain F (value_of v)
+plain_view F v list pairs = subst (Plain F) (sym (fold_out-Value contents.Value Content value_step message_step v)) (go (out-Value v) list pairs)
+  where
+    go : (x : Value-F Value DynamicMessage) → list_in x ≡ None → pairs_in x ≡ None → Plain F (value_step (map-Value Value DynamicMessage contents.Value Content value_of content_of x))
+    go (Value-F.Bool b) l p = (λ h. h, refl)
+    go (Value-F.I32 z) l p = (λ h. h, refl)
+    go (Value-F.I64 z) l p = (λ h. h, refl)
+    go (Value-F.U32 n) l p = (λ h. h, refl)
+    go (Value-F.U64 n) l p = (λ h. h, refl)
+    go (Value-F.F32 n) l p = (λ h. h, refl)
+    go (Value-F.F64 n) l p = (λ h. h, refl)
+    go (Value-F.String text) l p = (λ h. h, refl)
+    go (Value-F.Bytes bytes) l p = (λ h. h, refl)
+    go (Value-F.EnumNumber z) l p = (λ h. h, refl)
+    go (Value-F.Message m) l p = (λ h. h, refl)
+    go (Value-F.List vs) l p = cc
+    go (Value-F.Map m) l p = cc
+
+pub plain_inside : (path : List ℕ) (old new : Value) → list_in (out-Value old) ≡ None → pairs_in (out-Value old) ≡ None → ClearsElement path (value_of old) (value_of new) → ClearsInside path (value_of old) (value_of new)
+plain_inside path old new list pairs s = let (well, same) = plain_view (cleared_along path) old list pairs in record { cleared = λ h. s.cleared (well h) ∙ same }
+
+pub list_inside : (path : List ℕ) (old : Value) (es : List Value) (vs : Vec Value Global) → list_in (out-Value old) ≡ Some es → ClearsElements path (values_from (map value_of es)) (values_from (map value_of vs.items)) → ClearsInside path (value_of old) (value_of (values.List vs))
+list_inside path old es vs e s =
+    let is = list_viewed old es e in
+    record { cleared = λ h. value_of_list vs ∙ ap ListValue (s.cleared (subst HoldsWell is h)) ∙ ap (in_messages (cleared_along path)) (sym is) }
+
+map_viewed : (v : Value) (es : List (MapKey × Value)) → pairs_in (out-Value v) ≡ Some es → value_of v ≡ MapValue (pairs_shown es)
+map_viewed v es h = fold_out-Value contents.Value Content value_step message_step v ∙ go (out-Value v) h
+  where
+    go : (x : Value-F Value DynamicMessage) → pairs_in x ≡ Some es → value_step (map-Value Value DynamicMessage contents.Value Content value_of content_of x) ≡ MapValue (pairs_shown es)
+    go (Value-F.Map m) h = ap (λ (o : Option (List (MapKey × Value))). MapValue (pairs_shown (unwrap_or o []))) h
+    go (Value-F.Bool b) h = cc
+    go (Value-F.I32 z) h = cc
+    go (Value-F.I64 z) h = cc
+    go (Value-F.U32 n) h = cc
+    go (Value-F.U64 n) h = cc
+    go (Value-F.F32 n) h = cc
+    go (Value-F.F64 n) h = cc
+    go (Value-F.String text) h = cc
+    go (Value-F.Bytes bytes) h = cc
+    go (Value-F.EnumNumber z) h = cc
+    go (Value-F.Message m) h = cc
+    go (Value-F.List vs) h = cc
+
+pub map_inside : (path : List ℕ) (old : Value) (es : List (MapKey × Value)) (m : BTreeMap MapKey Value) → pairs_in (out-Value old) ≡ Some es → ClearsEntries path (pairs_shown es) (pairs_shown m.entries) → ClearsInside path (value_of old) (value_of (values.Map m))
+map_inside path old es m e s =
+    let is = map_viewed old es e in
+    record { cleared = λ h. value_of_map m ∙ ap MapValue (s.cleared (subst HoldsWell is h)) ∙ ap (in_messages (cleared_along path)) (sym is) }
+
+-- an element that is a message
+pub message_element : (path : List ℕ) (old : Value) (before after : DynamicMessage) → message_in (out-Value old) ≡ Some before → ClearsAlong path (content_of before) (content_of after) → ClearsElement path (value_of old) (value_of (values.Message after))
+message_element path old before after e s =
+    let is = held_is old before e in
+    record { cleared = λ h. value_of_message after ∙ ap MessageValue (s.cleared (subst IsWell is h)) ∙ ap (λ v. in_message v (cleared_along path)) (sym is) }
+
+-- one that is none
+pub other_element : (path : List ℕ) (v : Value) → message_in (out-Value v) ≡ None → ClearsElement path (value_of v) (value_of v)
+other_element path v none = record { cleared = λ h. sym (subst (λ w. in_message w (cleared_along path) ≡ w) (sym (fold_out-Value contents.Value Content value_step message_step v)) (go (out-Value v) none)) }
+  where
+    go : (x : Value-F Value DynamicMessage) → message_in x ≡ None → in_message (value_step (map-Value Value DynamicMessage contents.Value Content value_of content_of x)) (cleared_along path) ≡ value_step (map-Value Value DynamicMessage contents.Value Content value_of content_of x)
+    go (Value-F.Bool b) n = refl
+    go (Value-F.I32 z) n = refl
+    go (Value-F.I64 z) n = refl
+    go (Value-F.U32 z) n = refl
+    go (Value-F.U64 z) n = refl
+    go (Value-F.F32 z) n = refl
+    go (Value-F.F64 z) n = refl
+    go (Value-F.String text) n = refl
+    go (Value-F.Bytes bytes) n = refl
+    go (Value-F.EnumNumber z) n = refl
+    go (Value-F.Message m) n = cc
+    go (Value-F.List vs) n = refl
+    go (Value-F.Map m) n = refl

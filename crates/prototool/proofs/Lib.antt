@@ -1,0 +1,5 @@
+mod RedactedValues
+mod ClearedAlong
+mod ClearedThrough
+mod ClearedLists
+mod ClearedCalls

@@ -1,0 +1,119 @@
+//! Paths of names, as `user.email`, and the numbers of the fields and extensions that they lead through.
+
+use prost_reflect::{FieldDescriptorLike, Kind, MessageDescriptor};
+use std::alloc::{AllocError, Global};
+
+/// The first name of a path.
+#[derive(Clone, Copy)]
+enum Name<'a> {
+    /// The name of a field.
+    Field(&'a str),
+    /// The full name of an extension, which stands in brackets.
+    Extension(&'a str),
+}
+
+/// A field or an extension that a name leads to.
+#[derive(Drop)]
+struct Found {
+    /// Its number.
+    number: u32,
+    /// The type of the messages in its values, if these are messages.
+    inside: Option<MessageDescriptor>,
+}
+
+/// The numbers of the fields and extensions that the path leads through from the message type on, or none if it leads to no
+/// field. Names are joined by dots; each but the last is that of a field whose values are messages, or lists or maps of such,
+/// and the full name of an extension stands in brackets.
+///
+/// # Errors
+///
+/// `AllocError` if out of memory.
+pub fn numbers_of(
+    alloc: Global,
+    descriptor: &MessageDescriptor,
+    path: &str,
+) -> Result<Option<Vec<u32>>, AllocError> {
+    let mut numbers = Vec::new(alloc);
+    let leads = push_numbers(descriptor, path, &mut numbers)?;
+    Ok(if leads { Some(numbers) } else { None })
+}
+
+/// Adds the numbers of the path, and answers whether it leads to a field.
+fn push_numbers(
+    descriptor: &MessageDescriptor,
+    path: &str,
+    numbers: &mut Vec<u32>,
+) -> Result<bool, AllocError> {
+    let Some((name, rest)) = first_name(path) else {
+        return Ok(false);
+    };
+    let Some(found) = found_by(descriptor, name)? else {
+        return Ok(false);
+    };
+    numbers.push(found.number)?;
+    match rest {
+        None => Ok(true),
+        Some(rest) => match found.inside {
+            Some(inside) => push_numbers(&inside, rest, numbers),
+            None => Ok(false),
+        },
+    }
+}
+
+/// The first name of a path, and the path behind the dot that follows it, if one does; none if a bracket is not closed, or
+/// closed before the end of a name.
+fn first_name(path: &str) -> Option<(Name<'_>, Option<&str>)> {
+    match path.strip_prefix('[') {
+        Some(bracketed) => {
+            let (name, behind) = bracketed.split_once(']')?;
+            if behind.is_empty() {
+                return Some((Name::Extension(name), None));
+            }
+            let rest = behind.strip_prefix('.')?;
+            Some((Name::Extension(name), Some(rest)))
+        }
+        None => match path.split_once('.') {
+            Some((name, rest)) => Some((Name::Field(name), Some(rest))),
+            None => Some((Name::Field(path), None)),
+        },
+    }
+}
+
+/// The field or the extension of the name.
+fn found_by(descriptor: &MessageDescriptor, name: Name<'_>) -> Result<Option<Found>, AllocError> {
+    match name {
+        Name::Field(name) => match descriptor.get_field_by_name(name)? {
+            Some(field) => Ok(Some(Found::of(&field)?)),
+            None => Ok(None),
+        },
+        Name::Extension(name) => match descriptor.get_extension_by_full_name(name)? {
+            Some(extension) => Ok(Some(Found::of(&extension)?)),
+            None => Ok(None),
+        },
+    }
+}
+
+impl Found {
+    /// What is found of a field or an extension.
+    fn of<F: FieldDescriptorLike>(field: &F) -> Result<Found, AllocError> {
+        Ok(Found {
+            number: field.number(),
+            inside: message_inside(field.kind()?)?,
+        })
+    }
+}
+
+/// The message type of the values of a kind, or of the values of a map whose entries are of the kind.
+fn message_inside(kind: Kind) -> Result<Option<MessageDescriptor>, AllocError> {
+    let Kind::Message(message) = kind else {
+        return Ok(None);
+    };
+    if !message.is_map_entry() {
+        return Ok(Some(message));
+    }
+    let value = message.map_entry_value_field()?;
+    match value.kind()? {
+        Kind::Message(message) => Ok(Some(message)),
+        _ => Ok(None),
+    }
+}
