@@ -1,8 +1,10 @@
 -- What the calls that clear along a path make of messages and values.
-use Rattle.std.proofs.Common.{◌≡◌, ℕ, Bool, true, false, cond, not, ◌&&◌, List, [], ◌∷◌, Option, Some, None, option_map, is_some, refl, ap, sym, ◌∙◌, subst, true≢false}
-use Rattle.std.specs.Prelude.{Vec, map, unwrap_or}
+use Rattle.std.proofs.Common.{◌≡◌, ◌==◌, ℕ, Bool, true, false, cond, not, ◌&&◌, ◌≤◌, List, [], ◌∷◌, ◌++◌, length, take, drop, Option, Some, None, option_map, is_some, refl, ap, sym, ◌∙◌, subst, true≢false}
+use Rattle.std.specs.Prelude.{Vec, map, unwrap_or, IfSome}
 use Rattle.std.specs.Bool.{beq}
-use Rattle.std.specs.BTreeMap.{BTreeMap}
+use Rattle.std.specs.BTreeMap.{BTreeMap, insert_entry}
+use Rattle.std.specs.List.Sorted.{IsStrictlySortedBy}
+use Rattle.std.specs.Map.{keys_of}
 use Rattle.std.specs.declared.alloc.Global.{Global}
 use Rattle.std.proofs.lemmas.Option.{none-some}
 use Rattle.prost_reflect_wire.specs.Schema.{Field, known, field_of, passes}
@@ -18,23 +20,32 @@ use Rattle.prost_reflect_pool.specs.SharedPools.{pool_rows}
 use Rattle.prost_reflect_pool.specs.declared.pooled_type.PooledType.{PooledType}
 use Rattle.prost_reflect_fields.specs.Known.{known_of, is_listed}
 use Rattle.prost_reflect_dynamic.specs.Access.{is_field_number, number_declared, has_at, IsStoredOr, IsLentOf, IsLentIf}
-use Rattle.prost_reflect_dynamic.specs.ContentLaws.{pairs_shown}
+use Rattle.prost_reflect_dynamic.specs.ContentLaws.{pairs_shown, compare_keys}
 use Rattle.prost_reflect_dynamic.specs.Contents.{value_set, value_cleared, cleared_if, set_if}
 use Rattle.prost_reflect_dynamic.specs.Edits.{Removes}
 use Rattle.prost_reflect_dynamic.specs.Variants.{message_in, list_in, pairs_in}
-use Rattle.prost_reflect_dynamic.specs.View.{value_of, content_of, value_step, message_step, message_type_of}
+use Rattle.prost_reflect_dynamic.specs.View.{key_of, pairs_from, value_of, content_of, value_step, message_step, message_type_of}
 use Rattle.prost_reflect_dynamic.specs.declared.value.MapKey.{MapKey}
 use Rattle.prost_reflect_dynamic.specs.declared.value.Value.{Value, out-Value}
 use Rattle.prost_reflect_dynamic.specs.declared.value.Value as values
 use Rattle.prost_reflect_dynamic.specs.declared.value.Value.TheOpen.{Value-F}
 use Rattle.prost_reflect_dynamic.specs.declared.value.Value.TheFolds.{fold_out-Value, map-Value}
 use Rattle.prost_reflect_dynamic.specs.declared.message.DynamicMessage.{DynamicMessage}
+use Rattle.prost_reflect_dynamic.specs.ExtensionAccess.{IsOwnExtension, extension_number}
+use Rattle.prost_reflect_dynamic.specs.Named.{NamesSame}
+use Rattle.prost_reflect_dynamic.specs.NamedExtensions.{Extends}
+use Rattle.prost_reflect_dynamic.specs.declared.descriptor.extension.ExtensionDescriptor.{ExtensionDescriptor}
+use Rattle.prost_reflect_dynamic.specs.declared.descriptor.message.MessageDescriptor.{MessageDescriptor}
+use Rattle.prost_reflect_pool.specs.Lookups.{extension_where}
+use Rattle.prost_reflect_dynamic.specs.contracts.value.MapKeyOrd.TheImpl.Laws as ord_laws
+use Rattle.prost_reflect_dynamic.proofs.Copied.{insert_last, keys_appended}
 use Rattle.prost_reflect_dynamic.proofs.Described.{field_at_number}
+use Rattle.prototool.proofs.NumberedExtensions.{extension_missed, extension_own}
 use Rattle.prost_reflect_dynamic.proofs.Merging.{known_in, valid_in}
 use Rattle.prost_reflect_dynamic.proofs.NestedReads.{held_is}
 use Rattle.prost_reflect_dynamic.proofs.Views.{value_of_message, value_of_list, value_of_map, list_viewed}
 use Rattle.prototool.specs.Redacting.{in_values, in_pairs, in_messages, cleared_along, IsWell, AreWell, PairsWell, HoldsWell, ClearsLast, ClearsThrough, ClearsAlong, ClearsInside, ClearsElement, ClearsElements, ClearsEntries}
-use Rattle.prototool.proofs.ClearedLists.{in_first, one_more_changed, all_changed, shown, changed, pairs_of, changed_pairs, well_behind, value_well}
+use Rattle.prototool.proofs.ClearedLists.{in_first, all_changed_back, shown, pairs_of, EntriesSoFar, no_entries, one_entry, all_entries, value_well}
 use Rattle.prototool.proofs.ClearedThrough.{through_first, through_none, last_none, none_at_unknown, had_at_first, had_not, sound_in, known_at_value}
 
 -- A NUMBER OF NO FIELD AND NO EXTENSION
@@ -181,3 +192,53 @@ other_element path v none = record { cleared = λ h. sym (subst (λ w. in_messag
     go (Value-F.Message m) n = cc
     go (Value-F.List vs) n = refl
     go (Value-F.Map m) n = refl
+
+-- THE EXTENSION OF A NUMBER
+
+module _ (t : PooledType) (d : MessageDescriptor) (n : ℕ) (same : NamesSame d t) where
+  abbrev Found : Option ExtensionDescriptor → Type 0
+  Found found = option_map (λ (x : ExtensionDescriptor). x.index) found ≡ extension_where d.pool.inner.value d.index (λ f. f.number == n)
+
+  pub extension_owned : (found : Option ExtensionDescriptor) → Found found → IfSome found (Extends d) → IfSome found (IsOwnExtension t)
+  extension_owned None e extends = tt
+  extension_owned (Some x) e extends = (extension_own t d x n same extends (sym e)).0
+
+  pub extension_numbered : (found : Option ExtensionDescriptor) → Found found → IfSome found (Extends d) → IfSome found (λ x. extension_number x ≡ n)
+  extension_numbered None e extends = tt
+  extension_numbered (Some x) e extends = (extension_own t d x n same extends (sym e)).1
+
+  pub extension_unlisted : (found : Option ExtensionDescriptor) → Found found → found ≡ None → is_listed true (known_of t) n ≡ false
+  extension_unlisted found e none = go (is_listed true (known_of t) n) refl
+    where
+      go : (b : Bool) → is_listed true (known_of t) n ≡ b → b ≡ false
+      go true h = absurd (extension_missed t d n same h (sym e ∙ ap (option_map (λ (x : ExtensionDescriptor). x.index)) none))
+      go false h = refl
+
+-- THE ELEMENTS OF A LIST
+
+pub elements_cleared : (path : List ℕ) (i n : ℕ) (xs ys : List Value) → n ≡ length xs → length xs ≡ length ys → length xs ≤ i → (AreWell (values_from (map value_of ys)) → values_from (map value_of xs) ≡ in_first (cleared_along path) i (values_from (map value_of ys)))
+    → ClearsElements path (values_from (map value_of ys)) (values_from (map value_of (take n (xs ++ drop (length xs) ys))))
+elements_cleared path i n xs ys e l done h = record { cleared = all_changed_back value_of path i n xs ys (values_from (map value_of ys)) e l done h }
+
+-- THE ENTRIES OF A MAP
+
+abbrev pub EntriesCleared : List ℕ → List (MapKey × Value) → List (MapKey × Value) → List (MapKey × Value) → Type 0
+EntriesCleared path all left new = EntriesSoFar key_of value_of path all left new
+
+same_pairs : (es : List (MapKey × contents.Value)) → pairs_of key_of es ≡ pairs_from es
+same_pairs [] = refl
+same_pairs (e ∷ es) = ap (Pair (key_of e.0) e.1) (same_pairs es)
+
+pub entry_cleared : (path : List ℕ) (all left new next : List (MapKey × Value)) (k : MapKey) (v w : Value) → IsStrictlySortedBy compare_keys (keys_of all) → EntriesCleared path all ((k, v) ∷ left) new → ClearsElement path (value_of v) (value_of w)
+    → next ≡ insert_entry compare_keys new k w → EntriesCleared path all left next
+entry_cleared path all left new next k v w sorted s cleared is =
+    let whole : keys_of all ≡ keys_of new ++ k ∷ keys_of left = ap keys_of s.parts ∙ keys_appended s.done ((k, v) ∷ left) ∙ ap (λ ks. ks ++ k ∷ keys_of left) (sym s.same) in
+    one_entry key_of value_of path all left new next (k, v) w s cleared (is ∙ insert_last compare_keys ord_laws.total-law new k w (keys_of left) (subst (IsStrictlySortedBy compare_keys) whole sorted))
+
+pub entries_cleared : (path : List ℕ) (all new : List (MapKey × Value)) → EntriesCleared path all [] new → ClearsEntries path (pairs_shown all) (pairs_shown new)
+entries_cleared path all new s = record {
+  cleared = λ w.
+      sym (same_pairs (map (λ (e : MapKey × Value). (e.0, value_of e.1)) new))
+      ∙ all_entries key_of value_of path all new s (subst PairsWell (sym (same_pairs (map (λ (e : MapKey × Value). (e.0, value_of e.1)) all))) w)
+      ∙ ap (in_pairs (cleared_along path)) (same_pairs (map (λ (e : MapKey × Value). (e.0, value_of e.1)) all));
+}

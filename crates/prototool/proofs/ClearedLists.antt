@@ -1,5 +1,6 @@
 -- Lists and maps whose messages are cleared one after another.
-use Rattle.std.proofs.Common.{◌≡◌, ℕ, zero, suc, ◌<◌, ◌≤◌, ◌++◌, List, [], ◌∷◌, length, map, Option, refl, ap, sym, ◌∙◌, subst, arith, get_or}
+use Rattle.std.proofs.Common.{◌≡◌, ℕ, zero, suc, ◌<◌, ◌≤◌, ◌++◌, List, [], ◌∷◌, length, map, Option, refl, ap, sym, ◌∙◌, subst, arith, get_or, take, drop}
+use Rattle.std.proofs.lemmas.List.{append_assoc, append-nil, map-append}
 use Rattle.std.proofs.Math.ListN.{set}
 use Rattle.prost_reflect_wire.specs.Scalar.{Scalar}
 use Rattle.prost_reflect_wire.specs.Content.{Content, Value, Values, NoValues, Item, Pairs, NoPairs, Pair, ScalarValue, MessageValue, ListValue, MapValue, values_from}
@@ -38,6 +39,12 @@ in_first change zero vs = vs
 in_first change (suc i) NoValues = NoValues
 in_first change (suc i) (Item v vs) = Item (in_message v change) (in_first change i vs)
 
+-- what was written back over a list of its length is the list
+written_back : {V : Type 0} (xs ys : List V) → length xs ≡ length ys → take (length xs) (xs ++ drop (length xs) ys) ≡ xs
+written_back [] ys l = refl
+written_back (x ∷ xs) [] l = absurd (omega (arith, l))
+written_back (x ∷ xs) (y ∷ ys) l = ap (λ zs. x ∷ zs) (written_back xs ys (omega (arith, l)))
+
 module _ {V : Type 0} (view : V → Value) (path : List ℕ) where
   pub one_more_changed : (i : ℕ) (xs : List V) (old : Values) (d y : V) → AreWell old → values_from (map view xs) ≡ in_first (cleared_along path) i old → i < length xs → ClearsElement path (view (get_or xs i d)) (view y)
       → values_from (map view (set xs i y)) ≡ in_first (cleared_along path) (suc i) old
@@ -53,6 +60,10 @@ module _ {V : Type 0} (view : V → Value) (path : List ℕ) where
       let behind : values_from (map view xs) ≡ in_first (cleared_along path) i vs = cc in
       λ j. Item (here j) (one_more_changed i xs vs d y w.1 behind (omega (arith, l)) s j)
 
+  pub one_changed_at : (i j : ℕ) (xs : List V) (old : Values) (d y : V) → j ≡ suc i → i < length xs → (AreWell old → values_from (map view xs) ≡ in_first (cleared_along path) i old) → ClearsElement path (view (get_or xs i d)) (view y)
+      → AreWell old → values_from (map view (set xs i y)) ≡ in_first (cleared_along path) j old
+  one_changed_at i j xs old d y next less e s w = subst (λ k. values_from (map view (set xs i y)) ≡ in_first (cleared_along path) k old) (sym next) (one_more_changed i xs old d y w (e w) less s)
+
   pub all_changed : (i : ℕ) (xs : List V) (old : Values) → values_from (map view xs) ≡ in_first (cleared_along path) i old → length xs ≤ i → values_from (map view xs) ≡ in_values (cleared_along path) old
   all_changed zero [] NoValues e l = refl
   all_changed zero [] (Item v vs) e l = cc
@@ -65,23 +76,66 @@ module _ {V : Type 0} (view : V → Value) (path : List ℕ) where
       let behind : values_from (map view xs) ≡ in_first (cleared_along path) i vs = cc in
       λ j. Item (here j) (all_changed i xs vs behind (omega (arith, l)) j)
 
+  pub all_changed_back : (i n : ℕ) (xs ys : List V) (old : Values) → n ≡ length xs → length xs ≡ length ys → length xs ≤ i → (AreWell old → values_from (map view xs) ≡ in_first (cleared_along path) i old)
+      → AreWell old → values_from (map view (take n (xs ++ drop (length xs) ys))) ≡ in_values (cleared_along path) old
+  all_changed_back i n xs ys old e l done h w =
+      ap (λ k. values_from (map view (take k (xs ++ drop (length xs) ys)))) e
+      ∙ ap (λ zs. values_from (map view zs)) (written_back xs ys l)
+      ∙ all_changed i xs old (h w) done
+
 -- ENTRY AFTER ENTRY
 
-module _ {K V : Type 0} (key : K → Scalar) (view : V → Value) (F : Content → Content) where
-  abbrev pub shown : List (K × V) → List (K × Value)
-  shown es = map (λ (e : K × V). (e.0, view e.1)) es
+abbrev pub shown : {K V : Type 0} → (V → Value) → List (K × V) → List (K × Value)
+shown view es = map (λ e. (e.0, view e.1)) es
 
-  abbrev pub changed : List (K × V) → List (K × Value)
-  changed es = map (λ (e : K × V). (e.0, in_message (view e.1) F)) es
+abbrev pub changed : {K V : Type 0} → (V → Value) → (Content → Content) → List (K × V) → List (K × Value)
+changed view F es = map (λ e. (e.0, in_message (view e.1) F)) es
 
-  abbrev pub pairs_of : List (K × Value) → Pairs
-  pairs_of [] = NoPairs
-  pairs_of (e ∷ es) = Pair (key e.0) e.1 (pairs_of es)
+abbrev pub pairs_of : {K : Type 0} → (K → Scalar) → List (K × Value) → Pairs
+pairs_of key [] = NoPairs
+pairs_of key (e ∷ es) = Pair (key e.0) e.1 (pairs_of key es)
 
-  pub changed_pairs : (es : List (K × V)) → pairs_of (changed es) ≡ in_pairs F (pairs_of (shown es))
-  changed_pairs [] = refl
-  changed_pairs (e ∷ es) = ap (Pair (key e.0) (in_message (view e.1) F)) (changed_pairs es)
+module _ {K V : Type 0} (key : K → Scalar) (view : V → Value) where
+  pub changed_pairs : (F : Content → Content) (es : List (K × V)) → pairs_of key (changed view F es) ≡ in_pairs F (pairs_of key (shown view es))
+  changed_pairs F [] = refl
+  changed_pairs F (e ∷ es) = ap (Pair (key e.0) (in_message (view e.1) F)) (changed_pairs F es)
 
-  pub well_behind : (done : List (K × V)) (e : K × V) (rest : List (K × V)) → PairsWell (pairs_of (shown (done ++ e ∷ rest))) → IsWell (view e.1)
+  pub well_behind : (done : List (K × V)) (e : K × V) (rest : List (K × V)) → PairsWell (pairs_of key (shown view (done ++ e ∷ rest))) → IsWell (view e.1)
   well_behind [] e rest w = w.0
   well_behind (d ∷ done) e rest w = well_behind done e rest w.1
+
+abbrev keys : {K V : Type 0} → List (K × V) → List K
+keys es = map (λ e. e.0) es
+
+-- the entries that were changed so far, and those that are left
+pub record EntriesSoFar {K V : Type 0} (key : K → Scalar) (view : V → Value) (path : List ℕ) (all left new : List (K × V)) : Type 0 where
+  pub done : List (K × V)
+  pub parts : all ≡ done ++ left
+  pub same : keys new ≡ keys done
+  pub values : PairsWell (pairs_of key (shown view all)) → shown view new ≡ changed view (cleared_along path) done
+
+module _ {K V : Type 0} (key : K → Scalar) (view : V → Value) (path : List ℕ) where
+  abbrev F : Content → Content
+  F = cleared_along path
+
+  pub no_entries : (all : List (K × V)) → EntriesSoFar key view path all all []
+  no_entries all = record { done = []; parts = refl; same = refl; values = λ w. refl }
+
+  -- one more, which was put behind them
+  pub one_entry : (all left new next : List (K × V)) (e : K × V) (y : V) → EntriesSoFar key view path all (e ∷ left) new → ClearsElement path (view e.1) (view y) → next ≡ new ++ (e.0, y) ∷ [] → EntriesSoFar key view path all left next
+  one_entry all left new next e y s cleared is = record {
+    done = s.done ++ e ∷ [];
+    parts = s.parts ∙ sym (append_assoc s.done (e ∷ []) left);
+    same = ap keys is ∙ map-append (λ e. e.0) new ((e.0, y) ∷ []) ∙ ap (λ ks. ks ++ e.0 ∷ []) s.same ∙ sym (map-append (λ e. e.0) s.done (e ∷ []));
+    values = λ w.
+        ap (shown view) is
+        ∙ map-append (λ (d : K × V). (d.0, view d.1)) new ((e.0, y) ∷ [])
+        ∙ (λ i. s.values w i ++ (e.0, cleared.cleared (well_behind key view s.done e left (subst (λ es. PairsWell (pairs_of key (shown view es))) s.parts w)) i) ∷ [])
+        ∙ sym (map-append (λ (d : K × V). (d.0, in_message (view d.1) F)) s.done (e ∷ []));
+  }
+
+  pub all_entries : (all new : List (K × V)) → EntriesSoFar key view path all [] new → PairsWell (pairs_of key (shown view all)) → pairs_of key (shown view new) ≡ in_pairs F (pairs_of key (shown view all))
+  all_entries all new s w =
+      ap (pairs_of key) (s.values w)
+      ∙ ap (λ es. pairs_of key (changed view F es)) (sym (append-nil s.done) ∙ sym s.parts)
+      ∙ changed_pairs key view F all

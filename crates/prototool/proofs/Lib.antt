@@ -1,5 +1,9 @@
 mod RedactedValues
+mod ClearedNumber
 mod ClearedAlong
 mod ClearedThrough
 mod ClearedLists
+mod NumberedExtensions
 mod ClearedCalls
+mod ClearedPaths
+mod NothingLeft

@@ -1,7 +1,8 @@
 -- What is left of a message whose fields are cleared along paths of numbers (the encoding guide, "Submessages", for what is in what).
-use Rattle.std.specs.Prelude.{◌≡◌, ⊤, ℕ, nat_eq, if◌then◌else◌, List, [], ◌∷◌, Some}
-use Rattle.prost_reflect_wire.specs.Schema.{Schema}
-use Rattle.prost_reflect_wire.specs.Content.{Content, Entries, NoEntries, Stored, Unknown, Value, ScalarValue, MessageValue, ListValue, MapValue, Values, NoValues, Item, Pairs, NoPairs, Pair}
+use Rattle.std.specs.Prelude.{◌≡◌, ⊤, ℕ, Bool, true, false, not, ◌||◌, is_some, nat_eq, if◌then◌else◌, List, [], ◌∷◌, Some}
+use Rattle.std.specs.List.{list_all}
+use Rattle.prost_reflect_wire.specs.Schema.{Schema, passes}
+use Rattle.prost_reflect_wire.specs.Content.{Content, Entries, NoEntries, Stored, Unknown, Value, ScalarValue, MessageValue, ListValue, MapValue, Values, NoValues, Item, Pairs, NoPairs, Pair, entries_of, value_at}
 use Rattle.prost_reflect_wire.specs.Grammar.{LEVEL_LIMIT, Accepts}
 use Rattle.prost_reflect_wire.specs.Meaning.{decoded}
 use Rattle.prost_reflect_wire.specs.Writing.{encoded}
@@ -53,6 +54,39 @@ pub record IsRedacted (schema : Schema) (T : ℕ) (paths : List (List ℕ)) (byt
   pub accepts : Accepts schema LEVEL_LIMIT T bytes
   pub means : decoded schema LEVEL_LIMIT T bytes ≡ Some content
   pub encoding : written ≡ encoded (cleared_all paths content)
+
+-- NOTHING IS LEFT
+
+-- A message that a value is, or one in its list or its map, passes the test.
+abbrev pub message_passes : (Content → Bool) → Value → Bool
+message_passes test (MessageValue c) = test c
+message_passes test (ScalarValue v) = false
+message_passes test (ListValue vs) = false
+message_passes test (MapValue ps) = false
+
+abbrev pub one_passes : (Content → Bool) → Values → Bool
+one_passes test NoValues = false
+one_passes test (Item v vs) = message_passes test v || one_passes test vs
+
+abbrev pub pair_passes : (Content → Bool) → Pairs → Bool
+pair_passes test NoPairs = false
+pair_passes test (Pair k v ps) = message_passes test v || pair_passes test ps
+
+abbrev pub holds_passing : (Content → Bool) → Value → Bool
+holds_passing test (ScalarValue v) = false
+holds_passing test (MessageValue c) = test c
+holds_passing test (ListValue vs) = one_passes test vs
+holds_passing test (MapValue ps) = pair_passes test ps
+
+-- A message that the numbers of a path before the last lead to has a value at the last.
+abbrev pub has_along : List ℕ → Content → Bool
+has_along [] c = false
+has_along (n ∷ []) c = is_some (value_at n (entries_of c))
+has_along (n ∷ m ∷ path) c = passes (value_at n (entries_of c)) (holds_passing (has_along (m ∷ path)))
+
+-- None does where these paths were cleared, whatever the content.
+abbrev pub NothingLeft : List (List ℕ) → Type 0
+NothingLeft paths = (c : Content) → list_all (λ path. not (has_along path (cleared_all paths c))) paths ≡ true
 
 -- FOR PRIVATE CONTRACTS ALONE: WHAT IS STORED WHILE FIELDS ARE CLEARED
 

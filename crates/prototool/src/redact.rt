@@ -4,7 +4,7 @@ ghost use Rattle.std.specs.Prelude.{IfOk, map};
 ghost use Rattle.prost_reflect_wire.specs.Typing.{WellStored};
 ghost use Rattle.prost_reflect_dynamic.specs.Named.{schema_named, type_named};
 ghost use Rattle.prost_reflect_dynamic.specs.View.{content_of};
-ghost use Rattle.prototool.specs.Redacting.{IsClearedAll, IsRedacted};
+ghost use Rattle.prototool.specs.Redacting.{IsClearedAll, IsRedacted, NothingLeft};
 
 mod clearing;
 mod path;
@@ -83,6 +83,7 @@ pub fn redacted(
     paths: &[Vec<u32>],
     bytes: &[u8],
 ) -> Result<Vec<u8>, Refusal>
+    ensures nothing_left { IfOk result (λ _. NothingLeft (map (λ path. path.items) paths.now)) }
     ensures redacted { IfOk result (λ written. IsRedacted (schema_named descriptor) (type_named descriptor) (map (λ path. path.items) paths.now) bytes.now written.items) }
 {
     let mut message = DynamicMessage::decode(alloc, descriptor, bytes)?;

@@ -1,6 +1,6 @@
 //! Clearing fields along a path of numbers, in each message that the path leads through.
 
-ghost use Rattle.std.specs.Prelude.{◌≡◌, IfOk, IfSome, None, false, map};
+ghost use Rattle.std.specs.Prelude.{◌≡◌, IfOk, IfSome, None, true, false, map};
 ghost use Rattle.prost_reflect_wire.specs.Content.{values_from};
 ghost use Rattle.prost_reflect_fields.specs.Known.{known_of, is_listed};
 ghost use Rattle.prost_reflect_dynamic.specs.ContentLaws.{pairs_shown};
@@ -44,16 +44,46 @@ fn clear_through(
 ) -> Result<(), Refusal>
     ensures { IfOk result (λ _. ClearsThrough number rest.now (content_of message.old) (content_of message.new)) }
 {
-    if let Some(extension) = extension_of(message, number)? {
-        if message.has_extension(&extension) {
-            return clear_inside(alloc, message.get_extension_mut(alloc, &extension)?, rest);
-        }
+    match extension_of(message, number)? {
+        Some(extension) => clear_in_extension(alloc, message, &extension, rest),
+        None => clear_in_field(alloc, message, number, rest),
+    }
+}
+
+/// Clears along the path in the value of the extension, if the message has it.
+#[cycle(clearing)]
+fn clear_in_extension(
+    alloc: Global,
+    message: &mut DynamicMessage,
+    extension: &ExtensionDescriptor,
+    path: &[u32],
+) -> Result<(), Refusal>
+    requires { IsOwnExtension (message_type_of message.old) extension.now }
+    ensures { IfOk result (λ _. ClearsThrough (extension_number extension.now) path.now (content_of message.old) (content_of message.new)) }
+{
+    if !message.has_extension(extension) {
         return Ok(());
     }
-    if message.has_field_by_number(number) {
-        return clear_inside(alloc, message.get_field_by_number_mut(alloc, number)?, rest);
+    let value = message.get_extension_mut(alloc, extension)?;
+    clear_inside(alloc, value, path)
+}
+
+/// Clears along the path in the value of the field of the number, which is no extension's, if the message has it.
+#[cycle(clearing)]
+fn clear_in_field(
+    alloc: Global,
+    message: &mut DynamicMessage,
+    number: u32,
+    path: &[u32],
+) -> Result<(), Refusal>
+    requires { is_listed true (known_of (message_type_of message.old)) number ≡ false }
+    ensures { IfOk result (λ _. ClearsThrough number path.now (content_of message.old) (content_of message.new)) }
+{
+    if !message.has_field_by_number(number) {
+        return Ok(());
     }
-    Ok(())
+    let value = message.get_field_by_number_mut(alloc, number)?;
+    clear_inside(alloc, value, path)
 }
 
 /// Clears along the path in the message that the value is, or in each message of its list or its map.

@@ -1,7 +1,10 @@
 //! Paths of names, as `user.email`, and the numbers of the fields and extensions that they lead through.
 
-use prost_reflect::{FieldDescriptorLike, Kind, MessageDescriptor};
+use prost_reflect::{FieldDescriptorLike, Kind, MessageDescriptor, RECURSION_LIMIT};
 use std::alloc::{AllocError, Global};
+
+/// How many names a path has at most: one for each level of messages that is read, and one for the field.
+const PATH_LIMIT: u32 = RECURSION_LIMIT + 1;
 
 /// The first name of a path.
 #[derive(Clone, Copy)]
@@ -23,7 +26,7 @@ struct Found {
 
 /// The numbers of the fields and extensions that the path leads through from the message type on, or none if it leads to no
 /// field. Names are joined by dots; each but the last is that of a field whose values are messages, or lists or maps of such,
-/// and the full name of an extension stands in brackets.
+/// and the full name of an extension stands in brackets. A path of more than 101 names leads to none.
 ///
 /// # Errors
 ///
@@ -34,30 +37,26 @@ pub fn numbers_of(
     path: &str,
 ) -> Result<Option<Vec<u32>>, AllocError> {
     let mut numbers = Vec::new(alloc);
-    let leads = push_numbers(descriptor, path, &mut numbers)?;
-    Ok(if leads { Some(numbers) } else { None })
-}
-
-/// Adds the numbers of the path, and answers whether it leads to a field.
-fn push_numbers(
-    descriptor: &MessageDescriptor,
-    path: &str,
-    numbers: &mut Vec<u32>,
-) -> Result<bool, AllocError> {
-    let Some((name, rest)) = first_name(path) else {
-        return Ok(false);
-    };
-    let Some(found) = found_by(descriptor, name)? else {
-        return Ok(false);
-    };
-    numbers.push(found.number)?;
-    match rest {
-        None => Ok(true),
-        Some(rest) => match found.inside {
-            Some(inside) => push_numbers(&inside, rest, numbers),
-            None => Ok(false),
-        },
+    let mut from = descriptor.clone()?;
+    let mut left = path;
+    for _ in 0..PATH_LIMIT {
+        let Some((name, rest)) = first_name(left) else {
+            return Ok(None);
+        };
+        let Some(Found { number, inside }) = found_by(&from, name)? else {
+            return Ok(None);
+        };
+        numbers.push(number)?;
+        let Some(rest) = rest else {
+            return Ok(Some(numbers));
+        };
+        let Some(inside) = inside else {
+            return Ok(None);
+        };
+        from = inside;
+        left = rest;
     }
+    Ok(None)
 }
 
 /// The first name of a path, and the path behind the dot that follows it, if one does; none if a bracket is not closed, or

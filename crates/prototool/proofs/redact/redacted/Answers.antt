@@ -1,0 +1,20 @@
+use Rattle.std.proofs.Common.{map}
+use Rattle.prost_reflect_dynamic.specs.Named.{schema_named, type_named}
+use Rattle.prototool.proofs.ClearedPaths.{is_redacted}
+use Rattle.prototool.proofs.NothingLeft.{nothing_left}
+use Rattle.prototool.proofs.redact.redacted.Goals as goal
+
+pub encode_to_vec-requires : goal.encode_to_vec-requires
+encode_to_vec-requires c =
+    let cleared = c.in_ok-clear_all.ensures in
+    let holds = cleared.holds in
+    let sound = holds.sound in
+    record { encodable = sound.fits }
+
+pub returns-clause-nothing_left : goal.returns-clause-nothing_left
+returns-clause-nothing_left c = nothing_left (map (λ path. path.items) c.args.paths.now)
+
+pub returns-clause-redacted : goal.returns-clause-redacted
+returns-clause-redacted c =
+    is_redacted (schema_named c.args.descriptor) (type_named c.args.descriptor) (map (λ path. path.items) c.args.paths.now) c.args.bytes.now _ c.in_ok-message.message c.clear_all.new.message
+    c.in_ok-message.ensures.accepts c.in_ok-message.ensures.means c.in_ok-message.ensures.sound c.in_ok-clear_all.ensures c.in_ok-encode_to_vec.ensures.ok
