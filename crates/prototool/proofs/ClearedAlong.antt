@@ -13,7 +13,7 @@ use Rattle.prototool.proofs.ClearedNumber.{clear_holds}
 use Rattle.prototool.specs.Redacting.{in_values, in_pairs, in_messages, changed_at, cleared_along, cleared_all}
 use Rattle.prototool.proofs.RedactedValues.{SoundValue, SoundEntries, Keeps, message_sound, item_parts, pair_parts, front_parts, unknown_behind, entries_kept}
 
-entries_sound : (schema : Schema) (T : ℕ) (es : Entries) → WellStored (ContentOf schema T es) → SoundEntries schema (known schema T) es
+pub entries_sound : (schema : Schema) (T : ℕ) (es : Entries) → WellStored (ContentOf schema T es) → SoundEntries schema (known schema T) es
 entries_sound schema T es w = record { fits = w.fits; types = w.types; order = w.order; members = w.members }
 
 -- what is stored holds still

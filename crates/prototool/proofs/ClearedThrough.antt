@@ -43,7 +43,7 @@ changed_table n change at [] = refl
 changed_table n change at (m ∷ ns) = changed_store n m change (at m) (table at ns) ∙ ap (store m (changed_slot n change m (at m))) (changed_table n change at ns)
 
 -- a number more, at which there is nothing, is none
-one_more : (at : ℕ → Slot) (n : ℕ) (es : Entries) → ((k : ℕ) → is_in k (numbers_in es) ≡ false → at k ≡ empty_slot) → table at (insert_number n (numbers_in es)) ≡ table at (numbers_in es)
+pub one_more : (at : ℕ → Slot) (n : ℕ) (es : Entries) → ((k : ℕ) → is_in k (numbers_in es) ≡ false → at k ≡ empty_slot) → table at (insert_number n (numbers_in es)) ≡ table at (numbers_in es)
 one_more at n es outside =
     table_covers at (length (insert_number n (numbers_in es)) + length (numbers_in es)) 0 (insert_number n (numbers_in es)) (numbers_in es) (omega arith)
     (insert_ascending n 0 (numbers_in es) (entries_ascending es) (omega arith)) (entries_ascending es)

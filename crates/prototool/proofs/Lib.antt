@@ -5,5 +5,6 @@ mod ClearedThrough
 mod ClearedLists
 mod NumberedExtensions
 mod ClearedCalls
+mod ClearedLevels
 mod ClearedPaths
 mod NothingLeft

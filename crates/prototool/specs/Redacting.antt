@@ -48,12 +48,14 @@ abbrev pub cleared_all : List (List ℕ) → Content → Content
 cleared_all [] c = c
 cleared_all (path ∷ paths) c = cleared_all paths (cleared_along path c)
 
--- The type accepts the bytes, and the other bytes are the encoding of what they mean with exactly these places cleared.
+-- The type accepts the bytes, and what is written is the encoding of what they mean with exactly these places cleared; to whoever reads it by the type it means that.
 pub record IsRedacted (schema : Schema) (T : ℕ) (paths : List (List ℕ)) (bytes written : List ℕ) : Type 0 where
   pub content : Content
   pub accepts : Accepts schema LEVEL_LIMIT T bytes
   pub means : decoded schema LEVEL_LIMIT T bytes ≡ Some content
   pub encoding : written ≡ encoded (cleared_all paths content)
+  pub accepts_written : Accepts schema LEVEL_LIMIT T written
+  pub written_means : decoded schema LEVEL_LIMIT T written ≡ Some (cleared_all paths content)
 
 -- NOTHING IS LEFT
 

@@ -1,6 +1,7 @@
 use Rattle.std.proofs.Common.{map}
+use Rattle.prost_reflect_wire.proofs.ByteLists.{bytes_below}
 use Rattle.prost_reflect_dynamic.specs.Named.{schema_named, type_named}
-use Rattle.prototool.proofs.ClearedPaths.{is_redacted}
+use Rattle.prototool.proofs.ClearedPaths.{is_redacted, named_schema, named_type}
 use Rattle.prototool.proofs.NothingLeft.{nothing_left}
 use Rattle.prototool.proofs.redact.redacted.Goals as goal
 
@@ -16,5 +17,7 @@ returns-clause-nothing_left c = nothing_left (map (λ path. path.items) c.args.p
 
 pub returns-clause-redacted : goal.returns-clause-redacted
 returns-clause-redacted c =
-    is_redacted (schema_named c.args.descriptor) (type_named c.args.descriptor) (map (λ path. path.items) c.args.paths.now) c.args.bytes.now _ c.in_ok-message.message c.clear_all.new.message
-    c.in_ok-message.ensures.accepts c.in_ok-message.ensures.means c.in_ok-message.ensures.sound c.in_ok-clear_all.ensures c.in_ok-encode_to_vec.ensures.ok
+    let message = c.in_ok-message.message in
+    let named = c.in_ok-message.ensures.message_type in
+    is_redacted (schema_named c.args.descriptor) (type_named c.args.descriptor) (map (λ path. path.items) c.args.paths.now) c.args.bytes.now _ message c.clear_all.new.message (bytes_below _ c.type_inv.bytes) (named_schema c.args.descriptor message named) (named_type c.args.descriptor message named)
+    c.in_ok-message.ensures.accepts c.in_ok-message.ensures.means c.in_ok-message.ensures.sound c.in_ok-clear_all.ensures c.in_ok-encode_to_vec.ensures.ok c.in_ok-encode_to_vec.ensures.reads_back
