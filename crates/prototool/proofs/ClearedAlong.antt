@@ -1,8 +1,8 @@
 -- Contents cleared along paths.
 use Rattle.std.proofs.Common.{◌≡◌, ℕ, Bool, true, false, cond, ◌&&◌, ◌||◌, nat_eq, List, [], ◌∷◌, Option, Some, None, option_map, refl, ap, sym, ◌∙◌}
-use Rattle.prost_reflect_wire.specs.Schema.{Kind, Field, FieldForm, Singular, Repeated, MapFrom, ValueType, Schema, known, field_of, schema_valid, is_singular}
-use Rattle.prost_reflect_wire.specs.Content.{Content, ContentOf, Entries, NoEntries, Stored, Unknown, Value, ScalarValue, MessageValue, ListValue, MapValue, Values, NoValues, Item, Pairs, NoPairs, Pair, then_value, schema_of, type_of}
-use Rattle.prost_reflect_wire.specs.Typing.{kept, kept_entries, kept_inside, kept_values, kept_pairs, kept_value, is_field_default, is_empty_value, is_stored_default, kind_for, WellStored}
+use Rattle.prost_reflect_wire.specs.Schema.{Kind, Field, FieldForm, ValueType, Schema, known, field_of, schema_valid, is_singular}
+use Rattle.prost_reflect_wire.specs.Content.{Content, ContentOf, Entries, NoEntries, Stored, Unknown, Value, ScalarValue, MessageValue, ListValue, MapValue, Values, NoValues, Item, Pairs, NoPairs, Pair, then_value, schema_of}
+use Rattle.prost_reflect_wire.specs.Typing.{kept, kept_entries, kept_inside, kept_values, kept_pairs, kept_value, is_field_default, is_empty_value, kind_for, WellStored}
 use Rattle.prost_reflect_wire.specs.Writing.{is_default_of}
 use Rattle.prost_reflect_wire.specs.Edit.{in_message}
 use Rattle.prost_reflect_wire.specs.Decoding.{Holds}
@@ -11,7 +11,7 @@ use Rattle.prost_reflect_laws.proofs.Rebuilt.{rebuilt}
 use Rattle.prost_reflect_dynamic.proofs.KeptSlots.{kept_after_clear}
 use Rattle.prototool.proofs.ClearedNumber.{clear_holds}
 use Rattle.prototool.specs.Redacting.{in_values, in_pairs, in_messages, changed_at, cleared_along, cleared_all}
-use Rattle.prototool.proofs.RedactedValues.{SoundValue, SoundEntries, Keeps, message_sound, item_parts, pair_parts, front_parts, unknown_behind, entries_kept}
+use Rattle.prototool.proofs.RedactedValues.{SoundValue, SoundEntries, message_sound, item_parts, pair_parts, front_parts, unknown_behind, entries_kept}
 
 pub entries_sound : (schema : Schema) (T : ℕ) (es : Entries) → WellStored (ContentOf schema T es) → SoundEntries schema (known schema T) es
 entries_sound schema T es w = record { fits = w.fits; types = w.types; order = w.order; members = w.members }

@@ -1,16 +1,15 @@
 -- What the calls that clear along a path make of messages and values.
-use Rattle.std.proofs.Common.{◌≡◌, ◌==◌, ℕ, Bool, true, false, cond, not, ◌&&◌, ◌≤◌, List, [], ◌∷◌, ◌++◌, length, take, drop, Option, Some, None, option_map, is_some, refl, ap, sym, ◌∙◌, subst, true≢false}
+use Rattle.std.proofs.Common.{◌≡◌, ◌==◌, ℕ, Bool, true, false, cond, not, ◌&&◌, ◌≤◌, List, [], ◌∷◌, ◌++◌, length, take, drop, Option, Some, None, option_map, refl, ap, sym, ◌∙◌, subst, true≢false}
 use Rattle.std.specs.Prelude.{Vec, map, unwrap_or, IfSome}
 use Rattle.std.specs.Bool.{beq}
 use Rattle.std.specs.BTreeMap.{BTreeMap, insert_entry}
 use Rattle.std.specs.List.Sorted.{IsStrictlySortedBy}
 use Rattle.std.specs.Map.{keys_of}
 use Rattle.std.specs.declared.alloc.Global.{Global}
-use Rattle.std.proofs.lemmas.Option.{none-some}
-use Rattle.prost_reflect_wire.specs.Schema.{Field, known, field_of, passes}
+use Rattle.prost_reflect_wire.specs.Schema.{field_of, passes}
 use Rattle.prost_reflect_wire.specs.Content as contents
-use Rattle.prost_reflect_wire.specs.Content.{Content, ScalarValue, MessageValue, ListValue, MapValue, Values, NoValues, Item, Pairs, NoPairs, Pair, schema_of, type_of, entries_of, value_at, values_from}
-use Rattle.prost_reflect_wire.specs.Typing.{kind_for, WellStored}
+use Rattle.prost_reflect_wire.specs.Content.{Content, MessageValue, ListValue, MapValue, Pair, entries_of, value_at, values_from}
+use Rattle.prost_reflect_wire.specs.Typing.{WellStored}
 use Rattle.prost_reflect_wire.specs.Edit.{in_message}
 use Rattle.prost_reflect_tables.specs.Places.{row_of, is_declared}
 use Rattle.prost_reflect_tables.specs.Rows.{FieldRow}
@@ -44,8 +43,8 @@ use Rattle.prototool.proofs.NumberedExtensions.{extension_missed, extension_own}
 use Rattle.prost_reflect_dynamic.proofs.Merging.{known_in, valid_in}
 use Rattle.prost_reflect_dynamic.proofs.NestedReads.{held_is}
 use Rattle.prost_reflect_dynamic.proofs.Views.{value_of_message, value_of_list, value_of_map, list_viewed}
-use Rattle.prototool.specs.Redacting.{in_values, in_pairs, in_messages, cleared_along, IsWell, AreWell, PairsWell, HoldsWell, ClearsLast, ClearsThrough, ClearsAlong, ClearsInside, ClearsElement, ClearsElements, ClearsEntries}
-use Rattle.prototool.proofs.ClearedLists.{in_first, all_changed_back, shown, pairs_of, EntriesSoFar, no_entries, one_entry, all_entries, value_well}
+use Rattle.prototool.specs.Redacting.{in_pairs, in_messages, cleared_along, IsWell, AreWell, PairsWell, HoldsWell, ClearsLast, ClearsThrough, ClearsAlong, ClearsInside, ClearsElement, ClearsElements, ClearsEntries}
+use Rattle.prototool.proofs.ClearedLists.{in_first, all_changed_back, pairs_of, EntriesSoFar, one_entry, all_entries, value_well}
 use Rattle.prototool.proofs.ClearedThrough.{through_first, through_none, last_none, none_at_unknown, had_at_first, had_not, sound_in, known_at_value}
 
 -- A NUMBER OF NO FIELD AND NO EXTENSION

@@ -2,8 +2,8 @@
 use Rattle.std.proofs.Common.{◌≡◌, ◌≤◌, ℕ, suc, max, Bool, true, false, cond, nat_eq, List, [], ◌∷◌, Option, Some, None, refl, ap, sym, ◌∙◌, subst, arith}
 use Rattle.prost_reflect_wire.specs.Record.{Payload}
 use Rattle.prost_reflect_wire.specs.Schema.{Kind, Field, Schema, known, field_of, schema_valid}
-use Rattle.prost_reflect_wire.specs.Content.{Content, ContentOf, Entries, NoEntries, Stored, Unknown, Value, ScalarValue, MessageValue, ListValue, MapValue, Values, NoValues, Item, Pairs, NoPairs, Pair, Slot, slot_at, then_value, then_unknowns, store, table, insert_number, numbers_in, schema_of}
-use Rattle.prost_reflect_wire.specs.Levels.{levels, entries_levels, value_levels, values_levels, pairs_levels, unknown_levels}
+use Rattle.prost_reflect_wire.specs.Content.{Content, ContentOf, Entries, NoEntries, Stored, Unknown, Value, ScalarValue, MessageValue, ListValue, MapValue, Values, NoValues, Item, Pairs, NoPairs, Pair, Slot, slot_at, then_value, then_unknowns, store, table, numbers_in, schema_of}
+use Rattle.prost_reflect_wire.specs.Levels.{levels, entries_levels, value_levels, values_levels, pairs_levels}
 use Rattle.prost_reflect_wire.specs.Typing.{kind_for, WellStored}
 use Rattle.prost_reflect_wire.specs.Edit.{with_value, clear_field, in_message}
 use Rattle.prost_reflect_wire.proofs.Numbers.{empty_slot, slot_outside}

@@ -118,9 +118,6 @@ module _ {K V : Type 0} (key : K → Scalar) (view : V → Value) (path : List �
   abbrev F : Content → Content
   F = cleared_along path
 
-  pub no_entries : (all : List (K × V)) → EntriesSoFar key view path all all []
-  no_entries all = record { done = []; parts = refl; same = refl; values = λ w. refl }
-
   -- one more, which was put behind them
   pub one_entry : (all left new next : List (K × V)) (e : K × V) (y : V) → EntriesSoFar key view path all (e ∷ left) new → ClearsElement path (view e.1) (view y) → next ≡ new ++ (e.0, y) ∷ [] → EntriesSoFar key view path all left next
   one_entry all left new next e y s cleared is = record {

@@ -20,7 +20,7 @@ use Rattle.prost_reflect_dynamic.specs.declared.descriptor.message.MessageDescri
 use Rattle.prost_reflect_dynamic.specs.declared.message.DynamicMessage.{DynamicMessage}
 use Rattle.prost_reflect_dynamic.proofs.Merging.{valid_in}
 use Rattle.prost_reflect_dynamic.proofs.NestedReads.{schema_in, type_in}
-use Rattle.prototool.specs.Redacting.{cleared_along, cleared_all, ClearsAlong, IsClearedAll, IsRedacted}
+use Rattle.prototool.specs.Redacting.{cleared_all, ClearsAlong, IsClearedAll, IsRedacted}
 use Rattle.prototool.proofs.ClearedAlong.{cleared_holds, kept_all}
 use Rattle.prototool.proofs.ClearedLevels.{levels_all}
 

@@ -1,13 +1,13 @@
 -- A value written over where a path goes through it, and what is left where nothing is.
-use Rattle.std.proofs.Common.{◌≡◌, ℕ, ◌+◌, Bool, true, false, cond, ◌&&◌, ◌||◌, nat_eq, List, [], ◌∷◌, length, Option, Some, None, option_map, is_some, refl, ap, sym, ◌∙◌, subst, arith, true≢false}
-use Rattle.std.proofs.lemmas.Bool.{and_parts, or_parts, eqb-true, eq-eqb}
+use Rattle.std.proofs.Common.{◌≡◌, ℕ, ◌+◌, Bool, true, false, cond, ◌&&◌, nat_eq, List, [], ◌∷◌, length, Option, Some, None, option_map, is_some, refl, ap, sym, ◌∙◌, subst, arith, true≢false}
+use Rattle.std.proofs.lemmas.Bool.{and_parts, or_parts, eqb-true}
 use Rattle.std.proofs.lemmas.Option.{none-some}
 use Rattle.prost_reflect_wire.specs.Record.{Payload}
-use Rattle.prost_reflect_wire.specs.Schema.{passes, Kind, Field, FieldForm, Schema, known, field_of, is_sibling, is_singular, schema_valid, numbers_differ}
-use Rattle.prost_reflect_wire.specs.Content.{Content, ContentOf, Entries, NoEntries, Stored, Unknown, Value, ScalarValue, MessageValue, ListValue, MapValue, Values, NoValues, Item, Pairs, NoPairs, Pair, Slot, value_at, slot_at, then_value, then_unknowns, store, table, insert_number, numbers_in, changed, schema_of, type_of, entries_of}
-use Rattle.prost_reflect_wire.specs.Typing.{kept, kept_entries, kept_inside, kept_value, is_field_default, is_empty_value, kind_for, entries_pass, fit_test, value_passes, value_valid, unknown_fits, WellStored}
+use Rattle.prost_reflect_wire.specs.Schema.{passes, Field, Schema, known, field_of, is_sibling, is_singular, schema_valid}
+use Rattle.prost_reflect_wire.specs.Content.{Content, ContentOf, Entries, NoEntries, Stored, Unknown, Value, ScalarValue, MessageValue, ListValue, MapValue, NoValues, Item, NoPairs, Pair, Slot, value_at, slot_at, then_value, then_unknowns, store, table, insert_number, numbers_in, schema_of, type_of, entries_of}
+use Rattle.prost_reflect_wire.specs.Typing.{kept_entries, kept_inside, kept_value, is_field_default, kind_for, entries_pass, fit_test, value_passes, value_valid, unknown_fits, WellStored}
 use Rattle.prost_reflect_wire.specs.Edit.{with_value, with_field_value, clear_field}
-use Rattle.prost_reflect_wire.proofs.Numbers.{is_in, Covers, empty_slot, insert_ascending, entries_ascending, in_insert, slot_outside, slots_same, table_same, table_covers}
+use Rattle.prost_reflect_wire.proofs.Numbers.{is_in, empty_slot, insert_ascending, entries_ascending, in_insert, slot_outside, slots_same, table_same, table_covers}
 use Rattle.prost_reflect_wire.proofs.Survivors.{field_number}
 use Rattle.prost_reflect_laws.proofs.Checked.{known_differ}
 use Rattle.prost_reflect_laws.proofs.Rebuilt.{rebuilt}

@@ -1,30 +1,25 @@
 -- The extension that the look-up of a number finds.
-use Rattle.std.proofs.Common.{◌≡◌, ℕ, ◌==◌, Bool, true, false, not, Option, Some, None, refl, sym, ap, ◌∙◌, unwrap_or, true≢false}
+use Rattle.std.proofs.Common.{◌≡◌, ℕ, ◌==◌, Bool, true, false, Option, Some, None, refl, sym, ap, ◌∙◌, unwrap_or, true≢false}
 use Rattle.std.specs.Bool.{beq}
 use Rattle.std.proofs.lemmas.Bool.{eqb-true}
 use Rattle.std.specs.Option.{option_map, is_some}
 use Rattle.prost_reflect_wire.specs.Schema.{passes}
-use Rattle.prost_reflect_tables.specs.Places.{fields_at, row_of, is_declared}
+use Rattle.prost_reflect_tables.specs.Places.{row_of}
 use Rattle.prost_reflect_tables.specs.Rows.{FieldRow}
 use Rattle.prost_reflect_tables.specs.Shown.{schema_field}
 use Rattle.prost_reflect_pool.specs.Lookups.{extension_where}
 use Rattle.prost_reflect_pool.specs.MessageTypes.{fields_of}
-use Rattle.prost_reflect_pool.specs.Pools.{pool_rows as rows_in, pool_contents as contents_in}
+use Rattle.prost_reflect_pool.specs.Pools.{pool_contents as contents_in}
 use Rattle.prost_reflect_pool.specs.SharedPools.{pool_rows}
 use Rattle.prost_reflect_pool.specs.declared.pooled_type.PooledType.{PooledType}
 use Rattle.prost_reflect_fields.specs.Known.{known_of, is_listed}
-use Rattle.prost_reflect_dynamic.specs.Access.{IsOwnField, number_of, is_field_number}
 use Rattle.prost_reflect_dynamic.specs.ExtensionAccess.{IsOwnExtension, extension_number}
-use Rattle.prost_reflect_dynamic.specs.Named.{NamesEqual, NamesSame, SameMessage}
+use Rattle.prost_reflect_dynamic.specs.Named.{NamesSame}
 use Rattle.prost_reflect_dynamic.specs.NamedExtensions.{Extends}
-use Rattle.prost_reflect_dynamic.specs.NamedFields.{declared_place}
-use Rattle.prost_reflect_dynamic.specs.NamedFields as named
 use Rattle.prost_reflect_dynamic.specs.declared.descriptor.extension.ExtensionDescriptor.{ExtensionDescriptor}
-use Rattle.prost_reflect_dynamic.specs.declared.descriptor.field.FieldDescriptor.{FieldDescriptor}
 use Rattle.prost_reflect_dynamic.specs.declared.descriptor.message.MessageDescriptor.{MessageDescriptor}
 use Rattle.prost_reflect_dynamic.proofs.Described.{field_at_number}
 use Rattle.prost_reflect_pool.proofs.ExtensionPlaces.{FoundExtension, extension_found, extension_there}
-use Rattle.prost_reflect_dynamic.proofs.OwnFields.{number_found, number_missing}
 
 listed_row : (x : Bool) (t : PooledType) (n : ℕ) → is_listed x (known_of t) n ≡ passes (row_of (fields_of t) n) (λ f. beq x f.is_extension)
 listed_row x t n = ap (λ o. passes o (λ f. beq x f.is_extension)) (field_at_number t n) ∙ go (row_of (fields_of t) n)

@@ -3,8 +3,8 @@ use Rattle.std.proofs.Common.{◌≡◌, ℕ, Bool, true, false, cond, not, ◌&
 use Rattle.std.proofs.lemmas.Bool.{and_parts, and_from}
 use Rattle.prost_reflect_wire.specs.Scalar.{Scalar}
 use Rattle.prost_reflect_wire.specs.Record.{Payload}
-use Rattle.prost_reflect_wire.specs.Schema.{Kind, FieldForm, Singular, Repeated, MapFrom, Field, Schema, known, field_of, is_sibling, is_list, passes}
-use Rattle.prost_reflect_wire.specs.Content.{Content, ContentOf, Entries, NoEntries, Stored, Unknown, Value, ScalarValue, MessageValue, ListValue, MapValue, Values, NoValues, Item, Pairs, NoPairs, Pair, schema_of, type_of, comes_before, key_before, entries_ordered, value_ordered, values_ordered, pairs_ordered}
+use Rattle.prost_reflect_wire.specs.Schema.{Kind, FieldForm, Singular, Repeated, MapFrom, Field, Schema, field_of, is_sibling, is_list, passes}
+use Rattle.prost_reflect_wire.specs.Content.{Content, Entries, NoEntries, Stored, Unknown, Value, ScalarValue, MessageValue, ListValue, MapValue, Values, NoValues, Item, Pairs, NoPairs, Pair, schema_of, comes_before, key_before, entries_ordered, value_ordered, values_ordered, pairs_ordered}
 use Rattle.prost_reflect_wire.specs.Typing.{fit_test, alone_test, value_passes, values_pass, pairs_pass, entries_pass, value_valid, kind_takes, element_valid, elements_valid, pairs_valid, unknown_fits, is_alone, has_value_of, kind_for, is_of_type, ValueTyped, EntriesTyped, WellStored}
 use Rattle.prost_reflect_wire.specs.Edit.{in_message}
 use Rattle.prost_reflect_wire.specs.Decoding.{Holds}

@@ -95,7 +95,7 @@ pub fn redacted(
 ///
 /// # Errors
 ///
-/// `Memory`, which leaves what was cleared.
+/// `Memory`. The message is not to be used then, since entries of a map may be lost.
 fn clear_all(alloc: Global, message: &mut DynamicMessage, paths: &[Vec<u32>]) -> Result<(), Refusal>
     requires { WellStored (content_of message.old) }
     ensures { IfOk result (λ _. IsClearedAll (map (λ path. path.items) paths.now) (content_of message.old) (content_of message.new)) }

@@ -19,7 +19,7 @@ use std::mem;
 ///
 /// # Errors
 ///
-/// `Memory`, which leaves what was cleared.
+/// `Memory`. The message is not to be used then, since entries of a map may be lost.
 #[cycle(clearing)]
 pub fn clear_along(alloc: Global, message: &mut DynamicMessage, path: &[u32]) -> Result<(), Refusal>
     ensures { IfOk result (λ _. ClearsAlong path.now (content_of message.old) (content_of message.new)) }

@@ -1,4 +1,4 @@
-use Rattle.std.proofs.Common.{rules, ◌≡◌, ◌<◌, ◌≤◌, ℕ, length, map, arith, get_or}
+use Rattle.std.proofs.Common.{rules, ◌≡◌, ◌<◌, ◌≤◌, length, map, arith, get_or}
 use Rattle.prost_reflect_dynamic.specs.View.{content_of}
 use Rattle.prototool.proofs.ClearedPaths.{no_path, next_path, every_path}
 use Rattle.prototool.proofs.redact.clear_all.Goals as goal

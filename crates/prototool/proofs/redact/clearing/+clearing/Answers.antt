@@ -1,4 +1,4 @@
-use Rattle.std.proofs.Common.{rules, ◌≡◌, ◌<◌, ◌≤◌, ◌&&◌, ℕ, true, false, List, [], ◌∷◌, length, map, refl, sym, subst, arith}
+use Rattle.std.proofs.Common.{rules, ◌≡◌, ◌<◌, ◌≤◌, ◌&&◌, true, false, [], length, map, refl, sym, subst, arith}
 use Rattle.std.proofs.lemmas.Result.{IfOk-weaker}
 use Rattle.std.specs.BTreeMap.{IsOrdered}
 use Rattle.prost_reflect_wire.specs.Content.{values_from}

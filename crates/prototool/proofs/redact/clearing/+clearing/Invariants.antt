@@ -1,4 +1,4 @@
-use Rattle.std.proofs.Common.{◌≡◌, ℕ, ◌+◌, ◌*◌, length, map}
+use Rattle.std.proofs.Common.{◌≡◌, ◌+◌, ◌*◌, length, map}
 use Rattle.prost_reflect_wire.specs.Content.{values_from}
 use Rattle.prost_reflect_dynamic.specs.View.{value_of}
 use Rattle.prototool.specs.Redacting.{AreWell, cleared_along}
