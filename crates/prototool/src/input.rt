@@ -2,7 +2,7 @@
 
 use crate::command::Source;
 use crate::refusal::Refusal;
-use prost_reflect::{DescriptorPool, DynamicMessage, MessageDescriptor, builtin_pool};
+use prost_reflect::{DescriptorPool, MessageDescriptor, builtin_pool};
 use std::alloc::Global;
 use std::fs;
 use std::io::{Input, Read};
@@ -32,23 +32,6 @@ pub fn message_type(pool: &DescriptorPool, name: &str) -> Result<MessageDescript
         Some(descriptor) => Ok(descriptor),
         None => Err(Refusal::Name),
     }
-}
-
-/// The message of the type of the name in the descriptor set that the source holds.
-///
-/// # Errors
-///
-/// The first step that fails: those of `pool_of`, `message_type` and `bytes_of`; then `Decode`, or `Memory`.
-pub fn message_of<R: Files + Input + AllocGlobal>(
-    rt: &R,
-    set: &str,
-    name: &str,
-    source: Source<'_>,
-) -> Result<DynamicMessage, Refusal> {
-    let pool = pool_of(rt, set)?;
-    let descriptor = message_type(&pool, name)?;
-    let bytes = bytes_of(rt, source)?;
-    Ok(DynamicMessage::decode(rt.alloc(), descriptor, bytes.as_slice())?)
 }
 
 /// The bytes that the source holds.

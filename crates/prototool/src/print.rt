@@ -3,14 +3,17 @@
 mod decimal;
 mod fields;
 mod float;
+mod leftover;
 mod message;
 mod scalar;
 mod text;
 mod unknown;
+mod written;
 
 use crate::refusal::Refusal;
-use message::push_message;
-use prost_reflect::{DynamicMessage, RECURSION_LIMIT, UnknownField};
+use fields::fields_in;
+use message::{push_entry, push_message};
+use prost_reflect::{DynamicMessage, MessageDescriptor, RECURSION_LIMIT, UnknownField};
 use std::alloc::{AllocError, Global};
 use text::Text;
 use unknown::{GUESSES, push_unknown};
@@ -18,14 +21,26 @@ use unknown::{GUESSES, push_unknown};
 #[cfg(test)]
 mod tests;
 
-/// The text of a message of a type that is known.
+/// The text of the message of the type that the bytes are the encoding of.
 ///
 /// # Errors
 ///
-/// `AllocError` if out of memory.
-pub fn message_text(alloc: Global, message: &DynamicMessage) -> Result<String, AllocError> {
+/// `Decode` if the bytes are no such message, or `Memory`.
+pub fn message_text(
+    alloc: Global,
+    descriptor: MessageDescriptor,
+    bytes: &[u8],
+) -> Result<String, Refusal> {
+    let is_entry = descriptor.is_map_entry();
+    let message = DynamicMessage::decode(alloc, descriptor, bytes)?;
+    let fields = fields_in(alloc, bytes, RECURSION_LIMIT)?;
+    let written = fields.as_ref().map(|fields| fields.as_slice());
     let mut text = Text::new(alloc, 0);
-    push_message(&mut text, message)?;
+    if is_entry {
+        push_entry(&mut text, &message, written)?;
+    } else {
+        push_message(&mut text, &message, written)?;
+    }
     Ok(text.into_string())
 }
 

@@ -3,7 +3,7 @@
 use crate::answer::Answer;
 use crate::command::Command;
 use crate::compare::comparison;
-use crate::input::{bytes_of, message_of, pool_of};
+use crate::input::{bytes_of, message_type, pool_of};
 use crate::print::{message_text, raw_text};
 use crate::redact::redact;
 use crate::refusal::Refusal;
@@ -82,8 +82,10 @@ fn refuse_words(rt: &HostRuntime, error: &io::Error) -> io::Result<u8> {
 fn answer<R: Files + Input + AllocGlobal>(rt: &R, command: Command<'_>) -> Result<Answer, Refusal> {
     match command {
         Command::Print { set, name, source } => {
-            let message = message_of(rt, set.as_str(), name.as_str(), source)?;
-            let text = message_text(rt.alloc(), &message)?;
+            let pool = pool_of(rt, set.as_str())?;
+            let descriptor = message_type(&pool, name.as_str())?;
+            let bytes = bytes_of(rt, source)?;
+            let text = message_text(rt.alloc(), descriptor, bytes.as_slice())?;
             Ok(Answer::passing(text.into_bytes()))
         }
         Command::PrintRaw { source } => {

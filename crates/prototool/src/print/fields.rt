@@ -161,6 +161,20 @@ fn read_delimited(bytes: &[u8]) -> Option<(&[u8], &[u8])> {
     Some(rest.split_at(length))
 }
 
+/// The varints that the bytes are a packed list of.
+pub fn varints_in(alloc: Global, bytes: &[u8]) -> Result<Vec<u64>, AllocError> {
+    let mut varints = Vec::new(alloc);
+    let mut rest = bytes;
+    for _ in 0..bytes.len() {
+        let Some((varint, after)) = read_varint(rest) else {
+            break;
+        };
+        varints.push(varint)?;
+        rest = after;
+    }
+    Ok(varints)
+}
+
 /// Reads a varint, of which the low 64 bits are taken.
 fn read_varint(bytes: &[u8]) -> Option<(u64, &[u8])> {
     let mut value = 0u64;

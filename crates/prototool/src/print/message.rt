@@ -1,49 +1,107 @@
 //! The text of messages whose types are known.
 
+use crate::print::leftover::push_leftover;
 use crate::print::scalar::{push_key, push_scalar};
 use crate::print::text::Text;
-use crate::print::unknown::{GUESSES, push_unknown};
-use prost_reflect::{DynamicMessage, FieldDescriptor, Kind, MapKey, Value};
-use std::alloc::AllocError;
+use crate::print::written::{Written, members_beside, written_each, written_one};
+use prost_reflect::{DynamicMessage, FieldDescriptor, Kind, MapKey, UnknownField, Value};
+use std::alloc::{AllocError, Global};
 use std::collections::BTreeMap;
 
 /// Appends what a message has: its fields and extensions in ascending number, and then its unknown fields.
 #[cycle(printing)]
-pub fn push_message(text: &mut Text, message: &DynamicMessage) -> Result<(), AllocError> {
-    let extensions = extension_texts(text, message)?;
+pub fn push_message(
+    text: &mut Text,
+    message: &DynamicMessage,
+    written: Written<'_>,
+) -> Result<(), AllocError> {
+    let extensions = extension_texts(text, message, written)?;
     let mut waiting = extensions.as_slice();
     for item in message.fields() {
         let (field, value) = item?;
         waiting = push_below(text, waiting, field.number())?;
-        push_field(text, &field, value)?;
+        push_field(text, &field, value, written)?;
     }
     push_below(text, waiting, u32::MAX)?;
-    for field in message.unknown_fields() {
-        push_unknown(text, field, GUESSES)?;
+    push_leftover(text, message, written)
+}
+
+/// Appends a message of the type of a map's entries: its key and its value, also where it does not have them, and then its
+/// unknown fields.
+pub fn push_entry(
+    text: &mut Text,
+    message: &DynamicMessage,
+    written: Written<'_>,
+) -> Result<(), AllocError> {
+    let alloc = text.allocator();
+    for field in message.descriptor()?.fields() {
+        let field = field?;
+        if let Some(value) = message.get_field_by_number(alloc, field.number())? {
+            push_field(text, &field, value.as_ref(), written)?;
+        }
     }
-    Ok(())
+    push_leftover(text, message, written)
 }
 
 /// Appends a field that a message has.
 #[cycle(printing)]
-fn push_field(text: &mut Text, field: &FieldDescriptor, value: &Value) -> Result<(), AllocError> {
+fn push_field(
+    text: &mut Text,
+    field: &FieldDescriptor,
+    value: &Value,
+    written: Written<'_>,
+) -> Result<(), AllocError> {
     let kind = field.kind()?;
     let name = match kind.as_message() {
         Some(group) if field.is_group() => group.name(),
         _ => field.name(),
     };
-    push_value(text, name, &kind, value)
+    let inside = written_in_field(text.allocator(), field, value, written)?;
+    push_value(text, name, &kind, value, inside.as_slice())
+}
+
+/// The fields of the messages that a field has, in the order of the bytes.
+fn written_in_field(
+    alloc: Global,
+    field: &FieldDescriptor,
+    value: &Value,
+    written: Written<'_>,
+) -> Result<Vec<Vec<UnknownField>>, AllocError> {
+    match value {
+        Value::Message(_) => {
+            let others = members_beside(alloc, field)?;
+            written_one(alloc, written, field.number(), others.as_slice())
+        }
+        Value::List(_) => written_each(alloc, written, field.number()),
+        _ => Ok(Vec::new(alloc)),
+    }
 }
 
 /// The extensions that a message has, in ascending number, each as a text of its own.
 #[cycle(printing)]
-fn extension_texts(text: &Text, message: &DynamicMessage) -> Result<Vec<(u32, Text)>, AllocError> {
-    let mut texts = Vec::new(text.allocator());
+fn extension_texts(
+    text: &Text,
+    message: &DynamicMessage,
+    written: Written<'_>,
+) -> Result<Vec<(u32, Text)>, AllocError> {
+    let alloc = text.allocator();
+    let mut texts = Vec::new(alloc);
     for item in message.extensions() {
         let (extension, value) = item?;
-        let name = format!(in text.allocator(); "[{}]", extension.full_name())?;
+        let name = format!(in alloc; "[{}]", extension.full_name())?;
+        let inside = if extension.is_list() {
+            written_each(alloc, written, extension.number())?
+        } else {
+            written_one(alloc, written, extension.number(), &[])?
+        };
         let mut beside = text.beside();
-        push_value(&mut beside, name.as_str(), &extension.kind()?, value)?;
+        push_value(
+            &mut beside,
+            name.as_str(),
+            &extension.kind()?,
+            value,
+            inside.as_slice(),
+        )?;
         texts.push((extension.number(), beside))?;
     }
     Ok(texts)
@@ -63,18 +121,32 @@ fn push_below<'a>(
     Ok(left)
 }
 
-/// Appends a value under a name: a list element by element, and a map entry by entry.
+/// Appends a value under a name: a list element by element, and a map entry by entry. The fields of the messages are those of
+/// the value or of the elements of the list, as far as their order is known.
 #[cycle(printing)]
-fn push_value(text: &mut Text, name: &str, kind: &Kind, value: &Value) -> Result<(), AllocError> {
+fn push_value(
+    text: &mut Text,
+    name: &str,
+    kind: &Kind,
+    value: &Value,
+    inside: &[Vec<UnknownField>],
+) -> Result<(), AllocError> {
     match value {
         Value::Message(message) => {
             text.open(name)?;
-            push_message(text, message)?;
+            push_message(
+                text,
+                message,
+                inside.first().map(|fields| fields.as_slice()),
+            )?;
             text.close()
         }
         Value::List(values) => {
+            let mut rest = inside;
             for value in values {
-                push_value(text, name, kind, value)?;
+                let (own, left) = rest.split_at(rest.len().min(1));
+                push_value(text, name, kind, value, own)?;
+                rest = left;
             }
             Ok(())
         }
@@ -108,7 +180,7 @@ fn push_entries(
         text.begin("key: ")?;
         push_key(text, key)?;
         text.push("\n")?;
-        push_value(text, "value", &value_kind, value)?;
+        push_value(text, "value", &value_kind, value, &[])?;
         text.close()?;
     }
     Ok(())
