@@ -70,7 +70,8 @@ fn kind_of(descriptor: &MessageDescriptor, number: u32) -> Result<Option<Kind>, 
     }
 }
 
-/// Appends those numbers of a field that its enum does not declare.
+/// Appends those numbers of a field that its enum does not declare: of a packed list the varints as they are, and else what
+/// their low 32 bits count.
 fn push_undeclared(
     text: &mut Text,
     known: &EnumDescriptor,
@@ -78,7 +79,7 @@ fn push_undeclared(
 ) -> Result<(), AllocError> {
     match field.value() {
         UnknownFieldValue::Varint(varint) => {
-            push_if_undeclared(text, known, field.number(), *varint)
+            push_if_undeclared(text, known, field.number(), with_sign(*varint))
         }
         UnknownFieldValue::LengthDelimited(bytes) => {
             for varint in varints_in(text.allocator(), bytes.as_slice())? {
@@ -97,13 +98,19 @@ fn push_if_undeclared(
     number: u32,
     varint: u64,
 ) -> Result<(), AllocError> {
-    let low = varint % WORD;
-    let value = i32::from_le_bytes((low as u32).to_le_bytes());
+    let low = (varint % WORD) as u32;
+    let value = i32::from_le_bytes(low.to_le_bytes());
     if known.get_value(value)?.is_some() {
         return Ok(());
     }
     text.begin(number)?;
     text.push(": ")?;
-    text.push(if low < NEGATIVE { low } else { low + SIGN })?;
+    text.push(varint)?;
     text.push("\n")
+}
+
+/// The low 32 bits of a varint, with their sign in 64 bits.
+fn with_sign(varint: u64) -> u64 {
+    let low = varint % WORD;
+    if low < NEGATIVE { low } else { low + SIGN }
 }
