@@ -1,5 +1,4 @@
 pub mod Rows
-pub mod Labels
 pub mod Places
 pub mod Shown
 pub mod Linked
