@@ -1,4 +1,5 @@
 pub mod Rows
+pub mod Labels
 pub mod Places
 pub mod Shown
 pub mod Linked

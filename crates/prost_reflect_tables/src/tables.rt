@@ -7,8 +7,9 @@ ghost use Rattle.prost_reflect_tables.specs.Rows.{rows_from};
 ghost use Rattle.prost_reflect_tables.specs.Linked.{is_linked};
 
 use std::alloc::AllocError;
+use std::fmt;
 
-/// How many values a field has, as its label says (the proto2 guide, "Field Labels").
+/// How many values a field has, as its label says (the proto2 guide, "Field Labels"). Its text is that label, as `optional`.
 #[derive(Clone, Copy, PartialEq, Eq, Debug)]
 pub enum Cardinality {
     /// At most one value.
@@ -36,6 +37,24 @@ impl Cardinality {
         ensures { result ≡ is_required self }
     {
         matches!(self, Cardinality::Required)
+    }
+}
+
+impl fmt::Display for Cardinality {
+    ghost use Rattle.std.specs.Prelude.{Some};
+    ghost use Rattle.std.specs.Fmt.{padded};
+    ghost use Rattle.prost_reflect_tables.specs.Labels.{label_of};
+
+    ghost output = { λ cardinality. Some (label_of cardinality) };
+
+    ghost styled_output = { λ cardinality spec. Some (padded spec (label_of cardinality)) };
+
+    fn fmt<W: fmt::Write>(&self, f: &mut fmt::Formatter<W>) -> fmt::Result {
+        f.pad(match self {
+            Cardinality::Optional => "optional",
+            Cardinality::Required => "required",
+            Cardinality::Repeated => "repeated",
+        })
     }
 }
 

@@ -3,8 +3,8 @@
 use crate::shown::{Shown, is_shown};
 use crate::types::{decoded, every_field, named_type};
 use prost_reflect::{
-    DescriptorPool, DynamicMessage, ExtensionDescriptor, FieldDescriptor, FieldDescriptorLike,
-    Kind, MapKey, MessageDescriptor, SetFieldError, Value,
+    Cardinality, DescriptorPool, DynamicMessage, ExtensionDescriptor, FieldDescriptor,
+    FieldDescriptorLike, Kind, MapKey, MessageDescriptor, SetFieldError, Value,
 };
 use prost_reflect_samples::sets;
 use std::alloc::{AllocError, Global};
@@ -147,6 +147,21 @@ fn kinds_have_names(rt: HostRuntime) -> Result<(), Fail> {
     let every = every_type(rt.alloc())?;
     for (number, name) in &NAMES {
         assert!(rt; is_named(rt.alloc(), &every, *number, name)?, "{number}");
+    }
+    Ok(())
+}
+
+/// A label, and its name.
+static LABELS: [(Cardinality, &str); 3] = [
+    (Cardinality::Optional, "optional"),
+    (Cardinality::Required, "required"),
+    (Cardinality::Repeated, "repeated"),
+];
+
+#[test]
+fn labels_have_names(rt: HostRuntime) -> Result<(), Fail> {
+    for (label, name) in &LABELS {
+        assert!(rt; format!(in rt.alloc(); "{label}")?.as_str() == *name);
     }
     Ok(())
 }
