@@ -26,7 +26,7 @@ mod relaying;
 
 pub use like::FieldDescriptorLike;
 pub use prost_reflect_dynamic::{
-    DescriptorPool, Descriptors, DynamicMessage, EnumDescriptor, EnumDescriptors,
+    DecodeFault, DescriptorPool, Descriptors, DynamicMessage, EnumDescriptor, EnumDescriptors,
     EnumReservedRanges, EnumValueDescriptor, EnumValueDescriptors, ExtensionDescriptor,
     ExtensionDescriptors, ExtensionRanges, Extensions, FieldDescriptor, FieldDescriptors, Fields,
     FileDescriptor, FileDescriptors, GetFieldError, Kind, MapKey, MessageDescriptor,

@@ -52,13 +52,13 @@ pub mod OwnDefaults
 mod ValueLists
 mod PresentWalks
 mod TakenValues
-mod ListedNumbers
+pub mod ListedNumbers
 pub mod LentWriting
 pub mod UnknownLists
 pub mod OwnRows
 pub mod Paths
 mod SetPaths
-mod Removals
+pub mod Removals
 mod Edits
 mod LentPaths
 pub mod KindDefaults

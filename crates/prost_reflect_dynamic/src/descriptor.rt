@@ -2,6 +2,7 @@
 
 mod adding;
 mod builtin;
+mod decode_fault;
 mod enum_value;
 mod enums;
 mod extension;

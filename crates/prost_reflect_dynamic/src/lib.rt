@@ -30,5 +30,6 @@ pub use message::{
     DynamicMessage, Extensions, Fields, GetFieldError, Present, PresentItems, PresentNumber,
     SetFieldError, TakenExtensions, TakenFields, TakenUnknownFields, UnknownFields,
 };
+pub use prost_reflect_faults::DecodeFault;
 pub use prost_reflect_reduction::{ReductionFault, ReductionFaultKind};
 pub use value::{MapKey, Value};

@@ -33,18 +33,18 @@ pub record SomePayload (schema : Schema) (place : Place) (n : ℕ) (w : WireType
 group_found : (schema : Schema) (there : Place) (n : ℕ) → there.open_group ≡ Some n → (x : SomeBody schema there) → PayloadFront n (Group x.records) there.bytes x.rest
 group_found schema there n opened x = record { end = x.body.end; records = x.body.records; stop = subst (λ o. Ended o x.body.end x.rest) opened x.body.ends }
 
-payload_known : (schema : Schema) (place : Place) (n : ℕ) (f : Field) (p : Payload) → field_at schema place.inside n ≡ Some f → field_allowed place.levels (inner schema place.levels) f.form f.value_type p ≡ true
+pub payload_known : (schema : Schema) (place : Place) (n : ℕ) (f : Field) (p : Payload) → field_at schema place.inside n ≡ Some f → field_allowed place.levels (inner schema place.levels) f.form f.value_type p ≡ true
     → payload_allowed schema place n p ≡ true
 payload_known schema place n f p found h =
     ap (λ o. elim o [ None ↦ nat_le (payload_levels p) place.levels | Some g ↦ field_allowed place.levels (inner schema place.levels) g.form g.value_type p ]) found ∙ h
 
-payload_unknown : (schema : Schema) (place : Place) (n : ℕ) (p : Payload) → field_at schema place.inside n ≡ None → payload_levels p ≤ place.levels → payload_allowed schema place n p ≡ true
+pub payload_unknown : (schema : Schema) (place : Place) (n : ℕ) (p : Payload) → field_at schema place.inside n ≡ None → payload_levels p ≤ place.levels → payload_allowed schema place n p ≡ true
 payload_unknown schema place n p found h =
     ap (λ o. elim o [ None ↦ nat_le (payload_levels p) place.levels | Some g ↦ field_allowed place.levels (inner schema place.levels) g.form g.value_type p ]) found ∙ le-leb (payload_levels p) place.levels h
 
 -- FAULTS BEHIND A KEY
 
-opens_known : (form : FieldForm) (kind : Kind) (w : WireType) → is_map form ≡ false → is_message kind ≡ true → one_takes kind w ≡ true → needs_level form kind w ≡ true
+pub opens_known : (form : FieldForm) (kind : Kind) (w : WireType) → is_map form ≡ false → is_message kind ≡ true → one_takes kind w ≡ true → needs_level form kind w ≡ true
 opens_known Singular (ScalarOf kind) w m is h = is
 opens_known Singular (MessageOf T) w m is h = h
 opens_known Singular (GroupOf T) w m is h = h
@@ -53,7 +53,7 @@ opens_known (Repeated packed) (MessageOf T) w m is h = h
 opens_known (Repeated packed) (GroupOf T) w m is h = h
 opens_known (MapFrom key) kind w m is h = absurd (true≢false m)
 
-no_level : (k : ℕ) (kind : Kind) → has_level k kind ≡ false → (k ≡ 0) × (is_message kind ≡ true)
+pub no_level : (k : ℕ) (kind : Kind) → has_level k kind ≡ false → (k ≡ 0) × (is_message kind ≡ true)
 no_level k (ScalarOf kind) h = absurd (true≢false h)
 no_level k (MessageOf T) h = (let le : k ≤ 0 = ltb-false 0 k h in omega arith, refl)
 no_level k (GroupOf T) h = (let le : k ≤ 0 = ltb-false 0 k h in omega arith, refl)
@@ -91,7 +91,7 @@ either : {A B C : Type 0} → (A → C) → (B → C) → A ⊎ B → C
 either f g (inl a) = f a
 either f g (inr b) = g b
 
-body_shorter : (body bytes rest : List ℕ) → DelimitedFront body bytes rest → length body ≤ length bytes
+pub body_shorter : (body bytes rest : List ℕ) → DelimitedFront body bytes rest → length body ≤ length bytes
 body_shorter body bytes rest d =
     let (len, _, whole) = d.spelled in omega (arith, ap length d.parts, length-append d.front rest, ap length whole, length-append len body)
 
@@ -306,19 +306,21 @@ module _ (schema : Schema) (place : Place) (small : AreBytes place.bytes) (limit
 
 -- AT A PLACE
 
+-- A body behind a record that is allowed.
+pub body_before : (schema : Schema) (place : Place) (n : ℕ) (p : Payload) (mid behind : List ℕ) → AreBytes place.bytes → KeyFront n (payload_wire p) place.bytes mid → PayloadFront n p mid behind → payload_allowed schema place n p ≡ true
+    → (rs : Records) (rest : List ℕ) → Body schema (record place { bytes = behind }) rs rest → Body schema place (before (record_at n p) rs) rest
+body_before schema place n p mid behind small key front allowed rs rest x = record {
+  small = small;
+  end = x.end;
+  records = first_front (record_at n p) rs place.bytes behind x.end (record_front n p place.bytes mid behind key front) x.records;
+  ends = x.ends;
+  allowed = ap (list_all (allowed_at schema place)) (items_before (record_at n p) rs) ∙ ap₂ ◌&&◌ allowed x.allowed;
+}
+
 first_body : (schema : Schema) (place : Place) (n : ℕ) (p : Payload) (mid behind : List ℕ) → AreBytes place.bytes → KeyFront n (payload_wire p) place.bytes mid → PayloadFront n p mid behind → payload_allowed schema place n p ≡ true
     → SomeBody schema (record place { bytes = behind }) → SomeBody schema place
-first_body schema place n p mid behind small key front allowed x = record {
-  records = before (record_at n p) x.records;
-  rest = x.rest;
-  body = record {
-    small = small;
-    end = x.body.end;
-    records = first_front (record_at n p) x.records place.bytes behind x.body.end (record_front n p place.bytes mid behind key front) x.body.records;
-    ends = x.body.ends;
-    allowed = ap (list_all (allowed_at schema place)) (items_before (record_at n p) x.records) ∙ ap₂ ◌&&◌ allowed x.body.allowed;
-  };
-}
+first_body schema place n p mid behind small key front allowed x =
+    record { records = before (record_at n p) x.records; rest = x.rest; body = body_before schema place n p mid behind small key front allowed x.records x.rest x.body }
 
 module _ (schema : Schema) (place : Place) (small : AreBytes place.bytes) (limit : ℕ) (finds : Finds schema limit) (within : length place.bytes ≤ limit) where
   -- nothing is left, and no group is open

@@ -97,12 +97,12 @@ pub record SomePlains (fuel : ℕ) (w : WireType) (bytes : List ℕ) : Type 0 wh
   pub plains : List Plain
   pub found : plains_within fuel w bytes ≡ Some plains
 
-element_fault : (w : WireType) (b : ℕ) (bytes : List ℕ) (e : DecodeError) → PlainFault e w (b ∷ bytes) → ElementFault w e (b ∷ bytes)
+pub element_fault : (w : WireType) (b : ℕ) (bytes : List ℕ) (e : DecodeError) → PlainFault e w (b ∷ bytes) → ElementFault w e (b ∷ bytes)
 element_fault w b bytes errors.Truncated f = ElementEnds f
 element_fault w b bytes errors.Varint f = ElementPasses f
 element_fault w b bytes e f = absurd f
 
-more_plains : (fuel : ℕ) (w : WireType) (b : ℕ) (bytes : List ℕ) (x : SomePlain w (b ∷ bytes)) → SomePlains fuel w x.rest → SomePlains (suc fuel) w (b ∷ bytes)
+pub more_plains : (fuel : ℕ) (w : WireType) (b : ℕ) (bytes : List ℕ) (x : SomePlain w (b ∷ bytes)) → SomePlains fuel w x.rest → SomePlains (suc fuel) w (b ∷ bytes)
 more_plains fuel w b bytes x more =
     let first : plain_at w (b ∷ bytes) ≡ Some (x.plain, x.rest) = ap (λ v. plain_at v (b ∷ bytes)) (sym x.wire) ∙ ap (plain_at (plain_wire x.plain)) x.front.parts ∙ plain_read x.plain x.front.front x.rest x.front.spelled in
     record {

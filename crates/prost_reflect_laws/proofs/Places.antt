@@ -2,26 +2,13 @@
 use Rattle.std.specs.Prelude.{◌&&◌, ◌≡◌, ◌≤◌, ◌⊎◌, ◌∷◌, ◌++◌, ◌≢◌, if◌then◌else◌}
 use Rattle.prost_reflect_laws.proofs.Common.{ℕ, zero, suc, Bool, true, false, inl, inr, List, [], nat_eq, nat_le, Option, Some, None, refl, sym, ap, ap₂, subst, ◌∙◌, arith, append-nil, true≢false, list_all, leb-true, le-leb, and_parts, AreBytes, ◌>>=◌, Len, Records, NoRecords, PlainRecord, GroupRecord, Record, record_at, Payload, Flat, Group, before, items, raw_levels, payload_levels, payload_wire, Spells, read, wire_code, Schema, ValueType, known, passes, body, AllowsInside, nothing_inside, one_allowed, in_entry_allowed, field_allowed, record_allowed, allows, KeyFront, RecordsFront, PayloadFront, Place, OfType, OfEntry, entry_field, field_at, read_spells, record_parts, RecordParts, first_parts, FrontParts, items_before}
 use Rattle.prost_reflect_wire.specs.declared.key.WireType.TheVariants as wires
+pub use Rattle.prost_reflect_laws.specs.Bodies.{inner, payload_allowed, allowed_at, Ended, Body}
 use Rattle.prost_reflect_laws.proofs.BodyFronts.{none_first, key_bytes, payload_bytes}
 
 pub len_no_end : wires.LengthDelimited ≢ wires.EndGroup
 len_no_end e = let c : ◌≡◌ {A = ℕ} 2 4 = ap wire_code e in omega (arith, c)
 
 -- WHAT IS ALLOWED AT A PLACE
-
--- What a type takes one level further down.
-abbrev pub inner : Schema → ℕ → AllowsInside
-inner schema zero = nothing_inside
-inner schema (suc k) = allows schema k
-
-abbrev pub payload_allowed : Schema → Place → ℕ → Payload → Bool
-payload_allowed schema place n p = elim (field_at schema place.inside n) [
-  | None ↦ nat_le (payload_levels p) place.levels
-  | Some f ↦ field_allowed place.levels (inner schema place.levels) f.form f.value_type p
-]
-
-abbrev pub allowed_at : Schema → Place → Record → Bool
-allowed_at schema place r = payload_allowed schema place r.number r.payload
 
 allows_inner : (schema : Schema) (k T : ℕ) (rs : List Record) → allows schema k T rs ≡ list_all (record_allowed k (inner schema k) (known schema T)) rs
 unfolding allows
@@ -32,19 +19,6 @@ pub allows_at : (schema : Schema) (place : Place) (T : ℕ) (rs : List Record) �
 allows_at schema place T rs is = allows_inner schema place.levels T rs ∙ ap (λ i. list_all (allowed_at schema (record place { inside = i })) rs) (sym is)
 
 -- BODIES
-
--- A body ends at the end of the bytes, or at the end key of the open group.
-abbrev pub Ended : Option ℕ → List ℕ → List ℕ → Type 0
-Ended None bytes rest = (bytes ≡ []) × (rest ≡ [])
-Ended (Some n) bytes rest = KeyFront n wires.EndGroup bytes rest
-
--- Records to the end of the body, each of them allowed at the place.
-pub record Body (schema : Schema) (place : Place) (rs : Records) (rest : List ℕ) : Type 0 where
-  pub small : AreBytes place.bytes
-  pub end : List ℕ
-  pub records : RecordsFront rs place.bytes end
-  pub ends : Ended place.open_group end rest
-  pub allowed : list_all (allowed_at schema place) (items rs) ≡ true
 
 -- One record that is allowed at the place comes next.
 pub record NextRecord (schema : Schema) (place : Place) (behind : List ℕ) : Type 0 where

@@ -1,4 +1,5 @@
 mod Common
+pub mod Bodies
 pub mod LawsOfFaults
 pub mod Passage
 pub mod Reducing

@@ -41,8 +41,14 @@ fn is_deep(alloc: Global, name: &str, bytes: &[u8], again: &[u8]) -> Result<bool
     passes(alloc, &descriptor, bytes, again)
 }
 
+/// Whether the bytes are refused, and the fault stands inside of as many messages and groups as may be open.
 fn is_too_deep(alloc: Global, name: &str, bytes: &[u8]) -> Result<bool, Fail> {
-    Ok(fault(alloc, worked_type(alloc, name)?, bytes) == Some(DecodeError::Depth))
+    let descriptor = worked_type(alloc, name)?;
+    let Some(found) = descriptor.decode_fault(bytes) else {
+        return Ok(false);
+    };
+    let stands = found.error() == DecodeError::Depth && found.path().len() == 100;
+    Ok(stands && fault(alloc, descriptor, bytes) == Some(DecodeError::Depth))
 }
 
 /// A message type with a message of its own as the field 3, how many of these stand inside one another, the digits inside

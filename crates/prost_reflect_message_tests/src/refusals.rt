@@ -5,65 +5,125 @@ use prost_reflect::DecodeError;
 use std::alloc::Global;
 use std::test::Fail;
 
-/// A message type, the digits of bytes, and why they are refused.
-static REFUSED: [(&str, &str, DecodeError); 22] = [
+/// A message type, the digits of bytes, why they are refused, how many bytes stand before the record at fault, and the numbers of
+/// the fields that it stands in.
+static REFUSED: [(&str, &str, DecodeError, usize, &[u32]); 27] = [
     // A tenth byte above 1, and an eleventh byte.
     (
         "package.MyMessage",
         "08ffffffffffffffffff02",
         DecodeError::Varint,
+        0,
+        &[],
     ),
     (
         "package.MyMessage",
         "088080808080808080808000",
         DecodeError::Varint,
+        0,
+        &[],
     ),
     // No number, no such wire type, and a key past 32 bits.
-    ("package.MyMessage", "00", DecodeError::Key),
-    ("package.MyMessage", "0e", DecodeError::Key),
-    ("package.MyMessage", "8080808010", DecodeError::Key),
+    ("package.MyMessage", "00", DecodeError::Key, 0, &[]),
+    ("package.MyMessage", "0e", DecodeError::Key, 0, &[]),
+    ("package.MyMessage", "8080808010", DecodeError::Key, 0, &[]),
+    ("package.MyMessage", "080108010e", DecodeError::Key, 4, &[]),
     // A number for a map, and for its entry's key; a message for a group, and four bytes for a number.
-    ("a.P", "0805", DecodeError::WireType),
-    ("a.P", "0a020801", DecodeError::WireType),
-    ("b.G", "0a020801", DecodeError::WireType),
-    ("b.Foo", "0d00000000", DecodeError::WireType),
-    ("package.MyMessage", "1b1c", DecodeError::WireType),
+    ("a.P", "0805", DecodeError::WireType, 0, &[]),
+    ("a.P", "0a020801", DecodeError::WireType, 2, &[1]),
+    ("a.P", "1a040a020801", DecodeError::WireType, 4, &[3, 1]),
+    ("b.G", "0a020801", DecodeError::WireType, 0, &[]),
+    ("b.Foo", "0d00000000", DecodeError::WireType, 0, &[]),
+    ("package.MyMessage", "1b1c", DecodeError::WireType, 0, &[]),
     // A group is closed by its own number, where it stands.
-    ("b.G", "0b080114", DecodeError::EndGroup),
-    ("package.MyMessage", "0c", DecodeError::EndGroup),
-    ("package.MyMessage", "1a010c", DecodeError::EndGroup),
-    ("package.MyMessage", "2b34", DecodeError::EndGroup),
-    ("a.S", "0a01ff", DecodeError::Utf8),
+    ("b.G", "0b080114", DecodeError::EndGroup, 3, &[1]),
+    ("package.MyMessage", "0c", DecodeError::EndGroup, 0, &[]),
+    (
+        "package.MyMessage",
+        "1a010c",
+        DecodeError::EndGroup,
+        2,
+        &[3],
+    ),
+    ("package.MyMessage", "2b34", DecodeError::EndGroup, 1, &[5]),
+    ("package.MyMessage", "2b3300", DecodeError::Key, 2, &[5, 6]),
+    ("a.S", "0a01ff", DecodeError::Utf8, 0, &[]),
     // A text, a number, a message and a group that end too early, and a message that ends inside a record.
-    ("a.S", "0a0561", DecodeError::Truncated),
-    ("package.MyMessage", "0896", DecodeError::Truncated),
-    ("package.MyMessage", "1a05", DecodeError::Truncated),
+    ("a.S", "0a0561", DecodeError::Truncated, 0, &[]),
+    ("package.MyMessage", "0896", DecodeError::Truncated, 0, &[]),
+    ("package.MyMessage", "1a05", DecodeError::Truncated, 0, &[]),
     (
         "package.MyMessage",
         "1affffffffffffffffff01",
         DecodeError::Truncated,
+        0,
+        &[],
     ),
     (
         "package.MyMessage",
         "1a031a05080801",
         DecodeError::Truncated,
+        2,
+        &[3],
     ),
-    ("package.MyMessage", "2b", DecodeError::Truncated),
-    ("b.Foo", "0a0180", DecodeError::Truncated),
+    ("package.MyMessage", "2b", DecodeError::Truncated, 1, &[5]),
+    ("b.Foo", "0a0180", DecodeError::Truncated, 0, &[]),
+    // The last record of a message, and of the message in the entry of a map.
+    (
+        "package.MyMessage",
+        "08011a0210ff",
+        DecodeError::Truncated,
+        4,
+        &[3],
+    ),
+    ("a.P", "1204120208ff", DecodeError::Truncated, 4, &[2, 2]),
 ];
 
-/// Why the digits' bytes are no message of the worked type, if they are none.
-fn fault_in(alloc: Global, name: &str, digits: &str) -> Result<Option<DecodeError>, Fail> {
+/// Whether the digits' bytes are refused as a message of the worked type, and the fault stands where it does.
+fn is_refused(
+    alloc: Global,
+    name: &str,
+    digits: &str,
+    error: DecodeError,
+    offset: usize,
+    path: &[u32],
+) -> Result<bool, Fail> {
     let bytes = hex::decode(alloc, digits)?;
-    Ok(fault(alloc, worked_type(alloc, name)?, bytes.as_slice()))
+    let descriptor = worked_type(alloc, name)?;
+    let Some(found) = descriptor.decode_fault(bytes.as_slice()) else {
+        return Ok(false);
+    };
+    let stands = found.error() == error && found.offset() == offset && found.path() == path;
+    Ok(stands && fault(alloc, descriptor, bytes.as_slice()) == Some(error))
 }
 
 #[test]
 fn worked_bytes_are_refused(rt: HostRuntime) -> Result<(), Fail> {
-    for (name, digits, fault) in &REFUSED {
-        let found = fault_in(rt.alloc(), name, digits)?;
-        assert!(rt; found == Some(*fault), "{digits}");
+    for (name, digits, error, offset, path) in &REFUSED {
+        assert!(rt;
+            is_refused(rt.alloc(), name, digits, *error, *offset, path)?,
+            "{digits}"
+        );
     }
+    Ok(())
+}
+
+/// The text of a fault names the path, where there is one, and the offset.
+#[test]
+fn faults_are_shown(rt: HostRuntime) -> Result<(), Fail> {
+    let alloc = rt.alloc();
+    let descriptor = worked_type(alloc, "package.MyMessage")?;
+    let plain = descriptor.decode_fault(&[0x0e]).ok_or("a message")?;
+    assert!(rt;
+        format!(in alloc; "{plain}")?.as_str() == "at 0: a key has no field number or no wire type"
+    );
+    let nested = descriptor
+        .decode_fault(&[0x2b, 0x33, 0])
+        .ok_or("a message")?;
+    assert!(rt;
+        format!(in alloc; "{nested}")?.as_str()
+            == "5.6 at 2: a key has no field number or no wire type"
+    );
     Ok(())
 }
 

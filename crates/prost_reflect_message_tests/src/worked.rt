@@ -213,7 +213,15 @@ pub(crate) fn fault(
     DynamicMessage::decode(alloc, descriptor, bytes).err()
 }
 
-/// The message that the bytes mean. Each part in front of their end is read too, or ends too early.
+/// Why the bytes are no message of the type, as the search for a fault says, if they are none.
+fn fault_found(descriptor: &MessageDescriptor, bytes: &[u8]) -> Option<DecodeError> {
+    match descriptor.decode_fault(bytes) {
+        Some(found) => Some(found.error()),
+        None => None,
+    }
+}
+
+/// The message that the bytes mean. Each part in front of their end is read too, or ends too early, and its fault is found.
 pub(crate) fn read(
     alloc: Global,
     descriptor: &MessageDescriptor,
@@ -224,6 +232,12 @@ pub(crate) fn read(
         if fault.is_some_and(|fault| fault != DecodeError::Truncated) {
             return Err(Fail::from("a part with another fault"));
         }
+        if fault_found(descriptor, &bytes[..len]) != fault {
+            return Err(Fail::from("a part whose fault is not found"));
+        }
+    }
+    if fault_found(descriptor, bytes).is_some() {
+        return Err(Fail::from("a fault of a message"));
     }
     Ok(DynamicMessage::decode(alloc, descriptor.clone()?, bytes)?)
 }

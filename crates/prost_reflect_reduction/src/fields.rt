@@ -1,9 +1,9 @@
 //! Which fields of two tables are alike, by themselves.
 
-ghost use Rattle.std.specs.Prelude.{◌≡◌, List, IfOk, OnOk, slice_get};
-ghost use Rattle.prost_reflect_tables.specs.Rows.{EnumRow, field_row, message_row};
+ghost use Rattle.std.specs.Prelude.{◌≡◌, IfOk, OnOk};
+ghost use Rattle.prost_reflect_tables.specs.Rows.{field_row};
 ghost use Rattle.prost_reflect_tables.specs.Schema.{rows_of};
-ghost use Rattle.prost_reflect_tables.specs.Shown.{schema_field, own_type, type_or, map_entry, form_of};
+ghost use Rattle.prost_reflect_tables.specs.Shown.{schema_field, own_type, map_entry, form_of};
 ghost use Rattle.prost_reflect_tables.specs.declared.tables.Cardinality.TheVariants.{Repeated as RepeatedLabel};
 ghost use Rattle.prost_reflect_reduction.specs.Explaining.{fields_fault, forms_fault};
 ghost use Rattle.prost_reflect_reduction.specs.Kinds.{AreSameEnums};
@@ -11,19 +11,9 @@ ghost use Rattle.prost_reflect_reduction.specs.Reaching.{forms_alike};
 
 use crate::fault::ReductionFaultKind;
 use crate::values::{keys_match, value_fault};
-use prost_reflect_tables::{Cardinality, FieldTable, MessageTable, Tables};
+use prost_reflect_tables::{Cardinality, FieldTable, Tables};
 use std::alloc::{AllocError, Global};
 use std::collections::BTreeSet;
-
-/// The field at a place of an entry; the map itself where there is none.
-fn part_or<'a>(entry: &'a MessageTable, place: usize, field: &'a FieldTable) -> &'a FieldTable
-    ensures { (enums : List EnumRow) → own_type enums (field_row result.now) ≡ type_or enums (field_row field.now) (slice_get (message_row entry.now).fields place) }
-{
-    match entry.fields.get(place) {
-        Some(part) => part,
-        None => field,
-    }
-}
 
 /// The field whose values are those of a field; of a map, that of the values in it.
 pub(crate) fn value_field<'a>(tables: &'a Tables, field: &'a FieldTable) -> &'a FieldTable
@@ -31,7 +21,7 @@ pub(crate) fn value_field<'a>(tables: &'a Tables, field: &'a FieldTable) -> &'a 
 {
     match field.cardinality {
         Cardinality::Repeated => match tables.entry_of(field) {
-            Some(entry) => part_or(entry, 1, field),
+            Some(entry) => entry.part_or(1, field),
             None => field,
         },
         Cardinality::Optional | Cardinality::Required => field,
@@ -57,9 +47,9 @@ fn lists_alike(
                 alloc,
                 same_enums,
                 older,
-                part_or(entry, 0, field),
+                entry.part_or(0, field),
                 newer,
-                part_or(other, 0, like),
+                other.part_or(0, like),
             ),
             None => Ok(false),
         },

@@ -1,11 +1,11 @@
 //! What fields are and have by their rows, and by those of the types that they name.
 
-ghost use Rattle.std.specs.Prelude.{◌≡◌, Bool, None, option_map, slice_get};
+ghost use Rattle.std.specs.Prelude.{◌≡◌, Bool, List, None, option_map, slice_get};
 ghost use Rattle.prost_reflect_wire.specs.Scalar.{EnumNumber, kind_default};
-ghost use Rattle.prost_reflect_tables.specs.Rows.{enum_row, field_row, message_row, value_numbers};
+ghost use Rattle.prost_reflect_tables.specs.Rows.{EnumRow, enum_row, field_row, message_row, value_numbers};
 ghost use Rattle.prost_reflect_tables.specs.Scalars.{scalar_of};
 ghost use Rattle.prost_reflect_tables.specs.Schema.{rows_of};
-ghost use Rattle.prost_reflect_tables.specs.Shown.{enum_kind, first_number, map_entry, own_type, schema_default, schema_kind};
+ghost use Rattle.prost_reflect_tables.specs.Shown.{enum_kind, first_number, map_entry, own_type, schema_default, schema_kind, type_or};
 ghost use Rattle.prost_reflect_tables.specs.declared.tables.Cardinality.TheVariants.{Repeated as RepeatedLabel};
 
 use crate::scalar::ScalarRef;
@@ -19,6 +19,18 @@ impl EnumTable {
         match self.values.first() {
             Some(value) => value.number,
             None => 0,
+        }
+    }
+}
+
+impl MessageTable {
+    /// Of the type of a map's entries, the field at a place, which is the key or the value; the map itself where there is none.
+    pub fn part_or<'a>(&'a self, place: usize, map: &'a FieldTable) -> &'a FieldTable
+        ensures { (enums : List EnumRow) → own_type enums (field_row result.now) ≡ type_or enums (field_row map.now) (slice_get (message_row self.now).fields place) }
+    {
+        match self.fields.get(place) {
+            Some(part) => part,
+            None => map,
         }
     }
 }

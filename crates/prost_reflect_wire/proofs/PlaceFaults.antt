@@ -9,7 +9,7 @@ use Rattle.prost_reflect_wire.proofs.RecordFronts.{first_parts}
 -- AT A KEY
 
 module _ (schema : Schema) (place : Place) where
-  key_comes_at : (bytes : List ℕ) → place.bytes ≡ bytes → (e : DecodeError) → KeyFault e bytes → (bytes ≡ [] → place.open_group ≢ None) → Comes schema e place
+  pub key_comes_at : (bytes : List ℕ) → place.bytes ≡ bytes → (e : DecodeError) → KeyFault e bytes → (bytes ≡ [] → place.open_group ≢ None) → Comes schema e place
   key_comes_at [] is errors.Truncated f ended = inr (inl (is, ended refl))
   key_comes_at (b ∷ bytes) is errors.Truncated f ended = inl ((λ none. cc), rw is f)
   key_comes_at bytes is errors.Varint f ended = inl (rw is f)
@@ -24,7 +24,7 @@ module _ (schema : Schema) (place : Place) where
   pub end_stands : (n : ℕ) (rest : List ℕ) → KeyFront n wires.EndGroup place.bytes rest → place.open_group ≢ Some n → Stands schema errors.EndGroup place
   end_stands n rest k other = Here (record { number = n; wire = wires.EndGroup; rest = rest; key = k; behind = (refl, other) })
 
-  plain_comes : (e : DecodeError) (n : ℕ) (w : WireType) (rest : List ℕ) → KeyFront n w place.bytes rest → PlainFault e w rest → Comes schema e place
+  pub plain_comes : (e : DecodeError) (n : ℕ) (w : WireType) (rest : List ℕ) → KeyFront n w place.bytes rest → PlainFault e w rest → Comes schema e place
   plain_comes errors.Truncated n w rest k f = inr (inr (inl (record { number = n; wire = w; rest = rest; key = k; behind = f })))
   plain_comes errors.Varint n w rest k f = inr (inl (record { number = n; wire = w; rest = rest; key = k; behind = f }))
   plain_comes e n w rest k f = absurd f

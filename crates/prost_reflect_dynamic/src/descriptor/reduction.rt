@@ -17,7 +17,7 @@ impl MessageDescriptor {
     ghost use Rattle.prost_reflect_dynamic.specs.Named.{schema_named, type_named};
 
     /// The tables of the message type's pool, in which its place is one of a message type.
-    fn tables(&self) -> &Tables
+    pub(super) fn tables(&self) -> &Tables
         ensures rows { rows_of result.now ≡ pool_rows self.now.pool.inner }
         ensures place { self.now.index < length (rows_of result.now).messages }
     {
