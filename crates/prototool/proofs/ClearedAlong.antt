@@ -9,7 +9,7 @@ use Rattle.prost_reflect_wire.specs.Decoding.{Holds}
 use Rattle.prost_reflect_laws.proofs.Checked.{known_differ}
 use Rattle.prost_reflect_laws.proofs.Rebuilt.{rebuilt}
 use Rattle.prost_reflect_dynamic.proofs.KeptSlots.{kept_after_clear}
-use Rattle.prototool.proofs.ClearedNumber.{clear_holds}
+use Rattle.prost_reflect_dynamic.proofs.Removals.{clear_holds}
 use Rattle.prototool.specs.Redacting.{in_values, in_pairs, in_messages, changed_at, cleared_along, cleared_all}
 use Rattle.prototool.proofs.RedactedValues.{SoundValue, SoundEntries, message_sound, item_parts, pair_parts, front_parts, unknown_behind, entries_kept}
 

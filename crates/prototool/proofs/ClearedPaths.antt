@@ -1,5 +1,5 @@
 -- Paths that are cleared one after another, and what is written then.
-use Rattle.std.proofs.Common.{◌≡◌, ◌<◌, ◌≤◌, ℕ, zero, suc, List, [], ◌∷◌, length, map, drop, get_or, Some, refl, ap, sym, ◌∙◌, subst, arith}
+use Rattle.std.proofs.Common.{◌≡◌, ◌<◌, ◌≤◌, ◌^◌, ℕ, zero, suc, List, [], ◌∷◌, length, map, drop, get_or, Some, refl, ap, sym, ◌∙◌, subst, arith}
 use Rattle.prost_reflect_wire.specs.Schema.{Schema, schema_valid}
 use Rattle.prost_reflect_wire.specs.Content.{Content, ContentOf, schema_of, type_of}
 use Rattle.prost_reflect_wire.specs.Levels.{levels}
@@ -20,7 +20,7 @@ use Rattle.prost_reflect_dynamic.specs.declared.descriptor.message.MessageDescri
 use Rattle.prost_reflect_dynamic.specs.declared.message.DynamicMessage.{DynamicMessage}
 use Rattle.prost_reflect_dynamic.proofs.Merging.{valid_in}
 use Rattle.prost_reflect_dynamic.proofs.NestedReads.{schema_in, type_in}
-use Rattle.prototool.specs.Redacting.{cleared_all, ClearsAlong, IsClearedAll, IsRedacted}
+use Rattle.prototool.specs.Redacting.{cleared_all, ClearsAlong, IsClearedAll, IsRedacted, IsTooLong}
 use Rattle.prototool.proofs.ClearedAlong.{cleared_holds, kept_all}
 use Rattle.prototool.proofs.ClearedLevels.{levels_all}
 
@@ -111,3 +111,9 @@ is_redacted schema T paths bytes written m new small same there accepts means w 
       accepts_written = subst (λ n. Accepts schema LEVEL_LIMIT n written) type_is (subst (λ x. Accepts x LEVEL_LIMIT (type_of (kept (content_of new))) written) schema_is (read.0.1 low));
       written_means = (λ i. decoded (sym schema_is i) LEVEL_LIMIT (sym type_is i) written) ∙ read.1 low ∙ ap Some cleared;
     }
+
+pub is_too_long : (schema : Schema) (T : ℕ) (paths : List (List ℕ)) (bytes : List ℕ) (m new : DynamicMessage) → Accepts schema LEVEL_LIMIT T bytes → decoded schema LEVEL_LIMIT T bytes ≡ Some (kept (content_of m)) → WellStored (content_of m)
+    → IsClearedAll paths (content_of m) (content_of new) → 2 ^ 64 ≤ length (encoded (kept (content_of new))) → IsTooLong schema T paths bytes
+is_too_long schema T paths bytes m new accepts means w s long =
+    let cleared : kept (content_of new) ≡ cleared_all paths (kept (content_of m)) = ap kept s.cleared ∙ kept_all paths (content_of m) (valid_in m) w in
+    record { content = kept (content_of m); accepts = accepts; means = means; long = subst (λ c. 2 ^ 64 ≤ length (encoded c)) cleared long }

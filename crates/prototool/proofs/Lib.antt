@@ -1,10 +1,9 @@
 mod RedactedValues
-mod ClearedNumber
 mod ClearedAlong
 mod ClearedThrough
 mod ClearedLists
-mod NumberedExtensions
 mod ClearedCalls
 mod ClearedLevels
 mod ClearedPaths
 mod NothingLeft
+mod RefusedRedaction

@@ -1,1 +1,2 @@
 pub mod Redacting
+pub mod Refusals

@@ -1,15 +1,19 @@
 -- What is left of a message whose fields are cleared along paths of numbers (the encoding guide, "Submessages", for what is in what).
-use Rattle.std.specs.Prelude.{◌≡◌, ⊤, ℕ, Bool, true, false, not, ◌||◌, is_some, nat_eq, if◌then◌else◌, List, [], ◌∷◌, Some}
+use Rattle.std.specs.Prelude.{◌≡◌, ◌≤◌, ◌^◌, ⊤, length, ℕ, Bool, true, false, not, ◌||◌, is_some, nat_eq, if◌then◌else◌, List, [], ◌∷◌, Some}
 use Rattle.std.specs.List.{list_all}
 use Rattle.prost_reflect_wire.specs.Schema.{Schema, passes}
 use Rattle.prost_reflect_wire.specs.Content.{Content, Entries, NoEntries, Stored, Unknown, Value, ScalarValue, MessageValue, ListValue, MapValue, Values, NoValues, Item, Pairs, NoPairs, Pair, entries_of, value_at}
 use Rattle.prost_reflect_wire.specs.Grammar.{LEVEL_LIMIT, Accepts}
+use Rattle.prost_reflect_wire.specs.Fault.{StandsInMessage}
 use Rattle.prost_reflect_wire.specs.Meaning.{decoded}
 use Rattle.prost_reflect_wire.specs.Writing.{encoded}
 use Rattle.prost_reflect_wire.specs.Edit.{in_message}
 use Rattle.prost_reflect_wire.specs.Typing.{WellStored}
 use Rattle.prost_reflect_wire.specs.Decoding.{Holds}
+use Rattle.prost_reflect_wire.specs.declared.error.EncodeError.TheVariants as encode_errors
 use Rattle.prost_reflect_dynamic.specs.Contents.{in_entries, value_cleared}
+use Rattle.prototool.specs.declared.refusal.Refusal.{Refusal}
+use Rattle.prototool.specs.declared.refusal.Refusal.TheVariants.{Decode, Encode, Memory}
 
 -- WHAT A PATH LEADS THROUGH
 
@@ -56,6 +60,20 @@ pub record IsRedacted (schema : Schema) (T : ℕ) (paths : List (List ℕ)) (byt
   pub encoding : written ≡ encoded (cleared_all paths content)
   pub accepts_written : Accepts schema LEVEL_LIMIT T written
   pub written_means : decoded schema LEVEL_LIMIT T written ≡ Some (cleared_all paths content)
+
+-- The type accepts the bytes, but what would be written is longer than a length can say.
+pub record IsTooLong (schema : Schema) (T : ℕ) (paths : List (List ℕ)) (bytes : List ℕ) : Type 0 where
+  pub content : Content
+  pub accepts : Accepts schema LEVEL_LIMIT T bytes
+  pub means : decoded schema LEVEL_LIMIT T bytes ≡ Some content
+  pub long : 2 ^ 64 ≤ length (encoded (cleared_all paths content))
+
+-- Why nothing is written, where there is memory: a fault that the bytes have, or their length.
+abbrev pub IsRefused : Schema → ℕ → List (List ℕ) → List ℕ → Refusal → Type 0
+IsRefused schema T paths bytes Memory = ⊤
+IsRefused schema T paths bytes (Decode e) = StandsInMessage schema T LEVEL_LIMIT e bytes
+IsRefused schema T paths bytes (Encode e) = (e ≡ encode_errors.TooLong) × IsTooLong schema T paths bytes
+IsRefused schema T paths bytes refusal = ⊥
 
 -- NOTHING IS LEFT
 

@@ -6,11 +6,13 @@
 mod answer;
 mod command;
 mod compare;
+mod decoding;
 mod input;
 mod print;
 mod redact;
 mod refusal;
 mod run;
+mod types;
 
 use std::process::ExitCode;
 

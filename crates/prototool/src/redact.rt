@@ -1,21 +1,22 @@
 //! Messages without the fields that paths of names lead to.
 
-ghost use Rattle.std.specs.Prelude.{IfOk, map};
+ghost use Rattle.std.specs.Prelude.{IfOk, IfErr, map};
 ghost use Rattle.prost_reflect_wire.specs.Typing.{WellStored};
 ghost use Rattle.prost_reflect_dynamic.specs.Named.{schema_named, type_named};
 ghost use Rattle.prost_reflect_dynamic.specs.View.{content_of};
-ghost use Rattle.prototool.specs.Redacting.{IsClearedAll, IsRedacted, NothingLeft};
+ghost use Rattle.prototool.specs.Redacting.{IsClearedAll, IsRedacted, IsRefused, NothingLeft};
 
 mod clearing;
 mod path;
 
 use crate::command::Source;
+use crate::decoding::with_place;
 use crate::input::{bytes_of, message_type, pool_of};
 use crate::refusal::Refusal;
 use clearing::clear_along;
 use path::numbers_of;
 use prost_reflect::{DynamicMessage, MessageDescriptor};
-use std::alloc::Global;
+use std::alloc::{AllocError, Global};
 use std::io::Input;
 use std::rt::Files;
 
@@ -28,7 +29,7 @@ mod tests;
 /// # Errors
 ///
 /// The first step that fails: those of `pool_of` and `message_type`, `Path` of a path that leads to no field, and those of
-/// `bytes_of`; then `Decode` or `Encode`, or `Memory`.
+/// `bytes_of`; then `Message` or `Encode`, or `Memory`.
 pub fn redact<R: Files + Input + AllocGlobal>(
     rt: &R,
     set: &str,
@@ -41,7 +42,11 @@ pub fn redact<R: Files + Input + AllocGlobal>(
     let descriptor = message_type(&pool, name)?;
     let numbers = all_numbers(alloc, &descriptor, paths)?;
     let bytes = bytes_of(rt, source)?;
-    let written = redacted(alloc, descriptor, numbers.as_slice(), bytes.as_slice())?;
+    let of_type = descriptor.clone()?;
+    let written = match redacted(alloc, of_type, numbers.as_slice(), bytes.as_slice()) {
+        Ok(written) => written,
+        Err(refusal) => return Err(with_place(alloc, descriptor, bytes.as_slice(), refusal)),
+    };
     match source {
         Source::Hex(_) => Ok(hex_line(alloc, written.as_slice())?.into_bytes()),
         _ => Ok(written),
@@ -76,7 +81,7 @@ fn hex_line(alloc: Global, bytes: &[u8]) -> Result<String, Refusal> {
 ///
 /// # Errors
 ///
-/// `Decode` if the type does not accept the bytes, `Encode` if what is written is longer than a length can say, or `Memory`.
+/// `Decode` with a fault that the bytes have, `Encode` if what is written is longer than a length can say, or `Memory`.
 pub fn redacted(
     alloc: Global,
     descriptor: MessageDescriptor,
@@ -84,6 +89,7 @@ pub fn redacted(
     bytes: &[u8],
 ) -> Result<Vec<u8>, Refusal>
     ensures nothing_left { IfOk result (λ _. NothingLeft (map (λ path. path.items) paths.now)) }
+    ensures refused { IfErr result (λ refusal. IsRefused (schema_named descriptor) (type_named descriptor) (map (λ path. path.items) paths.now) bytes.now refusal) }
     ensures redacted { IfOk result (λ written. IsRedacted (schema_named descriptor) (type_named descriptor) (map (λ path. path.items) paths.now) bytes.now written.items) }
 {
     let mut message = DynamicMessage::decode(alloc, descriptor, bytes)?;
@@ -95,8 +101,12 @@ pub fn redacted(
 ///
 /// # Errors
 ///
-/// `Memory`. The message is not to be used then, since entries of a map may be lost.
-fn clear_all(alloc: Global, message: &mut DynamicMessage, paths: &[Vec<u32>]) -> Result<(), Refusal>
+/// `AllocError` if out of memory. The message is not to be used then, since entries of a map may be lost.
+fn clear_all(
+    alloc: Global,
+    message: &mut DynamicMessage,
+    paths: &[Vec<u32>],
+) -> Result<(), AllocError>
     requires { WellStored (content_of message.old) }
     ensures { IfOk result (λ _. IsClearedAll (map (λ path. path.items) paths.now) (content_of message.old) (content_of message.new)) }
 {

@@ -1,7 +1,11 @@
 //! Why a command is refused, and the lines that say so.
 
+ghost use Rattle.std.specs.Prelude.{◌≡◌};
+ghost use Rattle.prototool.specs.Refusals.{decode_refusal, encode_refusal};
+ghost use Rattle.prototool.specs.declared.refusal.Refusal.TheVariants as refusals;
+
 use hex::FromHexError;
-use prost_reflect::{DecodeError, EncodeError, GetFieldError, PoolError};
+use prost_reflect::{DecodeError, EncodeError, PoolError};
 use std::alloc::{AllocError, AllocFailed, Global};
 use std::io::ErrorKind;
 use std::{fmt, io};
@@ -23,8 +27,10 @@ pub enum Refusal {
     Hex,
     /// The path of names leads to no field.
     Path(String),
-    /// The bytes are no message of the type. Out of memory is `Memory`.
+    /// The bytes are no fields. Out of memory is `Memory`.
     Decode(DecodeError),
+    /// The bytes are no message of the type, and the text says where the fault stands.
+    Message(DecodeError, String),
     /// The message is not written. Out of memory is `Memory`.
     Encode(EncodeError),
     /// Out of memory.
@@ -66,19 +72,22 @@ impl fmt::Display for Refusal {
         match self {
             Refusal::File(path) => write!(f, "refused file {path}"),
             Refusal::Input => write!(f, "refused input"),
-            Refusal::Set(fault) => write!(f, "refused pool Decode {}", decode_name(*fault)),
-            Refusal::Pool(fault) => write!(f, "refused pool {}", pool_name(*fault)),
+            Refusal::Set(fault) => write!(f, "refused pool Decode {fault:?}"),
+            Refusal::Pool(fault) => write!(f, "refused pool {fault:?}"),
             Refusal::Name => write!(f, "refused name"),
             Refusal::Hex => write!(f, "refused hex"),
             Refusal::Path(path) => write!(f, "refused path {path}"),
-            Refusal::Decode(fault) => write!(f, "refused decode {}", decode_name(*fault)),
-            Refusal::Encode(fault) => write!(f, "refused encode {}", encode_name(*fault)),
+            Refusal::Decode(fault) => write!(f, "refused decode {fault:?}"),
+            Refusal::Message(fault, place) => write!(f, "refused decode {fault:?} {place}"),
+            Refusal::Encode(fault) => write!(f, "refused encode {fault:?}"),
             Refusal::Memory => write!(f, "refused memory"),
         }
     }
 }
 
 impl From<AllocError> for Refusal {
+    ghost from_gives = { λ _ refusal. refusal ≡ refusals.Memory };
+
     fn from(_error: AllocError) -> Refusal {
         Refusal::Memory
     }
@@ -86,12 +95,6 @@ impl From<AllocError> for Refusal {
 
 impl<T: Drop> From<AllocFailed<T>> for Refusal {
     fn from(_failed: AllocFailed<T>) -> Refusal {
-        Refusal::Memory
-    }
-}
-
-impl From<GetFieldError> for Refusal {
-    fn from(_error: GetFieldError) -> Refusal {
         Refusal::Memory
     }
 }
@@ -116,6 +119,8 @@ impl From<PoolError> for Refusal {
 }
 
 impl From<DecodeError> for Refusal {
+    ghost from_gives = { λ error refusal. refusal ≡ decode_refusal error };
+
     fn from(error: DecodeError) -> Refusal {
         match error {
             DecodeError::OutOfMemory => Refusal::Memory,
@@ -125,58 +130,12 @@ impl From<DecodeError> for Refusal {
 }
 
 impl From<EncodeError> for Refusal {
+    ghost from_gives = { λ error refusal. refusal ≡ encode_refusal error };
+
     fn from(error: EncodeError) -> Refusal {
         match error {
             EncodeError::OutOfMemory => Refusal::Memory,
             fault => Refusal::Encode(fault),
         }
-    }
-}
-
-/// The name of a fault in reading a message.
-fn decode_name(fault: DecodeError) -> &'static str {
-    match fault {
-        DecodeError::Truncated => "Truncated",
-        DecodeError::Varint => "Varint",
-        DecodeError::Key => "Key",
-        DecodeError::WireType => "WireType",
-        DecodeError::EndGroup => "EndGroup",
-        DecodeError::Utf8 => "Utf8",
-        DecodeError::Depth => "Depth",
-        DecodeError::OutOfMemory => "OutOfMemory",
-    }
-}
-
-/// The name of a fault in writing a message.
-fn encode_name(fault: EncodeError) -> &'static str {
-    match fault {
-        EncodeError::TooLong => "TooLong",
-        EncodeError::OutOfMemory => "OutOfMemory",
-    }
-}
-
-/// The name of a fault that files have.
-fn pool_name(fault: PoolError) -> &'static str {
-    match fault {
-        PoolError::Decode(_) => "Decode",
-        PoolError::MissingName => "MissingName",
-        PoolError::DuplicateName => "DuplicateName",
-        PoolError::UnknownSyntax => "UnknownSyntax",
-        PoolError::MissingDependency => "MissingDependency",
-        PoolError::BadIndex => "BadIndex",
-        PoolError::BadNumber => "BadNumber",
-        PoolError::DuplicateNumber => "DuplicateNumber",
-        PoolError::BadRange => "BadRange",
-        PoolError::OutsideRange => "OutsideRange",
-        PoolError::UnknownType => "UnknownType",
-        PoolError::MissingType => "MissingType",
-        PoolError::BadLabel => "BadLabel",
-        PoolError::BadOneof => "BadOneof",
-        PoolError::BadMapEntry => "BadMapEntry",
-        PoolError::EmptyEnum => "EmptyEnum",
-        PoolError::BadDefault => "BadDefault",
-        PoolError::FloatDefault => "FloatDefault",
-        PoolError::BadOptions => "BadOptions",
-        PoolError::OutOfMemory => "OutOfMemory",
     }
 }

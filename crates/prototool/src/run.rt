@@ -3,6 +3,7 @@
 use crate::answer::Answer;
 use crate::command::Command;
 use crate::compare::comparison;
+use crate::decoding::with_place;
 use crate::input::{bytes_of, message_type, pool_of};
 use crate::print::{message_text, raw_text};
 use crate::redact::redact;
@@ -85,8 +86,10 @@ fn answer<R: Files + Input + AllocGlobal>(rt: &R, command: Command<'_>) -> Resul
             let pool = pool_of(rt, set.as_str())?;
             let descriptor = message_type(&pool, name.as_str())?;
             let bytes = bytes_of(rt, source)?;
-            let text = message_text(rt.alloc(), descriptor, bytes.as_slice())?;
-            Ok(Answer::passing(text.into_bytes()))
+            match message_text(rt.alloc(), descriptor.clone()?, bytes.as_slice()) {
+                Ok(text) => Ok(Answer::passing(text.into_bytes())),
+                Err(refusal) => Err(with_place(rt.alloc(), descriptor, bytes.as_slice(), refusal)),
+            }
         }
         Command::PrintRaw { source } => {
             let bytes = bytes_of(rt, source)?;

@@ -4,8 +4,9 @@ use crate::print::fields::varints_in;
 use crate::print::text::Text;
 use crate::print::unknown::{GUESSES, push_unknown};
 use crate::print::written::Written;
+use crate::types::kind_at;
 use prost_reflect::{
-    DynamicMessage, EnumDescriptor, Kind, MessageDescriptor, UnknownField, UnknownFieldValue,
+    DynamicMessage, EnumDescriptor, MessageDescriptor, UnknownField, UnknownFieldValue,
 };
 use std::alloc::AllocError;
 
@@ -50,23 +51,12 @@ fn push_if_unknown(
     descriptor: &MessageDescriptor,
     field: &UnknownField,
 ) -> Result<(), AllocError> {
-    match kind_of(descriptor, field.number())? {
+    match kind_at(descriptor, field.number())? {
         Some(kind) => match kind.as_enum() {
             Some(known) if known.is_closed() => push_undeclared(text, known, field),
             _ => Ok(()),
         },
         None => push_unknown(text, field, GUESSES),
-    }
-}
-
-/// The kind of the field or of the extension of the number.
-fn kind_of(descriptor: &MessageDescriptor, number: u32) -> Result<Option<Kind>, AllocError> {
-    if let Some(field) = descriptor.get_field(number)? {
-        return Ok(Some(field.kind()?));
-    }
-    match descriptor.get_extension(number)? {
-        Some(extension) => Ok(Some(extension.kind()?)),
-        None => Ok(None),
     }
 }
 

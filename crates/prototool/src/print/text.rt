@@ -75,6 +75,7 @@ impl Text {
         self.written.push_str("\"")
     }
 
+    /// Appends a byte that stands between quotes.
     fn push_escaped(&mut self, byte: u8) -> Result<(), AllocError> {
         match byte {
             b'\n' => self.written.push_str("\\n"),

@@ -8,9 +8,8 @@ ghost use Rattle.prost_reflect_dynamic.specs.ExtensionAccess.{IsOwnExtension, ex
 ghost use Rattle.prost_reflect_dynamic.specs.View.{value_of, content_of, message_type_of};
 ghost use Rattle.prototool.specs.Redacting.{ClearsAlong, ClearsLast, ClearsThrough, ClearsInside, ClearsElement, ClearsElements, ClearsEntries};
 
-use crate::refusal::Refusal;
 use prost_reflect::{DynamicMessage, ExtensionDescriptor, MapKey, Value};
-use std::alloc::Global;
+use std::alloc::{AllocError, Global};
 use std::collections::BTreeMap;
 use std::mem;
 
@@ -19,9 +18,13 @@ use std::mem;
 ///
 /// # Errors
 ///
-/// `Memory`. The message is not to be used then, since entries of a map may be lost.
+/// `AllocError` if out of memory. The message is not to be used then, since entries of a map may be lost.
 #[cycle(clearing)]
-pub fn clear_along(alloc: Global, message: &mut DynamicMessage, path: &[u32]) -> Result<(), Refusal>
+pub fn clear_along(
+    alloc: Global,
+    message: &mut DynamicMessage,
+    path: &[u32],
+) -> Result<(), AllocError>
     ensures { IfOk result (λ _. ClearsAlong path.now (content_of message.old) (content_of message.new)) }
 {
     let Some((number, rest)) = path.split_first() else {
@@ -41,7 +44,7 @@ fn clear_through(
     message: &mut DynamicMessage,
     number: u32,
     rest: &[u32],
-) -> Result<(), Refusal>
+) -> Result<(), AllocError>
     ensures { IfOk result (λ _. ClearsThrough number rest.now (content_of message.old) (content_of message.new)) }
 {
     match extension_of(message, number)? {
@@ -57,7 +60,7 @@ fn clear_in_extension(
     message: &mut DynamicMessage,
     extension: &ExtensionDescriptor,
     path: &[u32],
-) -> Result<(), Refusal>
+) -> Result<(), AllocError>
     requires { IsOwnExtension (message_type_of message.old) extension.now }
     ensures { IfOk result (λ _. ClearsThrough (extension_number extension.now) path.now (content_of message.old) (content_of message.new)) }
 {
@@ -75,20 +78,22 @@ fn clear_in_field(
     message: &mut DynamicMessage,
     number: u32,
     path: &[u32],
-) -> Result<(), Refusal>
+) -> Result<(), AllocError>
     requires { is_listed true (known_of (message_type_of message.old)) number ≡ false }
     ensures { IfOk result (λ _. ClearsThrough number path.now (content_of message.old) (content_of message.new)) }
 {
     if !message.has_field_by_number(number) {
         return Ok(());
     }
-    let value = message.get_field_by_number_mut(alloc, number)?;
-    clear_inside(alloc, value, path)
+    match message.get_field_by_number_mut(alloc, number) {
+        Ok(value) => clear_inside(alloc, value, path),
+        Err(_) => Err(AllocError),
+    }
 }
 
 /// Clears along the path in the message that the value is, or in each message of its list or its map.
 #[cycle(clearing)]
-fn clear_inside(alloc: Global, value: &mut Value, path: &[u32]) -> Result<(), Refusal>
+fn clear_inside(alloc: Global, value: &mut Value, path: &[u32]) -> Result<(), AllocError>
     ensures { IfOk result (λ _. ClearsInside path.now (value_of value.old) (value_of value.new)) }
 {
     if let Some(values) = value.as_list_mut() {
@@ -102,7 +107,7 @@ fn clear_inside(alloc: Global, value: &mut Value, path: &[u32]) -> Result<(), Re
 
 /// Clears along the path in the message that the value is, if it is one.
 #[cycle(clearing)]
-fn clear_element(alloc: Global, value: &mut Value, path: &[u32]) -> Result<(), Refusal>
+fn clear_element(alloc: Global, value: &mut Value, path: &[u32]) -> Result<(), AllocError>
     ensures { IfOk result (λ _. ClearsElement path.now (value_of value.old) (value_of value.new)) }
 {
     match value.as_message_mut() {
@@ -113,7 +118,7 @@ fn clear_element(alloc: Global, value: &mut Value, path: &[u32]) -> Result<(), R
 
 /// Clears along the path in each element.
 #[cycle(clearing)]
-fn clear_elements(alloc: Global, values: &mut Vec<Value>, path: &[u32]) -> Result<(), Refusal>
+fn clear_elements(alloc: Global, values: &mut Vec<Value>, path: &[u32]) -> Result<(), AllocError>
     ensures { IfOk result (λ _. ClearsElements path.now (values_from (map value_of values.old.items)) (values_from (map value_of values.new.items))) }
 {
     for value in values.iter_mut() {
@@ -128,7 +133,7 @@ fn clear_entries(
     alloc: Global,
     entries: &mut BTreeMap<MapKey, Value>,
     path: &[u32],
-) -> Result<(), Refusal>
+) -> Result<(), AllocError>
     ensures { IfOk result (λ _. ClearsEntries path.now (pairs_shown entries.old.entries) (pairs_shown entries.new.entries)) }
 {
     let taken = mem::replace(entries, BTreeMap::new(alloc));
@@ -141,7 +146,7 @@ fn clear_entries(
 }
 
 /// Removes the value of the field or extension of the number.
-fn clear_number(message: &mut DynamicMessage, number: u32) -> Result<(), Refusal>
+fn clear_number(message: &mut DynamicMessage, number: u32) -> Result<(), AllocError>
     ensures { IfOk result (λ _. ClearsLast number (content_of message.old) (content_of message.new)) }
 {
     match extension_of(message, number)? {
@@ -155,7 +160,7 @@ fn clear_number(message: &mut DynamicMessage, number: u32) -> Result<(), Refusal
 fn extension_of(
     message: &DynamicMessage,
     number: u32,
-) -> Result<Option<ExtensionDescriptor>, Refusal>
+) -> Result<Option<ExtensionDescriptor>, AllocError>
     ensures own { IfOk result (λ found. IfSome found (λ extension. IsOwnExtension (message_type_of message.now) extension)) }
     ensures number { IfOk result (λ found. IfSome found (λ extension. extension_number extension ≡ number)) }
     ensures missing { IfOk result (λ found. found ≡ None → is_listed true (known_of (message_type_of message.now)) number ≡ false) }

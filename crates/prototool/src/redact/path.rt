@@ -1,6 +1,7 @@
 //! Paths of names, as `user.email`, and the numbers of the fields and extensions that they lead through.
 
-use prost_reflect::{FieldDescriptorLike, Kind, MessageDescriptor, RECURSION_LIMIT};
+use crate::types::message_inside;
+use prost_reflect::{FieldDescriptorLike, MessageDescriptor, RECURSION_LIMIT};
 use std::alloc::{AllocError, Global};
 
 /// How many names a path has at most: one for each level of messages that is read, and one for the field.
@@ -99,20 +100,5 @@ impl Found {
             number: field.number(),
             inside: message_inside(field.kind()?)?,
         })
-    }
-}
-
-/// The message type of the values of a kind, or of the values of a map whose entries are of the kind.
-fn message_inside(kind: Kind) -> Result<Option<MessageDescriptor>, AllocError> {
-    let Kind::Message(message) = kind else {
-        return Ok(None);
-    };
-    if !message.is_map_entry() {
-        return Ok(Some(message));
-    }
-    let value = message.map_entry_value_field()?;
-    match value.kind()? {
-        Kind::Message(message) => Ok(Some(message)),
-        _ => Ok(None),
     }
 }

@@ -67,12 +67,12 @@ clear_in_field-returns-then-not-has_field_by_number t c =
     let none : (is_field_number (message_type_of old) n && has_at n (content_of old)) ≡ false = search rules in
     through_unlisted old n c.args.path.now c.requires none
 
-pub clear_in_field-returns : goal.clear_in_field-returns
-clear_in_field-returns t c =
+pub clear_in_field-returns-in-Ok : goal.clear_in_field-returns-in-Ok
+clear_in_field-returns-in-Ok t c =
     let old = c.args.message.now in
     let n = c.args.number in
     let after = c.clear_inside.new.value in
     let had : (is_field_number (message_type_of old) n && has_at n (content_of old)) ≡ true = search rules in
     IfOk-weaker c.clear_inside.result _ _
-    (λ _ inside. through_field old _ n c.args.path.now c.in_ok-value.value.now after had c.in_ok-value.ensures.value inside (c.in_ok-value.ensures.content after))
+    (λ _ inside. through_field old _ n c.args.path.now c.in-Ok.value.now after had c.in-Ok.ensures.value inside (c.in-Ok.ensures.content after))
     c.clear_inside.ensures
