@@ -1,9 +1,7 @@
 -- Members of a oneof that follow one another, in two lists of fields of ascending numbers.
-use Rattle.std.proofs.Common.{◌≡◌, ◌≢◌, ◌⊎◌, inl, inr, ⊎_elim, ℕ, zero, suc, ◌+◌, ◌<◌, ◌≤◌, nat_eq, nat_lt, eq-eqb, Bool, true, false, cond, ◌&&◌, List, [], ◌∷◌, Option, Some, None, refl, ap, sym, ◌∙◌, arith, true≢false}
-use Rattle.std.proofs.lemmas.Bool.{cases_lt, eqb-true, eqb-false, ne_eqb, ltb-true, and_parts}
-use Rattle.prost_reflect_wire.specs.Schema.{Field, field_of, same_oneof}
+use Rattle.std.specs.Prelude.{◌≡◌, ◌≢◌, ◌⊎◌, ◌+◌, ◌<◌, ◌≤◌, ◌&&◌, ◌∷◌}
+use Rattle.prost_reflect_reduction.proofs.Common.{inl, inr, ⊎_elim, ℕ, zero, suc, nat_eq, nat_lt, eq-eqb, Bool, true, false, cond, List, [], Option, Some, None, refl, ap, sym, ◌∙◌, arith, true≢false, cases_lt, eqb-true, eqb-false, ne_eqb, ltb-true, and_parts, Field, field_of, same_oneof, first_member}
 use Rattle.prost_reflect_wire.proofs.Numbers.{eqb-sym}
-use Rattle.prost_reflect_reduction.specs.Merging.{first_member}
 
 -- RISING NUMBERS
 

@@ -1,17 +1,8 @@
 -- Sets of the numbers of enums, and of pairs of enums that are the same.
-use Rattle.std.proofs.Common.{◌≡◌, ℕ, ℤ, ◌+◌, ◌<◌, ◌≤◌, Bool, true, false, cond, ◌&&◌, ◌||◌, List, [], ◌∷◌, ◌++◌, length, take, get_or, zero, suc, refl, ap, ap₂, sym, ◌∙◌, subst, arith, nat_eq, true≢false}
-use Rattle.std.specs.Prelude.{slice_get}
-use Rattle.std.specs.Ordering.{nat_cmp, int_cmp, int_eq, is_eq, ordering_then}
-use Rattle.std.specs.List.{list_any, list_all}
-use Rattle.std.specs.BTreeSet.{BTreeSet, contains}
-use Rattle.std.proofs.lemmas.Bool.{eqb-true}
+use Rattle.std.specs.Prelude.{◌≡◌, ◌+◌, ◌<◌, ◌≤◌, ◌&&◌, ◌||◌, ◌∷◌, ◌++◌}
+use Rattle.prost_reflect_reduction.proofs.Common.{ℕ, ℤ, Bool, true, false, cond, List, [], length, take, get_or, zero, suc, refl, ap, ap₂, sym, ◌∙◌, subst, arith, nat_eq, true≢false, slice_get, nat_cmp, int_cmp, int_eq, is_eq, ordering_then, list_any, list_all, BTreeSet, contains, eqb-true, take_more, all_among, same_scalar_kind, EnumRow, enum_kind, table_numbers, HasNumbers, AreSameEnums}
 use Rattle.std.proofs.lemmas.Bool.Decides.{Decides-int_eq}
-use Rattle.std.proofs.lemmas.List.{take_more}
-use Rattle.prost_reflect_wire.specs.Reduction.{all_among, same_scalar_kind}
 use Rattle.prost_reflect_tables.specs.declared.tables.EnumValueTable.{EnumValueTable}
-use Rattle.prost_reflect_tables.specs.Rows.{EnumRow}
-use Rattle.prost_reflect_tables.specs.Shown.{enum_kind}
-use Rattle.prost_reflect_reduction.specs.Kinds.{table_numbers, HasNumbers, AreSameEnums}
 use Rattle.prost_reflect_reduction.proofs.Walking.{same_pair}
 
 -- NUMBERS

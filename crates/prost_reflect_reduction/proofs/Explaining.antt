@@ -1,20 +1,9 @@
 -- The first fault of a walk over the fields of two types: where there is none, the walk goes well, and what is found differs.
-use Rattle.std.proofs.Common.{◌≡◌, ◌≢◌, ◌⊎◌, inl, inr, ⊎_elim, ℕ, ◌<◌, nat_eq, nat_lt, eq-eqb, Bool, true, false, cond, not, ◌&&◌, List, [], ◌∷◌, Option, Some, None, refl, ap, ap₂, sym, ◌∙◌, arith, true≢false, subst}
-use Rattle.std.specs.Bool.{beq}
-use Rattle.std.specs.Option.{is_some, is_none}
-use Rattle.std.proofs.lemmas.Bool.{cases_lt, eqb-true, eqb-false, ne_eqb, lt-ltb, ltb-true, and_from}
+use Rattle.std.specs.Prelude.{◌≡◌, ◌≢◌, ◌⊎◌, ◌<◌, ◌&&◌, ◌∷◌}
+use Rattle.prost_reflect_reduction.proofs.Common.{inl, inr, ⊎_elim, ℕ, nat_eq, nat_lt, eq-eqb, Bool, true, false, cond, not, List, [], Option, Some, None, refl, ap, ap₂, sym, ◌∙◌, arith, true≢false, subst, beq, is_some, is_none, cases_lt, eqb-true, eqb-false, ne_eqb, lt-ltb, ltb-true, and_from, Kind, ScalarOf, MessageOf, GroupOf, ValueType, Field, field_of, same_oneof, is_message, is_singular, is_sibling, passes, same_kind, same_default, value_types_match, EnumRow, schema_kind, kinds_fault, values_fault, forms_fault, fields_fault, pair_fault, fellow_fault, at_number, first_fault, merge_fault, both_enums, differs_in, share_oneof, OneofDiffers, NumberDiffers, first_member, merged, kinds_alike, values_alike, forms_alike, fields_alike, ReductionFaultKind}
 use Rattle.std.proofs.lemmas.Option.{none-some, same_Some}
-use Rattle.prost_reflect_wire.specs.Schema.{Kind, ScalarOf, MessageOf, GroupOf, ValueType, Field, field_of, same_oneof, is_message, is_singular, is_sibling, passes}
-use Rattle.prost_reflect_wire.specs.Reduction.{same_kind, same_default, value_types_match}
 use Rattle.prost_reflect_tables.specs.declared.tables.TableKind.{TableKind}
 use Rattle.prost_reflect_tables.specs.declared.tables.TableKind.TheVariants.{Double, Float, Int32, Int64, Uint32, Uint64, Sint32, Sint64, Fixed32, Fixed64, Sfixed32, Sfixed64, Bool as BoolTable, String, Bytes, Message, Enum as EnumTable}
-use Rattle.prost_reflect_tables.specs.Rows.{EnumRow}
-use Rattle.prost_reflect_tables.specs.Shown.{schema_kind}
-use Rattle.prost_reflect_reduction.specs.Explaining.{kinds_fault, values_fault, forms_fault, fields_fault, pair_fault, fellow_fault, at_number, first_fault, merge_fault}
-use Rattle.prost_reflect_reduction.specs.Faults.{both_enums, differs_in, share_oneof, OneofDiffers, NumberDiffers}
-use Rattle.prost_reflect_reduction.specs.Merging.{first_member, merged}
-use Rattle.prost_reflect_reduction.specs.Reaching.{kinds_alike, values_alike, forms_alike, fields_alike}
-use Rattle.prost_reflect_reduction.specs.declared.fault.ReductionFaultKind.{ReductionFaultKind}
 use Rattle.prost_reflect_reduction.specs.declared.fault.ReductionFaultKind.TheVariants.{MapEntry, Number, Oneof, Extension, Cardinality, Map, Kind as KindDiffers, Enum as EnumDiffers, Presence, Default}
 use Rattle.prost_reflect_reduction.specs.declared.types.FieldFault.{FieldFault}
 use Rattle.prost_reflect_reduction.proofs.Chains.{rising, rise, onward, next_in, oneof_at, same, below_none, below_next, next_found, next_reached}

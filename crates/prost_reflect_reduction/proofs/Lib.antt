@@ -1,3 +1,4 @@
+mod Common
 pub mod Enums
 pub mod Chains
 pub mod Merging

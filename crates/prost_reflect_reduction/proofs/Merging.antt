@@ -1,14 +1,8 @@
 -- What a walk over the fields of two types in ascending order says: fields have their likes, with the same siblings, and a field that only the newer type has has none.
-use Rattle.std.proofs.Common.{◌≡◌, ◌≢◌, ◌⊎◌, inl, inr, ⊎_elim, ℕ, ◌<◌, ◌≤◌, nat_eq, eq-eqb, Bool, true, false, cond, not, ◌&&◌, ◌||◌, List, [], ◌∷◌, Option, Some, None, refl, ap, ap₂, sym, ◌∙◌, arith, true≢false}
-use Rattle.std.specs.Bool.{beq}
-use Rattle.std.specs.List.{list_any, list_all}
-use Rattle.std.proofs.lemmas.Bool.{cases_lt, eqb-true, eqb-false, ne_eqb, lt-ltb, and_parts, and_from, or_parts}
-use Rattle.prost_reflect_wire.specs.Schema.{Field, field_of, same_oneof, is_sibling, passes}
-use Rattle.prost_reflect_wire.specs.Reduction.{same_siblings, has_no_fellow, is_known}
+use Rattle.std.specs.Prelude.{◌≡◌, ◌≢◌, ◌⊎◌, ◌<◌, ◌≤◌, ◌&&◌, ◌||◌, ◌∷◌}
+use Rattle.prost_reflect_reduction.proofs.Common.{inl, inr, ⊎_elim, ℕ, nat_eq, eq-eqb, Bool, true, false, cond, not, List, [], Option, Some, None, refl, ap, ap₂, sym, ◌∙◌, arith, true≢false, beq, list_any, list_all, cases_lt, eqb-true, eqb-false, ne_eqb, lt-ltb, and_parts, and_from, or_parts, Field, field_of, same_oneof, is_sibling, passes, same_siblings, has_no_fellow, is_known, fields_alike, has_alike, first_member, merged}
 use Rattle.prost_reflect_wire.proofs.ListTests.{beq_same}
 use Rattle.prost_reflect_wire.proofs.Survivors.{field_number}
-use Rattle.prost_reflect_reduction.specs.Reaching.{fields_alike, has_alike}
-use Rattle.prost_reflect_reduction.specs.Merging.{first_member, merged}
 use Rattle.prost_reflect_reduction.proofs.Chains.{rising, next_in, oneof_at, same, onward, below_none, below_next, below_oneof, turned_oneof, carried, nexts_same}
 
 -- NUMBER BY NUMBER

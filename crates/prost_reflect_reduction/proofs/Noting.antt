@@ -1,27 +1,9 @@
 -- The first and the next members of oneofs, as they are noted from behind, and a walk over fields of the tables step by step.
-use Rattle.std.proofs.Common.{◌≡◌, ℕ, zero, suc, ◌+◌, ◌-◌, ◌^◌, ◌<◌, ◌≤◌, nat_eq, nat_lt, Bool, true, false, cond, ◌&&◌, List, [], ◌∷◌, length, map, drop, get_or, drop-cons, add-one, Option, Some, None, refl, ap, ap₂, sym, ◌∙◌, arith, subst}
-use Rattle.std.specs.Prelude.{set, replicate, option_map}
-use Rattle.std.specs.List.{list_all}
-use Rattle.std.specs.Option.{is_none}
+use Rattle.std.specs.Prelude.{◌≡◌, ◌+◌, ◌-◌, ◌^◌, ◌<◌, ◌≤◌, ◌&&◌, ◌∷◌}
+use Rattle.prost_reflect_reduction.proofs.Common.{ℕ, zero, suc, nat_eq, nat_lt, Bool, true, false, cond, List, [], length, map, drop, get_or, drop-cons, add-one, Option, Some, None, refl, ap, ap₂, sym, ◌∙◌, arith, subst, set, replicate, option_map, list_all, is_none, eqb-true, eqb-false, and_parts, and_from, get_or-set_same, get_or-set_other, length-set, drop-set, length-map, length-replicate, get_or-replicate, Field, MessageType, same_oneof, message_type, known, entries_whole, has_no_fellow, FieldTable, Tables, is_linked, message_linked, field_linked, oneof_in_range, kind_in_range, ascending_from, FieldRow, MessageRow, TableRows, field_row, oneof_row, message_row, rows_of, schema_of, schema_from, schema_field, schema_message, fellow_fault, pair_fault, at_number, first_fault, merge_fault, step_of, fault_behind, at_field, Explains, NumberDiffers, shown_fields, first_member, next_members, noted, AreFirst, has_alike, types_alike, ReductionFaultKind, MapEntry, Number}
 use Rattle.std.proofs.Math.Seq.{drop-length}
 use Rattle.std.proofs.Math.ListN.{drop_of_length-le}
-use Rattle.std.proofs.lemmas.Bool.{eqb-true, eqb-false, and_parts, and_from}
-use Rattle.std.proofs.lemmas.List.{get_or-set_same, get_or-set_other, length-set, drop-set, length-map, length-replicate, get_or-replicate}
-use Rattle.prost_reflect_wire.specs.Schema.{Field, MessageType, same_oneof, message_type, known}
-use Rattle.prost_reflect_wire.specs.Reduction.{entries_whole, has_no_fellow}
-use Rattle.prost_reflect_tables.specs.declared.tables.FieldTable.{FieldTable}
 use Rattle.prost_reflect_tables.specs.declared.tables.MessageTable.{MessageTable}
-use Rattle.prost_reflect_tables.specs.declared.tables.Tables.{Tables}
-use Rattle.prost_reflect_tables.specs.Linked.{is_linked, message_linked, field_linked, oneof_in_range, kind_in_range, ascending_from}
-use Rattle.prost_reflect_tables.specs.Rows.{FieldRow, MessageRow, TableRows, field_row, oneof_row, message_row}
-use Rattle.prost_reflect_tables.specs.Schema.{rows_of, schema_of}
-use Rattle.prost_reflect_tables.specs.Shown.{schema_from, schema_field, schema_message}
-use Rattle.prost_reflect_reduction.specs.Explaining.{fellow_fault, pair_fault, at_number, first_fault, merge_fault, step_of, fault_behind, at_field, Explains}
-use Rattle.prost_reflect_reduction.specs.Faults.{NumberDiffers}
-use Rattle.prost_reflect_reduction.specs.Merging.{shown_fields, first_member, next_members, noted, AreFirst}
-use Rattle.prost_reflect_reduction.specs.Reaching.{has_alike, types_alike}
-use Rattle.prost_reflect_reduction.specs.declared.fault.ReductionFaultKind.{ReductionFaultKind}
-use Rattle.prost_reflect_reduction.specs.declared.fault.ReductionFaultKind.TheVariants.{MapEntry, Number}
 use Rattle.prost_reflect_reduction.specs.declared.types.FieldFault.{FieldFault}
 use Rattle.prost_reflect_reduction.specs.declared.types.Step.{Step}
 use Rattle.prost_reflect_reduction.proofs.Chains.{rising}

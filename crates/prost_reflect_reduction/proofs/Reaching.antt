@@ -1,12 +1,6 @@
 -- A pair of types matches exactly if it does so by itself, and the pairs that it asks for are there.
-use Rattle.std.proofs.Common.{◌≡◌, ℕ, nat_eq, Bool, true, false, ◌&&◌, ◌||◌, List, [], ◌∷◌, ◌++◌, flat_map, Option, Some, None, refl, ap, ap₂, sym, ◌∙◌, true≢false}
-use Rattle.std.specs.Bool.{beq}
-use Rattle.std.specs.List.{list_all}
-use Rattle.std.proofs.lemmas.Bool.{eqb-true, and_parts, and_from}
-use Rattle.prost_reflect_wire.specs.Schema.{Kind, ScalarOf, MessageOf, GroupOf, ValueType, FieldForm, Singular, Repeated, MapFrom, Field, MessageType, Schema, message_type, known, field_of, is_key_kind, field_valid, schema_valid, passes}
-use Rattle.prost_reflect_wire.specs.Reduction.{TypePairs, holds, same_kind, same_default, value_types_match, same_form, fields_match, same_siblings, has_match, has_no_fellow, entries_whole, types_match, Reduced}
-use Rattle.prost_reflect_laws.proofs.Checked.{known_valid, CheckedField, checked_field, CheckedMap, checked_map}
-use Rattle.prost_reflect_reduction.specs.Reaching.{kinds_alike, kinds_ask, values_alike, forms_alike, fields_alike, has_alike, asked_beside, field_asks, types_alike, types_ask, all_held, all_alike, all_ask, Needed, Walked}
+use Rattle.std.specs.Prelude.{◌≡◌, ◌&&◌, ◌||◌, ◌∷◌, ◌++◌}
+use Rattle.prost_reflect_reduction.proofs.Common.{ℕ, nat_eq, Bool, true, false, List, [], flat_map, Option, Some, None, refl, ap, ap₂, sym, ◌∙◌, true≢false, beq, list_all, eqb-true, and_parts, and_from, Kind, ScalarOf, MessageOf, GroupOf, ValueType, FieldForm, Singular, Repeated, MapFrom, Field, MessageType, Schema, message_type, known, field_of, is_key_kind, field_valid, schema_valid, passes, TypePairs, holds, same_kind, same_default, value_types_match, same_form, fields_match, same_siblings, has_match, has_no_fellow, entries_whole, types_match, Reduced, known_valid, CheckedField, checked_field, CheckedMap, checked_map, kinds_alike, kinds_ask, values_alike, forms_alike, fields_alike, has_alike, asked_beside, field_asks, types_alike, types_ask, all_held, all_alike, all_ask, Needed, Walked}
 
 -- lists
 

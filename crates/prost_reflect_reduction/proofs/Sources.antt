@@ -1,24 +1,10 @@
 -- Where the pairs of a walk come from, and the paths that lead to them.
-use Rattle.std.proofs.Common.{◌≡◌, ℕ, zero, suc, ◌<◌, nat_eq, eq-eqb, Bool, true, false, cond, not, List, [], ◌∷◌, ◌++◌, length, flat_map, get_or, Some, refl, ap, ap₂, sym, ◌∙◌, arith, subst}
-use Rattle.std.specs.Prelude.{reverse, OnOk}
+use Rattle.std.specs.Prelude.{◌≡◌, ◌<◌, ◌∷◌, ◌++◌}
+use Rattle.prost_reflect_reduction.proofs.Common.{ℕ, zero, suc, nat_eq, eq-eqb, Bool, true, false, cond, not, List, [], length, flat_map, get_or, Some, refl, ap, ap₂, sym, ◌∙◌, arith, subst, reverse, OnOk, list_any, and_parts, or_parts, not-true, append-nil, reverse-append, Field, Schema, message_type, known, field_of, numbers_differ, TypePairs, holds, FieldTable, Tables, field_row, rows_of, schema_field, asked_by, pair_by, pair_at, TypeDiffers, FaultStands, shown_fields, field_asks, joined, AreSources, AreBefore, IsPairAt, source_at}
 use Rattle.std.specs.declared.result.Result.{Result}
 use Rattle.std.specs.declared.result.Result.TheVariants.{Ok, Err}
-use Rattle.std.specs.List.{list_any}
 use Rattle.std.proofs.Math.ListN.{get_or-append}
-use Rattle.std.proofs.lemmas.Bool.{and_parts, or_parts, not-true}
-use Rattle.std.proofs.lemmas.List.{append-nil, reverse-append}
-use Rattle.prost_reflect_wire.specs.Schema.{Field, Schema, message_type, known, field_of, numbers_differ}
-use Rattle.prost_reflect_wire.specs.Reduction.{TypePairs, holds}
 use Rattle.prost_reflect_wire.proofs.Numbers.{eqb-sym}
-use Rattle.prost_reflect_tables.specs.declared.tables.FieldTable.{FieldTable}
-use Rattle.prost_reflect_tables.specs.declared.tables.Tables.{Tables}
-use Rattle.prost_reflect_tables.specs.Rows.{field_row}
-use Rattle.prost_reflect_tables.specs.Schema.{rows_of}
-use Rattle.prost_reflect_tables.specs.Shown.{schema_field}
-use Rattle.prost_reflect_reduction.specs.Faults.{asked_by, pair_by, pair_at, TypeDiffers, FaultStands}
-use Rattle.prost_reflect_reduction.specs.Merging.{shown_fields}
-use Rattle.prost_reflect_reduction.specs.Reaching.{field_asks}
-use Rattle.prost_reflect_reduction.specs.Walking.{joined, AreSources, AreBefore, IsPairAt, source_at}
 use Rattle.prost_reflect_reduction.specs.declared.fault.ReductionFault.{ReductionFault}
 use Rattle.prost_reflect_reduction.specs.declared.walk.Source.{Source}
 use Rattle.prost_reflect_reduction.proofs.Walking.{longer}

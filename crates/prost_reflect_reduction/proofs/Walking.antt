@@ -1,27 +1,12 @@
 -- Pairs that are listed once each are no more than all pairs, and what a walk over them keeps.
-use Rattle.std.proofs.Common.{⊎_elim, ◌≡◌, ℕ, zero, suc, ◌+◌, ◌≤◌, ◌<◌, nat_eq, nat_lt, Bool, true, false, not, cond, ◌&&◌, ◌||◌, List, [], ◌∷◌, ◌++◌, length, map, take, drop, get_or, drop-cons, add-one, flat_map, Option, Some, None, refl, ap, ap₂, sym, ◌∙◌, arith, true≢false, eq-eqb, subst}
+use Rattle.std.specs.Prelude.{◌≡◌, ◌+◌, ◌≤◌, ◌<◌, ◌&&◌, ◌||◌, ◌∷◌, ◌++◌}
+use Rattle.prost_reflect_reduction.proofs.Common.{⊎_elim, ℕ, zero, suc, nat_eq, nat_lt, Bool, true, false, not, cond, List, [], length, map, take, drop, get_or, drop-cons, add-one, flat_map, Option, Some, None, refl, ap, ap₂, sym, ◌∙◌, arith, true≢false, eq-eqb, subst, nat_cmp, is_eq, ordering_then, list_any, list_all, IsDistinct, AllByRecursion, BTreeSet, contains, cases_lt, ne_eqb, eqb-true, eqb-false, ltb-true, lt-ltb, and_parts, and_from, take_more, length-map, Kind, MessageOf, GroupOf, Field, Schema, message_type, known, field_of, kind_valid, field_valid, schema_valid, TypePairs, holds, Reduced, FieldRow, field_row, FieldTable, Tables, schema_message, schema_from, rows_of, schema_of, numbers_below, all_pairs, known_valid, found_valid, checked_field, kinds_ask, asked_beside, field_asks, all_held, types_alike, types_ask, all_alike, all_ask, Walked, joined, IsSetOf, Walking}
 use Rattle.std.specs.declared.cmp.Ordering.{Ordering}
 use Rattle.std.specs.declared.cmp.Ordering.TheVariants.{Less, Equal, Greater}
-use Rattle.std.specs.Ordering.{nat_cmp, is_eq, ordering_then}
 use Rattle.std.specs.Cmp.{nat_cmp_is, IsEquivalence}
-use Rattle.std.specs.List.{list_any, list_all, IsDistinct, AllByRecursion}
-use Rattle.std.specs.BTreeSet.{BTreeSet, contains}
-use Rattle.std.proofs.lemmas.Bool.{cases_lt, ne_eqb, eqb-true, eqb-false, ltb-true, lt-ltb, and_parts, and_from}
-use Rattle.std.proofs.lemmas.List.{take_more, length-map}
 use Rattle.std.proofs.lemmas.List.Folds.{list_any-append, list_all-append}
 use Rattle.std.proofs.lemmas.Map.Made.{length-le_from_is_member}
-use Rattle.prost_reflect_wire.specs.Schema.{Kind, MessageOf, GroupOf, Field, Schema, message_type, known, field_of, kind_valid, field_valid, schema_valid}
-use Rattle.prost_reflect_wire.specs.Reduction.{TypePairs, holds, Reduced}
-use Rattle.prost_reflect_tables.specs.Rows.{FieldRow, field_row}
-use Rattle.prost_reflect_tables.specs.declared.tables.FieldTable.{FieldTable}
-use Rattle.prost_reflect_tables.specs.declared.tables.Tables.{Tables}
-use Rattle.prost_reflect_tables.specs.Shown.{schema_message, schema_from}
-use Rattle.prost_reflect_tables.specs.Schema.{rows_of, schema_of}
-use Rattle.prost_reflect_laws.specs.Reducing.{numbers_below, all_pairs}
-use Rattle.prost_reflect_laws.proofs.Checked.{known_valid, found_valid, checked_field}
 use Rattle.prost_reflect_reduction.proofs.Reaching.{needed_asks, needed_alike, walked_reduces}
-use Rattle.prost_reflect_reduction.specs.Reaching.{kinds_ask, asked_beside, field_asks, all_held, types_alike, types_ask, all_alike, all_ask, Walked}
-use Rattle.prost_reflect_reduction.specs.Walking.{joined, IsSetOf, Walking}
 
 -- THE ORDER OF A SET
 

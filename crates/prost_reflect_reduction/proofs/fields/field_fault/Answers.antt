@@ -1,13 +1,5 @@
-use Rattle.std.proofs.Common.{◌≡◌, true, cond, Some, ap₂, sym, ◌∙◌, subst}
-use Rattle.std.specs.Prelude.{IfOk}
-use Rattle.std.specs.Bool.{beq}
-use Rattle.std.proofs.lemmas.Bool.{not-false}
-use Rattle.prost_reflect_tables.specs.Rows.{field_row}
-use Rattle.prost_reflect_tables.specs.Schema.{rows_of}
-use Rattle.prost_reflect_tables.specs.Shown.{own_type, schema_field}
-use Rattle.prost_reflect_reduction.specs.Explaining.{values_fault, forms_fault, fields_fault}
-use Rattle.prost_reflect_reduction.specs.Reaching.{forms_alike}
-use Rattle.prost_reflect_reduction.specs.declared.fault.ReductionFaultKind.TheVariants.{Extension}
+use Rattle.std.specs.Prelude.{◌≡◌}
+use Rattle.prost_reflect_reduction.proofs.Common.{true, cond, Some, ap₂, sym, ◌∙◌, subst, IfOk, beq, not-false, field_row, rows_of, own_type, schema_field, values_fault, forms_fault, fields_fault, forms_alike, Extension}
 use Rattle.prost_reflect_reduction.proofs.fields.field_fault.Goals as goal
 
 pub returns-clause-fault : goal.returns-clause-fault

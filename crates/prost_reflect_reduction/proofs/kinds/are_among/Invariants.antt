@@ -1,8 +1,5 @@
-use Rattle.std.proofs.Common.{◌≡◌, drop}
-use Rattle.std.specs.List.{list_all}
-use Rattle.std.specs.Ordering.{int_cmp}
-use Rattle.std.specs.BTreeSet.{contains}
-use Rattle.prost_reflect_reduction.specs.Kinds.{table_numbers}
+use Rattle.std.specs.Prelude.{◌≡◌}
+use Rattle.prost_reflect_reduction.proofs.Common.{drop, list_all, int_cmp, contains, table_numbers}
 use Rattle.prost_reflect_reduction.proofs.kinds.are_among.Given as goal
 
 abbrev pub invariant-loop-value : goal.invariant-loop-value

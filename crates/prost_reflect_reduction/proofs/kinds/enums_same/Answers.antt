@@ -1,7 +1,4 @@
-use Rattle.std.proofs.Common.{ap₂, sym, ◌∙◌}
-use Rattle.prost_reflect_wire.specs.Reduction.{same_scalar_kind}
-use Rattle.prost_reflect_tables.specs.Schema.{rows_of}
-use Rattle.prost_reflect_tables.specs.Shown.{enum_kind}
+use Rattle.prost_reflect_reduction.proofs.Common.{ap₂, sym, ◌∙◌, same_scalar_kind, rows_of, enum_kind}
 use Rattle.prost_reflect_reduction.proofs.Enums.{pair_noted, pair_more}
 use Rattle.prost_reflect_reduction.proofs.kinds.enums_same.Goals as goal
 

@@ -1,6 +1,5 @@
-use Rattle.std.proofs.Common.{◌≡◌, ◌&&◌, ap, sym, ◌∙◌}
-use Rattle.prost_reflect_wire.specs.Reduction.{all_among}
-use Rattle.prost_reflect_reduction.specs.Kinds.{table_numbers}
+use Rattle.std.specs.Prelude.{◌≡◌, ◌&&◌}
+use Rattle.prost_reflect_reduction.proofs.Common.{ap, sym, ◌∙◌, all_among, table_numbers}
 use Rattle.prost_reflect_reduction.proofs.Enums.{among_is}
 use Rattle.prost_reflect_reduction.proofs.kinds.same_numbers.Goals.{then-are_among, else-are_among}
 use Rattle.prost_reflect_reduction.proofs.kinds.same_numbers.Goals as goal

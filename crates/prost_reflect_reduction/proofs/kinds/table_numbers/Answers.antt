@@ -1,5 +1,5 @@
-use Rattle.std.proofs.Common.{◌≡◌, ℤ, rules, cond, true, w32, to_z, of_z, is_eq, int_cmp, subst}
-use Rattle.std.specs.BTreeSet.{contains}
+use Rattle.std.specs.Prelude.{◌≡◌}
+use Rattle.prost_reflect_reduction.proofs.Common.{ℤ, rules, cond, true, w32, to_z, of_z, is_eq, int_cmp, subst, contains}
 use Rattle.std.proofs.Math.Facts.{to_z-of_z}
 use Rattle.prost_reflect_reduction.proofs.Enums.{no_numbers, number_more, all_numbers}
 use Rattle.prost_reflect_reduction.proofs.kinds.table_numbers.Goals as goal

@@ -1,5 +1,4 @@
-use Rattle.std.proofs.Common.{take}
-use Rattle.prost_reflect_reduction.specs.Kinds.{table_numbers, HasNumbers}
+use Rattle.prost_reflect_reduction.proofs.Common.{take, table_numbers, HasNumbers}
 use Rattle.prost_reflect_reduction.proofs.kinds.table_numbers.Given as goal
 
 abbrev pub invariant-loop-value : goal.invariant-loop-value

@@ -1,7 +1,5 @@
-use Rattle.std.proofs.Common.{◌-◌, ◌<◌, length, drop, sym, ap, ◌∙◌, subst, arith, List, ℕ}
-use Rattle.std.proofs.lemmas.List.{length-replicate, length-set}
-use Rattle.prost_reflect_tables.specs.Linked.{oneof_in_range}
-use Rattle.prost_reflect_reduction.specs.Merging.{shown_fields, AreFirst}
+use Rattle.std.specs.Prelude.{◌-◌, ◌<◌}
+use Rattle.prost_reflect_reduction.proofs.Common.{length, drop, sym, ap, ◌∙◌, subst, arith, List, ℕ, length-replicate, length-set, oneof_in_range, shown_fields, AreFirst}
 use Rattle.prost_reflect_reduction.proofs.Noting.{noted_length, none_noted, nothing_left, in_range_at, first_kept, next_kept}
 use Rattle.prost_reflect_reduction.proofs.oneofs.next_members.Goals as goal
 

@@ -1,5 +1,5 @@
-use Rattle.std.proofs.Common.{◌≡◌, ◌≤◌, drop, length}
-use Rattle.prost_reflect_reduction.specs.Merging.{shown_fields, next_members, AreFirst}
+use Rattle.std.specs.Prelude.{◌≡◌, ◌≤◌}
+use Rattle.prost_reflect_reduction.proofs.Common.{drop, length, shown_fields, next_members, AreFirst}
 use Rattle.prost_reflect_reduction.proofs.oneofs.next_members.Given as goal
 
 abbrev pub invariant-loop-place : goal.invariant-loop-place

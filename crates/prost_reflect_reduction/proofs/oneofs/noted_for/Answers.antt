@@ -1,7 +1,5 @@
-use Rattle.std.proofs.Common.{◌<◌, length, sym, ap, ◌∙◌}
-use Rattle.std.proofs.lemmas.Bool.{ltb-true}
-use Rattle.prost_reflect_tables.specs.Linked.{oneof_in_range}
-use Rattle.prost_reflect_reduction.specs.Merging.{first_member}
+use Rattle.std.specs.Prelude.{◌<◌}
+use Rattle.prost_reflect_reduction.proofs.Common.{length, sym, ap, ◌∙◌, ltb-true, oneof_in_range, first_member}
 use Rattle.prost_reflect_reduction.proofs.Noting.{first_at, no_member}
 use Rattle.prost_reflect_reduction.proofs.oneofs.noted_for.Goals as goal
 

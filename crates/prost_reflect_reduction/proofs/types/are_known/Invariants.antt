@@ -1,7 +1,5 @@
-use Rattle.std.proofs.Common.{◌≡◌, drop}
-use Rattle.std.specs.List.{list_all}
-use Rattle.prost_reflect_wire.specs.Reduction.{is_known}
-use Rattle.prost_reflect_reduction.specs.Merging.{shown_fields}
+use Rattle.std.specs.Prelude.{◌≡◌}
+use Rattle.prost_reflect_reduction.proofs.Common.{drop, list_all, is_known, shown_fields}
 use Rattle.prost_reflect_reduction.proofs.types.are_known.Given as goal
 
 abbrev pub invariant-loop-other : goal.invariant-loop-other

@@ -1,6 +1,5 @@
-use Rattle.std.proofs.Common.{◌≡◌, drop}
-use Rattle.prost_reflect_wire.specs.Reduction.{is_known}
-use Rattle.prost_reflect_reduction.specs.Merging.{shown_fields}
+use Rattle.std.specs.Prelude.{◌≡◌}
+use Rattle.prost_reflect_reduction.proofs.Common.{drop, is_known, shown_fields}
 use Rattle.prost_reflect_reduction.proofs.types.is_known.Given as goal
 
 abbrev pub invariant-loop-field : goal.invariant-loop-field

@@ -1,5 +1,4 @@
-use Rattle.std.proofs.Common.{length, sym}
-use Rattle.std.proofs.lemmas.Bool.{ltb-true, ltb-false}
+use Rattle.prost_reflect_reduction.proofs.Common.{length, sym, ltb-true, ltb-false}
 use Rattle.prost_reflect_reduction.proofs.Noting.{some_left, none_left}
 use Rattle.prost_reflect_reduction.proofs.types.left_fault.Goals as goal
 

@@ -1,8 +1,5 @@
-use Rattle.std.proofs.Common.{◌≡◌, drop}
-use Rattle.prost_reflect_tables.specs.Schema.{rows_of}
-use Rattle.prost_reflect_reduction.specs.Explaining.{merge_fault}
-use Rattle.prost_reflect_reduction.specs.Kinds.{AreSameEnums}
-use Rattle.prost_reflect_reduction.specs.Merging.{shown_fields}
+use Rattle.std.specs.Prelude.{◌≡◌}
+use Rattle.prost_reflect_reduction.proofs.Common.{drop, rows_of, merge_fault, AreSameEnums, shown_fields}
 use Rattle.prost_reflect_reduction.proofs.types.merge_fault.Given as goal
 
 abbrev pub invariant-loop-other : goal.invariant-loop-other

@@ -1,11 +1,5 @@
-use Rattle.std.proofs.Common.{◌≡◌, ◌+◌, nat_eq, nat_lt, true, false, get_or, Some, eq-eqb, ap, ap₂, sym, ◌∙◌}
-use Rattle.std.proofs.lemmas.Bool.{ne_eqb, le-ltb, lt-ltb}
-use Rattle.prost_reflect_tables.specs.declared.tables.FieldTable.{FieldTable}
-use Rattle.prost_reflect_tables.specs.Rows.{field_row}
-use Rattle.prost_reflect_tables.specs.Schema.{rows_of}
-use Rattle.prost_reflect_tables.specs.Shown.{schema_field}
-use Rattle.prost_reflect_reduction.specs.Explaining.{pair_fault, step_of}
-use Rattle.prost_reflect_reduction.specs.declared.fault.ReductionFaultKind.TheVariants.{Number}
+use Rattle.std.specs.Prelude.{◌≡◌, ◌+◌}
+use Rattle.prost_reflect_reduction.proofs.Common.{nat_eq, nat_lt, true, false, get_or, Some, eq-eqb, ap, ap₂, sym, ◌∙◌, ne_eqb, le-ltb, lt-ltb, FieldTable, field_row, rows_of, schema_field, pair_fault, step_of, Number}
 use Rattle.prost_reflect_reduction.proofs.Noting.{next_below, next_at, step_past, step_one, step_lacking, step_both}
 use Rattle.prost_reflect_reduction.proofs.types.step_over.Goals as goal
 

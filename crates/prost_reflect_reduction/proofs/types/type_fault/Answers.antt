@@ -1,13 +1,5 @@
-use Rattle.std.proofs.Common.{◌≡◌, ◌<◌, List, length, map, Option, ap₂, sym, ◌∙◌, subst, arith}
-use Rattle.std.specs.List.{list_all}
-use Rattle.std.proofs.lemmas.List.{length-map}
-use Rattle.prost_reflect_wire.specs.Schema.{message_type}
-use Rattle.prost_reflect_tables.specs.Linked.{oneof_in_range}
-use Rattle.prost_reflect_tables.specs.declared.tables.FieldTable.{FieldTable}
-use Rattle.prost_reflect_tables.specs.Rows.{FieldRow, field_row, message_row}
-use Rattle.prost_reflect_tables.specs.Schema.{schema_of}
-use Rattle.prost_reflect_reduction.specs.Explaining.{merge_fault, Explains}
-use Rattle.prost_reflect_reduction.specs.Merging.{shown_fields}
+use Rattle.std.specs.Prelude.{◌≡◌, ◌<◌}
+use Rattle.prost_reflect_reduction.proofs.Common.{List, length, map, Option, ap₂, sym, ◌∙◌, subst, arith, list_all, length-map, message_type, oneof_in_range, FieldTable, FieldRow, field_row, message_row, schema_of, merge_fault, Explains, shown_fields}
 use Rattle.prost_reflect_reduction.specs.declared.fault.TypeFault.{TypeFault}
 use Rattle.prost_reflect_reduction.proofs.Noting.{fields_explained, entries_explained, oneofs_linked}
 use Rattle.prost_reflect_reduction.proofs.types.type_fault.Goals as goal

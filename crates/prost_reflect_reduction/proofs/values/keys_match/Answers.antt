@@ -1,9 +1,4 @@
-use Rattle.std.proofs.Common.{ap, ◌∙◌}
-use Rattle.std.specs.Option.{is_none}
-use Rattle.prost_reflect_tables.specs.Rows.{field_row}
-use Rattle.prost_reflect_tables.specs.Schema.{rows_of}
-use Rattle.prost_reflect_tables.specs.Shown.{own_type}
-use Rattle.prost_reflect_reduction.specs.declared.fault.ReductionFaultKind.{ReductionFaultKind}
+use Rattle.prost_reflect_reduction.proofs.Common.{ap, ◌∙◌, is_none, field_row, rows_of, own_type, ReductionFaultKind}
 use Rattle.prost_reflect_reduction.proofs.Explaining.{scalar_kind, keys_none, none_or}
 use Rattle.prost_reflect_reduction.proofs.values.keys_match.Goals as goal
 

@@ -1,6 +1,5 @@
-use Rattle.std.proofs.Common.{◌≡◌, true, false, sym, ◌∙◌, subst}
-use Rattle.prost_reflect_wire.specs.Reduction.{holds}
-use Rattle.prost_reflect_reduction.specs.Walking.{IsSetOf}
+use Rattle.std.specs.Prelude.{◌≡◌}
+use Rattle.prost_reflect_reduction.proofs.Common.{true, false, sym, ◌∙◌, subst, holds, IsSetOf}
 use Rattle.prost_reflect_reduction.proofs.Walking.{set_more, set_is, was_new, was_there, joined_new, joined_there}
 use Rattle.prost_reflect_reduction.proofs.walk.add.Goals as goal
 

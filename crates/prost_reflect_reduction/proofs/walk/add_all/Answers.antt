@@ -1,10 +1,5 @@
-use Rattle.std.proofs.Common.{◌+◌, map, flat_map, drop, ap, sym, ◌∙◌}
-use Rattle.prost_reflect_wire.specs.Schema.{known}
-use Rattle.prost_reflect_tables.specs.Shown.{schema_field}
-use Rattle.prost_reflect_tables.specs.Rows.{field_row}
-use Rattle.prost_reflect_tables.specs.Schema.{rows_of, schema_of}
-use Rattle.prost_reflect_reduction.specs.Reaching.{field_asks}
-use Rattle.prost_reflect_reduction.specs.Walking.{joined, listed}
+use Rattle.std.specs.Prelude.{◌+◌}
+use Rattle.prost_reflect_reduction.proofs.Common.{map, flat_map, drop, ap, sym, ◌∙◌, known, schema_field, field_row, rows_of, schema_of, field_asks, joined, listed}
 use Rattle.prost_reflect_reduction.proofs.Sources.{pair_kept, field_leads}
 use Rattle.prost_reflect_reduction.proofs.Walking.{joined_next, joined_done}
 use Rattle.prost_reflect_reduction.proofs.walk.add_all.Goals as goal

@@ -1,10 +1,5 @@
-use Rattle.std.proofs.Common.{◌≡◌, ℕ, true, map, drop, flat_map}
-use Rattle.prost_reflect_wire.specs.Schema.{known, numbers_differ}
-use Rattle.prost_reflect_tables.specs.Rows.{field_row}
-use Rattle.prost_reflect_tables.specs.Shown.{schema_field}
-use Rattle.prost_reflect_tables.specs.Schema.{rows_of, schema_of}
-use Rattle.prost_reflect_reduction.specs.Reaching.{field_asks}
-use Rattle.prost_reflect_reduction.specs.Walking.{joined, IsSetOf, IsPairAt, AreSources}
+use Rattle.std.specs.Prelude.{◌≡◌}
+use Rattle.prost_reflect_reduction.proofs.Common.{ℕ, true, map, drop, flat_map, known, numbers_differ, field_row, schema_field, rows_of, schema_of, field_asks, joined, IsSetOf, IsPairAt, AreSources}
 use Rattle.prost_reflect_reduction.proofs.walk.add_all.Given as goal
 
 abbrev pub invariant-loop-field : goal.invariant-loop-field

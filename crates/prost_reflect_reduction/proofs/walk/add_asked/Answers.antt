@@ -1,13 +1,7 @@
-use Rattle.std.proofs.Common.{◌≡◌, List, map, flat_map, ap, sym, ◌∙◌, subst}
-use Rattle.std.specs.Prelude.{OnOk}
-use Rattle.prost_reflect_wire.specs.Schema.{known, Field}
-use Rattle.prost_reflect_tables.specs.Shown.{schema_field}
-use Rattle.prost_reflect_tables.specs.Schema.{rows_of, schema_of}
+use Rattle.std.specs.Prelude.{◌≡◌}
+use Rattle.prost_reflect_reduction.proofs.Common.{List, map, flat_map, ap, sym, ◌∙◌, subst, OnOk, known, Field, schema_field, rows_of, schema_of, known_differ, field_asks, joined}
 use Rattle.prost_reflect_tables.proofs.Fields.{known_rows}
 use Rattle.prost_reflect_tables.proofs.Keeping.{schema_is_valid}
-use Rattle.prost_reflect_laws.proofs.Checked.{known_differ}
-use Rattle.prost_reflect_reduction.specs.Reaching.{field_asks}
-use Rattle.prost_reflect_reduction.specs.Walking.{joined}
 use Rattle.prost_reflect_reduction.proofs.Sources.{on_ok}
 use Rattle.prost_reflect_reduction.proofs.walk.add_asked.Goals as goal
 

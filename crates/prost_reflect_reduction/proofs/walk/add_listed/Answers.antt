@@ -1,7 +1,4 @@
-use Rattle.std.proofs.Common.{ℕ, Option, ap, sym, ◌∙◌, subst}
-use Rattle.std.specs.Prelude.{OnOk}
-use Rattle.prost_reflect_wire.specs.Schema.{Schema}
-use Rattle.prost_reflect_reduction.specs.Walking.{joined, listed, LeadsOn, AreSources}
+use Rattle.prost_reflect_reduction.proofs.Common.{ℕ, Option, ap, sym, ◌∙◌, subst, OnOk, Schema, joined, listed, LeadsOn, AreSources}
 use Rattle.prost_reflect_reduction.proofs.Walking.{joined_none}
 use Rattle.prost_reflect_reduction.proofs.walk.add_listed.Goals as goal
 

@@ -1,7 +1,5 @@
-use Rattle.std.proofs.Common.{◌≡◌, ◌<◌, [], ◌∷◌, ℕ, get_or, ap, ◌∙◌, arith, subst}
-use Rattle.std.specs.Prelude.{reverse}
-use Rattle.prost_reflect_reduction.specs.Faults.{pair_at}
-use Rattle.prost_reflect_reduction.specs.Walking.{source_at}
+use Rattle.std.specs.Prelude.{◌≡◌, ◌<◌, ◌∷◌}
+use Rattle.prost_reflect_reduction.proofs.Common.{[], ℕ, get_or, ap, ◌∙◌, arith, subst, reverse, pair_at, source_at}
 use Rattle.prost_reflect_reduction.proofs.Sources.{no_path, path_more, source_before}
 use Rattle.prost_reflect_reduction.proofs.walk.path_to.Goals as goal
 

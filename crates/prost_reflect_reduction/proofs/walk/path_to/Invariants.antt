@@ -1,9 +1,5 @@
-use Rattle.std.proofs.Common.{◌≡◌, ◌<◌, [], ◌∷◌, length, get_or}
-use Rattle.std.specs.Prelude.{reverse}
-use Rattle.prost_reflect_wire.specs.Schema.{Schema}
-use Rattle.prost_reflect_wire.specs.Reduction.{TypePairs}
-use Rattle.prost_reflect_reduction.specs.Faults.{pair_at}
-use Rattle.prost_reflect_reduction.specs.Walking.{AreSources}
+use Rattle.std.specs.Prelude.{◌≡◌, ◌<◌, ◌∷◌}
+use Rattle.prost_reflect_reduction.proofs.Common.{[], length, get_or, reverse, Schema, TypePairs, pair_at, AreSources}
 use Rattle.prost_reflect_reduction.proofs.walk.path_to.Given as goal
 
 abbrev pub invariant-loop-at : goal.invariant-loop-at

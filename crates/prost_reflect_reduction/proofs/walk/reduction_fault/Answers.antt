@@ -1,12 +1,7 @@
-use Rattle.std.proofs.Common.{◌<◌, ◌≤◌, ◌+◌, [], ◌∷◌, List, Option, length, ap, sym, ◌∙◌, subst, arith}
+use Rattle.std.specs.Prelude.{◌<◌, ◌≤◌, ◌+◌, ◌∷◌}
+use Rattle.prost_reflect_reduction.proofs.Common.{[], List, Option, length, ap, sym, ◌∙◌, subst, arith, message_type, rows_of, schema_of, all_pairs, Explains, FaultStands, IsSetOf, Walking, AreSources, AreBefore, joined}
 use Rattle.std.proofs.lemmas.Option.{same_Some}
-use Rattle.prost_reflect_wire.specs.Schema.{message_type}
-use Rattle.prost_reflect_tables.specs.Schema.{rows_of, schema_of}
 use Rattle.prost_reflect_tables.proofs.Keeping.{schema_is_valid}
-use Rattle.prost_reflect_laws.specs.Reducing.{all_pairs}
-use Rattle.prost_reflect_reduction.specs.Explaining.{Explains}
-use Rattle.prost_reflect_reduction.specs.Faults.{FaultStands}
-use Rattle.prost_reflect_reduction.specs.Walking.{IsSetOf, Walking, AreSources, AreBefore, joined}
 use Rattle.prost_reflect_reduction.specs.declared.fault.TypeFault.{TypeFault}
 use Rattle.prost_reflect_reduction.specs.declared.walk.Source.{Source}
 use Rattle.prost_reflect_reduction.proofs.Enums.{no_pairs}

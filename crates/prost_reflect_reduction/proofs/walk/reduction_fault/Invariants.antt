@@ -1,8 +1,5 @@
-use Rattle.std.proofs.Common.{◌-◌, length}
-use Rattle.prost_reflect_tables.specs.Schema.{rows_of, schema_of}
-use Rattle.prost_reflect_laws.specs.Reducing.{all_pairs}
-use Rattle.prost_reflect_reduction.specs.Kinds.{AreSameEnums}
-use Rattle.prost_reflect_reduction.specs.Walking.{IsSetOf, Walking, IsPairAt, AreSources}
+use Rattle.std.specs.Prelude.{◌-◌}
+use Rattle.prost_reflect_reduction.proofs.Common.{length, rows_of, schema_of, all_pairs, AreSameEnums, IsSetOf, Walking, IsPairAt, AreSources}
 use Rattle.prost_reflect_reduction.proofs.walk.reduction_fault.Given as goal
 
 abbrev pub invariant-loop-next : goal.invariant-loop-next
