@@ -1,22 +1,8 @@
 -- The built-in files pass all checks.
-use Rattle.std.proofs.Common.{◌≡◌, ℕ, nat_eq, Bool, false, not, ◌||◌, length, List, [], ◌∷◌, ◌++◌, is_none, string_bytes, refl, sym, ap, ◌∙◌, subst}
-use Rattle.std.specs.Prelude.{bytes_eq, codes}
-use Rattle.std.specs.List.{list_any}
-use Rattle.prost_reflect_types.specs.declared.FileDescriptorProto.{FileDescriptorProto}
-use Rattle.prost_reflect_types.specs.declared.FieldDescriptorProto.{FieldDescriptorProto}
-use Rattle.prost_reflect_tables.specs.declared.error.PoolError.{PoolError}
+use Rattle.std.specs.Prelude.{◌≡◌, ◌||◌, ◌∷◌, ◌++◌}
+use Rattle.prost_reflect_pool.proofs.Common.{ℕ, nat_eq, Bool, false, not, length, List, [], is_none, string_bytes, refl, sym, ap, ◌∙◌, subst, bytes_eq, codes, list_any, FileDescriptorProto, FieldDescriptorProto, PoolError, DefinitionRow, FlatMessageRow, file_scope, flattened, links_of, any_field, is_unnamed, message_unnamed, syntax_unknown, unknown_syntax, is_outside, import_outside, has_oneof_outside, number_bad, bad_number, message_range_bad, type_missing, missing_type, label_bad, bad_label, repeated_member, bad_oneof, names_of, repeats, duplicate_name, name_place, file_names, dependency_missing, missing_dependency, type_unknown, unknown_type, number_repeats, duplicate_number, option_bad, bad_options, entry_bad, wrongly_of_entry, bad_map_entry, has_fault, Checked, added, IsPoolOf, RefusesFiles, files_of, LinkedPool, scalar_names, IsScalarFile, AreBuiltin}
 use Rattle.prost_reflect_tables.specs.declared.error.PoolError.TheVariants as pool_errors
-use Rattle.prost_reflect_tables.specs.Flat.{DefinitionRow, FlatMessageRow, file_scope, flattened}
-use Rattle.prost_reflect_tables.specs.Linking.{links_of}
-use Rattle.prost_reflect_tables.specs.Faults.{any_field, is_unnamed, message_unnamed, syntax_unknown, unknown_syntax, is_outside, import_outside, has_oneof_outside, number_bad, bad_number, message_range_bad, type_missing, missing_type, label_bad, bad_label, repeated_member, bad_oneof, names_of, repeats, duplicate_name, name_place, file_names, dependency_missing, missing_dependency, type_unknown, unknown_type, number_repeats, duplicate_number}
-use Rattle.prost_reflect_tables.specs.OptionFaults.{option_bad, bad_options}
-use Rattle.prost_reflect_tables.specs.EntryFaults.{entry_bad, wrongly_of_entry, bad_map_entry}
 use Rattle.prost_reflect_tables.specs.DefaultFaults.{default_bad, bad_default, float_default_bad, float_default}
-use Rattle.prost_reflect_tables.specs.Checked.{has_fault, Checked}
-use Rattle.prost_reflect_tables.specs.Adding.{added}
-use Rattle.prost_reflect_pool.specs.Pools.{IsPoolOf, RefusesFiles, files_of}
-use Rattle.prost_reflect_pool.specs.declared.pool.LinkedPool.{LinkedPool}
-use Rattle.prost_reflect_pool.specs.BuiltinFiles.{scalar_names, IsScalarFile, AreBuiltin}
 use Rattle.prost_reflect_pool.proofs.BuiltinFields.{Gives, number_given, type_given, label_given, member_given, options_given, unknown_given, entry_given, default_given, float_given}
 use Rattle.prost_reflect_pool.proofs.BuiltinMessages.{IsScalarRow, own_scalar, fields_given, message_named, no_oneof_outside, no_range_bad, no_option_bad, no_entry_bad, names_given, numbers_given}
 use Rattle.prost_reflect_pool.proofs.BuiltinLinks.{two, both_added, both_given}

@@ -1,9 +1,6 @@
 -- What holds of the built-in rows and of the schema that they give, by computing.
-use Rattle.std.proofs.Common.{◌≡◌, true, map, refl, ap, ◌∙◌}
-use Rattle.std.specs.Str.{is_utf8, chars}
-use Rattle.prost_reflect_wire.specs.Schema.{schema_valid}
-use Rattle.prost_reflect_tables.specs.Linked.{is_linked}
-use Rattle.prost_reflect_tables.specs.Rows.{MessageRow, TableRows}
+use Rattle.std.specs.Prelude.{◌≡◌}
+use Rattle.prost_reflect_pool.proofs.Common.{true, map, refl, ap, ◌∙◌, is_utf8, chars, schema_valid, is_linked, MessageRow, TableRows}
 use Rattle.prost_reflect_tables.specs.Shown.{schema_from}
 use Rattle.prost_reflect_pool.specs.Builtin.{builtin_schema, builtin_names}
 use Rattle.prost_reflect_pool.specs.BuiltinRows.{builtin_messages, builtin_rows}

@@ -1,18 +1,7 @@
 -- The fields of the built-in files, and what the checks ask of each.
-use Rattle.std.proofs.Common.{◌≡◌, ℕ, ◌+◌, pos, nat_eq, Bool, true, false, not, ◌&&◌, ◌||◌, length, List, [], ◌∷◌, map, Option, Some, None, String, string_bytes, Vec, refl, ap}
-use Rattle.std.specs.Prelude.{option_map}
-use Rattle.std.specs.List.{AllZip}
-use Rattle.std.specs.declared.alloc.Global.{Global}
-use Rattle.std.proofs.lemmas.Bool.{and_right, or_from}
-use Rattle.prost_reflect_types.specs.declared.FieldDescriptorProto.{FieldDescriptorProto}
-use Rattle.prost_reflect_tables.specs.Names.{text_or_empty, joined}
-use Rattle.prost_reflect_tables.specs.Flat.{ScopeRow, DefinitionRow, FlatRows, defined_from, field_name}
-use Rattle.prost_reflect_tables.specs.Linking.{Links}
-use Rattle.prost_reflect_tables.specs.Faults.{is_unnamed, is_field_number, number_bad, is_type, is_code, is_message_type, is_enum_type, has_repeated_label, type_missing, label_bad, repeated_member, type_unknown}
-use Rattle.prost_reflect_tables.specs.OptionFaults.{option_bad}
-use Rattle.prost_reflect_tables.specs.EntryFaults.{names_entry, is_of_entry, wrongly_of_entry}
+use Rattle.std.specs.Prelude.{◌≡◌, ◌+◌, ◌&&◌, ◌||◌, ◌∷◌}
+use Rattle.prost_reflect_pool.proofs.Common.{ℕ, pos, nat_eq, Bool, true, false, not, length, List, [], map, Option, Some, None, String, string_bytes, Vec, refl, ap, option_map, AllZip, Global, and_right, or_from, FieldDescriptorProto, text_or_empty, joined, ScopeRow, DefinitionRow, FlatRows, defined_from, field_name, Links, is_unnamed, is_field_number, number_bad, is_type, is_code, is_message_type, is_enum_type, has_repeated_label, type_missing, label_bad, repeated_member, type_unknown, option_bad, names_entry, is_of_entry, wrongly_of_entry, FieldView, field_view, scalar_view}
 use Rattle.prost_reflect_tables.specs.DefaultFaults.{is_float_type, default_bad, float_default_bad}
-use Rattle.prost_reflect_pool.specs.BuiltinFiles.{FieldView, field_view, scalar_view}
 
 -- TEXTS AND BYTES
 

@@ -1,28 +1,12 @@
 -- The built-in files, linked.
-use Rattle.std.proofs.Common.{◌≡◌, ℕ, ◌+◌, pos, Bool, true, false, not, ◌||◌, ◌&&◌, nat_eq, length, List, [], ◌∷◌, ◌++◌, map, Option, Some, None, Vec, refl, sym, ap, ap₂, ◌∙◌, subst}
-use Rattle.std.specs.Prelude.{unwrap_or, bytes_eq, codes}
-use Rattle.std.specs.List.{list_any}
-use Rattle.std.specs.declared.alloc.Global.{Global}
-use Rattle.prost_reflect_types.specs.declared.FileDescriptorProto.{FileDescriptorProto}
-use Rattle.prost_reflect_types.specs.declared.FieldDescriptorProto.{FieldDescriptorProto}
+use Rattle.std.specs.Prelude.{◌≡◌, ◌+◌, ◌||◌, ◌&&◌, ◌∷◌, ◌++◌}
+use Rattle.prost_reflect_pool.proofs.Common.{ℕ, pos, Bool, true, false, not, nat_eq, length, List, [], map, Option, Some, None, Vec, refl, sym, ap, ap₂, ◌∙◌, subst, unwrap_or, bytes_eq, codes, list_any, Global, FileDescriptorProto, FieldDescriptorProto, DescriptorProto, out-DescriptorProto, IdentityRow, FieldRow, MessageRow, text_or_empty, joined, ScopeRow, DefinitionRow, FlatMessageRow, FlatRows, Given, Placed, all_from, inside, own_message, enums_from, services_from, defined, defined_from, field_name, oneof_name, message_step, message_at, is_proto3, file_scope, file_at, behind, files_from, flattened, Links, links_of, kind_of_code, is_message, is_group_code, place_or_first, linked_identity, linked_field, in_order, declared_fields, oneofs_from, linked_message, linked_rows, is_named, is_there, added, taken, none_added, linked_of, IsPoolOf, pool_rows, files_of, LinkedPool, field_view, scalar_view, scalar_names, IsScalarMessage, IsScalarFile, AreBuiltin}
 use Rattle.prost_reflect_types.specs.declared.OneofDescriptorProto.{OneofDescriptorProto}
 use Rattle.prost_reflect_types.specs.declared.EnumDescriptorProto.{EnumDescriptorProto}
 use Rattle.prost_reflect_types.specs.declared.ServiceDescriptorProto.{ServiceDescriptorProto}
-use Rattle.prost_reflect_types.specs.declared.DescriptorProto.{DescriptorProto}
-use Rattle.prost_reflect_types.specs.declared.DescriptorProto.TheViews.{out-DescriptorProto}
 use Rattle.prost_reflect_types.specs.declared.DescriptorProto.TheFolds.{fold_out-DescriptorProto}
 use Rattle.prost_reflect_tables.specs.declared.tables.Cardinality.TheVariants.{Optional}
-use Rattle.prost_reflect_tables.specs.Rows.{IdentityRow, FieldRow, MessageRow}
-use Rattle.prost_reflect_tables.specs.Names.{text_or_empty, joined}
-use Rattle.prost_reflect_tables.specs.Flat.{ScopeRow, DefinitionRow, FlatMessageRow, FlatRows, Given, Placed, all_from, inside, own_message, enums_from, services_from, defined, defined_from, field_name, oneof_name, message_step, message_at, is_proto3, file_scope, file_at, behind, files_from, flattened}
 use Rattle.prost_reflect_tables.specs.Options.{bool_option}
-use Rattle.prost_reflect_tables.specs.Linking.{Links, links_of, kind_of_code, is_message, is_group_code, place_or_first, linked_identity, linked_field, in_order, declared_fields, oneofs_from, linked_message, linked_rows}
-use Rattle.prost_reflect_tables.specs.Adding.{is_named, is_there, added}
-use Rattle.prost_reflect_tables.proofs.Adding.{taken, none_added}
-use Rattle.prost_reflect_tables.proofs.Built.{linked_of}
-use Rattle.prost_reflect_pool.specs.Pools.{IsPoolOf, pool_rows, files_of}
-use Rattle.prost_reflect_pool.specs.declared.pool.LinkedPool.{LinkedPool}
-use Rattle.prost_reflect_pool.specs.BuiltinFiles.{field_view, scalar_view, scalar_names, IsScalarMessage, IsScalarFile, AreBuiltin}
 use Rattle.prost_reflect_pool.specs.BuiltinRows.{message_id, scalar_rows, scalar_message_row, builtin_messages, builtin_rows}
 use Rattle.prost_reflect_pool.proofs.BuiltinFields.{is_scalar}
 

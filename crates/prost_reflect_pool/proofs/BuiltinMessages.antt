@@ -1,18 +1,8 @@
 -- The messages of the built-in files, and what the checks ask of each.
-use Rattle.std.proofs.Common.{◌≡◌, ℕ, pos, nat_eq, Bool, false, not, ◌&&◌, ◌||◌, length, List, [], map, None, refl, ap, ◌∙◌, subst}
-use Rattle.std.specs.Prelude.{unwrap_or, codes}
-use Rattle.std.specs.List.{AllZip, list_any}
-use Rattle.prost_reflect_types.specs.declared.FieldDescriptorProto.{FieldDescriptorProto}
-use Rattle.prost_reflect_types.specs.declared.DescriptorProto.{DescriptorProto}
-use Rattle.prost_reflect_types.specs.declared.DescriptorProto.TheViews.{out-DescriptorProto}
-use Rattle.prost_reflect_tables.specs.Names.{text_or_empty, joined}
-use Rattle.prost_reflect_tables.specs.Flat.{ScopeRow, DefinitionRow, FlatMessageRow, inside, defined_from, oneof_name}
+use Rattle.std.specs.Prelude.{◌≡◌, ◌&&◌, ◌||◌}
+use Rattle.prost_reflect_pool.proofs.Common.{ℕ, pos, nat_eq, Bool, false, not, length, List, [], map, None, refl, ap, ◌∙◌, subst, unwrap_or, codes, AllZip, list_any, FieldDescriptorProto, DescriptorProto, out-DescriptorProto, text_or_empty, joined, ScopeRow, DefinitionRow, FlatMessageRow, inside, defined_from, oneof_name, is_unnamed, message_unnamed, oneof_outside, has_oneof_outside, range_bad, message_range_bad, numbered_fields, names_of, option_bad, is_entry, is_key_and_value, entry_bad, scalar_names, IsScalarMessage}
 use Rattle.prost_reflect_tables.specs.Options.{bool_option}
-use Rattle.prost_reflect_tables.specs.Faults.{is_unnamed, message_unnamed, oneof_outside, has_oneof_outside, range_bad, message_range_bad, numbered_fields, names_of}
-use Rattle.prost_reflect_tables.specs.OptionFaults.{option_bad}
-use Rattle.prost_reflect_tables.specs.EntryFaults.{is_entry, is_key_and_value, entry_bad}
 use Rattle.prost_reflect_tables.proofs.SameRows.{zip_any, zip_maps}
-use Rattle.prost_reflect_pool.specs.BuiltinFiles.{scalar_names, IsScalarMessage}
 use Rattle.prost_reflect_pool.proofs.BuiltinFields.{IsScalarIn, all_scalar, Gives, unnamed_given}
 use Rattle.prost_reflect_pool.proofs.BuiltinLinks.{own}
 

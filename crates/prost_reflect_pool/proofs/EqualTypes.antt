@@ -1,15 +1,10 @@
 -- Shared pools whose files hold the same have the same tables.
-use Rattle.std.proofs.Common.{◌≡◌, Bool, true, false, ◌&&◌, refl, sym, ◌∙◌}
-use Rattle.std.specs.declared.alloc.Global.{Global}
-use Rattle.std.specs.declared.rc.Rc.{Rc}
+use Rattle.std.specs.Prelude.{◌≡◌, ◌&&◌}
+use Rattle.prost_reflect_pool.proofs.Common.{Bool, true, false, refl, sym, ◌∙◌, Global, Rc, linked_of, contents_eq, contents_decide, contents_of, LinkedPool}
 use Rattle.prost_reflect_tables.specs.Equality.{rows_eq, rows_decide}
-use Rattle.prost_reflect_tables.proofs.Built.{linked_of}
 use Rattle.prost_reflect_tables.proofs.EqualFiles.{equal_tables}
-use Rattle.prost_reflect_pool.specs.PoolEquality.{contents_eq, contents_decide}
 use Rattle.prost_reflect_pool.specs.Pools as pools
-use Rattle.prost_reflect_pool.specs.Pools.{contents_of}
 use Rattle.prost_reflect_pool.specs.SharedPools.{pool_rows, pool_contents}
-use Rattle.prost_reflect_pool.specs.declared.pool.LinkedPool.{LinkedPool}
 
 pub rows_of_same : (a b : LinkedPool) → pools.pool_contents a ≡ pools.pool_contents b → pools.pool_rows a ≡ pools.pool_rows b
 unfolding contents_of

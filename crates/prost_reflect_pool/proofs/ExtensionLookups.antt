@@ -1,32 +1,12 @@
 -- What is found of the extensions of a message type, by their numbers and their names.
-use Rattle.std.proofs.Common.{◌≡◌, ◌≢◌, ℕ, zero, suc, ◌+◌, ◌<◌, ◌==◌, Bool, true, false, cond, List, [], ◌∷◌, ◌++◌, length, Option, Some, None, refl, sym, ap, ◌∙◌, arith, unwrap_or, true≢false}
-use Rattle.std.specs.Prelude.{slice_get, find}
+use Rattle.std.specs.Prelude.{◌≡◌, ◌≢◌, ◌+◌, ◌<◌, ◌==◌, ◌∷◌, ◌++◌}
+use Rattle.prost_reflect_pool.proofs.Common.{ℕ, zero, suc, Bool, true, false, cond, List, [], length, Option, Some, None, refl, sym, ap, ◌∙◌, arith, unwrap_or, true≢false, slice_get, find, position_from, bytes_eq, false_from_ne_true, append_cancel_right, same_Some, slice_get_within, FieldDescriptorProto, passes, ExtensionRow, DefinitionRow, FlatRows, flattened, places_from, linked_extension, links_of, is_place, extended_place, linked_field, linked_rows, bracketed, fields_at, place_of, row_of, FieldRow, TableRows, marked_extension, fields_ascend, full_name_or_empty, extension_name, extension_place, extension_where, files_of, pool_rows, pool_catalog, LinkedPool}
 use Rattle.std.specs.Bool.{one_answer}
 use Rattle.std.specs.Cmp.{unsigned_Decides}
-use Rattle.std.specs.List.{position_from}
-use Rattle.std.specs.Str.{bytes_eq}
-use Rattle.std.proofs.lemmas.Bool.{false_from_ne_true}
 use Rattle.std.proofs.lemmas.Iterator.Adapters.{position_from-zero}
-use Rattle.std.proofs.lemmas.List.{append_cancel_right}
-use Rattle.std.proofs.lemmas.Option.{same_Some, slice_get_within}
 use Rattle.std.proofs.lemmas.Slice.Eq.{bytes_eq-Decides}
-use Rattle.prost_reflect_types.specs.declared.FieldDescriptorProto.{FieldDescriptorProto}
-use Rattle.prost_reflect_wire.specs.Schema.{passes}
-use Rattle.prost_reflect_tables.specs.CatalogRows.{ExtensionRow}
-use Rattle.prost_reflect_tables.specs.Flat.{DefinitionRow, FlatRows, flattened}
-use Rattle.prost_reflect_tables.specs.Gathered.{places_from}
-use Rattle.prost_reflect_tables.specs.LinkedCatalog.{linked_extension}
-use Rattle.prost_reflect_tables.specs.Linking.{links_of, is_place, extended_place, linked_field, linked_rows}
-use Rattle.prost_reflect_tables.specs.Names.{bracketed}
-use Rattle.prost_reflect_tables.specs.Places.{fields_at, place_of, row_of}
-use Rattle.prost_reflect_tables.specs.Rows.{FieldRow, TableRows}
 use Rattle.prost_reflect_tables.proofs.Ascending.{place_found}
-use Rattle.prost_reflect_tables.proofs.CatalogLinks.{marked_extension}
-use Rattle.prost_reflect_tables.proofs.Keeping.{fields_ascend}
 use Rattle.prost_reflect_pool.specs.Listed.{extension_row_at}
-use Rattle.prost_reflect_pool.specs.Lookups.{full_name_or_empty, extension_name, extension_place, extension_where}
-use Rattle.prost_reflect_pool.specs.Pools.{files_of, pool_rows, pool_catalog}
-use Rattle.prost_reflect_pool.specs.declared.pool.LinkedPool.{LinkedPool}
 use Rattle.prost_reflect_pool.proofs.InCatalog.{linked_name}
 use Rattle.prost_reflect_pool.proofs.PoolLinks.{extension_of}
 use Rattle.prost_reflect_pool.proofs.ExtensionPlaces.{Extends, found_at, place_at, extending_at, extension_row, row_stands, is_place_same, extension_from}

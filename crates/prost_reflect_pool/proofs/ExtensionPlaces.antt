@@ -1,23 +1,7 @@
 -- The descriptors of a message type's numbers: each extension among its rows stands in the catalog as one that extends it.
-use Rattle.std.proofs.Common.{◌≡◌, ℕ, zero, suc, ◌+◌, ◌==◌, Bool, true, false, cond, List, [], ◌∷◌, ◌++◌, map, Option, Some, None, refl, sym, ap, subst, ◌∙◌, unwrap_or, true≢false, arith}
-use Rattle.std.specs.Option.{option_map, option_and_then, is_some}
-use Rattle.std.specs.Prelude.{slice_get, find, filter, nat_le}
-use Rattle.std.proofs.lemmas.Bool.{eqb-true}
-use Rattle.std.proofs.lemmas.Option.{same_Some, slice_get-map}
-use Rattle.prost_reflect_types.specs.declared.FieldDescriptorProto.{FieldDescriptorProto}
-use Rattle.prost_reflect_wire.specs.Schema.{passes}
-use Rattle.prost_reflect_tables.specs.CatalogRows.{ExtensionRow, CatalogRows}
-use Rattle.prost_reflect_tables.specs.Flat.{DefinitionRow, FlatMessageRow, FlatRows, flattened}
-use Rattle.prost_reflect_tables.specs.Gathered.{places_from}
-use Rattle.prost_reflect_tables.specs.LinkedCatalog.{IsCatalogOf, each_from, linked_lists, linked_extension, linked_catalog}
-use Rattle.prost_reflect_tables.specs.Linking.{Links, links_of, is_place, extended_place, belonging, linked_field, declared_fields, fields_of_message, messages_from, put_in_order, in_order, linked_rows}
-use Rattle.prost_reflect_tables.specs.Places.{fields_at, fields_or_none, row_of}
-use Rattle.prost_reflect_tables.specs.Rows.{FieldRow, MessageRow, TableRows}
-use Rattle.prost_reflect_tables.proofs.CatalogLinks.{HasRow, mapped_at, fields_shown, ExtensionThere}
+use Rattle.std.specs.Prelude.{◌≡◌, ◌+◌, ◌==◌, ◌∷◌, ◌++◌}
+use Rattle.prost_reflect_pool.proofs.Common.{ℕ, zero, suc, Bool, true, false, cond, List, [], map, Option, Some, None, refl, sym, ap, subst, ◌∙◌, unwrap_or, true≢false, arith, option_map, option_and_then, is_some, slice_get, find, filter, nat_le, eqb-true, same_Some, slice_get-map, FieldDescriptorProto, passes, ExtensionRow, CatalogRows, DefinitionRow, FlatMessageRow, FlatRows, flattened, places_from, IsCatalogOf, each_from, linked_lists, linked_extension, linked_catalog, Links, links_of, is_place, extended_place, belonging, linked_field, declared_fields, fields_of_message, messages_from, put_in_order, in_order, linked_rows, fields_at, fields_or_none, row_of, FieldRow, MessageRow, TableRows, HasRow, mapped_at, fields_shown, ExtensionThere, extending_or_none, extension_where, files_of, pool_rows, pool_catalog, LinkedPool}
 use Rattle.prost_reflect_pool.specs.Listed.{extension_row_at}
-use Rattle.prost_reflect_pool.specs.Lookups.{extending_or_none, extension_where}
-use Rattle.prost_reflect_pool.specs.Pools.{files_of, pool_rows, pool_catalog}
-use Rattle.prost_reflect_pool.specs.declared.pool.LinkedPool.{LinkedPool}
 use Rattle.prost_reflect_pool.proofs.PoolLinks.{extension_of}
 
 -- ITEMS

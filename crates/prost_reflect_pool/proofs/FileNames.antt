@@ -1,13 +1,8 @@
 -- No two files of a pool have one name, so all of them are taken where they are added to none.
-use Rattle.std.proofs.Common.{◌≡◌, Bool, true, false, not, ◌&&◌, ◌||◌, List, [], ◌∷◌, ◌++◌, filter, length, nat_eq, refl, ap, ap₂, ◌∙◌}
-use Rattle.std.specs.Str.{bytes_eq}
-use Rattle.std.specs.List.{AllZip, list_any}
-use Rattle.std.proofs.lemmas.Bool.{and_parts, not-true}
-use Rattle.prost_reflect_types.specs.declared.FileDescriptorProto.{FileDescriptorProto}
+use Rattle.std.specs.Prelude.{◌≡◌, ◌&&◌, ◌||◌, ◌∷◌, ◌++◌}
+use Rattle.prost_reflect_pool.proofs.Common.{Bool, true, false, not, List, [], filter, length, nat_eq, refl, ap, ap₂, ◌∙◌, bytes_eq, AllZip, list_any, and_parts, not-true, FileDescriptorProto, have_one_name, first_of_name, is_there, added, names_differ}
 use Rattle.prost_reflect_types.proofs.EqualContents.{SameFile}
-use Rattle.prost_reflect_tables.specs.Adding.{have_one_name, first_of_name, is_there, added}
 use Rattle.prost_reflect_tables.proofs.SameRows.{zip_any, text_same}
-use Rattle.prost_reflect_pool.specs.FileNames.{names_differ}
 
 pub none_differ : names_differ [] ≡ true
 unfolding names_differ

@@ -1,26 +1,8 @@
 -- What the catalog of linked tables puts in order, by the rows of the tables.
-use Rattle.std.proofs.Common.{◌≡◌, ℕ, zero, suc, ◌+◌, ◌<◌, ◌≤◌, true, List, [], ◌∷◌, map, length, get_or, Option, Some, None, refl, sym, ap, subst, ◌∙◌, arith}
-use Rattle.std.specs.Prelude.{slice_get, unwrap_or, option_map}
-use Rattle.std.proofs.lemmas.Option.{same_Some, slice_get-map, slice_get-get_or, slice_get_past}
-use Rattle.prost_reflect_types.specs.declared.FileDescriptorProto.{FileDescriptorProto}
-use Rattle.prost_reflect_types.specs.declared.FieldDescriptorProto.{FieldDescriptorProto}
+use Rattle.std.specs.Prelude.{◌≡◌, ◌+◌, ◌<◌, ◌≤◌, ◌∷◌}
+use Rattle.prost_reflect_pool.proofs.Common.{ℕ, zero, suc, true, List, [], map, length, get_or, Option, Some, None, refl, sym, ap, subst, ◌∙◌, arith, slice_get, unwrap_or, option_map, same_Some, slice_get-map, slice_get-get_or, slice_get_past, FileDescriptorProto, FieldDescriptorProto, FieldRow, MessageRow, EnumRow, EnumValueRow, TableRows, DefinitionRow, FlatMessageRow, FlatEnumRow, flattened, text_or_empty, file_names, message_names, enum_names, Links, links_of, linked_message, messages_from, linked_field, linked_value, linked_enum, value_number, linked_rows, MessageListsRow, EnumListsRow, ServiceRow, CatalogRows, catalog_row, IsCatalogOf, each_from, linked_lists, enum_lists, linked_extension, linked_service, value_names, field_names, json_names, own_fields, ordered, is_linked, text_at, number_at, by_text, by_number, all_places, fields_or_none, fields_at, values_or_none, values_at, full_name_or_empty, extension_name, extension_there, ℤ, pos}
 use Rattle.prost_reflect_tables.specs.declared.catalog.Catalog.{Catalog}
-use Rattle.prost_reflect_tables.specs.Rows.{FieldRow, MessageRow, EnumRow, EnumValueRow, TableRows}
-use Rattle.prost_reflect_tables.specs.Flat.{DefinitionRow, FlatMessageRow, FlatEnumRow, flattened}
-use Rattle.prost_reflect_tables.specs.Names.{text_or_empty}
-use Rattle.prost_reflect_tables.specs.Faults.{file_names, message_names, enum_names}
-use Rattle.prost_reflect_tables.specs.Linking.{Links, links_of, linked_message, messages_from, linked_field, linked_value, linked_enum, value_number, linked_rows}
-use Rattle.prost_reflect_tables.specs.CatalogRows.{MessageListsRow, EnumListsRow, ServiceRow, CatalogRows, catalog_row}
-use Rattle.prost_reflect_tables.specs.LinkedCatalog.{IsCatalogOf, each_from, linked_lists, enum_lists, linked_extension, linked_service, value_names, field_names, json_names, own_fields, ordered}
 use Rattle.prost_reflect_tables.specs.Built.{AreTablesOf}
-use Rattle.prost_reflect_tables.specs.Linked.{is_linked}
-use Rattle.prost_reflect_tables.specs.Orders.{text_at, number_at, by_text, by_number}
-use Rattle.prost_reflect_tables.specs.Gathered.{all_places}
-use Rattle.prost_reflect_tables.specs.Places.{fields_or_none, fields_at}
-use Rattle.prost_reflect_pool.specs.Enums.{values_or_none, values_at}
-use Rattle.prost_reflect_pool.specs.Lookups.{full_name_or_empty, extension_name}
-use Rattle.prost_reflect_tables.proofs.CatalogLinks.{extension_there}
-use Rattle.std.specs.Prelude.{ℤ, pos}
 
 -- TEXTS OF ROWS
 

@@ -1,20 +1,12 @@
 -- What is first among places in order is first among them as they stand.
-use Rattle.std.proofs.Common.{◌≡◌, ℕ, zero, suc, ◌+◌, ◌<◌, ◌≤◌, ℤ, pos, Bool, true, false, cond, ◌&&◌, List, [], ◌∷◌, map, length, get_or, Option, Some, refl, sym, ap, subst, ◌∙◌, arith, true≢false}
-use Rattle.std.specs.Prelude.{find, position, slice_get, unwrap_or, option_map}
-use Rattle.std.specs.Str.{bytes_eq}
-use Rattle.std.specs.Ordering.{is_lt, is_eq, ordering_index, ordering_reverse, nat_cmp, int_cmp, int_eq}
+use Rattle.std.specs.Prelude.{◌≡◌, ◌+◌, ◌<◌, ◌≤◌, ◌&&◌, ◌∷◌}
+use Rattle.prost_reflect_pool.proofs.Common.{ℕ, zero, suc, ℤ, pos, Bool, true, false, cond, List, [], map, length, get_or, Option, Some, refl, sym, ap, subst, ◌∙◌, arith, true≢false, find, position, slice_get, unwrap_or, option_map, bytes_eq, is_lt, is_eq, ordering_index, ordering_reverse, nat_cmp, int_cmp, int_eq, Ordering, position_from, IsNonDecreasingBy, slice_get-map, places_from, places_where, all_places, put_by, sorted_by, text_at, by_text, number_at, by_number}
 use Rattle.std.specs.Cmp.{IsTotalOrder}
 use Rattle.std.specs.Cmp.Lexicographic.{slice_cmp}
-use Rattle.std.specs.declared.cmp.Ordering.{Ordering}
 use Rattle.std.specs.declared.cmp.Ordering.TheVariants.{Less, Equal, Greater}
-use Rattle.std.specs.List.{position_from}
-use Rattle.std.specs.List.Sorted.{IsNonDecreasingBy}
 use Rattle.std.proofs.lemmas.Cmp.{nat_list_cmp_total, int_cmp_total}
 use Rattle.std.proofs.lemmas.Map.Text.{is_eq-slice_cmp}
-use Rattle.std.proofs.lemmas.Option.{slice_get-map}
 use Rattle.std.proofs.lemmas.Iterator.Adapters.{position_from-zero}
-use Rattle.prost_reflect_tables.specs.Gathered.{places_from, places_where, all_places}
-use Rattle.prost_reflect_tables.specs.Orders.{put_by, sorted_by, text_at, by_text, number_at, by_number}
 
 -- THE FIRST THAT PASSES
 

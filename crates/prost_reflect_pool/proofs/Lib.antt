@@ -1,3 +1,4 @@
+mod Common
 mod PathWalks
 mod RecordPaths
 mod NamedRecords

@@ -1,23 +1,7 @@
 -- What stands at a place of a pool has its record in the pool's files.
-use Rattle.std.proofs.Common.{◌≡◌, ℕ, ◌+◌, Bool, true, false, List, [], ◌∷◌, map, Option, None, Some, refl, sym, ◌∙◌, subst}
-use Rattle.std.specs.Prelude.{slice_get}
-use Rattle.std.specs.List.{All}
-use Rattle.std.proofs.lemmas.List.Elements.{All-nil, All-cons, All-head, All-tail, All-append, All-map, All-filter, All-weaker}
-use Rattle.prost_reflect_types.specs.declared.FieldDescriptorProto.{FieldDescriptorProto}
+use Rattle.std.specs.Prelude.{◌≡◌, ◌+◌, ◌∷◌}
+use Rattle.prost_reflect_pool.proofs.Common.{ℕ, Bool, true, false, List, [], map, Option, None, Some, refl, sym, ◌∙◌, subst, slice_get, All, All-nil, All-cons, All-head, All-tail, All-append, All-map, All-filter, All-weaker, FieldDescriptorProto, FileDescriptorProto, FieldRow, OneofRow, MessageRow, EnumValueRow, EnumRow, TableRows, MethodRow, ServiceRow, CatalogRows, DefinitionRow, FlatMessageRow, FlatEnumRow, FlatServiceRow, flattened, Links, links_of, belonging, linked_field, in_order, extended_place, fields_of_message, declared_fields, linked_oneof, oneof_place, oneofs_from, linked_message, messages_from, linked_value, linked_enum, linked_method, linked_service, IsCatalogOf, fields_at, fields_or_none, linked_of, in_order_all, holds_at, values_at, values_or_none, files_of, pool_rows, pool_catalog, AnyRecord, MessageRecord, FieldRecord, OneofRecord, EnumRecord, ValueRecord, ServiceRecord, MethodRecord, record_of, record_in, oneofs_at, oneofs_or_none, methods_at, methods_or_none, Found, LinkedPool}
 use Rattle.prost_reflect_types.specs.declared.OneofDescriptorProto.{OneofDescriptorProto}
-use Rattle.prost_reflect_types.specs.declared.FileDescriptorProto.{FileDescriptorProto}
-use Rattle.prost_reflect_tables.specs.Rows.{FieldRow, OneofRow, MessageRow, EnumValueRow, EnumRow, TableRows}
-use Rattle.prost_reflect_tables.specs.CatalogRows.{MethodRow, ServiceRow, CatalogRows}
-use Rattle.prost_reflect_tables.specs.Flat.{DefinitionRow, FlatMessageRow, FlatEnumRow, FlatServiceRow, flattened}
-use Rattle.prost_reflect_tables.specs.Linking.{Links, links_of, belonging, linked_field, in_order, extended_place, fields_of_message, declared_fields, linked_oneof, oneof_place, oneofs_from, linked_message, messages_from, linked_value, linked_enum}
-use Rattle.prost_reflect_tables.specs.LinkedCatalog.{linked_method, linked_service, IsCatalogOf}
-use Rattle.prost_reflect_tables.specs.Places.{fields_at, fields_or_none}
-use Rattle.prost_reflect_tables.proofs.Built.{linked_of}
-use Rattle.prost_reflect_tables.proofs.CatalogRanges.{in_order_all, holds_at}
-use Rattle.prost_reflect_pool.specs.Enums.{values_at, values_or_none}
-use Rattle.prost_reflect_pool.specs.Pools.{files_of, pool_rows, pool_catalog}
-use Rattle.prost_reflect_pool.specs.RecordPaths.{AnyRecord, MessageRecord, FieldRecord, OneofRecord, EnumRecord, ValueRecord, ServiceRecord, MethodRecord, record_of, record_in, oneofs_at, oneofs_or_none, methods_at, methods_or_none, Found}
-use Rattle.prost_reflect_pool.specs.declared.pool.LinkedPool.{LinkedPool}
 use Rattle.prost_reflect_pool.proofs.RecordPaths.{led, Named, NamedMessage, NamedEnum, NamedService, flattened_named}
 
 -- DEFINITIONS

@@ -1,5 +1,6 @@
 -- The tables without rows are linked, and the catalog without rows is that of no files.
-use Rattle.std.proofs.Common.{◌≡◌, true, List, [], refl}
+use Rattle.std.specs.Prelude.{◌≡◌}
+use Rattle.prost_reflect_pool.proofs.Common.{true, List, [], refl, ℕ, Vec, Global, IsCatalogOf, is_linked, rows_from}
 use Rattle.prost_reflect_tables.specs.declared.tables.MessageTable.{MessageTable}
 use Rattle.prost_reflect_tables.specs.declared.tables.EnumTable.{EnumTable}
 use Rattle.prost_reflect_tables.specs.declared.catalog.FileTable.{FileTable}
@@ -7,11 +8,6 @@ use Rattle.prost_reflect_tables.specs.declared.catalog.MessageLists.{MessageList
 use Rattle.prost_reflect_tables.specs.declared.catalog.EnumLists.{EnumLists}
 use Rattle.prost_reflect_tables.specs.declared.catalog.ExtensionTable.{ExtensionTable}
 use Rattle.prost_reflect_tables.specs.declared.catalog.ServiceTable.{ServiceTable}
-use Rattle.std.specs.Prelude.{ℕ, Vec}
-use Rattle.std.specs.declared.alloc.Global.{Global}
-use Rattle.prost_reflect_tables.specs.LinkedCatalog.{IsCatalogOf}
-use Rattle.prost_reflect_tables.specs.Linked.{is_linked}
-use Rattle.prost_reflect_tables.specs.Rows.{rows_from}
 use Rattle.prost_reflect_tables.specs.Shown.{schema_from}
 
 pub none_linked : (messages : List MessageTable) (enums : List EnumTable) → messages ≡ [] → enums ≡ [] → is_linked (rows_from messages enums) ≡ true

@@ -1,15 +1,10 @@
 -- What the bytes of one file add, and why they add nothing.
-use Rattle.std.proofs.Common.{◌≡◌, ℕ, List, [], ◌∷◌, Some, sym, true≢false}
+use Rattle.std.specs.Prelude.{◌≡◌, ◌∷◌}
+use Rattle.prost_reflect_pool.proofs.Common.{ℕ, List, [], Some, sym, true≢false, of_file, FileDescriptorProto, added, PoolError, IsPoolOf, IsPoolOfBytes, RefusesFiles, Refuses, LinkedPool}
 use Rattle.prost_reflect_wire.specs.Grammar.{LEVEL_LIMIT}
 use Rattle.prost_reflect_types.specs.DescriptorMeaning.{record_decoded}
-use Rattle.prost_reflect_types.specs.DescriptorViews.{of_file}
-use Rattle.prost_reflect_types.specs.declared.FileDescriptorProto.{FileDescriptorProto}
 use Rattle.prost_reflect_types.specs.declared.table.RecordType.TheVariants as types
-use Rattle.prost_reflect_tables.specs.Adding.{added}
-use Rattle.prost_reflect_tables.specs.declared.error.PoolError.{PoolError}
 use Rattle.prost_reflect_tables.specs.declared.error.PoolError.TheVariants as errors
-use Rattle.prost_reflect_pool.specs.Pools.{IsPoolOf, IsPoolOfBytes, RefusesFiles, Refuses}
-use Rattle.prost_reflect_pool.specs.declared.pool.LinkedPool.{LinkedPool}
 
 abbrev IsRead : List ℕ → FileDescriptorProto → Type 0
 IsRead bytes f = record_decoded LEVEL_LIMIT types.File bytes ≡ Some (of_file f)

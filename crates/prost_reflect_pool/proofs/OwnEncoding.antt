@@ -1,29 +1,20 @@
 -- Of bytes that mean a pool's files an equal pool is made, unless memory runs out.
-use Rattle.std.proofs.Common.{◌≡◌, ◌≤◌, ℕ, List, [], ◌∷◌, map, Some, Ok, refl, sym, ap, subst, ◌∙◌}
+use Rattle.std.specs.Prelude.{◌≡◌, ◌≤◌, ◌∷◌}
+use Rattle.prost_reflect_pool.proofs.Common.{ℕ, List, [], map, Some, Ok, refl, sym, ap, subst, ◌∙◌, AllZip, of_file, of_files, of_records, FileDescriptorProto, added, Checked, flattened, PoolError, checked_of, files_of, pool_rows, contents_of, pool_contents, Reads, IsPoolOfBytes, RefusesRead, Refuses, MakesAgain, LinkedPool}
 use Rattle.std.specs.Bool.{⊤}
-use Rattle.std.specs.List.{AllZip}
 use Rattle.prost_reflect_wire.specs.Varint.{AreBytes}
 use Rattle.prost_reflect_wire.specs.Grammar.{LEVEL_LIMIT}
 use Rattle.prost_reflect_wire.specs.Content.{Content, entries_of}
 use Rattle.prost_reflect_wire.specs.Levels.{levels}
 use Rattle.prost_reflect_wire.specs.Writing.{encoded}
-use Rattle.prost_reflect_types.specs.DescriptorViews.{of_file, of_files, of_records}
-use Rattle.prost_reflect_types.specs.declared.FileDescriptorProto.{FileDescriptorProto}
 use Rattle.prost_reflect_types.specs.declared.table.RecordType.TheVariants as types
 use Rattle.prost_reflect_types.proofs.EqualContents.{SameFile, file_same, zip_same}
 use Rattle.prost_reflect_types.proofs.NestedRecords.{ok_accepts}
 use Rattle.prost_reflect_types.proofs.SameFields.{records_same}
 use Rattle.prost_reflect_types.proofs.SameRecords.{each_same}
-use Rattle.prost_reflect_tables.specs.Adding.{added}
-use Rattle.prost_reflect_tables.specs.Checked.{Checked}
 use Rattle.prost_reflect_tables.specs.FileLaws.{SameContents}
-use Rattle.prost_reflect_tables.specs.Flat.{flattened}
-use Rattle.prost_reflect_tables.specs.declared.error.PoolError.{PoolError}
 use Rattle.prost_reflect_tables.specs.declared.error.PoolError.TheVariants as errors
-use Rattle.prost_reflect_tables.proofs.Built.{checked_of}
 use Rattle.prost_reflect_tables.proofs.EqualFiles.{equal_checks}
-use Rattle.prost_reflect_pool.specs.Pools.{files_of, pool_rows, contents_of, pool_contents, Reads, IsPoolOfBytes, RefusesRead, Refuses, MakesAgain}
-use Rattle.prost_reflect_pool.specs.declared.pool.LinkedPool.{LinkedPool}
 use Rattle.prost_reflect_pool.proofs.FileNames.{all_taken, differ_same}
 
 -- THE FILES THAT BYTES MEAN

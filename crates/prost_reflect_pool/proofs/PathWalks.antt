@@ -1,12 +1,8 @@
 -- How a path is walked.
-use Rattle.std.proofs.Common.{◌≡◌, ℕ, ◌-◌, ◌≤◌, ℤ, pos, List, [], ◌∷◌, length, get_or, take, drop, Option, None, Some, refl, sym, ap, ap₂, ◌∙◌, arith, length-drop}
+use Rattle.std.specs.Prelude.{◌≡◌, ◌-◌, ◌≤◌, ◌∷◌}
+use Rattle.prost_reflect_pool.proofs.Common.{ℕ, ℤ, pos, List, [], length, get_or, take, drop, Option, None, Some, refl, sym, ap, ap₂, ◌∙◌, arith, length-drop, option_map, take_all, slice_get_past, FileDescriptorProto, AnyRecord, FileRecord, member, record_below, record_in}
 use mir.Syntax.{w32}
 use mir.Val.{to_z, of_z}
-use Rattle.std.specs.Option.{option_map}
-use Rattle.std.proofs.lemmas.List.{take_all}
-use Rattle.std.proofs.lemmas.Option.{slice_get_past}
-use Rattle.prost_reflect_types.specs.declared.FileDescriptorProto.{FileDescriptorProto}
-use Rattle.prost_reflect_pool.specs.RecordPaths.{AnyRecord, FileRecord, member, record_below, record_in}
 
 pub below_none : (path : List ℤ) → record_below None path ≡ None
 below_none [] = refl

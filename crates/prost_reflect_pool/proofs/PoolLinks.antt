@@ -1,21 +1,9 @@
 -- What the catalog of a pool names is there.
-use Rattle.std.proofs.Common.{◌≡◌, ◌<◌, ℕ, true, List, Option, None, Some, length, map, get_or, refl, sym, ap, ◌∙◌, subst, arith, slice_get, option_map}
-use Rattle.std.specs.List.{All, list_all}
-use Rattle.std.proofs.lemmas.List.{length-map}
-use Rattle.std.proofs.lemmas.Option.{same_Some, slice_get-get_or, slice_get-map, slice_get_read, get_or_from_slice_get}
-use Rattle.prost_reflect_tables.specs.CatalogRows.{FileRow, ExtensionRow, method_table_row, service_table_row}
-use Rattle.prost_reflect_tables.specs.Linking.{links_of, linked_field}
-use Rattle.prost_reflect_tables.specs.Flat.{flattened}
-use Rattle.prost_reflect_tables.specs.Places.{fields_at, fields_or_none, is_declared_at}
-use Rattle.prost_reflect_tables.specs.Rows.{FieldRow, OneofRow, MessageRow}
+use Rattle.std.specs.Prelude.{◌≡◌, ◌<◌}
+use Rattle.prost_reflect_pool.proofs.Common.{ℕ, true, List, Option, None, Some, length, map, get_or, refl, sym, ap, ◌∙◌, subst, arith, slice_get, option_map, All, list_all, length-map, same_Some, slice_get-get_or, slice_get-map, slice_get_read, get_or_from_slice_get, FileRow, ExtensionRow, method_table_row, service_table_row, links_of, linked_field, flattened, fields_at, fields_or_none, is_declared_at, FieldRow, OneofRow, MessageRow, passes_at, ExtensionThere, extension_there, marked_extension, MethodThere, methods_there, ImportsThere, imports_there, files_of, pool_rows, pool_catalog, oneofs_at, oneofs_or_none, LinkedPool}
 use Rattle.prost_reflect_tables.specs.declared.catalog.MethodTable.{MethodTable}
 use Rattle.prost_reflect_tables.specs.declared.catalog.ServiceTable.{ServiceTable}
-use Rattle.prost_reflect_tables.proofs.Keeping.{passes_at}
 use Rattle.prost_reflect_tables.proofs.DeclaredFields.{members_declared, oneof_members}
-use Rattle.prost_reflect_tables.proofs.CatalogLinks.{ExtensionThere, extension_there, marked_extension, MethodThere, methods_there, ImportsThere, imports_there}
-use Rattle.prost_reflect_pool.specs.Pools.{files_of, pool_rows, pool_catalog}
-use Rattle.prost_reflect_pool.specs.RecordPaths.{oneofs_at, oneofs_or_none}
-use Rattle.prost_reflect_pool.specs.declared.pool.LinkedPool.{LinkedPool}
 
 -- The row of an item that was read.
 pub row_read : {X Y : Type 0} (v : X → Y) (xs : List X) (i : ℕ) (x : X) → i < length (map v xs) → x ≡ get_or xs i x → slice_get (map v xs) i ≡ Some (v x)

@@ -1,19 +1,11 @@
 -- What stands at a place of a pool names places that are there.
-use Rattle.std.proofs.Common.{◌≡◌, ℕ, zero, suc, ◌<◌, List, [], ◌∷◌, map, length, get_or, Option, None, Some, option_map, refl, ap, ◌∙◌, arith}
-use Rattle.std.specs.Prelude.{slice_get}
-use Rattle.std.proofs.lemmas.List.{length-map}
-use Rattle.std.proofs.lemmas.Option.{slice_get_read, slice_get-map}
+use Rattle.std.specs.Prelude.{◌≡◌, ◌<◌, ◌∷◌}
+use Rattle.prost_reflect_pool.proofs.Common.{ℕ, zero, suc, List, [], map, length, get_or, Option, None, Some, option_map, refl, ap, ◌∙◌, arith, slice_get, length-map, slice_get_read, slice_get-map, EnumRow, message_row, enum_row, file_table_row, message_lists_row, enum_lists_row, CatalogWithin, IdentityWithin, MessageRowWithin, EnumRowWithin, FileRowWithin, ListsWithin, EnumListsWithin, holds_at, catalog_within, values_at, values_or_none, files_of, pool_rows, pool_catalog, LinkedPool}
 use Rattle.prost_reflect_tables.specs.declared.tables.MessageTable.{MessageTable}
 use Rattle.prost_reflect_tables.specs.declared.tables.EnumTable.{EnumTable}
 use Rattle.prost_reflect_tables.specs.declared.catalog.FileTable.{FileTable}
 use Rattle.prost_reflect_tables.specs.declared.catalog.MessageLists.{MessageLists}
 use Rattle.prost_reflect_tables.specs.declared.catalog.EnumLists.{EnumLists}
-use Rattle.prost_reflect_tables.specs.Rows.{EnumRow, message_row, enum_row}
-use Rattle.prost_reflect_tables.specs.CatalogRows.{file_table_row, message_lists_row, enum_lists_row}
-use Rattle.prost_reflect_tables.proofs.CatalogRanges.{CatalogWithin, IdentityWithin, MessageRowWithin, EnumRowWithin, FileRowWithin, ListsWithin, EnumListsWithin, holds_at, catalog_within}
-use Rattle.prost_reflect_pool.specs.Enums.{values_at, values_or_none}
-use Rattle.prost_reflect_pool.specs.Pools.{files_of, pool_rows, pool_catalog}
-use Rattle.prost_reflect_pool.specs.declared.pool.LinkedPool.{LinkedPool}
 
 pub pool_within : (pool : LinkedPool) → CatalogWithin (files_of pool) (pool_rows pool) (pool_catalog pool)
 pool_within pool = catalog_within (files_of pool) (pool_rows pool) pool.catalog pool.built pool.listed

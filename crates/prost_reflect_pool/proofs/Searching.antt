@@ -1,10 +1,7 @@
 -- What a binary search finds among places that compare in their order with what is looked for.
-use Rattle.std.proofs.Common.{◌≡◌, ℕ, zero, suc, ◌+◌, ◌<◌, ◌≤◌, Bool, true, false, cond, List, [], ◌∷◌, length, get_or, drop, Some, None, refl, sym, ap, ◌∙◌, arith, true≢false, drop-cons, add-one}
-use Rattle.std.specs.Prelude.{find}
-use Rattle.std.specs.Ordering.{is_lt, is_eq, ordering_index}
-use Rattle.std.specs.declared.cmp.Ordering.{Ordering}
+use Rattle.std.specs.Prelude.{◌≡◌, ◌+◌, ◌<◌, ◌≤◌, ◌∷◌}
+use Rattle.prost_reflect_pool.proofs.Common.{ℕ, zero, suc, Bool, true, false, cond, List, [], length, get_or, drop, Some, None, refl, sym, ap, ◌∙◌, arith, true≢false, drop-cons, add-one, find, is_lt, is_eq, ordering_index, Ordering, IsNonDecreasingBy}
 use Rattle.std.specs.declared.cmp.Ordering.TheVariants.{Less, Equal, Greater}
-use Rattle.std.specs.List.Sorted.{IsNonDecreasingBy}
 
 -- What stands before low compares as less, and what stands from high on does not.
 pub record Between (o : ℕ → Ordering) (xs : List ℕ) (low high : ℕ) : Type 0 where

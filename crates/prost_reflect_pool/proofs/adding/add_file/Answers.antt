@@ -1,10 +1,5 @@
-use Rattle.std.proofs.Common.{◌≡◌, ◌++◌, ◌∷◌, [], true, false, ap, sym, ◌∙◌}
-use Rattle.std.proofs.lemmas.List.{map-append}
-use Rattle.std.proofs.lemmas.Bool.{not-true, not-false}
-use Rattle.prost_reflect_types.specs.DescriptorViews.{shared_files}
-use Rattle.prost_reflect_tables.specs.Adding.{is_there, added}
-use Rattle.prost_reflect_tables.proofs.Adding.{skipped, taken, names_stay}
-use Rattle.prost_reflect_pool.specs.FileNames.{names_differ}
+use Rattle.std.specs.Prelude.{◌≡◌, ◌++◌, ◌∷◌}
+use Rattle.prost_reflect_pool.proofs.Common.{[], true, false, ap, sym, ◌∙◌, map-append, not-true, not-false, shared_files, is_there, added, skipped, taken, names_stay, names_differ}
 use Rattle.prost_reflect_pool.proofs.FileNames.{differ_more}
 use Rattle.prost_reflect_pool.proofs.adding.add_file.Goals as goal
 

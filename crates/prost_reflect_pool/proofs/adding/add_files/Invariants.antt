@@ -1,9 +1,6 @@
-use Rattle.std.proofs.Common.{◌≡◌}
-use Rattle.std.specs.Prelude.{IsTrue}
+use Rattle.std.specs.Prelude.{◌≡◌}
+use Rattle.prost_reflect_pool.proofs.Common.{IsTrue, shared_files, added, AreNamesOf, names_differ}
 use Rattle.std.specs.Vec.Iter.{into_iter_items}
-use Rattle.prost_reflect_types.specs.DescriptorViews.{shared_files}
-use Rattle.prost_reflect_tables.specs.Adding.{added, AreNamesOf}
-use Rattle.prost_reflect_pool.specs.FileNames.{names_differ}
 use Rattle.prost_reflect_pool.proofs.adding.add_files.Given as goal
 
 abbrev pub invariant-loop-file : goal.invariant-loop-file

@@ -1,8 +1,6 @@
-use Rattle.std.proofs.Common.{◌≡◌, not, true, false, length, nat_eq, string_bytes, ap, sym, ◌∙◌}
+use Rattle.std.specs.Prelude.{◌≡◌}
+use Rattle.prost_reflect_pool.proofs.Common.{not, true, false, length, nat_eq, string_bytes, ap, sym, ◌∙◌, text_or_empty, is_unnamed, unnamed_new, name_new, name_more, no_length}
 use Rattle.std.proofs.lemmas.Map.Text.{btree_set_updates_text}
-use Rattle.prost_reflect_tables.specs.Names.{text_or_empty}
-use Rattle.prost_reflect_tables.specs.Faults.{is_unnamed}
-use Rattle.prost_reflect_tables.proofs.Adding.{unnamed_new, name_new, name_more, no_length}
 use Rattle.prost_reflect_pool.proofs.adding.add_name.Goals as goal
 
 pub returns-then-is_empty-clause-new : goal.returns-then-is_empty-clause-new

@@ -1,5 +1,5 @@
-use Rattle.std.proofs.Common.{◌≡◌, ◌++◌, drop}
-use Rattle.prost_reflect_types.specs.DescriptorViews.{shared_files}
+use Rattle.std.specs.Prelude.{◌≡◌, ◌++◌}
+use Rattle.prost_reflect_pool.proofs.Common.{drop, shared_files}
 use Rattle.prost_reflect_pool.proofs.adding.shared.Given as goal
 
 abbrev pub invariant-loop-file : goal.invariant-loop-file

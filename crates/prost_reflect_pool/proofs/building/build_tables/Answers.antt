@@ -1,11 +1,8 @@
-use Rattle.std.proofs.Common.{◌≡◌, true, ap, sym, ◌∙◌}
-use Rattle.prost_reflect_tables.specs.Rows.{rows_from}
+use Rattle.std.specs.Prelude.{◌≡◌}
+use Rattle.prost_reflect_pool.proofs.Common.{true, ap, sym, ◌∙◌, rows_from, linked_rows, is_linked, are_tables_of}
 use Rattle.prost_reflect_tables.specs.FlatViews.{flat_rows, file_list}
-use Rattle.prost_reflect_tables.specs.Linking.{linked_rows}
-use Rattle.prost_reflect_tables.specs.Linked.{is_linked}
 use Rattle.prost_reflect_tables.specs.InRange.{in_range}
 use Rattle.prost_reflect_tables.proofs.LinksWell.{links_well}
-use Rattle.prost_reflect_tables.proofs.Built.{are_tables_of}
 use Rattle.prost_reflect_tables.proofs.CatalogParts.{is_catalog_of}
 use Rattle.prost_reflect_pool.proofs.building.build_tables.Goals as goal
 

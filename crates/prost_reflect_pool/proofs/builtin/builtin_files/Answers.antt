@@ -1,4 +1,5 @@
-use Rattle.std.proofs.Common.{◌++◌, ◌∷◌, [], ap, ◌∙◌}
+use Rattle.std.specs.Prelude.{◌++◌, ◌∷◌}
+use Rattle.prost_reflect_pool.proofs.Common.{[], ap, ◌∙◌}
 use Rattle.prost_reflect_pool.proofs.builtin.builtin_files.Goals as goal
 
 pub returns : goal.returns

@@ -1,5 +1,5 @@
-use Rattle.std.proofs.Common.{◌≡◌, ◌++◌, map, drop}
-use Rattle.prost_reflect_pool.specs.BuiltinFiles.{field_view, scalar_view}
+use Rattle.std.specs.Prelude.{◌≡◌, ◌++◌}
+use Rattle.prost_reflect_pool.proofs.Common.{map, drop, field_view, scalar_view}
 use Rattle.prost_reflect_pool.proofs.builtin.scalar_fields.Given as goal
 
 abbrev pub invariant-loop-code : goal.invariant-loop-code

@@ -1,4 +1,5 @@
-use Rattle.std.proofs.Common.{◌++◌, ◌∷◌, [], refl, ap, ◌∙◌}
+use Rattle.std.specs.Prelude.{◌++◌, ◌∷◌}
+use Rattle.prost_reflect_pool.proofs.Common.{[], refl, ap, ◌∙◌}
 use Rattle.prost_reflect_pool.proofs.builtin.scalar_file.Goals as goal
 
 pub returns : goal.returns

@@ -1,8 +1,5 @@
-use Rattle.std.proofs.Common.{Some, None, refl, sym, subst}
-use Rattle.prost_reflect_types.specs.declared.DescriptorProto.{DescriptorProto}
+use Rattle.prost_reflect_pool.proofs.Common.{Some, None, refl, sym, subst, DescriptorProto, out-roll-DescriptorProto, scalar_names, HasScalars}
 use Rattle.prost_reflect_types.specs.declared.DescriptorProto.TheOpen.{DescriptorProto-F}
-use Rattle.prost_reflect_types.specs.declared.DescriptorProto.TheViews.{out-roll-DescriptorProto}
-use Rattle.prost_reflect_pool.specs.BuiltinFiles.{scalar_names, HasScalars}
 use Rattle.prost_reflect_pool.proofs.builtin.scalar_message.Goals as goal
 
 pub returns : goal.returns

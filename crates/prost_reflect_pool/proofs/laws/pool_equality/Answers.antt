@@ -1,5 +1,4 @@
-use Rattle.prost_reflect_pool.specs.Pools.{contents_of, pool_contents}
-use Rattle.prost_reflect_pool.specs.PoolEquality.{contents_decide}
+use Rattle.prost_reflect_pool.proofs.Common.{contents_of, pool_contents, contents_decide}
 use Rattle.prost_reflect_pool.proofs.EqualTypes.{rows_of_same}
 use Rattle.prost_reflect_pool.proofs.laws.pool_equality.Goals as goal
 

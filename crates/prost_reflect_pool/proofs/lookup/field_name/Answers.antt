@@ -1,5 +1,4 @@
-use Rattle.std.proofs.Common.{rules, refl, ◌∙◌}
-use Rattle.prost_reflect_tables.specs.Rows.{FieldRow, field_row}
+use Rattle.prost_reflect_pool.proofs.Common.{rules, refl, ◌∙◌, FieldRow, field_row}
 use Rattle.prost_reflect_pool.proofs.InCatalog.{text_there, no_text}
 use Rattle.prost_reflect_pool.proofs.lookup.field_name.Goals as goal
 

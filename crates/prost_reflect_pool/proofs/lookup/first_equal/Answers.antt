@@ -1,5 +1,5 @@
-use Rattle.std.proofs.Common.{◌≡◌, ◌+◌, ◌-◌, ◌/◌, get_or, arith, rules, refl, sym, ap, ◌∙◌}
-use Rattle.std.specs.Ordering.{is_lt, is_eq}
+use Rattle.std.specs.Prelude.{◌≡◌, ◌+◌, ◌-◌, ◌/◌}
+use Rattle.prost_reflect_pool.proofs.Common.{get_or, arith, rules, refl, sym, ap, ◌∙◌, is_lt, is_eq}
 use Rattle.std.proofs.lemmas.Fn.{says_at}
 use Rattle.prost_reflect_pool.proofs.Searching.{upper_half, lower_half, found, differs, past_all}
 use Rattle.prost_reflect_pool.proofs.lookup.first_equal.Goals as goal

@@ -1,7 +1,5 @@
-use Rattle.std.proofs.Common.{ℕ, ◌-◌, ◌≤◌, length}
-use Rattle.std.specs.Ordering.{ordering_index}
-use Rattle.std.specs.declared.cmp.Ordering.{Ordering}
-use Rattle.std.specs.List.Sorted.{IsNonDecreasingBy}
+use Rattle.std.specs.Prelude.{◌-◌, ◌≤◌}
+use Rattle.prost_reflect_pool.proofs.Common.{ℕ, length, ordering_index, Ordering, IsNonDecreasingBy}
 use Rattle.prost_reflect_tables.specs.Walks.{Computes}
 use Rattle.prost_reflect_pool.proofs.Searching.{Between}
 use Rattle.prost_reflect_pool.proofs.lookup.first_equal.Given as goal

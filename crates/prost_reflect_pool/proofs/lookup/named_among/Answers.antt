@@ -1,5 +1,4 @@
-use Rattle.std.proofs.Common.{rules, map, not}
-use Rattle.prost_reflect_tables.specs.Rows.{FieldRow, field_row}
+use Rattle.prost_reflect_pool.proofs.Common.{rules, map, not, FieldRow, field_row}
 use Rattle.prost_reflect_pool.proofs.InOrder.{text_found, text_order}
 use Rattle.prost_reflect_pool.proofs.lookup.named_among.Goals as goal
 

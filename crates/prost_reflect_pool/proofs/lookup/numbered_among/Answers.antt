@@ -1,5 +1,4 @@
-use Rattle.std.proofs.Common.{rules, map}
-use Rattle.prost_reflect_tables.specs.Rows.{enum_value_row}
+use Rattle.prost_reflect_pool.proofs.Common.{rules, map, enum_value_row}
 use Rattle.prost_reflect_pool.proofs.InOrder.{numbered_found, number_order}
 use Rattle.prost_reflect_pool.proofs.InCatalog.{number_of}
 use Rattle.prost_reflect_pool.proofs.lookup.numbered_among.Goals as goal

@@ -1,5 +1,4 @@
-use Rattle.std.proofs.Common.{rules, refl, ◌∙◌}
-use Rattle.prost_reflect_tables.specs.Rows.{enum_value_row}
+use Rattle.prost_reflect_pool.proofs.Common.{rules, refl, ◌∙◌, enum_value_row}
 use Rattle.prost_reflect_pool.proofs.InCatalog.{value_name, text_there, no_text}
 use Rattle.prost_reflect_pool.proofs.lookup.value_name.Goals as goal
 

@@ -1,5 +1,4 @@
-use Rattle.std.proofs.Common.{rules, map}
-use Rattle.prost_reflect_tables.specs.Rows.{EnumValueRow, enum_value_row}
+use Rattle.prost_reflect_pool.proofs.Common.{rules, map, EnumValueRow, enum_value_row}
 use Rattle.prost_reflect_pool.proofs.InOrder.{named_found, text_order}
 use Rattle.prost_reflect_pool.proofs.lookup.value_named_among.Goals as goal
 

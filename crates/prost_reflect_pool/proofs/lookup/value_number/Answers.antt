@@ -1,6 +1,5 @@
-use Rattle.std.proofs.Common.{◌≡◌, ◌∙◌, rules, w32, to_z, of_z}
-use Rattle.std.proofs.Math.Facts.{to_z-of_z}
-use Rattle.prost_reflect_tables.specs.Rows.{enum_value_row}
+use Rattle.std.specs.Prelude.{◌≡◌}
+use Rattle.prost_reflect_pool.proofs.Common.{◌∙◌, rules, w32, to_z, of_z, to_z-of_z, enum_value_row}
 use Rattle.prost_reflect_pool.proofs.InCatalog.{number_of, number_there, no_number}
 use Rattle.prost_reflect_pool.proofs.lookup.value_number.Goals as goal
 

@@ -1,5 +1,4 @@
-use Rattle.std.proofs.Common.{rules}
-use Rattle.std.proofs.Math.Facts.{to_z-of_z}
+use Rattle.prost_reflect_pool.proofs.Common.{rules, to_z-of_z}
 use Rattle.prost_reflect_pool.specs.RecordViews.{record_view}
 use Rattle.prost_reflect_pool.proofs.PathWalks.{walked_on, walked_off}
 use Rattle.prost_reflect_pool.proofs.records.+record_below.Goals as goal

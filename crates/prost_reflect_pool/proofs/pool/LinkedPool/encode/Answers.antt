@@ -1,8 +1,6 @@
-use Rattle.std.proofs.Common.{◌≡◌, ap}
+use Rattle.std.specs.Prelude.{◌≡◌}
+use Rattle.prost_reflect_pool.proofs.Common.{ap, shared_files, checked_of, files_of, pool_rows}
 use Rattle.std.proofs.lemmas.Result.{on_ok_weaker}
-use Rattle.prost_reflect_types.specs.DescriptorViews.{shared_files}
-use Rattle.prost_reflect_tables.proofs.Built.{checked_of}
-use Rattle.prost_reflect_pool.specs.Pools.{files_of, pool_rows}
 use Rattle.prost_reflect_pool.proofs.OwnEncoding.{written_again}
 use Rattle.prost_reflect_pool.proofs.pool.LinkedPool.encode.Goals as goal
 

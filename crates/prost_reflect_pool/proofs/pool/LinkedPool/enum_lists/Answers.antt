@@ -1,4 +1,4 @@
-use Rattle.std.proofs.Common.{arith}
+use Rattle.prost_reflect_pool.proofs.Common.{arith}
 use Rattle.prost_reflect_pool.proofs.PoolRanges.{enum_listed, enum_lists_at, enum_lists_within}
 use Rattle.prost_reflect_pool.proofs.pool.LinkedPool.enum_lists.Goals as goal
 

@@ -1,5 +1,4 @@
-use Rattle.std.proofs.Common.{rules, ◌∙◌}
-use Rattle.prost_reflect_tables.specs.Rows.{enum_row}
+use Rattle.prost_reflect_pool.proofs.Common.{rules, ◌∙◌, enum_row}
 use Rattle.prost_reflect_pool.proofs.InCatalog.{enum_name, text_there, no_text}
 use Rattle.prost_reflect_pool.proofs.pool.LinkedPool.enum_name.Goals as goal
 

@@ -1,5 +1,4 @@
-use Rattle.std.proofs.Common.{rules, map, ◌∙◌}
-use Rattle.prost_reflect_pool.specs.Pools.{pool_rows, files_of}
+use Rattle.prost_reflect_pool.proofs.Common.{rules, map, ◌∙◌, pool_rows, files_of}
 use Rattle.prost_reflect_pool.proofs.InOrder.{named_found, text_order}
 use Rattle.prost_reflect_pool.proofs.InCatalog.{enum_name, enum_order}
 use Rattle.prost_reflect_pool.proofs.pool.LinkedPool.enum_place.Goals as goal

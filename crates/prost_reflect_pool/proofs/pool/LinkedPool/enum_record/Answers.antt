@@ -1,5 +1,4 @@
-use Rattle.prost_reflect_tables.specs.Rows.{enum_row}
-use Rattle.prost_reflect_pool.specs.RecordPaths.{EnumRecord}
+use Rattle.prost_reflect_pool.proofs.Common.{enum_row, EnumRecord}
 use Rattle.prost_reflect_pool.proofs.NamedRecords.{enum_there, found_too}
 use Rattle.prost_reflect_pool.proofs.pool.LinkedPool.enum_record.Goals as goal
 

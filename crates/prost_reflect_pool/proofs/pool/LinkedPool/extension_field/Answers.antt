@@ -1,11 +1,5 @@
-use Rattle.std.proofs.Common.{◌≡◌, Some, length, slice_get}
-use Rattle.prost_reflect_tables.specs.CatalogRows.{extension_table_row}
-use Rattle.prost_reflect_tables.specs.Places.{fields_at}
-use Rattle.prost_reflect_tables.specs.Rows.{field_row}
-use Rattle.prost_reflect_tables.proofs.Keeping.{field_keeps}
-use Rattle.prost_reflect_pool.specs.Pools.{pool_rows}
-use Rattle.prost_reflect_tables.proofs.CatalogRanges.{field_within}
-use Rattle.prost_reflect_pool.specs.Pools.{files_of}
+use Rattle.std.specs.Prelude.{◌≡◌}
+use Rattle.prost_reflect_pool.proofs.Common.{Some, length, slice_get, extension_table_row, fields_at, field_row, field_keeps, pool_rows, field_within, files_of}
 use Rattle.prost_reflect_pool.proofs.PoolRanges.{pool_within}
 use Rattle.prost_reflect_pool.proofs.PoolLinks.{row_in, extension_marked}
 use Rattle.prost_reflect_pool.proofs.pool.LinkedPool.extension_field.Goals as goal

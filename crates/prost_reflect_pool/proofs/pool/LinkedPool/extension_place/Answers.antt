@@ -1,6 +1,4 @@
-use Rattle.std.proofs.Common.{rules, map, ◌∙◌}
-use Rattle.prost_reflect_pool.specs.Lookups.{extension_name}
-use Rattle.prost_reflect_pool.specs.Pools.{pool_rows, pool_catalog, files_of}
+use Rattle.prost_reflect_pool.proofs.Common.{rules, map, ◌∙◌, extension_name, pool_rows, pool_catalog, files_of}
 use Rattle.prost_reflect_pool.proofs.InOrder.{named_found, text_order}
 use Rattle.prost_reflect_pool.proofs.InCatalog.{extension_order}
 use Rattle.prost_reflect_pool.proofs.pool.LinkedPool.extension_place.Goals as goal

@@ -1,4 +1,5 @@
-use Rattle.std.proofs.Common.{◌≡◌, None, rules, sym}
+use Rattle.std.specs.Prelude.{◌≡◌}
+use Rattle.prost_reflect_pool.proofs.Common.{None, rules, sym}
 use Rattle.prost_reflect_pool.proofs.ExtensionLookups.{named_here, named_elsewhere, named_nowhere}
 use Rattle.prost_reflect_pool.proofs.pool.LinkedPool.extension_place_by_full_name.Goals as goal
 

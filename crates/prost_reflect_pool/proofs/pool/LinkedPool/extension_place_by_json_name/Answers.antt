@@ -1,5 +1,5 @@
-use Rattle.std.proofs.Common.{◌≡◌, ℕ, List, ◌∷◌, [], ◌++◌, None, rules, sym, ap, ◌∙◌}
-use Rattle.prost_reflect_tables.specs.Names.{bracketed}
+use Rattle.std.specs.Prelude.{◌≡◌, ◌∷◌, ◌++◌}
+use Rattle.prost_reflect_pool.proofs.Common.{ℕ, List, [], None, rules, sym, ap, ◌∙◌, bracketed}
 use Rattle.prost_reflect_pool.proofs.ExtensionLookups.{bracketed_found, unbracketed, behind_bracket}
 use Rattle.prost_reflect_pool.proofs.pool.LinkedPool.extension_place_by_json_name.Goals as goal
 

@@ -1,7 +1,5 @@
-use Rattle.std.proofs.Common.{◌≡◌, ℕ, List, None, rules, sym, ap, ◌∙◌}
-use Rattle.std.specs.Str.{bytes_eq}
-use Rattle.prost_reflect_tables.specs.Rows.{field_row}
-use Rattle.prost_reflect_pool.specs.Lookups.{extension_where}
+use Rattle.std.specs.Prelude.{◌≡◌}
+use Rattle.prost_reflect_pool.proofs.Common.{ℕ, List, None, rules, sym, ap, ◌∙◌, bytes_eq, field_row, extension_where}
 use Rattle.prost_reflect_pool.proofs.ExtensionLookups.{number_named, number_of_field, number_nowhere}
 use Rattle.prost_reflect_pool.proofs.pool.LinkedPool.extension_place_by_number.Goals as goal
 

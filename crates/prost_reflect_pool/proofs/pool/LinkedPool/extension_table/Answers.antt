@@ -1,7 +1,4 @@
-use Rattle.std.proofs.lemmas.Option.{slice_get_within}
-use Rattle.prost_reflect_tables.specs.CatalogRows.{extension_table_row}
-use Rattle.prost_reflect_tables.specs.Places.{fields_at}
-use Rattle.prost_reflect_pool.specs.Pools.{pool_rows}
+use Rattle.prost_reflect_pool.proofs.Common.{slice_get_within, extension_table_row, fields_at, pool_rows}
 use Rattle.prost_reflect_pool.proofs.PoolLinks.{row_read, extension_of}
 use Rattle.prost_reflect_pool.proofs.pool.LinkedPool.extension_table.Goals as goal
 

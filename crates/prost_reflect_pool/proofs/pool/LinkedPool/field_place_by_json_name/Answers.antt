@@ -1,8 +1,4 @@
-use Rattle.std.proofs.Common.{List, ap, sym, ◌∙◌}
-use Rattle.prost_reflect_tables.specs.LinkedCatalog.{json_names, own_fields}
-use Rattle.prost_reflect_tables.specs.Orders.{by_text}
-use Rattle.prost_reflect_tables.specs.Rows.{FieldRow}
-use Rattle.prost_reflect_pool.specs.Pools.{pool_rows, files_of}
+use Rattle.prost_reflect_pool.proofs.Common.{List, ap, sym, ◌∙◌, json_names, own_fields, by_text, FieldRow, pool_rows, files_of}
 use Rattle.prost_reflect_pool.proofs.InCatalog.{lists_order}
 use Rattle.prost_reflect_pool.proofs.pool.LinkedPool.field_place_by_json_name.Goals as goal
 

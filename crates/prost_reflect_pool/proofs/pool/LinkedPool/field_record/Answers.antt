@@ -1,5 +1,4 @@
-use Rattle.prost_reflect_tables.specs.Rows.{field_row}
-use Rattle.prost_reflect_pool.specs.RecordPaths.{FieldRecord}
+use Rattle.prost_reflect_pool.proofs.Common.{field_row, FieldRecord}
 use Rattle.prost_reflect_pool.proofs.NamedRecords.{field_there, found_too}
 use Rattle.prost_reflect_pool.proofs.pool.LinkedPool.field_record.Goals as goal
 

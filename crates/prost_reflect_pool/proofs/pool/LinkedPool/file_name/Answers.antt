@@ -1,6 +1,4 @@
-use Rattle.std.proofs.Common.{rules, ap, Global, ◌∙◌}
-use Rattle.std.specs.declared.rc.Rc.{Rc}
-use Rattle.prost_reflect_types.specs.declared.FileDescriptorProto.{FileDescriptorProto}
+use Rattle.prost_reflect_pool.proofs.Common.{rules, ap, Global, ◌∙◌, Rc, FileDescriptorProto}
 use Rattle.prost_reflect_pool.proofs.InCatalog.{file_name, text_there, no_text}
 use Rattle.prost_reflect_pool.proofs.pool.LinkedPool.file_name.Goals as goal
 

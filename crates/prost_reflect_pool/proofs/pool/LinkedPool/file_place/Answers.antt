@@ -1,5 +1,4 @@
-use Rattle.std.proofs.Common.{rules, map, ◌∙◌}
-use Rattle.prost_reflect_pool.specs.Pools.{files_of}
+use Rattle.prost_reflect_pool.proofs.Common.{rules, map, ◌∙◌, files_of}
 use Rattle.prost_reflect_pool.proofs.InOrder.{named_found, text_order}
 use Rattle.prost_reflect_pool.proofs.InCatalog.{file_name, file_order}
 use Rattle.prost_reflect_pool.proofs.pool.LinkedPool.file_place.Goals as goal

@@ -1,4 +1,4 @@
-use Rattle.std.proofs.Common.{arith}
+use Rattle.prost_reflect_pool.proofs.Common.{arith}
 use Rattle.prost_reflect_pool.proofs.PoolRanges.{file_listed, file_at, file_within}
 use Rattle.prost_reflect_pool.proofs.pool.LinkedPool.file_table.Goals as goal
 

@@ -1,4 +1,4 @@
-use Rattle.std.proofs.Common.{arith}
+use Rattle.prost_reflect_pool.proofs.Common.{arith}
 use Rattle.prost_reflect_pool.proofs.PoolRanges.{message_listed, lists_at, lists_within}
 use Rattle.prost_reflect_pool.proofs.pool.LinkedPool.message_lists.Goals as goal
 

@@ -1,5 +1,4 @@
-use Rattle.std.proofs.Common.{rules, ◌∙◌}
-use Rattle.prost_reflect_tables.specs.Rows.{message_row}
+use Rattle.prost_reflect_pool.proofs.Common.{rules, ◌∙◌, message_row}
 use Rattle.prost_reflect_pool.proofs.InCatalog.{message_name, text_there, no_text}
 use Rattle.prost_reflect_pool.proofs.pool.LinkedPool.message_name.Goals as goal
 

@@ -1,5 +1,4 @@
-use Rattle.prost_reflect_tables.specs.Rows.{message_row}
-use Rattle.prost_reflect_pool.specs.RecordPaths.{MessageRecord}
+use Rattle.prost_reflect_pool.proofs.Common.{message_row, MessageRecord}
 use Rattle.prost_reflect_pool.proofs.NamedRecords.{message_there, found_too}
 use Rattle.prost_reflect_pool.proofs.pool.LinkedPool.message_record.Goals as goal
 

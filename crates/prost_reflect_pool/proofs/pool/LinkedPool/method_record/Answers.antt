@@ -1,5 +1,4 @@
-use Rattle.prost_reflect_tables.specs.CatalogRows.{method_table_row}
-use Rattle.prost_reflect_pool.specs.RecordPaths.{MethodRecord}
+use Rattle.prost_reflect_pool.proofs.Common.{method_table_row, MethodRecord}
 use Rattle.prost_reflect_pool.proofs.NamedRecords.{method_there, found_too}
 use Rattle.prost_reflect_pool.proofs.pool.LinkedPool.method_record.Goals as goal
 

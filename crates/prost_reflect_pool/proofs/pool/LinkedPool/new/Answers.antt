@@ -1,4 +1,4 @@
-use Rattle.prost_reflect_tables.proofs.Built.{none_built}
+use Rattle.prost_reflect_pool.proofs.Common.{none_built}
 use Rattle.prost_reflect_pool.proofs.FileNames.{none_differ}
 use Rattle.prost_reflect_pool.proofs.NoFiles.{none_linked}
 use Rattle.prost_reflect_pool.proofs.pool.LinkedPool.new.Goals as goal

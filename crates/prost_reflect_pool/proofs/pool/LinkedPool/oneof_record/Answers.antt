@@ -1,5 +1,4 @@
-use Rattle.prost_reflect_tables.specs.Rows.{oneof_row}
-use Rattle.prost_reflect_pool.specs.RecordPaths.{OneofRecord}
+use Rattle.prost_reflect_pool.proofs.Common.{oneof_row, OneofRecord}
 use Rattle.prost_reflect_pool.proofs.NamedRecords.{oneof_there, found_too}
 use Rattle.prost_reflect_pool.proofs.pool.LinkedPool.oneof_record.Goals as goal
 

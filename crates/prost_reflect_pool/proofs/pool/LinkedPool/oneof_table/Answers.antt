@@ -1,7 +1,5 @@
-use Rattle.std.proofs.Common.{◌≡◌, Some, map, sym, ap, slice_get}
-use Rattle.prost_reflect_tables.specs.Rows.{oneof_row}
-use Rattle.prost_reflect_pool.specs.Pools.{pool_rows}
-use Rattle.prost_reflect_pool.specs.RecordPaths.{oneofs_at, oneofs_or_none}
+use Rattle.std.specs.Prelude.{◌≡◌}
+use Rattle.prost_reflect_pool.proofs.Common.{Some, map, sym, ap, slice_get, oneof_row, pool_rows, oneofs_at, oneofs_or_none}
 use Rattle.prost_reflect_pool.proofs.PoolLinks.{row_in, members_of}
 use Rattle.prost_reflect_pool.proofs.pool.LinkedPool.oneof_table.Goals as goal
 

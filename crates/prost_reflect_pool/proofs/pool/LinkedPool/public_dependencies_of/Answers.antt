@@ -1,7 +1,5 @@
-use Rattle.std.proofs.Common.{◌<◌, ℕ, length}
-use Rattle.std.proofs.lemmas.List.Elements.{All-same}
-use Rattle.prost_reflect_tables.specs.CatalogRows.{file_table_row}
-use Rattle.prost_reflect_pool.specs.Pools.{files_of}
+use Rattle.std.specs.Prelude.{◌<◌}
+use Rattle.prost_reflect_pool.proofs.Common.{ℕ, length, All-same, file_table_row, files_of}
 use Rattle.prost_reflect_pool.proofs.PoolLinks.{imports_of}
 use Rattle.prost_reflect_pool.proofs.pool.LinkedPool.public_dependencies_of.Goals as goal
 

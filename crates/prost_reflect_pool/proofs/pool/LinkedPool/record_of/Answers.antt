@@ -1,6 +1,5 @@
-use Rattle.std.proofs.Common.{◌≤◌, length, arith}
-use Rattle.std.proofs.lemmas.List.{length-map}
-use Rattle.prost_reflect_pool.specs.Pools.{files_of}
+use Rattle.std.specs.Prelude.{◌≤◌}
+use Rattle.prost_reflect_pool.proofs.Common.{length, arith, length-map, files_of}
 use Rattle.prost_reflect_pool.proofs.PathWalks.{unfiled}
 use Rattle.prost_reflect_pool.proofs.pool.LinkedPool.record_of.Goals as goal
 

@@ -1,5 +1,4 @@
-use Rattle.std.proofs.Common.{rules, ◌∙◌}
-use Rattle.prost_reflect_tables.specs.CatalogRows.{service_table_row}
+use Rattle.prost_reflect_pool.proofs.Common.{rules, ◌∙◌, service_table_row}
 use Rattle.prost_reflect_pool.proofs.InCatalog.{service_name, text_there, no_text}
 use Rattle.prost_reflect_pool.proofs.pool.LinkedPool.service_name.Goals as goal
 

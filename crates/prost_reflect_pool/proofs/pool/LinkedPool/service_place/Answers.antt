@@ -1,5 +1,4 @@
-use Rattle.std.proofs.Common.{rules, map, ◌∙◌}
-use Rattle.prost_reflect_pool.specs.Pools.{pool_catalog, files_of}
+use Rattle.prost_reflect_pool.proofs.Common.{rules, map, ◌∙◌, pool_catalog, files_of}
 use Rattle.prost_reflect_pool.proofs.InOrder.{named_found, text_order}
 use Rattle.prost_reflect_pool.proofs.InCatalog.{service_name, service_order}
 use Rattle.prost_reflect_pool.proofs.pool.LinkedPool.service_place.Goals as goal

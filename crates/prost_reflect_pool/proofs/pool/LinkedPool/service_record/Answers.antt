@@ -1,5 +1,4 @@
-use Rattle.prost_reflect_tables.specs.CatalogRows.{service_table_row}
-use Rattle.prost_reflect_pool.specs.RecordPaths.{ServiceRecord}
+use Rattle.prost_reflect_pool.proofs.Common.{service_table_row, ServiceRecord}
 use Rattle.prost_reflect_pool.proofs.NamedRecords.{service_there, found_too}
 use Rattle.prost_reflect_pool.proofs.pool.LinkedPool.service_record.Goals as goal
 

@@ -1,7 +1,4 @@
-use Rattle.prost_reflect_tables.specs.CatalogRows.{service_table_row}
-use Rattle.std.proofs.Common.{length}
-use Rattle.prost_reflect_tables.proofs.CatalogRanges.{ServiceRowWithin, holds_at}
-use Rattle.prost_reflect_pool.specs.Pools.{files_of, pool_rows, pool_catalog}
+use Rattle.prost_reflect_pool.proofs.Common.{service_table_row, length, ServiceRowWithin, holds_at, files_of, pool_rows, pool_catalog}
 use Rattle.prost_reflect_pool.proofs.PoolRanges.{pool_within}
 use Rattle.prost_reflect_pool.proofs.PoolLinks.{row_read, methods_of}
 use Rattle.prost_reflect_pool.proofs.pool.LinkedPool.service_table.Goals as goal

@@ -1,7 +1,4 @@
-use Rattle.std.proofs.Common.{List, map, ap, sym, ◌∙◌}
-use Rattle.prost_reflect_tables.specs.LinkedCatalog.{ordered}
-use Rattle.prost_reflect_tables.specs.Rows.{EnumValueRow}
-use Rattle.prost_reflect_pool.specs.Pools.{pool_rows, files_of}
+use Rattle.prost_reflect_pool.proofs.Common.{List, map, ap, sym, ◌∙◌, ordered, EnumValueRow, pool_rows, files_of}
 use Rattle.prost_reflect_pool.proofs.InCatalog.{value_name, values_order}
 use Rattle.prost_reflect_pool.proofs.pool.LinkedPool.value_place_by_name.Goals as goal
 

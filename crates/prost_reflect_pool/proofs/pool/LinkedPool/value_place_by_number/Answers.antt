@@ -1,10 +1,5 @@
-use Rattle.std.proofs.Common.{◌≡◌, ℤ, List, map, ap, sym, ◌∙◌, rules, w32, to_z, of_z}
-use Rattle.std.proofs.Math.Facts.{to_z-of_z}
-use Rattle.prost_reflect_tables.specs.Gathered.{all_places}
-use Rattle.prost_reflect_tables.specs.Orders.{by_number}
-use Rattle.prost_reflect_tables.specs.Rows.{EnumValueRow, enum_value_row}
-use Rattle.prost_reflect_pool.specs.Lookups.{numbered_value}
-use Rattle.prost_reflect_pool.specs.Pools.{pool_rows, files_of}
+use Rattle.std.specs.Prelude.{◌≡◌}
+use Rattle.prost_reflect_pool.proofs.Common.{ℤ, List, map, ap, sym, ◌∙◌, rules, w32, to_z, of_z, to_z-of_z, all_places, by_number, EnumValueRow, enum_value_row, numbered_value, pool_rows, files_of}
 use Rattle.prost_reflect_pool.proofs.InCatalog.{number_of, values_order}
 use Rattle.prost_reflect_pool.proofs.pool.LinkedPool.value_place_by_number.Goals as goal
 

@@ -1,5 +1,4 @@
-use Rattle.prost_reflect_tables.specs.Rows.{enum_value_row}
-use Rattle.prost_reflect_pool.specs.RecordPaths.{ValueRecord}
+use Rattle.prost_reflect_pool.proofs.Common.{enum_value_row, ValueRecord}
 use Rattle.prost_reflect_pool.proofs.NamedRecords.{value_there, found_too}
 use Rattle.prost_reflect_pool.proofs.pool.LinkedPool.value_record.Goals as goal
 

@@ -1,8 +1,6 @@
-use Rattle.std.proofs.Common.{◌≡◌, ◌∙◌, sym, ap}
+use Rattle.std.specs.Prelude.{◌≡◌}
+use Rattle.prost_reflect_pool.proofs.Common.{◌∙◌, sym, ap, shared_files, contents_decide, contents_of}
 use Rattle.prost_reflect_identity.specs.Values.{value_of}
-use Rattle.prost_reflect_types.specs.DescriptorViews.{shared_files}
-use Rattle.prost_reflect_pool.specs.PoolEquality.{contents_decide}
-use Rattle.prost_reflect_pool.specs.Pools.{contents_of}
 use Rattle.prost_reflect_pool.proofs.EqualDescriptors.{files_compared}
 use Rattle.prost_reflect_pool.proofs.pool.LinkedPoolPartialEq.eq.Goals as goal
 
