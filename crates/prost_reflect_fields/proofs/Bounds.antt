@@ -1,21 +1,9 @@
 -- The items on the two sides of a number.
-use Rattle.std.proofs.Common.{◌≡◌, true, false, Bool, cond, ℕ, suc, List, [], ◌∷◌, ◌++◌, take, drop, length, ◌-◌, ◌+◌, length-drop, filter, nat_le, nat_lt, not, Some, ap, ap₂, sym, ◌∙◌, subst, refl, arith, append-nil}
-use Rattle.std.proofs.lemmas.Grind.{common_steps}
+use Rattle.std.specs.Prelude.{◌≡◌, ◌∷◌, ◌++◌, ◌-◌, ◌+◌}
+use Rattle.prost_reflect_fields.proofs.Common.{true, false, Bool, cond, ℕ, suc, List, [], take, drop, length, length-drop, filter, nat_le, nat_lt, not, Some, ap, ap₂, sym, ◌∙◌, subst, refl, arith, append-nil, common_steps, exact_unsigned, nat_cmp, is_le, match_ordering, Ordering, Less, Equal, Greater, Ok, Err, AllByRecursion, IsStrictlySortedBy, keys_of, seek, index_of, one_further, last, IsAscending, items_from, items_below, Runs, flat, IsLaid}
 use Rattle.std.proofs.lemmas.List.Elements.{filter-append, filter_agree}
-use Rattle.std.proofs.lemmas.Map.Lookups.{exact_unsigned}
-use Rattle.std.specs.Ordering.{nat_cmp, is_le, match_ordering}
-use Rattle.std.specs.declared.cmp.Ordering.{Ordering}
-use Rattle.std.specs.declared.cmp.Ordering.TheVariants.{Less, Equal, Greater}
 use Rattle.std.specs.declared.ops.Bound.TheVariants.{Excluded, Unbounded}
-use Rattle.std.specs.declared.result.Result.TheVariants.{Ok, Err}
-use Rattle.std.specs.List.{AllByRecursion}
-use Rattle.std.specs.List.Sorted.{IsStrictlySortedBy}
-use Rattle.std.specs.Map.{keys_of}
 use Rattle.std_collections.specs.BTreeMap.Range.{range_contains}
-use Rattle.std_collections.specs.Layout.BTreeMap.{seek, index_of, one_further}
-use Rattle.prost_reflect_wire.specs.Grammar.{last}
-use Rattle.prost_reflect_fields.specs.Items.{IsAscending, items_from, items_below}
-use Rattle.prost_reflect_fields.specs.Runs.{Runs, flat, IsLaid}
 use Rattle.prost_reflect_fields.proofs.ItemChanges.{itself}
 use Rattle.prost_reflect_fields.proofs.Places.{further}
 use Rattle.prost_reflect_fields.proofs.RunChanges.{AllBelow, IsRunOf, ahead_above, above, parts}

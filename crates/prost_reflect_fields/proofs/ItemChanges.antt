@@ -1,16 +1,7 @@
 -- What a change at one number of a map leaves at each number.
-use Rattle.std.proofs.Common.{◌≡◌, ◌≢◌, true, false, Bool, cond, ℕ, List, [], ◌∷◌, Option, None, Some, ap, sym, ◌∙◌, subst, refl}
-use Rattle.std.proofs.lemmas.Map.Lookups.{exact_unsigned}
-use Rattle.std.specs.Cmp.{nat_cmp_total}
-use Rattle.std.specs.Ordering.{nat_cmp, is_eq, ordering_reverse, match_ordering}
-use Rattle.std.specs.declared.cmp.Ordering.{Ordering}
-use Rattle.std.specs.declared.cmp.Ordering.TheVariants.{Less, Equal, Greater}
-use Rattle.std.specs.BTreeMap.{is_at}
-use Rattle.std.specs.List.{AllByRecursion}
-use Rattle.std.specs.List.Sorted.{IsStrictlySortedBy}
-use Rattle.std.specs.Map.{keys_of, AreApart}
+use Rattle.std.specs.Prelude.{◌≡◌, ◌≢◌, ◌∷◌}
+use Rattle.prost_reflect_fields.proofs.Common.{true, false, Bool, cond, ℕ, List, [], Option, None, Some, ap, sym, ◌∙◌, subst, refl, exact_unsigned, nat_cmp_total, nat_cmp, is_eq, ordering_reverse, match_ordering, Ordering, Less, Equal, Greater, is_at, AllByRecursion, IsStrictlySortedBy, keys_of, AreApart, IsAscending, item_at, with_item, put_item, without_item}
 use Rattle.std_collections.proofs.Entries.{lookup-set_value_same, lookup-set_value_apart, lookup-remove_entry_apart, keys-set_value}
-use Rattle.prost_reflect_fields.specs.Items.{IsAscending, item_at, with_item, put_item, without_item}
 
 abbrev pub Apart : ℕ → ℕ → Type 0
 Apart n k = is_eq (nat_cmp n k) ≡ false

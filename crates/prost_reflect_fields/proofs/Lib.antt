@@ -1,3 +1,4 @@
+mod Common
 mod Results
 mod Places
 pub mod ItemChanges

@@ -1,24 +1,9 @@
 -- Clearing the members of a oneof one after another.
-use Rattle.std.proofs.Common.{◌≡◌, ℕ, zero, suc, ◌+◌, ◌<◌, length, drop, drop-cons, get_or, arith, Bool, true, false, not, ◌&&◌, ◌||◌, nat_eq, List, [], ◌∷◌, ◌++◌, map, Option, Some, None, refl, ap, sym, ◌∙◌, true≢false}
-use Rattle.std.specs.Prelude.{slice_get, option_map, option_to_list}
-use Rattle.std.proofs.lemmas.Bool.{ne_eqb, eqb-true, eqb-false, and_parts, or_left, or_right}
-use Rattle.std.proofs.lemmas.Option.{slice_get-map, same_Some}
-use Rattle.std.specs.List.{list_any}
-use Rattle.std.specs.Option.{option_and_then}
-use Rattle.prost_reflect_wire.specs.Schema.{Field, field_of, is_sibling, same_oneof, passes}
-use Rattle.prost_reflect_wire.proofs.Survivors.{field_number}
+use Rattle.std.specs.Prelude.{◌≡◌, ◌+◌, ◌<◌, ◌&&◌, ◌||◌, ◌∷◌, ◌++◌}
+use Rattle.prost_reflect_fields.proofs.Common.{ℕ, zero, suc, length, drop, drop-cons, get_or, arith, Bool, true, false, not, nat_eq, List, [], map, Option, Some, None, refl, ap, sym, ◌∙◌, true≢false, slice_get, option_map, option_to_list, ne_eqb, eqb-true, eqb-false, and_parts, or_left, or_right, slice_get-map, same_Some, list_any, option_and_then, Field, field_of, is_sibling, same_oneof, passes, field_number, FieldRow, field_row, TableRows, FieldSlot, PooledType, pool_rows, fields_of, IsAscending, without_values, clear_value, known_of, oneof_of, are_siblings, is_member, rows_at, HasMembers}
 use Rattle.prost_reflect_tables.specs.declared.tables.FieldTable.{FieldTable}
-use Rattle.prost_reflect_tables.specs.Rows.{FieldRow, field_row, TableRows}
 use Rattle.prost_reflect_tables.specs.Shown.{schema_field}
 use Rattle.prost_reflect_tables.proofs.Fields.{known_rows}
-use Rattle.prost_reflect_fields.specs.declared.slot.FieldSlot.{FieldSlot}
-use Rattle.prost_reflect_pool.specs.declared.pooled_type.PooledType.{PooledType}
-use Rattle.prost_reflect_pool.specs.SharedPools.{pool_rows}
-use Rattle.prost_reflect_pool.specs.MessageTypes.{fields_of}
-use Rattle.prost_reflect_fields.specs.Items.{IsAscending}
-use Rattle.prost_reflect_fields.specs.FieldSlots.{without_values, clear_value}
-use Rattle.prost_reflect_fields.specs.Known.{known_of, oneof_of, are_siblings}
-use Rattle.prost_reflect_fields.specs.Members.{is_member, rows_at, HasMembers}
 use Rattle.prost_reflect_fields.proofs.SlotChanges.{without_both, without_none, without_same_test}
 
 module _ (f : FieldTable) (o : Option ℕ) (n : ℕ) where

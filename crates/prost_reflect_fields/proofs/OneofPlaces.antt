@@ -1,15 +1,10 @@
 -- The row of a oneof has the place of each of its members.
-use Rattle.std.proofs.Common.{◌≡◌, ℕ, zero, suc, ◌+◌, ◌<◌, ◌≤◌, Bool, true, false, cond, not, ◌&&◌, ◌||◌, nat_eq, List, [], ◌∷◌, length, map, filter, Option, Some, None, refl, sym, ap, subst, ◌∙◌, arith, true≢false}
-use Rattle.std.specs.Prelude.{slice_get, nat_lt, option_map}
-use Rattle.std.specs.List.{All, list_any, list_all}
-use Rattle.std.proofs.lemmas.Bool.{eq-eqb, eqb-true, ltb-true, and_parts}
+use Rattle.std.specs.Prelude.{◌≡◌, ◌+◌, ◌<◌, ◌≤◌, ◌&&◌, ◌||◌, ◌∷◌}
+use Rattle.prost_reflect_fields.proofs.Common.{ℕ, zero, suc, Bool, true, false, cond, not, nat_eq, List, [], length, map, filter, Option, Some, None, refl, sym, ap, subst, ◌∙◌, arith, true≢false, slice_get, nat_lt, option_map, All, list_any, list_all, eq-eqb, eqb-true, ltb-true, and_parts, slice_get-map, same_Some, MessageType, Schema, known, same_oneof, field_valid, numbers_differ, FieldRow, OneofRow, MessageRow, TableRows, fields_of, pool_rows, files_of, PooledType, HasMembers}
 use Rattle.std.proofs.lemmas.List.Elements.{All-nil, All-cons, All-append, All-weaker}
-use Rattle.std.proofs.lemmas.Option.{slice_get-map, same_Some}
-use Rattle.prost_reflect_wire.specs.Schema.{MessageType, Schema, known, same_oneof, field_valid, numbers_differ}
 use Rattle.prost_reflect_types.specs.declared.FieldDescriptorProto.{FieldDescriptorProto}
 use Rattle.prost_reflect_types.specs.declared.FileDescriptorProto.{FileDescriptorProto}
 use Rattle.prost_reflect_types.specs.declared.OneofDescriptorProto.{OneofDescriptorProto}
-use Rattle.prost_reflect_tables.specs.Rows.{FieldRow, OneofRow, MessageRow, TableRows}
 use Rattle.prost_reflect_tables.specs.Places.{fields_at, fields_or_none}
 use Rattle.prost_reflect_tables.specs.Linked.{is_linked, ascending_from, message_linked, field_linked, oneof_in_range}
 use Rattle.prost_reflect_tables.specs.Shown.{schema_from, schema_field}
@@ -21,10 +16,6 @@ use Rattle.prost_reflect_tables.proofs.CatalogRanges.{in_order_all, holds_at}
 use Rattle.prost_reflect_tables.proofs.DeclaredFields.{smaller_before}
 use Rattle.prost_reflect_tables.proofs.Fields.{known_rows}
 use Rattle.prost_reflect_tables.proofs.Keeping.{passes_at, fields_ascend, schema_is_valid}
-use Rattle.prost_reflect_pool.specs.MessageTypes.{fields_of}
-use Rattle.prost_reflect_pool.specs.SharedPools.{pool_rows, files_of}
-use Rattle.prost_reflect_pool.specs.declared.pooled_type.PooledType.{PooledType}
-use Rattle.prost_reflect_fields.specs.Members.{HasMembers}
 
 -- MEMBERS AND THEIR PLACES
 

@@ -1,22 +1,9 @@
 -- Where a number stands among ascending numbers.
-use Rattle.std.proofs.Common.{◌≡◌, true, ℕ, zero, suc, ◌<◌, ◌≤◌, List, [], ◌∷◌, length, slice_index_or, slice_set, None, Some, arith, ap, sym, ◌∙◌, subst, refl, slice_get, nat_lt, false}
-use Rattle.std.proofs.lemmas.Map.Lookups.{exact_unsigned}
-use Rattle.std.proofs.lemmas.Option.{none-some, same_Some}
-use Rattle.std.specs.Cmp.{nat_cmp_total}
-use Rattle.std.specs.Ordering.{nat_cmp, ordering_index, ordering_reverse, is_le}
-use Rattle.std.specs.declared.cmp.Ordering.{Ordering}
-use Rattle.std.specs.declared.cmp.Ordering.TheVariants.{Less, Equal, Greater}
-use Rattle.std.specs.declared.result.Result.{Result}
-use Rattle.std.specs.declared.result.Result.TheVariants.{Ok, Err}
-use Rattle.std.specs.List.{AllByRecursion, AllWithin, HoldsAt, insert, remove}
-use Rattle.std.specs.List.Sorted.{IsStrictlySortedBy, IsBinarySearchResult, IsSearchInRange, IsNonDecreasingBy}
-use Rattle.std.specs.Map.{keys_of, values_of}
-use Rattle.std.specs.BTreeMap.{is_at}
+use Rattle.std.specs.Prelude.{◌≡◌, ◌<◌, ◌≤◌, ◌∷◌}
+use Rattle.prost_reflect_fields.proofs.Common.{true, ℕ, zero, suc, List, [], length, slice_index_or, slice_set, None, Some, arith, ap, sym, ◌∙◌, subst, refl, slice_get, nat_lt, false, exact_unsigned, none-some, same_Some, nat_cmp_total, nat_cmp, ordering_index, ordering_reverse, is_le, Ordering, Less, Equal, Greater, Result, Ok, Err, AllByRecursion, AllWithin, HoldsAt, insert, remove, IsStrictlySortedBy, IsBinarySearchResult, IsSearchInRange, IsNonDecreasingBy, keys_of, values_of, is_at, seek, index_of, one_further, IsAscending, item_at, with_item, put_item, without_item}
 use Rattle.std_collections.proofs.Seek.{AnswersAt, found_at, seek-Ok, seek_err, missing_at, insert_entry_err, insert_entry-Ok, sorted_insert}
 use Rattle.std_collections.proofs.Entries.{NonePasses, remove_entry_none, lookup-none, set_value_none}
-use Rattle.std_collections.specs.Layout.BTreeMap.{seek, index_of, one_further}
 use Rattle.std_collections.specs.Layout.Columns.{set_value_at}
-use Rattle.prost_reflect_fields.specs.Items.{IsAscending, item_at, with_item, put_item, without_item}
 
 flipped : (x y : ℕ) (o : Ordering) → nat_cmp x y ≡ o → nat_cmp y x ≡ ordering_reverse o
 flipped x y o h = nat_cmp_total.antisymm y x ∙ ap ordering_reverse h

@@ -1,17 +1,6 @@
 -- Siblings that are found among the items.
-use Rattle.std.proofs.Common.{◌≡◌, ℕ, ◌+◌, ◌<◌, ◌≤◌, arith, Bool, true, false, cond, not, ◌&&◌, ◌||◌, nat_eq, List, [], ◌∷◌, Option, Some, None, refl, ap, sym, ◌∙◌, true≢false}
-use Rattle.std.proofs.lemmas.Bool.{eq-eqb, eqb-true, and_parts}
-use Rattle.std.proofs.lemmas.Option.{same_Some}
-use Rattle.std.specs.List.{list_any}
-use Rattle.std.specs.Option.{option_and_then, is_some}
-use Rattle.prost_reflect_wire.specs.Schema.{Field, field_of, is_sibling, same_oneof, passes, numbers_differ}
-use Rattle.prost_reflect_wire.proofs.Survivors.{field_number}
-use Rattle.prost_reflect_pool.specs.declared.pooled_type.PooledType.{PooledType}
-use Rattle.prost_reflect_fields.specs.declared.slot.FieldSlot.{FieldSlot}
-use Rattle.prost_reflect_fields.specs.declared.slot.FieldSlot.TheVariants.{Value, Unknown, Both}
-use Rattle.prost_reflect_fields.specs.Items.{IsAscending}
-use Rattle.prost_reflect_fields.specs.FieldSlots.{value_in, left_in, then_slot, without_values, clear_value, first_value}
-use Rattle.prost_reflect_fields.specs.Known.{known_of, oneof_of, are_siblings, is_other_member}
+use Rattle.std.specs.Prelude.{◌≡◌, ◌+◌, ◌<◌, ◌≤◌, ◌&&◌, ◌||◌, ◌∷◌}
+use Rattle.prost_reflect_fields.proofs.Common.{ℕ, arith, Bool, true, false, cond, not, nat_eq, List, [], Option, Some, None, refl, ap, sym, ◌∙◌, true≢false, eq-eqb, eqb-true, and_parts, same_Some, list_any, option_and_then, is_some, Field, field_of, is_sibling, same_oneof, passes, numbers_differ, field_number, PooledType, FieldSlot, Value, Unknown, Both, IsAscending, value_in, left_in, then_slot, without_values, clear_value, first_value, known_of, oneof_of, are_siblings, is_other_member}
 use Rattle.prost_reflect_fields.proofs.SlotChanges.{without_both, without_same_test}
 use Rattle.prost_reflect_fields.proofs.Siblings.{known_differ, found_passes, passes_found}
 

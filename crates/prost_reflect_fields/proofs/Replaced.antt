@@ -1,16 +1,6 @@
 -- Maps with what others have at the numbers of a set.
-use Rattle.std.proofs.Common.{◌≡◌, ℕ, Bool, true, false, cond, List, [], ◌∷◌, ◌++◌, Option, Some, None, refl, ap, ap₂, sym, subst, ◌∙◌, true≢false}
-use Rattle.std.specs.Option.{option_and_then, is_some}
-use Rattle.std.specs.Ordering.{nat_cmp, is_eq}
-use Rattle.std.specs.BTreeSet.{BTreeSet}
-use Rattle.std.specs.List.Sorted.{IsStrictlySortedBy}
-use Rattle.prost_reflect_wire.specs.Schema.{Field, numbers_differ}
-use Rattle.prost_reflect_fields.specs.declared.slot.FieldSlot.{FieldSlot}
-use Rattle.prost_reflect_fields.specs.Items.{IsAscending, item_at, put_item}
-use Rattle.prost_reflect_fields.specs.Known.{is_known, are_siblings}
-use Rattle.prost_reflect_fields.specs.FieldSlots.{value_in, records_in, stored_at, records_at}
-use Rattle.prost_reflect_fields.specs.Sound.{Sound, unknown_kept}
-use Rattle.prost_reflect_fields.specs.NumberSets.{has, HasWholeOneofs, is_chosen, put_chosen, AreReplaced}
+use Rattle.std.specs.Prelude.{◌≡◌, ◌∷◌, ◌++◌}
+use Rattle.prost_reflect_fields.proofs.Common.{ℕ, Bool, true, false, cond, List, [], Option, Some, None, refl, ap, ap₂, sym, subst, ◌∙◌, true≢false, option_and_then, is_some, nat_cmp, is_eq, BTreeSet, IsStrictlySortedBy, Field, numbers_differ, FieldSlot, IsAscending, item_at, put_item, is_known, are_siblings, value_in, records_in, stored_at, records_at, Sound, unknown_kept, has, HasWholeOneofs, is_chosen, put_chosen, AreReplaced}
 use Rattle.prost_reflect_fields.proofs.ItemChanges.{Apart, by_number, put_same, put_apart, none_above, ascending_put_item, itself}
 use Rattle.prost_reflect_fields.proofs.Siblings.{siblings_back}
 use Rattle.prost_reflect_fields.proofs.Places.{empty_ascends}

@@ -1,5 +1,5 @@
 -- What holds of an answer in both cases.
-use Rattle.std.proofs.Common.{Result, Ok, Err}
+use Rattle.prost_reflect_fields.proofs.Common.{Result, Ok, Err}
 use Rattle.std.specs.Result.{OnOk, OnErr}
 
 pub either : {T E P Q R : Type 0} (r : Result T E) → OnOk r P → OnErr r Q → (P → R) → (Q → R) → R

@@ -1,19 +1,7 @@
 -- What a change in one run of a map leaves of all its items.
-use Rattle.std.proofs.Common.{◌≡◌, true, false, Bool, cond, ℕ, zero, suc, ◌+◌, ◌<◌, List, [], ◌∷◌, ◌++◌, length, take, drop, slice_index_or, slice_set, None, Some, Result, Ok, Err, Vec, ap, ap₂, sym, ◌∙◌, subst, refl, append_assoc, arith}
-use Rattle.std.proofs.lemmas.List.{append-nil}
-use Rattle.std.proofs.lemmas.Map.Lookups.{exact_unsigned}
-use Rattle.std.proofs.lemmas.Grind.{common_steps}
+use Rattle.std.specs.Prelude.{◌≡◌, ◌+◌, ◌<◌, ◌∷◌, ◌++◌}
+use Rattle.prost_reflect_fields.proofs.Common.{true, false, Bool, cond, ℕ, zero, suc, List, [], length, take, drop, slice_index_or, slice_set, None, Some, Result, Ok, Err, Vec, ap, ap₂, sym, ◌∙◌, subst, refl, append_assoc, arith, append-nil, exact_unsigned, common_steps, nat_cmp_total, nat_cmp, is_eq, is_le, ordering_reverse, match_ordering, Ordering, Less, Equal, Greater, AllByRecursion, insert, IsStrictlySortedBy, keys_of, seek, one_further, IsAscending, item_at, with_item, put_item, without_item, IsAhead, Runs, marks, flat, IsLaid, run_at}
 use Rattle.std.specs.declared.alloc.Global.{Global}
-use Rattle.std.specs.Cmp.{nat_cmp_total}
-use Rattle.std.specs.Ordering.{nat_cmp, is_eq, is_le, ordering_reverse, match_ordering}
-use Rattle.std.specs.declared.cmp.Ordering.{Ordering}
-use Rattle.std.specs.declared.cmp.Ordering.TheVariants.{Less, Equal, Greater}
-use Rattle.std.specs.List.{AllByRecursion, insert}
-use Rattle.std.specs.List.Sorted.{IsStrictlySortedBy}
-use Rattle.std.specs.Map.{keys_of}
-use Rattle.std_collections.specs.Layout.BTreeMap.{seek, one_further}
-use Rattle.prost_reflect_fields.specs.Items.{IsAscending, item_at, with_item, put_item, without_item}
-use Rattle.prost_reflect_fields.specs.Runs.{IsAhead, Runs, marks, flat, IsLaid, run_at}
 use Rattle.prost_reflect_fields.proofs.ItemChanges.{none_above, all_later, itself, all_put, all_without, ascending_put_item, ascending_without}
 use Rattle.prost_reflect_fields.proofs.Places.{keys-set, number_kept, set_is, with_found, item_found, item_absent, seek_within, value_got}
 use Rattle.prost_reflect_fields.proofs.Weaving.{AllAbove, or_else, or_none, item_appended, all_left, all_right, all_both, ascending_left, ascending_right}

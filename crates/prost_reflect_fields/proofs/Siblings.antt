@@ -1,14 +1,7 @@
 -- The members of one oneof.
-use Rattle.std.proofs.Common.{◌≡◌, ℕ, zero, suc, Bool, true, false, cond, not, ◌&&◌, ◌||◌, nat_eq, List, [], ◌∷◌, Option, Some, None, refl, ap, sym, ◌∙◌, true≢false}
-use Rattle.std.proofs.lemmas.Bool.{eq-eqb, ne_eqb, eqb-true, eqb-false, and_parts, and_from, or_parts, not-true}
-use Rattle.std.specs.List.{list_any, list_all}
-use Rattle.prost_reflect_wire.specs.Schema.{Field, MessageType, Schema, known, field_of, is_sibling, same_oneof, passes, numbers_differ, field_valid}
-use Rattle.prost_reflect_wire.proofs.Survivors.{field_number}
+use Rattle.std.specs.Prelude.{◌≡◌, ◌&&◌, ◌||◌, ◌∷◌}
+use Rattle.prost_reflect_fields.proofs.Common.{ℕ, zero, suc, Bool, true, false, cond, not, nat_eq, List, [], Option, Some, None, refl, ap, sym, ◌∙◌, true≢false, eq-eqb, ne_eqb, eqb-true, eqb-false, and_parts, and_from, or_parts, not-true, list_any, list_all, Field, MessageType, Schema, known, field_of, is_sibling, same_oneof, passes, numbers_differ, field_valid, field_number, schema_at, pool_rows, known_of, are_siblings, PooledType}
 use Rattle.prost_reflect_tables.proofs.Keeping.{schema_is_valid}
-use Rattle.prost_reflect_pool.specs.MessageTypes.{schema_at}
-use Rattle.prost_reflect_pool.specs.SharedPools.{pool_rows}
-use Rattle.prost_reflect_fields.specs.Known.{known_of, are_siblings}
-use Rattle.prost_reflect_pool.specs.declared.pooled_type.PooledType.{PooledType}
 
 -- NUMBERS DIFFER
 

@@ -1,19 +1,8 @@
 -- The values and the unknown fields at each number after a change.
-use Rattle.std.proofs.Common.{◌≡◌, ◌++◌, ◌||◌, unwrap_or, Bool, true, false, cond, ℕ, nat_eq, List, [], ◌∷◌, Option, None, Some, ap, sym, ◌∙◌, subst, refl, true≢false}
-use Rattle.std.proofs.lemmas.Bool.{eq-eqb, ne_eqb}
-use Rattle.std.specs.Option.{option_and_then, option_map, is_some}
-use Rattle.std.specs.Ordering.{nat_cmp, is_eq}
-use Rattle.std.specs.declared.cmp.Ordering.TheVariants.{Less}
-use Rattle.std.specs.List.{AllByRecursion}
-use Rattle.std.specs.List.Sorted.{IsStrictlySortedBy}
-use Rattle.std.specs.Map.{keys_of}
+use Rattle.std.specs.Prelude.{◌≡◌, ◌++◌, ◌||◌, ◌∷◌}
+use Rattle.prost_reflect_fields.proofs.Common.{unwrap_or, Bool, true, false, cond, ℕ, nat_eq, List, [], Option, None, Some, ap, sym, ◌∙◌, subst, refl, true≢false, eq-eqb, ne_eqb, option_and_then, option_map, is_some, nat_cmp, is_eq, Less, AllByRecursion, IsStrictlySortedBy, keys_of, records_of, FieldSlot, Value, Unknown, Both, IsAscending, item_at, with_item, put_item, without_item, value_in, records_in, stored_at, records_at, with_value_in, without_value_beside, revalued, put_slot, put_value, left_in, then_slot, without_values, clear_value, with_slot, with_value, AddedIn, SameIn, SameStored, UnknownAdded}
 use Rattle.prost_reflect_wire.specs.Record.{Record}
-use Rattle.prost_reflect_wire.specs.Unknown.{records_of}
 use Rattle.prost_reflect_wire.specs.declared.unknown.UnknownFieldSet.{UnknownFieldSet}
-use Rattle.prost_reflect_fields.specs.declared.slot.FieldSlot.{FieldSlot}
-use Rattle.prost_reflect_fields.specs.declared.slot.FieldSlot.TheVariants.{Value, Unknown, Both}
-use Rattle.prost_reflect_fields.specs.Items.{IsAscending, item_at, with_item, put_item, without_item}
-use Rattle.prost_reflect_fields.specs.FieldSlots.{value_in, records_in, stored_at, records_at, with_value_in, without_value_beside, revalued, put_slot, put_value, left_in, then_slot, without_values, clear_value, with_slot, with_value, AddedIn, SameIn, SameStored, UnknownAdded}
 use Rattle.prost_reflect_fields.proofs.ItemChanges.{Apart, by_number, at_each, apart_of, apart_back, itself, none_above, same_items, put_same, put_apart, without_same, without_apart, with_same, with_apart, ascending_without, ascending_with, ascending_put_item}
 
 module _ {V : Type 0} where

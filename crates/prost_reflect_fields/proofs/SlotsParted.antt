@@ -1,7 +1,6 @@
 -- Slots that are parted one by one into the values that are taken, and what is left of each.
-use Rattle.std.proofs.Common.{◌≡◌, ℕ, Bool, cond, List, ◌∷◌, ◌++◌, Option, None, Some, refl, ap, sym, ◌∙◌, append_assoc}
-use Rattle.prost_reflect_fields.specs.FieldSlots.{value_in, left_in, then_slot, numbered, values_where, without_values}
-use Rattle.prost_reflect_fields.specs.declared.slot.FieldSlot.{FieldSlot}
+use Rattle.std.specs.Prelude.{◌≡◌, ◌∷◌, ◌++◌}
+use Rattle.prost_reflect_fields.proofs.Common.{ℕ, Bool, cond, List, Option, None, Some, refl, ap, sym, ◌∙◌, append_assoc, value_in, left_in, then_slot, numbered, values_where, without_values, FieldSlot}
 
 module _ {V : Type 0} (test : ℕ → Bool) where
   left_then : (n : ℕ) (o : Option (FieldSlot V)) (es : List (ℕ × FieldSlot V)) → numbered n o ++ es ≡ then_slot n o es

@@ -1,17 +1,6 @@
 -- What stands at each number once the unknown fields are taken.
-use Rattle.std.proofs.Common.{◌≡◌, ◌++◌, cond, ℕ, List, [], ◌∷◌, Option, None, Some, ap, sym, ◌∙◌, subst, refl}
-use Rattle.std.specs.Option.{option_and_then, option_map, option_to_list, is_some}
-use Rattle.std.specs.Ordering.{nat_cmp, is_eq}
-use Rattle.std.specs.declared.cmp.Ordering.TheVariants.{Less}
-use Rattle.std.specs.List.{AllByRecursion}
-use Rattle.std.specs.List.Sorted.{IsStrictlySortedBy}
-use Rattle.std.specs.Map.{keys_of}
-use Rattle.prost_reflect_wire.specs.Schema.{Field}
-use Rattle.prost_reflect_fields.specs.declared.slot.FieldSlot.{FieldSlot}
-use Rattle.prost_reflect_fields.specs.declared.slot.FieldSlot.TheVariants.{Value, Unknown, Both}
-use Rattle.prost_reflect_fields.specs.Items.{IsAscending, item_at}
-use Rattle.prost_reflect_fields.specs.FieldSlots.{value_in, records_in, stored_at, records_at, values_alone}
-use Rattle.prost_reflect_fields.specs.Sound.{Sound, unknown_kept}
+use Rattle.std.specs.Prelude.{◌≡◌, ◌++◌, ◌∷◌}
+use Rattle.prost_reflect_fields.proofs.Common.{cond, ℕ, List, [], Option, None, Some, ap, sym, ◌∙◌, subst, refl, option_and_then, option_map, option_to_list, is_some, nat_cmp, is_eq, Less, AllByRecursion, IsStrictlySortedBy, keys_of, Field, FieldSlot, Value, Unknown, Both, IsAscending, item_at, value_in, records_in, stored_at, records_at, values_alone, Sound, unknown_kept}
 use Rattle.prost_reflect_fields.proofs.ItemChanges.{Apart, by_number, itself, none_above}
 
 module _ {V : Type 0} where

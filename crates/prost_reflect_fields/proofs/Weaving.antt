@@ -1,16 +1,6 @@
 -- Two lists whose numbers ascend, walked in step.
-use Rattle.std.proofs.Common.{◌≡◌, ℕ, Bool, true, false, cond, List, [], ◌∷◌, ◌++◌, Option, Some, None, refl, ap, sym, subst, ◌∙◌, append_assoc, arith, nat_le, length, true≢false}
-use Rattle.std.proofs.lemmas.List.{append-nil}
-use Rattle.std.proofs.lemmas.Grind.{common_steps}
-use Rattle.std.specs.Ordering.{nat_cmp, is_eq}
-use Rattle.std.specs.declared.cmp.Ordering.{Ordering}
-use Rattle.std.specs.declared.cmp.Ordering.TheVariants.{Less, Equal, Greater}
-use Rattle.std.specs.BTreeSet.{BTreeSet}
-use Rattle.std.specs.List.{AllByRecursion}
-use Rattle.std.specs.List.Sorted.{IsStrictlySortedBy}
-use Rattle.std.specs.Map.{keys_of}
-use Rattle.prost_reflect_fields.specs.Items.{IsAscending, item_at}
-use Rattle.prost_reflect_fields.specs.NumberSets.{has, is_up_to, chosen_up_to, left_beyond, AreReplaced}
+use Rattle.std.specs.Prelude.{◌≡◌, ◌∷◌, ◌++◌}
+use Rattle.prost_reflect_fields.proofs.Common.{ℕ, Bool, true, false, cond, List, [], Option, Some, None, refl, ap, sym, subst, ◌∙◌, append_assoc, arith, nat_le, length, true≢false, append-nil, common_steps, nat_cmp, is_eq, Ordering, Less, Equal, Greater, BTreeSet, AllByRecursion, IsStrictlySortedBy, keys_of, IsAscending, item_at, has, is_up_to, chosen_up_to, left_beyond, AreReplaced}
 use Rattle.prost_reflect_fields.proofs.ItemChanges.{Apart, by_number, itself, all_later}
 
 pub none_of : {A : Type 0} (xs : List A) → length xs ≡ 0 → xs ≡ []

@@ -1,18 +1,7 @@
 -- Numbers added to a set with the members of their oneofs.
-use Rattle.std.proofs.Common.{◌≡◌, ℕ, Bool, true, false, cond, not, ◌&&◌, ◌||◌, nat_eq, List, [], ◌∷◌, map, Option, Some, None, refl, ap, sym, subst, ◌∙◌, true≢false}
-use Rattle.std.proofs.lemmas.Bool.{eqb-true, eq-eqb, ne_eqb, and_parts, or_left, or_right}
-use Rattle.std.specs.List.{list_any}
-use Rattle.std.specs.Option.{option_and_then}
-use Rattle.std.specs.Ordering.{nat_cmp, is_eq}
-use Rattle.std.specs.BTreeSet.{BTreeSet, contains}
-use Rattle.prost_reflect_wire.specs.Schema.{Field, field_of, is_sibling, same_oneof, passes, numbers_differ}
+use Rattle.std.specs.Prelude.{◌≡◌, ◌&&◌, ◌||◌, ◌∷◌}
+use Rattle.prost_reflect_fields.proofs.Common.{ℕ, Bool, true, false, cond, not, nat_eq, List, [], map, Option, Some, None, refl, ap, sym, subst, ◌∙◌, true≢false, eqb-true, eq-eqb, ne_eqb, and_parts, or_left, or_right, list_any, option_and_then, nat_cmp, is_eq, BTreeSet, contains, Field, field_of, is_sibling, same_oneof, passes, numbers_differ, field_row, PooledType, fields_of, known_of, oneof_of, are_siblings, rows_at, HasMembers, has, HasWholeOneofs, is_in_oneof}
 use Rattle.prost_reflect_tables.specs.declared.tables.FieldTable.{FieldTable}
-use Rattle.prost_reflect_tables.specs.Rows.{field_row}
-use Rattle.prost_reflect_pool.specs.declared.pooled_type.PooledType.{PooledType}
-use Rattle.prost_reflect_pool.specs.MessageTypes.{fields_of}
-use Rattle.prost_reflect_fields.specs.Known.{known_of, oneof_of, are_siblings}
-use Rattle.prost_reflect_fields.specs.Members.{rows_at, HasMembers}
-use Rattle.prost_reflect_fields.specs.NumberSets.{has, HasWholeOneofs, is_in_oneof}
 use Rattle.prost_reflect_fields.proofs.ItemChanges.{by_number, itself}
 use Rattle.prost_reflect_fields.proofs.Siblings.{known_differ, found_passes}
 use Rattle.prost_reflect_fields.proofs.MembersCleared.{members_known}

@@ -1,4 +1,4 @@
-use Rattle.std.proofs.Common.{arith, ap, sym, ◌∙◌, slice_index_or}
+use Rattle.prost_reflect_fields.proofs.Common.{arith, ap, sym, ◌∙◌, slice_index_or}
 use Rattle.prost_reflect_fields.proofs.Places.{seek_within, item_found, item_absent, value_got}
 use Rattle.prost_reflect_fields.proofs.items.get_at.Goals as goal
 

@@ -1,4 +1,4 @@
-use Rattle.std.proofs.Common.{arith, refl, sym, ◌∙◌}
+use Rattle.prost_reflect_fields.proofs.Common.{arith, refl, sym, ◌∙◌}
 use Rattle.prost_reflect_fields.proofs.Places.{seek_within, item_found, item_absent, with_absent, with_found, set_is, number_kept, value_got}
 use Rattle.prost_reflect_fields.proofs.items.item_mut.Goals as goal
 

@@ -1,5 +1,5 @@
-use Rattle.std.proofs.Common.{arith, length, ◌-◌, sym}
-use Rattle.std.proofs.lemmas.Option.{slice_get_within}
+use Rattle.std.specs.Prelude.{◌-◌}
+use Rattle.prost_reflect_fields.proofs.Common.{arith, length, sym, slice_get_within}
 use Rattle.prost_reflect_fields.proofs.Places.{found_got, missing_behind}
 use Rattle.prost_reflect_fields.proofs.items.place_in.Goals as goal
 

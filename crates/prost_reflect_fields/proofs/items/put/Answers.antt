@@ -1,4 +1,4 @@
-use Rattle.std.proofs.Common.{arith, ◌∙◌}
+use Rattle.prost_reflect_fields.proofs.Common.{arith, ◌∙◌}
 use Rattle.prost_reflect_fields.proofs.Places.{seek_within, gap_within, set_same, put_absent}
 use Rattle.prost_reflect_fields.proofs.items.put.Goals as goal
 

@@ -1,6 +1,4 @@
-use Rattle.std.proofs.Common.{arith, ap, sym, ◌∙◌}
-use Rattle.std.specs.Ordering.{nat_cmp}
-use Rattle.std_collections.specs.Layout.BTreeMap.{seek}
+use Rattle.prost_reflect_fields.proofs.Common.{arith, ap, sym, ◌∙◌, nat_cmp, seek}
 use Rattle.prost_reflect_fields.proofs.Places.{seek_within, item_found, item_absent, without_absent, without_found, value_got}
 use Rattle.prost_reflect_fields.proofs.items.remove_at.Goals as goal
 

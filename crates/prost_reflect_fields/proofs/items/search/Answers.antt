@@ -1,4 +1,4 @@
-use Rattle.std.proofs.Common.{rules}
+use Rattle.prost_reflect_fields.proofs.Common.{rules}
 use Rattle.std.proofs.lemmas.List.Sorted.{answers_always}
 use Rattle.prost_reflect_fields.proofs.Places.{place_is}
 use Rattle.prost_reflect_fields.proofs.items.search.Goals as goal

@@ -1,9 +1,5 @@
-use Rattle.std.proofs.Common.{◌≡◌, ◌≤◌, ℕ, ◌∙◌, Some, length, nat_eq, sym, ap, ap₂, arith}
-use Rattle.std.specs.Prelude.{List, map, slice_get}
-use Rattle.std.specs.List.{list_any}
-use Rattle.std.proofs.lemmas.List.{length-map}
-use Rattle.prost_reflect_wire.specs.Schema.{same_oneof}
-use Rattle.prost_reflect_tables.specs.Rows.{oneof_row, message_row}
+use Rattle.std.specs.Prelude.{◌≡◌, ◌≤◌}
+use Rattle.prost_reflect_fields.proofs.Common.{ℕ, ◌∙◌, Some, length, nat_eq, sym, ap, ap₂, arith, List, map, slice_get, list_any, length-map, same_oneof, oneof_row, message_row}
 use Rattle.prost_reflect_tables.specs.declared.tables.OneofTable.{OneofTable}
 use Rattle.prost_reflect_pool.specs.Pools.{pool_rows}
 use Rattle.prost_reflect_pool.specs.SharedPools as shared

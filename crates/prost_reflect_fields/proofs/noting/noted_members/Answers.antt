@@ -1,7 +1,5 @@
-use Rattle.std.proofs.Common.{◌≡◌, [], Some, ap, sym, subst, ◌∙◌}
-use Rattle.prost_reflect_fields.specs.ItemsLeft.{items_left}
-use Rattle.prost_reflect_fields.specs.Known.{known_of}
-use Rattle.prost_reflect_fields.specs.Noted.{AreNoted}
+use Rattle.std.specs.Prelude.{◌≡◌}
+use Rattle.prost_reflect_fields.proofs.Common.{[], Some, ap, sym, subst, ◌∙◌, items_left, known_of, AreNoted}
 use Rattle.prost_reflect_fields.proofs.AllNoted.{notes_of, all_noted}
 use Rattle.prost_reflect_fields.proofs.Siblings.{known_differ}
 use Rattle.prost_reflect_fields.proofs.noting.noted_members.Goals as goal

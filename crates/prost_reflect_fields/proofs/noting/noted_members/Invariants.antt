@@ -1,6 +1,5 @@
-use Rattle.std.proofs.Common.{◌≡◌, []}
-use Rattle.prost_reflect_fields.specs.ItemsLeft.{items_left}
-use Rattle.prost_reflect_fields.specs.Known.{known_of}
+use Rattle.std.specs.Prelude.{◌≡◌}
+use Rattle.prost_reflect_fields.proofs.Common.{[], items_left, known_of}
 use Rattle.prost_reflect_fields.proofs.AllNoted.{notes_of}
 use Rattle.prost_reflect_fields.proofs.noting.noted_members.Given as goal
 

@@ -1,8 +1,5 @@
-use Rattle.std.proofs.Common.{◌≡◌, ◌+◌, ◌||◌, sym, ◌∙◌, ap, Some, None, drop, drop_of_length-le, get_or, refl, length}
-use Rattle.std.specs.Prelude.{slice_get}
-use Rattle.std.proofs.lemmas.Option.{slice_get_read, slice_get_past}
-use Rattle.prost_reflect_fields.specs.Members.{rows_at}
-use Rattle.prost_reflect_fields.specs.NumberSets.{has, is_in_oneof}
+use Rattle.std.specs.Prelude.{◌≡◌, ◌+◌, ◌||◌}
+use Rattle.prost_reflect_fields.proofs.Common.{sym, ◌∙◌, ap, Some, None, drop, drop_of_length-le, get_or, refl, length, slice_get, slice_get_read, slice_get_past, rows_at, has, is_in_oneof}
 use Rattle.prost_reflect_fields.proofs.MembersCleared.{row_and_rest, no_row_and_rest}
 use Rattle.prost_reflect_fields.proofs.WholeOneofs.{then_added, members_done}
 use Rattle.prost_reflect_fields.proofs.number_sets.add_members.Goals as goal

@@ -1,6 +1,5 @@
-use Rattle.std.proofs.Common.{◌≡◌, ◌||◌, ℕ, drop}
-use Rattle.prost_reflect_fields.specs.Members.{rows_at}
-use Rattle.prost_reflect_fields.specs.NumberSets.{has, is_in_oneof}
+use Rattle.std.specs.Prelude.{◌≡◌, ◌||◌}
+use Rattle.prost_reflect_fields.proofs.Common.{ℕ, drop, rows_at, has, is_in_oneof}
 use Rattle.prost_reflect_fields.proofs.number_sets.add_members.Given as goal
 
 abbrev pub invariant-loop-place : goal.invariant-loop-place

@@ -1,4 +1,4 @@
-use Rattle.std.proofs.lemmas.Result.{on_ok_weaker}
+use Rattle.prost_reflect_fields.proofs.Common.{on_ok_weaker}
 use Rattle.prost_reflect_fields.proofs.WholeOneofs.{whole_added}
 use Rattle.prost_reflect_fields.proofs.number_sets.add_number.Goals as goal
 

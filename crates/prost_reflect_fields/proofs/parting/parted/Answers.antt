@@ -1,6 +1,4 @@
-use Rattle.std.proofs.Common.{arith, cond, length, None, Some, ap, ◌∙◌}
-use Rattle.prost_reflect_fields.specs.FieldSlots.{value_in, left_in}
-use Rattle.prost_reflect_fields.specs.Known.{known_of, is_listed}
+use Rattle.prost_reflect_fields.proofs.Common.{arith, cond, length, None, Some, ap, ◌∙◌, value_in, left_in, known_of, is_listed}
 use Rattle.prost_reflect_fields.proofs.SlotsParted.{taken_more, kept_more}
 use Rattle.prost_reflect_fields.proofs.parting.parted.Goals as goal
 

@@ -1,8 +1,5 @@
-use Rattle.std.proofs.Common.{◌≡◌, ◌+◌, ◌≤◌, ◌++◌, length}
-use Rattle.std.specs.Prelude.{vec_len, vec_capacity}
-use Rattle.std.specs.Vec.Iter.{into_iter_items}
-use Rattle.prost_reflect_fields.specs.FieldSlots.{values_where, without_values}
-use Rattle.prost_reflect_fields.specs.Known.{known_of, is_listed}
+use Rattle.std.specs.Prelude.{◌≡◌, ◌+◌, ◌≤◌, ◌++◌}
+use Rattle.prost_reflect_fields.proofs.Common.{length, vec_len, vec_capacity, into_iter_items, values_where, without_values, known_of, is_listed}
 use Rattle.prost_reflect_fields.proofs.parting.parted.Given as goal
 
 -- the slots so far were parted, and there is room for those that are left

@@ -1,6 +1,5 @@
-use Rattle.std.proofs.Common.{[], ap, ap₂, sym, subst, ◌++◌, ◌∙◌}
-use Rattle.prost_reflect_fields.specs.Items.{IsAscending, items_below, items_from}
-use Rattle.prost_reflect_fields.specs.Runs.{flat}
+use Rattle.std.specs.Prelude.{◌++◌}
+use Rattle.prost_reflect_fields.proofs.Common.{[], ap, ap₂, sym, subst, ◌∙◌, IsAscending, items_below, items_from, flat}
 use Rattle.prost_reflect_fields.proofs.Bounds.{below_home, from_home, in_front_of, behind_it, from_above, below_above}
 use Rattle.prost_reflect_fields.proofs.Places.{empty_ascends}
 use Rattle.prost_reflect_fields.proofs.RunChanges.{run_found, none_found, ahead_above, own_ascends, run_got}

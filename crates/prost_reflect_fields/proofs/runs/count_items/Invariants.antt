@@ -1,5 +1,5 @@
-use Rattle.std.proofs.Common.{◌≡◌, ◌+◌, length, drop}
-use Rattle.prost_reflect_fields.specs.Runs.{flat}
+use Rattle.std.specs.Prelude.{◌≡◌, ◌+◌}
+use Rattle.prost_reflect_fields.proofs.Common.{length, drop, flat}
 use Rattle.prost_reflect_fields.proofs.runs.count_items.Given as goal
 
 -- what is counted, with those of the runs that are left, are all

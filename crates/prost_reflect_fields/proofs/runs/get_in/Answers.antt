@@ -1,5 +1,4 @@
-use Rattle.std.proofs.Common.{sym, subst, ap, ◌∙◌}
-use Rattle.prost_reflect_fields.specs.Items.{IsAscending}
+use Rattle.prost_reflect_fields.proofs.Common.{sym, subst, ap, ◌∙◌, IsAscending}
 use Rattle.prost_reflect_fields.proofs.ItemChanges.{none_above}
 use Rattle.prost_reflect_fields.proofs.RunChanges.{run_found, none_found, ahead_above, own_ascends, run_got, item_found_in}
 use Rattle.prost_reflect_fields.proofs.runs.get_in.Goals as goal

@@ -1,6 +1,5 @@
-use Rattle.std.proofs.Common.{◌≡◌, ◌++◌, ◌+◌, ◌≤◌, length, vec_len, vec_capacity}
-use Rattle.std.specs.Vec.Iter.{into_iter_items}
-use Rattle.prost_reflect_fields.specs.Runs.{flat}
+use Rattle.std.specs.Prelude.{◌≡◌, ◌++◌, ◌+◌, ◌≤◌}
+use Rattle.prost_reflect_fields.proofs.Common.{length, vec_len, vec_capacity, into_iter_items, flat}
 use Rattle.prost_reflect_fields.proofs.runs.join_runs.Given as goal
 
 -- what is joined, with the runs that are left, is the whole; and there is room for them

@@ -1,5 +1,5 @@
-use Rattle.std.proofs.Common.{arith, ◌<◌, ◌/◌, length, sym, subst, ap, ◌∙◌, refl}
-use Rattle.prost_reflect_fields.specs.Runs.{flat, IsLaid}
+use Rattle.std.specs.Prelude.{◌<◌, ◌/◌}
+use Rattle.prost_reflect_fields.proofs.Common.{arith, length, sym, subst, ap, ◌∙◌, refl, flat, IsLaid}
 use Rattle.prost_reflect_fields.proofs.RunChanges.{parted_laid, parted_flat}
 use Rattle.prost_reflect_fields.proofs.runs.part_run.Goals as goal
 

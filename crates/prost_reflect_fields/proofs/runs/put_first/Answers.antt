@@ -1,5 +1,5 @@
-use Rattle.std.proofs.Common.{ℕ, [], ◌∷◌, ◌++◌, insert, sym, subst, ap, ◌∙◌}
-use Rattle.prost_reflect_fields.specs.Runs.{flat, IsLaid}
+use Rattle.std.specs.Prelude.{◌∷◌, ◌++◌}
+use Rattle.prost_reflect_fields.proofs.Common.{ℕ, [], insert, sym, subst, ap, ◌∙◌, flat, IsLaid}
 use Rattle.prost_reflect_fields.proofs.RunChanges.{none_found, put_ahead, laid_ahead, insert_first}
 use Rattle.prost_reflect_fields.proofs.runs.put_first.Goals as goal
 

@@ -1,10 +1,4 @@
-use Rattle.std.proofs.Common.{sym, subst, ap, ◌∙◌}
-use Rattle.std.proofs.lemmas.Result.{on_ok_weaker, on_err_weaker}
-use Rattle.std.specs.Ordering.{nat_cmp}
-use Rattle.std.specs.Map.{keys_of}
-use Rattle.std_collections.specs.Layout.BTreeMap.{seek}
-use Rattle.prost_reflect_fields.specs.Items.{IsAscending, put_item}
-use Rattle.prost_reflect_fields.specs.Runs.{run_at}
+use Rattle.prost_reflect_fields.proofs.Common.{sym, subst, ap, ◌∙◌, on_ok_weaker, on_err_weaker, nat_cmp, keys_of, seek, IsAscending, put_item, run_at}
 use Rattle.prost_reflect_fields.proofs.RunChanges.{run_found, own_ascends, run_got, laid_put, laid_keys, put_home, same_home}
 use Rattle.prost_reflect_fields.proofs.Results.{either}
 use Rattle.prost_reflect_fields.proofs.runs.put_in.Goals as goal

@@ -1,8 +1,4 @@
-use Rattle.std.proofs.Common.{[], sym, subst, ap, ◌∙◌}
-use Rattle.std.specs.Ordering.{nat_cmp}
-use Rattle.std_collections.specs.Layout.BTreeMap.{seek}
-use Rattle.prost_reflect_fields.specs.Items.{IsAscending, without_item}
-use Rattle.prost_reflect_fields.specs.Runs.{run_at, flat}
+use Rattle.prost_reflect_fields.proofs.Common.{[], sym, subst, ap, ◌∙◌, nat_cmp, seek, IsAscending, without_item, run_at, flat}
 use Rattle.prost_reflect_fields.proofs.ItemChanges.{none_above}
 use Rattle.prost_reflect_fields.proofs.RunChanges.{run_found, none_found, ahead_above, own_ascends, run_got, laid_without, without_home, item_found_in, without_above}
 use Rattle.prost_reflect_fields.proofs.runs.remove_in.Goals as goal

@@ -1,4 +1,4 @@
-use Rattle.std.proofs.Common.{arith}
+use Rattle.prost_reflect_fields.proofs.Common.{arith}
 use Rattle.prost_reflect_fields.proofs.Places.{seek_within, gap_within}
 use Rattle.prost_reflect_fields.proofs.RunChanges.{runs_ascend}
 use Rattle.prost_reflect_fields.proofs.runs.run_of.Goals as goal

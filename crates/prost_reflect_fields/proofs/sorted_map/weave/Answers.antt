@@ -1,6 +1,5 @@
-use Rattle.std.proofs.Common.{arith, rules, ◌≡◌, ℕ, ◌++◌, length, sym, subst, ◌∙◌}
-use Rattle.std.specs.Option.{option_to_list}
-use Rattle.std.specs.Vec.Iter.{into_iter_items}
+use Rattle.std.specs.Prelude.{◌≡◌, ◌++◌}
+use Rattle.prost_reflect_fields.proofs.Common.{arith, rules, ℕ, length, sym, subst, ◌∙◌, option_to_list, into_iter_items}
 use Rattle.prost_reflect_fields.proofs.Weaving.{IsWoven, none_of, old_passed, pushed, all_walked}
 use Rattle.prost_reflect_fields.proofs.sorted_map.weave.Goals as goal
 

@@ -1,6 +1,5 @@
-use Rattle.std.proofs.Common.{◌++◌, ◌+◌, ◌≤◌, length, vec_len, vec_capacity, IfNone, [], ◌≡◌}
-use Rattle.std.specs.Option.{option_to_list}
-use Rattle.std.specs.Vec.Iter.{into_iter_items, into_iter_len}
+use Rattle.std.specs.Prelude.{◌++◌, ◌+◌, ◌≤◌, ◌≡◌}
+use Rattle.prost_reflect_fields.proofs.Common.{length, vec_len, vec_capacity, IfNone, [], option_to_list, into_iter_items, into_iter_len}
 use Rattle.prost_reflect_fields.proofs.Weaving.{IsWoven}
 use Rattle.prost_reflect_fields.proofs.sorted_map.weave.Given as goal
 

@@ -1,9 +1,5 @@
-use Rattle.std.proofs.Common.{◌≡◌, ◌++◌, [], ◌∷◌, None, Some, Option, Bor, ap, sym, ◌∙◌, subst, false}
-use Rattle.std.proofs.lemmas.Result.{on_ok_weaker, on_err_weaker}
-use Rattle.std.specs.Option.{option_copied, is_some}
-use Rattle.prost_reflect_fields.specs.FieldSlots.{UnknownAdded, SameStored}
-use Rattle.prost_reflect_fields.specs.Items.{item_at}
-use Rattle.prost_reflect_wire.specs.Unknown.{unknown_record}
+use Rattle.std.specs.Prelude.{◌≡◌, ◌++◌, ◌∷◌}
+use Rattle.prost_reflect_fields.proofs.Common.{[], None, Some, Option, Bor, ap, sym, ◌∙◌, subst, false, on_ok_weaker, on_err_weaker, option_copied, is_some, UnknownAdded, SameStored, item_at, unknown_record}
 use Rattle.prost_reflect_fields.proofs.SlotChanges.{added_first, added_beside, same_beside}
 use Rattle.prost_reflect_fields.proofs.stored.add_unknown.Goals as goal
 

@@ -1,7 +1,5 @@
-use Rattle.std.proofs.Common.{◌≡◌, ◌<◌, ℕ, Bool, List, Option, Some, None, sym, subst, ap, ◌∙◌}
-use Rattle.prost_reflect_fields.specs.declared.slot.FieldSlot.{FieldSlot}
-use Rattle.prost_reflect_fields.specs.FieldSlots.{without_values, first_value}
-use Rattle.prost_reflect_fields.specs.Known.{known_of, is_other_member}
+use Rattle.std.specs.Prelude.{◌≡◌, ◌<◌}
+use Rattle.prost_reflect_fields.proofs.Common.{ℕ, Bool, List, Option, Some, None, sym, subst, ap, ◌∙◌, FieldSlot, without_values, first_value, known_of, is_other_member}
 use Rattle.prost_reflect_fields.proofs.PresentSiblings.{value_count, one_taken, none_left, one_less}
 use Rattle.prost_reflect_fields.proofs.stored.clear_listed.Goals as goal
 

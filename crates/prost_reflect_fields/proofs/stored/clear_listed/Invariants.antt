@@ -1,6 +1,5 @@
-use Rattle.std.proofs.Common.{◌≡◌}
-use Rattle.prost_reflect_fields.specs.FieldSlots.{without_values}
-use Rattle.prost_reflect_fields.specs.Known.{known_of, is_other_member}
+use Rattle.std.specs.Prelude.{◌≡◌}
+use Rattle.prost_reflect_fields.proofs.Common.{without_values, known_of, is_other_member}
 use Rattle.prost_reflect_fields.proofs.PresentSiblings.{value_count}
 use Rattle.prost_reflect_fields.proofs.stored.clear_listed.Given as goal
 

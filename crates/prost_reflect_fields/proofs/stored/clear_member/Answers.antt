@@ -1,5 +1,4 @@
-use Rattle.std.proofs.Common.{sym, ◌∙◌}
-use Rattle.std.proofs.lemmas.Bool.{eq-eqb}
+use Rattle.prost_reflect_fields.proofs.Common.{sym, ◌∙◌, eq-eqb}
 use Rattle.prost_reflect_fields.proofs.MembersCleared.{own_stays, other_stays}
 use Rattle.prost_reflect_fields.proofs.stored.clear_member.Goals as goal
 use Rattle.prost_reflect_fields.proofs.stored.clear_member.Goals.{else-field-number-via-then-field-number+else-is_same_oneof, else-field-number-via-else-field-number}

@@ -1,8 +1,5 @@
-use Rattle.std.proofs.Common.{◌≡◌, ◌+◌, sym, ◌∙◌, ap, Some, None, drop, drop_of_length-le, get_or, refl, length}
-use Rattle.std.specs.Prelude.{slice_get}
-use Rattle.std.proofs.lemmas.Option.{slice_get_read, slice_get_past}
-use Rattle.prost_reflect_fields.specs.FieldSlots.{without_values}
-use Rattle.prost_reflect_fields.specs.Members.{is_member, rows_at}
+use Rattle.std.specs.Prelude.{◌≡◌, ◌+◌}
+use Rattle.prost_reflect_fields.proofs.Common.{sym, ◌∙◌, ap, Some, None, drop, drop_of_length-le, get_or, refl, length, slice_get, slice_get_read, slice_get_past, without_values, is_member, rows_at}
 use Rattle.prost_reflect_fields.proofs.MembersCleared.{then_cleared, all_cleared, row_and_rest, no_row_and_rest}
 use Rattle.prost_reflect_fields.proofs.stored.clear_members.Goals as goal
 use Rattle.prost_reflect_fields.proofs.stored.clear_members.Goals.{in-Some, in_default}

@@ -1,6 +1,5 @@
-use Rattle.std.proofs.Common.{◌≡◌, drop}
-use Rattle.prost_reflect_fields.specs.FieldSlots.{without_values}
-use Rattle.prost_reflect_fields.specs.Members.{is_member, rows_at}
+use Rattle.std.specs.Prelude.{◌≡◌}
+use Rattle.prost_reflect_fields.proofs.Common.{drop, without_values, is_member, rows_at}
 use Rattle.prost_reflect_fields.proofs.stored.clear_members.Given as goal
 
 abbrev pub invariant-loop-place : goal.invariant-loop-place

@@ -1,5 +1,5 @@
-use Rattle.std.proofs.Common.{◌≡◌, sym, ◌∙◌}
-use Rattle.prost_reflect_fields.specs.Known.{known_of, oneof_of}
+use Rattle.std.specs.Prelude.{◌≡◌}
+use Rattle.prost_reflect_fields.proofs.Common.{sym, ◌∙◌, known_of, oneof_of}
 use Rattle.prost_reflect_fields.proofs.MembersCleared.{siblings_cleared}
 use Rattle.prost_reflect_fields.proofs.PresentSiblings.{others_cleared}
 use Rattle.prost_reflect_fields.proofs.stored.clear_siblings.Goals as goal

@@ -1,6 +1,5 @@
-use Rattle.std.proofs.Common.{◌≡◌, drop}
-use Rattle.prost_reflect_fields.specs.FieldSlots.{first_value}
-use Rattle.prost_reflect_fields.specs.Known.{known_of, is_other_member}
+use Rattle.std.specs.Prelude.{◌≡◌}
+use Rattle.prost_reflect_fields.proofs.Common.{drop, first_value, known_of, is_other_member}
 use Rattle.prost_reflect_fields.proofs.stored.member_among.Given as goal
 
 -- none was found so far

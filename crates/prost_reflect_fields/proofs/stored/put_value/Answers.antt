@@ -1,10 +1,5 @@
-use Rattle.std.proofs.Common.{ap, sym, ◌∙◌}
+use Rattle.prost_reflect_fields.proofs.Common.{ap, sym, ◌∙◌, on_ok_weaker, on_err_weaker, is_at, nat_cmp, put_slot, with_item}
 use Rattle.std.proofs.lemmas.Map.Steps.{set_value_same}
-use Rattle.std.proofs.lemmas.Result.{on_ok_weaker, on_err_weaker}
-use Rattle.std.specs.BTreeMap.{is_at}
-use Rattle.std.specs.Ordering.{nat_cmp}
-use Rattle.prost_reflect_fields.specs.FieldSlots.{put_slot}
-use Rattle.prost_reflect_fields.specs.Items.{with_item}
 use Rattle.prost_reflect_fields.proofs.stored.put_value.Goals as goal
 
 pub returns-in-Some-clause-ok : goal.returns-in-Some-clause-ok

@@ -1,8 +1,4 @@
-use Rattle.std.proofs.Common.{ap, sym, subst, ◌∙◌}
-use Rattle.prost_reflect_fields.specs.Items.{IsAscending, put_item}
-use Rattle.prost_reflect_fields.specs.FieldSlots.{put_value}
-use Rattle.prost_reflect_fields.specs.Known.{known_of}
-use Rattle.prost_reflect_fields.specs.Noted.{AreNoted, without_noted}
+use Rattle.prost_reflect_fields.proofs.Common.{ap, sym, subst, ◌∙◌, IsAscending, put_item, put_value, known_of, AreNoted, without_noted}
 use Rattle.prost_reflect_fields.proofs.NotedMembers.{set_noted, noted_set, noted_kept}
 use Rattle.prost_reflect_fields.proofs.Siblings.{known_differ}
 use Rattle.prost_reflect_fields.proofs.stored.set_in_oneof.Goals as goal

@@ -1,7 +1,4 @@
-use Rattle.std.proofs.Common.{sym, subst, ◌∙◌}
-use Rattle.std.proofs.lemmas.Result.{on_ok_weaker}
-use Rattle.prost_reflect_fields.specs.Known.{known_of}
-use Rattle.prost_reflect_fields.specs.Sound.{OneofsSingle}
+use Rattle.prost_reflect_fields.proofs.Common.{sym, subst, ◌∙◌, on_ok_weaker, known_of, OneofsSingle}
 use Rattle.prost_reflect_fields.proofs.NotedMembers.{set_alone, noted_alone, noted_after}
 use Rattle.prost_reflect_fields.proofs.Results.{either}
 use Rattle.prost_reflect_fields.proofs.Siblings.{known_differ}

@@ -1,7 +1,4 @@
-use Rattle.std.proofs.Common.{rules, Some, ap, sym, ◌∙◌}
-use Rattle.std.specs.Option.{option_and_then}
-use Rattle.prost_reflect_fields.specs.FieldSlots.{value_in}
-use Rattle.prost_reflect_fields.specs.Items.{with_item}
+use Rattle.prost_reflect_fields.proofs.Common.{rules, Some, ap, sym, ◌∙◌, option_and_then, value_in, with_item}
 use Rattle.prost_reflect_fields.proofs.SlotChanges.{take_found, take_removed, take_missing}
 use Rattle.prost_reflect_fields.proofs.stored.take_value.Goals as goal
 

@@ -1,9 +1,5 @@
-use Rattle.std.proofs.Common.{refl, ap, sym, ◌∙◌}
+use Rattle.prost_reflect_fields.proofs.Common.{refl, ap, sym, ◌∙◌, is_at, nat_cmp, option_and_then, value_in, with_slot, revalued}
 use Rattle.std.proofs.lemmas.Map.Steps.{set_value_same}
-use Rattle.std.specs.BTreeMap.{is_at}
-use Rattle.std.specs.Ordering.{nat_cmp}
-use Rattle.std.specs.Option.{option_and_then}
-use Rattle.prost_reflect_fields.specs.FieldSlots.{value_in, with_slot, revalued}
 use Rattle.prost_reflect_fields.proofs.stored.value_mut.Goals as goal
 
 pub returns-in-Some : goal.returns-in-Some

@@ -1,11 +1,5 @@
-use Rattle.std.proofs.Common.{◌≡◌, Bool, true, false, cond, refl, ap, sym, subst, ◌∙◌, List, ℕ, true≢false}
-use Rattle.std.specs.Option.{is_some}
-use Rattle.prost_reflect_wire.specs.Schema.{Field}
-use Rattle.prost_reflect_fields.specs.declared.slot.FieldSlot.{FieldSlot}
-use Rattle.prost_reflect_fields.specs.Items.{IsAscending}
-use Rattle.prost_reflect_fields.specs.Known.{known_of}
-use Rattle.prost_reflect_fields.specs.FieldSlots.{stored_at, with_value}
-use Rattle.prost_reflect_fields.specs.Sound.{OneofsSingle, set_value_at, prepared}
+use Rattle.std.specs.Prelude.{◌≡◌}
+use Rattle.prost_reflect_fields.proofs.Common.{Bool, true, false, cond, refl, ap, sym, subst, ◌∙◌, List, ℕ, true≢false, is_some, Field, FieldSlot, IsAscending, known_of, stored_at, with_value, OneofsSingle, set_value_at, prepared}
 use Rattle.prost_reflect_fields.proofs.NotedMembers.{noted_after, noted_written}
 use Rattle.prost_reflect_fields.proofs.SoundChanges.{value_set, single_less, fewer_written}
 use Rattle.prost_reflect_fields.proofs.stored.value_mut_or.Goals as goal

@@ -1,6 +1,5 @@
-use Rattle.std.proofs.Common.{◌≡◌, ◌++◌, ◌+◌, ◌≤◌, vec_capacity, vec_len}
-use Rattle.std.specs.Vec.Iter.{into_iter_items, into_iter_len}
-use Rattle.prost_reflect_fields.specs.FieldSlots.{unknown_sets, values_alone}
+use Rattle.std.specs.Prelude.{◌≡◌, ◌++◌, ◌+◌, ◌≤◌}
+use Rattle.prost_reflect_fields.proofs.Common.{vec_capacity, vec_len, into_iter_items, into_iter_len, unknown_sets, values_alone}
 use Rattle.prost_reflect_fields.proofs.taking.part_all.Given as goal
 
 -- what is put aside, with what the rest gives, is what the whole gives; and there is room for the rest

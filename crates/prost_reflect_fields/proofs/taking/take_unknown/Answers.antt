@@ -1,6 +1,5 @@
-use Rattle.std.proofs.Common.{◌≡◌, ◌++◌, ◌∙◌, ap, ap₂, subst, sym}
-use Rattle.prost_reflect_fields.specs.FieldSlots.{values_alone}
-use Rattle.prost_reflect_fields.specs.Items.{IsAscending}
+use Rattle.std.specs.Prelude.{◌≡◌, ◌++◌}
+use Rattle.prost_reflect_fields.proofs.Common.{◌∙◌, ap, ap₂, subst, sym, values_alone, IsAscending}
 use Rattle.prost_reflect_fields.proofs.ValuesAlone.{ascending_alone}
 use Rattle.prost_reflect_fields.proofs.taking.take_unknown.Goals as goal
 

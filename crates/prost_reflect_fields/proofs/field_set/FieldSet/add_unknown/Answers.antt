@@ -1,6 +1,5 @@
-use Rattle.std.proofs.Common.{◌≡◌, true, refl, sym, ◌∙◌, ap, subst}
-use Rattle.prost_reflect_wire.specs.Unknown.{unknown_record}
-use Rattle.prost_reflect_fields.specs.Known.{known_of, keeps_unknown}
+use Rattle.std.specs.Prelude.{◌≡◌}
+use Rattle.prost_reflect_fields.proofs.Common.{true, refl, sym, ◌∙◌, ap, subst, unknown_record, known_of, keeps_unknown}
 use Rattle.prost_reflect_fields.proofs.NotedMembers.{noted_after, noted_stored}
 use Rattle.prost_reflect_fields.proofs.SoundChanges.{sound_added, sound_stored}
 use Rattle.prost_reflect_fields.proofs.Results.{either}

@@ -1,14 +1,9 @@
-use Rattle.std.proofs.Common.{◌≡◌, ◌∙◌, ap, true, ℕ, List, inr, sym, subst, Ok, Err, Result, Some}
+use Rattle.std.specs.Prelude.{◌≡◌}
+use Rattle.prost_reflect_fields.proofs.Common.{◌∙◌, ap, true, ℕ, List, inr, sym, subst, Ok, Err, Result, Some, PooledType, FieldSlot, stored_at, with_value, IsAscending, known_of, is_known, Sound, prepared}
 use mathlib.Core.Option.{some}
 use borrow.Follows.Closed.{read_of}
 use Rattle.std.specs.Borrow.{MutBor, name_if_ok}
 use Rattle.std.specs.Result.{OnOk, OnErr, IfOk}
-use Rattle.prost_reflect_pool.specs.declared.pooled_type.PooledType.{PooledType}
-use Rattle.prost_reflect_fields.specs.declared.slot.FieldSlot.{FieldSlot}
-use Rattle.prost_reflect_fields.specs.FieldSlots.{stored_at, with_value}
-use Rattle.prost_reflect_fields.specs.Items.{IsAscending}
-use Rattle.prost_reflect_fields.specs.Known.{known_of, is_known}
-use Rattle.prost_reflect_fields.specs.Sound.{Sound, prepared}
 use Rattle.prost_reflect_fields.proofs.Siblings.{known_differ}
 use Rattle.prost_reflect_fields.proofs.SoundChanges.{sound_written, sound_prepared}
 use Rattle.prost_reflect_fields.proofs.Results.{either}

@@ -1,10 +1,5 @@
-use Rattle.std.proofs.Common.{◌≡◌, ℕ, List, sym, ◌∙◌, ap, subst}
-use Rattle.prost_reflect_pool.specs.declared.pooled_type.PooledType.{PooledType}
-use Rattle.prost_reflect_fields.specs.declared.slot.FieldSlot.{FieldSlot}
-use Rattle.prost_reflect_fields.specs.Known.{known_of}
-use Rattle.prost_reflect_fields.specs.Noted.{AreNoted}
-use Rattle.prost_reflect_fields.specs.Sound.{Sound}
-use Rattle.prost_reflect_fields.specs.NumberSets.{HasWholeOneofs}
+use Rattle.std.specs.Prelude.{◌≡◌}
+use Rattle.prost_reflect_fields.proofs.Common.{ℕ, List, sym, ◌∙◌, ap, subst, PooledType, FieldSlot, known_of, AreNoted, Sound, HasWholeOneofs}
 use Rattle.prost_reflect_fields.proofs.Siblings.{known_differ}
 use Rattle.prost_reflect_fields.proofs.Replaced.{sound_replaced}
 use Rattle.prost_reflect_fields.proofs.Results.{either_both}

@@ -1,6 +1,5 @@
-use Rattle.std.proofs.Common.{◌≡◌, true, sym, subst, ◌∙◌}
-use Rattle.prost_reflect_fields.specs.Known.{known_of, is_known}
-use Rattle.prost_reflect_fields.specs.Sound.{Sound}
+use Rattle.std.specs.Prelude.{◌≡◌}
+use Rattle.prost_reflect_fields.proofs.Common.{true, sym, subst, ◌∙◌, known_of, is_known, Sound}
 use Rattle.prost_reflect_fields.proofs.Siblings.{known_differ}
 use Rattle.prost_reflect_fields.proofs.SoundChanges.{sound_set}
 use Rattle.prost_reflect_fields.proofs.Results.{either}

@@ -1,6 +1,4 @@
-use Rattle.std.proofs.Common.{nat_eq, sym, subst}
-use Rattle.prost_reflect_fields.specs.Known.{known_of}
-use Rattle.prost_reflect_fields.specs.Sound.{Sound}
+use Rattle.prost_reflect_fields.proofs.Common.{nat_eq, sym, subst, known_of, Sound}
 use Rattle.prost_reflect_fields.proofs.NotedMembers.{noted_after, noted_without}
 use Rattle.prost_reflect_fields.proofs.SoundChanges.{sound_without}
 use Rattle.prost_reflect_fields.proofs.field_set.FieldSet.take.Goals as goal

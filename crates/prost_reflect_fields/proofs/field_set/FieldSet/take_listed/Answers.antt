@@ -1,9 +1,5 @@
-use Rattle.std.proofs.Common.{arith, ◌++◌, length, sym, ◌∙◌, ap, subst}
-use Rattle.prost_reflect_fields.specs.FieldSlots.{without_values}
-use Rattle.prost_reflect_fields.specs.Items.{IsAscending}
-use Rattle.prost_reflect_fields.specs.Known.{known_of, is_listed}
-use Rattle.prost_reflect_fields.specs.Noted.{AreNoted}
-use Rattle.prost_reflect_fields.specs.Sound.{Sound, IsSound}
+use Rattle.std.specs.Prelude.{◌++◌}
+use Rattle.prost_reflect_fields.proofs.Common.{arith, length, sym, ◌∙◌, ap, subst, without_values, IsAscending, known_of, is_listed, AreNoted, Sound, IsSound}
 use Rattle.prost_reflect_fields.proofs.SlotChanges.{ascending_without_values}
 use Rattle.prost_reflect_fields.proofs.SoundChanges.{sound_without}
 use Rattle.prost_reflect_fields.proofs.field_set.FieldSet.take_listed.Goals as goal

@@ -1,7 +1,4 @@
-use Rattle.std.proofs.Common.{sym, subst}
-use Rattle.prost_reflect_fields.specs.Known.{known_of}
-use Rattle.prost_reflect_fields.specs.Noted.{AreNoted}
-use Rattle.prost_reflect_fields.specs.Sound.{Sound}
+use Rattle.prost_reflect_fields.proofs.Common.{sym, subst, known_of, AreNoted, Sound}
 use Rattle.prost_reflect_fields.proofs.ValuesAlone.{sound_alone}
 use Rattle.prost_reflect_fields.proofs.Results.{either}
 use Rattle.prost_reflect_fields.proofs.field_set.FieldSet.take_unknown.Goals as goal

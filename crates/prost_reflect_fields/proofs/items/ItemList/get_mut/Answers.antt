@@ -1,5 +1,4 @@
-use Rattle.std.proofs.Common.{sym, subst}
-use Rattle.prost_reflect_fields.specs.Items.{IsAscending}
+use Rattle.prost_reflect_fields.proofs.Common.{sym, subst, IsAscending}
 use Rattle.prost_reflect_fields.proofs.ItemChanges.{ascending_with}
 use Rattle.prost_reflect_fields.proofs.items.ItemList.get_mut.Goals as goal
 

@@ -1,5 +1,4 @@
-use Rattle.std.proofs.Common.{subst, sym}
-use Rattle.prost_reflect_fields.specs.Items.{IsAscending}
+use Rattle.prost_reflect_fields.proofs.Common.{subst, sym, IsAscending}
 use Rattle.prost_reflect_fields.proofs.ItemChanges.{ascending_put_item}
 use Rattle.prost_reflect_fields.proofs.Results.{either}
 use Rattle.prost_reflect_fields.proofs.items.ItemList.insert.Goals as goal

@@ -1,5 +1,4 @@
-use Rattle.std.proofs.Common.{subst}
-use Rattle.prost_reflect_fields.specs.Items.{IsAscending}
+use Rattle.prost_reflect_fields.proofs.Common.{subst, IsAscending}
 use Rattle.prost_reflect_fields.proofs.items.ItemList.items.Goals as goal
 
 pub returns-clause-ascending : goal.returns-clause-ascending

@@ -1,5 +1,4 @@
-use Rattle.std.proofs.Common.{subst, sym}
-use Rattle.prost_reflect_fields.specs.Items.{IsAscending}
+use Rattle.prost_reflect_fields.proofs.Common.{subst, sym, IsAscending}
 use Rattle.prost_reflect_fields.proofs.ItemChanges.{ascending_without}
 use Rattle.prost_reflect_fields.proofs.items.ItemList.remove.Goals as goal
 

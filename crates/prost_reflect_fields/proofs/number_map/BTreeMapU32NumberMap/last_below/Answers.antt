@@ -1,5 +1,4 @@
-use Rattle.std.proofs.Common.{ap, sym, ◌∙◌}
-use Rattle.prost_reflect_wire.specs.Grammar.{last}
+use Rattle.prost_reflect_fields.proofs.Common.{ap, sym, ◌∙◌, last}
 use Rattle.prost_reflect_fields.proofs.Bounds.{below_range, last_behind}
 use Rattle.prost_reflect_fields.proofs.number_map.BTreeMapU32NumberMap.last_below.Goals as goal
 

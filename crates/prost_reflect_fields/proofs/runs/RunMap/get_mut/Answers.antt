@@ -1,10 +1,7 @@
-use Rattle.std.proofs.Common.{arith, ◌≡◌, ℕ, List, Option, option_map, sym, subst, ap, ◌∙◌, ◌<◌, length}
+use Rattle.std.specs.Prelude.{◌≡◌, ◌<◌}
+use Rattle.prost_reflect_fields.proofs.Common.{arith, ℕ, List, Option, option_map, sym, subst, ap, ◌∙◌, length, nat_cmp, seek, IsAscending, item_at, with_item, run_at, flat}
 use mathlib.Core.Logic.{inl, inr, ◌⊎◌}
 use Rattle.std.specs.Vec.{with_item as vec_with}
-use Rattle.std.specs.Ordering.{nat_cmp}
-use Rattle.std_collections.specs.Layout.BTreeMap.{seek}
-use Rattle.prost_reflect_fields.specs.Items.{IsAscending, item_at, with_item}
-use Rattle.prost_reflect_fields.specs.Runs.{run_at, flat}
 use Rattle.prost_reflect_fields.proofs.ItemChanges.{none_above}
 use Rattle.prost_reflect_fields.proofs.RunChanges.{run_found, none_found, ahead_above, own_ascends, run_got, found_within, lent_keys, lent_is, lent_value, none_lent, laid_keys, with_home}
 use Rattle.prost_reflect_fields.proofs.runs.RunMap.get_mut.Goals as goal

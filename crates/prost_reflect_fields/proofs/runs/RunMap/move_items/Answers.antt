@@ -1,5 +1,4 @@
-use Rattle.std.proofs.Common.{ℕ, List, Option, subst}
-use Rattle.prost_reflect_fields.specs.Items.{IsAscending}
+use Rattle.prost_reflect_fields.proofs.Common.{ℕ, List, Option, subst, IsAscending}
 use Rattle.prost_reflect_fields.proofs.RunChanges.{flat_ascends}
 use Rattle.prost_reflect_fields.proofs.runs.RunMap.move_items.Goals as goal
 

@@ -1,6 +1,5 @@
-use Rattle.std.proofs.Common.{◌≡◌, ◌++◌, length}
-use Rattle.prost_reflect_fields.specs.Runs.{flat}
-use Rattle.prost_reflect_fields.specs.ItemsLeft.{items_left}
+use Rattle.std.specs.Prelude.{◌≡◌, ◌++◌}
+use Rattle.prost_reflect_fields.proofs.Common.{length, flat, items_left}
 use Rattle.prost_reflect_fields.proofs.sorted_map.Items.fill.Given as goal
 
 -- nothing is lost, and nothing given twice

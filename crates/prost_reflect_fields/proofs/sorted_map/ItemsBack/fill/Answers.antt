@@ -1,6 +1,5 @@
-use Rattle.std.proofs.Common.{rules, ◌≡◌, ◌++◌, length, sym, ap, ◌∙◌}
-use Rattle.std.proofs.lemmas.List.{append-nil}
-use Rattle.prost_reflect_fields.specs.Runs.{flat}
+use Rattle.std.specs.Prelude.{◌≡◌, ◌++◌}
+use Rattle.prost_reflect_fields.proofs.Common.{rules, length, sym, ap, ◌∙◌, append-nil, flat}
 use Rattle.prost_reflect_fields.proofs.Weaving.{none_of}
 use Rattle.prost_reflect_fields.proofs.RunChanges.{last_run}
 use Rattle.prost_reflect_fields.proofs.sorted_map.ItemsBack.fill.Goals as goal

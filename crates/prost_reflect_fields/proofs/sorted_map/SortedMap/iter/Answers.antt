@@ -1,5 +1,4 @@
-use Rattle.std.proofs.Common.{ℕ, List, Option, sym, ap, ◌∙◌}
-use Rattle.prost_reflect_fields.specs.Held.{held_items}
+use Rattle.prost_reflect_fields.proofs.Common.{ℕ, List, Option, sym, ap, ◌∙◌, held_items}
 use Rattle.prost_reflect_fields.proofs.Places.{empty_ascends}
 use Rattle.prost_reflect_fields.proofs.sorted_map.SortedMap.iter.Goals as goal
 

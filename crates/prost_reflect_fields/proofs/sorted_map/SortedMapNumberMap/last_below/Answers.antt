@@ -1,6 +1,4 @@
-use Rattle.std.proofs.Common.{ap, sym, ◌∙◌}
-use Rattle.prost_reflect_wire.specs.Grammar.{last}
-use Rattle.prost_reflect_fields.specs.ItemsLeft.{items_left_back}
+use Rattle.prost_reflect_fields.proofs.Common.{ap, sym, ◌∙◌, last, items_left_back}
 use Rattle.prost_reflect_fields.proofs.Bounds.{last_behind}
 use Rattle.prost_reflect_fields.proofs.sorted_map.SortedMapNumberMap.last_below.Goals as goal
 
