@@ -1,12 +1,6 @@
 -- The worked examples of the records of a descriptor set.
-use Rattle.std.proofs.Common.{refl}
-use Rattle.std.specs.Str.{is_utf8, chars}
+use Rattle.prost_reflect_types.proofs.Common.{refl, is_utf8, chars, short, read, unpacked, allows, meaning, record_schema}
 use Rattle.std.specs.Char.{encode_utf8}
-use Rattle.prost_reflect_wire.specs.Varint.{short}
-use Rattle.prost_reflect_wire.specs.Record.{read}
-use Rattle.prost_reflect_wire.specs.Grammar.{unpacked, allows}
-use Rattle.prost_reflect_wire.specs.Meaning.{meaning}
-use Rattle.prost_reflect_types.specs.DescriptorTable.{record_schema}
 use Rattle.prost_reflect_types.specs.DescriptorExamples.{Descriptors}
 
 pub descriptors : Descriptors

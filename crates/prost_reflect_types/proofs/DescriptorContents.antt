@@ -1,32 +1,10 @@
 -- A descriptor record is accepted and means its fields, where each of these is what was found at its number.
-use Rattle.std.proofs.Common.{◌≡◌, ℕ, zero, suc, ◌+◌, Bool, true, false, cond, ◌||◌, List, [], ◌∷◌, ◌++◌, map, flat_map, length, Option, Some, None, option_map, nat_eq, nat_le, refl, ap, ap₂, sym, subst, ◌∙◌, arith, append-nil, lit≤}
-use Rattle.std.proofs.lemmas.Bool.{eqb-true, eq-eqb, and_from, or_parts}
-use Rattle.std.specs.List.{list_all}
-use Rattle.std.specs.Option.{is_some}
-use Rattle.std.specs.Str.{is_utf8}
-use Rattle.std.proofs.lemmas.Option.{none-some, same_Some}
-use Rattle.prost_reflect_wire.specs.Varint.{◌>>=◌, guard}
-use Rattle.prost_reflect_wire.specs.Record.{Var, Len, Payload, Flat, Record, Records, items, body_of, payload_levels, Spells}
-use Rattle.prost_reflect_wire.specs.Front.{RecordsFront}
-use Rattle.prost_reflect_wire.specs.Scalar.{Text, Int32}
-use Rattle.prost_reflect_wire.specs.Schema.{Field, known}
-use Rattle.prost_reflect_wire.specs.Content.{Content, ContentOf, Value, Slot, then_unknowns, then_value, store, table}
-use Rattle.prost_reflect_wire.specs.Grammar.{payloads, value_records, AllowsInside, allows, body, field_allowed, record_allowed, unpacked}
-use Rattle.prost_reflect_wire.specs.Schema.{passes}
-use Rattle.prost_reflect_wire.specs.Meaning.{field_value, record_numbers, meaning_at, meaning, survive, value_meaning}
-use Rattle.prost_reflect_types.specs.DescriptorTable.{rows, type_place, form_of, value_type_of, record_schema}
-use Rattle.prost_reflect_types.specs.DescriptorMeaning.{gathered, entries_gathered, value_gathered, record_decoded}
-use Rattle.prost_reflect_types.specs.DescriptorViews.{entries_from, record_content}
-use Rattle.prost_reflect_types.specs.DescriptorReading.{Found, FoundText, FoundRecord, kind_at, found_in, found_in_record, found_in_records, at_number, record_in, nested_decoded, all_decoded, records_at, number_in_plain, Fields}
-use Rattle.prost_reflect_types.specs.declared.table.RecordType.{RecordType}
+use Rattle.std.specs.Prelude.{◌≡◌, ◌+◌, ◌||◌, ◌∷◌, ◌++◌}
+use Rattle.prost_reflect_types.proofs.Common.{ℕ, zero, suc, Bool, true, false, cond, List, [], map, flat_map, length, Option, Some, None, option_map, nat_eq, nat_le, refl, ap, ap₂, sym, subst, ◌∙◌, arith, append-nil, lit≤, eqb-true, eq-eqb, and_from, or_parts, list_all, is_some, is_utf8, none-some, same_Some, ◌>>=◌, guard, Var, Len, Payload, Flat, Record, Records, items, body_of, payload_levels, Spells, RecordsFront, Text, Int32, Field, known, Content, ContentOf, Value, Slot, then_unknowns, then_value, store, table, payloads, value_records, AllowsInside, allows, body, field_allowed, record_allowed, unpacked, passes, field_value, record_numbers, meaning_at, meaning, survive, value_meaning, rows, type_place, form_of, value_type_of, record_schema, gathered, entries_gathered, value_gathered, record_decoded, entries_from, record_content, Found, FoundText, FoundRecord, kind_at, found_in, found_in_record, found_in_records, at_number, record_in, nested_decoded, all_decoded, records_at, number_in_plain, Fields, RecordType, FieldKind, bind_ok, guard_ok, meaning_covers, below, meaning_below}
 use Rattle.prost_reflect_types.specs.declared.table.RecordType.TheVariants as types
-use Rattle.prost_reflect_types.specs.declared.table.FieldKind.{FieldKind}
 use Rattle.prost_reflect_types.specs.declared.table.FieldKind.TheVariants as kinds
 use Rattle.prost_reflect_wire.proofs.Numbers.{Ascending, is_in, Covers, eqb-sym, numbers_ascending, table_covers}
-use Rattle.prost_reflect_wire.proofs.Sound.{bind_ok, guard_ok}
 use Rattle.prost_reflect_laws.proofs.Allowed.{inside, allows_inside}
-use Rattle.prost_reflect_wire.proofs.Steps.{meaning_covers}
-use Rattle.prost_reflect_laws.proofs.Means.{below, meaning_below}
 use Rattle.prost_reflect_laws.proofs.Places.{passes_body}
 use Rattle.prost_reflect_wire.proofs.Reading.{spelled_read}
 use Rattle.prost_reflect_wire.proofs.Bodies.{items_body}

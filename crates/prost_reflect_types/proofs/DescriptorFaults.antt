@@ -1,17 +1,9 @@
 -- What a nested record is refused for stands in the record around it.
-use Rattle.std.proofs.Common.{◌≡◌, ◌⊎◌, inl, inr, ℕ, zero, suc, Bool, true, false, cond, List, [], ◌∷◌, ◌++◌, Option, Some, nat_eq, refl, ap, sym, subst, ◌∙◌}
-use Rattle.std.proofs.lemmas.Bool.{eqb-true}
-use Rattle.std.proofs.lemmas.Option.{none-some, same_Some}
-use Rattle.prost_reflect_wire.specs.declared.error.DecodeError.{DecodeError}
+use Rattle.std.specs.Prelude.{◌≡◌, ◌⊎◌, ◌∷◌, ◌++◌}
+use Rattle.prost_reflect_types.proofs.Common.{inl, inr, ℕ, zero, suc, Bool, true, false, cond, List, [], Option, Some, nat_eq, refl, ap, sym, subst, ◌∙◌, eqb-true, none-some, same_Some, DecodeError, RecordType, Len, Payload, Flat, Record, record_at, body_of, RecordsFront, RecordFront, Here, Behind, InMessage, StandsInMessage, opens_level, rows, type_place, field_of_row, record_schema, Found, FoundRecord, Fields, kind_at, found_in, found_in_records, at_number, record_in, StandsInNested, StandsAmong}
 use Rattle.prost_reflect_wire.specs.declared.key.WireType.TheVariants as wires
-use Rattle.prost_reflect_types.specs.declared.table.RecordType.{RecordType}
 use Rattle.prost_reflect_types.specs.declared.table.FieldKind.TheVariants as kinds
-use Rattle.prost_reflect_wire.specs.Record.{Len, Payload, Flat, Record, record_at, body_of}
-use Rattle.prost_reflect_wire.specs.Front.{RecordsFront, RecordFront}
 use Rattle.prost_reflect_wire.specs.Schema.{Field, field_of, known as wire_known}
-use Rattle.prost_reflect_wire.specs.Fault.{Here, Behind, InMessage, StandsInMessage, opens_level}
-use Rattle.prost_reflect_types.specs.DescriptorTable.{rows, type_place, field_of_row, record_schema}
-use Rattle.prost_reflect_types.specs.DescriptorReading.{Found, FoundRecord, Fields, kind_at, found_in, found_in_records, at_number, record_in, StandsInNested, StandsAmong}
 use Rattle.prost_reflect_wire.proofs.PlainFronts.{plain_delimited}
 use Rattle.prost_reflect_wire.proofs.RecordFronts.{record_parts, first_parts, FrontParts}
 use Rattle.prost_reflect_types.proofs.DescriptorRows.{known_field}

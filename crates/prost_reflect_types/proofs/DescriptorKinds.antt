@@ -1,23 +1,7 @@
 -- What is found of the payloads of a field is what they mean, for each kind of field.
-use Rattle.std.proofs.Common.{◌≡◌, ℕ, zero, suc, Bool, true, false, cond, not, ℤ, List, [], ◌∷◌, ◌++◌, map, filter, flat_map, Option, Some, None, option_map, nat_eq, refl, ap, ap₂, sym, ◌∙◌, append_assoc, arith}
-use Rattle.std.specs.Str.{is_utf8}
-use Rattle.std.proofs.lemmas.Option.{none-some, same_Some}
-use Rattle.prost_reflect_wire.specs.Varint.{◌>>=◌, guard}
-use Rattle.prost_reflect_wire.specs.Record.{Plain, Var, Fix64, Len, Fix32, Payload, Flat, Records, items, read}
-use Rattle.prost_reflect_wire.specs.Scalar.{Scalar, Boolean, I32, Text, Bytes, ScalarKind, StringKind, BytesKind, Int32, BoolKind, elem, low_i32}
-use Rattle.prost_reflect_wire.specs.Schema.{ScalarOf, MessageOf, Singular, Repeated}
-use Rattle.prost_reflect_wire.specs.Content.{Content, Value, ScalarValue, MessageValue, ListValue, MapValue, Values, NoValues, Item, values_from}
-use Rattle.prost_reflect_wire.specs.Grammar.{unpacked, or_none, last, records_in, value_payloads, allows}
-use Rattle.prost_reflect_wire.specs.Meaning.{MeansInside, present, scalar_values, element, field_value, present_list, meaning}
-use Rattle.prost_reflect_types.specs.DescriptorTable.{scalar_of, value_type_of, type_place, record_schema}
-use Rattle.prost_reflect_types.specs.DescriptorMeaning.{in_front_of, gathered, value_gathered, values_gathered}
-use Rattle.prost_reflect_types.specs.DescriptorReading.{Found, FoundText, FoundNumber, FoundFlag, found_in, number_in_plain, in_front, text_in, number_in, flag_in, bytes_in, record_in, last_of, joined_to, nested_decoded, all_decoded}
-use Rattle.prost_reflect_types.specs.declared.table.RecordType.{RecordType}
-use Rattle.prost_reflect_types.specs.declared.table.FieldKind.{FieldKind}
+use Rattle.std.specs.Prelude.{◌≡◌, ◌∷◌, ◌++◌}
+use Rattle.prost_reflect_types.proofs.Common.{ℕ, zero, suc, Bool, true, false, cond, not, ℤ, List, [], map, filter, flat_map, Option, Some, None, option_map, nat_eq, refl, ap, ap₂, sym, ◌∙◌, append_assoc, arith, is_utf8, none-some, same_Some, ◌>>=◌, guard, Plain, Var, Fix64, Len, Fix32, Payload, Flat, Records, items, read, Scalar, Boolean, I32, Text, Bytes, ScalarKind, StringKind, BytesKind, Int32, BoolKind, elem, low_i32, ScalarOf, MessageOf, Singular, Repeated, Content, Value, ScalarValue, MessageValue, ListValue, MapValue, Values, NoValues, Item, values_from, unpacked, or_none, last, records_in, value_payloads, allows, MeansInside, present, scalar_values, element, field_value, present_list, meaning, scalar_of, value_type_of, type_place, record_schema, in_front_of, gathered, value_gathered, values_gathered, Found, FoundText, FoundNumber, FoundFlag, found_in, number_in_plain, in_front, text_in, number_in, flag_in, bytes_in, record_in, last_of, joined_to, nested_decoded, all_decoded, RecordType, FieldKind, bind_ok, guard_ok, map_append, flat_append, below}
 use Rattle.prost_reflect_types.specs.declared.table.FieldKind.TheVariants as kinds
-use Rattle.prost_reflect_wire.proofs.Sound.{bind_ok, guard_ok}
-use Rattle.prost_reflect_wire.proofs.Steps.{map_append, flat_append}
-use Rattle.prost_reflect_laws.proofs.Means.{below}
 
 -- WHAT IS FOUND OF PAYLOADS
 

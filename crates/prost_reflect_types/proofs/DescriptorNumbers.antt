@@ -1,24 +1,7 @@
 -- What the values of a descriptor record's fields mean, number by number.
-use Rattle.std.proofs.Common.{◌≡◌, ℕ, Bool, true, false, cond, ◌||◌, List, [], ◌∷◌, ◌++◌, map, filter, flat_map, Option, Some, None, option_map, nat_eq, nat_le, refl, ap, ap₂, sym, ◌∙◌}
-use Rattle.std.proofs.lemmas.Bool.{eqb-true}
-use Rattle.std.specs.List.{list_any}
-use Rattle.std.proofs.lemmas.Option.{same_Some}
-use Rattle.prost_reflect_wire.specs.Varint.{◌>>=◌, guard}
-use Rattle.prost_reflect_wire.specs.Record.{Payload, Record, payload_levels}
-use Rattle.prost_reflect_wire.specs.Schema.{Field, field_of, is_sibling, known}
-use Rattle.prost_reflect_wire.specs.Scalar.{I32, Text, Bytes}
-use Rattle.prost_reflect_wire.specs.Content.{Content, Value, ScalarValue, ListValue, NoValues, Item, values_from}
-use Rattle.prost_reflect_wire.specs.Grammar.{payloads, has_number, numbered, value_records, value_payloads}
-use Rattle.prost_reflect_wire.specs.Meaning.{MeansInside, field_value, present_list, survive, value_meaning}
-use Rattle.prost_reflect_types.specs.DescriptorTable.{rows, type_place, form_of, value_type_of, field_of_row, record_schema}
-use Rattle.prost_reflect_types.specs.DescriptorMeaning.{value_gathered}
-use Rattle.prost_reflect_types.specs.DescriptorViews.{of_records}
-use Rattle.prost_reflect_types.specs.DescriptorReading.{Found, kind_at, found_in, found_in_record, found_in_records, under, in_front, at_number, record_in, text_in, bytes_in, number_in, joined_to, all_decoded, text_at, number_at, flag_at, bytes_at, texts_at, numbers_at, records_at}
-use Rattle.prost_reflect_types.specs.declared.table.RecordType.{RecordType}
-use Rattle.prost_reflect_types.specs.declared.table.FieldKind.{FieldKind}
+use Rattle.std.specs.Prelude.{◌≡◌, ◌||◌, ◌∷◌, ◌++◌}
+use Rattle.prost_reflect_types.proofs.Common.{ℕ, Bool, true, false, cond, List, [], map, filter, flat_map, Option, Some, None, option_map, nat_eq, nat_le, refl, ap, ap₂, sym, ◌∙◌, eqb-true, list_any, same_Some, ◌>>=◌, guard, Payload, Record, payload_levels, Field, field_of, is_sibling, known, I32, Text, Bytes, Content, Value, ScalarValue, ListValue, NoValues, Item, values_from, payloads, has_number, numbered, value_records, value_payloads, MeansInside, field_value, present_list, survive, value_meaning, rows, type_place, form_of, value_type_of, field_of_row, record_schema, value_gathered, of_records, Found, kind_at, found_in, found_in_record, found_in_records, under, in_front, at_number, record_in, text_in, bytes_in, number_in, joined_to, all_decoded, text_at, number_at, flag_at, bytes_at, texts_at, numbers_at, records_at, RecordType, FieldKind, bind_ok, below}
 use Rattle.prost_reflect_types.specs.declared.table.FieldKind.TheVariants as kinds
-use Rattle.prost_reflect_wire.proofs.Sound.{bind_ok}
-use Rattle.prost_reflect_laws.proofs.Means.{below}
 use Rattle.prost_reflect_laws.proofs.StoredSound.{no_sibling}
 use Rattle.prost_reflect_laws.proofs.ByNumber.{block_payloads, numbered_records, values_of_block, filter_values, after_none}
 use Rattle.prost_reflect_types.proofs.DescriptorRows.{known_field}

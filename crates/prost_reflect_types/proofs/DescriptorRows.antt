@@ -1,13 +1,7 @@
 -- The rows of the table of descriptor records as fields of the schema.
-use Rattle.std.proofs.Common.{◌≡◌, ℕ, Bool, true, false, cond, List, [], ◌∷◌, map, nat_eq, Option, Some, None, refl, ap, ◌∙◌}
-use Rattle.std.proofs.lemmas.Bool.{eqb-true}
-use Rattle.prost_reflect_wire.specs.Varint.{◌>>=◌}
-use Rattle.prost_reflect_wire.specs.Schema.{field_of, known}
-use Rattle.prost_reflect_types.specs.DescriptorTable.{rows, type_place, field_of_row, record_schema}
-use Rattle.prost_reflect_types.specs.DescriptorReading.{kind_at}
-use Rattle.prost_reflect_types.specs.declared.table.RecordType.{RecordType}
+use Rattle.std.specs.Prelude.{◌≡◌, ◌∷◌}
+use Rattle.prost_reflect_types.proofs.Common.{ℕ, Bool, true, false, cond, List, [], map, nat_eq, Option, Some, None, refl, ap, ◌∙◌, eqb-true, ◌>>=◌, field_of, known, rows, type_place, field_of_row, record_schema, kind_at, RecordType, FieldKind}
 use Rattle.prost_reflect_types.specs.declared.table.RecordType.TheVariants as types
-use Rattle.prost_reflect_types.specs.declared.table.FieldKind.{FieldKind}
 
 pub known_rows : (t : RecordType) → known record_schema (type_place t) ≡ map field_of_row (rows t)
 unfolding record_schema

@@ -1,12 +1,7 @@
 -- Records of equal contents hold the same, field by field, wherever it lies in memory.
-use Rattle.std.proofs.Common.{◌≡◌, ℕ, Bool, ℤ, List, [], ◌∷◌, map, Option, Some, None, String, string_bytes, Vec, option_map, refl, sym, ap, ap₂, ◌∙◌}
+use Rattle.std.specs.Prelude.{◌≡◌, ◌∷◌}
+use Rattle.prost_reflect_types.proofs.Common.{ℕ, Bool, ℤ, List, [], map, Option, Some, None, String, string_bytes, Vec, option_map, refl, sym, ap, ap₂, ◌∙◌, ⊤, AllZip, Global, I32, Text, Content, ScalarValue, entries_of, record_content, of_text, of_number, of_flag, of_bytes, of_texts, of_numbers, of_records, of_extension_range, of_reserved_range, of_field, of_oneof, of_enum_value, of_enum_reserved_range, of_enum, of_method, of_service, of_message, of_file, DescriptorProto, out-DescriptorProto, roll-DescriptorProto}
 use mathlib.Core.List.{map-id}
-use Rattle.std.specs.Bool.{⊤}
-use Rattle.std.specs.List.{AllZip}
-use Rattle.std.specs.declared.alloc.Global.{Global}
-use Rattle.prost_reflect_wire.specs.Scalar.{I32, Text}
-use Rattle.prost_reflect_wire.specs.Content.{Content, ScalarValue, entries_of}
-use Rattle.prost_reflect_types.specs.DescriptorViews.{record_content, of_text, of_number, of_flag, of_bytes, of_texts, of_numbers, of_records, of_extension_range, of_reserved_range, of_field, of_oneof, of_enum_value, of_enum_reserved_range, of_enum, of_method, of_service, of_message, of_file}
 use Rattle.prost_reflect_types.specs.declared.table.RecordType.TheVariants as types
 use Rattle.prost_reflect_types.specs.declared.ExtensionRange.{ExtensionRange}
 use Rattle.prost_reflect_types.specs.declared.ReservedRange.{ReservedRange}
@@ -17,10 +12,8 @@ use Rattle.prost_reflect_types.specs.declared.EnumValueDescriptorProto.{EnumValu
 use Rattle.prost_reflect_types.specs.declared.EnumDescriptorProto.{EnumDescriptorProto}
 use Rattle.prost_reflect_types.specs.declared.MethodDescriptorProto.{MethodDescriptorProto}
 use Rattle.prost_reflect_types.specs.declared.ServiceDescriptorProto.{ServiceDescriptorProto}
-use Rattle.prost_reflect_types.specs.declared.DescriptorProto.{DescriptorProto}
 use Rattle.prost_reflect_types.specs.declared.DescriptorProto.TheOpen.{DescriptorProto-F}
 use Rattle.prost_reflect_types.specs.declared.FileDescriptorProto.{FileDescriptorProto}
-use Rattle.prost_reflect_types.specs.declared.DescriptorProto.TheViews.{out-DescriptorProto, roll-DescriptorProto}
 use Rattle.prost_reflect_types.proofs.MessageViews.{of_message_roll}
 use Rattle.prost_reflect_types.proofs.RecordSlots.{Slots, extension_range_slots, reserved_range_slots, field_slots, oneof_slots, enum_reserved_range_slots, enum_value_slots, enum_slots, method_slots, service_slots, file_slots, message_out}
 use Rattle.prost_reflect_types.proofs.SameFields.{listed_same, records_same}

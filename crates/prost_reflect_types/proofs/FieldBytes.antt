@@ -1,20 +1,7 @@
 -- What is written of a field of each kind.
-use Rattle.std.proofs.Common.{◌≡◌, ℕ, ◌-◌, Bool, false, cond, ℤ, List, [], ◌∷◌, ◌++◌, map, drop, Option, Some, None, String, string_bytes, Vec, refl, sym, ap, ◌∙◌, subst, append_assoc}
-use Rattle.std.specs.declared.alloc.Global.{Global}
-use Rattle.std.specs.Int.{w64, cast_unsigned}
-use Rattle.prost_reflect_wire.specs.Record.{Flat, Len, Var, record_at, spelled}
-use Rattle.prost_reflect_wire.specs.Scalar.{I32, Text}
-use Rattle.prost_reflect_wire.specs.Schema.{FieldForm, Repeated}
-use Rattle.prost_reflect_wire.specs.Content.{Content, Value, ScalarValue, MessageValue, values_from}
-use Rattle.prost_reflect_wire.specs.Meaning.{present_list}
-use Rattle.prost_reflect_wire.specs.Writing.{value_payload, element_payloads, list_payloads}
-use Rattle.prost_reflect_types.specs.DescriptorTable.{form_of, value_type_of}
-use Rattle.prost_reflect_types.specs.DescriptorViews.{of_text, of_number, of_flag, of_bytes, of_texts, of_numbers, of_records}
-use Rattle.prost_reflect_types.specs.DescriptorWriting.{field_bytes}
-use Rattle.prost_reflect_wire.specs.Sinks.{Adds}
-use Rattle.prost_reflect_types.specs.declared.table.FieldKind.{FieldKind}
+use Rattle.std.specs.Prelude.{◌≡◌, ◌-◌, ◌∷◌, ◌++◌}
+use Rattle.prost_reflect_types.proofs.Common.{ℕ, Bool, false, cond, ℤ, List, [], map, drop, Option, Some, None, String, string_bytes, Vec, refl, sym, ap, ◌∙◌, subst, append_assoc, Global, w64, cast_unsigned, Flat, Len, Var, record_at, spelled, I32, Text, FieldForm, Repeated, Content, Value, ScalarValue, MessageValue, values_from, present_list, value_payload, element_payloads, list_payloads, form_of, value_type_of, of_text, of_number, of_flag, of_bytes, of_texts, of_numbers, of_records, field_bytes, Adds, FieldKind, RecordType}
 use Rattle.prost_reflect_types.specs.declared.table.FieldKind.TheVariants as kinds
-use Rattle.prost_reflect_types.specs.declared.table.RecordType.{RecordType}
 use Rattle.prost_reflect_wire.proofs.WrittenRecords.{spelled_more}
 
 -- STEPS

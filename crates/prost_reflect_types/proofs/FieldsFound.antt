@@ -1,31 +1,15 @@
 -- The values of a descriptor record's fields, found one behind another.
-use Rattle.std.proofs.Common.{◌≡◌, ◌≢◌, ◌⊎◌, ℕ, false, Result, Ok, Err, IfErr, List, [], ◌∷◌, ◌++◌, flat_map, Option, Some, None, refl, sym, ap, subst, ◌∙◌, append_assoc, append-nil, inl, inr, nat_le, arith, Fits}
-use Rattle.std.specs.Int.{w32, cast_signed, cast_unsigned}
+use Rattle.std.specs.Prelude.{◌≡◌, ◌≢◌, ◌⊎◌, ◌∷◌, ◌++◌}
+use Rattle.prost_reflect_types.proofs.Common.{ℕ, false, Result, Ok, Err, IfErr, List, [], flat_map, Option, Some, None, refl, sym, ap, subst, ◌∙◌, append_assoc, append-nil, inl, inr, nat_le, arith, Fits, w32, cast_signed, cast_unsigned, is_utf8, le-leb, same_Some, none-some, DecodeError, RecordType, FieldKind, ◌>>=◌, guard, Plain, Var, Record, record_at, Flat, body_of, payload_levels, KeyFront, VarintFront, DelimitedFront, RecordFront, KeyFault, VarintFault, Int32, low_32, low_i32, Schema, Field, is_map, Place, OfType, Stands, Here, Comes, field_at, ElementFault, ElementEnds, ElementPasses, StandsInMessage, ValueFault, PackedNext, TextNext, takes, rows, type_place, form_of, value_type_of, field_of_row, record_schema, Found, FoundNumber, Fields, FieldRead, DelimitedFault, PackedRead, kind_at, found_in, found_in_record, found_in_records, number_in_plain, under, found_at, all_found, bind_ok, map_append}
 use Rattle.std.proofs.lemmas.Int.{to_z-of_z}
 use Rattle.std.proofs.Math.Facts.{sfits_to_z}
-use Rattle.std.specs.Str.{is_utf8}
-use Rattle.std.proofs.lemmas.Bool.{le-leb}
-use Rattle.std.proofs.lemmas.Option.{same_Some, none-some}
-use Rattle.prost_reflect_wire.specs.declared.error.DecodeError.{DecodeError}
 use Rattle.prost_reflect_wire.specs.declared.error.DecodeError.TheVariants as errors
 use Rattle.prost_reflect_wire.specs.declared.key.WireType.{WireType}
 use Rattle.prost_reflect_wire.specs.declared.key.WireType.TheVariants as wires
-use Rattle.prost_reflect_types.specs.declared.table.RecordType.{RecordType}
-use Rattle.prost_reflect_types.specs.declared.table.FieldKind.{FieldKind}
 use Rattle.prost_reflect_types.specs.declared.table.FieldKind.TheVariants as kinds
 use Rattle.prost_reflect_types.specs.declared.fields.RawField.{RawField}
-use Rattle.prost_reflect_wire.specs.Varint.{◌>>=◌, guard}
-use Rattle.prost_reflect_wire.specs.Record.{Plain, Var, Record, record_at, Flat, body_of, payload_levels}
-use Rattle.prost_reflect_wire.specs.Front.{KeyFront, VarintFront, DelimitedFront, RecordFront, KeyFault, VarintFault}
-use Rattle.prost_reflect_wire.specs.Scalar.{Int32, low_32, low_i32}
-use Rattle.prost_reflect_wire.specs.Schema.{Schema, Field, is_map}
-use Rattle.prost_reflect_wire.specs.Fault.{Place, OfType, Stands, Here, Comes, field_at, ElementFault, ElementEnds, ElementPasses, StandsInMessage, ValueFault, PackedNext, TextNext, takes}
 use Rattle.prost_reflect_wire.specs.Unknown.{SkipsValue}
-use Rattle.prost_reflect_types.specs.DescriptorTable.{rows, type_place, form_of, value_type_of, field_of_row, record_schema}
 use Rattle.prost_reflect_wire.specs.Decoding.{FieldFault}
-use Rattle.prost_reflect_types.specs.DescriptorReading.{Found, FoundNumber, Fields, FieldRead, DelimitedFault, PackedRead, kind_at, found_in, found_in_record, found_in_records, number_in_plain, under, found_at, all_found}
-use Rattle.prost_reflect_wire.proofs.Sound.{bind_ok}
-use Rattle.prost_reflect_wire.proofs.Steps.{map_append}
 use Rattle.prost_reflect_laws.proofs.KindsAllowed.{element_name}
 use Rattle.prost_reflect_wire.proofs.PlainFronts.{varint_plain}
 use Rattle.prost_reflect_wire.proofs.RecordFronts.{record_front, last_front, none_front}

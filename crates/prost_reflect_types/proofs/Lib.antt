@@ -1,3 +1,4 @@
+mod Common
 pub mod FieldBytes
 pub mod RecordSlots
 pub mod SameFields

@@ -1,12 +1,9 @@
 -- What a message's record is, field by field.
-use Rattle.std.proofs.Common.{◌≡◌, [], ◌∷◌, map}
-use Rattle.prost_reflect_wire.specs.Content.{Content}
-use Rattle.prost_reflect_types.specs.declared.DescriptorProto.{DescriptorProto}
+use Rattle.std.specs.Prelude.{◌≡◌, ◌∷◌}
+use Rattle.prost_reflect_types.proofs.Common.{[], map, Content, DescriptorProto, roll-DescriptorProto, record_content, of_text, of_bytes, of_texts, of_records, of_field, of_enum, of_extension_range, of_oneof, of_reserved_range, of_message, message_step}
 use Rattle.prost_reflect_types.specs.declared.DescriptorProto.TheOpen.{DescriptorProto-F}
-use Rattle.prost_reflect_types.specs.declared.DescriptorProto.TheViews.{roll-DescriptorProto}
 use Rattle.prost_reflect_types.specs.declared.DescriptorProto.TheFolds.{fold-roll-DescriptorProto}
 use Rattle.prost_reflect_types.specs.declared.table.RecordType.TheVariants as types
-use Rattle.prost_reflect_types.specs.DescriptorViews.{record_content, of_text, of_bytes, of_texts, of_records, of_field, of_enum, of_extension_range, of_oneof, of_reserved_range, of_message, message_step}
 
 pub of_message_roll : (m : DescriptorProto-F DescriptorProto) → of_message (roll-DescriptorProto m)
     ≡ record_content types.Message

@@ -1,18 +1,7 @@
 -- Nested records read one behind another.
-use Rattle.std.proofs.Common.{◌≡◌, ◌≢◌, ℕ, suc, ◌+◌, ◌<◌, ◌≤◌, true, Bor, List, [], ◌∷◌, ◌++◌, map, length, get_or, drop, Option, Some, None, option_map, Result, Ok, Err, IfOk, IfErr, refl, sym, ap, subst, ◌∙◌, append_assoc, append-nil, inl, inr, arith, add-one, drop-cons, length-drop}
-use Rattle.std.proofs.lemmas.List.{nil_from_length}
-use Rattle.prost_reflect_wire.specs.declared.error.DecodeError.{DecodeError}
+use Rattle.std.specs.Prelude.{◌≡◌, ◌≢◌, ◌+◌, ◌<◌, ◌≤◌, ◌∷◌, ◌++◌}
+use Rattle.prost_reflect_types.proofs.Common.{ℕ, suc, true, Bor, List, [], map, length, get_or, drop, Option, Some, None, option_map, Result, Ok, Err, IfOk, IfErr, refl, sym, ap, subst, ◌∙◌, append_assoc, append-nil, inl, inr, arith, add-one, drop-cons, length-drop, nil_from_length, DecodeError, RecordType, AreBytes, ◌>>=◌, items, Accepts, allows, StandsInMessage, type_place, record_schema, record_decoded, Content, nested_decoded, all_decoded, StandsInNested, StandsAmong, read_spells}
 use Rattle.prost_reflect_wire.specs.declared.error.DecodeError.TheVariants as errors
-use Rattle.prost_reflect_types.specs.declared.table.RecordType.{RecordType}
-use Rattle.prost_reflect_wire.specs.Varint.{AreBytes, ◌>>=◌}
-use Rattle.prost_reflect_wire.specs.Record.{items}
-use Rattle.prost_reflect_wire.specs.Grammar.{Accepts, allows}
-use Rattle.prost_reflect_wire.specs.Fault.{StandsInMessage}
-use Rattle.prost_reflect_types.specs.DescriptorTable.{type_place, record_schema}
-use Rattle.prost_reflect_types.specs.DescriptorMeaning.{record_decoded}
-use Rattle.prost_reflect_wire.specs.Content.{Content}
-use Rattle.prost_reflect_types.specs.DescriptorReading.{nested_decoded, all_decoded, StandsInNested, StandsAmong}
-use Rattle.prost_reflect_wire.proofs.Sound.{read_spells}
 use Rattle.prost_reflect_laws.proofs.FaultLaws.{accepted_only_memory}
 use Rattle.prost_reflect_types.proofs.DescriptorKinds.{decoded_parts}
 

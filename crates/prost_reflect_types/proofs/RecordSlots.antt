@@ -1,15 +1,6 @@
 -- The fields of each descriptor record with what they hold, and the bytes that are written of them.
-use Rattle.std.proofs.Common.{◌≡◌, ℕ, List, [], ◌∷◌, ◌++◌, map, Option, Some, None, refl, sym, ap, ◌∙◌, subst, append_assoc}
-use Rattle.prost_reflect_wire.specs.Record.{record_at, spelled}
-use Rattle.prost_reflect_wire.specs.Schema.{Field, field_of, known}
-use Rattle.prost_reflect_wire.specs.Content.{Content, Value, then_value}
-use Rattle.prost_reflect_wire.specs.Writing.{encoded, entries_records, field_payloads}
-use Rattle.prost_reflect_types.specs.DescriptorTable.{rows, type_place, field_of_row, record_schema}
-use Rattle.prost_reflect_types.specs.DescriptorViews.{entries_from, record_content, of_text, of_number, of_flag, of_bytes, of_texts, of_numbers, of_records, of_extension_range, of_reserved_range, of_field, of_oneof, of_enum_value, of_enum_reserved_range, of_enum, of_method, of_service, message_step, of_message, of_file}
-use Rattle.prost_reflect_types.specs.DescriptorWriting.{field_bytes}
-use Rattle.prost_reflect_wire.specs.Sinks.{Adds}
-use Rattle.prost_reflect_types.specs.declared.table.FieldKind.{FieldKind}
-use Rattle.prost_reflect_types.specs.declared.table.RecordType.{RecordType}
+use Rattle.std.specs.Prelude.{◌≡◌, ◌∷◌, ◌++◌}
+use Rattle.prost_reflect_types.proofs.Common.{ℕ, List, [], map, Option, Some, None, refl, sym, ap, ◌∙◌, subst, append_assoc, record_at, spelled, Field, field_of, known, Content, Value, then_value, encoded, entries_records, field_payloads, rows, type_place, field_of_row, record_schema, entries_from, record_content, of_text, of_number, of_flag, of_bytes, of_texts, of_numbers, of_records, of_extension_range, of_reserved_range, of_field, of_oneof, of_enum_value, of_enum_reserved_range, of_enum, of_method, of_service, message_step, of_message, of_file, field_bytes, Adds, FieldKind, RecordType, DescriptorProto, out-DescriptorProto}
 use Rattle.prost_reflect_types.specs.declared.table.RecordType.TheVariants as types
 use Rattle.prost_reflect_types.specs.declared.ExtensionRange.{ExtensionRange}
 use Rattle.prost_reflect_types.specs.declared.ReservedRange.{ReservedRange}
@@ -20,10 +11,8 @@ use Rattle.prost_reflect_types.specs.declared.EnumValueDescriptorProto.{EnumValu
 use Rattle.prost_reflect_types.specs.declared.EnumDescriptorProto.{EnumDescriptorProto}
 use Rattle.prost_reflect_types.specs.declared.MethodDescriptorProto.{MethodDescriptorProto}
 use Rattle.prost_reflect_types.specs.declared.ServiceDescriptorProto.{ServiceDescriptorProto}
-use Rattle.prost_reflect_types.specs.declared.DescriptorProto.{DescriptorProto}
 use Rattle.prost_reflect_types.specs.declared.FileDescriptorProto.{FileDescriptorProto}
 use Rattle.prost_reflect_types.specs.declared.FileDescriptorSet.{FileDescriptorSet}
-use Rattle.prost_reflect_types.specs.declared.DescriptorProto.TheViews.{out-DescriptorProto}
 use Rattle.prost_reflect_types.specs.declared.DescriptorProto.TheFolds.{fold_out-DescriptorProto}
 use Rattle.prost_reflect_laws.proofs.WrittenEntries.{spelled_append}
 

@@ -1,8 +1,6 @@
 -- When two fields of a kind hold the same, as their copies do.
-use Rattle.std.proofs.Common.{◌≡◌, ◌↔◌, ℕ, zero, suc, ◌<◌, ◌≤◌, Bool, ℤ, List, [], ◌∷◌, map, take, length, get_or, Option, Some, None, String, string_bytes, Vec, Result, Ok, Err, IfOk, IsTrue, nat_eq, option_map, refl, sym, ap, ap₂, ◌∙◌, arith, true≢false}
-use Rattle.std.specs.declared.alloc.Global.{Global}
-use Rattle.std.specs.List.{AllZip}
-use Rattle.std.specs.Option.{option_eq}
+use Rattle.std.specs.Prelude.{◌≡◌, ◌↔◌, ◌<◌, ◌≤◌, ◌∷◌}
+use Rattle.prost_reflect_types.proofs.Common.{ℕ, zero, suc, Bool, ℤ, List, [], map, take, length, get_or, Option, Some, None, String, string_bytes, Vec, Result, Ok, Err, IfOk, IsTrue, nat_eq, option_map, refl, sym, ap, ap₂, ◌∙◌, arith, true≢false, Global, AllZip, option_eq, take_all, and_parts, and_from, Boolean, I32, Text, Bytes, Content, Value, ScalarValue, MessageValue, ListValue, NoValues, Item, values_from, present_list, of_text, of_number, of_flag, of_bytes, of_texts, of_numbers, of_records}
 use Rattle.std.specs.Ordering.{int_eq}
 use Rattle.std.specs.Result.{MatchResult}
 use Rattle.std.specs.String.{string_eq}
@@ -10,12 +8,6 @@ use Rattle.std.specs.Cmp.Lexicographic.{pointwise, same_text}
 use Rattle.std.specs.Cmp.{signed_Decides, booleans_Decides}
 use Rattle.std.proofs.Math.Bool.{beq}
 use Rattle.std.proofs.lemmas.Cmp.{nat_list_eq_equiv}
-use Rattle.std.proofs.lemmas.List.{take_all}
-use Rattle.std.proofs.lemmas.Bool.{and_parts, and_from}
-use Rattle.prost_reflect_wire.specs.Scalar.{Boolean, I32, Text, Bytes}
-use Rattle.prost_reflect_wire.specs.Content.{Content, Value, ScalarValue, MessageValue, ListValue, NoValues, Item, values_from}
-use Rattle.prost_reflect_wire.specs.Meaning.{present_list}
-use Rattle.prost_reflect_types.specs.DescriptorViews.{of_text, of_number, of_flag, of_bytes, of_texts, of_numbers, of_records}
 
 -- OPTIONS AND LISTS
 

@@ -1,12 +1,7 @@
 -- Two records of a type hold the same exactly where each field does.
-use Rattle.std.proofs.Common.{◌≡◌, ◌↔◌, ℕ, Bool, true, false, cond, not, ◌&&◌, [], ◌∷◌, Option, Some, None, IsTrue, nat_eq, refl, sym, ap, ◌∙◌}
-use Rattle.std.specs.Bool.{⊤}
-use Rattle.std.proofs.lemmas.Bool.{eq-eqb, eqb-true, and_parts}
-use Rattle.prost_reflect_wire.specs.Content.{Content, ContentOf, Entries, Value, entries_of, then_value, value_at}
+use Rattle.std.specs.Prelude.{◌≡◌, ◌↔◌, ◌&&◌, ◌∷◌}
+use Rattle.prost_reflect_types.proofs.Common.{ℕ, Bool, true, false, cond, not, [], Option, Some, None, IsTrue, nat_eq, refl, sym, ap, ◌∙◌, ⊤, eq-eqb, eqb-true, and_parts, Content, ContentOf, Entries, Value, entries_of, then_value, value_at, type_place, record_schema, entries_from, record_content, RecordType}
 use Rattle.prost_reflect_wire.specs.ContentEquality.{content_eq, content_same, content_refl}
-use Rattle.prost_reflect_types.specs.DescriptorTable.{type_place, record_schema}
-use Rattle.prost_reflect_types.specs.DescriptorViews.{entries_from, record_content}
-use Rattle.prost_reflect_types.specs.declared.table.RecordType.{RecordType}
 use Rattle.prost_reflect_types.proofs.RecordSlots.{Slots}
 
 -- field by field, behind what is known of those before

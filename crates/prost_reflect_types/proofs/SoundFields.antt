@@ -1,22 +1,9 @@
 -- Fields of each kind can be read back.
-use Rattle.std.proofs.Common.{◌≡◌, ℕ, Bool, true, ℤ, List, [], ◌∷◌, map, Option, Some, None, String, string_bytes, Vec, refl, sym, ap, ap₂, ◌∙◌, subst}
-use Rattle.std.specs.Bool.{⊤}
-use Rattle.std.specs.declared.alloc.Global.{Global}
+use Rattle.std.specs.Prelude.{◌≡◌, ◌∷◌}
+use Rattle.prost_reflect_types.proofs.Common.{ℕ, Bool, true, ℤ, List, [], map, Option, Some, None, String, string_bytes, Vec, refl, sym, ap, ap₂, ◌∙◌, subst, ⊤, Global, is_utf8, eq-eqb, and_from, are_bytes, I32, Text, in_i32, MessageOf, Content, Value, ScalarValue, MessageValue, ListValue, Values, Item, values_from, values_ordered, present_list, record_schema, type_place, value_type_of, values_gathered, of_text, of_number, of_flag, of_bytes, of_texts, of_numbers, of_records, sound_test, RecordSound, FieldSound, RecordType}
 use Rattle.std.proofs.lemmas.Str.{IsUtf8-string_bytes, is_utf8-from_IsUtf8}
-use Rattle.std.specs.Str.{is_utf8}
-use Rattle.std.proofs.lemmas.Bool.{eq-eqb, and_from}
-use Rattle.prost_reflect_wire.specs.Varint.{are_bytes}
-use Rattle.prost_reflect_wire.specs.Scalar.{I32, Text, in_i32}
-use Rattle.prost_reflect_wire.specs.Schema.{MessageOf}
-use Rattle.prost_reflect_wire.specs.Content.{Content, Value, ScalarValue, MessageValue, ListValue, Values, Item, values_from, values_ordered}
-use Rattle.prost_reflect_wire.specs.Meaning.{present_list}
 use Rattle.prost_reflect_wire.specs.Typing.{values_pass, elements_valid, ValuesTyped}
-use Rattle.prost_reflect_types.specs.DescriptorTable.{record_schema, type_place, value_type_of}
-use Rattle.prost_reflect_types.specs.DescriptorMeaning.{values_gathered}
-use Rattle.prost_reflect_types.specs.DescriptorViews.{of_text, of_number, of_flag, of_bytes, of_texts, of_numbers, of_records}
-use Rattle.prost_reflect_types.specs.DescriptorSound.{sound_test, RecordSound, FieldSound}
 use Rattle.prost_reflect_types.specs.declared.table.FieldKind.TheVariants as kinds
-use Rattle.prost_reflect_types.specs.declared.table.RecordType.{RecordType}
 
 pub text_valid : (t : String Global) → is_utf8 (string_bytes t) ≡ true
 text_valid t = is_utf8-from_IsUtf8 (string_bytes t) (IsUtf8-string_bytes t)

@@ -1,23 +1,9 @@
 -- Descriptor records can be read back.
-use Rattle.std.proofs.Common.{◌≡◌, ℕ, ◌≤◌, ◌<◌, ◌^◌, Bool, true, not, ◌&&◌, List, [], ◌∷◌, length, nat_lt, Option, Some, None, refl, sym, ap, ap₂, ◌∙◌, subst}
-use Rattle.std.specs.Bool.{⊤}
-use Rattle.std.specs.Option.{option_map}
-use Rattle.std.specs.Str.{is_utf8, chars}
-use Rattle.std.proofs.lemmas.Bool.{and_parts, and_from}
-use Rattle.prost_reflect_wire.specs.Schema.{Field, Schema, known, field_of, is_sibling, passes, schema_valid}
-use Rattle.prost_reflect_wire.specs.Content.{Content, ContentOf, Entries, Stored, Value, then_value, comes_before, entries_ordered}
-use Rattle.prost_reflect_wire.specs.Grammar.{LEVEL_LIMIT}
-use Rattle.prost_reflect_wire.specs.Meaning.{decoded}
-use Rattle.prost_reflect_wire.specs.Writing.{encoded}
+use Rattle.std.specs.Prelude.{◌≡◌, ◌≤◌, ◌<◌, ◌^◌, ◌&&◌, ◌∷◌}
+use Rattle.prost_reflect_types.proofs.Common.{ℕ, Bool, true, not, List, [], length, nat_lt, Option, Some, None, refl, sym, ap, ap₂, ◌∙◌, subst, ⊤, option_map, is_utf8, chars, and_parts, and_from, Field, Schema, known, field_of, is_sibling, passes, schema_valid, Content, ContentOf, Entries, Stored, Value, then_value, comes_before, entries_ordered, LEVEL_LIMIT, decoded, encoded, rows, type_place, field_of_row, record_schema, gathered, entries_gathered, record_decoded, entries_from, record_content, sound_test, RecordSound, ValueSound, FieldSound, FieldKind, RecordType}
 use Rattle.prost_reflect_wire.specs.Levels.{levels}
 use Rattle.prost_reflect_wire.specs.Typing.{fit_test, alone_test, filled_test, default_test, entries_pass, is_alone, value_valid, is_empty_value, is_stored_default, kind_for, EntriesTyped, ValueTyped, WellTyped}
 use Rattle.prost_reflect_laws.specs.Laws.{Writable}
-use Rattle.prost_reflect_types.specs.DescriptorTable.{rows, type_place, field_of_row, record_schema}
-use Rattle.prost_reflect_types.specs.DescriptorMeaning.{gathered, entries_gathered, record_decoded}
-use Rattle.prost_reflect_types.specs.DescriptorViews.{entries_from, record_content}
-use Rattle.prost_reflect_types.specs.DescriptorSound.{sound_test, RecordSound, ValueSound, FieldSound}
-use Rattle.prost_reflect_types.specs.declared.table.FieldKind.{FieldKind}
-use Rattle.prost_reflect_types.specs.declared.table.RecordType.{RecordType}
 use Rattle.prost_reflect_laws.proofs.Everywhere.{both_tests, both_parts}
 use Rattle.prost_reflect_laws.proofs.RoundTrip.{written_decoded}
 use Rattle.prost_reflect_laws.proofs.StoredSound.{no_sibling, no_value}

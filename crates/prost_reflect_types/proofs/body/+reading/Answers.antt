@@ -1,9 +1,5 @@
-use Rattle.std.proofs.Common.{refl, sym, ap, subst, ◌∙◌, map, []}
-use Rattle.std.proofs.lemmas.Result.{err_from_is_err_and}
+use Rattle.prost_reflect_types.proofs.Common.{refl, sym, ap, subst, ◌∙◌, map, [], err_from_is_err_and, Fields, all_found, all_decoded, records_at, of_message, map_append}
 use Rattle.prost_reflect_types.specs.declared.table.RecordType.TheVariants as types
-use Rattle.prost_reflect_types.specs.DescriptorReading.{Fields, all_found, all_decoded, records_at}
-use Rattle.prost_reflect_types.specs.DescriptorViews.{of_message}
-use Rattle.prost_reflect_wire.proofs.Steps.{map_append}
 use Rattle.prost_reflect_types.proofs.NestedRecords.{NestedSoFar, nested_none, nested_more, nested_done, nested_refused, next_body, no_body, ok_at, err_at}
 use Rattle.prost_reflect_types.proofs.DescriptorFaults.{nested_stands}
 use Rattle.prost_reflect_types.proofs.body.+reading.Goals as goal

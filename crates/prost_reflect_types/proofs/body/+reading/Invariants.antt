@@ -1,6 +1,6 @@
-use Rattle.std.proofs.Common.{◌+◌, ◌*◌, drop, map}
+use Rattle.std.specs.Prelude.{◌+◌, ◌*◌}
+use Rattle.prost_reflect_types.proofs.Common.{drop, map, of_message}
 use Rattle.prost_reflect_types.specs.declared.table.RecordType.TheVariants as types
-use Rattle.prost_reflect_types.specs.DescriptorViews.{of_message}
 use Rattle.prost_reflect_types.proofs.NestedRecords.{NestedSoFar}
 use Rattle.prost_reflect_types.proofs.body.+reading.Given as goal
 

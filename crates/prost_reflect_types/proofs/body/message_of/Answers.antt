@@ -1,8 +1,6 @@
-use Rattle.std.proofs.Common.{refl, sym, ap, ◌∙◌, Some, [], ◌∷◌, map}
-use Rattle.std.proofs.lemmas.Result.{err_from_is_err_and}
+use Rattle.std.specs.Prelude.{◌∷◌}
+use Rattle.prost_reflect_types.proofs.Common.{refl, sym, ap, ◌∙◌, Some, [], map, err_from_is_err_and, all_found, of_text, of_bytes, of_texts, of_records, of_message, of_field, of_enum, of_extension_range, of_oneof, of_reserved_range}
 use Rattle.prost_reflect_types.specs.declared.table.RecordType.TheVariants as types
-use Rattle.prost_reflect_types.specs.DescriptorReading.{all_found}
-use Rattle.prost_reflect_types.specs.DescriptorViews.{of_text, of_bytes, of_texts, of_records, of_message, of_field, of_enum, of_extension_range, of_oneof, of_reserved_range}
 use Rattle.prost_reflect_types.proofs.DescriptorContents.{record_read}
 use Rattle.prost_reflect_types.proofs.DescriptorFaults.{nested_stands}
 use Rattle.prost_reflect_types.proofs.MessageViews.{of_message_roll}

@@ -1,7 +1,4 @@
-use Rattle.std.proofs.Common.{sym, ap, subst, ◌∙◌, map}
-use Rattle.std.proofs.lemmas.Result.{err_from_is_err_and}
-use Rattle.prost_reflect_types.specs.DescriptorReading.{all_decoded, records_at}
-use Rattle.prost_reflect_wire.proofs.Steps.{map_append}
+use Rattle.prost_reflect_types.proofs.Common.{sym, ap, subst, ◌∙◌, map, err_from_is_err_and, all_decoded, records_at, map_append}
 use Rattle.prost_reflect_types.proofs.NestedRecords.{NestedSoFar, nested_none, nested_more, nested_done, nested_refused, next_body, no_body}
 use Rattle.prost_reflect_types.proofs.body.records.Goals as goal
 

@@ -1,4 +1,4 @@
-use Rattle.std.proofs.Common.{drop, map}
+use Rattle.prost_reflect_types.proofs.Common.{drop, map}
 use Rattle.prost_reflect_types.proofs.NestedRecords.{NestedSoFar}
 use Rattle.prost_reflect_types.proofs.body.records.Given as goal
 

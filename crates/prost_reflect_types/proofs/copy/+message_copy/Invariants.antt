@@ -1,5 +1,5 @@
-use Rattle.std.proofs.Common.{◌≡◌, map, take}
-use Rattle.prost_reflect_types.specs.DescriptorViews.{of_message}
+use Rattle.std.specs.Prelude.{◌≡◌}
+use Rattle.prost_reflect_types.proofs.Common.{map, take, of_message}
 use Rattle.prost_reflect_types.proofs.copy.+message_copy.Given as goal
 
 -- the copies so far are those of the messages so far

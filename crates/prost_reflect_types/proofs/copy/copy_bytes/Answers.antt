@@ -1,4 +1,5 @@
-use Rattle.std.proofs.Common.{rules, ◌≡◌}
+use Rattle.std.specs.Prelude.{◌≡◌}
+use Rattle.prost_reflect_types.proofs.Common.{rules}
 use Rattle.std.proofs.lemmas.List.Elements.{same_from_all_zip}
 use Rattle.prost_reflect_types.proofs.SameFields.{raw_copied}
 use Rattle.prost_reflect_types.proofs.copy.copy_bytes.Goals as goal

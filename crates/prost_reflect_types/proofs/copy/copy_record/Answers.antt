@@ -1,4 +1,4 @@
-use Rattle.std.proofs.lemmas.Result.{MatchResult-weaker}
+use Rattle.prost_reflect_types.proofs.Common.{MatchResult-weaker}
 use Rattle.prost_reflect_types.proofs.copy.copy_record.Goals as goal
 
 pub returns : goal.returns

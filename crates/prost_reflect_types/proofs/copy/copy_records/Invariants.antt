@@ -1,4 +1,5 @@
-use Rattle.std.proofs.Common.{◌≡◌, map, take}
+use Rattle.std.specs.Prelude.{◌≡◌}
+use Rattle.prost_reflect_types.proofs.Common.{map, take}
 use Rattle.prost_reflect_types.proofs.copy.copy_records.Given as goal
 
 -- the copies so far are those of the records so far

@@ -1,4 +1,5 @@
-use Rattle.std.proofs.Common.{◌≡◌, string_bytes}
+use Rattle.std.specs.Prelude.{◌≡◌}
+use Rattle.prost_reflect_types.proofs.Common.{string_bytes}
 use Rattle.prost_reflect_types.proofs.SameFields.{if_copied, texts_copied}
 use Rattle.prost_reflect_types.proofs.copy.copy_texts.Goals as goal
 

@@ -1,14 +1,7 @@
-use Rattle.std.proofs.Common.{◌≡◌, ℕ, ◌^◌, ◌<◌, ◌≤◌, List, length, Some}
-use Rattle.std.proofs.lemmas.Result.{on_ok_weaker}
-use Rattle.prost_reflect_wire.specs.Content.{Content}
-use Rattle.prost_reflect_wire.specs.Grammar.{LEVEL_LIMIT}
+use Rattle.std.specs.Prelude.{◌≡◌, ◌^◌, ◌<◌, ◌≤◌}
+use Rattle.prost_reflect_types.proofs.Common.{ℕ, List, length, Some, on_ok_weaker, Content, LEVEL_LIMIT, encoded, Adds, written_since, HasNoBytes, record_decoded, RecordSound, RecordType}
 use Rattle.prost_reflect_wire.specs.Levels.{levels}
-use Rattle.prost_reflect_wire.specs.Writing.{encoded}
-use Rattle.prost_reflect_wire.specs.Sinks.{Adds, written_since, HasNoBytes}
 use Rattle.prost_reflect_wire.specs.declared.sink.ByteSink.{ByteSink}
-use Rattle.prost_reflect_types.specs.DescriptorMeaning.{record_decoded}
-use Rattle.prost_reflect_types.specs.DescriptorSound.{RecordSound}
-use Rattle.prost_reflect_types.specs.declared.table.RecordType.{RecordType}
 use Rattle.prost_reflect_types.proofs.SoundRecords.{reads_back}
 use Rattle.prost_reflect_types.proofs.encoding.append.Goals as goal
 

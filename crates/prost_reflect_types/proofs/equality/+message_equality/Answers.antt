@@ -1,6 +1,5 @@
-use Rattle.std.proofs.Common.{refl, sym, ◌∙◌, true≢false, arith}
+use Rattle.prost_reflect_types.proofs.Common.{refl, sym, ◌∙◌, true≢false, arith, of_message}
 use Rattle.prost_reflect_types.specs.declared.table.RecordType.TheVariants as types
-use Rattle.prost_reflect_types.specs.DescriptorViews.{of_message}
 use Rattle.prost_reflect_types.proofs.SameFields.{lengths_apart, elements_apart, records_whole}
 use Rattle.prost_reflect_types.proofs.RecordSlots.{message_slots, message_out}
 use Rattle.prost_reflect_types.proofs.SameRecords.{all_equal, and_also, record_decided, decided_along}

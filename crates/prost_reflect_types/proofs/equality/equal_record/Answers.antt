@@ -1,4 +1,4 @@
-use Rattle.std.proofs.Common.{sym, ◌∙◌}
+use Rattle.prost_reflect_types.proofs.Common.{sym, ◌∙◌}
 use Rattle.prost_reflect_wire.specs.ContentEquality.{content_decides}
 use Rattle.prost_reflect_types.proofs.equality.equal_record.Goals as goal
 

@@ -1,4 +1,4 @@
-use Rattle.std.proofs.Common.{refl, sym, ◌∙◌, true≢false, arith}
+use Rattle.prost_reflect_types.proofs.Common.{refl, sym, ◌∙◌, true≢false, arith}
 use Rattle.prost_reflect_types.proofs.SameFields.{lengths_apart, elements_apart, records_whole}
 use Rattle.prost_reflect_types.proofs.equality.equal_records.Goals as goal
 

@@ -1,4 +1,5 @@
-use Rattle.std.proofs.Common.{rules, ◌≡◌, cond}
+use Rattle.std.specs.Prelude.{◌≡◌}
+use Rattle.prost_reflect_types.proofs.Common.{rules, cond}
 use Rattle.prost_reflect_types.proofs.FieldBytes.{adds_same, adds_none, flag_bytes, no_flag}
 use Rattle.prost_reflect_types.proofs.field_writing.write_flag.Goals as goal
 

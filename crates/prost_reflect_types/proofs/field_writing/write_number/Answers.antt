@@ -1,6 +1,5 @@
-use Rattle.std.proofs.Common.{rules, ◌≡◌, true}
-use Rattle.std.specs.Int.{w64, cast_unsigned}
-use Rattle.prost_reflect_wire.specs.Scalar.{in_i32}
+use Rattle.std.specs.Prelude.{◌≡◌}
+use Rattle.prost_reflect_types.proofs.Common.{rules, true, w64, cast_unsigned, in_i32}
 use Rattle.prost_reflect_types.proofs.FieldBytes.{adds_same, adds_none, number_bytes, no_number}
 use Rattle.prost_reflect_types.proofs.SoundFields.{number_sound, number_absent}
 use Rattle.prost_reflect_types.proofs.field_writing.write_number.Goals as goal

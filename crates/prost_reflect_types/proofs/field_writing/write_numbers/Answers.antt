@@ -1,4 +1,5 @@
-use Rattle.std.proofs.Common.{◌≡◌, arith}
+use Rattle.std.specs.Prelude.{◌≡◌}
+use Rattle.prost_reflect_types.proofs.Common.{arith}
 use Rattle.prost_reflect_types.proofs.FieldBytes.{adds_same, numbers_field}
 use Rattle.prost_reflect_types.proofs.SoundFields.{numbers_sound}
 use Rattle.prost_reflect_types.proofs.field_writing.write_numbers.Goals as goal

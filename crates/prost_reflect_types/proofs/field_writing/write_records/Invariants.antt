@@ -1,6 +1,4 @@
-use Rattle.std.proofs.Common.{map, drop}
-use Rattle.prost_reflect_wire.specs.Content.{MessageValue}
-use Rattle.prost_reflect_wire.specs.Sinks.{Adds}
+use Rattle.prost_reflect_types.proofs.Common.{map, drop, MessageValue, Adds}
 use Rattle.prost_reflect_types.specs.declared.table.FieldKind.TheVariants as kinds
 use Rattle.prost_reflect_types.proofs.FieldBytes.{list_bytes}
 use Rattle.prost_reflect_types.proofs.SoundFields.{AllSound}

@@ -1,7 +1,4 @@
-use Rattle.std.proofs.Common.{map, drop, string_bytes}
-use Rattle.prost_reflect_wire.specs.Content.{ScalarValue}
-use Rattle.prost_reflect_wire.specs.Scalar.{Text}
-use Rattle.prost_reflect_wire.specs.Sinks.{Adds}
+use Rattle.prost_reflect_types.proofs.Common.{map, drop, string_bytes, ScalarValue, Text, Adds}
 use Rattle.prost_reflect_types.specs.declared.table.FieldKind.TheVariants as kinds
 use Rattle.prost_reflect_types.proofs.FieldBytes.{list_bytes}
 use Rattle.prost_reflect_types.proofs.field_writing.write_texts.Given as goal

@@ -1,8 +1,5 @@
-use Rattle.std.proofs.Common.{◌≡◌, false, nat_eq, ap, sym, subst, ◌∙◌, length, true≢false}
-use Rattle.std.proofs.lemmas.Result.{err_from_is_err_and}
-use Rattle.std.proofs.lemmas.Bool.{eqb-true}
-use Rattle.std.proofs.lemmas.List.{nil_from_length}
-use Rattle.prost_reflect_types.specs.DescriptorReading.{Fields, all_found}
+use Rattle.std.specs.Prelude.{◌≡◌}
+use Rattle.prost_reflect_types.proofs.Common.{false, nat_eq, ap, sym, subst, ◌∙◌, length, true≢false, err_from_is_err_and, eqb-true, nil_from_length, Fields, all_found}
 use Rattle.prost_reflect_types.proofs.FieldsFound.{fields_none, known_read, unknown_read, no_key, no_unknown, no_known}
 use Rattle.prost_reflect_types.proofs.fields.fields_in.Goals as goal
 

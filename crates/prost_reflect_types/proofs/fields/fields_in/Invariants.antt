@@ -1,5 +1,4 @@
-use Rattle.std.proofs.Common.{length}
-use Rattle.prost_reflect_types.specs.DescriptorReading.{Fields, all_found}
+use Rattle.prost_reflect_types.proofs.Common.{length, Fields, all_found}
 use Rattle.prost_reflect_types.proofs.fields.fields_in.Given as goal
 
 abbrev pub decreases-loop-rows : goal.decreases-loop-rows

@@ -1,5 +1,5 @@
-use Rattle.std.proofs.Common.{◌≡◌, drop}
-use Rattle.prost_reflect_types.specs.DescriptorReading.{kind_at}
+use Rattle.std.specs.Prelude.{◌≡◌}
+use Rattle.prost_reflect_types.proofs.Common.{drop, kind_at}
 use Rattle.prost_reflect_types.proofs.fields.kind_of.Given as goal
 
 abbrev pub invariant-loop-own : goal.invariant-loop-own

@@ -1,9 +1,5 @@
-use Rattle.std.proofs.Common.{◌≡◌, false, nat_eq, ap, sym, ◌∙◌, length, true≢false, [], ◌∷◌, ◌++◌}
-use Rattle.std.specs.Int.{w32, cast_signed, cast_unsigned}
-use Rattle.prost_reflect_types.specs.DescriptorReading.{FoundNumber, all_found}
-use Rattle.std.proofs.lemmas.Result.{err_from_is_err_and}
-use Rattle.std.proofs.lemmas.Bool.{eqb-true}
-use Rattle.std.proofs.lemmas.List.{nil_from_length}
+use Rattle.std.specs.Prelude.{◌≡◌, ◌∷◌, ◌++◌}
+use Rattle.prost_reflect_types.proofs.Common.{false, nat_eq, ap, sym, ◌∙◌, length, true≢false, [], w32, cast_signed, cast_unsigned, FoundNumber, all_found, err_from_is_err_and, eqb-true, nil_from_length}
 use Rattle.prost_reflect_types.proofs.FieldsFound.{packed_more, packed_done, packed_fault, found_pushed, low_kept}
 use Rattle.prost_reflect_types.proofs.fields.push_packed.Goals as goal
 

@@ -1,5 +1,4 @@
-use Rattle.std.proofs.Common.{length}
-use Rattle.prost_reflect_types.specs.DescriptorReading.{all_found}
+use Rattle.prost_reflect_types.proofs.Common.{length, all_found}
 use Rattle.prost_reflect_types.proofs.FieldsFound.{PackedSoFar}
 use Rattle.prost_reflect_types.proofs.fields.push_packed.Given as goal
 

@@ -1,4 +1,4 @@
-use Rattle.std.proofs.lemmas.Result.{err_from_is_err_and}
+use Rattle.prost_reflect_types.proofs.Common.{err_from_is_err_and}
 use Rattle.prost_reflect_types.proofs.FieldsFound.{delimited_refused}
 use Rattle.prost_reflect_types.proofs.fields.push_values.Goals as goal
 

@@ -1,7 +1,5 @@
-use Rattle.std.proofs.Common.{◌≡◌, arith, subst, sym, ap, ◌∙◌}
-use Rattle.prost_reflect_types.specs.DescriptorSound.{FieldSound}
-use Rattle.prost_reflect_types.specs.DescriptorViews.{of_file, of_records}
-use Rattle.prost_reflect_types.specs.DescriptorWriting.{field_bytes}
+use Rattle.std.specs.Prelude.{◌≡◌}
+use Rattle.prost_reflect_types.proofs.Common.{arith, subst, sym, ap, ◌∙◌, FieldSound, of_file, of_records, field_bytes}
 use Rattle.prost_reflect_types.specs.declared.table.FieldKind.TheVariants as kinds
 use Rattle.prost_reflect_types.specs.declared.table.RecordType.TheVariants as types
 use Rattle.prost_reflect_types.proofs.FieldBytes.{adds_same, records_field}

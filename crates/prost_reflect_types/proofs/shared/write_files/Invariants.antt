@@ -1,7 +1,4 @@
-use Rattle.std.proofs.Common.{map, drop}
-use Rattle.prost_reflect_wire.specs.Content.{MessageValue}
-use Rattle.prost_reflect_wire.specs.Sinks.{Adds}
-use Rattle.prost_reflect_types.specs.DescriptorViews.{of_file}
+use Rattle.prost_reflect_types.proofs.Common.{map, drop, MessageValue, Adds, of_file}
 use Rattle.prost_reflect_types.specs.declared.table.FieldKind.TheVariants as kinds
 use Rattle.prost_reflect_types.specs.declared.table.RecordType.TheVariants as types
 use Rattle.prost_reflect_types.proofs.FieldBytes.{list_bytes}

@@ -1,5 +1,5 @@
-use Rattle.std.proofs.Common.{◌≡◌, ◌++◌, drop, map}
-use Rattle.prost_reflect_types.specs.DescriptorReading.{all_found, at_number, record_in}
+use Rattle.std.specs.Prelude.{◌≡◌, ◌++◌}
+use Rattle.prost_reflect_types.proofs.Common.{drop, map, all_found, at_number, record_in}
 use Rattle.prost_reflect_types.proofs.values.bodies.Given as goal
 
 abbrev pub invariant-loop-field : goal.invariant-loop-field

@@ -1,5 +1,5 @@
-use Rattle.std.proofs.Common.{◌≡◌, None, drop, option_map}
-use Rattle.prost_reflect_types.specs.DescriptorReading.{all_found, at_number, joined_to, bytes_in}
+use Rattle.std.specs.Prelude.{◌≡◌}
+use Rattle.prost_reflect_types.proofs.Common.{None, drop, option_map, all_found, at_number, joined_to, bytes_in}
 use Rattle.prost_reflect_types.proofs.values.bytes.Given as goal
 
 abbrev pub invariant-loop-field : goal.invariant-loop-field

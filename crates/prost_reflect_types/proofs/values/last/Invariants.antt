@@ -1,5 +1,5 @@
-use Rattle.std.proofs.Common.{◌≡◌, Some, None, drop, option_map}
-use Rattle.prost_reflect_types.specs.DescriptorReading.{found_of, all_found, at_number, last_of}
+use Rattle.std.specs.Prelude.{◌≡◌}
+use Rattle.prost_reflect_types.proofs.Common.{Some, None, drop, option_map, found_of, all_found, at_number, last_of}
 use Rattle.prost_reflect_types.proofs.values.last.Given as goal
 
 abbrev pub invariant-loop-field : goal.invariant-loop-field

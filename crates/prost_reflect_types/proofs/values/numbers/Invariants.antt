@@ -1,5 +1,5 @@
-use Rattle.std.proofs.Common.{◌≡◌, ◌++◌, drop}
-use Rattle.prost_reflect_types.specs.DescriptorReading.{all_found, at_number, number_in}
+use Rattle.std.specs.Prelude.{◌≡◌, ◌++◌}
+use Rattle.prost_reflect_types.proofs.Common.{drop, all_found, at_number, number_in}
 use Rattle.prost_reflect_types.proofs.values.numbers.Given as goal
 
 abbrev pub invariant-loop-field : goal.invariant-loop-field

@@ -1,7 +1,5 @@
-use Rattle.std.proofs.Common.{◌≡◌, ◌++◌, drop, map, string_bytes}
-use Rattle.prost_reflect_wire.specs.Scalar.{Text}
-use Rattle.prost_reflect_wire.specs.Content.{ScalarValue}
-use Rattle.prost_reflect_types.specs.DescriptorReading.{all_found, at_number, text_in}
+use Rattle.std.specs.Prelude.{◌≡◌, ◌++◌}
+use Rattle.prost_reflect_types.proofs.Common.{drop, map, string_bytes, Text, ScalarValue, all_found, at_number, text_in}
 use Rattle.prost_reflect_types.proofs.values.texts.Given as goal
 
 abbrev pub invariant-loop-field : goal.invariant-loop-field

@@ -1,8 +1,6 @@
-use Rattle.std.proofs.Common.{◌≡◌, refl, sym, ap, subst, arith}
-use Rattle.prost_reflect_wire.specs.Writing.{encoded}
+use Rattle.std.specs.Prelude.{◌≡◌}
+use Rattle.prost_reflect_types.proofs.Common.{refl, sym, ap, subst, arith, encoded, RecordSound, of_message}
 use Rattle.prost_reflect_types.specs.declared.table.RecordType.TheVariants as types
-use Rattle.prost_reflect_types.specs.DescriptorSound.{RecordSound}
-use Rattle.prost_reflect_types.specs.DescriptorViews.{of_message}
 use Rattle.prost_reflect_types.proofs.FieldBytes.{adds_same, records_field}
 use Rattle.prost_reflect_types.proofs.RecordSlots.{message_slots, message_out, record_adds}
 use Rattle.prost_reflect_types.proofs.SoundFields.{text_sound, texts_sound, records_sound}

@@ -1,8 +1,6 @@
-use Rattle.std.proofs.Common.{refl, sym, subst, [], ◌∷◌, map}
-use Rattle.std.proofs.lemmas.Result.{err_from_is_err_and}
+use Rattle.std.specs.Prelude.{◌∷◌}
+use Rattle.prost_reflect_types.proofs.Common.{refl, sym, subst, [], map, err_from_is_err_and, Fields, all_found, of_bytes, of_enum, of_field, of_message, of_numbers, of_records, of_service, of_text, of_texts}
 use Rattle.prost_reflect_types.specs.declared.table.RecordType.TheVariants as types
-use Rattle.prost_reflect_types.specs.DescriptorReading.{Fields, all_found}
-use Rattle.prost_reflect_types.specs.DescriptorViews.{of_bytes, of_enum, of_field, of_message, of_numbers, of_records, of_service, of_text, of_texts}
 use Rattle.prost_reflect_types.proofs.DescriptorContents.{record_read}
 use Rattle.prost_reflect_types.proofs.DescriptorFaults.{nested_stands}
 use Rattle.prost_reflect_types.proofs.body.FileDescriptorProtoOwnedProto.from_body.Goals as goal

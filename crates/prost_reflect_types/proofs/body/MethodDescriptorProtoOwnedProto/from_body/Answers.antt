@@ -1,7 +1,6 @@
-use Rattle.std.proofs.Common.{refl, sym, subst, [], ◌∷◌}
+use Rattle.std.specs.Prelude.{◌∷◌}
+use Rattle.prost_reflect_types.proofs.Common.{refl, sym, subst, [], Fields, all_found, of_bytes, of_flag, of_text}
 use Rattle.prost_reflect_types.specs.declared.table.RecordType.TheVariants as types
-use Rattle.prost_reflect_types.specs.DescriptorReading.{Fields, all_found}
-use Rattle.prost_reflect_types.specs.DescriptorViews.{of_bytes, of_flag, of_text}
 use Rattle.prost_reflect_types.proofs.DescriptorContents.{record_read}
 use Rattle.prost_reflect_types.proofs.body.MethodDescriptorProtoOwnedProto.from_body.Goals as goal
 

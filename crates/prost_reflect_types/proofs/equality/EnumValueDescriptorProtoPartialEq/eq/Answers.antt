@@ -1,4 +1,4 @@
-use Rattle.std.proofs.Common.{refl}
+use Rattle.prost_reflect_types.proofs.Common.{refl}
 use Rattle.prost_reflect_types.specs.declared.table.RecordType.TheVariants as types
 use Rattle.prost_reflect_types.proofs.RecordSlots.{enum_value_slots}
 use Rattle.prost_reflect_types.proofs.SameRecords.{all_equal, and_also, record_decided, decided_value}

@@ -1,4 +1,4 @@
-use Rattle.prost_reflect_wire.specs.Grammar.{LEVEL_LIMIT}
+use Rattle.prost_reflect_types.proofs.Common.{LEVEL_LIMIT}
 use Rattle.prost_reflect_wire.proofs.ByteLists.{bytes_below}
 use Rattle.prost_reflect_types.proofs.NestedRecords.{ok_accepts, err_memory}
 use Rattle.prost_reflect_types.proofs.proto.Proto.decode.Goals as goal

@@ -1,5 +1,5 @@
-use Rattle.std.proofs.Common.{refl, [], ◌∷◌, map}
-use Rattle.prost_reflect_types.specs.DescriptorViews.{of_file, of_records, shared_files}
+use Rattle.std.specs.Prelude.{◌∷◌}
+use Rattle.prost_reflect_types.proofs.Common.{refl, [], map, of_file, of_records, shared_files}
 use Rattle.prost_reflect_types.specs.declared.table.RecordType.TheVariants as types
 use Rattle.prost_reflect_types.proofs.RecordSlots.{record_adds}
 use Rattle.prost_reflect_types.proofs.SoundRecords.{record_sound}

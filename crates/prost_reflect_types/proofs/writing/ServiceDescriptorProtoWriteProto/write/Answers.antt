@@ -1,4 +1,4 @@
-use Rattle.std.proofs.Common.{refl}
+use Rattle.prost_reflect_types.proofs.Common.{refl}
 use Rattle.prost_reflect_types.specs.declared.table.RecordType.TheVariants as types
 use Rattle.prost_reflect_types.proofs.RecordSlots.{service_slots, record_adds}
 use Rattle.prost_reflect_types.proofs.SoundFields.{text_sound}
