@@ -1,20 +1,8 @@
 -- The numbers of the records of bytes, noted one by one.
-use Rattle.std.proofs.Common.{◌≡◌, ℕ, ◌<◌, ◌≤◌, max, Bool, true, List, [], ◌∷◌, length, refl, ap, sym, subst, ◌∙◌, arith}
-use Rattle.std.specs.List.{list_all}
-use Rattle.std.specs.BTreeSet.{BTreeSet}
-use Rattle.std.proofs.lemmas.Bool.{and_from}
-use Rattle.prost_reflect_wire.specs.declared.key.WireType.{WireType}
-use Rattle.prost_reflect_wire.specs.Record.{Payload, Record, record_at, Spells, body_of, raw_levels, payload_wire, payload_levels}
-use Rattle.prost_reflect_wire.specs.Front.{KeyFront, ValueFront, FieldFront}
-use Rattle.prost_reflect_wire.specs.Schema.{Schema}
-use Rattle.prost_reflect_wire.specs.Grammar.{LEVEL_LIMIT, allows}
-use Rattle.prost_reflect_wire.proofs.Bodies.{items_body}
-use Rattle.prost_reflect_wire.proofs.RecordFronts.{record_parts, first_parts, levels_first, field_front, field_once, key_shorter, payload_no_longer}
+use Rattle.std.specs.Prelude.{◌≡◌, ◌<◌, ◌≤◌, ◌∷◌}
+use Rattle.prost_reflect_dynamic.proofs.Common.{ℕ, max, Bool, true, List, [], length, refl, ap, sym, subst, ◌∙◌, arith, list_all, BTreeSet, and_from, WireType, Payload, Record, record_at, Spells, body_of, raw_levels, payload_wire, payload_levels, KeyFront, ValueFront, FieldFront, Schema, LEVEL_LIMIT, allows, items_body, record_parts, first_parts, levels_first, field_front, field_once, key_shorter, payload_no_longer, greatest_level, has, BeginsWith, HasNumbersOf}
 use Rattle.prost_reflect_laws.proofs.Older.{allowed_levels, items_level}
 use Rattle.prost_reflect_tables.proofs.OptionBytes.{whole_front, front_whole}
-use Rattle.prost_reflect_wire.specs.Levels.{greatest_level}
-use Rattle.prost_reflect_fields.specs.NumberSets.{has}
-use Rattle.prost_reflect_dynamic.specs.Merged.{BeginsWith, HasNumbersOf}
 
 -- What is left of the records of the bytes spells the rest, and the numbers of the others are in the set.
 pub record Left (rest : List ℕ) (numbers : BTreeSet ℕ) (rs : List Record) : Type 0 where

@@ -1,20 +1,6 @@
 -- Contents at each number after the operations of the field set.
-use Rattle.std.proofs.Common.{◌≡◌, ℕ, true, false, cond, nat_eq, Option, Some, None, refl, ap, sym, ◌∙◌, subst, arith}
-use Rattle.std.specs.Option.{option_map}
-use Rattle.std.proofs.lemmas.Bool.{or_parts}
-use Rattle.prost_reflect_wire.specs.Schema.{Schema, Field, known, is_sibling}
-use Rattle.prost_reflect_wire.specs.Content.{ContentOf, Entries, Slot, slot_at, table, changed, insert_number, numbers_in, entries_of, schema_of, type_of, entries_ordered, value_ordered}
-use Rattle.prost_reflect_wire.specs.Edit.{with_value, with_field_value}
-use Rattle.prost_reflect_wire.proofs.Numbers.{is_in, Covers, empty_slot, insert_ascending, entries_ascending, in_insert, slot_outside, slot_table}
-use Rattle.prost_reflect_wire.proofs.Survivors.{field_number}
-use Rattle.prost_reflect_laws.proofs.Arranged.{OrderedOption, table_ordered}
-use Rattle.prost_reflect_dynamic.specs.declared.value.Value.{Value}
-use Rattle.prost_reflect_pool.specs.MessageTypes.{schema_at, type_at}
-use Rattle.prost_reflect_fields.specs.FieldSlots.{stored_at}
-use Rattle.prost_reflect_dynamic.specs.View.{value_of, entries_from}
-use Rattle.prost_reflect_dynamic.specs.Contents.{with_unknown}
-use Rattle.prost_reflect_dynamic.specs.KeptLaws.{MessageArranged}
-use Rattle.prost_reflect_dynamic.specs.ContentLaws.{MessageSlots, MessageOrder, SlotsAfterSet, SlotsAfterClear, SlotsAfterUnknown, SlotsDetermine}
+use Rattle.std.specs.Prelude.{◌≡◌}
+use Rattle.prost_reflect_dynamic.proofs.Common.{ℕ, true, false, cond, nat_eq, Option, Some, None, refl, ap, sym, ◌∙◌, subst, arith, option_map, or_parts, Schema, Field, known, is_sibling, ContentOf, Entries, Slot, slot_at, table, changed, insert_number, numbers_in, entries_of, schema_of, type_of, entries_ordered, value_ordered, with_value, with_field_value, is_in, Covers, empty_slot, insert_ascending, entries_ascending, in_insert, slot_outside, slot_table, field_number, OrderedOption, table_ordered, Value, schema_at, type_at, stored_at, value_of, entries_from, with_unknown, MessageArranged, MessageSlots, MessageOrder, SlotsAfterSet, SlotsAfterClear, SlotsAfterUnknown, SlotsDetermine}
 use Rattle.prost_reflect_dynamic.proofs.Views.{shown, content_of_message}
 use Rattle.prost_reflect_dynamic.proofs.Slots.{same_slots_same, from_keys, from_slots}
 use Rattle.prost_reflect_dynamic.proofs.Stored.{ascending_shown, slot_stored, slot_of_message}

@@ -1,32 +1,8 @@
 -- What copies store.
-use Rattle.std.proofs.Common.{◌≡◌, ℕ, Bool, true, false, cond, List, [], ◌∷◌, ◌++◌, map, Option, None, Some, refl, ap, ap₂, sym, ◌∙◌, subst, append_assoc}
-use Rattle.std.proofs.lemmas.List.{append-nil}
-use Rattle.std.specs.Option.{option_map, option_and_then, is_some}
-use Rattle.std.specs.Ordering.{nat_cmp, ordering_reverse, match_ordering}
-use Rattle.std.specs.declared.cmp.Ordering.{Ordering}
-use Rattle.std.specs.declared.cmp.Ordering.TheVariants.{Less, Greater}
-use Rattle.std.specs.Cmp.{IsTotalOrder, nat_cmp_total}
-use Rattle.std.specs.BTreeMap.{is_at, insert_entry}
-use Rattle.std.specs.List.{AllByRecursion}
-use Rattle.std.specs.List.Sorted.{IsStrictlySortedBy}
-use Rattle.std.specs.Map.{keys_of}
-use Rattle.prost_reflect_wire.specs.Record.{Record, body_of}
-use Rattle.prost_reflect_wire.specs.Unknown.{records_of}
-use Rattle.prost_reflect_wire.specs.declared.unknown.UnknownFieldSet.{UnknownFieldSet}
-use Rattle.prost_reflect_wire.specs.Schema.{Field, known}
-use Rattle.prost_reflect_fields.specs.declared.slot.FieldSlot.{FieldSlot}
+use Rattle.std.specs.Prelude.{◌≡◌, ◌∷◌, ◌++◌}
+use Rattle.prost_reflect_dynamic.proofs.Common.{ℕ, Bool, true, false, cond, List, [], map, Option, None, Some, refl, ap, ap₂, sym, ◌∙◌, subst, append_assoc, append-nil, option_map, option_and_then, is_some, nat_cmp, ordering_reverse, match_ordering, Ordering, Less, Greater, IsTotalOrder, nat_cmp_total, is_at, insert_entry, AllByRecursion, IsStrictlySortedBy, keys_of, Record, body_of, records_of, UnknownFieldSet, Field, known, FieldSlot, PooledType, DynamicMessage, Value, roll-DynamicMessage, SameMessage, schema_from, IsAscending, item_at, put_item, known_of, value_in, records_in, records_at, has_value, Sound, unknown_kept, StoredValue, StoredEntries, NothingStored, ValueAt, UnknownAt, BothAt, stored_entry, stored_entries, value_stored, message_stored}
 use Rattle.prost_reflect_fields.specs.declared.slot.FieldSlot.TheVariants as entries
-use Rattle.prost_reflect_pool.specs.declared.pooled_type.PooledType.{PooledType}
-use Rattle.prost_reflect_dynamic.specs.declared.message.DynamicMessage.{DynamicMessage}
-use Rattle.prost_reflect_dynamic.specs.declared.value.Value.{Value}
-use Rattle.prost_reflect_dynamic.specs.declared.value.Value.TheViews.{roll-DynamicMessage}
-use Rattle.prost_reflect_pool.specs.MessageTypes.{SameMessage}
-use Rattle.prost_reflect_tables.specs.Shown.{schema_from}
-use Rattle.prost_reflect_fields.specs.Items.{IsAscending, item_at, put_item}
-use Rattle.prost_reflect_fields.specs.Known.{known_of}
-use Rattle.prost_reflect_fields.specs.FieldSlots.{value_in, records_in, records_at, has_value}
-use Rattle.prost_reflect_fields.specs.Sound.{Sound, unknown_kept}
-use Rattle.prost_reflect_dynamic.specs.Stored.{StoredValue, StoredEntries, NothingStored, ValueAt, UnknownAt, BothAt, MessageOf, stored_entry, stored_entries, value_stored, message_stored}
+use Rattle.prost_reflect_dynamic.specs.Stored.{MessageOf}
 use Rattle.prost_reflect_dynamic.proofs.StoredViews.{stored_message, stored_roll}
 
 abbrev pub Parts : Type 0

@@ -1,20 +1,9 @@
 -- An entry of a map that is copied behind all others.
-use Rattle.std.proofs.Common.{◌≡◌, List, [], ◌∷◌, ◌++◌, refl, ap, sym, ◌∙◌}
-use Rattle.std.specs.declared.cmp.Ordering.{Ordering}
-use Rattle.std.specs.declared.cmp.Ordering.TheVariants.{Less, Equal, Greater}
-use Rattle.std.specs.Ordering.{match_ordering}
-use Rattle.std.specs.BTreeMap.{BTreeMap, insert_entry}
-use Rattle.std.specs.List.Sorted.{IsStrictlySortedBy}
-use Rattle.std.specs.Map.{keys_of}
-use Rattle.prost_reflect_wire.specs.Scalar.{Scalar, scalar_cmp}
+use Rattle.std.specs.Prelude.{◌≡◌, ◌∷◌, ◌++◌}
+use Rattle.prost_reflect_dynamic.proofs.Common.{List, [], refl, ap, sym, ◌∙◌, Ordering, Less, Equal, Greater, match_ordering, BTreeMap, insert_entry, IsStrictlySortedBy, keys_of, Scalar, scalar_cmp, MapKey, Value, compare_keys, pairs_seen, StoredValue, StoredMap, StoredPairs, PairThen, stored_pairs, value_stored, key_of}
 use Rattle.prost_reflect_dynamic.specs.contracts.value.MapKeyOrd.TheImpl.Laws as ord_laws
-use Rattle.prost_reflect_dynamic.specs.declared.value.MapKey.{MapKey}
-use Rattle.prost_reflect_dynamic.specs.declared.value.Value.{Value}
 use Rattle.prost_reflect_dynamic.specs.declared.value.Value as values
-use Rattle.prost_reflect_dynamic.specs.ContentLaws.{compare_keys}
-use Rattle.prost_reflect_dynamic.specs.Copies.{pairs_seen}
-use Rattle.prost_reflect_dynamic.specs.Stored.{StoredValue, StoredMap, StoredPairs, NoPairs, PairThen, stored_pairs, value_stored}
-use Rattle.prost_reflect_dynamic.specs.View.{key_of}
+use Rattle.prost_reflect_dynamic.specs.Stored.{NoPairs}
 use Rattle.prost_reflect_dynamic.proofs.Copied.{insert_last}
 use Rattle.prost_reflect_dynamic.proofs.Keys.{keys_compared}
 use Rattle.prost_reflect_dynamic.proofs.StoredViews.{stored_map}

@@ -1,13 +1,6 @@
 -- Whether an enum declares a number, told by the place that is found.
-use Rattle.std.proofs.Common.{◌≡◌, ℕ, suc, ◌+◌, ℤ, Bool, true, false, cond, not, ◌||◌, List, [], ◌∷◌, length, map, Option, Some, None, refl, ap, ap₂, ◌∙◌, arith}
-use Rattle.std.specs.Prelude.{nat_lt, is_some, slice_get}
-use Rattle.std.specs.List.{list_any, position, position_or_len}
-use Rattle.std.specs.Ordering.{int_eq}
-use Rattle.std.proofs.lemmas.Bool.{lt-ltb, le-ltb, ltb-true, ltb-false}
-use Rattle.std.proofs.lemmas.Bool.Decides.{Decides-int_eq}
-use Rattle.prost_reflect_tables.specs.Rows.{EnumRow, EnumValueRow, TableRows, value_numbers}
-use Rattle.prost_reflect_pool.specs.Enums.{values_at, values_or_none}
-use Rattle.prost_reflect_pool.specs.Lookups.{numbered_value}
+use Rattle.std.specs.Prelude.{◌≡◌, ◌+◌, ◌||◌, ◌∷◌}
+use Rattle.prost_reflect_dynamic.proofs.Common.{ℕ, suc, ℤ, Bool, true, false, cond, not, List, [], length, map, Option, Some, None, refl, ap, ap₂, ◌∙◌, arith, nat_lt, is_some, slice_get, list_any, position, position_or_len, int_eq, lt-ltb, le-ltb, ltb-true, ltb-false, Decides-int_eq, EnumRow, EnumValueRow, TableRows, value_numbers, values_at, values_or_none, numbered_value}
 
 further : (p n : ℕ) → nat_lt (1 + p) (suc n) ≡ nat_lt p n
 further p n = go (nat_lt p n) refl

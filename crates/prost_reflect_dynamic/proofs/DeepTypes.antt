@@ -1,40 +1,14 @@
 -- The types of the messages inside a message: what the tables say of them, and what follows for its content.
-use Rattle.std.proofs.Common.{◌≡◌, ℕ, Bool, true, false, ◌&&◌, nat_eq, List, [], ◌∷◌, ◌⊎◌, inl, inr, Option, Some, None, refl, sym, ap, ◌∙◌, subst, true≢false}
-use Rattle.std.proofs.lemmas.Bool.{and_parts}
-use Rattle.std.specs.BTreeMap.{BTreeMap}
-use Rattle.std.specs.Option.{option_and_then}
+use Rattle.std.specs.Prelude.{◌≡◌, ◌&&◌, ◌∷◌, ◌⊎◌}
+use Rattle.prost_reflect_dynamic.proofs.Common.{ℕ, Bool, true, false, nat_eq, List, [], inl, inr, Option, Some, None, refl, sym, ap, ◌∙◌, subst, true≢false, and_parts, BTreeMap, option_and_then, Payload, items, Content, Entries, then_unknowns, Kind, ScalarOf, MessageOf, GroupOf, ValueType, FieldForm, Field, Schema, known, field_of, passes, Typed, EntriesTyped, ValueTyped, ValuesTyped, PairsTyped, IsOf, is_of_type, kind_for, own_kind, Cardinality, TableKind, rows_eq, rows_decide, is_linked, FieldRow, EnumRow, MessageRow, TableRows, schema_kind, value_type_of, form_of, schema_field, schema_from, map_parts, contents_eq, pool_rows, pool_contents, PooledType, rows_follow, known_of, FieldSlot, DynamicMessage, MapKey, Value, Value-F, roll-Value, fold-roll-Value, ind-Value, kind_place, stored_kind, place_for, stands_there, all_typed, entries_typed, value_typed, items_typed, pairs_typed, content_of, message_type_of, stored_in, payloads_of}
 use denote.Hole.Carrier as Carrier
-use Rattle.prost_reflect_wire.specs.Record.{Payload, items}
 use Rattle.prost_reflect_wire.specs.Content as contents
-use Rattle.prost_reflect_wire.specs.Content.{Content, Entries, then_unknowns}
-use Rattle.prost_reflect_wire.specs.Schema.{Kind, ScalarOf, MessageOf, GroupOf, ValueType, FieldForm, Field, Schema, known, field_of, passes}
-use Rattle.prost_reflect_wire.specs.Typing.{Typed, EntriesTyped, ValueTyped, ValuesTyped, PairsTyped, IsOf, is_of_type, kind_for, own_kind}
-use Rattle.prost_reflect_tables.specs.declared.tables.Cardinality.{Cardinality}
 use Rattle.prost_reflect_tables.specs.declared.tables.Cardinality.TheVariants.{Optional, Required, Repeated as RepeatedLabel}
-use Rattle.prost_reflect_tables.specs.declared.tables.TableKind.{TableKind}
 use Rattle.prost_reflect_tables.specs.declared.tables.TableKind.TheVariants as kinds
-use Rattle.prost_reflect_tables.specs.Equality.{rows_eq, rows_decide}
-use Rattle.prost_reflect_tables.specs.Linked.{is_linked}
-use Rattle.prost_reflect_tables.specs.Rows.{FieldRow, EnumRow, MessageRow, TableRows}
-use Rattle.prost_reflect_tables.specs.Shown.{schema_kind, value_type_of, form_of, schema_field, schema_from}
-use Rattle.prost_reflect_pool.specs.MapParts.{map_parts}
-use Rattle.prost_reflect_pool.specs.PoolEquality.{contents_eq}
-use Rattle.prost_reflect_pool.specs.SharedPools.{pool_rows, pool_contents}
-use Rattle.prost_reflect_pool.specs.declared.pooled_type.PooledType.{PooledType}
-use Rattle.prost_reflect_pool.proofs.EqualTypes.{rows_follow}
-use Rattle.prost_reflect_fields.specs.Known.{known_of}
-use Rattle.prost_reflect_fields.specs.declared.slot.FieldSlot.{FieldSlot}
 use Rattle.prost_reflect_fields.specs.declared.slot.FieldSlot.TheVariants as slots
-use Rattle.prost_reflect_dynamic.specs.declared.message.DynamicMessage.{DynamicMessage}
-use Rattle.prost_reflect_dynamic.specs.declared.value.MapKey.{MapKey}
-use Rattle.prost_reflect_dynamic.specs.declared.value.Value.{Value}
 use Rattle.prost_reflect_dynamic.specs.declared.value.Value as values
-use Rattle.prost_reflect_dynamic.specs.declared.value.Value.TheOpen.{Value-F}
-use Rattle.prost_reflect_dynamic.specs.declared.value.Value.TheViews.{roll-Value}
-use Rattle.prost_reflect_dynamic.specs.declared.value.Value.TheFolds.{fold-roll-Value, ind-Value}
-use Rattle.prost_reflect_dynamic.specs.DeepTypes.{kind_place, place_named, stored_kind, place_for, stands_there, all_typed, entries_typed, value_typed, items_typed, pairs_typed}
+use Rattle.prost_reflect_dynamic.specs.DeepTypes.{place_named}
 use Rattle.prost_reflect_dynamic.specs.Stored.{StoredMessage, MessageOf as StoredOf, StoredEntries, NothingStored, ValueAt, UnknownAt, BothAt, StoredValue, StoredScalar, StoredInside, StoredList, StoredMap, StoredItems, NoItems, ItemThen, StoredPairs, NoPairs, PairThen, stored_entry, stored_entries, stored_step, stored_message_step, value_stored, message_stored}
-use Rattle.prost_reflect_dynamic.specs.View.{content_of, message_type_of, stored_in, payloads_of}
 use Rattle.prost_reflect_dynamic.proofs.MapRows.{shown_map}
 use Rattle.prost_reflect_dynamic.proofs.RowKinds.{no_map}
 use Rattle.prost_reflect_dynamic.proofs.StoredContents.{content_from, entries_content, value_content, items_content, pairs_content, message_follows}

@@ -1,17 +1,8 @@
 -- What a field has where nothing is stored, by its row and the value's own form.
-use Rattle.std.proofs.Common.{◌≡◌, ◌≢◌, true, false, List, [], ◌∷◌, length, map, Option, Some, None, refl, ap, ◌∙◌, arith, true≢false}
-use Rattle.std.specs.Prelude.{◌==◌, is_some, option_map}
-use Rattle.prost_reflect_wire.specs.Schema.{FieldForm, is_map}
-use Rattle.prost_reflect_wire.specs.Content.{Value, ListValue, MapValue, values_from}
-use Rattle.prost_reflect_tables.specs.declared.tables.Cardinality.{Cardinality}
+use Rattle.std.specs.Prelude.{◌≡◌, ◌≢◌, ◌∷◌, ◌==◌}
+use Rattle.prost_reflect_dynamic.proofs.Common.{true, false, List, [], length, map, Option, Some, None, refl, ap, ◌∙◌, arith, true≢false, is_some, option_map, FieldForm, is_map, ListValue, MapValue, values_from, Cardinality, FieldRow, TableRows, is_linked, form_of, schema_field, map_parts, pairs_from, MapKey, is_empty_value}
+use Rattle.prost_reflect_wire.specs.Content.{Value}
 use Rattle.prost_reflect_tables.specs.declared.tables.Cardinality.TheVariants.{Optional, Required, Repeated as RepeatedLabel}
-use Rattle.prost_reflect_tables.specs.Rows.{FieldRow, TableRows}
-use Rattle.prost_reflect_tables.specs.Linked.{is_linked}
-use Rattle.prost_reflect_tables.specs.Shown.{form_of, schema_field}
-use Rattle.prost_reflect_pool.specs.MapParts.{map_parts}
-use Rattle.prost_reflect_dynamic.specs.View.{pairs_from}
-use Rattle.prost_reflect_dynamic.specs.declared.value.MapKey.{MapKey}
-use Rattle.prost_reflect_wire.specs.Typing.{is_empty_value}
 use Rattle.prost_reflect_dynamic.proofs.RowKinds.{no_map}
 use Rattle.prost_reflect_dynamic.proofs.MapRows.{shown_map}
 

@@ -1,43 +1,16 @@
 -- What a message lends nests less deep than the message.
+use Rattle.std.specs.Prelude.{◌≡◌, ◌<◌, ◌≤◌, ◌+◌, ◌∷◌, ◌++◌}
+use Rattle.prost_reflect_dynamic.proofs.Common.{rules, ℕ, max, Bool, true, false, cond, List, [], length, get_or, Option, Some, None, Bor, true≢false, sym, subst, ap, refl, ◌∙◌, arith, Result, IfOk, IfSome, flat_map, option_and_then, option_map, option_to_list, is_some, unwrap_or, AllByRecursion, All, lookup, is_at, nat_cmp, match_ordering, Ordering, Less, Equal, Greater, Field, AllocError, Global, Ok, Err, recursion_from_All, get_or-map, length-map, value_in, stored_at, has_value, numbered, left_in, then_slot, without_values, value_alone, values_alone, with_value_in, revalued, put_slot, put_value, with_slot, slot_weighed, IsAscending, item_at, put_item, with_item, known_of, are_siblings, prepared, set_value_at, FieldSlot, PooledType, IsOwnField, has_at, had_at, saying, left_at, GivesInside, IsOwnExtension, GivesNext, had_numbers, had_pairs, fields_left, extensions_left, fields_steps, extensions_steps, IsFieldPair, IsExtensionPair, content_of, message_type_of, stored_in, EachGiven, DynamicMessage, size-DynamicMessage, size_is-DynamicMessage, MapKey, Value, size-Value, the_lemmas}
 use denote.Param.Weighed.{w_const, w_pair, w_this, most}
-use Rattle.std.proofs.Common.{rules, ◌≡◌, ◌<◌, ◌≤◌, ◌+◌, ℕ, max, Bool, true, false, cond, List, [], ◌∷◌, ◌++◌, length, get_or, Option, Some, None, Bor, true≢false, sym, subst, ap, refl, ◌∙◌, arith}
-use Rattle.std.specs.Prelude.{Result, IfOk, IfSome, flat_map, option_and_then, option_map, option_to_list, is_some, unwrap_or}
-use Rattle.std.specs.List.{AllByRecursion, All}
-use Rattle.std.specs.Map.{lookup, values_of}
-use Rattle.std.specs.BTreeMap.{is_at}
-use Rattle.std.specs.Ordering.{nat_cmp, match_ordering}
-use Rattle.std.specs.declared.cmp.Ordering.{Ordering}
-use Rattle.std.specs.declared.cmp.Ordering.TheVariants.{Less, Equal, Greater}
-use Rattle.prost_reflect_wire.specs.Schema.{Field}
-use Rattle.std.specs.declared.alloc.AllocError.{AllocError}
-use Rattle.std.specs.declared.alloc.Global.{Global}
+use Rattle.std.specs.Map.{values_of}
 use Rattle.std.specs.declared.collections.BTreeMap.{BTreeMap}
-use Rattle.std.specs.declared.result.Result.TheVariants.{Ok, Err}
-use Rattle.std.proofs.lemmas.List.Elements.{recursion_from_All}
-use Rattle.std.proofs.lemmas.List.{get_or-map, length-map}
-use Rattle.prost_reflect_fields.specs.FieldSlots.{value_in, stored_at, has_value, numbered, left_in, then_slot, without_values, value_alone, values_alone, with_value_in, revalued, put_slot, put_value, with_slot, with_value}
-use Rattle.prost_reflect_fields.specs.formers.field_set.FieldSet.{slot_weighed}
-use Rattle.prost_reflect_fields.specs.Items.{IsAscending, item_at, put_item, with_item}
-use Rattle.prost_reflect_fields.specs.Known.{known_of, are_siblings}
-use Rattle.prost_reflect_fields.specs.Sound.{prepared, set_value_at}
-use Rattle.prost_reflect_fields.specs.declared.slot.FieldSlot.{FieldSlot}
+use Rattle.prost_reflect_fields.specs.FieldSlots.{with_value}
 use Rattle.prost_reflect_fields.specs.declared.slot.FieldSlot.TheVariants as slots
 use Rattle.prost_reflect_dynamic.proofs.Had.{has_found}
 use Rattle.prost_reflect_dynamic.proofs.Walks.{gives}
-use Rattle.prost_reflect_pool.specs.declared.pooled_type.PooledType.{PooledType}
-use Rattle.prost_reflect_dynamic.specs.Access.{IsOwnField, has_at, had_at, saying, left_at}
-use Rattle.prost_reflect_dynamic.specs.Depths.{GivesInside}
-use Rattle.prost_reflect_dynamic.specs.ExtensionAccess.{IsOwnExtension}
-use Rattle.prost_reflect_dynamic.specs.Places.{GivesNext}
-use Rattle.prost_reflect_dynamic.specs.ValueLists.{had_numbers, had_pairs, fields_left, extensions_left, fields_steps, extensions_steps, IsFieldPair, IsExtensionPair}
-use Rattle.prost_reflect_dynamic.specs.View.{content_of, message_type_of, stored_in}
-use Rattle.prost_reflect_dynamic.specs.Walks.{EachGiven}
-use Rattle.prost_reflect_dynamic.specs.declared.message.DynamicMessage.{DynamicMessage, size-DynamicMessage, size_is-DynamicMessage}
 use Rattle.prost_reflect_dynamic.specs.declared.message.lists.had.Fields.{Fields}
 use Rattle.prost_reflect_dynamic.specs.declared.message.lists.had.Extensions.{Extensions}
-use Rattle.prost_reflect_dynamic.specs.declared.value.MapKey.{MapKey}
 use Rattle.prost_reflect_dynamic.specs.declared.value.Value as values
-use Rattle.prost_reflect_dynamic.specs.declared.value.Value.{Value, size-Value, the_lemmas}
 
 -- LISTS
 

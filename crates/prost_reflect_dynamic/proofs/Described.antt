@@ -1,20 +1,6 @@
 -- The known fields of a descriptor's message type, and its schema.
-use Rattle.std.proofs.Common.{◌≡◌, ℕ, ◌<◌, true, length, map, Some, ap, subst}
-use Rattle.std.proofs.lemmas.Bool.{ltb-true, and_parts}
-use Rattle.std.specs.Prelude.{slice_get, option_map}
-use Rattle.std.proofs.lemmas.List.{length-map}
-use Rattle.prost_reflect_wire.specs.Schema.{Kind, ScalarOf, MessageOf, GroupOf, Field, known, field_of, kind_valid, field_valid, schema_valid}
-use Rattle.prost_reflect_wire.specs.Edit.{message_of_kind}
-use Rattle.prost_reflect_laws.proofs.Checked.{known_valid, found_valid, checked_field}
-use Rattle.prost_reflect_tables.specs.Rows.{FieldRow, TableRows}
-use Rattle.prost_reflect_tables.specs.Linked.{is_linked}
-use Rattle.prost_reflect_tables.specs.Places.{row_of}
-use Rattle.prost_reflect_tables.specs.Shown.{schema_from, schema_field}
-use Rattle.prost_reflect_tables.proofs.Keeping.{schema_is_valid}
-use Rattle.prost_reflect_tables.proofs.Fields.{known_rows, field_of_number, known_row}
-use Rattle.prost_reflect_pool.specs.SharedPools.{pool_rows}
-use Rattle.prost_reflect_pool.specs.MessageTypes.{schema_at, type_at, fields_of, SameMessage}
-use Rattle.prost_reflect_pool.specs.declared.pooled_type.PooledType.{PooledType}
+use Rattle.std.specs.Prelude.{◌≡◌, ◌<◌}
+use Rattle.prost_reflect_dynamic.proofs.Common.{ℕ, true, length, map, Some, ap, subst, ltb-true, and_parts, slice_get, option_map, length-map, Kind, ScalarOf, MessageOf, GroupOf, Field, known, field_of, kind_valid, field_valid, schema_valid, message_of_kind, known_valid, found_valid, checked_field, FieldRow, TableRows, is_linked, row_of, schema_from, schema_field, schema_is_valid, known_rows, field_of_number, known_row, pool_rows, schema_at, type_at, fields_of, SameMessage, PooledType}
 
 -- The schema is one of a checked pool, and has the type.
 pub schema_at_valid : (m : PooledType) → schema_valid (schema_at m) ≡ true

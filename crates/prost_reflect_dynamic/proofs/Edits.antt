@@ -1,31 +1,9 @@
 -- What clearing a number and setting a value keep of a content.
-use Rattle.std.proofs.Common.{◌≡◌, ◌≤◌, ℕ, Bool, true, false, cond, nat_eq, List, Option, Some, None, refl, ap, sym, subst, ◌∙◌, true≢false, arith}
-use Rattle.std.specs.Option.{is_some}
-use Rattle.std.proofs.lemmas.Bool.{and_parts, and_from, eq-eqb}
-use Rattle.prost_reflect_wire.specs.Schema.{Field, known, field_of, passes}
-use Rattle.prost_reflect_wire.specs.Content.{Content, ContentOf, Entries, Value, Slot, value_at, slot_at, insert_number, numbers_in, changed, schema_of, type_of, entries_of}
-use Rattle.prost_reflect_wire.specs.Typing.{kept, kept_entries, kind_for, fit_test, entries_pass, value_passes, value_valid, encodable, ValueStored, ValueTyped, WellStored}
-use Rattle.prost_reflect_wire.specs.Edit.{with_value, cleared, set_field, with_field_value}
-use Rattle.prost_reflect_wire.specs.Decoding.{Holds}
-use Rattle.prost_reflect_wire.specs.Storing.{with_stored}
-use Rattle.prost_reflect_wire.proofs.Survivors.{field_number}
-use Rattle.prost_reflect_laws.proofs.Slots.{table_passes}
-use Rattle.prost_reflect_laws.proofs.StoredPasses.{OptionPasses, SlotPasses, passes_slots, stored_passes}
-use Rattle.prost_reflect_dynamic.specs.Contents.{value_set, value_cleared, cleared_if, values_taken, in_entries}
-use Rattle.prost_reflect_dynamic.specs.KeptLaws.{Arranged}
-use Rattle.prost_reflect_dynamic.specs.UnknownLists.{without_unknown}
-use Rattle.prost_reflect_dynamic.specs.Access.{has_at, takes_at}
-use Rattle.prost_reflect_dynamic.specs.DeepTypes.{all_typed}
-use Rattle.prost_reflect_dynamic.specs.Edits.{IsWhole, held_set, Removes, Sets}
-use Rattle.prost_reflect_dynamic.specs.TypedSteps.{StaysTyped, typed_at}
-use Rattle.prost_reflect_dynamic.specs.Stored.{message_stored, value_stored}
-use Rattle.prost_reflect_dynamic.specs.View.{value_of, content_of, message_type_of, stored_in, entries_from}
+use Rattle.std.specs.Prelude.{◌≡◌, ◌≤◌}
+use Rattle.prost_reflect_dynamic.proofs.Common.{ℕ, Bool, true, false, cond, nat_eq, List, Option, Some, None, refl, ap, sym, subst, ◌∙◌, true≢false, arith, is_some, and_parts, and_from, eq-eqb, Field, known, field_of, passes, Content, ContentOf, Entries, Slot, value_at, slot_at, insert_number, numbers_in, changed, schema_of, type_of, entries_of, kept, kept_entries, kind_for, fit_test, value_passes, value_valid, encodable, ValueStored, ValueTyped, WellStored, with_value, cleared, set_field, with_field_value, Holds, with_stored, field_number, table_passes, OptionPasses, SlotPasses, passes_slots, stored_passes, value_set, value_cleared, cleared_if, values_taken, in_entries, Arranged, without_unknown, has_at, takes_at, all_typed, IsWhole, held_set, Removes, Sets, StaysTyped, typed_at, message_stored, value_stored, value_of, content_of, message_type_of, stored_in, entries_from, DynamicMessage, size-DynamicMessage, IsAscending, known_of, schema_at, type_at, PooledType}
+use Rattle.prost_reflect_wire.specs.Content.{Value}
+use Rattle.prost_reflect_wire.specs.Typing.{entries_pass}
 use Rattle.prost_reflect_dynamic.specs.declared.value.Value as values
-use Rattle.prost_reflect_dynamic.specs.declared.message.DynamicMessage.{DynamicMessage, size-DynamicMessage}
-use Rattle.prost_reflect_fields.specs.Items.{IsAscending}
-use Rattle.prost_reflect_fields.specs.Known.{known_of}
-use Rattle.prost_reflect_pool.specs.MessageTypes.{schema_at, type_at}
-use Rattle.prost_reflect_pool.specs.declared.pooled_type.PooledType.{PooledType}
 use Rattle.prost_reflect_dynamic.proofs.ContentChanges.{slots_after_clear, message_arranged}
 use Rattle.prost_reflect_dynamic.proofs.Described.{schema_at_valid}
 use Rattle.prost_reflect_dynamic.proofs.KeptSlots.{kept_after_set, kept_after_clear, kept_after_clear_all}

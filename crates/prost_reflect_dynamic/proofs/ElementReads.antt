@@ -1,42 +1,12 @@
 -- Messages and groups read as elements of the list of their field.
-use Rattle.std.proofs.Common.{◌≡◌, ℕ, suc, Bool, true, false, List, [], Option, Some, None, refl, sym, ap, ap₂, ◌∙◌, subst, true≢false}
-use Rattle.std.specs.Prelude.{Vec, unwrap_or, map, ◌++◌, ◌∷◌}
-use Rattle.std.specs.declared.alloc.Global.{Global}
-use Rattle.std.proofs.lemmas.List.{map-append}
-use Rattle.prost_reflect_wire.specs.declared.error.DecodeError.{DecodeError}
-use Rattle.prost_reflect_wire.specs.declared.key.WireType.{WireType}
+use Rattle.std.specs.Prelude.{◌≡◌, ◌++◌, ◌∷◌}
+use Rattle.prost_reflect_dynamic.proofs.Common.{ℕ, suc, Bool, true, false, List, [], Option, Some, None, refl, sym, ap, ap₂, ◌∙◌, subst, true≢false, Vec, unwrap_or, map, Global, map-append, DecodeError, WireType, KeyFront, Repeated, Field, known, field_of, is_list, is_map, Content, ContentOf, MessageValue, ListValue, NoValues, ◌and_then◌, empty, value_at, entries_of, schema_of, type_of, values_from, WellStored, with_field_value, message_of_kind, Step, StandsBehindKey, field_number, IsListed, FoundNested, TableKind, FieldRow, schema_kind, schema_field, is_repeated, PooledType, DynamicMessage, Value, value_set, is_plain_kind, names_message, schema_at, known_of, IsList, IsListOrNone, ListField, with_element, NumberList, pool_rows, nested_kind, NestedList, IsTarget, element_target_of, ReadInside, NestedRead, StandsBehindNested, value_of, content_of, message_type_of}
 use Rattle.prost_reflect_wire.specs.declared.key.WireType.TheVariants as wires
-use Rattle.prost_reflect_wire.specs.Front.{KeyFront}
-use Rattle.prost_reflect_wire.specs.Schema.{Repeated, Field, known, field_of, is_list, is_map}
 use Rattle.prost_reflect_wire.specs.Content as contents
-use Rattle.prost_reflect_wire.specs.Content.{Content, ContentOf, MessageValue, ListValue, NoValues, ◌and_then◌, empty, value_at, entries_of, schema_of, type_of, values_from}
-use Rattle.prost_reflect_wire.specs.Typing.{WellStored}
-use Rattle.prost_reflect_wire.specs.Edit.{with_field_value, message_of_kind}
-use Rattle.prost_reflect_wire.specs.Decoding.{Step, StandsBehindKey}
-use Rattle.prost_reflect_wire.proofs.Survivors.{field_number}
-use Rattle.prost_reflect_laws.proofs.ListSteps.{IsListed}
-use Rattle.prost_reflect_laws.proofs.MessageSteps.{FoundNested}
 use Rattle.prost_reflect_laws.proofs.ElementSteps.{ManyMessages, elements_at, message_element_holds, group_element_holds}
-use Rattle.prost_reflect_tables.specs.declared.tables.TableKind.{TableKind}
 use Rattle.prost_reflect_tables.specs.declared.tables.TableKind.TheVariants as kinds
-use Rattle.prost_reflect_tables.specs.Rows.{FieldRow}
-use Rattle.prost_reflect_tables.specs.Shown.{schema_kind, schema_field}
-use Rattle.prost_reflect_tables.specs.Linking.{is_repeated}
-use Rattle.prost_reflect_pool.specs.declared.pooled_type.PooledType.{PooledType}
-use Rattle.prost_reflect_dynamic.specs.declared.message.DynamicMessage.{DynamicMessage}
 use Rattle.prost_reflect_dynamic.specs.declared.message.decode.Target.TheVariants as targets
-use Rattle.prost_reflect_dynamic.specs.declared.value.Value.{Value}
 use Rattle.prost_reflect_dynamic.specs.declared.value.Value as values
-use Rattle.prost_reflect_dynamic.specs.Contents.{value_set}
-use Rattle.prost_reflect_dynamic.specs.RowKinds.{is_plain_kind, names_message}
-use Rattle.prost_reflect_pool.specs.MessageTypes.{schema_at}
-use Rattle.prost_reflect_fields.specs.Known.{known_of}
-use Rattle.prost_reflect_dynamic.specs.Lists.{IsList, IsListOrNone, ListField, with_element}
-use Rattle.prost_reflect_dynamic.specs.Numbers.{NumberList}
-use Rattle.prost_reflect_pool.specs.SharedPools.{pool_rows}
-use Rattle.prost_reflect_dynamic.specs.Targets.{nested_kind, NestedList, IsTarget, element_target_of}
-use Rattle.prost_reflect_dynamic.specs.Nested.{ReadInside, NestedRead, StandsBehindNested}
-use Rattle.prost_reflect_dynamic.specs.View.{value_of, content_of, message_type_of}
 use Rattle.prost_reflect_dynamic.proofs.Described.{named_in_range}
 use Rattle.prost_reflect_dynamic.proofs.ListMerging.{list_field}
 use Rattle.prost_reflect_dynamic.proofs.Merging.{known_in, differ_in}

@@ -1,32 +1,9 @@
 -- What is written of a list of messages or groups.
-use Rattle.std.proofs.Common.{◌≡◌, ℕ, Bool, true, false, not, ◌||◌, List, [], ◌∷◌, ◌++◌, map, Some, refl, sym, ap, ◌∙◌, subst, true≢false}
-use Rattle.std.specs.Prelude.{Vec}
-use Rattle.std.specs.declared.alloc.Global.{Global}
-use Rattle.std.proofs.lemmas.Bool.{and_parts}
-use Rattle.prost_reflect_wire.specs.Record.{record_at, spelled}
-use Rattle.prost_reflect_wire.specs.Scalar.{Scalar}
-use Rattle.prost_reflect_wire.specs.Schema.{Kind, ScalarOf, MessageOf, GroupOf, Repeated, field_of, is_message, is_packable_kind, passes, is_list}
+use Rattle.std.specs.Prelude.{◌≡◌, ◌||◌, ◌∷◌, ◌++◌}
+use Rattle.prost_reflect_dynamic.proofs.Common.{ℕ, Bool, true, false, not, List, [], map, Some, refl, sym, ap, ◌∙◌, subst, true≢false, Vec, Global, and_parts, record_at, spelled, Scalar, Kind, ScalarOf, MessageOf, GroupOf, Repeated, field_of, is_message, is_packable_kind, passes, is_list, MessageValue, ListValue, values_from, schema_of, type_of, element_payloads, encodable, kind_takes, element_valid, elements_valid, value_valid, value_passes, values_pass, fit_test, kept_values, value_bytes, checked_field, checked_list, FieldRow, schema_kind, schema_field, is_repeated, PooledType, DynamicMessage, Value, names_message, schema_at, ValueWritable, nested_bytes, known_of, ElementWritable, AreElements, element_bytes, elements_bytes, pool_rows, value_of, content_of}
 use Rattle.prost_reflect_wire.specs.Content as contents
-use Rattle.prost_reflect_wire.specs.Content.{MessageValue, ListValue, values_from, schema_of, type_of}
-use Rattle.prost_reflect_wire.specs.Writing.{element_payloads}
-use Rattle.prost_reflect_wire.specs.Typing.{encodable, kind_takes, element_valid, elements_valid, value_valid, value_passes, values_pass, fit_test, kept_values}
-use Rattle.prost_reflect_wire.specs.Storing.{value_bytes}
-use Rattle.prost_reflect_laws.proofs.Checked.{checked_field, checked_list}
 use Rattle.prost_reflect_laws.proofs.ListWritten.{messages_written}
-use Rattle.prost_reflect_tables.specs.Rows.{FieldRow}
-use Rattle.prost_reflect_tables.specs.Shown.{schema_kind, schema_field}
-use Rattle.prost_reflect_tables.specs.Linking.{is_repeated}
-use Rattle.prost_reflect_pool.specs.declared.pooled_type.PooledType.{PooledType}
-use Rattle.prost_reflect_dynamic.specs.declared.message.DynamicMessage.{DynamicMessage}
-use Rattle.prost_reflect_dynamic.specs.declared.value.Value.{Value}
 use Rattle.prost_reflect_dynamic.specs.declared.value.Value as values
-use Rattle.prost_reflect_dynamic.specs.RowKinds.{names_message}
-use Rattle.prost_reflect_pool.specs.MessageTypes.{schema_at}
-use Rattle.prost_reflect_dynamic.specs.Encoding.{ValueWritable, nested_bytes}
-use Rattle.prost_reflect_fields.specs.Known.{known_of}
-use Rattle.prost_reflect_dynamic.specs.Lists.{ElementWritable, AreElements, element_bytes, elements_bytes}
-use Rattle.prost_reflect_pool.specs.SharedPools.{pool_rows}
-use Rattle.prost_reflect_dynamic.specs.View.{value_of, content_of}
 use Rattle.prost_reflect_dynamic.proofs.RowKinds.{message_kind}
 use Rattle.prost_reflect_dynamic.proofs.Described.{found_checked}
 use Rattle.prost_reflect_dynamic.proofs.NestedWrites.{no_message_value, kind_bytes_before, shown_plain, shown_group}

@@ -1,31 +1,10 @@
 -- A message is encodable where the values of its slots fit, and what is stored at every depth is in order.
-use Rattle.std.proofs.Common.{◌≡◌, ℕ, Bool, true, false, cond, ◌&&◌, List, [], ◌∷◌, map, Option, Some, None, refl, sym, ap, ◌∙◌, subst, true≢false}
-use Rattle.std.proofs.lemmas.Bool.{and_parts, and_from}
-use Rattle.std.specs.List.Sorted.{IsStrictlySortedBy}
-use Rattle.std.specs.Map.{keys_of}
-use Rattle.std.specs.Option.{option_map, option_and_then, is_some}
-use Rattle.std.specs.Ordering.{nat_cmp, is_eq}
-use Rattle.prost_reflect_wire.specs.Record.{Record}
-use Rattle.prost_reflect_wire.specs.Unknown.{records_of}
-use Rattle.prost_reflect_wire.specs.Scalar.{is_less}
-use Rattle.prost_reflect_wire.specs.Schema.{Field, passes, is_sibling}
+use Rattle.std.specs.Prelude.{◌≡◌, ◌&&◌, ◌∷◌}
+use Rattle.prost_reflect_dynamic.proofs.Common.{ℕ, Bool, true, false, cond, List, [], map, Option, Some, None, refl, sym, ap, ◌∙◌, subst, true≢false, and_parts, and_from, IsStrictlySortedBy, keys_of, option_map, option_and_then, is_some, nat_cmp, is_eq, Record, records_of, is_less, Field, passes, is_sibling, Entries, Slot, ListValue, MapValue, slot_at, entries_of, then_unknowns, ordered, value_ordered, values_ordered, pairs_ordered, values_from, EntryTest, fit_test, alone_test, value_passes, values_pass, pairs_pass, encodable, exclusive, apart_members, FieldSlot, IsAscending, item_at, known_of, all_kept, are_records_of, keeps_unknown, are_siblings, value_in, records_in, stored_at, has_value, IsSound, unknown_kept, DynamicMessage, MapKey, Value, compare_keys, pairs_shown, fits_at, slot_passes, slots_pass, items_pass, entries_pass, arranged, value_arranged, value_of, content_of, key_of, message_type_of, stored_in, entries_from, payloads_of}
 use Rattle.prost_reflect_wire.specs.Content as contents
-use Rattle.prost_reflect_wire.specs.Content.{Entries, Slot, ListValue, MapValue, slot_at, entries_of, then_unknowns, ordered, value_ordered, values_ordered, pairs_ordered, values_from}
 use Rattle.prost_reflect_wire.specs.Typing as typing
-use Rattle.prost_reflect_wire.specs.Typing.{EntryTest, fit_test, alone_test, value_passes, values_pass, pairs_pass, encodable, exclusive}
-use Rattle.prost_reflect_laws.proofs.Slots.{Apart, apart_members}
-use Rattle.prost_reflect_fields.specs.declared.slot.FieldSlot.{FieldSlot}
+use Rattle.prost_reflect_laws.proofs.Slots.{Apart}
 use Rattle.prost_reflect_fields.specs.declared.slot.FieldSlot.TheVariants as entries
-use Rattle.prost_reflect_fields.specs.Items.{IsAscending, item_at}
-use Rattle.prost_reflect_fields.specs.Known.{known_of, all_kept, are_records_of, keeps_unknown, are_siblings}
-use Rattle.prost_reflect_fields.specs.FieldSlots.{value_in, records_in, stored_at, has_value}
-use Rattle.prost_reflect_fields.specs.Sound.{IsSound, unknown_kept}
-use Rattle.prost_reflect_dynamic.specs.declared.message.DynamicMessage.{DynamicMessage}
-use Rattle.prost_reflect_dynamic.specs.declared.value.MapKey.{MapKey}
-use Rattle.prost_reflect_dynamic.specs.declared.value.Value.{Value}
-use Rattle.prost_reflect_dynamic.specs.ContentLaws.{compare_keys, pairs_shown}
-use Rattle.prost_reflect_dynamic.specs.Encodables.{fits_at, slot_passes, slots_pass, items_pass, entries_pass, arranged, value_arranged}
-use Rattle.prost_reflect_dynamic.specs.View.{value_of, content_of, key_of, message_type_of, stored_in, entries_from, payloads_of}
 use Rattle.prost_reflect_dynamic.proofs.ContentChanges.{message_slots, message_order}
 use Rattle.prost_reflect_dynamic.proofs.Encodings.{KeptRecords, kept_in}
 use Rattle.prost_reflect_dynamic.proofs.Keys.{keys_compared}

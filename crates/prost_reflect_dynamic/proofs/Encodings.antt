@@ -1,34 +1,9 @@
 -- The entries of a message that is encodable can be written, and their bytes are the encoding of its content.
-use Rattle.prost_reflect_wire.specs.Sinks.{Adds}
-use Rattle.prost_reflect_wire.proofs.SinkSteps.{adds_in_turn, adds_same}
-use Rattle.std.proofs.Common.{◌≡◌, ℕ, true, cond, List, [], ◌∷◌, ◌++◌, map, nat_eq, Option, Some, None, refl, sym, ap, ap₂, ◌∙◌, subst, append_assoc}
-use Rattle.std.proofs.lemmas.Bool.{eqb-true, and_parts}
-use Rattle.std.specs.List.{list_all}
-use Rattle.std.specs.List.Sorted.{IsStrictlySortedBy}
-use Rattle.std.specs.Option.{option_map, option_and_then}
-use Rattle.std.specs.Prelude.{unwrap_or}
-use Rattle.std.specs.Ordering.{is_eq}
-use Rattle.prost_reflect_wire.specs.Record.{Record, Payload, record_at, spelled}
-use Rattle.prost_reflect_wire.specs.Schema.{Field, field_of, passes}
+use Rattle.std.specs.Prelude.{◌≡◌, ◌∷◌, ◌++◌}
+use Rattle.prost_reflect_dynamic.proofs.Common.{Adds, adds_in_turn, adds_same, ℕ, true, cond, List, [], map, nat_eq, Option, Some, None, refl, sym, ap, ap₂, ◌∙◌, subst, append_assoc, eqb-true, and_parts, list_all, IsStrictlySortedBy, option_map, option_and_then, unwrap_or, is_eq, Record, Payload, record_at, spelled, Field, field_of, passes, Entries, Slot, Stored, Unknown, then_unknowns, then_value, store, encoded, entries_records, EntryTest, fit_test, value_valid, value_passes, encodable, kept, kept_entries, slot_bytes, value_bytes, stored_bytes, records_of, UnknownFieldSet, written_store, FieldSlot, DynamicMessage, Value, IsAscending, item_at, known_of, are_records_of, all_kept, value_in, unknown_in, records_in, records_at, IsSound, UnknownKept, unknown_kept, value_of, content_of, message_type_of, stored_in, slot_of, entries_from, payloads_of, unknown_bytes, entries_bytes, ValueWritable, OwnUnknown, IsWritable, AreWritable, by_number, none_above, itself}
 use Rattle.prost_reflect_wire.specs.Content as contents
-use Rattle.prost_reflect_wire.specs.Content.{Entries, Slot, Stored, Unknown, then_unknowns, then_value, store}
-use Rattle.prost_reflect_wire.specs.Writing.{encoded, entries_records}
-use Rattle.prost_reflect_wire.specs.Typing.{EntryTest, fit_test, value_valid, value_passes, entries_pass, encodable, kept, kept_entries}
-use Rattle.prost_reflect_wire.specs.Storing.{slot_bytes, value_bytes, stored_bytes}
-use Rattle.prost_reflect_wire.specs.Unknown.{records_of}
-use Rattle.prost_reflect_wire.specs.declared.unknown.UnknownFieldSet.{UnknownFieldSet}
-use Rattle.prost_reflect_laws.proofs.WrittenEntries.{written_store}
-use Rattle.prost_reflect_fields.specs.declared.slot.FieldSlot.{FieldSlot}
+use Rattle.prost_reflect_wire.specs.Typing.{entries_pass}
 use Rattle.prost_reflect_fields.specs.declared.slot.FieldSlot.TheVariants as entries
-use Rattle.prost_reflect_dynamic.specs.declared.message.DynamicMessage.{DynamicMessage}
-use Rattle.prost_reflect_dynamic.specs.declared.value.Value.{Value}
-use Rattle.prost_reflect_fields.specs.Items.{IsAscending, item_at}
-use Rattle.prost_reflect_fields.specs.Known.{known_of, are_records_of, all_kept}
-use Rattle.prost_reflect_fields.specs.FieldSlots.{value_in, unknown_in, records_in, records_at}
-use Rattle.prost_reflect_fields.specs.Sound.{IsSound, UnknownKept, unknown_kept}
-use Rattle.prost_reflect_dynamic.specs.View.{value_of, content_of, message_type_of, stored_in, slot_of, entries_from, payloads_of}
-use Rattle.prost_reflect_dynamic.specs.Encoding.{unknown_bytes, entries_bytes, ValueWritable, OwnUnknown, IsWritable, AreWritable}
-use Rattle.prost_reflect_fields.proofs.ItemChanges.{by_number, none_above, itself}
 use Rattle.prost_reflect_dynamic.proofs.Views.{shown, shown_entry, content_of_message}
 
 -- BYTES

@@ -1,30 +1,10 @@
 -- What a field has where nothing is stored, by its row.
-use Rattle.std.proofs.Common.{◌≡◌, ℕ, ◌<◌, Bool, true, false, cond, IsTrue, Option, Some, None, length, refl, ap, sym, ◌∙◌, subst, true≢false}
-use Rattle.std.proofs.lemmas.Bool.{ltb-true, and_parts}
-use Rattle.std.proofs.lemmas.List.{length-map}
-use Rattle.std.specs.Prelude.{◌↔◌, IsSome}
-use Rattle.std.specs.declared.alloc.Global.{Global}
-use Rattle.std.specs.declared.rc.Rc.{Rc}
-use Rattle.prost_reflect_wire.specs.Scalar.{Scalar}
-use Rattle.prost_reflect_wire.specs.Schema.{ValueType, FieldForm, Singular, Repeated, MapFrom, Schema, kind_valid, field_valid, is_map, is_singular}
-use Rattle.prost_reflect_wire.specs.Content.{Value, ScalarValue, MessageValue, ListValue, MapValue, NoValues, Item, NoPairs, Pair, empty}
-use Rattle.prost_reflect_wire.specs.Edit.{default_of, default_value}
-use Rattle.prost_reflect_wire.specs.Typing.{is_empty_value}
-use Rattle.prost_reflect_laws.proofs.Checked.{checked_field}
-use Rattle.prost_reflect_tables.specs.declared.tables.Cardinality.{Cardinality}
+use Rattle.std.specs.Prelude.{◌≡◌, ◌<◌, ◌↔◌}
+use Rattle.prost_reflect_dynamic.proofs.Common.{ℕ, Bool, true, false, cond, IsTrue, Option, Some, None, length, refl, ap, sym, ◌∙◌, subst, true≢false, ltb-true, and_parts, length-map, IsSome, Global, Rc, Scalar, ValueType, FieldForm, Singular, Repeated, MapFrom, Schema, kind_valid, field_valid, is_map, is_singular, ScalarValue, MessageValue, ListValue, MapValue, NoValues, Item, NoPairs, Pair, empty, default_of, default_value, is_empty_value, checked_field, Cardinality, TableKind, is_repeated, FieldRow, MessageRow, TableRows, schema_from, schema_field, schema_kind, own_type, form_of, map_entry, pool_rows, LinkedPool, row_default, single_place, place_named, IsDefaultBy, IsEmptyOf, IsRowDefault, plain_kind, message_in, value_of}
+use Rattle.prost_reflect_wire.specs.Content.{Value}
 use Rattle.prost_reflect_tables.specs.declared.tables.Cardinality.TheVariants.{Optional, Required, Repeated as RepeatedLabel}
-use Rattle.prost_reflect_tables.specs.declared.tables.TableKind.{TableKind}
 use Rattle.prost_reflect_tables.specs.declared.tables.TableKind.TheVariants as kinds
-use Rattle.prost_reflect_tables.specs.Linking.{is_repeated}
-use Rattle.prost_reflect_tables.specs.Rows.{FieldRow, MessageRow, TableRows}
-use Rattle.prost_reflect_tables.specs.Shown.{schema_from, schema_field, schema_kind, own_type, form_of, map_entry}
-use Rattle.prost_reflect_pool.specs.SharedPools.{pool_rows}
-use Rattle.prost_reflect_pool.specs.declared.pool.LinkedPool.{LinkedPool}
 pub use Rattle.prost_reflect_dynamic.specs.RowLawProofs.{row_checked, default_fits}
-use Rattle.prost_reflect_dynamic.specs.Defaults.{row_default, single_place, place_named, IsDefaultBy, IsEmptyOf, IsRowDefault}
-use Rattle.prost_reflect_dynamic.specs.Scalars.{plain_kind}
-use Rattle.prost_reflect_dynamic.specs.Variants.{message_in}
-use Rattle.prost_reflect_dynamic.specs.View.{value_of}
 use Rattle.prost_reflect_dynamic.specs.declared.value.Value.{Value as Owned, out-Value}
 use Rattle.prost_reflect_dynamic.proofs.PlainKinds.{single_row, own_of}
 

@@ -1,18 +1,6 @@
 -- What a message has at a number, by what it stores there.
-use Rattle.std.proofs.Common.{◌≡◌, ℕ, Bool, true, false, cond, List, Option, Some, None, refl, ap, sym, ◌∙◌, true≢false}
-use Rattle.std.specs.Option.{option_map, option_and_then, is_some}
-use Rattle.prost_reflect_wire.specs.Schema.{Field, field_of, passes}
-use Rattle.prost_reflect_wire.specs.Content.{Slot, entries_of, value_at}
-use Rattle.prost_reflect_wire.specs.Typing.{kept, kept_inside, kept_value, is_field_default}
-use Rattle.prost_reflect_fields.specs.declared.slot.FieldSlot.{FieldSlot}
-use Rattle.prost_reflect_fields.specs.Items.{IsAscending}
-use Rattle.prost_reflect_fields.specs.FieldSlots.{stored_at}
-use Rattle.prost_reflect_fields.specs.Known.{known_of}
-use Rattle.prost_reflect_fields.specs.Sound.{IsSound}
-use Rattle.prost_reflect_dynamic.specs.declared.message.DynamicMessage.{DynamicMessage}
-use Rattle.prost_reflect_dynamic.specs.declared.value.Value.{Value}
-use Rattle.prost_reflect_dynamic.specs.View.{value_of, content_of, message_type_of, stored_in, entries_from}
-use Rattle.prost_reflect_dynamic.specs.Access.{has_at, had_at, saying, HadContent, HasOneMember}
+use Rattle.std.specs.Prelude.{◌≡◌}
+use Rattle.prost_reflect_dynamic.proofs.Common.{ℕ, Bool, true, false, cond, List, Option, Some, None, refl, ap, sym, ◌∙◌, true≢false, option_map, option_and_then, is_some, Field, field_of, passes, Slot, entries_of, value_at, kept, kept_inside, kept_value, is_field_default, FieldSlot, IsAscending, stored_at, known_of, IsSound, DynamicMessage, Value, value_of, content_of, message_type_of, stored_in, entries_from, has_at, had_at, saying, HadContent, HasOneMember}
 use Rattle.prost_reflect_dynamic.proofs.Views.{shown, content_of_message}
 use Rattle.prost_reflect_dynamic.proofs.Stored.{slot_stored}
 use Rattle.prost_reflect_dynamic.proofs.ContentChanges.{message_arranged}

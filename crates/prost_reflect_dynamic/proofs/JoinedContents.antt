@@ -1,28 +1,12 @@
 -- Contents that have at some numbers what another content has: records of these numbers make of both the same.
-use Rattle.std.proofs.Common.{◌≡◌, ℕ, zero, suc, Bool, true, false, cond, List, [], ◌∷◌, ◌++◌, map, nat_eq, Option, Some, None, refl, ap, sym, subst, ◌∙◌, arith, append-nil, true≢false}
-use Rattle.std.specs.List.{list_all}
-use Rattle.std.proofs.lemmas.Bool.{eqb-true, and_parts}
-use Rattle.prost_reflect_wire.specs.Varint.{◌>>=◌}
-use Rattle.prost_reflect_wire.specs.Record.{Record, Payload}
-use Rattle.prost_reflect_wire.specs.Schema.{Field, Schema, known, field_of, is_sibling, numbers_differ, passes}
-use Rattle.prost_reflect_wire.specs.Content.{Content, ContentOf, Entries, NoEntries, Value, Slot, value_at, slot_at, changed, insert_number, numbers_in, entries_of, schema_of, type_of, ordered, entries_ordered}
-use Rattle.prost_reflect_wire.specs.Grammar.{value_records, value_payloads, unknown_payloads}
-use Rattle.prost_reflect_wire.specs.Meaning.{MeansInside, JoinsInside, value_joined, value_steps, slot_step, steps_by, empty_inside, joins_nothing, meaning, steps}
-use Rattle.prost_reflect_wire.specs.Typing.{value_passes, fit_test, alone_test, value_valid, kept, kept_entries, kept_value, kept_inside, WellStored}
-use Rattle.prost_reflect_wire.specs.Edit.{cleared}
-use Rattle.prost_reflect_wire.specs.Decoding.{Progress}
-use Rattle.prost_reflect_wire.proofs.Numbers.{empty_slot, insert_ascending, entries_ascending, slots_same}
-use Rattle.prost_reflect_wire.proofs.Survivors.{field_number}
-use Rattle.prost_reflect_laws.proofs.Arranged.{OrderedOption, table_ordered}
+use Rattle.std.specs.Prelude.{◌≡◌, ◌∷◌, ◌++◌}
+use Rattle.prost_reflect_dynamic.proofs.Common.{ℕ, zero, suc, Bool, true, false, cond, List, [], map, nat_eq, Option, Some, None, refl, ap, sym, subst, ◌∙◌, arith, append-nil, true≢false, list_all, eqb-true, and_parts, ◌>>=◌, Record, Payload, Field, Schema, known, field_of, is_sibling, numbers_differ, passes, Content, ContentOf, Entries, NoEntries, Slot, value_at, slot_at, changed, insert_number, numbers_in, entries_of, schema_of, type_of, ordered, entries_ordered, value_records, value_payloads, unknown_payloads, MeansInside, JoinsInside, value_joined, value_steps, slot_step, steps_by, empty_inside, joins_nothing, meaning, steps, value_passes, fit_test, alone_test, value_valid, kept, kept_entries, kept_value, kept_inside, WellStored, cleared, Progress, empty_slot, insert_ascending, entries_ascending, slots_same, field_number, OrderedOption, table_ordered, members_apart, apart_members, Known, value_in_order, ByItself, SlotPasses, passes_slots, entries_kept_ordered, IsJoined}
+use Rattle.prost_reflect_wire.specs.Content.{Value}
 use Rattle.prost_reflect_laws.proofs.Slotwise.{entries_same, slot_changed, kept_slot, slot_kept}
-use Rattle.prost_reflect_laws.proofs.Slots.{members_apart, apart_members}
-use Rattle.prost_reflect_laws.proofs.StoredSteps.{Known, value_in_order}
-use Rattle.prost_reflect_laws.proofs.StoredPasses.{ByItself, SlotPasses, passes_slots, slots_pass}
+use Rattle.prost_reflect_laws.proofs.StoredPasses.{slots_pass}
 use Rattle.prost_reflect_laws.proofs.StoredTyped.{OptionTyped, typed_values, values_typed}
 use Rattle.prost_reflect_laws.proofs.StoredSound.{inside_value}
 use Rattle.prost_reflect_laws.proofs.Holding.{known_values}
-use Rattle.prost_reflect_laws.proofs.Kept.{entries_kept_ordered}
-use Rattle.prost_reflect_dynamic.specs.Merged.{IsJoined}
 
 -- A RECORD OF ANOTHER NUMBER
 

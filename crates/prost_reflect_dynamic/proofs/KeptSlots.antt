@@ -1,20 +1,7 @@
 -- What is kept of entries, number by number, and of entries that were changed.
-use Rattle.std.proofs.Common.{◌≡◌, ℕ, Bool, true, false, cond, not, ◌&&◌, ◌||◌, nat_eq, List, [], ◌∷◌, length, ◌+◌, Option, Some, None, unwrap_or, refl, ap, sym, ◌∙◌, arith, true≢false}
-use Rattle.std.proofs.lemmas.Bool.{eqb-true, and_parts, or_parts}
-use Rattle.std.specs.Option.{option_and_then}
-use Rattle.prost_reflect_wire.specs.Scalar.{Scalar, scalar_eq}
-use Rattle.prost_reflect_wire.specs.Schema.{Kind, ScalarOf, MessageOf, GroupOf, ValueType, FieldForm, Singular, Repeated, MapFrom, Field, Schema, known, field_of, is_sibling, is_singular, is_message, message_has_presence, form_valid, field_valid}
-use Rattle.prost_reflect_wire.specs.Content.{ContentOf, Entries, Value, ScalarValue, MessageValue, ListValue, MapValue, NoValues, Item, NoPairs, Pair, Slot, value_at, slot_at, then_unknowns, then_value, store, table, insert_number, numbers_in, changed}
-use Rattle.prost_reflect_wire.specs.Typing.{is_field_default, is_empty_value, kept, kept_entries, kept_inside, kept_value}
-use Rattle.prost_reflect_wire.specs.Writing.{is_default_of}
-use Rattle.prost_reflect_wire.specs.Edit.{with_value, with_field_value, set_field, default_of, default_value}
-use Rattle.prost_reflect_wire.proofs.Numbers.{is_in, Covers, empty_slot, insert_ascending, entries_ascending, in_insert, slot_outside, slot_table, table_same, table_covers}
-use Rattle.prost_reflect_wire.proofs.Survivors.{field_number}
-use Rattle.prost_reflect_wire.specs.Deciding.{scalar_decides}
-use Rattle.prost_reflect_laws.proofs.Checked.{checked_field}
-use Rattle.prost_reflect_laws.proofs.WrittenEntries.{kept_unknowns}
-use Rattle.prost_reflect_dynamic.specs.Contents.{with_unknown}
-use Rattle.prost_reflect_dynamic.specs.KeptLaws.{Arranged, KeptAfterSet, KeptAfterClear, KeptAfterUnknown, KeptAfterClearAll, KeptAfterWriting}
+use Rattle.std.specs.Prelude.{◌≡◌, ◌&&◌, ◌||◌, ◌∷◌, ◌+◌}
+use Rattle.prost_reflect_dynamic.proofs.Common.{ℕ, Bool, true, false, cond, not, nat_eq, List, [], length, Option, Some, None, unwrap_or, refl, ap, sym, ◌∙◌, arith, true≢false, eqb-true, and_parts, or_parts, option_and_then, Scalar, scalar_eq, Kind, ScalarOf, MessageOf, GroupOf, ValueType, FieldForm, Singular, Repeated, MapFrom, Field, Schema, known, field_of, is_sibling, is_singular, is_message, message_has_presence, form_valid, field_valid, ContentOf, Entries, ScalarValue, MessageValue, ListValue, MapValue, NoValues, Item, NoPairs, Pair, Slot, value_at, slot_at, then_unknowns, then_value, store, table, insert_number, numbers_in, changed, is_field_default, is_empty_value, kept, kept_entries, kept_inside, kept_value, is_default_of, with_value, with_field_value, set_field, default_of, default_value, is_in, Covers, empty_slot, insert_ascending, entries_ascending, in_insert, slot_outside, slot_table, table_same, table_covers, field_number, scalar_decides, checked_field, kept_unknowns, with_unknown, Arranged, KeptAfterSet, KeptAfterClear, KeptAfterUnknown, KeptAfterClearAll, KeptAfterWriting}
+use Rattle.prost_reflect_wire.specs.Content.{Value}
 
 -- what is kept of a slot
 abbrev pub kept_slot : Option Field → Slot → Slot

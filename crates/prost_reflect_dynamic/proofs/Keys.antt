@@ -1,23 +1,13 @@
 -- Keys compare as the scalars that they are.
-use Rattle.std.proofs.Common.{◌≡◌, Bool, true, cond, [], ◌∷◌, Some, refl, ap, sym, ◌∙◌}
-use Rattle.std.specs.declared.cmp.Ordering.{Ordering}
-use Rattle.std.specs.declared.cmp.Ordering.TheVariants.{Less, Equal, Greater}
-use Rattle.prost_reflect_wire.specs.Scalar.{Scalar, scalar_cmp, scalar_eq, is_less}
-use Rattle.prost_reflect_dynamic.specs.View.{key_of, value_of}
-use Rattle.prost_reflect_dynamic.specs.declared.value.MapKey.{MapKey}
+use Rattle.std.specs.Prelude.{◌≡◌, ◌∷◌}
+use Rattle.prost_reflect_dynamic.proofs.Common.{Bool, true, cond, [], Some, refl, ap, sym, ◌∙◌, Ordering, Less, Equal, Greater, Scalar, scalar_cmp, scalar_eq, is_less, key_of, value_of, MapKey, key_in, is_eq, match_ordering, insert_entry, ScalarValue, Pairs, Pair, put, scalar_decides, MapInsert, pairs_shown, compare_keys}
 use Rattle.prost_reflect_dynamic.specs.declared.value.MapKey.TheVariants as keys
 use Rattle.prost_reflect_dynamic.specs.contracts.value.MapKeyOrd.TheImpl.Laws as ord_laws
 use Rattle.prost_reflect_dynamic.specs.contracts.value.MapKeyPartialEq.TheImpl as key_eq
 use Rattle.prost_reflect_dynamic.specs.contracts.value.MapKeyHash.TheImpl as key_hash
 use Rattle.std.specs.Hash.{HashWrites}
 use Rattle.prost_reflect_dynamic.specs.Keys.{key_writes}
-use Rattle.prost_reflect_dynamic.specs.Variants.{key_in}
-use Rattle.std.specs.Ordering.{is_eq, match_ordering}
-use Rattle.std.specs.BTreeMap.{insert_entry}
-use Rattle.prost_reflect_wire.specs.Content.{Value, ScalarValue, Pairs, Pair}
-use Rattle.prost_reflect_wire.specs.Meaning.{put}
-use Rattle.prost_reflect_wire.specs.Deciding.{scalar_decides}
-use Rattle.prost_reflect_dynamic.specs.ContentLaws.{MapInsert, pairs_shown, compare_keys}
+use Rattle.prost_reflect_wire.specs.Content.{Value}
 
 pub keys_compared : (a b : MapKey) → compare_keys a b ≡ scalar_cmp (key_of a) (key_of b)
 keys_compared (keys.Bool b) (keys.Bool b2) = refl

@@ -1,25 +1,11 @@
 -- The default of a kind is one of its values.
-use Rattle.std.proofs.Common.{◌≡◌, ℤ, Bool, true, false, cond, ◌||◌, List, [], ◌∷◌, length, map, nat_lt, IsTrue, Option, Some, None, refl, ap, sym, ◌∙◌, subst, true≢false}
-use Rattle.std.specs.Prelude.{IsSome, IsSomeAnd}
-use Rattle.std.specs.Str.{is_utf8, chars}
-use Rattle.std.proofs.lemmas.Bool.{and_from}
-use Rattle.std.proofs.lemmas.Bool.Decides.{Decides-int_eq}
-use Rattle.std.specs.Ordering.{int_eq}
-use Rattle.std.specs.List.{list_any}
+use Rattle.std.specs.Prelude.{◌≡◌, ◌||◌, ◌∷◌}
+use Rattle.prost_reflect_dynamic.proofs.Common.{ℤ, Bool, true, false, cond, List, [], length, map, nat_lt, IsTrue, Option, Some, None, refl, ap, sym, ◌∙◌, subst, true≢false, IsSome, IsSomeAnd, is_utf8, chars, and_from, Decides-int_eq, int_eq, list_any, Scalar, ScalarKind, Closed, Open, kind_default, in_i32, scalar_valid, ScalarOf, ScalarValue, kind_takes, EnumRow, EnumValueRow, enum_kind, first_number, first_of, numbers_or_none, values_or_none, pool_rows, kind_named, table_kind, plain_kind, IsBlank, IsScalar, key_among}
 use Rattle.prost_reflect_wire.specs.Scalar as scalars
-use Rattle.prost_reflect_wire.specs.Scalar.{Scalar, ScalarKind, Closed, Open, kind_default, in_i32, is_declared, scalar_valid}
-use Rattle.prost_reflect_wire.specs.Schema.{ScalarOf}
-use Rattle.prost_reflect_wire.specs.Content.{ScalarValue}
-use Rattle.prost_reflect_wire.specs.Typing.{kind_takes}
-use Rattle.prost_reflect_tables.specs.Rows.{EnumRow, EnumValueRow}
-use Rattle.prost_reflect_tables.specs.Shown.{enum_kind, first_number}
-use Rattle.prost_reflect_pool.specs.Enums.{first_of, numbers_or_none, values_or_none}
-use Rattle.prost_reflect_pool.specs.SharedPools.{pool_rows}
+use Rattle.prost_reflect_wire.specs.Scalar.{is_declared}
 use Rattle.prost_reflect_dynamic.specs.NamedDefaults.{default_named}
 use Rattle.prost_reflect_dynamic.specs.NamedEnums.{enum_row_at}
-use Rattle.prost_reflect_dynamic.specs.NamedKinds.{is_key_kind, kind_named, table_kind}
-use Rattle.prost_reflect_dynamic.specs.Scalars.{plain_kind, IsBlank, IsScalar}
-use Rattle.prost_reflect_dynamic.specs.Variants.{key_among}
+use Rattle.prost_reflect_dynamic.specs.NamedKinds.{is_key_kind}
 use Rattle.prost_reflect_dynamic.specs.declared.descriptor.enums.EnumDescriptor.{EnumDescriptor}
 use Rattle.prost_reflect_dynamic.specs.declared.descriptor.kind.Kind.{Kind}
 use Rattle.prost_reflect_dynamic.specs.declared.descriptor.kind.Kind.TheVariants as kinds

@@ -1,22 +1,7 @@
 -- A value set at a path through the message that a lent value holds.
-use Rattle.std.proofs.Common.{◌≡◌, ℕ, true, false, List, [], ◌∷◌, length, nat_eq, Option, Some, None, ap, sym, ◌∙◌, subst, true≢false}
-use Rattle.std.specs.Prelude.{unwrap_or, IfSome, is_some}
-use Rattle.prost_reflect_wire.specs.Schema.{Singular, Field, known, field_of, schema_valid}
+use Rattle.std.specs.Prelude.{◌≡◌, ◌∷◌}
+use Rattle.prost_reflect_dynamic.proofs.Common.{ℕ, true, false, List, [], length, nat_eq, Option, Some, None, ap, sym, ◌∙◌, subst, true≢false, unwrap_or, IfSome, is_some, Singular, Field, known, field_of, schema_valid, Content, ContentOf, MessageValue, empty, schema_of, type_of, entries_of, value_at, WellStored, default_value, message_of_kind, PathTo, known_differ, Nested, nested_sound, schema_at, known_of, is_known, IsStoredOr, IsLentOf, value_set, IsSetAt, HeldPath, SetInHeld, message_in, value_of, content_of, message_type_of, Value, out-Value, DynamicMessage}
 use Rattle.prost_reflect_wire.specs.Content as contents
-use Rattle.prost_reflect_wire.specs.Content.{Content, ContentOf, MessageValue, empty, schema_of, type_of, entries_of, value_at}
-use Rattle.prost_reflect_wire.specs.Typing.{WellStored}
-use Rattle.prost_reflect_wire.specs.Edit.{default_value, message_of_kind, PathTo}
-use Rattle.prost_reflect_laws.proofs.Checked.{known_differ}
-use Rattle.prost_reflect_laws.proofs.MessageSteps.{Nested, nested_sound}
-use Rattle.prost_reflect_pool.specs.MessageTypes.{schema_at}
-use Rattle.prost_reflect_fields.specs.Known.{known_of, is_known}
-use Rattle.prost_reflect_dynamic.specs.Access.{IsStoredOr, IsLentOf}
-use Rattle.prost_reflect_dynamic.specs.Contents.{value_set}
-use Rattle.prost_reflect_dynamic.specs.Paths.{IsSetAt, HeldPath, SetInHeld}
-use Rattle.prost_reflect_dynamic.specs.Variants.{message_in}
-use Rattle.prost_reflect_dynamic.specs.View.{value_of, content_of, message_type_of}
-use Rattle.prost_reflect_dynamic.specs.declared.value.Value.{Value, out-Value}
-use Rattle.prost_reflect_dynamic.specs.declared.message.DynamicMessage.{DynamicMessage}
 use Rattle.prost_reflect_dynamic.proofs.Merging.{known_in, valid_in}
 use Rattle.prost_reflect_dynamic.proofs.NestedReads.{schema_in, held_is, held_of}
 use Rattle.prost_reflect_dynamic.proofs.Paths.{not_empty}

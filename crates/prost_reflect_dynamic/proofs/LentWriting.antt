@@ -1,24 +1,11 @@
 -- What is left where a lent value was written over doesn't depend on the default that was there first.
-use Rattle.std.proofs.Common.{◌≡◌, ℕ, Bool, true, false, cond, List, Option, Some, None, refl, ap, sym, ◌∙◌, subst}
-use Rattle.std.specs.Option.{option_and_then}
-use Rattle.std.specs.Prelude.{unwrap_or}
-use Rattle.prost_reflect_wire.specs.Schema.{Field}
-use Rattle.prost_reflect_fields.specs.declared.slot.FieldSlot.{FieldSlot}
+use Rattle.std.specs.Prelude.{◌≡◌}
+use Rattle.prost_reflect_dynamic.proofs.Common.{ℕ, Bool, true, false, cond, List, Option, Some, None, refl, ap, sym, ◌∙◌, subst, option_and_then, unwrap_or, Field, FieldSlot, has_value, with_value_in, revalued, left_in, put_slot, put_value, with_slot, IsAscending, item_at, known_of, are_siblings, set_value_at, prepared, Apart, by_number, apart_back, put_same, put_apart, with_same, with_apart, item_without, ascending_put, ascending_with_value, siblings_self, PooledType, IsStoredOr, DynamicMessage, Value, message_type_of, stored_in, written_at}
 use Rattle.prost_reflect_fields.specs.declared.slot.FieldSlot.TheVariants.{Value as ValueSlot, Unknown, Both}
-use Rattle.prost_reflect_fields.specs.FieldSlots.{has_value, with_value_in, revalued, left_in, put_slot, put_value, with_slot, with_value}
-use Rattle.prost_reflect_fields.specs.Items.{IsAscending, item_at}
-use Rattle.prost_reflect_fields.specs.Known.{known_of, are_siblings}
-use Rattle.prost_reflect_fields.specs.Sound.{set_value_at, prepared}
-use Rattle.prost_reflect_fields.proofs.ItemChanges.{Apart, by_number, apart_back, put_same, put_apart, with_same, with_apart, same_items}
-use Rattle.prost_reflect_fields.proofs.SlotChanges.{item_without, ascending_put, ascending_with_value}
+use Rattle.prost_reflect_fields.specs.FieldSlots.{with_value}
+use Rattle.prost_reflect_fields.proofs.ItemChanges.{same_items}
 use Rattle.prost_reflect_fields.proofs.SoundChanges.{ascending_set_at}
-use Rattle.prost_reflect_fields.proofs.Siblings.{siblings_self}
 use Rattle.prost_reflect_wire.specs.Content as contents
-use Rattle.prost_reflect_pool.specs.declared.pooled_type.PooledType.{PooledType}
-use Rattle.prost_reflect_dynamic.specs.Access.{IsStoredOr}
-use Rattle.prost_reflect_dynamic.specs.declared.message.DynamicMessage.{DynamicMessage}
-use Rattle.prost_reflect_dynamic.specs.declared.value.Value.{Value}
-use Rattle.prost_reflect_dynamic.specs.View.{message_type_of, stored_in, written_at}
 
 module _ {V : Type 0} where
   -- a slot with the value, or one of its own

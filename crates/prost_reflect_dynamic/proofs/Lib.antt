@@ -1,3 +1,4 @@
+mod Common
 mod Walks
 mod Depths
 pub mod ScalarReads

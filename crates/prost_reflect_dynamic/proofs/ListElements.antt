@@ -1,23 +1,9 @@
 -- Elements of lists, read and put behind others.
-use Rattle.std.proofs.Common.{◌≡◌, ◌≢◌, ℕ, true, false, ◌&&◌, List, [], ◌∷◌, ◌++◌, map, Option, Some, None, refl, sym, ap, ◌∙◌, subst}
-use Rattle.std.specs.Prelude.{IsSomeAnd}
-use Rattle.prost_reflect_wire.specs.declared.key.WireType.{WireType}
+use Rattle.std.specs.Prelude.{◌≡◌, ◌≢◌, ◌&&◌, ◌∷◌, ◌++◌}
+use Rattle.prost_reflect_dynamic.proofs.Common.{ℕ, true, false, List, [], map, Option, Some, None, refl, sym, ap, ◌∙◌, subst, IsSomeAnd, WireType, DecodeError, DelimitedFront, PlainFault, ScalarKind, kind_wire, is_packable, ScalarValue, same_wire, ScalarRead, ScalarFault, map-append, TableKind, Value, value_of, plain_kind, HasWire, ReadsScalar, RefusesScalar, AddsPacked, RefusesPacked, AddsElements, RefusesElements}
 use Rattle.prost_reflect_wire.specs.declared.key.WireType.TheVariants as wires
-use Rattle.prost_reflect_wire.specs.declared.error.DecodeError.{DecodeError}
-use Rattle.prost_reflect_wire.specs.Front.{DelimitedFront, PlainFault}
-use Rattle.prost_reflect_wire.specs.Scalar.{ScalarKind, kind_wire}
-use Rattle.prost_reflect_wire.specs.Schema.{is_packable}
-use Rattle.prost_reflect_wire.specs.Content.{ScalarValue}
-use Rattle.prost_reflect_wire.specs.Fault.{same_wire}
-use Rattle.prost_reflect_wire.specs.Decoding.{ScalarRead, ScalarFault}
-use Rattle.std.proofs.lemmas.List.{map-append}
 use Rattle.prost_reflect_laws.proofs.PackedElements.{ElementsSoFar, elements_none, elements_more, elements_done, elements_fault, packed_read, single_read, packed_refused, delimited_refused, single_refused}
-use Rattle.prost_reflect_tables.specs.declared.tables.TableKind.{TableKind}
-use Rattle.prost_reflect_dynamic.specs.declared.value.Value.{Value}
-use Rattle.prost_reflect_dynamic.specs.View.{value_of}
-use Rattle.prost_reflect_dynamic.specs.Scalars.{plain_kind, HasWire, ReadsScalar, RefusesScalar}
 use Rattle.prost_reflect_dynamic.proofs.Merging.{same_kind}
-use Rattle.prost_reflect_dynamic.specs.Lists.{AddsPacked, RefusesPacked, AddsElements, RefusesElements}
 
 -- PACKED
 

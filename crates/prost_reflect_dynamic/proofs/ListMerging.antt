@@ -1,42 +1,12 @@
 -- Records of lists read into a message.
-use Rattle.std.proofs.Common.{◌≡◌, ℕ, Bool, true, not, List, [], ◌∷◌, ◌++◌, map, Option, Some, None, refl, sym, ap, ◌∙◌, subst, unwrap_or}
-use Rattle.std.specs.Prelude.{Vec}
-use Rattle.std.specs.Option.{is_some}
-use Rattle.std.specs.declared.alloc.Global.{Global}
-use Rattle.prost_reflect_wire.specs.declared.key.WireType.{WireType}
-use Rattle.prost_reflect_wire.specs.declared.error.DecodeError.{DecodeError}
-use Rattle.prost_reflect_wire.specs.Varint.{AreBytes}
-use Rattle.prost_reflect_wire.specs.Scalar.{ScalarKind}
-use Rattle.prost_reflect_wire.specs.Schema.{ScalarOf, Repeated, Field, known, field_of, numbers_differ}
+use Rattle.std.specs.Prelude.{◌≡◌, ◌∷◌, ◌++◌}
+use Rattle.prost_reflect_dynamic.proofs.Common.{ℕ, Bool, true, not, List, [], map, Option, Some, None, refl, sym, ap, ◌∙◌, subst, unwrap_or, Vec, is_some, Global, WireType, DecodeError, AreBytes, ScalarKind, ScalarOf, Repeated, Field, known, field_of, numbers_differ, Content, ContentOf, ListValue, Values, NoValues, Item, values_from, ◌and_then◌, schema_of, type_of, entries_of, value_at, values_in, WellStored, with_field_value, OfType, Step, ElementsRead, StandsBehindKey, field_number, checked_field, checked_list, IsListed, TableKind, DynamicMessage, Value, schema_at, known_of, value_of, content_of, message_type_of, value_set, is_plain_kind, FieldRow, schema_field, is_repeated, pool_rows, PooledType, AddsElements, RefusesElements, JoinsElements, IsList, ListField}
 use Rattle.prost_reflect_wire.specs.Content as contents
-use Rattle.prost_reflect_wire.specs.Content.{Content, ContentOf, ListValue, Values, NoValues, Item, values_from, ◌and_then◌, schema_of, type_of, entries_of, value_at}
-use Rattle.prost_reflect_wire.specs.Meaning.{values_in}
-use Rattle.prost_reflect_wire.specs.Typing.{WellStored}
-use Rattle.prost_reflect_wire.specs.Edit.{with_field_value}
-use Rattle.prost_reflect_wire.specs.Fault.{OfType}
-use Rattle.prost_reflect_wire.specs.Decoding.{Step, ElementsRead, StandsBehindKey}
-use Rattle.prost_reflect_wire.proofs.Survivors.{field_number}
-use Rattle.prost_reflect_laws.proofs.Checked.{checked_field, checked_list}
 use Rattle.prost_reflect_types.proofs.FieldsFound.{field_stands}
-use Rattle.prost_reflect_laws.proofs.ListSteps.{IsListed}
 use Rattle.prost_reflect_laws.proofs.ListReads.{IsOpen, stored_list, list_holds}
-use Rattle.prost_reflect_tables.specs.declared.tables.TableKind.{TableKind}
-use Rattle.prost_reflect_dynamic.specs.declared.message.DynamicMessage.{DynamicMessage}
-use Rattle.prost_reflect_dynamic.specs.declared.value.Value.{Value}
 use Rattle.prost_reflect_dynamic.specs.declared.value.Value as values
-use Rattle.prost_reflect_pool.specs.MessageTypes.{schema_at}
-use Rattle.prost_reflect_fields.specs.Known.{known_of}
-use Rattle.prost_reflect_dynamic.specs.View.{value_of, content_of, message_type_of}
-use Rattle.prost_reflect_dynamic.specs.Contents.{value_set}
-use Rattle.prost_reflect_dynamic.specs.RowKinds.{is_plain_kind}
-use Rattle.prost_reflect_tables.specs.Rows.{FieldRow}
-use Rattle.prost_reflect_tables.specs.Shown.{schema_field}
-use Rattle.prost_reflect_tables.specs.Linking.{is_repeated}
-use Rattle.prost_reflect_pool.specs.SharedPools.{pool_rows}
-use Rattle.prost_reflect_pool.specs.declared.pooled_type.PooledType.{PooledType}
 use Rattle.prost_reflect_dynamic.proofs.PlainKinds.{plain_row, list_row}
 use Rattle.prost_reflect_dynamic.proofs.Described.{found_checked}
-use Rattle.prost_reflect_dynamic.specs.Lists.{AddsElements, RefusesElements, JoinsElements, IsList, ListField}
 use Rattle.prost_reflect_dynamic.proofs.Views.{value_of_list}
 use Rattle.prost_reflect_dynamic.proofs.Merging.{known_in, differ_in, same_kind}
 

@@ -1,27 +1,9 @@
 -- The descriptors that are found by numbers of fields and extensions which a message type lists.
-use Rattle.std.proofs.Common.{◌≡◌, ℕ, ◌==◌, Bool, true, false, not, Option, Some, None, refl, sym, ap, ◌∙◌, unwrap_or, true≢false}
-use Rattle.std.specs.Bool.{beq}
-use Rattle.std.proofs.lemmas.Bool.{eqb-true}
-use Rattle.std.specs.Option.{option_map, is_some}
-use Rattle.prost_reflect_wire.specs.Schema.{passes}
-use Rattle.prost_reflect_tables.specs.Places.{fields_at, row_of, is_declared}
-use Rattle.prost_reflect_tables.specs.Rows.{FieldRow}
-use Rattle.prost_reflect_tables.specs.Shown.{schema_field}
-use Rattle.prost_reflect_pool.specs.Lookups.{extension_where}
-use Rattle.prost_reflect_pool.specs.MessageTypes.{fields_of}
+use Rattle.std.specs.Prelude.{◌≡◌, ◌==◌}
+use Rattle.prost_reflect_dynamic.proofs.Common.{ℕ, Bool, true, false, not, Option, Some, None, refl, sym, ap, ◌∙◌, unwrap_or, true≢false, beq, eqb-true, option_map, is_some, passes, fields_at, row_of, is_declared, FieldRow, schema_field, extension_where, fields_of, pool_rows, PooledType, known_of, is_listed, IsOwnField, number_of, is_field_number, IsOwnExtension, extension_number, NamesEqual, NamesSame, Extends, declared_place, ExtensionDescriptor, FieldDescriptor, MessageDescriptor}
 use Rattle.prost_reflect_pool.specs.Pools.{pool_rows as rows_in, pool_contents as contents_in}
-use Rattle.prost_reflect_pool.specs.SharedPools.{pool_rows}
-use Rattle.prost_reflect_pool.specs.declared.pooled_type.PooledType.{PooledType}
-use Rattle.prost_reflect_fields.specs.Known.{known_of, is_listed}
-use Rattle.prost_reflect_dynamic.specs.Access.{IsOwnField, number_of, is_field_number}
-use Rattle.prost_reflect_dynamic.specs.ExtensionAccess.{IsOwnExtension, extension_number}
-use Rattle.prost_reflect_dynamic.specs.Named.{NamesEqual, NamesSame, SameMessage}
-use Rattle.prost_reflect_dynamic.specs.NamedExtensions.{Extends}
-use Rattle.prost_reflect_dynamic.specs.NamedFields.{declared_place}
+use Rattle.prost_reflect_dynamic.specs.Named.{SameMessage}
 use Rattle.prost_reflect_dynamic.specs.NamedFields as named
-use Rattle.prost_reflect_dynamic.specs.declared.descriptor.extension.ExtensionDescriptor.{ExtensionDescriptor}
-use Rattle.prost_reflect_dynamic.specs.declared.descriptor.field.FieldDescriptor.{FieldDescriptor}
-use Rattle.prost_reflect_dynamic.specs.declared.descriptor.message.MessageDescriptor.{MessageDescriptor}
 use Rattle.prost_reflect_dynamic.proofs.Described.{field_at_number}
 use Rattle.prost_reflect_pool.proofs.ExtensionPlaces.{FoundExtension, extension_found, extension_there}
 use Rattle.prost_reflect_dynamic.proofs.OwnFields.{number_found, number_missing}

@@ -1,36 +1,11 @@
 -- Entries of maps of scalars, read one record behind another and put into a map.
-use Rattle.std.proofs.Common.{◌≡◌, ◌≢◌, ℕ, true, false, nat_eq, List, [], Option, Some, None, refl, ap, sym, ◌∙◌, subst}
-use Rattle.std.specs.Prelude.{IsSomeAnd, unwrap_or}
-use Rattle.std.specs.BTreeMap.{BTreeMap, insert_entry}
-use Rattle.prost_reflect_wire.specs.declared.error.DecodeError.{DecodeError}
-use Rattle.prost_reflect_wire.specs.declared.key.WireType.{WireType}
-use Rattle.prost_reflect_wire.specs.Front.{KeyFront, KeyFault}
-use Rattle.prost_reflect_wire.specs.Scalar.{ScalarKind, kind_default}
-use Rattle.prost_reflect_wire.specs.Schema.{Kind, ScalarOf, MessageOf, GroupOf}
+use Rattle.std.specs.Prelude.{◌≡◌, ◌≢◌}
+use Rattle.prost_reflect_dynamic.proofs.Common.{ℕ, true, false, nat_eq, List, [], Option, Some, None, refl, ap, sym, ◌∙◌, subst, IsSomeAnd, unwrap_or, BTreeMap, insert_entry, DecodeError, WireType, KeyFront, KeyFault, ScalarKind, kind_default, Kind, ScalarOf, MessageOf, GroupOf, Content, ScalarValue, MapValue, put, SkipsValue, ValueFault, ScalarRead, ScalarFault, IsMapped, TableKind, EnumRow, schema_kind, MapKey, Value, out-Value, Value-F, fold_out-Value, map-Value, DynamicMessage, plain_kind, ReadsScalar, RefusesScalar, IsDefaultOf, IsKindDefault, IsAbsentValue, ReadsEntry, RefusesEntry, key_of, value_step, message_step, value_of, content_of, pairs_shown, compare_keys}
 use Rattle.prost_reflect_wire.specs.Content as contents
-use Rattle.prost_reflect_wire.specs.Content.{Content, ScalarValue, MapValue}
 use Rattle.prost_reflect_wire.specs.Meaning as meaning
-use Rattle.prost_reflect_wire.specs.Meaning.{put}
-use Rattle.prost_reflect_wire.specs.Unknown.{SkipsValue}
-use Rattle.prost_reflect_wire.specs.Fault.{ValueFault}
-use Rattle.prost_reflect_wire.specs.Decoding.{ScalarRead, ScalarFault}
-use Rattle.prost_reflect_wire.specs.EntryReading.{IsMapped}
 use Rattle.prost_reflect_laws.proofs.EntryReads.{scalar_entry_nothing, key_read, value_read, other_read, key_refused, value_refused, other_refused, no_key_read}
-use Rattle.prost_reflect_tables.specs.declared.tables.TableKind.{TableKind}
-use Rattle.prost_reflect_tables.specs.Rows.{EnumRow}
-use Rattle.prost_reflect_tables.specs.Shown.{schema_kind}
-use Rattle.prost_reflect_dynamic.specs.declared.value.MapKey.{MapKey}
-use Rattle.prost_reflect_dynamic.specs.declared.value.Value.{Value}
-use Rattle.prost_reflect_dynamic.specs.declared.value.Value.{out-Value}
 use Rattle.prost_reflect_dynamic.specs.declared.value.Value as values
-use Rattle.prost_reflect_dynamic.specs.declared.value.Value.TheOpen.{Value-F}
-use Rattle.prost_reflect_dynamic.specs.declared.value.Value.TheFolds.{fold_out-Value, map-Value}
-use Rattle.prost_reflect_dynamic.specs.declared.message.DynamicMessage.{DynamicMessage}
-use Rattle.prost_reflect_dynamic.specs.Scalars.{plain_kind, ReadsScalar, RefusesScalar}
-use Rattle.prost_reflect_dynamic.specs.Maps.{IsDefaultOf, IsKindDefault, IsAbsentValue, ReadsEntry, RefusesEntry}
 use Rattle.prost_reflect_dynamic.specs.Variants.{pairs_in}
-use Rattle.prost_reflect_dynamic.specs.View.{key_of, value_step, message_step, value_of, content_of}
-use Rattle.prost_reflect_dynamic.specs.ContentLaws.{pairs_shown, compare_keys}
 use Rattle.prost_reflect_dynamic.proofs.Views.{value_of_map}
 use Rattle.prost_reflect_dynamic.proofs.Keys.{map_insert}
 use Rattle.prost_reflect_dynamic.proofs.PlainKinds.{plain_payloads}

@@ -1,38 +1,11 @@
 -- An entry read into a message: its step, and what it is refused for.
-use Rattle.std.proofs.Common.{◌≡◌, ℕ, true, false, List, [], Option, Some, None, refl, sym, ap, ◌∙◌, subst, true≢false, arith}
-use Rattle.std.specs.Prelude.{IsSome}
-use Rattle.prost_reflect_wire.specs.declared.key.WireType.{WireType}
+use Rattle.std.specs.Prelude.{◌≡◌}
+use Rattle.prost_reflect_dynamic.proofs.Common.{ℕ, true, false, List, [], Option, Some, None, refl, sym, ap, ◌∙◌, subst, true≢false, arith, IsSome, WireType, DecodeError, AreBytes, Len, Flat, DelimitedFront, Scalar, ScalarKind, Float, Double, BytesKind, Enum, scalar_valid, ScalarOf, ValueType, MapFrom, Field, known, field_of, is_key_kind, numbers_differ, schema_valid, Content, ContentOf, ScalarValue, MapValue, value_at, schema_of, type_of, entries_of, has_level, put, pairs_in, WellStored, with_field_value, Step, StandsBehindKey, IsMapped, ScalarEntryTo, BodyFault, field_checked, map_keyed, key_read_valid, StaysWhole, scalar_entry_stays, scalar_entry_holds, TableKind, EnumRow, DynamicMessage, MapKey, Value, pool_rows, known_of, ReadsStray, is_stray_number, value_set, key_among, key_in, ScalarMap, ReadsEntry, RefusesEntry, key_of, value_of, content_of, message_type_of}
 use Rattle.prost_reflect_wire.specs.declared.key.WireType.TheVariants as wires
-use Rattle.prost_reflect_wire.specs.declared.error.DecodeError.{DecodeError}
-use Rattle.prost_reflect_wire.specs.Varint.{AreBytes}
-use Rattle.prost_reflect_wire.specs.Record.{Len, Flat}
-use Rattle.prost_reflect_wire.specs.Front.{DelimitedFront}
-use Rattle.prost_reflect_wire.specs.Scalar.{Scalar, ScalarKind, Float, Double, BytesKind, Enum, scalar_valid}
 use Rattle.prost_reflect_wire.specs.Scalar as scalars
-use Rattle.prost_reflect_wire.specs.Schema.{ScalarOf, ValueType, MapFrom, Field, known, field_of, is_key_kind, numbers_differ, schema_valid}
-use Rattle.prost_reflect_wire.specs.Content.{Content, ContentOf, ScalarValue, MapValue, value_at, schema_of, type_of, entries_of}
-use Rattle.prost_reflect_wire.specs.Grammar.{has_level}
-use Rattle.prost_reflect_wire.specs.Meaning.{put, pairs_in}
-use Rattle.prost_reflect_wire.specs.Typing.{WellStored}
-use Rattle.prost_reflect_wire.specs.Edit.{with_field_value}
-use Rattle.prost_reflect_wire.specs.Decoding.{Step, StandsBehindKey}
-use Rattle.prost_reflect_wire.specs.EntryReading.{IsMapped, ScalarEntryTo, BodyFault}
 use Rattle.prost_reflect_laws.proofs.EntryDefaults.{is_undeclared_value}
 use Rattle.prost_reflect_laws.proofs.MapSteps.{FoundMap, mapped_at, body_refused, entry_stands}
-use Rattle.prost_reflect_laws.proofs.ScalarEntries.{field_checked, map_keyed, key_read_valid, StaysWhole, scalar_entry_stays, scalar_entry_holds}
 use Rattle.prost_reflect_laws.proofs.BodyFronts.{delimited_bytes}
-use Rattle.prost_reflect_tables.specs.declared.tables.TableKind.{TableKind}
-use Rattle.prost_reflect_tables.specs.Rows.{EnumRow}
-use Rattle.prost_reflect_dynamic.specs.declared.message.DynamicMessage.{DynamicMessage}
-use Rattle.prost_reflect_dynamic.specs.declared.value.MapKey.{MapKey}
-use Rattle.prost_reflect_dynamic.specs.declared.value.Value.{Value}
-use Rattle.prost_reflect_pool.specs.SharedPools.{pool_rows}
-use Rattle.prost_reflect_fields.specs.Known.{known_of}
-use Rattle.prost_reflect_dynamic.specs.Scalars.{ReadsStray, is_stray_number}
-use Rattle.prost_reflect_dynamic.specs.Contents.{value_set}
-use Rattle.prost_reflect_dynamic.specs.Variants.{key_among, key_in}
-use Rattle.prost_reflect_dynamic.specs.Maps.{ScalarMap, ReadsEntry, RefusesEntry}
-use Rattle.prost_reflect_dynamic.specs.View.{key_of, value_of, content_of, message_type_of}
 use Rattle.prost_reflect_dynamic.proofs.PlainKinds.{stray_value}
 use Rattle.prost_reflect_dynamic.proofs.Merging.{known_in, differ_in, valid_in, same_kind}
 

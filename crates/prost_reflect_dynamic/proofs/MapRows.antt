@@ -1,31 +1,9 @@
 -- What the rows of a map field say of it.
-use Rattle.std.proofs.Common.{◌≡◌, ℕ, true, false, List, [], ◌∷◌, Option, Some, None, refl, sym, ap, ◌∙◌, subst, true≢false}
-use Rattle.std.specs.Prelude.{slice_get}
-use Rattle.std.specs.BTreeMap.{BTreeMap}
-use Rattle.std.proofs.lemmas.Bool.{and_parts}
-use Rattle.prost_reflect_wire.specs.Scalar.{Enum}
-use Rattle.prost_reflect_wire.specs.Schema.{Kind, ScalarOf, MessageOf, GroupOf, ValueType, MapFrom, Field, field_of, is_message, is_singular, is_key_kind, field_valid, passes, is_list}
+use Rattle.std.specs.Prelude.{◌≡◌, ◌∷◌}
+use Rattle.prost_reflect_dynamic.proofs.Common.{ℕ, true, false, List, [], Option, Some, None, refl, sym, ap, ◌∙◌, subst, true≢false, slice_get, BTreeMap, and_parts, Enum, Kind, ScalarOf, MessageOf, GroupOf, ValueType, MapFrom, Field, field_of, is_message, is_singular, is_key_kind, field_valid, passes, is_list, ScalarValue, MessageValue, ListValue, MapValue, value_valid, value_bytes, map_keyed, Cardinality, FieldRow, MessageRow, TableRows, schema_kind, own_type, type_or, map_entry, form_of, value_type_of, schema_field, PooledType, MapKey, Value, pool_rows, schema_at, known_of, is_plain, names_message, pairs_shown, two_of, entry_parts, map_parts, ScalarMap, pairs_bytes, IsMap, MapOfRows, value_of}
 use Rattle.prost_reflect_wire.specs.Content as contents
-use Rattle.prost_reflect_wire.specs.Content.{ScalarValue, MessageValue, ListValue, MapValue}
-use Rattle.prost_reflect_wire.specs.Typing.{value_valid}
-use Rattle.prost_reflect_wire.specs.Storing.{value_bytes}
-use Rattle.prost_reflect_laws.proofs.ScalarEntries.{map_keyed}
-use Rattle.prost_reflect_tables.specs.declared.tables.Cardinality.{Cardinality}
 use Rattle.prost_reflect_tables.specs.declared.tables.Cardinality.TheVariants.{Optional, Required, Repeated as RepeatedLabel}
-use Rattle.prost_reflect_tables.specs.Rows.{FieldRow, MessageRow, TableRows}
-use Rattle.prost_reflect_tables.specs.Shown.{schema_kind, own_type, type_or, map_entry, form_of, value_type_of, schema_field}
-use Rattle.prost_reflect_pool.specs.declared.pooled_type.PooledType.{PooledType}
-use Rattle.prost_reflect_dynamic.specs.declared.value.MapKey.{MapKey}
-use Rattle.prost_reflect_dynamic.specs.declared.value.Value.{Value}
 use Rattle.prost_reflect_dynamic.specs.declared.value.Value as values
-use Rattle.prost_reflect_pool.specs.SharedPools.{pool_rows}
-use Rattle.prost_reflect_pool.specs.MessageTypes.{schema_at}
-use Rattle.prost_reflect_fields.specs.Known.{known_of}
-use Rattle.prost_reflect_dynamic.specs.RowKinds.{is_plain, names_message}
-use Rattle.prost_reflect_dynamic.specs.ContentLaws.{pairs_shown}
-use Rattle.prost_reflect_pool.specs.MapParts.{two_of, entry_parts, map_parts}
-use Rattle.prost_reflect_dynamic.specs.Maps.{ScalarMap, pairs_bytes, IsMap, MapOfRows}
-use Rattle.prost_reflect_dynamic.specs.View.{value_of}
 use Rattle.prost_reflect_dynamic.proofs.RowKinds as row_kinds
 use Rattle.prost_reflect_dynamic.proofs.PlainKinds.{PlainKind, kind_plain, NamedKind, kind_named, plain_of}
 use Rattle.prost_reflect_dynamic.proofs.Described.{found_checked}

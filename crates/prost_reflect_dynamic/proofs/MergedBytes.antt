@@ -1,31 +1,12 @@
 -- What reading the records of bytes into a message makes of it is what both mean, one behind the other.
-use Rattle.std.proofs.Common.{◌≡◌, ℕ, ◌<◌, ◌^◌, List, [], ◌++◌, length, Some, true, ap, ap₂, sym, ◌∙◌, subst, arith}
-use Rattle.std.specs.Prelude.{max}
-use Rattle.prost_reflect_wire.specs.Varint.{AreBytes}
-use Rattle.prost_reflect_wire.specs.Record.{Record, Spells, items, body_of, valid}
-use Rattle.prost_reflect_wire.specs.Schema.{Schema, schema_valid}
-use Rattle.prost_reflect_wire.specs.Content.{Content, schema_of, type_of}
-use Rattle.prost_reflect_wire.specs.declared.error.DecodeError.{DecodeError}
-use Rattle.prost_reflect_wire.specs.Fault.{StandsInMessage}
-use Rattle.prost_reflect_wire.specs.Grammar.{LEVEL_LIMIT, allows}
-use Rattle.prost_reflect_wire.specs.Meaning.{steps}
-use Rattle.prost_reflect_wire.specs.Levels.{levels}
-use Rattle.prost_reflect_wire.specs.Edit.{merged}
-use Rattle.prost_reflect_wire.specs.Writing.{records, encoded}
-use Rattle.prost_reflect_wire.specs.Typing.{kept, WellStored, WellTyped}
-use Rattle.prost_reflect_wire.specs.Decoding.{Progress}
-use Rattle.prost_reflect_wire.proofs.Bodies.{items_body}
+use Rattle.std.specs.Prelude.{◌≡◌, ◌<◌, ◌^◌, ◌++◌}
+use Rattle.prost_reflect_dynamic.proofs.Common.{ℕ, List, [], length, Some, true, ap, ap₂, sym, ◌∙◌, subst, arith, max, AreBytes, Record, Spells, items, body_of, valid, Schema, schema_valid, Content, schema_of, type_of, DecodeError, StandsInMessage, LEVEL_LIMIT, allows, steps, levels, merged, records, encoded, kept, WellStored, WellTyped, Progress, items_body, kept_schema, kept_type, kept_well, schema_at, type_at, content_of, message_type_of, DynamicMessage, IsMeaningOfRecords, IsMeaningOfBytes, MergesMeaning}
 use Rattle.prost_reflect_laws.specs.Laws.{Writable}
-use Rattle.prost_reflect_laws.proofs.Kept.{kept_schema, kept_type, kept_well}
 use Rattle.prost_reflect_laws.proofs.Means.{records_mean}
 use Rattle.prost_reflect_laws.proofs.Readings.{whole_spelled}
 use Rattle.prost_reflect_laws.proofs.RoundTrip.{records_allowed}
 use Rattle.prost_reflect_laws.proofs.SpelledValid.{spelled_valid}
 use Rattle.prost_reflect_laws.proofs.StepsFree.{steps_within}
-use Rattle.prost_reflect_pool.specs.MessageTypes.{schema_at, type_at}
-use Rattle.prost_reflect_dynamic.specs.View.{content_of, message_type_of}
-use Rattle.prost_reflect_dynamic.specs.declared.message.DynamicMessage.{DynamicMessage}
-use Rattle.prost_reflect_dynamic.specs.Merged.{IsMeaningOfRecords, IsMeaningOfBytes, MergesMeaning}
 use Rattle.prost_reflect_dynamic.proofs.MergedPieces.{behind_records, behind_allowed, behind_accepts, behind_decoded}
 use Rattle.prost_reflect_dynamic.proofs.Merging.{valid_in}
 use Rattle.prost_reflect_dynamic.proofs.NestedReads.{schema_in, type_in}

@@ -1,20 +1,8 @@
 -- Records that are merged into a content mean, behind any records of it, what is made of it; and so do bytes behind bytes.
-use Rattle.std.proofs.Common.{◌≡◌, ℕ, ◌≤◌, true, Bool, List, [], ◌∷◌, ◌++◌, Option, Some, refl, ap, sym, ◌∙◌, subst, append-nil, arith}
-use Rattle.std.specs.Prelude.{max}
-use Rattle.prost_reflect_wire.specs.Varint.{guard, ◌>>=◌}
-use Rattle.prost_reflect_wire.specs.Record.{Records, Record, Spells, items, body_of, valid}
-use Rattle.prost_reflect_wire.specs.Front.{RecordsFront}
-use Rattle.prost_reflect_wire.specs.Schema.{Schema, schema_valid}
-use Rattle.prost_reflect_wire.specs.Content.{Content, schema_of, type_of}
-use Rattle.prost_reflect_wire.specs.Grammar.{LEVEL_LIMIT, Accepts, allows}
-use Rattle.prost_reflect_wire.specs.Meaning.{meaning, decoded, steps}
-use Rattle.prost_reflect_wire.specs.Levels.{levels}
-use Rattle.prost_reflect_wire.specs.Edit.{merged}
-use Rattle.prost_reflect_wire.specs.Typing.{WellTyped}
-use Rattle.prost_reflect_wire.proofs.Bodies.{items_body}
+use Rattle.std.specs.Prelude.{◌≡◌, ◌≤◌, ◌∷◌, ◌++◌}
+use Rattle.prost_reflect_dynamic.proofs.Common.{ℕ, true, Bool, List, [], Option, Some, refl, ap, sym, ◌∙◌, subst, append-nil, arith, max, guard, ◌>>=◌, Records, Record, Spells, items, body_of, valid, RecordsFront, Schema, schema_valid, Content, schema_of, type_of, LEVEL_LIMIT, Accepts, allows, meaning, decoded, steps, levels, merged, WellTyped, items_body, first_front, first_parts}
 use Rattle.prost_reflect_wire.proofs.Deeper.{allows_append}
 use Rattle.prost_reflect_wire.proofs.Reading.{spelled_read}
-use Rattle.prost_reflect_wire.proofs.RecordFronts.{first_front, first_parts}
 use Rattle.prost_reflect_wire.proofs.Sound.{guard_ok}
 use Rattle.prost_reflect_laws.proofs.Pieces.{allowed_within, pieces_join}
 use Rattle.prost_reflect_laws.proofs.Readable.{body_items}

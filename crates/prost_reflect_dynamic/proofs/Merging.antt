@@ -1,47 +1,17 @@
 -- Records read into a message.
-use Rattle.std.proofs.Common.{◌≡◌, ◌≢◌, inl, inr, arith, ℕ, Bool, List, Option, Some, None, refl, sym, ap, ap₂, ◌∙◌, subst, ◌≤◌, ◌<◌, ◌^◌, true, false, true≢false}
-use Rattle.std.specs.Option.{option_and_then}
-use Rattle.std.proofs.lemmas.Bool.{and_from, lt-ltb}
-use Rattle.prost_reflect_wire.specs.declared.key.WireType.{WireType}
-use Rattle.prost_reflect_wire.specs.declared.error.DecodeError.{DecodeError}
+use Rattle.std.specs.Prelude.{◌≡◌, ◌≢◌, ◌≤◌, ◌<◌, ◌^◌}
+use Rattle.prost_reflect_dynamic.proofs.Common.{inl, inr, arith, ℕ, Bool, List, Option, Some, None, refl, sym, ap, ap₂, ◌∙◌, subst, true, false, true≢false, option_and_then, and_from, lt-ltb, WireType, DecodeError, AreBytes, Payload, Flat, record_at, payload_levels, ValueFront, Scalar, ScalarKind, is_undeclared, ScalarOf, ValueType, Singular, Field, known, field_of, numbers_differ, is_message, schema_valid, Content, ContentOf, ScalarValue, schema_of, type_of, is_whole_stray, unknown_fits, WellStored, with_field_value, message_of_kind, is_stray, stray_levels, OfType, ValueFault, same_wire, Step, ScalarRead, ScalarFault, StandsBehindKey, value_once, TableKind, FieldRow, schema_kind, schema_field, is_repeated, PooledType, DynamicMessage, Value, pool_rows, known_of, keeps_unknown, oneof_of, value_of, content_of, message_type_of, PlainField, ReadsScalar, RefusesScalar, ReadsStray, StaysUnknown, is_stray_number, nested_kind, NestedField, IsTarget, target_of, value_set, unknown_added, names_message}
 use Rattle.prost_reflect_wire.specs.declared.error.DecodeError.TheVariants as errors
-use Rattle.prost_reflect_wire.specs.Varint.{AreBytes}
-use Rattle.prost_reflect_wire.specs.Record.{Payload, Flat, record_at, payload_levels}
-use Rattle.prost_reflect_wire.specs.Front.{ValueFront}
-use Rattle.prost_reflect_wire.specs.Scalar.{Scalar, ScalarKind, is_undeclared}
-use Rattle.prost_reflect_wire.specs.Schema.{ScalarOf, ValueType, Singular, Field, known, field_of, numbers_differ, is_message, schema_valid}
-use Rattle.prost_reflect_wire.specs.Content.{Content, ContentOf, ScalarValue, schema_of, type_of}
 use Rattle.prost_reflect_wire.specs.Content as contents
-use Rattle.prost_reflect_wire.specs.Typing.{is_whole_stray, unknown_fits, WellStored}
-use Rattle.prost_reflect_wire.specs.Edit.{with_field_value, message_of_kind}
-use Rattle.prost_reflect_wire.specs.Grammar.{is_stray}
-use Rattle.prost_reflect_wire.specs.Levels.{stray_levels}
-use Rattle.prost_reflect_wire.specs.Fault.{OfType, ValueFault, same_wire}
-use Rattle.prost_reflect_wire.specs.Decoding.{Step, ScalarRead, ScalarFault, StandsBehindKey}
-use Rattle.prost_reflect_wire.proofs.RecordFronts.{value_once}
 use Rattle.prost_reflect_laws.proofs.Holding.{scalar_holds, unknown_holds, stray_holds, payload_front_valid}
 use Rattle.prost_reflect_laws.proofs.ScalarFaults.{scalar_stands}
 use Rattle.prost_reflect_wire.proofs.PlaceFaults.{value_stands}
-use Rattle.prost_reflect_tables.specs.declared.tables.TableKind.{TableKind}
 use Rattle.prost_reflect_tables.specs.declared.tables.TableKind.TheVariants as kinds
-use Rattle.prost_reflect_tables.specs.Rows.{FieldRow}
-use Rattle.prost_reflect_tables.specs.Shown.{schema_kind, schema_field}
-use Rattle.prost_reflect_tables.specs.Linking.{is_repeated}
-use Rattle.prost_reflect_pool.specs.declared.pooled_type.PooledType.{PooledType}
-use Rattle.prost_reflect_dynamic.specs.declared.message.DynamicMessage.{DynamicMessage}
-use Rattle.prost_reflect_dynamic.specs.declared.value.Value.{Value}
 use Rattle.prost_reflect_dynamic.specs.declared.message.decode.Target.TheVariants as targets
-use Rattle.prost_reflect_pool.specs.SharedPools.{pool_rows}
-use Rattle.prost_reflect_fields.specs.Known.{known_of, keeps_unknown, oneof_of}
-use Rattle.prost_reflect_dynamic.specs.View.{value_of, content_of, message_type_of}
-use Rattle.prost_reflect_dynamic.specs.Scalars.{PlainField, ReadsScalar, RefusesScalar, ReadsStray, StaysUnknown, is_stray_number}
-use Rattle.prost_reflect_dynamic.specs.Targets.{nested_kind, NestedField, IsTarget, target_of}
 use Rattle.prost_reflect_dynamic.proofs.Described.{named_in_range, schema_at_valid}
 use Rattle.prost_reflect_dynamic.proofs.Views.{content_of_message}
 use Rattle.prost_reflect_dynamic.proofs.PlainKinds.{SamePayloads, scalar_row, single_row, own_of, plain_payloads, stray_payload}
 use Rattle.prost_reflect_fields.proofs.Siblings.{known_differ}
-use Rattle.prost_reflect_dynamic.specs.Contents.{value_set, unknown_added}
-use Rattle.prost_reflect_dynamic.specs.RowKinds.{names_message}
 use Rattle.prost_reflect_dynamic.proofs.RowKinds.{message_kind, message_named}
 
 -- a scalar's value was set

@@ -1,37 +1,9 @@
 -- Parts of messages, copied and put back.
-use Rattle.std.proofs.Common.{◌≡◌, ℕ, Bool, true, false, cond, List, [], ◌∷◌, ◌++◌, refl, ap, ap₂, sym, subst, ◌∙◌, unwrap_or}
-use Rattle.std.specs.Option.{option_map}
-use Rattle.std.specs.Ordering.{match_ordering, nat_cmp}
-use Rattle.std.specs.declared.cmp.Ordering.{Ordering}
-use Rattle.std.specs.declared.cmp.Ordering.TheVariants.{Less, Equal, Greater}
-use Rattle.std.specs.BTreeSet.{BTreeSet}
-use Rattle.prost_reflect_wire.specs.Schema.{Field, known, is_sibling, passes, numbers_differ}
-use Rattle.prost_reflect_wire.specs.Content.{Content, ContentOf, Slot, schema_of, type_of, slot_at, entries_of, ordered, entries_ordered}
-use Rattle.prost_reflect_wire.specs.Grammar.{LEVEL_LIMIT}
-use Rattle.prost_reflect_wire.specs.Typing.{WellStored}
-use Rattle.prost_reflect_wire.specs.Fault.{StandsInMessage}
-use Rattle.prost_reflect_wire.specs.declared.error.DecodeError.{DecodeError}
-use Rattle.prost_reflect_wire.specs.Edit.{cleared}
-use Rattle.prost_reflect_wire.specs.Decoding.{Progress}
-use Rattle.prost_reflect_laws.proofs.Arranged.{OrderedOption, table_ordered}
-use Rattle.prost_reflect_laws.proofs.StoredSteps.{value_in_order}
+use Rattle.std.specs.Prelude.{◌≡◌, ◌∷◌, ◌++◌}
+use Rattle.prost_reflect_dynamic.proofs.Common.{ℕ, Bool, true, false, cond, List, [], refl, ap, ap₂, sym, subst, ◌∙◌, unwrap_or, option_map, match_ordering, nat_cmp, Ordering, Less, Equal, Greater, BTreeSet, Field, known, is_sibling, passes, numbers_differ, Content, ContentOf, Slot, schema_of, type_of, slot_at, entries_of, ordered, entries_ordered, LEVEL_LIMIT, WellStored, StandsInMessage, DecodeError, cleared, Progress, OrderedOption, table_ordered, value_in_order, PooledType, SameMessage, schema_at, type_at, FieldSlot, IsAscending, put_item, known_of, are_siblings, stored_at, records_at, Sound, has, HasWholeOneofs, is_chosen, put_chosen, AreReplaced, siblings_back, DynamicMessage, Value, roll-DynamicMessage, value_of, content_of, message_type_of, entries_from, payloads_of, SameSlot, HasNumbersOf, IsJoined}
 use Rattle.prost_reflect_laws.proofs.Readings.{whole_spelled}
-use Rattle.prost_reflect_pool.specs.declared.pooled_type.PooledType.{PooledType}
-use Rattle.prost_reflect_pool.specs.MessageTypes.{SameMessage, schema_at, type_at}
-use Rattle.prost_reflect_fields.specs.declared.slot.FieldSlot.{FieldSlot}
-use Rattle.prost_reflect_fields.specs.Items.{IsAscending, put_item}
-use Rattle.prost_reflect_fields.specs.Known.{known_of, are_siblings}
-use Rattle.prost_reflect_fields.specs.FieldSlots.{stored_at, records_at}
-use Rattle.prost_reflect_fields.specs.Sound.{Sound}
-use Rattle.prost_reflect_fields.specs.NumberSets.{has, HasWholeOneofs, is_chosen, put_chosen, AreReplaced}
-use Rattle.prost_reflect_fields.proofs.Siblings.{known_differ, siblings_back}
+use Rattle.prost_reflect_fields.proofs.Siblings.{known_differ}
 use Rattle.prost_reflect_fields.proofs.Replaced.{values_replaced, records_replaced, chosen_last, part_replaced, sound_part}
-use Rattle.prost_reflect_dynamic.specs.declared.message.DynamicMessage.{DynamicMessage}
-use Rattle.prost_reflect_dynamic.specs.declared.value.Value.{Value}
-use Rattle.prost_reflect_dynamic.specs.declared.value.Value.TheViews.{roll-DynamicMessage}
-use Rattle.prost_reflect_dynamic.specs.View.{value_of, content_of, message_type_of, entries_from, payloads_of}
-use Rattle.prost_reflect_dynamic.specs.Copies.{SameSlot}
-use Rattle.prost_reflect_dynamic.specs.Merged.{HasNumbersOf, IsJoined}
 use Rattle.prost_reflect_dynamic.proofs.Views.{shown, content_of_message, content_of_roll}
 use Rattle.prost_reflect_dynamic.proofs.Slots.{from_keys}
 use Rattle.prost_reflect_dynamic.proofs.Stored.{ascending_shown, stored_slot, slot_stored}

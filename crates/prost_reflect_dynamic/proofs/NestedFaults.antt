@@ -1,19 +1,9 @@
 -- What stands behind the key of a message or a group: read one level down, or refused.
-use Rattle.std.proofs.Common.{◌≡◌, ℕ, suc, ◌≤◌, ◌-◌, Bool, true, false, List, [], refl, sym, ap, ◌∙◌, subst, arith}
-use Rattle.prost_reflect_wire.specs.declared.key.WireType.{WireType}
+use Rattle.std.specs.Prelude.{◌≡◌, ◌≤◌, ◌-◌}
+use Rattle.prost_reflect_dynamic.proofs.Common.{ℕ, suc, Bool, true, false, List, [], refl, sym, ap, ◌∙◌, subst, arith, WireType, DecodeError, DelimitedFront, PlainFault, Schema, Content, schema_of, type_of, message_of_kind, Here, InMessage, InGroup, OfType, StandsInMessage, opens_level, one_takes, same_wire, Progress, GroupProgress, StandsBehindKey, StandsInGroup, FoundNested, takes_nested, needs_nested, nested_wire, ReadInside, NestedRead, NestedFault, StandsBehindNested, nested_kind}
 use Rattle.prost_reflect_wire.specs.declared.key.WireType.TheVariants as wires
-use Rattle.prost_reflect_wire.specs.declared.error.DecodeError.{DecodeError}
 use Rattle.prost_reflect_wire.specs.declared.error.DecodeError.TheVariants as errors
-use Rattle.prost_reflect_wire.specs.Front.{DelimitedFront, PlainFault}
-use Rattle.prost_reflect_wire.specs.Schema.{Schema}
-use Rattle.prost_reflect_wire.specs.Content.{Content, schema_of, type_of}
-use Rattle.prost_reflect_wire.specs.Edit.{message_of_kind}
-use Rattle.prost_reflect_wire.specs.Fault.{Here, InMessage, InGroup, OfType, StandsInMessage, opens_level, one_takes, same_wire}
-use Rattle.prost_reflect_wire.specs.Decoding.{Progress, GroupProgress, StandsBehindKey, StandsInGroup}
 use Rattle.prost_reflect_wire.proofs.PlaceFaults.{plain_stands}
-use Rattle.prost_reflect_laws.proofs.MessageSteps.{FoundNested, takes_nested, needs_nested}
-use Rattle.prost_reflect_dynamic.specs.Nested.{nested_wire, ReadInside, NestedRead, NestedFault, StandsBehindNested}
-use Rattle.prost_reflect_dynamic.specs.Targets.{nested_kind}
 use Rattle.prost_reflect_dynamic.proofs.RowKinds.{message_named}
 
 kind_takes : (g : Bool) (U : ℕ) (w : WireType) → one_takes (nested_kind g U) w ≡ same_wire w (nested_wire g)

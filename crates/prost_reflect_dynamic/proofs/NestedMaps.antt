@@ -1,39 +1,12 @@
 -- Entries of maps of messages, read one record behind another and put into the map of their field.
-use Rattle.std.proofs.Common.{◌≡◌, ◌≢◌, ℕ, suc, ◌≤◌, ◌-◌, true, false, nat_eq, List, [], Option, Some, None, refl, ap, sym, ◌∙◌, subst, arith}
-use Rattle.std.specs.Prelude.{IsSome, IsSomeAnd}
-use Rattle.prost_reflect_wire.specs.declared.error.DecodeError.{DecodeError}
+use Rattle.std.specs.Prelude.{◌≡◌, ◌≢◌, ◌≤◌, ◌-◌}
+use Rattle.prost_reflect_dynamic.proofs.Common.{ℕ, suc, true, false, nat_eq, List, [], Option, Some, None, refl, ap, sym, ◌∙◌, subst, arith, IsSome, IsSomeAnd, DecodeError, WireType, AreBytes, KeyFront, DelimitedFront, KeyFault, ScalarKind, kind_default, ScalarOf, known, field_of, is_key_kind, Content, ScalarValue, MessageValue, MapValue, empty, value_at, schema_of, type_of, entries_of, allows, has_level, put, pairs_in, meaning, kept, WellStored, SkipsValue, ValueFault, Step, StandsBehindKey, ScalarRead, ScalarFault, IsMapped, BodyFault, field_checked, map_keyed, entry_key_valid, TableKind, DynamicMessage, MapKey, Value, value_set, IsDefaultOf, NestedMap, ReadsNestedEntry, RefusesNestedEntry, plain_kind, ReadsScalar, RefusesScalar, NestedRead, StandsBehindNested, nested_kind, key_in, key_of, value_of, content_of, message_type_of}
 use Rattle.prost_reflect_wire.specs.declared.error.DecodeError.TheVariants as errors
-use Rattle.prost_reflect_wire.specs.declared.key.WireType.{WireType}
 use Rattle.prost_reflect_wire.specs.declared.key.WireType.TheVariants as wires
-use Rattle.prost_reflect_wire.specs.Varint.{AreBytes}
-use Rattle.prost_reflect_wire.specs.Front.{KeyFront, DelimitedFront, KeyFault}
-use Rattle.prost_reflect_wire.specs.Scalar.{ScalarKind, kind_default}
-use Rattle.prost_reflect_wire.specs.Schema.{ScalarOf, known, field_of, is_key_kind}
-use Rattle.prost_reflect_wire.specs.Content.{Content, ScalarValue, MessageValue, MapValue, empty, value_at, schema_of, type_of, entries_of}
-use Rattle.prost_reflect_wire.specs.Grammar.{allows, has_level}
-use Rattle.prost_reflect_wire.specs.Meaning.{put, pairs_in, meaning}
-use Rattle.prost_reflect_wire.specs.Typing.{kept, WellStored}
-use Rattle.prost_reflect_wire.specs.Unknown.{SkipsValue}
-use Rattle.prost_reflect_wire.specs.Fault.{ValueFault}
-use Rattle.prost_reflect_wire.specs.Decoding.{Step, StandsBehindKey, ScalarRead, ScalarFault}
-use Rattle.prost_reflect_wire.specs.EntryReading.{IsMapped, BodyFault}
 use Rattle.prost_reflect_wire.specs.MessageEntries.{nested_type, NestedEntryTo, NestedValueRead, NestedValueFault, StandsInNestedEntry}
 use Rattle.prost_reflect_laws.proofs.MapSteps.{FoundMap, mapped_at, body_refused, entry_stands}
-use Rattle.prost_reflect_laws.proofs.ScalarEntries.{field_checked, map_keyed, entry_key_valid}
 use Rattle.prost_reflect_laws.proofs.NestedEntries.{nested_entry_nothing, nested_no_key, nested_key_read, nested_value_read, nested_other_read, nested_key_refused, nested_value_refused, nested_other_refused, nested_level, nested_entry_holds, entry_depth}
 use Rattle.prost_reflect_laws.proofs.BodyFronts.{delimited_bytes}
-use Rattle.prost_reflect_tables.specs.declared.tables.TableKind.{TableKind}
-use Rattle.prost_reflect_dynamic.specs.declared.message.DynamicMessage.{DynamicMessage}
-use Rattle.prost_reflect_dynamic.specs.declared.value.MapKey.{MapKey}
-use Rattle.prost_reflect_dynamic.specs.declared.value.Value.{Value}
-use Rattle.prost_reflect_dynamic.specs.Contents.{value_set}
-use Rattle.prost_reflect_dynamic.specs.Maps.{IsDefaultOf}
-use Rattle.prost_reflect_dynamic.specs.NestedMaps.{NestedMap, ReadsNestedEntry, RefusesNestedEntry}
-use Rattle.prost_reflect_dynamic.specs.Scalars.{plain_kind, ReadsScalar, RefusesScalar}
-use Rattle.prost_reflect_dynamic.specs.Nested.{NestedRead, StandsBehindNested}
-use Rattle.prost_reflect_dynamic.specs.Targets.{nested_kind}
-use Rattle.prost_reflect_dynamic.specs.Variants.{key_in}
-use Rattle.prost_reflect_dynamic.specs.View.{key_of, value_of, content_of, message_type_of}
 use Rattle.prost_reflect_dynamic.proofs.ElementReads.{EmptyElement}
 use Rattle.prost_reflect_dynamic.proofs.MapMerging.{found_key, key_itself}
 use Rattle.prost_reflect_dynamic.proofs.Merging.{known_in, differ_in, valid_in, same_kind}

@@ -1,29 +1,9 @@
 -- Messages and groups read into the message of their field.
-use Rattle.std.proofs.Common.{◌≡◌, ℕ, suc, Bool, true, false, List, Option, Some, None, refl, sym, ap, ◌∙◌, subst}
-use Rattle.std.specs.Prelude.{unwrap_or, option_map}
-use Rattle.prost_reflect_wire.specs.declared.key.WireType.{WireType}
+use Rattle.std.specs.Prelude.{◌≡◌}
+use Rattle.prost_reflect_dynamic.proofs.Common.{ℕ, suc, Bool, true, false, List, Option, Some, None, refl, sym, ap, ◌∙◌, subst, unwrap_or, option_map, WireType, DecodeError, KeyFront, Field, known, field_of, numbers_differ, is_map, Content, ContentOf, MessageValue, empty, value_at, schema_of, type_of, entries_of, WellStored, with_field_value, message_of_kind, Step, StandsBehindKey, field_number, OneMessage, ReadInto, Nested, FoundNested, nested_sound, message_holds, group_holds, DynamicMessage, Value, out-Value, Value-F, fold_out-Value, map-Value, schema_at, type_at, value_step, message_step, value_of, content_of, message_type_of, value_set, nested_kind, NestedField, ReadInside, NestedRead, StandsBehindNested, HeldMessage, ReadIntoHeld, StandsInHeld, message_in}
 use Rattle.prost_reflect_wire.specs.declared.key.WireType.TheVariants as wires
-use Rattle.prost_reflect_wire.specs.declared.error.DecodeError.{DecodeError}
-use Rattle.prost_reflect_wire.specs.Front.{KeyFront}
-use Rattle.prost_reflect_wire.specs.Schema.{Field, known, field_of, numbers_differ, is_map}
-use Rattle.prost_reflect_wire.specs.Content.{Content, ContentOf, MessageValue, empty, value_at, schema_of, type_of, entries_of}
 use Rattle.prost_reflect_wire.specs.Content as contents
-use Rattle.prost_reflect_wire.specs.Typing.{WellStored}
-use Rattle.prost_reflect_wire.specs.Edit.{with_field_value, message_of_kind}
-use Rattle.prost_reflect_wire.specs.Decoding.{Step, StandsBehindKey}
-use Rattle.prost_reflect_wire.proofs.Survivors.{field_number}
-use Rattle.prost_reflect_laws.proofs.MessageSteps.{OneMessage, ReadInto, Nested, FoundNested, nested_sound, message_holds, group_holds}
-use Rattle.prost_reflect_dynamic.specs.declared.message.DynamicMessage.{DynamicMessage}
-use Rattle.prost_reflect_dynamic.specs.declared.value.Value.{Value, out-Value}
 use Rattle.prost_reflect_dynamic.specs.declared.value.Value as values
-use Rattle.prost_reflect_dynamic.specs.declared.value.Value.TheOpen.{Value-F}
-use Rattle.prost_reflect_dynamic.specs.declared.value.Value.TheFolds.{fold_out-Value, map-Value}
-use Rattle.prost_reflect_pool.specs.MessageTypes.{schema_at, type_at}
-use Rattle.prost_reflect_dynamic.specs.View.{value_step, message_step, value_of, content_of, message_type_of}
-use Rattle.prost_reflect_dynamic.specs.Contents.{value_set}
-use Rattle.prost_reflect_dynamic.specs.Targets.{nested_kind, NestedField}
-use Rattle.prost_reflect_dynamic.specs.Nested.{ReadInside, NestedRead, StandsBehindNested, HeldMessage, ReadIntoHeld, StandsInHeld}
-use Rattle.prost_reflect_dynamic.specs.Variants.{message_in}
 use Rattle.prost_reflect_dynamic.proofs.NestedFaults.{behind_key}
 use Rattle.prost_reflect_dynamic.proofs.RowKinds.{message_named}
 use Rattle.prost_reflect_dynamic.proofs.Views.{content_of_message, value_of_message}

@@ -1,32 +1,11 @@
 -- What is written of a message or a group in the place of its field.
-use Rattle.std.proofs.Common.{◌≡◌, ℕ, Bool, true, false, List, [], ◌∷◌, ◌++◌, ◌⊎◌, inl, inr, Some, refl, sym, ap, ◌∙◌, append-nil, append_assoc, true≢false}
-use Rattle.std.proofs.lemmas.Bool.{and_parts}
+use Rattle.std.specs.Prelude.{◌≡◌, ◌∷◌, ◌++◌, ◌⊎◌}
+use Rattle.prost_reflect_dynamic.proofs.Common.{ℕ, Bool, true, false, List, [], inl, inr, Some, refl, sym, ap, ◌∙◌, append-nil, append_assoc, true≢false, and_parts, Len, Record, short_key, short_plain, record_at, spelled, Kind, ScalarOf, MessageOf, GroupOf, ValueType, Field, is_message, is_singular, field_of, passes, Content, MessageValue, schema_of, records, message_payload, kept, encodable, value_valid, value_passes, fit_test, value_bytes, message_written, TableKind, FieldRow, EnumRow, schema_kind, schema_field, is_repeated, PooledType, DynamicMessage, Value, Value-F, roll-Value, fold-roll-Value, ind-Value, pool_rows, known_of, ValueWritable, nested_bytes, value_step, message_step, value_of, content_of}
 use denote.Hole.Carrier as Carrier
 use Rattle.prost_reflect_wire.specs.declared.key.WireType.TheVariants as wires
-use Rattle.prost_reflect_wire.specs.Record.{Len, Record, short_key, short_plain, record_at, spelled}
-use Rattle.prost_reflect_wire.specs.Schema.{Kind, ScalarOf, MessageOf, GroupOf, ValueType, Field, is_message, is_singular, field_of, passes}
-use Rattle.prost_reflect_wire.specs.Content.{Content, MessageValue, schema_of}
 use Rattle.prost_reflect_wire.specs.Content as contents
-use Rattle.prost_reflect_wire.specs.Writing.{records, message_payload}
-use Rattle.prost_reflect_wire.specs.Typing.{kept, encodable, value_valid, value_passes, fit_test}
-use Rattle.prost_reflect_wire.specs.Storing.{value_bytes}
-use Rattle.prost_reflect_laws.proofs.WrittenEntries.{message_written}
-use Rattle.prost_reflect_tables.specs.declared.tables.TableKind.{TableKind}
 use Rattle.prost_reflect_tables.specs.declared.tables.TableKind.TheVariants as kinds
-use Rattle.prost_reflect_tables.specs.Rows.{FieldRow, EnumRow}
-use Rattle.prost_reflect_tables.specs.Shown.{schema_kind, schema_field}
-use Rattle.prost_reflect_tables.specs.Linking.{is_repeated}
-use Rattle.prost_reflect_pool.specs.declared.pooled_type.PooledType.{PooledType}
-use Rattle.prost_reflect_dynamic.specs.declared.message.DynamicMessage.{DynamicMessage}
-use Rattle.prost_reflect_dynamic.specs.declared.value.Value.{Value}
 use Rattle.prost_reflect_dynamic.specs.declared.value.Value as values
-use Rattle.prost_reflect_dynamic.specs.declared.value.Value.TheOpen.{Value-F}
-use Rattle.prost_reflect_dynamic.specs.declared.value.Value.TheViews.{roll-Value}
-use Rattle.prost_reflect_dynamic.specs.declared.value.Value.TheFolds.{fold-roll-Value, ind-Value}
-use Rattle.prost_reflect_pool.specs.SharedPools.{pool_rows}
-use Rattle.prost_reflect_fields.specs.Known.{known_of}
-use Rattle.prost_reflect_dynamic.specs.Encoding.{ValueWritable, nested_bytes}
-use Rattle.prost_reflect_dynamic.specs.View.{value_step, message_step, value_of, content_of}
 use Rattle.prost_reflect_dynamic.proofs.PlainKinds.{single_row, own_of}
 use Rattle.prost_reflect_dynamic.proofs.Views.{value_of_message}
 use Rattle.prost_reflect_dynamic.proofs.WrittenValues.{is_message_value, passing}

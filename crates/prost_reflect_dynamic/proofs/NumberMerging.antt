@@ -1,45 +1,12 @@
 -- Records of lists of enum numbers read into a message.
-use Rattle.std.proofs.Common.{◌≡◌, ◌^◌, ℕ, ℤ, pos, Bool, true, false, cond, not, List, [], ◌∷◌, ◌++◌, map, filter, flat_map, Option, Some, None, refl, sym, ap, ◌∙◌, subst, unwrap_or, append_assoc, append-nil, true≢false}
-use Rattle.std.specs.Prelude.{nat_lt, slice_get}
-use Rattle.std.specs.List.{list_all}
-use Rattle.std.proofs.lemmas.Bool.{lt-ltb, and_parts, and_from}
-use Rattle.prost_reflect_wire.specs.declared.key.WireType.{WireType}
+use Rattle.std.specs.Prelude.{◌≡◌, ◌^◌, ◌∷◌, ◌++◌}
+use Rattle.prost_reflect_dynamic.proofs.Common.{ℕ, ℤ, pos, Bool, true, false, cond, not, List, [], map, filter, flat_map, Option, Some, None, refl, sym, ap, ◌∙◌, subst, unwrap_or, append_assoc, append-nil, true≢false, nat_lt, slice_get, list_all, lt-ltb, and_parts, and_from, WireType, DecodeError, Var, Payload, Flat, record_at, payload_valid, VarintFront, DelimitedFront, PlainFault, ScalarKind, EnumNumbers, Enum, Open, EnumNumber, low_i32, elem, is_undeclared, ScalarOf, Repeated, Field, known, field_of, numbers_differ, is_list, Content, ContentOf, Values, ScalarValue, ListValue, NoValues, values_from, ◌and_then◌, schema_of, type_of, entries_of, value_at, scalar_values, values_in, unpacked, WellStored, with_field_value, OfType, ElementFault, same_wire, Step, ElementsJoined, NumbersJoined, BodyJoined, FieldFault, ScalarFault, StandsBehindKey, declared_values, field_number, varint_plain, IsListed, and_nothing, TableKind, FieldRow, EnumRow, schema_kind, enum_kind, schema_field, is_repeated, PooledType, DynamicMessage, value_set, unknown_added, names_message, first_of, numbers_or_none, known_of, IsList, IsListOrNone, NumberList, BodyTaken, JoinsNumbers, number_element, is_stray_varint, strays_in, declared_in, varints_added, numbers_taken, pool_rows, is_stray_number, content_of, message_type_of}
 use Rattle.prost_reflect_wire.specs.declared.key.WireType.TheVariants as wires
-use Rattle.prost_reflect_wire.specs.declared.error.DecodeError.{DecodeError}
-use Rattle.prost_reflect_wire.specs.Record.{Var, Payload, Flat, record_at, payload_valid}
-use Rattle.prost_reflect_wire.specs.Front.{VarintFront, DelimitedFront, PlainFault}
-use Rattle.prost_reflect_wire.specs.Scalar.{ScalarKind, EnumNumbers, Enum, Open, EnumNumber, low_i32, elem, is_undeclared}
-use Rattle.prost_reflect_wire.specs.Schema.{ScalarOf, Repeated, Field, known, field_of, numbers_differ, is_list}
 use Rattle.prost_reflect_wire.specs.Content as contents
-use Rattle.prost_reflect_wire.specs.Content.{Content, ContentOf, Values, ScalarValue, ListValue, NoValues, values_from, ◌and_then◌, schema_of, type_of, entries_of, value_at}
-use Rattle.prost_reflect_wire.specs.Meaning.{scalar_values, values_in}
-use Rattle.prost_reflect_wire.specs.Grammar.{unpacked}
-use Rattle.prost_reflect_wire.specs.Typing.{WellStored}
-use Rattle.prost_reflect_wire.specs.Edit.{with_field_value}
-use Rattle.prost_reflect_wire.specs.Fault.{OfType, ElementFault, same_wire}
-use Rattle.prost_reflect_wire.specs.Decoding.{Step, ElementsJoined, NumbersJoined, BodyJoined, FieldFault, ScalarFault, StandsBehindKey, declared_values}
-use Rattle.prost_reflect_wire.proofs.Survivors.{field_number}
-use Rattle.prost_reflect_wire.proofs.PlainFronts.{varint_plain}
 use Rattle.prost_reflect_types.proofs.FieldsFound.{field_stands}
-use Rattle.prost_reflect_laws.proofs.ListSteps.{IsListed, and_nothing}
 use Rattle.prost_reflect_laws.proofs.PackedElements.{packed_refused, delimited_refused, single_refused}
 use Rattle.prost_reflect_laws.proofs.NumberSteps.{declared_joined, stray_joined, packed_step, number_step}
-use Rattle.prost_reflect_tables.specs.declared.tables.TableKind.{TableKind}
 use Rattle.prost_reflect_tables.specs.declared.tables.TableKind.TheVariants as kinds
-use Rattle.prost_reflect_tables.specs.Rows.{FieldRow, EnumRow}
-use Rattle.prost_reflect_tables.specs.Shown.{schema_kind, enum_kind, schema_field}
-use Rattle.prost_reflect_tables.specs.Linking.{is_repeated}
-use Rattle.prost_reflect_pool.specs.declared.pooled_type.PooledType.{PooledType}
-use Rattle.prost_reflect_dynamic.specs.declared.message.DynamicMessage.{DynamicMessage}
-use Rattle.prost_reflect_dynamic.specs.Contents.{value_set, unknown_added}
-use Rattle.prost_reflect_dynamic.specs.RowKinds.{names_message}
-use Rattle.prost_reflect_pool.specs.Enums.{first_of, numbers_or_none}
-use Rattle.prost_reflect_fields.specs.Known.{known_of}
-use Rattle.prost_reflect_dynamic.specs.Lists.{IsList, IsListOrNone}
-use Rattle.prost_reflect_dynamic.specs.Numbers.{NumberList, BodyTaken, JoinsNumbers, number_element, is_stray_varint, strays_in, declared_in, varints_added, numbers_taken}
-use Rattle.prost_reflect_pool.specs.SharedPools.{pool_rows}
-use Rattle.prost_reflect_dynamic.specs.Scalars.{is_stray_number}
-use Rattle.prost_reflect_dynamic.specs.View.{content_of, message_type_of}
 use Rattle.prost_reflect_dynamic.proofs.ListMerging.{listed_at, list_alone, values_or}
 use Rattle.prost_reflect_dynamic.proofs.Merging.{known_in, differ_in, own_fault}
 use Rattle.prost_reflect_dynamic.proofs.PlainKinds.{list_kind, scalars_row, stray_payload, enum_payloads}

@@ -1,22 +1,8 @@
 -- The defaults of the fields and extensions that descriptors name.
-use Rattle.std.proofs.Common.{◌≡◌, true, Option, Some, None, ap, sym, ◌∙◌, subst}
-use Rattle.std.specs.Prelude.{IsSomeAnd, option_and_then, option_map, slice_get}
-use Rattle.prost_reflect_wire.specs.Schema.{field_valid}
-use Rattle.prost_reflect_wire.specs.Typing.{value_valid}
+use Rattle.std.specs.Prelude.{◌≡◌}
+use Rattle.prost_reflect_dynamic.proofs.Common.{true, Option, Some, None, ap, sym, ◌∙◌, subst, IsSomeAnd, option_and_then, option_map, slice_get, field_valid, value_valid, fields_at, FieldRow, schema_from, schema_field, pool_rows, row_default, default_by_row, IsRowDefault, IsDefaultByRow, extension_named, extension_row_named, row_at, value_of, DescriptorPool, FieldDescriptor, ExtensionDescriptor, Value}
 use Rattle.prost_reflect_tables.specs.CatalogRows.{ExtensionRow}
-use Rattle.prost_reflect_tables.specs.Places.{fields_at}
-use Rattle.prost_reflect_tables.specs.Rows.{FieldRow}
-use Rattle.prost_reflect_tables.specs.Shown.{schema_from, schema_field}
-use Rattle.prost_reflect_pool.specs.SharedPools.{pool_rows}
-use Rattle.prost_reflect_dynamic.specs.Defaults.{row_default, default_by_row, IsRowDefault, IsDefaultByRow}
-use Rattle.prost_reflect_dynamic.specs.NamedExtensions.{extension_named, extension_row_named}
-use Rattle.prost_reflect_dynamic.specs.NamedField.{row_at}
 use Rattle.prost_reflect_dynamic.specs.RowLaws.{DefaultFits, takes_by_row}
-use Rattle.prost_reflect_dynamic.specs.View.{value_of}
-use Rattle.prost_reflect_dynamic.specs.declared.descriptor.pool.DescriptorPool.{DescriptorPool}
-use Rattle.prost_reflect_dynamic.specs.declared.descriptor.field.FieldDescriptor.{FieldDescriptor}
-use Rattle.prost_reflect_dynamic.specs.declared.descriptor.extension.ExtensionDescriptor.{ExtensionDescriptor}
-use Rattle.prost_reflect_dynamic.specs.declared.value.Value.{Value}
 use Rattle.prost_reflect_dynamic.proofs.FieldDefaults.{row_checked}
 
 -- FIELDS

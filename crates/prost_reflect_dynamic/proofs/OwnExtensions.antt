@@ -1,31 +1,9 @@
 -- Extensions of a message's own type, and what their numbers are to it.
-use Rattle.std.proofs.Common.{◌≡◌, ℕ, zero, suc, Bool, true, List, [], ◌∷◌, Option, Some, None, refl, ap, sym, ◌∙◌}
-use Rattle.std.specs.List.{AllByRecursion}
-use Rattle.std.specs.Option.{option_map, option_and_then, is_some}
-use Rattle.std.specs.Prelude.{slice_get, IfOk, IfSome, Result}
-use Rattle.std.specs.declared.alloc.AllocError.{AllocError}
-use Rattle.std.proofs.lemmas.Option.{same_Some}
-use Rattle.prost_reflect_wire.specs.Schema.{field_of, passes}
-use Rattle.prost_reflect_wire.specs.Typing.{value_valid}
+use Rattle.std.specs.Prelude.{◌≡◌, ◌∷◌}
+use Rattle.prost_reflect_dynamic.proofs.Common.{ℕ, zero, suc, Bool, true, List, [], Option, Some, None, refl, ap, sym, ◌∙◌, AllByRecursion, option_map, option_and_then, is_some, slice_get, IfOk, IfSome, Result, AllocError, same_Some, field_of, passes, value_valid, fields_at, FieldRow, schema_field, extending_or_none, extension_where, fields_of, pool_rows, PooledType, rows_same, known_of, is_known, takes_at, IsOwnExtension, extension_takes, extension_named, extension_row_named, Extends, value_of, ExtensionDescriptor, MessageDescriptor, Value}
 use Rattle.prost_reflect_tables.specs.CatalogRows.{ExtensionRow, MessageListsRow}
-use Rattle.prost_reflect_tables.specs.Places.{fields_at}
-use Rattle.prost_reflect_tables.specs.Rows.{FieldRow}
-use Rattle.prost_reflect_tables.specs.Shown.{schema_field}
-use Rattle.prost_reflect_pool.specs.Lookups.{extending_or_none, extension_where}
-use Rattle.prost_reflect_pool.specs.MessageTypes.{fields_of}
 use Rattle.prost_reflect_pool.specs.Pools.{pool_catalog}
-use Rattle.prost_reflect_pool.specs.SharedPools.{pool_rows}
-use Rattle.prost_reflect_pool.specs.declared.pooled_type.PooledType.{PooledType}
-use Rattle.prost_reflect_pool.proofs.EqualTypes.{rows_same}
 use Rattle.prost_reflect_pool.proofs.ExtensionPlaces.{FoundExtension, extension_found as place_found, extending_there}
-use Rattle.prost_reflect_fields.specs.Known.{known_of, is_known}
-use Rattle.prost_reflect_dynamic.specs.Access.{takes_at}
-use Rattle.prost_reflect_dynamic.specs.ExtensionAccess.{IsOwnExtension, extension_takes}
-use Rattle.prost_reflect_dynamic.specs.NamedExtensions.{extension_named, extension_row_named, Extends}
-use Rattle.prost_reflect_dynamic.specs.View.{value_of}
-use Rattle.prost_reflect_dynamic.specs.declared.descriptor.extension.ExtensionDescriptor.{ExtensionDescriptor}
-use Rattle.prost_reflect_dynamic.specs.declared.descriptor.message.MessageDescriptor.{MessageDescriptor}
-use Rattle.prost_reflect_dynamic.specs.declared.value.Value.{Value}
 use Rattle.prost_reflect_dynamic.proofs.Described.{known_of_row}
 use Rattle.prost_reflect_dynamic.proofs.OwnFields.{and_ok}
 

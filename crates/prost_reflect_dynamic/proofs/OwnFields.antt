@@ -1,34 +1,10 @@
 -- Fields of a message's own type, and what their numbers are to it.
-use Rattle.std.proofs.Common.{◌≡◌, ℕ, Bool, true, false, cond, List, Option, Some, None, refl, ap, sym, ◌∙◌, unwrap_or, true≢false}
-use Rattle.std.specs.Option.{option_map, option_and_then, is_some}
-use Rattle.std.specs.Prelude.{slice_get, IfOk, IfSome, Result}
-use Rattle.std.specs.declared.alloc.AllocError.{AllocError}
-use Rattle.std.specs.declared.result.Result.TheVariants.{Ok, Err}
-use Rattle.std.specs.Str.{bytes_eq}
-use Rattle.prost_reflect_wire.specs.Schema.{field_of, passes}
-use Rattle.prost_reflect_wire.specs.Typing.{value_valid}
-use Rattle.prost_reflect_tables.specs.Rows.{FieldRow}
-use Rattle.prost_reflect_tables.specs.Places.{fields_at, row_of, place_of}
+use Rattle.std.specs.Prelude.{◌≡◌}
+use Rattle.prost_reflect_dynamic.proofs.Common.{ℕ, Bool, true, false, cond, List, Option, Some, None, refl, ap, sym, ◌∙◌, unwrap_or, true≢false, option_map, option_and_then, is_some, slice_get, IfOk, IfSome, Result, AllocError, Ok, Err, bytes_eq, field_of, passes, value_valid, FieldRow, fields_at, row_of, place_of, schema_field, named_field, pool_rows, fields_of, PooledType, rows_same, known_of, is_known, row_at_number, row_at_place, row_of_number, no_row, fields_ascend, IsOwnField, is_field_number, number_named, number_of, takes, takes_at, NumberFound, NumberMissing, NameFound, NameMissing, TakesFound, NamesEqual, NamesSame, MessageDescriptor, row_at, is_declared, is_declared_at, declared_place, FieldDescriptor, value_of, Value}
 use Rattle.prost_reflect_tables.specs.Schema.{rows_of}
-use Rattle.prost_reflect_tables.specs.Shown.{schema_field}
-use Rattle.prost_reflect_pool.specs.Lookups.{named_field}
-use Rattle.prost_reflect_pool.specs.SharedPools.{pool_rows}
-use Rattle.prost_reflect_pool.specs.MessageTypes.{fields_of}
-use Rattle.prost_reflect_pool.specs.declared.pooled_type.PooledType.{PooledType}
-use Rattle.prost_reflect_pool.proofs.EqualTypes.{rows_same}
-use Rattle.prost_reflect_fields.specs.Known.{known_of, is_known}
-use Rattle.prost_reflect_tables.proofs.Fields.{row_at_number, row_at_place, row_of_number, no_row}
-use Rattle.prost_reflect_tables.proofs.Keeping.{fields_ascend}
-use Rattle.prost_reflect_dynamic.specs.Access.{IsOwnField, is_field_number, number_named, number_of, takes, takes_at, NumberFound, NumberMissing, NameFound, NameMissing, TakesFound}
-use Rattle.prost_reflect_dynamic.specs.Named.{NamesEqual, NamesSame, SameMessage}
+use Rattle.prost_reflect_dynamic.specs.Named.{SameMessage}
 use Rattle.prost_reflect_dynamic.specs.NamedFields as named
-use Rattle.prost_reflect_dynamic.specs.declared.descriptor.message.MessageDescriptor.{MessageDescriptor}
-use Rattle.prost_reflect_dynamic.specs.NamedField.{row_at}
-use Rattle.prost_reflect_dynamic.specs.NamedFields.{is_declared, is_declared_at, declared_place}
-use Rattle.prost_reflect_dynamic.specs.declared.descriptor.field.FieldDescriptor.{FieldDescriptor}
 use Rattle.prost_reflect_dynamic.specs.Setting.{DescribesField}
-use Rattle.prost_reflect_dynamic.specs.View.{value_of}
-use Rattle.prost_reflect_dynamic.specs.declared.value.Value.{Value}
 use Rattle.prost_reflect_dynamic.proofs.Described.{known_of_row, field_at_number}
 use Rattle.prost_reflect_dynamic.proofs.OwnRows.{fields_found}
 

@@ -1,25 +1,13 @@
 -- What linked rows say of a message type's own fields, of the oneofs of fields, and of the first values of enums.
-use Rattle.std.proofs.Common.{◌≡◌, ℕ, suc, ◌+◌, ◌-◌, ◌<◌, ◌≤◌, Bool, true, false, not, cond, ◌&&◌, ◌||◌, List, [], ◌∷◌, length, get_or, nat_lt, Option, Some, None, IsTrue, refl, sym, ap, subst, ◌∙◌, arith}
-use Rattle.std.specs.Prelude.{nat_eq, bytes_eq, find, option_and_then, option_map, slice_get, position, IfSome}
-use Rattle.std.specs.List.{list_all, position_from}
+use Rattle.std.specs.Prelude.{◌≡◌, ◌+◌, ◌-◌, ◌<◌, ◌≤◌, ◌&&◌, ◌||◌, ◌∷◌}
+use Rattle.prost_reflect_dynamic.proofs.Common.{ℕ, suc, Bool, true, false, not, cond, List, [], length, get_or, nat_lt, Option, Some, None, IsTrue, refl, sym, ap, subst, ◌∙◌, arith, nat_eq, bytes_eq, find, option_and_then, option_map, slice_get, position, IfSome, list_all, position_from, and_parts, eqb-true, same_Some, slice_get_within, has_entry_numbers, is_linked, message_linked, field_linked, enum_linked, oneof_in_range, fields_at, fields_or_none, FieldRow, MessageRow, EnumRow, EnumValueRow, TableRows, entry_keeps, passes_at, values_at, values_or_none, named_value, LinkedPool, declared_place, is_declared, is_declared_at, some_there}
 use Rattle.std.proofs.lemmas.Iterator.Adapters.{position_from-zero}
-use Rattle.std.proofs.lemmas.Bool.{and_parts, eqb-true}
-use Rattle.std.proofs.lemmas.Option.{same_Some, slice_get_within}
 use Rattle.prost_reflect_tables.specs.Gathered.{places_from}
-use Rattle.prost_reflect_tables.specs.Linked.{has_entry_numbers, is_linked, message_linked, field_linked, enum_linked, oneof_in_range}
 use Rattle.prost_reflect_tables.specs.LinkedCatalog.{own_fields}
-use Rattle.prost_reflect_tables.specs.Places.{fields_at, fields_or_none}
-use Rattle.prost_reflect_tables.specs.Rows.{FieldRow, MessageRow, EnumRow, EnumValueRow, TableRows}
 use Rattle.prost_reflect_tables.specs.WrittenDefaults.{number_named}
 use Rattle.prost_reflect_tables.proofs.DeclaredFields.{entry_declared, entry_fields_declared}
-use Rattle.prost_reflect_tables.proofs.Keeping.{entry_keeps, passes_at}
-use Rattle.prost_reflect_pool.specs.Enums.{values_at, values_or_none}
-use Rattle.prost_reflect_pool.specs.Lookups.{named_value}
 use Rattle.prost_reflect_pool.specs.Pools.{files_of, pool_rows}
 use Rattle.prost_reflect_pool.specs.RecordPaths.{oneofs_at, oneofs_or_none}
-use Rattle.prost_reflect_pool.specs.declared.pool.LinkedPool.{LinkedPool}
-use Rattle.prost_reflect_dynamic.specs.NamedFields.{declared_place, is_declared, is_declared_at}
-use Rattle.prost_reflect_dynamic.specs.RowLawProofs.{some_there}
 
 own_from : (all : List FieldRow) (i : ℕ) (xs : List FieldRow) → ((k : ℕ) (x : FieldRow) → slice_get xs k ≡ Some x → slice_get all (i + k) ≡ Some x) → list_all (is_declared_at all) (places_from (λ f. not f.is_extension) i xs) ≡ true
 own_from all i [] h = refl

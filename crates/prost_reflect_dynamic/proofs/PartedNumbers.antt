@@ -1,29 +1,11 @@
 -- The numbers of a packed record's body, parted into those that their enum declares and the others.
-use Rattle.std.proofs.Common.{◌≡◌, ◌≢◌, ◌^◌, ℕ, pos, true, not, List, [], ◌∷◌, ◌++◌, map, Some, refl, sym, ap, ◌∙◌, subst, append_assoc, append-nil}
-use Rattle.std.specs.Prelude.{nat_lt, Vec}
-use Rattle.std.specs.List.{list_all}
-use Rattle.std.specs.declared.alloc.Global.{Global}
-use Rattle.std.proofs.lemmas.Bool.{lt-ltb, and_from}
-use Rattle.std.proofs.lemmas.List.{map-append}
+use Rattle.std.specs.Prelude.{◌≡◌, ◌≢◌, ◌^◌, ◌∷◌, ◌++◌}
+use Rattle.prost_reflect_dynamic.proofs.Common.{ℕ, pos, true, not, List, [], map, Some, refl, sym, ap, ◌∙◌, subst, append_assoc, append-nil, nat_lt, Vec, list_all, Global, lt-ltb, and_from, map-append, DecodeError, Var, VarintFront, VarintFault, ElementFault, ElementEnds, ElementPasses, Enum, Open, ListValue, values_from, ◌and_then◌, values_in, varint_plain, filter_append, EnumRow, TableKind, PartsNumbers, JoinsNumbers, number_element, is_stray_varint, strays_in, declared_in, value_of, Value}
 use Rattle.std.proofs.lemmas.List.Folds.{list_all-append}
-use Rattle.prost_reflect_wire.specs.declared.error.DecodeError.{DecodeError}
 use Rattle.prost_reflect_wire.specs.declared.error.DecodeError.TheVariants as errors
 use Rattle.prost_reflect_wire.specs.declared.key.WireType.TheVariants as wires
-use Rattle.prost_reflect_wire.specs.Record.{Var}
-use Rattle.prost_reflect_wire.specs.Front.{VarintFront, VarintFault}
-use Rattle.prost_reflect_wire.specs.Fault.{ElementFault, ElementEnds, ElementPasses}
-use Rattle.prost_reflect_wire.specs.Scalar.{Enum, Open}
 use Rattle.prost_reflect_wire.specs.Content as contents
-use Rattle.prost_reflect_wire.specs.Content.{ListValue, values_from, ◌and_then◌}
-use Rattle.prost_reflect_wire.specs.Meaning.{values_in}
-use Rattle.prost_reflect_wire.proofs.PlainFronts.{varint_plain}
-use Rattle.prost_reflect_wire.proofs.Survivors.{filter_append}
 use Rattle.prost_reflect_laws.proofs.PackedNumbers.{PlainsFront, plains_more, fault_behind, plains_unpacked}
-use Rattle.prost_reflect_tables.specs.Rows.{EnumRow}
-use Rattle.prost_reflect_tables.specs.declared.tables.TableKind.{TableKind}
-use Rattle.prost_reflect_dynamic.specs.Numbers.{PartsNumbers, JoinsNumbers, number_element, is_stray_varint, strays_in, declared_in}
-use Rattle.prost_reflect_dynamic.specs.View.{value_of}
-use Rattle.prost_reflect_dynamic.specs.declared.value.Value.{Value}
 use Rattle.prost_reflect_dynamic.specs.declared.value.Value as values
 use Rattle.prost_reflect_dynamic.proofs.ListMerging.{from_append}
 use Rattle.prost_reflect_dynamic.proofs.Views.{value_of_list}

@@ -1,31 +1,10 @@
 -- The field that a path leads to, and values that it takes.
-use Rattle.std.proofs.Common.{◌≡◌, ℕ, ◌<◌, Bool, true, false, cond, not, List, [], ◌∷◌, length, nat_eq, nat_le, Option, Some, None, option_map, refl, ap, sym, ◌∙◌, true≢false}
-use Rattle.std.specs.Prelude.{slice_get, option_and_then}
-use Rattle.std.proofs.lemmas.Bool.{or_parts, and_from, eqb-true}
-use Rattle.prost_reflect_wire.specs.Varint.{◌>>=◌}
-use Rattle.prost_reflect_wire.specs.Schema.{Kind, FieldForm, Singular, Repeated, MapFrom, Field, Schema, known, field_of, is_singular}
-use Rattle.prost_reflect_wire.specs.Content.{Value, ScalarValue, MessageValue, ListValue, MapValue, Values, NoValues, Item, Pairs, NoPairs, Pair, value_ordered}
-use Rattle.prost_reflect_wire.specs.Typing.{EntryTest, value_passes, values_pass, pairs_pass, fit_test, alone_test, value_valid, ValueTyped, ValuesTyped, PairsTyped, ValueStored, kind_for}
-use Rattle.prost_reflect_wire.specs.Edit.{message_of_kind, PathTo, holds_message, values_hold_message, pairs_hold_message}
-use Rattle.prost_reflect_tables.specs.declared.tables.TableKind.{TableKind}
+use Rattle.std.specs.Prelude.{◌≡◌, ◌<◌, ◌∷◌}
+use Rattle.prost_reflect_dynamic.proofs.Common.{ℕ, Bool, true, false, cond, not, List, [], length, nat_eq, nat_le, Option, Some, None, option_map, refl, ap, sym, ◌∙◌, true≢false, slice_get, option_and_then, or_parts, and_from, eqb-true, ◌>>=◌, Kind, FieldForm, Singular, Repeated, MapFrom, Field, Schema, known, field_of, is_singular, ScalarValue, MessageValue, ListValue, MapValue, Values, NoValues, Item, Pairs, NoPairs, Pair, value_ordered, EntryTest, value_passes, values_pass, pairs_pass, fit_test, alone_test, value_valid, ValueTyped, ValuesTyped, PairsTyped, ValueStored, kind_for, message_of_kind, PathTo, holds_message, values_hold_message, pairs_hold_message, TableKind, Cardinality, is_linked, is_repeated, fields_at, row_of, place_of, FieldRow, MessageRow, TableRows, schema_from, schema_kind, schema_field, map_entry, form_of, value_type_of, pool_rows, LinkedPool, single_place, place_named, row_at, MessageDescriptor, FieldDescriptor, declared_place, is_declared, is_declared_at, PATH_LIMIT, own_field, message_inside, field_at, field_led, type_inside, place_behind, path_place, row_led, field_of_number, row_at_place, no_row}
+use Rattle.prost_reflect_wire.specs.Content.{Value}
 use Rattle.prost_reflect_tables.specs.declared.tables.TableKind.TheVariants as kinds
-use Rattle.prost_reflect_tables.specs.declared.tables.Cardinality.{Cardinality}
 use Rattle.prost_reflect_tables.specs.declared.tables.Cardinality.TheVariants.{Optional, Required, Repeated as RepeatedLabel}
-use Rattle.prost_reflect_tables.specs.Linked.{is_linked}
-use Rattle.prost_reflect_tables.specs.Linking.{is_repeated}
-use Rattle.prost_reflect_tables.specs.Places.{fields_at, row_of, place_of}
-use Rattle.prost_reflect_tables.specs.Rows.{FieldRow, MessageRow, TableRows}
-use Rattle.prost_reflect_tables.specs.Shown.{schema_from, schema_kind, schema_field, map_entry, form_of, value_type_of}
 use Rattle.prost_reflect_tables.specs.Schema.{rows_of}
-use Rattle.prost_reflect_pool.specs.SharedPools.{pool_rows}
-use Rattle.prost_reflect_pool.specs.declared.pool.LinkedPool.{LinkedPool}
-use Rattle.prost_reflect_dynamic.specs.Defaults.{single_place, place_named}
-use Rattle.prost_reflect_dynamic.specs.NamedField.{row_at}
-use Rattle.prost_reflect_dynamic.specs.declared.descriptor.message.MessageDescriptor.{MessageDescriptor}
-use Rattle.prost_reflect_dynamic.specs.declared.descriptor.field.FieldDescriptor.{FieldDescriptor}
-use Rattle.prost_reflect_dynamic.specs.NamedFields.{declared_place, is_declared, is_declared_at}
-use Rattle.prost_reflect_dynamic.specs.Paths.{PATH_LIMIT, own_field, message_inside, field_at, field_led, type_inside, place_behind, path_place, row_led}
-use Rattle.prost_reflect_tables.proofs.Fields.{field_of_number, row_at_place, no_row}
 use Rattle.prost_reflect_dynamic.proofs.Described.{named_below}
 
 -- FIELDS

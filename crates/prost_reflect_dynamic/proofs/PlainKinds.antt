@@ -1,24 +1,11 @@
 -- The kind of a field of one scalar, as the tables name it and as the definitions do. What an enum declares makes no difference to its payloads.
-use Rattle.std.proofs.Common.{◌≡◌, ℕ, ℤ, pos, Bool, true, false, not, List, Option, Some, None, refl, sym, ap, subst, ◌∙◌, true≢false}
-use Rattle.std.specs.Prelude.{slice_get}
-use Rattle.std.proofs.lemmas.Bool.{and_parts, and_from}
-use Rattle.prost_reflect_wire.specs.Record.{Payload, Plain, Var, Fix64, Len, Fix32, Flat, Group}
+use Rattle.std.specs.Prelude.{◌≡◌}
+use Rattle.prost_reflect_dynamic.proofs.Common.{ℕ, ℤ, pos, Bool, true, false, not, List, Option, Some, None, refl, sym, ap, subst, ◌∙◌, true≢false, slice_get, and_parts, and_from, Payload, Plain, Var, Fix64, Len, Fix32, Flat, Group, Scalar, ScalarKind, EnumNumbers, low_i32, kind_wire, elem, written, scalar_valid, is_undeclared, in_i32, Kind, ScalarOf, Singular, Repeated, is_message, is_list, ScalarValue, is_stray, Cardinality, TableKind, FieldRow, MessageRow, EnumRow, TableRows, value_numbers, first_number, enum_numbers, schema_kind, enum_kind, own_type, map_entry, value_type_of, form_of, schema_field, is_repeated, is_plain, is_plain_kind, names_message, numbers_or_none, plain_kind, is_stray_number}
 use Rattle.prost_reflect_wire.specs.Scalar as scalars
-use Rattle.prost_reflect_wire.specs.Scalar.{Scalar, ScalarKind, EnumNumbers, low_i32, kind_wire, elem, written, scalar_valid, is_declared, is_undeclared, in_i32}
-use Rattle.prost_reflect_wire.specs.Schema.{Kind, ScalarOf, Singular, Repeated, is_message, is_list}
-use Rattle.prost_reflect_wire.specs.Content.{ScalarValue}
-use Rattle.prost_reflect_wire.specs.Grammar.{is_stray}
+use Rattle.prost_reflect_wire.specs.Scalar.{is_declared}
 use Rattle.prost_reflect_laws.proofs.EntryDefaults.{is_undeclared_value}
-use Rattle.prost_reflect_tables.specs.declared.tables.Cardinality.{Cardinality}
 use Rattle.prost_reflect_tables.specs.declared.tables.Cardinality.TheVariants.{Optional, Required, Repeated as RepeatedLabel}
-use Rattle.prost_reflect_tables.specs.declared.tables.TableKind.{TableKind}
 use Rattle.prost_reflect_tables.specs.declared.tables.TableKind.TheVariants as kinds
-use Rattle.prost_reflect_tables.specs.Rows.{FieldRow, MessageRow, EnumRow, TableRows, value_numbers}
-use Rattle.prost_reflect_tables.specs.Shown.{first_number, enum_numbers, schema_kind, enum_kind, own_type, map_entry, value_type_of, form_of, schema_field}
-use Rattle.prost_reflect_tables.specs.Linking.{is_repeated}
-use Rattle.prost_reflect_dynamic.specs.RowKinds.{is_plain, is_plain_kind, names_message}
-use Rattle.prost_reflect_pool.specs.Enums.{numbers_or_none}
-use Rattle.prost_reflect_dynamic.specs.Scalars.{plain_kind, is_stray_number}
 use Rattle.prost_reflect_dynamic.proofs.RowKinds as row_kinds
 use Rattle.prost_reflect_dynamic.proofs.RowKinds.{no_entry, no_message_entry}
 

@@ -1,25 +1,6 @@
 -- What is present in a message's content is what is present in its entries, one after another.
-use Rattle.std.proofs.Common.{◌≡◌, ℕ, zero, suc, Bool, true, false, cond, ◌||◌, ◌++◌, ◌+◌, ◌≤◌, ◌<◌, List, [], ◌∷◌, length, nat_lt, Option, Some, unwrap_or, refl, ap, ap₂, sym, ◌∙◌, append-nil, arith}
-use Rattle.std.specs.Prelude.{flat_map}
-use Rattle.std.proofs.lemmas.Bool.{ltb-true, ltb-false, ne_eqb}
-use Rattle.std.specs.Option.{option_map, option_and_then}
-use Rattle.std.specs.Ordering.{is_eq}
-use Rattle.std.specs.List.Sorted.{IsStrictlySortedBy}
-use Rattle.std.specs.Map.{keys_of}
-use Rattle.prost_reflect_wire.specs.Schema.{Field}
-use Rattle.prost_reflect_wire.specs.Content.{Entries, Slot, slot_at, numbers_in, entries_of}
-use Rattle.prost_reflect_wire.specs.Typing.{kept, kept_entries}
-use Rattle.prost_reflect_wire.proofs.Numbers.{Ascending, is_in, not_in, entries_ascending, slot_outside}
-use Rattle.prost_reflect_fields.specs.declared.slot.FieldSlot.{FieldSlot}
-use Rattle.prost_reflect_dynamic.specs.declared.message.DynamicMessage.{DynamicMessage}
-use Rattle.prost_reflect_dynamic.specs.declared.message.present.PresentNumber.{PresentNumber}
-use Rattle.prost_reflect_dynamic.specs.declared.value.Value.{Value}
-use Rattle.prost_reflect_fields.specs.Items.{IsAscending, item_at}
-use Rattle.prost_reflect_fields.specs.Known.{known_of}
-use Rattle.prost_reflect_fields.specs.FieldSlots.{value_in, records_in}
-use Rattle.prost_reflect_dynamic.specs.View.{value_of, content_of, message_type_of, stored_in, entries_from, payloads_of}
-use Rattle.prost_reflect_dynamic.specs.Present.{slot_present, present_in, kept_slot, entry_present}
-use Rattle.prost_reflect_fields.proofs.ItemChanges.{apart_of, itself}
+use Rattle.std.specs.Prelude.{◌≡◌, ◌||◌, ◌++◌, ◌+◌, ◌≤◌, ◌<◌, ◌∷◌}
+use Rattle.prost_reflect_dynamic.proofs.Common.{ℕ, zero, suc, Bool, true, false, cond, List, [], length, nat_lt, Option, Some, unwrap_or, refl, ap, ap₂, sym, ◌∙◌, append-nil, arith, flat_map, ltb-true, ltb-false, ne_eqb, option_map, option_and_then, is_eq, IsStrictlySortedBy, keys_of, Field, Entries, Slot, slot_at, numbers_in, entries_of, kept, kept_entries, Ascending, is_in, not_in, entries_ascending, slot_outside, FieldSlot, DynamicMessage, PresentNumber, Value, IsAscending, item_at, known_of, value_in, records_in, value_of, content_of, message_type_of, stored_in, entries_from, payloads_of, slot_present, present_in, kept_slot, entry_present, apart_of, itself}
 use Rattle.prost_reflect_dynamic.proofs.Views.{shown, content_of_message}
 use Rattle.prost_reflect_dynamic.proofs.Slots.{keys_ascending, not_among}
 use Rattle.prost_reflect_dynamic.proofs.Stored.{slot_stored}

@@ -1,39 +1,12 @@
 -- What a message has as one list, slot by slot, and what a walk over it gives.
-use Rattle.std.proofs.Common.{◌≡◌, ℕ, Bool, true, false, cond, List, [], ◌∷◌, ◌++◌, Option, Some, None, Bor, refl, ap, ap₂, sym, subst, ◌∙◌, append-nil, true≢false}
-use Rattle.std.proofs.lemmas.Bool.{and_parts}
-use Rattle.std.specs.Bool.{beq}
-use Rattle.std.specs.List.{AllByRecursion}
-use Rattle.std.specs.Map.{keys_of}
-use Rattle.std.specs.Option.{is_some, option_and_then, option_map, option_to_list}
-use Rattle.std.specs.Prelude.{flat_map, Result, IfOk, IfSome}
-use Rattle.std.specs.declared.alloc.AllocError.{AllocError}
-use Rattle.std.specs.declared.result.Result.TheVariants.{Ok, Err}
+use Rattle.std.specs.Prelude.{◌≡◌, ◌∷◌, ◌++◌}
+use Rattle.prost_reflect_dynamic.proofs.Common.{ℕ, Bool, true, false, cond, List, [], Option, Some, None, Bor, refl, ap, ap₂, sym, subst, ◌∙◌, append-nil, true≢false, and_parts, beq, AllByRecursion, keys_of, is_some, option_and_then, option_map, option_to_list, flat_map, Result, IfOk, IfSome, AllocError, Ok, Err, Record, Field, field_of, passes, kept, kept_inside, kept_value, is_field_default, records_of, UnknownFieldSet, PooledType, FieldSlot, records_in, stored_at, unknown_at, unknown_in, value_in, IsAscending, item_at, known_of, is_known, is_listed, all_kept, are_records_of, IsSound, unknown_kept, has_at, had_at, saying, GivesNext, present_in, unknown_present, value_present, PresentItem, FieldItem, ExtensionItem, UnknownItem, items_of, present_items, unknown_items, value_or, value_items, slot_items, all_items, present_left, present_steps, waiting_items, IsItem, IsOwn, NestsInside, value_of, content_of, message_type_of, stored_in, payloads_of, EachGiven, DynamicMessage, PresentNumber, Value}
 use Rattle.prost_reflect_wire.specs.Content as contents
-use Rattle.prost_reflect_wire.specs.Record.{Record}
-use Rattle.prost_reflect_wire.specs.Schema.{Field, field_of, passes}
-use Rattle.prost_reflect_wire.specs.Typing.{kept, kept_inside, kept_value, is_field_default}
-use Rattle.prost_reflect_wire.specs.Unknown.{records_of}
-use Rattle.prost_reflect_wire.specs.declared.unknown.UnknownFieldSet.{UnknownFieldSet}
-use Rattle.prost_reflect_pool.specs.declared.pooled_type.PooledType.{PooledType}
-use Rattle.prost_reflect_fields.specs.declared.slot.FieldSlot.{FieldSlot}
 use Rattle.prost_reflect_fields.specs.declared.slot.FieldSlot.TheVariants as entries
-use Rattle.prost_reflect_fields.specs.FieldSlots.{records_in, stored_at, unknown_at, unknown_in, value_in}
-use Rattle.prost_reflect_fields.specs.Items.{IsAscending, item_at}
-use Rattle.prost_reflect_fields.specs.Known.{known_of, is_known, is_listed, all_kept, are_records_of}
-use Rattle.prost_reflect_fields.specs.Sound.{IsSound, unknown_kept}
-use Rattle.prost_reflect_dynamic.specs.Access.{has_at, had_at, saying}
-use Rattle.prost_reflect_dynamic.specs.Places.{GivesNext}
-use Rattle.prost_reflect_dynamic.specs.Present.{present_in, unknown_present, value_present}
-use Rattle.prost_reflect_dynamic.specs.PresentWalks.{PresentItem, FieldItem, ExtensionItem, UnknownItem, items_of, present_items, unknown_items, value_or, value_items, slot_items, all_items, present_left, present_steps, waiting_items, IsItem, IsOwn, NestsInside}
-use Rattle.prost_reflect_dynamic.specs.View.{value_of, content_of, message_type_of, stored_in, payloads_of}
-use Rattle.prost_reflect_dynamic.specs.Walks.{EachGiven}
-use Rattle.prost_reflect_dynamic.specs.declared.message.DynamicMessage.{DynamicMessage}
 use Rattle.prost_reflect_dynamic.specs.declared.message.lists.present_items.Present.{Present}
 use Rattle.prost_reflect_dynamic.specs.declared.message.lists.present_items.Present.TheVariants as given
 use Rattle.prost_reflect_dynamic.specs.declared.message.lists.present_items.PresentItems.{PresentItems}
-use Rattle.prost_reflect_dynamic.specs.declared.message.present.PresentNumber.{PresentNumber}
 use Rattle.prost_reflect_dynamic.specs.declared.message.present.PresentNumber.TheVariants.{Field as FieldNumber, Extension as ExtensionNumber, Unknown as UnknownNumber}
-use Rattle.prost_reflect_dynamic.specs.declared.value.Value.{Value}
 use Rattle.prost_reflect_dynamic.proofs.Depths.{Small, flat, had_small}
 use Rattle.prost_reflect_dynamic.proofs.Had.{had_found}
 use Rattle.prost_reflect_dynamic.proofs.PresentNumbers.{by_keys, present_of_item, present_items as numbers_of_items}

@@ -1,25 +1,10 @@
 -- What is read of an encoding; which contents have it.
-use Rattle.std.proofs.Common.{◌≡◌, ℕ, ◌<◌, ◌^◌, true, List, length, Some, ap, sym, ◌∙◌, subst}
-use Rattle.std.specs.Prelude.{◌↔◌}
-use Rattle.prost_reflect_wire.specs.Varint.{AreBytes}
-use Rattle.prost_reflect_wire.specs.Schema.{Schema, schema_valid}
-use Rattle.prost_reflect_wire.specs.Content.{Content, schema_of, type_of}
-use Rattle.prost_reflect_wire.specs.Grammar.{LEVEL_LIMIT}
-use Rattle.prost_reflect_wire.specs.Meaning.{decoded}
-use Rattle.prost_reflect_wire.specs.Writing.{encoded}
-use Rattle.prost_reflect_wire.specs.Typing.{kept, WellStored}
+use Rattle.std.specs.Prelude.{◌≡◌, ◌<◌, ◌^◌, ◌↔◌}
+use Rattle.prost_reflect_dynamic.proofs.Common.{ℕ, true, List, length, Some, ap, sym, ◌∙◌, subst, AreBytes, Schema, schema_valid, Content, schema_of, type_of, LEVEL_LIMIT, decoded, encoded, kept, WellStored, kept_schema, kept_type, kept_well, schema_is_valid, schema_at, type_at, pool_rows, MessageDescriptor, schema_named, DynamicMessage, content_of, message_type_of}
 use Rattle.prost_reflect_laws.specs.Laws.{Spellable, Writable}
-use Rattle.prost_reflect_laws.proofs.Kept.{kept_schema, kept_type, kept_well}
 use Rattle.prost_reflect_laws.proofs.RoundTrip.{round_trip, written_accepted}
 use Rattle.prost_reflect_laws.proofs.Eased.{fitting_canonicity}
 use Rattle.prost_reflect_laws.proofs.NormalForms.{DecodedFrom, decoded_from, decoded_well, meaning_schema, meaning_type, normal_form}
-use Rattle.prost_reflect_tables.proofs.Keeping.{schema_is_valid}
-use Rattle.prost_reflect_pool.specs.MessageTypes.{schema_at, type_at}
-use Rattle.prost_reflect_pool.specs.SharedPools.{pool_rows}
-use Rattle.prost_reflect_dynamic.specs.declared.descriptor.message.MessageDescriptor.{MessageDescriptor}
-use Rattle.prost_reflect_dynamic.specs.Named.{schema_named}
-use Rattle.prost_reflect_dynamic.specs.declared.message.DynamicMessage.{DynamicMessage}
-use Rattle.prost_reflect_dynamic.specs.View.{content_of, message_type_of}
 use Rattle.prost_reflect_dynamic.specs.ReadBack.{ReadsBack, IsOnlyOf, MeansSame}
 use Rattle.prost_reflect_dynamic.proofs.Merging.{valid_in}
 use Rattle.prost_reflect_dynamic.proofs.NestedReads.{schema_in, type_in}

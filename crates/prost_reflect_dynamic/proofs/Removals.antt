@@ -1,23 +1,9 @@
 -- What is left of a content whose values or unknown records are removed.
-use Rattle.std.proofs.Common.{◌≡◌, ℕ, Bool, true, false, cond, nat_eq, List, [], ◌∷◌, Option, Some, None, refl, ap, sym, subst, ◌∙◌, arith}
-use Rattle.std.specs.List.{list_all}
-use Rattle.std.proofs.lemmas.Bool.{and_parts}
-use Rattle.prost_reflect_wire.specs.Record.{Payload}
-use Rattle.prost_reflect_wire.specs.Schema.{Field, Schema, known, field_of, numbers_differ, passes}
-use Rattle.prost_reflect_wire.specs.Content.{Content, ContentOf, Entries, NoEntries, Stored, Unknown, Value, Slot, empty, value_at, slot_at, insert_number, numbers_in, table, store, then_value, then_unknowns, schema_of, type_of, entries_of, entries_ordered}
-use Rattle.prost_reflect_wire.specs.Typing.{kept, kept_entries, kept_inside, kept_value, fit_test, alone_test, value_passes, value_valid, encodable, WellStored}
-use Rattle.prost_reflect_wire.specs.Edit.{with_value, cleared}
-use Rattle.prost_reflect_wire.proofs.Numbers.{Ascending, empty_slot, insert_ascending, entries_ascending, slot_outside, slot_table}
-use Rattle.prost_reflect_laws.proofs.Arranged.{OrderedOption, table_ordered}
-use Rattle.prost_reflect_laws.proofs.Slots.{table_passes, members_apart, apart_members}
-use Rattle.prost_reflect_laws.proofs.StoredPasses.{ByItself, OptionPasses, SlotPasses, passes_slots}
+use Rattle.std.specs.Prelude.{◌≡◌, ◌∷◌}
+use Rattle.prost_reflect_dynamic.proofs.Common.{ℕ, Bool, true, false, cond, nat_eq, List, [], Option, Some, None, refl, ap, sym, subst, ◌∙◌, arith, list_all, and_parts, Payload, Field, Schema, known, field_of, numbers_differ, passes, Content, ContentOf, Entries, NoEntries, Stored, Unknown, Slot, empty, value_at, slot_at, insert_number, numbers_in, table, store, then_value, then_unknowns, schema_of, type_of, entries_of, entries_ordered, kept, kept_entries, kept_inside, kept_value, fit_test, alone_test, value_passes, value_valid, encodable, WellStored, with_value, cleared, Ascending, empty_slot, insert_ascending, entries_ascending, slot_outside, slot_table, OrderedOption, table_ordered, table_passes, members_apart, apart_members, ByItself, OptionPasses, SlotPasses, passes_slots, value_in_order, value_cleared, entries_without, values_taken, in_entries, Arranged, without_unknown, is_listed}
+use Rattle.prost_reflect_wire.specs.Content.{Value}
 use Rattle.prost_reflect_laws.proofs.StoredSound.{inside_value}
-use Rattle.prost_reflect_laws.proofs.StoredSteps.{value_in_order}
 use Rattle.prost_reflect_laws.proofs.StoredTyped.{OptionTyped, typed_values, values_typed}
-use Rattle.prost_reflect_dynamic.specs.Contents.{value_cleared, entries_without, values_taken, in_entries}
-use Rattle.prost_reflect_dynamic.specs.KeptLaws.{Arranged}
-use Rattle.prost_reflect_dynamic.specs.UnknownLists.{without_unknown}
-use Rattle.prost_reflect_fields.specs.Known.{is_listed}
 use Rattle.prost_reflect_dynamic.proofs.ContentChanges.{slot_changed}
 
 abbrev pub fits : List Field → ℕ → Value → Bool

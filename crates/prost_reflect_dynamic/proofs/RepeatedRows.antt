@@ -1,23 +1,7 @@
 -- The row of a repeated field: whether it is a list or a map, and what its records are read as.
-use Rattle.std.proofs.Common.{◌≡◌, ℕ, Bool, true, false, cond, not, Option, Some, None, refl, sym, ap, ◌∙◌, subst, true≢false}
-use Rattle.prost_reflect_wire.specs.Schema.{MessageOf, GroupOf, ValueType, Repeated, field_of, is_group, field_valid}
-use Rattle.prost_reflect_wire.specs.Edit.{message_of_kind}
-use Rattle.prost_reflect_laws.proofs.Checked.{checked_field, checked_map}
-use Rattle.prost_reflect_laws.proofs.ScalarEntries.{map_keyed}
-use Rattle.prost_reflect_tables.specs.declared.tables.TableKind.{TableKind}
+use Rattle.std.specs.Prelude.{◌≡◌}
+use Rattle.prost_reflect_dynamic.proofs.Common.{ℕ, Bool, true, false, cond, not, Option, Some, None, refl, sym, ap, ◌∙◌, subst, true≢false, MessageOf, GroupOf, ValueType, Repeated, field_of, is_group, field_valid, message_of_kind, checked_field, checked_map, map_keyed, TableKind, FieldRow, schema_kind, own_type, schema_field, is_repeated, PooledType, names_message, schema_at, known_of, map_parts, ScalarMap, MapOfRows, NestedMap, pool_rows, IsTarget, entry_target_of, repeated_target_of}
 use Rattle.prost_reflect_tables.specs.declared.tables.TableKind.TheVariants as kinds
-use Rattle.prost_reflect_tables.specs.Rows.{FieldRow}
-use Rattle.prost_reflect_tables.specs.Shown.{schema_kind, own_type, schema_field}
-use Rattle.prost_reflect_tables.specs.Linking.{is_repeated}
-use Rattle.prost_reflect_pool.specs.declared.pooled_type.PooledType.{PooledType}
-use Rattle.prost_reflect_dynamic.specs.RowKinds.{names_message}
-use Rattle.prost_reflect_pool.specs.MessageTypes.{schema_at}
-use Rattle.prost_reflect_fields.specs.Known.{known_of}
-use Rattle.prost_reflect_pool.specs.MapParts.{map_parts}
-use Rattle.prost_reflect_dynamic.specs.Maps.{ScalarMap, MapOfRows}
-use Rattle.prost_reflect_dynamic.specs.NestedMaps.{NestedMap}
-use Rattle.prost_reflect_pool.specs.SharedPools.{pool_rows}
-use Rattle.prost_reflect_dynamic.specs.Targets.{IsTarget, entry_target_of, repeated_target_of}
 use Rattle.prost_reflect_dynamic.proofs.RowKinds.{no_map}
 use Rattle.prost_reflect_dynamic.proofs.Described.{found_checked, named_in_range}
 use Rattle.prost_reflect_dynamic.proofs.ElementReads.{element_target_is}

@@ -1,19 +1,8 @@
 -- Kinds as the rows and as the schema have them, and which rows are maps.
-use Rattle.std.proofs.Common.{◌≡◌, ℕ, Bool, true, false, cond, List, [], ◌∷◌, Option, Some, None, refl, sym, subst, true≢false}
-use Rattle.std.specs.Prelude.{slice_get}
-use Rattle.prost_reflect_wire.specs.Schema.{ScalarOf, is_message}
-use Rattle.prost_reflect_wire.specs.Edit.{message_of_kind}
-use Rattle.prost_reflect_tables.specs.declared.tables.Cardinality.{Cardinality}
+use Rattle.std.specs.Prelude.{◌≡◌, ◌∷◌}
+use Rattle.prost_reflect_dynamic.proofs.Common.{ℕ, Bool, true, false, cond, List, [], Option, Some, None, refl, sym, subst, true≢false, slice_get, ScalarOf, is_message, message_of_kind, Cardinality, TableKind, FieldRow, MessageRow, EnumRow, TableRows, is_linked, has_entry_numbers, schema_kind, enum_kind, map_entry, entry_or_none, entry_at, entry_keeps, two_of, entry_parts, map_parts, is_plain, is_plain_kind, names_message, nested_kind}
 use Rattle.prost_reflect_tables.specs.declared.tables.Cardinality.TheVariants.{Optional, Required, Repeated}
-use Rattle.prost_reflect_tables.specs.declared.tables.TableKind.{TableKind}
 use Rattle.prost_reflect_tables.specs.declared.tables.TableKind.TheVariants.{Message, Enum}
-use Rattle.prost_reflect_tables.specs.Rows.{FieldRow, MessageRow, EnumRow, TableRows}
-use Rattle.prost_reflect_tables.specs.Linked.{is_linked, has_entry_numbers}
-use Rattle.prost_reflect_tables.specs.Shown.{schema_kind, enum_kind, map_entry, entry_or_none, entry_at}
-use Rattle.prost_reflect_tables.proofs.Keeping.{entry_keeps}
-use Rattle.prost_reflect_pool.specs.MapParts.{two_of, entry_parts, map_parts}
-use Rattle.prost_reflect_dynamic.specs.RowKinds.{is_plain, is_plain_kind, names_message}
-use Rattle.prost_reflect_dynamic.specs.Targets.{nested_kind}
 
 pub message_kind : (enums : List EnumRow) (kind : TableKind) (g : Bool) → is_message (schema_kind enums kind g) ≡ names_message kind
 message_kind enums (Message T) true = refl

@@ -1,19 +1,8 @@
 -- A payload of a scalar kind, read as a value.
-use Rattle.std.proofs.Common.{◌≡◌, ℕ, false, cond, List, Option, Some, None, refl, sym, ap, ◌∙◌}
-use Rattle.std.specs.Str.{is_utf8, IsUtf8}
+use Rattle.std.specs.Prelude.{◌≡◌}
+use Rattle.prost_reflect_dynamic.proofs.Common.{ℕ, false, cond, List, Option, Some, None, refl, sym, ap, ◌∙◌, is_utf8, IsUtf8, false_from_ne_true, option_map, option_and_then, WireType, Plain, Len, Flat, plain_wire, PlainFront, Scalar, Text, ScalarKind, elem, ScalarValue, TableKind, Value, value_of, plain_kind, IsElement, ReadsScalar}
 use Rattle.std.proofs.lemmas.Str.{IsUtf8-from_is_utf8, is_utf8-from_IsUtf8}
-use Rattle.std.proofs.lemmas.Bool.{false_from_ne_true}
-use Rattle.std.specs.Prelude.{option_map, option_and_then}
-use Rattle.prost_reflect_wire.specs.declared.key.WireType.{WireType}
-use Rattle.prost_reflect_wire.specs.Record.{Plain, Len, Flat, plain_wire}
-use Rattle.prost_reflect_wire.specs.Front.{PlainFront}
-use Rattle.prost_reflect_wire.specs.Scalar.{Scalar, Text, ScalarKind, elem}
-use Rattle.prost_reflect_wire.specs.Content.{ScalarValue}
-use Rattle.prost_reflect_tables.specs.declared.tables.TableKind.{TableKind}
 use Rattle.prost_reflect_tables.specs.declared.tables.TableKind.TheVariants as kinds
-use Rattle.prost_reflect_dynamic.specs.declared.value.Value.{Value}
-use Rattle.prost_reflect_dynamic.specs.View.{value_of}
-use Rattle.prost_reflect_dynamic.specs.Scalars.{plain_kind, IsElement, ReadsScalar}
 
 pub reads_element : (kind : TableKind) (w : WireType) (v : Value) (plain : Plain) (bytes rest : List ℕ) → IsElement kind (Flat plain) v → plain_wire plain ≡ w → PlainFront plain bytes rest → ReadsScalar kind w v bytes rest
 reads_element kind w v plain bytes rest is wire front = by_kind (plain_kind kind) refl is

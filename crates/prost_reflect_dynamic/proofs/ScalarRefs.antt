@@ -1,19 +1,9 @@
 -- Scalars that are borrowed from values.
-use Rattle.std.proofs.Common.{◌≡◌, true, false, Bool, IsTrue, List, Option, Some, None, refl, ap, sym, ◌∙◌, subst, true≢false}
-use Rattle.std.specs.Prelude.{◌↔◌, IsSome, IsSomeAnd}
-use Rattle.prost_reflect_wire.specs.Scalar.{Scalar, ScalarKind, StringKind, BytesKind, kind_default, scalar_eq}
-use Rattle.prost_reflect_wire.specs.Deciding.{scalar_decides}
-use Rattle.prost_reflect_wire.specs.Schema.{Kind, ScalarOf, MessageOf, GroupOf}
-use Rattle.prost_reflect_wire.specs.Content.{Value, ScalarValue, MessageValue, ListValue, MapValue}
-use Rattle.prost_reflect_wire.specs.Typing.{element_valid}
-use Rattle.prost_reflect_tables.specs.declared.tables.TableKind.{TableKind}
+use Rattle.std.specs.Prelude.{◌≡◌, ◌↔◌}
+use Rattle.prost_reflect_dynamic.proofs.Common.{true, false, Bool, IsTrue, List, Option, Some, None, refl, ap, sym, ◌∙◌, subst, true≢false, IsSome, IsSomeAnd, Scalar, ScalarKind, StringKind, BytesKind, kind_default, scalar_eq, scalar_decides, Kind, ScalarOf, MessageOf, GroupOf, ScalarValue, MessageValue, ListValue, MapValue, element_valid, TableKind, EnumRow, schema_kind, schema_default, IsKindDefault, value_of, plain_kind, scalar_in, IsScalar, IsBlank, TakesScalar}
+use Rattle.prost_reflect_wire.specs.Content.{Value}
 use Rattle.prost_reflect_tables.specs.declared.tables.TableKind.TheVariants as kinds
-use Rattle.prost_reflect_tables.specs.Rows.{EnumRow}
-use Rattle.prost_reflect_tables.specs.Shown.{schema_kind, schema_default}
 use Rattle.prost_reflect_dynamic.specs.declared.value.Value.{Value as OwnedValue}
-use Rattle.prost_reflect_dynamic.specs.Maps.{IsKindDefault}
-use Rattle.prost_reflect_dynamic.specs.View.{value_of}
-use Rattle.prost_reflect_dynamic.specs.Scalars.{plain_kind, scalar_in, IsScalar, IsBlank, TakesScalar}
 
 -- a value of a scalar kind is a scalar
 pub takes_scalar : (kind : TableKind) (v : Value) → TakesScalar kind v → IsScalar v

@@ -1,21 +1,10 @@
 -- A value set at a path of what is stored.
-use Rattle.std.proofs.Common.{◌≡◌, ℕ, true, List, [], ◌∷◌, Option, Some, None, ap, sym, ◌∙◌, subst}
-use Rattle.std.specs.Prelude.{unwrap_or}
-use Rattle.std.proofs.lemmas.Bool.{and_from}
-use Rattle.prost_reflect_wire.specs.Schema.{ValueType, Kind, ScalarOf, MessageOf, GroupOf, Singular, Field, Schema, known, field_of, is_singular, schema_valid}
-use Rattle.prost_reflect_wire.specs.Content.{Content, ContentOf, Entries, Value, MessageValue, empty, schema_of, type_of, entries_of, value_at}
-use Rattle.prost_reflect_wire.specs.Typing.{kept, kept_inside, kept_value, value_valid, ValueStored, WellStored}
-use Rattle.prost_reflect_wire.specs.Edit.{with_field_value, set_field, default_of, default_value, value_or_default, in_message, set_at, message_of_kind}
-use Rattle.prost_reflect_wire.specs.Decoding.{Holds}
-use Rattle.prost_reflect_wire.proofs.Survivors.{field_number}
-use Rattle.prost_reflect_laws.proofs.Checked.{known_differ, known_valid, found_valid}
+use Rattle.std.specs.Prelude.{◌≡◌, ◌∷◌}
+use Rattle.prost_reflect_dynamic.proofs.Common.{ℕ, true, List, [], Option, Some, None, ap, sym, ◌∙◌, subst, unwrap_or, and_from, ValueType, Kind, ScalarOf, MessageOf, GroupOf, Singular, Field, Schema, known, field_of, is_singular, schema_valid, Content, ContentOf, Entries, MessageValue, empty, schema_of, type_of, entries_of, value_at, kept, kept_inside, kept_value, value_valid, ValueStored, WellStored, with_field_value, set_field, default_of, default_value, value_or_default, in_message, set_at, message_of_kind, Holds, field_number, known_differ, known_valid, found_valid, kept_well, kept_content, message_kind, is_its_type, value_set, IsSetAt}
+use Rattle.prost_reflect_wire.specs.Content.{Value}
 use Rattle.prost_reflect_laws.proofs.FieldTypes.{typed_field}
 use Rattle.prost_reflect_laws.proofs.JoinedSteps.{value_sound}
-use Rattle.prost_reflect_laws.proofs.Kept.{kept_well, kept_content}
-use Rattle.prost_reflect_laws.proofs.MessageSteps.{message_kind, is_its_type}
 use Rattle.prost_reflect_laws.proofs.Rebuilt.{rebuilt}
-use Rattle.prost_reflect_dynamic.specs.Contents.{value_set}
-use Rattle.prost_reflect_dynamic.specs.Paths.{IsSetAt}
 use Rattle.prost_reflect_dynamic.proofs.KeptSlots.{kept_after_set, kept_after_writing}
 
 own_number : (fields : List Field) (n : ℕ) (f : Field) → field_of fields n ≡ Some f → field_of fields f.number ≡ Some f

@@ -1,19 +1,9 @@
 -- The slots of the entries that a list of stored entries shows.
-use Rattle.std.proofs.Common.{◌≡◌, ℕ, suc, ◌+◌, ◌≤◌, false, cond, nat_eq, List, [], ◌∷◌, length, Option, Some, None, refl, ap, ap₂, sym, ◌∙◌, subst, arith, true≢false}
-use Rattle.std.proofs.lemmas.Bool.{ne_eqb, eqb-false, or_parts}
+use Rattle.std.specs.Prelude.{◌≡◌, ◌+◌, ◌≤◌, ◌∷◌}
+use Rattle.prost_reflect_dynamic.proofs.Common.{ℕ, suc, false, cond, nat_eq, List, [], length, Option, Some, None, refl, ap, ap₂, sym, ◌∙◌, subst, arith, true≢false, ne_eqb, eqb-false, or_parts, nat_cmp, is_eq, Less, AllByRecursion, IsStrictlySortedBy, keys_of, Entries, Slot, slot_at, store, table, insert_number, numbers_in, changed, Ascending, is_in, Covers, empty_slot, table_same, table_covers, slots_same, value_apart, unknowns_apart, value_here, unknowns_here, insert_ascending, entries_ascending, in_insert, slot_outside, FieldSlot, IsAscending, item_at, slot_of, entries_from, Apart, by_number, none_above, itself}
 use Rattle.std.proofs.lemmas.Grind.{common_steps}
-use Rattle.std.specs.Ordering.{nat_cmp, is_eq}
-use Rattle.std.specs.declared.cmp.Ordering.TheVariants.{Less}
-use Rattle.std.specs.List.{AllByRecursion}
-use Rattle.std.specs.List.Sorted.{IsStrictlySortedBy}
-use Rattle.std.specs.Map.{keys_of}
-use Rattle.prost_reflect_wire.specs.Content.{Entries, Value, Slot, slot_at, store, table, insert_number, numbers_in, changed}
-use Rattle.prost_reflect_wire.proofs.Numbers.{Ascending, is_in, Covers, empty_slot, table_same, table_covers, slots_same, value_apart, unknowns_apart, value_here, unknowns_here, insert_ascending, entries_ascending, in_insert, slot_outside}
+use Rattle.prost_reflect_wire.specs.Content.{Value}
 use Rattle.prost_reflect_laws.proofs.Rebuilt.{table_from}
-use Rattle.prost_reflect_fields.specs.declared.slot.FieldSlot.{FieldSlot}
-use Rattle.prost_reflect_fields.specs.Items.{IsAscending, item_at}
-use Rattle.prost_reflect_dynamic.specs.View.{slot_of, entries_from}
-use Rattle.prost_reflect_fields.proofs.ItemChanges.{Apart, by_number, none_above, itself}
 
 abbrev pub slot_in : Option (FieldSlot Value) → Slot
 slot_in None = empty_slot

@@ -1,32 +1,9 @@
 -- The content of what is stored, and what each change makes of it.
-use Rattle.std.proofs.Common.{◌≡◌, ℕ, Bool, true, false, cond, ◌++◌, nat_eq, List, [], ◌∷◌, Option, Some, None, refl, ap, sym, ◌∙◌, subst, unwrap_or}
-use Rattle.std.proofs.lemmas.Bool.{eqb-true, eqb-false}
-use Rattle.std.specs.Option.{option_map, option_and_then, is_some}
-use Rattle.std.specs.Ordering.{nat_cmp}
-use Rattle.std.specs.BTreeMap.{is_at}
-use Rattle.std.specs.List.Sorted.{IsStrictlySortedBy}
-use Rattle.std.specs.Map.{keys_of}
-use Rattle.prost_reflect_wire.specs.Record.{Record}
-use Rattle.prost_reflect_wire.specs.Schema.{Field, known, field_of, is_sibling, passes}
+use Rattle.std.specs.Prelude.{◌≡◌, ◌++◌, ◌∷◌}
+use Rattle.prost_reflect_dynamic.proofs.Common.{ℕ, Bool, true, false, cond, nat_eq, List, [], Option, Some, None, refl, ap, sym, ◌∙◌, subst, unwrap_or, eqb-true, eqb-false, option_map, option_and_then, is_some, nat_cmp, is_at, IsStrictlySortedBy, keys_of, Record, Field, known, field_of, is_sibling, passes, Content, ContentOf, Entries, Slot, slot_at, changed, entries_of, with_value, with_field_value, cleared, empty_slot, slots_same, eqb-sym, field_number, FieldSlot, PooledType, DynamicMessage, Value, roll-DynamicMessage, schema_at, type_at, IsAscending, item_at, known_of, is_known, are_siblings, Sound, set_value_at, prepared, value_of, content_of, entries_from, payloads_of, overwritten_at, written_at, value_set, value_cleared, with_unknown, unknown_added, value_without, records_without, ascending_without_values, ascending_put}
 use Rattle.prost_reflect_wire.specs.Content as contents
-use Rattle.prost_reflect_wire.specs.Content.{Content, ContentOf, Entries, Slot, slot_at, changed, entries_of}
-use Rattle.prost_reflect_wire.specs.Edit.{with_value, with_field_value, cleared}
-use Rattle.prost_reflect_wire.proofs.Numbers.{empty_slot, slots_same, eqb-sym}
-use Rattle.prost_reflect_wire.proofs.Survivors.{field_number}
-use Rattle.prost_reflect_fields.specs.declared.slot.FieldSlot.{FieldSlot}
 use Rattle.prost_reflect_fields.specs.declared.slot.FieldSlot.TheVariants as entries
-use Rattle.prost_reflect_pool.specs.declared.pooled_type.PooledType.{PooledType}
-use Rattle.prost_reflect_dynamic.specs.declared.message.DynamicMessage.{DynamicMessage}
-use Rattle.prost_reflect_dynamic.specs.declared.value.Value.{Value}
-use Rattle.prost_reflect_dynamic.specs.declared.value.Value.TheViews.{roll-DynamicMessage}
-use Rattle.prost_reflect_pool.specs.MessageTypes.{schema_at, type_at}
-use Rattle.prost_reflect_fields.specs.Items.{IsAscending, item_at}
-use Rattle.prost_reflect_fields.specs.Known.{known_of, is_known, are_siblings}
 use Rattle.prost_reflect_fields.specs.FieldSlots.{value_in, records_in, stored_at, records_at, has_value, put_value, clear_value, with_value as with_value_at, SameStored, UnknownAdded}
-use Rattle.prost_reflect_fields.specs.Sound.{Sound, set_value_at, prepared}
-use Rattle.prost_reflect_dynamic.specs.View.{value_of, content_of, entries_from, payloads_of, overwritten_at, written_at}
-use Rattle.prost_reflect_dynamic.specs.Contents.{value_set, value_cleared, with_unknown, unknown_added}
-use Rattle.prost_reflect_fields.proofs.SlotChanges.{value_without, records_without, ascending_without_values, ascending_put}
 use Rattle.prost_reflect_fields.proofs.SoundChanges.{value_set_at, records_set_at, ascending_set_at, written_is_set, value_set as value_set_here}
 use Rattle.prost_reflect_dynamic.proofs.Views.{shown, shown_entry, content_of_message, content_of_roll}
 use Rattle.prost_reflect_dynamic.proofs.Slots.{slot_in, slot_from, same_slots_same, changed_from}

@@ -1,26 +1,10 @@
 -- The content of a message follows from what it stores.
-use Rattle.std.proofs.Common.{◌≡◌, ℕ, List, [], ◌∷◌, map, Some, None, refl, ap, ap₂, sym, ◌∙◌, subst}
-use Rattle.std.specs.Prelude.{Result, Ok, Err, IfOk, MatchResult}
-use Rattle.std.specs.declared.alloc.AllocError.{AllocError}
+use Rattle.std.specs.Prelude.{◌≡◌, ◌∷◌}
+use Rattle.prost_reflect_dynamic.proofs.Common.{ℕ, List, [], map, Some, None, refl, ap, ap₂, sym, ◌∙◌, subst, Result, Ok, Err, IfOk, MatchResult, AllocError, items, records_of, Content, ContentOf, Entries, NoEntries, Values, NoValues, Item, Pairs, Pair, ScalarValue, MessageValue, ListValue, MapValue, values_from, store, items_body, schema_from, pool_rows, value_step, message_step, value_of, content_of, entries_from, pairs_from, payloads_of, key_of, StoredMessage, StoredEntries, NothingStored, ValueAt, UnknownAt, BothAt, StoredValue, StoredScalar, StoredInside, StoredList, StoredMap, StoredItems, NoItems, ItemThen, StoredPairs, PairThen, stored_items, stored_pairs, stored_entries, stored_step, stored_message_step, value_stored, message_stored, FieldSlot, MapKey, Value, Value-F, DynamicMessage-F, fold-roll-Value, fold-roll-DynamicMessage, ind-Value, ind-DynamicMessage, map-Value, map-DynamicMessage, DynamicMessage, slot_former, SameStored, SameStoring}
 use mathlib.Core.Former.{this}
-use Rattle.prost_reflect_wire.specs.Record.{items}
-use Rattle.prost_reflect_wire.specs.Unknown.{records_of}
 use Rattle.prost_reflect_wire.specs.Content as contents
-use Rattle.prost_reflect_wire.specs.Content.{Content, ContentOf, Entries, NoEntries, Values, NoValues, Item, Pairs, Pair, ScalarValue, MessageValue, ListValue, MapValue, values_from, store}
-use Rattle.prost_reflect_wire.proofs.Bodies.{items_body}
-use Rattle.prost_reflect_tables.specs.Shown.{schema_from}
-use Rattle.prost_reflect_pool.specs.SharedPools.{pool_rows}
-use Rattle.prost_reflect_dynamic.specs.View.{value_step, message_step, value_of, content_of, entries_from, pairs_from, payloads_of, key_of}
-use Rattle.prost_reflect_dynamic.specs.Stored.{StoredMessage, MessageOf, StoredEntries, NothingStored, ValueAt, UnknownAt, BothAt, StoredValue, StoredScalar, StoredInside, StoredList, StoredMap, StoredItems, NoItems, ItemThen, StoredPairs, NoPairs, PairThen, stored_items, stored_pairs, stored_entries, stored_step, stored_message_step, value_stored, message_stored}
-use Rattle.prost_reflect_fields.specs.declared.slot.FieldSlot.{FieldSlot}
+use Rattle.prost_reflect_dynamic.specs.Stored.{MessageOf, NoPairs}
 use Rattle.prost_reflect_fields.specs.declared.slot.FieldSlot.TheVariants as entries
-use Rattle.prost_reflect_dynamic.specs.declared.value.MapKey.{MapKey}
-use Rattle.prost_reflect_dynamic.specs.declared.value.Value.{Value}
-use Rattle.prost_reflect_dynamic.specs.declared.value.Value.TheOpen.{Value-F, DynamicMessage-F}
-use Rattle.prost_reflect_dynamic.specs.declared.value.Value.TheFolds.{fold-roll-Value, fold-roll-DynamicMessage, ind-Value, ind-DynamicMessage, map-Value, map-DynamicMessage}
-use Rattle.prost_reflect_dynamic.specs.declared.message.DynamicMessage.{DynamicMessage}
-use Rattle.prost_reflect_fields.specs.formers.field_set.FieldSet.{slot_former}
-use Rattle.prost_reflect_dynamic.specs.Copies.{SameStored, SameStoring}
 use Rattle.prost_reflect_dynamic.proofs.StoredViews.{same_types}
 
 -- CONTENTS OF WHAT IS STORED

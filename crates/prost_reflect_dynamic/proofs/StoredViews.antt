@@ -1,43 +1,16 @@
 -- What values and messages store, by variant, and the content that follows from it.
-use Rattle.std.proofs.Common.{◌≡◌, ℕ, Bool, true, false, not, ◌&&◌, nat_eq, List, [], ◌∷◌, map, refl, ap, ap₂, sym, subst, ◌∙◌, string_bytes, true≢false}
-use Rattle.std.proofs.lemmas.Bool.{ne_eqb}
-use Rattle.std.proofs.lemmas.Bool.Decides.{Decides-and}
-use Rattle.std.specs.Bool.{Decides}
-use Rattle.std.specs.declared.alloc.Global.{Global}
-use Rattle.std.specs.Prelude.{◌↔◌, IsTrue, Vec, String as Text}
-use Rattle.std.specs.BTreeMap.{BTreeMap}
-use Rattle.std.specs.Cmp.{unsigned_Decides}
+use Rattle.std.specs.Prelude.{◌≡◌, ◌&&◌, ◌∷◌, ◌↔◌, String as Text}
+use Rattle.prost_reflect_dynamic.proofs.Common.{ℕ, Bool, true, false, not, nat_eq, List, [], map, refl, ap, ap₂, sym, subst, ◌∙◌, string_bytes, true≢false, ne_eqb, Decides-and, Decides, Global, IsTrue, Vec, BTreeMap, unsigned_Decides, scalar_eq, body_of, records_of, Content, TableRows, rows_eq, pool_rows, pool_contents, contents_eq, contents_decide, SameMessage, rows_follow, PooledType, FieldSlot, MapKey, Value, Value-F, DynamicMessage-F, roll-Value, roll-DynamicMessage, fold-roll-Value, fold-roll-DynamicMessage, fold_out-DynamicMessage, DynamicMessage, slot_former, message_type_of, stored_in, key_of, StoredMessage, StoredEntries, NothingStored, StoredValue, StoredScalar, StoredInside, StoredList, StoredMap, ItemThen, PairThen, stored_items, stored_pairs, stored_entry, stored_entries, stored_step, stored_message_step, value_stored, message_stored, same_message, same_value, same_items, same_pairs, same_entries, equal_values, equal_messages}
 use Rattle.std.specs.Cmp.Lexicographic.{pointwise, texts_ties}
 use mathlib.Core.Former.{this}
 use denote.Hole.Carrier as Carrier
 use Rattle.prost_reflect_wire.specs.Scalar as scalars
-use Rattle.prost_reflect_wire.specs.Scalar.{scalar_eq}
 use Rattle.prost_reflect_wire.specs.Equality.{records_eq}
-use Rattle.prost_reflect_wire.specs.Record.{body_of}
-use Rattle.prost_reflect_wire.specs.Unknown.{records_of}
-use Rattle.prost_reflect_wire.specs.Content.{Content}
-use Rattle.prost_reflect_tables.specs.Rows.{TableRows}
-use Rattle.prost_reflect_tables.specs.Equality.{rows_eq}
-use Rattle.prost_reflect_pool.specs.SharedPools.{pool_rows, pool_contents}
-use Rattle.prost_reflect_pool.specs.PoolEquality.{contents_eq, contents_decide}
-use Rattle.prost_reflect_pool.specs.MessageTypes.{SameMessage}
-use Rattle.prost_reflect_pool.proofs.EqualTypes.{rows_follow}
-use Rattle.prost_reflect_pool.specs.declared.pooled_type.PooledType.{PooledType}
 use Rattle.prost_reflect_dynamic.specs.contracts.value.MapKeyPartialEq.TheImpl as key_eq
 use Rattle.prost_reflect_dynamic.proofs.Keys.{keys_equal}
-use Rattle.prost_reflect_fields.specs.declared.slot.FieldSlot.{FieldSlot}
 use Rattle.prost_reflect_fields.specs.declared.slot.FieldSlot.TheVariants as entries
-use Rattle.prost_reflect_dynamic.specs.declared.value.MapKey.{MapKey}
-use Rattle.prost_reflect_dynamic.specs.declared.value.Value.{Value}
 use Rattle.prost_reflect_dynamic.specs.declared.value.Value as values
-use Rattle.prost_reflect_dynamic.specs.declared.value.Value.TheOpen.{Value-F, DynamicMessage-F}
-use Rattle.prost_reflect_dynamic.specs.declared.value.Value.TheViews.{roll-Value, roll-DynamicMessage}
-use Rattle.prost_reflect_dynamic.specs.declared.value.Value.TheFolds.{fold-roll-Value, fold-roll-DynamicMessage, fold_out-DynamicMessage}
-use Rattle.prost_reflect_dynamic.specs.declared.message.DynamicMessage.{DynamicMessage}
-use Rattle.prost_reflect_fields.specs.formers.field_set.FieldSet.{slot_former}
-use Rattle.prost_reflect_dynamic.specs.View.{message_type_of, stored_in, key_of}
-use Rattle.prost_reflect_dynamic.specs.Stored.{StoredMessage, MessageOf, StoredEntries, NothingStored, StoredValue, StoredScalar, StoredInside, StoredList, StoredMap, ItemThen, PairThen, stored_items, stored_pairs, stored_entry, stored_entries, stored_step, stored_message_step, value_stored, message_stored}
-use Rattle.prost_reflect_dynamic.specs.Same.{same_message, same_value, same_items, same_pairs, same_entries, equal_values, equal_messages}
+use Rattle.prost_reflect_dynamic.specs.Stored.{MessageOf}
 
 -- LISTS OF VALUES
 

@@ -1,20 +1,8 @@
 -- The content that is left where the values of all fields, or of all extensions, were taken.
-use Rattle.std.proofs.Common.{◌≡◌, ℕ, Bool, true, false, cond, List, [], ◌∷◌, Some, refl, ap, sym, ◌∙◌}
-use Rattle.prost_reflect_wire.specs.Record.{Payload}
+use Rattle.std.specs.Prelude.{◌≡◌, ◌∷◌}
+use Rattle.prost_reflect_dynamic.proofs.Common.{ℕ, Bool, true, false, cond, List, [], Some, refl, ap, sym, ◌∙◌, Payload, ContentOf, Entries, store, then_unknowns, records_of, schema_at, type_at, PooledType, left_in, then_slot, without_values, known_of, is_listed, FieldSlot, entries_without, values_taken, value_of, content_of, slot_of, entries_from, payloads_of, DynamicMessage, Value, roll-DynamicMessage}
 use Rattle.prost_reflect_wire.specs.Content as contents
-use Rattle.prost_reflect_wire.specs.Content.{ContentOf, Entries, store, then_unknowns}
-use Rattle.prost_reflect_wire.specs.Unknown.{records_of}
-use Rattle.prost_reflect_pool.specs.MessageTypes.{schema_at, type_at}
-use Rattle.prost_reflect_pool.specs.declared.pooled_type.PooledType.{PooledType}
-use Rattle.prost_reflect_fields.specs.FieldSlots.{left_in, then_slot, without_values}
-use Rattle.prost_reflect_fields.specs.Known.{known_of, is_listed}
-use Rattle.prost_reflect_fields.specs.declared.slot.FieldSlot.{FieldSlot}
 use Rattle.prost_reflect_fields.specs.declared.slot.FieldSlot.TheVariants as entries
-use Rattle.prost_reflect_dynamic.specs.Contents.{entries_without, values_taken}
-use Rattle.prost_reflect_dynamic.specs.View.{value_of, content_of, slot_of, entries_from, payloads_of}
-use Rattle.prost_reflect_dynamic.specs.declared.message.DynamicMessage.{DynamicMessage}
-use Rattle.prost_reflect_dynamic.specs.declared.value.Value.{Value}
-use Rattle.prost_reflect_dynamic.specs.declared.value.Value.TheViews.{roll-DynamicMessage}
 use Rattle.prost_reflect_dynamic.proofs.Views.{shown, shown_entry, content_of_message, content_of_roll}
 use Rattle.prost_reflect_dynamic.proofs.Stored.{content_from}
 

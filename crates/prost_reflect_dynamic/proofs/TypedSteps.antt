@@ -1,38 +1,10 @@
 -- Changes of a message's slots that keep the messages inside of their fields' types.
-use Rattle.std.proofs.Common.{◌≡◌, ℕ, Bool, true, false, cond, nat_eq, List, [], ◌∷◌, Option, None, Some, refl, sym, ap, ◌∙◌, subst, unwrap_or, true≢false}
-use Rattle.std.proofs.lemmas.Bool.{and_parts, and_from, eqb-true}
-use Rattle.std.specs.Option.{option_and_then, option_map}
-use Rattle.std.specs.Ordering.{nat_cmp, is_eq}
-use Rattle.std.specs.declared.cmp.Ordering.TheVariants.{Less}
-use Rattle.std.specs.BTreeSet.{BTreeSet}
-use Rattle.std.specs.List.{AllByRecursion}
-use Rattle.std.specs.List.Sorted.{IsStrictlySortedBy}
-use Rattle.std.specs.Map.{keys_of}
-use Rattle.prost_reflect_wire.specs.Record.{Record}
-use Rattle.prost_reflect_wire.specs.Schema.{field_of, known}
-use Rattle.prost_reflect_tables.specs.Shown.{schema_from}
-use Rattle.prost_reflect_pool.specs.MessageTypes.{SameMessage}
-use Rattle.prost_reflect_pool.specs.SharedPools.{pool_contents, pool_rows}
-use Rattle.prost_reflect_pool.specs.declared.pooled_type.PooledType.{PooledType}
-use Rattle.prost_reflect_fields.specs.declared.slot.FieldSlot.{FieldSlot}
+use Rattle.std.specs.Prelude.{◌≡◌, ◌∷◌}
+use Rattle.prost_reflect_dynamic.proofs.Common.{ℕ, Bool, true, false, cond, nat_eq, List, [], Option, None, Some, refl, sym, ap, ◌∙◌, subst, unwrap_or, true≢false, and_parts, and_from, eqb-true, option_and_then, option_map, nat_cmp, is_eq, Less, BTreeSet, AllByRecursion, IsStrictlySortedBy, keys_of, Record, field_of, known, schema_from, SameMessage, pool_contents, pool_rows, PooledType, FieldSlot, IsAscending, item_at, known_of, are_siblings, value_in, stored_at, has_value, values_alone, without_values, UnknownAdded, has, AreReplaced, set_value_at, prepared, Apart, by_number, at_each, itself, none_above, ascending_with_value, ascending_without_values, value_without, value_written, value_written_apart, DynamicMessage, Value, roll-DynamicMessage, all_typed, entries_typed, value_typed, place_for, StoredEntries, StoredValue, stored_entry, stored_entries, value_stored, message_stored, typed_at, StaysTyped, message_type_of, stored_in, written_at}
 use Rattle.prost_reflect_fields.specs.declared.slot.FieldSlot.TheVariants as entries
-use Rattle.prost_reflect_fields.specs.Items.{IsAscending, item_at}
-use Rattle.prost_reflect_fields.specs.Known.{known_of, are_siblings}
-use Rattle.prost_reflect_fields.specs.FieldSlots.{value_in, stored_at, has_value, values_alone, without_values, UnknownAdded}
-use Rattle.prost_reflect_fields.specs.NumberSets.{has, AreReplaced}
-use Rattle.prost_reflect_fields.specs.Sound.{set_value_at, prepared}
-use Rattle.prost_reflect_fields.proofs.ItemChanges.{Apart, by_number, at_each, itself, none_above}
 use Rattle.prost_reflect_fields.proofs.Replaced.{values_replaced, part_replaced}
-use Rattle.prost_reflect_fields.proofs.SlotChanges.{ascending_with_value, ascending_without_values, value_without, value_written, value_written_apart}
 use Rattle.prost_reflect_fields.proofs.SoundChanges.{value_set_at, value_set, ascending_set_at}
 use Rattle.prost_reflect_fields.proofs.ValuesAlone.{ascending_alone, value_stays}
-use Rattle.prost_reflect_dynamic.specs.declared.message.DynamicMessage.{DynamicMessage}
-use Rattle.prost_reflect_dynamic.specs.declared.value.Value.{Value}
-use Rattle.prost_reflect_dynamic.specs.declared.value.Value.TheViews.{roll-DynamicMessage}
-use Rattle.prost_reflect_dynamic.specs.DeepTypes.{all_typed, entries_typed, value_typed, place_for}
-use Rattle.prost_reflect_dynamic.specs.Stored.{StoredEntries, StoredValue, stored_entry, stored_entries, value_stored, message_stored}
-use Rattle.prost_reflect_dynamic.specs.TypedSteps.{typed_at, StaysTyped}
-use Rattle.prost_reflect_dynamic.specs.View.{message_type_of, stored_in, written_at}
 use Rattle.prost_reflect_dynamic.proofs.Copied.{parts_of, message_copied}
 use Rattle.prost_reflect_dynamic.proofs.DeepTypes.{typed_message}
 use Rattle.prost_reflect_dynamic.proofs.MessageParts.{part}

@@ -1,49 +1,12 @@
 -- Values whose messages are of their fields' types: scalars, lists, maps, and messages that are read into.
-use Rattle.std.proofs.Common.{◌≡◌, ℕ, Bool, true, false, ◌&&◌, nat_eq, List, [], ◌∷◌, ◌++◌, Option, None, Some, refl, sym, ap, ◌∙◌, subst, unwrap_or, true≢false}
-use Rattle.std.specs.Prelude.{Vec}
-use Rattle.std.specs.declared.alloc.Global.{Global}
-use Rattle.std.proofs.lemmas.Bool.{and_parts, and_from, eq-eqb}
-use Rattle.std.specs.BTreeMap.{BTreeMap, insert_entry}
-use Rattle.std.specs.Option.{option_and_then, option_map, is_some}
-use Rattle.std.specs.Ordering.{match_ordering}
-use Rattle.std.specs.declared.cmp.Ordering.{Ordering}
-use Rattle.std.specs.declared.cmp.Ordering.TheVariants.{Less, Equal, Greater}
+use Rattle.std.specs.Prelude.{◌≡◌, ◌&&◌, ◌∷◌, ◌++◌}
+use Rattle.prost_reflect_dynamic.proofs.Common.{ℕ, Bool, true, false, nat_eq, List, [], Option, None, Some, refl, sym, ap, ◌∙◌, subst, unwrap_or, true≢false, Vec, Global, and_parts, and_from, eq-eqb, BTreeMap, insert_entry, option_and_then, option_map, is_some, match_ordering, Ordering, Less, Equal, Greater, Content, ContentOf, ScalarValue, schema_of, type_of, entries_of, values_in, Scalar, ScalarKind, Enum, Kind, ScalarOf, FieldForm, Repeated, Field, known, field_of, passes, own_kind, element_valid, elements_valid, WellStored, field_number, IsListed, rows_eq, rows_decide, TableRows, TableKind, contents_eq, contents_decide, pool_contents, pool_rows, PooledType, rows_same, IsAscending, known_of, stored_at, compare_keys, DynamicMessage, MapKey, Value, out-Value, Value-F, fold_out-Value, map-Value, kind_place, place_for, stands_there, all_typed, value_typed, items_typed, pairs_typed, ListField, NestedMap, NumberList, StoredMessage, StoredValue, StoredScalar, StoredInside, StoredList, StoredMap, StoredItems, NoItems, ItemThen, StoredPairs, stored_items, stored_pairs, stored_step, stored_message_step, value_stored, message_stored, nested_kind, NestedField, NestedList, typed_as, typed_at, element_typed, entry_typed, StaysTyped, ValueStaysTyped, item_last, item_added, list_in, message_in, value_of, content_of, message_type_of, stored_in, overwritten_at, written_at}
 use Rattle.prost_reflect_wire.specs.Content as contents
-use Rattle.prost_reflect_wire.specs.Content.{Content, ContentOf, ScalarValue, schema_of, type_of, entries_of}
-use Rattle.prost_reflect_wire.specs.Meaning.{values_in}
-use Rattle.prost_reflect_wire.specs.Scalar.{Scalar, ScalarKind, Enum}
-use Rattle.prost_reflect_wire.specs.Schema.{Kind, ScalarOf, FieldForm, Repeated, Field, known, field_of, passes}
-use Rattle.prost_reflect_wire.specs.Typing.{own_kind, element_valid, elements_valid, WellStored}
-use Rattle.prost_reflect_wire.proofs.Survivors.{field_number}
 use Rattle.prost_reflect_laws.proofs.ListReads.{StoredList as ListFits, stored_list as list_fits}
-use Rattle.prost_reflect_laws.proofs.ListSteps.{IsListed}
-use Rattle.prost_reflect_tables.specs.Equality.{rows_eq, rows_decide}
-use Rattle.prost_reflect_tables.specs.Rows.{TableRows}
-use Rattle.prost_reflect_tables.specs.declared.tables.TableKind.{TableKind}
-use Rattle.prost_reflect_pool.specs.PoolEquality.{contents_eq, contents_decide}
 use Rattle.prost_reflect_pool.specs.Pools as pools
-use Rattle.prost_reflect_pool.specs.SharedPools.{pool_contents, pool_rows}
-use Rattle.prost_reflect_pool.specs.declared.pooled_type.PooledType.{PooledType}
-use Rattle.prost_reflect_pool.proofs.EqualTypes.{rows_same}
-use Rattle.prost_reflect_fields.specs.Items.{IsAscending}
-use Rattle.prost_reflect_fields.specs.Known.{known_of}
-use Rattle.prost_reflect_fields.specs.FieldSlots.{stored_at}
-use Rattle.prost_reflect_dynamic.specs.ContentLaws.{compare_keys}
-use Rattle.prost_reflect_dynamic.specs.declared.message.DynamicMessage.{DynamicMessage}
-use Rattle.prost_reflect_dynamic.specs.declared.value.MapKey.{MapKey}
-use Rattle.prost_reflect_dynamic.specs.declared.value.Value.{Value, out-Value}
 use Rattle.prost_reflect_dynamic.specs.declared.value.Value as values
-use Rattle.prost_reflect_dynamic.specs.declared.value.Value.TheOpen.{Value-F}
-use Rattle.prost_reflect_dynamic.specs.declared.value.Value.TheFolds.{fold_out-Value, map-Value}
-use Rattle.prost_reflect_dynamic.specs.DeepTypes.{kind_place, place_for, stands_there, all_typed, value_typed, items_typed, pairs_typed}
-use Rattle.prost_reflect_dynamic.specs.Lists.{ListField}
-use Rattle.prost_reflect_dynamic.specs.NestedMaps.{NestedMap}
-use Rattle.prost_reflect_dynamic.specs.Numbers.{NumberList}
-use Rattle.prost_reflect_dynamic.specs.Stored.{StoredMessage, StoredValue, StoredScalar, StoredInside, StoredList, StoredMap, StoredItems, NoItems, ItemThen, StoredPairs, NoPairs, stored_items, stored_pairs, stored_step, stored_message_step, value_stored, message_stored}
-use Rattle.prost_reflect_dynamic.specs.Targets.{nested_kind, NestedField, NestedList}
-use Rattle.prost_reflect_dynamic.specs.TypedSteps.{typed_as, typed_at, element_typed, entry_typed, StaysTyped, ValueStaysTyped, item_last, item_added}
-use Rattle.prost_reflect_dynamic.specs.Variants.{list_in, message_in, pairs_in}
-use Rattle.prost_reflect_dynamic.specs.View.{value_of, content_of, message_type_of, stored_in, overwritten_at, written_at}
+use Rattle.prost_reflect_dynamic.specs.Stored.{NoPairs}
+use Rattle.prost_reflect_dynamic.specs.Variants.{pairs_in}
 use Rattle.prost_reflect_dynamic.proofs.Merging.{known_in}
 use Rattle.prost_reflect_dynamic.proofs.Stored.{value_of_message, overwritten_is}
 use Rattle.prost_reflect_dynamic.proofs.StoredContents.{value_content, items_content, value_follows}

@@ -1,32 +1,10 @@
 -- The unknown fields of a message are the unknown records of its content.
-use Rattle.std.proofs.Common.{◌≡◌, ℕ, true, cond, ◌++◌, nat_eq, List, [], ◌∷◌, map, flat_map, Option, Some, None, refl, ap, ap₂, sym, ◌∙◌, subst}
-use Rattle.std.proofs.lemmas.Bool.{eqb-true, and_parts}
-use Rattle.std.specs.List.{list_all}
-use Rattle.std.specs.List.Sorted.{IsStrictlySortedBy}
-use Rattle.std.specs.Option.{option_and_then, option_to_list}
-use Rattle.std.specs.Ordering.{is_eq}
-use Rattle.prost_reflect_wire.specs.Record.{Record, Payload, record_at}
-use Rattle.prost_reflect_wire.specs.Schema.{Field}
+use Rattle.std.specs.Prelude.{◌≡◌, ◌++◌, ◌∷◌}
+use Rattle.prost_reflect_dynamic.proofs.Common.{ℕ, true, cond, nat_eq, List, [], map, flat_map, Option, Some, None, refl, ap, ap₂, sym, ◌∙◌, subst, eqb-true, and_parts, list_all, IsStrictlySortedBy, option_and_then, option_to_list, is_eq, Record, Payload, record_at, Field, Entries, Slot, entries_of, store, then_value, then_unknowns, unknown_fields_of, unknown_record, records_of, UnknownFieldSet, records_in, unknown_in, records_at, unknown_sets, value_alone, values_alone, IsAscending, item_at, known_of, all_kept, are_records_of, unknown_kept, FieldSlot, by_number, itself, none_above, schema_at, type_at, PooledType, in_entries, all_unknown, unknown_records, without_unknown, UnknownListed, value_of, content_of, message_type_of, stored_in, payloads_of, slot_of, entries_from, DynamicMessage, roll-DynamicMessage, Value}
 use Rattle.prost_reflect_wire.specs.Content as contents
-use Rattle.prost_reflect_wire.specs.Content.{Entries, Slot, entries_of, store, then_value, then_unknowns}
-use Rattle.prost_reflect_wire.specs.Unknown.{unknown_fields_of, unknown_record, records_of}
-use Rattle.prost_reflect_wire.specs.declared.unknown.UnknownFieldSet.{UnknownFieldSet}
 use Rattle.prost_reflect_wire.proofs.UnknownViews.{records_of_out}
-use Rattle.prost_reflect_fields.specs.FieldSlots.{records_in, unknown_in, records_at, unknown_sets, value_alone, values_alone}
-use Rattle.prost_reflect_fields.specs.Items.{IsAscending, item_at}
-use Rattle.prost_reflect_fields.specs.Known.{known_of, all_kept, are_records_of}
-use Rattle.prost_reflect_fields.specs.Sound.{unknown_kept}
-use Rattle.prost_reflect_fields.specs.declared.slot.FieldSlot.{FieldSlot}
 use Rattle.prost_reflect_fields.specs.declared.slot.FieldSlot.TheVariants as entries
-use Rattle.prost_reflect_fields.proofs.ItemChanges.{by_number, itself, none_above}
-use Rattle.prost_reflect_pool.specs.MessageTypes.{schema_at, type_at}
-use Rattle.prost_reflect_pool.specs.declared.pooled_type.PooledType.{PooledType}
-use Rattle.prost_reflect_dynamic.specs.Contents.{in_entries}
-use Rattle.prost_reflect_dynamic.specs.UnknownLists.{fields_or_none, all_unknown, unknown_records, without_unknown, UnknownListed}
-use Rattle.prost_reflect_dynamic.specs.View.{value_of, content_of, message_type_of, stored_in, payloads_of, slot_of, entries_from}
-use Rattle.prost_reflect_dynamic.specs.declared.message.DynamicMessage.{DynamicMessage}
-use Rattle.prost_reflect_dynamic.specs.declared.value.Value.TheViews.{roll-DynamicMessage}
-use Rattle.prost_reflect_dynamic.specs.declared.value.Value.{Value}
+use Rattle.prost_reflect_dynamic.specs.UnknownLists.{fields_or_none}
 use Rattle.prost_reflect_dynamic.proofs.Views.{shown, shown_entry, content_of_message, content_of_roll}
 
 -- ONE NUMBER

@@ -1,29 +1,13 @@
 -- Which values a field takes, by its row.
-use Rattle.std.proofs.Common.{◌≡◌, ℕ, suc, Bool, true, false, ◌&&◌, List, [], ◌∷◌, map, Option, Some, None, refl, ap, ap₂, sym, ◌∙◌, arith, true≢false}
-use Rattle.std.specs.List.{list_all}
-use Rattle.std.proofs.lemmas.Bool.{lt-ltb, and_from}
+use Rattle.std.specs.Prelude.{◌≡◌, ◌&&◌, ◌∷◌}
+use Rattle.prost_reflect_dynamic.proofs.Common.{ℕ, suc, Bool, true, false, List, [], map, Option, Some, None, refl, ap, ap₂, sym, ◌∙◌, arith, true≢false, list_all, lt-ltb, and_from, are_bytes, Scalar, Kind, ValueType, FieldForm, MapFrom, ScalarValue, MessageValue, ListValue, MapValue, Values, NoValues, Item, Pairs, NoPairs, Pair, values_from, element_valid, elements_valid, kind_takes, pairs_valid, value_valid, Cardinality, TableKind, is_linked, is_repeated, FieldRow, EnumRow, MessageRow, TableRows, own_type, map_entry, schema_kind, value_type_of, form_of, schema_field, map_parts, value_of, key_of, pairs_from, MapKey, Value}
 use lib.ListN.{get_or}
 use mir.Val.{Fits}
 use mir.Syntax.{w8}
-use Rattle.prost_reflect_wire.specs.Varint.{are_bytes}
-use Rattle.prost_reflect_wire.specs.Scalar.{Scalar}
-use Rattle.prost_reflect_wire.specs.Schema.{Kind, ValueType, FieldForm, MapFrom}
 use Rattle.prost_reflect_wire.specs.Content as content
-use Rattle.prost_reflect_wire.specs.Content.{ScalarValue, MessageValue, ListValue, MapValue, Values, NoValues, Item, Pairs, NoPairs, Pair, values_from}
-use Rattle.prost_reflect_wire.specs.Typing.{element_valid, elements_valid, kind_takes, pairs_valid, value_valid}
-use Rattle.prost_reflect_tables.specs.declared.tables.Cardinality.{Cardinality}
 use Rattle.prost_reflect_tables.specs.declared.tables.Cardinality.TheVariants.{Optional, Required, Repeated as RepeatedLabel}
-use Rattle.prost_reflect_tables.specs.declared.tables.TableKind.{TableKind}
 use Rattle.prost_reflect_tables.specs.declared.tables.TableKind.TheVariants.{Message}
-use Rattle.prost_reflect_tables.specs.Linked.{is_linked}
-use Rattle.prost_reflect_tables.specs.Linking.{is_repeated}
-use Rattle.prost_reflect_tables.specs.Rows.{FieldRow, EnumRow, MessageRow, TableRows}
-use Rattle.prost_reflect_tables.specs.Shown.{own_type, map_entry, schema_kind, value_type_of, form_of, schema_field}
-use Rattle.prost_reflect_pool.specs.MapParts.{map_parts}
 use Rattle.prost_reflect_dynamic.specs.Valid.{list_fits, map_fits, entries_fit, pair_fits}
-use Rattle.prost_reflect_dynamic.specs.View.{value_of, key_of, pairs_from}
-use Rattle.prost_reflect_dynamic.specs.declared.value.MapKey.{MapKey}
-use Rattle.prost_reflect_dynamic.specs.declared.value.Value.{Value}
 use Rattle.prost_reflect_dynamic.proofs.RowKinds.{no_map}
 use Rattle.prost_reflect_dynamic.proofs.MapRows.{shown_map}
 

@@ -1,29 +1,9 @@
 -- The values of a message's fields, and those of its extensions, slot by slot.
-use Rattle.std.proofs.Common.{◌≡◌, ℕ, Bool, true, false, cond, List, [], ◌∷◌, ◌++◌, length, map, Option, Some, None, refl, ap, ap₂, sym, ◌∙◌, append_assoc, append-nil, true≢false}
-use Rattle.std.specs.Bool.{beq}
-use Rattle.std.specs.Map.{keys_of}
-use Rattle.std.specs.Option.{is_some, option_and_then, option_to_list}
-use Rattle.std.specs.Prelude.{flat_map, zip, All}
-use Rattle.std.proofs.lemmas.List.Elements.{All-nil, All-cons, All-head, All-tail}
+use Rattle.std.specs.Prelude.{◌≡◌, ◌∷◌, ◌++◌}
+use Rattle.prost_reflect_dynamic.proofs.Common.{ℕ, Bool, true, false, cond, List, [], length, map, Option, Some, None, refl, ap, ap₂, sym, ◌∙◌, append_assoc, append-nil, true≢false, beq, keys_of, is_some, option_and_then, option_to_list, flat_map, zip, All, All-nil, All-cons, All-head, All-tail, Payload, Field, field_of, passes, kept_inside, kept_value, is_field_default, FieldSlot, value_in, stored_at, numbered, values_where, IsAscending, item_at, known_of, is_known, is_listed, IsSound, had_at, saying, value_present, unknown_present, number_listed, had_pairs, had_in, had_values, said, value_of, message_type_of, stored_in, payloads_of, DynamicMessage, PresentNumber, Value, records_of}
 use Rattle.prost_reflect_wire.specs.Content as contents
-use Rattle.prost_reflect_wire.specs.Record.{Payload}
-use Rattle.prost_reflect_wire.specs.Schema.{Field, field_of, passes}
-use Rattle.prost_reflect_wire.specs.Typing.{kept_inside, kept_value, is_field_default}
-use Rattle.prost_reflect_fields.specs.declared.slot.FieldSlot.{FieldSlot}
 use Rattle.prost_reflect_fields.specs.declared.slot.FieldSlot.TheVariants as entries
-use Rattle.prost_reflect_fields.specs.FieldSlots.{value_in, stored_at, numbered, values_where}
-use Rattle.prost_reflect_fields.specs.Items.{IsAscending, item_at}
-use Rattle.prost_reflect_fields.specs.Known.{known_of, is_known, is_listed}
-use Rattle.prost_reflect_fields.specs.Sound.{IsSound}
-use Rattle.prost_reflect_dynamic.specs.Access.{had_at, saying}
-use Rattle.prost_reflect_dynamic.specs.Present.{value_present, unknown_present, number_listed}
-use Rattle.prost_reflect_dynamic.specs.ValueLists.{had_pairs, had_in, had_values, said}
-use Rattle.prost_reflect_dynamic.specs.View.{value_of, message_type_of, stored_in, payloads_of}
-use Rattle.prost_reflect_dynamic.specs.declared.message.DynamicMessage.{DynamicMessage}
-use Rattle.prost_reflect_dynamic.specs.declared.message.present.PresentNumber.{PresentNumber}
 use Rattle.prost_reflect_dynamic.specs.declared.message.present.PresentNumber.TheVariants.{Field as FieldNumber, Extension as ExtensionNumber}
-use Rattle.prost_reflect_dynamic.specs.declared.value.Value.{Value}
-use Rattle.prost_reflect_wire.specs.Unknown.{records_of}
 use Rattle.prost_reflect_dynamic.proofs.Had.{had_found}
 use Rattle.prost_reflect_dynamic.proofs.PresentNumbers.{by_keys, present_of_item, present_items}
 

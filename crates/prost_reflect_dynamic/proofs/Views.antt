@@ -1,27 +1,12 @@
 -- The equations of the views, one for each variant.
-use Rattle.std.proofs.Common.{◌≡◌, ℕ, ℤ, Bool, List, [], ◌∷◌, map, Option, Some, unwrap_or, refl, ap, ◌∙◌, string_bytes}
-use Rattle.std.specs.declared.alloc.Global.{Global}
-use Rattle.std.specs.Prelude.{Vec, String as Text}
-use Rattle.std.specs.BTreeMap.{BTreeMap}
+use Rattle.std.specs.Prelude.{◌≡◌, ◌∷◌, String as Text}
+use Rattle.prost_reflect_dynamic.proofs.Common.{ℕ, ℤ, Bool, List, [], map, Option, Some, unwrap_or, refl, ap, ◌∙◌, string_bytes, Global, Vec, BTreeMap, Content, ContentOf, ScalarValue, MessageValue, ListValue, MapValue, values_from, schema_at, type_at, FieldSlot, MapKey, Value, out-Value, Value-F, DynamicMessage-F, roll-Value, roll-DynamicMessage, fold-roll-Value, fold-roll-DynamicMessage, fold_out-Value, fold_out-DynamicMessage, map-Value, DynamicMessage, slot_former, ValueViews, list_in, value_step, message_step, value_of, content_of, entries_from, pairs_from}
 use mathlib.Core.Former.{this}
 use denote.Hole.Carrier as Carrier
 use Rattle.prost_reflect_wire.specs.Scalar as scalars
 use Rattle.prost_reflect_wire.specs.Content as contents
-use Rattle.prost_reflect_wire.specs.Content.{Content, ContentOf, ScalarValue, MessageValue, ListValue, MapValue, values_from}
-use Rattle.prost_reflect_pool.specs.MessageTypes.{schema_at, type_at}
-use Rattle.prost_reflect_fields.specs.declared.slot.FieldSlot.{FieldSlot}
 use Rattle.prost_reflect_fields.specs.declared.slot.FieldSlot.TheVariants as entries
-use Rattle.prost_reflect_dynamic.specs.declared.value.MapKey.{MapKey}
-use Rattle.prost_reflect_dynamic.specs.declared.value.Value.{Value, out-Value}
 use Rattle.prost_reflect_dynamic.specs.declared.value.Value as values
-use Rattle.prost_reflect_dynamic.specs.declared.value.Value.TheOpen.{Value-F, DynamicMessage-F}
-use Rattle.prost_reflect_dynamic.specs.declared.value.Value.TheViews.{roll-Value, roll-DynamicMessage}
-use Rattle.prost_reflect_dynamic.specs.declared.value.Value.TheFolds.{fold-roll-Value, fold-roll-DynamicMessage, fold_out-Value, fold_out-DynamicMessage, map-Value}
-use Rattle.prost_reflect_dynamic.specs.declared.message.DynamicMessage.{DynamicMessage}
-use Rattle.prost_reflect_fields.specs.formers.field_set.FieldSet.{slot_former}
-use Rattle.prost_reflect_dynamic.specs.ContentLaws.{ValueViews}
-use Rattle.prost_reflect_dynamic.specs.Variants.{list_in}
-use Rattle.prost_reflect_dynamic.specs.View.{value_step, message_step, value_of, content_of, entries_from, pairs_from}
 
 -- A MESSAGE
 

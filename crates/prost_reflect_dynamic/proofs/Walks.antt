@@ -1,13 +1,8 @@
 -- What holds of each step of a walk holds of what it gives.
-use Rattle.std.proofs.Common.{◌≡◌, ℕ, zero, suc, List, [], ◌∷◌, Option, Some, Bor, sym, subst, ap, ◌∙◌}
-use Rattle.std.specs.Prelude.{Result, IfOk, IfSome, slice_get}
-use Rattle.std.specs.List.{AllByRecursion}
+use Rattle.std.specs.Prelude.{◌≡◌, ◌∷◌}
+use Rattle.prost_reflect_dynamic.proofs.Common.{ℕ, zero, suc, List, [], Option, Some, Bor, sym, subst, ap, ◌∙◌, Result, IfOk, IfSome, slice_get, AllByRecursion, AllocError, Ok, Err, GivesNext, places_left, EachGiven, GivesEach, descriptor_steps}
 use Rattle.std.specs.Iterator.{Yields}
-use Rattle.std.specs.declared.alloc.AllocError.{AllocError}
-use Rattle.std.specs.declared.result.Result.TheVariants.{Ok, Err}
 use Rattle.std.proofs.iter.runs.Made.{took, each}
-use Rattle.prost_reflect_dynamic.specs.Places.{GivesNext, places_left}
-use Rattle.prost_reflect_dynamic.specs.Walks.{EachGiven, GivesEach, descriptor_steps}
 use Rattle.prost_reflect_dynamic.specs.declared.descriptor.iter.Placed.{Ghosts}
 use Rattle.prost_reflect_dynamic.specs.declared.descriptor.iter.Descriptors.{Descriptors}
 

@@ -1,36 +1,13 @@
 -- What is written of a list of scalars.
-use Rattle.std.proofs.Common.{◌≡◌, ℕ, zero, suc, ◌<◌, slice_index_or, Bool, true, false, List, [], ◌∷◌, ◌++◌, map, flat_map, length, Some, refl, sym, ap, ap₂, ◌∙◌, subst, append_assoc, append-nil, true≢false, arith}
-use Rattle.std.specs.Prelude.{IsSomeAnd, Vec}
-use Rattle.std.specs.List.{AllByRecursion}
-use Rattle.std.specs.declared.alloc.Global.{Global}
-use Rattle.std.proofs.lemmas.Bool.{and_parts}
+use Rattle.std.specs.Prelude.{◌≡◌, ◌<◌, ◌∷◌, ◌++◌}
+use Rattle.prost_reflect_dynamic.proofs.Common.{ℕ, zero, suc, slice_index_or, Bool, true, false, List, [], map, flat_map, length, Some, refl, sym, ap, ap₂, ◌∙◌, subst, append_assoc, append-nil, true≢false, arith, IsSomeAnd, Vec, AllByRecursion, Global, and_parts, Len, record_at, short_key, short_plain, spelled, ScalarKind, kind_wire, written, ScalarOf, Repeated, Field, field_of, is_singular, passes, ScalarValue, MessageValue, ListValue, MapValue, values_from, end_to_end, list_payloads, element_payloads, element_valid, elements_valid, value_valid, pairs_valid, value_bytes, written_wire, TableKind, FieldRow, schema_field, is_repeated, PooledType, Value, names_message, known_of, pool_rows, value_of, plain_kind, scalar_bytes, scalar_record_bytes, IsList, TakesScalars, list_bytes}
 use Rattle.prost_reflect_wire.specs.declared.key.WireType.TheVariants as wires
-use Rattle.prost_reflect_wire.specs.Record.{Len, record_at, short_key, short_plain, spelled}
-use Rattle.prost_reflect_wire.specs.Scalar.{ScalarKind, kind_wire, written}
-use Rattle.prost_reflect_wire.specs.Schema.{ScalarOf, Repeated, Field, field_of, is_singular, passes}
 use Rattle.prost_reflect_wire.specs.Content as contents
-use Rattle.prost_reflect_wire.specs.Content.{ScalarValue, MessageValue, ListValue, MapValue, values_from}
-use Rattle.prost_reflect_wire.specs.Writing.{end_to_end, list_payloads, element_payloads}
-use Rattle.prost_reflect_wire.specs.Typing.{element_valid, elements_valid, value_valid, pairs_valid}
-use Rattle.prost_reflect_wire.specs.Storing.{value_bytes}
-use Rattle.prost_reflect_laws.proofs.WrittenEntries.{written_wire}
 use Rattle.prost_reflect_laws.proofs.ListWritten.{list_written}
-use Rattle.prost_reflect_tables.specs.declared.tables.TableKind.{TableKind}
-use Rattle.prost_reflect_tables.specs.Rows.{FieldRow}
-use Rattle.prost_reflect_tables.specs.Shown.{schema_field}
-use Rattle.prost_reflect_tables.specs.Linking.{is_repeated}
-use Rattle.prost_reflect_pool.specs.declared.pooled_type.PooledType.{PooledType}
-use Rattle.prost_reflect_dynamic.specs.declared.value.Value.{Value}
 use Rattle.prost_reflect_dynamic.specs.declared.value.Value as values
-use Rattle.prost_reflect_dynamic.specs.RowKinds.{names_message}
-use Rattle.prost_reflect_fields.specs.Known.{known_of}
-use Rattle.prost_reflect_pool.specs.SharedPools.{pool_rows}
 use Rattle.prost_reflect_dynamic.proofs.PlainKinds.{SamePayloads, scalars_row, scalars_kind, plain_of, plain_payloads}
 use Rattle.prost_reflect_dynamic.proofs.Views.{value_of_list}
 use Rattle.prost_reflect_dynamic.proofs.WrittenValues.{passing}
-use Rattle.prost_reflect_dynamic.specs.View.{value_of}
-use Rattle.prost_reflect_dynamic.specs.Scalars.{plain_kind, scalar_bytes, scalar_record_bytes}
-use Rattle.prost_reflect_dynamic.specs.Lists.{IsList, TakesScalars, list_bytes}
 
 -- what holds of each holds of one
 pub holds_at : {A : Type 0} (P : A → Type 0) (xs : List A) (i : ℕ) (x : A) → i < length xs → x ≡ slice_index_or xs i x → AllByRecursion P xs → P x

@@ -1,26 +1,9 @@
 -- What is written of a map of scalars.
-use Rattle.std.proofs.Common.{◌≡◌, ℕ, true, false, cond, ◌&&◌, List, [], ◌∷◌, ◌++◌, map, Some, refl, sym, ap, ap₂, ◌∙◌, subst, append_assoc, true≢false}
-use Rattle.std.specs.Prelude.{IsSomeAnd}
-use Rattle.std.proofs.lemmas.Bool.{and_parts}
+use Rattle.std.specs.Prelude.{◌≡◌, ◌&&◌, ◌∷◌, ◌++◌}
+use Rattle.prost_reflect_dynamic.proofs.Common.{ℕ, true, false, cond, List, [], map, Some, refl, sym, ap, ap₂, ◌∙◌, subst, append_assoc, true≢false, IsSomeAnd, and_parts, Len, record_at, short_key, short_plain, spelled, Scalar, ScalarKind, kind_wire, scalar_valid, written, ScalarOf, ValueType, MapFrom, Field, field_of, ScalarValue, MessageValue, ListValue, MapValue, Pair, is_default_of, pair_payloads, kind_takes, element_valid, pairs_valid, value_valid, value_bytes, TableKind, FieldRow, EnumRow, schema_kind, own_type, MapKey, Value, pairs_shown, plain_kind, TakesScalar, scalar_record_bytes, kept_scalar_bytes, TakesPairs, entry_bytes, pairs_bytes, key_of, value_of}
 use Rattle.prost_reflect_wire.specs.declared.key.WireType.TheVariants as wires
-use Rattle.prost_reflect_wire.specs.Record.{Len, record_at, short_key, short_plain, spelled}
-use Rattle.prost_reflect_wire.specs.Scalar.{Scalar, ScalarKind, kind_wire, scalar_valid, written}
-use Rattle.prost_reflect_wire.specs.Schema.{ScalarOf, ValueType, MapFrom, Field, field_of}
 use Rattle.prost_reflect_wire.specs.Content as contents
-use Rattle.prost_reflect_wire.specs.Content.{ScalarValue, MessageValue, ListValue, MapValue, Pair}
-use Rattle.prost_reflect_wire.specs.Writing.{is_default_of, pair_payloads}
-use Rattle.prost_reflect_wire.specs.Typing.{kind_takes, element_valid, pairs_valid, value_valid}
-use Rattle.prost_reflect_wire.specs.Storing.{value_bytes}
 use Rattle.prost_reflect_laws.proofs.MapWritten.{part_bytes, pair_written, map_written}
-use Rattle.prost_reflect_tables.specs.declared.tables.TableKind.{TableKind}
-use Rattle.prost_reflect_tables.specs.Rows.{FieldRow, EnumRow}
-use Rattle.prost_reflect_tables.specs.Shown.{schema_kind, own_type}
-use Rattle.prost_reflect_dynamic.specs.declared.value.MapKey.{MapKey}
-use Rattle.prost_reflect_dynamic.specs.declared.value.Value.{Value}
-use Rattle.prost_reflect_dynamic.specs.ContentLaws.{pairs_shown}
-use Rattle.prost_reflect_dynamic.specs.Scalars.{plain_kind, TakesScalar, scalar_record_bytes, kept_scalar_bytes}
-use Rattle.prost_reflect_dynamic.specs.Maps.{TakesPairs, entry_bytes, pairs_bytes}
-use Rattle.prost_reflect_dynamic.specs.View.{key_of, value_of}
 use Rattle.prost_reflect_dynamic.proofs.PlainKinds.{SamePayloads, plain_payloads}
 
 -- the row of an entry's key or value, and its type

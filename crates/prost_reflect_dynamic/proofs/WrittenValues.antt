@@ -1,22 +1,7 @@
 -- What is written of the value of a field of one scalar.
-use Rattle.std.proofs.Common.{◌≡◌, ℕ, Bool, true, false, cond, List, [], ◌++◌, Option, Some, refl, sym, ap, ap₂, ◌∙◌, true≢false}
-use Rattle.std.proofs.lemmas.Bool.{and_parts}
-use Rattle.prost_reflect_wire.specs.Record.{short_key, short_plain}
-use Rattle.prost_reflect_wire.specs.Scalar.{Scalar, ScalarKind, kind_wire, scalar_valid, written}
-use Rattle.prost_reflect_wire.specs.Schema.{Kind, ScalarOf, MessageOf, GroupOf, ValueType, Singular, Field, field_of, is_message, passes, is_list}
-use Rattle.prost_reflect_wire.specs.Content.{ScalarValue, MessageValue, ListValue, MapValue, Pairs}
+use Rattle.std.specs.Prelude.{◌≡◌, ◌++◌}
+use Rattle.prost_reflect_dynamic.proofs.Common.{ℕ, Bool, true, false, cond, List, [], Option, Some, refl, sym, ap, ap₂, ◌∙◌, true≢false, and_parts, short_key, short_plain, Scalar, ScalarKind, kind_wire, scalar_valid, written, Kind, ScalarOf, MessageOf, GroupOf, ValueType, Singular, Field, field_of, is_message, passes, is_list, ScalarValue, MessageValue, ListValue, MapValue, Pairs, is_default_of, value_valid, kind_takes, pairs_valid, value_bytes, scalar_written, FieldRow, EnumRow, TableRows, own_type, schema_field, is_repeated, PooledType, pool_rows, known_of, TakesScalar, scalar_record_bytes, kept_scalar_bytes}
 use Rattle.prost_reflect_wire.specs.Content as contents
-use Rattle.prost_reflect_wire.specs.Writing.{is_default_of}
-use Rattle.prost_reflect_wire.specs.Typing.{value_valid, kind_takes, pairs_valid}
-use Rattle.prost_reflect_wire.specs.Storing.{value_bytes}
-use Rattle.prost_reflect_laws.proofs.WrittenEntries.{scalar_written}
-use Rattle.prost_reflect_tables.specs.Rows.{FieldRow, EnumRow, TableRows}
-use Rattle.prost_reflect_tables.specs.Shown.{own_type, schema_field}
-use Rattle.prost_reflect_tables.specs.Linking.{is_repeated}
-use Rattle.prost_reflect_pool.specs.declared.pooled_type.PooledType.{PooledType}
-use Rattle.prost_reflect_pool.specs.SharedPools.{pool_rows}
-use Rattle.prost_reflect_fields.specs.Known.{known_of}
-use Rattle.prost_reflect_dynamic.specs.Scalars.{TakesScalar, scalar_record_bytes, kept_scalar_bytes}
 use Rattle.prost_reflect_dynamic.proofs.PlainKinds.{NamedKind, scalar_row, single_row, own_of, plain_of, plain_payloads}
 
 -- a field of one scalar

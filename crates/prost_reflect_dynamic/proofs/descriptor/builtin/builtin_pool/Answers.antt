@@ -1,8 +1,6 @@
-use Rattle.std.proofs.Common.{map, ap, sym, ◌∙◌, subst}
-use Rattle.prost_reflect_tables.specs.Shown.{schema_from}
+use Rattle.prost_reflect_dynamic.proofs.Common.{map, ap, sym, ◌∙◌, subst, schema_from, LinkedPool}
 use Rattle.prost_reflect_pool.specs.BuiltinFiles.{AreBuiltin}
 use Rattle.prost_reflect_pool.specs.Pools.{files_of, pool_rows}
-use Rattle.prost_reflect_pool.specs.declared.pool.LinkedPool.{LinkedPool}
 use Rattle.prost_reflect_dynamic.proofs.descriptor.builtin.builtin_pool.Goals as goal
 
 pub returns-clause-files : goal.returns-clause-files

@@ -1,6 +1,4 @@
-use Rattle.std.proofs.Common.{ap, sym, ◌∙◌}
-use Rattle.std.specs.Prelude.{is_some}
-use Rattle.prost_reflect_tables.specs.Rows.{field_row}
+use Rattle.prost_reflect_dynamic.proofs.Common.{ap, sym, ◌∙◌, is_some, field_row}
 use Rattle.prost_reflect_pool.specs.Pools.{pool_rows}
 use Rattle.prost_reflect_dynamic.proofs.Defaults.{map_is, some_mapped}
 use Rattle.prost_reflect_dynamic.proofs.descriptor.forms.is_map.Goals as goal

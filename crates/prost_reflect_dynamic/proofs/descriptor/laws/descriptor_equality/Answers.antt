@@ -1,14 +1,5 @@
-use Rattle.std.proofs.Common.{◌≡◌, ap, ℕ, Bool, nat_eq, ◌&&◌}
-use Rattle.std.specs.Prelude.{IsTrue}
-use Rattle.std.specs.Bool.{Decides}
-use Rattle.std.specs.Cmp.{unsigned_Decides}
-use Rattle.std.proofs.lemmas.Bool.Decides.{Decides-and}
-use Rattle.prost_reflect_tables.specs.Shown.{schema_from}
-use Rattle.prost_reflect_pool.specs.Pools.{contents_of}
-use Rattle.prost_reflect_pool.specs.PoolEquality.{contents_eq, contents_decide}
-use Rattle.prost_reflect_pool.specs.SharedPools.{pool_contents}
-use Rattle.prost_reflect_pool.proofs.EqualTypes.{rows_same}
-use Rattle.prost_reflect_dynamic.specs.declared.descriptor.pool.DescriptorPool.{DescriptorPool}
+use Rattle.std.specs.Prelude.{◌≡◌, ◌&&◌}
+use Rattle.prost_reflect_dynamic.proofs.Common.{ap, ℕ, Bool, nat_eq, IsTrue, Decides, unsigned_Decides, Decides-and, schema_from, contents_of, contents_eq, contents_decide, pool_contents, rows_same, DescriptorPool}
 use Rattle.prost_reflect_dynamic.specs.contracts.descriptor.message.MessageDescriptorPartialEq.TheImpl as message_code
 use Rattle.prost_reflect_dynamic.specs.contracts.descriptor.enums.EnumDescriptorPartialEq.TheImpl as enum_code
 use Rattle.prost_reflect_dynamic.specs.contracts.descriptor.service.ServiceDescriptorPartialEq.TheImpl as service_code

@@ -1,4 +1,5 @@
-use Rattle.std.proofs.Common.{rules, ◌≡◌, None, Some, true, false, length, nat_eq, sym, ◌∙◌}
+use Rattle.std.specs.Prelude.{◌≡◌}
+use Rattle.prost_reflect_dynamic.proofs.Common.{rules, None, Some, true, false, length, nat_eq, sym, ◌∙◌}
 use Rattle.prost_reflect_pool.specs.Pools.{pool_rows}
 use Rattle.prost_reflect_dynamic.proofs.Paths.{last_found, none_inside, more_inside, type_below}
 use Rattle.prost_reflect_dynamic.proofs.descriptor.path.+place_behind.Goals as goal

@@ -1,4 +1,4 @@
-use Rattle.std.proofs.Common.{length}
+use Rattle.prost_reflect_dynamic.proofs.Common.{length}
 use Rattle.prost_reflect_dynamic.proofs.descriptor.path.+place_behind.Given as goal
 
 abbrev pub decreases-place_behind : goal.decreases-place_behind

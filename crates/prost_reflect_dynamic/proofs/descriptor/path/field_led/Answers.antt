@@ -1,5 +1,5 @@
-use Rattle.std.proofs.Common.{rules, ◌≡◌, None, sym}
-use Rattle.prost_reflect_tables.specs.Rows.{field_row}
+use Rattle.std.specs.Prelude.{◌≡◌}
+use Rattle.prost_reflect_dynamic.proofs.Common.{rules, None, sym, field_row}
 use Rattle.prost_reflect_pool.specs.Pools.{pool_rows}
 use Rattle.prost_reflect_dynamic.proofs.Paths.{none_led, one_led}
 use Rattle.prost_reflect_dynamic.proofs.descriptor.path.field_led.Goals as goal

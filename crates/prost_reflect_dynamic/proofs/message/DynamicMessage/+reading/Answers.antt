@@ -1,27 +1,11 @@
-use Rattle.std.proofs.Common.{◌≡◌, ◌≤◌, subst, true, false, Some, nat_eq, refl, ap, sym, ◌∙◌, length, true≢false, unwrap_or, arith}
-use Rattle.std.proofs.lemmas.Bool.{eq-eqb, ne_eqb}
-use Rattle.prost_reflect_dynamic.specs.View.{key_of}
-use Rattle.std.proofs.Common.{rules}
-use Rattle.std.proofs.lemmas.Result.{err_from_is_err_and, IfOk-weaker, IfErr-weaker}
-use Rattle.prost_reflect_wire.specs.Content.{MessageValue, empty, value_at, entries_of}
-use Rattle.prost_reflect_pool.specs.MessageTypes.{schema_at}
-use Rattle.prost_reflect_dynamic.specs.View.{value_of, content_of, message_type_of, overwritten_at}
-use Rattle.prost_reflect_dynamic.specs.Contents.{value_set}
+use Rattle.std.specs.Prelude.{◌≡◌, ◌≤◌}
+use Rattle.prost_reflect_dynamic.proofs.Common.{subst, true, false, Some, nat_eq, refl, ap, sym, ◌∙◌, length, true≢false, unwrap_or, arith, eq-eqb, ne_eqb, key_of, rules, err_from_is_err_and, IfOk-weaker, IfErr-weaker, MessageValue, empty, value_at, entries_of, schema_at, value_of, content_of, message_type_of, overwritten_at, value_set, KeyFront, bytes_below, MapValue, schema_of, type_of, put, pairs_in, with_element, StoredInside, message_stored, NestedField, NestedList, NestedMap, typed_as}
 use Rattle.prost_reflect_dynamic.proofs.Views.{value_of_message}
-use Rattle.prost_reflect_wire.specs.Front.{KeyFront}
 use Rattle.prost_reflect_laws.proofs.Progressing.{progress_start, progress_step, progress_no_key, progress_no_key_in, progress_no_record, progress_no_record_in, progress_other_end}
 use Rattle.prost_reflect_dynamic.proofs.NestedFaults.{nested_refused, group_read, message_read, group_refused, message_refused, body_refused}
 use Rattle.prost_reflect_dynamic.proofs.NestedReads.{lent_message, held_message, first_message, read_in, refused_in, read_first, refused_first}
 use Rattle.prost_reflect_dynamic.proofs.ElementReads.{list_or_none, empty_element, element_step, element_refused}
-use Rattle.prost_reflect_wire.proofs.ByteLists.{bytes_below}
-use Rattle.prost_reflect_wire.specs.Content.{MapValue, schema_of, type_of}
-use Rattle.prost_reflect_wire.specs.Meaning.{put, pairs_in}
-use Rattle.prost_reflect_dynamic.specs.Lists.{with_element}
 use Rattle.prost_reflect_dynamic.proofs.NestedMaps.{nested_start, nested_no_key_there, nested_key_there, nested_value_there, nested_other_there, nested_no_key_value, nested_no_value, nested_no_other, nested_mapped, nested_key_found, nested_entry_set, nested_entry_fault, nested_body_fault, nested_no_level}
-use Rattle.prost_reflect_dynamic.specs.Stored.{StoredInside, message_stored}
-use Rattle.prost_reflect_dynamic.specs.Targets.{NestedField, NestedList}
-use Rattle.prost_reflect_dynamic.specs.NestedMaps.{NestedMap}
-use Rattle.prost_reflect_dynamic.specs.TypedSteps.{typed_as}
 use Rattle.prost_reflect_dynamic.proofs.TypedSteps.{still_typed}
 use Rattle.prost_reflect_dynamic.proofs.TypedValues.{held_stays, held_read, first_read, element_read, entry_read}
 use Rattle.prost_reflect_dynamic.proofs.message.DynamicMessage.+reading.Goals as goal

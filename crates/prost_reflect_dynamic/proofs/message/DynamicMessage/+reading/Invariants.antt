@@ -1,8 +1,5 @@
-use Rattle.std.proofs.Common.{◌≡◌, ◌+◌, ◌*◌, ◌-◌, length}
-use Rattle.prost_reflect_wire.specs.Decoding.{Progress}
-use Rattle.prost_reflect_dynamic.specs.NestedMaps.{ReadsNestedEntry}
-use Rattle.prost_reflect_dynamic.specs.View.{content_of, message_type_of}
-use Rattle.prost_reflect_dynamic.specs.TypedSteps.{StaysTyped}
+use Rattle.std.specs.Prelude.{◌≡◌, ◌+◌, ◌*◌, ◌-◌}
+use Rattle.prost_reflect_dynamic.proofs.Common.{length, Progress, ReadsNestedEntry, content_of, message_type_of, StaysTyped}
 use Rattle.prost_reflect_dynamic.proofs.message.DynamicMessage.+reading.Given as goal
 
 abbrev pub decreases-merge_into : goal.decreases-merge_into

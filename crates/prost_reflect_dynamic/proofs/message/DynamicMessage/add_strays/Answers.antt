@@ -1,7 +1,5 @@
-use Rattle.std.proofs.Common.{[], ◌∷◌, ◌∙◌, ap, sym, take}
-use Rattle.std.proofs.lemmas.List.{take_more}
-use Rattle.prost_reflect_dynamic.specs.Numbers.{varints_added}
-use Rattle.prost_reflect_dynamic.specs.View.{content_of}
+use Rattle.std.specs.Prelude.{◌∷◌}
+use Rattle.prost_reflect_dynamic.proofs.Common.{[], ◌∙◌, ap, sym, take, take_more, varints_added, content_of}
 use Rattle.prost_reflect_dynamic.proofs.NumberMerging.{varints_behind}
 use Rattle.prost_reflect_dynamic.proofs.TypedSteps.{still_typed}
 use Rattle.prost_reflect_dynamic.proofs.message.DynamicMessage.add_strays.Goals as goal

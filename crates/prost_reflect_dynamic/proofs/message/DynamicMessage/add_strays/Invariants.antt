@@ -1,7 +1,5 @@
-use Rattle.std.proofs.Common.{◌≡◌, take}
-use Rattle.prost_reflect_dynamic.specs.Numbers.{varints_added}
-use Rattle.prost_reflect_dynamic.specs.TypedSteps.{StaysTyped}
-use Rattle.prost_reflect_dynamic.specs.View.{content_of, message_type_of}
+use Rattle.std.specs.Prelude.{◌≡◌}
+use Rattle.prost_reflect_dynamic.proofs.Common.{take, varints_added, StaysTyped, content_of, message_type_of}
 use Rattle.prost_reflect_dynamic.proofs.message.DynamicMessage.add_strays.Given as goal
 
 -- those in front of the index were added

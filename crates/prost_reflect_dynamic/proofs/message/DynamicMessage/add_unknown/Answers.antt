@@ -1,5 +1,4 @@
-use Rattle.std.proofs.lemmas.Result.{on_ok_weaker, on_err_weaker}
-use Rattle.prost_reflect_wire.specs.Unknown.{unknown_record}
+use Rattle.prost_reflect_dynamic.proofs.Common.{on_ok_weaker, on_err_weaker, unknown_record}
 use Rattle.prost_reflect_dynamic.proofs.Stored.{message_added, message_same}
 use Rattle.prost_reflect_dynamic.proofs.TypedSteps.{added_typed}
 use Rattle.prost_reflect_dynamic.proofs.message.DynamicMessage.add_unknown.Goals as goal

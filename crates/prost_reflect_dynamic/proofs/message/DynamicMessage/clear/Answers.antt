@@ -1,5 +1,4 @@
-use Rattle.std.proofs.Common.{ap, rules}
-use Rattle.prost_reflect_dynamic.specs.View.{content_of}
+use Rattle.prost_reflect_dynamic.proofs.Common.{ap, rules, content_of}
 use Rattle.prost_reflect_dynamic.proofs.Depths.{nothing_depth}
 use Rattle.prost_reflect_dynamic.proofs.Edits.{empties}
 use Rattle.prost_reflect_dynamic.proofs.Removals.{cleared_sound}

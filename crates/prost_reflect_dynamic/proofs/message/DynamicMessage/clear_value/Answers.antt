@@ -1,4 +1,4 @@
-use Rattle.std.proofs.Common.{rules, nat_eq, ap}
+use Rattle.prost_reflect_dynamic.proofs.Common.{rules, nat_eq, ap}
 use Rattle.prost_reflect_dynamic.proofs.Depths.{without_depth}
 use Rattle.prost_reflect_dynamic.proofs.Edits.{clears, is_gone}
 use Rattle.prost_reflect_dynamic.proofs.Stored.{message_cleared}

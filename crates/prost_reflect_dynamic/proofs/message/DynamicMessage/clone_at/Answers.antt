@@ -1,8 +1,5 @@
-use Rattle.std.proofs.Common.{◌≡◌, ℕ, List, [], ◌∷◌, ◌++◌, sym, ap, ◌∙◌, subst}
-use Rattle.prost_reflect_pool.specs.MessageTypes.{SameMessage}
-use Rattle.prost_reflect_pool.specs.declared.pooled_type.PooledType.{PooledType}
-use Rattle.prost_reflect_fields.specs.declared.slot.FieldSlot.{FieldSlot}
-use Rattle.prost_reflect_dynamic.specs.declared.value.Value.{Value}
+use Rattle.std.specs.Prelude.{◌≡◌, ◌∷◌, ◌++◌}
+use Rattle.prost_reflect_dynamic.proofs.Common.{ℕ, List, [], sym, ap, ◌∙◌, subst, SameMessage, PooledType, FieldSlot, Value}
 use Rattle.prost_reflect_dynamic.proofs.Copied.{parts_of, all_given, one_given}
 use Rattle.prost_reflect_dynamic.proofs.MessageParts.{part, part_kept, message_part, slot_copied, slot_passed}
 use Rattle.prost_reflect_dynamic.proofs.TypedSteps.{part_typed}

@@ -1,8 +1,5 @@
-use Rattle.std.proofs.Common.{◌≡◌, ℕ, List, ◌++◌}
-use Rattle.prost_reflect_fields.specs.ItemsLeft.{items_left}
-use Rattle.prost_reflect_fields.specs.declared.slot.FieldSlot.{FieldSlot}
-use Rattle.prost_reflect_dynamic.specs.declared.value.Value.{Value}
-use Rattle.prost_reflect_dynamic.specs.View.{stored_in}
+use Rattle.std.specs.Prelude.{◌≡◌, ◌++◌}
+use Rattle.prost_reflect_dynamic.proofs.Common.{ℕ, List, items_left, FieldSlot, Value, stored_in}
 use Rattle.prost_reflect_dynamic.proofs.Copied.{parts_of}
 use Rattle.prost_reflect_dynamic.proofs.MessageParts.{part}
 use Rattle.prost_reflect_dynamic.proofs.message.DynamicMessage.clone_at.Given as goal

@@ -1,11 +1,6 @@
-use Rattle.std.proofs.lemmas.Result.{err_from_is_err_and}
-use Rattle.prost_reflect_wire.specs.Grammar.{LEVEL_LIMIT}
-use Rattle.prost_reflect_wire.proofs.ByteLists.{bytes_below}
+use Rattle.prost_reflect_dynamic.proofs.Common.{err_from_is_err_and, LEVEL_LIMIT, bytes_below, kept, content_of, schema_named, type_named}
 use Rattle.prost_reflect_laws.proofs.FaultLaws.{accepted_only_memory}
 use Rattle.prost_reflect_laws.proofs.Progressing.{progress_decoded, progress_accepts}
-use Rattle.prost_reflect_wire.specs.Typing.{kept}
-use Rattle.prost_reflect_dynamic.specs.View.{content_of}
-use Rattle.prost_reflect_dynamic.specs.Named.{schema_named, type_named}
 use Rattle.prost_reflect_dynamic.proofs.ReadBack.{decoded_again, named_valid}
 use Rattle.prost_reflect_dynamic.proofs.message.DynamicMessage.decode.Goals as goal
 

@@ -1,9 +1,5 @@
-use Rattle.std.proofs.Common.{ℕ, List, Ok, Err, Result}
+use Rattle.prost_reflect_dynamic.proofs.Common.{ℕ, List, Ok, Err, Result, on_ok_weaker, encoded, kept, content_of}
 use Rattle.std.specs.Result.{IfErr}
-use Rattle.std.proofs.lemmas.Result.{on_ok_weaker}
-use Rattle.prost_reflect_wire.specs.Writing.{encoded}
-use Rattle.prost_reflect_wire.specs.Typing.{kept}
-use Rattle.prost_reflect_dynamic.specs.View.{content_of}
 use Rattle.prost_reflect_dynamic.proofs.ReadBack.{reads_back, only_of}
 use Rattle.prost_reflect_dynamic.proofs.message.DynamicMessage.encode.Goals as goal
 

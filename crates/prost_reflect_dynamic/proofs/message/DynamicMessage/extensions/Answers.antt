@@ -1,4 +1,4 @@
-use Rattle.std.proofs.Common.{rules}
+use Rattle.prost_reflect_dynamic.proofs.Common.{rules}
 use Rattle.prost_reflect_dynamic.proofs.Depths.{extensions_inside, extensions_own}
 use Rattle.prost_reflect_dynamic.proofs.message.DynamicMessage.extensions.Goals as goal
 

@@ -1,7 +1,4 @@
-use Rattle.std.proofs.Common.{ap, sym, ◌∙◌}
-use Rattle.std.specs.Option.{option_map}
-use Rattle.prost_reflect_dynamic.specs.View.{message_type_of}
-use Rattle.prost_reflect_dynamic.specs.declared.descriptor.field.FieldDescriptor.{FieldDescriptor}
+use Rattle.prost_reflect_dynamic.proofs.Common.{ap, sym, ◌∙◌, option_map, message_type_of, FieldDescriptor}
 use Rattle.prost_reflect_dynamic.proofs.OwnFields.{field_there}
 use Rattle.prost_reflect_dynamic.proofs.message.DynamicMessage.field_at.Goals as goal
 

@@ -1,4 +1,4 @@
-use Rattle.prost_reflect_dynamic.specs.View.{message_type_of}
+use Rattle.prost_reflect_dynamic.proofs.Common.{message_type_of}
 use Rattle.prost_reflect_dynamic.proofs.OwnExtensions.{extension_known}
 use Rattle.prost_reflect_dynamic.proofs.message.DynamicMessage.get_extension_mut.Goals as goal
 

@@ -1,4 +1,4 @@
-use Rattle.prost_reflect_dynamic.specs.View.{message_type_of}
+use Rattle.prost_reflect_dynamic.proofs.Common.{message_type_of}
 use Rattle.prost_reflect_dynamic.proofs.OwnFields.{own_known}
 use Rattle.prost_reflect_dynamic.proofs.message.DynamicMessage.get_field.Goals as goal
 

@@ -1,10 +1,5 @@
-use Rattle.std.proofs.Common.{◌≡◌, ℕ, cond, Option, Some, None, inl, ap, subst, sym, ◌∙◌}
-use Rattle.prost_reflect_dynamic.specs.Access.{IsLentIf, left_if, number_declared}
-use Rattle.prost_reflect_dynamic.specs.Contents.{set_if}
-use Rattle.prost_reflect_dynamic.specs.Depths.{LendsInside}
-use Rattle.prost_reflect_dynamic.specs.Edits.{LeavesSet}
-use Rattle.prost_reflect_dynamic.specs.View.{value_of, content_of, message_type_of}
-use Rattle.prost_reflect_dynamic.specs.declared.value.Value.{Value}
+use Rattle.std.specs.Prelude.{◌≡◌}
+use Rattle.prost_reflect_dynamic.proofs.Common.{ℕ, cond, Option, Some, None, inl, ap, subst, sym, ◌∙◌, IsLentIf, left_if, number_declared, set_if, LendsInside, LeavesSet, value_of, content_of, message_type_of, Value}
 use Rattle.prost_reflect_dynamic.proofs.OwnFields.{number_known}
 use Rattle.prost_reflect_dynamic.proofs.message.DynamicMessage.get_field_by_number_mut.Goals as goal
 

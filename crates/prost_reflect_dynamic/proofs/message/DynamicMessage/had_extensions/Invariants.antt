@@ -1,8 +1,5 @@
-use Rattle.std.proofs.Common.{◌≡◌, ◌++◌, length, map, true}
-use Rattle.std.specs.Prelude.{All}
-use Rattle.prost_reflect_dynamic.specs.ExtensionAccess.{IsOwnExtension, extension_number}
-use Rattle.prost_reflect_dynamic.specs.ValueLists.{had_pairs, values_left}
-use Rattle.prost_reflect_dynamic.specs.View.{message_type_of}
+use Rattle.std.specs.Prelude.{◌≡◌, ◌++◌}
+use Rattle.prost_reflect_dynamic.proofs.Common.{length, map, true, All, IsOwnExtension, extension_number, had_pairs, values_left, message_type_of}
 use Rattle.prost_reflect_dynamic.proofs.message.DynamicMessage.had_extensions.Given as goal
 
 -- the descriptors of the numbers so far

@@ -1,8 +1,4 @@
-use Rattle.std.proofs.Common.{true, false, None, sym, ap, ◌∙◌}
-use Rattle.prost_reflect_wire.specs.Schema.{field_of, passes}
-use Rattle.prost_reflect_wire.specs.Typing.{kept_inside, is_field_default}
-use Rattle.prost_reflect_fields.specs.Known.{known_of}
-use Rattle.prost_reflect_dynamic.specs.View.{value_of}
+use Rattle.prost_reflect_dynamic.proofs.Common.{true, false, None, sym, ap, ◌∙◌, field_of, passes, kept_inside, is_field_default, known_of, value_of}
 use Rattle.prost_reflect_dynamic.proofs.Had.{had_found, has_found, had_tested, has_tested}
 use Rattle.prost_reflect_dynamic.proofs.message.DynamicMessage.had_value.Goals as goal
 

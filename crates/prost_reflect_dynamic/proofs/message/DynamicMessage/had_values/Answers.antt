@@ -1,6 +1,4 @@
-use Rattle.std.proofs.Common.{true, false, ◌∙◌}
-use Rattle.prost_reflect_fields.specs.Known.{known_of}
-use Rattle.prost_reflect_dynamic.specs.ValueLists.{had_values}
+use Rattle.prost_reflect_dynamic.proofs.Common.{true, false, ◌∙◌, known_of, had_values}
 use Rattle.prost_reflect_dynamic.proofs.ValueLists.{had_listed}
 use Rattle.prost_reflect_dynamic.proofs.message.DynamicMessage.had_values.Goals as goal
 

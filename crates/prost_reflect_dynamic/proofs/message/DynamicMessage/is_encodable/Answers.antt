@@ -1,7 +1,4 @@
-use Rattle.std.proofs.lemmas.Bool.{and_parts}
-use Rattle.prost_reflect_wire.specs.Content.{ordered}
-use Rattle.prost_reflect_wire.specs.Typing.{exclusive}
-use Rattle.prost_reflect_dynamic.specs.View.{content_of}
+use Rattle.prost_reflect_dynamic.proofs.Common.{and_parts, ordered, exclusive, content_of}
 use Rattle.prost_reflect_dynamic.proofs.message.DynamicMessage.is_encodable.Goals as goal
 
 pub returns-clause-order : goal.returns-clause-order

@@ -1,4 +1,4 @@
-use Rattle.std.proofs.Common.{sym, ◌∙◌}
+use Rattle.prost_reflect_dynamic.proofs.Common.{sym, ◌∙◌}
 use Rattle.prost_reflect_dynamic.proofs.DeepTypes.{typed_content}
 use Rattle.prost_reflect_dynamic.proofs.message.DynamicMessage.is_typed.Goals as goal
 

@@ -1,4 +1,4 @@
-use Rattle.prost_reflect_dynamic.specs.View.{message_type_of}
+use Rattle.prost_reflect_dynamic.proofs.Common.{message_type_of}
 use Rattle.prost_reflect_dynamic.specs.declared.value.Value as values
 use Rattle.prost_reflect_dynamic.proofs.TypedSteps.{lent_step}
 use Rattle.prost_reflect_dynamic.proofs.TypedValues.{empty_list_typed}

@@ -1,12 +1,5 @@
-use Rattle.std.proofs.Common.{sym, subst}
-use Rattle.std.proofs.lemmas.Result.{err_from_is_err_and}
-use Rattle.prost_reflect_wire.specs.Grammar.{LEVEL_LIMIT}
-use Rattle.prost_reflect_wire.proofs.ByteLists.{bytes_below}
+use Rattle.prost_reflect_dynamic.proofs.Common.{sym, subst, err_from_is_err_and, LEVEL_LIMIT, bytes_below, schema_at, type_at, SameMessage, known_of, HasWholeOneofs, content_of, message_type_of}
 use Rattle.prost_reflect_laws.proofs.FaultLaws.{accepted_only_memory}
-use Rattle.prost_reflect_pool.specs.MessageTypes.{schema_at, type_at, SameMessage}
-use Rattle.prost_reflect_fields.specs.Known.{known_of}
-use Rattle.prost_reflect_fields.specs.NumberSets.{HasWholeOneofs}
-use Rattle.prost_reflect_dynamic.specs.View.{content_of, message_type_of}
 use Rattle.prost_reflect_dynamic.proofs.MergedBytes.{fault_stands, message_merges}
 use Rattle.prost_reflect_dynamic.proofs.MessageParts.{part_holds, part_fault, message_read}
 use Rattle.prost_reflect_dynamic.proofs.message.DynamicMessage.merge.Goals as goal

@@ -1,9 +1,4 @@
-use Rattle.std.proofs.Common.{◌∙◌, ap, map, refl, subst, sym}
-use Rattle.prost_reflect_wire.specs.Content.{ListValue, values_from}
-use Rattle.prost_reflect_pool.specs.SharedPools.{pool_rows}
-use Rattle.prost_reflect_dynamic.specs.Contents.{value_set}
-use Rattle.prost_reflect_dynamic.specs.Numbers.{NumberList, JoinsNumbers}
-use Rattle.prost_reflect_dynamic.specs.View.{value_of, content_of, message_type_of, written_at}
+use Rattle.prost_reflect_dynamic.proofs.Common.{◌∙◌, ap, map, refl, subst, sym, ListValue, values_from, pool_rows, value_set, NumberList, JoinsNumbers, value_of, content_of, message_type_of, written_at}
 use Rattle.prost_reflect_dynamic.specs.declared.value.Value as values
 use Rattle.prost_reflect_dynamic.proofs.NumberMerging.{lent_numbers, body_put, put_sound, all_strays}
 use Rattle.prost_reflect_dynamic.proofs.TypedSteps.{still_typed}

@@ -1,12 +1,5 @@
-use Rattle.std.proofs.Common.{ap, map, sym, subst, ◌∙◌}
-use Rattle.std.proofs.lemmas.Result.{IfOk-weaker, IfErr-weaker}
-use Rattle.prost_reflect_wire.specs.Content.{ListValue, values_from}
-use Rattle.prost_reflect_wire.proofs.ByteLists.{bytes_below}
-use Rattle.prost_reflect_dynamic.specs.View.{value_of, content_of, message_type_of, written_at}
-use Rattle.prost_reflect_dynamic.specs.Contents.{value_set}
-use Rattle.prost_reflect_dynamic.specs.Lists.{ListField}
+use Rattle.prost_reflect_dynamic.proofs.Common.{ap, map, sym, subst, ◌∙◌, IfOk-weaker, IfErr-weaker, ListValue, values_from, bytes_below, value_of, content_of, message_type_of, written_at, value_set, ListField, known_of}
 use Rattle.prost_reflect_dynamic.specs.declared.value.Value as values
-use Rattle.prost_reflect_fields.specs.Known.{known_of}
 use Rattle.prost_reflect_dynamic.proofs.Views.{value_of_list}
 use Rattle.prost_reflect_dynamic.proofs.ListMerging.{lent_list, elements_set, elements_fault}
 use Rattle.prost_reflect_dynamic.proofs.TypedValues.{listed_scalars, list_step}

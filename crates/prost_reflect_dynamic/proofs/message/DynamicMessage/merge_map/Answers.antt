@@ -1,10 +1,4 @@
-use Rattle.std.proofs.Common.{sym, ap, inr, ◌∙◌}
-use Rattle.std.proofs.lemmas.Result.{err_from_is_err_and}
-use Rattle.prost_reflect_wire.proofs.ByteLists.{bytes_below}
-use Rattle.prost_reflect_pool.specs.declared.pooled_type.PooledType.{PooledType}
-use Rattle.prost_reflect_pool.specs.SharedPools.{pool_rows}
-use Rattle.prost_reflect_dynamic.specs.Scalars.{is_stray_number}
-use Rattle.prost_reflect_dynamic.specs.View.{value_of, message_type_of}
+use Rattle.prost_reflect_dynamic.proofs.Common.{sym, ap, inr, ◌∙◌, err_from_is_err_and, bytes_below, PooledType, pool_rows, is_stray_number, value_of, message_type_of}
 use Rattle.prost_reflect_dynamic.proofs.MapMerging.{mapped_in, key_found, entry_set, entry_stray, body_fault, entry_fault}
 use Rattle.prost_reflect_dynamic.proofs.TypedValues.{scalar_entry}
 use Rattle.prost_reflect_dynamic.proofs.message.DynamicMessage.merge_map.Goals as goal

@@ -1,13 +1,7 @@
+use Rattle.std.specs.Prelude.{◌≡◌}
+use Rattle.prost_reflect_dynamic.proofs.Common.{◌∙◌, ap, sym, rules, IfOk-weaker, ScalarValue, EnumNumber, low_i32, pool_rows, is_stray_varint, is_stray_number, content_of, message_type_of}
 use mir.Syntax.{w32}
 use mir.Val.{to_z, of_z}
-use Rattle.std.proofs.Common.{◌≡◌, ◌∙◌, ap, sym, rules}
-use Rattle.std.proofs.lemmas.Result.{IfOk-weaker}
-use Rattle.prost_reflect_wire.specs.Content.{ScalarValue}
-use Rattle.prost_reflect_wire.specs.Scalar.{EnumNumber, low_i32}
-use Rattle.prost_reflect_pool.specs.SharedPools.{pool_rows}
-use Rattle.prost_reflect_dynamic.specs.Numbers.{is_stray_varint}
-use Rattle.prost_reflect_dynamic.specs.Scalars.{is_stray_number}
-use Rattle.prost_reflect_dynamic.specs.View.{content_of, message_type_of}
 use Rattle.prost_reflect_dynamic.proofs.NumberMerging.{list_there, stray_taken}
 use Rattle.prost_reflect_dynamic.proofs.TypedValues.{scalar_element}
 use Rattle.prost_reflect_dynamic.proofs.Views.{value_of_enum_number}

@@ -1,5 +1,4 @@
-use Rattle.std.proofs.Common.{rules}
-use Rattle.std.proofs.lemmas.Result.{err_from_is_err_and}
+use Rattle.prost_reflect_dynamic.proofs.Common.{rules, err_from_is_err_and}
 use Rattle.prost_reflect_dynamic.proofs.NumberMerging.{number_taken_step, body_taken_step, length_refused, body_refused, number_refused}
 use Rattle.prost_reflect_dynamic.proofs.message.DynamicMessage.merge_numbers.Goals as goal
 

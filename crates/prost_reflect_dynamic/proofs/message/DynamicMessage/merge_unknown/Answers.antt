@@ -1,7 +1,5 @@
-use Rattle.std.proofs.lemmas.Result.{err_from_is_err_and}
-use Rattle.prost_reflect_wire.proofs.ByteLists.{bytes_below}
+use Rattle.prost_reflect_dynamic.proofs.Common.{err_from_is_err_and, bytes_below, message_type_of}
 use Rattle.prost_reflect_wire.proofs.UnknownViews.{record_of_field}
-use Rattle.prost_reflect_dynamic.specs.View.{message_type_of}
 use Rattle.prost_reflect_dynamic.proofs.Merging.{unknown_set, unknown_stands, unknown_fault}
 use Rattle.prost_reflect_dynamic.proofs.message.DynamicMessage.merge_unknown.Goals as goal
 

@@ -1,4 +1,4 @@
-use Rattle.std.proofs.Common.{rules}
+use Rattle.prost_reflect_dynamic.proofs.Common.{rules}
 use Rattle.prost_reflect_dynamic.proofs.Removals.{nothing_sound}
 use Rattle.prost_reflect_dynamic.proofs.TypedSteps.{nothing_typed}
 use Rattle.prost_reflect_dynamic.proofs.message.DynamicMessage.new.Goals as goal

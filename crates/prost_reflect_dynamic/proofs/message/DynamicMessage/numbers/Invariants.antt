@@ -1,6 +1,5 @@
-use Rattle.std.proofs.Common.{◌≡◌, ◌++◌, drop}
-use Rattle.std.specs.Prelude.{flat_map}
-use Rattle.prost_reflect_dynamic.specs.Present.{number_listed}
+use Rattle.std.specs.Prelude.{◌≡◌, ◌++◌}
+use Rattle.prost_reflect_dynamic.proofs.Common.{drop, flat_map, number_listed}
 use Rattle.prost_reflect_dynamic.proofs.message.DynamicMessage.numbers.Given as goal
 
 -- the numbers of all were listed, or are in what is left

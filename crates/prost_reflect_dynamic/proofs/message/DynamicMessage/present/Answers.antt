@@ -1,6 +1,4 @@
-use Rattle.std.proofs.Common.{rules, ◌∙◌}
-use Rattle.prost_reflect_fields.specs.Known.{known_of}
-use Rattle.prost_reflect_dynamic.specs.PresentWalks.{all_items}
+use Rattle.prost_reflect_dynamic.proofs.Common.{rules, ◌∙◌, known_of, all_items}
 use Rattle.prost_reflect_dynamic.proofs.PresentWalks.{all_listed, present_inside, present_own}
 use Rattle.prost_reflect_dynamic.proofs.message.DynamicMessage.present.Goals as goal
 

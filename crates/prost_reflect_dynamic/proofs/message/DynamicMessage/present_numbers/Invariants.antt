@@ -1,9 +1,5 @@
-use Rattle.std.proofs.Common.{◌≡◌, ◌++◌}
-use Rattle.std.specs.Prelude.{flat_map}
-use Rattle.prost_reflect_fields.specs.Known.{known_of}
-use Rattle.prost_reflect_dynamic.specs.View.{message_type_of, stored_in}
-use Rattle.prost_reflect_fields.specs.ItemsLeft.{items_left}
-use Rattle.prost_reflect_dynamic.specs.Present.{entry_present}
+use Rattle.std.specs.Prelude.{◌≡◌, ◌++◌}
+use Rattle.prost_reflect_dynamic.proofs.Common.{flat_map, known_of, message_type_of, stored_in, items_left, entry_present}
 use Rattle.prost_reflect_dynamic.proofs.message.DynamicMessage.present_numbers.Given as goal
 
 -- what is present in all entries was found, or is in those that are left

@@ -1,12 +1,6 @@
-use Rattle.std.proofs.Common.{ap, map, ◌∙◌}
-use Rattle.std.proofs.lemmas.Result.{IfOk-weaker}
-use Rattle.prost_reflect_wire.specs.Content.{ListValue, values_from, value_at, entries_of}
-use Rattle.prost_reflect_dynamic.specs.Contents.{value_set}
-use Rattle.prost_reflect_dynamic.specs.View.{value_of, content_of, message_type_of}
+use Rattle.prost_reflect_dynamic.proofs.Common.{ap, map, ◌∙◌, IfOk-weaker, ListValue, values_from, value_at, entries_of, value_set, value_of, content_of, message_type_of, value_stored, typed_at}
 use Rattle.prost_reflect_dynamic.proofs.Views.{value_of_list}
 use Rattle.prost_reflect_dynamic.proofs.ElementReads.{lent_or_empty, with_lent}
-use Rattle.prost_reflect_dynamic.specs.Stored.{value_stored}
-use Rattle.prost_reflect_dynamic.specs.TypedSteps.{typed_at}
 use Rattle.prost_reflect_dynamic.specs.declared.value.Value as values
 use Rattle.prost_reflect_dynamic.proofs.TypedSteps.{lent_step}
 use Rattle.prost_reflect_dynamic.proofs.TypedValues.{element_added, empty_list_typed}

@@ -1,8 +1,6 @@
-use Rattle.std.proofs.Common.{ap, sym, ◌∙◌}
-use Rattle.prost_reflect_dynamic.specs.Contents.{value_set}
+use Rattle.prost_reflect_dynamic.proofs.Common.{ap, sym, ◌∙◌, value_set, content_of, message_type_of}
 use Rattle.prost_reflect_dynamic.specs.declared.value.Value as values
 use Rattle.prost_reflect_dynamic.proofs.MapEntries.{map_after, empty_map}
-use Rattle.prost_reflect_dynamic.specs.View.{content_of, message_type_of}
 use Rattle.prost_reflect_dynamic.proofs.TypedSteps.{lent_step}
 use Rattle.prost_reflect_dynamic.proofs.TypedValues.{entry_added, empty_map_typed}
 use Rattle.prost_reflect_dynamic.proofs.message.DynamicMessage.put_entry.Goals as goal

@@ -1,4 +1,4 @@
-use Rattle.std.proofs.lemmas.Result.{on_ok_weaker}
+use Rattle.prost_reflect_dynamic.proofs.Common.{on_ok_weaker}
 use Rattle.prost_reflect_dynamic.proofs.MessageParts.{message_joined}
 use Rattle.prost_reflect_dynamic.proofs.TypedSteps.{replaced_typed}
 use Rattle.prost_reflect_dynamic.proofs.message.DynamicMessage.replace_at.Goals as goal

@@ -1,8 +1,4 @@
-use Rattle.std.proofs.Common.{ap, sym, subst, ◌∙◌}
-use Rattle.std.specs.Prelude.{Some, unwrap_or}
-use Rattle.std.proofs.lemmas.Result.{on_ok_weaker}
-use Rattle.prost_reflect_dynamic.specs.Edits.{Sets}
-use Rattle.prost_reflect_dynamic.specs.View.{message_type_of}
+use Rattle.prost_reflect_dynamic.proofs.Common.{ap, sym, subst, ◌∙◌, Some, unwrap_or, on_ok_weaker, Sets, message_type_of}
 use Rattle.prost_reflect_dynamic.proofs.OwnFields.{own_known, takes_found}
 use Rattle.prost_reflect_dynamic.proofs.message.DynamicMessage.set_field.Goals as goal
 

@@ -1,4 +1,4 @@
-use Rattle.std.proofs.lemmas.Result.{on_ok_weaker}
+use Rattle.prost_reflect_dynamic.proofs.Common.{on_ok_weaker}
 use Rattle.prost_reflect_dynamic.proofs.Stored.{message_set}
 use Rattle.prost_reflect_dynamic.proofs.TypedSteps.{set_typed}
 use Rattle.prost_reflect_dynamic.proofs.message.DynamicMessage.set_member.Goals as goal

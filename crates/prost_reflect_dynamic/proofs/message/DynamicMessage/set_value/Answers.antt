@@ -1,5 +1,4 @@
-use Rattle.std.proofs.Common.{rules}
-use Rattle.std.proofs.lemmas.Result.{on_ok_weaker}
+use Rattle.prost_reflect_dynamic.proofs.Common.{rules, on_ok_weaker}
 use Rattle.prost_reflect_dynamic.proofs.Edits.{sets}
 use Rattle.prost_reflect_dynamic.proofs.Stored.{message_set}
 use Rattle.prost_reflect_dynamic.proofs.TypedSteps.{set_typed}

@@ -1,6 +1,4 @@
-use Rattle.std.proofs.Common.{ap, ◌∙◌}
-use Rattle.std.specs.Option.{option_map}
-use Rattle.prost_reflect_dynamic.specs.View.{value_of}
+use Rattle.prost_reflect_dynamic.proofs.Common.{ap, ◌∙◌, option_map, value_of}
 use Rattle.prost_reflect_dynamic.proofs.Stored.{value_of_message}
 use Rattle.prost_reflect_dynamic.proofs.message.DynamicMessage.stored_value.Goals as goal
 

@@ -1,8 +1,4 @@
-use Rattle.std.proofs.Common.{map, true, sym, ap, subst, ◌∙◌}
-use Rattle.std.specs.Prelude.{All}
-use Rattle.prost_reflect_dynamic.specs.ExtensionAccess.{IsOwnExtension, extension_number}
-use Rattle.prost_reflect_dynamic.specs.ValueLists.{had_pairs}
-use Rattle.prost_reflect_dynamic.specs.View.{message_type_of}
+use Rattle.prost_reflect_dynamic.proofs.Common.{map, true, sym, ap, subst, ◌∙◌, All, IsOwnExtension, extension_number, had_pairs, message_type_of}
 use Rattle.prost_reflect_dynamic.proofs.ValueLists.{numbers_zipped, all_zipped}
 use Rattle.prost_reflect_dynamic.proofs.message.DynamicMessage.take_extensions.Goals as goal
 

@@ -1,8 +1,4 @@
-use Rattle.std.proofs.Common.{map, false, sym, ap, subst, ◌∙◌}
-use Rattle.std.specs.Prelude.{All}
-use Rattle.prost_reflect_dynamic.specs.Access.{IsOwnField, number_of}
-use Rattle.prost_reflect_dynamic.specs.ValueLists.{had_pairs}
-use Rattle.prost_reflect_dynamic.specs.View.{message_type_of}
+use Rattle.prost_reflect_dynamic.proofs.Common.{map, false, sym, ap, subst, ◌∙◌, All, IsOwnField, number_of, had_pairs, message_type_of}
 use Rattle.prost_reflect_dynamic.proofs.ValueLists.{numbers_zipped, all_zipped}
 use Rattle.prost_reflect_dynamic.proofs.message.DynamicMessage.take_fields.Goals as goal
 

@@ -1,7 +1,4 @@
-use Rattle.std.proofs.Common.{ap, sym, ◌∙◌}
-use Rattle.std.specs.Option.{option_and_then}
-use Rattle.prost_reflect_fields.specs.Known.{known_of}
-use Rattle.prost_reflect_dynamic.specs.Access.{saying}
+use Rattle.prost_reflect_dynamic.proofs.Common.{ap, sym, ◌∙◌, option_and_then, known_of, saying}
 use Rattle.prost_reflect_dynamic.proofs.Had.{had_found}
 use Rattle.prost_reflect_dynamic.proofs.message.DynamicMessage.take_had.Goals as goal
 

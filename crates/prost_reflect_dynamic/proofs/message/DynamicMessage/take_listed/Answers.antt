@@ -1,8 +1,4 @@
-use Rattle.std.proofs.Common.{rules, ap, ◌∙◌}
-use Rattle.std.proofs.lemmas.Result.{IfOk-weaker, on_ok_weaker}
-use Rattle.prost_reflect_fields.specs.Known.{known_of, is_listed}
-use Rattle.prost_reflect_dynamic.specs.ValueLists.{said}
-use Rattle.prost_reflect_dynamic.specs.View.{message_type_of, stored_in}
+use Rattle.prost_reflect_dynamic.proofs.Common.{rules, ap, ◌∙◌, IfOk-weaker, on_ok_weaker, known_of, is_listed, said, message_type_of, stored_in}
 use Rattle.prost_reflect_dynamic.proofs.Depths.{without_depth}
 use Rattle.prost_reflect_dynamic.proofs.Edits.{takes_all}
 use Rattle.prost_reflect_dynamic.proofs.TakenValues.{message_taken}

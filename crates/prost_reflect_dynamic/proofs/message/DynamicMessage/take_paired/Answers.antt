@@ -1,7 +1,4 @@
-use Rattle.std.proofs.Common.{map, ap, ◌∙◌}
-use Rattle.std.specs.Prelude.{zip}
-use Rattle.prost_reflect_fields.specs.Known.{known_of}
-use Rattle.prost_reflect_dynamic.specs.ValueLists.{said}
+use Rattle.prost_reflect_dynamic.proofs.Common.{map, ap, ◌∙◌, zip, known_of, said}
 use Rattle.prost_reflect_dynamic.proofs.message.DynamicMessage.take_paired.Goals as goal
 
 pub returns-clause-pairs : goal.returns-clause-pairs

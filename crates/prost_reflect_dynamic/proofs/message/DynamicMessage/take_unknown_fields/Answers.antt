@@ -1,6 +1,5 @@
-use Rattle.std.proofs.Common.{rules, ◌++◌, ap, ap₂, flat_map, map, ◌∙◌}
-use Rattle.prost_reflect_wire.specs.Unknown.{unknown_fields_of, unknown_record}
-use Rattle.prost_reflect_dynamic.specs.View.{stored_in}
+use Rattle.std.specs.Prelude.{◌++◌}
+use Rattle.prost_reflect_dynamic.proofs.Common.{rules, ap, ap₂, flat_map, map, ◌∙◌, unknown_fields_of, unknown_record, stored_in}
 use Rattle.prost_reflect_dynamic.proofs.Depths.{alone_depth}
 use Rattle.prost_reflect_dynamic.proofs.Edits.{takes_unknown}
 use Rattle.prost_reflect_dynamic.proofs.TypedSteps.{alone_typed}

@@ -1,6 +1,4 @@
-use Rattle.std.proofs.Common.{rules, nat_eq, ap, ◌∙◌}
-use Rattle.std.specs.Option.{option_map}
-use Rattle.prost_reflect_dynamic.specs.View.{value_of}
+use Rattle.prost_reflect_dynamic.proofs.Common.{rules, nat_eq, ap, ◌∙◌, option_map, value_of}
 use Rattle.prost_reflect_dynamic.proofs.Stored.{value_of_message, message_cleared}
 use Rattle.prost_reflect_dynamic.proofs.Depths.{without_depth}
 use Rattle.prost_reflect_dynamic.proofs.Edits.{clears, is_gone}

@@ -1,5 +1,4 @@
-use Rattle.std.proofs.Common.{sym, ◌∙◌}
-use Rattle.prost_reflect_dynamic.specs.View.{message_type_of}
+use Rattle.prost_reflect_dynamic.proofs.Common.{sym, ◌∙◌, message_type_of}
 use Rattle.prost_reflect_dynamic.proofs.OwnFields.{named_declared}
 use Rattle.prost_reflect_dynamic.proofs.message.DynamicMessage.try_set_field_by_name.Goals as goal
 

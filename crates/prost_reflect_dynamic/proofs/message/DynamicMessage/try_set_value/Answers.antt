@@ -1,4 +1,4 @@
-use Rattle.prost_reflect_dynamic.specs.View.{message_type_of}
+use Rattle.prost_reflect_dynamic.proofs.Common.{message_type_of}
 use Rattle.prost_reflect_dynamic.proofs.OwnFields.{number_known}
 use Rattle.prost_reflect_dynamic.proofs.message.DynamicMessage.try_set_value.Goals as goal
 

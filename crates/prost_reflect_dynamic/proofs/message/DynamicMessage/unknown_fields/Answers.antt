@@ -1,7 +1,4 @@
-use Rattle.std.proofs.Common.{ap, ◌∙◌}
-use Rattle.std.proofs.Common.{map}
-use Rattle.prost_reflect_wire.specs.Unknown.{unknown_record}
-use Rattle.prost_reflect_dynamic.specs.UnknownLists.{all_unknown}
+use Rattle.prost_reflect_dynamic.proofs.Common.{ap, ◌∙◌, map, unknown_record, all_unknown}
 use Rattle.prost_reflect_dynamic.proofs.UnknownLists.{unknown_listed}
 use Rattle.prost_reflect_dynamic.proofs.message.DynamicMessage.unknown_fields.Goals as goal
 

@@ -1,8 +1,6 @@
-use Rattle.std.proofs.Common.{◌≡◌, true, Option, Some, None, refl, sym, ap, ◌∙◌}
+use Rattle.std.specs.Prelude.{◌≡◌}
+use Rattle.prost_reflect_dynamic.proofs.Common.{true, Option, Some, None, refl, sym, ap, ◌∙◌, option_map, option_copied_mut, is_some, IfSome, value_of, Value}
 use Rattle.std.specs.Borrow.{MutBor}
-use Rattle.std.specs.Option.{option_map, option_copied_mut, is_some, IfSome}
-use Rattle.prost_reflect_dynamic.specs.View.{value_of}
-use Rattle.prost_reflect_dynamic.specs.declared.value.Value.{Value}
 use Rattle.prost_reflect_dynamic.proofs.Stored.{value_of_message, content_overwritten}
 use Rattle.prost_reflect_dynamic.proofs.message.DynamicMessage.value_mut.Goals as goal
 

@@ -1,7 +1,4 @@
-use Rattle.std.proofs.Common.{refl}
-use Rattle.std.proofs.lemmas.Result.{IfOk-weaker}
-use Rattle.prost_reflect_fields.specs.Known.{known_of}
-use Rattle.prost_reflect_dynamic.specs.View.{message_type_of, stored_in}
+use Rattle.prost_reflect_dynamic.proofs.Common.{refl, IfOk-weaker, known_of, message_type_of, stored_in}
 use Rattle.prost_reflect_dynamic.proofs.Stored.{prepared_value, value_lent, content_written}
 use Rattle.prost_reflect_dynamic.proofs.message.DynamicMessage.value_mut_or.Goals as goal
 

@@ -1,11 +1,8 @@
-use Rattle.std.proofs.Common.{◌≡◌, ap, refl, sym, ◌∙◌, Result, Ok, Err}
+use Rattle.std.specs.Prelude.{◌≡◌}
+use Rattle.prost_reflect_dynamic.proofs.Common.{ap, refl, sym, ◌∙◌, Result, Ok, Err, IfOk-weaker, entries_of, value_at, value_of, content_of, message_type_of, written_at, Value}
 use Rattle.std.specs.Result.{OnOk}
 use Rattle.std.specs.Borrow.{name_if_ok}
-use Rattle.std.proofs.lemmas.Result.{IfOk-weaker}
 use borrow.Follows.Closed.{read_of}
-use Rattle.prost_reflect_wire.specs.Content.{entries_of, value_at}
-use Rattle.prost_reflect_dynamic.specs.View.{value_of, content_of, message_type_of, written_at}
-use Rattle.prost_reflect_dynamic.specs.declared.value.Value.{Value}
 use Rattle.prost_reflect_dynamic.proofs.Depths.{lent_small, left_depth}
 use Rattle.prost_reflect_dynamic.proofs.Edits.{sets}
 use Rattle.prost_reflect_dynamic.proofs.TypedSteps.{left_typed}

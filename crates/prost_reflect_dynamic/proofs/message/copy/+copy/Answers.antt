@@ -1,18 +1,5 @@
-use Rattle.std.proofs.Common.{rules, ◌≡◌, ℕ, List, [], ◌∷◌, ◌++◌, sym, ap, ◌∙◌, subst, append_assoc}
-use Rattle.std.proofs.lemmas.List.Elements.{same_from_all_zip}
-use Rattle.std.specs.List.Sorted.{IsStrictlySortedBy}
-use Rattle.std.specs.Map.{keys_of}
-use Rattle.prost_reflect_wire.specs.Scalar.{Bytes}
-use Rattle.prost_reflect_wire.specs.Unknown.{records_of}
-use Rattle.prost_reflect_pool.specs.MessageTypes.{SameMessage}
-use Rattle.prost_reflect_fields.specs.Items.{IsAscending}
-use Rattle.prost_reflect_pool.specs.declared.pooled_type.PooledType.{PooledType}
-use Rattle.prost_reflect_fields.specs.declared.slot.FieldSlot.{FieldSlot}
-use Rattle.prost_reflect_dynamic.specs.declared.value.MapKey.{MapKey}
-use Rattle.prost_reflect_dynamic.specs.declared.value.Value.{Value}
-use Rattle.prost_reflect_dynamic.specs.ContentLaws.{compare_keys}
-use Rattle.prost_reflect_dynamic.specs.Copies.{pairs_seen}
-use Rattle.prost_reflect_dynamic.specs.Stored.{StoredScalar, value_stored}
+use Rattle.std.specs.Prelude.{◌≡◌, ◌∷◌, ◌++◌}
+use Rattle.prost_reflect_dynamic.proofs.Common.{rules, ℕ, List, [], sym, ap, ◌∙◌, subst, append_assoc, same_from_all_zip, IsStrictlySortedBy, keys_of, Bytes, records_of, SameMessage, IsAscending, PooledType, FieldSlot, MapKey, Value, compare_keys, pairs_seen, StoredScalar, value_stored}
 use Rattle.prost_reflect_dynamic.proofs.StoredViews.{stored_bytes}
 use Rattle.prost_reflect_dynamic.proofs.Copied.{parts_of, entry_parts, copied_next, all_given, one_given, sound_copied, message_copied, keys_appended, value_copied, unknown_copied, both_copied}
 use Rattle.prost_reflect_dynamic.proofs.CopiedPairs.{pair_copied, map_copied}

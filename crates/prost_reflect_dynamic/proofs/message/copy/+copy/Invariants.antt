@@ -1,11 +1,5 @@
-use Rattle.std.proofs.Common.{◌≡◌, ℕ, List, ◌++◌, map, take}
-use Rattle.prost_reflect_fields.specs.ItemsLeft.{items_left}
-use Rattle.prost_reflect_fields.specs.declared.slot.FieldSlot.{FieldSlot}
-use Rattle.prost_reflect_dynamic.specs.View.{stored_in}
-use Rattle.prost_reflect_dynamic.specs.declared.value.MapKey.{MapKey}
-use Rattle.prost_reflect_dynamic.specs.declared.value.Value.{Value}
-use Rattle.prost_reflect_dynamic.specs.Copies.{pairs_seen}
-use Rattle.prost_reflect_dynamic.specs.Stored.{value_stored}
+use Rattle.std.specs.Prelude.{◌≡◌, ◌++◌}
+use Rattle.prost_reflect_dynamic.proofs.Common.{ℕ, List, map, take, items_left, FieldSlot, stored_in, MapKey, Value, pairs_seen, value_stored}
 use Rattle.prost_reflect_dynamic.proofs.Copied.{parts_of}
 use Rattle.prost_reflect_dynamic.proofs.message.copy.+copy.Given as goal
 

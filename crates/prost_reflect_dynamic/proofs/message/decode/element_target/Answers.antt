@@ -1,4 +1,4 @@
-use Rattle.std.proofs.Common.{sym}
+use Rattle.prost_reflect_dynamic.proofs.Common.{sym}
 use Rattle.prost_reflect_dynamic.proofs.ElementReads.{list_target}
 use Rattle.prost_reflect_dynamic.proofs.Merging.{no_message_kind}
 use Rattle.prost_reflect_dynamic.proofs.message.decode.element_target.Goals as goal

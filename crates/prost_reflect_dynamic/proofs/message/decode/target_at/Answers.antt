@@ -1,6 +1,4 @@
-use Rattle.std.proofs.Common.{subst, sym, ◌∙◌}
-use Rattle.prost_reflect_tables.specs.Rows.{field_row}
-use Rattle.prost_reflect_dynamic.specs.Targets.{IsTarget}
+use Rattle.prost_reflect_dynamic.proofs.Common.{subst, sym, ◌∙◌, field_row, IsTarget}
 use Rattle.prost_reflect_dynamic.proofs.RepeatedRows.{repeated_is}
 use Rattle.prost_reflect_dynamic.proofs.Merging.{target_is}
 use Rattle.prost_reflect_dynamic.proofs.message.decode.target_at.Goals as goal

@@ -1,5 +1,5 @@
+use Rattle.prost_reflect_dynamic.proofs.Common.{sym}
 use Rattle.prost_reflect_dynamic.proofs.Merging.{scalar_target, no_message_kind}
-use Rattle.std.proofs.Common.{sym}
 use Rattle.prost_reflect_dynamic.proofs.message.decode.value_target.Goals as goal
 
 pub returns-in_default : goal.returns-in_default

@@ -1,14 +1,5 @@
-use Rattle.std.proofs.Common.{◌≡◌, true, ap, sym, ◌∙◌, subst}
-use Rattle.std.specs.declared.alloc.Global.{Global}
-use Rattle.std.specs.declared.rc.Rc.{Rc}
-use Rattle.std.proofs.lemmas.Result.{IfOk-weaker}
-use Rattle.prost_reflect_wire.specs.Schema.{field_valid}
-use Rattle.prost_reflect_tables.specs.Rows.{field_row}
-use Rattle.prost_reflect_tables.specs.Shown.{schema_from, schema_field}
-use Rattle.prost_reflect_pool.specs.SharedPools.{pool_rows}
-use Rattle.prost_reflect_pool.specs.declared.pool.LinkedPool.{LinkedPool}
-use Rattle.prost_reflect_dynamic.specs.Defaults.{row_default}
-use Rattle.prost_reflect_dynamic.specs.declared.value.Value.{Value}
+use Rattle.std.specs.Prelude.{◌≡◌}
+use Rattle.prost_reflect_dynamic.proofs.Common.{true, ap, sym, ◌∙◌, subst, Global, Rc, IfOk-weaker, field_valid, field_row, schema_from, schema_field, pool_rows, LinkedPool, row_default, Value}
 use Rattle.prost_reflect_dynamic.proofs.message.defaults.default_value.Goals as goal
 
 pub default_value-requires : goal.default_value-requires

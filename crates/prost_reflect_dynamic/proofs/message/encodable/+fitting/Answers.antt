@@ -1,10 +1,5 @@
-use Rattle.std.proofs.Common.{rules, ◌≡◌, true, [], ◌∷◌, ◌++◌, ap, sym, ◌∙◌}
-use Rattle.std.proofs.lemmas.List.{drop_all}
-use Rattle.prost_reflect_wire.specs.Typing.{fit_test, value_passes}
-use Rattle.prost_reflect_fields.specs.Known.{known_of}
-use Rattle.prost_reflect_fields.specs.ItemsLeft.{items_left}
-use Rattle.prost_reflect_dynamic.specs.Encodables.{fits_at, slot_passes, slots_pass, items_pass, entries_pass, value_arranged}
-use Rattle.prost_reflect_dynamic.specs.View.{message_type_of, value_of}
+use Rattle.std.specs.Prelude.{◌≡◌, ◌∷◌, ◌++◌}
+use Rattle.prost_reflect_dynamic.proofs.Common.{rules, true, [], ap, sym, ◌∙◌, drop_all, fit_test, value_passes, known_of, items_left, fits_at, slot_passes, slots_pass, items_pass, entries_pass, value_arranged, message_type_of, value_of}
 use Rattle.prost_reflect_dynamic.proofs.Copied.{one_given}
 use Rattle.prost_reflect_dynamic.proofs.Encodables.{encodable_slots, slot_passed, items_are, entries_are, items_arranged, entries_arranged, slots_arranged}
 use Rattle.prost_reflect_dynamic.proofs.Views.{value_of_list, value_of_map}

@@ -1,11 +1,5 @@
-use Rattle.std.proofs.Common.{◌≡◌, ℕ, List, ◌++◌, drop}
-use Rattle.prost_reflect_wire.specs.Typing.{fit_test, value_passes, encodable}
-use Rattle.prost_reflect_fields.specs.Known.{known_of}
-use Rattle.prost_reflect_fields.specs.ItemsLeft.{items_left}
-use Rattle.prost_reflect_fields.specs.declared.slot.FieldSlot.{FieldSlot}
-use Rattle.prost_reflect_dynamic.specs.declared.value.Value.{Value}
-use Rattle.prost_reflect_dynamic.specs.Encodables.{fits_at, slots_pass, items_pass, entries_pass, value_arranged}
-use Rattle.prost_reflect_dynamic.specs.View.{content_of, message_type_of, stored_in}
+use Rattle.std.specs.Prelude.{◌≡◌, ◌++◌}
+use Rattle.prost_reflect_dynamic.proofs.Common.{ℕ, List, drop, fit_test, value_passes, encodable, known_of, items_left, FieldSlot, Value, fits_at, slots_pass, items_pass, entries_pass, value_arranged, content_of, message_type_of, stored_in}
 use Rattle.prost_reflect_dynamic.proofs.message.encodable.+fitting.Given as goal
 
 -- all fit, and are in order, where those that are left are

@@ -1,31 +1,18 @@
-use Rattle.std.proofs.Common.{rules, ◌≡◌, ℕ, ◌∷◌, Some, ap, sym, subst, ◌∙◌, inl, inr, ◌⊎◌, arith, ◌-◌}
-use Rattle.prost_reflect_wire.proofs.SinkSteps.{adds_in_turn, adds_same}
-use Rattle.prost_reflect_tables.specs.Rows.{field_row}
-use Rattle.prost_reflect_pool.specs.SharedPools.{pool_rows}
-use Rattle.prost_reflect_wire.specs.declared.unknown.UnknownFieldSet.{UnknownFieldSet}
-use Rattle.prost_reflect_fields.specs.declared.slot.FieldSlot.{FieldSlot}
+use Rattle.std.specs.Prelude.{◌≡◌, ◌∷◌, ◌⊎◌, ◌-◌}
+use Rattle.prost_reflect_dynamic.proofs.Common.{rules, ℕ, Some, ap, sym, subst, ◌∙◌, inl, inr, arith, adds_in_turn, adds_same, field_row, pool_rows, UnknownFieldSet, FieldSlot, Value, the_lemmas, TakesScalar, kept_scalar_bytes, value_of, value_in, names_message, known_of, AreEntries, MapKey, ElementWritable}
 use Rattle.prost_reflect_fields.specs.declared.slot.FieldSlot.TheVariants as entries
-use Rattle.prost_reflect_dynamic.specs.declared.value.Value.{Value, the_lemmas}
 use Rattle.prost_reflect_dynamic.specs.declared.value.Value.TheBlock.{the_depth, member-Value}
-use Rattle.prost_reflect_dynamic.specs.Scalars.{TakesScalar, kept_scalar_bytes}
-use Rattle.prost_reflect_dynamic.specs.View.{value_of}
-use Rattle.prost_reflect_fields.specs.FieldSlots.{value_in}
 use Rattle.prost_reflect_dynamic.proofs.Encodings.{whole_written, entry_writable, value_adds, unknown_adds}
 use Rattle.prost_reflect_dynamic.proofs.NestedWrites.{nested_written, no_message_value}
 use Rattle.prost_reflect_dynamic.proofs.WrittenValues.{row_written}
 use Rattle.prost_reflect_dynamic.proofs.ScalarRefs.{takes_scalar}
-use Rattle.prost_reflect_dynamic.specs.RowKinds.{names_message}
-use Rattle.prost_reflect_fields.specs.Known.{known_of}
 use Rattle.prost_reflect_dynamic.proofs.Merging.{no_message_kind}
 use Rattle.prost_reflect_dynamic.proofs.WrittenLists.{valid_list_value, row_list_written, takes_same, list_value_bytes, holds_at}
 use Rattle.prost_reflect_dynamic.proofs.RepeatedRows.{listed_form, map_of_rows}
 use Rattle.prost_reflect_dynamic.proofs.NestedMapWrites.{nested_rows, nested_rows_written, nested_value_bytes, most_in, entry_at}
-use Rattle.prost_reflect_dynamic.specs.NestedMaps.{AreEntries}
 use Rattle.prost_reflect_dynamic.proofs.WrittenMaps.{cut_pairs}
-use Rattle.prost_reflect_dynamic.specs.declared.value.MapKey.{MapKey}
 use Rattle.prost_reflect_dynamic.proofs.MapRows.{valid_map_value}
 use Rattle.prost_reflect_dynamic.proofs.ElementWrites.{row_messages_written, element_encodable, no_element}
-use Rattle.prost_reflect_dynamic.specs.Lists.{ElementWritable}
 use Rattle.prost_reflect_dynamic.proofs.message.encode.+writing.Goals as goal
 
 one_value : (e : FieldSlot Value) (v : Value) → (e ≡ entries.Value v) ⊎ ((u : UnknownFieldSet) × (e ≡ entries.Both v u)) → value_in e ≡ Some v

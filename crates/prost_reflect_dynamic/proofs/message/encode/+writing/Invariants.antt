@@ -1,17 +1,6 @@
-use Rattle.std.proofs.Common.{◌≡◌, ℕ, List, ◌++◌, drop}
+use Rattle.std.specs.Prelude.{◌≡◌, ◌++◌}
+use Rattle.prost_reflect_dynamic.proofs.Common.{ℕ, List, drop, field_row, pool_rows, nested_pairs_bytes, MapKey, Value, Adds, known_of, items_left_back, FieldSlot, message_type_of, stored_in, entries_bytes, elements_bytes}
 use Rattle.std.specs.Iterator.Adapters.{rev_source}
-use Rattle.prost_reflect_tables.specs.Rows.{field_row}
-use Rattle.prost_reflect_pool.specs.SharedPools.{pool_rows}
-use Rattle.prost_reflect_dynamic.specs.NestedMaps.{nested_pairs_bytes}
-use Rattle.prost_reflect_dynamic.specs.declared.value.MapKey.{MapKey}
-use Rattle.prost_reflect_dynamic.specs.declared.value.Value.{Value}
-use Rattle.prost_reflect_wire.specs.Sinks.{Adds}
-use Rattle.prost_reflect_fields.specs.Known.{known_of}
-use Rattle.prost_reflect_fields.specs.ItemsLeft.{items_left_back}
-use Rattle.prost_reflect_fields.specs.declared.slot.FieldSlot.{FieldSlot}
-use Rattle.prost_reflect_dynamic.specs.View.{message_type_of, stored_in}
-use Rattle.prost_reflect_dynamic.specs.Encoding.{entries_bytes}
-use Rattle.prost_reflect_dynamic.specs.Lists.{elements_bytes}
 use Rattle.prost_reflect_dynamic.proofs.message.encode.+writing.Given as goal
 
 -- the slots behind those that are left are written

@@ -1,10 +1,6 @@
-use Rattle.std.proofs.Common.{◌≡◌, ap, ◌∙◌, rules, w32, to_z, of_z}
+use Rattle.std.specs.Prelude.{◌≡◌}
+use Rattle.prost_reflect_dynamic.proofs.Common.{ap, ◌∙◌, rules, w32, to_z, of_z, is_some, slice_get_within, enum_row, values_at, numbered_value}
 use Rattle.std.proofs.Math.Facts.{to_z-of_z}
-use Rattle.std.specs.Prelude.{is_some}
-use Rattle.std.proofs.lemmas.Option.{slice_get_within}
-use Rattle.prost_reflect_tables.specs.Rows.{enum_row}
-use Rattle.prost_reflect_pool.specs.Enums.{values_at}
-use Rattle.prost_reflect_pool.specs.Lookups.{numbered_value}
 use Rattle.prost_reflect_pool.specs.Pools.{pool_rows}
 use Rattle.prost_reflect_dynamic.proofs.DeclaredNumbers.{number_found}
 use Rattle.prost_reflect_dynamic.proofs.message.enums.has_number.Goals as goal

@@ -1,8 +1,6 @@
-use Rattle.std.proofs.Common.{◌≡◌, true, ◌&&◌, true≢false, [], ◌∷◌, ◌++◌, sym, ap, ap₂, ◌∙◌}
+use Rattle.std.specs.Prelude.{◌≡◌, ◌&&◌, ◌∷◌, ◌++◌}
+use Rattle.prost_reflect_dynamic.proofs.Common.{true, true≢false, [], sym, ap, ap₂, ◌∙◌, items_left, value_stored, stored_entries, same_entries}
 use Rattle.prost_reflect_wire.specs.Equality.{set_eq}
-use Rattle.prost_reflect_fields.specs.ItemsLeft.{items_left}
-use Rattle.prost_reflect_dynamic.specs.Stored.{value_stored, stored_entries}
-use Rattle.prost_reflect_dynamic.specs.Same.{same_entries}
 use Rattle.prost_reflect_dynamic.proofs.StoredViews.{texts_equal, bytes_equal, lists_equal, maps_equal, same_type, type_same, types_differ, types_same, numbers_differ, entry_alone, same_slot, slot_passed, keys_differ, values_differ, pair_passed, turned_true, turned_false}
 use Rattle.prost_reflect_dynamic.proofs.Copied.{one_given}
 use Rattle.prost_reflect_dynamic.proofs.message.equality.+equality.Goals as goal

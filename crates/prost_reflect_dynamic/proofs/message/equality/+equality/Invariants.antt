@@ -1,11 +1,6 @@
-use Rattle.std.proofs.Common.{◌≡◌, ℕ, List, ◌++◌, drop}
-use Rattle.prost_reflect_fields.specs.ItemsLeft.{items_left}
-use Rattle.prost_reflect_fields.specs.declared.slot.FieldSlot.{FieldSlot}
-use Rattle.prost_reflect_dynamic.specs.declared.value.Value.{Value}
-use Rattle.prost_reflect_dynamic.specs.View.{stored_in}
+use Rattle.std.specs.Prelude.{◌≡◌, ◌++◌}
+use Rattle.prost_reflect_dynamic.proofs.Common.{ℕ, List, drop, items_left, FieldSlot, Value, stored_in, stored_items, stored_pairs, stored_entries, value_stored, same_items, same_pairs, same_entries, equal_messages}
 use Rattle.std.specs.Slice.Iter.{iter_rest}
-use Rattle.prost_reflect_dynamic.specs.Stored.{stored_items, stored_pairs, stored_entries, value_stored}
-use Rattle.prost_reflect_dynamic.specs.Same.{same_items, same_pairs, same_entries, equal_messages}
 use Rattle.prost_reflect_dynamic.proofs.message.equality.+equality.Given as goal
 
 -- the lists, the maps, the messages are equal exactly if what is left of them is

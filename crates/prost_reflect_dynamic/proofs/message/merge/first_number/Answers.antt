@@ -1,6 +1,4 @@
-use Rattle.std.proofs.Common.{sym, subst}
-use Rattle.prost_reflect_wire.specs.Record.{payload_wire}
-use Rattle.prost_reflect_dynamic.specs.Merged.{BeginsWith}
+use Rattle.prost_reflect_dynamic.proofs.Common.{sym, subst, payload_wire, BeginsWith}
 use Rattle.prost_reflect_dynamic.proofs.ChangedNumbers.{keyed, value_moved, begins_with}
 use Rattle.prost_reflect_dynamic.proofs.message.merge.first_number.Goals as goal
 

@@ -1,5 +1,4 @@
-use Rattle.std.proofs.Common.{sym, ap, ◌∙◌, true≢false}
-use Rattle.std.specs.List.{list_any}
+use Rattle.prost_reflect_dynamic.proofs.Common.{sym, ap, ◌∙◌, true≢false, list_any}
 use Rattle.prost_reflect_dynamic.proofs.ChangedNumbers.{nothing_noted, rest_shorter, number_noted, all_noted}
 use Rattle.prost_reflect_dynamic.proofs.message.merge.numbers_in.Goals as goal
 

@@ -1,6 +1,4 @@
-use Rattle.std.proofs.Common.{length}
-use Rattle.prost_reflect_fields.specs.Known.{known_of}
-use Rattle.prost_reflect_fields.specs.NumberSets.{HasWholeOneofs}
+use Rattle.prost_reflect_dynamic.proofs.Common.{length, known_of, HasWholeOneofs}
 use Rattle.prost_reflect_dynamic.proofs.ChangedNumbers.{Noted}
 use Rattle.prost_reflect_dynamic.proofs.message.merge.numbers_in.Given as goal
 

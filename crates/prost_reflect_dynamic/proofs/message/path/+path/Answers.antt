@@ -1,7 +1,5 @@
-use Rattle.std.proofs.Common.{rules, ◌≡◌, true, false, length, nat_eq, sym}
-use Rattle.std.proofs.lemmas.Result.{IfOk-weaker}
-use Rattle.prost_reflect_dynamic.specs.Access.{left_at}
-use Rattle.prost_reflect_dynamic.specs.View.{value_of, content_of}
+use Rattle.std.specs.Prelude.{◌≡◌}
+use Rattle.prost_reflect_dynamic.proofs.Common.{rules, true, false, length, nat_eq, sym, IfOk-weaker, left_at, value_of, content_of}
 use Rattle.prost_reflect_dynamic.proofs.Views.{value_of_message}
 use Rattle.prost_reflect_dynamic.proofs.LentPaths.{set_last, held_path, set_through}
 use Rattle.prost_reflect_dynamic.proofs.message.path.+path.Goals as goal

@@ -1,4 +1,5 @@
-use Rattle.std.proofs.Common.{◌+◌, ◌*◌, length}
+use Rattle.std.specs.Prelude.{◌+◌, ◌*◌}
+use Rattle.prost_reflect_dynamic.proofs.Common.{length}
 use Rattle.prost_reflect_dynamic.proofs.message.path.+path.Given as goal
 
 abbrev pub decreases-set_at_path : goal.decreases-set_at_path

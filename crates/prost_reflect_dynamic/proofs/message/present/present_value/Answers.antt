@@ -1,4 +1,4 @@
-use Rattle.std.proofs.Common.{sym}
+use Rattle.prost_reflect_dynamic.proofs.Common.{sym}
 use Rattle.prost_reflect_dynamic.proofs.Described.{found_checked}
 use Rattle.prost_reflect_dynamic.proofs.message.present.present_value.Goals as goal
 

@@ -1,11 +1,6 @@
-use Rattle.std.proofs.Common.{◌≡◌, true, [], ◌∷◌, ◌++◌, ap, sym, ◌∙◌}
-use Rattle.prost_reflect_pool.specs.SharedPools.{pool_contents, pool_rows}
-use Rattle.prost_reflect_fields.specs.Known.{known_of}
-use Rattle.prost_reflect_fields.specs.ItemsLeft.{items_left}
+use Rattle.std.specs.Prelude.{◌≡◌, ◌∷◌, ◌++◌}
+use Rattle.prost_reflect_dynamic.proofs.Common.{true, [], ap, sym, ◌∙◌, pool_contents, pool_rows, known_of, items_left, entries_typed, value_typed, stored_entries, value_stored, message_type_of}
 use Rattle.prost_reflect_fields.specs.declared.slot.FieldSlot.TheVariants as slots
-use Rattle.prost_reflect_dynamic.specs.DeepTypes.{entries_typed, value_typed}
-use Rattle.prost_reflect_dynamic.specs.Stored.{stored_entries, value_stored}
-use Rattle.prost_reflect_dynamic.specs.View.{message_type_of}
 use Rattle.prost_reflect_dynamic.proofs.Copied.{one_given}
 use Rattle.prost_reflect_dynamic.proofs.DeepTypes.{typed_message, slot_typed, slot_passed}
 use Rattle.prost_reflect_dynamic.proofs.StoredViews.{stored_list, stored_map}

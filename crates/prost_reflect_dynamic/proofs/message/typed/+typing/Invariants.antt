@@ -1,12 +1,5 @@
-use Rattle.std.proofs.Common.{◌≡◌, ℕ, List, ◌++◌, drop}
-use Rattle.prost_reflect_pool.specs.SharedPools.{pool_contents, pool_rows}
-use Rattle.prost_reflect_fields.specs.Known.{known_of}
-use Rattle.prost_reflect_fields.specs.ItemsLeft.{items_left}
-use Rattle.prost_reflect_fields.specs.declared.slot.FieldSlot.{FieldSlot}
-use Rattle.prost_reflect_dynamic.specs.declared.value.Value.{Value}
-use Rattle.prost_reflect_dynamic.specs.DeepTypes.{all_typed, entries_typed, items_typed, pairs_typed}
-use Rattle.prost_reflect_dynamic.specs.Stored.{stored_items, stored_pairs, stored_entries, value_stored, message_stored}
-use Rattle.prost_reflect_dynamic.specs.View.{message_type_of, stored_in}
+use Rattle.std.specs.Prelude.{◌≡◌, ◌++◌}
+use Rattle.prost_reflect_dynamic.proofs.Common.{ℕ, List, drop, pool_contents, pool_rows, known_of, items_left, FieldSlot, Value, all_typed, entries_typed, items_typed, pairs_typed, stored_items, stored_pairs, stored_entries, value_stored, message_stored, message_type_of, stored_in}
 use Rattle.prost_reflect_dynamic.proofs.message.typed.+typing.Given as goal
 
 -- all are of their fields' types where those that are left are

@@ -1,7 +1,4 @@
-use Rattle.std.proofs.Common.{sym, ◌∙◌, ap}
-use Rattle.prost_reflect_tables.specs.Rows.{field_row}
-use Rattle.prost_reflect_pool.specs.SharedPools.{pool_rows}
-use Rattle.prost_reflect_dynamic.specs.Stored.{value_stored}
+use Rattle.prost_reflect_dynamic.proofs.Common.{sym, ◌∙◌, ap, field_row, pool_rows, value_stored}
 use Rattle.prost_reflect_dynamic.proofs.DeepTypes.{is_stored_map, map_place, map_none, lone_place, no_stored_map}
 use Rattle.prost_reflect_dynamic.proofs.StoredViews.{stored_map}
 use Rattle.prost_reflect_dynamic.proofs.message.typed.place_of.Goals as goal

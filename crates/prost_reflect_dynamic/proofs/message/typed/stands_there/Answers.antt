@@ -1,13 +1,5 @@
-use Rattle.std.proofs.Common.{◌≡◌, true, ◌&&◌, nat_eq, sym, ◌∙◌, ap, ap₂}
-use Rattle.std.proofs.lemmas.Bool.{eq-eqb}
-use Rattle.std.specs.declared.alloc.Global.{Global}
-use Rattle.std.specs.declared.rc.Rc.{Rc}
-use Rattle.prost_reflect_wire.specs.Schema.{passes}
-use Rattle.prost_reflect_pool.specs.PoolEquality.{contents_eq}
-use Rattle.prost_reflect_pool.specs.SharedPools.{pool_contents}
-use Rattle.prost_reflect_pool.specs.declared.pool.LinkedPool.{LinkedPool}
-use Rattle.prost_reflect_pool.specs.declared.pooled_type.PooledType.{PooledType}
-use Rattle.prost_reflect_dynamic.specs.View.{message_type_of}
+use Rattle.std.specs.Prelude.{◌≡◌, ◌&&◌}
+use Rattle.prost_reflect_dynamic.proofs.Common.{true, nat_eq, sym, ◌∙◌, ap, ap₂, eq-eqb, Global, Rc, passes, contents_eq, pool_contents, LinkedPool, PooledType, message_type_of}
 use Rattle.prost_reflect_dynamic.proofs.DeepTypes.{stands_is}
 use Rattle.prost_reflect_dynamic.proofs.message.typed.stands_there.Goals as goal
 

@@ -1,6 +1,5 @@
+use Rattle.prost_reflect_dynamic.proofs.Common.{scalar_of, key_of}
 use Rattle.prost_reflect_dynamic.specs.NamedDefaults.{default_named}
-use Rattle.prost_reflect_dynamic.specs.Scalars.{scalar_of}
-use Rattle.prost_reflect_dynamic.specs.View.{key_of}
 use Rattle.prost_reflect_dynamic.proofs.ScalarRefs.{key_tested}
 use Rattle.prost_reflect_dynamic.proofs.value.MapKey.is_default.Goals as goal
 

@@ -1,5 +1,4 @@
-use Rattle.std.proofs.Common.{refl, ap}
-use Rattle.prost_reflect_wire.specs.Scalar.{Text}
+use Rattle.prost_reflect_dynamic.proofs.Common.{refl, ap, Text}
 use Rattle.prost_reflect_dynamic.proofs.value.MapKeyClone.clone.Goals as goal
 
 pub returns-in-Bool : goal.returns-in-Bool

@@ -1,4 +1,4 @@
-use Rattle.std.proofs.Common.{rules}
+use Rattle.prost_reflect_dynamic.proofs.Common.{rules}
 use Rattle.prost_reflect_dynamic.proofs.value.Value.as_message_mut.Goals as goal
 
 -- The search reaches its limits unless it is told that the value is a message, and may look into the layout of values.

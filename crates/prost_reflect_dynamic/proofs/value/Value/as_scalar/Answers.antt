@@ -1,5 +1,4 @@
-use Rattle.std.proofs.Common.{ap, sym}
-use Rattle.prost_reflect_dynamic.specs.Scalars.{scalar_in}
+use Rattle.prost_reflect_dynamic.proofs.Common.{ap, sym, scalar_in}
 use Rattle.prost_reflect_dynamic.proofs.Views.{value_views}
 use Rattle.prost_reflect_dynamic.proofs.value.Value.as_scalar.Goals as goal
 

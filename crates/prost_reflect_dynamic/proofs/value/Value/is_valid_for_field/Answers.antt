@@ -1,5 +1,4 @@
-use Rattle.std.proofs.Common.{rules, ◌∙◌}
-use Rattle.prost_reflect_tables.specs.Rows.{field_row}
+use Rattle.prost_reflect_dynamic.proofs.Common.{rules, ◌∙◌, field_row}
 use Rattle.prost_reflect_dynamic.proofs.OwnFields.{own_takes}
 use Rattle.prost_reflect_dynamic.proofs.value.Value.is_valid_for_field.Goals as goal
 

@@ -1,5 +1,4 @@
-use Rattle.prost_reflect_dynamic.specs.Scalars.{scalar_of}
-use Rattle.prost_reflect_dynamic.specs.View.{value_of}
+use Rattle.prost_reflect_dynamic.proofs.Common.{scalar_of, value_of}
 use Rattle.prost_reflect_dynamic.proofs.ScalarRefs.{scalar_seen, scalar_there}
 use Rattle.prost_reflect_dynamic.proofs.value.Value.scalar.Goals as goal
 

@@ -1,6 +1,4 @@
-use Rattle.std.proofs.Common.{sym, ◌∙◌}
-use Rattle.prost_reflect_tables.specs.Rows.{field_row}
-use Rattle.prost_reflect_pool.specs.SharedPools.{pool_rows}
+use Rattle.prost_reflect_dynamic.proofs.Common.{sym, ◌∙◌, field_row, pool_rows}
 use Rattle.prost_reflect_dynamic.proofs.FieldDefaults.{place_in_range}
 use Rattle.prost_reflect_dynamic.proofs.value.defaults.default_value.Goals as goal
 

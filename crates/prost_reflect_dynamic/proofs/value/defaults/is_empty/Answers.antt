@@ -1,6 +1,5 @@
-use Rattle.std.proofs.Common.{sym, ap, ◌∙◌, true≢false}
 use Rattle.std.specs.Prelude.{◌==◌}
-use Rattle.prost_reflect_dynamic.specs.View.{value_of}
+use Rattle.prost_reflect_dynamic.proofs.Common.{sym, ap, ◌∙◌, true≢false, value_of}
 use Rattle.prost_reflect_dynamic.proofs.Views.{value_of_list, value_of_map}
 use Rattle.prost_reflect_dynamic.proofs.Defaults.{some_items, no_pairs, some_pairs}
 use Rattle.prost_reflect_dynamic.proofs.value.defaults.is_empty.Goals as goal

@@ -1,10 +1,5 @@
-use Rattle.std.proofs.Common.{ap, sym, ◌∙◌}
-use Rattle.prost_reflect_wire.specs.Typing.{is_empty_value}
-use Rattle.prost_reflect_tables.specs.Rows.{field_row}
-use Rattle.prost_reflect_tables.specs.Shown.{schema_field}
+use Rattle.prost_reflect_dynamic.proofs.Common.{ap, sym, ◌∙◌, is_empty_value, field_row, schema_field, LinkedPool, value_of}
 use Rattle.prost_reflect_pool.specs.Pools.{pool_rows}
-use Rattle.prost_reflect_pool.specs.declared.pool.LinkedPool.{LinkedPool}
-use Rattle.prost_reflect_dynamic.specs.View.{value_of}
 use Rattle.prost_reflect_dynamic.proofs.FieldDefaults.{elements_tested}
 use Rattle.prost_reflect_dynamic.proofs.value.defaults.is_row_default.Goals as goal
 

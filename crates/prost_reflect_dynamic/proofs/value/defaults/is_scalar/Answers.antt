@@ -1,5 +1,4 @@
-use Rattle.prost_reflect_dynamic.specs.Scalars.{scalar_of}
-use Rattle.prost_reflect_dynamic.specs.View.{value_of}
+use Rattle.prost_reflect_dynamic.proofs.Common.{scalar_of, value_of}
 use Rattle.prost_reflect_dynamic.proofs.ScalarRefs.{scalar_tested}
 use Rattle.prost_reflect_dynamic.proofs.value.defaults.is_scalar.Goals as goal
 

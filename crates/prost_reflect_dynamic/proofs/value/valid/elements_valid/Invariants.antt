@@ -1,10 +1,5 @@
-use Rattle.std.proofs.Common.{◌≡◌, false, drop}
-use Rattle.std.specs.List.{list_all}
-use Rattle.std.specs.Option.{option_copied}
-use Rattle.prost_reflect_wire.specs.Typing.{element_valid}
-use Rattle.prost_reflect_tables.specs.Shown.{schema_kind}
-use Rattle.prost_reflect_dynamic.specs.NamedKinds.{enums_in}
-use Rattle.prost_reflect_dynamic.specs.View.{value_of}
+use Rattle.std.specs.Prelude.{◌≡◌}
+use Rattle.prost_reflect_dynamic.proofs.Common.{false, drop, list_all, option_copied, element_valid, schema_kind, enums_in, value_of}
 use Rattle.prost_reflect_dynamic.proofs.value.valid.elements_valid.Given as goal
 
 -- all fit where those that are left do

@@ -1,10 +1,4 @@
-use Rattle.std.proofs.Common.{◌∙◌, ap, false}
-use Rattle.std.specs.List.{list_all}
-use Rattle.std.specs.Option.{option_copied}
-use Rattle.prost_reflect_wire.specs.Typing.{element_valid}
-use Rattle.prost_reflect_tables.specs.Shown.{schema_kind}
-use Rattle.prost_reflect_dynamic.specs.NamedKinds.{enums_in}
-use Rattle.prost_reflect_dynamic.specs.View.{value_of}
+use Rattle.prost_reflect_dynamic.proofs.Common.{◌∙◌, ap, false, list_all, option_copied, element_valid, schema_kind, enums_in, value_of}
 use Rattle.prost_reflect_dynamic.proofs.Views.{value_of_list}
 use Rattle.prost_reflect_dynamic.proofs.Valid.{elements_are}
 use Rattle.prost_reflect_dynamic.proofs.value.valid.list_fits.Goals as goal

@@ -1,8 +1,4 @@
-use Rattle.std.proofs.Common.{◌∙◌, false}
-use Rattle.std.specs.Option.{option_copied}
-use Rattle.prost_reflect_tables.specs.Rows.{field_row}
-use Rattle.prost_reflect_tables.specs.Shown.{schema_kind}
-use Rattle.prost_reflect_dynamic.specs.NamedKinds.{enums_in}
+use Rattle.prost_reflect_dynamic.proofs.Common.{◌∙◌, false, option_copied, field_row, schema_kind, enums_in}
 use Rattle.prost_reflect_dynamic.proofs.Views.{value_of_map}
 use Rattle.prost_reflect_dynamic.proofs.Valid.{pairs_are}
 use Rattle.prost_reflect_dynamic.proofs.value.valid.map_fits.Goals as goal

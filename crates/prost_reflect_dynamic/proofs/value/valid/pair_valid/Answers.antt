@@ -1,9 +1,5 @@
-use Rattle.std.proofs.Common.{◌≡◌, true, false, ◌&&◌, sym, ap, ◌∙◌}
-use Rattle.std.specs.Option.{option_copied}
-use Rattle.prost_reflect_wire.specs.Typing.{element_valid, kind_takes}
-use Rattle.prost_reflect_tables.specs.Shown.{schema_kind}
-use Rattle.prost_reflect_dynamic.specs.NamedKinds.{enums_in}
-use Rattle.prost_reflect_dynamic.specs.View.{key_of, value_of}
+use Rattle.std.specs.Prelude.{◌≡◌, ◌&&◌}
+use Rattle.prost_reflect_dynamic.proofs.Common.{true, false, sym, ap, ◌∙◌, option_copied, element_valid, kind_takes, schema_kind, enums_in, key_of, value_of}
 use Rattle.prost_reflect_dynamic.proofs.value.valid.pair_valid.Goals as goal
 
 pub returns-then-scalar_valid : goal.returns-then-scalar_valid

@@ -1,8 +1,5 @@
-use Rattle.std.proofs.Common.{◌≡◌, false}
-use Rattle.std.specs.List.{list_all}
-use Rattle.std.specs.Option.{option_copied}
-use Rattle.prost_reflect_tables.specs.Shown.{schema_kind}
-use Rattle.prost_reflect_dynamic.specs.NamedKinds.{enums_in}
+use Rattle.std.specs.Prelude.{◌≡◌}
+use Rattle.prost_reflect_dynamic.proofs.Common.{false, list_all, option_copied, schema_kind, enums_in}
 use Rattle.prost_reflect_dynamic.specs.Valid.{pair_fits}
 use Rattle.prost_reflect_dynamic.proofs.value.valid.pairs_valid.Given as goal
 

@@ -1,7 +1,5 @@
-use Rattle.std.proofs.Common.{sym, ◌∙◌}
-use Rattle.prost_reflect_tables.specs.Rows.{field_row}
+use Rattle.prost_reflect_dynamic.proofs.Common.{sym, ◌∙◌, field_row, value_of}
 use Rattle.prost_reflect_pool.specs.Pools.{pool_rows}
-use Rattle.prost_reflect_dynamic.specs.View.{value_of}
 use Rattle.prost_reflect_dynamic.proofs.Valid.{list_valid, map_valid}
 use Rattle.prost_reflect_dynamic.proofs.value.valid.value_valid.Goals as goal
 

@@ -1,4 +1,4 @@
-use Rattle.prost_reflect_pool.specs.SharedPools.{pool_rows}
+use Rattle.prost_reflect_dynamic.proofs.Common.{pool_rows}
 use Rattle.prost_reflect_dynamic.proofs.OwnRows.{first_there}
 use Rattle.prost_reflect_dynamic.proofs.descriptor.enums.EnumDescriptor.default_value.Goals as goal
 

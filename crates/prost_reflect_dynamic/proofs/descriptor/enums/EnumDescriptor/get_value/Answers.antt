@@ -1,11 +1,7 @@
-use Rattle.std.proofs.Common.{◌≡◌, ap, ◌∙◌, ℤ, rules, w32, to_z, of_z}
+use Rattle.std.specs.Prelude.{◌≡◌}
+use Rattle.prost_reflect_dynamic.proofs.Common.{ap, ◌∙◌, ℤ, rules, w32, to_z, of_z, IfOk-weaker, values_at, numbered_value, LinkedPool, values_of}
 use Rattle.std.proofs.Math.Facts.{to_z-of_z}
-use Rattle.std.proofs.lemmas.Result.{IfOk-weaker}
-use Rattle.prost_reflect_pool.specs.Enums.{values_at}
-use Rattle.prost_reflect_pool.specs.Lookups.{numbered_value}
 use Rattle.prost_reflect_pool.specs.Pools.{pool_rows}
-use Rattle.prost_reflect_pool.specs.declared.pool.LinkedPool.{LinkedPool}
-use Rattle.prost_reflect_dynamic.specs.NamedLists.{values_of}
 use Rattle.prost_reflect_dynamic.proofs.descriptor.enums.EnumDescriptor.get_value.Goals as goal
 
 pub returns-clause-found : goal.returns-clause-found

@@ -1,9 +1,5 @@
-use Rattle.std.proofs.Common.{Some, None, ap, ◌∙◌}
-use Rattle.prost_reflect_pool.specs.Enums.{values_at}
-use Rattle.prost_reflect_pool.specs.Lookups.{named_value}
+use Rattle.prost_reflect_dynamic.proofs.Common.{Some, None, ap, ◌∙◌, values_at, named_value, LinkedPool, values_of}
 use Rattle.prost_reflect_pool.specs.Pools.{pool_rows}
-use Rattle.prost_reflect_pool.specs.declared.pool.LinkedPool.{LinkedPool}
-use Rattle.prost_reflect_dynamic.specs.NamedLists.{values_of}
 use Rattle.prost_reflect_dynamic.proofs.OwnRows.{number_found}
 use Rattle.prost_reflect_dynamic.proofs.descriptor.enums.EnumDescriptor.number_named.Goals as goal
 

@@ -1,5 +1,4 @@
-use Rattle.std.proofs.Common.{length}
-use Rattle.prost_reflect_dynamic.specs.NamedLists.{values_of}
+use Rattle.prost_reflect_dynamic.proofs.Common.{length, values_of}
 use Rattle.prost_reflect_dynamic.proofs.PlaceRanges.{listed_below}
 use Rattle.prost_reflect_dynamic.proofs.descriptor.enums.EnumDescriptor.values.Goals as goal
 

@@ -1,8 +1,4 @@
-use Rattle.std.proofs.lemmas.Result.{IfOk-weaker}
-use Rattle.prost_reflect_tables.specs.Rows.{field_row}
-use Rattle.prost_reflect_dynamic.specs.NamedExtensions.{extension_row_named}
-use Rattle.prost_reflect_dynamic.specs.RowLawProofs.{extension_default_fits}
-use Rattle.prost_reflect_dynamic.specs.declared.value.Value.{Value}
+use Rattle.prost_reflect_dynamic.proofs.Common.{IfOk-weaker, field_row, extension_row_named, extension_default_fits, Value}
 use Rattle.prost_reflect_dynamic.proofs.OwnDefaults.{extension_checked, default_is, is_default, default_taken}
 use Rattle.prost_reflect_dynamic.proofs.descriptor.extension.ExtensionDescriptor.default_value.Goals as goal
 

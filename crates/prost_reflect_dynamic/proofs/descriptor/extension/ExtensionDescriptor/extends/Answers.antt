@@ -1,8 +1,5 @@
-use Rattle.std.proofs.Common.{◌≡◌, Some, ap, sym, ◌∙◌}
-use Rattle.std.proofs.lemmas.Bool.{eqb-true}
-use Rattle.std.proofs.lemmas.Option.{same_Some}
-use Rattle.prost_reflect_pool.specs.PoolEquality.{contents_eq, contents_decide}
-use Rattle.prost_reflect_pool.specs.SharedPools.{pool_contents}
+use Rattle.std.specs.Prelude.{◌≡◌}
+use Rattle.prost_reflect_dynamic.proofs.Common.{Some, ap, sym, ◌∙◌, eqb-true, same_Some, contents_eq, contents_decide, pool_contents}
 use Rattle.prost_reflect_dynamic.proofs.descriptor.extension.ExtensionDescriptor.extends.Goals as goal
 
 pub returns-then-extended_place-index : goal.returns-then-extended_place-index

@@ -1,5 +1,4 @@
-use Rattle.prost_reflect_tables.specs.Rows.{field_row}
-use Rattle.prost_reflect_pool.specs.SharedPools.{pool_rows}
+use Rattle.prost_reflect_dynamic.proofs.Common.{field_row, pool_rows}
 use Rattle.prost_reflect_dynamic.proofs.OwnRows.{oneof_there}
 use Rattle.prost_reflect_dynamic.proofs.descriptor.field.FieldDescriptor.containing_oneof.Goals as goal
 

@@ -1,13 +1,5 @@
-use Rattle.std.proofs.Common.{◌≡◌, subst}
-use Rattle.std.proofs.lemmas.Result.{IfOk-weaker}
-use Rattle.prost_reflect_tables.specs.Rows.{field_row}
-use Rattle.prost_reflect_pool.specs.SharedPools.{pool_rows}
-use Rattle.prost_reflect_dynamic.specs.Defaults.{row_default, IsRowDefault}
-use Rattle.prost_reflect_dynamic.specs.NamedField.{row_at}
-use Rattle.prost_reflect_dynamic.specs.RowLawProofs.{field_default_fits}
-use Rattle.prost_reflect_dynamic.specs.View.{value_of}
-use Rattle.prost_reflect_dynamic.specs.declared.descriptor.pool.DescriptorPool.{DescriptorPool}
-use Rattle.prost_reflect_dynamic.specs.declared.value.Value.{Value}
+use Rattle.std.specs.Prelude.{◌≡◌}
+use Rattle.prost_reflect_dynamic.proofs.Common.{subst, IfOk-weaker, field_row, pool_rows, row_default, IsRowDefault, row_at, field_default_fits, value_of, DescriptorPool, Value}
 use Rattle.prost_reflect_dynamic.proofs.OwnDefaults.{field_requires, default_is, is_default, default_taken}
 use Rattle.prost_reflect_dynamic.proofs.descriptor.field.FieldDescriptor.default_value.Goals as goal
 

@@ -1,9 +1,4 @@
-use Rattle.std.proofs.Common.{length, subst, sym}
-use Rattle.std.specs.Prelude.{IsTrue}
-use Rattle.prost_reflect_tables.specs.Linked.{kind_in_range}
-use Rattle.prost_reflect_tables.proofs.Keeping.{field_keeps}
-use Rattle.prost_reflect_pool.specs.SharedPools.{pool_rows}
-use Rattle.prost_reflect_dynamic.specs.declared.descriptor.pool.DescriptorPool.{DescriptorPool}
+use Rattle.prost_reflect_dynamic.proofs.Common.{length, subst, sym, IsTrue, kind_in_range, field_keeps, pool_rows, DescriptorPool}
 use Rattle.prost_reflect_dynamic.proofs.descriptor.field.FieldDescriptor.kind.Goals as goal
 
 pub from_table-requires : goal.from_table-requires

@@ -1,5 +1,4 @@
-use Rattle.std.proofs.Common.{length}
-use Rattle.prost_reflect_pool.specs.SharedPools.{files_of}
+use Rattle.prost_reflect_dynamic.proofs.Common.{length, files_of}
 use Rattle.prost_reflect_dynamic.proofs.PlaceRanges.{all_below}
 use Rattle.prost_reflect_dynamic.proofs.descriptor.file.FileDescriptor.dependencies.Goals as goal
 

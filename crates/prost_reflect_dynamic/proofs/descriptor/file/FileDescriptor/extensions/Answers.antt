@@ -1,5 +1,4 @@
-use Rattle.std.proofs.Common.{length}
-use Rattle.prost_reflect_pool.specs.SharedPools.{pool_catalog}
+use Rattle.prost_reflect_dynamic.proofs.Common.{length, pool_catalog}
 use Rattle.prost_reflect_dynamic.proofs.PlaceRanges.{listed_below}
 use Rattle.prost_reflect_dynamic.proofs.descriptor.file.FileDescriptor.extensions.Goals as goal
 

@@ -1,5 +1,4 @@
-use Rattle.std.proofs.Common.{ap, ◌∙◌}
-use Rattle.prost_reflect_dynamic.specs.declared.descriptor.pool.DescriptorPool.{DescriptorPool}
+use Rattle.prost_reflect_dynamic.proofs.Common.{ap, ◌∙◌, DescriptorPool}
 use Rattle.prost_reflect_dynamic.proofs.descriptor.kind.Kind.from_table.Goals as goal
 use Rattle.prost_reflect_dynamic.proofs.descriptor.kind.Kind.from_table.Goals.{in-Double, in-Float, in-Int32, in-Int64, in-Uint32, in-Uint64, in-Sint32, in-Sint64, in-Fixed32, in-Fixed64, in-Sfixed32, in-Sfixed64, in-Bool, in-String, in-Bytes, in-Message+in_ok-clone-in-Message, in-Enum+in_ok-clone-in-Enum}
 

@@ -1,8 +1,5 @@
-use Rattle.std.proofs.Common.{◌≡◌, rules, subst, sym}
-use Rattle.std.specs.Prelude.{IsSome, IsSomeAnd}
-use Rattle.prost_reflect_wire.specs.Scalar.{kind_default}
-use Rattle.prost_reflect_tables.specs.declared.tables.TableKind.{TableKind}
-use Rattle.prost_reflect_dynamic.specs.Scalars.{plain_kind, scalar_of}
+use Rattle.std.specs.Prelude.{◌≡◌}
+use Rattle.prost_reflect_dynamic.proofs.Common.{rules, subst, sym, IsSome, IsSomeAnd, kind_default, TableKind, plain_kind, scalar_of}
 use Rattle.prost_reflect_dynamic.proofs.KindDefaults.{first_taken, scalar_kind, zero_of}
 use Rattle.prost_reflect_dynamic.proofs.descriptor.kind.Kind.scalar_default.Goals as goal
 

@@ -1,6 +1,4 @@
-use Rattle.std.proofs.Common.{rules, length}
-use Rattle.prost_reflect_pool.specs.SharedPools.{pool_catalog}
-use Rattle.prost_reflect_dynamic.specs.NamedExtensions.{Extends}
+use Rattle.prost_reflect_dynamic.proofs.Common.{rules, length, pool_catalog, Extends}
 use Rattle.prost_reflect_dynamic.proofs.OwnExtensions.{ExtendsAt, each_extends, stands_extending}
 use Rattle.prost_reflect_dynamic.proofs.PlaceRanges.{listed_below}
 use Rattle.prost_reflect_dynamic.proofs.Walks.{each_given}

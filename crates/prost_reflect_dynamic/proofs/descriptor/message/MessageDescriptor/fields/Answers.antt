@@ -1,6 +1,5 @@
-use Rattle.std.proofs.Common.{◌∙◌}
+use Rattle.prost_reflect_dynamic.proofs.Common.{◌∙◌, descriptor_fields}
 use Rattle.prost_reflect_dynamic.specs.Named.{SameMessage}
-use Rattle.prost_reflect_dynamic.specs.NamedFields.{descriptor_fields}
 use Rattle.prost_reflect_dynamic.proofs.OwnRows.{own_declared}
 use Rattle.prost_reflect_dynamic.proofs.Walks.{each_stands}
 use Rattle.prost_reflect_dynamic.proofs.descriptor.message.MessageDescriptor.fields.Goals as goal

@@ -1,7 +1,5 @@
-use Rattle.std.proofs.Common.{ap, ◌∙◌}
-use Rattle.std.specs.Bool.{◌==◌}
-use Rattle.prost_reflect_pool.specs.Lookups.{extension_where}
-use Rattle.prost_reflect_pool.specs.declared.pool.LinkedPool.{LinkedPool}
+use Rattle.std.specs.Prelude.{◌==◌}
+use Rattle.prost_reflect_dynamic.proofs.Common.{ap, ◌∙◌, extension_where, LinkedPool}
 use Rattle.prost_reflect_dynamic.proofs.OwnExtensions.{extensions_found}
 use Rattle.prost_reflect_dynamic.proofs.descriptor.message.MessageDescriptor.get_extension.Goals as goal
 

@@ -1,7 +1,4 @@
-use Rattle.std.proofs.Common.{ap, ◌∙◌}
-use Rattle.std.specs.Str.{bytes_eq}
-use Rattle.prost_reflect_pool.specs.Lookups.{extension_where}
-use Rattle.prost_reflect_pool.specs.declared.pool.LinkedPool.{LinkedPool}
+use Rattle.prost_reflect_dynamic.proofs.Common.{ap, ◌∙◌, bytes_eq, extension_where, LinkedPool}
 use Rattle.prost_reflect_dynamic.proofs.OwnExtensions.{extensions_found}
 use Rattle.prost_reflect_dynamic.proofs.descriptor.message.MessageDescriptor.get_extension_by_full_name.Goals as goal
 

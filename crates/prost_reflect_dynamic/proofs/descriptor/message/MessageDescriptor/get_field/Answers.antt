@@ -1,4 +1,4 @@
-use Rattle.std.proofs.Common.{rules}
+use Rattle.prost_reflect_dynamic.proofs.Common.{rules}
 use Rattle.prost_reflect_dynamic.proofs.OwnFields.{numbers_found}
 use Rattle.prost_reflect_dynamic.proofs.descriptor.message.MessageDescriptor.get_field.Goals as goal
 

@@ -1,11 +1,5 @@
-use Rattle.std.proofs.Common.{rules, ap, ◌∙◌}
-use Rattle.std.specs.Str.{bytes_eq}
-use Rattle.prost_reflect_tables.specs.Places.{fields_at}
-use Rattle.prost_reflect_tables.specs.Rows.{FieldRow}
-use Rattle.prost_reflect_pool.specs.Lookups.{named_field}
+use Rattle.prost_reflect_dynamic.proofs.Common.{rules, ap, ◌∙◌, bytes_eq, fields_at, FieldRow, named_field, LinkedPool, descriptor_fields}
 use Rattle.prost_reflect_pool.specs.Pools.{pool_rows}
-use Rattle.prost_reflect_pool.specs.declared.pool.LinkedPool.{LinkedPool}
-use Rattle.prost_reflect_dynamic.specs.NamedFields.{descriptor_fields}
 use Rattle.prost_reflect_dynamic.proofs.OwnFields.{names_found}
 use Rattle.prost_reflect_dynamic.proofs.OwnRows.{fields_found}
 use Rattle.prost_reflect_dynamic.proofs.descriptor.message.MessageDescriptor.get_field_by_name.Goals as goal

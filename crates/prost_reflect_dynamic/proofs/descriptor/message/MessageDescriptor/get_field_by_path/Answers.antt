@@ -1,4 +1,4 @@
-use Rattle.std.proofs.Common.{rules, sym}
+use Rattle.prost_reflect_dynamic.proofs.Common.{rules, sym}
 use Rattle.prost_reflect_dynamic.proofs.Paths.{led_to, led_to_none}
 use Rattle.prost_reflect_dynamic.proofs.descriptor.message.MessageDescriptor.get_field_by_path.Goals as goal
 

@@ -1,5 +1,4 @@
-use Rattle.std.proofs.Common.{Some, sym, ap, ◌∙◌}
-use Rattle.std.proofs.lemmas.Result.{IfOk-weaker}
+use Rattle.prost_reflect_dynamic.proofs.Common.{Some, sym, ap, ◌∙◌, IfOk-weaker}
 use Rattle.prost_reflect_dynamic.proofs.OwnRows.{entry_there}
 use Rattle.prost_reflect_dynamic.proofs.descriptor.message.MessageDescriptor.map_entry_value_field.Goals as goal
 

@@ -1,6 +1,5 @@
-use Rattle.std.proofs.Common.{◌≡◌, ap, sym, ◌∙◌}
-use Rattle.prost_reflect_pool.specs.PoolEquality.{contents_eq, contents_decide}
-use Rattle.prost_reflect_pool.specs.SharedPools.{pool_contents}
+use Rattle.std.specs.Prelude.{◌≡◌}
+use Rattle.prost_reflect_dynamic.proofs.Common.{ap, sym, ◌∙◌, contents_eq, contents_decide, pool_contents}
 use Rattle.prost_reflect_dynamic.proofs.descriptor.message.MessageDescriptor.names.Goals as goal
 
 pub returns-then-self-index : goal.returns-then-self-index

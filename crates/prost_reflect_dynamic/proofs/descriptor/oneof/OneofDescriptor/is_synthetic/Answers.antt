@@ -1,5 +1,5 @@
-use Rattle.std.proofs.Common.{◌<◌, length, get_or, ap, arith}
-use Rattle.prost_reflect_dynamic.specs.NamedFields.{descriptor_fields}
+use Rattle.std.specs.Prelude.{◌<◌}
+use Rattle.prost_reflect_dynamic.proofs.Common.{length, get_or, ap, arith, descriptor_fields}
 use Rattle.prost_reflect_dynamic.proofs.OwnRows.{first_member}
 use Rattle.prost_reflect_dynamic.proofs.descriptor.oneof.OneofDescriptor.is_synthetic.Goals as goal
 

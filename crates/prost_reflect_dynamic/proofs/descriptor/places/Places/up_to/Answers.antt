@@ -1,4 +1,5 @@
-use Rattle.std.proofs.Common.{◌-◌, arith}
+use Rattle.std.specs.Prelude.{◌-◌}
+use Rattle.prost_reflect_dynamic.proofs.Common.{arith}
 use Rattle.prost_reflect_dynamic.proofs.PlaceRanges.{range_within}
 use Rattle.prost_reflect_dynamic.proofs.descriptor.places.Places.up_to.Goals as goal
 

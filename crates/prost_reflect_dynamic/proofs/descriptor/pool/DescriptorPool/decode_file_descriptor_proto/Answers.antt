@@ -1,4 +1,4 @@
-use Rattle.std.proofs.lemmas.Result.{on_ok_weaker, IfErr-weaker}
+use Rattle.prost_reflect_dynamic.proofs.Common.{on_ok_weaker, IfErr-weaker}
 use Rattle.prost_reflect_pool.proofs.OneFile.{one_added, one_refused}
 use Rattle.prost_reflect_dynamic.proofs.descriptor.pool.DescriptorPool.decode_file_descriptor_proto.Goals as goal
 

@@ -1,6 +1,4 @@
-use Rattle.std.proofs.Common.{sym}
-use Rattle.std.proofs.lemmas.Result.{IfOk-weaker}
-use Rattle.prost_reflect_pool.specs.SharedPools.{pool_rows}
+use Rattle.prost_reflect_dynamic.proofs.Common.{sym, IfOk-weaker, pool_rows}
 use Rattle.prost_reflect_dynamic.proofs.PartedNumbers.{numbers_list}
 use Rattle.prost_reflect_dynamic.proofs.Views.{list_viewed}
 use Rattle.prost_reflect_dynamic.proofs.message.decode.enum_list.join_numbers.Goals as goal

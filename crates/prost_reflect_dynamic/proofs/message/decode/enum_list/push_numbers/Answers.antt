@@ -1,8 +1,5 @@
-use Rattle.std.proofs.Common.{◌≡◌, false, nat_eq, map, ap, sym, ◌∙◌, length, true≢false}
-use Rattle.std.proofs.lemmas.Bool.{eqb-true}
-use Rattle.std.proofs.lemmas.List.{nil_from_length}
-use Rattle.std.proofs.lemmas.Result.{err_from_is_err_and}
-use Rattle.prost_reflect_dynamic.specs.View.{value_of}
+use Rattle.std.specs.Prelude.{◌≡◌}
+use Rattle.prost_reflect_dynamic.proofs.Common.{false, nat_eq, map, ap, sym, ◌∙◌, length, true≢false, eqb-true, nil_from_length, err_from_is_err_and, value_of}
 use Rattle.prost_reflect_dynamic.proofs.PartedNumbers.{none_parted, parted_more, parted_done, parted_fault}
 use Rattle.prost_reflect_dynamic.proofs.message.decode.enum_list.push_numbers.Goals as goal
 

@@ -1,6 +1,4 @@
-use Rattle.std.proofs.Common.{length, map}
-use Rattle.prost_reflect_pool.specs.SharedPools.{pool_rows}
-use Rattle.prost_reflect_dynamic.specs.View.{value_of}
+use Rattle.prost_reflect_dynamic.proofs.Common.{length, map, pool_rows, value_of}
 use Rattle.prost_reflect_dynamic.proofs.PartedNumbers.{PartedSoFar}
 use Rattle.prost_reflect_dynamic.proofs.message.decode.enum_list.push_numbers.Given as goal
 

@@ -1,5 +1,4 @@
-use Rattle.std.proofs.Common.{sym}
-use Rattle.std.proofs.lemmas.Result.{IfOk-weaker}
+use Rattle.prost_reflect_dynamic.proofs.Common.{sym, IfOk-weaker}
 use Rattle.prost_reflect_dynamic.proofs.ListMerging.{list_joined}
 use Rattle.prost_reflect_dynamic.proofs.Views.{list_viewed}
 use Rattle.prost_reflect_dynamic.proofs.message.decode.list.join_elements.Goals as goal

@@ -1,7 +1,5 @@
-use Rattle.std.proofs.Common.{◌≡◌, false, nat_eq, ap, sym, ◌∙◌, length, true≢false}
-use Rattle.std.proofs.lemmas.Bool.{eqb-true}
-use Rattle.std.proofs.lemmas.List.{nil_from_length}
-use Rattle.std.proofs.lemmas.Result.{err_from_is_err_and}
+use Rattle.std.specs.Prelude.{◌≡◌}
+use Rattle.prost_reflect_dynamic.proofs.Common.{false, nat_eq, ap, sym, ◌∙◌, length, true≢false, eqb-true, nil_from_length, err_from_is_err_and}
 use Rattle.prost_reflect_dynamic.proofs.ListElements.{packed_more, packed_done, packed_fault}
 use Rattle.prost_reflect_dynamic.proofs.message.decode.list.push_all.Goals as goal
 

@@ -1,4 +1,4 @@
-use Rattle.std.proofs.Common.{length}
+use Rattle.prost_reflect_dynamic.proofs.Common.{length}
 use Rattle.prost_reflect_dynamic.proofs.ListElements.{PackedSoFar}
 use Rattle.prost_reflect_dynamic.proofs.message.decode.list.push_all.Given as goal
 

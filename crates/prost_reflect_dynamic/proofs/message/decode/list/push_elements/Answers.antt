@@ -1,5 +1,4 @@
-use Rattle.std.proofs.Common.{rules}
-use Rattle.std.proofs.lemmas.Result.{err_from_is_err_and}
+use Rattle.prost_reflect_dynamic.proofs.Common.{rules, err_from_is_err_and}
 use Rattle.prost_reflect_dynamic.proofs.ListElements.{packed_added, single_added, body_refused}
 use Rattle.prost_reflect_dynamic.proofs.message.decode.list.push_elements.Goals as goal
 

@@ -1,9 +1,5 @@
-use Rattle.std.proofs.Common.{◌≡◌, false, subst}
-use Rattle.std.specs.Prelude.{None}
-use Rattle.prost_reflect_tables.specs.Rows.{TableRows}
-use Rattle.prost_reflect_tables.specs.Shown.{schema_default, schema_kind}
-use Rattle.prost_reflect_pool.specs.SharedPools.{pool_rows}
-use Rattle.prost_reflect_dynamic.specs.Scalars.{scalar_of}
+use Rattle.std.specs.Prelude.{◌≡◌}
+use Rattle.prost_reflect_dynamic.proofs.Common.{false, subst, None, TableRows, schema_default, schema_kind, pool_rows, scalar_of}
 use Rattle.prost_reflect_dynamic.proofs.ScalarRefs.{kind_blank, kind_shown}
 use Rattle.prost_reflect_dynamic.proofs.message.decode.map.absent_value.Goals as goal
 

@@ -1,5 +1,4 @@
-use Rattle.prost_reflect_dynamic.specs.Scalars.{plain_kind, scalar_of}
-use Rattle.prost_reflect_dynamic.specs.View.{value_of}
+use Rattle.prost_reflect_dynamic.proofs.Common.{plain_kind, scalar_of, value_of}
 use Rattle.prost_reflect_dynamic.proofs.ScalarRefs.{zero_blank, zero_shown}
 use Rattle.prost_reflect_dynamic.proofs.message.decode.map.default_of.Goals as goal
 

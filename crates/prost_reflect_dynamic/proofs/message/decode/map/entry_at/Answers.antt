@@ -1,6 +1,5 @@
-use Rattle.std.proofs.Common.{◌≡◌, false, nat_eq, ap, sym, ◌∙◌, length, true≢false}
-use Rattle.std.proofs.lemmas.Result.{err_from_is_err_and}
-use Rattle.std.proofs.lemmas.Bool.{eq-eqb, ne_eqb}
+use Rattle.std.specs.Prelude.{◌≡◌}
+use Rattle.prost_reflect_dynamic.proofs.Common.{false, nat_eq, ap, sym, ◌∙◌, length, true≢false, err_from_is_err_and, eq-eqb, ne_eqb}
 use Rattle.prost_reflect_dynamic.proofs.MapEntries.{entry_start, no_key_there, key_there, value_there, other_there, no_key_value, no_value, no_other}
 use Rattle.prost_reflect_dynamic.proofs.message.decode.map.entry_at.Goals as goal
 

@@ -1,6 +1,4 @@
-use Rattle.std.proofs.Common.{length}
-use Rattle.prost_reflect_dynamic.specs.Maps.{ReadsEntry}
-use Rattle.prost_reflect_pool.specs.SharedPools.{pool_rows}
+use Rattle.prost_reflect_dynamic.proofs.Common.{length, ReadsEntry, pool_rows}
 use Rattle.prost_reflect_dynamic.proofs.message.decode.map.entry_at.Given as goal
 
 abbrev pub decreases-loop-rest : goal.decreases-loop-rest

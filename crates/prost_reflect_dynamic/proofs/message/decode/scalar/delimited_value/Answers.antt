@@ -1,4 +1,4 @@
-use Rattle.std.proofs.Common.{refl, ◌∙◌, inr}
+use Rattle.prost_reflect_dynamic.proofs.Common.{refl, ◌∙◌, inr}
 use Rattle.prost_reflect_dynamic.specs.declared.value.Value as values
 use Rattle.prost_reflect_dynamic.proofs.Views.{value_of_string}
 use Rattle.prost_reflect_dynamic.proofs.ScalarReads.{text_element, no_text}

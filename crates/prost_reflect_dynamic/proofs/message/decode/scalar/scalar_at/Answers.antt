@@ -1,7 +1,5 @@
-use Rattle.prost_reflect_wire.specs.Record.{Var, Len}
+use Rattle.prost_reflect_dynamic.proofs.Common.{Var, Len, sym, delimited_plain, varint_plain}
 use Rattle.prost_reflect_dynamic.proofs.ScalarReads.{reads_element}
-use Rattle.std.proofs.Common.{sym}
-use Rattle.prost_reflect_wire.proofs.PlainFronts.{delimited_plain, varint_plain}
 use Rattle.prost_reflect_dynamic.proofs.message.decode.scalar.scalar_at.Goals as goal
 
 pub returns-in_ok-value-in-Varint-clause-ok : goal.returns-in_ok-value-in-Varint-clause-ok

@@ -1,6 +1,5 @@
-use Rattle.std.proofs.Common.{arith, ◌-◌}
-use Rattle.prost_reflect_dynamic.specs.Scalars.{TakesScalar}
-use Rattle.prost_reflect_dynamic.specs.View.{value_of}
+use Rattle.std.specs.Prelude.{◌-◌}
+use Rattle.prost_reflect_dynamic.proofs.Common.{arith, TakesScalar, value_of}
 use Rattle.prost_reflect_dynamic.proofs.ScalarRefs.{takes_scalar}
 use Rattle.prost_reflect_dynamic.proofs.WrittenLists.{holds_at}
 use Rattle.prost_reflect_dynamic.proofs.message.encode.list.write_all.Goals as goal

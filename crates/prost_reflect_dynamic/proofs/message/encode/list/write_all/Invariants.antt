@@ -1,6 +1,4 @@
-use Rattle.std.proofs.Common.{drop}
-use Rattle.prost_reflect_wire.specs.Sinks.{Adds}
-use Rattle.prost_reflect_dynamic.specs.Lists.{payloads_bytes}
+use Rattle.prost_reflect_dynamic.proofs.Common.{drop, Adds, payloads_bytes}
 use Rattle.prost_reflect_dynamic.proofs.message.encode.list.write_all.Given as goal
 
 -- the scalars from the index on are written

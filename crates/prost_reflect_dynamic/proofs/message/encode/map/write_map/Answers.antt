@@ -1,6 +1,4 @@
-use Rattle.std.proofs.Common.{sym}
-use Rattle.prost_reflect_wire.proofs.SinkSteps.{adds_same}
-use Rattle.prost_reflect_tables.specs.Rows.{field_row}
+use Rattle.prost_reflect_dynamic.proofs.Common.{sym, adds_same, field_row}
 use Rattle.prost_reflect_dynamic.proofs.MapRows.{rows_written, map_value_bytes}
 use Rattle.prost_reflect_dynamic.proofs.message.encode.map.write_map.Goals as goal
 

@@ -1,5 +1,4 @@
-use Rattle.prost_reflect_tables.specs.Rows.{field_row}
-use Rattle.prost_reflect_dynamic.specs.View.{value_of}
+use Rattle.prost_reflect_dynamic.proofs.Common.{field_row, value_of}
 use Rattle.prost_reflect_dynamic.proofs.ScalarRefs.{takes_scalar}
 use Rattle.prost_reflect_dynamic.proofs.message.encode.map.write_pair.Goals as goal
 

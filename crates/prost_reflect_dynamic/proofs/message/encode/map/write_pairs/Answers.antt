@@ -1,9 +1,5 @@
-use Rattle.std.proofs.Common.{◌∷◌, subst}
-use Rattle.prost_reflect_wire.proofs.SinkSteps.{adds_in_turn}
-use Rattle.prost_reflect_dynamic.specs.declared.value.MapKey.{MapKey}
-use Rattle.prost_reflect_dynamic.specs.declared.value.Value.{Value}
-use Rattle.prost_reflect_tables.specs.Rows.{field_row}
-use Rattle.prost_reflect_dynamic.specs.Maps.{TakesPairs}
+use Rattle.std.specs.Prelude.{◌∷◌}
+use Rattle.prost_reflect_dynamic.proofs.Common.{subst, adds_in_turn, MapKey, Value, field_row, TakesPairs}
 use Rattle.prost_reflect_dynamic.proofs.WrittenMaps.{cut_pairs, takes_at}
 use Rattle.prost_reflect_dynamic.proofs.message.encode.map.write_pairs.Goals as goal
 

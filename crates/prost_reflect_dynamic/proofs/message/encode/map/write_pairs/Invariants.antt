@@ -1,11 +1,6 @@
-use Rattle.std.proofs.Common.{◌≡◌, List, ◌++◌}
+use Rattle.std.specs.Prelude.{◌≡◌, ◌++◌}
+use Rattle.prost_reflect_dynamic.proofs.Common.{List, Adds, field_row, pairs_bytes, pool_rows, MapKey, Value}
 use Rattle.std.specs.Iterator.Adapters.{rev_source}
-use Rattle.prost_reflect_wire.specs.Sinks.{Adds}
-use Rattle.prost_reflect_tables.specs.Rows.{field_row}
-use Rattle.prost_reflect_dynamic.specs.Maps.{pairs_bytes}
-use Rattle.prost_reflect_pool.specs.SharedPools.{pool_rows}
-use Rattle.prost_reflect_dynamic.specs.declared.value.MapKey.{MapKey}
-use Rattle.prost_reflect_dynamic.specs.declared.value.Value.{Value}
 use Rattle.prost_reflect_dynamic.proofs.message.encode.map.write_pairs.Given as goal
 
 -- the entries behind those that are left are written

@@ -1,7 +1,4 @@
-use Rattle.std.proofs.Common.{sym, ◌∙◌}
-use Rattle.std.proofs.lemmas.Bool.Decides.{Decides-at}
-use Rattle.prost_reflect_dynamic.specs.Stored.{message_stored}
-use Rattle.prost_reflect_dynamic.specs.Same.{same_message, message_decides}
+use Rattle.prost_reflect_dynamic.proofs.Common.{sym, ◌∙◌, Decides-at, message_stored, same_message, message_decides}
 use Rattle.prost_reflect_dynamic.proofs.StoredContents.{contents_shown}
 use Rattle.prost_reflect_dynamic.proofs.message.equality.DynamicMessagePartialEq.eq.Goals as goal
 

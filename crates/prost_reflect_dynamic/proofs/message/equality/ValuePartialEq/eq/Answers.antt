@@ -1,7 +1,4 @@
-use Rattle.std.proofs.Common.{sym, ◌∙◌}
-use Rattle.std.proofs.lemmas.Bool.Decides.{Decides-at}
-use Rattle.prost_reflect_dynamic.specs.Stored.{value_stored}
-use Rattle.prost_reflect_dynamic.specs.Same.{same_value, value_decides}
+use Rattle.prost_reflect_dynamic.proofs.Common.{sym, ◌∙◌, Decides-at, value_stored, same_value, value_decides}
 use Rattle.prost_reflect_dynamic.proofs.StoredContents.{values_shown}
 use Rattle.prost_reflect_dynamic.proofs.message.equality.ValuePartialEq.eq.Goals as goal
 

@@ -1,7 +1,4 @@
-use Rattle.std.proofs.Common.{Option, sym, ap, subst, ◌∙◌}
-use Rattle.std.specs.Option.{IfSome, option_map}
-use Rattle.prost_reflect_dynamic.specs.NamedExtensions.{Extends}
-use Rattle.prost_reflect_dynamic.specs.declared.descriptor.extension.ExtensionDescriptor.{ExtensionDescriptor}
+use Rattle.prost_reflect_dynamic.proofs.Common.{Option, sym, ap, subst, ◌∙◌, IfSome, option_map, Extends, ExtensionDescriptor}
 use Rattle.prost_reflect_dynamic.proofs.ListedNumbers.{extension_missed, extension_own}
 use Rattle.prost_reflect_dynamic.proofs.message.lists.descriptors.extension_at.Goals as goal
 

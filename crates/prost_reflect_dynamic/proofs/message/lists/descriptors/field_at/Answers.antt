@@ -1,7 +1,5 @@
-use Rattle.std.proofs.Common.{Option, sym, ap, subst, ◌∙◌}
-use Rattle.std.specs.Option.{IfSome, option_map}
+use Rattle.prost_reflect_dynamic.proofs.Common.{Option, sym, ap, subst, ◌∙◌, IfSome, option_map, FieldDescriptor}
 use Rattle.prost_reflect_dynamic.specs.Named.{SameMessage}
-use Rattle.prost_reflect_dynamic.specs.declared.descriptor.field.FieldDescriptor.{FieldDescriptor}
 use Rattle.prost_reflect_dynamic.proofs.ListedNumbers.{field_there, field_found}
 use Rattle.prost_reflect_dynamic.proofs.message.lists.descriptors.field_at.Goals as goal
 

@@ -1,6 +1,4 @@
-use Rattle.std.proofs.Common.{arith}
-use Rattle.std.specs.Vec.Iter.{into_iter_items}
-use Rattle.prost_reflect_fields.specs.Known.{known_of}
+use Rattle.prost_reflect_dynamic.proofs.Common.{arith, into_iter_items, known_of}
 use Rattle.prost_reflect_dynamic.proofs.ValueLists.{all_paired}
 use Rattle.prost_reflect_dynamic.proofs.message.lists.taking.paired.Goals as goal
 

@@ -1,8 +1,5 @@
-use Rattle.std.proofs.Common.{◌≡◌, ◌+◌, ◌≤◌, ◌++◌, length, map}
-use Rattle.std.specs.Prelude.{zip, vec_len, vec_capacity}
-use Rattle.std.specs.Vec.Iter.{into_iter_items}
-use Rattle.prost_reflect_fields.specs.Known.{known_of}
-use Rattle.prost_reflect_dynamic.specs.ValueLists.{said}
+use Rattle.std.specs.Prelude.{◌≡◌, ◌+◌, ◌≤◌, ◌++◌}
+use Rattle.prost_reflect_dynamic.proofs.Common.{length, map, zip, vec_len, vec_capacity, into_iter_items, known_of, said}
 use Rattle.prost_reflect_dynamic.proofs.message.lists.taking.paired.Given as goal
 
 -- the values so far have their descriptors, and there is room for those that are left

@@ -1,6 +1,5 @@
-use Rattle.std.proofs.Common.{◌≡◌}
-use Rattle.std.specs.Vec.Iter.{into_iter_len}
-use Rattle.prost_reflect_dynamic.specs.UnknownLists.{taken_left}
+use Rattle.std.specs.Prelude.{◌≡◌}
+use Rattle.prost_reflect_dynamic.proofs.Common.{into_iter_len, taken_left}
 use Rattle.prost_reflect_dynamic.proofs.message.unknowns.TakenUnknownFieldsIterator.next.Given as goal
 
 -- nothing is lost, and nothing given twice

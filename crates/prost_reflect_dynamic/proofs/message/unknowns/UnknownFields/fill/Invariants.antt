@@ -1,6 +1,5 @@
-use Rattle.std.proofs.Common.{◌≡◌, length}
-use Rattle.prost_reflect_fields.specs.ItemsLeft.{items_left}
-use Rattle.prost_reflect_dynamic.specs.UnknownLists.{unknown_left}
+use Rattle.std.specs.Prelude.{◌≡◌}
+use Rattle.prost_reflect_dynamic.proofs.Common.{length, items_left, unknown_left}
 use Rattle.prost_reflect_dynamic.proofs.message.unknowns.UnknownFields.fill.Given as goal
 
 -- nothing is lost, and nothing given twice

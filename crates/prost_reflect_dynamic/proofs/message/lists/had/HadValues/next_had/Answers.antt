@@ -1,6 +1,4 @@
-use Rattle.std.proofs.Common.{sym, ◌∙◌}
-use Rattle.prost_reflect_fields.specs.Known.{known_of, is_listed}
-use Rattle.prost_reflect_dynamic.specs.ValueLists.{values_left}
+use Rattle.prost_reflect_dynamic.proofs.Common.{sym, ◌∙◌, known_of, is_listed, values_left}
 use Rattle.prost_reflect_dynamic.proofs.ValueLists.{had_here}
 use Rattle.prost_reflect_dynamic.proofs.message.lists.had.HadValues.next_had.Goals as goal
 

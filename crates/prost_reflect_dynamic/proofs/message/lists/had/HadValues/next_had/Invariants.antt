@@ -1,6 +1,5 @@
-use Rattle.std.proofs.Common.{◌≡◌, length}
-use Rattle.prost_reflect_fields.specs.ItemsLeft.{items_left}
-use Rattle.prost_reflect_dynamic.specs.ValueLists.{values_left}
+use Rattle.std.specs.Prelude.{◌≡◌}
+use Rattle.prost_reflect_dynamic.proofs.Common.{length, items_left, values_left}
 use Rattle.prost_reflect_dynamic.proofs.message.lists.had.HadValues.next_had.Given as goal
 
 -- the slots so far have nothing

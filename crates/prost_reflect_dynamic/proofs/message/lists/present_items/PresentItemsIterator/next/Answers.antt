@@ -1,4 +1,4 @@
-use Rattle.std.proofs.Common.{rules}
+use Rattle.prost_reflect_dynamic.proofs.Common.{rules}
 use Rattle.prost_reflect_dynamic.proofs.PresentWalks.{value_given}
 use Rattle.prost_reflect_dynamic.proofs.message.lists.present_items.PresentItemsIterator.next.Goals as goal
 

@@ -1,6 +1,5 @@
-use Rattle.std.proofs.Common.{◌≡◌, length}
-use Rattle.prost_reflect_fields.specs.ItemsLeft.{items_left}
-use Rattle.prost_reflect_dynamic.specs.PresentWalks.{present_left}
+use Rattle.std.specs.Prelude.{◌≡◌}
+use Rattle.prost_reflect_dynamic.proofs.Common.{length, items_left, present_left}
 use Rattle.prost_reflect_dynamic.proofs.message.lists.present_items.PresentItemsIterator.next.Given as goal
 
 -- nothing is lost, and nothing given twice
