@@ -1,14 +1,12 @@
 -- A fault stands within the bytes, and its path is short.
-use Rattle.std.specs.Prelude.{◌≡◌, ◌≤◌, ◌∷◌, ◌++◌, ◌+◌, ◌*◌, ◌-◌}
-use Rattle.std.proofs.Common.{ℕ, suc, Bool, true, false, List, [], length, cond, nat_eq, Option, Some, None, refl, sym, ap, ◌∙◌, arith, length-append}
+use Rattle.std.specs.Prelude.{◌≡◌, ◌≤◌, ◌+◌, ◌*◌}
+use Rattle.std.proofs.Common.{ℕ, Bool, true, false, List, length, cond, nat_eq, Option, Some, None, refl, ap, ◌∙◌, arith, length-append}
 use Rattle.prost_reflect_wire.specs.Record.{Record}
 use Rattle.prost_reflect_wire.specs.Schema.{Schema, ValueType, FieldForm, Singular, MapFrom, Field}
-use Rattle.prost_reflect_wire.specs.Front.{KeyFront, DelimitedFront, RecordFront}
+use Rattle.prost_reflect_wire.specs.Front.{DelimitedFront, RecordFront}
 use Rattle.prost_reflect_wire.specs.Fault.{Place, Inside, OfType, OfEntry, OfNothing, field_at, entry_field, Stands, Here, Behind, InMessage, InGroup, InUnknown, InEntry}
-use Rattle.prost_reflect_wire.specs.declared.key.WireType.{WireType}
 use Rattle.prost_reflect_wire.specs.declared.error.DecodeError.{DecodeError}
 use Rattle.prost_reflect_wire.proofs.RecordFronts.{key_shorter}
-use Rattle.prost_reflect_laws.proofs.BodyOrFault.{body_shorter}
 use Rattle.prost_reflect_faults.specs.Positions.{path_of, offset_of, StandsAt}
 use Rattle.prost_reflect_faults.specs.Searching.{rank}
 

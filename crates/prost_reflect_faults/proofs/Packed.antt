@@ -1,14 +1,11 @@
 -- Payloads end to end.
-use Rattle.std.specs.Prelude.{◌≡◌, ◌≢◌, ◌<◌, ◌≤◌, ◌∷◌}
-use Rattle.std.proofs.Common.{ℕ, zero, suc, Bool, true, List, [], length, Option, Some, None, refl, sym, ap, ◌∙◌, arith}
+use Rattle.std.specs.Prelude.{◌≡◌, ◌≢◌, ◌<◌, ◌∷◌}
+use Rattle.std.proofs.Common.{ℕ, zero, suc, List, [], length, refl, ap, arith}
 use Rattle.std.specs.Option.{is_some}
-use Rattle.prost_reflect_wire.specs.Record.{Plain, plain_at, plain_wire}
-use Rattle.prost_reflect_wire.specs.Front.{PlainFront, PlainFault}
-use Rattle.prost_reflect_wire.specs.Grammar.{plains_within}
-use Rattle.prost_reflect_wire.specs.Fault.{ElementFault, ElementEnds, ElementPasses, BehindElement}
+use Rattle.prost_reflect_wire.specs.Front.{PlainFault}
+use Rattle.prost_reflect_wire.specs.Fault.{ElementFault, BehindElement}
 use Rattle.prost_reflect_wire.specs.declared.key.WireType.{WireType}
 use Rattle.prost_reflect_wire.specs.declared.error.DecodeError.{DecodeError}
-use Rattle.prost_reflect_wire.specs.declared.error.DecodeError.TheVariants as errors
 use Rattle.prost_reflect_laws.proofs.KindsAllowed.{SomePlains, more_plains, plain_shorter, element_fault}
 use Rattle.prost_reflect_faults.specs.Searching.{TakesPlain, AreElements}
 

@@ -1,13 +1,13 @@
 -- What the search passes over and refuses of the field of a row.
-use Rattle.std.specs.Prelude.{◌≡◌, ◌≢◌, ◌<◌, ◌⊎◌, ◌||◌, if◌then◌else◌}
-use Rattle.std.proofs.Common.{ℕ, suc, Bool, true, false, List, [], length, Option, Some, None, inl, inr, refl, sym, ap, ap₂, subst, ◌∙◌}
+use Rattle.std.specs.Prelude.{◌≡◌, ◌≢◌, ◌<◌, ◌||◌, if◌then◌else◌}
+use Rattle.std.proofs.Common.{ℕ, suc, Bool, true, false, List, [], length, Some, inl, inr, refl, sym, ap, ap₂, subst, ◌∙◌}
 use Rattle.std.proofs.Math.Bool.{or-false}
 use Rattle.std.specs.Option.{is_some}
 use Rattle.prost_reflect_wire.specs.Grammar.{plains_within, has_level}
 use Rattle.prost_reflect_wire.specs.Scalar.{ScalarKind, StringKind, kind_wire}
 use Rattle.prost_reflect_wire.specs.Schema.{Schema, Kind, ScalarOf, MessageOf, GroupOf, ValueType, Singular, Repeated, Field, is_map}
 use Rattle.prost_reflect_wire.specs.Edit.{message_of_kind}
-use Rattle.prost_reflect_wire.specs.Front.{KeyFront, DelimitedFront, PlainFault}
+use Rattle.prost_reflect_wire.specs.Front.{KeyFront, PlainFault}
 use Rattle.prost_reflect_wire.specs.Fault.{Place, Inside, OfType, OfEntry, OfNothing, field_at, takes, one_takes, packed_takes, opens_level, same_wire, ElementFault}
 use Rattle.prost_reflect_wire.specs.declared.key.WireType.{WireType}
 use Rattle.prost_reflect_wire.specs.declared.key.WireType.TheVariants as wires
@@ -19,7 +19,7 @@ use Rattle.prost_reflect_tables.specs.Shown.{schema_kind, schema_from}
 use Rattle.prost_reflect_tables.specs.declared.tables.FieldTable.{FieldTable}
 use Rattle.prost_reflect_tables.specs.declared.tables.TableKind.TheVariants as kinds
 use Rattle.prost_reflect_faults.specs.Positions.{StandsAt}
-use Rattle.prost_reflect_faults.specs.Searching.{MessageThere, KindField, ListField, MapField, GroupInside, TakesPayload, TakesPlain, TakesScalar, RefusesScalar, TakesPacked, RefusesPacked, among, place_at, type_of_row, wire_of_kind}
+use Rattle.prost_reflect_faults.specs.Searching.{MessageThere, KindField, ListField, MapField, GroupInside, TakesPayload, TakesScalar, RefusesScalar, TakesPacked, RefusesPacked, among, place_at, type_of_row, wire_of_kind}
 use Rattle.prost_reflect_faults.specs.declared.inside.Region.{Region}
 use Rattle.prost_reflect_faults.proofs.Rows.{wire_is, shown_scalar, shown_packable, not_packed, scalar_fits}
 use Rattle.prost_reflect_faults.proofs.Standing.{plain_refused, deep_refused, kind_refused, deep_kind_refused, text_refused, packed_refused, map_refused, deep_map_refused}

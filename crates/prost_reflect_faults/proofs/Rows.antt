@@ -1,19 +1,19 @@
 -- What the rows say of the fields of a number, and of their kinds.
-use Rattle.std.specs.Prelude.{◌≡◌, ◌≢◌, ◌<◌, ◌≤◌, ◌⊎◌, ◌&&◌, ◌||◌, if◌then◌else◌}
-use Rattle.std.proofs.Common.{ℕ, zero, suc, Bool, true, false, not, nat_lt, List, length, map, Option, Some, None, inl, inr, refl, sym, ap, subst, ◌∙◌, arith, true≢false}
-use Rattle.std.specs.Prelude.{slice_get, IsSome}
+use Rattle.std.specs.Prelude.{◌≡◌, ◌≢◌, ◌<◌, ◌&&◌, if◌then◌else◌}
+use Rattle.std.proofs.Common.{ℕ, Bool, true, false, List, length, Option, Some, None, inl, inr, refl, sym, ap, subst, ◌∙◌, true≢false}
+use Rattle.std.specs.Prelude.{slice_get}
 use Rattle.std.specs.Option.{is_some}
 use Rattle.std.specs.Str.{is_utf8, IsUtf8}
 use Rattle.std.proofs.lemmas.Str.{IsUtf8-from_is_utf8, is_utf8-from_IsUtf8}
 use Rattle.std.proofs.lemmas.Bool.{ltb-true, and_parts, false_from_ne_true}
 use Rattle.std.proofs.lemmas.List.{length-map}
-use Rattle.prost_reflect_wire.specs.Record.{Plain, Len, Flat, plain_wire}
+use Rattle.prost_reflect_wire.specs.Record.{Len, Flat}
 use Rattle.prost_reflect_wire.specs.Scalar as scalars
 use Rattle.prost_reflect_wire.specs.Scalar.{ScalarKind, StringKind, kind_wire}
-use Rattle.prost_reflect_wire.specs.Schema.{Schema, Kind, ScalarOf, MessageOf, GroupOf, ValueType, FieldForm, Singular, Repeated, MapFrom, Field, known, field_of, kind_valid, is_message, is_map, is_key_kind, is_packable}
+use Rattle.prost_reflect_wire.specs.Schema.{Kind, ScalarOf, MessageOf, GroupOf, ValueType, Singular, Repeated, MapFrom, Field, known, field_of, kind_valid, is_key_kind, is_packable}
 use Rattle.prost_reflect_wire.specs.Edit.{message_of_kind}
 use Rattle.prost_reflect_wire.specs.Grammar.{fits}
-use Rattle.prost_reflect_wire.specs.Fault.{Place, OfType, OfEntry, OfNothing, field_at, takes, one_takes, packed_takes, same_wire}
+use Rattle.prost_reflect_wire.specs.Fault.{packed_takes, same_wire}
 use Rattle.prost_reflect_wire.specs.declared.key.WireType.{WireType}
 use Rattle.prost_reflect_wire.specs.declared.key.WireType.TheVariants as wires
 use Rattle.prost_reflect_laws.proofs.Checked.{known_valid, found_valid, CheckedField, checked_field, checked_map}

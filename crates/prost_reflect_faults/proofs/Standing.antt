@@ -1,21 +1,21 @@
 -- What is refused stands where the search says.
-use Rattle.std.specs.Prelude.{◌≡◌, ◌≢◌, ◌⊎◌, ◌≤◌, ◌∷◌, ◌+◌, ◌-◌, ◌&&◌, ◌||◌}
-use Rattle.std.proofs.Common.{ℕ, suc, Bool, true, false, List, [], length, Option, Some, None, inl, inr, refl, sym, ap, subst, ◌∙◌, arith, true≢false}
+use Rattle.std.specs.Prelude.{◌≡◌, ◌≢◌, ◌⊎◌, ◌∷◌, ◌+◌, ◌-◌, ◌&&◌}
+use Rattle.std.proofs.Common.{ℕ, suc, true, false, List, [], length, Some, None, inl, inr, refl, sym, ap, subst, ◌∙◌}
 use Rattle.std.specs.Str.{is_utf8}
 use Rattle.prost_reflect_wire.specs.Record.{Record}
-use Rattle.prost_reflect_wire.specs.Schema.{Schema, Kind, ScalarOf, MessageOf, GroupOf, ValueType, FieldForm, Singular, Repeated, MapFrom, Field, is_map, is_message, is_packable}
+use Rattle.prost_reflect_wire.specs.Schema.{Schema, Kind, ScalarOf, MessageOf, ValueType, Field, is_message, is_packable}
 use Rattle.prost_reflect_wire.specs.Scalar.{ScalarKind, StringKind, kind_wire}
 use Rattle.prost_reflect_wire.specs.Grammar.{has_level}
 use Rattle.prost_reflect_wire.specs.Front.{KeyFront, DelimitedFront, RecordFront, KeyFault, PlainFault}
-use Rattle.prost_reflect_wire.specs.Fault.{Place, Inside, OfType, OfEntry, OfNothing, field_at, takes, one_takes, needs_level, opens_level, same_wire, TextNext, PackedNext, ElementFault, Comes, Stands, Here, Behind, InMessage, InGroup, InUnknown, InEntry}
+use Rattle.prost_reflect_wire.specs.Fault.{Place, Inside, OfType, OfEntry, OfNothing, field_at, takes, one_takes, needs_level, opens_level, same_wire, PackedNext, ElementFault, Comes, Here, Behind, InMessage, InGroup, InUnknown, InEntry}
 use Rattle.prost_reflect_wire.specs.declared.key.WireType.{WireType}
 use Rattle.prost_reflect_wire.specs.declared.key.WireType.TheVariants as wires
 use Rattle.prost_reflect_wire.specs.declared.error.DecodeError.{DecodeError}
 use Rattle.prost_reflect_wire.specs.declared.error.DecodeError.TheVariants as errors
 use Rattle.prost_reflect_wire.proofs.PlaceFaults.{key_comes_at, plain_comes}
-use Rattle.prost_reflect_laws.proofs.BodyOrFault.{opens_known, no_level}
+use Rattle.prost_reflect_laws.proofs.BodyOrFault.{opens_known}
 use Rattle.prost_reflect_laws.proofs.KindsAllowed.{element_name}
-use Rattle.prost_reflect_faults.specs.Positions.{path_of, offset_of, StandsAt}
+use Rattle.prost_reflect_faults.specs.Positions.{StandsAt}
 use Rattle.prost_reflect_faults.specs.Searching.{KindField, ListField, MapField, GroupInside, StandsInside}
 
 -- The fault comes next.

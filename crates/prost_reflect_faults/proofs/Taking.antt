@@ -1,13 +1,13 @@
 -- What the search passes over is allowed.
-use Rattle.std.specs.Prelude.{◌≡◌, ◌≢◌, ◌≤◌, ◌<◌, ◌⊎◌, ◌&&◌, ◌||◌, ◌+◌, ◌-◌}
-use Rattle.std.proofs.Common.{ℕ, suc, Bool, true, false, List, [], length, Option, Some, None, inl, inr, refl, sym, ap, ap₂, subst, ◌∙◌, arith, true≢false}
+use Rattle.std.specs.Prelude.{◌≡◌, ◌≢◌, ◌≤◌, ◌<◌, ◌&&◌, ◌+◌, ◌-◌}
+use Rattle.std.proofs.Common.{ℕ, suc, true, List, [], length, Some, None, refl, sym, ap, ap₂, subst, ◌∙◌, arith}
 use Rattle.std.specs.Option.{is_some}
 use Rattle.std.specs.List.{list_all}
 use Rattle.prost_reflect_wire.specs.Varint.{AreBytes}
-use Rattle.prost_reflect_wire.specs.Record.{Plain, Len, Payload, Flat, Group, Record, Records, NoRecords, record_at, before, items, payload_wire}
+use Rattle.prost_reflect_wire.specs.Record.{Len, Payload, Flat, Group, NoRecords, record_at, before, items, payload_wire}
 use Rattle.prost_reflect_wire.specs.Scalar.{ScalarKind, kind_wire}
-use Rattle.prost_reflect_wire.specs.Schema.{Schema, Kind, ScalarOf, MessageOf, GroupOf, ValueType, FieldForm, Singular, Repeated, MapFrom, Field, is_packable, passes}
-use Rattle.prost_reflect_wire.specs.Front.{KeyFront, PlainFront, DelimitedFront, RecordFront}
+use Rattle.prost_reflect_wire.specs.Schema.{Schema, Kind, ScalarOf, MessageOf, GroupOf, ValueType, FieldForm, MapFrom, is_packable, passes}
+use Rattle.prost_reflect_wire.specs.Front.{KeyFront, DelimitedFront, RecordFront}
 use Rattle.prost_reflect_wire.specs.Grammar.{AllowsInside, Accepts, body, fits, one_allowed, packed_allowed, field_allowed, in_entry_allowed, has_level, plains_within}
 use Rattle.prost_reflect_wire.specs.Grammar.{unpacked}
 use Rattle.prost_reflect_wire.specs.Record.{read}
@@ -19,7 +19,7 @@ use Rattle.prost_reflect_wire.specs.declared.error.DecodeError.TheVariants as er
 use Rattle.prost_reflect_wire.proofs.PlainFronts.{delimited_plain}
 use Rattle.prost_reflect_wire.proofs.RecordFronts.{record_front, none_front, key_shorter, payload_no_longer}
 use Rattle.prost_reflect_wire.proofs.Reading.{spelled_read}
-use Rattle.prost_reflect_laws.specs.Bodies.{inner, payload_allowed, Ended, Body}
+use Rattle.prost_reflect_laws.specs.Bodies.{inner, payload_allowed, Ended}
 use Rattle.prost_reflect_laws.proofs.BodyFronts.{key_bytes, payload_bytes}
 use Rattle.prost_reflect_laws.proofs.Places.{allows_at, body_spells, passes_body, levels_outside, entry_same}
 use Rattle.prost_reflect_laws.proofs.KindsAllowed.{one_field, packed_field}

@@ -1,6 +1,6 @@
 -- Bodies at their places: records that spell the bytes and are allowed there.
 use Rattle.std.specs.Prelude.{◌&&◌, ◌≡◌, ◌≤◌, ◌⊎◌, ◌∷◌, ◌++◌, ◌≢◌, if◌then◌else◌}
-use Rattle.prost_reflect_laws.proofs.Common.{ℕ, zero, suc, Bool, true, false, inl, inr, List, [], nat_eq, nat_le, Option, Some, None, refl, sym, ap, ap₂, subst, ◌∙◌, arith, append-nil, true≢false, list_all, leb-true, le-leb, and_parts, AreBytes, ◌>>=◌, Len, Records, NoRecords, PlainRecord, GroupRecord, Record, record_at, Payload, Flat, Group, before, items, raw_levels, payload_levels, payload_wire, Spells, read, wire_code, Schema, ValueType, known, passes, body, AllowsInside, nothing_inside, one_allowed, in_entry_allowed, field_allowed, record_allowed, allows, KeyFront, RecordsFront, PayloadFront, Place, OfType, OfEntry, entry_field, field_at, read_spells, record_parts, RecordParts, first_parts, FrontParts, items_before}
+use Rattle.prost_reflect_laws.proofs.Common.{ℕ, zero, suc, Bool, true, false, inl, inr, List, [], nat_eq, nat_le, Option, Some, None, refl, sym, ap, ap₂, subst, ◌∙◌, arith, append-nil, true≢false, list_all, leb-true, le-leb, and_parts, AreBytes, ◌>>=◌, Len, Records, NoRecords, PlainRecord, GroupRecord, Record, record_at, Payload, Flat, Group, before, items, raw_levels, payload_levels, payload_wire, Spells, read, wire_code, Schema, ValueType, known, passes, body, one_allowed, in_entry_allowed, field_allowed, record_allowed, allows, KeyFront, PayloadFront, Place, OfType, OfEntry, entry_field, read_spells, record_parts, RecordParts, first_parts, FrontParts, items_before}
 use Rattle.prost_reflect_wire.specs.declared.key.WireType.TheVariants as wires
 pub use Rattle.prost_reflect_laws.specs.Bodies.{inner, payload_allowed, allowed_at, Ended, Body}
 use Rattle.prost_reflect_laws.proofs.BodyFronts.{none_first, key_bytes, payload_bytes}

@@ -1,4 +1,4 @@
-use Rattle.std.proofs.Common.{◌≡◌, length}
+use Rattle.std.proofs.Common.{length}
 use Rattle.prost_reflect_faults.specs.Searching.{wire_of_kind}
 use Rattle.prost_reflect_faults.proofs.Packed.{Parted}
 use Rattle.prost_reflect_faults.proofs.payload.check_elements.Given as goal

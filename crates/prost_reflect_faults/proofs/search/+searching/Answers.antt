@@ -1,11 +1,11 @@
-use Rattle.std.proofs.Common.{rules, ◌≡◌, ◌≢◌, ◌≤◌, ◌+◌, ◌-◌, length, [], true, false, not, arith, sym, subst, ◌∙◌}
+use Rattle.std.proofs.Common.{rules, ◌≡◌, ◌≢◌, ◌≤◌, ◌+◌, ◌-◌, length, [], true, false, arith, sym, ◌∙◌}
 use Rattle.std.proofs.lemmas.Result.{err_from_is_err_and}
 use Rattle.prost_reflect_wire.specs.declared.key.WireType.TheVariants as wires
-use Rattle.prost_reflect_tables.specs.Schema.{rows_of, schema_of}
+use Rattle.prost_reflect_tables.specs.Schema.{rows_of}
 use Rattle.prost_reflect_faults.proofs.Bounds.{stands_short, stands_within}
 use Rattle.prost_reflect_faults.proofs.Standing.{key_refused, plain_refused, group_refused, message_refused, entry_refused}
 use Rattle.prost_reflect_faults.proofs.Taking.{found_at, stop_taken, stop_refused, record_searched, unknown_taken, group_taken, message_taken, entry_taken}
-use Rattle.prost_reflect_faults.proofs.Passing.{found_here, kind_as, at_wire, group_kind, message_kind, message_there, one_kind, list_kind, scalar_passed, scalar_failed, packed_passed, packed_failed, taken_at, message_wire, group_wire, map_wire, delimited_failed, message_deep, map_deep, group_deep}
+use Rattle.prost_reflect_faults.proofs.Passing.{found_here, kind_as, at_wire, group_kind, message_kind, message_there, scalar_passed, scalar_failed, packed_passed, packed_failed, taken_at, message_wire, group_wire, map_wire, delimited_failed, message_deep, map_deep, group_deep}
 use Rattle.prost_reflect_faults.proofs.search.+searching.Goals as goal
 
 pub search_body-returns-in-Err-clause-fault : goal.search_body-returns-in-Err-clause-fault
